@@ -1,0 +1,133 @@
+//! The program: it makes words, stamp, place and adapters, calls `run`, and does its answer.
+#![tactic(auto)]
+
+use sccs_base::{Bytes, Line, Login, MakeFault, StdErrSink, StdSink, StdSource, Words};
+use sccs_disk::FolderDisk;
+use sccs_sid::{Moment, Stamp};
+use sccs_top::{Answer, run};
+use std::alloc::Global;
+use std::env::{Env, FillError};
+use std::process::ExitCode;
+use std::time::Clock;
+
+// what the system takes at most as one word, in bytes, and as a folder's path
+const WORD_ROOM: usize = 131_072;
+
+const PLACE_ROOM: usize = 4096;
+
+// how the program ends
+#[derive(Clone, Copy, Debug, PartialEq, Eq)]
+enum End {
+    Status(u8),
+    Memory,
+    ReadFault,
+    WriteFault,
+    DiskFault,
+    NoMoment,
+    NoWords,
+    NoPlace,
+}
+
+impl End {
+    // the exit status, and the words on standard error
+    fn meaning(self) -> (u8, Option<&'static str>) {
+        match self {
+            End::Status(status) => (status, None),
+            End::Memory => (131, Some("sccs: want of memory")),
+            End::ReadFault => (132, Some("sccs: read fault")),
+            End::WriteFault => (133, Some("sccs: write fault")),
+            End::DiskFault => (134, Some("sccs: disk fault, run recover")),
+            End::NoMoment => (135, Some("sccs: no moment")),
+            End::NoWords => (136, Some("sccs: no words")),
+            End::NoPlace => (137, Some("sccs: no place")),
+        }
+    }
+}
+
+// the words behind the program's name, as bytes
+fn words_of(rt: &impl Env, alloc: Global) -> Result<Words, End> {
+    let Ok(mut buffer) = vec![in alloc; 0; WORD_ROOM] else {
+        return Err(End::Memory);
+    };
+    let mut words = Words::new(alloc);
+    for i in 1..usize::MAX {
+        match rt.arg(i, buffer.as_mut_slice()) {
+            Ok(n) => {
+                let Ok(word) = Bytes::new(alloc, &buffer[..n]) else {
+                    return Err(End::Memory);
+                };
+                let Ok(()) = words.push(word) else {
+                    return Err(End::Memory);
+                };
+            }
+            Err(FillError::NotPresent) => return Ok(words),
+            Err(FillError::TooLong) => return Err(End::NoWords),
+        }
+    }
+    Err(End::NoWords)
+}
+
+// the clock's second
+fn moment_of(rt: &impl Clock) -> Result<Moment, End> {
+    let Ok(since) = rt.since_1970() else {
+        return Err(End::NoMoment);
+    };
+    let Ok(seconds) = i64::try_from(since.as_secs()) else {
+        return Err(End::NoMoment);
+    };
+    Moment::from_seconds(seconds).ok_or(End::NoMoment)
+}
+
+// the environment's LOGNAME, where it is a login
+fn login_of(rt: &impl Env) -> Login {
+    let mut buffer = [0; 65];
+    match rt.var("LOGNAME", &mut buffer) {
+        Ok(n) => Login::read(&buffer[..n]).unwrap_or(Login::nobody()),
+        Err(_) => Login::nobody(),
+    }
+}
+
+// the current folder's path
+fn place_of(rt: &impl Env, alloc: Global) -> Result<Line, End> {
+    let mut buffer = [0; PLACE_ROOM];
+    let Ok(n) = rt.current_dir(&mut buffer) else {
+        return Err(End::NoPlace);
+    };
+    match Line::new(alloc, &buffer[..n]) {
+        Ok(line) => Ok(line),
+        Err(MakeFault::Unfit) => Err(End::NoPlace),
+        Err(MakeFault::Memory) => Err(End::Memory),
+    }
+}
+
+fn serve(rt: HostRuntime) -> Result<Answer, End> {
+    let alloc = rt.alloc();
+    let words = words_of(&rt, alloc)?;
+    let moment = moment_of(&rt)?;
+    let login = login_of(&rt);
+    let place = place_of(&rt, alloc)?;
+    let stamp = Stamp { moment, login };
+    let mut input = StdSource::new(rt.stdin());
+    let mut out = StdSink::new(rt.stdout());
+    let mut err = StdErrSink::new(rt.stderr());
+    let mut disk = FolderDisk::new(rt);
+    Ok(run(
+        alloc, &words, &stamp, &place, &mut input, &mut out, &mut err, &mut disk,
+    ))
+}
+
+fn main(rt: HostRuntime) -> ExitCode {
+    let end = match serve(rt) {
+        Ok(Answer::Finished { status }) => End::Status(status),
+        Ok(Answer::Memory) => End::Memory,
+        Ok(Answer::ReadFault) => End::ReadFault,
+        Ok(Answer::WriteFault) => End::WriteFault,
+        Ok(Answer::DiskFault) => End::DiskFault,
+        Err(end) => end,
+    };
+    let (status, words) = end.meaning();
+    if let Some(words) = words {
+        let _ = rt.eprintln(words);
+    }
+    ExitCode::from(status)
+}

@@ -1,0 +1,126 @@
+ghost use Rattle.std.specs.Prelude.{◌≡◌, ◌<◌, ◌≤◌, ◌↔◌, List, ◌∷◌, drop, is_some, IsTrue, IfSome};
+ghost use Rattle.std.specs.Str.{bytes_eq};
+ghost use Rattle.sccs_base.specs.Name.{IsName, IsSfile, is_name, is_sfile_name, sibling};
+
+use crate::held::copy_front;
+use std::marker::Model;
+
+/// The name of a file in the current folder: 1 to 250 bytes of UTF-8 without slash, LF and NUL,
+/// neither `.` nor `..`. Contracts see it as its bytes.
+#[derive(Clone, Copy)]
+pub struct Name {
+    bytes: [u8; 250],
+    len: usize,
+}
+
+impl Model for Name {
+    ghost use Rattle.std.specs.Prelude.{List, ℕ, take};
+
+    ghost Value = { List ℕ };
+
+    ghost use Rattle.sccs_base.specs.HeldName.{IsHeldName, held_name, held_name-bytes};
+
+    ghost view = { λ n. take n.len n.bytes };
+
+    ghost invariant = { IsHeldName };
+
+    ghost inverse = { held_name };
+
+    ghost inverse_ok = { held_name-bytes };
+}
+
+// whether bytes are a name
+fn fits(bytes: &[u8]) -> bool
+    ensures { IsTrue result ↔ IsName bytes.now }
+{
+    0 < bytes.len()
+        && bytes.len() < 251
+        && bytes != b".".as_slice()
+        && bytes != b"..".as_slice()
+        && bytes.iter().all(|b| *b != b'/' && *b != b'\n' && *b != 0)
+        && std::str::from_utf8(bytes).is_ok()
+}
+
+// whether bytes are `s.` and a name by itself
+fn names_sfile(bytes: &[u8]) -> bool
+    ensures { IsTrue result ↔ IsSfile bytes.now }
+{
+    match bytes {
+        [b's', b'.', rest @ ..] => fits(rest),
+        _ => false,
+    }
+}
+
+// holds bytes that are a name
+fn hold(bytes: &[u8]) -> Name
+    requires { IsName bytes.now }
+    ensures { result ≡ bytes.now }
+{
+    let mut held = [0; 250];
+    let len = copy_front(bytes, &mut held);
+    Name { bytes: held, len }
+}
+
+impl Name {
+    /// The name that bytes are; None exactly where they are none.
+    pub fn read(bytes: &[u8]) -> Option<Name>
+        ensures found { IfSome result (λ name. name ≡ bytes.now) }
+        ensures exact { is_some result ≡ is_name bytes.now }
+    {
+        if fits(bytes) { Some(hold(bytes)) } else { None }
+    }
+
+    pub fn bytes(&self) -> &[u8]
+        ensures value { result.now ≡ self.now }
+        ensures name { IsName self.now }
+    {
+        &self.bytes[..self.len]
+    }
+
+    /// The name as text.
+    pub fn text(&self) -> &str
+        ensures value { result.now ≡ self.now }
+        ensures name { IsName self.now }
+    {
+        match std::str::from_utf8(self.bytes()) {
+            Ok(text) => text,
+            Err(_) => unreachable!(),
+        }
+    }
+
+    /// Whether two names are one.
+    pub fn is(&self, other: &Name) -> bool
+        ensures { result ≡ bytes_eq self.now other.now }
+    {
+        self.bytes() == other.bytes()
+    }
+
+    /// Whether it is the name of an s-file: `s.` and a name by itself.
+    pub fn is_sfile(&self) -> bool
+        ensures value { result ≡ is_sfile_name self.now }
+        ensures fact { IsTrue result ↔ IsSfile self.now }
+    {
+        names_sfile(self.bytes())
+    }
+
+    /// The name of an s-file with another first letter: `p.a` for `s.a`.
+    pub fn sibling(&self, letter: u8) -> Name
+        requires sfile { IsSfile self.now }
+        requires low { 97 ≤ letter }
+        requires high { letter ≤ 122 }
+        ensures { result ≡ sibling letter self.now }
+    {
+        let mut held = [0; 250];
+        let len = copy_front(self.bytes(), &mut held);
+        held[0] = letter;
+        hold(&held[..len])
+    }
+
+    /// The name of an s-file without its first two bytes.
+    pub fn module(&self) -> Name
+        requires { IsSfile self.now }
+        ensures { result ≡ drop 2 self.now }
+    {
+        hold(&self.bytes()[2..])
+    }
+}

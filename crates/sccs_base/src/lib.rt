@@ -1,0 +1,24 @@
+//! Bytes, lines, names, lists, and the streams that bytes come from and go to.
+#![tactic(auto)]
+
+mod file_names;
+mod held;
+mod lists;
+mod logins;
+mod memory_streams;
+mod pieces;
+mod standard_streams;
+mod streams;
+#[cfg(test)]
+mod tests;
+mod texts;
+
+pub use file_names::Name;
+pub use held::copy_front;
+pub use lists::{Bytes, ListOf, Names, Text, Words};
+pub use logins::Login;
+pub use memory_streams::{MemorySink, MemorySource, NullSink, SteadySource};
+pub use pieces::{give_parts, take_all};
+pub use standard_streams::{ReaderSource, StdErrSink, StdSink, StdSource, WriterSink};
+pub use streams::{Failed, MakeFault, Memory, Sink, Source, TakeFault, one_more};
+pub use texts::{Line, first_line};

@@ -1,0 +1,5 @@
+pub mod Files
+pub mod FolderTold
+pub mod MemoryFiles
+pub mod Reads
+pub mod Told

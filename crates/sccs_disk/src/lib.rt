@@ -1,0 +1,14 @@
+//! A folder of files: the trait, a disk in memory, and the current folder.
+#![tactic(auto)]
+
+mod disks;
+mod folder_disk;
+mod memory_disk;
+#[cfg(test)]
+mod tests;
+mod whole_files;
+
+pub use disks::Disk;
+pub use folder_disk::FolderDisk;
+pub use memory_disk::MemoryDisk;
+pub use whole_files::{WholeFault, read_whole};

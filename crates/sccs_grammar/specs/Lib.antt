@@ -1,0 +1,7 @@
+pub mod File
+pub mod Front
+pub mod Items
+pub mod Said
+pub mod Sums
+pub mod Words
+pub mod Written

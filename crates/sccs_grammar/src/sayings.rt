@@ -1,0 +1,33 @@
+use sccs_base::Line;
+use sccs_history::{Flag, Record, Serials};
+
+/// Which of the lists of an entry.
+#[derive(Clone, Copy, Debug, PartialEq, Eq)]
+pub enum Which {
+    Included,
+    Excluded,
+    Ignored,
+}
+
+/// What one line of an s-file says, by itself.
+#[derive(Drop)]
+pub enum Said {
+    /// Lines inserted, deleted and unchanged.
+    Counts(u32, u32, u32),
+    /// A record without lists, MRs, comments and counts.
+    Delta(Record),
+    Listed(Which, Serials),
+    Mr(Line),
+    Comment(Line),
+    EndEntry,
+    Users,
+    EndUsers,
+    FlagIs(Flag),
+    Description,
+    EndDescription,
+    Insert(u16),
+    Delete(u16),
+    End(u16),
+    /// A line that doesn't begin with SOH.
+    Plain(Line),
+}

@@ -1,0 +1,5 @@
+pub mod AppliedSets
+pub mod Falling
+pub mod LinearTables
+pub mod LiveLines
+pub mod Paths

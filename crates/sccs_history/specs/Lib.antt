@@ -1,0 +1,9 @@
+pub mod Applied
+pub mod Body
+pub mod FlagText
+pub mod History
+pub mod Linear
+pub mod Numbers
+pub mod Removal
+pub mod Samples
+pub mod Select
