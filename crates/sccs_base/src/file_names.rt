@@ -1,4 +1,4 @@
-ghost use Rattle.std.specs.Prelude.{◌≡◌, ◌<◌, ◌≤◌, ◌↔◌, List, ◌∷◌, drop, is_some, IsTrue, IfSome};
+ghost use Rattle.std.specs.Prelude.{◌≡◌, ◌<◌, ◌≤◌, ◌↔◌, List, ◌∷◌, drop, is_some, IsTrue, IfSome, OnSome};
 ghost use Rattle.std.specs.Str.{bytes_eq};
 ghost use Rattle.sccs_base.specs.Name.{IsName, IsSfile, is_name, is_sfile_name, sibling};
 
@@ -68,6 +68,24 @@ impl Name {
         ensures exact { is_some result ≡ is_name bytes.now }
     {
         if fits(bytes) { Some(hold(bytes)) } else { None }
+    }
+
+    /// The name of an s-file that bytes are: `s.` and a name by itself; None exactly where they are none.
+    pub fn read_sfile(bytes: &[u8]) -> Option<Name>
+        ensures found { IfSome result (λ name. name ≡ bytes.now) }
+        ensures sfile { OnSome result (IsSfile bytes.now) }
+        ensures exact { is_some result ≡ is_sfile_name bytes.now }
+    {
+        match Name::read(bytes) {
+            Some(name) => {
+                if name.is_sfile() {
+                    Some(name)
+                } else {
+                    None
+                }
+            }
+            None => None,
+        }
     }
 
     pub fn bytes(&self) -> &[u8]

@@ -41,7 +41,7 @@ folder_of : List Held → Folder
 folder_of [] = empty
 folder_of (h ∷ held) = insert (folder_of held) h.name (content_of h)
 
-same_test : (q k : List ℕ) → eq_by_cmp (slice_cmp nat_cmp) q k ≡ bytes_eq k q
+pub same_test : (q k : List ℕ) → eq_by_cmp (slice_cmp nat_cmp) q k ≡ bytes_eq k q
 same_test q k = is_eq-slice_cmp q k ∙ bytes_eq_sym q k
 
 folder_has : (held : List Held) (q : List ℕ) → get (folder_of held) q ≡ files_of held q

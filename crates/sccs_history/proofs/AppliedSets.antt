@@ -8,15 +8,9 @@ use Rattle.std.proofs.Math.Bool.{and-false, and-true}
 use Rattle.sccs_history.specs.Numbers.{front_if, has, Falls}
 use Rattle.sccs_history.specs.Applied.{Asked, path, says, applied_below, applied, above_in, serials_of, live_serials, is_barred, listed, named, IsApplied}
 use Rattle.sccs_history.specs.declared.headers.Record.{Record}
-use Rattle.sccs_history.proofs.Falling.{Falls-wider, has_front, has_front_self, front_has}
+use Rattle.sccs_history.proofs.Falling.{Falls-wider, has_front, has_front_self, front_has, has-falls}
 
--- numbers below a bound don't have it
-has-falls : (ns : List ℕ) (b m : ℕ) → Falls b ns → b ≤ m → has ns m ≡ false
-has-falls [] b m falls le = refl
-has-falls (n ∷ ns) b m falls le =
-    ap (λ t. t || has ns m) (ne_eqb n m (λ e. omega (arith, falls.0))) ∙ has-falls ns n m falls.1 (omega (arith, falls.0))
-
-falls_front : (t : Bool) (n : ℕ) (ns : List ℕ) (b : ℕ) → n < b → Falls n ns → Falls b (front_if t n ns)
+pub falls_front : (t : Bool) (n : ℕ) (ns : List ℕ) (b : ℕ) → n < b → Falls n ns → Falls b (front_if t n ns)
 falls_front true n ns b lt falls = (lt, falls)
 falls_front false n ns b lt falls = Falls-wider n b ns (omega arith) falls
 
@@ -54,11 +48,11 @@ above_in-split set n (a ∷ done) rest b above falls le =
     ∙ (ap (λ t. cond t (a ∷ above_in set n (done ++ rest)) (above_in set n (done ++ rest))) (and-true (set a.serial))
     ∙ ap (λ l. cond (set a.serial) (a ∷ l) l) (above_in-split set n done rest b above.1 falls le))
 
-has_head : (t : Bool) (n : ℕ) (tail : List ℕ) → Falls n tail → has (front_if t n tail) n ≡ t
+pub has_head : (t : Bool) (n : ℕ) (tail : List ℕ) → Falls n tail → has (front_if t n tail) n ≡ t
 has_head true n tail falls = or_left (n == n) (has tail n) (eq-eqb n n refl)
 has_head false n tail falls = has-falls tail n n falls (omega arith)
 
-has_other : (t : Bool) (n m : ℕ) (tail : List ℕ) → m < n → has (front_if t n tail) m ≡ has tail m
+pub has_other : (t : Bool) (n m : ℕ) (tail : List ℕ) → m < n → has (front_if t n tail) m ≡ has tail m
 has_other true n m tail lt = ap (λ b. b || has tail m) (ne_eqb n m (λ e. omega arith))
 has_other false n m tail lt = refl
 

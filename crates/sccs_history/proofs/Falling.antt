@@ -1,7 +1,7 @@
 -- The numbers below a bound that pass a test.
-use Rattle.std.proofs.Common.{◌≡◌, ℕ, zero, suc, ◌<◌, ◌≤◌, ◌⊎◌, ◌==◌, Bool, true, false, List, [], ◌∷◌, refl, sym, subst, inl, inr, ⊎_elim, arith, eq-eqb}
+use Rattle.std.proofs.Common.{◌≡◌, ℕ, zero, suc, ◌<◌, ◌≤◌, ◌⊎◌, ◌==◌, Bool, true, false, ◌||◌, List, [], ◌∷◌, refl, sym, subst, ap, ◌∙◌, inl, inr, ⊎_elim, arith, eq-eqb}
 use Rattle.std.specs.List.{AllByRecursion}
-use Rattle.std.proofs.lemmas.Bool.{eqb-true, false≢true, or_cases, or_left, or_right, cases_lt}
+use Rattle.std.proofs.lemmas.Bool.{eqb-true, false≢true, or_cases, or_left, or_right, cases_lt, ne_eqb}
 use Rattle.sccs_history.specs.Numbers.{is_empty, front_if, falling, first, has, Falls, IsFalling}
 
 pub has_front : (b : Bool) (m : ℕ) (ms : List ℕ) (n : ℕ) → has ms n ≡ true → has (front_if b m ms) n ≡ true
@@ -62,3 +62,28 @@ IsFalling-from_Falls b (n ∷ ns) h = h.1
 pub has-first : (ns : List ℕ) → is_empty ns ≡ false → has ns (first ns) ≡ true
 has-first [] e = absurd (false≢true (sym e))
 has-first (n ∷ ns) e = or_left (n == n) (has ns n) (eq-eqb n n refl)
+
+-- two tests that answer alike below the bound
+pub falling-alike : (b : ℕ) (p q : ℕ → Bool) → ((m : ℕ) → m < b → p m ≡ q m) → falling b p ≡ falling b q
+falling-alike zero p q alike = refl
+falling-alike (suc b) p q alike =
+    ap (λ t. front_if t b (falling b p)) (alike b (omega arith)) ∙ ap (λ l. front_if (q b) b l) (falling-alike b p q (λ m lt. alike m (omega arith)))
+
+-- numbers below a bound don't have it
+pub has-falls : (ns : List ℕ) (b m : ℕ) → Falls b ns → b ≤ m → has ns m ≡ false
+has-falls [] b m falls le = refl
+has-falls (n ∷ ns) b m falls le =
+    ap (λ t. t || has ns m) (ne_eqb n m (λ e. omega (arith, falls.0))) ∙ has-falls ns n m falls.1 (omega (arith, falls.0))
+
+-- the numbers that a list has are the list, where it falls
+pub falling-has : (b : ℕ) (ns : List ℕ) → Falls b ns → falling b (has ns) ≡ ns
+falling-has zero [] falls = refl
+falling-has zero (n ∷ ns) falls = absurd (omega (arith, falls.0))
+falling-has (suc b) [] falls = falling-has b [] tt
+falling-has (suc b) (n ∷ ns) falls =
+    ⊎_elim (λ lt. ap (λ t. front_if t b (falling b (has (n ∷ ns)))) (has-falls (n ∷ ns) b b (lt, falls.1) (omega arith)) ∙ falling-has b (n ∷ ns) (lt, falls.1))
+    (λ le. let here : n ≡ b = omega (arith, falls.0) in
+    let rest : Falls b ns = Falls-wider n b ns (omega arith) falls.1 in
+    ap (λ t. front_if (t || has ns b) b (falling b (has (n ∷ ns)))) (eq-eqb n b here)
+    ∙ (ap (λ l. b ∷ l) (falling-alike b (has (n ∷ ns)) (has ns) (λ m lt. ap (λ t. t || has ns m) (ne_eqb n m (λ e. omega arith))) ∙ falling-has b ns rest) ∙ ap (λ k. k ∷ ns) (sym here)))
+    (cases_lt n b)

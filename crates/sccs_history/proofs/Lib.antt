@@ -2,4 +2,5 @@ pub mod AppliedSets
 pub mod Falling
 pub mod LinearTables
 pub mod LiveLines
+pub mod Membership
 pub mod Paths

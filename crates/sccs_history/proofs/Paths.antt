@@ -6,6 +6,7 @@ use Rattle.std.proofs.lemmas.List.Elements.{Contains-append_cases, Contains-appe
 use Rattle.sccs_history.specs.Numbers.{front_if, has, Falls}
 use Rattle.sccs_history.specs.Applied.{path, OnPath, itself, before, serials_of, GoesBack}
 use Rattle.sccs_history.specs.declared.headers.Record.{Record}
+use Rattle.sccs_history.proofs.AppliedSets.{falls_front}
 
 only_one : (r a : Record) → Contains (r ∷ []) a → r ≡ a
 only_one r a (zero, lt, e) = e
@@ -66,3 +67,10 @@ on_path rs b falls back t n (before r m here rest) =
 
 pub path_both : (rs : List Record) (b : ℕ) → Falls b (serials_of rs) → GoesBack rs → (t n : ℕ) → (has (path t rs) n ≡ true → OnPath rs t n) × (OnPath rs t n → has (path t rs) n ≡ true)
 path_both rs b falls back t n = (path_on rs rs t n (λ r here. here), on_path rs b falls back t n)
+
+-- a path falls, as its table does
+pub path_falls : (t : ℕ) (rs : List Record) (b : ℕ) → Falls b (serials_of rs) → Falls b (path t rs)
+path_falls t [] b falls = tt
+path_falls t (r ∷ rs) b falls =
+    let next : ℕ = cond (r.serial == t) r.predecessor t in
+    falls_front (r.serial == t) r.serial (path next rs) b falls.0 (path_falls next rs r.serial falls.1)

@@ -1,8 +1,9 @@
 -- Histories, and which of them are valid.
-use Rattle.std.specs.Prelude.{◌≡◌, ℕ, ◌<◌, ◌≤◌, pos, negsuc, ◌≤ℤ◌, ◌==◌, nat_le, Bool, true, false, not, ◌&&◌, ◌||◌, List, [], ◌∷◌}
+use Rattle.std.specs.Prelude.{◌≡◌, ℕ, ◌<◌, ◌≤◌, ◌==◌, nat_le, Bool, true, false, not, ◌&&◌, ◌||◌, List, [], ◌∷◌}
 use Rattle.std.specs.List.{AllByRecursion, list_any, list_all}
 use Rattle.sccs_base.specs.Cut.{HasNoLf}
 use Rattle.sccs_base.specs.Login.{IsLogin}
+use Rattle.sccs_sid.specs.Moment.{IsMoment}
 use Rattle.sccs_sid.specs.Sid.{IsSid}
 use Rattle.sccs_sid.specs.declared.sids.Sid.{Sid}
 use Rattle.sccs_history.specs.Numbers.{is_empty, has, share, Falls}
@@ -107,8 +108,7 @@ AreLines text = AllByRecursion HasNoLf text
 -- SID, moment, login and texts of a record are such, so that each has a spelling.
 pub record HasSpelling (r : Record) : Type 0 where
   pub sid : IsSid r.sid
-  pub first : negsuc 31535999 ≤ℤ r.moment.seconds
-  pub last : r.moment.seconds ≤ℤ pos 3124223999
+  pub moment : IsMoment r.moment
   pub login : IsLogin r.login
   pub mrs : AreLines r.mrs
   pub comments : AreLines r.comments

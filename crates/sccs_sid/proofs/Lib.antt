@@ -1,8 +1,13 @@
 pub mod Decimals
 pub mod Digits
 pub mod Hundred
+pub mod ListTurns
 pub mod MomentRows
 pub mod MomentTexts
+pub mod Puts
 pub mod Separators
 pub mod Shown
+pub mod SidRows
 pub mod SidTexts
+pub mod Skips
+pub mod WordLemmas

@@ -1,6 +1,10 @@
+pub mod Cutoff
+pub mod Detail
 pub mod Moment
 pub mod Numbers
 pub mod Reading
 pub mod Refusal
 pub mod Sid
+pub mod SidLists
 pub mod Spec
+pub mod Words

@@ -1,6 +1,6 @@
 -- Reading from left to right. A field is a value and the bytes after it. A fault is the number of bytes
 -- that were left where nothing goes on.
-use Rattle.std.specs.Prelude.{◌≡◌, ℕ, zero, suc, ◌+◌, ◌-◌, ◌*◌, ◌==◌, Bool, true, false, List, [], ◌∷◌, length, nat_lt, Option, None, Some, Result, Ok, Err, if◌then◌else◌}
+use Rattle.std.specs.Prelude.{◌≡◌, ℕ, zero, suc, ◌+◌, ◌-◌, ◌*◌, ◌==◌, ◌||◌, Bool, true, false, List, [], ◌∷◌, length, nat_lt, Option, None, Some, Result, Ok, Err, if◌then◌else◌}
 
 infixl 10 ◌>>=◌
 abbrev pub ◌>>=◌ : {A B E : Type 0} → Result A E → (A → Result B E) → Result B E
@@ -54,3 +54,15 @@ until separator (b ∷ bytes) = if b == separator then [] else b ∷ until separ
 unfoldable pub behind : ℕ → List ℕ → Option (List ℕ)
 behind separator [] = None
 behind separator (b ∷ bytes) = if b == separator then Some bytes else behind separator bytes
+
+-- the bytes from the first on that fails a test
+unfoldable pub skip : (ℕ → Bool) → List ℕ → List ℕ
+skip passes [] = []
+skip passes (b ∷ bytes) = if passes b then skip passes bytes else b ∷ bytes
+
+abbrev pub is_no_digit : ℕ → Bool
+is_no_digit b = nat_lt b 48 || nat_lt 57 b
+
+-- without what stands before the first digit
+abbrev pub from_digit : List ℕ → List ℕ
+from_digit bytes = skip is_no_digit bytes

@@ -7,7 +7,7 @@ use crate::reading::{cut_at, number};
 use jiff_core::civil::{Date, DateTime, Time, days_in_month};
 
 // a number from low to high, else a fault at the place
-fn within(place: u64, low: u32, high: u32, found: Option<u32>) -> Result<u32, MomentFault>
+pub fn within(place: u64, low: u32, high: u32, found: Option<u32>) -> Result<u32, MomentFault>
     ensures value { result ≡ within place low high found }
     ensures low { IfOk result (λ n. low ≤ n) }
     ensures high { IfOk result (λ n. n ≤ high) }
@@ -19,7 +19,7 @@ fn within(place: u64, low: u32, high: u32, found: Option<u32>) -> Result<u32, Mo
 }
 
 // the year that two digits name
-fn full_year(year: u32) -> u32
+pub fn full_year(year: u32) -> u32
     requires { year < 100 }
     ensures value { result ≡ full_year year }
     ensures low { 1969 ≤ result }

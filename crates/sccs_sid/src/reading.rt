@@ -1,6 +1,6 @@
 //! Reading from left to right: a field and the bytes after it, or how many bytes were left where nothing goes on.
-ghost use Rattle.std.specs.Prelude.{◌≡◌, ◌+◌, ◌*◌, ◌^◌, ◌<◌, ◌≤◌, length, option_map, IfOk, IfSome};
-ghost use Rattle.sccs_sid.specs.Reading.{Gives, digits_after, number_at, byte_at, number, until, behind};
+ghost use Rattle.std.specs.Prelude.{◌≡◌, ◌+◌, ◌*◌, ◌^◌, ◌<◌, ◌≤◌, length, option_map, IfOk, IfErr, IfSome};
+ghost use Rattle.sccs_sid.specs.Reading.{Gives, digits_after, number_at, byte_at, number, until, behind, is_no_digit, from_digit};
 
 // up to `most` more digits behind those of a number, and the bytes after them
 #[tactic(auto, using(crate::proofs::Digits::room), unfolding(crate::specs::Reading::digits_after))]
@@ -29,6 +29,7 @@ pub fn wide_number_at(most: u32, bytes: &[u8]) -> Result<(u64, &[u8]), usize>
     ensures value { Gives (λ x. (x.0, x.1.now)) result (number_at most bytes.now) }
     ensures small { IfOk result (λ x. x.0 < 10 ^ most) }
     ensures shorter { IfOk result (λ x. length x.1.now < length bytes.now) }
+    ensures left { IfErr result (λ left. left ≤ length bytes.now) }
 {
     let Some(digit) = bytes.first() else {
         return Err(0);
@@ -46,6 +47,7 @@ pub fn number_at(most: u32, bytes: &[u8]) -> Result<(u32, &[u8]), usize>
     ensures value { Gives (λ x. (x.0, x.1.now)) result (number_at most bytes.now) }
     ensures small { IfOk result (λ x. x.0 < 10 ^ most) }
     ensures shorter { IfOk result (λ x. length x.1.now < length bytes.now) }
+    ensures left { IfErr result (λ left. left ≤ length bytes.now) }
 {
     match wide_number_at(most, bytes) {
         Ok((number, rest)) => Ok((number as u32, rest)),
@@ -58,6 +60,7 @@ pub fn number_at(most: u32, bytes: &[u8]) -> Result<(u32, &[u8]), usize>
 pub fn byte_at(wanted: u8, bytes: &[u8]) -> Result<&[u8], usize>
     ensures value { Gives (λ x. x.now) result (byte_at wanted bytes.now) }
     ensures shorter { IfOk result (λ x. length x.now < length bytes.now) }
+    ensures left { IfErr result (λ left. left ≤ length bytes.now) }
 {
     match bytes {
         [first, rest @ ..] if *first == wanted => Ok(rest),
@@ -83,6 +86,7 @@ pub fn number(most: u32, bytes: &[u8]) -> Option<u32>
 pub fn cut_at(separator: u8, bytes: &[u8]) -> (&[u8], Option<&[u8]>)
     ensures piece { result.0.now ≡ until separator bytes.now }
     ensures rest { option_map (λ x. x.now) result.1 ≡ behind separator bytes.now }
+    ensures shorter { IfSome result.1 (λ x. length x.now < length bytes.now) }
 {
     for (at, byte) in bytes.iter().enumerate() {
         if *byte == separator {
@@ -90,4 +94,17 @@ pub fn cut_at(separator: u8, bytes: &[u8]) -> (&[u8], Option<&[u8]>)
         }
     }
     (bytes, None)
+}
+
+/// The bytes without what stands before the first digit.
+pub fn from_digit(bytes: &[u8]) -> &[u8]
+    ensures value { result.now ≡ from_digit bytes.now }
+    ensures shorter { length result.now ≤ length bytes.now }
+{
+    for (at, byte) in bytes.iter().enumerate() {
+        if byte.is_ascii_digit() {
+            return &bytes[at..];
+        }
+    }
+    &bytes[bytes.len()..]
 }

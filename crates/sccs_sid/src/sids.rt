@@ -165,7 +165,6 @@ impl Sid {
     /// Writes the SID without leading zeros: `R.L`, or `R.L.B.S` on a branch.
     #[tactic(auto, unfolding(crate::specs::Sid::sid_text))]
     pub fn write<S: Sink>(&self, out: &mut S) -> Result<(), Failed>
-        requires { IsSid self.now }
         ensures ok { OnOk result (GivesOk (S.given out.old) (S.given out.new) (sid_text self.now)) }
         ensures err { OnErr result (GivesSome (S.given out.old) (S.given out.new) (sid_text self.now)) }
         ensures later { S.faults out.old ≤ S.faults out.new }

@@ -1,0 +1,6 @@
+pub mod Folders
+pub mod Gifts
+pub mod OneStep
+pub mod Sights
+pub mod TurnLists
+pub mod Views

@@ -45,12 +45,6 @@ fn is_operand(word: &[u8]) -> bool {
     }
 }
 
-// the name of an s-file
-fn sfile_name(bytes: &[u8]) -> Option<Name> {
-    let name = Name::read(bytes)?;
-    if name.is_sfile() { Some(name) } else { None }
-}
-
 // says why a file is refused
 fn refuse<E: Sink>(name: &[u8], refusal: &Refusal, err: &mut E) -> Answer
     ensures memory { result ≢ Answer.Memory }
@@ -109,7 +103,7 @@ pub fn run<I: Source, O: Sink, E: Sink, D: Disk>(
     let Some(operand) = operand(words) else {
         return refuse(b"-", &Refusal::Unbuilt, err);
     };
-    let Some(name) = sfile_name(operand) else {
+    let Some(name) = Name::read_sfile(operand) else {
         return refuse(operand, &Refusal::BadName, err);
     };
     match read_whole(alloc, disk, &name, LIMIT) {

@@ -1,0 +1,41 @@
+use Rattle.std.proofs.Common.{ℕ, ◌+◌, ◌∷◌, List, false, None, drop, get_or, option_map, sym, subst, ap, ◌∙◌}
+use Rattle.std.proofs.lemmas.List.{at_drop_all}
+use Rattle.sccs_history.specs.Applied.{Asked, listed}
+use Rattle.sccs_history.specs.declared.headers.Record.{Record}
+use Rattle.sccs_sets.specs.Marks.{or_else, said_by}
+use Rattle.sccs_sets.proofs.Passing.{IsAt, TurnsTo, at_start, turned, at_end, listed_said, drop-record}
+use Rattle.sccs_sets.proofs.delta_sets.pass.Goals as goal
+use Rattle.sccs_sets.proofs.delta_sets.pass.Goals.{then-takes, else-takes}
+
+pub loop-record-init : goal.loop-record-init
+loop-record-init c =
+    let include : List ℕ = c.args.include.now in
+    let exclude : List ℕ = c.args.exclude.now in
+    at_start (record { target = c.args.target; include = include; exclude = exclude; cutoff = option_map (λ m. m.seconds) c.args.cutoff }) c.args.records.now c.note-2.new.marks c.args.set.now c.requires.falls
+    (λ n. c.note-2.ensures n
+    ∙ (ap (λ o. or_else o (said_by exclude false n)) (c.note.ensures n)
+    ∙ (listed_said (get_or c.args.marks.now n None) include exclude n ∙ ap (λ o. or_else o (listed include exclude n None)) (c.requires.unmarked n))))
+    c.requires.unset
+
+pub loop-record-preserved : goal.loop-record-preserved
+loop-record-preserved c =
+    let asked : Asked = record { target = c.args.target; include = c.args.include.now; exclude = c.args.exclude.now; cutoff = option_map (λ m. m.seconds) c.args.cutoff } in
+    let all : List Record = c.args.records.now in
+    let rs : List Record = drop (c.loop-record.record-index + 1) all in
+    let r : Record = c.record-item.result in
+    let at : IsAt asked all (r ∷ rs) c.loop-record.wanted c.loop-record.marks c.loop-record.set =
+    subst (λ l. IsAt asked all l c.loop-record.wanted c.loop-record.marks c.loop-record.set) (drop-record all c.loop-record.record-index r c.loop-record-test.true c.record-item.is) c.loop-record.invariant in
+    let turn : TurnsTo r c.takes.result c.loop-record.marks c.if-takes.marks c.loop-record.set c.if-takes.set =
+    elim c.if-takes.branch [
+      | then-takes w ↦ subst (λ t. TurnsTo r t c.loop-record.marks c.if-takes.marks c.loop-record.set c.if-takes.set) (sym w.if-takes.true) ((λ n. ap (λ m. get_or m n None) w.marks-is ∙ w.take.ensures.marks n), w.set-is ∙ w.take.ensures.set)
+      | else-takes w ↦ subst (λ t. TurnsTo r t c.loop-record.marks c.if-takes.marks c.loop-record.set c.if-takes.set) (sym w.if-takes.false) (w.marks-is, w.set-is)
+    ] in
+    turned asked all rs r c.loop-record.wanted c.next_wanted-wanted.result c.loop-record.marks c.if-takes.marks c.loop-record.set c.if-takes.set c.takes.result at c.takes.ensures
+    (c.loop-record.auto.set ∙ c.requires.set) c.next_wanted-wanted.ensures turn
+
+pub returns : goal.returns
+returns c =
+    let asked : Asked = record { target = c.args.target; include = c.args.include.now; exclude = c.args.exclude.now; cutoff = option_map (λ m. m.seconds) c.args.cutoff } in
+    let all : List Record = c.args.records.now in
+    at_end asked all c.loop-record.wanted c.loop-record.marks c.loop-record.set c.requires.falls (c.loop-record.auto.set ∙ c.requires.set)
+    (subst (λ l. IsAt asked all l c.loop-record.wanted c.loop-record.marks c.loop-record.set) (at_drop_all (λ l. l) all c.loop-record.record-index c.loop-record-test.false) c.loop-record.invariant)

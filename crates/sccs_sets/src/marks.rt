@@ -1,0 +1,77 @@
+ghost use Rattle.std.specs.Prelude.{◌≡◌, ℕ, ◌==◌, ◌&&◌, not, [], ◌∷◌, None, false, true, length, slice_index_or, slice_set, option_map, unwrap_or, if◌then◌else◌};
+ghost use Rattle.sccs_history.specs.Applied.{is_barred, listed};
+ghost use Rattle.sccs_sets.specs.Marks.{or_else, said_by};
+
+use sccs_history::Record;
+use sccs_sid::Moment;
+
+/// One more than the greatest serial.
+pub const SERIALS: usize = 65536;
+
+// marks a number that has no mark yet
+fn mark(marks: &mut [Option<bool>], number: u16, value: bool)
+    requires { length marks.old ≡ SERIALS }
+    ensures { (n : ℕ) → slice_index_or marks.new n None
+        ≡ or_else (slice_index_or marks.old n None) (said_by (number ∷ []) value n) }
+{
+    let at = usize::from(number);
+    if marks[at].is_none() {
+        marks[at] = Some(value);
+    }
+}
+
+/// Marks the numbers of a list that have no mark yet.
+pub fn note(marks: &mut [Option<bool>], numbers: &[u16], value: bool)
+    requires { length marks.old ≡ SERIALS }
+    ensures { (n : ℕ) → slice_index_or marks.new n None
+        ≡ or_else (slice_index_or marks.old n None) (said_by numbers.now value n) }
+{
+    for number in numbers {
+        mark(marks, *number, value);
+    }
+}
+
+/// Whether a record is applied, by the marks of those above it and the wanted serial of the path.
+pub fn takes(record: &Record, marks: &[Option<bool>], wanted: u16, cutoff: Option<Moment>) -> bool
+    requires { length marks.now ≡ SERIALS }
+    ensures { result ≡ (not (is_barred (option_map (λ m. m.seconds) cutoff) record.now)
+        && unwrap_or (slice_index_or marks.now record.now.serial None) (record.now.serial == wanted)) }
+{
+    let late = match cutoff {
+        Some(last) => last.seconds < record.moment.seconds,
+        None => false,
+    };
+    !(record.removed || late)
+        && marks[usize::from(record.serial)].unwrap_or(record.serial == wanted)
+}
+
+/// Applies a record: sets its place, and marks what its lists name.
+pub fn take(record: &Record, marks: &mut [Option<bool>], set: &mut [bool])
+    requires marks { length marks.old ≡ SERIALS }
+    requires set { length set.old ≡ SERIALS }
+    ensures marks { (n : ℕ) → slice_index_or marks.new n None
+        ≡ or_else (slice_index_or marks.old n None) (listed record.now.include record.now.exclude n None) }
+    ensures set { set.new ≡ slice_set set.old record.now.serial true }
+{
+    set[usize::from(record.serial)] = true;
+    note(marks, record.include.items(), true);
+    note(marks, record.exclude.items(), false);
+}
+
+/// The next serial of the path.
+pub fn next_wanted(record: &Record, wanted: u16) -> u16
+    ensures { result ≡ (if record.now.serial == wanted then record.now.predecessor else wanted) }
+{
+    if record.serial == wanted {
+        record.predecessor
+    } else {
+        wanted
+    }
+}
+
+/// Whether a place is set.
+pub fn is_set(set: &[bool], serial: u16) -> bool
+    ensures { result ≡ slice_index_or set.now serial false }
+{
+    set.get(usize::from(serial)).copied().unwrap_or(false)
+}

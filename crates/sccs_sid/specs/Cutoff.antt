@@ -1,0 +1,42 @@
+-- Cutoffs: YY[MM[DD[HH[MM[SS]]]]], each piece the next one or two digits, other bytes passed over.
+use Rattle.std.specs.Prelude.{ℕ, List, [], Result, Ok, Err, pos}
+use Rattle.jiff_core.specs.Calendar.{days_in_month}
+use Rattle.sccs_sid.specs.Reading.{◌>>=◌, number_at, from_digit}
+use Rattle.sccs_sid.specs.Moment.{full_year, within, second_at}
+use Rattle.sccs_sid.specs.declared.moments.Moment.{Moment}
+use Rattle.sccs_sid.specs.declared.moments.MomentFault.{MomentFault}
+use Rattle.std.specs.Prelude.{Some}
+
+-- the next piece, and the bytes behind it
+abbrev pub piece_at : List ℕ → Result (ℕ × List ℕ) ℕ
+piece_at bytes = number_at 2 (from_digit bytes)
+
+-- the number of a piece, which lies from low to high
+abbrev pub fitting : ℕ → ℕ → ℕ → ℕ × List ℕ → Result (ℕ × List ℕ) MomentFault
+fitting place low high piece = within place low high (Some piece.0) >>= λ n. Ok (n, piece.1)
+
+-- the year, which must be there
+abbrev pub year_by : Result (ℕ × List ℕ) ℕ → Result (ℕ × List ℕ) MomentFault
+year_by (Ok piece) = fitting 1 0 99 piece
+year_by (Err left) = Err (record { place = 1 })
+
+-- another unit: where no piece is left it has its greatest value
+abbrev pub unit_by : ℕ → ℕ → ℕ → Result (ℕ × List ℕ) ℕ → Result (ℕ × List ℕ) MomentFault
+unit_by place low high (Ok piece) = fitting place low high piece
+unit_by place low high (Err left) = Ok (high, [])
+
+-- no seventh piece
+abbrev pub ended_by : Moment → Result (ℕ × List ℕ) ℕ → Result Moment MomentFault
+ended_by moment (Ok piece) = Err (record { place = 7 })
+ended_by moment (Err left) = Ok moment
+
+-- the moment that bytes give as a cutoff
+unfoldable pub cutoff_of : List ℕ → Result Moment MomentFault
+cutoff_of bytes = do
+  year ← year_by (piece_at bytes)
+  month ← unit_by 2 1 12 (piece_at year.1)
+  day ← unit_by 3 1 (days_in_month (pos (full_year year.0)) month.0) (piece_at month.1)
+  hour ← unit_by 4 0 23 (piece_at day.1)
+  minute ← unit_by 5 0 59 (piece_at hour.1)
+  second ← unit_by 6 0 59 (piece_at minute.1)
+  ended_by (record { seconds = second_at (record { year = full_year year.0; month = month.0; day = day.0; hour = hour.0; minute = minute.0; second = second.0 }) }) (piece_at second.1)

@@ -1,0 +1,76 @@
+ghost use Rattle.std.specs.Prelude.{◌≡◌, ◌+◌, ◌≤◌, ◌++◌, length, take, decimal};
+ghost use Rattle.sccs_sid.specs.Detail.{detail_text};
+ghost use Rattle.sccs_sid.specs.Refusal.{five};
+ghost use Rattle.sccs_sid.specs.Sid.{sid_text};
+
+use crate::sids::Sid;
+use itoa::Buffer;
+
+// what a refusal's text says beside its fixed words
+#[derive(Clone, Copy)]
+pub enum Detail {
+    Nothing,
+    Number(u64),
+    Sums(u32, u16),
+    Place(Sid),
+}
+
+// the last five digits
+#[tactic(auto, unfolding(crate::specs::Refusal::five))]
+fn five(number: u32) -> [u8; 5]
+    ensures { result ≡ five number }
+{
+    [
+        b'0' + (number / 10000 % 10) as u8,
+        b'0' + (number / 1000 % 10) as u8,
+        b'0' + (number / 100 % 10) as u8,
+        b'0' + (number / 10 % 10) as u8,
+        b'0' + (number % 10) as u8,
+    ]
+}
+
+// puts bytes behind those that stand up to a place, and answers where they end
+fn put(into: &mut [u8; 40], at: usize, bytes: &[u8]) -> usize
+    requires { at + length bytes.now ≤ 40 }
+    ensures end { result ≡ at + length bytes.now }
+    ensures put { take result into.new ≡ take at into.old ++ bytes.now }
+{
+    let end = at + bytes.len();
+    into[at..end].copy_from_slice(bytes);
+    end
+}
+
+// the same with the written SID
+fn put_sid(sid: &Sid, into: &mut [u8; 40]) -> usize
+    ensures end { result ≤ 40 }
+    ensures put { take result into.new ≡ sid_text sid.now }
+{
+    let mut buffer = Buffer::new();
+    let end = put(into, 0, buffer.format(sid.release).as_bytes());
+    let end = put(into, end, b".");
+    let end = put(into, end, buffer.format(sid.level).as_bytes());
+    if sid.branch == 0 {
+        return end;
+    }
+    let end = put(into, end, b".");
+    let end = put(into, end, buffer.format(sid.branch).as_bytes());
+    let end = put(into, end, b".");
+    put(into, end, buffer.format(sid.sequence).as_bytes())
+}
+
+// puts the text of a detail at the front, and answers where it ends
+pub fn put_detail(detail: &Detail, into: &mut [u8; 40]) -> usize
+    ensures end { result ≤ 40 }
+    ensures put { take result into.new ≡ detail_text detail.now }
+{
+    match detail {
+        Detail::Nothing => 0,
+        Detail::Number(number) => put(into, 0, Buffer::new().format(*number).as_bytes()),
+        Detail::Sums(stored, computed) => {
+            let end = put(into, 0, &five(*stored));
+            let end = put(into, end, b", computed ");
+            put(into, end, &five(u32::from(*computed)))
+        }
+        Detail::Place(sid) => put_sid(sid, into),
+    }
+}

@@ -1,0 +1,7 @@
+use Rattle.std.proofs.Common.{◌≡◌, take, drop}
+use Rattle.sccs_words.specs.Judge.{first_from, operand_fault, operands_fault}
+use Rattle.sccs_words.proofs.judging.operands_fault.Given as goal
+
+-- no fault so far
+abbrev pub invariant-operands : goal.invariant-operands
+invariant-operands l = first_from (operand_fault l.rest l.uses l.first) (take l.i l.words) (drop l.i l.words) ≡ operands_fault l.rest l.uses l.first l.words

@@ -1,0 +1,163 @@
+-- The first fault of a command line, from left to right.
+use Rattle.std.specs.Prelude.{ℕ, ◌+◌, ◌==◌, Bool, true, false, not, ◌&&◌, ◌||◌, List, [], ◌∷◌, ◌++◌, length, Option, None, Some, is_some, if◌then◌else◌}
+use Rattle.std.specs.List.{list_any, list_all}
+use Rattle.std.specs.Str.{bytes_eq}
+use Rattle.sccs_base.specs.Name.{is_sfile_name}
+use Rattle.sccs_sid.specs.Reading.{is_empty}
+use Rattle.sccs_words.specs.Scan.{CommandLine}
+use Rattle.sccs_words.specs.Synopsis.{rows_of, aparts_of, needs_of, rest_of, row_of}
+use Rattle.sccs_words.specs.Values.{fits, soak_number}
+use Rattle.sccs_words.specs.declared.commands.Usage.{Usage}
+use Rattle.sccs_words.specs.declared.tables.Row.{Row}
+use Rattle.sccs_words.specs.declared.tables.Row.TheVariants.{Plain, Joined, Valued, Repeated}
+use Rattle.sccs_words.specs.declared.tables.Form.{Form}
+use Rattle.sccs_words.specs.declared.tables.Form.TheVariants.{Any}
+use Rattle.sccs_words.specs.declared.tables.Apart.{Apart}
+use Rattle.sccs_words.specs.declared.tables.Apart.TheVariants as aparts
+use Rattle.sccs_words.specs.declared.tables.Need.{Need}
+use Rattle.sccs_words.specs.declared.tables.Need.TheVariants as needs
+use Rattle.sccs_words.specs.declared.tables.Rest.{Rest}
+use Rattle.sccs_words.specs.declared.tables.Rest.TheVariants.{Nothing, Sfile, Number, OneWith}
+use Rattle.sccs_words.specs.declared.tables.Utility.{Utility}
+use Rattle.sccs_words.specs.declared.scanning.Got.{Got}
+use Rattle.sccs_words.specs.declared.scanning.Got.TheVariants.{Unknown, Bare, Missing, Value}
+use Rattle.sccs_words.specs.declared.scanning.Use.{Use}
+
+abbrev pub usage : ℕ → ℕ → Option Usage
+usage kind word = Some (record { kind = kind; word = word })
+
+-- the first of two that is there
+abbrev pub or_else : Option Usage → Option Usage → Option Usage
+or_else None later = later
+or_else (Some fault) later = Some fault
+
+-- an option of that letter is used
+abbrev pub has : ℕ → List Use → Bool
+has letter uses = list_any (λ one. one.letter == letter) uses
+
+abbrev pub is_bare : Got → Bool
+is_bare Bare = true
+is_bare _ = false
+
+-- the rule speaks of these two, in this order
+abbrev pub apart_by : Apart → Use → Use → Bool
+apart_by (aparts.Both x y) a b = a.letter == x && b.letter == y
+apart_by (aparts.Bare x y) a b = (a.letter == x && is_bare a.got) && b.letter == y
+apart_by (aparts.Alone x) a b = a.letter == x && not (b.letter == x)
+
+abbrev pub is_apart : List Apart → Use → Use → Bool
+is_apart rules a b = list_any (λ rule. apart_by rule a b || apart_by rule b a) rules
+
+abbrev pub repeats : Option Row → Bool
+repeats (Some (Repeated b form)) = true
+repeats _ = false
+
+abbrev pub form_of : Option Row → Form
+form_of (Some (Joined b form)) = form
+form_of (Some (Valued b form)) = form
+form_of (Some (Repeated b form)) = form
+form_of _ = Any
+
+abbrev pub value_fault : Option Row → Got → Option Usage
+value_fault row (Value bytes n) = if fits (form_of row) bytes then None else usage 6 n
+value_fault row _ = None
+
+abbrev pub is_again : Option Row → List Use → ℕ → Bool
+is_again row before letter = not (repeats row) && has letter before
+
+-- a use of a letter of the utility, after those before it
+abbrev pub known_fault : Utility → List Use → Use → Option Row → Option Usage
+known_fault utility before one row =
+    if is_again row before one.letter then usage 4 one.word
+    else if list_any (λ other. is_apart (aparts_of utility) one other) before then usage 5 one.word
+    else value_fault row one.got
+
+abbrev pub fault_by : Utility → List Use → Use → Got → Option Usage
+fault_by utility before one Unknown = usage 2 one.word
+fault_by utility before one Missing = usage 3 one.word
+fault_by utility before one _ = known_fault utility before one (row_of (rows_of utility) one.letter)
+
+unfoldable pub use_fault : Utility → List Use → Use → Option Usage
+use_fault utility before one = fault_by utility before one one.got
+
+-- the first fault of these, each judged after those before it
+unfoldable pub first_from : {A : Type 0} → (List A → A → Option Usage) → List A → List A → Option Usage
+first_from fault before [] = None
+first_from fault before (x ∷ xs) = or_else (fault before x) (first_from fault (before ++ x ∷ []) xs)
+
+abbrev pub uses_fault : Utility → List Use → Option Usage
+uses_fault utility uses = first_from (use_fault utility) [] uses
+
+-- ---- operands
+
+abbrev pub is_dash : List ℕ → Bool
+is_dash word = bytes_eq word (45 ∷ [])
+
+abbrev pub is_dot : List ℕ → Bool
+is_dot word = bytes_eq word (46 ∷ [])
+
+-- neither `.` nor `-`
+abbrev pub is_named : List ℕ → Bool
+is_named word = not (is_dash word) && not (is_dot word)
+
+-- what may stand as an operand
+abbrev pub operand_fits : Rest → List Use → List ℕ → Bool
+operand_fits Sfile uses word = is_sfile_name word
+operand_fits Number uses word = is_some (soak_number word)
+operand_fits (OneWith letter) uses word = not (has letter uses) || is_named word
+operand_fits _ uses word = true
+
+-- an operand is `-`, and others stand before it
+abbrev pub is_late_dash : List (List ℕ) → List ℕ → Bool
+is_late_dash before word = is_dash word && not (is_empty before)
+
+-- the same, or `-` stands before it
+abbrev pub dash_with_other : List (List ℕ) → List ℕ → Bool
+dash_with_other before word = list_any is_dash before || is_late_dash before word
+
+-- an operand, after those before it; the first stands in word `first`
+unfoldable pub operand_fault : Rest → List Use → ℕ → List (List ℕ) → List ℕ → Option Usage
+operand_fault rest uses first before word =
+    if dash_with_other before word then usage 5 (first + length before)
+    else if operand_fits rest uses word then None else usage 6 (first + length before)
+
+abbrev pub operands_fault : Rest → List Use → ℕ → List (List ℕ) → Option Usage
+operands_fault rest uses first words = first_from (operand_fault rest uses first) [] words
+
+-- ---- after the last word
+
+abbrev pub wants : Rest → Bool
+wants Nothing = false
+wants _ = true
+
+abbrev pub met : List Use → Need → Bool
+met uses (needs.Always x) = has x uses
+met uses (needs.With letter x y) = not (has letter uses) || (has x uses || has y uses)
+
+abbrev pub takes_one : Rest → List Use → Bool
+takes_one Sfile uses = true
+takes_one Number uses = true
+takes_one (OneWith letter) uses = has letter uses
+takes_one _ uses = false
+
+abbrev pub too_many : Rest → List Use → List (List ℕ) → Bool
+too_many rest uses [] = false
+too_many rest uses (word ∷ []) = not (wants rest)
+too_many rest uses (word ∷ more ∷ words) = not (wants rest) || takes_one rest uses
+
+abbrev pub none_though_wanted : Rest → List (List ℕ) → Bool
+none_though_wanted rest words = is_empty words && wants rest
+
+unfoldable pub end_fault : Utility → List Use → List (List ℕ) → ℕ → Option Usage
+end_fault utility uses operands n =
+    if none_though_wanted (rest_of utility) operands then usage 7 n
+    else if not (list_all (λ need. met uses need) (needs_of utility)) then usage 8 n
+    else if too_many (rest_of utility) uses operands then usage 9 n
+    else None
+
+-- the words end before number n
+unfoldable pub first_fault : Utility → CommandLine → ℕ → Option Usage
+first_fault utility line n =
+    or_else (uses_fault utility line.uses)
+    (or_else (operands_fault (rest_of utility) line.uses line.first line.operands)
+    (end_fault utility line.uses line.operands n))

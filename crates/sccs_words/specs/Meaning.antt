@@ -1,0 +1,95 @@
+-- The command or the usage fault that words are.
+use Rattle.std.specs.Prelude.{◌≡◌, ℕ, ◌+◌, Bool, List, [], ◌∷◌, length, Option, None, Some, option_and_then, Result, Ok, Err, codes, if◌then◌else◌}
+use Rattle.std.specs.Str.{bytes_eq}
+use Rattle.sccs_sid.specs.declared.sids.Sid.{Sid}
+use Rattle.sccs_words.specs.Letters as opt
+use Rattle.sccs_words.specs.Synopsis.{rows_of}
+use Rattle.sccs_words.specs.Values.{sid_value, name_value, soak_number}
+use Rattle.sccs_words.specs.Scan.{CommandLine, scanned}
+use Rattle.sccs_words.specs.Judge.{has, first_fault}
+use Rattle.sccs_words.specs.Records.{value_of, admin_words, get_words, delta_words, unget_words, prs_words, val_words, operands_of}
+use Rattle.sccs_words.specs.declared.scanning.Use.{Use}
+use Rattle.sccs_words.specs.declared.tables.Utility.{Utility}
+use Rattle.sccs_words.specs.declared.tables.Utility.TheVariants as u
+use Rattle.sccs_words.specs.declared.commands.Usage.{Usage}
+use Rattle.sccs_words.specs.declared.commands.Command.{Command}
+use Rattle.sccs_words.specs.declared.commands.Command.TheVariants as c
+use Rattle.sccs_words.specs.declared.commands.WordsFault.{WordsFault}
+use Rattle.sccs_words.specs.declared.commands.WordsFault.TheVariants as faults
+
+-- what a call that may run out of memory returned, against the meaning
+abbrev pub Gives : Result Command WordsFault → Result Command Usage → Type 0
+Gives (Ok command) meant = meant ≡ Ok command
+Gives (Err (faults.Usage usage)) meant = meant ≡ Err usage
+Gives (Err faults.Memory) meant = Unit {0}
+
+abbrev pub bad : ℕ → ℕ → Result Command Usage
+bad kind word = Err (record { kind = kind; word = word })
+
+unfoldable pub utility_of : List ℕ → Option Utility
+utility_of word =
+    if bytes_eq word (codes "admin") then Some u.Admin
+    else if bytes_eq word (codes "get") then Some u.Get
+    else if bytes_eq word (codes "delta") then Some u.Delta
+    else if bytes_eq word (codes "unget") then Some u.Unget
+    else if bytes_eq word (codes "sact") then Some u.Sact
+    else if bytes_eq word (codes "rmdel") then Some u.Rmdel
+    else if bytes_eq word (codes "prs") then Some u.Prs
+    else if bytes_eq word (codes "val") then Some u.Val
+    else if bytes_eq word (codes "what") then Some u.What
+    else if bytes_eq word (codes "recover") then Some u.Recover
+    else if bytes_eq word (codes "batch") then Some u.Batch
+    else if bytes_eq word (codes "soak") then Some u.Soak
+    else None
+
+abbrev pub first_of : List (List ℕ) → Option (List ℕ)
+first_of [] = None
+first_of (word ∷ words) = Some word
+
+abbrev pub with_name : List Use → ℕ → Option (List ℕ) → Result Command Usage
+with_name uses n None = bad 7 n
+with_name uses n (Some name) = Ok (c.Delta (delta_words uses) name)
+
+abbrev pub with_sid : List (List ℕ) → ℕ → Option Sid → Result Command Usage
+with_sid operands n None = bad 8 n
+with_sid operands n (Some sid) = Ok (c.Rmdel sid (operands_of operands))
+
+abbrev pub with_number : ℕ → Option ℕ → Result Command Usage
+with_number n None = bad 7 n
+with_number n (Some number) = Ok (c.Soak number)
+
+-- the command of a line without a fault; n is the number of words plus one
+abbrev pub command_of : Utility → CommandLine → ℕ → Result Command Usage
+command_of u.Admin l n = Ok (c.Admin (admin_words l.uses) (operands_of l.operands))
+command_of u.Get l n = Ok (c.Get (get_words l.uses) (operands_of l.operands))
+command_of u.Delta l n = with_name l.uses n (option_and_then name_value (first_of l.operands))
+command_of u.Unget l n = Ok (c.Unget (unget_words l.uses) (operands_of l.operands))
+command_of u.Sact l n = Ok (c.Sact (operands_of l.operands))
+command_of u.Rmdel l n = with_sid l.operands n (option_and_then sid_value (value_of opt.r l.uses))
+command_of u.Prs l n = Ok (c.Prs (prs_words l.uses) (operands_of l.operands))
+command_of u.Val l n = Ok (c.Val (val_words l))
+command_of u.What l n = Ok (c.What (has opt.s l.uses) (operands_of l.operands))
+command_of u.Recover l n = Ok (c.Recover (operands_of l.operands))
+command_of u.Batch l n = Ok c.Batch
+command_of u.Soak l n = with_number n (option_and_then soak_number (first_of l.operands))
+
+-- val's faults are bits of its command
+abbrev pub refusal_of : Utility → CommandLine → ℕ → Option Usage
+refusal_of u.Val l n = None
+refusal_of utility l n = first_fault utility l n
+
+abbrev pub unless : Option Usage → Result Command Usage → Result Command Usage
+unless (Some usage) meant = Err usage
+unless None meant = meant
+
+unfoldable pub line_meaning : Utility → CommandLine → ℕ → Result Command Usage
+line_meaning utility l n = unless (refusal_of utility l n) (command_of utility l n)
+
+abbrev pub meaning_by : Option Utility → List (List ℕ) → Result Command Usage
+meaning_by None words = bad 1 1
+meaning_by (Some utility) words = line_meaning utility (scanned (rows_of utility) 2 [] None words) (length words + 2)
+
+-- the command or the usage fault of these words, the utility's word among them
+unfoldable pub meaning : List (List ℕ) → Result Command Usage
+meaning [] = bad 1 1
+meaning (word ∷ words) = meaning_by (utility_of word) words

@@ -1,0 +1,313 @@
+ghost use Rattle.std.specs.Prelude.{◌≡◌, ◌+◌, ◌^◌, ◌<◌, ◌≤◌, length, option_map, option_and_then, IfOk};
+ghost use Rattle.sccs_words.specs.Records.{value_in as value_in_spec, value_of as value_spec, values_of as values_spec, mrs_of, lines_in, given_of as given_spec, comment_of as comment_spec, get_words as get_spec, delta_words as delta_spec, unget_words as unget_spec, prs_words as prs_spec, admin_words as admin_spec, val_words as val_spec, operands_of as operands_spec, is_from_input as is_from_input_spec, is_option_fault, bit as bit_spec};
+ghost use Rattle.sccs_words.specs.Values.{sid_value as sid_spec, spec_value as spec_spec, moment_value as moment_spec, list_value as list_spec, release_value as release_spec, name_value};
+ghost use Rattle.sccs_words.specs.Scan.{line};
+
+use crate::commands::{AdminWords, DeltaWords, GetWords, Given, Operands, PrsWords, UngetWords, ValWords};
+use crate::judging::{has, is_dash, operands_fault, uses_fault};
+use crate::scanning::{Got, Use};
+use crate::tables::{Rest, Utility};
+use crate::values::{list_value, moment_value, mr_words, release_value, sid_value, spec_value};
+use sccs_base::{Bytes, Memory, Name, Text, Words};
+use sccs_sid::{Moment, Sid, SidList, Spec};
+use std::alloc::Global;
+
+fn value_in(got: &Got) -> Option<&[u8]>
+    ensures { option_map (λ bytes. bytes.now) result ≡ value_in_spec got.now }
+{
+    match got {
+        Got::Value(bytes, _) => Some(bytes.bytes()),
+        Got::Unknown => None,
+        Got::Bare => None,
+        Got::Missing => None,
+    }
+}
+
+/// The value of the first use of a letter.
+#[tactic(auto, unfolding(crate::specs::Records::value_of))]
+pub fn value_of(uses: &[Use], letter: u8) -> Option<&[u8]>
+    ensures { option_map (λ bytes. bytes.now) result ≡ value_spec letter uses.now }
+{
+    for one in uses {
+        if one.letter == letter {
+            return value_in(&one.got);
+        }
+    }
+    None
+}
+
+// the values of all uses of a letter, in order
+#[tactic(auto, unfolding(crate::specs::Records::values_of))]
+fn values_of(alloc: Global, uses: &[Use], letter: u8) -> Result<Words, Memory>
+    ensures { IfOk result (λ values. values ≡ values_spec letter uses.now) }
+{
+    let mut values = Words::new(alloc);
+    for one in uses {
+        let found = if one.letter == letter {
+            value_in(&one.got)
+        } else {
+            None
+        };
+        match found {
+            Some(bytes) => values.push(Bytes::new(alloc, bytes)?)?,
+            None => {}
+        }
+    }
+    Ok(values)
+}
+
+pub fn sid_at(uses: &[Use], letter: u8) -> Option<Sid>
+    ensures { result ≡ option_and_then sid_spec (value_spec letter uses.now) }
+{
+    match value_of(uses, letter) {
+        Some(bytes) => sid_value(bytes),
+        None => None,
+    }
+}
+
+fn spec_at(uses: &[Use], letter: u8) -> Option<Spec>
+    ensures { result ≡ option_and_then spec_spec (value_spec letter uses.now) }
+{
+    match value_of(uses, letter) {
+        Some(bytes) => spec_value(bytes),
+        None => None,
+    }
+}
+
+fn moment_at(uses: &[Use], letter: u8) -> Option<Moment>
+    ensures { result ≡ option_and_then moment_spec (value_spec letter uses.now) }
+{
+    match value_of(uses, letter) {
+        Some(bytes) => moment_value(bytes),
+        None => None,
+    }
+}
+
+fn release_at(uses: &[Use], letter: u8) -> Option<u16>
+    ensures { result ≡ option_and_then release_spec (value_spec letter uses.now) }
+{
+    match value_of(uses, letter) {
+        Some(bytes) => release_value(bytes),
+        None => None,
+    }
+}
+
+fn list_at(alloc: Global, uses: &[Use], letter: u8) -> Result<Option<SidList>, Memory>
+    ensures { IfOk result (λ r. r ≡ option_and_then list_spec (value_spec letter uses.now)) }
+{
+    match value_of(uses, letter) {
+        Some(bytes) => list_value(alloc, bytes),
+        None => Ok(None),
+    }
+}
+
+fn bytes_at(alloc: Global, uses: &[Use], letter: u8) -> Result<Option<Bytes>, Memory>
+    ensures { IfOk result (λ r. r ≡ value_spec letter uses.now) }
+{
+    match value_of(uses, letter) {
+        Some(bytes) => {
+            let bytes = Bytes::new(alloc, bytes)?;
+            Ok(Some(bytes))
+        }
+        None => Ok(None),
+    }
+}
+
+fn name_at(uses: &[Use], letter: u8) -> Option<Name>
+    ensures { result ≡ option_and_then name_value (value_spec letter uses.now) }
+{
+    match value_of(uses, letter) {
+        Some(bytes) => name_in(bytes),
+        None => None,
+    }
+}
+
+pub fn name_in(bytes: &[u8]) -> Option<Name>
+    ensures { result ≡ name_value bytes.now }
+{
+    Name::read(bytes)
+}
+
+fn given_of(uses: &[Use], letter: u8) -> Given
+    ensures { result ≡ given_spec letter uses.now }
+{
+    if !has(uses, letter) {
+        return Given::No;
+    }
+    match name_at(uses, letter) {
+        Some(name) => Given::From(name),
+        None => Given::Bare,
+    }
+}
+
+fn mrs_at(alloc: Global, uses: &[Use], letter: u8) -> Result<Words, Memory>
+    ensures { IfOk result (λ r. r ≡ mrs_of (value_spec letter uses.now)) }
+{
+    match value_of(uses, letter) {
+        Some(bytes) => mr_words(alloc, bytes),
+        None => Ok(Words::new(alloc)),
+    }
+}
+
+fn lines_at(alloc: Global, uses: &[Use], letter: u8) -> Result<Text, Memory>
+    ensures { IfOk result (λ r. r ≡ lines_in (value_spec letter uses.now)) }
+{
+    match value_of(uses, letter) {
+        Some(bytes) => Text::read(alloc, bytes),
+        None => Ok(Text::empty(alloc)),
+    }
+}
+
+fn comment_of(alloc: Global, uses: &[Use]) -> Result<Option<Text>, Memory>
+    ensures { IfOk result (λ r. r ≡ comment_spec uses.now) }
+{
+    if !has(uses, b'y') {
+        return Ok(None);
+    }
+    let lines = lines_at(alloc, uses, b'y')?;
+    Ok(Some(lines))
+}
+
+pub fn get_words(alloc: Global, uses: &[Use]) -> Result<GetWords, Memory>
+    ensures { IfOk result (λ r. r ≡ get_spec uses.now) }
+{
+    Ok(GetWords {
+        branch: has(uses, b'b'),
+        cutoff: moment_at(uses, b'c'),
+        edit: has(uses, b'e'),
+        no_text: has(uses, b'g'),
+        include: list_at(alloc, uses, b'i')?,
+        exclude: list_at(alloc, uses, b'x')?,
+        keep: has(uses, b'k'),
+        sids: has(uses, b'm'),
+        module: has(uses, b'n'),
+        print: has(uses, b'p'),
+        silent: has(uses, b's'),
+        spec: spec_at(uses, b'r'),
+        top: has(uses, b't'),
+    })
+}
+
+pub fn delta_words(alloc: Global, uses: &[Use]) -> Result<DeltaWords, Memory>
+    ensures { IfOk result (λ r. r ≡ delta_spec uses.now) }
+{
+    Ok(DeltaWords {
+        mrs: mrs_at(alloc, uses, b'm')?,
+        keep: has(uses, b'n'),
+        sid: sid_at(uses, b'r'),
+        silent: has(uses, b's'),
+        comment: lines_at(alloc, uses, b'y')?,
+    })
+}
+
+pub fn unget_words(uses: &[Use]) -> UngetWords
+    ensures { result ≡ unget_spec uses.now }
+{
+    UngetWords {
+        keep: has(uses, b'n'),
+        sid: sid_at(uses, b'r'),
+        silent: has(uses, b's'),
+    }
+}
+
+pub fn prs_words(alloc: Global, uses: &[Use]) -> Result<PrsWords, Memory>
+    ensures { IfOk result (λ r. r ≡ prs_spec uses.now) }
+{
+    Ok(PrsWords {
+        all: has(uses, b'a'),
+        earlier: has(uses, b'e'),
+        later: has(uses, b'l'),
+        cutoff: moment_at(uses, b'c'),
+        chosen: has(uses, b'r'),
+        sid: sid_at(uses, b'r'),
+        spec: bytes_at(alloc, uses, b'd')?,
+    })
+}
+
+pub fn admin_words(alloc: Global, uses: &[Use]) -> Result<AdminWords, Memory>
+    ensures { IfOk result (λ r. r ≡ admin_spec uses.now) }
+{
+    Ok(AdminWords {
+        add: values_of(alloc, uses, b'a')?,
+        erase: values_of(alloc, uses, b'e')?,
+        set: values_of(alloc, uses, b'f')?,
+        unset: values_of(alloc, uses, b'd')?,
+        check: has(uses, b'h'),
+        fix: has(uses, b'z'),
+        fresh: has(uses, b'n') || has(uses, b'i'),
+        text: given_of(uses, b'i'),
+        release: release_at(uses, b'r'),
+        mrs: mrs_at(alloc, uses, b'm')?,
+        comment: comment_of(alloc, uses)?,
+        description: given_of(uses, b't'),
+    })
+}
+
+fn is_from_input(words: &[Bytes]) -> bool
+    ensures { result ≡ is_from_input_spec words.now }
+{
+    match words {
+        [word] => is_dash(word.bytes()),
+        [] => false,
+        _ => false,
+    }
+}
+
+fn copied(alloc: Global, words: &[Bytes]) -> Result<Words, Memory>
+    ensures { IfOk result (λ r. r ≡ words.now) }
+{
+    let mut copies = Words::new(alloc);
+    for word in words {
+        copies.push(Bytes::new(alloc, word.bytes())?)?;
+    }
+    Ok(copies)
+}
+
+pub fn operands_of(alloc: Global, words: &[Bytes]) -> Result<Operands, Memory>
+    ensures { IfOk result (λ r. r ≡ operands_spec words.now) }
+{
+    if is_from_input(words) {
+        return Ok(Operands {
+            words: Words::new(alloc),
+            from_input: true,
+        });
+    }
+    let words = copied(alloc, words)?;
+    Ok(Operands {
+        words,
+        from_input: false,
+    })
+}
+
+// whether an option of val is at fault, or `-` stands with another operand
+fn has_option_fault(alloc: Global, uses: &[Use], first: u64, operands: &[Bytes]) -> Result<bool, Memory>
+    requires { first + length operands.now < 2 ^ 64 }
+    ensures { IfOk result (λ r. r ≡ is_option_fault (line uses.now first operands.now)) }
+{
+    let of_uses = uses_fault(alloc, Utility::Val, uses)?;
+    let of_operands = operands_fault(Rest::Many, uses, first, operands);
+    Ok(of_uses.is_some() || of_operands.is_some())
+}
+
+fn bit(holds: bool, value: u8) -> u8
+    ensures value { result ≡ bit_spec holds value }
+    ensures most { result ≤ value }
+{
+    if holds { value } else { 0 }
+}
+
+pub fn val_words(alloc: Global, uses: &[Use], first: u64, operands: &[Bytes]) -> Result<ValWords, Memory>
+    requires { first + length operands.now < 2 ^ 64 }
+    ensures { IfOk result (λ r. r ≡ val_spec (line uses.now first operands.now)) }
+{
+    let option = bit(has_option_fault(alloc, uses, first, operands)?, 64);
+    let none = bit(operands.is_empty(), 128);
+    Ok(ValWords {
+        fault: option + none,
+        silent: has(uses, b's'),
+        sid: bytes_at(alloc, uses, b'r')?,
+        kind: bytes_at(alloc, uses, b'y')?,
+        module: bytes_at(alloc, uses, b'm')?,
+        operands: operands_of(alloc, operands)?,
+    })
+}
