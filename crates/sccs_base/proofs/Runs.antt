@@ -38,9 +38,7 @@ pieces_at f (x ∷ xs) zero d below = refl
 pieces_at f (x ∷ xs) (suc i) d below =
     ap (λ rest. f x ++ rest) (pieces_at f xs i d (omega arith)) ∙ sym (append_assoc (f x) (flat_map f (take i xs)) (f (get_or xs i d) ++ flat_map f (drop (suc i) xs)))
 
--- the same, for the parts of one text
-pub some_of_parts : (before now after : Option (List ℕ)) (parts : List (Bor (List ℕ))) (i : ℕ) (d : Bor (List ℕ)) → i < length parts → GivesOk before now (flat_map (λ (p : Bor (List ℕ)). p.now) (take i parts)) → GivesSome now after ((get_or parts i d).now)
-    → GivesSome before after (flat_map (λ (p : Bor (List ℕ)). p.now) parts)
-some_of_parts before now after parts i d below whole some =
-    let bytes : Bor (List ℕ) → List ℕ = λ p. p.now in
-    subst (λ text. GivesSome before after text) (sym (pieces_at bytes parts i d below)) (some_after before now after (flat_map bytes (take i parts)) (bytes (get_or parts i d)) (flat_map bytes (drop (suc i) parts)) whole some)
+-- the whole texts of the first things, and a front of the next one's, are a front of the texts of all
+pub some_of_pieces : {X : Type 0} (f : X → List ℕ) (before now after : Option (List ℕ)) (xs : List X) (i : ℕ) (d : X) → i < length xs → GivesOk before now (flat_map f (take i xs)) → GivesSome now after (f (get_or xs i d)) → GivesSome before after (flat_map f xs)
+some_of_pieces f before now after xs i d below whole some =
+    subst (λ text. GivesSome before after text) (sym (pieces_at f xs i d below)) (some_after before now after (flat_map f (take i xs)) (f (get_or xs i d)) (flat_map f (drop (suc i) xs)) whole some)

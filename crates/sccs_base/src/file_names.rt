@@ -77,13 +77,7 @@ impl Name {
         ensures exact { is_some result ≡ is_sfile_name bytes.now }
     {
         match Name::read(bytes) {
-            Some(name) => {
-                if name.is_sfile() {
-                    Some(name)
-                } else {
-                    None
-                }
-            }
+            Some(name) => { if name.is_sfile() { Some(name) } else { None } }
             None => None,
         }
     }

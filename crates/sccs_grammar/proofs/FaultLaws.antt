@@ -4,7 +4,8 @@ use Rattle.sccs_sid.specs.Reading.{◌>>=◌}
 use Rattle.sccs_history.specs.Numbers.{is_empty}
 use Rattle.sccs_history.specs.Body.{is_over}
 use Rattle.sccs_history.specs.declared.headers.Item.{Item}
-use Rattle.sccs_grammar.specs.Front.{Reading, ParsedFront, header_of, is_whole, line_after, front_from}
+use Rattle.sccs_grammar.specs.declared.readings.Reading.{Reading}
+use Rattle.sccs_grammar.specs.Front.{ParsedFront, header_of, is_whole, line_after, front_from}
 use Rattle.sccs_grammar.specs.Items.{item_at, go_on, items_from}
 
 -- where reading goes on behind a line

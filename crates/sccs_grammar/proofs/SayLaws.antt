@@ -14,7 +14,7 @@ use Rattle.sccs_history.specs.declared.headers.Item.TheVariants as item
 use Rattle.sccs_history.specs.declared.headers.Flag.{Flag}
 use Rattle.sccs_sid.specs.Reading.{number_at, byte_at, number}
 use Rattle.sccs_history.specs.Numbers.{is_empty}
-use Rattle.sccs_grammar.specs.Words.{begins_blank, ends_blank, skip_blanks, drop_blanks, drop_zeros, three}
+use Rattle.sccs_grammar.specs.Words.{skip, begins_blank, ends_blank, skip_blanks, drop_blanks, drop_zeros, three}
 use Rattle.sccs_grammar.specs.Said.{serial, counts, serials, plain_serial, listed, is_set_off, text, flag, place, control, said}
 use Rattle.sccs_grammar.specs.Written.{IsSerial, spaced, five, behind_blank, counts_line, mr_line, comment_line, flag_line, item_line}
 use Rattle.sccs_grammar.specs.declared.sayings.Said.TheVariants.{Counts, Listed, Mr, Comment, FlagIs, Insert, Delete, End, Plain}
@@ -47,7 +47,7 @@ serial_again n is =
     rw (whole_number 5 n (omega arith) (omega arith) (omega arith), lt-ltb 0 n is.0, lt-ltb n 65536 is.1) refl
 
 no_zeros : (word : List ℕ) → LeadsOther word → drop_zeros word ≡ word
-unfolding drop_zeros
+unfolding skip
 no_zeros [] leads = absurd leads
 no_zeros (b ∷ word) leads = rw (ne_eqb b 48 leads) refl
 
@@ -89,12 +89,12 @@ serials_again (n ∷ ns) are =
     rw (plain_is (decimal n) (decimal_leads n are.0), serial_again n are.0, serials_again ns are.1) refl
 
 skips_word : (w rest : List ℕ) → IsWord w → is_empty (skip_blanks (w ++ rest)) ≡ false
-unfolding skip_blanks
+unfolding skip
 skips_word [] rest is = absurd is
 skips_word (b ∷ w) rest is = rw (ne_eqb b 32 is.0) refl
 
 listed_again : (n : ℕ) (ns : List ℕ) → AllByRecursion IsSerial (n ∷ ns) → listed (spaced (map decimal (n ∷ ns))) ≡ Some (n ∷ ns)
-unfolding listed skip_blanks
+unfolding listed skip
 listed_again n ns are =
     let ws = decimal_words (n ∷ ns) are in
     rw (skips_word (decimal n) (spaced (map decimal ns)) ws.0, set_off (decimal n) (map decimal ns) ws, words_again (map decimal (n ∷ ns)) ws) (serials_again (n ∷ ns) are)
@@ -154,7 +154,7 @@ three_again i d u si sd su =
 
 -- ---- flags
 
-drop_none : (b : ℕ) (bytes : List ℕ) → ends_blank (b ∷ bytes) ≡ false → drop_blanks (b ∷ bytes) ≡ b ∷ bytes
+pub drop_none : (b : ℕ) (bytes : List ℕ) → ends_blank (b ∷ bytes) ≡ false → drop_blanks (b ∷ bytes) ≡ b ∷ bytes
 unfolding drop_blanks ends_blank
 drop_none b [] ends = rw ends refl
 drop_none b (c ∷ bytes) ends = rw (drop_none c bytes ends) refl
@@ -170,7 +170,7 @@ blank_back (b ∷ []) is = (or_parts ((b == 32)) false is).0
 blank_back (b ∷ c ∷ bytes) is = blank_back (c ∷ bytes) is
 
 flag_text : (t : List ℕ) → begins_blank t ≡ false → ends_blank t ≡ false → drop_blanks (skip_blanks (behind_blank t)) ≡ t
-unfolding skip_blanks drop_blanks
+unfolding skip drop_blanks
 flag_text [] begins ends = refl
 flag_text (b ∷ bytes) begins ends = rw begins (drop_none b bytes ends)
 
@@ -182,7 +182,7 @@ flag_again : (letter : ℕ) (t : List ℕ) → begins_blank t ≡ false → ends
 flag_again letter t begins ends = rw (behind_is t, flag_text t begins ends) refl
 
 pub said_flag : (f : Flag) → IsFlag f → said (flag_line f) ≡ Some (FlagIs f)
-unfolding said control skip_blanks
+unfolding said control skip
 said_flag f is =
     let low = leb-true 97 f.letter (and_parts (nat_le 97 f.letter) (nat_le f.letter 122) is.letter).0 in
     rw (ne_eqb f.letter 32 (λ e. absurd (omega arith))) (flag_again f.letter f.text (blank_front f.text is.front) (blank_back f.text is.back))

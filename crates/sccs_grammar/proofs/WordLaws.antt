@@ -27,18 +27,18 @@ pub words-nil : words [] ≡ []
 unfolding words
 words-nil = refl
 
-words-blank : (bytes : List ℕ) → words (32 ∷ bytes) ≡ words bytes
+pub words-blank : (bytes : List ℕ) → words (32 ∷ bytes) ≡ words bytes
 words-blank bytes = words-cons 32 bytes
 
-words-other : (b : ℕ) (bytes : List ℕ) → b ≢ 32 → words (b ∷ bytes) ≡ joined b bytes (words bytes)
+pub words-other : (b : ℕ) (bytes : List ℕ) → b ≢ 32 → words (b ∷ bytes) ≡ joined b bytes (words bytes)
 words-other b bytes other = words-cons b bytes ∙ ap (λ test. with_byte test b bytes (words bytes)) (ne_eqb b 32 other)
 
-joined_last : (b : ℕ) (rest : List ℕ) (others : List (List ℕ)) → EndsWord rest → words rest ≡ others → joined b rest others ≡ (b ∷ []) ∷ others
+pub joined_last : (b : ℕ) (rest : List ℕ) (others : List (List ℕ)) → EndsWord rest → words rest ≡ others → joined b rest others ≡ (b ∷ []) ∷ others
 joined_last b [] others ends is = refl
 joined_last b (next ∷ rest) [] ends is = refl
 joined_last b (next ∷ rest) (word ∷ others) ends is = ap (λ n. joined b (n ∷ rest) (word ∷ others)) ends
 
-joined_more : (b c : ℕ) (bytes word : List ℕ) (others : List (List ℕ)) → c ≢ 32 → joined b (c ∷ bytes) (word ∷ others) ≡ (b ∷ word) ∷ others
+pub joined_more : (b c : ℕ) (bytes word : List ℕ) (others : List (List ℕ)) → c ≢ 32 → joined b (c ∷ bytes) (word ∷ others) ≡ (b ∷ word) ∷ others
 joined_more b c bytes word others other =
     rw (ne_eqb c 32 other) refl
 

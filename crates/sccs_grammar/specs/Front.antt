@@ -1,5 +1,5 @@
 -- The lines of a header, in order: what may stand next, and the first line at which nothing goes on.
-use Rattle.std.specs.Prelude.{ℕ, suc, ◌==◌, Bool, true, false, not, ◌&&◌, ◌||◌, List, [], ◌∷◌, ◌++◌, map, Result, Ok, Err, Option, Some, None, nat_lt, nat_le, if◌then◌else◌}
+use Rattle.std.specs.Prelude.{◌≡◌, ℕ, suc, ◌==◌, Bool, true, false, not, ◌&&◌, ◌||◌, List, [], ◌∷◌, ◌++◌, Result, Ok, Err, Option, Some, None, nat_lt, nat_le, if◌then◌else◌}
 use Rattle.std.specs.List.{list_all, list_any}
 use Rattle.sccs_sid.specs.Reading.{◌>>=◌}
 use Rattle.sccs_history.specs.Numbers.{is_empty, has, share}
@@ -10,74 +10,53 @@ use Rattle.sccs_history.specs.declared.headers.Record.{Record}
 use Rattle.sccs_history.specs.declared.headers.Flag.{Flag}
 use Rattle.sccs_history.specs.declared.headers.Header.{Header}
 use Rattle.sccs_grammar.specs.Said.{said}
+use Rattle.sccs_grammar.specs.declared.readings.FrontFault.{FrontFault}
+use Rattle.sccs_grammar.specs.declared.readings.FrontFault.TheVariants.{Format, Memory}
+use Rattle.sccs_grammar.specs.declared.readings.Entry.{Entry}
+use Rattle.sccs_grammar.specs.declared.readings.Stood.{Stood}
+use Rattle.sccs_grammar.specs.declared.readings.Place.{Place}
+use Rattle.sccs_grammar.specs.declared.readings.Place.TheVariants.{AtEntry, AtDelta, InLists, InTexts, InUsers, InFlags, InDescription, AtBody}
+use Rattle.sccs_grammar.specs.declared.readings.Table.{Table}
+use Rattle.sccs_grammar.specs.declared.readings.Reading.{Reading}
 use Rattle.sccs_grammar.specs.declared.sayings.Said.{Said}
 use Rattle.sccs_grammar.specs.declared.sayings.Said.TheVariants.{Counts, Delta, Listed, Mr, Comment, EndEntry, Users, EndUsers, FlagIs, Description, EndDescription, Plain}
 use Rattle.sccs_grammar.specs.declared.sayings.Which.{Which}
 use Rattle.sccs_grammar.specs.declared.sayings.Which.TheVariants.{Included, Excluded, Ignored}
 
--- An entry of the table, and the number of its delta line.
-pub record Entry : Type 0 where
-  pub line : ℕ
-  pub row : Record
-
--- Which lists of an entry stood already.
-pub record Stood : Type 0 where
-  pub included : Bool
-  pub excluded : Bool
-  pub ignored : Bool
-
--- Where in a header the next line stands: where an entry begins or the table ends, behind the counts of an entry,
--- among its lists, behind its first MR or comment, among the users, the flags and the lines of the description, and
--- behind the header.
-pub data Place : Type 0 where
-  AtEntry : Place
-  AtDelta : ℕ → ℕ → ℕ → Place
-  InLists : Entry → Stood → Place
-  InTexts : Entry → Place
-  InUsers : Place
-  InFlags : Place
-  InDescription : Place
-  AtBody : Place
-
--- What was read so far, and where the next line stands.
-pub record Reading : Type 0 where
-  pub place : Place
-  pub entries : List Entry
-  pub users : List (List ℕ)
-  pub flags : List Flag
-  pub description : List (List ℕ)
-
-abbrev pub rows : List Entry → List Record
-rows entries = map (λ e. e.row) entries
-
 abbrev pub header_of : Reading → Header
-header_of r = record { records = rows r.entries; users = r.users; flags = r.flags; description = r.description }
+header_of r = record { records = r.table.records; users = r.users; flags = r.flags; description = r.description }
+
+abbrev pub no_entries : Table
+no_entries = record { records = []; lines = [] }
+
+abbrev pub with_entry : Table → Entry → Table
+with_entry entries e = record { records = entries.records ++ e.row ∷ []; lines = entries.lines ++ e.line ∷ [] }
 
 -- the table was read up to these entries; all of it, and of the users these; all users, and of the flags these; all
 -- flags, and of the description these lines
-abbrev pub at_table : List Entry → Reading
-at_table entries = record { place = AtEntry; entries = entries; users = []; flags = []; description = [] }
+abbrev pub at_table : Table → Reading
+at_table entries = record { place = AtEntry; table = entries; users = []; flags = []; description = [] }
 
-abbrev pub at_users : List Entry → List (List ℕ) → Reading
-at_users entries users = record { place = InUsers; entries = entries; users = users; flags = []; description = [] }
+abbrev pub at_users : Table → List (List ℕ) → Reading
+at_users entries users = record { place = InUsers; table = entries; users = users; flags = []; description = [] }
 
-abbrev pub at_flags : List Entry → List (List ℕ) → List Flag → Reading
-at_flags entries users flags = record { place = InFlags; entries = entries; users = users; flags = flags; description = [] }
+abbrev pub at_flags : Table → List (List ℕ) → List Flag → Reading
+at_flags entries users flags = record { place = InFlags; table = entries; users = users; flags = flags; description = [] }
 
-abbrev pub at_description : List Entry → List (List ℕ) → List Flag → List (List ℕ) → Reading
+abbrev pub at_description : Table → List (List ℕ) → List Flag → List (List ℕ) → Reading
 at_description entries users flags description =
-    record { place = InDescription; entries = entries; users = users; flags = flags; description = description }
+    record { place = InDescription; table = entries; users = users; flags = flags; description = description }
 
 -- the table was read up to these entries, and of the next one its delta line and some lists, or an MR or comment too
-abbrev pub at_lists : List Entry → Entry → Stood → Reading
-at_lists entries e stood = record { place = InLists e stood; entries = entries; users = []; flags = []; description = [] }
+abbrev pub at_lists : Table → Entry → Stood → Reading
+at_lists entries e stood = record { place = InLists e stood; table = entries; users = []; flags = []; description = [] }
 
-abbrev pub at_texts : List Entry → Entry → Reading
-at_texts entries e = record { place = InTexts e; entries = entries; users = []; flags = []; description = [] }
+abbrev pub at_texts : Table → Entry → Reading
+at_texts entries e = record { place = InTexts e; table = entries; users = []; flags = []; description = [] }
 
 -- nothing was read
 abbrev pub start : Reading
-start = at_table []
+start = at_table no_entries
 
 -- ---- the rules that a line may break
 
@@ -92,9 +71,9 @@ may_follow r above =
     nat_lt r.serial (least 65536 above) && nat_lt r.predecessor r.serial && (r.removed || not (lives above r.sid))
 
 -- the delta line of the first entry whose predecessor is neither 0 nor in the table
-unfoldable pub lost : List Record → List Entry → Option ℕ
-lost table [] = None
-lost table (e ∷ entries) = if has (0 ∷ serials_of table) e.row.predecessor then lost table entries else Some e.line
+unfoldable pub lost : List Record → List Record → List ℕ → Option ℕ
+lost table (r ∷ records) (line ∷ lines) = if has (0 ∷ serials_of table) r.predecessor then lost table records lines else Some line
+lost table records lines = None
 
 -- smaller serials
 abbrev pub all_below : ℕ → List ℕ → Bool
@@ -144,7 +123,7 @@ with_ignore e ns = record e { row = record e.row { ignore = ns } }
 abbrev pub in_texts : ℕ → Reading → Entry → Said → Result Reading ℕ
 in_texts n r e (Mr t) = Ok (with_place r (InTexts (with_mr e t)))
 in_texts n r e (Comment t) = Ok (with_place r (InTexts (with_comment e t)))
-in_texts n r e EndEntry = Ok (record r { place = AtEntry; entries = r.entries ++ e ∷ [] })
+in_texts n r e EndEntry = Ok (record r { place = AtEntry; table = with_entry r.table e })
 in_texts n r e _ = Err n
 
 -- a list of one kind, once, of smaller serials, and none of them both included and excluded
@@ -160,11 +139,11 @@ in_lists n r e stood s = in_texts n r e s
 -- the table ends: there is an entry, and each predecessor is there
 abbrev pub ends_table : ℕ → Reading → Option ℕ → Result Reading ℕ
 ends_table n r (Some line) = Err line
-ends_table n r None = if_fits (not (is_empty r.entries)) n (with_place r InUsers)
+ends_table n r None = if_fits (not (is_empty r.table.records)) n (with_place r InUsers)
 
 abbrev pub at_entry : ℕ → Reading → Said → Result Reading ℕ
 at_entry n r (Counts i d u) = Ok (with_place r (AtDelta i d u))
-at_entry n r Users = ends_table n r (lost (rows r.entries) r.entries)
+at_entry n r Users = ends_table n r (lost r.table.records r.table.records r.table.lines)
 at_entry n r _ = Err n
 
 abbrev pub none_stood : Stood
@@ -174,21 +153,21 @@ abbrev pub entry : ℕ → ℕ → ℕ → ℕ → Record → Entry
 entry n i d u row = record { line = n; row = record row { inserted = i; deleted = d; unchanged = u } }
 
 abbrev pub at_delta : ℕ → Reading → ℕ → ℕ → ℕ → Said → Result Reading ℕ
-at_delta n r i d u (Delta row) = if_fits (may_follow row (rows r.entries)) n (with_place r (InLists (entry n i d u row) none_stood))
+at_delta n r i d u (Delta row) = if_fits (may_follow row r.table.records) n (with_place r (InLists (entry n i d u row) none_stood))
 at_delta n r i d u _ = Err n
 
 abbrev pub in_users : ℕ → Reading → Said → Result Reading ℕ
-in_users n r (Plain t) = Ok (record r { users = r.users ++ t ∷ [] })
+in_users n r (Plain t) = Ok (record r { place = InUsers; users = r.users ++ t ∷ [] })
 in_users n r EndUsers = Ok (with_place r InFlags)
 in_users n r _ = Err n
 
 abbrev pub in_flags : ℕ → Reading → Said → Result Reading ℕ
-in_flags n r (FlagIs f) = if_fits (flag_fits f && is_new r.flags f) n (record r { flags = r.flags ++ f ∷ [] })
+in_flags n r (FlagIs f) = if_fits (flag_fits f && is_new r.flags f) n (record r { place = InFlags; flags = r.flags ++ f ∷ [] })
 in_flags n r Description = Ok (with_place r InDescription)
 in_flags n r _ = Err n
 
 abbrev pub in_description : ℕ → Reading → Said → Result Reading ℕ
-in_description n r (Plain t) = Ok (record r { description = r.description ++ t ∷ [] })
+in_description n r (Plain t) = Ok (record r { place = InDescription; description = r.description ++ t ∷ [] })
 in_description n r EndDescription = Ok (with_place r AtBody)
 in_description n r _ = Err n
 
@@ -206,6 +185,12 @@ after n r AtBody s = Err n
 abbrev pub heard : ℕ → Reading → Option Said → Result Reading ℕ
 heard n r None = Err n
 heard n r (Some s) = after n r r.place s
+
+-- what hearing a line returned is what is read; there may have been no memory
+abbrev pub Hears : {A : Type 0} → Result A FrontFault → Result A ℕ → Type 0
+Hears (Ok x) read = read ≡ Ok x
+Hears (Err Memory) read = Unit {0}
+Hears (Err (Format line)) read = read ≡ Err line
 
 unfoldable pub line_after : ℕ → Reading → List ℕ → Result Reading ℕ
 line_after n r line = heard n r (said line)

@@ -28,9 +28,9 @@ is_removed [] = None
 is_removed (letter ∷ []) = if letter == 68 then Some false else only (letter == 82) true
 is_removed (letter ∷ c ∷ word) = None
 
--- a record without lists, MRs, comments and counts
-unfoldable pub delta : List (List ℕ) → Option Said
-delta (kind ∷ sid ∷ date ∷ time ∷ login ∷ own ∷ before ∷ []) = do
+-- a record without lists, MRs, comments and counts, of its seven words
+unfoldable pub delta_of : List ℕ → List ℕ → List ℕ → List ℕ → List ℕ → List ℕ → List ℕ → Option Said
+delta_of kind sid date time login own before = do
   removed ← is_removed kind
   s ← found (sid_of sid)
   m ← found (moment_of date time)
@@ -38,6 +38,9 @@ delta (kind ∷ sid ∷ date ∷ time ∷ login ∷ own ∷ before ∷ []) = do
   n ← serial own
   p ← predecessor before
   Some (Delta (record { serial = n; removed = removed; sid = s; moment = m; login = who; predecessor = p; include = []; exclude = []; ignore = []; mrs = []; comments = []; inserted = 0; deleted = 0; unchanged = 0 }))
+
+abbrev pub delta : List (List ℕ) → Option Said
+delta (kind ∷ sid ∷ date ∷ time ∷ login ∷ own ∷ before ∷ []) = delta_of kind sid date time login own before
 delta _ = None
 
 -- a word of lines inserted, deleted and unchanged

@@ -17,6 +17,11 @@ abbrev pub found : {A E : Type 0} → Result A E → Option A
 found (Ok x) = Some x
 found (Err e) = None
 
+-- the words, where there are seven
+abbrev pub exactly_seven : List (List ℕ) → Option (List (List ℕ))
+exactly_seven (a ∷ b ∷ c ∷ d ∷ e ∷ f ∷ g ∷ []) = Some (a ∷ b ∷ c ∷ d ∷ e ∷ f ∷ g ∷ [])
+exactly_seven _ = None
+
 abbrev pub begins_blank : List ℕ → Bool
 begins_blank [] = false
 begins_blank (b ∷ bytes) = b == 32
@@ -26,10 +31,14 @@ ends_blank [] = false
 ends_blank (b ∷ []) = b == 32
 ends_blank (b ∷ c ∷ bytes) = ends_blank (c ∷ bytes)
 
+-- without those of one byte in front
+unfoldable pub skip : ℕ → List ℕ → List ℕ
+skip wanted [] = []
+skip wanted (b ∷ bytes) = if b == wanted then skip wanted bytes else b ∷ bytes
+
 -- without the blanks in front
-unfoldable pub skip_blanks : List ℕ → List ℕ
-skip_blanks [] = []
-skip_blanks (b ∷ bytes) = if b == 32 then skip_blanks bytes else b ∷ bytes
+abbrev pub skip_blanks : List ℕ → List ℕ
+skip_blanks bytes = skip 32 bytes
 
 -- a byte before bytes without blanks at their end
 abbrev pub kept : ℕ → List ℕ → List ℕ
@@ -56,9 +65,8 @@ words [] = []
 words (b ∷ bytes) = with_byte (b == 32) b bytes (words bytes)
 
 -- without the zeros in front
-unfoldable pub drop_zeros : List ℕ → List ℕ
-drop_zeros [] = []
-drop_zeros (b ∷ bytes) = if b == 48 then drop_zeros bytes else b ∷ bytes
+abbrev pub drop_zeros : List ℕ → List ℕ
+drop_zeros bytes = skip 48 bytes
 
 -- three numbers of at most that many digits, with a separator between two
 unfoldable pub three : ℕ → ℕ → List ℕ → Option (ℕ × ℕ × ℕ)

@@ -3,11 +3,12 @@ ghost use Rattle.std.specs.List.{AllByRecursion};
 ghost use Rattle.sccs_history.specs.Body.{GoesOn};
 ghost use Rattle.sccs_history.specs.History.{AreBare, IsFlag, has_own_letters};
 ghost use Rattle.sccs_history.specs.Numbers.{is_empty, share};
-ghost use Rattle.sccs_grammar.specs.Front.{Entry, Stood, Reading, all_below, at_description, at_flags, at_lists, at_table, at_texts, at_users, front_from, with_comments, with_exclude, with_ignore, with_include, with_mrs};
+ghost use Rattle.sccs_grammar.specs.Front.{all_below, at_description, at_flags, at_lists, at_table, at_texts, at_users, front_from, with_comments, with_entry, with_exclude, with_ignore, with_include, with_mrs};
 ghost use Rattle.sccs_grammar.specs.Items.{items_from};
 ghost use Rattle.sccs_grammar.specs.Said.{said};
 ghost use Rattle.sccs_grammar.specs.Written.{IsItem, IsSerial, comment_line, counts_line, end_line, flag_line, item_line, list_lines, mr_line};
 
+use crate::readings::{Entry, Reading, Stood, Table};
 use crate::sayings::Said;
 use sccs_history::{Flag, Item};
 
@@ -22,14 +23,14 @@ pub fn faults_stay()
 
 /// Users, flags and a description that are written are read again.
 pub fn short_parts_again()
-    ensures users { (n : ℕ) (entries : List Entry) (before users rest : List (List ℕ)) → AreBare users
+    ensures users { (n : ℕ) (entries : Table) (before users rest : List (List ℕ)) → AreBare users
         → front_from n (at_users entries before) (users ++ rest)
         ≡ front_from (n + length users) (at_users entries (before ++ users)) rest }
-    ensures flags { (n : ℕ) (entries : List Entry) (users : List (List ℕ)) (flags : List Flag) (rest : List (List ℕ))
+    ensures flags { (n : ℕ) (entries : Table) (users : List (List ℕ)) (flags : List Flag) (rest : List (List ℕ))
         → AllByRecursion IsFlag flags → has_own_letters flags ≡ true
         → front_from n (at_flags entries users []) (map flag_line flags ++ rest)
         ≡ front_from (n + length flags) (at_flags entries users flags) rest }
-    ensures description { (n : ℕ) (entries : List Entry) (users : List (List ℕ)) (flags : List Flag)
+    ensures description { (n : ℕ) (entries : Table) (users : List (List ℕ)) (flags : List Flag)
         (before lines rest : List (List ℕ)) → AreBare lines
         → front_from n (at_description entries users flags before) (lines ++ rest)
         ≡ front_from (n + length lines) (at_description entries users flags (before ++ lines)) rest }
@@ -38,23 +39,23 @@ pub fn short_parts_again()
 /// The counts, the lists, the MRs and the comments of an entry that are written are read again.
 pub fn entry_parts_again()
     ensures counts { (i d u : ℕ) → i < 100000 → d < 100000 → u < 100000 → said (counts_line i d u) ≡ Some (Said.Counts i d u) }
-    ensures include { (n : ℕ) (entries : List Entry) (e : Entry) (stood : Stood) (ns : List ℕ) (rest : List (List ℕ))
+    ensures include { (n : ℕ) (entries : Table) (e : Entry) (stood : Stood) (ns : List ℕ) (rest : List (List ℕ))
         → AllByRecursion IsSerial ns → e.row.include ≡ [] → stood.included ≡ false
         → all_below e.row.serial ns ≡ true → share ns e.row.exclude ≡ false
         → front_from n (at_lists entries e stood) (list_lines 105 ns ++ rest)
         ≡ front_from (n + length (list_lines 105 ns)) (at_lists entries (with_include e ns) (record stood { included = not (is_empty ns) })) rest }
-    ensures exclude { (n : ℕ) (entries : List Entry) (e : Entry) (stood : Stood) (ns : List ℕ) (rest : List (List ℕ))
+    ensures exclude { (n : ℕ) (entries : Table) (e : Entry) (stood : Stood) (ns : List ℕ) (rest : List (List ℕ))
         → AllByRecursion IsSerial ns → e.row.exclude ≡ [] → stood.excluded ≡ false
         → all_below e.row.serial ns ≡ true → share ns e.row.include ≡ false
         → front_from n (at_lists entries e stood) (list_lines 120 ns ++ rest)
         ≡ front_from (n + length (list_lines 120 ns)) (at_lists entries (with_exclude e ns) (record stood { excluded = not (is_empty ns) })) rest }
-    ensures ignore { (n : ℕ) (entries : List Entry) (e : Entry) (stood : Stood) (ns : List ℕ) (rest : List (List ℕ))
+    ensures ignore { (n : ℕ) (entries : Table) (e : Entry) (stood : Stood) (ns : List ℕ) (rest : List (List ℕ))
         → AllByRecursion IsSerial ns → e.row.ignore ≡ [] → stood.ignored ≡ false → all_below e.row.serial ns ≡ true
         → front_from n (at_lists entries e stood) (list_lines 103 ns ++ rest)
         ≡ front_from (n + length (list_lines 103 ns)) (at_lists entries (with_ignore e ns) (record stood { ignored = not (is_empty ns) })) rest }
-    ensures texts { (n : ℕ) (entries : List Entry) (e : Entry) (stood : Stood) (mrs comments rest : List (List ℕ))
+    ensures texts { (n : ℕ) (entries : Table) (e : Entry) (stood : Stood) (mrs comments rest : List (List ℕ))
         → front_from n (at_lists entries e stood) (map mr_line mrs ++ (map comment_line comments ++ (end_line ∷ rest)))
-        ≡ front_from (suc (n + length mrs + length comments)) (at_table (entries ++ with_comments (with_mrs e mrs) comments ∷ [])) rest }
+        ≡ front_from (suc (n + length mrs + length comments)) (at_table (with_entry entries (with_comments (with_mrs e mrs) comments))) rest }
 {}
 
 /// The items of a whole body that are written are read again.

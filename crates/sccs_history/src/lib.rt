@@ -6,3 +6,6 @@ pub mod laws;
 pub mod samples;
 
 pub use headers::{Flag, Flags, Header, Item, Record, Records, Serials};
+
+// what the fields of a record are
+pub use sccs_sid::{Moment, Sid};

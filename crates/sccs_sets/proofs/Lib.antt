@@ -1,2 +1,5 @@
+pub mod Living
 pub mod Lookups
 pub mod Passing
+pub mod Putting
+pub mod Ranges

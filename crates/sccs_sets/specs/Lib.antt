@@ -1,3 +1,5 @@
 pub mod Marks
+pub mod Naming
 pub mod Retrieved
+pub mod Samples
 pub mod Sets

@@ -9,6 +9,7 @@ ghost use Rattle.sccs_sets.specs.Sets.{Explains, both_listed};
 use crate::faults::SetFault;
 use crate::marks::{SERIALS, is_set, next_wanted, note, take, takes};
 use crate::tables::{first_shared, sid_at};
+use sccs_base::Memory;
 use sccs_history::{Header, Record, Serials};
 use sccs_sid::Moment;
 use std::alloc::Global;
@@ -71,6 +72,35 @@ fn pass(
     }
 }
 
+// the applied set of a table
+fn set_of(
+    alloc: Global,
+    records: &[Record],
+    target: u16,
+    include: &[u16],
+    exclude: &[u16],
+    cutoff: Option<Moment>,
+) -> Result<Applied, Memory>
+    requires { Falls SERIALS (serials_of records.now) }
+    ensures { IfOk result (λ set. set ≡ applied (record {
+      target = target;
+      include = include.now;
+      exclude = exclude.now;
+      cutoff = option_map (λ m. m.seconds) cutoff;
+    }) records.now) }
+{
+    let Ok(mut marks) = vec![in alloc; None; 65536] else {
+        return Err(Memory);
+    };
+    let Ok(mut set) = vec![in alloc; false; 65536] else {
+        return Err(Memory);
+    };
+    pass(
+        records, target, include, exclude, cutoff, &mut marks, &mut set,
+    );
+    Ok(Applied { marks: set })
+}
+
 /// The set of a delta's version with the lists of a call and a cutoff. BadList names the first SID
 /// that is both taken in and left out, exactly where there is one.
 pub fn delta_set(
@@ -81,7 +111,7 @@ pub fn delta_set(
     exclude: &Serials,
     cutoff: Option<Moment>,
 ) -> Result<Applied, SetFault>
-    requires table { IsTable header.now.records }
+    requires falls { Falls SERIALS (serials_of header.now.records) }
     requires target { has (live_serials header.now.records) target ≡ true }
     requires include { AllByRecursion (λ n. has (live_serials header.now.records) n ≡ true) include.now }
     requires exclude { AllByRecursion (λ n. has (live_serials header.now.records) n ≡ true) exclude.now }
@@ -91,27 +121,17 @@ pub fn delta_set(
       exclude = exclude.now;
       cutoff = option_map (λ m. m.seconds) cutoff;
     }) header.now.records) }
+    ensures no_zero { IsTable header.now.records → IfOk result (λ set. has set 0 ≡ false) }
     ensures apart { OnOk result (both_listed header.now.records include.now exclude.now ≡ None) }
     ensures err { IfErr result (Explains (both_listed header.now.records include.now exclude.now)) }
 {
     let records = header.records.items();
-    if let Some(serial) = first_shared(include.items(), exclude.items()) {
+    let (include, exclude) = (include.items(), exclude.items());
+    if let Some(serial) = first_shared(include, exclude) {
         return Err(SetFault::BadList(sid_at(records, serial)));
     }
-    let Ok(mut marks) = vec![in alloc; None; 65536] else {
-        return Err(SetFault::Memory);
-    };
-    let Ok(mut set) = vec![in alloc; false; 65536] else {
-        return Err(SetFault::Memory);
-    };
-    pass(
-        records,
-        target,
-        include.items(),
-        exclude.items(),
-        cutoff,
-        &mut marks,
-        &mut set,
-    );
-    Ok(Applied { marks: set })
+    match set_of(alloc, records, target, include, exclude, cutoff) {
+        Ok(set) => Ok(set),
+        Err(_) => Err(SetFault::Memory),
+    }
 }

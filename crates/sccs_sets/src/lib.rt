@@ -3,10 +3,16 @@
 
 mod delta_sets;
 mod faults;
+pub mod laws;
 mod marks;
+mod naming;
 mod retrieval;
+pub mod samples;
 mod tables;
+#[cfg(test)]
+mod tests;
 
 pub use delta_sets::{Applied, delta_set};
 pub use faults::SetFault;
+pub use naming::serials;
 pub use retrieval::{NoSid, retrieve};

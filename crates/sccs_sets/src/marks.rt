@@ -32,38 +32,37 @@ pub fn note(marks: &mut [Option<bool>], numbers: &[u16], value: bool)
 }
 
 /// Whether a record is applied, by the marks of those above it and the wanted serial of the path.
-pub fn takes(record: &Record, marks: &[Option<bool>], wanted: u16, cutoff: Option<Moment>) -> bool
+pub fn takes(delta: &Record, marks: &[Option<bool>], wanted: u16, cutoff: Option<Moment>) -> bool
     requires { length marks.now ≡ SERIALS }
-    ensures { result ≡ (not (is_barred (option_map (λ m. m.seconds) cutoff) record.now)
-        && unwrap_or (slice_index_or marks.now record.now.serial None) (record.now.serial == wanted)) }
+    ensures { result ≡ (not (is_barred (option_map (λ m. m.seconds) cutoff) delta.now)
+        && unwrap_or (slice_index_or marks.now delta.now.serial None) (delta.now.serial == wanted)) }
 {
     let late = match cutoff {
-        Some(last) => last.seconds < record.moment.seconds,
+        Some(last) => last.seconds < delta.moment.seconds,
         None => false,
     };
-    !(record.removed || late)
-        && marks[usize::from(record.serial)].unwrap_or(record.serial == wanted)
+    !(delta.removed || late) && marks[usize::from(delta.serial)].unwrap_or(delta.serial == wanted)
 }
 
 /// Applies a record: sets its place, and marks what its lists name.
-pub fn take(record: &Record, marks: &mut [Option<bool>], set: &mut [bool])
+pub fn take(delta: &Record, marks: &mut [Option<bool>], set: &mut [bool])
     requires marks { length marks.old ≡ SERIALS }
     requires set { length set.old ≡ SERIALS }
     ensures marks { (n : ℕ) → slice_index_or marks.new n None
-        ≡ or_else (slice_index_or marks.old n None) (listed record.now.include record.now.exclude n None) }
-    ensures set { set.new ≡ slice_set set.old record.now.serial true }
+        ≡ or_else (slice_index_or marks.old n None) (listed delta.now.include delta.now.exclude n None) }
+    ensures set { set.new ≡ slice_set set.old delta.now.serial true }
 {
-    set[usize::from(record.serial)] = true;
-    note(marks, record.include.items(), true);
-    note(marks, record.exclude.items(), false);
+    set[usize::from(delta.serial)] = true;
+    note(marks, delta.include.items(), true);
+    note(marks, delta.exclude.items(), false);
 }
 
 /// The next serial of the path.
-pub fn next_wanted(record: &Record, wanted: u16) -> u16
-    ensures { result ≡ (if record.now.serial == wanted then record.now.predecessor else wanted) }
+pub fn next_wanted(delta: &Record, wanted: u16) -> u16
+    ensures { result ≡ (if delta.now.serial == wanted then delta.now.predecessor else wanted) }
 {
-    if record.serial == wanted {
-        record.predecessor
+    if delta.serial == wanted {
+        delta.predecessor
     } else {
         wanted
     }

@@ -1,6 +1,8 @@
-ghost use Rattle.std.specs.Prelude.{◌≡◌, ◌==◌, ◌&&◌, not, nat_le, max, map, None, Some, MatchResult};
+ghost use Rattle.std.specs.Prelude.{◌≡◌, ◌==◌, ◌&&◌, not, nat_le, max, map, true, None, Some, IfOk, MatchResult};
 ghost use Rattle.std.specs.List.{reduce};
 ghost use Rattle.std.specs.Option.{option_copied};
+ghost use Rattle.sccs_history.specs.Applied.{live_serials};
+ghost use Rattle.sccs_history.specs.Numbers.{has};
 ghost use Rattle.sccs_sets.specs.Retrieved.{branch_sequence, branch_tip, is_within, newest_where, retrieved, serial_of, top_at, top_of, trunk_level, trunk_release, trunk_tip};
 ghost use Rattle.sccs_history.specs.History.{same_sid};
 
@@ -165,9 +167,10 @@ fn found(records: &[Record], spec: Option<&Spec>, top: bool) -> Option<u16>
 /// front of one that is given; with `top` the greatest serial of a release, or of a release and
 /// level, branches included. NoSid comes exactly where no live delta is meant.
 pub fn retrieve(header: &Header, spec: Option<&Spec>, top: bool) -> Result<u16, NoSid>
-    ensures { MatchResult result
+    ensures value { MatchResult result
         (λ n. retrieved header.now.records (option_copied spec.entry) top ≡ Some n)
         (λ _. retrieved header.now.records (option_copied spec.entry) top ≡ None) }
+    ensures live { IfOk result (λ n. has (live_serials header.now.records) n ≡ true) }
 {
     match found(header.records.items(), spec, top) {
         Some(serial) => Ok(serial),

@@ -1,11 +1,10 @@
 -- Cutoffs: YY[MM[DD[HH[MM[SS]]]]], each piece the next one or two digits, other bytes passed over.
-use Rattle.std.specs.Prelude.{ℕ, List, [], Result, Ok, Err, pos}
+use Rattle.std.specs.Prelude.{ℕ, List, [], Some, Result, Ok, Err, pos}
 use Rattle.jiff_core.specs.Calendar.{days_in_month}
 use Rattle.sccs_sid.specs.Reading.{◌>>=◌, number_at, from_digit}
 use Rattle.sccs_sid.specs.Moment.{full_year, within, second_at}
 use Rattle.sccs_sid.specs.declared.moments.Moment.{Moment}
 use Rattle.sccs_sid.specs.declared.moments.MomentFault.{MomentFault}
-use Rattle.std.specs.Prelude.{Some}
 
 -- the next piece, and the bytes behind it
 abbrev pub piece_at : List ℕ → Result (ℕ × List ℕ) ℕ

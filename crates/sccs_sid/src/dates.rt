@@ -76,8 +76,22 @@ pub fn read_time(time: &[u8]) -> Result<(u32, u32, u32), MomentFault>
 
 // the second of a date and a time, counted from the start of 1970
 pub fn second_of(year: u32, month: u32, day: u32, hour: u32, minute: u32, second: u32) -> i64
-    requires { Exists (record { year = year; month = month; day = day; hour = hour; minute = minute; second = second }) }
-    ensures value { result ≡ second_at (record { year = year; month = month; day = day; hour = hour; minute = minute; second = second }) }
+    requires { Exists (record {
+      year = year;
+      month = month;
+      day = day;
+      hour = hour;
+      minute = minute;
+      second = second;
+    }) }
+    ensures value { result ≡ second_at (record {
+      year = year;
+      month = month;
+      day = day;
+      hour = hour;
+      minute = minute;
+      second = second;
+    }) }
     ensures valid { IsMomentSecond result }
 {
     let date = Date {

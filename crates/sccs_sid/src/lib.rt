@@ -9,6 +9,8 @@ pub mod reading;
 mod refusals;
 mod sid_lists;
 mod sids;
+#[cfg(test)]
+mod tests;
 pub mod words;
 
 pub use cutoffs::Cutoff;

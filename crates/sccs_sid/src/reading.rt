@@ -1,4 +1,5 @@
-//! Reading from left to right: a field and the bytes after it, or how many bytes were left where nothing goes on.
+//! Reading from left to right: a field and the bytes after it, or how many bytes were left where
+//! nothing goes on.
 ghost use Rattle.std.specs.Prelude.{◌≡◌, ◌+◌, ◌*◌, ◌^◌, ◌<◌, ◌≤◌, length, option_map, IfOk, IfErr, IfSome};
 ghost use Rattle.sccs_sid.specs.Reading.{Gives, digits_after, number_at, byte_at, number, until, behind, is_no_digit, from_digit};
 

@@ -21,24 +21,28 @@ shows_after w m n new a b apart shows after = subst (λ (v : View). Shows w b v)
 pub made_runs : (w : List ℕ → Bool) (m : Folder) (n : List ℕ) (o : Outcome) (d : Deed) (status : ℕ) (a b : World) → Apart w n → Shows w a.view (view_in m) → o ≡ Ok d → d.status ≡ status → Made n d a b
     → Runs w (Ok status) m (turn_of n o ∷ []) a b
 made_runs w m n o d status a b apart shows is code made =
-    subst (λ (out : Outcome). Runs w (Ok status) m (turn_of n out ∷ []) a b) (sym is)
-    (sym code ∙ omega arith, record {
-      view = shows_after w m n d.new a.view b.view apart shows (shows_moved w n d.new (view_in m) a.view b.view apart shows made.view);
-      out = subst (λ text. GivesOk a.out b.out text) (sym (append-nil (d.text ++ d.out))) made.out;
-      err = subst (λ text. GivesOk a.err b.err text) (sym (append-nil d.err)) made.err;
-    })
+    subst (λ (out : Outcome). Runs w (Ok status) m (turn_of n out ∷ []) a b) (sym is) (
+      sym code ∙ omega arith,
+      record {
+        view = shows_after w m n d.new a.view b.view apart shows (shows_moved w n d.new (view_in m) a.view b.view apart shows made.view);
+        out = subst (λ text. GivesOk a.out b.out text) (sym (append-nil (d.text ++ d.out))) made.out;
+        err = subst (λ text. GivesOk a.err b.err text) (sym (append-nil d.err)) made.err;
+      },
+    )
 
 -- nothing is committed, and the step is still to be made
 pub kept_waits : (w : List ℕ → Bool) (m : Folder) (n : List ℕ) (o : Outcome) (a b : World) → Apart w n → Shows w a.view (view_in m) → Kept n (deed_of n o).text a b → Waits w m (turn_of n o ∷ []) a b
-kept_waits w m n o a b apart shows kept =
-    (record {
-      made = [];
-      rest = turn_of n o ∷ [];
-      is = refl;
-      view = shows_kept w n (view_in m) a.view b.view apart shows kept.view;
-      out = kept.out;
-      err = some_same a.err b.err [] kept.err;
-    }, omega arith)
+kept_waits w m n o a b apart shows kept = (
+  record {
+    made = [];
+    rest = turn_of n o ∷ [];
+    is = refl;
+    view = shows_kept w n (view_in m) a.view b.view apart shows kept.view;
+    out = kept.out;
+    err = some_same a.err b.err [] kept.err;
+  },
+  omega arith,
+)
 
 -- the step is committed, and its report is cut
 pub half_stops : (w : List ℕ → Bool) (m : Folder) (n : List ℕ) (o : Outcome) (d : Deed) (a b : World) → Apart w n → Shows w a.view (view_in m) → o ≡ Ok d → Half n d a b → Stopped w m (turn_of n o ∷ []) a b
@@ -56,14 +60,14 @@ half_stops w m n o d a b apart shows is half =
 -- the disk failed
 pub broken_breaks : (w : List ℕ → Bool) (m : Folder) (n : List ℕ) (o : Outcome) (a b : World) → Apart w n → Shows w a.view (view_in m) → Broken n o a b → Broke w m (turn_of n o ∷ []) a b
 broken_breaks w m n o a b apart shows broken = record {
-    made = [];
-    rest = turn_of n o ∷ [];
-    is = refl;
-    view = subst (λ (v : View). ShowsPartly (left_by w (turn_of n o ∷ [])) b.view (view_in m) v) (sym (moved_view m n (deed_of n o).new))
+  made = [];
+  rest = turn_of n o ∷ [];
+  is = refl;
+  view = subst (λ (v : View). ShowsPartly (left_by w (turn_of n o ∷ [])) b.view (view_in m) v) (sym (moved_view m n (deed_of n o).new))
       (shows_partly w n (deed_of n o).new (view_in m) a.view b.view apart shows broken.view);
-    out = broken.out;
-    err = some_same a.err b.err [] broken.err;
-  }
+  out = broken.out;
+  err = some_same a.err b.err [] broken.err;
+}
 
 -- the step is refused, and that is said
 pub refused_runs : (w : List ℕ → Bool) (m : Folder) (n : List ℕ) (o : Outcome) (refusal : Refusal) (a b : World) → o ≡ Err refusal → Shows w b.view (view_in m) → GivesOk a.out b.out [] → GivesOk a.err b.err (refusal_line n refusal)

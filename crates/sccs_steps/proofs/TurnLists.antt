@@ -32,10 +32,10 @@ ran_none w m a shows = record { view = shows; out = gives_none a.out; err = give
 
 pub ran_then : (w : List ℕ → Bool) (m : Folder) (ts us : List Turn) (a b c : World) → Ran w m ts a b → Ran w (folder_after m ts) us b c → Ran w m (ts ++ us) a c
 ran_then w m ts us a b c first second = record {
-    view = subst (λ (u : Folder). Shows w c.view (view_in u)) (sym (after_more m ts us)) second.view;
-    out = subst (λ text. GivesOk a.out c.out text) (sym (out_more ts us)) (gives_both a.out b.out c.out (out_of ts) (out_of us) first.out second.out);
-    err = subst (λ text. GivesOk a.err c.err text) (sym (err_more ts us)) (gives_both a.err b.err c.err (err_of ts) (err_of us) first.err second.err);
-  }
+  view = subst (λ (u : Folder). Shows w c.view (view_in u)) (sym (after_more m ts us)) second.view;
+  out = subst (λ text. GivesOk a.out c.out text) (sym (out_more ts us)) (gives_both a.out b.out c.out (out_of ts) (out_of us) first.out second.out);
+  err = subst (λ text. GivesOk a.err c.err text) (sym (err_more ts us)) (gives_both a.err b.err c.err (err_of ts) (err_of us) first.err second.err);
+}
 
 -- a text and then a front of others
 pub out_then : (w : List ℕ → Bool) (m : Folder) (ts made rest : List Turn) (a b c : World) → Ran w m ts a b → GivesSome b.out c.out (out_of made ++ next_text rest) → GivesSome a.out c.out (out_of (ts ++ made) ++ next_text rest)
@@ -49,23 +49,23 @@ err_then w m ts made a b c first some =
 
 abbrev pub stopped_then : (w : List ℕ → Bool) (m : Folder) (ts us : List Turn) (a b c : World) → Ran w m ts a b → Stopped w (folder_after m ts) us b c → Stopped w m (ts ++ us) a c
 stopped_then w m ts us a b c first s = record {
-    made = ts ++ s.made;
-    rest = s.rest;
-    is = ap (λ rest. ts ++ rest) s.is ∙ sym (append_assoc ts s.made s.rest);
-    view = subst (λ (u : Folder). Shows w c.view (view_in u)) (sym (after_more m ts s.made)) s.view;
-    out = out_then w m ts s.made s.rest a b c first s.out;
-    err = err_then w m ts s.made a b c first s.err;
-  }
+  made = ts ++ s.made;
+  rest = s.rest;
+  is = ap (λ rest. ts ++ rest) s.is ∙ sym (append_assoc ts s.made s.rest);
+  view = subst (λ (u : Folder). Shows w c.view (view_in u)) (sym (after_more m ts s.made)) s.view;
+  out = out_then w m ts s.made s.rest a b c first s.out;
+  err = err_then w m ts s.made a b c first s.err;
+}
 
 broke_then : (w : List ℕ → Bool) (m : Folder) (ts us : List Turn) (a b c : World) → Ran w m ts a b → Broke w (folder_after m ts) us b c → Broke w m (ts ++ us) a c
 broke_then w m ts us a b c first s = record {
-    made = ts ++ s.made;
-    rest = s.rest;
-    is = ap (λ rest. ts ++ rest) s.is ∙ sym (append_assoc ts s.made s.rest);
-    view = subst (λ (u : Folder). ShowsPartly (left_by w s.rest) c.view (view_in u) (view_in (next_folder u s.rest))) (sym (after_more m ts s.made)) s.view;
-    out = out_then w m ts s.made s.rest a b c first s.out;
-    err = err_then w m ts s.made a b c first s.err;
-  }
+  made = ts ++ s.made;
+  rest = s.rest;
+  is = ap (λ rest. ts ++ rest) s.is ∙ sym (append_assoc ts s.made s.rest);
+  view = subst (λ (u : Folder). ShowsPartly (left_by w s.rest) c.view (view_in u) (view_in (next_folder u s.rest))) (sym (after_more m ts s.made)) s.view;
+  out = out_then w m ts s.made s.rest a b c first s.out;
+  err = err_then w m ts s.made a b c first s.err;
+}
 
 -- all of some steps, and then others that end early
 pub stops_then : (w : List ℕ → Bool) (fault : Fault) (m : Folder) (ts us : List Turn) (a b c : World) → Ran w m ts a b → Stops w fault (folder_after m ts) us b c → Stops w fault m (ts ++ us) a c
@@ -80,13 +80,13 @@ text_longer a b front (t ∷ rest) us some = some
 
 abbrev pub stopped_more : (w : List ℕ → Bool) (m : Folder) (ts us : List Turn) (a b : World) → Stopped w m ts a b → Stopped w m (ts ++ us) a b
 stopped_more w m ts us a b s = record {
-    made = s.made;
-    rest = s.rest ++ us;
-    is = ap (λ all. all ++ us) s.is ∙ append_assoc s.made s.rest us;
-    view = s.view;
-    out = text_longer a.out b.out (out_of s.made) s.rest us s.out;
-    err = s.err;
-  }
+  made = s.made;
+  rest = s.rest ++ us;
+  is = ap (λ all. all ++ us) s.is ∙ append_assoc s.made s.rest us;
+  view = s.view;
+  out = text_longer a.out b.out (out_of s.made) s.rest us s.out;
+  err = s.err;
+}
 
 left_false : (x y : Bool) → (x || y) ≡ false → x ≡ false
 left_false true y h = cc
@@ -106,13 +106,13 @@ partly_longer w (Some v) u [] (t ∷ us) shows = λ k h.
 
 broke_more : (w : List ℕ → Bool) (m : Folder) (ts us : List Turn) (a b : World) → Broke w m ts a b → Broke w m (ts ++ us) a b
 broke_more w m ts us a b s = record {
-    made = s.made;
-    rest = s.rest ++ us;
-    is = ap (λ all. all ++ us) s.is ∙ append_assoc s.made s.rest us;
-    view = partly_longer w b.view (folder_after m s.made) s.rest us s.view;
-    out = text_longer a.out b.out (out_of s.made) s.rest us s.out;
-    err = s.err;
-  }
+  made = s.made;
+  rest = s.rest ++ us;
+  is = ap (λ all. all ++ us) s.is ∙ append_assoc s.made s.rest us;
+  view = partly_longer w b.view (folder_after m s.made) s.rest us s.view;
+  out = text_longer a.out b.out (out_of s.made) s.rest us s.out;
+  err = s.err;
+}
 
 still_some : (rest us : List Turn) → 0 < length rest → 0 < length (rest ++ us)
 still_some rest us some = omega (arith, length-append rest us)

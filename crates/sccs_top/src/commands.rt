@@ -1,83 +1,142 @@
-ghost use Rattle.std.specs.Prelude.{◌≡◌, ◌≢◌, ◌≤◌, ◌⊎◌, IfSome};
-ghost use Rattle.sccs_base.specs.Stream.{Rose};
+ghost use Rattle.std.specs.Prelude.{◌≡◌, ◌≢◌, ◌≤◌, ◌⊎◌, IfSome, OnSome, OnOk, OnErr, option_map};
+ghost use Rattle.sccs_base.specs.Stream.{Rose, GivesOk, GivesSome};
+ghost use Rattle.sccs_words.specs.Meaning.{meaning};
+ghost use Rattle.sccs_top.specs.Unbuilt.{is_built, built_operands, unbuilt_command, said, Says};
 
-use crate::plain_files::text_of;
-use sccs_base::{Bytes, Line, Name, Sink, Source, Words};
-use sccs_disk::{Disk, WholeFault, read_whole};
-use sccs_sid::{Refusal, Stamp, write_refusal};
+use crate::answers::Answer;
+use crate::messages::{is_several, refuse_all, refuse_unbuilt, write_usage};
+use sccs_base::{Bytes, Failed, Line, Name, Sink, Source, Words};
+use sccs_disk::Disk;
+use sccs_get::print_version;
+use sccs_sid::{Refusal, Stamp, StepFault, write_refusal};
+use sccs_words::{Command, GetWords, Operands, WordsFault, read_words};
 use std::alloc::Global;
 
-// how long a file may be, in bytes
-const LIMIT: u64 = 1_073_741_824;
-
-/// How a command ends.
-#[derive(Clone, Copy, Debug, PartialEq, Eq)]
-pub enum Answer {
-    Finished { status: u8 },
-    Memory,
-    ReadFault,
-    WriteFault,
-    DiskFault,
+// the answer of a command whose last text was given, or was not
+fn answer(status: u8, given: Result<(), Failed>) -> Answer
+    ensures finished { OnOk given (result ≡ Answer.Finished status) }
+    ensures fault { OnErr given (result ≡ Answer.WriteFault) }
+{
+    match given {
+        Ok(()) => Answer::Finished { status },
+        Err(Failed) => Answer::WriteFault,
+    }
 }
 
-// the operand of `get -k -p -s NAME`
-fn operand(words: &Words) -> Option<&[u8]> {
-    let [utility, keep, print, silent, name] = words.items() else {
-        return None;
+// whether get has `-k`, `-p` and `-s`, and of the other options only those that say which version
+#[tactic(auto, unfolding(crate::specs::Unbuilt::is_built))]
+fn is_built(words: &GetWords) -> bool
+    ensures { result ≡ is_built words.now }
+{
+    let has_others = words.branch || words.edit || words.no_text || words.sids || words.module;
+    words.keep && words.print && words.silent && !has_others
+}
+
+// gets the text of one file
+fn get_file<O: Sink, E: Sink, D: Disk>(
+    alloc: Global,
+    words: &GetWords,
+    word: &[u8],
+    out: &mut O,
+    err: &mut E,
+    disk: &mut D,
+) -> Answer
+    ensures same { D.told disk.new ≡ D.told disk.old }
+    ensures read_fault { result ≢ Answer.ReadFault }
+    ensures write_fault { result ≡ Answer.WriteFault
+        → Rose (O.faults out.old) (O.faults out.new) ⊎ Rose (E.faults err.old) (E.faults err.new) }
+    ensures disk_fault { result ≡ Answer.DiskFault
+        → Rose (D.faults disk.old) (D.faults disk.new) }
+    ensures out_later { O.faults out.old ≤ O.faults out.new }
+    ensures err_later { E.faults err.old ≤ E.faults err.new }
+    ensures disk_later { D.faults disk.old ≤ D.faults disk.new }
+{
+    if is_several(word) {
+        return answer(1, write_refusal(word, &Refusal::Unbuilt, err));
+    }
+    let Some(name) = Name::read_sfile(word) else {
+        return answer(1, write_refusal(word, &Refusal::BadName, err));
     };
-    let is_get = utility.bytes() == b"get".as_slice()
-        && keep.bytes() == b"-k".as_slice()
-        && print.bytes() == b"-p".as_slice()
-        && silent.bytes() == b"-s".as_slice();
-    if is_get && is_operand(name.bytes()) {
-        Some(name.bytes())
-    } else {
-        None
-    }
-}
-
-// whether a word is taken as the name of a file
-fn is_operand(word: &[u8]) -> bool {
-    match word {
-        [b'-', ..] => false,
-        [b'.'] => false,
-        _ => true,
-    }
-}
-
-// says why a file is refused
-fn refuse<E: Sink>(name: &[u8], refusal: &Refusal, err: &mut E) -> Answer
-    ensures memory { result ≢ Answer.Memory }
-    ensures read_fault { result ≢ Answer.ReadFault }
-    ensures disk_fault { result ≢ Answer.DiskFault }
-    ensures later { E.faults err.old ≤ E.faults err.new }
-    ensures write_fault { result ≡ Answer.WriteFault → Rose (E.faults err.old) (E.faults err.new) }
-{
-    match write_refusal(name, refusal, err) {
-        Ok(()) => Answer::Finished { status: 1 },
-        Err(_) => Answer::WriteFault,
-    }
-}
-
-// gives a text
-fn give_text<O: Sink>(text: &[u8], out: &mut O) -> Answer
-    ensures memory { result ≢ Answer.Memory }
-    ensures read_fault { result ≢ Answer.ReadFault }
-    ensures disk_fault { result ≢ Answer.DiskFault }
-    ensures later { O.faults out.old ≤ O.faults out.new }
-    ensures write_fault { result ≡ Answer.WriteFault → Rose (O.faults out.old) (O.faults out.new) }
-{
-    match out.give(text) {
+    match print_version(alloc, &name, words, out, disk) {
         Ok(()) => Answer::Finished { status: 0 },
-        Err(_) => Answer::WriteFault,
+        Err(StepFault::Refused(refusal)) => answer(1, write_refusal(word, &refusal, err)),
+        Err(StepFault::Memory) => Answer::Memory,
+        Err(StepFault::ReadFault) => Answer::ReadFault,
+        Err(StepFault::WriteFault) => Answer::WriteFault,
+        Err(StepFault::DiskFault) => Answer::DiskFault,
+    }
+}
+
+// gets the text of each file in turn
+fn get_files<O: Sink, E: Sink, D: Disk>(
+    alloc: Global,
+    words: &GetWords,
+    operands: &[Bytes],
+    out: &mut O,
+    err: &mut E,
+    disk: &mut D,
+) -> Answer
+    ensures same { D.told disk.new ≡ D.told disk.old }
+    ensures read_fault { result ≢ Answer.ReadFault }
+    ensures write_fault { result ≡ Answer.WriteFault
+        → Rose (O.faults out.old) (O.faults out.new) ⊎ Rose (E.faults err.old) (E.faults err.new) }
+    ensures disk_fault { result ≡ Answer.DiskFault
+        → Rose (D.faults disk.old) (D.faults disk.new) }
+    ensures out_later { O.faults out.old ≤ O.faults out.new }
+    ensures err_later { E.faults err.old ≤ E.faults err.new }
+    ensures disk_later { D.faults disk.old ≤ D.faults disk.new }
+{
+    let mut status = 0;
+    for word in operands {
+        match get_file(alloc, words, word.bytes(), out, err, disk) {
+            Answer::Finished { status: one } => status = status.max(one),
+            answer => return answer,
+        }
+    }
+    Answer::Finished { status }
+}
+
+// the operands of a command that is built
+fn built(command: &Command) -> Option<(&GetWords, &Operands)>
+    ensures { option_map (λ get. get.1.now) result ≡ built_operands command.now }
+{
+    match command {
+        Command::Get(words, operands) => {
+            if is_built(words) && !operands.from_input {
+                Some((words, operands))
+            } else {
+                None
+            }
+        }
+        _ => None,
+    }
+}
+
+// refuses the operands of a command that isn't built
+fn refuse<E: Sink>(command: &Command, err: &mut E) -> Result<(), Failed>
+    ensures ok { OnOk result
+        (GivesOk (E.given err.old) (E.given err.new) (unbuilt_command command.now)) }
+    ensures err { OnErr result
+        (GivesSome (E.given err.old) (E.given err.new) (unbuilt_command command.now)) }
+    ensures later { E.faults err.old ≤ E.faults err.new }
+    ensures cause { OnErr result (Rose (E.faults err.old) (E.faults err.new)) }
+{
+    match command {
+        Command::Get(_, operands) | Command::Admin(_, operands) | Command::Unget(_, operands) => {
+            refuse_all(false, operands, err)
+        }
+        Command::Sact(operands) | Command::Rmdel(_, operands) => refuse_all(false, operands, err),
+        Command::Prs(_, operands) | Command::Recover(operands) => refuse_all(false, operands, err),
+        Command::What(_, operands) => refuse_all(true, operands, err),
+        Command::Delta(_, name) => refuse_unbuilt(false, name.bytes(), err),
+        Command::Val(_) | Command::Batch | Command::Soak(_) => refuse_unbuilt(false, b"-", err),
     }
 }
 
 /// Does a command. The words are those behind the program's name; `stamp` is its moment and login,
 /// `place` the folder's path. Texts go to `out`, messages to `err`.
 ///
-/// Built is `get -k -p -s NAME`, these five words in this order, on a plain file of one delta whose
-/// lines stand in one region.
+/// Built is get with `-k`, `-p` and `-s`, and of the other options those that say which version.
 pub fn run<I: Source, O: Sink, E: Sink, D: Disk>(
     alloc: Global,
     words: &Words,
@@ -88,6 +147,8 @@ pub fn run<I: Source, O: Sink, E: Sink, D: Disk>(
     err: &mut E,
     disk: &mut D,
 ) -> Answer
+    ensures said { IfSome (said (meaning words.now)) (Says result (E.given err.old) (E.given err.new)) }
+    ensures quiet { OnSome (said (meaning words.now)) (O.given out.new ≡ O.given out.old) }
     ensures same { D.told disk.new ≡ D.told disk.old }
     ensures input_left { I.left _input.new ≡ I.left _input.old }
     ensures read_fault { result ≢ Answer.ReadFault }
@@ -100,20 +161,13 @@ pub fn run<I: Source, O: Sink, E: Sink, D: Disk>(
     ensures err_later { E.faults err.old ≤ E.faults err.new }
     ensures disk_later { D.faults disk.old ≤ D.faults disk.new }
 {
-    let Some(operand) = operand(words) else {
-        return refuse(b"-", &Refusal::Unbuilt, err);
+    let command = match read_words(alloc, words) {
+        Ok(command) => command,
+        Err(WordsFault::Usage(usage)) => return answer(2, write_usage(&usage, err)),
+        Err(WordsFault::Memory) => return Answer::Memory,
     };
-    let Some(name) = Name::read_sfile(operand) else {
-        return refuse(operand, &Refusal::BadName, err);
-    };
-    match read_whole(alloc, disk, &name, LIMIT) {
-        Ok(None) => refuse(operand, &Refusal::Missing, err),
-        Ok(Some(bytes)) => match text_of(bytes.bytes()) {
-            Some(text) => give_text(text, out),
-            None => refuse(operand, &Refusal::Unbuilt, err),
-        },
-        Err(WholeFault::TooLong) => refuse(operand, &Refusal::Unbuilt, err),
-        Err(WholeFault::Memory) => Answer::Memory,
-        Err(WholeFault::Failed) => Answer::DiskFault,
+    match built(&command) {
+        Some((words, operands)) => get_files(alloc, words, operands.words.items(), out, err, disk),
+        None => answer(1, refuse(&command, err)),
     }
 }

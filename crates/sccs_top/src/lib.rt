@@ -1,9 +1,11 @@
 //! The top call, which does all that the program does.
 #![tactic(auto)]
 
+mod answers;
 mod commands;
-mod plain_files;
+mod messages;
 #[cfg(test)]
 mod tests;
 
-pub use commands::{Answer, run};
+pub use answers::Answer;
+pub use commands::run;

@@ -2,6 +2,8 @@
 #![tactic(auto)]
 
 mod regions;
+#[cfg(test)]
+mod tests;
 mod weavers;
 
 pub use regions::Region;

@@ -1,2 +1,10 @@
+pub mod CommandRows
+pub mod EndRows
+pub mod FaultRows
 pub mod FirstFaults
+pub mod Joined
+pub mod NameRows
+pub mod Outcomes
+pub mod Places
+pub mod SameMeaning
 pub mod ScanSteps

@@ -9,7 +9,7 @@ use Rattle.sccs_words.specs.Synopsis.{rows_of, aparts_of, needs_of, rest_of, row
 use Rattle.sccs_words.specs.Values.{fits, soak_number}
 use Rattle.sccs_words.specs.declared.commands.Usage.{Usage}
 use Rattle.sccs_words.specs.declared.tables.Row.{Row}
-use Rattle.sccs_words.specs.declared.tables.Row.TheVariants.{Plain, Joined, Valued, Repeated}
+use Rattle.sccs_words.specs.declared.tables.Row.TheVariants.{Joined, Valued, Repeated}
 use Rattle.sccs_words.specs.declared.tables.Form.{Form}
 use Rattle.sccs_words.specs.declared.tables.Form.TheVariants.{Any}
 use Rattle.sccs_words.specs.declared.tables.Apart.{Apart}

@@ -6,5 +6,5 @@ pub mod Records
 pub mod Scan
 pub mod Scanned
 pub mod Synopsis
+pub mod Unplaced
 pub mod Values
-

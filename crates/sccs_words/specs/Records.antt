@@ -73,7 +73,8 @@ get_words uses = record {
   print = has opt.p uses;
   silent = has opt.s uses;
   spec = option_and_then spec_value (value_of opt.r uses);
-  top = has opt.t uses }
+  top = has opt.t uses;
+}
 
 abbrev pub delta_words : List Use → DeltaWords
 delta_words uses = record {
@@ -81,7 +82,8 @@ delta_words uses = record {
   keep = has opt.n uses;
   sid = option_and_then sid_value (value_of opt.r uses);
   silent = has opt.s uses;
-  comment = lines_in (value_of opt.y uses) }
+  comment = lines_in (value_of opt.y uses);
+}
 
 abbrev pub unget_words : List Use → UngetWords
 unget_words uses = record { keep = has opt.n uses; sid = option_and_then sid_value (value_of opt.r uses); silent = has opt.s uses }
@@ -94,7 +96,8 @@ prs_words uses = record {
   cutoff = option_and_then moment_value (value_of opt.c uses);
   chosen = has opt.r uses;
   sid = option_and_then sid_value (value_of opt.r uses);
-  spec = value_of opt.d uses }
+  spec = value_of opt.d uses;
+}
 
 abbrev pub admin_words : List Use → AdminWords
 admin_words uses = record {
@@ -109,7 +112,8 @@ admin_words uses = record {
   release = option_and_then release_value (value_of opt.r uses);
   mrs = mrs_of (value_of opt.m uses);
   comment = comment_of uses;
-  description = given_of opt.t uses }
+  description = given_of opt.t uses;
+}
 
 abbrev pub is_from_input : List (List ℕ) → Bool
 is_from_input [] = false
@@ -134,4 +138,5 @@ val_words l = record {
   sid = value_of opt.r l.uses;
   kind = value_of opt.y l.uses;
   «module» = value_of opt.m l.uses;
-  operands = operands_of l.operands }
+  operands = operands_of l.operands;
+}

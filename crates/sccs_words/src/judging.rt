@@ -13,12 +13,19 @@ use std::alloc::Global;
 
 // the kinds of faults
 const UNKNOWN_OPTION: u8 = 2;
+
 const MISSING_ARGUMENT: u8 = 3;
+
 const GIVEN_TWICE: u8 = 4;
+
 const EXCLUDE: u8 = 5;
+
 const MALFORMED: u8 = 6;
+
 const NO_OPERAND: u8 = 7;
+
 const OPTION_NEEDED: u8 = 8;
+
 const TOO_MANY: u8 = 9;
 
 /// Whether an option of that letter is used.
@@ -53,7 +60,9 @@ fn parts(rule: Apart, a: &Use, b: &Use) -> bool
 fn is_apart(rules: &[Apart], a: &Use, b: &Use) -> bool
     ensures { result ≡ is_apart_spec rules.now a.now b.now }
 {
-    rules.iter().any(|rule| parts(*rule, a, b) || parts(*rule, b, a))
+    rules
+        .iter()
+        .any(|rule| parts(*rule, a, b) || parts(*rule, b, a))
 }
 
 fn repeats(row: Option<Row>) -> bool
@@ -151,8 +160,20 @@ fn use_fault(
             kind: MISSING_ARGUMENT,
             word: one.word,
         })),
-        Got::Bare => known_fault(alloc, utility, before, one, row_of(utility.rows(), one.letter)),
-        Got::Value(_, _) => known_fault(alloc, utility, before, one, row_of(utility.rows(), one.letter)),
+        Got::Bare => known_fault(
+            alloc,
+            utility,
+            before,
+            one,
+            row_of(utility.rows(), one.letter),
+        ),
+        Got::Value(_, _) => known_fault(
+            alloc,
+            utility,
+            before,
+            one,
+            row_of(utility.rows(), one.letter),
+        ),
     }
 }
 
@@ -215,7 +236,13 @@ fn dash_with_other(before: &[Bytes], word: &[u8]) -> bool
 
 // the fault of an operand, judged after those before it
 #[tactic(auto, unfolding(crate::specs::Judge::operand_fault))]
-fn operand_fault(rest: Rest, uses: &[Use], first: u64, before: &[Bytes], word: &[u8]) -> Option<Usage>
+fn operand_fault(
+    rest: Rest,
+    uses: &[Use],
+    first: u64,
+    before: &[Bytes],
+    word: &[u8],
+) -> Option<Usage>
     requires { first + length before.now < 2 ^ 64 }
     ensures { result ≡ operand_spec rest uses.now first before.now word.now }
 {

@@ -3,14 +3,20 @@
 
 mod commands;
 mod judging;
+mod laws;
 mod meanings;
 mod records;
 mod scanning;
 mod tables;
+#[cfg(test)]
+mod tests;
 mod values;
 
 pub use commands::{
     AdminWords, Command, DeltaWords, GetWords, Given, Operands, PrsWords, UngetWords, Usage,
     ValWords, WordsFault,
+};
+pub use laws::{
+    faults_have_a_place, joined_options_are_options_apart, numbers_of_words_do_not_matter,
 };
 pub use meanings::read_words;

@@ -5,9 +5,11 @@ ghost use Rattle.sccs_words.specs.Scan.{line};
 ghost use Rattle.sccs_words.specs.Values.{name_value, sid_value as sid_spec, soak_number as soak_spec};
 
 use crate::commands::{Command, Usage, WordsFault};
-use crate::judging::first_fault;
-use crate::records::{admin_words, delta_words, get_words, name_in, operands_of, prs_words, sid_at, unget_words, val_words};
-use crate::judging::has;
+use crate::judging::{first_fault, has};
+use crate::records::{
+    admin_words, delta_words, get_words, name_in, operands_of, prs_words, sid_at, unget_words,
+    val_words,
+};
 use crate::scanning::{Use, scan_words};
 use crate::tables::Utility;
 use crate::values::soak_number;
@@ -16,7 +18,9 @@ use std::alloc::Global;
 
 // the kinds of faults that are answered here
 const UNKNOWN_UTILITY: u8 = 1;
+
 const NO_OPERAND: u8 = 7;
+
 const OPTION_NEEDED: u8 = 8;
 
 #[tactic(auto, unfolding(crate::specs::Meaning::utility_of))]
@@ -72,7 +76,12 @@ fn first_number(operands: &[Bytes]) -> Option<u64>
     }
 }
 
-fn delta_of(alloc: Global, uses: &[Use], operands: &[Bytes], end: u64) -> Result<Command, WordsFault>
+fn delta_of(
+    alloc: Global,
+    uses: &[Use],
+    operands: &[Bytes],
+    end: u64,
+) -> Result<Command, WordsFault>
     ensures { Gives result (with_name uses.now end (option_and_then name_value (first_of operands.now))) }
 {
     match first_name(operands) {
@@ -87,7 +96,12 @@ fn delta_of(alloc: Global, uses: &[Use], operands: &[Bytes], end: u64) -> Result
     }
 }
 
-fn rmdel_of(alloc: Global, uses: &[Use], operands: &[Bytes], end: u64) -> Result<Command, WordsFault>
+fn rmdel_of(
+    alloc: Global,
+    uses: &[Use],
+    operands: &[Bytes],
+    end: u64,
+) -> Result<Command, WordsFault>
     ensures { Gives result (with_sid operands.now end (option_and_then sid_spec (value_spec 114 uses.now))) }
 {
     match sid_at(uses, b'r') {
@@ -214,5 +228,12 @@ pub fn read_words(alloc: Global, words: &Words) -> Result<Command, WordsFault>
     let scanned = scan_words(alloc, utility.rows(), 2, rest)?;
     let first = 2 + scanned.before as u64;
     let end = rest.len() as u64 + 2;
-    line_meaning(alloc, utility, &scanned.uses, first, &rest[scanned.before..], end)
+    line_meaning(
+        alloc,
+        utility,
+        &scanned.uses,
+        first,
+        &rest[scanned.before..],
+        end,
+    )
 }

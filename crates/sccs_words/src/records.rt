@@ -3,7 +3,9 @@ ghost use Rattle.sccs_words.specs.Records.{value_in as value_in_spec, value_of a
 ghost use Rattle.sccs_words.specs.Values.{sid_value as sid_spec, spec_value as spec_spec, moment_value as moment_spec, list_value as list_spec, release_value as release_spec, name_value};
 ghost use Rattle.sccs_words.specs.Scan.{line};
 
-use crate::commands::{AdminWords, DeltaWords, GetWords, Given, Operands, PrsWords, UngetWords, ValWords};
+use crate::commands::{
+    AdminWords, DeltaWords, GetWords, Given, Operands, PrsWords, UngetWords, ValWords,
+};
 use crate::judging::{has, is_dash, operands_fault, uses_fault};
 use crate::scanning::{Got, Use};
 use crate::tables::{Rest, Utility};
@@ -280,7 +282,12 @@ pub fn operands_of(alloc: Global, words: &[Bytes]) -> Result<Operands, Memory>
 }
 
 // whether an option of val is at fault, or `-` stands with another operand
-fn has_option_fault(alloc: Global, uses: &[Use], first: u64, operands: &[Bytes]) -> Result<bool, Memory>
+fn has_option_fault(
+    alloc: Global,
+    uses: &[Use],
+    first: u64,
+    operands: &[Bytes],
+) -> Result<bool, Memory>
     requires { first + length operands.now < 2 ^ 64 }
     ensures { IfOk result (λ r. r ≡ is_option_fault (line uses.now first operands.now)) }
 {
@@ -296,7 +303,12 @@ fn bit(holds: bool, value: u8) -> u8
     if holds { value } else { 0 }
 }
 
-pub fn val_words(alloc: Global, uses: &[Use], first: u64, operands: &[Bytes]) -> Result<ValWords, Memory>
+pub fn val_words(
+    alloc: Global,
+    uses: &[Use],
+    first: u64,
+    operands: &[Bytes],
+) -> Result<ValWords, Memory>
     requires { first + length operands.now < 2 ^ 64 }
     ensures { IfOk result (λ r. r ≡ val_spec (line uses.now first operands.now)) }
 {

@@ -200,7 +200,10 @@ pub fn scan_words(
                 WordKind::Letters(bytes) => {
                     waits = letters(alloc, rows, here, bytes, &mut uses)?;
                 }
-                WordKind::Ends => return Ok(Scanned { uses, before: i + 1 }),
+                WordKind::Ends => return Ok(Scanned {
+                    uses,
+                    before: i + 1,
+                }),
                 WordKind::Operand => return Ok(Scanned { uses, before: i }),
             },
         }

@@ -22,17 +22,21 @@ words-preserved c =
     let more = drop (i + 1) c.args.words.now in
     elim c.match-waits.branch [
       | in-Some+in_ok-value-in-Some+in_ok-push-in-Some w ↦
-        let longer : c.match-waits.uses.items ≡ c.words.uses.items ++ used w.in-Some.letter (n + i - 1) (Value c.index-words-i.result (n + i)) ∷ [] =
-            ap (λ (v : Vec Use Global). v.items) w.uses-is ∙ (w.in_ok-push-in-Some.ensures.items
-            ∙ ap (λ (bytes : List ℕ). c.words.uses.items ++ used w.in-Some.letter (n + i - 1) (Value bytes (n + i)) ∷ []) (w.in_ok-value-in-Some.ensures ∙ c.bytes-word.ensures)) in
-        let step = value_step rows n i c.words.uses.items c.words.waits w.in-Some.letter c.args.words.now c.index-words-i.result _ c.words-test.true c.index-words-i.is w.in-Some.is c.words.invariant.1 in
-        (omega arith, ap (λ (us : List Use). scanned rows (n + (i + 1)) us c.match-waits.waits more) longer
-        ∙ (ap (λ (o : Option ℕ). scanned rows (n + (i + 1)) (c.words.uses.items ++ used w.in-Some.letter (n + i - 1) (Value c.index-words-i.result (n + i)) ∷ []) o more) w.waits-is ∙ step))
+          let longer : c.match-waits.uses.items ≡ c.words.uses.items ++ used w.in-Some.letter (n + i - 1) (Value c.index-words-i.result (n + i)) ∷ [] =
+          ap (λ (v : Vec Use Global). v.items) w.uses-is ∙ (w.in_ok-push-in-Some.ensures.items
+          ∙ ap (λ (bytes : List ℕ). c.words.uses.items ++ used w.in-Some.letter (n + i - 1) (Value bytes (n + i)) ∷ []) (w.in_ok-value-in-Some.ensures ∙ c.bytes-word.ensures)) in
+          let step = value_step rows n i c.words.uses.items c.words.waits w.in-Some.letter c.args.words.now c.index-words-i.result _ c.words-test.true c.index-words-i.is w.in-Some.is c.words.invariant.1 in (
+            omega arith,
+            ap (λ (us : List Use). scanned rows (n + (i + 1)) us c.match-waits.waits more) longer
+                ∙ (ap (λ (o : Option ℕ). scanned rows (n + (i + 1)) (c.words.uses.items ++ used w.in-Some.letter (n + i - 1) (Value c.index-words-i.result (n + i)) ∷ []) o more) w.waits-is ∙ step),
+          )
       | in-None+in-Letters+in_ok-waits-in-Letters w ↦
-        let step = letters_step rows n i c.words.uses.items w.letters.new.uses.items c.words.waits w.in_ok-waits-in-Letters.waits c.args.words.now c.index-words-i.result w.in-Letters.bytes.now _
-            c.words-test.true c.index-words-i.is w.in-None.is (w.in-Letters.ensures ∙ ap kind_of c.bytes-word.ensures) w.in_ok-waits-in-Letters.ensures c.words.invariant.1 in
-        (omega arith, ap (λ (v : Vec Use Global). scanned rows (n + (i + 1)) v.items c.match-waits.waits more) w.uses-is
-        ∙ (ap (λ (o : Option ℕ). scanned rows (n + (i + 1)) w.letters.new.uses.items o more) w.waits-is ∙ step))
+          let step = letters_step rows n i c.words.uses.items w.letters.new.uses.items c.words.waits w.in_ok-waits-in-Letters.waits c.args.words.now c.index-words-i.result w.in-Letters.bytes.now _
+          c.words-test.true c.index-words-i.is w.in-None.is (w.in-Letters.ensures ∙ ap kind_of c.bytes-word.ensures) w.in_ok-waits-in-Letters.ensures c.words.invariant.1 in (
+            omega arith,
+            ap (λ (v : Vec Use Global). scanned rows (n + (i + 1)) v.items c.match-waits.waits more) w.uses-is
+                ∙ (ap (λ (o : Option ℕ). scanned rows (n + (i + 1)) w.letters.new.uses.items o more) w.waits-is ∙ step),
+          )
     ]
 
 pub returns-clause-value : goal.returns-clause-value
@@ -43,10 +47,10 @@ returns-clause-value c =
     let rest = drop i c.args.words.now in
     elim c.match-waits-2.branch [
       | in-None-waits w ↦
-        ap (λ (v : Vec Use Global). line v.items (n + i) rest) w.uses-is
-        ∙ end_step rows n i c.words.uses.items c.words.waits c.args.words.now _ c.words-test.false w.in-None-waits.is c.words.invariant.1
+          ap (λ (v : Vec Use Global). line v.items (n + i) rest) w.uses-is
+          ∙ end_step rows n i c.words.uses.items c.words.waits c.args.words.now _ c.words-test.false w.in-None-waits.is c.words.invariant.1
       | in-Some-waits+in_ok-push-in-Some-waits w ↦
-        ap (λ (v : Vec Use Global). line v.items (n + i) rest) w.uses-is
-        ∙ (ap (λ (us : List Use). line us (n + i) rest) w.in_ok-push-in-Some-waits.ensures.items
-        ∙ missing_step rows n i c.words.uses.items c.words.waits w.in-Some-waits.letter c.args.words.now _ c.words-test.false w.in-Some-waits.is c.words.invariant.1)
+          ap (λ (v : Vec Use Global). line v.items (n + i) rest) w.uses-is
+          ∙ (ap (λ (us : List Use). line us (n + i) rest) w.in_ok-push-in-Some-waits.ensures.items
+          ∙ missing_step rows n i c.words.uses.items c.words.waits w.in-Some-waits.letter c.args.words.now _ c.words-test.false w.in-Some-waits.is c.words.invariant.1)
     ]

@@ -1,0 +1,132 @@
+-- What the parts of a reading make of the answer for a whole file.
+use Rattle.std.proofs.Common.{◌≡◌, ℕ, Bool, true, false, List, [], length, drop, Option, None, Some, Result, Ok, Err, refl, sym, ap, ◌∙◌, subst}
+use Rattle.std.specs.Prelude.{IfSome, if◌then◌else◌, nat_lt}
+use Rattle.sccs_base.specs.Cut.{Cut, cut}
+use Rattle.sccs_sid.specs.Reading.{◌>>=◌}
+use Rattle.sccs_disk.specs.Files.{View}
+use Rattle.sccs_history.specs.Applied.{live_serials}
+use Rattle.sccs_history.specs.History.{is_encoded}
+use Rattle.sccs_history.specs.declared.headers.Header.{Header}
+use Rattle.sccs_history.specs.declared.headers.Item.{Item}
+use Rattle.sccs_grammar.specs.Front.{ParsedFront}
+use Rattle.sccs_grammar.specs.Items.{items_from}
+use Rattle.sccs_grammar.specs.File.{Parsed, as_format, answer, within_limit, checked_front, file_of, not_encoded}
+use Rattle.sccs_grammar.specs.declared.faults.FileFault.{FileFault}
+use Rattle.sccs_grammar.specs.declared.faults.FileFault.TheVariants.{Missing, TooLong, NotSccs, BadSum, BadFormat, Encoded, Failed, Memory}
+use Rattle.sccs_table.specs.declared.fronts.Front.{Front}
+use Rattle.sccs_table.specs.Standing.{bytes_in, file_in}
+use Rattle.sccs_table.specs.FrontFile.{Refuses, IsFrontOf, AnswersFront}
+use Rattle.sccs_body.specs.BodyFile.{items_of, ChecksFile, ChecksItems, AnswersFile}
+
+-- ---- the bytes of a file
+
+file_fails : (file : List ℕ) (e : FileFault) → checked_front file ≡ Err e → file_of file ≡ Err e
+unfolding file_of
+file_fails file e is = rw is refl
+
+abbrev file_by : ParsedFront → Result (List Item) ℕ → Result Parsed FileFault
+file_by p found = as_format found >>= λ (items : List Item). not_encoded p.header (record { header = p.header; items = items })
+
+file_from : (file : List ℕ) (p : ParsedFront) → checked_front file ≡ Ok p → file_of file ≡ file_by p (items_from (live_serials p.header.records) p.line [] p.rest (cut file).tail)
+unfolding file_of
+file_from file p is = rw is refl
+
+-- the body of the front is what comes behind the header
+same_items : (file : List ℕ) (p : ParsedFront) (front : Front) → IsFrontOf file p front → items_of file front ≡ items_from (live_serials p.header.records) p.line [] p.rest (cut file).tail
+same_items file p front of =
+    ap (λ (h : Header). items_from (live_serials h.records) front.body_line [] (cut (drop front.body_from file)).lines (cut (drop front.body_from file)).tail) of.header
+    ∙ (ap (λ n. items_from (live_serials p.header.records) n [] (cut (drop front.body_from file)).lines (cut (drop front.body_from file)).tail) of.line
+    ∙ ap (λ (c : Cut). items_from (live_serials p.header.records) p.line [] c.lines c.tail) of.body)
+
+file_found : (file : List ℕ) (p : ParsedFront) (front : Front) (found : Result (List Item) ℕ) → checked_front file ≡ Ok p → IsFrontOf file p front → items_of file front ≡ found → file_of file ≡ file_by p found
+file_found file p front found is of items = file_from file p is ∙ ap (λ r. file_by p r) (sym (same_items file p front of) ∙ items)
+
+-- ---- a file that may not be there
+
+within_fails : (r : Result (List ℕ) FileFault) (e : FileFault) → (r >>= checked_front) ≡ Err e → (r >>= file_of) ≡ Err e
+within_fails (Ok file) e is = file_fails file e is
+within_fails (Err f) e is = cc
+
+answer_fails : (o : Option (List ℕ)) (e : FileFault) → answer checked_front o ≡ Err e → answer file_of o ≡ Err e
+answer_fails None e is = cc
+answer_fails (Some file) e is = within_fails (within_limit file) e is
+
+refusal_stays : (o : Option (List ℕ)) (e : FileFault) → Refuses e (answer checked_front o) → Refuses e (answer file_of o)
+refusal_stays o Missing is = answer_fails o Missing is
+refusal_stays o TooLong is = answer_fails o TooLong is
+refusal_stays o NotSccs is = answer_fails o NotSccs is
+refusal_stays o (BadSum s c) is = answer_fails o (BadSum s c) is
+refusal_stays o (BadFormat k) is = answer_fails o (BadFormat k) is
+refusal_stays o Encoded is = answer_fails o Encoded is
+refusal_stays o Failed is = tt
+refusal_stays o Memory is = tt
+
+pub front_refused : (view : Option View) (name : List ℕ) (e : FileFault) → IfSome view (λ v. AnswersFront (file_in v name) checked_front (Err e)) → IfSome view (λ v. AnswersFile (file_in v name) (Err e))
+front_refused None name e answers = tt
+front_refused (Some view) name e answers = refusal_stays (file_in view name) e answers
+
+-- a front was read, so the file is within the limit
+read_by : (long : Bool) (file : List ℕ) (p : ParsedFront) → ((if long then Err TooLong else Ok file) >>= checked_front) ≡ Ok p → ((if long then Err TooLong else Ok file) ≡ Ok file) × (checked_front file ≡ Ok p)
+read_by true file p is = cc
+read_by false file p is = (refl, is)
+
+was_read : (file : List ℕ) (p : ParsedFront) → answer checked_front (Some file) ≡ Ok p → (within_limit file ≡ Ok file) × (checked_front file ≡ Ok p)
+was_read file p is = read_by (nat_lt 1073741824 (length file)) file p is
+
+answer_found : (file : List ℕ) (p : ParsedFront) (front : Front) (found : Result (List Item) ℕ) → answer checked_front (Some file) ≡ Ok p → IsFrontOf file p front → items_of file front ≡ found → answer file_of (Some file) ≡ file_by p found
+answer_found file p front found is of items =
+    let read = was_read file p is in
+    ap (λ (r : Result (List ℕ) FileFault). r >>= file_of) read.0 ∙ file_found file p front found read.1 of items
+
+lines_refused : (file : List ℕ) (p : ParsedFront) (front : Front) (e : FileFault) → answer checked_front (Some file) ≡ Ok p → IsFrontOf file p front → ChecksFile file front (Err e) → Refuses e (answer file_of (Some file))
+lines_refused file p front Missing is of checks = absurd checks
+lines_refused file p front TooLong is of checks = absurd checks
+lines_refused file p front NotSccs is of checks = absurd checks
+lines_refused file p front (BadSum s c) is of checks = absurd checks
+lines_refused file p front (BadFormat k) is of checks = answer_found file p front (Err k) is of checks
+lines_refused file p front Encoded is of checks = absurd checks
+lines_refused file p front Failed is of checks = tt
+lines_refused file p front Memory is of checks = tt
+
+refused_in : (o : Option (List ℕ)) (front : Front) (e : FileFault) → AnswersFront o checked_front (Ok front) → ChecksItems o front (Err e) → AnswersFile o (Err e)
+refused_in None front e answers checks = absurd answers.2
+refused_in (Some file) front e answers checks = lines_refused file answers.0 front e answers.1 answers.2 (checks answers.2.size)
+
+pub body_refused : (view : Option View) (name : List ℕ) (front : Front) (e : FileFault) → IfSome view (λ v. AnswersFront (file_in v name) checked_front (Ok front)) → ChecksItems (bytes_in view name) front (Err e) → IfSome view (λ v. AnswersFile (file_in v name) (Err e))
+body_refused None name front e answers checks = tt
+body_refused (Some view) name front e answers checks = refused_in (file_in view name) front e answers checks
+
+-- ---- whether the body is encoded
+
+encoded_so : (front : Front) (p : ParsedFront) (encoded : Bool) → front.header ≡ p.header → is_encoded front.header.flags ≡ encoded → is_encoded p.header.flags ≡ encoded
+encoded_so front p encoded same is = ap (λ (h : Header). is_encoded h.flags) (sym same) ∙ is
+
+encoded_in : (o : Option (List ℕ)) (front : Front) → is_encoded front.header.flags ≡ true → AnswersFront o checked_front (Ok front) → ChecksItems o front (Ok tt) → AnswersFile o (Err Encoded)
+encoded_in None front is answers checks = absurd answers.2
+encoded_in (Some file) front is answers checks =
+    let items = checks answers.2.size in
+    let encoded = encoded_so front answers.0 true answers.2.header is in
+    answer_found file answers.0 front (Ok items.0) answers.1 answers.2 items.1 ∙ rw encoded refl
+
+pub file_encoded : (view : Option View) (name : List ℕ) (front : Front) → is_encoded front.header.flags ≡ true → IfSome view (λ v. AnswersFront (file_in v name) checked_front (Ok front)) → ChecksItems (bytes_in view name) front (Ok tt) → IfSome view (λ v. AnswersFile (file_in v name) (Err Encoded))
+file_encoded None name front is answers checks = tt
+file_encoded (Some view) name front is answers checks = encoded_in (file_in view name) front is answers checks
+
+plain_in : (o : Option (List ℕ)) (front : Front) → is_encoded front.header.flags ≡ false → AnswersFront o checked_front (Ok front) → ChecksItems o front (Ok tt) → AnswersFile o (Ok front)
+plain_in None front is answers checks = absurd answers.2
+plain_in (Some file) front is answers checks =
+    let items = checks answers.2.size in
+    let plain = encoded_so front answers.0 false answers.2.header is in
+    let p = answers.0 in (
+      record { header = p.header; items = items.0 },
+      answer_found file answers.0 front (Ok items.0) answers.1 answers.2 items.1 ∙ rw plain refl,
+      (answers.2.header, (p, (was_read file p answers.1).1, answers.2)),
+    )
+
+pub file_plain : (view : Option View) (name : List ℕ) (front : Front) → is_encoded front.header.flags ≡ false → IfSome view (λ v. AnswersFront (file_in v name) checked_front (Ok front)) → ChecksItems (bytes_in view name) front (Ok tt) → IfSome view (λ v. AnswersFile (file_in v name) (Ok front))
+file_plain None name front is answers checks = tt
+file_plain (Some view) name front is answers checks = plain_in (file_in view name) front is answers checks
+
+-- the view stayed, so what a call found is found in the first one
+pub found_in : (old new : Option View) (name : List ℕ) (front : Front) (result : Result (Unit {0}) FileFault) → new ≡ old → ChecksItems (bytes_in new name) front result → ChecksItems (bytes_in old name) front result
+found_in old new name front result same found = subst (λ v. ChecksItems (bytes_in v name) front result) same found

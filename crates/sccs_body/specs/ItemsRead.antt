@@ -1,0 +1,54 @@
+-- What reading the items of a body answers.
+use Rattle.std.specs.Prelude.{◌≡◌, ℕ, ◌+◌, true, List, [], ◌∷◌, Option, None, Some, Result, Ok, Err, Bool, if◌then◌else◌}
+use Rattle.sccs_history.specs.Body.{may_stand, is_over}
+use Rattle.sccs_history.specs.declared.headers.Item.{Item}
+use Rattle.sccs_base.specs.declared.streams.Memory.{Memory}
+use Rattle.sccs_marks.specs.States.{Knows}
+use Rattle.sccs_marks.specs.declared.body_states.BodyState.{BodyState}
+use Rattle.sccs_grammar.specs.Items.{item_at, items_from}
+use Rattle.sccs_grammar.specs.declared.faults.FileFault.{FileFault}
+use Rattle.sccs_grammar.specs.declared.faults.FileFault.TheVariants.{BadFormat, Failed}
+use Rattle.sccs_grammar.specs.declared.faults.FileFault.TheVariants as fault
+use Rattle.sccs_table.specs.Standing.{Standing, StandsIn, left}
+use Rattle.sccs_body.specs.Reader.{ItemPlace}
+
+-- the reader stands behind these items, the last first, of a body over live serials
+abbrev pub IsBehind : List ℕ → List Item → ItemPlace → Type 0
+IsBehind live before r = Knows live before r.state
+
+-- the line is an item that may stand, and the state is that behind it; or it is none
+abbrev pub TakesItem : List ℕ → List Item → BodyState → List ℕ → Result (Option Item) Memory → Type 0
+TakesItem live before new line (Ok (Some item)) = (item_at live before line ≡ Some item) × (may_stand live before item ≡ true) × Knows live (item ∷ before) new
+TakesItem live before new line (Ok None) = item_at live before line ≡ None
+TakesItem live before new line (Err memory) = Unit {0}
+
+-- whatever the disk tells: an item that is given may stand, and the reader then stands behind it; at None the body is whole
+abbrev pub Goes : List ℕ → List Item → ItemPlace → Result (Option Item) FileFault → Type 0
+Goes live before new (Ok (Some item)) = (may_stand live before item ≡ true) × IsBehind live (item ∷ before) new
+Goes live before new (Ok None) = is_over before ≡ true
+Goes live before new (Err e) = Unit {0}
+
+-- the next line of the file is the item; or nothing is left; or no item may stand at the line
+abbrev pub GivesItem : List ℕ → List Item → List ℕ → ItemPlace → ItemPlace → Result (Option Item) FileFault → Type 0
+GivesItem live before file old new (Ok (Some item)) =
+    StandsIn new.lines file × (new.number ≡ old.number + 1)
+    × ((line : List ℕ) × (left old.lines file ≡ record { lines = line ∷ (left new.lines file).lines; tail = (left new.lines file).tail }) × (item_at live before line ≡ Some item))
+GivesItem live before file old new (Ok None) = items_from live old.number before (left old.lines file).lines (left old.lines file).tail ≡ Ok []
+GivesItem live before file old new (Err (BadFormat line)) =
+    (line ≡ old.number) × (items_from live old.number before (left old.lines file).lines (left old.lines file).tail ≡ Err line)
+GivesItem live before file old new (Err Failed) = Unit {0}
+GivesItem live before file old new (Err fault.Memory) = Unit {0}
+GivesItem live before file old new (Err _) = ⊥
+
+-- the same of a told file in which the reader stands
+abbrev pub Gives : Option (List ℕ) → List ℕ → List Item → ItemPlace → ItemPlace → Result (Option Item) FileFault → Type 0
+Gives None live before old new result = Unit {0}
+Gives (Some file) live before old new result = StandsIn old.lines file → GivesItem live before file old new result
+
+-- what is given where no LF is left: nothing, where the body is over and no byte is left
+abbrev pub end_answer : Bool → ℕ → Result (Option Item) FileFault
+end_answer over number = if over then Ok None else Err (BadFormat number)
+
+-- a front's reader stands where the body begins
+abbrev pub fresh : List ℕ → ℕ → ℕ → Standing
+fresh name place size = record { name = name; held = []; place = place; size = size }

@@ -1,0 +1,4 @@
+pub mod BodyFile
+pub mod HeldItems
+pub mod ItemsRead
+pub mod Reader

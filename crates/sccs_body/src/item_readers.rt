@@ -1,0 +1,175 @@
+ghost use Rattle.std.specs.Prelude.{◌≡◌, ◌&&◌, ℕ, ◌+◌, ◌<◌, ◌≤◌, List, [], ◌∷◌, length, true, IfOk, IfSome, Err};
+ghost use Rattle.sccs_base.specs.Cut.{HasNoLf};
+ghost use Rattle.sccs_base.specs.Stream.{Rose};
+ghost use Rattle.sccs_disk.specs.Told.{seen};
+ghost use Rattle.sccs_grammar.specs.Items.{item_of};
+ghost use Rattle.sccs_history.specs.Applied.{live_serials};
+ghost use Rattle.sccs_history.specs.Numbers.{is_empty};
+ghost use Rattle.sccs_history.specs.Body.{is_over, may_stand};
+ghost use Rattle.sccs_marks.specs.States.{Knows};
+ghost use Rattle.sccs_table.specs.FrontFile.{IsPlaced};
+ghost use Rattle.sccs_table.specs.Standing.{bytes_in};
+ghost use Rattle.sccs_body.specs.ItemsRead.{Gives, Goes, IsBehind, TakesItem, fresh};
+
+use sccs_base::{Memory, Name};
+use sccs_disk::Disk;
+use sccs_grammar::{FileFault, Said, read_line};
+use sccs_history::{Item, Record};
+use sccs_marks::BodyState;
+use sccs_table::{Front, LineFault, LineReader};
+use std::alloc::Global;
+use std::marker::Model;
+
+/// Gives the items of a body, one line at a time. Contracts see where the next line stands, what the
+/// items so far leave open, and the next line's number.
+#[derive(Drop)]
+pub struct ItemReader {
+    alloc: Global,
+    lines: LineReader,
+    state: BodyState,
+    number: u64,
+}
+
+impl Model for ItemReader {
+    ghost use Rattle.sccs_body.specs.Reader.{ItemPlace};
+    ghost use Rattle.sccs_body.specs.HeldItems.{item_place, IsCounted};
+
+    ghost Value = { ItemPlace };
+
+    ghost view = { item_place };
+
+    ghost invariant = { IsCounted };
+}
+
+// the item that a line is
+fn item_of(said: Said) -> Option<Item>
+    ensures { result ≡ item_of said }
+{
+    match said {
+        Said::Plain(line) => Some(Item::Text(line)),
+        Said::Insert(serial) => Some(Item::Insert(serial)),
+        Said::Delete(serial) => Some(Item::Delete(serial)),
+        Said::End(serial) => Some(Item::End(serial)),
+        _ => None,
+    }
+}
+
+// whether an item may stand here; where it may, the state goes on behind it
+fn goes_on(state: &mut BodyState, item: &Item) -> Result<bool, Memory>
+    ensures { (live : List ℕ) (before : List Item) → Knows live before state.old
+        → IfOk result (λ stands. (may_stand live before item.now ≡ stands) × (stands ≡ true → Knows live (item.now ∷ before) state.new)) }
+{
+    match item {
+        Item::Text(_) => Ok(state.may_stand_text()),
+        Item::Insert(serial) => {
+            if !state.may_open(*serial) {
+                return Ok(false);
+            }
+            state.open(*serial, true)?;
+            Ok(true)
+        }
+        Item::Delete(serial) => {
+            if !state.may_open(*serial) {
+                return Ok(false);
+            }
+            state.open(*serial, false)?;
+            Ok(true)
+        }
+        Item::End(serial) => {
+            if !state.may_end(*serial) {
+                return Ok(false);
+            }
+            state.end(*serial);
+            Ok(true)
+        }
+    }
+}
+
+// the item that a line is, where one may stand; the state then goes on behind it
+fn next_item(alloc: Global, state: &mut BodyState, line: &[u8]) -> Result<Option<Item>, Memory>
+    requires { HasNoLf line.now }
+    ensures { (live : List ℕ) (before : List Item) → Knows live before state.old → TakesItem live before state.new line.now result }
+{
+    let Some(said) = read_line(alloc, line)? else {
+        return Ok(None);
+    };
+    let Some(item) = item_of(said) else {
+        return Ok(None);
+    };
+    if goes_on(state, &item)? {
+        Ok(Some(item))
+    } else {
+        Ok(None)
+    }
+}
+
+fn is_empty(line: &[u8]) -> bool
+    ensures { result ≡ is_empty line.now }
+{
+    line.is_empty()
+}
+
+// whether a body may end where these bytes are left
+fn ends_with(state: &BodyState, line: &[u8]) -> bool
+    ensures { (live : List ℕ) (before : List Item) → Knows live before state.now
+        → result ≡ (is_over before && is_empty line.now) }
+{
+    let over = state.is_over();
+    let empty = is_empty(line);
+    over && empty
+}
+
+impl ItemReader {
+    /// Stands at the front of the body that a front names.
+    pub fn new(alloc: Global, name: &Name, front: &Front) -> Result<ItemReader, Memory>
+        requires { IsPlaced front.now }
+        ensures lines { IfOk result (λ r. r.lines ≡ fresh name.now front.now.body_from front.now.size) }
+        ensures number { IfOk result (λ r. r.number ≡ front.now.body_line) }
+        ensures behind { IfOk result (IsBehind (live_serials front.now.header.records) []) }
+    {
+        let state = BodyState::new(alloc, front.header.records.items())?;
+        Ok(ItemReader {
+            alloc,
+            lines: LineReader::new(name, front.body_from, front.size),
+            state,
+            number: front.body_line,
+        })
+    }
+
+    /// The next item; None at the end of the body. BadFormat has the number of the line at which no
+    /// item may stand.
+    pub fn next<D: Disk>(&mut self, disk: &mut D) -> Result<Option<Item>, FileFault>
+        ensures same { D.told disk.new ≡ D.told disk.old }
+        ensures later { D.faults disk.old ≤ D.faults disk.new }
+        ensures cause { result ≡ Err FileFault.Failed → Rose (D.faults disk.old) (D.faults disk.new) }
+        ensures name { self.new.lines.name ≡ self.old.lines.name }
+        ensures size { self.new.lines.size ≡ self.old.lines.size }
+        ensures ahead { self.new.lines.place + length self.new.lines.held ≤ self.new.lines.size }
+        ensures further { IfOk result (λ o. IfSome o (λ _. self.old.lines.place < self.new.lines.place)) }
+        ensures goes { (live : List ℕ) (before : List Item) → IsBehind live before self.old → Goes live before self.new result }
+        ensures told { (live : List ℕ) (before : List Item) → IsBehind live before self.old
+            → Gives (bytes_in (seen (D.told disk.old)) self.old.lines.name) live before self.old self.new result }
+    {
+        let mut line = Vec::new(self.alloc);
+        let ended = match self.lines.next_line(disk, &mut line) {
+            Ok(ended) => ended,
+            Err(LineFault::Failed) => return Err(FileFault::Failed),
+            Err(LineFault::Memory) => return Err(FileFault::Memory),
+        };
+        if !ended {
+            if ends_with(&self.state, line.as_slice()) {
+                return Ok(None);
+            }
+            return Err(FileFault::BadFormat(self.number));
+        }
+        let _place = self.lines.place();
+        match next_item(self.alloc, &mut self.state, line.as_slice()) {
+            Ok(Some(item)) => {
+                self.number += 1;
+                Ok(Some(item))
+            }
+            Ok(None) => Err(FileFault::BadFormat(self.number)),
+            Err(_) => Err(FileFault::Memory),
+        }
+    }
+}

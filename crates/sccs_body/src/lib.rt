@@ -1,0 +1,9 @@
+//! The body of an s-file: its items, and the check of a whole file.
+#![tactic(auto)]
+
+mod bodies;
+mod item_readers;
+
+pub use bodies::inspect;
+pub use item_readers::ItemReader;
+pub use sccs_history::Item;

@@ -1,0 +1,149 @@
+//! The fields of a line.
+ghost use Rattle.std.specs.Prelude.{◌≡◌, ◌<◌, ◌^◌, ◌≤◌, List, [], ◌∷◌, length, map, option_map, IfOk, IfSome, MatchOption};
+ghost use Rattle.sccs_base.specs.Cut.{HasNoLf};
+ghost use Rattle.sccs_grammar.specs.Words.{one, three, words};
+ghost use Rattle.sccs_grammar.specs.Said.{is_removed, is_set_off, listed, padded_serial, place, plain_serial, predecessor, serial, serials, text};
+
+use crate::blanks::{begins_blank, ends_blank, next_word, one_word, skip};
+use sccs_base::{Line, Memory};
+use sccs_history::Serials;
+use sccs_sid::reading::{byte_at, number, number_at};
+use std::alloc::Global;
+
+/// Three numbers of at most `most` digits, with a separator between two.
+#[tactic(auto, unfolding(crate::specs::Words::three))]
+pub fn three(most: u32, separator: u8, word: &[u8]) -> Option<(u32, u32, u32)>
+    requires low { 0 < most }
+    requires high { most ≤ 9 }
+    ensures { result ≡ three most separator word.now }
+{
+    let Ok((a, rest)) = number_at(most, word) else {
+        return None;
+    };
+    let Ok(rest) = byte_at(separator, rest) else {
+        return None;
+    };
+    let Ok((b, rest)) = number_at(most, rest) else {
+        return None;
+    };
+    let Ok(rest) = byte_at(separator, rest) else {
+        return None;
+    };
+    let c = number(most, rest)?;
+    Some((a, b, c))
+}
+
+/// A serial: 1 to 65535, in one to five digits.
+#[tactic(auto, unfolding(crate::specs::Said::serial))]
+pub fn serial(word: &[u8]) -> Option<u16>
+    ensures { result ≡ serial word.now }
+{
+    let n = number(5, word)?;
+    if 0 < n && n < 65536 {
+        Some(n as u16)
+    } else {
+        None
+    }
+}
+
+/// The same or 0.
+#[tactic(auto, unfolding(crate::specs::Said::predecessor))]
+pub fn predecessor(word: &[u8]) -> Option<u16>
+    ensures { result ≡ predecessor word.now }
+{
+    let n = number(5, word)?;
+    if n < 65536 { Some(n as u16) } else { None }
+}
+
+/// A serial without zeros in front.
+pub fn plain_serial(word: &[u8]) -> Option<u16>
+    ensures { result ≡ plain_serial word.now }
+{
+    let (first, _) = word.split_first()?;
+    if *first == b'0' { None } else { serial(word) }
+}
+
+/// Whether a record is removed: `R`, or `D`.
+pub fn removed(word: &[u8]) -> Option<bool>
+    ensures { result ≡ is_removed word.now }
+{
+    match word {
+        [b'D'] => Some(false),
+        [b'R'] => Some(true),
+        _ => None,
+    }
+}
+
+/// Whether bytes begin with a blank and don't end with one.
+pub fn is_set_off(bytes: &[u8]) -> bool
+    ensures { result ≡ is_set_off bytes.now }
+{
+    begins_blank(bytes) && !ends_blank(bytes)
+}
+
+/// The one serial behind blanks, with any zeros in front.
+#[tactic(auto, unfolding(crate::specs::Said::place))]
+pub fn place(bytes: &[u8]) -> Option<u16>
+    ensures { result ≡ place bytes.now }
+{
+    if !is_set_off(bytes) {
+        return None;
+    }
+    let word = one_word(bytes)?;
+    serial(skip(b'0', word))
+}
+
+/// The words of bytes, all of them serials without zeros in front.
+#[tactic(auto, unfolding(crate::specs::Said::serials))]
+fn serials(alloc: Global, bytes: &[u8]) -> Result<Option<Serials>, Memory>
+    ensures { IfOk result (λ o. o ≡ serials (words bytes.now)) }
+{
+    let mut found = Serials::empty(alloc);
+    let mut rest = bytes;
+    'words: while let Some((word, behind)) = next_word(rest) {
+        let Some(n) = plain_serial(word) else {
+            return Ok(None);
+        };
+        found.push(n)?;
+        rest = behind;
+    }
+    Ok(Some(found))
+}
+
+/// What stands on the line of a list: serials, each behind blanks, or blanks or nothing.
+#[tactic(auto, unfolding(crate::specs::Said::listed))]
+pub fn listed(alloc: Global, bytes: &[u8]) -> Result<Option<Serials>, Memory>
+    ensures { IfOk result (λ o. o ≡ listed bytes.now) }
+{
+    if skip(b' ', bytes).is_empty() {
+        return Ok(Some(Serials::empty(alloc)));
+    }
+    if is_set_off(bytes) {
+        serials(alloc, bytes)
+    } else {
+        Ok(None)
+    }
+}
+
+/// A line of bytes that have no LF.
+pub fn line_of(alloc: Global, bytes: &[u8]) -> Result<Line, Memory>
+    requires { HasNoLf bytes.now }
+    ensures { IfOk result (λ line. line ≡ bytes.now) }
+{
+    match Line::new(alloc, bytes) {
+        Ok(line) => Ok(line),
+        Err(_) => Err(Memory),
+    }
+}
+
+/// A text behind one blank, or no text.
+pub fn text(alloc: Global, bytes: &[u8]) -> Result<Option<Line>, Memory>
+    requires { HasNoLf bytes.now }
+    ensures { IfOk result (λ o. o ≡ text bytes.now) }
+{
+    match bytes {
+        [] => Ok(Some(line_of(alloc, bytes)?)),
+        [b' ', rest @ ..] => Ok(Some(line_of(alloc, rest)?)),
+        _ => Ok(None),
+    }
+}

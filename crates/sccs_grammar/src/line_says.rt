@@ -1,0 +1,289 @@
+//! What one line says.
+ghost use Rattle.std.specs.Prelude.{◌≡◌, ◌||◌, [], ◌∷◌, option_map, IfOk, IfSome, MatchOption};
+ghost use Rattle.sccs_base.specs.Cut.{HasNoLf};
+ghost use Rattle.sccs_history.specs.Numbers.{is_empty};
+ghost use Rattle.sccs_sid.specs.Reading.{only};
+ghost use Rattle.sccs_grammar.specs.Words.{begins_blank, drop_blanks, exactly_seven, skip_blanks, words};
+ghost use Rattle.sccs_grammar.specs.Said.{behind_soh, control, counts, delta, delta_of, flag, listed, said, text};
+
+use crate::blanks::{begins_blank, drop_blanks, next_word, one_word, skip};
+use crate::fields::{
+    is_set_off, line_of, listed, place, predecessor, removed, serial, text, three,
+};
+use crate::sayings::{Said, Which};
+use sccs_base::{Line, Login, Memory, Text};
+use sccs_history::{Flag, Record, Serials};
+use sccs_sid::{Moment, Sid};
+use std::alloc::Global;
+
+// the words of a delta line
+#[derive(Clone, Copy)]
+struct DeltaWords<'a> {
+    kind: &'a [u8],
+    sid: &'a [u8],
+    date: &'a [u8],
+    time: &'a [u8],
+    login: &'a [u8],
+    serial: &'a [u8],
+    predecessor: &'a [u8],
+}
+
+// exactly seven words
+fn delta_words(bytes: &[u8]) -> Option<DeltaWords<'_>>
+    ensures { option_map (λ w. w.kind.now ∷ w.sid.now ∷ w.date.now ∷ w.time.now ∷ w.login.now ∷ w.serial.now ∷ w.predecessor.now ∷ []) result
+        ≡ exactly_seven (words bytes.now) }
+{
+    let (kind, rest) = next_word(bytes)?;
+    let (sid, rest) = next_word(rest)?;
+    let (date, rest) = next_word(rest)?;
+    let (time, rest) = next_word(rest)?;
+    let (login, rest) = next_word(rest)?;
+    let (serial, rest) = next_word(rest)?;
+    let predecessor = one_word(rest)?;
+    Some(DeltaWords {
+        kind,
+        sid,
+        date,
+        time,
+        login,
+        serial,
+        predecessor,
+    })
+}
+
+// a record without lists, MRs, comments and counts
+#[tactic(auto, unfolding(crate::specs::Said::delta_of))]
+fn delta_of(alloc: Global, words: &DeltaWords<'_>) -> Option<Said>
+    ensures { result ≡ delta_of words.now.kind.now words.now.sid.now words.now.date.now words.now.time.now
+        words.now.login.now words.now.serial.now words.now.predecessor.now }
+{
+    let removed = removed(words.kind)?;
+    let Ok(sid) = Sid::read(words.sid) else {
+        return None;
+    };
+    let Ok(moment) = Moment::read(words.date, words.time) else {
+        return None;
+    };
+    let login = Login::read(words.login)?;
+    let serial = serial(words.serial)?;
+    let predecessor = predecessor(words.predecessor)?;
+    Some(Said::Delta(Record {
+        serial,
+        removed,
+        sid,
+        moment,
+        login,
+        predecessor,
+        include: Serials::empty(alloc),
+        exclude: Serials::empty(alloc),
+        ignore: Serials::empty(alloc),
+        mrs: Text::empty(alloc),
+        comments: Text::empty(alloc),
+        inserted: 0,
+        deleted: 0,
+        unchanged: 0,
+    }))
+}
+
+// what a delta line says behind its letter
+fn delta(alloc: Global, bytes: &[u8]) -> Option<Said>
+    ensures { result ≡ delta (words bytes.now) }
+{
+    let words = delta_words(bytes)?;
+    delta_of(alloc, &words)
+}
+
+// lines inserted, deleted and unchanged
+
+#[tactic(auto, unfolding(crate::specs::Said::counts))]
+fn counts(bytes: &[u8]) -> Option<Said>
+    ensures { result ≡ counts (words bytes.now) }
+{
+    let word = one_word(bytes)?;
+    let (inserted, deleted, unchanged) = three(5, b'/', word)?;
+    Some(Said::Counts(inserted, deleted, unchanged))
+}
+
+// whether bytes end or go on with a blank
+fn ends_or_blank(bytes: &[u8]) -> bool
+    ensures { result ≡ (is_empty bytes.now || begins_blank bytes.now) }
+{
+    bytes.is_empty() || begins_blank(bytes)
+}
+
+// a text without the blanks around it
+fn trimmed(alloc: Global, bytes: &[u8]) -> Result<Line, Memory>
+    requires { HasNoLf bytes.now }
+    ensures { IfOk result (λ line. line ≡ drop_blanks (skip_blanks bytes.now)) }
+{
+    line_of(alloc, drop_blanks(skip(b' ', bytes)))
+}
+
+// a flag's letter, and behind blanks its text without blanks at the end
+fn flag(alloc: Global, bytes: &[u8]) -> Result<Option<Said>, Memory>
+    requires { HasNoLf bytes.now }
+    ensures { IfOk result (λ o. o ≡ flag bytes.now) }
+{
+    let [letter, rest @ ..] = bytes else {
+        return Ok(None);
+    };
+    if !ends_or_blank(rest) {
+        return Ok(None);
+    }
+    let text = trimmed(alloc, rest)?;
+    Ok(Some(Said::FlagIs(Flag {
+        letter: *letter,
+        text,
+    })))
+}
+
+// a list of one kind
+fn list(alloc: Global, which: Which, bytes: &[u8]) -> Result<Option<Said>, Memory>
+    ensures { IfOk result (λ o. o ≡ option_map (Said.Listed which) (listed bytes.now)) }
+{
+    match listed(alloc, bytes)? {
+        Some(serials) => Ok(Some(Said::Listed(which, serials))),
+        None => Ok(None),
+    }
+}
+
+// an MR or a comment
+fn mr(alloc: Global, bytes: &[u8]) -> Result<Option<Said>, Memory>
+    requires { HasNoLf bytes.now }
+    ensures { IfOk result (λ o. o ≡ option_map Said.Mr (text bytes.now)) }
+{
+    match text(alloc, bytes)? {
+        Some(line) => Ok(Some(Said::Mr(line))),
+        None => Ok(None),
+    }
+}
+
+fn comment(alloc: Global, bytes: &[u8]) -> Result<Option<Said>, Memory>
+    requires { HasNoLf bytes.now }
+    ensures { IfOk result (λ o. o ≡ option_map Said.Comment (text bytes.now)) }
+{
+    match text(alloc, bytes)? {
+        Some(line) => Ok(Some(Said::Comment(line))),
+        None => Ok(None),
+    }
+}
+
+// a line that begins or ends a part
+fn alone(bytes: &[u8], said: Said) -> Option<Said>
+    ensures { result ≡ only (is_empty bytes.now) said }
+{
+    if bytes.is_empty() { Some(said) } else { None }
+}
+
+// what a statistics line says behind its letter
+#[tactic(auto, unfolding(crate::specs::Said::control))]
+fn counts_line(bytes: &[u8]) -> Option<Said>
+    ensures { result ≡ control 115 bytes.now }
+{
+    if is_set_off(bytes) {
+        counts(bytes)
+    } else {
+        None
+    }
+}
+
+// what a delta line says
+#[tactic(auto, unfolding(crate::specs::Said::control))]
+fn delta_line(alloc: Global, bytes: &[u8]) -> Option<Said>
+    ensures { result ≡ control 100 bytes.now }
+{
+    if begins_blank(bytes) {
+        delta(alloc, bytes)
+    } else {
+        None
+    }
+}
+
+// what the line of a flag says
+#[tactic(auto, unfolding(crate::specs::Said::control))]
+fn flag_line(alloc: Global, bytes: &[u8]) -> Result<Option<Said>, Memory>
+    requires { HasNoLf bytes.now }
+    ensures { IfOk result (λ o. o ≡ control 102 bytes.now) }
+{
+    if begins_blank(bytes) {
+        flag(alloc, skip(b' ', bytes))
+    } else {
+        Ok(None)
+    }
+}
+
+// what a control line of a body says
+#[tactic(auto, unfolding(crate::specs::Said::control))]
+fn insert_line(bytes: &[u8]) -> Option<Said>
+    ensures { result ≡ control 73 bytes.now }
+{
+    let serial = place(bytes)?;
+    Some(Said::Insert(serial))
+}
+
+#[tactic(auto, unfolding(crate::specs::Said::control))]
+fn delete_line(bytes: &[u8]) -> Option<Said>
+    ensures { result ≡ control 68 bytes.now }
+{
+    let serial = place(bytes)?;
+    Some(Said::Delete(serial))
+}
+
+#[tactic(auto, unfolding(crate::specs::Said::control))]
+fn end_line(bytes: &[u8]) -> Option<Said>
+    ensures { result ≡ control 69 bytes.now }
+{
+    let serial = place(bytes)?;
+    Some(Said::End(serial))
+}
+
+// what follows SOH and a letter
+#[tactic(auto, unfolding(crate::specs::Said::control))]
+fn control(alloc: Global, letter: u8, bytes: &[u8]) -> Result<Option<Said>, Memory>
+    requires { HasNoLf bytes.now }
+    ensures { IfOk result (λ o. o ≡ control letter bytes.now) }
+{
+    match letter {
+        b's' => Ok(counts_line(bytes)),
+        b'd' => Ok(delta_line(alloc, bytes)),
+        b'i' => list(alloc, Which::Included, bytes),
+        b'x' => list(alloc, Which::Excluded, bytes),
+        b'g' => list(alloc, Which::Ignored, bytes),
+        b'm' => mr(alloc, bytes),
+        b'c' => comment(alloc, bytes),
+        b'e' => Ok(alone(bytes, Said::EndEntry)),
+        b'u' => Ok(alone(bytes, Said::Users)),
+        b'U' => Ok(alone(bytes, Said::EndUsers)),
+        b'f' => flag_line(alloc, bytes),
+        b't' => Ok(alone(bytes, Said::Description)),
+        b'T' => Ok(alone(bytes, Said::EndDescription)),
+        b'I' => Ok(insert_line(bytes)),
+        b'D' => Ok(delete_line(bytes)),
+        b'E' => Ok(end_line(bytes)),
+        _ => Ok(None),
+    }
+}
+
+// what a line that begins with SOH says
+fn behind_soh(alloc: Global, bytes: &[u8]) -> Result<Option<Said>, Memory>
+    requires { HasNoLf bytes.now }
+    ensures { IfOk result (λ o. o ≡ behind_soh bytes.now) }
+{
+    match bytes {
+        [letter, rest @ ..] => control(alloc, *letter, rest),
+        [] => Ok(None),
+    }
+}
+
+/// What a line says by itself; None where it has no spelling anywhere.
+#[tactic(auto, unfolding(crate::specs::Said::said))]
+pub fn read_line(alloc: Global, line: &[u8]) -> Result<Option<Said>, Memory>
+    requires { HasNoLf line.now }
+    ensures { IfOk result (λ o. o ≡ said line.now) }
+{
+    if let [1, rest @ ..] = line {
+        return behind_soh(alloc, rest);
+    }
+    let text = line_of(alloc, line)?;
+    Ok(Some(Said::Plain(text)))
+}

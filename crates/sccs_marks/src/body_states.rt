@@ -1,0 +1,124 @@
+ghost use Rattle.std.specs.Prelude.{◌≡◌, ℕ, List, [], ◌∷◌, true, false, slice_index_or, length, IfOk, OnOk, OnErr};
+ghost use Rattle.sccs_history.specs.Applied.{live_serials};
+ghost use Rattle.sccs_history.specs.Body.{may_stand as may_stand_spec, is_over as is_over_spec};
+ghost use Rattle.sccs_history.specs.Numbers.{has};
+ghost use Rattle.sccs_history.specs.declared.headers.Item.{Item};
+ghost use Rattle.sccs_history.specs.declared.headers.Item.TheVariants as items;
+
+use crate::open_serials::{Open, close_serial, is_closed, open_serial, some_inserts};
+use sccs_base::Memory;
+use sccs_history::{Item, Record};
+use std::alloc::Global;
+
+/// What is known at a place of a body: the serials that are open, and those that live.
+#[derive(Drop)]
+pub struct BodyState {
+    opens: Vec<Open>,
+    lives: Vec<bool>,
+}
+
+// marks the live serials of a table
+fn mark_live(records: &[Record], lives: &mut [bool])
+    requires clear { (n : ℕ) → slice_index_or lives.old n false ≡ false }
+    requires sized { length lives.old ≡ 65536 }
+    ensures { (n : ℕ) → slice_index_or lives.new n false ≡ has (live_serials records.now) n }
+{
+    for record in records {
+        if !record.removed {
+            lives[record.serial as usize] = true;
+        }
+    }
+}
+
+// of so many serials none lives
+fn none_lives(alloc: Global, count: usize) -> Result<Vec<bool>, Memory>
+    ensures sized { IfOk result (λ v. length v.items ≡ count) }
+    ensures clear { IfOk result (λ v. (n : ℕ) → slice_index_or v.items n false ≡ false) }
+{
+    let lives = vec![in alloc; false; count]?;
+    Ok(lives)
+}
+
+fn lives(lives: &[bool], serial: u16) -> bool
+    ensures { result ≡ slice_index_or lives.now serial false }
+{
+    match lives.get(serial as usize) {
+        Some(live) => *live,
+        None => false,
+    }
+}
+
+impl BodyState {
+    ghost use Rattle.sccs_marks.specs.States.{Knows};
+
+    /// Before all items of a body over the live serials of a table.
+    pub fn new(alloc: Global, records: &[Record]) -> Result<BodyState, Memory>
+        ensures { IfOk result (λ state. Knows (live_serials records.now) [] state) }
+    {
+        let mut lives = none_lives(alloc, 65536)?;
+        mark_live(records, lives.as_mut_slice());
+        Ok(BodyState {
+            opens: Vec::new(alloc),
+            lives,
+        })
+    }
+
+    /// Whether a text line may stand here.
+    pub fn may_stand_text(&self) -> bool
+        ensures { (live : List ℕ) (before : List Item) (text : List ℕ) → Knows live before self.now
+            → result ≡ may_stand_spec live before (items.Text text) }
+    {
+        some_inserts(&self.opens)
+    }
+
+    /// Whether a serial may be opened here.
+    pub fn may_open(&self, serial: u16) -> bool
+        ensures insert { (live : List ℕ) (before : List Item) → Knows live before self.now
+            → result ≡ may_stand_spec live before (items.Insert serial) }
+        ensures delete { (live : List ℕ) (before : List Item) → Knows live before self.now
+            → result ≡ may_stand_spec live before (items.Delete serial) }
+    {
+        lives(&self.lives, serial) && is_closed(&self.opens, serial)
+    }
+
+    /// Whether a serial may end here.
+    pub fn may_end(&self, serial: u16) -> bool
+        ensures { (live : List ℕ) (before : List Item) → Knows live before self.now
+            → result ≡ may_stand_spec live before (items.End serial) }
+    {
+        lives(&self.lives, serial) && !is_closed(&self.opens, serial)
+    }
+
+    /// Goes on behind an `Insert` or a `Delete` that may stand here. At want of memory nothing changes.
+    pub fn open(&mut self, serial: u16, inserts: bool) -> Result<(), Memory>
+        ensures insert { OnOk result ((live : List ℕ) (before : List Item) → Knows live before self.old
+            → may_stand_spec live before (items.Insert serial) ≡ true → inserts ≡ true
+            → Knows live (items.Insert serial ∷ before) self.new) }
+        ensures delete { OnOk result ((live : List ℕ) (before : List Item) → Knows live before self.old
+            → may_stand_spec live before (items.Delete serial) ≡ true → inserts ≡ false
+            → Knows live (items.Delete serial ∷ before) self.new) }
+        ensures err { OnErr result ((live : List ℕ) (before : List Item) → Knows live before self.old
+            → Knows live before self.new) }
+    {
+        match open_serial(&mut self.opens, serial, inserts) {
+            Ok(()) => Ok(()),
+            Err(_) => Err(Memory),
+        }
+    }
+
+    /// Goes on behind an `End`.
+    pub fn end(&mut self, serial: u16)
+        ensures { (live : List ℕ) (before : List Item) → Knows live before self.old
+            → Knows live (items.End serial ∷ before) self.new }
+    {
+        close_serial(&mut self.opens, serial);
+    }
+
+    /// Whether a body may end here.
+    pub fn is_over(&self) -> bool
+        ensures { (live : List ℕ) (before : List Item) → Knows live before self.now
+            → result ≡ is_over_spec before }
+    {
+        self.opens.as_slice().is_empty()
+    }
+}

@@ -1,0 +1,7 @@
+//! Which serials are open at a place of a body, and what may stand there: sccsfile(4), "Body".
+#![tactic(auto)]
+
+mod body_states;
+mod open_serials;
+
+pub use body_states::BodyState;

@@ -1,0 +1,30 @@
+ghost use Rattle.std.specs.Prelude.{◌≡◌, ◌≤◌, ℕ, not, ◌&&◌, true, false, Bool, List, None, Some, map};
+ghost use Rattle.std.specs.List.{AllByRecursion};
+ghost use Rattle.sccs_sid.specs.declared.sids.Sid.{Sid};
+ghost use Rattle.sccs_sid.specs.declared.sid_lists.Range.{Range};
+ghost use Rattle.sccs_history.specs.declared.headers.Record.{Record};
+ghost use Rattle.sccs_history.specs.Applied.{serials_of};
+ghost use Rattle.sccs_history.specs.Numbers.{Falls, has};
+ghost use Rattle.sccs_sets.specs.Naming.{IsRising, in_range, range_named};
+ghost use Rattle.sccs_sets.specs.Retrieved.{live_where, newest_where};
+
+/// The first live record that passes a test has the greatest serial of those that do, and where none
+/// is found none passes.
+pub fn newest_records()
+    ensures some { (test : Sid → Bool) (records : List Record) (n : ℕ) → Falls 65536 (serials_of records)
+        → newest_where test records ≡ Some n → AllByRecursion (λ r. r.serial ≤ n) (live_where test records) }
+    ensures one { (test : Sid → Bool) (records : List Record) (n : ℕ)
+        → newest_where test records ≡ Some n → has (serials_of (live_where test records)) n ≡ true }
+    ensures none { (test : Sid → Bool) (records : List Record)
+        → newest_where test records ≡ None
+        → AllByRecursion (λ r. (not r.removed && test r.sid) ≡ false) records }
+{}
+
+/// A range names the live deltas on its line from one end to the other and no others, in rising
+/// order of their SIDs.
+pub fn ranges()
+    ensures named { (records : List Record) (range : Range) (n : ℕ)
+        → has (map (λ q. q.serial) (range_named records range)) n
+        ≡ has (serials_of (live_where (in_range range) records)) n }
+    ensures order { (records : List Record) (range : Range) → IsRising (range_named records range) }
+{}

@@ -1,0 +1,60 @@
+//! The definitions tried on small tables: what each clause says holds by computation.
+ghost use Rattle.std.specs.Prelude.{◌≡◌, true, false, [], ◌∷◌, None, Some, Ok, Err};
+ghost use Rattle.sccs_history.specs.History.{IsTable};
+ghost use Rattle.sccs_sid.specs.declared.sids.Spec.TheVariants.{Release, Branch, Full};
+ghost use Rattle.sccs_sets.specs.Naming.{named_serials};
+ghost use Rattle.sccs_sets.specs.Retrieved.{branch_sid, retrieved, trunk_sid};
+ghost use Rattle.sccs_sets.specs.Samples.{from_to, single, sixteen_table};
+ghost use Rattle.sccs_sets.specs.Sets.{both_listed};
+
+/// The SIDs that are got, in each case of what is given, and where none is.
+pub fn sids_got()
+    ensures table { IsTable sixteen_table }
+    ensures none { retrieved sixteen_table None false ≡ Some 4 }
+    ensures later_release { retrieved sixteen_table (Some (Release 4)) false ≡ Some 4 }
+    ensures newest_release { retrieved sixteen_table (Some (Release 3)) false ≡ Some 4 }
+    ensures no_release { retrieved sixteen_table (Some (Release 2)) false ≡ Some 2 }
+    ensures release { retrieved sixteen_table (Some (Release 1)) false ≡ Some 2 }
+    ensures trunk_tip { retrieved sixteen_table (Some (Full (trunk_sid 3 2))) false ≡ Some 4 }
+    ensures trunk { retrieved sixteen_table (Some (Full (trunk_sid 1 1))) false ≡ Some 1 }
+    ensures branch { retrieved sixteen_table (Some (Branch 1 2 1)) false ≡ Some 6 }
+    ensures branch_tip { retrieved sixteen_table (Some (Full (branch_sid 1 2 1 2))) false ≡ Some 6 }
+    ensures branch_sid { retrieved sixteen_table (Some (Full (branch_sid 1 2 1 1))) false ≡ Some 5 }
+    ensures not_there { retrieved sixteen_table (Some (Full (trunk_sid 9 9))) false ≡ None }
+    ensures no_branch { retrieved sixteen_table (Some (Branch 1 1 1)) false ≡ None }
+    ensures removed { retrieved sixteen_table (Some (Full (trunk_sid 4 1))) false ≡ None }
+{}
+
+/// The SIDs that are got where the top is asked for.
+pub fn tops_got()
+    ensures none { retrieved sixteen_table None true ≡ Some 4 }
+    ensures release { retrieved sixteen_table (Some (Release 1)) true ≡ Some 7 }
+    ensures no_release { retrieved sixteen_table (Some (Release 2)) true ≡ None }
+    ensures removed_release { retrieved sixteen_table (Some (Release 4)) true ≡ None }
+    ensures level { retrieved sixteen_table (Some (Full (trunk_sid 1 2))) true ≡ Some 7 }
+    ensures lone_level { retrieved sixteen_table (Some (Full (trunk_sid 1 1))) true ≡ Some 1 }
+    ensures branch { retrieved sixteen_table (Some (Branch 1 2 1)) true ≡ Some 6 }
+    ensures branch_sid { retrieved sixteen_table (Some (Full (branch_sid 1 2 1 1))) true ≡ Some 5 }
+{}
+
+/// The serials that lists name, each once, and the SID that is named as bad.
+pub fn lists_named()
+    ensures trunk { named_serials sixteen_table [] (from_to (trunk_sid 1 1) (trunk_sid 3 2) ∷ [])
+        ≡ Ok (1 ∷ 2 ∷ 3 ∷ 4 ∷ []) }
+    ensures branch { named_serials sixteen_table []
+        (single (branch_sid 1 2 1 2) ∷ from_to (branch_sid 1 2 1 1) (branch_sid 1 2 1 2) ∷ [])
+        ≡ Ok (6 ∷ 5 ∷ []) }
+    ensures first_end { named_serials sixteen_table [] (from_to (trunk_sid 9 9) (trunk_sid 9 8) ∷ [])
+        ≡ Err (trunk_sid 9 9) }
+    ensures last_end { named_serials sixteen_table [] (from_to (trunk_sid 1 1) (trunk_sid 4 1) ∷ [])
+        ≡ Err (trunk_sid 4 1) }
+    ensures order { named_serials sixteen_table []
+        (single (trunk_sid 1 1) ∷ from_to (trunk_sid 3 1) (trunk_sid 1 2) ∷ single (trunk_sid 9 9) ∷ [])
+        ≡ Err (trunk_sid 1 2) }
+    ensures line { named_serials sixteen_table [] (from_to (trunk_sid 1 1) (branch_sid 1 2 1 1) ∷ [])
+        ≡ Err (branch_sid 1 2 1 1) }
+    ensures branches { named_serials sixteen_table []
+        (from_to (branch_sid 1 2 1 1) (branch_sid 1 2 2 1) ∷ [])
+        ≡ Err (branch_sid 1 2 2 1) }
+    ensures both { both_listed sixteen_table (3 ∷ 2 ∷ 1 ∷ []) (1 ∷ 2 ∷ []) ≡ Some (trunk_sid 1 2) }
+{}

@@ -1,0 +1,155 @@
+use crate::words::{drop_blanks, next_word, one_word, three};
+use crate::*;
+use sccs_base::MemorySink;
+use std::test::Fail;
+
+const fn sid(release: u16, level: u16, branch: u16, sequence: u16) -> Sid {
+    Sid {
+        release,
+        level,
+        branch,
+        sequence,
+    }
+}
+
+#[test]
+fn lists_and_their_places(rt: HostRuntime) -> Result<(), Fail> {
+    let rows: [(&[u8], u64); 20] = [
+        (b"1.2", 0),
+        (b"1.2-1.4", 0),
+        (b"1.1,1.3-1.2.1.10,0002.9", 0),
+        (b"1.0,1.2", 4),
+        (b"1.000", 6),
+        (b"1.0000", 6),
+        (b"1.00x", 5),
+        (b"1.12345", 7),
+        (b"1.2.3,", 6),
+        (b"1.2.3", 6),
+        (b"", 1),
+        (b"1.2,", 5),
+        (b"1.2-", 5),
+        (b"1", 2),
+        (b"1.", 3),
+        (b"1.2,,1.3", 5),
+        (b"1.2, 1.3", 5),
+        (b"1.2-1.3-1.4", 8),
+        (b"1.2.3.4.5", 8),
+        (b"0.1", 2),
+    ];
+    for (text, place) in rows {
+        let found = match SidList::read(rt.alloc(), text) {
+            Ok(_) => 0,
+            Err(ListFault::Malformed(place)) => place,
+            Err(ListFault::Memory) => 99,
+        };
+        assert_eq!(rt; found, place);
+    }
+    Ok(())
+}
+
+#[test]
+fn a_list_of_ranges(rt: HostRuntime) -> Result<(), Fail> {
+    let one = Range {
+        first: sid(1, 2, 0, 0),
+        last: sid(1, 2, 0, 0),
+    };
+    let two = Range {
+        first: sid(1, 3, 0, 0),
+        last: sid(1, 2, 1, 10),
+    };
+    let mut list = SidList::read(rt.alloc(), b"1.2,1.3-1.2.1.10")?;
+    assert_eq!(rt; list.len(), 2);
+    assert_eq!(rt; *list.at(0), one);
+    assert_eq!(rt; *list.at(1), two);
+    list.insert(0, two)?;
+    list.remove(1);
+    assert_eq!(rt; *list.at(0), two);
+    assert_eq!(rt; SidList::empty(rt.alloc()).len(), 0);
+    Ok(())
+}
+
+#[test]
+fn sids_and_their_fronts(rt: HostRuntime) -> Result<(), Fail> {
+    assert_eq!(rt; Sid::read(b"1.2"), Ok(sid(1, 2, 0, 0)));
+    assert_eq!(rt; Sid::read(b"1.2.3.0004"), Ok(sid(1, 2, 3, 4)));
+    assert_eq!(rt; Sid::read(b"1.0"), Err(SidFault::OutOfRange));
+    assert_eq!(rt; Sid::read(b"1.0.1"), Err(SidFault::Malformed));
+    assert_eq!(rt; Spec::read(b"7"), Ok(Spec::Release(7)));
+    assert_eq!(rt; Spec::read(b"1.2.3"), Ok(Spec::Branch(1, 2, 3)));
+    assert_eq!(rt; Spec::read(b"1.2"), Ok(Spec::Full(sid(1, 2, 0, 0))));
+    assert_eq!(rt; Spec::read(b"1.2.0"), Err(SidFault::OutOfRange));
+    assert_eq!(rt; Spec::read(b"1."), Err(SidFault::Malformed));
+    Ok(())
+}
+
+#[test]
+fn moments_and_cutoffs(rt: HostRuntime) -> Result<(), Fail> {
+    let later = Ok(Moment {
+        seconds: 162_863_999,
+    });
+    let named = Ok(Moment {
+        seconds: 223_723_345,
+    });
+    assert_eq!(rt; Moment::read(b"75/2/28", b"23:59:59"), later);
+    assert_eq!(rt;
+        Moment::read(b"75/2/29", b"0:0:0"),
+        Err(MomentFault { place: 3 })
+    );
+    assert_eq!(rt;
+        Moment::read(b"75", b"0:0:0"),
+        Err(MomentFault { place: 2 })
+    );
+    assert_eq!(rt;
+        Moment::read(b"75/2/1", b"0:0"),
+        Err(MomentFault { place: 6 })
+    );
+    assert_eq!(rt; Cutoff::read(b"7502"), later);
+    assert_eq!(rt; Cutoff::read(b"77/2/2 9:22:25"), named);
+    assert_eq!(rt; Cutoff::read(b"770202092225"), named);
+    assert_eq!(rt; Cutoff::read(b""), Err(MomentFault { place: 1 }));
+    assert_eq!(rt; Cutoff::read(b"7513"), Err(MomentFault { place: 2 }));
+    assert_eq!(rt;
+        Cutoff::read(b"7702020922251"),
+        Err(MomentFault { place: 7 })
+    );
+    assert_eq!(rt; Moment::from_seconds(3_124_224_000), None);
+    assert!(rt; Moment::from_seconds(-31_536_000).is_some());
+    Ok(())
+}
+
+#[test]
+fn written_texts(rt: HostRuntime) -> Result<(), Fail> {
+    let mut sink = MemorySink::new(rt.alloc(), 400, &[])?;
+    sid(1, 20, 0, 0).write(&mut sink)?;
+    sid(1, 2, 3, 4000).write(&mut sink)?;
+    let leap = Moment {
+        seconds: 951_868_799,
+    };
+    leap.write(&mut sink)?;
+    for refusal in [
+        Refusal::BadName,
+        Refusal::BadSum(3, 65535),
+        Refusal::BadFormat(12),
+        Refusal::BadList(sid(1, 2, 3, 4)),
+        Refusal::BadList(sid(5, 6, 0, 0)),
+        Refusal::Unbuilt,
+    ] {
+        write_refusal(b"s.a", &refusal, &mut sink)?;
+    }
+    let wanted =
+        b"1.201.2.3.400000/02/29 23:59:59ERROR [s.a]: not a name of an s-file (01)\nERROR [s.a]: bad sum: stored 00003, computed 65535 (07)\nERROR [s.a]: format error at line 12 (08)\nERROR [s.a]: bad list at 1.2.3.4 (16)\nERROR [s.a]: bad list at 5.6 (16)\nERROR [s.a]: not built yet (99)\n";
+    assert_eq!(rt; sink.bytes(), wanted.as_slice());
+    Ok(())
+}
+
+#[test]
+fn words_of_a_line(rt: HostRuntime) -> Result<(), Fail> {
+    let (first, rest) = next_word(b"  one  two ");
+    assert_eq!(rt; first, b"one".as_slice());
+    assert_eq!(rt; one_word(rest), Some(b"two".as_slice()));
+    assert_eq!(rt; one_word(b"one two"), None);
+    assert_eq!(rt; drop_blanks(b" a b  "), b" a b".as_slice());
+    assert_eq!(rt; three(5, b'/', b"00012/3/00000"), Some((12, 3, 0)));
+    assert_eq!(rt; three(5, b'/', b"1/2"), None);
+    Ok(())
+}

@@ -1,0 +1,241 @@
+-- What a reader of lines holds after it read and after it gave.
+use Rattle.std.proofs.Common.{◌≡◌, ◌≢◌, ℕ, suc, ◌+◌, ◌-◌, ◌<◌, ◌≤◌, min, Bool, true, false, ltb, List, [], ◌∷◌, ◌++◌, length, take, drop, Option, None, Some, refl, sym, ap, ◌∙◌, arith, subst, get_or, drop-cons, length-take, length-drop, length-append, append_assoc}
+use Rattle.std.specs.Prelude.{IfSome}
+use Rattle.std.proofs.lemmas.List.{take-append-drop, drop-take, drop-drop, drop_all, append-nil}
+use Rattle.std.proofs.lemmas.List.Elements.{All-append}
+use Rattle.std.proofs.Math.Seq.{take-append_seam, drop-append_seam}
+use Rattle.sccs_grammar.proofs.CutLaws.{cut_line, cut_tail}
+use Rattle.sccs_base.specs.Cut.{HasNoLf, cut}
+use Rattle.sccs_base.proofs.Cuts.{NoLfBefore, no_lf_front, no_lf_all}
+use Rattle.std.proofs.lemmas.Bool.{ltb-false, ltb-true}
+use Rattle.sccs_disk.specs.Files.{View}
+use Rattle.sccs_table.specs.SumOf.{IsSumOf}
+use Rattle.sccs_table.specs.Standing.{Standing, StandsIn, Takes, TakesLine, bytes_in}
+
+-- a reader that holds the front of a piece
+abbrev pub holding : List ℕ → List ℕ → ℕ → ℕ → Standing
+holding name held place size = record { name = name; held = held; place = place; size = size }
+
+pub fill_more : (piece : List ℕ) (count : ℕ) → count ≤ length piece → ltb 0 count ≡ true → 0 < length (take (count - 0) piece)
+fill_more piece count within more = let some = ltb-true 0 count more in omega (arith, length-take (count - 0) piece)
+
+stands_filled : (old : Standing) (name piece file : List ℕ) (place size count room : ℕ) → holding name [] place size ≡ old → count ≤ length piece → room ≡ min (size - place) 4096
+    → take count piece ≡ take room (drop place file) → StandsIn old file → StandsIn (holding name (take (count - 0) piece) place size) file × (ltb 0 count ≡ false → place ≡ length file)
+stands_filled old name piece file place size count room is within room_is got stood =
+    let place_is : place ≡ old.place = ap (λ (s : Standing). s.place) is in
+    let size_is : size ≡ old.size = ap (λ (s : Standing). s.size) is in
+    let whole : size ≡ length file = size_is ∙ stood.0 in
+    let ahead : place ≤ size = omega (arith, stood.1) in
+    let here : take (count - 0) piece ≡ take room (drop place file) = ap (λ n. take n piece) (omega arith) ∙ got in
+    let long : length (take room (drop place file)) ≡ room = omega (arith, length-take room (drop place file), length-drop place file) in
+    let count_is : length (take (count - 0) piece) ≡ room = ap length here ∙ long in (
+      (whole, omega (arith, count_is), here ∙ ap (λ n. take n (drop place file)) (sym count_is)),
+      λ none. let zero_is = ltb-false 0 count none in omega (arith, count_is, length-take (count - 0) piece),
+    )
+
+filled : (o : Option (List ℕ)) (old : Standing) (name piece : List ℕ) (place size count room : ℕ) → holding name [] place size ≡ old → count ≤ length piece → room ≡ min (size - place) 4096
+    → IfSome o (λ file. take count piece ≡ take room (drop place file)) → IfSome o (λ file. StandsIn old file → StandsIn (holding name (take (count - 0) piece) place size) file × (ltb 0 count ≡ false → place ≡ length file))
+filled None old name piece place size count room is within room_is got = tt
+filled (Some file) old name piece place size count room is within room_is got = λ stood. stands_filled old name piece file place size count room is within room_is got stood
+
+-- an empty reader that read a piece, where the view tells its file
+pub fill_told : (view : Option View) (old : Standing) (name held piece : List ℕ) (place size count room : ℕ) → holding name held place size ≡ old → old.held ≡ [] → count ≤ length piece → room ≡ min (size - place) 4096
+    → IfSome (bytes_in view name) (λ file. take count piece ≡ take room (drop place file))
+    → IfSome (bytes_in view old.name) (λ file. StandsIn old file → StandsIn (holding name (take (count - 0) piece) place size) file × (ltb 0 count ≡ false → place ≡ length file))
+fill_told view old name held piece place size count room is none within room_is got =
+    let held_is : held ≡ [] = ap (λ (s : Standing). s.held) is ∙ none in
+    let empty : holding name [] place size ≡ old = ap (λ h. holding name h place size) (sym held_is) ∙ is in
+    let name_is : name ≡ old.name = ap (λ (s : Standing). s.name) is in
+    filled (bytes_in view old.name) old name piece place size count room empty within room_is (subst (λ n. IfSome (bytes_in view n) (λ file. take count piece ≡ take room (drop place file))) name_is got)
+
+-- ---- the front of what is held
+
+-- what is held of a piece
+abbrev pub held_of : List ℕ → ℕ → ℕ → List ℕ
+held_of piece start end = take (end - start) (drop start piece)
+
+held_behind : (piece : List ℕ) (start end at : ℕ) → at < length (held_of piece start end) → drop (suc at) (held_of piece start end) ≡ held_of piece (start + (at + 1)) end
+held_behind piece start end at within =
+    let room : end - start ≡ suc at + (end - (start + (at + 1))) = omega (arith, length-take (end - start) (drop start piece)) in
+    let place : start + suc at ≡ start + (at + 1) = omega arith in
+    ap (λ n. drop (suc at) (take n (drop start piece))) room
+    ∙ (drop-take (suc at) (end - (start + (at + 1))) (drop start piece)
+    ∙ (ap (take (end - (start + (at + 1)))) (drop-drop (suc at) start piece) ∙ ap (λ n. take (end - (start + (at + 1))) (drop n piece)) place))
+
+held_split : (piece : List ℕ) (start end at : ℕ) → at < length (held_of piece start end) → get_or (held_of piece start end) at 0 ≡ 10
+    → held_of piece start end ≡ take at (held_of piece start end) ++ 10 ∷ held_of piece (start + (at + 1)) end
+held_split piece start end at within is =
+    let held = held_of piece start end in
+    let rest = held_behind piece start end at within in
+    sym (take-append-drop at held) ∙ ap (λ behind. take at held ++ behind) (drop-cons held at 0 within ∙ (ap (λ b. b ∷ drop (suc at) held) is ∙ ap (λ behind. 10 ∷ behind) rest))
+
+pub takes_some : (old : Standing) (name line longer piece : List ℕ) (start end place size at : ℕ) → holding name (held_of piece start end) place size ≡ old
+    → longer ≡ line ++ take at (held_of piece start end) → at < length (held_of piece start end) → get_or (held_of piece start end) at 0 ≡ 10 → NoLfBefore (held_of piece start end) at
+    → Takes old (holding name (held_of piece (start + (at + 1)) end) (place + (at + 1)) size) line longer true
+takes_some old name line longer piece start end place size at is items within found none =
+    let held_is : held_of piece start end ≡ old.held = ap (λ (s : Standing). s.held) is in
+    let place_is : place ≡ old.place = ap (λ (s : Standing). s.place) is in
+    (take at (held_of piece start end), (items, no_lf_front at (held_of piece start end) none within, sym held_is ∙ held_split piece start end at within found, omega (arith, length-take at (held_of piece start end))))
+
+pub takes_none : (old : Standing) (name line longer piece : List ℕ) (start end place size : ℕ) → holding name (held_of piece start end) place size ≡ old
+    → longer ≡ line ++ held_of piece start end → NoLfBefore (held_of piece start end) (length (held_of piece start end))
+    → Takes old (holding name (held_of piece end end) (place + length (held_of piece start end)) size) line longer false
+takes_none old name line longer piece start end place size is items none =
+    let held_is : held_of piece start end ≡ old.held = ap (λ (s : Standing). s.held) is in
+    let place_is : place ≡ old.place = ap (λ (s : Standing). s.place) is in
+    let zero_is : end - end ≡ 0 = omega arith in
+    (held_of piece start end, (items, no_lf_all (held_of piece start end) none, sym held_is, ap (λ n. take n (drop end piece)) zero_is, omega arith))
+
+-- ---- a whole line
+
+-- what was left at the start is the line so far and what is left now
+abbrev pub Going : Option (List ℕ) → Standing → Standing → List ℕ → Type 0
+Going None start now line = Unit {0}
+Going (Some file) start now line = StandsIn start file → StandsIn now file × (drop start.place file ≡ line ++ drop now.place file)
+
+pub going_start : (o : Option (List ℕ)) (start : Standing) → Going o start start []
+going_start None start = tt
+going_start (Some file) start = λ stands. (stands, refl)
+
+-- what is held is in front of what is left
+left_is : (now : Standing) (file : List ℕ) → StandsIn now file → drop now.place file ≡ now.held ++ drop (now.place + length now.held) file
+left_is now file stands =
+    sym (take-append-drop (length now.held) (drop now.place file))
+    ∙ (ap (λ front. front ++ drop (length now.held) (drop now.place file)) (sym stands.2) ∙ ap (λ rest. now.held ++ rest) (drop-drop (length now.held) now.place file))
+
+front_gone : (now new : Standing) (front file : List ℕ) → StandsIn now file → now.held ≡ front ++ 10 ∷ new.held → new.place ≡ now.place + length front + 1 → drop new.place file ≡ new.held ++ drop (now.place + length now.held) file
+front_gone now new front file stands held_is place_is =
+    let parts : drop now.place file ≡ (front ++ 10 ∷ []) ++ (new.held ++ drop (now.place + length now.held) file) = left_is now file stands ∙ (ap (λ h. h ++ drop (now.place + length now.held) file) held_is ∙ (append_assoc front (10 ∷ new.held) _ ∙ sym (append_assoc front (10 ∷ []) _))) in
+    let many : new.place ≡ now.place + length (front ++ 10 ∷ []) = omega (arith, length-append front (10 ∷ [])) in
+    ap (λ n. drop n file) many ∙ (sym (drop-drop (length (front ++ 10 ∷ [])) now.place file) ∙ (ap (drop (length (front ++ 10 ∷ []))) parts ∙ drop-append_seam (front ++ 10 ∷ []) _))
+
+-- the next bytes up to LF are gone
+stands_on : (now new : Standing) (front file : List ℕ) → StandsIn now file → new.size ≡ now.size → now.held ≡ front ++ 10 ∷ new.held → new.place ≡ now.place + length front + 1 → StandsIn new file
+stands_on now new front file stands size_is held_is place_is =
+    let long : length now.held ≡ length front + suc (length new.held) = ap length held_is ∙ length-append front (10 ∷ new.held) in
+    (size_is ∙ stands.0, omega (arith, stands.1), sym (ap (take (length new.held)) (front_gone now new front file stands held_is place_is) ∙ take-append_seam new.held _))
+
+next_is : (now new : Standing) (front file : List ℕ) → StandsIn now file → now.held ≡ front ++ 10 ∷ new.held → new.place ≡ now.place + length front + 1 → drop now.place file ≡ front ++ 10 ∷ drop new.place file
+next_is now new front file stands held_is place_is =
+    left_is now file stands
+    ∙ (ap (λ h. h ++ drop (now.place + length now.held) file) held_is
+    ∙ (append_assoc front (10 ∷ new.held) _ ∙ ap (λ rest. front ++ 10 ∷ rest) (sym (front_gone now new front file stands held_is place_is))))
+
+cut_front : (start now new : Standing) (line front file : List ℕ) → drop start.place file ≡ line ++ drop now.place file → drop now.place file ≡ front ++ 10 ∷ drop new.place file → HasNoLf (line ++ front)
+    → cut (drop start.place file) ≡ record { lines = (line ++ front) ∷ (cut (drop new.place file)).lines; tail = (cut (drop new.place file)).tail }
+cut_front start now new line front file whole next none =
+    ap cut (whole ∙ (ap (λ rest. line ++ rest) next ∙ sym (append_assoc line front (10 ∷ drop new.place file)))) ∙ cut_line (line ++ front) (drop new.place file) none
+
+no_lf_append : (line front : List ℕ) → HasNoLf line → HasNoLf front → HasNoLf (line ++ front)
+no_lf_append line front none more = All-append (λ b. b ≢ 10) line front none more
+
+-- a front up to LF ends the line
+pub line_taken : (o : Option (List ℕ)) (start now new : Standing) (line longer : List ℕ) → Going o start now line → HasNoLf line → new.size ≡ now.size → Takes now new line longer true → TakesLine o start new longer true
+line_taken None start now new line longer going none size_is takes = tt
+line_taken (Some file) start now new line longer going none size_is takes = λ stands.
+    let here = going stands in
+    let front = takes.0 in
+    let next = next_is now new front file here.0 takes.1.2 takes.1.3 in (
+      stands_on now new front file here.0 size_is takes.1.2 takes.1.3,
+      rw takes.1.0 (cut_front start now new line front file here.1 next (no_lf_append line front none takes.1.1)),
+    )
+
+pub line_without : (now new : Standing) (line longer : List ℕ) (ended : Bool) → HasNoLf line → Takes now new line longer ended → HasNoLf longer
+line_without now new line longer true none takes = rw takes.1.0 (no_lf_append line takes.0 none takes.1.1)
+line_without now new line longer false none takes = rw takes.1.0 (no_lf_append line takes.0 none takes.1.1)
+
+-- a reader that gave all that it held still stands
+gone_stands_in : (now gone : Standing) (line longer file : List ℕ) → StandsIn now file → gone.size ≡ now.size → Takes now gone line longer false → StandsIn gone file
+gone_stands_in now gone line longer file here size_is takes =
+    let long : length now.held ≡ length takes.0 = ap length takes.1.2 in
+    (size_is ∙ here.0, omega (arith, here.1, takes.1.4, long, ap length takes.1.3), takes.1.3 ∙ ap (λ n. take n (drop gone.place file)) (sym (ap length takes.1.3)))
+
+-- all that was held went to the line, and a piece may have been read
+pub going_on : (o : Option (List ℕ)) (start now gone new : Standing) (line longer : List ℕ) (more : Bool) → Going o start now line → gone.size ≡ now.size → Takes now gone line longer false
+    → IfSome o (λ file. StandsIn gone file → StandsIn new file × (more ≡ false → new.place ≡ length file)) → new.place ≡ gone.place → Going o start new longer
+going_on None start now gone new line longer more going size_is takes filled place_is = tt
+going_on (Some file) start now gone new line longer more going size_is takes filled place_is = λ stands.
+    let here = going stands in
+    let front = takes.0 in
+    let held_is : now.held ≡ front = takes.1.2 in
+    let long : length now.held ≡ length front = ap length held_is in
+    let gone_stands = gone_stands_in now gone line longer file here.0 size_is takes in
+    let place : now.place + length now.held ≡ new.place = omega (arith, takes.1.4) in
+    let rest : drop now.place file ≡ front ++ drop new.place file = left_is now file here.0 ∙ (ap (λ h. h ++ drop (now.place + length now.held) file) held_is ∙ ap (λ n. front ++ drop n file) place) in
+    ((filled gone_stands).0, here.1 ∙ (ap (λ r. line ++ r) rest ∙ (sym (append_assoc line front (drop new.place file)) ∙ ap (λ l. l ++ drop new.place file) (sym takes.1.0))))
+
+-- the same, where the view is the same and the name too
+pub going_on_by : (o p : Option (List ℕ)) (start now gone new : Standing) (line longer : List ℕ) (more : Bool) → p ≡ o → Going o start now line → gone.size ≡ now.size → Takes now gone line longer false
+    → IfSome p (λ file. StandsIn gone file → StandsIn new file × (more ≡ false → new.place ≡ length file)) → new.place ≡ gone.place → Going o start new longer
+going_on_by o p start now gone new line longer more is going size_is takes filled place_is =
+    going_on o start now gone new line longer more going size_is takes (subst (λ q. IfSome q (λ file. StandsIn gone file → StandsIn new file × (more ≡ false → new.place ≡ length file))) is filled) place_is
+
+pub same_file : (a b : Option View) (m n : List ℕ) → a ≡ b → m ≡ n → bytes_in a m ≡ bytes_in b n
+same_file a b m n views names = ap (λ v. bytes_in v m) views ∙ ap (bytes_in b) names
+
+-- nothing more could be read
+pub line_over : (o p : Option (List ℕ)) (start now gone new : Standing) (line longer : List ℕ) → p ≡ o → Going o start now line → HasNoLf line → gone.size ≡ now.size → Takes now gone line longer false
+    → IfSome p (λ file. StandsIn gone file → StandsIn new file × (false ≡ false → new.place ≡ length file)) → new.place ≡ gone.place → TakesLine o start new longer false
+line_over None p start now gone new line longer is going none size_is takes filled place_is = tt
+line_over (Some file) p start now gone new line longer is going none size_is takes filled place_is = λ stands.
+    let here = going stands in
+    let on = going_on_by (Some file) p start now gone new line longer false is going size_is takes filled place_is stands in
+    let told = subst (λ q. IfSome q (λ file. StandsIn gone file → StandsIn new file × (false ≡ false → new.place ≡ length file))) is filled in
+    let gone_stands : StandsIn gone file = gone_stands_in now gone line longer file here.0 size_is takes in
+    let end : drop new.place file ≡ [] = drop_all new.place file (omega (arith, (told gone_stands).1 refl)) in
+    (on.0, ap cut (on.1 ∙ (ap (λ r. longer ++ r) end ∙ append-nil longer)) ∙ cut_tail longer (line_without now gone line longer false none takes))
+
+-- at the arm of a test
+pub takes_at : (old new : Standing) (line longer : List ℕ) (a b : Bool) → a ≡ b → Takes old new line longer a → Takes old new line longer b
+takes_at old new line longer a b is takes = subst (λ e. Takes old new line longer e) is takes
+
+pub filled_at : (o : Option (List ℕ)) (gone new : Standing) (a b : Bool) → a ≡ b → IfSome o (λ file. StandsIn gone file → StandsIn new file × (a ≡ false → new.place ≡ length file)) → IfSome o (λ file. StandsIn gone file → StandsIn new file × (b ≡ false → new.place ≡ length file))
+filled_at o gone new a b is filled = subst (λ e. IfSome o (λ file. StandsIn gone file → StandsIn new file × (e ≡ false → new.place ≡ length file))) is filled
+
+pub later_place : (now gone : Standing) (line longer : List ℕ) (start new : ℕ) → now.place ≡ start + length line → Takes now gone line longer false → new ≡ gone.place → new ≡ start + length longer
+later_place now gone line longer start new here takes is =
+    let long : length longer ≡ length line + length takes.0 = ap length takes.1.0 ∙ length-append line takes.0 in omega (arith, takes.1.4)
+
+pub past_place : (now new : Standing) (line longer : List ℕ) (start : ℕ) → now.place ≡ start + length line → Takes now new line longer true → new.place ≡ start + length longer + 1
+past_place now new line longer start here takes =
+    let long : length longer ≡ length line + length takes.0 = ap length takes.1.0 ∙ length-append line takes.0 in omega (arith, takes.1.3)
+
+-- ---- the sums
+
+-- the sums are those of what stands between the start and now
+abbrev pub Summing : Option (List ℕ) → Standing → Standing → ℕ × ℕ → Type 0
+Summing None start now sum = Unit {0}
+Summing (Some file) start now sum = StandsIn start file → StandsIn now file × ((front : List ℕ) × IsSumOf sum front × (drop start.place file ≡ front ++ drop now.place file))
+
+pub summing_start : (o : Option (List ℕ)) (start : Standing) (sum : ℕ × ℕ) → IsSumOf sum [] → Summing o start start sum
+summing_start None start sum none = tt
+summing_start (Some file) start sum none = λ stands. (stands, ([], none, refl))
+
+emptied_stands : (now gone : Standing) (file : List ℕ) → StandsIn now file → gone.size ≡ now.size → gone.held ≡ [] → gone.place ≡ now.place + length now.held → StandsIn gone file
+emptied_stands now gone file here size_is held_is place_is =
+    (size_is ∙ here.0, omega (arith, here.1, ap length held_is), held_is ∙ ap (λ n. take n (drop gone.place file)) (sym (ap length held_is)))
+
+pub summing_on : (o p : Option (List ℕ)) (start now gone new : Standing) (sum more_sum : ℕ × ℕ) (more : Bool) → p ≡ o → Summing o start now sum → gone.size ≡ now.size → gone.held ≡ [] → gone.place ≡ now.place + length now.held
+    → ((front : List ℕ) → IsSumOf sum front → IsSumOf more_sum (front ++ now.held))
+    → IfSome p (λ file. StandsIn gone file → StandsIn new file × (more ≡ false → new.place ≡ length file)) → new.place ≡ gone.place → Summing o start new more_sum
+summing_on None p start now gone new sum more_sum more is summing size_is held_is place_is adds read new_is = tt
+summing_on (Some file) p start now gone new sum more_sum more is summing size_is held_is place_is adds read new_is = λ stands.
+    let here = summing stands in
+    let told = subst (λ q. IfSome q (λ file. StandsIn gone file → StandsIn new file × (more ≡ false → new.place ≡ length file))) is read in
+    let place : now.place + length now.held ≡ new.place = omega arith in
+    let rest : drop now.place file ≡ now.held ++ drop new.place file = left_is now file here.0 ∙ ap (λ n. now.held ++ drop n file) place in (
+      (told (emptied_stands now gone file here.0 size_is held_is place_is)).0,
+      (here.1.0 ++ now.held, adds here.1.0 here.1.1, here.1.2 ∙ (ap (λ r. here.1.0 ++ r) rest ∙ sym (append_assoc here.1.0 now.held (drop new.place file)))),
+    )
+
+pub summing_end : (o p : Option (List ℕ)) (start now gone new : Standing) (sum more_sum : ℕ × ℕ) → p ≡ o → Summing o start now sum → gone.size ≡ now.size → gone.held ≡ [] → gone.place ≡ now.place + length now.held
+    → ((front : List ℕ) → IsSumOf sum front → IsSumOf more_sum (front ++ now.held))
+    → IfSome p (λ file. StandsIn gone file → StandsIn new file × (false ≡ false → new.place ≡ length file)) → new.place ≡ gone.place → IfSome o (λ file. StandsIn start file → IsSumOf more_sum (drop start.place file))
+summing_end None p start now gone new sum more_sum is summing size_is held_is place_is adds read new_is = tt
+summing_end (Some file) p start now gone new sum more_sum is summing size_is held_is place_is adds read new_is = λ stands.
+    let here = summing stands in
+    let on = summing_on (Some file) p start now gone new sum more_sum false is summing size_is held_is place_is adds read new_is stands in
+    let told = subst (λ q. IfSome q (λ file. StandsIn gone file → StandsIn new file × (false ≡ false → new.place ≡ length file))) is read in
+    let end : drop new.place file ≡ [] = drop_all new.place file (omega (arith, (told (emptied_stands now gone file here.0 size_is held_is place_is)).1 refl)) in
+    let whole : drop start.place file ≡ on.1.0 = on.1.2 ∙ (ap (λ r. on.1.0 ++ r) end ∙ append-nil on.1.0) in
+    subst (λ bytes. IsSumOf more_sum bytes) (sym whole) on.1.1

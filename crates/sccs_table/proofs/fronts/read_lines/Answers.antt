@@ -1,0 +1,31 @@
+use Rattle.std.proofs.Common.{◌+◌, ◌∙◌, Ok, ap, sym, subst, rules, arith}
+use Rattle.sccs_disk.specs.Told.{seen}
+use Rattle.sccs_grammar.specs.Front.{start}
+use Rattle.sccs_table.specs.Standing.{bytes_in}
+use Rattle.sccs_table.specs.FrontFile.{Reads}
+use Rattle.sccs_table.proofs.FrontLaws.{lines_on, lines_done}
+use Rattle.sccs_table.proofs.ReaderLaws.{same_file}
+use Rattle.sccs_table.proofs.fronts.read_lines.Goals as goal
+
+pub returns-then-is_whole-clause-told : goal.returns-then-is_whole-clause-told
+returns-then-is_whole-clause-told g c =
+    let begun = bytes_in (seen (g.D.Disk.told c.args.disk.now)) c.args.reader.now.name in
+    let here = bytes_in (seen (g.D.Disk.told c.lines.disk)) c.lines.reader.name in
+    let file_is = same_file _ _ _ _ (ap seen c.lines.invariant.same) c.lines.invariant.name in
+    subst (λ header. Reads begun c.args.reader.now c.next_reading.new.reader start 2 (Ok (header, c.lines.number + 1))) (sym c.header_of.ensures)
+    (lines_done begun here c.args.reader.now c.lines.reader c.next_reading.new.reader start c.lines.reading c.in-Ok.reading 2 c.lines.number file_is c.lines.invariant.goes c.in-Ok.ensures.told (sym c.is_whole.ensures ∙ c.if-is_whole.true))
+
+pub lines-preserved : goal.lines-preserved
+lines-preserved g c =
+    let begun = bytes_in (seen (g.D.Disk.told c.args.disk.now)) c.args.reader.now.name in
+    let here = bytes_in (seen (g.D.Disk.told c.lines.disk)) c.lines.reader.name in
+    let file_is = same_file _ _ _ _ (ap seen c.lines.invariant.same) c.lines.invariant.name in
+    record {
+      same = search rules;
+      later = search rules;
+      name = search rules;
+      size = search rules;
+      ahead = omega (arith, c.in-Ok.ensures.further);
+      within = omega (arith, c.in-Ok.ensures.further);
+      goes = lines_on begun here c.args.reader.now c.lines.reader c.next_reading.new.reader start c.lines.reading c.in-Ok.reading 2 c.lines.number file_is c.lines.invariant.goes c.in-Ok.ensures.told (sym c.is_whole.ensures ∙ c.if-is_whole.false);
+    }

@@ -1,0 +1,38 @@
+use Rattle.std.proofs.Common.{◌∙◌, true, false, ap, rules}
+use Rattle.sccs_disk.specs.Told.{seen}
+use Rattle.sccs_table.specs.Standing.{bytes_in}
+use Rattle.sccs_table.proofs.ReaderLaws.{line_taken, line_without, going_on_by, line_over, same_file, takes_at, filled_at, later_place, past_place}
+use Rattle.sccs_table.proofs.line_readers.LineReader.next_line.Goals as goal
+
+pub returns-in-Ok-true-clause-told : goal.returns-in-Ok-true-clause-told
+returns-in-Ok-true-clause-told g c =
+    line_taken _ c.args.self.now c.pieces.self c.take_held.new.self c.pieces.line.items c.take_held.new.line.items c.pieces.invariant.going c.pieces.invariant.none c.in-Ok-true.ensures.size (takes_at c.pieces.self c.take_held.new.self c.pieces.line.items c.take_held.new.line.items c.in-Ok-true.field-0 true c.in-Ok-true.field-0-test c.in-Ok-true.ensures.taken)
+
+pub pieces-preserved : goal.pieces-preserved
+pieces-preserved g c =
+    let start = bytes_in (seen (g.D.Disk.told c.args.disk.now)) c.args.self.now.name in
+    let here = bytes_in (seen (g.D.Disk.told c.pieces.disk)) c.take_held.new.self.name in
+    let file_is = same_file _ _ _ _ (ap seen c.pieces.invariant.same) (c.in-Ok-false.ensures.name ∙ c.pieces.invariant.name) in
+    let taken = takes_at c.pieces.self c.take_held.new.self c.pieces.line.items c.take_held.new.line.items c.in-Ok-false.field-0 false c.in-Ok-false.field-0-test c.in-Ok-false.ensures.taken in
+    record {
+      same = search rules;
+      later = search rules;
+      name = search rules;
+      size = search rules;
+      ahead = search rules;
+      moved = later_place c.pieces.self c.take_held.new.self c.pieces.line.items c.take_held.new.line.items _ _ c.pieces.invariant.moved taken c.in-Ok-true-fill.ensures.place;
+      none = line_without c.pieces.self c.take_held.new.self c.pieces.line.items c.take_held.new.line.items false c.pieces.invariant.none taken;
+      going = going_on_by start here c.args.self.now c.pieces.self c.take_held.new.self c.fill.new.self c.pieces.line.items c.take_held.new.line.items true file_is c.pieces.invariant.going c.in-Ok-false.ensures.size taken (filled_at here c.take_held.new.self c.fill.new.self c.in-Ok-true-fill.field-0 true c.in-Ok-true-fill.field-0-test c.in-Ok-true-fill.ensures.told) c.in-Ok-true-fill.ensures.place;
+    }
+
+pub returns-in-Ok-false-fill-clause-told : goal.returns-in-Ok-false-fill-clause-told
+returns-in-Ok-false-fill-clause-told g c =
+    let start = bytes_in (seen (g.D.Disk.told c.args.disk.now)) c.args.self.now.name in
+    let here = bytes_in (seen (g.D.Disk.told c.pieces.disk)) c.take_held.new.self.name in
+    let file_is = same_file _ _ _ _ (ap seen c.pieces.invariant.same) (c.in-Ok-false.ensures.name ∙ c.pieces.invariant.name) in
+    let taken = takes_at c.pieces.self c.take_held.new.self c.pieces.line.items c.take_held.new.line.items c.in-Ok-false.field-0 false c.in-Ok-false.field-0-test c.in-Ok-false.ensures.taken in
+    line_over start here c.args.self.now c.pieces.self c.take_held.new.self c.fill.new.self c.pieces.line.items c.take_held.new.line.items file_is c.pieces.invariant.going c.pieces.invariant.none c.in-Ok-false.ensures.size taken (filled_at here c.take_held.new.self c.fill.new.self c.in-Ok-false-fill.field-0 false c.in-Ok-false-fill.field-0-test c.in-Ok-false-fill.ensures.told) c.in-Ok-false-fill.ensures.place
+
+pub returns-in-Ok-true-clause-moved : goal.returns-in-Ok-true-clause-moved
+returns-in-Ok-true-clause-moved g c = λ ended.
+    past_place c.pieces.self c.take_held.new.self c.pieces.line.items c.take_held.new.line.items _ c.pieces.invariant.moved (takes_at c.pieces.self c.take_held.new.self c.pieces.line.items c.take_held.new.line.items c.in-Ok-true.field-0 true c.in-Ok-true.field-0-test c.in-Ok-true.ensures.taken)

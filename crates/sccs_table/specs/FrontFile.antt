@@ -1,0 +1,104 @@
+-- What reading the header of an s-file answers.
+use Rattle.std.specs.Prelude.{◌≡◌, ℕ, ◌+◌, ◌≤◌, ◌<◌, List, ◌∷◌, length, drop, Option, None, Some, Result, Ok, Err}
+use Rattle.sccs_base.specs.Cut.{cut}
+use Rattle.sccs_disk.specs.Files.{View}
+use Rattle.sccs_history.specs.declared.headers.Header.{Header}
+use Rattle.sccs_grammar.specs.Front.{ParsedFront, front_from, line_after}
+use Rattle.sccs_grammar.specs.File.{Opened, answer, opened}
+use Rattle.sccs_grammar.specs.Sums.{plain_sum}
+use Rattle.sccs_grammar.specs.declared.readings.Reading.{Reading}
+use Rattle.sccs_grammar.specs.declared.faults.FileFault.{FileFault}
+use Rattle.sccs_grammar.specs.declared.faults.FileFault.TheVariants.{Missing, TooLong, NotSccs, BadSum, BadFormat, Encoded, Failed, Memory}
+use Rattle.sccs_table.specs.declared.fronts.Front.{Front}
+use Rattle.sccs_table.specs.Standing.{Standing, StandsIn, file_in, left}
+
+-- the answer is this refusal; want of memory and a failing disk may come in place of any
+abbrev pub Refuses : {A : Type 0} → FileFault → Result A FileFault → Type 0
+Refuses Missing read = read ≡ Err Missing
+Refuses TooLong read = read ≡ Err TooLong
+Refuses NotSccs read = read ≡ Err NotSccs
+Refuses (BadSum stored plain) read = read ≡ Err (BadSum stored plain)
+Refuses (BadFormat line) read = read ≡ Err (BadFormat line)
+Refuses Encoded read = read ≡ Err Encoded
+Refuses Failed read = Unit {0}
+Refuses Memory read = Unit {0}
+
+-- what a call returned shows the value that is read, or is its refusal
+abbrev pub Answers : {A B : Type 0} → (A → B → Type 0) → Result B FileFault → Result A FileFault → Type 0
+Answers {A} {B} Shows (Ok x) read = (y : A) × (read ≡ Ok y) × Shows y x
+Answers Shows (Err fault) read = Refuses fault read
+
+-- The body begins within the file, and the file is within the limit; each line before the body has a byte at least.
+pub record IsPlaced (front : Front) : Type 0 where
+  pub within : front.body_from ≤ front.size
+  pub limit : front.size ≤ 1073741824
+  pub counted : front.body_line ≤ front.body_from + 2
+
+-- The header; where the body begins, by its line and its bytes; the file's length, and the plain sum of what is behind
+-- its first line.
+pub record IsFrontOf (file : List ℕ) (read : ParsedFront) (front : Front) : Type 0 where
+  pub header : front.header ≡ read.header
+  pub line : front.body_line ≡ read.line
+  pub body : cut (drop front.body_from file) ≡ record { lines = read.rest; tail = (cut file).tail }
+  pub size : front.size ≡ length file
+  pub sum : (o : Opened) × (opened file ≡ Ok o) × (front.sum ≡ plain_sum o.bytes)
+
+-- the front that a call returned is that of the file, or its refusal holds; no file and too long a file come first
+abbrev pub ShowsFront : Option (List ℕ) → Front → ParsedFront → Type 0
+ShowsFront None front read = ⊥
+ShowsFront (Some file) front read = IsFrontOf file read front
+
+abbrev pub AnswersFront : Option (List ℕ) → (List ℕ → Result ParsedFront FileFault) → Result Front FileFault → Type 0
+AnswersFront o read result = Answers (λ p front. ShowsFront o front p) result (answer read o)
+
+-- a file of that size is there, within the limit, or the refusal holds
+abbrev pub OpensAt : Option (List ℕ) → Result ℕ FileFault → Type 0
+OpensAt o (Ok size) = (file : List ℕ) × (o ≡ Some file) × (size ≡ length file)
+OpensAt o (Err Missing) = o ≡ None
+OpensAt o (Err TooLong) = (file : List ℕ) × (o ≡ Some file) × (1073741824 < length file)
+OpensAt o (Err Failed) = Unit {0}
+OpensAt o (Err _) = ⊥
+
+abbrev pub Opens : Option View → List ℕ → Result ℕ FileFault → Type 0
+Opens None name result = Unit {0}
+Opens (Some view) name result = OpensAt (file_in view name) result
+
+-- the first line of a file is a sum line with this number, and a reader stands behind it
+abbrev pub TakesSum : List ℕ → Standing → Result ℕ FileFault → Type 0
+TakesSum file new (Ok n) = StandsIn new file × (opened file ≡ Ok (record { sum_of = n; lines = (left new file).lines; bytes = drop new.place file })) × ((cut file).tail ≡ (left new file).tail)
+TakesSum file new (Err NotSccs) = opened file ≡ Err NotSccs
+TakesSum file new (Err Failed) = Unit {0}
+TakesSum file new (Err Memory) = Unit {0}
+TakesSum file new (Err _) = ⊥
+
+abbrev pub SumLine : Option (List ℕ) → Standing → Standing → Result ℕ FileFault → Type 0
+SumLine None old new result = Unit {0}
+SumLine (Some file) old new result = StandsIn old file → TakesSum file new result
+
+-- reading goes from one standing to another, up to the body, or to the line at fault
+abbrev pub ReadsLines : List ℕ → Standing → Standing → Reading → ℕ → Result (Header × ℕ) FileFault → Type 0
+ReadsLines file old new r n (Ok x) =
+    StandsIn new file × ((left old file).tail ≡ (left new file).tail)
+    × (front_from n r (left old file).lines ≡ Ok (record { header = x.0; line = x.1; rest = (left new file).lines }))
+ReadsLines file old new r n (Err (BadFormat line)) = front_from n r (left old file).lines ≡ Err line
+ReadsLines file old new r n (Err Failed) = Unit {0}
+ReadsLines file old new r n (Err Memory) = Unit {0}
+ReadsLines file old new r n (Err _) = ⊥
+
+-- the same of a told file in which the reader stands
+abbrev pub Reads : Option (List ℕ) → Standing → Standing → Reading → ℕ → Result (Header × ℕ) FileFault → Type 0
+Reads None old new r n result = Unit {0}
+Reads (Some file) old new r n result = StandsIn old file → ReadsLines file old new r n result
+
+-- one line more
+abbrev pub HearsLine : List ℕ → Standing → Standing → ℕ → Reading → Result Reading FileFault → Type 0
+HearsLine file old new n r (Ok s) =
+    StandsIn new file × ((line : List ℕ) × (left old file ≡ record { lines = line ∷ (left new file).lines; tail = (left new file).tail }) × (line_after n r line ≡ Ok s))
+HearsLine file old new n r (Err (BadFormat k)) = front_from n r (left old file).lines ≡ Err k
+HearsLine file old new n r (Err Failed) = Unit {0}
+HearsLine file old new n r (Err Memory) = Unit {0}
+HearsLine file old new n r (Err _) = ⊥
+
+abbrev pub HearsNext : Option (List ℕ) → Standing → Standing → ℕ → Reading → Result Reading FileFault → Type 0
+HearsNext None old new n r result = Unit {0}
+HearsNext (Some file) old new n r result = StandsIn old file → HearsLine file old new n r result

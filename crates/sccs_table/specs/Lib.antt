@@ -1,0 +1,4 @@
+pub mod FrontFile
+pub mod HeldPiece
+pub mod Standing
+pub mod SumOf

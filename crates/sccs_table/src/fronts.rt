@@ -1,0 +1,269 @@
+ghost use Rattle.std.specs.Prelude.{◌≡◌, ◌||◌, ◌==◌, ◌<◌, ◌≤◌, ◌+◌, length, IfOk, IfSome, Err};
+ghost use Rattle.sccs_base.specs.Stream.{Rose};
+ghost use Rattle.sccs_disk.specs.Told.{seen};
+ghost use Rattle.sccs_grammar.specs.File.{checked_front, front_of, stored};
+ghost use Rattle.sccs_history.specs.History.{is_encoded, is_one};
+ghost use Rattle.sccs_grammar.specs.Front.{header_of, is_whole, start};
+ghost use Rattle.sccs_table.specs.FrontFile.{AnswersFront, IsPlaced, HearsNext, Opens, Reads, SumLine};
+ghost use Rattle.sccs_table.specs.Standing.{bytes_in, file_in};
+
+use crate::line_readers::{LineFault, LineReader};
+use crate::sums::Sum;
+use sccs_base::Name;
+use sccs_disk::Disk;
+use sccs_grammar::{FileFault, FrontFault, Place, Reading, hear, read_line};
+use sccs_history::{Flag, Header};
+use sccs_sid::reading::number;
+use std::alloc::Global;
+
+/// All of an s-file but its body.
+#[derive(Drop)]
+pub struct Front {
+    pub header: Header,
+    /// The place of the body's first byte, from 0.
+    pub body_from: u64,
+    /// The number of the body's first line, from 1.
+    pub body_line: u64,
+    /// The length of the file.
+    pub size: u64,
+    /// The plain sum of all bytes after the first line.
+    pub sum: u16,
+}
+
+// the stored sum that a line is: SOH, `h` and five digits
+#[tactic(auto, unfolding(sccs_grammar::specs::File::stored))]
+fn stored(line: &[u8]) -> Option<u32>
+    ensures { result ≡ stored line.now }
+{
+    let [1, b'h', digits @ ..] = line else {
+        return None;
+    };
+    if digits.len() == 5 {
+        number(5, digits)
+    } else {
+        None
+    }
+}
+
+// whether a line ended the header
+fn is_whole(reading: &Reading) -> bool
+    ensures { result ≡ is_whole reading.now.place }
+{
+    match reading.place {
+        Place::AtBody => true,
+        _ => false,
+    }
+}
+
+// what is read with the next line of that number
+fn next_reading<D: Disk>(
+    alloc: Global,
+    disk: &mut D,
+    reader: &mut LineReader,
+    number: u64,
+    reading: Reading,
+) -> Result<Reading, FileFault>
+    ensures same { D.told disk.new ≡ D.told disk.old }
+    ensures later { D.faults disk.old ≤ D.faults disk.new }
+    ensures cause { result ≡ Err FileFault.Failed → Rose (D.faults disk.old) (D.faults disk.new) }
+    ensures name { reader.new.name ≡ reader.old.name }
+    ensures size { reader.new.size ≡ reader.old.size }
+    ensures ahead { reader.new.place + length reader.new.held ≤ reader.new.size }
+    ensures further { IfOk result (λ _. reader.old.place < reader.new.place) }
+    ensures told { HearsNext (bytes_in (seen (D.told disk.old)) reader.old.name) reader.old reader.new number reading result }
+{
+    let mut line = Vec::new(alloc);
+    match reader.next_line(disk, &mut line) {
+        Ok(true) => {}
+        Ok(false) => return Err(FileFault::BadFormat(number)),
+        Err(LineFault::Failed) => return Err(FileFault::Failed),
+        Err(LineFault::Memory) => return Err(FileFault::Memory),
+    }
+    let said = match read_line(alloc, line.as_slice()) {
+        Ok(Some(said)) => said,
+        Ok(None) => return Err(FileFault::BadFormat(number)),
+        Err(_) => return Err(FileFault::Memory),
+    };
+    match hear(number, reading, said) {
+        Ok(reading) => Ok(reading),
+        Err(FrontFault::Format(line)) => Err(FileFault::BadFormat(line)),
+        Err(FrontFault::Memory) => Err(FileFault::Memory),
+    }
+}
+
+// the header that was read
+fn header_of(reading: Reading) -> Header
+    ensures { result ≡ header_of reading }
+{
+    let Reading {
+        place: _,
+        table,
+        users,
+        flags,
+        description,
+    } = reading;
+    Header {
+        records: table.records,
+        users,
+        flags,
+        description,
+    }
+}
+
+/// The header that the lines from a reader's place on make, the first of them being line 2, and
+/// the number of the line behind it.
+pub fn read_lines<D: Disk>(
+    alloc: Global,
+    disk: &mut D,
+    reader: &mut LineReader,
+) -> Result<(Header, u64), FileFault>
+    requires { reader.old.size ≤ 1073741824 }
+    ensures same { D.told disk.new ≡ D.told disk.old }
+    ensures later { D.faults disk.old ≤ D.faults disk.new }
+    ensures cause { result ≡ Err FileFault.Failed → Rose (D.faults disk.old) (D.faults disk.new) }
+    ensures size { reader.new.size ≡ reader.old.size }
+    ensures ahead { reader.new.place + length reader.new.held ≤ reader.new.size }
+    ensures number { IfOk result (λ found. found.1 ≤ reader.new.place + 2) }
+    ensures told { Reads (bytes_in (seen (D.told disk.old)) reader.old.name) reader.old reader.new start 2 result }
+{
+    let mut number = 2;
+    let mut reading = Reading::new(alloc);
+    'lines: loop {
+        reading = match next_reading(alloc, disk, reader, number, reading) {
+            Ok(reading) => reading,
+            Err(fault) => return Err(fault),
+        };
+        number += 1;
+        if is_whole(&reading) {
+            return Ok((header_of(reading), number));
+        }
+    }
+}
+
+// the length of a file that is there and within the limit
+fn open_file<D: Disk>(disk: &mut D, name: &Name) -> Result<u64, FileFault>
+    ensures same { D.told disk.new ≡ D.told disk.old }
+    ensures later { D.faults disk.old ≤ D.faults disk.new }
+    ensures cause { result ≡ Err FileFault.Failed → Rose (D.faults disk.old) (D.faults disk.new) }
+    ensures limit { IfOk result (λ size. size ≤ 1073741824) }
+    ensures told { Opens (seen (D.told disk.old)) name.now result }
+{
+    match disk.size(name) {
+        Ok(Some(size)) => {
+            if size > 1_073_741_824 {
+                Err(FileFault::TooLong)
+            } else {
+                Ok(size)
+            }
+        }
+        Ok(None) => Err(FileFault::Missing),
+        Err(_) => Err(FileFault::Failed),
+    }
+}
+
+// the stored sum of a file at whose front a reader stands
+fn read_sum<D: Disk>(alloc: Global, disk: &mut D, reader: &mut LineReader) -> Result<u32, FileFault>
+    requires { reader.old.place ≡ 0 }
+    ensures same { D.told disk.new ≡ D.told disk.old }
+    ensures later { D.faults disk.old ≤ D.faults disk.new }
+    ensures cause { result ≡ Err FileFault.Failed → Rose (D.faults disk.old) (D.faults disk.new) }
+    ensures name { reader.new.name ≡ reader.old.name }
+    ensures size { reader.new.size ≡ reader.old.size }
+    ensures ahead { reader.new.place + length reader.new.held ≤ reader.new.size }
+    ensures told { SumLine (bytes_in (seen (D.told disk.old)) reader.old.name) reader.old reader.new result }
+{
+    let mut line = Vec::new(alloc);
+    match reader.next_line(disk, &mut line) {
+        Ok(true) => {}
+        Ok(false) => return Err(FileFault::NotSccs),
+        Err(LineFault::Failed) => return Err(FileFault::Failed),
+        Err(LineFault::Memory) => return Err(FileFault::Memory),
+    }
+    match stored(line.as_slice()) {
+        Some(sum) => Ok(sum),
+        None => Err(FileFault::NotSccs),
+    }
+}
+
+// whether a stored sum is the plain or the signed one
+fn sum_fits(stored: u32, sum: &Sum) -> bool
+    ensures { result ≡ ((stored == sum.now.0) || (stored == sum.now.1)) }
+{
+    stored == u32::from(sum.plain()) || stored == u32::from(sum.signed())
+}
+
+/// The front of a file, whatever its flags say of the body.
+pub fn check_front<D: Disk>(alloc: Global, disk: &mut D, name: &Name) -> Result<Front, FileFault>
+    ensures same { D.told disk.new ≡ D.told disk.old }
+    ensures later { D.faults disk.old ≤ D.faults disk.new }
+    ensures cause { result ≡ Err FileFault.Failed → Rose (D.faults disk.old) (D.faults disk.new) }
+    ensures placed { IfOk result IsPlaced }
+    ensures told { IfSome (seen (D.told disk.old)) (λ view. AnswersFront (file_in view name.now) checked_front result) }
+{
+    let size = match open_file(disk, name) {
+        Ok(size) => size,
+        Err(fault) => return Err(fault),
+    };
+    let mut reader = LineReader::new(name, 0, size);
+    let stored = match read_sum(alloc, disk, &mut reader) {
+        Ok(stored) => stored,
+        Err(fault) => return Err(fault),
+    };
+    let place = reader.place();
+    let mut behind = LineReader::new(name, place, size);
+    let Ok(sum) = behind.sum_left(disk) else {
+        return Err(FileFault::Failed);
+    };
+    if !sum_fits(stored, &sum) {
+        return Err(FileFault::BadSum(stored, sum.plain()));
+    }
+    let (header, body_line) = match read_lines(alloc, disk, &mut reader) {
+        Ok(found) => found,
+        Err(fault) => return Err(fault),
+    };
+    Ok(Front {
+        header,
+        body_from: reader.place(),
+        body_line,
+        size,
+        sum: sum.plain(),
+    })
+}
+
+/// Reads sum line, delta table, users, flags and description of an s-file, and checks the sum over
+/// the whole file: sccsfile(4). The fault is the first that holds in the order of `FileFault`.
+pub fn read_header<D: Disk>(alloc: Global, disk: &mut D, name: &Name) -> Result<Front, FileFault>
+    ensures same { D.told disk.new ≡ D.told disk.old }
+    ensures later { D.faults disk.old ≤ D.faults disk.new }
+    ensures cause { result ≡ Err FileFault.Failed → Rose (D.faults disk.old) (D.faults disk.new) }
+    ensures placed { IfOk result IsPlaced }
+    ensures told { IfSome (seen (D.told disk.old)) (λ view. AnswersFront (file_in view name.now) front_of result) }
+{
+    let front = match check_front(alloc, disk, name) {
+        Ok(front) => front,
+        Err(fault) => return Err(fault),
+    };
+    if is_encoded(front.header.flags.items()) {
+        Err(FileFault::Encoded)
+    } else {
+        Ok(front)
+    }
+}
+
+/// Whether a flag e has the text `1`, which says that the body is encoded.
+pub fn is_encoded(flags: &[Flag]) -> bool
+    ensures { result ≡ is_encoded flags.now }
+{
+    flags
+        .iter()
+        .any(|f| f.letter == b'e' && is_one(f.text.bytes()))
+}
+
+fn is_one(text: &[u8]) -> bool
+    ensures { result ≡ is_one text.now }
+{
+    match text {
+        [byte] => *byte == b'1',
+        _ => false,
+    }
+}

@@ -1,0 +1,12 @@
+//! The header of an s-file: its lines read from a disk in pieces, and the sums of its bytes.
+#![tactic(auto)]
+
+mod fronts;
+mod line_readers;
+mod sums;
+
+pub use fronts::{Front, check_front, is_encoded, read_header};
+pub use line_readers::{LineFault, LineReader};
+pub use sccs_grammar::FileFault;
+pub use sccs_history::{Flag, Flags, Header, Record, Records, Serials};
+pub use sums::Sum;

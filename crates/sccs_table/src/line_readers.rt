@@ -1,0 +1,205 @@
+ghost use Rattle.std.specs.Prelude.{◌≡◌, ℕ, List, ◌++◌, ◌<◌, ◌≤◌, ◌+◌, [], true, false, length, take, drop, IfOk, IfSome, OnOk, OnErr, IsErrOf};
+ghost use Rattle.sccs_base.specs.Cut.{HasNoLf};
+ghost use Rattle.sccs_base.specs.Stream.{Rose};
+ghost use Rattle.sccs_disk.specs.Told.{seen};
+ghost use Rattle.sccs_table.specs.SumOf.{IsSumOf};
+ghost use Rattle.sccs_table.specs.Standing.{StandsIn, Takes, TakesLine, bytes_in};
+
+use crate::sums::Sum;
+use memchr::memchr;
+use sccs_base::{Failed, Memory, Name};
+use sccs_disk::Disk;
+use std::alloc::Global;
+use std::marker::Model;
+
+/// Why a line was not taken.
+#[derive(Clone, Copy, Debug, PartialEq, Eq)]
+pub enum LineFault {
+    Failed,
+    Memory,
+}
+
+/// Takes the lines of a file in pieces of 4,096 bytes. Contracts see the bytes that were read and
+/// not given yet, the place of the first of them, and the file's name and size.
+#[derive(Drop)]
+pub struct LineReader {
+    name: Name,
+    piece: [u8; 4096],
+    start: usize,
+    end: usize,
+    place: u64,
+    size: u64,
+}
+
+impl Model for LineReader {
+    ghost use Rattle.sccs_table.specs.Standing.{Standing};
+    ghost use Rattle.sccs_table.specs.HeldPiece.{standing, IsKept};
+
+    ghost Value = { Standing };
+
+    ghost view = { standing };
+
+    ghost invariant = { IsKept };
+}
+
+// reads so many bytes at a place into the front of a piece; fewer where the file ends
+fn read_piece<D: Disk>(
+    disk: &mut D,
+    name: &Name,
+    from: u64,
+    room: usize,
+    piece: &mut [u8],
+) -> Result<usize, Failed>
+    requires { room ≤ length piece.old }
+    ensures same { D.told disk.new ≡ D.told disk.old }
+    ensures later { D.faults disk.old ≤ D.faults disk.new }
+    ensures cause { OnErr result (Rose (D.faults disk.old) (D.faults disk.new)) }
+    ensures bound { IfOk result (λ count. count ≤ room) }
+    ensures within { IfOk result (λ count. count ≤ length piece.new) }
+    ensures told { IfOk result (λ count. IfSome (bytes_in (seen (D.told disk.old)) name.now)
+        (λ file. take count piece.new ≡ take room (drop from file))) }
+{
+    let count = disk.read_at(name, from, &mut piece[..room])?;
+    Ok(count.unwrap_or(0))
+}
+
+impl LineReader {
+    /// Stands at a place of a file.
+    pub fn new(name: &Name, place: u64, size: u64) -> LineReader
+        requires low { place ≤ size }
+        requires high { size ≤ 1073741824 }
+        ensures { result ≡ record { name = name.now; held = []; place = place; size = size } }
+    {
+        LineReader {
+            name: *name,
+            piece: [0; 4096],
+            start: 0,
+            end: 0,
+            place,
+            size,
+        }
+    }
+
+    /// The place of the next byte.
+    pub fn place(&self) -> u64
+        ensures value { result ≡ self.now.place }
+        ensures bound { self.now.place + length self.now.held ≤ self.now.size }
+        ensures limit { self.now.size ≤ 1073741824 }
+    {
+        self.place
+    }
+
+    // reads the next piece, where nothing is held; false at the end of the file
+    fn fill<D: Disk>(&mut self, disk: &mut D) -> Result<bool, Failed>
+        requires { self.old.held ≡ [] }
+        ensures same { D.told disk.new ≡ D.told disk.old }
+        ensures later { D.faults disk.old ≤ D.faults disk.new }
+        ensures cause { OnErr result (Rose (D.faults disk.old) (D.faults disk.new)) }
+        ensures name { self.new.name ≡ self.old.name }
+        ensures place { self.new.place ≡ self.old.place }
+        ensures size { self.new.size ≡ self.old.size }
+        ensures more { IfOk result (λ more. more ≡ true → 0 < length self.new.held) }
+        ensures told { IfOk result (λ more. IfSome (bytes_in (seen (D.told disk.old)) self.old.name)
+            (λ file. StandsIn self.old file → StandsIn self.new file × (more ≡ false → self.new.place ≡ length file))) }
+        ensures ahead { self.new.place + length self.new.held ≤ self.new.size }
+    {
+        self.start = 0;
+        self.end = 0;
+        let room = (self.size - self.place).min(4096) as usize;
+        let count = read_piece(disk, &self.name, self.place, room, &mut self.piece)?;
+        self.end = count;
+        Ok(count > 0)
+    }
+
+    // moves the held bytes up to LF to a line; false where no LF is held, and then all of them
+    fn take_held(&mut self, line: &mut Vec<u8>) -> Result<bool, Memory>
+        ensures name { self.new.name ≡ self.old.name }
+        ensures size { self.new.size ≡ self.old.size }
+        ensures taken { IfOk result (λ ended. Takes self.old self.new line.old.items line.new.items ended) }
+        ensures onward { self.old.place ≤ self.new.place }
+        ensures ahead { self.new.place + length self.new.held ≤ self.new.size }
+    {
+        let held = &self.piece[self.start..self.end];
+        match memchr(b'\n', held) {
+            Some(at) => {
+                line.extend_from_slice(&held[..at])?;
+                self.start += at + 1;
+                self.place += at as u64 + 1;
+                Ok(true)
+            }
+            None => {
+                line.extend_from_slice(held)?;
+                self.place += held.len() as u64;
+                self.start = self.end;
+                Ok(false)
+            }
+        }
+    }
+
+    /// Appends the next line to an empty one, without its LF; false where the file ends before an
+    /// LF, and then all that was left.
+    pub fn next_line<D: Disk>(
+        &mut self,
+        disk: &mut D,
+        line: &mut Vec<u8>,
+    ) -> Result<bool, LineFault>
+        requires { line.old.items ≡ [] }
+        ensures same { D.told disk.new ≡ D.told disk.old }
+        ensures later { D.faults disk.old ≤ D.faults disk.new }
+        ensures cause { IsErrOf result LineFault.Failed → Rose (D.faults disk.old) (D.faults disk.new) }
+        ensures name { self.new.name ≡ self.old.name }
+        ensures size { self.new.size ≡ self.old.size }
+        ensures told { IfOk result (λ ended. TakesLine (bytes_in (seen (D.told disk.old)) self.old.name) self.old self.new line.new.items ended) }
+        ensures line { OnOk result (HasNoLf line.new.items) }
+        ensures ahead { self.new.place + length self.new.held ≤ self.new.size }
+        ensures onward { self.old.place ≤ self.new.place }
+        ensures moved { IfOk result (λ ended. ended ≡ true → self.new.place ≡ self.old.place + length line.new.items + 1) }
+    {
+        let _ = &self.size;
+        'pieces: loop {
+            match self.take_held(line) {
+                Ok(true) => return Ok(true),
+                Ok(false) => {}
+                Err(Memory) => return Err(LineFault::Memory),
+            }
+            match self.fill(disk) {
+                Ok(true) => {}
+                Ok(false) => return Ok(false),
+                Err(Failed) => return Err(LineFault::Failed),
+            }
+        }
+    }
+
+    // adds the held bytes to the sums, and holds none
+    fn add_held(&mut self, sum: &mut Sum)
+        ensures name { self.new.name ≡ self.old.name }
+        ensures size { self.new.size ≡ self.old.size }
+        ensures held { self.new.held ≡ [] }
+        ensures place { self.new.place ≡ self.old.place + length self.old.held }
+        ensures ahead { self.new.place + length self.new.held ≤ self.new.size }
+        ensures sum { (front : List ℕ) → IsSumOf sum.old front → IsSumOf sum.new (front ++ self.old.held) }
+    {
+        let held = &self.piece[self.start..self.end];
+        sum.add(held);
+        self.place += held.len() as u64;
+        self.start = self.end;
+    }
+
+    /// The sums of all bytes from the reader's place on.
+    pub fn sum_left<D: Disk>(&mut self, disk: &mut D) -> Result<Sum, Failed>
+        ensures same { D.told disk.new ≡ D.told disk.old }
+        ensures later { D.faults disk.old ≤ D.faults disk.new }
+        ensures cause { OnErr result (Rose (D.faults disk.old) (D.faults disk.new)) }
+        ensures told { IfOk result (λ sum. IfSome (bytes_in (seen (D.told disk.old)) self.old.name)
+            (λ file. StandsIn self.old file → IsSumOf sum (drop self.old.place file))) }
+    {
+        let _ = &self.size;
+        let mut sum = Sum::new();
+        'pieces: loop {
+            self.add_held(&mut sum);
+            if !self.fill(disk)? {
+                return Ok(sum);
+            }
+        }
+    }
+}

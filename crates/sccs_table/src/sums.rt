@@ -1,0 +1,75 @@
+ghost use Rattle.std.specs.Prelude.{◌≡◌, ℕ, ◌+◌, ◌%◌, List, [], ◌++◌, sum, sum_by};
+ghost use Rattle.sccs_grammar.specs.Sums.{signed_weight};
+ghost use Rattle.sccs_table.specs.SumOf.{IsSumOf};
+
+use std::marker::Model;
+
+/// The plain and the signed sum of the bytes that were added, modulo 65,536. In the plain sum a byte
+/// counts 0 to 255, in the signed one -128 to 127. Contracts see the two numbers.
+#[derive(Clone, Copy, Debug, PartialEq, Eq)]
+pub struct Sum {
+    plain: u16,
+    signed: u16,
+}
+
+impl Model for Sum {
+    ghost use Rattle.std.specs.Prelude.{ℕ};
+
+    ghost Value = { ℕ × ℕ };
+
+    ghost view = { λ s. (s.plain, s.signed) };
+
+    ghost inverse = { λ p. record { plain = p.0; signed = p.1 } };
+}
+
+// both sums after more bytes
+fn sums_after(plain: u16, signed: u16, bytes: &[u8]) -> (u16, u16)
+    ensures plain { result.0 ≡ (plain + sum bytes.now) % 65536 }
+    ensures signed { result.1 ≡ (signed + sum_by signed_weight bytes.now) % 65536 }
+{
+    let mut plain = plain;
+    let mut signed = signed;
+    for byte in bytes {
+        let weight = if *byte < 128 {
+            u16::from(*byte)
+        } else {
+            u16::from(*byte) + 65280
+        };
+        plain = plain.wrapping_add(u16::from(*byte));
+        signed = signed.wrapping_add(weight);
+    }
+    (plain, signed)
+}
+
+impl Sum {
+    /// The sums of no bytes.
+    pub fn new() -> Sum
+        ensures { IsSumOf result [] }
+    {
+        Sum {
+            plain: 0,
+            signed: 0,
+        }
+    }
+
+    /// Adds bytes.
+    pub fn add(&mut self, bytes: &[u8])
+        ensures { (front : List ℕ) → IsSumOf self.old front → IsSumOf self.new (front ++ bytes.now) }
+    {
+        let (plain, signed) = sums_after(self.plain, self.signed, bytes);
+        self.plain = plain;
+        self.signed = signed;
+    }
+
+    pub fn plain(&self) -> u16
+        ensures { result ≡ self.now.0 }
+    {
+        self.plain
+    }
+
+    pub fn signed(&self) -> u16
+        ensures { result ≡ self.now.1 }
+    {
+        self.signed
+    }
+}

@@ -1,0 +1,315 @@
+-- The numbers of words don't matter for what a command line means.
+use Rattle.std.proofs.Common.{◌≡◌, ◌≢◌, ℕ, ◌+◌, ◌==◌, Bool, true, false, not, ◌&&◌, ◌||◌, List, [], ◌∷◌, ◌++◌, length, map, Option, None, Some, Result, Ok, refl, sym, ap, ◌∙◌, cond}
+use Rattle.std.specs.Prelude.{option_and_then, option_map, is_some}
+use Rattle.std.specs.List.{list_any, list_all}
+use Rattle.std.proofs.lemmas.List.{map_push}
+use Rattle.sccs_sid.specs.Reading.{is_empty}
+use Rattle.sccs_words.specs.Letters as opt
+use Rattle.sccs_words.specs.Synopsis.{rows_of, aparts_of, needs_of, rest_of, row_of}
+use Rattle.sccs_words.specs.Values.{fits, sid_value, name_value, soak_number}
+use Rattle.sccs_words.specs.Scan.{CommandLine, line, scanned}
+use Rattle.sccs_words.specs.Judge.{has, or_else, usage, is_bare, apart_by, is_apart, form_of, value_fault, repeats, is_again, known_fault, fault_by, use_fault, first_from, uses_fault, is_named, dash_with_other, wants, operand_fits, operand_fault, operands_fault, none_though_wanted, met, takes_one, too_many, end_fault, first_fault}
+use Rattle.sccs_words.specs.Records.{bit, value_in, value_of, with_value, values_of, get_words, delta_words, unget_words, prs_words, admin_words, val_words, operands_of, is_option_fault}
+use Rattle.sccs_words.specs.Unplaced.{got_only, unplaced, SameUses, kinds}
+use Rattle.sccs_words.specs.Meaning.{first_of, with_name, with_sid, with_number, command_of, refusal_of, unless, line_meaning, meaning_by, utility_of, meaning}
+use Rattle.sccs_words.proofs.Joined.{joined_or_apart}
+use Rattle.sccs_sid.specs.declared.sids.Sid.{Sid}
+use Rattle.sccs_words.specs.declared.tables.Row.TheVariants.{Plain}
+use Rattle.sccs_words.specs.declared.commands.ValWords.{ValWords}
+use Rattle.sccs_words.specs.declared.tables.Row.{Row}
+use Rattle.sccs_words.specs.declared.tables.Apart.{Apart}
+use Rattle.sccs_words.specs.declared.tables.Apart.TheVariants as aparts
+use Rattle.sccs_words.specs.declared.tables.Need.{Need}
+use Rattle.sccs_words.specs.declared.tables.Need.TheVariants as needs
+use Rattle.sccs_words.specs.declared.tables.Rest.{Rest}
+use Rattle.sccs_words.specs.declared.tables.Rest.TheVariants.{Nothing, Sfile, Number, Many, OneWith}
+use Rattle.sccs_words.specs.declared.tables.Utility.{Utility}
+use Rattle.sccs_words.specs.declared.tables.Utility.TheVariants as u
+use Rattle.sccs_words.specs.declared.scanning.Got.{Got}
+use Rattle.sccs_words.specs.declared.scanning.Got.TheVariants.{Unknown, Bare, Missing, Value}
+use Rattle.sccs_words.specs.declared.scanning.Use.{Use}
+use Rattle.sccs_words.specs.declared.commands.Usage.{Usage}
+use Rattle.sccs_words.specs.declared.commands.Command.{Command}
+use Rattle.sccs_words.specs.declared.commands.Command.TheVariants as c
+use Rattle.sccs_words.specs.declared.commands.AdminWords.{AdminWords}
+use Rattle.sccs_words.specs.declared.commands.GetWords.{GetWords}
+use Rattle.sccs_words.specs.declared.commands.DeltaWords.{DeltaWords}
+use Rattle.sccs_words.specs.declared.commands.UngetWords.{UngetWords}
+use Rattle.sccs_words.specs.declared.commands.PrsWords.{PrsWords}
+
+-- ---- what is looked up
+
+has_same : (letter : ℕ) (uses : List Use) → has letter uses ≡ has letter (map unplaced uses)
+has_same letter [] = refl
+has_same letter (one ∷ uses) = ap (λ (more : Bool). one.letter == letter || more) (has_same letter uses)
+
+value_in_same : (got : Got) → value_in got ≡ value_in (got_only got)
+value_in_same Unknown = refl
+value_in_same Bare = refl
+value_in_same Missing = refl
+value_in_same (Value bytes n) = refl
+
+value_same : (letter : ℕ) (uses : List Use) → value_of letter uses ≡ value_of letter (map unplaced uses)
+unfolding value_of
+value_same letter [] = refl
+value_same letter (one ∷ uses) =
+    ap (λ (here : Option (List ℕ)). cond (one.letter == letter) here (value_of letter uses)) (value_in_same one.got)
+    ∙ ap (cond (one.letter == letter) (value_in (got_only one.got))) (value_same letter uses)
+
+values_same : (letter : ℕ) (uses : List Use) → values_of letter uses ≡ values_of letter (map unplaced uses)
+unfolding values_of
+values_same letter [] = refl
+values_same letter (one ∷ uses) =
+    ap (λ (here : Option (List ℕ)). with_value (cond (one.letter == letter) here None) (values_of letter uses)) (value_in_same one.got)
+    ∙ ap (with_value (cond (one.letter == letter) (value_in (got_only one.got)) None)) (values_same letter uses)
+
+-- ---- faults, without their words
+
+abbrev kind : Option Usage → Option ℕ
+kind fault = option_map (λ (one : Usage). one.kind) fault
+
+or_same : (a b c d : Option Usage) → kind a ≡ kind c → kind b ≡ kind d → kind (or_else a b) ≡ kind (or_else c d)
+or_same None b None d first later = later
+or_same None b (Some fault) d first later = cc
+or_same (Some fault) b None d first later = cc
+or_same (Some fault) b (Some other) d first later = first
+
+if_same : (test other : Bool) (a b c d : Option Usage) → test ≡ other → kind a ≡ kind c → kind b ≡ kind d → kind (cond test a b) ≡ kind (cond other c d)
+if_same true true a b c d test then otherwise = then
+if_same false false a b c d test then otherwise = otherwise
+if_same true false a b c d test then otherwise = cc
+if_same false true a b c d test then otherwise = cc
+
+some_same : (a b : Option Usage) → kind a ≡ kind b → is_some a ≡ is_some b
+some_same None None is = refl
+some_same None (Some fault) is = cc
+some_same (Some fault) None is = cc
+some_same (Some fault) (Some other) is = refl
+
+first_same : {A : Type 0} (view : A → A) (fault other : List A → A → Option Usage) → ((before : List A) (x : A) → kind (fault before x) ≡ kind (other (map view before) (view x)))
+    → (before xs : List A) → kind (first_from fault before xs) ≡ kind (first_from other (map view before) (map view xs))
+unfolding first_from
+first_same {A} view fault other here before [] = refl
+first_same {A} view fault other here before (x ∷ xs) =
+    or_same (fault before x) (first_from fault (before ++ x ∷ []) xs) (other (map view before) (view x)) (first_from other (map view before ++ view x ∷ []) (map view xs)) (here before x)
+    (first_same view fault other here (before ++ x ∷ []) xs ∙ ap (λ (front : List A). kind (first_from other front (map view xs))) (map_push view before x))
+
+bare_same : (got : Got) → is_bare got ≡ is_bare (got_only got)
+bare_same Unknown = refl
+bare_same Bare = refl
+bare_same Missing = refl
+bare_same (Value bytes n) = refl
+
+rule_same : (rule : Apart) (a b : Use) → apart_by rule a b ≡ apart_by rule (unplaced a) (unplaced b)
+rule_same (aparts.Both x y) a b = refl
+rule_same (aparts.Bare x y) a b = ap (λ (bare : Bool). (a.letter == x && bare) && b.letter == y) (bare_same a.got)
+rule_same (aparts.Alone x) a b = refl
+
+apart_same : (rules : List Apart) (a b : Use) → is_apart rules a b ≡ is_apart rules (unplaced a) (unplaced b)
+apart_same [] a b = refl
+apart_same (rule ∷ rules) a b =
+    ap (λ (one : Bool). (one || apart_by rule b a) || is_apart rules a b) (rule_same rule a b)
+    ∙ (ap (λ (one : Bool). (apart_by rule (unplaced a) (unplaced b) || one) || is_apart rules a b) (rule_same rule b a)
+    ∙ ap (λ (more : Bool). (apart_by rule (unplaced a) (unplaced b) || apart_by rule (unplaced b) (unplaced a)) || more) (apart_same rules a b))
+
+excludes_same : (rules : List Apart) (one : Use) (before : List Use) → list_any (λ other. is_apart rules one other) before ≡ list_any (λ other. is_apart rules (unplaced one) other) (map unplaced before)
+excludes_same rules one [] = refl
+excludes_same rules one (other ∷ before) =
+    ap (λ (here : Bool). here || list_any (λ other. is_apart rules one other) before) (apart_same rules one other)
+    ∙ ap (λ (more : Bool). is_apart rules (unplaced one) (unplaced other) || more) (excludes_same rules one before)
+
+value_fault_same : (row : Option Row) (got : Got) → kind (value_fault row got) ≡ kind (value_fault row (got_only got))
+value_fault_same row Unknown = refl
+value_fault_same row Bare = refl
+value_fault_same row Missing = refl
+value_fault_same row (Value bytes n) = if_same (fits (form_of row) bytes) (fits (form_of row) bytes) None (usage 6 n) None (usage 6 0) refl refl refl
+
+known_same : (utility : Utility) (before : List Use) (one : Use) (row : Option Row) → kind (known_fault utility before one row) ≡ kind (known_fault utility (map unplaced before) (unplaced one) row)
+known_same utility before one row =
+    if_same (is_again row before one.letter) (is_again row (map unplaced before) one.letter) (usage 4 one.word) _ (usage 4 0) _ (ap (λ (again : Bool). not (repeats row) && again) (has_same one.letter before)) refl
+    (if_same _ _ (usage 5 one.word) (value_fault row one.got) (usage 5 0) (value_fault row (got_only one.got)) (excludes_same (aparts_of utility) one before) refl (value_fault_same row one.got))
+
+fault_same : (utility : Utility) (before : List Use) (one : Use) (got : Got) → kind (fault_by utility before one got) ≡ kind (fault_by utility (map unplaced before) (unplaced one) (got_only got))
+fault_same utility before one Unknown = refl
+fault_same utility before one Missing = refl
+fault_same utility before one Bare = known_same utility before one (row_of (rows_of utility) one.letter)
+fault_same utility before one (Value bytes n) = known_same utility before one (row_of (rows_of utility) one.letter)
+
+uses_same : (utility : Utility) (uses : List Use) → kind (uses_fault utility uses) ≡ kind (uses_fault utility (map unplaced uses))
+unfolding use_fault
+uses_same utility uses = first_same unplaced (use_fault utility) (use_fault utility) (λ before one. fault_same utility before one one.got) [] uses
+
+-- the same for operands, which have no numbers
+here_same : {A : Type 0} (fault other : List A → A → Option Usage) → ((before : List A) (x : A) → kind (fault before x) ≡ kind (other before x))
+    → (before xs : List A) → kind (first_from fault before xs) ≡ kind (first_from other before xs)
+unfolding first_from
+here_same {A} fault other here before [] = refl
+here_same {A} fault other here before (x ∷ xs) =
+    or_same (fault before x) (first_from fault (before ++ x ∷ []) xs) (other before x) (first_from other (before ++ x ∷ []) xs) (here before x) (here_same fault other here (before ++ x ∷ []) xs)
+
+fits_same : (rest : Rest) (uses : List Use) (word : List ℕ) → operand_fits rest uses word ≡ operand_fits rest (map unplaced uses) word
+fits_same Nothing uses word = refl
+fits_same Sfile uses word = refl
+fits_same Number uses word = refl
+fits_same Many uses word = refl
+fits_same (OneWith letter) uses word = ap (λ (one : Bool). not one || is_named word) (has_same letter uses)
+
+operand_same : (rest : Rest) (uses : List Use) (first : ℕ) (before : List (List ℕ)) (word : List ℕ)
+    → kind (operand_fault rest uses first before word) ≡ kind (operand_fault rest (map unplaced uses) 0 before word)
+unfolding operand_fault
+operand_same rest uses first before word =
+    if_same (dash_with_other before word) (dash_with_other before word) (usage 5 (first + length before)) _ (usage 5 (0 + length before)) _ refl refl
+    (if_same (operand_fits rest uses word) (operand_fits rest (map unplaced uses) word) None (usage 6 (first + length before)) None (usage 6 (0 + length before)) (fits_same rest uses word) refl refl)
+
+operands_same : (rest : Rest) (uses : List Use) (first : ℕ) (words : List (List ℕ)) → kind (operands_fault rest uses first words) ≡ kind (operands_fault rest (map unplaced uses) 0 words)
+operands_same rest uses first words = here_same (operand_fault rest uses first) (operand_fault rest (map unplaced uses) 0) (operand_same rest uses first) [] words
+
+met_same : (uses : List Use) (need : Need) → met uses need ≡ met (map unplaced uses) need
+met_same uses (needs.Always x) = has_same x uses
+met_same uses (needs.With letter x y) =
+    let a : has letter uses ≡ has letter (map unplaced uses) = has_same letter uses in
+    let b : has x uses ≡ has x (map unplaced uses) = has_same x uses in
+    let c : has y uses ≡ has y (map unplaced uses) = has_same y uses in cc
+
+needs_same : (needs : List Need) (uses : List Use) → list_all (λ need. met uses need) needs ≡ list_all (λ need. met (map unplaced uses) need) needs
+needs_same [] uses = refl
+needs_same (need ∷ needs) uses =
+    ap (λ (here : Bool). here && list_all (λ need. met uses need) needs) (met_same uses need)
+    ∙ ap (λ (more : Bool). met (map unplaced uses) need && more) (needs_same needs uses)
+
+one_same : (rest : Rest) (uses : List Use) → takes_one rest uses ≡ takes_one rest (map unplaced uses)
+one_same Nothing uses = refl
+one_same Sfile uses = refl
+one_same Number uses = refl
+one_same Many uses = refl
+one_same (OneWith letter) uses = has_same letter uses
+
+many_same : (rest : Rest) (uses : List Use) (words : List (List ℕ)) → too_many rest uses words ≡ too_many rest (map unplaced uses) words
+many_same rest uses [] = refl
+many_same rest uses (word ∷ []) = refl
+many_same rest uses (word ∷ more ∷ words) = ap (λ (one : Bool). not (wants rest) || one) (one_same rest uses)
+
+end_same : (utility : Utility) (uses : List Use) (operands : List (List ℕ)) (n : ℕ) → kind (end_fault utility uses operands n) ≡ kind (end_fault utility (map unplaced uses) operands 0)
+unfolding end_fault
+end_same utility uses operands n =
+    if_same (none_though_wanted (rest_of utility) operands) (none_though_wanted (rest_of utility) operands) (usage 7 n) _ (usage 7 0) _ refl refl
+    (if_same (not (list_all (λ need. met uses need) (needs_of utility))) (not (list_all (λ need. met (map unplaced uses) need) (needs_of utility))) (usage 8 n) _ (usage 8 0) _ (ap not (needs_same (needs_of utility) uses)) refl
+    (if_same (too_many (rest_of utility) uses operands) (too_many (rest_of utility) (map unplaced uses) operands) (usage 9 n) None (usage 9 0) None (many_same (rest_of utility) uses operands) refl refl))
+
+-- a command line without numbers
+abbrev blank : CommandLine → CommandLine
+blank l = line (map unplaced l.uses) 0 l.operands
+
+first_fault_same : (utility : Utility) (l : CommandLine) (n : ℕ) → kind (first_fault utility l n) ≡ kind (first_fault utility (blank l) 0)
+unfolding first_fault
+first_fault_same utility l n =
+    or_same (uses_fault utility l.uses) _ (uses_fault utility (map unplaced l.uses)) _ (uses_same utility l.uses)
+    (or_same (operands_fault (rest_of utility) l.uses l.first l.operands) (end_fault utility l.uses l.operands n)
+    (operands_fault (rest_of utility) (map unplaced l.uses) 0 l.operands) (end_fault utility (map unplaced l.uses) l.operands 0) (operands_same (rest_of utility) l.uses l.first l.operands)
+    (end_same utility l.uses l.operands n))
+
+refusal_same : (utility : Utility) (l : CommandLine) (n : ℕ) → kind (refusal_of utility l n) ≡ kind (refusal_of utility (blank l) 0)
+refusal_same u.Admin l n = first_fault_same u.Admin l n
+refusal_same u.Get l n = first_fault_same u.Get l n
+refusal_same u.Delta l n = first_fault_same u.Delta l n
+refusal_same u.Unget l n = first_fault_same u.Unget l n
+refusal_same u.Sact l n = first_fault_same u.Sact l n
+refusal_same u.Rmdel l n = first_fault_same u.Rmdel l n
+refusal_same u.Prs l n = first_fault_same u.Prs l n
+refusal_same u.Val l n = refl
+refusal_same u.What l n = first_fault_same u.What l n
+refusal_same u.Recover l n = first_fault_same u.Recover l n
+refusal_same u.Batch l n = first_fault_same u.Batch l n
+refusal_same u.Soak l n = first_fault_same u.Soak l n
+
+-- ---- the words of commands
+
+get_same : (uses : List Use) → get_words uses ≡ get_words (map unplaced uses)
+get_same uses =
+    rw (has_same opt.b uses) (rw (value_same opt.c uses) (rw (has_same opt.e uses) (rw (has_same opt.g uses) (rw (value_same opt.i uses) (rw (value_same opt.x uses)
+    (rw (has_same opt.k uses) (rw (has_same opt.m uses) (rw (has_same opt.n uses) (rw (has_same opt.p uses) (rw (has_same opt.s uses) (rw (value_same opt.r uses) (rw (has_same opt.t uses) refl))))))))))))
+
+delta_same : (uses : List Use) → delta_words uses ≡ delta_words (map unplaced uses)
+delta_same uses = rw (value_same opt.m uses) (rw (has_same opt.n uses) (rw (value_same opt.r uses) (rw (has_same opt.s uses) (rw (value_same opt.y uses) refl))))
+
+unget_same : (uses : List Use) → unget_words uses ≡ unget_words (map unplaced uses)
+unget_same uses = rw (has_same opt.n uses) (rw (value_same opt.r uses) (rw (has_same opt.s uses) refl))
+
+prs_same : (uses : List Use) → prs_words uses ≡ prs_words (map unplaced uses)
+prs_same uses =
+    rw (has_same opt.a uses) (rw (has_same opt.e uses) (rw (has_same opt.l uses) (rw (value_same opt.c uses) (rw (has_same opt.r uses) (rw (value_same opt.r uses) (rw (value_same opt.d uses) refl))))))
+
+admin_same : (uses : List Use) → admin_words uses ≡ admin_words (map unplaced uses)
+admin_same uses =
+    rw (values_same opt.a uses) (rw (values_same opt.e uses) (rw (values_same opt.f uses) (rw (values_same opt.d uses) (rw (has_same opt.h uses) (rw (has_same opt.z uses) (rw (has_same opt.n uses) (rw (has_same opt.i uses)
+    (rw (value_same opt.i uses) (rw (value_same opt.r uses) (rw (value_same opt.m uses) (rw (has_same opt.y uses) (rw (value_same opt.y uses) (rw (has_same opt.t uses) (rw (value_same opt.t uses) refl))))))))))))))
+
+val_with : (a b : Bool) (uses others : List Use) (operands : List (List ℕ)) → a ≡ b → has opt.s uses ≡ has opt.s others → value_of opt.r uses ≡ value_of opt.r others → value_of opt.y uses ≡ value_of opt.y others
+    → value_of opt.m uses ≡ value_of opt.m others
+    → ◌≡◌ {A = ValWords} (record { fault = bit a 64 + bit (is_empty operands) 128; silent = has opt.s uses; sid = value_of opt.r uses; kind = value_of opt.y uses; «module» = value_of opt.m uses; operands = operands_of operands })
+    (record { fault = bit b 64 + bit (is_empty operands) 128; silent = has opt.s others; sid = value_of opt.r others; kind = value_of opt.y others; «module» = value_of opt.m others; operands = operands_of operands })
+val_with a b uses others operands fault s r y m = cc
+
+option_fault_same : (l : CommandLine) → is_option_fault l ≡ is_option_fault (blank l)
+option_fault_same l =
+    ap (λ (one : Bool). one || is_some (operands_fault Many l.uses l.first l.operands)) (some_same (uses_fault u.Val l.uses) (uses_fault u.Val (map unplaced l.uses)) (uses_same u.Val l.uses))
+    ∙ ap (λ (one : Bool). is_some (uses_fault u.Val (map unplaced l.uses)) || one)
+    (some_same (operands_fault Many l.uses l.first l.operands) (operands_fault Many (map unplaced l.uses) 0 l.operands) (operands_same Many l.uses l.first l.operands))
+
+val_same : (l : CommandLine) → val_words l ≡ val_words (blank l)
+val_same l =
+    val_with (is_option_fault l) (is_option_fault (blank l)) l.uses (map unplaced l.uses) l.operands (option_fault_same l) (has_same opt.s l.uses) (value_same opt.r l.uses) (value_same opt.y l.uses) (value_same opt.m l.uses)
+
+name_same : (uses : List Use) (n : ℕ) (name : Option (List ℕ)) → kinds (with_name uses n name) ≡ kinds (with_name (map unplaced uses) 0 name)
+name_same uses n None = refl
+name_same uses n (Some name) = ap (λ (words : DeltaWords). Ok (c.Delta words name)) (delta_same uses)
+
+sid_same : (operands : List (List ℕ)) (n : ℕ) (a b : Option Sid) → a ≡ b → kinds (with_sid operands n a) ≡ kinds (with_sid operands 0 b)
+sid_same operands n None None is = refl
+sid_same operands n (Some sid) (Some other) is = cc
+sid_same operands n None (Some other) is = cc
+sid_same operands n (Some sid) None is = cc
+
+number_same : (n : ℕ) (number : Option ℕ) → kinds (with_number n number) ≡ kinds (with_number 0 number)
+number_same n None = refl
+number_same n (Some number) = refl
+
+command_same : (utility : Utility) (l : CommandLine) (n : ℕ) → kinds (command_of utility l n) ≡ kinds (command_of utility (blank l) 0)
+command_same u.Admin l n = ap (λ (words : AdminWords). Ok (c.Admin words (operands_of l.operands))) (admin_same l.uses)
+command_same u.Get l n = ap (λ (words : GetWords). Ok (c.Get words (operands_of l.operands))) (get_same l.uses)
+command_same u.Delta l n = name_same l.uses n (option_and_then name_value (first_of l.operands))
+command_same u.Unget l n = ap (λ (words : UngetWords). Ok (c.Unget words (operands_of l.operands))) (unget_same l.uses)
+command_same u.Sact l n = refl
+command_same u.Rmdel l n = sid_same l.operands n _ _ (ap (option_and_then sid_value) (value_same opt.r l.uses))
+command_same u.Prs l n = ap (λ (words : PrsWords). Ok (c.Prs words (operands_of l.operands))) (prs_same l.uses)
+command_same u.Val l n = ap (λ (words : ValWords). Ok (c.Val words)) (val_same l)
+command_same u.What l n = ap (λ (silent : Bool). Ok (c.What silent (operands_of l.operands))) (has_same opt.s l.uses)
+command_same u.Recover l n = refl
+command_same u.Batch l n = refl
+command_same u.Soak l n = number_same n (option_and_then soak_number (first_of l.operands))
+
+unless_same : (a b : Option Usage) (x y : Result Command Usage) → kind a ≡ kind b → kinds x ≡ kinds y → kinds (unless a x) ≡ kinds (unless b y)
+unless_same None None x y refusal meant = meant
+unless_same (Some fault) (Some other) x y refusal meant = cc
+unless_same None (Some other) x y refusal meant = cc
+unless_same (Some fault) None x y refusal meant = cc
+
+blank_same : (utility : Utility) (l : CommandLine) (n : ℕ) → kinds (line_meaning utility l n) ≡ kinds (line_meaning utility (blank l) 0)
+unfolding line_meaning
+blank_same utility l n =
+    unless_same (refusal_of utility l n) (refusal_of utility (blank l) 0) (command_of utility l n) (command_of utility (blank l) 0) (refusal_same utility l n) (command_same utility l n)
+
+pub same_meaning : (utility : Utility) (a b : CommandLine) (n m : ℕ) → SameUses a b → kinds (line_meaning utility a n) ≡ kinds (line_meaning utility b m)
+same_meaning utility a b n m same =
+    let is : blank a ≡ blank b = ap (λ (uses : List Use). line uses 0 a.operands) same.uses ∙ ap (line (map unplaced b.uses) 0) same.operands in
+    blank_same utility a n ∙ (ap (λ (l : CommandLine). kinds (line_meaning utility l 0)) is ∙ sym (blank_same utility b m))
+
+pub joined_means_apart : (utility : Utility) (name : List ℕ) (a b : ℕ) (rest : List ℕ) (words : List (List ℕ)) → utility_of name ≡ Some utility → row_of (rows_of utility) a ≡ Some (Plain a) → b ≢ 45
+    → kinds (meaning (name ∷ (45 ∷ a ∷ b ∷ rest) ∷ words)) ≡ kinds (meaning (name ∷ (45 ∷ a ∷ []) ∷ (45 ∷ b ∷ rest) ∷ words))
+unfolding meaning
+joined_means_apart utility name a b rest words found plain other =
+    let joined : List (List ℕ) = (45 ∷ a ∷ b ∷ rest) ∷ words in
+    let apart : List (List ℕ) = (45 ∷ a ∷ []) ∷ (45 ∷ b ∷ rest) ∷ words in
+    ap (λ (o : Option Utility). kinds (meaning_by o joined)) found
+    ∙ (same_meaning utility (scanned (rows_of utility) 2 [] None joined) (scanned (rows_of utility) 2 [] None apart) (length joined + 2) (length apart + 2) (joined_or_apart utility 2 a b [] rest words plain other)
+    ∙ sym (ap (λ (o : Option Utility). kinds (meaning_by o apart)) found))
