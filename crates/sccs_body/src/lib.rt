@@ -3,6 +3,8 @@
 
 mod bodies;
 mod item_readers;
+#[cfg(test)]
+mod tests;
 
 pub use bodies::inspect;
 pub use item_readers::ItemReader;

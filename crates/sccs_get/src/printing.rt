@@ -5,12 +5,12 @@ ghost use Rattle.sccs_table.specs.FrontFile.{IsPlaced};
 
 use crate::targets::set_of;
 use sccs_base::{Name, Sink, give_parts};
-use sccs_body::{Item, ItemReader};
+use sccs_body::{Item, ItemReader, inspect};
 use sccs_disk::Disk;
 use sccs_grammar::FileFault;
 use sccs_sets::Applied;
 use sccs_sid::{Refusal, StepFault};
-use sccs_table::{Front, check_front, is_encoded};
+use sccs_table::Front;
 use sccs_weave::Weaver;
 use sccs_words::GetWords;
 use std::alloc::Global;
@@ -30,32 +30,6 @@ fn step_fault(fault: FileFault) -> StepFault
         FileFault::Encoded => StepFault::Refused(Refusal::Encoded),
         FileFault::Failed => StepFault::DiskFault,
         FileFault::Memory => StepFault::Memory,
-    }
-}
-
-// reads a body to its end
-fn check_body<D: Disk>(
-    alloc: Global,
-    name: &Name,
-    front: &Front,
-    disk: &mut D,
-) -> Result<(), StepFault>
-    requires { IsPlaced front.now }
-    ensures same { D.told disk.new ≡ D.told disk.old }
-    ensures later { D.faults disk.old ≤ D.faults disk.new }
-    ensures write_fault { result ≢ Err faults.WriteFault }
-    ensures read_fault { result ≢ Err faults.ReadFault }
-    ensures disk_fault { result ≡ Err faults.DiskFault → Rose (D.faults disk.old) (D.faults disk.new) }
-{
-    let Ok(mut items) = ItemReader::new(alloc, name, front) else {
-        return Err(StepFault::Memory);
-    };
-    loop {
-        match items.next(disk) {
-            Ok(Some(_)) => {}
-            Ok(None) => return Ok(()),
-            Err(fault) => return Err(step_fault(fault)),
-        }
     }
 }
 
@@ -132,14 +106,10 @@ pub fn print_version<O: Sink, D: Disk>(
     ensures read_fault { result ≢ Err faults.ReadFault }
     ensures disk_fault { result ≡ Err faults.DiskFault → Rose (D.faults disk.old) (D.faults disk.new) }
 {
-    let front = match check_front(alloc, disk, name) {
+    let front = match inspect(alloc, disk, name) {
         Ok(front) => front,
         Err(fault) => return Err(step_fault(fault)),
     };
-    check_body(alloc, name, &front, disk)?;
-    if is_encoded(front.header.flags.items()) {
-        return Err(StepFault::Refused(Refusal::Encoded));
-    }
     let set = set_of(alloc, &front.header, words)?;
     print_body(alloc, name, &front, &set, out, disk)
 }

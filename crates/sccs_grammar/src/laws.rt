@@ -1,16 +1,18 @@
 ghost use Rattle.std.specs.Prelude.{◌≡◌, ℕ, suc, ◌+◌, ◌<◌, true, false, List, [], ◌∷◌, ◌++◌, map, length, not, decimal};
 ghost use Rattle.std.specs.List.{AllByRecursion};
+ghost use Rattle.sccs_history.specs.Applied.{live_serials};
 ghost use Rattle.sccs_history.specs.Body.{GoesOn};
-ghost use Rattle.sccs_history.specs.History.{AreBare, IsFlag, has_own_letters};
+ghost use Rattle.sccs_history.specs.History.{AreBare, HasSpelling, IsFlag, IsHeader, IsSpelled, has_own_letters};
 ghost use Rattle.sccs_history.specs.Numbers.{is_empty, share};
 ghost use Rattle.sccs_grammar.specs.Front.{all_below, at_description, at_flags, at_lists, at_table, at_texts, at_users, front_from, with_comments, with_entry, with_exclude, with_ignore, with_include, with_mrs};
+ghost use Rattle.sccs_grammar.specs.File.{IsSFile};
 ghost use Rattle.sccs_grammar.specs.Items.{items_from};
 ghost use Rattle.sccs_grammar.specs.Said.{said};
-ghost use Rattle.sccs_grammar.specs.Written.{IsItem, IsSerial, comment_line, counts_line, end_line, flag_line, item_line, list_lines, mr_line};
+ghost use Rattle.sccs_grammar.specs.Written.{HasLines, IsItem, IsSerial, canonical, comment_line, counts_line, delta_line, delta_part, end_line, flag_line, item_line, list_lines, mr_line};
 
 use crate::readings::{Entry, Reading, Stood, Table};
 use crate::sayings::Said;
-use sccs_history::{Flag, Item};
+use sccs_history::{Flag, Header, Item, Record};
 
 /// A fault within the lines is the fault whatever lines follow, and whatever bytes follow the last LF.
 pub fn faults_stay()
@@ -58,9 +60,23 @@ pub fn entry_parts_again()
         ≡ front_from (suc (n + length mrs + length comments)) (at_table (with_entry entries (with_comments (with_mrs e mrs) comments))) rest }
 {}
 
+/// A delta line that is written says its record.
+pub fn delta_again()
+    ensures { (r : Record) → HasSpelling r → IsSerial r.serial → r.predecessor < 65536
+        → said (delta_line r) ≡ Some (Said.Delta (delta_part r)) }
+{}
+
 /// The items of a whole body that are written are read again.
 pub fn body_again()
     ensures { (live : List ℕ) (n : ℕ) (before items : List Item)
         → AllByRecursion IsItem items → GoesOn live before items
         → items_from live n before (map item_line items) [] ≡ Ok items }
+{}
+
+/// The written spelling of a header that keeps the rules, and of the items of a body over its live
+/// serials, is an s-file of them.
+pub fn file_again()
+    ensures { (header : Header) (items : List Item) → IsHeader header → IsSpelled header
+        → AllByRecursion IsItem items → AllByRecursion HasLines items → GoesOn (live_serials header.records) [] items
+        → IsSFile (canonical header items) header items }
 {}

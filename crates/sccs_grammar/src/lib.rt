@@ -14,7 +14,9 @@ mod table_tests;
 
 pub use faults::FileFault;
 pub use hearing::hear;
-pub use laws::{body_again, entry_parts_again, faults_stay, short_parts_again};
+pub use laws::{
+    body_again, delta_again, entry_parts_again, faults_stay, file_again, short_parts_again,
+};
 pub use line_says::read_line;
 pub use readings::{Entry, FrontFault, Place, Reading, Stood, Table};
 pub use sayings::{Said, Which};

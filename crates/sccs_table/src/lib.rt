@@ -4,6 +4,8 @@
 mod fronts;
 mod line_readers;
 mod sums;
+#[cfg(test)]
+mod tests;
 
 pub use fronts::{Front, check_front, is_encoded, read_header};
 pub use line_readers::{LineFault, LineReader};
