@@ -19,6 +19,8 @@ pub use lists::{Bytes, ListOf, Names, Text, Words};
 pub use logins::Login;
 pub use memory_streams::{MemorySink, MemorySource, NullSink, SteadySource};
 pub use pieces::{give_parts, take_all};
-pub use standard_streams::{ReaderSource, StdErrSink, StdSink, StdSource, WriterSink};
+pub use standard_streams::{
+    BufferedSink, ReaderSource, StdErrSink, StdSink, StdSource, WriterSink,
+};
 pub use streams::{Failed, MakeFault, Memory, Sink, Source, TakeFault, one_more};
 pub use texts::{Line, first_line};

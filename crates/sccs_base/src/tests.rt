@@ -1,5 +1,7 @@
 use crate::*;
 use std::alloc::Global;
+use std::io;
+use std::io::Write;
 use std::test::Fail;
 
 fn nine(alloc: Global) -> Result<SteadySource, Memory> {
@@ -55,5 +57,33 @@ fn adapters_pass_bytes_on(rt: HostRuntime) -> Result<(), Fail> {
     assert_eq!(rt; bytes.bytes(), b"abc".as_slice());
     let mut sink = WriterSink::new(Vec::new(rt.alloc()));
     assert_eq!(rt; sink.give(bytes.bytes()), Ok(()));
+    Ok(())
+}
+
+// a writer that takes three bytes at most, and then fails
+#[derive(Drop)]
+struct Narrow {
+    room: usize,
+}
+
+impl Write for Narrow {
+    fn write(&mut self, bytes: &[u8]) -> io::Result<usize> {
+        let count = bytes.len().min(self.room);
+        self.room -= count;
+        Ok(count)
+    }
+
+    fn flush(&mut self) -> io::Result<()> {
+        Ok(())
+    }
+}
+
+#[test]
+fn a_failed_flush_is_told(rt: HostRuntime) -> Result<(), Fail> {
+    let mut sink = BufferedSink::new(rt.alloc(), Narrow { room: 3 })?;
+    assert_eq!(rt; sink.give(b"abc"), Ok(()));
+    assert_eq!(rt; sink.flush(), Ok(()));
+    assert_eq!(rt; sink.give(b"d"), Ok(()));
+    assert_eq!(rt; sink.flush(), Err(Failed));
     Ok(())
 }

@@ -16,7 +16,7 @@ use Rattle.sccs_body.specs.ItemsRead.{Gives, GivesItem, Goes, IsBehind, fresh}
 use Rattle.sccs_body.specs.BodyFile.{items_of, ChecksFile, ChecksItems}
 
 -- these items before what is read
-abbrev onto : List Item → Result (List Item) ℕ → Result (List Item) ℕ
+abbrev pub onto : List Item → Result (List Item) ℕ → Result (List Item) ℕ
 onto given read = read >>= λ items. Ok (given ++ items)
 
 -- what the whole body has is what was given and what is read from here on
@@ -25,7 +25,7 @@ Reached None live begun n0 before now = Unit {0}
 Reached (Some file) live begun n0 before now =
     StandsIn begun file → StandsIn now.lines file × ((given : List Item) × (items_from live n0 [] (left begun file).lines (left begun file).tail ≡ onto given (items_from live now.number before (left now.lines file).lines (left now.lines file).tail)))
 
-onto_none : (read : Result (List Item) ℕ) → read ≡ onto [] read
+pub onto_none : (read : Result (List Item) ℕ) → read ≡ onto [] read
 onto_none (Ok items) = refl
 onto_none (Err k) = refl
 
@@ -39,7 +39,7 @@ reached_start (Some file) live begun now is =
     subst (λ s. StandsIn s file → StandsIn now.lines file × ((given : List Item) × (items_from live now.number [] (left s file).lines (left s file).tail ≡ onto given (items_from live now.number [] (left now.lines file).lines (left now.lines file).tail)))) is
     (λ stands. (stands, ([], onto_none _)))
 
-items_on : (live : List ℕ) (n : ℕ) (before : List Item) (item : Item) (line : List ℕ) (lines : List (List ℕ)) (tail : List ℕ) → item_at live before line ≡ Some item → items_from live n before (line ∷ lines) tail ≡ (items_from live (suc n) (item ∷ before) lines tail >>= λ items. Ok (item ∷ items))
+pub items_on : (live : List ℕ) (n : ℕ) (before : List Item) (item : Item) (line : List ℕ) (lines : List (List ℕ)) (tail : List ℕ) → item_at live before line ≡ Some item → items_from live n before (line ∷ lines) tail ≡ (items_from live (suc n) (item ∷ before) lines tail >>= λ items. Ok (item ∷ items))
 unfolding items_from
 items_on live n before item line lines tail is = rw is refl
 

@@ -6,6 +6,7 @@ use Rattle.sccs_sid.specs.Reading.{◌>>=◌}
 use Rattle.sccs_disk.specs.Files.{View}
 use Rattle.sccs_history.specs.Applied.{live_serials}
 use Rattle.sccs_history.specs.History.{is_encoded}
+use Rattle.sccs_history.specs.Body.{GoesOn}
 use Rattle.sccs_history.specs.declared.headers.Header.{Header}
 use Rattle.sccs_history.specs.declared.headers.Item.{Item}
 use Rattle.sccs_grammar.specs.Front.{ParsedFront}
@@ -16,6 +17,7 @@ use Rattle.sccs_grammar.specs.declared.faults.FileFault.TheVariants.{Missing, To
 use Rattle.sccs_table.specs.declared.fronts.Front.{Front}
 use Rattle.sccs_table.specs.Standing.{bytes_in, file_in}
 use Rattle.sccs_table.specs.FrontFile.{Refuses, IsFrontOf, AnswersFront}
+use Rattle.sccs_body.proofs.ReadBodies.{body_read}
 use Rattle.sccs_body.specs.BodyFile.{items_of, ChecksFile, ChecksItems, AnswersFile}
 
 -- ---- the bytes of a file
@@ -130,3 +132,43 @@ file_plain (Some view) name front is answers checks = plain_in (file_in view nam
 -- the view stayed, so what a call found is found in the first one
 pub found_in : (old new : Option View) (name : List ℕ) (front : Front) (result : Result (Unit {0}) FileFault) → new ≡ old → ChecksItems (bytes_in new name) front result → ChecksItems (bytes_in old name) front result
 found_in old new name front result same found = subst (λ v. ChecksItems (bytes_in v name) front result) same found
+
+-- ---- the items of a file that was read
+
+within_read : (long : Bool) (file : List ℕ) (parsed : Parsed) → ((if long then Err TooLong else Ok file) >>= file_of) ≡ Ok parsed → file_of file ≡ Ok parsed
+within_read true file parsed is = absurd cc
+within_read false file parsed is = is
+
+plain_items : (encoded : Bool) (parsed made : Parsed) → (if encoded then Err Encoded else Ok made) ≡ Ok parsed → made ≡ parsed
+plain_items true parsed made is = absurd cc
+plain_items false parsed made is = cc
+
+items_by : (p : ParsedFront) (found : Result (List Item) ℕ) (parsed : Parsed) → file_by p found ≡ Ok parsed → found ≡ Ok parsed.items
+items_by p (Ok items) parsed is =
+    ap (λ (made : Parsed). Ok made.items) (plain_items (is_encoded p.header.flags) parsed (record { header = p.header; items = items }) is)
+items_by p (Err line) parsed is = absurd cc
+
+pub file_items : (file : List ℕ) (parsed : Parsed) (p : ParsedFront) (front : Front) → answer file_of (Some file) ≡ Ok parsed → checked_front file ≡ Ok p → IsFrontOf file p front → items_of file front ≡ Ok parsed.items
+file_items file parsed p front is read of =
+    same_items file p front of
+    ∙ items_by p (items_from (live_serials p.header.records) p.line [] p.rest (cut file).tail) parsed (sym (file_from file p read) ∙ within_read (nat_lt 1073741824 (length file)) file parsed is)
+
+never_read : (e : FileFault) (parsed : Parsed) (read : Result Parsed FileFault) → read ≡ Err e → read ≡ Ok parsed → ⊥
+never_read e parsed read failed is = cc
+
+body_by : (p : ParsedFront) (tail : List ℕ) (found : Result (List Item) ℕ) (parsed : Parsed) → items_from (live_serials p.header.records) p.line [] p.rest tail ≡ found → file_by p found ≡ Ok parsed
+    → GoesOn (live_serials parsed.header.records) [] parsed.items
+body_by p tail (Ok items) parsed is whole =
+    subst (λ (made : Parsed). GoesOn (live_serials made.header.records) [] made.items) (plain_items (is_encoded p.header.flags) parsed (record { header = p.header; items = items }) whole)
+    (body_read (live_serials p.header.records) p.line [] p.rest tail items is)
+body_by p tail (Err line) parsed is whole = absurd cc
+
+body_from : (file : List ℕ) (front : Result ParsedFront FileFault) (parsed : Parsed) → checked_front file ≡ front → file_of file ≡ Ok parsed → GoesOn (live_serials parsed.header.records) [] parsed.items
+body_from file (Ok p) parsed read is =
+    body_by p (cut file).tail (items_from (live_serials p.header.records) p.line [] p.rest (cut file).tail) parsed refl (sym (file_from file p read) ∙ is)
+body_from file (Err e) parsed read is = absurd (never_read e parsed (file_of file) (file_fails file e read) is)
+
+-- the items of a file keep the rules of a body over its live serials
+pub file_body : (o : Option (List ℕ)) (parsed : Parsed) → answer file_of o ≡ Ok parsed → GoesOn (live_serials parsed.header.records) [] parsed.items
+file_body None parsed is = absurd cc
+file_body (Some file) parsed is = body_from file (checked_front file) parsed refl (within_read (nat_lt 1073741824 (length file)) file parsed is)

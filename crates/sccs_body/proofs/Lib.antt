@@ -1,3 +1,5 @@
 pub mod BodyLaws
 pub mod FileLaws
 pub mod ItemLaws
+pub mod ReadBodies
+pub mod TextLaws

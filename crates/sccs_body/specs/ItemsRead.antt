@@ -2,6 +2,7 @@
 use Rattle.std.specs.Prelude.{◌≡◌, ℕ, ◌+◌, true, List, [], ◌∷◌, Option, None, Some, Result, Ok, Err, Bool, if◌then◌else◌}
 use Rattle.sccs_history.specs.Body.{may_stand, is_over}
 use Rattle.sccs_history.specs.declared.headers.Item.{Item}
+use Rattle.sccs_history.specs.declared.headers.Item.TheVariants.{Text}
 use Rattle.sccs_base.specs.declared.streams.Memory.{Memory}
 use Rattle.sccs_marks.specs.States.{Knows}
 use Rattle.sccs_marks.specs.declared.body_states.BodyState.{BodyState}
@@ -15,6 +16,11 @@ use Rattle.sccs_body.specs.Reader.{ItemPlace}
 -- the reader stands behind these items, the last first, of a body over live serials
 abbrev pub IsBehind : List ℕ → List Item → ItemPlace → Type 0
 IsBehind live before r = Knows live before r.state
+
+-- the lines as text items behind others, the last nearest
+abbrev pub texts_behind : List (List ℕ) → List Item → List Item
+texts_behind [] before = before
+texts_behind (line ∷ lines) before = texts_behind lines (Text line ∷ before)
 
 -- the line is an item that may stand, and the state is that behind it; or it is none
 abbrev pub TakesItem : List ℕ → List Item → BodyState → List ℕ → Result (Option Item) Memory → Type 0

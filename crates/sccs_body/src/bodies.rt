@@ -1,6 +1,7 @@
 ghost use Rattle.std.specs.Prelude.{◌≡◌, ◌≤◌, IfOk, IfSome, Err};
 ghost use Rattle.sccs_base.specs.Stream.{Rose};
 ghost use Rattle.sccs_disk.specs.Told.{seen};
+ghost use Rattle.sccs_history.specs.History.{IsHeader, IsSpelled};
 ghost use Rattle.sccs_table.specs.FrontFile.{IsPlaced};
 ghost use Rattle.sccs_table.specs.Standing.{bytes_in, file_in};
 ghost use Rattle.sccs_body.specs.BodyFile.{AnswersFile, ChecksItems};
@@ -29,10 +30,10 @@ fn check_items<D: Disk>(
         return Err(FileFault::Memory);
     };
     'items: loop {
+        let count = reader.texts().len();
+        reader.pass(count);
         match reader.next(disk) {
-            Ok(Some(item)) => {
-                let _item = &item;
-            }
+            Ok(Some(_)) => {}
             Ok(None) => return Ok(()),
             Err(fault) => return Err(fault),
         }
@@ -46,6 +47,8 @@ pub fn inspect<D: Disk>(alloc: Global, disk: &mut D, name: &Name) -> Result<Fron
     ensures later { D.faults disk.old ≤ D.faults disk.new }
     ensures cause { result ≡ Err FileFault.Failed → Rose (D.faults disk.old) (D.faults disk.new) }
     ensures placed { IfOk result IsPlaced }
+    ensures rules { IfOk result (λ front. IsHeader front.header) }
+    ensures spelled { IfOk result (λ front. IsSpelled front.header) }
     ensures told { IfSome (seen (D.told disk.old)) (λ view. AnswersFile (file_in view name.now) result) }
 {
     let front = match check_front(alloc, disk, name) {

@@ -1,15 +1,17 @@
-ghost use Rattle.std.specs.Prelude.{◌≡◌, ◌&&◌, ℕ, ◌+◌, ◌<◌, ◌≤◌, List, [], ◌∷◌, length, true, IfOk, IfSome, Err};
-ghost use Rattle.sccs_base.specs.Cut.{HasNoLf};
+ghost use Rattle.std.specs.Prelude.{◌≡◌, ◌&&◌, ℕ, ◌+◌, ◌<◌, ◌≤◌, List, [], ◌∷◌, length, take, drop, true, IfOk, IfSome, Err};
+ghost use Rattle.sccs_base.specs.Cut.{HasNoLf, cut};
 ghost use Rattle.sccs_base.specs.Stream.{Rose};
 ghost use Rattle.sccs_disk.specs.Told.{seen};
 ghost use Rattle.sccs_grammar.specs.Items.{item_of};
 ghost use Rattle.sccs_history.specs.Applied.{live_serials};
 ghost use Rattle.sccs_history.specs.Numbers.{is_empty};
 ghost use Rattle.sccs_history.specs.Body.{is_over, may_stand};
+ghost use Rattle.sccs_history.specs.declared.headers.Item.TheVariants as items;
 ghost use Rattle.sccs_marks.specs.States.{Knows};
 ghost use Rattle.sccs_table.specs.FrontFile.{IsPlaced};
+ghost use Rattle.sccs_table.specs.Runs.{HasNoRun, IsRun, PassesRun};
 ghost use Rattle.sccs_table.specs.Standing.{bytes_in};
-ghost use Rattle.sccs_body.specs.ItemsRead.{Gives, Goes, IsBehind, TakesItem, fresh};
+ghost use Rattle.sccs_body.specs.ItemsRead.{Gives, Goes, IsBehind, TakesItem, fresh, texts_behind};
 
 use sccs_base::{Memory, Name};
 use sccs_disk::Disk;
@@ -26,6 +28,7 @@ use std::marker::Model;
 pub struct ItemReader {
     alloc: Global,
     lines: LineReader,
+    line: Vec<u8>,
     state: BodyState,
     number: u64,
 }
@@ -131,9 +134,44 @@ impl ItemReader {
         Ok(ItemReader {
             alloc,
             lines: LineReader::new(name, front.body_from, front.size),
+            line: Vec::new(alloc),
             state,
             number: front.body_line,
         })
+    }
+
+    /// The text lines that are held whole, each with its LF; none where no text line may stand.
+    pub fn texts(&self) -> &[u8]
+        ensures fits { length result.now ≤ length self.now.lines.held }
+        ensures front { take (length result.now) self.now.lines.held ≡ result.now }
+        ensures run { IsRun result.now }
+        ensures stand { (live : List ℕ) (before : List Item) (text : List ℕ) → IsBehind live before self.now
+            → 0 < length result.now → may_stand live before (items.Text text) ≡ true }
+        ensures longest { (live : List ℕ) (before : List Item) (text : List ℕ) → IsBehind live before self.now
+            → may_stand live before (items.Text text) ≡ true → HasNoRun (drop (length result.now) self.now.lines.held) }
+    {
+        if self.state.may_stand_text() {
+            self.lines.texts()
+        } else {
+            &[]
+        }
+    }
+
+    /// Passes over so many of the held bytes, which are text lines that may stand.
+    pub fn pass(&mut self, count: usize)
+        requires fits { count ≤ length self.old.lines.held }
+        requires run { IsRun (take count self.old.lines.held) }
+        ensures name { self.new.lines.name ≡ self.old.lines.name }
+        ensures size { self.new.lines.size ≡ self.old.lines.size }
+        ensures ahead { self.new.lines.place + length self.new.lines.held ≤ self.new.lines.size }
+        ensures place { self.new.lines.place ≡ self.old.lines.place + count }
+        ensures held { self.new.lines.held ≡ drop count self.old.lines.held }
+        ensures number { self.new.number ≡ self.old.number + length (cut (take count self.old.lines.held)).lines }
+        ensures behind { (live : List ℕ) (before : List Item) → IsBehind live before self.old
+            → IsBehind live (texts_behind (cut (take count self.old.lines.held)).lines before) self.new }
+        ensures told { (file : List ℕ) → PassesRun (take count self.old.lines.held) file self.old.lines self.new.lines }
+    {
+        self.number += self.lines.pass(count);
     }
 
     /// The next item; None at the end of the body. BadFormat has the number of the line at which no
@@ -150,20 +188,19 @@ impl ItemReader {
         ensures told { (live : List ℕ) (before : List Item) → IsBehind live before self.old
             → Gives (bytes_in (seen (D.told disk.old)) self.old.lines.name) live before self.old self.new result }
     {
-        let mut line = Vec::new(self.alloc);
-        let ended = match self.lines.next_line(disk, &mut line) {
+        self.line.clear();
+        let ended = match self.lines.next_line(disk, &mut self.line) {
             Ok(ended) => ended,
             Err(LineFault::Failed) => return Err(FileFault::Failed),
             Err(LineFault::Memory) => return Err(FileFault::Memory),
         };
         if !ended {
-            if ends_with(&self.state, line.as_slice()) {
+            if ends_with(&self.state, self.line.as_slice()) {
                 return Ok(None);
             }
             return Err(FileFault::BadFormat(self.number));
         }
-        let _place = self.lines.place();
-        match next_item(self.alloc, &mut self.state, line.as_slice()) {
+        match next_item(self.alloc, &mut self.state, self.line.as_slice()) {
             Ok(Some(item)) => {
                 self.number += 1;
                 Ok(Some(item))

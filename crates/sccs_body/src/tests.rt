@@ -1,6 +1,6 @@
 use crate::*;
 use sccs_base::Name;
-use sccs_disk::MemoryDisk;
+use sccs_disk::{Disk, MemoryDisk};
 use sccs_grammar::FileFault;
 use std::alloc::Global;
 use std::test::Fail;
@@ -52,6 +52,27 @@ fn a_body_is_read(rt: HostRuntime) -> Result<(), Fail> {
 }
 
 #[test]
+fn text_lines_are_passed_over(rt: HostRuntime) -> Result<(), Fail> {
+    let name = Name::read(b"s.a").ok_or("a name")?;
+    let mut disk = disk_with(rt.alloc(), &name, FILE)?;
+    let Ok(front) = inspect(rt.alloc(), &mut disk, &name) else {
+        return Err("a file".into());
+    };
+    let mut reader = ItemReader::new(rt.alloc(), &name, &front)?;
+    let Ok(Some(Item::Insert(1))) = reader.next(&mut disk) else {
+        return Err("an insert".into());
+    };
+    assert_eq!(rt; reader.texts(), b"one\ntwo\n".as_slice());
+    let count = reader.texts().len();
+    reader.pass(count);
+    let Ok(Some(Item::End(1))) = reader.next(&mut disk) else {
+        return Err("an end".into());
+    };
+    assert_eq!(rt; reader.texts(), b"".as_slice());
+    Ok(())
+}
+
+#[test]
 fn faults_of_files(rt: HostRuntime) -> Result<(), Fail> {
     let name = Name::read(b"s.a").ok_or("a name")?;
     let rows: [(&[u8], FileFault); 6] = [
@@ -68,6 +89,38 @@ fn faults_of_files(rt: HostRuntime) -> Result<(), Fail> {
             Ok(_) => return Err("no file".into()),
             Err(fault) => assert_eq!(rt; fault, wanted),
         }
+    }
+    Ok(())
+}
+
+// how many text lines the body of an s-file has, as another program would count them
+fn count_lines<D: Disk>(alloc: Global, disk: &mut D, name: &Name) -> Result<u64, FileFault> {
+    let front = match inspect(alloc, disk, name) {
+        Ok(front) => front,
+        Err(fault) => return Err(fault),
+    };
+    let Ok(mut items) = ItemReader::new(alloc, name, &front) else {
+        return Err(FileFault::Memory);
+    };
+    let mut count: u64 = 0;
+    for _ in 0..front.size {
+        match items.next(disk) {
+            Ok(Some(Item::Text(_))) => count = count.saturating_add(1),
+            Ok(Some(_)) => {}
+            Ok(None) => return Ok(count),
+            Err(fault) => return Err(fault),
+        }
+    }
+    Ok(count)
+}
+
+#[test]
+fn lines_are_counted(rt: HostRuntime) -> Result<(), Fail> {
+    let name = Name::read(b"s.a").ok_or("a name")?;
+    let mut disk = disk_with(rt.alloc(), &name, FILE)?;
+    match count_lines(rt.alloc(), &mut disk, &name) {
+        Ok(count) => assert_eq!(rt; count, 2),
+        Err(_) => return Err("a file".into()),
     }
     Ok(())
 }

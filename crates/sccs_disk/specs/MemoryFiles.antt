@@ -1,14 +1,14 @@
 -- What a disk in memory shows: its files, its calls so far, and the calls that are to fail.
-use Rattle.std.specs.Prelude.{◌≡◌, ℕ, List, [], ◌∷◌, Option, None, Some, option_map, cond}
+use Rattle.std.specs.Prelude.{◌≡◌, ℕ, List, [], ◌∷◌, None, Some, cond}
 use Rattle.std.specs.Ordering.{nat_cmp, eq_by_cmp}
 use Rattle.std.specs.Str.{bytes_eq}
 use Rattle.std.specs.FinMap.{empty, insert, get, get-insert, get-empty}
 use Rattle.std.specs.Cmp.Lexicographic.{slice_cmp, nat_list_cmp_total}
-use Rattle.std.proofs.Common.{sym, ap, ◌∙◌}
+use Rattle.std.proofs.Common.{ap, ◌∙◌}
 use Rattle.std.proofs.Math.Path.{fun_ext}
 use Rattle.std.proofs.lemmas.Map.Text.{is_eq-slice_cmp}
-use Rattle.sccs_disk.specs.Files.{Content, View, Model, IsSane, put, Folder, view_in, IsFinite}
-use Rattle.sccs_disk.specs.Told.{Told, Shows, Tells, seen}
+use Rattle.sccs_disk.specs.Files.{Content, View, Model, IsSane, put, Folder, IsFinite}
+use Rattle.sccs_disk.specs.Told.{Shows, Tells, seen}
 use Rattle.sccs_base.proofs.SameBytes.{bytes_eq_sym}
 use Rattle.sccs_disk.specs.declared.memory_disk.MemoryDisk.{MemoryDisk}
 use Rattle.sccs_disk.specs.declared.memory_disk.Held.{Held}

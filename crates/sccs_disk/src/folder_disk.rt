@@ -9,11 +9,12 @@ use std::fs::OpenFile;
 use std::io::{ErrorKind, Read, Seek, SeekFrom};
 use std::rt::Files;
 
-// a file that is open, with its name
+// a file that is open, with its name, and the place where its last reading ended
 #[derive(Drop)]
 struct Open<F> {
     name: Name,
     file: F,
+    place: u64,
 }
 
 /// The current folder. It tells nothing of its files, and counts its failures. The file that was
@@ -76,13 +77,25 @@ fn fill<F: Read>(file: &mut F, into: &mut [u8]) -> Option<usize>
     None
 }
 
-fn read_open<F: Read + Seek>(file: &mut F, from: u64, into: &mut [u8]) -> Option<usize>
+// goes to a place, where the file doesn't stand there
+fn go_to<F: Seek>(open: &mut Open<F>, place: u64) -> bool {
+    if open.place == place {
+        return true;
+    }
+    open.place = place;
+    open.file.seek(SeekFrom::Start(place)).is_ok()
+}
+
+// reads from a place on
+fn read_open<F: Read + Seek>(open: &mut Open<F>, from: u64, into: &mut [u8]) -> Option<usize>
     ensures { IfSome result (λ n. n ≤ length into.old) }
 {
-    match file.seek(SeekFrom::Start(from)) {
-        Ok(_) => fill(file, into),
-        Err(_) => None,
+    if !go_to(open, from) {
+        return None;
     }
+    let count = fill(&mut open.file, into)?;
+    open.place = open.place.saturating_add(count as u64);
+    Some(count)
 }
 
 impl<R: Files> FolderDisk<R> {
@@ -94,25 +107,36 @@ impl<R: Files> FolderDisk<R> {
         }
     }
 
-    // the file of a name: the one that is open, or opened now
-    fn file_of(&mut self, name: &Name) -> Result<Option<R::File>, Failed>
+    // opens the file of a name, where that isn't the one that is open; none is open where it isn't there
+    fn turn_to(&mut self, name: &Name) -> Result<(), Failed>
     where
         R::File: Drop,
         ensures { self.new.faults ≡ self.old.faults }
     {
-        if let Some(open) = self.open.take() {
+        if let Some(open) = &self.open {
             if open.name.is(name) {
-                return Ok(Some(open.file));
+                return Ok(());
             }
         }
-        open_regular(&self.rt, name)
+        self.open = None;
+        if let Some(file) = open_regular(&self.rt, name)? {
+            self.open = Some(Open {
+                name: *name,
+                file,
+                place: 0,
+            });
+        }
+        Ok(())
     }
 
-    // counts a failure
+    // closes the file and counts a failure
     fn fail(&mut self)
+    where
+        R::File: Drop,
         ensures later { self.old.faults ≤ self.new.faults }
         ensures rose { Rose self.old.faults self.new.faults }
     {
+        self.open = None;
         self.faults = one_more(self.faults);
     }
 }
@@ -132,18 +156,17 @@ where
     ghost finite = { never_shows };
 
     fn size(&mut self, name: &Name) -> Result<Option<u64>, Failed> {
-        let Ok(found) = self.file_of(name) else {
+        if self.turn_to(name).is_err() {
             self.fail();
             return Err(Failed);
-        };
-        let Some(file) = found else {
+        }
+        let Some(open) = &self.open else {
             return Ok(None);
         };
-        let Ok(metadata) = file.metadata() else {
+        let Ok(metadata) = open.file.metadata() else {
             self.fail();
             return Err(Failed);
         };
-        self.open = Some(Open { name: *name, file });
         Ok(Some(metadata.len()))
     }
 
@@ -153,18 +176,17 @@ where
         from: u64,
         into: &mut [u8],
     ) -> Result<Option<usize>, Failed> {
-        let Ok(found) = self.file_of(name) else {
+        if self.turn_to(name).is_err() {
             self.fail();
             return Err(Failed);
-        };
-        let Some(mut file) = found else {
+        }
+        let Some(open) = &mut self.open else {
             return Ok(None);
         };
-        let Some(n) = read_open(&mut file, from, into) else {
+        let Some(count) = read_open(open, from, into) else {
             self.fail();
             return Err(Failed);
         };
-        self.open = Some(Open { name: *name, file });
-        Ok(Some(n))
+        Ok(Some(count))
     }
 }

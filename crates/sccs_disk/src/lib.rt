@@ -6,9 +6,7 @@ mod folder_disk;
 mod memory_disk;
 #[cfg(test)]
 mod tests;
-mod whole_files;
 
 pub use disks::Disk;
 pub use folder_disk::FolderDisk;
 pub use memory_disk::MemoryDisk;
-pub use whole_files::{WholeFault, read_whole};

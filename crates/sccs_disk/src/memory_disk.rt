@@ -85,6 +85,7 @@ impl MemoryDisk {
         ensures room { IfOk result (λ d. disk_room d ≡ room) }
         ensures plan { IfOk result (λ d. disk_failing d ≡ failing.now) }
         ensures call { IfOk result (λ d. disk_call d ≡ 0) }
+        ensures faults { IfOk result (λ d. d.faults ≡ 0) }
     {
         let failing = failing.to_vec(alloc)?;
         Ok(MemoryDisk {
@@ -106,6 +107,7 @@ impl MemoryDisk {
         ensures room { disk_room self.new ≡ disk_room self.old }
         ensures plan { disk_failing self.new ≡ disk_failing self.old }
         ensures call { disk_call self.new ≡ 0 }
+        ensures faults { self.new.faults ≡ self.old.faults }
     {
         let bytes = bytes.to_vec(self.alloc)?;
         let held = Held {

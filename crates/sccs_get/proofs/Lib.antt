@@ -1,0 +1,5 @@
+pub mod LinearLaws
+pub mod PrintLaws
+pub mod RunLaws
+pub mod StepLaws
+pub mod TargetLaws

@@ -1,0 +1,4 @@
+pub mod GetStep
+pub mod Linear
+pub mod Printing
+pub mod Targets

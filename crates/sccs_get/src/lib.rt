@@ -1,7 +1,9 @@
 //! get: any version of an s-file, printed. POSIX, Shell and Utilities, get.
 #![tactic(auto)]
 
+pub mod laws;
 mod printing;
 mod targets;
+mod versions;
 
-pub use printing::print_version;
+pub use versions::print_version;

@@ -1,59 +1,71 @@
-ghost use Rattle.std.specs.Prelude.{◌≡◌, ◌≢◌, true, Err, IfOk};
+ghost use Rattle.std.specs.Prelude.{◌≡◌, ◌==◌, false, true, Err, None, Some, IfOk, MatchResult, find};
 ghost use Rattle.std.specs.List.{AllByRecursion};
-ghost use Rattle.sccs_history.specs.Applied.{live_serials, serials_of};
-ghost use Rattle.sccs_history.specs.Numbers.{Falls, has};
+ghost use Rattle.std.specs.Option.{option_copied};
+ghost use Rattle.sccs_history.specs.Applied.{live_serials};
+ghost use Rattle.sccs_history.specs.History.{IsTable};
+ghost use Rattle.sccs_history.specs.Numbers.{has};
+ghost use Rattle.sccs_sets.specs.Naming.{Answers};
+ghost use Rattle.sccs_sets.specs.Retrieved.{retrieved};
+ghost use Rattle.sccs_sid.specs.declared.refusals.Refusal.{Refusal};
 ghost use Rattle.sccs_sid.specs.declared.refusals.StepFault.TheVariants as faults;
+ghost use Rattle.sccs_get.specs.GetStep.{default_of, listed, may_refuse, set_asked, spec_asked};
+ghost use Rattle.sccs_get.specs.Targets.{AnswersSet, list_fault};
 
-use sccs_history::{Flag, Header, Record, Serials};
+use sccs_history::{Flag, Header, Serials};
 use sccs_sets::{Applied, NoSid, SetFault, delta_set, retrieve, serials};
 use sccs_sid::{Refusal, SidList, Spec, StepFault};
 use sccs_words::GetWords;
 use std::alloc::Global;
 
-// whether the serials of a table go strictly down, as a header's do
-fn falls(records: &[Record]) -> bool
-    ensures { result ≡ true → Falls 65536 (serials_of records.now) }
+// the flag d
+fn default_flag(flags: &[Flag]) -> Option<&Flag>
+    ensures { option_copied result ≡ find (λ f. f.letter == 100) flags.now }
 {
-    let mut bound = 65_536;
-    for record in records {
-        let serial = u32::from(record.serial);
-        if serial >= bound {
-            return false;
-        }
-        bound = serial;
-    }
-    true
+    flags.iter().find(|flag| flag.letter == b'd')
 }
 
 // the SID of the flag d, where get takes another than the newest delta
-fn default_of(flags: &[Flag]) -> Option<Spec> {
-    let flag = flags.iter().find(|flag| flag.letter == b'd')?;
-    Spec::read(flag.text.bytes()).ok()
-}
-
-// the serial that is asked for
-fn target(header: &Header, words: &GetWords) -> Result<u16, StepFault>
-    ensures live { IfOk result (λ n. has (live_serials header.now.records) n ≡ true) }
-    ensures write_fault { result ≢ Err faults.WriteFault }
-    ensures disk_fault { result ≢ Err faults.DiskFault }
-    ensures read_fault { result ≢ Err faults.ReadFault }
+fn default_of(flags: &[Flag]) -> Option<Spec>
+    ensures { result ≡ default_of flags.now }
 {
-    let default = default_of(header.flags.items());
-    let spec = match &words.spec {
-        Some(spec) => Some(spec),
-        None => default.as_ref(),
-    };
-    match retrieve(header, spec, words.top) {
-        Ok(serial) => Ok(serial),
-        Err(NoSid) => Err(StepFault::Refused(Refusal::NoSid)),
+    match default_flag(flags) {
+        Some(flag) => match Spec::read(flag.text.bytes()) {
+            Ok(spec) => Some(spec),
+            Err(_) => None,
+        },
+        None => None,
     }
 }
 
-// why the set can't be made
-fn set_fault(fault: SetFault) -> StepFault
-    ensures write_fault { result ≢ faults.WriteFault }
-    ensures disk_fault { result ≢ faults.DiskFault }
-    ensures read_fault { result ≢ faults.ReadFault }
+// the serial that is asked for
+fn target(header: &Header, words: &GetWords) -> Result<u16, NoSid>
+    ensures value { MatchResult result
+        (λ n. retrieved header.now.records (spec_asked words.now header.now) words.now.top ≡ Some n)
+        (λ _. retrieved header.now.records (spec_asked words.now header.now) words.now.top ≡ None) }
+    ensures live { IfOk result (λ n. has (live_serials header.now.records) n ≡ true) }
+{
+    match &words.spec {
+        Some(spec) => retrieve(header, Some(spec), words.top),
+        None => retrieve(header, default_of(header.flags.items()).as_ref(), words.top),
+    }
+}
+
+// the serials of a list that may not be given
+fn listed(alloc: Global, header: &Header, list: Option<&SidList>) -> Result<Serials, SetFault>
+    ensures value { Answers (listed header.now.records (option_copied list.entry)) result }
+    ensures live { IfOk result
+        (AllByRecursion (λ n. has (live_serials header.now.records) n ≡ true)) }
+{
+    match list {
+        Some(list) => serials(alloc, header, list),
+        None => Ok(Serials::empty(alloc)),
+    }
+}
+
+// how a step ends where a set can't be made
+fn list_fault(fault: SetFault) -> StepFault
+    ensures value { result ≡ list_fault fault }
+    ensures refusals { (refusal : Refusal) → result ≡ faults.Refused refusal → may_refuse refusal ≡ true }
 {
     match fault {
         SetFault::BadList(sid) => StepFault::Refused(Refusal::BadList(sid)),
@@ -61,37 +73,27 @@ fn set_fault(fault: SetFault) -> StepFault
     }
 }
 
-// the serials of a list that may not be given
-fn listed(alloc: Global, header: &Header, list: Option<&SidList>) -> Result<Serials, StepFault>
-    ensures live { IfOk result
-        (AllByRecursion (λ n. has (live_serials header.now.records) n ≡ true)) }
-    ensures write_fault { result ≢ Err faults.WriteFault }
-    ensures disk_fault { result ≢ Err faults.DiskFault }
-    ensures read_fault { result ≢ Err faults.ReadFault }
-{
-    let Some(list) = list else {
-        return Ok(Serials::empty(alloc));
-    };
-    match serials(alloc, header, list) {
-        Ok(serials) => Ok(serials),
-        Err(fault) => Err(set_fault(fault)),
-    }
-}
-
-// the set of deltas that a get asks for
+/// The set of deltas that a get asks for.
 pub fn set_of(alloc: Global, header: &Header, words: &GetWords) -> Result<Applied, StepFault>
-    ensures write_fault { result ≢ Err faults.WriteFault }
-    ensures disk_fault { result ≢ Err faults.DiskFault }
-    ensures read_fault { result ≢ Err faults.ReadFault }
+    requires { IsTable header.now.records }
+    ensures value { AnswersSet (set_asked words.now header.now) result }
+    ensures no_zero { IfOk result (λ set. has set 0 ≡ false) }
+    ensures refusals { (refusal : Refusal) → result ≡ Err (faults.Refused refusal) → may_refuse refusal ≡ true }
 {
-    if !falls(header.records.items()) {
-        return Err(StepFault::Refused(Refusal::NotSccs));
-    }
-    let target = target(header, words)?;
-    let include = listed(alloc, header, words.include.as_ref())?;
-    let exclude = listed(alloc, header, words.exclude.as_ref())?;
+    let target = match target(header, words) {
+        Ok(target) => target,
+        Err(NoSid) => return Err(StepFault::Refused(Refusal::NoSid)),
+    };
+    let include = match listed(alloc, header, words.include.as_ref()) {
+        Ok(include) => include,
+        Err(fault) => return Err(list_fault(fault)),
+    };
+    let exclude = match listed(alloc, header, words.exclude.as_ref()) {
+        Ok(exclude) => exclude,
+        Err(fault) => return Err(list_fault(fault)),
+    };
     match delta_set(alloc, header, target, &include, &exclude, words.cutoff) {
         Ok(set) => Ok(set),
-        Err(fault) => Err(set_fault(fault)),
+        Err(fault) => Err(list_fault(fault)),
     }
 }

@@ -1,11 +1,14 @@
 -- A body that is written is read again.
-use Rattle.std.proofs.Common.{◌≡◌, ℕ, suc, true, List, [], ◌∷◌, map, Ok, Some, refl}
+use Rattle.std.proofs.Common.{◌≡◌, ℕ, suc, Bool, true, false, List, [], ◌∷◌, map, Option, None, Some, Ok, refl, sym, ap, ◌∙◌}
 use Rattle.std.specs.List.{AllByRecursion}
+use Rattle.sccs_sid.specs.Reading.{only}
 use Rattle.sccs_history.specs.Body.{may_stand, GoesOn}
 use Rattle.sccs_history.specs.declared.headers.Item.{Item}
 use Rattle.sccs_history.specs.declared.headers.Item.TheVariants.{Text, Insert, Delete, End}
-use Rattle.sccs_grammar.specs.Items.{item_at, items_from}
+use Rattle.sccs_grammar.specs.Said.{said}
+use Rattle.sccs_grammar.specs.Items.{item_at, item_of, item_said, item_standing, items_from}
 use Rattle.sccs_grammar.specs.Written.{IsItem, item_line}
+use Rattle.sccs_grammar.specs.declared.sayings.Said.{Said}
 use Rattle.sccs_grammar.proofs.SayLaws.{said_plain, said_insert, said_delete, said_end}
 
 pub item_again : (live : List ℕ) (before : List Item) (item : Item) → IsItem item → may_stand live before item ≡ true → item_at live before (item_line item) ≡ Some item
@@ -20,3 +23,22 @@ unfolding items_from
 items_again live n before [] are goes = rw goes refl
 items_again live n before (item ∷ items) are goes =
     rw (item_again live before item are.0 goes.0) (rw (items_again live (suc n) (item ∷ before) items are.1 goes.1) refl)
+
+-- ---- an item that a line is may stand
+
+stood : (stands : Bool) (made item : Item) → only stands made ≡ Some item → (stands ≡ true) × (made ≡ item)
+stood true made item is = (refl, cc)
+stood false made item is = absurd cc
+
+standing : (live : List ℕ) (before : List Item) (made : Option Item) (item : Item) → item_standing live before made ≡ Some item → may_stand live before item ≡ true
+standing live before None item is = absurd cc
+standing live before (Some made) item is =
+    let both = stood (may_stand live before made) made item is in ap (may_stand live before) (sym both.1) ∙ both.0
+
+saying : (live : List ℕ) (before : List Item) (s : Option Said) (item : Item) → item_said live before s ≡ Some item → may_stand live before item ≡ true
+saying live before None item is = absurd cc
+saying live before (Some s) item is = standing live before (item_of s) item is
+
+pub line_may : (live : List ℕ) (before : List Item) (line : List ℕ) (item : Item) → item_at live before line ≡ Some item → may_stand live before item ≡ true
+unfolding item_at
+line_may live before line item is = saying live before (said line) item is

@@ -7,11 +7,11 @@ use Rattle.sccs_history.specs.Numbers.{is_empty, has, share, Falls}
 use Rattle.sccs_history.specs.Applied.{serials_of}
 use Rattle.sccs_history.specs.History.{NamesSmaller, IsRecord, HasSpelling, same_sid, lives, has_own_sids}
 use Rattle.sccs_history.specs.declared.headers.Record.{Record}
-use Rattle.sccs_grammar.specs.Front.{with_entry, at_table, at_lists, with_include, with_exclude, with_ignore, with_place, none_stood, entry, all_below, least, may_follow, lost, front_from}
+use Rattle.sccs_grammar.specs.Front.{at_table, at_lists, with_include, with_exclude, with_ignore, reading_at, table_alone, none_stood, entry, all_below, least, may_follow, lost, front_from}
 use Rattle.sccs_grammar.specs.Written.{IsSerial, counts_line, delta_line, delta_part, list_lines, mr_line, comment_line, end_line, entry_lines, table_lines}
 use Rattle.sccs_grammar.specs.declared.readings.Entry.{Entry}
 use Rattle.sccs_grammar.specs.declared.readings.Stood.{Stood}
-use Rattle.sccs_grammar.specs.declared.readings.Table.{Table}
+use Rattle.sccs_grammar.specs.Entries.{Entries, with_entry}
 use Rattle.sccs_grammar.specs.declared.readings.Place.TheVariants.{AtDelta}
 use Rattle.sccs_grammar.specs.declared.sayings.Said.TheVariants.{Counts, Delta}
 use Rattle.sccs_grammar.proofs.SayLaws.{said_counts}
@@ -31,7 +31,7 @@ share_more (k ∷ ns) m ms none apart =
     let parts = or_parts (has ms k) (share ns ms) apart in
     or_from (m == k || has ms k) (share ns (m ∷ ms)) (or_from (m == k) (has ms k) (ne_eqb m k (λ e. eqb-false k m others.0 (sym e))) parts.0) (share_more ns m ms others.1 parts.1)
 
-share_flip : (ms ns : List ℕ) → share ms ns ≡ false → share ns ms ≡ false
+pub share_flip : (ms ns : List ℕ) → share ms ns ≡ false → share ns ms ≡ false
 share_flip [] ns apart = share-nil ns
 share_flip (m ∷ ms) ns apart =
     let parts = or_parts (has ns m) (share ms ns) apart in share_more ns m ms parts.0 (share_flip ms ns parts.1)
@@ -53,7 +53,7 @@ stood_by i x g = record { included = i; excluded = x; ignored = g }
 abbrev entry_of : ℕ → Record → Entry
 entry_of line r = record { line = line; row = r }
 
-pub entry_again : (n : ℕ) (entries : Table) (all : List Record) (r : Record) (rest : List (List ℕ)) → IsRecord all r → HasSpelling r → r.serial < 65536 → may_follow (delta_part r) entries.records ≡ true
+pub entry_again : (n : ℕ) (entries : Entries) (all : List Record) (r : Record) (rest : List (List ℕ)) → IsRecord all r → HasSpelling r → r.serial < 65536 → may_follow (delta_part r) entries.records ≡ true
     → (m : ℕ) × (front_from n (at_table entries) (entry_lines r rest) ≡ front_from m (at_table (with_entry entries (entry_of (suc n) r))) rest)
 entry_again n entries all r rest is spells high follows =
     let e0 = entry (suc n) r.inserted r.deleted r.unchanged (delta_part r) in
@@ -71,7 +71,7 @@ entry_again n entries all r rest is spells high follows =
     let n3 = n2 + length (list_lines 105 r.include) in
     let n4 = n3 + length (list_lines 120 r.exclude) in
     let n5 = n4 + length (list_lines 103 r.ignore) in
-    let at_delta = with_place (at_table entries) (AtDelta r.inserted r.deleted r.unchanged) in (
+    let at_delta = reading_at (AtDelta r.inserted r.deleted r.unchanged) (table_alone entries) in (
       suc (n5 + length r.mrs + length r.comments),
       says n (at_table entries) at_delta (counts_line r.inserted r.deleted r.unchanged) (delta_line r ∷ includes) (Counts r.inserted r.deleted r.unchanged) (said_counts r.inserted r.deleted r.unchanged (omega (arith, is.inserted)) (omega (arith, is.deleted)) (omega (arith, is.unchanged))) refl refl
           ∙ (says (suc n) at_delta (at_lists entries e0 none_stood) (delta_line r) includes (Delta (delta_part r)) (said_delta r spells (is.serial, high) (omega (arith, is.older, high))) (rw follows refl) refl
@@ -86,7 +86,7 @@ entry_again n entries all r rest is spells high follows =
 flip_equal : (a b : ℕ) → (a == b) ≡ (b == a)
 flip_equal a b = elim (cases_eq a b) [ inl is ↦ rw is refl | inr other ↦ ne_eqb a b other ∙ sym (ne_eqb b a (λ e. other (sym e))) ]
 
-flip_sids : (a b : Sid) → same_sid a b ≡ same_sid b a
+pub flip_sids : (a b : Sid) → same_sid a b ≡ same_sid b a
 flip_sids a b = rw (flip_equal a.release b.release, flip_equal a.level b.level, flip_equal a.branch b.branch, flip_equal a.sequence b.sequence) refl
 
 -- a record lives and has the SID
@@ -152,7 +152,7 @@ follows_by : (r : Record) (above : List Record) → r.serial < least 65536 above
 follows_by r above falls older own = rw (lt-ltb r.serial (least 65536 above) falls, lt-ltb r.predecessor r.serial older, own) refl
 
 -- entries of these records, whatever the numbers of their lines
-abbrev table_of : List Record → List ℕ → Table
+abbrev table_of : List Record → List ℕ → Entries
 table_of records lines = record { records = records; lines = lines }
 
 pub table_again : (n : ℕ) (above : List Record) (lines : List ℕ) (all rs : List Record) (rest : List (List ℕ)) → least 65536 above ≤ 65536 → Falls (least 65536 above) (serials_of rs) → AllByRecursion (IsRecord all) rs → AllByRecursion HasSpelling rs → has_own_sids rs ≡ true → AreOwn above rs

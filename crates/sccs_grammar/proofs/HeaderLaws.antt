@@ -7,29 +7,29 @@ use Rattle.sccs_history.specs.declared.headers.Header.{Header}
 use Rattle.sccs_grammar.specs.Said.{said, control}
 use Rattle.sccs_grammar.specs.Front.{start, at_table, at_users, at_flags, at_description, line_after, front_from}
 use Rattle.sccs_grammar.specs.Written.{flag_line, mark, header_lines}
-use Rattle.sccs_grammar.specs.declared.readings.Table.{Table}
+use Rattle.sccs_grammar.specs.Entries.{Entries}
 use Rattle.sccs_grammar.specs.declared.sayings.Said.TheVariants.{Users, EndUsers, Description, EndDescription}
 use Rattle.sccs_grammar.proofs.SectionLaws.{says, users_again, flags_again, description_again}
 use Rattle.sccs_grammar.proofs.EntryLaws.{none_lost, whole_table}
 
-said_users : said (mark 117) ≡ Some Users
+pub said_users : said (mark 117) ≡ Some Users
 unfolding said control
 said_users = refl
 
-said_end_users : said (mark 85) ≡ Some EndUsers
+pub said_end_users : said (mark 85) ≡ Some EndUsers
 unfolding said control
 said_end_users = refl
 
-said_description : said (mark 116) ≡ Some Description
+pub said_description : said (mark 116) ≡ Some Description
 unfolding said control
 said_description = refl
 
-said_end_description : said (mark 84) ≡ Some EndDescription
+pub said_end_description : said (mark 84) ≡ Some EndDescription
 unfolding said control
 said_end_description = refl
 
 -- the last line of a header
-last_line : (n : ℕ) (entries : Table) (users : List (List ℕ)) (flags : List Flag) (description rest : List (List ℕ))
+last_line : (n : ℕ) (entries : Entries) (users : List (List ℕ)) (flags : List Flag) (description rest : List (List ℕ))
     → front_from n (at_description entries users flags description) (mark 84 ∷ rest) ≡ Ok (record { header = record { records = entries.records; users = users; flags = flags; description = description }; line = suc n; rest = rest })
 unfolding front_from line_after
 last_line n entries users flags description rest = rw said_end_description refl
@@ -41,7 +41,7 @@ behind_table h rest = h.users ++ (mark 85 ∷ map flag_line h.flags ++ (mark 116
 abbrev parts_of : List Record → Header → Header
 parts_of records h = record { records = records; users = h.users; flags = h.flags; description = h.description }
 
-behind_again : (n : ℕ) (entries : Table) (h : Header) (rest : List (List ℕ)) → IsHeader h
+behind_again : (n : ℕ) (entries : Entries) (h : Header) (rest : List (List ℕ)) → IsHeader h
     → (m : ℕ) × (front_from n (at_users entries []) (behind_table h rest) ≡ Ok (record { header = parts_of entries.records h; line = m; rest = rest }))
 behind_again n entries h rest is =
     let last = mark 84 ∷ rest in
@@ -63,7 +63,7 @@ pub header_again : (n : ℕ) (h : Header) (rest : List (List ℕ)) → IsHeader 
     → (m : ℕ) × (front_from n start (header_lines h rest) ≡ Ok (record { header = h; line = m; rest = rest }))
 header_again n h rest is spells =
     let table = whole_table n h.records (mark 117 ∷ behind_table h rest) is.table.falls is.table.each spells.records is.table.sids in
-    let entries : Table = record { records = h.records; lines = table.1.0 } in
+    let entries : Entries = record { records = h.records; lines = table.1.0 } in
     let behind = behind_again (suc table.0) entries h rest is in (
       behind.0,
       table.1.1

@@ -1,6 +1,5 @@
 mod Rows
 mod Samples
-pub mod BlankLaws
 pub mod BodyLaws
 pub mod CanonicalLaws
 pub mod CutLaws
@@ -10,10 +9,16 @@ pub mod EntryLaws
 pub mod FaultLaws
 pub mod HeaderLaws
 pub mod LineLaws
+pub mod LinesKeep
 pub mod NoLf
 pub mod NumberLaws
+pub mod ReadingRules
 pub mod ReleaseLaws
+pub mod SaidRules
 pub mod SayLaws
 pub mod SectionLaws
+pub mod SpelledReadings
+pub mod SpellingRules
 pub mod TableLaws
+pub mod TableSets
 pub mod WordLaws

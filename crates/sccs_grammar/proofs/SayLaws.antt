@@ -1,28 +1,29 @@
 -- What a written line says.
-use Rattle.std.proofs.Common.{◌≡◌, ◌≢◌, ℕ, ◌+◌, ◌/◌, ◌%◌, ◌<◌, ◌==◌, inl, true, false, ◌||◌, List, [], ◌∷◌, ◌++◌, map, get_or, Ok, Some, refl, ap, ◌∙◌, arith, nat_le, lit<, lit≤}
+use Rattle.std.proofs.Common.{◌≡◌, ◌≢◌, ℕ, ◌+◌, ◌/◌, ◌%◌, ◌<◌, inl, true, false, ◌||◌, List, [], ◌∷◌, ◌++◌, map, get_or, Ok, Some, refl, ap, ◌∙◌, arith, nat_le, lit<, lit≤}
 use Rattle.std.specs.Prelude.{decimal, option_map}
 use Rattle.std.specs.List.{AllByRecursion}
 use Rattle.std.specs.Char.{digit_value}
 use Rattle.std.specs.Str.Parse.{digits_value, AllDigits}
 use Rattle.std.specs.Int.Digits.{digits_of}
-use Rattle.std.proofs.lemmas.Bool.{lt-ltb, ne_eqb, or_parts, and_parts, leb-true}
+use Rattle.std.proofs.lemmas.Bool.{lt-ltb, ne_eqb, and_parts, leb-true}
 use Rattle.std.proofs.lemmas.Str.{digit_value_digit}
 use Rattle.std.proofs.lemmas.Fmt.{decimal-digits_of}
 use Rattle.std.proofs.lemmas.Int.Digits.{first_digits_of}
-use Rattle.sccs_history.specs.History.{begins_with, ends_with, IsFlag}
+use Rattle.sccs_sid.specs.SidLists.{begins}
+use Rattle.sccs_history.specs.History.{IsFlag}
 use Rattle.sccs_history.specs.declared.headers.Item.TheVariants as item
 use Rattle.sccs_history.specs.declared.headers.Flag.{Flag}
-use Rattle.sccs_sid.specs.Reading.{number_at, byte_at, number}
+use Rattle.sccs_sid.specs.Reading.{number_at, byte_at, number, skip}
 use Rattle.sccs_history.specs.Numbers.{is_empty}
-use Rattle.sccs_grammar.specs.Words.{skip, begins_blank, ends_blank, skip_blanks, drop_blanks, drop_zeros, three}
-use Rattle.sccs_grammar.specs.Said.{serial, counts, serials, plain_serial, listed, is_set_off, text, flag, place, control, said}
+use Rattle.sccs_sid.specs.Words.{begins_blank, ends_blank, skip_blanks, drop_blanks, three}
+use Rattle.sccs_grammar.specs.Said.{drop_zeros, serial, counts, serials, plain_serial, listed, is_set_off, text, flag, place, control, said}
 use Rattle.sccs_grammar.specs.Written.{IsSerial, spaced, five, behind_blank, counts_line, mr_line, comment_line, flag_line, item_line}
 use Rattle.sccs_grammar.specs.declared.sayings.Said.TheVariants.{Counts, Listed, Mr, Comment, FlagIs, Insert, Delete, End, Plain}
 use Rattle.sccs_grammar.specs.declared.sayings.Which.TheVariants.{Included, Excluded, Ignored}
 use Rattle.sccs_grammar.proofs.WordLaws.{IsWord, HasNoBlank, words_again, spaced-ends}
 use Rattle.sccs_grammar.proofs.NumberLaws.{Stops, numeral_again, whole_number, decimal_word}
 
-pub said_plain : (t : List ℕ) → begins_with 1 t ≡ false → said t ≡ Some (Plain t)
+pub said_plain : (t : List ℕ) → begins 1 t ≡ false → said t ≡ Some (Plain t)
 unfolding said
 said_plain [] is = refl
 said_plain (b ∷ bytes) is = rw is refl
@@ -89,12 +90,12 @@ serials_again (n ∷ ns) are =
     rw (plain_is (decimal n) (decimal_leads n are.0), serial_again n are.0, serials_again ns are.1) refl
 
 skips_word : (w rest : List ℕ) → IsWord w → is_empty (skip_blanks (w ++ rest)) ≡ false
-unfolding skip
+unfolding skip_blanks
 skips_word [] rest is = absurd is
 skips_word (b ∷ w) rest is = rw (ne_eqb b 32 is.0) refl
 
 listed_again : (n : ℕ) (ns : List ℕ) → AllByRecursion IsSerial (n ∷ ns) → listed (spaced (map decimal (n ∷ ns))) ≡ Some (n ∷ ns)
-unfolding listed skip
+unfolding listed skip_blanks
 listed_again n ns are =
     let ws = decimal_words (n ∷ ns) are in
     rw (skips_word (decimal n) (spaced (map decimal ns)) ws.0, set_off (decimal n) (map decimal ns) ws, words_again (map decimal (n ∷ ns)) ws) (serials_again (n ∷ ns) are)
@@ -159,18 +160,8 @@ unfolding drop_blanks ends_blank
 drop_none b [] ends = rw ends refl
 drop_none b (c ∷ bytes) ends = rw (drop_none c bytes ends) refl
 
-blank_front : (t : List ℕ) → begins_with 32 t ≡ false → begins_blank t ≡ false
-blank_front [] is = refl
-blank_front (b ∷ bytes) is = is
-
-blank_back : (t : List ℕ) → ends_with 32 t ≡ false → ends_blank t ≡ false
-unfolding ends_blank
-blank_back [] is = refl
-blank_back (b ∷ []) is = (or_parts ((b == 32)) false is).0
-blank_back (b ∷ c ∷ bytes) is = blank_back (c ∷ bytes) is
-
 flag_text : (t : List ℕ) → begins_blank t ≡ false → ends_blank t ≡ false → drop_blanks (skip_blanks (behind_blank t)) ≡ t
-unfolding skip drop_blanks
+unfolding skip_blanks drop_blanks
 flag_text [] begins ends = refl
 flag_text (b ∷ bytes) begins ends = rw begins (drop_none b bytes ends)
 
@@ -182,10 +173,10 @@ flag_again : (letter : ℕ) (t : List ℕ) → begins_blank t ≡ false → ends
 flag_again letter t begins ends = rw (behind_is t, flag_text t begins ends) refl
 
 pub said_flag : (f : Flag) → IsFlag f → said (flag_line f) ≡ Some (FlagIs f)
-unfolding said control skip
+unfolding said control skip_blanks
 said_flag f is =
     let low = leb-true 97 f.letter (and_parts (nat_le 97 f.letter) (nat_le f.letter 122) is.letter).0 in
-    rw (ne_eqb f.letter 32 (λ e. absurd (omega arith))) (flag_again f.letter f.text (blank_front f.text is.front) (blank_back f.text is.back))
+    rw (ne_eqb f.letter 32 (λ e. absurd (omega arith))) (flag_again f.letter f.text is.front is.back)
 
 five_blanks : (n : ℕ) (rest : List ℕ) → HasNoBlank rest → HasNoBlank (five n ++ rest)
 five_blanks n rest none =

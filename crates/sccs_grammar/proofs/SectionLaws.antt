@@ -4,14 +4,14 @@ use Rattle.std.specs.Prelude.{decimal}
 use Rattle.std.specs.List.{AllByRecursion, list_any}
 use Rattle.std.proofs.lemmas.Bool.{and_parts, or_parts, or_from, not-true, ne_eqb, eqb-false}
 use Rattle.sccs_history.specs.Numbers.{is_empty, share}
-use Rattle.sccs_history.specs.History.{AreBare, IsFlag, has_own_letters}
+use Rattle.sccs_history.specs.History.{AreBare, IsFlag, has_own_letters, is_new}
 use Rattle.sccs_history.specs.declared.headers.Flag.{Flag}
 use Rattle.sccs_grammar.specs.Said.{said, control}
-use Rattle.sccs_grammar.specs.Front.{with_entry, at_table, at_lists, at_texts, at_users, at_flags, at_description, with_mr, with_comment, with_mrs, with_comments, with_include, with_exclude, with_ignore, all_below, is_new, after, heard, is_whole, line_after, front_from}
+use Rattle.sccs_grammar.specs.Front.{at_table, at_lists, at_texts, at_users, at_flags, at_description, with_mr, with_comment, with_mrs, with_comments, with_include, with_exclude, with_ignore, all_below, after, heard, is_whole, line_after, front_from}
 use Rattle.sccs_grammar.specs.Written.{end_line, IsSerial, spaced, list_lines, mr_line, comment_line, flag_line}
 use Rattle.sccs_grammar.specs.declared.readings.Entry.{Entry}
 use Rattle.sccs_grammar.specs.declared.readings.Stood.{Stood}
-use Rattle.sccs_grammar.specs.declared.readings.Table.{Table}
+use Rattle.sccs_grammar.specs.Entries.{Entries, with_entry}
 use Rattle.sccs_grammar.specs.declared.readings.Reading.{Reading}
 use Rattle.sccs_grammar.specs.declared.sayings.Said.{Said}
 use Rattle.sccs_grammar.specs.declared.sayings.Said.TheVariants.{Plain, FlagIs, Mr, Comment, EndEntry, Listed}
@@ -24,7 +24,7 @@ unfolding front_from
 go_on n r s line lines is open_still = rw (is, open_still) refl
 
 -- the same where the line says this
-pub says : (n : ℕ) (r s : Reading) (line : List ℕ) (lines : List (List ℕ)) (what : Said) → said line ≡ Some what → after n r r.place what ≡ Ok s → is_whole s.place ≡ false → front_from n r (line ∷ lines) ≡ front_from (suc n) s lines
+pub says : (n : ℕ) (r s : Reading) (line : List ℕ) (lines : List (List ℕ)) (what : Said) → said line ≡ Some what → after n r.parts r.place what ≡ Ok s → is_whole s.place ≡ false → front_from n r (line ∷ lines) ≡ front_from (suc n) s lines
 unfolding line_after
 says n r s line lines what is next open_still = go_on n r s line lines (ap (heard n r) is ∙ next) open_still
 
@@ -43,7 +43,7 @@ push_more before x xs = append_assoc before (x ∷ []) xs
 
 -- ---- users and description
 
-pub users_again : (n : ℕ) (entries : Table) (before us : List (List ℕ)) (rest : List (List ℕ)) → AreBare us
+pub users_again : (n : ℕ) (entries : Entries) (before us : List (List ℕ)) (rest : List (List ℕ)) → AreBare us
     → front_from n (at_users entries before) (us ++ rest) ≡ front_from (n + length us) (at_users entries (before ++ us)) rest
 users_again n entries before [] rest are = rw append-nil (at_number n (n + 0) (at_users entries before) rest (omega arith))
 users_again n entries before (u ∷ us) rest are =
@@ -51,7 +51,7 @@ users_again n entries before (u ∷ us) rest are =
     ∙ (users_again (suc n) entries (before ++ u ∷ []) us rest are.1
     ∙ (rw (push_more before u us) (at_number (suc n + length us) (n + suc (length us)) (at_users entries (before ++ u ∷ us)) rest (one_more n (length us)))))
 
-pub description_again : (n : ℕ) (entries : Table) (users : List (List ℕ)) (flags : List Flag) (before ts : List (List ℕ)) (rest : List (List ℕ)) → AreBare ts
+pub description_again : (n : ℕ) (entries : Entries) (users : List (List ℕ)) (flags : List Flag) (before ts : List (List ℕ)) (rest : List (List ℕ)) → AreBare ts
     → front_from n (at_description entries users flags before) (ts ++ rest) ≡ front_from (n + length ts) (at_description entries users flags (before ++ ts)) rest
 description_again n entries users flags before [] rest are = rw append-nil (at_number n (n + 0) (at_description entries users flags before) rest (omega arith))
 description_again n entries users flags before (t ∷ ts) rest are =
@@ -69,7 +69,7 @@ all_new : (fs : List Flag) → AreNew [] fs
 all_new [] = tt
 all_new (f ∷ fs) = (refl, all_new fs)
 
-any-push : (p : Flag → Bool) (before : List Flag) (f : Flag) → list_any p before ≡ false → p f ≡ false → list_any p (before ++ f ∷ []) ≡ false
+pub any-push : (p : Flag → Bool) (before : List Flag) (f : Flag) → list_any p before ≡ false → p f ≡ false → list_any p (before ++ f ∷ []) ≡ false
 any-push p [] f none is = rw is refl
 any-push p (g ∷ before) f none is =
     let parts = or_parts (p g) (list_any p before) none in or_from (p g) (list_any p (before ++ f ∷ [])) parts.0 (any-push p before f parts.1 is)
@@ -82,7 +82,7 @@ still_new before f (g ∷ fs) new none =
     let none_before = any-push (λ h. h.letter == g.letter) before f (not-true _ new.0) other in
     (rw none_before refl, still_new before f fs new.1 parts.1)
 
-flags_behind : (n : ℕ) (entries : Table) (users : List (List ℕ)) (before fs : List Flag) (rest : List (List ℕ)) → AllByRecursion IsFlag fs → has_own_letters fs ≡ true → AreNew before fs
+flags_behind : (n : ℕ) (entries : Entries) (users : List (List ℕ)) (before fs : List Flag) (rest : List (List ℕ)) → AllByRecursion IsFlag fs → has_own_letters fs ≡ true → AreNew before fs
     → front_from n (at_flags entries users before) (map flag_line fs ++ rest) ≡ front_from (n + length fs) (at_flags entries users (before ++ fs)) rest
 flags_behind n entries users before [] rest are own new = rw append-nil (at_number n (n + 0) (at_flags entries users before) rest (omega arith))
 flags_behind n entries users before (f ∷ fs) rest are own new =
@@ -91,7 +91,7 @@ flags_behind n entries users before (f ∷ fs) rest are own new =
     ∙ (flags_behind (suc n) entries users (before ++ f ∷ []) fs rest are.1 parts.1 (still_new before f fs new.1 (not-true _ parts.0))
     ∙ (rw (push_more before f fs) (at_number (suc n + length fs) (n + suc (length fs)) (at_flags entries users (before ++ f ∷ fs)) rest (one_more n (length fs)))))
 
-pub flags_again : (n : ℕ) (entries : Table) (users : List (List ℕ)) (fs : List Flag) (rest : List (List ℕ)) → AllByRecursion IsFlag fs → has_own_letters fs ≡ true
+pub flags_again : (n : ℕ) (entries : Entries) (users : List (List ℕ)) (fs : List Flag) (rest : List (List ℕ)) → AllByRecursion IsFlag fs → has_own_letters fs ≡ true
     → front_from n (at_flags entries users []) (map flag_line fs ++ rest) ≡ front_from (n + length fs) (at_flags entries users fs) rest
 flags_again n entries users fs rest are own = flags_behind n entries users [] fs rest are own (all_new fs)
 
@@ -109,7 +109,7 @@ more_mrs e t ts = ap (λ (all : List (List ℕ)). record e { row = record e.row 
 more_comments : (e : Entry) (t : List ℕ) (ts : List (List ℕ)) → with_comments (with_comment e t) ts ≡ with_comments e (t ∷ ts)
 more_comments e t ts = ap (λ (all : List (List ℕ)). record e { row = record e.row { comments = all } }) (push_more e.row.comments t ts)
 
-pub mrs_again : (n : ℕ) (entries : Table) (e : Entry) (ts : List (List ℕ)) (rest : List (List ℕ))
+pub mrs_again : (n : ℕ) (entries : Entries) (e : Entry) (ts : List (List ℕ)) (rest : List (List ℕ))
     → front_from n (at_texts entries e) (map mr_line ts ++ rest) ≡ front_from (n + length ts) (at_texts entries (with_mrs e ts)) rest
 mrs_again n entries e [] rest = same n (n + 0) (at_texts entries e) (at_texts entries (with_mrs e [])) rest (omega arith) (ap (at_texts entries) (sym (no_mrs e)))
 mrs_again n entries e (t ∷ ts) rest =
@@ -117,7 +117,7 @@ mrs_again n entries e (t ∷ ts) rest =
     ∙ (mrs_again (suc n) entries (with_mr e t) ts rest
     ∙ same (suc n + length ts) (n + suc (length ts)) (at_texts entries (with_mrs (with_mr e t) ts)) (at_texts entries (with_mrs e (t ∷ ts))) rest (one_more n (length ts)) (ap (at_texts entries) (more_mrs e t ts)))
 
-pub comments_again : (n : ℕ) (entries : Table) (e : Entry) (ts : List (List ℕ)) (rest : List (List ℕ))
+pub comments_again : (n : ℕ) (entries : Entries) (e : Entry) (ts : List (List ℕ)) (rest : List (List ℕ))
     → front_from n (at_texts entries e) (map comment_line ts ++ rest) ≡ front_from (n + length ts) (at_texts entries (with_comments e ts)) rest
 comments_again n entries e [] rest = same n (n + 0) (at_texts entries e) (at_texts entries (with_comments e [])) rest (omega arith) (ap (at_texts entries) (sym (no_comments e)))
 comments_again n entries e (t ∷ ts) rest =
@@ -130,7 +130,7 @@ unfolding said control
 said_end_entry = refl
 
 -- behind the first MR or comment: MRs, comments and the end
-pub texts_again : (n : ℕ) (entries : Table) (e : Entry) (ms cs : List (List ℕ)) (rest : List (List ℕ))
+pub texts_again : (n : ℕ) (entries : Entries) (e : Entry) (ms cs : List (List ℕ)) (rest : List (List ℕ))
     → front_from n (at_texts entries e) (map mr_line ms ++ (map comment_line cs ++ (end_line ∷ rest)))
     ≡ front_from (suc (n + length ms + length cs)) (at_table (with_entry entries (with_comments (with_mrs e ms) cs))) rest
 texts_again n entries e ms cs rest =
@@ -138,11 +138,11 @@ texts_again n entries e ms cs rest =
     ∙ (comments_again (n + length ms) entries (with_mrs e ms) cs (end_line ∷ rest)
     ∙ says (n + length ms + length cs) (at_texts entries (with_comments (with_mrs e ms) cs)) (at_table (with_entry entries (with_comments (with_mrs e ms) cs))) end_line rest EndEntry said_end_entry refl refl)
 
-abbrev ends_with : Table → Entry → Reading
+abbrev ends_with : Entries → Entry → Reading
 ends_with entries e = at_table (with_entry entries e)
 
 -- the same behind the lists
-pub texts_behind : (n : ℕ) (entries : Table) (e : Entry) (stood : Stood) (ms cs : List (List ℕ)) (rest : List (List ℕ))
+pub texts_behind : (n : ℕ) (entries : Entries) (e : Entry) (stood : Stood) (ms cs : List (List ℕ)) (rest : List (List ℕ))
     → front_from n (at_lists entries e stood) (map mr_line ms ++ (map comment_line cs ++ (end_line ∷ rest)))
     ≡ front_from (suc (n + length ms + length cs)) (at_table (with_entry entries (with_comments (with_mrs e ms) cs))) rest
 texts_behind n entries e stood [] [] rest =
@@ -160,7 +160,7 @@ texts_behind n entries e stood (m ∷ ms) cs rest =
 -- ---- lists
 
 -- an include list, where none is there yet
-pub include_again : (n : ℕ) (entries : Table) (e : Entry) (stood : Stood) (ns : List ℕ) (rest : List (List ℕ))
+pub include_again : (n : ℕ) (entries : Entries) (e : Entry) (stood : Stood) (ns : List ℕ) (rest : List (List ℕ))
     → AllByRecursion IsSerial ns → e.row.include ≡ [] → stood.included ≡ false → all_below e.row.serial ns ≡ true → share ns e.row.exclude ≡ false
     → front_from n (at_lists entries e stood) (list_lines 105 ns ++ rest) ≡ front_from (n + length (list_lines 105 ns)) (at_lists entries (with_include e ns) (record stood { included = not (is_empty ns) })) rest
 include_again n entries e stood [] rest are none first below apart =
@@ -170,7 +170,7 @@ include_again n entries e stood (k ∷ ns) rest are none first below apart =
     ∙ at_number (suc n) (n + 1) (at_lists entries (with_include e (k ∷ ns)) (record stood { included = true })) rest (omega arith)
 
 -- an exclude list
-pub exclude_again : (n : ℕ) (entries : Table) (e : Entry) (stood : Stood) (ns : List ℕ) (rest : List (List ℕ))
+pub exclude_again : (n : ℕ) (entries : Entries) (e : Entry) (stood : Stood) (ns : List ℕ) (rest : List (List ℕ))
     → AllByRecursion IsSerial ns → e.row.exclude ≡ [] → stood.excluded ≡ false → all_below e.row.serial ns ≡ true → share ns e.row.include ≡ false
     → front_from n (at_lists entries e stood) (list_lines 120 ns ++ rest) ≡ front_from (n + length (list_lines 120 ns)) (at_lists entries (with_exclude e ns) (record stood { excluded = not (is_empty ns) })) rest
 exclude_again n entries e stood [] rest are none first below apart =
@@ -180,7 +180,7 @@ exclude_again n entries e stood (k ∷ ns) rest are none first below apart =
     ∙ at_number (suc n) (n + 1) (at_lists entries (with_exclude e (k ∷ ns)) (record stood { excluded = true })) rest (omega arith)
 
 -- an ignore list
-pub ignore_again : (n : ℕ) (entries : Table) (e : Entry) (stood : Stood) (ns : List ℕ) (rest : List (List ℕ))
+pub ignore_again : (n : ℕ) (entries : Entries) (e : Entry) (stood : Stood) (ns : List ℕ) (rest : List (List ℕ))
     → AllByRecursion IsSerial ns → e.row.ignore ≡ [] → stood.ignored ≡ false → all_below e.row.serial ns ≡ true
     → front_from n (at_lists entries e stood) (list_lines 103 ns ++ rest) ≡ front_from (n + length (list_lines 103 ns)) (at_lists entries (with_ignore e ns) (record stood { ignored = not (is_empty ns) })) rest
 ignore_again n entries e stood [] rest are none first below =

@@ -2,7 +2,7 @@
 use Rattle.std.proofs.Common.{◌≡◌, ◌≢◌, ℕ, ◌==◌, false, List, [], ◌∷◌, ◌++◌, refl, ap, ◌∙◌, append-nil}
 use Rattle.std.specs.List.{AllByRecursion}
 use Rattle.std.proofs.lemmas.Bool.{ne_eqb}
-use Rattle.sccs_grammar.specs.Words.{words, joined, with_byte, ends_blank}
+use Rattle.sccs_sid.specs.Words.{words, joined, with_byte, ends_blank}
 use Rattle.sccs_grammar.specs.Written.{spaced}
 
 -- no byte is a blank

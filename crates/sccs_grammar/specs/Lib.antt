@@ -1,8 +1,9 @@
+pub mod Entries
 pub mod File
 pub mod Front
+pub mod HeldTable
 pub mod Items
-pub mod Releases
 pub mod Said
+pub mod SidKeys
 pub mod Sums
-pub mod Words
 pub mod Written

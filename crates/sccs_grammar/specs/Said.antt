@@ -1,11 +1,11 @@
 -- What one line of an s-file says, by itself. A line that says nothing has no spelling anywhere.
 use Rattle.std.specs.Prelude.{ℕ, ◌==◌, Bool, true, false, not, ◌&&◌, ◌||◌, List, [], ◌∷◌, Option, Some, None, option_map, nat_lt, if◌then◌else◌}
 use Rattle.sccs_base.specs.Login.{is_login}
-use Rattle.sccs_sid.specs.Reading.{only, number}
+use Rattle.sccs_sid.specs.Reading.{only, number, skip}
 use Rattle.sccs_sid.specs.Sid.{sid_of}
 use Rattle.sccs_sid.specs.Moment.{moment_of}
 use Rattle.sccs_history.specs.Numbers.{is_empty}
-use Rattle.sccs_grammar.specs.Words.{◌>>=◌, one, found, begins_blank, ends_blank, skip_blanks, drop_blanks, drop_zeros, words, three}
+use Rattle.sccs_sid.specs.Words.{◌>>=◌, one, found, begins_blank, ends_blank, skip_blanks, drop_blanks, words, three}
 use Rattle.sccs_grammar.specs.declared.sayings.Said.{Said}
 use Rattle.sccs_grammar.specs.declared.sayings.Said.TheVariants.{Counts, Delta, Listed, Mr, Comment, EndEntry, Users, EndUsers, FlagIs, Description, EndDescription, Insert, Delete, End, Plain}
 use Rattle.sccs_grammar.specs.declared.sayings.Which.TheVariants.{Included, Excluded, Ignored}
@@ -38,6 +38,11 @@ delta_of kind sid date time login own before = do
   n ← serial own
   p ← predecessor before
   Some (Delta (record { serial = n; removed = removed; sid = s; moment = m; login = who; predecessor = p; include = []; exclude = []; ignore = []; mrs = []; comments = []; inserted = 0; deleted = 0; unchanged = 0 }))
+
+-- the words, where there are seven
+abbrev pub exactly_seven : List (List ℕ) → Option (List (List ℕ))
+exactly_seven (a ∷ b ∷ c ∷ d ∷ e ∷ f ∷ g ∷ []) = Some (a ∷ b ∷ c ∷ d ∷ e ∷ f ∷ g ∷ [])
+exactly_seven _ = None
 
 abbrev pub delta : List (List ℕ) → Option Said
 delta (kind ∷ sid ∷ date ∷ time ∷ login ∷ own ∷ before ∷ []) = delta_of kind sid date time login own before
@@ -81,6 +86,10 @@ abbrev pub flag : List ℕ → Option Said
 flag [] = None
 flag (letter ∷ bytes) = only (is_empty bytes || begins_blank bytes) (FlagIs (record { letter = letter; text = drop_blanks (skip_blanks bytes) }))
 
+-- without the zeros in front
+abbrev pub drop_zeros : List ℕ → List ℕ
+drop_zeros bytes = skip (λ b. b == 48) bytes
+
 abbrev pub padded_serial : List (List ℕ) → Option ℕ
 padded_serial ws = do
   word ← one ws
@@ -90,7 +99,25 @@ padded_serial ws = do
 unfoldable pub place : List ℕ → Option ℕ
 place bytes = if is_set_off bytes then padded_serial (words bytes) else None
 
--- what follows SOH and a letter
+-- what follows SOH and a letter in a body
+abbrev pub body_control : ℕ → List ℕ → Option Said
+body_control letter bytes =
+    if letter == 73 then option_map Insert (place bytes)
+    else if letter == 68 then option_map Delete (place bytes)
+    else if letter == 69 then option_map End (place bytes)
+    else None
+
+-- the same among users, flags and description, or in a body
+abbrev pub part_control : ℕ → List ℕ → Option Said
+part_control letter bytes =
+    if letter == 117 then only (is_empty bytes) Users
+    else if letter == 85 then only (is_empty bytes) EndUsers
+    else if letter == 102 then (if begins_blank bytes then flag (skip_blanks bytes) else None)
+    else if letter == 116 then only (is_empty bytes) Description
+    else if letter == 84 then only (is_empty bytes) EndDescription
+    else body_control letter bytes
+
+-- the same in a delta table, or behind it
 unfoldable pub control : ℕ → List ℕ → Option Said
 control letter bytes =
     if letter == 115 then (if is_set_off bytes then counts (words bytes) else None)
@@ -101,15 +128,7 @@ control letter bytes =
     else if letter == 109 then option_map Mr (text bytes)
     else if letter == 99 then option_map Comment (text bytes)
     else if letter == 101 then only (is_empty bytes) EndEntry
-    else if letter == 117 then only (is_empty bytes) Users
-    else if letter == 85 then only (is_empty bytes) EndUsers
-    else if letter == 102 then (if begins_blank bytes then flag (skip_blanks bytes) else None)
-    else if letter == 116 then only (is_empty bytes) Description
-    else if letter == 84 then only (is_empty bytes) EndDescription
-    else if letter == 73 then option_map Insert (place bytes)
-    else if letter == 68 then option_map Delete (place bytes)
-    else if letter == 69 then option_map End (place bytes)
-    else None
+    else part_control letter bytes
 
 abbrev pub behind_soh : List ℕ → Option Said
 behind_soh [] = None

@@ -3,7 +3,7 @@ use Rattle.std.specs.Prelude.{◌≡◌, ◌<◌, Bool, false, if◌then◌else�
 use Rattle.sccs_base.specs.Cut.{HasNoLf}
 use Rattle.sccs_sid.specs.Sid.{sid_text}
 use Rattle.sccs_sid.specs.Moment.{date_text, time_text}
-use Rattle.sccs_history.specs.History.{begins_with}
+use Rattle.sccs_sid.specs.SidLists.{begins}
 use Rattle.sccs_history.specs.declared.headers.Record.{Record}
 use Rattle.sccs_history.specs.declared.headers.Flag.{Flag}
 use Rattle.sccs_history.specs.declared.headers.Header.{Header}
@@ -106,7 +106,7 @@ IsSerial n = (0 < n) × (n < 65536)
 
 -- an item: a text line that doesn't begin with SOH, or a control line of a serial
 abbrev pub IsItem : Item → Type 0
-IsItem (Text t) = begins_with 1 t ≡ false
+IsItem (Text t) = begins 1 t ≡ false
 IsItem (Insert n) = IsSerial n
 IsItem (Delete n) = IsSerial n
 IsItem (End n) = IsSerial n

@@ -1,36 +1,38 @@
 //! The fields of a line.
 ghost use Rattle.std.specs.Prelude.{◌≡◌, ◌<◌, ◌^◌, ◌≤◌, List, [], ◌∷◌, length, map, option_map, IfOk, IfSome, MatchOption};
 ghost use Rattle.sccs_base.specs.Cut.{HasNoLf};
-ghost use Rattle.sccs_grammar.specs.Words.{one, three, words};
-ghost use Rattle.sccs_grammar.specs.Said.{is_removed, is_set_off, listed, padded_serial, place, plain_serial, predecessor, serial, serials, text};
+ghost use Rattle.sccs_sid.specs.Words.{words};
+ghost use Rattle.sccs_grammar.specs.Said.{drop_zeros, is_removed, is_set_off, listed, padded_serial, place, plain_serial, predecessor, serial, serials, text};
 
-use crate::blanks::{begins_blank, ends_blank, next_word, one_word, skip};
 use sccs_base::{Line, Memory};
 use sccs_history::Serials;
-use sccs_sid::reading::{byte_at, number, number_at};
+use sccs_sid::reading::number;
+use sccs_sid::words::{begins_blank, ends_blank, next_word, one_word, skip_blanks};
 use std::alloc::Global;
 
-/// Three numbers of at most `most` digits, with a separator between two.
-#[tactic(auto, unfolding(crate::specs::Words::three))]
-pub fn three(most: u32, separator: u8, word: &[u8]) -> Option<(u32, u32, u32)>
-    requires low { 0 < most }
-    requires high { most ≤ 9 }
-    ensures { result ≡ three most separator word.now }
+/// The first word, and the bytes behind it; None where there is no word.
+pub fn first_word(bytes: &[u8]) -> Option<(&[u8], &[u8])>
+    ensures { MatchOption result (words bytes.now ≡ [])
+        (λ x. words bytes.now ≡ x.0.now ∷ words x.1.now) }
 {
-    let Ok((a, rest)) = number_at(most, word) else {
-        return None;
-    };
-    let Ok(rest) = byte_at(separator, rest) else {
-        return None;
-    };
-    let Ok((b, rest)) = number_at(most, rest) else {
-        return None;
-    };
-    let Ok(rest) = byte_at(separator, rest) else {
-        return None;
-    };
-    let c = number(most, rest)?;
-    Some((a, b, c))
+    let (word, rest) = next_word(bytes);
+    if word.is_empty() {
+        None
+    } else {
+        Some((word, rest))
+    }
+}
+
+// the bytes without the zeros in front
+fn drop_zeros(bytes: &[u8]) -> &[u8]
+    ensures { result.now ≡ drop_zeros bytes.now }
+{
+    for (at, byte) in bytes.iter().enumerate() {
+        if *byte != b'0' {
+            return &bytes[at..];
+        }
+    }
+    &bytes[bytes.len()..]
 }
 
 /// A serial: 1 to 65535, in one to five digits.
@@ -90,7 +92,7 @@ pub fn place(bytes: &[u8]) -> Option<u16>
         return None;
     }
     let word = one_word(bytes)?;
-    serial(skip(b'0', word))
+    serial(drop_zeros(word))
 }
 
 /// The words of bytes, all of them serials without zeros in front.
@@ -100,7 +102,7 @@ fn serials(alloc: Global, bytes: &[u8]) -> Result<Option<Serials>, Memory>
 {
     let mut found = Serials::empty(alloc);
     let mut rest = bytes;
-    'words: while let Some((word, behind)) = next_word(rest) {
+    'words: while let Some((word, behind)) = first_word(rest) {
         let Some(n) = plain_serial(word) else {
             return Ok(None);
         };
@@ -115,7 +117,7 @@ fn serials(alloc: Global, bytes: &[u8]) -> Result<Option<Serials>, Memory>
 pub fn listed(alloc: Global, bytes: &[u8]) -> Result<Option<Serials>, Memory>
     ensures { IfOk result (λ o. o ≡ listed bytes.now) }
 {
-    if skip(b' ', bytes).is_empty() {
+    if skip_blanks(bytes).is_empty() {
         return Ok(Some(Serials::empty(alloc)));
     }
     if is_set_off(bytes) {

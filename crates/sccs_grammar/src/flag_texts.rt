@@ -1,80 +1,60 @@
 //! Which text a flag may have.
-ghost use Rattle.std.specs.Prelude.{◌≡◌, fold};
-ghost use Rattle.sccs_history.specs.FlagText.{are_releases, fits_letter, is_all, is_any_sid, is_digit, is_number};
-ghost use Rattle.sccs_grammar.specs.Releases.{may_end, stage_after, stage_begun};
+ghost use Rattle.std.specs.Prelude.{◌≡◌};
+ghost use Rattle.std.specs.List.{list_all};
+ghost use Rattle.sccs_sid.specs.Words.{words};
+ghost use Rattle.sccs_history.specs.FlagText.{are_releases, are_spaced, fits_letter, is_all, is_any_sid, is_number, is_release};
 
+use crate::fields::first_word;
 use sccs_sid::Spec;
-use sccs_sid::reading::number;
+use sccs_sid::reading::{cut_at, number};
+use sccs_sid::words::{begins_blank, ends_blank};
 
-// Where the reading of a list of releases is: where one begins, behind digits of one and whether
-// their number is positive, behind blanks, or where no list goes on.
-#[derive(Clone, Copy)]
-enum Stage {
-    Begin,
-    Inside(u8, bool),
-    Blanks,
-    Nowhere,
-}
-
-fn stage_begun(byte: u8) -> Stage
-    ensures { result ≡ stage_begun byte }
+// a number of one to four digits that isn't 0
+fn is_release(word: &[u8]) -> bool
+    ensures { result ≡ is_release word.now }
 {
-    if byte.is_ascii_digit() {
-        Stage::Inside(1, byte != b'0')
-    } else {
-        Stage::Nowhere
+    match number(4, word) {
+        Some(release) => 0 < release,
+        None => false,
     }
 }
 
-fn stage_after(stage: Stage, byte: u8) -> Stage
-    ensures { result ≡ stage_after stage byte }
+// whether each word is a release
+fn all_releases(bytes: &[u8]) -> bool
+    ensures { result ≡ list_all is_release (words bytes.now) }
 {
-    match stage {
-        Stage::Begin => stage_begun(byte),
-        Stage::Inside(digits, positive) => {
-            if byte.is_ascii_digit() {
-                if digits >= 4 {
-                    Stage::Nowhere
-                } else {
-                    Stage::Inside(digits + 1, positive || byte != b'0')
-                }
-            } else if !positive {
-                Stage::Nowhere
-            } else {
-                match byte {
-                    b',' => Stage::Begin,
-                    b' ' => Stage::Blanks,
-                    _ => Stage::Nowhere,
-                }
-            }
+    let mut rest = bytes;
+    'words: while let Some((word, behind)) = first_word(rest) {
+        if !is_release(word) {
+            return false;
         }
-        Stage::Blanks => if byte == b' ' {
-            Stage::Blanks
-        } else {
-            stage_begun(byte)
-        },
-        Stage::Nowhere => Stage::Nowhere,
+        rest = behind;
     }
+    true
 }
 
-// whether a release may end here
-fn may_end(stage: Stage) -> bool
-    ensures { result ≡ may_end stage }
+// releases with blanks between two
+fn are_spaced(piece: &[u8]) -> bool
+    ensures { result ≡ are_spaced piece.now }
 {
-    match stage {
-        Stage::Inside(_, positive) => positive,
-        _ => false,
-    }
+    !piece.is_empty() && !begins_blank(piece) && !ends_blank(piece) && all_releases(piece)
 }
 
+// releases with a comma or blanks between two
 fn are_releases(text: &[u8]) -> bool
     ensures { result ≡ are_releases text.now }
 {
-    let mut stage = Stage::Begin;
-    for byte in text {
-        stage = stage_after(stage, *byte);
+    let mut rest = text;
+    'pieces: loop {
+        let (piece, behind) = cut_at(b',', rest);
+        if !are_spaced(piece) {
+            return false;
+        }
+        match behind {
+            Some(more) => rest = more,
+            None => return true,
+        }
     }
-    may_end(stage)
 }
 
 fn is_any_sid(text: &[u8]) -> bool

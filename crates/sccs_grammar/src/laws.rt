@@ -1,17 +1,19 @@
-ghost use Rattle.std.specs.Prelude.{◌≡◌, ℕ, suc, ◌+◌, ◌<◌, true, false, List, [], ◌∷◌, ◌++◌, map, length, not, decimal};
+ghost use Rattle.std.specs.Prelude.{◌≡◌, ℕ, suc, ◌+◌, ◌<◌, Ok, true, false, List, [], ◌∷◌, ◌++◌, map, length, not, decimal};
 ghost use Rattle.std.specs.List.{AllByRecursion};
 ghost use Rattle.sccs_history.specs.Applied.{live_serials};
 ghost use Rattle.sccs_history.specs.Body.{GoesOn};
-ghost use Rattle.sccs_history.specs.History.{AreBare, HasSpelling, IsFlag, IsHeader, IsSpelled, has_own_letters};
+ghost use Rattle.sccs_history.specs.History.{AreBare, AreLines, HasSpelling, IsFlag, IsHeader, IsSpelled, KeepsRules, has_own_letters};
 ghost use Rattle.sccs_history.specs.Numbers.{is_empty, share};
-ghost use Rattle.sccs_grammar.specs.Front.{all_below, at_description, at_flags, at_lists, at_table, at_texts, at_users, front_from, with_comments, with_entry, with_exclude, with_ignore, with_include, with_mrs};
+ghost use Rattle.sccs_grammar.specs.Entries.{with_entry};
+ghost use Rattle.sccs_grammar.specs.Front.{ParsedFront, all_below, at_description, at_flags, at_lists, at_table, at_texts, at_users, front_from, start, with_comments, with_exclude, with_ignore, with_include, with_mrs};
 ghost use Rattle.sccs_grammar.specs.File.{IsSFile};
 ghost use Rattle.sccs_grammar.specs.Items.{items_from};
 ghost use Rattle.sccs_grammar.specs.Said.{said};
 ghost use Rattle.sccs_grammar.specs.Written.{HasLines, IsItem, IsSerial, canonical, comment_line, counts_line, delta_line, delta_part, end_line, flag_line, item_line, list_lines, mr_line};
 
-use crate::readings::{Entry, Reading, Stood, Table};
+use crate::readings::{Entry, Reading, Stood};
 use crate::sayings::Said;
+use crate::tables::Table;
 use sccs_history::{Flag, Header, Item, Record};
 
 /// A fault within the lines is the fault whatever lines follow, and whatever bytes follow the last LF.
@@ -21,6 +23,14 @@ pub fn faults_stay()
     ensures body { (live : List ℕ) (lines more : List (List ℕ)) (tail later : List ℕ) (n k : ℕ) (before : List Item)
         → k < n + length lines → items_from live n before lines tail ≡ Err k
         → items_from live n before (lines ++ more) later ≡ Err k }
+{}
+
+/// The header that lines spell keeps the rules, and has a spelling.
+pub fn headers_keep_rules()
+    ensures rules { (n : ℕ) (lines : List (List ℕ)) (p : ParsedFront)
+        → front_from n start lines ≡ Ok p → KeepsRules p.header }
+    ensures spelled { (n : ℕ) (lines : List (List ℕ)) (p : ParsedFront)
+        → AreLines lines → front_from n start lines ≡ Ok p → IsSpelled p.header }
 {}
 
 /// Users, flags and a description that are written are read again.

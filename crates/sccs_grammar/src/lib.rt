@@ -1,7 +1,6 @@
 //! The grammar of s-files, sccsfile(4): what a line says, what may stand where, and the first fault.
 #![tactic(auto)]
 
-mod blanks;
 mod faults;
 mod fields;
 mod flag_texts;
@@ -11,12 +10,15 @@ mod line_says;
 mod readings;
 mod sayings;
 mod table_tests;
+mod tables;
 
 pub use faults::FileFault;
 pub use hearing::hear;
 pub use laws::{
-    body_again, delta_again, entry_parts_again, faults_stay, file_again, short_parts_again,
+    body_again, delta_again, entry_parts_again, faults_stay, file_again, headers_keep_rules,
+    short_parts_again,
 };
 pub use line_says::read_line;
-pub use readings::{Entry, FrontFault, Place, Reading, Stood, Table};
+pub use readings::{Entry, FrontFault, Parts, Place, Reading, Stood};
 pub use sayings::{Said, Which};
+pub use tables::Table;

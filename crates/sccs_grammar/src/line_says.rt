@@ -3,16 +3,16 @@ ghost use Rattle.std.specs.Prelude.{◌≡◌, ◌||◌, [], ◌∷◌, option_m
 ghost use Rattle.sccs_base.specs.Cut.{HasNoLf};
 ghost use Rattle.sccs_history.specs.Numbers.{is_empty};
 ghost use Rattle.sccs_sid.specs.Reading.{only};
-ghost use Rattle.sccs_grammar.specs.Words.{begins_blank, drop_blanks, exactly_seven, skip_blanks, words};
-ghost use Rattle.sccs_grammar.specs.Said.{behind_soh, control, counts, delta, delta_of, flag, listed, said, text};
+ghost use Rattle.sccs_sid.specs.Words.{begins_blank, drop_blanks, skip_blanks, words};
+ghost use Rattle.sccs_grammar.specs.Said.{behind_soh, control, counts, delta, delta_of, exactly_seven, flag, listed, said, text};
 
-use crate::blanks::{begins_blank, drop_blanks, next_word, one_word, skip};
 use crate::fields::{
-    is_set_off, line_of, listed, place, predecessor, removed, serial, text, three,
+    first_word, is_set_off, line_of, listed, place, predecessor, removed, serial, text,
 };
 use crate::sayings::{Said, Which};
 use sccs_base::{Line, Login, Memory, Text};
 use sccs_history::{Flag, Record, Serials};
+use sccs_sid::words::{begins_blank, drop_blanks, one_word, skip_blanks, three};
 use sccs_sid::{Moment, Sid};
 use std::alloc::Global;
 
@@ -33,12 +33,12 @@ fn delta_words(bytes: &[u8]) -> Option<DeltaWords<'_>>
     ensures { option_map (λ w. w.kind.now ∷ w.sid.now ∷ w.date.now ∷ w.time.now ∷ w.login.now ∷ w.serial.now ∷ w.predecessor.now ∷ []) result
         ≡ exactly_seven (words bytes.now) }
 {
-    let (kind, rest) = next_word(bytes)?;
-    let (sid, rest) = next_word(rest)?;
-    let (date, rest) = next_word(rest)?;
-    let (time, rest) = next_word(rest)?;
-    let (login, rest) = next_word(rest)?;
-    let (serial, rest) = next_word(rest)?;
+    let (kind, rest) = first_word(bytes)?;
+    let (sid, rest) = first_word(rest)?;
+    let (date, rest) = first_word(rest)?;
+    let (time, rest) = first_word(rest)?;
+    let (login, rest) = first_word(rest)?;
+    let (serial, rest) = first_word(rest)?;
     let predecessor = one_word(rest)?;
     Some(DeltaWords {
         kind,
@@ -116,7 +116,7 @@ fn trimmed(alloc: Global, bytes: &[u8]) -> Result<Line, Memory>
     requires { HasNoLf bytes.now }
     ensures { IfOk result (λ line. line ≡ drop_blanks (skip_blanks bytes.now)) }
 {
-    line_of(alloc, drop_blanks(skip(b' ', bytes)))
+    line_of(alloc, drop_blanks(skip_blanks(bytes)))
 }
 
 // a flag's letter, and behind blanks its text without blanks at the end
@@ -206,7 +206,7 @@ fn flag_line(alloc: Global, bytes: &[u8]) -> Result<Option<Said>, Memory>
     ensures { IfOk result (λ o. o ≡ control 102 bytes.now) }
 {
     if begins_blank(bytes) {
-        flag(alloc, skip(b' ', bytes))
+        flag(alloc, skip_blanks(bytes))
     } else {
         Ok(None)
     }

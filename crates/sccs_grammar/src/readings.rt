@@ -1,8 +1,9 @@
 ghost use Rattle.std.specs.Prelude.{◌≡◌, [], true, false};
 ghost use Rattle.sccs_grammar.specs.Front.{start};
 
-use sccs_base::{ListOf, Text};
-use sccs_history::{Flags, Record, Records};
+use crate::tables::Table;
+use sccs_base::Text;
+use sccs_history::{Flags, Record};
 use std::alloc::Global;
 
 /// Why the lines of a header were not read on.
@@ -46,21 +47,20 @@ pub enum Place {
     AtBody,
 }
 
-/// The entries that were read so far: their records, and the numbers of their delta lines.
+/// What was read so far of a header.
 #[derive(Drop)]
-pub struct Table {
-    pub records: Records,
-    pub lines: ListOf<u64>,
+pub struct Parts {
+    pub table: Table,
+    pub users: Text,
+    pub flags: Flags,
+    pub description: Text,
 }
 
 /// What was read so far, and where the next line stands.
 #[derive(Drop)]
 pub struct Reading {
     pub place: Place,
-    pub table: Table,
-    pub users: Text,
-    pub flags: Flags,
-    pub description: Text,
+    pub parts: Parts,
 }
 
 impl Reading {
@@ -68,15 +68,15 @@ impl Reading {
     pub fn new(alloc: Global) -> Reading
         ensures { result ≡ start }
     {
-        Reading {
-            place: Place::AtEntry,
-            table: Table {
-                records: Records::empty(alloc),
-                lines: ListOf::empty(alloc),
-            },
+        let parts = Parts {
+            table: Table::new(alloc),
             users: Text::empty(alloc),
             flags: Flags::empty(alloc),
             description: Text::empty(alloc),
+        };
+        Reading {
+            place: Place::AtEntry,
+            parts,
         }
     }
 }

@@ -1,64 +1,39 @@
 -- What the text of a flag may be: sccsfile(4), "Flags".
-use Rattle.std.specs.Prelude.{ℕ, suc, ◌+◌, ◌-◌, ◌*◌, ◌==◌, nat_lt, nat_le, Bool, true, false, ◌&&◌, ◌||◌, List, [], ◌∷◌, fold, Result, Ok, Err, if◌then◌else◌}
+use Rattle.std.specs.Prelude.{ℕ, ◌==◌, nat_lt, nat_le, Bool, true, false, not, ◌&&◌, ◌||◌, List, [], ◌∷◌, is_some, is_ok, unwrap_or, if◌then◌else◌}
 use Rattle.std.specs.List.{list_all}
-use Rattle.sccs_sid.specs.Reading.{number_at}
-use Rattle.sccs_sid.specs.Sid.{numbers}
-use Rattle.sccs_history.specs.Numbers.{is_empty}
-
--- a number that stands alone
-abbrev pub stands_alone : Result (ℕ × List ℕ) ℕ → Bool
-stands_alone (Ok (n, bytes)) = is_empty bytes
-stands_alone (Err left) = false
+use Rattle.sccs_sid.specs.Reading.{is_empty, number}
+use Rattle.sccs_sid.specs.Spec.{spec_of}
+use Rattle.sccs_sid.specs.Words.{begins_blank, ends_blank, words}
 
 -- a number of one to four digits
 abbrev pub is_number : List ℕ → Bool
-is_number text = stands_alone (number_at 4 text)
+is_number text = is_some (number 4 text)
 
--- each number that was read is a component
-abbrev pub are_components : Result (List ℕ) ℕ → Bool
-are_components (Ok ns) = list_all (nat_lt 0) ns
-are_components (Err left) = false
-
--- one to four components of one to four digits, with a dot between two: R, R.L, R.L.B or R.L.B.S
+-- a SID in any form: R, R.L, R.L.B or R.L.B.S
 abbrev pub is_any_sid : List ℕ → Bool
-is_any_sid text = are_components (numbers text)
+is_any_sid text = is_ok (spec_of text)
 
--- Where the reading of a list of releases is: where a release begins, behind digits of one that have a value,
--- behind blanks, or where no list goes on.
-pub data Place : Type 0 where
-  Begin : Place
-  Inside : (digits value : ℕ) → Place
-  Blanks : Place
-  Nowhere : Place
+-- a release: a number of one to four digits that isn't 0
+abbrev pub is_release : List ℕ → Bool
+is_release word = nat_lt 0 (unwrap_or (number 4 word) 0)
 
-abbrev pub is_digit : ℕ → Bool
-is_digit b = nat_le 48 b && nat_le b 57
+-- at least one release, with one or more blanks between two
+abbrev pub are_spaced : List ℕ → Bool
+are_spaced piece =
+    not (is_empty piece) && not (begins_blank piece) && not (ends_blank piece) && list_all is_release (words piece)
 
--- a release has one to four digits and isn't 0
-abbrev pub is_release_end : Place → Bool
-is_release_end Begin = false
-is_release_end (Inside digits value) = nat_le digits 4 && nat_lt 0 value
-is_release_end Blanks = false
-is_release_end Nowhere = false
+-- the pieces of a text between commas
+abbrev pub with_front : ℕ → List (List ℕ) → List (List ℕ)
+with_front b [] = (b ∷ []) ∷ []
+with_front b (piece ∷ more) = (b ∷ piece) ∷ more
 
--- behind a release stands a comma, or blanks
-abbrev pub behind_release : ℕ → Place
-behind_release b = if b == 44 then Begin else (if b == 32 then Blanks else Nowhere)
+unfoldable pub pieces : List ℕ → List (List ℕ)
+pieces [] = [] ∷ []
+pieces (b ∷ bytes) = if b == 44 then [] ∷ pieces bytes else with_front b (pieces bytes)
 
-abbrev pub begun : ℕ → Place
-begun b = if is_digit b then Inside 1 (b - 48) else Nowhere
-
--- one byte on
-abbrev pub stepped : Place → ℕ → Place
-stepped Begin b = begun b
-stepped (Inside digits value) b =
-    if is_digit b then Inside (suc digits) (value * 10 + (b - 48)) else (if is_release_end (Inside digits value) then behind_release b else Nowhere)
-stepped Blanks b = if b == 32 then Blanks else begun b
-stepped Nowhere b = Nowhere
-
--- releases 1 to 9999 of one to four digits, with one comma or one or more blanks between two
+-- at least one release, with one comma or one or more blanks between two
 abbrev pub are_releases : List ℕ → Bool
-are_releases text = is_release_end (fold stepped Begin text)
+are_releases text = list_all are_spaced (pieces text)
 
 -- the letter `a`, which stands for all releases
 abbrev pub is_all : List ℕ → Bool

@@ -5,6 +5,8 @@ use Rattle.sccs_base.specs.Cut.{HasNoLf}
 use Rattle.sccs_base.specs.Login.{IsLogin}
 use Rattle.sccs_sid.specs.Moment.{IsMoment}
 use Rattle.sccs_sid.specs.Sid.{IsSid}
+use Rattle.sccs_sid.specs.SidLists.{begins}
+use Rattle.sccs_sid.specs.Words.{begins_blank, ends_blank}
 use Rattle.sccs_sid.specs.declared.sids.Sid.{Sid}
 use Rattle.sccs_history.specs.Numbers.{is_empty, has, share, Falls}
 use Rattle.sccs_history.specs.Body.{HistoryLine, IsLine}
@@ -19,19 +21,9 @@ pub record History : Type 0 where
   pub header : Header
   pub lines : List HistoryLine
 
--- the bytes begin with a byte
-abbrev pub begins_with : ℕ → List ℕ → Bool
-begins_with b [] = false
-begins_with b (c ∷ bytes) = c == b
-
--- the bytes end with a byte
-abbrev pub ends_with : ℕ → List ℕ → Bool
-ends_with b [] = false
-ends_with b (c ∷ bytes) = (is_empty bytes && c == b) || ends_with b bytes
-
 -- no line begins with SOH
 abbrev pub AreBare : List (List ℕ) → Type 0
-AreBare text = AllByRecursion (λ line. begins_with 1 line ≡ false) text
+AreBare text = AllByRecursion (λ line. begins 1 line ≡ false) text
 
 -- a list of a record names smaller serials
 abbrev pub NamesSmaller : ℕ → List ℕ → Type 0
@@ -71,17 +63,25 @@ pub record IsTable (records : List Record) : Type 0 where
   pub each : AllByRecursion (IsRecord records) records
   pub sids : has_own_sids records ≡ true
 
+-- a lower-case letter
+abbrev pub is_letter : ℕ → Bool
+is_letter b = nat_le 97 b && nat_le b 122
+
 -- A flag: a lower-case letter, and a text without blanks at its ends that the letter may have.
 pub record IsFlag (f : Flag) : Type 0 where
-  pub letter : (nat_le 97 f.letter && nat_le f.letter 122) ≡ true
-  pub front : begins_with 32 f.text ≡ false
-  pub back : ends_with 32 f.text ≡ false
+  pub letter : is_letter f.letter ≡ true
+  pub front : begins_blank f.text ≡ false
+  pub back : ends_blank f.text ≡ false
   pub text : fits_letter f.letter f.text ≡ true
+
+-- none of the flags has the letter of another one
+abbrev pub is_new : List Flag → Flag → Bool
+is_new flags f = not (list_any (λ g. g.letter == f.letter) flags)
 
 -- no letter stands twice
 abbrev pub has_own_letters : List Flag → Bool
 has_own_letters [] = true
-has_own_letters (f ∷ fs) = not (list_any (λ g. g.letter == f.letter) fs) && has_own_letters fs
+has_own_letters (f ∷ fs) = is_new fs f && has_own_letters fs
 
 -- the text `1`
 abbrev pub is_one : List ℕ → Bool
@@ -92,14 +92,19 @@ is_one (b ∷ bytes) = b == 49 && is_empty bytes
 abbrev pub is_encoded : List Flag → Bool
 is_encoded flags = list_any (λ f. f.letter == 101 && is_one f.text) flags
 
--- A header that keeps the rules on records, flags, users and description.
-pub record IsHeader (header : Header) : Type 0 where
+-- A header that keeps the rules on records, flags, users and description, whatever it says of the body.
+pub record KeepsRules (header : Header) : Type 0 where
   pub table : IsTable header.records
   pub flags : AllByRecursion IsFlag header.flags
   pub letters : has_own_letters header.flags ≡ true
-  pub plain : is_encoded header.flags ≡ false
   pub users : AreBare header.users
   pub description : AreBare header.description
+
+-- The same, and the body isn't encoded.
+pub record IsHeader (header : Header) : Type 0 where
+  pub rules : KeepsRules header
+  pub open rules use *
+  pub plain : is_encoded header.flags ≡ false
 
 -- the lines of a text are lines
 abbrev pub AreLines : List (List ℕ) → Type 0
@@ -126,7 +131,7 @@ pub record IsValid (h : History) : Type 0 where
   pub header : IsHeader h.header
   pub spelled : IsSpelled h.header
   pub lines : AllByRecursion (IsLine (live_serials h.header.records)) h.lines
-  pub texts : AllByRecursion (λ line. HasNoLf line.text × (begins_with 1 line.text ≡ false)) h.lines
+  pub texts : AllByRecursion (λ line. HasNoLf line.text × (begins 1 line.text ≡ false)) h.lines
 
 -- the predecessor of each live record is 0 or live
 abbrev pub is_rooted : List Record → Bool

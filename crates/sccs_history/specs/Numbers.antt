@@ -1,10 +1,6 @@
 -- Lists of numbers, and sets of numbers, kept as lists that fall: each number once, greatest first.
 use Rattle.std.specs.Prelude.{ℕ, zero, suc, ◌<◌, ◌==◌, Bool, true, false, not, ◌||◌, List, [], ◌∷◌}
-
--- nothing is in the list
-abbrev pub is_empty : {A : Type 0} → List A → Bool
-is_empty [] = true
-is_empty (x ∷ xs) = false
+pub use Rattle.sccs_sid.specs.Reading.{is_empty}
 
 -- with an item in front where it is wanted
 abbrev pub front_if : {A : Type 0} → Bool → A → List A → List A

@@ -24,6 +24,7 @@ pub fn branch_lists_and_cutoff()
 {}
 
 /// That file is a valid history.
+#[tactic(auto, unfolding(sccs_sid::specs::Words::ends_blank))]
 pub fn branched_is_valid()
     ensures { IsValid branched }
 {}
@@ -53,7 +54,7 @@ pub fn newest_delta_removed()
 {}
 
 /// Texts of flags that are fit, and others.
-#[tactic(auto, unfolding(sccs_sid::specs::Reading::number_at, sccs_sid::specs::Reading::digits_after, sccs_sid::specs::Reading::byte_at, sccs_sid::specs::Sid::numbers_after))]
+#[tactic(auto, unfolding(sccs_sid::specs::Reading::number_at, sccs_sid::specs::Reading::digits_after, sccs_sid::specs::Reading::byte_at, sccs_sid::specs::Reading::number, sccs_sid::specs::Sid::numbers_after, sccs_sid::specs::Spec::spec_of, sccs_sid::specs::Words::ends_blank, sccs_sid::specs::Words::words, crate::specs::FlagText::pieces))]
 pub fn flag_texts()
     ensures number { fits_letter 102 (codes "0") ≡ true }
     ensures long_number { fits_letter 99 (codes "00012") ≡ false }

@@ -3,3 +3,4 @@ pub mod Lookups
 pub mod Passing
 pub mod Putting
 pub mod Ranges
+pub mod Trunks

@@ -3,3 +3,4 @@ pub mod Naming
 pub mod Retrieved
 pub mod Samples
 pub mod Sets
+pub mod Trunks

@@ -1,12 +1,13 @@
-ghost use Rattle.std.specs.Prelude.{◌≡◌, ◌≤◌, ℕ, not, ◌&&◌, true, false, Bool, List, None, Some, map};
+ghost use Rattle.std.specs.Prelude.{◌≡◌, ◌≤◌, ℕ, not, ◌&&◌, true, false, Bool, List, ◌∷◌, None, Some, map};
 ghost use Rattle.std.specs.List.{AllByRecursion};
 ghost use Rattle.sccs_sid.specs.declared.sids.Sid.{Sid};
 ghost use Rattle.sccs_sid.specs.declared.sid_lists.Range.{Range};
 ghost use Rattle.sccs_history.specs.declared.headers.Record.{Record};
-ghost use Rattle.sccs_history.specs.Applied.{serials_of};
+ghost use Rattle.sccs_history.specs.Applied.{newest, serials_of};
 ghost use Rattle.sccs_history.specs.Numbers.{Falls, has};
 ghost use Rattle.sccs_sets.specs.Naming.{IsRising, in_range, range_named};
-ghost use Rattle.sccs_sets.specs.Retrieved.{live_where, newest_where};
+ghost use Rattle.sccs_sets.specs.Retrieved.{live_where, newest_where, retrieved};
+ghost use Rattle.sccs_sets.specs.Trunks.{IsTrunk};
 
 /// The first live record that passes a test has the greatest serial of those that do, and where none
 /// is found none passes.
@@ -27,4 +28,11 @@ pub fn ranges()
         → has (map (λ q. q.serial) (range_named records range)) n
         ≡ has (serials_of (live_where (in_range range) records)) n }
     ensures order { (records : List Record) (range : Range) → IsRising (range_named records range) }
+{}
+
+/// Where each delta is live and on the trunk and SIDs rise with serials, the newest delta is got
+/// where no SID is asked for, by `-t` too.
+pub fn trunks()
+    ensures { (newer : Record) (older : List Record) (top : Bool) → IsTrunk (newer ∷ older)
+        → retrieved (newer ∷ older) None top ≡ Some (newest (newer ∷ older)) }
 {}

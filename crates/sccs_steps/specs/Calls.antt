@@ -1,9 +1,13 @@
 -- How the call of a step ends.
 use Rattle.std.specs.Prelude.{◌≡◌, ℕ, ◌⊎◌, List, [], ◌++◌, Option, None, Some, Result, Ok, Err}
 use Rattle.sccs_base.specs.Stream.{GivesOk, GivesSome}
+use Rattle.sccs_sid.specs.Refusal.{refusal_line}
+use Rattle.sccs_sid.specs.declared.refusals.Refusal.{Refusal}
 use Rattle.sccs_sid.specs.declared.refusals.StepFault.{StepFault}
 use Rattle.sccs_sid.specs.declared.refusals.StepFault.TheVariants.{Refused, Memory, ReadFault, WriteFault, DiskFault}
 use Rattle.sccs_disk.specs.Files.{View}
+use Rattle.sccs_steps.specs.declared.faults.Fault.{Fault}
+use Rattle.sccs_steps.specs.declared.faults.Fault.TheVariants as end
 use Rattle.sccs_steps.specs.StepFiles.{moved, is_working, is_left, Moves, MovesPartly}
 use Rattle.sccs_steps.specs.Deeds.{Deed, Outcome, deed_of}
 
@@ -52,3 +56,9 @@ Fails DiskFault n o w w2 = Broken n o w w2
 abbrev pub Meets : {X : Type 0} → (X → ℕ) → Result X StepFault → List ℕ → Outcome → World → World → Type 0
 Meets code (Ok x) n o w w2 = (d : Deed) × (o ≡ Ok d) × (d.status ≡ code x) × Made n d w w2
 Meets code (Err fault) n o w w2 = Fails fault n o w w2
+
+-- the line of a refusal was written, and the status is 1; or a front of it was
+abbrev pub SaysRefusal : List ℕ → Refusal → Result ℕ Fault → Option (List ℕ) → Option (List ℕ) → Type 0
+SaysRefusal n refusal (Ok status) err err2 = (status ≡ 1) × GivesOk err err2 (refusal_line n refusal)
+SaysRefusal n refusal (Err end.WriteFault) err err2 = GivesSome err err2 (refusal_line n refusal)
+SaysRefusal n refusal (Err fault) err err2 = ⊥

@@ -45,6 +45,10 @@ abbrev pub next_folder : Folder → List Turn → Folder
 next_folder m [] = m
 next_folder m (t ∷ ts) = moved_in m t.name t.deed.new
 
+-- no file is a working file: a command that only reads makes none
+abbrev pub nowhere : List ℕ → Bool
+nowhere k = false
+
 -- The name's files are no working files, and its working files are.
 pub record Apart (w : List ℕ → Bool) (n : List ℕ) : Type 0 where
   pub own : (k : List ℕ) → w k ≡ false → is_working n k ≡ false

@@ -26,7 +26,7 @@ front_on : (n : ℕ) (r s : Reading) (line : List ℕ) (lines : List (List ℕ))
 unfolding front_from
 front_on n r s line lines is more = rw (is, more) refl
 
-line_says : (n : ℕ) (r : Reading) (line : List ℕ) (what : Said) → said line ≡ Some what → line_after n r line ≡ after n r r.place what
+line_says : (n : ℕ) (r : Reading) (line : List ℕ) (what : Said) → said line ≡ Some what → line_after n r line ≡ after n r.parts r.place what
 unfolding line_after
 line_says n r line what is = ap (heard n r) is
 
@@ -50,10 +50,10 @@ pub line_heard : (o : Option (List ℕ)) (old new : Standing) (n : ℕ) (r s : R
 line_heard None old new n r s line takes is = tt
 line_heard (Some file) old new n r s line takes is = λ stands. let taken = takes stands in (taken.0, (line, taken.1, is))
 
-pub said_fault : (n k : ℕ) (r : Reading) (line : List ℕ) (what : Said) → said line ≡ Some what → after n r r.place what ≡ Err k → line_after n r line ≡ Err k
+pub said_fault : (n k : ℕ) (r : Reading) (line : List ℕ) (what : Said) → said line ≡ Some what → after n r.parts r.place what ≡ Err k → line_after n r line ≡ Err k
 said_fault n k r line what is then_is = line_says n r line what is ∙ then_is
 
-pub said_heard : (n : ℕ) (r s : Reading) (line : List ℕ) (what : Said) → said line ≡ Some what → after n r r.place what ≡ Ok s → line_after n r line ≡ Ok s
+pub said_heard : (n : ℕ) (r s : Reading) (line : List ℕ) (what : Said) → said line ≡ Some what → after n r.parts r.place what ≡ Ok s → line_after n r line ≡ Ok s
 said_heard n r s line what is then_is = line_says n r line what is ∙ then_is
 
 pub said_nothing : (n : ℕ) (r : Reading) (line : List ℕ) → said line ≡ None → line_after n r line ≡ Err n

@@ -1,7 +1,7 @@
 -- What a reader of lines holds after it read and after it gave.
 use Rattle.std.proofs.Common.{◌≡◌, ◌≢◌, ℕ, suc, ◌+◌, ◌-◌, ◌<◌, ◌≤◌, min, Bool, true, false, ltb, List, [], ◌∷◌, ◌++◌, length, take, drop, Option, None, Some, refl, sym, ap, ◌∙◌, arith, subst, get_or, drop-cons, length-take, length-drop, length-append, append_assoc}
 use Rattle.std.specs.Prelude.{IfSome}
-use Rattle.std.proofs.lemmas.List.{take-append-drop, drop-take, drop-drop, drop_all, append-nil}
+use Rattle.std.proofs.lemmas.List.{take-append-drop, drop-take, take-take, drop-drop, drop_all, append-nil}
 use Rattle.std.proofs.lemmas.List.Elements.{All-append}
 use Rattle.std.proofs.Math.Seq.{take-append_seam, drop-append_seam}
 use Rattle.sccs_grammar.proofs.CutLaws.{cut_line, cut_tail}
@@ -85,6 +85,26 @@ takes_none old name line longer piece start end place size is items none =
     let place_is : place ≡ old.place = ap (λ (s : Standing). s.place) is in
     let zero_is : end - end ≡ 0 = omega arith in
     (held_of piece start end, (items, no_lf_all (held_of piece start end) none, sym held_is, ap (λ n. take n (drop end piece)) zero_is, omega arith))
+
+-- ---- what is passed over
+
+held_within : (old : Standing) (name piece : List ℕ) (start end place size count : ℕ) → holding name (held_of piece start end) place size ≡ old → count ≤ length old.held → count ≤ end - start
+held_within old name piece start end place size count is fits =
+    let long : length (held_of piece start end) ≡ length old.held = ap (λ (s : Standing). length s.held) is in omega (arith, length-take (end - start) (drop start piece))
+
+pub held_past : (old : Standing) (name piece : List ℕ) (start end place size count : ℕ) → holding name (held_of piece start end) place size ≡ old → count ≤ length old.held → held_of piece (start + count) end ≡ drop count old.held
+held_past old name piece start end place size count is fits =
+    let within = held_within old name piece start end place size count is fits in
+    let room : end - start ≡ count + (end - (start + count)) = omega arith in
+    sym (ap (λ (s : Standing). drop count s.held) (sym is)
+    ∙ (ap (λ n. drop count (take n (drop start piece))) room
+    ∙ (drop-take count (end - (start + count)) (drop start piece) ∙ ap (take (end - (start + count))) (drop-drop count start piece))))
+
+pub passed_over : (old : Standing) (name piece : List ℕ) (start end place size count : ℕ) → holding name (held_of piece start end) place size ≡ old → count ≤ length old.held → take (start + count - start) (drop start piece) ≡ take count old.held
+passed_over old name piece start end place size count is fits =
+    let within = held_within old name piece start end place size count is fits in
+    let many : start + count - start ≡ count = omega arith in
+    ap (λ n. take n (drop start piece)) many ∙ (sym (take-take count (end - start) (drop start piece) within) ∙ ap (λ (s : Standing). take count s.held) is)
 
 -- ---- a whole line
 

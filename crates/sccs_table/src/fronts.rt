@@ -1,9 +1,10 @@
-ghost use Rattle.std.specs.Prelude.{◌≡◌, ◌||◌, ◌==◌, ◌<◌, ◌≤◌, ◌+◌, length, IfOk, IfSome, Err};
+ghost use Rattle.std.specs.Prelude.{◌≡◌, ℕ, List, Ok, ◌||◌, ◌==◌, ◌<◌, ◌≤◌, ◌+◌, length, IfOk, IfSome, Err};
+ghost use Rattle.sccs_base.specs.Cut.{HasNoLf};
 ghost use Rattle.sccs_base.specs.Stream.{Rose};
 ghost use Rattle.sccs_disk.specs.Told.{seen};
 ghost use Rattle.sccs_grammar.specs.File.{checked_front, front_of, stored};
-ghost use Rattle.sccs_history.specs.History.{is_encoded, is_one};
-ghost use Rattle.sccs_grammar.specs.Front.{header_of, is_whole, start};
+ghost use Rattle.sccs_history.specs.History.{IsHeader, IsSpelled, KeepsRules, is_encoded, is_one};
+ghost use Rattle.sccs_grammar.specs.Front.{header_of, is_whole, line_after, start};
 ghost use Rattle.sccs_table.specs.FrontFile.{AnswersFront, IsPlaced, HearsNext, Opens, Reads, SumLine};
 ghost use Rattle.sccs_table.specs.Standing.{bytes_in, file_in};
 
@@ -11,7 +12,7 @@ use crate::line_readers::{LineFault, LineReader};
 use crate::sums::Sum;
 use sccs_base::Name;
 use sccs_disk::Disk;
-use sccs_grammar::{FileFault, FrontFault, Place, Reading, hear, read_line};
+use sccs_grammar::{FileFault, FrontFault, Parts, Place, Reading, hear, read_line};
 use sccs_history::{Flag, Header};
 use sccs_sid::reading::number;
 use std::alloc::Global;
@@ -70,6 +71,7 @@ fn next_reading<D: Disk>(
     ensures size { reader.new.size ≡ reader.old.size }
     ensures ahead { reader.new.place + length reader.new.held ≤ reader.new.size }
     ensures further { IfOk result (λ _. reader.old.place < reader.new.place) }
+    ensures heard { IfOk result (λ more. (line : List ℕ) × HasNoLf line × (line_after number reading line ≡ Ok more)) }
     ensures told { HearsNext (bytes_in (seen (D.told disk.old)) reader.old.name) reader.old reader.new number reading result }
 {
     let mut line = Vec::new(alloc);
@@ -95,15 +97,15 @@ fn next_reading<D: Disk>(
 fn header_of(reading: Reading) -> Header
     ensures { result ≡ header_of reading }
 {
-    let Reading {
-        place: _,
+    let Reading { place: _, parts } = reading;
+    let Parts {
         table,
         users,
         flags,
         description,
-    } = reading;
+    } = parts;
     Header {
-        records: table.records,
+        records: table.into_records(),
         users,
         flags,
         description,
@@ -124,6 +126,8 @@ pub fn read_lines<D: Disk>(
     ensures size { reader.new.size ≡ reader.old.size }
     ensures ahead { reader.new.place + length reader.new.held ≤ reader.new.size }
     ensures number { IfOk result (λ found. found.1 ≤ reader.new.place + 2) }
+    ensures rules { IfOk result (λ found. KeepsRules found.0) }
+    ensures spelled { IfOk result (λ found. IsSpelled found.0) }
     ensures told { Reads (bytes_in (seen (D.told disk.old)) reader.old.name) reader.old reader.new start 2 result }
 {
     let mut number = 2;
@@ -198,6 +202,8 @@ pub fn check_front<D: Disk>(alloc: Global, disk: &mut D, name: &Name) -> Result<
     ensures later { D.faults disk.old ≤ D.faults disk.new }
     ensures cause { result ≡ Err FileFault.Failed → Rose (D.faults disk.old) (D.faults disk.new) }
     ensures placed { IfOk result IsPlaced }
+    ensures rules { IfOk result (λ front. KeepsRules front.header) }
+    ensures spelled { IfOk result (λ front. IsSpelled front.header) }
     ensures told { IfSome (seen (D.told disk.old)) (λ view. AnswersFront (file_in view name.now) checked_front result) }
 {
     let size = match open_file(disk, name) {
@@ -237,6 +243,8 @@ pub fn read_header<D: Disk>(alloc: Global, disk: &mut D, name: &Name) -> Result<
     ensures later { D.faults disk.old ≤ D.faults disk.new }
     ensures cause { result ≡ Err FileFault.Failed → Rose (D.faults disk.old) (D.faults disk.new) }
     ensures placed { IfOk result IsPlaced }
+    ensures rules { IfOk result (λ front. IsHeader front.header) }
+    ensures spelled { IfOk result (λ front. IsSpelled front.header) }
     ensures told { IfSome (seen (D.told disk.old)) (λ view. AnswersFront (file_in view name.now) front_of result) }
 {
     let front = match check_front(alloc, disk, name) {

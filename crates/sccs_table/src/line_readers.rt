@@ -1,12 +1,14 @@
 ghost use Rattle.std.specs.Prelude.{◌≡◌, ℕ, List, ◌++◌, ◌<◌, ◌≤◌, ◌+◌, [], true, false, length, take, drop, IfOk, IfSome, OnOk, OnErr, IsErrOf};
-ghost use Rattle.sccs_base.specs.Cut.{HasNoLf};
+ghost use Rattle.sccs_base.specs.Cut.{HasNoLf, cut};
 ghost use Rattle.sccs_base.specs.Stream.{Rose};
 ghost use Rattle.sccs_disk.specs.Told.{seen};
+ghost use Rattle.sccs_sid.specs.SidLists.{begins};
+ghost use Rattle.sccs_table.specs.Runs.{HasNoMark, HasNoRun, IsMark, IsRun, lf_count};
 ghost use Rattle.sccs_table.specs.SumOf.{IsSumOf};
 ghost use Rattle.sccs_table.specs.Standing.{StandsIn, Takes, TakesLine, bytes_in};
 
 use crate::sums::Sum;
-use memchr::memchr;
+use memchr::{memchr, memrchr};
 use sccs_base::{Failed, Memory, Name};
 use sccs_disk::Disk;
 use std::alloc::Global;
@@ -63,6 +65,76 @@ fn read_piece<D: Disk>(
     Ok(count.unwrap_or(0))
 }
 
+// how many of so few bytes are LF; a byte counts them, so that many are compared at once
+fn few_lines(bytes: &[u8]) -> u8
+    requires { length bytes.now ≤ 255 }
+    ensures { result ≡ lf_count bytes.now }
+{
+    let mut count = 0;
+    for byte in bytes {
+        if *byte == b'\n' {
+            count += 1;
+        }
+    }
+    count
+}
+
+// how many bytes are LF
+fn lines_in(bytes: &[u8]) -> u64
+    ensures { result ≡ lf_count bytes.now }
+{
+    let mut count = 0;
+    let mut rest = bytes;
+    'parts: while !rest.is_empty() {
+        let (part, behind) = rest.split_at(rest.len().min(192));
+        count += u64::from(few_lines(part));
+        rest = behind;
+    }
+    count
+}
+
+fn begins_with_soh(bytes: &[u8]) -> bool
+    ensures { result ≡ begins 1 bytes.now }
+{
+    match bytes {
+        [byte, ..] => *byte == 1,
+        [] => false,
+    }
+}
+
+// the first place where SOH stands behind LF, or the length
+fn mark_place(bytes: &[u8]) -> usize
+    ensures fits { result ≤ length bytes.now }
+    ensures first { HasNoMark bytes.now result }
+    ensures mark { result < length bytes.now → IsMark bytes.now result }
+{
+    let mut from = 0;
+    'places: while let Some(at) = memchr(1, &bytes[from..]) {
+        let place = from + at;
+        if 0 < place && bytes[place - 1] == b'\n' {
+            return place;
+        }
+        from = place + 1;
+    }
+    bytes.len()
+}
+
+// how many bytes at the front are text lines, each with its LF
+fn run_length(bytes: &[u8]) -> usize
+    ensures fits { result ≤ length bytes.now }
+    ensures run { IsRun (take result bytes.now) }
+    ensures longest { HasNoRun (drop result bytes.now) }
+{
+    if begins_with_soh(bytes) {
+        return 0;
+    }
+    let end = mark_place(bytes);
+    match memrchr(b'\n', &bytes[..end]) {
+        Some(at) => at + 1,
+        None => 0,
+    }
+}
+
 impl LineReader {
     /// Stands at a place of a file.
     pub fn new(name: &Name, place: u64, size: u64) -> LineReader
@@ -102,6 +174,7 @@ impl LineReader {
         ensures told { IfOk result (λ more. IfSome (bytes_in (seen (D.told disk.old)) self.old.name)
             (λ file. StandsIn self.old file → StandsIn self.new file × (more ≡ false → self.new.place ≡ length file))) }
         ensures ahead { self.new.place + length self.new.held ≤ self.new.size }
+        ensures limit { self.new.size ≤ 1073741824 }
     {
         self.start = 0;
         self.end = 0;
@@ -118,6 +191,7 @@ impl LineReader {
         ensures taken { IfOk result (λ ended. Takes self.old self.new line.old.items line.new.items ended) }
         ensures onward { self.old.place ≤ self.new.place }
         ensures ahead { self.new.place + length self.new.held ≤ self.new.size }
+        ensures limit { self.new.size ≤ 1073741824 }
     {
         let held = &self.piece[self.start..self.end];
         match memchr(b'\n', held) {
@@ -152,6 +226,7 @@ impl LineReader {
         ensures told { IfOk result (λ ended. TakesLine (bytes_in (seen (D.told disk.old)) self.old.name) self.old self.new line.new.items ended) }
         ensures line { OnOk result (HasNoLf line.new.items) }
         ensures ahead { self.new.place + length self.new.held ≤ self.new.size }
+        ensures limit { self.new.size ≤ 1073741824 }
         ensures onward { self.old.place ≤ self.new.place }
         ensures moved { IfOk result (λ ended. ended ≡ true → self.new.place ≡ self.old.place + length line.new.items + 1) }
     {
@@ -168,6 +243,36 @@ impl LineReader {
                 Err(Failed) => return Err(LineFault::Failed),
             }
         }
+    }
+
+    /// The text lines that are held whole, each with its LF, up to a line that begins with SOH.
+    pub fn texts(&self) -> &[u8]
+        ensures fits { length result.now ≤ length self.now.held }
+        ensures front { take (length result.now) self.now.held ≡ result.now }
+        ensures run { IsRun result.now }
+        ensures longest { HasNoRun (drop (length result.now) self.now.held) }
+    {
+        let held = &self.piece[self.start..self.end];
+        &held[..run_length(held)]
+    }
+
+    /// Passes over so many of the held bytes, and answers how many lines end in them.
+    pub fn pass(&mut self, count: usize) -> u64
+        requires { count ≤ length self.old.held }
+        ensures name { self.new.name ≡ self.old.name }
+        ensures size { self.new.size ≡ self.old.size }
+        ensures held { self.new.held ≡ drop count self.old.held }
+        ensures place { self.new.place ≡ self.old.place + count }
+        ensures ahead { self.new.place + length self.new.held ≤ self.new.size }
+        ensures limit { self.new.size ≤ 1073741824 }
+        ensures lines { result ≡ length (cut (take count self.old.held)).lines }
+        ensures bound { result ≤ count }
+    {
+        let passed = &self.piece[self.start..self.start + count];
+        let lines = lines_in(passed);
+        self.start += count;
+        self.place += count as u64;
+        lines
     }
 
     // adds the held bytes to the sums, and holds none

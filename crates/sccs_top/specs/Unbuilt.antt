@@ -37,10 +37,15 @@ unbuilt_lines any operands = flat_map (unbuilt_line any) (words_in operands)
 unfoldable pub is_built : GetWords → Bool
 is_built words = (words.keep && (words.print && words.silent)) && not (words.branch || (words.edit || (words.no_text || (words.sids || words.module))))
 
--- the operands of a command that is built
-abbrev pub built_operands : Command → Option Operands
-built_operands (c.Get words operands) = if is_built words && not operands.from_input then Some operands else None
-built_operands _ = None
+-- the words and operands of a get that is built
+abbrev pub built : Command → Option (GetWords × Operands)
+built (c.Get words operands) = if is_built words && not operands.from_input then Some (words, operands) else None
+built _ = None
+
+-- the get that words mean, where it is built
+abbrev pub gets : Result Command Usage → Option (GetWords × Operands)
+gets (Ok command) = built command
+gets (Err usage) = None
 
 -- the lines for a command that isn't built
 abbrev pub unbuilt_command : Command → List ℕ
@@ -65,7 +70,7 @@ pub record Message : Type 0 where
 -- what is said of words without a command that is built
 abbrev pub said : Result Command Usage → Option Message
 said (Err usage) = Some (record { status = 2; text = usage_line usage })
-said (Ok command) = if is_none (built_operands command) then Some (record { status = 1; text = unbuilt_command command }) else None
+said (Ok command) = if is_none (built command) then Some (record { status = 1; text = unbuilt_command command }) else None
 
 -- a run that says this
 abbrev pub Says : Answer → Option (List ℕ) → Option (List ℕ) → Message → Type 0

@@ -1,14 +1,19 @@
-ghost use Rattle.std.specs.Prelude.{◌≡◌, ◌≢◌, ◌≤◌, ◌⊎◌, IfSome, OnSome, OnOk, OnErr, option_map};
+ghost use Rattle.std.specs.Prelude.{◌≡◌, ◌≢◌, ◌≤◌, ◌⊎◌, Some, IfSome, OnSome, OnOk, OnErr, option_map};
 ghost use Rattle.sccs_base.specs.Stream.{Rose, GivesOk, GivesSome};
 ghost use Rattle.sccs_words.specs.Meaning.{meaning};
-ghost use Rattle.sccs_top.specs.Unbuilt.{is_built, built_operands, unbuilt_command, said, Says};
+ghost use Rattle.sccs_disk.specs.Files.{Folder, view_in};
+ghost use Rattle.sccs_disk.specs.Told.{seen};
+ghost use Rattle.sccs_steps.specs.Calls.{world};
+ghost use Rattle.sccs_top.specs.Gets.{Ends, ended, get_turns};
+ghost use Rattle.sccs_top.specs.Unbuilt.{is_built, built, gets, unbuilt_command, said, Says};
 
 use crate::answers::Answer;
-use crate::messages::{is_several, refuse_all, refuse_unbuilt, write_usage};
-use sccs_base::{Bytes, Failed, Line, Name, Sink, Source, Words};
+use crate::gets::get_files;
+use crate::messages::{refuse_all, refuse_unbuilt, write_usage};
+use sccs_base::{Failed, Line, Sink, Source, Words};
 use sccs_disk::Disk;
-use sccs_get::print_version;
-use sccs_sid::{Refusal, Stamp, StepFault, write_refusal};
+use sccs_sid::Stamp;
+use sccs_steps::Fault;
 use sccs_words::{Command, GetWords, Operands, WordsFault, read_words};
 use std::alloc::Global;
 
@@ -32,73 +37,22 @@ fn is_built(words: &GetWords) -> bool
     words.keep && words.print && words.silent && !has_others
 }
 
-// gets the text of one file
-fn get_file<O: Sink, E: Sink, D: Disk>(
-    alloc: Global,
-    words: &GetWords,
-    word: &[u8],
-    out: &mut O,
-    err: &mut E,
-    disk: &mut D,
-) -> Answer
-    ensures same { D.told disk.new ≡ D.told disk.old }
-    ensures read_fault { result ≢ Answer.ReadFault }
-    ensures write_fault { result ≡ Answer.WriteFault
-        → Rose (O.faults out.old) (O.faults out.new) ⊎ Rose (E.faults err.old) (E.faults err.new) }
-    ensures disk_fault { result ≡ Answer.DiskFault
-        → Rose (D.faults disk.old) (D.faults disk.new) }
-    ensures out_later { O.faults out.old ≤ O.faults out.new }
-    ensures err_later { E.faults err.old ≤ E.faults err.new }
-    ensures disk_later { D.faults disk.old ≤ D.faults disk.new }
+// how a command ends whose steps end so
+fn ended(made: Result<u8, Fault>) -> Answer
+    ensures { result ≡ ended made }
 {
-    if is_several(word) {
-        return answer(1, write_refusal(word, &Refusal::Unbuilt, err));
+    match made {
+        Ok(status) => Answer::Finished { status },
+        Err(Fault::Memory) => Answer::Memory,
+        Err(Fault::ReadFault) => Answer::ReadFault,
+        Err(Fault::WriteFault) => Answer::WriteFault,
+        Err(Fault::DiskFault) => Answer::DiskFault,
     }
-    let Some(name) = Name::read_sfile(word) else {
-        return answer(1, write_refusal(word, &Refusal::BadName, err));
-    };
-    match print_version(alloc, &name, words, out, disk) {
-        Ok(()) => Answer::Finished { status: 0 },
-        Err(StepFault::Refused(refusal)) => answer(1, write_refusal(word, &refusal, err)),
-        Err(StepFault::Memory) => Answer::Memory,
-        Err(StepFault::ReadFault) => Answer::ReadFault,
-        Err(StepFault::WriteFault) => Answer::WriteFault,
-        Err(StepFault::DiskFault) => Answer::DiskFault,
-    }
-}
-
-// gets the text of each file in turn
-fn get_files<O: Sink, E: Sink, D: Disk>(
-    alloc: Global,
-    words: &GetWords,
-    operands: &[Bytes],
-    out: &mut O,
-    err: &mut E,
-    disk: &mut D,
-) -> Answer
-    ensures same { D.told disk.new ≡ D.told disk.old }
-    ensures read_fault { result ≢ Answer.ReadFault }
-    ensures write_fault { result ≡ Answer.WriteFault
-        → Rose (O.faults out.old) (O.faults out.new) ⊎ Rose (E.faults err.old) (E.faults err.new) }
-    ensures disk_fault { result ≡ Answer.DiskFault
-        → Rose (D.faults disk.old) (D.faults disk.new) }
-    ensures out_later { O.faults out.old ≤ O.faults out.new }
-    ensures err_later { E.faults err.old ≤ E.faults err.new }
-    ensures disk_later { D.faults disk.old ≤ D.faults disk.new }
-{
-    let mut status = 0;
-    for word in operands {
-        match get_file(alloc, words, word.bytes(), out, err, disk) {
-            Answer::Finished { status: one } => status = status.max(one),
-            answer => return answer,
-        }
-    }
-    Answer::Finished { status }
 }
 
 // the operands of a command that is built
 fn built(command: &Command) -> Option<(&GetWords, &Operands)>
-    ensures { option_map (λ get. get.1.now) result ≡ built_operands command.now }
+    ensures { option_map (λ get. (get.0.now, get.1.now)) result ≡ built command.now }
 {
     match command {
         Command::Get(words, operands) => {
@@ -147,6 +101,11 @@ pub fn run<I: Source, O: Sink, E: Sink, D: Disk>(
     err: &mut E,
     disk: &mut D,
 ) -> Answer
+    ensures gets { IfSome (gets (meaning words.now)) (λ get. (folder : Folder)
+        → seen (D.told disk.old) ≡ Some (view_in folder)
+        → Ends result folder (get_turns get.0 folder get.1.words)
+        (world (seen (D.told disk.old)) (O.given out.old) (E.given err.old))
+        (world (seen (D.told disk.new)) (O.given out.new) (E.given err.new))) }
     ensures said { IfSome (said (meaning words.now)) (Says result (E.given err.old) (E.given err.new)) }
     ensures quiet { OnSome (said (meaning words.now)) (O.given out.new ≡ O.given out.old) }
     ensures same { D.told disk.new ≡ D.told disk.old }
@@ -167,7 +126,9 @@ pub fn run<I: Source, O: Sink, E: Sink, D: Disk>(
         Err(WordsFault::Memory) => return Answer::Memory,
     };
     match built(&command) {
-        Some((words, operands)) => get_files(alloc, words, operands.words.items(), out, err, disk),
+        Some((words, operands)) => {
+            ended(get_files(alloc, words, operands.words.items(), out, err, disk))
+        }
         None => answer(1, refuse(&command, err)),
     }
 }

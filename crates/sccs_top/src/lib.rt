@@ -3,6 +3,7 @@
 
 mod answers;
 mod commands;
+mod gets;
 mod messages;
 #[cfg(test)]
 mod tests;

@@ -83,7 +83,7 @@ kind_letters : (b : ℕ) (rest : List ℕ) → b ≢ 45 → kind_of (45 ∷ b �
 kind_letters b [] other = no_end b (b == 45) (Decides-eqb b 45).0 other
 kind_letters b (c ∷ rest) other = refl
 
-same_by : {a b c d : CommandLine} → a ≡ b → c ≡ d → SameUses b d → SameUses a c
+pub same_by : {a b c d : CommandLine} → a ≡ b → c ≡ d → SameUses b d → SameUses a c
 same_by {a} {b} {c} {d} left right same = record { uses = ap (λ (l : CommandLine). map unplaced l.uses) left ∙ (same.uses ∙ sym (ap (λ (l : CommandLine). map unplaced l.uses) right)); operands = ap (λ (l : CommandLine). l.operands) left ∙ (same.operands ∙ sym (ap (λ (l : CommandLine). l.operands) right)) }
 
 same_apart : (rows : List Row) (n a b : ℕ) (uses : List Use) (rest : List ℕ) (words : List (List ℕ)) → row_of rows a ≡ Some (Plain a) → a ≢ 45 → b ≢ 45

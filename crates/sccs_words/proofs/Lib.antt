@@ -3,6 +3,7 @@ pub mod EndRows
 pub mod FaultRows
 pub mod FirstFaults
 pub mod Joined
+pub mod JoinedAnywhere
 pub mod NameRows
 pub mod Outcomes
 pub mod Places

@@ -1,5 +1,5 @@
 -- The numbers of words don't matter for what a command line means.
-use Rattle.std.proofs.Common.{◌≡◌, ◌≢◌, ℕ, ◌+◌, ◌==◌, Bool, true, false, not, ◌&&◌, ◌||◌, List, [], ◌∷◌, ◌++◌, length, map, Option, None, Some, Result, Ok, refl, sym, ap, ◌∙◌, cond}
+use Rattle.std.proofs.Common.{◌≡◌, ℕ, ◌+◌, ◌==◌, Bool, true, false, not, ◌&&◌, ◌||◌, List, [], ◌∷◌, ◌++◌, length, map, Option, None, Some, Result, Ok, refl, sym, ap, ◌∙◌, cond}
 use Rattle.std.specs.Prelude.{option_and_then, option_map, is_some}
 use Rattle.std.specs.List.{list_any, list_all}
 use Rattle.std.proofs.lemmas.List.{map_push}
@@ -7,14 +7,12 @@ use Rattle.sccs_sid.specs.Reading.{is_empty}
 use Rattle.sccs_words.specs.Letters as opt
 use Rattle.sccs_words.specs.Synopsis.{rows_of, aparts_of, needs_of, rest_of, row_of}
 use Rattle.sccs_words.specs.Values.{fits, sid_value, name_value, soak_number}
-use Rattle.sccs_words.specs.Scan.{CommandLine, line, scanned}
+use Rattle.sccs_words.specs.Scan.{CommandLine, line}
 use Rattle.sccs_words.specs.Judge.{has, or_else, usage, is_bare, apart_by, is_apart, form_of, value_fault, repeats, is_again, known_fault, fault_by, use_fault, first_from, uses_fault, is_named, dash_with_other, wants, operand_fits, operand_fault, operands_fault, none_though_wanted, met, takes_one, too_many, end_fault, first_fault}
 use Rattle.sccs_words.specs.Records.{bit, value_in, value_of, with_value, values_of, get_words, delta_words, unget_words, prs_words, admin_words, val_words, operands_of, is_option_fault}
 use Rattle.sccs_words.specs.Unplaced.{got_only, unplaced, SameUses, kinds}
-use Rattle.sccs_words.specs.Meaning.{first_of, with_name, with_sid, with_number, command_of, refusal_of, unless, line_meaning, meaning_by, utility_of, meaning}
-use Rattle.sccs_words.proofs.Joined.{joined_or_apart}
+use Rattle.sccs_words.specs.Meaning.{first_of, with_name, with_sid, with_number, command_of, refusal_of, unless, line_meaning}
 use Rattle.sccs_sid.specs.declared.sids.Sid.{Sid}
-use Rattle.sccs_words.specs.declared.tables.Row.TheVariants.{Plain}
 use Rattle.sccs_words.specs.declared.commands.ValWords.{ValWords}
 use Rattle.sccs_words.specs.declared.tables.Row.{Row}
 use Rattle.sccs_words.specs.declared.tables.Apart.{Apart}
@@ -303,13 +301,3 @@ pub same_meaning : (utility : Utility) (a b : CommandLine) (n m : ℕ) → SameU
 same_meaning utility a b n m same =
     let is : blank a ≡ blank b = ap (λ (uses : List Use). line uses 0 a.operands) same.uses ∙ ap (line (map unplaced b.uses) 0) same.operands in
     blank_same utility a n ∙ (ap (λ (l : CommandLine). kinds (line_meaning utility l 0)) is ∙ sym (blank_same utility b m))
-
-pub joined_means_apart : (utility : Utility) (name : List ℕ) (a b : ℕ) (rest : List ℕ) (words : List (List ℕ)) → utility_of name ≡ Some utility → row_of (rows_of utility) a ≡ Some (Plain a) → b ≢ 45
-    → kinds (meaning (name ∷ (45 ∷ a ∷ b ∷ rest) ∷ words)) ≡ kinds (meaning (name ∷ (45 ∷ a ∷ []) ∷ (45 ∷ b ∷ rest) ∷ words))
-unfolding meaning
-joined_means_apart utility name a b rest words found plain other =
-    let joined : List (List ℕ) = (45 ∷ a ∷ b ∷ rest) ∷ words in
-    let apart : List (List ℕ) = (45 ∷ a ∷ []) ∷ (45 ∷ b ∷ rest) ∷ words in
-    ap (λ (o : Option Utility). kinds (meaning_by o joined)) found
-    ∙ (same_meaning utility (scanned (rows_of utility) 2 [] None joined) (scanned (rows_of utility) 2 [] None apart) (length joined + 2) (length apart + 2) (joined_or_apart utility 2 a b [] rest words plain other)
-    ∙ sym (ap (λ (o : Option Utility). kinds (meaning_by o apart)) found))

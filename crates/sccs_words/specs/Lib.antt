@@ -2,6 +2,7 @@ pub mod Judge
 pub mod Letters
 pub mod Meaning
 pub mod MrWords
+pub mod OptionsRead
 pub mod Records
 pub mod Scan
 pub mod Scanned

@@ -1,6 +1,7 @@
-ghost use Rattle.std.specs.Prelude.{◌≡◌, ◌≢◌, ℕ, ◌+◌, ◌≤◌, List, [], ◌∷◌, Some, None, Err, length};
+ghost use Rattle.std.specs.Prelude.{◌≡◌, ◌≢◌, ℕ, ◌+◌, ◌≤◌, List, [], ◌∷◌, ◌++◌, Some, None, Err, length};
 ghost use Rattle.sccs_words.specs.Meaning.{line_meaning, meaning, utility_of};
-ghost use Rattle.sccs_words.specs.Scan.{CommandLine, scanned};
+ghost use Rattle.sccs_words.specs.OptionsRead.{options_read};
+ghost use Rattle.sccs_words.specs.Scan.{CommandLine};
 ghost use Rattle.sccs_words.specs.Synopsis.{rows_of, row_of};
 ghost use Rattle.sccs_words.specs.Unplaced.{SameUses, kinds};
 ghost use Rattle.sccs_words.specs.declared.tables.Row.TheVariants.{Plain};
@@ -23,16 +24,13 @@ pub fn numbers_of_words_do_not_matter()
 {}
 
 /// An option without a value may stand in a word of its own, or be joined to what follows it. Behind
-/// any options, from any number of word on, the words `-abREST` and `-a -bREST`, and any words behind
-/// them, are the same options with the same values, and the same operands. As the first words behind
-/// a utility's they are the same command, or have a fault of the same kind.
+/// any words that are options and their values, the words `-abREST` and `-a -bREST`, with any words
+/// behind them, are the same command, or have a fault of the same kind.
 pub fn joined_options_are_options_apart()
-    ensures scan { (utility : Utility) (n a b : ℕ) (uses : List Use) (rest : List ℕ) (words : List (List ℕ))
+    ensures { (utility : Utility) (name : List ℕ) (a b : ℕ) (rest : List ℕ) (before behind : List (List ℕ)) (read : List Use)
+        → utility_of name ≡ Some utility
+        → options_read (rows_of utility) 2 [] None before ≡ Some (read, None)
         → row_of (rows_of utility) a ≡ Some (Plain a) → b ≢ 45
-        → SameUses (scanned (rows_of utility) n uses None ((45 ∷ a ∷ b ∷ rest) ∷ words))
-        (scanned (rows_of utility) n uses None ((45 ∷ a ∷ []) ∷ (45 ∷ b ∷ rest) ∷ words)) }
-    ensures meaning { (utility : Utility) (name : List ℕ) (a b : ℕ) (rest : List ℕ) (words : List (List ℕ))
-        → utility_of name ≡ Some utility → row_of (rows_of utility) a ≡ Some (Plain a) → b ≢ 45
-        → kinds (meaning (name ∷ (45 ∷ a ∷ b ∷ rest) ∷ words))
-        ≡ kinds (meaning (name ∷ (45 ∷ a ∷ []) ∷ (45 ∷ b ∷ rest) ∷ words)) }
+        → kinds (meaning (name ∷ before ++ (45 ∷ a ∷ b ∷ rest) ∷ behind))
+        ≡ kinds (meaning (name ∷ before ++ (45 ∷ a ∷ []) ∷ (45 ∷ b ∷ rest) ∷ behind)) }
 {}

@@ -22,3 +22,9 @@ pub returns-else-is_encoded-clause-told : goal.returns-else-is_encoded-clause-to
 returns-else-is_encoded-clause-told g c =
     let checks = found_in (seen (g.D.Disk.told c.args.disk.now)) (seen (g.D.Disk.told c.check_front.new.disk)) c.args.name.now c.in-Ok.front (Ok tt) (ap seen c.in-Ok.ensures.same) c.in_default.ensures.told in
     file_plain (seen (g.D.Disk.told c.args.disk.now)) c.args.name.now c.in-Ok.front (ap is_encoded (sym c.items.ensures) ∙ (sym c.is_encoded.ensures ∙ c.if-is_encoded.false)) c.in-Ok.ensures.told checks
+
+pub returns-else-is_encoded-clause-rules : goal.returns-else-is_encoded-clause-rules
+returns-else-is_encoded-clause-rules g c = record {
+  rules = c.in-Ok.ensures.rules;
+  plain = ap is_encoded (sym c.items.ensures) ∙ (sym c.is_encoded.ensures ∙ c.if-is_encoded.false);
+}

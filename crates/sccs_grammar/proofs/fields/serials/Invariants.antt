@@ -1,6 +1,6 @@
 use Rattle.std.proofs.Common.{◌≡◌, ◌++◌, length}
 use Rattle.std.specs.Prelude.{option_map}
-use Rattle.sccs_grammar.specs.Words.{words}
+use Rattle.sccs_sid.specs.Words.{words}
 use Rattle.sccs_grammar.specs.Said.{serials}
 use Rattle.sccs_grammar.proofs.fields.serials.Given as goal
 
@@ -9,4 +9,4 @@ abbrev pub invariant-words : goal.invariant-words
 invariant-words l = serials (words l.bytes) ≡ option_map (λ ns. l.found ++ ns) (serials (words l.rest))
 
 abbrev pub decreases-words : goal.decreases-words
-decreases-words l = length l.rest
+decreases-words l = length (words l.rest)

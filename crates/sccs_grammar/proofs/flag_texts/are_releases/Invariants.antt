@@ -1,7 +1,10 @@
-use Rattle.std.proofs.Common.{◌≡◌, fold, take}
-use Rattle.sccs_grammar.specs.Releases.{stage_after}
-use Rattle.sccs_grammar.specs.declared.flag_texts.Stage.TheVariants as stage
+use Rattle.std.proofs.Common.{◌≡◌, length}
+use Rattle.sccs_history.specs.FlagText.{are_releases}
 use Rattle.sccs_grammar.proofs.flag_texts.are_releases.Given as goal
 
-abbrev pub invariant-loop-byte : goal.invariant-loop-byte
-invariant-loop-byte l = l.stage ≡ fold stage_after stage.Begin (take l.byte-index l.text)
+-- the pieces so far are releases
+abbrev pub invariant-pieces : goal.invariant-pieces
+invariant-pieces l = are_releases l.text ≡ are_releases l.rest
+
+abbrev pub decreases-pieces : goal.decreases-pieces
+decreases-pieces l = length l.rest

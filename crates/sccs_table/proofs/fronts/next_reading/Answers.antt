@@ -19,6 +19,11 @@ returns-in-Ok-clause-told g c =
     line_heard _ c.args.reader.now c.next_line.new.self c.args.number c.args.reading c.in-Ok.reading c.next_line.new.line.items (takes_line_at _ _ _ _ c.in-Ok-true.field-0 true c.in-Ok-true.field-0-test c.in-Ok-true.ensures.told)
     (said_heard c.args.number c.args.reading c.in-Ok.reading c.next_line.new.line.items c.in-Ok-Some.said says c.in-Ok.ensures)
 
+pub returns-in-Ok-clause-heard : goal.returns-in-Ok-clause-heard
+returns-in-Ok-clause-heard g c =
+    let says = ap said (sym c.as_slice.ensures.value) ∙ (sym c.in-Ok-Some.ensures ∙ c.in-Ok-Some.field-0-is) in
+    (c.next_line.new.line.items, c.in-Ok-true.ensures.line, said_heard c.args.number c.args.reading c.in-Ok.reading c.next_line.new.line.items c.in-Ok-Some.said says c.in-Ok.ensures)
+
 pub returns-in-Err-Format-clause-told : goal.returns-in-Err-Format-clause-told
 returns-in-Err-Format-clause-told g c =
     let says = ap said (sym c.as_slice.ensures.value) ∙ (sym c.in-Ok-Some.ensures ∙ c.in-Ok-Some.field-0-is) in

@@ -12,3 +12,9 @@ returns-then-is_encoded-clause-told g c = front_encoded (seen (g.D.Disk.told c.a
 
 pub returns-else-is_encoded-clause-told : goal.returns-else-is_encoded-clause-told
 returns-else-is_encoded-clause-told g c = front_plain (seen (g.D.Disk.told c.args.disk.now)) c.args.name.now c.in-Ok.front (ap is_encoded (sym c.items.ensures) ∙ (sym c.is_encoded.ensures ∙ c.if-is_encoded.false)) c.in-Ok.ensures.told
+
+pub returns-else-is_encoded-clause-rules : goal.returns-else-is_encoded-clause-rules
+returns-else-is_encoded-clause-rules g c = record {
+  rules = c.in-Ok.ensures.rules;
+  plain = ap is_encoded (sym c.items.ensures) ∙ (sym c.is_encoded.ensures ∙ c.if-is_encoded.false);
+}

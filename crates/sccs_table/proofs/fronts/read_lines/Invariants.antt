@@ -1,6 +1,8 @@
 use Rattle.std.proofs.Common.{◌≡◌, ◌+◌, ◌-◌, ◌≤◌}
 use Rattle.sccs_disk.specs.Told.{seen}
 use Rattle.sccs_grammar.specs.Front.{start}
+use Rattle.sccs_grammar.proofs.ReadingRules.{Keeps}
+use Rattle.sccs_grammar.proofs.SpelledReadings.{IsSpelledSoFar}
 use Rattle.sccs_table.specs.Standing.{bytes_in}
 use Rattle.sccs_table.proofs.FrontLaws.{GoesLines}
 use Rattle.sccs_table.proofs.fronts.read_lines.Given as goal
@@ -14,6 +16,8 @@ invariant-lines g l = record {
   size : l.reader.size ≡ l.fn.reader.size;
   ahead : l.fn.reader.place + l.number ≤ l.reader.place + 2;
   within : l.number ≤ 2 + l.fn.reader.size;
+  kept : Keeps l.reading;
+  spelled : IsSpelledSoFar l.reading;
   goes : GoesLines (bytes_in (seen (g.D.Disk.told l.fn.disk)) l.fn.reader.name) l.fn.reader start 2 l.reader l.reading l.number;
 }
 

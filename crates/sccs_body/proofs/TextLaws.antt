@@ -1,0 +1,88 @@
+-- Runs of text lines that are passed over.
+use Rattle.std.proofs.Common.{◌≡◌, ℕ, suc, ◌+◌, ◌<◌, Bool, true, false, List, [], ◌∷◌, ◌++◌, length, map, take, Option, None, Some, Result, Ok, Err, refl, sym, ap, ◌∙◌, subst, arith, append_assoc}
+use Rattle.sccs_base.specs.Cut.{Cut, cut}
+use Rattle.sccs_sid.specs.Reading.{◌>>=◌}
+use Rattle.sccs_sid.specs.SidLists.{begins}
+use Rattle.sccs_history.specs.Body.{may_stand}
+use Rattle.sccs_history.specs.History.{AreBare}
+use Rattle.sccs_history.specs.declared.headers.Item.{Item}
+use Rattle.sccs_history.specs.declared.headers.Item.TheVariants.{Text}
+use Rattle.sccs_grammar.specs.Items.{item_at, items_from}
+use Rattle.sccs_grammar.specs.declared.sayings.Said.TheVariants.{Plain}
+use Rattle.sccs_grammar.proofs.SayLaws.{said_plain}
+use Rattle.sccs_marks.specs.States.{Knows}
+use Rattle.sccs_marks.specs.declared.body_states.BodyState.{BodyState}
+use Rattle.sccs_table.specs.Runs.{IsRun, PassesRun}
+use Rattle.sccs_table.specs.Standing.{Standing, left}
+use Rattle.sccs_table.proofs.RunLaws.{lines_bound}
+use Rattle.sccs_body.specs.Reader.{ItemPlace}
+use Rattle.sccs_body.specs.ItemsRead.{IsBehind, texts_behind}
+use Rattle.sccs_body.proofs.ItemLaws.{behind_text, line_item}
+use Rattle.sccs_body.proofs.BodyLaws.{onto, onto_none, items_on, Reached, Somewhere}
+
+pub not_both : {P : Type 0} (b : Bool) → b ≡ true → b ≡ false → P
+not_both true is other = cc
+not_both false is other = cc
+
+-- text lines open and end nothing
+pub behind_texts : (live : List ℕ) (lines : List (List ℕ)) (before : List Item) (s : BodyState) → Knows live before s → Knows live (texts_behind lines before) s
+behind_texts live [] before s knows = knows
+behind_texts live (line ∷ lines) before s knows = behind_texts live lines (Text line ∷ before) s (behind_text live before line s knows)
+
+-- a bare line is a text item where one may stand
+text_at : (live : List ℕ) (before : List Item) (line : List ℕ) → begins 1 line ≡ false → may_stand live before (Text line) ≡ true → item_at live before line ≡ Some (Text line)
+text_at live before line bare stands = line_item live before line (Plain line) (Text line) true (said_plain line bare) refl stands
+
+onto_first : (item : Item) (given : List Item) (read : Result (List Item) ℕ) → (onto given read >>= λ items. Ok (item ∷ items)) ≡ onto (item ∷ given) read
+onto_first item given (Ok items) = refl
+onto_first item given (Err k) = refl
+
+onto_both : (given more : List Item) (read : Result (List Item) ℕ) → onto given (onto more read) ≡ onto (given ++ more) read
+onto_both given more (Ok items) = ap Ok (sym (append_assoc given more items))
+onto_both given more (Err k) = refl
+
+-- bare lines, where text may stand, are text items, and reading goes on behind them
+pub items_from_texts : (live : List ℕ) (n : ℕ) (before : List Item) (texts lines : List (List ℕ)) (tail : List ℕ) → AreBare texts → (0 < length texts → (text : List ℕ) → may_stand live before (Text text) ≡ true)
+    → items_from live n before (texts ++ lines) tail ≡ onto (map Text texts) (items_from live (n + length texts) (texts_behind texts before) lines tail)
+items_from_texts live n before [] lines tail are stand = onto_none _ ∙ ap (λ k. onto [] (items_from live k before lines tail)) (omega arith)
+items_from_texts live n before (text ∷ texts) lines tail are stand =
+    items_on live n before (Text text) text (texts ++ lines) tail (text_at live before text are.0 (stand (omega arith) text))
+    ∙ (ap (λ read. read >>= λ items. Ok (Text text ∷ items)) (items_from_texts live (suc n) (Text text ∷ before) texts lines tail are.1 (λ some other. stand (omega arith) other))
+    ∙ (onto_first (Text text) (map Text texts) _
+    ∙ ap (λ k. onto (Text text ∷ map Text texts) (items_from live k (texts_behind texts (Text text ∷ before)) lines tail)) (omega arith)))
+
+-- ---- as code goes over them
+
+some_bytes : (run : List ℕ) → 0 < length (cut run).lines → 0 < length run
+some_bytes run some = omega (arith, lines_bound run)
+
+pub reached_texts : (o : Option (List ℕ)) (live : List ℕ) (begun : Standing) (n0 : ℕ) (before : List Item) (now new : ItemPlace) (run : List ℕ) → IsRun run → (0 < length run → (text : List ℕ) → may_stand live before (Text text) ≡ true)
+    → new.number ≡ now.number + length (cut run).lines → ((file : List ℕ) → PassesRun run file now.lines new.lines) → Reached o live begun n0 before now → Reached o live begun n0 (texts_behind (cut run).lines before) new
+reached_texts None live begun n0 before now new run is stand number passes reached = tt
+reached_texts (Some file) live begun n0 before now new run is stand number passes reached = λ stands.
+    let here = reached stands in
+    let passed = passes file here.0 in
+    let lines = (cut run).lines in
+    let next : items_from live now.number before (left now.lines file).lines (left now.lines file).tail ≡ onto (map Text lines) (items_from live new.number (texts_behind lines before) (left new.lines file).lines (left new.lines file).tail) =
+    ap (λ (c : Cut). items_from live now.number before c.lines c.tail) passed.1
+    ∙ (items_from_texts live now.number before lines (left new.lines file).lines (left new.lines file).tail is.1 (λ some. stand (some_bytes run some))
+    ∙ ap (λ k. onto (map Text lines) (items_from live k (texts_behind lines before) (left new.lines file).lines (left new.lines file).tail)) (sym number)) in
+    (passed.0, (here.1.0 ++ map Text lines, here.1.1 ∙ (ap (onto here.1.0) next ∙ onto_both here.1.0 (map Text lines) _)))
+
+-- the reader stands behind the lines that it passed over
+pub somewhere_behind : (o : Option (List ℕ)) (live : List ℕ) (begun : Standing) (n0 : ℕ) (now new : ItemPlace) (run : List ℕ) → IsRun run → ((live : List ℕ) (before : List Item) (text : List ℕ) → IsBehind live before now → 0 < length run → may_stand live before (Text text) ≡ true)
+    → new.number ≡ now.number + length (cut run).lines → ((live : List ℕ) (before : List Item) → IsBehind live before now → IsBehind live (texts_behind (cut run).lines before) new) → ((file : List ℕ) → PassesRun run file now.lines new.lines)
+    → Somewhere o live begun n0 now → Somewhere o live begun n0 new
+somewhere_behind o live begun n0 now new run is stand number behind passes here =
+    (texts_behind (cut run).lines here.0, behind live here.0 here.1, reached_texts o live begun n0 here.0 now new run is (λ some text. stand live here.0 text here.1 some) number passes here.2)
+
+-- the same, where the run is known as the front of what is held
+pub somewhere_behind_front : (o : Option (List ℕ)) (live : List ℕ) (begun : Standing) (n0 : ℕ) (now new : ItemPlace) (run : List ℕ) → take (length run) now.lines.held ≡ run → IsRun run
+    → ((live : List ℕ) (before : List Item) (text : List ℕ) → IsBehind live before now → 0 < length run → may_stand live before (Text text) ≡ true)
+    → new.number ≡ now.number + length (cut (take (length run) now.lines.held)).lines → ((live : List ℕ) (before : List Item) → IsBehind live before now → IsBehind live (texts_behind (cut (take (length run) now.lines.held)).lines before) new)
+    → ((file : List ℕ) → PassesRun (take (length run) now.lines.held) file now.lines new.lines) → Somewhere o live begun n0 now → Somewhere o live begun n0 new
+somewhere_behind_front o live begun n0 now new run front is stand number behind passes here =
+    somewhere_behind o live begun n0 now new run is stand
+    (subst (λ bytes. new.number ≡ now.number + length (cut bytes).lines) front number)
+    (subst (λ bytes. (live : List ℕ) (before : List Item) → IsBehind live before now → IsBehind live (texts_behind (cut bytes).lines before) new) front behind)
+    (subst (λ bytes. (file : List ℕ) → PassesRun bytes file now.lines new.lines) front passes) here

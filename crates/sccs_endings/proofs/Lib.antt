@@ -1,0 +1,2 @@
+pub mod BodyEnding
+pub mod HeaderEnding

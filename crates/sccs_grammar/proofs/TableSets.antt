@@ -1,0 +1,93 @@
+-- The sets of serials and of SIDs that a table keeps.
+use Rattle.std.proofs.Common.{◌≡◌, ℕ, ◌==◌, Bool, true, false, not, cond, ◌&&◌, ◌||◌, List, [], ◌∷◌, ◌++◌, refl, sym, ap, subst, ◌∙◌, rules}
+use Rattle.std.specs.List.{list_any}
+use Rattle.std.specs.Ordering.{is_eq, nat_cmp, ordering_then}
+use Rattle.std.specs.declared.cmp.Ordering.{Ordering}
+use Rattle.std.specs.declared.cmp.Ordering.TheVariants.{Less, Equal, Greater}
+use Rattle.std.specs.BTreeSet.{BTreeSet, Updates, contains}
+use Rattle.std.proofs.lemmas.List.Folds.{list_any-append}
+use Rattle.sccs_sid.specs.declared.sids.Sid.{Sid}
+use Rattle.sccs_history.specs.Applied.{serials_of}
+use Rattle.sccs_history.specs.History.{lives, same_sid}
+use Rattle.sccs_history.specs.Numbers.{has}
+use Rattle.sccs_history.specs.declared.headers.Record.{Record}
+use Rattle.sccs_grammar.specs.SidKeys.{sid_key}
+use Rattle.sccs_grammar.specs.HeldTable.{HasSerials, HasSids, four_cmp}
+
+-- ---- one record more
+
+or_none : (a : Bool) → (a || false) ≡ a
+or_none true = refl
+or_none false = refl
+
+or_assoc : (a b c : Bool) → (a || (b || c)) ≡ ((a || b) || c)
+or_assoc true b c = refl
+or_assoc false b c = refl
+
+or_swap : (a b : Bool) → (a || b) ≡ (b || a)
+or_swap true true = refl
+or_swap true false = refl
+or_swap false true = refl
+or_swap false false = refl
+
+chosen : (same there : Bool) → cond same true there ≡ (there || same)
+chosen true there = or_swap true there
+chosen false there = sym (or_none there)
+
+has_more : (rs : List Record) (r : Record) (n : ℕ) → has (serials_of (rs ++ r ∷ [])) n ≡ (has (serials_of rs) n || (r.serial == n))
+has_more [] r n = or_none (r.serial == n)
+has_more (q ∷ rs) r n = ap (λ rest. (q.serial == n) || rest) (has_more rs r n) ∙ or_assoc (q.serial == n) (has (serials_of rs) n) (r.serial == n)
+
+lives_more : (rs : List Record) (r : Record) (sid : Sid) → lives (rs ++ r ∷ []) sid ≡ (lives rs sid || (not r.removed && same_sid r.sid sid))
+lives_more rs r sid =
+    list_any-append (λ (q : Record). not q.removed && same_sid q.sid sid) rs (r ∷ [])
+    ∙ ap (λ rest. lives rs sid || rest) (or_none (not r.removed && same_sid r.sid sid))
+
+-- ---- equal keys
+
+nat_same : (a b : ℕ) → is_eq (nat_cmp a b) ≡ (a == b)
+nat_same a b = search rules
+
+then_same : (o p : Ordering) → is_eq (ordering_then o p) ≡ (is_eq o && is_eq p)
+then_same Less p = refl
+then_same Equal p = refl
+then_same Greater p = refl
+
+and_assoc : (a b c : Bool) → ((a && b) && c) ≡ (a && (b && c))
+and_assoc true b c = refl
+and_assoc false b c = refl
+
+sid_same : (a b : Sid) → is_eq (four_cmp (sid_key a) (sid_key b)) ≡ same_sid a b
+sid_same a b =
+    let r : Bool = a.release == b.release in
+    let l : Bool = a.level == b.level in
+    let n : Bool = a.branch == b.branch in
+    let s : Bool = a.sequence == b.sequence in
+    then_same (ordering_then (ordering_then (nat_cmp a.release b.release) (nat_cmp a.level b.level)) (nat_cmp a.branch b.branch)) (nat_cmp a.sequence b.sequence)
+    ∙ (ap (λ x. x && is_eq (nat_cmp a.sequence b.sequence)) (then_same (ordering_then (nat_cmp a.release b.release) (nat_cmp a.level b.level)) (nat_cmp a.branch b.branch)
+    ∙ ap (λ x. x && is_eq (nat_cmp a.branch b.branch)) (then_same (nat_cmp a.release b.release) (nat_cmp a.level b.level)))
+    ∙ (ap (λ x. ((x && is_eq (nat_cmp a.level b.level)) && is_eq (nat_cmp a.branch b.branch)) && is_eq (nat_cmp a.sequence b.sequence)) (nat_same a.release b.release)
+    ∙ (ap (λ x. ((r && x) && is_eq (nat_cmp a.branch b.branch)) && is_eq (nat_cmp a.sequence b.sequence)) (nat_same a.level b.level)
+    ∙ (ap (λ x. ((r && l) && x) && is_eq (nat_cmp a.sequence b.sequence)) (nat_same a.branch b.branch)
+    ∙ (ap (λ x. ((r && l) && n) && x) (nat_same a.sequence b.sequence)
+    ∙ (and_assoc (r && l) n s ∙ and_assoc r l (n && s)))))))
+
+-- ---- one key more
+
+pub serials_more : (old new : BTreeSet ℕ) (rs : List Record) (r : Record) → HasSerials old rs → Updates nat_cmp old new r.serial true → HasSerials new (rs ++ r ∷ [])
+serials_more old new rs r has_old updates = λ n.
+    updates.0 n ∙ (ap (λ same. cond same true (contains nat_cmp old n)) (nat_same r.serial n)
+    ∙ (chosen (r.serial == n) (contains nat_cmp old n)
+    ∙ (ap (λ there. there || (r.serial == n)) (has_old n) ∙ sym (has_more rs r n))))
+
+pub sids_more : (old new : BTreeSet (ℕ × ℕ × ℕ × ℕ)) (rs : List Record) (r : Record) → HasSids old rs → r.removed ≡ false → Updates four_cmp old new (sid_key r.sid) true → HasSids new (rs ++ r ∷ [])
+sids_more old new rs r has_old live updates = λ sid.
+    updates.0 (sid_key sid) ∙ (ap (λ same. cond same true (contains four_cmp old (sid_key sid))) (sid_same r.sid sid)
+    ∙ (chosen (same_sid r.sid sid) (contains four_cmp old (sid_key sid))
+    ∙ (ap (λ there. there || same_sid r.sid sid) (has_old sid)
+    ∙ (ap (λ removed. lives rs sid || (not removed && same_sid r.sid sid)) (sym live) ∙ sym (lives_more rs r sid)))))
+
+pub sids_same : (old : BTreeSet (ℕ × ℕ × ℕ × ℕ)) (rs : List Record) (r : Record) → HasSids old rs → r.removed ≡ true → HasSids old (rs ++ r ∷ [])
+sids_same old rs r has_old removed = λ sid.
+    has_old sid ∙ (sym (or_none (lives rs sid))
+    ∙ (ap (λ gone. lives rs sid || (not gone && same_sid r.sid sid)) (sym removed) ∙ sym (lives_more rs r sid)))

@@ -1,0 +1,188 @@
+//! The delta table as far as it was read, with what makes its rules quick to judge.
+ghost use Rattle.std.specs.Prelude.{◌≡◌, ℕ, List, [], ◌∷◌, ◌++◌, Ok, IfOk};
+ghost use Rattle.std.specs.Ordering.{nat_cmp};
+ghost use Rattle.std.specs.BTreeSet.{contains};
+ghost use Rattle.sccs_history.specs.Applied.{serials_of};
+ghost use Rattle.sccs_history.specs.History.{lives};
+ghost use Rattle.sccs_history.specs.Numbers.{has};
+ghost use Rattle.sccs_grammar.specs.Entries.{no_entries, with_entry};
+ghost use Rattle.sccs_grammar.specs.Front.{Hears, lost, may_follow};
+ghost use Rattle.sccs_grammar.specs.HeldTable.{HasSerials, HasSids};
+ghost use Rattle.sccs_grammar.specs.SidKeys.{sid_key};
+
+use crate::readings::{Entry, FrontFault};
+use crate::table_tests::least;
+use sccs_base::ListOf;
+use sccs_history::{Record, Records};
+use sccs_sid::Sid;
+use std::alloc::Global;
+use std::collections::BTreeSet;
+use std::marker::Model;
+
+/// The entries that were read so far. Contracts see their records, and the numbers of their delta
+/// lines.
+#[derive(Drop)]
+pub struct Table {
+    records: Records,
+    lines: ListOf<u64>,
+    // the serials, and the SIDs of live records
+    serials: BTreeSet<u16, Global>,
+    sids: BTreeSet<(u16, u16, u16, u16), Global>,
+}
+
+impl Model for Table {
+    ghost use Rattle.sccs_grammar.specs.Entries.{Entries};
+    ghost use Rattle.sccs_grammar.specs.HeldTable.{entries, IsKept};
+
+    ghost Value = { Entries };
+
+    ghost view = { entries };
+
+    ghost invariant = { IsKept };
+}
+
+// the four numbers of a SID
+fn sid_key(sid: &Sid) -> (u16, u16, u16, u16)
+    ensures { result ≡ sid_key sid.now }
+{
+    (sid.release, sid.level, sid.branch, sid.sequence)
+}
+
+// whether a number is 0 or among the serials
+fn has_serial(serials: &BTreeSet<u16, Global>, n: u16) -> bool
+    ensures { (table : List ℕ) → ((m : ℕ) → contains nat_cmp serials.now m ≡ has table m)
+        → result ≡ has (0 ∷ table) n }
+{
+    n == 0 || serials.contains(&n)
+}
+
+// the delta line of the first entry whose predecessor is neither 0 nor among the serials
+fn lost(serials: &BTreeSet<u16, Global>, table: &[Record], lines: &[u64]) -> Option<u64>
+    requires { HasSerials serials.now table.now }
+    ensures { result ≡ lost table.now table.now lines.now }
+{
+    for (at, record) in table.iter().enumerate() {
+        let Some(line) = lines.get(at) else {
+            return None;
+        };
+        if !has_serial(serials, record.predecessor) {
+            return Some(*line);
+        }
+    }
+    None
+}
+
+impl Table {
+    /// No entries.
+    pub fn new(alloc: Global) -> Table
+        ensures { result ≡ no_entries }
+    {
+        Table {
+            records: Records::empty(alloc),
+            lines: ListOf::empty(alloc),
+            serials: BTreeSet::new(alloc),
+            sids: BTreeSet::new(alloc),
+        }
+    }
+
+    /// The records, newest first.
+    pub fn records(&self) -> &[Record]
+        ensures { result.now ≡ self.now.records }
+    {
+        self.records.items()
+    }
+
+    /// The records alone.
+    pub fn into_records(self) -> Records
+        ensures { result ≡ self.records }
+    {
+        let Table { records, .. } = self;
+        records
+    }
+
+    // whether some live record has the SID
+    fn lives(&self, sid: &Sid) -> bool
+        ensures { result ≡ lives self.now.records sid.now }
+    {
+        self.sids.contains(&sid_key(sid))
+    }
+
+    /// Whether a record may stand behind these: serials fall, a predecessor is smaller, SIDs of live
+    /// records differ.
+    pub fn may_follow(&self, row: &Record) -> bool
+        ensures { result ≡ may_follow row.now self.now.records }
+    {
+        u32::from(row.serial) < least(self.records.items())
+            && row.predecessor < row.serial
+            && (row.removed || !self.lives(&row.sid))
+    }
+
+    /// The delta line of the first entry whose predecessor is neither 0 nor in the table.
+    pub fn lost(&self) -> Option<u64>
+        ensures { result ≡ lost self.now.records self.now.records self.now.lines }
+    {
+        lost(&self.serials, self.records.items(), self.lines.items())
+    }
+}
+
+// with the serial of a record more
+fn with_serial(
+    mut serials: BTreeSet<u16, Global>,
+    row: &Record,
+) -> Result<BTreeSet<u16, Global>, FrontFault>
+    ensures { (table : List Record) → HasSerials serials table
+        → IfOk result (λ more. HasSerials more (table ++ row.now ∷ [])) }
+{
+    match serials.insert(row.serial) {
+        Ok(_) => Ok(serials),
+        Err(_) => Err(FrontFault::Memory),
+    }
+}
+
+// with the SID of a record more, where it is live
+fn with_sid(
+    mut sids: BTreeSet<(u16, u16, u16, u16), Global>,
+    row: &Record,
+) -> Result<BTreeSet<(u16, u16, u16, u16), Global>, FrontFault>
+    ensures { (table : List Record) → HasSids sids table
+        → IfOk result (λ more. HasSids more (table ++ row.now ∷ [])) }
+{
+    if row.removed {
+        return Ok(sids);
+    }
+    match sids.insert(sid_key(&row.sid)) {
+        Ok(_) => Ok(sids),
+        Err(_) => Err(FrontFault::Memory),
+    }
+}
+
+/// A table with an entry more.
+pub fn with_entry(table: Table, entry: Entry) -> Result<Table, FrontFault>
+    ensures { Hears result (Ok (with_entry table entry)) }
+{
+    let Table {
+        mut records,
+        mut lines,
+        serials,
+        sids,
+    } = table;
+    let Entry { line, row } = entry;
+    let Ok(serials) = with_serial(serials, &row) else {
+        return Err(FrontFault::Memory);
+    };
+    let Ok(sids) = with_sid(sids, &row) else {
+        return Err(FrontFault::Memory);
+    };
+    let Ok(()) = records.push(row) else {
+        return Err(FrontFault::Memory);
+    };
+    let Ok(()) = lines.push(line) else {
+        return Err(FrontFault::Memory);
+    };
+    Ok(Table {
+        records,
+        lines,
+        serials,
+        sids,
+    })
+}
