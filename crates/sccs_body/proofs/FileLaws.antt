@@ -53,7 +53,7 @@ answer_fails : (o : Option (List ℕ)) (e : FileFault) → answer checked_front 
 answer_fails None e is = cc
 answer_fails (Some file) e is = within_fails (within_limit file) e is
 
-refusal_stays : (o : Option (List ℕ)) (e : FileFault) → Refuses e (answer checked_front o) → Refuses e (answer file_of o)
+pub refusal_stays : (o : Option (List ℕ)) (e : FileFault) → Refuses e (answer checked_front o) → Refuses e (answer file_of o)
 refusal_stays o Missing is = answer_fails o Missing is
 refusal_stays o TooLong is = answer_fails o TooLong is
 refusal_stays o NotSccs is = answer_fails o NotSccs is
@@ -90,7 +90,7 @@ lines_refused file p front Encoded is of checks = absurd checks
 lines_refused file p front Failed is of checks = tt
 lines_refused file p front Memory is of checks = tt
 
-refused_in : (o : Option (List ℕ)) (front : Front) (e : FileFault) → AnswersFront o checked_front (Ok front) → ChecksItems o front (Err e) → AnswersFile o (Err e)
+pub refused_in : (o : Option (List ℕ)) (front : Front) (e : FileFault) → AnswersFront o checked_front (Ok front) → ChecksItems o front (Err e) → AnswersFile o (Err e)
 refused_in None front e answers checks = absurd answers.2
 refused_in (Some file) front e answers checks = lines_refused file answers.0 front e answers.1 answers.2 (checks answers.2.size)
 
@@ -103,7 +103,7 @@ body_refused (Some view) name front e answers checks = refused_in (file_in view 
 encoded_so : (front : Front) (p : ParsedFront) (encoded : Bool) → front.header ≡ p.header → is_encoded front.header.flags ≡ encoded → is_encoded p.header.flags ≡ encoded
 encoded_so front p encoded same is = ap (λ (h : Header). is_encoded h.flags) (sym same) ∙ is
 
-encoded_in : (o : Option (List ℕ)) (front : Front) → is_encoded front.header.flags ≡ true → AnswersFront o checked_front (Ok front) → ChecksItems o front (Ok tt) → AnswersFile o (Err Encoded)
+pub encoded_in : (o : Option (List ℕ)) (front : Front) → is_encoded front.header.flags ≡ true → AnswersFront o checked_front (Ok front) → ChecksItems o front (Ok tt) → AnswersFile o (Err Encoded)
 encoded_in None front is answers checks = absurd answers.2
 encoded_in (Some file) front is answers checks =
     let items = checks answers.2.size in
@@ -114,7 +114,7 @@ pub file_encoded : (view : Option View) (name : List ℕ) (front : Front) → is
 file_encoded None name front is answers checks = tt
 file_encoded (Some view) name front is answers checks = encoded_in (file_in view name) front is answers checks
 
-plain_in : (o : Option (List ℕ)) (front : Front) → is_encoded front.header.flags ≡ false → AnswersFront o checked_front (Ok front) → ChecksItems o front (Ok tt) → AnswersFile o (Ok front)
+pub plain_in : (o : Option (List ℕ)) (front : Front) → is_encoded front.header.flags ≡ false → AnswersFront o checked_front (Ok front) → ChecksItems o front (Ok tt) → AnswersFile o (Ok front)
 plain_in None front is answers checks = absurd answers.2
 plain_in (Some file) front is answers checks =
     let items = checks answers.2.size in

@@ -1,14 +1,14 @@
 -- An item that may stand, and the state behind it.
-use Rattle.std.proofs.Common.{◌≡◌, ℕ, ◌+◌, Bool, true, false, ◌&&◌, List, [], ◌∷◌, Option, None, Some, Result, Ok, Err, refl, sym, ap, ◌∙◌, subst}
+use Rattle.std.proofs.Common.{◌≡◌, ℕ, ◌+◌, Bool, true, false, ◌&&◌, List, [], ◌∷◌, Option, None, Some, Result, Ok, Err, ◌++◌, refl, sym, ap, ◌∙◌, subst, arith}
 use Rattle.std.specs.Prelude.{if◌then◌else◌}
-use Rattle.sccs_base.specs.Cut.{Cut}
+use Rattle.std.specs.Prelude.{length, take}
+use Rattle.std.proofs.lemmas.List.{length-take-le}
+use Rattle.sccs_base.specs.Cut.{Cut, HasNoLf}
 use Rattle.sccs_disk.specs.Files.{View}
 use Rattle.sccs_sid.specs.Reading.{only}
 use Rattle.sccs_history.specs.Numbers.{is_empty}
 use Rattle.sccs_history.specs.Body.{may_stand, is_over}
-use Rattle.sccs_grammar.specs.Said.{said}
-use Rattle.sccs_grammar.specs.Items.{item_of, item_standing, item_said, item_at, items_from}
-use Rattle.sccs_grammar.specs.declared.sayings.Said.{Said}
+use Rattle.sccs_grammar.specs.Items.{IsWrittenItem, item_standing, item_read, item_at, items_from}
 use Rattle.sccs_grammar.specs.declared.faults.FileFault.{FileFault}
 use Rattle.sccs_grammar.specs.declared.faults.FileFault.TheVariants.{BadFormat}
 use Rattle.sccs_table.specs.Standing.{Standing, TakesLine, bytes_in, left}
@@ -17,6 +17,7 @@ use Rattle.sccs_body.specs.ItemsRead.{end_answer, Gives, GivesItem, IsBehind, Ta
 use Rattle.sccs_history.specs.declared.headers.Item.{Item}
 use Rattle.sccs_history.specs.declared.headers.Item.TheVariants.{Text}
 use Rattle.sccs_marks.specs.States.{Knows}
+use Rattle.sccs_marks.proofs.OpenLaws.{knows_text}
 use Rattle.sccs_marks.specs.declared.body_states.BodyState.{BodyState}
 
 -- an item stands or doesn't, and where it does the state is that behind it
@@ -28,21 +29,17 @@ so_is live before new stands item other is so = subst (λ i. StandsSo live befor
 
 -- a text line opens and ends nothing
 pub behind_text : (live : List ℕ) (before : List Item) (text : List ℕ) (s : BodyState) → Knows live before s → Knows live (Text text ∷ before) s
-behind_text live before text s knows = record { marks = knows.marks; once = knows.once; lives_are = knows.lives_are }
+behind_text live before text s knows = knows_text live before text s knows
 
 -- ---- what a line is
 
-pub line_silent : (live : List ℕ) (before : List Item) (line : List ℕ) → said line ≡ None → item_at live before line ≡ None
+pub line_silent : (live : List ℕ) (before : List Item) (line : List ℕ) → item_read line ≡ None → item_at live before line ≡ None
 unfolding item_at
-line_silent live before line is = ap (item_said live before) is
+line_silent live before line is = ap (item_standing live before) is
 
-pub line_no_item : (live : List ℕ) (before : List Item) (line : List ℕ) (s : Said) → said line ≡ Some s → item_of s ≡ None → item_at live before line ≡ None
+pub line_item : (live : List ℕ) (before : List Item) (line : List ℕ) (item : Item) (stands : Bool) → item_read line ≡ Some item → may_stand live before item ≡ stands → item_at live before line ≡ only stands item
 unfolding item_at
-line_no_item live before line s is none = ap (item_said live before) is ∙ ap (item_standing live before) none
-
-pub line_item : (live : List ℕ) (before : List Item) (line : List ℕ) (s : Said) (item : Item) (stands : Bool) → said line ≡ Some s → item_of s ≡ Some item → may_stand live before item ≡ stands → item_at live before line ≡ only stands item
-unfolding item_at
-line_item live before line s item stands is what may = ap (item_said live before) is ∙ (ap (item_standing live before) what ∙ ap (λ b. only b item) may)
+line_item live before line item stands is may = ap (item_standing live before) is ∙ ap (λ b. only b item) may
 
 -- ---- what the next line gives
 
@@ -73,6 +70,49 @@ fault_gives None live before line old new takes none = tt
 fault_gives (Some file) live before line old new takes none = λ stands.
     let taken = takes stands in
     (refl, ap (λ (c : Cut). items_from live old.number before c.lines c.tail) taken.1 ∙ items_fault live old.number before line (left new.lines file).lines (left new.lines file).tail none)
+
+-- ---- a line that is held whole, as it is written
+
+-- such lines are taken from what is held
+abbrev pub TakesHeld : Standing → Standing → ℕ → Type 0
+TakesHeld old new count = (o : Option (List ℕ)) (line : List ℕ) → HasNoLf line → length line ≡ count → take (count + 1) old.held ≡ line ++ 10 ∷ [] → TakesLine o old new line true
+
+held_taken : (o : Option (List ℕ)) (old new : Standing) (item : Item) (count : ℕ) → IsWrittenItem old.held item count → TakesHeld old new count → TakesLine o old new (take count old.held) true
+held_taken o old new item count is takes = takes o (take count old.held) is.line (length-take-le count old.held (omega (arith, is.short))) is.ended
+
+pub held_gives : (o : Option (List ℕ)) (live : List ℕ) (before : List Item) (here now new : ItemPlace) (item : Item) (count : ℕ) → here ≡ now → IsWrittenItem now.lines.held item count → TakesHeld here.lines new.lines count
+    → may_stand live before item ≡ true → new.number ≡ here.number + 1 → Gives o live before now new (Ok (Some item))
+held_gives o live before here now new item count same is takes may number =
+    let written = subst (λ (p : ItemPlace). IsWrittenItem p.lines.held item count) (sym same) is in
+    let line = take count here.lines.held in
+    subst (λ p. Gives o live before p new (Ok (Some item))) same
+    (item_gives o live before line here new item (held_taken o here.lines new.lines item count written takes) (line_item live before line item true written.said may) number)
+
+pub held_counted : (old new : Standing) (item : Item) (count : ℕ) → IsWrittenItem old.held item count → ((line : List ℕ) → HasNoLf line → take (count + 1) old.held ≡ line ++ 10 ∷ [] → new.lines ≡ old.lines + 1) → new.lines ≡ old.lines + 1
+held_counted old new item count is counted = counted (take count old.held) is.line is.ended
+
+-- a fault says nothing of where the reader stands then
+fault_anywhere : (o : Option (List ℕ)) (live : List ℕ) (before : List Item) (old new other : ItemPlace) (k : ℕ) → Gives o live before old new (Err (BadFormat k)) → Gives o live before old other (Err (BadFormat k))
+fault_anywhere None live before old new other k gives = tt
+fault_anywhere (Some file) live before old new other k gives = gives
+
+pub held_fault : (o : Option (List ℕ)) (live : List ℕ) (before : List Item) (here now new other : ItemPlace) (item : Item) (count : ℕ) → here ≡ now → IsWrittenItem now.lines.held item count → TakesHeld here.lines new.lines count
+    → may_stand live before item ≡ false → Gives o live before now other (Err (BadFormat here.number))
+held_fault o live before here now new other item count same is takes may =
+    let written = subst (λ (p : ItemPlace). IsWrittenItem p.lines.held item count) (sym same) is in
+    let line = take count here.lines.held in
+    subst (λ p. Gives o live before p other (Err (BadFormat here.number))) same
+    (fault_anywhere o live before here new other here.number (fault_gives o live before line here new (held_taken o here.lines new.lines item count written takes) (line_item live before line item false written.said may)))
+
+-- ---- the number of a line
+
+-- lines at the arm of a test
+pub lines_at : (n m : ℕ) (a b : Bool) → a ≡ b → n ≡ m + (if a then 1 else 0) → n ≡ m + (if b then 1 else 0)
+lines_at n m a b is lines = subst (λ e. n ≡ m + (if e then 1 else 0)) is lines
+
+-- a fault at a line, whose number is computed in another way
+pub fault_named : (o : Option (List ℕ)) (live : List ℕ) (before : List Item) (old new other : ItemPlace) (k j : ℕ) → k ≡ j → Gives o live before old new (Err (BadFormat k)) → Gives o live before old other (Err (BadFormat j))
+fault_named o live before old new other k j is gives = subst (λ n. Gives o live before old other (Err (BadFormat n))) is (fault_anywhere o live before old new other k gives)
 
 -- ---- as the reader is seen
 

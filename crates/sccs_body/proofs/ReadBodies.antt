@@ -1,5 +1,5 @@
 -- The items that lines are keep the rules of a body.
-use Rattle.std.proofs.Common.{◌≡◌, ℕ, suc, Bool, true, false, ◌&&◌, List, [], ◌∷◌, Option, None, Some, Result, Ok, Err, refl, sym, ap, subst, ◌∙◌}
+use Rattle.std.proofs.Common.{◌≡◌, ℕ, suc, Bool, true, false, ◌&&◌, List, [], ◌∷◌, Option, None, Some, Result, Ok, Err, refl, sym, subst}
 use Rattle.std.specs.Prelude.{if◌then◌else◌}
 use Rattle.sccs_sid.specs.Reading.{◌>>=◌}
 use Rattle.sccs_history.specs.Numbers.{is_empty}

@@ -7,8 +7,8 @@ use Rattle.sccs_history.specs.Body.{may_stand}
 use Rattle.sccs_history.specs.History.{AreBare}
 use Rattle.sccs_history.specs.declared.headers.Item.{Item}
 use Rattle.sccs_history.specs.declared.headers.Item.TheVariants.{Text}
-use Rattle.sccs_grammar.specs.Items.{item_at, items_from}
-use Rattle.sccs_grammar.specs.declared.sayings.Said.TheVariants.{Plain}
+use Rattle.std.specs.Prelude.{option_and_then}
+use Rattle.sccs_grammar.specs.Items.{item_at, item_of, items_from}
 use Rattle.sccs_grammar.proofs.SayLaws.{said_plain}
 use Rattle.sccs_marks.specs.States.{Knows}
 use Rattle.sccs_marks.specs.declared.body_states.BodyState.{BodyState}
@@ -31,7 +31,7 @@ behind_texts live (line ∷ lines) before s knows = behind_texts live lines (Tex
 
 -- a bare line is a text item where one may stand
 text_at : (live : List ℕ) (before : List Item) (line : List ℕ) → begins 1 line ≡ false → may_stand live before (Text line) ≡ true → item_at live before line ≡ Some (Text line)
-text_at live before line bare stands = line_item live before line (Plain line) (Text line) true (said_plain line bare) refl stands
+text_at live before line bare stands = line_item live before line (Text line) true (ap (option_and_then item_of) (said_plain line bare)) stands
 
 onto_first : (item : Item) (given : List Item) (read : Result (List Item) ℕ) → (onto given read >>= λ items. Ok (item ∷ items)) ≡ onto (item ∷ given) read
 onto_first item given (Ok items) = refl

@@ -4,8 +4,8 @@ use Rattle.sccs_body.specs.Reader.{ItemPlace}
 use Rattle.sccs_body.specs.declared.item_readers.ItemReader.TheInside.{Inside}
 
 abbrev pub item_place : Inside → ItemPlace
-item_place r = record { lines = r.lines; state = r.state; number = r.number }
+item_place r = record { lines = r.lines; state = r.state; number = r.first + r.lines.lines }
 
 -- Each line before the next one had a byte at least.
 pub record IsCounted (r : Inside) : Type 0 where
-  pub counted : r.number ≤ r.lines.place + 2
+  pub counted : r.first + r.lines.lines ≤ r.lines.place + 2

@@ -57,4 +57,4 @@ end_answer over number = if over then Ok None else Err (BadFormat number)
 
 -- a front's reader stands where the body begins
 abbrev pub fresh : List ℕ → ℕ → ℕ → Standing
-fresh name place size = record { name = name; held = []; place = place; size = size }
+fresh name place size = record { name = name; held = []; place = place; size = size; lines = 0 }

@@ -1,4 +1,7 @@
+pub mod Behind
 pub mod BodyFile
 pub mod HeldItems
 pub mod ItemsRead
+pub mod PassedOn
 pub mod Reader
+pub mod SumTo

@@ -1,8 +1,8 @@
-ghost use Rattle.std.specs.Prelude.{◌≡◌, ◌&&◌, ℕ, ◌+◌, ◌<◌, ◌≤◌, List, [], ◌∷◌, length, take, drop, true, IfOk, IfSome, Err};
+ghost use Rattle.std.specs.Prelude.{◌≡◌, ◌≢◌, ◌&&◌, ℕ, ◌+◌, ◌<◌, ◌≤◌, List, [], ◌∷◌, length, take, drop, true, Option, IfOk, IfSome, Err};
 ghost use Rattle.sccs_base.specs.Cut.{HasNoLf, cut};
 ghost use Rattle.sccs_base.specs.Stream.{Rose};
 ghost use Rattle.sccs_disk.specs.Told.{seen};
-ghost use Rattle.sccs_grammar.specs.Items.{item_of};
+ghost use Rattle.sccs_grammar.specs.Items.{IsWrittenItem};
 ghost use Rattle.sccs_history.specs.Applied.{live_serials};
 ghost use Rattle.sccs_history.specs.Numbers.{is_empty};
 ghost use Rattle.sccs_history.specs.Body.{is_over, may_stand};
@@ -15,7 +15,7 @@ ghost use Rattle.sccs_body.specs.ItemsRead.{Gives, Goes, IsBehind, TakesItem, fr
 
 use sccs_base::{Memory, Name};
 use sccs_disk::Disk;
-use sccs_grammar::{FileFault, Said, read_line};
+use sccs_grammar::{FileFault, read_item, written_item};
 use sccs_history::{Item, Record};
 use sccs_marks::BodyState;
 use sccs_table::{Front, LineFault, LineReader};
@@ -30,7 +30,8 @@ pub struct ItemReader {
     lines: LineReader,
     line: Vec<u8>,
     state: BodyState,
-    number: u64,
+    // the number of the body's first line
+    first: u64,
 }
 
 impl Model for ItemReader {
@@ -42,19 +43,6 @@ impl Model for ItemReader {
     ghost view = { item_place };
 
     ghost invariant = { IsCounted };
-}
-
-// the item that a line is
-fn item_of(said: Said) -> Option<Item>
-    ensures { result ≡ item_of said }
-{
-    match said {
-        Said::Plain(line) => Some(Item::Text(line)),
-        Said::Insert(serial) => Some(Item::Insert(serial)),
-        Said::Delete(serial) => Some(Item::Delete(serial)),
-        Said::End(serial) => Some(Item::End(serial)),
-        _ => None,
-    }
 }
 
 // whether an item may stand here; where it may, the state goes on behind it
@@ -93,10 +81,7 @@ fn next_item(alloc: Global, state: &mut BodyState, line: &[u8]) -> Result<Option
     requires { HasNoLf line.now }
     ensures { (live : List ℕ) (before : List Item) → Knows live before state.old → TakesItem live before state.new line.now result }
 {
-    let Some(said) = read_line(alloc, line)? else {
-        return Ok(None);
-    };
-    let Some(item) = item_of(said) else {
+    let Some(item) = read_item(alloc, line)? else {
         return Ok(None);
     };
     if goes_on(state, &item)? {
@@ -136,11 +121,19 @@ impl ItemReader {
             lines: LineReader::new(name, front.body_from, front.size),
             line: Vec::new(alloc),
             state,
-            number: front.body_line,
+            first: front.body_line,
         })
     }
 
+    // the number of the next line
+    fn line_number(&self) -> u64
+        ensures { result ≡ self.now.number }
+    {
+        self.first + self.lines.lines()
+    }
+
     /// The text lines that are held whole, each with its LF; none where no text line may stand.
+    #[inline(always)]
     pub fn texts(&self) -> &[u8]
         ensures fits { length result.now ≤ length self.now.lines.held }
         ensures front { take (length result.now) self.now.lines.held ≡ result.now }
@@ -171,12 +164,12 @@ impl ItemReader {
             → IsBehind live (texts_behind (cut (take count self.old.lines.held)).lines before) self.new }
         ensures told { (file : List ℕ) → PassesRun (take count self.old.lines.held) file self.old.lines self.new.lines }
     {
-        self.number += self.lines.pass(count);
+        self.lines.pass(count);
     }
 
-    /// The next item; None at the end of the body. BadFormat has the number of the line at which no
-    /// item may stand.
-    pub fn next<D: Disk>(&mut self, disk: &mut D) -> Result<Option<Item>, FileFault>
+    // the next item, however its line is spelled and held
+    #[inline(never)]
+    fn read_next<D: Disk>(&mut self, disk: &mut D) -> Result<Option<Item>, FileFault>
         ensures same { D.told disk.new ≡ D.told disk.old }
         ensures later { D.faults disk.old ≤ D.faults disk.new }
         ensures cause { result ≡ Err FileFault.Failed → Rose (D.faults disk.old) (D.faults disk.new) }
@@ -198,15 +191,54 @@ impl ItemReader {
             if ends_with(&self.state, self.line.as_slice()) {
                 return Ok(None);
             }
-            return Err(FileFault::BadFormat(self.number));
+            return Err(FileFault::BadFormat(self.line_number()));
         }
         match next_item(self.alloc, &mut self.state, self.line.as_slice()) {
-            Ok(Some(item)) => {
-                self.number += 1;
-                Ok(Some(item))
-            }
-            Ok(None) => Err(FileFault::BadFormat(self.number)),
+            Ok(Some(item)) => Ok(Some(item)),
+            Ok(None) => Err(FileFault::BadFormat(self.line_number() - 1)),
             Err(_) => Err(FileFault::Memory),
+        }
+    }
+
+    // passes over a line of that length, which is held whole and is that item
+    #[inline(always)]
+    fn pass_item(&mut self, item: Item, count: usize) -> Result<Option<Item>, FileFault>
+        requires { IsWrittenItem self.old.lines.held item count }
+        ensures failed { result ≢ Err FileFault.Failed }
+        ensures name { self.new.lines.name ≡ self.old.lines.name }
+        ensures size { self.new.lines.size ≡ self.old.lines.size }
+        ensures ahead { self.new.lines.place + length self.new.lines.held ≤ self.new.lines.size }
+        ensures further { self.old.lines.place < self.new.lines.place }
+        ensures goes { (live : List ℕ) (before : List Item) → IsBehind live before self.old → Goes live before self.new result }
+        ensures told { (o : Option (List ℕ)) (live : List ℕ) (before : List Item) → IsBehind live before self.old
+            → Gives o live before self.old self.new result }
+    {
+        let stands = goes_on(&mut self.state, &item);
+        self.lines.pass_line(count);
+        match stands {
+            Ok(true) => Ok(Some(item)),
+            Ok(false) => Err(FileFault::BadFormat(self.line_number() - 1)),
+            Err(_) => Err(FileFault::Memory),
+        }
+    }
+
+    /// The next item; None at the end of the body. BadFormat has the number of the line at which no
+    /// item may stand.
+    pub fn next<D: Disk>(&mut self, disk: &mut D) -> Result<Option<Item>, FileFault>
+        ensures same { D.told disk.new ≡ D.told disk.old }
+        ensures later { D.faults disk.old ≤ D.faults disk.new }
+        ensures cause { result ≡ Err FileFault.Failed → Rose (D.faults disk.old) (D.faults disk.new) }
+        ensures name { self.new.lines.name ≡ self.old.lines.name }
+        ensures size { self.new.lines.size ≡ self.old.lines.size }
+        ensures ahead { self.new.lines.place + length self.new.lines.held ≤ self.new.lines.size }
+        ensures further { IfOk result (λ o. IfSome o (λ _. self.old.lines.place < self.new.lines.place)) }
+        ensures goes { (live : List ℕ) (before : List Item) → IsBehind live before self.old → Goes live before self.new result }
+        ensures told { (live : List ℕ) (before : List Item) → IsBehind live before self.old
+            → Gives (bytes_in (seen (D.told disk.old)) self.old.lines.name) live before self.old self.new result }
+    {
+        match written_item(self.lines.held()) {
+            Some((item, count)) => self.pass_item(item, count),
+            None => self.read_next(disk),
         }
     }
 }

@@ -3,6 +3,7 @@
 
 mod bodies;
 mod item_readers;
+mod summed;
 #[cfg(test)]
 mod tests;
 

@@ -8,6 +8,18 @@ use std::test::Fail;
 const FILE: &[u8] =
     b"\x01h06178\n\x01s 00002/00000/00000\n\x01d D 1.1 21/03/04 05:06:07 ann 1 0\n\x01c one\n\x01e\n\x01u\nann\n\x01U\n\x01f q a b\n\x01t\nabout\n\x01T\n\x01I 1\none\ntwo\n\x01E 1\n";
 
+// the same with more blanks and zeros in the control lines
+const PADDED: &[u8] =
+    b"\x01h06370\n\x01s 00002/00000/00000\n\x01d D 1.1 21/03/04 05:06:07 ann 1 0\n\x01c one\n\x01e\n\x01u\nann\n\x01U\n\x01f q a b\n\x01t\nabout\n\x01T\n\x01I  001\none\ntwo\n\x01E   1\n";
+
+// a byte past 127, and the signed sum; the plain one is 6310
+const SIGNED: &[u8] =
+    b"\x01h06054\n\x01s 00002/00000/00000\n\x01d D 1.1 21/03/04 05:06:07 ann 1 0\n\x01c one\n\x01e\n\x01u\nann\n\x01U\n\x01f q a b\n\x01t\nabout\n\x01T\n\x01I 1\non\xe9\ntwo\n\x01E 1\n";
+
+// the same with a stored sum that is one more
+const SIGNED_AND_ONE: &[u8] =
+    b"\x01h06055\n\x01s 00002/00000/00000\n\x01d D 1.1 21/03/04 05:06:07 ann 1 0\n\x01c one\n\x01e\n\x01u\nann\n\x01U\n\x01f q a b\n\x01t\nabout\n\x01T\n\x01I 1\non\xe9\ntwo\n\x01E 1\n";
+
 const UNKNOWN_SERIAL: &[u8] =
     b"\x01h05824\n\x01s 00002/00000/00000\n\x01d D 1.1 21/03/04 05:06:07 ann 1 0\n\x01c one\n\x01e\n\x01u\nann\n\x01U\n\x01f q a b\n\x01t\nabout\n\x01T\n\x01I 2\none\n\x01E 2\n";
 
@@ -75,13 +87,14 @@ fn text_lines_are_passed_over(rt: HostRuntime) -> Result<(), Fail> {
 #[test]
 fn faults_of_files(rt: HostRuntime) -> Result<(), Fail> {
     let name = Name::read(b"s.a").ok_or("a name")?;
-    let rows: [(&[u8], FileFault); 6] = [
+    let rows: [(&[u8], FileFault); 7] = [
         (UNKNOWN_SERIAL, FileFault::BadFormat(13)),
         (TEXT_OUTSIDE, FileFault::BadFormat(16)),
         (OPEN, FileFault::BadFormat(15)),
         (BYTES_BEHIND, FileFault::BadFormat(16)),
         (ENCODED, FileFault::Encoded),
         (BOTH, FileFault::BadFormat(13)),
+        (SIGNED_AND_ONE, FileFault::BadSum(6055, 6310)),
     ];
     for (bytes, wanted) in rows {
         let mut disk = disk_with(rt.alloc(), &name, bytes)?;
@@ -117,10 +130,101 @@ fn count_lines<D: Disk>(alloc: Global, disk: &mut D, name: &Name) -> Result<u64,
 #[test]
 fn lines_are_counted(rt: HostRuntime) -> Result<(), Fail> {
     let name = Name::read(b"s.a").ok_or("a name")?;
-    let mut disk = disk_with(rt.alloc(), &name, FILE)?;
-    match count_lines(rt.alloc(), &mut disk, &name) {
-        Ok(count) => assert_eq!(rt; count, 2),
-        Err(_) => return Err("a file".into()),
+    for bytes in [FILE, PADDED, SIGNED] {
+        let mut disk = disk_with(rt.alloc(), &name, bytes)?;
+        match count_lines(rt.alloc(), &mut disk, &name) {
+            Ok(count) => assert_eq!(rt; count, 2),
+            Err(_) => return Err("a file".into()),
+        }
+    }
+    Ok(())
+}
+
+// an s-file of about 45,000 bytes: the header of FILE, 3,000 text lines, and these bytes at the end;
+// its sum line is right where `off` is 0
+fn long_file(alloc: Global, end: &[u8], off: u16) -> Result<Vec<u8>, Fail> {
+    let mut rest = Vec::new(alloc);
+    rest.extend_from_slice(&FILE[8..110])?;
+    for _ in 0..3000 {
+        rest.extend_from_slice(b"a line of text\n")?;
+    }
+    rest.extend_from_slice(end)?;
+    let mut sum: u16 = off;
+    for byte in &rest {
+        sum = sum.wrapping_add(u16::from(*byte));
+    }
+    let mut file = Vec::new(alloc);
+    let line = format!(in alloc; "\x01h{sum:05}\n")?;
+    file.extend_from_slice(line.as_bytes())?;
+    file.extend_from_slice(rest.as_slice())?;
+    Ok(file)
+}
+
+// 15 calls: the length, the sum line, the header, 11 pieces of the body, and the end
+#[test]
+fn a_file_is_read_once(rt: HostRuntime) -> Result<(), Fail> {
+    let name = Name::read(b"s.a").ok_or("a name")?;
+    let file = long_file(rt.alloc(), b"\x01E 1\n", 0)?;
+    let mut disk = MemoryDisk::new(rt.alloc(), 15, &[])?;
+    disk.put(&name, &file, true)?;
+    match inspect(rt.alloc(), &mut disk, &name) {
+        Ok(front) => assert_eq!(rt; front.size, file.len() as u64),
+        Err(fault) => assert_eq!(rt; fault, FileFault::Missing),
+    }
+    Ok(())
+}
+
+// a wrong sum comes before a wrong line, wherever the line stands
+#[test]
+fn faults_of_long_files(rt: HostRuntime) -> Result<(), Fail> {
+    let name = Name::read(b"s.a").ok_or("a name")?;
+    let rows: [(&[u8], u16, Option<u64>); 4] = [
+        (b"\x01E 1\n", 1, None),
+        (b"\x01E 2\n", 1, None),
+        (b"\x01E 2\n", 0, Some(3014)),
+        (b"\x01E 1\n\x01E 1\n\x01E 1\n", 0, Some(3015)),
+    ];
+    for (end, off, line) in rows {
+        let file = long_file(rt.alloc(), end, off)?;
+        let mut disk = disk_with(rt.alloc(), &name, &file)?;
+        match (inspect(rt.alloc(), &mut disk, &name), line) {
+            (Err(FileFault::BadFormat(found)), Some(wanted)) => assert_eq!(rt; found, wanted),
+            (Err(FileFault::BadSum(_, _)), None) => {}
+            _ => return Err("another answer".into()),
+        }
+    }
+    Ok(())
+}
+
+#[test]
+fn each_call_may_fail(rt: HostRuntime) -> Result<(), Fail> {
+    let name = Name::read(b"s.a").ok_or("a name")?;
+    let file = long_file(rt.alloc(), b"\x01E 1\n", 0)?;
+    let rows: [(&[u8], u64); 2] = [(&file, 15), (SIGNED, 7)];
+    for (bytes, calls) in rows {
+        for call in 1..=calls {
+            let mut disk = MemoryDisk::new(rt.alloc(), 1000, &[call])?;
+            disk.put(&name, bytes, true)?;
+            match inspect(rt.alloc(), &mut disk, &name) {
+                Ok(_) => return Err("a failing disk".into()),
+                Err(fault) => assert_eq!(rt; fault, FileFault::Failed),
+            }
+        }
+    }
+    Ok(())
+}
+
+// the last two of the seven calls are those of the second reading
+#[test]
+fn the_second_reading_may_fail(rt: HostRuntime) -> Result<(), Fail> {
+    let name = Name::read(b"s.a").ok_or("a name")?;
+    for call in 1..8 {
+        let mut disk = MemoryDisk::new(rt.alloc(), 1000, &[call])?;
+        disk.put(&name, SIGNED, true)?;
+        match inspect(rt.alloc(), &mut disk, &name) {
+            Ok(_) => return Err("a failing disk".into()),
+            Err(fault) => assert_eq!(rt; fault, FileFault::Failed),
+        }
     }
     Ok(())
 }

@@ -112,7 +112,7 @@ lines_given_front file live set old new w text run out out2 p front is stand num
 
 -- where a reader would stand that passed over so many bytes
 abbrev past : Standing → ℕ → Standing
-past old count = record { name = old.name; held = drop count old.held; place = old.place + count; size = old.size }
+past old count = record { name = old.name; held = drop count old.held; place = old.place + count; size = old.size; lines = old.lines }
 
 pub lines_cut : (file live set : List ℕ) (old : ItemPlace) (w : List Region) (text run : List ℕ) (fault : StepFault) (out out2 : Option (List ℕ)) → (p : Printing file live set old w text) → length run ≤ length old.lines.held → take (length run) old.lines.held ≡ run → IsRun run → MayStand old run
     → Cuts (shown_text (shows set (line_at p.before [])) run) fault out out2 → Cuts text fault out out2

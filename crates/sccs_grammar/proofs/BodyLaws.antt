@@ -5,10 +5,8 @@ use Rattle.sccs_sid.specs.Reading.{only}
 use Rattle.sccs_history.specs.Body.{may_stand, GoesOn}
 use Rattle.sccs_history.specs.declared.headers.Item.{Item}
 use Rattle.sccs_history.specs.declared.headers.Item.TheVariants.{Text, Insert, Delete, End}
-use Rattle.sccs_grammar.specs.Said.{said}
-use Rattle.sccs_grammar.specs.Items.{item_at, item_of, item_said, item_standing, items_from}
+use Rattle.sccs_grammar.specs.Items.{item_at, item_read, item_standing, items_from}
 use Rattle.sccs_grammar.specs.Written.{IsItem, item_line}
-use Rattle.sccs_grammar.specs.declared.sayings.Said.{Said}
 use Rattle.sccs_grammar.proofs.SayLaws.{said_plain, said_insert, said_delete, said_end}
 
 pub item_again : (live : List ℕ) (before : List Item) (item : Item) → IsItem item → may_stand live before item ≡ true → item_at live before (item_line item) ≡ Some item
@@ -35,10 +33,6 @@ standing live before None item is = absurd cc
 standing live before (Some made) item is =
     let both = stood (may_stand live before made) made item is in ap (may_stand live before) (sym both.1) ∙ both.0
 
-saying : (live : List ℕ) (before : List Item) (s : Option Said) (item : Item) → item_said live before s ≡ Some item → may_stand live before item ≡ true
-saying live before None item is = absurd cc
-saying live before (Some s) item is = standing live before (item_of s) item is
-
 pub line_may : (live : List ℕ) (before : List Item) (line : List ℕ) (item : Item) → item_at live before line ≡ Some item → may_stand live before item ≡ true
 unfolding item_at
-line_may live before line item is = saying live before (said line) item is
+line_may live before line item is = standing live before (item_read line) item is

@@ -2,16 +2,19 @@ mod Rows
 mod Samples
 pub mod BodyLaws
 pub mod CanonicalLaws
+pub mod ControlLaws
 pub mod CutLaws
 pub mod DeltaLaws
 pub mod DeltaWords
 pub mod EntryLaws
 pub mod FaultLaws
 pub mod HeaderLaws
+pub mod ItemLines
 pub mod LineLaws
 pub mod LinesKeep
 pub mod NoLf
 pub mod NumberLaws
+pub mod PlaceLaws
 pub mod ReadingRules
 pub mod ReleaseLaws
 pub mod SaidRules

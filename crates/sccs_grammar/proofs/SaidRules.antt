@@ -54,6 +54,11 @@ pub either : {A : Type 0} (P : A → Type 0) (t : Bool) (a b : Option A) → IfS
 either P true a b first second = first
 either P false a b first second = second
 
+-- the same where the first is chosen only if the test holds
+either_so : {A : Type 0} (P : A → Type 0) (t : Bool) (a b : Option A) → (t ≡ true → IfSome a P) → IfSome b P → IfSome (if t then a else b) P
+either_so P true a b first second = first refl
+either_so P false a b first second = second
+
 pub found_so : {A E : Type 0} (P : A → Type 0) (r : Result A E) → IfOk r P → IfSome (found r) P
 found_so P (Ok x) h = h
 found_so P (Err e) h = tt
@@ -199,8 +204,8 @@ flag_well (letter ∷ bytes) =
 
 -- ---- a line
 
--- what each kind of line says keeps P
-pub record EachKeeps (P : Said → Type 0) (bytes : List ℕ) : Type 0 where
+-- what each kind of line that has a letter behind SOH says keeps P
+pub record EachKeeps (P : Said → Type 0) (letter : ℕ) (bytes : List ℕ) : Type 0 where
   pub on_counts : IfSome (counts (words bytes)) P
   pub on_delta : IfSome (delta (words bytes)) P
   pub on_list : (which : Which) → IfSome (option_map (Listed which) (listed bytes)) P
@@ -212,13 +217,15 @@ pub record EachKeeps (P : Said → Type 0) (bytes : List ℕ) : Type 0 where
   pub on_end_users : P EndUsers
   pub on_description : P Description
   pub on_end_description : P EndDescription
-  pub on_place : (n : ℕ) → P (Insert n) × P (Delete n) × P (End n)
+  pub on_insert : letter == 73 ≡ true → (n : ℕ) → P (Insert n)
+  pub on_delete : letter == 68 ≡ true → (n : ℕ) → P (Delete n)
+  pub on_end : letter == 69 ≡ true → (n : ℕ) → P (End n)
 
 mapped : (P : Said → Type 0) (f : ℕ → Said) (o : Option ℕ) → ((n : ℕ) → P (f n)) → IfSome (option_map f o) P
 mapped P f None h = tt
 mapped P f (Some n) h = h n
 
-pub control_keeps : (P : Said → Type 0) (letter : ℕ) (bytes : List ℕ) → EachKeeps P bytes → IfSome (control letter bytes) P
+pub control_keeps : (P : Said → Type 0) (letter : ℕ) (bytes : List ℕ) → EachKeeps P letter bytes → IfSome (control letter bytes) P
 unfolding control
 control_keeps P letter bytes each =
     let alone : (s : Said) → P s → IfSome (only (is_empty bytes) s) P = λ s here. only_so P (is_empty bytes) s (λ is. here) in
@@ -235,16 +242,16 @@ control_keeps P letter bytes each =
     (either P (letter == 102) _ _ (either P (begins_blank bytes) _ None each.on_flag tt)
     (either P (letter == 116) _ _ (alone Description each.on_description)
     (either P (letter == 84) _ _ (alone EndDescription each.on_end_description)
-    (either P (letter == 73) _ _ (mapped P Insert (place bytes) (λ n. (each.on_place n).0))
-    (either P (letter == 68) _ _ (mapped P Delete (place bytes) (λ n. (each.on_place n).1))
-    (either P (letter == 69) _ None (mapped P End (place bytes) (λ n. (each.on_place n).2)) tt)))))))))))))))
+    (either_so P (letter == 73) _ _ (λ is. mapped P Insert (place bytes) (each.on_insert is))
+    (either_so P (letter == 68) _ _ (λ is. mapped P Delete (place bytes) (each.on_delete is))
+    (either_so P (letter == 69) _ None (λ is. mapped P End (place bytes) (each.on_end is)) tt)))))))))))))))
 
 text_well : (f : List ℕ → Said) (o : Option (List ℕ)) → ((t : List ℕ) → SaysWell (f t)) → Well (option_map f o)
 text_well f None h = tt
 text_well f (Some t) h = h t
 
-each_well : (bytes : List ℕ) → EachKeeps SaysWell bytes
-each_well bytes = record {
+each_well : (letter : ℕ) (bytes : List ℕ) → EachKeeps SaysWell letter bytes
+each_well letter bytes = record {
   on_counts = counts_well (words bytes);
   on_delta = delta_well (words bytes);
   on_list = λ which. list_of which (listed bytes) (listed_some bytes);
@@ -256,12 +263,14 @@ each_well bytes = record {
   on_end_users = tt;
   on_description = tt;
   on_end_description = tt;
-  on_place = λ n. (tt, tt, tt);
+  on_insert = λ is n. tt;
+  on_delete = λ is n. tt;
+  on_end = λ is n. tt;
 }
 
 behind_well : (bytes : List ℕ) → Well (behind_soh bytes)
 behind_well [] = tt
-behind_well (letter ∷ bytes) = control_keeps SaysWell letter bytes (each_well bytes)
+behind_well (letter ∷ bytes) = control_keeps SaysWell letter bytes (each_well letter bytes)
 
 line_well : (b : ℕ) (bytes : List ℕ) → (b == 1 ≡ true) ⊎ (b == 1 ≡ false) → Well (said (b ∷ bytes))
 unfolding said

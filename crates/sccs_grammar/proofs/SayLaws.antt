@@ -38,7 +38,7 @@ leads_mapped : (ds : List ℕ) → 0 < get_or ds 0 0 → LeadsOther (map (λ d. 
 leads_mapped [] some = absurd (omega arith)
 leads_mapped (d ∷ ds) some = λ is. omega arith
 
-decimal_leads : (n : ℕ) → IsSerial n → LeadsOther (decimal n)
+pub decimal_leads : (n : ℕ) → IsSerial n → LeadsOther (decimal n)
 decimal_leads n is =
     rw (decimal-digits_of n is.0 (omega arith)) (leads_mapped (digits_of 10 n) (first_digits_of 10 n (omega arith) is.0))
 

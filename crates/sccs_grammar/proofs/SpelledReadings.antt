@@ -90,8 +90,8 @@ flag_spells [] none = tt
 flag_spells (letter ∷ bytes) none =
     only_so Spells (is_empty bytes || begins_blank bytes) (FlagIs (record { letter = letter; text = drop_blanks (skip_blanks bytes) })) λ is. bare (drop_blanks (skip_blanks bytes)) (no_lf_drop (skip_blanks bytes) (no_lf_skip bytes none.1))
 
-each_spells : (bytes : List ℕ) → NoLf bytes → EachKeeps Spells bytes
-each_spells bytes none = record {
+each_spells : (letter : ℕ) (bytes : List ℕ) → NoLf bytes → EachKeeps Spells letter bytes
+each_spells letter bytes none = record {
   on_counts = counts_spell (words bytes);
   on_delta = delta_spells (words bytes);
   on_list = λ which. list_spells which (listed bytes);
@@ -103,12 +103,14 @@ each_spells bytes none = record {
   on_end_users = tt;
   on_description = tt;
   on_end_description = tt;
-  on_place = λ n. (tt, tt, tt);
+  on_insert = λ is n. tt;
+  on_delete = λ is n. tt;
+  on_end = λ is n. tt;
 }
 
 behind_spells : (bytes : List ℕ) → NoLf bytes → IfSome (behind_soh bytes) Spells
 behind_spells [] none = tt
-behind_spells (letter ∷ bytes) none = control_keeps Spells letter bytes (each_spells bytes none.1)
+behind_spells (letter ∷ bytes) none = control_keeps Spells letter bytes (each_spells letter bytes none.1)
 
 line_spells : (b : ℕ) (bytes : List ℕ) → (b == 1 ≡ true) ⊎ (b == 1 ≡ false) → NoLf (b ∷ bytes) → IfSome (said (b ∷ bytes)) Spells
 unfolding said

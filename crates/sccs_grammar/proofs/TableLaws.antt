@@ -1,9 +1,10 @@
 -- Searches of lists, as code makes them.
-use Rattle.std.proofs.Common.{◌≡◌, ◌≢◌, ℕ, zero, suc, ◌-◌, ◌<◌, ◌≤◌, ◌==◌, true, false, ◌||◌, List, [], ◌∷◌, length, drop, get_or, Some, None, refl, sym, ap, arith, sub-one}
+use Rattle.std.proofs.Common.{◌≡◌, ◌≢◌, ℕ, zero, suc, ◌-◌, ◌<◌, ◌≤◌, ◌==◌, true, false, ◌||◌, List, [], ◌∷◌, length, drop, get_or, Some, None, refl, sym, ap, ◌∙◌, arith, sub-one, eq-eqb}
 use Rattle.std.specs.Prelude.{slice_get}
 use Rattle.std.specs.List.{list_any}
-use Rattle.std.proofs.lemmas.Bool.{ne_eqb}
+use Rattle.std.proofs.lemmas.Bool.{ne_eqb, or_right}
 use Rattle.std.proofs.lemmas.List.{drop_all}
+use Rattle.std.proofs.lemmas.List.Folds.{list_any_at}
 use Rattle.sccs_history.specs.Numbers.{has, share}
 use Rattle.sccs_history.specs.Applied.{serials_of}
 use Rattle.sccs_history.specs.declared.headers.Record.{Record}
@@ -23,6 +24,12 @@ serials-any (r ∷ records) n = ap (λ rest. r.serial == n || rest) (serials-any
 
 pub serial_there : (records : List Record) (n : ℕ) → n ≢ 0 → list_any (λ r. r.serial == n) records ≡ has (0 ∷ serials_of records) n
 serial_there records n some = rw (ne_eqb 0 n (λ e. some (sym e))) (serials-any records n)
+
+-- the serial of the record at a place is there
+pub serial_there_at : (records : List Record) (at n : ℕ) (r : Record) → at < length records → r ≡ get_or records at r → r.serial ≡ n → has (0 ∷ serials_of records) n ≡ true
+serial_there_at records at n r within is same =
+    or_right (0 == n) (has (serials_of records) n) (sym (serials-any records n)
+    ∙ list_any_at (λ (q : Record). q.serial == n) records at r within (eq-eqb _ n (ap (λ (q : Record). q.serial) (sym is) ∙ same)))
 
 pub least-last : (bound : ℕ) (records : List Record) (r : Record) → slice_get records (length records - 1) ≡ Some r → r.serial ≡ least bound records
 least-last bound [] r is = cc

@@ -67,7 +67,7 @@ ends-behind [] c rest = refl
 ends-behind (a ∷ []) c rest = refl
 ends-behind (a ∷ b ∷ bytes) c rest = ends-behind (b ∷ bytes) c rest
 
-ends-word : (word : List ℕ) → IsWord word → ends_blank word ≡ false
+pub ends-word : (word : List ℕ) → IsWord word → ends_blank word ≡ false
 unfolding ends_blank
 ends-word [] is = absurd is
 ends-word (b ∷ []) is = ne_eqb b 32 is.0

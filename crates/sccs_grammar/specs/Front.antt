@@ -203,6 +203,18 @@ Hears (Ok x) read = read ≡ Ok x
 Hears (Err Memory) read = Unit {0}
 Hears (Err (Format line)) read = read ≡ Err line
 
+-- the same of a line that leads to another place and leaves these parts
+abbrev pub HearsAt : Parts → Result Place FrontFault → Result Reading ℕ → Type 0
+HearsAt new (Ok place) read = read ≡ Ok (reading_at place new)
+HearsAt new (Err Memory) read = Unit {0}
+HearsAt new (Err (Format line)) read = read ≡ Err line
+
+-- the same of a line that leaves this reading
+abbrev pub HearsIn : Reading → Result (Unit {0}) FrontFault → Result Reading ℕ → Type 0
+HearsIn new (Ok done) read = read ≡ Ok new
+HearsIn new (Err Memory) read = Unit {0}
+HearsIn new (Err (Format line)) read = read ≡ Err line
+
 unfoldable pub line_after : ℕ → Reading → List ℕ → Result Reading ℕ
 line_after n r line = heard n r (said line)
 

@@ -1,5 +1,5 @@
 //! The fields of a line.
-ghost use Rattle.std.specs.Prelude.{◌≡◌, ◌<◌, ◌^◌, ◌≤◌, List, [], ◌∷◌, length, map, option_map, IfOk, IfSome, MatchOption};
+ghost use Rattle.std.specs.Prelude.{◌≡◌, ◌<◌, ◌^◌, ◌≤◌, List, [], ◌∷◌, Some, length, map, option_map, IfOk, IfSome, MatchOption};
 ghost use Rattle.sccs_base.specs.Cut.{HasNoLf};
 ghost use Rattle.sccs_sid.specs.Words.{words};
 ghost use Rattle.sccs_grammar.specs.Said.{drop_zeros, is_removed, is_set_off, listed, padded_serial, place, plain_serial, predecessor, serial, serials, text};
@@ -83,9 +83,18 @@ pub fn is_set_off(bytes: &[u8]) -> bool
     begins_blank(bytes) && !ends_blank(bytes)
 }
 
-/// The one serial behind blanks, with any zeros in front.
+// a serial as it is written, behind one blank and without zeros in front
+#[tactic(auto, using(crate::proofs::PlaceLaws::written_place))]
+fn behind_blank(word: &[u8]) -> Option<u16>
+    ensures { IfSome result (λ n. Some n ≡ place (32 ∷ word.now)) }
+{
+    plain_serial(word)
+}
+
+// the one serial behind blanks, with any zeros in front
+#[inline(never)]
 #[tactic(auto, unfolding(crate::specs::Said::place))]
-pub fn place(bytes: &[u8]) -> Option<u16>
+fn any_place(bytes: &[u8]) -> Option<u16>
     ensures { result ≡ place bytes.now }
 {
     if !is_set_off(bytes) {
@@ -93,6 +102,18 @@ pub fn place(bytes: &[u8]) -> Option<u16>
     }
     let word = one_word(bytes)?;
     serial(drop_zeros(word))
+}
+
+/// The one serial behind blanks, with any zeros in front.
+pub fn place(bytes: &[u8]) -> Option<u16>
+    ensures { result ≡ place bytes.now }
+{
+    if let [b' ', word @ ..] = bytes {
+        if let Some(serial) = behind_blank(word) {
+            return Some(serial);
+        }
+    }
+    any_place(bytes)
 }
 
 /// The words of bytes, all of them serials without zeros in front.

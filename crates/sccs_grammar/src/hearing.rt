@@ -1,30 +1,31 @@
 //! What is read of a header with a line more.
 ghost use Rattle.std.specs.Prelude.{◌≡◌, Ok, Err, [], ◌∷◌, ◌++◌};
 ghost use Rattle.sccs_grammar.specs.Entries.{with_entry as with_entry_spec};
-ghost use Rattle.sccs_grammar.specs.Front.{Hears, after, at_delta, at_entry, ends_table, exclude_list, ignore_list, in_description, in_flags, in_lists, in_texts, in_users, include_list, lost, new_flag, reading_at, with_comment, with_list, with_mr};
+ghost use Rattle.sccs_grammar.specs.Front.{Hears, HearsAt, HearsIn, after, at_delta, at_entry, ends_table, exclude_list, ignore_list, in_description, in_flags, in_lists, in_texts, in_users, include_list, lost, new_flag, reading_at, with_comment, with_list, with_mr};
 
 use crate::readings::{Entry, FrontFault, Parts, Place, Reading, Stood};
 use crate::sayings::{Said, Which};
 use crate::table_tests::{all_below, flag_fits, is_new, share};
-use crate::tables::with_entry;
+use crate::tables::{Table, with_entry};
 use sccs_base::Line;
 use sccs_history::{Flag, Record, Serials};
+use std::alloc::Global;
+use std::mem::replace;
 
 // the line is at fault: nothing goes on there
-fn refuse(number: u64, parts: Parts, said: Said) -> Result<Reading, FrontFault>
+fn refuse(number: u64, said: Said) -> Result<Place, FrontFault>
     ensures { result ≡ Err (FrontFault.Format number) }
 {
-    drop(parts);
     drop(said);
     Err(FrontFault::Format(number))
 }
 
 // the same within an entry
-fn refuse_entry(number: u64, parts: Parts, entry: Entry, said: Said) -> Result<Reading, FrontFault>
+fn refuse_entry(number: u64, entry: Entry, said: Said) -> Result<Place, FrontFault>
     ensures { result ≡ Err (FrontFault.Format number) }
 {
     drop(entry);
-    refuse(number, parts, said)
+    refuse(number, said)
 }
 
 // the entry with an MR more
@@ -48,43 +49,41 @@ fn with_comment(mut entry: Entry, line: Line) -> Result<Entry, FrontFault>
 }
 
 // the end of an entry
-fn end_entry(mut parts: Parts, entry: Entry) -> Result<Reading, FrontFault>
-    ensures { Hears result (Ok (reading_at Place.AtEntry (record parts { table = with_entry_spec parts.table entry }))) }
+#[inline(never)]
+fn end_entry(alloc: Global, parts: &mut Parts, entry: Entry) -> Result<Place, FrontFault>
+    ensures { HearsAt parts.new result (Ok (reading_at Place.AtEntry (record parts.old { table = with_entry_spec parts.old.table entry }))) }
 {
-    parts.table = with_entry(parts.table, entry)?;
-    Ok(Reading {
-        place: Place::AtEntry,
-        parts,
-    })
+    let table = replace(&mut parts.table, Table::new(alloc));
+    parts.table = with_entry(table, entry)?;
+    Ok(Place::AtEntry)
 }
 
 // MRs and comments, mixed, and the end of the entry
-fn in_texts(number: u64, parts: Parts, entry: Entry, said: Said) -> Result<Reading, FrontFault>
-    ensures { Hears result (in_texts number parts entry said) }
+fn in_texts(
+    alloc: Global,
+    number: u64,
+    parts: &mut Parts,
+    entry: Entry,
+    said: Said,
+) -> Result<Place, FrontFault>
+    ensures { HearsAt parts.new result (in_texts number parts.old entry said) }
 {
     match said {
-        Said::Mr(line) => {
-            let place = Place::InTexts(with_mr(entry, line)?);
-            Ok(Reading { place, parts })
-        }
-        Said::Comment(line) => {
-            let place = Place::InTexts(with_comment(entry, line)?);
-            Ok(Reading { place, parts })
-        }
-        Said::EndEntry => end_entry(parts, entry),
-        said => refuse_entry(number, parts, entry, said),
+        Said::Mr(line) => Ok(Place::InTexts(with_mr(entry, line)?)),
+        Said::Comment(line) => Ok(Place::InTexts(with_comment(entry, line)?)),
+        Said::EndEntry => end_entry(alloc, parts, entry),
+        said => refuse_entry(number, entry, said),
     }
 }
 
 // a list of one kind: it stands once, and names smaller serials
 fn include_list(
     number: u64,
-    parts: Parts,
     mut entry: Entry,
     stood: Stood,
     serials: Serials,
-) -> Result<Reading, FrontFault>
-    ensures { Hears result (include_list number parts entry stood serials) }
+) -> Result<Place, FrontFault>
+    ensures { (parts : Parts) → HearsAt parts result (include_list number parts entry stood serials) }
 {
     let below = all_below(entry.row.serial, serials.items());
     if stood.included || !below || share(serials.items(), entry.row.exclude.items()) {
@@ -95,18 +94,16 @@ fn include_list(
         included: true,
         ..stood
     };
-    let place = Place::InLists(entry, stood);
-    Ok(Reading { place, parts })
+    Ok(Place::InLists(entry, stood))
 }
 
 fn exclude_list(
     number: u64,
-    parts: Parts,
     mut entry: Entry,
     stood: Stood,
     serials: Serials,
-) -> Result<Reading, FrontFault>
-    ensures { Hears result (exclude_list number parts entry stood serials) }
+) -> Result<Place, FrontFault>
+    ensures { (parts : Parts) → HearsAt parts result (exclude_list number parts entry stood serials) }
 {
     let below = all_below(entry.row.serial, serials.items());
     if stood.excluded || !below || share(serials.items(), entry.row.include.items()) {
@@ -117,18 +114,16 @@ fn exclude_list(
         excluded: true,
         ..stood
     };
-    let place = Place::InLists(entry, stood);
-    Ok(Reading { place, parts })
+    Ok(Place::InLists(entry, stood))
 }
 
 fn ignore_list(
     number: u64,
-    parts: Parts,
     mut entry: Entry,
     stood: Stood,
     serials: Serials,
-) -> Result<Reading, FrontFault>
-    ensures { Hears result (ignore_list number parts entry stood serials) }
+) -> Result<Place, FrontFault>
+    ensures { (parts : Parts) → HearsAt parts result (ignore_list number parts entry stood serials) }
 {
     let below = all_below(entry.row.serial, serials.items());
     if stood.ignored || !below {
@@ -139,45 +134,46 @@ fn ignore_list(
         ignored: true,
         ..stood
     };
-    let place = Place::InLists(entry, stood);
-    Ok(Reading { place, parts })
+    Ok(Place::InLists(entry, stood))
 }
 
+#[inline(never)]
 fn with_list(
     number: u64,
-    parts: Parts,
     entry: Entry,
     stood: Stood,
     which: Which,
     serials: Serials,
-) -> Result<Reading, FrontFault>
-    ensures { Hears result (with_list number parts entry stood which serials) }
+) -> Result<Place, FrontFault>
+    ensures { (parts : Parts) → HearsAt parts result (with_list number parts entry stood which serials) }
 {
     match which {
-        Which::Included => include_list(number, parts, entry, stood, serials),
-        Which::Excluded => exclude_list(number, parts, entry, stood, serials),
-        Which::Ignored => ignore_list(number, parts, entry, stood, serials),
+        Which::Included => include_list(number, entry, stood, serials),
+        Which::Excluded => exclude_list(number, entry, stood, serials),
+        Which::Ignored => ignore_list(number, entry, stood, serials),
     }
 }
 
 fn in_lists(
+    alloc: Global,
     number: u64,
-    parts: Parts,
+    parts: &mut Parts,
     entry: Entry,
     stood: Stood,
     said: Said,
-) -> Result<Reading, FrontFault>
-    ensures { Hears result (in_lists number parts entry stood said) }
+) -> Result<Place, FrontFault>
+    ensures { HearsAt parts.new result (in_lists number parts.old entry stood said) }
 {
     match said {
-        Said::Listed(which, serials) => with_list(number, parts, entry, stood, which, serials),
-        said => in_texts(number, parts, entry, said),
+        Said::Listed(which, serials) => with_list(number, entry, stood, which, serials),
+        said => in_texts(alloc, number, parts, entry, said),
     }
 }
 
 // the table ends: there is an entry, and each predecessor is there
-fn end_table(number: u64, parts: Parts) -> Result<Reading, FrontFault>
-    ensures { Hears result (ends_table number parts (lost parts.table.records parts.table.records parts.table.lines)) }
+#[inline(never)]
+fn end_table(number: u64, parts: &Parts) -> Result<Place, FrontFault>
+    ensures { HearsAt parts.now result (ends_table number parts.now (lost parts.now.table.records parts.now.table.records parts.now.table.lines)) }
 {
     if let Some(line) = parts.table.lost() {
         return Err(FrontFault::Format(line));
@@ -185,34 +181,30 @@ fn end_table(number: u64, parts: Parts) -> Result<Reading, FrontFault>
     if parts.table.records().is_empty() {
         return Err(FrontFault::Format(number));
     }
-    Ok(Reading {
-        place: Place::InUsers,
-        parts,
-    })
+    Ok(Place::InUsers)
 }
 
 // an entry begins, or the table ends
-fn at_entry(number: u64, parts: Parts, said: Said) -> Result<Reading, FrontFault>
-    ensures { Hears result (at_entry number parts said) }
+fn at_entry(number: u64, parts: &Parts, said: Said) -> Result<Place, FrontFault>
+    ensures { HearsAt parts.now result (at_entry number parts.now said) }
 {
     match said {
         Said::Counts(inserted, deleted, unchanged) => {
-            let place = Place::AtDelta(inserted, deleted, unchanged);
-            Ok(Reading { place, parts })
+            Ok(Place::AtDelta(inserted, deleted, unchanged))
         }
         Said::Users => end_table(number, parts),
-        said => refuse(number, parts, said),
+        said => refuse(number, said),
     }
 }
 
 // an entry with its delta line
 fn begin_entry(
     number: u64,
-    parts: Parts,
+    parts: &Parts,
     counts: (u32, u32, u32),
     delta: Record,
-) -> Result<Reading, FrontFault>
-    ensures { Hears result (at_delta number parts counts.0 counts.1 counts.2 (Said.Delta delta)) }
+) -> Result<Place, FrontFault>
+    ensures { HearsAt parts.now result (at_delta number parts.now counts.0 counts.1 counts.2 (Said.Delta delta)) }
 {
     if !parts.table.may_follow(&delta) {
         return Err(FrontFault::Format(number));
@@ -229,54 +221,49 @@ fn begin_entry(
         excluded: false,
         ignored: false,
     };
-    let place = Place::InLists(Entry { line: number, row }, none_stood);
-    Ok(Reading { place, parts })
+    Ok(Place::InLists(Entry { line: number, row }, none_stood))
 }
 
 // the delta line of an entry
+#[inline(never)]
 fn at_delta(
     number: u64,
-    parts: Parts,
+    parts: &Parts,
     counts: (u32, u32, u32),
     said: Said,
-) -> Result<Reading, FrontFault>
-    ensures { Hears result (at_delta number parts counts.0 counts.1 counts.2 said) }
+) -> Result<Place, FrontFault>
+    ensures { HearsAt parts.now result (at_delta number parts.now counts.0 counts.1 counts.2 said) }
 {
     match said {
         Said::Delta(row) => begin_entry(number, parts, counts, row),
-        said => refuse(number, parts, said),
+        said => refuse(number, said),
     }
 }
 
 // one user more
-fn new_user(mut parts: Parts, line: Line) -> Result<Reading, FrontFault>
-    ensures { Hears result (Ok (reading_at Place.InUsers (record parts { users = parts.users ++ line ∷ [] }))) }
+fn new_user(parts: &mut Parts, line: Line) -> Result<Place, FrontFault>
+    ensures { HearsAt parts.new result (Ok (reading_at Place.InUsers (record parts.old { users = parts.old.users ++ line ∷ [] }))) }
 {
     if parts.users.push(line).is_err() {
         return Err(FrontFault::Memory);
     }
-    Ok(Reading {
-        place: Place::InUsers,
-        parts,
-    })
+    Ok(Place::InUsers)
 }
 
-fn in_users(number: u64, parts: Parts, said: Said) -> Result<Reading, FrontFault>
-    ensures { Hears result (in_users number parts said) }
+#[inline(never)]
+fn in_users(number: u64, parts: &mut Parts, said: Said) -> Result<Place, FrontFault>
+    ensures { HearsAt parts.new result (in_users number parts.old said) }
 {
     match said {
         Said::Plain(line) => new_user(parts, line),
-        Said::EndUsers => Ok(Reading {
-            place: Place::InFlags,
-            parts,
-        }),
-        said => refuse(number, parts, said),
+        Said::EndUsers => Ok(Place::InFlags),
+        said => refuse(number, said),
     }
 }
 
 // one flag more
-fn new_flag(number: u64, mut parts: Parts, flag: Flag) -> Result<Reading, FrontFault>
-    ensures { Hears result (new_flag number parts flag) }
+fn new_flag(number: u64, parts: &mut Parts, flag: Flag) -> Result<Place, FrontFault>
+    ensures { HearsAt parts.new result (new_flag number parts.old flag) }
 {
     if !flag_fits(&flag) || !is_new(parts.flags.items(), &flag) {
         return Err(FrontFault::Format(number));
@@ -284,66 +271,71 @@ fn new_flag(number: u64, mut parts: Parts, flag: Flag) -> Result<Reading, FrontF
     if parts.flags.push(flag).is_err() {
         return Err(FrontFault::Memory);
     }
-    Ok(Reading {
-        place: Place::InFlags,
-        parts,
-    })
+    Ok(Place::InFlags)
 }
 
-fn in_flags(number: u64, parts: Parts, said: Said) -> Result<Reading, FrontFault>
-    ensures { Hears result (in_flags number parts said) }
+#[inline(never)]
+fn in_flags(number: u64, parts: &mut Parts, said: Said) -> Result<Place, FrontFault>
+    ensures { HearsAt parts.new result (in_flags number parts.old said) }
 {
     match said {
         Said::FlagIs(flag) => new_flag(number, parts, flag),
-        Said::Description => Ok(Reading {
-            place: Place::InDescription,
-            parts,
-        }),
-        said => refuse(number, parts, said),
+        Said::Description => Ok(Place::InDescription),
+        said => refuse(number, said),
     }
 }
 
 // one line of the description more
-fn new_line(mut parts: Parts, line: Line) -> Result<Reading, FrontFault>
-    ensures { Hears result (Ok (reading_at Place.InDescription (record parts { description = parts.description ++ line ∷ [] }))) }
+fn new_line(parts: &mut Parts, line: Line) -> Result<Place, FrontFault>
+    ensures { HearsAt parts.new result (Ok (reading_at Place.InDescription (record parts.old { description = parts.old.description ++ line ∷ [] }))) }
 {
     if parts.description.push(line).is_err() {
         return Err(FrontFault::Memory);
     }
-    Ok(Reading {
-        place: Place::InDescription,
-        parts,
-    })
+    Ok(Place::InDescription)
 }
 
-fn in_description(number: u64, parts: Parts, said: Said) -> Result<Reading, FrontFault>
-    ensures { Hears result (in_description number parts said) }
+#[inline(never)]
+fn in_description(number: u64, parts: &mut Parts, said: Said) -> Result<Place, FrontFault>
+    ensures { HearsAt parts.new result (in_description number parts.old said) }
 {
     match said {
         Said::Plain(line) => new_line(parts, line),
-        Said::EndDescription => Ok(Reading {
-            place: Place::AtBody,
-            parts,
-        }),
-        said => refuse(number, parts, said),
+        Said::EndDescription => Ok(Place::AtBody),
+        said => refuse(number, said),
     }
 }
 
-/// What is read with a line of that number that says this, or the line at fault.
-pub fn hear(number: u64, reading: Reading, said: Said) -> Result<Reading, FrontFault>
-    ensures { Hears result (after number reading.parts reading.place said) }
+// where the next line stands behind a line that says this
+fn next_place(
+    alloc: Global,
+    number: u64,
+    place: Place,
+    parts: &mut Parts,
+    said: Said,
+) -> Result<Place, FrontFault>
+    ensures { HearsAt parts.new result (after number parts.old place said) }
 {
-    let Reading { place, parts } = reading;
     match place {
         Place::AtEntry => at_entry(number, parts, said),
         Place::AtDelta(inserted, deleted, unchanged) => {
             at_delta(number, parts, (inserted, deleted, unchanged), said)
         }
-        Place::InLists(entry, stood) => in_lists(number, parts, entry, stood, said),
-        Place::InTexts(entry) => in_texts(number, parts, entry, said),
+        Place::InLists(entry, stood) => in_lists(alloc, number, parts, entry, stood, said),
+        Place::InTexts(entry) => in_texts(alloc, number, parts, entry, said),
         Place::InUsers => in_users(number, parts, said),
         Place::InFlags => in_flags(number, parts, said),
         Place::InDescription => in_description(number, parts, said),
-        Place::AtBody => refuse(number, parts, said),
+        Place::AtBody => refuse(number, said),
     }
+}
+
+/// Reads on with a line of that number that says this, or answers the line at fault. A reading that
+/// answered so is used up.
+pub fn hear(alloc: Global, number: u64, reading: &mut Reading, said: Said) -> Result<(), FrontFault>
+    ensures { HearsIn reading.new result (after number reading.old.parts reading.old.place said) }
+{
+    let place = replace(&mut reading.place, Place::AtBody);
+    reading.place = next_place(alloc, number, place, &mut reading.parts, said)?;
+    Ok(())
 }

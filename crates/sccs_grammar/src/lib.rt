@@ -1,6 +1,7 @@
 //! The grammar of s-files, sccsfile(4): what a line says, what may stand where, and the first fault.
 #![tactic(auto)]
 
+mod body_lines;
 mod faults;
 mod fields;
 mod flag_texts;
@@ -12,6 +13,7 @@ mod sayings;
 mod table_tests;
 mod tables;
 
+pub use body_lines::{read_item, written_item};
 pub use faults::FileFault;
 pub use hearing::hear;
 pub use laws::{

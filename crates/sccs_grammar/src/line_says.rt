@@ -1,10 +1,10 @@
 //! What one line says.
-ghost use Rattle.std.specs.Prelude.{◌≡◌, ◌||◌, [], ◌∷◌, option_map, IfOk, IfSome, MatchOption};
+ghost use Rattle.std.specs.Prelude.{◌≡◌, ◌||◌, [], ◌∷◌, None, option_map, if◌then◌else◌, IfOk, IfSome, MatchOption};
 ghost use Rattle.sccs_base.specs.Cut.{HasNoLf};
 ghost use Rattle.sccs_history.specs.Numbers.{is_empty};
 ghost use Rattle.sccs_sid.specs.Reading.{only};
 ghost use Rattle.sccs_sid.specs.Words.{begins_blank, drop_blanks, skip_blanks, words};
-ghost use Rattle.sccs_grammar.specs.Said.{behind_soh, control, counts, delta, delta_of, exactly_seven, flag, listed, said, text};
+ghost use Rattle.sccs_grammar.specs.Said.{behind_soh, body_control, control, counts, delta, delta_of, exactly_seven, flag, listed, part_control, said, text};
 
 use crate::fields::{
     first_word, is_set_off, line_of, listed, place, predecessor, removed, serial, text,
@@ -138,6 +138,7 @@ fn flag(alloc: Global, bytes: &[u8]) -> Result<Option<Said>, Memory>
 }
 
 // a list of one kind
+#[inline(never)]
 fn list(alloc: Global, which: Which, bytes: &[u8]) -> Result<Option<Said>, Memory>
     ensures { IfOk result (λ o. o ≡ option_map (Said.Listed which) (listed bytes.now)) }
 {
@@ -148,6 +149,7 @@ fn list(alloc: Global, which: Which, bytes: &[u8]) -> Result<Option<Said>, Memor
 }
 
 // an MR or a comment
+#[inline(never)]
 fn mr(alloc: Global, bytes: &[u8]) -> Result<Option<Said>, Memory>
     requires { HasNoLf bytes.now }
     ensures { IfOk result (λ o. o ≡ option_map Said.Mr (text bytes.now)) }
@@ -158,6 +160,7 @@ fn mr(alloc: Global, bytes: &[u8]) -> Result<Option<Said>, Memory>
     }
 }
 
+#[inline(never)]
 fn comment(alloc: Global, bytes: &[u8]) -> Result<Option<Said>, Memory>
     requires { HasNoLf bytes.now }
     ensures { IfOk result (λ o. o ≡ option_map Said.Comment (text bytes.now)) }
@@ -176,6 +179,7 @@ fn alone(bytes: &[u8], said: Said) -> Option<Said>
 }
 
 // what a statistics line says behind its letter
+#[inline(never)]
 #[tactic(auto, unfolding(crate::specs::Said::control))]
 fn counts_line(bytes: &[u8]) -> Option<Said>
     ensures { result ≡ control 115 bytes.now }
@@ -188,6 +192,7 @@ fn counts_line(bytes: &[u8]) -> Option<Said>
 }
 
 // what a delta line says
+#[inline(never)]
 #[tactic(auto, unfolding(crate::specs::Said::control))]
 fn delta_line(alloc: Global, bytes: &[u8]) -> Option<Said>
     ensures { result ≡ control 100 bytes.now }
@@ -200,10 +205,9 @@ fn delta_line(alloc: Global, bytes: &[u8]) -> Option<Said>
 }
 
 // what the line of a flag says
-#[tactic(auto, unfolding(crate::specs::Said::control))]
 fn flag_line(alloc: Global, bytes: &[u8]) -> Result<Option<Said>, Memory>
     requires { HasNoLf bytes.now }
-    ensures { IfOk result (λ o. o ≡ control 102 bytes.now) }
+    ensures { IfOk result (λ o. o ≡ (if begins_blank bytes.now then flag (skip_blanks bytes.now) else None)) }
 {
     if begins_blank(bytes) {
         flag(alloc, skip_blanks(bytes))
@@ -213,28 +217,41 @@ fn flag_line(alloc: Global, bytes: &[u8]) -> Result<Option<Said>, Memory>
 }
 
 // what a control line of a body says
-#[tactic(auto, unfolding(crate::specs::Said::control))]
-fn insert_line(bytes: &[u8]) -> Option<Said>
-    ensures { result ≡ control 73 bytes.now }
+#[inline(never)]
+fn body_line(letter: u8, bytes: &[u8]) -> Option<Said>
+    ensures { result ≡ body_control letter bytes.now }
 {
-    let serial = place(bytes)?;
-    Some(Said::Insert(serial))
+    match letter {
+        b'I' => {
+            let serial = place(bytes)?;
+            Some(Said::Insert(serial))
+        }
+        b'D' => {
+            let serial = place(bytes)?;
+            Some(Said::Delete(serial))
+        }
+        b'E' => {
+            let serial = place(bytes)?;
+            Some(Said::End(serial))
+        }
+        _ => None,
+    }
 }
 
-#[tactic(auto, unfolding(crate::specs::Said::control))]
-fn delete_line(bytes: &[u8]) -> Option<Said>
-    ensures { result ≡ control 68 bytes.now }
+// what a control line behind the delta table says
+#[inline(never)]
+fn part_line(alloc: Global, letter: u8, bytes: &[u8]) -> Result<Option<Said>, Memory>
+    requires { HasNoLf bytes.now }
+    ensures { IfOk result (λ o. o ≡ part_control letter bytes.now) }
 {
-    let serial = place(bytes)?;
-    Some(Said::Delete(serial))
-}
-
-#[tactic(auto, unfolding(crate::specs::Said::control))]
-fn end_line(bytes: &[u8]) -> Option<Said>
-    ensures { result ≡ control 69 bytes.now }
-{
-    let serial = place(bytes)?;
-    Some(Said::End(serial))
+    match letter {
+        b'u' => Ok(alone(bytes, Said::Users)),
+        b'U' => Ok(alone(bytes, Said::EndUsers)),
+        b'f' => flag_line(alloc, bytes),
+        b't' => Ok(alone(bytes, Said::Description)),
+        b'T' => Ok(alone(bytes, Said::EndDescription)),
+        _ => Ok(body_line(letter, bytes)),
+    }
 }
 
 // what follows SOH and a letter
@@ -252,15 +269,7 @@ fn control(alloc: Global, letter: u8, bytes: &[u8]) -> Result<Option<Said>, Memo
         b'm' => mr(alloc, bytes),
         b'c' => comment(alloc, bytes),
         b'e' => Ok(alone(bytes, Said::EndEntry)),
-        b'u' => Ok(alone(bytes, Said::Users)),
-        b'U' => Ok(alone(bytes, Said::EndUsers)),
-        b'f' => flag_line(alloc, bytes),
-        b't' => Ok(alone(bytes, Said::Description)),
-        b'T' => Ok(alone(bytes, Said::EndDescription)),
-        b'I' => Ok(insert_line(bytes)),
-        b'D' => Ok(delete_line(bytes)),
-        b'E' => Ok(end_line(bytes)),
-        _ => Ok(None),
+        _ => part_line(alloc, letter, bytes),
     }
 }
 
@@ -276,6 +285,7 @@ fn behind_soh(alloc: Global, bytes: &[u8]) -> Result<Option<Said>, Memory>
 }
 
 /// What a line says by itself; None where it has no spelling anywhere.
+#[inline(never)]
 #[tactic(auto, unfolding(crate::specs::Said::said))]
 pub fn read_line(alloc: Global, line: &[u8]) -> Result<Option<Said>, Memory>
     requires { HasNoLf line.now }

@@ -1,5 +1,5 @@
 //! The delta table as far as it was read, with what makes its rules quick to judge.
-ghost use Rattle.std.specs.Prelude.{◌≡◌, ℕ, List, [], ◌∷◌, ◌++◌, Ok, IfOk};
+ghost use Rattle.std.specs.Prelude.{◌≡◌, ℕ, ◌<◌, List, [], ◌∷◌, ◌++◌, length, Ok, IfOk};
 ghost use Rattle.std.specs.Ordering.{nat_cmp};
 ghost use Rattle.std.specs.BTreeSet.{contains};
 ghost use Rattle.sccs_history.specs.Applied.{serials_of};
@@ -56,6 +56,21 @@ fn has_serial(serials: &BTreeSet<u16, Global>, n: u16) -> bool
     n == 0 || serials.contains(&n)
 }
 
+// whether a number is 0 or the serial of a record. The record behind a place is looked at
+// first: its serial is mostly the predecessor of the record at that place.
+fn is_there(serials: &BTreeSet<u16, Global>, table: &[Record], at: usize, n: u16) -> bool
+    requires kept { HasSerials serials.now table.now }
+    requires within { at < length table.now }
+    ensures { result ≡ has (0 ∷ serials_of table.now) n }
+{
+    if let Some(next) = table.get(at + 1) {
+        if next.serial == n {
+            return true;
+        }
+    }
+    has_serial(serials, n)
+}
+
 // the delta line of the first entry whose predecessor is neither 0 nor among the serials
 fn lost(serials: &BTreeSet<u16, Global>, table: &[Record], lines: &[u64]) -> Option<u64>
     requires { HasSerials serials.now table.now }
@@ -65,7 +80,7 @@ fn lost(serials: &BTreeSet<u16, Global>, table: &[Record], lines: &[u64]) -> Opt
         let Some(line) = lines.get(at) else {
             return None;
         };
-        if !has_serial(serials, record.predecessor) {
+        if !is_there(serials, table, at, record.predecessor) {
             return Some(*line);
         }
     }

@@ -1,2 +1,3 @@
-pub mod Opens
+pub mod Counts
+pub mod Kinds
 pub mod States

@@ -1,9 +1,13 @@
 -- What a state of a body knows.
-use Rattle.std.specs.Prelude.{ℕ, List}
+use Rattle.std.specs.Prelude.{◌≡◌, ℕ, false, List, slice_index_or}
+use Rattle.sccs_history.specs.Body.{mark}
+use Rattle.sccs_history.specs.Numbers.{has}
 use Rattle.sccs_history.specs.declared.headers.Item.{Item}
-use Rattle.sccs_marks.specs.Opens.{Follows}
+use Rattle.sccs_marks.specs.Kinds.{kind}
 use Rattle.sccs_marks.specs.declared.body_states.BodyState.{BodyState}
+use Rattle.sccs_marks.specs.declared.marks.Mark.TheVariants.{Closed}
 
--- the state is that behind these items of a body over live serials
-abbrev pub Knows : List ℕ → List Item → BodyState → Type 0
-Knows live before s = Follows live before s.opens.items s.lives.items
+-- the state is that behind these items of a body over live serials: how each serial stands, and which live
+pub record Knows (live : List ℕ) (before : List Item) (s : BodyState) : Type 0 where
+  pub marks : (n : ℕ) → kind (slice_index_or s.marks n Closed) ≡ mark n before
+  pub lives_are : (n : ℕ) → slice_index_or s.lives.items n false ≡ has live n

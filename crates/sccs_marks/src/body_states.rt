@@ -5,15 +5,15 @@ ghost use Rattle.sccs_history.specs.Numbers.{has};
 ghost use Rattle.sccs_history.specs.declared.headers.Item.{Item};
 ghost use Rattle.sccs_history.specs.declared.headers.Item.TheVariants as items;
 
-use crate::open_serials::{Open, close_serial, is_closed, open_serial, some_inserts};
+use crate::marks::{Mark, Marks};
 use sccs_base::Memory;
 use sccs_history::{Item, Record};
 use std::alloc::Global;
 
-/// What is known at a place of a body: the serials that are open, and those that live.
+/// What is known at a place of a body: how each serial stands, and which live.
 #[derive(Drop)]
 pub struct BodyState {
-    opens: Vec<Open>,
+    marks: Marks,
     lives: Vec<bool>,
 }
 
@@ -58,17 +58,18 @@ impl BodyState {
         let mut lives = none_lives(alloc, 65536)?;
         mark_live(records, lives.as_mut_slice());
         Ok(BodyState {
-            opens: Vec::new(alloc),
+            marks: Marks::new(alloc)?,
             lives,
         })
     }
 
     /// Whether a text line may stand here.
+    #[tactic(auto, using(crate::proofs::OpenLaws::some_insert))]
     pub fn may_stand_text(&self) -> bool
         ensures { (live : List ℕ) (before : List Item) (text : List ℕ) → Knows live before self.now
             → result ≡ may_stand_spec live before (items.Text text) }
     {
-        some_inserts(&self.opens)
+        self.marks.some_inserts()
     }
 
     /// Whether a serial may be opened here.
@@ -78,7 +79,7 @@ impl BodyState {
         ensures delete { (live : List ℕ) (before : List Item) → Knows live before self.now
             → result ≡ may_stand_spec live before (items.Delete serial) }
     {
-        lives(&self.lives, serial) && is_closed(&self.opens, serial)
+        lives(&self.lives, serial) && !self.marks.at(serial).is_open()
     }
 
     /// Whether a serial may end here.
@@ -86,7 +87,7 @@ impl BodyState {
         ensures { (live : List ℕ) (before : List Item) → Knows live before self.now
             → result ≡ may_stand_spec live before (items.End serial) }
     {
-        lives(&self.lives, serial) && !is_closed(&self.opens, serial)
+        lives(&self.lives, serial) && self.marks.at(serial).is_open()
     }
 
     /// Goes on behind an `Insert` or a `Delete` that may stand here. At want of memory nothing changes.
@@ -100,10 +101,13 @@ impl BodyState {
         ensures err { OnErr result ((live : List ℕ) (before : List Item) → Knows live before self.old
             → Knows live before self.new) }
     {
-        match open_serial(&mut self.opens, serial, inserts) {
-            Ok(()) => Ok(()),
-            Err(_) => Err(Memory),
-        }
+        let mark = if inserts {
+            Mark::Inserts
+        } else {
+            Mark::Deletes
+        };
+        self.marks.put(serial, mark);
+        Ok(())
     }
 
     /// Goes on behind an `End`.
@@ -111,14 +115,15 @@ impl BodyState {
         ensures { (live : List ℕ) (before : List Item) → Knows live before self.old
             → Knows live (items.End serial ∷ before) self.new }
     {
-        close_serial(&mut self.opens, serial);
+        self.marks.put(serial, Mark::Closed);
     }
 
     /// Whether a body may end here.
+    #[tactic(auto, using(crate::proofs::OpenLaws::over))]
     pub fn is_over(&self) -> bool
         ensures { (live : List ℕ) (before : List Item) → Knows live before self.now
             → result ≡ is_over_spec before }
     {
-        self.opens.as_slice().is_empty()
+        !self.marks.some_open()
     }
 }

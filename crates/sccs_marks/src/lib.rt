@@ -2,6 +2,6 @@
 #![tactic(auto)]
 
 mod body_states;
-mod open_serials;
+mod marks;
 
 pub use body_states::BodyState;

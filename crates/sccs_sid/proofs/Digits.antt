@@ -55,6 +55,17 @@ digits_done zero high b bytes is other = refl
 digits_done (suc most) high b [] is other = refl
 digits_done (suc most) high b (x ∷ bytes) is other = rw (← first_is b x bytes is) (outside b _ _ other)
 
+pub digits_end : (most high : ℕ) (bytes : List ℕ) → None ≡ slice_get bytes 0 → digits_after most high bytes ≡ (high, bytes)
+unfolding digits_after
+digits_end zero high [] is = refl
+digits_end (suc most) high [] is = refl
+digits_end most high (x ∷ bytes) is = cc
+
+pub digits_full : (most high : ℕ) (bytes : List ℕ) → most ≤ 0 → digits_after most high bytes ≡ (high, bytes)
+unfolding digits_after
+digits_full zero high bytes none = refl
+digits_full (suc most) high bytes none = absurd (omega arith)
+
 pub number_digit : (most b : ℕ) (bytes : List ℕ) → Some b ≡ slice_get bytes 0 → IsAsciiDigit b → number_at most bytes ≡ Ok (digits_after (most - 1) (b - 48) (drop 1 bytes))
 unfolding number_at
 number_digit most b [] is digit = cc

@@ -4,23 +4,25 @@ ghost use Rattle.std.specs.Prelude.{◌≡◌, ◌+◌, ◌*◌, ◌^◌, ◌<�
 ghost use Rattle.sccs_sid.specs.Reading.{Gives, digits_after, number_at, byte_at, number, until, behind, is_no_digit, from_digit};
 
 // up to `most` more digits behind those of a number, and the bytes after them
-#[tactic(auto, using(crate::proofs::Digits::room), unfolding(crate::specs::Reading::digits_after))]
 fn digits_after(most: u32, high: u64, bytes: &[u8]) -> (u64, &[u8])
     requires { (high + 1) * 10 ^ most ≤ 10 ^ 19 }
     ensures value { digits_after most high bytes.now ≡ (result.0, result.1.now) }
     ensures small { result.0 + 1 ≤ (high + 1) * 10 ^ most }
     ensures shorter { length result.1.now ≤ length bytes.now }
 {
-    if most == 0 {
-        return (high, bytes);
+    let (mut number, mut rest, mut left) = (high, bytes, most);
+    'digits: while left > 0 {
+        let Some(digit) = rest.first() else {
+            return (number, rest);
+        };
+        if !digit.is_ascii_digit() {
+            return (number, rest);
+        }
+        number = number * 10 + u64::from(*digit - b'0');
+        rest = &rest[1..];
+        left -= 1;
     }
-    let Some(digit) = bytes.first() else {
-        return (high, bytes);
-    };
-    if !digit.is_ascii_digit() {
-        return (high, bytes);
-    }
-    digits_after(most - 1, high * 10 + u64::from(*digit - b'0'), &bytes[1..])
+    (number, rest)
 }
 
 /// A number of one to `most` digits.

@@ -119,11 +119,11 @@ front_found file new last n size sums header line takes are test long reads =
 within_at : (file : List ℕ) (read : List ℕ → Result ParsedFront FileFault) → length file ≤ 1073741824 → answer read (Some file) ≡ read file
 within_at file read limit = rw (le-ltb 1073741824 (length file) limit) refl
 
-at_file : (file : List ℕ) (result : Result Front FileFault) (read : List ℕ → Result ParsedFront FileFault) → length file ≤ 1073741824 → Answers (λ p front. IsFrontOf file p front) result (read file) → AnswersFront (Some file) read result
+pub at_file : (file : List ℕ) (result : Result Front FileFault) (read : List ℕ → Result ParsedFront FileFault) → length file ≤ 1073741824 → Answers (λ p front. IsFrontOf file p front) result (read file) → AnswersFront (Some file) read result
 at_file file result read limit answers = subst (λ a. Answers (λ p front. IsFrontOf file p front) result a) (sym (within_at file read limit)) answers
 
 -- a new reader stands in its file
-pub fresh_stands : (name file : List ℕ) (place size : ℕ) → place ≤ size → size ≡ length file → StandsIn (holding name [] place size) file
+pub fresh_stands : (name file : List ℕ) (place size : ℕ) → place ≤ size → size ≡ length file → StandsIn (holding name [] place size 0) file
 fresh_stands name file place size low long = (long, omega arith, refl)
 
 pub front_answer : (view : Option View) (name : List ℕ) (size : ℕ) (result : Result Front FileFault) → size ≤ 1073741824 → Opens view name (Ok size)
@@ -135,11 +135,11 @@ front_answer (Some view) name size result limit opens answers =
 
 -- ---- the parts of a reading, at a file that is there
 
-pub sum_taken : (o : Option (List ℕ)) (file name : List ℕ) (size : ℕ) (old new : Standing) (result : Result ℕ FileFault) → o ≡ Some file → old ≡ holding name [] 0 size → size ≡ length file → SumLine o old new result → TakesSum file new result
+pub sum_taken : (o : Option (List ℕ)) (file name : List ℕ) (size : ℕ) (old new : Standing) (result : Result ℕ FileFault) → o ≡ Some file → old ≡ holding name [] 0 size 0 → size ≡ length file → SumLine o old new result → TakesSum file new result
 sum_taken o file name size old new result is fresh long takes =
     subst (λ q. SumLine q old new result) is takes (subst (λ s. StandsIn s file) (sym fresh) (fresh_stands name file 0 size (omega arith) long))
 
-pub sums_taken : (o : Option (List ℕ)) (file name : List ℕ) (place size : ℕ) (old : Standing) (sums : ℕ × ℕ) → o ≡ Some file → old ≡ holding name [] place size → place ≤ size → size ≡ length file → IfSome o (λ f. StandsIn old f → IsSumOf sums (drop old.place f)) → IsSumOf sums (drop place file)
+pub sums_taken : (o : Option (List ℕ)) (file name : List ℕ) (place size : ℕ) (old : Standing) (sums : ℕ × ℕ) → o ≡ Some file → old ≡ holding name [] place size 0 → place ≤ size → size ≡ length file → IfSome o (λ f. StandsIn old f → IsSumOf sums (drop old.place f)) → IsSumOf sums (drop place file)
 sums_taken o file name place size old sums is fresh low long summed =
     let here = subst (λ q. IfSome q (λ f. StandsIn old f → IsSumOf sums (drop old.place f))) is summed in
     subst (λ n. IsSumOf sums (drop n file)) (ap (λ (s : Standing). s.place) fresh) (here (subst (λ s. StandsIn s file) (sym fresh) (fresh_stands name file place size low long)))

@@ -1,5 +1,5 @@
 -- What a line more makes of the reading of a header.
-use Rattle.std.proofs.Common.{◌≡◌, ℕ, suc, ◌+◌, Bool, true, false, List, [], ◌∷◌, Option, None, Some, Ok, Err, refl, ap, ◌∙◌, subst, arith}
+use Rattle.std.proofs.Common.{◌≡◌, ℕ, suc, ◌+◌, Bool, true, false, List, [], ◌∷◌, Option, None, Some, Result, Ok, Err, refl, ap, ◌∙◌, subst, arith}
 use Rattle.sccs_base.specs.Cut.{Cut}
 use Rattle.sccs_grammar.specs.Said.{said}
 use Rattle.sccs_grammar.specs.Front.{ParsedFront, after, heard, header_of, is_whole, line_after, front_from}
@@ -8,7 +8,7 @@ use Rattle.sccs_grammar.specs.declared.sayings.Said.{Said}
 use Rattle.sccs_grammar.specs.declared.faults.FileFault.{FileFault}
 use Rattle.sccs_grammar.specs.declared.faults.FileFault.TheVariants.{Missing, TooLong, NotSccs, BadSum, BadFormat, Encoded, Failed, Memory}
 use Rattle.sccs_table.specs.Standing.{Standing, StandsIn, TakesLine, left}
-use Rattle.sccs_table.specs.FrontFile.{HearsLine, HearsNext, Reads, ReadsLines}
+use Rattle.sccs_table.specs.FrontFile.{AnswersLine, HearsLine, HearsNext, Reads, ReadsLines}
 
 front-nil : (n : ℕ) (r : Reading) → front_from n r [] ≡ Err n
 unfolding front_from
@@ -58,6 +58,19 @@ said_heard n r s line what is then_is = line_says n r line what is ∙ then_is
 
 pub said_nothing : (n : ℕ) (r : Reading) (line : List ℕ) → said line ≡ None → line_after n r line ≡ Err n
 said_nothing n r line is = line_silent n r line is
+
+-- a line that was taken, and what was read with it
+pub line_answered : (o : Option (List ℕ)) (old new : Standing) (n : ℕ) (r : Reading) (line : List ℕ) (read : Result Reading FileFault) → TakesLine o old new line true → AnswersLine (line_after n r line) read → HearsNext o old new n r read
+line_answered o old new n r line (Ok s) takes is = line_heard o old new n r s line takes is
+line_answered o old new n r line (Err (BadFormat k)) takes is = line_fault o old new n k r line takes is
+line_answered None old new n r line (Err Memory) takes is = tt
+line_answered (Some file) old new n r line (Err Memory) takes is = λ stands. tt
+line_answered o old new n r line (Err Failed) takes is = absurd is
+line_answered o old new n r line (Err Missing) takes is = absurd is
+line_answered o old new n r line (Err TooLong) takes is = absurd is
+line_answered o old new n r line (Err NotSccs) takes is = absurd is
+line_answered o old new n r line (Err (BadSum stored plain)) takes is = absurd is
+line_answered o old new n r line (Err Encoded) takes is = absurd is
 
 pub takes_line_at : (o : Option (List ℕ)) (old new : Standing) (line : List ℕ) (a b : Bool) → a ≡ b → TakesLine o old new line a → TakesLine o old new line b
 takes_line_at o old new line a b is takes = subst (λ e. TakesLine o old new line e) is takes

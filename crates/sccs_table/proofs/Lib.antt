@@ -1,3 +1,4 @@
+pub mod CountLaws
 pub mod FileLaws
 pub mod FrontLaws
 pub mod ReaderLaws

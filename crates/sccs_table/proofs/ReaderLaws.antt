@@ -2,7 +2,7 @@
 use Rattle.std.proofs.Common.{◌≡◌, ◌≢◌, ℕ, suc, ◌+◌, ◌-◌, ◌<◌, ◌≤◌, min, Bool, true, false, ltb, List, [], ◌∷◌, ◌++◌, length, take, drop, Option, None, Some, refl, sym, ap, ◌∙◌, arith, subst, get_or, drop-cons, length-take, length-drop, length-append, append_assoc}
 use Rattle.std.specs.Prelude.{IfSome}
 use Rattle.std.proofs.lemmas.List.{take-append-drop, drop-take, take-take, drop-drop, drop_all, append-nil}
-use Rattle.std.proofs.lemmas.List.Elements.{All-append}
+use Rattle.std.proofs.lemmas.List.Elements.{All-append, All-nil}
 use Rattle.std.proofs.Math.Seq.{take-append_seam, drop-append_seam}
 use Rattle.sccs_grammar.proofs.CutLaws.{cut_line, cut_tail}
 use Rattle.sccs_base.specs.Cut.{HasNoLf, cut}
@@ -13,15 +13,15 @@ use Rattle.sccs_table.specs.SumOf.{IsSumOf}
 use Rattle.sccs_table.specs.Standing.{Standing, StandsIn, Takes, TakesLine, bytes_in}
 
 -- a reader that holds the front of a piece
-abbrev pub holding : List ℕ → List ℕ → ℕ → ℕ → Standing
-holding name held place size = record { name = name; held = held; place = place; size = size }
+abbrev pub holding : List ℕ → List ℕ → ℕ → ℕ → ℕ → Standing
+holding name held place size lines = record { name = name; held = held; place = place; size = size; lines = lines }
 
 pub fill_more : (piece : List ℕ) (count : ℕ) → count ≤ length piece → ltb 0 count ≡ true → 0 < length (take (count - 0) piece)
 fill_more piece count within more = let some = ltb-true 0 count more in omega (arith, length-take (count - 0) piece)
 
-stands_filled : (old : Standing) (name piece file : List ℕ) (place size count room : ℕ) → holding name [] place size ≡ old → count ≤ length piece → room ≡ min (size - place) 4096
-    → take count piece ≡ take room (drop place file) → StandsIn old file → StandsIn (holding name (take (count - 0) piece) place size) file × (ltb 0 count ≡ false → place ≡ length file)
-stands_filled old name piece file place size count room is within room_is got stood =
+stands_filled : (old : Standing) (name piece file : List ℕ) (place size lines more count room : ℕ) → holding name [] place size lines ≡ old → count ≤ length piece → room ≡ min (size - place) 4096
+    → take count piece ≡ take room (drop place file) → StandsIn old file → StandsIn (holding name (take (count - 0) piece) place size more) file × (ltb 0 count ≡ false → place ≡ length file)
+stands_filled old name piece file place size lines more count room is within room_is got stood =
     let place_is : place ≡ old.place = ap (λ (s : Standing). s.place) is in
     let size_is : size ≡ old.size = ap (λ (s : Standing). s.size) is in
     let whole : size ≡ length file = size_is ∙ stood.0 in
@@ -33,20 +33,20 @@ stands_filled old name piece file place size count room is within room_is got st
       λ none. let zero_is = ltb-false 0 count none in omega (arith, count_is, length-take (count - 0) piece),
     )
 
-filled : (o : Option (List ℕ)) (old : Standing) (name piece : List ℕ) (place size count room : ℕ) → holding name [] place size ≡ old → count ≤ length piece → room ≡ min (size - place) 4096
-    → IfSome o (λ file. take count piece ≡ take room (drop place file)) → IfSome o (λ file. StandsIn old file → StandsIn (holding name (take (count - 0) piece) place size) file × (ltb 0 count ≡ false → place ≡ length file))
-filled None old name piece place size count room is within room_is got = tt
-filled (Some file) old name piece place size count room is within room_is got = λ stood. stands_filled old name piece file place size count room is within room_is got stood
+filled : (o : Option (List ℕ)) (old : Standing) (name piece : List ℕ) (place size lines more count room : ℕ) → holding name [] place size lines ≡ old → count ≤ length piece → room ≡ min (size - place) 4096
+    → IfSome o (λ file. take count piece ≡ take room (drop place file)) → IfSome o (λ file. StandsIn old file → StandsIn (holding name (take (count - 0) piece) place size more) file × (ltb 0 count ≡ false → place ≡ length file))
+filled None old name piece place size lines more count room is within room_is got = tt
+filled (Some file) old name piece place size lines more count room is within room_is got = λ stood. stands_filled old name piece file place size lines more count room is within room_is got stood
 
 -- an empty reader that read a piece, where the view tells its file
-pub fill_told : (view : Option View) (old : Standing) (name held piece : List ℕ) (place size count room : ℕ) → holding name held place size ≡ old → old.held ≡ [] → count ≤ length piece → room ≡ min (size - place) 4096
+pub fill_told : (view : Option View) (old : Standing) (name held piece : List ℕ) (place size lines more count room : ℕ) → holding name held place size lines ≡ old → old.held ≡ [] → count ≤ length piece → room ≡ min (size - place) 4096
     → IfSome (bytes_in view name) (λ file. take count piece ≡ take room (drop place file))
-    → IfSome (bytes_in view old.name) (λ file. StandsIn old file → StandsIn (holding name (take (count - 0) piece) place size) file × (ltb 0 count ≡ false → place ≡ length file))
-fill_told view old name held piece place size count room is none within room_is got =
+    → IfSome (bytes_in view old.name) (λ file. StandsIn old file → StandsIn (holding name (take (count - 0) piece) place size more) file × (ltb 0 count ≡ false → place ≡ length file))
+fill_told view old name held piece place size lines more count room is none within room_is got =
     let held_is : held ≡ [] = ap (λ (s : Standing). s.held) is ∙ none in
-    let empty : holding name [] place size ≡ old = ap (λ h. holding name h place size) (sym held_is) ∙ is in
+    let empty : holding name [] place size lines ≡ old = ap (λ h. holding name h place size lines) (sym held_is) ∙ is in
     let name_is : name ≡ old.name = ap (λ (s : Standing). s.name) is in
-    filled (bytes_in view old.name) old name piece place size count room empty within room_is (subst (λ n. IfSome (bytes_in view n) (λ file. take count piece ≡ take room (drop place file))) name_is got)
+    filled (bytes_in view old.name) old name piece place size lines more count room empty within room_is (subst (λ n. IfSome (bytes_in view n) (λ file. take count piece ≡ take room (drop place file))) name_is got)
 
 -- ---- the front of what is held
 
@@ -62,25 +62,25 @@ held_behind piece start end at within =
     ∙ (drop-take (suc at) (end - (start + (at + 1))) (drop start piece)
     ∙ (ap (take (end - (start + (at + 1)))) (drop-drop (suc at) start piece) ∙ ap (λ n. take (end - (start + (at + 1))) (drop n piece)) place))
 
-held_split : (piece : List ℕ) (start end at : ℕ) → at < length (held_of piece start end) → get_or (held_of piece start end) at 0 ≡ 10
+pub held_split : (piece : List ℕ) (start end at : ℕ) → at < length (held_of piece start end) → get_or (held_of piece start end) at 0 ≡ 10
     → held_of piece start end ≡ take at (held_of piece start end) ++ 10 ∷ held_of piece (start + (at + 1)) end
 held_split piece start end at within is =
     let held = held_of piece start end in
     let rest = held_behind piece start end at within in
     sym (take-append-drop at held) ∙ ap (λ behind. take at held ++ behind) (drop-cons held at 0 within ∙ (ap (λ b. b ∷ drop (suc at) held) is ∙ ap (λ behind. 10 ∷ behind) rest))
 
-pub takes_some : (old : Standing) (name line longer piece : List ℕ) (start end place size at : ℕ) → holding name (held_of piece start end) place size ≡ old
+pub takes_some : (old : Standing) (name line longer piece : List ℕ) (start end place size lines more at : ℕ) → holding name (held_of piece start end) place size lines ≡ old
     → longer ≡ line ++ take at (held_of piece start end) → at < length (held_of piece start end) → get_or (held_of piece start end) at 0 ≡ 10 → NoLfBefore (held_of piece start end) at
-    → Takes old (holding name (held_of piece (start + (at + 1)) end) (place + (at + 1)) size) line longer true
-takes_some old name line longer piece start end place size at is items within found none =
+    → Takes old (holding name (held_of piece (start + (at + 1)) end) (place + (at + 1)) size more) line longer true
+takes_some old name line longer piece start end place size lines more at is items within found none =
     let held_is : held_of piece start end ≡ old.held = ap (λ (s : Standing). s.held) is in
     let place_is : place ≡ old.place = ap (λ (s : Standing). s.place) is in
     (take at (held_of piece start end), (items, no_lf_front at (held_of piece start end) none within, sym held_is ∙ held_split piece start end at within found, omega (arith, length-take at (held_of piece start end))))
 
-pub takes_none : (old : Standing) (name line longer piece : List ℕ) (start end place size : ℕ) → holding name (held_of piece start end) place size ≡ old
+pub takes_none : (old : Standing) (name line longer piece : List ℕ) (start end place size lines more : ℕ) → holding name (held_of piece start end) place size lines ≡ old
     → longer ≡ line ++ held_of piece start end → NoLfBefore (held_of piece start end) (length (held_of piece start end))
-    → Takes old (holding name (held_of piece end end) (place + length (held_of piece start end)) size) line longer false
-takes_none old name line longer piece start end place size is items none =
+    → Takes old (holding name (held_of piece end end) (place + length (held_of piece start end)) size more) line longer false
+takes_none old name line longer piece start end place size lines more is items none =
     let held_is : held_of piece start end ≡ old.held = ap (λ (s : Standing). s.held) is in
     let place_is : place ≡ old.place = ap (λ (s : Standing). s.place) is in
     let zero_is : end - end ≡ 0 = omega arith in
@@ -88,21 +88,21 @@ takes_none old name line longer piece start end place size is items none =
 
 -- ---- what is passed over
 
-held_within : (old : Standing) (name piece : List ℕ) (start end place size count : ℕ) → holding name (held_of piece start end) place size ≡ old → count ≤ length old.held → count ≤ end - start
-held_within old name piece start end place size count is fits =
+held_within : (old : Standing) (name piece : List ℕ) (start end place size lines count : ℕ) → holding name (held_of piece start end) place size lines ≡ old → count ≤ length old.held → count ≤ end - start
+held_within old name piece start end place size lines count is fits =
     let long : length (held_of piece start end) ≡ length old.held = ap (λ (s : Standing). length s.held) is in omega (arith, length-take (end - start) (drop start piece))
 
-pub held_past : (old : Standing) (name piece : List ℕ) (start end place size count : ℕ) → holding name (held_of piece start end) place size ≡ old → count ≤ length old.held → held_of piece (start + count) end ≡ drop count old.held
-held_past old name piece start end place size count is fits =
-    let within = held_within old name piece start end place size count is fits in
+pub held_past : (old : Standing) (name piece : List ℕ) (start end place size lines count : ℕ) → holding name (held_of piece start end) place size lines ≡ old → count ≤ length old.held → held_of piece (start + count) end ≡ drop count old.held
+held_past old name piece start end place size lines count is fits =
+    let within = held_within old name piece start end place size lines count is fits in
     let room : end - start ≡ count + (end - (start + count)) = omega arith in
     sym (ap (λ (s : Standing). drop count s.held) (sym is)
     ∙ (ap (λ n. drop count (take n (drop start piece))) room
     ∙ (drop-take count (end - (start + count)) (drop start piece) ∙ ap (take (end - (start + count))) (drop-drop count start piece))))
 
-pub passed_over : (old : Standing) (name piece : List ℕ) (start end place size count : ℕ) → holding name (held_of piece start end) place size ≡ old → count ≤ length old.held → take (start + count - start) (drop start piece) ≡ take count old.held
-passed_over old name piece start end place size count is fits =
-    let within = held_within old name piece start end place size count is fits in
+pub passed_over : (old : Standing) (name piece : List ℕ) (start end place size lines count : ℕ) → holding name (held_of piece start end) place size lines ≡ old → count ≤ length old.held → take (start + count - start) (drop start piece) ≡ take count old.held
+passed_over old name piece start end place size lines count is fits =
+    let within = held_within old name piece start end place size lines count is fits in
     let many : start + count - start ≡ count = omega arith in
     ap (λ n. take n (drop start piece)) many ∙ (sym (take-take count (end - start) (drop start piece) within) ∙ ap (λ (s : Standing). take count s.held) is)
 
@@ -219,6 +219,25 @@ later_place now gone line longer start new here takes is =
 pub past_place : (now new : Standing) (line longer : List ℕ) (start : ℕ) → now.place ≡ start + length line → Takes now new line longer true → new.place ≡ start + length longer + 1
 past_place now new line longer start here takes =
     let long : length longer ≡ length line + length takes.0 = ap length takes.1.0 ∙ length-append line takes.0 in omega (arith, takes.1.3)
+
+-- ---- a line that is held whole
+
+held_line_takes : (old new : Standing) (line : List ℕ) (count : ℕ) → HasNoLf line → length line ≡ count → take (count + 1) old.held ≡ line ++ 10 ∷ [] → new.held ≡ drop (count + 1) old.held → new.place ≡ old.place + (count + 1) → Takes old new [] line true
+held_line_takes old new line count none long front held_is place_is =
+    let rest : line ++ 10 ∷ drop (count + 1) old.held ≡ line ++ 10 ∷ new.held = ap (λ h. line ++ 10 ∷ h) (sym held_is) in
+    let held : old.held ≡ line ++ 10 ∷ new.held = sym (take-append-drop (count + 1) old.held) ∙ (ap (λ f. f ++ drop (count + 1) old.held) front ∙ (append_assoc line (10 ∷ []) (drop (count + 1) old.held) ∙ rest)) in
+    (line, (refl, none, held, omega arith))
+
+pub held_line_taken : (o : Option (List ℕ)) (old new : Standing) (line : List ℕ) (count : ℕ) → HasNoLf line → length line ≡ count → take (count + 1) old.held ≡ line ++ 10 ∷ []
+    → new.size ≡ old.size → new.held ≡ drop (count + 1) old.held → new.place ≡ old.place + (count + 1) → TakesLine o old new line true
+held_line_taken o old new line count none long front size_is held_is place_is =
+    line_taken o old old new [] line (going_start o old) (All-nil (λ b. b ≢ 10)) size_is (held_line_takes old new line count none long front held_is place_is)
+
+-- what is held behind a line and its LF
+pub held_past_line : (old : Standing) (name piece : List ℕ) (start end place size lines count : ℕ) → holding name (held_of piece start end) place size lines ≡ old → count < length old.held → held_of piece (start + count + 1) end ≡ drop (count + 1) old.held
+held_past_line old name piece start end place size lines count is fits =
+    let from : start + count + 1 ≡ start + (count + 1) = omega arith in
+    ap (λ n. held_of piece n end) from ∙ held_past old name piece start end place size lines (count + 1) is (omega arith)
 
 -- ---- the sums
 

@@ -221,6 +221,15 @@ pub run_to : (bytes : List ℕ) (end at : ℕ) → end ≤ length bytes → begi
 run_to bytes end at fits first none below is =
     run_front bytes at (omega arith) first (λ k low. none k (omega arith)) (sym (get_or-take end bytes at 0 below) ∙ is)
 
+-- up to a mark all lines are whole, and behind them stands SOH
+pub run_to_mark : (bytes : List ℕ) (end : ℕ) → end < length bytes → begins 1 bytes ≡ false → HasNoMark bytes end → IsMark bytes end → IsRun (take end bytes)
+run_to_mark bytes end short bare first mark =
+    let last : end - 1 + 1 ≡ end = omega (arith, mark.0) in
+    subst (λ n. IsRun (take n bytes)) last (run_front bytes (end - 1) (omega (arith, mark.0)) bare (subst (λ n. HasNoMark bytes n) (sym last) first) mark.1)
+
+pub mark_stops : (bytes : List ℕ) (end : ℕ) → end < length bytes → IsMark bytes end → HasNoRun (drop end bytes)
+mark_stops bytes end short mark = inl (soh_first bytes end short mark.2)
+
 no_lf_behind : (bytes : List ℕ) (n : ℕ) → ((k : ℕ) → n ≤ k → k < length bytes → get_or bytes k 0 ≢ 10) → HasNoLf (drop n bytes)
 no_lf_behind bytes n none = no_lf_all (drop n bytes) (λ k below is. none (n + k) (omega arith) (omega (arith, length-drop n bytes)) (sym (get_or-drop n bytes k 0) ∙ is))
 

@@ -90,6 +90,18 @@ abbrev pub Reads : Option (List ℕ) → Standing → Standing → Reading → �
 Reads None old new r n result = Unit {0}
 Reads (Some file) old new r n result = StandsIn old file → ReadsLines file old new r n result
 
+-- what is read with a line more, or the line at fault; want of memory may come in place of either
+abbrev pub AnswersLine : Result Reading ℕ → Result Reading FileFault → Type 0
+AnswersLine read (Ok more) = read ≡ Ok more
+AnswersLine read (Err (BadFormat k)) = read ≡ Err k
+AnswersLine read (Err Memory) = Unit {0}
+AnswersLine read (Err _) = ⊥
+
+-- a call that read on in place, as what it read
+abbrev pub read_as : Reading → Result (Unit {0}) FileFault → Result Reading FileFault
+read_as new (Ok done) = Ok new
+read_as new (Err fault) = Err fault
+
 -- one line more
 abbrev pub HearsLine : List ℕ → Standing → Standing → ℕ → Reading → Result Reading FileFault → Type 0
 HearsLine file old new n r (Ok s) =

@@ -3,12 +3,14 @@ use Rattle.std.specs.Prelude.{◌≡◌, ℕ, ◌+◌, ◌≤◌, Bool, true, fa
 use Rattle.sccs_base.specs.Cut.{Cut, HasNoLf, cut}
 use Rattle.sccs_disk.specs.Files.{Content, View}
 
--- The bytes that were read and not given yet, the place of the first of them, and the file's name and size.
+-- The bytes that were read and not given yet, the place of the first of them, the file's name and size, and how many lines
+-- ended before that place since the reader began.
 pub record Standing : Type 0 where
   pub name : List ℕ
   pub held : List ℕ
   pub place : ℕ
   pub size : ℕ
+  pub lines : ℕ
 
 -- the bytes of the file of that name, where it is there
 abbrev pub file_in : View → List ℕ → Option (List ℕ)

@@ -1,11 +1,11 @@
-ghost use Rattle.std.specs.Prelude.{◌≡◌, ℕ, List, Ok, ◌||◌, ◌==◌, ◌<◌, ◌≤◌, ◌+◌, length, IfOk, IfSome, Err};
+ghost use Rattle.std.specs.Prelude.{◌≡◌, ℕ, List, Ok, ◌||◌, ◌==◌, ◌<◌, ◌≤◌, ◌+◌, length, IfOk, IfSome, OnOk, Err};
 ghost use Rattle.sccs_base.specs.Cut.{HasNoLf};
 ghost use Rattle.sccs_base.specs.Stream.{Rose};
 ghost use Rattle.sccs_disk.specs.Told.{seen};
 ghost use Rattle.sccs_grammar.specs.File.{checked_front, front_of, stored};
 ghost use Rattle.sccs_history.specs.History.{IsHeader, IsSpelled, KeepsRules, is_encoded, is_one};
 ghost use Rattle.sccs_grammar.specs.Front.{header_of, is_whole, line_after, start};
-ghost use Rattle.sccs_table.specs.FrontFile.{AnswersFront, IsPlaced, HearsNext, Opens, Reads, SumLine};
+ghost use Rattle.sccs_table.specs.FrontFile.{AnswersFront, AnswersLine, IsPlaced, HearsNext, Opens, Reads, SumLine, read_as};
 ghost use Rattle.sccs_table.specs.Standing.{bytes_in, file_in};
 
 use crate::line_readers::{LineFault, LineReader};
@@ -56,41 +56,81 @@ fn is_whole(reading: &Reading) -> bool
     }
 }
 
-// what is read with the next line of that number
-fn next_reading<D: Disk>(
+// reads on with a line of that number
+fn with_line(
+    alloc: Global,
+    number: u64,
+    reading: &mut Reading,
+    line: &[u8],
+) -> Result<(), FileFault>
+    requires { HasNoLf line.now }
+    ensures { AnswersLine (line_after number reading.old line.now) (read_as reading.new result) }
+{
+    let said = match read_line(alloc, line) {
+        Ok(Some(said)) => said,
+        Ok(None) => return Err(FileFault::BadFormat(number)),
+        Err(_) => return Err(FileFault::Memory),
+    };
+    match hear(alloc, number, reading, said) {
+        Ok(()) => Ok(()),
+        Err(FrontFault::Format(line)) => Err(FileFault::BadFormat(line)),
+        Err(FrontFault::Memory) => Err(FileFault::Memory),
+    }
+}
+
+// reads on with the next line of that number, which may not be held whole
+#[inline(never)]
+fn across_pieces<D: Disk>(
     alloc: Global,
     disk: &mut D,
     reader: &mut LineReader,
     number: u64,
-    reading: Reading,
-) -> Result<Reading, FileFault>
+    reading: &mut Reading,
+) -> Result<(), FileFault>
     ensures same { D.told disk.new ≡ D.told disk.old }
     ensures later { D.faults disk.old ≤ D.faults disk.new }
     ensures cause { result ≡ Err FileFault.Failed → Rose (D.faults disk.old) (D.faults disk.new) }
     ensures name { reader.new.name ≡ reader.old.name }
     ensures size { reader.new.size ≡ reader.old.size }
     ensures ahead { reader.new.place + length reader.new.held ≤ reader.new.size }
-    ensures further { IfOk result (λ _. reader.old.place < reader.new.place) }
-    ensures heard { IfOk result (λ more. (line : List ℕ) × HasNoLf line × (line_after number reading line ≡ Ok more)) }
-    ensures told { HearsNext (bytes_in (seen (D.told disk.old)) reader.old.name) reader.old reader.new number reading result }
+    ensures further { OnOk result (reader.old.place < reader.new.place) }
+    ensures heard { OnOk result ((line : List ℕ) × HasNoLf line × (line_after number reading.old line ≡ Ok reading.new)) }
+    ensures told { HearsNext (bytes_in (seen (D.told disk.old)) reader.old.name) reader.old reader.new number reading.old (read_as reading.new result) }
 {
     let mut line = Vec::new(alloc);
     match reader.next_line(disk, &mut line) {
-        Ok(true) => {}
-        Ok(false) => return Err(FileFault::BadFormat(number)),
-        Err(LineFault::Failed) => return Err(FileFault::Failed),
-        Err(LineFault::Memory) => return Err(FileFault::Memory),
+        Ok(true) => with_line(alloc, number, reading, line.as_slice()),
+        Ok(false) => Err(FileFault::BadFormat(number)),
+        Err(LineFault::Failed) => Err(FileFault::Failed),
+        Err(LineFault::Memory) => Err(FileFault::Memory),
     }
-    let said = match read_line(alloc, line.as_slice()) {
-        Ok(Some(said)) => said,
-        Ok(None) => return Err(FileFault::BadFormat(number)),
-        Err(_) => return Err(FileFault::Memory),
+}
+
+// reads on with the next line of that number
+fn next_reading<D: Disk>(
+    alloc: Global,
+    disk: &mut D,
+    reader: &mut LineReader,
+    number: u64,
+    reading: &mut Reading,
+) -> Result<(), FileFault>
+    ensures same { D.told disk.new ≡ D.told disk.old }
+    ensures later { D.faults disk.old ≤ D.faults disk.new }
+    ensures cause { result ≡ Err FileFault.Failed → Rose (D.faults disk.old) (D.faults disk.new) }
+    ensures name { reader.new.name ≡ reader.old.name }
+    ensures size { reader.new.size ≡ reader.old.size }
+    ensures ahead { reader.new.place + length reader.new.held ≤ reader.new.size }
+    ensures further { OnOk result (reader.old.place < reader.new.place) }
+    ensures heard { OnOk result ((line : List ℕ) × HasNoLf line × (line_after number reading.old line ≡ Ok reading.new)) }
+    ensures told { HearsNext (bytes_in (seen (D.told disk.old)) reader.old.name) reader.old reader.new number reading.old (read_as reading.new result) }
+{
+    let Some(line) = reader.held_line() else {
+        return across_pieces(alloc, disk, reader, number, reading);
     };
-    match hear(number, reading, said) {
-        Ok(reading) => Ok(reading),
-        Err(FrontFault::Format(line)) => Err(FileFault::BadFormat(line)),
-        Err(FrontFault::Memory) => Err(FileFault::Memory),
-    }
+    let count = line.len();
+    let read = with_line(alloc, number, reading, line);
+    reader.pass_line(count);
+    read
 }
 
 // the header that was read
@@ -133,10 +173,10 @@ pub fn read_lines<D: Disk>(
     let mut number = 2;
     let mut reading = Reading::new(alloc);
     'lines: loop {
-        reading = match next_reading(alloc, disk, reader, number, reading) {
-            Ok(reading) => reading,
+        match next_reading(alloc, disk, reader, number, &mut reading) {
+            Ok(()) => {}
             Err(fault) => return Err(fault),
-        };
+        }
         number += 1;
         if is_whole(&reading) {
             return Ok((header_of(reading), number));
@@ -144,8 +184,9 @@ pub fn read_lines<D: Disk>(
     }
 }
 
-// the length of a file that is there and within the limit
-fn open_file<D: Disk>(disk: &mut D, name: &Name) -> Result<u64, FileFault>
+/// The length of a file that is there and within the limit of 1,073,741,824 bytes; else `Missing` or
+/// `TooLong`.
+pub fn open_file<D: Disk>(disk: &mut D, name: &Name) -> Result<u64, FileFault>
     ensures same { D.told disk.new ≡ D.told disk.old }
     ensures later { D.faults disk.old ≤ D.faults disk.new }
     ensures cause { result ≡ Err FileFault.Failed → Rose (D.faults disk.old) (D.faults disk.new) }
@@ -165,8 +206,13 @@ fn open_file<D: Disk>(disk: &mut D, name: &Name) -> Result<u64, FileFault>
     }
 }
 
-// the stored sum of a file at whose front a reader stands
-fn read_sum<D: Disk>(alloc: Global, disk: &mut D, reader: &mut LineReader) -> Result<u32, FileFault>
+/// The stored sum of a file at whose front a reader stands, which then stands behind the sum line;
+/// `NotSccs` where that isn't the first line.
+pub fn read_sum<D: Disk>(
+    alloc: Global,
+    disk: &mut D,
+    reader: &mut LineReader,
+) -> Result<u32, FileFault>
     requires { reader.old.place ≡ 0 }
     ensures same { D.told disk.new ≡ D.told disk.old }
     ensures later { D.faults disk.old ≤ D.faults disk.new }
@@ -189,8 +235,8 @@ fn read_sum<D: Disk>(alloc: Global, disk: &mut D, reader: &mut LineReader) -> Re
     }
 }
 
-// whether a stored sum is the plain or the signed one
-fn sum_fits(stored: u32, sum: &Sum) -> bool
+/// Whether a stored sum is the plain or the signed one.
+pub fn sum_fits(stored: u32, sum: &Sum) -> bool
     ensures { result ≡ ((stored == sum.now.0) || (stored == sum.now.1)) }
 {
     stored == u32::from(sum.plain()) || stored == u32::from(sum.signed())

@@ -7,8 +7,10 @@ mod sums;
 #[cfg(test)]
 mod tests;
 
-pub use fronts::{Front, check_front, is_encoded, read_header};
+pub use fronts::{
+    Front, check_front, is_encoded, open_file, read_header, read_lines, read_sum, sum_fits,
+};
 pub use line_readers::{LineFault, LineReader};
 pub use sccs_grammar::FileFault;
 pub use sccs_history::{Flag, Flags, Header, Record, Records, Serials};
-pub use sums::Sum;
+pub use sums::{PlainSum, Sum};

@@ -1,4 +1,4 @@
-ghost use Rattle.std.specs.Prelude.{◌≡◌, ℕ, List, ◌++◌, ◌<◌, ◌≤◌, ◌+◌, [], true, false, length, take, drop, IfOk, IfSome, OnOk, OnErr, IsErrOf};
+ghost use Rattle.std.specs.Prelude.{◌≡◌, ℕ, List, ◌++◌, ◌<◌, ◌≤◌, ◌+◌, [], ◌∷◌, true, false, if◌then◌else◌, Option, None, length, take, drop, IfOk, IfSome, OnOk, OnErr, IsErrOf};
 ghost use Rattle.sccs_base.specs.Cut.{HasNoLf, cut};
 ghost use Rattle.sccs_base.specs.Stream.{Rose};
 ghost use Rattle.sccs_disk.specs.Told.{seen};
@@ -22,7 +22,8 @@ pub enum LineFault {
 }
 
 /// Takes the lines of a file in pieces of 4,096 bytes. Contracts see the bytes that were read and
-/// not given yet, the place of the first of them, and the file's name and size.
+/// not given yet, the place of the first of them, the file's name and size, and how many lines
+/// ended before that place since the reader began.
 #[derive(Drop)]
 pub struct LineReader {
     name: Name,
@@ -31,6 +32,8 @@ pub struct LineReader {
     end: usize,
     place: u64,
     size: u64,
+    // how many lines ended before the piece
+    lines: u64,
 }
 
 impl Model for LineReader {
@@ -129,10 +132,24 @@ fn run_length(bytes: &[u8]) -> usize
         return 0;
     }
     let end = mark_place(bytes);
+    if end < bytes.len() {
+        return end;
+    }
     match memrchr(b'\n', &bytes[..end]) {
         Some(at) => at + 1,
         None => 0,
     }
+}
+
+// the bytes before the first LF
+fn first_line(bytes: &[u8]) -> Option<&[u8]>
+    ensures line { IfSome result (λ line. HasNoLf line.now) }
+    ensures front { IfSome result (λ line. take (length line.now + 1) bytes.now ≡ line.now ++ 10 ∷ []) }
+    ensures fits { IfSome result (λ line. length line.now < length bytes.now) }
+    ensures none { result ≡ None → HasNoLf bytes.now }
+{
+    let at = memchr(b'\n', bytes)?;
+    Some(&bytes[..at])
 }
 
 impl LineReader {
@@ -140,7 +157,7 @@ impl LineReader {
     pub fn new(name: &Name, place: u64, size: u64) -> LineReader
         requires low { place ≤ size }
         requires high { size ≤ 1073741824 }
-        ensures { result ≡ record { name = name.now; held = []; place = place; size = size } }
+        ensures { result ≡ record { name = name.now; held = []; place = place; size = size; lines = 0 } }
     {
         LineReader {
             name: *name,
@@ -149,6 +166,7 @@ impl LineReader {
             end: 0,
             place,
             size,
+            lines: 0,
         }
     }
 
@@ -173,9 +191,11 @@ impl LineReader {
         ensures more { IfOk result (λ more. more ≡ true → 0 < length self.new.held) }
         ensures told { IfOk result (λ more. IfSome (bytes_in (seen (D.told disk.old)) self.old.name)
             (λ file. StandsIn self.old file → StandsIn self.new file × (more ≡ false → self.new.place ≡ length file))) }
+        ensures lines { self.new.lines ≡ self.old.lines }
         ensures ahead { self.new.place + length self.new.held ≤ self.new.size }
         ensures limit { self.new.size ≤ 1073741824 }
     {
+        self.lines += lines_in(&self.piece[..self.start]);
         self.start = 0;
         self.end = 0;
         let room = (self.size - self.place).min(4096) as usize;
@@ -192,6 +212,8 @@ impl LineReader {
         ensures onward { self.old.place ≤ self.new.place }
         ensures ahead { self.new.place + length self.new.held ≤ self.new.size }
         ensures limit { self.new.size ≤ 1073741824 }
+        ensures counted { IfOk result (λ ended. self.new.lines ≡ self.old.lines + (if ended then 1 else 0)) }
+        ensures bytes { self.new.lines + self.old.place ≤ self.old.lines + self.new.place }
     {
         let held = &self.piece[self.start..self.end];
         match memchr(b'\n', held) {
@@ -229,6 +251,8 @@ impl LineReader {
         ensures limit { self.new.size ≤ 1073741824 }
         ensures onward { self.old.place ≤ self.new.place }
         ensures moved { IfOk result (λ ended. ended ≡ true → self.new.place ≡ self.old.place + length line.new.items + 1) }
+        ensures counted { IfOk result (λ ended. self.new.lines ≡ self.old.lines + (if ended then 1 else 0)) }
+        ensures bytes { self.new.lines + self.old.place ≤ self.old.lines + self.new.place }
     {
         let _ = &self.size;
         'pieces: loop {
@@ -245,6 +269,42 @@ impl LineReader {
         }
     }
 
+    /// The bytes that were read and not given yet.
+    pub fn held(&self) -> &[u8]
+        ensures { result.now ≡ self.now.held }
+    {
+        &self.piece[self.start..self.end]
+    }
+
+    /// The next line without its LF, where it is held whole; None where no LF is held.
+    pub fn held_line(&self) -> Option<&[u8]>
+        ensures line { IfSome result (λ line. HasNoLf line.now) }
+        ensures front { IfSome result (λ line. take (length line.now + 1) self.now.held ≡ line.now ++ 10 ∷ []) }
+        ensures fits { IfSome result (λ line. length line.now < length self.now.held) }
+        ensures none { result ≡ None → HasNoLf self.now.held }
+    {
+        let held = &self.piece[self.start..self.end];
+        first_line(held)
+    }
+
+    /// Passes over a line of that length which is held whole, and its LF.
+    pub fn pass_line(&mut self, count: usize)
+        requires { count < length self.old.held }
+        ensures name { self.new.name ≡ self.old.name }
+        ensures size { self.new.size ≡ self.old.size }
+        ensures held { self.new.held ≡ drop (count + 1) self.old.held }
+        ensures place { self.new.place ≡ self.old.place + count + 1 }
+        ensures ahead { self.new.place + length self.new.held ≤ self.new.size }
+        ensures limit { self.new.size ≤ 1073741824 }
+        ensures told { (o : Option (List ℕ)) (line : List ℕ) → HasNoLf line → length line ≡ count
+            → take (count + 1) self.old.held ≡ line ++ 10 ∷ [] → TakesLine o self.old self.new line true }
+        ensures counted { (line : List ℕ) → HasNoLf line → take (count + 1) self.old.held ≡ line ++ 10 ∷ [] → self.new.lines ≡ self.old.lines + 1 }
+    {
+        let end = self.start + count;
+        self.start = end + 1;
+        self.place += count as u64 + 1;
+    }
+
     /// The text lines that are held whole, each with its LF, up to a line that begins with SOH.
     pub fn texts(&self) -> &[u8]
         ensures fits { length result.now ≤ length self.now.held }
@@ -256,8 +316,8 @@ impl LineReader {
         &held[..run_length(held)]
     }
 
-    /// Passes over so many of the held bytes, and answers how many lines end in them.
-    pub fn pass(&mut self, count: usize) -> u64
+    /// Passes over so many of the held bytes.
+    pub fn pass(&mut self, count: usize)
         requires { count ≤ length self.old.held }
         ensures name { self.new.name ≡ self.old.name }
         ensures size { self.new.size ≡ self.old.size }
@@ -265,14 +325,20 @@ impl LineReader {
         ensures place { self.new.place ≡ self.old.place + count }
         ensures ahead { self.new.place + length self.new.held ≤ self.new.size }
         ensures limit { self.new.size ≤ 1073741824 }
-        ensures lines { result ≡ length (cut (take count self.old.held)).lines }
-        ensures bound { result ≤ count }
+        ensures lines { self.new.lines ≡ self.old.lines + length (cut (take count self.old.held)).lines }
+        ensures bound { self.new.lines ≤ self.old.lines + count }
     {
-        let passed = &self.piece[self.start..self.start + count];
-        let lines = lines_in(passed);
         self.start += count;
         self.place += count as u64;
-        lines
+    }
+
+    /// How many lines ended before the place since the reader began.
+    pub fn lines(&self) -> u64
+        ensures value { result ≡ self.now.lines }
+        ensures bound { result ≤ self.now.place }
+        ensures limit { self.now.place ≤ 1073741824 }
+    {
+        self.lines + lines_in(&self.piece[..self.start])
     }
 
     // adds the held bytes to the sums, and holds none

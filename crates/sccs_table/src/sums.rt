@@ -1,6 +1,6 @@
 ghost use Rattle.std.specs.Prelude.{◌≡◌, ℕ, ◌+◌, ◌%◌, List, [], ◌++◌, sum, sum_by};
 ghost use Rattle.sccs_grammar.specs.Sums.{signed_weight};
-ghost use Rattle.sccs_table.specs.SumOf.{IsSumOf};
+ghost use Rattle.sccs_table.specs.SumOf.{IsPlainSumOf, IsSumOf};
 
 use std::marker::Model;
 
@@ -22,6 +22,13 @@ impl Model for Sum {
     ghost inverse = { λ p. record { plain = p.0; signed = p.1 } };
 }
 
+// what a byte counts in the signed sum; without a branch, so that many bytes are added at once
+fn signed_weight(byte: u8) -> u16
+    ensures { result ≡ signed_weight byte }
+{
+    u16::from(byte.wrapping_add(128)).wrapping_sub(128)
+}
+
 // both sums after more bytes
 fn sums_after(plain: u16, signed: u16, bytes: &[u8]) -> (u16, u16)
     ensures plain { result.0 ≡ (plain + sum bytes.now) % 65536 }
@@ -30,13 +37,8 @@ fn sums_after(plain: u16, signed: u16, bytes: &[u8]) -> (u16, u16)
     let mut plain = plain;
     let mut signed = signed;
     for byte in bytes {
-        let weight = if *byte < 128 {
-            u16::from(*byte)
-        } else {
-            u16::from(*byte) + 65280
-        };
         plain = plain.wrapping_add(u16::from(*byte));
-        signed = signed.wrapping_add(weight);
+        signed = signed.wrapping_add(signed_weight(*byte));
     }
     (plain, signed)
 }
@@ -71,5 +73,61 @@ impl Sum {
         ensures { result ≡ self.now.1 }
     {
         self.signed
+    }
+}
+
+/// The plain sum alone, which takes half the time of both. Contracts see its number.
+#[derive(Clone, Copy, Debug, PartialEq, Eq)]
+pub struct PlainSum {
+    value: u16,
+}
+
+impl Model for PlainSum {
+    ghost use Rattle.std.specs.Prelude.{ℕ};
+
+    ghost Value = { ℕ };
+
+    ghost view = { λ s. s.value };
+
+    ghost inverse = { λ n. record { value = n } };
+}
+
+// the plain sum after more bytes
+fn plain_after(plain: u16, bytes: &[u8]) -> u16
+    ensures { result ≡ (plain + sum bytes.now) % 65536 }
+{
+    let mut plain = plain;
+    for byte in bytes {
+        plain = plain.wrapping_add(u16::from(*byte));
+    }
+    plain
+}
+
+impl PlainSum {
+    /// The sum of no bytes.
+    pub fn new() -> PlainSum
+        ensures { IsPlainSumOf result [] }
+    {
+        PlainSum { value: 0 }
+    }
+
+    /// Adds bytes.
+    pub fn add(&mut self, bytes: &[u8])
+        ensures { (front : List ℕ) → IsPlainSumOf self.old front → IsPlainSumOf self.new (front ++ bytes.now) }
+    {
+        self.value = plain_after(self.value, bytes);
+    }
+
+    /// Adds the bytes of another sum behind these.
+    pub fn join(&mut self, behind: &Sum)
+        ensures { (front rest : List ℕ) → IsPlainSumOf self.old front → IsSumOf behind.now rest → IsPlainSumOf self.new (front ++ rest) }
+    {
+        self.value = self.value.wrapping_add(behind.plain);
+    }
+
+    pub fn value(&self) -> u16
+        ensures { result ≡ self.now }
+    {
+        self.value
     }
 }

@@ -16,17 +16,17 @@ returns-then-is_whole-clause-told g c =
     let here = bytes_in (seen (g.D.Disk.told c.lines.disk)) c.lines.reader.name in
     let file_is = same_file _ _ _ _ (ap seen c.lines.invariant.same) c.lines.invariant.name in
     subst (λ header. Reads begun c.args.reader.now c.next_reading.new.reader start 2 (Ok (header, c.lines.number + 1))) (sym c.header_of.ensures)
-    (lines_done begun here c.args.reader.now c.lines.reader c.next_reading.new.reader start c.lines.reading c.in-Ok.reading 2 c.lines.number file_is c.lines.invariant.goes c.in-Ok.ensures.told (sym c.is_whole.ensures ∙ c.if-is_whole.true))
+    (lines_done begun here c.args.reader.now c.lines.reader c.next_reading.new.reader start c.lines.reading c.next_reading.new.reading 2 c.lines.number file_is c.lines.invariant.goes c.in-Ok.ensures.told (sym c.is_whole.ensures ∙ c.if-is_whole.true))
 
 pub returns-then-is_whole-clause-rules : goal.returns-then-is_whole-clause-rules
 returns-then-is_whole-clause-rules g c =
-    let kept = line_keeps c.lines.number c.lines.reading c.in-Ok.reading c.in-Ok.ensures.heard.0 c.in-Ok.ensures.heard.2 c.lines.invariant.kept in
-    subst KeepsRules (sym c.header_of.ensures) (whole_keeps c.in-Ok.reading (sym c.is_whole.ensures ∙ c.if-is_whole.true) kept)
+    let kept = line_keeps c.lines.number c.lines.reading c.next_reading.new.reading c.in-Ok.ensures.heard.0 c.in-Ok.ensures.heard.2 c.lines.invariant.kept in
+    subst KeepsRules (sym c.header_of.ensures) (whole_keeps c.next_reading.new.reading (sym c.is_whole.ensures ∙ c.if-is_whole.true) kept)
 
 pub returns-then-is_whole-clause-spelled : goal.returns-then-is_whole-clause-spelled
 returns-then-is_whole-clause-spelled g c =
-    let spelled = line_spelled c.lines.number c.lines.reading c.in-Ok.reading c.in-Ok.ensures.heard.0 c.in-Ok.ensures.heard.1 c.in-Ok.ensures.heard.2 c.lines.invariant.spelled in
-    subst IsSpelled (sym c.header_of.ensures) (whole_spelled c.in-Ok.reading spelled)
+    let spelled = line_spelled c.lines.number c.lines.reading c.next_reading.new.reading c.in-Ok.ensures.heard.0 c.in-Ok.ensures.heard.1 c.in-Ok.ensures.heard.2 c.lines.invariant.spelled in
+    subst IsSpelled (sym c.header_of.ensures) (whole_spelled c.next_reading.new.reading spelled)
 
 pub lines-preserved : goal.lines-preserved
 lines-preserved g c =
@@ -40,7 +40,7 @@ lines-preserved g c =
       size = search rules;
       ahead = omega (arith, c.in-Ok.ensures.further);
       within = omega (arith, c.in-Ok.ensures.further);
-      kept = line_keeps c.lines.number c.lines.reading c.in-Ok.reading c.in-Ok.ensures.heard.0 c.in-Ok.ensures.heard.2 c.lines.invariant.kept;
-      spelled = line_spelled c.lines.number c.lines.reading c.in-Ok.reading c.in-Ok.ensures.heard.0 c.in-Ok.ensures.heard.1 c.in-Ok.ensures.heard.2 c.lines.invariant.spelled;
-      goes = lines_on begun here c.args.reader.now c.lines.reader c.next_reading.new.reader start c.lines.reading c.in-Ok.reading 2 c.lines.number file_is c.lines.invariant.goes c.in-Ok.ensures.told (sym c.is_whole.ensures ∙ c.if-is_whole.false);
+      kept = line_keeps c.lines.number c.lines.reading c.next_reading.new.reading c.in-Ok.ensures.heard.0 c.in-Ok.ensures.heard.2 c.lines.invariant.kept;
+      spelled = line_spelled c.lines.number c.lines.reading c.next_reading.new.reading c.in-Ok.ensures.heard.0 c.in-Ok.ensures.heard.1 c.in-Ok.ensures.heard.2 c.lines.invariant.spelled;
+      goes = lines_on begun here c.args.reader.now c.lines.reader c.next_reading.new.reader start c.lines.reading c.next_reading.new.reading 2 c.lines.number file_is c.lines.invariant.goes c.in-Ok.ensures.told (sym c.is_whole.ensures ∙ c.if-is_whole.false);
     }

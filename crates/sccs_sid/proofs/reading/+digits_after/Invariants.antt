@@ -1,4 +1,0 @@
-use Rattle.sccs_sid.proofs.reading.+digits_after.Given as goal
-
-abbrev pub decreases-digits_after : goal.decreases-digits_after
-decreases-digits_after l = l.most
