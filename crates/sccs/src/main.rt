@@ -100,14 +100,6 @@ fn place_of(rt: &impl Env, alloc: Global) -> Result<Line, End> {
     }
 }
 
-// the answer, or a write fault where the run ended well and its last bytes couldn't be written
-fn written(answer: Answer, out: &mut StdSink) -> Answer {
-    match (answer, out.flush()) {
-        (Answer::Finished { .. }, Err(_)) => Answer::WriteFault,
-        (answer, _) => answer,
-    }
-}
-
 fn serve(rt: HostRuntime) -> Result<Answer, End> {
     let alloc = rt.alloc();
     let words = words_of(&rt, alloc)?;
@@ -116,15 +108,12 @@ fn serve(rt: HostRuntime) -> Result<Answer, End> {
     let place = place_of(&rt, alloc)?;
     let stamp = Stamp { moment, login };
     let mut input = StdSource::new(rt.stdin());
-    let Ok(mut out) = StdSink::new(alloc, rt.stdout()) else {
-        return Err(End::Memory);
-    };
+    let mut out = StdSink::new(rt.stdout());
     let mut err = StdErrSink::new(rt.stderr());
     let mut disk = FolderDisk::new(rt);
-    let answer = run(
+    Ok(run(
         alloc, &words, &stamp, &place, &mut input, &mut out, &mut err, &mut disk,
-    );
-    Ok(written(answer, &mut out))
+    ))
 }
 
 fn main(rt: HostRuntime) -> ExitCode {

@@ -1,15 +1,15 @@
--- How short bytes are held in an array: at its front, with zeros behind them.
+-- How short bytes are held in an array: at its start, with zeros after them.
 use Rattle.std.specs.Prelude.{◌≡◌, ℕ, ◌-◌, ◌≤◌, List, ◌++◌, length, take, drop, replicate}
 use Rattle.std.proofs.Common.{ap, sym, ◌∙◌, arith}
 use Rattle.std.proofs.lemmas.List.{take-append-drop, length-take}
 
--- The array is as long as said, and behind the first len bytes it has zeros alone.
+-- The array is as long as said, and after the first len bytes it has zeros alone.
 pub record IsHeld (room : ℕ) (bytes : List ℕ) (len : ℕ) : Type 0 where
   pub room_is : length bytes ≡ room
   pub within : len ≤ room
   pub padded : drop len bytes ≡ replicate (room - len) 0
 
--- bytes with zeros behind them, as many as there is room for
+-- bytes with zeros after them, as many as there is room for
 abbrev pub padded_to : ℕ → List ℕ → List ℕ
 padded_to room l = l ++ replicate (room - length l) 0
 

@@ -1,5 +1,5 @@
 -- How a name is held.
-use Rattle.std.specs.Prelude.{◌≡◌, ℕ, ◌-◌, ◌≤◌, List, length, take}
+use Rattle.std.specs.Prelude.{◌≡◌, ℕ, List, length, take}
 use Rattle.std.proofs.Common.{ap, ◌∙◌}
 use Rattle.sccs_base.specs.Held.{IsHeld, padded_to, held_length, held_bytes}
 use Rattle.sccs_base.specs.Name.{IsName}

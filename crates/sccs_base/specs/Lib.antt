@@ -1,3 +1,5 @@
+pub mod Causes
+pub mod Constants
 pub mod Cut
 pub mod Held
 pub mod HeldLogin

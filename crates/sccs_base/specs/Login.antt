@@ -4,16 +4,17 @@ use Rattle.std.specs.Bool.{Decides}
 use Rattle.std.specs.List.{list_all}
 use Rattle.std.proofs.Common.{refl}
 use Rattle.std.proofs.lemmas.Bool.Decides.{Decides-and, Decides-ltb, Decides-by_and, Decides-like}
+use Rattle.sccs_base.specs.Constants.{blank}
 
 -- A login: 1 to 64 bytes, each above 32.
 pub record IsLogin (bytes : List ℕ) : Type 0 where
   pub some : 0 < length bytes
   pub short : length bytes < 65
-  pub visible : All (λ b. 32 < b) bytes
+  pub visible : All (λ b. blank < b) bytes
 
 -- whether it is a login
 unfoldable pub is_login : List ℕ → Bool
-is_login bytes = nat_lt 0 (length bytes) && (nat_lt (length bytes) 65 && list_all (nat_lt 32) bytes)
+is_login bytes = nat_lt 0 (length bytes) && (nat_lt (length bytes) 65 && list_all (nat_lt blank) bytes)
 
 pub login_decides : (bytes : List ℕ) → Decides (is_login bytes) (IsLogin bytes)
 unfolding is_login
@@ -22,4 +23,4 @@ login_decides bytes =
     (λ l. (l.some, (l.short, l.visible)))
     (Decides-and _ _ (Decides-ltb 0 (length bytes))
     (Decides-and _ _ (Decides-ltb (length bytes) 65)
-    (Decides-by_and (nat_lt 32) (λ b. 32 < b) (list_all (nat_lt 32)) (Decides-ltb 32) refl (λ _ _. refl) bytes)))
+    (Decides-by_and (nat_lt blank) (λ b. blank < b) (list_all (nat_lt blank)) (Decides-ltb blank) refl (λ _ _. refl) bytes)))

@@ -1,19 +1,20 @@
 -- Names of files, and of s-files among them.
-use Rattle.std.specs.Prelude.{◌≡◌, ◌≢◌, ℕ, ◌-◌, ◌<◌, ◌≤◌, Bool, not, ◌&&◌, List, [], ◌∷◌, ◌++◌, length, take, drop, nat_lt, ◌==◌, All}
+use Rattle.std.specs.Prelude.{◌≡◌, ◌≢◌, ℕ, ◌<◌, Bool, not, ◌&&◌, List, [], ◌∷◌, length, take, drop, nat_lt, ◌==◌, All}
 use Rattle.std.specs.Bool.{Decides}
 use Rattle.std.specs.List.{list_all}
 use Rattle.std.specs.Str.{IsUtf8, is_utf8, bytes_eq}
-use Rattle.std.proofs.Common.{refl, arith}
+use Rattle.std.proofs.Common.{refl}
 use Rattle.std.proofs.lemmas.Bool.Decides.{Decides-and, Decides-not, Decides-ltb, Decides-eqb, Decides-by_and, Decides-like}
 use Rattle.std.proofs.lemmas.Slice.Eq.{bytes_eq-Decides}
 use Rattle.std.proofs.lemmas.Str.{IsUtf8-from_is_utf8, is_utf8-from_IsUtf8}
+use Rattle.sccs_base.specs.Constants.{lf}
 
 -- neither slash nor LF nor NUL
 abbrev pub IsPlain : ℕ → Type 0
-IsPlain b = (b ≢ 47) × ((b ≢ 10) × (b ≢ 0))
+IsPlain b = (b ≢ 47) × ((b ≢ lf) × (b ≢ 0))
 
 abbrev pub is_plain : ℕ → Bool
-is_plain b = not (b == 47) && (not (b == 10) && not (b == 0))
+is_plain b = not (b == 47) && (not (b == lf) && not (b == 0))
 
 -- The name of a file: 1 to 250 bytes of UTF-8 without slash, LF and NUL, and neither `.` nor `..`.
 pub record IsName (bytes : List ℕ) : Type 0 where
@@ -44,7 +45,7 @@ sibling letter name = letter ∷ drop 1 name
 
 plain_decides : (b : ℕ) → Decides (is_plain b) (IsPlain b)
 plain_decides b =
-    Decides-and _ _ (Decides-not _ (Decides-eqb b 47)) (Decides-and _ _ (Decides-not _ (Decides-eqb b 10)) (Decides-not _ (Decides-eqb b 0)))
+    Decides-and _ _ (Decides-not _ (Decides-eqb b 47)) (Decides-and _ _ (Decides-not _ (Decides-eqb b lf)) (Decides-not _ (Decides-eqb b 0)))
 
 utf8_decides : (bytes : List ℕ) → Decides (is_utf8 bytes) (IsUtf8 bytes)
 utf8_decides bytes = (IsUtf8-from_is_utf8 bytes, is_utf8-from_IsUtf8 bytes)

@@ -1,5 +1,5 @@
 -- What the streams in memory show: their bytes, their calls so far, and the calls that are to fail.
-use Rattle.std.specs.Prelude.{ℕ, ◌+◌, List, length, drop}
+use Rattle.std.specs.Prelude.{ℕ, List, drop}
 use Rattle.sccs_base.specs.declared.memory_streams.MemorySource.{MemorySource}
 use Rattle.sccs_base.specs.declared.memory_streams.MemorySink.{MemorySink}
 use Rattle.sccs_base.specs.declared.memory_streams.SteadySource.{SteadySource}

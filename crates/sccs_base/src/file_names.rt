@@ -2,6 +2,7 @@ ghost use Rattle.std.specs.Prelude.{◌≡◌, ◌<◌, ◌≤◌, ◌↔◌, Li
 ghost use Rattle.std.specs.Str.{bytes_eq};
 ghost use Rattle.sccs_base.specs.Name.{IsName, IsSfile, is_name, is_sfile_name, sibling};
 
+use crate::constants::LF;
 use crate::held::copy_front;
 use std::marker::Model;
 
@@ -37,7 +38,7 @@ fn fits(bytes: &[u8]) -> bool
         && bytes.len() < 251
         && bytes != b".".as_slice()
         && bytes != b"..".as_slice()
-        && bytes.iter().all(|b| *b != b'/' && *b != b'\n' && *b != 0)
+        && bytes.iter().all(|b| *b != b'/' && *b != LF && *b != 0)
         && std::str::from_utf8(bytes).is_ok()
 }
 

@@ -1,6 +1,6 @@
 ghost use Rattle.std.specs.Prelude.{◌≡◌, ◌≤◌, ◌⊎◌, ◌++◌, length, take, drop};
 
-// Copies as much of the front of one slice as fits into the other, and answers how much.
+// Copies as long a prefix of one slice as fits into the other, and answers how much.
 pub fn copy_front(from: &[u8], into: &mut [u8]) -> usize
     ensures bound { result ≤ length into.old }
     ensures all { (result ≡ length from.now) ⊎ (result ≡ length into.old) }

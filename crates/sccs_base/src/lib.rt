@@ -1,11 +1,13 @@
 //! Bytes, lines, names, lists, and the streams that bytes come from and go to.
 #![tactic(auto)]
 
+mod constants;
 mod file_names;
 mod held;
 mod lists;
 mod logins;
 mod memory_streams;
+mod output_buffers;
 mod pieces;
 mod standard_streams;
 mod streams;
@@ -13,14 +15,14 @@ mod streams;
 mod tests;
 mod texts;
 
+pub use constants::{BLANK, FILE_LIMIT, LF, SOH};
 pub use file_names::Name;
 pub use held::copy_front;
 pub use lists::{Bytes, ListOf, Names, Text, Words};
 pub use logins::Login;
 pub use memory_streams::{MemorySink, MemorySource, NullSink, SteadySource};
+pub use output_buffers::OutputBuffer;
 pub use pieces::{give_parts, take_all};
-pub use standard_streams::{
-    BufferedSink, ReaderSource, StdErrSink, StdSink, StdSource, WriterSink,
-};
+pub use standard_streams::{ReaderSource, StdErrSink, StdSink, StdSource, WriterSink};
 pub use streams::{Failed, MakeFault, Memory, Sink, Source, TakeFault, one_more};
-pub use texts::{Line, first_line};
+pub use texts::Line;

@@ -1,6 +1,7 @@
 ghost use Rattle.std.specs.Prelude.{◌≡◌, ◌<◌, ◌↔◌, List, is_some, IsTrue, IfSome, codes};
 ghost use Rattle.sccs_base.specs.Login.{IsLogin, is_login};
 
+use crate::constants::BLANK;
 use crate::held::copy_front;
 use std::marker::Model;
 
@@ -31,7 +32,7 @@ impl Model for Login {
 fn fits(bytes: &[u8]) -> bool
     ensures { IsTrue result ↔ IsLogin bytes.now }
 {
-    0 < bytes.len() && bytes.len() < 65 && bytes.iter().all(|b| 32 < *b)
+    0 < bytes.len() && bytes.len() < 65 && bytes.iter().all(|b| BLANK < *b)
 }
 
 // holds bytes that are a login

@@ -1,5 +1,6 @@
 ghost use Rattle.std.specs.Prelude.{◌≡◌, ℕ, ◌+◌, ◌<◌, ◌≤◌, ◌⊎◌, ◌↔◌, List, [], ◌++◌, Option, None, Some, length, take, drop, vec_len, vec_capacity, IsTrue, IsErr, IfOk, OnOk, OnErr, Contains};
-ghost use Rattle.sccs_base.specs.Stream.{Rose, TakesOk, TakesNone, GivesOk, GivesSome};
+ghost use Rattle.sccs_base.specs.Causes.{GivesText};
+ghost use Rattle.sccs_base.specs.Stream.{Rose, one_more, TakesOk, TakesNone, GivesOk, GivesSome};
 
 use crate::held::copy_front;
 use crate::streams::{Failed, Memory, Sink, Source, one_more};
@@ -30,8 +31,8 @@ impl SteadySource {
         Ok(SteadySource { bytes, at: 0 })
     }
 
-    // moves the next bytes into the front of a slice that isn't empty
-    fn move_front(&mut self, into: &mut [u8]) -> usize
+    // moves the next bytes to the start of a slice that isn't empty
+    fn move_next(&mut self, into: &mut [u8]) -> usize
         requires { 0 < length into.old }
         ensures bound { result ≤ length into.old }
         ensures moved { TakesOk (Some (steady_left self.old)) (Some (steady_left self.new)) into.old into.new result }
@@ -50,7 +51,7 @@ impl Source for SteadySource {
     ghost faults = { λ _. 0 };
 
     fn take(&mut self, into: &mut [u8]) -> Result<usize, Failed> {
-        Ok(self.move_front(into))
+        Ok(self.move_next(into))
     }
 }
 
@@ -70,6 +71,7 @@ impl MemorySource {
         ensures left { IfOk result (λ s. source_left s ≡ bytes.now) }
         ensures plan { IfOk result (λ s. source_failing s ≡ failing.now) }
         ensures call { IfOk result (λ s. source_call s ≡ 0) }
+        ensures faults { IfOk result (λ s. s.faults ≡ 0) }
     {
         let source = SteadySource::new(alloc, bytes)?;
         let failing = failing.to_vec(alloc)?;
@@ -100,13 +102,16 @@ impl Source for MemorySource {
         ensures cause { OnErr result (Rose self.old.faults self.new.faults) }
         ensures planned { IsErr result ↔ Contains (source_failing self.old) (source_call self.new) }
         ensures plan { source_failing self.new ≡ source_failing self.old }
+        ensures call { source_call self.new ≡ one_more (source_call self.old) }
+        ensures counted { OnErr result (self.new.faults ≡ one_more self.old.faults) }
+        ensures uncounted { OnOk result (self.new.faults ≡ self.old.faults) }
     {
         self.calls = one_more(self.calls);
         if self.failing.contains(&self.calls) {
             self.faults = one_more(self.faults);
             return Err(Failed);
         }
-        Ok(self.source.move_front(into))
+        Ok(self.source.move_next(into))
     }
 }
 
@@ -132,6 +137,7 @@ impl MemorySink {
         ensures room { IfOk result (λ s. sink_room s ≡ room) }
         ensures plan { IfOk result (λ s. sink_failing s ≡ failing.now) }
         ensures call { IfOk result (λ s. sink_call s ≡ 0) }
+        ensures faults { IfOk result (λ s. s.faults ≡ 0) }
     {
         let failing = failing.to_vec(alloc)?;
         let bytes = Vec::with_capacity(alloc, room as usize)?;
@@ -160,22 +166,22 @@ impl Sink for MemorySink {
     ghost faults = { λ s. s.faults };
 
     fn give(&mut self, bytes: &[u8]) -> Result<(), Failed>
-        ensures ok { OnOk result
-            (GivesOk (Some (sink_given self.old)) (Some (sink_given self.new)) bytes.now) }
-        ensures err { OnErr result
-            (GivesSome (Some (sink_given self.old)) (Some (sink_given self.new)) bytes.now) }
-        ensures later { self.old.faults ≤ self.new.faults }
-        ensures cause { OnErr result (Rose self.old.faults self.new.faults) }
+        ensures gives { GivesText bytes.now (Some (sink_given self.old)) (Some (sink_given self.new))
+            self.old.faults self.new.faults result }
         ensures planned { IsErr result
             ↔ (Contains (sink_failing self.old) (sink_call self.new)
             ⊎ (sink_room self.old < length (sink_given self.old) + length bytes.now)) }
         ensures none { OnErr result (sink_given self.new ≡ sink_given self.old) }
         ensures plan { sink_failing self.new ≡ sink_failing self.old }
+        ensures call { sink_call self.new ≡ one_more (sink_call self.old) }
+        ensures counted { OnErr result (self.new.faults ≡ one_more self.old.faults) }
+        ensures uncounted { OnOk result (self.new.faults ≡ self.old.faults) }
         ensures room { sink_room self.new ≡ sink_room self.old }
     {
-        self.calls = one_more(self.calls);
+        let call = one_more(self.calls);
+        self.calls = call;
         let wanted = self.bytes.len().saturating_add(bytes.len());
-        if must_fail(&self.failing, self.calls, self.room, wanted) {
+        if must_fail(&self.failing, call, self.room, wanted) {
             self.faults = one_more(self.faults);
             return Err(Failed);
         }

@@ -1,4 +1,5 @@
 ghost use Rattle.std.specs.Prelude.{◌≡◌, ◌+◌, ◌<◌, ◌≤◌, length, flat_map, IfOk, OnOk, OnErr, IsErrOf, IfSome};
+ghost use Rattle.sccs_base.specs.Causes.{Caused, GivesText};
 ghost use Rattle.sccs_base.specs.Stream.{Rose, TakesAll, TakesUpTo, GivesOk, GivesSome};
 
 use crate::lists::{Bytes, ListOf};
@@ -16,9 +17,7 @@ pub fn take_all<S: Source>(alloc: Global, source: &mut S, limit: u64) -> Result<
     ensures err { OnErr result (TakesUpTo (limit + 1) (S.left source.old) (S.left source.new)) }
     ensures too_long { IsErrOf result TakeFault.TooLong
         → IfSome (S.left source.old) (λ left. limit < length left) }
-    ensures later { S.faults source.old ≤ S.faults source.new }
-    ensures cause { IsErrOf result TakeFault.Failed
-        → Rose (S.faults source.old) (S.faults source.new) }
+    ensures causes { Caused TakeFault.Failed (S.faults source.old) (S.faults source.new) result }
 {
     let mut all = Vec::new(alloc);
     let mut room = limit;
@@ -45,14 +44,9 @@ pub fn take_all<S: Source>(alloc: Global, source: &mut S, limit: u64) -> Result<
     }
 }
 
-/// Gives the parts in their order, as one text. Where it fails a front of that text was given.
+/// Gives the parts in their order, as one text. Where it fails a prefix of that text was given.
 pub fn give_parts<S: Sink>(sink: &mut S, parts: &[&[u8]]) -> Result<(), Failed>
-    ensures ok { OnOk result
-        (GivesOk (S.given sink.old) (S.given sink.new) (flat_map (λ p. p.now) parts.now)) }
-    ensures err { OnErr result
-        (GivesSome (S.given sink.old) (S.given sink.new) (flat_map (λ p. p.now) parts.now)) }
-    ensures later { S.faults sink.old ≤ S.faults sink.new }
-    ensures cause { OnErr result (Rose (S.faults sink.old) (S.faults sink.new)) }
+    ensures { GivesText (flat_map (λ p. p.now) parts.now) (S.given sink.old) (S.given sink.new) (S.faults sink.old) (S.faults sink.new) result }
 {
     for part in parts {
         let Ok(()) = sink.give(part) else {

@@ -1,13 +1,8 @@
 ghost use Rattle.std.specs.Prelude.{◌≡◌, ℕ, ◌<◌, ◌≤◌, None, length, IfSome, OnErr};
 ghost use Rattle.sccs_base.specs.Stream.{Rose};
 
-use crate::streams::{Failed, Memory, Sink, Source, one_more};
-use std::alloc::Global;
+use crate::streams::{Failed, Sink, Source, one_more};
 use std::io::{ErrorKind, Read, Stderr, Stdin, Stdout, Write};
-use std::marker::Model;
-
-// how many bytes a buffered sink holds back before it writes them
-const HELD_BACK: usize = 65_536;
 
 /// A reader as a source. It tells no bytes, and counts its failures.
 #[derive(Drop)]
@@ -23,31 +18,11 @@ pub struct WriterSink<W> {
     faults: u64,
 }
 
-/// A writer as a sink that holds bytes back, and writes them in pieces of 64 KiB. It tells no bytes,
-/// and counts its failures, which contracts see.
-#[derive(Drop)]
-pub struct BufferedSink<W> {
-    writer: W,
-    buffer: Vec<u8>,
-    held: usize,
-    faults: u64,
-}
-
-impl<W> Model for BufferedSink<W> {
-    ghost use Rattle.std.specs.Prelude.{ℕ, ◌≤◌, length};
-
-    ghost Value = { ℕ };
-
-    ghost view = { λ s. s.faults };
-
-    ghost invariant = { λ s. s.held ≤ length s.buffer.items };
-}
-
 /// Standard input.
 pub type StdSource = ReaderSource<Stdin>;
 
-/// Standard output. `flush` writes what is held back.
-pub type StdSink = BufferedSink<Stdout>;
+/// Standard output.
+pub type StdSink = WriterSink<Stdout>;
 
 /// Standard error.
 pub type StdErrSink = WriterSink<Stderr>;
@@ -103,7 +78,9 @@ fn answer_of(written: bool, faults: &mut u64) -> Result<(), Failed>
 }
 
 impl<R> ReaderSource<R> {
-    pub fn new(reader: R) -> Self {
+    pub fn new(reader: R) -> Self
+        ensures { result.faults ≡ 0 }
+    {
         ReaderSource { reader, faults: 0 }
     }
 }
@@ -125,7 +102,9 @@ impl<R: Read> Source for ReaderSource<R> {
 }
 
 impl<W> WriterSink<W> {
-    pub fn new(writer: W) -> Self {
+    pub fn new(writer: W) -> Self
+        ensures { result.faults ≡ 0 }
+    {
         WriterSink { writer, faults: 0 }
     }
 }
@@ -138,53 +117,5 @@ impl<W: Write> Sink for WriterSink<W> {
     fn give(&mut self, bytes: &[u8]) -> Result<(), Failed> {
         let written = write_whole(&mut self.writer, bytes);
         answer_of(written, &mut self.faults)
-    }
-}
-
-impl<W> BufferedSink<W> {
-    pub fn new(alloc: Global, writer: W) -> Result<Self, Memory>
-    where
-        W: Drop,
-    {
-        let buffer = vec![in alloc; 0; HELD_BACK]?;
-        Ok(BufferedSink {
-            writer,
-            buffer,
-            held: 0,
-            faults: 0,
-        })
-    }
-}
-
-impl<W: Write> BufferedSink<W> {
-    /// Writes what is held back. Where it fails, bytes that were given may be lost.
-    pub fn flush(&mut self) -> Result<(), Failed>
-        ensures later { self.old ≤ self.new }
-        ensures cause { OnErr result (Rose self.old self.new) }
-    {
-        let held = self.held;
-        self.held = 0;
-        let written = write_whole(&mut self.writer, &self.buffer[..held]);
-        answer_of(written, &mut self.faults)
-    }
-}
-
-impl<W: Write> Sink for BufferedSink<W> {
-    ghost given = { λ _. None };
-
-    ghost faults = { λ faults. faults };
-
-    fn give(&mut self, bytes: &[u8]) -> Result<(), Failed> {
-        if bytes.len() > self.buffer.len() - self.held {
-            self.flush()?;
-        }
-        if bytes.len() > self.buffer.len() - self.held {
-            let written = write_whole(&mut self.writer, bytes);
-            return answer_of(written, &mut self.faults);
-        }
-        let end = self.held + bytes.len();
-        self.buffer[self.held..end].copy_from_slice(bytes);
-        self.held = end;
-        Ok(())
     }
 }

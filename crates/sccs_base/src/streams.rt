@@ -1,5 +1,6 @@
 ghost use Rattle.std.specs.Prelude.{◌≡◌, ℕ, ◌<◌, ◌≤◌, List, Option, length, IfOk, OnOk, OnErr};
-ghost use Rattle.sccs_base.specs.Stream.{Rose, TakesOk, TakesNone, GivesOk, GivesSome};
+ghost use Rattle.sccs_base.specs.Causes.{GivesText};
+ghost use Rattle.sccs_base.specs.Stream.{Rose, one_more, TakesOk, TakesNone, GivesOk, GivesSome};
 
 use std::alloc::{AllocError, AllocFailed};
 use thiserror::Error;
@@ -46,6 +47,7 @@ pub enum TakeFault {
 
 /// One more call or fault. At the last value of the counter it stays there.
 pub fn one_more(count: u64) -> u64
+    ensures value { result ≡ one_more count }
     ensures later { count ≤ result }
     ensures rose { Rose count result }
 {
@@ -79,10 +81,7 @@ pub trait Sink {
     /// How often the sink has failed.
     ghost faults: { Self → ℕ };
 
-    /// Appends all the bytes. Where it fails a front of them was appended.
+    /// Appends all the bytes. Where it fails a prefix of them was appended.
     fn give(&mut self, bytes: &[u8]) -> Result<(), Failed>
-        ensures ok { OnOk result (GivesOk (given self.old) (given self.new) bytes.now) }
-        ensures err { OnErr result (GivesSome (given self.old) (given self.new) bytes.now) }
-        ensures later { faults self.old ≤ faults self.new }
-        ensures cause { OnErr result (Rose (faults self.old) (faults self.new)) };
+        ensures { GivesText bytes.now (given self.old) (given self.new) (faults self.old) (faults self.new) result };
 }

@@ -50,27 +50,26 @@ fn planned_calls_fail(rt: HostRuntime) -> Result<(), Fail> {
     Ok(())
 }
 
-#[test]
-fn adapters_pass_bytes_on(rt: HostRuntime) -> Result<(), Fail> {
-    let mut source = ReaderSource::new(b"abc".as_slice());
-    let bytes = take_all(rt.alloc(), &mut source, 10)?;
-    assert_eq!(rt; bytes.bytes(), b"abc".as_slice());
-    let mut sink = WriterSink::new(Vec::new(rt.alloc()));
-    assert_eq!(rt; sink.give(bytes.bytes()), Ok(()));
-    Ok(())
-}
-
-// a writer that takes three bytes at most, and then fails
+// a writer that takes one byte a call, and none at one call, once it has taken so many
 #[derive(Drop)]
 struct Narrow {
-    room: usize,
+    taken: Vec<u8>,
+    fails_at: Option<usize>,
 }
 
 impl Write for Narrow {
     fn write(&mut self, bytes: &[u8]) -> io::Result<usize> {
-        let count = bytes.len().min(self.room);
-        self.room -= count;
-        Ok(count)
+        let Some(first) = bytes.first() else {
+            return Ok(0);
+        };
+        if self.fails_at == Some(self.taken.len()) {
+            self.fails_at = None;
+            return Ok(0);
+        }
+        match self.taken.push(*first) {
+            Ok(()) => Ok(1),
+            Err(_) => Ok(0),
+        }
     }
 
     fn flush(&mut self) -> io::Result<()> {
@@ -78,12 +77,60 @@ impl Write for Narrow {
     }
 }
 
+fn narrow_writer(alloc: Global, fails_at: Option<usize>) -> Narrow {
+    Narrow {
+        taken: Vec::new(alloc),
+        fails_at,
+    }
+}
+
+fn many(alloc: Global, count: usize) -> Result<Vec<u8>, Memory> {
+    let bytes = vec![in alloc; b'x'; count]?;
+    Ok(bytes)
+}
+
 #[test]
-fn a_failed_flush_is_told(rt: HostRuntime) -> Result<(), Fail> {
-    let mut sink = BufferedSink::new(rt.alloc(), Narrow { room: 3 })?;
-    assert_eq!(rt; sink.give(b"abc"), Ok(()));
-    assert_eq!(rt; sink.flush(), Ok(()));
-    assert_eq!(rt; sink.give(b"d"), Ok(()));
-    assert_eq!(rt; sink.flush(), Err(Failed));
+fn adapters_pass_bytes_on(rt: HostRuntime) -> Result<(), Fail> {
+    let mut source = ReaderSource::new(b"abc".as_slice());
+    let bytes = take_all(rt.alloc(), &mut source, 10)?;
+    assert_eq!(rt; bytes.bytes(), b"abc".as_slice());
+    let mut writer = narrow_writer(rt.alloc(), Some(5));
+    let mut sink = WriterSink::new(&mut writer);
+    assert_eq!(rt; sink.give(bytes.bytes()), Ok(()));
+    assert_eq!(rt; sink.give(b"def"), Err(Failed));
+    assert_eq!(rt; writer.taken.as_slice(), b"abcde".as_slice());
+    Ok(())
+}
+
+#[test]
+fn a_buffer_passes_each_byte_on_once(rt: HostRuntime) -> Result<(), Fail> {
+    let long = many(rt.alloc(), 70_000)?;
+    let mut writer = narrow_writer(rt.alloc(), None);
+    let mut sink = WriterSink::new(&mut writer);
+    let mut buffer = OutputBuffer::new(rt.alloc())?;
+    assert_eq!(rt; buffer.give(&mut sink, b"ab"), Ok(()));
+    assert_eq!(rt; buffer.flush(&mut sink), Ok(()));
+    assert_eq!(rt; buffer.give(&mut sink, b"cd"), Ok(()));
+    assert_eq!(rt; buffer.give(&mut sink, long.as_slice()), Ok(()));
+    assert_eq!(rt; buffer.give(&mut sink, b"ef"), Ok(()));
+    assert_eq!(rt; buffer.flush(&mut sink), Ok(()));
+    assert_eq!(rt; writer.taken.len(), 70_006);
+    assert_eq!(rt; &writer.taken[..5], b"abcdx".as_slice());
+    assert_eq!(rt; &writer.taken[70_003..], b"xef".as_slice());
+    Ok(())
+}
+
+#[test]
+fn a_failure_after_a_buffer_is_told(rt: HostRuntime) -> Result<(), Fail> {
+    let long = many(rt.alloc(), 70_000)?;
+    let mut writer = narrow_writer(rt.alloc(), Some(3));
+    let mut sink = WriterSink::new(&mut writer);
+    let mut buffer = OutputBuffer::new(rt.alloc())?;
+    assert_eq!(rt; buffer.give(&mut sink, b"ab"), Ok(()));
+    assert_eq!(rt; buffer.flush(&mut sink), Ok(()));
+    assert_eq!(rt; buffer.give(&mut sink, b"cd"), Ok(()));
+    assert_eq!(rt; buffer.give(&mut sink, long.as_slice()), Err(Failed));
+    assert_eq!(rt; buffer.flush(&mut sink), Ok(()));
+    assert_eq!(rt; writer.taken.as_slice(), b"abc".as_slice());
     Ok(())
 }

@@ -1,8 +1,10 @@
-ghost use Rattle.std.specs.Prelude.{◌≡◌, ◌≢◌, ◌<◌, ◌∷◌, List, length, IfOk, OnOk, IsErrOf};
-ghost use Rattle.sccs_base.specs.Cut.{HasNoLf, text_of};
+ghost use Rattle.std.specs.Prelude.{◌≡◌, ◌≢◌, IfOk, OnOk, IsErrOf};
+ghost use Rattle.sccs_base.specs.Cut.{HasNoLf, text_of, without_lf};
 
+use crate::constants::LF;
 use crate::lists::{ListOf, Text};
 use crate::streams::{MakeFault, Memory};
+use bstr::ByteSlice;
 use memchr::memchr;
 use std::alloc::Global;
 use std::marker::Model;
@@ -31,7 +33,7 @@ impl Line {
         ensures fit { OnOk result (HasNoLf bytes.now) }
         ensures unfit { IsErrOf result MakeFault.Unfit → ¬ HasNoLf bytes.now }
     {
-        if memchr(b'\n', bytes).is_some() {
+        if memchr(LF, bytes).is_some() {
             return Err(MakeFault::Unfit);
         }
         let Ok(bytes) = bytes.to_vec(alloc) else {
@@ -48,17 +50,13 @@ impl Line {
     }
 }
 
-/// The first line of bytes that aren't empty, without its LF, and the bytes after it. Where no LF
-/// is there, all the bytes are a line.
-pub fn first_line(bytes: &[u8]) -> (&[u8], &[u8])
-    requires { 0 < length bytes.now }
-    ensures line { text_of bytes.now ≡ result.0.now ∷ text_of result.1.now }
-    ensures fit { HasNoLf result.0.now }
-    ensures shorter { length result.1.now < length bytes.now }
+// a line without its LF
+fn without_lf(line: &[u8]) -> &[u8]
+    ensures { result.now ≡ without_lf line.now }
 {
-    match memchr(b'\n', bytes) {
-        Some(at) => (&bytes[..at], &bytes[at + 1..]),
-        None => (bytes, &bytes[..0]),
+    match line {
+        [front @ .., last] if *last == LF => front,
+        _ => line,
     }
 }
 
@@ -68,12 +66,9 @@ impl ListOf<Line> {
         ensures { IfOk result (λ text. text ≡ text_of bytes.now) }
     {
         let mut lines = Vec::new(alloc);
-        let mut rest = bytes;
-        'lines: while !rest.is_empty() {
-            let (line, after) = first_line(rest);
-            let line = line.to_vec(alloc)?;
+        'lines: for line in bytes.lines_with_terminator() {
+            let line = without_lf(line).to_vec(alloc)?;
             lines.push(Line { bytes: line })?;
-            rest = after;
         }
         Ok(ListOf::from_vec(lines))
     }

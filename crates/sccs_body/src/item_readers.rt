@@ -13,7 +13,7 @@ ghost use Rattle.sccs_table.specs.Runs.{HasNoRun, IsRun, PassesRun};
 ghost use Rattle.sccs_table.specs.Standing.{bytes_in};
 ghost use Rattle.sccs_body.specs.ItemsRead.{Gives, Goes, IsBehind, TakesItem, fresh, texts_behind};
 
-use sccs_base::{Memory, Name};
+use sccs_base::{FILE_LIMIT, Memory, Name};
 use sccs_disk::Disk;
 use sccs_grammar::{FileFault, read_item, written_item};
 use sccs_history::{Item, Record};
@@ -108,20 +108,23 @@ fn ends_with(state: &BodyState, line: &[u8]) -> bool
 }
 
 impl ItemReader {
-    /// Stands at the front of the body that a front names.
+    /// Stands before the body that a front names; of a front that was read from no file, within the
+    /// limits of one.
     pub fn new(alloc: Global, name: &Name, front: &Front) -> Result<ItemReader, Memory>
-        requires { IsPlaced front.now }
-        ensures lines { IfOk result (λ r. r.lines ≡ fresh name.now front.now.body_from front.now.size) }
-        ensures number { IfOk result (λ r. r.number ≡ front.now.body_line) }
+        ensures name { IfOk result (λ r. r.lines.name ≡ name.now) }
+        ensures lines { IsPlaced front.now → IfOk result (λ r. r.lines ≡ fresh name.now front.now.body_from front.now.size) }
+        ensures number { IsPlaced front.now → IfOk result (λ r. r.number ≡ front.now.body_line) }
         ensures behind { IfOk result (IsBehind (live_serials front.now.header.records) []) }
     {
         let state = BodyState::new(alloc, front.header.records.items())?;
+        let size = front.size.min(FILE_LIMIT);
+        let place = front.body_from.min(size);
         Ok(ItemReader {
             alloc,
-            lines: LineReader::new(name, front.body_from, front.size),
+            lines: LineReader::new(name, place, size),
             line: Vec::new(alloc),
             state,
-            first: front.body_line,
+            first: front.body_line.min(place + 2),
         })
     }
 

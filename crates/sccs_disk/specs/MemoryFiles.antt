@@ -1,5 +1,5 @@
 -- What a disk in memory shows: its files, its calls so far, and the calls that are to fail.
-use Rattle.std.specs.Prelude.{◌≡◌, ℕ, List, [], ◌∷◌, None, Some, cond}
+use Rattle.std.specs.Prelude.{◌≡◌, ◌<◌, ◌⊎◌, ◌↔◌, ℕ, List, [], ◌∷◌, None, Some, Result, Contains, IsErr, cond}
 use Rattle.std.specs.Ordering.{nat_cmp, eq_by_cmp}
 use Rattle.std.specs.Str.{bytes_eq}
 use Rattle.std.specs.FinMap.{empty, insert, get, get-insert, get-empty}
@@ -9,6 +9,7 @@ use Rattle.std.proofs.Math.Path.{fun_ext}
 use Rattle.std.proofs.lemmas.Map.Text.{is_eq-slice_cmp}
 use Rattle.sccs_disk.specs.Files.{Content, View, Model, IsSane, put, Folder, IsFinite}
 use Rattle.sccs_disk.specs.Told.{Shows, Tells, seen}
+use Rattle.sccs_base.specs.Stream.{one_more}
 use Rattle.sccs_base.proofs.SameBytes.{bytes_eq_sym}
 use Rattle.sccs_disk.specs.declared.memory_disk.MemoryDisk.{MemoryDisk}
 use Rattle.sccs_disk.specs.declared.memory_disk.Held.{Held}
@@ -35,6 +36,13 @@ disk_room d = d.room
 
 abbrev pub disk_failing : MemoryDisk → List ℕ
 disk_failing d = d.failing.items
+
+-- A call counts as one more, and fails exactly by plan or past the room, which both stay.
+pub record GoesByPlan {T E : Type 0} (old new : MemoryDisk) (result : Result T E) : Type 0 where
+  pub planned : IsErr result ↔ (Contains (disk_failing old) (disk_call new) ⊎ (disk_room old < disk_call new))
+  pub plan : disk_failing new ≡ disk_failing old
+  pub room : disk_room new ≡ disk_room old
+  pub call : disk_call new ≡ one_more (disk_call old)
 
 -- the same files as a folder
 folder_of : List Held → Folder

@@ -99,7 +99,10 @@ fn read_open<F: Read + Seek>(open: &mut Open<F>, from: u64, into: &mut [u8]) -> 
 }
 
 impl<R: Files> FolderDisk<R> {
-    pub fn new(rt: R) -> Self {
+    /// It has not failed yet.
+    pub fn new(rt: R) -> Self
+        ensures { result.faults ≡ 0 }
+    {
         FolderDisk {
             rt,
             open: None,

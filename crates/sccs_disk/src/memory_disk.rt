@@ -1,4 +1,4 @@
-ghost use Rattle.std.specs.Prelude.{◌≡◌, ℕ, ◌+◌, ◌<◌, ◌≤◌, ◌⊎◌, ◌↔◌, List, Option, None, Some, length, drop, option_map, IsTrue, IsErr, IfOk, IfSome, OnOk, OnErr, Contains};
+ghost use Rattle.std.specs.Prelude.{◌≡◌, ℕ, ◌+◌, ◌<◌, ◌≤◌, ◌⊎◌, ◌↔◌, List, Option, None, Some, length, drop, option_map, IsTrue, IfOk, IfSome, OnOk, OnErr, Contains};
 ghost use Rattle.sccs_base.specs.Stream.{Rose};
 ghost use Rattle.sccs_disk.specs.Files.{Content, put};
 ghost use Rattle.sccs_disk.specs.Told.{Shows, seen};
@@ -130,7 +130,7 @@ impl MemoryDisk {
 }
 
 impl Disk for MemoryDisk {
-    ghost use Rattle.sccs_disk.specs.MemoryFiles.{disk_view, disk_call, disk_room, disk_failing, never_tells, disk_finite};
+    ghost use Rattle.sccs_disk.specs.MemoryFiles.{GoesByPlan, disk_view, never_tells, disk_finite};
 
     ghost told = { λ d. Shows (disk_view d) };
 
@@ -145,11 +145,7 @@ impl Disk for MemoryDisk {
         ensures same { Shows (disk_view self.new) ≡ Shows (disk_view self.old) }
         ensures later { self.old.faults ≤ self.new.faults }
         ensures cause { OnErr result (Rose self.old.faults self.new.faults) }
-        ensures planned { IsErr result
-            ↔ (Contains (disk_failing self.old) (disk_call self.new)
-            ⊎ (disk_room self.old < disk_call self.new)) }
-        ensures plan { disk_failing self.new ≡ disk_failing self.old }
-        ensures room { disk_room self.new ≡ disk_room self.old }
+        ensures planned { GoesByPlan self.old self.new result }
     {
         self.calls = one_more(self.calls);
         if must_fail(&self.failing, self.calls, self.room) {
@@ -166,11 +162,7 @@ impl Disk for MemoryDisk {
         ensures same { Shows (disk_view self.new) ≡ Shows (disk_view self.old) }
         ensures later { self.old.faults ≤ self.new.faults }
         ensures cause { OnErr result (Rose self.old.faults self.new.faults) }
-        ensures planned { IsErr result
-            ↔ (Contains (disk_failing self.old) (disk_call self.new)
-            ⊎ (disk_room self.old < disk_call self.new)) }
-        ensures plan { disk_failing self.new ≡ disk_failing self.old }
-        ensures room { disk_room self.new ≡ disk_room self.old }
+        ensures planned { GoesByPlan self.old self.new result }
     {
         self.calls = one_more(self.calls);
         if must_fail(&self.failing, self.calls, self.room) {

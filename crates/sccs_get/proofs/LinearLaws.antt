@@ -1,13 +1,12 @@
 -- What a get of a linear file prints.
-use Rattle.std.proofs.Common.{◌≡◌, ℕ, ℤ, Bool, false, List, [], ◌∷◌, Option, None, Some, Result, Ok, Err, refl, sym, ap, subst, ◌∙◌}
+use Rattle.std.proofs.Common.{◌≡◌, ℕ, Bool, false, List, [], ◌∷◌, Option, None, Some, Ok, ap, ◌∙◌}
 use Rattle.std.specs.Prelude.{true, option_map}
 use Rattle.sccs_sid.specs.declared.sids.Spec.{Spec}
 use Rattle.sccs_sid.specs.declared.sid_lists.Range.{Range}
 use Rattle.sccs_history.specs.Numbers.{is_empty}
-use Rattle.sccs_history.specs.Applied.{Asked, applied, live_serials, newest, version, version_of}
+use Rattle.sccs_history.specs.Applied.{applied, newest, version, version_of}
 use Rattle.sccs_history.specs.Body.{lines_of}
-use Rattle.sccs_history.specs.Linear.{IsLinear, has_no_delete, texts_of, undeleted}
-use Rattle.sccs_history.specs.Select.{select}
+use Rattle.sccs_history.specs.Linear.{has_no_delete, texts_of, undeleted}
 use Rattle.sccs_history.specs.declared.headers.Record.{Record}
 use Rattle.sccs_history.specs.declared.headers.Header.{Header}
 use Rattle.sccs_history.proofs.LinearTables.{version_linear_body, undeleted_all}
@@ -18,8 +17,9 @@ use Rattle.sccs_sets.specs.Retrieved.{retrieved}
 use Rattle.sccs_sets.specs.Trunks.{IsTrunk}
 use Rattle.sccs_sets.proofs.Trunks.{newest_of_trunk}
 use Rattle.sccs_words.specs.declared.commands.GetWords.{GetWords}
-use Rattle.sccs_steps.specs.StepFiles.{Files}
-use Rattle.sccs_get.specs.GetStep.{bytes_at, default_of, get_step, listed, prints, set_asked, spec_asked}
+use Rattle.sccs_files.specs.StepFiles.{Files}
+use Rattle.sccs_sets.specs.Flags.{default_of}
+use Rattle.sccs_get.specs.GetStep.{bytes_at, get_step, listed, prints, set_asked, spec_asked}
 use Rattle.sccs_get.specs.Linear.{AsksNewest, IsLinearFile}
 use Rattle.sccs_get.proofs.StepLaws.{found_set}
 use Rattle.sccs_get.proofs.TargetLaws.{set_by, asked_by}

@@ -1,220 +1,235 @@
--- How printing goes from item to item.
-use Rattle.std.proofs.Common.{◌≡◌, ℕ, suc, ◌+◌, ◌≤◌, drop, Bool, true, false, List, [], ◌∷◌, ◌++◌, Option, None, Some, Result, Ok, Err, refl, sym, ap, subst, ◌∙◌, arith, append_assoc}
-use Rattle.std.proofs.lemmas.List.{append-nil}
-use Rattle.sccs_base.specs.Cut.{Cut, cut}
-use Rattle.sccs_base.specs.Stream.{GivesOk, GivesSome}
-use Rattle.sccs_sid.specs.Reading.{◌>>=◌}
+-- How printing goes from line to line.
+use Rattle.std.proofs.Common.{◌≡◌, ℕ, ◌+◌, ◌≤◌, Bool, true, false, List, [], ◌∷◌, ◌++◌, length, length-append, take, drop, zero, suc, Option, None, Some, Result, Ok, Err, refl, sym, ap, subst, ◌∙◌, arith, append_assoc}
+use Rattle.std.proofs.Math.Seq.{take-append-add}
+use Rattle.std.proofs.lemmas.List.{append-nil, take-append-drop, take-append-le}
+use Rattle.sccs_base.specs.Stream.{Buffers, GivesOk, GivesSome}
+use Rattle.sccs_base.proofs.Gifts.{buffers_both, buffers_cut, buffers_flushed, buffers_none, buffers_then, some_longer, some_none, some_of_whole}
 use Rattle.sccs_sid.specs.declared.refusals.StepFault.{StepFault}
 use Rattle.sccs_sid.specs.declared.refusals.StepFault.TheVariants.{Refused, Memory, ReadFault, WriteFault, DiskFault}
-use Rattle.sccs_history.specs.Numbers.{front_if}
-use Rattle.sccs_history.specs.Applied.{live_serials}
-use Rattle.sccs_history.specs.Body.{line_at}
-use Rattle.sccs_history.specs.Select.{shows}
+use Rattle.std.specs.Result.{IsOk, OnOk}
+use Rattle.sccs_history.specs.Body.{HistoryLine}
 use Rattle.sccs_history.specs.declared.headers.Item.{Item}
-use Rattle.sccs_history.specs.declared.headers.Item.TheVariants.{Text, Insert, Delete, End}
-use Rattle.sccs_grammar.specs.Items.{item_at, items_from}
-use Rattle.sccs_grammar.specs.Written.{ended, bytes_of}
+use Rattle.sccs_grammar.specs.Written.{ended}
+use Rattle.sccs_grammar.specs.FileRefusals.{file_fault}
 use Rattle.sccs_grammar.specs.declared.faults.FileFault.{FileFault}
 use Rattle.sccs_grammar.specs.declared.faults.FileFault.TheVariants as faults
-use Rattle.sccs_table.specs.Standing.{Standing, StandsIn, left}
-use Rattle.sccs_table.specs.declared.fronts.Front.{Front}
-use Rattle.sccs_table.proofs.FileLaws.{fresh_stands}
-use Rattle.sccs_body.specs.Reader.{ItemPlace}
-use Rattle.sccs_body.specs.ItemsRead.{Gives, GivesItem, Goes, IsBehind, fresh}
-use Rattle.sccs_body.proofs.BodyLaws.{items_on}
-use Rattle.sccs_weave.specs.Regions.{Holds}
-use Rattle.sccs_weave.specs.declared.regions.Region.{Region}
-use Rattle.sccs_steps.proofs.Gifts.{gives_both, gives_then, gives_none, some_none, some_longer}
-use Rattle.sccs_get.specs.Printing.{Cuts, IsBody, Printed, Printing, Prints, PrintsItem, PrintsOn, step_fault, text_behind}
+use Rattle.sccs_versions.specs.Coming.{ComeFirst, Coming, ComesNext, GivesNext, text_of_lines}
+use Rattle.sccs_versions.specs.Place.{VersionPlace}
+use Rattle.sccs_versions.proofs.RunLaws.{text_append}
+use Rattle.sccs_versions.specs.WasRead.{HasRead, ReadsAll, ReadsOn, text_before}
+use Rattle.sccs_get.specs.Printing.{Cuts, GivesAll, Moved, PartGiven, Prints, PrintsWhole, ReadSome, ReadWhole}
 
--- ---- the text of one item and of those behind it
+-- ---- parts of what was given
 
-front_text : (shown : Bool) (text : List ℕ) (lines : List (List ℕ)) → bytes_of (front_if shown text lines) ≡ bytes_of (front_if shown text []) ++ bytes_of lines
-front_text true text lines = ap (λ front. front ++ bytes_of lines) (sym (append-nil (ended text)))
-front_text false text lines = refl
+nothing_given : (text held : List ℕ) (out : Option (List ℕ)) → PartGiven text held held out out
+nothing_given text held out = (0, omega arith, buffers_none held out)
 
-pub item_then : (set : List ℕ) (before : List Item) (item : Item) (items : List Item) → text_behind set before (item ∷ items) ≡ text_behind set before (item ∷ []) ++ text_behind set (item ∷ before) items
-item_then set before (Text text) items = front_text (shows set (line_at before text)) text _
-item_then set before (Insert n) items = refl
-item_then set before (Delete n) items = refl
-item_then set before (End n) items = refl
+part_longer : (text more held held2 : List ℕ) (out out2 : Option (List ℕ)) → PartGiven text held held2 out out2 → PartGiven (text ++ more) held held2 out out2
+part_longer text more held held2 out out2 part =
+    (part.0, omega (arith, length-append text more, part.1), subst (λ given. Buffers held given held2 out out2) (sym (take-append-le part.0 text more part.1)) part.2)
 
-more_read : (read : Result (List Item) ℕ) (item : Item) (rest : List Item) → (read >>= λ items. Ok (item ∷ items)) ≡ Ok rest → (items : List Item) × (read ≡ Ok items) × (rest ≡ item ∷ items)
-more_read (Ok items) item rest is = (items, refl, cc)
-more_read (Err k) item rest is = absurd cc
+cuts_longer : (fault : StepFault) (text more held held2 : List ℕ) (out out2 : Option (List ℕ)) → Cuts text fault held held2 out out2 → Cuts (text ++ more) fault held held2 out out2
+cuts_longer Memory text more held held2 out out2 cuts = part_longer text more held held2 out out2 cuts
+cuts_longer DiskFault text more held held2 out out2 cuts = part_longer text more held held2 out out2 cuts
+cuts_longer WriteFault text more held held2 out out2 cuts = (subst (λ all. GivesSome out out2 all) (append_assoc held text more) (some_longer out out2 (held ++ text) more cuts.0), cuts.1)
+cuts_longer ReadFault text more held held2 out out2 cuts = cuts
+cuts_longer (Refused refusal) text more held held2 out out2 cuts = cuts
 
--- ---- one item more
+part_then : (gone rest held mid held2 : List ℕ) (a b c : Option (List ℕ)) → Buffers held gone mid a b → PartGiven rest mid held2 b c → PartGiven (gone ++ rest) held held2 a c
+part_then gone rest held mid held2 a b c first part = (
+  length gone + part.0,
+  omega (arith, length-append gone rest, part.1),
+  subst (λ given. Buffers held given held2 a c) (sym (take-append-add gone rest part.0)) (buffers_both held gone mid (take part.0 rest) held2 a b c first part.2),
+)
 
--- the items that are left are the next one and others
-item_split : (file live set : List ℕ) (old new : ItemPlace) (w : List Region) (text : List ℕ) (item : Item) → (p : Printing file live set old w text) → GivesItem live p.before file old new (Ok (Some item))
-    → (items : List Item) × (items_from live new.number (item ∷ p.before) (left new.lines file).lines (left new.lines file).tail ≡ Ok items) × (p.rest ≡ item ∷ items)
-item_split file live set old new w text item p given =
-    let one : suc old.number ≡ new.number = omega (arith, given.1) in
-    let next : (items_from live new.number (item ∷ p.before) (left new.lines file).lines (left new.lines file).tail >>= λ items. Ok (item ∷ items)) ≡ Ok p.rest =
-    sym (ap (λ (c : Cut). items_from live old.number p.before c.lines c.tail) given.2.1
-    ∙ (items_on live old.number p.before item given.2.0 (left new.lines file).lines (left new.lines file).tail given.2.2
-    ∙ ap (λ k. items_from live k (item ∷ p.before) (left new.lines file).lines (left new.lines file).tail >>= λ items. Ok (item ∷ items)) one)) ∙ p.items in
-    more_read (items_from live new.number (item ∷ p.before) (left new.lines file).lines (left new.lines file).tail) item p.rest next
+cuts_then : (fault : StepFault) (gone rest held mid held2 : List ℕ) (a b c : Option (List ℕ)) → Buffers held gone mid a b → Cuts rest fault mid held2 b c → Cuts (gone ++ rest) fault held held2 a c
+cuts_then Memory gone rest held mid held2 a b c first cuts = part_then gone rest held mid held2 a b c first cuts
+cuts_then DiskFault gone rest held mid held2 a b c first cuts = part_then gone rest held mid held2 a b c first cuts
+cuts_then WriteFault gone rest held mid held2 a b c first cuts = (buffers_then held gone mid rest a b c first cuts.0, cuts.1)
+cuts_then ReadFault gone rest held mid held2 a b c first cuts = cuts
+cuts_then (Refused refusal) gone rest held mid held2 a b c first cuts = cuts
 
-item_printed : (file live set : List ℕ) (old new : ItemPlace) (w w2 : List Region) (text : List ℕ) (item : Item) (out out2 : Option (List ℕ)) → (p : Printing file live set old w text) → Goes live p.before new (Ok (Some item)) → GivesItem live p.before file old new (Ok (Some item))
-    → PrintsItem set p.before item w2 (Ok tt) out out2 → Printed file live set new w2 text out out2
-item_printed file live set old new w w2 text item out out2 p goes given prints =
-    let split = item_split file live set old new w text item p given in
-    record {
-      gone = text_behind set p.before (item ∷ []);
-      rest = text_behind set (item ∷ p.before) split.0;
-      whole = p.text_is ∙ (ap (text_behind set p.before) split.2 ∙ item_then set p.before item split.0);
-      gives = prints.1;
-      on = record {
-        before = item ∷ p.before;
-        rest = split.0;
-        behind = goes.1;
-        holds = prints.0;
-        stands = given.0;
-        items = split.1;
-        text_is = refl;
-      };
-    }
+-- ---- from turn to turn
 
-pub cuts_longer : (fault : StepFault) (out out2 : Option (List ℕ)) (x y : List ℕ) → Cuts x fault out out2 → Cuts (x ++ y) fault out out2
-cuts_longer Memory out out2 x y cuts = some_longer out out2 x y cuts
-cuts_longer WriteFault out out2 x y cuts = some_longer out out2 x y cuts
-cuts_longer DiskFault out out2 x y cuts = some_longer out out2 x y cuts
-cuts_longer ReadFault out out2 x y cuts = cuts
-cuts_longer (Refused refusal) out out2 x y cuts = cuts
+pub moved_none : (file : List ℕ) (r : VersionPlace) (lines : List HistoryLine) (held : List ℕ) (out : Option (List ℕ)) → Coming file r lines → Moved file r lines held held out out
+moved_none file r lines held out p = record { gone = []; rest = lines; whole = refl; gives = buffers_none held out; on = p }
 
-item_cut : (file live set : List ℕ) (old new : ItemPlace) (w w2 : List Region) (text : List ℕ) (item : Item) (fault : StepFault) (out out2 : Option (List ℕ)) → (p : Printing file live set old w text) → GivesItem live p.before file old new (Ok (Some item))
-    → PrintsItem set p.before item w2 (Err fault) out out2 → Cuts text fault out out2
-item_cut file live set old new w w2 text item fault out out2 p given prints =
-    let split = item_split file live set old new w text item p given in
-    subst (λ all. Cuts all fault out out2) (sym (p.text_is ∙ (ap (text_behind set p.before) split.2 ∙ item_then set p.before item split.0)))
-    (cuts_longer fault out out2 (text_behind set p.before (item ∷ [])) (text_behind set (item ∷ p.before) split.0) prints)
-
-no_more : (read : Result (List Item) ℕ) (rest : List Item) → read ≡ Ok [] → read ≡ Ok rest → rest ≡ []
-no_more read rest none is = cc
-
-all_given : (file live set : List ℕ) (old new : ItemPlace) (w : List Region) (text : List ℕ) (out : Option (List ℕ)) → (p : Printing file live set old w text) → GivesItem live p.before file old new (Ok None) → GivesOk out out text
-all_given file live set old new w text out p none =
-    let rest = no_more (items_from live old.number p.before (left old.lines file).lines (left old.lines file).tail) p.rest none p.items in
-    subst (λ all. GivesOk out out all) (sym (p.text_is ∙ ap (text_behind set p.before) rest)) (gives_none out)
-
-never : (read : Result (List Item) ℕ) (rest : List Item) (k : ℕ) → read ≡ Err k → read ≡ Ok rest → ⊥
-never read rest k failed is = cc
-
--- over a told body that is whole only the disk or memory can end it
-fault_cuts : (file live set : List ℕ) (old new : ItemPlace) (w : List Region) (text : List ℕ) (fault : FileFault) (out : Option (List ℕ)) → (p : Printing file live set old w text) → GivesItem live p.before file old new (Err fault) → Cuts text (step_fault fault) out out
-fault_cuts file live set old new w text faults.Failed out p given = some_none out text
-fault_cuts file live set old new w text faults.Memory out p given = some_none out text
-fault_cuts file live set old new w text (faults.BadFormat line) out p given = never (items_from live old.number p.before (left old.lines file).lines (left old.lines file).tail) p.rest line given.1 p.items
-fault_cuts file live set old new w text faults.Missing out p given = absurd given
-fault_cuts file live set old new w text faults.TooLong out p given = absurd given
-fault_cuts file live set old new w text faults.NotSccs out p given = absurd given
-fault_cuts file live set old new w text (faults.BadSum stored sum) out p given = absurd given
-fault_cuts file live set old new w text faults.Encoded out p given = absurd given
-
--- ---- as the reader gives them
-
--- what the reader says of the next item
-abbrev pub Reads : Option (List ℕ) → ItemPlace → ItemPlace → Result (Option Item) FileFault → Type 0
-Reads o old new result = (live : List ℕ) (before : List Item) → IsBehind live before old → Gives o live before old new result
-
-given_in : (o : Option (List ℕ)) (file live set : List ℕ) (old new : ItemPlace) (w : List Region) (text : List ℕ) (result : Result (Option Item) FileFault) → o ≡ Some file → (p : Printing file live set old w text) → Reads o old new result → GivesItem live p.before file old new result
-given_in o file live set old new w text result told p reads =
-    (subst (λ (q : Option (List ℕ)). Gives q live p.before old new result) told (reads live p.before p.behind)) p.stands
-
-pub next_printed : (o : Option (List ℕ)) (file live set : List ℕ) (old new : ItemPlace) (w w2 : List Region) (text : List ℕ) (found : Option Item) (item : Item) (out out2 : Option (List ℕ)) → o ≡ Some file → found ≡ Some item → (p : Printing file live set old w text)
-    → ((live : List ℕ) (before : List Item) → IsBehind live before old → Goes live before new (Ok found)) → Reads o old new (Ok found) → ((before : List Item) → Holds set before w → PrintsItem set before item w2 (Ok tt) out out2) → Printed file live set new w2 text out out2
-next_printed o file live set old new w w2 text found item out out2 told is p goes reads prints =
-    item_printed file live set old new w w2 text item out out2 p (subst (λ f. Goes live p.before new (Ok f)) is (goes live p.before p.behind))
-    (given_in o file live set old new w text (Ok (Some item)) told p (subst (λ f. Reads o old new (Ok f)) is reads)) (prints p.before p.holds)
-
-pub next_cut : (o : Option (List ℕ)) (file live set : List ℕ) (old new : ItemPlace) (w w2 : List Region) (text : List ℕ) (found : Option Item) (item : Item) (fault : StepFault) (out out2 : Option (List ℕ)) → o ≡ Some file → found ≡ Some item → (p : Printing file live set old w text)
-    → Reads o old new (Ok found) → ((before : List Item) → Holds set before w → PrintsItem set before item w2 (Err fault) out out2) → Cuts text fault out out2
-next_cut o file live set old new w w2 text found item fault out out2 told is p reads prints =
-    item_cut file live set old new w w2 text item fault out out2 p
-    (given_in o file live set old new w text (Ok (Some item)) told p (subst (λ f. Reads o old new (Ok f)) is reads)) (prints p.before p.holds)
-
-pub next_none : (o : Option (List ℕ)) (file live set : List ℕ) (old new : ItemPlace) (w : List Region) (text : List ℕ) (found : Option Item) (out : Option (List ℕ)) → o ≡ Some file → found ≡ None → Printing file live set old w text → Reads o old new (Ok found) → GivesOk out out text
-next_none o file live set old new w text found out told is p reads =
-    all_given file live set old new w text out p (given_in o file live set old new w text (Ok None) told p (subst (λ f. Reads o old new (Ok f)) is reads))
-
-pub next_fails : (o : Option (List ℕ)) (file live set : List ℕ) (old new : ItemPlace) (w : List Region) (text : List ℕ) (fault : FileFault) (ended : StepFault) (out : Option (List ℕ)) → o ≡ Some file → ended ≡ step_fault fault → Printing file live set old w text → Reads o old new (Err fault) → Cuts text ended out out
-next_fails o file live set old new w text fault ended out told is p reads =
-    subst (λ e. Cuts text e out out) (sym is) (fault_cuts file live set old new w text fault out p (given_in o file live set old new w text (Err fault) told p reads))
-
--- ---- the first turn, and one behind others
-
-pub starts : (told : Option (List ℕ)) (file name set : List ℕ) (front : Front) (items : List Item) (reader : ItemPlace) (w : List Region) (out : Option (List ℕ)) → front.body_from ≤ front.size → IsBody told front set file items → reader.lines ≡ fresh name front.body_from front.size → reader.number ≡ front.body_line
-    → IsBehind (live_serials front.header.records) [] reader → Holds set [] w → Printed file (live_serials front.header.records) set reader w (text_behind set [] items) out out
-starts told file name set front items reader w out low body lines number behind holds = record {
-  gone = [];
-  rest = text_behind set [] items;
-  whole = refl;
-  gives = gives_none out;
-  on = record {
-    before = [];
-    rest = items;
-    behind = behind;
-    holds = holds;
-    stands = subst (λ s. StandsIn s file) (sym lines) (fresh_stands name file front.body_from front.size low body.size);
-    items = ap (λ (s : Standing). items_from (live_serials front.header.records) reader.number [] (left s file).lines (left s file).tail) lines
-        ∙ (ap (λ n. items_from (live_serials front.header.records) n [] (cut (drop front.body_from file)).lines (cut (drop front.body_from file)).tail) number ∙ body.items_are);
-    text_is = refl;
-  };
+pub moved_both : (file : List ℕ) (r r2 : VersionPlace) (lines : List HistoryLine) (held mid held2 : List ℕ) (a b c : Option (List ℕ)) → (m : Moved file r lines held mid a b) → Moved file r2 m.rest mid held2 b c → Moved file r2 lines held held2 a c
+moved_both file r r2 lines held mid held2 a b c m next = record {
+  gone = m.gone ++ next.gone;
+  rest = next.rest;
+  whole = m.whole ∙ (ap (λ rest. m.gone ++ rest) next.whole ∙ sym (append_assoc m.gone next.gone (text_of_lines next.rest)));
+  gives = buffers_both held m.gone mid next.gone held2 a b c m.gives next.gives;
+  on = next.on;
 }
 
-pub then_printed : (file live set : List ℕ) (r r2 : ItemPlace) (w w2 : List Region) (text : List ℕ) (a b c : Option (List ℕ)) → (done : Printed file live set r w text a b) → ((rest : List ℕ) → Printing file live set r w rest → Printed file live set r2 w2 rest b c) → Printed file live set r2 w2 text a c
-then_printed file live set r r2 w w2 text a b c done next =
-    let more = next done.rest done.on in
-    record {
-      gone = done.gone ++ more.gone;
-      rest = more.rest;
-      whole = done.whole ∙ (ap (λ rest. done.gone ++ rest) more.whole ∙ sym (append_assoc done.gone more.gone more.rest));
-      gives = gives_both a b c done.gone more.gone done.gives more.gives;
-      on = more.on;
-    }
+pub moved_end : (file : List ℕ) (r : VersionPlace) (lines : List HistoryLine) (held mid held2 : List ℕ) (a b c : Option (List ℕ)) → (m : Moved file r lines held mid a b) → Buffers mid (text_of_lines m.rest) held2 b c → Buffers held (text_of_lines lines) held2 a c
+moved_end file r lines held mid held2 a b c m next =
+    subst (λ text. Buffers held text held2 a c) (sym m.whole) (buffers_both held m.gone mid (text_of_lines m.rest) held2 a b c m.gives next)
 
-pub then_done : (file live set : List ℕ) (r : ItemPlace) (w : List Region) (text : List ℕ) (a b c : Option (List ℕ)) → (done : Printed file live set r w text a b) → ((rest : List ℕ) → Printing file live set r w rest → GivesOk b c rest) → GivesOk a c text
-then_done file live set r w text a b c done next =
-    subst (λ all. GivesOk a c all) (sym done.whole) (gives_both a b c done.gone done.rest done.gives (next done.rest done.on))
+pub moved_cut : (file : List ℕ) (r : VersionPlace) (lines : List HistoryLine) (fault : StepFault) (held mid held2 : List ℕ) (a b c : Option (List ℕ)) → (m : Moved file r lines held mid a b) → Cuts (text_of_lines m.rest) fault mid held2 b c → Cuts (text_of_lines lines) fault held held2 a c
+moved_cut file r lines fault held mid held2 a b c m cuts =
+    subst (λ text. Cuts text fault held held2 a c) (sym m.whole) (cuts_then fault m.gone (text_of_lines m.rest) held mid held2 a b c m.gives cuts)
 
-cuts_then : (fault : StepFault) (a b c : Option (List ℕ)) (x y : List ℕ) → GivesOk a b x → Cuts y fault b c → Cuts (x ++ y) fault a c
-cuts_then Memory a b c x y gives cuts = gives_then a b c x y gives cuts
-cuts_then WriteFault a b c x y gives cuts = gives_then a b c x y gives cuts
-cuts_then DiskFault a b c x y gives cuts = gives_then a b c x y gives cuts
-cuts_then ReadFault a b c x y gives cuts = cuts
-cuts_then (Refused refusal) a b c x y gives cuts = cuts
+-- ---- lines that stand together
 
-pub then_cut : (file live set : List ℕ) (r : ItemPlace) (w : List Region) (text : List ℕ) (fault : StepFault) (a b c : Option (List ℕ)) → (done : Printed file live set r w text a b) → ((rest : List ℕ) → Printing file live set r w rest → Cuts rest fault b c) → Cuts text fault a c
-then_cut file live set r w text fault a b c done next =
-    subst (λ all. Cuts all fault a c) (sym done.whole) (cuts_then fault a b c done.gone done.rest done.gives (next done.rest done.on))
+pub texts_given : (file : List ℕ) (r r2 : VersionPlace) (text shown : List ℕ) (lines : List HistoryLine) (held held2 : List ℕ) (out out2 : Option (List ℕ)) → shown ≡ text → ComeFirst file r r2 text lines → Buffers held shown held2 out out2 → Moved file r2 lines held held2 out out2
+texts_given file r r2 text shown lines held held2 out out2 is come gives = record {
+  gone = shown;
+  rest = come.rest;
+  whole = ap text_of_lines come.whole ∙ (text_append come.first come.rest ∙ ap (λ front. front ++ text_of_lines come.rest) (sym come.text_is ∙ sym is));
+  gives = gives;
+  on = come.on;
+}
+
+pub texts_cut : (shown : List ℕ) (lines : List HistoryLine) (held held2 : List ℕ) (out out2 : Option (List ℕ)) → (rest : List ℕ) × (text_of_lines lines ≡ shown ++ rest) → GivesSome out out2 (held ++ shown) → held2 ≡ [] → Cuts (text_of_lines lines) WriteFault held held2 out out2
+texts_cut shown lines held held2 out out2 first some none =
+    subst (λ text. Cuts text WriteFault held held2 out out2) (sym first.1) (cuts_longer WriteFault shown first.0 held held2 out out2 (some, none))
 
 -- ---- one line
 
-kept_line : (shown : Bool) (text : List ℕ) → shown ≡ true → bytes_of (front_if shown text []) ≡ ended text
-kept_line true text is = append-nil (ended text)
-kept_line false text is = absurd cc
+pub line_given : (line held mid held2 : List ℕ) (a b c : Option (List ℕ)) → Buffers held line mid a b → Buffers mid (10 ∷ []) held2 b c → GivesAll (ended line) (Ok tt) held held2 a c
+line_given line held mid held2 a b c first second = buffers_both held line mid (10 ∷ []) held2 a b c first second
 
-pub line_kept : (set : List ℕ) (before : List Item) (text : List ℕ) (kept : Bool) → kept ≡ shows set (line_at before text) → kept ≡ true → text_behind set before (Text text ∷ []) ≡ ended text
-line_kept set before text kept is true_is = kept_line (shows set (line_at before text)) text (sym is ∙ true_is)
+pub line_cut : (line held mid held2 : List ℕ) (a b c : Option (List ℕ)) → Buffers held line mid a b → GivesSome b c (mid ++ 10 ∷ []) → held2 ≡ [] → GivesAll (ended line) (Err WriteFault) held held2 a c
+line_cut line held mid held2 a b c first some none = (buffers_then held line mid (10 ∷ []) a b c first some, none)
 
-hidden_line : (shown : Bool) (text : List ℕ) → shown ≡ false → bytes_of (front_if shown text []) ≡ []
-hidden_line true text is = absurd cc
-hidden_line false text is = refl
+pub line_begun : (line held held2 : List ℕ) (a b : Option (List ℕ)) → GivesSome a b (held ++ line) → held2 ≡ [] → GivesAll (ended line) (Err WriteFault) held held2 a b
+line_begun line held held2 a b some none = cuts_longer WriteFault line (10 ∷ []) held held2 a b (some, none)
 
-pub line_hidden : (set : List ℕ) (before : List Item) (text : List ℕ) (kept : Bool) → kept ≡ shows set (line_at before text) → kept ≡ false → text_behind set before (Text text ∷ []) ≡ []
-line_hidden set before text kept is false_is = hidden_line (shows set (line_at before text)) text (sym is ∙ false_is)
+next_text : (file : List ℕ) (r : VersionPlace) (text : List ℕ) (lines : List HistoryLine) → (n : ComesNext file r text lines) → text_of_lines lines ≡ ended text ++ text_of_lines n.rest
+next_text file r text lines n = ap text_of_lines n.whole ∙ ap (λ t. ended t ++ text_of_lines n.rest) n.text_is
 
--- a text behind the item behind its line changes nothing of what is shown
-pub prints_line : (set : List ℕ) (before : List Item) (text : List ℕ) (weaver : List Region) (result : Result (Unit {0}) StepFault) (out out2 : Option (List ℕ)) → Holds set (Text text ∷ before) weaver
-    → Prints (text_behind set (Text text ∷ before) (Text text ∷ [])) result out out2 → PrintsItem set before (Text text) weaver result out out2
-prints_line set before text weaver (Ok done) out out2 holds prints = (holds, prints)
-prints_line set before text weaver (Err fault) out out2 holds prints = prints
+pub next_given : (file : List ℕ) (r : VersionPlace) (text : List ℕ) (lines : List HistoryLine) (held held2 : List ℕ) (out out2 : Option (List ℕ)) → ComesNext file r text lines → Buffers held (ended text) held2 out out2 → Moved file r lines held held2 out out2
+next_given file r text lines held held2 out out2 n gives = record { gone = ended text; rest = n.rest; whole = next_text file r text lines n; gives = gives; on = n.on }
 
--- ---- as a test on the answer shows
+pub next_cut : (file : List ℕ) (r : VersionPlace) (text : List ℕ) (lines : List HistoryLine) (fault : StepFault) (held held2 : List ℕ) (out out2 : Option (List ℕ)) → ComesNext file r text lines → Cuts (ended text) fault held held2 out out2 → Cuts (text_of_lines lines) fault held held2 out out2
+next_cut file r text lines fault held held2 out out2 n cuts =
+    subst (λ all. Cuts all fault held held2 out out2) (sym (next_text file r text lines n)) (cuts_longer fault (ended text) (text_of_lines n.rest) held held2 out out2 cuts)
 
-pub more_left : (file live set : List ℕ) (r : ItemPlace) (w : List Region) (text : List ℕ) (more : Bool) (out out2 : Option (List ℕ)) → more ≡ true → PrintsOn file live set r w text (Ok more) out out2 → Printed file live set r w text out out2
-more_left file live set r w text more out out2 is on = subst (λ b. PrintsOn file live set r w text (Ok b) out out2) is on
+pub none_next : (lines : List HistoryLine) (held : List ℕ) (out : Option (List ℕ)) → lines ≡ [] → Buffers held (text_of_lines lines) held out out
+none_next lines held out none = subst (λ (ls : List HistoryLine). Buffers held (text_of_lines ls) held out out) (sym none) (buffers_none held out)
 
-pub none_left : (file live set : List ℕ) (r : ItemPlace) (w : List Region) (text : List ℕ) (more : Bool) (out out2 : Option (List ℕ)) → more ≡ false → PrintsOn file live set r w text (Ok more) out out2 → GivesOk out out2 text
-none_left file live set r w text more out out2 is on = subst (λ b. PrintsOn file live set r w text (Ok b) out out2) is on
+-- over a told body only the disk or memory can end it
+pub next_fault : (file : List ℕ) (r : VersionPlace) (lines : List HistoryLine) (fault : FileFault) (ended_so : StepFault) (held : List ℕ) (out : Option (List ℕ)) → ended_so ≡ file_fault fault → GivesNext file r lines (Err fault) → Cuts (text_of_lines lines) ended_so held held out out
+next_fault file r lines faults.Failed ended_so held out is given = subst (λ f. Cuts (text_of_lines lines) f held held out out) (sym is) (nothing_given (text_of_lines lines) held out)
+next_fault file r lines faults.Memory ended_so held out is given = subst (λ f. Cuts (text_of_lines lines) f held held out out) (sym is) (nothing_given (text_of_lines lines) held out)
+next_fault file r lines (faults.BadFormat line) ended_so held out is given = absurd given
+next_fault file r lines faults.Missing ended_so held out is given = absurd given
+next_fault file r lines faults.TooLong ended_so held out is given = absurd given
+next_fault file r lines faults.NotSccs ended_so held out is given = absurd given
+next_fault file r lines (faults.BadSum stored sum) ended_so held out is given = absurd given
+next_fault file r lines faults.Encoded ended_so held out is given = absurd given
+
+-- ---- what was held back is given at the end
+
+some_shorter : (text : List ℕ) (n : ℕ) (a b : Option (List ℕ)) → n ≤ length text → GivesSome a b (take n text) → GivesSome a b text
+some_shorter text n a b fits some = subst (λ all. GivesSome a b all) (take-append-drop n text) (some_longer a b (take n text) (drop n text) some)
+
+take_none : (n : ℕ) → take {A = ℕ} n [] ≡ []
+take_none zero = refl
+take_none (suc n) = refl
+
+nothing_more : (b c : Option (List ℕ)) → GivesSome b c [] → c ≡ b
+nothing_more None c some = some
+nothing_more (Some f) c some = some.2 ∙ ap Some (ap (λ front. f ++ front) (take_none some.0) ∙ append-nil f)
+
+-- what a flush gives
+abbrev pub Flushes : List ℕ → Bool → Option (List ℕ) → Option (List ℕ) → Type 0
+Flushes held true b c = GivesOk b c held
+Flushes held false b c = GivesSome b c held
+
+flush_some : (text held : List ℕ) (well : Bool) (a b c : Option (List ℕ)) → Buffers [] text held a b → Flushes held well b c → GivesSome a c text
+flush_some text held true a b c first rest = some_of_whole a c text (buffers_flushed [] text held a b c first rest)
+flush_some text held false a b c first rest = buffers_cut [] text held a b c first rest
+
+write_some : (text held : List ℕ) (well : Bool) (a b c : Option (List ℕ)) → GivesSome a b text → held ≡ [] → Flushes held well b c → GivesSome a c text
+write_some text held true a b c some none rest = subst (λ t. GivesSome a t text) (sym (nothing_more b c (subst (λ h. GivesSome b c h) none (some_of_whole b c held rest)))) some
+write_some text held false a b c some none rest = subst (λ t. GivesSome a t text) (sym (nothing_more b c (subst (λ h. GivesSome b c h) none rest))) some
+
+pub all_flushed : (text held : List ℕ) (given : Result (Unit {0}) StepFault) (a b c : Option (List ℕ)) → GivesAll text given [] held a b → GivesOk b c held → Prints text given a c
+all_flushed text held (Ok done) a b c gives rest = buffers_flushed [] text held a b c gives rest
+all_flushed text held (Err Memory) a b c gives rest = some_shorter text gives.0 a c gives.1 (flush_some (take gives.0 text) held true a b c gives.2 rest)
+all_flushed text held (Err DiskFault) a b c gives rest = some_shorter text gives.0 a c gives.1 (flush_some (take gives.0 text) held true a b c gives.2 rest)
+all_flushed text held (Err WriteFault) a b c gives rest = write_some text held true a b c gives.0 gives.1 rest
+all_flushed text held (Err ReadFault) a b c gives rest = absurd gives
+all_flushed text held (Err (Refused refusal)) a b c gives rest = absurd gives
+
+pub fault_flushed : (text held : List ℕ) (fault : StepFault) (a b c : Option (List ℕ)) → GivesAll text (Err fault) [] held a b → GivesSome b c held → Prints text (Err fault) a c
+fault_flushed text held Memory a b c gives rest = some_shorter text gives.0 a c gives.1 (flush_some (take gives.0 text) held false a b c gives.2 rest)
+fault_flushed text held DiskFault a b c gives rest = some_shorter text gives.0 a c gives.1 (flush_some (take gives.0 text) held false a b c gives.2 rest)
+fault_flushed text held WriteFault a b c gives rest = write_some text held false a b c gives.0 gives.1 rest
+fault_flushed text held ReadFault a b c gives rest = absurd gives
+fault_flushed text held (Refused refusal) a b c gives rest = absurd gives
+
+pub flush_cut : (text held : List ℕ) (a b c : Option (List ℕ)) → GivesAll text (Ok tt) [] held a b → GivesSome b c held → Prints text (Err WriteFault) a c
+flush_cut text held a b c gives rest = buffers_cut [] text held a b c gives rest
+
+pub silent_prints : (text : List ℕ) (out : Option (List ℕ)) → Prints text (Err Memory) out out
+silent_prints text out = some_none out text
+
+-- ---- over any disk
+
+pub texts_read : (live : List ℕ) (r r2 : VersionPlace) (before : List Item) (text given held held2 : List ℕ) (out out2 : Option (List ℕ)) → given ≡ text → ReadsOn live r2 before text → Buffers held given held2 out out2 → ReadSome live r2 before held held2 out out2
+texts_read live r r2 before text given held held2 out out2 is on gives = record {
+  items = on.items;
+  read = on.read;
+  gone = given;
+  text_is = on.text_is ∙ ap (λ more. text_before r2.set before ++ more) (sym is);
+  gives = gives;
+}
+
+pub hidden_read : (live : List ℕ) (r : VersionPlace) (before : List Item) (held : List ℕ) (out : Option (List ℕ)) → ReadsOn live r before [] → ReadSome live r before held held out out
+hidden_read live r before held out on = record { items = on.items; read = on.read; gone = []; text_is = on.text_is; gives = buffers_none held out }
+
+pub end_read : (live : List ℕ) (r : VersionPlace) (before : List Item) (held : List ℕ) (out : Option (List ℕ)) → ReadsAll live r.set before → ReadWhole live r.set before held held out out
+end_read live r before held out all = record {
+  items = all.items;
+  stood = all.stood;
+  over = all.over;
+  gone = [];
+  text_is = all.text_is ∙ sym (append-nil (text_before r.set before));
+  gives = buffers_none held out;
+}
+
+pub read_none : (live : List ℕ) (r : VersionPlace) (before : List Item) (held : List ℕ) (out : Option (List ℕ)) → HasRead live r before → ReadSome live r before held held out out
+read_none live r before held out h = record { items = before; read = h; gone = []; text_is = sym (append-nil (text_before r.set before)); gives = buffers_none held out }
+
+joined : (first front gone more all : List ℕ) → first ≡ front ++ gone → all ≡ first ++ more → all ≡ front ++ (gone ++ more)
+joined first front gone more all is on = on ∙ (ap (λ text. text ++ more) is ∙ append_assoc front gone more)
+
+pub read_both : (live : List ℕ) (r r2 : VersionPlace) (before : List Item) (held mid held2 : List ℕ) (a b c : Option (List ℕ)) → r2.set ≡ r.set → (some : ReadSome live r before held mid a b) → ReadSome live r2 some.items mid held2 b c → ReadSome live r2 before held held2 a c
+read_both live r r2 before held mid held2 a b c same some next = record {
+  items = next.items;
+  read = next.read;
+  gone = some.gone ++ next.gone;
+  text_is = joined (text_before r2.set some.items) (text_before r2.set before) some.gone next.gone (text_before r2.set next.items)
+      (subst (λ set. text_before set some.items ≡ text_before set before ++ some.gone) (sym same) some.text_is) next.text_is;
+  gives = buffers_both held some.gone mid next.gone held2 a b c some.gives next.gives;
+}
+
+pub read_end : (live set : List ℕ) (r r2 : VersionPlace) (before : List Item) (held mid held2 : List ℕ) (a b c : Option (List ℕ)) → r2.set ≡ set → r2.set ≡ r.set → (some : ReadSome live r before held mid a b) → ReadWhole live r2.set some.items mid held2 b c → ReadWhole live set before held held2 a c
+read_end live set r r2 before held mid held2 a b c is same some whole = record {
+  items = whole.items;
+  stood = whole.stood;
+  over = whole.over;
+  gone = some.gone ++ whole.gone;
+  text_is = subst (λ s. text_before s whole.items ≡ text_before s before ++ (some.gone ++ whole.gone)) is
+      (joined (text_before r2.set some.items) (text_before r2.set before) some.gone whole.gone (text_before r2.set whole.items)
+      (subst (λ s. text_before s some.items ≡ text_before s before ++ some.gone) (sym same) some.text_is) whole.text_is);
+  gives = buffers_both held some.gone mid whole.gone held2 a b c some.gives whole.gives;
+}
+
+pub read_whole : (live set held2 : List ℕ) (a b c : Option (List ℕ)) → (w : ReadWhole live set [] [] held2 a b) → ((text : List ℕ) (before : Option (List ℕ)) → Buffers [] text held2 before b → GivesOk before c text) → PrintsWhole live set a c
+read_whole live set held2 a b c w flush = record {
+  items = w.items;
+  stood = w.stood;
+  over = w.over;
+  gives = subst (λ text. GivesOk a c text) (sym w.text_is) (flush w.gone a w.gives);
+}
+
+-- where all was printed all was given, and the flush gave what was held
+pub print_whole : {X Y P : Type 0} (given result : Result (Unit {0}) StepFault) → OnOk result (IsOk given) → OnOk given X → OnOk result Y → (X → Y → P) → OnOk result P
+print_whole (Ok done) (Ok printed) ok gives flush whole = whole gives flush
+print_whole (Err fault) (Ok printed) ok gives flush whole = absurd cc
+print_whole given (Err fault) ok gives flush whole = tt

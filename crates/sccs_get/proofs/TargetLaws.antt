@@ -1,23 +1,24 @@
 -- The set of deltas that a get asks for, part by part.
-use Rattle.std.proofs.Common.{◌≡◌, ℕ, ℤ, List, [], Option, None, Some, Result, Ok, Err, refl, sym, ap, subst, ◌∙◌}
+use Rattle.std.proofs.Common.{◌≡◌, ℕ, ℤ, List, Option, None, Some, Result, Ok, Err, refl, sym, ap, subst, ◌∙◌}
 use Rattle.std.specs.Prelude.{option_map}
 use Rattle.sccs_sid.specs.Reading.{◌>>=◌}
 use Rattle.sccs_sid.specs.declared.sids.Sid.{Sid}
 use Rattle.sccs_sid.specs.declared.refusals.Refusal.{Refusal}
 use Rattle.sccs_sid.specs.declared.refusals.Refusal.TheVariants as refusals
 use Rattle.sccs_sid.specs.declared.refusals.StepFault.{StepFault}
-use Rattle.sccs_history.specs.Applied.{Asked, applied}
+use Rattle.sccs_history.specs.Applied.{applied}
 use Rattle.sccs_history.specs.declared.headers.Record.{Record}
 use Rattle.sccs_history.specs.declared.headers.Header.{Header}
 use Rattle.sccs_sets.specs.Retrieved.{retrieved}
 use Rattle.sccs_sets.specs.Naming.{Answers}
+use Rattle.sccs_sets.specs.SetRefusals.{or_bad_list, set_fault}
 use Rattle.sccs_sets.specs.Sets.{Explains, both_listed}
 use Rattle.sccs_sets.specs.declared.faults.SetFault.{SetFault}
 use Rattle.sccs_sets.specs.declared.faults.SetFault.TheVariants.{BadList, Memory}
 use Rattle.sccs_words.specs.declared.commands.GetWords.{GetWords}
-use Rattle.sccs_steps.specs.Deeds.{there}
-use Rattle.sccs_get.specs.GetStep.{apart, listed, or_bad_list, set_asked, spec_asked}
-use Rattle.sccs_get.specs.Targets.{AnswersSet, list_fault}
+use Rattle.sccs_steps.specs.StepEffects.{there}
+use Rattle.sccs_get.specs.GetStep.{apart, listed, set_asked, spec_asked}
+use Rattle.sccs_get.specs.Targets.{AnswersSet}
 
 -- the set for parts that are given one by one
 abbrev pub set_by : Option ℕ → Result (List ℕ) Sid → Result (List ℕ) Sid → Option ℤ → List Record → Result (List ℕ) Refusal
@@ -43,7 +44,7 @@ found_target : (words : GetWords) (header : Header) (n : ℕ) → retrieved head
 found_target words header n found =
     asked_by words header ∙ ap (λ (found : Option ℕ). set_by found (listed header.records words.include) (listed header.records words.exclude) (option_map (λ m. m.seconds) words.cutoff) header.records) found
 
-pub include_ends : (words : GetWords) (header : Header) (n : ℕ) (fault : SetFault) (ended : StepFault) → retrieved header.records (spec_asked words header) words.top ≡ Some n → Answers (listed header.records words.include) (Err fault) → ended ≡ list_fault fault → AnswersSet (set_asked words header) (Err ended)
+pub include_ends : (words : GetWords) (header : Header) (n : ℕ) (fault : SetFault) (ended : StepFault) → retrieved header.records (spec_asked words header) words.top ≡ Some n → Answers (listed header.records words.include) (Err fault) → ended ≡ set_fault fault → AnswersSet (set_asked words header) (Err ended)
 include_ends words header n (BadList sid) ended found said is =
     subst (λ e. AnswersSet (set_asked words header) (Err e)) (sym is)
     (found_target words header n found ∙ ap (λ (list : Result (List ℕ) Sid). set_by (Some n) list (listed header.records words.exclude) (option_map (λ m. m.seconds) words.cutoff) header.records) said)
@@ -55,7 +56,7 @@ included words header n include found is =
     found_target words header n found ∙ ap (λ (list : Result (List ℕ) Sid). set_by (Some n) list (listed header.records words.exclude) (option_map (λ m. m.seconds) words.cutoff) header.records) is
 
 pub exclude_ends : (words : GetWords) (header : Header) (n : ℕ) (include : List ℕ) (fault : SetFault) (ended : StepFault) → retrieved header.records (spec_asked words header) words.top ≡ Some n → listed header.records words.include ≡ Ok include
-    → Answers (listed header.records words.exclude) (Err fault) → ended ≡ list_fault fault → AnswersSet (set_asked words header) (Err ended)
+    → Answers (listed header.records words.exclude) (Err fault) → ended ≡ set_fault fault → AnswersSet (set_asked words header) (Err ended)
 exclude_ends words header n include (BadList sid) ended found taken said is =
     subst (λ e. AnswersSet (set_asked words header) (Err e)) (sym is)
     (included words header n include found taken ∙ ap (λ (list : Result (List ℕ) Sid). set_by (Some n) (Ok include) list (option_map (λ m. m.seconds) words.cutoff) header.records) said)
@@ -73,7 +74,7 @@ set_apart n include exclude cutoff records shared = do
   Ok (applied (record { target = n; include = include; exclude = exclude; cutoff = cutoff }) records)
 
 pub shared_ends : (words : GetWords) (header : Header) (n : ℕ) (include exclude : List ℕ) (fault : SetFault) (ended : StepFault) → retrieved header.records (spec_asked words header) words.top ≡ Some n → listed header.records words.include ≡ Ok include → listed header.records words.exclude ≡ Ok exclude
-    → Explains (both_listed header.records include exclude) fault → ended ≡ list_fault fault → AnswersSet (set_asked words header) (Err ended)
+    → Explains (both_listed header.records include exclude) fault → ended ≡ set_fault fault → AnswersSet (set_asked words header) (Err ended)
 shared_ends words header n include exclude (BadList sid) ended found taken left shared is =
     subst (λ e. AnswersSet (set_asked words header) (Err e)) (sym is)
     (excluded words header n include exclude found taken left ∙ ap (set_apart n include exclude (option_map (λ m. m.seconds) words.cutoff) header.records) shared)

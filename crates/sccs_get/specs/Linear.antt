@@ -5,7 +5,7 @@ use Rattle.sccs_history.specs.Linear.{IsLinear}
 use Rattle.sccs_grammar.specs.File.{Parsed}
 use Rattle.sccs_sets.specs.Trunks.{IsTrunk}
 use Rattle.sccs_words.specs.declared.commands.GetWords.{GetWords}
-use Rattle.sccs_get.specs.GetStep.{default_of}
+use Rattle.sccs_sets.specs.Flags.{default_of}
 
 -- Neither a SID is asked for, nor lists or a cutoff are given.
 pub record AsksNewest (words : GetWords) : Type 0 where

@@ -1,16 +1,8 @@
 -- What is answered for the set of deltas that a get asks for. Of want of memory nothing is said.
 use Rattle.std.specs.Prelude.{◌≡◌, ℕ, List, Result, Ok, Err}
 use Rattle.sccs_sid.specs.declared.refusals.Refusal.{Refusal}
-use Rattle.sccs_sid.specs.declared.refusals.Refusal.TheVariants.{BadList}
 use Rattle.sccs_sid.specs.declared.refusals.StepFault.{StepFault}
 use Rattle.sccs_sid.specs.declared.refusals.StepFault.TheVariants.{Refused, Memory, ReadFault, WriteFault, DiskFault}
-use Rattle.sccs_sets.specs.declared.faults.SetFault.{SetFault}
-use Rattle.sccs_sets.specs.declared.faults.SetFault.TheVariants as sets
-
--- how a step ends where a set can't be made
-abbrev pub list_fault : SetFault → StepFault
-list_fault (sets.BadList sid) = Refused (BadList sid)
-list_fault sets.Memory = Memory
 
 -- the set, or the refusal
 abbrev pub AnswersSet : Result (List ℕ) Refusal → Result (List ℕ) StepFault → Type 0

@@ -5,7 +5,7 @@ ghost use Rattle.sccs_history.specs.Linear.{has_no_delete, texts_of, undeleted};
 ghost use Rattle.sccs_grammar.specs.File.{Parsed, answer, file_of};
 ghost use Rattle.sccs_grammar.specs.Written.{bytes_of};
 ghost use Rattle.sccs_words.specs.declared.commands.GetWords.{GetWords};
-ghost use Rattle.sccs_steps.specs.StepFiles.{Files};
+ghost use Rattle.sccs_files.specs.StepFiles.{Files};
 ghost use Rattle.sccs_get.specs.GetStep.{bytes_at, get_step, prints};
 ghost use Rattle.sccs_get.specs.Linear.{AsksNewest, IsLinearFile};
 

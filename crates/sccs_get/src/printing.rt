@@ -1,177 +1,151 @@
-ghost use Rattle.std.specs.Prelude.{◌≡◌, ◌≢◌, ◌<◌, ◌≤◌, ◌+◌, ℕ, List, [], ◌∷◌, true, length, Some, IfOk, Err};
-ghost use Rattle.sccs_base.specs.Stream.{Rose};
+ghost use Rattle.std.specs.Prelude.{◌≡◌, ◌≢◌, ◌<◌, ◌≤◌, ◌⊎◌, ℕ, List, [], Option, true, false, Some, Err, IfOk, IsOk, OnOk};
+ghost use Rattle.sccs_base.specs.Stream.{Buffers, GivesOk, Rose};
+ghost use Rattle.sccs_grammar.specs.Written.{ended};
 ghost use Rattle.sccs_disk.specs.Told.{seen};
+ghost use Rattle.sccs_history.specs.Body.{HistoryLine, lines_of};
 ghost use Rattle.sccs_history.specs.Applied.{live_serials};
-ghost use Rattle.sccs_history.specs.Body.{line_at};
-ghost use Rattle.sccs_history.specs.Select.{shows};
+ghost use Rattle.sccs_history.specs.Numbers.{has};
 ghost use Rattle.sccs_history.specs.declared.headers.Item.{Item};
-ghost use Rattle.sccs_history.specs.declared.headers.Item.TheVariants as items;
-ghost use Rattle.sccs_sid.specs.declared.refusals.Refusal.{Refusal};
 ghost use Rattle.sccs_sid.specs.declared.refusals.StepFault.TheVariants as faults;
+ghost use Rattle.sccs_steps.specs.Actions.{RefusesWithin};
+ghost use Rattle.sccs_steps.specs.Causes.{PrintCauses, WriteCauses};
 ghost use Rattle.sccs_table.specs.FrontFile.{IsPlaced};
 ghost use Rattle.sccs_table.specs.Standing.{bytes_in};
-ghost use Rattle.sccs_weave.specs.Regions.{Holds};
-ghost use Rattle.sccs_get.specs.GetStep.{may_refuse};
-ghost use Rattle.sccs_get.specs.Printing.{IsBody, Printing, Prints, PrintsItem, PrintsOn, PrintsTexts, shown_text, step_fault, text_behind};
+ghost use Rattle.sccs_versions.specs.Coming.{Coming, IsBody, shown, text_of_lines};
+ghost use Rattle.sccs_versions.specs.Place.{bytes_left, name_of};
+ghost use Rattle.sccs_versions.specs.WasRead.{HasRead};
+ghost use Rattle.sccs_get.specs.GetStep.{get_checks};
+ghost use Rattle.sccs_get.specs.Printing.{GivesAll, GivesLines, GivesMore, Prints, PrintsWhole, ReadSome, ReadWhole, ReadsMore};
 
-use sccs_base::{Line, Name, Sink, give_parts};
-use sccs_body::{Item, ItemReader};
+use sccs_base::{Line, Name, OutputBuffer, Sink};
 use sccs_disk::Disk;
-use sccs_grammar::FileFault;
 use sccs_sets::Applied;
-use sccs_sid::{Refusal, StepFault};
+use sccs_sid::StepFault;
 use sccs_table::Front;
-use sccs_weave::Weaver;
+use sccs_versions::{Next, VersionReader};
 use std::alloc::Global;
 
-/// Why a file isn't read, as the fault of a step.
-pub fn step_fault(fault: FileFault) -> StepFault
-    ensures value { result ≡ step_fault fault }
-    ensures refusals { (refusal : Refusal) → result ≡ faults.Refused refusal → may_refuse refusal ≡ true }
-{
-    match fault {
-        FileFault::Missing => StepFault::Refused(Refusal::Missing),
-        FileFault::TooLong => StepFault::Refused(Refusal::TooLong),
-        FileFault::NotSccs => StepFault::Refused(Refusal::NotSccs),
-        FileFault::BadSum(stored, sum) => StepFault::Refused(Refusal::BadSum(stored, sum)),
-        FileFault::BadFormat(line) => StepFault::Refused(Refusal::BadFormat(line)),
-        FileFault::Encoded => StepFault::Refused(Refusal::Encoded),
-        FileFault::Failed => StepFault::DiskFault,
-        FileFault::Memory => StepFault::Memory,
-    }
-}
-
-// gives text lines that stand together, where the set shows them
-fn give_texts<O: Sink>(texts: &[u8], weaver: &Weaver, out: &mut O) -> Result<(), StepFault>
-    ensures later { O.faults out.old ≤ O.faults out.new }
-    ensures write_fault { result ≡ Err faults.WriteFault → Rose (O.faults out.old) (O.faults out.new) }
-    ensures read_fault { result ≢ Err faults.ReadFault }
-    ensures disk_fault { result ≢ Err faults.DiskFault }
-    ensures prints { (set : List ℕ) (before : List Item) → Holds set before weaver.now
-        → Prints (shown_text (shows set (line_at before [])) texts.now) result (O.given out.old) (O.given out.new) }
-    ensures refusals { (refusal : Refusal) → result ≡ Err (faults.Refused refusal) → may_refuse refusal ≡ true }
-{
-    if texts.is_empty() {
-        return Ok(());
-    }
-    if weaver.keep() {
-        match out.give(texts) {
-            Ok(()) => Ok(()),
-            Err(_) => Err(StepFault::WriteFault),
-        }
-    } else {
-        Ok(())
-    }
-}
-
-// gives the text lines that are held whole, where the set shows them, and passes over them
-fn print_texts<O: Sink>(
-    items: &mut ItemReader,
-    weaver: &Weaver,
+// gives the lines that are held whole, and passes over them
+fn give_texts<O: Sink>(
+    version: &mut VersionReader<'_>,
+    buffer: &mut OutputBuffer,
     out: &mut O,
 ) -> Result<(), StepFault>
-    ensures later { O.faults out.old ≤ O.faults out.new }
-    ensures write_fault { result ≡ Err faults.WriteFault → Rose (O.faults out.old) (O.faults out.new) }
-    ensures read_fault { result ≢ Err faults.ReadFault }
-    ensures disk_fault { result ≢ Err faults.DiskFault }
-    ensures name { items.new.lines.name ≡ items.old.lines.name }
-    ensures size { items.new.lines.size ≡ items.old.lines.size }
-    ensures onward { items.old.lines.place ≤ items.new.lines.place }
-    ensures prints { (file live set : List ℕ) (text : List ℕ)
-        → Printing file live set items.old weaver.now text
-        → PrintsTexts file live set items.new weaver.now text result (O.given out.old) (O.given out.new) }
-    ensures refusals { (refusal : Refusal) → result ≡ Err (faults.Refused refusal) → may_refuse refusal ≡ true }
+    ensures causes { WriteCauses result (O.faults out.old) (O.faults out.new) }
+    ensures checks { RefusesWithin get_checks result }
+    ensures set { version.new.set ≡ version.old.set }
+    ensures name { name_of version.new ≡ name_of version.old }
+    ensures left { bytes_left version.new ≤ bytes_left version.old }
+    ensures gives { (file : List ℕ) (lines : List HistoryLine) → Coming file version.old lines
+        → GivesLines file version.new lines result buffer.old buffer.new (O.given out.old) (O.given out.new) }
+    ensures read { OnOk result ((live : List ℕ) (before : List Item) → HasRead live version.old before
+        → ReadSome live version.new before buffer.old buffer.new (O.given out.old) (O.given out.new)) }
 {
-    let texts = items.texts();
+    let texts = version.texts();
     let count = texts.len();
-    if let Err(fault) = give_texts(texts, weaver, out) {
-        return Err(fault);
-    }
-    items.pass(count);
+    let Ok(()) = buffer.give(out, texts) else {
+        return Err(StepFault::WriteFault);
+    };
+    version.pass(count);
     Ok(())
 }
 
-// gives a line where the set shows it
-fn print_line<O: Sink>(line: &Line, weaver: &Weaver, out: &mut O) -> Result<(), StepFault>
-    ensures later { O.faults out.old ≤ O.faults out.new }
-    ensures write_fault { result ≡ Err faults.WriteFault → Rose (O.faults out.old) (O.faults out.new) }
-    ensures read_fault { result ≢ Err faults.ReadFault }
-    ensures disk_fault { result ≢ Err faults.DiskFault }
-    ensures prints { (set : List ℕ) (before : List Item) → Holds set before weaver.now
-        → Prints (text_behind set before (items.Text line.now ∷ [])) result (O.given out.old) (O.given out.new) }
-    ensures refusals { (refusal : Refusal) → result ≡ Err (faults.Refused refusal) → may_refuse refusal ≡ true }
+// gives a line with its LF
+fn give_line<O: Sink>(line: &Line, buffer: &mut OutputBuffer, out: &mut O) -> Result<(), StepFault>
+    ensures causes { WriteCauses result (O.faults out.old) (O.faults out.new) }
+    ensures checks { RefusesWithin get_checks result }
+    ensures gives { GivesAll (ended line.now) result buffer.old buffer.new (O.given out.old) (O.given out.new) }
 {
-    if weaver.keep() {
-        match give_parts(out, &[line.bytes(), b"\n"]) {
-            Ok(()) => Ok(()),
-            Err(_) => Err(StepFault::WriteFault),
-        }
-    } else {
-        Ok(())
-    }
-}
-
-// takes an item, and gives its line where the set shows it
-fn print_item<O: Sink>(
-    item: &Item,
-    set: &Applied,
-    weaver: &mut Weaver,
-    out: &mut O,
-) -> Result<(), StepFault>
-    ensures later { O.faults out.old ≤ O.faults out.new }
-    ensures write_fault { result ≡ Err faults.WriteFault → Rose (O.faults out.old) (O.faults out.new) }
-    ensures read_fault { result ≢ Err faults.ReadFault }
-    ensures disk_fault { result ≢ Err faults.DiskFault }
-    ensures prints { (before : List Item) → Holds set.now before weaver.old
-        → PrintsItem set.now before item.now weaver.new result (O.given out.old) (O.given out.new) }
-    ensures refusals { (refusal : Refusal) → result ≡ Err (faults.Refused refusal) → may_refuse refusal ≡ true }
-{
-    let Ok(()) = weaver.push_item(item, set) else {
-        return Err(StepFault::Memory);
+    let Ok(()) = buffer.give(out, line.bytes()) else {
+        return Err(StepFault::WriteFault);
     };
-    match item {
-        Item::Text(line) => print_line(line, weaver, out),
-        Item::Insert(_) => Ok(()),
-        Item::Delete(_) => Ok(()),
-        Item::End(_) => Ok(()),
-    }
+    let Ok(()) = buffer.give(out, b"\n") else {
+        return Err(StepFault::WriteFault);
+    };
+    Ok(())
 }
 
-// takes the next item, and gives its line where the set shows it; false at the end of the body
-fn print_next<O: Sink, D: Disk>(
-    set: &Applied,
-    items: &mut ItemReader,
-    weaver: &mut Weaver,
+// gives the next line; false at the end of the body
+fn give_next<O: Sink, D: Disk>(
+    version: &mut VersionReader<'_>,
+    buffer: &mut OutputBuffer,
     out: &mut O,
     disk: &mut D,
 ) -> Result<bool, StepFault>
     ensures same { D.told disk.new ≡ D.told disk.old }
-    ensures later { D.faults disk.old ≤ D.faults disk.new }
-    ensures out_later { O.faults out.old ≤ O.faults out.new }
-    ensures write_fault { result ≡ Err faults.WriteFault → Rose (O.faults out.old) (O.faults out.new) }
-    ensures read_fault { result ≢ Err faults.ReadFault }
-    ensures disk_fault { result ≡ Err faults.DiskFault → Rose (D.faults disk.old) (D.faults disk.new) }
-    ensures name { items.new.lines.name ≡ items.old.lines.name }
-    ensures size { items.new.lines.size ≡ items.old.lines.size }
-    ensures ahead { items.new.lines.place + length items.new.lines.held ≤ items.new.lines.size }
-    ensures further { IfOk result (λ more. more ≡ true → items.old.lines.place < items.new.lines.place) }
-    ensures prints { (file live : List ℕ) (text : List ℕ)
-        → bytes_in (seen (D.told disk.old)) items.old.lines.name ≡ Some file
-        → Printing file live set.now items.old weaver.old text
-        → PrintsOn file live set.now items.new weaver.new text result (O.given out.old) (O.given out.new) }
-    ensures refusals { (refusal : Refusal) → result ≡ Err (faults.Refused refusal) → may_refuse refusal ≡ true }
+    ensures causes { PrintCauses result (O.faults out.old) (O.faults out.new) (D.faults disk.old) (D.faults disk.new) }
+    ensures checks { RefusesWithin get_checks result }
+    ensures set { version.new.set ≡ version.old.set }
+    ensures name { name_of version.new ≡ name_of version.old }
+    ensures further { IfOk result (λ more. more ≡ true → bytes_left version.new < bytes_left version.old) }
+    ensures gives { (file : List ℕ) (lines : List HistoryLine) → bytes_in (seen (D.told disk.old)) (name_of version.old) ≡ Some file → Coming file version.old lines
+        → GivesMore file version.new lines result buffer.old buffer.new (O.given out.old) (O.given out.new) }
+    ensures read { (live : List ℕ) (before : List Item) → HasRead live version.old before
+        → ReadsMore live version.new before result buffer.old buffer.new (O.given out.old) (O.given out.new) }
 {
-    match items.next(disk) {
-        Ok(Some(item)) => match print_item(&item, set, weaver, out) {
+    match version.next(disk) {
+        Ok(Next::Line(line)) => match give_line(&line, buffer, out) {
             Ok(()) => Ok(true),
             Err(fault) => Err(fault),
         },
-        Ok(None) => Ok(false),
-        Err(fault) => Err(step_fault(fault)),
+        Ok(Next::Hidden) => Ok(true),
+        Ok(Next::End) => Ok(false),
+        Err(fault) => Err(StepFault::from(fault)),
     }
 }
 
-/// Gives the lines of a body that a set shows, each with LF.
+// gives all lines of a version
+fn give_all<O: Sink, D: Disk>(
+    version: &mut VersionReader<'_>,
+    buffer: &mut OutputBuffer,
+    out: &mut O,
+    disk: &mut D,
+) -> Result<(), StepFault>
+    ensures same { D.told disk.new ≡ D.told disk.old }
+    ensures causes { PrintCauses result (O.faults out.old) (O.faults out.new) (D.faults disk.old) (D.faults disk.new) }
+    ensures checks { RefusesWithin get_checks result }
+    ensures gives { (file : List ℕ) (lines : List HistoryLine) → bytes_in (seen (D.told disk.old)) (name_of version.old) ≡ Some file → Coming file version.old lines
+        → GivesAll (text_of_lines lines) result buffer.old buffer.new (O.given out.old) (O.given out.new) }
+    ensures read { OnOk result ((live : List ℕ) (before : List Item) → HasRead live version.old before
+        → ReadWhole live version.old.set before buffer.old buffer.new (O.given out.old) (O.given out.new)) }
+{
+    'lines: loop {
+        match give_texts(version, buffer, out) {
+            Ok(()) => {}
+            Err(fault) => return Err(fault),
+        }
+        match give_next(version, buffer, out, disk) {
+            Ok(true) => {}
+            Ok(false) => return Ok(()),
+            Err(fault) => return Err(fault),
+        }
+    }
+}
+
+// what is answered when what was held back is given too, or couldn't be
+fn flushed<O: Sink>(
+    given: Result<(), StepFault>,
+    buffer: &mut OutputBuffer,
+    out: &mut O,
+) -> Result<(), StepFault>
+    ensures later { O.faults out.old ≤ O.faults out.new }
+    ensures cause { result ≡ Err faults.WriteFault → (given ≡ Err faults.WriteFault) ⊎ Rose (O.faults out.old) (O.faults out.new) }
+    ensures others { result ≢ Err faults.WriteFault → result ≡ given }
+    ensures prints { (text : List ℕ) (before : Option (List ℕ)) → GivesAll text given [] buffer.old before (O.given out.old) → Prints text result before (O.given out.new) }
+    ensures all { OnOk result ((text : List ℕ) (before : Option (List ℕ)) → Buffers [] text buffer.old before (O.given out.old) → GivesOk before (O.given out.new) text) }
+    ensures given { OnOk result (IsOk given) }
+{
+    match buffer.flush(out) {
+        Ok(()) => given,
+        Err(_) => match given {
+            Ok(()) => Err(StepFault::WriteFault),
+            Err(fault) => Err(fault),
+        },
+    }
+}
+
+/// Gives the lines of a body that a set shows, each with LF. They are held back in pieces of 64 KiB;
+/// at the end all that was to be given before is given, also where the disk failed.
 pub fn print_body<O: Sink, D: Disk>(
     alloc: Global,
     name: &Name,
@@ -180,31 +154,20 @@ pub fn print_body<O: Sink, D: Disk>(
     out: &mut O,
     disk: &mut D,
 ) -> Result<(), StepFault>
-    requires { IsPlaced front.now }
     ensures same { D.told disk.new ≡ D.told disk.old }
-    ensures later { D.faults disk.old ≤ D.faults disk.new }
-    ensures out_later { O.faults out.old ≤ O.faults out.new }
-    ensures write_fault { result ≡ Err faults.WriteFault → Rose (O.faults out.old) (O.faults out.new) }
-    ensures read_fault { result ≢ Err faults.ReadFault }
-    ensures disk_fault { result ≡ Err faults.DiskFault → Rose (D.faults disk.old) (D.faults disk.new) }
-    ensures prints { (file : List ℕ) (items : List Item)
+    ensures causes { PrintCauses result (O.faults out.old) (O.faults out.new) (D.faults disk.old) (D.faults disk.new) }
+    ensures checks { RefusesWithin get_checks result }
+    ensures prints { (file : List ℕ) (items : List Item) → IsPlaced front.now
         → IsBody (bytes_in (seen (D.told disk.old)) name.now) front.now set.now file items
-        → Prints (text_behind set.now [] items) result (O.given out.old) (O.given out.new) }
-    ensures refusals { (refusal : Refusal) → result ≡ Err (faults.Refused refusal) → may_refuse refusal ≡ true }
+        → Prints (text_of_lines (shown set.now (lines_of items))) result (O.given out.old) (O.given out.new) }
+    ensures whole { OnOk result (has set.now 0 ≡ false → PrintsWhole (live_serials front.now.header.records) set.now (O.given out.old) (O.given out.new)) }
 {
-    let Ok(mut items) = ItemReader::new(alloc, name, front) else {
+    let Ok(mut version) = VersionReader::new(alloc, name, front, set) else {
         return Err(StepFault::Memory);
     };
-    let mut weaver = Weaver::new(alloc);
-    'body: loop {
-        match print_texts(&mut items, &weaver, out) {
-            Ok(()) => {}
-            Err(fault) => return Err(fault),
-        }
-        match print_next(set, &mut items, &mut weaver, out, disk) {
-            Ok(true) => {}
-            Ok(false) => return Ok(()),
-            Err(fault) => return Err(fault),
-        }
-    }
+    let Ok(mut buffer) = OutputBuffer::new(alloc) else {
+        return Err(StepFault::Memory);
+    };
+    let given = give_all(&mut version, &mut buffer, out, disk);
+    flushed(given, &mut buffer, out)
 }

@@ -6,36 +6,15 @@ ghost use Rattle.sccs_history.specs.History.{IsTable};
 ghost use Rattle.sccs_history.specs.Numbers.{has};
 ghost use Rattle.sccs_sets.specs.Naming.{Answers};
 ghost use Rattle.sccs_sets.specs.Retrieved.{retrieved};
-ghost use Rattle.sccs_sid.specs.declared.refusals.Refusal.{Refusal};
-ghost use Rattle.sccs_sid.specs.declared.refusals.StepFault.TheVariants as faults;
-ghost use Rattle.sccs_get.specs.GetStep.{default_of, listed, may_refuse, set_asked, spec_asked};
-ghost use Rattle.sccs_get.specs.Targets.{AnswersSet, list_fault};
+ghost use Rattle.sccs_steps.specs.Actions.{RefusesWithin};
+ghost use Rattle.sccs_get.specs.GetStep.{get_checks, listed, set_asked, spec_asked};
+ghost use Rattle.sccs_get.specs.Targets.{AnswersSet};
 
-use sccs_history::{Flag, Header, Serials};
-use sccs_sets::{Applied, NoSid, SetFault, delta_set, retrieve, serials};
-use sccs_sid::{Refusal, SidList, Spec, StepFault};
+use sccs_history::{Header, Serials};
+use sccs_sets::{Applied, NoSid, SetFault, default_of, delta_set, retrieve, serials};
+use sccs_sid::{Refusal, SidList, StepFault};
 use sccs_words::GetWords;
 use std::alloc::Global;
-
-// the flag d
-fn default_flag(flags: &[Flag]) -> Option<&Flag>
-    ensures { option_copied result ≡ find (λ f. f.letter == 100) flags.now }
-{
-    flags.iter().find(|flag| flag.letter == b'd')
-}
-
-// the SID of the flag d, where get takes another than the newest delta
-fn default_of(flags: &[Flag]) -> Option<Spec>
-    ensures { result ≡ default_of flags.now }
-{
-    match default_flag(flags) {
-        Some(flag) => match Spec::read(flag.text.bytes()) {
-            Ok(spec) => Some(spec),
-            Err(_) => None,
-        },
-        None => None,
-    }
-}
 
 // the serial that is asked for
 fn target(header: &Header, words: &GetWords) -> Result<u16, NoSid>
@@ -62,23 +41,12 @@ fn listed(alloc: Global, header: &Header, list: Option<&SidList>) -> Result<Seri
     }
 }
 
-// how a step ends where a set can't be made
-fn list_fault(fault: SetFault) -> StepFault
-    ensures value { result ≡ list_fault fault }
-    ensures refusals { (refusal : Refusal) → result ≡ faults.Refused refusal → may_refuse refusal ≡ true }
-{
-    match fault {
-        SetFault::BadList(sid) => StepFault::Refused(Refusal::BadList(sid)),
-        SetFault::Memory => StepFault::Memory,
-    }
-}
-
 /// The set of deltas that a get asks for.
 pub fn set_of(alloc: Global, header: &Header, words: &GetWords) -> Result<Applied, StepFault>
     requires { IsTable header.now.records }
     ensures value { AnswersSet (set_asked words.now header.now) result }
     ensures no_zero { IfOk result (λ set. has set 0 ≡ false) }
-    ensures refusals { (refusal : Refusal) → result ≡ Err (faults.Refused refusal) → may_refuse refusal ≡ true }
+    ensures checks { RefusesWithin get_checks result }
 {
     let target = match target(header, words) {
         Ok(target) => target,
@@ -86,14 +54,14 @@ pub fn set_of(alloc: Global, header: &Header, words: &GetWords) -> Result<Applie
     };
     let include = match listed(alloc, header, words.include.as_ref()) {
         Ok(include) => include,
-        Err(fault) => return Err(list_fault(fault)),
+        Err(fault) => return Err(StepFault::from(fault)),
     };
     let exclude = match listed(alloc, header, words.exclude.as_ref()) {
         Ok(exclude) => exclude,
-        Err(fault) => return Err(list_fault(fault)),
+        Err(fault) => return Err(StepFault::from(fault)),
     };
     match delta_set(alloc, header, target, &include, &exclude, words.cutoff) {
         Ok(set) => Ok(set),
-        Err(fault) => Err(list_fault(fault)),
+        Err(fault) => Err(StepFault::from(fault)),
     }
 }

@@ -20,7 +20,7 @@ use Rattle.sccs_grammar.proofs.SectionLaws.{says, include_again, exclude_again, 
 
 -- ---- lists that share nothing
 
-share-nil : (ns : List ℕ) → share ns [] ≡ false
+pub share-nil : (ns : List ℕ) → share ns [] ≡ false
 share-nil [] = refl
 share-nil (n ∷ ns) = share-nil ns
 
@@ -38,7 +38,7 @@ share_flip (m ∷ ms) ns apart =
 
 -- ---- one entry
 
-smaller_below : (serial : ℕ) (ns : List ℕ) → NamesSmaller serial ns → all_below serial ns ≡ true
+pub smaller_below : (serial : ℕ) (ns : List ℕ) → NamesSmaller serial ns → all_below serial ns ≡ true
 smaller_below serial [] are = refl
 smaller_below serial (n ∷ ns) are = rw (lt-ltb n serial are.0.1) (smaller_below serial ns are.1)
 
@@ -90,7 +90,7 @@ pub flip_sids : (a b : Sid) → same_sid a b ≡ same_sid b a
 flip_sids a b = rw (flip_equal a.release b.release, flip_equal a.level b.level, flip_equal a.branch b.branch, flip_equal a.sequence b.sequence) refl
 
 -- a record lives and has the SID
-abbrev lives_as : Sid → Record → Bool
+abbrev pub lives_as : Sid → Record → Bool
 lives_as sid r = not r.removed && same_sid r.sid sid
 
 or_more : (x p q : Bool) → (x || not (p || q)) ≡ true → ((x || not p) ≡ true) × ((x || not q) ≡ true)
@@ -99,16 +99,16 @@ or_more false false q is = (refl, is)
 or_more false true q is = (is, cc)
 
 -- none of these records has the SID of a live record
-abbrev Differs : Record → List Record → Type 0
+abbrev pub Differs : Record → List Record → Type 0
 Differs r rs = AllByRecursion (λ s. (r.removed || not (lives_as r.sid s)) ≡ true) rs
 
-each_differs : (r : Record) (rs : List Record) → (r.removed || not (lives rs r.sid)) ≡ true → Differs r rs
+pub each_differs : (r : Record) (rs : List Record) → (r.removed || not (lives rs r.sid)) ≡ true → Differs r rs
 each_differs r [] own = tt
 each_differs r (s ∷ rs) own =
     let parts = or_more r.removed (lives_as r.sid s) (lives rs r.sid) own in (parts.0, each_differs r rs parts.1)
 
 -- each of these records may stand behind others, as to its SID
-abbrev AreOwn : List Record → List Record → Type 0
+abbrev pub AreOwn : List Record → List Record → Type 0
 AreOwn above rs = AllByRecursion (λ s. (s.removed || not (lives above s.sid)) ≡ true) rs
 
 last_one : (b : Bool) → (b || false) ≡ b
@@ -133,22 +133,22 @@ either_way false other true same flipped own differs flip = own
 either_way false true false same flipped own differs flip = refl
 either_way false false false same flipped own differs flip = rw (sym flip) differs
 
-own_push : (above : List Record) (r : Record) (rs : List Record) → AreOwn above rs → Differs r rs → AreOwn (above ++ r ∷ []) rs
+pub own_push : (above : List Record) (r : Record) (rs : List Record) → AreOwn above rs → Differs r rs → AreOwn (above ++ r ∷ []) rs
 own_push above r [] own differs = tt
 own_push above r (s ∷ rs) own differs =
     (rw (any_push (lives_as s.sid) above r) (either_way s.removed r.removed (lives above s.sid) (same_sid s.sid r.sid) (same_sid r.sid s.sid) own.0 differs.0 (flip_sids s.sid r.sid)), own_push above r rs own.1 differs.1)
 
-all_own : (rs : List Record) → AreOwn [] rs
+pub all_own : (rs : List Record) → AreOwn [] rs
 all_own [] = tt
 all_own (r ∷ rs) = (or_true r.removed, all_own rs)
 
 -- ---- the table
 
-least-push : (bound : ℕ) (above : List Record) (r : Record) → least bound (above ++ r ∷ []) ≡ r.serial
+pub least-push : (bound : ℕ) (above : List Record) (r : Record) → least bound (above ++ r ∷ []) ≡ r.serial
 least-push bound [] r = refl
 least-push bound (a ∷ above) r = least-push a.serial above r
 
-follows_by : (r : Record) (above : List Record) → r.serial < least 65536 above → r.predecessor < r.serial → (r.removed || not (lives above r.sid)) ≡ true → may_follow (delta_part r) above ≡ true
+pub follows_by : (r : Record) (above : List Record) → r.serial < least 65536 above → r.predecessor < r.serial → (r.removed || not (lives above r.sid)) ≡ true → may_follow (delta_part r) above ≡ true
 follows_by r above falls older own = rw (lt-ltb r.serial (least 65536 above) falls, lt-ltb r.predecessor r.serial older, own) refl
 
 -- entries of these records, whatever the numbers of their lines

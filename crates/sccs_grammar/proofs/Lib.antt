@@ -8,6 +8,7 @@ pub mod DeltaLaws
 pub mod DeltaWords
 pub mod EntryLaws
 pub mod FaultLaws
+pub mod FileFaults
 pub mod HeaderLaws
 pub mod ItemLines
 pub mod LineLaws

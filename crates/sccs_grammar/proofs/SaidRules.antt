@@ -16,6 +16,9 @@ use Rattle.sccs_sid.specs.SidLists.{begins}
 use Rattle.sccs_history.specs.History.{NamesSmaller}
 use Rattle.sccs_sid.specs.Words.{◌>>=◌, one, found, begins_blank, ends_blank, skip_blanks, kept, drop_blanks, words, three}
 use Rattle.sccs_grammar.specs.Said.{serial, predecessor, is_removed, delta_of, delta, counts, plain_serial, serials, is_set_off, listed, text, flag, place, control, behind_soh, said}
+use Rattle.sccs_history.specs.declared.headers.Record.{Record}
+use Rattle.sccs_history.specs.declared.headers.Flag.{Flag}
+use Rattle.sccs_grammar.specs.Written.{delta_part}
 use Rattle.sccs_grammar.specs.declared.sayings.Said.{Said}
 use Rattle.sccs_grammar.specs.declared.sayings.Said.TheVariants.{Counts, Delta, Listed, Mr, Comment, EndEntry, Users, EndUsers, FlagIs, Description, EndDescription, Insert, Delete, End, Plain}
 use Rattle.sccs_grammar.specs.declared.sayings.Which.{Which}
@@ -246,6 +249,64 @@ control_keeps P letter bytes each =
     (either_so P (letter == 68) _ _ (λ is. mapped P Delete (place bytes) (each.on_delete is))
     (either_so P (letter == 69) _ None (λ is. mapped P End (place bytes) (each.on_end is)) tt)))))))))))))))
 
+-- what is said of each kind keeps P, whatever bytes say it
+pub record KindsKeep (P : Said → Type 0) : Type 0 where
+  pub counts : (i d u : ℕ) → P (Counts i d u)
+  pub delta : (r : Record) → delta_part r ≡ r → P (Delta r)
+  pub listed : (which : Which) (ns : List ℕ) → P (Listed which ns)
+  pub mr : (t : List ℕ) → P (Mr t)
+  pub comment : (t : List ℕ) → P (Comment t)
+  pub flag : (f : Flag) → P (FlagIs f)
+  pub end_entry : P EndEntry
+  pub users : P Users
+  pub end_users : P EndUsers
+  pub description : P Description
+  pub end_description : P EndDescription
+
+made : {A : Type 0} (P : Said → Type 0) (f : A → Said) (o : Option A) → ((x : A) → P (f x)) → IfSome (option_map f o) P
+made P f None each = tt
+made P f (Some x) each = each x
+
+counts_keep : (P : Said → Type 0) (ws : List (List ℕ)) → KindsKeep P → IfSome (counts ws) P
+unfolding counts
+counts_keep P ws kinds = then_any P (one ws) _ λ word. then_any P (three 5 47 word) _ λ n. kinds.counts n.0 n.1 n.2
+
+delta_of_keeps : (P : Said → Type 0) (kind sid date time login own before : List ℕ) → KindsKeep P → IfSome (delta_of kind sid date time login own before) P
+unfolding delta_of
+delta_of_keeps P kind sid date time login own before kinds =
+    then_any P (is_removed kind) _ λ removed.
+    then_any P (found (sid_of sid)) _ λ s.
+    then_any P (found (moment_of date time)) _ λ m.
+    then_any P (only (is_login login) login) _ λ who.
+    then_any P (serial own) _ λ n.
+    then_any P (predecessor before) _ λ p. kinds.delta _ refl
+
+delta_keeps : (P : Said → Type 0) (ws : List (List ℕ)) → KindsKeep P → IfSome (delta ws) P
+delta_keeps P (kind ∷ sid ∷ date ∷ time ∷ login ∷ own ∷ before ∷ []) kinds = delta_of_keeps P kind sid date time login own before kinds
+delta_keeps P _ kinds = tt
+
+flag_keeps : (P : Said → Type 0) (bytes : List ℕ) → KindsKeep P → IfSome (flag bytes) P
+flag_keeps P [] kinds = tt
+flag_keeps P (letter ∷ bytes) kinds = only_so P _ (FlagIs (record { letter = letter; text = drop_blanks (skip_blanks bytes) })) λ is. kinds.flag _
+
+pub each_of_kinds : (P : Said → Type 0) (letter : ℕ) (bytes : List ℕ) → KindsKeep P → (letter == 73 ≡ true → (n : ℕ) → P (Insert n)) → (letter == 68 ≡ true → (n : ℕ) → P (Delete n)) → (letter == 69 ≡ true → (n : ℕ) → P (End n)) → EachKeeps P letter bytes
+each_of_kinds P letter bytes kinds insert delete end = record {
+  on_counts = counts_keep P (words bytes) kinds;
+  on_delta = delta_keeps P (words bytes) kinds;
+  on_list = λ which. made P (Listed which) (listed bytes) (kinds.listed which);
+  on_mr = made P Mr (text bytes) kinds.mr;
+  on_comment = made P Comment (text bytes) kinds.comment;
+  on_flag = flag_keeps P (skip_blanks bytes) kinds;
+  on_end_entry = kinds.end_entry;
+  on_users = kinds.users;
+  on_end_users = kinds.end_users;
+  on_description = kinds.description;
+  on_end_description = kinds.end_description;
+  on_insert = insert;
+  on_delete = delete;
+  on_end = end;
+}
+
 text_well : (f : List ℕ → Said) (o : Option (List ℕ)) → ((t : List ℕ) → SaysWell (f t)) → Well (option_map f o)
 text_well f None h = tt
 text_well f (Some t) h = h t
@@ -268,16 +329,19 @@ each_well letter bytes = record {
   on_end = λ is n. tt;
 }
 
-behind_well : (bytes : List ℕ) → Well (behind_soh bytes)
-behind_well [] = tt
-behind_well (letter ∷ bytes) = control_keeps SaysWell letter bytes (each_well letter bytes)
-
-line_well : (b : ℕ) (bytes : List ℕ) → (b == 1 ≡ true) ⊎ (b == 1 ≡ false) → Well (said (b ∷ bytes))
+-- a line keeps P where a control line does, and a line of text
+pub line_keeps : (P : Said → Type 0) (line : List ℕ) → ((letter : ℕ) (bytes : List ℕ) → EachKeeps P letter bytes) → ((t : List ℕ) → begins 1 t ≡ false → P (Plain t)) → IfSome (said line) P
 unfolding said
-line_well b bytes (inl is) = rw is (behind_well bytes)
-line_well b bytes (inr other) = rw other other
+line_keeps P [] each plain = plain [] refl
+line_keeps P (b ∷ bytes) each plain = by_first (b == 1) refl
+  where
+    behind : (bs : List ℕ) → IfSome (behind_soh bs) P
+    behind [] = tt
+    behind (letter ∷ bs) = control_keeps P letter bs (each letter bs)
+
+    by_first : (t : Bool) → (b == 1) ≡ t → IfSome (if t then behind_soh bytes else Some (Plain (b ∷ bytes))) P
+    by_first true is = behind bytes
+    by_first false is = plain (b ∷ bytes) is
 
 pub said_well : (line : List ℕ) → IfSome (said line) SaysWell
-unfolding said
-said_well [] = refl
-said_well (b ∷ bytes) = line_well b bytes (cases_Bool (b == 1))
+said_well line = line_keeps SaysWell line each_well (λ t is. is)

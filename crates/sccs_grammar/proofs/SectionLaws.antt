@@ -62,10 +62,10 @@ description_again n entries users flags before (t ∷ ts) rest are =
 -- ---- flags
 
 -- none has a letter that one before has
-abbrev AreNew : List Flag → List Flag → Type 0
+abbrev pub AreNew : List Flag → List Flag → Type 0
 AreNew before fs = AllByRecursion (λ f. is_new before f ≡ true) fs
 
-all_new : (fs : List Flag) → AreNew [] fs
+pub all_new : (fs : List Flag) → AreNew [] fs
 all_new [] = tt
 all_new (f ∷ fs) = (refl, all_new fs)
 
@@ -74,7 +74,7 @@ any-push p [] f none is = rw is refl
 any-push p (g ∷ before) f none is =
     let parts = or_parts (p g) (list_any p before) none in or_from (p g) (list_any p (before ++ f ∷ [])) parts.0 (any-push p before f parts.1 is)
 
-still_new : (before : List Flag) (f : Flag) (fs : List Flag) → AreNew before fs → list_any (λ g. g.letter == f.letter) fs ≡ false → AreNew (before ++ f ∷ []) fs
+pub still_new : (before : List Flag) (f : Flag) (fs : List Flag) → AreNew before fs → list_any (λ g. g.letter == f.letter) fs ≡ false → AreNew (before ++ f ∷ []) fs
 still_new before f [] new none = tt
 still_new before f (g ∷ fs) new none =
     let parts = or_parts (g.letter == f.letter) (list_any (λ g. g.letter == f.letter) fs) none in

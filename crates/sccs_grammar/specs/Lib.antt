@@ -1,5 +1,6 @@
 pub mod Entries
 pub mod File
+pub mod FileRefusals
 pub mod Front
 pub mod HeldTable
 pub mod Items

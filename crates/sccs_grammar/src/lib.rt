@@ -4,6 +4,7 @@
 mod body_lines;
 mod faults;
 mod fields;
+mod file_refusals;
 mod flag_texts;
 mod hearing;
 mod laws;
@@ -15,6 +16,7 @@ mod tables;
 
 pub use body_lines::{read_item, written_item};
 pub use faults::FileFault;
+pub use file_refusals::files_are_refused;
 pub use hearing::hear;
 pub use laws::{
     body_again, delta_again, entry_parts_again, faults_stay, file_again, headers_keep_rules,

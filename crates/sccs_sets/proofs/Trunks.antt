@@ -1,12 +1,12 @@
 -- Of a trunk the newest delta is got.
-use Rattle.std.proofs.Common.{◌≡◌, ℕ, ◌<◌, ◌≤◌, max, ◌⊎◌, inl, inr, Bool, true, false, not, cond, ◌&&◌, ◌==◌, List, [], ◌∷◌, map, Option, None, Some, refl, sym, ap, subst, ◌∙◌, arith, rules}
+use Rattle.std.proofs.Common.{◌≡◌, ℕ, ◌≤◌, max, inl, inr, Bool, true, false, not, cond, ◌&&◌, ◌==◌, List, [], ◌∷◌, map, Option, None, Some, refl, ap, subst, ◌∙◌, arith, rules}
 use Rattle.std.specs.Prelude.{filter, find, fold, option_map, option_and_then}
 use Rattle.std.specs.List.{AllByRecursion, reduce}
 use Rattle.sccs_sid.specs.declared.sids.Sid.{Sid}
 use Rattle.sccs_history.specs.Applied.{newest}
 use Rattle.sccs_history.specs.History.{same_sid}
 use Rattle.sccs_history.specs.declared.headers.Record.{Record}
-use Rattle.sccs_sets.specs.Retrieved.{retrieved, live_where, newest_where, serial_of, is_within, trunk_release, trunk_level, trunk_sid, top_of}
+use Rattle.sccs_sets.specs.Retrieved.{retrieved, newest_where, serial_of, trunk_release, trunk_level, trunk_sid}
 use Rattle.sccs_sets.specs.Trunks.{Before, IsTrunk}
 
 same_number : (n : ℕ) → (n == n) ≡ true

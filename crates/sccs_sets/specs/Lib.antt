@@ -1,6 +1,9 @@
+pub mod Flags
 pub mod Marks
 pub mod Naming
+pub mod OnceNamed
 pub mod Retrieved
 pub mod Samples
+pub mod SetRefusals
 pub mod Sets
 pub mod Trunks

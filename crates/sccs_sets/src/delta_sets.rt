@@ -7,7 +7,7 @@ ghost use Rattle.sccs_sets.specs.Marks.{marked};
 ghost use Rattle.sccs_sets.specs.Sets.{Explains, both_listed};
 
 use crate::faults::SetFault;
-use crate::marks::{SERIALS, is_set, next_wanted, note, take, takes};
+use crate::marks::{SERIALS, apply_delta, is_applied, is_set, mark_list, next_wanted};
 use crate::tables::{first_shared, sid_at};
 use sccs_base::Memory;
 use sccs_history::{Header, Record, Serials};
@@ -61,12 +61,12 @@ fn pass(
       cutoff = option_map (λ m. m.seconds) cutoff;
     }) records.now }
 {
-    note(marks, include, true);
-    note(marks, exclude, false);
+    mark_list(marks, include, true);
+    mark_list(marks, exclude, false);
     let mut wanted = target;
     for record in records {
-        if takes(record, marks, wanted, cutoff) {
-            take(record, marks, set);
+        if is_applied(record, marks, wanted, cutoff) {
+            apply_delta(record, marks, set);
         }
         wanted = next_wanted(record, wanted);
     }

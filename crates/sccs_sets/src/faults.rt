@@ -1,4 +1,7 @@
-use sccs_sid::Sid;
+ghost use Rattle.std.specs.Prelude.{◌≡◌};
+ghost use Rattle.sccs_sets.specs.SetRefusals.{set_fault};
+
+use sccs_sid::{Refusal, Sid, StepFault};
 
 /// Why serials or a set were not given.
 #[derive(Clone, Copy, Debug, PartialEq, Eq)]
@@ -8,4 +11,15 @@ pub enum SetFault {
     BadList(Sid),
     /// There was no memory.
     Memory,
+}
+
+impl From<SetFault> for StepFault {
+    ghost from_gives = { λ fault ended. ended ≡ set_fault fault };
+
+    fn from(fault: SetFault) -> StepFault {
+        match fault {
+            SetFault::BadList(sid) => StepFault::Refused(Refusal::BadList(sid)),
+            SetFault::Memory => StepFault::Memory,
+        }
+    }
 }

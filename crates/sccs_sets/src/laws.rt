@@ -1,11 +1,12 @@
-ghost use Rattle.std.specs.Prelude.{◌≡◌, ◌≤◌, ℕ, not, ◌&&◌, true, false, Bool, List, ◌∷◌, None, Some, map};
-ghost use Rattle.std.specs.List.{AllByRecursion};
+ghost use Rattle.std.specs.Prelude.{◌≡◌, ◌≤◌, ◌==◌, ℕ, not, ◌&&◌, true, false, Bool, List, [], ◌∷◌, Ok, None, Some, map};
+ghost use Rattle.std.specs.List.{AllByRecursion, IsDistinct, flat_map};
 ghost use Rattle.sccs_sid.specs.declared.sids.Sid.{Sid};
 ghost use Rattle.sccs_sid.specs.declared.sid_lists.Range.{Range};
 ghost use Rattle.sccs_history.specs.declared.headers.Record.{Record};
 ghost use Rattle.sccs_history.specs.Applied.{newest, serials_of};
 ghost use Rattle.sccs_history.specs.Numbers.{Falls, has};
-ghost use Rattle.sccs_sets.specs.Naming.{IsRising, in_range, range_named};
+ghost use Rattle.sccs_sets.specs.Naming.{IsRising, in_range, named_serials, range_named, unless};
+ghost use Rattle.sccs_sets.specs.OnceNamed.{first_fault, first_places, range_serials};
 ghost use Rattle.sccs_sets.specs.Retrieved.{live_where, newest_where, retrieved};
 ghost use Rattle.sccs_sets.specs.Trunks.{IsTrunk};
 
@@ -28,6 +29,17 @@ pub fn ranges()
         → has (map (λ q. q.serial) (range_named records range)) n
         ≡ has (serials_of (live_where (in_range range) records)) n }
     ensures order { (records : List Record) (range : Range) → IsRising (range_named records range) }
+{}
+
+/// A list of several ranges is at fault at its first range that is. Else it names the serials of its
+/// ranges, one range after the other, each serial at its first place alone: none twice, and each that a
+/// range names.
+pub fn several_ranges()
+    ensures named { (records : List Record) (ranges : List Range)
+        → named_serials records [] ranges
+        ≡ unless (first_fault records ranges) (Ok (first_places (flat_map (range_serials records) ranges))) }
+    ensures distinct { (numbers : List ℕ) → IsDistinct ◌==◌ (first_places numbers) }
+    ensures each { (numbers : List ℕ) (n : ℕ) → has (first_places numbers) n ≡ has numbers n }
 {}
 
 /// Where each delta is live and on the trunk and SIDs rise with serials, the newest delta is got

@@ -3,6 +3,7 @@
 
 mod delta_sets;
 mod faults;
+mod flags;
 pub mod laws;
 mod marks;
 mod naming;
@@ -14,5 +15,6 @@ mod tests;
 
 pub use delta_sets::{Applied, delta_set};
 pub use faults::SetFault;
+pub use flags::default_of;
 pub use naming::serials;
 pub use retrieval::{NoSid, retrieve};

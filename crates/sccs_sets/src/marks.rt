@@ -21,7 +21,7 @@ fn mark(marks: &mut [Option<bool>], number: u16, value: bool)
 }
 
 /// Marks the numbers of a list that have no mark yet.
-pub fn note(marks: &mut [Option<bool>], numbers: &[u16], value: bool)
+pub fn mark_list(marks: &mut [Option<bool>], numbers: &[u16], value: bool)
     requires { length marks.old ≡ SERIALS }
     ensures { (n : ℕ) → slice_index_or marks.new n None
         ≡ or_else (slice_index_or marks.old n None) (said_by numbers.now value n) }
@@ -32,7 +32,12 @@ pub fn note(marks: &mut [Option<bool>], numbers: &[u16], value: bool)
 }
 
 /// Whether a record is applied, by the marks of those above it and the wanted serial of the path.
-pub fn takes(delta: &Record, marks: &[Option<bool>], wanted: u16, cutoff: Option<Moment>) -> bool
+pub fn is_applied(
+    delta: &Record,
+    marks: &[Option<bool>],
+    wanted: u16,
+    cutoff: Option<Moment>,
+) -> bool
     requires { length marks.now ≡ SERIALS }
     ensures { result ≡ (not (is_barred (option_map (λ m. m.seconds) cutoff) delta.now)
         && unwrap_or (slice_index_or marks.now delta.now.serial None) (delta.now.serial == wanted)) }
@@ -45,7 +50,7 @@ pub fn takes(delta: &Record, marks: &[Option<bool>], wanted: u16, cutoff: Option
 }
 
 /// Applies a record: sets its place, and marks what its lists name.
-pub fn take(delta: &Record, marks: &mut [Option<bool>], set: &mut [bool])
+pub fn apply_delta(delta: &Record, marks: &mut [Option<bool>], set: &mut [bool])
     requires marks { length marks.old ≡ SERIALS }
     requires set { length set.old ≡ SERIALS }
     ensures marks { (n : ℕ) → slice_index_or marks.new n None
@@ -53,8 +58,8 @@ pub fn take(delta: &Record, marks: &mut [Option<bool>], set: &mut [bool])
     ensures set { set.new ≡ slice_set set.old delta.now.serial true }
 {
     set[usize::from(delta.serial)] = true;
-    note(marks, delta.include.items(), true);
-    note(marks, delta.exclude.items(), false);
+    mark_list(marks, delta.include.items(), true);
+    mark_list(marks, delta.exclude.items(), false);
 }
 
 /// The next serial of the path.

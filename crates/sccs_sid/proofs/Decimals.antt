@@ -13,7 +13,7 @@ abbrev pub NoDigit : List ℕ → Type 0
 NoDigit [] = Unit {0}
 NoDigit (b ∷ bytes) = IsNotAsciiDigit b
 
-digits_stop : (most n : ℕ) (rest : List ℕ) → NoDigit rest → digits_after most n rest ≡ (n, rest)
+pub digits_stop : (most n : ℕ) (rest : List ℕ) → NoDigit rest → digits_after most n rest ≡ (n, rest)
 unfolding digits_after
 digits_stop zero n rest none = refl
 digits_stop (suc most) n [] none = refl
@@ -92,8 +92,8 @@ onto_append (suc k) n acc rest =
       | false ↦ onto_append k (n / 10) (digit_glyph false (n % 10) ∷ acc) rest
     ]
 
-onto_again : (k j n : ℕ) (rest : List ℕ) → n < 10 ^ suc j → n < 10 ^ suc k → NoDigit rest → number_at (suc j) (digits_onto (suc k) 10 false n [] ++ rest) ≡ Ok (n, rest)
-onto_again k j n rest small fuel none =
+onto_round_trip : (k j n : ℕ) (rest : List ℕ) → n < 10 ^ suc j → n < 10 ^ suc k → NoDigit rest → number_at (suc j) (digits_onto (suc k) 10 false n [] ++ rest) ≡ Ok (n, rest)
+onto_round_trip k j n rest small fuel none =
     let reads = onto_reads k j 0 n rest small fuel in
     ap (number_at (suc j)) (onto_append (suc k) n [] rest)
     ∙ (ap (λ m. number_at m (digits_onto (suc k) 10 false n rest)) (omega arith) ∙ (reads.is ∙ ap Ok (digits_stop reads.more n rest none)))
@@ -102,8 +102,8 @@ decimal_onto : (n : ℕ) → decimal n ≡ digits_onto 64 10 false n []
 unfolding digits
 decimal_onto n = refl
 
-pub number_again : (most n : ℕ) (rest : List ℕ) → 0 < most → most ≤ 64 → n < 10 ^ most → NoDigit rest → number_at most (decimal n ++ rest) ≡ Ok (n, rest)
-number_again zero n rest some few small none = absurd (omega arith)
-number_again (suc j) n rest some few small none =
+pub number_round_trip : (most n : ℕ) (rest : List ℕ) → 0 < most → most ≤ 64 → n < 10 ^ most → NoDigit rest → number_at most (decimal n ++ rest) ≡ Ok (n, rest)
+number_round_trip zero n rest some few small none = absurd (omega arith)
+number_round_trip (suc j) n rest some few small none =
     let fuel : n < 10 ^ 64 = omega (arith, pow-le-pow_right {n = 10} (lit< tt) {i = suc j} {j = 64} few) in
-    ap (λ bytes. number_at (suc j) (bytes ++ rest)) (decimal_onto n) ∙ onto_again 63 j n rest small fuel none
+    ap (λ bytes. number_at (suc j) (bytes ++ rest)) (decimal_onto n) ∙ onto_round_trip 63 j n rest small fuel none

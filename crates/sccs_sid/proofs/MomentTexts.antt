@@ -32,12 +32,12 @@ behind_two : (separator n : ℕ) (rest : List ℕ) → 48 + n / 10 ≢ separator
 unfolding behind
 behind_two separator n rest tens ones = rw (ne_eqb _ _ tens, ne_eqb _ _ ones, eq-eqb separator separator refl) refl
 
-year_again : (y : ℕ) → 1969 ≤ y → y ≤ 2068 → full_year (y % 100) ≡ y
-year_again y low high = elim (cases_lt (y % 100) 69) [ inl l ↦ rw (lt-ltb _ _ l) (omega arith) | inr g ↦ rw (le-ltb _ _ g) (omega arith) ]
+year_round_trip : (y : ℕ) → 1969 ≤ y → y ≤ 2068 → full_year (y % 100) ≡ y
+year_round_trip y low high = elim (cases_lt (y % 100) 69) [ inl l ↦ rw (lt-ltb _ _ l) (omega arith) | inr g ↦ rw (le-ltb _ _ g) (omega arith) ]
 
-pub date_again : (c : Civil) → Exists c → date_of (civil_date c) ≡ Ok (c.year, c.month, c.day)
+pub date_round_trip : (c : Civil) → Exists c → date_of (civil_date c) ≡ Ok (c.year, c.month, c.day)
 unfolding date_of
-date_again c e =
+date_round_trip c e =
     let day : List ℕ = two c.day in
     let month : List ℕ = two c.month ++ (47 ∷ day) in
     let short : c.year % 100 < 100 = omega arith in
@@ -49,14 +49,14 @@ date_again c e =
       until_two 47 c.month day (omega arith) (omega arith),
       unit_two 2 1 12 c.month (omega arith) e.month.0 e.month.1,
       behind_two 47 c.month day (omega arith) (omega arith),
-      year_again c.year e.year.0 e.year.1,
+      year_round_trip c.year e.year.0 e.year.1,
       unit_two 3 1 (days_in_month (pos c.year) c.month) c.day (omega arith) e.day.0 e.day.1,
     )
     refl
 
-pub time_again : (c : Civil) → Exists c → time_of (civil_time c) ≡ Ok (c.hour, c.minute, c.second)
+pub time_round_trip : (c : Civil) → Exists c → time_of (civil_time c) ≡ Ok (c.hour, c.minute, c.second)
 unfolding time_of
-time_again c e =
+time_round_trip c e =
     let second : List ℕ = two c.second in
     let minute : List ℕ = two c.minute ++ (58 ∷ second) in
     rw (
@@ -74,4 +74,4 @@ pub moment_text_again : (moment : Moment) → IsMoment moment → moment_of (dat
 unfolding moment_of
 moment_text_again moment is =
     let shows = civil_shows moment is in
-    rw (date_again (civil_of moment) shows.0, time_again (civil_of moment) shows.0) (ap (λ seconds. Ok (record { seconds = seconds })) shows.1)
+    rw (date_round_trip (civil_of moment) shows.0, time_round_trip (civil_of moment) shows.0) (ap (λ seconds. Ok (record { seconds = seconds })) shows.1)

@@ -1,5 +1,9 @@
 -- What jiff shows at a moment is the moment's date and time.
-use Rattle.std.proofs.Common.{◌≡◌, ◌∙◌, refl, arith, lit<, pos, ◌*ℤ◌}
+use Rattle.std.proofs.Common.{◌≡◌, ◌∙◌, refl, arith, lit<, ℤ, pos, ◌*ℤ◌, int_div, to_z, w8, w16}
+use Rattle.std.proofs.lemmas.Int.{ints}
+use Rattle.jiff_core.specs.Date.{IsYmd}
+use Rattle.jiff_core.specs.Time.{IsHms}
+use Rattle.jiff_core.proofs.CalendarLemmas.{days_in_month_bounds}
 use Rattle.jiff_core.specs.declared.civil.datetime.DateTime.{DateTime}
 use Rattle.jiff_core.specs.Calendar.{IsYear}
 use Rattle.jiff_core.specs.DateTime.{civil_nanos, civil_seconds}
@@ -22,6 +26,27 @@ pub record IsShown (dt : DateTime) (c : Civil) : Type 0 where
 pub seconds_are : (dt : DateTime) (c : Civil) → IsShown dt c → civil_seconds dt ≡ second_at c
 unfolding civil_seconds
 seconds_are dt c is = rw (is.year, is.month, is.day, is.hour, is.minute, is.second) refl
+
+-- the nanoseconds of a date and time without a fraction
+pub nanos_are : (dt : DateTime) (c : Civil) → IsShown dt c → pos dt.time.subsec_nanosecond ≡ pos 0 → civil_nanos dt ≡ second_at c *ℤ pos 1_000_000_000
+nanos_are dt c is none = omega (arith, signed_arith, civil_nanos-civil_seconds dt, seconds_are dt c is, none)
+
+-- the seconds in so many nanoseconds
+pub whole_seconds : (second nanos : ℤ) → nanos ≡ second *ℤ pos 1_000_000_000 → int_div nanos (pos 1_000_000_000) ≡ second
+whole_seconds second nanos is = omega (arith, signed_arith)
+
+-- jiff's date and time of parts that are cast to it
+pub cast_shown : (dt : DateTime) (c : Civil) → Exists c → IsYmd (to_z w16 c.year) (to_z w8 c.month) (to_z w8 c.day) dt.date → IsHms (to_z w8 c.hour) (to_z w8 c.minute) (to_z w8 c.second) (pos 0) dt.time → IsShown dt c
+cast_shown dt c e date time =
+    let bounds = days_in_month_bounds (pos c.year) c.month in
+    record {
+      year = omega (arith, ints, e.year);
+      month = omega (arith, ints, e.month);
+      day = omega (arith, ints, e.day, bounds);
+      hour = omega (arith, ints, e.hour);
+      minute = omega (arith, ints, e.minute);
+      second = omega (arith, ints, e.second);
+    }
 
 -- jiff's value of a date and time that exist
 made : (c : Civil) → Exists c → DateTime

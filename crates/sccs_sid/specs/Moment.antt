@@ -70,7 +70,7 @@ moment_of date time = do
   t ← time_of time
   Ok (record { seconds = second_at (record { year = d.0; month = d.1; day = d.2; hour = t.0; minute = t.1; second = t.2 }) })
 
--- month and day at a place of a year, counted from 0 at the first of a month, with at most `more` months behind it
+-- month and day at a place of a year, counted from 0 at the first of a month, with at most `more` months after it
 unfoldable pub month_and_day : ℤ → ℕ → ℕ → ℕ → ℕ × ℕ
 month_and_day year zero month place = (month, place + 1)
 month_and_day year (suc more) month place =

@@ -12,7 +12,7 @@ abbrev pub Gives : {X Y E : Type 0} → (X → Y) → Result X E → Result Y E 
 Gives view (Ok x) read = read ≡ Ok (view x)
 Gives view (Err e) read = read ≡ Err e
 
--- up to `most` more digits behind those of a number, and the bytes after them
+-- up to `most` more digits after those of a number, and the bytes after them
 unfoldable pub digits_after : ℕ → ℕ → List ℕ → ℕ × List ℕ
 digits_after zero high bytes = (high, bytes)
 digits_after (suc most) high [] = (high, [])
@@ -50,7 +50,7 @@ unfoldable pub until : ℕ → List ℕ → List ℕ
 until separator [] = []
 until separator (b ∷ bytes) = if b == separator then [] else b ∷ until separator bytes
 
--- the bytes behind the next separator, where one stands
+-- the bytes after the next separator, where one stands
 unfoldable pub behind : ℕ → List ℕ → Option (List ℕ)
 behind separator [] = None
 behind separator (b ∷ bytes) = if b == separator then Some bytes else behind separator bytes

@@ -1,9 +1,47 @@
--- The texts of refusals.
+-- Refusals: their numbers, their texts, and the line that says one.
 use Rattle.std.specs.Prelude.{ℕ, ◌+◌, ◌/◌, ◌%◌, List, [], ◌∷◌, ◌++◌, codes}
 use Rattle.std.specs.Fmt.{decimal}
+use Rattle.sccs_sid.specs.Moment.{two}
 use Rattle.sccs_sid.specs.Sid.{sid_text}
 use Rattle.sccs_sid.specs.declared.refusals.Refusal.{Refusal}
-use Rattle.sccs_sid.specs.declared.refusals.Refusal.TheVariants.{BadName, Missing, TooLong, NotSccs, BadSum, BadFormat, Encoded, NoSid, BadList, Unbuilt}
+use Rattle.sccs_sid.specs.declared.refusals.Refusal.TheVariants.{BadName, Locked, Missing, Exists, TooLong, NotSccs, BadSum, BadFormat, Encoded, BadPfile, Disagree, NotAllowed, NoEdit, ManyEdits, NoSid, BadList, OutsideRelease, LockedRelease, BeingEdited, BadScript, ScriptRange, BadText, NoKeywords, GExists, GDiffers, FlagBad, MrNeeded, MrNotAllowed, Unsupported, NotTip, NotOwner, Full, Changed, Unbuilt}
+
+-- the number of a refusal; the checks of a step are made in the order of these numbers
+abbrev pub number_of : Refusal → ℕ
+number_of BadName = 1
+number_of Locked = 2
+number_of Missing = 3
+number_of Exists = 4
+number_of TooLong = 5
+number_of NotSccs = 6
+number_of (BadSum stored computed) = 7
+number_of (BadFormat line) = 8
+number_of Encoded = 9
+number_of (BadPfile line) = 10
+number_of (Disagree entry) = 11
+number_of NotAllowed = 12
+number_of NoEdit = 13
+number_of ManyEdits = 14
+number_of NoSid = 15
+number_of (BadList sid) = 16
+number_of OutsideRelease = 17
+number_of LockedRelease = 18
+number_of BeingEdited = 19
+number_of (BadScript line) = 20
+number_of (ScriptRange line count) = 22
+number_of (BadText line) = 23
+number_of NoKeywords = 24
+number_of GExists = 25
+number_of (GDiffers line) = 26
+number_of (FlagBad letter) = 27
+number_of MrNeeded = 28
+number_of MrNotAllowed = 29
+number_of (Unsupported letter) = 30
+number_of NotTip = 31
+number_of NotOwner = 32
+number_of Full = 33
+number_of (Changed size sum size_again sum_again) = 34
+number_of Unbuilt = 99
 
 -- the last five digits
 unfoldable pub five : ℕ → List ℕ
@@ -13,22 +51,51 @@ five n = (48 + n / 10000 % 10) ∷ (48 + n / 1000 % 10) ∷ (48 + n / 100 % 10) 
 abbrev pub sums_text : ℕ → ℕ → List ℕ
 sums_text stored computed = five stored ++ (codes ", computed " ++ five computed)
 
--- what is wrong, and its number
-abbrev pub refusal_text : Refusal → List ℕ
-refusal_text BadName = codes "not a name of an s-file (01)"
-refusal_text Missing = codes "no such file (03)"
-refusal_text TooLong = codes "longer than 1073741824 bytes (05)"
-refusal_text NotSccs = codes "not an SCCS file (06)"
-refusal_text (BadSum stored computed) = codes "bad sum: stored " ++ (sums_text stored computed ++ codes " (07)")
-refusal_text (BadFormat line) = codes "format error at line " ++ (decimal line ++ codes " (08)")
-refusal_text Encoded = codes "encoded body (09)"
-refusal_text NoSid = codes "no such SID (15)"
-refusal_text (BadList sid) = codes "bad list at " ++ (sid_text sid ++ codes " (16)")
-refusal_text Unbuilt = codes "not built yet (99)"
+-- a line of a script, and how many lines the text has
+abbrev pub script_range : ℕ → ℕ → List ℕ
+script_range line count = decimal line ++ (codes ": text has " ++ decimal count)
 
--- the line that says it of a file
-abbrev pub line_of : List ℕ → List ℕ → List ℕ
-line_of name text = codes "ERROR [" ++ (name ++ (codes "]: " ++ (text ++ codes "\n")))
+-- what is wrong
+abbrev pub reason : Refusal → List ℕ
+reason BadName = codes "not a name of an s-file"
+reason Locked = codes "locked by z-file"
+reason Missing = codes "no such file"
+reason Exists = codes "already exists"
+reason TooLong = codes "longer than 1073741824 bytes"
+reason NotSccs = codes "not an SCCS file"
+reason (BadSum stored computed) = codes "bad sum: stored " ++ sums_text stored computed
+reason (BadFormat line) = codes "format error at line " ++ decimal line
+reason Encoded = codes "encoded body"
+reason (BadPfile line) = codes "format error in p-file at line " ++ decimal line
+reason (Disagree entry) = codes "p-file entry " ++ (decimal entry ++ codes " disagrees")
+reason NotAllowed = codes "not authorized to make deltas"
+reason NoEdit = codes "no edit is pending"
+reason ManyEdits = codes "SID must be specified"
+reason NoSid = codes "no such SID"
+reason (BadList sid) = codes "bad list at " ++ sid_text sid
+reason OutsideRelease = codes "release outside floor and ceiling"
+reason LockedRelease = codes "release is locked"
+reason BeingEdited = codes "being edited"
+reason (BadScript line) = codes "bad script at line " ++ decimal line
+reason (ScriptRange line count) = codes "script line " ++ (script_range line count ++ codes " lines")
+reason (BadText line) = codes "line " ++ (decimal line ++ codes " begins with SOH")
+reason NoKeywords = codes "no id keywords"
+reason GExists = codes "writable file exists"
+reason (GDiffers line) = codes "g-file differs at line " ++ decimal line
+reason (FlagBad letter) = codes "bad flag " ++ letter ∷ []
+reason MrNeeded = codes "MR numbers needed"
+reason MrNotAllowed = codes "MR numbers not allowed"
+reason (Unsupported letter) = codes "flag " ++ ((letter ∷ []) ++ codes " not supported")
+reason NotTip = codes "not the newest delta of its branch"
+reason NotOwner = codes "not the owner"
+reason Full = codes "no number is left"
+reason (Changed size sum size_again sum_again) = codes "file changed while read"
+reason Unbuilt = codes "not built yet"
 
+-- the line of a file: what is wrong, and the digits of a number in parentheses
+abbrev pub line_of : List ℕ → List ℕ → List ℕ → List ℕ
+line_of name text digits = codes "ERROR [" ++ (name ++ (codes "]: " ++ (text ++ (codes " (" ++ (digits ++ codes ")\n")))))
+
+-- the line that says a refusal of a file
 abbrev pub refusal_line : List ℕ → Refusal → List ℕ
-refusal_line name refusal = line_of name (refusal_text refusal)
+refusal_line name refusal = line_of name (reason refusal) (two (number_of refusal))

@@ -26,7 +26,7 @@ abbrev pub ended : (List ℕ → List ℕ → Result (List ℕ) ℕ) → List �
 ended more found [] = Ok found
 ended more found (b ∷ bytes) = byte_at 46 (b ∷ bytes) >>= more found
 
--- behind the numbers that were found, one to `most` more of one to four digits with a dot between two
+-- after the numbers that were found, one to `most` more of one to four digits with a dot between two
 unfoldable pub numbers_after : ℕ → List ℕ → List ℕ → Result (List ℕ) ℕ
 numbers_after zero found bytes = Err 0
 numbers_after (suc most) found bytes = do

@@ -1,8 +1,8 @@
 -- Lists of SIDs: `range[,range]`, a range being one SID or two with a dash between them.
 -- The readers answer how many bytes were left at the first byte at which no list goes on.
-use Rattle.std.specs.Prelude.{◌≡◌, ℕ, zero, suc, ◌+◌, ◌-◌, ◌==◌, Bool, false, List, [], ◌∷◌, length, Option, None, Some, Result, Ok, Err, if◌then◌else◌}
+use Rattle.std.specs.Prelude.{◌≡◌, ℕ, zero, suc, ◌+◌, ◌-◌, ◌==◌, ◌&&◌, Bool, false, List, [], ◌∷◌, ◌++◌, length, Option, None, Some, Result, Ok, Err, if◌then◌else◌}
 use Rattle.sccs_sid.specs.Reading.{◌>>=◌, number_at, byte_at}
-use Rattle.sccs_sid.specs.Sid.{IsSid}
+use Rattle.sccs_sid.specs.Sid.{IsSid, sid_text}
 use Rattle.sccs_sid.specs.declared.sids.Sid.{Sid}
 use Rattle.sccs_sid.specs.declared.sid_lists.Range.{Range}
 use Rattle.sccs_sid.specs.declared.sid_lists.ListFault.{ListFault}
@@ -12,7 +12,7 @@ use Rattle.sccs_sid.specs.declared.sid_lists.ListFault.TheVariants.{Malformed, M
 abbrev pub IsRange : Range → Type 0
 IsRange range = IsSid range.first × IsSid range.last
 
--- zeros may still become a number, up to three: the fault is the fourth, or the byte behind them
+-- zeros may still become a number, up to three: the fault is the fourth, or the byte after them
 abbrev pub zero_fault : List ℕ → List ℕ → ℕ
 zero_fault bytes rest = if length bytes - length rest == 4 then length rest + 1 else length rest
 
@@ -27,7 +27,7 @@ abbrev pub begins : ℕ → List ℕ → Bool
 begins wanted [] = false
 begins wanted (b ∷ bytes) = b == wanted
 
--- branch and sequence, each behind a dot
+-- branch and sequence, each after a dot
 unfoldable pub branch_at : ℕ → ℕ → List ℕ → Result (Sid × List ℕ) ℕ
 branch_at release level bytes = do
   dotted ← byte_at 46 bytes
@@ -44,7 +44,7 @@ sid_at bytes = do
   level ← component_at dotted
   if begins 46 level.1 then branch_at release.0 level.0 level.1 else Ok (record { release = release.0; level = level.0; branch = 0; sequence = 0 }, level.1)
 
--- the last SID of a range, behind a dash
+-- the last SID of a range, after a dash
 unfoldable pub last_at : Sid → List ℕ → Result (Range × List ℕ) ℕ
 last_at first bytes = do
   dashed ← byte_at 45 bytes
@@ -57,7 +57,7 @@ range_at bytes = do
   first ← sid_at bytes
   if begins 45 first.1 then last_at first.0 first.1 else Ok (record { first = first.0; last = first.0 }, first.1)
 
--- behind a range: nothing, or a comma and more
+-- after a range: nothing, or a comma and more
 abbrev pub after_range : Range → List ℕ → Result (Range × Option (List ℕ)) ℕ
 after_range range [] = Ok (range, None)
 after_range range (b ∷ bytes) = byte_at 44 (b ∷ bytes) >>= λ more. Ok (range, Some more)
@@ -91,3 +91,17 @@ abbrev pub Reads : Result (List Range) ListFault → Result (List Range) ℕ →
 Reads (Ok ranges) read = read ≡ Ok ranges
 Reads (Err (Malformed place)) read = read ≡ Err place
 Reads (Err Memory) read = Unit {0}
+
+-- whether two SIDs are one
+abbrev pub same_sid : Sid → Sid → Bool
+same_sid a b = (a.release == b.release) && (a.level == b.level) && (a.branch == b.branch) && (a.sequence == b.sequence)
+
+-- the written spelling of a range: one SID where the ends are equal, else both with a dash between them
+unfoldable pub range_text : Range → List ℕ
+range_text range = sid_text range.first ++ (if same_sid range.first range.last then [] else 45 ∷ sid_text range.last)
+
+-- the written spelling of a list: the ranges with a comma between two
+unfoldable pub list_text : List Range → List ℕ
+list_text [] = []
+list_text (range ∷ []) = range_text range
+list_text (range ∷ next ∷ ranges) = range_text range ++ (44 ∷ list_text (next ∷ ranges))

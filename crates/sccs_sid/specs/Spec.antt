@@ -1,6 +1,7 @@
--- Fronts of SIDs: what they are and how they are spelled.
-use Rattle.std.specs.Prelude.{ℕ, zero, suc, List, [], ◌∷◌, Result, Ok, Err}
-use Rattle.sccs_sid.specs.Sid.{IsComponent, IsSid, numbers, sid_of_numbers}
+-- Prefixes of SIDs: what they are and how they are spelled.
+use Rattle.std.specs.Prelude.{ℕ, zero, suc, List, [], ◌∷◌, ◌++◌, Result, Ok, Err}
+use Rattle.std.specs.Fmt.{decimal}
+use Rattle.sccs_sid.specs.Sid.{IsComponent, IsSid, numbers, sid_of_numbers, sid_text}
 use Rattle.sccs_sid.specs.declared.sids.Sid.{Sid}
 use Rattle.sccs_sid.specs.declared.sids.Spec.{Spec}
 use Rattle.sccs_sid.specs.declared.sids.Spec.TheVariants.{Release, Branch, Full}
@@ -32,3 +33,9 @@ spec_by (Err left) = Err Malformed
 -- what all the bytes spell
 unfoldable pub spec_of : List ℕ → Result Spec SidFault
 spec_of bytes = spec_by (numbers bytes)
+
+-- the written spelling
+unfoldable pub spec_text : Spec → List ℕ
+spec_text (Release r) = decimal r
+spec_text (Branch r l b) = decimal r ++ (46 ∷ decimal l ++ (46 ∷ decimal b))
+spec_text (Full sid) = sid_text sid

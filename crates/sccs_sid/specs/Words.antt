@@ -1,5 +1,6 @@
 -- The words of a line are what stands between blanks. A blank is the byte 32.
 use Rattle.std.specs.Prelude.{ℕ, ◌==◌, Bool, true, false, List, [], ◌∷◌, Option, Some, None, Result, Ok, Err, option_and_then, if◌then◌else◌}
+use Rattle.sccs_base.specs.Constants.{blank}
 use Rattle.sccs_sid.specs.Reading.{number_at, byte_at, number}
 
 infixl 10 ◌>>=◌
@@ -19,21 +20,21 @@ found (Err e) = None
 
 abbrev pub begins_blank : List ℕ → Bool
 begins_blank [] = false
-begins_blank (b ∷ bytes) = b == 32
+begins_blank (b ∷ bytes) = b == blank
 
 unfoldable pub ends_blank : List ℕ → Bool
 ends_blank [] = false
-ends_blank (b ∷ []) = b == 32
+ends_blank (b ∷ []) = b == blank
 ends_blank (b ∷ c ∷ bytes) = ends_blank (c ∷ bytes)
 
--- without the blanks in front
+-- without the blanks at the start
 unfoldable pub skip_blanks : List ℕ → List ℕ
 skip_blanks [] = []
-skip_blanks (b ∷ bytes) = if b == 32 then skip_blanks bytes else b ∷ bytes
+skip_blanks (b ∷ bytes) = if b == blank then skip_blanks bytes else b ∷ bytes
 
 -- a byte before bytes without blanks at their end
 abbrev pub kept : ℕ → List ℕ → List ℕ
-kept b [] = if b == 32 then [] else b ∷ []
+kept b [] = if b == blank then [] else b ∷ []
 kept b (c ∷ bytes) = b ∷ c ∷ bytes
 
 -- without the blanks at the end
@@ -41,11 +42,11 @@ unfoldable pub drop_blanks : List ℕ → List ℕ
 drop_blanks [] = []
 drop_blanks (b ∷ bytes) = kept b (drop_blanks bytes)
 
--- a byte in front of words: it is a word by itself where a blank or nothing follows
+-- a byte before words: it is a word by itself where a blank or nothing follows
 abbrev pub joined : ℕ → List ℕ → List (List ℕ) → List (List ℕ)
 joined b [] words = (b ∷ []) ∷ words
 joined b (next ∷ bytes) [] = (b ∷ []) ∷ []
-joined b (next ∷ bytes) (word ∷ words) = if next == 32 then (b ∷ []) ∷ word ∷ words else (b ∷ word) ∷ words
+joined b (next ∷ bytes) (word ∷ words) = if next == blank then (b ∷ []) ∷ word ∷ words else (b ∷ word) ∷ words
 
 abbrev pub with_byte : Bool → ℕ → List ℕ → List (List ℕ) → List (List ℕ)
 with_byte true b bytes words = words
@@ -53,7 +54,7 @@ with_byte false b bytes words = joined b bytes words
 
 unfoldable pub words : List ℕ → List (List ℕ)
 words [] = []
-words (b ∷ bytes) = with_byte (b == 32) b bytes (words bytes)
+words (b ∷ bytes) = with_byte (b == blank) b bytes (words bytes)
 
 -- three numbers of at most that many digits, with a separator between two
 unfoldable pub three : ℕ → ℕ → List ℕ → Option (ℕ × ℕ × ℕ)

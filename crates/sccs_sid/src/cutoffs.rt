@@ -4,15 +4,14 @@ ghost use Rattle.sccs_sid.specs.Cutoff.{piece_at, year_by, unit_by, cutoff_of};
 ghost use Rattle.sccs_sid.specs.Moment.{IsMoment};
 ghost use Rattle.sccs_sid.specs.Reading.{Gives};
 
-use crate::dates::{full_year, second_of, within};
+use crate::dates::{full_year, last_day, second_of, within};
 use crate::moments::{Moment, MomentFault};
 use crate::reading::{from_digit, number_at};
-use jiff_core::civil::days_in_month;
 
 /// A moment at which a get cuts off, as it is spelled in a command.
 pub struct Cutoff;
 
-// the next one or two digits, and the bytes behind them
+// the next one or two digits, and the bytes after them
 fn piece_at(bytes: &[u8]) -> Result<(u32, &[u8]), usize>
     ensures value { Gives (λ x. (x.0, x.1.now)) result (piece_at bytes.now) }
     ensures small { IfOk result (λ x. x.0 < 100) }
@@ -20,7 +19,7 @@ fn piece_at(bytes: &[u8]) -> Result<(u32, &[u8]), usize>
     number_at(2, from_digit(bytes))
 }
 
-// the year, and the bytes behind it
+// the year, and the bytes after it
 fn year_at(bytes: &[u8]) -> Result<(u32, &[u8]), MomentFault>
     ensures value { Gives (λ x. (x.0, x.1.now)) result (year_by (piece_at bytes.now)) }
     ensures small { IfOk result (λ x. x.0 < 100) }
@@ -31,7 +30,7 @@ fn year_at(bytes: &[u8]) -> Result<(u32, &[u8]), MomentFault>
     Ok((within(1, 0, 99, Some(number))?, rest))
 }
 
-// another unit, and the bytes behind it: where no piece is left it has its greatest value
+// another unit, and the bytes after it: where no piece is left it has its greatest value
 fn unit_at(place: u64, low: u32, high: u32, bytes: &[u8]) -> Result<(u32, &[u8]), MomentFault>
     requires { low ≤ high }
     ensures value { Gives (λ x. (x.0, x.1.now)) result (unit_by place low high (piece_at bytes.now)) }
@@ -57,8 +56,8 @@ impl Cutoff {
         let (year, rest) = year_at(bytes)?;
         let year = full_year(year);
         let (month, rest) = unit_at(2, 1, 12, rest)?;
-        let last = days_in_month(year as i16, month as u8);
-        let (day, rest) = unit_at(3, 1, u32::from(last), rest)?;
+        let last = last_day(year, month);
+        let (day, rest) = unit_at(3, 1, last, rest)?;
         let (hour, rest) = unit_at(4, 0, 23, rest)?;
         let (minute, rest) = unit_at(5, 0, 59, rest)?;
         let (second, rest) = unit_at(6, 0, 59, rest)?;

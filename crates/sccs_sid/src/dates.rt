@@ -4,7 +4,9 @@ ghost use Rattle.jiff_core.specs.Calendar.{days_in_month};
 
 use crate::moments::{Moment, MomentFault};
 use crate::reading::{cut_at, number};
-use jiff_core::civil::{Date, DateTime, Time, days_in_month};
+use jiff::Timestamp;
+use jiff::civil::{DateTime, date, datetime};
+use jiff::tz::Offset;
 
 // a number from low to high, else a fault at the place
 pub fn within(place: u64, low: u32, high: u32, found: Option<u32>) -> Result<u32, MomentFault>
@@ -28,6 +30,18 @@ pub fn full_year(year: u32) -> u32
     if year < 69 { 2000 + year } else { 1900 + year }
 }
 
+// the last day of a month
+pub fn last_day(year: u32, month: u32) -> u32
+    requires year_low { 1969 ≤ year }
+    requires year_high { year ≤ 2068 }
+    requires month_low { 1 ≤ month }
+    requires month_high { month ≤ 12 }
+    ensures { result ≡ days_in_month (pos year) month }
+{
+    let first = date(year as i16, month as i8, 1);
+    u32::from(first.days_in_month().unsigned_abs())
+}
+
 // year, month and day of yy/mm/dd
 #[tactic(auto, unfolding(crate::specs::Moment::date_of))]
 pub fn read_date(date: &[u8]) -> Result<(u32, u32, u32), MomentFault>
@@ -47,8 +61,8 @@ pub fn read_date(date: &[u8]) -> Result<(u32, u32, u32), MomentFault>
     let Some(piece) = rest else {
         return Err(MomentFault { place: 3 });
     };
-    let last = days_in_month(year as i16, month as u8);
-    let day = within(3, 1, u32::from(last), number(2, piece))?;
+    let last = last_day(year, month);
+    let day = within(3, 1, last, number(2, piece))?;
     Ok((year, month, day))
 }
 
@@ -94,18 +108,19 @@ pub fn second_of(year: u32, month: u32, day: u32, hour: u32, minute: u32, second
     }) }
     ensures valid { IsMomentSecond result }
 {
-    let date = Date {
-        year: year as i16,
-        month: month as u8,
-        day: day as u8,
-    };
-    let time = Time {
-        hour: hour as u8,
-        minute: minute as u8,
-        second: second as u8,
-        subsec_nanosecond: 0,
-    };
-    DateTime { date, time }.to_second()
+    let shown = datetime(
+        year as i16,
+        month as i8,
+        day as i8,
+        hour as i8,
+        minute as i8,
+        second as i8,
+        0,
+    );
+    match Offset::UTC.to_timestamp(shown) {
+        Ok(timestamp) => timestamp.as_second(),
+        Err(_) => unreachable!(),
+    }
 }
 
 // the date and time of a moment
@@ -118,7 +133,7 @@ pub fn shown_at(moment: &Moment) -> DateTime
     ensures minute { result.time.minute ≡ (civil_of moment.now).minute }
     ensures second { result.time.second ≡ (civil_of moment.now).second }
 {
-    DateTime::from_nanosecond_in_range(i128::from(moment.seconds) * 1_000_000_000)
+    Offset::UTC.to_datetime(Timestamp::constant(moment.seconds, 0))
 }
 
 // the first of two digits

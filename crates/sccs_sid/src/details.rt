@@ -6,12 +6,17 @@ ghost use Rattle.sccs_sid.specs.Sid.{sid_text};
 use crate::sids::Sid;
 use itoa::Buffer;
 
+// the bytes of the longest detail: two numbers, and the words between them
+pub const DETAIL_ROOM: usize = 51;
+
 // what a refusal's text says beside its fixed words
 #[derive(Clone, Copy)]
 pub enum Detail {
     Nothing,
     Number(u64),
     Sums(u32, u16),
+    Range(u64, u64),
+    Letter(u8),
     Place(Sid),
 }
 
@@ -29,9 +34,9 @@ fn five(number: u32) -> [u8; 5]
     ]
 }
 
-// puts bytes behind those that stand up to a place, and answers where they end
-fn put(into: &mut [u8; 40], at: usize, bytes: &[u8]) -> usize
-    requires { at + length bytes.now ≤ 40 }
+// puts bytes after those that stand up to a place, and answers where they end
+fn put(into: &mut [u8; DETAIL_ROOM], at: usize, bytes: &[u8]) -> usize
+    requires { at + length bytes.now ≤ 51 }
     ensures end { result ≡ at + length bytes.now }
     ensures put { take result into.new ≡ take at into.old ++ bytes.now }
 {
@@ -41,8 +46,8 @@ fn put(into: &mut [u8; 40], at: usize, bytes: &[u8]) -> usize
 }
 
 // the same with the written SID
-fn put_sid(sid: &Sid, into: &mut [u8; 40]) -> usize
-    ensures end { result ≤ 40 }
+fn put_sid(sid: &Sid, into: &mut [u8; DETAIL_ROOM]) -> usize
+    ensures end { result ≤ 51 }
     ensures put { take result into.new ≡ sid_text sid.now }
 {
     let mut buffer = Buffer::new();
@@ -58,9 +63,9 @@ fn put_sid(sid: &Sid, into: &mut [u8; 40]) -> usize
     put(into, end, buffer.format(sid.sequence).as_bytes())
 }
 
-// puts the text of a detail at the front, and answers where it ends
-pub fn put_detail(detail: &Detail, into: &mut [u8; 40]) -> usize
-    ensures end { result ≤ 40 }
+// puts the text of a detail at the start, and answers where it ends
+pub fn put_detail(detail: &Detail, into: &mut [u8; DETAIL_ROOM]) -> usize
+    ensures end { result ≤ 51 }
     ensures put { take result into.new ≡ detail_text detail.now }
 {
     match detail {
@@ -71,6 +76,13 @@ pub fn put_detail(detail: &Detail, into: &mut [u8; 40]) -> usize
             let end = put(into, end, b", computed ");
             put(into, end, &five(u32::from(*computed)))
         }
+        Detail::Range(line, count) => {
+            let mut buffer = Buffer::new();
+            let end = put(into, 0, buffer.format(*line).as_bytes());
+            let end = put(into, end, b": text has ");
+            put(into, end, buffer.format(*count).as_bytes())
+        }
+        Detail::Letter(letter) => put(into, 0, &[*letter]),
         Detail::Place(sid) => put_sid(sid, into),
     }
 }

@@ -4,6 +4,7 @@
 mod cutoffs;
 mod dates;
 mod details;
+mod laws;
 mod moments;
 pub mod reading;
 mod refusals;
@@ -14,6 +15,10 @@ mod tests;
 pub mod words;
 
 pub use cutoffs::Cutoff;
+pub use laws::{
+    cutoff_by_pieces, list_fault_stays, list_fault_within, list_prefix_is_viable, list_round_trip,
+    spec_round_trip,
+};
 pub use moments::{Moment, MomentFault, Stamp, civil_exists, moment_again};
 pub use refusals::{Refusal, StepFault, write_refusal};
 pub use sid_lists::{ListFault, Range, SidList};

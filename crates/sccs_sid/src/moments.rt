@@ -1,10 +1,9 @@
 ghost use Rattle.std.specs.Prelude.{◌≡◌, ◌≤◌, ◌<◌, ◌↔◌, List, ◌++◌, ◌∷◌, IfOk, IfSome, IsSome, OnOk, OnErr, ◌*ℤ◌, pos};
-ghost use Rattle.sccs_base.specs.Stream.{Rose, GivesOk, GivesSome};
+ghost use Rattle.sccs_base.specs.Causes.{GivesText};
 ghost use Rattle.sccs_sid.specs.declared.moments.Moment.{Moment};
 ghost use Rattle.sccs_sid.specs.Moment.{civil_of, IsMomentSecond, IsMoment, Exists, second_at, moment_of, moment_text, date_text, time_text};
 
 use crate::dates::{ones, read_date, read_time, second_of, shown_at, tens};
-use jiff_core::civil::DateTime;
 use sccs_base::{Failed, Login, Sink};
 
 /// A second of 1969-01-01 to 2068-12-31, UTC, counted from the start of 1970.
@@ -61,37 +60,39 @@ impl Moment {
         requires { IsMoment self.now }
         ensures { result ≡ moment_text self.now }
     {
-        let DateTime { date, time } = shown_at(self);
-        let year = (date.year.unsigned_abs() % 100) as u8;
+        let shown = shown_at(self);
+        let year = (shown.year().unsigned_abs() % 100) as u8;
+        let month = shown.month().unsigned_abs();
+        let day = shown.day().unsigned_abs();
+        let hour = shown.hour().unsigned_abs();
+        let minute = shown.minute().unsigned_abs();
+        let second = shown.second().unsigned_abs();
         [
             tens(year),
             ones(year),
             b'/',
-            tens(date.month),
-            ones(date.month),
+            tens(month),
+            ones(month),
             b'/',
-            tens(date.day),
-            ones(date.day),
+            tens(day),
+            ones(day),
             b' ',
-            tens(time.hour),
-            ones(time.hour),
+            tens(hour),
+            ones(hour),
             b':',
-            tens(time.minute),
-            ones(time.minute),
+            tens(minute),
+            ones(minute),
             b':',
-            tens(time.second),
-            ones(time.second),
+            tens(second),
+            ones(second),
         ]
     }
 
     /// Writes `yy/mm/dd hh:mm:ss`, each with two digits.
     pub fn write<S: Sink>(&self, out: &mut S) -> Result<(), Failed>
         requires { IsMoment self.now }
-        ensures ok { OnOk result (GivesOk (S.given out.old) (S.given out.new) (moment_text self.now)) }
-        ensures err { OnErr result
-            (GivesSome (S.given out.old) (S.given out.new) (moment_text self.now)) }
-        ensures later { S.faults out.old ≤ S.faults out.new }
-        ensures cause { OnErr result (Rose (S.faults out.old) (S.faults out.new)) }
+        ensures { GivesText (moment_text self.now)
+            (S.given out.old) (S.given out.new) (S.faults out.old) (S.faults out.new) result }
     {
         out.give(&self.text())
     }

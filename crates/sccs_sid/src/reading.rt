@@ -3,7 +3,7 @@
 ghost use Rattle.std.specs.Prelude.{◌≡◌, ◌+◌, ◌*◌, ◌^◌, ◌<◌, ◌≤◌, length, option_map, IfOk, IfErr, IfSome};
 ghost use Rattle.sccs_sid.specs.Reading.{Gives, digits_after, number_at, byte_at, number, until, behind, is_no_digit, from_digit};
 
-// up to `most` more digits behind those of a number, and the bytes after them
+// up to `most` more digits after those of a number, and the bytes after them
 fn digits_after(most: u32, high: u64, bytes: &[u8]) -> (u64, &[u8])
     requires { (high + 1) * 10 ^ most ≤ 10 ^ 19 }
     ensures value { digits_after most high bytes.now ≡ (result.0, result.1.now) }
@@ -85,7 +85,7 @@ pub fn number(most: u32, bytes: &[u8]) -> Option<u32>
     }
 }
 
-/// The bytes up to the next separator, or to the end, and those behind it, where one stands.
+/// The bytes up to the next separator, or to the end, and those after it, where one stands.
 pub fn cut_at(separator: u8, bytes: &[u8]) -> (&[u8], Option<&[u8]>)
     ensures piece { result.0.now ≡ until separator bytes.now }
     ensures rest { option_map (λ x. x.now) result.1 ≡ behind separator bytes.now }

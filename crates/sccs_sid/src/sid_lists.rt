@@ -79,7 +79,7 @@ fn component_at(bytes: &[u8]) -> Result<(u16, &[u8]), usize>
     Ok((number as u16, rest))
 }
 
-// branch and sequence, each behind a dot
+// branch and sequence, each after a dot
 #[tactic(auto, unfolding(crate::specs::SidLists::branch_at))]
 fn branch_at(release: u16, level: u16, bytes: &[u8]) -> Result<(Sid, &[u8]), usize>
     requires release { IsComponent release }
@@ -125,7 +125,7 @@ fn sid_at(bytes: &[u8]) -> Result<(Sid, &[u8]), usize>
     Ok((sid, rest))
 }
 
-// the last SID of a range, behind a dash
+// the last SID of a range, after a dash
 #[tactic(auto, unfolding(crate::specs::SidLists::last_at))]
 fn last_at(first: Sid, bytes: &[u8]) -> Result<(Range, &[u8]), usize>
     requires { IsSid first }
@@ -154,7 +154,7 @@ fn range_at(bytes: &[u8]) -> Result<(Range, &[u8]), usize>
     Ok((Range { first, last: first }, rest))
 }
 
-// a range, and the bytes behind its comma, where one follows
+// a range, and the bytes after its comma, where one follows
 #[tactic(auto, unfolding(crate::specs::SidLists::piece_at))]
 fn piece_at(bytes: &[u8]) -> Result<(Range, Option<&[u8]>), usize>
     ensures value { Gives (λ x. (x.0, option_map (λ rest. rest.now) x.1)) result (piece_at bytes.now) }

@@ -1,5 +1,5 @@
 ghost use Rattle.std.specs.Prelude.{◌≡◌, ◌<◌, ◌≤◌, Ok, [], ◌∷◌, IfOk, OnOk, OnErr};
-ghost use Rattle.sccs_base.specs.Stream.{Rose, GivesOk, GivesSome};
+ghost use Rattle.sccs_base.specs.Causes.{GivesText};
 ghost use Rattle.sccs_sid.specs.declared.sids.Sid.{Sid};
 ghost use Rattle.sccs_sid.specs.Numbers.{number_list, AreLow};
 ghost use Rattle.sccs_sid.specs.Reading.{Gives};
@@ -20,7 +20,7 @@ pub struct Sid {
     pub sequence: u16,
 }
 
-/// A SID or a front of one: a release, a branch by release, level and number, or all of a SID.
+/// A SID or a prefix of one: a release, a branch by release, level and number, or all of a SID.
 #[derive(Clone, Copy, Debug, PartialEq, Eq)]
 pub enum Spec {
     Release(u16),
@@ -165,10 +165,8 @@ impl Sid {
     /// Writes the SID without leading zeros: `R.L`, or `R.L.B.S` on a branch.
     #[tactic(auto, unfolding(crate::specs::Sid::sid_text))]
     pub fn write<S: Sink>(&self, out: &mut S) -> Result<(), Failed>
-        ensures ok { OnOk result (GivesOk (S.given out.old) (S.given out.new) (sid_text self.now)) }
-        ensures err { OnErr result (GivesSome (S.given out.old) (S.given out.new) (sid_text self.now)) }
-        ensures later { S.faults out.old ≤ S.faults out.new }
-        ensures cause { OnErr result (Rose (S.faults out.old) (S.faults out.new)) }
+        ensures { GivesText (sid_text self.now)
+            (S.given out.old) (S.given out.new) (S.faults out.old) (S.faults out.new) result }
     {
         let (mut release, mut level) = (Buffer::new(), Buffer::new());
         let release = release.format(self.release).as_bytes();

@@ -69,7 +69,7 @@ fn a_list_of_ranges(rt: HostRuntime) -> Result<(), Fail> {
 }
 
 #[test]
-fn sids_and_their_fronts(rt: HostRuntime) -> Result<(), Fail> {
+fn sids_and_their_prefixes(rt: HostRuntime) -> Result<(), Fail> {
     assert_eq!(rt; Sid::read(b"1.2"), Ok(sid(1, 2, 0, 0)));
     assert_eq!(rt; Sid::read(b"1.2.3.0004"), Ok(sid(1, 2, 3, 4)));
     assert_eq!(rt; Sid::read(b"1.0"), Err(SidFault::OutOfRange));
@@ -119,7 +119,7 @@ fn moments_and_cutoffs(rt: HostRuntime) -> Result<(), Fail> {
 
 #[test]
 fn written_texts(rt: HostRuntime) -> Result<(), Fail> {
-    let mut sink = MemorySink::new(rt.alloc(), 400, &[])?;
+    let mut sink = MemorySink::new(rt.alloc(), 1000, &[])?;
     sid(1, 20, 0, 0).write(&mut sink)?;
     sid(1, 2, 3, 4000).write(&mut sink)?;
     let leap = Moment {
@@ -132,12 +132,15 @@ fn written_texts(rt: HostRuntime) -> Result<(), Fail> {
         Refusal::BadFormat(12),
         Refusal::BadList(sid(1, 2, 3, 4)),
         Refusal::BadList(sid(5, 6, 0, 0)),
+        Refusal::ScriptRange(u64::MAX, u64::MAX),
+        Refusal::FlagBad(b'x'),
+        Refusal::Changed(1, 2, 3, 4),
         Refusal::Unbuilt,
     ] {
         write_refusal(b"s.a", &refusal, &mut sink)?;
     }
     let wanted =
-        b"1.201.2.3.400000/02/29 23:59:59ERROR [s.a]: not a name of an s-file (01)\nERROR [s.a]: bad sum: stored 00003, computed 65535 (07)\nERROR [s.a]: format error at line 12 (08)\nERROR [s.a]: bad list at 1.2.3.4 (16)\nERROR [s.a]: bad list at 5.6 (16)\nERROR [s.a]: not built yet (99)\n";
+        b"1.201.2.3.400000/02/29 23:59:59ERROR [s.a]: not a name of an s-file (01)\nERROR [s.a]: bad sum: stored 00003, computed 65535 (07)\nERROR [s.a]: format error at line 12 (08)\nERROR [s.a]: bad list at 1.2.3.4 (16)\nERROR [s.a]: bad list at 5.6 (16)\nERROR [s.a]: script line 18446744073709551615: text has 18446744073709551615 lines (22)\nERROR [s.a]: bad flag x (27)\nERROR [s.a]: file changed while read (34)\nERROR [s.a]: not built yet (99)\n";
     assert_eq!(rt; sink.bytes(), wanted.as_slice());
     Ok(())
 }

@@ -3,13 +3,14 @@ ghost use Rattle.std.specs.Prelude.{◌≡◌, ◌<◌, ◌≤◌, ◌^◌, leng
 ghost use Rattle.sccs_sid.specs.Words.{begins_blank, ends_blank, skip_blanks, drop_blanks, words, with_word, one, three};
 
 use crate::reading::{byte_at, cut_at, number, number_at};
+use sccs_base::BLANK;
 
 /// Whether a blank comes first.
 pub fn begins_blank(bytes: &[u8]) -> bool
     ensures { result ≡ begins_blank bytes.now }
 {
     match bytes.first() {
-        Some(first) => *first == b' ',
+        Some(first) => *first == BLANK,
         None => false,
     }
 }
@@ -19,18 +20,18 @@ pub fn ends_blank(bytes: &[u8]) -> bool
     ensures { result ≡ ends_blank bytes.now }
 {
     match bytes.last() {
-        Some(last) => *last == b' ',
+        Some(last) => *last == BLANK,
         None => false,
     }
 }
 
-/// The bytes without the blanks in front.
+/// The bytes without the blanks at the start.
 pub fn skip_blanks(bytes: &[u8]) -> &[u8]
     ensures value { result.now ≡ skip_blanks bytes.now }
     ensures shorter { length result.now ≤ length bytes.now }
 {
     for (at, byte) in bytes.iter().enumerate() {
-        if *byte != b' ' {
+        if *byte != BLANK {
             return &bytes[at..];
         }
     }
@@ -43,19 +44,19 @@ pub fn drop_blanks(bytes: &[u8]) -> &[u8]
     ensures shorter { length result.now ≤ length bytes.now }
 {
     let mut end = bytes.len();
-    'blanks: while end > 0 && bytes[end - 1] == b' ' {
+    'blanks: while end > 0 && bytes[end - 1] == BLANK {
         end -= 1;
     }
     &bytes[..end]
 }
 
-/// The first word, and the bytes behind it; an empty word where none is there.
+/// The first word, and the bytes after it; an empty word where none is there.
 pub fn next_word(bytes: &[u8]) -> (&[u8], &[u8])
     ensures value { words bytes.now ≡ with_word result.0.now (words result.1.now) }
     ensures shorter { length result.1.now ≤ length bytes.now }
 {
     let bytes = skip_blanks(bytes);
-    let (word, rest) = cut_at(b' ', bytes);
+    let (word, rest) = cut_at(BLANK, bytes);
     match rest {
         Some(rest) => (word, rest),
         None => (word, &bytes[bytes.len()..]),

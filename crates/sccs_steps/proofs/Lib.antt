@@ -1,7 +1,5 @@
-pub mod Folders
+pub mod Clear
 pub mod Gifts
+pub mod JoinedSteps
 pub mod OneStep
-pub mod ReadSteps
-pub mod Sights
-pub mod TurnLists
-pub mod Views
+pub mod OperandLaws

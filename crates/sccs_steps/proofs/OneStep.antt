@@ -1,43 +1,45 @@
 -- What the call of one step answers and leaves, as a list of one step.
-use Rattle.std.proofs.Common.{◌≡◌, ℕ, ◌+◌, ◌<◌, max, Bool, List, [], ◌∷◌, ◌++◌, length, Option, None, Some, Result, Ok, Err, inl, inr, refl, sym, ap, subst, ◌∙◌, arith}
+use Rattle.std.proofs.Common.{◌≡◌, ℕ, zero, suc, Bool, true, List, [], ◌∷◌, ◌++◌, take, Option, None, Some, Result, Ok, Err, inl, inr, refl, sym, ap, subst, ◌∙◌, arith}
 use Rattle.std.proofs.lemmas.List.{append-nil}
 use Rattle.sccs_base.specs.Stream.{GivesOk, GivesSome}
 use Rattle.sccs_sid.specs.Refusal.{refusal_line}
 use Rattle.sccs_sid.specs.declared.refusals.Refusal.{Refusal}
-use Rattle.sccs_disk.specs.Files.{Folder, View, view_in}
-use Rattle.sccs_steps.specs.StepFiles.{Files, moved, moved_in, is_left, MovesPartly, Shows, ShowsPartly}
-use Rattle.sccs_steps.specs.Deeds.{Deed, Outcome, deed_of}
-use Rattle.sccs_steps.specs.Calls.{World, Kept, Made, Half, Broken}
-use Rattle.sccs_steps.specs.Turns.{Turn, Apart, Ran, Stopped, Broke, Waits, Runs, turn_of, out_of, err_of, left_by, folder_after}
-use Rattle.sccs_steps.proofs.Folders.{moved_view}
-use Rattle.sccs_steps.proofs.Gifts.{some_same, some_of_whole, ok_same}
-use Rattle.sccs_steps.proofs.Views.{shows_moved, shows_kept, shows_partly}
-
--- the folder after the step is shown
-shows_after : (w : List ℕ → Bool) (m : Folder) (n : List ℕ) (new : Option Files) (a b : Option View) → Apart w n → Shows w a (view_in m) → Shows w b (moved (view_in m) n new) → Shows w b (view_in (moved_in m n new))
-shows_after w m n new a b apart shows after = subst (λ (v : View). Shows w b v) (sym (moved_view m n new)) after
+use Rattle.sccs_sid.specs.declared.refusals.StepFault.{StepFault}
+use Rattle.sccs_sid.specs.declared.refusals.StepFault.TheVariants as step
+use Rattle.sccs_disk.specs.Files.{Folder, view_in}
+use Rattle.sccs_files.specs.StepFiles.{Shows}
+use Rattle.sccs_steps.specs.StepEffects.{StepEffect, Outcome, effect_of}
+use Rattle.sccs_steps.specs.Calls.{World, Meets, Fails, Uncommitted, Made, ReportCut, Interrupted, world}
+use Rattle.sccs_steps.specs.Messages.{SaysRefusal, Concludes}
+use Rattle.sccs_steps.specs.Actions.{IsClear}
+use Rattle.sccs_steps.specs.StepLists.{Stopped, ListInterrupted, Waits, Runs, named_step}
+use Rattle.sccs_steps.specs.declared.faults.Fault.{Fault}
+use Rattle.sccs_steps.specs.declared.faults.Fault.TheVariants.{Memory, ReadFault, WriteFault, DiskFault}
+use Rattle.sccs_steps.proofs.Clear.{IsKept, clear_moved, clear_same, clear_partly}
+use Rattle.sccs_steps.proofs.Gifts.{some_same}
 
 -- the step is made
-pub made_runs : (w : List ℕ → Bool) (m : Folder) (n : List ℕ) (o : Outcome) (d : Deed) (status : ℕ) (a b : World) → Apart w n → Shows w a.view (view_in m) → o ≡ Ok d → d.status ≡ status → Made n d a b
-    → Runs w (Ok status) m (turn_of n o ∷ []) a b
-made_runs w m n o d status a b apart shows is code made =
-    subst (λ (out : Outcome). Runs w (Ok status) m (turn_of n out ∷ []) a b) (sym is) (
+made_runs : (reads : Bool) (w : List ℕ → Bool) (m : Folder) (n : List ℕ) (o : Outcome) (d : StepEffect) (a b : World) → IsClear reads w n → (reads ≡ true → b.view ≡ a.view) → IsKept reads o → Shows w a.view (view_in m)
+    → o ≡ Ok d → d.status ≡ 0 → Made n d a b → Runs w (Ok 0) m (named_step n o ∷ []) a b
+made_runs reads w m n o d a b clear same kept shows is code made =
+    subst (λ (out : Outcome). Runs w (Ok 0) m (named_step n out ∷ []) a b) (sym is) (
       sym code ∙ omega arith,
       record {
-        view = shows_after w m n d.new a.view b.view apart shows (shows_moved w n d.new (view_in m) a.view b.view apart shows made.view);
+        view = clear_moved reads w m n d.new a.view b.view clear same (λ only. kept only d is) shows made.view;
         out = subst (λ text. GivesOk a.out b.out text) (sym (append-nil (d.text ++ d.out))) made.out;
         err = subst (λ text. GivesOk a.err b.err text) (sym (append-nil d.err)) made.err;
       },
     )
 
 -- nothing is committed, and the step is still to be made
-pub kept_waits : (w : List ℕ → Bool) (m : Folder) (n : List ℕ) (o : Outcome) (a b : World) → Apart w n → Shows w a.view (view_in m) → Kept n (deed_of n o).text a b → Waits w m (turn_of n o ∷ []) a b
-kept_waits w m n o a b apart shows kept = (
+kept_waits : (reads : Bool) (w : List ℕ → Bool) (m : Folder) (n : List ℕ) (o : Outcome) (a b : World) → IsClear reads w n → (reads ≡ true → b.view ≡ a.view) → Shows w a.view (view_in m)
+    → Uncommitted n (effect_of n o).text a b → Waits w m (named_step n o ∷ []) a b
+kept_waits reads w m n o a b clear same shows kept = (
   record {
     made = [];
-    rest = turn_of n o ∷ [];
+    rest = named_step n o ∷ [];
     is = refl;
-    view = shows_kept w n (view_in m) a.view b.view apart shows kept.view;
+    view = clear_same reads w m n a.view b.view clear same shows kept.view;
     out = kept.out;
     err = some_same a.err b.err [] kept.err;
   },
@@ -45,47 +47,95 @@ kept_waits w m n o a b apart shows kept = (
 )
 
 -- the step is committed, and its report is cut
-pub half_stops : (w : List ℕ → Bool) (m : Folder) (n : List ℕ) (o : Outcome) (d : Deed) (a b : World) → Apart w n → Shows w a.view (view_in m) → o ≡ Ok d → Half n d a b → Stopped w m (turn_of n o ∷ []) a b
-half_stops w m n o d a b apart shows is half =
-    subst (λ (out : Outcome). Stopped w m (turn_of n out ∷ []) a b) (sym is)
+cut_stops : (reads : Bool) (w : List ℕ → Bool) (m : Folder) (n : List ℕ) (o : Outcome) (d : StepEffect) (a b : World) → IsClear reads w n → (reads ≡ true → b.view ≡ a.view) → IsKept reads o → Shows w a.view (view_in m)
+    → o ≡ Ok d → ReportCut n d a b → Stopped w m (named_step n o ∷ []) a b
+cut_stops reads w m n o d a b clear same kept shows is cut =
+    subst (λ (out : Outcome). Stopped w m (named_step n out ∷ []) a b) (sym is)
     (record {
-      made = turn_of n (Ok d) ∷ [];
+      made = named_step n (Ok d) ∷ [];
       rest = [];
       is = refl;
-      view = shows_after w m n d.new a.view b.view apart shows (shows_moved w n d.new (view_in m) a.view b.view apart shows half.view);
-      out = subst (λ text. GivesSome a.out b.out text) (sym (append-nil (d.text ++ d.out)) ∙ sym (append-nil ((d.text ++ d.out) ++ []))) half.out;
-      err = subst (λ text. GivesSome a.err b.err text) (sym (append-nil d.err)) half.err;
+      view = clear_moved reads w m n d.new a.view b.view clear same (λ only. kept only d is) shows cut.view;
+      out = subst (λ text. GivesSome a.out b.out text) (sym (append-nil (d.text ++ d.out)) ∙ sym (append-nil ((d.text ++ d.out) ++ []))) cut.out;
+      err = subst (λ text. GivesSome a.err b.err text) (sym (append-nil d.err)) cut.err;
     })
 
+-- a write fault before the commit, or in the report
+write_stops : (reads : Bool) (w : List ℕ → Bool) (m : Folder) (n : List ℕ) (o : Outcome) (a b : World) → IsClear reads w n → (reads ≡ true → b.view ≡ a.view) → IsKept reads o → Shows w a.view (view_in m)
+    → Fails step.WriteFault n o a b → Stopped w m (named_step n o ∷ []) a b
+write_stops reads w m n o a b clear same kept shows (inl uncommitted) = (kept_waits reads w m n o a b clear same shows uncommitted).0
+write_stops reads w m n o a b clear same kept shows (inr cut) = cut_stops reads w m n o cut.0 a b clear same kept shows cut.1 cut.2
+
 -- the disk failed
-pub broken_breaks : (w : List ℕ → Bool) (m : Folder) (n : List ℕ) (o : Outcome) (a b : World) → Apart w n → Shows w a.view (view_in m) → Broken n o a b → Broke w m (turn_of n o ∷ []) a b
-broken_breaks w m n o a b apart shows broken = record {
+disk_stops : (reads : Bool) (w : List ℕ → Bool) (m : Folder) (n : List ℕ) (o : Outcome) (a b : World) → IsClear reads w n → (reads ≡ true → b.view ≡ a.view) → Shows w a.view (view_in m) → Interrupted n o a b
+    → ListInterrupted w m (named_step n o ∷ []) a b
+disk_stops reads w m n o a b clear same shows interrupted = record {
   made = [];
-  rest = turn_of n o ∷ [];
+  rest = named_step n o ∷ [];
   is = refl;
-  view = subst (λ (v : View). ShowsPartly (left_by w (turn_of n o ∷ [])) b.view (view_in m) v) (sym (moved_view m n (deed_of n o).new))
-      (shows_partly w n (deed_of n o).new (view_in m) a.view b.view apart shows broken.view);
-  out = broken.out;
-  err = some_same a.err b.err [] broken.err;
+  view = clear_partly reads w m n o a.view b.view clear same shows interrupted.view;
+  out = interrupted.out;
+  err = some_same a.err b.err [] interrupted.err;
 }
 
--- the step is refused, and that is said
-pub refused_runs : (w : List ℕ → Bool) (m : Folder) (n : List ℕ) (o : Outcome) (refusal : Refusal) (a b : World) → o ≡ Err refusal → Shows w b.view (view_in m) → GivesOk a.out b.out [] → GivesOk a.err b.err (refusal_line n refusal)
-    → Runs w (Ok 1) m (turn_of n o ∷ []) a b
-refused_runs w m n o refusal a b is shows out err =
-    subst (λ (outcome : Outcome). Runs w (Ok 1) m (turn_of n outcome ∷ []) a b) (sym is)
-    (refl, record { view = shows; out = out; err = subst (λ text. GivesOk a.err b.err text) (sym (append-nil (refusal_line n refusal))) err })
+take_none : (n : ℕ) → take {A = ℕ} n [] ≡ []
+take_none zero = refl
+take_none (suc n) = refl
 
--- the step is refused, and what is said of it is cut
-pub refused_stops : (w : List ℕ → Bool) (m : Folder) (n : List ℕ) (o : Outcome) (refusal : Refusal) (a b : World) → o ≡ Err refusal → Shows w b.view (view_in m) → GivesOk a.out b.out [] → GivesSome a.err b.err (refusal_line n refusal)
-    → Stopped w m (turn_of n o ∷ []) a b
-refused_stops w m n o refusal a b is shows out err =
-    subst (λ (outcome : Outcome). Stopped w m (turn_of n outcome ∷ []) a b) (sym is)
+some_nothing : (a b : Option (List ℕ)) → GivesSome a b [] → GivesOk a b []
+some_nothing None b some = some
+some_nothing (Some f) b some = some.2 ∙ ap (λ text. Some (f ++ text)) (take_none some.0)
+
+-- the step is refused, and that is said, or what is said of it is cut
+pub refusal_ends : (w : List ℕ → Bool) (m : Folder) (n : List ℕ) (o : Outcome) (refusal : Refusal) (r : Result ℕ Fault) (a b : World) → o ≡ Err refusal → Shows w b.view (view_in m) → GivesSome a.out b.out []
+    → SaysRefusal n refusal r a.err b.err → Runs w r m (named_step n o ∷ []) a b
+refusal_ends w m n o refusal (Ok status) a b is shows out said =
+    subst (λ s. Runs w (Ok s) m (named_step n o ∷ []) a b) (sym said.0)
+    (subst (λ (outcome : Outcome). Runs w (Ok 1) m (named_step n outcome ∷ []) a b) (sym is)
+    (refl, record { view = shows; out = some_nothing a.out b.out out; err = subst (λ text. GivesOk a.err b.err text) (sym (append-nil (refusal_line n refusal))) said.1 }))
+refusal_ends w m n o refusal (Err WriteFault) a b is shows out said =
+    subst (λ (outcome : Outcome). Stopped w m (named_step n outcome ∷ []) a b) (sym is)
     (record {
-      made = turn_of n (Err refusal) ∷ [];
+      made = named_step n (Err refusal) ∷ [];
       rest = [];
       is = refl;
       view = shows;
-      out = some_of_whole a.out b.out [] out;
-      err = subst (λ text. GivesSome a.err b.err text) (sym (append-nil (refusal_line n refusal))) err;
+      out = out;
+      err = subst (λ text. GivesSome a.err b.err text) (sym (append-nil (refusal_line n refusal))) said;
     })
+refusal_ends w m n o refusal (Err Memory) a b is shows out said = absurd said
+refusal_ends w m n o refusal (Err ReadFault) a b is shows out said = absurd said
+refusal_ends w m n o refusal (Err DiskFault) a b is shows out said = absurd said
+
+-- ---- a step that was called, and how its operand ends
+
+with_err : World → Option (List ℕ) → World
+with_err b e = world b.view b.out e
+
+kept_with : (n text : List ℕ) (a b : World) (e : Option (List ℕ)) → e ≡ b.err → Uncommitted n text a b → Uncommitted n text a (world b.view b.out e)
+kept_with n text a b e same kept = record { view = kept.view; cleared = kept.cleared; out = kept.out; err = same ∙ kept.err }
+
+write_with : (n : List ℕ) (o : Outcome) (a b : World) (e : Option (List ℕ)) → e ≡ b.err → Fails step.WriteFault n o a b → Fails step.WriteFault n o a (world b.view b.out e)
+write_with n o a b e same (inl kept) = inl (kept_with n _ a b e same kept)
+write_with n o a b e same (inr cut) =
+    inr (cut.0, cut.1, record { view = cut.2.view; out = cut.2.out; err = subst (λ t. GivesSome a.err t cut.0.err) (sym same) cut.2.err })
+
+pub concluded : (reads : Bool) (w : List ℕ → Bool) (m : Folder) (n : List ℕ) (o : Outcome) (made : Result (Unit {0}) StepFault) (r : Result ℕ Fault) (a b : World) (e : Option (List ℕ)) → IsClear reads w n → (reads ≡ true → b.view ≡ a.view) → IsKept reads o → Shows w a.view (view_in m)
+    → Meets (λ _. 0) made n o a b → Concludes made n r b.err e → Runs w r m (named_step n o ∷ []) a (world b.view b.out e)
+concluded reads w m n o (Ok done) r a b e clear same kept shows met says =
+    subst (λ (res : Result ℕ Fault). Runs w res m (named_step n o ∷ []) a (world b.view b.out e)) (sym says.0)
+    (made_runs reads w m n o met.0 a (world b.view b.out e) clear same kept shows met.1 met.2 (record { view = met.3.view; out = met.3.out; err = subst (λ t. GivesOk a.err t met.0.err) (sym says.1) met.3.err }))
+concluded reads w m n o (Err (step.Refused refusal)) r a b e clear same kept shows met says =
+    refusal_ends w m n o refusal r a (world b.view b.out e) met.0 (clear_same reads w m n a.view b.view clear same shows met.1.view) met.1.out (subst (λ t. SaysRefusal n refusal r t e) met.1.err says)
+concluded reads w m n o (Err step.Memory) r a b e clear same kept shows met says =
+    subst (λ (res : Result ℕ Fault). Runs w res m (named_step n o ∷ []) a (world b.view b.out e)) (sym says.0)
+    (kept_waits reads w m n o a (world b.view b.out e) clear same shows (kept_with n _ a b e says.1 met))
+concluded reads w m n o (Err step.ReadFault) r a b e clear same kept shows met says =
+    subst (λ (res : Result ℕ Fault). Runs w res m (named_step n o ∷ []) a (world b.view b.out e)) (sym says.0)
+    (kept_waits reads w m n o a (world b.view b.out e) clear same shows (kept_with n _ a b e says.1 met))
+concluded reads w m n o (Err step.WriteFault) r a b e clear same kept shows met says =
+    subst (λ (res : Result ℕ Fault). Runs w res m (named_step n o ∷ []) a (world b.view b.out e)) (sym says.0)
+    (write_stops reads w m n o a (world b.view b.out e) clear same kept shows (write_with n o a b e says.1 met))
+concluded reads w m n o (Err step.DiskFault) r a b e clear same kept shows met says =
+    subst (λ (res : Result ℕ Fault). Runs w res m (named_step n o ∷ []) a (world b.view b.out e)) (sym says.0)
+    (disk_stops reads w m n o a (world b.view b.out e) clear same shows (record { view = met.view; out = met.out; err = says.1 ∙ met.err }))

@@ -1,4 +1,6 @@
+pub mod Actions
 pub mod Calls
-pub mod Deeds
-pub mod StepFiles
-pub mod Turns
+pub mod Causes
+pub mod Messages
+pub mod StepEffects
+pub mod StepLists

@@ -1,6 +1,11 @@
-//! Steps, and lists of steps: what a step sees and does, and how a call that makes steps ends.
+//! Steps, and lists of steps: what a step sees and does, what a utility is, and the loop over the
+//! operands of a command.
 #![tactic(auto)]
 
 mod faults;
+mod operands;
+mod utilities;
 
 pub use faults::Fault;
+pub use operands::{run_operand, run_operands};
+pub use utilities::Utility;

@@ -1,7 +1,9 @@
 -- What reading the header of an s-file answers.
 use Rattle.std.specs.Prelude.{◌≡◌, ℕ, ◌+◌, ◌≤◌, ◌<◌, List, ◌∷◌, length, drop, Option, None, Some, Result, Ok, Err}
 use Rattle.sccs_base.specs.Cut.{cut}
+use Rattle.sccs_base.specs.Stream.{Rose}
 use Rattle.sccs_disk.specs.Files.{View}
+use Rattle.sccs_disk.specs.Told.{Told}
 use Rattle.sccs_history.specs.declared.headers.Header.{Header}
 use Rattle.sccs_grammar.specs.Front.{ParsedFront, front_from, line_after}
 use Rattle.sccs_grammar.specs.File.{Opened, answer, opened}
@@ -114,3 +116,13 @@ HearsLine file old new n r (Err _) = ⊥
 abbrev pub HearsNext : Option (List ℕ) → Standing → Standing → ℕ → Reading → Result Reading FileFault → Type 0
 HearsNext None old new n r result = Unit {0}
 HearsNext (Some file) old new n r result = StandsIn old file → HearsLine file old new n r result
+
+-- A call that reads on with a reader of lines: the disk tells what it told, the reader stays in its file, and a failing disk is
+-- counted.
+pub record ReadsOn {D T : Type 0} (told : D → Told) (faults : D → ℕ) (disk disk2 : D) (old new : Standing) (result : Result T FileFault) : Type 0 where
+  pub same : told disk2 ≡ told disk
+  pub later : faults disk ≤ faults disk2
+  pub cause : result ≡ Err Failed → Rose (faults disk) (faults disk2)
+  pub name : new.name ≡ old.name
+  pub size : new.size ≡ old.size
+  pub ahead : new.place + length new.held ≤ new.size

@@ -5,12 +5,12 @@ ghost use Rattle.sccs_disk.specs.Told.{seen};
 ghost use Rattle.sccs_grammar.specs.File.{checked_front, front_of, stored};
 ghost use Rattle.sccs_history.specs.History.{IsHeader, IsSpelled, KeepsRules, is_encoded, is_one};
 ghost use Rattle.sccs_grammar.specs.Front.{header_of, is_whole, line_after, start};
-ghost use Rattle.sccs_table.specs.FrontFile.{AnswersFront, AnswersLine, IsPlaced, HearsNext, Opens, Reads, SumLine, read_as};
+ghost use Rattle.sccs_table.specs.FrontFile.{AnswersFront, AnswersLine, HearsNext, IsPlaced, Opens, Reads, ReadsOn, SumLine, read_as};
 ghost use Rattle.sccs_table.specs.Standing.{bytes_in, file_in};
 
 use crate::line_readers::{LineFault, LineReader};
 use crate::sums::Sum;
-use sccs_base::Name;
+use sccs_base::{FILE_LIMIT, Name};
 use sccs_disk::Disk;
 use sccs_grammar::{FileFault, FrontFault, Parts, Place, Reading, hear, read_line};
 use sccs_history::{Flag, Header};
@@ -87,12 +87,7 @@ fn across_pieces<D: Disk>(
     number: u64,
     reading: &mut Reading,
 ) -> Result<(), FileFault>
-    ensures same { D.told disk.new ≡ D.told disk.old }
-    ensures later { D.faults disk.old ≤ D.faults disk.new }
-    ensures cause { result ≡ Err FileFault.Failed → Rose (D.faults disk.old) (D.faults disk.new) }
-    ensures name { reader.new.name ≡ reader.old.name }
-    ensures size { reader.new.size ≡ reader.old.size }
-    ensures ahead { reader.new.place + length reader.new.held ≤ reader.new.size }
+    ensures frame { ReadsOn D.told D.faults disk.old disk.new reader.old reader.new result }
     ensures further { OnOk result (reader.old.place < reader.new.place) }
     ensures heard { OnOk result ((line : List ℕ) × HasNoLf line × (line_after number reading.old line ≡ Ok reading.new)) }
     ensures told { HearsNext (bytes_in (seen (D.told disk.old)) reader.old.name) reader.old reader.new number reading.old (read_as reading.new result) }
@@ -114,12 +109,7 @@ fn next_reading<D: Disk>(
     number: u64,
     reading: &mut Reading,
 ) -> Result<(), FileFault>
-    ensures same { D.told disk.new ≡ D.told disk.old }
-    ensures later { D.faults disk.old ≤ D.faults disk.new }
-    ensures cause { result ≡ Err FileFault.Failed → Rose (D.faults disk.old) (D.faults disk.new) }
-    ensures name { reader.new.name ≡ reader.old.name }
-    ensures size { reader.new.size ≡ reader.old.size }
-    ensures ahead { reader.new.place + length reader.new.held ≤ reader.new.size }
+    ensures frame { ReadsOn D.told D.faults disk.old disk.new reader.old reader.new result }
     ensures further { OnOk result (reader.old.place < reader.new.place) }
     ensures heard { OnOk result ((line : List ℕ) × HasNoLf line × (line_after number reading.old line ≡ Ok reading.new)) }
     ensures told { HearsNext (bytes_in (seen (D.told disk.old)) reader.old.name) reader.old reader.new number reading.old (read_as reading.new result) }
@@ -195,7 +185,7 @@ pub fn open_file<D: Disk>(disk: &mut D, name: &Name) -> Result<u64, FileFault>
 {
     match disk.size(name) {
         Ok(Some(size)) => {
-            if size > 1_073_741_824 {
+            if size > FILE_LIMIT {
                 Err(FileFault::TooLong)
             } else {
                 Ok(size)
@@ -214,12 +204,7 @@ pub fn read_sum<D: Disk>(
     reader: &mut LineReader,
 ) -> Result<u32, FileFault>
     requires { reader.old.place ≡ 0 }
-    ensures same { D.told disk.new ≡ D.told disk.old }
-    ensures later { D.faults disk.old ≤ D.faults disk.new }
-    ensures cause { result ≡ Err FileFault.Failed → Rose (D.faults disk.old) (D.faults disk.new) }
-    ensures name { reader.new.name ≡ reader.old.name }
-    ensures size { reader.new.size ≡ reader.old.size }
-    ensures ahead { reader.new.place + length reader.new.held ≤ reader.new.size }
+    ensures frame { ReadsOn D.told D.faults disk.old disk.new reader.old reader.new result }
     ensures told { SumLine (bytes_in (seen (D.told disk.old)) reader.old.name) reader.old reader.new result }
 {
     let mut line = Vec::new(alloc);

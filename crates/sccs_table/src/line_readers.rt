@@ -63,6 +63,7 @@ fn read_piece<D: Disk>(
     ensures within { IfOk result (λ count. count ≤ length piece.new) }
     ensures told { IfOk result (λ count. IfSome (bytes_in (seen (D.told disk.old)) name.now)
         (λ file. take count piece.new ≡ take room (drop from file))) }
+    ensures missing { IfOk result (λ count. IfSome (seen (D.told disk.old)) (λ view. view name.now ≡ None → count ≡ 0)) }
 {
     let count = disk.read_at(name, from, &mut piece[..room])?;
     Ok(count.unwrap_or(0))

@@ -1,1 +1,1 @@
-pub mod GetLaws
+pub mod RunLaws

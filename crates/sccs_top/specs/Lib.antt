@@ -1,3 +1,4 @@
-pub mod Gets
+pub mod Listing
 pub mod Messages
+pub mod Runs
 pub mod Unbuilt

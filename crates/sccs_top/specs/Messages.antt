@@ -1,5 +1,5 @@
 -- The messages of usage faults: POSIX, Shell and Utilities, the diagnostics of each utility.
-use Rattle.std.specs.Prelude.{ℕ, Bool, List, ◌++◌, codes, decimal, ◌==◌, if◌then◌else◌}
+use Rattle.std.specs.Prelude.{ℕ, List, ◌++◌, codes, decimal, ◌==◌, if◌then◌else◌}
 use Rattle.sccs_words.specs.declared.commands.Usage.{Usage}
 
 -- what is wrong, by the number of its kind

@@ -1,45 +1,26 @@
-ghost use Rattle.std.specs.Prelude.{◌≡◌, ◌≢◌, ◌≤◌, ◌⊎◌, Some, IfSome, OnSome, OnOk, OnErr, option_map};
-ghost use Rattle.sccs_base.specs.Stream.{Rose, GivesOk, GivesSome};
+ghost use Rattle.std.specs.Prelude.{◌≡◌, true, false, OnOk, OnErr};
 ghost use Rattle.sccs_words.specs.Meaning.{meaning};
-ghost use Rattle.sccs_disk.specs.Files.{Folder, view_in};
-ghost use Rattle.sccs_disk.specs.Told.{seen};
-ghost use Rattle.sccs_steps.specs.Calls.{world};
-ghost use Rattle.sccs_top.specs.Gets.{Ends, ended, get_turns};
-ghost use Rattle.sccs_top.specs.Unbuilt.{is_built, built, gets, unbuilt_command, said, Says};
+ghost use Rattle.sccs_steps.specs.Actions.{SpeakAll};
+ghost use Rattle.sccs_steps.specs.Calls.{scene};
+ghost use Rattle.sccs_steps.specs.Causes.{Ignores, RunCauses, counts};
+ghost use Rattle.sccs_steps.specs.declared.faults.Fault.TheVariants as ends;
+ghost use Rattle.sccs_top.specs.Listing.{action_in, words_of};
+ghost use Rattle.sccs_top.specs.Runs.{MakesAll, MakesSteps, SpeaksWords, action_of, is_silent, made_by, only_reads, operands_of, takes_input};
 
 use crate::answers::Answer;
-use crate::gets::get_files;
-use crate::messages::{refuse_all, refuse_unbuilt, write_usage};
-use sccs_base::{Failed, Line, Sink, Source, Words};
+use crate::messages::write_usage;
+use crate::unbuilt::{Unbuilt, is_built};
+use crate::utilities::Get;
+use sccs_base::{Line, Sink, Source, Words};
 use sccs_disk::Disk;
 use sccs_sid::Stamp;
-use sccs_steps::Fault;
-use sccs_words::{Command, GetWords, Operands, WordsFault, read_words};
+use sccs_steps::{Fault, Utility, run_operand, run_operands};
+use sccs_words::{Command, Operands, WordsFault, read_words};
 use std::alloc::Global;
-
-// the answer of a command whose last text was given, or was not
-fn answer(status: u8, given: Result<(), Failed>) -> Answer
-    ensures finished { OnOk given (result ≡ Answer.Finished status) }
-    ensures fault { OnErr given (result ≡ Answer.WriteFault) }
-{
-    match given {
-        Ok(()) => Answer::Finished { status },
-        Err(Failed) => Answer::WriteFault,
-    }
-}
-
-// whether get has `-k`, `-p` and `-s`, and of the other options only those that say which version
-#[tactic(auto, unfolding(crate::specs::Unbuilt::is_built))]
-fn is_built(words: &GetWords) -> bool
-    ensures { result ≡ is_built words.now }
-{
-    let has_others = words.branch || words.edit || words.no_text || words.sids || words.module;
-    words.keep && words.print && words.silent && !has_others
-}
 
 // how a command ends whose steps end so
 fn ended(made: Result<u8, Fault>) -> Answer
-    ensures { result ≡ ended made }
+    ensures { made_by result ≡ made }
 {
     match made {
         Ok(status) => Answer::Finished { status },
@@ -50,40 +31,119 @@ fn ended(made: Result<u8, Fault>) -> Answer
     }
 }
 
-// the operands of a command that is built
-fn built(command: &Command) -> Option<(&GetWords, &Operands)>
-    ensures { option_map (λ get. (get.0.now, get.1.now)) result ≡ built command.now }
+// what is done with the operands of a command
+enum Known<'a> {
+    Get(Get<'a>),
+    Unbuilt(Unbuilt),
+}
+
+fn utility_of(command: &Command) -> Known<'_>
+    ensures { action_in result ≡ action_of command.now }
 {
     match command {
-        Command::Get(words, operands) => {
-            if is_built(words) && !operands.from_input {
-                Some((words, operands))
+        Command::Get(words, _) => {
+            if is_built(words) {
+                Known::Get(Get { words })
             } else {
-                None
+                Known::Unbuilt(Unbuilt { any: false })
             }
         }
-        _ => None,
+        Command::What(_, _) => Known::Unbuilt(Unbuilt { any: true }),
+        _ => Known::Unbuilt(Unbuilt { any: false }),
     }
 }
 
-// refuses the operands of a command that isn't built
-fn refuse<E: Sink>(command: &Command, err: &mut E) -> Result<(), Failed>
-    ensures ok { OnOk result
-        (GivesOk (E.given err.old) (E.given err.new) (unbuilt_command command.now)) }
-    ensures err { OnErr result
-        (GivesSome (E.given err.old) (E.given err.new) (unbuilt_command command.now)) }
-    ensures later { E.faults err.old ≤ E.faults err.new }
-    ensures cause { OnErr result (Rose (E.faults err.old) (E.faults err.new)) }
+// the operands of a command: a list of them, or one word
+#[derive(Clone, Copy)]
+enum Listed<'a> {
+    Words(&'a Operands),
+    Word(&'a [u8]),
+}
+
+fn list_operands(command: &Command) -> Listed<'_>
+    ensures { words_of result ≡ operands_of command.now }
 {
     match command {
-        Command::Get(_, operands) | Command::Admin(_, operands) | Command::Unget(_, operands) => {
-            refuse_all(false, operands, err)
+        Command::Get(_, operands) => Listed::Words(operands),
+        Command::Admin(_, operands) => Listed::Words(operands),
+        Command::Unget(_, operands) => Listed::Words(operands),
+        Command::Sact(operands) => Listed::Words(operands),
+        Command::Rmdel(_, operands) => Listed::Words(operands),
+        Command::Prs(_, operands) => Listed::Words(operands),
+        Command::What(_, operands) => Listed::Words(operands),
+        Command::Recover(operands) => Listed::Words(operands),
+        Command::Delta(_, name) => Listed::Word(name.bytes()),
+        Command::Val(_) => Listed::Word(b"-"),
+        Command::Batch => Listed::Word(b"-"),
+        Command::Soak(_) => Listed::Word(b"-"),
+    }
+}
+
+// makes the steps of these operands
+fn run_listed<U: Utility, I: Source, O: Sink, E: Sink, D: Disk>(
+    alloc: Global,
+    utility: &U,
+    operands: Listed<'_>,
+    input: &mut I,
+    out: &mut O,
+    err: &mut E,
+    disk: &mut D,
+) -> Result<u8, Fault>
+    ensures steps { MakesAll (U.action utility.now) (words_of operands.entry) result (I.left input.old)
+        (scene (D.told disk.old) (O.given out.old) (E.given err.old)) (scene (D.told disk.new) (O.given out.new) (E.given err.new)) }
+    ensures speaks { SpeakAll (U.action utility.now) (words_of operands.entry) result (E.given err.old) (E.given err.new) }
+    ensures reads { (U.action utility.now).reads ≡ true → D.told disk.new ≡ D.told disk.old }
+    ensures silent { (U.action utility.now).silent ≡ true → O.given out.new ≡ O.given out.old }
+    ensures ignores { (U.action utility.now).takes ≡ false
+        → Ignores ends.ReadFault (I.left input.old) (I.left input.new) (I.faults input.old) (I.faults input.new) result }
+    ensures causes { RunCauses result
+        (counts (I.faults input.old) (O.faults out.old) (E.faults err.old) (D.faults disk.old))
+        (counts (I.faults input.new) (O.faults out.new) (E.faults err.new) (D.faults disk.new)) }
+{
+    match operands {
+        Listed::Word(word) => run_operand(alloc, utility, word, input, out, err, disk),
+        Listed::Words(operands) => {
+            if operands.from_input {
+                run_operand(alloc, utility, b"-", input, out, err, disk)
+            } else {
+                run_operands(
+                    alloc,
+                    utility,
+                    operands.words.items(),
+                    input,
+                    out,
+                    err,
+                    disk,
+                )
+            }
         }
-        Command::Sact(operands) | Command::Rmdel(_, operands) => refuse_all(false, operands, err),
-        Command::Prs(_, operands) | Command::Recover(operands) => refuse_all(false, operands, err),
-        Command::What(_, operands) => refuse_all(true, operands, err),
-        Command::Delta(_, name) => refuse_unbuilt(false, name.bytes(), err),
-        Command::Val(_) | Command::Batch | Command::Soak(_) => refuse_unbuilt(false, b"-", err),
+    }
+}
+
+// makes the steps of a command
+fn run_command<I: Source, O: Sink, E: Sink, D: Disk>(
+    alloc: Global,
+    command: &Command,
+    input: &mut I,
+    out: &mut O,
+    err: &mut E,
+    disk: &mut D,
+) -> Result<u8, Fault>
+    ensures steps { MakesAll (action_of command.now) (operands_of command.now) result (I.left input.old)
+        (scene (D.told disk.old) (O.given out.old) (E.given err.old)) (scene (D.told disk.new) (O.given out.new) (E.given err.new)) }
+    ensures speaks { SpeakAll (action_of command.now) (operands_of command.now) result (E.given err.old) (E.given err.new) }
+    ensures reads { (action_of command.now).reads ≡ true → D.told disk.new ≡ D.told disk.old }
+    ensures silent { (action_of command.now).silent ≡ true → O.given out.new ≡ O.given out.old }
+    ensures ignores { (action_of command.now).takes ≡ false
+        → Ignores ends.ReadFault (I.left input.old) (I.left input.new) (I.faults input.old) (I.faults input.new) result }
+    ensures causes { RunCauses result
+        (counts (I.faults input.old) (O.faults out.old) (E.faults err.old) (D.faults disk.old))
+        (counts (I.faults input.new) (O.faults out.new) (E.faults err.new) (D.faults disk.new)) }
+{
+    let operands = list_operands(command);
+    match utility_of(command) {
+        Known::Get(get) => run_listed(alloc, &get, operands, input, out, err, disk),
+        Known::Unbuilt(unbuilt) => run_listed(alloc, &unbuilt, operands, input, out, err, disk),
     }
 }
 
@@ -96,39 +156,27 @@ pub fn run<I: Source, O: Sink, E: Sink, D: Disk>(
     words: &Words,
     _stamp: &Stamp,
     _place: &Line,
-    _input: &mut I,
+    input: &mut I,
     out: &mut O,
     err: &mut E,
     disk: &mut D,
 ) -> Answer
-    ensures gets { IfSome (gets (meaning words.now)) (λ get. (folder : Folder)
-        → seen (D.told disk.old) ≡ Some (view_in folder)
-        → Ends result folder (get_turns get.0 folder get.1.words)
-        (world (seen (D.told disk.old)) (O.given out.old) (E.given err.old))
-        (world (seen (D.told disk.new)) (O.given out.new) (E.given err.new))) }
-    ensures said { IfSome (said (meaning words.now)) (Says result (E.given err.old) (E.given err.new)) }
-    ensures quiet { OnSome (said (meaning words.now)) (O.given out.new ≡ O.given out.old) }
-    ensures same { D.told disk.new ≡ D.told disk.old }
-    ensures input_left { I.left _input.new ≡ I.left _input.old }
-    ensures read_fault { result ≢ Answer.ReadFault }
-    ensures write_fault { result ≡ Answer.WriteFault
-        → Rose (O.faults out.old) (O.faults out.new) ⊎ Rose (E.faults err.old) (E.faults err.new) }
-    ensures disk_fault { result ≡ Answer.DiskFault
-        → Rose (D.faults disk.old) (D.faults disk.new) }
-    ensures input_later { I.faults _input.new ≡ I.faults _input.old }
-    ensures out_later { O.faults out.old ≤ O.faults out.new }
-    ensures err_later { E.faults err.old ≤ E.faults err.new }
-    ensures disk_later { D.faults disk.old ≤ D.faults disk.new }
+    ensures steps { MakesSteps (meaning words.now) result (I.left input.old)
+        (scene (D.told disk.old) (O.given out.old) (E.given err.old)) (scene (D.told disk.new) (O.given out.new) (E.given err.new)) }
+    ensures speaks { SpeaksWords (meaning words.now) result (E.given err.old) (E.given err.new) }
+    ensures reads { only_reads (meaning words.now) ≡ true → D.told disk.new ≡ D.told disk.old }
+    ensures silent { is_silent (meaning words.now) ≡ true → O.given out.new ≡ O.given out.old }
+    ensures ignores { takes_input (meaning words.now) ≡ false
+        → Ignores ends.ReadFault (I.left input.old) (I.left input.new) (I.faults input.old) (I.faults input.new) (made_by result) }
+    ensures causes { RunCauses (made_by result) (counts (I.faults input.old) (O.faults out.old) (E.faults err.old) (D.faults disk.old))
+        (counts (I.faults input.new) (O.faults out.new) (E.faults err.new) (D.faults disk.new)) }
 {
-    let command = match read_words(alloc, words) {
-        Ok(command) => command,
-        Err(WordsFault::Usage(usage)) => return answer(2, write_usage(&usage, err)),
-        Err(WordsFault::Memory) => return Answer::Memory,
-    };
-    match built(&command) {
-        Some((words, operands)) => {
-            ended(get_files(alloc, words, operands.words.items(), out, err, disk))
-        }
-        None => answer(1, refuse(&command, err)),
+    match read_words(alloc, words) {
+        Ok(command) => ended(run_command(alloc, &command, input, out, err, disk)),
+        Err(WordsFault::Usage(usage)) => match write_usage(&usage, err) {
+            Ok(()) => Answer::Finished { status: 2 },
+            Err(_) => Answer::WriteFault,
+        },
+        Err(WordsFault::Memory) => Answer::Memory,
     }
 }

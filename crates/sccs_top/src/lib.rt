@@ -3,10 +3,11 @@
 
 mod answers;
 mod commands;
-mod gets;
 mod messages;
 #[cfg(test)]
 mod tests;
+mod unbuilt;
+mod utilities;
 
 pub use answers::Answer;
 pub use commands::run;

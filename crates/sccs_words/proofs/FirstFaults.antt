@@ -4,17 +4,17 @@ use Rattle.std.proofs.lemmas.List.{drop_more, drop_all, take_more}
 use Rattle.sccs_words.specs.Judge.{first_from, or_else}
 use Rattle.sccs_words.specs.declared.commands.Usage.{Usage}
 
-front : {A : Type 0} (xs : List A) (i : ℕ) (x : A) → i < length xs → x ≡ get_or xs i x → drop i xs ≡ x ∷ drop (i + 1) xs
-front {A} xs i x below is = drop_more xs i x below ∙ ap (λ (y : A). y ∷ drop (i + 1) xs) (sym is)
+next_item : {A : Type 0} (xs : List A) (i : ℕ) (x : A) → i < length xs → x ≡ get_or xs i x → drop i xs ≡ x ∷ drop (i + 1) xs
+next_item {A} xs i x below is = drop_more xs i x below ∙ ap (λ (y : A). y ∷ drop (i + 1) xs) (sym is)
 
 longer : {A : Type 0} (xs : List A) (i : ℕ) (x : A) → i < length xs → x ≡ get_or xs i x → take (i + 1) xs ≡ take i xs ++ x ∷ []
 longer {A} xs i x below is = take_more xs i x below ∙ ap (λ (y : A). take i xs ++ y ∷ []) (sym is)
 
--- what is left, with its first item in front
+-- what is left, with its first item before it
 split : {A : Type 0} (fault : List A → A → Option Usage) (xs : List A) (i : ℕ) (x : A) (total : Option Usage) → i < length xs → x ≡ get_or xs i x
     → first_from fault (take i xs) (drop i xs) ≡ total → or_else (fault (take i xs) x) (first_from fault (take i xs ++ x ∷ []) (drop (i + 1) xs)) ≡ total
 unfolding first_from
-split {A} fault xs i x total below is all = ap (λ (rest : List A). first_from fault (take i xs) rest) (sym (front xs i x below is)) ∙ all
+split {A} fault xs i x total below is all = ap (λ (rest : List A). first_from fault (take i xs) rest) (sym (next_item xs i x below is)) ∙ all
 
 pub fault_turn : {A : Type 0} (fault : List A → A → Option Usage) (xs : List A) (i : ℕ) (x : A) (one : Usage) (total : Option Usage) → i < length xs → x ≡ get_or xs i x
     → Some one ≡ fault (take i xs) x → first_from fault (take i xs) (drop i xs) ≡ total → Some one ≡ total

@@ -1,10 +1,11 @@
-pub mod CommandRows
-pub mod EndRows
-pub mod FaultRows
+pub mod CommandExamples
+pub mod EndExamples
+pub mod FaultExamples
 pub mod FirstFaults
 pub mod Joined
 pub mod JoinedAnywhere
-pub mod NameRows
+pub mod MrWordLaws
+pub mod NameExamples
 pub mod Outcomes
 pub mod Places
 pub mod SameMeaning

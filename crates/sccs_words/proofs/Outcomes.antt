@@ -1,4 +1,4 @@
--- What rows say of words: the kind of their fault and the number of its word, or the bits of val's command.
+-- What is said of words: the kind of their fault and the number of its word, or the bits of val's command.
 use Rattle.std.proofs.Common.{◌≡◌, ℕ, List, Result, Ok, Err}
 use Rattle.sccs_words.specs.Meaning.{meaning}
 use Rattle.sccs_words.specs.declared.commands.Usage.{Usage}

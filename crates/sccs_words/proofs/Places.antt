@@ -1,23 +1,23 @@
--- A fault stands in a word of the command line, or right behind the last.
+-- A fault stands in a word of the command line, or right after the last.
 use Rattle.std.proofs.Common.{◌≡◌, ℕ, ◌+◌, ◌-◌, ◌≤◌, Bool, true, false, not, List, [], ◌∷◌, ◌++◌, length, Option, None, Some, Result, Ok, Err, subst, arith, cond}
 use Rattle.std.specs.Prelude.{option_and_then}
 use Rattle.std.specs.List.{AllByRecursion, list_any, list_all}
 use Rattle.std.proofs.lemmas.List.{length_push}
 use Rattle.sccs_sid.specs.declared.sids.Sid.{Sid}
 use Rattle.sccs_words.specs.Letters as opt
-use Rattle.sccs_words.specs.Synopsis.{rows_of, aparts_of, needs_of, rest_of, row_of}
+use Rattle.sccs_words.specs.Synopsis.{options_of, exclusions_of, needs_of, operand_rule_of, find_option}
 use Rattle.sccs_words.specs.Values.{fits, sid_value, name_value, soak_number}
 use Rattle.sccs_words.specs.Scan.{Uses, Kind, Letters, Ends, Operand, CommandLine, used, turn, turn_by, after_turn, letters, kind_of, by_kind, scanned}
-use Rattle.sccs_words.specs.Judge.{or_else, usage, form_of, value_fault, is_again, is_apart, known_fault, fault_by, use_fault, first_from, uses_fault, dash_with_other, operand_fits, operand_fault, operands_fault, none_though_wanted, met, too_many, end_fault, first_fault}
+use Rattle.sccs_words.specs.Judge.{or_else, usage, form_of, value_fault, is_given_twice, is_excluded, known_fault, fault_by, use_fault, first_from, uses_fault, dash_with_other, operand_fits, operand_fault, operands_fault, none_though_wanted, met, too_many, end_fault, first_fault}
 use Rattle.sccs_words.specs.Records.{value_of}
 use Rattle.sccs_words.specs.Meaning.{first_of, with_name, with_sid, with_number, command_of, refusal_of, unless, line_meaning, meaning_by, utility_of, meaning}
-use Rattle.sccs_words.specs.declared.tables.Row.{Row}
-use Rattle.sccs_words.specs.declared.tables.Row.TheVariants.{Plain, Joined, Valued, Repeated}
-use Rattle.sccs_words.specs.declared.tables.Rest.{Rest}
+use Rattle.sccs_words.specs.declared.tables.OptionSpec.{OptionSpec}
+use Rattle.sccs_words.specs.declared.tables.OptionSpec.TheVariants.{Plain, Joined, Valued, Repeated}
+use Rattle.sccs_words.specs.declared.tables.OperandRule.{OperandRule}
 use Rattle.sccs_words.specs.declared.tables.Utility.{Utility}
 use Rattle.sccs_words.specs.declared.tables.Utility.TheVariants as u
-use Rattle.sccs_words.specs.declared.scanning.Got.{Got}
-use Rattle.sccs_words.specs.declared.scanning.Got.TheVariants.{Unknown, Bare, Missing, Value}
+use Rattle.sccs_words.specs.declared.scanning.OptionArgument.{OptionArgument}
+use Rattle.sccs_words.specs.declared.scanning.OptionArgument.TheVariants.{Unknown, Bare, Missing, Value}
 use Rattle.sccs_words.specs.declared.scanning.Use.{Use}
 use Rattle.sccs_words.specs.declared.commands.Usage.{Usage}
 use Rattle.sccs_words.specs.declared.commands.Command.{Command}
@@ -26,12 +26,12 @@ use Rattle.sccs_words.specs.declared.commands.Command.{Command}
 abbrev In : ℕ → ℕ → Type 0
 In last n = (1 ≤ n) × (n ≤ last)
 
-abbrev GotIn : ℕ → Got → Type 0
-GotIn last (Value bytes n) = In last n
-GotIn last _ = Unit {0}
+abbrev ArgumentIn : ℕ → OptionArgument → Type 0
+ArgumentIn last (Value bytes n) = In last n
+ArgumentIn last _ = Unit {0}
 
 abbrev UseIn : ℕ → Use → Type 0
-UseIn last one = In last one.word × GotIn last one.got
+UseIn last one = In last one.word × ArgumentIn last one.argument
 
 abbrev FaultIn : ℕ → Option Usage → Type 0
 FaultIn last None = Unit {0}
@@ -52,9 +52,9 @@ push {A} P (y ∷ xs) x all is = (all.0, push P xs x all.1 is)
 
 -- ---- the scan
 
-turn_in : (last n b : ℕ) (row : Option Row) (rest : List ℕ) (uses : List Use) (more : List Use → Uses) → In last n
+turn_in : (last n b : ℕ) (option : Option OptionSpec) (rest : List ℕ) (uses : List Use) (more : List Use → Uses) → In last n
     → ((longer : List Use) → AllByRecursion (UseIn last) longer → AllByRecursion (UseIn last) (more longer).0)
-    → AllByRecursion (UseIn last) uses → AllByRecursion (UseIn last) (after_turn uses (turn_by row b n rest) more).0
+    → AllByRecursion (UseIn last) uses → AllByRecursion (UseIn last) (after_turn uses (turn_by option b n rest) more).0
 turn_in last n b None rest uses more is goes all = goes (uses ++ used b n Unknown ∷ []) (push (UseIn last) uses (used b n Unknown) all (is, tt))
 turn_in last n b (Some (Plain c)) rest uses more is goes all = goes (uses ++ used b n Bare ∷ []) (push (UseIn last) uses (used b n Bare) all (is, tt))
 turn_in last n b (Some (Joined c form)) [] uses more is goes all = push (UseIn last) uses (used b n Bare) all (is, tt)
@@ -64,11 +64,11 @@ turn_in last n b (Some (Valued c form)) (d ∷ rest) uses more is goes all = pus
 turn_in last n b (Some (Repeated c form)) [] uses more is goes all = all
 turn_in last n b (Some (Repeated c form)) (d ∷ rest) uses more is goes all = push (UseIn last) uses (used b n (Value (d ∷ rest) n)) all (is, is)
 
-letters_in : (last n : ℕ) (rows : List Row) (bytes : List ℕ) (uses : List Use) → In last n → AllByRecursion (UseIn last) uses → AllByRecursion (UseIn last) (letters rows n uses bytes).0
+letters_in : (last n : ℕ) (options : List OptionSpec) (bytes : List ℕ) (uses : List Use) → In last n → AllByRecursion (UseIn last) uses → AllByRecursion (UseIn last) (letters options n uses bytes).0
 unfolding letters turn
-letters_in last n rows [] uses is all = all
-letters_in last n rows (b ∷ rest) uses is all =
-    turn_in last n b (row_of rows b) rest uses (λ longer. letters rows n longer rest) is (λ longer. letters_in last n rows rest longer is) all
+letters_in last n options [] uses is all = all
+letters_in last n options (b ∷ rest) uses is all =
+    turn_in last n b (find_option options b) rest uses (λ longer. letters options n longer rest) is (λ longer. letters_in last n options rest longer is) all
 
 kind_in : (last n : ℕ) (uses : List Use) (word : List ℕ) (words : List (List ℕ)) (kind : Kind) (more : List ℕ → CommandLine) → 2 ≤ n → n + length (word ∷ words) ≤ last
     → AllByRecursion (UseIn last) uses → ((bytes : List ℕ) → LineIn last (more bytes)) → LineIn last (by_kind n uses word words kind more)
@@ -76,18 +76,18 @@ kind_in last n uses word words (Letters bytes) more low high all goes = goes byt
 kind_in last n uses word words Ends more low high all goes = record { uses = all; first = omega arith; operands = omega arith }
 kind_in last n uses word words Operand more low high all goes = record { uses = all; first = omega arith; operands = high }
 
-line_in : (last n : ℕ) (rows : List Row) (uses : List Use) (waits : Option ℕ) (words : List (List ℕ)) → 2 ≤ n → n + length words ≤ last
-    → AllByRecursion (UseIn last) uses → LineIn last (scanned rows n uses waits words)
+line_in : (last n : ℕ) (options : List OptionSpec) (uses : List Use) (waits : Option ℕ) (words : List (List ℕ)) → 2 ≤ n → n + length words ≤ last
+    → AllByRecursion (UseIn last) uses → LineIn last (scanned options n uses waits words)
 unfolding scanned
-line_in last n rows uses (Some letter) [] low high all =
+line_in last n options uses (Some letter) [] low high all =
     record { uses = push (UseIn last) uses (used letter (n - 1) Missing) all ((omega arith, omega arith), tt); first = omega arith; operands = high }
-line_in last n rows uses (Some letter) (word ∷ words) low high all =
-    line_in last (n + 1) rows (uses ++ used letter (n - 1) (Value word n) ∷ []) None words (omega arith) (omega arith)
+line_in last n options uses (Some letter) (word ∷ words) low high all =
+    line_in last (n + 1) options (uses ++ used letter (n - 1) (Value word n) ∷ []) None words (omega arith) (omega arith)
     (push (UseIn last) uses (used letter (n - 1) (Value word n)) all ((omega arith, omega arith), (omega arith, omega arith)))
-line_in last n rows uses None [] low high all = record { uses = all; first = omega arith; operands = high }
-line_in last n rows uses None (word ∷ words) low high all =
-    kind_in last n uses word words (kind_of word) (λ bytes. scanned rows (n + 1) (letters rows n uses bytes).0 (letters rows n uses bytes).1 words) low high all
-    (λ bytes. line_in last (n + 1) rows (letters rows n uses bytes).0 (letters rows n uses bytes).1 words (omega arith) (omega arith) (letters_in last n rows bytes uses (omega arith, omega arith) all))
+line_in last n options uses None [] low high all = record { uses = all; first = omega arith; operands = high }
+line_in last n options uses None (word ∷ words) low high all =
+    kind_in last n uses word words (kind_of word) (λ bytes. scanned options (n + 1) (letters options n uses bytes).0 (letters options n uses bytes).1 words) low high all
+    (λ bytes. line_in last (n + 1) options (letters options n uses bytes).0 (letters options n uses bytes).1 words (omega arith) (omega arith) (letters_in last n options bytes uses (omega arith, omega arith) all))
 
 -- ---- the faults
 
@@ -99,26 +99,26 @@ if_in : (last : ℕ) (test : Bool) (a b : Option Usage) → FaultIn last a → F
 if_in last true a b a-in b-in = a-in
 if_in last false a b a-in b-in = b-in
 
-value_in : (last : ℕ) (row : Option Row) (got : Got) → GotIn last got → FaultIn last (value_fault row got)
-value_in last row Unknown is = tt
-value_in last row Bare is = tt
-value_in last row Missing is = tt
-value_in last row (Value bytes n) is = if_in last (fits (form_of row) bytes) None (usage 6 n) tt is
+value_in : (last : ℕ) (option : Option OptionSpec) (argument : OptionArgument) → ArgumentIn last argument → FaultIn last (value_fault option argument)
+value_in last option Unknown is = tt
+value_in last option Bare is = tt
+value_in last option Missing is = tt
+value_in last option (Value bytes n) is = if_in last (fits (form_of option) bytes) None (usage 6 n) tt is
 
-known_in : (last : ℕ) (utility : Utility) (before : List Use) (one : Use) (row : Option Row) → UseIn last one → FaultIn last (known_fault utility before one row)
-known_in last utility before one row is =
-    if_in last (is_again row before one.letter) (usage 4 one.word) _ is.0
-    (if_in last (list_any (λ other. is_apart (aparts_of utility) one other) before) (usage 5 one.word) _ is.0 (value_in last row one.got is.1))
+known_in : (last : ℕ) (utility : Utility) (before : List Use) (one : Use) (option : Option OptionSpec) → UseIn last one → FaultIn last (known_fault utility before one option)
+known_in last utility before one option is =
+    if_in last (is_given_twice option before one.letter) (usage 4 one.word) _ is.0
+    (if_in last (list_any (λ other. is_excluded (exclusions_of utility) one other) before) (usage 5 one.word) _ is.0 (value_in last option one.argument is.1))
 
-fault_in : (last : ℕ) (utility : Utility) (before : List Use) (one : Use) (got : Got) → UseIn last one → FaultIn last (fault_by utility before one got)
+fault_in : (last : ℕ) (utility : Utility) (before : List Use) (one : Use) (argument : OptionArgument) → UseIn last one → FaultIn last (fault_by utility before one argument)
 fault_in last utility before one Unknown is = is.0
 fault_in last utility before one Missing is = is.0
-fault_in last utility before one Bare is = known_in last utility before one (row_of (rows_of utility) one.letter) is
-fault_in last utility before one (Value bytes n) is = known_in last utility before one (row_of (rows_of utility) one.letter) is
+fault_in last utility before one Bare is = known_in last utility before one (find_option (options_of utility) one.letter) is
+fault_in last utility before one (Value bytes n) is = known_in last utility before one (find_option (options_of utility) one.letter) is
 
 use_in : (last : ℕ) (utility : Utility) (before : List Use) (one : Use) → UseIn last one → FaultIn last (use_fault utility before one)
 unfolding use_fault
-use_in last utility before one is = fault_in last utility before one one.got is
+use_in last utility before one is = fault_in last utility before one one.argument is
 
 first_in : {A : Type 0} (last : ℕ) (fault : List A → A → Option Usage) (P : List A → List A → Type 0)
     → ((before : List A) (x : A) (xs : List A) → P before (x ∷ xs) → FaultIn last (fault before x))
@@ -133,27 +133,27 @@ uses_in : (last : ℕ) (utility : Utility) (uses : List Use) → AllByRecursion 
 uses_in last utility uses all =
     first_in last (use_fault utility) (λ before xs. AllByRecursion (UseIn last) xs) (λ before one xs is. use_in last utility before one is.0) (λ before one xs is. is.1) [] uses all
 
-operand_in : (last first : ℕ) (rest : Rest) (uses : List Use) (before : List (List ℕ)) (word : List ℕ) → 1 ≤ first → first + length before ≤ last
-    → FaultIn last (operand_fault rest uses first before word)
+operand_in : (last first : ℕ) (rule : OperandRule) (uses : List Use) (before : List (List ℕ)) (word : List ℕ) → 1 ≤ first → first + length before ≤ last
+    → FaultIn last (operand_fault rule uses first before word)
 unfolding operand_fault
-operand_in last first rest uses before word low high =
+operand_in last first rule uses before word low high =
     if_in last (dash_with_other before word) (usage 5 (first + length before)) _ (omega arith, high)
-    (if_in last (operand_fits rest uses word) None (usage 6 (first + length before)) tt (omega arith, high))
+    (if_in last (operand_fits rule uses word) None (usage 6 (first + length before)) tt (omega arith, high))
 
 longer_in : (last first : ℕ) (before : List (List ℕ)) (word : List ℕ) (words : List (List ℕ)) → first + length before + length (word ∷ words) ≤ last → first + length (before ++ word ∷ []) + length words ≤ last
 longer_in last first before word words high = let long : length (before ++ word ∷ []) ≡ length before + 1 = length_push before word in omega arith
 
-operands_in : (last first : ℕ) (rest : Rest) (uses : List Use) (words : List (List ℕ)) → 1 ≤ first → first + length words ≤ last → FaultIn last (operands_fault rest uses first words)
-operands_in last first rest uses words low high =
-    first_in last (operand_fault rest uses first) (λ before xs. first + length before + length xs ≤ last) (λ before word xs is. operand_in last first rest uses before word low (omega arith))
+operands_in : (last first : ℕ) (rule : OperandRule) (uses : List Use) (words : List (List ℕ)) → 1 ≤ first → first + length words ≤ last → FaultIn last (operands_fault rule uses first words)
+operands_in last first rule uses words low high =
+    first_in last (operand_fault rule uses first) (λ before xs. first + length before + length xs ≤ last) (λ before word xs is. operand_in last first rule uses before word low (omega arith))
     (λ before word xs is. longer_in last first before word xs is) [] words (omega arith)
 
 end_in : (last : ℕ) (utility : Utility) (uses : List Use) (operands : List (List ℕ)) → 1 ≤ last → FaultIn last (end_fault utility uses operands last)
 unfolding end_fault
 end_in last utility uses operands low =
-    if_in last (none_though_wanted (rest_of utility) operands) (usage 7 last) _ (low, omega arith)
+    if_in last (none_though_wanted (operand_rule_of utility) operands) (usage 7 last) _ (low, omega arith)
     (if_in last (not (list_all (λ need. met uses need) (needs_of utility))) (usage 8 last) _ (low, omega arith)
-    (if_in last (too_many (rest_of utility) uses operands) (usage 9 last) None (low, omega arith) tt))
+    (if_in last (too_many (operand_rule_of utility) uses operands) (usage 9 last) None (low, omega arith) tt))
 
 first_fault_in : (last : ℕ) (utility : Utility) (l : CommandLine) → LineIn last l → FaultIn last (first_fault utility l last)
 unfolding first_fault
@@ -161,7 +161,7 @@ first_fault_in last utility l is =
     let low : 1 ≤ l.first = is.first in
     let high : l.first + length l.operands ≤ last = is.operands in
     or_in last (uses_fault utility l.uses) _ (uses_in last utility l.uses is.uses)
-    (or_in last (operands_fault (rest_of utility) l.uses l.first l.operands) (end_fault utility l.uses l.operands last) (operands_in last l.first (rest_of utility) l.uses l.operands low high)
+    (or_in last (operands_fault (operand_rule_of utility) l.uses l.first l.operands) (end_fault utility l.uses l.operands last) (operands_in last l.first (operand_rule_of utility) l.uses l.operands low high)
     (end_in last utility l.uses l.operands (omega arith)))
 
 refusal_in : (last : ℕ) (utility : Utility) (l : CommandLine) → LineIn last l → FaultIn last (refusal_of utility l last)
@@ -215,8 +215,8 @@ unfolding line_meaning
 by_utility_in None words = (omega arith, omega arith)
 by_utility_in (Some utility) words =
     let last : ℕ = length words + 2 in
-    let l : CommandLine = scanned (rows_of utility) 2 [] None words in
-    unless_in last (refusal_of utility l last) (command_of utility l last) (refusal_in last utility l (line_in last 2 (rows_of utility) [] None words (omega arith) (omega arith) tt))
+    let l : CommandLine = scanned (options_of utility) 2 [] None words in
+    unless_in last (refusal_of utility l last) (command_of utility l last) (refusal_in last utility l (line_in last 2 (options_of utility) [] None words (omega arith) (omega arith) tt))
     (command_in last utility l (omega arith))
 
 meaning_in : (words : List (List ℕ)) → MeantIn (length words + 1) (meaning words)

@@ -5,26 +5,26 @@ use Rattle.std.specs.List.{list_any, list_all}
 use Rattle.std.proofs.lemmas.List.{map_push}
 use Rattle.sccs_sid.specs.Reading.{is_empty}
 use Rattle.sccs_words.specs.Letters as opt
-use Rattle.sccs_words.specs.Synopsis.{rows_of, aparts_of, needs_of, rest_of, row_of}
+use Rattle.sccs_words.specs.Synopsis.{options_of, exclusions_of, needs_of, operand_rule_of, find_option}
 use Rattle.sccs_words.specs.Values.{fits, sid_value, name_value, soak_number}
 use Rattle.sccs_words.specs.Scan.{CommandLine, line}
-use Rattle.sccs_words.specs.Judge.{has, or_else, usage, is_bare, apart_by, is_apart, form_of, value_fault, repeats, is_again, known_fault, fault_by, use_fault, first_from, uses_fault, is_named, dash_with_other, wants, operand_fits, operand_fault, operands_fault, none_though_wanted, met, takes_one, too_many, end_fault, first_fault}
+use Rattle.sccs_words.specs.Judge.{has, or_else, usage, is_bare, excludes_by, is_excluded, form_of, value_fault, repeats, is_given_twice, known_fault, fault_by, use_fault, first_from, uses_fault, is_named, dash_with_other, wants, operand_fits, operand_fault, operands_fault, none_though_wanted, met, takes_one, too_many, end_fault, first_fault}
 use Rattle.sccs_words.specs.Records.{bit, value_in, value_of, with_value, values_of, get_words, delta_words, unget_words, prs_words, admin_words, val_words, operands_of, is_option_fault}
-use Rattle.sccs_words.specs.Unplaced.{got_only, unplaced, SameUses, kinds}
+use Rattle.sccs_words.specs.Unplaced.{argument_only, unplaced, SameUses, kinds}
 use Rattle.sccs_words.specs.Meaning.{first_of, with_name, with_sid, with_number, command_of, refusal_of, unless, line_meaning}
 use Rattle.sccs_sid.specs.declared.sids.Sid.{Sid}
 use Rattle.sccs_words.specs.declared.commands.ValWords.{ValWords}
-use Rattle.sccs_words.specs.declared.tables.Row.{Row}
-use Rattle.sccs_words.specs.declared.tables.Apart.{Apart}
-use Rattle.sccs_words.specs.declared.tables.Apart.TheVariants as aparts
+use Rattle.sccs_words.specs.declared.tables.OptionSpec.{OptionSpec}
+use Rattle.sccs_words.specs.declared.tables.Exclusion.{Exclusion}
+use Rattle.sccs_words.specs.declared.tables.Exclusion.TheVariants as exclusions
 use Rattle.sccs_words.specs.declared.tables.Need.{Need}
 use Rattle.sccs_words.specs.declared.tables.Need.TheVariants as needs
-use Rattle.sccs_words.specs.declared.tables.Rest.{Rest}
-use Rattle.sccs_words.specs.declared.tables.Rest.TheVariants.{Nothing, Sfile, Number, Many, OneWith}
+use Rattle.sccs_words.specs.declared.tables.OperandRule.{OperandRule}
+use Rattle.sccs_words.specs.declared.tables.OperandRule.TheVariants.{Nothing, Sfile, Number, Many, OneWith}
 use Rattle.sccs_words.specs.declared.tables.Utility.{Utility}
 use Rattle.sccs_words.specs.declared.tables.Utility.TheVariants as u
-use Rattle.sccs_words.specs.declared.scanning.Got.{Got}
-use Rattle.sccs_words.specs.declared.scanning.Got.TheVariants.{Unknown, Bare, Missing, Value}
+use Rattle.sccs_words.specs.declared.scanning.OptionArgument.{OptionArgument}
+use Rattle.sccs_words.specs.declared.scanning.OptionArgument.TheVariants.{Unknown, Bare, Missing, Value}
 use Rattle.sccs_words.specs.declared.scanning.Use.{Use}
 use Rattle.sccs_words.specs.declared.commands.Usage.{Usage}
 use Rattle.sccs_words.specs.declared.commands.Command.{Command}
@@ -41,7 +41,7 @@ has_same : (letter : ℕ) (uses : List Use) → has letter uses ≡ has letter (
 has_same letter [] = refl
 has_same letter (one ∷ uses) = ap (λ (more : Bool). one.letter == letter || more) (has_same letter uses)
 
-value_in_same : (got : Got) → value_in got ≡ value_in (got_only got)
+value_in_same : (argument : OptionArgument) → value_in argument ≡ value_in (argument_only argument)
 value_in_same Unknown = refl
 value_in_same Bare = refl
 value_in_same Missing = refl
@@ -51,15 +51,15 @@ value_same : (letter : ℕ) (uses : List Use) → value_of letter uses ≡ value
 unfolding value_of
 value_same letter [] = refl
 value_same letter (one ∷ uses) =
-    ap (λ (here : Option (List ℕ)). cond (one.letter == letter) here (value_of letter uses)) (value_in_same one.got)
-    ∙ ap (cond (one.letter == letter) (value_in (got_only one.got))) (value_same letter uses)
+    ap (λ (here : Option (List ℕ)). cond (one.letter == letter) here (value_of letter uses)) (value_in_same one.argument)
+    ∙ ap (cond (one.letter == letter) (value_in (argument_only one.argument))) (value_same letter uses)
 
 values_same : (letter : ℕ) (uses : List Use) → values_of letter uses ≡ values_of letter (map unplaced uses)
 unfolding values_of
 values_same letter [] = refl
 values_same letter (one ∷ uses) =
-    ap (λ (here : Option (List ℕ)). with_value (cond (one.letter == letter) here None) (values_of letter uses)) (value_in_same one.got)
-    ∙ ap (with_value (cond (one.letter == letter) (value_in (got_only one.got)) None)) (values_same letter uses)
+    ap (λ (here : Option (List ℕ)). with_value (cond (one.letter == letter) here None) (values_of letter uses)) (value_in_same one.argument)
+    ∙ ap (with_value (cond (one.letter == letter) (value_in (argument_only one.argument)) None)) (values_same letter uses)
 
 -- ---- faults, without their words
 
@@ -90,52 +90,52 @@ unfolding first_from
 first_same {A} view fault other here before [] = refl
 first_same {A} view fault other here before (x ∷ xs) =
     or_same (fault before x) (first_from fault (before ++ x ∷ []) xs) (other (map view before) (view x)) (first_from other (map view before ++ view x ∷ []) (map view xs)) (here before x)
-    (first_same view fault other here (before ++ x ∷ []) xs ∙ ap (λ (front : List A). kind (first_from other front (map view xs))) (map_push view before x))
+    (first_same view fault other here (before ++ x ∷ []) xs ∙ ap (λ (prefix : List A). kind (first_from other prefix (map view xs))) (map_push view before x))
 
-bare_same : (got : Got) → is_bare got ≡ is_bare (got_only got)
+bare_same : (argument : OptionArgument) → is_bare argument ≡ is_bare (argument_only argument)
 bare_same Unknown = refl
 bare_same Bare = refl
 bare_same Missing = refl
 bare_same (Value bytes n) = refl
 
-rule_same : (rule : Apart) (a b : Use) → apart_by rule a b ≡ apart_by rule (unplaced a) (unplaced b)
-rule_same (aparts.Both x y) a b = refl
-rule_same (aparts.Bare x y) a b = ap (λ (bare : Bool). (a.letter == x && bare) && b.letter == y) (bare_same a.got)
-rule_same (aparts.Alone x) a b = refl
+rule_same : (rule : Exclusion) (a b : Use) → excludes_by rule a b ≡ excludes_by rule (unplaced a) (unplaced b)
+rule_same (exclusions.Both x y) a b = refl
+rule_same (exclusions.Bare x y) a b = ap (λ (bare : Bool). (a.letter == x && bare) && b.letter == y) (bare_same a.argument)
+rule_same (exclusions.Alone x) a b = refl
 
-apart_same : (rules : List Apart) (a b : Use) → is_apart rules a b ≡ is_apart rules (unplaced a) (unplaced b)
-apart_same [] a b = refl
-apart_same (rule ∷ rules) a b =
-    ap (λ (one : Bool). (one || apart_by rule b a) || is_apart rules a b) (rule_same rule a b)
-    ∙ (ap (λ (one : Bool). (apart_by rule (unplaced a) (unplaced b) || one) || is_apart rules a b) (rule_same rule b a)
-    ∙ ap (λ (more : Bool). (apart_by rule (unplaced a) (unplaced b) || apart_by rule (unplaced b) (unplaced a)) || more) (apart_same rules a b))
+excluded_same : (rules : List Exclusion) (a b : Use) → is_excluded rules a b ≡ is_excluded rules (unplaced a) (unplaced b)
+excluded_same [] a b = refl
+excluded_same (rule ∷ rules) a b =
+    ap (λ (one : Bool). (one || excludes_by rule b a) || is_excluded rules a b) (rule_same rule a b)
+    ∙ (ap (λ (one : Bool). (excludes_by rule (unplaced a) (unplaced b) || one) || is_excluded rules a b) (rule_same rule b a)
+    ∙ ap (λ (more : Bool). (excludes_by rule (unplaced a) (unplaced b) || excludes_by rule (unplaced b) (unplaced a)) || more) (excluded_same rules a b))
 
-excludes_same : (rules : List Apart) (one : Use) (before : List Use) → list_any (λ other. is_apart rules one other) before ≡ list_any (λ other. is_apart rules (unplaced one) other) (map unplaced before)
+excludes_same : (rules : List Exclusion) (one : Use) (before : List Use) → list_any (λ other. is_excluded rules one other) before ≡ list_any (λ other. is_excluded rules (unplaced one) other) (map unplaced before)
 excludes_same rules one [] = refl
 excludes_same rules one (other ∷ before) =
-    ap (λ (here : Bool). here || list_any (λ other. is_apart rules one other) before) (apart_same rules one other)
-    ∙ ap (λ (more : Bool). is_apart rules (unplaced one) (unplaced other) || more) (excludes_same rules one before)
+    ap (λ (here : Bool). here || list_any (λ other. is_excluded rules one other) before) (excluded_same rules one other)
+    ∙ ap (λ (more : Bool). is_excluded rules (unplaced one) (unplaced other) || more) (excludes_same rules one before)
 
-value_fault_same : (row : Option Row) (got : Got) → kind (value_fault row got) ≡ kind (value_fault row (got_only got))
-value_fault_same row Unknown = refl
-value_fault_same row Bare = refl
-value_fault_same row Missing = refl
-value_fault_same row (Value bytes n) = if_same (fits (form_of row) bytes) (fits (form_of row) bytes) None (usage 6 n) None (usage 6 0) refl refl refl
+value_fault_same : (option : Option OptionSpec) (argument : OptionArgument) → kind (value_fault option argument) ≡ kind (value_fault option (argument_only argument))
+value_fault_same option Unknown = refl
+value_fault_same option Bare = refl
+value_fault_same option Missing = refl
+value_fault_same option (Value bytes n) = if_same (fits (form_of option) bytes) (fits (form_of option) bytes) None (usage 6 n) None (usage 6 0) refl refl refl
 
-known_same : (utility : Utility) (before : List Use) (one : Use) (row : Option Row) → kind (known_fault utility before one row) ≡ kind (known_fault utility (map unplaced before) (unplaced one) row)
-known_same utility before one row =
-    if_same (is_again row before one.letter) (is_again row (map unplaced before) one.letter) (usage 4 one.word) _ (usage 4 0) _ (ap (λ (again : Bool). not (repeats row) && again) (has_same one.letter before)) refl
-    (if_same _ _ (usage 5 one.word) (value_fault row one.got) (usage 5 0) (value_fault row (got_only one.got)) (excludes_same (aparts_of utility) one before) refl (value_fault_same row one.got))
+known_same : (utility : Utility) (before : List Use) (one : Use) (option : Option OptionSpec) → kind (known_fault utility before one option) ≡ kind (known_fault utility (map unplaced before) (unplaced one) option)
+known_same utility before one option =
+    if_same (is_given_twice option before one.letter) (is_given_twice option (map unplaced before) one.letter) (usage 4 one.word) _ (usage 4 0) _ (ap (λ (twice : Bool). not (repeats option) && twice) (has_same one.letter before)) refl
+    (if_same _ _ (usage 5 one.word) (value_fault option one.argument) (usage 5 0) (value_fault option (argument_only one.argument)) (excludes_same (exclusions_of utility) one before) refl (value_fault_same option one.argument))
 
-fault_same : (utility : Utility) (before : List Use) (one : Use) (got : Got) → kind (fault_by utility before one got) ≡ kind (fault_by utility (map unplaced before) (unplaced one) (got_only got))
+fault_same : (utility : Utility) (before : List Use) (one : Use) (argument : OptionArgument) → kind (fault_by utility before one argument) ≡ kind (fault_by utility (map unplaced before) (unplaced one) (argument_only argument))
 fault_same utility before one Unknown = refl
 fault_same utility before one Missing = refl
-fault_same utility before one Bare = known_same utility before one (row_of (rows_of utility) one.letter)
-fault_same utility before one (Value bytes n) = known_same utility before one (row_of (rows_of utility) one.letter)
+fault_same utility before one Bare = known_same utility before one (find_option (options_of utility) one.letter)
+fault_same utility before one (Value bytes n) = known_same utility before one (find_option (options_of utility) one.letter)
 
 uses_same : (utility : Utility) (uses : List Use) → kind (uses_fault utility uses) ≡ kind (uses_fault utility (map unplaced uses))
 unfolding use_fault
-uses_same utility uses = first_same unplaced (use_fault utility) (use_fault utility) (λ before one. fault_same utility before one one.got) [] uses
+uses_same utility uses = first_same unplaced (use_fault utility) (use_fault utility) (λ before one. fault_same utility before one one.argument) [] uses
 
 -- the same for operands, which have no numbers
 here_same : {A : Type 0} (fault other : List A → A → Option Usage) → ((before : List A) (x : A) → kind (fault before x) ≡ kind (other before x))
@@ -145,22 +145,22 @@ here_same {A} fault other here before [] = refl
 here_same {A} fault other here before (x ∷ xs) =
     or_same (fault before x) (first_from fault (before ++ x ∷ []) xs) (other before x) (first_from other (before ++ x ∷ []) xs) (here before x) (here_same fault other here (before ++ x ∷ []) xs)
 
-fits_same : (rest : Rest) (uses : List Use) (word : List ℕ) → operand_fits rest uses word ≡ operand_fits rest (map unplaced uses) word
+fits_same : (rule : OperandRule) (uses : List Use) (word : List ℕ) → operand_fits rule uses word ≡ operand_fits rule (map unplaced uses) word
 fits_same Nothing uses word = refl
 fits_same Sfile uses word = refl
 fits_same Number uses word = refl
 fits_same Many uses word = refl
 fits_same (OneWith letter) uses word = ap (λ (one : Bool). not one || is_named word) (has_same letter uses)
 
-operand_same : (rest : Rest) (uses : List Use) (first : ℕ) (before : List (List ℕ)) (word : List ℕ)
-    → kind (operand_fault rest uses first before word) ≡ kind (operand_fault rest (map unplaced uses) 0 before word)
+operand_same : (rule : OperandRule) (uses : List Use) (first : ℕ) (before : List (List ℕ)) (word : List ℕ)
+    → kind (operand_fault rule uses first before word) ≡ kind (operand_fault rule (map unplaced uses) 0 before word)
 unfolding operand_fault
-operand_same rest uses first before word =
+operand_same rule uses first before word =
     if_same (dash_with_other before word) (dash_with_other before word) (usage 5 (first + length before)) _ (usage 5 (0 + length before)) _ refl refl
-    (if_same (operand_fits rest uses word) (operand_fits rest (map unplaced uses) word) None (usage 6 (first + length before)) None (usage 6 (0 + length before)) (fits_same rest uses word) refl refl)
+    (if_same (operand_fits rule uses word) (operand_fits rule (map unplaced uses) word) None (usage 6 (first + length before)) None (usage 6 (0 + length before)) (fits_same rule uses word) refl refl)
 
-operands_same : (rest : Rest) (uses : List Use) (first : ℕ) (words : List (List ℕ)) → kind (operands_fault rest uses first words) ≡ kind (operands_fault rest (map unplaced uses) 0 words)
-operands_same rest uses first words = here_same (operand_fault rest uses first) (operand_fault rest (map unplaced uses) 0) (operand_same rest uses first) [] words
+operands_same : (rule : OperandRule) (uses : List Use) (first : ℕ) (words : List (List ℕ)) → kind (operands_fault rule uses first words) ≡ kind (operands_fault rule (map unplaced uses) 0 words)
+operands_same rule uses first words = here_same (operand_fault rule uses first) (operand_fault rule (map unplaced uses) 0) (operand_same rule uses first) [] words
 
 met_same : (uses : List Use) (need : Need) → met uses need ≡ met (map unplaced uses) need
 met_same uses (needs.Always x) = has_same x uses
@@ -175,24 +175,24 @@ needs_same (need ∷ needs) uses =
     ap (λ (here : Bool). here && list_all (λ need. met uses need) needs) (met_same uses need)
     ∙ ap (λ (more : Bool). met (map unplaced uses) need && more) (needs_same needs uses)
 
-one_same : (rest : Rest) (uses : List Use) → takes_one rest uses ≡ takes_one rest (map unplaced uses)
+one_same : (rule : OperandRule) (uses : List Use) → takes_one rule uses ≡ takes_one rule (map unplaced uses)
 one_same Nothing uses = refl
 one_same Sfile uses = refl
 one_same Number uses = refl
 one_same Many uses = refl
 one_same (OneWith letter) uses = has_same letter uses
 
-many_same : (rest : Rest) (uses : List Use) (words : List (List ℕ)) → too_many rest uses words ≡ too_many rest (map unplaced uses) words
-many_same rest uses [] = refl
-many_same rest uses (word ∷ []) = refl
-many_same rest uses (word ∷ more ∷ words) = ap (λ (one : Bool). not (wants rest) || one) (one_same rest uses)
+many_same : (rule : OperandRule) (uses : List Use) (words : List (List ℕ)) → too_many rule uses words ≡ too_many rule (map unplaced uses) words
+many_same rule uses [] = refl
+many_same rule uses (word ∷ []) = refl
+many_same rule uses (word ∷ more ∷ words) = ap (λ (one : Bool). not (wants rule) || one) (one_same rule uses)
 
 end_same : (utility : Utility) (uses : List Use) (operands : List (List ℕ)) (n : ℕ) → kind (end_fault utility uses operands n) ≡ kind (end_fault utility (map unplaced uses) operands 0)
 unfolding end_fault
 end_same utility uses operands n =
-    if_same (none_though_wanted (rest_of utility) operands) (none_though_wanted (rest_of utility) operands) (usage 7 n) _ (usage 7 0) _ refl refl
+    if_same (none_though_wanted (operand_rule_of utility) operands) (none_though_wanted (operand_rule_of utility) operands) (usage 7 n) _ (usage 7 0) _ refl refl
     (if_same (not (list_all (λ need. met uses need) (needs_of utility))) (not (list_all (λ need. met (map unplaced uses) need) (needs_of utility))) (usage 8 n) _ (usage 8 0) _ (ap not (needs_same (needs_of utility) uses)) refl
-    (if_same (too_many (rest_of utility) uses operands) (too_many (rest_of utility) (map unplaced uses) operands) (usage 9 n) None (usage 9 0) None (many_same (rest_of utility) uses operands) refl refl))
+    (if_same (too_many (operand_rule_of utility) uses operands) (too_many (operand_rule_of utility) (map unplaced uses) operands) (usage 9 n) None (usage 9 0) None (many_same (operand_rule_of utility) uses operands) refl refl))
 
 -- a command line without numbers
 abbrev blank : CommandLine → CommandLine
@@ -202,8 +202,8 @@ first_fault_same : (utility : Utility) (l : CommandLine) (n : ℕ) → kind (fir
 unfolding first_fault
 first_fault_same utility l n =
     or_same (uses_fault utility l.uses) _ (uses_fault utility (map unplaced l.uses)) _ (uses_same utility l.uses)
-    (or_same (operands_fault (rest_of utility) l.uses l.first l.operands) (end_fault utility l.uses l.operands n)
-    (operands_fault (rest_of utility) (map unplaced l.uses) 0 l.operands) (end_fault utility (map unplaced l.uses) l.operands 0) (operands_same (rest_of utility) l.uses l.first l.operands)
+    (or_same (operands_fault (operand_rule_of utility) l.uses l.first l.operands) (end_fault utility l.uses l.operands n)
+    (operands_fault (operand_rule_of utility) (map unplaced l.uses) 0 l.operands) (end_fault utility (map unplaced l.uses) l.operands 0) (operands_same (operand_rule_of utility) l.uses l.first l.operands)
     (end_same utility l.uses l.operands n))
 
 refusal_same : (utility : Utility) (l : CommandLine) (n : ℕ) → kind (refusal_of utility l n) ≡ kind (refusal_of utility (blank l) 0)

@@ -5,22 +5,23 @@ use Rattle.std.specs.Str.{bytes_eq}
 use Rattle.sccs_base.specs.Name.{is_sfile_name}
 use Rattle.sccs_sid.specs.Reading.{is_empty}
 use Rattle.sccs_words.specs.Scan.{CommandLine}
-use Rattle.sccs_words.specs.Synopsis.{rows_of, aparts_of, needs_of, rest_of, row_of}
+use Rattle.sccs_words.specs.Synopsis.{options_of, exclusions_of, needs_of, operand_rule_of, find_option}
+use Rattle.sccs_words.specs.UsageKinds as kinds
 use Rattle.sccs_words.specs.Values.{fits, soak_number}
 use Rattle.sccs_words.specs.declared.commands.Usage.{Usage}
-use Rattle.sccs_words.specs.declared.tables.Row.{Row}
-use Rattle.sccs_words.specs.declared.tables.Row.TheVariants.{Joined, Valued, Repeated}
+use Rattle.sccs_words.specs.declared.tables.OptionSpec.{OptionSpec}
+use Rattle.sccs_words.specs.declared.tables.OptionSpec.TheVariants.{Joined, Valued, Repeated}
 use Rattle.sccs_words.specs.declared.tables.Form.{Form}
 use Rattle.sccs_words.specs.declared.tables.Form.TheVariants.{Any}
-use Rattle.sccs_words.specs.declared.tables.Apart.{Apart}
-use Rattle.sccs_words.specs.declared.tables.Apart.TheVariants as aparts
+use Rattle.sccs_words.specs.declared.tables.Exclusion.{Exclusion}
+use Rattle.sccs_words.specs.declared.tables.Exclusion.TheVariants as exclusions
 use Rattle.sccs_words.specs.declared.tables.Need.{Need}
 use Rattle.sccs_words.specs.declared.tables.Need.TheVariants as needs
-use Rattle.sccs_words.specs.declared.tables.Rest.{Rest}
-use Rattle.sccs_words.specs.declared.tables.Rest.TheVariants.{Nothing, Sfile, Number, OneWith}
+use Rattle.sccs_words.specs.declared.tables.OperandRule.{OperandRule}
+use Rattle.sccs_words.specs.declared.tables.OperandRule.TheVariants.{Nothing, Sfile, Number, OneWith}
 use Rattle.sccs_words.specs.declared.tables.Utility.{Utility}
-use Rattle.sccs_words.specs.declared.scanning.Got.{Got}
-use Rattle.sccs_words.specs.declared.scanning.Got.TheVariants.{Unknown, Bare, Missing, Value}
+use Rattle.sccs_words.specs.declared.scanning.OptionArgument.{OptionArgument}
+use Rattle.sccs_words.specs.declared.scanning.OptionArgument.TheVariants.{Unknown, Bare, Missing, Value}
 use Rattle.sccs_words.specs.declared.scanning.Use.{Use}
 
 abbrev pub usage : ℕ → ℕ → Option Usage
@@ -35,50 +36,50 @@ or_else (Some fault) later = Some fault
 abbrev pub has : ℕ → List Use → Bool
 has letter uses = list_any (λ one. one.letter == letter) uses
 
-abbrev pub is_bare : Got → Bool
+abbrev pub is_bare : OptionArgument → Bool
 is_bare Bare = true
 is_bare _ = false
 
 -- the rule speaks of these two, in this order
-abbrev pub apart_by : Apart → Use → Use → Bool
-apart_by (aparts.Both x y) a b = a.letter == x && b.letter == y
-apart_by (aparts.Bare x y) a b = (a.letter == x && is_bare a.got) && b.letter == y
-apart_by (aparts.Alone x) a b = a.letter == x && not (b.letter == x)
+abbrev pub excludes_by : Exclusion → Use → Use → Bool
+excludes_by (exclusions.Both x y) a b = a.letter == x && b.letter == y
+excludes_by (exclusions.Bare x y) a b = (a.letter == x && is_bare a.argument) && b.letter == y
+excludes_by (exclusions.Alone x) a b = a.letter == x && not (b.letter == x)
 
-abbrev pub is_apart : List Apart → Use → Use → Bool
-is_apart rules a b = list_any (λ rule. apart_by rule a b || apart_by rule b a) rules
+abbrev pub is_excluded : List Exclusion → Use → Use → Bool
+is_excluded rules a b = list_any (λ rule. excludes_by rule a b || excludes_by rule b a) rules
 
-abbrev pub repeats : Option Row → Bool
+abbrev pub repeats : Option OptionSpec → Bool
 repeats (Some (Repeated b form)) = true
 repeats _ = false
 
-abbrev pub form_of : Option Row → Form
+abbrev pub form_of : Option OptionSpec → Form
 form_of (Some (Joined b form)) = form
 form_of (Some (Valued b form)) = form
 form_of (Some (Repeated b form)) = form
 form_of _ = Any
 
-abbrev pub value_fault : Option Row → Got → Option Usage
-value_fault row (Value bytes n) = if fits (form_of row) bytes then None else usage 6 n
-value_fault row _ = None
+abbrev pub value_fault : Option OptionSpec → OptionArgument → Option Usage
+value_fault option (Value bytes n) = if fits (form_of option) bytes then None else usage kinds.malformed n
+value_fault option _ = None
 
-abbrev pub is_again : Option Row → List Use → ℕ → Bool
-is_again row before letter = not (repeats row) && has letter before
+abbrev pub is_given_twice : Option OptionSpec → List Use → ℕ → Bool
+is_given_twice option before letter = not (repeats option) && has letter before
 
 -- a use of a letter of the utility, after those before it
-abbrev pub known_fault : Utility → List Use → Use → Option Row → Option Usage
-known_fault utility before one row =
-    if is_again row before one.letter then usage 4 one.word
-    else if list_any (λ other. is_apart (aparts_of utility) one other) before then usage 5 one.word
-    else value_fault row one.got
+abbrev pub known_fault : Utility → List Use → Use → Option OptionSpec → Option Usage
+known_fault utility before one option =
+    if is_given_twice option before one.letter then usage kinds.given_twice one.word
+    else if list_any (λ other. is_excluded (exclusions_of utility) one other) before then usage kinds.exclude one.word
+    else value_fault option one.argument
 
-abbrev pub fault_by : Utility → List Use → Use → Got → Option Usage
-fault_by utility before one Unknown = usage 2 one.word
-fault_by utility before one Missing = usage 3 one.word
-fault_by utility before one _ = known_fault utility before one (row_of (rows_of utility) one.letter)
+abbrev pub fault_by : Utility → List Use → Use → OptionArgument → Option Usage
+fault_by utility before one Unknown = usage kinds.unknown_option one.word
+fault_by utility before one Missing = usage kinds.missing_argument one.word
+fault_by utility before one _ = known_fault utility before one (find_option (options_of utility) one.letter)
 
 unfoldable pub use_fault : Utility → List Use → Use → Option Usage
-use_fault utility before one = fault_by utility before one one.got
+use_fault utility before one = fault_by utility before one one.argument
 
 -- the first fault of these, each judged after those before it
 unfoldable pub first_from : {A : Type 0} → (List A → A → Option Usage) → List A → List A → Option Usage
@@ -101,7 +102,7 @@ abbrev pub is_named : List ℕ → Bool
 is_named word = not (is_dash word) && not (is_dot word)
 
 -- what may stand as an operand
-abbrev pub operand_fits : Rest → List Use → List ℕ → Bool
+abbrev pub operand_fits : OperandRule → List Use → List ℕ → Bool
 operand_fits Sfile uses word = is_sfile_name word
 operand_fits Number uses word = is_some (soak_number word)
 operand_fits (OneWith letter) uses word = not (has letter uses) || is_named word
@@ -116,17 +117,17 @@ abbrev pub dash_with_other : List (List ℕ) → List ℕ → Bool
 dash_with_other before word = list_any is_dash before || is_late_dash before word
 
 -- an operand, after those before it; the first stands in word `first`
-unfoldable pub operand_fault : Rest → List Use → ℕ → List (List ℕ) → List ℕ → Option Usage
-operand_fault rest uses first before word =
-    if dash_with_other before word then usage 5 (first + length before)
-    else if operand_fits rest uses word then None else usage 6 (first + length before)
+unfoldable pub operand_fault : OperandRule → List Use → ℕ → List (List ℕ) → List ℕ → Option Usage
+operand_fault rule uses first before word =
+    if dash_with_other before word then usage kinds.exclude (first + length before)
+    else if operand_fits rule uses word then None else usage kinds.malformed (first + length before)
 
-abbrev pub operands_fault : Rest → List Use → ℕ → List (List ℕ) → Option Usage
-operands_fault rest uses first words = first_from (operand_fault rest uses first) [] words
+abbrev pub operands_fault : OperandRule → List Use → ℕ → List (List ℕ) → Option Usage
+operands_fault rule uses first words = first_from (operand_fault rule uses first) [] words
 
 -- ---- after the last word
 
-abbrev pub wants : Rest → Bool
+abbrev pub wants : OperandRule → Bool
 wants Nothing = false
 wants _ = true
 
@@ -134,30 +135,30 @@ abbrev pub met : List Use → Need → Bool
 met uses (needs.Always x) = has x uses
 met uses (needs.With letter x y) = not (has letter uses) || (has x uses || has y uses)
 
-abbrev pub takes_one : Rest → List Use → Bool
+abbrev pub takes_one : OperandRule → List Use → Bool
 takes_one Sfile uses = true
 takes_one Number uses = true
 takes_one (OneWith letter) uses = has letter uses
 takes_one _ uses = false
 
-abbrev pub too_many : Rest → List Use → List (List ℕ) → Bool
-too_many rest uses [] = false
-too_many rest uses (word ∷ []) = not (wants rest)
-too_many rest uses (word ∷ more ∷ words) = not (wants rest) || takes_one rest uses
+abbrev pub too_many : OperandRule → List Use → List (List ℕ) → Bool
+too_many rule uses [] = false
+too_many rule uses (word ∷ []) = not (wants rule)
+too_many rule uses (word ∷ more ∷ words) = not (wants rule) || takes_one rule uses
 
-abbrev pub none_though_wanted : Rest → List (List ℕ) → Bool
-none_though_wanted rest words = is_empty words && wants rest
+abbrev pub none_though_wanted : OperandRule → List (List ℕ) → Bool
+none_though_wanted rule words = is_empty words && wants rule
 
 unfoldable pub end_fault : Utility → List Use → List (List ℕ) → ℕ → Option Usage
 end_fault utility uses operands n =
-    if none_though_wanted (rest_of utility) operands then usage 7 n
-    else if not (list_all (λ need. met uses need) (needs_of utility)) then usage 8 n
-    else if too_many (rest_of utility) uses operands then usage 9 n
+    if none_though_wanted (operand_rule_of utility) operands then usage kinds.no_operand n
+    else if not (list_all (λ need. met uses need) (needs_of utility)) then usage kinds.option_needed n
+    else if too_many (operand_rule_of utility) uses operands then usage kinds.too_many n
     else None
 
 -- the words end before number n
 unfoldable pub first_fault : Utility → CommandLine → ℕ → Option Usage
 first_fault utility line n =
     or_else (uses_fault utility line.uses)
-    (or_else (operands_fault (rest_of utility) line.uses line.first line.operands)
+    (or_else (operands_fault (operand_rule_of utility) line.uses line.first line.operands)
     (end_fault utility line.uses line.operands n))

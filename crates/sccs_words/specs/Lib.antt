@@ -1,3 +1,4 @@
+pub mod BetweenGaps
 pub mod Judge
 pub mod Letters
 pub mod Meaning
@@ -8,4 +9,6 @@ pub mod Scan
 pub mod Scanned
 pub mod Synopsis
 pub mod Unplaced
+pub mod UsageKinds
+pub mod ValidValues
 pub mod Values

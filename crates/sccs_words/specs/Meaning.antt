@@ -3,7 +3,8 @@ use Rattle.std.specs.Prelude.{◌≡◌, ℕ, ◌+◌, List, [], ◌∷◌, leng
 use Rattle.std.specs.Str.{bytes_eq}
 use Rattle.sccs_sid.specs.declared.sids.Sid.{Sid}
 use Rattle.sccs_words.specs.Letters as opt
-use Rattle.sccs_words.specs.Synopsis.{rows_of}
+use Rattle.sccs_words.specs.Synopsis.{options_of}
+use Rattle.sccs_words.specs.UsageKinds as kinds
 use Rattle.sccs_words.specs.Values.{sid_value, name_value, soak_number}
 use Rattle.sccs_words.specs.Scan.{CommandLine, scanned}
 use Rattle.sccs_words.specs.Judge.{has, first_fault}
@@ -47,15 +48,15 @@ first_of [] = None
 first_of (word ∷ words) = Some word
 
 abbrev pub with_name : List Use → ℕ → Option (List ℕ) → Result Command Usage
-with_name uses n None = bad 7 n
+with_name uses n None = bad kinds.no_operand n
 with_name uses n (Some name) = Ok (c.Delta (delta_words uses) name)
 
 abbrev pub with_sid : List (List ℕ) → ℕ → Option Sid → Result Command Usage
-with_sid operands n None = bad 8 n
+with_sid operands n None = bad kinds.option_needed n
 with_sid operands n (Some sid) = Ok (c.Rmdel sid (operands_of operands))
 
 abbrev pub with_number : ℕ → Option ℕ → Result Command Usage
-with_number n None = bad 7 n
+with_number n None = bad kinds.no_operand n
 with_number n (Some number) = Ok (c.Soak number)
 
 -- the command of a line without a fault; n is the number of words plus one
@@ -86,10 +87,10 @@ unfoldable pub line_meaning : Utility → CommandLine → ℕ → Result Command
 line_meaning utility l n = unless (refusal_of utility l n) (command_of utility l n)
 
 abbrev pub meaning_by : Option Utility → List (List ℕ) → Result Command Usage
-meaning_by None words = bad 1 1
-meaning_by (Some utility) words = line_meaning utility (scanned (rows_of utility) 2 [] None words) (length words + 2)
+meaning_by None words = bad kinds.unknown_utility 1
+meaning_by (Some utility) words = line_meaning utility (scanned (options_of utility) 2 [] None words) (length words + 2)
 
 -- the command or the usage fault of these words, the utility's word among them
 unfoldable pub meaning : List (List ℕ) → Result Command Usage
-meaning [] = bad 1 1
+meaning [] = bad kinds.unknown_utility 1
 meaning (word ∷ words) = meaning_by (utility_of word) words

@@ -4,7 +4,7 @@ use Rattle.std.specs.Prelude.{ℕ, ◌==◌, Bool, ◌||◌, List, [], ◌∷◌
 abbrev pub is_gap : ℕ → Bool
 is_gap b = b == 32 || (b == 9 || b == 10)
 
--- the words, and this one behind them unless it is empty
+-- the words, and this one after them unless it is empty
 abbrev pub ended : List (List ℕ) → List ℕ → List (List ℕ)
 ended words [] = words
 ended words (b ∷ word) = words ++ (b ∷ word) ∷ []

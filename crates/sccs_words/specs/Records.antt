@@ -7,11 +7,11 @@ use Rattle.sccs_words.specs.MrWords.{mr_words}
 use Rattle.sccs_words.specs.Values.{sid_value, spec_value, moment_value, list_value, release_value, name_value}
 use Rattle.sccs_words.specs.Scan.{CommandLine}
 use Rattle.sccs_words.specs.Judge.{has, is_dash, uses_fault, operands_fault}
-use Rattle.sccs_words.specs.declared.scanning.Got.{Got}
-use Rattle.sccs_words.specs.declared.scanning.Got.TheVariants.{Value}
+use Rattle.sccs_words.specs.declared.scanning.OptionArgument.{OptionArgument}
+use Rattle.sccs_words.specs.declared.scanning.OptionArgument.TheVariants.{Value}
 use Rattle.sccs_words.specs.declared.scanning.Use.{Use}
 use Rattle.sccs_words.specs.declared.tables.Utility.TheVariants.{Val}
-use Rattle.sccs_words.specs.declared.tables.Rest.TheVariants.{Many}
+use Rattle.sccs_words.specs.declared.tables.OperandRule.TheVariants.{Many}
 use Rattle.sccs_words.specs.declared.commands.Given.{Given}
 use Rattle.sccs_words.specs.declared.commands.Given.TheVariants.{No, Bare, From}
 use Rattle.sccs_words.specs.declared.commands.Operands.{Operands}
@@ -22,14 +22,14 @@ use Rattle.sccs_words.specs.declared.commands.UngetWords.{UngetWords}
 use Rattle.sccs_words.specs.declared.commands.PrsWords.{PrsWords}
 use Rattle.sccs_words.specs.declared.commands.ValWords.{ValWords}
 
-abbrev pub value_in : Got → Option (List ℕ)
+abbrev pub value_in : OptionArgument → Option (List ℕ)
 value_in (Value bytes n) = Some bytes
 value_in _ = None
 
 -- the value of the first use of the letter
 unfoldable pub value_of : ℕ → List Use → Option (List ℕ)
 value_of letter [] = None
-value_of letter (one ∷ uses) = if one.letter == letter then value_in one.got else value_of letter uses
+value_of letter (one ∷ uses) = if one.letter == letter then value_in one.argument else value_of letter uses
 
 abbrev pub with_value : Option (List ℕ) → List (List ℕ) → List (List ℕ)
 with_value None values = values
@@ -38,7 +38,7 @@ with_value (Some bytes) values = bytes ∷ values
 -- the values of all uses of the letter, in order
 unfoldable pub values_of : ℕ → List Use → List (List ℕ)
 values_of letter [] = []
-values_of letter (one ∷ uses) = with_value (if one.letter == letter then value_in one.got else None) (values_of letter uses)
+values_of letter (one ∷ uses) = with_value (if one.letter == letter then value_in one.argument else None) (values_of letter uses)
 
 -- the words of MRs, and the lines of a comment; none where there is no value
 abbrev pub mrs_of : Option (List ℕ) → List (List ℕ)

@@ -1,20 +1,20 @@
--- The options of a command line, one after the other, and the operands behind them. Nothing is judged here.
-use Rattle.std.specs.Prelude.{ℕ, ◌+◌, ◌-◌, ◌==◌, List, [], ◌∷◌, ◌++◌, Option, None, Some, if◌then◌else◌}
-use Rattle.sccs_words.specs.Synopsis.{row_of}
-use Rattle.sccs_words.specs.declared.tables.Row.{Row}
-use Rattle.sccs_words.specs.declared.tables.Row.TheVariants.{Plain, Joined, Valued, Repeated}
-use Rattle.sccs_words.specs.declared.scanning.Got.{Got}
-use Rattle.sccs_words.specs.declared.scanning.Got.TheVariants.{Unknown, Bare, Missing, Value}
+-- The options of a command line, one after the other, and the operands after them. Nothing is judged here.
+use Rattle.std.specs.Prelude.{ℕ, ◌+◌, ◌-◌, ◌==◌, List, [], ◌∷◌, ◌++◌, length, Option, None, Some, if◌then◌else◌}
+use Rattle.sccs_words.specs.Synopsis.{find_option}
+use Rattle.sccs_words.specs.declared.tables.OptionSpec.{OptionSpec}
+use Rattle.sccs_words.specs.declared.tables.OptionSpec.TheVariants.{Plain, Joined, Valued, Repeated}
+use Rattle.sccs_words.specs.declared.scanning.OptionArgument.{OptionArgument}
+use Rattle.sccs_words.specs.declared.scanning.OptionArgument.TheVariants.{Unknown, Bare, Missing, Value}
 use Rattle.sccs_words.specs.declared.scanning.Use.{Use}
 use Rattle.sccs_words.specs.declared.scanning.Turn.{Turn}
 use Rattle.sccs_words.specs.declared.scanning.Turn.TheVariants.{On, Last, Wants}
 
--- the letter stands in word n, and this is what it got
-abbrev pub used : ℕ → ℕ → Got → Use
-used letter n got = record { letter = letter; word = n; got = got }
+-- the letter stands in word n, with this argument
+abbrev pub used : ℕ → ℕ → OptionArgument → Use
+used letter n argument = record { letter = letter; word = n; argument = argument }
 
 -- a value in the rest of the word, or none
-abbrev pub in_word : ℕ → List ℕ → Got
+abbrev pub in_word : ℕ → List ℕ → OptionArgument
 in_word n [] = Bare
 in_word n (b ∷ rest) = Value (b ∷ rest) n
 
@@ -23,16 +23,16 @@ abbrev pub in_next : ℕ → ℕ → List ℕ → Turn
 in_next letter n [] = Wants letter
 in_next letter n (b ∷ rest) = Last (used letter n (Value (b ∷ rest) n))
 
--- what a letter of word n is, with the bytes behind it
-abbrev pub turn_by : Option Row → ℕ → ℕ → List ℕ → Turn
+-- what a letter of word n is, with the bytes after it
+abbrev pub turn_by : Option OptionSpec → ℕ → ℕ → List ℕ → Turn
 turn_by None letter n rest = On (used letter n Unknown)
 turn_by (Some (Plain b)) letter n rest = On (used letter n Bare)
 turn_by (Some (Joined b form)) letter n rest = Last (used letter n (in_word n rest))
 turn_by (Some (Valued b form)) letter n rest = in_next letter n rest
 turn_by (Some (Repeated b form)) letter n rest = in_next letter n rest
 
-unfoldable pub turn : List Row → ℕ → ℕ → List ℕ → Turn
-turn rows n letter rest = turn_by (row_of rows letter) letter n rest
+unfoldable pub turn : List OptionSpec → ℕ → ℕ → List ℕ → Turn
+turn options n letter rest = turn_by (find_option options letter) letter n rest
 
 -- what was used so far, and the letter that waits for its value
 abbrev pub Uses : Type 0
@@ -44,9 +44,9 @@ after_turn uses (Last one) more = (uses ++ one ∷ [], None)
 after_turn uses (Wants letter) more = (uses, Some letter)
 
 -- the letters of word n
-unfoldable pub letters : List Row → ℕ → List Use → List ℕ → Uses
-letters rows n uses [] = (uses, None)
-letters rows n uses (b ∷ rest) = after_turn uses (turn rows n b rest) (λ longer. letters rows n longer rest)
+unfoldable pub letters : List OptionSpec → ℕ → List Use → List ℕ → Uses
+letters options n uses [] = (uses, None)
+letters options n uses (b ∷ rest) = after_turn uses (turn options n b rest) (λ longer. letters options n longer rest)
 
 -- what a word is, where an option may stand
 pub data Kind : Type 0 where
@@ -54,14 +54,14 @@ pub data Kind : Type 0 where
   Ends : Kind
   Operand : Kind
 
-abbrev pub behind_dash : List ℕ → Kind
-behind_dash [] = Operand
-behind_dash (b ∷ []) = if b == 45 then Ends else Letters (b ∷ [])
-behind_dash (b ∷ c ∷ rest) = Letters (b ∷ c ∷ rest)
+abbrev pub after_dash : List ℕ → Kind
+after_dash [] = Operand
+after_dash (b ∷ []) = if b == 45 then Ends else Letters (b ∷ [])
+after_dash (b ∷ c ∷ rest) = Letters (b ∷ c ∷ rest)
 
 abbrev pub kind_of : List ℕ → Kind
 kind_of [] = Operand
-kind_of (b ∷ rest) = if b == 45 then behind_dash rest else Operand
+kind_of (b ∷ rest) = if b == 45 then after_dash rest else Operand
 
 -- The uses of options, the number of the first operand's word, and the operands.
 pub record CommandLine : Type 0 where
@@ -72,15 +72,19 @@ pub record CommandLine : Type 0 where
 abbrev pub line : List Use → ℕ → List (List ℕ) → CommandLine
 line uses first operands = record { uses = uses; first = first; operands = operands }
 
+-- the number of words plus one
+abbrev pub end_of : CommandLine → ℕ
+end_of l = l.first + length l.operands
+
 abbrev pub by_kind : ℕ → List Use → List ℕ → List (List ℕ) → Kind → (List ℕ → CommandLine) → CommandLine
 by_kind n uses word words (Letters bytes) more = more bytes
 by_kind n uses word words Ends more = line uses (n + 1) words
 by_kind n uses word words Operand more = line uses n (word ∷ words)
 
 -- the words from number n on, after these uses; a letter of the word before may wait for its value
-unfoldable pub scanned : List Row → ℕ → List Use → Option ℕ → List (List ℕ) → CommandLine
-scanned rows n uses (Some letter) [] = line (uses ++ used letter (n - 1) Missing ∷ []) n []
-scanned rows n uses (Some letter) (word ∷ words) = scanned rows (n + 1) (uses ++ used letter (n - 1) (Value word n) ∷ []) None words
-scanned rows n uses None [] = line uses n []
-scanned rows n uses None (word ∷ words) =
-    by_kind n uses word words (kind_of word) (λ bytes. scanned rows (n + 1) (letters rows n uses bytes).0 (letters rows n uses bytes).1 words)
+unfoldable pub scanned : List OptionSpec → ℕ → List Use → Option ℕ → List (List ℕ) → CommandLine
+scanned options n uses (Some letter) [] = line (uses ++ used letter (n - 1) Missing ∷ []) n []
+scanned options n uses (Some letter) (word ∷ words) = scanned options (n + 1) (uses ++ used letter (n - 1) (Value word n) ∷ []) None words
+scanned options n uses None [] = line uses n []
+scanned options n uses None (word ∷ words) =
+    by_kind n uses word words (kind_of word) (λ bytes. scanned options (n + 1) (letters options n uses bytes).0 (letters options n uses bytes).1 words)

@@ -1,21 +1,21 @@
 -- The synopsis of each utility: POSIX, Shell and Utilities.
 use Rattle.std.specs.Prelude.{ℕ, ◌==◌, List, [], ◌∷◌, Option, None, Some, if◌then◌else◌}
 use Rattle.sccs_words.specs.Letters as opt
-use Rattle.sccs_words.specs.declared.tables.Row.{Row}
-use Rattle.sccs_words.specs.declared.tables.Row.TheVariants.{Plain, Joined, Valued, Repeated}
+use Rattle.sccs_words.specs.declared.tables.OptionSpec.{OptionSpec}
+use Rattle.sccs_words.specs.declared.tables.OptionSpec.TheVariants.{Plain, Joined, Valued, Repeated}
 use Rattle.sccs_words.specs.declared.tables.Form.TheVariants as forms
-use Rattle.sccs_words.specs.declared.tables.Apart.{Apart}
-use Rattle.sccs_words.specs.declared.tables.Apart.TheVariants.{Both, Bare, Alone}
+use Rattle.sccs_words.specs.declared.tables.Exclusion.{Exclusion}
+use Rattle.sccs_words.specs.declared.tables.Exclusion.TheVariants.{Both, Bare, Alone}
 use Rattle.sccs_words.specs.declared.tables.Need.{Need}
 use Rattle.sccs_words.specs.declared.tables.Need.TheVariants.{Always, With}
-use Rattle.sccs_words.specs.declared.tables.Rest.{Rest}
-use Rattle.sccs_words.specs.declared.tables.Rest.TheVariants.{Nothing, Sfile, Number, Many, OneWith}
+use Rattle.sccs_words.specs.declared.tables.OperandRule.{OperandRule}
+use Rattle.sccs_words.specs.declared.tables.OperandRule.TheVariants.{Nothing, Sfile, Number, Many, OneWith}
 use Rattle.sccs_words.specs.declared.tables.Utility.{Utility}
 use Rattle.sccs_words.specs.declared.tables.Utility.TheVariants.{Admin, Get, Delta, Unget, Sact, Rmdel, Prs, Val, What, Recover, Batch, Soak}
 
 -- the options of a utility
-abbrev pub rows_of : Utility → List Row
-rows_of Admin =
+abbrev pub options_of : Utility → List OptionSpec
+options_of Admin =
     Repeated opt.a forms.User ∷
     Repeated opt.d forms.Flag ∷
     Repeated opt.e forms.User ∷
@@ -29,7 +29,7 @@ rows_of Admin =
     Joined opt.y forms.Any ∷
     Plain opt.z ∷
     []
-rows_of Get =
+options_of Get =
     Plain opt.b ∷
     Valued opt.c forms.Cutoff ∷
     Plain opt.e ∷
@@ -44,23 +44,23 @@ rows_of Get =
     Plain opt.t ∷
     Valued opt.x forms.List ∷
     []
-rows_of Delta =
+options_of Delta =
     Valued opt.m forms.Mrs ∷
     Plain opt.n ∷
     Valued opt.r forms.Sid ∷
     Plain opt.s ∷
     Joined opt.y forms.Any ∷
     []
-rows_of Unget =
+options_of Unget =
     Plain opt.n ∷
     Valued opt.r forms.Sid ∷
     Plain opt.s ∷
     []
-rows_of Sact = []
-rows_of Rmdel =
+options_of Sact = []
+options_of Rmdel =
     Valued opt.r forms.Sid ∷
     []
-rows_of Prs =
+options_of Prs =
     Plain opt.a ∷
     Valued opt.c forms.Cutoff ∷
     Valued opt.d forms.Any ∷
@@ -68,22 +68,22 @@ rows_of Prs =
     Plain opt.l ∷
     Joined opt.r forms.Sid ∷
     []
-rows_of Val =
+options_of Val =
     Valued opt.m forms.Any ∷
     Valued opt.r forms.Any ∷
     Plain opt.s ∷
     Valued opt.y forms.Any ∷
     []
-rows_of What =
+options_of What =
     Plain opt.s ∷
     []
-rows_of Recover = []
-rows_of Batch = []
-rows_of Soak = []
+options_of Recover = []
+options_of Batch = []
+options_of Soak = []
 
 -- which of them exclude each other
-abbrev pub aparts_of : Utility → List Apart
-aparts_of Admin =
+abbrev pub exclusions_of : Utility → List Exclusion
+exclusions_of Admin =
     Alone opt.h ∷
     Both opt.z opt.n ∷
     Both opt.z opt.i ∷
@@ -94,14 +94,14 @@ aparts_of Admin =
     Bare opt.t opt.n ∷
     Bare opt.t opt.i ∷
     []
-aparts_of Get =
+exclusions_of Get =
     Both opt.e opt.c ∷
     []
-aparts_of Prs =
+exclusions_of Prs =
     Both opt.e opt.l ∷
     Both opt.r opt.c ∷
     []
-aparts_of _ = []
+exclusions_of _ = []
 
 -- which of them are needed
 abbrev pub needs_of : Utility → List Need
@@ -119,20 +119,20 @@ needs_of Prs =
 needs_of _ = []
 
 -- what operands it takes
-abbrev pub rest_of : Utility → Rest
-rest_of Admin = OneWith opt.i
-rest_of Delta = Sfile
-rest_of Batch = Nothing
-rest_of Soak = Number
-rest_of _ = Many
+abbrev pub operand_rule_of : Utility → OperandRule
+operand_rule_of Admin = OneWith opt.i
+operand_rule_of Delta = Sfile
+operand_rule_of Batch = Nothing
+operand_rule_of Soak = Number
+operand_rule_of _ = Many
 
-abbrev pub letter_of : Row → ℕ
+abbrev pub letter_of : OptionSpec → ℕ
 letter_of (Plain b) = b
 letter_of (Joined b form) = b
 letter_of (Valued b form) = b
 letter_of (Repeated b form) = b
 
 -- the option of a letter
-unfoldable pub row_of : List Row → ℕ → Option Row
-row_of [] b = None
-row_of (row ∷ rows) b = if letter_of row == b then Some row else row_of rows b
+unfoldable pub find_option : List OptionSpec → ℕ → Option OptionSpec
+find_option [] b = None
+find_option (option ∷ options) b = if letter_of option == b then Some option else find_option options b

@@ -111,6 +111,25 @@ pub struct ValWords {
     pub operands: Operands,
 }
 
+// the kinds of usage faults
+pub const UNKNOWN_UTILITY: u8 = 1;
+
+pub const UNKNOWN_OPTION: u8 = 2;
+
+pub const MISSING_ARGUMENT: u8 = 3;
+
+pub const GIVEN_TWICE: u8 = 4;
+
+pub const EXCLUDE: u8 = 5;
+
+pub const MALFORMED: u8 = 6;
+
+pub const NO_OPERAND: u8 = 7;
+
+pub const OPTION_NEEDED: u8 = 8;
+
+pub const TOO_MANY: u8 = 9;
+
 /// A fault of the command line: its kind, from 1, and the number of its word, from 1. The kinds:
 /// unknown utility, unknown option, missing argument, option given twice, options exclude each
 /// other, malformed value, no operand, option needed, too many operands.

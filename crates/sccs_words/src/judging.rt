@@ -1,32 +1,20 @@
 ghost use Rattle.std.specs.Prelude.{◌≡◌, ℕ, ◌+◌, ◌^◌, ◌<◌, length, IfOk};
-ghost use Rattle.sccs_words.specs.Judge.{has as has_spec, apart_by as apart_spec, is_apart as is_apart_spec, is_bare as is_bare_spec, repeats as repeats_spec, form_of as form_spec, is_again as is_again_spec, known_fault as known_spec, use_fault as use_spec, uses_fault as uses_spec, is_dash as is_dash_spec, is_named as is_named_spec, operand_fits as operand_fits_spec, is_late_dash as is_late_dash_spec, dash_with_other as dash_with_other_spec, operand_fault as operand_spec, operands_fault as operands_spec, wants as wants_spec, met as met_spec, takes_one as takes_one_spec, too_many as too_many_spec, none_though_wanted as none_though_wanted_spec, end_fault as end_spec, first_fault as first_spec};
+ghost use Rattle.sccs_words.specs.Judge.{has as has_spec, excludes_by as excludes_by_spec, is_excluded as is_excluded_spec, is_bare as is_bare_spec, repeats as repeats_spec, form_of as form_spec, is_given_twice as is_given_twice_spec, known_fault as known_spec, use_fault as use_spec, uses_fault as uses_spec, is_dash as is_dash_spec, is_named as is_named_spec, operand_fits as operand_fits_spec, is_late_dash as is_late_dash_spec, dash_with_other as dash_with_other_spec, operand_fault as operand_spec, operands_fault as operands_spec, wants as wants_spec, met as met_spec, takes_one as takes_one_spec, too_many as too_many_spec, none_though_wanted as none_though_wanted_spec, end_fault as end_spec, first_fault as first_spec};
 ghost use Rattle.std.specs.List.{list_any, list_all};
-ghost use Rattle.sccs_words.specs.Scan.{line};
-ghost use Rattle.sccs_words.specs.Synopsis.{aparts_of, needs_of};
+ghost use Rattle.sccs_words.specs.Scan.{end_of};
+ghost use Rattle.sccs_words.specs.Scanned.{line_of};
+ghost use Rattle.sccs_words.specs.Synopsis.{exclusions_of, needs_of};
 
-use crate::commands::Usage;
-use crate::scanning::{Got, Use, row_of};
-use crate::tables::{Apart, Form, Need, Rest, Row, Utility};
+use crate::command_lines::CommandLine;
+use crate::commands::{
+    EXCLUDE, GIVEN_TWICE, MALFORMED, MISSING_ARGUMENT, NO_OPERAND, OPTION_NEEDED, TOO_MANY,
+    UNKNOWN_OPTION, Usage,
+};
+use crate::scanning::{OptionArgument, Use, find_option};
+use crate::tables::{Exclusion, Form, Need, OperandRule, OptionSpec, Utility};
 use crate::values::{form_fits, soak_number};
 use sccs_base::{Bytes, Memory, Name};
 use std::alloc::Global;
-
-// the kinds of faults
-const UNKNOWN_OPTION: u8 = 2;
-
-const MISSING_ARGUMENT: u8 = 3;
-
-const GIVEN_TWICE: u8 = 4;
-
-const EXCLUDE: u8 = 5;
-
-const MALFORMED: u8 = 6;
-
-const NO_OPERAND: u8 = 7;
-
-const OPTION_NEEDED: u8 = 8;
-
-const TOO_MANY: u8 = 9;
 
 /// Whether an option of that letter is used.
 pub fn has(uses: &[Use], letter: u8) -> bool
@@ -35,71 +23,71 @@ pub fn has(uses: &[Use], letter: u8) -> bool
     uses.iter().any(|one| one.letter == letter)
 }
 
-fn is_bare(got: &Got) -> bool
-    ensures { result ≡ is_bare_spec got.now }
+fn is_bare(argument: &OptionArgument) -> bool
+    ensures { result ≡ is_bare_spec argument.now }
 {
-    match got {
-        Got::Bare => true,
-        Got::Unknown => false,
-        Got::Missing => false,
-        Got::Value(_, _) => false,
+    match argument {
+        OptionArgument::Bare => true,
+        OptionArgument::Unknown => false,
+        OptionArgument::Missing => false,
+        OptionArgument::Value(_, _) => false,
     }
 }
 
 // whether a rule speaks of these two, in this order
-fn parts(rule: Apart, a: &Use, b: &Use) -> bool
-    ensures { result ≡ apart_spec rule a.now b.now }
+fn parts(rule: Exclusion, a: &Use, b: &Use) -> bool
+    ensures { result ≡ excludes_by_spec rule a.now b.now }
 {
     match rule {
-        Apart::Both(x, y) => a.letter == x && b.letter == y,
-        Apart::Bare(x, y) => a.letter == x && is_bare(&a.got) && b.letter == y,
-        Apart::Alone(x) => a.letter == x && b.letter != x,
+        Exclusion::Both(x, y) => a.letter == x && b.letter == y,
+        Exclusion::Bare(x, y) => a.letter == x && is_bare(&a.argument) && b.letter == y,
+        Exclusion::Alone(x) => a.letter == x && b.letter != x,
     }
 }
 
-fn is_apart(rules: &[Apart], a: &Use, b: &Use) -> bool
-    ensures { result ≡ is_apart_spec rules.now a.now b.now }
+fn is_excluded(rules: &[Exclusion], a: &Use, b: &Use) -> bool
+    ensures { result ≡ is_excluded_spec rules.now a.now b.now }
 {
     rules
         .iter()
         .any(|rule| parts(*rule, a, b) || parts(*rule, b, a))
 }
 
-fn repeats(row: Option<Row>) -> bool
-    ensures { result ≡ repeats_spec row }
+fn repeats(option: Option<OptionSpec>) -> bool
+    ensures { result ≡ repeats_spec option }
 {
-    match row {
-        Some(Row::Repeated(_, _)) => true,
-        Some(Row::Plain(_)) => false,
-        Some(Row::Joined(_, _)) => false,
-        Some(Row::Valued(_, _)) => false,
+    match option {
+        Some(OptionSpec::Repeated(_, _)) => true,
+        Some(OptionSpec::Plain(_)) => false,
+        Some(OptionSpec::Joined(_, _)) => false,
+        Some(OptionSpec::Valued(_, _)) => false,
         None => false,
     }
 }
 
-fn form_of(row: Option<Row>) -> Form
-    ensures { result ≡ form_spec row }
+fn form_of(option: Option<OptionSpec>) -> Form
+    ensures { result ≡ form_spec option }
 {
-    match row {
-        Some(Row::Joined(_, form)) => form,
-        Some(Row::Valued(_, form)) => form,
-        Some(Row::Repeated(_, form)) => form,
-        Some(Row::Plain(_)) => Form::Any,
+    match option {
+        Some(OptionSpec::Joined(_, form)) => form,
+        Some(OptionSpec::Valued(_, form)) => form,
+        Some(OptionSpec::Repeated(_, form)) => form,
+        Some(OptionSpec::Plain(_)) => Form::Any,
         None => Form::Any,
     }
 }
 
-fn is_again(row: Option<Row>, before: &[Use], letter: u8) -> bool
-    ensures { result ≡ is_again_spec row before.now letter }
+fn is_given_twice(option: Option<OptionSpec>, before: &[Use], letter: u8) -> bool
+    ensures { result ≡ is_given_twice_spec option before.now letter }
 {
-    !repeats(row) && has(before, letter)
+    !repeats(option) && has(before, letter)
 }
 
 fn excludes(utility: Utility, before: &[Use], one: &Use) -> bool
-    ensures { result ≡ list_any (λ other. is_apart_spec (aparts_of utility) one.now other) before.now }
+    ensures { result ≡ list_any (λ other. is_excluded_spec (exclusions_of utility) one.now other) before.now }
 {
-    let rules = utility.aparts();
-    before.iter().any(|other| is_apart(rules, one, other))
+    let rules = utility.exclusions();
+    before.iter().any(|other| is_excluded(rules, one, other))
 }
 
 // a use of a letter of the utility
@@ -108,11 +96,11 @@ fn known_fault(
     utility: Utility,
     before: &[Use],
     one: &Use,
-    row: Option<Row>,
+    option: Option<OptionSpec>,
 ) -> Result<Option<Usage>, Memory>
-    ensures { IfOk result (λ r. r ≡ known_spec utility before.now one.now row) }
+    ensures { IfOk result (λ r. r ≡ known_spec utility before.now one.now option) }
 {
-    if is_again(row, before, one.letter) {
+    if is_given_twice(option, before, one.letter) {
         return Ok(Some(Usage {
             kind: GIVEN_TWICE,
             word: one.word,
@@ -124,9 +112,9 @@ fn known_fault(
             word: one.word,
         }));
     }
-    match &one.got {
-        Got::Value(bytes, word) => {
-            let fits = form_fits(alloc, form_of(row), bytes.bytes())?;
+    match &one.argument {
+        OptionArgument::Value(bytes, word) => {
+            let fits = form_fits(alloc, form_of(option), bytes.bytes())?;
             if fits {
                 return Ok(None);
             }
@@ -135,9 +123,9 @@ fn known_fault(
                 word: *word,
             }))
         }
-        Got::Unknown => Ok(None),
-        Got::Bare => Ok(None),
-        Got::Missing => Ok(None),
+        OptionArgument::Unknown => Ok(None),
+        OptionArgument::Bare => Ok(None),
+        OptionArgument::Missing => Ok(None),
     }
 }
 
@@ -151,28 +139,28 @@ fn use_fault(
 ) -> Result<Option<Usage>, Memory>
     ensures { IfOk result (λ r. r ≡ use_spec utility before.now one.now) }
 {
-    match &one.got {
-        Got::Unknown => Ok(Some(Usage {
+    match &one.argument {
+        OptionArgument::Unknown => Ok(Some(Usage {
             kind: UNKNOWN_OPTION,
             word: one.word,
         })),
-        Got::Missing => Ok(Some(Usage {
+        OptionArgument::Missing => Ok(Some(Usage {
             kind: MISSING_ARGUMENT,
             word: one.word,
         })),
-        Got::Bare => known_fault(
+        OptionArgument::Bare => known_fault(
             alloc,
             utility,
             before,
             one,
-            row_of(utility.rows(), one.letter),
+            find_option(utility.options(), one.letter),
         ),
-        Got::Value(_, _) => known_fault(
+        OptionArgument::Value(_, _) => known_fault(
             alloc,
             utility,
             before,
             one,
-            row_of(utility.rows(), one.letter),
+            find_option(utility.options(), one.letter),
         ),
     }
 }
@@ -203,15 +191,15 @@ fn is_named(word: &[u8]) -> bool
     !is_dash(word) && word != b".".as_slice()
 }
 
-fn operand_fits(rest: Rest, uses: &[Use], word: &[u8]) -> bool
-    ensures { result ≡ operand_fits_spec rest uses.now word.now }
+fn operand_fits(rule: OperandRule, uses: &[Use], word: &[u8]) -> bool
+    ensures { result ≡ operand_fits_spec rule uses.now word.now }
 {
-    match rest {
-        Rest::Sfile => Name::read_sfile(word).is_some(),
-        Rest::Number => soak_number(word).is_some(),
-        Rest::OneWith(letter) => !has(uses, letter) || is_named(word),
-        Rest::Nothing => true,
-        Rest::Many => true,
+    match rule {
+        OperandRule::Sfile => Name::read_sfile(word).is_some(),
+        OperandRule::Number => soak_number(word).is_some(),
+        OperandRule::OneWith(letter) => !has(uses, letter) || is_named(word),
+        OperandRule::Nothing => true,
+        OperandRule::Many => true,
     }
 }
 
@@ -237,23 +225,22 @@ fn dash_with_other(before: &[Bytes], word: &[u8]) -> bool
 // the fault of an operand, judged after those before it
 #[tactic(auto, unfolding(crate::specs::Judge::operand_fault))]
 fn operand_fault(
-    rest: Rest,
-    uses: &[Use],
-    first: u64,
+    rule: OperandRule,
+    line: &CommandLine<'_>,
     before: &[Bytes],
     word: &[u8],
 ) -> Option<Usage>
-    requires { first + length before.now < 2 ^ 64 }
-    ensures { result ≡ operand_spec rest uses.now first before.now word.now }
+    requires { line.now.first + length before.now < 2 ^ 64 }
+    ensures { result ≡ operand_spec rule line.now.uses.now line.now.first before.now word.now }
 {
-    let here = first + before.len() as u64;
+    let here = line.first + before.len() as u64;
     if dash_with_other(before, word) {
         return Some(Usage {
             kind: EXCLUDE,
             word: here,
         });
     }
-    if operand_fits(rest, uses, word) {
+    if operand_fits(rule, line.uses, word) {
         return None;
     }
     Some(Usage {
@@ -262,13 +249,13 @@ fn operand_fault(
     })
 }
 
-/// The first fault of the operands, the first of which stands in word `first`.
-pub fn operands_fault(rest: Rest, uses: &[Use], first: u64, words: &[Bytes]) -> Option<Usage>
-    requires { first + length words.now < 2 ^ 64 }
-    ensures { result ≡ operands_spec rest uses.now first words.now }
+/// The first fault of the operands.
+pub fn operands_fault(rule: OperandRule, line: &CommandLine<'_>) -> Option<Usage>
+    ensures { result ≡ operands_spec rule line.now.uses.now line.now.first line.now.operands.now }
 {
+    let words = line.operands;
     'operands: for (i, word) in words.iter().enumerate() {
-        let found = operand_fault(rest, uses, first, &words[..i], word.bytes());
+        let found = operand_fault(rule, line, &words[..i], word.bytes());
         match found {
             Some(fault) => return Some(fault),
             None => {}
@@ -277,15 +264,15 @@ pub fn operands_fault(rest: Rest, uses: &[Use], first: u64, words: &[Bytes]) -> 
     None
 }
 
-fn wants(rest: Rest) -> bool
-    ensures { result ≡ wants_spec rest }
+fn wants(rule: OperandRule) -> bool
+    ensures { result ≡ wants_spec rule }
 {
-    match rest {
-        Rest::Nothing => false,
-        Rest::Sfile => true,
-        Rest::Number => true,
-        Rest::Many => true,
-        Rest::OneWith(_) => true,
+    match rule {
+        OperandRule::Nothing => false,
+        OperandRule::Sfile => true,
+        OperandRule::Number => true,
+        OperandRule::Many => true,
+        OperandRule::OneWith(_) => true,
     }
 }
 
@@ -304,79 +291,77 @@ fn all_met(utility: Utility, uses: &[Use]) -> bool
     utility.needs().iter().all(|need| met(uses, *need))
 }
 
-fn takes_one(rest: Rest, uses: &[Use]) -> bool
-    ensures { result ≡ takes_one_spec rest uses.now }
+fn takes_one(rule: OperandRule, uses: &[Use]) -> bool
+    ensures { result ≡ takes_one_spec rule uses.now }
 {
-    match rest {
-        Rest::Sfile => true,
-        Rest::Number => true,
-        Rest::OneWith(letter) => has(uses, letter),
-        Rest::Nothing => false,
-        Rest::Many => false,
+    match rule {
+        OperandRule::Sfile => true,
+        OperandRule::Number => true,
+        OperandRule::OneWith(letter) => has(uses, letter),
+        OperandRule::Nothing => false,
+        OperandRule::Many => false,
     }
 }
 
-fn too_many(rest: Rest, uses: &[Use], words: &[Bytes]) -> bool
-    ensures { result ≡ too_many_spec rest uses.now words.now }
+fn too_many(rule: OperandRule, uses: &[Use], words: &[Bytes]) -> bool
+    ensures { result ≡ too_many_spec rule uses.now words.now }
 {
     match words {
         [] => false,
-        [_] => !wants(rest),
-        _ => !wants(rest) || takes_one(rest, uses),
+        [_] => !wants(rule),
+        _ => !wants(rule) || takes_one(rule, uses),
     }
 }
 
-fn none_though_wanted(rest: Rest, words: &[Bytes]) -> bool
-    ensures { result ≡ none_though_wanted_spec rest words.now }
+fn none_though_wanted(rule: OperandRule, words: &[Bytes]) -> bool
+    ensures { result ≡ none_though_wanted_spec rule words.now }
 {
-    words.is_empty() && wants(rest)
+    words.is_empty() && wants(rule)
 }
 
 #[tactic(auto, unfolding(crate::specs::Judge::end_fault))]
-fn end_fault(utility: Utility, uses: &[Use], operands: &[Bytes], end: u64) -> Option<Usage>
-    ensures { result ≡ end_spec utility uses.now operands.now end }
+fn end_fault(utility: Utility, line: &CommandLine<'_>) -> Option<Usage>
+    ensures { result ≡ end_spec utility line.now.uses.now line.now.operands.now (end_of (line_of line.now)) }
 {
-    if none_though_wanted(utility.rest(), operands) {
+    let rule = utility.operand_rule();
+    let word = line.end();
+    if none_though_wanted(rule, line.operands) {
         return Some(Usage {
             kind: NO_OPERAND,
-            word: end,
+            word,
         });
     }
-    if !all_met(utility, uses) {
+    if !all_met(utility, line.uses) {
         return Some(Usage {
             kind: OPTION_NEEDED,
-            word: end,
+            word,
         });
     }
-    if too_many(utility.rest(), uses, operands) {
+    if too_many(rule, line.uses, line.operands) {
         return Some(Usage {
             kind: TOO_MANY,
-            word: end,
+            word,
         });
     }
     None
 }
 
-/// The first fault of a command line whose words end before number `end`.
+/// The first fault of a command line.
 #[tactic(auto, unfolding(crate::specs::Judge::first_fault))]
 pub fn first_fault(
     alloc: Global,
     utility: Utility,
-    uses: &[Use],
-    first: u64,
-    operands: &[Bytes],
-    end: u64,
+    line: &CommandLine<'_>,
 ) -> Result<Option<Usage>, Memory>
-    requires { first + length operands.now < 2 ^ 64 }
-    ensures { IfOk result (λ r. r ≡ first_spec utility (line uses.now first operands.now) end) }
+    ensures { IfOk result (λ r. r ≡ first_spec utility (line_of line.now) (end_of (line_of line.now))) }
 {
-    let of_uses = uses_fault(alloc, utility, uses)?;
+    let of_uses = uses_fault(alloc, utility, line.uses)?;
     match of_uses {
         Some(fault) => return Ok(Some(fault)),
         None => {}
     }
-    match operands_fault(utility.rest(), uses, first, operands) {
+    match operands_fault(utility.operand_rule(), line) {
         Some(fault) => Ok(Some(fault)),
-        None => Ok(end_fault(utility, uses, operands, end)),
+        None => Ok(end_fault(utility, line)),
     }
 }

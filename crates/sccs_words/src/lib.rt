@@ -1,6 +1,7 @@
 //! The words of a command line, and what they mean: POSIX, Shell and Utilities, and the Utility Syntax Guidelines.
 #![tactic(auto)]
 
+mod command_lines;
 mod commands;
 mod judging;
 mod laws;
@@ -17,6 +18,7 @@ pub use commands::{
     ValWords, WordsFault,
 };
 pub use laws::{
-    faults_have_a_place, joined_options_are_options_apart, numbers_of_words_do_not_matter,
+    faults_have_a_place, joined_options_are_options_apart, mr_words_are_between_gaps,
+    numbers_of_words_do_not_matter,
 };
 pub use meanings::read_words;

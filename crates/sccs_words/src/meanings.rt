@@ -1,10 +1,14 @@
 ghost use Rattle.std.specs.Prelude.{◌≡◌, ◌+◌, ◌^◌, ◌<◌, length, option_and_then, IfOk};
+ghost use Rattle.sccs_words.specs.Letters as opt;
 ghost use Rattle.sccs_words.specs.Meaning.{Gives, meaning, first_of, with_name, with_sid, with_number, utility_of as utility_spec, command_of as command_spec, refusal_of as refusal_spec, line_meaning as line_spec};
 ghost use Rattle.sccs_words.specs.Records.{value_of as value_spec};
-ghost use Rattle.sccs_words.specs.Scan.{line};
+ghost use Rattle.sccs_words.specs.Scan.{end_of};
+ghost use Rattle.sccs_words.specs.Scanned.{line_of};
+ghost use Rattle.sccs_words.specs.ValidValues.{HasValidValues};
 ghost use Rattle.sccs_words.specs.Values.{name_value, sid_value as sid_spec, soak_number as soak_spec};
 
-use crate::commands::{Command, Usage, WordsFault};
+use crate::command_lines::CommandLine;
+use crate::commands::{Command, NO_OPERAND, OPTION_NEEDED, UNKNOWN_UTILITY, Usage, WordsFault};
 use crate::judging::{first_fault, has};
 use crate::records::{
     admin_words, delta_words, get_words, name_in, operands_of, prs_words, sid_at, unget_words,
@@ -15,13 +19,6 @@ use crate::tables::Utility;
 use crate::values::soak_number;
 use sccs_base::{Bytes, Memory, Name, Words};
 use std::alloc::Global;
-
-// the kinds of faults that are answered here
-const UNKNOWN_UTILITY: u8 = 1;
-
-const NO_OPERAND: u8 = 7;
-
-const OPTION_NEEDED: u8 = 8;
 
 #[tactic(auto, unfolding(crate::specs::Meaning::utility_of))]
 fn utility_of(word: &[u8]) -> Option<Utility>
@@ -76,53 +73,46 @@ fn first_number(operands: &[Bytes]) -> Option<u64>
     }
 }
 
-fn delta_of(
-    alloc: Global,
-    uses: &[Use],
-    operands: &[Bytes],
-    end: u64,
-) -> Result<Command, WordsFault>
-    ensures { Gives result (with_name uses.now end (option_and_then name_value (first_of operands.now))) }
+fn delta_of(alloc: Global, line: &CommandLine<'_>) -> Result<Command, WordsFault>
+    ensures value { Gives result (with_name line.now.uses.now (end_of (line_of line.now)) (option_and_then name_value (first_of line.now.operands.now))) }
+    ensures valid { IfOk result HasValidValues }
 {
-    match first_name(operands) {
+    match first_name(line.operands) {
         None => Err(WordsFault::Usage(Usage {
             kind: NO_OPERAND,
-            word: end,
+            word: line.end(),
         })),
         Some(name) => {
-            let words = delta_words(alloc, uses)?;
+            let words = delta_words(alloc, line.uses)?;
             Ok(Command::Delta(words, name))
         }
     }
 }
 
-fn rmdel_of(
-    alloc: Global,
-    uses: &[Use],
-    operands: &[Bytes],
-    end: u64,
-) -> Result<Command, WordsFault>
-    ensures { Gives result (with_sid operands.now end (option_and_then sid_spec (value_spec 114 uses.now))) }
+fn rmdel_of(alloc: Global, line: &CommandLine<'_>) -> Result<Command, WordsFault>
+    ensures value { Gives result (with_sid line.now.operands.now (end_of (line_of line.now)) (option_and_then sid_spec (value_spec opt.r line.now.uses.now))) }
+    ensures valid { IfOk result HasValidValues }
 {
-    match sid_at(uses, b'r') {
+    match sid_at(line.uses, b'r') {
         None => Err(WordsFault::Usage(Usage {
             kind: OPTION_NEEDED,
-            word: end,
+            word: line.end(),
         })),
         Some(sid) => {
-            let operands = operands_of(alloc, operands)?;
+            let operands = operands_of(alloc, line.operands)?;
             Ok(Command::Rmdel(sid, operands))
         }
     }
 }
 
-fn soak_of(operands: &[Bytes], end: u64) -> Result<Command, WordsFault>
-    ensures { Gives result (with_number end (option_and_then soak_spec (first_of operands.now))) }
+fn soak_of(line: &CommandLine<'_>) -> Result<Command, WordsFault>
+    ensures value { Gives result (with_number (end_of (line_of line.now)) (option_and_then soak_spec (first_of line.now.operands.now))) }
+    ensures valid { IfOk result HasValidValues }
 {
-    match first_number(operands) {
+    match first_number(line.operands) {
         None => Err(WordsFault::Usage(Usage {
             kind: NO_OPERAND,
-            word: end,
+            word: line.end(),
         })),
         Some(steps) => Ok(Command::Soak(steps)),
     }
@@ -132,14 +122,13 @@ fn soak_of(operands: &[Bytes], end: u64) -> Result<Command, WordsFault>
 fn command_of(
     alloc: Global,
     utility: Utility,
-    uses: &[Use],
-    first: u64,
-    operands: &[Bytes],
-    end: u64,
+    line: &CommandLine<'_>,
 ) -> Result<Command, WordsFault>
-    requires { first + length operands.now < 2 ^ 64 }
-    ensures { Gives result (command_spec utility (line uses.now first operands.now) end) }
+    ensures value { Gives result (command_spec utility (line_of line.now) (end_of (line_of line.now))) }
+    ensures valid { IfOk result HasValidValues }
 {
+    let uses = line.uses;
+    let operands = line.operands;
     match utility {
         Utility::Admin => {
             let words = admin_words(alloc, uses)?;
@@ -149,19 +138,19 @@ fn command_of(
             let words = get_words(alloc, uses)?;
             Ok(Command::Get(words, operands_of(alloc, operands)?))
         }
-        Utility::Delta => delta_of(alloc, uses, operands, end),
+        Utility::Delta => delta_of(alloc, line),
         Utility::Unget => Ok(Command::Unget(unget_words(uses), operands_of(alloc, operands)?)),
         Utility::Sact => Ok(Command::Sact(operands_of(alloc, operands)?)),
-        Utility::Rmdel => rmdel_of(alloc, uses, operands, end),
+        Utility::Rmdel => rmdel_of(alloc, line),
         Utility::Prs => {
             let words = prs_words(alloc, uses)?;
             Ok(Command::Prs(words, operands_of(alloc, operands)?))
         }
-        Utility::Val => Ok(Command::Val(val_words(alloc, uses, first, operands)?)),
+        Utility::Val => Ok(Command::Val(val_words(alloc, line)?)),
         Utility::What => Ok(Command::What(has(uses, b's'), operands_of(alloc, operands)?)),
         Utility::Recover => Ok(Command::Recover(operands_of(alloc, operands)?)),
         Utility::Batch => Ok(Command::Batch),
-        Utility::Soak => soak_of(operands, end),
+        Utility::Soak => soak_of(line),
     }
 }
 
@@ -169,17 +158,13 @@ fn command_of(
 fn refusal_of(
     alloc: Global,
     utility: Utility,
-    uses: &[Use],
-    first: u64,
-    operands: &[Bytes],
-    end: u64,
+    line: &CommandLine<'_>,
 ) -> Result<Option<Usage>, Memory>
-    requires { first + length operands.now < 2 ^ 64 }
-    ensures { IfOk result (λ r. r ≡ refusal_spec utility (line uses.now first operands.now) end) }
+    ensures { IfOk result (λ r. r ≡ refusal_spec utility (line_of line.now) (end_of (line_of line.now))) }
 {
     match utility {
         Utility::Val => Ok(None),
-        _ => first_fault(alloc, utility, uses, first, operands, end),
+        _ => first_fault(alloc, utility, line),
     }
 }
 
@@ -187,26 +172,25 @@ fn refusal_of(
 fn line_meaning(
     alloc: Global,
     utility: Utility,
-    uses: &[Use],
-    first: u64,
-    operands: &[Bytes],
-    end: u64,
+    line: &CommandLine<'_>,
 ) -> Result<Command, WordsFault>
-    requires { first + length operands.now < 2 ^ 64 }
-    ensures { Gives result (line_spec utility (line uses.now first operands.now) end) }
+    ensures value { Gives result (line_spec utility (line_of line.now) (end_of (line_of line.now))) }
+    ensures valid { IfOk result HasValidValues }
 {
-    let fault = refusal_of(alloc, utility, uses, first, operands, end)?;
+    let fault = refusal_of(alloc, utility, line)?;
     match fault {
         Some(usage) => Err(WordsFault::Usage(usage)),
-        None => command_of(alloc, utility, uses, first, operands, end),
+        None => command_of(alloc, utility, line),
     }
 }
 
 /// The command that words are, the utility's word among them, or their first usage fault: POSIX,
-/// Shell and Utilities, the synopsis of each utility.
+/// Shell and Utilities, the synopsis of each utility. Each SID, moment, release and list of the command
+/// is a valid one.
 #[tactic(auto, unfolding(crate::specs::Meaning::meaning))]
 pub fn read_words(alloc: Global, words: &Words) -> Result<Command, WordsFault>
-    ensures { Gives result (meaning words.now) }
+    ensures value { Gives result (meaning words.now) }
+    ensures valid { IfOk result HasValidValues }
 {
     let (utility, rest) = match words.items() {
         [] => {
@@ -225,15 +209,11 @@ pub fn read_words(alloc: Global, words: &Words) -> Result<Command, WordsFault>
             Some(utility) => (utility, rest),
         },
     };
-    let scanned = scan_words(alloc, utility.rows(), 2, rest)?;
-    let first = 2 + scanned.before as u64;
-    let end = rest.len() as u64 + 2;
-    line_meaning(
-        alloc,
-        utility,
-        &scanned.uses,
-        first,
-        &rest[scanned.before..],
-        end,
-    )
+    let scanned = scan_words(alloc, utility.options(), 2, rest)?;
+    let line = CommandLine {
+        uses: &scanned.uses,
+        first: 2 + scanned.before as u64,
+        operands: &rest[scanned.before..],
+    };
+    line_meaning(alloc, utility, &line)
 }

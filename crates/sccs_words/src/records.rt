@@ -1,27 +1,38 @@
-ghost use Rattle.std.specs.Prelude.{◌≡◌, ◌+◌, ◌^◌, ◌<◌, ◌≤◌, length, option_map, option_and_then, IfOk};
+ghost use Rattle.std.specs.Prelude.{◌≡◌, ◌+◌, ◌^◌, ◌<◌, ◌≤◌, length, option_map, option_and_then, All, IfOk, IfSome};
+ghost use Rattle.sccs_sid.specs.Sid.{IsComponent, IsSid};
+ghost use Rattle.sccs_sid.specs.Spec.{IsSpec};
+ghost use Rattle.sccs_sid.specs.SidLists.{IsRange};
+ghost use Rattle.sccs_sid.specs.Moment.{IsMoment};
+ghost use Rattle.sccs_words.specs.ValidValues.{AreGetValues, ArePrsValues};
 ghost use Rattle.sccs_words.specs.Records.{value_in as value_in_spec, value_of as value_spec, values_of as values_spec, mrs_of, lines_in, given_of as given_spec, comment_of as comment_spec, get_words as get_spec, delta_words as delta_spec, unget_words as unget_spec, prs_words as prs_spec, admin_words as admin_spec, val_words as val_spec, operands_of as operands_spec, is_from_input as is_from_input_spec, is_option_fault, bit as bit_spec};
 ghost use Rattle.sccs_words.specs.Values.{sid_value as sid_spec, spec_value as spec_spec, moment_value as moment_spec, list_value as list_spec, release_value as release_spec, name_value};
-ghost use Rattle.sccs_words.specs.Scan.{line};
+ghost use Rattle.sccs_words.specs.Scanned.{line_of};
 
+use crate::command_lines::CommandLine;
 use crate::commands::{
     AdminWords, DeltaWords, GetWords, Given, Operands, PrsWords, UngetWords, ValWords,
 };
 use crate::judging::{has, is_dash, operands_fault, uses_fault};
-use crate::scanning::{Got, Use};
-use crate::tables::{Rest, Utility};
+use crate::scanning::{OptionArgument, Use};
+use crate::tables::{OperandRule, Utility};
 use crate::values::{list_value, moment_value, mr_words, release_value, sid_value, spec_value};
 use sccs_base::{Bytes, Memory, Name, Text, Words};
 use sccs_sid::{Moment, Sid, SidList, Spec};
 use std::alloc::Global;
 
-fn value_in(got: &Got) -> Option<&[u8]>
-    ensures { option_map (λ bytes. bytes.now) result ≡ value_in_spec got.now }
+// the bits of val's faults
+const OPTION_FAULT: u8 = 0x40;
+
+const NO_OPERAND_BIT: u8 = 0x80;
+
+fn value_in(argument: &OptionArgument) -> Option<&[u8]>
+    ensures { option_map (λ bytes. bytes.now) result ≡ value_in_spec argument.now }
 {
-    match got {
-        Got::Value(bytes, _) => Some(bytes.bytes()),
-        Got::Unknown => None,
-        Got::Bare => None,
-        Got::Missing => None,
+    match argument {
+        OptionArgument::Value(bytes, _) => Some(bytes.bytes()),
+        OptionArgument::Unknown => None,
+        OptionArgument::Bare => None,
+        OptionArgument::Missing => None,
     }
 }
 
@@ -32,7 +43,7 @@ pub fn value_of(uses: &[Use], letter: u8) -> Option<&[u8]>
 {
     for one in uses {
         if one.letter == letter {
-            return value_in(&one.got);
+            return value_in(&one.argument);
         }
     }
     None
@@ -46,7 +57,7 @@ fn values_of(alloc: Global, uses: &[Use], letter: u8) -> Result<Words, Memory>
     let mut values = Words::new(alloc);
     for one in uses {
         let found = if one.letter == letter {
-            value_in(&one.got)
+            value_in(&one.argument)
         } else {
             None
         };
@@ -59,7 +70,8 @@ fn values_of(alloc: Global, uses: &[Use], letter: u8) -> Result<Words, Memory>
 }
 
 pub fn sid_at(uses: &[Use], letter: u8) -> Option<Sid>
-    ensures { result ≡ option_and_then sid_spec (value_spec letter uses.now) }
+    ensures value { result ≡ option_and_then sid_spec (value_spec letter uses.now) }
+    ensures valid { IfSome result IsSid }
 {
     match value_of(uses, letter) {
         Some(bytes) => sid_value(bytes),
@@ -68,7 +80,8 @@ pub fn sid_at(uses: &[Use], letter: u8) -> Option<Sid>
 }
 
 fn spec_at(uses: &[Use], letter: u8) -> Option<Spec>
-    ensures { result ≡ option_and_then spec_spec (value_spec letter uses.now) }
+    ensures value { result ≡ option_and_then spec_spec (value_spec letter uses.now) }
+    ensures valid { IfSome result IsSpec }
 {
     match value_of(uses, letter) {
         Some(bytes) => spec_value(bytes),
@@ -77,7 +90,8 @@ fn spec_at(uses: &[Use], letter: u8) -> Option<Spec>
 }
 
 fn moment_at(uses: &[Use], letter: u8) -> Option<Moment>
-    ensures { result ≡ option_and_then moment_spec (value_spec letter uses.now) }
+    ensures value { result ≡ option_and_then moment_spec (value_spec letter uses.now) }
+    ensures valid { IfSome result IsMoment }
 {
     match value_of(uses, letter) {
         Some(bytes) => moment_value(bytes),
@@ -86,7 +100,8 @@ fn moment_at(uses: &[Use], letter: u8) -> Option<Moment>
 }
 
 fn release_at(uses: &[Use], letter: u8) -> Option<u16>
-    ensures { result ≡ option_and_then release_spec (value_spec letter uses.now) }
+    ensures value { result ≡ option_and_then release_spec (value_spec letter uses.now) }
+    ensures valid { IfSome result IsComponent }
 {
     match value_of(uses, letter) {
         Some(bytes) => release_value(bytes),
@@ -95,7 +110,8 @@ fn release_at(uses: &[Use], letter: u8) -> Option<u16>
 }
 
 fn list_at(alloc: Global, uses: &[Use], letter: u8) -> Result<Option<SidList>, Memory>
-    ensures { IfOk result (λ r. r ≡ option_and_then list_spec (value_spec letter uses.now)) }
+    ensures value { IfOk result (λ r. r ≡ option_and_then list_spec (value_spec letter uses.now)) }
+    ensures valid { IfOk result (λ r. IfSome r (All IsRange)) }
 {
     match value_of(uses, letter) {
         Some(bytes) => list_value(alloc, bytes),
@@ -171,7 +187,8 @@ fn comment_of(alloc: Global, uses: &[Use]) -> Result<Option<Text>, Memory>
 }
 
 pub fn get_words(alloc: Global, uses: &[Use]) -> Result<GetWords, Memory>
-    ensures { IfOk result (λ r. r ≡ get_spec uses.now) }
+    ensures value { IfOk result (λ r. r ≡ get_spec uses.now) }
+    ensures valid { IfOk result AreGetValues }
 {
     Ok(GetWords {
         branch: has(uses, b'b'),
@@ -191,7 +208,8 @@ pub fn get_words(alloc: Global, uses: &[Use]) -> Result<GetWords, Memory>
 }
 
 pub fn delta_words(alloc: Global, uses: &[Use]) -> Result<DeltaWords, Memory>
-    ensures { IfOk result (λ r. r ≡ delta_spec uses.now) }
+    ensures value { IfOk result (λ r. r ≡ delta_spec uses.now) }
+    ensures valid { IfOk result (λ r. IfSome r.sid IsSid) }
 {
     Ok(DeltaWords {
         mrs: mrs_at(alloc, uses, b'm')?,
@@ -203,7 +221,8 @@ pub fn delta_words(alloc: Global, uses: &[Use]) -> Result<DeltaWords, Memory>
 }
 
 pub fn unget_words(uses: &[Use]) -> UngetWords
-    ensures { result ≡ unget_spec uses.now }
+    ensures value { result ≡ unget_spec uses.now }
+    ensures valid { IfSome result.sid IsSid }
 {
     UngetWords {
         keep: has(uses, b'n'),
@@ -213,7 +232,8 @@ pub fn unget_words(uses: &[Use]) -> UngetWords
 }
 
 pub fn prs_words(alloc: Global, uses: &[Use]) -> Result<PrsWords, Memory>
-    ensures { IfOk result (λ r. r ≡ prs_spec uses.now) }
+    ensures value { IfOk result (λ r. r ≡ prs_spec uses.now) }
+    ensures valid { IfOk result ArePrsValues }
 {
     Ok(PrsWords {
         all: has(uses, b'a'),
@@ -227,7 +247,8 @@ pub fn prs_words(alloc: Global, uses: &[Use]) -> Result<PrsWords, Memory>
 }
 
 pub fn admin_words(alloc: Global, uses: &[Use]) -> Result<AdminWords, Memory>
-    ensures { IfOk result (λ r. r ≡ admin_spec uses.now) }
+    ensures value { IfOk result (λ r. r ≡ admin_spec uses.now) }
+    ensures valid { IfOk result (λ r. IfSome r.release IsComponent) }
 {
     Ok(AdminWords {
         add: values_of(alloc, uses, b'a')?,
@@ -282,17 +303,11 @@ pub fn operands_of(alloc: Global, words: &[Bytes]) -> Result<Operands, Memory>
 }
 
 // whether an option of val is at fault, or `-` stands with another operand
-fn has_option_fault(
-    alloc: Global,
-    uses: &[Use],
-    first: u64,
-    operands: &[Bytes],
-) -> Result<bool, Memory>
-    requires { first + length operands.now < 2 ^ 64 }
-    ensures { IfOk result (λ r. r ≡ is_option_fault (line uses.now first operands.now)) }
+fn has_option_fault(alloc: Global, line: &CommandLine<'_>) -> Result<bool, Memory>
+    ensures { IfOk result (λ r. r ≡ is_option_fault (line_of line.now)) }
 {
-    let of_uses = uses_fault(alloc, Utility::Val, uses)?;
-    let of_operands = operands_fault(Rest::Many, uses, first, operands);
+    let of_uses = uses_fault(alloc, Utility::Val, line.uses)?;
+    let of_operands = operands_fault(OperandRule::Many, line);
     Ok(of_uses.is_some() || of_operands.is_some())
 }
 
@@ -303,23 +318,17 @@ fn bit(holds: bool, value: u8) -> u8
     if holds { value } else { 0 }
 }
 
-pub fn val_words(
-    alloc: Global,
-    uses: &[Use],
-    first: u64,
-    operands: &[Bytes],
-) -> Result<ValWords, Memory>
-    requires { first + length operands.now < 2 ^ 64 }
-    ensures { IfOk result (λ r. r ≡ val_spec (line uses.now first operands.now)) }
+pub fn val_words(alloc: Global, line: &CommandLine<'_>) -> Result<ValWords, Memory>
+    ensures { IfOk result (λ r. r ≡ val_spec (line_of line.now)) }
 {
-    let option = bit(has_option_fault(alloc, uses, first, operands)?, 64);
-    let none = bit(operands.is_empty(), 128);
+    let option = bit(has_option_fault(alloc, line)?, OPTION_FAULT);
+    let none = bit(line.operands.is_empty(), NO_OPERAND_BIT);
     Ok(ValWords {
         fault: option + none,
-        silent: has(uses, b's'),
-        sid: bytes_at(alloc, uses, b'r')?,
-        kind: bytes_at(alloc, uses, b'y')?,
-        module: bytes_at(alloc, uses, b'm')?,
-        operands: operands_of(alloc, operands)?,
+        silent: has(line.uses, b's'),
+        sid: bytes_at(alloc, line.uses, b'r')?,
+        kind: bytes_at(alloc, line.uses, b'y')?,
+        module: bytes_at(alloc, line.uses, b'm')?,
+        operands: operands_of(alloc, line.operands)?,
     })
 }

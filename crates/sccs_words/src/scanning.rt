@@ -1,29 +1,29 @@
 ghost use Rattle.std.specs.Prelude.{◌≡◌, ℕ, ◌+◌, ◌^◌, ◌<◌, ◌≤◌, List, [], None, length, drop, IfOk};
-ghost use Rattle.sccs_words.specs.Synopsis.{row_of as row_spec};
+ghost use Rattle.sccs_words.specs.Synopsis.{find_option as find_option_spec};
 ghost use Rattle.sccs_words.specs.Scan.{turn as turn_spec, letters as letters_spec, scanned, kind_of, in_word as in_word_spec, in_next as in_next_spec};
 ghost use Rattle.sccs_words.specs.Scanned.{kind_view, line_view};
 
-use crate::tables::Row;
+use crate::tables::OptionSpec;
 use sccs_base::{Bytes, Memory};
 use std::alloc::Global;
 
-/// What an option got: no letter of this utility, no value, no value though it needs one, or the
+/// The argument of an option: no letter of this utility, no value, no value though it needs one, or the
 /// value and the number of its word.
 #[derive(Drop)]
-pub enum Got {
+pub enum OptionArgument {
     Unknown,
     Bare,
     Missing,
     Value(Bytes, u64),
 }
 
-/// A use of an option: its letter, the number of the word in which the letter stands, and what it
-/// got.
+/// A use of an option: its letter, the number of the word in which the letter stands, and its
+/// argument.
 #[derive(Drop)]
 pub struct Use {
     pub letter: u8,
     pub word: u64,
-    pub got: Got,
+    pub argument: OptionArgument,
 }
 
 /// What a letter was: an option after which the word goes on, the word's last, or one whose value
@@ -50,32 +50,32 @@ pub struct Scanned {
 }
 
 /// The option of a letter.
-#[tactic(auto, unfolding(crate::specs::Synopsis::row_of))]
-pub fn row_of(rows: &[Row], letter: u8) -> Option<Row>
-    ensures { result ≡ row_spec rows.now letter }
+#[tactic(auto, unfolding(crate::specs::Synopsis::find_option))]
+pub fn find_option(options: &[OptionSpec], letter: u8) -> Option<OptionSpec>
+    ensures { result ≡ find_option_spec options.now letter }
 {
-    for row in rows {
-        let found = match row {
-            Row::Plain(own) => *own,
-            Row::Joined(own, _) => *own,
-            Row::Valued(own, _) => *own,
-            Row::Repeated(own, _) => *own,
+    for option in options {
+        let found = match option {
+            OptionSpec::Plain(own) => *own,
+            OptionSpec::Joined(own, _) => *own,
+            OptionSpec::Valued(own, _) => *own,
+            OptionSpec::Repeated(own, _) => *own,
         };
         if found == letter {
-            return Some(*row);
+            return Some(*option);
         }
     }
     None
 }
 
 // a value in the rest of the word, or none
-fn in_word(alloc: Global, number: u64, rest: &[u8]) -> Result<Got, Memory>
-    ensures { IfOk result (λ got. got ≡ in_word_spec number rest.now) }
+fn in_word(alloc: Global, number: u64, rest: &[u8]) -> Result<OptionArgument, Memory>
+    ensures { IfOk result (λ argument. argument ≡ in_word_spec number rest.now) }
 {
     if rest.is_empty() {
-        return Ok(Got::Bare);
+        return Ok(OptionArgument::Bare);
     }
-    Ok(Got::Value(Bytes::new(alloc, rest)?, number))
+    Ok(OptionArgument::Value(Bytes::new(alloc, rest)?, number))
 }
 
 // a value in the rest of the word, or in the next word
@@ -85,46 +85,46 @@ fn in_next(alloc: Global, letter: u8, number: u64, rest: &[u8]) -> Result<Turn, 
     if rest.is_empty() {
         return Ok(Turn::Wants(letter));
     }
-    let got = Got::Value(Bytes::new(alloc, rest)?, number);
+    let argument = OptionArgument::Value(Bytes::new(alloc, rest)?, number);
     Ok(Turn::Last(Use {
         letter,
         word: number,
-        got,
+        argument,
     }))
 }
 
-// what a letter of a word is, with the bytes behind it
+// what a letter of a word is, with the bytes after it
 #[tactic(auto, unfolding(crate::specs::Scan::turn))]
 fn turn_of(
     alloc: Global,
-    rows: &[Row],
+    options: &[OptionSpec],
     number: u64,
     letter: u8,
     rest: &[u8],
 ) -> Result<Turn, Memory>
-    ensures { IfOk result (λ turn. turn ≡ turn_spec rows.now number letter rest.now) }
+    ensures { IfOk result (λ turn. turn ≡ turn_spec options.now number letter rest.now) }
 {
-    match row_of(rows, letter) {
+    match find_option(options, letter) {
         None => Ok(Turn::On(Use {
             letter,
             word: number,
-            got: Got::Unknown,
+            argument: OptionArgument::Unknown,
         })),
-        Some(Row::Plain(_)) => Ok(Turn::On(Use {
+        Some(OptionSpec::Plain(_)) => Ok(Turn::On(Use {
             letter,
             word: number,
-            got: Got::Bare,
+            argument: OptionArgument::Bare,
         })),
-        Some(Row::Joined(_, _)) => {
-            let got = in_word(alloc, number, rest)?;
+        Some(OptionSpec::Joined(_, _)) => {
+            let argument = in_word(alloc, number, rest)?;
             Ok(Turn::Last(Use {
                 letter,
                 word: number,
-                got,
+                argument,
             }))
         }
-        Some(Row::Valued(_, _)) => in_next(alloc, letter, number, rest),
-        Some(Row::Repeated(_, _)) => in_next(alloc, letter, number, rest),
+        Some(OptionSpec::Valued(_, _)) => in_next(alloc, letter, number, rest),
+        Some(OptionSpec::Repeated(_, _)) => in_next(alloc, letter, number, rest),
     }
 }
 
@@ -132,17 +132,17 @@ fn turn_of(
 #[tactic(auto, unfolding(crate::specs::Scan::letters))]
 fn letters(
     alloc: Global,
-    rows: &[Row],
+    options: &[OptionSpec],
     number: u64,
     bytes: &[u8],
     uses: &mut Vec<Use>,
 ) -> Result<Option<u8>, Memory>
     ensures { IfOk result (λ wants.
-        (uses.new.items, wants) ≡ letters_spec rows.now number uses.old.items bytes.now) }
+        (uses.new.items, wants) ≡ letters_spec options.now number uses.old.items bytes.now) }
 {
     let mut rest = bytes;
     'word: while let [letter, after @ ..] = rest {
-        match turn_of(alloc, rows, number, *letter, after)? {
+        match turn_of(alloc, options, number, *letter, after)? {
             Turn::On(one) => uses.push(one)?,
             Turn::Last(one) => {
                 uses.push(one)?;
@@ -170,7 +170,7 @@ fn word_kind(word: &[u8]) -> WordKind<'_>
 /// Reads options and finds the operands: the words from a number on.
 pub fn scan_words(
     alloc: Global,
-    rows: &[Row],
+    options: &[OptionSpec],
     number: u64,
     words: &[Bytes],
 ) -> Result<Scanned, Memory>
@@ -178,7 +178,7 @@ pub fn scan_words(
     requires high { number + length words.now < 2 ^ 63 }
     ensures within { IfOk result (λ s. s.before ≤ length words.now) }
     ensures value { IfOk result (λ s.
-        line_view number words.now s ≡ scanned rows.now number [] None words.now) }
+        line_view number words.now s ≡ scanned options.now number [] None words.now) }
 {
     let mut uses = Vec::new(alloc);
     let mut waits = None;
@@ -192,13 +192,13 @@ pub fn scan_words(
                 uses.push(Use {
                     letter,
                     word: here - 1,
-                    got: Got::Value(value, here),
+                    argument: OptionArgument::Value(value, here),
                 })?;
                 waits = None;
             }
             None => match word_kind(word) {
                 WordKind::Letters(bytes) => {
-                    waits = letters(alloc, rows, here, bytes, &mut uses)?;
+                    waits = letters(alloc, options, here, bytes, &mut uses)?;
                 }
                 WordKind::Ends => return Ok(Scanned {
                     uses,
@@ -214,7 +214,7 @@ pub fn scan_words(
         Some(letter) => uses.push(Use {
             letter,
             word: number + i as u64 - 1,
-            got: Got::Missing,
+            argument: OptionArgument::Missing,
         })?,
     }
     Ok(Scanned { uses, before: i })

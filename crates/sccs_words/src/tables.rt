@@ -1,10 +1,10 @@
 ghost use Rattle.std.specs.Prelude.{◌≡◌};
-ghost use Rattle.sccs_words.specs.Synopsis.{rows_of, aparts_of, needs_of, rest_of};
+ghost use Rattle.sccs_words.specs.Synopsis.{options_of, exclusions_of, needs_of, operand_rule_of};
 
 /// An option: without a value; with one in the rest of the word or none; with one, there or in the
 /// next word; the same, and it may repeat.
 #[derive(Clone, Copy, Debug, PartialEq, Eq)]
-pub enum Row {
+pub enum OptionSpec {
     Plain(u8),
     Joined(u8, Form),
     Valued(u8, Form),
@@ -29,7 +29,7 @@ pub enum Form {
 /// Options that exclude each other: these two; the first without a value and the second; the one
 /// and any other.
 #[derive(Clone, Copy, Debug, PartialEq, Eq)]
-pub enum Apart {
+pub enum Exclusion {
     Both(u8, u8),
     Bare(u8, u8),
     Alone(u8),
@@ -45,7 +45,7 @@ pub enum Need {
 /// Operands: none; one s-file; one number; one or more; one or more, and with this option one that
 /// is neither `.` nor `-`.
 #[derive(Clone, Copy, Debug, PartialEq, Eq)]
-pub enum Rest {
+pub enum OperandRule {
     Nothing,
     Sfile,
     Number,
@@ -70,86 +70,86 @@ pub enum Utility {
     Soak,
 }
 
-const ADMIN: [Row; 12] = [
-    Row::Repeated(b'a', Form::User),
-    Row::Repeated(b'd', Form::Flag),
-    Row::Repeated(b'e', Form::User),
-    Row::Repeated(b'f', Form::Flag),
-    Row::Plain(b'h'),
-    Row::Joined(b'i', Form::File),
-    Row::Valued(b'm', Form::Mrs),
-    Row::Plain(b'n'),
-    Row::Valued(b'r', Form::Release),
-    Row::Joined(b't', Form::File),
-    Row::Joined(b'y', Form::Any),
-    Row::Plain(b'z'),
+const ADMIN: [OptionSpec; 12] = [
+    OptionSpec::Repeated(b'a', Form::User),
+    OptionSpec::Repeated(b'd', Form::Flag),
+    OptionSpec::Repeated(b'e', Form::User),
+    OptionSpec::Repeated(b'f', Form::Flag),
+    OptionSpec::Plain(b'h'),
+    OptionSpec::Joined(b'i', Form::File),
+    OptionSpec::Valued(b'm', Form::Mrs),
+    OptionSpec::Plain(b'n'),
+    OptionSpec::Valued(b'r', Form::Release),
+    OptionSpec::Joined(b't', Form::File),
+    OptionSpec::Joined(b'y', Form::Any),
+    OptionSpec::Plain(b'z'),
 ];
 
-const GET: [Row; 13] = [
-    Row::Plain(b'b'),
-    Row::Valued(b'c', Form::Cutoff),
-    Row::Plain(b'e'),
-    Row::Plain(b'g'),
-    Row::Valued(b'i', Form::List),
-    Row::Plain(b'k'),
-    Row::Plain(b'm'),
-    Row::Plain(b'n'),
-    Row::Plain(b'p'),
-    Row::Valued(b'r', Form::Spec),
-    Row::Plain(b's'),
-    Row::Plain(b't'),
-    Row::Valued(b'x', Form::List),
+const GET: [OptionSpec; 13] = [
+    OptionSpec::Plain(b'b'),
+    OptionSpec::Valued(b'c', Form::Cutoff),
+    OptionSpec::Plain(b'e'),
+    OptionSpec::Plain(b'g'),
+    OptionSpec::Valued(b'i', Form::List),
+    OptionSpec::Plain(b'k'),
+    OptionSpec::Plain(b'm'),
+    OptionSpec::Plain(b'n'),
+    OptionSpec::Plain(b'p'),
+    OptionSpec::Valued(b'r', Form::Spec),
+    OptionSpec::Plain(b's'),
+    OptionSpec::Plain(b't'),
+    OptionSpec::Valued(b'x', Form::List),
 ];
 
-const DELTA: [Row; 5] = [
-    Row::Valued(b'm', Form::Mrs),
-    Row::Plain(b'n'),
-    Row::Valued(b'r', Form::Sid),
-    Row::Plain(b's'),
-    Row::Joined(b'y', Form::Any),
+const DELTA: [OptionSpec; 5] = [
+    OptionSpec::Valued(b'm', Form::Mrs),
+    OptionSpec::Plain(b'n'),
+    OptionSpec::Valued(b'r', Form::Sid),
+    OptionSpec::Plain(b's'),
+    OptionSpec::Joined(b'y', Form::Any),
 ];
 
-const UNGET: [Row; 3] = [
-    Row::Plain(b'n'),
-    Row::Valued(b'r', Form::Sid),
-    Row::Plain(b's'),
+const UNGET: [OptionSpec; 3] = [
+    OptionSpec::Plain(b'n'),
+    OptionSpec::Valued(b'r', Form::Sid),
+    OptionSpec::Plain(b's'),
 ];
 
-const RMDEL: [Row; 1] = [Row::Valued(b'r', Form::Sid)];
+const RMDEL: [OptionSpec; 1] = [OptionSpec::Valued(b'r', Form::Sid)];
 
-const PRS: [Row; 6] = [
-    Row::Plain(b'a'),
-    Row::Valued(b'c', Form::Cutoff),
-    Row::Valued(b'd', Form::Any),
-    Row::Plain(b'e'),
-    Row::Plain(b'l'),
-    Row::Joined(b'r', Form::Sid),
+const PRS: [OptionSpec; 6] = [
+    OptionSpec::Plain(b'a'),
+    OptionSpec::Valued(b'c', Form::Cutoff),
+    OptionSpec::Valued(b'd', Form::Any),
+    OptionSpec::Plain(b'e'),
+    OptionSpec::Plain(b'l'),
+    OptionSpec::Joined(b'r', Form::Sid),
 ];
 
-const VAL: [Row; 4] = [
-    Row::Valued(b'm', Form::Any),
-    Row::Valued(b'r', Form::Any),
-    Row::Plain(b's'),
-    Row::Valued(b'y', Form::Any),
+const VAL: [OptionSpec; 4] = [
+    OptionSpec::Valued(b'm', Form::Any),
+    OptionSpec::Valued(b'r', Form::Any),
+    OptionSpec::Plain(b's'),
+    OptionSpec::Valued(b'y', Form::Any),
 ];
 
-const WHAT: [Row; 1] = [Row::Plain(b's')];
+const WHAT: [OptionSpec; 1] = [OptionSpec::Plain(b's')];
 
-const ADMIN_APART: [Apart; 9] = [
-    Apart::Alone(b'h'),
-    Apart::Both(b'z', b'n'),
-    Apart::Both(b'z', b'i'),
-    Apart::Both(b'd', b'n'),
-    Apart::Both(b'd', b'i'),
-    Apart::Both(b'e', b'n'),
-    Apart::Both(b'e', b'i'),
-    Apart::Bare(b't', b'n'),
-    Apart::Bare(b't', b'i'),
+const ADMIN_EXCLUSIONS: [Exclusion; 9] = [
+    Exclusion::Alone(b'h'),
+    Exclusion::Both(b'z', b'n'),
+    Exclusion::Both(b'z', b'i'),
+    Exclusion::Both(b'd', b'n'),
+    Exclusion::Both(b'd', b'i'),
+    Exclusion::Both(b'e', b'n'),
+    Exclusion::Both(b'e', b'i'),
+    Exclusion::Bare(b't', b'n'),
+    Exclusion::Bare(b't', b'i'),
 ];
 
-const GET_APART: [Apart; 1] = [Apart::Both(b'e', b'c')];
+const GET_EXCLUSIONS: [Exclusion; 1] = [Exclusion::Both(b'e', b'c')];
 
-const PRS_APART: [Apart; 2] = [Apart::Both(b'e', b'l'), Apart::Both(b'r', b'c')];
+const PRS_EXCLUSIONS: [Exclusion; 2] = [Exclusion::Both(b'e', b'l'), Exclusion::Both(b'r', b'c')];
 
 const ADMIN_NEEDS: [Need; 3] = [
     Need::With(b'r', b'i', b'i'),
@@ -163,8 +163,8 @@ const PRS_NEEDS: [Need; 1] = [Need::With(b'c', b'e', b'l')];
 
 impl Utility {
     /// The options of a utility.
-    pub fn rows(self) -> &'static [Row]
-        ensures { result.now ≡ rows_of self }
+    pub fn options(self) -> &'static [OptionSpec]
+        ensures { result.now ≡ options_of self }
     {
         match self {
             Utility::Admin => &ADMIN,
@@ -180,13 +180,13 @@ impl Utility {
     }
 
     /// Which of them exclude each other.
-    pub fn aparts(self) -> &'static [Apart]
-        ensures { result.now ≡ aparts_of self }
+    pub fn exclusions(self) -> &'static [Exclusion]
+        ensures { result.now ≡ exclusions_of self }
     {
         match self {
-            Utility::Admin => &ADMIN_APART,
-            Utility::Get => &GET_APART,
-            Utility::Prs => &PRS_APART,
+            Utility::Admin => &ADMIN_EXCLUSIONS,
+            Utility::Get => &GET_EXCLUSIONS,
+            Utility::Prs => &PRS_EXCLUSIONS,
             _ => &[],
         }
     }
@@ -204,15 +204,15 @@ impl Utility {
     }
 
     /// What operands it takes.
-    pub fn rest(self) -> Rest
-        ensures { result ≡ rest_of self }
+    pub fn operand_rule(self) -> OperandRule
+        ensures { result ≡ operand_rule_of self }
     {
         match self {
-            Utility::Admin => Rest::OneWith(b'i'),
-            Utility::Delta => Rest::Sfile,
-            Utility::Batch => Rest::Nothing,
-            Utility::Soak => Rest::Number,
-            _ => Rest::Many,
+            Utility::Admin => OperandRule::OneWith(b'i'),
+            Utility::Delta => OperandRule::Sfile,
+            Utility::Batch => OperandRule::Nothing,
+            Utility::Soak => OperandRule::Number,
+            _ => OperandRule::Many,
         }
     }
 }

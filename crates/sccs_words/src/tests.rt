@@ -4,7 +4,7 @@ use std::test::Fail;
 
 #[test]
 fn commands_and_faults(rt: HostRuntime) -> Result<(), Fail> {
-    let rows: [(&[u8], u8, u64); 16] = [
+    let examples: [(&[u8], u8, u64); 16] = [
         (b"admin -n -fb -ymade s.a", 0, 1),
         (b"get -e -r1.2 -i1.3 s.a", 0, 2),
         (b"delta -s -yfirst s.a", 0, 3),
@@ -22,7 +22,7 @@ fn commands_and_faults(rt: HostRuntime) -> Result<(), Fail> {
         (b"delta s.a b", 6, 3),
         (b"rmdel s.a", 8, 3),
     ];
-    for (line, kind, number) in rows {
+    for (line, kind, number) in examples {
         let words = mr_words(rt.alloc(), line)?;
         let found = match read_words(rt.alloc(), &words) {
             Ok(Command::Admin(_, _)) => (0, 1),

@@ -1,4 +1,8 @@
-ghost use Rattle.std.specs.Prelude.{◌≡◌, [], ◌++◌, drop, option_map, IfOk, OnOk};
+ghost use Rattle.std.specs.Prelude.{◌≡◌, ◌<◌, ◌≤◌, [], ◌++◌, drop, option_map, All, IfOk, IfSome, OnOk};
+ghost use Rattle.sccs_sid.specs.Sid.{IsComponent, IsSid};
+ghost use Rattle.sccs_sid.specs.Spec.{IsSpec};
+ghost use Rattle.sccs_sid.specs.SidLists.{IsRange};
+ghost use Rattle.sccs_sid.specs.Moment.{IsMoment};
 ghost use Rattle.sccs_words.specs.MrWords.{is_gap as is_gap_spec, ended, split_from, mr_words as mr_words_spec};
 ghost use Rattle.sccs_words.specs.Values.{sid_value as sid_spec, spec_value as spec_spec, moment_value as moment_spec, list_value as list_spec, release_value as release_spec, soak_number as soak_spec, number_value as number_spec, is_user as is_user_spec, fits};
 
@@ -8,8 +12,14 @@ use sccs_sid::reading::number;
 use sccs_sid::{Cutoff, ListFault, Moment, Sid, SidList, Spec};
 use std::alloc::Global;
 
+const GREATEST_RELEASE: u32 = 9999;
+
+// the most steps of a soak
+const MOST_STEPS: u32 = 2000;
+
 pub fn sid_value(bytes: &[u8]) -> Option<Sid>
-    ensures { result ≡ sid_spec bytes.now }
+    ensures value { result ≡ sid_spec bytes.now }
+    ensures valid { IfSome result IsSid }
 {
     match Sid::read(bytes) {
         Ok(sid) => Some(sid),
@@ -18,7 +28,8 @@ pub fn sid_value(bytes: &[u8]) -> Option<Sid>
 }
 
 pub fn spec_value(bytes: &[u8]) -> Option<Spec>
-    ensures { result ≡ spec_spec bytes.now }
+    ensures value { result ≡ spec_spec bytes.now }
+    ensures valid { IfSome result IsSpec }
 {
     match Spec::read(bytes) {
         Ok(spec) => Some(spec),
@@ -27,7 +38,8 @@ pub fn spec_value(bytes: &[u8]) -> Option<Spec>
 }
 
 pub fn moment_value(bytes: &[u8]) -> Option<Moment>
-    ensures { result ≡ moment_spec bytes.now }
+    ensures value { result ≡ moment_spec bytes.now }
+    ensures valid { IfSome result IsMoment }
 {
     match Cutoff::read(bytes) {
         Ok(moment) => Some(moment),
@@ -36,7 +48,8 @@ pub fn moment_value(bytes: &[u8]) -> Option<Moment>
 }
 
 pub fn list_value(alloc: Global, bytes: &[u8]) -> Result<Option<SidList>, Memory>
-    ensures { IfOk result (λ r. r ≡ list_spec bytes.now) }
+    ensures value { IfOk result (λ r. r ≡ list_spec bytes.now) }
+    ensures valid { IfOk result (λ r. IfSome r (All IsRange)) }
 {
     match SidList::read(alloc, bytes) {
         Ok(list) => Ok(Some(list)),
@@ -47,7 +60,9 @@ pub fn list_value(alloc: Global, bytes: &[u8]) -> Result<Option<SidList>, Memory
 
 // 1 to most, in one to four digits
 fn number_value(most: u32, bytes: &[u8]) -> Option<u32>
-    ensures { result ≡ number_spec most bytes.now }
+    ensures value { result ≡ number_spec most bytes.now }
+    ensures positive { IfSome result (λ n. 0 < n) }
+    ensures most { IfSome result (λ n. n ≤ most) }
 {
     let found = number(4, bytes)?;
     if 0 < found && found <= most {
@@ -58,9 +73,10 @@ fn number_value(most: u32, bytes: &[u8]) -> Option<u32>
 }
 
 pub fn release_value(bytes: &[u8]) -> Option<u16>
-    ensures { result ≡ release_spec bytes.now }
+    ensures value { result ≡ release_spec bytes.now }
+    ensures valid { IfSome result IsComponent }
 {
-    match number_value(9999, bytes) {
+    match number_value(GREATEST_RELEASE, bytes) {
         Some(release) => Some(release as u16),
         None => None,
     }
@@ -69,7 +85,7 @@ pub fn release_value(bytes: &[u8]) -> Option<u16>
 pub fn soak_number(bytes: &[u8]) -> Option<u64>
     ensures { result ≡ soak_spec bytes.now }
 {
-    match number_value(2000, bytes) {
+    match number_value(MOST_STEPS, bytes) {
         Some(steps) => Some(u64::from(steps)),
         None => None,
     }
@@ -93,7 +109,7 @@ fn is_gap(byte: u8) -> bool
     byte == b' ' || byte == b'\t' || byte == b'\n'
 }
 
-// puts a word behind others, unless it is empty
+// puts a word after others, unless it is empty
 fn end_word(alloc: Global, words: &mut Words, word: &mut Vec<u8>) -> Result<(), Memory>
     ensures { OnOk result ((words.new ≡ ended words.old word.old.items) × (word.new.items ≡ [])) }
 {

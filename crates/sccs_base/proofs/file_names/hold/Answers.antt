@@ -1,4 +1,4 @@
-use Rattle.std.proofs.Common.{◌≤◌, length, subst, sym, arith}
+use Rattle.std.proofs.Common.{subst, sym, arith}
 use Rattle.sccs_base.specs.Name.{IsName}
 use Rattle.sccs_base.proofs.Holding.{copied}
 use Rattle.sccs_base.proofs.file_names.hold.Goals as goal

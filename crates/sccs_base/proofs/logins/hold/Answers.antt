@@ -1,4 +1,4 @@
-use Rattle.std.proofs.Common.{◌≤◌, length, subst, sym, arith}
+use Rattle.std.proofs.Common.{subst, sym, arith}
 use Rattle.sccs_base.specs.Login.{IsLogin}
 use Rattle.sccs_base.proofs.Holding.{copied}
 use Rattle.sccs_base.proofs.logins.hold.Goals as goal

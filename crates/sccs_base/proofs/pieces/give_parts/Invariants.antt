@@ -1,4 +1,4 @@
-use Rattle.std.proofs.Common.{◌≡◌, ◌≤◌, take, flat_map}
+use Rattle.std.proofs.Common.{◌≤◌, take, flat_map}
 use Rattle.sccs_base.specs.Stream.{GivesOk}
 use Rattle.sccs_base.proofs.pieces.give_parts.Given as goal
 

@@ -1,4 +1,4 @@
-use Rattle.std.proofs.Common.{◌+◌, ◌≤◌, length, vec_len, length-take, arith}
+use Rattle.std.proofs.Common.{◌+◌, ◌≤◌, length, length-take, arith}
 use Rattle.sccs_base.proofs.Runs.{takes_more}
 use Rattle.sccs_base.proofs.pieces.take_all.Goals as goal
 use Rattle.sccs_base.proofs.pieces.take_all.Goals.{then-room, else-room}

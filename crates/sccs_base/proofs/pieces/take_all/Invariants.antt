@@ -1,4 +1,4 @@
-use Rattle.std.proofs.Common.{◌≡◌, ◌+◌, ◌≤◌, ℕ, vec_len}
+use Rattle.std.proofs.Common.{◌≡◌, ◌+◌, ◌≤◌, vec_len}
 use Rattle.sccs_base.specs.Stream.{TakesFront}
 use Rattle.sccs_base.proofs.pieces.take_all.Given as goal
 

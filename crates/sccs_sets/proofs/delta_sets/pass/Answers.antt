@@ -5,15 +5,15 @@ use Rattle.sccs_history.specs.declared.headers.Record.{Record}
 use Rattle.sccs_sets.specs.Marks.{or_else, said_by}
 use Rattle.sccs_sets.proofs.Passing.{IsAt, TurnsTo, at_start, turned, at_end, listed_said, drop-record}
 use Rattle.sccs_sets.proofs.delta_sets.pass.Goals as goal
-use Rattle.sccs_sets.proofs.delta_sets.pass.Goals.{then-takes, else-takes}
+use Rattle.sccs_sets.proofs.delta_sets.pass.Goals.{then-is_applied, else-is_applied}
 
 pub loop-record-init : goal.loop-record-init
 loop-record-init c =
     let include : List ℕ = c.args.include.now in
     let exclude : List ℕ = c.args.exclude.now in
-    at_start (record { target = c.args.target; include = include; exclude = exclude; cutoff = option_map (λ m. m.seconds) c.args.cutoff }) c.args.records.now c.note-2.new.marks c.args.set.now c.requires.falls
-    (λ n. c.note-2.ensures n
-    ∙ (ap (λ o. or_else o (said_by exclude false n)) (c.note.ensures n)
+    at_start (record { target = c.args.target; include = include; exclude = exclude; cutoff = option_map (λ m. m.seconds) c.args.cutoff }) c.args.records.now c.mark_list-2.new.marks c.args.set.now c.requires.falls
+    (λ n. c.mark_list-2.ensures n
+    ∙ (ap (λ o. or_else o (said_by exclude false n)) (c.mark_list.ensures n)
     ∙ (listed_said (get_or c.args.marks.now n None) include exclude n ∙ ap (λ o. or_else o (listed include exclude n None)) (c.requires.unmarked n))))
     c.requires.unset
 
@@ -25,12 +25,12 @@ loop-record-preserved c =
     let r : Record = c.record-item.result in
     let at : IsAt asked all (r ∷ rs) c.loop-record.wanted c.loop-record.marks c.loop-record.set =
     subst (λ l. IsAt asked all l c.loop-record.wanted c.loop-record.marks c.loop-record.set) (drop-record all c.loop-record.record-index r c.loop-record-test.true c.record-item.is) c.loop-record.invariant in
-    let turn : TurnsTo r c.takes.result c.loop-record.marks c.if-takes.marks c.loop-record.set c.if-takes.set =
-    elim c.if-takes.branch [
-      | then-takes w ↦ subst (λ t. TurnsTo r t c.loop-record.marks c.if-takes.marks c.loop-record.set c.if-takes.set) (sym w.if-takes.true) ((λ n. ap (λ m. get_or m n None) w.marks-is ∙ w.take.ensures.marks n), w.set-is ∙ w.take.ensures.set)
-      | else-takes w ↦ subst (λ t. TurnsTo r t c.loop-record.marks c.if-takes.marks c.loop-record.set c.if-takes.set) (sym w.if-takes.false) (w.marks-is, w.set-is)
+    let turn : TurnsTo r c.is_applied.result c.loop-record.marks c.if-is_applied.marks c.loop-record.set c.if-is_applied.set =
+    elim c.if-is_applied.branch [
+      | then-is_applied w ↦ subst (λ t. TurnsTo r t c.loop-record.marks c.if-is_applied.marks c.loop-record.set c.if-is_applied.set) (sym w.if-is_applied.true) ((λ n. ap (λ m. get_or m n None) w.marks-is ∙ w.apply_delta.ensures.marks n), w.set-is ∙ w.apply_delta.ensures.set)
+      | else-is_applied w ↦ subst (λ t. TurnsTo r t c.loop-record.marks c.if-is_applied.marks c.loop-record.set c.if-is_applied.set) (sym w.if-is_applied.false) (w.marks-is, w.set-is)
     ] in
-    turned asked all rs r c.loop-record.wanted c.next_wanted-wanted.result c.loop-record.marks c.if-takes.marks c.loop-record.set c.if-takes.set c.takes.result at c.takes.ensures
+    turned asked all rs r c.loop-record.wanted c.next_wanted-wanted.result c.loop-record.marks c.if-is_applied.marks c.loop-record.set c.if-is_applied.set c.is_applied.result at c.is_applied.ensures
     (c.loop-record.auto.set ∙ c.requires.set) c.next_wanted-wanted.ensures turn
 
 pub returns : goal.returns

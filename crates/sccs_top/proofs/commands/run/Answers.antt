@@ -1,10 +1,23 @@
-use Rattle.sccs_disk.specs.Told.{seen}
-use Rattle.sccs_words.specs.Meaning.{meaning}
-use Rattle.sccs_top.specs.Unbuilt.{gets}
-use Rattle.sccs_top.specs.Gets.{get_turns}
-use Rattle.sccs_top.proofs.GetLaws.{never_ran}
+use Rattle.std.proofs.Common.{Err, subst}
+use Rattle.sccs_base.specs.Stream.{GivesSome}
+use Rattle.sccs_words.specs.Meaning.{Gives, meaning}
+use Rattle.sccs_words.specs.declared.commands.Usage.{Usage}
+use Rattle.sccs_words.specs.declared.commands.WordsFault.{WordsFault}
+use Rattle.sccs_steps.specs.Calls.{scene}
+use Rattle.sccs_top.specs.Messages.{usage_line}
+use Rattle.sccs_top.proofs.RunLaws.{command_ends, never_begun, usage_cut}
 use Rattle.sccs_top.proofs.commands.run.Goals as goal
 
-pub returns-in-Err-Memory-clause-gets : goal.returns-in-Err-Memory-clause-gets
-returns-in-Err-Memory-clause-gets g c =
-    never_ran (gets (meaning c.args.words.now)) (seen (g.D.Disk.told c.args.disk.now)) (λ get folder. get_turns get.0 folder get.1.words) (g.O.Sink.given c.args.out.now) (g.E.Sink.given c.args.err.now)
+pub returns-in-Ok-clause-steps : goal.returns-in-Ok-clause-steps
+returns-in-Ok-clause-steps g c =
+    command_ends (meaning c.args.words.now) c.in-Ok.command c.ended.result c.run_command.result (g.I.Source.left c.args.input.now) (scene (g.D.Disk.told c.args.disk.now) (g.O.Sink.given c.args.out.now) (g.E.Sink.given c.args.err.now)) (scene (g.D.Disk.told c.run_command.new.disk) (g.O.Sink.given c.run_command.new.out) (g.E.Sink.given c.run_command.new.err))
+    c.in-Ok.ensures.value c.ended.ensures c.run_command.ensures.steps
+
+pub returns-in-Err-clause-steps : goal.returns-in-Err-clause-steps
+returns-in-Err-clause-steps g c =
+    usage_cut (meaning c.args.words.now) c.in-Err-Usage.usage (g.I.Source.left c.args.input.now) (scene (g.D.Disk.told c.args.disk.now) (g.O.Sink.given c.args.out.now) (g.E.Sink.given c.args.err.now)) (g.E.Sink.given c.write_usage.new.out)
+    (subst (λ (fault : WordsFault). Gives (Err fault) (meaning c.args.words.now)) c.in-Err-Usage.field-0-is c.in-Err-Usage.ensures.value)
+    (subst (λ (usage : Usage). GivesSome (g.E.Sink.given c.args.err.now) (g.E.Sink.given c.write_usage.new.out) (usage_line usage)) c.in-Err-Usage.usage-is c.in-Err.ensures.err)
+
+pub returns-in-Err-Memory-clause-steps : goal.returns-in-Err-Memory-clause-steps
+returns-in-Err-Memory-clause-steps g c = never_begun (meaning c.args.words.now) (g.I.Source.left c.args.input.now) (scene (g.D.Disk.told c.args.disk.now) (g.O.Sink.given c.args.out.now) (g.E.Sink.given c.args.err.now))

@@ -4,10 +4,10 @@ use Rattle.sccs_words.proofs.FirstFaults.{fault_turn, none_turn, none_end}
 use Rattle.sccs_words.proofs.judging.operands_fault.Goals as goal
 
 pub returns-in-Some : goal.returns-in-Some
-returns-in-Some c = fault_turn (operand_fault c.args.rest c.args.uses.now c.args.first) c.args.words.now c.operands.i c.index-words-i.result _ _ c.operands-test.true c.index-words-i.is (c.in-Some.ensures ∙ ap (operand_fault c.args.rest c.args.uses.now c.args.first (take c.operands.i c.args.words.now)) c.bytes.ensures) c.operands.invariant
+returns-in-Some c = fault_turn (operand_fault c.args.rule c.args.line.now.uses.now c.args.line.now.first) c.args.line.now.operands.now c.operands.i c.index-words-i.result _ _ c.operands-test.true c.index-words-i.is (c.in-Some.ensures ∙ ap (operand_fault c.args.rule c.args.line.now.uses.now c.args.line.now.first (take c.operands.i c.args.line.now.operands.now)) c.bytes.ensures) c.operands.invariant
 
 pub operands-preserved : goal.operands-preserved
-operands-preserved c = none_turn (operand_fault c.args.rest c.args.uses.now c.args.first) c.args.words.now c.operands.i c.index-words-i.result _ c.operands-test.true c.index-words-i.is (c.in-None.ensures ∙ ap (operand_fault c.args.rest c.args.uses.now c.args.first (take c.operands.i c.args.words.now)) c.bytes.ensures) c.operands.invariant
+operands-preserved c = none_turn (operand_fault c.args.rule c.args.line.now.uses.now c.args.line.now.first) c.args.line.now.operands.now c.operands.i c.index-words-i.result _ c.operands-test.true c.index-words-i.is (c.in-None.ensures ∙ ap (operand_fault c.args.rule c.args.line.now.uses.now c.args.line.now.first (take c.operands.i c.args.line.now.operands.now)) c.bytes.ensures) c.operands.invariant
 
 pub returns : goal.returns
-returns c = none_end (operand_fault c.args.rest c.args.uses.now c.args.first) c.args.words.now c.operands.i _ c.operands-test.false c.operands.invariant
+returns c = none_end (operand_fault c.args.rule c.args.line.now.uses.now c.args.line.now.first) c.args.line.now.operands.now c.operands.i _ c.operands-test.false c.operands.invariant

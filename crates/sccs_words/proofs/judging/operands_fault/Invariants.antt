@@ -4,4 +4,4 @@ use Rattle.sccs_words.proofs.judging.operands_fault.Given as goal
 
 -- no fault so far
 abbrev pub invariant-operands : goal.invariant-operands
-invariant-operands l = first_from (operand_fault l.rest l.uses l.first) (take l.i l.words) (drop l.i l.words) ≡ operands_fault l.rest l.uses l.first l.words
+invariant-operands l = first_from (operand_fault l.rule l.line.uses.now l.line.first) (take l.i l.line.operands.now) (drop l.i l.line.operands.now) ≡ operands_fault l.rule l.line.uses.now l.line.first l.line.operands.now

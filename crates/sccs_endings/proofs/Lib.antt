@@ -1,2 +1,0 @@
-pub mod BodyEnding
-pub mod HeaderEnding

@@ -1,0 +1,87 @@
+-- The files of a step, and views and folders that differ in them.
+use Rattle.std.specs.Prelude.{◌≡◌, ℕ, ◌⊎◌, Bool, true, false, ◌||◌, List, drop, Option, None, Some}
+use Rattle.std.specs.Str.{bytes_eq}
+use Rattle.std.specs.FinMap.{insert, remove}
+use Rattle.sccs_base.specs.Name.{sibling}
+use Rattle.sccs_disk.specs.Files.{Content, View, put, Folder}
+
+-- the s-file, p-file, z-file and g-file of one name
+pub record Files : Type 0 where
+  pub s : Option Content
+  pub p : Option Content
+  pub z : Option Content
+  pub g : Option Content
+
+-- what a step sees of a view
+abbrev pub look : View → List ℕ → Files
+look v n = record { s = v n; p = v (sibling 112 n); z = v (sibling 122 n); g = v (drop 2 n) }
+
+-- the view with these files in their places
+abbrev pub placed : View → List ℕ → Files → View
+placed v n f = put (put (put (put v (sibling 122 n) f.z) (drop 2 n) f.g) (sibling 112 n) f.p) n f.s
+
+-- the view after a step: new files, or all as they were
+abbrev pub moved : View → List ℕ → Option Files → View
+moved v n None = v
+moved v n (Some f) = placed v n f
+
+-- the same of a folder
+abbrev pub set_in : Folder → List ℕ → Option Content → Folder
+set_in m n None = remove m n
+set_in m n (Some c) = insert m n c
+
+abbrev pub moved_in : Folder → List ℕ → Option Files → Folder
+moved_in m n None = m
+moved_in m n (Some f) = set_in (set_in (set_in (set_in m (sibling 122 n) f.z) (drop 2 n) f.g) (sibling 112 n) f.p) n f.s
+
+-- the x-, q- and y-file of a name
+abbrev pub is_working : List ℕ → List ℕ → Bool
+is_working n k = bytes_eq (sibling 120 n) k || (bytes_eq (sibling 113 n) k || bytes_eq (sibling 121 n) k)
+
+-- working files, and the z-file
+abbrev pub is_left : List ℕ → List ℕ → Bool
+is_left n k = is_working n k || bytes_eq (sibling 122 n) k
+
+-- two views are one but for working files
+abbrev pub Alike : (List ℕ → Bool) → View → View → Type 0
+Alike w u v = (k : List ℕ) → w k ≡ false → u k ≡ v k
+
+-- what is told afterwards is f of what was told, but for working files
+abbrev pub Moves : (List ℕ → Bool) → (View → View) → Option View → Option View → Type 0
+Moves w f None new = new ≡ None
+Moves w f (Some u) None = ⊥
+Moves w f (Some u) (Some v) = Alike w v (f u)
+
+-- each file is as it was, or as f makes it, but for working files
+abbrev pub MovesPartly : (List ℕ → Bool) → (View → View) → Option View → Option View → Type 0
+MovesPartly w f None new = new ≡ None
+MovesPartly w f (Some u) None = ⊥
+MovesPartly w f (Some u) (Some v) = (k : List ℕ) → w k ≡ false → (v k ≡ u k) ⊎ (v k ≡ f u k)
+
+-- what is told is this, but for working files
+abbrev pub Shows : (List ℕ → Bool) → Option View → View → Type 0
+Shows w None v = ⊥
+Shows w (Some u) v = Alike w u v
+
+-- each file that is told is that of one of two views, but for working files
+abbrev pub ShowsPartly : (List ℕ → Bool) → Option View → View → View → Type 0
+ShowsPartly w None v v2 = ⊥
+ShowsPartly w (Some u) v v2 = (k : List ℕ) → w k ≡ false → (u k ≡ v k) ⊎ (u k ≡ v2 k)
+
+-- no file is a working file: a command that only reads makes none
+abbrev pub nowhere : List ℕ → Bool
+nowhere k = false
+
+-- The name's files are no working files, and its working files are.
+pub record Apart (w : List ℕ → Bool) (n : List ℕ) : Type 0 where
+  pub own : (k : List ℕ) → w k ≡ false → is_working n k ≡ false
+  pub s : w n ≡ false
+  pub p : w (sibling 112 n) ≡ false
+  pub z : w (sibling 122 n) ≡ false
+  pub g : w (drop 2 n) ≡ false
+
+-- each working file of a name is gone, or as it was
+abbrev pub AreCleared : List ℕ → Option View → Option View → Type 0
+AreCleared n None new = Unit {0}
+AreCleared n (Some u) None = ⊥
+AreCleared n (Some u) (Some v) = (k : List ℕ) → is_working n k ≡ true → (v k ≡ None) ⊎ (v k ≡ u k)

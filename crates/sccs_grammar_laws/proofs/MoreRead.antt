@@ -1,0 +1,25 @@
+-- What is read of a header's parts, with one line or several more.
+use Rattle.std.proofs.Common.{◌≡◌, ℕ, List, [], ◌∷◌, ◌++◌, sym, ap, ◌∙◌, append-nil, append_assoc}
+use Rattle.sccs_history.specs.declared.headers.Record.{Record}
+use Rattle.sccs_grammar.specs.Entries.{with_entry}
+use Rattle.sccs_grammar.specs.declared.readings.Parts.{Parts}
+use Rattle.sccs_grammar.specs.declared.sayings.Said.{Said}
+use Rattle.sccs_grammar_laws.specs.HeaderLines.{EntryText, mrs_in, comments_in}
+
+-- a record with MRs and comments more
+abbrev pub text_row : Record → List EntryText → Record
+text_row r texts = record r { mrs = r.mrs ++ mrs_in texts; comments = r.comments ++ comments_in texts }
+
+-- the parts with a record more, whose delta line has this number
+abbrev pub more : Parts → ℕ → Record → Parts
+more parts line r = record parts { table = with_entry parts.table (record { line = line; row = r }) }
+
+pub no_texts : (r : Record) → r ≡ text_row r []
+no_texts r =
+    ap (λ (ms : List (List ℕ)). record r { mrs = ms }) (sym (append-nil r.mrs)) ∙ ap (λ (cs : List (List ℕ)). record r { mrs = r.mrs ++ []; comments = cs }) (sym (append-nil r.comments))
+
+pub push_more : {A : Type 0} (before : List A) (x : A) (xs : List A) → (before ++ x ∷ []) ++ xs ≡ before ++ x ∷ xs
+push_more before x xs = append_assoc before (x ∷ []) xs
+
+pub regroup : (a b c : List Said) (x : Said) → (a ++ (b ++ (x ∷ []))) ++ c ≡ a ++ (b ++ (x ∷ c))
+regroup a b c x = append_assoc a (b ++ (x ∷ [])) c ∙ ap (λ (os : List Said). a ++ os) (append_assoc b (x ∷ []) c)

@@ -1,0 +1,56 @@
+-- What a disk shows after a step: of a command that only reads all that it showed, else all but working files.
+use Rattle.std.proofs.Common.{◌≡◌, ℕ, Bool, true, false, ◌||◌, List, [], ◌∷◌, Option, None, Some, Ok, Err, inl, inr, refl, sym, ap, subst}
+use Rattle.std.proofs.Math.Path.{fun_ext}
+use Rattle.std.specs.Str.{bytes_eq}
+use Rattle.sccs_base.specs.Name.{sibling}
+use Rattle.sccs_disk.specs.Files.{Folder, View, view_in}
+use Rattle.sccs_files.specs.StepFiles.{Files, look, moved, moved_in, is_working, is_left, Alike, Moves, MovesPartly, Shows, ShowsPartly}
+use Rattle.sccs_files.proofs.Folders.{moved_view}
+use Rattle.sccs_files.proofs.Views.{look_alike, shows_moved, shows_partly}
+use Rattle.sccs_steps.specs.StepEffects.{StepEffect, Outcome, effect_of}
+use Rattle.sccs_steps.specs.StepLists.{NamedStep, named_step, left_by}
+use Rattle.sccs_steps.specs.Actions.{IsClear}
+
+-- where it only reads the files are left as they are
+abbrev pub IsKept : Bool → Outcome → Type 0
+IsKept reads o = reads ≡ true → (d : StepEffect) → o ≡ Ok d → d.new ≡ None
+
+pub kept_effect : (reads : Bool) (n : List ℕ) (o : Outcome) → IsKept reads o → reads ≡ true → (effect_of n o).new ≡ None
+kept_effect reads n (Ok d) kept is = kept is d refl
+kept_effect reads n (Err refusal) kept is = refl
+
+-- a step sees the files that are shown
+pub clear_look : (reads : Bool) (w : List ℕ → Bool) (n : List ℕ) (u v : View) → IsClear reads w n → Alike w u v → look u n ≡ look v n
+clear_look reads w n u v (inl all) alike = ap (λ (view : View). look view n) (fun_ext (λ k. alike k (all.1 k)))
+clear_look reads w n u v (inr apart) alike = look_alike w n u v apart alike
+
+stays : (m : Folder) (n : List ℕ) (new : Option Files) → new ≡ None → m ≡ moved_in m n new
+stays m n new none = ap (λ (f : Option Files). moved_in m n f) (sym none)
+
+pub clear_moved : (reads : Bool) (w : List ℕ → Bool) (m : Folder) (n : List ℕ) (new : Option Files) (a b : Option View) → IsClear reads w n → (reads ≡ true → b ≡ a) → (reads ≡ true → new ≡ None)
+    → Shows w a (view_in m) → Moves (is_working n) (λ u. moved u n new) a b → Shows w b (view_in (moved_in m n new))
+clear_moved reads w m n new a b (inl all) same none shows moves =
+    subst (λ (u : Folder). Shows w b (view_in u)) (stays m n new (none all.0)) (subst (λ told. Shows w told (view_in m)) (sym (same all.0)) shows)
+clear_moved reads w m n new a b (inr apart) same none shows moves =
+    subst (λ (v : View). Shows w b v) (sym (moved_view m n new)) (shows_moved w n new (view_in m) a b apart shows moves)
+
+pub clear_same : (reads : Bool) (w : List ℕ → Bool) (m : Folder) (n : List ℕ) (a b : Option View) → IsClear reads w n → (reads ≡ true → b ≡ a)
+    → Shows w a (view_in m) → Moves (is_working n) (λ u. u) a b → Shows w b (view_in m)
+clear_same reads w m n a b clear same shows moves = clear_moved reads w m n None a b clear same (λ is. refl) shows moves
+
+left_false : (x y : Bool) → (x || y) ≡ false → x ≡ false
+left_false true y h = cc
+left_false false y h = refl
+
+shows_first : (w : List ℕ → Bool) (told : Option View) (u v : View) (t : NamedStep) → Shows w told u → ShowsPartly (left_by w (t ∷ [])) told u v
+shows_first w None u v t shows = absurd shows
+shows_first w (Some s) u v t shows = λ k h. inl (shows k (left_false (w k) (bytes_eq (sibling 122 t.name) k) h))
+
+pub clear_partly : (reads : Bool) (w : List ℕ → Bool) (m : Folder) (n : List ℕ) (o : Outcome) (a b : Option View) → IsClear reads w n → (reads ≡ true → b ≡ a)
+    → Shows w a (view_in m) → MovesPartly (is_left n) (λ u. moved u n (effect_of n o).new) a b
+    → ShowsPartly (left_by w (named_step n o ∷ [])) b (view_in m) (view_in (moved_in m n (effect_of n o).new))
+clear_partly reads w m n o a b (inl all) same shows moves =
+    shows_first w b (view_in m) (view_in (moved_in m n (effect_of n o).new)) (named_step n o) (subst (λ told. Shows w told (view_in m)) (sym (same all.0)) shows)
+clear_partly reads w m n o a b (inr apart) same shows moves =
+    subst (λ (v : View). ShowsPartly (left_by w (named_step n o ∷ [])) b (view_in m) v) (sym (moved_view m n (effect_of n o).new))
+    (shows_partly w n (effect_of n o).new (view_in m) a b apart shows moves)

@@ -1,0 +1,101 @@
+-- Lists of steps: what they write and leave, and how a call that makes them ends.
+use Rattle.std.specs.Prelude.{◌≡◌, ℕ, ◌<◌, max, Bool, ◌||◌, List, [], ◌∷◌, ◌++◌, length, flat_map, Result, Ok, Err}
+use Rattle.std.specs.Str.{bytes_eq}
+use Rattle.sccs_base.specs.Name.{sibling}
+use Rattle.sccs_base.specs.Stream.{GivesOk, GivesSome}
+use Rattle.sccs_disk.specs.Files.{Folder, view_in}
+use Rattle.sccs_files.specs.StepFiles.{moved_in, Shows, ShowsPartly}
+use Rattle.sccs_steps.specs.StepEffects.{StepEffect, Outcome, effect_of}
+use Rattle.sccs_steps.specs.Calls.{World}
+use Rattle.sccs_steps.specs.declared.faults.Fault.{Fault}
+use Rattle.sccs_steps.specs.declared.faults.Fault.TheVariants.{Memory, ReadFault, WriteFault, DiskFault}
+
+-- a step of a name
+pub record NamedStep : Type 0 where
+  pub name : List ℕ
+  pub effect : StepEffect
+
+abbrev pub named_step : List ℕ → Outcome → NamedStep
+named_step name o = record { name = name; effect = effect_of name o }
+
+-- the folder after steps
+abbrev pub folder_after : Folder → List NamedStep → Folder
+folder_after m [] = m
+folder_after m (t ∷ ts) = folder_after (moved_in m t.name t.effect.new) ts
+
+-- what steps write on out, and on err
+abbrev pub out_of : List NamedStep → List ℕ
+out_of ts = flat_map (λ (t : NamedStep). t.effect.text ++ t.effect.out) ts
+
+abbrev pub err_of : List NamedStep → List ℕ
+err_of ts = flat_map (λ (t : NamedStep). t.effect.err) ts
+
+-- the greatest status
+abbrev pub status_of : List NamedStep → ℕ
+status_of [] = 0
+status_of (t ∷ ts) = max t.effect.status (status_of ts)
+
+-- what the next step prints before its commit
+abbrev pub next_text : List NamedStep → List ℕ
+next_text [] = []
+next_text (t ∷ ts) = t.effect.text
+
+-- the folder after the next step
+abbrev pub next_folder : Folder → List NamedStep → Folder
+next_folder m [] = m
+next_folder m (t ∷ ts) = moved_in m t.name t.effect.new
+
+-- All steps are made: out and err have all that they write, and the disk shows the last folder.
+pub record Ran (w : List ℕ → Bool) (m : Folder) (ts : List NamedStep) (a b : World) : Type 0 where
+  pub view : Shows w b.view (view_in (folder_after m ts))
+  pub out : GivesOk a.out b.out (out_of ts)
+  pub err : GivesOk a.err b.err (err_of ts)
+
+-- Some steps are made, and no byte of a later report is written.
+pub record Stopped (w : List ℕ → Bool) (m : Folder) (ts : List NamedStep) (a b : World) : Type 0 where
+  pub made : List NamedStep
+  pub rest : List NamedStep
+  pub is : ts ≡ made ++ rest
+  pub view : Shows w b.view (view_in (folder_after m made))
+  pub out : GivesSome a.out b.out (out_of made ++ next_text rest)
+  pub err : GivesSome a.err b.err (err_of made)
+
+-- working files, and the z-file of the next step
+abbrev pub left_by : (List ℕ → Bool) → List NamedStep → List ℕ → Bool
+left_by w [] k = w k
+left_by w (t ∷ ts) k = w k || bytes_eq (sibling 122 t.name) k
+
+-- The same where the disk failed: each file is as it was before the next step or after it, but for its z-file.
+pub record ListInterrupted (w : List ℕ → Bool) (m : Folder) (ts : List NamedStep) (a b : World) : Type 0 where
+  pub made : List NamedStep
+  pub rest : List NamedStep
+  pub is : ts ≡ made ++ rest
+  pub view : ShowsPartly (left_by w rest) b.view (view_in (folder_after m made)) (view_in (next_folder (folder_after m made) rest))
+  pub out : GivesSome a.out b.out (out_of made ++ next_text rest)
+  pub err : GivesSome a.err b.err (err_of made)
+
+-- the same, and some step is still to be made
+abbrev pub Waits : (List ℕ → Bool) → Folder → List NamedStep → World → World → Type 0
+Waits w m ts a b = (s : Stopped w m ts a b) × (0 < length s.rest)
+
+abbrev pub Stops : (List ℕ → Bool) → Fault → Folder → List NamedStep → World → World → Type 0
+Stops w Memory m ts a b = Waits w m ts a b
+Stops w ReadFault m ts a b = Waits w m ts a b
+Stops w WriteFault m ts a b = Stopped w m ts a b
+Stops w DiskFault m ts a b = ListInterrupted w m ts a b
+
+-- what a call that makes these steps answers, and leaves
+abbrev pub Runs : (List ℕ → Bool) → Result ℕ Fault → Folder → List NamedStep → World → World → Type 0
+Runs w (Ok status) m ts a b = (status ≡ status_of ts) × Ran w m ts a b
+Runs w (Err fault) m ts a b = Stops w fault m ts a b
+
+-- Some of all the steps are made, and left says which are still to be made on the folder that they left.
+pub record SoFar (w : List ℕ → Bool) (m : Folder) (all : List NamedStep) (left : Folder → List NamedStep) (status : ℕ) (a b : World) : Type 0 where
+  pub made : List NamedStep
+  pub is : all ≡ made ++ left (folder_after m made)
+  pub code : status ≡ status_of made
+  pub ran : Ran w m made a b
+
+-- what is left are some steps and then others
+abbrev pub Parts : (Folder → List NamedStep) → (Folder → List NamedStep) → (Folder → List NamedStep) → Type 0
+Parts left first rest = (u : Folder) → left u ≡ first u ++ rest (folder_after u (first u))

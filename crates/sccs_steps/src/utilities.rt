@@ -1,0 +1,48 @@
+ghost use Rattle.std.specs.Prelude.{◌≡◌, true, false, IfSome, is_some};
+ghost use Rattle.sccs_disk.specs.Told.{Told};
+ghost use Rattle.sccs_sid.specs.declared.refusals.StepFault.TheVariants as step;
+ghost use Rattle.sccs_steps.specs.Actions.{Action, KeepsFiles, SpeaksBy, Stepped};
+ghost use Rattle.sccs_steps.specs.Calls.{scene};
+ghost use Rattle.sccs_steps.specs.Causes.{Ignores, StepCauses, counts};
+
+use sccs_base::{Name, Sink, Source};
+use sccs_disk::Disk;
+use sccs_sid::StepFault;
+use std::alloc::Global;
+
+/// What is done with each operand of a command.
+pub trait Utility {
+    /// What is done with an operand.
+    ghost action: { Self → Action };
+
+    /// A utility that only reads changes no file.
+    ghost keeps: { (utility : Self) → KeepsFiles (action utility) };
+
+    /// The name that an operand is; None where the utility takes no such operand.
+    fn name(&self, operand: &[u8]) -> Option<Name>
+        ensures found { IfSome result (λ name. name ≡ operand.now) }
+        ensures exact { is_some result ≡ (action self.now).fits operand.now };
+
+    /// Makes the step of one file.
+    fn step<I: Source, O: Sink, E: Sink, D: Disk>(
+        &self,
+        alloc: Global,
+        name: &Name,
+        input: &mut I,
+        out: &mut O,
+        err: &mut E,
+        disk: &mut D,
+    ) -> Result<(), StepFault>
+        requires { (action self.now).fits name.now ≡ true }
+        ensures step { Stepped (action self.now) result name.now (I.left input.old)
+            (scene (D.told disk.old) (O.given out.old) (E.given err.old))
+            (scene (D.told disk.new) (O.given out.new) (E.given err.new)) }
+        ensures speaks { SpeaksBy (action self.now).could result name.now (E.given err.old) (E.given err.new) }
+        ensures reads { (action self.now).reads ≡ true → D.told disk.new ≡ D.told disk.old }
+        ensures silent { (action self.now).silent ≡ true → O.given out.new ≡ O.given out.old }
+        ensures ignores { (action self.now).takes ≡ false
+            → Ignores step.ReadFault (I.left input.old) (I.left input.new) (I.faults input.old) (I.faults input.new) result }
+        ensures causes { StepCauses result
+            (counts (I.faults input.old) (O.faults out.old) (E.faults err.old) (D.faults disk.old))
+            (counts (I.faults input.new) (O.faults out.new) (E.faults err.new) (D.faults disk.new)) };
+}

@@ -1,0 +1,18 @@
+-- What is done with which operands, as `run` takes it from a command.
+use Rattle.std.specs.Prelude.{ℕ, List, [], ◌∷◌}
+use Rattle.sccs_steps.specs.Actions.{Action}
+use Rattle.sccs_get.specs.GetStep.{get_action}
+use Rattle.sccs_top.specs.Runs.{words_in}
+use Rattle.sccs_top.specs.Unbuilt.{unbuilt}
+use Rattle.sccs_top.specs.declared.commands.Listed.{Listed}
+use Rattle.sccs_top.specs.declared.commands.Listed.TheVariants.{Words, Word}
+use Rattle.sccs_top.specs.declared.commands.Known.{Known}
+use Rattle.sccs_top.specs.declared.commands.Known.TheVariants as known
+
+abbrev pub words_of : Listed → List (List ℕ)
+words_of (Words operands) = words_in operands.now
+words_of (Word word) = word.now ∷ []
+
+abbrev pub action_in : Known → Action
+action_in (known.Get get) = get_action get.words.now
+action_in (known.Unbuilt u) = unbuilt u.any

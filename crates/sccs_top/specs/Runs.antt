@@ -1,0 +1,117 @@
+-- What a run does: the steps that its words mean, one for each operand in their order.
+use Rattle.std.specs.Prelude.{◌≡◌, ℕ, ◌<◌, ◌⊎◌, Bool, true, false, ◌&&◌, ◌||◌, List, [], ◌∷◌, length, Option, None, Result, Ok, Err, codes, if◌then◌else◌}
+use Rattle.sccs_disk.specs.Files.{Folder, view_in}
+use Rattle.sccs_disk.specs.Told.{seen}
+use Rattle.sccs_words.specs.declared.commands.Usage.{Usage}
+use Rattle.sccs_words.specs.declared.commands.Operands.{Operands}
+use Rattle.sccs_words.specs.declared.commands.Command.{Command}
+use Rattle.sccs_words.specs.declared.commands.Command.TheVariants as c
+use Rattle.sccs_files.specs.StepFiles.{is_working, nowhere, Shows}
+use Rattle.sccs_steps.specs.Actions.{Action, AreClear, IsHeard, IsLone, SpeakAll, SpeakAs, steps_at}
+use Rattle.sccs_steps.specs.Calls.{Scene, World, shown}
+use Rattle.sccs_steps.specs.StepLists.{ListInterrupted, NamedStep, Runs, Stopped, Waits}
+use Rattle.sccs_steps.specs.declared.faults.Fault.{Fault}
+use Rattle.sccs_steps.specs.declared.faults.Fault.TheVariants as ends
+use Rattle.sccs_get.specs.GetStep.{get_action}
+use Rattle.sccs_top.specs.Messages.{usage_line}
+use Rattle.sccs_top.specs.Unbuilt.{is_built, unbuilt}
+use Rattle.sccs_top.specs.declared.answers.Answer.{Answer}
+use Rattle.sccs_top.specs.declared.answers.Answer.TheVariants.{Finished, Memory, ReadFault, WriteFault, DiskFault}
+
+-- the operands as they were given
+abbrev pub words_in : Operands → List (List ℕ)
+words_in operands = if operands.from_input then codes "-" ∷ [] else operands.words
+
+-- the operands of a command; one without a list of them is refused as a whole
+abbrev pub operands_of : Command → List (List ℕ)
+operands_of (c.Admin words operands) = words_in operands
+operands_of (c.Get words operands) = words_in operands
+operands_of (c.Delta words name) = name ∷ []
+operands_of (c.Unget words operands) = words_in operands
+operands_of (c.Sact operands) = words_in operands
+operands_of (c.Rmdel sid operands) = words_in operands
+operands_of (c.Prs words operands) = words_in operands
+operands_of (c.What first operands) = words_in operands
+operands_of (c.Recover operands) = words_in operands
+operands_of (c.Val words) = codes "-" ∷ []
+operands_of c.Batch = codes "-" ∷ []
+operands_of (c.Soak number) = codes "-" ∷ []
+
+-- what is done with each of them
+abbrev pub action_of : Command → Action
+action_of (c.Get words operands) = if is_built words then get_action words else unbuilt false
+action_of (c.What first operands) = unbuilt true
+action_of command = unbuilt false
+
+-- the working files of operands
+abbrev pub working_of : Action → List (List ℕ) → List ℕ → Bool
+working_of x [] k = false
+working_of x (operand ∷ operands) k = (x.fits operand && is_working operand k) || working_of x operands k
+
+-- those of a command; one that only reads has none
+abbrev pub working : Result Command Usage → List ℕ → Bool
+working (Err usage) = nowhere
+working (Ok command) = if (action_of command).reads then nowhere else working_of (action_of command) (operands_of command)
+
+-- the message of a usage fault, as a step
+abbrev pub usage_step : Usage → NamedStep
+usage_step usage = record { name = []; effect = record { new = None; text = []; out = []; err = usage_line usage; status = 2 } }
+
+-- the steps of a run in a folder, with an input
+abbrev pub run_steps : Result Command Usage → Folder → List ℕ → List NamedStep
+run_steps (Err usage) m i = usage_step usage ∷ []
+run_steps (Ok command) m i = steps_at (action_of command) m i (operands_of command)
+
+-- what a step takes of the input is told, and the files of the operands are apart from working files
+abbrev pub IsGiven : Result Command Usage → Option (List ℕ) → List ℕ → Type 0
+IsGiven (Err usage) left i = Unit {0}
+IsGiven (Ok command) left i =
+    IsHeard (action_of command).takes left i × IsLone (action_of command) (operands_of command) × AreClear (action_of command) (working (Ok command)) (operands_of command)
+
+-- where the disk tells a folder the steps of these operands are made, or the call ends early
+abbrev pub MakesAll : Action → List (List ℕ) → Result ℕ Fault → Option (List ℕ) → Scene → Scene → Type 0
+MakesAll x operands r left a b =
+    (w : List ℕ → Bool) (m : Folder) (i : List ℕ) → AreClear x w operands → IsLone x operands → Shows w (seen a.told) (view_in m) → IsHeard x.takes left i → Runs w r m (steps_at x m i operands) (shown a) (shown b)
+
+-- no step was made yet, or one is still to be made
+abbrev pub IsUnended : (List ℕ → Bool) → Folder → List NamedStep → World → World → Type 0
+IsUnended w m ts a b = (s : Stopped w m ts a b) × ((s.made ≡ []) ⊎ (0 < length s.rest))
+
+-- how a run ends that makes these steps
+abbrev pub Ends : (List ℕ → Bool) → Answer → Folder → List NamedStep → World → World → Type 0
+Ends w (Finished status) m ts a b = Runs w (Ok status) m ts a b
+Ends w Memory m ts a b = IsUnended w m ts a b
+Ends w ReadFault m ts a b = Waits w m ts a b
+Ends w WriteFault m ts a b = Stopped w m ts a b
+Ends w DiskFault m ts a b = ListInterrupted w m ts a b
+
+-- where the disk tells a folder the steps of these words are made, or the run ends early
+abbrev pub MakesSteps : Result Command Usage → Answer → Option (List ℕ) → Scene → Scene → Type 0
+MakesSteps meant answer left a b =
+    (m : Folder) (i : List ℕ) → IsGiven meant left i → Shows (working meant) (seen a.told) (view_in m) → Ends (working meant) answer m (run_steps meant m i) (shown a) (shown b)
+
+-- the answer as that of steps
+abbrev pub made_by : Answer → Result ℕ Fault
+made_by (Finished status) = Ok status
+made_by Memory = Err ends.Memory
+made_by ReadFault = Err ends.ReadFault
+made_by WriteFault = Err ends.WriteFault
+made_by DiskFault = Err ends.DiskFault
+
+-- over any disk: some outcomes of the operands that may come explain the status and what is written on err
+abbrev pub SpeaksWords : Result Command Usage → Answer → Option (List ℕ) → Option (List ℕ) → Type 0
+SpeaksWords (Err usage) answer err err2 = SpeakAs (usage_step usage ∷ []) (made_by answer) err err2
+SpeaksWords (Ok command) answer err err2 = SpeakAll (action_of command) (operands_of command) (made_by answer) err err2
+
+-- whether the words change no file, write nothing on out, and take no input
+abbrev pub only_reads : Result Command Usage → Bool
+only_reads (Err usage) = true
+only_reads (Ok command) = (action_of command).reads
+
+abbrev pub is_silent : Result Command Usage → Bool
+is_silent (Err usage) = true
+is_silent (Ok command) = (action_of command).silent
+
+abbrev pub takes_input : Result Command Usage → Bool
+takes_input (Err usage) = false
+takes_input (Ok command) = (action_of command).takes

@@ -1,0 +1,84 @@
+-- The lines that a reader of a version is still to give.
+use Rattle.std.specs.Prelude.{◌≡◌, ℕ, true, false, List, [], ◌∷◌, ◌++◌, length, Option, Some, Result, Ok, Err}
+use Rattle.std.specs.List.{AllByRecursion}
+use Rattle.sccs_history.specs.Numbers.{front_if, has}
+use Rattle.sccs_history.specs.Body.{HistoryLine, line_at, lines_behind}
+use Rattle.sccs_history.specs.Select.{shows}
+use Rattle.sccs_history.specs.declared.headers.Item.{Item}
+use Rattle.sccs_history.specs.declared.headers.Item.TheVariants.{Text}
+use Rattle.sccs_grammar.specs.Items.{items_from}
+use Rattle.sccs_grammar.specs.Written.{ended}
+use Rattle.sccs_grammar.specs.declared.faults.FileFault.{FileFault}
+use Rattle.sccs_grammar.specs.declared.faults.FileFault.TheVariants.{Failed, Memory}
+use Rattle.sccs_table.specs.Standing.{StandsIn, left}
+use Rattle.sccs_table.specs.declared.fronts.Front.{Front}
+use Rattle.sccs_body.specs.BodyFile.{items_of}
+use Rattle.sccs_body.specs.ItemsRead.{IsBehind}
+use Rattle.sccs_weave.specs.Regions.{Holds}
+use Rattle.sccs_weave.specs.declared.regions.Region.{Region}
+use Rattle.sccs_versions.specs.Place.{IsInserter, VersionPlace}
+use Rattle.sccs_versions.specs.declared.readers.Next.{Next}
+use Rattle.sccs_versions.specs.declared.readers.Next.TheVariants.{Line, Hidden, End}
+
+-- the lines that a set shows
+abbrev pub shown : List ℕ → List HistoryLine → List HistoryLine
+shown set [] = []
+shown set (line ∷ lines) = front_if (shows set line) line (shown set lines)
+
+-- the texts of lines, each with its LF
+abbrev pub text_of_lines : List HistoryLine → List ℕ
+text_of_lines [] = []
+text_of_lines (line ∷ lines) = ended line.text ++ text_of_lines lines
+
+-- The reader stands in a file's body behind some items, and the set shows these of the lines behind them.
+pub record Coming (file : List ℕ) (r : VersionPlace) (lines : List HistoryLine) : Type 0 where
+  pub live : List ℕ
+  pub before : List Item
+  pub rest : List Item
+  pub behind : IsBehind live before r.items
+  pub holds : Holds r.set before r.regions
+  pub stands : StandsIn r.items.lines file
+  pub items : items_from live r.items.number before (left r.items.lines file).lines (left r.items.lines file).tail ≡ Ok rest
+  pub lines_are : lines ≡ shown r.set (lines_behind before rest)
+
+-- Of the lines to come these are the first, the delta of the place inserted them, and others follow.
+pub record ComeFirst (file : List ℕ) (r r2 : VersionPlace) (text : List ℕ) (lines : List HistoryLine) : Type 0 where
+  pub first : List HistoryLine
+  pub rest : List HistoryLine
+  pub whole : lines ≡ first ++ rest
+  pub text_is : text ≡ text_of_lines first
+  pub inserted : (n : ℕ) → IsInserter r.regions n → AllByRecursion (λ (line : HistoryLine). line.inserter ≡ n) first
+  pub on : Coming file r2 rest
+
+-- The next line to come has this text, the delta of the place inserted it, and others follow.
+pub record ComesNext (file : List ℕ) (r : VersionPlace) (text : List ℕ) (lines : List HistoryLine) : Type 0 where
+  pub line : HistoryLine
+  pub rest : List HistoryLine
+  pub whole : lines ≡ line ∷ rest
+  pub text_is : line.text ≡ text
+  pub inserted : (n : ℕ) → IsInserter r.regions n → line.inserter ≡ n
+  pub on : Coming file r rest
+
+-- the next line comes; or an item of which nothing is shown; or no line is to come
+abbrev pub GivesNext : List ℕ → VersionPlace → List HistoryLine → Result Next FileFault → Type 0
+GivesNext file r lines (Ok (Line text)) = ComesNext file r text lines
+GivesNext file r lines (Ok Hidden) = Coming file r lines
+GivesNext file r lines (Ok End) = lines ≡ []
+GivesNext file r lines (Err Failed) = Unit {0}
+GivesNext file r lines (Err Memory) = Unit {0}
+GivesNext file r lines (Err _) = ⊥
+
+-- what the next item shows of itself, where the regions were those behind other items
+abbrev pub ShowsItem : List ℕ → List Item → Item → List Region → Result Next FileFault → Type 0
+ShowsItem set before item regions (Ok (Line text)) = Holds set (item ∷ before) regions × (item ≡ Text text) × (shows set (line_at before text) ≡ true)
+ShowsItem set before item regions (Ok Hidden) = Holds set (item ∷ before) regions × (shown set (lines_behind before (item ∷ [])) ≡ [])
+ShowsItem set before item regions (Ok End) = ⊥
+ShowsItem set before item regions (Err Memory) = Unit {0}
+ShowsItem set before item regions (Err _) = ⊥
+
+-- The file is told whole, a front's body has these items, and serial 0 isn't in the set.
+pub record IsBody (told : Option (List ℕ)) (front : Front) (set file : List ℕ) (items : List Item) : Type 0 where
+  pub told_is : told ≡ Some file
+  pub size : front.size ≡ length file
+  pub items_are : items_of file front ≡ Ok items
+  pub no_zero : has set 0 ≡ false

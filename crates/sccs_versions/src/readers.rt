@@ -1,0 +1,172 @@
+ghost use Rattle.std.specs.Prelude.{◌≡◌, ◌≢◌, ◌++◌, [], false, ◌<◌, ◌≤◌, ℕ, List, Option, length, take, Some, Ok, Err, IfOk, IsTrue};
+ghost use Rattle.sccs_base.specs.Stream.{Rose};
+ghost use Rattle.sccs_disk.specs.Told.{seen};
+ghost use Rattle.sccs_grammar.specs.declared.faults.FileFault.TheVariants as faults;
+ghost use Rattle.sccs_history.specs.Body.{HistoryLine, lines_of};
+ghost use Rattle.sccs_history.specs.Applied.{live_serials};
+ghost use Rattle.sccs_history.specs.Numbers.{has};
+ghost use Rattle.sccs_history.specs.declared.headers.Item.{Item};
+ghost use Rattle.sccs_table.specs.FrontFile.{IsPlaced};
+ghost use Rattle.sccs_table.specs.Standing.{bytes_in};
+ghost use Rattle.sccs_weave.specs.Regions.{Holds};
+ghost use Rattle.sccs_versions.specs.Coming.{ComeFirst, Coming, GivesNext, IsBody, ShowsItem, shown, text_of_lines};
+ghost use Rattle.sccs_versions.specs.Place.{AreShown, IsInserter, at_hand, bytes_left, name_of};
+ghost use Rattle.sccs_versions.specs.WasRead.{HasRead, ReadsNext, ReadsOn};
+ghost use Rattle.sccs_versions.specs.declared.readers.Next.TheVariants as next;
+
+use sccs_base::{Line, Memory, Name};
+use sccs_body::{Item, ItemReader};
+use sccs_disk::Disk;
+use sccs_grammar::FileFault;
+use sccs_sets::Applied;
+use sccs_table::Front;
+use sccs_weave::Weaver;
+use std::alloc::Global;
+use std::marker::Model;
+
+/// What comes next in the body that a version is read from.
+#[derive(Drop)]
+pub enum Next {
+    /// A line that the set shows.
+    Line(Line),
+    /// A line or a mark of which nothing is shown.
+    Hidden,
+    /// The end of the body.
+    End,
+}
+
+/// Gives the lines of a version: runs of lines that stand together (`texts`, `pass`), and others one
+/// by one (`next`). Contracts see the set, where the items are read, and what is open there.
+#[derive(Drop)]
+pub struct VersionReader<'a> {
+    set: &'a Applied,
+    items: ItemReader,
+    weaver: Weaver,
+}
+
+impl<'a> Model for VersionReader<'a> {
+    ghost use Rattle.sccs_versions.specs.Place.{VersionPlace};
+
+    ghost Value = { VersionPlace };
+
+    ghost view = { λ r. record { set = r.set.now; items = r.items; regions = r.weaver } };
+
+    ghost invariant = { λ r. Unit {0} };
+}
+
+// what an item shows of itself; the weaver then stands behind it
+fn show_item(weaver: &mut Weaver, set: &Applied, item: Item) -> Result<Next, FileFault>
+    ensures shows { (before : List Item) → Holds set.now before weaver.old → ShowsItem set.now before item weaver.new result }
+    ensures never { result ≢ Err faults.Failed }
+{
+    let Ok(()) = weaver.push_item(&item, set) else {
+        return Err(FileFault::Memory);
+    };
+    match item {
+        Item::Text(line) => {
+            if weaver.keep() {
+                Ok(Next::Line(line))
+            } else {
+                Ok(Next::Hidden)
+            }
+        }
+        Item::Insert(_) => Ok(Next::Hidden),
+        Item::Delete(_) => Ok(Next::Hidden),
+        Item::End(_) => Ok(Next::Hidden),
+    }
+}
+
+impl<'a> VersionReader<'a> {
+    /// Before all lines of the version that a set shows of the body that a front names.
+    pub fn new(
+        alloc: Global,
+        name: &Name,
+        front: &Front,
+        set: &'a Applied,
+    ) -> Result<VersionReader<'a>, Memory>
+        ensures name { IfOk result (λ r. name_of r ≡ name.now) }
+        ensures coming { IsPlaced front.now → IfOk result (λ r. (told : Option (List ℕ)) (file : List ℕ) (items : List Item)
+            → IsBody told front.now set.now file items → Coming file r (shown set.now (lines_of items))) }
+        ensures read { IfOk result (λ r. has set.now 0 ≡ false → HasRead (live_serials front.now.header.records) r []) }
+        ensures set { IfOk result (λ r. r.set ≡ set.now) }
+    {
+        let items = ItemReader::new(alloc, name, front)?;
+        Ok(VersionReader {
+            set,
+            items,
+            weaver: Weaver::new(alloc),
+        })
+    }
+
+    /// Lines to come that are held whole, each with its LF; none where the next line isn't shown.
+    #[inline(always)]
+    pub fn texts(&self) -> &[u8]
+        ensures shown { AreShown self.now (length result.now) }
+        ensures value { result.now ≡ at_hand self.now (length result.now) }
+        ensures first { (file : List ℕ) (lines : List HistoryLine) → Coming file self.now lines
+            → (rest : List ℕ) × (text_of_lines lines ≡ result.now ++ rest) }
+    {
+        if self.weaver.keep() {
+            self.items.texts()
+        } else {
+            &[]
+        }
+    }
+
+    /// The serial of the delta that inserted the lines of `texts`, or the line that `next` gave last.
+    pub fn inserter(&self) -> u16
+        ensures { IsInserter self.now.regions result }
+    {
+        self.weaver.inserter()
+    }
+
+    /// Passes over so many bytes of lines that `texts` gives.
+    #[inline(always)]
+    pub fn pass(&mut self, count: usize)
+        requires { AreShown self.old count }
+        ensures set { self.new.set ≡ self.old.set }
+        ensures name { name_of self.new ≡ name_of self.old }
+        ensures left { bytes_left self.new ≤ bytes_left self.old }
+        ensures coming { (file : List ℕ) (lines : List HistoryLine) → Coming file self.old lines
+            → ComeFirst file self.old self.new (at_hand self.old count) lines }
+        ensures read { (live : List ℕ) (before : List Item) → HasRead live self.old before → ReadsOn live self.new before (at_hand self.old count) }
+    {
+        self.items.pass(count);
+    }
+
+    // passes over the lines that are held whole, where they aren't shown
+    #[inline(always)]
+    fn pass_hidden(&mut self)
+        ensures set { self.new.set ≡ self.old.set }
+        ensures name { name_of self.new ≡ name_of self.old }
+        ensures left { bytes_left self.new ≤ bytes_left self.old }
+        ensures coming { (file : List ℕ) (lines : List HistoryLine) → Coming file self.old lines → Coming file self.new lines }
+        ensures read { (live : List ℕ) (before : List Item) → HasRead live self.old before → ReadsOn live self.new before [] }
+    {
+        if !self.weaver.keep() {
+            let count = self.items.texts().len();
+            self.items.pass(count);
+        }
+    }
+
+    /// The next line that the set shows, or that nothing of the next item is shown; the end of the
+    /// body. BadFormat has the number of the line at which no item may stand.
+    pub fn next<D: Disk>(&mut self, disk: &mut D) -> Result<Next, FileFault>
+        ensures same { D.told disk.new ≡ D.told disk.old }
+        ensures later { D.faults disk.old ≤ D.faults disk.new }
+        ensures cause { result ≡ Err faults.Failed → Rose (D.faults disk.old) (D.faults disk.new) }
+        ensures set { self.new.set ≡ self.old.set }
+        ensures name { name_of self.new ≡ name_of self.old }
+        ensures further { IfOk result (λ n. n ≢ next.End → bytes_left self.new < bytes_left self.old) }
+        ensures told { (file : List ℕ) (lines : List HistoryLine) → bytes_in (seen (D.told disk.old)) (name_of self.old) ≡ Some file
+            → Coming file self.old lines → GivesNext file self.new lines result }
+        ensures read { (live : List ℕ) (before : List Item) → HasRead live self.old before → ReadsNext live self.new before result }
+    {
+        self.pass_hidden();
+        match self.items.next(disk) {
+            Ok(Some(item)) => show_item(&mut self.weaver, self.set, item),
+            Ok(None) => Ok(Next::End),
+            Err(fault) => Err(fault),
+        }
+    }
+}
