@@ -1,7 +1,6 @@
 pub mod ConstantExamples
 pub mod Cuts
 pub mod Gifts
-pub mod Holding
 pub mod Lines
 pub mod NameTests
 pub mod Runs

@@ -1,15 +1,9 @@
 -- The name of an s-file with another first letter is a name.
-use Rattle.std.proofs.Common.{◌≡◌, ℕ, zero, suc, ◌-◌, ◌<◌, ◌≤◌, List, [], ◌∷◌, length, take, drop, set, get_or, ap, lit<, arith, length-drop}
+use Rattle.std.proofs.Common.{◌≡◌, ℕ, zero, suc, ◌-◌, ◌<◌, ◌≤◌, List, [], ◌∷◌, length, take, drop, get_or, ap, lit<, arith, length-drop}
 use Rattle.std.specs.Str.{IsUtf8}
 use Rattle.std.proofs.lemmas.Str.{IsUtf8-append, IsUtf8-drop, IsUtf8-from_ascii, IsCharBoundary-after_ascii}
 use Rattle.std.proofs.lemmas.List.Elements.{All-cons, All-drop}
 use Rattle.sccs_base.specs.Name.{IsName, IsSfile, IsPlain, sibling}
-
--- the front of an array after a write to its first byte
-pub front_set : (n : ℕ) (into from : List ℕ) (letter : ℕ) → take n into ≡ from → 0 < length from → take n (set into 0 letter) ≡ letter ∷ drop 1 from
-front_set zero into from letter is some = absurd (omega (arith, ap length is))
-front_set (suc n) [] from letter is some = absurd (omega (arith, ap length is))
-front_set (suc n) (b ∷ rest) from letter is some = ap (λ (bytes : List ℕ). letter ∷ drop 1 bytes) is
 
 pub sfile_long : (name : List ℕ) → IsSfile name → 2 < length name
 sfile_long name sfile = omega (arith, sfile.rest.some, length-drop 2 name)

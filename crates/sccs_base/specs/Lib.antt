@@ -1,10 +1,9 @@
 pub mod Causes
 pub mod Constants
 pub mod Cut
-pub mod Held
-pub mod HeldLogin
-pub mod HeldName
 pub mod Login
 pub mod Name
+pub mod Padded
 pub mod Planned
+pub mod ShortBytes
 pub mod Stream

@@ -3,31 +3,30 @@ ghost use Rattle.std.specs.Str.{bytes_eq};
 ghost use Rattle.sccs_base.specs.Name.{IsName, IsSfile, is_name, is_sfile_name, sibling};
 
 use crate::constants::LF;
-use crate::held::copy_front;
+use crate::short_bytes::ShortBytes;
 use std::marker::Model;
+
+// the greatest length of a name, in bytes
+const NAME_LENGTH: usize = 250;
 
 /// The name of a file in the current folder: 1 to 250 bytes of UTF-8 without slash, LF and NUL,
 /// neither `.` nor `..`. Contracts see it as its bytes.
 #[derive(Clone, Copy)]
 pub struct Name {
-    bytes: [u8; 250],
-    len: usize,
+    bytes: ShortBytes<NAME_LENGTH>,
 }
 
 impl Model for Name {
-    ghost use Rattle.std.specs.Prelude.{List, ℕ, take};
+    ghost use Rattle.std.specs.Prelude.{List, ℕ};
+    ghost use Rattle.sccs_base.specs.Name.{IsName};
 
     ghost Value = { List ℕ };
 
-    ghost use Rattle.sccs_base.specs.HeldName.{IsHeldName, held_name, held_name-bytes};
+    ghost view = { λ n. n.bytes };
 
-    ghost view = { λ n. take n.len n.bytes };
+    ghost invariant = { λ n. IsName n.bytes };
 
-    ghost invariant = { IsHeldName };
-
-    ghost inverse = { held_name };
-
-    ghost inverse_ok = { held_name-bytes };
+    ghost inverse = { λ bytes. record { bytes = bytes } };
 }
 
 // whether bytes are a name
@@ -35,7 +34,7 @@ fn fits(bytes: &[u8]) -> bool
     ensures { IsTrue result ↔ IsName bytes.now }
 {
     0 < bytes.len()
-        && bytes.len() < 251
+        && bytes.len() <= NAME_LENGTH
         && bytes != b".".as_slice()
         && bytes != b"..".as_slice()
         && bytes.iter().all(|b| *b != b'/' && *b != LF && *b != 0)
@@ -52,14 +51,14 @@ fn names_sfile(bytes: &[u8]) -> bool
     }
 }
 
-// holds bytes that are a name
-fn hold(bytes: &[u8]) -> Name
+// the name that bytes are
+fn named(bytes: &[u8]) -> Name
     requires { IsName bytes.now }
     ensures { result ≡ bytes.now }
 {
-    let mut held = [0; 250];
-    let len = copy_front(bytes, &mut held);
-    Name { bytes: held, len }
+    Name {
+        bytes: ShortBytes::new(bytes),
+    }
 }
 
 impl Name {
@@ -68,7 +67,7 @@ impl Name {
         ensures found { IfSome result (λ name. name ≡ bytes.now) }
         ensures exact { is_some result ≡ is_name bytes.now }
     {
-        if fits(bytes) { Some(hold(bytes)) } else { None }
+        if fits(bytes) { Some(named(bytes)) } else { None }
     }
 
     /// The name of an s-file that bytes are: `s.` and a name by itself; None exactly where they are none.
@@ -87,7 +86,7 @@ impl Name {
         ensures value { result.now ≡ self.now }
         ensures name { IsName self.now }
     {
-        &self.bytes[..self.len]
+        self.bytes.bytes()
     }
 
     /// The name as text.
@@ -123,10 +122,9 @@ impl Name {
         requires high { letter ≤ 122 }
         ensures { result ≡ sibling letter self.now }
     {
-        let mut held = [0; 250];
-        let len = copy_front(self.bytes(), &mut held);
-        held[0] = letter;
-        hold(&held[..len])
+        Name {
+            bytes: self.bytes.with_first(letter),
+        }
     }
 
     /// The name of an s-file without its first two bytes.
@@ -134,6 +132,6 @@ impl Name {
         requires { IsSfile self.now }
         ensures { result ≡ drop 2 self.now }
     {
-        hold(&self.bytes()[2..])
+        named(&self.bytes()[2..])
     }
 }

@@ -2,13 +2,14 @@
 #![tactic(auto)]
 
 mod constants;
+mod copies;
 mod file_names;
-mod held;
 mod lists;
 mod logins;
 mod memory_streams;
 mod output_buffers;
 mod pieces;
+mod short_bytes;
 mod standard_streams;
 mod streams;
 #[cfg(test)]
@@ -16,8 +17,8 @@ mod tests;
 mod texts;
 
 pub use constants::{BLANK, FILE_LIMIT, LF, SOH};
+pub use copies::copy_front;
 pub use file_names::Name;
-pub use held::copy_front;
 pub use lists::{Bytes, ListOf, Names, Text, Words};
 pub use logins::Login;
 pub use memory_streams::{MemorySink, MemorySource, NullSink, SteadySource};

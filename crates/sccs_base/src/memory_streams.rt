@@ -2,7 +2,7 @@ ghost use Rattle.std.specs.Prelude.{◌≡◌, ℕ, ◌+◌, ◌<◌, ◌≤◌,
 ghost use Rattle.sccs_base.specs.Causes.{GivesText};
 ghost use Rattle.sccs_base.specs.Stream.{Rose, one_more, TakesOk, TakesNone, GivesOk, GivesSome};
 
-use crate::held::copy_front;
+use crate::copies::copy_front;
 use crate::streams::{Failed, Memory, Sink, Source, one_more};
 use std::alloc::Global;
 
