@@ -67,7 +67,11 @@ impl Name {
         ensures found { IfSome result (λ name. name ≡ bytes.now) }
         ensures exact { is_some result ≡ is_name bytes.now }
     {
-        if fits(bytes) { Some(named(bytes)) } else { None }
+        if fits(bytes) {
+            Some(named(bytes))
+        } else {
+            None
+        }
     }
 
     /// The name of an s-file that bytes are: `s.` and a name by itself; None exactly where they are none.

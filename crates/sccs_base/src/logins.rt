@@ -50,7 +50,11 @@ impl Login {
         ensures found { IfSome result (λ login. login ≡ bytes.now) }
         ensures exact { is_some result ≡ is_login bytes.now }
     {
-        if fits(bytes) { Some(named(bytes)) } else { None }
+        if fits(bytes) {
+            Some(named(bytes))
+        } else {
+            None
+        }
     }
 
     /// The login where none is known.

@@ -121,23 +121,24 @@ in_texts n parts e (Comment t) = Ok (reading_at (InTexts (with_comment e t)) par
 in_texts n parts e EndEntry = Ok (reading_at AtEntry (record parts { table = with_entry parts.table e }))
 in_texts n parts e _ = Err n
 
--- a list of one kind, once, of smaller serials, and none of them both included and excluded
-abbrev pub include_list : ℕ → Parts → Entry → Stood → List ℕ → Result Reading ℕ
-include_list n parts e stood ns =
-    if_fits (not stood.included && all_below e.row.serial ns && not (share ns e.row.exclude)) n (reading_at (InLists (with_include e ns) (record stood { included = true })) parts)
+-- a list of one kind stands once, it names smaller serials, and none is both included and excluded
+abbrev pub list_fits : Entry → Stood → Which → List ℕ → Bool
+list_fits e stood Included ns = not stood.included && all_below e.row.serial ns && not (share ns e.row.exclude)
+list_fits e stood Excluded ns = not stood.excluded && all_below e.row.serial ns && not (share ns e.row.include)
+list_fits e stood Ignored ns = not stood.ignored && all_below e.row.serial ns
 
-abbrev pub exclude_list : ℕ → Parts → Entry → Stood → List ℕ → Result Reading ℕ
-exclude_list n parts e stood ns =
-    if_fits (not stood.excluded && all_below e.row.serial ns && not (share ns e.row.include)) n (reading_at (InLists (with_exclude e ns) (record stood { excluded = true })) parts)
+abbrev pub put_list : Entry → Which → List ℕ → Entry
+put_list e Included ns = with_include e ns
+put_list e Excluded ns = with_exclude e ns
+put_list e Ignored ns = with_ignore e ns
 
-abbrev pub ignore_list : ℕ → Parts → Entry → Stood → List ℕ → Result Reading ℕ
-ignore_list n parts e stood ns =
-    if_fits (not stood.ignored && all_below e.row.serial ns) n (reading_at (InLists (with_ignore e ns) (record stood { ignored = true })) parts)
+abbrev pub stood_with : Stood → Which → Stood
+stood_with stood Included = record stood { included = true }
+stood_with stood Excluded = record stood { excluded = true }
+stood_with stood Ignored = record stood { ignored = true }
 
 abbrev pub with_list : ℕ → Parts → Entry → Stood → Which → List ℕ → Result Reading ℕ
-with_list n parts e stood Included ns = include_list n parts e stood ns
-with_list n parts e stood Excluded ns = exclude_list n parts e stood ns
-with_list n parts e stood Ignored ns = ignore_list n parts e stood ns
+with_list n parts e stood which ns = if_fits (list_fits e stood which ns) n (reading_at (InLists (put_list e which ns) (stood_with stood which)) parts)
 
 abbrev pub in_lists : ℕ → Parts → Entry → Stood → Said → Result Reading ℕ
 in_lists n parts e stood (Listed which ns) = with_list n parts e stood which ns

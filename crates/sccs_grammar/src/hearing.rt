@@ -1,13 +1,13 @@
 //! What is read of a header with a line more.
-ghost use Rattle.std.specs.Prelude.{◌≡◌, Ok, Err, [], ◌∷◌, ◌++◌};
+ghost use Rattle.std.specs.Prelude.{◌≡◌, Ok, Err, [], ◌∷◌, ◌++◌, IfOk, IfErr};
 ghost use Rattle.sccs_grammar.specs.Entries.{with_entry as with_entry_spec};
-ghost use Rattle.sccs_grammar.specs.Front.{Hears, HearsAt, HearsIn, after, at_delta, at_entry, ends_table, exclude_list, ignore_list, in_description, in_flags, in_lists, in_texts, in_users, include_list, lost, new_flag, reading_at, with_comment, with_list, with_mr};
+ghost use Rattle.sccs_grammar.specs.Front.{Hears, HearsAt, HearsIn, after, at_delta, at_entry, ends_table, in_description, in_flags, in_lists, in_texts, in_users, list_fits, lost, new_flag, put_list, reading_at, stood_with, with_comment, with_list, with_mr};
 
 use crate::readings::{Entry, FrontFault, Parts, Place, Reading, Stood};
 use crate::sayings::{Said, Which};
 use crate::table_tests::{all_below, flag_fits, is_new, share};
 use crate::tables::{Table, with_entry};
-use sccs_base::Line;
+use sccs_base::{Line, Text};
 use sccs_history::{Flag, Record, Serials};
 use std::alloc::Global;
 use std::mem::replace;
@@ -76,65 +76,40 @@ fn in_texts(
     }
 }
 
-// a list of one kind: it stands once, and names smaller serials
-fn include_list(
-    number: u64,
-    mut entry: Entry,
-    stood: Stood,
-    serials: Serials,
-) -> Result<Place, FrontFault>
-    ensures { (parts : Parts) → HearsAt parts result (include_list number parts entry stood serials) }
+// whether a list of one kind may stand: once, of smaller serials, of which none is both included and
+// excluded
+fn list_fits(entry: &Entry, stood: Stood, which: Which, serials: &[u16]) -> bool
+    ensures { result ≡ list_fits entry.now stood which serials.now }
 {
-    let below = all_below(entry.row.serial, serials.items());
-    if stood.included || !below || share(serials.items(), entry.row.exclude.items()) {
-        return Err(FrontFault::Format(number));
+    let row = &entry.row;
+    let below = all_below(row.serial, serials);
+    match which {
+        Which::Included => !stood.included && below && !share(serials, row.exclude.items()),
+        Which::Excluded => !stood.excluded && below && !share(serials, row.include.items()),
+        Which::Ignored => !stood.ignored && below,
     }
-    entry.row.include = serials;
-    let stood = Stood {
-        included: true,
-        ..stood
-    };
-    Ok(Place::InLists(entry, stood))
 }
 
-fn exclude_list(
-    number: u64,
-    mut entry: Entry,
-    stood: Stood,
-    serials: Serials,
-) -> Result<Place, FrontFault>
-    ensures { (parts : Parts) → HearsAt parts result (exclude_list number parts entry stood serials) }
+fn put_list(mut entry: Entry, which: Which, serials: Serials) -> Entry
+    ensures { result ≡ put_list entry which serials }
 {
-    let below = all_below(entry.row.serial, serials.items());
-    if stood.excluded || !below || share(serials.items(), entry.row.include.items()) {
-        return Err(FrontFault::Format(number));
+    match which {
+        Which::Included => entry.row.include = serials,
+        Which::Excluded => entry.row.exclude = serials,
+        Which::Ignored => entry.row.ignore = serials,
     }
-    entry.row.exclude = serials;
-    let stood = Stood {
-        excluded: true,
-        ..stood
-    };
-    Ok(Place::InLists(entry, stood))
+    entry
 }
 
-fn ignore_list(
-    number: u64,
-    mut entry: Entry,
-    stood: Stood,
-    serials: Serials,
-) -> Result<Place, FrontFault>
-    ensures { (parts : Parts) → HearsAt parts result (ignore_list number parts entry stood serials) }
+fn stood_with(mut stood: Stood, which: Which) -> Stood
+    ensures { result ≡ stood_with stood which }
 {
-    let below = all_below(entry.row.serial, serials.items());
-    if stood.ignored || !below {
-        return Err(FrontFault::Format(number));
+    match which {
+        Which::Included => stood.included = true,
+        Which::Excluded => stood.excluded = true,
+        Which::Ignored => stood.ignored = true,
     }
-    entry.row.ignore = serials;
-    let stood = Stood {
-        ignored: true,
-        ..stood
-    };
-    Ok(Place::InLists(entry, stood))
+    stood
 }
 
 #[inline(never)]
@@ -147,11 +122,11 @@ fn with_list(
 ) -> Result<Place, FrontFault>
     ensures { (parts : Parts) → HearsAt parts result (with_list number parts entry stood which serials) }
 {
-    match which {
-        Which::Included => include_list(number, entry, stood, serials),
-        Which::Excluded => exclude_list(number, entry, stood, serials),
-        Which::Ignored => ignore_list(number, entry, stood, serials),
+    if !list_fits(&entry, stood, which, serials.items()) {
+        return Err(FrontFault::Format(number));
     }
+    let entry = put_list(entry, which, serials);
+    Ok(Place::InLists(entry, stood_with(stood, which)))
 }
 
 fn in_lists(
@@ -240,14 +215,15 @@ fn at_delta(
     }
 }
 
-// one user more
-fn new_user(parts: &mut Parts, line: Line) -> Result<Place, FrontFault>
-    ensures { HearsAt parts.new result (Ok (reading_at Place.InUsers (record parts.old { users = parts.old.users ++ line ∷ [] }))) }
+// one line more of the users or the description; the next line stands at that place
+fn new_line(text: &mut Text, line: Line, place: Place) -> Result<Place, FrontFault>
+    ensures ok { IfOk result (λ p. (p ≡ place) × (text.new ≡ text.old ++ line ∷ [])) }
+    ensures err { IfErr result (λ fault. fault ≡ FrontFault.Memory) }
 {
-    if parts.users.push(line).is_err() {
-        return Err(FrontFault::Memory);
+    match text.push(line) {
+        Ok(()) => Ok(place),
+        Err(_) => Err(FrontFault::Memory),
     }
-    Ok(Place::InUsers)
 }
 
 #[inline(never)]
@@ -255,7 +231,7 @@ fn in_users(number: u64, parts: &mut Parts, said: Said) -> Result<Place, FrontFa
     ensures { HearsAt parts.new result (in_users number parts.old said) }
 {
     match said {
-        Said::Plain(line) => new_user(parts, line),
+        Said::Plain(line) => new_line(&mut parts.users, line, Place::InUsers),
         Said::EndUsers => Ok(Place::InFlags),
         said => refuse(number, said),
     }
@@ -285,22 +261,12 @@ fn in_flags(number: u64, parts: &mut Parts, said: Said) -> Result<Place, FrontFa
     }
 }
 
-// one line of the description more
-fn new_line(parts: &mut Parts, line: Line) -> Result<Place, FrontFault>
-    ensures { HearsAt parts.new result (Ok (reading_at Place.InDescription (record parts.old { description = parts.old.description ++ line ∷ [] }))) }
-{
-    if parts.description.push(line).is_err() {
-        return Err(FrontFault::Memory);
-    }
-    Ok(Place::InDescription)
-}
-
 #[inline(never)]
 fn in_description(number: u64, parts: &mut Parts, said: Said) -> Result<Place, FrontFault>
     ensures { HearsAt parts.new result (in_description number parts.old said) }
 {
     match said {
-        Said::Plain(line) => new_line(parts, line),
+        Said::Plain(line) => new_line(&mut parts.description, line, Place::InDescription),
         Said::EndDescription => Ok(Place::AtBody),
         said => refuse(number, said),
     }

@@ -27,6 +27,13 @@ Gives (Err faults.Memory) meant = Unit {0}
 abbrev pub bad : ℕ → ℕ → Result Command Usage
 bad kind word = Err (record { kind = kind; word = word })
 
+abbrev pub own_utility : List ℕ → Option Utility
+own_utility word =
+    if bytes_eq word (codes "recover") then Some u.Recover
+    else if bytes_eq word (codes "batch") then Some u.Batch
+    else if bytes_eq word (codes "soak") then Some u.Soak
+    else None
+
 unfoldable pub utility_of : List ℕ → Option Utility
 utility_of word =
     if bytes_eq word (codes "admin") then Some u.Admin
@@ -38,10 +45,7 @@ utility_of word =
     else if bytes_eq word (codes "prs") then Some u.Prs
     else if bytes_eq word (codes "val") then Some u.Val
     else if bytes_eq word (codes "what") then Some u.What
-    else if bytes_eq word (codes "recover") then Some u.Recover
-    else if bytes_eq word (codes "batch") then Some u.Batch
-    else if bytes_eq word (codes "soak") then Some u.Soak
-    else None
+    else own_utility word
 
 abbrev pub first_of : List (List ℕ) → Option (List ℕ)
 first_of [] = None

@@ -1,6 +1,6 @@
 ghost use Rattle.std.specs.Prelude.{◌≡◌, ◌+◌, ◌^◌, ◌<◌, length, option_and_then, IfOk};
 ghost use Rattle.sccs_words.specs.Letters as opt;
-ghost use Rattle.sccs_words.specs.Meaning.{Gives, meaning, first_of, with_name, with_sid, with_number, utility_of as utility_spec, command_of as command_spec, refusal_of as refusal_spec, line_meaning as line_spec};
+ghost use Rattle.sccs_words.specs.Meaning.{Gives, meaning, first_of, with_name, with_sid, with_number, own_utility, utility_of as utility_spec, command_of as command_spec, refusal_of as refusal_spec, line_meaning as line_spec};
 ghost use Rattle.sccs_words.specs.Records.{value_of as value_spec};
 ghost use Rattle.sccs_words.specs.Scan.{end_of};
 ghost use Rattle.sccs_words.specs.Scanned.{line_of};
@@ -20,6 +20,22 @@ use crate::values::soak_number;
 use sccs_base::{Bytes, Memory, Name, Words};
 use std::alloc::Global;
 
+// the utilities that are our own
+fn own_utility(word: &[u8]) -> Option<Utility>
+    ensures { result ≡ own_utility word.now }
+{
+    if word == b"recover".as_slice() {
+        Some(Utility::Recover)
+    } else if word == b"batch".as_slice() {
+        Some(Utility::Batch)
+    } else if word == b"soak".as_slice() {
+        Some(Utility::Soak)
+    } else {
+        None
+    }
+}
+
+// the utilities of the standard, and our own
 #[tactic(auto, unfolding(crate::specs::Meaning::utility_of))]
 fn utility_of(word: &[u8]) -> Option<Utility>
     ensures { result ≡ utility_spec word.now }
@@ -42,14 +58,8 @@ fn utility_of(word: &[u8]) -> Option<Utility>
         Some(Utility::Val)
     } else if word == b"what".as_slice() {
         Some(Utility::What)
-    } else if word == b"recover".as_slice() {
-        Some(Utility::Recover)
-    } else if word == b"batch".as_slice() {
-        Some(Utility::Batch)
-    } else if word == b"soak".as_slice() {
-        Some(Utility::Soak)
     } else {
-        None
+        own_utility(word)
     }
 }
 

@@ -73,40 +73,14 @@ pub fn sid_at(uses: &[Use], letter: u8) -> Option<Sid>
     ensures value { result ≡ option_and_then sid_spec (value_spec letter uses.now) }
     ensures valid { IfSome result IsSid }
 {
-    match value_of(uses, letter) {
-        Some(bytes) => sid_value(bytes),
-        None => None,
-    }
+    sid_value(value_of(uses, letter)?)
 }
 
 fn spec_at(uses: &[Use], letter: u8) -> Option<Spec>
     ensures value { result ≡ option_and_then spec_spec (value_spec letter uses.now) }
     ensures valid { IfSome result IsSpec }
 {
-    match value_of(uses, letter) {
-        Some(bytes) => spec_value(bytes),
-        None => None,
-    }
-}
-
-fn moment_at(uses: &[Use], letter: u8) -> Option<Moment>
-    ensures value { result ≡ option_and_then moment_spec (value_spec letter uses.now) }
-    ensures valid { IfSome result IsMoment }
-{
-    match value_of(uses, letter) {
-        Some(bytes) => moment_value(bytes),
-        None => None,
-    }
-}
-
-fn release_at(uses: &[Use], letter: u8) -> Option<u16>
-    ensures value { result ≡ option_and_then release_spec (value_spec letter uses.now) }
-    ensures valid { IfSome result IsComponent }
-{
-    match value_of(uses, letter) {
-        Some(bytes) => release_value(bytes),
-        None => None,
-    }
+    spec_value(value_of(uses, letter)?)
 }
 
 fn list_at(alloc: Global, uses: &[Use], letter: u8) -> Result<Option<SidList>, Memory>
@@ -117,6 +91,20 @@ fn list_at(alloc: Global, uses: &[Use], letter: u8) -> Result<Option<SidList>, M
         Some(bytes) => list_value(alloc, bytes),
         None => Ok(None),
     }
+}
+
+fn moment_at(uses: &[Use], letter: u8) -> Option<Moment>
+    ensures value { result ≡ option_and_then moment_spec (value_spec letter uses.now) }
+    ensures valid { IfSome result IsMoment }
+{
+    moment_value(value_of(uses, letter)?)
+}
+
+fn release_at(uses: &[Use], letter: u8) -> Option<u16>
+    ensures value { result ≡ option_and_then release_spec (value_spec letter uses.now) }
+    ensures valid { IfSome result IsComponent }
+{
+    release_value(value_of(uses, letter)?)
 }
 
 fn bytes_at(alloc: Global, uses: &[Use], letter: u8) -> Result<Option<Bytes>, Memory>
