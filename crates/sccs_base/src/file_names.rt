@@ -2,12 +2,9 @@ ghost use Rattle.std.specs.Prelude.{◌≡◌, ◌<◌, ◌≤◌, ◌↔◌, Li
 ghost use Rattle.std.specs.Str.{bytes_eq};
 ghost use Rattle.sccs_base.specs.Name.{IsName, IsSfile, is_name, is_sfile_name, sibling};
 
-use crate::constants::LF;
+use crate::constants::{LF, NAME_LENGTH};
 use crate::short_bytes::ShortBytes;
 use std::marker::Model;
-
-// the greatest length of a name, in bytes
-const NAME_LENGTH: usize = 250;
 
 /// The name of a file in the current folder: 1 to 250 bytes of UTF-8 without slash, LF and NUL,
 /// neither `.` nor `..`. Contracts see it as its bytes.
