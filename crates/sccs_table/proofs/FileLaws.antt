@@ -14,7 +14,7 @@ use Rattle.sccs_grammar.specs.declared.faults.FileFault.{FileFault}
 use Rattle.sccs_grammar.specs.declared.faults.FileFault.TheVariants.{Missing, TooLong, NotSccs, BadSum, BadFormat, Encoded, Failed, Memory}
 use Rattle.sccs_table.specs.declared.fronts.Front.{Front}
 use Rattle.sccs_table.specs.SumOf.{IsSumOf}
-use Rattle.sccs_table.specs.Standing.{Standing, StandsIn, TakesLine, bytes_in, file_in, left}
+use Rattle.sccs_table.specs.ReaderState.{ReaderState, StandsIn, TakesLine, bytes_in, file_in, left}
 use Rattle.sccs_table.specs.FrontFile.{Refuses, Answers, IsFrontOf, AnswersFront, ShowsFront, Opens, TakesSum, SumLine, ReadsLines, Reads}
 use Rattle.sccs_table.proofs.ReaderLaws.{holding}
 
@@ -24,26 +24,26 @@ opened_lines : (file : List ℕ) (lines : List (List ℕ)) → (cut file).lines 
 unfolding opened
 opened_lines file lines is = ap (opened_cut file) is
 
-from_front : (old : Standing) (file : List ℕ) → old.place ≡ 0 → left old file ≡ cut file
+from_front : (old : ReaderState) (file : List ℕ) → old.place ≡ 0 → left old file ≡ cut file
 from_front old file zero_is = ap (λ n. cut (drop n file)) zero_is
 
-pub no_sum_line : (o : Option (List ℕ)) (old new : Standing) (line : List ℕ) → old.place ≡ 0 → TakesLine o old new line false → SumLine o old new (Err NotSccs)
+pub no_sum_line : (o : Option (List ℕ)) (old new : ReaderState) (line : List ℕ) → old.place ≡ 0 → TakesLine o old new line false → SumLine o old new (Err NotSccs)
 no_sum_line None old new line front takes = tt
 no_sum_line (Some file) old new line front takes = λ stands.
     opened_lines file [] (ap (λ (c : Cut). c.lines) (sym (from_front old file front) ∙ (takes stands).1))
 
-opened_first : (old new : Standing) (file line : List ℕ) (found : Option ℕ) → old.place ≡ 0 → left old file ≡ record { lines = line ∷ (left new file).lines; tail = (left new file).tail } → stored line ≡ found → new.place ≡ old.place + length line + 1
+opened_first : (old new : ReaderState) (file line : List ℕ) (found : Option ℕ) → old.place ≡ 0 → left old file ≡ record { lines = line ∷ (left new file).lines; tail = (left new file).tail } → stored line ≡ found → new.place ≡ old.place + length line + 1
     → opened file ≡ opened_by found (left new file).lines (drop new.place file)
 opened_first old new file line found front is says moved =
     let place : length line + 1 ≡ new.place = omega arith in
     opened_lines file (line ∷ (left new file).lines) (ap (λ (c : Cut). c.lines) (sym (from_front old file front) ∙ is))
     ∙ (ap (λ o. opened_by o (left new file).lines (drop (length line + 1) file)) says ∙ ap (λ n. opened_by found (left new file).lines (drop n file)) place)
 
-pub other_line : (o : Option (List ℕ)) (old new : Standing) (line : List ℕ) → old.place ≡ 0 → TakesLine o old new line true → stored line ≡ None → new.place ≡ old.place + length line + 1 → SumLine o old new (Err NotSccs)
+pub other_line : (o : Option (List ℕ)) (old new : ReaderState) (line : List ℕ) → old.place ≡ 0 → TakesLine o old new line true → stored line ≡ None → new.place ≡ old.place + length line + 1 → SumLine o old new (Err NotSccs)
 other_line None old new line front takes says moved = tt
 other_line (Some file) old new line front takes says moved = λ stands. opened_first old new file line None front (takes stands).1 says moved
 
-pub sum_line_found : (o : Option (List ℕ)) (old new : Standing) (line : List ℕ) (n : ℕ) → old.place ≡ 0 → TakesLine o old new line true → stored line ≡ Some n → new.place ≡ old.place + length line + 1 → SumLine o old new (Ok n)
+pub sum_line_found : (o : Option (List ℕ)) (old new : ReaderState) (line : List ℕ) (n : ℕ) → old.place ≡ 0 → TakesLine o old new line true → stored line ≡ Some n → new.place ≡ old.place + length line + 1 → SumLine o old new (Ok n)
 sum_line_found None old new line n front takes says moved = tt
 sum_line_found (Some file) old new line n front takes says moved = λ stands.
     let taken = takes stands in
@@ -63,10 +63,10 @@ checked_by file o holds is sums = rw (is, sums) refl
 holds_by : (o : Opened) (sums : ℕ × ℕ) (holds : Bool) → IsSumOf sums o.bytes → ((o.sum_of == sums.0) || (o.sum_of == sums.1)) ≡ holds → sum_holds o ≡ holds
 holds_by o sums holds are test = ap (λ n. (o.sum_of == n) || (o.sum_of == signed_sum o.bytes)) (sym are.0) ∙ (ap (λ n. (o.sum_of == sums.0) || (o.sum_of == n)) (sym are.1) ∙ test)
 
-abbrev opened_at : Standing → List ℕ → ℕ → Opened
+abbrev opened_at : ReaderState → List ℕ → ℕ → Opened
 opened_at new file n = record { sum_of = n; lines = (left new file).lines; bytes = drop new.place file }
 
-pub sum_refused : (file : List ℕ) (new : Standing) (e : FileFault) → TakesSum file new (Err e) → Refuses e (checked_front file)
+pub sum_refused : (file : List ℕ) (new : ReaderState) (e : FileFault) → TakesSum file new (Err e) → Refuses e (checked_front file)
 sum_refused file new Missing takes = absurd takes
 sum_refused file new TooLong takes = absurd takes
 sum_refused file new NotSccs takes = checked_unopened file takes
@@ -76,14 +76,14 @@ sum_refused file new Encoded takes = absurd takes
 sum_refused file new Failed takes = tt
 sum_refused file new Memory takes = tt
 
-pub bad_sum : (file : List ℕ) (new : Standing) (n : ℕ) (sums : ℕ × ℕ) → TakesSum file new (Ok n) → IsSumOf sums (drop new.place file) → ((n == sums.0) || (n == sums.1)) ≡ false → checked_front file ≡ Err (BadSum n sums.0)
+pub bad_sum : (file : List ℕ) (new : ReaderState) (n : ℕ) (sums : ℕ × ℕ) → TakesSum file new (Ok n) → IsSumOf sums (drop new.place file) → ((n == sums.0) || (n == sums.1)) ≡ false → checked_front file ≡ Err (BadSum n sums.0)
 bad_sum file new n sums takes are test =
     checked_by file (opened_at new file n) false takes.1 (holds_by (opened_at new file n) sums false are test) ∙ ap (λ c. Err (BadSum n c)) (sym are.0)
 
-checked_lines : (file : List ℕ) (new : Standing) (n : ℕ) (sums : ℕ × ℕ) → TakesSum file new (Ok n) → IsSumOf sums (drop new.place file) → ((n == sums.0) || (n == sums.1)) ≡ true → checked_front file ≡ as_format (front_from 2 start (left new file).lines)
+checked_lines : (file : List ℕ) (new : ReaderState) (n : ℕ) (sums : ℕ × ℕ) → TakesSum file new (Ok n) → IsSumOf sums (drop new.place file) → ((n == sums.0) || (n == sums.1)) ≡ true → checked_front file ≡ as_format (front_from 2 start (left new file).lines)
 checked_lines file new n sums takes are test = checked_by file (opened_at new file n) true takes.1 (holds_by (opened_at new file n) sums true are test)
 
-pub format_refused : (file : List ℕ) (new last : Standing) (n : ℕ) (sums : ℕ × ℕ) (e : FileFault) → TakesSum file new (Ok n) → IsSumOf sums (drop new.place file) → ((n == sums.0) || (n == sums.1)) ≡ true → ReadsLines file new last start 2 (Err e) → Refuses e (checked_front file)
+pub format_refused : (file : List ℕ) (new last : ReaderState) (n : ℕ) (sums : ℕ × ℕ) (e : FileFault) → TakesSum file new (Ok n) → IsSumOf sums (drop new.place file) → ((n == sums.0) || (n == sums.1)) ≡ true → ReadsLines file new last start 2 (Err e) → Refuses e (checked_front file)
 format_refused file new last n sums Missing takes are test reads = absurd reads
 format_refused file new last n sums TooLong takes are test reads = absurd reads
 format_refused file new last n sums NotSccs takes are test reads = absurd reads
@@ -96,10 +96,10 @@ format_refused file new last n sums Memory takes are test reads = tt
 abbrev cut_with : List (List ℕ) → List ℕ → Cut
 cut_with lines tail = record { lines = lines; tail = tail }
 
-abbrev front_with : Header → Standing → ℕ → ℕ → ℕ → Front
+abbrev front_with : Header → ReaderState → ℕ → ℕ → ℕ → Front
 front_with header last line size sum = record { header = header; body_from = last.place; body_line = line; size = size; sum = sum }
 
-pub front_found : (file : List ℕ) (new last : Standing) (n size : ℕ) (sums : ℕ × ℕ) (header : Header) (line : ℕ) → TakesSum file new (Ok n) → IsSumOf sums (drop new.place file) → ((n == sums.0) || (n == sums.1)) ≡ true → size ≡ length file → ReadsLines file new last start 2 (Ok (header, line))
+pub front_found : (file : List ℕ) (new last : ReaderState) (n size : ℕ) (sums : ℕ × ℕ) (header : Header) (line : ℕ) → TakesSum file new (Ok n) → IsSumOf sums (drop new.place file) → ((n == sums.0) || (n == sums.1)) ≡ true → size ≡ length file → ReadsLines file new last start 2 (Ok (header, line))
     → Answers (λ p front. IsFrontOf file p front) (Ok (front_with header last line size sums.0)) (checked_front file)
 front_found file new last n size sums header line takes are test long reads =
     let read : ParsedFront = record { header = header; line = line; rest = (left last file).lines } in (
@@ -135,23 +135,23 @@ front_answer (Some view) name size result limit opens answers =
 
 -- ---- the parts of a reading, at a file that is there
 
-pub sum_taken : (o : Option (List ℕ)) (file name : List ℕ) (size : ℕ) (old new : Standing) (result : Result ℕ FileFault) → o ≡ Some file → old ≡ holding name [] 0 size 0 → size ≡ length file → SumLine o old new result → TakesSum file new result
+pub sum_taken : (o : Option (List ℕ)) (file name : List ℕ) (size : ℕ) (old new : ReaderState) (result : Result ℕ FileFault) → o ≡ Some file → old ≡ holding name [] 0 size 0 → size ≡ length file → SumLine o old new result → TakesSum file new result
 sum_taken o file name size old new result is fresh long takes =
     subst (λ q. SumLine q old new result) is takes (subst (λ s. StandsIn s file) (sym fresh) (fresh_stands name file 0 size (omega arith) long))
 
-pub sums_taken : (o : Option (List ℕ)) (file name : List ℕ) (place size : ℕ) (old : Standing) (sums : ℕ × ℕ) → o ≡ Some file → old ≡ holding name [] place size 0 → place ≤ size → size ≡ length file → IfSome o (λ f. StandsIn old f → IsSumOf sums (drop old.place f)) → IsSumOf sums (drop place file)
+pub sums_taken : (o : Option (List ℕ)) (file name : List ℕ) (place size : ℕ) (old : ReaderState) (sums : ℕ × ℕ) → o ≡ Some file → old ≡ holding name [] place size 0 → place ≤ size → size ≡ length file → IfSome o (λ f. StandsIn old f → IsSumOf sums (drop old.place f)) → IsSumOf sums (drop place file)
 sums_taken o file name place size old sums is fresh low long summed =
     let here = subst (λ q. IfSome q (λ f. StandsIn old f → IsSumOf sums (drop old.place f))) is summed in
-    subst (λ n. IsSumOf sums (drop n file)) (ap (λ (s : Standing). s.place) fresh) (here (subst (λ s. StandsIn s file) (sym fresh) (fresh_stands name file place size low long)))
+    subst (λ n. IsSumOf sums (drop n file)) (ap (λ (s : ReaderState). s.place) fresh) (here (subst (λ s. StandsIn s file) (sym fresh) (fresh_stands name file place size low long)))
 
-pub lines_taken : (o : Option (List ℕ)) (file : List ℕ) (new last : Standing) (n : ℕ) (result : Result (Header × ℕ) FileFault) → o ≡ Some file → TakesSum file new (Ok n) → Reads o new last start 2 result → ReadsLines file new last start 2 result
+pub lines_taken : (o : Option (List ℕ)) (file : List ℕ) (new last : ReaderState) (n : ℕ) (result : Result (Header × ℕ) FileFault) → o ≡ Some file → TakesSum file new (Ok n) → Reads o new last start 2 result → ReadsLines file new last start 2 result
 lines_taken o file new last n result is takes reads = subst (λ q. Reads q new last start 2 result) is reads takes.0
 
-pub bad_sum_as : (file : List ℕ) (new : Standing) (n plain : ℕ) (sums : ℕ × ℕ) → TakesSum file new (Ok n) → IsSumOf sums (drop new.place file) → ((n == sums.0) || (n == sums.1)) ≡ false → plain ≡ sums.0 → checked_front file ≡ Err (BadSum n plain)
+pub bad_sum_as : (file : List ℕ) (new : ReaderState) (n plain : ℕ) (sums : ℕ × ℕ) → TakesSum file new (Ok n) → IsSumOf sums (drop new.place file) → ((n == sums.0) || (n == sums.1)) ≡ false → plain ≡ sums.0 → checked_front file ≡ Err (BadSum n plain)
 bad_sum_as file new n plain sums takes are test is = bad_sum file new n sums takes are test ∙ ap (λ c. Err (BadSum n c)) (sym is)
 
 -- the front as code makes it
-pub front_made : (file : List ℕ) (new last : Standing) (n size place plain : ℕ) (sums : ℕ × ℕ) (header : Header) (line : ℕ) → TakesSum file new (Ok n) → IsSumOf sums (drop new.place file) → ((n == sums.0) || (n == sums.1)) ≡ true → size ≡ length file → ReadsLines file new last start 2 (Ok (header, line)) → place ≡ last.place → plain ≡ sums.0
+pub front_made : (file : List ℕ) (new last : ReaderState) (n size place plain : ℕ) (sums : ℕ × ℕ) (header : Header) (line : ℕ) → TakesSum file new (Ok n) → IsSumOf sums (drop new.place file) → ((n == sums.0) || (n == sums.1)) ≡ true → size ≡ length file → ReadsLines file new last start 2 (Ok (header, line)) → place ≡ last.place → plain ≡ sums.0
     → Answers (λ p front. IsFrontOf file p front) (Ok (record { header = header; body_from = place; body_line = line; size = size; sum = plain })) (checked_front file)
 front_made file new last n size place plain sums header line takes are test long reads place_is plain_is =
     subst (λ m. Answers (λ p front. IsFrontOf file p front) (Ok (record { header = header; body_from = m; body_line = line; size = size; sum = plain })) (checked_front file)) (sym place_is)

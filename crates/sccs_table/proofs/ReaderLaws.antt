@@ -10,20 +10,20 @@ use Rattle.sccs_base.proofs.Cuts.{NoLfBefore, no_lf_front, no_lf_all}
 use Rattle.std.proofs.lemmas.Bool.{ltb-false, ltb-true}
 use Rattle.sccs_disk.specs.Files.{View}
 use Rattle.sccs_table.specs.SumOf.{IsSumOf}
-use Rattle.sccs_table.specs.Standing.{Standing, StandsIn, Takes, TakesLine, bytes_in}
+use Rattle.sccs_table.specs.ReaderState.{ReaderState, StandsIn, Takes, TakesLine, bytes_in}
 
 -- a reader that holds the front of a piece
-abbrev pub holding : List ℕ → List ℕ → ℕ → ℕ → ℕ → Standing
+abbrev pub holding : List ℕ → List ℕ → ℕ → ℕ → ℕ → ReaderState
 holding name held place size lines = record { name = name; held = held; place = place; size = size; lines = lines }
 
 pub fill_more : (piece : List ℕ) (count : ℕ) → count ≤ length piece → ltb 0 count ≡ true → 0 < length (take (count - 0) piece)
 fill_more piece count within more = let some = ltb-true 0 count more in omega (arith, length-take (count - 0) piece)
 
-stands_filled : (old : Standing) (name piece file : List ℕ) (place size lines more count room : ℕ) → holding name [] place size lines ≡ old → count ≤ length piece → room ≡ min (size - place) 4096
+stands_filled : (old : ReaderState) (name piece file : List ℕ) (place size lines more count room : ℕ) → holding name [] place size lines ≡ old → count ≤ length piece → room ≡ min (size - place) 4096
     → take count piece ≡ take room (drop place file) → StandsIn old file → StandsIn (holding name (take (count - 0) piece) place size more) file × (ltb 0 count ≡ false → place ≡ length file)
 stands_filled old name piece file place size lines more count room is within room_is got stood =
-    let place_is : place ≡ old.place = ap (λ (s : Standing). s.place) is in
-    let size_is : size ≡ old.size = ap (λ (s : Standing). s.size) is in
+    let place_is : place ≡ old.place = ap (λ (s : ReaderState). s.place) is in
+    let size_is : size ≡ old.size = ap (λ (s : ReaderState). s.size) is in
     let whole : size ≡ length file = size_is ∙ stood.0 in
     let ahead : place ≤ size = omega (arith, stood.1) in
     let here : take (count - 0) piece ≡ take room (drop place file) = ap (λ n. take n piece) (omega arith) ∙ got in
@@ -33,19 +33,19 @@ stands_filled old name piece file place size lines more count room is within roo
       λ none. let zero_is = ltb-false 0 count none in omega (arith, count_is, length-take (count - 0) piece),
     )
 
-filled : (o : Option (List ℕ)) (old : Standing) (name piece : List ℕ) (place size lines more count room : ℕ) → holding name [] place size lines ≡ old → count ≤ length piece → room ≡ min (size - place) 4096
+filled : (o : Option (List ℕ)) (old : ReaderState) (name piece : List ℕ) (place size lines more count room : ℕ) → holding name [] place size lines ≡ old → count ≤ length piece → room ≡ min (size - place) 4096
     → IfSome o (λ file. take count piece ≡ take room (drop place file)) → IfSome o (λ file. StandsIn old file → StandsIn (holding name (take (count - 0) piece) place size more) file × (ltb 0 count ≡ false → place ≡ length file))
 filled None old name piece place size lines more count room is within room_is got = tt
 filled (Some file) old name piece place size lines more count room is within room_is got = λ stood. stands_filled old name piece file place size lines more count room is within room_is got stood
 
 -- an empty reader that read a piece, where the view tells its file
-pub fill_told : (view : Option View) (old : Standing) (name held piece : List ℕ) (place size lines more count room : ℕ) → holding name held place size lines ≡ old → old.held ≡ [] → count ≤ length piece → room ≡ min (size - place) 4096
+pub fill_told : (view : Option View) (old : ReaderState) (name held piece : List ℕ) (place size lines more count room : ℕ) → holding name held place size lines ≡ old → old.held ≡ [] → count ≤ length piece → room ≡ min (size - place) 4096
     → IfSome (bytes_in view name) (λ file. take count piece ≡ take room (drop place file))
     → IfSome (bytes_in view old.name) (λ file. StandsIn old file → StandsIn (holding name (take (count - 0) piece) place size more) file × (ltb 0 count ≡ false → place ≡ length file))
 fill_told view old name held piece place size lines more count room is none within room_is got =
-    let held_is : held ≡ [] = ap (λ (s : Standing). s.held) is ∙ none in
+    let held_is : held ≡ [] = ap (λ (s : ReaderState). s.held) is ∙ none in
     let empty : holding name [] place size lines ≡ old = ap (λ h. holding name h place size lines) (sym held_is) ∙ is in
-    let name_is : name ≡ old.name = ap (λ (s : Standing). s.name) is in
+    let name_is : name ≡ old.name = ap (λ (s : ReaderState). s.name) is in
     filled (bytes_in view old.name) old name piece place size lines more count room empty within room_is (subst (λ n. IfSome (bytes_in view n) (λ file. take count piece ≡ take room (drop place file))) name_is got)
 
 -- ---- the front of what is held
@@ -69,79 +69,79 @@ held_split piece start end at within is =
     let rest = held_behind piece start end at within in
     sym (take-append-drop at held) ∙ ap (λ behind. take at held ++ behind) (drop-cons held at 0 within ∙ (ap (λ b. b ∷ drop (suc at) held) is ∙ ap (λ behind. 10 ∷ behind) rest))
 
-pub takes_some : (old : Standing) (name line longer piece : List ℕ) (start end place size lines more at : ℕ) → holding name (held_of piece start end) place size lines ≡ old
+pub takes_some : (old : ReaderState) (name line longer piece : List ℕ) (start end place size lines more at : ℕ) → holding name (held_of piece start end) place size lines ≡ old
     → longer ≡ line ++ take at (held_of piece start end) → at < length (held_of piece start end) → get_or (held_of piece start end) at 0 ≡ 10 → NoLfBefore (held_of piece start end) at
     → Takes old (holding name (held_of piece (start + (at + 1)) end) (place + (at + 1)) size more) line longer true
 takes_some old name line longer piece start end place size lines more at is items within found none =
-    let held_is : held_of piece start end ≡ old.held = ap (λ (s : Standing). s.held) is in
-    let place_is : place ≡ old.place = ap (λ (s : Standing). s.place) is in
+    let held_is : held_of piece start end ≡ old.held = ap (λ (s : ReaderState). s.held) is in
+    let place_is : place ≡ old.place = ap (λ (s : ReaderState). s.place) is in
     (take at (held_of piece start end), (items, no_lf_front at (held_of piece start end) none within, sym held_is ∙ held_split piece start end at within found, omega (arith, length-take at (held_of piece start end))))
 
-pub takes_none : (old : Standing) (name line longer piece : List ℕ) (start end place size lines more : ℕ) → holding name (held_of piece start end) place size lines ≡ old
+pub takes_none : (old : ReaderState) (name line longer piece : List ℕ) (start end place size lines more : ℕ) → holding name (held_of piece start end) place size lines ≡ old
     → longer ≡ line ++ held_of piece start end → NoLfBefore (held_of piece start end) (length (held_of piece start end))
     → Takes old (holding name (held_of piece end end) (place + length (held_of piece start end)) size more) line longer false
 takes_none old name line longer piece start end place size lines more is items none =
-    let held_is : held_of piece start end ≡ old.held = ap (λ (s : Standing). s.held) is in
-    let place_is : place ≡ old.place = ap (λ (s : Standing). s.place) is in
+    let held_is : held_of piece start end ≡ old.held = ap (λ (s : ReaderState). s.held) is in
+    let place_is : place ≡ old.place = ap (λ (s : ReaderState). s.place) is in
     let zero_is : end - end ≡ 0 = omega arith in
     (held_of piece start end, (items, no_lf_all (held_of piece start end) none, sym held_is, ap (λ n. take n (drop end piece)) zero_is, omega arith))
 
 -- ---- what is passed over
 
-held_within : (old : Standing) (name piece : List ℕ) (start end place size lines count : ℕ) → holding name (held_of piece start end) place size lines ≡ old → count ≤ length old.held → count ≤ end - start
+held_within : (old : ReaderState) (name piece : List ℕ) (start end place size lines count : ℕ) → holding name (held_of piece start end) place size lines ≡ old → count ≤ length old.held → count ≤ end - start
 held_within old name piece start end place size lines count is fits =
-    let long : length (held_of piece start end) ≡ length old.held = ap (λ (s : Standing). length s.held) is in omega (arith, length-take (end - start) (drop start piece))
+    let long : length (held_of piece start end) ≡ length old.held = ap (λ (s : ReaderState). length s.held) is in omega (arith, length-take (end - start) (drop start piece))
 
-pub held_past : (old : Standing) (name piece : List ℕ) (start end place size lines count : ℕ) → holding name (held_of piece start end) place size lines ≡ old → count ≤ length old.held → held_of piece (start + count) end ≡ drop count old.held
+pub held_past : (old : ReaderState) (name piece : List ℕ) (start end place size lines count : ℕ) → holding name (held_of piece start end) place size lines ≡ old → count ≤ length old.held → held_of piece (start + count) end ≡ drop count old.held
 held_past old name piece start end place size lines count is fits =
     let within = held_within old name piece start end place size lines count is fits in
     let room : end - start ≡ count + (end - (start + count)) = omega arith in
-    sym (ap (λ (s : Standing). drop count s.held) (sym is)
+    sym (ap (λ (s : ReaderState). drop count s.held) (sym is)
     ∙ (ap (λ n. drop count (take n (drop start piece))) room
     ∙ (drop-take count (end - (start + count)) (drop start piece) ∙ ap (take (end - (start + count))) (drop-drop count start piece))))
 
-pub passed_over : (old : Standing) (name piece : List ℕ) (start end place size lines count : ℕ) → holding name (held_of piece start end) place size lines ≡ old → count ≤ length old.held → take (start + count - start) (drop start piece) ≡ take count old.held
+pub passed_over : (old : ReaderState) (name piece : List ℕ) (start end place size lines count : ℕ) → holding name (held_of piece start end) place size lines ≡ old → count ≤ length old.held → take (start + count - start) (drop start piece) ≡ take count old.held
 passed_over old name piece start end place size lines count is fits =
     let within = held_within old name piece start end place size lines count is fits in
     let many : start + count - start ≡ count = omega arith in
-    ap (λ n. take n (drop start piece)) many ∙ (sym (take-take count (end - start) (drop start piece) within) ∙ ap (λ (s : Standing). take count s.held) is)
+    ap (λ n. take n (drop start piece)) many ∙ (sym (take-take count (end - start) (drop start piece) within) ∙ ap (λ (s : ReaderState). take count s.held) is)
 
 -- ---- a whole line
 
 -- what was left at the start is the line so far and what is left now
-abbrev pub Going : Option (List ℕ) → Standing → Standing → List ℕ → Type 0
+abbrev pub Going : Option (List ℕ) → ReaderState → ReaderState → List ℕ → Type 0
 Going None start now line = Unit {0}
 Going (Some file) start now line = StandsIn start file → StandsIn now file × (drop start.place file ≡ line ++ drop now.place file)
 
-pub going_start : (o : Option (List ℕ)) (start : Standing) → Going o start start []
+pub going_start : (o : Option (List ℕ)) (start : ReaderState) → Going o start start []
 going_start None start = tt
 going_start (Some file) start = λ stands. (stands, refl)
 
 -- what is held is in front of what is left
-left_is : (now : Standing) (file : List ℕ) → StandsIn now file → drop now.place file ≡ now.held ++ drop (now.place + length now.held) file
+left_is : (now : ReaderState) (file : List ℕ) → StandsIn now file → drop now.place file ≡ now.held ++ drop (now.place + length now.held) file
 left_is now file stands =
     sym (take-append-drop (length now.held) (drop now.place file))
     ∙ (ap (λ front. front ++ drop (length now.held) (drop now.place file)) (sym stands.2) ∙ ap (λ rest. now.held ++ rest) (drop-drop (length now.held) now.place file))
 
-front_gone : (now new : Standing) (front file : List ℕ) → StandsIn now file → now.held ≡ front ++ 10 ∷ new.held → new.place ≡ now.place + length front + 1 → drop new.place file ≡ new.held ++ drop (now.place + length now.held) file
+front_gone : (now new : ReaderState) (front file : List ℕ) → StandsIn now file → now.held ≡ front ++ 10 ∷ new.held → new.place ≡ now.place + length front + 1 → drop new.place file ≡ new.held ++ drop (now.place + length now.held) file
 front_gone now new front file stands held_is place_is =
     let parts : drop now.place file ≡ (front ++ 10 ∷ []) ++ (new.held ++ drop (now.place + length now.held) file) = left_is now file stands ∙ (ap (λ h. h ++ drop (now.place + length now.held) file) held_is ∙ (append_assoc front (10 ∷ new.held) _ ∙ sym (append_assoc front (10 ∷ []) _))) in
     let many : new.place ≡ now.place + length (front ++ 10 ∷ []) = omega (arith, length-append front (10 ∷ [])) in
     ap (λ n. drop n file) many ∙ (sym (drop-drop (length (front ++ 10 ∷ [])) now.place file) ∙ (ap (drop (length (front ++ 10 ∷ []))) parts ∙ drop-append_seam (front ++ 10 ∷ []) _))
 
 -- the next bytes up to LF are gone
-stands_on : (now new : Standing) (front file : List ℕ) → StandsIn now file → new.size ≡ now.size → now.held ≡ front ++ 10 ∷ new.held → new.place ≡ now.place + length front + 1 → StandsIn new file
+stands_on : (now new : ReaderState) (front file : List ℕ) → StandsIn now file → new.size ≡ now.size → now.held ≡ front ++ 10 ∷ new.held → new.place ≡ now.place + length front + 1 → StandsIn new file
 stands_on now new front file stands size_is held_is place_is =
     let long : length now.held ≡ length front + suc (length new.held) = ap length held_is ∙ length-append front (10 ∷ new.held) in
     (size_is ∙ stands.0, omega (arith, stands.1), sym (ap (take (length new.held)) (front_gone now new front file stands held_is place_is) ∙ take-append_seam new.held _))
 
-next_is : (now new : Standing) (front file : List ℕ) → StandsIn now file → now.held ≡ front ++ 10 ∷ new.held → new.place ≡ now.place + length front + 1 → drop now.place file ≡ front ++ 10 ∷ drop new.place file
+next_is : (now new : ReaderState) (front file : List ℕ) → StandsIn now file → now.held ≡ front ++ 10 ∷ new.held → new.place ≡ now.place + length front + 1 → drop now.place file ≡ front ++ 10 ∷ drop new.place file
 next_is now new front file stands held_is place_is =
     left_is now file stands
     ∙ (ap (λ h. h ++ drop (now.place + length now.held) file) held_is
     ∙ (append_assoc front (10 ∷ new.held) _ ∙ ap (λ rest. front ++ 10 ∷ rest) (sym (front_gone now new front file stands held_is place_is))))
 
-cut_front : (start now new : Standing) (line front file : List ℕ) → drop start.place file ≡ line ++ drop now.place file → drop now.place file ≡ front ++ 10 ∷ drop new.place file → HasNoLf (line ++ front)
+cut_front : (start now new : ReaderState) (line front file : List ℕ) → drop start.place file ≡ line ++ drop now.place file → drop now.place file ≡ front ++ 10 ∷ drop new.place file → HasNoLf (line ++ front)
     → cut (drop start.place file) ≡ record { lines = (line ++ front) ∷ (cut (drop new.place file)).lines; tail = (cut (drop new.place file)).tail }
 cut_front start now new line front file whole next none =
     ap cut (whole ∙ (ap (λ rest. line ++ rest) next ∙ sym (append_assoc line front (10 ∷ drop new.place file)))) ∙ cut_line (line ++ front) (drop new.place file) none
@@ -150,7 +150,7 @@ no_lf_append : (line front : List ℕ) → HasNoLf line → HasNoLf front → Ha
 no_lf_append line front none more = All-append (λ b. b ≢ 10) line front none more
 
 -- a front up to LF ends the line
-pub line_taken : (o : Option (List ℕ)) (start now new : Standing) (line longer : List ℕ) → Going o start now line → HasNoLf line → new.size ≡ now.size → Takes now new line longer true → TakesLine o start new longer true
+pub line_taken : (o : Option (List ℕ)) (start now new : ReaderState) (line longer : List ℕ) → Going o start now line → HasNoLf line → new.size ≡ now.size → Takes now new line longer true → TakesLine o start new longer true
 line_taken None start now new line longer going none size_is takes = tt
 line_taken (Some file) start now new line longer going none size_is takes = λ stands.
     let here = going stands in
@@ -160,18 +160,18 @@ line_taken (Some file) start now new line longer going none size_is takes = λ s
       rw takes.1.0 (cut_front start now new line front file here.1 next (no_lf_append line front none takes.1.1)),
     )
 
-pub line_without : (now new : Standing) (line longer : List ℕ) (ended : Bool) → HasNoLf line → Takes now new line longer ended → HasNoLf longer
+pub line_without : (now new : ReaderState) (line longer : List ℕ) (ended : Bool) → HasNoLf line → Takes now new line longer ended → HasNoLf longer
 line_without now new line longer true none takes = rw takes.1.0 (no_lf_append line takes.0 none takes.1.1)
 line_without now new line longer false none takes = rw takes.1.0 (no_lf_append line takes.0 none takes.1.1)
 
 -- a reader that gave all that it held still stands
-gone_stands_in : (now gone : Standing) (line longer file : List ℕ) → StandsIn now file → gone.size ≡ now.size → Takes now gone line longer false → StandsIn gone file
+gone_stands_in : (now gone : ReaderState) (line longer file : List ℕ) → StandsIn now file → gone.size ≡ now.size → Takes now gone line longer false → StandsIn gone file
 gone_stands_in now gone line longer file here size_is takes =
     let long : length now.held ≡ length takes.0 = ap length takes.1.2 in
     (size_is ∙ here.0, omega (arith, here.1, takes.1.4, long, ap length takes.1.3), takes.1.3 ∙ ap (λ n. take n (drop gone.place file)) (sym (ap length takes.1.3)))
 
 -- all that was held went to the line, and a piece may have been read
-pub going_on : (o : Option (List ℕ)) (start now gone new : Standing) (line longer : List ℕ) (more : Bool) → Going o start now line → gone.size ≡ now.size → Takes now gone line longer false
+pub going_on : (o : Option (List ℕ)) (start now gone new : ReaderState) (line longer : List ℕ) (more : Bool) → Going o start now line → gone.size ≡ now.size → Takes now gone line longer false
     → IfSome o (λ file. StandsIn gone file → StandsIn new file × (more ≡ false → new.place ≡ length file)) → new.place ≡ gone.place → Going o start new longer
 going_on None start now gone new line longer more going size_is takes filled place_is = tt
 going_on (Some file) start now gone new line longer more going size_is takes filled place_is = λ stands.
@@ -185,7 +185,7 @@ going_on (Some file) start now gone new line longer more going size_is takes fil
     ((filled gone_stands).0, here.1 ∙ (ap (λ r. line ++ r) rest ∙ (sym (append_assoc line front (drop new.place file)) ∙ ap (λ l. l ++ drop new.place file) (sym takes.1.0))))
 
 -- the same, where the view is the same and the name too
-pub going_on_by : (o p : Option (List ℕ)) (start now gone new : Standing) (line longer : List ℕ) (more : Bool) → p ≡ o → Going o start now line → gone.size ≡ now.size → Takes now gone line longer false
+pub going_on_by : (o p : Option (List ℕ)) (start now gone new : ReaderState) (line longer : List ℕ) (more : Bool) → p ≡ o → Going o start now line → gone.size ≡ now.size → Takes now gone line longer false
     → IfSome p (λ file. StandsIn gone file → StandsIn new file × (more ≡ false → new.place ≡ length file)) → new.place ≡ gone.place → Going o start new longer
 going_on_by o p start now gone new line longer more is going size_is takes filled place_is =
     going_on o start now gone new line longer more going size_is takes (subst (λ q. IfSome q (λ file. StandsIn gone file → StandsIn new file × (more ≡ false → new.place ≡ length file))) is filled) place_is
@@ -194,7 +194,7 @@ pub same_file : (a b : Option View) (m n : List ℕ) → a ≡ b → m ≡ n →
 same_file a b m n views names = ap (λ v. bytes_in v m) views ∙ ap (bytes_in b) names
 
 -- nothing more could be read
-pub line_over : (o p : Option (List ℕ)) (start now gone new : Standing) (line longer : List ℕ) → p ≡ o → Going o start now line → HasNoLf line → gone.size ≡ now.size → Takes now gone line longer false
+pub line_over : (o p : Option (List ℕ)) (start now gone new : ReaderState) (line longer : List ℕ) → p ≡ o → Going o start now line → HasNoLf line → gone.size ≡ now.size → Takes now gone line longer false
     → IfSome p (λ file. StandsIn gone file → StandsIn new file × (false ≡ false → new.place ≡ length file)) → new.place ≡ gone.place → TakesLine o start new longer false
 line_over None p start now gone new line longer is going none size_is takes filled place_is = tt
 line_over (Some file) p start now gone new line longer is going none size_is takes filled place_is = λ stands.
@@ -206,35 +206,35 @@ line_over (Some file) p start now gone new line longer is going none size_is tak
     (on.0, ap cut (on.1 ∙ (ap (λ r. longer ++ r) end ∙ append-nil longer)) ∙ cut_tail longer (line_without now gone line longer false none takes))
 
 -- at the arm of a test
-pub takes_at : (old new : Standing) (line longer : List ℕ) (a b : Bool) → a ≡ b → Takes old new line longer a → Takes old new line longer b
+pub takes_at : (old new : ReaderState) (line longer : List ℕ) (a b : Bool) → a ≡ b → Takes old new line longer a → Takes old new line longer b
 takes_at old new line longer a b is takes = subst (λ e. Takes old new line longer e) is takes
 
-pub filled_at : (o : Option (List ℕ)) (gone new : Standing) (a b : Bool) → a ≡ b → IfSome o (λ file. StandsIn gone file → StandsIn new file × (a ≡ false → new.place ≡ length file)) → IfSome o (λ file. StandsIn gone file → StandsIn new file × (b ≡ false → new.place ≡ length file))
+pub filled_at : (o : Option (List ℕ)) (gone new : ReaderState) (a b : Bool) → a ≡ b → IfSome o (λ file. StandsIn gone file → StandsIn new file × (a ≡ false → new.place ≡ length file)) → IfSome o (λ file. StandsIn gone file → StandsIn new file × (b ≡ false → new.place ≡ length file))
 filled_at o gone new a b is filled = subst (λ e. IfSome o (λ file. StandsIn gone file → StandsIn new file × (e ≡ false → new.place ≡ length file))) is filled
 
-pub later_place : (now gone : Standing) (line longer : List ℕ) (start new : ℕ) → now.place ≡ start + length line → Takes now gone line longer false → new ≡ gone.place → new ≡ start + length longer
+pub later_place : (now gone : ReaderState) (line longer : List ℕ) (start new : ℕ) → now.place ≡ start + length line → Takes now gone line longer false → new ≡ gone.place → new ≡ start + length longer
 later_place now gone line longer start new here takes is =
     let long : length longer ≡ length line + length takes.0 = ap length takes.1.0 ∙ length-append line takes.0 in omega (arith, takes.1.4)
 
-pub past_place : (now new : Standing) (line longer : List ℕ) (start : ℕ) → now.place ≡ start + length line → Takes now new line longer true → new.place ≡ start + length longer + 1
+pub past_place : (now new : ReaderState) (line longer : List ℕ) (start : ℕ) → now.place ≡ start + length line → Takes now new line longer true → new.place ≡ start + length longer + 1
 past_place now new line longer start here takes =
     let long : length longer ≡ length line + length takes.0 = ap length takes.1.0 ∙ length-append line takes.0 in omega (arith, takes.1.3)
 
 -- ---- a line that is held whole
 
-held_line_takes : (old new : Standing) (line : List ℕ) (count : ℕ) → HasNoLf line → length line ≡ count → take (count + 1) old.held ≡ line ++ 10 ∷ [] → new.held ≡ drop (count + 1) old.held → new.place ≡ old.place + (count + 1) → Takes old new [] line true
+held_line_takes : (old new : ReaderState) (line : List ℕ) (count : ℕ) → HasNoLf line → length line ≡ count → take (count + 1) old.held ≡ line ++ 10 ∷ [] → new.held ≡ drop (count + 1) old.held → new.place ≡ old.place + (count + 1) → Takes old new [] line true
 held_line_takes old new line count none long front held_is place_is =
     let rest : line ++ 10 ∷ drop (count + 1) old.held ≡ line ++ 10 ∷ new.held = ap (λ h. line ++ 10 ∷ h) (sym held_is) in
     let held : old.held ≡ line ++ 10 ∷ new.held = sym (take-append-drop (count + 1) old.held) ∙ (ap (λ f. f ++ drop (count + 1) old.held) front ∙ (append_assoc line (10 ∷ []) (drop (count + 1) old.held) ∙ rest)) in
     (line, (refl, none, held, omega arith))
 
-pub held_line_taken : (o : Option (List ℕ)) (old new : Standing) (line : List ℕ) (count : ℕ) → HasNoLf line → length line ≡ count → take (count + 1) old.held ≡ line ++ 10 ∷ []
+pub held_line_taken : (o : Option (List ℕ)) (old new : ReaderState) (line : List ℕ) (count : ℕ) → HasNoLf line → length line ≡ count → take (count + 1) old.held ≡ line ++ 10 ∷ []
     → new.size ≡ old.size → new.held ≡ drop (count + 1) old.held → new.place ≡ old.place + (count + 1) → TakesLine o old new line true
 held_line_taken o old new line count none long front size_is held_is place_is =
     line_taken o old old new [] line (going_start o old) (All-nil (λ b. b ≢ 10)) size_is (held_line_takes old new line count none long front held_is place_is)
 
 -- what is held behind a line and its LF
-pub held_past_line : (old : Standing) (name piece : List ℕ) (start end place size lines count : ℕ) → holding name (held_of piece start end) place size lines ≡ old → count < length old.held → held_of piece (start + count + 1) end ≡ drop (count + 1) old.held
+pub held_past_line : (old : ReaderState) (name piece : List ℕ) (start end place size lines count : ℕ) → holding name (held_of piece start end) place size lines ≡ old → count < length old.held → held_of piece (start + count + 1) end ≡ drop (count + 1) old.held
 held_past_line old name piece start end place size lines count is fits =
     let from : start + count + 1 ≡ start + (count + 1) = omega arith in
     ap (λ n. held_of piece n end) from ∙ held_past old name piece start end place size lines (count + 1) is (omega arith)
@@ -242,19 +242,19 @@ held_past_line old name piece start end place size lines count is fits =
 -- ---- the sums
 
 -- the sums are those of what stands between the start and now
-abbrev pub Summing : Option (List ℕ) → Standing → Standing → ℕ × ℕ → Type 0
+abbrev pub Summing : Option (List ℕ) → ReaderState → ReaderState → ℕ × ℕ → Type 0
 Summing None start now sum = Unit {0}
 Summing (Some file) start now sum = StandsIn start file → StandsIn now file × ((front : List ℕ) × IsSumOf sum front × (drop start.place file ≡ front ++ drop now.place file))
 
-pub summing_start : (o : Option (List ℕ)) (start : Standing) (sum : ℕ × ℕ) → IsSumOf sum [] → Summing o start start sum
+pub summing_start : (o : Option (List ℕ)) (start : ReaderState) (sum : ℕ × ℕ) → IsSumOf sum [] → Summing o start start sum
 summing_start None start sum none = tt
 summing_start (Some file) start sum none = λ stands. (stands, ([], none, refl))
 
-emptied_stands : (now gone : Standing) (file : List ℕ) → StandsIn now file → gone.size ≡ now.size → gone.held ≡ [] → gone.place ≡ now.place + length now.held → StandsIn gone file
+emptied_stands : (now gone : ReaderState) (file : List ℕ) → StandsIn now file → gone.size ≡ now.size → gone.held ≡ [] → gone.place ≡ now.place + length now.held → StandsIn gone file
 emptied_stands now gone file here size_is held_is place_is =
     (size_is ∙ here.0, omega (arith, here.1, ap length held_is), held_is ∙ ap (λ n. take n (drop gone.place file)) (sym (ap length held_is)))
 
-pub summing_on : (o p : Option (List ℕ)) (start now gone new : Standing) (sum more_sum : ℕ × ℕ) (more : Bool) → p ≡ o → Summing o start now sum → gone.size ≡ now.size → gone.held ≡ [] → gone.place ≡ now.place + length now.held
+pub summing_on : (o p : Option (List ℕ)) (start now gone new : ReaderState) (sum more_sum : ℕ × ℕ) (more : Bool) → p ≡ o → Summing o start now sum → gone.size ≡ now.size → gone.held ≡ [] → gone.place ≡ now.place + length now.held
     → ((front : List ℕ) → IsSumOf sum front → IsSumOf more_sum (front ++ now.held))
     → IfSome p (λ file. StandsIn gone file → StandsIn new file × (more ≡ false → new.place ≡ length file)) → new.place ≡ gone.place → Summing o start new more_sum
 summing_on None p start now gone new sum more_sum more is summing size_is held_is place_is adds read new_is = tt
@@ -267,7 +267,7 @@ summing_on (Some file) p start now gone new sum more_sum more is summing size_is
       (here.1.0 ++ now.held, adds here.1.0 here.1.1, here.1.2 ∙ (ap (λ r. here.1.0 ++ r) rest ∙ sym (append_assoc here.1.0 now.held (drop new.place file)))),
     )
 
-pub summing_end : (o p : Option (List ℕ)) (start now gone new : Standing) (sum more_sum : ℕ × ℕ) → p ≡ o → Summing o start now sum → gone.size ≡ now.size → gone.held ≡ [] → gone.place ≡ now.place + length now.held
+pub summing_end : (o p : Option (List ℕ)) (start now gone new : ReaderState) (sum more_sum : ℕ × ℕ) → p ≡ o → Summing o start now sum → gone.size ≡ now.size → gone.held ≡ [] → gone.place ≡ now.place + length now.held
     → ((front : List ℕ) → IsSumOf sum front → IsSumOf more_sum (front ++ now.held))
     → IfSome p (λ file. StandsIn gone file → StandsIn new file × (false ≡ false → new.place ≡ length file)) → new.place ≡ gone.place → IfSome o (λ file. StandsIn start file → IsSumOf more_sum (drop start.place file))
 summing_end None p start now gone new sum more_sum is summing size_is held_is place_is adds read new_is = tt

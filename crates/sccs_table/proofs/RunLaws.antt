@@ -10,7 +10,7 @@ use Rattle.sccs_sid.specs.SidLists.{begins}
 use Rattle.sccs_history.specs.History.{AreBare}
 use Rattle.sccs_grammar.specs.Written.{bytes_of}
 use Rattle.sccs_table.specs.Runs.{HasNoMark, HasNoRun, IsMark, IsRun, PassesRun, lf_count}
-use Rattle.sccs_table.specs.Standing.{Standing, StandsIn}
+use Rattle.sccs_table.specs.ReaderState.{ReaderState, StandsIn}
 
 -- ---- how many lines end
 
@@ -259,14 +259,14 @@ longest_none bytes end fits mark none = elim (cases_lt end (length bytes)) [
 
 -- ---- a run that is passed over
 
-held_later : (old : Standing) (file : List ℕ) (count : ℕ) → count ≤ length old.held → StandsIn old file → drop count old.held ≡ take (length old.held - count) (drop (old.place + count) file)
+held_later : (old : ReaderState) (file : List ℕ) (count : ℕ) → count ≤ length old.held → StandsIn old file → drop count old.held ≡ take (length old.held - count) (drop (old.place + count) file)
 held_later old file count fits stands =
     let room : length old.held ≡ count + (length old.held - count) = omega arith in
     ap (drop count) stands.2
     ∙ (ap (λ n. drop count (take n (drop old.place file))) room
     ∙ (drop-take count (length old.held - count) (drop old.place file) ∙ ap (take (length old.held - count)) (drop-drop count old.place file)))
 
-passed_stands : (old new : Standing) (file : List ℕ) (count : ℕ) → count ≤ length old.held → new.size ≡ old.size → new.held ≡ drop count old.held → new.place ≡ old.place + count → StandsIn old file → StandsIn new file
+passed_stands : (old new : ReaderState) (file : List ℕ) (count : ℕ) → count ≤ length old.held → new.size ≡ old.size → new.held ≡ drop count old.held → new.place ≡ old.place + count → StandsIn old file → StandsIn new file
 passed_stands old new file count fits size_is held_is place_is stands =
     let long : length new.held ≡ length old.held - count = ap length held_is ∙ length-drop count old.held in
     let place : old.place + count ≡ new.place = sym place_is in (
@@ -277,7 +277,7 @@ passed_stands old new file count fits size_is held_is place_is stands =
           ∙ (ap (λ n. take n (drop (old.place + count) file)) (sym long) ∙ ap (λ n. take (length new.held) (drop n file)) place)),
     )
 
-passed_bytes : (old new : Standing) (file : List ℕ) (count : ℕ) → count ≤ length old.held → new.place ≡ old.place + count → StandsIn old file → drop old.place file ≡ take count old.held ++ drop new.place file
+passed_bytes : (old new : ReaderState) (file : List ℕ) (count : ℕ) → count ≤ length old.held → new.place ≡ old.place + count → StandsIn old file → drop old.place file ≡ take count old.held ++ drop new.place file
 passed_bytes old new file count fits place_is stands =
     let front : take count (drop old.place file) ≡ take count old.held = sym (ap (take count) stands.2 ∙ take-take count (length old.held) (drop old.place file) fits) in
     sym (take-append-drop count (drop old.place file))
@@ -285,7 +285,7 @@ passed_bytes old new file count fits place_is stands =
     ∙ ap (λ rest. take count old.held ++ rest) (drop-drop count old.place file ∙ ap (λ n. drop n file) (sym place_is)))
 
 -- what is left of the file begins with the lines of the run
-pub run_passed : (old new : Standing) (file : List ℕ) (count : ℕ) → count ≤ length old.held → (cut (take count old.held)).tail ≡ [] → new.size ≡ old.size → new.held ≡ drop count old.held → new.place ≡ old.place + count
+pub run_passed : (old new : ReaderState) (file : List ℕ) (count : ℕ) → count ≤ length old.held → (cut (take count old.held)).tail ≡ [] → new.size ≡ old.size → new.held ≡ drop count old.held → new.place ≡ old.place + count
     → PassesRun (take count old.held) file old new
 run_passed old new file count fits none size_is held_is place_is = λ stands. (
   passed_stands old new file count fits size_is held_is place_is stands,

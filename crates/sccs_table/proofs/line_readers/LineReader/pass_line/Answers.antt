@@ -1,5 +1,5 @@
 use Rattle.std.proofs.Common.{◌+◌, ap}
-use Rattle.sccs_table.specs.Standing.{Standing}
+use Rattle.sccs_table.specs.ReaderState.{ReaderState}
 use Rattle.sccs_table.proofs.ReaderLaws.{held_past_line, held_line_taken}
 use Rattle.sccs_table.proofs.CountLaws.{counted_line}
 use Rattle.sccs_table.proofs.line_readers.LineReader.pass_line.Goals as goal
@@ -11,7 +11,7 @@ returns-clause-held c =
 pub returns-clause-told : goal.returns-clause-told
 returns-clause-told c = λ o line none long front.
     let held = held_past_line c.args.self.now c.self.inside.name c.self.inside.piece c.self.inside.start c.self.inside.end c.self.inside.place c.self.inside.size _ c.args.count c.self.view_is c.requires in
-    held_line_taken o c.args.self.now _ line c.args.count none long front (ap (λ (s : Standing). s.size) c.self.view_is) held (ap (λ (s : Standing). s.place + (c.args.count + 1)) c.self.view_is)
+    held_line_taken o c.args.self.now _ line c.args.count none long front (ap (λ (s : ReaderState). s.size) c.self.view_is) held (ap (λ (s : ReaderState). s.place + (c.args.count + 1)) c.self.view_is)
 
 pub returns-clause-counted : goal.returns-clause-counted
 returns-clause-counted c = λ line none front. counted_line c.args.self.now c.self.inside.name c.self.inside.piece line c.self.inside.start c.self.inside.end c.self.inside.place c.self.inside.size c.self.inside.lines c.args.count c.self.view_is c.requires none front

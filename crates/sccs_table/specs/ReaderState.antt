@@ -5,7 +5,7 @@ use Rattle.sccs_disk.specs.Files.{Content, View}
 
 -- The bytes that were read and not given yet, the place of the first of them, the file's name and size, and how many lines
 -- ended before that place since the reader began.
-pub record Standing : Type 0 where
+pub record ReaderState : Type 0 where
   pub name : List ℕ
   pub held : List ℕ
   pub place : ℕ
@@ -21,16 +21,16 @@ bytes_in None name = None
 bytes_in (Some view) name = file_in view name
 
 -- the file has this size, and the held bytes are those at the place
-abbrev pub StandsIn : Standing → List ℕ → Type 0
+abbrev pub StandsIn : ReaderState → List ℕ → Type 0
 StandsIn r file = (r.size ≡ length file) × (r.place + length r.held ≤ r.size) × (r.held ≡ take (length r.held) (drop r.place file))
 
 -- where a file is told, the reader stands in it
-abbrev pub Stands : Option (List ℕ) → Standing → Type 0
+abbrev pub Stands : Option (List ℕ) → ReaderState → Type 0
 Stands None r = Unit {0}
 Stands (Some file) r = StandsIn r file
 
 -- what is left of the file, cut at each LF
-abbrev pub left : Standing → List ℕ → Cut
+abbrev pub left : ReaderState → List ℕ → Cut
 left r file = cut (drop r.place file)
 
 -- a line before what is cut, or bytes behind the last LF
@@ -39,14 +39,14 @@ LineOf all line true rest = all ≡ record { lines = line ∷ rest.lines; tail =
 LineOf all line false rest = all ≡ record { lines = []; tail = line }
 
 -- a reader took a line of a told file, up to its LF or to the end of the file
-abbrev pub TakesLine : Option (List ℕ) → Standing → Standing → List ℕ → Bool → Type 0
+abbrev pub TakesLine : Option (List ℕ) → ReaderState → ReaderState → List ℕ → Bool → Type 0
 TakesLine None old new line ended = Unit {0}
 TakesLine (Some file) old new line ended = StandsIn old file → StandsIn new file × LineOf (left old file) line ended (left new file)
 
 -- the front of the held bytes went to the line: all before LF, and LF is gone too, or all
-abbrev pub TakesFront : Standing → Standing → List ℕ → List ℕ → Bool → List ℕ → Type 0
+abbrev pub TakesFront : ReaderState → ReaderState → List ℕ → List ℕ → Bool → List ℕ → Type 0
 TakesFront old new line longer true front = (longer ≡ line ++ front) × HasNoLf front × (old.held ≡ front ++ 10 ∷ new.held) × (new.place ≡ old.place + length front + 1)
 TakesFront old new line longer false front = (longer ≡ line ++ front) × HasNoLf front × (old.held ≡ front) × (new.held ≡ []) × (new.place ≡ old.place + length front)
 
-abbrev pub Takes : Standing → Standing → List ℕ → List ℕ → Bool → Type 0
+abbrev pub Takes : ReaderState → ReaderState → List ℕ → List ℕ → Bool → Type 0
 Takes old new line longer ended = (front : List ℕ) × TakesFront old new line longer ended front
