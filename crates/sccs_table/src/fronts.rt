@@ -127,7 +127,7 @@ fn next_reading<D: Disk>(
 
 // the header that was read
 fn header_of(parser: HeaderParser) -> Header
-    ensures { result ≡ header_of reading }
+    ensures { result ≡ header_of parser }
 {
     let HeaderParser { place: _, parts } = parser;
     let PartialHeader {
