@@ -22,16 +22,16 @@ tokenizing : (n : ℕ) (r : HeaderParser) (line : List ℕ) (s : LineToken) → 
 unfolding line_after
 tokenizing n r line s is = ap (accepted n r) is
 
-read_on : (n : ℕ) (r next : HeaderParser) (line : List ℕ) (lines : List (List ℕ)) → line_after n r line ≡ Ok next → is_whole next.place ≡ false → front_from n r (line ∷ lines) ≡ front_from (suc n) next lines
+read_on : (n : ℕ) (r next : HeaderParser) (line : List ℕ) (lines : List (List ℕ)) → line_after n r line ≡ Ok next → is_whole next.state ≡ false → front_from n r (line ∷ lines) ≡ front_from (suc n) next lines
 unfolding front_from
 read_on n r next line lines is whole = rw (is, whole) refl
 
-read_last : (n : ℕ) (r next : HeaderParser) (line : List ℕ) → line_after n r line ≡ Ok next → is_whole next.place ≡ true → front_from n r (line ∷ []) ≡ Ok (record { header = header_of next; line = suc n; rest = [] })
+read_last : (n : ℕ) (r next : HeaderParser) (line : List ℕ) → line_after n r line ≡ Ok next → is_whole next.state ≡ true → front_from n r (line ∷ []) ≡ Ok (record { header = header_of next; line = suc n; rest = [] })
 unfolding front_from
 read_last n r next line is whole = rw (is, whole) refl
 
 -- a line that is token here, before lines that complete what is read with it
-before_others : (n : ℕ) (r next : HeaderParser) (line : List ℕ) (s : LineToken) → token line ≡ Some s → after n r.parts r.state s ≡ Ok next → is_whole next.place ≡ false → HeaderCompletion (suc n) next → HeaderCompletion n r
+before_others : (n : ℕ) (r next : HeaderParser) (line : List ℕ) (s : LineToken) → token line ≡ Some s → after n r.parts r.state s ≡ Ok next → is_whole next.state ≡ false → HeaderCompletion (suc n) next → HeaderCompletion n r
 before_others n r next line s is reads whole e = record {
   more = line ∷ e.more;
   read = e.read;
