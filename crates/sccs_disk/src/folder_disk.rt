@@ -1,13 +1,14 @@
-ghost use Rattle.std.specs.Prelude.{◌≡◌, ℕ, ◌≤◌, length, IfOk, IfSome, OnErr};
+ghost use Rattle.std.specs.Prelude.{◌≡◌, ℕ, ◌≤◌, length, IfOk, IfSome, IsErrOf, OnErr};
 ghost use Rattle.sccs_base.specs.Stream.{Rose};
 ghost use Rattle.sccs_disk.specs.Told.{Nothing, seen};
 
-use crate::disks::Disk;
-use sccs_base::{Failed, Name, one_more};
-use std::fs;
-use std::fs::OpenFile;
-use std::io::{ErrorKind, Read, Seek, SeekFrom};
+use crate::disks::{Creation, Disk, DiskRefusal};
+use sccs_base::{Failed, Name, Names, one_more};
+use std::alloc::Global;
+use std::fs::{OpenFile, OpenOptions};
+use std::io::{ErrorKind, Read, Seek, SeekFrom, Write};
 use std::rt::Files;
+use std::{fs, io};
 
 // a file that is open, with its name, and the place where its last reading ended
 #[derive(Drop)]
@@ -98,6 +99,91 @@ fn read_open<F: Read + Seek>(open: &mut Open<F>, from: u64, into: &mut [u8]) -> 
     Some(count)
 }
 
+// makes an empty file
+fn make<R: Files>(rt: &R, name: &Name) -> Result<Creation, Failed> {
+    match OpenOptions::new()
+        .write(true)
+        .create_new(true)
+        .open(rt, name.text())
+    {
+        Ok(_) => Ok(Creation::Created),
+        Err(error) => {
+            if error.kind() == ErrorKind::AlreadyExists {
+                Ok(Creation::Exists)
+            } else {
+                Err(Failed)
+            }
+        }
+    }
+}
+
+// adds bytes at the end of a file
+fn add<R: Files>(rt: &R, name: &Name, bytes: &[u8]) -> io::Result<()> {
+    let mut file = OpenOptions::new().append(true).open(rt, name.text())?;
+    file.write_all(bytes)
+}
+
+// writes over bytes that are there
+fn put_over<R: Files>(rt: &R, name: &Name, from: u64, bytes: &[u8]) -> io::Result<()> {
+    let mut file = OpenOptions::new().write(true).open(rt, name.text())?;
+    let size = file.metadata()?.len();
+    if size < from || size - from < bytes.len() as u64 {
+        return Err(io::Error::from(ErrorKind::InvalidInput));
+    }
+    file.seek(SeekFrom::Start(from))?;
+    file.write_all(bytes)
+}
+
+// takes the mark writable away
+fn set_readonly<R: Files>(rt: &R, name: &Name) -> io::Result<()> {
+    let mut permissions = fs::metadata(rt, name.text())?.permissions();
+    permissions.set_readonly(true);
+    fs::set_permissions(rt, name.text(), permissions)
+}
+
+// whether a file may be written; None where the name isn't there
+fn mark<R: Files>(rt: &R, name: &Name) -> Result<Option<bool>, Failed> {
+    match fs::metadata(rt, name.text()) {
+        Ok(metadata) => Ok(Some(!metadata.permissions().readonly())),
+        Err(error) => {
+            if error.kind() == ErrorKind::NotFound {
+                Ok(None)
+            } else {
+                Err(Failed)
+            }
+        }
+    }
+}
+
+// syncs a file, or the folder
+fn sync_path<R: Files>(rt: &R, path: &str) -> io::Result<()> {
+    fs::open(rt, path)?.sync_all()
+}
+
+// the names in the folder
+fn names<R: Files + Clone + Drop>(rt: &R, alloc: Global) -> Result<Names, DiskRefusal> {
+    let mut names = Names::empty(alloc);
+    let rt = rt.clone()?;
+    let Ok(entries) = fs::read_dir(&(rt, alloc), ".") else {
+        return Err(DiskRefusal::Failed);
+    };
+    for entry in entries {
+        match entry {
+            Ok(entry) => {
+                if let Some(name) = Name::read(entry.file_name().as_bytes()) {
+                    names.insert(names.len(), name)?;
+                }
+            }
+            Err(error) => {
+                if error.kind() != ErrorKind::InvalidFilename {
+                    return Err(DiskRefusal::Failed);
+                }
+            }
+        }
+    }
+    Ok(names)
+}
+
 impl<R: Files> FolderDisk<R> {
     /// It has not failed yet.
     pub fn new(rt: R) -> Self
@@ -142,9 +228,27 @@ impl<R: Files> FolderDisk<R> {
         self.open = None;
         self.faults = one_more(self.faults);
     }
+
+    // closes the file, and counts a failure where a call failed
+    fn count<T>(&mut self, made: io::Result<T>) -> Result<T, Failed>
+    where
+        R::File: Drop,
+        T: Drop,
+        ensures later { self.old.faults ≤ self.new.faults }
+        ensures cause { OnErr result (Rose self.old.faults self.new.faults) }
+    {
+        self.open = None;
+        match made {
+            Ok(answer) => Ok(answer),
+            Err(_) => {
+                self.fail();
+                Err(Failed)
+            }
+        }
+    }
 }
 
-impl<R: Files> Disk for FolderDisk<R>
+impl<R: Files + Clone + Drop> Disk for FolderDisk<R>
 where
     R::File: Drop,
 {
@@ -191,5 +295,66 @@ where
             return Err(Failed);
         };
         Ok(Some(count))
+    }
+
+    fn writable(&mut self, name: &Name) -> Result<Option<bool>, Failed> {
+        let Ok(mark) = mark(&self.rt, name) else {
+            self.fail();
+            return Err(Failed);
+        };
+        Ok(mark)
+    }
+
+    fn create(&mut self, name: &Name) -> Result<Creation, DiskRefusal> {
+        let Ok(creation) = make(&self.rt, name) else {
+            self.fail();
+            return Err(DiskRefusal::Failed);
+        };
+        Ok(creation)
+    }
+
+    fn append(&mut self, name: &Name, bytes: &[u8]) -> Result<(), DiskRefusal> {
+        let made = add(&self.rt, name, bytes);
+        self.count(made)?;
+        Ok(())
+    }
+
+    fn write_at(&mut self, name: &Name, from: u64, bytes: &[u8]) -> Result<(), DiskRefusal> {
+        let made = put_over(&self.rt, name, from, bytes);
+        self.count(made)?;
+        Ok(())
+    }
+
+    fn protect(&mut self, name: &Name) -> Result<(), Failed> {
+        let made = set_readonly(&self.rt, name);
+        self.count(made)
+    }
+
+    fn sync(&mut self, name: &Name) -> Result<(), Failed> {
+        let made = sync_path(&self.rt, name.text());
+        self.count(made)
+    }
+
+    fn rename(&mut self, from: &Name, to: &Name) -> Result<(), Failed> {
+        let made = fs::rename(&self.rt, from.text(), to.text());
+        self.count(made)
+    }
+
+    fn remove(&mut self, name: &Name) -> Result<(), Failed> {
+        let made = fs::remove_file(&self.rt, name.text());
+        self.count(made)
+    }
+
+    fn sync_names(&mut self) -> Result<(), Failed> {
+        let made = sync_path(&self.rt, ".");
+        self.count(made)
+    }
+
+    fn list(&mut self, alloc: Global) -> Result<Names, DiskRefusal> {
+        let listed = names(&self.rt, alloc);
+        if let Err(DiskRefusal::Failed) = listed {
+            self.fail();
+        }
+        listed
     }
 }

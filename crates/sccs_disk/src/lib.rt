@@ -7,6 +7,6 @@ mod memory_disk;
 #[cfg(test)]
 mod tests;
 
-pub use disks::Disk;
+pub use disks::{Creation, Disk, DiskRefusal};
 pub use folder_disk::FolderDisk;
 pub use memory_disk::MemoryDisk;
