@@ -3,6 +3,11 @@
 
 mod disks;
 mod folder_disk;
+mod folder_reading;
+#[cfg(test)]
+mod folder_tests;
+mod folder_writing;
+mod folders;
 mod memory_disk;
 #[cfg(test)]
 mod tests;
