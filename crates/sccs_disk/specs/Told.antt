@@ -2,17 +2,14 @@
 use Rattle.std.specs.Prelude.{ℕ, List, Option, None, Some}
 use Rattle.sccs_disk.specs.Files.{View, Model, view_of}
 
--- Nothing, its view alone, or its model with those that it had before, the newest first. A disk that reads over another one
--- passes on what that one tells, with a mark of its own.
+-- Nothing, its view alone, or its model with those that it had before, the newest first.
 pub data Told : Type 0 where
   Nothing : Told
   Shows : (view : View) → Told
   Tells : (model : Model) → (past : List Model) → Told
-  Passes : (told : Told) → (mark : List ℕ) → Told
 
 -- the view, where it is told
 abbrev pub seen : Told → Option View
 seen Nothing = None
 seen (Shows v) = Some v
 seen (Tells m past) = Some (view_of m)
-seen (Passes told mark) = seen told

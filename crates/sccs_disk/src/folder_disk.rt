@@ -1,150 +1,58 @@
-ghost use Rattle.std.specs.Prelude.{◌≡◌, ℕ, ◌≤◌, length, IfOk, IfSome, OnErr};
+ghost use Rattle.std.specs.Prelude.{◌≡◌, ◌≤◌, IfOk, OnErr, IsErrOf};
 ghost use Rattle.sccs_base.specs.Stream.{Rose};
-ghost use Rattle.sccs_disk.specs.Told.{Nothing, seen};
+ghost use Rattle.sccs_disk.specs.Told.{Nothing};
 
-use crate::disks::Disk;
-use sccs_base::{Failed, Name, one_more};
-use std::fs;
-use std::fs::OpenFile;
-use std::io::{ErrorKind, Read, Seek, SeekFrom};
+use crate::disks::{Creation, Disk, DiskRefusal};
+use crate::folders::Folder;
+use sccs_base::{Failed, Memory, Name, Names, one_more};
+use std::alloc::Global;
 use std::rt::Files;
 
-// a file that is open, with its name, and the place where its last reading ended
-#[derive(Drop)]
-struct Open<F> {
-    name: Name,
-    file: F,
-    place: u64,
-}
-
-/// The current folder. It tells nothing of its files, and counts its failures. The file that was
-/// read last is kept open.
+/// The current folder as a disk. It tells nothing of its files, and counts its failures.
 #[derive(Drop)]
 pub struct FolderDisk<R: Files> {
-    rt: R,
-    open: Option<Open<R::File>>,
+    folder: Folder<R>,
     faults: u64,
 }
 
-// Opens a regular file; None where the name isn't there. What is no regular file has failed, and is
-// never opened, since opening could wait for another program.
-fn open_regular<R: Files>(rt: &R, name: &Name) -> Result<Option<R::File>, Failed> {
-    match fs::metadata(rt, name.text()) {
-        Ok(metadata) => {
-            if !metadata.is_file() {
-                return Err(Failed);
-            }
-        }
-        Err(error) => {
-            return if error.kind() == ErrorKind::NotFound {
-                Ok(None)
-            } else {
-                Err(Failed)
-            };
-        }
-    }
-    match fs::open(rt, name.text()) {
-        Ok(file) => Ok(Some(file)),
-        Err(error) => {
-            if error.kind() == ErrorKind::NotFound {
-                Ok(None)
-            } else {
-                Err(Failed)
-            }
-        }
-    }
-}
-
-// reads until the slice is full or the file ends
-fn fill<F: Read>(file: &mut F, into: &mut [u8]) -> Option<usize>
-    ensures { IfSome result (λ n. n ≤ length into.old) }
+impl<R: Files> FolderDisk<R>
+where
+    R::File: Drop,
 {
-    let mut at = 0;
-    for _ in 0..u64::MAX {
-        if at == into.len() {
-            return Some(at);
-        }
-        match file.read(&mut into[at..]) {
-            Ok(0) => return Some(at),
-            Ok(n) => at += n,
-            Err(error) => {
-                if error.kind() != ErrorKind::Interrupted {
-                    return None;
-                }
-            }
-        }
-    }
-    None
-}
-
-// goes to a place, where the file doesn't stand there
-fn go_to<F: Seek>(open: &mut Open<F>, place: u64) -> bool {
-    if open.place == place {
-        return true;
-    }
-    open.place = place;
-    open.file.seek(SeekFrom::Start(place)).is_ok()
-}
-
-// reads from a place on
-fn read_open<F: Read + Seek>(open: &mut Open<F>, from: u64, into: &mut [u8]) -> Option<usize>
-    ensures { IfSome result (λ n. n ≤ length into.old) }
-{
-    if !go_to(open, from) {
-        return None;
-    }
-    let count = fill(&mut open.file, into)?;
-    open.place = open.place.saturating_add(count as u64);
-    Some(count)
-}
-
-impl<R: Files> FolderDisk<R> {
     /// It has not failed yet.
-    pub fn new(rt: R) -> Self
-        ensures { result.faults ≡ 0 }
+    pub fn new(alloc: Global, rt: R) -> Result<FolderDisk<R>, Memory>
+    where
+        R: Drop,
+        ensures { IfOk result (λ d. d.faults ≡ 0) }
     {
-        FolderDisk {
-            rt,
-            open: None,
+        Ok(FolderDisk {
+            folder: Folder::new(alloc, rt)?,
             faults: 0,
-        }
+        })
     }
 
-    // opens the file of a name, where that isn't the one that is open; none is open where it isn't there
-    fn turn_to(&mut self, name: &Name) -> Result<(), Failed>
-    where
-        R::File: Drop,
-        ensures { self.new.faults ≡ self.old.faults }
-    {
-        if let Some(open) = &self.open {
-            if open.name.is(name) {
-                return Ok(());
-            }
-        }
-        self.open = None;
-        if let Some(file) = open_regular(&self.rt, name)? {
-            self.open = Some(Open {
-                name: *name,
-                file,
-                place: 0,
-            });
-        }
-        Ok(())
-    }
-
-    // closes the file and counts a failure
+    // counts a failure, and closes the files that are open
     fn fail(&mut self)
-    where
-        R::File: Drop,
         ensures later { self.old.faults ≤ self.new.faults }
         ensures rose { Rose self.old.faults self.new.faults }
     {
-        self.open = None;
+        self.folder.close();
         self.faults = one_more(self.faults);
+    }
+
+    // the answer of a call; where it failed, the failure is counted
+    fn counted<T>(&mut self, made: Result<T, Failed>) -> Result<T, Failed>
+        ensures later { self.old.faults ≤ self.new.faults }
+        ensures cause { OnErr result (Rose self.old.faults self.new.faults) }
+    {
+        if made.is_err() {
+            self.fail();
+        }
+        made
     }
 }
 
-impl<R: Files> Disk for FolderDisk<R>
+impl<R: Files + Clone + Drop> Disk for FolderDisk<R>
 where
     R::File: Drop,
 {
@@ -159,18 +67,8 @@ where
     ghost finite = { never_shows };
 
     fn size(&mut self, name: &Name) -> Result<Option<u64>, Failed> {
-        if self.turn_to(name).is_err() {
-            self.fail();
-            return Err(Failed);
-        }
-        let Some(open) = &self.open else {
-            return Ok(None);
-        };
-        let Ok(metadata) = open.file.metadata() else {
-            self.fail();
-            return Err(Failed);
-        };
-        Ok(Some(metadata.len()))
+        let made = self.folder.size(name);
+        self.counted(made)
     }
 
     fn read_at(
@@ -179,17 +77,65 @@ where
         from: u64,
         into: &mut [u8],
     ) -> Result<Option<usize>, Failed> {
-        if self.turn_to(name).is_err() {
-            self.fail();
-            return Err(Failed);
+        match self.folder.read_at(name, from, into) {
+            Ok(count) => Ok(count),
+            Err(Failed) => {
+                self.fail();
+                Err(Failed)
+            }
         }
-        let Some(open) = &mut self.open else {
-            return Ok(None);
-        };
-        let Some(count) = read_open(open, from, into) else {
+    }
+
+    fn writable(&mut self, name: &Name) -> Result<Option<bool>, Failed> {
+        let made = self.folder.writable(name);
+        self.counted(made)
+    }
+
+    fn create(&mut self, name: &Name) -> Result<Creation, DiskRefusal> {
+        let made = self.folder.create(name);
+        Ok(self.counted(made)?)
+    }
+
+    fn append(&mut self, name: &Name, bytes: &[u8]) -> Result<(), DiskRefusal> {
+        let made = self.folder.append(name, bytes);
+        Ok(self.counted(made)?)
+    }
+
+    fn write_at(&mut self, name: &Name, from: u64, bytes: &[u8]) -> Result<(), DiskRefusal> {
+        let made = self.folder.write_at(name, from, bytes);
+        Ok(self.counted(made)?)
+    }
+
+    fn protect(&mut self, name: &Name) -> Result<(), Failed> {
+        let made = self.folder.protect(name);
+        self.counted(made)
+    }
+
+    fn sync(&mut self, name: &Name) -> Result<(), Failed> {
+        let made = self.folder.sync(name);
+        self.counted(made)
+    }
+
+    fn rename(&mut self, from: &Name, to: &Name) -> Result<(), Failed> {
+        let made = self.folder.rename(from, to);
+        self.counted(made)
+    }
+
+    fn remove(&mut self, name: &Name) -> Result<(), Failed> {
+        let made = self.folder.remove(name);
+        self.counted(made)
+    }
+
+    fn sync_names(&mut self) -> Result<(), Failed> {
+        let made = self.folder.sync_names();
+        self.counted(made)
+    }
+
+    fn list(&mut self, alloc: Global) -> Result<Names, DiskRefusal> {
+        let listed = self.folder.list(alloc);
+        if let Err(DiskRefusal::Failed) = listed {
             self.fail();
-            return Err(Failed);
-        };
-        Ok(Some(count))
+        }
+        listed
     }
 }

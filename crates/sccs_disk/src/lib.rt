@@ -3,10 +3,15 @@
 
 mod disks;
 mod folder_disk;
+mod folder_reading;
+#[cfg(test)]
+mod folder_tests;
+mod folder_writing;
+mod folders;
 mod memory_disk;
 #[cfg(test)]
 mod tests;
 
-pub use disks::Disk;
+pub use disks::{Creation, Disk, DiskRefusal};
 pub use folder_disk::FolderDisk;
 pub use memory_disk::MemoryDisk;

@@ -5,8 +5,8 @@ ghost use Rattle.sccs_disk.specs.Told.{Shows, seen};
 ghost use Rattle.sccs_disk.specs.Reads.{Measures, Reads, ReadsFile};
 ghost use Rattle.sccs_disk.specs.MemoryFiles.{content_of, files_of};
 
-use crate::disks::Disk;
-use sccs_base::{Failed, Memory, Name, copy_front, one_more};
+use crate::disks::{Creation, Disk, DiskRefusal};
+use sccs_base::{Failed, Memory, Name, Names, copy_front, one_more};
 use std::alloc::Global;
 
 /// A file with its name.
@@ -170,5 +170,55 @@ impl Disk for MemoryDisk {
             return Err(Failed);
         }
         Ok(read(&self.files, name, from, into))
+    }
+
+    fn writable(&mut self, _name: &Name) -> Result<Option<bool>, Failed> {
+        self.faults = one_more(self.faults);
+        Err(Failed)
+    }
+
+    fn create(&mut self, _name: &Name) -> Result<Creation, DiskRefusal> {
+        self.faults = one_more(self.faults);
+        Err(DiskRefusal::Failed)
+    }
+
+    fn append(&mut self, _name: &Name, _bytes: &[u8]) -> Result<(), DiskRefusal> {
+        self.faults = one_more(self.faults);
+        Err(DiskRefusal::Failed)
+    }
+
+    fn write_at(&mut self, _name: &Name, _from: u64, _bytes: &[u8]) -> Result<(), DiskRefusal> {
+        self.faults = one_more(self.faults);
+        Err(DiskRefusal::Failed)
+    }
+
+    fn protect(&mut self, _name: &Name) -> Result<(), Failed> {
+        self.faults = one_more(self.faults);
+        Err(Failed)
+    }
+
+    fn sync(&mut self, _name: &Name) -> Result<(), Failed> {
+        self.faults = one_more(self.faults);
+        Err(Failed)
+    }
+
+    fn rename(&mut self, _from: &Name, _to: &Name) -> Result<(), Failed> {
+        self.faults = one_more(self.faults);
+        Err(Failed)
+    }
+
+    fn remove(&mut self, _name: &Name) -> Result<(), Failed> {
+        self.faults = one_more(self.faults);
+        Err(Failed)
+    }
+
+    fn sync_names(&mut self) -> Result<(), Failed> {
+        self.faults = one_more(self.faults);
+        Err(Failed)
+    }
+
+    fn list(&mut self, _alloc: Global) -> Result<Names, DiskRefusal> {
+        self.faults = one_more(self.faults);
+        Err(DiskRefusal::Failed)
     }
 }

@@ -16,13 +16,3 @@ fn memory_disk_reads_and_fails_by_plan(rt: HostRuntime) -> Result<(), Fail> {
     assert_eq!(rt; disk.size(&name), Err(Failed), "past the room");
     Ok(())
 }
-
-#[test]
-fn folder_disk_finds_no_such_file(rt: HostRuntime) -> Result<(), Fail> {
-    let name = Name::read(b"s.no such file").ok_or("a name")?;
-    let mut disk = FolderDisk::new(rt);
-    assert_eq!(rt; disk.size(&name), Ok(None));
-    let mut piece = [0; 2];
-    assert_eq!(rt; disk.read_at(&name, 0, &mut piece), Ok(None));
-    Ok(())
-}

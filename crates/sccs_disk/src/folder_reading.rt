@@ -1,0 +1,194 @@
+//! A file of the folder that is read: kept open for a run of calls, and read ahead.
+ghost use Rattle.std.specs.Prelude.{◌≡◌, ℕ, ◌≤◌, length, IfOk, IfSome};
+
+use sccs_base::{Failed, Memory, Name, copy_front};
+use std::alloc::Global;
+use std::fs;
+use std::fs::{Metadata, OpenFile};
+use std::io::{ErrorKind, Read, Seek, SeekFrom};
+use std::rt::Files;
+
+// how many bytes one read of the system asks for
+const READ_AHEAD: usize = 65_536;
+
+// a file that is open for reading, with its name
+#[derive(Drop)]
+struct OpenFor<F> {
+    name: Name,
+    file: F,
+    // where the file's next reading begins
+    place: u64,
+    // the place of the first byte that was read ahead, and how many were
+    from: u64,
+    count: usize,
+}
+
+/// The file that was read last, if it is still open, and what was read ahead of it.
+#[derive(Drop)]
+pub struct FolderReader<F> {
+    open: Option<OpenFor<F>>,
+    ahead: Vec<u8>,
+}
+
+/// What stands under a name, where that is a regular file; None where the name isn't there. What is
+/// no regular file has failed, and is never opened, since opening could wait for another program.
+pub fn regular<R: Files>(rt: &R, name: &Name) -> Result<Option<Metadata>, Failed> {
+    match fs::metadata(rt, name.text()) {
+        Ok(metadata) => {
+            if metadata.is_file() {
+                Ok(Some(metadata))
+            } else {
+                Err(Failed)
+            }
+        }
+        Err(error) => missing_or_failed(error.kind()),
+    }
+}
+
+// a name that isn't there is no failure
+fn missing_or_failed<T>(kind: ErrorKind) -> Result<Option<T>, Failed> {
+    if kind == ErrorKind::NotFound {
+        Ok(None)
+    } else {
+        Err(Failed)
+    }
+}
+
+/// Opens a regular file for reading; None where the name isn't there.
+pub fn open_to_read<R: Files>(rt: &R, name: &Name) -> Result<Option<R::File>, Failed> {
+    if regular(rt, name)?.is_none() {
+        return Ok(None);
+    }
+    match fs::open(rt, name.text()) {
+        Ok(file) => Ok(Some(file)),
+        Err(error) => missing_or_failed(error.kind()),
+    }
+}
+
+// reads until the slice is full or the file ends
+fn fill<F: Read>(file: &mut F, into: &mut [u8]) -> Option<usize>
+    ensures { IfSome result (λ n. n ≤ length into.old) }
+{
+    let mut at = 0;
+    for _ in 0..u64::MAX {
+        if at == into.len() {
+            return Some(at);
+        }
+        match file.read(&mut into[at..]) {
+            Ok(0) => return Some(at),
+            Ok(n) => at += n,
+            Err(error) => {
+                if error.kind() != ErrorKind::Interrupted {
+                    return None;
+                }
+            }
+        }
+    }
+    None
+}
+
+// reads from a place on; the file is sought there, where it doesn't stand there
+fn read_from<F: Read + Seek>(
+    file: &mut F,
+    place: &mut u64,
+    from: u64,
+    into: &mut [u8],
+) -> Option<usize>
+    ensures { IfSome result (λ n. n ≤ length into.old) }
+{
+    if *place != from {
+        *place = from;
+        if file.seek(SeekFrom::Start(from)).is_err() {
+            return None;
+        }
+    }
+    let count = fill(file, into)?;
+    *place = from.saturating_add(count as u64);
+    Some(count)
+}
+
+// the bytes from a place on that were read ahead, none where the place isn't among them
+fn ahead_from(ahead: &[u8], first: u64, count: usize, from: u64) -> &[u8] {
+    let count = count.min(ahead.len());
+    match from.checked_sub(first) {
+        Some(skip) => {
+            if skip < count as u64 {
+                &ahead[skip as usize..count]
+            } else {
+                &[]
+            }
+        }
+        None => &[],
+    }
+}
+
+impl<F: Read + Seek + OpenFile + Drop> FolderReader<F> {
+    /// No file is open.
+    pub fn new(alloc: Global) -> Result<FolderReader<F>, Memory> {
+        let ahead = vec![in alloc; 0; READ_AHEAD]?;
+        Ok(FolderReader { open: None, ahead })
+    }
+
+    /// Closes the file, and lets go of what was read ahead.
+    pub fn close(&mut self) {
+        self.open = None;
+    }
+
+    // opens the file of a name, where that isn't the one that is open; none is open where it isn't there
+    fn turn_to<R: Files<File = F>>(&mut self, rt: &R, name: &Name) -> Result<(), Failed> {
+        if let Some(open) = &self.open {
+            if open.name.is(name) {
+                return Ok(());
+            }
+        }
+        self.open = None;
+        if let Some(file) = open_to_read(rt, name)? {
+            self.open = Some(OpenFor {
+                name: *name,
+                file,
+                place: 0,
+                from: 0,
+                count: 0,
+            });
+        }
+        Ok(())
+    }
+
+    /// The length of a file; None where the name isn't there.
+    pub fn size<R: Files<File = F>>(&mut self, rt: &R, name: &Name) -> Result<Option<u64>, Failed> {
+        self.turn_to(rt, name)?;
+        let Some(open) = &self.open else {
+            return Ok(None);
+        };
+        match open.file.metadata() {
+            Ok(metadata) => Ok(Some(metadata.len())),
+            Err(_) => Err(Failed),
+        }
+    }
+
+    /// Reads a file from a place on; None where the name isn't there.
+    pub fn read_at<R: Files<File = F>>(
+        &mut self,
+        rt: &R,
+        name: &Name,
+        from: u64,
+        into: &mut [u8],
+    ) -> Result<Option<usize>, Failed>
+        ensures { IfOk result (λ r. IfSome r (λ n. n ≤ length into.old)) }
+    {
+        self.turn_to(rt, name)?;
+        let Some(open) = &mut self.open else {
+            return Ok(None);
+        };
+        if ahead_from(&self.ahead, open.from, open.count, from).len() < into.len() {
+            let Some(count) = read_from(&mut open.file, &mut open.place, from, &mut self.ahead)
+            else {
+                return Err(Failed);
+            };
+            open.from = from;
+            open.count = count;
+        }
+        let ready = ahead_from(&self.ahead, open.from, open.count, from);
+        Ok(Some(copy_front(ready, into)))
+    }
+}
