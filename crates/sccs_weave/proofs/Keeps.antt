@@ -9,25 +9,10 @@ use Rattle.sccs_history.specs.Select.{shows}
 use Rattle.sccs_history.specs.declared.headers.Item.{Item}
 use Rattle.sccs_history.specs.declared.headers.Item.TheVariants.{Text, Insert, Delete, End}
 use Rattle.sccs_history.proofs.Falling.{falling-alike, falling-has, Falls-wider}
+use Rattle.sccs_history.proofs.OpenMarks.{mark_below}
 use Rattle.sccs_weave.specs.Regions.{AreSorted, first_insert, found, Holds, keeps, kind, Opens, serials}
 use Rattle.sccs_weave.specs.declared.regions.Region.{Region}
 use Rattle.sccs_weave.proofs.Steps.{found_past}
-
--- a serial that isn't closed is below the bound of the items
-mark_cond : (m n : ℕ) (k rest : Mark) → (m == n ≡ true → is_closed k ≡ false → n < suc m) → is_closed (cond (m == n) k rest) ≡ false → (n < suc m) ⊎ (is_closed rest ≡ false)
-mark_cond m n k rest here opened = elim (cases_Bool (m == n)) [ inl e ↦ inl (here e (subst (λ t. is_closed (cond t k rest) ≡ false) e opened)) | inr e ↦ inr (subst (λ t. is_closed (cond t k rest) ≡ false) e opened) ]
-
-open_below : (m n : ℕ) (k rest : Mark) (high : ℕ) → is_closed (cond (m == n) k rest) ≡ false → (is_closed rest ≡ false → n < high) → n < max (suc m) high
-open_below m n k rest high opened below =
-    ⊎_elim (λ e. omega arith) (λ e. let low : n < high = below e in omega arith)
-    (mark_cond m n k rest (λ e _. let same : m ≡ n = eqb-true m n e in omega arith) opened)
-
-mark_below : (n : ℕ) (before : List Item) → is_closed (mark n before) ≡ false → n < above before
-mark_below n [] opened = absurd (false≢true (sym opened))
-mark_below n (Text text ∷ before) opened = mark_below n before opened
-mark_below n (Insert m ∷ before) opened = open_below m n ByInsert (mark n before) (above before) opened (mark_below n before)
-mark_below n (Delete m ∷ before) opened = open_below m n ByDelete (mark n before) (above before) opened (mark_below n before)
-mark_below n (End m ∷ before) opened = open_below m n Closed (mark n before) (above before) opened (mark_below n before)
 
 kind_open : (t : Bool) → is_closed (cond t ByInsert ByDelete) ≡ false
 kind_open true = refl
