@@ -3,4 +3,5 @@ pub mod Falling
 pub mod LinearTables
 pub mod LiveLines
 pub mod Membership
+pub mod OpenMarks
 pub mod Paths

@@ -1,283 +1,190 @@
 -- What the open regions say of a line.
-use Rattle.std.proofs.Common.{◌≡◌, ℕ, zero, suc, max, ◌==◌, ◌<◌, ◌≤◌, ◌⊎◌, nat_lt, Bool, true, false, cond, not, ◌&&◌, List, [], ◌∷◌, unwrap_or, map, filter, fold, refl, sym, subst, ap, ◌∙◌, inl, inr, ⊎_elim, arith, eq-eqb}
-use Rattle.std.specs.List.{AllByRecursion, list_any, reduce}
-use Rattle.std.proofs.lemmas.Bool.{eqb-true, ne_eqb, false≢true, and_parts, and_from, or_cases, or_left, or_right, or_parts, true_from_ne_false, cases_lt, cases_Bool}
-use Rattle.sccs_history.specs.Numbers.{front_if, falling, first, has, share}
-use Rattle.sccs_history.specs.Body.{Mark, Closed, ByInsert, ByDelete, is_closed, is_insert, is_delete, mark, above, inserter, deleters, line_at}
+use Rattle.std.proofs.Common.{◌≡◌, ℕ, zero, suc, max, ◌==◌, ◌<◌, ◌⊎◌, nat_lt, Bool, true, false, cond, not, ◌&&◌, ◌||◌, List, [], ◌∷◌, Option, None, Some, refl, sym, subst, ap, ◌∙◌, inl, inr, ⊎_elim, arith, eq-eqb, lt-ltb, le-ltb}
+use Rattle.std.specs.List.{AllByRecursion, find}
+use Rattle.std.proofs.lemmas.Bool.{eqb-true, ne_eqb, false≢true, cases_lt, cases_Bool}
+use Rattle.std.proofs.Math.Bool.{and-false}
+use Rattle.sccs_history.specs.Numbers.{front_if, first, has, share, Falls}
+use Rattle.sccs_history.specs.Body.{Mark, Closed, ByInsert, ByDelete, is_closed, is_insert, is_delete, mark, above, inserters, inserter, deleters, line_at}
 use Rattle.sccs_history.specs.Select.{shows}
 use Rattle.sccs_history.specs.declared.headers.Item.{Item}
 use Rattle.sccs_history.specs.declared.headers.Item.TheVariants.{Text, Insert, Delete, End}
-use Rattle.sccs_history.proofs.Falling.{falling_has, has-falling}
-use Rattle.sccs_weave.specs.Regions.{kind, found, Once, Opens, Holds, inserts_it, deletes_it, keeps}
+use Rattle.sccs_history.proofs.Falling.{falling-alike, falling-has, Falls-wider}
+use Rattle.sccs_history.proofs.OpenMarks.{mark_below}
+use Rattle.sccs_weave.specs.Regions.{AreSorted, first_insert, found, Holds, keeps, kind, Opens, serials}
 use Rattle.sccs_weave.specs.declared.regions.Region.{Region}
+use Rattle.sccs_weave.proofs.Steps.{found_past}
 
--- two tests that imply each other are the same
-both_true : (a b : Bool) → (a ≡ true → b ≡ true) → (b ≡ true → a ≡ true) → a ≡ b
-both_true true b there back = sym (there refl)
-both_true false true there back = back refl
-both_true false false there back = refl
+kind_open : (t : Bool) → is_closed (cond t ByInsert ByDelete) ≡ false
+kind_open true = refl
+kind_open false = refl
 
--- a serial that isn't closed is below the bound of the items
-mark_cond : (m n : ℕ) (k rest : Mark) → (m == n ≡ true → is_closed k ≡ false → n < suc m) → is_closed (cond (m == n) k rest) ≡ false → (n < suc m) ⊎ (is_closed rest ≡ false)
-mark_cond m n k rest here opened = elim (cases_Bool (m == n)) [ inl e ↦ inl (here e (subst (λ t. is_closed (cond t k rest) ≡ false) e opened)) | inr e ↦ inr (subst (λ t. is_closed (cond t k rest) ≡ false) e opened) ]
+-- the open regions are below the bound of the items
+falls_above : (before : List Item) (rs : List Region) → AreSorted rs → Opens before rs → Falls (above before) (serials rs)
+falls_above before [] sorted opens = tt
+falls_above before (r ∷ rs) sorted opens =
+    let stands : kind r ≡ mark r.serial before = ap (λ t. cond t (kind r) (found r.serial rs)) (sym (eq-eqb r.serial r.serial refl)) ∙ opens r.serial in
+    (mark_below r.serial before (ap is_closed (sym stands) ∙ kind_open r.inserts), sorted)
 
-open_below : (m n : ℕ) (k rest : Mark) (high : ℕ) → is_closed (cond (m == n) k rest) ≡ false → (is_closed rest ≡ false → n < high) → n < max (suc m) high
-open_below m n k rest high opened below =
-    ⊎_elim (λ e. omega arith) (λ e. let low : n < high = below e in omega arith)
-    (mark_cond m n k rest (λ e _. let same : m ≡ n = eqb-true m n e in omega arith) opened)
-
-pub mark_below : (n : ℕ) (before : List Item) → is_closed (mark n before) ≡ false → n < above before
-mark_below n [] opened = absurd (false≢true (sym opened))
-mark_below n (Text text ∷ before) opened = mark_below n before opened
-mark_below n (Insert m ∷ before) opened = open_below m n ByInsert (mark n before) (above before) opened (mark_below n before)
-mark_below n (Delete m ∷ before) opened = open_below m n ByDelete (mark n before) (above before) opened (mark_below n before)
-mark_below n (End m ∷ before) opened = open_below m n Closed (mark n before) (above before) opened (mark_below n before)
-
-open_from_insert : (k : Mark) → is_insert k ≡ true → is_closed k ≡ false
-open_from_insert Closed e = absurd (false≢true e)
-open_from_insert ByInsert e = refl
-open_from_insert ByDelete e = absurd (false≢true e)
-
-open_from_delete : (k : Mark) → is_delete k ≡ true → is_closed k ≡ false
-open_from_delete Closed e = absurd (false≢true e)
-open_from_delete ByInsert e = absurd (false≢true e)
-open_from_delete ByDelete e = refl
-
-insert_kind : (r : Region) → is_insert (kind r) ≡ r.inserts
-insert_kind r = cases r.inserts
-  where
-    cases : (t : Bool) → is_insert (cond t ByInsert ByDelete) ≡ t
-    cases true = refl
-    cases false = refl
-
-delete_kind : (r : Region) → is_delete (kind r) ≡ not r.inserts
-delete_kind r = cases r.inserts
-  where
-    cases : (t : Bool) → is_delete (cond t ByInsert ByDelete) ≡ not t
-    cases true = refl
-    cases false = refl
-
-kind_open : (t : Bool) → cond t ByInsert ByDelete ≡ Closed → ⊥
-kind_open true e = cc
-kind_open false e = cc
-
-not_closed : (r : Region) → kind r ≡ Closed → ⊥
-not_closed r e = kind_open r.inserts e
-
--- A region of the list, and how its serial stands.
-record There (P : Region → Type 0) (regions : List Region) : Type 0 where
-  region : Region
-  holds : P region
-  stands : found region.serial regions ≡ kind region
-
--- some region passes where one that is open passes
-module _ (P : Region → Type 0) (test : Region → Bool) where
-  any_found : (n : ℕ) (regions : List Region) → AllByRecursion P regions → is_closed (found n regions) ≡ false → ((r : Region) → P r → r.serial ≡ n → found n regions ≡ kind r → test r ≡ true) → list_any test regions ≡ true
-  any_found n [] each opened passes = absurd (false≢true (sym opened))
-  any_found n (r ∷ rs) each opened passes =
-      elim (cases_Bool (r.serial == n)) [
-        | inl e ↦ or_left (test r) (list_any test rs) (passes r each.0 (eqb-true r.serial n e) (ap (λ t. cond t (kind r) (found n rs)) e))
-        | inr e ↦ let later : found n (r ∷ rs) ≡ found n rs = ap (λ t. cond t (kind r) (found n rs)) e in
-            or_right (test r) (list_any test rs) (any_found n rs each.1 (ap is_closed (sym later) ∙ opened) (λ q p s k. passes q p s (later ∙ k)))
-      ]
-
-  -- where some region passes, its serial stands as it was opened
-  found_any : (regions : List Region) → Once regions → AllByRecursion P regions → list_any test regions ≡ true → There (λ r. P r × (test r ≡ true)) regions
-  found_any [] once each some = absurd (false≢true some)
-  found_any (r ∷ rs) once each some =
-      ⊎_elim (λ here. record { region = r; holds = (each.0, here); stands = ap (λ t. cond t (kind r) (found r.serial rs)) (eq-eqb r.serial r.serial refl) })
-      (λ later. let at = found_any rs once.1 each.1 later in
-      record { region = at.region; holds = at.holds; stands = ap (λ t. cond t (kind r) (found at.region.serial rs)) (ne_eqb r.serial at.region.serial (λ e. not_closed at.region (sym at.stands ∙ (ap (λ k. found k rs) (sym e) ∙ once.0)))) ∙ at.stands })
-      (or_cases (test r) (list_any test rs) some)
-
--- the greatest of numbers, 0 where there is none
-maximum : List ℕ → ℕ
-maximum [] = 0
-maximum (n ∷ ns) = max n (maximum ns)
-
-fold-max : (a : ℕ) (ns : List ℕ) → fold max a ns ≡ max a (maximum ns)
-unfolding maximum
-fold-max a [] = omega arith
-fold-max a (n ∷ ns) = fold-max (max a n) ns ∙ omega arith
-
-reduce-max : (ns : List ℕ) → unwrap_or (reduce max ns) 0 ≡ maximum ns
-unfolding maximum
-reduce-max [] = refl
-reduce-max (n ∷ ns) = fold-max n ns
-
--- the serials that are open by Insert
+-- the serials of the regions by Insert
 abbrev inserting : List Region → List ℕ
-inserting regions = map (λ r. r.serial) (filter (λ r. r.inserts) regions)
+inserting [] = []
+inserting (r ∷ rs) = front_if r.inserts r.serial (inserting rs)
 
-greatest_cons : (r : Region) (rs : List Region) (t : Bool) → r.inserts ≡ t → maximum (map (λ q. q.serial) (cond t (r ∷ filter (λ q. q.inserts) rs) (filter (λ q. q.inserts) rs))) ≡ cond t (max r.serial (maximum (inserting rs))) (maximum (inserting rs))
-unfolding maximum
-greatest_cons r rs true e = refl
-greatest_cons r rs false e = refl
+-- those of the regions by Delete before the first by Insert
+abbrev deleting : List Region → List ℕ
+deleting [] = []
+deleting (r ∷ rs) = cond r.inserts [] (r.serial ∷ deleting rs)
 
--- the greatest is at least each of them
-at_least : (t : Bool) (m high n : ℕ) → n ≤ high → n ≤ cond t (max m high) high
-at_least true m high n le = omega arith
-at_least false m high n le = le
+first_front : (t : Bool) (n : ℕ) (ns : List ℕ) → cond t n (first ns) ≡ first (front_if t n ns)
+first_front true n ns = refl
+first_front false n ns = refl
 
-at_least_it : (t : Bool) (m high n : ℕ) → t ≡ true → m ≡ n → n ≤ cond t (max m high) high
-at_least_it true m high n e same = omega arith
-at_least_it false m high n e same = absurd (false≢true e)
+first_inserting : (rs : List Region) → first_insert rs ≡ first (inserting rs)
+first_inserting [] = refl
+first_inserting (r ∷ rs) = ap (λ n. cond r.inserts r.serial n) (first_inserting rs) ∙ first_front r.inserts r.serial (inserting rs)
 
-bounded : (n : ℕ) (regions : List Region) → is_insert (found n regions) ≡ true → n ≤ maximum (inserting regions)
-bounded n [] inserts = absurd (false≢true inserts)
-bounded n (r ∷ rs) inserts =
-    subst (λ high. n ≤ high) (sym (greatest_cons r rs r.inserts refl))
-    (elim (cases_Bool (r.serial == n)) [
-      | inl e ↦ at_least_it r.inserts r.serial (maximum (inserting rs)) n (sym (insert_kind r) ∙ (ap (λ t. is_insert (cond t (kind r) (found n rs))) (sym e) ∙ inserts)) (eqb-true r.serial n e)
-      | inr e ↦ at_least r.inserts r.serial (maximum (inserting rs)) n (bounded n rs (ap (λ t. is_insert (cond t (kind r) (found n rs))) (sym e) ∙ inserts))
-    ])
+falls_front : (t : Bool) (b n : ℕ) (ns : List ℕ) → n < b → Falls n ns → Falls b (front_if t n ns)
+falls_front true b n ns lt falls = (lt, falls)
+falls_front false b n ns lt falls = Falls-wider n b ns (omega arith) falls
 
--- where none was opened by Insert, the greatest is 0, and none is found so
-none_greatest : (regions : List Region) → list_any (λ r. r.inserts) regions ≡ false → maximum (inserting regions) ≡ 0
-unfolding maximum
-none_greatest [] none = refl
-none_greatest (r ∷ rs) none =
-    let parts = or_parts r.inserts (list_any (λ q. q.inserts) rs) none in
-    ap (λ t. maximum (map (λ q. q.serial) (cond t (r ∷ filter (λ q. q.inserts) rs) (filter (λ q. q.inserts) rs)))) parts.0 ∙ none_greatest rs parts.1
+falls_inserting : (b : ℕ) (rs : List Region) → Falls b (serials rs) → Falls b (inserting rs)
+falls_inserting b [] falls = tt
+falls_inserting b (r ∷ rs) falls = falls_front r.inserts b r.serial (inserting rs) falls.0 (falls_inserting r.serial rs falls.1)
 
-insert_cond : (t : Bool) (k rest : Mark) → is_insert k ≡ false → is_insert rest ≡ false → is_insert (cond t k rest) ≡ false
-insert_cond true k rest one two = one
-insert_cond false k rest one two = two
+insert_or : (s : Bool) (k : Mark) → (s || is_insert k) ≡ is_insert (cond s ByInsert k)
+insert_or true k = refl
+insert_or false k = refl
 
-none_found : (n : ℕ) (regions : List Region) → list_any (λ r. r.inserts) regions ≡ false → is_insert (found n regions) ≡ false
-none_found n [] none = refl
-none_found n (r ∷ rs) none =
-    let parts = or_parts r.inserts (list_any (λ q. q.inserts) rs) none in
-    insert_cond (r.serial == n) (kind r) (found n rs) (insert_kind r ∙ parts.0) (none_found n rs parts.1)
+insert_past : (s : Bool) (k : Mark) → (s ≡ true → is_insert k ≡ false) → is_insert k ≡ is_insert (cond s ByDelete k)
+insert_past true k none = none refl
+insert_past false k none = refl
 
--- a number that isn't the first region's is found among the others
-found_later : (r : Region) (rs : List Region) (n : ℕ) → (r.serial ≡ n → ⊥) → found n (r ∷ rs) ≡ found n rs
-found_later r rs n other = ap (λ t. cond t (kind r) (found n rs)) (ne_eqb r.serial n other)
+insert_step : (t : Bool) (b n m : ℕ) (rs : List Region) → Falls m (serials rs) → has (inserting rs) n ≡ is_insert (found n rs) → has (front_if t m (inserting rs)) n ≡ is_insert (cond (m == n) (cond t ByInsert ByDelete) (found n rs))
+insert_step true b n m rs falls ih = ap (λ x. (m == n) || x) ih ∙ insert_or (m == n) (found n rs)
+insert_step false b n m rs falls ih =
+    ih ∙ insert_past (m == n) (found n rs) (λ e. let same : m ≡ n = eqb-true m n e in ap is_insert (found_past m n rs falls (omega arith)))
 
-found_first : (r : Region) (rs : List Region) → found r.serial (r ∷ rs) ≡ kind r
-found_first r rs = ap (λ t. cond t (kind r) (found r.serial rs)) (eq-eqb r.serial r.serial refl)
+has_inserting : (b n : ℕ) (rs : List Region) → Falls b (serials rs) → has (inserting rs) n ≡ is_insert (found n rs)
+has_inserting b n [] falls = refl
+has_inserting b n (r ∷ rs) falls = insert_step r.inserts b n r.serial rs falls.1 (has_inserting r.serial n rs falls.1)
 
--- where some was opened by Insert, the greatest is found so
-greatest_step : (r : Region) (rs : List Region) (t : Bool) → r.inserts ≡ t → found r.serial rs ≡ Closed
-    → (list_any (λ q. q.inserts) rs ≡ true → is_insert (found (maximum (inserting rs)) rs) ≡ true)
-    → list_any (λ q. q.inserts) (r ∷ rs) ≡ true
-    → is_insert (found (cond t (max r.serial (maximum (inserting rs))) (maximum (inserting rs))) (r ∷ rs)) ≡ true
-greatest_step r rs true e alone rest some =
-    let high : ℕ = maximum (inserting rs) in
-    ⊎_elim (λ lt. let is : max r.serial high ≡ high = omega arith in
-    let later : list_any (λ q. q.inserts) rs ≡ true = true_from_ne_false (list_any (λ q. q.inserts) rs) (λ none. let zero : high ≡ 0 = none_greatest rs none in omega arith) in
-    ap (λ n. is_insert (found n (r ∷ rs))) is ∙ (ap is_insert (found_later r rs high (λ same. omega arith)) ∙ rest later))
-    (λ le. let is : max r.serial high ≡ r.serial = omega arith in ap (λ n. is_insert (found n (r ∷ rs))) is ∙ (ap is_insert (found_first r rs) ∙ (insert_kind r ∙ e)))
-    (cases_lt r.serial high)
-greatest_step r rs false e alone rest some =
-    let high : ℕ = maximum (inserting rs) in
-    let later : list_any (λ q. q.inserts) rs ≡ true = ⊎_elim (λ here. absurd (false≢true (sym e ∙ here))) (λ l. l) (or_cases r.inserts (list_any (λ q. q.inserts) rs) some) in
-    ap is_insert (found_later r rs high (λ same. false≢true (sym (ap is_insert (ap (λ n. found n rs) (sym same) ∙ alone)) ∙ rest later))) ∙ rest later
+-- what the regions say of the inserter
+pub inserter_regions : (before : List Item) (rs : List Region) → AreSorted rs → Opens before rs → first_insert rs ≡ inserter before
+inserter_regions before rs sorted opens =
+    let falls = falls_above before rs sorted opens in
+    let same : inserters before ≡ inserting rs =
+    falling-alike (above before) (λ n. is_insert (mark n before)) (has (inserting rs)) (λ n lt. ap is_insert (sym (opens n)) ∙ sym (has_inserting (above before) n rs falls))
+    ∙ falling-has (above before) (inserting rs) (falls_inserting (above before) rs falls) in
+    first_inserting rs ∙ ap first (sym same)
 
-greatest_found : (regions : List Region) → Once regions → list_any (λ r. r.inserts) regions ≡ true → is_insert (found (maximum (inserting regions)) regions) ≡ true
-greatest_found [] once some = absurd (false≢true some)
-greatest_found (r ∷ rs) once some =
-    subst (λ n. is_insert (found n (r ∷ rs)) ≡ true) (sym (greatest_cons r rs r.inserts refl))
-    (greatest_step r rs r.inserts refl once.0 (greatest_found rs once.1) some)
+first_step : (t : Bool) (b n rest : ℕ) → n < b → 0 < cond t n rest → (0 < rest → rest < n) → cond t n rest < b
+first_step true b n rest lt some below = lt
+first_step false b n rest lt some below = let low = below some in omega (arith, low)
 
-first_step : (b g : ℕ) (t : Bool) (rest : List ℕ) → (t ≡ true → b ≤ g) → (t ≡ false → first rest ≡ g) → g < suc b → first (front_if t b rest) ≡ g
-first_step b g true rest high down low = let le : b ≤ g = high refl in omega arith
-first_step b g false rest high down low = down refl
+first_below : (b : ℕ) (rs : List Region) → Falls b (serials rs) → 0 < first_insert rs → first_insert rs < b
+first_below b [] falls some = absurd (omega arith)
+first_below b (r ∷ rs) falls some = first_step r.inserts b r.serial (first_insert rs) falls.0 some (first_below r.serial rs falls.1)
 
--- the first of the numbers that pass is the greatest that passes
-first_greatest : (b : ℕ) (test : ℕ → Bool) (g : ℕ) → test g ≡ true → g < b → ((n : ℕ) → test n ≡ true → n ≤ g) → first (falling b test) ≡ g
-first_greatest zero test g pass low high = absurd (omega arith)
-first_greatest (suc b) test g pass low high =
-    first_step b g (test b) (falling b test) (high b)
-    (λ fails. first_greatest b test g pass (lower fails) high) low
-  where
-    lower : test b ≡ false → g < b
-    lower fails = ⊎_elim (λ lt. lt) (λ le. let same : b ≡ g = omega arith in absurd (false≢true (sym fails ∙ subst (λ n. test n ≡ true) (sym same) pass))) (cases_lt g b)
+falls_cond : (t : Bool) (b n : ℕ) (ns : List ℕ) → n < b → Falls n ns → Falls b (cond t [] (n ∷ ns))
+falls_cond true b n ns lt falls = tt
+falls_cond false b n ns lt falls = (lt, falls)
 
-first_none : (b : ℕ) (test : ℕ → Bool) → ((n : ℕ) → test n ≡ false) → first (falling b test) ≡ 0
-first_none zero test none = refl
-first_none (suc b) test none = ap (λ t. first (front_if t b (falling b test))) (none b) ∙ first_none b test none
+falls_deleting : (b : ℕ) (rs : List Region) → Falls b (serials rs) → Falls b (deleting rs)
+falls_deleting b [] falls = tt
+falls_deleting b (r ∷ rs) falls = falls_cond r.inserts b r.serial (deleting rs) falls.0 (falls_deleting r.serial rs falls.1)
 
-inserter_some : (before : List Item) (regions : List Region) → Once regions → Opens before regions → (t : Bool) → list_any (λ r. r.inserts) regions ≡ t → inserter before ≡ maximum (inserting regions)
-inserter_some before regions once opens true some =
-    let g : ℕ = maximum (inserting regions) in
-    let stands : is_insert (mark g before) ≡ true = ap is_insert (sym (opens g)) ∙ greatest_found regions once some in
-    first_greatest (above before) (λ n. is_insert (mark n before)) g stands (mark_below g before (open_from_insert (mark g before) stands)) (λ n pass. bounded n regions (ap is_insert (opens n) ∙ pass))
-inserter_some before regions once opens false none =
-    first_none (above before) (λ n. is_insert (mark n before)) (λ n. ap is_insert (sym (opens n)) ∙ none_found n regions none) ∙ sym (none_greatest regions none)
+not_deleted : (m n : ℕ) (k : Mark) → (m < n → k ≡ Closed) → false ≡ is_delete (cond (m == n) ByInsert k) && nat_lt m n
+not_deleted m n k past =
+    ⊎_elim
+    (λ lt. let closed : is_delete k ≡ false = ap is_delete (past lt) in
+    sym (ap (λ t. is_delete (cond t ByInsert k) && nat_lt m n) (ne_eqb m n (λ e. omega arith)) ∙ ap (λ t. t && nat_lt m n) closed))
+    (λ le. sym (ap (λ t. is_delete (cond (m == n) ByInsert k) && t) (le-ltb m n le) ∙ and-false (is_delete (cond (m == n) ByInsert k))))
+    (cases_lt m n)
 
--- the greatest serial open by Insert is the inserter
-pub inserter-regions : (before : List Item) (regions : List Region) → Once regions → Opens before regions → unwrap_or (reduce max (inserting regions)) 0 ≡ inserter before
-inserter-regions before regions once opens =
-    reduce-max (inserting regions) ∙ sym (inserter_some before regions once opens (list_any (λ r. r.inserts) regions) refl)
+deleted_or : (s : Bool) (k : Mark) (low : Bool) → (s ≡ true → low ≡ true) → (s || (is_delete k && low)) ≡ (is_delete (cond s ByDelete k) && low)
+deleted_or true k low here = sym (here refl)
+deleted_or false k low here = refl
 
--- the inserter stands by Insert, or it is 0
-inserter_stands : (before : List Item) (regions : List Region) → Once regions → Opens before regions → (is_insert (found (inserter before) regions) ≡ true) ⊎ (inserter before ≡ 0)
-inserter_stands before regions once opens =
-    elim (cases_Bool (list_any (λ r. r.inserts) regions)) [
-      | inl some ↦ inl (ap (λ n. is_insert (found n regions)) (inserter_some before regions once opens true some) ∙ greatest_found regions once some)
-      | inr none ↦ inr (inserter_some before regions once opens false none ∙ none_greatest regions none)
-    ]
+delete_step : (t : Bool) (n m : ℕ) (rs : List Region) → Falls m (serials rs) → 0 < cond t m (first_insert rs) → (0 < first_insert rs → has (deleting rs) n ≡ is_delete (found n rs) && nat_lt (first_insert rs) n)
+    → has (cond t [] (m ∷ deleting rs)) n ≡ is_delete (cond (m == n) (cond t ByInsert ByDelete) (found n rs)) && nat_lt (cond t m (first_insert rs)) n
+delete_step true n m rs falls some ih = not_deleted m n (found n rs) (λ lt. found_past m n rs falls (omega arith))
+delete_step false n m rs falls some ih =
+    ap (λ x. (m == n) || x) (ih some)
+    ∙ deleted_or (m == n) (found n rs) (nat_lt (first_insert rs) n) (λ e. let same : m ≡ n = eqb-true m n e in let low = first_below m rs falls some in lt-ltb (first_insert rs) n (omega (arith, low)))
 
-module _ (set : List ℕ) (before : List Item) (regions : List Region) (once : Once regions) (holds : Holds set before regions) where
-  abbrev Known : Region → Type 0
-  Known r = r.applied ≡ has set r.serial
+has_deleting : (b n : ℕ) (rs : List Region) → Falls b (serials rs) → 0 < first_insert rs → has (deleting rs) n ≡ is_delete (found n rs) && nat_lt (first_insert rs) n
+has_deleting b n [] falls some = absurd (omega arith)
+has_deleting b n (r ∷ rs) falls some = delete_step r.inserts n r.serial rs falls.1 some (has_deleting r.serial n rs falls.1)
 
-  inserted_there : list_any (inserts_it (inserter before)) regions ≡ true → has set (inserter before) ≡ true
-  inserted_there some =
-      let at = found_any Known (inserts_it (inserter before)) regions once holds.applied some in
-      let parts = and_parts at.region.inserts (at.region.applied && at.region.serial == inserter before) at.holds.1 in
-      let both = and_parts at.region.applied (at.region.serial == inserter before) parts.1 in
-      subst (λ n. has set n ≡ true) (eqb-true at.region.serial (inserter before) both.1) (sym at.holds.0 ∙ both.0)
+-- what they say of the deleters, where a serial is open by Insert
+deleters_regions : (before : List Item) (rs : List Region) → AreSorted rs → Opens before rs → 0 < first_insert rs → deleters before ≡ deleting rs
+deleters_regions before rs sorted opens some =
+    let falls = falls_above before rs sorted opens in
+    falling-alike (above before) (λ n. is_delete (mark n before) && nat_lt (inserter before) n) (has (deleting rs))
+    (λ n lt. ap (λ k. is_delete k && nat_lt (inserter before) n) (sym (opens n))
+    ∙ (ap (λ i. is_delete (found n rs) && nat_lt i n) (sym (inserter_regions before rs sorted opens)) ∙ sym (has_deleting (above before) n rs falls some)))
+    ∙ falling-has (above before) (deleting rs) (falls_deleting (above before) rs falls)
 
-  inserted_back : has set (inserter before) ≡ true → list_any (inserts_it (inserter before)) regions ≡ true
-  inserted_back there =
-      ⊎_elim
-      (λ stands. any_found Known (inserts_it (inserter before)) (inserter before) regions holds.applied (open_from_insert (found (inserter before) regions) stands)
-      (λ r known same k. and_from r.inserts (r.applied && r.serial == inserter before) (sym (insert_kind r) ∙ (ap is_insert (sym k) ∙ stands))
-      (and_from r.applied (r.serial == inserter before) (known ∙ (ap (λ n. has set n) same ∙ there)) (eq-eqb r.serial (inserter before) same))))
-      (λ zero. absurd (false≢true (sym holds.no_zero ∙ subst (λ n. has set n ≡ true) zero there)))
-      (inserter_stands before regions once holds.opens)
+and_true : (a : Bool) → a ≡ a && true
+and_true true = refl
+and_true false = refl
 
-share_from : (ds set : List ℕ) (n : ℕ) → has ds n ≡ true → has set n ≡ true → share ds set ≡ true
-share_from [] set n there in_set = absurd (false≢true there)
-share_from (d ∷ ds) set n there in_set =
-    ⊎_elim (λ e. or_left (has set d) (share ds set) (subst (λ k. has set k ≡ true) (sym (eqb-true d n e)) in_set)) (λ e. or_right (has set d) (share ds set) (share_from ds set n e in_set))
-    (or_cases (d == n) (has ds n) there)
+and_not_or : (a h q : Bool) → (not a && (h && not q)) ≡ (h && not (a || q))
+and_not_or true h q = sym (and-false h)
+and_not_or false h q = refl
 
-share_some : (ds set : List ℕ) → share ds set ≡ true → (n : ℕ) × (has ds n ≡ true) × (has set n ≡ true)
-share_some [] set some = absurd (false≢true some)
-share_some (d ∷ ds) set some =
-    ⊎_elim (λ e. (d, or_left (d == d) (has ds d) (eq-eqb d d refl), e)) (λ e. let rest = share_some ds set e in (rest.0, or_right (d == rest.0) (has ds rest.0) rest.1, rest.2))
-    (or_cases (has set d) (share ds set) some)
+keeps_step : (set : List ℕ) (t a : Bool) (n : ℕ) (rs : List Region) → a ≡ has set n → keeps rs ≡ has set (first_insert rs) && not (share (deleting rs) set)
+    → cond t a (not a && keeps rs) ≡ has set (cond t n (first_insert rs)) && not (share (cond t [] (n ∷ deleting rs)) set)
+keeps_step set true a n rs tells ih = tells ∙ and_true (has set n)
+keeps_step set false a n rs tells ih =
+    ap (λ k. not a && k) ih
+    ∙ (and_not_or a (has set (first_insert rs)) (share (deleting rs) set) ∙ ap (λ k. has set (first_insert rs) && not (k || share (deleting rs) set)) tells)
 
--- what makes a serial a deleter
-abbrev is_deleter : List Item → ℕ → Bool
-is_deleter before n = is_delete (mark n before) && nat_lt (inserter before) n
+keeps_is : (set : List ℕ) (rs : List Region) → has set 0 ≡ false → AllByRecursion (λ r. r.applied ≡ has set r.serial) rs → keeps rs ≡ has set (first_insert rs) && not (share (deleting rs) set)
+keeps_is set [] none tells = ap (λ t. t && true) (sym none)
+keeps_is set (r ∷ rs) none tells = keeps_step set r.inserts r.applied r.serial rs tells.0 (keeps_is set rs none tells.1)
 
-module _ (set : List ℕ) (before : List Item) (regions : List Region) (once : Once regions) (holds : Holds set before regions) where
-  deleted_there : list_any (deletes_it (inserter before)) regions ≡ true → share (deleters before) set ≡ true
-  deleted_there some =
-      let at = found_any (λ r. r.applied ≡ has set r.serial) (deletes_it (inserter before)) regions once holds.applied some in
-      let parts = and_parts (not at.region.inserts) (at.region.applied && nat_lt (inserter before) at.region.serial) at.holds.1 in
-      let both = and_parts at.region.applied (nat_lt (inserter before) at.region.serial) parts.1 in
-      let deletes : is_delete (mark at.region.serial before) ≡ true = ap is_delete (sym (holds.opens at.region.serial) ∙ at.stands) ∙ (delete_kind at.region ∙ parts.0) in
-      share_from (deleters before) set at.region.serial
-      (has-falling (above before) (is_deleter before) at.region.serial (mark_below at.region.serial before (open_from_delete (mark at.region.serial before) deletes)) (and_from (is_delete (mark at.region.serial before)) (nat_lt (inserter before) at.region.serial) deletes both.1))
-      (sym at.holds.0 ∙ both.0)
+and_same : (h x y : Bool) → (h ≡ true → x ≡ y) → (h && x) ≡ (h && y)
+and_same true x y same = same refl
+and_same false x y same = refl
 
-  deleted_back : share (deleters before) set ≡ true → list_any (deletes_it (inserter before)) regions ≡ true
-  deleted_back some =
-      let at = share_some (deleters before) set some in
-      let parts = and_parts (is_delete (mark at.0 before)) (nat_lt (inserter before) at.0) (falling_has (above before) (is_deleter before) at.0 at.1).1 in
-      let stands : is_delete (found at.0 regions) ≡ true = ap is_delete (holds.opens at.0) ∙ parts.0 in
-      any_found (λ r. r.applied ≡ has set r.serial) (deletes_it (inserter before)) at.0 regions holds.applied (open_from_delete (found at.0 regions) stands)
-      (λ r known same k. and_from (not r.inserts) (r.applied && nat_lt (inserter before) r.serial) (sym (delete_kind r) ∙ (ap is_delete (sym k) ∙ stands))
-      (and_from r.applied (nat_lt (inserter before) r.serial) (known ∙ (ap (λ n. has set n) same ∙ at.2)) (ap (λ n. nat_lt (inserter before) n) same ∙ parts.1)))
+some_from_has : (set : List ℕ) (n : ℕ) → has set 0 ≡ false → has set n ≡ true → 0 < n
+some_from_has set zero none there = absurd (false≢true (sym none ∙ there))
+some_from_has set (suc n) none there = omega arith
 
-  -- what the regions say of a line is whether the set shows it
-  pub shows-regions : (text : List ℕ) → keeps regions ≡ shows set (line_at before text)
-  shows-regions text =
-      ap (λ k. list_any (inserts_it k) regions && not (list_any (deletes_it k) regions)) (inserter-regions before regions once holds.opens)
-      ∙ (ap (λ t. t && not (list_any (deletes_it (inserter before)) regions)) (both_true (list_any (inserts_it (inserter before)) regions) (has set (inserter before)) (inserted_there set before regions once holds) (inserted_back set before regions once holds))
-      ∙ ap (λ t. has set (inserter before) && not t) (both_true (list_any (deletes_it (inserter before)) regions) (share (deleters before) set) deleted_there deleted_back))
+-- what they say of a line is whether the set shows it
+pub shows_regions : (set : List ℕ) (before : List Item) (rs : List Region) (text : List ℕ) → AreSorted rs → Holds set before rs → keeps rs ≡ shows set (line_at before text)
+shows_regions set before rs text sorted holds =
+    keeps_is set rs holds.no_zero holds.applied
+    ∙ (and_same (has set (first_insert rs)) (not (share (deleting rs) set)) (not (share (deleters before) set))
+    (λ there. ap (λ ds. not (share ds set)) (sym (deleters_regions before rs sorted holds.opens (some_from_has set (first_insert rs) holds.no_zero there))))
+    ∙ ap (λ i. has set i && not (share (deleters before) set)) (inserter_regions before rs sorted holds.opens))
+
+-- a region by Insert is applied
+abbrev pub says_yes : Option Region → Bool
+says_yes None = false
+says_yes (Some r) = r.inserts && r.applied
+
+yes_step : (t a : Bool) (r : Region) (rest : Option Region) → r.inserts ≡ t → r.applied ≡ a → says_yes (cond (t || a) (Some r) rest) ≡ cond t a (not a && says_yes rest)
+yes_step true a r rest one two = ap (λ t. t && r.applied) one ∙ two
+yes_step false true r rest one two = ap (λ t. t && r.applied) one
+yes_step false false r rest one two = refl
+
+-- the first region that is applied or by Insert decides
+pub keeps_found : (rs : List Region) → says_yes (find (λ r. r.inserts || r.applied) rs) ≡ keeps rs
+keeps_found [] = refl
+keeps_found (r ∷ rs) =
+    yes_step r.inserts r.applied r (find (λ q. q.inserts || q.applied) rs) refl refl ∙ ap (λ k. cond r.inserts r.applied (not r.applied && k)) (keeps_found rs)
+
+-- the serial of a region that was found, or 0
+abbrev pub serial_of : Option Region → ℕ
+serial_of None = 0
+serial_of (Some r) = r.serial
+
+serial_step : (t : Bool) (r : Region) (rest : Option Region) → serial_of (cond t (Some r) rest) ≡ cond t r.serial (serial_of rest)
+serial_step true r rest = refl
+serial_step false r rest = refl
+
+pub first_found : (rs : List Region) → serial_of (find (λ r. r.inserts) rs) ≡ first_insert rs
+first_found [] = refl
+first_found (r ∷ rs) = serial_step r.inserts r (find (λ q. q.inserts) rs) ∙ ap (λ n. cond r.inserts r.serial n) (first_found rs)

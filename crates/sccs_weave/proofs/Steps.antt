@@ -1,18 +1,19 @@
 -- How the open regions go on with an item.
-use Rattle.std.proofs.Common.{◌≡◌, ℕ, zero, suc, ◌+◌, ◌==◌, ◌<◌, ◌≤◌, nat_lt, Bool, true, false, cond, not, List, [], ◌∷◌, ◌++◌, None, Some, length, set, get_or, filter, refl, sym, ap, ◌∙◌, arith}
-use Rattle.std.specs.List.{AllByRecursion, position, position_or_len}
-use Rattle.std.proofs.lemmas.Bool.{eqb-true, ne_eqb, eqb-false, ltb-false}
-use Rattle.std.proofs.lemmas.List.Quantifiers.{position-Some}
-use Rattle.sccs_history.specs.Numbers.{has}
+use Rattle.std.proofs.Common.{◌≡◌, ℕ, suc, ◌+◌, ◌==◌, ◌<◌, ◌≤◌, nat_lt, Bool, true, false, cond, List, [], ◌∷◌, Option, None, Some, refl, sym, subst, ap, ◌∙◌, arith}
+use Rattle.std.specs.List.{AllByRecursion}
+use Rattle.std.proofs.lemmas.Bool.{eqb-true, ne_eqb, eqb-false, ltb-true, ltb-false}
+use Rattle.sccs_history.specs.Numbers.{has, Falls}
 use Rattle.sccs_history.specs.Body.{Mark, Closed, ByInsert, ByDelete}
 use Rattle.sccs_history.specs.declared.headers.Item.{Item}
 use Rattle.sccs_history.specs.declared.headers.Item.TheVariants.{Text, Insert, Delete, End}
-use Rattle.sccs_weave.specs.Regions.{kind, found, Once, opened, behind, Opens, Holds}
+use Rattle.sccs_history.proofs.Falling.{Falls-wider, IsFalling-from_Falls}
+use Rattle.sccs_weave.specs.Regions.{AreSorted, behind, behind_one, found, Holds, kind, Opens, replaced, serials}
 use Rattle.sccs_weave.specs.declared.regions.Region.{Region}
+use Rattle.sccs_weave.proofs.Places.{sorted_falls}
 
-twice : (t : Bool) (x y z : Mark) → cond t x z ≡ cond t x (cond t y z)
-twice true x y z = refl
-twice false x y z = refl
+same_twice : (t : Bool) (x y z : Mark) → cond t x z ≡ cond t x (cond t y z)
+same_twice true x y z = refl
+same_twice false x y z = refl
 
 swapped : (s t : Bool) (x y z : Mark) → (s ≡ true → t ≡ true → ⊥) → cond s y (cond t x z) ≡ cond t x (cond s y z)
 swapped true true x y z apart = absurd (apart refl refl)
@@ -20,138 +21,128 @@ swapped true false x y z apart = refl
 swapped false true x y z apart = refl
 swapped false false x y z apart = refl
 
--- two numbers that aren't the same are not both a third
-apart_tests : (a b n : ℕ) → (a == b) ≡ false → (a == n) ≡ true → (b == n) ≡ true → ⊥
-apart_tests a b n other one two = eqb-false a b other (eqb-true a n one ∙ sym (eqb-true b n two))
+closed_or : (t : Bool) (m : Mark) → (t ≡ true → m ≡ Closed) → m ≡ cond t Closed m
+closed_or true m e = e refl
+closed_or false m e = refl
 
-found_cons : (r : Region) (n : ℕ) (q : Region) (rest over : List Region) (t : Bool) → (r.serial == q.serial) ≡ t → found n over ≡ cond (q.serial == n) (kind q) (found n rest)
-    → found n (cond t (q ∷ rest) (r ∷ over)) ≡ cond (q.serial == n) (kind q) (found n (r ∷ rest))
-found_cons r n q rest over true e ih =
-    let same : r.serial ≡ q.serial = eqb-true r.serial q.serial e in
-    twice (q.serial == n) (kind q) (kind r) (found n rest) ∙ ap (λ k. cond (q.serial == n) (kind q) (cond (k == n) (kind r) (found n rest))) (sym same)
-found_cons r n q rest over false e ih =
-    ap (λ m. cond (r.serial == n) (kind r) m) ih ∙ swapped (r.serial == n) (q.serial == n) (kind q) (kind r) (found n rest) (apart_tests r.serial q.serial n e)
+-- a serial at the bound or above it isn't open
+pub found_past : (b n : ℕ) (rs : List Region) → Falls b (serials rs) → b ≤ n → found n rs ≡ Closed
+found_past b n [] falls le = refl
+found_past b n (r ∷ rs) falls le =
+    ap (λ t. cond t (kind r) (found n rs)) (ne_eqb r.serial n (λ e. omega (arith, falls.0)))
+    ∙ found_past r.serial n rs falls.1 (omega (arith, falls.0))
 
-pub found-opened : (n : ℕ) (q : Region) (rs : List Region) → found n (opened q rs) ≡ cond (q.serial == n) (kind q) (found n rs)
-found-opened n q [] = refl
-found-opened n q (r ∷ rs) = found_cons r n q rs (opened q rs) (r.serial == q.serial) refl (found-opened n q rs)
+-- What is put in the place of a serial's region: the serial then stands so.
+record Fits (n : ℕ) (new : Option Region) (k : Mark) : Type 0 where
+  stands : (m : ℕ) (xs : List Region) → Falls n (serials xs) → found m (behind_one new xs) ≡ cond (n == m) k (found m xs)
+  low : (b : ℕ) (xs : List Region) → n < b → Falls n (serials xs) → Falls b (serials (behind_one new xs))
 
--- the regions without those of a serial
-abbrev closed : ℕ → List Region → List Region
-closed s rs = filter (λ r. not (r.serial == s)) rs
+fits_one : (q : Region) → Fits q.serial (Some q) (kind q)
+fits_one q = record {
+  stands = λ m xs falls. refl;
+  low = λ b xs lt falls. (lt, falls);
+}
 
-found_less : (r : Region) (n s : ℕ) (rest left : List Region) (t : Bool) → (r.serial == s) ≡ t → found n left ≡ cond (s == n) Closed (found n rest)
-    → found n (cond (not t) (r ∷ left) left) ≡ cond (s == n) Closed (found n (r ∷ rest))
-found_less r n s rest left true e ih =
-    let same : r.serial ≡ s = eqb-true r.serial s e in
-    ih ∙ (twice (s == n) Closed (kind r) (found n rest) ∙ ap (λ k. cond (s == n) Closed (cond (k == n) (kind r) (found n rest))) (sym same))
-found_less r n s rest left false e ih =
-    ap (λ m. cond (r.serial == n) (kind r) m) ih ∙ swapped (r.serial == n) (s == n) Closed (kind r) (found n rest) (apart_tests r.serial s n e)
+fits_none : (n : ℕ) → Fits n None Closed
+fits_none n = record {
+  stands = λ m xs falls. closed_or (n == m) (found m xs) (λ e. let same : n ≡ m = eqb-true n m e in found_past n m xs falls (omega arith));
+  low = λ b xs lt falls. Falls-wider n b (serials xs) (omega arith) falls;
+}
 
-pub found-closed : (n s : ℕ) (rs : List Region) → found n (closed s rs) ≡ cond (s == n) Closed (found n rs)
-found-closed n s [] = closed_any (s == n)
-  where
-    closed_any : (t : Bool) → Closed ≡ cond t Closed Closed
-    closed_any true = refl
-    closed_any false = refl
-found-closed n s (r ∷ rs) = found_less r n s rs (closed s rs) (r.serial == s) refl (found-closed n s rs)
+module _ (n : ℕ) (new : Option Region) (k : Mark) (fits : Fits n new k) where
+  found_step : (m b : ℕ) (r : Region) (rs : List Region) (t s : Bool) → nat_lt n r.serial ≡ t → (r.serial == n) ≡ s → Falls b (serials (r ∷ rs))
+      → found m (replaced n new rs) ≡ cond (n == m) k (found m rs)
+      → found m (cond t (r ∷ replaced n new rs) (behind_one new (cond s rs (r ∷ rs)))) ≡ cond (n == m) k (found m (r ∷ rs))
+  found_step m b r rs true s greater same falls ih =
+      let above : n < r.serial = ltb-true n r.serial greater in
+      ap (λ rest. cond (r.serial == m) (kind r) rest) ih
+      ∙ swapped (r.serial == m) (n == m) k (kind r) (found m rs) (λ one two. omega (arith, eqb-true r.serial m one, eqb-true n m two))
+  found_step m b r rs false true greater same falls ih =
+      let here : r.serial ≡ n = eqb-true r.serial n same in
+      fits.stands m rs (subst (λ i. Falls i (serials rs)) here falls.1)
+      ∙ (same_twice (n == m) k (kind r) (found m rs) ∙ ap (λ i. cond (n == m) k (cond (i == m) (kind r) (found m rs))) (sym here))
+  found_step m b r rs false false greater same falls ih =
+      let other : r.serial ≡ n → ⊥ = eqb-false r.serial n same in
+      let le : r.serial ≤ n = ltb-false n r.serial greater in
+      fits.stands m (r ∷ rs) (omega arith, falls.1)
 
-once_cons : (r q : Region) (rest over : List Region) (t : Bool) → (r.serial == q.serial) ≡ t → found r.serial rest ≡ Closed → Once rest → Once over → found r.serial over ≡ cond (q.serial == r.serial) (kind q) (found r.serial rest)
-    → Once (cond t (q ∷ rest) (r ∷ over))
-once_cons r q rest over true e first once once2 is = (ap (λ k. found k rest) (sym (eqb-true r.serial q.serial e)) ∙ first, once)
-once_cons r q rest over false e first once once2 is =
-    (is ∙ (ap (λ t. cond t (kind q) (found r.serial rest)) (ne_eqb q.serial r.serial (λ same. eqb-false r.serial q.serial e (sym same))) ∙ first), once2)
+  found_replaced : (m b : ℕ) (rs : List Region) → Falls b (serials rs) → found m (replaced n new rs) ≡ cond (n == m) k (found m rs)
+  found_replaced m b [] falls = fits.stands m [] tt
+  found_replaced m b (r ∷ rs) falls =
+      found_step m b r rs (nat_lt n r.serial) (r.serial == n) refl refl falls (found_replaced m r.serial rs falls.1)
 
-pub once-opened : (q : Region) (rs : List Region) → Once rs → Once (opened q rs)
-once-opened q [] once = (refl, tt)
-once-opened q (r ∷ rs) once =
-    once_cons r q rs (opened q rs) (r.serial == q.serial) refl once.0 once.1 (once-opened q rs once.1) (found-opened r.serial q rs)
+  falls_step : (b : ℕ) (r : Region) (rs : List Region) (t s : Bool) → nat_lt n r.serial ≡ t → (r.serial == n) ≡ s → n < b → Falls b (serials (r ∷ rs))
+      → (n < r.serial → Falls r.serial (serials (replaced n new rs)))
+      → Falls b (serials (cond t (r ∷ replaced n new rs) (behind_one new (cond s rs (r ∷ rs)))))
+  falls_step b r rs true s greater same lt falls ih = (falls.0, ih (ltb-true n r.serial greater))
+  falls_step b r rs false true greater same lt falls ih =
+      fits.low b rs lt (subst (λ i. Falls i (serials rs)) (eqb-true r.serial n same) falls.1)
+  falls_step b r rs false false greater same lt falls ih =
+      let other : r.serial ≡ n → ⊥ = eqb-false r.serial n same in
+      let le : r.serial ≤ n = ltb-false n r.serial greater in
+      fits.low b (r ∷ rs) lt (omega arith, falls.1)
 
-closed_or : (t : Bool) (m : Mark) → m ≡ Closed → cond t Closed m ≡ Closed
-closed_or true m e = refl
-closed_or false m e = e
+  falls_replaced : (b : ℕ) (rs : List Region) → n < b → Falls b (serials rs) → Falls b (serials (replaced n new rs))
+  falls_replaced b [] lt falls = fits.low b [] lt tt
+  falls_replaced b (r ∷ rs) lt falls =
+      falls_step b r rs (nat_lt n r.serial) (r.serial == n) refl refl lt falls (λ above. falls_replaced r.serial rs above falls.1)
 
-once_less : (r : Region) (left : List Region) (t : Bool) → found r.serial left ≡ Closed → Once left → Once (cond (not t) (r ∷ left) left)
-once_less r left true first once = once
-once_less r left false first once = (first, once)
+  stands_replaced : (m : ℕ) (rs : List Region) → AreSorted rs → found m (replaced n new rs) ≡ cond (n == m) k (found m rs)
+  stands_replaced m rs sorted = let falls = sorted_falls rs sorted in found_replaced m falls.0 rs falls.1
 
-pub once-closed : (s : ℕ) (rs : List Region) → Once rs → Once (closed s rs)
-once-closed s [] once = tt
-once-closed s (r ∷ rs) once =
-    once_less r (closed s rs) (r.serial == s) (found-closed r.serial s rs ∙ closed_or (s == r.serial) (found r.serial rs) once.0) (once-closed s rs once.1)
+  sorted_replaced : (rs : List Region) → AreSorted rs → AreSorted (replaced n new rs)
+  sorted_replaced rs sorted =
+      let falls = sorted_falls rs sorted in
+      IsFalling-from_Falls (suc n + falls.0) (serials (replaced n new rs))
+      (falls_replaced (suc n + falls.0) rs (omega arith) (Falls-wider falls.0 (suc n + falls.0) (serials rs) (omega arith) falls.1))
 
-module _ (P : Region → Type 0) where
-  all_cons : (r q : Region) (rest over : List Region) (t : Bool) → P q → P r → AllByRecursion P rest → AllByRecursion P over → AllByRecursion P (cond t (q ∷ rest) (r ∷ over))
-  all_cons r q rest over true new old each each2 = (new, each)
-  all_cons r q rest over false new old each each2 = (old, each2)
+module _ (P : Region → Type 0) (n : ℕ) (new : Option Region) (fits : (xs : List Region) → AllByRecursion P xs → AllByRecursion P (behind_one new xs)) where
+  all_step : (r : Region) (rs : List Region) (t s : Bool) → P r → AllByRecursion P rs → AllByRecursion P (replaced n new rs)
+      → AllByRecursion P (cond t (r ∷ replaced n new rs) (behind_one new (cond s rs (r ∷ rs))))
+  all_step r rs true s here each ih = (here, ih)
+  all_step r rs false true here each ih = fits rs each
+  all_step r rs false false here each ih = fits (r ∷ rs) (here, each)
 
-  pub All-opened : (q : Region) (rs : List Region) → P q → AllByRecursion P rs → AllByRecursion P (opened q rs)
-  All-opened q [] new each = (new, tt)
-  All-opened q (r ∷ rs) new each = all_cons r q rs (opened q rs) (r.serial == q.serial) new each.0 each.1 (All-opened q rs new each.1)
+  all_replaced : (rs : List Region) → AllByRecursion P rs → AllByRecursion P (replaced n new rs)
+  all_replaced [] each = fits [] tt
+  all_replaced (r ∷ rs) each = all_step r rs (nat_lt n r.serial) (r.serial == n) each.0 each.1 (all_replaced rs each.1)
 
-  all_less : (r : Region) (left : List Region) (t : Bool) → P r → AllByRecursion P left → AllByRecursion P (cond (not t) (r ∷ left) left)
-  all_less r left true old each = each
-  all_less r left false old each = (old, each)
+module _ (set : List ℕ) where
+  -- the region that an item opens
+  abbrev region : ℕ → Bool → Region
+  region n inserts = record { serial = n; inserts = inserts; applied = has set n }
 
-  pub All-closed : (s : ℕ) (rs : List Region) → AllByRecursion P rs → AllByRecursion P (closed s rs)
-  All-closed s [] each = tt
-  All-closed s (r ∷ rs) each = all_less r (closed s rs) (r.serial == s) each.0 (All-closed s rs each.1)
+  pub sorted-behind : (item : Item) (rs : List Region) → AreSorted rs → AreSorted (behind set item rs)
+  sorted-behind (Text text) rs sorted = sorted
+  sorted-behind (Insert n) rs sorted = sorted_replaced n (Some (region n true)) ByInsert (fits_one (region n true)) rs sorted
+  sorted-behind (Delete n) rs sorted = sorted_replaced n (Some (region n false)) ByDelete (fits_one (region n false)) rs sorted
+  sorted-behind (End n) rs sorted = sorted_replaced n None Closed (fits_none n) rs sorted
 
-pub once-behind : (set : List ℕ) (item : Item) (rs : List Region) → Once rs → Once (behind set item rs)
-once-behind set (Text text) rs once = once
-once-behind set (Insert n) rs once = once-opened (record { serial = n; inserts = true; applied = has set n }) rs once
-once-behind set (Delete n) rs once = once-opened (record { serial = n; inserts = false; applied = has set n }) rs once
-once-behind set (End n) rs once = once-closed n rs once
+  pub opens-behind : (item : Item) (before : List Item) (rs : List Region) → AreSorted rs → Opens before rs → Opens (item ∷ before) (behind set item rs)
+  opens-behind (Text text) before rs sorted opens = opens
+  opens-behind (Insert m) before rs sorted opens = λ n.
+      stands_replaced m (Some (region m true)) ByInsert (fits_one (region m true)) n rs sorted ∙ ap (λ k. cond (m == n) ByInsert k) (opens n)
+  opens-behind (Delete m) before rs sorted opens = λ n.
+      stands_replaced m (Some (region m false)) ByDelete (fits_one (region m false)) n rs sorted ∙ ap (λ k. cond (m == n) ByDelete k) (opens n)
+  opens-behind (End m) before rs sorted opens = λ n.
+      stands_replaced m None Closed (fits_none m) n rs sorted ∙ ap (λ k. cond (m == n) Closed k) (opens n)
 
-pub opens-behind : (set : List ℕ) (item : Item) (before : List Item) (rs : List Region) → Opens before rs → Opens (item ∷ before) (behind set item rs)
-opens-behind set (Text text) before rs opens = opens
-opens-behind set (Insert m) before rs opens = λ n.
-    found-opened n (record { serial = m; inserts = true; applied = has set m }) rs ∙ ap (λ k. cond (m == n) ByInsert k) (opens n)
-opens-behind set (Delete m) before rs opens = λ n.
-    found-opened n (record { serial = m; inserts = false; applied = has set m }) rs ∙ ap (λ k. cond (m == n) ByDelete k) (opens n)
-opens-behind set (End m) before rs opens = λ n. found-closed n m rs ∙ ap (λ k. cond (m == n) Closed k) (opens n)
+  -- each region tells whether its serial is in the set
+  abbrev Tell : List Region → Type 0
+  Tell rs = AllByRecursion (λ r. r.applied ≡ has set r.serial) rs
 
-applied-behind : (set : List ℕ) (item : Item) (rs : List Region) → AllByRecursion (λ r. r.applied ≡ has set r.serial) rs → AllByRecursion (λ r. r.applied ≡ has set r.serial) (behind set item rs)
-applied-behind set (Text text) rs each = each
-applied-behind set (Insert n) rs each =
-    All-opened (λ r. r.applied ≡ has set r.serial) (record { serial = n; inserts = true; applied = has set n }) rs refl each
-applied-behind set (Delete n) rs each =
-    All-opened (λ r. r.applied ≡ has set r.serial) (record { serial = n; inserts = false; applied = has set n }) rs refl each
-applied-behind set (End n) rs each = All-closed (λ r. r.applied ≡ has set r.serial) n rs each
+  tell-behind : (item : Item) (rs : List Region) → Tell rs → Tell (behind set item rs)
+  tell-behind (Text text) rs each = each
+  tell-behind (Insert n) rs each =
+      all_replaced (λ r. r.applied ≡ has set r.serial) n (Some (region n true)) (λ xs all. (refl, all)) rs each
+  tell-behind (Delete n) rs each =
+      all_replaced (λ r. r.applied ≡ has set r.serial) n (Some (region n false)) (λ xs all. (refl, all)) rs each
+  tell-behind (End n) rs each = all_replaced (λ r. r.applied ≡ has set r.serial) n None (λ xs all. all) rs each
 
-pub holds-behind : (set : List ℕ) (item : Item) (before : List Item) (rs : List Region) → Holds set before rs → Holds set (item ∷ before) (behind set item rs)
-holds-behind set item before rs holds =
-    record {
-      opens = opens-behind set item before rs holds.opens;
-      applied = applied-behind set item rs holds.applied;
-      no_zero = holds.no_zero;
-    }
-
-opened-set : (q : Region) (rs : List Region) (i : ℕ) → i < length rs → ((get_or rs i q).serial == q.serial) ≡ true → ((k : ℕ) → k < i → ((get_or rs k q).serial == q.serial) ≡ false) → opened q rs ≡ set rs i q
-opened-set q [] i low here none = absurd (omega arith)
-opened-set q (r ∷ rs) zero low here none = ap (λ t. cond t (q ∷ rs) (r ∷ opened q rs)) here
-opened-set q (r ∷ rs) (suc i) low here none =
-    ap (λ t. cond t (q ∷ rs) (r ∷ opened q rs)) (none 0 (omega arith)) ∙ ap (λ l. r ∷ l) (opened-set q rs i (omega arith) here (λ k lt. none (suc k) (omega arith)))
-
--- a region of the serial is replaced
-pub opened_at : (q : Region) (rs : List Region) (i : ℕ) → position (λ r. r.serial == q.serial) rs ≡ Some i → opened q rs ≡ set rs i q
-opened_at q rs i at =
-    let there = position-Some (λ r. r.serial == q.serial) rs i q at in opened-set q rs i there.0 there.1 there.2
-
-none_passes : (t : Bool) (n : ℕ) → cond t (Some n) None ≡ None → t ≡ false
-none_passes true n e = cc
-none_passes false n e = refl
-
-pushed_cons : (r q : Region) (rs over : List Region) (t : Bool) (n : ℕ) → suc (length rs) ≤ cond (not t) (1 + n) 0 → (length rs ≤ n → over ≡ rs ++ q ∷ []) → cond t (q ∷ rs) (r ∷ over) ≡ (r ∷ rs) ++ q ∷ []
-pushed_cons r q rs over true n past rest = absurd (omega arith)
-pushed_cons r q rs over false n past rest = ap (λ l. r ∷ l) (rest (omega arith))
-
-opened-push : (q : Region) (rs : List Region) → length rs ≤ position_or_len (λ r. r.serial == q.serial) rs → opened q rs ≡ rs ++ q ∷ []
-opened-push q [] past = refl
-opened-push q (r ∷ rs) past =
-    pushed_cons r q rs (opened q rs) (r.serial == q.serial) (position_or_len (λ x. x.serial == q.serial) rs) past (opened-push q rs)
-
--- a region of a new serial is put at the end
-pub opened_end : (q : Region) (rs : List Region) → position (λ r. r.serial == q.serial) rs ≡ None → opened q rs ≡ rs ++ q ∷ []
-opened_end q rs none =
-    opened-push q rs (ltb-false (position_or_len (λ r. r.serial == q.serial) rs) (length rs) (none_passes (nat_lt (position_or_len (λ r. r.serial == q.serial) rs) (length rs)) (position_or_len (λ r. r.serial == q.serial) rs) none))
+  pub holds-behind : (item : Item) (before : List Item) (rs : List Region) → AreSorted rs → Holds set before rs → Holds set (item ∷ before) (behind set item rs)
+  holds-behind item before rs sorted holds =
+      record {
+        opens = opens-behind item before rs sorted holds.opens;
+        applied = tell-behind item rs holds.applied;
+        no_zero = holds.no_zero;
+      }

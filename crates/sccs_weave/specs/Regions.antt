@@ -1,11 +1,19 @@
--- The regions that are open at a place of a body.
-use Rattle.std.specs.Prelude.{◌≡◌, ℕ, max, nat_lt, ◌==◌, Bool, true, false, not, ◌&&◌, List, [], ◌∷◌, filter, map, unwrap_or, if◌then◌else◌}
-use Rattle.std.specs.List.{AllByRecursion, list_any, reduce}
-use Rattle.sccs_history.specs.Numbers.{has}
+-- The regions that are open at a place of a body, the greatest serial first.
+use Rattle.std.specs.Prelude.{◌≡◌, ℕ, suc, nat_lt, ◌==◌, Bool, true, false, not, ◌&&◌, List, [], ◌∷◌, map, Option, None, Some, Result, Ok, Err, if◌then◌else◌}
+use Rattle.std.specs.List.{AllByRecursion}
+use Rattle.sccs_history.specs.Numbers.{has, IsFalling}
 use Rattle.sccs_history.specs.Body.{Mark, Closed, ByInsert, ByDelete, mark}
 use Rattle.sccs_history.specs.declared.headers.Item.{Item}
 use Rattle.sccs_history.specs.declared.headers.Item.TheVariants.{Text, Insert, Delete, End}
 use Rattle.sccs_weave.specs.declared.regions.Region.{Region}
+
+-- their serials
+abbrev pub serials : List Region → List ℕ
+serials regions = map (λ r. r.serial) regions
+
+-- each serial stands at most once, the greatest first
+abbrev pub AreSorted : List Region → Type 0
+AreSorted regions = IsFalling (serials regions)
 
 -- how a region was opened
 abbrev pub kind : Region → Mark
@@ -16,22 +24,40 @@ abbrev pub found : ℕ → List Region → Mark
 found n [] = Closed
 found n (r ∷ rs) = if r.serial == n then kind r else found n rs
 
--- each serial stands at most once
-abbrev pub Once : List Region → Type 0
-Once [] = Unit {0}
-Once (r ∷ rs) = (found r.serial rs ≡ Closed) × Once rs
+-- a place one further on
+abbrev pub further : Result ℕ ℕ → Result ℕ ℕ
+further (Ok i) = Ok (suc i)
+further (Err i) = Err (suc i)
+
+-- the place of a serial's region, or the one where it would stand
+abbrev pub place : ℕ → List Region → Result ℕ ℕ
+place n [] = Err 0
+place n (r ∷ rs) = if nat_lt n r.serial then further (place n rs) else (if r.serial == n then Ok 0 else Err 0)
+
+-- regions behind another one, where there is one
+abbrev pub behind_one : Option Region → List Region → List Region
+behind_one None regions = regions
+behind_one (Some q) regions = q ∷ regions
+
+-- the regions with another one, or none, in the place of that of a serial
+abbrev pub replaced : ℕ → Option Region → List Region → List Region
+replaced n new [] = behind_one new []
+replaced n new (r ∷ rs) = if nat_lt n r.serial then r ∷ replaced n new rs else behind_one new (if r.serial == n then rs else r ∷ rs)
 
 -- the regions with one more, in the place of an open one of its serial
 abbrev pub opened : Region → List Region → List Region
-opened q [] = q ∷ []
-opened q (r ∷ rs) = if r.serial == q.serial then q ∷ rs else r ∷ opened q rs
+opened q regions = replaced q.serial (Some q) regions
+
+-- the regions without that of a serial
+abbrev pub closed : ℕ → List Region → List Region
+closed n regions = replaced n None regions
 
 -- the regions behind one more item, for a set
 abbrev pub behind : List ℕ → Item → List Region → List Region
 behind set (Text text) regions = regions
 behind set (Insert n) regions = opened (record { serial = n; inserts = true; applied = has set n }) regions
 behind set (Delete n) regions = opened (record { serial = n; inserts = false; applied = has set n }) regions
-behind set (End n) regions = filter (λ r. not (r.serial == n)) regions
+behind set (End n) regions = closed n regions
 
 -- The regions are those that are open behind these items.
 abbrev pub Opens : List Item → List Region → Type 0
@@ -43,18 +69,17 @@ pub record Holds (set : List ℕ) (before : List Item) (regions : List Region) :
   pub applied : AllByRecursion (λ r. r.applied ≡ has set r.serial) regions
   pub no_zero : has set 0 ≡ false
 
--- the greatest serial that is open by Insert, 0 where there is none
-abbrev pub greatest_insert : List Region → ℕ
-greatest_insert regions = unwrap_or (reduce max (map (λ r. r.serial) (filter (λ r. r.inserts) regions))) 0
+-- the serial of the first region by Insert, 0 where there is none
+abbrev pub first_insert : List Region → ℕ
+first_insert [] = 0
+first_insert (r ∷ rs) = if r.inserts then r.serial else first_insert rs
 
--- it was opened by Insert, is applied and has the serial
-abbrev pub inserts_it : ℕ → Region → Bool
-inserts_it n r = r.inserts && (r.applied && r.serial == n)
-
--- it was opened by Delete, is applied and has a greater serial
-abbrev pub deletes_it : ℕ → Region → Bool
-deletes_it n r = not r.inserts && (r.applied && nat_lt n r.serial)
-
--- the region of the inserter is applied, and no region of a greater serial by Delete is
+-- the first region by Insert is applied, and none of those by Delete before it is
 abbrev pub keeps : List Region → Bool
-keeps regions = list_any (inserts_it (greatest_insert regions)) regions && not (list_any (deletes_it (greatest_insert regions)) regions)
+keeps [] = false
+keeps (r ∷ rs) = if r.inserts then r.applied else (not r.applied && keeps rs)
+
+-- The regions are in order, and this is the answer for a line there.
+pub record IsAnswered (regions : List Region) (keep : Bool) : Type 0 where
+  pub sorted : AreSorted regions
+  pub answer : keep ≡ keeps regions

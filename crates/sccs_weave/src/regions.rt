@@ -1,6 +1,8 @@
-ghost use Rattle.std.specs.Prelude.{◌≡◌, ◌==◌, not, max, map, filter, position, OnOk, OnErr};
-ghost use Rattle.std.specs.List.{list_any, reduce};
-ghost use Rattle.sccs_weave.specs.Regions.{behind, deletes_it, greatest_insert, inserts_it, keeps, opened};
+ghost use Rattle.std.specs.Prelude.{◌≡◌, ◌||◌, length, IfOk, OnOk, OnErr};
+ghost use Rattle.std.specs.List.{find};
+ghost use Rattle.std.specs.List.Sorted.{IsSearchInRange};
+ghost use Rattle.std.specs.Option.{option_copied};
+ghost use Rattle.sccs_weave.specs.Regions.{AreSorted, behind, closed, first_insert, IsAnswered, keeps, opened, place};
 
 use sccs_history::Item;
 use sccs_sets::Applied;
@@ -14,25 +16,28 @@ pub struct Region {
     pub applied: bool,
 }
 
-// the place of a serial's region
-fn place_of(regions: &[Region], serial: u16) -> Option<usize>
-    ensures { result ≡ position (λ r. r.serial == serial) regions.now }
+// the place of a serial's region, or the one where it would stand
+fn place_of(regions: &[Region], serial: u16) -> Result<usize, usize>
+    requires { AreSorted regions.now }
+    ensures bound { IsSearchInRange result (length regions.now) }
+    ensures place { result ≡ place serial regions.now }
 {
-    regions.iter().position(|r| r.serial == serial)
+    regions.binary_search_by(|r| serial.cmp(&r.serial))
 }
 
 // opens a region, in the place of an open one of its serial
 fn open(regions: &mut Vec<Region>, region: Region) -> Result<(), AllocError>
+    requires { AreSorted regions.old.items }
     ensures ok { OnOk result (regions.new.items ≡ opened region regions.old.items) }
     ensures err { OnErr result (regions.new.items ≡ regions.old.items) }
 {
     match place_of(regions, region.serial) {
-        Some(at) => {
+        Ok(at) => {
             regions[at] = region;
             Ok(())
         }
-        None => {
-            regions.push(region)?;
+        Err(at) => {
+            regions.insert(at, region)?;
             Ok(())
         }
     }
@@ -40,13 +45,17 @@ fn open(regions: &mut Vec<Region>, region: Region) -> Result<(), AllocError>
 
 // closes the region of a serial
 fn close(regions: &mut Vec<Region>, serial: u16)
-    ensures { regions.new.items ≡ filter (λ r. not (r.serial == serial)) regions.old.items }
+    requires { AreSorted regions.old.items }
+    ensures { regions.new.items ≡ closed serial regions.old.items }
 {
-    regions.retain(|r| r.serial != serial);
+    if let Ok(at) = place_of(regions, serial) {
+        regions.remove(at);
+    }
 }
 
-/// Opens or closes the region of an item's serial. At want of memory nothing changes.
-pub fn take(regions: &mut Vec<Region>, item: &Item, applied: &Applied) -> Result<(), AllocError>
+// opens or closes the region of an item's serial
+fn take(regions: &mut Vec<Region>, item: &Item, applied: &Applied) -> Result<(), AllocError>
+    requires { AreSorted regions.old.items }
     ensures ok { OnOk result (regions.new.items ≡ behind applied.now item.now regions.old.items) }
     ensures err { OnErr result (regions.new.items ≡ regions.old.items) }
 {
@@ -75,42 +84,56 @@ pub fn take(regions: &mut Vec<Region>, item: &Item, applied: &Applied) -> Result
     }
 }
 
-// the greatest serial that is open by Insert
-fn greatest_insert(regions: &[Region]) -> Option<u16>
-    ensures { result ≡ reduce max (map (λ r. r.serial) (filter (λ r. r.inserts) regions.now)) }
+// the first region by Insert
+fn first_by_insert(regions: &[Region]) -> Option<&Region>
+    ensures { option_copied result ≡ find (λ r. r.inserts) regions.now }
 {
-    regions.iter().filter(|r| r.inserts).map(|r| r.serial).max()
+    regions.iter().find(|r| r.inserts)
 }
 
 /// The greatest serial that is open by Insert, 0 where there is none.
 pub fn inserter(regions: &[Region]) -> u16
-    ensures { result ≡ greatest_insert regions.now }
+    ensures { result ≡ first_insert regions.now }
 {
-    greatest_insert(regions).unwrap_or(0)
+    match first_by_insert(regions) {
+        Some(region) => region.serial,
+        None => 0,
+    }
 }
 
-// whether a serial is open by Insert and applied
-fn is_inserted(regions: &[Region], serial: u16) -> bool
-    ensures { result ≡ list_any (inserts_it serial) regions.now }
+// the first region that is applied or by Insert
+fn first_that_decides(regions: &[Region]) -> Option<&Region>
+    ensures { option_copied result ≡ find (λ r. r.inserts || r.applied) regions.now }
 {
-    regions
-        .iter()
-        .any(|r| r.inserts && (r.applied && r.serial == serial))
-}
-
-// whether some greater serial is open by Delete and applied
-fn is_deleted(regions: &[Region], serial: u16) -> bool
-    ensures { result ≡ list_any (deletes_it serial) regions.now }
-{
-    regions
-        .iter()
-        .any(|r| !r.inserts && (r.applied && serial < r.serial))
+    regions.iter().find(|r| r.inserts || r.applied)
 }
 
 /// Whether the inserter is applied, and no greater serial that is open by Delete.
 pub fn keeps(regions: &[Region]) -> bool
     ensures { result ≡ keeps regions.now }
 {
-    let serial = inserter(regions);
-    is_inserted(regions, serial) & !is_deleted(regions, serial)
+    match first_that_decides(regions) {
+        Some(region) => region.inserts & region.applied,
+        None => false,
+    }
+}
+
+/// Opens or closes the region of an item's serial, and answers what `keeps` then says; before, it
+/// said `keep`. At want of memory nothing changes.
+pub fn take_item(
+    regions: &mut Vec<Region>,
+    keep: bool,
+    item: &Item,
+    applied: &Applied,
+) -> Result<bool, AllocError>
+    requires { IsAnswered regions.old.items keep }
+    ensures ok { OnOk result (regions.new.items ≡ behind applied.now item.now regions.old.items) }
+    ensures keep { IfOk result (λ k. k ≡ keeps regions.new.items) }
+    ensures err { OnErr result (regions.new.items ≡ regions.old.items) }
+{
+    if let Item::Text(_) = item {
+        return Ok(keep);
+    }
+    take(regions, item, applied)?;
+    Ok(keeps(regions))
 }

@@ -2,9 +2,9 @@ ghost use Rattle.std.specs.Prelude.{◌≡◌, ℕ, false, List, [], ◌∷◌, 
 ghost use Rattle.sccs_history.specs.Body.{inserter, line_at};
 ghost use Rattle.sccs_history.specs.Numbers.{has};
 ghost use Rattle.sccs_history.specs.Select.{shows};
-ghost use Rattle.sccs_weave.specs.Regions.{Holds, Once, Opens};
+ghost use Rattle.sccs_weave.specs.Regions.{AreSorted, Holds, Opens};
 
-use crate::regions::{Region, inserter, keeps, take};
+use crate::regions::{Region, inserter, take_item};
 use sccs_base::Memory;
 use sccs_history::Item;
 use sccs_sets::Applied;
@@ -12,22 +12,24 @@ use std::alloc::Global;
 use std::marker::Model;
 
 /// Tells of each line of a body whether a set shows it. Contracts see the list of the regions that
-/// are open, in which each serial stands at most once.
+/// are open, in which each serial stands at most once, the greatest first.
 #[derive(Drop)]
 pub struct Weaver {
     regions: Vec<Region>,
+    // what `keep` answers
+    keep: bool,
 }
 
 impl Model for Weaver {
     ghost use Rattle.std.specs.Prelude.{List};
     ghost use Rattle.sccs_weave.specs.declared.regions.Region.{Region};
-    ghost use Rattle.sccs_weave.specs.Regions.{Once};
+    ghost use Rattle.sccs_weave.specs.Regions.{IsAnswered};
 
     ghost Value = { List Region };
 
     ghost view = { λ w. w.regions.items };
 
-    ghost invariant = { λ w. Once w.regions.items };
+    ghost invariant = { λ w. IsAnswered w.regions.items w.keep };
 }
 
 impl Weaver {
@@ -38,6 +40,7 @@ impl Weaver {
     {
         Weaver {
             regions: Vec::new(alloc),
+            keep: false,
         }
     }
 
@@ -49,9 +52,9 @@ impl Weaver {
         ensures opens { OnOk result ((before : List Item) → Opens before self.old
             → Opens (item.now ∷ before) self.new) }
         ensures err { OnErr result (self.new ≡ self.old) }
-        ensures once { Once self.new }
+        ensures sorted { AreSorted self.new }
     {
-        take(&mut self.regions, item, applied)?;
+        self.keep = take_item(&mut self.regions, self.keep, item, applied)?;
         Ok(())
     }
 
@@ -60,7 +63,7 @@ impl Weaver {
         ensures { (set : List ℕ) (before : List Item) (text : List ℕ) → Holds set before self.now
             → result ≡ shows set (line_at before text) }
     {
-        keeps(&self.regions)
+        self.keep
     }
 
     /// The serial that inserted a line here, 0 where none is open by Insert.

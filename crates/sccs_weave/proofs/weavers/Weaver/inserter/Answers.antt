@@ -1,9 +1,9 @@
 use Rattle.std.proofs.Common.{sym, ap, subst, ◌∙◌}
-use Rattle.sccs_weave.specs.Regions.{Opens, greatest_insert}
-use Rattle.sccs_weave.proofs.Keeps.{inserter-regions}
+use Rattle.sccs_weave.specs.Regions.{Opens, first_insert}
+use Rattle.sccs_weave.proofs.Keeps.{inserter_regions}
 use Rattle.sccs_weave.proofs.weavers.Weaver.inserter.Goals as goal
 
 pub returns : goal.returns
 returns c = λ before opens.
     c.inserter.ensures
-    ∙ (ap greatest_insert c.deref.ensures.value ∙ inserter-regions before c.self.inside.regions.items c.self.invariant (subst (Opens before) (sym c.self.view_is) opens))
+    ∙ (ap first_insert c.deref.ensures.value ∙ inserter_regions before c.self.inside.regions.items c.self.invariant.sorted (subst (Opens before) (sym c.self.view_is) opens))

@@ -1,0 +1,4 @@
+pub mod Places
+pub mod Plans
+pub mod Scripts
+pub mod Weave

@@ -1,0 +1,54 @@
+ghost use Rattle.std.specs.Prelude.{◌≡◌, ◌<◌, ◌≤◌, ◌-◌, ℕ, false, List, [], ◌∷◌, ◌++◌, length, take, drop};
+ghost use Rattle.sccs_history.specs.Body.{HistoryLine, above, lines_of};
+ghost use Rattle.sccs_history.specs.Numbers.{has};
+ghost use Rattle.sccs_history.specs.Removal.{dropped};
+ghost use Rattle.sccs_history.specs.Select.{select, shows};
+ghost use Rattle.sccs_history.specs.declared.headers.Item.{Item};
+ghost use Rattle.sccs_edits.specs.Places.{places};
+ghost use Rattle.sccs_edits.specs.Plans.{plan, planted};
+ghost use Rattle.sccs_edits.specs.Scripts.{apply};
+ghost use Rattle.sccs_edits.specs.Weave.{AreBelow, weave};
+ghost use Rattle.sccs_edits.specs.declared.scripts.Order.{Order};
+ghost use Rattle.sccs_edits.specs.declared.scripts.OrderKind.TheVariants.{Append, Change, Delete};
+
+/// A new delta's set shows of the woven lines what the script makes of the base, and every set
+/// without the delta shows what it showed.
+pub fn woven_versions()
+    ensures own { (set : List ℕ) (n : ℕ) (orders : List Order) (lines : List HistoryLine) → AreBelow n lines
+        → select (n ∷ set) (weave set n orders lines) ≡ apply orders (select set lines) }
+    ensures others { (other set : List ℕ) (n : ℕ) (orders : List Order) (lines : List HistoryLine) → has other n ≡ false
+        → select other (weave set n orders lines) ≡ select other lines }
+{}
+
+/// The woven lines are the old ones with those of the script's plan for as many lines as the set
+/// shows, whatever the order of the commands.
+pub fn woven_by_plan()
+    ensures { (set : List ℕ) (n : ℕ) (orders : List Order) (lines : List HistoryLine) → AreBelow n lines
+        → weave set n orders lines ≡ planted (shows set) (plan orders (length (select set lines))) n lines }
+{}
+
+/// The items of a new delta: their lines are the woven ones, its set shows what the script makes of
+/// the base, every set without the delta shows what it showed, and taking the delta's items out
+/// gives the old ones.
+pub fn placed_items()
+    ensures lines { (items : List Item) (set : List ℕ) (orders : List Order) (n : ℕ) → 0 < n → above items ≤ n
+        → lines_of (places items set orders n) ≡ weave set n orders (lines_of items) }
+    ensures own { (items : List Item) (set : List ℕ) (orders : List Order) (n : ℕ) → 0 < n → above items ≤ n
+        → select (n ∷ set) (lines_of (places items set orders n)) ≡ apply orders (select set (lines_of items)) }
+    ensures others { (items : List Item) (other set : List ℕ) (orders : List Order) (n : ℕ) → 0 < n → above items ≤ n
+        → has other n ≡ false → select other (lines_of (places items set orders n)) ≡ select other (lines_of items) }
+    ensures undone { (items : List Item) (set : List ℕ) (orders : List Order) (n : ℕ) → 0 < n → above items ≤ n
+        → dropped n (places items set orders n) ≡ items }
+{}
+
+/// What one order makes of a text that has the lines it names; and orders are made in turn.
+pub fn orders_on_texts()
+    ensures appends { (order : Order) (text : List (List ℕ)) → order.kind ≡ Append → order.first ≤ length text
+        → apply (order ∷ []) text ≡ take order.first text ++ (order.lines ++ drop order.first text) }
+    ensures deletes { (order : Order) (text : List (List ℕ)) → order.kind ≡ Delete → 0 < order.first → order.first ≤ order.last
+        → apply (order ∷ []) text ≡ take (order.first - 1) text ++ drop order.last text }
+    ensures changes { (order : Order) (text : List (List ℕ)) → order.kind ≡ Change → 0 < order.first → order.first ≤ order.last
+        → order.last ≤ length text
+        → apply (order ∷ []) text ≡ take (order.first - 1) text ++ (order.lines ++ drop order.last text) }
+    ensures turns { (orders more : List Order) (text : List (List ℕ)) → apply (orders ++ more) text ≡ apply more (apply orders text) }
+{}
