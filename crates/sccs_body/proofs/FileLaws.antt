@@ -15,7 +15,7 @@ use Rattle.sccs_grammar.specs.File.{Parsed, as_format, answer, within_limit, che
 use Rattle.sccs_grammar.specs.declared.faults.FileFault.{FileFault}
 use Rattle.sccs_grammar.specs.declared.faults.FileFault.TheVariants.{Missing, TooLong, NotSccs, BadSum, BadFormat, Encoded, Failed, Memory}
 use Rattle.sccs_table.specs.declared.fronts.Front.{Front}
-use Rattle.sccs_table.specs.Standing.{bytes_in, file_in}
+use Rattle.sccs_table.specs.ReaderState.{bytes_in, file_in}
 use Rattle.sccs_table.specs.FrontFile.{Refuses, IsFrontOf, AnswersFront}
 use Rattle.sccs_body.proofs.ReadBodies.{body_read}
 use Rattle.sccs_body.specs.BodyFile.{items_of, ChecksFile, ChecksItems, AnswersFile}

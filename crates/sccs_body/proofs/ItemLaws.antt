@@ -11,7 +11,7 @@ use Rattle.sccs_history.specs.Body.{may_stand, is_over}
 use Rattle.sccs_grammar.specs.Items.{IsWrittenItem, item_standing, item_read, item_at, items_from}
 use Rattle.sccs_grammar.specs.declared.faults.FileFault.{FileFault}
 use Rattle.sccs_grammar.specs.declared.faults.FileFault.TheVariants.{BadFormat}
-use Rattle.sccs_table.specs.Standing.{Standing, TakesLine, bytes_in, left}
+use Rattle.sccs_table.specs.ReaderState.{ReaderState, TakesLine, bytes_in, left}
 use Rattle.sccs_body.specs.Reader.{ItemPlace}
 use Rattle.sccs_body.specs.ItemsRead.{end_answer, Gives, GivesItem, IsBehind, TakesItem}
 use Rattle.sccs_history.specs.declared.headers.Item.{Item}
@@ -74,10 +74,10 @@ fault_gives (Some file) live before line old new takes none = λ stands.
 -- ---- a line that is held whole, as it is written
 
 -- such lines are taken from what is held
-abbrev pub TakesHeld : Standing → Standing → ℕ → Type 0
+abbrev pub TakesHeld : ReaderState → ReaderState → ℕ → Type 0
 TakesHeld old new count = (o : Option (List ℕ)) (line : List ℕ) → HasNoLf line → length line ≡ count → take (count + 1) old.held ≡ line ++ 10 ∷ [] → TakesLine o old new line true
 
-held_taken : (o : Option (List ℕ)) (old new : Standing) (item : Item) (count : ℕ) → IsWrittenItem old.held item count → TakesHeld old new count → TakesLine o old new (take count old.held) true
+held_taken : (o : Option (List ℕ)) (old new : ReaderState) (item : Item) (count : ℕ) → IsWrittenItem old.held item count → TakesHeld old new count → TakesLine o old new (take count old.held) true
 held_taken o old new item count is takes = takes o (take count old.held) is.line (length-take-le count old.held (omega (arith, is.short))) is.ended
 
 pub held_gives : (o : Option (List ℕ)) (live : List ℕ) (before : List Item) (here now new : ItemPlace) (item : Item) (count : ℕ) → here ≡ now → IsWrittenItem now.lines.held item count → TakesHeld here.lines new.lines count
@@ -86,9 +86,9 @@ held_gives o live before here now new item count same is takes may number =
     let written = subst (λ (p : ItemPlace). IsWrittenItem p.lines.held item count) (sym same) is in
     let line = take count here.lines.held in
     subst (λ p. Gives o live before p new (Ok (Some item))) same
-    (item_gives o live before line here new item (held_taken o here.lines new.lines item count written takes) (line_item live before line item true written.said may) number)
+    (item_gives o live before line here new item (held_taken o here.lines new.lines item count written takes) (line_item live before line item true written.token may) number)
 
-pub held_counted : (old new : Standing) (item : Item) (count : ℕ) → IsWrittenItem old.held item count → ((line : List ℕ) → HasNoLf line → take (count + 1) old.held ≡ line ++ 10 ∷ [] → new.lines ≡ old.lines + 1) → new.lines ≡ old.lines + 1
+pub held_counted : (old new : ReaderState) (item : Item) (count : ℕ) → IsWrittenItem old.held item count → ((line : List ℕ) → HasNoLf line → take (count + 1) old.held ≡ line ++ 10 ∷ [] → new.lines ≡ old.lines + 1) → new.lines ≡ old.lines + 1
 held_counted old new item count is counted = counted (take count old.held) is.line is.ended
 
 -- a fault says nothing of where the reader stands then
@@ -102,7 +102,7 @@ held_fault o live before here now new other item count same is takes may =
     let written = subst (λ (p : ItemPlace). IsWrittenItem p.lines.held item count) (sym same) is in
     let line = take count here.lines.held in
     subst (λ p. Gives o live before p other (Err (BadFormat here.number))) same
-    (fault_anywhere o live before here new other here.number (fault_gives o live before line here new (held_taken o here.lines new.lines item count written takes) (line_item live before line item false written.said may)))
+    (fault_anywhere o live before here new other here.number (fault_gives o live before line here new (held_taken o here.lines new.lines item count written takes) (line_item live before line item false written.token may)))
 
 -- ---- the number of a line
 
@@ -122,7 +122,7 @@ seen_gives view live before here old new result is gives = subst (λ o. Gives (b
 pub seen_behind : (live : List ℕ) (before : List Item) (here old : ItemPlace) → here ≡ old → IsBehind live before old → Knows live before here.state
 seen_behind live before here old is behind = subst (λ o. IsBehind live before o) (sym is) behind
 
-pub takes_line_at : (o : Option (List ℕ)) (old new : Standing) (line : List ℕ) (a b : Bool) → a ≡ b → TakesLine o old new line a → TakesLine o old new line b
+pub takes_line_at : (o : Option (List ℕ)) (old new : ReaderState) (line : List ℕ) (a b : Bool) → a ≡ b → TakesLine o old new line a → TakesLine o old new line b
 takes_line_at o old new line a b is takes = subst (λ e. TakesLine o old new line e) is takes
 
 pub over_from : (over empty : Bool) → (over && empty) ≡ true → over ≡ true

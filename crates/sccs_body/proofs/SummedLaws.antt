@@ -5,7 +5,7 @@ use Rattle.std.proofs.lemmas.List.{take-append-drop, take_all, drop-take, drop-d
 use Rattle.std.proofs.Math.Seq.{take-add, take-append_seam}
 use Rattle.sccs_disk.specs.Files.{Content, View}
 use Rattle.sccs_disk.specs.Reads.{Reads, ReadsFile}
-use Rattle.sccs_table.specs.Standing.{Standing, StandsIn, bytes_in}
+use Rattle.sccs_table.specs.ReaderState.{ReaderState, StandsIn, bytes_in}
 use Rattle.sccs_table.specs.SumOf.{IsPlainSumOf, IsSumOf}
 use Rattle.sccs_body.specs.SumTo.{SumTo}
 use Rattle.sccs_table.proofs.ReaderLaws.{holding}
@@ -75,12 +75,12 @@ summed_on (Some file) from next at end old new bytes read end_is low high adds s
 -- ---- the sum of all
 
 -- what was left was read
-pub summed_rest : (o : Option (List ℕ)) (name : List ℕ) (from next size : ℕ) (old : Standing) (sum all : ℕ) (rest : ℕ × ℕ) → old ≡ holding name [] next size 0 → next < size
+pub summed_rest : (o : Option (List ℕ)) (name : List ℕ) (from next size : ℕ) (old : ReaderState) (sum all : ℕ) (rest : ℕ × ℕ) → old ≡ holding name [] next size 0 → next < size
     → IfSome o (λ file. StandsIn old file → IsSumOf rest (drop old.place file)) → ((front back : List ℕ) → IsPlainSumOf sum front → IsSumOf rest back → IsPlainSumOf all (front ++ back)) → SumTo o from next sum
     → IfSome o (λ file. size ≡ length file → IsPlainSumOf all (drop from file))
 summed_rest None name from next size old sum all rest fresh near read joins summed = tt
 summed_rest (Some file) name from next size old sum all rest fresh near read joins summed = λ long.
-    let place_is : old.place ≡ next = ap (λ (s : Standing). s.place) fresh in
+    let place_is : old.place ≡ next = ap (λ (s : ReaderState). s.place) fresh in
     let stands = subst (λ s. StandsIn s file) (sym fresh) (fresh_stands name file next size (omega arith) long) in
     let place : from + (next - from) ≡ next = omega (arith, summed.0) in
     let behind : drop (next - from) (drop from file) ≡ drop old.place file = drop-drop (next - from) from file ∙ ap (λ n. drop n file) (place ∙ sym place_is) in

@@ -9,11 +9,11 @@ use Rattle.sccs_history.specs.declared.headers.Item.{Item}
 use Rattle.sccs_history.specs.declared.headers.Item.TheVariants.{Text}
 use Rattle.std.specs.Prelude.{option_and_then}
 use Rattle.sccs_grammar.specs.Items.{item_at, item_of, items_from}
-use Rattle.sccs_grammar.proofs.SayLaws.{said_plain}
+use Rattle.sccs_grammar.proofs.TokenLaws.{token_plain}
 use Rattle.sccs_marks.specs.States.{Knows}
 use Rattle.sccs_marks.specs.declared.body_states.BodyState.{BodyState}
 use Rattle.sccs_table.specs.Runs.{IsRun, PassesRun}
-use Rattle.sccs_table.specs.Standing.{Standing, left}
+use Rattle.sccs_table.specs.ReaderState.{ReaderState, left}
 use Rattle.sccs_table.proofs.RunLaws.{lines_bound}
 use Rattle.sccs_body.specs.Reader.{ItemPlace}
 use Rattle.sccs_body.specs.ItemsRead.{IsBehind, texts_behind}
@@ -31,7 +31,7 @@ behind_texts live (line ∷ lines) before s knows = behind_texts live lines (Tex
 
 -- a bare line is a text item where one may stand
 text_at : (live : List ℕ) (before : List Item) (line : List ℕ) → begins 1 line ≡ false → may_stand live before (Text line) ≡ true → item_at live before line ≡ Some (Text line)
-text_at live before line bare stands = line_item live before line (Text line) true (ap (option_and_then item_of) (said_plain line bare)) stands
+text_at live before line bare stands = line_item live before line (Text line) true (ap (option_and_then item_of) (token_plain line bare)) stands
 
 onto_first : (item : Item) (given : List Item) (read : Result (List Item) ℕ) → (onto given read >>= λ items. Ok (item ∷ items)) ≡ onto (item ∷ given) read
 onto_first item given (Ok items) = refl
@@ -56,7 +56,7 @@ items_from_texts live n before (text ∷ texts) lines tail are stand =
 some_bytes : (run : List ℕ) → 0 < length (cut run).lines → 0 < length run
 some_bytes run some = omega (arith, lines_bound run)
 
-pub reached_texts : (o : Option (List ℕ)) (live : List ℕ) (begun : Standing) (n0 : ℕ) (before : List Item) (now new : ItemPlace) (run : List ℕ) → IsRun run → (0 < length run → (text : List ℕ) → may_stand live before (Text text) ≡ true)
+pub reached_texts : (o : Option (List ℕ)) (live : List ℕ) (begun : ReaderState) (n0 : ℕ) (before : List Item) (now new : ItemPlace) (run : List ℕ) → IsRun run → (0 < length run → (text : List ℕ) → may_stand live before (Text text) ≡ true)
     → new.number ≡ now.number + length (cut run).lines → ((file : List ℕ) → PassesRun run file now.lines new.lines) → Reached o live begun n0 before now → Reached o live begun n0 (texts_behind (cut run).lines before) new
 reached_texts None live begun n0 before now new run is stand number passes reached = tt
 reached_texts (Some file) live begun n0 before now new run is stand number passes reached = λ stands.
@@ -70,14 +70,14 @@ reached_texts (Some file) live begun n0 before now new run is stand number passe
     (passed.0, (here.1.0 ++ map Text lines, here.1.1 ∙ (ap (onto here.1.0) next ∙ onto_both here.1.0 (map Text lines) _)))
 
 -- the reader stands behind the lines that it passed over
-pub somewhere_behind : (o : Option (List ℕ)) (live : List ℕ) (begun : Standing) (n0 : ℕ) (now new : ItemPlace) (run : List ℕ) → IsRun run → ((live : List ℕ) (before : List Item) (text : List ℕ) → IsBehind live before now → 0 < length run → may_stand live before (Text text) ≡ true)
+pub somewhere_behind : (o : Option (List ℕ)) (live : List ℕ) (begun : ReaderState) (n0 : ℕ) (now new : ItemPlace) (run : List ℕ) → IsRun run → ((live : List ℕ) (before : List Item) (text : List ℕ) → IsBehind live before now → 0 < length run → may_stand live before (Text text) ≡ true)
     → new.number ≡ now.number + length (cut run).lines → ((live : List ℕ) (before : List Item) → IsBehind live before now → IsBehind live (texts_behind (cut run).lines before) new) → ((file : List ℕ) → PassesRun run file now.lines new.lines)
     → Somewhere o live begun n0 now → Somewhere o live begun n0 new
 somewhere_behind o live begun n0 now new run is stand number behind passes here =
     (texts_behind (cut run).lines here.0, behind live here.0 here.1, reached_texts o live begun n0 here.0 now new run is (λ some text. stand live here.0 text here.1 some) number passes here.2)
 
 -- the same, where the run is known as the front of what is held
-pub somewhere_behind_front : (o : Option (List ℕ)) (live : List ℕ) (begun : Standing) (n0 : ℕ) (now new : ItemPlace) (run : List ℕ) → take (length run) now.lines.held ≡ run → IsRun run
+pub somewhere_behind_front : (o : Option (List ℕ)) (live : List ℕ) (begun : ReaderState) (n0 : ℕ) (now new : ItemPlace) (run : List ℕ) → take (length run) now.lines.held ≡ run → IsRun run
     → ((live : List ℕ) (before : List Item) (text : List ℕ) → IsBehind live before now → 0 < length run → may_stand live before (Text text) ≡ true)
     → new.number ≡ now.number + length (cut (take (length run) now.lines.held)).lines → ((live : List ℕ) (before : List Item) → IsBehind live before now → IsBehind live (texts_behind (cut (take (length run) now.lines.held)).lines before) new)
     → ((file : List ℕ) → PassesRun (take (length run) now.lines.held) file now.lines new.lines) → Somewhere o live begun n0 now → Somewhere o live begun n0 new

@@ -10,7 +10,7 @@ use Rattle.sccs_grammar.specs.Sums.{plain_sum, signed_sum}
 use Rattle.sccs_grammar.specs.declared.faults.FileFault.{FileFault}
 use Rattle.sccs_grammar.specs.declared.faults.FileFault.TheVariants.{Missing, TooLong, NotSccs, BadSum, BadFormat, Encoded, Failed, Memory}
 use Rattle.sccs_table.specs.declared.fronts.Front.{Front}
-use Rattle.sccs_table.specs.Standing.{Standing, StandsIn, bytes_in, file_in}
+use Rattle.sccs_table.specs.ReaderState.{ReaderState, StandsIn, bytes_in, file_in}
 use Rattle.sccs_table.specs.SumOf.{IsPlainSumOf, is_sum_of}
 use Rattle.sccs_table.specs.FrontFile.{AnswersFront, Opens, TakesSum, SumLine, ReadsLines, Reads}
 use Rattle.sccs_table.proofs.ReaderLaws.{holding}
@@ -35,7 +35,7 @@ told_of o file size Holds is long told = subst (λ q. IfSome q (λ f. size ≡ l
 abbrev pub with_sum : Front → ℕ → Front
 with_sum front sum = record front { sum = sum }
 
-module _ (file : List ℕ) (limit : length file ≤ 1073741824) (new : Standing) where
+module _ (file : List ℕ) (limit : length file ≤ 1073741824) (new : ReaderState) where
   pub whole_unopened : (e : FileFault) → TakesSum file new (Err e) → AnswersFile (Some file) (Err e)
   whole_unopened e takes = refusal_stays (Some file) e (at_file file (Err e) checked_front limit (sum_refused file new e takes))
 
@@ -64,7 +64,7 @@ module _ (file : List ℕ) (limit : length file ≤ 1073741824) (new : Standing)
 
 -- the answer at a told file, from what the calls told of it
 pub whole_by : (view : Option View) (name : List ℕ) (size : ℕ) (result : Result Front FileFault) → size ≤ 1073741824 → Opens view name (Ok size)
-    → (o p q : Option (List ℕ)) (old new : Standing) (n place sum : ℕ) (fits : Bool) (read : Result Front FileFault) → o ≡ bytes_in view name → p ≡ bytes_in view name → q ≡ bytes_in view name → old ≡ holding name [] 0 size 0 → SumLine o old new (Ok n) → place ≡ new.place
+    → (o p q : Option (List ℕ)) (old new : ReaderState) (n place sum : ℕ) (fits : Bool) (read : Result Front FileFault) → o ≡ bytes_in view name → p ≡ bytes_in view name → q ≡ bytes_in view name → old ≡ holding name [] 0 size 0 → SumLine o old new (Ok n) → place ≡ new.place
     → IfSome p (λ file. size ≡ length file → IsPlainSumOf sum (drop place file)) → IfSome p (λ file. size ≡ length file → ReadsBehind file place read)
     → IfSome q (λ file. size ≡ length file → IsPlainSumOf sum (drop place file) → is_sum_of n (drop place file) ≡ fits)
     → ((file : List ℕ) → length file ≤ 1073741824 → TakesSum file new (Ok n) → IsPlainSumOf sum (drop new.place file) → is_sum_of n (drop new.place file) ≡ fits → ReadsBehind file new.place read → AnswersFile (Some file) result)
@@ -78,7 +78,7 @@ whole_by view name size result limit opens o p q old new n place sum fits read s
 
 -- ---- reading behind the sum line
 
-lines_at : (file : List ℕ) (name other : List ℕ) (place size long : ℕ) (last : Standing) (read : Result (Header × ℕ) FileFault) → ReadsLines file (fresh name place size) last start 2 read → ReadsLines file (fresh other place long) last start 2 read
+lines_at : (file : List ℕ) (name other : List ℕ) (place size long : ℕ) (last : ReaderState) (read : Result (Header × ℕ) FileFault) → ReadsLines file (fresh name place size) last start 2 read → ReadsLines file (fresh other place long) last start 2 read
 lines_at file name other place size long last (Ok found) reads = reads
 lines_at file name other place size long last (Err Missing) reads = reads
 lines_at file name other place size long last (Err TooLong) reads = reads
@@ -90,19 +90,19 @@ lines_at file name other place size long last (Err Failed) reads = reads
 lines_at file name other place size long last (Err Memory) reads = reads
 
 -- the lines that a new reader read
-lines_of : (p : Option (List ℕ)) (file name : List ℕ) (place size : ℕ) (old last : Standing) (read : Result (Header × ℕ) FileFault) → p ≡ Some file → old ≡ fresh name place size → place ≤ size → size ≡ length file → Reads p old last start 2 read
+lines_of : (p : Option (List ℕ)) (file name : List ℕ) (place size : ℕ) (old last : ReaderState) (read : Result (Header × ℕ) FileFault) → p ≡ Some file → old ≡ fresh name place size → place ≤ size → size ≡ length file → Reads p old last start 2 read
     → ReadsLines file (fresh [] place (length file)) last start 2 read
 lines_of p file name place size old last read is fresh_is low long reads =
     let told = subst (λ q. Reads q old last start 2 read) is reads in
     let stands = subst (λ s. StandsIn s file) (sym fresh_is) (fresh_stands name file place size low long) in
     lines_at file name [] place size (length file) last read (subst (λ s. ReadsLines file s last start 2 read) fresh_is (told stands))
 
-pub lines_refused : (o p : Option (List ℕ)) (name : List ℕ) (place size : ℕ) (old last : Standing) (e : FileFault) → p ≡ o → old ≡ fresh name place size → place ≤ size → Reads p old last start 2 (Err e)
+pub lines_refused : (o p : Option (List ℕ)) (name : List ℕ) (place size : ℕ) (old last : ReaderState) (e : FileFault) → p ≡ o → old ≡ fresh name place size → place ≤ size → Reads p old last start 2 (Err e)
     → IfSome o (λ file. size ≡ length file → ReadsBehind file place (Err e))
 lines_refused None p name place size old last e same fresh_is low reads = tt
 lines_refused (Some file) p name place size old last e same fresh_is low reads = λ long. inl (last, lines_of p file name place size old last (Err e) same fresh_is low long reads)
 
-module _ (name : List ℕ) (old last : Standing) (front : Front) where
+module _ (name : List ℕ) (old last : ReaderState) (front : Front) where
   behind_lines : (p : Option (List ℕ)) (file : List ℕ) (place : ℕ) → p ≡ Some file → old ≡ fresh name place front.size → place ≤ front.size → front.size ≡ length file → Reads p old last start 2 (Ok (front.header, front.body_line)) → front.body_from ≡ last.place → IsRead file place front
   behind_lines p file place is fresh_is low long reads from = (last, lines_of p file name place front.size old last (Ok (front.header, front.body_line)) is fresh_is low long reads, from, long)
 

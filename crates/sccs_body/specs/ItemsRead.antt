@@ -10,7 +10,7 @@ use Rattle.sccs_grammar.specs.Items.{item_at, items_from}
 use Rattle.sccs_grammar.specs.declared.faults.FileFault.{FileFault}
 use Rattle.sccs_grammar.specs.declared.faults.FileFault.TheVariants.{BadFormat, Failed}
 use Rattle.sccs_grammar.specs.declared.faults.FileFault.TheVariants as fault
-use Rattle.sccs_table.specs.Standing.{Standing, StandsIn, left}
+use Rattle.sccs_table.specs.ReaderState.{ReaderState, StandsIn, left}
 use Rattle.sccs_body.specs.Reader.{ItemPlace}
 
 -- the reader stands behind these items, the last first, of a body over live serials
@@ -56,5 +56,5 @@ abbrev pub end_answer : Bool → ℕ → Result (Option Item) FileFault
 end_answer over number = if over then Ok None else Err (BadFormat number)
 
 -- a front's reader stands where the body begins
-abbrev pub fresh : List ℕ → ℕ → ℕ → Standing
+abbrev pub fresh : List ℕ → ℕ → ℕ → ReaderState
 fresh name place size = record { name = name; held = []; place = place; size = size; lines = 0 }

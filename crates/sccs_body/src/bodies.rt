@@ -3,7 +3,7 @@ ghost use Rattle.sccs_base.specs.Stream.{Rose};
 ghost use Rattle.sccs_disk.specs.Told.{seen};
 ghost use Rattle.sccs_history.specs.History.{IsHeader, IsSpelled, KeepsRules};
 ghost use Rattle.sccs_table.specs.FrontFile.{IsPlaced};
-ghost use Rattle.sccs_table.specs.Standing.{bytes_in, file_in};
+ghost use Rattle.sccs_table.specs.ReaderState.{bytes_in, file_in};
 ghost use Rattle.sccs_table.specs.SumOf.{IsPlainSumOf, is_sum_of};
 ghost use Rattle.sccs_body.specs.Behind.{ReadsBehind};
 ghost use Rattle.sccs_body.specs.BodyFile.{AnswersFile, ChecksItems};

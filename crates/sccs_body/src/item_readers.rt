@@ -10,7 +10,7 @@ ghost use Rattle.sccs_history.specs.declared.headers.Item.TheVariants as items;
 ghost use Rattle.sccs_marks.specs.States.{Knows};
 ghost use Rattle.sccs_table.specs.FrontFile.{IsPlaced};
 ghost use Rattle.sccs_table.specs.Runs.{HasNoRun, IsRun, PassesRun};
-ghost use Rattle.sccs_table.specs.Standing.{bytes_in};
+ghost use Rattle.sccs_table.specs.ReaderState.{bytes_in};
 ghost use Rattle.sccs_body.specs.ItemsRead.{Gives, Goes, IsBehind, TakesItem, fresh, texts_behind};
 
 use sccs_base::{FILE_LIMIT, Memory, Name};

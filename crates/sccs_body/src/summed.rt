@@ -1,7 +1,7 @@
 ghost use Rattle.std.specs.Prelude.{◌≡◌, ◌≤◌, ◌∷◌, take, drop, length, IfOk, IfSome, OnErr};
 ghost use Rattle.sccs_base.specs.Stream.{Rose};
 ghost use Rattle.sccs_disk.specs.Told.{Passes, seen};
-ghost use Rattle.sccs_table.specs.Standing.{bytes_in};
+ghost use Rattle.sccs_table.specs.ReaderState.{bytes_in};
 ghost use Rattle.sccs_table.specs.SumOf.{IsPlainSumOf};
 ghost use Rattle.sccs_body.specs.SumTo.{SumTo, sum_to_prop};
 

@@ -7,14 +7,14 @@ use Rattle.sccs_history.specs.declared.headers.Item.{Item}
 use Rattle.sccs_history.specs.declared.headers.Item.TheVariants.{Text, Insert, Delete, End}
 use Rattle.sccs_grammar.specs.Items.{item_at, item_read, item_standing, items_from}
 use Rattle.sccs_grammar.specs.Written.{IsItem, item_line}
-use Rattle.sccs_grammar.proofs.SayLaws.{said_plain, said_insert, said_delete, said_end}
+use Rattle.sccs_grammar.proofs.TokenLaws.{token_plain, token_insert, token_delete, token_end}
 
 pub item_again : (live : List ℕ) (before : List Item) (item : Item) → IsItem item → may_stand live before item ≡ true → item_at live before (item_line item) ≡ Some item
 unfolding item_at
-item_again live before (Text t) is may = rw (said_plain t is) (rw may refl)
-item_again live before (Insert n) is may = rw (said_insert n is) (rw may refl)
-item_again live before (Delete n) is may = rw (said_delete n is) (rw may refl)
-item_again live before (End n) is may = rw (said_end n is) (rw may refl)
+item_again live before (Text t) is may = rw (token_plain t is) (rw may refl)
+item_again live before (Insert n) is may = rw (token_insert n is) (rw may refl)
+item_again live before (Delete n) is may = rw (token_delete n is) (rw may refl)
+item_again live before (End n) is may = rw (token_end n is) (rw may refl)
 
 pub items_again : (live : List ℕ) (n : ℕ) (before items : List Item) → AllByRecursion IsItem items → GoesOn live before items → items_from live n before (map item_line items) [] ≡ Ok items
 unfolding items_from
@@ -24,14 +24,14 @@ items_again live n before (item ∷ items) are goes =
 
 -- ---- an item that a line is may stand
 
-stood : (stands : Bool) (made item : Item) → only stands made ≡ Some item → (stands ≡ true) × (made ≡ item)
-stood true made item is = (refl, cc)
-stood false made item is = absurd cc
+seen : (stands : Bool) (made item : Item) → only stands made ≡ Some item → (stands ≡ true) × (made ≡ item)
+seen true made item is = (refl, cc)
+seen false made item is = absurd cc
 
 standing : (live : List ℕ) (before : List Item) (made : Option Item) (item : Item) → item_standing live before made ≡ Some item → may_stand live before item ≡ true
 standing live before None item is = absurd cc
 standing live before (Some made) item is =
-    let both = stood (may_stand live before made) made item is in ap (may_stand live before) (sym both.1) ∙ both.0
+    let both = seen (may_stand live before made) made item is in ap (may_stand live before) (sym both.1) ∙ both.0
 
 pub line_may : (live : List ℕ) (before : List Item) (line : List ℕ) (item : Item) → item_at live before line ≡ Some item → may_stand live before item ≡ true
 unfolding item_at

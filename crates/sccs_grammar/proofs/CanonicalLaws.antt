@@ -13,7 +13,7 @@ use Rattle.sccs_grammar.specs.Items.{items_from}
 use Rattle.sccs_grammar.specs.Sums.{plain_sum}
 use Rattle.sccs_grammar.specs.File.{Opened, stored, opened, opened_cut, checked_front, file_of, IsSFile}
 use Rattle.sccs_grammar.specs.Written.{sum_line, ended, IsItem, HasLines, item_line, header_lines, bytes_behind, canonical}
-use Rattle.sccs_grammar.proofs.SayLaws.{five_again}
+use Rattle.sccs_grammar.proofs.TokenLaws.{five_again}
 use Rattle.sccs_grammar.proofs.CutLaws.{cut_line, cut-bytes_of}
 use Rattle.sccs_grammar.proofs.BodyLaws.{items_again}
 use Rattle.sccs_grammar.proofs.HeaderLaws.{header_again}

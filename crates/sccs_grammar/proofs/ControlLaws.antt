@@ -7,12 +7,12 @@ use Rattle.sccs_base.specs.Cut.{HasNoLf}
 use Rattle.sccs_sid.specs.Reading.{whole, digits_after, number_at, number}
 use Rattle.sccs_sid.specs.SidLists.{begins}
 use Rattle.sccs_history.specs.declared.headers.Item.{Item}
-use Rattle.sccs_grammar.specs.Said.{serial, plain_serial, said, place}
+use Rattle.sccs_grammar.specs.Tokens.{serial, plain_serial, token, serial_field}
 use Rattle.sccs_grammar.specs.Items.{IsWrittenItem, IsWrittenSerial, item_behind, item_read}
 use Rattle.sccs_grammar.specs.Written.{IsSerial}
 use Rattle.sccs_grammar.proofs.NumberLaws.{Stops, number_again}
-use Rattle.sccs_grammar.proofs.SayLaws.{LeadsOther, decimal_leads}
-use Rattle.sccs_grammar.proofs.PlaceLaws.{none_below, number_high, placed}
+use Rattle.sccs_grammar.proofs.TokenLaws.{LeadsOther, decimal_leads}
+use Rattle.sccs_grammar.proofs.SerialFieldLaws.{none_below, number_high, placed}
 
 -- ---- a number and what is behind it
 
@@ -163,11 +163,11 @@ four_more count = omega arith
 abbrev Other : ℕ → Type 0
 Other b = b ≢ 10
 
-said_control : (letter : ℕ) (bytes : List ℕ) → item_read (1 ∷ letter ∷ bytes) ≡ item_behind letter bytes
-unfolding said
-said_control letter bytes = refl
+token_control : (letter : ℕ) (bytes : List ℕ) → item_read (1 ∷ letter ∷ bytes) ≡ item_behind letter bytes
+unfolding token
+token_control letter bytes = refl
 
-pub written_line : (letter n count : ℕ) (word : List ℕ) (item : Item) → letter ≢ 10 → IsWrittenSerial word n count → ((bytes : List ℕ) → place bytes ≡ Some n → item_behind letter bytes ≡ Some item)
+pub written_line : (letter n count : ℕ) (word : List ℕ) (item : Item) → letter ≢ 10 → IsWrittenSerial word n count → ((bytes : List ℕ) → serial_field bytes ≡ Some n → item_behind letter bytes ≡ Some item)
     → IsWrittenItem (1 ∷ letter ∷ 32 ∷ word) item (count + 3)
 written_line letter n count word item other is makes =
     let bytes = 1 ∷ letter ∷ 32 ∷ word in
@@ -177,5 +177,5 @@ written_line letter n count word item other is makes =
       short = omega (arith, is.short);
       ended = more ∙ (ap (λ bs. 1 ∷ letter ∷ 32 ∷ bs) is.ended ∙ ap (λ line. line ++ 10 ∷ []) (sym front));
       line = subst HasNoLf (sym front) (All-cons Other 1 (letter ∷ 32 ∷ take count word) (omega arith) (All-cons Other letter (32 ∷ take count word) other (All-cons Other 32 (take count word) (omega arith) is.line)));
-      said = ap item_read front ∙ (said_control letter (32 ∷ take count word) ∙ makes (32 ∷ take count word) (placed (take count word) n is.serial));
+      token = ap item_read front ∙ (token_control letter (32 ∷ take count word) ∙ makes (32 ∷ take count word) (placed (take count word) n is.serial));
     }

@@ -11,12 +11,12 @@ use Rattle.sccs_sid.proofs.SidTexts.{sid_text_again}
 use Rattle.sccs_sid.proofs.MomentTexts.{moment_text_again}
 use Rattle.sccs_history.specs.History.{HasSpelling}
 use Rattle.sccs_history.specs.declared.headers.Record.{Record}
-use Rattle.sccs_grammar.specs.Said.{predecessor, is_removed, delta_of, control, said}
+use Rattle.sccs_grammar.specs.Tokens.{predecessor, is_removed, delta_of, control, token}
 use Rattle.sccs_grammar.specs.Written.{IsSerial, kind_of, delta_words, delta_line, delta_part}
-use Rattle.sccs_grammar.specs.declared.sayings.Said.TheVariants.{Delta}
+use Rattle.sccs_grammar.specs.declared.line_tokens.LineToken.TheVariants.{Delta}
 use Rattle.sccs_grammar.proofs.WordLaws.{IsWord, HasNoBlank, words_again}
 use Rattle.sccs_grammar.proofs.NumberLaws.{whole_number, decimal_word}
-use Rattle.sccs_grammar.proofs.SayLaws.{serial_again}
+use Rattle.sccs_grammar.proofs.TokenLaws.{serial_again}
 
 -- ---- each word is one
 
@@ -94,6 +94,6 @@ unfolding delta_of
 delta_again r spells is before =
     rw (kind_again r.removed, sid_text_again r.sid spells.sid, moment_text_again r.moment spells.moment, (login_decides r.login).1 spells.login, serial_again r.serial is, predecessor_again r.predecessor before) refl
 
-pub said_delta : (r : Record) → HasSpelling r → IsSerial r.serial → r.predecessor < 65536 → said (delta_line r) ≡ Some (Delta (delta_part r))
-unfolding said control
-said_delta r spells is before = rw (words_again (delta_words r) (words_are r spells is before)) (delta_again r spells is before)
+pub token_delta : (r : Record) → HasSpelling r → IsSerial r.serial → r.predecessor < 65536 → token (delta_line r) ≡ Some (Delta (delta_part r))
+unfolding token control
+token_delta r spells is before = rw (words_again (delta_words r) (words_are r spells is before)) (delta_again r spells is before)

@@ -2,7 +2,7 @@
 use Rattle.std.proofs.Common.{◌≡◌, ℕ, List, [], ◌∷◌, None, Some, refl}
 use Rattle.std.specs.Prelude.{option_map}
 use Rattle.sccs_sid.specs.Words.{one}
-use Rattle.sccs_grammar.specs.Said.{delta, exactly_seven}
+use Rattle.sccs_grammar.specs.Tokens.{delta, exactly_seven}
 
 pub seven_last : (a b c d e f : List ℕ) (ws : List (List ℕ)) → exactly_seven (a ∷ b ∷ c ∷ d ∷ e ∷ f ∷ ws) ≡ option_map (λ g. a ∷ b ∷ c ∷ d ∷ e ∷ f ∷ g ∷ []) (one ws)
 seven_last a b c d e f [] = refl

@@ -7,15 +7,15 @@ use Rattle.sccs_history.specs.Numbers.{is_empty, has, share, Falls}
 use Rattle.sccs_history.specs.Applied.{serials_of}
 use Rattle.sccs_history.specs.History.{NamesSmaller, IsRecord, HasSpelling, same_sid, lives, has_own_sids}
 use Rattle.sccs_history.specs.declared.headers.Record.{Record}
-use Rattle.sccs_grammar.specs.Front.{at_table, at_lists, with_include, with_exclude, with_ignore, reading_at, table_alone, none_stood, entry, all_below, least, may_follow, lost, front_from}
+use Rattle.sccs_grammar.specs.Front.{at_table, at_lists, with_include, with_exclude, with_ignore, parser_at, table_alone, none_seen, entry, all_below, least, may_follow, dangling_predecessor, front_from}
 use Rattle.sccs_grammar.specs.Written.{IsSerial, counts_line, delta_line, delta_part, list_lines, mr_line, comment_line, end_line, entry_lines, table_lines}
-use Rattle.sccs_grammar.specs.declared.readings.Entry.{Entry}
-use Rattle.sccs_grammar.specs.declared.readings.Stood.{Stood}
+use Rattle.sccs_grammar.specs.declared.header_parsers.Entry.{Entry}
+use Rattle.sccs_grammar.specs.declared.header_parsers.ListsSeen.{ListsSeen}
 use Rattle.sccs_grammar.specs.Entries.{Entries, with_entry}
-use Rattle.sccs_grammar.specs.declared.readings.Place.TheVariants.{AtDelta}
-use Rattle.sccs_grammar.specs.declared.sayings.Said.TheVariants.{Counts, Delta}
-use Rattle.sccs_grammar.proofs.SayLaws.{said_counts}
-use Rattle.sccs_grammar.proofs.DeltaLaws.{said_delta}
+use Rattle.sccs_grammar.specs.declared.header_parsers.HeaderState.TheVariants.{AtDelta}
+use Rattle.sccs_grammar.specs.declared.line_tokens.LineToken.TheVariants.{Counts, Delta}
+use Rattle.sccs_grammar.proofs.TokenLaws.{token_counts}
+use Rattle.sccs_grammar.proofs.DeltaLaws.{token_delta}
 use Rattle.sccs_grammar.proofs.SectionLaws.{says, include_again, exclude_again, ignore_again, texts_behind}
 
 -- ---- lists that share nothing
@@ -46,7 +46,7 @@ smaller_serials : (serial : ℕ) (ns : List ℕ) → serial < 65536 → NamesSma
 smaller_serials serial [] high are = tt
 smaller_serials serial (n ∷ ns) high are = ((are.0.0, omega (arith, are.0.1, high)), smaller_serials serial ns high are.1)
 
-abbrev stood_by : Bool → Bool → Bool → Stood
+abbrev stood_by : Bool → Bool → Bool → ListsSeen
 stood_by i x g = record { included = i; excluded = x; ignored = g }
 
 -- the entry of a record whose delta line has this number
@@ -71,11 +71,11 @@ entry_again n entries all r rest is spells high follows =
     let n3 = n2 + length (list_lines 105 r.include) in
     let n4 = n3 + length (list_lines 120 r.exclude) in
     let n5 = n4 + length (list_lines 103 r.ignore) in
-    let at_delta = reading_at (AtDelta r.inserted r.deleted r.unchanged) (table_alone entries) in (
+    let at_delta = parser_at (AtDelta r.inserted r.deleted r.unchanged) (table_alone entries) in (
       suc (n5 + length r.mrs + length r.comments),
-      says n (at_table entries) at_delta (counts_line r.inserted r.deleted r.unchanged) (delta_line r ∷ includes) (Counts r.inserted r.deleted r.unchanged) (said_counts r.inserted r.deleted r.unchanged (omega (arith, is.inserted)) (omega (arith, is.deleted)) (omega (arith, is.unchanged))) refl refl
-          ∙ (says (suc n) at_delta (at_lists entries e0 none_stood) (delta_line r) includes (Delta (delta_part r)) (said_delta r spells (is.serial, high) (omega (arith, is.older, high))) (rw follows refl) refl
-          ∙ (include_again n2 entries e0 none_stood r.include excludes (smaller_serials r.serial r.include high is.include) refl refl (smaller_below r.serial r.include is.include) (share-nil r.include)
+      says n (at_table entries) at_delta (counts_line r.inserted r.deleted r.unchanged) (delta_line r ∷ includes) (Counts r.inserted r.deleted r.unchanged) (token_counts r.inserted r.deleted r.unchanged (omega (arith, is.inserted)) (omega (arith, is.deleted)) (omega (arith, is.unchanged))) refl refl
+          ∙ (says (suc n) at_delta (at_lists entries e0 none_seen) (delta_line r) includes (Delta (delta_part r)) (token_delta r spells (is.serial, high) (omega (arith, is.older, high))) (rw follows refl) refl
+          ∙ (include_again n2 entries e0 none_seen r.include excludes (smaller_serials r.serial r.include high is.include) refl refl (smaller_below r.serial r.include is.include) (share-nil r.include)
           ∙ (exclude_again n3 entries e1 (stood_by i false false) r.exclude ignores (smaller_serials r.serial r.exclude high is.exclude) refl refl (smaller_below r.serial r.exclude is.exclude) (share_flip r.include r.exclude is.apart)
           ∙ (ignore_again n4 entries e2 (stood_by i x false) r.ignore texts (smaller_serials r.serial r.ignore high is.ignore) refl refl (smaller_below r.serial r.ignore is.ignore)
           ∙ texts_behind n5 entries e3 (stood_by i x g) r.mrs r.comments rest)))),
@@ -165,9 +165,9 @@ table_again n above lines all (r ∷ rs) rest bound falls are spells sids own =
     let others = table_again first.0 (above ++ r ∷ []) (lines ++ suc n ∷ []) all rs rest (omega (arith, here, falls.0, bound)) (rw here falls.1) are.1 spells.1 parts.1 (own_push above r rs own.1 (each_differs r rs parts.0)) in
     (others.0, (others.1.0, first.1 ∙ (others.1.1 ∙ ap (λ rs. front_from others.0 (at_table (table_of rs others.1.0)) rest) (append_assoc above (r ∷ []) rs))))
 
--- no predecessor of these records is lost
-pub none_lost : (table rs : List Record) (lines : List ℕ) → AllByRecursion (IsRecord table) rs → lost table rs lines ≡ None
-unfolding lost
+-- no predecessor of these records is dangling_predecessor
+pub none_lost : (table rs : List Record) (lines : List ℕ) → AllByRecursion (IsRecord table) rs → dangling_predecessor table rs lines ≡ None
+unfolding dangling_predecessor
 none_lost table [] lines are = refl
 none_lost table (r ∷ rs) [] are = refl
 none_lost table (r ∷ rs) (line ∷ lines) are = rw are.0.predecessor (none_lost table rs lines are.1)

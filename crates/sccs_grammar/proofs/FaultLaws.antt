@@ -4,29 +4,29 @@ use Rattle.sccs_sid.specs.Reading.{◌>>=◌}
 use Rattle.sccs_history.specs.Numbers.{is_empty}
 use Rattle.sccs_history.specs.Body.{is_over}
 use Rattle.sccs_history.specs.declared.headers.Item.{Item}
-use Rattle.sccs_grammar.specs.declared.readings.Reading.{Reading}
+use Rattle.sccs_grammar.specs.declared.header_parsers.HeaderParser.{HeaderParser}
 use Rattle.sccs_grammar.specs.Front.{ParsedFront, header_of, is_whole, line_after, front_from}
 use Rattle.sccs_grammar.specs.Items.{item_at, go_on, items_from}
 
 -- where reading goes on behind a line
-abbrev step : Bool → ℕ → Reading → List (List ℕ) → Result ParsedFront ℕ
+abbrev step : Bool → ℕ → HeaderParser → List (List ℕ) → Result ParsedFront ℕ
 step whole n s lines = cond whole (Ok (record { header = header_of s; line = suc n; rest = lines })) (front_from (suc n) s lines)
 
-front-cons : (n : ℕ) (r : Reading) (line : List ℕ) (lines : List (List ℕ)) → front_from n r (line ∷ lines) ≡ (line_after n r line >>= λ s. step (is_whole s.place) n s lines)
+front-cons : (n : ℕ) (r : HeaderParser) (line : List ℕ) (lines : List (List ℕ)) → front_from n r (line ∷ lines) ≡ (line_after n r line >>= λ s. step (is_whole s.state) n s lines)
 unfolding front_from
 front-cons n r line lines = refl
 
-step_stays : (whole : Bool) (n k : ℕ) (s : Reading) (lines more : List (List ℕ)) → (front_from (suc n) s lines ≡ Err k → front_from (suc n) s (lines ++ more) ≡ Err k) → step whole n s lines ≡ Err k → step whole n s (lines ++ more) ≡ Err k
+step_stays : (whole : Bool) (n k : ℕ) (s : HeaderParser) (lines more : List (List ℕ)) → (front_from (suc n) s lines ≡ Err k → front_from (suc n) s (lines ++ more) ≡ Err k) → step whole n s lines ≡ Err k → step whole n s (lines ++ more) ≡ Err k
 step_stays true n k s lines more later fault = cc
 step_stays false n k s lines more later fault = later fault
 
-bind_stays : (o : Result Reading ℕ) (n k : ℕ) (lines more : List (List ℕ)) → ((s : Reading) → front_from (suc n) s lines ≡ Err k → front_from (suc n) s (lines ++ more) ≡ Err k)
-    → (o >>= λ s. step (is_whole s.place) n s lines) ≡ Err k → (o >>= λ s. step (is_whole s.place) n s (lines ++ more)) ≡ Err k
-bind_stays (Ok s) n k lines more later fault = step_stays (is_whole s.place) n k s lines more (later s) fault
+bind_stays : (o : Result HeaderParser ℕ) (n k : ℕ) (lines more : List (List ℕ)) → ((s : HeaderParser) → front_from (suc n) s lines ≡ Err k → front_from (suc n) s (lines ++ more) ≡ Err k)
+    → (o >>= λ s. step (is_whole s.state) n s lines) ≡ Err k → (o >>= λ s. step (is_whole s.state) n s (lines ++ more)) ≡ Err k
+bind_stays (Ok s) n k lines more later fault = step_stays (is_whole s.state) n k s lines more (later s) fault
 bind_stays (Err e) n k lines more later fault = fault
 
 -- a fault that isn't that the lines end
-pub front_fault_stays : (lines more : List (List ℕ)) (n k : ℕ) (r : Reading) → k < n + length lines → front_from n r lines ≡ Err k → front_from n r (lines ++ more) ≡ Err k
+pub front_fault_stays : (lines more : List (List ℕ)) (n k : ℕ) (r : HeaderParser) → k < n + length lines → front_from n r lines ≡ Err k → front_from n r (lines ++ more) ≡ Err k
 unfolding front_from
 front_fault_stays [] more n k r within fault = let is : n ≡ k = cc in absurd (omega arith)
 front_fault_stays (line ∷ lines) more n k r within fault =

@@ -1,13 +1,13 @@
--- Which lines are no items.
+-- ListKind lines are no items.
 use Rattle.std.proofs.Common.{◌≡◌, ℕ, ◌==◌, Bool, true, false, List, Option, Some, None, refl}
 use Rattle.std.specs.Prelude.{option_and_then}
 use Rattle.std.specs.Option.{IfSome}
-use Rattle.sccs_grammar.specs.Said.{control}
+use Rattle.sccs_grammar.specs.Tokens.{control}
 use Rattle.sccs_grammar.specs.Items.{item_of, item_behind}
-use Rattle.sccs_grammar.specs.declared.sayings.Said.{Said}
-use Rattle.sccs_grammar.proofs.SaidRules.{EachKeeps, control_keeps, each_of_kinds}
+use Rattle.sccs_grammar.specs.declared.line_tokens.LineToken.{LineToken}
+use Rattle.sccs_grammar.proofs.TokenRules.{EachKeeps, control_keeps, each_of_kinds}
 
-abbrev IsNoItem : Said → Type 0
+abbrev IsNoItem : LineToken → Type 0
 IsNoItem s = item_of s ≡ None
 
 not_so : {P : Type 0} (b : Bool) → b ≡ false → b ≡ true → P
@@ -29,10 +29,10 @@ each_none letter bytes insert delete end = each_of_kinds IsNoItem letter bytes (
   end_description = refl;
 }) (not_so (letter == 73) insert) (not_so (letter == 68) delete) (not_so (letter == 69) end)
 
-no_item_said : (o : Option Said) → IfSome o IsNoItem → option_and_then item_of o ≡ None
-no_item_said None none = refl
-no_item_said (Some s) none = none
+no_item_token : (o : Option LineToken) → IfSome o IsNoItem → option_and_then item_of o ≡ None
+no_item_token None none = refl
+no_item_token (Some s) none = none
 
 -- a letter that begins no control line of a body begins no item
 pub no_item : (letter : ℕ) (bytes : List ℕ) → letter == 73 ≡ false → letter == 68 ≡ false → letter == 69 ≡ false → item_behind letter bytes ≡ None
-no_item letter bytes insert delete end = no_item_said (control letter bytes) (control_keeps IsNoItem letter bytes (each_none letter bytes insert delete end))
+no_item letter bytes insert delete end = no_item_token (control letter bytes) (control_keeps IsNoItem letter bytes (each_none letter bytes insert delete end))

@@ -7,31 +7,31 @@ use Rattle.std.proofs.lemmas.Bool.{cases_Bool}
 use Rattle.sccs_sid.specs.Reading.{◌>>=◌}
 use Rattle.sccs_history.specs.declared.headers.Header.{Header}
 use Rattle.sccs_grammar.specs.Front.{ParsedFront, header_of, line_after, is_whole, front_from}
-use Rattle.sccs_grammar.specs.declared.readings.Reading.{Reading}
+use Rattle.sccs_grammar.specs.declared.header_parsers.HeaderParser.{HeaderParser}
 
 -- lines with L keep K of what is read, and a header of what has K has H
-pub record Kept (L : List ℕ → Type 0) (K : Reading → Type 0) (H : Header → Type 0) : Type 0 where
-  pub line : (n : ℕ) (r : Reading) (line : List ℕ) → L line → K r → IfOk (line_after n r line) K
-  pub whole : (s : Reading) → is_whole s.place ≡ true → K s → H (header_of s)
+pub record Kept (L : List ℕ → Type 0) (K : HeaderParser → Type 0) (H : Header → Type 0) : Type 0 where
+  pub line : (n : ℕ) (r : HeaderParser) (line : List ℕ) → L line → K r → IfOk (line_after n r line) K
+  pub whole : (s : HeaderParser) → is_whole s.state ≡ true → K s → H (header_of s)
 
 -- a header that was read has H
 abbrev Gives : (Header → Type 0) → Result ParsedFront ℕ → Type 0
 Gives H read = IfOk read (λ p. H p.header)
 
 -- the header that is whole with a line, or what the lines behind it make
-abbrev on_with : ℕ → List (List ℕ) → Reading → Result ParsedFront ℕ
+abbrev on_with : ℕ → List (List ℕ) → HeaderParser → Result ParsedFront ℕ
 on_with n lines s =
-    if is_whole s.place then Ok (record { header = header_of s; line = suc n; rest = lines }) else front_from (suc n) s lines
+    if is_whole s.state then Ok (record { header = header_of s; line = suc n; rest = lines }) else front_from (suc n) s lines
 
-on_so : (L : List ℕ → Type 0) (K : Reading → Type 0) (H : Header → Type 0) → Kept L K H → (n : ℕ) (lines : List (List ℕ)) (s : Reading) → K s → (is_whole s.place ≡ true) ⊎ (is_whole s.place ≡ false) → Gives H (front_from (suc n) s lines) → Gives H (on_with n lines s)
+on_so : (L : List ℕ → Type 0) (K : HeaderParser → Type 0) (H : Header → Type 0) → Kept L K H → (n : ℕ) (lines : List (List ℕ)) (s : HeaderParser) → K s → (is_whole s.state ≡ true) ⊎ (is_whole s.state ≡ false) → Gives H (front_from (suc n) s lines) → Gives H (on_with n lines s)
 on_so L K H kept n lines s has (inl is) more = rw is (kept.whole s is has)
 on_so L K H kept n lines s has (inr other) more = rw other more
 
-line_on : (L : List ℕ → Type 0) (K : Reading → Type 0) (H : Header → Type 0) → Kept L K H → (n : ℕ) (lines : List (List ℕ)) (read : Result Reading ℕ) → IfOk read K → ((s : Reading) → K s → Gives H (front_from (suc n) s lines)) → Gives H (read >>= on_with n lines)
-line_on L K H kept n lines (Ok s) has more = on_so L K H kept n lines s has (cases_Bool (is_whole s.place)) (more s has)
+line_on : (L : List ℕ → Type 0) (K : HeaderParser → Type 0) (H : Header → Type 0) → Kept L K H → (n : ℕ) (lines : List (List ℕ)) (read : Result HeaderParser ℕ) → IfOk read K → ((s : HeaderParser) → K s → Gives H (front_from (suc n) s lines)) → Gives H (read >>= on_with n lines)
+line_on L K H kept n lines (Ok s) has more = on_so L K H kept n lines s has (cases_Bool (is_whole s.state)) (more s has)
 line_on L K H kept n lines (Err k) has more = tt
 
-pub lines_keep : (L : List ℕ → Type 0) (K : Reading → Type 0) (H : Header → Type 0) → Kept L K H → (n : ℕ) (r : Reading) (lines : List (List ℕ)) → AllByRecursion L lines → K r → IfOk (front_from n r lines) (λ p. H p.header)
+pub lines_keep : (L : List ℕ → Type 0) (K : HeaderParser → Type 0) (H : Header → Type 0) → Kept L K H → (n : ℕ) (r : HeaderParser) (lines : List (List ℕ)) → AllByRecursion L lines → K r → IfOk (front_from n r lines) (λ p. H p.header)
 unfolding front_from
 lines_keep L K H kept n r [] are has = tt
 lines_keep L K H kept n r (line ∷ lines) are has =

@@ -9,8 +9,8 @@ use Rattle.sccs_sid.specs.Reading.{◌>>=◌, until, behind, digits_after, numbe
 use Rattle.sccs_sid.specs.Sid.{IsSid, ended, numbers_after, numbers, sid_of_numbers, sid_by, sid_of}
 use Rattle.sccs_sid.specs.Moment.{IsMoment, full_year, within, unit, date_of, time_of, moment_of}
 use Rattle.sccs_sid.proofs.Hundred.{second_in}
-use Rattle.sccs_grammar.proofs.ReadingRules.{all_push}
-use Rattle.sccs_grammar.proofs.SaidRules.{digits_small}
+use Rattle.sccs_grammar.proofs.ParserRules.{all_push}
+use Rattle.sccs_grammar.proofs.TokenRules.{digits_small}
 
 -- ---- steps of reading
 

@@ -8,7 +8,7 @@ use Rattle.std.proofs.lemmas.List.Folds.{list_any_at}
 use Rattle.sccs_history.specs.Numbers.{has, share}
 use Rattle.sccs_history.specs.Applied.{serials_of}
 use Rattle.sccs_history.specs.declared.headers.Record.{Record}
-use Rattle.sccs_grammar.specs.Front.{least, lost}
+use Rattle.sccs_grammar.specs.Front.{least, dangling_predecessor}
 
 pub has-any : (ns : List ℕ) (n : ℕ) → list_any (λ m. m == n) ns ≡ has ns n
 has-any [] n = refl
@@ -36,7 +36,7 @@ least-last bound [] r is = cc
 least-last bound (q ∷ []) r is = let e : q ≡ r = cc in ap (λ (x : Record). x.serial) (sym e)
 least-last bound (q ∷ p ∷ records) r is = least-last q.serial (p ∷ records) r (rw sub-one (rw sub-one at is))
 
--- ---- the first lost predecessor
+-- ---- the first dangling_predecessor predecessor
 
 -- the record and the line at a place of the table
 record Stands (records : List Record) (lines : List ℕ) (at line : ℕ) (r : Record) : Type 0 where
@@ -48,42 +48,42 @@ record Stands (records : List Record) (lines : List ℕ) (at line : ℕ) (r : Re
 further : (q : Record) (n : ℕ) (records : List Record) (lines : List ℕ) (at line : ℕ) (r : Record) → Stands (q ∷ records) (n ∷ lines) (suc at) line r → Stands records lines at line r
 further q n records lines at line r s = record { within = omega (arith, s.within); record_is = s.record_is; lines_within = omega (arith, s.lines_within); line_is = s.line_is }
 
-here_lost : (table : List Record) (records : List Record) (lines : List ℕ) (at line : ℕ) (r : Record) → Stands records lines at line r → has (0 ∷ serials_of table) r.predecessor ≡ false → lost table (drop at records) (drop at lines) ≡ Some line
-unfolding lost
+here_lost : (table : List Record) (records : List Record) (lines : List ℕ) (at line : ℕ) (r : Record) → Stands records lines at line r → has (0 ∷ serials_of table) r.predecessor ≡ false → dangling_predecessor table (drop at records) (drop at lines) ≡ Some line
+unfolding dangling_predecessor
 here_lost table [] lines at line r s gone = absurd (omega (arith, s.within))
 here_lost table (q ∷ records) [] at line r s gone = absurd (omega (arith, s.lines_within))
 here_lost table (q ∷ records) (n ∷ lines) zero line r s gone =
     let e : r ≡ q = s.record_is in let f : line ≡ n = s.line_is in rw (← e, gone, f) refl
 here_lost table (q ∷ records) (n ∷ lines) (suc at) line r s gone = here_lost table records lines at line r (further q n records lines at line r s) gone
 
-here_on : (table : List Record) (records : List Record) (lines : List ℕ) (at line : ℕ) (r : Record) → Stands records lines at line r → has (0 ∷ serials_of table) r.predecessor ≡ true → lost table (drop at records) (drop at lines) ≡ lost table (drop (suc at) records) (drop (suc at) lines)
-unfolding lost
+here_on : (table : List Record) (records : List Record) (lines : List ℕ) (at line : ℕ) (r : Record) → Stands records lines at line r → has (0 ∷ serials_of table) r.predecessor ≡ true → dangling_predecessor table (drop at records) (drop at lines) ≡ dangling_predecessor table (drop (suc at) records) (drop (suc at) lines)
+unfolding dangling_predecessor
 here_on table [] lines at line r s there = absurd (omega (arith, s.within))
 here_on table (q ∷ records) [] at line r s there = absurd (omega (arith, s.lines_within))
 here_on table (q ∷ records) (n ∷ lines) zero line r s there = let e : r ≡ q = s.record_is in rw (← e, there) refl
 here_on table (q ∷ records) (n ∷ lines) (suc at) line r s there = here_on table records lines at line r (further q n records lines at line r s) there
 
-pub lost_here : (table : List Record) (lines : List ℕ) (at line : ℕ) (r : Record) → at < length table → r ≡ get_or table at r → at < length lines → line ≡ get_or lines at line → has (0 ∷ serials_of table) r.predecessor ≡ false → lost table (drop at table) (drop at lines) ≡ Some line
+pub lost_here : (table : List Record) (lines : List ℕ) (at line : ℕ) (r : Record) → at < length table → r ≡ get_or table at r → at < length lines → line ≡ get_or lines at line → has (0 ∷ serials_of table) r.predecessor ≡ false → dangling_predecessor table (drop at table) (drop at lines) ≡ Some line
 lost_here table lines at line r within is lines_within line_is gone =
     here_lost table table lines at line r (record { within = within; record_is = is; lines_within = lines_within; line_is = line_is }) gone
 
-pub lost_on : (table : List Record) (lines : List ℕ) (at line : ℕ) (r : Record) → at < length table → r ≡ get_or table at r → at < length lines → line ≡ get_or lines at line → has (0 ∷ serials_of table) r.predecessor ≡ true → lost table (drop at table) (drop at lines) ≡ lost table (drop (suc at) table) (drop (suc at) lines)
+pub lost_on : (table : List Record) (lines : List ℕ) (at line : ℕ) (r : Record) → at < length table → r ≡ get_or table at r → at < length lines → line ≡ get_or lines at line → has (0 ∷ serials_of table) r.predecessor ≡ true → dangling_predecessor table (drop at table) (drop at lines) ≡ dangling_predecessor table (drop (suc at) table) (drop (suc at) lines)
 lost_on table lines at line r within is lines_within line_is there =
     here_on table table lines at line r (record { within = within; record_is = is; lines_within = lines_within; line_is = line_is }) there
 
-lost_empty : (table records : List Record) → lost table records [] ≡ None
-unfolding lost
+lost_empty : (table records : List Record) → dangling_predecessor table records [] ≡ None
+unfolding dangling_predecessor
 lost_empty table [] = refl
 lost_empty table (r ∷ records) = refl
 
-pub lost_no_line : (table records : List Record) (lines : List ℕ) (at : ℕ) → length lines ≤ at → lost table records (drop at lines) ≡ None
+pub lost_no_line : (table records : List Record) (lines : List ℕ) (at : ℕ) → length lines ≤ at → dangling_predecessor table records (drop at lines) ≡ None
 lost_no_line table records lines at past = rw (drop_all at lines past) (lost_empty table records)
 
-lost_none : (table : List Record) (lines : List ℕ) → lost table [] lines ≡ None
-unfolding lost
+lost_none : (table : List Record) (lines : List ℕ) → dangling_predecessor table [] lines ≡ None
+unfolding dangling_predecessor
 lost_none table lines = refl
 
-pub lost_end : (table records : List Record) (lines : List ℕ) (at : ℕ) → length records ≤ at → lost table (drop at records) lines ≡ None
+pub lost_end : (table records : List Record) (lines : List ℕ) (at : ℕ) → length records ≤ at → dangling_predecessor table (drop at records) lines ≡ None
 lost_end table [] lines zero past = lost_none table lines
 lost_end table [] lines (suc at) past = lost_none table lines
 lost_end table (r ∷ records) lines zero past = absurd (omega arith)

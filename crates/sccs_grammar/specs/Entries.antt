@@ -1,7 +1,7 @@
 -- The delta table as far as it was read.
 use Rattle.std.specs.Prelude.{ℕ, List, [], ◌∷◌, ◌++◌}
 use Rattle.sccs_history.specs.declared.headers.Record.{Record}
-use Rattle.sccs_grammar.specs.declared.readings.Entry.{Entry}
+use Rattle.sccs_grammar.specs.declared.header_parsers.Entry.{Entry}
 
 -- The records of the entries, newest first, and the numbers of their delta lines.
 pub record Entries : Type 0 where

@@ -6,8 +6,8 @@ use Rattle.sccs_sid.specs.declared.refusals.StepFault.{StepFault}
 use Rattle.sccs_sid.specs.declared.refusals.StepFault.TheVariants.{Refused, Memory, DiskFault}
 use Rattle.sccs_grammar.specs.declared.faults.FileFault.{FileFault}
 use Rattle.sccs_grammar.specs.declared.faults.FileFault.TheVariants as faults
-use Rattle.sccs_grammar.specs.declared.readings.FrontFault.{FrontFault}
-use Rattle.sccs_grammar.specs.declared.readings.FrontFault.TheVariants as fronts
+use Rattle.sccs_grammar.specs.declared.header_parsers.FrontFault.{FrontFault}
+use Rattle.sccs_grammar.specs.declared.header_parsers.FrontFault.TheVariants as fronts
 
 -- the fault of a file whose header isn't read on
 abbrev pub line_fault : FrontFault → FileFault

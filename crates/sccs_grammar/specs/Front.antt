@@ -10,54 +10,54 @@ use Rattle.sccs_history.specs.declared.headers.Record.{Record}
 use Rattle.sccs_history.specs.declared.headers.Flag.{Flag}
 use Rattle.sccs_history.specs.declared.headers.Header.{Header}
 use Rattle.sccs_grammar.specs.Entries.{Entries, no_entries, with_entry}
-use Rattle.sccs_grammar.specs.Said.{said}
-use Rattle.sccs_grammar.specs.declared.readings.FrontFault.{FrontFault}
-use Rattle.sccs_grammar.specs.declared.readings.FrontFault.TheVariants.{Format, Memory}
-use Rattle.sccs_grammar.specs.declared.readings.Entry.{Entry}
-use Rattle.sccs_grammar.specs.declared.readings.Stood.{Stood}
-use Rattle.sccs_grammar.specs.declared.readings.Parts.{Parts}
-use Rattle.sccs_grammar.specs.declared.readings.Place.{Place}
-use Rattle.sccs_grammar.specs.declared.readings.Place.TheVariants.{AtEntry, AtDelta, InLists, InTexts, InUsers, InFlags, InDescription, AtBody}
-use Rattle.sccs_grammar.specs.declared.readings.Reading.{Reading}
-use Rattle.sccs_grammar.specs.declared.sayings.Said.{Said}
-use Rattle.sccs_grammar.specs.declared.sayings.Said.TheVariants.{Counts, Delta, Listed, Mr, Comment, EndEntry, Users, EndUsers, FlagIs, Description, EndDescription, Plain}
-use Rattle.sccs_grammar.specs.declared.sayings.Which.{Which}
-use Rattle.sccs_grammar.specs.declared.sayings.Which.TheVariants.{Included, Excluded, Ignored}
+use Rattle.sccs_grammar.specs.Tokens.{token}
+use Rattle.sccs_grammar.specs.declared.header_parsers.FrontFault.{FrontFault}
+use Rattle.sccs_grammar.specs.declared.header_parsers.FrontFault.TheVariants.{Format, Memory}
+use Rattle.sccs_grammar.specs.declared.header_parsers.Entry.{Entry}
+use Rattle.sccs_grammar.specs.declared.header_parsers.ListsSeen.{ListsSeen}
+use Rattle.sccs_grammar.specs.declared.header_parsers.PartialHeader.{PartialHeader}
+use Rattle.sccs_grammar.specs.declared.header_parsers.HeaderState.{HeaderState}
+use Rattle.sccs_grammar.specs.declared.header_parsers.HeaderState.TheVariants.{AtEntry, AtDelta, InLists, InTexts, InUsers, InFlags, InDescription, AtBody}
+use Rattle.sccs_grammar.specs.declared.header_parsers.HeaderParser.{HeaderParser}
+use Rattle.sccs_grammar.specs.declared.line_tokens.LineToken.{LineToken}
+use Rattle.sccs_grammar.specs.declared.line_tokens.LineToken.TheVariants.{Counts, Delta, Listed, Mr, Comment, EndEntry, Users, EndUsers, FlagIs, Description, EndDescription, Plain}
+use Rattle.sccs_grammar.specs.declared.line_tokens.ListKind.{ListKind}
+use Rattle.sccs_grammar.specs.declared.line_tokens.ListKind.TheVariants.{Included, Excluded, Ignored}
 
-abbrev pub header_of : Reading → Header
+abbrev pub header_of : HeaderParser → Header
 header_of r = record { records = r.parts.table.records; users = r.parts.users; flags = r.parts.flags; description = r.parts.description }
 
-abbrev pub reading_at : Place → Parts → Reading
-reading_at place parts = record { place = place; parts = parts }
+abbrev pub parser_at : HeaderState → PartialHeader → HeaderParser
+parser_at state parts = record { state = state; parts = parts }
 
 -- these entries alone
-abbrev pub table_alone : Entries → Parts
+abbrev pub table_alone : Entries → PartialHeader
 table_alone entries = record { table = entries; users = []; flags = []; description = [] }
 
 -- the table was read up to these entries; all of it, and of the users these; all users, and of the flags these; all
 -- flags, and of the description these lines
-abbrev pub at_table : Entries → Reading
-at_table entries = reading_at AtEntry (table_alone entries)
+abbrev pub at_table : Entries → HeaderParser
+at_table entries = parser_at AtEntry (table_alone entries)
 
-abbrev pub at_users : Entries → List (List ℕ) → Reading
-at_users entries users = reading_at InUsers (record (table_alone entries) { users = users })
+abbrev pub at_users : Entries → List (List ℕ) → HeaderParser
+at_users entries users = parser_at InUsers (record (table_alone entries) { users = users })
 
-abbrev pub at_flags : Entries → List (List ℕ) → List Flag → Reading
-at_flags entries users flags = reading_at InFlags (record (table_alone entries) { users = users; flags = flags })
+abbrev pub at_flags : Entries → List (List ℕ) → List Flag → HeaderParser
+at_flags entries users flags = parser_at InFlags (record (table_alone entries) { users = users; flags = flags })
 
-abbrev pub at_description : Entries → List (List ℕ) → List Flag → List (List ℕ) → Reading
+abbrev pub at_description : Entries → List (List ℕ) → List Flag → List (List ℕ) → HeaderParser
 at_description entries users flags description =
-    reading_at InDescription (record { table = entries; users = users; flags = flags; description = description })
+    parser_at InDescription (record { table = entries; users = users; flags = flags; description = description })
 
 -- the table was read up to these entries, and of the next one its delta line and some lists, or an MR or comment too
-abbrev pub at_lists : Entries → Entry → Stood → Reading
-at_lists entries e stood = reading_at (InLists e stood) (table_alone entries)
+abbrev pub at_lists : Entries → Entry → ListsSeen → HeaderParser
+at_lists entries e seen = parser_at (InLists e seen) (table_alone entries)
 
-abbrev pub at_texts : Entries → Entry → Reading
-at_texts entries e = reading_at (InTexts e) (table_alone entries)
+abbrev pub at_texts : Entries → Entry → HeaderParser
+at_texts entries e = parser_at (InTexts e) (table_alone entries)
 
 -- nothing was read
-abbrev pub start : Reading
+abbrev pub start : HeaderParser
 start = at_table no_entries
 
 -- ---- the rules that a line may break
@@ -73,9 +73,9 @@ may_follow r above =
     nat_lt r.serial (least 65536 above) && nat_lt r.predecessor r.serial && (r.removed || not (lives above r.sid))
 
 -- the delta line of the first entry whose predecessor is neither 0 nor in the table
-unfoldable pub lost : List Record → List Record → List ℕ → Option ℕ
-lost table (r ∷ records) (line ∷ lines) = if has (0 ∷ serials_of table) r.predecessor then lost table records lines else Some line
-lost table records lines = None
+unfoldable pub dangling_predecessor : List Record → List Record → List ℕ → Option ℕ
+dangling_predecessor table (r ∷ records) (line ∷ lines) = if has (0 ∷ serials_of table) r.predecessor then dangling_predecessor table records lines else Some line
+dangling_predecessor table records lines = None
 
 -- smaller serials
 abbrev pub all_below : ℕ → List ℕ → Bool
@@ -115,108 +115,108 @@ abbrev pub with_ignore : Entry → List ℕ → Entry
 with_ignore e ns = record e { row = record e.row { ignore = ns } }
 
 -- MRs and comments, mixed, and the end of the entry
-abbrev pub in_texts : ℕ → Parts → Entry → Said → Result Reading ℕ
-in_texts n parts e (Mr t) = Ok (reading_at (InTexts (with_mr e t)) parts)
-in_texts n parts e (Comment t) = Ok (reading_at (InTexts (with_comment e t)) parts)
-in_texts n parts e EndEntry = Ok (reading_at AtEntry (record parts { table = with_entry parts.table e }))
+abbrev pub in_texts : ℕ → PartialHeader → Entry → LineToken → Result HeaderParser ℕ
+in_texts n parts e (Mr t) = Ok (parser_at (InTexts (with_mr e t)) parts)
+in_texts n parts e (Comment t) = Ok (parser_at (InTexts (with_comment e t)) parts)
+in_texts n parts e EndEntry = Ok (parser_at AtEntry (record parts { table = with_entry parts.table e }))
 in_texts n parts e _ = Err n
 
 -- a list of one kind, once, of smaller serials, and none of them both included and excluded
-abbrev pub include_list : ℕ → Parts → Entry → Stood → List ℕ → Result Reading ℕ
-include_list n parts e stood ns =
-    if_fits (not stood.included && all_below e.row.serial ns && not (share ns e.row.exclude)) n (reading_at (InLists (with_include e ns) (record stood { included = true })) parts)
+abbrev pub include_list : ℕ → PartialHeader → Entry → ListsSeen → List ℕ → Result HeaderParser ℕ
+include_list n parts e seen ns =
+    if_fits (not seen.included && all_below e.row.serial ns && not (share ns e.row.exclude)) n (parser_at (InLists (with_include e ns) (record seen { included = true })) parts)
 
-abbrev pub exclude_list : ℕ → Parts → Entry → Stood → List ℕ → Result Reading ℕ
-exclude_list n parts e stood ns =
-    if_fits (not stood.excluded && all_below e.row.serial ns && not (share ns e.row.include)) n (reading_at (InLists (with_exclude e ns) (record stood { excluded = true })) parts)
+abbrev pub exclude_list : ℕ → PartialHeader → Entry → ListsSeen → List ℕ → Result HeaderParser ℕ
+exclude_list n parts e seen ns =
+    if_fits (not seen.excluded && all_below e.row.serial ns && not (share ns e.row.include)) n (parser_at (InLists (with_exclude e ns) (record seen { excluded = true })) parts)
 
-abbrev pub ignore_list : ℕ → Parts → Entry → Stood → List ℕ → Result Reading ℕ
-ignore_list n parts e stood ns =
-    if_fits (not stood.ignored && all_below e.row.serial ns) n (reading_at (InLists (with_ignore e ns) (record stood { ignored = true })) parts)
+abbrev pub ignore_list : ℕ → PartialHeader → Entry → ListsSeen → List ℕ → Result HeaderParser ℕ
+ignore_list n parts e seen ns =
+    if_fits (not seen.ignored && all_below e.row.serial ns) n (parser_at (InLists (with_ignore e ns) (record seen { ignored = true })) parts)
 
-abbrev pub with_list : ℕ → Parts → Entry → Stood → Which → List ℕ → Result Reading ℕ
-with_list n parts e stood Included ns = include_list n parts e stood ns
-with_list n parts e stood Excluded ns = exclude_list n parts e stood ns
-with_list n parts e stood Ignored ns = ignore_list n parts e stood ns
+abbrev pub with_list : ℕ → PartialHeader → Entry → ListsSeen → ListKind → List ℕ → Result HeaderParser ℕ
+with_list n parts e seen Included ns = include_list n parts e seen ns
+with_list n parts e seen Excluded ns = exclude_list n parts e seen ns
+with_list n parts e seen Ignored ns = ignore_list n parts e seen ns
 
-abbrev pub in_lists : ℕ → Parts → Entry → Stood → Said → Result Reading ℕ
-in_lists n parts e stood (Listed which ns) = with_list n parts e stood which ns
-in_lists n parts e stood s = in_texts n parts e s
+abbrev pub in_lists : ℕ → PartialHeader → Entry → ListsSeen → LineToken → Result HeaderParser ℕ
+in_lists n parts e seen (Listed which ns) = with_list n parts e seen which ns
+in_lists n parts e seen s = in_texts n parts e s
 
 -- the table ends: there is an entry, and each predecessor is there
-abbrev pub ends_table : ℕ → Parts → Option ℕ → Result Reading ℕ
+abbrev pub ends_table : ℕ → PartialHeader → Option ℕ → Result HeaderParser ℕ
 ends_table n parts (Some line) = Err line
-ends_table n parts None = if_fits (not (is_empty parts.table.records)) n (reading_at InUsers parts)
+ends_table n parts None = if_fits (not (is_empty parts.table.records)) n (parser_at InUsers parts)
 
-abbrev pub at_entry : ℕ → Parts → Said → Result Reading ℕ
-at_entry n parts (Counts i d u) = Ok (reading_at (AtDelta i d u) parts)
-at_entry n parts Users = ends_table n parts (lost parts.table.records parts.table.records parts.table.lines)
+abbrev pub at_entry : ℕ → PartialHeader → LineToken → Result HeaderParser ℕ
+at_entry n parts (Counts i d u) = Ok (parser_at (AtDelta i d u) parts)
+at_entry n parts Users = ends_table n parts (dangling_predecessor parts.table.records parts.table.records parts.table.lines)
 at_entry n parts _ = Err n
 
-abbrev pub none_stood : Stood
-none_stood = record { included = false; excluded = false; ignored = false }
+abbrev pub none_seen : ListsSeen
+none_seen = record { included = false; excluded = false; ignored = false }
 
 abbrev pub entry : ℕ → ℕ → ℕ → ℕ → Record → Entry
 entry n i d u row = record { line = n; row = record row { inserted = i; deleted = d; unchanged = u } }
 
-abbrev pub at_delta : ℕ → Parts → ℕ → ℕ → ℕ → Said → Result Reading ℕ
-at_delta n parts i d u (Delta row) = if_fits (may_follow row parts.table.records) n (reading_at (InLists (entry n i d u row) none_stood) parts)
+abbrev pub at_delta : ℕ → PartialHeader → ℕ → ℕ → ℕ → LineToken → Result HeaderParser ℕ
+at_delta n parts i d u (Delta row) = if_fits (may_follow row parts.table.records) n (parser_at (InLists (entry n i d u row) none_seen) parts)
 at_delta n parts i d u _ = Err n
 
-abbrev pub in_users : ℕ → Parts → Said → Result Reading ℕ
-in_users n parts (Plain t) = Ok (reading_at InUsers (record parts { users = parts.users ++ t ∷ [] }))
-in_users n parts EndUsers = Ok (reading_at InFlags parts)
+abbrev pub in_users : ℕ → PartialHeader → LineToken → Result HeaderParser ℕ
+in_users n parts (Plain t) = Ok (parser_at InUsers (record parts { users = parts.users ++ t ∷ [] }))
+in_users n parts EndUsers = Ok (parser_at InFlags parts)
 in_users n parts _ = Err n
 
-abbrev pub new_flag : ℕ → Parts → Flag → Result Reading ℕ
+abbrev pub new_flag : ℕ → PartialHeader → Flag → Result HeaderParser ℕ
 new_flag n parts f =
-    if_fits (flag_fits f && is_new parts.flags f) n (reading_at InFlags (record parts { flags = parts.flags ++ f ∷ [] }))
+    if_fits (flag_fits f && is_new parts.flags f) n (parser_at InFlags (record parts { flags = parts.flags ++ f ∷ [] }))
 
-abbrev pub in_flags : ℕ → Parts → Said → Result Reading ℕ
+abbrev pub in_flags : ℕ → PartialHeader → LineToken → Result HeaderParser ℕ
 in_flags n parts (FlagIs f) = new_flag n parts f
-in_flags n parts Description = Ok (reading_at InDescription parts)
+in_flags n parts Description = Ok (parser_at InDescription parts)
 in_flags n parts _ = Err n
 
-abbrev pub in_description : ℕ → Parts → Said → Result Reading ℕ
-in_description n parts (Plain t) = Ok (reading_at InDescription (record parts { description = parts.description ++ t ∷ [] }))
-in_description n parts EndDescription = Ok (reading_at AtBody parts)
+abbrev pub in_description : ℕ → PartialHeader → LineToken → Result HeaderParser ℕ
+in_description n parts (Plain t) = Ok (parser_at InDescription (record parts { description = parts.description ++ t ∷ [] }))
+in_description n parts EndDescription = Ok (parser_at AtBody parts)
 in_description n parts _ = Err n
 
 -- what is read with a line that says this, at this place
-abbrev pub after : ℕ → Parts → Place → Said → Result Reading ℕ
+abbrev pub after : ℕ → PartialHeader → HeaderState → LineToken → Result HeaderParser ℕ
 after n parts AtEntry s = at_entry n parts s
 after n parts (AtDelta i d u) s = at_delta n parts i d u s
-after n parts (InLists e stood) s = in_lists n parts e stood s
+after n parts (InLists e seen) s = in_lists n parts e seen s
 after n parts (InTexts e) s = in_texts n parts e s
 after n parts InUsers s = in_users n parts s
 after n parts InFlags s = in_flags n parts s
 after n parts InDescription s = in_description n parts s
 after n parts AtBody s = Err n
 
-abbrev pub heard : ℕ → Reading → Option Said → Result Reading ℕ
-heard n r None = Err n
-heard n r (Some s) = after n r.parts r.place s
+abbrev pub accepted : ℕ → HeaderParser → Option LineToken → Result HeaderParser ℕ
+accepted n r None = Err n
+accepted n r (Some s) = after n r.parts r.state s
 
--- what hearing a line returned is what is read; there may have been no memory
-abbrev pub Hears : {A : Type 0} → Result A FrontFault → Result A ℕ → Type 0
-Hears (Ok x) read = read ≡ Ok x
-Hears (Err Memory) read = Unit {0}
-Hears (Err (Format line)) read = read ≡ Err line
+-- what accepting a line returned is what is read; there may have been no memory
+abbrev pub Accepts : {A : Type 0} → Result A FrontFault → Result A ℕ → Type 0
+Accepts (Ok x) read = read ≡ Ok x
+Accepts (Err Memory) read = Unit {0}
+Accepts (Err (Format line)) read = read ≡ Err line
 
 -- the same of a line that leads to another place and leaves these parts
-abbrev pub HearsAt : Parts → Result Place FrontFault → Result Reading ℕ → Type 0
-HearsAt new (Ok place) read = read ≡ Ok (reading_at place new)
-HearsAt new (Err Memory) read = Unit {0}
-HearsAt new (Err (Format line)) read = read ≡ Err line
+abbrev pub AcceptsAt : PartialHeader → Result HeaderState FrontFault → Result HeaderParser ℕ → Type 0
+AcceptsAt new (Ok state) read = read ≡ Ok (parser_at state new)
+AcceptsAt new (Err Memory) read = Unit {0}
+AcceptsAt new (Err (Format line)) read = read ≡ Err line
 
 -- the same of a line that leaves this reading
-abbrev pub HearsIn : Reading → Result (Unit {0}) FrontFault → Result Reading ℕ → Type 0
-HearsIn new (Ok done) read = read ≡ Ok new
-HearsIn new (Err Memory) read = Unit {0}
-HearsIn new (Err (Format line)) read = read ≡ Err line
+abbrev pub AcceptsIn : HeaderParser → Result (Unit {0}) FrontFault → Result HeaderParser ℕ → Type 0
+AcceptsIn new (Ok done) read = read ≡ Ok new
+AcceptsIn new (Err Memory) read = Unit {0}
+AcceptsIn new (Err (Format line)) read = read ≡ Err line
 
-unfoldable pub line_after : ℕ → Reading → List ℕ → Result Reading ℕ
-line_after n r line = heard n r (said line)
+unfoldable pub line_after : ℕ → HeaderParser → List ℕ → Result HeaderParser ℕ
+line_after n r line = accepted n r (token line)
 
 -- ---- all lines up to the body
 
@@ -226,13 +226,13 @@ pub record ParsedFront : Type 0 where
   pub line : ℕ
   pub rest : List (List ℕ)
 
-abbrev pub is_whole : Place → Bool
+abbrev pub is_whole : HeaderState → Bool
 is_whole AtBody = true
 is_whole _ = false
 
 -- the header that the lines from number n on complete, or the first line at which nothing goes on
-unfoldable pub front_from : ℕ → Reading → List (List ℕ) → Result ParsedFront ℕ
+unfoldable pub front_from : ℕ → HeaderParser → List (List ℕ) → Result ParsedFront ℕ
 front_from n r [] = Err n
 front_from n r (line ∷ lines) = do
   s ← line_after n r line
-  if is_whole s.place then Ok (record { header = header_of s; line = suc n; rest = lines }) else front_from (suc n) s lines
+  if is_whole s.state then Ok (record { header = header_of s; line = suc n; rest = lines }) else front_from (suc n) s lines

@@ -6,12 +6,12 @@ use Rattle.sccs_history.specs.Body.{may_stand, is_over}
 use Rattle.sccs_history.specs.declared.headers.Item.{Item}
 use Rattle.sccs_history.specs.declared.headers.Item.TheVariants as items
 use Rattle.sccs_base.specs.Cut.{HasNoLf}
-use Rattle.sccs_grammar.specs.Said.{control, plain_serial, said}
-use Rattle.sccs_grammar.specs.declared.sayings.Said.{Said}
-use Rattle.sccs_grammar.specs.declared.sayings.Said.TheVariants.{Insert, Delete, End, Plain}
+use Rattle.sccs_grammar.specs.Tokens.{control, plain_serial, token}
+use Rattle.sccs_grammar.specs.declared.line_tokens.LineToken.{LineToken}
+use Rattle.sccs_grammar.specs.declared.line_tokens.LineToken.TheVariants.{Insert, Delete, End, Plain}
 
 -- the item that a line is
-abbrev pub item_of : Said → Option Item
+abbrev pub item_of : LineToken → Option Item
 item_of (Plain t) = Some (items.Text t)
 item_of (Insert n) = Some (items.Insert n)
 item_of (Delete n) = Some (items.Delete n)
@@ -24,7 +24,7 @@ item_behind letter bytes = option_and_then item_of (control letter bytes)
 
 -- the item that a line is by itself
 abbrev pub item_read : List ℕ → Option Item
-item_read line = option_and_then item_of (said line)
+item_read line = option_and_then item_of (token line)
 
 -- the control item of a letter and a serial
 abbrev pub item_for : ℕ → ℕ → Option Item
@@ -46,7 +46,7 @@ pub record IsWrittenItem (bytes : List ℕ) (item : Item) (count : ℕ) : Type 0
   pub short : count < length bytes
   pub ended : take (count + 1) bytes ≡ take count bytes ++ 10 ∷ []
   pub line : HasNoLf (take count bytes)
-  pub said : item_read (take count bytes) ≡ Some item
+  pub token : item_read (take count bytes) ≡ Some item
 
 abbrev pub item_standing : List ℕ → List Item → Option Item → Option Item
 item_standing live before None = None

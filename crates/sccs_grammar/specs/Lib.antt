@@ -4,7 +4,7 @@ pub mod FileRefusals
 pub mod Front
 pub mod HeldTable
 pub mod Items
-pub mod Said
+pub mod Tokens
 pub mod SidKeys
 pub mod Sums
 pub mod Written

@@ -3,37 +3,37 @@ ghost use Rattle.std.specs.Prelude.{◌≡◌, ◌≢◌, ◌∷◌, ◌++◌, �
 ghost use Rattle.sccs_base.specs.Cut.{HasNoLf};
 ghost use Rattle.sccs_grammar.specs.Items.{IsWrittenItem, IsWrittenSerial, item_behind, item_for, item_read};
 ghost use Rattle.sccs_grammar.specs.Written.{IsSerial};
-ghost use Rattle.sccs_grammar.specs.Said.{place as place_spec};
+ghost use Rattle.sccs_grammar.specs.Tokens.{serial_field as place_spec};
 ghost use Rattle.sccs_sid.specs.SidLists.{begins};
 
-use crate::fields::{line_of, place};
+use crate::fields::{line_of, serial_field};
 use sccs_base::Memory;
 use sccs_history::Item;
 use sccs_sid::reading::number_at;
 use std::alloc::Global;
 
 // the item that one letter begins
-#[tactic(auto, unfolding(crate::specs::Said::control))]
+#[tactic(auto, unfolding(crate::specs::Tokens::control))]
 fn insert_item(bytes: &[u8]) -> Option<Item>
     ensures { result ≡ item_behind 73 bytes.now }
 {
-    let serial = place(bytes)?;
+    let serial = serial_field(bytes)?;
     Some(Item::Insert(serial))
 }
 
-#[tactic(auto, unfolding(crate::specs::Said::control))]
+#[tactic(auto, unfolding(crate::specs::Tokens::control))]
 fn delete_item(bytes: &[u8]) -> Option<Item>
     ensures { result ≡ item_behind 68 bytes.now }
 {
-    let serial = place(bytes)?;
+    let serial = serial_field(bytes)?;
     Some(Item::Delete(serial))
 }
 
-#[tactic(auto, unfolding(crate::specs::Said::control))]
+#[tactic(auto, unfolding(crate::specs::Tokens::control))]
 fn end_item(bytes: &[u8]) -> Option<Item>
     ensures { result ≡ item_behind 69 bytes.now }
 {
-    let serial = place(bytes)?;
+    let serial = serial_field(bytes)?;
     Some(Item::End(serial))
 }
 
@@ -51,7 +51,7 @@ fn item_behind(letter: u8, bytes: &[u8]) -> Option<Item>
 }
 
 // the item of a line that begins with SOH
-#[tactic(auto, unfolding(crate::specs::Said::said))]
+#[tactic(auto, unfolding(crate::specs::Tokens::token))]
 fn control_item(bytes: &[u8]) -> Option<Item>
     ensures { result ≡ item_read (1 ∷ bytes.now) }
 {
@@ -62,7 +62,7 @@ fn control_item(bytes: &[u8]) -> Option<Item>
 }
 
 /// The item that a line of a body is by itself; None where it is none.
-#[tactic(auto, unfolding(crate::specs::Said::said))]
+#[tactic(auto, unfolding(crate::specs::Tokens::token))]
 pub fn read_item(alloc: Global, line: &[u8]) -> Result<Option<Item>, Memory>
     requires { HasNoLf line.now }
     ensures { IfOk result (λ o. o ≡ item_read line.now) }
@@ -106,7 +106,7 @@ fn written_serial(bytes: &[u8]) -> Option<(u16, usize)>
 }
 
 // the item of a letter with a serial
-#[tactic(auto, unfolding(crate::specs::Said::control))]
+#[tactic(auto, unfolding(crate::specs::Tokens::control))]
 fn item_of_letter(letter: u8, serial: u16) -> Option<Item>
     ensures value { result ≡ item_for letter serial }
     ensures other { IfSome result (λ _. letter ≢ 10) }

@@ -2,7 +2,7 @@ ghost use Rattle.std.specs.Prelude.{◌≡◌};
 ghost use Rattle.sccs_grammar.specs.FileRefusals.{line_fault};
 ghost use Rattle.sccs_grammar.specs.declared.faults.FileFault.TheVariants as faults;
 
-use crate::readings::FrontFault;
+use crate::header_parsers::FrontFault;
 use sccs_base::{Failed, Memory};
 
 /// Why an s-file was not read. Where several hold, the earliest of this list is answered.

@@ -2,7 +2,7 @@
 ghost use Rattle.std.specs.Prelude.{◌≡◌, ◌<◌, ◌^◌, ◌≤◌, List, [], ◌∷◌, Some, length, map, option_map, IfOk, IfSome, MatchOption};
 ghost use Rattle.sccs_base.specs.Cut.{HasNoLf};
 ghost use Rattle.sccs_sid.specs.Words.{words};
-ghost use Rattle.sccs_grammar.specs.Said.{drop_zeros, is_removed, is_set_off, listed, padded_serial, place, plain_serial, predecessor, serial, serials, text};
+ghost use Rattle.sccs_grammar.specs.Tokens.{drop_zeros, is_removed, is_set_off, listed, padded_serial, serial_field, plain_serial, predecessor, serial, serials, text};
 
 use sccs_base::{Line, Memory};
 use sccs_history::Serials;
@@ -36,7 +36,7 @@ fn drop_zeros(bytes: &[u8]) -> &[u8]
 }
 
 /// A serial: 1 to 65535, in one to five digits.
-#[tactic(auto, unfolding(crate::specs::Said::serial))]
+#[tactic(auto, unfolding(crate::specs::Tokens::serial))]
 pub fn serial(word: &[u8]) -> Option<u16>
     ensures { result ≡ serial word.now }
 {
@@ -49,7 +49,7 @@ pub fn serial(word: &[u8]) -> Option<u16>
 }
 
 /// The same or 0.
-#[tactic(auto, unfolding(crate::specs::Said::predecessor))]
+#[tactic(auto, unfolding(crate::specs::Tokens::predecessor))]
 pub fn predecessor(word: &[u8]) -> Option<u16>
     ensures { result ≡ predecessor word.now }
 {
@@ -84,18 +84,18 @@ pub fn is_set_off(bytes: &[u8]) -> bool
 }
 
 // a serial as it is written, behind one blank and without zeros in front
-#[tactic(auto, using(crate::proofs::PlaceLaws::written_place))]
+#[tactic(auto, using(crate::proofs::SerialFieldLaws::written_serial_field))]
 fn behind_blank(word: &[u8]) -> Option<u16>
-    ensures { IfSome result (λ n. Some n ≡ place (32 ∷ word.now)) }
+    ensures { IfSome result (λ n. Some n ≡ serial_field (32 ∷ word.now)) }
 {
     plain_serial(word)
 }
 
 // the one serial behind blanks, with any zeros in front
 #[inline(never)]
-#[tactic(auto, unfolding(crate::specs::Said::place))]
+#[tactic(auto, unfolding(crate::specs::Tokens::serial_field))]
 fn any_place(bytes: &[u8]) -> Option<u16>
-    ensures { result ≡ place bytes.now }
+    ensures { result ≡ serial_field bytes.now }
 {
     if !is_set_off(bytes) {
         return None;
@@ -105,8 +105,8 @@ fn any_place(bytes: &[u8]) -> Option<u16>
 }
 
 /// The one serial behind blanks, with any zeros in front.
-pub fn place(bytes: &[u8]) -> Option<u16>
-    ensures { result ≡ place bytes.now }
+pub fn serial_field(bytes: &[u8]) -> Option<u16>
+    ensures { result ≡ serial_field bytes.now }
 {
     if let [b' ', word @ ..] = bytes {
         if let Some(serial) = behind_blank(word) {
@@ -117,7 +117,7 @@ pub fn place(bytes: &[u8]) -> Option<u16>
 }
 
 /// The words of bytes, all of them serials without zeros in front.
-#[tactic(auto, unfolding(crate::specs::Said::serials))]
+#[tactic(auto, unfolding(crate::specs::Tokens::serials))]
 fn serials(alloc: Global, bytes: &[u8]) -> Result<Option<Serials>, Memory>
     ensures { IfOk result (λ o. o ≡ serials (words bytes.now)) }
 {
@@ -134,7 +134,7 @@ fn serials(alloc: Global, bytes: &[u8]) -> Result<Option<Serials>, Memory>
 }
 
 /// What stands on the line of a list: serials, each behind blanks, or blanks or nothing.
-#[tactic(auto, unfolding(crate::specs::Said::listed))]
+#[tactic(auto, unfolding(crate::specs::Tokens::listed))]
 pub fn listed(alloc: Global, bytes: &[u8]) -> Result<Option<Serials>, Memory>
     ensures { IfOk result (λ o. o ≡ listed bytes.now) }
 {

@@ -1,4 +1,4 @@
-//! Which text a flag may have.
+//! ListKind text a flag may have.
 ghost use Rattle.std.specs.Prelude.{◌≡◌};
 ghost use Rattle.std.specs.List.{list_all};
 ghost use Rattle.sccs_sid.specs.Words.{words};

@@ -8,17 +8,17 @@ ghost use Rattle.sccs_grammar.specs.Entries.{with_entry};
 ghost use Rattle.sccs_grammar.specs.Front.{ParsedFront, all_below, at_description, at_flags, at_lists, at_table, at_texts, at_users, front_from, start, with_comments, with_exclude, with_ignore, with_include, with_mrs};
 ghost use Rattle.sccs_grammar.specs.File.{IsSFile};
 ghost use Rattle.sccs_grammar.specs.Items.{items_from};
-ghost use Rattle.sccs_grammar.specs.Said.{said};
+ghost use Rattle.sccs_grammar.specs.Tokens.{token};
 ghost use Rattle.sccs_grammar.specs.Written.{HasLines, IsItem, IsSerial, canonical, comment_line, counts_line, delta_line, delta_part, end_line, flag_line, item_line, list_lines, mr_line};
 
-use crate::readings::{Entry, Reading, Stood};
-use crate::sayings::Said;
+use crate::header_parsers::{Entry, HeaderParser, ListsSeen};
+use crate::line_tokens::LineToken;
 use crate::tables::Table;
 use sccs_history::{Flag, Header, Item, Record};
 
 /// A fault within the lines is the fault whatever lines follow, and whatever bytes follow the last LF.
 pub fn faults_stay()
-    ensures front { (lines more : List (List ℕ)) (n k : ℕ) (r : Reading)
+    ensures front { (lines more : List (List ℕ)) (n k : ℕ) (r : HeaderParser)
         → k < n + length lines → front_from n r lines ≡ Err k → front_from n r (lines ++ more) ≡ Err k }
     ensures body { (live : List ℕ) (lines more : List (List ℕ)) (tail later : List ℕ) (n k : ℕ) (before : List Item)
         → k < n + length lines → items_from live n before lines tail ≡ Err k
@@ -50,30 +50,30 @@ pub fn short_parts_again()
 
 /// The counts, the lists, the MRs and the comments of an entry that are written are read again.
 pub fn entry_parts_again()
-    ensures counts { (i d u : ℕ) → i < 100000 → d < 100000 → u < 100000 → said (counts_line i d u) ≡ Some (Said.Counts i d u) }
-    ensures include { (n : ℕ) (entries : Table) (e : Entry) (stood : Stood) (ns : List ℕ) (rest : List (List ℕ))
-        → AllByRecursion IsSerial ns → e.row.include ≡ [] → stood.included ≡ false
+    ensures counts { (i d u : ℕ) → i < 100000 → d < 100000 → u < 100000 → token (counts_line i d u) ≡ Some (LineToken.Counts i d u) }
+    ensures include { (n : ℕ) (entries : Table) (e : Entry) (seen : ListsSeen) (ns : List ℕ) (rest : List (List ℕ))
+        → AllByRecursion IsSerial ns → e.row.include ≡ [] → seen.included ≡ false
         → all_below e.row.serial ns ≡ true → share ns e.row.exclude ≡ false
-        → front_from n (at_lists entries e stood) (list_lines 105 ns ++ rest)
-        ≡ front_from (n + length (list_lines 105 ns)) (at_lists entries (with_include e ns) (record stood { included = not (is_empty ns) })) rest }
-    ensures exclude { (n : ℕ) (entries : Table) (e : Entry) (stood : Stood) (ns : List ℕ) (rest : List (List ℕ))
-        → AllByRecursion IsSerial ns → e.row.exclude ≡ [] → stood.excluded ≡ false
+        → front_from n (at_lists entries e seen) (list_lines 105 ns ++ rest)
+        ≡ front_from (n + length (list_lines 105 ns)) (at_lists entries (with_include e ns) (record seen { included = not (is_empty ns) })) rest }
+    ensures exclude { (n : ℕ) (entries : Table) (e : Entry) (seen : ListsSeen) (ns : List ℕ) (rest : List (List ℕ))
+        → AllByRecursion IsSerial ns → e.row.exclude ≡ [] → seen.excluded ≡ false
         → all_below e.row.serial ns ≡ true → share ns e.row.include ≡ false
-        → front_from n (at_lists entries e stood) (list_lines 120 ns ++ rest)
-        ≡ front_from (n + length (list_lines 120 ns)) (at_lists entries (with_exclude e ns) (record stood { excluded = not (is_empty ns) })) rest }
-    ensures ignore { (n : ℕ) (entries : Table) (e : Entry) (stood : Stood) (ns : List ℕ) (rest : List (List ℕ))
-        → AllByRecursion IsSerial ns → e.row.ignore ≡ [] → stood.ignored ≡ false → all_below e.row.serial ns ≡ true
-        → front_from n (at_lists entries e stood) (list_lines 103 ns ++ rest)
-        ≡ front_from (n + length (list_lines 103 ns)) (at_lists entries (with_ignore e ns) (record stood { ignored = not (is_empty ns) })) rest }
-    ensures texts { (n : ℕ) (entries : Table) (e : Entry) (stood : Stood) (mrs comments rest : List (List ℕ))
-        → front_from n (at_lists entries e stood) (map mr_line mrs ++ (map comment_line comments ++ (end_line ∷ rest)))
+        → front_from n (at_lists entries e seen) (list_lines 120 ns ++ rest)
+        ≡ front_from (n + length (list_lines 120 ns)) (at_lists entries (with_exclude e ns) (record seen { excluded = not (is_empty ns) })) rest }
+    ensures ignore { (n : ℕ) (entries : Table) (e : Entry) (seen : ListsSeen) (ns : List ℕ) (rest : List (List ℕ))
+        → AllByRecursion IsSerial ns → e.row.ignore ≡ [] → seen.ignored ≡ false → all_below e.row.serial ns ≡ true
+        → front_from n (at_lists entries e seen) (list_lines 103 ns ++ rest)
+        ≡ front_from (n + length (list_lines 103 ns)) (at_lists entries (with_ignore e ns) (record seen { ignored = not (is_empty ns) })) rest }
+    ensures texts { (n : ℕ) (entries : Table) (e : Entry) (seen : ListsSeen) (mrs comments rest : List (List ℕ))
+        → front_from n (at_lists entries e seen) (map mr_line mrs ++ (map comment_line comments ++ (end_line ∷ rest)))
         ≡ front_from (suc (n + length mrs + length comments)) (at_table (with_entry entries (with_comments (with_mrs e mrs) comments))) rest }
 {}
 
 /// A delta line that is written says its record.
 pub fn delta_again()
     ensures { (r : Record) → HasSpelling r → IsSerial r.serial → r.predecessor < 65536
-        → said (delta_line r) ≡ Some (Said.Delta (delta_part r)) }
+        → token (delta_line r) ≡ Some (LineToken.Delta (delta_part r)) }
 {}
 
 /// The items of a whole body that are written are read again.

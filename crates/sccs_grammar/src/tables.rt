@@ -6,11 +6,11 @@ ghost use Rattle.sccs_history.specs.Applied.{serials_of};
 ghost use Rattle.sccs_history.specs.History.{lives};
 ghost use Rattle.sccs_history.specs.Numbers.{has};
 ghost use Rattle.sccs_grammar.specs.Entries.{no_entries, with_entry};
-ghost use Rattle.sccs_grammar.specs.Front.{Hears, lost, may_follow};
+ghost use Rattle.sccs_grammar.specs.Front.{Accepts, dangling_predecessor, may_follow};
 ghost use Rattle.sccs_grammar.specs.HeldTable.{HasSerials, HasSids};
 ghost use Rattle.sccs_grammar.specs.SidKeys.{sid_key};
 
-use crate::readings::{Entry, FrontFault};
+use crate::header_parsers::{Entry, FrontFault};
 use crate::table_tests::least;
 use sccs_base::ListOf;
 use sccs_history::{Record, Records};
@@ -72,9 +72,13 @@ fn is_there(serials: &BTreeSet<u16, Global>, table: &[Record], at: usize, n: u16
 }
 
 // the delta line of the first entry whose predecessor is neither 0 nor among the serials
-fn lost(serials: &BTreeSet<u16, Global>, table: &[Record], lines: &[u64]) -> Option<u64>
+fn dangling_predecessor(
+    serials: &BTreeSet<u16, Global>,
+    table: &[Record],
+    lines: &[u64],
+) -> Option<u64>
     requires { HasSerials serials.now table.now }
-    ensures { result ≡ lost table.now table.now lines.now }
+    ensures { result ≡ dangling_predecessor table.now table.now lines.now }
 {
     for (at, record) in table.iter().enumerate() {
         let Some(line) = lines.get(at) else {
@@ -133,10 +137,10 @@ impl Table {
     }
 
     /// The delta line of the first entry whose predecessor is neither 0 nor in the table.
-    pub fn lost(&self) -> Option<u64>
-        ensures { result ≡ lost self.now.records self.now.records self.now.lines }
+    pub fn dangling_predecessor(&self) -> Option<u64>
+        ensures { result ≡ dangling_predecessor self.now.records self.now.records self.now.lines }
     {
-        lost(&self.serials, self.records.items(), self.lines.items())
+        dangling_predecessor(&self.serials, self.records.items(), self.lines.items())
     }
 }
 
@@ -173,7 +177,7 @@ fn with_sid(
 
 /// A table with an entry more.
 pub fn with_entry(table: Table, entry: Entry) -> Result<Table, FrontFault>
-    ensures { Hears result (Ok (with_entry table entry)) }
+    ensures { Accepts result (Ok (with_entry table entry)) }
 {
     let Table {
         mut records,

@@ -8,7 +8,7 @@ use Rattle.sccs_grammar.specs.Front.{ParsedFront, front_from, start}
 use Rattle.sccs_grammar.specs.Sums.{plain_sum}
 use Rattle.sccs_grammar.specs.declared.faults.FileFault.{FileFault}
 use Rattle.sccs_grammar.specs.declared.faults.FileFault.TheVariants.{NotSccs, BadSum, BadFormat}
-use Rattle.sccs_grammar.proofs.ReadingRules.{lines_keep_rules}
+use Rattle.sccs_grammar.proofs.ParserRules.{lines_keep_rules}
 use Rattle.sccs_grammar_laws.specs.HeaderLines.{BeginSFile}
 use Rattle.sccs_grammar_laws.proofs.HeaderMade.{header_begins}
 use Rattle.sccs_grammar_laws.proofs.HeaderShape.{header_shape}

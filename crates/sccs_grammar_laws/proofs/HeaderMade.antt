@@ -9,87 +9,87 @@ use Rattle.sccs_history.specs.History.{IsFlag, IsRecord, KeepsRules, has_own_let
 use Rattle.sccs_history.specs.declared.headers.Record.{Record}
 use Rattle.sccs_history.specs.declared.headers.Flag.{Flag}
 use Rattle.sccs_history.specs.declared.headers.Header.{Header}
-use Rattle.sccs_grammar.specs.Front.{ParsedFront, all_below, ends_table, entry, flag_fits, front_from, if_fits, least, may_follow, none_stood, reading_at, start, table_alone, with_comment, with_mr}
+use Rattle.sccs_grammar.specs.Front.{ParsedFront, all_below, ends_table, entry, flag_fits, front_from, if_fits, least, may_follow, none_seen, parser_at, start, table_alone, with_comment, with_mr}
 use Rattle.sccs_grammar.specs.Written.{delta_part}
-use Rattle.sccs_grammar.specs.declared.readings.Entry.{Entry}
-use Rattle.sccs_grammar.specs.declared.readings.Parts.{Parts}
-use Rattle.sccs_grammar.specs.declared.readings.Place.TheVariants.{AtEntry, InLists, InTexts, InUsers, InFlags, InDescription, AtBody}
-use Rattle.sccs_grammar.specs.declared.readings.Reading.{Reading}
-use Rattle.sccs_grammar.specs.declared.readings.Stood.{Stood}
-use Rattle.sccs_grammar.specs.declared.sayings.Said.{Said}
-use Rattle.sccs_grammar.specs.declared.sayings.Said.TheVariants.{EndEntry, Users, EndUsers, FlagIs, EndDescription, Plain}
-use Rattle.sccs_grammar.specs.declared.sayings.Which.{Which}
-use Rattle.sccs_grammar.specs.declared.sayings.Which.TheVariants.{Included, Excluded, Ignored}
+use Rattle.sccs_grammar.specs.declared.header_parsers.Entry.{Entry}
+use Rattle.sccs_grammar.specs.declared.header_parsers.PartialHeader.{PartialHeader}
+use Rattle.sccs_grammar.specs.declared.header_parsers.HeaderState.TheVariants.{AtEntry, InLists, InTexts, InUsers, InFlags, InDescription, AtBody}
+use Rattle.sccs_grammar.specs.declared.header_parsers.HeaderParser.{HeaderParser}
+use Rattle.sccs_grammar.specs.declared.header_parsers.ListsSeen.{ListsSeen}
+use Rattle.sccs_grammar.specs.declared.line_tokens.LineToken.{LineToken}
+use Rattle.sccs_grammar.specs.declared.line_tokens.LineToken.TheVariants.{EndEntry, Users, EndUsers, FlagIs, EndDescription, Plain}
+use Rattle.sccs_grammar.specs.declared.line_tokens.ListKind.{ListKind}
+use Rattle.sccs_grammar.specs.declared.line_tokens.ListKind.TheVariants.{Included, Excluded, Ignored}
 use Rattle.sccs_grammar.proofs.EntryLaws.{AreOwn, all_own, each_differs, follows_by, least-push, none_lost, own_push, share-nil, share_flip, smaller_below}
 use Rattle.sccs_grammar.proofs.SectionLaws.{AreNew, all_new, still_new}
 use Rattle.sccs_grammar_laws.specs.HeaderLines.{AreHeaderLines, BeginWithHeader, EntryText, MrText, CommentText, EntryLines, IsEntry, list_of, same_list, mrs_in, comments_in, list_says, text_says, entry_says, users_say, description_says, header_says}
 use Rattle.sccs_grammar_laws.proofs.MoreRead.{more, no_texts, push_more, regroup, text_row}
-use Rattle.sccs_grammar_laws.proofs.Sayings.{completes, run}
+use Rattle.sccs_grammar_laws.proofs.TokenLists.{completes, run}
 
-at_other : (n : ℕ) (r s : Reading) (ss : List Said) → r ≡ s → run n r ss ≡ run n s ss
-at_other n r s ss same = ap (λ (x : Reading). run n x ss) same
+at_other : (n : ℕ) (r s : HeaderParser) (ss : List LineToken) → r ≡ s → run n r ss ≡ run n s ss
+at_other n r s ss same = ap (λ (x : HeaderParser). run n x ss) same
 
--- reading goes from here to there over these sayings, whatever follows
-abbrev Goes : ℕ → Reading → Reading → List Said → Type 0
-Goes n r s ss = (rest : List Said) → (m : ℕ) × (run n r (ss ++ rest) ≡ run m s rest)
+-- reading goes from here to there over these line_tokens, whatever follows
+abbrev Goes : ℕ → HeaderParser → HeaderParser → List LineToken → Type 0
+Goes n r s ss = (rest : List LineToken) → (m : ℕ) × (run n r (ss ++ rest) ≡ run m s rest)
 
 -- ---- users, flags and description
 
-users_go : (us : List (List ℕ)) (n : ℕ) (parts : Parts) → Goes n (reading_at InUsers parts) (reading_at InUsers (record parts { users = parts.users ++ us })) (map Plain us)
-users_go [] n parts rest = (n, at_other n _ _ rest (ap (λ (us : List (List ℕ)). reading_at InUsers (record parts { users = us })) (sym (append-nil parts.users))))
+users_go : (us : List (List ℕ)) (n : ℕ) (parts : PartialHeader) → Goes n (parser_at InUsers parts) (parser_at InUsers (record parts { users = parts.users ++ us })) (map Plain us)
+users_go [] n parts rest = (n, at_other n _ _ rest (ap (λ (us : List (List ℕ)). parser_at InUsers (record parts { users = us })) (sym (append-nil parts.users))))
 users_go (u ∷ us) n parts rest =
     let later = users_go us (suc n) (record parts { users = parts.users ++ u ∷ [] }) rest in
-    (later.0, later.1 ∙ at_other later.0 _ _ rest (ap (λ (vs : List (List ℕ)). reading_at InUsers (record parts { users = vs })) (push_more parts.users u us)))
+    (later.0, later.1 ∙ at_other later.0 _ _ rest (ap (λ (vs : List (List ℕ)). parser_at InUsers (record parts { users = vs })) (push_more parts.users u us)))
 
-description_goes : (ls : List (List ℕ)) (n : ℕ) (parts : Parts) → Goes n (reading_at InDescription parts) (reading_at InDescription (record parts { description = parts.description ++ ls })) (map Plain ls)
-description_goes [] n parts rest = (n, at_other n _ _ rest (ap (λ (ls : List (List ℕ)). reading_at InDescription (record parts { description = ls })) (sym (append-nil parts.description))))
+description_goes : (ls : List (List ℕ)) (n : ℕ) (parts : PartialHeader) → Goes n (parser_at InDescription parts) (parser_at InDescription (record parts { description = parts.description ++ ls })) (map Plain ls)
+description_goes [] n parts rest = (n, at_other n _ _ rest (ap (λ (ls : List (List ℕ)). parser_at InDescription (record parts { description = ls })) (sym (append-nil parts.description))))
 description_goes (l ∷ ls) n parts rest =
     let later = description_goes ls (suc n) (record parts { description = parts.description ++ l ∷ [] }) rest in
-    (later.0, later.1 ∙ at_other later.0 _ _ rest (ap (λ (vs : List (List ℕ)). reading_at InDescription (record parts { description = vs })) (push_more parts.description l ls)))
+    (later.0, later.1 ∙ at_other later.0 _ _ rest (ap (λ (vs : List (List ℕ)). parser_at InDescription (record parts { description = vs })) (push_more parts.description l ls)))
 
 -- where the test of a line holds
-fits_on : (test : Bool) (n : ℕ) (x : Reading) (ss : List Said) → test ≡ true → (if_fits test n x >>= λ q. run (suc n) q ss) ≡ run (suc n) x ss
+fits_on : (test : Bool) (n : ℕ) (x : HeaderParser) (ss : List LineToken) → test ≡ true → (if_fits test n x >>= λ q. run (suc n) q ss) ≡ run (suc n) x ss
 fits_on true n x ss is = refl
 fits_on false n x ss is = absurd cc
 
-flags_go : (fs : List Flag) (n : ℕ) (parts : Parts) → AllByRecursion IsFlag fs → has_own_letters fs ≡ true → AreNew parts.flags fs
-    → Goes n (reading_at InFlags parts) (reading_at InFlags (record parts { flags = parts.flags ++ fs })) (map FlagIs fs)
-flags_go [] n parts are own new rest = (n, at_other n _ _ rest (ap (λ (fs : List Flag). reading_at InFlags (record parts { flags = fs })) (sym (append-nil parts.flags))))
+flags_go : (fs : List Flag) (n : ℕ) (parts : PartialHeader) → AllByRecursion IsFlag fs → has_own_letters fs ≡ true → AreNew parts.flags fs
+    → Goes n (parser_at InFlags parts) (parser_at InFlags (record parts { flags = parts.flags ++ fs })) (map FlagIs fs)
+flags_go [] n parts are own new rest = (n, at_other n _ _ rest (ap (λ (fs : List Flag). parser_at InFlags (record parts { flags = fs })) (sym (append-nil parts.flags))))
 flags_go (f ∷ fs) n parts are own new rest =
     let letters = and_parts (not (list_any (λ g. g.letter == f.letter) fs)) (has_own_letters fs) own in
-    let one : Parts = record parts { flags = parts.flags ++ f ∷ [] } in
+    let one : PartialHeader = record parts { flags = parts.flags ++ f ∷ [] } in
     let later = flags_go fs (suc n) one are.1 letters.1 (still_new parts.flags f fs new.1 (not-true _ letters.0)) rest in
     let test : (flag_fits f && is_new parts.flags f) ≡ true = rw (are.0.letter, are.0.text, new.0) refl in (
       later.0,
-      fits_on (flag_fits f && is_new parts.flags f) n (reading_at InFlags one) (map FlagIs fs ++ rest) test
-          ∙ (later.1 ∙ at_other later.0 _ _ rest (ap (λ (gs : List Flag). reading_at InFlags (record parts { flags = gs })) (push_more parts.flags f fs))),
+      fits_on (flag_fits f && is_new parts.flags f) n (parser_at InFlags one) (map FlagIs fs ++ rest) test
+          ∙ (later.1 ∙ at_other later.0 _ _ rest (ap (λ (gs : List Flag). parser_at InFlags (record parts { flags = gs })) (push_more parts.flags f fs))),
     )
 
 -- ---- an entry
 
-texts_go : (texts : List EntryText) (n : ℕ) (parts : Parts) (e : Entry) (rest : List Said)
-    → (m : ℕ) × (run n (reading_at (InTexts e) parts) (map text_says texts ++ (EndEntry ∷ rest)) ≡ run m (reading_at AtEntry (more parts e.line (text_row e.row texts))) rest)
+texts_go : (texts : List EntryText) (n : ℕ) (parts : PartialHeader) (e : Entry) (rest : List LineToken)
+    → (m : ℕ) × (run n (parser_at (InTexts e) parts) (map text_says texts ++ (EndEntry ∷ rest)) ≡ run m (parser_at AtEntry (more parts e.line (text_row e.row texts))) rest)
 texts_go [] n parts e rest =
-    (suc n, at_other (suc n) _ _ rest (ap (λ (r : Record). reading_at AtEntry (more parts e.line r)) (no_texts e.row)))
+    (suc n, at_other (suc n) _ _ rest (ap (λ (r : Record). parser_at AtEntry (more parts e.line r)) (no_texts e.row)))
 texts_go (MrText t ∷ texts) n parts e rest =
     let later = texts_go texts (suc n) parts (with_mr e t) rest in
-    (later.0, later.1 ∙ at_other later.0 _ _ rest (ap (λ (ms : List (List ℕ)). reading_at AtEntry (more parts e.line (record e.row { mrs = ms; comments = e.row.comments ++ comments_in texts }))) (push_more e.row.mrs t (mrs_in texts))))
+    (later.0, later.1 ∙ at_other later.0 _ _ rest (ap (λ (ms : List (List ℕ)). parser_at AtEntry (more parts e.line (record e.row { mrs = ms; comments = e.row.comments ++ comments_in texts }))) (push_more e.row.mrs t (mrs_in texts))))
 texts_go (CommentText t ∷ texts) n parts e rest =
     let later = texts_go texts (suc n) parts (with_comment e t) rest in
-    (later.0, later.1 ∙ at_other later.0 _ _ rest (ap (λ (cs : List (List ℕ)). reading_at AtEntry (more parts e.line (record e.row { mrs = e.row.mrs ++ mrs_in texts; comments = cs }))) (push_more e.row.comments t (comments_in texts))))
+    (later.0, later.1 ∙ at_other later.0 _ _ rest (ap (λ (cs : List (List ℕ)). parser_at AtEntry (more parts e.line (record e.row { mrs = e.row.mrs ++ mrs_in texts; comments = cs }))) (push_more e.row.comments t (comments_in texts))))
 
 -- no list comes any more
-to_texts : (texts : List EntryText) (n : ℕ) (parts : Parts) (e : Entry) (stood : Stood) (rest : List Said)
-    → run n (reading_at (InLists e stood) parts) (map text_says texts ++ (EndEntry ∷ rest)) ≡ run n (reading_at (InTexts e) parts) (map text_says texts ++ (EndEntry ∷ rest))
-to_texts [] n parts e stood rest = refl
-to_texts (MrText t ∷ texts) n parts e stood rest = refl
-to_texts (CommentText t ∷ texts) n parts e stood rest = refl
+to_texts : (texts : List EntryText) (n : ℕ) (parts : PartialHeader) (e : Entry) (seen : ListsSeen) (rest : List LineToken)
+    → run n (parser_at (InLists e seen) parts) (map text_says texts ++ (EndEntry ∷ rest)) ≡ run n (parser_at (InTexts e) parts) (map text_says texts ++ (EndEntry ∷ rest))
+to_texts [] n parts e seen rest = refl
+to_texts (MrText t ∷ texts) n parts e seen rest = refl
+to_texts (CommentText t ∷ texts) n parts e seen rest = refl
 
-abbrev stands : List Which → Which → Bool
+abbrev stands : List ListKind → ListKind → Bool
 stands done which = list_any (same_list which) done
 
 -- a record of which these lists were read, and neither MRs nor comments
-abbrev row_with : Record → List Which → Record
+abbrev row_with : Record → List ListKind → Record
 row_with r done = record r {
   include = cond (stands done Included) r.include [];
   exclude = cond (stands done Excluded) r.exclude [];
@@ -98,18 +98,18 @@ row_with r done = record r {
   comments = [];
 }
 
-abbrev held : ℕ → Record → List Which → Entry
+abbrev held : ℕ → Record → List ListKind → Entry
 held line r done = record { line = line; row = row_with r done }
 
-abbrev stood_by : List Which → Stood
+abbrev stood_by : List ListKind → ListsSeen
 stood_by done = record { included = stands done Included; excluded = stands done Excluded; ignored = stands done Ignored }
 
 share_kept : (test : Bool) (ms ns : List ℕ) → share ms ns ≡ false → share ms (cond test ns []) ≡ false
 share_kept true ms ns apart = apart
 share_kept false ms ns apart = share-nil ms
 
-list_goes : (which : Which) (n : ℕ) (parts : Parts) (line : ℕ) (all : List Record) (r : Record) (done : List Which) (ss : List Said) → IsRecord all r → stands done which ≡ false
-    → run n (reading_at (InLists (held line r done) (stood_by done)) parts) (list_says r which ∷ ss) ≡ run (suc n) (reading_at (InLists (held line r (which ∷ done)) (stood_by (which ∷ done))) parts) ss
+list_goes : (which : ListKind) (n : ℕ) (parts : PartialHeader) (line : ℕ) (all : List Record) (r : Record) (done : List ListKind) (ss : List LineToken) → IsRecord all r → stands done which ≡ false
+    → run n (parser_at (InLists (held line r done) (stood_by done)) parts) (list_says r which ∷ ss) ≡ run (suc n) (parser_at (InLists (held line r (which ∷ done)) (stood_by (which ∷ done))) parts) ss
 list_goes Included n parts line all r done ss is new =
     let apart = share_kept (stands done Excluded) r.include r.exclude is.apart in
     fits_on (not (stands done Included) && all_below r.serial r.include && not (share r.include (cond (stands done Excluded) r.exclude []))) n _ ss (rw (new, smaller_below r.serial r.include is.include, apart) refl)
@@ -119,7 +119,7 @@ list_goes Excluded n parts line all r done ss is new =
 list_goes Ignored n parts line all r done ss is new =
     fits_on (not (stands done Ignored) && all_below r.serial r.ignore) n _ ss (rw (new, smaller_below r.serial r.ignore is.ignore) refl)
 
-flip_list : (v w : Which) → same_list w v ≡ false → same_list v w ≡ false
+flip_list : (v w : ListKind) → same_list w v ≡ false → same_list v w ≡ false
 flip_list Included Included other = other
 flip_list Included Excluded other = refl
 flip_list Included Ignored other = refl
@@ -130,7 +130,7 @@ flip_list Ignored Included other = refl
 flip_list Ignored Excluded other = refl
 flip_list Ignored Ignored other = other
 
-still_new_lists : (w : Which) (done ws : List Which) → AllByRecursion (λ v. same_list w v ≡ false) ws → AllByRecursion (λ v. stands done v ≡ false) ws → AllByRecursion (λ v. stands (w ∷ done) v ≡ false) ws
+still_new_lists : (w : ListKind) (done ws : List ListKind) → AllByRecursion (λ v. same_list w v ≡ false) ws → AllByRecursion (λ v. stands done v ≡ false) ws → AllByRecursion (λ v. stands (w ∷ done) v ≡ false) ws
 still_new_lists w done [] others new = tt
 still_new_lists w done (v ∷ ws) others new = (or_from (same_list v w) (stands done v) (flip_list v w others.0) new.0, still_new_lists w done ws others.1 new.1)
 
@@ -140,12 +140,12 @@ swap_or true false c = refl
 swap_or false true c = refl
 swap_or false false c = refl
 
-abbrev ListsGo : ℕ → Parts → ℕ → Record → List Which → List Which → List Said → Type 0
+abbrev ListsGo : ℕ → PartialHeader → ℕ → Record → List ListKind → List ListKind → List LineToken → Type 0
 ListsGo n parts line r ws done rest =
-    (m : ℕ) × ((last : List Which) × (((w : Which) → stands last w ≡ (stands ws w || stands done w))
-    × (run n (reading_at (InLists (held line r done) (stood_by done)) parts) (map (list_says r) ws ++ rest) ≡ run m (reading_at (InLists (held line r last) (stood_by last)) parts) rest)))
+    (m : ℕ) × ((last : List ListKind) × (((w : ListKind) → stands last w ≡ (stands ws w || stands done w))
+    × (run n (parser_at (InLists (held line r done) (stood_by done)) parts) (map (list_says r) ws ++ rest) ≡ run m (parser_at (InLists (held line r last) (stood_by last)) parts) rest)))
 
-lists_go : (ws done : List Which) (n : ℕ) (parts : Parts) (line : ℕ) (all : List Record) (r : Record) (rest : List Said) → IsRecord all r → IsDistinct same_list ws → AllByRecursion (λ w. stands done w ≡ false) ws
+lists_go : (ws done : List ListKind) (n : ℕ) (parts : PartialHeader) (line : ℕ) (all : List Record) (r : Record) (rest : List LineToken) → IsRecord all r → IsDistinct same_list ws → AllByRecursion (λ w. stands done w ≡ false) ws
     → ListsGo n parts line r ws done rest
 unfolding IsDistinct
 lists_go [] done n parts line all r rest is distinct new = (n, (done, (λ w. refl, refl)))
@@ -153,7 +153,7 @@ lists_go (w ∷ ws) done n parts line all r rest is distinct new =
     let later = lists_go ws (w ∷ done) (suc n) parts line all r rest is distinct.1 (still_new_lists w done ws distinct.0 new.1) in
     (later.0, (later.1.0, (λ v. later.1.1.0 v ∙ swap_or (stands ws v) (same_list v w) (stands done v), list_goes w n parts line all r done (map (list_says r) ws ++ rest) is new.0 ∙ later.1.1.1)))
 
-none_done : (ws : List Which) → AllByRecursion (λ w. stands [] w ≡ false) ws
+none_done : (ws : List ListKind) → AllByRecursion (λ w. stands [] w ≡ false) ws
 none_done [] = tt
 none_done (w ∷ ws) = (refl, none_done ws)
 
@@ -169,9 +169,9 @@ or_none false = refl
 abbrev rowed : Record → List ℕ → List ℕ → List ℕ → List (List ℕ) → List (List ℕ) → Record
 rowed r include exclude ignore mrs comments = record r { include = include; exclude = exclude; ignore = ignore; mrs = mrs; comments = comments }
 
-same_row : (e : EntryLines) (last : List Which) → IsEntry e → ((w : Which) → stands last w ≡ (stands e.lists w || false)) → text_row (row_with e.row last) e.texts ≡ e.row
+same_row : (e : EntryLines) (last : List ListKind) → IsEntry e → ((w : ListKind) → stands last w ≡ (stands e.lists w || false)) → text_row (row_with e.row last) e.texts ≡ e.row
 same_row e last is same =
-    let kept : (w : Which) → cond (stands last w) (list_of e.row w) [] ≡ list_of e.row w = λ w. list_kept (stands last w) (list_of e.row w) (λ gone. is.others w (sym (same w ∙ or_none (stands e.lists w)) ∙ gone)) in
+    let kept : (w : ListKind) → cond (stands last w) (list_of e.row w) [] ≡ list_of e.row w = λ w. list_kept (stands last w) (list_of e.row w) (λ gone. is.others w (sym (same w ∙ or_none (stands e.lists w)) ∙ gone)) in
     let r : Record = e.row in
     ap (λ (ns : List ℕ). rowed r ns (cond (stands last Excluded) r.exclude []) (cond (stands last Ignored) r.ignore []) (mrs_in e.texts) (comments_in e.texts)) (kept Included)
     ∙ (ap (λ (ns : List ℕ). rowed r r.include ns (cond (stands last Ignored) r.ignore []) (mrs_in e.texts) (comments_in e.texts)) (kept Excluded)
@@ -179,23 +179,23 @@ same_row e last is same =
     ∙ (ap (λ (ts : List (List ℕ)). rowed r r.include r.exclude r.ignore ts (comments_in e.texts)) is.mrs
     ∙ ap (λ (ts : List (List ℕ)). rowed r r.include r.exclude r.ignore r.mrs ts) is.comments)))
 
-entry_goes : (e : EntryLines) (n : ℕ) (parts : Parts) (all : List Record) (rest : List Said) → IsEntry e → IsRecord all e.row → may_follow (delta_part e.row) parts.table.records ≡ true
-    → (m : ℕ) × (run n (reading_at AtEntry parts) (entry_says e ++ rest) ≡ run m (reading_at AtEntry (more parts (suc n) e.row)) rest)
+entry_goes : (e : EntryLines) (n : ℕ) (parts : PartialHeader) (all : List Record) (rest : List LineToken) → IsEntry e → IsRecord all e.row → may_follow (delta_part e.row) parts.table.records ≡ true
+    → (m : ℕ) × (run n (parser_at AtEntry parts) (entry_says e ++ rest) ≡ run m (parser_at AtEntry (more parts (suc n) e.row)) rest)
 entry_goes e n parts all rest is is_row follows =
     let r : Record = e.row in
-    let lists : List Said = map (list_says r) e.lists in
-    let texts : List Said = map text_says e.texts in
-    let after_lists : List Said = texts ++ (EndEntry ∷ rest) in
+    let lists : List LineToken = map (list_says r) e.lists in
+    let texts : List LineToken = map text_says e.texts in
+    let after_lists : List LineToken = texts ++ (EndEntry ∷ rest) in
     let listed = lists_go e.lists [] (suc (suc n)) parts (suc n) all r after_lists is_row is.once (none_done e.lists) in
     let final : Entry = held (suc n) r listed.1.0 in
     let texted = texts_go e.texts listed.0 parts final rest in
-    let begun : Reading = reading_at (InLists (entry (suc n) r.inserted r.deleted r.unchanged (delta_part r)) none_stood) parts in (
+    let begun : HeaderParser = parser_at (InLists (entry (suc n) r.inserted r.deleted r.unchanged (delta_part r)) none_seen) parts in (
       texted.0,
       fits_on (may_follow (delta_part r) parts.table.records) (suc n) begun ((lists ++ (texts ++ (EndEntry ∷ []))) ++ rest) follows
-          ∙ (ap (λ (os : List Said). run (suc (suc n)) begun os) (regroup lists texts rest EndEntry)
+          ∙ (ap (λ (os : List LineToken). run (suc (suc n)) begun os) (regroup lists texts rest EndEntry)
           ∙ (listed.1.1.1
           ∙ (to_texts e.texts listed.0 parts final (stood_by listed.1.0) rest
-          ∙ (texted.1 ∙ at_other texted.0 _ _ rest (ap (λ (x : Record). reading_at AtEntry (more parts (suc n) x)) (same_row e listed.1.0 is listed.1.1.0)))))),
+          ∙ (texted.1 ∙ at_other texted.0 _ _ rest (ap (λ (x : Record). parser_at AtEntry (more parts (suc n) x)) (same_row e listed.1.0 is listed.1.1.0)))))),
     )
 
 -- ---- the table
@@ -203,14 +203,14 @@ entry_goes e n parts all rest is is_row follows =
 abbrev rows_of : List EntryLines → List Record
 rows_of entries = map (λ e. e.row) entries
 
-abbrev at_table : List Record → List ℕ → Reading
-at_table above lines = reading_at AtEntry (table_alone (record { records = above; lines = lines }))
+abbrev at_table : List Record → List ℕ → HeaderParser
+at_table above lines = parser_at AtEntry (table_alone (record { records = above; lines = lines }))
 
-abbrev TableGoes : ℕ → List Record → List ℕ → List EntryLines → List Said → Type 0
+abbrev TableGoes : ℕ → List Record → List ℕ → List EntryLines → List LineToken → Type 0
 TableGoes n above lines entries rest =
     (m : ℕ) × ((last : List ℕ) × (run n (at_table above lines) (flat_map entry_says entries ++ rest) ≡ run m (at_table (above ++ rows_of entries) last) rest))
 
-table_goes : (entries : List EntryLines) (n : ℕ) (above : List Record) (lines : List ℕ) (all : List Record) (rest : List Said) → AllByRecursion IsEntry entries
+table_goes : (entries : List EntryLines) (n : ℕ) (above : List Record) (lines : List ℕ) (all : List Record) (rest : List LineToken) → AllByRecursion IsEntry entries
     → least 65536 above ≤ 65536 → Falls (least 65536 above) (serials_of (rows_of entries)) → AllByRecursion (IsRecord all) (rows_of entries) → has_own_sids (rows_of entries) ≡ true → AreOwn above (rows_of entries)
     → TableGoes n above lines entries rest
 table_goes [] n above lines all rest each bound falls are sids own = (n, (lines, at_other n _ _ rest (ap (λ (rs : List Record). at_table rs lines) (sym (append-nil above)))))
@@ -224,41 +224,41 @@ table_goes (e ∷ entries) n above lines all rest each bound falls are sids own 
       others.0,
       (
         others.1.0,
-        ap (λ (os : List Said). run n (at_table above lines) os) (append_assoc (entry_says e) (flat_map entry_says entries) rest)
+        ap (λ (os : List LineToken). run n (at_table above lines) os) (append_assoc (entry_says e) (flat_map entry_says entries) rest)
             ∙ (first.1 ∙ (others.1.1 ∙ at_other others.0 _ _ rest (ap (λ (xs : List Record). at_table xs others.1.0) (push_more above r rs)))),
       ),
     )
 
 -- ---- a header
 
-abbrev whole : List Record → List ℕ → Header → Reading
-whole rs last h = reading_at AtBody (record { table = record { records = rs; lines = last }; users = h.users; flags = h.flags; description = h.description })
+abbrev whole : List Record → List ℕ → Header → HeaderParser
+whole rs last h = parser_at AtBody (record { table = record { records = rs; lines = last }; users = h.users; flags = h.flags; description = h.description })
 
-table_ends : (m : ℕ) (rs : List Record) (last : List ℕ) (ss : List Said) → is_empty rs ≡ false → AllByRecursion (IsRecord rs) rs
-    → run m (at_table rs last) (Users ∷ ss) ≡ run (suc m) (reading_at InUsers (at_table rs last).parts) ss
+table_ends : (m : ℕ) (rs : List Record) (last : List ℕ) (ss : List LineToken) → is_empty rs ≡ false → AllByRecursion (IsRecord rs) rs
+    → run m (at_table rs last) (Users ∷ ss) ≡ run (suc m) (parser_at InUsers (at_table rs last).parts) ss
 table_ends m rs last ss some are =
     ap (λ (o : Option ℕ). ends_table m (at_table rs last).parts o >>= λ q. run (suc m) q ss) (none_lost rs rs last are)
-    ∙ fits_on (not (is_empty rs)) m (reading_at InUsers (at_table rs last).parts) ss (ap not some)
+    ∙ fits_on (not (is_empty rs)) m (parser_at InUsers (at_table rs last).parts) ss (ap not some)
 
 rest_goes : (m : ℕ) (rs : List Record) (last : List ℕ) (h : Header) → AllByRecursion IsFlag h.flags → has_own_letters h.flags ≡ true
-    → run m (reading_at InUsers (at_table rs last).parts) ((map Plain h.users ++ (EndUsers ∷ [])) ++ (map FlagIs h.flags ++ description_says h.description)) ≡ Ok (whole rs last h)
+    → run m (parser_at InUsers (at_table rs last).parts) ((map Plain h.users ++ (EndUsers ∷ [])) ++ (map FlagIs h.flags ++ description_says h.description)) ≡ Ok (whole rs last h)
 rest_goes m rs last h are own =
-    let parts : Parts = (at_table rs last).parts in
-    let with_users : Parts = record parts { users = h.users } in
-    let with_flags : Parts = record with_users { flags = h.flags } in
-    let described : List Said = description_says h.description in
-    let flagged : List Said = map FlagIs h.flags ++ described in
+    let parts : PartialHeader = (at_table rs last).parts in
+    let with_users : PartialHeader = record parts { users = h.users } in
+    let with_flags : PartialHeader = record with_users { flags = h.flags } in
+    let described : List LineToken = description_says h.description in
+    let flagged : List LineToken = map FlagIs h.flags ++ described in
     let users = users_go h.users m parts (EndUsers ∷ flagged) in
     let flags = flags_go h.flags (suc users.0) with_users are own (all_new h.flags) described in
     let lines = description_goes h.description (suc flags.0) with_flags (EndDescription ∷ []) in
-    ap (λ (os : List Said). run m (reading_at InUsers parts) os) (append_assoc (map Plain h.users) (EndUsers ∷ []) flagged)
+    ap (λ (os : List LineToken). run m (parser_at InUsers parts) os) (append_assoc (map Plain h.users) (EndUsers ∷ []) flagged)
     ∙ (users.1 ∙ (flags.1 ∙ lines.1))
 
 header_goes : (n : ℕ) (entries : List EntryLines) (h : Header) → AllByRecursion IsEntry entries → rows_of entries ≡ h.records → KeepsRules h
     → (last : List ℕ) × (run n start (header_says entries h) ≡ Ok (whole h.records last h))
 header_goes n entries h each same keeps =
     let rs : List Record = rows_of entries in
-    let later : List Said = users_say h.users ++ (map FlagIs h.flags ++ description_says h.description) in
+    let later : List LineToken = users_say h.users ++ (map FlagIs h.flags ++ description_says h.description) in
     let falls : Falls 65536 (serials_of rs) = subst (λ (xs : List Record). Falls 65536 (serials_of xs)) (sym same) keeps.table.falls in
     let are : AllByRecursion (IsRecord rs) rs = subst (λ (xs : List Record). AllByRecursion (IsRecord xs) xs) (sym same) keeps.table.each in
     let sids : has_own_sids rs ≡ true = ap has_own_sids same ∙ keeps.table.sids in

@@ -4,4 +4,4 @@ pub mod HeaderMade
 pub mod HeaderPrefixes
 pub mod HeaderShape
 pub mod MoreRead
-pub mod Sayings
+pub mod TokenLists

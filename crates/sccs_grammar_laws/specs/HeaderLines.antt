@@ -6,12 +6,12 @@ use Rattle.sccs_history.specs.declared.headers.Record.{Record}
 use Rattle.sccs_history.specs.declared.headers.Header.{Header}
 use Rattle.sccs_grammar.specs.File.{stored, sum_holds}
 use Rattle.sccs_grammar.specs.Front.{ParsedFront}
-use Rattle.sccs_grammar.specs.Said.{said}
+use Rattle.sccs_grammar.specs.Tokens.{token}
 use Rattle.sccs_grammar.specs.Written.{delta_part}
-use Rattle.sccs_grammar.specs.declared.sayings.Said.{Said}
-use Rattle.sccs_grammar.specs.declared.sayings.Said.TheVariants.{Counts, Delta, Listed, Mr, Comment, EndEntry, Users, EndUsers, FlagIs, Description, EndDescription, Plain}
-use Rattle.sccs_grammar.specs.declared.sayings.Which.{Which}
-use Rattle.sccs_grammar.specs.declared.sayings.Which.TheVariants.{Included, Excluded, Ignored}
+use Rattle.sccs_grammar.specs.declared.line_tokens.LineToken.{LineToken}
+use Rattle.sccs_grammar.specs.declared.line_tokens.LineToken.TheVariants.{Counts, Delta, Listed, Mr, Comment, EndEntry, Users, EndUsers, FlagIs, Description, EndDescription, Plain}
+use Rattle.sccs_grammar.specs.declared.line_tokens.ListKind.{ListKind}
+use Rattle.sccs_grammar.specs.declared.line_tokens.ListKind.TheVariants.{Included, Excluded, Ignored}
 
 -- ---- an entry of the table
 
@@ -23,15 +23,15 @@ pub data EntryText : Type 0 where
 -- The entry of a record: which of its lists stand, in this order, and its MRs and comments as they are mixed.
 pub record EntryLines : Type 0 where
   pub row : Record
-  pub lists : List Which
+  pub lists : List ListKind
   pub texts : List EntryText
 
-abbrev pub list_of : Record → Which → List ℕ
+abbrev pub list_of : Record → ListKind → List ℕ
 list_of r Included = r.include
 list_of r Excluded = r.exclude
 list_of r Ignored = r.ignore
 
-abbrev pub same_list : Which → Which → Bool
+abbrev pub same_list : ListKind → ListKind → Bool
 same_list Included Included = true
 same_list Excluded Excluded = true
 same_list Ignored Ignored = true
@@ -50,34 +50,34 @@ comments_in (CommentText t ∷ texts) = t ∷ comments_in texts
 -- No list stands twice, one that doesn't stand is empty, and the MRs and comments are those of the record.
 pub record IsEntry (e : EntryLines) : Type 0 where
   pub once : IsDistinct same_list e.lists
-  pub others : (which : Which) → list_any (same_list which) e.lists ≡ false → list_of e.row which ≡ []
+  pub others : (which : ListKind) → list_any (same_list which) e.lists ≡ false → list_of e.row which ≡ []
   pub mrs : mrs_in e.texts ≡ e.row.mrs
   pub comments : comments_in e.texts ≡ e.row.comments
 
 -- ---- what the lines say
 
-abbrev pub list_says : Record → Which → Said
+abbrev pub list_says : Record → ListKind → LineToken
 list_says r which = Listed which (list_of r which)
 
-abbrev pub text_says : EntryText → Said
+abbrev pub text_says : EntryText → LineToken
 text_says (MrText t) = Mr t
 text_says (CommentText t) = Comment t
 
 -- counts, the delta line, lists, MRs and comments, the end of the entry
-abbrev pub entry_says : EntryLines → List Said
+abbrev pub entry_says : EntryLines → List LineToken
 entry_says e =
     Counts e.row.inserted e.row.deleted e.row.unchanged ∷ Delta (delta_part e.row)
     ∷ (map (list_says e.row) e.lists ++ (map text_says e.texts ++ (EndEntry ∷ [])))
 
 -- each part between its first and its last line; flags follow users
-abbrev pub users_say : List (List ℕ) → List Said
+abbrev pub users_say : List (List ℕ) → List LineToken
 users_say users = Users ∷ (map Plain users ++ (EndUsers ∷ []))
 
-abbrev pub description_says : List (List ℕ) → List Said
+abbrev pub description_says : List (List ℕ) → List LineToken
 description_says lines = Description ∷ (map Plain lines ++ (EndDescription ∷ []))
 
 -- entries, users, flags, description
-abbrev pub header_says : List EntryLines → Header → List Said
+abbrev pub header_says : List EntryLines → Header → List LineToken
 header_says entries h =
     flat_map entry_says entries ++ (users_say h.users ++ (map FlagIs h.flags ++ description_says h.description))
 
@@ -86,7 +86,7 @@ pub record AreHeaderLines (lines : List (List ℕ)) (h : Header) : Type 0 where
   pub entries : List EntryLines
   pub each : AllByRecursion IsEntry entries
   pub records : map (λ e. e.row) entries ≡ h.records
-  pub say : map said lines ≡ map Some (header_says entries h)
+  pub say : map token lines ≡ map Some (header_says entries h)
 
 -- Lines from number n on begin with those of a header, and this is what follows them.
 pub record BeginWithHeader (n : ℕ) (lines : List (List ℕ)) (p : ParsedFront) : Type 0 where

@@ -7,10 +7,10 @@ use Rattle.sccs_history.specs.declared.headers.Item.{Item}
 use Rattle.sccs_history.specs.declared.headers.Item.TheVariants.{End}
 use Rattle.sccs_grammar.specs.Items.{items_from}
 use Rattle.sccs_grammar.specs.Written.{IsSerial}
-use Rattle.sccs_grammar.specs.Front.{ParsedFront, front_from, lost}
-use Rattle.sccs_grammar.specs.declared.readings.Reading.{Reading}
+use Rattle.sccs_grammar.specs.Front.{ParsedFront, front_from, dangling_predecessor}
+use Rattle.sccs_grammar.specs.declared.header_parsers.HeaderParser.{HeaderParser}
 use Rattle.sccs_grammar.specs.Entries.{Entries, with_entry}
-use Rattle.sccs_grammar.specs.declared.readings.Place.TheVariants.{AtEntry, AtDelta, InLists, InTexts, InUsers, InFlags, InDescription, AtBody}
+use Rattle.sccs_grammar.specs.declared.header_parsers.HeaderState.TheVariants.{AtEntry, AtDelta, InLists, InTexts, InUsers, InFlags, InDescription, AtBody}
 
 -- the items before a place, the last nearest, each of which may stand there
 abbrev pub Reached : List ℕ → List Item → Type 0
@@ -35,16 +35,16 @@ pub record BodyCompletion (live : List ℕ) (n k : ℕ) (lines : List (List ℕ)
   pub fault : k ≡ n + length good
   pub whole : items_from live n [] (good ++ more) [] ≡ Ok items
 
--- there are entries, and none has lost its predecessor
+-- there are entries, and none has dangling_predecessor its predecessor
 abbrev pub KeepsAll : Entries → Type 0
-KeepsAll t = (is_empty t.records ≡ false) × (lost t.records t.records t.lines ≡ None)
+KeepsAll t = (is_empty t.records ≡ false) × (dangling_predecessor t.records t.records t.lines ≡ None)
 
 -- the header has its table and is in a later part, or an entry could end the table
-abbrev pub IsViable : Reading → Type 0
-IsViable r = elim r.place as (λ _. Type 0) [
+abbrev pub IsViable : HeaderParser → Type 0
+IsViable r = elim r.state as (λ _. Type 0) [
   | AtEntry ↦ KeepsAll r.parts.table
   | AtDelta i d u ↦ ⊥
-  | InLists e stood ↦ KeepsAll (with_entry r.parts.table e)
+  | InLists e seen ↦ KeepsAll (with_entry r.parts.table e)
   | InTexts e ↦ KeepsAll (with_entry r.parts.table e)
   | InUsers ↦ Unit {0}
   | InFlags ↦ Unit {0}
@@ -53,7 +53,7 @@ IsViable r = elim r.place as (λ _. Type 0) [
 ]
 
 -- From line n on some lines complete the header.
-pub record HeaderCompletion (n : ℕ) (r : Reading) : Type 0 where
+pub record HeaderCompletion (n : ℕ) (r : HeaderParser) : Type 0 where
   pub more : List (List ℕ)
   pub read : ParsedFront
   pub whole : front_from n r more ≡ Ok read

@@ -5,7 +5,7 @@ ghost use Rattle.sccs_history.specs.History.{KeepsRules};
 ghost use Rattle.sccs_grammar.specs.File.{checked_front};
 ghost use Rattle.sccs_grammar.specs.Front.{ParsedFront, front_from, start};
 ghost use Rattle.sccs_grammar.specs.Items.{items_from};
-ghost use Rattle.sccs_grammar.specs.declared.readings.Reading.{Reading};
+ghost use Rattle.sccs_grammar.specs.declared.header_parsers.HeaderParser.{HeaderParser};
 ghost use Rattle.sccs_grammar_laws.specs.HeaderLines.{BeginSFile, BeginWithHeader};
 ghost use Rattle.sccs_grammar_laws.specs.ViablePrefixes.{AreSerials, BodyCompletion, IsViable, HeaderCompletion, Reached, ends};
 
@@ -37,5 +37,5 @@ pub fn body_prefixes_are_viable()
 /// A header that is read up to its users, its flags or its description can become a whole one, and
 /// so can one that is read up to the end of an entry, where each predecessor is there.
 pub fn header_prefixes_are_viable()
-    ensures { (n : ℕ) (r : Reading) → IsViable r → HeaderCompletion n r }
+    ensures { (n : ℕ) (r : HeaderParser) → IsViable r → HeaderCompletion n r }
 {}

@@ -15,7 +15,7 @@ use Rattle.sccs_grammar.specs.declared.faults.FileFault.{FileFault}
 use Rattle.sccs_grammar.specs.declared.faults.FileFault.TheVariants.{Missing, TooLong, NotSccs, BadSum, BadFormat, Encoded, Changed, Failed, Memory}
 use Rattle.sccs_table.specs.declared.fronts.Front.{Front}
 use Rattle.sccs_table.specs.SumOf.{IsPlainSumOf, IsSumOf, is_sum_of}
-use Rattle.sccs_table.specs.Standing.{Standing, StandsIn, Stays, TakesLine, behind_sum, bytes_in, file_in, left}
+use Rattle.sccs_table.specs.ReaderState.{ReaderState, StandsIn, Stays, TakesLine, behind_sum, bytes_in, file_in, left}
 use Rattle.sccs_table.specs.FrontFile.{Refuses, Answers, ChecksSum, IsFrontOf, AnswersFront, ShowsFront, Opens, TakesSum, SumLine, ReadsLines, Reads}
 use Rattle.sccs_table.proofs.ReaderLaws.{holding}
 
@@ -25,10 +25,10 @@ opened_lines : (file : List ℕ) (lines : List (List ℕ)) → (cut file).lines 
 unfolding opened
 opened_lines file lines is = ap (opened_cut file) is
 
-from_front : (old : Standing) (file : List ℕ) → old.place ≡ 0 → left old file ≡ cut file
+from_front : (old : ReaderState) (file : List ℕ) → old.place ≡ 0 → left old file ≡ cut file
 from_front old file zero_is = ap (λ n. cut (drop n file)) zero_is
 
-pub no_sum_line : (o : Option (List ℕ)) (old new : Standing) (line : List ℕ) → old.place ≡ 0 → TakesLine o old new line false → SumLine o old new (Err NotSccs)
+pub no_sum_line : (o : Option (List ℕ)) (old new : ReaderState) (line : List ℕ) → old.place ≡ 0 → TakesLine o old new line false → SumLine o old new (Err NotSccs)
 no_sum_line None old new line front takes = tt
 no_sum_line (Some file) old new line front takes = λ stands.
     opened_lines file [] (ap (λ (c : Cut). c.lines) (sym (from_front old file front) ∙ (takes stands).1))
@@ -49,17 +49,17 @@ stored_long (soh ∷ []) n some = cc
 stored_long (soh ∷ letter ∷ digits) n some =
     let five = by_letters ((soh == 1) && (letter == 104)) digits n some in omega arith
 
-opened_first : (old new : Standing) (file line : List ℕ) (found : Option ℕ) → old.place ≡ 0 → left old file ≡ record { lines = line ∷ (left new file).lines; tail = (left new file).tail } → stored line ≡ found
+opened_first : (old new : ReaderState) (file line : List ℕ) (found : Option ℕ) → old.place ≡ 0 → left old file ≡ record { lines = line ∷ (left new file).lines; tail = (left new file).tail } → stored line ≡ found
     → opened file ≡ opened_by found (left new file).lines (drop (length line + 1) file)
 opened_first old new file line found front is says =
     opened_lines file (line ∷ (left new file).lines) (ap (λ (c : Cut). c.lines) (sym (from_front old file front) ∙ is))
     ∙ ap (λ o. opened_by o (left new file).lines (drop (length line + 1) file)) says
 
-pub other_line : (o : Option (List ℕ)) (old new : Standing) (line : List ℕ) → old.place ≡ 0 → TakesLine o old new line true → stored line ≡ None → SumLine o old new (Err NotSccs)
+pub other_line : (o : Option (List ℕ)) (old new : ReaderState) (line : List ℕ) → old.place ≡ 0 → TakesLine o old new line true → stored line ≡ None → SumLine o old new (Err NotSccs)
 other_line None old new line front takes says = tt
 other_line (Some file) old new line front takes says = λ stands. opened_first old new file line None front (takes stands).1 says
 
-pub sum_line_found : (o : Option (List ℕ)) (old new : Standing) (line : List ℕ) (n : ℕ) → old.place ≡ 0 → TakesLine o old new line true → stored line ≡ Some n → SumLine o old new (Ok n)
+pub sum_line_found : (o : Option (List ℕ)) (old new : ReaderState) (line : List ℕ) (n : ℕ) → old.place ≡ 0 → TakesLine o old new line true → stored line ≡ Some n → SumLine o old new (Ok n)
 sum_line_found None old new line n front takes says = tt
 sum_line_found (Some file) old new line n front takes says = λ stands.
     let taken = takes stands in
@@ -76,10 +76,10 @@ checked_by : (file : List ℕ) (o : Opened) (holds : Bool) → opened file ≡ O
 unfolding checked_front
 checked_by file o holds is sums = rw (is, sums) refl
 
-abbrev opened_at : Standing → List ℕ → ℕ → Opened
+abbrev opened_at : ReaderState → List ℕ → ℕ → Opened
 opened_at new file n = record { sum_of = n; lines = (left new file).lines; bytes = behind_sum file }
 
-pub sum_refused : (file : List ℕ) (new : Standing) (e : FileFault) → TakesSum file new (Err e) → Refuses e (checked_front file)
+pub sum_refused : (file : List ℕ) (new : ReaderState) (e : FileFault) → TakesSum file new (Err e) → Refuses e (checked_front file)
 sum_refused file new Missing takes = absurd takes
 sum_refused file new TooLong takes = absurd takes
 sum_refused file new NotSccs takes = checked_unopened file takes
@@ -91,7 +91,7 @@ sum_refused file new Failed takes = tt
 sum_refused file new Memory takes = tt
 
 -- the answer for a file whose stored sum is judged
-pub sum_judged : (file : List ℕ) (new : Standing) (n : ℕ) (e : FileFault) → TakesSum file new (Ok n) → ChecksSum n (behind_sum file) (Err e) → Refuses e (checked_front file)
+pub sum_judged : (file : List ℕ) (new : ReaderState) (n : ℕ) (e : FileFault) → TakesSum file new (Ok n) → ChecksSum n (behind_sum file) (Err e) → Refuses e (checked_front file)
 sum_judged file new n Missing takes checks = absurd checks
 sum_judged file new n TooLong takes checks = absurd checks
 sum_judged file new n NotSccs takes checks = absurd checks
@@ -103,10 +103,10 @@ sum_judged file new n (Changed a b c d) takes checks = absurd checks
 sum_judged file new n Failed takes checks = tt
 sum_judged file new n Memory takes checks = absurd checks
 
-checked_lines : (file : List ℕ) (new : Standing) (n : ℕ) → TakesSum file new (Ok n) → is_sum_of n (behind_sum file) ≡ true → checked_front file ≡ as_format (front_from 2 start (left new file).lines)
+checked_lines : (file : List ℕ) (new : ReaderState) (n : ℕ) → TakesSum file new (Ok n) → is_sum_of n (behind_sum file) ≡ true → checked_front file ≡ as_format (front_from 2 start (left new file).lines)
 checked_lines file new n takes fits = checked_by file (opened_at new file n) true takes.1 fits
 
-module _ (file : List ℕ) (new last : Standing) (n : ℕ) (takes : TakesSum file new (Ok n)) (fits : is_sum_of n (behind_sum file) ≡ true) where
+module _ (file : List ℕ) (new last : ReaderState) (n : ℕ) (takes : TakesSum file new (Ok n)) (fits : is_sum_of n (behind_sum file) ≡ true) where
   pub format_refused : (e : FileFault) → ReadsLines file new last start 2 (Err e) → Refuses e (checked_front file)
   format_refused Missing reads = absurd reads
   format_refused TooLong reads = absurd reads
@@ -124,7 +124,7 @@ cut_with lines tail = record { lines = lines; tail = tail }
 abbrev pub front_with : Header → ℕ → ℕ → ℕ → ℕ → Front
 front_with header place line size sum = record { header = header; body_from = place; body_line = line; size = size; sum = sum }
 
-pub front_found : (file : List ℕ) (new last : Standing) (n size place plain : ℕ) (header : Header) (line : ℕ) → TakesSum file new (Ok n) → ChecksSum n (behind_sum file) (Ok plain) → size ≡ length file → ReadsLines file new last start 2 (Ok (header, line)) → place ≡ last.place
+pub front_found : (file : List ℕ) (new last : ReaderState) (n size place plain : ℕ) (header : Header) (line : ℕ) → TakesSum file new (Ok n) → ChecksSum n (behind_sum file) (Ok plain) → size ≡ length file → ReadsLines file new last start 2 (Ok (header, line)) → place ≡ last.place
     → Answers (λ p front. IsFrontOf file p front) (Ok (front_with header place line size plain)) (checked_front file)
 front_found file new last n size place plain header line takes checks long reads place_is =
     let read : ParsedFront = record { header = header; line = line; rest = (left last file).lines } in (
@@ -169,15 +169,15 @@ front_answer (Some view) name size result limit opens answers =
 
 -- ---- the parts of a reading, at a file that is there
 
-pub sum_taken : (o : Option (List ℕ)) (file name : List ℕ) (size : ℕ) (old new : Standing) (result : Result ℕ FileFault) → o ≡ Some file → old ≡ holding name [] 0 size 0 0 → size ≡ length file → SumLine o old new result → TakesSum file new result
+pub sum_taken : (o : Option (List ℕ)) (file name : List ℕ) (size : ℕ) (old new : ReaderState) (result : Result ℕ FileFault) → o ≡ Some file → old ≡ holding name [] 0 size 0 0 → size ≡ length file → SumLine o old new result → TakesSum file new result
 sum_taken o file name size old new result is fresh long takes =
     subst (λ q. SumLine q old new result) is takes (subst (λ s. StandsIn s file) (sym fresh) (fresh_stands name file size (omega arith)))
 
-pub lines_taken : (o : Option (List ℕ)) (file : List ℕ) (new last : Standing) (n : ℕ) (result : Result (Header × ℕ) FileFault) → o ≡ Some file → TakesSum file new (Ok n) → Reads o new last start 2 result → ReadsLines file new last start 2 result
+pub lines_taken : (o : Option (List ℕ)) (file : List ℕ) (new last : ReaderState) (n : ℕ) (result : Result (Header × ℕ) FileFault) → o ≡ Some file → TakesSum file new (Ok n) → Reads o new last start 2 result → ReadsLines file new last start 2 result
 lines_taken o file new last n result is takes reads = subst (λ q. Reads q new last start 2 result) is reads takes.0
 
 -- the sum line that was read, and the sum that was judged at the end of the file
-pub judged : (o p q : Option (List ℕ)) (file name : List ℕ) (size : ℕ) (begun now last : Standing) (n : ℕ) (sum : Result ℕ FileFault) → o ≡ Some file → p ≡ Some file → q ≡ Some file → begun ≡ holding name [] 0 size 0 0 → size ≡ length file
+pub judged : (o p q : Option (List ℕ)) (file name : List ℕ) (size : ℕ) (begun now last : ReaderState) (n : ℕ) (sum : Result ℕ FileFault) → o ≡ Some file → p ≡ Some file → q ≡ Some file → begun ≡ holding name [] 0 size 0 0 → size ≡ length file
     → SumLine o begun now (Ok n) → now.place ≡ 8 → Stays p now last → ((f : List ℕ) → q ≡ Some f → 8 ≤ length f → StandsIn last f → ChecksSum n (behind_sum f) sum) → TakesSum file now (Ok n) × ChecksSum n (behind_sum file) sum
 judged o p q file name size begun now last n sum o_is p_is q_is fresh long line place_is stays checks =
     let takes = sum_taken o file name size begun now (Ok n) o_is fresh long line in
@@ -185,7 +185,7 @@ judged o p q file name size begun now last n sum o_is p_is q_is fresh long line 
 
 -- ---- the sums at the end of a file
 
-pub sum_of_all : (r : Standing) (file : List ℕ) (to : ℕ) → length file ≤ to → min to (length file) ≤ r.place → StandsIn r file → IsPlainSumOf r.sum (behind_sum file)
+pub sum_of_all : (r : ReaderState) (file : List ℕ) (to : ℕ) → length file ≤ to → min to (length file) ≤ r.place → StandsIn r file → IsPlainSumOf r.sum (behind_sum file)
 sum_of_all r file to low past stands =
     stands.sum ∙ ap (λ bytes. plain_sum (behind_sum bytes)) (take_all (r.place + length r.held) file (omega (arith, past, low)))
 
@@ -196,10 +196,10 @@ pub is_either : (stored : ℕ) (bytes : List ℕ) (sums : ℕ × ℕ) (fits : Bo
 is_either stored bytes sums fits are test = ap (λ n. (stored == n) || (stored == signed_sum bytes)) (sym are.0) ∙ (ap (λ n. (stored == sums.0) || (stored == n)) (sym are.1) ∙ test)
 
 -- the sums of a second reading
-pub sums_again : (o : Option (List ℕ)) (file name : List ℕ) (limit : ℕ) (again : Standing) (sums : ℕ × ℕ) → o ≡ Some file → again ≡ holding name [] 8 limit 0 0 → length file ≤ limit → 8 ≤ length file → IfSome o (λ f. StandsIn again f → IsSumOf sums (drop again.place f)) → IsSumOf sums (behind_sum file)
+pub sums_again : (o : Option (List ℕ)) (file name : List ℕ) (limit : ℕ) (again : ReaderState) (sums : ℕ × ℕ) → o ≡ Some file → again ≡ holding name [] 8 limit 0 0 → length file ≤ limit → 8 ≤ length file → IfSome o (λ f. StandsIn again f → IsSumOf sums (drop again.place f)) → IsSumOf sums (behind_sum file)
 sums_again o file name limit again sums is fresh low long summed =
     let here = subst (λ q. IfSome q (λ f. StandsIn again f → IsSumOf sums (drop again.place f))) is summed in
-    subst (λ n. IsSumOf sums (drop n file)) (ap (λ (s : Standing). s.place) fresh) (here (subst (λ s. StandsIn s file) (sym fresh) (again_stands name file limit low long)))
+    subst (λ n. IsSumOf sums (drop n file)) (ap (λ (s : ReaderState). s.place) fresh) (here (subst (λ s. StandsIn s file) (sym fresh) (again_stands name file limit low long)))
 
 -- ---- whether the body is encoded
 

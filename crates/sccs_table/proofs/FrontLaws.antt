@@ -1,71 +1,71 @@
 -- What a line more makes of the reading of a header.
 use Rattle.std.proofs.Common.{◌≡◌, ℕ, suc, ◌+◌, Bool, true, false, List, [], ◌∷◌, Option, None, Some, Result, Ok, Err, refl, sym, ap, ◌∙◌, subst, arith}
 use Rattle.sccs_base.specs.Cut.{Cut}
-use Rattle.sccs_grammar.specs.Said.{said}
+use Rattle.sccs_grammar.specs.Tokens.{token}
 use Rattle.std.specs.Result.{IsErrAnd}
 use Rattle.std.proofs.lemmas.Result.{err_from_is_err_and}
 use Rattle.sccs_grammar.specs.FileRefusals.{line_fault}
-use Rattle.sccs_grammar.specs.declared.readings.FrontFault.{FrontFault}
-use Rattle.sccs_grammar.specs.declared.readings.FrontFault.TheVariants as fronts
-use Rattle.sccs_grammar.specs.Front.{HearsIn, ParsedFront, after, heard, header_of, is_whole, line_after, front_from}
-use Rattle.sccs_grammar.specs.declared.readings.Reading.{Reading}
-use Rattle.sccs_grammar.specs.declared.sayings.Said.{Said}
+use Rattle.sccs_grammar.specs.declared.header_parsers.FrontFault.{FrontFault}
+use Rattle.sccs_grammar.specs.declared.header_parsers.FrontFault.TheVariants as fronts
+use Rattle.sccs_grammar.specs.Front.{AcceptsIn, ParsedFront, after, accepted, header_of, is_whole, line_after, front_from}
+use Rattle.sccs_grammar.specs.declared.header_parsers.HeaderParser.{HeaderParser}
+use Rattle.sccs_grammar.specs.declared.line_tokens.LineToken.{LineToken}
 use Rattle.sccs_grammar.specs.declared.faults.FileFault.{FileFault}
 use Rattle.sccs_grammar.specs.declared.faults.FileFault.TheVariants.{Missing, TooLong, NotSccs, BadSum, BadFormat, Encoded, Changed, Failed, Memory}
-use Rattle.sccs_table.specs.Standing.{Standing, StandsIn, TakesLine, left}
-use Rattle.sccs_table.specs.FrontFile.{AnswersLine, HearsLine, HearsNext, IsFirst, Reads, ReadsLines, read_as}
+use Rattle.sccs_table.specs.ReaderState.{ReaderState, StandsIn, TakesLine, left}
+use Rattle.sccs_table.specs.FrontFile.{AnswersLine, HearsLine, AcceptsNext, IsFirst, Reads, ReadsLines, read_as}
 
-front-nil : (n : ℕ) (r : Reading) → front_from n r [] ≡ Err n
+front-nil : (n : ℕ) (r : HeaderParser) → front_from n r [] ≡ Err n
 unfolding front_from
 front-nil n r = refl
 
-front_fault : (n k : ℕ) (r : Reading) (line : List ℕ) (lines : List (List ℕ)) → line_after n r line ≡ Err k → front_from n r (line ∷ lines) ≡ Err k
+front_fault : (n k : ℕ) (r : HeaderParser) (line : List ℕ) (lines : List (List ℕ)) → line_after n r line ≡ Err k → front_from n r (line ∷ lines) ≡ Err k
 unfolding front_from
 front_fault n k r line lines is = rw is refl
 
-front_whole : (n : ℕ) (r s : Reading) (line : List ℕ) (lines : List (List ℕ)) → line_after n r line ≡ Ok s → is_whole s.place ≡ true → front_from n r (line ∷ lines) ≡ Ok (record { header = header_of s; line = suc n; rest = lines })
+front_whole : (n : ℕ) (r s : HeaderParser) (line : List ℕ) (lines : List (List ℕ)) → line_after n r line ≡ Ok s → is_whole s.place ≡ true → front_from n r (line ∷ lines) ≡ Ok (record { header = header_of s; line = suc n; rest = lines })
 unfolding front_from
 front_whole n r s line lines is over = rw (is, over) refl
 
-front_on : (n : ℕ) (r s : Reading) (line : List ℕ) (lines : List (List ℕ)) → line_after n r line ≡ Ok s → is_whole s.place ≡ false → front_from n r (line ∷ lines) ≡ front_from (suc n) s lines
+front_on : (n : ℕ) (r s : HeaderParser) (line : List ℕ) (lines : List (List ℕ)) → line_after n r line ≡ Ok s → is_whole s.place ≡ false → front_from n r (line ∷ lines) ≡ front_from (suc n) s lines
 unfolding front_from
 front_on n r s line lines is more = rw (is, more) refl
 
-line_says : (n : ℕ) (r : Reading) (line : List ℕ) (what : Said) → said line ≡ Some what → line_after n r line ≡ after n r.parts r.place what
+tokenizing : (n : ℕ) (r : HeaderParser) (line : List ℕ) (what : LineToken) → token line ≡ Some what → line_after n r line ≡ after n r.parts r.place what
 unfolding line_after
-line_says n r line what is = ap (heard n r) is
+tokenizing n r line what is = ap (accepted n r) is
 
-line_silent : (n : ℕ) (r : Reading) (line : List ℕ) → said line ≡ None → line_after n r line ≡ Err n
+line_silent : (n : ℕ) (r : HeaderParser) (line : List ℕ) → token line ≡ None → line_after n r line ≡ Err n
 unfolding line_after
-line_silent n r line is = ap (heard n r) is
+line_silent n r line is = ap (accepted n r) is
 
-pub no_line : (o : Option (List ℕ)) (old new : Standing) (n : ℕ) (r : Reading) (line : List ℕ) → TakesLine o old new line false → HearsNext o old new n r (Err (BadFormat n))
+pub no_line : (o : Option (List ℕ)) (old new : ReaderState) (n : ℕ) (r : HeaderParser) (line : List ℕ) → TakesLine o old new line false → AcceptsNext o old new n r (Err (BadFormat n))
 no_line None old new n r line takes = tt
 no_line (Some file) old new n r line takes = λ stands.
     let taken = takes stands in
     ap (λ (c : Cut). front_from n r c.lines) taken.1 ∙ front-nil n r
 
-pub line_at_fault : (o : Option (List ℕ)) (old new : Standing) (n k : ℕ) (r : Reading) (line : List ℕ) → TakesLine o old new line true → line_after n r line ≡ Err k → HearsNext o old new n r (Err (BadFormat k))
+pub line_at_fault : (o : Option (List ℕ)) (old new : ReaderState) (n k : ℕ) (r : HeaderParser) (line : List ℕ) → TakesLine o old new line true → line_after n r line ≡ Err k → AcceptsNext o old new n r (Err (BadFormat k))
 line_at_fault None old new n k r line takes is = tt
 line_at_fault (Some file) old new n k r line takes is = λ stands.
     let taken = takes stands in
     ap (λ (c : Cut). front_from n r c.lines) taken.1 ∙ front_fault n k r line (left new file).lines is
 
-pub line_heard : (o : Option (List ℕ)) (old new : Standing) (n : ℕ) (r s : Reading) (line : List ℕ) → TakesLine o old new line true → line_after n r line ≡ Ok s → HearsNext o old new n r (Ok s)
+pub line_heard : (o : Option (List ℕ)) (old new : ReaderState) (n : ℕ) (r s : HeaderParser) (line : List ℕ) → TakesLine o old new line true → line_after n r line ≡ Ok s → AcceptsNext o old new n r (Ok s)
 line_heard None old new n r s line takes is = tt
 line_heard (Some file) old new n r s line takes is = λ stands. let taken = takes stands in (taken.0, (line, taken.1, is))
 
-pub said_fault : (n k : ℕ) (r : Reading) (line : List ℕ) (what : Said) → said line ≡ Some what → after n r.parts r.place what ≡ Err k → line_after n r line ≡ Err k
-said_fault n k r line what is then_is = line_says n r line what is ∙ then_is
+pub token_fault : (n k : ℕ) (r : HeaderParser) (line : List ℕ) (what : LineToken) → token line ≡ Some what → after n r.parts r.place what ≡ Err k → line_after n r line ≡ Err k
+token_fault n k r line what is then_is = tokenizing n r line what is ∙ then_is
 
-pub said_heard : (n : ℕ) (r s : Reading) (line : List ℕ) (what : Said) → said line ≡ Some what → after n r.parts r.place what ≡ Ok s → line_after n r line ≡ Ok s
-said_heard n r s line what is then_is = line_says n r line what is ∙ then_is
+pub token_heard : (n : ℕ) (r s : HeaderParser) (line : List ℕ) (what : LineToken) → token line ≡ Some what → after n r.parts r.place what ≡ Ok s → line_after n r line ≡ Ok s
+token_heard n r s line what is then_is = tokenizing n r line what is ∙ then_is
 
-pub said_nothing : (n : ℕ) (r : Reading) (line : List ℕ) → said line ≡ None → line_after n r line ≡ Err n
-said_nothing n r line is = line_silent n r line is
+pub token_nothing : (n : ℕ) (r : HeaderParser) (line : List ℕ) → token line ≡ None → line_after n r line ≡ Err n
+token_nothing n r line is = line_silent n r line is
 
 -- a line that was taken, and what was read with it
-pub line_answered : (o : Option (List ℕ)) (old new : Standing) (n : ℕ) (r : Reading) (line : List ℕ) (read : Result Reading FileFault) → TakesLine o old new line true → AnswersLine (line_after n r line) read → HearsNext o old new n r read
+pub line_answered : (o : Option (List ℕ)) (old new : ReaderState) (n : ℕ) (r : HeaderParser) (line : List ℕ) (read : Result HeaderParser FileFault) → TakesLine o old new line true → AnswersLine (line_after n r line) read → AcceptsNext o old new n r read
 line_answered o old new n r line (Ok s) takes is = line_heard o old new n r s line takes is
 line_answered o old new n r line (Err (BadFormat k)) takes is = line_at_fault o old new n k r line takes is
 line_answered None old new n r line (Err Memory) takes is = tt
@@ -79,11 +79,11 @@ line_answered o old new n r line (Err Encoded) takes is = absurd is
 line_answered o old new n r line (Err (Changed a b c d)) takes is = absurd is
 
 -- what the parts of a line's reading answer
-pub line_refused : (n : ℕ) (r s : Reading) (line : List ℕ) (what : Said) (fault : FrontFault) (result : Result (Unit {0}) FileFault) → said line ≡ Some what → HearsIn s (Err fault) (after n r.parts r.place what) → result ≡ Err (line_fault fault) → AnswersLine (line_after n r line) (read_as s result)
-line_refused n r s line what (fronts.Format k) result is hears exit = subst (λ q. AnswersLine (line_after n r line) (read_as s q)) (sym exit) (said_fault n k r line what is hears)
+pub line_refused : (n : ℕ) (r s : HeaderParser) (line : List ℕ) (what : LineToken) (fault : FrontFault) (result : Result (Unit {0}) FileFault) → token line ≡ Some what → AcceptsIn s (Err fault) (after n r.parts r.place what) → result ≡ Err (line_fault fault) → AnswersLine (line_after n r line) (read_as s result)
+line_refused n r s line what (fronts.Format k) result is hears exit = subst (λ q. AnswersLine (line_after n r line) (read_as s q)) (sym exit) (token_fault n k r line what is hears)
 line_refused n r s line what fronts.Memory result is hears exit = subst (λ q. AnswersLine (line_after n r line) (read_as s q)) (sym exit) tt
 
-pub answered_first : (read : Result Reading ℕ) (s : Reading) (result : Result (Unit {0}) FileFault) → AnswersLine read (read_as s result) → IsFirst result
+pub answered_first : (read : Result HeaderParser ℕ) (s : HeaderParser) (result : Result (Unit {0}) FileFault) → AnswersLine read (read_as s result) → IsFirst result
 answered_first read s (Ok done) answers = λ size sum again sum_again is. cc
 answered_first read s (Err Missing) answers = absurd answers
 answered_first read s (Err TooLong) answers = absurd answers
@@ -99,47 +99,47 @@ answered_first read s (Err Memory) answers = λ size sum again sum_again is. cc
 pub exit_is : {A : Type 0} (result : Result A FileFault) (fault : FileFault) → IsErrAnd result (λ e. e ≡ fault) → result ≡ Err fault
 exit_is result fault left = let p = err_from_is_err_and result left in p.1 ∙ ap Err p.2
 
-pub takes_line_at : (o : Option (List ℕ)) (old new : Standing) (line : List ℕ) (a b : Bool) → a ≡ b → TakesLine o old new line a → TakesLine o old new line b
+pub takes_line_at : (o : Option (List ℕ)) (old new : ReaderState) (line : List ℕ) (a b : Bool) → a ≡ b → TakesLine o old new line a → TakesLine o old new line b
 takes_line_at o old new line a b is takes = subst (λ e. TakesLine o old new line e) is takes
 
 -- ---- all lines of a header
 
-abbrev front_at : Reading → ℕ → List (List ℕ) → ParsedFront
+abbrev front_at : HeaderParser → ℕ → List (List ℕ) → ParsedFront
 front_at s n lines = record { header = header_of s; line = n; rest = lines }
 
 -- reading goes on here as from the start
-abbrev pub GoesLines : Option (List ℕ) → Standing → Reading → ℕ → Standing → Reading → ℕ → Type 0
+abbrev pub GoesLines : Option (List ℕ) → ReaderState → HeaderParser → ℕ → ReaderState → HeaderParser → ℕ → Type 0
 GoesLines None begun r0 n0 now r n = Unit {0}
 GoesLines (Some file) begun r0 n0 now r n =
     StandsIn begun file → StandsIn now file × ((left begun file).tail ≡ (left now file).tail) × (front_from n0 r0 (left begun file).lines ≡ front_from n r (left now file).lines)
 
-pub lines_begin : (o : Option (List ℕ)) (begun : Standing) (r : Reading) (n : ℕ) → GoesLines o begun r n begun r n
+pub lines_begin : (o : Option (List ℕ)) (begun : ReaderState) (r : HeaderParser) (n : ℕ) → GoesLines o begun r n begun r n
 lines_begin None begun r n = tt
 lines_begin (Some file) begun r n = λ stands. (stands, refl, refl)
 
-pub lines_on : (o p : Option (List ℕ)) (begun now new : Standing) (r0 r s : Reading) (n0 n : ℕ) → p ≡ o → GoesLines o begun r0 n0 now r n → HearsNext p now new n r (Ok s) → is_whole s.place ≡ false → GoesLines o begun r0 n0 new s (n + 1)
+pub lines_on : (o p : Option (List ℕ)) (begun now new : ReaderState) (r0 r s : HeaderParser) (n0 n : ℕ) → p ≡ o → GoesLines o begun r0 n0 now r n → AcceptsNext p now new n r (Ok s) → is_whole s.place ≡ false → GoesLines o begun r0 n0 new s (n + 1)
 lines_on None p begun now new r0 r s n0 n is goes hears more = tt
 lines_on (Some file) p begun now new r0 r s n0 n is goes hears more = λ stands.
     let here = goes stands in
-    let heard_here = (subst (λ q. HearsNext q now new n r (Ok s)) is hears) here.0 in
+    let heard_here = (subst (λ q. AcceptsNext q now new n r (Ok s)) is hears) here.0 in
     let one : suc n ≡ n + 1 = omega arith in (
       heard_here.0,
       here.1 ∙ ap (λ (c : Cut). c.tail) heard_here.1.1,
       here.2 ∙ (ap (λ (c : Cut). front_from n r c.lines) heard_here.1.1 ∙ (front_on n r s heard_here.1.0 (left new file).lines heard_here.1.2 more ∙ ap (λ k. front_from k s (left new file).lines) one)),
     )
 
-pub lines_done : (o p : Option (List ℕ)) (begun now new : Standing) (r0 r s : Reading) (n0 n : ℕ) → p ≡ o → GoesLines o begun r0 n0 now r n → HearsNext p now new n r (Ok s) → is_whole s.place ≡ true → Reads o begun new r0 n0 (Ok (header_of s, n + 1))
+pub lines_done : (o p : Option (List ℕ)) (begun now new : ReaderState) (r0 r s : HeaderParser) (n0 n : ℕ) → p ≡ o → GoesLines o begun r0 n0 now r n → AcceptsNext p now new n r (Ok s) → is_whole s.place ≡ true → Reads o begun new r0 n0 (Ok (header_of s, n + 1))
 lines_done None p begun now new r0 r s n0 n is goes hears whole = tt
 lines_done (Some file) p begun now new r0 r s n0 n is goes hears whole = λ stands.
     let here = goes stands in
-    let heard_here = (subst (λ q. HearsNext q now new n r (Ok s)) is hears) here.0 in
+    let heard_here = (subst (λ q. AcceptsNext q now new n r (Ok s)) is hears) here.0 in
     let one : suc n ≡ n + 1 = omega arith in (
       heard_here.0,
       here.1 ∙ ap (λ (c : Cut). c.tail) heard_here.1.1,
       here.2 ∙ (ap (λ (c : Cut). front_from n r c.lines) heard_here.1.1 ∙ (front_whole n r s heard_here.1.0 (left new file).lines heard_here.1.2 whole ∙ ap (λ k. Ok (front_at s k (left new file).lines)) one)),
     )
 
-fault_at : (file : List ℕ) (begun now new : Standing) (r0 r : Reading) (n0 n : ℕ) (e : FileFault) → front_from n0 r0 (left begun file).lines ≡ front_from n r (left now file).lines → HearsLine file now new n r (Err e) → ReadsLines file begun new r0 n0 (Err e)
+fault_at : (file : List ℕ) (begun now new : ReaderState) (r0 r : HeaderParser) (n0 n : ℕ) (e : FileFault) → front_from n0 r0 (left begun file).lines ≡ front_from n r (left now file).lines → HearsLine file now new n r (Err e) → ReadsLines file begun new r0 n0 (Err e)
 fault_at file begun now new r0 r n0 n Missing same hears = hears
 fault_at file begun now new r0 r n0 n TooLong same hears = hears
 fault_at file begun now new r0 r n0 n NotSccs same hears = hears
@@ -150,8 +150,8 @@ fault_at file begun now new r0 r n0 n (Changed a b c d) same hears = hears
 fault_at file begun now new r0 r n0 n Failed same hears = tt
 fault_at file begun now new r0 r n0 n Memory same hears = tt
 
-pub lines_fault : (o p : Option (List ℕ)) (begun now new : Standing) (r0 r : Reading) (n0 n : ℕ) (e : FileFault) → p ≡ o → GoesLines o begun r0 n0 now r n → HearsNext p now new n r (Err e) → Reads o begun new r0 n0 (Err e)
+pub lines_fault : (o p : Option (List ℕ)) (begun now new : ReaderState) (r0 r : HeaderParser) (n0 n : ℕ) (e : FileFault) → p ≡ o → GoesLines o begun r0 n0 now r n → AcceptsNext p now new n r (Err e) → Reads o begun new r0 n0 (Err e)
 lines_fault None p begun now new r0 r n0 n e is goes hears = tt
 lines_fault (Some file) p begun now new r0 r n0 n e is goes hears = λ stands.
     let here = goes stands in
-    fault_at file begun now new r0 r n0 n e here.2 ((subst (λ q. HearsNext q now new n r (Err e)) is hears) here.0)
+    fault_at file begun now new r0 r n0 n e here.2 ((subst (λ q. AcceptsNext q now new n r (Err e)) is hears) here.0)

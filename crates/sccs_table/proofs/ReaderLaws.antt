@@ -11,21 +11,21 @@ use Rattle.std.proofs.lemmas.Bool.{ltb-false, ltb-true}
 use Rattle.sccs_disk.specs.Files.{View}
 use Rattle.sccs_grammar.specs.Sums.{plain_sum}
 use Rattle.sccs_table.specs.SumOf.{IsPlainSumOf, IsSumOf}
-use Rattle.sccs_table.specs.Standing.{Standing, StandsIn, Stays, Takes, TakesLine, behind_sum, bytes_in}
+use Rattle.sccs_table.specs.ReaderState.{ReaderState, StandsIn, Stays, Takes, TakesLine, behind_sum, bytes_in}
 
 -- a reader that holds the front of a piece
-abbrev pub holding : List ℕ → List ℕ → ℕ → ℕ → ℕ → ℕ → Standing
+abbrev pub holding : List ℕ → List ℕ → ℕ → ℕ → ℕ → ℕ → ReaderState
 holding name held place limit lines sum = record { name = name; held = held; place = place; limit = limit; lines = lines; sum = sum }
 
 pub fill_more : (piece : List ℕ) (count : ℕ) → count ≤ length piece → ltb 0 count ≡ true → 0 < length (take (count - 0) piece)
 fill_more piece count within more = let some = ltb-true 0 count more in omega (arith, length-take (count - 0) piece)
 
 -- what a call leaves as it was where it reads nothing
-abbrev pub Kept : Standing → Standing → Type 0
+abbrev pub Kept : ReaderState → ReaderState → Type 0
 Kept old new = (new.limit ≡ old.limit) × (new.sum ≡ old.sum)
 
 -- the bytes that were read end where they ended
-pub stands_behind : (old new : Standing) (file : List ℕ) → Kept old new → new.place + length new.held ≡ old.place + length old.held → new.held ≡ take (length new.held) (drop new.place file) → StandsIn old file → StandsIn new file
+pub stands_behind : (old new : ReaderState) (file : List ℕ) → Kept old new → new.place + length new.held ≡ old.place + length old.held → new.held ≡ take (length new.held) (drop new.place file) → StandsIn old file → StandsIn new file
 stands_behind old new file kept end held_is stands = record {
   limit = subst (λ n. length file ≤ n) (sym kept.0) stands.limit;
   within = omega (arith, stands.within);
@@ -48,28 +48,28 @@ behind_both file place count low =
     ap behind_sum (take-add place count file)
     ∙ (drop_both 8 (take place file) (take count (drop place file)) ∙ ap (λ n. behind_sum (take place file) ++ drop (8 - n) (take count (drop place file))) long)
 
-module _ (old : Standing) (name piece : List ℕ) (place limit lines sum more sum2 count room to : ℕ) (is : holding name [] place limit lines sum ≡ old) (within : count ≤ length piece) (room_is : room ≡ min (to - place) 4096) (low : to ≤ limit)
+module _ (old : ReaderState) (name piece : List ℕ) (place limit lines sum more sum2 count room to : ℕ) (is : holding name [] place limit lines sum ≡ old) (within : count ≤ length piece) (room_is : room ≡ min (to - place) 4096) (low : to ≤ limit)
     (added : (front : List ℕ) → IsPlainSumOf sum front → IsPlainSumOf sum2 (front ++ drop (8 - place) (take count piece))) where
-  abbrev filled_with : Standing
+  abbrev filled_with : ReaderState
   filled_with = holding name (take (count - 0) piece) place limit more sum2
 
   stands_filled : (file : List ℕ) → take count piece ≡ take room (drop place file) → StandsIn old file → StandsIn filled_with file × (ltb 0 count ≡ false → min to (length file) ≤ place)
   stands_filled file got stood =
-      let place_is : place ≡ old.place = ap (λ (s : Standing). s.place) is in
-      let none : 0 ≡ length old.held = ap (λ (s : Standing). length s.held) is in
+      let place_is : place ≡ old.place = ap (λ (s : ReaderState). s.place) is in
+      let none : 0 ≡ length old.held = ap (λ (s : ReaderState). length s.held) is in
       let low_place : place ≤ length file = omega (arith, stood.within) in
       let here : take (count - 0) piece ≡ take room (drop place file) = ap (λ n. take n piece) (omega arith) ∙ got in
       let long : length (take (count - 0) piece) ≡ min room (length file - place) = ap length here ∙ (length-take room (drop place file) ∙ ap (min room) (length-drop place file)) in
       let many : length (take (count - 0) piece) ≡ count = omega (arith, length-take (count - 0) piece) in
       let held_is : take (count - 0) piece ≡ take (length (take (count - 0) piece)) (drop place file) = here ∙ (take_long room (drop place file) ∙ ap (λ bytes. take (length bytes) (drop place file)) (sym here)) in
       let before : sum ≡ plain_sum (behind_sum (take place file)) =
-      ap (λ (s : Standing). s.sum) is ∙ (stood.sum ∙ ap (λ n. plain_sum (behind_sum (take n file))) (omega arith)) in
+      ap (λ (s : ReaderState). s.sum) is ∙ (stood.sum ∙ ap (λ n. plain_sum (behind_sum (take n file))) (omega arith)) in
       let piece_is : take count piece ≡ take count (drop place file) = ap (λ n. take n piece) (omega arith) ∙ (held_is ∙ ap (λ n. take n (drop place file)) many) in
       let whole : behind_sum (take place file) ++ drop (8 - place) (take count piece) ≡ behind_sum (take (place + length (take (count - 0) piece)) file) =
       ap (λ bytes. behind_sum (take place file) ++ drop (8 - place) bytes) piece_is
       ∙ (sym (behind_both file place count low_place) ∙ ap (λ n. behind_sum (take (place + n) file)) (sym many)) in (
         record {
-          limit = subst (λ (s : Standing). length file ≤ s.limit) (sym is) stood.limit;
+          limit = subst (λ (s : ReaderState). length file ≤ s.limit) (sym is) stood.limit;
           within = omega (arith, long, low_place);
           held = held_is;
           sum = added (behind_sum (take place file)) before ∙ ap plain_sum whole;
@@ -82,42 +82,42 @@ module _ (old : Standing) (name piece : List ℕ) (place limit lines sum more su
   filled (Some file) got = λ stood. stands_filled file got stood
 
 -- an empty reader that read a piece, where the view tells its file
-pub fill_told : (view : Option View) (old : Standing) (name held piece : List ℕ) (place limit lines sum more sum2 count room to : ℕ) → holding name held place limit lines sum ≡ old → old.held ≡ [] → count ≤ length piece → room ≡ min (to - place) 4096 → to ≤ old.limit
+pub fill_told : (view : Option View) (old : ReaderState) (name held piece : List ℕ) (place limit lines sum more sum2 count room to : ℕ) → holding name held place limit lines sum ≡ old → old.held ≡ [] → count ≤ length piece → room ≡ min (to - place) 4096 → to ≤ old.limit
     → ((front : List ℕ) → IsPlainSumOf sum front → IsPlainSumOf sum2 (front ++ drop (8 - place) (take count piece)))
     → IfSome (bytes_in view name) (λ file. take count piece ≡ take room (drop place file))
     → IfSome (bytes_in view old.name) (λ file. StandsIn old file → StandsIn (holding name (take (count - 0) piece) place limit more sum2) file × (ltb 0 count ≡ false → min to (length file) ≤ place))
 fill_told view old name held piece place limit lines sum more sum2 count room to is none within room_is low added got =
-    let held_is : held ≡ [] = ap (λ (s : Standing). s.held) is ∙ none in
+    let held_is : held ≡ [] = ap (λ (s : ReaderState). s.held) is ∙ none in
     let empty : holding name [] place limit lines sum ≡ old = ap (λ h. holding name h place limit lines sum) (sym held_is) ∙ is in
-    let name_is : name ≡ old.name = ap (λ (s : Standing). s.name) is in
-    let limit_is : to ≤ limit = subst (λ (s : Standing). to ≤ s.limit) (sym is) low in
+    let name_is : name ≡ old.name = ap (λ (s : ReaderState). s.name) is in
+    let limit_is : to ≤ limit = subst (λ (s : ReaderState). to ≤ s.limit) (sym is) low in
     filled old name piece place limit lines sum more sum2 count room to empty within room_is limit_is added (bytes_in view old.name) (subst (λ n. IfSome (bytes_in view n) (λ file. take count piece ≡ take room (drop place file))) name_is got)
 
 -- the reader that read nothing
-pub fill_failed : (o : Option (List ℕ)) (old : Standing) (name held piece : List ℕ) (place limit lines sum more : ℕ) → holding name held place limit lines sum ≡ old → old.held ≡ [] → Stays o old (holding name (take (0 - 0) (drop 0 piece)) place limit more sum)
+pub fill_failed : (o : Option (List ℕ)) (old : ReaderState) (name held piece : List ℕ) (place limit lines sum more : ℕ) → holding name held place limit lines sum ≡ old → old.held ≡ [] → Stays o old (holding name (take (0 - 0) (drop 0 piece)) place limit more sum)
 fill_failed o old name held piece place limit lines sum more is none file same stands = record {
-  limit = subst (λ (s : Standing). length file ≤ s.limit) (sym is) stands.limit;
-  within = omega (arith, stands.within, ap (λ (s : Standing). s.place) is);
+  limit = subst (λ (s : ReaderState). length file ≤ s.limit) (sym is) stands.limit;
+  within = omega (arith, stands.within, ap (λ (s : ReaderState). s.place) is);
   held = refl;
-  sum = ap (λ (s : Standing). s.sum) is ∙ (stands.sum ∙ ap (λ n. plain_sum (behind_sum (take n file))) (omega (arith, ap length none, ap (λ (s : Standing). s.place) is)));
+  sum = ap (λ (s : ReaderState). s.sum) is ∙ (stands.sum ∙ ap (λ n. plain_sum (behind_sum (take n file))) (omega (arith, ap length none, ap (λ (s : ReaderState). s.place) is)));
 }
 
 -- what a filled reader is told makes it stay
-pub filled_stays : (o : Option (List ℕ)) (old new : Standing) (End : List ℕ → Type 0) → IfSome o (λ file. StandsIn old file → StandsIn new file × End file) → Stays o old new
+pub filled_stays : (o : Option (List ℕ)) (old new : ReaderState) (End : List ℕ → Type 0) → IfSome o (λ file. StandsIn old file → StandsIn new file × End file) → Stays o old new
 filled_stays None old new End told = λ file is stands. cc
 filled_stays (Some other) old new End told = λ file is stands. let same : other ≡ file = cc in subst (λ f. StandsIn new f) same (told (subst (λ f. StandsIn old f) (sym same) stands)).0
 
 -- up to the limit is up to the end
-pub filled_whole : (o : Option (List ℕ)) (old new : Standing) (more : Bool) (to : ℕ) → to ≡ old.limit → IfSome o (λ file. StandsIn old file → StandsIn new file × (more ≡ false → min to (length file) ≤ new.place)) → IfSome o (λ file. StandsIn old file → StandsIn new file × (more ≡ false → new.place ≡ length file))
+pub filled_whole : (o : Option (List ℕ)) (old new : ReaderState) (more : Bool) (to : ℕ) → to ≡ old.limit → IfSome o (λ file. StandsIn old file → StandsIn new file × (more ≡ false → min to (length file) ≤ new.place)) → IfSome o (λ file. StandsIn old file → StandsIn new file × (more ≡ false → new.place ≡ length file))
 filled_whole None old new more to is told = tt
 filled_whole (Some file) old new more to is told = λ stands. let here = told stands in (here.0, λ none. let past = here.1 none in omega (arith, stands.limit, here.0.within))
 
 -- one call behind another
-pub stays_on : (o p : Option (List ℕ)) (old now new : Standing) → p ≡ o → Stays o old now → Stays p now new → Stays o old new
+pub stays_on : (o p : Option (List ℕ)) (old now new : ReaderState) → p ≡ o → Stays o old now → Stays p now new → Stays o old new
 stays_on o p old now new same first behind file is stands = behind file (same ∙ is) (first file is stands)
 
 -- nothing was left before the place
-pub skipped_all : (o p : Option (List ℕ)) (old now new : Standing) (more : Bool) (to : ℕ) → p ≡ o → Stays o old now → more ≡ false → IfSome p (λ file. StandsIn now file → StandsIn new file × (more ≡ false → min to (length file) ≤ new.place))
+pub skipped_all : (o p : Option (List ℕ)) (old now new : ReaderState) (more : Bool) (to : ℕ) → p ≡ o → Stays o old now → more ≡ false → IfSome p (λ file. StandsIn now file → StandsIn new file × (more ≡ false → min to (length file) ≤ new.place))
     → (file : List ℕ) → o ≡ Some file → StandsIn old file → min to (length file) ≤ new.place
 skipped_all o p old now new more to same stays none told file is stands =
     (subst (λ q. IfSome q (λ f. StandsIn now f → StandsIn new f × (more ≡ false → min to (length f) ≤ new.place))) (same ∙ is) told (stays file is stands)).1 none
@@ -143,79 +143,79 @@ held_split piece start end at within is =
     let rest = held_behind piece start end at within in
     sym (take-append-drop at held) ∙ ap (λ behind. take at held ++ behind) (drop-cons held at 0 within ∙ (ap (λ b. b ∷ drop (suc at) held) is ∙ ap (λ behind. 10 ∷ behind) rest))
 
-pub takes_some : (old : Standing) (name line longer piece : List ℕ) (start end place limit lines sum more at : ℕ) → holding name (held_of piece start end) place limit lines sum ≡ old
+pub takes_some : (old : ReaderState) (name line longer piece : List ℕ) (start end place limit lines sum more at : ℕ) → holding name (held_of piece start end) place limit lines sum ≡ old
     → longer ≡ line ++ take at (held_of piece start end) → at < length (held_of piece start end) → get_or (held_of piece start end) at 0 ≡ 10 → NoLfBefore (held_of piece start end) at
     → Takes old (holding name (held_of piece (start + (at + 1)) end) (place + (at + 1)) limit more sum) line longer true
 takes_some old name line longer piece start end place limit lines sum more at is items within found none =
-    let held_is : held_of piece start end ≡ old.held = ap (λ (s : Standing). s.held) is in
-    let place_is : place ≡ old.place = ap (λ (s : Standing). s.place) is in
+    let held_is : held_of piece start end ≡ old.held = ap (λ (s : ReaderState). s.held) is in
+    let place_is : place ≡ old.place = ap (λ (s : ReaderState). s.place) is in
     (take at (held_of piece start end), (items, no_lf_front at (held_of piece start end) none within, sym held_is ∙ held_split piece start end at within found, omega (arith, length-take at (held_of piece start end))))
 
-pub takes_none : (old : Standing) (name line longer piece : List ℕ) (start end place limit lines sum more : ℕ) → holding name (held_of piece start end) place limit lines sum ≡ old
+pub takes_none : (old : ReaderState) (name line longer piece : List ℕ) (start end place limit lines sum more : ℕ) → holding name (held_of piece start end) place limit lines sum ≡ old
     → longer ≡ line ++ held_of piece start end → NoLfBefore (held_of piece start end) (length (held_of piece start end))
     → Takes old (holding name (held_of piece end end) (place + length (held_of piece start end)) limit more sum) line longer false
 takes_none old name line longer piece start end place limit lines sum more is items none =
-    let held_is : held_of piece start end ≡ old.held = ap (λ (s : Standing). s.held) is in
-    let place_is : place ≡ old.place = ap (λ (s : Standing). s.place) is in
+    let held_is : held_of piece start end ≡ old.held = ap (λ (s : ReaderState). s.held) is in
+    let place_is : place ≡ old.place = ap (λ (s : ReaderState). s.place) is in
     let zero_is : end - end ≡ 0 = omega arith in
     (held_of piece start end, (items, no_lf_all (held_of piece start end) none, sym held_is, ap (λ n. take n (drop end piece)) zero_is, omega arith))
 
 -- ---- what is passed over
 
-held_within : (old : Standing) (name piece : List ℕ) (start end place limit lines sum count : ℕ) → holding name (held_of piece start end) place limit lines sum ≡ old → count ≤ length old.held → count ≤ end - start
+held_within : (old : ReaderState) (name piece : List ℕ) (start end place limit lines sum count : ℕ) → holding name (held_of piece start end) place limit lines sum ≡ old → count ≤ length old.held → count ≤ end - start
 held_within old name piece start end place limit lines sum count is fits =
-    let long : length (held_of piece start end) ≡ length old.held = ap (λ (s : Standing). length s.held) is in omega (arith, length-take (end - start) (drop start piece))
+    let long : length (held_of piece start end) ≡ length old.held = ap (λ (s : ReaderState). length s.held) is in omega (arith, length-take (end - start) (drop start piece))
 
-pub held_past : (old : Standing) (name piece : List ℕ) (start end place limit lines sum count : ℕ) → holding name (held_of piece start end) place limit lines sum ≡ old → count ≤ length old.held → held_of piece (start + count) end ≡ drop count old.held
+pub held_past : (old : ReaderState) (name piece : List ℕ) (start end place limit lines sum count : ℕ) → holding name (held_of piece start end) place limit lines sum ≡ old → count ≤ length old.held → held_of piece (start + count) end ≡ drop count old.held
 held_past old name piece start end place limit lines sum count is fits =
     let within = held_within old name piece start end place limit lines sum count is fits in
     let room : end - start ≡ count + (end - (start + count)) = omega arith in
-    sym (ap (λ (s : Standing). drop count s.held) (sym is)
+    sym (ap (λ (s : ReaderState). drop count s.held) (sym is)
     ∙ (ap (λ n. drop count (take n (drop start piece))) room
     ∙ (drop-take count (end - (start + count)) (drop start piece) ∙ ap (take (end - (start + count))) (drop-drop count start piece))))
 
-pub passed_over : (old : Standing) (name piece : List ℕ) (start end place limit lines sum count : ℕ) → holding name (held_of piece start end) place limit lines sum ≡ old → count ≤ length old.held → take (start + count - start) (drop start piece) ≡ take count old.held
+pub passed_over : (old : ReaderState) (name piece : List ℕ) (start end place limit lines sum count : ℕ) → holding name (held_of piece start end) place limit lines sum ≡ old → count ≤ length old.held → take (start + count - start) (drop start piece) ≡ take count old.held
 passed_over old name piece start end place limit lines sum count is fits =
     let within = held_within old name piece start end place limit lines sum count is fits in
     let many : start + count - start ≡ count = omega arith in
-    ap (λ n. take n (drop start piece)) many ∙ (sym (take-take count (end - start) (drop start piece) within) ∙ ap (λ (s : Standing). take count s.held) is)
+    ap (λ n. take n (drop start piece)) many ∙ (sym (take-take count (end - start) (drop start piece) within) ∙ ap (λ (s : ReaderState). take count s.held) is)
 
 -- ---- a whole line
 
 -- what was left at the start is the line so far and what is left now
-abbrev pub Going : Option (List ℕ) → Standing → Standing → List ℕ → Type 0
+abbrev pub Going : Option (List ℕ) → ReaderState → ReaderState → List ℕ → Type 0
 Going None start now line = Unit {0}
 Going (Some file) start now line = StandsIn start file → StandsIn now file × (drop start.place file ≡ line ++ drop now.place file)
 
-pub going_start : (o : Option (List ℕ)) (start : Standing) → Going o start start []
+pub going_start : (o : Option (List ℕ)) (start : ReaderState) → Going o start start []
 going_start None start = tt
 going_start (Some file) start = λ stands. (stands, refl)
 
 -- what is held is in front of what is left
-left_is : (now : Standing) (file : List ℕ) → StandsIn now file → drop now.place file ≡ now.held ++ drop (now.place + length now.held) file
+left_is : (now : ReaderState) (file : List ℕ) → StandsIn now file → drop now.place file ≡ now.held ++ drop (now.place + length now.held) file
 left_is now file stands =
     sym (take-append-drop (length now.held) (drop now.place file))
     ∙ (ap (λ front. front ++ drop (length now.held) (drop now.place file)) (sym stands.held) ∙ ap (λ rest. now.held ++ rest) (drop-drop (length now.held) now.place file))
 
-front_gone : (now new : Standing) (front file : List ℕ) → StandsIn now file → now.held ≡ front ++ 10 ∷ new.held → new.place ≡ now.place + length front + 1 → drop new.place file ≡ new.held ++ drop (now.place + length now.held) file
+front_gone : (now new : ReaderState) (front file : List ℕ) → StandsIn now file → now.held ≡ front ++ 10 ∷ new.held → new.place ≡ now.place + length front + 1 → drop new.place file ≡ new.held ++ drop (now.place + length now.held) file
 front_gone now new front file stands held_is place_is =
     let parts : drop now.place file ≡ (front ++ 10 ∷ []) ++ (new.held ++ drop (now.place + length now.held) file) = left_is now file stands ∙ (ap (λ h. h ++ drop (now.place + length now.held) file) held_is ∙ (append_assoc front (10 ∷ new.held) _ ∙ sym (append_assoc front (10 ∷ []) _))) in
     let many : new.place ≡ now.place + length (front ++ 10 ∷ []) = omega (arith, length-append front (10 ∷ [])) in
     ap (λ n. drop n file) many ∙ (sym (drop-drop (length (front ++ 10 ∷ [])) now.place file) ∙ (ap (drop (length (front ++ 10 ∷ []))) parts ∙ drop-append_seam (front ++ 10 ∷ []) _))
 
 -- the next bytes up to LF are gone
-stands_on : (now new : Standing) (front file : List ℕ) → StandsIn now file → Kept now new → now.held ≡ front ++ 10 ∷ new.held → new.place ≡ now.place + length front + 1 → StandsIn new file
+stands_on : (now new : ReaderState) (front file : List ℕ) → StandsIn now file → Kept now new → now.held ≡ front ++ 10 ∷ new.held → new.place ≡ now.place + length front + 1 → StandsIn new file
 stands_on now new front file stands kept held_is place_is =
     let long : length now.held ≡ length front + suc (length new.held) = ap length held_is ∙ length-append front (10 ∷ new.held) in
     stands_behind now new file kept (omega arith) (sym (ap (take (length new.held)) (front_gone now new front file stands held_is place_is) ∙ take-append_seam new.held _)) stands
 
-next_is : (now new : Standing) (front file : List ℕ) → StandsIn now file → now.held ≡ front ++ 10 ∷ new.held → new.place ≡ now.place + length front + 1 → drop now.place file ≡ front ++ 10 ∷ drop new.place file
+next_is : (now new : ReaderState) (front file : List ℕ) → StandsIn now file → now.held ≡ front ++ 10 ∷ new.held → new.place ≡ now.place + length front + 1 → drop now.place file ≡ front ++ 10 ∷ drop new.place file
 next_is now new front file stands held_is place_is =
     left_is now file stands
     ∙ (ap (λ h. h ++ drop (now.place + length now.held) file) held_is
     ∙ (append_assoc front (10 ∷ new.held) _ ∙ ap (λ rest. front ++ 10 ∷ rest) (sym (front_gone now new front file stands held_is place_is))))
 
-cut_front : (start now new : Standing) (line front file : List ℕ) → drop start.place file ≡ line ++ drop now.place file → drop now.place file ≡ front ++ 10 ∷ drop new.place file → HasNoLf (line ++ front)
+cut_front : (start now new : ReaderState) (line front file : List ℕ) → drop start.place file ≡ line ++ drop now.place file → drop now.place file ≡ front ++ 10 ∷ drop new.place file → HasNoLf (line ++ front)
     → cut (drop start.place file) ≡ record { lines = (line ++ front) ∷ (cut (drop new.place file)).lines; tail = (cut (drop new.place file)).tail }
 cut_front start now new line front file whole next none =
     ap cut (whole ∙ (ap (λ rest. line ++ rest) next ∙ sym (append_assoc line front (10 ∷ drop new.place file)))) ∙ cut_line (line ++ front) (drop new.place file) none
@@ -224,7 +224,7 @@ no_lf_append : (line front : List ℕ) → HasNoLf line → HasNoLf front → Ha
 no_lf_append line front none more = All-append (λ b. b ≢ 10) line front none more
 
 -- a front up to LF ends the line
-pub line_taken : (o : Option (List ℕ)) (start now new : Standing) (line longer : List ℕ) → Going o start now line → HasNoLf line → Kept now new → Takes now new line longer true → TakesLine o start new longer true
+pub line_taken : (o : Option (List ℕ)) (start now new : ReaderState) (line longer : List ℕ) → Going o start now line → HasNoLf line → Kept now new → Takes now new line longer true → TakesLine o start new longer true
 line_taken None start now new line longer going none kept takes = tt
 line_taken (Some file) start now new line longer going none kept takes = λ stands.
     let here = going stands in
@@ -234,18 +234,18 @@ line_taken (Some file) start now new line longer going none kept takes = λ stan
       rw takes.1.0 (cut_front start now new line front file here.1 next (no_lf_append line front none takes.1.1)),
     )
 
-pub line_without : (now new : Standing) (line longer : List ℕ) (ended : Bool) → HasNoLf line → Takes now new line longer ended → HasNoLf longer
+pub line_without : (now new : ReaderState) (line longer : List ℕ) (ended : Bool) → HasNoLf line → Takes now new line longer ended → HasNoLf longer
 line_without now new line longer true none takes = rw takes.1.0 (no_lf_append line takes.0 none takes.1.1)
 line_without now new line longer false none takes = rw takes.1.0 (no_lf_append line takes.0 none takes.1.1)
 
 -- a reader that gave all that it held still stands
-gone_stands_in : (now gone : Standing) (line longer file : List ℕ) → StandsIn now file → Kept now gone → Takes now gone line longer false → StandsIn gone file
+gone_stands_in : (now gone : ReaderState) (line longer file : List ℕ) → StandsIn now file → Kept now gone → Takes now gone line longer false → StandsIn gone file
 gone_stands_in now gone line longer file here kept takes =
     let long : length now.held ≡ length takes.0 = ap length takes.1.2 in
     stands_behind now gone file kept (omega (arith, takes.1.4, long, ap length takes.1.3)) (takes.1.3 ∙ ap (λ n. take n (drop gone.place file)) (sym (ap length takes.1.3))) here
 
 -- all that was held went to the line, and a piece may have been read
-pub going_on : (o : Option (List ℕ)) (start now gone new : Standing) (line longer : List ℕ) (more : Bool) → Going o start now line → Kept now gone → Takes now gone line longer false
+pub going_on : (o : Option (List ℕ)) (start now gone new : ReaderState) (line longer : List ℕ) (more : Bool) → Going o start now line → Kept now gone → Takes now gone line longer false
     → IfSome o (λ file. StandsIn gone file → StandsIn new file × (more ≡ false → new.place ≡ length file)) → new.place ≡ gone.place → Going o start new longer
 going_on None start now gone new line longer more going kept takes filled place_is = tt
 going_on (Some file) start now gone new line longer more going kept takes filled place_is = λ stands.
@@ -259,7 +259,7 @@ going_on (Some file) start now gone new line longer more going kept takes filled
     ((filled gone_stands).0, here.1 ∙ (ap (λ r. line ++ r) rest ∙ (sym (append_assoc line front (drop new.place file)) ∙ ap (λ l. l ++ drop new.place file) (sym takes.1.0))))
 
 -- the same, where the view is the same and the name too
-pub going_on_by : (o p : Option (List ℕ)) (start now gone new : Standing) (line longer : List ℕ) (more : Bool) → p ≡ o → Going o start now line → Kept now gone → Takes now gone line longer false
+pub going_on_by : (o p : Option (List ℕ)) (start now gone new : ReaderState) (line longer : List ℕ) (more : Bool) → p ≡ o → Going o start now line → Kept now gone → Takes now gone line longer false
     → IfSome p (λ file. StandsIn gone file → StandsIn new file × (more ≡ false → new.place ≡ length file)) → new.place ≡ gone.place → Going o start new longer
 going_on_by o p start now gone new line longer more is going kept takes filled place_is =
     going_on o start now gone new line longer more going kept takes (subst (λ q. IfSome q (λ file. StandsIn gone file → StandsIn new file × (more ≡ false → new.place ≡ length file))) is filled) place_is
@@ -268,7 +268,7 @@ pub same_file : (a b : Option View) (m n : List ℕ) → a ≡ b → m ≡ n →
 same_file a b m n views names = ap (λ v. bytes_in v m) views ∙ ap (bytes_in b) names
 
 -- nothing more could be read
-pub line_over : (o p : Option (List ℕ)) (start now gone new : Standing) (line longer : List ℕ) → p ≡ o → Going o start now line → HasNoLf line → Kept now gone → Takes now gone line longer false
+pub line_over : (o p : Option (List ℕ)) (start now gone new : ReaderState) (line longer : List ℕ) → p ≡ o → Going o start now line → HasNoLf line → Kept now gone → Takes now gone line longer false
     → IfSome p (λ file. StandsIn gone file → StandsIn new file × (false ≡ false → new.place ≡ length file)) → new.place ≡ gone.place → TakesLine o start new longer false
 line_over None p start now gone new line longer is going none kept takes filled place_is = tt
 line_over (Some file) p start now gone new line longer is going none kept takes filled place_is = λ stands.
@@ -280,35 +280,35 @@ line_over (Some file) p start now gone new line longer is going none kept takes 
     (on.0, ap cut (on.1 ∙ (ap (λ r. longer ++ r) end ∙ append-nil longer)) ∙ cut_tail longer (line_without now gone line longer false none takes))
 
 -- at the arm of a test
-pub takes_at : (old new : Standing) (line longer : List ℕ) (a b : Bool) → a ≡ b → Takes old new line longer a → Takes old new line longer b
+pub takes_at : (old new : ReaderState) (line longer : List ℕ) (a b : Bool) → a ≡ b → Takes old new line longer a → Takes old new line longer b
 takes_at old new line longer a b is takes = subst (λ e. Takes old new line longer e) is takes
 
-pub filled_at : (o : Option (List ℕ)) (gone new : Standing) (a b : Bool) → a ≡ b → IfSome o (λ file. StandsIn gone file → StandsIn new file × (a ≡ false → new.place ≡ length file)) → IfSome o (λ file. StandsIn gone file → StandsIn new file × (b ≡ false → new.place ≡ length file))
+pub filled_at : (o : Option (List ℕ)) (gone new : ReaderState) (a b : Bool) → a ≡ b → IfSome o (λ file. StandsIn gone file → StandsIn new file × (a ≡ false → new.place ≡ length file)) → IfSome o (λ file. StandsIn gone file → StandsIn new file × (b ≡ false → new.place ≡ length file))
 filled_at o gone new a b is filled = subst (λ e. IfSome o (λ file. StandsIn gone file → StandsIn new file × (e ≡ false → new.place ≡ length file))) is filled
 
-pub later_place : (now gone : Standing) (line longer : List ℕ) (start new : ℕ) → now.place ≡ start + length line → Takes now gone line longer false → new ≡ gone.place → new ≡ start + length longer
+pub later_place : (now gone : ReaderState) (line longer : List ℕ) (start new : ℕ) → now.place ≡ start + length line → Takes now gone line longer false → new ≡ gone.place → new ≡ start + length longer
 later_place now gone line longer start new here takes is =
     let long : length longer ≡ length line + length takes.0 = ap length takes.1.0 ∙ length-append line takes.0 in omega (arith, takes.1.4)
 
-pub past_place : (now new : Standing) (line longer : List ℕ) (start : ℕ) → now.place ≡ start + length line → Takes now new line longer true → new.place ≡ start + length longer + 1
+pub past_place : (now new : ReaderState) (line longer : List ℕ) (start : ℕ) → now.place ≡ start + length line → Takes now new line longer true → new.place ≡ start + length longer + 1
 past_place now new line longer start here takes =
     let long : length longer ≡ length line + length takes.0 = ap length takes.1.0 ∙ length-append line takes.0 in omega (arith, takes.1.3)
 
 -- ---- a line that is held whole
 
-held_line_takes : (old new : Standing) (line : List ℕ) (count : ℕ) → HasNoLf line → length line ≡ count → take (count + 1) old.held ≡ line ++ 10 ∷ [] → new.held ≡ drop (count + 1) old.held → new.place ≡ old.place + (count + 1) → Takes old new [] line true
+held_line_takes : (old new : ReaderState) (line : List ℕ) (count : ℕ) → HasNoLf line → length line ≡ count → take (count + 1) old.held ≡ line ++ 10 ∷ [] → new.held ≡ drop (count + 1) old.held → new.place ≡ old.place + (count + 1) → Takes old new [] line true
 held_line_takes old new line count none long front held_is place_is =
     let rest : line ++ 10 ∷ drop (count + 1) old.held ≡ line ++ 10 ∷ new.held = ap (λ h. line ++ 10 ∷ h) (sym held_is) in
     let held : old.held ≡ line ++ 10 ∷ new.held = sym (take-append-drop (count + 1) old.held) ∙ (ap (λ f. f ++ drop (count + 1) old.held) front ∙ (append_assoc line (10 ∷ []) (drop (count + 1) old.held) ∙ rest)) in
     (line, (refl, none, held, omega arith))
 
-pub held_line_taken : (o : Option (List ℕ)) (old new : Standing) (line : List ℕ) (count : ℕ) → HasNoLf line → length line ≡ count → take (count + 1) old.held ≡ line ++ 10 ∷ []
+pub held_line_taken : (o : Option (List ℕ)) (old new : ReaderState) (line : List ℕ) (count : ℕ) → HasNoLf line → length line ≡ count → take (count + 1) old.held ≡ line ++ 10 ∷ []
     → Kept old new → new.held ≡ drop (count + 1) old.held → new.place ≡ old.place + (count + 1) → TakesLine o old new line true
 held_line_taken o old new line count none long front kept held_is place_is =
     line_taken o old old new [] line (going_start o old) (All-nil (λ b. b ≢ 10)) kept (held_line_takes old new line count none long front held_is place_is)
 
 -- what is held behind a line and its LF
-pub held_past_line : (old : Standing) (name piece : List ℕ) (start end place limit lines sum count : ℕ) → holding name (held_of piece start end) place limit lines sum ≡ old → count < length old.held → held_of piece (start + count + 1) end ≡ drop (count + 1) old.held
+pub held_past_line : (old : ReaderState) (name piece : List ℕ) (start end place limit lines sum count : ℕ) → holding name (held_of piece start end) place limit lines sum ≡ old → count < length old.held → held_of piece (start + count + 1) end ≡ drop (count + 1) old.held
 held_past_line old name piece start end place limit lines sum count is fits =
     let from : start + count + 1 ≡ start + (count + 1) = omega arith in
     ap (λ n. held_of piece n end) from ∙ held_past old name piece start end place limit lines sum (count + 1) is (omega arith)
@@ -316,19 +316,19 @@ held_past_line old name piece start end place limit lines sum count is fits =
 -- ---- the sums
 
 -- the sums are those of what stands between the start and now
-abbrev pub Summing : Option (List ℕ) → Standing → Standing → ℕ × ℕ → Type 0
+abbrev pub Summing : Option (List ℕ) → ReaderState → ReaderState → ℕ × ℕ → Type 0
 Summing None start now sum = Unit {0}
 Summing (Some file) start now sum = StandsIn start file → StandsIn now file × ((front : List ℕ) × IsSumOf sum front × (drop start.place file ≡ front ++ drop now.place file))
 
-pub summing_start : (o : Option (List ℕ)) (start : Standing) (sum : ℕ × ℕ) → IsSumOf sum [] → Summing o start start sum
+pub summing_start : (o : Option (List ℕ)) (start : ReaderState) (sum : ℕ × ℕ) → IsSumOf sum [] → Summing o start start sum
 summing_start None start sum none = tt
 summing_start (Some file) start sum none = λ stands. (stands, ([], none, refl))
 
-emptied_stands : (now gone : Standing) (file : List ℕ) → StandsIn now file → Kept now gone → gone.held ≡ [] → gone.place ≡ now.place + length now.held → StandsIn gone file
+emptied_stands : (now gone : ReaderState) (file : List ℕ) → StandsIn now file → Kept now gone → gone.held ≡ [] → gone.place ≡ now.place + length now.held → StandsIn gone file
 emptied_stands now gone file here kept held_is place_is =
     stands_behind now gone file kept (omega (arith, ap length held_is)) (held_is ∙ ap (λ n. take n (drop gone.place file)) (sym (ap length held_is))) here
 
-pub summing_on : (o p : Option (List ℕ)) (start now gone new : Standing) (sum more_sum : ℕ × ℕ) (more : Bool) → p ≡ o → Summing o start now sum → Kept now gone → gone.held ≡ [] → gone.place ≡ now.place + length now.held
+pub summing_on : (o p : Option (List ℕ)) (start now gone new : ReaderState) (sum more_sum : ℕ × ℕ) (more : Bool) → p ≡ o → Summing o start now sum → Kept now gone → gone.held ≡ [] → gone.place ≡ now.place + length now.held
     → ((front : List ℕ) → IsSumOf sum front → IsSumOf more_sum (front ++ now.held))
     → IfSome p (λ file. StandsIn gone file → StandsIn new file × (more ≡ false → new.place ≡ length file)) → new.place ≡ gone.place → Summing o start new more_sum
 summing_on None p start now gone new sum more_sum more is summing kept held_is place_is adds read new_is = tt
@@ -341,7 +341,7 @@ summing_on (Some file) p start now gone new sum more_sum more is summing kept he
       (here.1.0 ++ now.held, adds here.1.0 here.1.1, here.1.2 ∙ (ap (λ r. here.1.0 ++ r) rest ∙ sym (append_assoc here.1.0 now.held (drop new.place file)))),
     )
 
-pub summing_end : (o p : Option (List ℕ)) (start now gone new : Standing) (sum more_sum : ℕ × ℕ) → p ≡ o → Summing o start now sum → Kept now gone → gone.held ≡ [] → gone.place ≡ now.place + length now.held
+pub summing_end : (o p : Option (List ℕ)) (start now gone new : ReaderState) (sum more_sum : ℕ × ℕ) → p ≡ o → Summing o start now sum → Kept now gone → gone.held ≡ [] → gone.place ≡ now.place + length now.held
     → ((front : List ℕ) → IsSumOf sum front → IsSumOf more_sum (front ++ now.held))
     → IfSome p (λ file. StandsIn gone file → StandsIn new file × (false ≡ false → new.place ≡ length file)) → new.place ≡ gone.place → IfSome o (λ file. StandsIn start file → IsSumOf more_sum (drop start.place file))
 summing_end None p start now gone new sum more_sum is summing kept held_is place_is adds read new_is = tt
@@ -355,17 +355,17 @@ summing_end (Some file) p start now gone new sum more_sum is summing kept held_i
 
 -- ---- a reader that stays in its file
 
-pub going_stays : (o : Option (List ℕ)) (start now : Standing) (line : List ℕ) → Going o start now line → Stays o start now
+pub going_stays : (o : Option (List ℕ)) (start now : ReaderState) (line : List ℕ) → Going o start now line → Stays o start now
 going_stays None start now line going = λ file is stands. cc
 going_stays (Some other) start now line going = λ file is stands. let same : other ≡ file = cc in subst (λ f. StandsIn now f) same (going (subst (λ f. StandsIn start f) (sym same) stands)).0
 
-pub line_stays : (o : Option (List ℕ)) (start new : Standing) (line : List ℕ) (ended : Bool) → TakesLine o start new line ended → Stays o start new
+pub line_stays : (o : Option (List ℕ)) (start new : ReaderState) (line : List ℕ) (ended : Bool) → TakesLine o start new line ended → Stays o start new
 line_stays None start new line ended takes = λ file is stands. cc
 line_stays (Some other) start new line ended takes = λ file is stands. let same : other ≡ file = cc in subst (λ f. StandsIn new f) same (takes (subst (λ f. StandsIn start f) (sym same) stands)).0
 
-pub gone_stays : (o : Option (List ℕ)) (now gone : Standing) (line longer : List ℕ) → Kept now gone → Takes now gone line longer false → Stays o now gone
+pub gone_stays : (o : Option (List ℕ)) (now gone : ReaderState) (line longer : List ℕ) → Kept now gone → Takes now gone line longer false → Stays o now gone
 gone_stays o now gone line longer kept takes file is here = gone_stands_in now gone line longer file here kept takes
 
 -- all that was held was let go
-pub emptied_stays : (o : Option (List ℕ)) (now gone : Standing) → Kept now gone → gone.held ≡ [] → gone.place ≡ now.place + length now.held → Stays o now gone
+pub emptied_stays : (o : Option (List ℕ)) (now gone : ReaderState) → Kept now gone → gone.held ≡ [] → gone.place ≡ now.place + length now.held → Stays o now gone
 emptied_stays o now gone kept held_is place_is file is here = emptied_stands now gone file here kept held_is place_is

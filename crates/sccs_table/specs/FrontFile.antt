@@ -7,11 +7,11 @@ use Rattle.sccs_disk.specs.Told.{Told, seen}
 use Rattle.sccs_history.specs.declared.headers.Header.{Header}
 use Rattle.sccs_grammar.specs.Front.{ParsedFront, front_from, line_after}
 use Rattle.sccs_grammar.specs.File.{answer, opened}
-use Rattle.sccs_grammar.specs.declared.readings.Reading.{Reading}
+use Rattle.sccs_grammar.specs.declared.header_parsers.HeaderParser.{HeaderParser}
 use Rattle.sccs_grammar.specs.declared.faults.FileFault.{FileFault}
 use Rattle.sccs_grammar.specs.declared.faults.FileFault.TheVariants.{Missing, TooLong, NotSccs, BadSum, BadFormat, Encoded, Changed, Failed, Memory}
 use Rattle.sccs_table.specs.declared.fronts.Front.{Front}
-use Rattle.sccs_table.specs.Standing.{Standing, StandsIn, Stays, behind_sum, bytes_in, file_in, left}
+use Rattle.sccs_table.specs.ReaderState.{ReaderState, StandsIn, Stays, behind_sum, bytes_in, file_in, left}
 use Rattle.sccs_table.specs.SumOf.{IsPlainSumOf, is_sum_of}
 
 -- the answer is this refusal; want of memory and a failing disk may come in place of any
@@ -67,19 +67,19 @@ Opens None name result = Unit {0}
 Opens (Some view) name result = OpensAt (file_in view name) result
 
 -- the first line of a file is a sum line with this number, and a reader stands behind it
-abbrev pub TakesSum : List ℕ → Standing → Result ℕ FileFault → Type 0
+abbrev pub TakesSum : List ℕ → ReaderState → Result ℕ FileFault → Type 0
 TakesSum file new (Ok n) = StandsIn new file × (opened file ≡ Ok (record { sum_of = n; lines = (left new file).lines; bytes = behind_sum file })) × ((cut file).tail ≡ (left new file).tail)
 TakesSum file new (Err NotSccs) = opened file ≡ Err NotSccs
 TakesSum file new (Err Failed) = Unit {0}
 TakesSum file new (Err Memory) = Unit {0}
 TakesSum file new (Err _) = ⊥
 
-abbrev pub SumLine : Option (List ℕ) → Standing → Standing → Result ℕ FileFault → Type 0
+abbrev pub SumLine : Option (List ℕ) → ReaderState → ReaderState → Result ℕ FileFault → Type 0
 SumLine None old new result = Unit {0}
 SumLine (Some file) old new result = StandsIn old file → TakesSum file new result
 
--- reading goes from one standing to another, up to the body, or to the line at fault
-abbrev pub ReadsLines : List ℕ → Standing → Standing → Reading → ℕ → Result (Header × ℕ) FileFault → Type 0
+-- reading goes from one reader_state to another, up to the body, or to the line at fault
+abbrev pub ReadsLines : List ℕ → ReaderState → ReaderState → HeaderParser → ℕ → Result (Header × ℕ) FileFault → Type 0
 ReadsLines file old new r n (Ok x) =
     StandsIn new file × ((left old file).tail ≡ (left new file).tail)
     × (front_from n r (left old file).lines ≡ Ok (record { header = x.0; line = x.1; rest = (left new file).lines }))
@@ -89,24 +89,24 @@ ReadsLines file old new r n (Err Memory) = Unit {0}
 ReadsLines file old new r n (Err _) = ⊥
 
 -- the same of a told file in which the reader stands
-abbrev pub Reads : Option (List ℕ) → Standing → Standing → Reading → ℕ → Result (Header × ℕ) FileFault → Type 0
+abbrev pub Reads : Option (List ℕ) → ReaderState → ReaderState → HeaderParser → ℕ → Result (Header × ℕ) FileFault → Type 0
 Reads None old new r n result = Unit {0}
 Reads (Some file) old new r n result = StandsIn old file → ReadsLines file old new r n result
 
 -- what is read with a line more, or the line at fault; want of memory may come in place of either
-abbrev pub AnswersLine : Result Reading ℕ → Result Reading FileFault → Type 0
+abbrev pub AnswersLine : Result HeaderParser ℕ → Result HeaderParser FileFault → Type 0
 AnswersLine read (Ok more) = read ≡ Ok more
 AnswersLine read (Err (BadFormat k)) = read ≡ Err k
 AnswersLine read (Err Memory) = Unit {0}
 AnswersLine read (Err _) = ⊥
 
 -- a call that read on in place, as what it read
-abbrev pub read_as : Reading → Result (Unit {0}) FileFault → Result Reading FileFault
+abbrev pub read_as : HeaderParser → Result (Unit {0}) FileFault → Result HeaderParser FileFault
 read_as new (Ok done) = Ok new
 read_as new (Err fault) = Err fault
 
 -- one line more
-abbrev pub HearsLine : List ℕ → Standing → Standing → ℕ → Reading → Result Reading FileFault → Type 0
+abbrev pub HearsLine : List ℕ → ReaderState → ReaderState → ℕ → HeaderParser → Result HeaderParser FileFault → Type 0
 HearsLine file old new n r (Ok s) =
     StandsIn new file × ((line : List ℕ) × (left old file ≡ record { lines = line ∷ (left new file).lines; tail = (left new file).tail }) × (line_after n r line ≡ Ok s))
 HearsLine file old new n r (Err (BadFormat k)) = front_from n r (left old file).lines ≡ Err k
@@ -114,9 +114,9 @@ HearsLine file old new n r (Err Failed) = Unit {0}
 HearsLine file old new n r (Err Memory) = Unit {0}
 HearsLine file old new n r (Err _) = ⊥
 
-abbrev pub HearsNext : Option (List ℕ) → Standing → Standing → ℕ → Reading → Result Reading FileFault → Type 0
-HearsNext None old new n r result = Unit {0}
-HearsNext (Some file) old new n r result = StandsIn old file → HearsLine file old new n r result
+abbrev pub AcceptsNext : Option (List ℕ) → ReaderState → ReaderState → ℕ → HeaderParser → Result HeaderParser FileFault → Type 0
+AcceptsNext None old new n r result = Unit {0}
+AcceptsNext (Some file) old new n r result = StandsIn old file → HearsLine file old new n r result
 
 -- what a first reading answers: it never says that the file was changed
 abbrev pub IsFirst : {T : Type 0} → Result T FileFault → Type 0
@@ -143,7 +143,7 @@ pub record ReadsDisk {D T : Type 0} (told : D → Told) (faults : D → ℕ) (di
   pub cause : result ≡ Err Failed → Rose (faults disk) (faults disk2)
 
 -- The same with a reader of lines, which stays in its file and within its limit.
-pub record ReadsOn {D T : Type 0} (told : D → Told) (faults : D → ℕ) (disk disk2 : D) (old new : Standing) (result : Result T FileFault) : Type 0 where
+pub record ReadsOn {D T : Type 0} (told : D → Told) (faults : D → ℕ) (disk disk2 : D) (old new : ReaderState) (result : Result T FileFault) : Type 0 where
   pub same : told disk2 ≡ told disk
   pub later : faults disk ≤ faults disk2
   pub cause : result ≡ Err Failed → Rose (faults disk) (faults disk2)
@@ -152,7 +152,7 @@ pub record ReadsOn {D T : Type 0} (told : D → Told) (faults : D → ℕ) (disk
   pub ahead : new.place + length new.held ≤ new.limit
 
 -- The same of calls that fail alone.
-pub record ReadsBytes {D T E : Type 0} (told : D → Told) (faults : D → ℕ) (disk disk2 : D) (old new : Standing) (result : Result T E) : Type 0 where
+pub record ReadsBytes {D T E : Type 0} (told : D → Told) (faults : D → ℕ) (disk disk2 : D) (old new : ReaderState) (result : Result T E) : Type 0 where
   pub same : told disk2 ≡ told disk
   pub later : faults disk ≤ faults disk2
   pub cause : OnErr result (Rose (faults disk) (faults disk2))
@@ -160,12 +160,12 @@ pub record ReadsBytes {D T E : Type 0} (told : D → Told) (faults : D → ℕ) 
   pub limit : new.limit ≡ old.limit
   pub ahead : new.place + length new.held ≤ new.limit
 
--- A call that reads on with the next line of that number: it takes one line, which was heard and is counted.
-pub record ReadsLine {D : Type 0} (told : D → Told) (faults : D → ℕ) (disk disk2 : D) (old new : Standing) (n : ℕ) (r s : Reading) (result : Result (Unit {0}) FileFault) : Type 0 where
+-- A call that reads on with the next line of that number: it takes one line, which was accepted and is counted.
+pub record ReadsLine {D : Type 0} (told : D → Told) (faults : D → ℕ) (disk disk2 : D) (old new : ReaderState) (n : ℕ) (r s : HeaderParser) (result : Result (Unit {0}) FileFault) : Type 0 where
   pub frame : ReadsOn told faults disk disk2 old new result
   pub first : IsFirst result
   pub stays : Stays (bytes_in (seen (told disk)) old.name) old new
   pub further : OnOk result (old.place < new.place)
   pub counted : OnOk result (new.lines ≡ old.lines + 1)
-  pub heard : OnOk result ((line : List ℕ) × HasNoLf line × (line_after n r line ≡ Ok s))
-  pub hears : HearsNext (bytes_in (seen (told disk)) old.name) old new n r (read_as s result)
+  pub accepted : OnOk result ((line : List ℕ) × HasNoLf line × (line_after n r line ≡ Ok s))
+  pub hears : AcceptsNext (bytes_in (seen (told disk)) old.name) old new n r (read_as s result)

@@ -1,11 +1,11 @@
 -- How a reader of lines is held.
 use Rattle.std.specs.Prelude.{◌+◌, ◌-◌, ◌≤◌, take, drop}
 use Rattle.sccs_table.specs.Runs.{lf_count}
-use Rattle.sccs_table.specs.Standing.{Standing}
+use Rattle.sccs_table.specs.ReaderState.{ReaderState}
 use Rattle.sccs_table.specs.declared.line_readers.LineReader.TheInside.{Inside}
 
-abbrev pub standing : Inside → Standing
-standing r = record { name = r.name; held = take (r.end - r.start) (drop r.start r.piece); place = r.place; limit = r.limit; lines = r.lines + lf_count (take r.start r.piece); sum = r.sum }
+abbrev pub reader_state : Inside → ReaderState
+reader_state r = record { name = r.name; held = take (r.end - r.start) (drop r.start r.piece); place = r.place; limit = r.limit; lines = r.lines + lf_count (take r.start r.piece); sum = r.sum }
 
 -- The held bytes are within the piece and the limit, which is a byte past the longest file at most; each line that ended took a byte.
 pub record IsKept (r : Inside) : Type 0 where

@@ -1,5 +1,5 @@
 pub mod FrontFile
 pub mod HeldPiece
 pub mod Runs
-pub mod Standing
+pub mod ReaderState
 pub mod SumOf

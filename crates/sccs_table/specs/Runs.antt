@@ -3,7 +3,7 @@ use Rattle.std.specs.Prelude.{◌≡◌, ◌≢◌, ◌⊎◌, ℕ, suc, ◌-◌
 use Rattle.sccs_base.specs.Cut.{HasNoLf, cut}
 use Rattle.sccs_sid.specs.SidLists.{begins}
 use Rattle.sccs_history.specs.History.{AreBare}
-use Rattle.sccs_table.specs.Standing.{Standing, StandsIn, left}
+use Rattle.sccs_table.specs.ReaderState.{ReaderState, StandsIn, left}
 
 -- whole lines, each with its LF, none of which begins with SOH
 abbrev pub IsRun : List ℕ → Type 0
@@ -26,6 +26,6 @@ abbrev pub HasNoRun : List ℕ → Type 0
 HasNoRun bytes = (begins 1 bytes ≡ true) ⊎ HasNoLf bytes
 
 -- a reader passed over a run: what was left of the file is its lines, and what is left now
-abbrev pub PassesRun : List ℕ → List ℕ → Standing → Standing → Type 0
+abbrev pub PassesRun : List ℕ → List ℕ → ReaderState → ReaderState → Type 0
 PassesRun run file old new =
     StandsIn old file → StandsIn new file × (left old file ≡ record { lines = (cut run).lines ++ (left new file).lines; tail = (left new file).tail })

@@ -5,13 +5,13 @@ ghost use Rattle.sccs_grammar.specs.File.{checked_front, front_of, stored};
 ghost use Rattle.sccs_history.specs.History.{IsHeader, IsSpelled, KeepsRules, is_encoded, is_one};
 ghost use Rattle.sccs_grammar.specs.Front.{header_of, is_whole, line_after, start};
 ghost use Rattle.sccs_table.specs.FrontFile.{AnswersFront, AnswersLine, ChecksSum, IsFirst, IsPlaced, Opens, Reads, ReadsDisk, ReadsLine, ReadsOn, SumLine, read_as};
-ghost use Rattle.sccs_table.specs.Standing.{StandsIn, Stays, behind_sum, bytes_in, file_in};
+ghost use Rattle.sccs_table.specs.ReaderState.{StandsIn, Stays, behind_sum, bytes_in, file_in};
 
 use crate::line_readers::LineReader;
 use crate::sums::Sum;
 use sccs_base::{FILE_LIMIT, Name};
 use sccs_disk::Disk;
-use sccs_grammar::{FileFault, Parts, Place, Reading, hear, read_line};
+use sccs_grammar::{FileFault, HeaderParser, HeaderState, PartialHeader, accept, tokenize_line};
 use sccs_history::{Flag, Header};
 use sccs_sid::reading::number;
 use std::alloc::Global;
@@ -46,11 +46,11 @@ fn stored(line: &[u8]) -> Option<u32>
 }
 
 // whether a line ended the header
-fn is_whole(reading: &Reading) -> bool
-    ensures { result ≡ is_whole reading.now.place }
+fn is_whole(parser: &HeaderParser) -> bool
+    ensures { result ≡ is_whole parser.now.state }
 {
-    match reading.place {
-        Place::AtBody => true,
+    match parser.state {
+        HeaderState::AtBody => true,
         _ => false,
     }
 }
@@ -59,16 +59,16 @@ fn is_whole(reading: &Reading) -> bool
 fn with_line(
     alloc: Global,
     number: u64,
-    reading: &mut Reading,
+    parser: &mut HeaderParser,
     line: &[u8],
 ) -> Result<(), FileFault>
     requires { HasNoLf line.now }
-    ensures { AnswersLine (line_after number reading.old line.now) (read_as reading.new result) }
+    ensures { AnswersLine (line_after number parser.old line.now) (read_as parser.new result) }
 {
-    let Some(said) = read_line(alloc, line)? else {
+    let Some(token) = tokenize_line(alloc, line)? else {
         return Err(FileFault::BadFormat(number));
     };
-    hear(alloc, number, reading, said)?;
+    accept(alloc, number, parser, token)?;
     Ok(())
 }
 
@@ -79,13 +79,13 @@ fn across_pieces<D: Disk>(
     disk: &mut D,
     reader: &mut LineReader,
     number: u64,
-    reading: &mut Reading,
+    parser: &mut HeaderParser,
 ) -> Result<(), FileFault>
-    ensures { ReadsLine D.told D.faults disk.old disk.new reader.old reader.new number reading.old reading.new result }
+    ensures { ReadsLine D.told D.faults disk.old disk.new reader.old reader.new number parser.old parser.new result }
 {
     let mut line = Vec::new(alloc);
     match reader.next_line(disk, &mut line) {
-        Ok(true) => with_line(alloc, number, reading, line.as_slice()),
+        Ok(true) => with_line(alloc, number, parser, line.as_slice()),
         Ok(false) => Err(FileFault::BadFormat(number)),
         Err(fault) => Err(fault),
     }
@@ -97,25 +97,25 @@ fn next_reading<D: Disk>(
     disk: &mut D,
     reader: &mut LineReader,
     number: u64,
-    reading: &mut Reading,
+    parser: &mut HeaderParser,
 ) -> Result<(), FileFault>
-    ensures { ReadsLine D.told D.faults disk.old disk.new reader.old reader.new number reading.old reading.new result }
+    ensures { ReadsLine D.told D.faults disk.old disk.new reader.old reader.new number parser.old parser.new result }
 {
     let Some(line) = reader.held_line() else {
-        return across_pieces(alloc, disk, reader, number, reading);
+        return across_pieces(alloc, disk, reader, number, parser);
     };
     let count = line.len();
-    let read = with_line(alloc, number, reading, line);
+    let read = with_line(alloc, number, parser, line);
     reader.pass_line(count);
     read
 }
 
 // the header that was read
-fn header_of(reading: Reading) -> Header
-    ensures { result ≡ header_of reading }
+fn header_of(parser: HeaderParser) -> Header
+    ensures { result ≡ header_of parser }
 {
-    let Reading { place: _, parts } = reading;
-    let Parts {
+    let HeaderParser { place: _, parts } = parser;
+    let PartialHeader {
         table,
         users,
         flags,
@@ -147,12 +147,12 @@ pub fn read_lines<D: Disk>(
     ensures told { Reads (bytes_in (seen (D.told disk.old)) reader.old.name) reader.old reader.new start 2 result }
 {
     let mut number = 2;
-    let mut reading = Reading::new(alloc);
+    let mut parser = HeaderParser::new(alloc);
     'lines: loop {
-        next_reading(alloc, disk, reader, number, &mut reading)?;
+        next_reading(alloc, disk, reader, number, &mut parser)?;
         number += 1;
-        if is_whole(&reading) {
-            return Ok((header_of(reading), number));
+        if is_whole(&parser) {
+            return Ok((header_of(parser), number));
         }
     }
 }

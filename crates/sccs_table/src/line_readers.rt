@@ -6,7 +6,7 @@ ghost use Rattle.sccs_sid.specs.SidLists.{begins};
 ghost use Rattle.sccs_table.specs.Runs.{HasNoMark, HasNoRun, IsMark, IsRun, lf_count};
 ghost use Rattle.sccs_table.specs.SumOf.{IsSumOf};
 ghost use Rattle.sccs_table.specs.FrontFile.{IsOuter, ReadsBytes, ReadsOn};
-ghost use Rattle.sccs_table.specs.Standing.{StandsIn, Stays, Takes, TakesLine, bytes_in};
+ghost use Rattle.sccs_table.specs.ReaderState.{StandsIn, Stays, Takes, TakesLine, bytes_in};
 
 use crate::sums::{PlainSum, Sum};
 use memchr::{memchr, memrchr};
@@ -40,12 +40,12 @@ pub struct LineReader {
 }
 
 impl Model for LineReader {
-    ghost use Rattle.sccs_table.specs.Standing.{Standing};
-    ghost use Rattle.sccs_table.specs.HeldPiece.{standing, IsKept};
+    ghost use Rattle.sccs_table.specs.ReaderState.{ReaderState};
+    ghost use Rattle.sccs_table.specs.HeldPiece.{reader_state, IsKept};
 
-    ghost Value = { Standing };
+    ghost Value = { ReaderState };
 
-    ghost view = { standing };
+    ghost view = { reader_state };
 
     ghost invariant = { IsKept };
 }

@@ -1,7 +1,7 @@
 use Rattle.std.proofs.Common.{ap, rules, ◌∙◌}
 use Rattle.sccs_disk.specs.Told.{seen}
 use Rattle.sccs_history.specs.Applied.{live_serials}
-use Rattle.sccs_table.specs.Standing.{bytes_in}
+use Rattle.sccs_table.specs.ReaderState.{bytes_in}
 use Rattle.sccs_table.proofs.ReaderLaws.{same_file}
 use Rattle.sccs_body.specs.ItemsRead.{fresh}
 use Rattle.sccs_body.proofs.BodyLaws.{somewhere_on, all_read, read_fault}

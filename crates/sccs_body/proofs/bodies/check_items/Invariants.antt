@@ -2,7 +2,7 @@ use Rattle.std.proofs.Common.{◌≡◌, ◌-◌, ◌≤◌, List}
 use Rattle.sccs_disk.specs.Told.{seen}
 use Rattle.sccs_history.specs.Applied.{live_serials}
 use Rattle.sccs_history.specs.declared.headers.Item.{Item}
-use Rattle.sccs_table.specs.Standing.{bytes_in}
+use Rattle.sccs_table.specs.ReaderState.{bytes_in}
 use Rattle.sccs_body.specs.ItemsRead.{IsBehind, fresh}
 use Rattle.sccs_body.proofs.BodyLaws.{Reached}
 use Rattle.sccs_body.proofs.bodies.check_items.Given as goal

@@ -1,5 +1,5 @@
 use Rattle.std.proofs.Common.{◌≡◌, drop}
-use Rattle.sccs_grammar.specs.Said.{drop_zeros}
+use Rattle.sccs_grammar.specs.Tokens.{drop_zeros}
 use Rattle.sccs_grammar.proofs.fields.drop_zeros.Given as goal
 
 -- what stands before the place is passed over

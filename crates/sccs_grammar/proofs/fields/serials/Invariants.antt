@@ -1,7 +1,7 @@
 use Rattle.std.proofs.Common.{◌≡◌, ◌++◌, length}
 use Rattle.std.specs.Prelude.{option_map}
 use Rattle.sccs_sid.specs.Words.{words}
-use Rattle.sccs_grammar.specs.Said.{serials}
+use Rattle.sccs_grammar.specs.Tokens.{serials}
 use Rattle.sccs_grammar.proofs.fields.serials.Given as goal
 
 -- what was found, and what is found in the rest, is what all has

@@ -1,5 +1,5 @@
-use Rattle.sccs_grammar.proofs.DeltaLaws.{said_delta}
+use Rattle.sccs_grammar.proofs.DeltaLaws.{token_delta}
 use Rattle.sccs_grammar.proofs.laws.delta_again.Goals as goal
 
 pub returns : goal.returns
-returns c = said_delta
+returns c = token_delta

@@ -1,9 +1,9 @@
-use Rattle.sccs_grammar.proofs.SayLaws.{said_counts}
+use Rattle.sccs_grammar.proofs.TokenLaws.{token_counts}
 use Rattle.sccs_grammar.proofs.SectionLaws.{include_again, exclude_again, ignore_again, texts_behind}
 use Rattle.sccs_grammar.proofs.laws.entry_parts_again.Goals as goal
 
 pub returns-clause-counts : goal.returns-clause-counts
-returns-clause-counts c = said_counts
+returns-clause-counts c = token_counts
 
 pub returns-clause-include : goal.returns-clause-include
 returns-clause-include c = include_again

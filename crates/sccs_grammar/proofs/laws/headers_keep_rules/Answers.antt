@@ -1,5 +1,5 @@
-use Rattle.sccs_grammar.proofs.ReadingRules.{lines_keep_rules}
-use Rattle.sccs_grammar.proofs.SpelledReadings.{lines_spelled}
+use Rattle.sccs_grammar.proofs.ParserRules.{lines_keep_rules}
+use Rattle.sccs_grammar.proofs.SpelledParsers.{lines_spelled}
 use Rattle.sccs_grammar.proofs.laws.headers_keep_rules.Goals as goal
 
 pub returns-clause-rules : goal.returns-clause-rules

@@ -1,4 +1,4 @@
-use Rattle.sccs_grammar.proofs.ReadingRules.{lines_keep_rules}
+use Rattle.sccs_grammar.proofs.ParserRules.{lines_keep_rules}
 use Rattle.sccs_grammar_laws.proofs.HeaderMade.{header_begins}
 use Rattle.sccs_grammar_laws.proofs.HeaderShape.{header_shape}
 use Rattle.sccs_grammar_laws.proofs.laws.headers_are_their_lines.Goals as goal

@@ -11,7 +11,7 @@ returns-in-Ok-true g c = record {
   stays = c.in-Ok-true.ensures.stays;
   further = search rules;
   counted = search rules;
-  heard = search rules;
+  accepted = search rules;
   hears = line_answered _ c.args.reader.now c.next_line.new.self c.args.number c.args.reading.now c.next_line.new.line.items (read_as c.with_line.new.reading c.with_line.result)
       (takes_line_at _ _ _ _ c.in-Ok-true.field-0 true c.in-Ok-true.field-0-test c.in-Ok-true.ensures.told)
       (subst (λ line. AnswersLine (line_after c.args.number c.args.reading.now line) (read_as c.with_line.new.reading c.with_line.result)) c.as_slice.ensures.value c.with_line.ensures);
@@ -24,6 +24,6 @@ returns-in-Ok-false g c = record {
   stays = c.in-Ok-false.ensures.stays;
   further = search rules;
   counted = search rules;
-  heard = search rules;
+  accepted = search rules;
   hears = no_line _ c.args.reader.now c.next_line.new.self c.args.number c.args.reading.now c.next_line.new.line.items (takes_line_at _ _ _ _ c.in-Ok-false.field-0 false c.in-Ok-false.field-0-test c.in-Ok-false.ensures.told);
 }

@@ -3,7 +3,7 @@ use Rattle.std.specs.Prelude.{IfSome}
 use Rattle.sccs_disk.specs.Told.{seen}
 use Rattle.sccs_grammar.specs.File.{checked_front}
 use Rattle.sccs_table.specs.FrontFile.{AnswersFront}
-use Rattle.sccs_table.specs.Standing.{Standing, file_in}
+use Rattle.sccs_table.specs.ReaderState.{ReaderState, file_in}
 use Rattle.sccs_table.proofs.ReaderLaws.{same_file}
 use Rattle.sccs_table.proofs.FrontLaws.{exit_is}
 use Rattle.sccs_table.proofs.FileLaws.{format_refused, front_answer, front_found, front_with, judged, lines_taken, sum_judged, sum_refused, sum_taken}
@@ -11,7 +11,7 @@ use Rattle.sccs_table.proofs.fronts.check_front.Goals as goal
 
 pub returns-in_err-stored-clause-told : goal.returns-in_err-stored-clause-told
 returns-in_err-stored-clause-told g c =
-    let name_is = ap (λ (s : Standing). s.name) c.new-reader.ensures in
+    let name_is = ap (λ (s : ReaderState). s.name) c.new-reader.ensures in
     let opened_is = same_file _ _ _ _ (ap seen c.in_ok-size.ensures.frame.same) name_is in
     let exit = exit_is c.from_residual-in_err-stored.result c.in_err-stored.field-0.0 c.from_residual-in_err-stored.ensures.1 in
     subst (λ r. IfSome (seen (g.D.Disk.told c.args.disk.now)) (λ v. AnswersFront (file_in v c.args.name.now) checked_front r)) (sym exit)
@@ -20,7 +20,7 @@ returns-in_err-stored-clause-told g c =
 
 pub returns-in_err-sum-clause-told : goal.returns-in_err-sum-clause-told
 returns-in_err-sum-clause-told g c =
-    let name_is = ap (λ (s : Standing). s.name) c.new-reader.ensures in
+    let name_is = ap (λ (s : ReaderState). s.name) c.new-reader.ensures in
     let opened_is = same_file _ _ _ _ (ap seen c.in_ok-size.ensures.frame.same) name_is in
     let same_two = c.in_ok-stored.ensures.frame.same ∙ c.in_ok-size.ensures.frame.same in
     let name_two = c.in_ok-stored.ensures.frame.name ∙ name_is in
@@ -34,7 +34,7 @@ returns-in_err-sum-clause-told g c =
 
 pub returns-in_err-header-clause-told : goal.returns-in_err-header-clause-told
 returns-in_err-header-clause-told g c =
-    let name_is = ap (λ (s : Standing). s.name) c.new-reader.ensures in
+    let name_is = ap (λ (s : ReaderState). s.name) c.new-reader.ensures in
     let opened_is = same_file _ _ _ _ (ap seen c.in_ok-size.ensures.frame.same) name_is in
     let same_two = c.in_ok-stored.ensures.frame.same ∙ c.in_ok-size.ensures.frame.same in
     let name_two = c.in_ok-stored.ensures.frame.name ∙ name_is in
@@ -48,7 +48,7 @@ returns-in_err-header-clause-told g c =
 
 pub returns-clause-told : goal.returns-clause-told
 returns-clause-told g c =
-    let name_is = ap (λ (s : Standing). s.name) c.new-reader.ensures in
+    let name_is = ap (λ (s : ReaderState). s.name) c.new-reader.ensures in
     let opened_is = same_file _ _ _ _ (ap seen c.in_ok-size.ensures.frame.same) name_is in
     let same_two = c.in_ok-stored.ensures.frame.same ∙ c.in_ok-size.ensures.frame.same in
     let name_two = c.in_ok-stored.ensures.frame.name ∙ name_is in

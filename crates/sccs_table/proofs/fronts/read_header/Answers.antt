@@ -2,7 +2,7 @@ use Rattle.std.proofs.Common.{◌∙◌, ap, subst, sym}
 use Rattle.std.specs.Prelude.{IfSome}
 use Rattle.sccs_grammar.specs.File.{front_of}
 use Rattle.sccs_table.specs.FrontFile.{AnswersFront}
-use Rattle.sccs_table.specs.Standing.{file_in}
+use Rattle.sccs_table.specs.ReaderState.{file_in}
 use Rattle.sccs_table.proofs.FrontLaws.{exit_is}
 use Rattle.sccs_history.specs.History.{is_encoded}
 use Rattle.sccs_disk.specs.Told.{seen}

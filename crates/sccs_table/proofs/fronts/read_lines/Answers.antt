@@ -2,9 +2,9 @@ use Rattle.std.proofs.Common.{◌+◌, ◌∙◌, Ok, ap, sym, subst, rules, ari
 use Rattle.sccs_disk.specs.Told.{seen}
 use Rattle.sccs_grammar.specs.Front.{start}
 use Rattle.sccs_history.specs.History.{IsSpelled, KeepsRules}
-use Rattle.sccs_grammar.proofs.ReadingRules.{line_keeps, whole_keeps}
-use Rattle.sccs_grammar.proofs.SpelledReadings.{line_spelled, whole_spelled}
-use Rattle.sccs_table.specs.Standing.{bytes_in}
+use Rattle.sccs_grammar.proofs.ParserRules.{line_keeps, whole_keeps}
+use Rattle.sccs_grammar.proofs.SpelledParsers.{line_spelled, whole_spelled}
+use Rattle.sccs_table.specs.ReaderState.{bytes_in}
 use Rattle.sccs_table.specs.FrontFile.{Reads}
 use Rattle.sccs_table.proofs.FrontLaws.{lines_on, lines_done}
 use Rattle.sccs_table.proofs.ReaderLaws.{same_file, stays_on}
@@ -20,12 +20,12 @@ returns-then-is_whole-clause-told g c =
 
 pub returns-then-is_whole-clause-rules : goal.returns-then-is_whole-clause-rules
 returns-then-is_whole-clause-rules g c =
-    let kept = line_keeps c.lines.number c.lines.reading c.next_reading.new.reading c.in_ok-next_reading.ensures.heard.0 c.in_ok-next_reading.ensures.heard.2 c.lines.invariant.kept in
+    let kept = line_keeps c.lines.number c.lines.reading c.next_reading.new.reading c.in_ok-next_reading.ensures.accepted.0 c.in_ok-next_reading.ensures.accepted.2 c.lines.invariant.kept in
     subst KeepsRules (sym c.header_of.ensures) (whole_keeps c.next_reading.new.reading (sym c.is_whole.ensures ∙ c.if-is_whole.true) kept)
 
 pub returns-then-is_whole-clause-spelled : goal.returns-then-is_whole-clause-spelled
 returns-then-is_whole-clause-spelled g c =
-    let spelled = line_spelled c.lines.number c.lines.reading c.next_reading.new.reading c.in_ok-next_reading.ensures.heard.0 c.in_ok-next_reading.ensures.heard.1 c.in_ok-next_reading.ensures.heard.2 c.lines.invariant.spelled in
+    let spelled = line_spelled c.lines.number c.lines.reading c.next_reading.new.reading c.in_ok-next_reading.ensures.accepted.0 c.in_ok-next_reading.ensures.accepted.1 c.in_ok-next_reading.ensures.accepted.2 c.lines.invariant.spelled in
     subst IsSpelled (sym c.header_of.ensures) (whole_spelled c.next_reading.new.reading spelled)
 
 pub lines-preserved : goal.lines-preserved
@@ -42,7 +42,7 @@ lines-preserved g c =
       stays = stays_on begun here c.args.reader.now c.lines.reader c.next_reading.new.reader file_is c.lines.invariant.stays c.in_ok-next_reading.ensures.stays;
       ahead = omega (arith, c.in_ok-next_reading.ensures.further, c.in_ok-next_reading.ensures.frame.ahead);
       within = omega (arith, c.in_ok-next_reading.ensures.further, c.in_ok-next_reading.ensures.frame.ahead);
-      kept = line_keeps c.lines.number c.lines.reading c.next_reading.new.reading c.in_ok-next_reading.ensures.heard.0 c.in_ok-next_reading.ensures.heard.2 c.lines.invariant.kept;
-      spelled = line_spelled c.lines.number c.lines.reading c.next_reading.new.reading c.in_ok-next_reading.ensures.heard.0 c.in_ok-next_reading.ensures.heard.1 c.in_ok-next_reading.ensures.heard.2 c.lines.invariant.spelled;
+      kept = line_keeps c.lines.number c.lines.reading c.next_reading.new.reading c.in_ok-next_reading.ensures.accepted.0 c.in_ok-next_reading.ensures.accepted.2 c.lines.invariant.kept;
+      spelled = line_spelled c.lines.number c.lines.reading c.next_reading.new.reading c.in_ok-next_reading.ensures.accepted.0 c.in_ok-next_reading.ensures.accepted.1 c.in_ok-next_reading.ensures.accepted.2 c.lines.invariant.spelled;
       goes = lines_on begun here c.args.reader.now c.lines.reader c.next_reading.new.reader start c.lines.reading c.next_reading.new.reading 2 c.lines.number file_is c.lines.invariant.goes c.in_ok-next_reading.ensures.hears (sym c.is_whole.ensures ∙ c.if-is_whole.false);
     }

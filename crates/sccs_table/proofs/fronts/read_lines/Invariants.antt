@@ -1,9 +1,9 @@
 use Rattle.std.proofs.Common.{◌≡◌, ◌+◌, ◌-◌, ◌≤◌}
 use Rattle.sccs_disk.specs.Told.{seen}
 use Rattle.sccs_grammar.specs.Front.{start}
-use Rattle.sccs_grammar.proofs.ReadingRules.{Keeps}
-use Rattle.sccs_grammar.proofs.SpelledReadings.{IsSpelledSoFar}
-use Rattle.sccs_table.specs.Standing.{Stays, bytes_in}
+use Rattle.sccs_grammar.proofs.ParserRules.{Keeps}
+use Rattle.sccs_grammar.proofs.SpelledParsers.{IsSpelledSoFar}
+use Rattle.sccs_table.specs.ReaderState.{Stays, bytes_in}
 use Rattle.sccs_table.proofs.FrontLaws.{GoesLines}
 use Rattle.sccs_table.proofs.fronts.read_lines.Given as goal
 

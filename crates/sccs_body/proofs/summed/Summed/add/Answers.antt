@@ -1,5 +1,5 @@
 use Rattle.sccs_disk.specs.Told.{seen}
-use Rattle.sccs_table.specs.Standing.{bytes_in}
+use Rattle.sccs_table.specs.ReaderState.{bytes_in}
 use Rattle.sccs_body.proofs.SummedLaws.{summed_on}
 use Rattle.sccs_body.proofs.summed.Summed.add.Goals as goal
 

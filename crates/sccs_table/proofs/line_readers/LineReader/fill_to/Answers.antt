@@ -1,7 +1,7 @@
 use Rattle.std.proofs.Common.{◌+◌, ◌-◌, ◌∙◌, ◌++◌, List, ℕ, ap, arith, drop, rules, subst, sym, take}
 use Rattle.sccs_disk.specs.Told.{seen}
 use Rattle.sccs_table.specs.SumOf.{IsPlainSumOf}
-use Rattle.sccs_table.specs.Standing.{bytes_in}
+use Rattle.sccs_table.specs.ReaderState.{bytes_in}
 use Rattle.sccs_table.proofs.ReaderLaws.{fill_told, filled_stays}
 use Rattle.sccs_table.proofs.CountLaws.{line_bound}
 use Rattle.sccs_table.proofs.line_readers.LineReader.fill_to.Goals as goal

@@ -1,6 +1,6 @@
 use Rattle.std.proofs.Common.{◌∙◌, true, false, ap, refl, rules, subst, sym}
 use Rattle.sccs_disk.specs.Told.{seen}
-use Rattle.sccs_table.specs.Standing.{Stays, bytes_in}
+use Rattle.sccs_table.specs.ReaderState.{Stays, bytes_in}
 use Rattle.sccs_table.proofs.ReaderLaws.{line_taken, line_without, going_on_by, line_over, same_file, takes_at, filled_at, later_place, past_place, going_stays, gone_stays, line_stays, stays_on}
 use Rattle.sccs_table.proofs.line_readers.LineReader.next_line.Goals as goal
 

@@ -1,5 +1,5 @@
 use Rattle.std.proofs.Common.{◌+◌, ◌∙◌, take, ap}
-use Rattle.sccs_table.specs.Standing.{Standing}
+use Rattle.sccs_table.specs.ReaderState.{ReaderState}
 use Rattle.sccs_table.proofs.ReaderLaws.{held_past}
 use Rattle.sccs_table.proofs.CountLaws.{passed_lines, passed_bound}
 use Rattle.sccs_table.proofs.RunLaws.{lines_are, passed_stays}
@@ -19,4 +19,4 @@ returns-clause-bound c = passed_bound c.args.self.now c.self.inside.name c.self.
 pub returns-clause-stays : goal.returns-clause-stays
 returns-clause-stays c = λ o.
     let held = held_past c.args.self.now c.self.inside.name c.self.inside.piece c.self.inside.start c.self.inside.end c.self.inside.place c.self.inside.limit _ _ c.args.count c.self.view_is c.requires in
-    passed_stays o c.args.self.now _ c.args.count c.requires (ap (λ (s : Standing). s.limit) c.self.view_is, ap (λ (s : Standing). s.sum) c.self.view_is) held (ap (λ (s : Standing). s.place + c.args.count) c.self.view_is)
+    passed_stays o c.args.self.now _ c.args.count c.requires (ap (λ (s : ReaderState). s.limit) c.self.view_is, ap (λ (s : ReaderState). s.sum) c.self.view_is) held (ap (λ (s : ReaderState). s.place + c.args.count) c.self.view_is)

@@ -1,6 +1,6 @@
 use Rattle.std.proofs.Common.{◌∙◌, false, ap, refl, rules, subst}
 use Rattle.sccs_disk.specs.Told.{seen}
-use Rattle.sccs_table.specs.Standing.{bytes_in}
+use Rattle.sccs_table.specs.ReaderState.{bytes_in}
 use Rattle.sccs_table.proofs.ReaderLaws.{emptied_stays, filled_stays, same_file, skipped_all, stays_on}
 use Rattle.sccs_table.proofs.line_readers.LineReader.skip_to.Goals as goal
 

@@ -1,6 +1,6 @@
 use Rattle.std.proofs.Common.{◌≡◌, ◌+◌, ◌-◌, ◌*◌, ◌≤◌, length, max}
 use Rattle.sccs_disk.specs.Told.{seen}
-use Rattle.sccs_table.specs.Standing.{Stays, bytes_in}
+use Rattle.sccs_table.specs.ReaderState.{Stays, bytes_in}
 use Rattle.sccs_table.proofs.line_readers.LineReader.skip_to.Given as goal
 
 -- the reader stays in its file, and reads nothing from the place on

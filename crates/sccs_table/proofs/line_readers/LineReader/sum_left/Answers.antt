@@ -1,6 +1,6 @@
 use Rattle.std.proofs.Common.{◌∙◌, false, ap, rules}
 use Rattle.sccs_disk.specs.Told.{seen}
-use Rattle.sccs_table.specs.Standing.{bytes_in}
+use Rattle.sccs_table.specs.ReaderState.{bytes_in}
 use Rattle.sccs_table.proofs.ReaderLaws.{summing_on, summing_end, same_file, filled_at}
 use Rattle.sccs_table.proofs.line_readers.LineReader.sum_left.Goals as goal
 

@@ -1,6 +1,6 @@
 use Rattle.std.proofs.Common.{◌≡◌, ◌+◌, ◌-◌, ◌*◌, ◌≤◌, length}
 use Rattle.sccs_disk.specs.Told.{seen}
-use Rattle.sccs_table.specs.Standing.{bytes_in}
+use Rattle.sccs_table.specs.ReaderState.{bytes_in}
 use Rattle.sccs_table.proofs.ReaderLaws.{Summing}
 use Rattle.sccs_table.proofs.line_readers.LineReader.sum_left.Given as goal
 

@@ -1,9 +1,9 @@
 use sccs_base::Line;
 use sccs_history::{Flag, Record, Serials};
 
-/// Which of the lists of an entry.
+/// ListKind of the lists of an entry.
 #[derive(Clone, Copy, Debug, PartialEq, Eq)]
-pub enum Which {
+pub enum ListKind {
     Included,
     Excluded,
     Ignored,
@@ -11,12 +11,12 @@ pub enum Which {
 
 /// What one line of an s-file says, by itself.
 #[derive(Drop)]
-pub enum Said {
+pub enum LineToken {
     /// Lines inserted, deleted and unchanged.
     Counts(u32, u32, u32),
     /// A record without lists, MRs, comments and counts.
     Delta(Record),
-    Listed(Which, Serials),
+    Listed(ListKind, Serials),
     Mr(Line),
     Comment(Line),
     EndEntry,

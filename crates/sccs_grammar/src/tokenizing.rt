@@ -4,12 +4,12 @@ ghost use Rattle.sccs_base.specs.Cut.{HasNoLf};
 ghost use Rattle.sccs_history.specs.Numbers.{is_empty};
 ghost use Rattle.sccs_sid.specs.Reading.{only};
 ghost use Rattle.sccs_sid.specs.Words.{begins_blank, drop_blanks, skip_blanks, words};
-ghost use Rattle.sccs_grammar.specs.Said.{behind_soh, body_control, control, counts, delta, delta_of, exactly_seven, flag, listed, part_control, said, text};
+ghost use Rattle.sccs_grammar.specs.Tokens.{behind_soh, body_control, control, counts, delta, delta_of, exactly_seven, flag, listed, part_control, token, text};
 
 use crate::fields::{
-    first_word, is_set_off, line_of, listed, place, predecessor, removed, serial, text,
+    first_word, is_set_off, line_of, listed, predecessor, removed, serial, serial_field, text,
 };
-use crate::sayings::{Said, Which};
+use crate::line_tokens::{LineToken, ListKind};
 use sccs_base::{Line, Login, Memory, Text};
 use sccs_history::{Flag, Record, Serials};
 use sccs_sid::words::{begins_blank, drop_blanks, one_word, skip_blanks, three};
@@ -52,8 +52,8 @@ fn delta_words(bytes: &[u8]) -> Option<DeltaWords<'_>>
 }
 
 // a record without lists, MRs, comments and counts
-#[tactic(auto, unfolding(crate::specs::Said::delta_of))]
-fn delta_of(alloc: Global, words: &DeltaWords<'_>) -> Option<Said>
+#[tactic(auto, unfolding(crate::specs::Tokens::delta_of))]
+fn delta_of(alloc: Global, words: &DeltaWords<'_>) -> Option<LineToken>
     ensures { result ≡ delta_of words.now.kind.now words.now.sid.now words.now.date.now words.now.time.now
         words.now.login.now words.now.serial.now words.now.predecessor.now }
 {
@@ -67,7 +67,7 @@ fn delta_of(alloc: Global, words: &DeltaWords<'_>) -> Option<Said>
     let login = Login::read(words.login)?;
     let serial = serial(words.serial)?;
     let predecessor = predecessor(words.predecessor)?;
-    Some(Said::Delta(Record {
+    Some(LineToken::Delta(Record {
         serial,
         removed,
         sid,
@@ -86,7 +86,7 @@ fn delta_of(alloc: Global, words: &DeltaWords<'_>) -> Option<Said>
 }
 
 // what a delta line says behind its letter
-fn delta(alloc: Global, bytes: &[u8]) -> Option<Said>
+fn delta(alloc: Global, bytes: &[u8]) -> Option<LineToken>
     ensures { result ≡ delta (words bytes.now) }
 {
     let words = delta_words(bytes)?;
@@ -95,13 +95,13 @@ fn delta(alloc: Global, bytes: &[u8]) -> Option<Said>
 
 // lines inserted, deleted and unchanged
 
-#[tactic(auto, unfolding(crate::specs::Said::counts))]
-fn counts(bytes: &[u8]) -> Option<Said>
+#[tactic(auto, unfolding(crate::specs::Tokens::counts))]
+fn counts(bytes: &[u8]) -> Option<LineToken>
     ensures { result ≡ counts (words bytes.now) }
 {
     let word = one_word(bytes)?;
     let (inserted, deleted, unchanged) = three(5, b'/', word)?;
-    Some(Said::Counts(inserted, deleted, unchanged))
+    Some(LineToken::Counts(inserted, deleted, unchanged))
 }
 
 // whether bytes end or go on with a blank
@@ -120,7 +120,7 @@ fn trimmed(alloc: Global, bytes: &[u8]) -> Result<Line, Memory>
 }
 
 // a flag's letter, and behind blanks its text without blanks at the end
-fn flag(alloc: Global, bytes: &[u8]) -> Result<Option<Said>, Memory>
+fn flag(alloc: Global, bytes: &[u8]) -> Result<Option<LineToken>, Memory>
     requires { HasNoLf bytes.now }
     ensures { IfOk result (λ o. o ≡ flag bytes.now) }
 {
@@ -131,7 +131,7 @@ fn flag(alloc: Global, bytes: &[u8]) -> Result<Option<Said>, Memory>
         return Ok(None);
     }
     let text = trimmed(alloc, rest)?;
-    Ok(Some(Said::FlagIs(Flag {
+    Ok(Some(LineToken::FlagIs(Flag {
         letter: *letter,
         text,
     })))
@@ -139,49 +139,49 @@ fn flag(alloc: Global, bytes: &[u8]) -> Result<Option<Said>, Memory>
 
 // a list of one kind
 #[inline(never)]
-fn list(alloc: Global, which: Which, bytes: &[u8]) -> Result<Option<Said>, Memory>
-    ensures { IfOk result (λ o. o ≡ option_map (Said.Listed which) (listed bytes.now)) }
+fn list(alloc: Global, which: ListKind, bytes: &[u8]) -> Result<Option<LineToken>, Memory>
+    ensures { IfOk result (λ o. o ≡ option_map (LineToken.Listed which) (listed bytes.now)) }
 {
     match listed(alloc, bytes)? {
-        Some(serials) => Ok(Some(Said::Listed(which, serials))),
+        Some(serials) => Ok(Some(LineToken::Listed(which, serials))),
         None => Ok(None),
     }
 }
 
 // an MR or a comment
 #[inline(never)]
-fn mr(alloc: Global, bytes: &[u8]) -> Result<Option<Said>, Memory>
+fn mr(alloc: Global, bytes: &[u8]) -> Result<Option<LineToken>, Memory>
     requires { HasNoLf bytes.now }
-    ensures { IfOk result (λ o. o ≡ option_map Said.Mr (text bytes.now)) }
+    ensures { IfOk result (λ o. o ≡ option_map LineToken.Mr (text bytes.now)) }
 {
     match text(alloc, bytes)? {
-        Some(line) => Ok(Some(Said::Mr(line))),
+        Some(line) => Ok(Some(LineToken::Mr(line))),
         None => Ok(None),
     }
 }
 
 #[inline(never)]
-fn comment(alloc: Global, bytes: &[u8]) -> Result<Option<Said>, Memory>
+fn comment(alloc: Global, bytes: &[u8]) -> Result<Option<LineToken>, Memory>
     requires { HasNoLf bytes.now }
-    ensures { IfOk result (λ o. o ≡ option_map Said.Comment (text bytes.now)) }
+    ensures { IfOk result (λ o. o ≡ option_map LineToken.Comment (text bytes.now)) }
 {
     match text(alloc, bytes)? {
-        Some(line) => Ok(Some(Said::Comment(line))),
+        Some(line) => Ok(Some(LineToken::Comment(line))),
         None => Ok(None),
     }
 }
 
 // a line that begins or ends a part
-fn alone(bytes: &[u8], said: Said) -> Option<Said>
-    ensures { result ≡ only (is_empty bytes.now) said }
+fn alone(bytes: &[u8], token: LineToken) -> Option<LineToken>
+    ensures { result ≡ only (is_empty bytes.now) token }
 {
-    if bytes.is_empty() { Some(said) } else { None }
+    if bytes.is_empty() { Some(token) } else { None }
 }
 
 // what a statistics line says behind its letter
 #[inline(never)]
-#[tactic(auto, unfolding(crate::specs::Said::control))]
-fn counts_line(bytes: &[u8]) -> Option<Said>
+#[tactic(auto, unfolding(crate::specs::Tokens::control))]
+fn counts_line(bytes: &[u8]) -> Option<LineToken>
     ensures { result ≡ control 115 bytes.now }
 {
     if is_set_off(bytes) {
@@ -193,8 +193,8 @@ fn counts_line(bytes: &[u8]) -> Option<Said>
 
 // what a delta line says
 #[inline(never)]
-#[tactic(auto, unfolding(crate::specs::Said::control))]
-fn delta_line(alloc: Global, bytes: &[u8]) -> Option<Said>
+#[tactic(auto, unfolding(crate::specs::Tokens::control))]
+fn delta_line(alloc: Global, bytes: &[u8]) -> Option<LineToken>
     ensures { result ≡ control 100 bytes.now }
 {
     if begins_blank(bytes) {
@@ -205,7 +205,7 @@ fn delta_line(alloc: Global, bytes: &[u8]) -> Option<Said>
 }
 
 // what the line of a flag says
-fn flag_line(alloc: Global, bytes: &[u8]) -> Result<Option<Said>, Memory>
+fn flag_line(alloc: Global, bytes: &[u8]) -> Result<Option<LineToken>, Memory>
     requires { HasNoLf bytes.now }
     ensures { IfOk result (λ o. o ≡ (if begins_blank bytes.now then flag (skip_blanks bytes.now) else None)) }
 {
@@ -218,21 +218,21 @@ fn flag_line(alloc: Global, bytes: &[u8]) -> Result<Option<Said>, Memory>
 
 // what a control line of a body says
 #[inline(never)]
-fn body_line(letter: u8, bytes: &[u8]) -> Option<Said>
+fn body_line(letter: u8, bytes: &[u8]) -> Option<LineToken>
     ensures { result ≡ body_control letter bytes.now }
 {
     match letter {
         b'I' => {
-            let serial = place(bytes)?;
-            Some(Said::Insert(serial))
+            let serial = serial_field(bytes)?;
+            Some(LineToken::Insert(serial))
         }
         b'D' => {
-            let serial = place(bytes)?;
-            Some(Said::Delete(serial))
+            let serial = serial_field(bytes)?;
+            Some(LineToken::Delete(serial))
         }
         b'E' => {
-            let serial = place(bytes)?;
-            Some(Said::End(serial))
+            let serial = serial_field(bytes)?;
+            Some(LineToken::End(serial))
         }
         _ => None,
     }
@@ -240,41 +240,41 @@ fn body_line(letter: u8, bytes: &[u8]) -> Option<Said>
 
 // what a control line behind the delta table says
 #[inline(never)]
-fn part_line(alloc: Global, letter: u8, bytes: &[u8]) -> Result<Option<Said>, Memory>
+fn part_line(alloc: Global, letter: u8, bytes: &[u8]) -> Result<Option<LineToken>, Memory>
     requires { HasNoLf bytes.now }
     ensures { IfOk result (λ o. o ≡ part_control letter bytes.now) }
 {
     match letter {
-        b'u' => Ok(alone(bytes, Said::Users)),
-        b'U' => Ok(alone(bytes, Said::EndUsers)),
+        b'u' => Ok(alone(bytes, LineToken::Users)),
+        b'U' => Ok(alone(bytes, LineToken::EndUsers)),
         b'f' => flag_line(alloc, bytes),
-        b't' => Ok(alone(bytes, Said::Description)),
-        b'T' => Ok(alone(bytes, Said::EndDescription)),
+        b't' => Ok(alone(bytes, LineToken::Description)),
+        b'T' => Ok(alone(bytes, LineToken::EndDescription)),
         _ => Ok(body_line(letter, bytes)),
     }
 }
 
 // what follows SOH and a letter
-#[tactic(auto, unfolding(crate::specs::Said::control))]
-fn control(alloc: Global, letter: u8, bytes: &[u8]) -> Result<Option<Said>, Memory>
+#[tactic(auto, unfolding(crate::specs::Tokens::control))]
+fn control(alloc: Global, letter: u8, bytes: &[u8]) -> Result<Option<LineToken>, Memory>
     requires { HasNoLf bytes.now }
     ensures { IfOk result (λ o. o ≡ control letter bytes.now) }
 {
     match letter {
         b's' => Ok(counts_line(bytes)),
         b'd' => Ok(delta_line(alloc, bytes)),
-        b'i' => list(alloc, Which::Included, bytes),
-        b'x' => list(alloc, Which::Excluded, bytes),
-        b'g' => list(alloc, Which::Ignored, bytes),
+        b'i' => list(alloc, ListKind::Included, bytes),
+        b'x' => list(alloc, ListKind::Excluded, bytes),
+        b'g' => list(alloc, ListKind::Ignored, bytes),
         b'm' => mr(alloc, bytes),
         b'c' => comment(alloc, bytes),
-        b'e' => Ok(alone(bytes, Said::EndEntry)),
+        b'e' => Ok(alone(bytes, LineToken::EndEntry)),
         _ => part_line(alloc, letter, bytes),
     }
 }
 
 // what a line that begins with SOH says
-fn behind_soh(alloc: Global, bytes: &[u8]) -> Result<Option<Said>, Memory>
+fn behind_soh(alloc: Global, bytes: &[u8]) -> Result<Option<LineToken>, Memory>
     requires { HasNoLf bytes.now }
     ensures { IfOk result (λ o. o ≡ behind_soh bytes.now) }
 {
@@ -286,14 +286,14 @@ fn behind_soh(alloc: Global, bytes: &[u8]) -> Result<Option<Said>, Memory>
 
 /// What a line says by itself; None where it has no spelling anywhere.
 #[inline(never)]
-#[tactic(auto, unfolding(crate::specs::Said::said))]
-pub fn read_line(alloc: Global, line: &[u8]) -> Result<Option<Said>, Memory>
+#[tactic(auto, unfolding(crate::specs::Tokens::token))]
+pub fn tokenize_line(alloc: Global, line: &[u8]) -> Result<Option<LineToken>, Memory>
     requires { HasNoLf line.now }
-    ensures { IfOk result (λ o. o ≡ said line.now) }
+    ensures { IfOk result (λ o. o ≡ token line.now) }
 {
     if let [1, rest @ ..] = line {
         return behind_soh(alloc, rest);
     }
     let text = line_of(alloc, line)?;
-    Ok(Some(Said::Plain(text)))
+    Ok(Some(LineToken::Plain(text)))
 }

@@ -6,7 +6,7 @@ use Rattle.sccs_grammar.specs.Sums.{plain_sum}
 
 -- The bytes that were read and not given yet, the place of the first of them, the file's name, the place up to which it is
 -- read at most, how many lines ended before the first place, and the plain sum of all bytes that were read behind the sum line.
-pub record Standing : Type 0 where
+pub record ReaderState : Type 0 where
   pub name : List ℕ
   pub held : List ℕ
   pub place : ℕ
@@ -27,18 +27,18 @@ bytes_in None name = None
 bytes_in (Some view) name = file_in view name
 
 -- The file is within the limit, the held bytes are those at the place, and the sum is that of the bytes up to their end.
-pub record StandsIn (r : Standing) (file : List ℕ) : Type 0 where
+pub record StandsIn (r : ReaderState) (file : List ℕ) : Type 0 where
   pub limit : length file ≤ r.limit
   pub within : r.place + length r.held ≤ length file
   pub held : r.held ≡ take (length r.held) (drop r.place file)
   pub sum : r.sum ≡ plain_sum (behind_sum (take (r.place + length r.held) file))
 
 -- a reader that stood in the told file still does
-abbrev pub Stays : Option (List ℕ) → Standing → Standing → Type 0
+abbrev pub Stays : Option (List ℕ) → ReaderState → ReaderState → Type 0
 Stays o old new = (file : List ℕ) → o ≡ Some file → StandsIn old file → StandsIn new file
 
 -- what is left of the file, cut at each LF
-abbrev pub left : Standing → List ℕ → Cut
+abbrev pub left : ReaderState → List ℕ → Cut
 left r file = cut (drop r.place file)
 
 -- a line before what is cut, or bytes behind the last LF
@@ -47,14 +47,14 @@ LineOf all line true rest = all ≡ record { lines = line ∷ rest.lines; tail =
 LineOf all line false rest = all ≡ record { lines = []; tail = line }
 
 -- a reader took a line of a told file, up to its LF or to the end of the file
-abbrev pub TakesLine : Option (List ℕ) → Standing → Standing → List ℕ → Bool → Type 0
+abbrev pub TakesLine : Option (List ℕ) → ReaderState → ReaderState → List ℕ → Bool → Type 0
 TakesLine None old new line ended = Unit {0}
 TakesLine (Some file) old new line ended = StandsIn old file → StandsIn new file × LineOf (left old file) line ended (left new file)
 
 -- the front of the held bytes went to the line: all before LF, and LF is gone too, or all
-abbrev pub TakesFront : Standing → Standing → List ℕ → List ℕ → Bool → List ℕ → Type 0
+abbrev pub TakesFront : ReaderState → ReaderState → List ℕ → List ℕ → Bool → List ℕ → Type 0
 TakesFront old new line longer true front = (longer ≡ line ++ front) × HasNoLf front × (old.held ≡ front ++ 10 ∷ new.held) × (new.place ≡ old.place + length front + 1)
 TakesFront old new line longer false front = (longer ≡ line ++ front) × HasNoLf front × (old.held ≡ front) × (new.held ≡ []) × (new.place ≡ old.place + length front)
 
-abbrev pub Takes : Standing → Standing → List ℕ → List ℕ → Bool → Type 0
+abbrev pub Takes : ReaderState → ReaderState → List ℕ → List ℕ → Bool → Type 0
 Takes old new line longer ended = (front : List ℕ) × TakesFront old new line longer ended front

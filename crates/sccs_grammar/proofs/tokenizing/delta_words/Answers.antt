@@ -1,9 +1,9 @@
 use Rattle.std.proofs.Common.{◌≡◌, [], ◌∷◌, ap, sym, ◌∙◌}
 use Rattle.std.specs.Prelude.{option_map}
 use Rattle.sccs_sid.specs.Words.{one, words}
-use Rattle.sccs_grammar.specs.Said.{exactly_seven}
+use Rattle.sccs_grammar.specs.Tokens.{exactly_seven}
 use Rattle.sccs_grammar.proofs.DeltaWords.{seven_last}
-use Rattle.sccs_grammar.proofs.line_says.delta_words.Goals as goal
+use Rattle.sccs_grammar.proofs.tokenizing.delta_words.Goals as goal
 
 pub returns-in_err-predecessor : goal.returns-in_err-predecessor
 returns-in_err-predecessor c =

@@ -1,11 +1,11 @@
--- A serial behind one blank, without zeros in front, is a place.
+-- A serial behind one blank, without zeros in front, is a serial field.
 use Rattle.std.proofs.Common.{◌≡◌, ◌≢◌, ◌⊎◌, inl, inr, ℕ, zero, suc, ◌+◌, ◌*◌, ◌-◌, ◌<◌, ◌≤◌, ◌==◌, nat_lt, true, false, List, [], ◌∷◌, Option, Some, None, refl, sym, ap, ◌∙◌, arith, append-nil}
 use Rattle.std.specs.List.{AllByRecursion}
 use Rattle.std.specs.Option.{IfSome}
 use Rattle.std.proofs.lemmas.Bool.{cases_Bool, ltb-false}
 use Rattle.sccs_sid.specs.Reading.{only, whole, is_empty, skip, digits_after, number_at, number}
 use Rattle.sccs_sid.specs.Words.{words, ends_blank}
-use Rattle.sccs_grammar.specs.Said.{serial, plain_serial, place}
+use Rattle.sccs_grammar.specs.Tokens.{serial, plain_serial, serial_field}
 use Rattle.sccs_grammar.proofs.WordLaws.{HasNoBlank, IsWord, words-nil, words-blank, word_first, ends-word}
 
 -- ---- the digits of a number
@@ -58,33 +58,33 @@ pub number_high : (most b : ℕ) (bytes : List ℕ) (n : ℕ) → number most (b
 unfolding number
 number_high most b bytes n is = first_digit most b bytes n (cases_Bool (nat_lt b 48)) (cases_Bool (nat_lt 57 b)) is
 
--- ---- its place
+-- ---- its serial field
 
 lone_word : (word : List ℕ) → IsWord word → words word ≡ word ∷ []
 lone_word word is = ap words (sym (append-nil word)) ∙ (word_first word [] is tt ∙ ap (λ ws. word ∷ ws) words-nil)
 
-bare_place : (b : ℕ) (word : List ℕ) → b == 48 ≡ false → HasNoBlank (b ∷ word) → place (32 ∷ b ∷ word) ≡ serial (b ∷ word)
-unfolding place ends_blank skip
-bare_place b word other bare = rw (ends-word (b ∷ word) bare, words-blank (b ∷ word) ∙ lone_word (b ∷ word) bare, other) refl
+bare_serial_field : (b : ℕ) (word : List ℕ) → b == 48 ≡ false → HasNoBlank (b ∷ word) → serial_field (32 ∷ b ∷ word) ≡ serial (b ∷ word)
+unfolding serial_field ends_blank skip
+bare_serial_field b word other bare = rw (ends-word (b ∷ word) bare, words-blank (b ∷ word) ∙ lone_word (b ∷ word) bare, other) refl
 
 serial_some : (b n : ℕ) (word : List ℕ) (read : Option ℕ) → number 5 (b ∷ word) ≡ read → serial (b ∷ word) ≡ Some n → HasNoBlank (b ∷ word)
 unfolding serial
 serial_some b n word None none is = none_is n (rw none at is)
 serial_some b n word (Some m) some is = none_below 32 (b ∷ word) (omega arith) (number_high 5 b word m some)
 
-plain_place : (b n : ℕ) (word : List ℕ) → (b == 48 ≡ true) ⊎ (b == 48 ≡ false) → plain_serial (b ∷ word) ≡ Some n → place (32 ∷ b ∷ word) ≡ Some n
-plain_place b n word (inl zeros) is = none_is n (rw zeros at is)
-plain_place b n word (inr other) is =
+plain_serial_field : (b n : ℕ) (word : List ℕ) → (b == 48 ≡ true) ⊎ (b == 48 ≡ false) → plain_serial (b ∷ word) ≡ Some n → serial_field (32 ∷ b ∷ word) ≡ Some n
+plain_serial_field b n word (inl zeros) is = none_is n (rw zeros at is)
+plain_serial_field b n word (inr other) is =
     let plain : serial (b ∷ word) ≡ Some n = rw other at is in
-    bare_place b word other (serial_some b n word (number 5 (b ∷ word)) refl plain) ∙ plain
+    bare_serial_field b word other (serial_some b n word (number 5 (b ∷ word)) refl plain) ∙ plain
 
-pub placed : (word : List ℕ) (n : ℕ) → plain_serial word ≡ Some n → place (32 ∷ word) ≡ Some n
+pub placed : (word : List ℕ) (n : ℕ) → plain_serial word ≡ Some n → serial_field (32 ∷ word) ≡ Some n
 placed [] n is = absurd cc
-placed (b ∷ word) n is = plain_place b n word (cases_Bool (b == 48)) is
+placed (b ∷ word) n is = plain_serial_field b n word (cases_Bool (b == 48)) is
 
-placed_so : (word : List ℕ) (o : Option ℕ) → plain_serial word ≡ o → IfSome o (λ n. Some n ≡ place (32 ∷ word))
+placed_so : (word : List ℕ) (o : Option ℕ) → plain_serial word ≡ o → IfSome o (λ n. Some n ≡ serial_field (32 ∷ word))
 placed_so word None is = tt
 placed_so word (Some n) is = sym (placed word n is)
 
-pub written_place : (word : List ℕ) → IfSome (plain_serial word) (λ n. Some n ≡ place (32 ∷ word))
-written_place word = placed_so word (plain_serial word) refl
+pub written_serial_field : (word : List ℕ) → IfSome (plain_serial word) (λ n. Some n ≡ serial_field (32 ∷ word))
+written_serial_field word = placed_so word (plain_serial word) refl

@@ -13,23 +13,23 @@ use Rattle.sccs_history.specs.FlagText.{fits_letter}
 use Rattle.sccs_history.specs.History.{AreBare, NamesSmaller, IsRecord, IsTable, IsFlag, KeepsRules, is_letter, is_new, same_sid, lives, has_own_sids, has_own_letters}
 use Rattle.sccs_history.specs.declared.headers.Record.{Record}
 use Rattle.sccs_history.specs.declared.headers.Flag.{Flag}
-use Rattle.sccs_grammar.specs.Front.{ParsedFront, header_of, start, least, may_follow, lost, all_below, flag_fits, if_fits, in_texts, with_list, in_lists, ends_table, at_entry, at_delta, in_users, in_flags, in_description, after, heard, line_after, is_whole, front_from}
-use Rattle.sccs_grammar.specs.Said.{said}
-use Rattle.sccs_grammar.specs.declared.readings.Entry.{Entry}
-use Rattle.sccs_grammar.specs.declared.readings.Stood.{Stood}
+use Rattle.sccs_grammar.specs.Front.{ParsedFront, header_of, start, least, may_follow, dangling_predecessor, all_below, flag_fits, if_fits, in_texts, with_list, in_lists, ends_table, at_entry, at_delta, in_users, in_flags, in_description, after, accepted, line_after, is_whole, front_from}
+use Rattle.sccs_grammar.specs.Tokens.{token}
+use Rattle.sccs_grammar.specs.declared.header_parsers.Entry.{Entry}
+use Rattle.sccs_grammar.specs.declared.header_parsers.ListsSeen.{ListsSeen}
 use Rattle.sccs_grammar.specs.Entries.{Entries, with_entry}
-use Rattle.sccs_grammar.specs.declared.readings.Parts.{Parts}
-use Rattle.sccs_grammar.specs.declared.readings.Place.{Place}
-use Rattle.sccs_grammar.specs.declared.readings.Place.TheVariants.{AtEntry, AtDelta, InLists, InTexts, InUsers, InFlags, InDescription, AtBody}
-use Rattle.sccs_grammar.specs.declared.readings.Reading.{Reading}
-use Rattle.sccs_grammar.specs.declared.sayings.Said.{Said}
-use Rattle.sccs_grammar.specs.declared.sayings.Said.TheVariants.{Counts, Delta, Listed, Mr, Comment, EndEntry, Users, EndUsers, FlagIs, Description, EndDescription, Plain}
-use Rattle.sccs_grammar.specs.declared.sayings.Which.{Which}
-use Rattle.sccs_grammar.specs.declared.sayings.Which.TheVariants.{Included, Excluded, Ignored}
+use Rattle.sccs_grammar.specs.declared.header_parsers.PartialHeader.{PartialHeader}
+use Rattle.sccs_grammar.specs.declared.header_parsers.HeaderState.{HeaderState}
+use Rattle.sccs_grammar.specs.declared.header_parsers.HeaderState.TheVariants.{AtEntry, AtDelta, InLists, InTexts, InUsers, InFlags, InDescription, AtBody}
+use Rattle.sccs_grammar.specs.declared.header_parsers.HeaderParser.{HeaderParser}
+use Rattle.sccs_grammar.specs.declared.line_tokens.LineToken.{LineToken}
+use Rattle.sccs_grammar.specs.declared.line_tokens.LineToken.TheVariants.{Counts, Delta, Listed, Mr, Comment, EndEntry, Users, EndUsers, FlagIs, Description, EndDescription, Plain}
+use Rattle.sccs_grammar.specs.declared.line_tokens.ListKind.{ListKind}
+use Rattle.sccs_grammar.specs.declared.line_tokens.ListKind.TheVariants.{Included, Excluded, Ignored}
 use Rattle.sccs_grammar.proofs.EntryLaws.{share_flip, flip_sids}
 use Rattle.sccs_grammar.proofs.SectionLaws.{any-push}
 use Rattle.sccs_grammar.proofs.LinesKeep.{Kept, lines_keep}
-use Rattle.sccs_grammar.proofs.SaidRules.{SaysWell, said_well}
+use Rattle.sccs_grammar.proofs.TokenRules.{IsValidToken, token_well}
 
 -- ---- what is kept
 
@@ -50,10 +50,10 @@ abbrev pub MayStand : List Record → Record → Type 0
 MayStand above r =
     IsRow r × (r.serial < least 65536 above) × ((r.removed || not (lives above r.sid)) ≡ true)
 
-abbrev pub KeepsTable : Place → Entries → Type 0
+abbrev pub KeepsTable : HeaderState → Entries → Type 0
 KeepsTable AtEntry t = SoFar t
 KeepsTable (AtDelta i d u) t = SoFar t × (i ≤ 99999) × (d ≤ 99999) × (u ≤ 99999)
-KeepsTable (InLists e stood) t = SoFar t × MayStand t.records e.row
+KeepsTable (InLists e seen) t = SoFar t × MayStand t.records e.row
 KeepsTable (InTexts e) t = SoFar t × MayStand t.records e.row
 KeepsTable InUsers t = IsTable t.records
 KeepsTable InFlags t = IsTable t.records
@@ -61,13 +61,13 @@ KeepsTable InDescription t = IsTable t.records
 KeepsTable AtBody t = IsTable t.records
 
 -- the parts behind the table
-abbrev pub KeepsRest : Parts → Type 0
+abbrev pub KeepsRest : PartialHeader → Type 0
 KeepsRest parts =
     AreBare parts.users × AllByRecursion IsFlag parts.flags × (has_own_letters parts.flags ≡ true) × AreBare parts.description
 
 -- what is read so far keeps the rules
-abbrev pub Keeps : Reading → Type 0
-Keeps r = KeepsTable r.place r.parts.table × KeepsRest r.parts
+abbrev pub Keeps : HeaderParser → Type 0
+Keeps r = KeepsTable r.state r.parts.table × KeepsRest r.parts
 
 -- ---- one more
 
@@ -119,11 +119,11 @@ entry_keeps t e h is = record {
 
 -- ---- one line
 
-fits : (t : Bool) (n : ℕ) (r : Reading) → (t ≡ true → Keeps r) → IfOk (if_fits t n r) Keeps
+fits : (t : Bool) (n : ℕ) (r : HeaderParser) → (t ≡ true → Keeps r) → IfOk (if_fits t n r) Keeps
 fits true n r h = h refl
 fits false n r h = tt
 
-texts_keep : (n : ℕ) (parts : Parts) (e : Entry) (s : Said) → SoFar parts.table → MayStand parts.table.records e.row → KeepsRest parts → IfOk (in_texts n parts e s) Keeps
+texts_keep : (n : ℕ) (parts : PartialHeader) (e : Entry) (s : LineToken) → SoFar parts.table → MayStand parts.table.records e.row → KeepsRest parts → IfOk (in_texts n parts e s) Keeps
 texts_keep n parts e (Mr t) table is rest = ((table, is), rest)
 texts_keep n parts e (Comment t) table is rest = ((table, is), rest)
 texts_keep n parts e EndEntry table is rest = (entry_keeps parts.table e table is, rest)
@@ -135,34 +135,34 @@ names_smaller serial (n ∷ ns) below some =
     let parts = and_parts (nat_lt n serial) (all_below serial ns) below in
     ((some.0, ltb-true n serial parts.0), names_smaller serial ns parts.1 some.1)
 
-list_keeps : (n : ℕ) (parts : Parts) (e : Entry) (stood : Stood) (which : Which) (ns : List ℕ) → SoFar parts.table → MayStand parts.table.records e.row → KeepsRest parts → AllByRecursion (λ n. 0 < n) ns → IfOk (with_list n parts e stood which ns) Keeps
-list_keeps n parts e stood Included ns table is rest some =
-    fits (not stood.included && all_below e.row.serial ns && not (share ns e.row.exclude)) n _ λ test.
-    let tests = and_parts (not stood.included && all_below e.row.serial ns) (not (share ns e.row.exclude)) test in
-    let below = (and_parts (not stood.included) (all_below e.row.serial ns) tests.0).1 in
+list_keeps : (n : ℕ) (parts : PartialHeader) (e : Entry) (seen : ListsSeen) (which : ListKind) (ns : List ℕ) → SoFar parts.table → MayStand parts.table.records e.row → KeepsRest parts → AllByRecursion (λ n. 0 < n) ns → IfOk (with_list n parts e seen which ns) Keeps
+list_keeps n parts e seen Included ns table is rest some =
+    fits (not seen.included && all_below e.row.serial ns && not (share ns e.row.exclude)) n _ λ test.
+    let tests = and_parts (not seen.included && all_below e.row.serial ns) (not (share ns e.row.exclude)) test in
+    let below = (and_parts (not seen.included) (all_below e.row.serial ns) tests.0).1 in
     let row = is.0 in
     ((table, ((row.0, row.1, names_smaller e.row.serial ns below some, row.3, row.4, not-true (share ns e.row.exclude) tests.1, row.6, row.7, row.8), is.1, is.2)), rest)
-list_keeps n parts e stood Excluded ns table is rest some =
-    fits (not stood.excluded && all_below e.row.serial ns && not (share ns e.row.include)) n _ λ test.
-    let tests = and_parts (not stood.excluded && all_below e.row.serial ns) (not (share ns e.row.include)) test in
-    let below = (and_parts (not stood.excluded) (all_below e.row.serial ns) tests.0).1 in
+list_keeps n parts e seen Excluded ns table is rest some =
+    fits (not seen.excluded && all_below e.row.serial ns && not (share ns e.row.include)) n _ λ test.
+    let tests = and_parts (not seen.excluded && all_below e.row.serial ns) (not (share ns e.row.include)) test in
+    let below = (and_parts (not seen.excluded) (all_below e.row.serial ns) tests.0).1 in
     let row = is.0 in
     ((table, ((row.0, row.1, row.2, names_smaller e.row.serial ns below some, row.4, share_flip ns e.row.include (not-true (share ns e.row.include) tests.1), row.6, row.7, row.8), is.1, is.2)), rest)
-list_keeps n parts e stood Ignored ns table is rest some =
-    fits (not stood.ignored && all_below e.row.serial ns) n _ λ test.
-    let tests = and_parts (not stood.ignored) (all_below e.row.serial ns) test in
+list_keeps n parts e seen Ignored ns table is rest some =
+    fits (not seen.ignored && all_below e.row.serial ns) n _ λ test.
+    let tests = and_parts (not seen.ignored) (all_below e.row.serial ns) test in
     let row = is.0 in
     ((table, ((row.0, row.1, row.2, row.3, names_smaller e.row.serial ns tests.1 some, row.5, row.6, row.7, row.8), is.1, is.2)), rest)
 
-lists_keep : (n : ℕ) (parts : Parts) (e : Entry) (stood : Stood) (s : Said) → SoFar parts.table → MayStand parts.table.records e.row → KeepsRest parts → SaysWell s → IfOk (in_lists n parts e stood s) Keeps
-lists_keep n parts e stood (Listed which ns) table is rest well = list_keeps n parts e stood which ns table is rest well
-lists_keep n parts e stood s table is rest well = texts_keep n parts e s table is rest
+lists_keep : (n : ℕ) (parts : PartialHeader) (e : Entry) (seen : ListsSeen) (s : LineToken) → SoFar parts.table → MayStand parts.table.records e.row → KeepsRest parts → IsValidToken s → IfOk (in_lists n parts e seen s) Keeps
+lists_keep n parts e seen (Listed which ns) table is rest well = list_keeps n parts e seen which ns table is rest well
+lists_keep n parts e seen s table is rest well = texts_keep n parts e s table is rest
 
 some_none : {P : Type 0} (line : ℕ) → Some line ≡ None → P
 some_none line is = cc
 
-first_there : (table : List Record) (r : Record) (rs : List Record) (line : ℕ) (lines : List ℕ) → (has (0 ∷ serials_of table) r.predecessor ≡ true) ⊎ (has (0 ∷ serials_of table) r.predecessor ≡ false) → lost table (r ∷ rs) (line ∷ lines) ≡ None → IsRow r → (lost table rs lines ≡ None → AllByRecursion (IsRecord table) rs) → AllByRecursion (IsRecord table) (r ∷ rs)
-unfolding lost
+first_there : (table : List Record) (r : Record) (rs : List Record) (line : ℕ) (lines : List ℕ) → (has (0 ∷ serials_of table) r.predecessor ≡ true) ⊎ (has (0 ∷ serials_of table) r.predecessor ≡ false) → dangling_predecessor table (r ∷ rs) (line ∷ lines) ≡ None → IsRow r → (dangling_predecessor table rs lines ≡ None → AllByRecursion (IsRecord table) rs) → AllByRecursion (IsRecord table) (r ∷ rs)
+unfolding dangling_predecessor
 first_there table r rs line lines (inl is) none row others = (
   record {
     serial = row.0;
@@ -180,14 +180,14 @@ first_there table r rs line lines (inl is) none row others = (
 )
 first_there table r rs line lines (inr gone) none row others = some_none line (rw gone at none)
 
--- where no predecessor is lost each is in the table
-each_there : (table rs : List Record) (lines : List ℕ) → length lines ≡ length rs → lost table rs lines ≡ None → AllByRecursion IsRow rs → AllByRecursion (IsRecord table) rs
+-- where no predecessor is dangling_predecessor each is in the table
+each_there : (table rs : List Record) (lines : List ℕ) → length lines ≡ length rs → dangling_predecessor table rs lines ≡ None → AllByRecursion IsRow rs → AllByRecursion (IsRecord table) rs
 each_there table [] lines long none rows = tt
 each_there table (r ∷ rs) [] long none rows = absurd (omega (arith, long))
 each_there table (r ∷ rs) (line ∷ lines) long none rows =
     first_there table r rs line lines (cases_Bool (has (0 ∷ serials_of table) r.predecessor)) none rows.0 (λ others. each_there table rs lines (omega (arith, long)) others rows.1)
 
-table_ends : (n : ℕ) (parts : Parts) (o : Option ℕ) → lost parts.table.records parts.table.records parts.table.lines ≡ o → SoFar parts.table → KeepsRest parts → IfOk (ends_table n parts o) Keeps
+table_ends : (n : ℕ) (parts : PartialHeader) (o : Option ℕ) → dangling_predecessor parts.table.records parts.table.records parts.table.lines ≡ o → SoFar parts.table → KeepsRest parts → IfOk (ends_table n parts o) Keeps
 table_ends n parts (Some line) is table rest = tt
 table_ends n parts None is table rest = fits (not (is_empty parts.table.records)) n _ λ some. (
   record {
@@ -199,12 +199,12 @@ table_ends n parts None is table rest = fits (not (is_empty parts.table.records)
   rest,
 )
 
-entry_begins : (n : ℕ) (parts : Parts) (s : Said) → SoFar parts.table → KeepsRest parts → SaysWell s → IfOk (at_entry n parts s) Keeps
+entry_begins : (n : ℕ) (parts : PartialHeader) (s : LineToken) → SoFar parts.table → KeepsRest parts → IsValidToken s → IfOk (at_entry n parts s) Keeps
 entry_begins n parts (Counts i d u) table rest well = ((table, well.0, well.1, well.2), rest)
 entry_begins n parts Users table rest well = table_ends n parts _ refl table rest
 entry_begins n parts _ table rest well = tt
 
-delta_keeps : (n : ℕ) (parts : Parts) (i d u : ℕ) (s : Said) → SoFar parts.table → (i ≤ 99999) × (d ≤ 99999) × (u ≤ 99999) → KeepsRest parts → SaysWell s → IfOk (at_delta n parts i d u s) Keeps
+delta_keeps : (n : ℕ) (parts : PartialHeader) (i d u : ℕ) (s : LineToken) → SoFar parts.table → (i ≤ 99999) × (d ≤ 99999) × (u ≤ 99999) → KeepsRest parts → IsValidToken s → IfOk (at_delta n parts i d u s) Keeps
 delta_keeps n parts i d u (Delta row) table counts rest well =
     fits (may_follow row parts.table.records) n _ λ test.
     let tests = and_parts (nat_lt row.serial (least 65536 parts.table.records) && nat_lt row.predecessor row.serial) (row.removed || not (lives parts.table.records row.sid)) test in
@@ -212,7 +212,7 @@ delta_keeps n parts i d u (Delta row) table counts rest well =
     ((table, ((well.0, ltb-true row.predecessor row.serial numbers.1, well.1, well.2, well.3, well.4, counts.0, counts.1, counts.2), ltb-true row.serial (least 65536 parts.table.records) numbers.0, tests.1)), rest)
 delta_keeps n parts i d u _ table counts rest well = tt
 
-users_keep : (n : ℕ) (parts : Parts) (s : Said) → IsTable parts.table.records → KeepsRest parts → SaysWell s → IfOk (in_users n parts s) Keeps
+users_keep : (n : ℕ) (parts : PartialHeader) (s : LineToken) → IsTable parts.table.records → KeepsRest parts → IsValidToken s → IfOk (in_users n parts s) Keeps
 users_keep n parts (Plain t) table rest well = (table, (all_push (λ line. begins 1 line ≡ false) parts.users t rest.0 well, rest.1, rest.2, rest.3))
 users_keep n parts EndUsers table rest well = (table, rest)
 users_keep n parts _ table rest well = tt
@@ -226,12 +226,12 @@ letters_push (g ∷ flags) f own new =
     let alone = any-push (λ h. h.letter == g.letter) flags f (not-true _ parts.0) other in
     rw alone (letters_push flags f parts.1 (rw none.1 refl))
 
-flag_is : (f : Flag) → flag_fits f ≡ true → SaysWell (FlagIs f) → IsFlag f
+flag_is : (f : Flag) → flag_fits f ≡ true → IsValidToken (FlagIs f) → IsFlag f
 flag_is f is well =
     let parts = and_parts (is_letter f.letter) (fits_letter f.letter f.text) is in
     record { letter = parts.0; front = well.0; back = well.1; text = parts.1 }
 
-flags_keep : (n : ℕ) (parts : Parts) (s : Said) → IsTable parts.table.records → KeepsRest parts → SaysWell s → IfOk (in_flags n parts s) Keeps
+flags_keep : (n : ℕ) (parts : PartialHeader) (s : LineToken) → IsTable parts.table.records → KeepsRest parts → IsValidToken s → IfOk (in_flags n parts s) Keeps
 flags_keep n parts (FlagIs f) table rest well =
     fits (flag_fits f && is_new parts.flags f) n _ λ test.
     let tests = and_parts (flag_fits f) (is_new parts.flags f) test in
@@ -239,30 +239,30 @@ flags_keep n parts (FlagIs f) table rest well =
 flags_keep n parts Description table rest well = (table, rest)
 flags_keep n parts _ table rest well = tt
 
-description_keeps : (n : ℕ) (parts : Parts) (s : Said) → IsTable parts.table.records → KeepsRest parts → SaysWell s → IfOk (in_description n parts s) Keeps
+description_keeps : (n : ℕ) (parts : PartialHeader) (s : LineToken) → IsTable parts.table.records → KeepsRest parts → IsValidToken s → IfOk (in_description n parts s) Keeps
 description_keeps n parts (Plain t) table rest well = (table, (rest.0, rest.1, rest.2, all_push (λ line. begins 1 line ≡ false) parts.description t rest.3 well))
 description_keeps n parts EndDescription table rest well = (table, rest)
 description_keeps n parts _ table rest well = tt
 
-after_keeps : (n : ℕ) (parts : Parts) (p : Place) (s : Said) → KeepsTable p parts.table → KeepsRest parts → SaysWell s → IfOk (after n parts p s) Keeps
+after_keeps : (n : ℕ) (parts : PartialHeader) (p : HeaderState) (s : LineToken) → KeepsTable p parts.table → KeepsRest parts → IsValidToken s → IfOk (after n parts p s) Keeps
 after_keeps n parts AtEntry s table rest well = entry_begins n parts s table rest well
 after_keeps n parts (AtDelta i d u) s table rest well = delta_keeps n parts i d u s table.0 (table.1, table.2, table.3) rest well
-after_keeps n parts (InLists e stood) s table rest well = lists_keep n parts e stood s table.0 table.1 rest well
+after_keeps n parts (InLists e seen) s table rest well = lists_keep n parts e seen s table.0 table.1 rest well
 after_keeps n parts (InTexts e) s table rest well = texts_keep n parts e s table.0 table.1 rest
 after_keeps n parts InUsers s table rest well = users_keep n parts s table rest well
 after_keeps n parts InFlags s table rest well = flags_keep n parts s table rest well
 after_keeps n parts InDescription s table rest well = description_keeps n parts s table rest well
 after_keeps n parts AtBody s table rest well = tt
 
-heard_keeps : (n : ℕ) (r : Reading) (o : Option Said) → Keeps r → IfSome o SaysWell → IfOk (heard n r o) Keeps
+heard_keeps : (n : ℕ) (r : HeaderParser) (o : Option LineToken) → Keeps r → IfSome o IsValidToken → IfOk (accepted n r o) Keeps
 heard_keeps n r None keeps well = tt
-heard_keeps n r (Some s) keeps well = after_keeps n r.parts r.place s keeps.0 keeps.1 well
+heard_keeps n r (Some s) keeps well = after_keeps n r.parts r.state s keeps.0 keeps.1 well
 
-line_so : (n : ℕ) (r : Reading) (line : List ℕ) → Keeps r → IfOk (line_after n r line) Keeps
+line_so : (n : ℕ) (r : HeaderParser) (line : List ℕ) → Keeps r → IfOk (line_after n r line) Keeps
 unfolding line_after
-line_so n r line keeps = heard_keeps n r (said line) keeps (said_well line)
+line_so n r line keeps = heard_keeps n r (token line) keeps (token_well line)
 
-pub line_keeps : (n : ℕ) (r s : Reading) (line : List ℕ) → line_after n r line ≡ Ok s → Keeps r → Keeps s
+pub line_keeps : (n : ℕ) (r s : HeaderParser) (line : List ℕ) → line_after n r line ≡ Ok s → Keeps r → Keeps s
 line_keeps n r s line is keeps = rw is at (line_so n r line keeps)
 
 -- ---- all lines
@@ -271,13 +271,13 @@ pub start_keeps : Keeps start
 start_keeps =
     (record { falls = tt; rows = tt; sids = refl; lines = refl }, (tt, tt, refl, tt))
 
-whole_table : (p : Place) (t : Entries) → is_whole p ≡ true → KeepsTable p t → IsTable t.records
+whole_table : (p : HeaderState) (t : Entries) → is_whole p ≡ true → KeepsTable p t → IsTable t.records
 whole_table AtBody t is keeps = keeps
 whole_table _ t is keeps = cc
 
-pub whole_keeps : (s : Reading) → is_whole s.place ≡ true → Keeps s → KeepsRules (header_of s)
+pub whole_keeps : (s : HeaderParser) → is_whole s.state ≡ true → Keeps s → KeepsRules (header_of s)
 whole_keeps s is keeps = record {
-  table = whole_table s.place s.parts.table is keeps.0;
+  table = whole_table s.state s.parts.table is keeps.0;
   flags = keeps.1.1;
   letters = keeps.1.2;
   users = keeps.1.0;

@@ -16,17 +16,17 @@ use Rattle.sccs_history.specs.declared.headers.Flag.{Flag}
 use Rattle.sccs_sid.specs.Reading.{number_at, byte_at, number, skip}
 use Rattle.sccs_history.specs.Numbers.{is_empty}
 use Rattle.sccs_sid.specs.Words.{begins_blank, ends_blank, skip_blanks, drop_blanks, three}
-use Rattle.sccs_grammar.specs.Said.{drop_zeros, serial, counts, serials, plain_serial, listed, is_set_off, text, flag, place, control, said}
+use Rattle.sccs_grammar.specs.Tokens.{drop_zeros, serial, counts, serials, plain_serial, listed, is_set_off, text, flag, serial_field, control, token}
 use Rattle.sccs_grammar.specs.Written.{IsSerial, spaced, five, behind_blank, counts_line, mr_line, comment_line, flag_line, item_line}
-use Rattle.sccs_grammar.specs.declared.sayings.Said.TheVariants.{Counts, Listed, Mr, Comment, FlagIs, Insert, Delete, End, Plain}
-use Rattle.sccs_grammar.specs.declared.sayings.Which.TheVariants.{Included, Excluded, Ignored}
+use Rattle.sccs_grammar.specs.declared.line_tokens.LineToken.TheVariants.{Counts, Listed, Mr, Comment, FlagIs, Insert, Delete, End, Plain}
+use Rattle.sccs_grammar.specs.declared.line_tokens.ListKind.TheVariants.{Included, Excluded, Ignored}
 use Rattle.sccs_grammar.proofs.WordLaws.{IsWord, HasNoBlank, words_again, spaced-ends}
 use Rattle.sccs_grammar.proofs.NumberLaws.{Stops, numeral_again, whole_number, decimal_word}
 
-pub said_plain : (t : List ℕ) → begins 1 t ≡ false → said t ≡ Some (Plain t)
-unfolding said
-said_plain [] is = refl
-said_plain (b ∷ bytes) is = rw is refl
+pub token_plain : (t : List ℕ) → begins 1 t ≡ false → token t ≡ Some (Plain t)
+unfolding token
+token_plain [] is = refl
+token_plain (b ∷ bytes) is = rw is refl
 
 -- ---- serials
 
@@ -63,23 +63,23 @@ decimal_words : (ns : List ℕ) → AllByRecursion IsSerial ns → AllByRecursio
 decimal_words [] are = tt
 decimal_words (n ∷ ns) are = (decimal_word n (omega (arith, are.0.1)), decimal_words ns are.1)
 
-place_again : (n : ℕ) → IsSerial n → place (spaced (decimal n ∷ [])) ≡ Some n
-unfolding place
-place_again n is =
+serial_field_again : (n : ℕ) → IsSerial n → serial_field (spaced (decimal n ∷ [])) ≡ Some n
+unfolding serial_field
+serial_field_again n is =
     let are = decimal_words (n ∷ []) (is, tt) in
     rw (set_off (decimal n) [] are, words_again (decimal n ∷ []) are) (rw (no_zeros (decimal n) (decimal_leads n is)) (serial_again n is))
 
-pub said_insert : (n : ℕ) → IsSerial n → said (item_line (item.Insert n)) ≡ Some (Insert n)
-unfolding said control
-said_insert n is = ap (option_map Insert) (place_again n is)
+pub token_insert : (n : ℕ) → IsSerial n → token (item_line (item.Insert n)) ≡ Some (Insert n)
+unfolding token control
+token_insert n is = ap (option_map Insert) (serial_field_again n is)
 
-pub said_delete : (n : ℕ) → IsSerial n → said (item_line (item.Delete n)) ≡ Some (Delete n)
-unfolding said control
-said_delete n is = ap (option_map Delete) (place_again n is)
+pub token_delete : (n : ℕ) → IsSerial n → token (item_line (item.Delete n)) ≡ Some (Delete n)
+unfolding token control
+token_delete n is = ap (option_map Delete) (serial_field_again n is)
 
-pub said_end : (n : ℕ) → IsSerial n → said (item_line (item.End n)) ≡ Some (End n)
-unfolding said control
-said_end n is = ap (option_map End) (place_again n is)
+pub token_end : (n : ℕ) → IsSerial n → token (item_line (item.End n)) ≡ Some (End n)
+unfolding token control
+token_end n is = ap (option_map End) (serial_field_again n is)
 
 -- ---- lists
 
@@ -101,17 +101,17 @@ listed_again n ns are =
     rw (skips_word (decimal n) (spaced (map decimal ns)) ws.0, set_off (decimal n) (map decimal ns) ws, words_again (map decimal (n ∷ ns)) ws) (serials_again (n ∷ ns) are)
 
 -- the line of each kind of list, where the list isn't empty
-pub said_include : (n : ℕ) (ns : List ℕ) → AllByRecursion IsSerial (n ∷ ns) → said (1 ∷ 105 ∷ spaced (map decimal (n ∷ ns))) ≡ Some (Listed Included (n ∷ ns))
-unfolding said control
-said_include n ns are = ap (option_map (Listed Included)) (listed_again n ns are)
+pub token_include : (n : ℕ) (ns : List ℕ) → AllByRecursion IsSerial (n ∷ ns) → token (1 ∷ 105 ∷ spaced (map decimal (n ∷ ns))) ≡ Some (Listed Included (n ∷ ns))
+unfolding token control
+token_include n ns are = ap (option_map (Listed Included)) (listed_again n ns are)
 
-pub said_exclude : (n : ℕ) (ns : List ℕ) → AllByRecursion IsSerial (n ∷ ns) → said (1 ∷ 120 ∷ spaced (map decimal (n ∷ ns))) ≡ Some (Listed Excluded (n ∷ ns))
-unfolding said control
-said_exclude n ns are = ap (option_map (Listed Excluded)) (listed_again n ns are)
+pub token_exclude : (n : ℕ) (ns : List ℕ) → AllByRecursion IsSerial (n ∷ ns) → token (1 ∷ 120 ∷ spaced (map decimal (n ∷ ns))) ≡ Some (Listed Excluded (n ∷ ns))
+unfolding token control
+token_exclude n ns are = ap (option_map (Listed Excluded)) (listed_again n ns are)
 
-pub said_ignore : (n : ℕ) (ns : List ℕ) → AllByRecursion IsSerial (n ∷ ns) → said (1 ∷ 103 ∷ spaced (map decimal (n ∷ ns))) ≡ Some (Listed Ignored (n ∷ ns))
-unfolding said control
-said_ignore n ns are = ap (option_map (Listed Ignored)) (listed_again n ns are)
+pub token_ignore : (n : ℕ) (ns : List ℕ) → AllByRecursion IsSerial (n ∷ ns) → token (1 ∷ 103 ∷ spaced (map decimal (n ∷ ns))) ≡ Some (Listed Ignored (n ∷ ns))
+unfolding token control
+token_ignore n ns are = ap (option_map (Listed Ignored)) (listed_again n ns are)
 
 -- ---- MRs, comments
 
@@ -119,13 +119,13 @@ text_again : (t : List ℕ) → text (behind_blank t) ≡ Some t
 text_again [] = refl
 text_again (b ∷ bytes) = refl
 
-pub said_mr : (t : List ℕ) → said (mr_line t) ≡ Some (Mr t)
-unfolding said control
-said_mr t = ap (option_map Mr) (text_again t)
+pub token_mr : (t : List ℕ) → token (mr_line t) ≡ Some (Mr t)
+unfolding token control
+token_mr t = ap (option_map Mr) (text_again t)
 
-pub said_comment : (t : List ℕ) → said (comment_line t) ≡ Some (Comment t)
-unfolding said control
-said_comment t = refl
+pub token_comment : (t : List ℕ) → token (comment_line t) ≡ Some (Comment t)
+unfolding token control
+token_comment t = refl
 
 -- ---- counts
 
@@ -172,9 +172,9 @@ behind_is (b ∷ bytes) = refl
 flag_again : (letter : ℕ) (t : List ℕ) → begins_blank t ≡ false → ends_blank t ≡ false → flag (letter ∷ behind_blank t) ≡ Some (FlagIs (record { letter = letter; text = t }))
 flag_again letter t begins ends = rw (behind_is t, flag_text t begins ends) refl
 
-pub said_flag : (f : Flag) → IsFlag f → said (flag_line f) ≡ Some (FlagIs f)
-unfolding said control skip_blanks
-said_flag f is =
+pub token_flag : (f : Flag) → IsFlag f → token (flag_line f) ≡ Some (FlagIs f)
+unfolding token control skip_blanks
+token_flag f is =
     let low = leb-true 97 f.letter (and_parts (nat_le 97 f.letter) (nat_le f.letter 122) is.letter).0 in
     rw (ne_eqb f.letter 32 (λ e. absurd (omega arith))) (flag_again f.letter f.text is.front is.back)
 
@@ -190,8 +190,8 @@ counts_again : (i d u : ℕ) → i < 100000 → d < 100000 → u < 100000 → co
 unfolding counts
 counts_again i d u si sd su = rw (three_again i d u si sd su) refl
 
-pub said_counts : (i d u : ℕ) → i < 100000 → d < 100000 → u < 100000 → said (counts_line i d u) ≡ Some (Counts i d u)
-unfolding said control
-said_counts i d u si sd su =
+pub token_counts : (i d u : ℕ) → i < 100000 → d < 100000 → u < 100000 → token (counts_line i d u) ≡ Some (Counts i d u)
+unfolding token control
+token_counts i d u si sd su =
     let is : AllByRecursion IsWord ((five i ++ (47 ∷ five d ++ (47 ∷ five u))) ∷ []) = (counts_word i d u, tt) in
     rw (set_off (five i ++ (47 ∷ five d ++ (47 ∷ five u))) [] is, words_again ((five i ++ (47 ∷ five d ++ (47 ∷ five u))) ∷ []) is) (counts_again i d u si sd su)

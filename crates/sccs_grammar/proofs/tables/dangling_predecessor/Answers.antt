@@ -1,7 +1,7 @@
 use Rattle.std.proofs.Common.{drop, sym, ◌∙◌, arith, add-one}
 use Rattle.std.proofs.lemmas.Bool.{ltb-false}
 use Rattle.sccs_grammar.proofs.TableLaws.{lost_here, lost_on, lost_no_line, lost_end}
-use Rattle.sccs_grammar.proofs.tables.lost.Goals as goal
+use Rattle.sccs_grammar.proofs.tables.dangling_predecessor.Goals as goal
 
 pub returns-in_default : goal.returns-in_default
 returns-in_default c =

@@ -21,9 +21,9 @@ pub struct Entry {
     pub row: Record,
 }
 
-/// Which lists of an entry stood already.
+/// ListKind lists of an entry seen already.
 #[derive(Clone, Copy, Debug, PartialEq, Eq)]
-pub struct Stood {
+pub struct ListsSeen {
     pub included: bool,
     pub excluded: bool,
     pub ignored: bool,
@@ -31,13 +31,13 @@ pub struct Stood {
 
 /// Where in a header the next line stands.
 #[derive(Drop)]
-pub enum Place {
+pub enum HeaderState {
     /// An entry begins here, or the table ends.
     AtEntry,
     /// Behind the counts of an entry.
     AtDelta(u32, u32, u32),
     /// Among the lists of an entry.
-    InLists(Entry, Stood),
+    InLists(Entry, ListsSeen),
     /// Behind the first MR or comment of an entry.
     InTexts(Entry),
     InUsers,
@@ -49,7 +49,7 @@ pub enum Place {
 
 /// What was read so far of a header.
 #[derive(Drop)]
-pub struct Parts {
+pub struct PartialHeader {
     pub table: Table,
     pub users: Text,
     pub flags: Flags,
@@ -58,24 +58,24 @@ pub struct Parts {
 
 /// What was read so far, and where the next line stands.
 #[derive(Drop)]
-pub struct Reading {
-    pub place: Place,
-    pub parts: Parts,
+pub struct HeaderParser {
+    pub state: HeaderState,
+    pub parts: PartialHeader,
 }
 
-impl Reading {
+impl HeaderParser {
     /// Nothing was read.
-    pub fn new(alloc: Global) -> Reading
+    pub fn new(alloc: Global) -> HeaderParser
         ensures { result ≡ start }
     {
-        let parts = Parts {
+        let parts = PartialHeader {
             table: Table::new(alloc),
             users: Text::empty(alloc),
             flags: Flags::empty(alloc),
             description: Text::empty(alloc),
         };
-        Reading {
-            place: Place::AtEntry,
+        HeaderParser {
+            state: HeaderState::AtEntry,
             parts,
         }
     }

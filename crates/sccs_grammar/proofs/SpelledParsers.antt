@@ -16,22 +16,22 @@ use Rattle.sccs_history.specs.Numbers.{is_empty}
 use Rattle.sccs_history.specs.History.{AreLines, HasSpelling, IsSpelled}
 use Rattle.sccs_history.specs.declared.headers.Record.{Record}
 use Rattle.sccs_history.specs.declared.headers.Flag.{Flag}
-use Rattle.sccs_grammar.specs.Said.{serial, predecessor, is_removed, delta_of, delta, counts, listed, text, flag, behind_soh, said}
-use Rattle.sccs_grammar.specs.Front.{ParsedFront, header_of, start, if_fits, in_texts, in_lists, ends_table, at_entry, at_delta, in_users, in_flags, in_description, after, heard, line_after, front_from}
-use Rattle.sccs_grammar.specs.declared.readings.Entry.{Entry}
-use Rattle.sccs_grammar.specs.declared.readings.Stood.{Stood}
-use Rattle.sccs_grammar.specs.declared.readings.Place.{Place}
-use Rattle.sccs_grammar.specs.declared.readings.Place.TheVariants.{AtEntry, AtDelta, InLists, InTexts, InUsers, InFlags, InDescription, AtBody}
-use Rattle.sccs_grammar.specs.declared.readings.Parts.{Parts}
-use Rattle.sccs_grammar.specs.declared.readings.Reading.{Reading}
-use Rattle.sccs_grammar.specs.declared.sayings.Said.{Said}
-use Rattle.sccs_grammar.specs.declared.sayings.Said.TheVariants.{Counts, Delta, Listed, Mr, Comment, EndEntry, Users, EndUsers, FlagIs, Description, EndDescription, Plain}
-use Rattle.sccs_grammar.specs.declared.sayings.Which.{Which}
-use Rattle.sccs_grammar.specs.declared.sayings.Which.TheVariants.{Included, Excluded, Ignored}
+use Rattle.sccs_grammar.specs.Tokens.{serial, predecessor, is_removed, delta_of, delta, counts, listed, text, flag, behind_soh, token}
+use Rattle.sccs_grammar.specs.Front.{ParsedFront, header_of, start, if_fits, in_texts, in_lists, ends_table, at_entry, at_delta, in_users, in_flags, in_description, after, accepted, line_after, front_from}
+use Rattle.sccs_grammar.specs.declared.header_parsers.Entry.{Entry}
+use Rattle.sccs_grammar.specs.declared.header_parsers.ListsSeen.{ListsSeen}
+use Rattle.sccs_grammar.specs.declared.header_parsers.HeaderState.{HeaderState}
+use Rattle.sccs_grammar.specs.declared.header_parsers.HeaderState.TheVariants.{AtEntry, AtDelta, InLists, InTexts, InUsers, InFlags, InDescription, AtBody}
+use Rattle.sccs_grammar.specs.declared.header_parsers.PartialHeader.{PartialHeader}
+use Rattle.sccs_grammar.specs.declared.header_parsers.HeaderParser.{HeaderParser}
+use Rattle.sccs_grammar.specs.declared.line_tokens.LineToken.{LineToken}
+use Rattle.sccs_grammar.specs.declared.line_tokens.LineToken.TheVariants.{Counts, Delta, Listed, Mr, Comment, EndEntry, Users, EndUsers, FlagIs, Description, EndDescription, Plain}
+use Rattle.sccs_grammar.specs.declared.line_tokens.ListKind.{ListKind}
+use Rattle.sccs_grammar.specs.declared.line_tokens.ListKind.TheVariants.{Included, Excluded, Ignored}
 use Rattle.sccs_grammar.proofs.LinesKeep.{Kept, lines_keep}
 use Rattle.sccs_grammar.proofs.NoLf.{NoLf, no_lf_skip, no_lf_drop}
-use Rattle.sccs_grammar.proofs.ReadingRules.{all_push}
-use Rattle.sccs_grammar.proofs.SaidRules.{EachKeeps, control_keeps, then_some, then_any, only_so, found_so}
+use Rattle.sccs_grammar.proofs.ParserRules.{all_push}
+use Rattle.sccs_grammar.proofs.TokenRules.{EachKeeps, control_keeps, then_some, then_any, only_so, found_so}
 use Rattle.sccs_grammar.proofs.SpellingRules.{sid_is, moment_is}
 
 -- ---- one line
@@ -40,7 +40,7 @@ use Rattle.sccs_grammar.proofs.SpellingRules.{sid_is, moment_is}
 abbrev pub Spelled : Record → Type 0
 Spelled r = IsSid r.sid × IsMoment r.moment × IsLogin r.login × AreLines r.mrs × AreLines r.comments
 
-abbrev pub Spells : Said → Type 0
+abbrev pub Spells : LineToken → Type 0
 Spells (Delta r) = Spelled r
 Spells (Mr t) = HasNoLf t
 Spells (Comment t) = HasNoLf t
@@ -69,7 +69,7 @@ counts_spell : (ws : List (List ℕ)) → IfSome (counts ws) Spells
 unfolding counts
 counts_spell ws = then_any Spells (one ws) _ λ word. then_any Spells (three 5 47 word) _ λ n. tt
 
-list_spells : (which : Which) (o : Option (List ℕ)) → IfSome (option_map (Listed which) o) Spells
+list_spells : (which : ListKind) (o : Option (List ℕ)) → IfSome (option_map (Listed which) o) Spells
 list_spells which None = tt
 list_spells which (Some ns) = tt
 
@@ -112,95 +112,95 @@ behind_spells : (bytes : List ℕ) → NoLf bytes → IfSome (behind_soh bytes) 
 behind_spells [] none = tt
 behind_spells (letter ∷ bytes) none = control_keeps Spells letter bytes (each_spells letter bytes none.1)
 
-line_spells : (b : ℕ) (bytes : List ℕ) → (b == 1 ≡ true) ⊎ (b == 1 ≡ false) → NoLf (b ∷ bytes) → IfSome (said (b ∷ bytes)) Spells
-unfolding said
+line_spells : (b : ℕ) (bytes : List ℕ) → (b == 1 ≡ true) ⊎ (b == 1 ≡ false) → NoLf (b ∷ bytes) → IfSome (token (b ∷ bytes)) Spells
+unfolding token
 line_spells b bytes (inl is) none = rw is (behind_spells bytes none.1)
 line_spells b bytes (inr other) none = rw other (bare (b ∷ bytes) none)
 
-said_spells : (line : List ℕ) → NoLf line → IfSome (said line) Spells
-unfolding said
-said_spells [] none = bare [] none
-said_spells (b ∷ bytes) none = line_spells b bytes (cases_Bool (b == 1)) none
+token_spells : (line : List ℕ) → NoLf line → IfSome (token line) Spells
+unfolding token
+token_spells [] none = bare [] none
+token_spells (b ∷ bytes) none = line_spells b bytes (cases_Bool (b == 1)) none
 
 -- ---- what is read
 
-abbrev pub SpelledEntry : Place → Type 0
-SpelledEntry (InLists e stood) = Spelled e.row
+abbrev pub SpelledEntry : HeaderState → Type 0
+SpelledEntry (InLists e seen) = Spelled e.row
 SpelledEntry (InTexts e) = Spelled e.row
 SpelledEntry _ = Unit {0}
 
-abbrev pub SpelledParts : Parts → Type 0
+abbrev pub SpelledParts : PartialHeader → Type 0
 SpelledParts parts =
     AllByRecursion Spelled parts.table.records × AreLines parts.users × AllByRecursion (λ (f : Flag). HasNoLf f.text) parts.flags × AreLines parts.description
 
 -- what is read so far has a spelling
-abbrev pub IsSpelledSoFar : Reading → Type 0
-IsSpelledSoFar r = SpelledEntry r.place × SpelledParts r.parts
+abbrev pub IsSpelledSoFar : HeaderParser → Type 0
+IsSpelledSoFar r = SpelledEntry r.state × SpelledParts r.parts
 
-fits : (t : Bool) (n : ℕ) (r : Reading) → IsSpelledSoFar r → IfOk (if_fits t n r) IsSpelledSoFar
+fits : (t : Bool) (n : ℕ) (r : HeaderParser) → IsSpelledSoFar r → IfOk (if_fits t n r) IsSpelledSoFar
 fits true n r h = h
 fits false n r h = tt
 
-texts_spell : (n : ℕ) (parts : Parts) (e : Entry) (s : Said) → Spelled e.row → SpelledParts parts → Spells s → IfOk (in_texts n parts e s) IsSpelledSoFar
+texts_spell : (n : ℕ) (parts : PartialHeader) (e : Entry) (s : LineToken) → Spelled e.row → SpelledParts parts → Spells s → IfOk (in_texts n parts e s) IsSpelledSoFar
 texts_spell n parts e (Mr t) row rest spells = ((row.0, row.1, row.2, all_push HasNoLf e.row.mrs t row.3 spells, row.4), rest)
 texts_spell n parts e (Comment t) row rest spells = ((row.0, row.1, row.2, row.3, all_push HasNoLf e.row.comments t row.4 spells), rest)
 texts_spell n parts e EndEntry row rest spells = (tt, (all_push Spelled parts.table.records e.row rest.0 row, rest.1, rest.2, rest.3))
 texts_spell n parts e _ row rest spells = tt
 
-lists_spell : (n : ℕ) (parts : Parts) (e : Entry) (stood : Stood) (s : Said) → Spelled e.row → SpelledParts parts → Spells s → IfOk (in_lists n parts e stood s) IsSpelledSoFar
-lists_spell n parts e stood (Listed Included ns) row rest spells = fits _ n _ (row, rest)
-lists_spell n parts e stood (Listed Excluded ns) row rest spells = fits _ n _ (row, rest)
-lists_spell n parts e stood (Listed Ignored ns) row rest spells = fits _ n _ (row, rest)
-lists_spell n parts e stood s row rest spells = texts_spell n parts e s row rest spells
+lists_spell : (n : ℕ) (parts : PartialHeader) (e : Entry) (seen : ListsSeen) (s : LineToken) → Spelled e.row → SpelledParts parts → Spells s → IfOk (in_lists n parts e seen s) IsSpelledSoFar
+lists_spell n parts e seen (Listed Included ns) row rest spells = fits _ n _ (row, rest)
+lists_spell n parts e seen (Listed Excluded ns) row rest spells = fits _ n _ (row, rest)
+lists_spell n parts e seen (Listed Ignored ns) row rest spells = fits _ n _ (row, rest)
+lists_spell n parts e seen s row rest spells = texts_spell n parts e s row rest spells
 
-table_spells : (n : ℕ) (parts : Parts) (o : Option ℕ) → SpelledParts parts → IfOk (ends_table n parts o) IsSpelledSoFar
+table_spells : (n : ℕ) (parts : PartialHeader) (o : Option ℕ) → SpelledParts parts → IfOk (ends_table n parts o) IsSpelledSoFar
 table_spells n parts (Some line) rest = tt
 table_spells n parts None rest = fits _ n _ (tt, rest)
 
-entry_spells : (n : ℕ) (parts : Parts) (s : Said) → SpelledParts parts → IfOk (at_entry n parts s) IsSpelledSoFar
+entry_spells : (n : ℕ) (parts : PartialHeader) (s : LineToken) → SpelledParts parts → IfOk (at_entry n parts s) IsSpelledSoFar
 entry_spells n parts (Counts i d u) rest = (tt, rest)
 entry_spells n parts Users rest = table_spells n parts _ rest
 entry_spells n parts _ rest = tt
 
-delta_line_spells : (n : ℕ) (parts : Parts) (i d u : ℕ) (s : Said) → SpelledParts parts → Spells s → IfOk (at_delta n parts i d u s) IsSpelledSoFar
+delta_line_spells : (n : ℕ) (parts : PartialHeader) (i d u : ℕ) (s : LineToken) → SpelledParts parts → Spells s → IfOk (at_delta n parts i d u s) IsSpelledSoFar
 delta_line_spells n parts i d u (Delta row) rest spells = fits _ n _ (spells, rest)
 delta_line_spells n parts i d u _ rest spells = tt
 
-users_spell : (n : ℕ) (parts : Parts) (s : Said) → SpelledParts parts → Spells s → IfOk (in_users n parts s) IsSpelledSoFar
+users_spell : (n : ℕ) (parts : PartialHeader) (s : LineToken) → SpelledParts parts → Spells s → IfOk (in_users n parts s) IsSpelledSoFar
 users_spell n parts (Plain t) rest spells = (tt, (rest.0, all_push HasNoLf parts.users t rest.1 spells, rest.2, rest.3))
 users_spell n parts EndUsers rest spells = (tt, rest)
 users_spell n parts _ rest spells = tt
 
-flags_spell : (n : ℕ) (parts : Parts) (s : Said) → SpelledParts parts → Spells s → IfOk (in_flags n parts s) IsSpelledSoFar
+flags_spell : (n : ℕ) (parts : PartialHeader) (s : LineToken) → SpelledParts parts → Spells s → IfOk (in_flags n parts s) IsSpelledSoFar
 flags_spell n parts (FlagIs f) rest spells = fits _ n _ (tt, (rest.0, rest.1, all_push (λ (g : Flag). HasNoLf g.text) parts.flags f rest.2 spells, rest.3))
 flags_spell n parts Description rest spells = (tt, rest)
 flags_spell n parts _ rest spells = tt
 
-description_spells : (n : ℕ) (parts : Parts) (s : Said) → SpelledParts parts → Spells s → IfOk (in_description n parts s) IsSpelledSoFar
+description_spells : (n : ℕ) (parts : PartialHeader) (s : LineToken) → SpelledParts parts → Spells s → IfOk (in_description n parts s) IsSpelledSoFar
 description_spells n parts (Plain t) rest spells = (tt, (rest.0, rest.1, rest.2, all_push HasNoLf parts.description t rest.3 spells))
 description_spells n parts EndDescription rest spells = (tt, rest)
 description_spells n parts _ rest spells = tt
 
-after_spells : (n : ℕ) (parts : Parts) (p : Place) (s : Said) → SpelledEntry p → SpelledParts parts → Spells s → IfOk (after n parts p s) IsSpelledSoFar
+after_spells : (n : ℕ) (parts : PartialHeader) (p : HeaderState) (s : LineToken) → SpelledEntry p → SpelledParts parts → Spells s → IfOk (after n parts p s) IsSpelledSoFar
 after_spells n parts AtEntry s row rest spells = entry_spells n parts s rest
 after_spells n parts (AtDelta i d u) s row rest spells = delta_line_spells n parts i d u s rest spells
-after_spells n parts (InLists e stood) s row rest spells = lists_spell n parts e stood s row rest spells
+after_spells n parts (InLists e seen) s row rest spells = lists_spell n parts e seen s row rest spells
 after_spells n parts (InTexts e) s row rest spells = texts_spell n parts e s row rest spells
 after_spells n parts InUsers s row rest spells = users_spell n parts s rest spells
 after_spells n parts InFlags s row rest spells = flags_spell n parts s rest spells
 after_spells n parts InDescription s row rest spells = description_spells n parts s rest spells
 after_spells n parts AtBody s row rest spells = tt
 
-heard_spells : (n : ℕ) (r : Reading) (o : Option Said) → IsSpelledSoFar r → IfSome o Spells → IfOk (heard n r o) IsSpelledSoFar
+heard_spells : (n : ℕ) (r : HeaderParser) (o : Option LineToken) → IsSpelledSoFar r → IfSome o Spells → IfOk (accepted n r o) IsSpelledSoFar
 heard_spells n r None so_far spells = tt
-heard_spells n r (Some s) so_far spells = after_spells n r.parts r.place s so_far.0 so_far.1 spells
+heard_spells n r (Some s) so_far spells = after_spells n r.parts r.state s so_far.0 so_far.1 spells
 
-line_so : (n : ℕ) (r : Reading) (line : List ℕ) → HasNoLf line → IsSpelledSoFar r → IfOk (line_after n r line) IsSpelledSoFar
+line_so : (n : ℕ) (r : HeaderParser) (line : List ℕ) → HasNoLf line → IsSpelledSoFar r → IfOk (line_after n r line) IsSpelledSoFar
 unfolding line_after
 line_so n r line none so_far =
-    heard_spells n r (said line) so_far (said_spells line (recursion_from_All (λ b. b ≢ 10) line none))
+    heard_spells n r (token line) so_far (token_spells line (recursion_from_All (λ b. b ≢ 10) line none))
 
-pub line_spelled : (n : ℕ) (r s : Reading) (line : List ℕ) → HasNoLf line → line_after n r line ≡ Ok s → IsSpelledSoFar r → IsSpelledSoFar s
+pub line_spelled : (n : ℕ) (r s : HeaderParser) (line : List ℕ) → HasNoLf line → line_after n r line ≡ Ok s → IsSpelledSoFar r → IsSpelledSoFar s
 line_spelled n r s line none is so_far = rw is at (line_so n r line none so_far)
 
 pub start_spelled : IsSpelledSoFar start
@@ -211,7 +211,7 @@ records_spelled [] are = tt
 records_spelled (r ∷ rs) are =
     (record { sid = are.0.0; moment = are.0.1; login = are.0.2; mrs = are.0.3; comments = are.0.4 }, records_spelled rs are.1)
 
-pub whole_spelled : (s : Reading) → IsSpelledSoFar s → IsSpelled (header_of s)
+pub whole_spelled : (s : HeaderParser) → IsSpelledSoFar s → IsSpelled (header_of s)
 whole_spelled s so_far = record {
   records = records_spelled s.parts.table.records so_far.1.0;
   users = so_far.1.1;

@@ -6,9 +6,9 @@ use Rattle.sccs_sid.specs.Sid.{sid_of}
 use Rattle.sccs_sid.specs.Moment.{moment_of}
 use Rattle.sccs_history.specs.Numbers.{is_empty}
 use Rattle.sccs_sid.specs.Words.{◌>>=◌, one, found, begins_blank, ends_blank, skip_blanks, drop_blanks, words, three}
-use Rattle.sccs_grammar.specs.declared.sayings.Said.{Said}
-use Rattle.sccs_grammar.specs.declared.sayings.Said.TheVariants.{Counts, Delta, Listed, Mr, Comment, EndEntry, Users, EndUsers, FlagIs, Description, EndDescription, Insert, Delete, End, Plain}
-use Rattle.sccs_grammar.specs.declared.sayings.Which.TheVariants.{Included, Excluded, Ignored}
+use Rattle.sccs_grammar.specs.declared.line_tokens.LineToken.{LineToken}
+use Rattle.sccs_grammar.specs.declared.line_tokens.LineToken.TheVariants.{Counts, Delta, Listed, Mr, Comment, EndEntry, Users, EndUsers, FlagIs, Description, EndDescription, Insert, Delete, End, Plain}
+use Rattle.sccs_grammar.specs.declared.line_tokens.ListKind.TheVariants.{Included, Excluded, Ignored}
 
 -- 1 to 65535, in one to five digits
 unfoldable pub serial : List ℕ → Option ℕ
@@ -29,7 +29,7 @@ is_removed (letter ∷ []) = if letter == 68 then Some false else only (letter =
 is_removed (letter ∷ c ∷ word) = None
 
 -- a record without lists, MRs, comments and counts, of its seven words
-unfoldable pub delta_of : List ℕ → List ℕ → List ℕ → List ℕ → List ℕ → List ℕ → List ℕ → Option Said
+unfoldable pub delta_of : List ℕ → List ℕ → List ℕ → List ℕ → List ℕ → List ℕ → List ℕ → Option LineToken
 delta_of kind sid date time login own before = do
   removed ← is_removed kind
   s ← found (sid_of sid)
@@ -44,12 +44,12 @@ abbrev pub exactly_seven : List (List ℕ) → Option (List (List ℕ))
 exactly_seven (a ∷ b ∷ c ∷ d ∷ e ∷ f ∷ g ∷ []) = Some (a ∷ b ∷ c ∷ d ∷ e ∷ f ∷ g ∷ [])
 exactly_seven _ = None
 
-abbrev pub delta : List (List ℕ) → Option Said
+abbrev pub delta : List (List ℕ) → Option LineToken
 delta (kind ∷ sid ∷ date ∷ time ∷ login ∷ own ∷ before ∷ []) = delta_of kind sid date time login own before
 delta _ = None
 
 -- a word of lines inserted, deleted and unchanged
-unfoldable pub counts : List (List ℕ) → Option Said
+unfoldable pub counts : List (List ℕ) → Option LineToken
 counts ws = do
   word ← one ws
   n ← three 5 47 word
@@ -82,7 +82,7 @@ text [] = Some []
 text (b ∷ bytes) = only (b == 32) bytes
 
 -- a letter, and behind blanks its text, without blanks at the end
-abbrev pub flag : List ℕ → Option Said
+abbrev pub flag : List ℕ → Option LineToken
 flag [] = None
 flag (letter ∷ bytes) = only (is_empty bytes || begins_blank bytes) (FlagIs (record { letter = letter; text = drop_blanks (skip_blanks bytes) }))
 
@@ -96,19 +96,19 @@ padded_serial ws = do
   serial (drop_zeros word)
 
 -- one serial behind blanks, with any zeros in front
-unfoldable pub place : List ℕ → Option ℕ
-place bytes = if is_set_off bytes then padded_serial (words bytes) else None
+unfoldable pub serial_field : List ℕ → Option ℕ
+serial_field bytes = if is_set_off bytes then padded_serial (words bytes) else None
 
 -- what follows SOH and a letter in a body
-abbrev pub body_control : ℕ → List ℕ → Option Said
+abbrev pub body_control : ℕ → List ℕ → Option LineToken
 body_control letter bytes =
-    if letter == 73 then option_map Insert (place bytes)
-    else if letter == 68 then option_map Delete (place bytes)
-    else if letter == 69 then option_map End (place bytes)
+    if letter == 73 then option_map Insert (serial_field bytes)
+    else if letter == 68 then option_map Delete (serial_field bytes)
+    else if letter == 69 then option_map End (serial_field bytes)
     else None
 
 -- the same among users, flags and description, or in a body
-abbrev pub part_control : ℕ → List ℕ → Option Said
+abbrev pub part_control : ℕ → List ℕ → Option LineToken
 part_control letter bytes =
     if letter == 117 then only (is_empty bytes) Users
     else if letter == 85 then only (is_empty bytes) EndUsers
@@ -118,7 +118,7 @@ part_control letter bytes =
     else body_control letter bytes
 
 -- the same in a delta table, or behind it
-unfoldable pub control : ℕ → List ℕ → Option Said
+unfoldable pub control : ℕ → List ℕ → Option LineToken
 control letter bytes =
     if letter == 115 then (if is_set_off bytes then counts (words bytes) else None)
     else if letter == 100 then (if begins_blank bytes then delta (words bytes) else None)
@@ -130,11 +130,11 @@ control letter bytes =
     else if letter == 101 then only (is_empty bytes) EndEntry
     else part_control letter bytes
 
-abbrev pub behind_soh : List ℕ → Option Said
+abbrev pub behind_soh : List ℕ → Option LineToken
 behind_soh [] = None
 behind_soh (letter ∷ bytes) = control letter bytes
 
 -- what a line says: a control line begins with SOH and a letter
-unfoldable pub said : List ℕ → Option Said
-said [] = Some (Plain [])
-said (b ∷ bytes) = if b == 1 then behind_soh bytes else Some (Plain (b ∷ bytes))
+unfoldable pub token : List ℕ → Option LineToken
+token [] = Some (Plain [])
+token (b ∷ bytes) = if b == 1 then behind_soh bytes else Some (Plain (b ∷ bytes))

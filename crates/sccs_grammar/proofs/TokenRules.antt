@@ -15,28 +15,28 @@ use Rattle.sccs_history.specs.Numbers.{is_empty, share}
 use Rattle.sccs_sid.specs.SidLists.{begins}
 use Rattle.sccs_history.specs.History.{NamesSmaller}
 use Rattle.sccs_sid.specs.Words.{◌>>=◌, one, found, begins_blank, ends_blank, skip_blanks, kept, drop_blanks, words, three}
-use Rattle.sccs_grammar.specs.Said.{serial, predecessor, is_removed, delta_of, delta, counts, plain_serial, serials, is_set_off, listed, text, flag, place, control, behind_soh, said}
+use Rattle.sccs_grammar.specs.Tokens.{serial, predecessor, is_removed, delta_of, delta, counts, plain_serial, serials, is_set_off, listed, text, flag, serial_field, control, behind_soh, token}
 use Rattle.sccs_history.specs.declared.headers.Record.{Record}
 use Rattle.sccs_history.specs.declared.headers.Flag.{Flag}
 use Rattle.sccs_grammar.specs.Written.{delta_part}
-use Rattle.sccs_grammar.specs.declared.sayings.Said.{Said}
-use Rattle.sccs_grammar.specs.declared.sayings.Said.TheVariants.{Counts, Delta, Listed, Mr, Comment, EndEntry, Users, EndUsers, FlagIs, Description, EndDescription, Insert, Delete, End, Plain}
-use Rattle.sccs_grammar.specs.declared.sayings.Which.{Which}
-use Rattle.sccs_grammar.specs.declared.sayings.Which.TheVariants.{Included, Excluded, Ignored}
+use Rattle.sccs_grammar.specs.declared.line_tokens.LineToken.{LineToken}
+use Rattle.sccs_grammar.specs.declared.line_tokens.LineToken.TheVariants.{Counts, Delta, Listed, Mr, Comment, EndEntry, Users, EndUsers, FlagIs, Description, EndDescription, Insert, Delete, End, Plain}
+use Rattle.sccs_grammar.specs.declared.line_tokens.ListKind.{ListKind}
+use Rattle.sccs_grammar.specs.declared.line_tokens.ListKind.TheVariants.{Included, Excluded, Ignored}
 
 -- counts have at most five digits, a delta line says no lists, serials are positive, a flag's text has no blanks at its
 -- ends, and a line of text doesn't begin with SOH
-abbrev pub SaysWell : Said → Type 0
-SaysWell (Counts i d u) = (i ≤ 99999) × (d ≤ 99999) × (u ≤ 99999)
-SaysWell (Delta r) =
+abbrev pub IsValidToken : LineToken → Type 0
+IsValidToken (Counts i d u) = (i ≤ 99999) × (d ≤ 99999) × (u ≤ 99999)
+IsValidToken (Delta r) =
     (0 < r.serial) × NamesSmaller r.serial r.include × NamesSmaller r.serial r.exclude × NamesSmaller r.serial r.ignore × (share r.include r.exclude ≡ false)
-SaysWell (Listed which ns) = AllByRecursion (λ n. 0 < n) ns
-SaysWell (FlagIs f) = (begins_blank f.text ≡ false) × (ends_blank f.text ≡ false)
-SaysWell (Plain t) = begins 1 t ≡ false
-SaysWell _ = Unit {0}
+IsValidToken (Listed which ns) = AllByRecursion (λ n. 0 < n) ns
+IsValidToken (FlagIs f) = (begins_blank f.text ≡ false) × (ends_blank f.text ≡ false)
+IsValidToken (Plain t) = begins 1 t ≡ false
+IsValidToken _ = Unit {0}
 
-abbrev Well : Option Said → Type 0
-Well o = IfSome o SaysWell
+abbrev Well : Option LineToken → Type 0
+Well o = IfSome o IsValidToken
 
 -- ---- steps of reading
 
@@ -119,7 +119,7 @@ three_small word =
 
 counts_well : (ws : List (List ℕ)) → Well (counts ws)
 unfolding counts AreSmall
-counts_well ws = then_any SaysWell (one ws) _ λ word. then_some AreSmall SaysWell (three 5 47 word) _ (three_small word) λ n small. small
+counts_well ws = then_any IsValidToken (one ws) _ λ word. then_some AreSmall IsValidToken (three 5 47 word) _ (three_small word) λ n small. small
 
 -- ---- serials
 
@@ -147,7 +147,7 @@ unfolding listed AreSome
 listed_some bytes =
     either AreSome (is_empty (skip_blanks bytes)) (Some []) _ tt (either AreSome (is_set_off bytes) (serials (words bytes)) None (serials_some (words bytes)) tt)
 
-list_of : (which : Which) (o : Option (List ℕ)) → IfSome o AreSome → Well (option_map (Listed which) o)
+list_of : (which : ListKind) (o : Option (List ℕ)) → IfSome o AreSome → Well (option_map (Listed which) o)
 unfolding AreSome
 list_of which None are = tt
 list_of which (Some ns) are = are
@@ -157,12 +157,12 @@ list_of which (Some ns) are = are
 delta_of_well : (kind sid date time login own before : List ℕ) → Well (delta_of kind sid date time login own before)
 unfolding delta_of
 delta_of_well kind sid date time login own before =
-    then_any SaysWell (is_removed kind) _ λ removed.
-    then_any SaysWell (found (sid_of sid)) _ λ s.
-    then_any SaysWell (found (moment_of date time)) _ λ m.
-    then_any SaysWell (only (is_login login) login) _ λ who.
-    then_some (λ n. 0 < n) SaysWell (serial own) _ (serial_some own) λ n some.
-    then_any SaysWell (predecessor before) _ λ p. (some, tt, tt, tt, refl)
+    then_any IsValidToken (is_removed kind) _ λ removed.
+    then_any IsValidToken (found (sid_of sid)) _ λ s.
+    then_any IsValidToken (found (moment_of date time)) _ λ m.
+    then_any IsValidToken (only (is_login login) login) _ λ who.
+    then_some (λ n. 0 < n) IsValidToken (serial own) _ (serial_some own) λ n some.
+    then_any IsValidToken (predecessor before) _ λ p. (some, tt, tt, tt, refl)
 
 delta_well : (ws : List (List ℕ)) → Well (delta ws)
 delta_well (kind ∷ sid ∷ date ∷ time ∷ login ∷ own ∷ before ∷ []) = delta_of_well kind sid date time login own before
@@ -203,15 +203,15 @@ skipped (b ∷ bytes) = skipped_one b bytes (cases_Bool (b == 32)) (skipped byte
 flag_well : (bytes : List ℕ) → Well (flag bytes)
 flag_well [] = tt
 flag_well (letter ∷ bytes) =
-    only_so SaysWell (is_empty bytes || begins_blank bytes) (FlagIs (record { letter = letter; text = drop_blanks (skip_blanks bytes) })) λ is. (drop_begins (skip_blanks bytes) (skipped bytes), drop_ends (skip_blanks bytes))
+    only_so IsValidToken (is_empty bytes || begins_blank bytes) (FlagIs (record { letter = letter; text = drop_blanks (skip_blanks bytes) })) λ is. (drop_begins (skip_blanks bytes) (skipped bytes), drop_ends (skip_blanks bytes))
 
 -- ---- a line
 
 -- what each kind of line that has a letter behind SOH says keeps P
-pub record EachKeeps (P : Said → Type 0) (letter : ℕ) (bytes : List ℕ) : Type 0 where
+pub record EachKeeps (P : LineToken → Type 0) (letter : ℕ) (bytes : List ℕ) : Type 0 where
   pub on_counts : IfSome (counts (words bytes)) P
   pub on_delta : IfSome (delta (words bytes)) P
-  pub on_list : (which : Which) → IfSome (option_map (Listed which) (listed bytes)) P
+  pub on_list : (which : ListKind) → IfSome (option_map (Listed which) (listed bytes)) P
   pub on_mr : IfSome (option_map Mr (text bytes)) P
   pub on_comment : IfSome (option_map Comment (text bytes)) P
   pub on_flag : IfSome (flag (skip_blanks bytes)) P
@@ -224,14 +224,14 @@ pub record EachKeeps (P : Said → Type 0) (letter : ℕ) (bytes : List ℕ) : T
   pub on_delete : letter == 68 ≡ true → (n : ℕ) → P (Delete n)
   pub on_end : letter == 69 ≡ true → (n : ℕ) → P (End n)
 
-mapped : (P : Said → Type 0) (f : ℕ → Said) (o : Option ℕ) → ((n : ℕ) → P (f n)) → IfSome (option_map f o) P
+mapped : (P : LineToken → Type 0) (f : ℕ → LineToken) (o : Option ℕ) → ((n : ℕ) → P (f n)) → IfSome (option_map f o) P
 mapped P f None h = tt
 mapped P f (Some n) h = h n
 
-pub control_keeps : (P : Said → Type 0) (letter : ℕ) (bytes : List ℕ) → EachKeeps P letter bytes → IfSome (control letter bytes) P
+pub control_keeps : (P : LineToken → Type 0) (letter : ℕ) (bytes : List ℕ) → EachKeeps P letter bytes → IfSome (control letter bytes) P
 unfolding control
 control_keeps P letter bytes each =
-    let alone : (s : Said) → P s → IfSome (only (is_empty bytes) s) P = λ s here. only_so P (is_empty bytes) s (λ is. here) in
+    let alone : (s : LineToken) → P s → IfSome (only (is_empty bytes) s) P = λ s here. only_so P (is_empty bytes) s (λ is. here) in
     either P (letter == 115) _ _ (either P (is_set_off bytes) _ None each.on_counts tt)
     (either P (letter == 100) _ _ (either P (begins_blank bytes) _ None each.on_delta tt)
     (either P (letter == 105) _ _ (each.on_list Included)
@@ -245,15 +245,15 @@ control_keeps P letter bytes each =
     (either P (letter == 102) _ _ (either P (begins_blank bytes) _ None each.on_flag tt)
     (either P (letter == 116) _ _ (alone Description each.on_description)
     (either P (letter == 84) _ _ (alone EndDescription each.on_end_description)
-    (either_so P (letter == 73) _ _ (λ is. mapped P Insert (place bytes) (each.on_insert is))
-    (either_so P (letter == 68) _ _ (λ is. mapped P Delete (place bytes) (each.on_delete is))
-    (either_so P (letter == 69) _ None (λ is. mapped P End (place bytes) (each.on_end is)) tt)))))))))))))))
+    (either_so P (letter == 73) _ _ (λ is. mapped P Insert (serial_field bytes) (each.on_insert is))
+    (either_so P (letter == 68) _ _ (λ is. mapped P Delete (serial_field bytes) (each.on_delete is))
+    (either_so P (letter == 69) _ None (λ is. mapped P End (serial_field bytes) (each.on_end is)) tt)))))))))))))))
 
--- what is said of each kind keeps P, whatever bytes say it
-pub record KindsKeep (P : Said → Type 0) : Type 0 where
+-- what is token of each kind keeps P, whatever bytes say it
+pub record KindsKeep (P : LineToken → Type 0) : Type 0 where
   pub counts : (i d u : ℕ) → P (Counts i d u)
   pub delta : (r : Record) → delta_part r ≡ r → P (Delta r)
-  pub listed : (which : Which) (ns : List ℕ) → P (Listed which ns)
+  pub listed : (which : ListKind) (ns : List ℕ) → P (Listed which ns)
   pub mr : (t : List ℕ) → P (Mr t)
   pub comment : (t : List ℕ) → P (Comment t)
   pub flag : (f : Flag) → P (FlagIs f)
@@ -263,15 +263,15 @@ pub record KindsKeep (P : Said → Type 0) : Type 0 where
   pub description : P Description
   pub end_description : P EndDescription
 
-made : {A : Type 0} (P : Said → Type 0) (f : A → Said) (o : Option A) → ((x : A) → P (f x)) → IfSome (option_map f o) P
+made : {A : Type 0} (P : LineToken → Type 0) (f : A → LineToken) (o : Option A) → ((x : A) → P (f x)) → IfSome (option_map f o) P
 made P f None each = tt
 made P f (Some x) each = each x
 
-counts_keep : (P : Said → Type 0) (ws : List (List ℕ)) → KindsKeep P → IfSome (counts ws) P
+counts_keep : (P : LineToken → Type 0) (ws : List (List ℕ)) → KindsKeep P → IfSome (counts ws) P
 unfolding counts
 counts_keep P ws kinds = then_any P (one ws) _ λ word. then_any P (three 5 47 word) _ λ n. kinds.counts n.0 n.1 n.2
 
-delta_of_keeps : (P : Said → Type 0) (kind sid date time login own before : List ℕ) → KindsKeep P → IfSome (delta_of kind sid date time login own before) P
+delta_of_keeps : (P : LineToken → Type 0) (kind sid date time login own before : List ℕ) → KindsKeep P → IfSome (delta_of kind sid date time login own before) P
 unfolding delta_of
 delta_of_keeps P kind sid date time login own before kinds =
     then_any P (is_removed kind) _ λ removed.
@@ -281,15 +281,15 @@ delta_of_keeps P kind sid date time login own before kinds =
     then_any P (serial own) _ λ n.
     then_any P (predecessor before) _ λ p. kinds.delta _ refl
 
-delta_keeps : (P : Said → Type 0) (ws : List (List ℕ)) → KindsKeep P → IfSome (delta ws) P
+delta_keeps : (P : LineToken → Type 0) (ws : List (List ℕ)) → KindsKeep P → IfSome (delta ws) P
 delta_keeps P (kind ∷ sid ∷ date ∷ time ∷ login ∷ own ∷ before ∷ []) kinds = delta_of_keeps P kind sid date time login own before kinds
 delta_keeps P _ kinds = tt
 
-flag_keeps : (P : Said → Type 0) (bytes : List ℕ) → KindsKeep P → IfSome (flag bytes) P
+flag_keeps : (P : LineToken → Type 0) (bytes : List ℕ) → KindsKeep P → IfSome (flag bytes) P
 flag_keeps P [] kinds = tt
 flag_keeps P (letter ∷ bytes) kinds = only_so P _ (FlagIs (record { letter = letter; text = drop_blanks (skip_blanks bytes) })) λ is. kinds.flag _
 
-pub each_of_kinds : (P : Said → Type 0) (letter : ℕ) (bytes : List ℕ) → KindsKeep P → (letter == 73 ≡ true → (n : ℕ) → P (Insert n)) → (letter == 68 ≡ true → (n : ℕ) → P (Delete n)) → (letter == 69 ≡ true → (n : ℕ) → P (End n)) → EachKeeps P letter bytes
+pub each_of_kinds : (P : LineToken → Type 0) (letter : ℕ) (bytes : List ℕ) → KindsKeep P → (letter == 73 ≡ true → (n : ℕ) → P (Insert n)) → (letter == 68 ≡ true → (n : ℕ) → P (Delete n)) → (letter == 69 ≡ true → (n : ℕ) → P (End n)) → EachKeeps P letter bytes
 each_of_kinds P letter bytes kinds insert delete end = record {
   on_counts = counts_keep P (words bytes) kinds;
   on_delta = delta_keeps P (words bytes) kinds;
@@ -307,11 +307,11 @@ each_of_kinds P letter bytes kinds insert delete end = record {
   on_end = end;
 }
 
-text_well : (f : List ℕ → Said) (o : Option (List ℕ)) → ((t : List ℕ) → SaysWell (f t)) → Well (option_map f o)
+text_well : (f : List ℕ → LineToken) (o : Option (List ℕ)) → ((t : List ℕ) → IsValidToken (f t)) → Well (option_map f o)
 text_well f None h = tt
 text_well f (Some t) h = h t
 
-each_well : (letter : ℕ) (bytes : List ℕ) → EachKeeps SaysWell letter bytes
+each_well : (letter : ℕ) (bytes : List ℕ) → EachKeeps IsValidToken letter bytes
 each_well letter bytes = record {
   on_counts = counts_well (words bytes);
   on_delta = delta_well (words bytes);
@@ -330,8 +330,8 @@ each_well letter bytes = record {
 }
 
 -- a line keeps P where a control line does, and a line of text
-pub line_keeps : (P : Said → Type 0) (line : List ℕ) → ((letter : ℕ) (bytes : List ℕ) → EachKeeps P letter bytes) → ((t : List ℕ) → begins 1 t ≡ false → P (Plain t)) → IfSome (said line) P
-unfolding said
+pub line_keeps : (P : LineToken → Type 0) (line : List ℕ) → ((letter : ℕ) (bytes : List ℕ) → EachKeeps P letter bytes) → ((t : List ℕ) → begins 1 t ≡ false → P (Plain t)) → IfSome (token line) P
+unfolding token
 line_keeps P [] each plain = plain [] refl
 line_keeps P (b ∷ bytes) each plain = by_first (b == 1) refl
   where
@@ -343,5 +343,5 @@ line_keeps P (b ∷ bytes) each plain = by_first (b == 1) refl
     by_first true is = behind bytes
     by_first false is = plain (b ∷ bytes) is
 
-pub said_well : (line : List ℕ) → IfSome (said line) SaysWell
-said_well line = line_keeps SaysWell line each_well (λ t is. is)
+pub token_well : (line : List ℕ) → IfSome (token line) IsValidToken
+token_well line = line_keeps IsValidToken line each_well (λ t is. is)

@@ -1,0 +1,364 @@
+//! What is read of a header with a line more.
+ghost use Rattle.std.specs.Prelude.{◌≡◌, Ok, Err, [], ◌∷◌, ◌++◌};
+ghost use Rattle.sccs_grammar.specs.Entries.{with_entry as with_entry_spec};
+ghost use Rattle.sccs_grammar.specs.Front.{Accepts, AcceptsAt, AcceptsIn, after, at_delta, at_entry, ends_table, exclude_list, ignore_list, in_description, in_flags, in_lists, in_texts, in_users, include_list, dangling_predecessor, new_flag, parser_at, with_comment, with_list, with_mr};
+
+use crate::header_parsers::{
+    Entry, FrontFault, HeaderParser, HeaderState, ListsSeen, PartialHeader,
+};
+use crate::line_tokens::{LineToken, ListKind};
+use crate::table_tests::{all_below, flag_fits, is_new, share};
+use crate::tables::{Table, with_entry};
+use sccs_base::Line;
+use sccs_history::{Flag, Record, Serials};
+use std::alloc::Global;
+use std::mem::replace;
+
+// the line is at fault: nothing goes on there
+fn refuse(number: u64, token: LineToken) -> Result<HeaderState, FrontFault>
+    ensures { result ≡ Err (FrontFault.Format number) }
+{
+    drop(token);
+    Err(FrontFault::Format(number))
+}
+
+// the same within an entry
+fn refuse_entry(number: u64, entry: Entry, token: LineToken) -> Result<HeaderState, FrontFault>
+    ensures { result ≡ Err (FrontFault.Format number) }
+{
+    drop(entry);
+    refuse(number, token)
+}
+
+// the entry with an MR more
+fn with_mr(mut entry: Entry, line: Line) -> Result<Entry, FrontFault>
+    ensures { Accepts result (Ok (with_mr entry line)) }
+{
+    match entry.row.mrs.push(line) {
+        Ok(()) => Ok(entry),
+        Err(_) => Err(FrontFault::Memory),
+    }
+}
+
+// the entry with a comment more
+fn with_comment(mut entry: Entry, line: Line) -> Result<Entry, FrontFault>
+    ensures { Accepts result (Ok (with_comment entry line)) }
+{
+    match entry.row.comments.push(line) {
+        Ok(()) => Ok(entry),
+        Err(_) => Err(FrontFault::Memory),
+    }
+}
+
+// the end of an entry
+#[inline(never)]
+fn end_entry(
+    alloc: Global,
+    parts: &mut PartialHeader,
+    entry: Entry,
+) -> Result<HeaderState, FrontFault>
+    ensures { AcceptsAt parts.new result (Ok (parser_at HeaderState.AtEntry (record parts.old { table = with_entry_spec parts.old.table entry }))) }
+{
+    let table = replace(&mut parts.table, Table::new(alloc));
+    parts.table = with_entry(table, entry)?;
+    Ok(HeaderState::AtEntry)
+}
+
+// MRs and comments, mixed, and the end of the entry
+fn in_texts(
+    alloc: Global,
+    number: u64,
+    parts: &mut PartialHeader,
+    entry: Entry,
+    token: LineToken,
+) -> Result<HeaderState, FrontFault>
+    ensures { AcceptsAt parts.new result (in_texts number parts.old entry token) }
+{
+    match token {
+        LineToken::Mr(line) => Ok(HeaderState::InTexts(with_mr(entry, line)?)),
+        LineToken::Comment(line) => Ok(HeaderState::InTexts(with_comment(entry, line)?)),
+        LineToken::EndEntry => end_entry(alloc, parts, entry),
+        token => refuse_entry(number, entry, token),
+    }
+}
+
+// a list of one kind: it stands once, and names smaller serials
+fn include_list(
+    number: u64,
+    mut entry: Entry,
+    seen: ListsSeen,
+    serials: Serials,
+) -> Result<HeaderState, FrontFault>
+    ensures { (parts : PartialHeader) → AcceptsAt parts result (include_list number parts entry seen serials) }
+{
+    let below = all_below(entry.row.serial, serials.items());
+    if seen.included || !below || share(serials.items(), entry.row.exclude.items()) {
+        return Err(FrontFault::Format(number));
+    }
+    entry.row.include = serials;
+    let seen = ListsSeen {
+        included: true,
+        ..seen
+    };
+    Ok(HeaderState::InLists(entry, seen))
+}
+
+fn exclude_list(
+    number: u64,
+    mut entry: Entry,
+    seen: ListsSeen,
+    serials: Serials,
+) -> Result<HeaderState, FrontFault>
+    ensures { (parts : PartialHeader) → AcceptsAt parts result (exclude_list number parts entry seen serials) }
+{
+    let below = all_below(entry.row.serial, serials.items());
+    if seen.excluded || !below || share(serials.items(), entry.row.include.items()) {
+        return Err(FrontFault::Format(number));
+    }
+    entry.row.exclude = serials;
+    let seen = ListsSeen {
+        excluded: true,
+        ..seen
+    };
+    Ok(HeaderState::InLists(entry, seen))
+}
+
+fn ignore_list(
+    number: u64,
+    mut entry: Entry,
+    seen: ListsSeen,
+    serials: Serials,
+) -> Result<HeaderState, FrontFault>
+    ensures { (parts : PartialHeader) → AcceptsAt parts result (ignore_list number parts entry seen serials) }
+{
+    let below = all_below(entry.row.serial, serials.items());
+    if seen.ignored || !below {
+        return Err(FrontFault::Format(number));
+    }
+    entry.row.ignore = serials;
+    let seen = ListsSeen {
+        ignored: true,
+        ..seen
+    };
+    Ok(HeaderState::InLists(entry, seen))
+}
+
+#[inline(never)]
+fn with_list(
+    number: u64,
+    entry: Entry,
+    seen: ListsSeen,
+    which: ListKind,
+    serials: Serials,
+) -> Result<HeaderState, FrontFault>
+    ensures { (parts : PartialHeader) → AcceptsAt parts result (with_list number parts entry seen which serials) }
+{
+    match which {
+        ListKind::Included => include_list(number, entry, seen, serials),
+        ListKind::Excluded => exclude_list(number, entry, seen, serials),
+        ListKind::Ignored => ignore_list(number, entry, seen, serials),
+    }
+}
+
+fn in_lists(
+    alloc: Global,
+    number: u64,
+    parts: &mut PartialHeader,
+    entry: Entry,
+    seen: ListsSeen,
+    token: LineToken,
+) -> Result<HeaderState, FrontFault>
+    ensures { AcceptsAt parts.new result (in_lists number parts.old entry seen token) }
+{
+    match token {
+        LineToken::Listed(which, serials) => with_list(number, entry, seen, which, serials),
+        token => in_texts(alloc, number, parts, entry, token),
+    }
+}
+
+// the table ends: there is an entry, and each predecessor is there
+#[inline(never)]
+fn end_table(number: u64, parts: &PartialHeader) -> Result<HeaderState, FrontFault>
+    ensures { AcceptsAt parts.now result (ends_table number parts.now (dangling_predecessor parts.now.table.records parts.now.table.records parts.now.table.lines)) }
+{
+    if let Some(line) = parts.table.dangling_predecessor() {
+        return Err(FrontFault::Format(line));
+    }
+    if parts.table.records().is_empty() {
+        return Err(FrontFault::Format(number));
+    }
+    Ok(HeaderState::InUsers)
+}
+
+// an entry begins, or the table ends
+fn at_entry(number: u64, parts: &PartialHeader, token: LineToken) -> Result<HeaderState, FrontFault>
+    ensures { AcceptsAt parts.now result (at_entry number parts.now token) }
+{
+    match token {
+        LineToken::Counts(inserted, deleted, unchanged) => {
+            Ok(HeaderState::AtDelta(inserted, deleted, unchanged))
+        }
+        LineToken::Users => end_table(number, parts),
+        token => refuse(number, token),
+    }
+}
+
+// an entry with its delta line
+fn begin_entry(
+    number: u64,
+    parts: &PartialHeader,
+    counts: (u32, u32, u32),
+    delta: Record,
+) -> Result<HeaderState, FrontFault>
+    ensures { AcceptsAt parts.now result (at_delta number parts.now counts.0 counts.1 counts.2 (LineToken.Delta delta)) }
+{
+    if !parts.table.may_follow(&delta) {
+        return Err(FrontFault::Format(number));
+    }
+    let (inserted, deleted, unchanged) = counts;
+    let row = Record {
+        inserted,
+        deleted,
+        unchanged,
+        ..delta
+    };
+    let none_seen = ListsSeen {
+        included: false,
+        excluded: false,
+        ignored: false,
+    };
+    Ok(HeaderState::InLists(Entry { line: number, row }, none_seen))
+}
+
+// the delta line of an entry
+#[inline(never)]
+fn at_delta(
+    number: u64,
+    parts: &PartialHeader,
+    counts: (u32, u32, u32),
+    token: LineToken,
+) -> Result<HeaderState, FrontFault>
+    ensures { AcceptsAt parts.now result (at_delta number parts.now counts.0 counts.1 counts.2 token) }
+{
+    match token {
+        LineToken::Delta(row) => begin_entry(number, parts, counts, row),
+        token => refuse(number, token),
+    }
+}
+
+// one user more
+fn new_user(parts: &mut PartialHeader, line: Line) -> Result<HeaderState, FrontFault>
+    ensures { AcceptsAt parts.new result (Ok (parser_at HeaderState.InUsers (record parts.old { users = parts.old.users ++ line ∷ [] }))) }
+{
+    if parts.users.push(line).is_err() {
+        return Err(FrontFault::Memory);
+    }
+    Ok(HeaderState::InUsers)
+}
+
+#[inline(never)]
+fn in_users(
+    number: u64,
+    parts: &mut PartialHeader,
+    token: LineToken,
+) -> Result<HeaderState, FrontFault>
+    ensures { AcceptsAt parts.new result (in_users number parts.old token) }
+{
+    match token {
+        LineToken::Plain(line) => new_user(parts, line),
+        LineToken::EndUsers => Ok(HeaderState::InFlags),
+        token => refuse(number, token),
+    }
+}
+
+// one flag more
+fn new_flag(number: u64, parts: &mut PartialHeader, flag: Flag) -> Result<HeaderState, FrontFault>
+    ensures { AcceptsAt parts.new result (new_flag number parts.old flag) }
+{
+    if !flag_fits(&flag) || !is_new(parts.flags.items(), &flag) {
+        return Err(FrontFault::Format(number));
+    }
+    if parts.flags.push(flag).is_err() {
+        return Err(FrontFault::Memory);
+    }
+    Ok(HeaderState::InFlags)
+}
+
+#[inline(never)]
+fn in_flags(
+    number: u64,
+    parts: &mut PartialHeader,
+    token: LineToken,
+) -> Result<HeaderState, FrontFault>
+    ensures { AcceptsAt parts.new result (in_flags number parts.old token) }
+{
+    match token {
+        LineToken::FlagIs(flag) => new_flag(number, parts, flag),
+        LineToken::Description => Ok(HeaderState::InDescription),
+        token => refuse(number, token),
+    }
+}
+
+// one line of the description more
+fn new_line(parts: &mut PartialHeader, line: Line) -> Result<HeaderState, FrontFault>
+    ensures { AcceptsAt parts.new result (Ok (parser_at HeaderState.InDescription (record parts.old { description = parts.old.description ++ line ∷ [] }))) }
+{
+    if parts.description.push(line).is_err() {
+        return Err(FrontFault::Memory);
+    }
+    Ok(HeaderState::InDescription)
+}
+
+#[inline(never)]
+fn in_description(
+    number: u64,
+    parts: &mut PartialHeader,
+    token: LineToken,
+) -> Result<HeaderState, FrontFault>
+    ensures { AcceptsAt parts.new result (in_description number parts.old token) }
+{
+    match token {
+        LineToken::Plain(line) => new_line(parts, line),
+        LineToken::EndDescription => Ok(HeaderState::AtBody),
+        token => refuse(number, token),
+    }
+}
+
+// where the next line stands behind a line that says this
+fn next_state(
+    alloc: Global,
+    number: u64,
+    state: HeaderState,
+    parts: &mut PartialHeader,
+    token: LineToken,
+) -> Result<HeaderState, FrontFault>
+    ensures { AcceptsAt parts.new result (after number parts.old state token) }
+{
+    match state {
+        HeaderState::AtEntry => at_entry(number, parts, token),
+        HeaderState::AtDelta(inserted, deleted, unchanged) => {
+            at_delta(number, parts, (inserted, deleted, unchanged), token)
+        }
+        HeaderState::InLists(entry, seen) => in_lists(alloc, number, parts, entry, seen, token),
+        HeaderState::InTexts(entry) => in_texts(alloc, number, parts, entry, token),
+        HeaderState::InUsers => in_users(number, parts, token),
+        HeaderState::InFlags => in_flags(number, parts, token),
+        HeaderState::InDescription => in_description(number, parts, token),
+        HeaderState::AtBody => refuse(number, token),
+    }
+}
+
+/// Reads on with a line of that number that says this, or answers the line at fault. A reading that
+/// answered so is used up.
+pub fn accept(
+    alloc: Global,
+    number: u64,
+    parser: &mut HeaderParser,
+    token: LineToken,
+) -> Result<(), FrontFault>
+    ensures { AcceptsIn parser.new result (after number parser.old.parts parser.old.state token) }
+{
+    let state = replace(&mut parser.state, HeaderState::AtBody);
+    parser.state = next_state(alloc, number, state, &mut parser.parts, token)?;
+    Ok(())
+}
