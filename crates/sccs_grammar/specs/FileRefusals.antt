@@ -6,6 +6,13 @@ use Rattle.sccs_sid.specs.declared.refusals.StepFault.{StepFault}
 use Rattle.sccs_sid.specs.declared.refusals.StepFault.TheVariants.{Refused, Memory, DiskFault}
 use Rattle.sccs_grammar.specs.declared.faults.FileFault.{FileFault}
 use Rattle.sccs_grammar.specs.declared.faults.FileFault.TheVariants as faults
+use Rattle.sccs_grammar.specs.declared.header_parsers.FrontFault.{FrontFault}
+use Rattle.sccs_grammar.specs.declared.header_parsers.FrontFault.TheVariants as fronts
+
+-- the fault of a file whose header isn't read on
+abbrev pub line_fault : FrontFault → FileFault
+line_fault (fronts.Format line) = faults.BadFormat line
+line_fault fronts.Memory = faults.Memory
 
 -- the refusal for a file that isn't read; a disk that failed and want of memory are none
 abbrev pub refusal_of : FileFault → Option Refusal
@@ -15,6 +22,7 @@ refusal_of faults.NotSccs = Some refusals.NotSccs
 refusal_of (faults.BadSum stored sum) = Some (refusals.BadSum stored sum)
 refusal_of (faults.BadFormat line) = Some (refusals.BadFormat line)
 refusal_of faults.Encoded = Some refusals.Encoded
+refusal_of (faults.Changed size sum size_now sum_now) = Some (refusals.Changed size sum size_now sum_now)
 refusal_of faults.Failed = None
 refusal_of faults.Memory = None
 
@@ -26,6 +34,7 @@ file_fault faults.NotSccs = Refused refusals.NotSccs
 file_fault (faults.BadSum stored sum) = Refused (refusals.BadSum stored sum)
 file_fault (faults.BadFormat line) = Refused (refusals.BadFormat line)
 file_fault faults.Encoded = Refused refusals.Encoded
+file_fault (faults.Changed size sum size_now sum_now) = Refused (refusals.Changed size sum size_now sum_now)
 file_fault faults.Failed = DiskFault
 file_fault faults.Memory = Memory
 

@@ -1,3 +1,10 @@
+ghost use Rattle.std.specs.Prelude.{◌≡◌};
+ghost use Rattle.sccs_grammar.specs.FileRefusals.{line_fault};
+ghost use Rattle.sccs_grammar.specs.declared.faults.FileFault.TheVariants as faults;
+
+use crate::header_parsers::FrontFault;
+use sccs_base::{Failed, Memory};
+
 /// Why an s-file was not read. Where several hold, the earliest of this list is answered.
 #[derive(Clone, Copy, Debug, PartialEq, Eq)]
 pub enum FileFault {
@@ -13,8 +20,37 @@ pub enum FileFault {
     BadFormat(u64),
     /// A flag e has the text `1`.
     Encoded,
+    /// The size and the plain sum of a first reading, and those of this one: one of them differs.
+    Changed(u64, u16, u64, u16),
     /// The disk failed.
     Failed,
     /// There was no memory.
     Memory,
+}
+
+impl From<Failed> for FileFault {
+    ghost from_gives = { λ _ fault. fault ≡ faults.Failed };
+
+    fn from(_failed: Failed) -> FileFault {
+        FileFault::Failed
+    }
+}
+
+impl From<Memory> for FileFault {
+    ghost from_gives = { λ _ fault. fault ≡ faults.Memory };
+
+    fn from(_memory: Memory) -> FileFault {
+        FileFault::Memory
+    }
+}
+
+impl From<FrontFault> for FileFault {
+    ghost from_gives = { λ fault ended. ended ≡ line_fault fault };
+
+    fn from(fault: FrontFault) -> FileFault {
+        match fault {
+            FrontFault::Format(line) => FileFault::BadFormat(line),
+            FrontFault::Memory => FileFault::Memory,
+        }
+    }
 }

@@ -17,6 +17,9 @@ impl From<FileFault> for StepFault {
             FileFault::BadSum(stored, sum) => StepFault::Refused(Refusal::BadSum(stored, sum)),
             FileFault::BadFormat(line) => StepFault::Refused(Refusal::BadFormat(line)),
             FileFault::Encoded => StepFault::Refused(Refusal::Encoded),
+            FileFault::Changed(size, sum, size_now, sum_now) => {
+                StepFault::Refused(Refusal::Changed(size, sum, size_now, sum_now))
+            }
             FileFault::Failed => StepFault::DiskFault,
             FileFault::Memory => StepFault::Memory,
         }

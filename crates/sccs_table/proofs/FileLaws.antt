@@ -1,21 +1,22 @@
 -- What the parts of a reading make of the answer for a whole file.
-use Rattle.std.proofs.Common.{◌≡◌, ℕ, ◌+◌, ◌≤◌, ◌==◌, Bool, true, false, ◌||◌, List, [], ◌∷◌, length, drop, Option, None, Some, Result, Ok, Err, refl, sym, ap, ◌∙◌, subst, arith}
+use Rattle.std.proofs.Common.{◌≡◌, ℕ, ◌+◌, ◌≤◌, min, ◌==◌, Bool, true, false, ◌&&◌, ◌||◌, List, [], ◌∷◌, length, take, drop, Option, None, Some, Result, Ok, Err, refl, sym, ap, ◌∙◌, subst, arith, eq-eqb, length-take}
 use Rattle.std.specs.Prelude.{IfSome, if◌then◌else◌}
-use Rattle.std.proofs.lemmas.Bool.{le-ltb}
+use Rattle.std.proofs.lemmas.Bool.{eqb-true, le-ltb}
+use Rattle.std.proofs.lemmas.List.{drop_all, take_all}
 use Rattle.sccs_base.specs.Cut.{Cut, cut}
-use Rattle.sccs_sid.specs.Reading.{◌>>=◌}
+use Rattle.sccs_sid.specs.Reading.{◌>>=◌, number}
 use Rattle.sccs_disk.specs.Files.{View}
 use Rattle.sccs_history.specs.History.{is_encoded}
 use Rattle.sccs_history.specs.declared.headers.Header.{Header}
 use Rattle.sccs_grammar.specs.Front.{ParsedFront, start, front_from}
-use Rattle.sccs_grammar.specs.File.{Opened, stored, opened_by, opened_cut, opened, sum_holds, summed, as_format, answer, within_limit, checked_front, front_of, not_encoded}
+use Rattle.sccs_grammar.specs.File.{Opened, five_digits, stored, opened_by, opened_cut, opened, sum_holds, summed, as_format, answer, within_limit, checked_front, front_of, not_encoded}
 use Rattle.sccs_grammar.specs.Sums.{plain_sum, signed_sum}
 use Rattle.sccs_grammar.specs.declared.faults.FileFault.{FileFault}
-use Rattle.sccs_grammar.specs.declared.faults.FileFault.TheVariants.{Missing, TooLong, NotSccs, BadSum, BadFormat, Encoded, Failed, Memory}
+use Rattle.sccs_grammar.specs.declared.faults.FileFault.TheVariants.{Missing, TooLong, NotSccs, BadSum, BadFormat, Encoded, Changed, Failed, Memory}
 use Rattle.sccs_table.specs.declared.fronts.Front.{Front}
-use Rattle.sccs_table.specs.SumOf.{IsSumOf}
-use Rattle.sccs_table.specs.ReaderState.{ReaderState, StandsIn, TakesLine, bytes_in, file_in, left}
-use Rattle.sccs_table.specs.FrontFile.{Refuses, Answers, IsFrontOf, AnswersFront, ShowsFront, Opens, TakesSum, SumLine, ReadsLines, Reads}
+use Rattle.sccs_table.specs.SumOf.{IsPlainSumOf, IsSumOf, is_sum_of}
+use Rattle.sccs_table.specs.ReaderState.{ReaderState, StandsIn, Stays, TakesLine, behind_sum, bytes_in, file_in, left}
+use Rattle.sccs_table.specs.FrontFile.{Refuses, Answers, ChecksSum, IsFrontOf, AnswersFront, ShowsFront, Opens, TakesSum, SumLine, ReadsLines, Reads}
 use Rattle.sccs_table.proofs.ReaderLaws.{holding}
 
 -- ---- the sum line
@@ -32,22 +33,38 @@ no_sum_line None old new line front takes = tt
 no_sum_line (Some file) old new line front takes = λ stands.
     opened_lines file [] (ap (λ (c : Cut). c.lines) (sym (from_front old file front) ∙ (takes stands).1))
 
-opened_first : (old new : ReaderState) (file line : List ℕ) (found : Option ℕ) → old.place ≡ 0 → left old file ≡ record { lines = line ∷ (left new file).lines; tail = (left new file).tail } → stored line ≡ found → new.place ≡ old.place + length line + 1
-    → opened file ≡ opened_by found (left new file).lines (drop new.place file)
-opened_first old new file line found front is says moved =
-    let place : length line + 1 ≡ new.place = omega arith in
+by_five : (test : Bool) (digits : List ℕ) (n : ℕ) → (length digits == 5) ≡ test → (if test then number 5 digits else None) ≡ Some n → length digits ≡ 5
+by_five true digits n is some = eqb-true (length digits) 5 is
+by_five false digits n is some = cc
+
+by_letters : (test : Bool) (digits : List ℕ) (n : ℕ) → (if test then five_digits digits else None) ≡ Some n → length digits ≡ 5
+by_letters true digits n some = by_five (length digits == 5) digits n refl some
+by_letters false digits n some = cc
+
+-- a sum line has seven bytes before its LF
+pub stored_long : (line : List ℕ) (n : ℕ) → stored line ≡ Some n → length line ≡ 7
+unfolding stored
+stored_long [] n some = cc
+stored_long (soh ∷ []) n some = cc
+stored_long (soh ∷ letter ∷ digits) n some =
+    let five = by_letters ((soh == 1) && (letter == 104)) digits n some in omega arith
+
+opened_first : (old new : ReaderState) (file line : List ℕ) (found : Option ℕ) → old.place ≡ 0 → left old file ≡ record { lines = line ∷ (left new file).lines; tail = (left new file).tail } → stored line ≡ found
+    → opened file ≡ opened_by found (left new file).lines (drop (length line + 1) file)
+opened_first old new file line found front is says =
     opened_lines file (line ∷ (left new file).lines) (ap (λ (c : Cut). c.lines) (sym (from_front old file front) ∙ is))
-    ∙ (ap (λ o. opened_by o (left new file).lines (drop (length line + 1) file)) says ∙ ap (λ n. opened_by found (left new file).lines (drop n file)) place)
+    ∙ ap (λ o. opened_by o (left new file).lines (drop (length line + 1) file)) says
 
-pub other_line : (o : Option (List ℕ)) (old new : ReaderState) (line : List ℕ) → old.place ≡ 0 → TakesLine o old new line true → stored line ≡ None → new.place ≡ old.place + length line + 1 → SumLine o old new (Err NotSccs)
-other_line None old new line front takes says moved = tt
-other_line (Some file) old new line front takes says moved = λ stands. opened_first old new file line None front (takes stands).1 says moved
+pub other_line : (o : Option (List ℕ)) (old new : ReaderState) (line : List ℕ) → old.place ≡ 0 → TakesLine o old new line true → stored line ≡ None → SumLine o old new (Err NotSccs)
+other_line None old new line front takes says = tt
+other_line (Some file) old new line front takes says = λ stands. opened_first old new file line None front (takes stands).1 says
 
-pub sum_line_found : (o : Option (List ℕ)) (old new : ReaderState) (line : List ℕ) (n : ℕ) → old.place ≡ 0 → TakesLine o old new line true → stored line ≡ Some n → new.place ≡ old.place + length line + 1 → SumLine o old new (Ok n)
-sum_line_found None old new line n front takes says moved = tt
-sum_line_found (Some file) old new line n front takes says moved = λ stands.
+pub sum_line_found : (o : Option (List ℕ)) (old new : ReaderState) (line : List ℕ) (n : ℕ) → old.place ≡ 0 → TakesLine o old new line true → stored line ≡ Some n → SumLine o old new (Ok n)
+sum_line_found None old new line n front takes says = tt
+sum_line_found (Some file) old new line n front takes says = λ stands.
     let taken = takes stands in
-    (taken.0, opened_first old new file line (Some n) front taken.1 says moved, ap (λ (c : Cut). c.tail) (sym (from_front old file front) ∙ taken.1))
+    let long : length line + 1 ≡ 8 = ap (λ k. k + 1) (stored_long line n says) in
+    (taken.0, opened_first old new file line (Some n) front taken.1 says ∙ ap (λ k. opened_by (Some n) (left new file).lines (drop k file)) long, ap (λ (c : Cut). c.tail) (sym (from_front old file front) ∙ taken.1))
 
 -- ---- the answer for the bytes of a file
 
@@ -59,12 +76,8 @@ checked_by : (file : List ℕ) (o : Opened) (holds : Bool) → opened file ≡ O
 unfolding checked_front
 checked_by file o holds is sums = rw (is, sums) refl
 
--- the sums that were counted are those of the bytes
-holds_by : (o : Opened) (sums : ℕ × ℕ) (holds : Bool) → IsSumOf sums o.bytes → ((o.sum_of == sums.0) || (o.sum_of == sums.1)) ≡ holds → sum_holds o ≡ holds
-holds_by o sums holds are test = ap (λ n. (o.sum_of == n) || (o.sum_of == signed_sum o.bytes)) (sym are.0) ∙ (ap (λ n. (o.sum_of == sums.0) || (o.sum_of == n)) (sym are.1) ∙ test)
-
 abbrev opened_at : ReaderState → List ℕ → ℕ → Opened
-opened_at new file n = record { sum_of = n; lines = (left new file).lines; bytes = drop new.place file }
+opened_at new file n = record { sum_of = n; lines = (left new file).lines; bytes = behind_sum file }
 
 pub sum_refused : (file : List ℕ) (new : ReaderState) (e : FileFault) → TakesSum file new (Err e) → Refuses e (checked_front file)
 sum_refused file new Missing takes = absurd takes
@@ -73,44 +86,56 @@ sum_refused file new NotSccs takes = checked_unopened file takes
 sum_refused file new (BadSum s c) takes = absurd takes
 sum_refused file new (BadFormat k) takes = absurd takes
 sum_refused file new Encoded takes = absurd takes
+sum_refused file new (Changed a b c d) takes = absurd takes
 sum_refused file new Failed takes = tt
 sum_refused file new Memory takes = tt
 
-pub bad_sum : (file : List ℕ) (new : ReaderState) (n : ℕ) (sums : ℕ × ℕ) → TakesSum file new (Ok n) → IsSumOf sums (drop new.place file) → ((n == sums.0) || (n == sums.1)) ≡ false → checked_front file ≡ Err (BadSum n sums.0)
-bad_sum file new n sums takes are test =
-    checked_by file (opened_at new file n) false takes.1 (holds_by (opened_at new file n) sums false are test) ∙ ap (λ c. Err (BadSum n c)) (sym are.0)
+-- the answer for a file whose stored sum is judged
+pub sum_judged : (file : List ℕ) (new : ReaderState) (n : ℕ) (e : FileFault) → TakesSum file new (Ok n) → ChecksSum n (behind_sum file) (Err e) → Refuses e (checked_front file)
+sum_judged file new n Missing takes checks = absurd checks
+sum_judged file new n TooLong takes checks = absurd checks
+sum_judged file new n NotSccs takes checks = absurd checks
+sum_judged file new n (BadSum s plain) takes checks =
+    checked_by file (opened_at new file n) false takes.1 checks.0 ∙ (ap (λ c. Err (BadSum n c)) (sym checks.2) ∙ ap (λ k. Err (BadSum k plain)) (sym checks.1))
+sum_judged file new n (BadFormat k) takes checks = absurd checks
+sum_judged file new n Encoded takes checks = absurd checks
+sum_judged file new n (Changed a b c d) takes checks = absurd checks
+sum_judged file new n Failed takes checks = tt
+sum_judged file new n Memory takes checks = absurd checks
 
-checked_lines : (file : List ℕ) (new : ReaderState) (n : ℕ) (sums : ℕ × ℕ) → TakesSum file new (Ok n) → IsSumOf sums (drop new.place file) → ((n == sums.0) || (n == sums.1)) ≡ true → checked_front file ≡ as_format (front_from 2 start (left new file).lines)
-checked_lines file new n sums takes are test = checked_by file (opened_at new file n) true takes.1 (holds_by (opened_at new file n) sums true are test)
+checked_lines : (file : List ℕ) (new : ReaderState) (n : ℕ) → TakesSum file new (Ok n) → is_sum_of n (behind_sum file) ≡ true → checked_front file ≡ as_format (front_from 2 start (left new file).lines)
+checked_lines file new n takes fits = checked_by file (opened_at new file n) true takes.1 fits
 
-pub format_refused : (file : List ℕ) (new last : ReaderState) (n : ℕ) (sums : ℕ × ℕ) (e : FileFault) → TakesSum file new (Ok n) → IsSumOf sums (drop new.place file) → ((n == sums.0) || (n == sums.1)) ≡ true → ReadsLines file new last start 2 (Err e) → Refuses e (checked_front file)
-format_refused file new last n sums Missing takes are test reads = absurd reads
-format_refused file new last n sums TooLong takes are test reads = absurd reads
-format_refused file new last n sums NotSccs takes are test reads = absurd reads
-format_refused file new last n sums (BadSum s c) takes are test reads = absurd reads
-format_refused file new last n sums (BadFormat k) takes are test reads = checked_lines file new n sums takes are test ∙ ap as_format reads
-format_refused file new last n sums Encoded takes are test reads = absurd reads
-format_refused file new last n sums Failed takes are test reads = tt
-format_refused file new last n sums Memory takes are test reads = tt
+module _ (file : List ℕ) (new last : ReaderState) (n : ℕ) (takes : TakesSum file new (Ok n)) (fits : is_sum_of n (behind_sum file) ≡ true) where
+  pub format_refused : (e : FileFault) → ReadsLines file new last start 2 (Err e) → Refuses e (checked_front file)
+  format_refused Missing reads = absurd reads
+  format_refused TooLong reads = absurd reads
+  format_refused NotSccs reads = absurd reads
+  format_refused (BadSum s c) reads = absurd reads
+  format_refused (BadFormat k) reads = checked_lines file new n takes fits ∙ ap as_format reads
+  format_refused Encoded reads = absurd reads
+  format_refused (Changed a b c d) reads = absurd reads
+  format_refused Failed reads = tt
+  format_refused Memory reads = tt
 
 abbrev cut_with : List (List ℕ) → List ℕ → Cut
 cut_with lines tail = record { lines = lines; tail = tail }
 
-abbrev front_with : Header → ReaderState → ℕ → ℕ → ℕ → Front
-front_with header last line size sum = record { header = header; body_from = last.place; body_line = line; size = size; sum = sum }
+abbrev pub front_with : Header → ℕ → ℕ → ℕ → ℕ → Front
+front_with header place line size sum = record { header = header; body_from = place; body_line = line; size = size; sum = sum }
 
-pub front_found : (file : List ℕ) (new last : ReaderState) (n size : ℕ) (sums : ℕ × ℕ) (header : Header) (line : ℕ) → TakesSum file new (Ok n) → IsSumOf sums (drop new.place file) → ((n == sums.0) || (n == sums.1)) ≡ true → size ≡ length file → ReadsLines file new last start 2 (Ok (header, line))
-    → Answers (λ p front. IsFrontOf file p front) (Ok (front_with header last line size sums.0)) (checked_front file)
-front_found file new last n size sums header line takes are test long reads =
+pub front_found : (file : List ℕ) (new last : ReaderState) (n size place plain : ℕ) (header : Header) (line : ℕ) → TakesSum file new (Ok n) → ChecksSum n (behind_sum file) (Ok plain) → size ≡ length file → ReadsLines file new last start 2 (Ok (header, line)) → place ≡ last.place
+    → Answers (λ p front. IsFrontOf file p front) (Ok (front_with header place line size plain)) (checked_front file)
+front_found file new last n size place plain header line takes checks long reads place_is =
     let read : ParsedFront = record { header = header; line = line; rest = (left last file).lines } in (
       read,
-      checked_lines file new n sums takes are test ∙ ap as_format reads.2,
+      checked_lines file new n takes checks.0 ∙ ap as_format reads.2,
       record {
         header = refl;
         line = refl;
-        body = ap (λ tail. cut_with (left last file).lines tail) (sym (takes.2 ∙ reads.1));
+        body = ap (λ k. cut (drop k file)) place_is ∙ ap (λ tail. cut_with (left last file).lines tail) (sym (takes.2 ∙ reads.1));
         size = long;
-        sum = (opened_at new file n, takes.1, are.0);
+        sum = checks.1;
       },
     )
 
@@ -123,8 +148,17 @@ pub at_file : (file : List ℕ) (result : Result Front FileFault) (read : List �
 at_file file result read limit answers = subst (λ a. Answers (λ p front. IsFrontOf file p front) result a) (sym (within_at file read limit)) answers
 
 -- a new reader stands in its file
-pub fresh_stands : (name file : List ℕ) (place size : ℕ) → place ≤ size → size ≡ length file → StandsIn (holding name [] place size 0) file
-fresh_stands name file place size low long = (long, omega arith, refl)
+pub fresh_stands : (name file : List ℕ) (limit : ℕ) → length file ≤ limit → StandsIn (holding name [] 0 limit 0 0) file
+fresh_stands name file limit low = record { limit = low; within = omega arith; held = refl; sum = refl }
+
+-- behind the sum line too
+pub again_stands : (name file : List ℕ) (limit : ℕ) → length file ≤ limit → 8 ≤ length file → StandsIn (holding name [] 8 limit 0 0) file
+again_stands name file limit low long = record {
+  limit = low;
+  within = omega arith;
+  held = refl;
+  sum = ap plain_sum (sym (drop_all 8 (take 8 file) (omega (arith, length-take 8 file))));
+}
 
 pub front_answer : (view : Option View) (name : List ℕ) (size : ℕ) (result : Result Front FileFault) → size ≤ 1073741824 → Opens view name (Ok size)
     → ((file : List ℕ) → bytes_in view name ≡ Some file → size ≡ length file → Answers (λ p front. IsFrontOf file p front) result (checked_front file))
@@ -135,28 +169,37 @@ front_answer (Some view) name size result limit opens answers =
 
 -- ---- the parts of a reading, at a file that is there
 
-pub sum_taken : (o : Option (List ℕ)) (file name : List ℕ) (size : ℕ) (old new : ReaderState) (result : Result ℕ FileFault) → o ≡ Some file → old ≡ holding name [] 0 size 0 → size ≡ length file → SumLine o old new result → TakesSum file new result
+pub sum_taken : (o : Option (List ℕ)) (file name : List ℕ) (size : ℕ) (old new : ReaderState) (result : Result ℕ FileFault) → o ≡ Some file → old ≡ holding name [] 0 size 0 0 → size ≡ length file → SumLine o old new result → TakesSum file new result
 sum_taken o file name size old new result is fresh long takes =
-    subst (λ q. SumLine q old new result) is takes (subst (λ s. StandsIn s file) (sym fresh) (fresh_stands name file 0 size (omega arith) long))
-
-pub sums_taken : (o : Option (List ℕ)) (file name : List ℕ) (place size : ℕ) (old : ReaderState) (sums : ℕ × ℕ) → o ≡ Some file → old ≡ holding name [] place size 0 → place ≤ size → size ≡ length file → IfSome o (λ f. StandsIn old f → IsSumOf sums (drop old.place f)) → IsSumOf sums (drop place file)
-sums_taken o file name place size old sums is fresh low long summed =
-    let here = subst (λ q. IfSome q (λ f. StandsIn old f → IsSumOf sums (drop old.place f))) is summed in
-    subst (λ n. IsSumOf sums (drop n file)) (ap (λ (s : ReaderState). s.place) fresh) (here (subst (λ s. StandsIn s file) (sym fresh) (fresh_stands name file place size low long)))
+    subst (λ q. SumLine q old new result) is takes (subst (λ s. StandsIn s file) (sym fresh) (fresh_stands name file size (omega arith)))
 
 pub lines_taken : (o : Option (List ℕ)) (file : List ℕ) (new last : ReaderState) (n : ℕ) (result : Result (Header × ℕ) FileFault) → o ≡ Some file → TakesSum file new (Ok n) → Reads o new last start 2 result → ReadsLines file new last start 2 result
 lines_taken o file new last n result is takes reads = subst (λ q. Reads q new last start 2 result) is reads takes.0
 
-pub bad_sum_as : (file : List ℕ) (new : ReaderState) (n plain : ℕ) (sums : ℕ × ℕ) → TakesSum file new (Ok n) → IsSumOf sums (drop new.place file) → ((n == sums.0) || (n == sums.1)) ≡ false → plain ≡ sums.0 → checked_front file ≡ Err (BadSum n plain)
-bad_sum_as file new n plain sums takes are test is = bad_sum file new n sums takes are test ∙ ap (λ c. Err (BadSum n c)) (sym is)
+-- the sum line that was read, and the sum that was judged at the end of the file
+pub judged : (o p q : Option (List ℕ)) (file name : List ℕ) (size : ℕ) (begun now last : ReaderState) (n : ℕ) (sum : Result ℕ FileFault) → o ≡ Some file → p ≡ Some file → q ≡ Some file → begun ≡ holding name [] 0 size 0 0 → size ≡ length file
+    → SumLine o begun now (Ok n) → now.place ≡ 8 → Stays p now last → ((f : List ℕ) → q ≡ Some f → 8 ≤ length f → StandsIn last f → ChecksSum n (behind_sum f) sum) → TakesSum file now (Ok n) × ChecksSum n (behind_sum file) sum
+judged o p q file name size begun now last n sum o_is p_is q_is fresh long line place_is stays checks =
+    let takes = sum_taken o file name size begun now (Ok n) o_is fresh long line in
+    (takes, checks file q_is (omega (arith, place_is, takes.0.within)) (stays file p_is takes.0))
 
--- the front as code makes it
-pub front_made : (file : List ℕ) (new last : ReaderState) (n size place plain : ℕ) (sums : ℕ × ℕ) (header : Header) (line : ℕ) → TakesSum file new (Ok n) → IsSumOf sums (drop new.place file) → ((n == sums.0) || (n == sums.1)) ≡ true → size ≡ length file → ReadsLines file new last start 2 (Ok (header, line)) → place ≡ last.place → plain ≡ sums.0
-    → Answers (λ p front. IsFrontOf file p front) (Ok (record { header = header; body_from = place; body_line = line; size = size; sum = plain })) (checked_front file)
-front_made file new last n size place plain sums header line takes are test long reads place_is plain_is =
-    subst (λ m. Answers (λ p front. IsFrontOf file p front) (Ok (record { header = header; body_from = m; body_line = line; size = size; sum = plain })) (checked_front file)) (sym place_is)
-    (subst (λ m. Answers (λ p front. IsFrontOf file p front) (Ok (record { header = header; body_from = last.place; body_line = line; size = size; sum = m })) (checked_front file)) (sym plain_is)
-    (front_found file new last n size sums header line takes are test long reads))
+-- ---- the sums at the end of a file
+
+pub sum_of_all : (r : ReaderState) (file : List ℕ) (to : ℕ) → length file ≤ to → min to (length file) ≤ r.place → StandsIn r file → IsPlainSumOf r.sum (behind_sum file)
+sum_of_all r file to low past stands =
+    stands.sum ∙ ap (λ bytes. plain_sum (behind_sum bytes)) (take_all (r.place + length r.held) file (omega (arith, past, low)))
+
+pub is_plain : (stored : ℕ) (bytes : List ℕ) → stored ≡ plain_sum bytes → is_sum_of stored bytes ≡ true
+is_plain stored bytes is = ap (λ test. test || (stored == signed_sum bytes)) (eq-eqb stored (plain_sum bytes) is)
+
+pub is_either : (stored : ℕ) (bytes : List ℕ) (sums : ℕ × ℕ) (fits : Bool) → IsSumOf sums bytes → ((stored == sums.0) || (stored == sums.1)) ≡ fits → is_sum_of stored bytes ≡ fits
+is_either stored bytes sums fits are test = ap (λ n. (stored == n) || (stored == signed_sum bytes)) (sym are.0) ∙ (ap (λ n. (stored == sums.0) || (stored == n)) (sym are.1) ∙ test)
+
+-- the sums of a second reading
+pub sums_again : (o : Option (List ℕ)) (file name : List ℕ) (limit : ℕ) (again : ReaderState) (sums : ℕ × ℕ) → o ≡ Some file → again ≡ holding name [] 8 limit 0 0 → length file ≤ limit → 8 ≤ length file → IfSome o (λ f. StandsIn again f → IsSumOf sums (drop again.place f)) → IsSumOf sums (behind_sum file)
+sums_again o file name limit again sums is fresh low long summed =
+    let here = subst (λ q. IfSome q (λ f. StandsIn again f → IsSumOf sums (drop again.place f))) is summed in
+    subst (λ n. IsSumOf sums (drop n file)) (ap (λ (s : ReaderState). s.place) fresh) (here (subst (λ s. StandsIn s file) (sym fresh) (again_stands name file limit low long)))
 
 -- ---- whether the body is encoded
 
@@ -184,6 +227,7 @@ refusal_stays o NotSccs is = answer_fails o NotSccs is
 refusal_stays o (BadSum s c) is = answer_fails o (BadSum s c) is
 refusal_stays o (BadFormat k) is = answer_fails o (BadFormat k) is
 refusal_stays o Encoded is = answer_fails o Encoded is
+refusal_stays o (Changed a b c d) is = is
 refusal_stays o Failed is = tt
 refusal_stays o Memory is = tt
 

@@ -1,14 +1,19 @@
 -- What a line more makes of the reading of a header.
-use Rattle.std.proofs.Common.{◌≡◌, ℕ, suc, ◌+◌, Bool, true, false, List, [], ◌∷◌, Option, None, Some, Result, Ok, Err, refl, ap, ◌∙◌, subst, arith}
+use Rattle.std.proofs.Common.{◌≡◌, ℕ, suc, ◌+◌, Bool, true, false, List, [], ◌∷◌, Option, None, Some, Result, Ok, Err, refl, sym, ap, ◌∙◌, subst, arith}
 use Rattle.sccs_base.specs.Cut.{Cut}
 use Rattle.sccs_grammar.specs.Tokens.{token}
-use Rattle.sccs_grammar.specs.Front.{ParsedFront, after, accepted, header_of, is_whole, line_after, front_from}
+use Rattle.std.specs.Result.{IsErrAnd}
+use Rattle.std.proofs.lemmas.Result.{err_from_is_err_and}
+use Rattle.sccs_grammar.specs.FileRefusals.{line_fault}
+use Rattle.sccs_grammar.specs.declared.header_parsers.FrontFault.{FrontFault}
+use Rattle.sccs_grammar.specs.declared.header_parsers.FrontFault.TheVariants as fronts
+use Rattle.sccs_grammar.specs.Front.{AcceptsIn, ParsedFront, after, accepted, header_of, is_whole, line_after, front_from}
 use Rattle.sccs_grammar.specs.declared.header_parsers.HeaderParser.{HeaderParser}
 use Rattle.sccs_grammar.specs.declared.line_tokens.LineToken.{LineToken}
 use Rattle.sccs_grammar.specs.declared.faults.FileFault.{FileFault}
-use Rattle.sccs_grammar.specs.declared.faults.FileFault.TheVariants.{Missing, TooLong, NotSccs, BadSum, BadFormat, Encoded, Failed, Memory}
+use Rattle.sccs_grammar.specs.declared.faults.FileFault.TheVariants.{Missing, TooLong, NotSccs, BadSum, BadFormat, Encoded, Changed, Failed, Memory}
 use Rattle.sccs_table.specs.ReaderState.{ReaderState, StandsIn, TakesLine, left}
-use Rattle.sccs_table.specs.FrontFile.{AnswersLine, HearsLine, AcceptsNext, Reads, ReadsLines}
+use Rattle.sccs_table.specs.FrontFile.{AnswersLine, HearsLine, AcceptsNext, IsFirst, Reads, ReadsLines, read_as}
 
 front-nil : (n : ℕ) (r : HeaderParser) → front_from n r [] ≡ Err n
 unfolding front_from
@@ -40,9 +45,9 @@ no_line (Some file) old new n r line takes = λ stands.
     let taken = takes stands in
     ap (λ (c : Cut). front_from n r c.lines) taken.1 ∙ front-nil n r
 
-pub line_fault : (o : Option (List ℕ)) (old new : ReaderState) (n k : ℕ) (r : HeaderParser) (line : List ℕ) → TakesLine o old new line true → line_after n r line ≡ Err k → AcceptsNext o old new n r (Err (BadFormat k))
-line_fault None old new n k r line takes is = tt
-line_fault (Some file) old new n k r line takes is = λ stands.
+pub line_at_fault : (o : Option (List ℕ)) (old new : ReaderState) (n k : ℕ) (r : HeaderParser) (line : List ℕ) → TakesLine o old new line true → line_after n r line ≡ Err k → AcceptsNext o old new n r (Err (BadFormat k))
+line_at_fault None old new n k r line takes is = tt
+line_at_fault (Some file) old new n k r line takes is = λ stands.
     let taken = takes stands in
     ap (λ (c : Cut). front_from n r c.lines) taken.1 ∙ front_fault n k r line (left new file).lines is
 
@@ -62,7 +67,7 @@ token_nothing n r line is = line_silent n r line is
 -- a line that was taken, and what was read with it
 pub line_answered : (o : Option (List ℕ)) (old new : ReaderState) (n : ℕ) (r : HeaderParser) (line : List ℕ) (read : Result HeaderParser FileFault) → TakesLine o old new line true → AnswersLine (line_after n r line) read → AcceptsNext o old new n r read
 line_answered o old new n r line (Ok s) takes is = line_heard o old new n r s line takes is
-line_answered o old new n r line (Err (BadFormat k)) takes is = line_fault o old new n k r line takes is
+line_answered o old new n r line (Err (BadFormat k)) takes is = line_at_fault o old new n k r line takes is
 line_answered None old new n r line (Err Memory) takes is = tt
 line_answered (Some file) old new n r line (Err Memory) takes is = λ stands. tt
 line_answered o old new n r line (Err Failed) takes is = absurd is
@@ -71,6 +76,28 @@ line_answered o old new n r line (Err TooLong) takes is = absurd is
 line_answered o old new n r line (Err NotSccs) takes is = absurd is
 line_answered o old new n r line (Err (BadSum stored plain)) takes is = absurd is
 line_answered o old new n r line (Err Encoded) takes is = absurd is
+line_answered o old new n r line (Err (Changed a b c d)) takes is = absurd is
+
+-- what the parts of a line's reading answer
+pub line_refused : (n : ℕ) (r s : HeaderParser) (line : List ℕ) (what : LineToken) (fault : FrontFault) (result : Result (Unit {0}) FileFault) → token line ≡ Some what → AcceptsIn s (Err fault) (after n r.parts r.place what) → result ≡ Err (line_fault fault) → AnswersLine (line_after n r line) (read_as s result)
+line_refused n r s line what (fronts.Format k) result is hears exit = subst (λ q. AnswersLine (line_after n r line) (read_as s q)) (sym exit) (token_fault n k r line what is hears)
+line_refused n r s line what fronts.Memory result is hears exit = subst (λ q. AnswersLine (line_after n r line) (read_as s q)) (sym exit) tt
+
+pub answered_first : (read : Result HeaderParser ℕ) (s : HeaderParser) (result : Result (Unit {0}) FileFault) → AnswersLine read (read_as s result) → IsFirst result
+answered_first read s (Ok done) answers = λ size sum again sum_again is. cc
+answered_first read s (Err Missing) answers = absurd answers
+answered_first read s (Err TooLong) answers = absurd answers
+answered_first read s (Err NotSccs) answers = absurd answers
+answered_first read s (Err (BadSum stored plain)) answers = absurd answers
+answered_first read s (Err (BadFormat k)) answers = λ size sum again sum_again is. cc
+answered_first read s (Err Encoded) answers = absurd answers
+answered_first read s (Err (Changed a b c d)) answers = absurd answers
+answered_first read s (Err Failed) answers = absurd answers
+answered_first read s (Err Memory) answers = λ size sum again sum_again is. cc
+
+-- a call that was left by `?`
+pub exit_is : {A : Type 0} (result : Result A FileFault) (fault : FileFault) → IsErrAnd result (λ e. e ≡ fault) → result ≡ Err fault
+exit_is result fault left = let p = err_from_is_err_and result left in p.1 ∙ ap Err p.2
 
 pub takes_line_at : (o : Option (List ℕ)) (old new : ReaderState) (line : List ℕ) (a b : Bool) → a ≡ b → TakesLine o old new line a → TakesLine o old new line b
 takes_line_at o old new line a b is takes = subst (λ e. TakesLine o old new line e) is takes
@@ -119,6 +146,7 @@ fault_at file begun now new r0 r n0 n NotSccs same hears = hears
 fault_at file begun now new r0 r n0 n (BadSum s c) same hears = hears
 fault_at file begun now new r0 r n0 n (BadFormat k) same hears = same ∙ hears
 fault_at file begun now new r0 r n0 n Encoded same hears = hears
+fault_at file begun now new r0 r n0 n (Changed a b c d) same hears = hears
 fault_at file begun now new r0 r n0 n Failed same hears = tt
 fault_at file begun now new r0 r n0 n Memory same hears = tt
 

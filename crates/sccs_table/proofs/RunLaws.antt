@@ -1,5 +1,5 @@
 -- Whole text lines at the front of bytes, and how they are cut.
-use Rattle.std.proofs.Common.{inl, inr, length-drop, ◌≡◌, ◌≢◌, ℕ, zero, suc, ◌+◌, ◌-◌, ◌<◌, ◌≤◌, Bool, true, false, ◌==◌, List, [], ◌∷◌, ◌++◌, length, take, drop, get_or, eq-eqb, refl, sym, ap, ◌∙◌, subst, arith}
+use Rattle.std.proofs.Common.{inl, inr, length-drop, ◌≡◌, ◌≢◌, ℕ, zero, suc, ◌+◌, ◌-◌, ◌<◌, ◌≤◌, Bool, true, false, ◌==◌, List, [], ◌∷◌, ◌++◌, length, take, drop, Option, get_or, eq-eqb, refl, sym, ap, ◌∙◌, subst, arith}
 use Rattle.std.specs.Prelude.{if◌then◌else◌}
 use Rattle.std.proofs.lemmas.Bool.{cases_lt, eqb-true, ne_eqb}
 use Rattle.std.proofs.lemmas.List.Sums.{sum_by-append, sum_by-cons}
@@ -10,7 +10,8 @@ use Rattle.sccs_sid.specs.SidLists.{begins}
 use Rattle.sccs_history.specs.History.{AreBare}
 use Rattle.sccs_grammar.specs.Written.{bytes_of}
 use Rattle.sccs_table.specs.Runs.{HasNoMark, HasNoRun, IsMark, IsRun, PassesRun, lf_count}
-use Rattle.sccs_table.specs.ReaderState.{ReaderState, StandsIn}
+use Rattle.sccs_table.specs.ReaderState.{ReaderState, StandsIn, Stays}
+use Rattle.sccs_table.proofs.ReaderLaws.{Kept, stands_behind}
 
 -- ---- how many lines end
 
@@ -262,32 +263,34 @@ longest_none bytes end fits mark none = elim (cases_lt end (length bytes)) [
 held_later : (old : ReaderState) (file : List ℕ) (count : ℕ) → count ≤ length old.held → StandsIn old file → drop count old.held ≡ take (length old.held - count) (drop (old.place + count) file)
 held_later old file count fits stands =
     let room : length old.held ≡ count + (length old.held - count) = omega arith in
-    ap (drop count) stands.2
+    ap (drop count) stands.held
     ∙ (ap (λ n. drop count (take n (drop old.place file))) room
     ∙ (drop-take count (length old.held - count) (drop old.place file) ∙ ap (take (length old.held - count)) (drop-drop count old.place file)))
 
-passed_stands : (old new : ReaderState) (file : List ℕ) (count : ℕ) → count ≤ length old.held → new.size ≡ old.size → new.held ≡ drop count old.held → new.place ≡ old.place + count → StandsIn old file → StandsIn new file
-passed_stands old new file count fits size_is held_is place_is stands =
+passed_stands : (old new : ReaderState) (file : List ℕ) (count : ℕ) → count ≤ length old.held → Kept old new → new.held ≡ drop count old.held → new.place ≡ old.place + count → StandsIn old file → StandsIn new file
+passed_stands old new file count fits kept held_is place_is stands =
     let long : length new.held ≡ length old.held - count = ap length held_is ∙ length-drop count old.held in
-    let place : old.place + count ≡ new.place = sym place_is in (
-      size_is ∙ stands.0,
-      omega (arith, stands.1),
-      held_is
-          ∙ (held_later old file count fits stands
-          ∙ (ap (λ n. take n (drop (old.place + count) file)) (sym long) ∙ ap (λ n. take (length new.held) (drop n file)) place)),
-    )
+    let place : old.place + count ≡ new.place = sym place_is in
+    stands_behind old new file kept (omega arith)
+    (held_is
+    ∙ (held_later old file count fits stands
+    ∙ (ap (λ n. take n (drop (old.place + count) file)) (sym long) ∙ ap (λ n. take (length new.held) (drop n file)) place))) stands
 
 passed_bytes : (old new : ReaderState) (file : List ℕ) (count : ℕ) → count ≤ length old.held → new.place ≡ old.place + count → StandsIn old file → drop old.place file ≡ take count old.held ++ drop new.place file
 passed_bytes old new file count fits place_is stands =
-    let front : take count (drop old.place file) ≡ take count old.held = sym (ap (take count) stands.2 ∙ take-take count (length old.held) (drop old.place file) fits) in
+    let front : take count (drop old.place file) ≡ take count old.held = sym (ap (take count) stands.held ∙ take-take count (length old.held) (drop old.place file) fits) in
     sym (take-append-drop count (drop old.place file))
     ∙ (ap (λ bytes. bytes ++ drop count (drop old.place file)) front
     ∙ ap (λ rest. take count old.held ++ rest) (drop-drop count old.place file ∙ ap (λ n. drop n file) (sym place_is)))
 
+-- a reader that passed over some of what it held still stands
+pub passed_stays : (o : Option (List ℕ)) (old new : ReaderState) (count : ℕ) → count ≤ length old.held → Kept old new → new.held ≡ drop count old.held → new.place ≡ old.place + count → Stays o old new
+passed_stays o old new count fits kept held_is place_is file is stands = passed_stands old new file count fits kept held_is place_is stands
+
 -- what is left of the file begins with the lines of the run
-pub run_passed : (old new : ReaderState) (file : List ℕ) (count : ℕ) → count ≤ length old.held → (cut (take count old.held)).tail ≡ [] → new.size ≡ old.size → new.held ≡ drop count old.held → new.place ≡ old.place + count
+pub run_passed : (old new : ReaderState) (file : List ℕ) (count : ℕ) → count ≤ length old.held → (cut (take count old.held)).tail ≡ [] → Kept old new → new.held ≡ drop count old.held → new.place ≡ old.place + count
     → PassesRun (take count old.held) file old new
-run_passed old new file count fits none size_is held_is place_is = λ stands. (
-  passed_stands old new file count fits size_is held_is place_is stands,
+run_passed old new file count fits none kept held_is place_is = λ stands. (
+  passed_stands old new file count fits kept held_is place_is stands,
   ap cut (passed_bytes old new file count fits place_is stands) ∙ cut_append (take count old.held) (drop new.place file) none,
 )

@@ -1,18 +1,18 @@
 -- What reading the header of an s-file answers.
-use Rattle.std.specs.Prelude.{◌≡◌, ℕ, ◌+◌, ◌≤◌, ◌<◌, List, ◌∷◌, length, drop, Option, None, Some, Result, Ok, Err}
-use Rattle.sccs_base.specs.Cut.{cut}
+use Rattle.std.specs.Prelude.{◌≡◌, ◌≢◌, ℕ, ◌+◌, ◌≤◌, ◌<◌, true, false, List, ◌∷◌, length, drop, Option, None, Some, Result, Ok, Err, OnErr, OnOk}
+use Rattle.sccs_base.specs.Cut.{HasNoLf, cut}
 use Rattle.sccs_base.specs.Stream.{Rose}
 use Rattle.sccs_disk.specs.Files.{View}
-use Rattle.sccs_disk.specs.Told.{Told}
+use Rattle.sccs_disk.specs.Told.{Told, seen}
 use Rattle.sccs_history.specs.declared.headers.Header.{Header}
 use Rattle.sccs_grammar.specs.Front.{ParsedFront, front_from, line_after}
-use Rattle.sccs_grammar.specs.File.{Opened, answer, opened}
-use Rattle.sccs_grammar.specs.Sums.{plain_sum}
+use Rattle.sccs_grammar.specs.File.{answer, opened}
 use Rattle.sccs_grammar.specs.declared.header_parsers.HeaderParser.{HeaderParser}
 use Rattle.sccs_grammar.specs.declared.faults.FileFault.{FileFault}
-use Rattle.sccs_grammar.specs.declared.faults.FileFault.TheVariants.{Missing, TooLong, NotSccs, BadSum, BadFormat, Encoded, Failed, Memory}
+use Rattle.sccs_grammar.specs.declared.faults.FileFault.TheVariants.{Missing, TooLong, NotSccs, BadSum, BadFormat, Encoded, Changed, Failed, Memory}
 use Rattle.sccs_table.specs.declared.fronts.Front.{Front}
-use Rattle.sccs_table.specs.ReaderState.{ReaderState, StandsIn, file_in, left}
+use Rattle.sccs_table.specs.ReaderState.{ReaderState, StandsIn, Stays, behind_sum, bytes_in, file_in, left}
+use Rattle.sccs_table.specs.SumOf.{IsPlainSumOf, is_sum_of}
 
 -- the answer is this refusal; want of memory and a failing disk may come in place of any
 abbrev pub Refuses : {A : Type 0} → FileFault → Result A FileFault → Type 0
@@ -22,6 +22,7 @@ Refuses NotSccs read = read ≡ Err NotSccs
 Refuses (BadSum stored plain) read = read ≡ Err (BadSum stored plain)
 Refuses (BadFormat line) read = read ≡ Err (BadFormat line)
 Refuses Encoded read = read ≡ Err Encoded
+Refuses (Changed size sum size_now sum_now) read = ⊥
 Refuses Failed read = Unit {0}
 Refuses Memory read = Unit {0}
 
@@ -43,7 +44,7 @@ pub record IsFrontOf (file : List ℕ) (read : ParsedFront) (front : Front) : Ty
   pub line : front.body_line ≡ read.line
   pub body : cut (drop front.body_from file) ≡ record { lines = read.rest; tail = (cut file).tail }
   pub size : front.size ≡ length file
-  pub sum : (o : Opened) × (opened file ≡ Ok o) × (front.sum ≡ plain_sum o.bytes)
+  pub sum : IsPlainSumOf front.sum (behind_sum file)
 
 -- the front that a call returned is that of the file, or its refusal holds; no file and too long a file come first
 abbrev pub ShowsFront : Option (List ℕ) → Front → ParsedFront → Type 0
@@ -67,7 +68,7 @@ Opens (Some view) name result = OpensAt (file_in view name) result
 
 -- the first line of a file is a sum line with this number, and a reader stands behind it
 abbrev pub TakesSum : List ℕ → ReaderState → Result ℕ FileFault → Type 0
-TakesSum file new (Ok n) = StandsIn new file × (opened file ≡ Ok (record { sum_of = n; lines = (left new file).lines; bytes = drop new.place file })) × ((cut file).tail ≡ (left new file).tail)
+TakesSum file new (Ok n) = StandsIn new file × (opened file ≡ Ok (record { sum_of = n; lines = (left new file).lines; bytes = behind_sum file })) × ((cut file).tail ≡ (left new file).tail)
 TakesSum file new (Err NotSccs) = opened file ≡ Err NotSccs
 TakesSum file new (Err Failed) = Unit {0}
 TakesSum file new (Err Memory) = Unit {0}
@@ -117,12 +118,54 @@ abbrev pub AcceptsNext : Option (List ℕ) → ReaderState → ReaderState → �
 AcceptsNext None old new n r result = Unit {0}
 AcceptsNext (Some file) old new n r result = StandsIn old file → HearsLine file old new n r result
 
--- A call that reads on with a reader of lines: the disk tells what it told, the reader stays in its file, and a failing disk is
--- counted.
+-- what a first reading answers: it never says that the file was changed
+abbrev pub IsFirst : {T : Type 0} → Result T FileFault → Type 0
+IsFirst result = (size sum size_now sum_now : ℕ) → result ≢ Err (Changed size sum size_now sum_now)
+
+-- an answer that is no fault of the file
+abbrev pub IsOuter : {T : Type 0} → Result T FileFault → Type 0
+IsOuter (Ok x) = Unit {0}
+IsOuter (Err Failed) = Unit {0}
+IsOuter (Err Memory) = Unit {0}
+IsOuter (Err _) = ⊥
+
+-- whether a stored sum is one of these bytes, whose plain sum is answered
+abbrev pub ChecksSum : ℕ → List ℕ → Result ℕ FileFault → Type 0
+ChecksSum stored bytes (Ok plain) = (is_sum_of stored bytes ≡ true) × IsPlainSumOf plain bytes
+ChecksSum stored bytes (Err (BadSum n plain)) = (is_sum_of stored bytes ≡ false) × (n ≡ stored) × IsPlainSumOf plain bytes
+ChecksSum stored bytes (Err Failed) = Unit {0}
+ChecksSum stored bytes (Err _) = ⊥
+
+-- A call that reads a disk: it tells what it told, and a failing disk is counted.
+pub record ReadsDisk {D T : Type 0} (told : D → Told) (faults : D → ℕ) (disk disk2 : D) (result : Result T FileFault) : Type 0 where
+  pub same : told disk2 ≡ told disk
+  pub later : faults disk ≤ faults disk2
+  pub cause : result ≡ Err Failed → Rose (faults disk) (faults disk2)
+
+-- The same with a reader of lines, which stays in its file and within its limit.
 pub record ReadsOn {D T : Type 0} (told : D → Told) (faults : D → ℕ) (disk disk2 : D) (old new : ReaderState) (result : Result T FileFault) : Type 0 where
   pub same : told disk2 ≡ told disk
   pub later : faults disk ≤ faults disk2
   pub cause : result ≡ Err Failed → Rose (faults disk) (faults disk2)
   pub name : new.name ≡ old.name
-  pub size : new.size ≡ old.size
-  pub ahead : new.place + length new.held ≤ new.size
+  pub limit : new.limit ≡ old.limit
+  pub ahead : new.place + length new.held ≤ new.limit
+
+-- The same of calls that fail alone.
+pub record ReadsBytes {D T E : Type 0} (told : D → Told) (faults : D → ℕ) (disk disk2 : D) (old new : ReaderState) (result : Result T E) : Type 0 where
+  pub same : told disk2 ≡ told disk
+  pub later : faults disk ≤ faults disk2
+  pub cause : OnErr result (Rose (faults disk) (faults disk2))
+  pub name : new.name ≡ old.name
+  pub limit : new.limit ≡ old.limit
+  pub ahead : new.place + length new.held ≤ new.limit
+
+-- A call that reads on with the next line of that number: it takes one line, which was accepted and is counted.
+pub record ReadsLine {D : Type 0} (told : D → Told) (faults : D → ℕ) (disk disk2 : D) (old new : ReaderState) (n : ℕ) (r s : HeaderParser) (result : Result (Unit {0}) FileFault) : Type 0 where
+  pub frame : ReadsOn told faults disk disk2 old new result
+  pub first : IsFirst result
+  pub stays : Stays (bytes_in (seen (told disk)) old.name) old new
+  pub further : OnOk result (old.place < new.place)
+  pub counted : OnOk result (new.lines ≡ old.lines + 1)
+  pub accepted : OnOk result ((line : List ℕ) × HasNoLf line × (line_after n r line ≡ Ok s))
+  pub hears : AcceptsNext (bytes_in (seen (told disk)) old.name) old new n r (read_as s result)

@@ -5,12 +5,12 @@ use Rattle.sccs_table.specs.ReaderState.{ReaderState}
 use Rattle.sccs_table.specs.declared.line_readers.LineReader.TheInside.{Inside}
 
 abbrev pub reader_state : Inside → ReaderState
-reader_state r = record { name = r.name; held = take (r.end - r.start) (drop r.start r.piece); place = r.place; size = r.size; lines = r.lines + lf_count (take r.start r.piece) }
+reader_state r = record { name = r.name; held = take (r.end - r.start) (drop r.start r.piece); place = r.place; limit = r.limit; lines = r.lines + lf_count (take r.start r.piece); sum = r.sum }
 
--- The held bytes are within the piece and the file, and the file within the limit; each line that ended took a byte.
+-- The held bytes are within the piece and the limit, which is a byte past the longest file at most; each line that ended took a byte.
 pub record IsKept (r : Inside) : Type 0 where
   pub order : r.start ≤ r.end
   pub within : r.end ≤ 4096
-  pub ahead : r.place + (r.end - r.start) ≤ r.size
-  pub limit : r.size ≤ 1073741824
+  pub ahead : r.place + (r.end - r.start) ≤ r.limit
+  pub limit : r.limit ≤ 1073741825
   pub counted : r.lines + r.start ≤ r.place

@@ -2,15 +2,21 @@
 use Rattle.std.specs.Prelude.{◌≡◌, ℕ, ◌+◌, ◌≤◌, Bool, true, false, List, [], ◌∷◌, ◌++◌, length, take, drop, Option, None, Some, option_map}
 use Rattle.sccs_base.specs.Cut.{Cut, HasNoLf, cut}
 use Rattle.sccs_disk.specs.Files.{Content, View}
+use Rattle.sccs_grammar.specs.Sums.{plain_sum}
 
--- The bytes that were read and not given yet, the place of the first of them, the file's name and size, and how many lines
--- ended before that place since the reader began.
+-- The bytes that were read and not given yet, the place of the first of them, the file's name, the place up to which it is
+-- read at most, how many lines ended before the first place, and the plain sum of all bytes that were read behind the sum line.
 pub record ReaderState : Type 0 where
   pub name : List ℕ
   pub held : List ℕ
   pub place : ℕ
-  pub size : ℕ
+  pub limit : ℕ
   pub lines : ℕ
+  pub sum : ℕ
+
+-- the bytes behind the sum line, which has 8 bytes with its LF
+abbrev pub behind_sum : List ℕ → List ℕ
+behind_sum file = drop 8 file
 
 -- the bytes of the file of that name, where it is there
 abbrev pub file_in : View → List ℕ → Option (List ℕ)
@@ -20,14 +26,16 @@ abbrev pub bytes_in : Option View → List ℕ → Option (List ℕ)
 bytes_in None name = None
 bytes_in (Some view) name = file_in view name
 
--- the file has this size, and the held bytes are those at the place
-abbrev pub StandsIn : ReaderState → List ℕ → Type 0
-StandsIn r file = (r.size ≡ length file) × (r.place + length r.held ≤ r.size) × (r.held ≡ take (length r.held) (drop r.place file))
+-- The file is within the limit, the held bytes are those at the place, and the sum is that of the bytes up to their end.
+pub record StandsIn (r : ReaderState) (file : List ℕ) : Type 0 where
+  pub limit : length file ≤ r.limit
+  pub within : r.place + length r.held ≤ length file
+  pub held : r.held ≡ take (length r.held) (drop r.place file)
+  pub sum : r.sum ≡ plain_sum (behind_sum (take (r.place + length r.held) file))
 
--- where a file is told, the reader stands in it
-abbrev pub Stands : Option (List ℕ) → ReaderState → Type 0
-Stands None r = Unit {0}
-Stands (Some file) r = StandsIn r file
+-- a reader that stood in the told file still does
+abbrev pub Stays : Option (List ℕ) → ReaderState → ReaderState → Type 0
+Stays o old new = (file : List ℕ) → o ≡ Some file → StandsIn old file → StandsIn new file
 
 -- what is left of the file, cut at each LF
 abbrev pub left : ReaderState → List ℕ → Cut

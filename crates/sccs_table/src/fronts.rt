@@ -1,20 +1,17 @@
-ghost use Rattle.std.specs.Prelude.{◌≡◌, ℕ, List, Ok, ◌||◌, ◌==◌, ◌<◌, ◌≤◌, ◌+◌, length, IfOk, IfSome, OnOk, Err};
+ghost use Rattle.std.specs.Prelude.{◌≡◌, ℕ, List, Ok, Some, ◌||◌, ◌==◌, ◌≤◌, ◌+◌, length, IfOk, IfSome, OnOk, Err};
 ghost use Rattle.sccs_base.specs.Cut.{HasNoLf};
-ghost use Rattle.sccs_base.specs.Stream.{Rose};
 ghost use Rattle.sccs_disk.specs.Told.{seen};
 ghost use Rattle.sccs_grammar.specs.File.{checked_front, front_of, stored};
 ghost use Rattle.sccs_history.specs.History.{IsHeader, IsSpelled, KeepsRules, is_encoded, is_one};
 ghost use Rattle.sccs_grammar.specs.Front.{header_of, is_whole, line_after, start};
-ghost use Rattle.sccs_table.specs.FrontFile.{AnswersFront, AnswersLine, AcceptsNext, IsPlaced, Opens, Reads, ReadsOn, SumLine, read_as};
-ghost use Rattle.sccs_table.specs.ReaderState.{bytes_in, file_in};
+ghost use Rattle.sccs_table.specs.FrontFile.{AnswersFront, AnswersLine, ChecksSum, IsFirst, IsPlaced, Opens, Reads, ReadsDisk, ReadsLine, ReadsOn, SumLine, read_as};
+ghost use Rattle.sccs_table.specs.ReaderState.{StandsIn, Stays, behind_sum, bytes_in, file_in};
 
-use crate::line_readers::{LineFault, LineReader};
+use crate::line_readers::LineReader;
 use crate::sums::Sum;
 use sccs_base::{FILE_LIMIT, Name};
 use sccs_disk::Disk;
-use sccs_grammar::{
-    FileFault, FrontFault, HeaderParser, HeaderState, PartialHeader, accept, tokenize_line,
-};
+use sccs_grammar::{FileFault, HeaderParser, HeaderState, PartialHeader, accept, tokenize_line};
 use sccs_history::{Flag, Header};
 use sccs_sid::reading::number;
 use std::alloc::Global;
@@ -68,19 +65,14 @@ fn with_line(
     requires { HasNoLf line.now }
     ensures { AnswersLine (line_after number parser.old line.now) (read_as parser.new result) }
 {
-    let token = match tokenize_line(alloc, line) {
-        Ok(Some(token)) => token,
-        Ok(None) => return Err(FileFault::BadFormat(number)),
-        Err(_) => return Err(FileFault::Memory),
+    let Some(token) = tokenize_line(alloc, line)? else {
+        return Err(FileFault::BadFormat(number));
     };
-    match accept(alloc, number, parser, token) {
-        Ok(()) => Ok(()),
-        Err(FrontFault::Format(line)) => Err(FileFault::BadFormat(line)),
-        Err(FrontFault::Memory) => Err(FileFault::Memory),
-    }
+    accept(alloc, number, parser, token)?;
+    Ok(())
 }
 
-// reads on with the next line of that number, which may not be held whole
+// reads on with the next line of that number, which is not held whole
 #[inline(never)]
 fn across_pieces<D: Disk>(
     alloc: Global,
@@ -89,17 +81,13 @@ fn across_pieces<D: Disk>(
     number: u64,
     parser: &mut HeaderParser,
 ) -> Result<(), FileFault>
-    ensures frame { ReadsOn D.told D.faults disk.old disk.new reader.old reader.new result }
-    ensures further { OnOk result (reader.old.place < reader.new.place) }
-    ensures accepted { OnOk result ((line : List ℕ) × HasNoLf line × (line_after number parser.old line ≡ Ok parser.new)) }
-    ensures told { AcceptsNext (bytes_in (seen (D.told disk.old)) reader.old.name) reader.old reader.new number parser.old (read_as parser.new result) }
+    ensures { ReadsLine D.told D.faults disk.old disk.new reader.old reader.new number parser.old parser.new result }
 {
     let mut line = Vec::new(alloc);
     match reader.next_line(disk, &mut line) {
         Ok(true) => with_line(alloc, number, parser, line.as_slice()),
         Ok(false) => Err(FileFault::BadFormat(number)),
-        Err(LineFault::Failed) => Err(FileFault::Failed),
-        Err(LineFault::Memory) => Err(FileFault::Memory),
+        Err(fault) => Err(fault),
     }
 }
 
@@ -111,10 +99,7 @@ fn next_reading<D: Disk>(
     number: u64,
     parser: &mut HeaderParser,
 ) -> Result<(), FileFault>
-    ensures frame { ReadsOn D.told D.faults disk.old disk.new reader.old reader.new result }
-    ensures further { OnOk result (reader.old.place < reader.new.place) }
-    ensures accepted { OnOk result ((line : List ℕ) × HasNoLf line × (line_after number parser.old line ≡ Ok parser.new)) }
-    ensures told { AcceptsNext (bytes_in (seen (D.told disk.old)) reader.old.name) reader.old reader.new number parser.old (read_as parser.new result) }
+    ensures { ReadsLine D.told D.faults disk.old disk.new reader.old reader.new number parser.old parser.new result }
 {
     let Some(line) = reader.held_line() else {
         return across_pieces(alloc, disk, reader, number, parser);
@@ -151,13 +136,12 @@ pub fn read_lines<D: Disk>(
     disk: &mut D,
     reader: &mut LineReader,
 ) -> Result<(Header, u64), FileFault>
-    requires { reader.old.size ≤ 1073741824 }
-    ensures same { D.told disk.new ≡ D.told disk.old }
-    ensures later { D.faults disk.old ≤ D.faults disk.new }
-    ensures cause { result ≡ Err FileFault.Failed → Rose (D.faults disk.old) (D.faults disk.new) }
-    ensures size { reader.new.size ≡ reader.old.size }
-    ensures ahead { reader.new.place + length reader.new.held ≤ reader.new.size }
+    requires { reader.old.limit ≤ 1073741825 }
+    ensures frame { ReadsOn D.told D.faults disk.old disk.new reader.old reader.new result }
+    ensures first { IsFirst result }
+    ensures stays { Stays (bytes_in (seen (D.told disk.old)) reader.old.name) reader.old reader.new }
     ensures number { IfOk result (λ found. found.1 ≤ reader.new.place + 2) }
+    ensures counted { IfOk result (λ found. found.1 + reader.old.lines ≡ 2 + reader.new.lines) }
     ensures rules { IfOk result (λ found. KeepsRules found.0) }
     ensures spelled { IfOk result (λ found. IsSpelled found.0) }
     ensures told { Reads (bytes_in (seen (D.told disk.old)) reader.old.name) reader.old reader.new start 2 result }
@@ -165,10 +149,7 @@ pub fn read_lines<D: Disk>(
     let mut number = 2;
     let mut parser = HeaderParser::new(alloc);
     'lines: loop {
-        match next_reading(alloc, disk, reader, number, &mut parser) {
-            Ok(()) => {}
-            Err(fault) => return Err(fault),
-        }
+        next_reading(alloc, disk, reader, number, &mut parser)?;
         number += 1;
         if is_whole(&parser) {
             return Ok((header_of(parser), number));
@@ -179,9 +160,8 @@ pub fn read_lines<D: Disk>(
 /// The length of a file that is there and within the limit of 1,073,741,824 bytes; else `Missing` or
 /// `TooLong`.
 pub fn open_file<D: Disk>(disk: &mut D, name: &Name) -> Result<u64, FileFault>
-    ensures same { D.told disk.new ≡ D.told disk.old }
-    ensures later { D.faults disk.old ≤ D.faults disk.new }
-    ensures cause { result ≡ Err FileFault.Failed → Rose (D.faults disk.old) (D.faults disk.new) }
+    ensures frame { ReadsDisk D.told D.faults disk.old disk.new result }
+    ensures first { IsFirst result }
     ensures limit { IfOk result (λ size. size ≤ 1073741824) }
     ensures told { Opens (seen (D.told disk.old)) name.now result }
 {
@@ -207,14 +187,15 @@ pub fn read_sum<D: Disk>(
 ) -> Result<u32, FileFault>
     requires { reader.old.place ≡ 0 }
     ensures frame { ReadsOn D.told D.faults disk.old disk.new reader.old reader.new result }
+    ensures first { IsFirst result }
+    ensures stays { Stays (bytes_in (seen (D.told disk.old)) reader.old.name) reader.old reader.new }
+    ensures place { OnOk result (reader.new.place ≡ 8) }
+    ensures counted { OnOk result (reader.new.lines ≡ reader.old.lines + 1) }
     ensures told { SumLine (bytes_in (seen (D.told disk.old)) reader.old.name) reader.old reader.new result }
 {
     let mut line = Vec::new(alloc);
-    match reader.next_line(disk, &mut line) {
-        Ok(true) => {}
-        Ok(false) => return Err(FileFault::NotSccs),
-        Err(LineFault::Failed) => return Err(FileFault::Failed),
-        Err(LineFault::Memory) => return Err(FileFault::Memory),
+    if !reader.next_line(disk, &mut line)? {
+        return Err(FileFault::NotSccs);
     }
     match stored(line.as_slice()) {
         Some(sum) => Ok(sum),
@@ -222,68 +203,76 @@ pub fn read_sum<D: Disk>(
     }
 }
 
-/// Whether a stored sum is the plain or the signed one.
-pub fn sum_fits(stored: u32, sum: &Sum) -> bool
+// whether a stored sum is the plain or the signed one
+fn sum_fits(stored: u32, sum: &Sum) -> bool
     ensures { result ≡ ((stored == sum.now.0) || (stored == sum.now.1)) }
 {
     stored == u32::from(sum.plain()) || stored == u32::from(sum.signed())
 }
 
+/// Reads on to the end of a file, and answers the plain sum of all bytes behind the sum line;
+/// `BadSum` where a stored sum is neither this nor the signed one, for which they are read once more.
+pub fn check_sum<D: Disk>(
+    disk: &mut D,
+    reader: &mut LineReader,
+    stored: u32,
+) -> Result<u16, FileFault>
+    requires { 8 ≤ reader.old.limit }
+    ensures frame { ReadsDisk D.told D.faults disk.old disk.new result }
+    ensures first { IsFirst result }
+    ensures told { (file : List ℕ) → bytes_in (seen (D.told disk.old)) reader.old.name ≡ Some file → 8 ≤ length file → StandsIn reader.old file
+        → ChecksSum stored (behind_sum file) result }
+{
+    let end = reader.limit();
+    reader.skip_to(disk, end)?;
+    let plain = reader.sum();
+    if stored == u32::from(plain) {
+        return Ok(plain);
+    }
+    let sums = reader.again().sum_left(disk)?;
+    if sum_fits(stored, &sums) {
+        Ok(plain)
+    } else {
+        Err(FileFault::BadSum(stored, plain))
+    }
+}
+
 /// The front of a file, whatever its flags say of the body.
 pub fn check_front<D: Disk>(alloc: Global, disk: &mut D, name: &Name) -> Result<Front, FileFault>
-    ensures same { D.told disk.new ≡ D.told disk.old }
-    ensures later { D.faults disk.old ≤ D.faults disk.new }
-    ensures cause { result ≡ Err FileFault.Failed → Rose (D.faults disk.old) (D.faults disk.new) }
+    ensures frame { ReadsDisk D.told D.faults disk.old disk.new result }
+    ensures first { IsFirst result }
     ensures placed { IfOk result IsPlaced }
     ensures rules { IfOk result (λ front. KeepsRules front.header) }
     ensures spelled { IfOk result (λ front. IsSpelled front.header) }
     ensures told { IfSome (seen (D.told disk.old)) (λ view. AnswersFront (file_in view name.now) checked_front result) }
 {
-    let size = match open_file(disk, name) {
-        Ok(size) => size,
-        Err(fault) => return Err(fault),
-    };
+    let size = open_file(disk, name)?;
     let mut reader = LineReader::new(name, 0, size);
-    let stored = match read_sum(alloc, disk, &mut reader) {
-        Ok(stored) => stored,
-        Err(fault) => return Err(fault),
-    };
-    let place = reader.place();
-    let mut behind = LineReader::new(name, place, size);
-    let Ok(sum) = behind.sum_left(disk) else {
-        return Err(FileFault::Failed);
-    };
-    if !sum_fits(stored, &sum) {
-        return Err(FileFault::BadSum(stored, sum.plain()));
-    }
-    let (header, body_line) = match read_lines(alloc, disk, &mut reader) {
-        Ok(found) => found,
-        Err(fault) => return Err(fault),
-    };
+    let stored = read_sum(alloc, disk, &mut reader)?;
+    let found = read_lines(alloc, disk, &mut reader);
+    let body_from = reader.place();
+    let sum = check_sum(disk, &mut reader, stored)?;
+    let (header, body_line) = found?;
     Ok(Front {
         header,
-        body_from: reader.place(),
+        body_from,
         body_line,
         size,
-        sum: sum.plain(),
+        sum,
     })
 }
 
 /// Reads sum line, delta table, users, flags and description of an s-file, and checks the sum over
 /// the whole file: sccsfile(4). The fault is the first that holds in the order of `FileFault`.
 pub fn read_header<D: Disk>(alloc: Global, disk: &mut D, name: &Name) -> Result<Front, FileFault>
-    ensures same { D.told disk.new ≡ D.told disk.old }
-    ensures later { D.faults disk.old ≤ D.faults disk.new }
-    ensures cause { result ≡ Err FileFault.Failed → Rose (D.faults disk.old) (D.faults disk.new) }
+    ensures frame { ReadsDisk D.told D.faults disk.old disk.new result }
+    ensures first { IsFirst result }
     ensures placed { IfOk result IsPlaced }
     ensures rules { IfOk result (λ front. IsHeader front.header) }
     ensures spelled { IfOk result (λ front. IsSpelled front.header) }
     ensures told { IfSome (seen (D.told disk.old)) (λ view. AnswersFront (file_in view name.now) front_of result) }
 {
-    let front = match check_front(alloc, disk, name) {
-        Ok(front) => front,
-        Err(fault) => return Err(fault),
-    };
+    let front = check_front(alloc, disk, name)?;
     if is_encoded(front.header.flags.items()) {
         Err(FileFault::Encoded)
     } else {

@@ -8,9 +8,9 @@ mod sums;
 mod tests;
 
 pub use fronts::{
-    Front, check_front, is_encoded, open_file, read_header, read_lines, read_sum, sum_fits,
+    Front, check_front, check_sum, is_encoded, open_file, read_header, read_lines, read_sum,
 };
-pub use line_readers::{LineFault, LineReader};
+pub use line_readers::{LineReader, READ_LIMIT};
 pub use sccs_grammar::FileFault;
 pub use sccs_history::{Flag, Flags, Header, Record, Records, Serials};
 pub use sums::{PlainSum, Sum};

@@ -1,29 +1,31 @@
-ghost use Rattle.std.specs.Prelude.{◌≡◌, ℕ, List, ◌++◌, ◌<◌, ◌≤◌, ◌+◌, [], ◌∷◌, true, false, if◌then◌else◌, Option, None, length, take, drop, IfOk, IfSome, OnOk, OnErr, IsErrOf};
+ghost use Rattle.std.specs.Prelude.{◌≡◌, ℕ, List, ◌++◌, ◌<◌, ◌≤◌, ◌+◌, [], ◌∷◌, true, false, if◌then◌else◌, Option, None, Some, length, max, min, take, drop, IfOk, IfSome, OnOk, OnErr};
 ghost use Rattle.sccs_base.specs.Cut.{HasNoLf, cut};
 ghost use Rattle.sccs_base.specs.Stream.{Rose};
 ghost use Rattle.sccs_disk.specs.Told.{seen};
 ghost use Rattle.sccs_sid.specs.SidLists.{begins};
 ghost use Rattle.sccs_table.specs.Runs.{HasNoMark, HasNoRun, IsMark, IsRun, lf_count};
 ghost use Rattle.sccs_table.specs.SumOf.{IsSumOf};
-ghost use Rattle.sccs_table.specs.ReaderState.{StandsIn, Takes, TakesLine, bytes_in};
+ghost use Rattle.sccs_table.specs.FrontFile.{IsOuter, ReadsBytes, ReadsOn};
+ghost use Rattle.sccs_table.specs.ReaderState.{StandsIn, Stays, Takes, TakesLine, bytes_in};
 
-use crate::sums::Sum;
+use crate::sums::{PlainSum, Sum};
 use memchr::{memchr, memrchr};
-use sccs_base::{Failed, Memory, Name};
+use sccs_base::{FILE_LIMIT, Failed, Memory, Name};
 use sccs_disk::Disk;
+use sccs_grammar::FileFault;
 use std::alloc::Global;
 use std::marker::Model;
 
-/// Why a line was not taken.
-#[derive(Clone, Copy, Debug, PartialEq, Eq)]
-pub enum LineFault {
-    Failed,
-    Memory,
-}
+/// The place up to which a file is read at most: one byte more than the longest file has.
+pub const READ_LIMIT: u64 = FILE_LIMIT + 1;
 
-/// Takes the lines of a file in pieces of 4,096 bytes. Contracts see the bytes that were read and
-/// not given yet, the place of the first of them, the file's name and size, and how many lines
-/// ended before that place since the reader began.
+// the bytes of a sum line with its LF
+const SUM_LINE: u64 = 8;
+
+/// Takes the lines of a file in pieces of 4,096 bytes, and adds up all bytes that it reads behind the
+/// sum line. Contracts see the bytes that were read and not given yet, the place of the first of
+/// them, the file's name, the place up to which it is read at most, how many lines ended before the
+/// first place, and the plain sum.
 #[derive(Drop)]
 pub struct LineReader {
     name: Name,
@@ -31,9 +33,10 @@ pub struct LineReader {
     start: usize,
     end: usize,
     place: u64,
-    size: u64,
+    limit: u64,
     // how many lines ended before the piece
     lines: u64,
+    sum: PlainSum,
 }
 
 impl Model for LineReader {
@@ -153,12 +156,19 @@ fn first_line(bytes: &[u8]) -> Option<&[u8]>
     Some(&bytes[..at])
 }
 
+// the bytes behind so many
+fn behind(bytes: &[u8], count: usize) -> &[u8]
+    ensures { result.now ≡ drop count bytes.now }
+{
+    bytes.get(count..).unwrap_or(&[])
+}
+
 impl LineReader {
-    /// Stands at a place of a file.
-    pub fn new(name: &Name, place: u64, size: u64) -> LineReader
-        requires low { place ≤ size }
-        requires high { size ≤ 1073741824 }
-        ensures { result ≡ record { name = name.now; held = []; place = place; size = size; lines = 0 } }
+    /// Stands at a place of a file: at its front, or behind its sum line.
+    pub fn new(name: &Name, place: u64, limit: u64) -> LineReader
+        requires low { place ≤ limit }
+        requires high { limit ≤ 1073741825 }
+        ensures { result ≡ record { name = name.now; held = []; place = place; limit = limit; lines = 0; sum = 0 } }
     {
         LineReader {
             name: *name,
@@ -166,53 +176,131 @@ impl LineReader {
             start: 0,
             end: 0,
             place,
-            size,
+            limit,
             lines: 0,
+            sum: PlainSum::new(),
         }
     }
 
     /// The place of the next byte.
     pub fn place(&self) -> u64
         ensures value { result ≡ self.now.place }
-        ensures bound { self.now.place + length self.now.held ≤ self.now.size }
-        ensures limit { self.now.size ≤ 1073741824 }
+        ensures bound { self.now.place + length self.now.held ≤ self.now.limit }
+        ensures limit { self.now.limit ≤ 1073741825 }
     {
         self.place
+    }
+
+    /// The place up to which the file is read at most.
+    pub fn limit(&self) -> u64
+        ensures value { result ≡ self.now.limit }
+        ensures bound { result ≤ 1073741825 }
+        ensures ahead { self.now.place + length self.now.held ≤ self.now.limit }
+    {
+        self.limit
+    }
+
+    /// The plain sum of all bytes that were read behind the sum line.
+    pub fn sum(&self) -> u16
+        ensures { result ≡ self.now.sum }
+    {
+        self.sum.value()
+    }
+
+    /// A new reader of the same file, which stands behind its sum line.
+    pub fn again(&self) -> LineReader
+        requires { 8 ≤ self.now.limit }
+        ensures { result ≡ record { name = self.now.name; held = []; place = 8; limit = self.now.limit; lines = 0; sum = 0 } }
+    {
+        LineReader::new(&self.name, SUM_LINE, self.limit)
+    }
+
+    // reads the next piece before a place, where nothing is held; false where nothing is left there
+    fn fill_to<D: Disk>(&mut self, disk: &mut D, to: u64) -> Result<bool, Failed>
+        requires empty { self.old.held ≡ [] }
+        requires within { to ≤ self.old.limit }
+        ensures frame { ReadsBytes D.told D.faults disk.old disk.new self.old self.new result }
+        ensures stays { Stays (bytes_in (seen (D.told disk.old)) self.old.name) self.old self.new }
+        ensures place { self.new.place ≡ self.old.place }
+        ensures bound { self.new.place + length self.new.held ≤ max to self.new.place }
+        ensures more { IfOk result (λ more. more ≡ true → 0 < length self.new.held) }
+        ensures none { IfOk result (λ more. more ≡ false → self.new.held ≡ []) }
+        ensures failed { OnErr result (self.new.held ≡ []) }
+        ensures told { IfOk result (λ more. IfSome (bytes_in (seen (D.told disk.old)) self.old.name)
+            (λ file. StandsIn self.old file → StandsIn self.new file × (more ≡ false → min to (length file) ≤ self.new.place))) }
+        ensures lines { self.new.lines ≡ self.old.lines }
+    {
+        self.lines += lines_in(&self.piece[..self.start]);
+        self.start = 0;
+        self.end = 0;
+        let room = to.saturating_sub(self.place).min(4096) as usize;
+        let count = read_piece(disk, &self.name, self.place, room, &mut self.piece)?;
+        let before = SUM_LINE.saturating_sub(self.place) as usize;
+        self.sum.add(behind(&self.piece[..count], before));
+        self.end = count;
+        Ok(count > 0)
     }
 
     // reads the next piece, where nothing is held; false at the end of the file
     fn fill<D: Disk>(&mut self, disk: &mut D) -> Result<bool, Failed>
         requires { self.old.held ≡ [] }
-        ensures same { D.told disk.new ≡ D.told disk.old }
-        ensures later { D.faults disk.old ≤ D.faults disk.new }
-        ensures cause { OnErr result (Rose (D.faults disk.old) (D.faults disk.new)) }
-        ensures name { self.new.name ≡ self.old.name }
+        ensures frame { ReadsBytes D.told D.faults disk.old disk.new self.old self.new result }
+        ensures stays { Stays (bytes_in (seen (D.told disk.old)) self.old.name) self.old self.new }
         ensures place { self.new.place ≡ self.old.place }
-        ensures size { self.new.size ≡ self.old.size }
         ensures more { IfOk result (λ more. more ≡ true → 0 < length self.new.held) }
         ensures told { IfOk result (λ more. IfSome (bytes_in (seen (D.told disk.old)) self.old.name)
             (λ file. StandsIn self.old file → StandsIn self.new file × (more ≡ false → self.new.place ≡ length file))) }
         ensures lines { self.new.lines ≡ self.old.lines }
-        ensures ahead { self.new.place + length self.new.held ≤ self.new.size }
-        ensures limit { self.new.size ≤ 1073741824 }
     {
-        self.lines += lines_in(&self.piece[..self.start]);
+        let to = self.limit();
+        self.fill_to(disk, to)
+    }
+
+    // passes over all that is held; none of its lines counts
+    fn let_go(&mut self)
+        ensures name { self.new.name ≡ self.old.name }
+        ensures limit { self.new.limit ≡ self.old.limit }
+        ensures held { self.new.held ≡ [] }
+        ensures place { self.new.place ≡ self.old.place + length self.old.held }
+        ensures sum { self.new.sum ≡ self.old.sum }
+        ensures lines { self.new.lines ≤ self.old.lines }
+        ensures ahead { self.new.place + length self.new.held ≤ self.new.limit }
+    {
+        self.place += (self.end - self.start) as u64;
         self.start = 0;
         self.end = 0;
-        let room = (self.size - self.place).min(4096) as usize;
-        let count = read_piece(disk, &self.name, self.place, room, &mut self.piece)?;
-        self.end = count;
-        Ok(count > 0)
+    }
+
+    /// Passes over all bytes before a place, or up to the end of a file that ends there or before; no
+    /// line of them counts.
+    pub fn skip_to<D: Disk>(&mut self, disk: &mut D, to: u64) -> Result<(), Failed>
+        requires { to ≤ self.old.limit }
+        ensures frame { ReadsBytes D.told D.faults disk.old disk.new self.old self.new result }
+        ensures stays { Stays (bytes_in (seen (D.told disk.old)) self.old.name) self.old self.new }
+        ensures held { self.new.held ≡ [] }
+        ensures lines { self.new.lines ≤ self.old.lines }
+        ensures onward { self.old.place + length self.old.held ≤ self.new.place }
+        ensures bound { self.new.place ≤ max to (self.old.place + length self.old.held) }
+        ensures told { OnOk result ((file : List ℕ) → bytes_in (seen (D.told disk.old)) self.old.name ≡ Some file → StandsIn self.old file → min to (length file) ≤ self.new.place) }
+    {
+        let _ = &self.limit;
+        'pieces: loop {
+            self.let_go();
+            if !self.fill_to(disk, to)? {
+                return Ok(());
+            }
+        }
     }
 
     // moves the held bytes up to LF to a line; false where no LF is held, and then all of them
     fn take_held(&mut self, line: &mut Vec<u8>) -> Result<bool, Memory>
         ensures name { self.new.name ≡ self.old.name }
-        ensures size { self.new.size ≡ self.old.size }
+        ensures limit { self.new.limit ≡ self.old.limit }
+        ensures sum { self.new.sum ≡ self.old.sum }
+        ensures kept { OnErr result (self.new ≡ self.old) }
         ensures taken { IfOk result (λ ended. Takes self.old self.new line.old.items line.new.items ended) }
         ensures onward { self.old.place ≤ self.new.place }
-        ensures ahead { self.new.place + length self.new.held ≤ self.new.size }
-        ensures limit { self.new.size ≤ 1073741824 }
+        ensures ahead { self.new.place + length self.new.held ≤ self.new.limit }
         ensures counted { IfOk result (λ ended. self.new.lines ≡ self.old.lines + (if ended then 1 else 0)) }
         ensures bytes { self.new.lines + self.old.place ≤ self.old.lines + self.new.place }
     {
@@ -239,33 +327,29 @@ impl LineReader {
         &mut self,
         disk: &mut D,
         line: &mut Vec<u8>,
-    ) -> Result<bool, LineFault>
+    ) -> Result<bool, FileFault>
         requires { line.old.items ≡ [] }
-        ensures same { D.told disk.new ≡ D.told disk.old }
-        ensures later { D.faults disk.old ≤ D.faults disk.new }
-        ensures cause { IsErrOf result LineFault.Failed → Rose (D.faults disk.old) (D.faults disk.new) }
-        ensures name { self.new.name ≡ self.old.name }
-        ensures size { self.new.size ≡ self.old.size }
+        ensures frame { ReadsOn D.told D.faults disk.old disk.new self.old self.new result }
+        ensures outer { IsOuter result }
+        ensures stays { Stays (bytes_in (seen (D.told disk.old)) self.old.name) self.old self.new }
         ensures told { IfOk result (λ ended. TakesLine (bytes_in (seen (D.told disk.old)) self.old.name) self.old self.new line.new.items ended) }
         ensures line { OnOk result (HasNoLf line.new.items) }
-        ensures ahead { self.new.place + length self.new.held ≤ self.new.size }
-        ensures limit { self.new.size ≤ 1073741824 }
         ensures onward { self.old.place ≤ self.new.place }
         ensures moved { IfOk result (λ ended. ended ≡ true → self.new.place ≡ self.old.place + length line.new.items + 1) }
         ensures counted { IfOk result (λ ended. self.new.lines ≡ self.old.lines + (if ended then 1 else 0)) }
         ensures bytes { self.new.lines + self.old.place ≤ self.old.lines + self.new.place }
     {
-        let _ = &self.size;
+        let _ = &self.limit;
         'pieces: loop {
             match self.take_held(line) {
                 Ok(true) => return Ok(true),
                 Ok(false) => {}
-                Err(Memory) => return Err(LineFault::Memory),
+                Err(Memory) => return Err(FileFault::Memory),
             }
             match self.fill(disk) {
                 Ok(true) => {}
                 Ok(false) => return Ok(false),
-                Err(Failed) => return Err(LineFault::Failed),
+                Err(Failed) => return Err(FileFault::Failed),
             }
         }
     }
@@ -292,11 +376,11 @@ impl LineReader {
     pub fn pass_line(&mut self, count: usize)
         requires { count < length self.old.held }
         ensures name { self.new.name ≡ self.old.name }
-        ensures size { self.new.size ≡ self.old.size }
+        ensures limit { self.new.limit ≡ self.old.limit }
+        ensures stays { (o : Option (List ℕ)) → Stays o self.old self.new }
         ensures held { self.new.held ≡ drop (count + 1) self.old.held }
         ensures place { self.new.place ≡ self.old.place + count + 1 }
-        ensures ahead { self.new.place + length self.new.held ≤ self.new.size }
-        ensures limit { self.new.size ≤ 1073741824 }
+        ensures ahead { self.new.place + length self.new.held ≤ self.new.limit }
         ensures told { (o : Option (List ℕ)) (line : List ℕ) → HasNoLf line → length line ≡ count
             → take (count + 1) self.old.held ≡ line ++ 10 ∷ [] → TakesLine o self.old self.new line true }
         ensures counted { (line : List ℕ) → HasNoLf line → take (count + 1) self.old.held ≡ line ++ 10 ∷ [] → self.new.lines ≡ self.old.lines + 1 }
@@ -321,11 +405,11 @@ impl LineReader {
     pub fn pass(&mut self, count: usize)
         requires { count ≤ length self.old.held }
         ensures name { self.new.name ≡ self.old.name }
-        ensures size { self.new.size ≡ self.old.size }
+        ensures limit { self.new.limit ≡ self.old.limit }
+        ensures stays { (o : Option (List ℕ)) → Stays o self.old self.new }
         ensures held { self.new.held ≡ drop count self.old.held }
         ensures place { self.new.place ≡ self.old.place + count }
-        ensures ahead { self.new.place + length self.new.held ≤ self.new.size }
-        ensures limit { self.new.size ≤ 1073741824 }
+        ensures ahead { self.new.place + length self.new.held ≤ self.new.limit }
         ensures lines { self.new.lines ≡ self.old.lines + length (cut (take count self.old.held)).lines }
         ensures bound { self.new.lines ≤ self.old.lines + count }
     {
@@ -337,7 +421,7 @@ impl LineReader {
     pub fn lines(&self) -> u64
         ensures value { result ≡ self.now.lines }
         ensures bound { result ≤ self.now.place }
-        ensures limit { self.now.place ≤ 1073741824 }
+        ensures limit { self.now.place ≤ 1073741825 }
     {
         self.lines + lines_in(&self.piece[..self.start])
     }
@@ -345,10 +429,11 @@ impl LineReader {
     // adds the held bytes to the sums, and holds none
     fn add_held(&mut self, sum: &mut Sum)
         ensures name { self.new.name ≡ self.old.name }
-        ensures size { self.new.size ≡ self.old.size }
+        ensures limit { self.new.limit ≡ self.old.limit }
         ensures held { self.new.held ≡ [] }
         ensures place { self.new.place ≡ self.old.place + length self.old.held }
-        ensures ahead { self.new.place + length self.new.held ≤ self.new.size }
+        ensures ahead { self.new.place + length self.new.held ≤ self.new.limit }
+        ensures kept { self.new.sum ≡ self.old.sum }
         ensures sum { (front : List ℕ) → IsSumOf sum.old front → IsSumOf sum.new (front ++ self.old.held) }
     {
         let held = &self.piece[self.start..self.end];
@@ -365,7 +450,7 @@ impl LineReader {
         ensures told { IfOk result (λ sum. IfSome (bytes_in (seen (D.told disk.old)) self.old.name)
             (λ file. StandsIn self.old file → IsSumOf sum (drop self.old.place file))) }
     {
-        let _ = &self.size;
+        let _ = &self.limit;
         let mut sum = Sum::new();
         'pieces: loop {
             self.add_held(&mut sum);

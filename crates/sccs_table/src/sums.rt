@@ -118,13 +118,7 @@ impl PlainSum {
         self.value = plain_after(self.value, bytes);
     }
 
-    /// Adds the bytes of another sum behind these.
-    pub fn join(&mut self, behind: &Sum)
-        ensures { (front rest : List ℕ) → IsPlainSumOf self.old front → IsSumOf behind.now rest → IsPlainSumOf self.new (front ++ rest) }
-    {
-        self.value = self.value.wrapping_add(behind.plain);
-    }
-
+    /// The sum.
     pub fn value(&self) -> u16
         ensures { result ≡ self.now }
     {

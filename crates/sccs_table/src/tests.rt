@@ -71,16 +71,3 @@ fn a_failing_disk(rt: HostRuntime) -> Result<(), Fail> {
     }
     Ok(())
 }
-
-#[test]
-fn sums_are_joined(rt: HostRuntime) -> Result<(), Fail> {
-    let mut sum = PlainSum::new();
-    sum.add(b"one");
-    let mut behind = Sum::new();
-    behind.add(b"\xfftwo");
-    assert_eq!(rt; behind.plain(), 601);
-    assert_eq!(rt; behind.signed(), 345);
-    sum.join(&behind);
-    assert_eq!(rt; sum.value(), 923);
-    Ok(())
-}

@@ -1,13 +1,15 @@
-use Rattle.std.proofs.Common.{◌∙◌, sym}
-use Rattle.sccs_table.proofs.FrontLaws.{token_fault, token_heard, token_nothing}
+use Rattle.std.proofs.Common.{◌∙◌, Err, ap, sym}
+use Rattle.std.proofs.lemmas.Result.{err_from_is_err_and}
+use Rattle.sccs_table.proofs.FrontLaws.{line_refused, token_heard, token_nothing}
 use Rattle.sccs_table.proofs.fronts.with_line.Goals as goal
 
-pub returns-in-Ok-None : goal.returns-in-Ok-None
-returns-in-Ok-None c = token_nothing c.args.number c.args.reading.now c.args.line.now (sym c.in-Ok-None.ensures ∙ c.in-Ok-None.field-0-is)
+pub returns-in_default : goal.returns-in_default
+returns-in_default c = token_nothing c.args.number c.args.reading.now c.args.line.now (sym c.in_ok-said.ensures ∙ c.in_default.is)
 
-pub returns-in-Ok : goal.returns-in-Ok
-returns-in-Ok c = token_heard c.args.number c.args.reading.now c.accept.new.reading c.args.line.now c.in-Ok-Some.token (sym c.in-Ok-Some.ensures ∙ c.in-Ok-Some.field-0-is) c.in-Ok.ensures
+pub returns-in_err-hear : goal.returns-in_err-hear
+returns-in_err-hear c =
+    let p = err_from_is_err_and c.from_residual-in_err-hear.result c.from_residual-in_err-hear.ensures.1 in
+    line_refused c.args.number c.args.reading.now c.accept.new.reading c.args.line.now c.in-Some.token c.in_err-hear.field-0.0 c.from_residual-in_err-hear.result (sym c.in_ok-said.ensures ∙ c.in-Some.is) c.in_err-hear.ensures (p.1 ∙ ap Err p.2)
 
-pub returns-in-Err-Format : goal.returns-in-Err-Format
-returns-in-Err-Format c =
-    token_fault c.args.number c.in-Err-Format.line c.args.reading.now c.args.line.now c.in-Ok-Some.token (sym c.in-Ok-Some.ensures ∙ c.in-Ok-Some.field-0-is) (rw c.in-Err-Format.field-0-is at c.in-Err-Format.ensures)
+pub returns : goal.returns
+returns c = token_heard c.args.number c.args.reading.now c.accept.new.reading c.args.line.now c.in-Some.token (sym c.in_ok-said.ensures ∙ c.in-Some.is) c.in_ok-hear.ensures

@@ -11,8 +11,8 @@ invariant-pieces g l = record {
   same : g.D.Disk.told l.disk ≡ g.D.Disk.told l.fn.disk;
   later : g.D.Disk.faults l.fn.disk ≤ g.D.Disk.faults l.disk;
   name : l.self.name ≡ l.fn.self.name;
-  size : l.self.size ≡ l.fn.self.size;
-  ahead : l.self.place + length l.self.held ≤ l.self.size;
+  limit : l.self.limit ≡ l.fn.self.limit;
+  ahead : l.self.place + length l.self.held ≤ l.self.limit;
   moved : l.self.place ≡ l.fn.self.place + length l.line.items;
   counted : l.self.lines ≡ l.fn.self.lines;
   none : HasNoLf l.line.items;
@@ -20,4 +20,4 @@ invariant-pieces g l = record {
 }
 
 abbrev pub decreases-pieces : goal.decreases-pieces
-decreases-pieces g l = 2 * (l.self.size - l.self.place) + (1 - length l.self.held)
+decreases-pieces g l = 2 * (l.self.limit - l.self.place) + (1 - length l.self.held)
