@@ -110,7 +110,9 @@ fn serve(rt: HostRuntime) -> Result<Answer, End> {
     let mut input = StdSource::new(rt.stdin());
     let mut out = StdSink::new(rt.stdout());
     let mut err = StdErrSink::new(rt.stderr());
-    let mut disk = FolderDisk::new(rt);
+    let Ok(mut disk) = FolderDisk::new(alloc, rt) else {
+        return Err(End::Memory);
+    };
     Ok(run(
         alloc, &words, &stamp, &place, &mut input, &mut out, &mut err, &mut disk,
     ))

@@ -2,23 +2,26 @@ ghost use Rattle.std.specs.Prelude.{◌≡◌, ℕ, ◌≤◌, length, IfOk, IfS
 
 use crate::tests::fixtures::{PLAIN, command_on};
 use crate::*;
-use sccs_base::{Failed, Name};
-use sccs_disk::Disk;
+use sccs_base::{Failed, Name, Names};
+use sccs_disk::{Creation, Disk, DiskRefusal};
+use std::alloc::Global;
 use std::test::Fail;
 
-// a disk each of whose files says that it has so many bytes, and gives none; it tells nothing
+// A disk each of whose files says that it has so many bytes, and gives none. It tells nothing, each
+// call that changes something fails, and its count of faults stands at its last number.
 #[derive(Drop)]
 struct EmptyDisk {
     size: u64,
 }
 
 impl Disk for EmptyDisk {
+    ghost use Rattle.sccs_base.specs.Stream.{last_count};
     ghost use Rattle.sccs_disk.specs.Told.{Nothing};
     ghost use Rattle.sccs_disk.specs.FolderTold.{never_tells, never_shows};
 
     ghost told = { λ _. Nothing };
 
-    ghost faults = { λ _. 0 };
+    ghost faults = { λ _. last_count };
 
     ghost sane = { never_tells };
 
@@ -35,6 +38,46 @@ impl Disk for EmptyDisk {
         _into: &mut [u8],
     ) -> Result<Option<usize>, Failed> {
         Ok(Some(0))
+    }
+
+    fn writable(&mut self, _name: &Name) -> Result<Option<bool>, Failed> {
+        Ok(Some(false))
+    }
+
+    fn create(&mut self, _name: &Name) -> Result<Creation, DiskRefusal> {
+        Ok(Creation::Exists)
+    }
+
+    fn append(&mut self, _name: &Name, _bytes: &[u8]) -> Result<(), DiskRefusal> {
+        Err(DiskRefusal::Failed)
+    }
+
+    fn write_at(&mut self, _name: &Name, _from: u64, _bytes: &[u8]) -> Result<(), DiskRefusal> {
+        Err(DiskRefusal::Failed)
+    }
+
+    fn protect(&mut self, _name: &Name) -> Result<(), Failed> {
+        Err(Failed)
+    }
+
+    fn sync(&mut self, _name: &Name) -> Result<(), Failed> {
+        Err(Failed)
+    }
+
+    fn rename(&mut self, _from: &Name, _to: &Name) -> Result<(), Failed> {
+        Err(Failed)
+    }
+
+    fn remove(&mut self, _name: &Name) -> Result<(), Failed> {
+        Err(Failed)
+    }
+
+    fn sync_names(&mut self) -> Result<(), Failed> {
+        Err(Failed)
+    }
+
+    fn list(&mut self, _alloc: Global) -> Result<Names, DiskRefusal> {
+        Err(DiskRefusal::Failed)
     }
 }
 
