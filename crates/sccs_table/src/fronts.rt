@@ -114,7 +114,7 @@ fn next_reading<D: Disk>(
 fn header_of(parser: HeaderParser) -> Header
     ensures { result ≡ header_of parser }
 {
-    let HeaderParser { place: _, parts } = parser;
+    let HeaderParser { state: _, parts } = parser;
     let PartialHeader {
         table,
         users,
