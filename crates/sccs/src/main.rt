@@ -2,7 +2,7 @@
 #![tactic(auto)]
 
 use sccs_base::{Bytes, Line, Login, MakeFault, StdErrSink, StdSink, StdSource, Words};
-use sccs_disk::FolderDisk;
+use sccs_folder::FolderDisk;
 use sccs_sid::{Moment, Stamp};
 use sccs_top::{Answer, run};
 use std::alloc::Global;

@@ -1,11 +1,9 @@
-//! A folder of files: the trait, a disk in memory, and the current folder.
+//! A folder of files: the trait, and a disk in memory.
 #![tactic(auto)]
 
 mod disks;
 mod folder_disk;
 mod folder_reading;
-#[cfg(test)]
-mod folder_tests;
 mod folder_writing;
 mod folders;
 mod memory_disk;
@@ -13,5 +11,4 @@ mod memory_disk;
 mod tests;
 
 pub use disks::{Creation, Disk, DiskRefusal};
-pub use folder_disk::FolderDisk;
 pub use memory_disk::MemoryDisk;

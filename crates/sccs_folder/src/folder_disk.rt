@@ -2,9 +2,9 @@ ghost use Rattle.std.specs.Prelude.{◌≡◌, ◌≤◌, IfOk, OnErr, IsErrOf};
 ghost use Rattle.sccs_base.specs.Stream.{Rose};
 ghost use Rattle.sccs_disk.specs.Told.{Nothing};
 
-use crate::disks::{Creation, Disk, DiskRefusal};
 use crate::folders::Folder;
 use sccs_base::{Failed, Memory, Name, Names, one_more};
+use sccs_disk::{Creation, Disk, DiskRefusal};
 use std::alloc::Global;
 use std::rt::Files;
 

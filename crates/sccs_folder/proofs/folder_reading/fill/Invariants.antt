@@ -1,5 +1,5 @@
 use Rattle.std.proofs.Common.{◌≤◌, length}
-use Rattle.sccs_disk.proofs.folder_reading.fill.Given as goal
+use Rattle.sccs_folder.proofs.folder_reading.fill.Given as goal
 
 abbrev pub invariant-loop : goal.invariant-loop
 invariant-loop g l = l.at ≤ length l.into

@@ -1,10 +1,10 @@
 //! The current folder's files, by calls of the system.
 ghost use Rattle.std.specs.Prelude.{◌≤◌, length, IfOk, IfSome};
 
-use crate::disks::{Creation, DiskRefusal};
 use crate::folder_reading::{FolderReader, open_to_read, regular};
 use crate::folder_writing::{FolderWriter, write_over};
 use sccs_base::{Failed, Memory, Name, Names};
+use sccs_disk::{Creation, DiskRefusal};
 use std::alloc::Global;
 use std::fs::{DirEntry, OpenFile, OpenOptions};
 use std::io::ErrorKind;
