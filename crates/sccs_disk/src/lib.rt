@@ -2,10 +2,6 @@
 #![tactic(auto)]
 
 mod disks;
-mod folder_disk;
-mod folder_reading;
-mod folder_writing;
-mod folders;
 mod memory_disk;
 #[cfg(test)]
 mod tests;
