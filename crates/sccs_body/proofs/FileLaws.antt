@@ -13,7 +13,7 @@ use Rattle.sccs_grammar.specs.Front.{ParsedFront}
 use Rattle.sccs_grammar.specs.Items.{items_from}
 use Rattle.sccs_grammar.specs.File.{Parsed, as_format, answer, within_limit, checked_front, file_of, not_encoded}
 use Rattle.sccs_grammar.specs.declared.faults.FileFault.{FileFault}
-use Rattle.sccs_grammar.specs.declared.faults.FileFault.TheVariants.{Missing, TooLong, NotSccs, BadSum, BadFormat, Encoded, Failed, Memory}
+use Rattle.sccs_grammar.specs.declared.faults.FileFault.TheVariants.{Missing, TooLong, NotSccs, BadSum, BadFormat, Encoded, Changed, Failed, Memory}
 use Rattle.sccs_table.specs.declared.fronts.Front.{Front}
 use Rattle.sccs_table.specs.ReaderState.{bytes_in, file_in}
 use Rattle.sccs_table.specs.FrontFile.{Refuses, IsFrontOf, AnswersFront}
@@ -60,6 +60,7 @@ refusal_stays o NotSccs is = answer_fails o NotSccs is
 refusal_stays o (BadSum s c) is = answer_fails o (BadSum s c) is
 refusal_stays o (BadFormat k) is = answer_fails o (BadFormat k) is
 refusal_stays o Encoded is = answer_fails o Encoded is
+refusal_stays o (Changed a b c d) is = is
 refusal_stays o Failed is = tt
 refusal_stays o Memory is = tt
 
@@ -87,6 +88,7 @@ lines_refused file p front NotSccs is of checks = absurd checks
 lines_refused file p front (BadSum s c) is of checks = absurd checks
 lines_refused file p front (BadFormat k) is of checks = answer_found file p front (Err k) is of checks
 lines_refused file p front Encoded is of checks = absurd checks
+lines_refused file p front (Changed a b c d) is of checks = absurd checks
 lines_refused file p front Failed is of checks = tt
 lines_refused file p front Memory is of checks = tt
 

@@ -12,8 +12,8 @@ use Rattle.sccs_grammar.specs.Items.{IsWrittenItem, item_standing, item_read, it
 use Rattle.sccs_grammar.specs.declared.faults.FileFault.{FileFault}
 use Rattle.sccs_grammar.specs.declared.faults.FileFault.TheVariants.{BadFormat}
 use Rattle.sccs_table.specs.ReaderState.{ReaderState, TakesLine, bytes_in, left}
-use Rattle.sccs_body.specs.Reader.{ItemPlace}
-use Rattle.sccs_body.specs.ItemsRead.{end_answer, Gives, GivesItem, IsBehind, TakesItem}
+use Rattle.sccs_body.specs.Reader.{BodyPlace}
+use Rattle.sccs_body.specs.ItemsRead.{end_answer, Gives, GivesItem, HasBehind, TakesItem}
 use Rattle.sccs_history.specs.declared.headers.Item.{Item}
 use Rattle.sccs_history.specs.declared.headers.Item.TheVariants.{Text}
 use Rattle.sccs_marks.specs.States.{Knows}
@@ -51,21 +51,21 @@ items_fault : (live : List ℕ) (n : ℕ) (before : List Item) (line : List ℕ)
 unfolding items_from
 items_fault live n before line lines tail none = rw none refl
 
-from_end : (live : List ℕ) (before : List Item) (file line : List ℕ) (old new : ItemPlace) (over : Bool) → left old.lines file ≡ record { lines = []; tail = line } → (is_over before && is_empty line) ≡ over → GivesItem live before file old new (end_answer over old.number)
+from_end : (live : List ℕ) (before : List Item) (file line : List ℕ) (old new : BodyPlace) (over : Bool) → left old.lines file ≡ record { lines = []; tail = line } → (is_over before && is_empty line) ≡ over → GivesItem live before file old new (end_answer over old.number)
 from_end live before file line old new true is over =
     ap (λ (c : Cut). items_from live old.number before c.lines c.tail) is ∙ (items_end live old.number before line ∙ rw over refl)
 from_end live before file line old new false is over =
     (refl, ap (λ (c : Cut). items_from live old.number before c.lines c.tail) is ∙ (items_end live old.number before line ∙ rw over refl))
 
-pub end_gives : (o : Option (List ℕ)) (live : List ℕ) (before : List Item) (line : List ℕ) (old new : ItemPlace) (over : Bool) → TakesLine o old.lines new.lines line false → (is_over before && is_empty line) ≡ over → Gives o live before old new (end_answer over old.number)
+pub end_gives : (o : Option (List ℕ)) (live : List ℕ) (before : List Item) (line : List ℕ) (old new : BodyPlace) (over : Bool) → TakesLine o old.lines new.lines line false → (is_over before && is_empty line) ≡ over → Gives o live before old new (end_answer over old.number)
 end_gives None live before line old new over takes is = tt
 end_gives (Some file) live before line old new over takes is = λ stands. from_end live before file line old new over (takes stands).1 is
 
-pub item_gives : (o : Option (List ℕ)) (live : List ℕ) (before : List Item) (line : List ℕ) (old new : ItemPlace) (item : Item) → TakesLine o old.lines new.lines line true → item_at live before line ≡ Some item → new.number ≡ old.number + 1 → Gives o live before old new (Ok (Some item))
+pub item_gives : (o : Option (List ℕ)) (live : List ℕ) (before : List Item) (line : List ℕ) (old new : BodyPlace) (item : Item) → TakesLine o old.lines new.lines line true → item_at live before line ≡ Some item → new.number ≡ old.number + 1 → Gives o live before old new (Ok (Some item))
 item_gives None live before line old new item takes is number = tt
 item_gives (Some file) live before line old new item takes is number = λ stands. let taken = takes stands in (taken.0, number, (line, taken.1, is))
 
-pub fault_gives : (o : Option (List ℕ)) (live : List ℕ) (before : List Item) (line : List ℕ) (old new : ItemPlace) → TakesLine o old.lines new.lines line true → item_at live before line ≡ None → Gives o live before old new (Err (BadFormat old.number))
+pub fault_gives : (o : Option (List ℕ)) (live : List ℕ) (before : List Item) (line : List ℕ) (old new : BodyPlace) → TakesLine o old.lines new.lines line true → item_at live before line ≡ None → Gives o live before old new (Err (BadFormat old.number))
 fault_gives None live before line old new takes none = tt
 fault_gives (Some file) live before line old new takes none = λ stands.
     let taken = takes stands in
@@ -80,10 +80,10 @@ TakesHeld old new count = (o : Option (List ℕ)) (line : List ℕ) → HasNoLf 
 held_taken : (o : Option (List ℕ)) (old new : ReaderState) (item : Item) (count : ℕ) → IsWrittenItem old.held item count → TakesHeld old new count → TakesLine o old new (take count old.held) true
 held_taken o old new item count is takes = takes o (take count old.held) is.line (length-take-le count old.held (omega (arith, is.short))) is.ended
 
-pub held_gives : (o : Option (List ℕ)) (live : List ℕ) (before : List Item) (here now new : ItemPlace) (item : Item) (count : ℕ) → here ≡ now → IsWrittenItem now.lines.held item count → TakesHeld here.lines new.lines count
+pub held_gives : (o : Option (List ℕ)) (live : List ℕ) (before : List Item) (here now new : BodyPlace) (item : Item) (count : ℕ) → here ≡ now → IsWrittenItem now.lines.held item count → TakesHeld here.lines new.lines count
     → may_stand live before item ≡ true → new.number ≡ here.number + 1 → Gives o live before now new (Ok (Some item))
 held_gives o live before here now new item count same is takes may number =
-    let written = subst (λ (p : ItemPlace). IsWrittenItem p.lines.held item count) (sym same) is in
+    let written = subst (λ (p : BodyPlace). IsWrittenItem p.lines.held item count) (sym same) is in
     let line = take count here.lines.held in
     subst (λ p. Gives o live before p new (Ok (Some item))) same
     (item_gives o live before line here new item (held_taken o here.lines new.lines item count written takes) (line_item live before line item true written.token may) number)
@@ -92,14 +92,14 @@ pub held_counted : (old new : ReaderState) (item : Item) (count : ℕ) → IsWri
 held_counted old new item count is counted = counted (take count old.held) is.line is.ended
 
 -- a fault says nothing of where the reader stands then
-fault_anywhere : (o : Option (List ℕ)) (live : List ℕ) (before : List Item) (old new other : ItemPlace) (k : ℕ) → Gives o live before old new (Err (BadFormat k)) → Gives o live before old other (Err (BadFormat k))
+fault_anywhere : (o : Option (List ℕ)) (live : List ℕ) (before : List Item) (old new other : BodyPlace) (k : ℕ) → Gives o live before old new (Err (BadFormat k)) → Gives o live before old other (Err (BadFormat k))
 fault_anywhere None live before old new other k gives = tt
 fault_anywhere (Some file) live before old new other k gives = gives
 
-pub held_fault : (o : Option (List ℕ)) (live : List ℕ) (before : List Item) (here now new other : ItemPlace) (item : Item) (count : ℕ) → here ≡ now → IsWrittenItem now.lines.held item count → TakesHeld here.lines new.lines count
+pub held_fault : (o : Option (List ℕ)) (live : List ℕ) (before : List Item) (here now new other : BodyPlace) (item : Item) (count : ℕ) → here ≡ now → IsWrittenItem now.lines.held item count → TakesHeld here.lines new.lines count
     → may_stand live before item ≡ false → Gives o live before now other (Err (BadFormat here.number))
 held_fault o live before here now new other item count same is takes may =
-    let written = subst (λ (p : ItemPlace). IsWrittenItem p.lines.held item count) (sym same) is in
+    let written = subst (λ (p : BodyPlace). IsWrittenItem p.lines.held item count) (sym same) is in
     let line = take count here.lines.held in
     subst (λ p. Gives o live before p other (Err (BadFormat here.number))) same
     (fault_anywhere o live before here new other here.number (fault_gives o live before line here new (held_taken o here.lines new.lines item count written takes) (line_item live before line item false written.token may)))
@@ -111,16 +111,16 @@ pub lines_at : (n m : ℕ) (a b : Bool) → a ≡ b → n ≡ m + (if a then 1 e
 lines_at n m a b is lines = subst (λ e. n ≡ m + (if e then 1 else 0)) is lines
 
 -- a fault at a line, whose number is computed in another way
-pub fault_named : (o : Option (List ℕ)) (live : List ℕ) (before : List Item) (old new other : ItemPlace) (k j : ℕ) → k ≡ j → Gives o live before old new (Err (BadFormat k)) → Gives o live before old other (Err (BadFormat j))
+pub fault_named : (o : Option (List ℕ)) (live : List ℕ) (before : List Item) (old new other : BodyPlace) (k j : ℕ) → k ≡ j → Gives o live before old new (Err (BadFormat k)) → Gives o live before old other (Err (BadFormat j))
 fault_named o live before old new other k j is gives = subst (λ n. Gives o live before old other (Err (BadFormat n))) is (fault_anywhere o live before old new other k gives)
 
 -- ---- as the reader is seen
 
-pub seen_gives : (view : Option View) (live : List ℕ) (before : List Item) (here old new : ItemPlace) (result : Result (Option Item) FileFault) → here ≡ old → Gives (bytes_in view here.lines.name) live before here new result → Gives (bytes_in view old.lines.name) live before old new result
+pub seen_gives : (view : Option View) (live : List ℕ) (before : List Item) (here old new : BodyPlace) (result : Result (Option Item) FileFault) → here ≡ old → Gives (bytes_in view here.lines.name) live before here new result → Gives (bytes_in view old.lines.name) live before old new result
 seen_gives view live before here old new result is gives = subst (λ o. Gives (bytes_in view o.lines.name) live before o new result) is gives
 
-pub seen_behind : (live : List ℕ) (before : List Item) (here old : ItemPlace) → here ≡ old → IsBehind live before old → Knows live before here.state
-seen_behind live before here old is behind = subst (λ o. IsBehind live before o) (sym is) behind
+pub seen_behind : (live : List ℕ) (before : List Item) (here old : BodyPlace) → here ≡ old → HasBehind live before old → Knows live before here.state
+seen_behind live before here old is behind = subst (λ o. HasBehind live before o) (sym is) behind
 
 pub takes_line_at : (o : Option (List ℕ)) (old new : ReaderState) (line : List ℕ) (a b : Bool) → a ≡ b → TakesLine o old new line a → TakesLine o old new line b
 takes_line_at o old new line a b is takes = subst (λ e. TakesLine o old new line e) is takes

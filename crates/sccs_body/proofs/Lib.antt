@@ -1,7 +1,7 @@
 pub mod BodyLaws
+pub mod ComingLaws
 pub mod FileLaws
 pub mod ItemLaws
 pub mod ReadBodies
-pub mod SummedLaws
 pub mod TextLaws
 pub mod WholeLaws

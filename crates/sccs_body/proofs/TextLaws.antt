@@ -15,10 +15,11 @@ use Rattle.sccs_marks.specs.declared.body_states.BodyState.{BodyState}
 use Rattle.sccs_table.specs.Runs.{IsRun, PassesRun}
 use Rattle.sccs_table.specs.ReaderState.{ReaderState, left}
 use Rattle.sccs_table.proofs.RunLaws.{lines_bound}
-use Rattle.sccs_body.specs.Reader.{ItemPlace}
-use Rattle.sccs_body.specs.ItemsRead.{IsBehind, texts_behind}
+use Rattle.sccs_body.specs.Reader.{BodyPlace}
+use Rattle.sccs_body.specs.ItemsRead.{HasBehind, texts_behind}
 use Rattle.sccs_body.proofs.ItemLaws.{behind_text, line_item}
-use Rattle.sccs_body.proofs.BodyLaws.{onto, onto_none, items_on, Reached, Somewhere}
+use Rattle.sccs_body.specs.ToCome.{onto}
+use Rattle.sccs_body.proofs.BodyLaws.{onto_none, items_on, Reached, Somewhere}
 
 pub not_both : {P : Type 0} (b : Bool) → b ≡ true → b ≡ false → P
 not_both true is other = cc
@@ -53,10 +54,10 @@ items_from_texts live n before (text ∷ texts) lines tail are stand =
 
 -- ---- as code goes over them
 
-some_bytes : (run : List ℕ) → 0 < length (cut run).lines → 0 < length run
+pub some_bytes : (run : List ℕ) → 0 < length (cut run).lines → 0 < length run
 some_bytes run some = omega (arith, lines_bound run)
 
-pub reached_texts : (o : Option (List ℕ)) (live : List ℕ) (begun : ReaderState) (n0 : ℕ) (before : List Item) (now new : ItemPlace) (run : List ℕ) → IsRun run → (0 < length run → (text : List ℕ) → may_stand live before (Text text) ≡ true)
+pub reached_texts : (o : Option (List ℕ)) (live : List ℕ) (begun : ReaderState) (n0 : ℕ) (before : List Item) (now new : BodyPlace) (run : List ℕ) → IsRun run → (0 < length run → (text : List ℕ) → may_stand live before (Text text) ≡ true)
     → new.number ≡ now.number + length (cut run).lines → ((file : List ℕ) → PassesRun run file now.lines new.lines) → Reached o live begun n0 before now → Reached o live begun n0 (texts_behind (cut run).lines before) new
 reached_texts None live begun n0 before now new run is stand number passes reached = tt
 reached_texts (Some file) live begun n0 before now new run is stand number passes reached = λ stands.
@@ -70,19 +71,19 @@ reached_texts (Some file) live begun n0 before now new run is stand number passe
     (passed.0, (here.1.0 ++ map Text lines, here.1.1 ∙ (ap (onto here.1.0) next ∙ onto_both here.1.0 (map Text lines) _)))
 
 -- the reader stands behind the lines that it passed over
-pub somewhere_behind : (o : Option (List ℕ)) (live : List ℕ) (begun : ReaderState) (n0 : ℕ) (now new : ItemPlace) (run : List ℕ) → IsRun run → ((live : List ℕ) (before : List Item) (text : List ℕ) → IsBehind live before now → 0 < length run → may_stand live before (Text text) ≡ true)
-    → new.number ≡ now.number + length (cut run).lines → ((live : List ℕ) (before : List Item) → IsBehind live before now → IsBehind live (texts_behind (cut run).lines before) new) → ((file : List ℕ) → PassesRun run file now.lines new.lines)
+pub somewhere_behind : (o : Option (List ℕ)) (live : List ℕ) (begun : ReaderState) (n0 : ℕ) (now new : BodyPlace) (run : List ℕ) → IsRun run → ((live : List ℕ) (before : List Item) (text : List ℕ) → HasBehind live before now → 0 < length run → may_stand live before (Text text) ≡ true)
+    → new.number ≡ now.number + length (cut run).lines → ((live : List ℕ) (before : List Item) → HasBehind live before now → HasBehind live (texts_behind (cut run).lines before) new) → ((file : List ℕ) → PassesRun run file now.lines new.lines)
     → Somewhere o live begun n0 now → Somewhere o live begun n0 new
 somewhere_behind o live begun n0 now new run is stand number behind passes here =
     (texts_behind (cut run).lines here.0, behind live here.0 here.1, reached_texts o live begun n0 here.0 now new run is (λ some text. stand live here.0 text here.1 some) number passes here.2)
 
 -- the same, where the run is known as the front of what is held
-pub somewhere_behind_front : (o : Option (List ℕ)) (live : List ℕ) (begun : ReaderState) (n0 : ℕ) (now new : ItemPlace) (run : List ℕ) → take (length run) now.lines.held ≡ run → IsRun run
-    → ((live : List ℕ) (before : List Item) (text : List ℕ) → IsBehind live before now → 0 < length run → may_stand live before (Text text) ≡ true)
-    → new.number ≡ now.number + length (cut (take (length run) now.lines.held)).lines → ((live : List ℕ) (before : List Item) → IsBehind live before now → IsBehind live (texts_behind (cut (take (length run) now.lines.held)).lines before) new)
+pub somewhere_behind_front : (o : Option (List ℕ)) (live : List ℕ) (begun : ReaderState) (n0 : ℕ) (now new : BodyPlace) (run : List ℕ) → take (length run) now.lines.held ≡ run → IsRun run
+    → ((live : List ℕ) (before : List Item) (text : List ℕ) → HasBehind live before now → 0 < length run → may_stand live before (Text text) ≡ true)
+    → new.number ≡ now.number + length (cut (take (length run) now.lines.held)).lines → ((live : List ℕ) (before : List Item) → HasBehind live before now → HasBehind live (texts_behind (cut (take (length run) now.lines.held)).lines before) new)
     → ((file : List ℕ) → PassesRun (take (length run) now.lines.held) file now.lines new.lines) → Somewhere o live begun n0 now → Somewhere o live begun n0 new
 somewhere_behind_front o live begun n0 now new run front is stand number behind passes here =
     somewhere_behind o live begun n0 now new run is stand
     (subst (λ bytes. new.number ≡ now.number + length (cut bytes).lines) front number)
-    (subst (λ bytes. (live : List ℕ) (before : List Item) → IsBehind live before now → IsBehind live (texts_behind (cut bytes).lines before) new) front behind)
+    (subst (λ bytes. (live : List ℕ) (before : List Item) → HasBehind live before now → HasBehind live (texts_behind (cut bytes).lines before) new) front behind)
     (subst (λ bytes. (file : List ℕ) → PassesRun bytes file now.lines new.lines) front passes) here

@@ -9,19 +9,32 @@ use Rattle.sccs_grammar.specs.File.{Parsed, answer, checked_front, file_of}
 use Rattle.sccs_grammar.specs.declared.faults.FileFault.{FileFault}
 use Rattle.sccs_grammar.specs.declared.faults.FileFault.TheVariants.{BadFormat, Failed, Memory}
 use Rattle.sccs_table.specs.FrontFile.{Answers, IsFrontOf}
+use Rattle.sccs_table.specs.ReaderState.{StandsIn, left}
+use Rattle.sccs_body.specs.Reader.{BodyPlace}
 use Rattle.sccs_table.specs.declared.fronts.Front.{Front}
 
 -- what the body of a front's file has, from its first line on
 abbrev pub items_of : List ℕ → Front → Result (List Item) ℕ
 items_of file front = items_from (live_serials front.header.records) front.body_line [] (cut (drop front.body_from file)).lines (cut (drop front.body_from file)).tail
 
--- the lines from the body on are the items of a whole body, or the line is the first at which no item may stand
+-- the items of a whole body, or the number of the first line at which no item may stand
+abbrev pub ChecksFound : Result (List Item) ℕ → Result (Unit {0}) FileFault → Type 0
+ChecksFound found (Ok done) = (items : List Item) × (found ≡ Ok items)
+ChecksFound found (Err (BadFormat line)) = found ≡ Err line
+ChecksFound found (Err Failed) = Unit {0}
+ChecksFound found (Err Memory) = Unit {0}
+ChecksFound found (Err _) = ⊥
+
 abbrev pub ChecksFile : List ℕ → Front → Result (Unit {0}) FileFault → Type 0
-ChecksFile file front (Ok done) = (items : List Item) × (items_of file front ≡ Ok items)
-ChecksFile file front (Err (BadFormat line)) = items_of file front ≡ Err line
-ChecksFile file front (Err Failed) = Unit {0}
-ChecksFile file front (Err Memory) = Unit {0}
-ChecksFile file front (Err _) = ⊥
+ChecksFile file front result = ChecksFound (items_of file front) result
+
+-- the lines from where a reader stands in a told file
+abbrev pub items_left : List ℕ → List ℕ → BodyPlace → Result (List Item) ℕ
+items_left file live r = items_from live r.number [] (left r.lines file).lines (left r.lines file).tail
+
+abbrev pub ChecksRest : Option (List ℕ) → List ℕ → BodyPlace → Result (Unit {0}) FileFault → Type 0
+ChecksRest None live old result = Unit {0}
+ChecksRest (Some file) live old result = StandsIn old.lines file → ChecksFound (items_left file live old) result
 
 -- the same of a told file of the front's size
 abbrev pub ChecksItems : Option (List ℕ) → Front → Result (Unit {0}) FileFault → Type 0

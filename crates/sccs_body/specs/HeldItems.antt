@@ -1,11 +1,12 @@
 -- How a reader of items is held.
-use Rattle.std.specs.Prelude.{◌+◌, ◌≤◌}
+use Rattle.std.specs.Prelude.{◌≡◌, ◌≤◌}
 use Rattle.sccs_body.specs.Reader.{ItemPlace}
 use Rattle.sccs_body.specs.declared.item_readers.ItemReader.TheInside.{Inside}
 
 abbrev pub item_place : Inside → ItemPlace
-item_place r = record { lines = r.lines; state = r.state; number = r.first + r.lines.lines }
+item_place r = record { body = r.body; from = r.from; size = r.size; sum = r.sum }
 
--- Each line before the next one had a byte at least.
-pub record IsCounted (r : Inside) : Type 0 where
-  pub counted : r.first + r.lines.lines ≤ r.lines.place + 2
+-- The body begins where a file may be read.
+pub record IsWithin (r : Inside) : Type 0 where
+  pub from : r.from ≤ r.body.lines.limit
+  pub limit : r.body.lines.limit ≡ 1073741825

@@ -10,12 +10,15 @@ use Rattle.sccs_grammar.specs.Items.{item_at, items_from}
 use Rattle.sccs_grammar.specs.declared.faults.FileFault.{FileFault}
 use Rattle.sccs_grammar.specs.declared.faults.FileFault.TheVariants.{BadFormat, Failed}
 use Rattle.sccs_grammar.specs.declared.faults.FileFault.TheVariants as fault
-use Rattle.sccs_table.specs.ReaderState.{ReaderState, StandsIn, left}
-use Rattle.sccs_body.specs.Reader.{ItemPlace}
+use Rattle.sccs_table.specs.ReaderState.{StandsIn, left}
+use Rattle.sccs_body.specs.Reader.{BodyPlace, ItemPlace}
 
 -- the reader stands behind these items, the last first, of a body over live serials
+abbrev pub HasBehind : List ℕ → List Item → BodyPlace → Type 0
+HasBehind live before r = Knows live before r.state
+
 abbrev pub IsBehind : List ℕ → List Item → ItemPlace → Type 0
-IsBehind live before r = Knows live before r.state
+IsBehind live before r = HasBehind live before r.body
 
 -- the lines as text items behind others, the last nearest
 abbrev pub texts_behind : List (List ℕ) → List Item → List Item
@@ -29,13 +32,16 @@ TakesItem live before new line (Ok None) = item_at live before line ≡ None
 TakesItem live before new line (Err memory) = Unit {0}
 
 -- whatever the disk tells: an item that is given may stand, and the reader then stands behind it; at None the body is whole
+abbrev pub GoesBehind : List ℕ → List Item → BodyPlace → Result (Option Item) FileFault → Type 0
+GoesBehind live before new (Ok (Some item)) = (may_stand live before item ≡ true) × HasBehind live (item ∷ before) new
+GoesBehind live before new (Ok None) = is_over before ≡ true
+GoesBehind live before new (Err e) = Unit {0}
+
 abbrev pub Goes : List ℕ → List Item → ItemPlace → Result (Option Item) FileFault → Type 0
-Goes live before new (Ok (Some item)) = (may_stand live before item ≡ true) × IsBehind live (item ∷ before) new
-Goes live before new (Ok None) = is_over before ≡ true
-Goes live before new (Err e) = Unit {0}
+Goes live before new result = GoesBehind live before new.body result
 
 -- the next line of the file is the item; or nothing is left; or no item may stand at the line
-abbrev pub GivesItem : List ℕ → List Item → List ℕ → ItemPlace → ItemPlace → Result (Option Item) FileFault → Type 0
+abbrev pub GivesItem : List ℕ → List Item → List ℕ → BodyPlace → BodyPlace → Result (Option Item) FileFault → Type 0
 GivesItem live before file old new (Ok (Some item)) =
     StandsIn new.lines file × (new.number ≡ old.number + 1)
     × ((line : List ℕ) × (left old.lines file ≡ record { lines = line ∷ (left new.lines file).lines; tail = (left new.lines file).tail }) × (item_at live before line ≡ Some item))
@@ -47,14 +53,10 @@ GivesItem live before file old new (Err fault.Memory) = Unit {0}
 GivesItem live before file old new (Err _) = ⊥
 
 -- the same of a told file in which the reader stands
-abbrev pub Gives : Option (List ℕ) → List ℕ → List Item → ItemPlace → ItemPlace → Result (Option Item) FileFault → Type 0
+abbrev pub Gives : Option (List ℕ) → List ℕ → List Item → BodyPlace → BodyPlace → Result (Option Item) FileFault → Type 0
 Gives None live before old new result = Unit {0}
 Gives (Some file) live before old new result = StandsIn old.lines file → GivesItem live before file old new result
 
 -- what is given where no LF is left: nothing, where the body is over and no byte is left
 abbrev pub end_answer : Bool → ℕ → Result (Option Item) FileFault
 end_answer over number = if over then Ok None else Err (BadFormat number)
-
--- a front's reader stands where the body begins
-abbrev pub fresh : List ℕ → ℕ → ℕ → ReaderState
-fresh name place size = record { name = name; held = []; place = place; size = size; lines = 0 }

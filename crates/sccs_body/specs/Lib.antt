@@ -1,7 +1,7 @@
 pub mod Behind
 pub mod BodyFile
+pub mod HeldBody
 pub mod HeldItems
 pub mod ItemsRead
-pub mod PassedOn
 pub mod Reader
-pub mod SumTo
+pub mod ToCome

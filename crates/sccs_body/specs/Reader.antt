@@ -1,10 +1,33 @@
 -- Where a reader of items stands.
-use Rattle.std.specs.Prelude.{ℕ}
+use Rattle.std.specs.Prelude.{ℕ, ◌-◌, List, take, drop}
 use Rattle.sccs_table.specs.ReaderState.{ReaderState}
 use Rattle.sccs_marks.specs.declared.body_states.BodyState.{BodyState}
 
 -- Where the next line stands in the file, what the items so far leave open, and the next line's number.
-pub record ItemPlace : Type 0 where
+pub record BodyPlace : Type 0 where
   pub lines : ReaderState
   pub state : BodyState
   pub number : ℕ
+
+-- The same in a later reading of a file, the place where its body begins, and what the first reading found: the file's size, and
+-- its plain sum.
+pub record ItemPlace : Type 0 where
+  pub body : BodyPlace
+  pub from : ℕ
+  pub size : ℕ
+  pub sum : ℕ
+
+-- the file that is read
+abbrev pub name_read : ItemPlace → List ℕ
+name_read r = r.body.lines.name
+
+-- how many bytes may be read yet
+abbrev pub bytes_left : ItemPlace → ℕ
+bytes_left r = r.body.lines.limit - r.body.lines.place
+
+-- so many of the bytes that were read and not given yet, and those behind them
+abbrev pub at_hand : ItemPlace → ℕ → List ℕ
+at_hand r count = take count r.body.lines.held
+
+abbrev pub behind_hand : ItemPlace → ℕ → List ℕ
+behind_hand r count = drop count r.body.lines.held

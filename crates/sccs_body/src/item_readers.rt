@@ -1,247 +1,190 @@
-ghost use Rattle.std.specs.Prelude.{◌≡◌, ◌≢◌, ◌&&◌, ℕ, ◌+◌, ◌<◌, ◌≤◌, List, [], ◌∷◌, length, take, drop, true, Option, IfOk, IfSome, Err};
-ghost use Rattle.sccs_base.specs.Cut.{HasNoLf, cut};
-ghost use Rattle.sccs_base.specs.Stream.{Rose};
+ghost use Rattle.std.specs.Prelude.{◌≡◌, ℕ, ◌<◌, ◌≤◌, List, [], length, map, Some, Option, Result, true, IfOk, IfSome, OnOk};
+ghost use Rattle.sccs_base.specs.Cut.{cut};
 ghost use Rattle.sccs_disk.specs.Told.{seen};
-ghost use Rattle.sccs_grammar.specs.Items.{IsWrittenItem};
 ghost use Rattle.sccs_history.specs.Applied.{live_serials};
-ghost use Rattle.sccs_history.specs.Numbers.{is_empty};
-ghost use Rattle.sccs_history.specs.Body.{is_over, may_stand};
+ghost use Rattle.sccs_history.specs.Body.{may_stand};
 ghost use Rattle.sccs_history.specs.declared.headers.Item.TheVariants as items;
-ghost use Rattle.sccs_marks.specs.States.{Knows};
-ghost use Rattle.sccs_table.specs.FrontFile.{IsPlaced};
-ghost use Rattle.sccs_table.specs.Runs.{HasNoRun, IsRun, PassesRun};
+ghost use Rattle.sccs_table.specs.FrontFile.{ReadsDisk};
+ghost use Rattle.sccs_table.specs.Runs.{HasNoRun};
 ghost use Rattle.sccs_table.specs.ReaderState.{bytes_in};
-ghost use Rattle.sccs_body.specs.ItemsRead.{Gives, Goes, IsBehind, TakesItem, fresh, texts_behind};
+ghost use Rattle.sccs_body.specs.BodyFile.{items_of};
+ghost use Rattle.sccs_body.specs.ItemsRead.{Goes, IsBehind, texts_behind};
+ghost use Rattle.sccs_body.specs.Reader.{at_hand, behind_hand, bytes_left, name_read};
+ghost use Rattle.sccs_body.specs.ToCome.{Begins, Changes, Ends, GivesNext, IsFrontFor, MayPass, ReadsNext, TextsCome, ToCome, onto};
 
-use sccs_base::{FILE_LIMIT, Memory, Name};
+use crate::body_readers::BodyReader;
+use sccs_base::{Memory, Name};
 use sccs_disk::Disk;
-use sccs_grammar::{FileFault, read_item, written_item};
-use sccs_history::{Item, Record};
+use sccs_grammar::FileFault;
+use sccs_history::Item;
 use sccs_marks::BodyState;
-use sccs_table::{Front, LineFault, LineReader};
+use sccs_table::{Front, LineReader, READ_LIMIT};
 use std::alloc::Global;
 use std::marker::Model;
 
-/// Gives the items of a body, one line at a time. Contracts see where the next line stands, what the
-/// items so far leave open, and the next line's number.
+/// Gives the items of a body in a later reading of its file, one at a time, or text lines in runs. It
+/// holds one piece of 4,096 bytes and one line, and adds up all that it reads, the header included.
+/// At the end it says whether the file is another than at the first reading.
 #[derive(Drop)]
 pub struct ItemReader {
-    alloc: Global,
-    lines: LineReader,
-    line: Vec<u8>,
-    state: BodyState,
-    // the number of the body's first line
-    first: u64,
+    body: BodyReader,
+    // the place where the body begins
+    from: u64,
+    // the file's size and plain sum at the first reading
+    size: u64,
+    sum: u16,
 }
 
 impl Model for ItemReader {
     ghost use Rattle.sccs_body.specs.Reader.{ItemPlace};
-    ghost use Rattle.sccs_body.specs.HeldItems.{item_place, IsCounted};
+    ghost use Rattle.sccs_body.specs.HeldItems.{item_place, IsWithin};
 
     ghost Value = { ItemPlace };
 
     ghost view = { item_place };
 
-    ghost invariant = { IsCounted };
-}
-
-// whether an item may stand here; where it may, the state goes on behind it
-fn goes_on(state: &mut BodyState, item: &Item) -> Result<bool, Memory>
-    ensures { (live : List ℕ) (before : List Item) → Knows live before state.old
-        → IfOk result (λ stands. (may_stand live before item.now ≡ stands) × (stands ≡ true → Knows live (item.now ∷ before) state.new)) }
-{
-    match item {
-        Item::Text(_) => Ok(state.may_stand_text()),
-        Item::Insert(serial) => {
-            if !state.may_open(*serial) {
-                return Ok(false);
-            }
-            state.open(*serial, true)?;
-            Ok(true)
-        }
-        Item::Delete(serial) => {
-            if !state.may_open(*serial) {
-                return Ok(false);
-            }
-            state.open(*serial, false)?;
-            Ok(true)
-        }
-        Item::End(serial) => {
-            if !state.may_end(*serial) {
-                return Ok(false);
-            }
-            state.end(*serial);
-            Ok(true)
-        }
-    }
-}
-
-// the item that a line is, where one may stand; the state then goes on behind it
-fn next_item(alloc: Global, state: &mut BodyState, line: &[u8]) -> Result<Option<Item>, Memory>
-    requires { HasNoLf line.now }
-    ensures { (live : List ℕ) (before : List Item) → Knows live before state.old → TakesItem live before state.new line.now result }
-{
-    let Some(item) = read_item(alloc, line)? else {
-        return Ok(None);
-    };
-    if goes_on(state, &item)? {
-        Ok(Some(item))
-    } else {
-        Ok(None)
-    }
-}
-
-fn is_empty(line: &[u8]) -> bool
-    ensures { result ≡ is_empty line.now }
-{
-    line.is_empty()
-}
-
-// whether a body may end where these bytes are left
-fn ends_with(state: &BodyState, line: &[u8]) -> bool
-    ensures { (live : List ℕ) (before : List Item) → Knows live before state.now
-        → result ≡ (is_over before && is_empty line.now) }
-{
-    let over = state.is_over();
-    let empty = is_empty(line);
-    over && empty
+    ghost invariant = { IsWithin };
 }
 
 impl ItemReader {
-    /// Stands before the body that a front names; of a front that was read from no file, within the
-    /// limits of one.
+    /// Stands before the file that a front was read from, none of which was read again yet. A front of
+    /// no file is cut to the limits of one.
     pub fn new(alloc: Global, name: &Name, front: &Front) -> Result<ItemReader, Memory>
-        ensures name { IfOk result (λ r. r.lines.name ≡ name.now) }
-        ensures lines { IsPlaced front.now → IfOk result (λ r. r.lines ≡ fresh name.now front.now.body_from front.now.size) }
-        ensures number { IsPlaced front.now → IfOk result (λ r. r.number ≡ front.now.body_line) }
+        ensures name { IfOk result (λ r. name_read r ≡ name.now) }
+        ensures size { IfOk result (λ r. r.size ≡ front.now.size) }
+        ensures sum { IfOk result (λ r. r.sum ≡ front.now.sum) }
         ensures behind { IfOk result (IsBehind (live_serials front.now.header.records) []) }
+        ensures told { (file : List ℕ) → IsFrontFor file front.now
+            → IfOk result (ToCome file (live_serials front.now.header.records) [] (items_of file front.now)) }
     {
         let state = BodyState::new(alloc, front.header.records.items())?;
-        let size = front.size.min(FILE_LIMIT);
-        let place = front.body_from.min(size);
+        let lines = LineReader::new(name, 0, READ_LIMIT);
+        let first = front.body_line.min(READ_LIMIT + 2);
         Ok(ItemReader {
-            alloc,
-            lines: LineReader::new(name, place, size),
-            line: Vec::new(alloc),
-            state,
-            first: front.body_line.min(place + 2),
+            body: BodyReader::new(alloc, lines, state, first),
+            from: front.body_from.min(READ_LIMIT),
+            size: front.size,
+            sum: front.sum,
         })
-    }
-
-    // the number of the next line
-    fn line_number(&self) -> u64
-        ensures { result ≡ self.now.number }
-    {
-        self.first + self.lines.lines()
     }
 
     /// The text lines that are held whole, each with its LF; none where no text line may stand.
     #[inline(always)]
     pub fn texts(&self) -> &[u8]
-        ensures fits { length result.now ≤ length self.now.lines.held }
-        ensures front { take (length result.now) self.now.lines.held ≡ result.now }
-        ensures run { IsRun result.now }
-        ensures stand { (live : List ℕ) (before : List Item) (text : List ℕ) → IsBehind live before self.now
-            → 0 < length result.now → may_stand live before (items.Text text) ≡ true }
+        ensures may { MayPass self.now (length result.now) }
+        ensures value { at_hand self.now (length result.now) ≡ result.now }
+        ensures first { (file live : List ℕ) (before : List Item) (found : Result (List Item) ℕ) → ToCome file live before found self.now
+            → (rest : Result (List Item) ℕ) × (found ≡ onto (map items.Text (cut result.now).lines) rest) }
         ensures longest { (live : List ℕ) (before : List Item) (text : List ℕ) → IsBehind live before self.now
-            → may_stand live before (items.Text text) ≡ true → HasNoRun (drop (length result.now) self.now.lines.held) }
+            → may_stand live before (items.Text text) ≡ true → HasNoRun (behind_hand self.now (length result.now)) }
     {
-        if self.state.may_stand_text() {
-            self.lines.texts()
-        } else {
-            &[]
-        }
+        self.body.texts()
     }
 
-    /// Passes over so many of the held bytes, which are text lines that may stand.
-    pub fn pass(&mut self, count: usize)
-        requires fits { count ≤ length self.old.lines.held }
-        requires run { IsRun (take count self.old.lines.held) }
-        ensures name { self.new.lines.name ≡ self.old.lines.name }
-        ensures size { self.new.lines.size ≡ self.old.lines.size }
-        ensures ahead { self.new.lines.place + length self.new.lines.held ≤ self.new.lines.size }
-        ensures place { self.new.lines.place ≡ self.old.lines.place + count }
-        ensures held { self.new.lines.held ≡ drop count self.old.lines.held }
-        ensures number { self.new.number ≡ self.old.number + length (cut (take count self.old.lines.held)).lines }
-        ensures behind { (live : List ℕ) (before : List Item) → IsBehind live before self.old
-            → IsBehind live (texts_behind (cut (take count self.old.lines.held)).lines before) self.new }
-        ensures told { (file : List ℕ) → PassesRun (take count self.old.lines.held) file self.old.lines self.new.lines }
-    {
-        self.lines.pass(count);
-    }
-
-    // the next item, however its line is spelled and held
-    #[inline(never)]
-    fn read_next<D: Disk>(&mut self, disk: &mut D) -> Result<Option<Item>, FileFault>
-        ensures same { D.told disk.new ≡ D.told disk.old }
-        ensures later { D.faults disk.old ≤ D.faults disk.new }
-        ensures cause { result ≡ Err FileFault.Failed → Rose (D.faults disk.old) (D.faults disk.new) }
-        ensures name { self.new.lines.name ≡ self.old.lines.name }
-        ensures size { self.new.lines.size ≡ self.old.lines.size }
-        ensures ahead { self.new.lines.place + length self.new.lines.held ≤ self.new.lines.size }
-        ensures further { IfOk result (λ o. IfSome o (λ _. self.old.lines.place < self.new.lines.place)) }
-        ensures goes { (live : List ℕ) (before : List Item) → IsBehind live before self.old → Goes live before self.new result }
-        ensures told { (live : List ℕ) (before : List Item) → IsBehind live before self.old
-            → Gives (bytes_in (seen (D.told disk.old)) self.old.lines.name) live before self.old self.new result }
-    {
-        self.line.clear();
-        let ended = match self.lines.next_line(disk, &mut self.line) {
-            Ok(ended) => ended,
-            Err(LineFault::Failed) => return Err(FileFault::Failed),
-            Err(LineFault::Memory) => return Err(FileFault::Memory),
-        };
-        if !ended {
-            if ends_with(&self.state, self.line.as_slice()) {
-                return Ok(None);
-            }
-            return Err(FileFault::BadFormat(self.line_number()));
-        }
-        match next_item(self.alloc, &mut self.state, self.line.as_slice()) {
-            Ok(Some(item)) => Ok(Some(item)),
-            Ok(None) => Err(FileFault::BadFormat(self.line_number() - 1)),
-            Err(_) => Err(FileFault::Memory),
-        }
-    }
-
-    // passes over a line of that length, which is held whole and is that item
+    /// Passes over so many of the bytes of `texts`.
     #[inline(always)]
-    fn pass_item(&mut self, item: Item, count: usize) -> Result<Option<Item>, FileFault>
-        requires { IsWrittenItem self.old.lines.held item count }
-        ensures failed { result ≢ Err FileFault.Failed }
-        ensures name { self.new.lines.name ≡ self.old.lines.name }
-        ensures size { self.new.lines.size ≡ self.old.lines.size }
-        ensures ahead { self.new.lines.place + length self.new.lines.held ≤ self.new.lines.size }
-        ensures further { self.old.lines.place < self.new.lines.place }
-        ensures goes { (live : List ℕ) (before : List Item) → IsBehind live before self.old → Goes live before self.new result }
-        ensures told { (o : Option (List ℕ)) (live : List ℕ) (before : List Item) → IsBehind live before self.old
-            → Gives o live before self.old self.new result }
+    pub fn pass(&mut self, count: usize)
+        requires { MayPass self.old count }
+        ensures name { name_read self.new ≡ name_read self.old }
+        ensures size { self.new.size ≡ self.old.size }
+        ensures sum { self.new.sum ≡ self.old.sum }
+        ensures left { bytes_left self.new ≤ bytes_left self.old }
+        ensures behind { (live : List ℕ) (before : List Item) → IsBehind live before self.old
+            → IsBehind live (texts_behind (cut (at_hand self.old count)).lines before) self.new }
+        ensures told { (file live : List ℕ) (before : List Item) (found : Result (List Item) ℕ) → ToCome file live before found self.old
+            → TextsCome file live before found (at_hand self.old count) self.new }
     {
-        let stands = goes_on(&mut self.state, &item);
-        self.lines.pass_line(count);
-        match stands {
-            Ok(true) => Ok(Some(item)),
-            Ok(false) => Err(FileFault::BadFormat(self.line_number() - 1)),
-            Err(_) => Err(FileFault::Memory),
+        self.body.pass(count);
+    }
+
+    // reads the header again; BadFormat where the file ends within it
+    fn begin<D: Disk>(&mut self, disk: &mut D) -> Result<(), FileFault>
+        requires { self.old.body.lines.place < self.old.from }
+        ensures { Begins D.told D.faults disk.old disk.new self.old self.new result }
+    {
+        self.body.skip_to(disk, self.from)?;
+        if self.body.place() < self.from {
+            return Err(FileFault::BadFormat(self.body.line_number()));
         }
+        Ok(())
+    }
+
+    // the next item behind the header
+    #[inline(always)]
+    fn next_behind<D: Disk>(&mut self, disk: &mut D) -> Result<Option<Item>, FileFault>
+        requires { self.old.from ≤ self.old.body.lines.place }
+        ensures { ReadsNext D.told D.faults disk.old disk.new self.old self.new result }
+    {
+        self.body.next(disk)
+    }
+
+    // reads the header again, and then the first item
+    #[inline(never)]
+    fn first_item<D: Disk>(&mut self, disk: &mut D) -> Result<Option<Item>, FileFault>
+        requires { self.old.body.lines.place < self.old.from }
+        ensures { ReadsNext D.told D.faults disk.old disk.new self.old self.new result }
+    {
+        self.begin(disk)?;
+        self.next_behind(disk)
+    }
+
+    // the next item, whatever the file was before
+    #[inline(always)]
+    fn next_read<D: Disk>(&mut self, disk: &mut D) -> Result<Option<Item>, FileFault>
+        ensures { ReadsNext D.told D.faults disk.old disk.new self.old self.new result }
+    {
+        if self.body.place() < self.from {
+            self.first_item(disk)
+        } else {
+            self.next_behind(disk)
+        }
+    }
+
+    // reads on to the end of the file; Changed where its size or its sum is another than before
+    #[inline(never)]
+    fn check_end<D: Disk>(&mut self, disk: &mut D) -> Result<(), FileFault>
+        ensures { Ends D.told D.faults disk.old disk.new self.old self.new result }
+    {
+        self.body.skip_to(disk, READ_LIMIT)?;
+        let size = self.body.place();
+        let sum = self.body.sum();
+        let changed = Err(FileFault::Changed(self.size, self.sum, size, sum));
+        if size != self.size {
+            return changed;
+        }
+        if sum != self.sum {
+            return changed;
+        }
+        Ok(())
     }
 
     /// The next item; None at the end of the body. BadFormat has the number of the line at which no
-    /// item may stand.
+    /// item may stand. In place of these two comes `Changed` where this reading of the whole file,
+    /// which isn't read past 1,073,741,825 bytes, found another size or plain sum than the first. A
+    /// file that isn't there has no bytes.
+    #[inline(always)]
     pub fn next<D: Disk>(&mut self, disk: &mut D) -> Result<Option<Item>, FileFault>
-        ensures same { D.told disk.new ≡ D.told disk.old }
-        ensures later { D.faults disk.old ≤ D.faults disk.new }
-        ensures cause { result ≡ Err FileFault.Failed → Rose (D.faults disk.old) (D.faults disk.new) }
-        ensures name { self.new.lines.name ≡ self.old.lines.name }
-        ensures size { self.new.lines.size ≡ self.old.lines.size }
-        ensures ahead { self.new.lines.place + length self.new.lines.held ≤ self.new.lines.size }
-        ensures further { IfOk result (λ o. IfSome o (λ _. self.old.lines.place < self.new.lines.place)) }
+        ensures frame { ReadsDisk D.told D.faults disk.old disk.new result }
+        ensures name { name_read self.new ≡ name_read self.old }
+        ensures size { self.new.size ≡ self.old.size }
+        ensures sum { self.new.sum ≡ self.old.sum }
+        ensures further { IfOk result (λ o. IfSome o (λ _. bytes_left self.new < bytes_left self.old)) }
+        ensures changed { Changes self.old result }
         ensures goes { (live : List ℕ) (before : List Item) → IsBehind live before self.old → Goes live before self.new result }
-        ensures told { (live : List ℕ) (before : List Item) → IsBehind live before self.old
-            → Gives (bytes_in (seen (D.told disk.old)) self.old.lines.name) live before self.old self.new result }
+        ensures told { (file live : List ℕ) (before : List Item) (found : Result (List Item) ℕ) → bytes_in (seen (D.told disk.old)) (name_read self.old) ≡ Some file
+            → ToCome file live before found self.old → GivesNext file live before found self.new result }
     {
-        match written_item(self.lines.held()) {
-            Some((item, count)) => self.pass_item(item, count),
-            None => self.read_next(disk),
+        match self.next_read(disk) {
+            Ok(Some(item)) => Ok(Some(item)),
+            Ok(None) => {
+                self.check_end(disk)?;
+                Ok(None)
+            }
+            Err(FileFault::BadFormat(line)) => {
+                self.check_end(disk)?;
+                Err(FileFault::BadFormat(line))
+            }
+            Err(fault) => Err(fault),
         }
     }
 }

@@ -2,8 +2,8 @@
 #![tactic(auto)]
 
 mod bodies;
+mod body_readers;
 mod item_readers;
-mod summed;
 #[cfg(test)]
 mod tests;
 

@@ -263,9 +263,10 @@ impl LineReader {
         ensures held { self.new.held ≡ [] }
         ensures place { self.new.place ≡ self.old.place + length self.old.held }
         ensures sum { self.new.sum ≡ self.old.sum }
-        ensures lines { self.new.lines ≤ self.old.lines }
+        ensures lines { self.new.lines ≡ self.old.lines }
         ensures ahead { self.new.place + length self.new.held ≤ self.new.limit }
     {
+        self.lines += lines_in(&self.piece[..self.start]);
         self.place += (self.end - self.start) as u64;
         self.start = 0;
         self.end = 0;
@@ -278,7 +279,7 @@ impl LineReader {
         ensures frame { ReadsBytes D.told D.faults disk.old disk.new self.old self.new result }
         ensures stays { Stays (bytes_in (seen (D.told disk.old)) self.old.name) self.old self.new }
         ensures held { self.new.held ≡ [] }
-        ensures lines { self.new.lines ≤ self.old.lines }
+        ensures lines { self.new.lines ≡ self.old.lines }
         ensures onward { self.old.place + length self.old.held ≤ self.new.place }
         ensures bound { self.new.place ≤ max to (self.old.place + length self.old.held) }
         ensures told { OnOk result ((file : List ℕ) → bytes_in (seen (D.told disk.old)) self.old.name ≡ Some file → StandsIn self.old file → min to (length file) ≤ self.new.place) }
@@ -406,6 +407,7 @@ impl LineReader {
         requires { count ≤ length self.old.held }
         ensures name { self.new.name ≡ self.old.name }
         ensures limit { self.new.limit ≡ self.old.limit }
+        ensures sum { self.new.sum ≡ self.old.sum }
         ensures stays { (o : Option (List ℕ)) → Stays o self.old self.new }
         ensures held { self.new.held ≡ drop count self.old.held }
         ensures place { self.new.place ≡ self.old.place + count }

@@ -1,19 +1,14 @@
-use Rattle.std.proofs.Common.{◌+◌, ◌∙◌, ap, take, drop}
-use Rattle.sccs_base.specs.Cut.{cut}
-use Rattle.sccs_table.proofs.RunLaws.{run_passed}
-use Rattle.sccs_body.specs.Reader.{ItemPlace}
-use Rattle.sccs_body.proofs.ItemLaws.{seen_behind}
-use Rattle.sccs_body.proofs.TextLaws.{behind_texts}
+use Rattle.std.proofs.Common.{refl, subst, sym}
+use Rattle.sccs_body.specs.Reader.{ItemPlace, at_hand}
+use Rattle.sccs_body.specs.ToCome.{KeepsFile, MayPass, TextsCome, ToCome}
+use Rattle.sccs_body.proofs.ComingLaws.{pass_comes}
 use Rattle.sccs_body.proofs.item_readers.ItemReader.pass.Goals as goal
 
-pub returns-clause-behind : goal.returns-clause-behind
-returns-clause-behind c = λ live before behind.
-    let knows = seen_behind live before (record { lines = c.self.inside.lines; state = c.self.inside.state; number = c.self.inside.first + c.self.inside.lines.lines }) c.args.self.now c.self.view_is behind in
-    behind_texts live (cut (take c.args.count c.args.self.now.lines.held)).lines before c.self.inside.state knows
-
 pub returns-clause-told : goal.returns-clause-told
-returns-clause-told c = λ file.
-    run_passed c.args.self.now.lines c.pass.new.self file c.args.count c.requires.fits c.requires.run.0
-    (c.pass.ensures.size ∙ ap (λ (p : ItemPlace). p.lines.size) c.self.view_is)
-    (c.pass.ensures.held ∙ ap (λ (p : ItemPlace). drop c.args.count p.lines.held) c.self.view_is)
-    (c.pass.ensures.place ∙ ap (λ (p : ItemPlace). p.lines.place + c.args.count) c.self.view_is)
+returns-clause-told c = λ file live before found p.
+    let here : ItemPlace = record { body = c.self.inside.body; from = c.self.inside.from; size = c.self.inside.size; sum = c.self.inside.sum } in
+    let gone : ItemPlace = record { body = c.pass.new.self; from = c.self.inside.from; size = c.self.inside.size; sum = c.self.inside.sum } in
+    let kept : KeepsFile here gone = record { name = c.pass.ensures.name; limit = c.pass.ensures.limit; from = refl; size = refl; sum = refl } in
+    let come = subst (λ r. ToCome file live before found r) (sym c.self.view_is) p in
+    subst (λ r. TextsCome file live before found (at_hand r c.args.count) gone) c.self.view_is
+    (pass_comes file live before found here gone c.args.count kept (subst (λ r. MayPass r c.args.count) (sym c.self.view_is) c.requires) c.pass.ensures.place c.pass.ensures.held c.pass.ensures.number (c.pass.ensures.behind live before come.behind) (c.pass.ensures.told file) come)

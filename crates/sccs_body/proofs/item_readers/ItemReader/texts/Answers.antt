@@ -1,20 +1,12 @@
-use Rattle.std.proofs.Common.{◌+◌, ◌∙◌, sym}
-use Rattle.sccs_history.specs.Body.{may_stand}
-use Rattle.sccs_history.specs.declared.headers.Item.TheVariants.{Text}
-use Rattle.sccs_table.proofs.RunLaws.{no_run}
-use Rattle.sccs_body.proofs.ItemLaws.{seen_behind}
-use Rattle.sccs_body.proofs.TextLaws.{not_both}
+use Rattle.std.proofs.Common.{length, subst, sym}
+use Rattle.sccs_table.specs.Runs.{IsRun}
+use Rattle.sccs_body.specs.Reader.{ItemPlace}
+use Rattle.sccs_body.specs.ToCome.{MayPass, ToCome}
+use Rattle.sccs_body.proofs.ComingLaws.{first_comes}
 use Rattle.sccs_body.proofs.item_readers.ItemReader.texts.Goals as goal
 
-pub returns-then-may_stand_text-clause-stand : goal.returns-then-may_stand_text-clause-stand
-returns-then-may_stand_text-clause-stand c = λ live before text behind some.
-    let knows = seen_behind live before (record { lines = c.self.inside.lines; state = c.self.inside.state; number = c.self.inside.first + c.self.inside.lines.lines }) c.args.self.now c.self.view_is behind in
-    sym (c.may_stand_text.ensures live before text knows) ∙ c.if-may_stand_text.true
-
-pub returns-else-may_stand_text-clause-run : goal.returns-else-may_stand_text-clause-run
-returns-else-may_stand_text-clause-run c = no_run
-
-pub returns-else-may_stand_text-clause-longest : goal.returns-else-may_stand_text-clause-longest
-returns-else-may_stand_text-clause-longest c = λ live before text behind stands.
-    let knows = seen_behind live before (record { lines = c.self.inside.lines; state = c.self.inside.state; number = c.self.inside.first + c.self.inside.lines.lines }) c.args.self.now c.self.view_is behind in
-    not_both (may_stand live before (Text text)) stands (sym (c.may_stand_text.ensures live before text knows) ∙ c.if-may_stand_text.false)
+pub returns-clause-first : goal.returns-clause-first
+returns-clause-first c = λ file live before found p.
+    let here : ItemPlace = record { body = c.self.inside.body; from = c.self.inside.from; size = c.self.inside.size; sum = c.self.inside.sum } in
+    let may : MayPass here (length c.texts.result.now) = record { fits = c.texts.ensures.fits; run = subst IsRun (sym c.texts.ensures.front) c.texts.ensures.run; stand = c.texts.ensures.stand } in
+    first_comes file live before found here c.texts.result.now may c.texts.ensures.front (subst (λ r. ToCome file live before found r) (sym c.self.view_is) p)

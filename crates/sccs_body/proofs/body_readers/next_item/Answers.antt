@@ -1,6 +1,6 @@
 use Rattle.std.proofs.Common.{◌∙◌, true, false, sym}
 use Rattle.sccs_body.proofs.ItemLaws.{line_silent, line_item}
-use Rattle.sccs_body.proofs.item_readers.next_item.Goals as goal
+use Rattle.sccs_body.proofs.body_readers.next_item.Goals as goal
 
 pub returns-in_default : goal.returns-in_default
 returns-in_default c = λ live before knows. line_silent live before c.args.line.now (sym c.in_ok-item.ensures ∙ c.in_default.is)

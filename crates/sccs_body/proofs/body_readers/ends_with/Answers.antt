@@ -1,5 +1,5 @@
 use Rattle.std.proofs.Common.{◌∙◌, sym}
-use Rattle.sccs_body.proofs.item_readers.ends_with.Goals as goal
+use Rattle.sccs_body.proofs.body_readers.ends_with.Goals as goal
 
 pub returns-then-over : goal.returns-then-over
 returns-then-over c = λ live before knows. let over = sym (c.is_over-over.ensures live before knows) ∙ c.if-over.true in rw over c.is_empty-empty.ensures

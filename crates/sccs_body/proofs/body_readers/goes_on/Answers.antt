@@ -1,7 +1,7 @@
 use Rattle.std.proofs.Common.{◌∙◌, true, refl, sym}
 use Rattle.sccs_history.specs.declared.headers.Item.TheVariants.{Text, Insert, Delete, End}
 use Rattle.sccs_body.proofs.ItemLaws.{so_is, behind_text}
-use Rattle.sccs_body.proofs.item_readers.goes_on.Goals as goal
+use Rattle.sccs_body.proofs.body_readers.goes_on.Goals as goal
 
 pub returns-in-Text : goal.returns-in-Text
 returns-in-Text c = λ live before knows.
