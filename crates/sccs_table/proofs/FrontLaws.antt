@@ -58,8 +58,8 @@ line_heard (Some file) old new n r s line takes is = λ stands. let taken = take
 pub token_fault : (n k : ℕ) (r : HeaderParser) (line : List ℕ) (what : LineToken) → token line ≡ Some what → after n r.parts r.place what ≡ Err k → line_after n r line ≡ Err k
 token_fault n k r line what is then_is = tokenizing n r line what is ∙ then_is
 
-pub token_heard : (n : ℕ) (r s : HeaderParser) (line : List ℕ) (what : LineToken) → token line ≡ Some what → after n r.parts r.place what ≡ Ok s → line_after n r line ≡ Ok s
-token_heard n r s line what is then_is = tokenizing n r line what is ∙ then_is
+pub token_accepted : (n : ℕ) (r s : HeaderParser) (line : List ℕ) (what : LineToken) → token line ≡ Some what → after n r.parts r.place what ≡ Ok s → line_after n r line ≡ Ok s
+token_accepted n r s line what is then_is = tokenizing n r line what is ∙ then_is
 
 pub token_nothing : (n : ℕ) (r : HeaderParser) (line : List ℕ) → token line ≡ None → line_after n r line ≡ Err n
 token_nothing n r line is = line_silent n r line is

@@ -92,7 +92,7 @@ fn across_pieces<D: Disk>(
 }
 
 // reads on with the next line of that number
-fn next_reading<D: Disk>(
+fn next_line_parsed<D: Disk>(
     alloc: Global,
     disk: &mut D,
     reader: &mut LineReader,
@@ -149,7 +149,7 @@ pub fn read_lines<D: Disk>(
     let mut number = 2;
     let mut parser = HeaderParser::new(alloc);
     'lines: loop {
-        next_reading(alloc, disk, reader, number, &mut parser)?;
+        next_line_parsed(alloc, disk, reader, number, &mut parser)?;
         number += 1;
         if is_whole(&parser) {
             return Ok((header_of(parser), number));

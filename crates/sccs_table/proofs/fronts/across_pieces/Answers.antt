@@ -7,14 +7,14 @@ use Rattle.sccs_table.proofs.fronts.across_pieces.Goals as goal
 pub returns-in-Ok-true : goal.returns-in-Ok-true
 returns-in-Ok-true g c = record {
   frame = search rules;
-  first = answered_first _ c.with_line.new.reading c.with_line.result c.with_line.ensures;
+  first = answered_first _ c.with_line.new.parser c.with_line.result c.with_line.ensures;
   stays = c.in-Ok-true.ensures.stays;
   further = search rules;
   counted = search rules;
   accepted = search rules;
-  hears = line_answered _ c.args.reader.now c.next_line.new.self c.args.number c.args.reading.now c.next_line.new.line.items (read_as c.with_line.new.reading c.with_line.result)
+  hears = line_answered _ c.args.reader.now c.next_line.new.self c.args.number c.args.parser.now c.next_line.new.line.items (read_as c.with_line.new.parser c.with_line.result)
       (takes_line_at _ _ _ _ c.in-Ok-true.field-0 true c.in-Ok-true.field-0-test c.in-Ok-true.ensures.told)
-      (subst (λ line. AnswersLine (line_after c.args.number c.args.reading.now line) (read_as c.with_line.new.reading c.with_line.result)) c.as_slice.ensures.value c.with_line.ensures);
+      (subst (λ line. AnswersLine (line_after c.args.number c.args.parser.now line) (read_as c.with_line.new.parser c.with_line.result)) c.as_slice.ensures.value c.with_line.ensures);
 }
 
 pub returns-in-Ok-false : goal.returns-in-Ok-false
@@ -25,5 +25,5 @@ returns-in-Ok-false g c = record {
   further = search rules;
   counted = search rules;
   accepted = search rules;
-  hears = no_line _ c.args.reader.now c.next_line.new.self c.args.number c.args.reading.now c.next_line.new.line.items (takes_line_at _ _ _ _ c.in-Ok-false.field-0 false c.in-Ok-false.field-0-test c.in-Ok-false.ensures.told);
+  hears = no_line _ c.args.reader.now c.next_line.new.self c.args.number c.args.parser.now c.next_line.new.line.items (takes_line_at _ _ _ _ c.in-Ok-false.field-0 false c.in-Ok-false.field-0-test c.in-Ok-false.ensures.told);
 }

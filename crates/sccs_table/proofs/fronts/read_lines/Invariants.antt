@@ -18,9 +18,9 @@ invariant-lines g l = record {
   within : l.number ≤ 2 + l.fn.reader.limit;
   counted : l.number + l.fn.reader.lines ≡ 2 + l.reader.lines;
   stays : Stays (bytes_in (seen (g.D.Disk.told l.fn.disk)) l.fn.reader.name) l.fn.reader l.reader;
-  kept : Keeps l.reading;
-  spelled : IsSpelledSoFar l.reading;
-  goes : GoesLines (bytes_in (seen (g.D.Disk.told l.fn.disk)) l.fn.reader.name) l.fn.reader start 2 l.reader l.reading l.number;
+  kept : Keeps l.parser;
+  spelled : IsSpelledSoFar l.parser;
+  goes : GoesLines (bytes_in (seen (g.D.Disk.told l.fn.disk)) l.fn.reader.name) l.fn.reader start 2 l.reader l.parser l.number;
 }
 
 abbrev pub decreases-lines : goal.decreases-lines
