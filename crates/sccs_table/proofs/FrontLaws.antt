@@ -23,15 +23,15 @@ front_fault : (n k : ℕ) (r : HeaderParser) (line : List ℕ) (lines : List (Li
 unfolding front_from
 front_fault n k r line lines is = rw is refl
 
-front_whole : (n : ℕ) (r s : HeaderParser) (line : List ℕ) (lines : List (List ℕ)) → line_after n r line ≡ Ok s → is_whole s.place ≡ true → front_from n r (line ∷ lines) ≡ Ok (record { header = header_of s; line = suc n; rest = lines })
+front_whole : (n : ℕ) (r s : HeaderParser) (line : List ℕ) (lines : List (List ℕ)) → line_after n r line ≡ Ok s → is_whole s.state ≡ true → front_from n r (line ∷ lines) ≡ Ok (record { header = header_of s; line = suc n; rest = lines })
 unfolding front_from
 front_whole n r s line lines is over = rw (is, over) refl
 
-front_on : (n : ℕ) (r s : HeaderParser) (line : List ℕ) (lines : List (List ℕ)) → line_after n r line ≡ Ok s → is_whole s.place ≡ false → front_from n r (line ∷ lines) ≡ front_from (suc n) s lines
+front_on : (n : ℕ) (r s : HeaderParser) (line : List ℕ) (lines : List (List ℕ)) → line_after n r line ≡ Ok s → is_whole s.state ≡ false → front_from n r (line ∷ lines) ≡ front_from (suc n) s lines
 unfolding front_from
 front_on n r s line lines is more = rw (is, more) refl
 
-tokenizing : (n : ℕ) (r : HeaderParser) (line : List ℕ) (what : LineToken) → token line ≡ Some what → line_after n r line ≡ after n r.parts r.place what
+tokenizing : (n : ℕ) (r : HeaderParser) (line : List ℕ) (what : LineToken) → token line ≡ Some what → line_after n r line ≡ after n r.parts r.state what
 unfolding line_after
 tokenizing n r line what is = ap (accepted n r) is
 
@@ -55,10 +55,10 @@ pub line_heard : (o : Option (List ℕ)) (old new : ReaderState) (n : ℕ) (r s 
 line_heard None old new n r s line takes is = tt
 line_heard (Some file) old new n r s line takes is = λ stands. let taken = takes stands in (taken.0, (line, taken.1, is))
 
-pub token_fault : (n k : ℕ) (r : HeaderParser) (line : List ℕ) (what : LineToken) → token line ≡ Some what → after n r.parts r.place what ≡ Err k → line_after n r line ≡ Err k
+pub token_fault : (n k : ℕ) (r : HeaderParser) (line : List ℕ) (what : LineToken) → token line ≡ Some what → after n r.parts r.state what ≡ Err k → line_after n r line ≡ Err k
 token_fault n k r line what is then_is = tokenizing n r line what is ∙ then_is
 
-pub token_accepted : (n : ℕ) (r s : HeaderParser) (line : List ℕ) (what : LineToken) → token line ≡ Some what → after n r.parts r.place what ≡ Ok s → line_after n r line ≡ Ok s
+pub token_accepted : (n : ℕ) (r s : HeaderParser) (line : List ℕ) (what : LineToken) → token line ≡ Some what → after n r.parts r.state what ≡ Ok s → line_after n r line ≡ Ok s
 token_accepted n r s line what is then_is = tokenizing n r line what is ∙ then_is
 
 pub token_nothing : (n : ℕ) (r : HeaderParser) (line : List ℕ) → token line ≡ None → line_after n r line ≡ Err n
@@ -79,7 +79,7 @@ line_answered o old new n r line (Err Encoded) takes is = absurd is
 line_answered o old new n r line (Err (Changed a b c d)) takes is = absurd is
 
 -- what the parts of a line's reading answer
-pub line_refused : (n : ℕ) (r s : HeaderParser) (line : List ℕ) (what : LineToken) (fault : FrontFault) (result : Result (Unit {0}) FileFault) → token line ≡ Some what → AcceptsIn s (Err fault) (after n r.parts r.place what) → result ≡ Err (line_fault fault) → AnswersLine (line_after n r line) (read_as s result)
+pub line_refused : (n : ℕ) (r s : HeaderParser) (line : List ℕ) (what : LineToken) (fault : FrontFault) (result : Result (Unit {0}) FileFault) → token line ≡ Some what → AcceptsIn s (Err fault) (after n r.parts r.state what) → result ≡ Err (line_fault fault) → AnswersLine (line_after n r line) (read_as s result)
 line_refused n r s line what (fronts.Format k) result is hears exit = subst (λ q. AnswersLine (line_after n r line) (read_as s q)) (sym exit) (token_fault n k r line what is hears)
 line_refused n r s line what fronts.Memory result is hears exit = subst (λ q. AnswersLine (line_after n r line) (read_as s q)) (sym exit) tt
 
@@ -117,7 +117,7 @@ pub lines_begin : (o : Option (List ℕ)) (begun : ReaderState) (r : HeaderParse
 lines_begin None begun r n = tt
 lines_begin (Some file) begun r n = λ stands. (stands, refl, refl)
 
-pub lines_on : (o p : Option (List ℕ)) (begun now new : ReaderState) (r0 r s : HeaderParser) (n0 n : ℕ) → p ≡ o → GoesLines o begun r0 n0 now r n → AcceptsNext p now new n r (Ok s) → is_whole s.place ≡ false → GoesLines o begun r0 n0 new s (n + 1)
+pub lines_on : (o p : Option (List ℕ)) (begun now new : ReaderState) (r0 r s : HeaderParser) (n0 n : ℕ) → p ≡ o → GoesLines o begun r0 n0 now r n → AcceptsNext p now new n r (Ok s) → is_whole s.state ≡ false → GoesLines o begun r0 n0 new s (n + 1)
 lines_on None p begun now new r0 r s n0 n is goes hears more = tt
 lines_on (Some file) p begun now new r0 r s n0 n is goes hears more = λ stands.
     let here = goes stands in
@@ -128,7 +128,7 @@ lines_on (Some file) p begun now new r0 r s n0 n is goes hears more = λ stands.
       here.2 ∙ (ap (λ (c : Cut). front_from n r c.lines) heard_here.1.1 ∙ (front_on n r s heard_here.1.0 (left new file).lines heard_here.1.2 more ∙ ap (λ k. front_from k s (left new file).lines) one)),
     )
 
-pub lines_done : (o p : Option (List ℕ)) (begun now new : ReaderState) (r0 r s : HeaderParser) (n0 n : ℕ) → p ≡ o → GoesLines o begun r0 n0 now r n → AcceptsNext p now new n r (Ok s) → is_whole s.place ≡ true → Reads o begun new r0 n0 (Ok (header_of s, n + 1))
+pub lines_done : (o p : Option (List ℕ)) (begun now new : ReaderState) (r0 r s : HeaderParser) (n0 n : ℕ) → p ≡ o → GoesLines o begun r0 n0 now r n → AcceptsNext p now new n r (Ok s) → is_whole s.state ≡ true → Reads o begun new r0 n0 (Ok (header_of s, n + 1))
 lines_done None p begun now new r0 r s n0 n is goes hears whole = tt
 lines_done (Some file) p begun now new r0 r s n0 n is goes hears whole = λ stands.
     let here = goes stands in
