@@ -1,2 +1,15 @@
+pub mod CallsAgain
+pub mod Counting
+pub mod Crashes
+pub mod FilesNow
+pub mod Left
+pub mod Listing
+pub mod Logs
 pub mod Models
+pub mod Placed
+pub mod Places
 pub mod Puts
+pub mod Sanity
+pub mod Sized
+pub mod Views
+pub mod Written

@@ -1,5 +1,5 @@
 -- Models that a call changes: their files, and the names after some of their operations.
-use Rattle.std.proofs.Common.{◌≡◌, ℕ, zero, suc, ◌+◌, ◌<◌, ◌≤◌, ◌⊎◌, List, [], ◌∷◌, ◌++◌, length, take, slice_get, Option, None, Some, option_map, inl, inr, refl, ap, ◌∙◌, ⊎_elim, length-append, arith}
+use Rattle.std.proofs.Common.{◌≡◌, ℕ, zero, suc, ◌<◌, ◌≤◌, ◌⊎◌, List, [], ◌∷◌, ◌++◌, length, take, slice_get, Option, None, Some, option_map, inl, inr, refl, ap, ◌∙◌, ⊎_elim, length-append, arith}
 use Rattle.std.proofs.lemmas.Bool.{cases_lt}
 use Rattle.std.proofs.lemmas.List.{take-append-le, take_all}
 use Rattle.sccs_disk.specs.Files.{File, Names, Op, Create, Model, names, names_at, put, apply, after}

@@ -1,5 +1,5 @@
 -- What a call that changes files says: of what the disk tells before and after it, and of its count of faults.
-use Rattle.std.specs.Prelude.{◌≡◌, ◌↔◌, ℕ, ◌+◌, ◌≤◌, ◌⊎◌, List, ◌∷◌, length, Option, None, Some, option_map, slice_get, Result, IsSome, IsErrOf, IfSome, IfOk, OnOk, OnErr, Contains}
+use Rattle.std.specs.Prelude.{◌≡◌, ◌↔◌, ℕ, ◌+◌, ◌≤◌, ◌⊎◌, List, ◌∷◌, length, Option, None, Some, option_map, Result, IsSome, IsErrOf, IfSome, OnOk, OnErr}
 use Rattle.sccs_base.specs.Stream.{Rose}
 use Rattle.sccs_base.specs.declared.streams.Failed.{Failed}
 use Rattle.sccs_disk.specs.Files.{Content, View, Model}

@@ -1,6 +1,6 @@
 -- What each call does to the files of a disk, and what it may do to them where it fails.
 use Rattle.std.specs.Prelude.{◌≡◌, ℕ, zero, suc, ◌+◌, true, false, List, [], ◌∷◌, ◌++◌, length, take, drop, Option, None, Some, option_map}
-use Rattle.sccs_disk.specs.Files.{Content, File, View, Names, Op, Create, Rename, Remove, Model, names, put}
+use Rattle.sccs_disk.specs.Files.{Content, File, View, Op, Create, Rename, Remove, Model, names, put}
 
 -- What a call makes of a view and of a model, and what it may leave of them where it fails.
 pub record Effect : Type 1 where

@@ -1,8 +1,15 @@
 pub mod Calls
+pub mod DirectoryFolders
+pub mod DirectoryStates
 pub mod Effects
 pub mod Files
 pub mod FolderTold
 pub mod Images
+pub mod MemoryDisks
 pub mod MemoryFiles
+pub mod MemoryTold
+pub mod Places
 pub mod Reads
+pub mod States
+pub mod SteadyDisks
 pub mod Told

@@ -1,67 +1,92 @@
--- What a disk in memory shows: its files, its calls so far, and the calls that are to fail.
-use Rattle.std.specs.Prelude.{◌≡◌, ◌<◌, ◌⊎◌, ◌↔◌, ℕ, List, [], ◌∷◌, None, Some, Result, Contains, IsErr, cond}
+-- The story of a disk in memory, from the calls that were made, and what a stop leaves of it.
+use Rattle.std.specs.Prelude.{◌≡◌, ℕ, ◌+◌, true, List, [], ◌∷◌, ◌++◌, length, map, take, replicate, Option, None, Some, option_map, cond, nat_le}
+use Rattle.std.specs.List.{All}
 use Rattle.std.specs.Ordering.{nat_cmp, eq_by_cmp}
+use Rattle.std.specs.Cmp.Lexicographic.{slice_cmp}
 use Rattle.std.specs.Str.{bytes_eq}
-use Rattle.std.specs.FinMap.{empty, insert, get, get-insert, get-empty}
-use Rattle.std.specs.Cmp.Lexicographic.{slice_cmp, nat_list_cmp_total}
-use Rattle.std.proofs.Common.{ap, ◌∙◌}
-use Rattle.std.proofs.Math.Path.{fun_ext}
+use Rattle.std.proofs.Common.{◌∙◌}
 use Rattle.std.proofs.lemmas.Map.Text.{is_eq-slice_cmp}
-use Rattle.sccs_disk.specs.Files.{Content, View, Model, IsSane, put, Folder, IsFinite}
-use Rattle.sccs_disk.specs.Told.{Shows, Tells, seen}
-use Rattle.sccs_base.specs.Stream.{one_more}
 use Rattle.sccs_base.proofs.SameBytes.{bytes_eq_sym}
-use Rattle.sccs_disk.specs.declared.memory_disk.MemoryDisk.{MemoryDisk}
-use Rattle.sccs_disk.specs.declared.memory_disk.Held.{Held}
+use Rattle.sccs_disk.specs.Effects.{firm}
+use Rattle.sccs_disk.specs.Files.{Content, View, Model, names_at, file_at, put}
+use Rattle.sccs_disk.specs.Files as op
+use Rattle.sccs_disk.specs.States.{State, effect_of, made}
+use Rattle.sccs_disk.specs.Told.{Told, Tells}
+use Rattle.sccs_disk.specs.declared.changes.Change.{Change}
+use Rattle.sccs_disk.specs.declared.changes.Change.TheVariants.{Create, File, Rename, Remove, SyncNames}
+use Rattle.sccs_disk.specs.declared.fills.Fill.{Fill}
+use Rattle.sccs_disk.specs.declared.fills.Fill.TheVariants.{Empty, Written, Junk}
 
-abbrev pub content_of : Held → Content
-content_of h = record { bytes = h.bytes.items; writable = h.writable }
+-- the model after these calls, the first of them first; None stands for a call that changed nothing
+abbrev pub model_after : Model → List (Option Change) → Model
+model_after m [] = m
+model_after m (None ∷ log) = model_after m log
+model_after m (Some c ∷ log) = model_after ((effect_of c).model m) log
 
-abbrev pub nothing : View
-nothing name = None
+-- those before it, the newest first
+abbrev pub past_after : Model → List Model → List (Option Change) → List Model
+past_after m past [] = past
+past_after m past (None ∷ log) = past_after m past log
+past_after m past (Some c ∷ log) = past_after ((effect_of c).model m) (m ∷ past) log
 
--- the first file of a name counts
-abbrev pub files_of : List Held → View
-files_of [] = nothing
-files_of (h ∷ held) = put (files_of held) h.name (Some (content_of h))
+-- a record of calls with one more, within the room
+abbrev pub noted : ℕ → ℕ → List (Option Change) → List (Option Change)
+noted call room log = cond (nat_le call room) (log ++ None ∷ []) log
 
-abbrev pub disk_view : MemoryDisk → View
-disk_view d = files_of d.files.items
+-- a disk to which no call was made
+abbrev pub model_of : State → Model
+model_of s = record { files = s.files; base = s.names; pending = [] }
 
-abbrev pub disk_call : MemoryDisk → ℕ
-disk_call d = d.calls
+abbrev pub told_after : State → List (Option Change) → Told
+told_after s log = Tells (model_after (model_of s) log) (past_after (model_of s) [] log)
 
-abbrev pub disk_room : MemoryDisk → ℕ
-disk_room d = d.room
+-- what takes the place of bytes that aren't firm
+abbrev pub filling : Fill → List ℕ → List ℕ
+filling Empty bytes = []
+filling Written bytes = bytes
+filling (Junk b) bytes = replicate (length bytes) b
 
-abbrev pub disk_failing : MemoryDisk → List ℕ
-disk_failing d = d.failing.items
+abbrev pub filled : Fill → op.File → Content
+filled fill f = record { bytes = cond f.firm f.content.bytes (filling fill f.content.bytes); writable = f.content.writable }
 
--- A call counts as one more, and fails exactly by plan or past the room, which both stay.
-pub record GoesByPlan {T E : Type 0} (old new : MemoryDisk) (result : Result T E) : Type 0 where
-  pub planned : IsErr result ↔ (Contains (disk_failing old) (disk_call new) ⊎ (disk_room old < disk_call new))
-  pub plan : disk_failing new ≡ disk_failing old
-  pub room : disk_room new ≡ disk_room old
-  pub call : disk_call new ≡ one_more (disk_call old)
+-- What a stop leaves that makes the first j pending operations.
+abbrev pub left : Model → ℕ → Fill → View
+left m j fill n = option_map (filled fill) (file_at m.files (names_at m j n))
 
--- the same files as a folder
-folder_of : List Held → Folder
-folder_of [] = empty
-folder_of (h ∷ held) = insert (folder_of held) h.name (content_of h)
+-- so many files, as it leaves them
+abbrev pub left_files : Fill → ℕ → List op.File → List op.File
+left_files fill count files = map (λ f. firm (filled fill f)) (take count files)
 
+abbrev pub IsFirmFile : op.File → Type 0
+IsFirmFile f = f.firm ≡ true
+
+-- every file is firm, and nothing is pending
+pub record IsSettled (m : Model) : Type 0 where
+  pub files : All IsFirmFile m.files
+  pub pending : m.pending ≡ []
+
+-- a firm file more, under a name of the base
+abbrev pub placed : List ℕ → Content → Model → Model
+placed n c m = record { files = m.files ++ firm c ∷ []; base = put m.base n (Some (length m.files)); pending = m.pending }
+
+-- what a call makes of the model
+abbrev pub entry_model : Option Change → Model → Model
+entry_model None m = m
+entry_model (Some c) m = (effect_of c).model m
+
+abbrev pub entry_state : Option Change → State → State
+entry_state None s = s
+entry_state (Some c) s = made c s
+
+-- how many name operations are pending after a call
+abbrev pub pending_after : Option Change → ℕ → ℕ
+pending_after None count = count
+pending_after (Some (Create n)) count = count + 1
+pending_after (Some (File n c)) count = count
+pending_after (Some (Rename a b)) count = count + 1
+pending_after (Some (Remove n)) count = count + 1
+pending_after (Some SyncNames) count = 0
+
+-- the order of names and their equality agree
 pub same_test : (q k : List ℕ) → eq_by_cmp (slice_cmp nat_cmp) q k ≡ bytes_eq k q
 same_test q k = is_eq-slice_cmp q k ∙ bytes_eq_sym q k
-
-folder_has : (held : List Held) (q : List ℕ) → get (folder_of held) q ≡ files_of held q
-unfolding folder_of
-folder_has [] q = get-empty (slice_cmp nat_cmp) q
-folder_has (h ∷ held) q =
-    get-insert nat_list_cmp_total (folder_of held) h.name (content_of h) q
-    ∙ (ap (λ test. cond test (Some (content_of h)) (get (folder_of held) q)) (same_test q h.name) ∙ ap (λ rest. cond (bytes_eq h.name q) (Some (content_of h)) rest) (folder_has held q))
-
-pub disk_finite : (disk : MemoryDisk) (v : View) → seen (Shows (disk_view disk)) ≡ Some v → IsFinite v
-disk_finite disk v told =
-    let is : files_of disk.files.items ≡ v = cc in (folder_of disk.files.items, fun_ext (folder_has disk.files.items) ∙ is)
-
-pub never_tells : (disk : MemoryDisk) (m : Model) (past : List Model) → Shows (disk_view disk) ≡ Tells m past → IsSane m
-never_tells disk m past told = cc

@@ -1,5 +1,5 @@
 -- What a disk tells of itself.
-use Rattle.std.specs.Prelude.{ℕ, List, Option, None, Some}
+use Rattle.std.specs.Prelude.{List, Option, None, Some}
 use Rattle.sccs_disk.specs.Files.{View, Model, view_of}
 
 -- Nothing, its view alone, or its model with those that it had before, the newest first.

@@ -1,2 +1,1 @@
-pub mod OneFile
 pub mod StepFiles

@@ -1,0 +1,4 @@
+pub mod Called
+pub mod Images
+pub mod Owned
+pub mod Touched
