@@ -3,6 +3,7 @@ mod fixtures;
 mod hostile;
 mod long_lines;
 mod operands;
+mod readings;
 mod releases;
 mod samples;
 mod usages;

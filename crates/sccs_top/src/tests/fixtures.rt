@@ -60,7 +60,7 @@ pub fn command_on<D: Disk>(
     };
     let place = Line::new(alloc, b"/")?;
     let mut input = SteadySource::new(alloc, b"")?;
-    let mut out = MemorySink::new(alloc, 20_000, given.failing_out)?;
+    let mut out = MemorySink::new(alloc, 100_000, given.failing_out)?;
     let mut err = MemorySink::new(alloc, 1000, given.failing_err)?;
     let answer = run(
         alloc, &words, &stamp, &place, &mut input, &mut out, &mut err, disk,
