@@ -14,6 +14,8 @@ use Rattle.sccs_grammar.specs.declared.faults.FileFault.TheVariants as faults
 use Rattle.sccs_table.specs.Runs.{IsRun}
 use Rattle.sccs_table.proofs.RunLaws.{run_bytes}
 use Rattle.sccs_body.specs.Reader.{ItemPlace}
+use Rattle.sccs_body.proofs.TextLaws.{some_bytes}
+use Rattle.sccs_body.proofs.ComingLaws.{hand_long}
 use Rattle.sccs_body.specs.ItemsRead.{Goes, IsBehind, texts_behind}
 use Rattle.sccs_weave.specs.Regions.{Holds}
 use Rattle.sccs_versions.specs.Coming.{ShowsItem, shown, text_of_lines}
@@ -21,7 +23,7 @@ use Rattle.sccs_versions.specs.Place.{AreShown, VersionPlace, at_hand}
 use Rattle.sccs_versions.specs.WasRead.{HasRead, ReadsAll, ReadsNext, ReadsOn, Stood, lines_before, text_before}
 use Rattle.sccs_versions.specs.declared.readers.Next.{Next}
 use Rattle.sccs_versions.specs.declared.readers.Next.TheVariants.{Line, Hidden, End}
-use Rattle.sccs_versions.proofs.RunLaws.{Passed, holds_behind, kept_or_none, run_behind, run_lines, run_text, same_length, some_bytes, text_append}
+use Rattle.sccs_versions.proofs.RunLaws.{Passed, holds_behind, kept_or_none, run_behind, run_lines, run_text, text_append}
 
 -- ---- what is shown of lines, one behind others
 
@@ -79,10 +81,10 @@ shown_on live r r2 count before are passed h =
     let run = at_hand r count in
     record {
       items = texts_behind (cut run).lines before;
-      read = read_run live r r2 run before h passed (λ live before text behind some. are.stand live before text behind (subst (λ n. 0 < n) (same_length r.items.lines.held count are.fits) some));
+      read = read_run live r r2 run before h passed (λ live before text behind some. are.may.stand live before text behind (subst (λ n. 0 < n) (hand_long r.items count are.may) some));
       text_is = subst (λ set. text_before set (texts_behind (cut run).lines before) ≡ text_before set before ++ run) (sym passed.set)
           (ap (λ lines. text_of_lines (shown r.set lines)) (lines_on (cut run).lines before)
-          ∙ (more_text r.set (lines_before before) (run_lines before (cut run).lines) ∙ ap (λ text. text_before r.set before ++ text) (shown_first r.set before run are.run.0 (kept_or_none r count before are.kept h.holds))));
+          ∙ (more_text r.set (lines_before before) (run_lines before (cut run).lines) ∙ ap (λ text. text_before r.set before ++ text) (shown_first r.set before run are.may.run.0 (kept_or_none r count before are.kept h.holds))));
     }
 
 hidden_on : (live : List ℕ) (r r2 : VersionPlace) (run : List ℕ) (before : List Item) (kept : Bool) → Passed run r r2 → ((live : List ℕ) (before : List Item) (text : List ℕ) → IsBehind live before r.items → 0 < length run → may_stand live before (Text text) ≡ true)

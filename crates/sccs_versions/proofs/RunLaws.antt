@@ -1,21 +1,18 @@
 -- Text lines that stand together.
-use Rattle.std.proofs.Common.{◌≡◌, ℕ, ◌+◌, ◌<◌, ◌≤◌, ◌⊎◌, Bool, true, false, List, [], ◌∷◌, ◌++◌, length, map, take, Result, Ok, Err, inl, inr, refl, sym, ap, subst, ◌∙◌, arith, drop, append_assoc}
+use Rattle.std.proofs.Common.{◌≡◌, ℕ, ◌⊎◌, Bool, true, false, List, [], ◌∷◌, ◌++◌, length, map, Result, Ok, Err, inl, inr, refl, sym, ap, subst, ◌∙◌, append_assoc}
 use Rattle.std.specs.List.{AllByRecursion}
-use Rattle.std.proofs.lemmas.List.{length-take-le}
-use Rattle.sccs_base.specs.Cut.{Cut, cut}
+use Rattle.sccs_base.specs.Cut.{cut}
 use Rattle.sccs_history.specs.Numbers.{front_if}
-use Rattle.sccs_history.specs.Body.{HistoryLine, inserter, line_at, lines_behind, may_stand}
+use Rattle.sccs_history.specs.Body.{HistoryLine, inserter, line_at, lines_behind}
 use Rattle.sccs_history.specs.Select.{select, shows}
 use Rattle.sccs_history.specs.declared.headers.Item.{Item}
 use Rattle.sccs_history.specs.declared.headers.Item.TheVariants.{Text}
 use Rattle.sccs_grammar.specs.Written.{ended, bytes_of}
-use Rattle.sccs_grammar.specs.Items.{items_from}
-use Rattle.sccs_table.specs.Runs.{IsRun, PassesRun}
-use Rattle.sccs_table.specs.Standing.{Standing, StandsIn, left}
-use Rattle.sccs_table.proofs.RunLaws.{lines_bound, run_bytes, run_passed}
+use Rattle.sccs_table.proofs.RunLaws.{run_bytes}
+use Rattle.sccs_body.specs.Reader.{ItemPlace}
 use Rattle.sccs_body.specs.ItemsRead.{IsBehind, texts_behind}
-use Rattle.sccs_body.proofs.BodyLaws.{onto}
-use Rattle.sccs_body.proofs.TextLaws.{behind_texts, items_from_texts}
+use Rattle.sccs_body.specs.ToCome.{TextsCome, ToCome, onto}
+use Rattle.sccs_body.proofs.ComingLaws.{nothing_at_hand, nothing_may_pass}
 use Rattle.sccs_weave.specs.Regions.{Holds}
 use Rattle.sccs_weave.specs.declared.regions.Region.{Region}
 use Rattle.sccs_versions.specs.Coming.{ComeFirst, Coming, shown, text_of_lines}
@@ -55,21 +52,9 @@ run_hidden set before (line ∷ lines) items is =
 
 -- ---- lines of a file that were passed over
 
-onto_read : (given : List Item) (read : Result (List Item) ℕ) (rest : List Item) → onto given read ≡ Ok rest → (items : List Item) × (read ≡ Ok items) × (rest ≡ given ++ items)
+pub onto_read : (given : List Item) (read : Result (List Item) ℕ) (rest : List Item) → onto given read ≡ Ok rest → (items : List Item) × (read ≡ Ok items) × (rest ≡ given ++ items)
 onto_read given (Ok items) rest is = (items, refl, cc)
 onto_read given (Err k) rest is = absurd cc
-
-pub some_bytes : (run : List ℕ) → 0 < length (cut run).lines → 0 < length run
-some_bytes run some = omega (arith, lines_bound run)
-
-lines_read : (file live : List ℕ) (before : List Item) (n : ℕ) (rest : List Item) (old new : Standing) (run : List ℕ) → IsRun run → StandsIn old file → PassesRun run file old new → (0 < length run → (text : List ℕ) → may_stand live before (Text text) ≡ true)
-    → items_from live n before (left old file).lines (left old file).tail ≡ Ok rest
-    → (items : List Item) × (items_from live (n + length (cut run).lines) (texts_behind (cut run).lines before) (left new file).lines (left new file).tail ≡ Ok items) × (rest ≡ map Text (cut run).lines ++ items)
-lines_read file live before n rest old new run is stands passes stand read =
-    let passed = passes stands in
-    onto_read (map Text (cut run).lines) (items_from live (n + length (cut run).lines) (texts_behind (cut run).lines before) (left new file).lines (left new file).tail) rest
-    (sym (items_from_texts live n before (cut run).lines (left new file).lines (left new file).tail is.1 (λ some. stand (some_bytes run some)))
-    ∙ (sym (ap (λ (c : Cut). items_from live n before c.lines c.tail) passed.1) ∙ read))
 
 pub holds_behind : (set : List ℕ) (lines : List (List ℕ)) (before : List Item) (w : List Region) → Holds set before w → Holds set (texts_behind lines before) w
 holds_behind set [] before w holds = holds
@@ -79,15 +64,15 @@ holds_behind set (line ∷ lines) before w holds = holds_behind set lines (Text 
 pub record Passed (run : List ℕ) (r r2 : VersionPlace) : Type 0 where
   pub set : r2.set ≡ r.set
   pub regions : r2.regions ≡ r.regions
-  pub number : r2.items.number ≡ r.items.number + length (cut run).lines
   pub behind : (live : List ℕ) (before : List Item) → IsBehind live before r.items → IsBehind live (texts_behind (cut run).lines before) r2.items
-  pub told : (file : List ℕ) → PassesRun run file r.items.lines r2.items.lines
+  pub told : (file live : List ℕ) (before : List Item) (found : Result (List Item) ℕ) → ToCome file live before found r.items → TextsCome file live before found run r2.items
 
 -- what is still to come when the reader has passed over a run
-passed_on : (file : List ℕ) (r r2 : VersionPlace) (run : List ℕ) (lines : List HistoryLine) → (p : Coming file r lines) → IsRun run → Passed run r r2 → ((live : List ℕ) (before : List Item) (text : List ℕ) → IsBehind live before r.items → 0 < length run → may_stand live before (Text text) ≡ true)
+passed_on : (file : List ℕ) (r r2 : VersionPlace) (run : List ℕ) (lines : List HistoryLine) → (p : Coming file r lines) → Passed run r r2
     → (items : List Item) × (p.rest ≡ map Text (cut run).lines ++ items) × Coming file r2 (shown r.set (lines_behind (texts_behind (cut run).lines p.before) items))
-passed_on file r r2 run lines p is passed stand =
-    let split = lines_read file p.live p.before r.items.number p.rest r.items.lines r2.items.lines run is p.stands (passed.told file) (λ some text. stand p.live p.before text p.behind some) p.items in
+passed_on file r r2 run lines p passed =
+    let come = passed.told file p.live p.before (Ok p.rest) p.comes in
+    let split = onto_read (map Text (cut run).lines) come.rest p.rest (sym come.first) in
     let behind2 = texts_behind (cut run).lines p.before in (
       split.0,
       split.2,
@@ -95,18 +80,15 @@ passed_on file r r2 run lines p is passed stand =
         live = p.live;
         before = behind2;
         rest = split.0;
-        behind = passed.behind p.live p.before p.behind;
         holds = subst (λ set. Holds set behind2 r2.regions) (sym passed.set) (subst (λ w. Holds r.set behind2 w) (sym passed.regions) (holds_behind r.set (cut run).lines p.before r.regions p.holds));
-        stands = (passed.told file p.stands).0;
-        items = subst (λ k. items_from p.live k behind2 (left r2.items.lines file).lines (left r2.items.lines file).tail ≡ Ok split.0) (sym passed.number) split.1;
+        comes = subst (λ found. ToCome file p.live behind2 found r2.items) split.1 come.on;
         lines_are = ap (λ set. shown set (lines_behind behind2 split.0)) (sym passed.set);
       },
     )
 
-pub hidden_passed : (file : List ℕ) (r r2 : VersionPlace) (run : List ℕ) (lines : List HistoryLine) (kept : Bool) → IsRun run → Passed run r r2 → ((live : List ℕ) (before : List Item) (text : List ℕ) → IsBehind live before r.items → 0 < length run → may_stand live before (Text text) ≡ true)
-    → ((set : List ℕ) (before : List Item) (text : List ℕ) → Holds set before r.regions → kept ≡ shows set (line_at before text)) → kept ≡ false → Coming file r lines → Coming file r2 lines
-hidden_passed file r r2 run lines kept is passed stand keep none p =
-    let on = passed_on file r r2 run lines p is passed stand in
+pub hidden_passed : (file : List ℕ) (r r2 : VersionPlace) (run : List ℕ) (lines : List HistoryLine) (kept : Bool) → Passed run r r2 → ((set : List ℕ) (before : List Item) (text : List ℕ) → Holds set before r.regions → kept ≡ shows set (line_at before text)) → kept ≡ false → Coming file r lines → Coming file r2 lines
+hidden_passed file r r2 run lines kept passed keep none p =
+    let on = passed_on file r r2 run lines p passed in
     subst (λ coming. Coming file r2 coming)
     (sym (p.lines_are ∙ (ap (λ rest. shown r.set (lines_behind p.before rest)) on.1 ∙ run_hidden r.set p.before (cut run).lines on.0 (sym (keep r.set p.before [] p.holds) ∙ none)))) on.2
 
@@ -121,43 +103,32 @@ first_shown set before run items (inl is) = run_shown set before (cut run).lines
 first_shown set before run items (inr none) =
     subst (λ bytes. shown set (lines_behind before (map Text (cut bytes).lines ++ items)) ≡ run_lines before (cut bytes).lines ++ shown set (lines_behind (texts_behind (cut bytes).lines before) items)) (sym none) (no_lines set before items)
 
-nothing_taken : (bytes : List ℕ) (count : ℕ) → count ≡ 0 → take count bytes ≡ []
-nothing_taken bytes count none = ap (λ n. take n bytes) none
-
 pub kept_or_none : (r : VersionPlace) (count : ℕ) (before : List Item) → ((set : List ℕ) (before : List Item) (text : List ℕ) → Holds set before r.regions → shows set (line_at before text) ≡ true) ⊎ (count ≡ 0) → Holds r.set before r.regions
     → (shows r.set (line_at before []) ≡ true) ⊎ (at_hand r count ≡ [])
 kept_or_none r count before (inl kept) holds = inl (kept r.set before [] holds)
-kept_or_none r count before (inr none) holds = inr (nothing_taken r.items.lines.held count none)
-
-pub same_length : (bytes : List ℕ) (count : ℕ) → count ≤ length bytes → length (take count bytes) ≡ count
-same_length bytes count fits = length-take-le count bytes fits
+kept_or_none r count before (inr none) holds = inr (nothing_at_hand r.items count none)
 
 pub lines_passed : (file : List ℕ) (r r2 : VersionPlace) (count : ℕ) (lines : List HistoryLine) → AreShown r count → Passed (at_hand r count) r r2 → Coming file r lines → ComeFirst file r r2 (at_hand r count) lines
 lines_passed file r r2 count lines are passed p =
     let run = at_hand r count in
-    let on = passed_on file r r2 run lines p are.run passed (λ live before text behind some. are.stand live before text behind (subst (λ n. 0 < n) (same_length r.items.lines.held count are.fits) some)) in
+    let on = passed_on file r r2 run lines p passed in
     record {
       first = run_lines p.before (cut run).lines;
       rest = shown r.set (lines_behind (texts_behind (cut run).lines p.before) on.0);
       whole = p.lines_are ∙ (ap (λ rest. shown r.set (lines_behind p.before rest)) on.1 ∙ first_shown r.set p.before run on.0 (kept_or_none r count p.before are.kept p.holds));
-      text_is = run_bytes run are.run.0 ∙ run_text p.before (cut run).lines;
+      text_is = run_bytes run are.may.run.0 ∙ run_text p.before (cut run).lines;
       inserted = λ n is. run_inserted p.before (cut run).lines n (sym (is p.before p.holds.opens));
       on = on.2;
     }
 
 -- the same, as the code goes over lines that aren't shown
-pub hidden_run : (file : List ℕ) (r r2 : VersionPlace) (text : List ℕ) (lines : List HistoryLine) (kept : Bool) → at_hand r (length text) ≡ text → IsRun text → Passed (at_hand r (length text)) r r2
-    → ((live : List ℕ) (before : List Item) (line : List ℕ) → IsBehind live before r.items → 0 < length text → may_stand live before (Text line) ≡ true)
+pub hidden_run : (file : List ℕ) (r r2 : VersionPlace) (text : List ℕ) (lines : List HistoryLine) (kept : Bool) → at_hand r (length text) ≡ text → Passed (at_hand r (length text)) r r2
     → ((set : List ℕ) (before : List Item) (line : List ℕ) → Holds set before r.regions → kept ≡ shows set (line_at before line)) → kept ≡ false → Coming file r lines → Coming file r2 lines
-hidden_run file r r2 text lines kept front is passed stand keep none p =
-    hidden_passed file r r2 text lines kept is (subst (λ run. Passed run r r2) front passed) stand keep none p
-
-empty_run : IsRun []
-unfolding cut
-empty_run = (refl, tt)
+hidden_run file r r2 text lines kept front passed keep none p =
+    hidden_passed file r r2 text lines kept (subst (λ run. Passed run r r2) front passed) keep none p
 
 pub none_shown : (r : VersionPlace) → AreShown r 0
-none_shown r = record { fits = omega arith; run = empty_run; stand = λ live before text behind some. absurd (omega arith); kept = inr refl }
+none_shown r = record { may = nothing_may_pass r.items; kept = inr refl }
 
 -- ---- the lines at hand, before they are passed over
 
@@ -165,33 +136,21 @@ pub text_append : (xs ys : List HistoryLine) → text_of_lines (xs ++ ys) ≡ te
 text_append [] ys = refl
 text_append (line ∷ xs) ys = ap (λ more. ended line.text ++ more) (text_append xs ys) ∙ sym (append_assoc (ended line.text) (text_of_lines xs) (text_of_lines ys))
 
-past : VersionPlace → ℕ → VersionPlace
-past r count = record {
-  set = r.set;
-  items = record {
-    lines = record { name = r.items.lines.name; held = drop count r.items.lines.held; place = r.items.lines.place + count; size = r.items.lines.size; lines = r.items.lines.lines };
-    state = r.items.state;
-    number = r.items.number + length (cut (take count r.items.lines.held)).lines;
-  };
-  regions = r.regions;
-}
+-- what a reader of items says of the lines at hand
+abbrev pub ComeAtHand : List ℕ → ItemPlace → List ℕ → Type 0
+ComeAtHand file r text = (live : List ℕ) (before : List Item) (found : Result (List Item) ℕ) → ToCome file live before found r → (rest : Result (List Item) ℕ) × (found ≡ onto (map Text (cut text).lines) rest)
 
-past_passed : (r : VersionPlace) (count : ℕ) → count ≤ length r.items.lines.held → IsRun (at_hand r count) → Passed (at_hand r count) r (past r count)
-unfolding past
-past_passed r count fits is = record {
-  set = refl;
-  regions = refl;
-  number = refl;
-  behind = λ live before knows. behind_texts live (cut (take count r.items.lines.held)).lines before r.items.state knows;
-  told = λ file. run_passed r.items.lines (past r count).items.lines file count fits is.0 refl refl refl;
-}
-
-pub comes_first : (file : List ℕ) (r : VersionPlace) (text : List ℕ) (lines : List HistoryLine) → AreShown r (length text) → text ≡ at_hand r (length text) → Coming file r lines → (rest : List ℕ) × (text_of_lines lines ≡ text ++ rest)
-comes_first file r text lines are is p =
-    let come = lines_passed file r (past r (length text)) (length text) lines are (past_passed r (length text) are.fits are.run) p in (
-      text_of_lines come.rest,
-      ap text_of_lines come.whole ∙ (text_append come.first come.rest ∙ ap (λ front. front ++ text_of_lines come.rest) (sym come.text_is ∙ sym is)),
-    )
+pub comes_first : (file : List ℕ) (r : VersionPlace) (text : List ℕ) (lines : List HistoryLine) → AreShown r (length text) → at_hand r (length text) ≡ text → ComeAtHand file r.items text → Coming file r lines → (rest : List ℕ) × (text_of_lines lines ≡ text ++ rest)
+comes_first file r text lines are is first p =
+    let come = first p.live p.before (Ok p.rest) p.comes in
+    let split = onto_read (map Text (cut text).lines) come.0 p.rest (sym come.1) in
+    let behind2 = shown r.set (lines_behind (texts_behind (cut text).lines p.before) split.0) in
+    let shown_is : lines ≡ run_lines p.before (cut text).lines ++ behind2 =
+    p.lines_are ∙ (ap (λ rest. shown r.set (lines_behind p.before rest)) split.2
+    ∙ first_shown r.set p.before text split.0 (subst (λ t. (shows r.set (line_at p.before []) ≡ true) ⊎ (t ≡ [])) is (kept_or_none r (length text) p.before are.kept p.holds))) in
+    let text_is : text ≡ text_of_lines (run_lines p.before (cut text).lines) =
+    run_bytes text (subst (λ t. (cut t).tail ≡ []) is are.may.run.0) ∙ run_text p.before (cut text).lines in
+    (text_of_lines behind2, ap text_of_lines shown_is ∙ (text_append (run_lines p.before (cut text).lines) behind2 ∙ ap (λ front. front ++ text_of_lines behind2) (sym text_is)))
 
 -- ---- the text of all lines
 

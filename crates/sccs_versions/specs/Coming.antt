@@ -1,19 +1,17 @@
 -- The lines that a reader of a version is still to give.
-use Rattle.std.specs.Prelude.{◌≡◌, ℕ, true, false, List, [], ◌∷◌, ◌++◌, length, Option, Some, Result, Ok, Err}
+use Rattle.std.specs.Prelude.{◌≡◌, ℕ, true, false, List, [], ◌∷◌, ◌++◌, Option, Some, Result, Ok, Err}
 use Rattle.std.specs.List.{AllByRecursion}
 use Rattle.sccs_history.specs.Numbers.{front_if, has}
 use Rattle.sccs_history.specs.Body.{HistoryLine, line_at, lines_behind}
 use Rattle.sccs_history.specs.Select.{shows}
 use Rattle.sccs_history.specs.declared.headers.Item.{Item}
 use Rattle.sccs_history.specs.declared.headers.Item.TheVariants.{Text}
-use Rattle.sccs_grammar.specs.Items.{items_from}
 use Rattle.sccs_grammar.specs.Written.{ended}
 use Rattle.sccs_grammar.specs.declared.faults.FileFault.{FileFault}
 use Rattle.sccs_grammar.specs.declared.faults.FileFault.TheVariants.{Failed, Memory}
-use Rattle.sccs_table.specs.Standing.{StandsIn, left}
 use Rattle.sccs_table.specs.declared.fronts.Front.{Front}
 use Rattle.sccs_body.specs.BodyFile.{items_of}
-use Rattle.sccs_body.specs.ItemsRead.{IsBehind}
+use Rattle.sccs_body.specs.ToCome.{IsFrontFor, ToCome}
 use Rattle.sccs_weave.specs.Regions.{Holds}
 use Rattle.sccs_weave.specs.declared.regions.Region.{Region}
 use Rattle.sccs_versions.specs.Place.{IsInserter, VersionPlace}
@@ -35,10 +33,8 @@ pub record Coming (file : List ℕ) (r : VersionPlace) (lines : List HistoryLine
   pub live : List ℕ
   pub before : List Item
   pub rest : List Item
-  pub behind : IsBehind live before r.items
   pub holds : Holds r.set before r.regions
-  pub stands : StandsIn r.items.lines file
-  pub items : items_from live r.items.number before (left r.items.lines file).lines (left r.items.lines file).tail ≡ Ok rest
+  pub comes : ToCome file live before (Ok rest) r.items
   pub lines_are : lines ≡ shown r.set (lines_behind before rest)
 
 -- Of the lines to come these are the first, the delta of the place inserted them, and others follow.
@@ -76,9 +72,9 @@ ShowsItem set before item regions (Ok End) = ⊥
 ShowsItem set before item regions (Err Memory) = Unit {0}
 ShowsItem set before item regions (Err _) = ⊥
 
--- The file is told whole, a front's body has these items, and serial 0 isn't in the set.
+-- The file is told whole, a front was read from it, its body has these items, and serial 0 isn't in the set.
 pub record IsBody (told : Option (List ℕ)) (front : Front) (set file : List ℕ) (items : List Item) : Type 0 where
   pub told_is : told ≡ Some file
-  pub size : front.size ≡ length file
+  pub front_is : IsFrontFor file front
   pub items_are : items_of file front ≡ Ok items
   pub no_zero : has set 0 ≡ false

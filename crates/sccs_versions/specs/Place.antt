@@ -1,12 +1,10 @@
 -- Where a reader of a version stands.
-use Rattle.std.specs.Prelude.{◌≡◌, ℕ, ◌-◌, ◌<◌, ◌≤◌, ◌⊎◌, true, List, length, take}
-use Rattle.sccs_history.specs.Body.{inserter, line_at, may_stand}
+use Rattle.std.specs.Prelude.{◌≡◌, ℕ, ◌⊎◌, true, List}
+use Rattle.sccs_history.specs.Body.{inserter, line_at}
 use Rattle.sccs_history.specs.Select.{shows}
 use Rattle.sccs_history.specs.declared.headers.Item.{Item}
-use Rattle.sccs_table.specs.Runs.{IsRun}
-use Rattle.sccs_body.specs.Reader.{ItemPlace}
-use Rattle.sccs_body.specs.ItemsRead.{IsBehind}
-use Rattle.sccs_history.specs.declared.headers.Item.TheVariants.{Text}
+use Rattle.sccs_body.specs.Reader.{ItemPlace, name_read, at_hand as items_at_hand, bytes_left as items_left}
+use Rattle.sccs_body.specs.ToCome.{MayPass}
 use Rattle.sccs_weave.specs.Regions.{Holds, Opens}
 use Rattle.sccs_weave.specs.declared.regions.Region.{Region}
 
@@ -16,25 +14,28 @@ pub record VersionPlace : Type 0 where
   pub items : ItemPlace
   pub regions : List Region
 
--- how many bytes of the file are left
+-- how many bytes may be read yet
 abbrev pub bytes_left : VersionPlace → ℕ
-bytes_left r = r.items.lines.size - r.items.lines.place
+bytes_left r = items_left r.items
 
 -- the file that is read
 abbrev pub name_of : VersionPlace → List ℕ
-name_of r = r.items.lines.name
+name_of r = name_read r.items
 
--- so many of the bytes that are held
+-- so many of the bytes that were read and not given yet
 abbrev pub at_hand : VersionPlace → ℕ → List ℕ
-at_hand r count = take count r.items.lines.held
+at_hand r count = items_at_hand r.items count
 
--- So many bytes that are held are whole lines that may stand and that the set shows.
+-- So many bytes that were read are whole lines that may stand and that the set shows.
 pub record AreShown (r : VersionPlace) (count : ℕ) : Type 0 where
-  pub fits : count ≤ length r.items.lines.held
-  pub run : IsRun (at_hand r count)
-  pub stand : (live : List ℕ) (before : List Item) (text : List ℕ) → IsBehind live before r.items → 0 < count → may_stand live before (Text text) ≡ true
+  pub may : MayPass r.items count
   pub kept : ((set : List ℕ) (before : List Item) (text : List ℕ) → Holds set before r.regions → shows set (line_at before text) ≡ true) ⊎ (count ≡ 0)
 
 -- a line behind these items was inserted by this serial
 abbrev pub IsInserter : List Region → ℕ → Type 0
 IsInserter regions n = (before : List Item) → Opens before regions → n ≡ inserter before
+
+-- What the first reading found of the file stays: its size, and its plain sum.
+pub record KeepsFirst (old new : VersionPlace) : Type 0 where
+  pub size : new.items.size ≡ old.items.size
+  pub sum : new.items.sum ≡ old.items.sum

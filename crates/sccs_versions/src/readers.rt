@@ -1,16 +1,16 @@
 ghost use Rattle.std.specs.Prelude.{◌≡◌, ◌≢◌, ◌++◌, [], false, ◌<◌, ◌≤◌, ℕ, List, Option, length, take, Some, Ok, Err, IfOk, IsTrue};
-ghost use Rattle.sccs_base.specs.Stream.{Rose};
 ghost use Rattle.sccs_disk.specs.Told.{seen};
 ghost use Rattle.sccs_grammar.specs.declared.faults.FileFault.TheVariants as faults;
 ghost use Rattle.sccs_history.specs.Body.{HistoryLine, lines_of};
 ghost use Rattle.sccs_history.specs.Applied.{live_serials};
 ghost use Rattle.sccs_history.specs.Numbers.{has};
 ghost use Rattle.sccs_history.specs.declared.headers.Item.{Item};
-ghost use Rattle.sccs_table.specs.FrontFile.{IsPlaced};
+ghost use Rattle.sccs_table.specs.FrontFile.{IsFirst, ReadsDisk};
 ghost use Rattle.sccs_table.specs.Standing.{bytes_in};
+ghost use Rattle.sccs_body.specs.ToCome.{Changes};
 ghost use Rattle.sccs_weave.specs.Regions.{Holds};
 ghost use Rattle.sccs_versions.specs.Coming.{ComeFirst, Coming, GivesNext, IsBody, ShowsItem, shown, text_of_lines};
-ghost use Rattle.sccs_versions.specs.Place.{AreShown, IsInserter, at_hand, bytes_left, name_of};
+ghost use Rattle.sccs_versions.specs.Place.{AreShown, IsInserter, KeepsFirst, at_hand, bytes_left, name_of};
 ghost use Rattle.sccs_versions.specs.WasRead.{HasRead, ReadsNext, ReadsOn};
 ghost use Rattle.sccs_versions.specs.declared.readers.Next.TheVariants as next;
 
@@ -58,6 +58,7 @@ impl<'a> Model for VersionReader<'a> {
 fn show_item(weaver: &mut Weaver, set: &Applied, item: Item) -> Result<Next, FileFault>
     ensures shows { (before : List Item) → Holds set.now before weaver.old → ShowsItem set.now before item weaver.new result }
     ensures never { result ≢ Err faults.Failed }
+    ensures first { IsFirst result }
 {
     let Ok(()) = weaver.push_item(&item, set) else {
         return Err(FileFault::Memory);
@@ -85,10 +86,12 @@ impl<'a> VersionReader<'a> {
         set: &'a Applied,
     ) -> Result<VersionReader<'a>, Memory>
         ensures name { IfOk result (λ r. name_of r ≡ name.now) }
-        ensures coming { IsPlaced front.now → IfOk result (λ r. (told : Option (List ℕ)) (file : List ℕ) (items : List Item)
-            → IsBody told front.now set.now file items → Coming file r (shown set.now (lines_of items))) }
+        ensures coming { (told : Option (List ℕ)) (file : List ℕ) (items : List Item) → IsBody told front.now set.now file items
+            → IfOk result (λ r. Coming file r (shown set.now (lines_of items))) }
         ensures read { IfOk result (λ r. has set.now 0 ≡ false → HasRead (live_serials front.now.header.records) r []) }
         ensures set { IfOk result (λ r. r.set ≡ set.now) }
+        ensures size { IfOk result (λ r. r.items.size ≡ front.now.size) }
+        ensures sum { IfOk result (λ r. r.items.sum ≡ front.now.sum) }
     {
         let items = ItemReader::new(alloc, name, front)?;
         Ok(VersionReader {
@@ -125,6 +128,7 @@ impl<'a> VersionReader<'a> {
     pub fn pass(&mut self, count: usize)
         requires { AreShown self.old count }
         ensures set { self.new.set ≡ self.old.set }
+        ensures first { KeepsFirst self.old self.new }
         ensures name { name_of self.new ≡ name_of self.old }
         ensures left { bytes_left self.new ≤ bytes_left self.old }
         ensures coming { (file : List ℕ) (lines : List HistoryLine) → Coming file self.old lines
@@ -138,6 +142,7 @@ impl<'a> VersionReader<'a> {
     #[inline(always)]
     fn pass_hidden(&mut self)
         ensures set { self.new.set ≡ self.old.set }
+        ensures first { KeepsFirst self.old self.new }
         ensures name { name_of self.new ≡ name_of self.old }
         ensures left { bytes_left self.new ≤ bytes_left self.old }
         ensures coming { (file : List ℕ) (lines : List HistoryLine) → Coming file self.old lines → Coming file self.new lines }
@@ -150,12 +155,13 @@ impl<'a> VersionReader<'a> {
     }
 
     /// The next line that the set shows, or that nothing of the next item is shown; the end of the
-    /// body. BadFormat has the number of the line at which no item may stand.
+    /// body. BadFormat has the number of the line at which no item may stand; `Changed` comes as with an
+    /// `ItemReader`.
     pub fn next<D: Disk>(&mut self, disk: &mut D) -> Result<Next, FileFault>
-        ensures same { D.told disk.new ≡ D.told disk.old }
-        ensures later { D.faults disk.old ≤ D.faults disk.new }
-        ensures cause { result ≡ Err faults.Failed → Rose (D.faults disk.old) (D.faults disk.new) }
+        ensures frame { ReadsDisk D.told D.faults disk.old disk.new result }
+        ensures changed { Changes self.old.items result }
         ensures set { self.new.set ≡ self.old.set }
+        ensures first { KeepsFirst self.old self.new }
         ensures name { name_of self.new ≡ name_of self.old }
         ensures further { IfOk result (λ n. n ≢ next.End → bytes_left self.new < bytes_left self.old) }
         ensures told { (file : List ℕ) (lines : List HistoryLine) → bytes_in (seen (D.told disk.old)) (name_of self.old) ≡ Some file
@@ -163,10 +169,9 @@ impl<'a> VersionReader<'a> {
         ensures read { (live : List ℕ) (before : List Item) → HasRead live self.old before → ReadsNext live self.new before result }
     {
         self.pass_hidden();
-        match self.items.next(disk) {
-            Ok(Some(item)) => show_item(&mut self.weaver, self.set, item),
-            Ok(None) => Ok(Next::End),
-            Err(fault) => Err(fault),
+        match self.items.next(disk)? {
+            Some(item) => show_item(&mut self.weaver, self.set, item),
+            None => Ok(Next::End),
         }
     }
 }

@@ -12,7 +12,7 @@ returns-clause-coming c = λ file lines p.
     let gone : VersionPlace = record { set = c.self.inside.set.now; items = c.pass.new.self; regions = c.self.inside.weaver } in
     subst (λ r. ComeFirst file r gone (at_hand r c.args.count) lines) c.self.view_is
     (lines_passed file here gone c.args.count lines (subst (λ r. AreShown r c.args.count) (sym c.self.view_is) c.requires)
-    (record { set = refl; regions = refl; number = c.pass.ensures.number; behind = c.pass.ensures.behind; told = c.pass.ensures.told })
+    (record { set = refl; regions = refl; behind = c.pass.ensures.behind; told = c.pass.ensures.told })
     (subst (λ r. Coming file r lines) (sym c.self.view_is) p))
 
 pub returns-clause-read : goal.returns-clause-read
@@ -21,5 +21,5 @@ returns-clause-read c = λ live before h.
     let gone : VersionPlace = record { set = c.self.inside.set.now; items = c.pass.new.self; regions = c.self.inside.weaver } in
     subst (λ r. ReadsOn live gone before (at_hand r c.args.count)) c.self.view_is
     (shown_on live here gone c.args.count before (subst (λ r. AreShown r c.args.count) (sym c.self.view_is) c.requires)
-    (record { set = refl; regions = refl; number = c.pass.ensures.number; behind = c.pass.ensures.behind; told = c.pass.ensures.told })
+    (record { set = refl; regions = refl; behind = c.pass.ensures.behind; told = c.pass.ensures.told })
     (subst (λ r. HasRead live r before) (sym c.self.view_is) h))

@@ -1,5 +1,4 @@
 use Rattle.std.proofs.Common.{inl, length, sym, subst, ◌∙◌}
-use Rattle.sccs_table.specs.Runs.{IsRun}
 use Rattle.sccs_versions.specs.Coming.{Coming}
 use Rattle.sccs_versions.specs.Place.{AreShown, VersionPlace}
 use Rattle.sccs_versions.proofs.RunLaws.{comes_first, none_shown}
@@ -12,9 +11,7 @@ pub returns-then-keep-clause-first : goal.returns-then-keep-clause-first
 returns-then-keep-clause-first c = λ file lines p.
     let here : VersionPlace = record { set = c.self.inside.set.now; items = c.self.inside.items; regions = c.self.inside.weaver } in
     let are : AreShown here (length c.texts.result.now) = record {
-      fits = c.texts.ensures.fits;
-      run = subst IsRun (sym c.texts.ensures.front) c.texts.ensures.run;
-      stand = c.texts.ensures.stand;
+      may = c.texts.ensures.may;
       kept = inl (λ set before text holds. sym (c.keep.ensures set before text holds) ∙ c.if-keep.true);
     } in
-    comes_first file here c.texts.result.now lines are (sym c.texts.ensures.front) (subst (λ r. Coming file r lines) (sym c.self.view_is) p)
+    comes_first file here c.texts.result.now lines are c.texts.ensures.value (c.texts.ensures.first file) (subst (λ r. Coming file r lines) (sym c.self.view_is) p)
