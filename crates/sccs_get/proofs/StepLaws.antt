@@ -21,7 +21,7 @@ use Rattle.sccs_grammar.specs.Written.{bytes_of}
 use Rattle.sccs_grammar.specs.FileRefusals.{or_none, or_refusal, refusal_of, file_fault}
 use Rattle.sccs_grammar.specs.declared.faults.FileFault.{FileFault}
 use Rattle.sccs_grammar.specs.declared.faults.FileFault.TheVariants as faults
-use Rattle.sccs_table.specs.Standing.{bytes_in, file_in}
+use Rattle.sccs_table.specs.ReaderState.{bytes_in, file_in}
 use Rattle.sccs_table.specs.FrontFile.{IsPlaced, Refuses}
 use Rattle.sccs_table.specs.declared.fronts.Front.{Front}
 use Rattle.sccs_body.specs.BodyFile.{AnswersFile, ShowsFile}

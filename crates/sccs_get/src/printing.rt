@@ -10,7 +10,7 @@ ghost use Rattle.sccs_sid.specs.declared.refusals.StepFault.TheVariants as fault
 ghost use Rattle.sccs_steps.specs.Actions.{RefusesWithin};
 ghost use Rattle.sccs_steps.specs.Causes.{PrintCauses, WriteCauses};
 ghost use Rattle.sccs_table.specs.FrontFile.{IsPlaced};
-ghost use Rattle.sccs_table.specs.Standing.{bytes_in};
+ghost use Rattle.sccs_table.specs.ReaderState.{bytes_in};
 ghost use Rattle.sccs_versions.specs.Coming.{Coming, IsBody, shown, text_of_lines};
 ghost use Rattle.sccs_versions.specs.Place.{bytes_left, name_of};
 ghost use Rattle.sccs_versions.specs.WasRead.{HasRead};

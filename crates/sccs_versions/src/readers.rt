@@ -6,7 +6,7 @@ ghost use Rattle.sccs_history.specs.Applied.{live_serials};
 ghost use Rattle.sccs_history.specs.Numbers.{has};
 ghost use Rattle.sccs_history.specs.declared.headers.Item.{Item};
 ghost use Rattle.sccs_table.specs.FrontFile.{IsFirst, ReadsDisk};
-ghost use Rattle.sccs_table.specs.Standing.{bytes_in};
+ghost use Rattle.sccs_table.specs.ReaderState.{bytes_in};
 ghost use Rattle.sccs_body.specs.ToCome.{Changes};
 ghost use Rattle.sccs_weave.specs.Regions.{Holds};
 ghost use Rattle.sccs_versions.specs.Coming.{ComeFirst, Coming, GivesNext, IsBody, ShowsItem, shown, text_of_lines};

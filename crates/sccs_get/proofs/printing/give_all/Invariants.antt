@@ -2,7 +2,7 @@ use Rattle.std.proofs.Common.{◌≡◌, ◌≤◌, ℕ, List, Some}
 use Rattle.sccs_disk.specs.Told.{seen}
 use Rattle.sccs_history.specs.Body.{HistoryLine}
 use Rattle.sccs_history.specs.declared.headers.Item.{Item}
-use Rattle.sccs_table.specs.Standing.{bytes_in}
+use Rattle.sccs_table.specs.ReaderState.{bytes_in}
 use Rattle.sccs_versions.specs.Coming.{Coming}
 use Rattle.sccs_versions.specs.Place.{bytes_left, name_of}
 use Rattle.sccs_versions.specs.WasRead.{HasRead}

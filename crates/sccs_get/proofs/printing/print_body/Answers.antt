@@ -2,7 +2,7 @@ use Rattle.std.proofs.Common.{[], ◌∙◌, ap, subst}
 use Rattle.sccs_disk.specs.Told.{seen}
 use Rattle.sccs_history.specs.Applied.{live_serials}
 use Rattle.sccs_history.specs.Body.{lines_of}
-use Rattle.sccs_table.specs.Standing.{bytes_in}
+use Rattle.sccs_table.specs.ReaderState.{bytes_in}
 use Rattle.sccs_versions.specs.Coming.{shown, text_of_lines}
 use Rattle.sccs_get.specs.Printing.{GivesAll, ReadWhole}
 use Rattle.sccs_get.proofs.PrintLaws.{print_whole, read_whole}

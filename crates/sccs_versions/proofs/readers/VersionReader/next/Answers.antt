@@ -1,6 +1,6 @@
 use Rattle.std.proofs.Common.{[], ap, refl, sym, subst, ◌∙◌}
 use Rattle.sccs_disk.specs.Told.{seen}
-use Rattle.sccs_table.specs.Standing.{bytes_in}
+use Rattle.sccs_table.specs.ReaderState.{bytes_in}
 use Rattle.sccs_table.proofs.FrontLaws.{exit_is}
 use Rattle.sccs_body.specs.ToCome.{Changes, IsChange}
 use Rattle.sccs_versions.specs.Coming.{Coming}
