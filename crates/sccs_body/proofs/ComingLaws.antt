@@ -1,5 +1,5 @@
 -- What is still to come of a told file that is read again.
-use Rattle.std.proofs.Common.{◌≡◌, ℕ, suc, ◌+◌, ◌-◌, ◌<◌, ◌≤◌, max, min, true, List, [], ◌∷◌, ◌++◌, length, map, take, drop, Option, None, Some, Result, Ok, Err, inl, inr, refl, sym, ap, ◌∙◌, subst, arith}
+use Rattle.std.proofs.Common.{◌≡◌, ◌≢◌, ℕ, suc, ◌+◌, ◌-◌, ◌<◌, ◌≤◌, max, min, true, List, [], ◌∷◌, ◌++◌, length, map, take, drop, Option, None, Some, Result, Ok, Err, inl, inr, refl, sym, ap, ◌∙◌, subst, arith}
 use Rattle.std.specs.Prelude.{IfOk, IfSome}
 use Rattle.std.proofs.lemmas.Bool.{cases_lt}
 use Rattle.std.proofs.lemmas.List.{length-take-le}
@@ -23,7 +23,7 @@ use Rattle.sccs_table.proofs.FileLaws.{fresh_stands, sum_of_all}
 use Rattle.sccs_body.specs.BodyFile.{items_of}
 use Rattle.sccs_body.specs.ItemsRead.{Gives, GivesItem, GoesBehind, IsBehind, texts_behind}
 use Rattle.sccs_body.specs.Reader.{BodyPlace, ItemPlace, at_hand, bytes_left}
-use Rattle.sccs_body.specs.ToCome.{BeginsIn, GivesNext, IsFrontFor, KeepsFile, MayPass, TextsCome, ToCome, onto, rest_of}
+use Rattle.sccs_body.specs.ToCome.{Agrees, BeginsIn, GivesNext, IsFrontFor, KeepsFile, MayPass, TextsCome, ToCome, onto, rest_of}
 use Rattle.sccs_body.proofs.BodyLaws.{items_on, onto_none}
 use Rattle.sccs_body.proofs.TextLaws.{behind_texts, items_from_texts, some_bytes}
 use Rattle.sccs_table.proofs.RunLaws.{no_run, run_passed}
@@ -253,3 +253,17 @@ further_on old now new (Err fault) kept onward further = tt
 
 pub kept_on : (old now new : ItemPlace) → KeepsFile old now → KeepsFile now new → KeepsFile old new
 kept_on old now new first behind = record { name = behind.name ∙ first.name; limit = behind.limit ∙ first.limit; from = behind.from ∙ first.from; size = behind.size ∙ first.size; sum = behind.sum ∙ first.sum }
+
+abbrev pub fault_of : FileFault → Result (Unit {0}) FileFault
+fault_of fault = Err fault
+
+pub agrees_fault : (r : ItemPlace) (fault : FileFault) (result : Result (Option Item) FileFault) → result ≡ Err fault → ((line : ℕ) → fault_of fault ≢ fault_of (BadFormat line)) → Agrees r result
+agrees_fault r (BadFormat k) result is never = absurd (never k refl)
+agrees_fault r Failed result is never = subst (λ x. Agrees r x) (sym is) tt
+agrees_fault r Memory result is never = subst (λ x. Agrees r x) (sym is) tt
+agrees_fault r Missing result is never = subst (λ x. Agrees r x) (sym is) tt
+agrees_fault r TooLong result is never = subst (λ x. Agrees r x) (sym is) tt
+agrees_fault r NotSccs result is never = subst (λ x. Agrees r x) (sym is) tt
+agrees_fault r (BadSum s c) result is never = subst (λ x. Agrees r x) (sym is) tt
+agrees_fault r Encoded result is never = subst (λ x. Agrees r x) (sym is) tt
+agrees_fault r (Changed a b c d) result is never = subst (λ x. Agrees r x) (sym is) tt

@@ -63,11 +63,26 @@ GivesNext file live before found new (Err Failed) = Unit {0}
 GivesNext file live before found new (Err Memory) = Unit {0}
 GivesNext file live before found new (Err _) = ⊥
 
--- over any disk: a file was changed where its size or its sum is another than at the first reading
+-- over any disk: a file was changed where its size or its sum is another than that of the first reading
+abbrev pub IsChange : ℕ → ℕ → FileFault → Type 0
+IsChange size sum (Changed first_size first_sum size_now sum_now) = (first_size ≡ size) × (first_sum ≡ sum) × ((first_size ≢ size_now) ⊎ (first_sum ≢ sum_now))
+IsChange size sum _ = Unit {0}
+
 abbrev pub Changes : ItemPlace → {T : Type 0} → Result T FileFault → Type 0
 Changes r (Ok x) = Unit {0}
-Changes r (Err (Changed size sum size_now sum_now)) = (size ≡ r.size) × (sum ≡ r.sum) × ((size ≢ size_now) ⊎ (sum ≢ sum_now))
-Changes r (Err _) = Unit {0}
+Changes r (Err fault) = IsChange r.size r.sum fault
+
+-- All that this reading read has the size and the sum of the first.
+pub record AgreesWithFirst (r : ItemPlace) : Type 0 where
+  pub size : r.body.lines.place ≡ r.size
+  pub sum : r.body.lines.sum ≡ r.sum
+
+-- over any disk: a reading that ended without a change agrees with the first
+abbrev pub Agrees : ItemPlace → Result (Option Item) FileFault → Type 0
+Agrees r (Ok (Some item)) = Unit {0}
+Agrees r (Ok None) = AgreesWithFirst r
+Agrees r (Err (BadFormat line)) = AgreesWithFirst r
+Agrees r (Err _) = Unit {0}
 
 -- So many bytes that were read are whole text lines that may stand.
 pub record MayPass (r : ItemPlace) (count : ℕ) : Type 0 where
@@ -113,4 +128,6 @@ pub record Ends {D : Type 0} (told : D → Told) (faults : D → ℕ) (disk disk
   pub frame : ReadsDisk told faults disk disk2 result
   pub kept : KeepsFile old new
   pub changed : Changes old result
+  pub agrees : OnOk result (AgreesWithFirst new)
+  pub never : (line : ℕ) → result ≢ Err (BadFormat line)
   pub same : (file : List ℕ) → bytes_in (seen (told disk)) (name_read old) ≡ Some file → StandsIn old.body.lines file → old.size ≡ length file → IsPlainSumOf old.sum (behind_sum file) → IsOuter result

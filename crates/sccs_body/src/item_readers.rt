@@ -10,7 +10,7 @@ ghost use Rattle.sccs_table.specs.ReaderState.{bytes_in};
 ghost use Rattle.sccs_body.specs.BodyFile.{items_of};
 ghost use Rattle.sccs_body.specs.ItemsRead.{Goes, IsBehind, texts_behind};
 ghost use Rattle.sccs_body.specs.Reader.{at_hand, behind_hand, bytes_left, name_read};
-ghost use Rattle.sccs_body.specs.ToCome.{Begins, Changes, Ends, GivesNext, IsFrontFor, MayPass, ReadsNext, TextsCome, ToCome, onto};
+ghost use Rattle.sccs_body.specs.ToCome.{Agrees, Begins, Changes, Ends, GivesNext, IsFrontFor, MayPass, ReadsNext, TextsCome, ToCome, onto};
 
 use crate::body_readers::BodyReader;
 use sccs_base::{Memory, Name};
@@ -170,6 +170,7 @@ impl ItemReader {
         ensures sum { self.new.sum ≡ self.old.sum }
         ensures further { IfOk result (λ o. IfSome o (λ _. bytes_left self.new < bytes_left self.old)) }
         ensures changed { Changes self.old result }
+        ensures agrees { Agrees self.new result }
         ensures goes { (live : List ℕ) (before : List Item) → IsBehind live before self.old → Goes live before self.new result }
         ensures told { (file live : List ℕ) (before : List Item) (found : Result (List Item) ℕ) → bytes_in (seen (D.told disk.old)) (name_read self.old) ≡ Some file
             → ToCome file live before found self.old → GivesNext file live before found self.new result }

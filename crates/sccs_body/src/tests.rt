@@ -2,6 +2,7 @@ use crate::*;
 use sccs_base::Name;
 use sccs_disk::{Disk, MemoryDisk};
 use sccs_grammar::FileFault;
+use sccs_table::Front;
 use std::alloc::Global;
 use std::test::Fail;
 
@@ -19,6 +20,13 @@ const SIGNED: &[u8] =
 // the same with a stored sum that is one more
 const SIGNED_AND_ONE: &[u8] =
     b"\x01h06055\n\x01s 00002/00000/00000\n\x01d D 1.1 21/03/04 05:06:07 ann 1 0\n\x01c one\n\x01e\n\x01u\nann\n\x01U\n\x01f q a b\n\x01t\nabout\n\x01T\n\x01I 1\non\xe9\ntwo\n\x01E 1\n";
+
+// the first of these with another byte, and with a line more
+const OTHER_BYTE: &[u8] =
+    b"\x01h06178\n\x01s 00002/00000/00000\n\x01d D 1.1 21/03/04 05:06:07 ann 1 0\n\x01c one\n\x01e\n\x01u\nann\n\x01U\n\x01f q a b\n\x01t\nabout\n\x01T\n\x01I 1\none\ntwp\n\x01E 1\n";
+
+const LONGER: &[u8] =
+    b"\x01h06178\n\x01s 00002/00000/00000\n\x01d D 1.1 21/03/04 05:06:07 ann 1 0\n\x01c one\n\x01e\n\x01u\nann\n\x01U\n\x01f q a b\n\x01t\nabout\n\x01T\n\x01I 1\none\ntwo\n\x01E 1\nend\n";
 
 const UNKNOWN_SERIAL: &[u8] =
     b"\x01h05824\n\x01s 00002/00000/00000\n\x01d D 1.1 21/03/04 05:06:07 ann 1 0\n\x01c one\n\x01e\n\x01u\nann\n\x01U\n\x01f q a b\n\x01t\nabout\n\x01T\n\x01I 2\none\n\x01E 2\n";
@@ -108,13 +116,8 @@ fn faults_of_files(rt: HostRuntime) -> Result<(), Fail> {
 
 // how many text lines the body of an s-file has, as another program would count them
 fn count_lines<D: Disk>(alloc: Global, disk: &mut D, name: &Name) -> Result<u64, FileFault> {
-    let front = match inspect(alloc, disk, name) {
-        Ok(front) => front,
-        Err(fault) => return Err(fault),
-    };
-    let Ok(mut items) = ItemReader::new(alloc, name, &front) else {
-        return Err(FileFault::Memory);
-    };
+    let front = inspect(alloc, disk, name)?;
+    let mut items = ItemReader::new(alloc, name, &front)?;
     let mut count: u64 = 0;
     for _ in 0..front.size {
         match items.next(disk) {
@@ -160,7 +163,7 @@ fn long_file(alloc: Global, end: &[u8], off: u16) -> Result<Vec<u8>, Fail> {
     Ok(file)
 }
 
-// 15 calls: the length, the sum line, the header, 11 pieces of the body, and the end
+// 15 calls: the length, 12 pieces, the end of the body, and the end of the sum
 #[test]
 fn a_file_is_read_once(rt: HostRuntime) -> Result<(), Fail> {
     let name = Name::read(b"s.a").ok_or("a name")?;
@@ -200,7 +203,7 @@ fn faults_of_long_files(rt: HostRuntime) -> Result<(), Fail> {
 fn each_call_may_fail(rt: HostRuntime) -> Result<(), Fail> {
     let name = Name::read(b"s.a").ok_or("a name")?;
     let file = long_file(rt.alloc(), b"\x01E 1\n", 0)?;
-    let rows: [(&[u8], u64); 2] = [(&file, 15), (SIGNED, 7)];
+    let rows: [(&[u8], u64); 2] = [(&file, 15), (SIGNED, 6)];
     for (bytes, calls) in rows {
         for call in 1..=calls {
             let mut disk = MemoryDisk::new(rt.alloc(), 1000, &[call])?;
@@ -214,17 +217,44 @@ fn each_call_may_fail(rt: HostRuntime) -> Result<(), Fail> {
     Ok(())
 }
 
-// the last two of the seven calls are those of the second reading
-#[test]
-fn the_second_reading_may_fail(rt: HostRuntime) -> Result<(), Fail> {
-    let name = Name::read(b"s.a").ok_or("a name")?;
-    for call in 1..8 {
-        let mut disk = MemoryDisk::new(rt.alloc(), 1000, &[call])?;
-        disk.put(&name, SIGNED, true)?;
-        match inspect(rt.alloc(), &mut disk, &name) {
-            Ok(_) => return Err("a failing disk".into()),
-            Err(fault) => assert_eq!(rt; fault, FileFault::Failed),
+// how a reader ends over a disk, of a front that was read before
+fn end_of<D: Disk>(
+    alloc: Global,
+    disk: &mut D,
+    name: &Name,
+    front: &Front,
+) -> Result<(), FileFault> {
+    let mut items = ItemReader::new(alloc, name, front)?;
+    for _ in 0..100 {
+        if items.next(disk)?.is_none() {
+            return Ok(());
         }
     }
+    Ok(())
+}
+
+// another byte, more bytes, fewer bytes, fewer than the header has, and no file
+#[test]
+fn files_that_were_changed(rt: HostRuntime) -> Result<(), Fail> {
+    let name = Name::read(b"s.a").ok_or("a name")?;
+    let mut disk = disk_with(rt.alloc(), &name, FILE)?;
+    let Ok(front) = inspect(rt.alloc(), &mut disk, &name) else {
+        return Err("a file".into());
+    };
+    assert_eq!(rt; end_of(rt.alloc(), &mut disk, &name, &front), Ok(()));
+    let rows: [(&[u8], u64, u16); 4] = [
+        (OTHER_BYTE, 123, 6179),
+        (LONGER, 127, 6499),
+        (&FILE[..118], 118, 6017),
+        (&FILE[..20], 20, 581),
+    ];
+    for (bytes, size, sum) in rows {
+        let mut later = disk_with(rt.alloc(), &name, bytes)?;
+        let wanted = FileFault::Changed(123, 6178, size, sum);
+        assert_eq!(rt; end_of(rt.alloc(), &mut later, &name, &front), Err(wanted));
+    }
+    let mut empty = MemoryDisk::new(rt.alloc(), 1000, &[])?;
+    let wanted = FileFault::Changed(123, 6178, 0, 0);
+    assert_eq!(rt; end_of(rt.alloc(), &mut empty, &name, &front), Err(wanted));
     Ok(())
 }

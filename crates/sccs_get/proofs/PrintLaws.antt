@@ -120,6 +120,7 @@ next_fault file r lines faults.TooLong ended_so held out is given = absurd given
 next_fault file r lines faults.NotSccs ended_so held out is given = absurd given
 next_fault file r lines (faults.BadSum stored sum) ended_so held out is given = absurd given
 next_fault file r lines faults.Encoded ended_so held out is given = absurd given
+next_fault file r lines (faults.Changed a b c d) ended_so held out is given = absurd given
 
 -- ---- what was held back is given at the end
 

@@ -143,6 +143,7 @@ within_file faults.NotSccs = λ refusal is. is_check refusals.NotSccs refusal re
 within_file (faults.BadSum stored sum) = λ refusal is. is_check (refusals.BadSum stored sum) refusal refl is
 within_file (faults.BadFormat line) = λ refusal is. is_check (refusals.BadFormat line) refusal refl is
 within_file faults.Encoded = λ refusal is. is_check refusals.Encoded refusal refl is
+within_file (faults.Changed a b c d) = λ refusal is. is_check (refusals.Changed a b c d) refusal refl is
 within_file faults.Failed = λ refusal is. absurd cc
 within_file faults.Memory = λ refusal is. absurd cc
 
@@ -170,6 +171,7 @@ refused_by words files faults.NotSccs is = refused_file words files faults.NotSc
 refused_by words files (faults.BadSum stored sum) is = refused_file words files (faults.BadSum stored sum) is
 refused_by words files (faults.BadFormat line) is = refused_file words files (faults.BadFormat line) is
 refused_by words files faults.Encoded is = refused_file words files faults.Encoded is
+refused_by words files (faults.Changed a b c d) is = absurd is
 refused_by words files faults.Failed is = tt
 refused_by words files faults.Memory is = tt
 
@@ -200,13 +202,13 @@ set_ends (Some view) told2 name words front fault out same answers said = λ err
     (set_refused words (look view name) answers.0 fault answers.1 (subst (λ (h : Header). AnswersSet (set_asked words h) (Err fault)) (shown_header (file_in view name) answers.0 front answers.2) said))
 
 -- a told file whose front was read has these items
-body_there : (o told : Option (List ℕ)) (parsed : Parsed) (front : Front) (set : List ℕ) → told ≡ o → has set 0 ≡ false → answer file_of o ≡ Ok parsed → ShowsFile o parsed front → (file : List ℕ) × IsBody told front set file parsed.items
-body_there None told parsed front set same zero is shows = absurd shows
-body_there (Some file) told parsed front set same zero is shows = (
+body_there : (o told : Option (List ℕ)) (parsed : Parsed) (front : Front) (set : List ℕ) → IsPlaced front → told ≡ o → has set 0 ≡ false → answer file_of o ≡ Ok parsed → ShowsFile o parsed front → (file : List ℕ) × IsBody told front set file parsed.items
+body_there None told parsed front set placed same zero is shows = absurd shows
+body_there (Some file) told parsed front set placed same zero is shows = (
   file,
   record {
     told_is = same;
-    size = shows.1.2.size;
+    front_is = record { placed = placed; size = shows.1.2.size; sum = shows.1.2.sum };
     items_are = file_items file parsed shows.1.0 front is shows.1.1 shows.1.2;
     no_zero = zero;
   },
@@ -214,14 +216,14 @@ body_there (Some file) told parsed front set same zero is shows = (
 
 pub body_ends : (told told2 told3 : Option View) (name : List ℕ) (words : GetWords) (front : Front) (set : List ℕ) (result : Result (Unit {0}) StepFault) (out out2 : Option (List ℕ)) → told2 ≡ told → told3 ≡ told → has set 0 ≡ false
     → IfSome told (λ view. AnswersFile (file_in view name) (Ok front)) → set_asked words front.header ≡ Ok set
-    → IsPlaced front → ((file : List ℕ) (items : List Item) → IsPlaced front → IsBody (bytes_in told2 name) front set file items → Prints (text_of_lines (shown set (lines_of items))) result out out2) → Steps told told3 name words result out out2
+    → IsPlaced front → ((file : List ℕ) (items : List Item) → IsBody (bytes_in told2 name) front set file items → Prints (text_of_lines (shown set (lines_of items))) result out out2) → Steps told told3 name words result out out2
 body_ends None told2 told3 name words front set result out out2 here same zero answers asked placed gives = tt
 body_ends (Some view) told2 told3 name words front set result out out2 here same zero answers asked placed gives =
     let parsed = answers.0 in
-    let body = body_there (file_in view name) (bytes_in told2 name) parsed front set (ap (λ (t : Option View). bytes_in t name) here) zero answers.1 answers.2 in
+    let body = body_there (file_in view name) (bytes_in told2 name) parsed front set placed (ap (λ (t : Option View). bytes_in t name) here) zero answers.1 answers.2 in
     let is = found_set words (look view name) parsed set answers.1 (ap (λ (h : Header). set_asked words h) (sym (shown_header (file_in view name) parsed front answers.2)) ∙ asked) in
     λ err. subst (λ (o : Outcome). Meets (λ (done : Unit {0}). 0) result name o (world (Some view) out err) (world told3 out2 err)) (sym is)
-    (ends_printed view told3 name (bytes_of (select set (lines_of parsed.items))) result out out2 err same (subst (λ text. Prints text result out out2) (sym (shown_text set (lines_of parsed.items))) (gives body.0 parsed.items placed body.1)))
+    (ends_printed view told3 name (bytes_of (select set (lines_of parsed.items))) result out out2 err same (subst (λ text. Prints text result out out2) (sym (shown_text set (lines_of parsed.items))) (gives body.0 parsed.items body.1)))
 
 -- ---- a get that prints changes no file
 

@@ -37,7 +37,7 @@ listed records (Some list) = named_serials records [] list
 
 -- the numbers of the checks that get makes of a file
 abbrev pub get_checks : List ℕ
-get_checks = 3 ∷ 5 ∷ 6 ∷ 7 ∷ 8 ∷ 9 ∷ 15 ∷ 16 ∷ []
+get_checks = 3 ∷ 5 ∷ 6 ∷ 7 ∷ 8 ∷ 9 ∷ 15 ∷ 16 ∷ 34 ∷ []
 
 -- no SID may be both taken in and left out
 abbrev pub apart : Option Sid → Result Bool Refusal

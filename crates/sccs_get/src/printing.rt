@@ -9,7 +9,6 @@ ghost use Rattle.sccs_history.specs.declared.headers.Item.{Item};
 ghost use Rattle.sccs_sid.specs.declared.refusals.StepFault.TheVariants as faults;
 ghost use Rattle.sccs_steps.specs.Actions.{RefusesWithin};
 ghost use Rattle.sccs_steps.specs.Causes.{PrintCauses, WriteCauses};
-ghost use Rattle.sccs_table.specs.FrontFile.{IsPlaced};
 ghost use Rattle.sccs_table.specs.ReaderState.{bytes_in};
 ghost use Rattle.sccs_versions.specs.Coming.{Coming, IsBody, shown, text_of_lines};
 ghost use Rattle.sccs_versions.specs.Place.{bytes_left, name_of};
@@ -157,7 +156,7 @@ pub fn print_body<O: Sink, D: Disk>(
     ensures same { D.told disk.new ≡ D.told disk.old }
     ensures causes { PrintCauses result (O.faults out.old) (O.faults out.new) (D.faults disk.old) (D.faults disk.new) }
     ensures checks { RefusesWithin get_checks result }
-    ensures prints { (file : List ℕ) (items : List Item) → IsPlaced front.now
+    ensures prints { (file : List ℕ) (items : List Item)
         → IsBody (bytes_in (seen (D.told disk.old)) name.now) front.now set.now file items
         → Prints (text_of_lines (shown set.now (lines_of items))) result (O.given out.old) (O.given out.new) }
     ensures whole { OnOk result (has set.now 0 ≡ false → PrintsWhole (live_serials front.now.header.records) set.now (O.given out.old) (O.given out.new)) }

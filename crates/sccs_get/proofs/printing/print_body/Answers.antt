@@ -9,11 +9,11 @@ use Rattle.sccs_get.proofs.PrintLaws.{print_whole, read_whole}
 use Rattle.sccs_get.proofs.printing.print_body.Goals as goal
 
 pub returns-clause-prints : goal.returns-clause-prints
-returns-clause-prints g c = λ file items placed is.
+returns-clause-prints g c = λ file items is.
     let lines = shown c.args.set.now (lines_of items) in
     c.flushed.ensures.prints (text_of_lines lines) (g.O.Sink.given c.args.out.now)
     (subst (λ held. GivesAll (text_of_lines lines) c.give_all-given.result held c.give_all-given.new.buffer (g.O.Sink.given c.args.out.now) (g.O.Sink.given c.give_all-given.new.out)) c.in-Ok-new.ensures
-    (c.give_all-given.ensures.gives file lines (ap (λ name. bytes_in (seen (g.D.Disk.told c.args.disk.now)) name) c.in-Ok.ensures.name ∙ is.told_is) (c.in-Ok.ensures.coming placed _ file items is)))
+    (c.give_all-given.ensures.gives file lines (ap (λ name. bytes_in (seen (g.D.Disk.told c.args.disk.now)) name) c.in-Ok.ensures.name ∙ is.told_is) (c.in-Ok.ensures.coming _ file items is)))
 
 pub returns-clause-whole : goal.returns-clause-whole
 returns-clause-whole g c =

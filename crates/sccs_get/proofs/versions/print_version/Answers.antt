@@ -12,7 +12,7 @@ pub returns-in_err-front-clause-step : goal.returns-in_err-front-clause-step
 returns-in_err-front-clause-step g c =
     let p = err_from_is_err_and c.from_residual.result c.from_residual.ensures.1 in
     stepped (g.D.Disk.told c.args.disk.now) (g.D.Disk.told c.inspect.new.disk) c.args.name.now c.args.words.now (Err p.0) c.from_residual.result (g.O.Sink.given c.args.out.now) (g.O.Sink.given c.args.out.now) (sym p.1)
-    (file_ends (seen (g.D.Disk.told c.args.disk.now)) (seen (g.D.Disk.told c.inspect.new.disk)) c.args.name.now c.args.words.now _ p.0 (g.O.Sink.given c.args.out.now) (ap seen c.in_err-front.ensures.same) p.2 c.in_err-front.ensures.told)
+    (file_ends (seen (g.D.Disk.told c.args.disk.now)) (seen (g.D.Disk.told c.inspect.new.disk)) c.args.name.now c.args.words.now _ p.0 (g.O.Sink.given c.args.out.now) (ap seen c.in_err-front.ensures.frame.same) p.2 c.in_err-front.ensures.told)
 
 pub returns-in_err-front-clause-speaks : goal.returns-in_err-front-clause-speaks
 returns-in_err-front-clause-speaks g c =
@@ -23,7 +23,7 @@ pub returns-in_err-set-clause-step : goal.returns-in_err-set-clause-step
 returns-in_err-set-clause-step g c =
     let p = err_from_is_err_and c.from_residual-in_err-set.result c.from_residual-in_err-set.ensures.1 in
     stepped (g.D.Disk.told c.args.disk.now) (g.D.Disk.told c.inspect.new.disk) c.args.name.now c.args.words.now (Err p.0) c.from_residual-in_err-set.result (g.O.Sink.given c.args.out.now) (g.O.Sink.given c.args.out.now) (sym p.1)
-    (set_ends (seen (g.D.Disk.told c.args.disk.now)) (seen (g.D.Disk.told c.inspect.new.disk)) c.args.name.now c.args.words.now c.in_ok-front.front p.0 (g.O.Sink.given c.args.out.now) (ap seen c.in_ok-front.ensures.same) c.in_ok-front.ensures.told (subst (λ fault. AnswersSet (set_asked c.args.words.now c.in_ok-front.front.header) (Err fault)) (sym p.2) c.in_err-set.ensures.value))
+    (set_ends (seen (g.D.Disk.told c.args.disk.now)) (seen (g.D.Disk.told c.inspect.new.disk)) c.args.name.now c.args.words.now c.in_ok-front.front p.0 (g.O.Sink.given c.args.out.now) (ap seen c.in_ok-front.ensures.frame.same) c.in_ok-front.ensures.told (subst (λ fault. AnswersSet (set_asked c.args.words.now c.in_ok-front.front.header) (Err fault)) (sym p.2) c.in_err-set.ensures.value))
 
 pub returns-in_err-set-clause-speaks : goal.returns-in_err-set-clause-speaks
 returns-in_err-set-clause-speaks g c =
@@ -34,7 +34,7 @@ pub returns-clause-step : goal.returns-clause-step
 returns-clause-step g c =
     stepped (g.D.Disk.told c.args.disk.now) (g.D.Disk.told c.print_body.new.disk) c.args.name.now c.args.words.now c.print_body.result c.print_body.result (g.O.Sink.given c.args.out.now) (g.O.Sink.given c.print_body.new.out) refl
     (body_ends (seen (g.D.Disk.told c.args.disk.now)) (seen (g.D.Disk.told c.inspect.new.disk)) (seen (g.D.Disk.told c.print_body.new.disk)) c.args.name.now c.args.words.now c.in_ok-front.front c.in_ok-set.set c.print_body.result (g.O.Sink.given c.args.out.now) (g.O.Sink.given c.print_body.new.out)
-    (ap seen c.in_ok-front.ensures.same) (ap seen (c.print_body.ensures.same ∙ c.in_ok-front.ensures.same)) c.in_ok-set.ensures.no_zero c.in_ok-front.ensures.told c.in_ok-set.ensures.value c.in_ok-front.ensures.placed c.print_body.ensures.prints)
+    (ap seen c.in_ok-front.ensures.frame.same) (ap seen (c.print_body.ensures.same ∙ c.in_ok-front.ensures.frame.same)) c.in_ok-set.ensures.no_zero c.in_ok-front.ensures.told c.in_ok-set.ensures.value c.in_ok-front.ensures.placed c.print_body.ensures.prints)
 
 pub returns-clause-speaks : goal.returns-clause-speaks
 returns-clause-speaks g c = speaks_by c.print_body.result c.args.name.now c.print_body.ensures.checks

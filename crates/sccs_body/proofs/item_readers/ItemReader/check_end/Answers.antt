@@ -15,6 +15,8 @@ returns-then-sum-self g c =
       frame = search rules;
       kept = kept;
       changed = (refl, refl, inr (λ is. c.if-sum-self.true (sym is)));
+      agrees = tt;
+      never = λ line is. cc;
       same = λ file is stands size sum.
           let low : length file ≤ 1073741825 = omega (arith, stands.limit, c.self.invariant.limit) in
           c.if-sum-self.true (c.sum-sum.ensures ∙ (ends_same file here gone 1073741825 low (c.in_ok-skip_to.ensures.told file is stands) (c.in_ok-skip_to.ensures.stays file is stands) size sum).1);

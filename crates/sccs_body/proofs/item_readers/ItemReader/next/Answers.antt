@@ -3,7 +3,7 @@ use Rattle.sccs_disk.specs.Told.{seen}
 use Rattle.sccs_table.proofs.FrontLaws.{exit_is}
 use Rattle.sccs_table.proofs.ReaderLaws.{same_file}
 use Rattle.sccs_body.specs.ToCome.{GivesNext}
-use Rattle.sccs_body.proofs.ComingLaws.{outer_next}
+use Rattle.sccs_body.proofs.ComingLaws.{agrees_fault, outer_next}
 use Rattle.sccs_body.proofs.item_readers.ItemReader.next.Goals as goal
 
 pub returns-in_err-check_end-in-Ok-None-clause-told : goal.returns-in_err-check_end-in-Ok-None-clause-told
@@ -22,3 +22,9 @@ returns-in_err-check_end-in-Err-BadFormat-clause-told g c = λ file live before 
 
 pub returns-in-Ok-Some-clause-told : goal.returns-in-Ok-Some-clause-told
 returns-in-Ok-Some-clause-told g c = λ file live before found is p. subst (λ f. GivesNext file live before found c.next_read.new.self (Ok f)) c.in-Ok-Some.field-0-is (c.in-Ok-Some.ensures.gives file live before found is p)
+
+pub returns-in_err-check_end-in-Ok-None-clause-agrees : goal.returns-in_err-check_end-in-Ok-None-clause-agrees
+returns-in_err-check_end-in-Ok-None-clause-agrees g c = agrees_fault _ c.in_err-check_end-in-Ok-None.field-0.0 c.from_residual.result (exit_is c.from_residual.result c.in_err-check_end-in-Ok-None.field-0.0 c.from_residual.ensures.1) c.in_err-check_end-in-Ok-None.ensures.never
+
+pub returns-in_err-check_end-in-Err-BadFormat-clause-agrees : goal.returns-in_err-check_end-in-Err-BadFormat-clause-agrees
+returns-in_err-check_end-in-Err-BadFormat-clause-agrees g c = agrees_fault _ c.in_err-check_end-in-Err-BadFormat.field-0.0 c.from_residual-in_err-check_end-in-Err-BadFormat.result (exit_is c.from_residual-in_err-check_end-in-Err-BadFormat.result c.in_err-check_end-in-Err-BadFormat.field-0.0 c.from_residual-in_err-check_end-in-Err-BadFormat.ensures.1) c.in_err-check_end-in-Err-BadFormat.ensures.never
