@@ -67,3 +67,6 @@ plan_then old mid new goes goes_on p q before = record {
 
 pub planned_at : (disk : MemoryDisk) (failing : List ℕ) (call : ℕ) → failing ≡ disk.failing.items → Contains failing call ⊎ ((disk.room < call) ⊎ (disk.stop < call)) → IsPlanned disk call
 planned_at disk failing call is planned = subst (λ l. Contains l call ⊎ ((disk.room < call) ⊎ (disk.stop < call))) is planned
+
+pub planned_by : (disk : MemoryDisk) (failing : List ℕ) (call : ℕ) → failing ≡ disk.failing.items → IsPlanned disk call → Contains failing call ⊎ ((disk.room < call) ⊎ (disk.stop < call))
+planned_by disk failing call is planned = subst (λ l. Contains l call ⊎ ((disk.room < call) ⊎ (disk.stop < call))) (sym is) planned

@@ -4,6 +4,7 @@ use Rattle.std.specs.List.{IsDistinct, AllByRecursion}
 use Rattle.std.specs.Str.{bytes_eq}
 use Rattle.std.proofs.Common.{◌≡◌, ℕ, zero, suc, ◌<◌, ◌⊎◌, Bool, true, false, cond, List, [], ◌∷◌, length, slice_get, Option, None, Some, option_map, inl, inr, refl, sym, ap, ◌∙◌, ⊎_elim, arith}
 use Rattle.sccs_base.proofs.SameBytes.{same_bytes, bytes_eq_sym}
+use Rattle.sccs_disk.proofs.Places.{next, none_has, none_later}
 use Rattle.sccs_disk.proofs.Puts.{same_name}
 use Rattle.sccs_disk.specs.Files.{File, file_at}
 use Rattle.sccs_disk.specs.Places.{place_of, AreOnce, listed}
@@ -16,9 +17,6 @@ later_in x y xs there = (suc there.0, omega (arith, there.1), there.2)
 in_cases : {X : Type 0} (x y : X) (xs : List X) → Contains (x ∷ xs) y → (x ≡ y) ⊎ Contains xs y
 in_cases x y xs (zero, low, is) = inl is
 in_cases x y xs (suc k, low, is) = inr (k, omega arith, is)
-
-abbrev next : Option ℕ → Option ℕ
-next t = option_map (λ p. suc p) t
 
 some_next : (t : Option ℕ) → is_some t ≡ is_some (next t)
 some_next None = refl
@@ -46,15 +44,6 @@ is_listed : (names : List (Option (List ℕ))) (n : List ℕ) → is_some (place
 is_listed [] n some = cc
 is_listed (None ∷ names) n some = is_listed names n (some_next (place_of names n) ∙ some)
 is_listed (Some k ∷ names) n some = from_test k n names (bytes_eq k n) refl some (is_listed names n)
-
-none_has : (h : Bool) (t : Option ℕ) → cond h (Some 0) (next t) ≡ None → h ≡ false
-none_has true t e = cc
-none_has false t e = refl
-
-none_later : (h : Bool) (t : Option ℕ) → cond h (Some 0) (next t) ≡ None → t ≡ None
-none_later true t e = cc
-none_later false None e = refl
-none_later false (Some p) e = cc
 
 others : (names : List (Option (List ℕ))) (k : List ℕ) → place_of names k ≡ None → AllByRecursion (λ y. bytes_eq k y ≡ false) (listed names)
 others [] k none = tt

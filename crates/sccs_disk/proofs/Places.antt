@@ -1,12 +1,13 @@
 -- The place to which a name leads, where names change.
-use Rattle.std.proofs.Common.{◌≡◌, ℕ, zero, suc, Bool, true, false, cond, List, [], ◌∷◌, ◌++◌, length, set, Option, None, Some, option_map, refl, sym, ap, subst, ◌∙◌}
+use Rattle.std.proofs.Common.{◌≡◌, ℕ, zero, suc, Bool, true, false, cond, List, [], ◌∷◌, ◌++◌, length, set, Option, None, Some, option_map, refl, sym, ap, subst, ◌∙◌, arith}
 use Rattle.std.specs.Str.{bytes_eq}
 use Rattle.std.proofs.Math.Path.{fun_ext}
-use Rattle.sccs_disk.specs.Files.{Names, put, apply, Rename}
+use Rattle.std.specs.List.{remove}
+use Rattle.sccs_disk.specs.Files.{File, Names, put, apply, Rename, file_at}
 use Rattle.sccs_disk.specs.Places.{has_name, place_of, AreOnce}
 use Rattle.sccs_disk.proofs.Puts.{same_name, put_same, put_other, put_back, put_again}
 
-abbrev next : Option ℕ → Option ℕ
+abbrev pub next : Option ℕ → Option ℕ
 next t = option_map (λ p. suc p) t
 
 first_is : (h : Bool) (t : Option ℕ) → cond h (Some 0) (next t) ≡ Some 0 → h ≡ true
@@ -23,11 +24,11 @@ later_is true t q e = cc
 later_is false None q e = cc
 later_is false (Some p) q e = cc
 
-none_has : (h : Bool) (t : Option ℕ) → cond h (Some 0) (next t) ≡ None → h ≡ false
+pub none_has : (h : Bool) (t : Option ℕ) → cond h (Some 0) (next t) ≡ None → h ≡ false
 none_has true t e = cc
 none_has false t e = refl
 
-none_later : (h : Bool) (t : Option ℕ) → cond h (Some 0) (next t) ≡ None → t ≡ None
+pub none_later : (h : Bool) (t : Option ℕ) → cond h (Some 0) (next t) ≡ None → t ≡ None
 none_later true t e = cc
 none_later false None e = refl
 none_later false (Some p) e = cc
@@ -167,7 +168,7 @@ rename_gone t u a b apart is none =
     let old : t a ≡ None = sym (put_other t b a None apart) ∙ (ap (λ (w : Names). w a) (sym is) ∙ none) in
     is ∙ fun_ext (λ k. gone (bytes_eq a k) (bytes_eq b k) (t k) (t a) old (λ e. ap t (sym (same_name a k e))))
 
-moved : (ba bb : Bool) (x ta : Option ℕ) → cond bb ta (cond ba None (cond bb None x)) ≡ cond bb ta (cond ba None x)
+pub moved : {X : Type 0} (ba bb : Bool) (x ta : Option X) → cond bb ta (cond ba None (cond bb None x)) ≡ cond bb ta (cond ba None x)
 moved ba true x ta = refl
 moved ba false x ta = refl
 
@@ -193,3 +194,48 @@ pub once_pushed : (names names2 names3 : List (Option (List ℕ))) (n : List ℕ
     → names3 ≡ cond ok (names2 ++ Some n ∷ []) names2 → AreOnce names3
 once_pushed names names2 names3 n true is once now = subst AreOnce (sym now) (once_push names2 n once (removed_now names names2 n is))
 once_pushed names names2 names3 n false is once now = subst AreOnce (sym now) once
+
+-- A place is taken out of the list.
+none_without : (names : List (Option (List ℕ))) (p : ℕ) (k : List ℕ) → place_of names k ≡ None → place_of (remove names p) k ≡ None
+none_without [] zero k none = none
+none_without [] (suc p) k none = none
+none_without (x ∷ names) zero k none = none_later (has_name x k) (place_of names k) none
+none_without (x ∷ names) (suc p) k none = neither (has_name x k) (place_of (remove names p) k) (none_has (has_name x k) (place_of names k) none) (none_without names p k (none_later (has_name x k) (place_of names k) none))
+  where
+    neither : (h : Bool) (t : Option ℕ) → h ≡ false → t ≡ None → cond h (Some 0) (next t) ≡ None
+    neither true t no_name e = cc
+    neither false t no_name e = ap next e
+
+pub once_without : (names : List (Option (List ℕ))) (p : ℕ) → AreOnce names → AreOnce (remove names p)
+once_without [] zero once = once
+once_without [] (suc p) once = once
+once_without (x ∷ names) zero once = once.1
+once_without (x ∷ names) (suc p) once = (λ n h. none_without names p n (once.0 n h), once_without names p once.1)
+
+later_file : (f : File) (files : List File) (t : Option ℕ) → file_at (f ∷ files) (next t) ≡ file_at files t
+later_file f files None = refl
+later_file f files (Some p) = refl
+
+without_first : (hx ba : Bool) (f : File) (files : List File) (t : Option ℕ) → hx ≡ ba → (hx ≡ true → t ≡ None) → file_at files t ≡ cond ba None (file_at (f ∷ files) (cond hx (Some 0) (next t)))
+without_first true true f files t same once = ap (file_at files) (once refl)
+without_first true false f files t same once = cc
+without_first false true f files t same once = cc
+without_first false false f files t same once = sym (later_file f files t)
+
+without_later : (hx ba : Bool) (f : File) (files fewer : List File) (t t2 : Option ℕ) → (ba ≡ true → hx ≡ false) → file_at fewer t2 ≡ cond ba None (file_at files t)
+    → file_at (f ∷ fewer) (cond hx (Some 0) (next t2)) ≡ cond ba None (file_at (f ∷ files) (cond hx (Some 0) (next t)))
+without_later true true f files fewer t t2 apart is = cc (apart refl)
+without_later true false f files fewer t t2 apart is = refl
+without_later false true f files fewer t t2 apart is = later_file f fewer t2 ∙ is
+without_later false false f files fewer t t2 apart is = later_file f fewer t2 ∙ (is ∙ sym (later_file f files t))
+
+-- the file of a name and its place are taken out
+pub files_without : (names : List (Option (List ℕ))) (files : List File) (p : ℕ) (n k : List ℕ) → length names ≡ length files → AreOnce names → place_of names n ≡ Some p
+    → file_at (remove files p) (place_of (remove names p) k) ≡ cond (bytes_eq n k) None (file_at files (place_of names k))
+files_without [] files p n k paired once at = cc
+files_without (x ∷ names) [] p n k paired once at = absurd (omega (arith, paired))
+files_without (x ∷ names) (f ∷ files) zero n k paired once at =
+    without_first (has_name x k) (bytes_eq n k) f files (place_of names k) (named_alike x n k (first_is (has_name x n) (place_of names n) at)) (once.0 k)
+files_without (x ∷ names) (f ∷ files) (suc p) n k paired once at =
+    without_later (has_name x k) (bytes_eq n k) f files (remove files p) (place_of names k) (place_of (remove names p) k) (apart_from x n k (later_has (has_name x n) (place_of names n) p at))
+    (files_without names files p n k (omega (arith, paired)) once.1 (later_is (has_name x n) (place_of names n) p at))

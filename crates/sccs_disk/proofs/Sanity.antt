@@ -1,5 +1,5 @@
 -- A model stays sane.
-use Rattle.std.proofs.Common.{◌≡◌, ℕ, zero, suc, ◌+◌, ◌<◌, ◌⊎◌, Bool, true, false, cond, List, [], ◌∷◌, ◌++◌, length, map, Option, None, Some, option_map, inl, inr, refl, sym, ap, subst, ◌∙◌, ⊎_elim, length-append, arith}
+use Rattle.std.proofs.Common.{◌≡◌, ℕ, zero, suc, ◌+◌, ◌<◌, ◌⊎◌, Bool, true, false, cond, List, [], ◌∷◌, ◌++◌, length, map, Option, None, Some, inl, inr, refl, sym, ap, subst, ◌∙◌, ⊎_elim, length-append, arith}
 use Rattle.std.proofs.lemmas.List.{length-map}
 use Rattle.std.specs.Str.{bytes_eq}
 use Rattle.sccs_disk.specs.Files.{File, Names, Op, Rename, Remove, Model, names, names_at, put, apply, IsSane}
@@ -12,6 +12,7 @@ use Rattle.sccs_disk.specs.declared.changes.Change.TheVariants as made
 use Rattle.sccs_disk.specs.declared.changes.FileChange.{FileChange}
 use Rattle.sccs_disk.specs.declared.changes.FileChange.TheVariants as file
 use Rattle.sccs_disk.proofs.Models.{names_all, names_at_pended, names_at_created, change_length}
+use Rattle.sccs_disk.proofs.Places.{next}
 use Rattle.sccs_disk.proofs.Puts.{same_name}
 
 -- each name leads to one of so many places
@@ -86,9 +87,6 @@ places_kept (made.Remove n) m has = places_pended (Remove n) m (removes n) has
 places_kept made.SyncNames m has = places_settled m has
 
 -- The places of names in memory.
-abbrev next : Option ℕ → Option ℕ
-next t = option_map (λ p. suc p) t
-
 found : (h : Bool) (t : Option ℕ) (p : ℕ) → cond h (Some 0) (next t) ≡ Some p → ((h ≡ true) × (p ≡ 0)) ⊎ ((q : ℕ) × (t ≡ Some q) × (p ≡ suc q))
 found true t p e = inl (refl, cc)
 found false None p e = cc

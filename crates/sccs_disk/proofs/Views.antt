@@ -1,10 +1,10 @@
 -- What a change makes of the view.
-use Rattle.std.proofs.Common.{◌≡◌, ℕ, ◌<◌, Bool, true, false, cond, List, [], ◌∷◌, ◌++◌, length, slice_get, Option, None, Some, option_map, refl, sym, ap, ◌∙◌}
+use Rattle.std.proofs.Common.{◌≡◌, ℕ, zero, suc, take, drop, subst, length-append, length-take, length-drop, arith, ◌<◌, Bool, true, false, cond, List, [], ◌∷◌, ◌++◌, length, map, slice_get, Option, None, Some, option_map, refl, sym, ap, ◌∙◌}
 use Rattle.std.specs.Str.{bytes_eq}
 use Rattle.std.proofs.Math.Path.{fun_ext}
-use Rattle.sccs_disk.specs.Files.{Content, File, Model, file_at, put}
-use Rattle.sccs_disk.specs.Effects.{change, loose, empty_file, appended, overwritten, protected, altered}
-use Rattle.sccs_disk.specs.States.{State, IsPlaced, state, shown, state_put, made, effect_of, file_effect, file_changed}
+use Rattle.sccs_disk.specs.Files.{View, Content, File, Model, file_at, put}
+use Rattle.sccs_disk.specs.Effects.{change, loose, empty_file, appended, overwritten, protected, altered, renamed}
+use Rattle.sccs_disk.specs.States.{State, IsPlaced, state, stored, shown, state_put, made, effect_of, file_effect, file_changed}
 use Rattle.sccs_disk.specs.Calls.{Done}
 use Rattle.sccs_disk.specs.Told.{Shows}
 use Rattle.sccs_disk.specs.declared.changes.Change.{Change}
@@ -13,7 +13,16 @@ use Rattle.sccs_disk.specs.declared.changes.FileChange.{FileChange}
 use Rattle.sccs_disk.specs.declared.changes.FileChange.TheVariants as file
 use Rattle.sccs_disk.proofs.Models.{names_pended, names_created, get_changed, get_kept, get_front, get_end}
 use Rattle.sccs_base.proofs.SameBytes.{same_bytes}
-use Rattle.sccs_disk.proofs.Puts.{same_name, put_back}
+use Rattle.sccs_disk.proofs.Places.{files_without}
+use Rattle.sccs_disk.proofs.Places.{moved as moved_twice}
+use Rattle.sccs_disk.proofs.Puts.{same_name, put_again, put_back, put_other}
+use Rattle.sccs_disk.proofs.Sanity.{placed}
+use Rattle.sccs_disk.specs.Files as op
+use Rattle.sccs_disk.specs.Files.{apply}
+use Rattle.sccs_disk.specs.Places.{AreOnce, place_of}
+use Rattle.sccs_disk.specs.declared.changes.StoredFile.{StoredFile}
+use Rattle.std.specs.List.{remove}
+use Rattle.std.proofs.lemmas.List.{length-map}
 
 abbrev content : File → Content
 content f = f.content
@@ -86,7 +95,7 @@ shown_made (call.Rename a b) s placed = fun_ext (λ k. moved s.files (bytes_eq a
 shown_made (call.Remove n) s placed = fun_ext (λ k. moved s.files (bytes_eq n k) false None (s.names k))
 shown_made call.SyncNames s placed = refl
 
-abbrev with_names : List File → (List ℕ → Option ℕ) → State
+abbrev pub with_names : List File → (List ℕ → Option ℕ) → State
 with_names files t = record { files = files; names = t }
 
 file_state : (n : List ℕ) (c : FileChange) (m : Model) → made (call.File n c) (state m) ≡ state ((file_effect n c).model m)
@@ -106,3 +115,46 @@ made_state call.SyncNames m = refl
 -- a disk that shows its view alone has made a change
 pub shown_done : (c : Change) (s t : State) → IsPlaced s → t ≡ made c s → Done (effect_of c) (Shows (shown s)) (Shows (shown t))
 shown_done c s t placed now = record { view = ap (λ v. Some v) (ap shown now ∙ shown_made c s placed); model = λ m past is. cc }
+
+map_without : (files : List StoredFile) (p : ℕ) → map stored (remove files p) ≡ remove (map stored files) p
+map_without [] zero = refl
+map_without [] (suc p) = refl
+map_without (f ∷ files) zero = refl
+map_without (f ∷ files) (suc p) = ap (λ l. stored f ∷ l) (map_without files p)
+
+content_unless : (b : Bool) (o : Option File) → option_map content (cond b None o) ≡ cond b None (option_map content o)
+content_unless true o = refl
+content_unless false o = refl
+
+pub count_without : {X Y : Type 0} (xs : List X) (ys : List Y) (p : ℕ) → length xs ≡ length ys → length (remove xs p) ≡ length (remove ys p)
+count_without xs ys p same =
+    length-append (take p xs) (drop (suc p) xs)
+    ∙ (omega (arith, same, length-take p xs, length-take p ys, length-drop (suc p) xs, length-drop (suc p) ys) ∙ sym (length-append (take p ys) (drop (suc p) ys)))
+
+-- a file is taken out with its name
+pub shown_without : (names : List (Option (List ℕ))) (files : List StoredFile) (p : ℕ) (n : List ℕ) → length names ≡ length files → AreOnce names → place_of names n ≡ Some p
+    → shown (with_names (map stored (remove files p)) (place_of (remove names p))) ≡ put (shown (with_names (map stored files) (place_of names))) n None
+shown_without names files p n paired once at = fun_ext (λ k.
+    ap (λ l. option_map content (file_at l (place_of (remove names p) k))) (map_without files p)
+    ∙ (ap (option_map content) (files_without names (map stored files) p n k (paired ∙ sym (length-map files stored)) once at)
+    ∙ content_unless (bytes_eq n k) (file_at (map stored files) (place_of names k))))
+
+pub shown_absent : (s : State) (n : List ℕ) → s.names n ≡ None → shown s ≡ put (shown s) n None
+shown_absent s n none = sym (put_back (shown s) n) ∙ ap (λ t. put (shown s) n (option_map content (file_at s.files t))) none
+
+-- a file that goes away before another one takes its name
+pub renamed_again : (v w : View) (a b : List ℕ) → bytes_eq b a ≡ false → w ≡ put v b None → renamed a b w ≡ renamed a b v
+renamed_again v w a b apart is =
+    ap (renamed a b) is
+    ∙ (ap (λ x. put (put (put v b None) a None) b x) (put_other v b a None apart) ∙ fun_ext (λ k. moved_twice (bytes_eq a k) (bytes_eq b k) (v k) (v a)))
+
+pub renamed_self : (v : View) (a b : List ℕ) → bytes_eq a b ≡ true → v ≡ renamed a b v
+renamed_self v a b same = subst (λ c. v ≡ renamed a c v) (same_name a b same) (sym (put_again v a None (v a) ∙ put_back v a))
+
+-- a name is given to another file, with the file that had it gone
+pub renamed_after : (files : List StoredFile) (names names2 : List (Option (List ℕ))) (v : View) (a b : List ℕ) → length names ≡ length files → bytes_eq b a ≡ false
+    → place_of names2 ≡ apply (op.Rename a b) (place_of names) → shown (with_names (map stored files) (place_of names)) ≡ put v b None
+    → shown (with_names (map stored files) (place_of names2)) ≡ renamed a b v
+renamed_after files names names2 v a b paired apart now gone =
+    ap (λ t. shown (with_names (map stored files) t)) now
+    ∙ (shown_made (call.Rename a b) (with_names (map stored files) (place_of names)) (placed files names paired) ∙ renamed_again v (shown (with_names (map stored files) (place_of names))) a b apart gone)

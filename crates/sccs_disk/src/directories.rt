@@ -1,6 +1,7 @@
 ghost use Rattle.std.specs.Prelude.{◌≡◌, ◌<◌, ◌≤◌, false, Some, length, drop, option_map, is_some, IsTrue, ◌↔◌, vec_len, vec_capacity, IsOk, IfOk, IfSome, OnOk, OnErr};
 ghost use Rattle.sccs_disk.specs.Calls.{HasBytes};
-ghost use Rattle.sccs_disk.specs.Files.{Content, file_at};
+ghost use Rattle.sccs_disk.specs.Effects.{renamed};
+ghost use Rattle.sccs_disk.specs.Files.{Content, file_at, put};
 ghost use Rattle.sccs_disk.specs.MemoryFiles.{left_files};
 ghost use Rattle.sccs_disk.specs.Reads.{Measures, Marks, Reads, IsListing};
 ghost use Rattle.sccs_disk.specs.States.{stored, shown, made, takes_memory, empty_state, state_put};
@@ -86,6 +87,27 @@ impl Directory {
             Some(place) => self.files[place].change(change),
             None => Ok(()),
         }
+    }
+
+    /// Takes a file out with its name.
+    pub fn discard(&mut self, name: &Name)
+        ensures { shown (state_of self.new) ≡ put (shown (state_of self.old)) name.now None }
+    {
+        if let Some(place) = self.names.place(name) {
+            self.names.take_out(place);
+            self.files.remove(place);
+        }
+    }
+
+    /// Gives a file another name. A file under that name is taken out.
+    pub fn rename(&mut self, from: &Name, to: &Name)
+        ensures { shown (state_of self.new) ≡ renamed from.now to.now (shown (state_of self.old)) }
+    {
+        if from.is(to) {
+            return;
+        }
+        self.discard(to);
+        self.names.rename(from, to);
     }
 
     /// Makes a change. At want of memory nothing changes.

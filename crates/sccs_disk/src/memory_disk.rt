@@ -43,6 +43,19 @@ fn must_fail(failing: &[u64], call: u64, room: u64, stop: u64) -> bool
     failing.contains(&call) || room < call || stop < call
 }
 
+// the answer of a call that fails or goes on; a failure is counted
+fn answer_of(fails: bool, faults: &mut u64) -> Result<(), Failed>
+    ensures fails { IsErr result ↔ (fails ≡ true) }
+    ensures later { faults.old ≤ faults.new }
+    ensures cause { OnErr result (Rose faults.old faults.new) }
+{
+    if fails {
+        *faults = one_more(*faults);
+        return Err(Failed);
+    }
+    Ok(())
+}
+
 // one call more in the record, within the room
 fn note_call(log: &mut Vec<Option<Change>>, call: u64, room: u64)
     requires recorded { (calls : ℕ) × (call ≡ one_more calls) × (length log.old.items ≡ min calls room) }
@@ -120,11 +133,8 @@ impl MemoryDisk {
         let call = one_more(self.calls);
         note_call(&mut self.log, call, self.room);
         self.calls = call;
-        if must_fail(&self.failing, call, self.room, self.stop) {
-            self.faults = one_more(self.faults);
-            return Err(Failed);
-        }
-        Ok(())
+        let fails = must_fail(&self.failing, call, self.room, self.stop);
+        answer_of(fails, &mut self.faults)
     }
 
     // makes a change, for a call that was counted

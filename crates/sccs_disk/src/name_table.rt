@@ -1,4 +1,5 @@
 ghost use Rattle.std.specs.Prelude.{◌≡◌, ◌+◌, ◌<◌, ◌≤◌, List, [], None, Some, length, vec_len, vec_capacity, IfOk, IfSome, OnOk, OnErr};
+ghost use Rattle.std.specs.List.{remove};
 ghost use Rattle.sccs_disk.specs.Files.{put, apply, Rename};
 ghost use Rattle.sccs_disk.specs.Places.{AreOnce, once_prop, place_of, listed};
 
@@ -54,6 +55,15 @@ impl NameTable {
         if let Some(place) = self.place(name) {
             self.names[place] = None;
         }
+    }
+
+    /// Takes a place out of the list.
+    #[tactic(auto, using(crate::proofs::Places::once_without))]
+    pub fn take_out(&mut self, place: usize)
+        requires { place < length self.old.names.items }
+        ensures { self.new.names.items ≡ remove self.old.names.items place }
+    {
+        self.names.remove(place);
     }
 
     /// Gives a place another name, which leads to no other place any more.

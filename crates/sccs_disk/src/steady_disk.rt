@@ -137,12 +137,12 @@ impl Disk for SteadyDisk {
     }
 
     fn rename(&mut self, from: &Name, to: &Name) -> Result<(), Failed> {
-        self.make_surely(&Change::Rename(*from, *to));
+        self.directory.rename(from, to);
         Ok(())
     }
 
     fn remove(&mut self, name: &Name) -> Result<(), Failed> {
-        self.make_surely(&Change::Remove(*name));
+        self.directory.discard(name);
         Ok(())
     }
 
