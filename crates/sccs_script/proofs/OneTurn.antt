@@ -3,7 +3,8 @@ use Rattle.std.proofs.Common.{◌≡◌, ℕ, suc, ◌+◌, ◌<◌, ◌≤◌, 
 use Rattle.std.proofs.lemmas.List.{at_drop_all, drop_more}
 use Rattle.std.proofs.lemmas.Option.{slice_get-get_or}
 use Rattle.sccs_edits.specs.declared.scripts.Order.{Order}
-use Rattle.sccs_script.specs.Commands.{at_end, open_in, orders_from, turn_at, unless_bad, whole_in}
+use Rattle.std.specs.List.{AllByRecursion}
+use Rattle.sccs_script.specs.Commands.{at_end, FitsIn, open_in, orders_from, turn_at, unless_bad, whole_in}
 use Rattle.sccs_script.specs.declared.faults.ScriptFault.{ScriptFault}
 use Rattle.sccs_script.specs.declared.faults.ScriptFault.TheVariants.{BadScript}
 use Rattle.sccs_script.specs.declared.turns.Turn.{Turn}
@@ -29,3 +30,8 @@ one_turn orders text count lines line t low at is =
 pub no_line : (orders : List Order) (text : Option Order) (count : ℕ) (lines : List (List ℕ)) → length lines ≤ count → orders_from orders text count (drop count lines) ≡ at_end orders text
 unfolding orders_from
 no_line orders text count lines past = at_drop_all (λ l. orders_from orders text count l) lines count past
+
+-- an order whose text ends before a line's number, beside others
+pub fit_push : (orders : List Order) (order : Order) (next : ℕ) → AllByRecursion (FitsIn 18446744073709551616) orders → next ≤ 18446744073709551616 → FitsIn next order → AllByRecursion (FitsIn 18446744073709551616) (orders ++ order ∷ [])
+fit_push [] order next fit le fits = (record { numbers = fits.numbers; within = omega (arith, fits.within) }, tt)
+fit_push (first ∷ orders) order next fit le fits = (fit.0, fit_push orders order next fit.1 le fits)

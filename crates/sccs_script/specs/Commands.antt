@@ -1,5 +1,5 @@
 -- How a script is read, line by line (POSIX ed).
-use Rattle.std.specs.Prelude.{◌≡◌, ◌≢◌, ℕ, suc, nat_le, nat_lt, ◌==◌, Bool, true, false, not, ◌&&◌, ◌||◌, List, [], ◌∷◌, ◌++◌, drop, Option, None, Some, Result, Ok, Err, if◌then◌else◌}
+use Rattle.std.specs.Prelude.{◌≡◌, ◌<◌, ◌≤◌, ◌+◌, ℕ, suc, nat_le, nat_lt, ◌==◌, Bool, true, false, not, ◌&&◌, ◌||◌, List, [], ◌∷◌, ◌++◌, drop, length, Option, None, Some, Result, Ok, Err, if◌then◌else◌}
 use Rattle.sccs_base.specs.Cut.{text_of}
 use Rattle.sccs_sid.specs.Reading.{is_empty, number_at, only}
 use Rattle.sccs_sid.specs.SidLists.{begins}
@@ -127,3 +127,19 @@ abbrev pub Reads : Result (List Order) ScriptFault → Result (List Order) Scrip
 Reads (Ok orders) read = read ≡ Ok orders
 Reads (Err Memory) read = Unit {0}
 Reads (Err fault) read = read ≡ Err fault
+
+-- A command whose lines are named in order, from 1 on where they are to be there.
+pub record HasNumbers (kind : OrderKind) (first last : ℕ) : Type 0 where
+  pub low : (is_append kind || nat_lt 0 first) ≡ true
+  pub rising : first ≤ last
+
+-- An order with such numbers whose text ends before the script's line with this number.
+pub record FitsIn (next : ℕ) (order : Order) : Type 0 where
+  pub numbers : HasNumbers order.kind order.first order.last
+  pub within : order.line + length order.lines < next
+
+-- so it is with what was read of a line, before the line with this number
+abbrev pub TurnFits : ℕ → Turn → Type 0
+TurnFits next (Whole order) = FitsIn next order
+TurnFits next (Open order) = FitsIn next order
+TurnFits next (Bad line) = Unit {0}

@@ -1,5 +1,5 @@
-ghost use Rattle.std.specs.Prelude.{◌≡◌, ◌≤◌, length, option_map};
-ghost use Rattle.sccs_script.specs.Commands.{at_line, at_lines, behind_first, command_of, is_append, is_dot, letter_of, line_number_at, to_last};
+ghost use Rattle.std.specs.Prelude.{◌≡◌, ◌≤◌, length, option_map, IfSome};
+ghost use Rattle.sccs_script.specs.Commands.{at_line, at_lines, behind_first, command_of, HasNumbers, is_append, is_dot, letter_of, line_number_at, to_last};
 
 use sccs_edits::OrderKind;
 use sccs_sid::reading::wide_number_at;
@@ -65,7 +65,8 @@ fn is_append(kind: OrderKind) -> bool
 
 // a command that names one line
 fn at_line(first: u32, kind: OrderKind) -> Option<Command>
-    ensures { result ≡ at_line first kind }
+    ensures value { result ≡ at_line first kind }
+    ensures numbers { IfSome result (λ c. HasNumbers c.kind c.first c.last) }
 {
     if is_append(kind) || 0 < first {
         Some(Command {
@@ -80,7 +81,8 @@ fn at_line(first: u32, kind: OrderKind) -> Option<Command>
 
 // a command that names a first and a last line
 fn at_lines(first: u32, last: u32, kind: OrderKind) -> Option<Command>
-    ensures { result ≡ at_lines first last kind }
+    ensures value { result ≡ at_lines first last kind }
+    ensures numbers { IfSome result (λ c. HasNumbers c.kind c.first c.last) }
 {
     if !is_append(kind) && (0 < first && first <= last) {
         Some(Command { kind, first, last })
@@ -92,7 +94,8 @@ fn at_lines(first: u32, last: u32, kind: OrderKind) -> Option<Command>
 // the last line and the letter
 #[tactic(auto, unfolding(crate::specs::Commands::to_last))]
 fn to_last(first: u32, bytes: &[u8]) -> Option<Command>
-    ensures { result ≡ to_last first bytes.now }
+    ensures value { result ≡ to_last first bytes.now }
+    ensures numbers { IfSome result (λ c. HasNumbers c.kind c.first c.last) }
 {
     let (last, rest) = line_number_at(bytes)?;
     let kind = letter_of(rest)?;
@@ -102,7 +105,8 @@ fn to_last(first: u32, bytes: &[u8]) -> Option<Command>
 // what stands behind the first number
 #[tactic(auto, unfolding(crate::specs::Commands::behind_first))]
 fn behind_first(first: u32, bytes: &[u8]) -> Option<Command>
-    ensures { result ≡ behind_first first bytes.now }
+    ensures value { result ≡ behind_first first bytes.now }
+    ensures numbers { IfSome result (λ c. HasNumbers c.kind c.first c.last) }
 {
     if let [b',', rest @ ..] = bytes {
         return to_last(first, rest);
@@ -114,7 +118,8 @@ fn behind_first(first: u32, bytes: &[u8]) -> Option<Command>
 /// What a command line says: `Na`, `Nc`, `N,Mc`, `Nd` or `N,Md`.
 #[tactic(auto, unfolding(crate::specs::Commands::command_of))]
 pub fn command_of(line: &[u8]) -> Option<Command>
-    ensures { result ≡ command_of line.now }
+    ensures value { result ≡ command_of line.now }
+    ensures numbers { IfSome result (λ c. HasNumbers c.kind c.first c.last) }
 {
     let (first, rest) = line_number_at(line)?;
     behind_first(first, rest)

@@ -1,5 +1,6 @@
-ghost use Rattle.std.specs.Prelude.{◌≡◌, ◌<◌, ◌⊎◌, List, [], None, Some, Ok, Err, length, slice_get, IfOk, IfErr};
-ghost use Rattle.sccs_script.specs.Commands.{orders_from, orders_of, Reads};
+ghost use Rattle.std.specs.Prelude.{◌≡◌, ◌<◌, ◌⊎◌, ◌^◌, List, [], None, Some, Ok, Err, length, slice_get, IfOk, IfErr};
+ghost use Rattle.std.specs.List.{AllByRecursion};
+ghost use Rattle.sccs_script.specs.Commands.{FitsIn, orders_from, orders_of, Reads};
 ghost use Rattle.sccs_script.specs.declared.faults.ScriptFault.TheVariants.{Memory};
 
 use crate::faults::ScriptFault;
@@ -19,9 +20,15 @@ impl Model for Script {
     ghost use Rattle.std.specs.Prelude.{List};
     ghost use Rattle.sccs_edits.specs.declared.scripts.Order.{Order};
 
+    ghost use Rattle.std.specs.List.{AllByRecursion};
+    ghost use Rattle.std.specs.Prelude.{◌^◌};
+    ghost use Rattle.sccs_script.specs.Commands.{FitsIn};
+
     ghost Value = { List Order };
 
     ghost view = { λ s. s.orders.items };
+
+    ghost invariant = { λ s. AllByRecursion (FitsIn (2 ^ 64)) s.orders.items };
 }
 
 impl Script {
@@ -41,7 +48,8 @@ impl Script {
 
     /// The orders as a slice.
     pub fn orders(&self) -> &[Order]
-        ensures { result.now ≡ self.now }
+        ensures value { result.now ≡ self.now }
+        ensures fit { AllByRecursion (FitsIn (2 ^ 64)) self.now }
     {
         self.orders.as_slice()
     }
@@ -50,6 +58,7 @@ impl Script {
 // the orders of lines
 fn read_lines(alloc: Global, lines: &Text) -> Result<Vec<Order>, ScriptFault>
     ensures ok { IfOk result (λ orders. orders_from [] None 0 lines.now ≡ Ok orders.items) }
+    ensures fits { IfOk result (λ orders. AllByRecursion (FitsIn (2 ^ 64)) orders.items) }
     ensures err { IfErr result (λ fault. (fault ≡ Memory) ⊎ (orders_from [] None 0 lines.now ≡ Err fault)) }
 {
     let mut orders = Vec::new(alloc);

@@ -1,5 +1,5 @@
-ghost use Rattle.std.specs.Prelude.{◌≡◌, IfOk};
-ghost use Rattle.sccs_script.specs.Commands.{begun, command_of, is_dot, order_of, turn_at, with_line};
+ghost use Rattle.std.specs.Prelude.{◌≡◌, ◌+◌, ℕ, IfOk, IfSome};
+ghost use Rattle.sccs_script.specs.Commands.{begun, command_of, FitsIn, HasNumbers, is_dot, order_of, turn_at, TurnFits, with_line};
 
 use crate::commands::{Command, command_of, is_dot};
 use sccs_base::{Line, Memory, Text};
@@ -19,7 +19,9 @@ pub enum Turn {
 
 // the order of a command, without its text
 fn order_of(alloc: Global, number: u64, command: Command) -> Order
-    ensures { result ≡ order_of number command }
+    requires { HasNumbers command.kind command.first command.last }
+    ensures value { result ≡ order_of number command }
+    ensures fits { FitsIn (number + 1) result }
 {
     Order {
         kind: command.kind,
@@ -32,7 +34,8 @@ fn order_of(alloc: Global, number: u64, command: Command) -> Order
 
 // a command line
 fn begin(alloc: Global, number: u64, line: &[u8]) -> Turn
-    ensures { result ≡ begun number (command_of line.now) }
+    ensures value { result ≡ begun number (command_of line.now) }
+    ensures fits { TurnFits (number + 1) result }
 {
     let Some(command) = command_of(line) else {
         return Turn::Bad(number);
@@ -46,8 +49,10 @@ fn begin(alloc: Global, number: u64, line: &[u8]) -> Turn
 }
 
 // a line of a text, or the dot that ends it
-fn go_on(alloc: Global, mut order: Order, line: &Line) -> Result<Turn, Memory>
-    ensures { IfOk result (λ t. t ≡ with_line (is_dot line.now) order line.now) }
+fn go_on(alloc: Global, mut order: Order, number: u64, line: &Line) -> Result<Turn, Memory>
+    requires { FitsIn number order }
+    ensures value { IfOk result (λ t. t ≡ with_line (is_dot line.now) order line.now) }
+    ensures fits { IfOk result (TurnFits (number + 1)) }
 {
     if is_dot(line.bytes()) {
         return Ok(Turn::Whole(order));
@@ -66,10 +71,12 @@ pub fn take_line(
     number: u64,
     line: &Line,
 ) -> Result<Turn, Memory>
-    ensures { IfOk result (λ t. t ≡ turn_at text number line.now) }
+    requires { IfSome text (FitsIn number) }
+    ensures value { IfOk result (λ t. t ≡ turn_at text number line.now) }
+    ensures fits { IfOk result (TurnFits (number + 1)) }
 {
     match text {
         None => Ok(begin(alloc, number, line.bytes())),
-        Some(order) => go_on(alloc, order, line),
+        Some(order) => go_on(alloc, order, number, line),
     }
 }
