@@ -15,7 +15,7 @@ use Rattle.sccs_edits.proofs.Runs.{flat, Keeps, kept-run}
 use Rattle.sccs_edits.proofs.Texts.{put_text, take_text}
 use Rattle.sccs_script.specs.Checks.{length_after, length_by, ranged}
 use Rattle.sccs_script.specs.Commands.{FitsIn, HasNumbers, is_append}
-use Rattle.sccs_script.specs.Drafts.{anchor, anchor_from, base_of, content, cut_entries, edit, edited, Entry, first_line, Fresh, grouped, Kept, missing, plan_of, put_entries, span}
+use Rattle.sccs_script.specs.Drafts.{anchor, anchor_from, base_of, content, cut_entries, edit, edited, Entry, first_line, Fresh, grouped, Kept, missing, Names, plan_of, put_entries, span}
 use Rattle.sccs_script.specs.declared.faults.ScriptFault.{ScriptFault}
 use Rattle.sccs_script.specs.declared.faults.ScriptFault.TheVariants.{ScriptRange}
 
@@ -63,13 +63,7 @@ seen-take k (suc j) (suc count) (Base true ∷ cells) = seen-take (suc k) (suc j
 seen-take k (suc j) (suc count) (Base false ∷ cells) = ap (λ l. Kept (suc k) ∷ l) (seen-take (suc k) j (suc count) cells)
 seen-take k (suc j) (suc count) (New text ∷ cells) = ap (λ l. Fresh k text ∷ l) (seen-take k j (suc count) cells)
 
--- an order names lines that are there
-record Names (kind : OrderKind) (first last lines : ℕ) : Type 0 where
-  some : is_append kind ≡ false → 0 < first
-  rising : first ≤ last
-  there : last ≤ lines
-
-cut_length : (first last : ℕ) (entries : List Entry) → 0 < first → first ≤ last → last ≤ length entries → length (cut_entries first last entries) ≡ length entries - (suc last - first)
+pub cut_length : (first last : ℕ) (entries : List Entry) → 0 < first → first ≤ last → last ≤ length entries → length (cut_entries first last entries) ≡ length entries - (suc last - first)
 cut_length first last entries some le there =
     length-append (take (first - 1) entries) (drop (last - (first - 1)) (drop (first - 1) entries))
     ∙ (ap (λ n. n + length (drop (last - (first - 1)) (drop (first - 1) entries))) (length-take-le (first - 1) entries (omega arith))
@@ -88,7 +82,7 @@ put_length k new entries le =
     map_length f [] = refl
     map_length f (x ∷ l) = ap suc (map_length f l)
 
-edit_length : (kind : OrderKind) (first last : ℕ) (new : List (List ℕ)) (entries : List Entry) → Names kind first last (length entries)
+pub edit_length : (kind : OrderKind) (first last : ℕ) (new : List (List ℕ)) (entries : List Entry) → Names kind first last (length entries)
     → length (edit kind first last new entries) ≡ length_by kind first last (length new) (length entries)
 edit_length Append first last new entries names = put_length first new entries (omega (arith, names.rising, names.there))
 edit_length Delete first last new entries names = cut_length first last entries (names.some refl) names.rising names.there
@@ -109,14 +103,14 @@ seen-step Change first last new cells names =
     ∙ ap (put_entries (first - 1) new) cut
 
 -- orders that fit a text of so many lines name lines that are there
-names_of : (order : Order) (next lines : ℕ) → FitsIn next order → nat_lt lines order.last ≡ false → Names order.kind order.first order.last lines
+pub names_of : (order : Order) (next lines : ℕ) → FitsIn next order → nat_lt lines order.last ≡ false → Names order.kind order.first order.last lines
 names_of order next lines fits in_range = record {
   some = λ other. ltb-true 0 order.first (ap (λ t. t || nat_lt 0 order.first) (sym other) ∙ fits.numbers.low);
   rising = fits.numbers.rising;
   there = ltb-false lines order.last in_range;
 }
 
-in_range : (t : Bool) (order : Order) (lines : ℕ) (rest : Result (Unit {0}) ScriptFault) → cond t (Err (ScriptRange order.line lines)) rest ≡ Ok tt → (t ≡ false) × (rest ≡ Ok tt)
+pub in_range : (t : Bool) (order : Order) (lines : ℕ) (rest : Result (Unit {0}) ScriptFault) → cond t (Err (ScriptRange order.line lines)) rest ≡ Ok tt → (t ≡ false) × (rest ≡ Ok tt)
 in_range true order lines rest e = cc
 in_range false order lines rest e = (refl, e)
 
@@ -216,7 +210,7 @@ bases_run : (orders : List Order) (count : ℕ) → bases (cells_of orders count
 bases_run orders count =
     ap length (kept-run is_there struck New one_of (record { new = λ text. refl; away = one_kept }) orders (replicate count (Base false))) ∙ bases_base count
 
-span_length : (n count : ℕ) → length (map Kept (span n count)) ≡ count
+pub span_length : (n count : ℕ) → length (map Kept (span n count)) ≡ count
 span_length n zero = refl
 span_length n (suc count) = ap suc (span_length (suc n) count)
 

@@ -1,3 +1,5 @@
 pub mod Bare
+pub mod Contents
 pub mod Entries
 pub mod OneTurn
+pub mod PieceLaws

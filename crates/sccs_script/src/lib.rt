@@ -4,6 +4,7 @@
 mod checks;
 mod commands;
 mod faults;
+mod pieces;
 mod reading;
 mod turns;
 
