@@ -1,5 +1,6 @@
 pub mod Bare
 pub mod Contents
+pub mod DraftLaws
 pub mod Entries
 pub mod OneTurn
 pub mod PieceLaws

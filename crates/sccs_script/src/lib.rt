@@ -3,6 +3,7 @@
 
 mod checks;
 mod commands;
+mod drafts;
 mod faults;
 mod pieces;
 mod reading;

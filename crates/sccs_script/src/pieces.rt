@@ -1,8 +1,9 @@
-ghost use Rattle.std.specs.Prelude.{◌≡◌, ◌<◌, ◌≤◌, List, [], length, IfOk, MatchOption};
+ghost use Rattle.std.specs.Prelude.{◌≡◌, ◌<◌, ◌≤◌, ◌++◌, List, [], drop, length, map, IfOk, OnOk, MatchOption};
 ghost use Rattle.std.specs.List.{AllByRecursion};
-ghost use Rattle.sccs_script.specs.Drafts.{expand, expanded, IsPiece, TakesLast, TakesOff, unstacked};
+ghost use Rattle.sccs_script.specs.Drafts.{expand, expanded, Fresh, IsPiece, TakesLast, TakesOff, unstacked};
 
-use sccs_base::{Line, Memory};
+use sccs_base::{Line, Memory, Text};
+use std::alloc::Global;
 
 /// A piece of a text while orders are made on it.
 #[derive(Drop)]
@@ -68,4 +69,43 @@ pub fn take_last(pieces: &mut Vec<Piece>, most: u64) -> Result<Option<Piece>, Me
         }
         Piece::Fresh(after, line) => Ok(Some(Piece::Fresh(after, line))),
     }
+}
+
+/// Takes so many lines off a stack.
+pub fn remove_next(stack: &mut Vec<Piece>, lines: u64) -> Result<(), Memory>
+    requires there { lines ≤ length (unstacked stack.old.items) }
+    requires pieces { AllByRecursion IsPiece stack.old.items }
+    ensures ok { OnOk result (unstacked stack.new.items ≡ drop lines (unstacked stack.old.items)) }
+    ensures pieces { AllByRecursion IsPiece stack.new.items }
+{
+    let mut rest = lines;
+    while 0 < rest {
+        let Some(piece) = take_next(stack, rest)? else {
+            return Ok(());
+        };
+        rest -= count(&piece);
+    }
+    Ok(())
+}
+
+/// Puts new lines on a stack, the first one last, all of which follow one base line.
+pub fn push_lines(
+    alloc: Global,
+    stack: &mut Vec<Piece>,
+    after: u64,
+    lines: &Text,
+) -> Result<(), Memory>
+    requires pieces { AllByRecursion IsPiece stack.old.items }
+    ensures ok { OnOk result (unstacked stack.new.items ≡ map (Fresh after) lines.now ++ unstacked stack.old.items) }
+    ensures pieces { AllByRecursion IsPiece stack.new.items }
+{
+    let mut place = lines.len();
+    while 0 < place {
+        place -= 1;
+        let Ok(line) = Line::new(alloc, lines.at(place).bytes()) else {
+            return Err(Memory);
+        };
+        stack.push(Piece::Fresh(after, line))?;
+    }
+    Ok(())
 }
