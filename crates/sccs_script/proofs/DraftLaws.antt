@@ -1,9 +1,13 @@
 -- How the place of a draft moves.
-use Rattle.std.proofs.Common.{◌≡◌, ℕ, zero, suc, ◌+◌, ◌-◌, ◌<◌, ◌≤◌, List, [], ◌∷◌, ◌++◌, Option, None, Some, length, map, take, drop, slice_get, refl, sym, subst, ap, ◌∙◌, arith, append_assoc, append-nil}
+use Rattle.std.proofs.Common.{◌≡◌, ℕ, zero, suc, ◌+◌, ◌-◌, ◌<◌, ◌≤◌, List, [], ◌∷◌, ◌++◌, Option, None, Some, Result, Ok, Err, IfOk, nat_lt, length, map, take, drop, get_or, slice_get, refl, sym, subst, ap, ◌∙◌, arith, append_assoc, append-nil}
 use Rattle.std.specs.List.{AllByRecursion}
-use Rattle.std.proofs.lemmas.List.{drop_at, length-append, take_at}
+use Rattle.std.proofs.lemmas.List.{drop_at, drop_more, length-append, take_at}
+use Rattle.sccs_edits.specs.declared.scripts.Order.{Order}
+use Rattle.sccs_script.specs.Checks.{length_after, ranged}
+use Rattle.sccs_script.specs.Commands.{FitsIn}
+use Rattle.sccs_script.proofs.Entries.{edit_length, in_range, names_of}
 use Rattle.std.proofs.Math.Seq.{drop-append-add}
-use Rattle.sccs_script.specs.Drafts.{anchor_from, Entry, expand, expanded, Fresh, IsDraft, IsPiece, Kept, Moves, span, Split, TakesLast, TakesOff, unstacked, whole}
+use Rattle.sccs_script.specs.Drafts.{anchor, anchor_from, cut_entries, edit, edited, Entry, expand, expanded, Fresh, IsDraft, IsPiece, Kept, Moves, Names, put_entries, span, Split, TakesLast, TakesOff, unstacked, whole}
 use Rattle.sccs_script.specs.declared.pieces.Piece.{Piece}
 use Rattle.sccs_script.specs.declared.pieces.Piece.TheVariants as pieces
 use Rattle.sccs_script.proofs.OneTurn.{drop_at_place}
@@ -101,3 +105,52 @@ anchor_pieces k (q ∷ []) p fits at = ap (anchor_from k) (append-nil (expand q)
 anchor_pieces k (q ∷ r ∷ ps) p fits at =
     let back : length (q ∷ r ∷ ps) - 1 ≡ suc (length (r ∷ ps) - 1) = omega arith in
     anchor_append k (expand q) (expanded (r ∷ ps)) ∙ anchor_pieces (anchor_from k (expand q)) (r ∷ ps) p fits.1 (ap (slice_get (q ∷ r ∷ ps)) (sym back) ∙ at)
+
+-- new lines at a place, and lines taken away there
+pub put_whole : (k : ℕ) (g d : Split) (lines : List (List ℕ)) (entries : List Entry) → whole g ≡ entries → length g.left ≡ k → d.left ≡ g.left → d.right ≡ map (Fresh (anchor g.left)) lines ++ g.right
+    → whole d ≡ put_entries k lines entries
+put_whole k g d lines entries same at left right =
+    ap (λ l. l ++ d.right) left
+    ∙ (ap (λ l. g.left ++ l) right
+    ∙ (ap (λ l. l ++ (map (Fresh (anchor l)) lines ++ g.right)) (sym (cut_left k g entries same at)) ∙ ap (λ l. take k entries ++ (map (Fresh (anchor (take k entries))) lines ++ l)) (sym (cut_right k g entries same at))))
+
+pub cut_whole : (first last : ℕ) (g d : Split) (entries : List Entry) → whole g ≡ entries → length g.left ≡ first - 1 → d.left ≡ g.left → d.right ≡ drop (last - (first - 1)) g.right → whole d ≡ cut_entries first last entries
+cut_whole first last g d entries same at left right =
+    ap (λ l. l ++ d.right) left
+    ∙ (ap (λ l. g.left ++ l) right
+    ∙ (ap (λ l. l ++ drop (last - (first - 1)) g.right) (sym (cut_left (first - 1) g entries same at)) ∙ ap (λ l. take (first - 1) entries ++ drop (last - (first - 1)) l) (sym (cut_right (first - 1) g entries same at))))
+
+-- where the place is before all, all entries stand behind it
+pub all_right : (d : Split) → length d.left ≡ 0 → d.right ≡ whole d
+all_right d at = sym (ap (λ l. l ++ d.right) (nothing d.left at))
+  where
+    nothing : (l : List Entry) → length l ≡ 0 → l ≡ []
+    nothing [] e = refl
+    nothing (x ∷ l) e = absurd (omega (arith, e))
+
+-- two things that hold of what was answered
+pub if_both : {A E : Type 0} (r : Result A E) (P Q R : A → Type 0) → ((a : A) → P a → Q a → R a) → IfOk r P → IfOk r Q → IfOk r R
+if_both (Ok a) P Q R joined one two = joined a one two
+if_both (Err e) P Q R joined one two = tt
+
+-- The next order of those from a place on: it names lines that are there, and the others fit what it makes.
+pub record NextOrder (next : ℕ) (orders : List Order) (i : ℕ) (order : Order) (entries : List Entry) : Type 0 where
+  pub names : Names order.kind order.first order.last (length entries)
+  pub same : edited (drop i orders) entries ≡ edited (drop (i + 1) orders) (edit order.kind order.first order.last order.lines entries)
+  pub range : ranged (drop (i + 1) orders) (length (edit order.kind order.first order.last order.lines entries)) ≡ Ok tt
+  pub fit : AllByRecursion (FitsIn next) (drop (i + 1) orders)
+
+pub next_order : (next : ℕ) (orders : List Order) (i : ℕ) (order : Order) (entries : List Entry) → i < length orders → order ≡ get_or orders i order
+    → AllByRecursion (FitsIn next) (drop i orders) → ranged (drop i orders) (length entries) ≡ Ok tt → NextOrder next orders i order entries
+next_order next orders i order entries low at fit range =
+    let from : drop i orders ≡ order ∷ drop (i + 1) orders = drop_more orders i order low ∙ ap (λ o. o ∷ drop (i + 1) orders) (sym at) in
+    let fits = subst (AllByRecursion (FitsIn next)) from fit in
+    let lines : ℕ = length entries in
+    let parts = in_range (nat_lt lines order.last) order lines (ranged (drop (i + 1) orders) (length_after order lines)) (ap (λ l. ranged l lines) (sym from) ∙ range) in
+    let names = names_of order next lines fits.0 parts.0 in
+    record {
+      names = names;
+      same = ap (λ l. edited l entries) from;
+      range = ap (ranged (drop (i + 1) orders)) (edit_length order.kind order.first order.last order.lines entries names) ∙ parts.1;
+      fit = fits.1;
+    }

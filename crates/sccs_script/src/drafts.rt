@@ -1,7 +1,8 @@
-ghost use Rattle.std.specs.Prelude.{◌≡◌, ◌<◌, ◌≤◌, ◌++◌, ◌+◌, ◌-◌, ◌^◌, [], length, map, drop, take, IfOk, OnOk};
+ghost use Rattle.std.specs.Prelude.{◌≡◌, ◌<◌, ◌≤◌, ◌++◌, ◌+◌, ◌-◌, ◌^◌, [], length, map, drop, Ok, IfOk};
 ghost use Rattle.std.specs.List.{AllByRecursion};
-ghost use Rattle.sccs_script.specs.Drafts.{anchor, base_of, edit, Fresh, IsPiece, Moves, Names, unstacked, whole};
-ghost use Rattle.sccs_script.specs.declared.pieces.Piece.TheVariants as pieces;
+ghost use Rattle.sccs_script.specs.Checks.{ranged};
+ghost use Rattle.sccs_script.specs.Commands.{FitsIn};
+ghost use Rattle.sccs_script.specs.Drafts.{anchor, base_of, cut_entries, edit, edited, Fresh, IsPiece, Moves, Names, unstacked, whole};
 
 use crate::pieces::{Piece, count, push_lines, remove_next, take_last, take_next};
 use sccs_base::{Memory, Text};
@@ -172,4 +173,57 @@ impl Draft {
         push_lines(alloc, &mut back, after, lines)?;
         Ok(Draft { front, back, at })
     }
+
+    // the draft without the lines from one to another; the place is where they were
+    fn cut(self, first: u32, last: u32) -> Result<Draft, Memory>
+        requires some { 0 < first }
+        requires rising { first ≤ last }
+        requires there { last ≤ length (whole self) }
+        ensures whole { IfOk result (λ d. whole d ≡ cut_entries first last (whole self)) }
+        ensures at { IfOk result (λ d. length d.left ≡ first - 1) }
+    {
+        let before = u64::from(first) - 1;
+        let draft = self.go_to(before)?;
+        draft.remove(u64::from(last) - before)
+    }
+
+    // the draft behind an order
+    fn edit(self, alloc: Global, order: &Order) -> Result<Draft, Memory>
+        requires { Names order.now.kind order.now.first order.now.last (length (whole self)) }
+        ensures { IfOk result (λ d. whole d
+            ≡ edit order.now.kind order.now.first order.now.last order.now.lines (whole self)) }
+    {
+        match order.kind {
+            OrderKind::Append => {
+                let draft = self.go_to(u64::from(order.first))?;
+                draft.put(alloc, &order.lines)
+            }
+            OrderKind::Delete => self.cut(order.first, order.last),
+            OrderKind::Change => {
+                let draft = self.cut(order.first, order.last)?;
+                draft.put(alloc, &order.lines)
+            }
+        }
+    }
+}
+
+/// What stands in a base of so many lines behind orders that fit it: a stack of pieces, whose last
+/// comes first.
+pub fn edited(alloc: Global, orders: &[Order], lines: u64) -> Result<Vec<Piece>, Memory>
+    requires fit { AllByRecursion (FitsIn (2 ^ 64)) orders.now }
+    requires range { ranged orders.now lines ≡ Ok tt }
+    ensures pieces { IfOk result (λ p. AllByRecursion IsPiece p.items) }
+    ensures edited { IfOk result (λ p. unstacked p.items ≡ edited orders.now (base_of lines)) }
+{
+    let mut draft = Draft::new(alloc, lines)?;
+    for order in orders {
+        draft = draft.edit(alloc, order)?;
+    }
+    let draft = draft.go_to(0)?;
+    let Draft {
+        front: _,
+        back,
+        at: _,
+    } = draft;
+    Ok(back)
 }
