@@ -154,3 +154,7 @@ next_order next orders i order entries low at fit range =
       range = ap (ranged (drop (i + 1) orders)) (edit_length order.kind order.first order.last order.lines entries names) ∙ parts.1;
       fit = fits.1;
     }
+
+pub if_three : {A E : Type 0} (r : Result A E) (P Q R S : A → Type 0) → ((a : A) → P a → Q a → R a → S a) → IfOk r P → IfOk r Q → IfOk r R → IfOk r S
+if_three (Ok a) P Q R S joined one two three = joined a one two three
+if_three (Err e) P Q R S joined one two three = tt

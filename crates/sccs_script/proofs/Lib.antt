@@ -4,3 +4,4 @@ pub mod DraftLaws
 pub mod Entries
 pub mod OneTurn
 pub mod PieceLaws
+pub mod PlanLaws

@@ -1,6 +1,7 @@
 -- The entries of pieces that are put and taken.
-use Rattle.std.proofs.Common.{◌≡◌, ℕ, zero, suc, ◌+◌, ◌-◌, ◌<◌, ◌≤◌, List, [], ◌∷◌, ◌++◌, length, map, refl, sym, subst, ap, ◌∙◌, arith, append_assoc, append-nil}
+use Rattle.std.proofs.Common.{◌≡◌, ℕ, zero, suc, ◌+◌, ◌-◌, ◌<◌, ◌≤◌, List, [], ◌∷◌, ◌++◌, Option, Some, length, map, refl, sym, subst, ap, ◌∙◌, arith, append_assoc, append-nil}
 use Rattle.std.specs.List.{AllByRecursion}
+use Rattle.std.specs.Option.{option_to_list}
 use Rattle.std.proofs.lemmas.List.{map-append}
 use Rattle.sccs_script.specs.Drafts.{Entry, expand, expanded, Fresh, IsPiece, Kept, span, TakesLast, TakesOff, unstacked}
 use Rattle.sccs_script.specs.declared.pieces.Piece.{Piece}
@@ -123,3 +124,10 @@ pub last_left : (most first last : ℕ) (old init new : List Piece) → old ≡ 
 last_left most first last old init new is now each le some =
     let both = all_but_last IsPiece init (pieces.Kept first last) (subst (AllByRecursion IsPiece) is each) in
     subst (AllByRecursion IsPiece) (sym now) (all_push IsPiece init (pieces.Kept first (last - most)) both.0 (both.1.0, omega (arith, both.1.1)))
+
+-- what a stack is without its last piece
+pub popped : (old new : List Piece) (p : Piece) (result : Option Piece) → old ≡ new ++ option_to_list result → result ≡ Some p → unstacked old ≡ expand p ++ unstacked new
+popped old new p result items is = ap unstacked (items ∙ ap (λ o. new ++ option_to_list o) is) ∙ unstacked_push new p
+
+pub popped_rest : {A : Type 0} (P : A → Type 0) (old new : List A) (x : A) (result : Option A) → old ≡ new ++ option_to_list result → result ≡ Some x → AllByRecursion P old → AllByRecursion P new × P x
+popped_rest P old new x result items is each = all_but_last P new x (subst (AllByRecursion P) (items ∙ ap (λ o. new ++ option_to_list o) is) each)

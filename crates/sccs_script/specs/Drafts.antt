@@ -141,6 +141,11 @@ abbrev pub InBase : ℕ → Entry → Type 0
 InBase count (Kept n) = (0 < n) × (n ≤ count)
 InBase count (Fresh n text) = n ≤ count
 
+-- the base lines of a piece are among so many
+abbrev pub IsWithin : ℕ → Piece → Type 0
+IsWithin count (pieces.Kept first last) = last ≤ count
+IsWithin count (pieces.Fresh after line) = Unit {0}
+
 -- An order names lines that are there.
 pub record Names (kind : OrderKind) (first last lines : ℕ) : Type 0 where
   pub some : is_append kind ≡ false → 0 < first

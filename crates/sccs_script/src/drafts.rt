@@ -2,7 +2,7 @@ ghost use Rattle.std.specs.Prelude.{◌≡◌, ◌<◌, ◌≤◌, ◌++◌, ◌
 ghost use Rattle.std.specs.List.{AllByRecursion};
 ghost use Rattle.sccs_script.specs.Checks.{ranged};
 ghost use Rattle.sccs_script.specs.Commands.{FitsIn};
-ghost use Rattle.sccs_script.specs.Drafts.{anchor, base_of, cut_entries, edit, edited, Fresh, IsPiece, Moves, Names, unstacked, whole};
+ghost use Rattle.sccs_script.specs.Drafts.{anchor, base_of, cut_entries, edit, edited, Fresh, IsPiece, IsWithin, Moves, Names, unstacked, whole};
 
 use crate::pieces::{Piece, count, push_lines, remove_next, take_last, take_next};
 use sccs_base::{Memory, Text};
@@ -213,6 +213,7 @@ pub fn edited(alloc: Global, orders: &[Order], lines: u64) -> Result<Vec<Piece>,
     requires fit { AllByRecursion (FitsIn (2 ^ 64)) orders.now }
     requires range { ranged orders.now lines ≡ Ok tt }
     ensures pieces { IfOk result (λ p. AllByRecursion IsPiece p.items) }
+    ensures within { IfOk result (λ p. AllByRecursion (IsWithin lines) p.items) }
     ensures edited { IfOk result (λ p. unstacked p.items ≡ edited orders.now (base_of lines)) }
 {
     let mut draft = Draft::new(alloc, lines)?;

@@ -1,10 +1,12 @@
-use Rattle.std.proofs.Common.{◌≡◌, ◌+◌, ◌++◌, [], List, ℕ, Ok, drop, length, map, sym, subst, ap, ◌∙◌}
+use Rattle.std.proofs.Common.{◌≡◌, ◌+◌, ◌++◌, [], List, ℕ, Ok, drop, length, map, sym, subst, ap, ◌∙◌, arith}
 use Rattle.std.specs.List.{AllByRecursion}
 use Rattle.sccs_edits.specs.declared.scripts.Order.{Order}
 use Rattle.sccs_script.specs.Checks.{ranged}
 use Rattle.sccs_script.specs.Drafts.{base_of, edit, edited, Entry, Kept, Split, span, whole}
-use Rattle.sccs_script.proofs.DraftLaws.{next_order, NextOrder}
+use Rattle.sccs_script.proofs.DraftLaws.{all_right, next_order, NextOrder}
 use Rattle.sccs_script.proofs.Entries.{span_length}
+use Rattle.std.proofs.lemmas.List.{at_drop_all}
+use Rattle.sccs_script.proofs.PlanLaws.{pieces_within}
 use Rattle.sccs_script.proofs.drafts.edited.Goals as goal
 
 pub loop-order-init : goal.loop-order-init
@@ -29,3 +31,12 @@ loop-order-preserved c =
       range = ap (λ l. ranged (drop (i + 1) orders) (length l)) c.in_ok-draft-2.ensures ∙ on.range;
       fit = on.fit;
     }
+
+pub returns-clause-within : goal.returns-clause-within
+returns-clause-within c =
+    let orders : List Order = c.args.orders.now in
+    let d : Split = c.in_ok-draft-3.draft in
+    let all : whole c.loop-order.draft ≡ edited orders (base_of c.args.lines) =
+      sym (at_drop_all (λ l. edited l (whole c.loop-order.draft)) orders c.loop-order.order-index (omega (arith, c.loop-order-test.false))) ∙ c.loop-order.invariant.same in
+    pieces_within c.args.lines orders c.draft.inside.back.items c.draft.invariant.back_fits
+    (ap (λ (s : Split). s.right) c.draft.view_is ∙ (all_right d c.in_ok-draft-3.ensures.at ∙ (c.in_ok-draft-3.ensures.whole ∙ all)))
