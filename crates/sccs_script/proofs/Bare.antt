@@ -1,5 +1,5 @@
 -- The texts of orders, where some line begins with SOH.
-use Rattle.std.proofs.Common.{◌≡◌, ℕ, suc, ◌+◌, ◌<◌, ◌≤◌, nat_lt, Bool, true, false, cond, not, List, [], ◌∷◌, Option, None, Some, Result, Ok, Err, length, drop, get_or, refl, sym, subst, ap, ◌∙◌, arith, lt-ltb, le-ltb}
+use Rattle.std.proofs.Common.{◌≡◌, ℕ, suc, ◌+◌, ◌<◌, ◌≤◌, nat_lt, Bool, true, false, cond, not, List, [], ◌∷◌, Option, None, Some, length, drop, get_or, refl, sym, subst, ap, ◌∙◌, arith, lt-ltb, le-ltb}
 use Rattle.std.specs.List.{AllByRecursion, position, position_or_len}
 use Rattle.std.specs.Option.{option_map}
 use Rattle.std.proofs.lemmas.Bool.{ltb-true, ltb-false}
@@ -7,9 +7,6 @@ use Rattle.std.proofs.lemmas.List.{drop_more}
 use Rattle.sccs_sid.specs.SidLists.{begins}
 use Rattle.sccs_edits.specs.declared.scripts.Order.{Order}
 use Rattle.sccs_script.specs.Checks.{bad_line, bare, or_bad}
-use Rattle.sccs_script.specs.Commands.{FitsIn}
-use Rattle.sccs_script.specs.declared.faults.ScriptFault.{ScriptFault}
-use Rattle.sccs_script.specs.declared.faults.ScriptFault.TheVariants.{BadText}
 
 abbrev pub numbered : ℕ → Option ℕ → Option ℕ
 numbered before place = option_map (λ i. before + 1 + i) place

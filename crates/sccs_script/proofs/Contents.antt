@@ -1,8 +1,8 @@
 -- The text that a script makes, by what stands in it at its end.
-use Rattle.std.proofs.Common.{◌≡◌, ℕ, zero, suc, ◌+◌, ◌-◌, ◌<◌, ◌≤◌, nat_lt, Bool, true, false, List, [], ◌∷◌, ◌++◌, Result, Ok, length, map, take, drop, refl, sym, subst, ap, ◌∙◌, arith}
+use Rattle.std.proofs.Common.{◌≡◌, ℕ, suc, ◌+◌, ◌-◌, ◌≤◌, nat_lt, true, List, [], ◌∷◌, ◌++◌, Ok, length, map, take, drop, refl, sym, subst, ap, ◌∙◌, arith}
 use Rattle.std.specs.List.{AllByRecursion}
 use Rattle.std.proofs.lemmas.List.{drop-drop, drop-map, length-map, map-append, take-map}
-use Rattle.sccs_edits.specs.Scripts.{apply, put_after, run, step, take_away}
+use Rattle.sccs_edits.specs.Scripts.{apply, put_after, step, take_away}
 use Rattle.sccs_edits.specs.declared.scripts.Order.{Order}
 use Rattle.sccs_edits.specs.declared.scripts.OrderKind.{OrderKind}
 use Rattle.sccs_edits.specs.declared.scripts.OrderKind.TheVariants.{Append, Change, Delete}

@@ -1,21 +1,19 @@
 -- What stands in a text while orders are made, against the definitions of plans and texts.
-use Rattle.std.proofs.Common.{◌≡◌, ℕ, zero, suc, ◌+◌, ◌-◌, ◌<◌, ◌≤◌, ◌==◌, nat_lt, Bool, true, false, cond, not, ◌||◌, List, [], ◌∷◌, ◌++◌, Result, Ok, Err, length, map, take, drop, replicate, refl, sym, subst, ap, ◌∙◌, inl, inr, arith, eq-eqb}
+use Rattle.std.proofs.Common.{◌≡◌, ℕ, zero, suc, ◌+◌, ◌-◌, ◌<◌, ◌≤◌, ◌==◌, nat_lt, Bool, true, false, cond, ◌||◌, List, [], ◌∷◌, ◌++◌, Result, Ok, Err, length, map, take, drop, replicate, refl, sym, subst, ap, ◌∙◌, arith, eq-eqb}
 use Rattle.std.specs.List.{AllByRecursion}
-use Rattle.std.proofs.lemmas.Bool.{eqb-true, ne_eqb, false≢true, cases_Bool, ltb-false, ltb-true}
-use Rattle.std.proofs.lemmas.List.{length-append, length-drop, length-take-le, map-append}
-use Rattle.sccs_history.specs.Numbers.{front_if}
+use Rattle.std.proofs.lemmas.Bool.{eqb-true, ne_eqb, ltb-false, ltb-true}
+use Rattle.std.proofs.lemmas.List.{length-append, length-drop, length-take-le}
 use Rattle.sccs_edits.specs.Plans.{added_from, Base, Cell, cells_of, deleted_from, is_there, New, plan, struck, with_added}
-use Rattle.sccs_edits.specs.Scripts.{apply, put_after, run, step, take_away}
+use Rattle.sccs_edits.specs.Scripts.{put_after, run, step, take_away}
 use Rattle.sccs_edits.specs.declared.scripts.Added.{Added}
 use Rattle.sccs_edits.specs.declared.scripts.Order.{Order}
 use Rattle.sccs_edits.specs.declared.scripts.OrderKind.{OrderKind}
 use Rattle.sccs_edits.specs.declared.scripts.OrderKind.TheVariants.{Append, Change, Delete}
 use Rattle.sccs_edits.specs.declared.scripts.Plan.{Plan}
-use Rattle.sccs_edits.proofs.Runs.{flat, Keeps, kept-run}
-use Rattle.sccs_edits.proofs.Texts.{put_text, take_text}
+use Rattle.sccs_edits.proofs.Runs.{flat, kept-run}
 use Rattle.sccs_script.specs.Checks.{length_after, length_by, ranged}
-use Rattle.sccs_script.specs.Commands.{FitsIn, HasNumbers, is_append}
-use Rattle.sccs_script.specs.Drafts.{anchor, anchor_from, base_of, content, cut_entries, edit, edited, Entry, first_line, Fresh, grouped, Kept, missing, Names, plan_of, put_entries, span}
+use Rattle.sccs_script.specs.Commands.{FitsIn}
+use Rattle.sccs_script.specs.Drafts.{anchor, anchor_from, base_of, cut_entries, edit, edited, Entry, Fresh, grouped, Kept, missing, Names, plan_of, put_entries, span}
 use Rattle.sccs_script.specs.declared.faults.ScriptFault.{ScriptFault}
 use Rattle.sccs_script.specs.declared.faults.ScriptFault.TheVariants.{ScriptRange}
 
@@ -123,7 +121,7 @@ seen-run next (order ∷ orders) cells fit ok =
     let names = names_of order next lines fit.0 parts.0 in
     let done = seen-step order.kind order.first order.last order.lines cells names in
     let size : length (seen_from 0 (step is_there struck New order.kind order.first order.last order.lines cells)) ≡ length_after order lines =
-      ap length done ∙ edit_length order.kind order.first order.last order.lines (seen_from 0 cells) names in
+    ap length done ∙ edit_length order.kind order.first order.last order.lines (seen_from 0 cells) names in
     seen-run next orders (step is_there struck New order.kind order.first order.last order.lines cells) fit.1 (ap (ranged orders) size ∙ parts.1) ∙ ap (edited orders) done
 
 -- the entries are numbered from a number on
@@ -219,7 +217,7 @@ pub plan_edited : (next : ℕ) (orders : List Order) (count : ℕ) → AllByRecu
 plan_edited next orders count fit ok =
     let base : seen_from 0 (replicate count (Base false)) ≡ base_of count = seen_base 0 count in
     let seen : seen_from 0 (cells_of orders count) ≡ edited orders (base_of count) =
-      seen-run next orders (replicate count (Base false)) fit (ap (ranged orders) (ap length base ∙ span_length 1 count) ∙ ok) ∙ ap (edited orders) base in
+    seen-run next orders (replicate count (Base false)) fit (ap (ranged orders) (ap length base ∙ span_length 1 count) ∙ ok) ∙ ap (edited orders) base in
     ap (λ l. the_plan l (added_from 0 [] (cells_of orders count)))
     (deleted_seen 0 (cells_of orders count) ∙ (ap (λ l. missing 1 l (1 + bases (cells_of orders count))) seen ∙ (let bound : 1 + bases (cells_of orders count) ≡ suc count = omega (arith, bases_run orders count) in ap (missing 1 (edited orders (base_of count))) bound)))
     ∙ ap (the_plan (missing 1 (edited orders (base_of count)) (suc count))) (added_seen 0 [] (cells_of orders count) ∙ ap (grouped 0 []) seen)

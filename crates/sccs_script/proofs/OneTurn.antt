@@ -1,14 +1,12 @@
 -- How reading goes on with a line.
-use Rattle.std.proofs.Common.{◌≡◌, ℕ, suc, ◌+◌, ◌<◌, ◌≤◌, List, [], ◌∷◌, ◌++◌, Option, None, Some, Result, Ok, Err, length, drop, get_or, slice_get, refl, sym, ap, ◌∙◌, arith, add-one}
+use Rattle.std.proofs.Common.{◌≡◌, ℕ, ◌+◌, ◌<◌, ◌≤◌, List, [], ◌∷◌, ◌++◌, Option, Some, Result, length, drop, get_or, slice_get, sym, ap, ◌∙◌, arith, add-one}
 use Rattle.std.proofs.lemmas.List.{at_drop_all, drop_more}
 use Rattle.std.proofs.lemmas.Option.{slice_get-get_or}
 use Rattle.sccs_edits.specs.declared.scripts.Order.{Order}
 use Rattle.std.specs.List.{AllByRecursion}
 use Rattle.sccs_script.specs.Commands.{at_end, FitsIn, open_in, orders_from, turn_at, unless_bad, whole_in}
 use Rattle.sccs_script.specs.declared.faults.ScriptFault.{ScriptFault}
-use Rattle.sccs_script.specs.declared.faults.ScriptFault.TheVariants.{BadScript}
 use Rattle.sccs_script.specs.declared.turns.Turn.{Turn}
-use Rattle.sccs_script.specs.declared.turns.Turn.TheVariants.{Bad, Open, Whole}
 
 -- the item at a place, and the rest
 pub drop_at_place : {A : Type 0} (xs : List A) (i : ℕ) (x : A) → i < length xs → slice_get xs i ≡ Some x → drop i xs ≡ x ∷ drop (i + 1) xs

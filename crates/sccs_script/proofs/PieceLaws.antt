@@ -1,9 +1,9 @@
 -- The entries of pieces that are put and taken.
-use Rattle.std.proofs.Common.{◌≡◌, ℕ, zero, suc, ◌+◌, ◌-◌, ◌<◌, ◌≤◌, List, [], ◌∷◌, ◌++◌, Option, Some, length, map, refl, sym, subst, ap, ◌∙◌, arith, append_assoc, append-nil}
+use Rattle.std.proofs.Common.{◌≡◌, ℕ, zero, suc, ◌+◌, ◌-◌, ◌<◌, ◌≤◌, List, [], ◌∷◌, ◌++◌, Option, Some, length, map, sym, subst, ap, ◌∙◌, arith, append_assoc, append-nil}
 use Rattle.std.specs.List.{AllByRecursion}
 use Rattle.std.specs.Option.{option_to_list}
 use Rattle.std.proofs.lemmas.List.{map-append}
-use Rattle.sccs_script.specs.Drafts.{Entry, expand, expanded, Fresh, IsPiece, Kept, span, TakesLast, TakesOff, unstacked}
+use Rattle.sccs_script.specs.Drafts.{expand, expanded, IsPiece, Kept, span, TakesLast, TakesOff, unstacked}
 use Rattle.sccs_script.specs.declared.pieces.Piece.{Piece}
 use Rattle.sccs_script.specs.declared.pieces.Piece.TheVariants as pieces
 use Rattle.sccs_script.proofs.Entries.{span_length}
@@ -69,10 +69,10 @@ pub next_part : (most first last : ℕ) (old init new : List Piece) → old ≡ 
 next_part most first last old init new is now each some le =
     let fits = (all_but_last IsPiece init (pieces.Kept first last) (subst (AllByRecursion IsPiece) is each)).1 in record {
       whole = ap unstacked is
-        ∙ (unstacked_push init (pieces.Kept first last)
-        ∙ (ap (λ l. l ++ unstacked init) (run_split first last most some (omega arith))
-        ∙ (append_assoc (expand (pieces.Kept first (first + most - 1))) (expand (pieces.Kept (first + most) last)) (unstacked init)
-        ∙ ap (λ l. expand (pieces.Kept first (first + most - 1)) ++ l) (sym (ap unstacked now ∙ unstacked_push init (pieces.Kept (first + most) last))))));
+          ∙ (unstacked_push init (pieces.Kept first last)
+          ∙ (ap (λ l. l ++ unstacked init) (run_split first last most some (omega arith))
+          ∙ (append_assoc (expand (pieces.Kept first (first + most - 1))) (expand (pieces.Kept (first + most) last)) (unstacked init)
+          ∙ ap (λ l. expand (pieces.Kept first (first + most - 1)) ++ l) (sym (ap unstacked now ∙ unstacked_push init (pieces.Kept (first + most) last))))));
       few = run_few first (first + most - 1) most (omega arith);
       some = run_some first (first + most - 1) (omega arith);
       fits = (fits.0, omega arith);
@@ -111,10 +111,10 @@ pub last_part : (most first last : ℕ) (old init new : List Piece) → old ≡ 
 last_part most first last old init new is now each some le =
     let fits = (all_but_last IsPiece init (pieces.Kept first last) (subst (AllByRecursion IsPiece) is each)).1 in record {
       whole = ap expanded is
-        ∙ (expanded_push init (pieces.Kept first last)
-        ∙ (ap (λ l. expanded init ++ l) (back_split first last most some le fits.1)
-        ∙ (sym (append_assoc (expanded init) (expand (pieces.Kept first (last - most))) (expand (pieces.Kept (last - most + 1) last)))
-        ∙ ap (λ l. l ++ expand (pieces.Kept (last - most + 1) last)) (sym (ap expanded now ∙ expanded_push init (pieces.Kept first (last - most)))))));
+          ∙ (expanded_push init (pieces.Kept first last)
+          ∙ (ap (λ l. expanded init ++ l) (back_split first last most some le fits.1)
+          ∙ (sym (append_assoc (expanded init) (expand (pieces.Kept first (last - most))) (expand (pieces.Kept (last - most + 1) last)))
+          ∙ ap (λ l. l ++ expand (pieces.Kept (last - most + 1) last)) (sym (ap expanded now ∙ expanded_push init (pieces.Kept first (last - most)))))));
       few = run_few (last - most + 1) last most (omega arith);
       some = run_some (last - most + 1) last (omega arith);
       fits = (omega arith, omega arith);

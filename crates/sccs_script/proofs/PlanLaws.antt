@@ -1,7 +1,6 @@
 -- Plans and texts by the pieces that stand at the end.
-use Rattle.std.proofs.Common.{◌≡◌, ℕ, zero, suc, ◌+◌, ◌-◌, ◌<◌, ◌≤◌, ◌==◌, List, [], ◌∷◌, ◌++◌, Some, Result, Ok, Err, length, map, take, drop, slice_get, refl, sym, subst, ap, ◌∙◌, arith, append_assoc}
+use Rattle.std.proofs.Common.{◌≡◌, ℕ, zero, suc, ◌+◌, ◌-◌, ◌<◌, ◌≤◌, List, [], ◌∷◌, ◌++◌, Some, Result, Ok, Err, length, map, take, drop, slice_get, refl, sym, subst, ap, ◌∙◌, arith, append_assoc}
 use Rattle.std.specs.List.{AllByRecursion}
-use Rattle.std.proofs.lemmas.List.{map-append}
 use Rattle.sccs_edits.specs.Plans.{with_added}
 use Rattle.sccs_edits.specs.declared.scripts.Added.{Added}
 use Rattle.sccs_edits.specs.declared.scripts.Order.{Order}
@@ -13,7 +12,6 @@ use Rattle.sccs_script.specs.declared.faults.ScriptFault.{ScriptFault}
 use Rattle.sccs_script.specs.declared.pieces.Piece.{Piece}
 use Rattle.sccs_script.specs.declared.pieces.Piece.TheVariants as pieces
 use Rattle.sccs_script.proofs.OneTurn.{drop_at_place}
-use Rattle.sccs_script.proofs.PieceLaws.{unstacked_push}
 
 -- a script that fits names lines that are there
 pub range_of : (orders : List Order) (lines : ℕ) → checked orders lines ≡ Ok tt → ranged orders lines ≡ Ok tt

@@ -1,5 +1,5 @@
 -- A text while orders are made on it, by what stands in it.
-use Rattle.std.specs.Prelude.{◌≡◌, ◌<◌, ◌≤◌, ℕ, zero, suc, ◌+◌, ◌-◌, ◌==◌, Bool, false, List, [], ◌∷◌, ◌++◌, length, map, take, drop, if◌then◌else◌}
+use Rattle.std.specs.Prelude.{◌≡◌, ◌<◌, ◌≤◌, ℕ, zero, suc, ◌-◌, ◌==◌, false, List, [], ◌∷◌, ◌++◌, length, map, take, drop, if◌then◌else◌}
 use Rattle.sccs_edits.specs.Plans.{with_added}
 use Rattle.sccs_edits.specs.declared.scripts.Added.{Added}
 use Rattle.sccs_edits.specs.declared.scripts.Order.{Order}

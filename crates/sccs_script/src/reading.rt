@@ -19,7 +19,6 @@ pub struct Script {
 impl Model for Script {
     ghost use Rattle.std.specs.Prelude.{List};
     ghost use Rattle.sccs_edits.specs.declared.scripts.Order.{Order};
-
     ghost use Rattle.std.specs.List.{AllByRecursion};
     ghost use Rattle.std.specs.Prelude.{◌^◌};
     ghost use Rattle.sccs_script.specs.Commands.{FitsIn};

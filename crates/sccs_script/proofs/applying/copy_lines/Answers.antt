@@ -1,4 +1,4 @@
-use Rattle.std.proofs.Common.{◌≡◌, ◌+◌, ◌-◌, ◌<◌, ◌∙◌, arith}
+use Rattle.std.proofs.Common.{◌∙◌, arith}
 use Rattle.sccs_script.proofs.PlanLaws.{copy_next}
 use Rattle.sccs_script.proofs.applying.copy_lines.Goals as goal
 

@@ -1,4 +1,4 @@
-use Rattle.std.proofs.Common.{◌≡◌, ◌+◌, ◌^◌, ◌<◌, ℕ, List, None, Some, Err, drop, length, sym, ap, ◌∙◌, arith}
+use Rattle.std.proofs.Common.{◌+◌, List, drop, sym, ap, ◌∙◌}
 use Rattle.std.specs.List.{position}
 use Rattle.sccs_sid.specs.SidLists.{begins}
 use Rattle.sccs_edits.specs.declared.scripts.Order.{Order}
@@ -21,7 +21,7 @@ loop-order-preserved c =
     let orders : List Order = c.args.orders.now in
     record {
       all =
-        sym (ap (λ p. or_bad (numbered order.line p) (bare (drop (c.loop-order.order-index + 1) orders))) c.in_default.is)
-        ∙ (sym (bare_at orders c.loop-order.order-index order c.bad_place.result c.loop-order-test.true c.order-item.is (c.bad_place.ensures ∙ ap (position (begins 1)) c.items.ensures)) ∙ c.loop-order.invariant.all);
+          sym (ap (λ p. or_bad (numbered order.line p) (bare (drop (c.loop-order.order-index + 1) orders))) c.in_default.is)
+          ∙ (sym (bare_at orders c.loop-order.order-index order c.bad_place.result c.loop-order-test.true c.order-item.is (c.bad_place.ensures ∙ ap (position (begins 1)) c.items.ensures)) ∙ c.loop-order.invariant.all);
       fits = (fit_rest (FitsIn 18446744073709551616) orders c.loop-order.order-index order c.loop-order-test.true c.order-item.is c.loop-order.invariant.fits).1;
     }

@@ -1,8 +1,7 @@
-use Rattle.std.proofs.Common.{◌≡◌, ◌+◌, ◌++◌, [], List, ℕ, Ok, drop, length, map, sym, subst, ap, ◌∙◌, arith}
-use Rattle.std.specs.List.{AllByRecursion}
+use Rattle.std.proofs.Common.{◌≡◌, ◌+◌, ◌++◌, List, ℕ, drop, length, sym, ap, ◌∙◌, arith}
 use Rattle.sccs_edits.specs.declared.scripts.Order.{Order}
 use Rattle.sccs_script.specs.Checks.{ranged}
-use Rattle.sccs_script.specs.Drafts.{base_of, edit, edited, Entry, Kept, Split, span, whole}
+use Rattle.sccs_script.specs.Drafts.{base_of, edited, Split, whole}
 use Rattle.sccs_script.proofs.DraftLaws.{all_right, next_order, NextOrder}
 use Rattle.sccs_script.proofs.Entries.{span_length}
 use Rattle.std.proofs.lemmas.List.{at_drop_all}
@@ -25,7 +24,7 @@ loop-order-preserved c =
     let order : Order = c.order-item.result in
     let i : ℕ = c.loop-order.order-index in
     let on : NextOrder 18446744073709551616 orders i order (whole c.loop-order.draft) =
-      next_order 18446744073709551616 orders i order (whole c.loop-order.draft) c.loop-order-test.true c.order-item.is c.loop-order.invariant.fit c.loop-order.invariant.range in
+    next_order 18446744073709551616 orders i order (whole c.loop-order.draft) c.loop-order-test.true c.order-item.is c.loop-order.invariant.fit c.loop-order.invariant.range in
     record {
       same = ap (edited (drop (i + 1) orders)) c.in_ok-draft-2.ensures ∙ (sym on.same ∙ c.loop-order.invariant.same);
       range = ap (λ l. ranged (drop (i + 1) orders) (length l)) c.in_ok-draft-2.ensures ∙ on.range;
@@ -37,6 +36,6 @@ returns-clause-within c =
     let orders : List Order = c.args.orders.now in
     let d : Split = c.in_ok-draft-3.draft in
     let all : whole c.loop-order.draft ≡ edited orders (base_of c.args.lines) =
-      sym (at_drop_all (λ l. edited l (whole c.loop-order.draft)) orders c.loop-order.order-index (omega (arith, c.loop-order-test.false))) ∙ c.loop-order.invariant.same in
+    sym (at_drop_all (λ l. edited l (whole c.loop-order.draft)) orders c.loop-order.order-index (omega (arith, c.loop-order-test.false))) ∙ c.loop-order.invariant.same in
     pieces_within c.args.lines orders c.draft.inside.back.items c.draft.invariant.back_fits
     (ap (λ (s : Split). s.right) c.draft.view_is ∙ (all_right d c.in_ok-draft-3.ensures.at ∙ (c.in_ok-draft-3.ensures.whole ∙ all)))

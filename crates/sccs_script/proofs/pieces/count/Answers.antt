@@ -1,4 +1,4 @@
-use Rattle.std.proofs.Common.{◌≡◌, ◌-◌, ◌+◌, ◌≤◌, ◌<◌, suc, length, subst, sym, ap, ◌∙◌, arith}
+use Rattle.std.proofs.Common.{◌≡◌, ◌-◌, ◌+◌, suc, length, subst, sym, ap, ◌∙◌, arith}
 use Rattle.sccs_script.specs.Drafts.{expand, IsPiece}
 use Rattle.sccs_script.proofs.PieceLaws.{run_length}
 use Rattle.sccs_script.proofs.pieces.count.Goals as goal

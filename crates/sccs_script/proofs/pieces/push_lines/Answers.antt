@@ -1,6 +1,6 @@
-use Rattle.std.proofs.Common.{◌≡◌, ◌-◌, ◌+◌, ◌≤◌, ◌<◌, ◌∷◌, ◌++◌, [], List, ℕ, Some, drop, length, map, slice_get, sym, subst, ap, ◌∙◌, arith}
+use Rattle.std.proofs.Common.{◌≡◌, ◌-◌, ◌+◌, ◌++◌, ℕ, Some, drop, map, sym, subst, ap, ◌∙◌, arith}
 use Rattle.std.specs.List.{AllByRecursion}
-use Rattle.sccs_script.specs.Drafts.{Entry, Fresh, IsPiece, unstacked}
+use Rattle.sccs_script.specs.Drafts.{Fresh, IsPiece, unstacked}
 use Rattle.sccs_script.specs.declared.pieces.Piece.TheVariants as kinds
 use Rattle.sccs_script.proofs.DraftLaws.{line_before}
 use Rattle.sccs_script.proofs.PieceLaws.{all_push}
@@ -13,7 +13,7 @@ loop-place-preserved c =
     let line : c.in-Ok.line ≡ c.at.result.now = c.in-Ok.ensures.ok ∙ c.bytes.ensures.value in
     record {
       all = line_before c.args.after place c.in-Ok.line c.args.lines.now c.loop-place.stack.items c.push.new.self.items (unstacked c.args.stack.now.items) (omega (arith, on, c.loop-place.invariant.few)) (c.at.ensures ∙ ap Some (sym line))
-        (subst (λ n. unstacked c.loop-place.stack.items ≡ map (Fresh c.args.after) (drop n c.args.lines.now) ++ unstacked c.args.stack.now.items) (sym on) c.loop-place.invariant.all) c.in_ok-push.ensures.items;
+          (subst (λ n. unstacked c.loop-place.stack.items ≡ map (Fresh c.args.after) (drop n c.args.lines.now) ++ unstacked c.args.stack.now.items) (sym on) c.loop-place.invariant.all) c.in_ok-push.ensures.items;
       few = omega (arith, on, c.loop-place.invariant.few);
       fits = subst (AllByRecursion IsPiece) (sym c.in_ok-push.ensures.items) (all_push IsPiece c.loop-place.stack.items (kinds.Fresh c.args.after c.in-Ok.line) c.loop-place.invariant.fits tt);
     }

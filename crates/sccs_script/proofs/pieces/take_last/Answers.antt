@@ -1,6 +1,5 @@
-use Rattle.std.proofs.Common.{◌≡◌, ◌-◌, ◌+◌, ◌≤◌, ◌<◌, ◌∷◌, ◌++◌, [], List, Some, refl, sym, ap, ◌∙◌, arith}
+use Rattle.std.proofs.Common.{◌∷◌, ◌++◌, [], ap, ◌∙◌, arith}
 use Rattle.std.specs.Option.{option_to_list}
-use Rattle.sccs_script.specs.declared.pieces.Piece.{Piece}
 use Rattle.sccs_script.specs.declared.pieces.Piece.TheVariants as kinds
 use Rattle.sccs_script.proofs.PieceLaws.{last_left, last_off, last_part, last_run}
 use Rattle.sccs_script.proofs.pieces.take_last.Goals as goal

@@ -1,8 +1,7 @@
-use Rattle.std.proofs.Common.{◌≡◌, ◌-◌, ◌+◌, ◌≤◌, ◌<◌, ◌∷◌, ◌++◌, [], List, Some, refl, sym, ap, ◌∙◌, arith}
+use Rattle.std.proofs.Common.{◌∷◌, ◌++◌, [], ap, ◌∙◌, arith}
 use Rattle.std.specs.Option.{option_to_list}
-use Rattle.sccs_script.specs.declared.pieces.Piece.{Piece}
 use Rattle.sccs_script.specs.declared.pieces.Piece.TheVariants as pieces
-use Rattle.sccs_script.proofs.PieceLaws.{next_off, next_part, next_run, part_left}
+use Rattle.sccs_script.proofs.PieceLaws.{next_off, next_part, next_run}
 use Rattle.sccs_script.proofs.pieces.take_next.Goals as goal
 
 pub returns-then-last-first-clause-taken : goal.returns-then-last-first-clause-taken

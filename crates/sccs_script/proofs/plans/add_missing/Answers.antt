@@ -1,4 +1,4 @@
-use Rattle.std.proofs.Common.{◌≡◌, ◌+◌, ◌-◌, ◌++◌, sym, subst, ap, ◌∙◌, append_assoc}
+use Rattle.std.proofs.Common.{◌+◌, ◌-◌, ◌++◌, sym, subst, ap, ◌∙◌, append_assoc}
 use Rattle.sccs_script.specs.Drafts.{expand, IsPiece, missing, span}
 use Rattle.sccs_script.proofs.PlanLaws.{missing_kept}
 use Rattle.sccs_script.proofs.plans.add_missing.Goals as goal

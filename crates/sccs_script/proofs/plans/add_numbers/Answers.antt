@@ -1,4 +1,4 @@
-use Rattle.std.proofs.Common.{◌≡◌, ◌+◌, ◌-◌, ◌∷◌, ◌++◌, [], sym, ap, ◌∙◌, append_assoc}
+use Rattle.std.proofs.Common.{◌+◌, ◌-◌, ◌∷◌, ◌++◌, [], sym, ap, ◌∙◌, append_assoc}
 use Rattle.sccs_script.specs.Drafts.{span}
 use Rattle.sccs_script.proofs.PlanLaws.{span_next}
 use Rattle.sccs_script.proofs.plans.add_numbers.Goals as goal

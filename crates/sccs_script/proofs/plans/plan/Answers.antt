@@ -1,8 +1,5 @@
 use Rattle.std.proofs.Common.{◌≡◌, IfOk, sym, subst, ap, ◌∙◌}
-use Rattle.std.specs.List.{AllByRecursion}
-use Rattle.sccs_edits.specs.Plans.{plan}
 use Rattle.sccs_edits.specs.declared.scripts.Plan.{Plan}
-use Rattle.sccs_script.specs.Commands.{FitsIn}
 use Rattle.sccs_script.specs.Drafts.{base_of, edited, plan_of}
 use Rattle.sccs_script.proofs.Entries.{plan_edited}
 use Rattle.sccs_script.proofs.PlanLaws.{range_of}

@@ -1,5 +1,5 @@
-use Rattle.std.proofs.Common.{◌≡◌, ◌++◌, [], List, suc, sym, ap, ◌∙◌}
-use Rattle.sccs_script.specs.Drafts.{expand, grouped, IsPiece, IsWithin, missing, unstacked}
+use Rattle.std.proofs.Common.{◌++◌, suc, sym, ap, ◌∙◌}
+use Rattle.sccs_script.specs.Drafts.{grouped, IsPiece, IsWithin, missing, unstacked}
 use Rattle.sccs_script.proofs.PieceLaws.{popped, popped_rest}
 use Rattle.sccs_script.proofs.plans.plan_of.Goals as goal
 

@@ -1,4 +1,4 @@
-use Rattle.std.proofs.Common.{◌≡◌, ◌+◌, ◌<◌, ◌≤◌, [], ◌∷◌, ◌++◌, List, ℕ, Option, None, Some, Result, length, drop, inr, sym, subst, ap, IfSome, ◌∙◌, arith}
+use Rattle.std.proofs.Common.{◌+◌, ◌<◌, [], ◌∷◌, ◌++◌, List, ℕ, length, drop, inr, sym, subst, ap, IfSome, ◌∙◌, arith}
 use Rattle.sccs_edits.specs.declared.scripts.Order.{Order}
 use Rattle.std.specs.List.{AllByRecursion}
 use Rattle.sccs_script.specs.Commands.{at_end, FitsIn, orders_from, TurnFits}
@@ -24,15 +24,15 @@ loop-place-preserved c =
     record {
       all = elim c.match-next.branch [
         | in-Whole+in-Ok-push w ↦ ap (λ l. orders_from l c.match-next.text (place + 1) (drop (place + 1) lines)) (ap (λ v. v.items) w.orders-is ∙ w.in-Ok-push.ensures.items)
-          ∙ (ap (λ t. orders_from (orders ++ w.in-Whole.order ∷ []) t (place + 1) (drop (place + 1) lines)) w.text-is
-          ∙ (ap (λ t. behind_turn orders t (place + 1) (drop (place + 1) lines)) (sym w.in-Whole.is) ∙ (sym step ∙ c.loop-place.invariant.all)))
+            ∙ (ap (λ t. orders_from (orders ++ w.in-Whole.order ∷ []) t (place + 1) (drop (place + 1) lines)) w.text-is
+            ∙ (ap (λ t. behind_turn orders t (place + 1) (drop (place + 1) lines)) (sym w.in-Whole.is) ∙ (sym step ∙ c.loop-place.invariant.all)))
         | in-Open w ↦ ap (λ l. orders_from l c.match-next.text (place + 1) (drop (place + 1) lines)) (ap (λ v. v.items) w.orders-is)
-          ∙ (ap (λ t. orders_from orders t (place + 1) (drop (place + 1) lines)) w.text-is
-          ∙ (ap (λ t. behind_turn orders t (place + 1) (drop (place + 1) lines)) (sym w.in-Open.is) ∙ (sym step ∙ c.loop-place.invariant.all)))
+            ∙ (ap (λ t. orders_from orders t (place + 1) (drop (place + 1) lines)) w.text-is
+            ∙ (ap (λ t. behind_turn orders t (place + 1) (drop (place + 1) lines)) (sym w.in-Open.is) ∙ (sym step ∙ c.loop-place.invariant.all)))
       ];
       fits = elim c.match-next.branch [
         | in-Whole+in-Ok-push w ↦ subst (AllByRecursion (FitsIn 18446744073709551616)) (sym (ap (λ v. v.items) w.orders-is ∙ w.in-Ok-push.ensures.items))
-          (fit_push orders w.in-Whole.order (place + 1 + 1) c.loop-place.invariant.fits (omega (arith, low, c.len-place-end.ensures)) (subst (TurnFits (place + 1 + 1)) w.in-Whole.is c.in-Ok.ensures.fits))
+            (fit_push orders w.in-Whole.order (place + 1 + 1) c.loop-place.invariant.fits (omega (arith, low, c.len-place-end.ensures)) (subst (TurnFits (place + 1 + 1)) w.in-Whole.is c.in-Ok.ensures.fits))
         | in-Open w ↦ subst (AllByRecursion (FitsIn 18446744073709551616)) (sym (ap (λ v. v.items) w.orders-is)) c.loop-place.invariant.fits
       ];
       text = elim c.match-next.branch [

@@ -1,4 +1,4 @@
-use Rattle.std.proofs.Common.{◌≡◌, ◌-◌, ◌++◌, List, ℕ, IfOk, map, sym, subst, ap, ◌∙◌}
+use Rattle.std.proofs.Common.{◌≡◌, ◌-◌, ◌++◌, List, IfOk, map, sym, subst, ◌∙◌}
 use Rattle.sccs_edits.specs.declared.scripts.Order.{Order}
 use Rattle.sccs_edits.specs.declared.scripts.OrderKind.TheVariants as kinds
 use Rattle.sccs_script.specs.Drafts.{anchor, cut_entries, edit, Entry, Fresh, Split, whole}
