@@ -10,6 +10,8 @@ mod groups;
 mod pieces;
 mod plans;
 mod reading;
+#[cfg(test)]
+mod tests;
 mod turns;
 
 pub use applying::apply;
