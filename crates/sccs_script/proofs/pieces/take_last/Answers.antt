@@ -1,0 +1,25 @@
+use Rattle.std.proofs.Common.{◌∷◌, ◌++◌, [], ap, ◌∙◌, arith}
+use Rattle.std.specs.Option.{option_to_list}
+use Rattle.sccs_script.specs.declared.pieces.Piece.TheVariants as kinds
+use Rattle.sccs_script.proofs.PieceLaws.{last_left, last_off, last_part, last_run}
+use Rattle.sccs_script.proofs.pieces.take_last.Goals as goal
+
+pub returns-then-last-first-clause-taken : goal.returns-then-last-first-clause-taken
+returns-then-last-first-clause-taken c =
+    last_run c.args.most c.in-Kept.first c.in-Kept.last c.args.pieces.now.items c.pop.new.self.items
+    (c.pop.ensures.items ∙ (ap (λ o. c.pop.new.self.items ++ option_to_list o) c.in-Some.is ∙ ap (λ p. c.pop.new.self.items ++ p ∷ []) c.in-Kept.is)) c.requires.pieces c.if-last-first.true
+
+pub returns-in_ok-push-in-Kept-clause-taken : goal.returns-in_ok-push-in-Kept-clause-taken
+returns-in_ok-push-in-Kept-clause-taken c =
+    last_part c.args.most c.in-Kept.first c.in-Kept.last c.args.pieces.now.items c.pop.new.self.items c.push.new.self.items
+    (c.pop.ensures.items ∙ (ap (λ o. c.pop.new.self.items ++ option_to_list o) c.in-Some.is ∙ ap (λ p. c.pop.new.self.items ++ p ∷ []) c.in-Kept.is)) c.in_ok-push-in-Kept.ensures.items c.requires.pieces c.requires.some c.if-last-first.false
+
+pub returns-in_ok-push-in-Kept-clause-pieces : goal.returns-in_ok-push-in-Kept-clause-pieces
+returns-in_ok-push-in-Kept-clause-pieces c =
+    last_left c.args.most c.in-Kept.first c.in-Kept.last c.args.pieces.now.items c.pop.new.self.items c.push.new.self.items
+    (c.pop.ensures.items ∙ (ap (λ o. c.pop.new.self.items ++ option_to_list o) c.in-Some.is ∙ ap (λ p. c.pop.new.self.items ++ p ∷ []) c.in-Kept.is)) c.in_ok-push-in-Kept.ensures.items c.requires.pieces c.if-last-first.false c.requires.some
+
+pub returns-in-Fresh-clause-taken : goal.returns-in-Fresh-clause-taken
+returns-in-Fresh-clause-taken c =
+    last_off c.args.most (kinds.Fresh c.in-Fresh.after c.in-Fresh.line) c.args.pieces.now.items c.pop.new.self.items
+    (c.pop.ensures.items ∙ (ap (λ o. c.pop.new.self.items ++ option_to_list o) c.in-Some.is ∙ ap (λ p. c.pop.new.self.items ++ p ∷ []) c.in-Fresh.is)) c.requires.pieces c.requires.some (omega arith)

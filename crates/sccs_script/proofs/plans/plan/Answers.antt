@@ -1,0 +1,14 @@
+use Rattle.std.proofs.Common.{◌≡◌, IfOk, sym, subst, ap, ◌∙◌}
+use Rattle.sccs_edits.specs.declared.scripts.Plan.{Plan}
+use Rattle.sccs_script.specs.Drafts.{base_of, edited, plan_of}
+use Rattle.sccs_script.proofs.Entries.{plan_edited}
+use Rattle.sccs_script.proofs.PlanLaws.{range_of}
+use Rattle.sccs_script.proofs.plans.plan.Goals as goal
+
+pub returns : goal.returns
+returns c =
+    let same = ap (λ orders. plan_of (edited orders (base_of c.args.lines)) c.args.lines) c.orders.ensures.value in
+    subst (λ (q : Plan). IfOk c.plan_of.result (λ p. p ≡ q))
+    (ap (λ entries. plan_of entries c.args.lines) c.in_ok-pieces.ensures.edited
+    ∙ (same ∙ sym (plan_edited 18446744073709551616 c.args.script.now c.args.lines c.orders.ensures.fit (range_of c.args.script.now c.args.lines c.requires.fits))))
+    c.plan_of.ensures

@@ -1,0 +1,153 @@
+-- A text while orders are made on it, by what stands in it.
+use Rattle.std.specs.Prelude.{◌≡◌, ◌<◌, ◌≤◌, ℕ, zero, suc, ◌-◌, ◌==◌, false, List, [], ◌∷◌, ◌++◌, length, map, take, drop, if◌then◌else◌}
+use Rattle.sccs_edits.specs.Plans.{with_added}
+use Rattle.sccs_edits.specs.declared.scripts.Added.{Added}
+use Rattle.sccs_edits.specs.declared.scripts.Order.{Order}
+use Rattle.sccs_edits.specs.declared.scripts.OrderKind.{OrderKind}
+use Rattle.sccs_edits.specs.declared.scripts.OrderKind.TheVariants.{Append, Change, Delete}
+use Rattle.sccs_edits.specs.declared.scripts.Plan.{Plan}
+use Rattle.std.specs.List.{AllByRecursion}
+use Rattle.sccs_script.specs.Commands.{is_append}
+use Rattle.sccs_script.specs.declared.pieces.Piece.{Piece}
+use Rattle.sccs_script.specs.declared.pieces.Piece.TheVariants as pieces
+
+-- a base line that is still there, by its number, or a new line, with the number of the base line that it follows
+pub data Entry : Type 0 where
+  Kept : (number : ℕ) → Entry
+  Fresh : (after : ℕ) → (text : List ℕ) → Entry
+
+-- as many numbers as are counted, from one on
+abbrev pub span : ℕ → ℕ → List ℕ
+span n zero = []
+span n (suc count) = n ∷ span (suc n) count
+
+-- a base of so many lines
+abbrev pub base_of : ℕ → List Entry
+base_of count = map Kept (span 1 count)
+
+-- the base line that a line behind these entries follows, where it is `n` in front of them
+abbrev pub anchor_from : ℕ → List Entry → ℕ
+anchor_from n [] = n
+anchor_from n (Kept m ∷ entries) = anchor_from m entries
+anchor_from n (Fresh m text ∷ entries) = anchor_from m entries
+
+abbrev pub anchor : List Entry → ℕ
+anchor entries = anchor_from 0 entries
+
+-- new lines behind the first k entries
+abbrev pub put_entries : ℕ → List (List ℕ) → List Entry → List Entry
+put_entries k new entries = take k entries ++ (map (Fresh (anchor (take k entries))) new ++ drop k entries)
+
+-- without those from the one with the first number to the one with the last
+abbrev pub cut_entries : ℕ → ℕ → List Entry → List Entry
+cut_entries first last entries = take (first - 1) entries ++ drop (last - (first - 1)) (drop (first - 1) entries)
+
+-- what an order makes of them
+abbrev pub edit : OrderKind → ℕ → ℕ → List (List ℕ) → List Entry → List Entry
+edit Append first last new entries = put_entries first new entries
+edit Delete first last new entries = cut_entries first last entries
+edit Change first last new entries = put_entries (first - 1) new (cut_entries first last entries)
+
+-- what orders make of them, one after the other
+abbrev pub edited : List Order → List Entry → List Entry
+edited [] entries = entries
+edited (order ∷ orders) entries = edited orders (edit order.kind order.first order.last order.lines entries)
+
+-- the numbers below a bound that aren't there, where all below `next` are done with
+abbrev pub missing : ℕ → List Entry → ℕ → List ℕ
+missing next [] bound = span next (bound - next)
+missing next (Kept n ∷ entries) bound = span next (n - next) ++ missing (suc n) entries bound
+missing next (Fresh n text ∷ entries) bound = missing next entries bound
+
+-- the new lines by the base lines that they follow, where these follow base line k already
+abbrev pub grouped : ℕ → List (List ℕ) → List Entry → List Added
+grouped k texts [] = with_added k texts []
+grouped k texts (Kept n ∷ entries) = with_added k texts (grouped n [] entries)
+grouped k texts (Fresh n text ∷ entries) = if n == k then grouped k (texts ++ text ∷ []) entries else with_added k texts (grouped n (text ∷ []) entries)
+
+-- the plan of what stands in the text at the end
+abbrev pub plan_of : List Entry → ℕ → Plan
+plan_of entries count = record { deleted = missing 1 entries (suc count); added = grouped 0 [] entries }
+
+-- the first of lines
+abbrev pub first_line : List (List ℕ) → List ℕ
+first_line [] = []
+first_line (line ∷ lines) = line
+
+-- the line that an entry is
+abbrev pub content : List (List ℕ) → Entry → List ℕ
+content text (Kept n) = first_line (drop (n - 1) text)
+content text (Fresh n line) = line
+
+-- the entries of a piece: base lines by their numbers, or one new line
+abbrev pub expand : Piece → List Entry
+expand (pieces.Kept first last) = map Kept (span first (suc last - first))
+expand (pieces.Fresh after line) = Fresh after line ∷ []
+
+-- the entries of pieces
+abbrev pub expanded : List Piece → List Entry
+expanded [] = []
+expanded (p ∷ ps) = expand p ++ expanded ps
+
+-- the entries of a stack of pieces, of which the last comes first
+abbrev pub unstacked : List Piece → List Entry
+unstacked [] = []
+unstacked (p ∷ ps) = unstacked ps ++ expand p
+
+-- the numbers of base lines rise from 1 on, and there is one
+abbrev pub IsPiece : Piece → Type 0
+IsPiece (pieces.Kept first last) = (0 < first) × (first ≤ last)
+IsPiece (pieces.Fresh after line) = Unit {0}
+
+-- The entries before a place and behind it.
+pub record Split : Type 0 where
+  pub left : List Entry
+  pub right : List Entry
+
+-- all entries
+abbrev pub whole : Split → List Entry
+whole s = s.left ++ s.right
+
+-- Pieces are such, and so many entries stand before the place.
+pub record IsDraft (front back : List Piece) (at : ℕ) : Type 0 where
+  pub front_fits : AllByRecursion IsPiece front
+  pub back_fits : AllByRecursion IsPiece back
+  pub at_is : at ≡ length (expanded front)
+
+-- Some entries, at most as many as are counted, went over the place from right to left.
+pub record Moves (most : ℕ) (a b : Split) : Type 0 where
+  pub moved : List Entry
+  pub left : b.left ≡ a.left ++ moved
+  pub right : a.right ≡ moved ++ b.right
+  pub some : 0 < length moved
+  pub few : length moved ≤ most
+
+-- Of a stack of pieces the first was taken off, with at most as many entries as are counted.
+pub record TakesOff (most : ℕ) (p : Piece) (before after : List Entry) : Type 0 where
+  pub whole : before ≡ expand p ++ after
+  pub few : length (expand p) ≤ most
+  pub some : 0 < length (expand p)
+  pub fits : IsPiece p
+
+-- Of pieces the last was taken off.
+pub record TakesLast (most : ℕ) (p : Piece) (before after : List Entry) : Type 0 where
+  pub whole : before ≡ after ++ expand p
+  pub few : length (expand p) ≤ most
+  pub some : 0 < length (expand p)
+  pub fits : IsPiece p
+
+-- a base line of so many
+abbrev pub InBase : ℕ → Entry → Type 0
+InBase count (Kept n) = (0 < n) × (n ≤ count)
+InBase count (Fresh n text) = n ≤ count
+
+-- the base lines of a piece are among so many
+abbrev pub IsWithin : ℕ → Piece → Type 0
+IsWithin count (pieces.Kept first last) = last ≤ count
+IsWithin count (pieces.Fresh after line) = Unit {0}
+
+-- An order names lines that are there.
+pub record Names (kind : OrderKind) (first last lines : ℕ) : Type 0 where
+  pub some : is_append kind ≡ false → 0 < first
+  pub rising : first ≤ last
+  pub there : last ≤ lines

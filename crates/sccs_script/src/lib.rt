@@ -1,0 +1,22 @@
+//! Edit scripts: read, checked against a text, applied to it, and turned into a plan for a base.
+#![tactic(auto)]
+
+mod applying;
+mod checks;
+mod commands;
+mod drafts;
+mod faults;
+mod groups;
+mod pieces;
+mod plans;
+mod reading;
+#[cfg(test)]
+mod tests;
+mod turns;
+
+pub use applying::apply;
+pub use checks::check;
+pub use faults::ScriptFault;
+pub use plans::plan;
+pub use reading::{Script, read_script};
+pub use sccs_edits::{Added, AddedList, Numbers, Order, OrderKind, Plan};
