@@ -17,7 +17,10 @@ fn a_file_changes_between_two_readings(rt: HostRuntime) -> Result<(), Fail> {
     let seen = command_on(rt.alloc(), b"get -k -p -s s.a", &PLAIN, &mut disk)?;
     assert_eq!(rt; seen.answer, Answer::Finished { status: 1 });
     assert_eq!(rt; seen.out.bytes(), b"one\nnid\ntwo %I%\n".as_slice());
-    assert_eq!(rt; seen.err.bytes(), b"ERROR [s.a]: file changed while read (34)\n".as_slice());
+    assert_eq!(rt;
+        seen.err.bytes(),
+        b"ERROR [s.a]: file changed while read (34)\n".as_slice()
+    );
     Ok(())
 }
 
@@ -52,7 +55,11 @@ fn a_text_is_given_while_its_file_is_read(rt: HostRuntime) -> Result<(), Fail> {
             return Ok(());
         }
         assert_eq!(rt; seen.answer, Answer::DiskFault);
-        assert!(rt; out.iter().enumerate().all(|(at, byte)| *byte == LINE[at % LINE.len()]));
+        assert!(rt;
+            out.iter()
+                .enumerate()
+                .all(|(at, byte)| *byte == LINE[at % LINE.len()])
+        );
         if 0 < out.len() && out.len() < LINES * LINE.len() {
             parts += 1;
         }
