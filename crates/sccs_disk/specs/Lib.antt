@@ -2,6 +2,7 @@ pub mod Calls
 pub mod DirectoryFolders
 pub mod DirectoryStates
 pub mod Effects
+pub mod FickleDisks
 pub mod Files
 pub mod FolderTold
 pub mod Images

@@ -1,4 +1,4 @@
-ghost use Rattle.std.specs.Prelude.{◌≡◌, ◌+◌, ◌<◌, ◌≤◌, true, length, IfOk, IfSome, IsErrOf, OnErr};
+ghost use Rattle.std.specs.Prelude.{◌≡◌, ◌≤◌, ◌||◌, true, length, IfOk, IfSome, IsErrOf, OnErr};
 ghost use Rattle.sccs_base.specs.Stream.{Rose};
 ghost use Rattle.sccs_disk.specs.Told.{Nothing, seen};
 
@@ -19,14 +19,9 @@ pub struct FickleDisk {
     faults: u64,
 }
 
-// whether a reading of so many bytes from a place on covers a byte
-fn covers(from: u64, count: usize, at: u64) -> bool
-    ensures { result ≡ true → (from ≤ at) × (at < from + count) }
-{
-    from <= at && at - from < count as u64
-}
-
 impl FickleDisk {
+    ghost use Rattle.sccs_disk.specs.FickleDisks.{covers, read_again};
+
     /// The byte at a place of the file of that name changes, counted from 0.
     pub fn new(disk: MemoryDisk, name: Name, at: u64) -> FickleDisk
         ensures { result.faults ≡ 0 }
@@ -50,13 +45,21 @@ impl FickleDisk {
         }
     }
 
+    // whether a reading of so many bytes from a place on covers the byte
+    fn covers(&self, name: &Name, from: u64, count: usize) -> bool
+        ensures { result ≡ covers self.now name.now from count }
+    {
+        name.is(&self.name) && from <= self.at && self.at - from < count as u64
+    }
+
     // changes the byte in what was read, from the second time on
     fn change(&mut self, name: &Name, from: u64, count: usize, into: &mut [u8])
         requires { count ≤ length into.old }
+        ensures bytes { into.new ≡ read_again self.old name.now from count into.old }
+        ensures read { self.new.was_read ≡ (self.old.was_read || covers self.old name.now from count) }
         ensures faults { self.new.faults ≡ self.old.faults }
-        ensures count { length into.new ≡ length into.old }
     {
-        if !name.is(&self.name) || !covers(from, count, self.at) {
+        if !self.covers(name, from, count) {
             return;
         }
         if self.was_read {
