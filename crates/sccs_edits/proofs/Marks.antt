@@ -1,7 +1,7 @@
 -- What a line is behind items of a body with those of a new serial among them.
-use Rattle.std.proofs.Common.{◌≡◌, ◌≢◌, ℕ, suc, ◌+◌, ◌<◌, ◌≤◌, ◌==◌, max, nat_lt, Bool, true, false, cond, not, ◌&&◌, ◌||◌, List, [], ◌∷◌, refl, sym, subst, ap, ◌∙◌, inl, inr, arith, eq-eqb, lt-ltb, le-ltb}
+use Rattle.std.proofs.Common.{◌≡◌, ◌≢◌, ℕ, suc, ◌+◌, ◌<◌, ◌≤◌, ◌==◌, nat_lt, Bool, true, false, cond, not, ◌&&◌, ◌||◌, List, [], ◌∷◌, refl, sym, ap, ◌∙◌, inl, inr, arith, eq-eqb, lt-ltb, le-ltb}
 use Rattle.std.proofs.Math.Bool.{and-false}
-use Rattle.std.proofs.lemmas.Bool.{eqb-true, ne_eqb, false≢true, cases_lt, cases_eq, cases_Bool}
+use Rattle.std.proofs.lemmas.Bool.{ne_eqb, false≢true, cases_lt, cases_eq}
 use Rattle.sccs_history.specs.Numbers.{falling, first, has, Falls}
 use Rattle.sccs_history.specs.Body.{HistoryLine, Mark, Closed, ByInsert, ByDelete, is_closed, is_insert, is_delete, mark, above, inserters, inserter, open_serials, deleters, line_at}
 use Rattle.sccs_history.specs.declared.headers.Item.{Item}

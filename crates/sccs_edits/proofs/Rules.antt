@@ -1,8 +1,8 @@
 -- The items of a new delta keep the rules of a body.
-use Rattle.std.proofs.Common.{◌≡◌, ℕ, suc, ◌<◌, ◌≤◌, ◌==◌, Bool, true, false, cond, not, ◌&&◌, ◌||◌, List, [], ◌∷◌, ◌++◌, refl, sym, ap, ◌∙◌, arith, eq-eqb}
+use Rattle.std.proofs.Common.{◌≡◌, ℕ, suc, ◌<◌, ◌≤◌, Bool, true, false, cond, not, ◌&&◌, ◌||◌, List, [], ◌∷◌, ◌++◌, refl, ap, ◌∙◌, arith, eq-eqb}
 use Rattle.std.proofs.lemmas.Bool.{ne_eqb}
 use Rattle.sccs_history.specs.Numbers.{front_if, has, is_empty}
-use Rattle.sccs_history.specs.Body.{Mark, Closed, ByInsert, ByDelete, above, GoesOn, inserters, is_closed, is_over, line_at, mark, may_stand}
+use Rattle.sccs_history.specs.Body.{Mark, Closed, ByDelete, above, GoesOn, is_closed, is_over, line_at, mark, may_stand}
 use Rattle.sccs_history.specs.Select.{shows}
 use Rattle.sccs_history.specs.declared.headers.Item.{Item}
 use Rattle.sccs_history.specs.declared.headers.Item.TheVariants.{Text, Insert, Delete, End}
@@ -61,7 +61,7 @@ module _ (live : List ℕ) (n : ℕ) where
     own_insert = λ before after alike. ap (λ t. faults t (Insert n)) (own_opens before after alike);
     own_delete = λ before after alike. ap (λ t. faults t (Delete n)) (own_opens before after alike);
     own_end = λ here before after opened alike.
-      ap (λ t. faults (t && not (is_closed (mark n after))) (End n)) (own_live n live) ∙ ap (λ t. faults (not t) (End n)) (ap is_closed alike.own ∙ opened);
+        ap (λ t. faults (t && not (is_closed (mark n after))) (End n)) (own_live n live) ∙ ap (λ t. faults (not t) (End n)) (ap is_closed alike.own ∙ opened);
     over = λ before after alike. ap (λ l. faults (is_empty l) (End 0)) (open_same n Closed before after alike refl);
   }
 
