@@ -2,6 +2,7 @@ pub mod Examples
 pub mod Marks
 pub mod PlacedItems
 pub mod Plants
+pub mod Rules
 pub mod Runs
 pub mod Selects
 pub mod Spreads

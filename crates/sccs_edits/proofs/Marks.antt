@@ -1,9 +1,9 @@
 -- What a line is behind items of a body with those of a new serial among them.
-use Rattle.std.proofs.Common.{◌≡◌, ◌≢◌, ℕ, suc, ◌+◌, ◌<◌, ◌≤◌, ◌==◌, max, nat_lt, Bool, true, false, cond, ◌&&◌, ◌||◌, List, [], ◌∷◌, refl, sym, subst, ap, ◌∙◌, inl, inr, arith, eq-eqb, lt-ltb, le-ltb}
+use Rattle.std.proofs.Common.{◌≡◌, ◌≢◌, ℕ, suc, ◌+◌, ◌<◌, ◌≤◌, ◌==◌, nat_lt, Bool, true, false, cond, not, ◌&&◌, ◌||◌, List, [], ◌∷◌, refl, sym, ap, ◌∙◌, inl, inr, arith, eq-eqb, lt-ltb, le-ltb}
 use Rattle.std.proofs.Math.Bool.{and-false}
-use Rattle.std.proofs.lemmas.Bool.{eqb-true, ne_eqb, false≢true, cases_lt, cases_eq, cases_Bool}
+use Rattle.std.proofs.lemmas.Bool.{ne_eqb, false≢true, cases_lt, cases_eq}
 use Rattle.sccs_history.specs.Numbers.{falling, first, has, Falls}
-use Rattle.sccs_history.specs.Body.{HistoryLine, Mark, Closed, ByInsert, ByDelete, is_closed, is_insert, is_delete, mark, above, inserters, inserter, deleters, line_at}
+use Rattle.sccs_history.specs.Body.{HistoryLine, Mark, Closed, ByInsert, ByDelete, is_closed, is_insert, is_delete, mark, above, inserters, inserter, open_serials, deleters, line_at}
 use Rattle.sccs_history.specs.declared.headers.Item.{Item}
 use Rattle.sccs_history.specs.declared.headers.Item.TheVariants.{Text, Insert, Delete, End}
 use Rattle.sccs_history.proofs.Falling.{falling_has, has-falling, falling-has, falling-alike, Falls-falling, Falls-wider}
@@ -90,8 +90,15 @@ module _ (n : ℕ) (here : Mark) (before after : List Item) (alike : Alike n her
   abbrev deletes_above : ℕ → ℕ → Mark → Bool
   deletes_above low m k = is_delete k && nat_lt low m
 
+  pub inserters_same : is_insert here ≡ false → inserters after ≡ inserters before
+  inserters_same out = same_pass inserts (λ m. refl) out
+
   pub inserter_same : is_insert here ≡ false → inserter after ≡ inserter before
-  inserter_same out = ap first (same_pass inserts (λ m. refl) out)
+  inserter_same out = ap first (inserters_same out)
+
+  -- where nothing of the serial is open, the same serials are open
+  pub open_same : is_closed here ≡ true → open_serials after ≡ open_serials before
+  open_same closed = same_pass (λ m k. not (is_closed k)) (λ m. refl) (ap not closed)
 
   first_below : (ns : List ℕ) → 0 < n → Falls n ns → first ns < n
   first_below [] some falls = some
@@ -120,8 +127,11 @@ line_marked n before after text some alike =
     ∙ one_more n ByDelete before after alike (λ m k. is_delete k && nat_lt (inserter before) m) (λ m. refl) (lt-ltb (inserter before) n (inserter_below n ByDelete before after alike some)))
 
 -- where it is open by Insert, it is the inserter
+pub inserters_more : (n : ℕ) (before after : List Item) → Alike n ByInsert before after → inserters after ≡ n ∷ inserters before
+inserters_more n before after alike = one_more n ByInsert before after alike (λ m k. is_insert k) (λ m. refl) refl
+
 pub inserter_own : (n : ℕ) (before after : List Item) → Alike n ByInsert before after → inserter after ≡ n
-inserter_own n before after alike = ap first (one_more n ByInsert before after alike (λ m k. is_insert k) (λ m. refl) refl)
+inserter_own n before after alike = ap first (inserters_more n before after alike)
 
 no_deleters : (n : ℕ) (before after : List Item) → Alike n ByInsert before after → falling (above after) (λ m. is_delete (mark m after) && nat_lt n m) ≡ []
 no_deleters n before after alike =

@@ -1,5 +1,5 @@
 ghost use Rattle.std.specs.Prelude.{◌≡◌, ◌<◌, ◌≤◌, ◌-◌, ℕ, false, List, [], ◌∷◌, ◌++◌, length, take, drop};
-ghost use Rattle.sccs_history.specs.Body.{HistoryLine, above, lines_of};
+ghost use Rattle.sccs_history.specs.Body.{GoesOn, HistoryLine, above, lines_of};
 ghost use Rattle.sccs_history.specs.Numbers.{has};
 ghost use Rattle.sccs_history.specs.Removal.{dropped};
 ghost use Rattle.sccs_history.specs.Select.{select, shows};
@@ -28,8 +28,8 @@ pub fn woven_by_plan()
 {}
 
 /// The items of a new delta: their lines are the woven ones, its set shows what the script makes of
-/// the base, every set without the delta shows what it showed, and taking the delta's items out
-/// gives the old ones.
+/// the base, every set without the delta shows what it showed, taking the delta's items out gives
+/// the old ones, and with the delta live they keep the rules of a body.
 pub fn placed_items()
     ensures lines { (items : List Item) (set : List ℕ) (orders : List Order) (n : ℕ) → 0 < n → above items ≤ n
         → lines_of (places items set orders n) ≡ weave set n orders (lines_of items) }
@@ -39,6 +39,8 @@ pub fn placed_items()
         → has other n ≡ false → select other (lines_of (places items set orders n)) ≡ select other (lines_of items) }
     ensures undone { (items : List Item) (set : List ℕ) (orders : List Order) (n : ℕ) → 0 < n → above items ≤ n
         → dropped n (places items set orders n) ≡ items }
+    ensures rules { (live : List ℕ) (items : List Item) (set : List ℕ) (orders : List Order) (n : ℕ) → above items ≤ n
+        → GoesOn live [] items → GoesOn (n ∷ live) [] (places items set orders n) }
 {}
 
 /// What one order makes of a text that has the lines it names; and orders are made in turn.

@@ -1,25 +1,15 @@
-ghost use Rattle.std.specs.Prelude.{◌≡◌, ◌<◌, ◌≤◌, ◌++◌, [], ◌∷◌, Ok, length, map, IfOk, OnOk};
+ghost use Rattle.std.specs.Prelude.{◌≡◌, ◌<◌, ◌≤◌, ◌++◌, Ok, length, map, IfOk, OnOk};
 ghost use Rattle.sccs_edits.specs.Scripts.{apply};
 ghost use Rattle.sccs_script.specs.Checks.{checked};
 ghost use Rattle.sccs_script.specs.Drafts.{content, expand, IsPiece, IsWithin};
 ghost use Rattle.sccs_script.specs.declared.pieces.Piece.TheVariants as pieces;
 
+use crate::copies::copy_line;
 use crate::drafts::edited;
 use crate::pieces::Piece;
 use crate::reading::Script;
-use sccs_base::{Line, Memory, Text};
+use sccs_base::{Memory, Text};
 use std::alloc::Global;
-
-// a copy of a line at the end of others
-fn push_copy(alloc: Global, lines: &mut Text, line: &Line) -> Result<(), Memory>
-    ensures { OnOk result (lines.new ≡ lines.old ++ line.now ∷ []) }
-{
-    let Ok(copy) = Line::new(alloc, line.bytes()) else {
-        return Err(Memory);
-    };
-    lines.push(copy)?;
-    Ok(())
-}
 
 // copies of the lines of a text from one number to another
 fn copy_lines(
@@ -35,7 +25,8 @@ fn copy_lines(
     ensures { OnOk result (lines.new ≡ lines.old ++ map (content text.now) (expand (pieces.Kept first last))) }
 {
     for place in first - 1..last {
-        push_copy(alloc, lines, text.at(place))?;
+        let line = copy_line(alloc, text.at(place))?;
+        lines.push(line)?;
     }
     Ok(())
 }

@@ -4,6 +4,7 @@
 mod applying;
 mod checks;
 mod commands;
+mod copies;
 mod drafts;
 mod faults;
 mod groups;

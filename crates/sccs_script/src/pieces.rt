@@ -2,6 +2,7 @@ ghost use Rattle.std.specs.Prelude.{◌≡◌, ◌<◌, ◌≤◌, ◌++◌, Lis
 ghost use Rattle.std.specs.List.{AllByRecursion};
 ghost use Rattle.sccs_script.specs.Drafts.{expand, expanded, Fresh, IsPiece, TakesLast, TakesOff, unstacked};
 
+use crate::copies::copy_line;
 use sccs_base::{Line, Memory, Text};
 use std::alloc::Global;
 
@@ -102,9 +103,7 @@ pub fn push_lines(
     let mut place = lines.len();
     while 0 < place {
         place -= 1;
-        let Ok(line) = Line::new(alloc, lines.at(place).bytes()) else {
-            return Err(Memory);
-        };
+        let line = copy_line(alloc, lines.at(place))?;
         stack.push(Piece::Fresh(after, line))?;
     }
     Ok(())

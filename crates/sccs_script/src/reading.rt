@@ -5,7 +5,7 @@ ghost use Rattle.sccs_script.specs.declared.faults.ScriptFault.TheVariants.{Memo
 
 use crate::faults::ScriptFault;
 use crate::turns::{Turn, take_line};
-use sccs_base::Text;
+use sccs_base::{ListOf, Text};
 use sccs_edits::Order;
 use std::alloc::Global;
 use std::marker::Model;
@@ -13,7 +13,7 @@ use std::marker::Model;
 /// The orders of a script, in the order written. Places count from 0. It is made by `read_script`.
 #[derive(Drop)]
 pub struct Script {
-    orders: Vec<Order>,
+    orders: ListOf<Order>,
 }
 
 impl Model for Script {
@@ -25,16 +25,16 @@ impl Model for Script {
 
     ghost Value = { List Order };
 
-    ghost view = { λ s. s.orders.items };
+    ghost view = { λ s. s.orders };
 
-    ghost invariant = { λ s. AllByRecursion (FitsIn (2 ^ 64)) s.orders.items };
+    ghost invariant = { λ s. AllByRecursion (FitsIn (2 ^ 64)) s.orders };
 }
 
 impl Script {
     pub fn len(&self) -> u64
         ensures { result ≡ length self.now }
     {
-        self.orders.len() as u64
+        self.orders.len()
     }
 
     /// The order at a place below the length.
@@ -42,15 +42,15 @@ impl Script {
         requires { place < length self.now }
         ensures { slice_get self.now place ≡ Some result.now }
     {
-        &self.orders[place as usize]
+        self.orders.at(place)
     }
 
     /// The orders as a slice.
-    pub fn orders(&self) -> &[Order]
+    pub(crate) fn orders(&self) -> &[Order]
         ensures value { result.now ≡ self.now }
         ensures fit { AllByRecursion (FitsIn (2 ^ 64)) self.now }
     {
-        self.orders.as_slice()
+        self.orders.items()
     }
 }
 
@@ -93,5 +93,7 @@ pub fn read_script(alloc: Global, bytes: &[u8]) -> Result<Script, ScriptFault>
         return Err(ScriptFault::Memory);
     };
     let orders = read_lines(alloc, &lines)?;
-    Ok(Script { orders })
+    Ok(Script {
+        orders: ListOf::from_vec(orders),
+    })
 }

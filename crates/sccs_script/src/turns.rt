@@ -1,7 +1,8 @@
-ghost use Rattle.std.specs.Prelude.{◌≡◌, ◌+◌, ℕ, IfOk, IfSome};
+ghost use Rattle.std.specs.Prelude.{◌≡◌, ◌+◌, IfOk, IfSome};
 ghost use Rattle.sccs_script.specs.Commands.{begun, command_of, FitsIn, HasNumbers, is_dot, order_of, turn_at, TurnFits, with_line};
 
 use crate::commands::{Command, command_of, is_dot};
+use crate::copies::copy_line;
 use sccs_base::{Line, Memory, Text};
 use sccs_edits::{Order, OrderKind};
 use std::alloc::Global;
@@ -57,10 +58,7 @@ fn go_on(alloc: Global, mut order: Order, number: u64, line: &Line) -> Result<Tu
     if is_dot(line.bytes()) {
         return Ok(Turn::Whole(order));
     }
-    let Ok(copy) = Line::new(alloc, line.bytes()) else {
-        return Err(Memory);
-    };
-    order.lines.push(copy)?;
+    order.lines.push(copy_line(alloc, line)?)?;
     Ok(Turn::Open(order))
 }
 

@@ -3,6 +3,7 @@ use Rattle.sccs_history.specs.Body.{lines_of}
 use Rattle.sccs_history.specs.Select.{select}
 use Rattle.sccs_edits.specs.Plans.{plan}
 use Rattle.sccs_edits.proofs.PlacedItems.{lines_placed, other_placed, select_placed}
+use Rattle.sccs_edits.proofs.Rules.{rules_spliced}
 use Rattle.sccs_edits.proofs.Spreads.{dropped_spliced}
 use Rattle.sccs_edits.proofs.laws.placed_items.Goals as goal
 
@@ -12,4 +13,5 @@ returns c = record {
   own = λ items set orders n some high. select_placed items set orders n some high;
   others = λ items other set orders n some high none. other_placed items set orders n some high other none;
   undone = λ items set orders n some high. dropped_spliced n set (plan orders (length (select set (lines_of items)))) items some high;
+  rules = λ live items set orders n high goes. rules_spliced live set n (plan orders (length (select set (lines_of items)))) items high goes;
 }

@@ -10,10 +10,10 @@ pub loop-place-preserved : goal.loop-place-preserved
 loop-place-preserved c =
     let place : ℕ = c.loop-place.place - 1 in
     let on : place + 1 ≡ c.loop-place.place = omega (arith, c.loop-place-test.true) in
-    let line : c.in-Ok.line ≡ c.at.result.now = c.in-Ok.ensures.ok ∙ c.bytes.ensures.value in
+    let line : c.in_ok-line.line ≡ c.at.result.now = c.in_ok-line.ensures in
     record {
-      all = line_before c.args.after place c.in-Ok.line c.args.lines.now c.loop-place.stack.items c.push.new.self.items (unstacked c.args.stack.now.items) (omega (arith, on, c.loop-place.invariant.few)) (c.at.ensures ∙ ap Some (sym line))
+      all = line_before c.args.after place c.in_ok-line.line c.args.lines.now c.loop-place.stack.items c.push.new.self.items (unstacked c.args.stack.now.items) (omega (arith, on, c.loop-place.invariant.few)) (c.at.ensures ∙ ap Some (sym line))
           (subst (λ n. unstacked c.loop-place.stack.items ≡ map (Fresh c.args.after) (drop n c.args.lines.now) ++ unstacked c.args.stack.now.items) (sym on) c.loop-place.invariant.all) c.in_ok-push.ensures.items;
       few = omega (arith, on, c.loop-place.invariant.few);
-      fits = subst (AllByRecursion IsPiece) (sym c.in_ok-push.ensures.items) (all_push IsPiece c.loop-place.stack.items (kinds.Fresh c.args.after c.in-Ok.line) c.loop-place.invariant.fits tt);
+      fits = subst (AllByRecursion IsPiece) (sym c.in_ok-push.ensures.items) (all_push IsPiece c.loop-place.stack.items (kinds.Fresh c.args.after c.in_ok-line.line) c.loop-place.invariant.fits tt);
     }
