@@ -1,0 +1,117 @@
+-- Texts that are put one after the other.
+use Rattle.std.proofs.Common.{◌≡◌, ℕ, ◌+◌, ◌≤◌, ◌⊎◌, List, [], ◌∷◌, ◌++◌, Option, None, Some, option_map, Result, Ok, Err, OnOk, IfSome, IsSome, inl, inr, refl, sym, ap, subst, ◌∙◌, append_assoc, arith}
+use Rattle.std.proofs.lemmas.List.{append-nil}
+use Rattle.std.proofs.Math.Path.{fun_ext}
+use Rattle.sccs_base.specs.Stream.{Rose}
+use Rattle.sccs_disk.specs.Files.{Content, View, put}
+use Rattle.sccs_disk.specs.Told.{Told, seen}
+use Rattle.sccs_disk.specs.Effects.{altered, appended, appending}
+use Rattle.sccs_disk.specs.Calls.{IsThere, Writes}
+use Rattle.sccs_disk.specs.declared.disks.DiskRefusal.{DiskRefusal}
+use Rattle.sccs_disk.specs.declared.disks.DiskRefusal.TheVariants as fault
+use Rattle.sccs_disk.proofs.Puts.{put_again, put_back, put_same}
+use Rattle.sccs_writers.specs.OneFile.{OnlyWrites}
+use Rattle.sccs_writers.proofs.OneFile.{only_none, only_both, only_done, only_half, only_same}
+use Rattle.sccs_table.specs.SumOf.{IsSumOf}
+use Rattle.sccs_writers.specs.Puts.{Writer, Appends, Puts, PutsText}
+
+-- ---- views
+
+same_content : (c : Content) → appended [] c ≡ c
+same_content c = ap (λ (bytes : List ℕ). record { bytes = bytes; writable = c.writable }) (append-nil c.bytes)
+
+two_contents : (x y : List ℕ) (c : Content) → appended y (appended x c) ≡ appended (x ++ y) c
+two_contents x y c = ap (λ (bytes : List ℕ). record { bytes = bytes; writable = c.writable }) (append_assoc c.bytes x y)
+
+map_none : (o : Option Content) → option_map (appended []) o ≡ o
+map_none None = refl
+map_none (Some c) = ap (λ (x : Content). Some x) (same_content c)
+
+map_two : (x y : List ℕ) (o : Option Content) → option_map (appended y) (option_map (appended x) o) ≡ option_map (appended (x ++ y)) o
+map_two x y None = refl
+map_two x y (Some c) = ap (λ (d : Content). Some d) (two_contents x y c)
+
+altered_none : (n : List ℕ) (v : View) → altered n (appended []) v ≡ v
+altered_none n v = ap (λ (o : Option Content). put v n o) (map_none (v n)) ∙ put_back v n
+
+altered_two : (n x y : List ℕ) (v : View) → altered n (appended y) (altered n (appended x) v) ≡ altered n (appended (x ++ y)) v
+altered_two n x y v =
+    put_again v n (option_map (appended x) (v n)) _
+    ∙ ap (λ (o : Option Content). put v n o) (ap (λ (o : Option Content). option_map (appended y) o) (put_same v n (option_map (appended x) (v n))) ∙ map_two x y (v n))
+
+views_none : (n : List ℕ) (o : Option View) → o ≡ option_map (altered n (appended [])) o
+views_none n None = refl
+views_none n (Some v) = ap (λ (u : View). Some u) (sym (altered_none n v))
+
+views_two : (n x y : List ℕ) (a b c : Option View) → b ≡ option_map (altered n (appended x)) a → c ≡ option_map (altered n (appended y)) b → c ≡ option_map (altered n (appended (x ++ y))) a
+views_two n x y None b c first second = subst (λ o. c ≡ option_map (altered n (appended y)) o) first second
+views_two n x y (Some v) b c first second =
+    subst (λ o. c ≡ option_map (altered n (appended y)) o) first second ∙ ap (λ (u : View). Some u) (altered_two n x y v)
+
+-- ---- puts
+
+pub puts_none : (w : Writer) (t : Told) → Puts [] w w t t
+puts_none w t = record {
+  added = [];
+  split = append-nil w.held;
+  file = views_none w.name (seen t);
+  sums = λ front is. subst (IsSumOf w.sums) (sym (append-nil front)) is;
+  name = refl;
+}
+
+split_two : (held x y one mid two left : List ℕ) → held ++ x ≡ one ++ mid → mid ++ y ≡ two ++ left → held ++ (x ++ y) ≡ (one ++ two) ++ left
+split_two held x y one mid two left first second =
+    sym (append_assoc held x y)
+    ∙ (ap (λ front. front ++ y) first ∙ (append_assoc one mid y ∙ (ap (λ rest. one ++ rest) second ∙ sym (append_assoc one two left))))
+
+pub puts_both : (x y : List ℕ) (w w2 w3 : Writer) (a b c : Told) → Puts x w w2 a b → Puts y w2 w3 b c → Puts (x ++ y) w w3 a c
+puts_both x y w w2 w3 a b c first second = record {
+  added = first.added ++ second.added;
+  split = split_two w.held x y first.added w2.held second.added w3.held first.split second.split;
+  file =
+    views_two w.name first.added second.added (seen a) (seen b) (seen c) first.file
+    (subst (λ n. seen c ≡ option_map (altered n (appended second.added)) (seen b)) first.name second.file);
+  sums = λ front is. subst (IsSumOf w3.sums) (append_assoc front first.added second.added) (second.sums (front ++ first.added) (first.sums front is));
+  name = second.name ∙ first.name;
+}
+
+-- ---- calls
+
+rose_later : (f g h : ℕ) → f ≤ g → Rose g h → Rose f h
+rose_later f g h low (inl more) = inl (omega (arith, low, more))
+rose_later f g h low (inr last) = inr last
+
+on_both : {T : Type 0} (x y : List ℕ) (w w2 w3 : Writer) (a b c : Told) (r : Result T DiskRefusal) → Puts x w w2 a b → OnOk r (Puts y w2 w3 b c) → OnOk r (Puts (x ++ y) w w3 a c)
+on_both x y w w2 w3 a b c (Ok done) first second = puts_both x y w w2 w3 a b c first second
+on_both x y w w2 w3 a b c (Err refusal) first second = tt
+
+ok_puts : {U : Type 0} (x : List ℕ) (w w2 : Writer) (a b : Told) (r : Result U DiskRefusal) (done : U) → r ≡ Ok done → OnOk r (Puts x w w2 a b) → Puts x w w2 a b
+ok_puts x w w2 a b r done is puts = subst (λ (s : Result _ DiskRefusal). OnOk s (Puts x w w2 a b)) is puts
+
+-- a text is put, and a further call puts more
+pub text_both : {T U : Type 0} (x y : List ℕ) (w w2 w3 : Writer) (a b c : Told) (f g h : ℕ) (q : Result U DiskRefusal) (r : Result T DiskRefusal) (done : U)
+    → q ≡ Ok done → PutsText x w w2 a b f g q → PutsText y w2 w3 b c g h r → PutsText (x ++ y) w w3 a c f h r
+text_both x y w w2 w3 a b c f g h q r done is first second = record {
+  ok = on_both x y w w2 w3 a b c r (ok_puts x w w2 a b q done is first.ok) second.ok;
+  name = second.name ∙ first.name;
+  only = only_both w.name a b c first.only (subst (λ n. OnlyWrites n b c) first.name second.only);
+  later = omega (arith, first.later, second.later);
+  cause = λ failed. rose_later f g h first.later (second.cause failed);
+}
+
+err_is : {A B : Type 0} (x y : DiskRefusal) (q : Result A DiskRefusal) → q ≡ Err x → (r : Result B DiskRefusal) → r ≡ Err x → r ≡ Err y → q ≡ Err y
+err_is x y q is r was so = cc
+
+on_err : {T : Type 0} (P : Type 0) (refusal : DiskRefusal) (r : Result T DiskRefusal) → r ≡ Err refusal → OnOk r P
+on_err P refusal r is = subst (λ (s : Result _ DiskRefusal). OnOk s P) (sym is) tt
+
+-- a call that fails leaves a longer text unput
+pub text_cut : {T U : Type 0} (x y : List ℕ) (w w2 : Writer) (a b : Told) (f g : ℕ) (q : Result U DiskRefusal) (r : Result T DiskRefusal) (refusal : DiskRefusal)
+    → q ≡ Err refusal → r ≡ Err refusal → PutsText x w w2 a b f g q → PutsText y w w2 a b f g r
+text_cut x y w w2 a b f g q r refusal is so first = record {
+  ok = on_err (Puts y w w2 a b) refusal r so;
+  name = first.name;
+  only = first.only;
+  later = first.later;
+  cause = λ failed. first.cause (err_is refusal fault.Failed q is r so failed);
+}

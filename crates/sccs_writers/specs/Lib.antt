@@ -1,0 +1,3 @@
+pub mod HeldBytes
+pub mod OneFile
+pub mod Puts
