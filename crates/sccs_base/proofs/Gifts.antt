@@ -81,7 +81,7 @@ not_passed (Ok x) held bytes a b c first second = tt
 not_passed (Err e) held bytes a b c first second = gives_then a b c held bytes first second
 
 -- the parts up to one and that one
-part_more : {X : Type 0} (f : X → List ℕ) (xs : List X) (i : ℕ) (d : X) → i < length xs → flat_map f (take (suc i) xs) ≡ flat_map f (take i xs) ++ f (get_or xs i d)
+pub part_more : {X : Type 0} (f : X → List ℕ) (xs : List X) (i : ℕ) (d : X) → i < length xs → flat_map f (take (suc i) xs) ≡ flat_map f (take i xs) ++ f (get_or xs i d)
 part_more f [] i d below = absurd (omega arith)
 part_more f (x ∷ xs) zero d below = append-nil (f x)
 part_more f (x ∷ xs) (suc i) d below =

@@ -1,11 +1,12 @@
 -- Texts that are put one after the other.
-use Rattle.std.proofs.Common.{◌≡◌, ℕ, ◌+◌, ◌≤◌, ◌⊎◌, List, [], ◌∷◌, ◌++◌, Option, None, Some, option_map, Result, Ok, Err, OnOk, IfSome, IsSome, inl, inr, refl, sym, ap, subst, ◌∙◌, append_assoc, arith}
+use Rattle.std.proofs.Common.{◌≡◌, ℕ, ◌+◌, ◌≤◌, ◌⊎◌, List, [], ◌∷◌, ◌++◌, zero, suc, ◌<◌, length, take, flat_map, get_or, Option, None, Some, option_map, Result, Ok, Err, OnOk, IfSome, IsErrOf, IsSome, inl, inr, refl, sym, ap, subst, ◌∙◌, append_assoc, add-one, arith}
 use Rattle.std.proofs.lemmas.List.{append-nil}
 use Rattle.std.proofs.Math.Path.{fun_ext}
 use Rattle.sccs_base.specs.Stream.{Rose}
+use Rattle.sccs_base.proofs.Gifts.{part_more}
 use Rattle.sccs_disk.specs.Files.{Content, View, put}
 use Rattle.sccs_disk.specs.Told.{Told, seen}
-use Rattle.sccs_disk.specs.Effects.{altered, appended, appending}
+use Rattle.sccs_disk.specs.Effects.{altered, appended, appending, KeepsMark}
 use Rattle.sccs_disk.specs.Calls.{IsThere, Writes}
 use Rattle.sccs_disk.specs.declared.disks.DiskRefusal.{DiskRefusal}
 use Rattle.sccs_disk.specs.declared.disks.DiskRefusal.TheVariants as fault
@@ -115,3 +116,80 @@ text_cut x y w w2 a b f g q r refusal is so first = record {
   later = first.later;
   cause = λ failed. first.cause (err_is refusal fault.Failed q is r so failed);
 }
+
+-- ---- a call of the disk, and bytes that are held back
+
+writes_only : {T : Type 0} (n bytes : List ℕ) (a b : Told) (f g : ℕ) (r : Result T DiskRefusal) → Writes (appending n bytes) a b f g r → OnlyWrites n a b
+writes_only n bytes a b f g (Ok done) writes = only_done n (appended bytes) KeepsMark a b writes.done
+writes_only n bytes a b f g (Err fault.Failed) writes = only_half n (appended bytes) KeepsMark a b (writes.half refl)
+writes_only n bytes a b f g (Err fault.Memory) writes = only_same n a b (writes.memory refl)
+
+ok_appended : {T : Type 0} (x bytes : List ℕ) (w w2 : Writer) (a b : Told) (f g : ℕ) (r : Result T DiskRefusal) → Writes (appending w.name bytes) a b f g r
+    → OnOk r ((front : List ℕ) → IsSumOf w.sums front → IsSumOf w2.sums (front ++ bytes)) → w.held ++ x ≡ bytes ++ w2.held → w2.name ≡ w.name → OnOk r (Puts x w w2 a b)
+ok_appended x bytes w w2 a b f g (Ok done) writes sums split name = record { added = bytes; split = split; file = writes.done.view; sums = sums; name = name }
+ok_appended x bytes w w2 a b f g (Err refusal) writes sums split name = tt
+
+-- a call appends what was held and some of the text
+pub appended_puts : {T : Type 0} (x bytes : List ℕ) (w w2 : Writer) (a b : Told) (f g : ℕ) (r : Result T DiskRefusal) → Writes (appending w.name bytes) a b f g r
+    → OnOk r ((front : List ℕ) → IsSumOf w.sums front → IsSumOf w2.sums (front ++ bytes)) → w.held ++ x ≡ bytes ++ w2.held → w2.name ≡ w.name → PutsText x w w2 a b f g r
+appended_puts x bytes w w2 a b f g r writes sums split name = record {
+  ok = ok_appended x bytes w w2 a b f g r writes sums split name;
+  name = name;
+  only = writes_only w.name bytes a b f g r writes;
+  later = writes.later;
+  cause = λ failed. writes.cause (failed_is r failed);
+}
+  where
+    failed_is : {T : Type 0} (r : Result T DiskRefusal) → r ≡ Err fault.Failed → IsErrOf r fault.Failed
+    failed_is r failed = subst (λ (s : Result _ DiskRefusal). IsErrOf s fault.Failed) (sym failed) refl
+
+-- a text is held back
+pub held_puts : {T : Type 0} (x : List ℕ) (w w2 : Writer) (t : Told) (f : ℕ) (r : Result T DiskRefusal) (done : T) → r ≡ Ok done
+    → w2.held ≡ w.held ++ x → w2.name ≡ w.name → w2.sums ≡ w.sums → PutsText x w w2 t t f f r
+held_puts x w w2 t f r done is held name sums = record {
+  ok = subst (λ (s : Result _ DiskRefusal). OnOk s (Puts x w w2 t t)) (sym is) (record {
+    added = [];
+    split = sym held;
+    file = views_none w.name (seen t);
+    sums = λ front of. subst (IsSumOf w2.sums) (sym (append-nil front)) (subst (λ now. IsSumOf now front) (sym sums) of);
+    name = name;
+  });
+  name = name;
+  only = only_none w.name t;
+  later = omega arith;
+  cause = λ failed. absurd (ok_no_error r done is failed);
+}
+  where
+    ok_no_error : {T : Type 0} (r : Result T DiskRefusal) (done : T) → r ≡ Ok done → r ≡ Err fault.Failed → ⊥
+    ok_no_error r done is failed = cc
+
+
+pub puts_nothing : (w : Writer) (t : Told) (f : ℕ) → PutsText {T = Unit {0}} [] w w t t f f (Ok tt)
+puts_nothing w t f = held_puts [] w w t f (Ok tt) tt refl (sym (append-nil w.held)) refl refl
+
+-- ---- the parts of a text
+
+-- one part more is put
+pub part_put : {X T : Type 0} (f : X → List ℕ) (xs : List X) (i : ℕ) (d : X) → i < length xs → (w w2 w3 : Writer) (a b c : Told) (x y z : ℕ) (r : Result T DiskRefusal) (done : T)
+    → r ≡ Ok done → PutsText {T = Unit {0}} (flat_map f (take i xs)) w w2 a b x y (Ok tt) → PutsText (f (get_or xs i d)) w2 w3 b c y z r
+    → PutsText {T = Unit {0}} (flat_map f (take (i + 1) xs)) w w3 a c x z (Ok tt)
+part_put f xs i d below w w2 w3 a b c x y z r done is first second =
+    subst (λ text. PutsText text w w3 a c x z (Ok tt)) (sym (ap (λ k. flat_map f (take k xs)) (add-one i) ∙ part_more f xs i d below))
+    (as_done _ w w3 a c x z r done is (text_both (flat_map f (take i xs)) (f (get_or xs i d)) w w2 w3 a b c x y z (Ok tt) r tt refl first second))
+  where
+    as_done : {T : Type 0} (text : List ℕ) (w w3 : Writer) (a c : Told) (x z : ℕ) (r : Result T DiskRefusal) (done : T) → r ≡ Ok done → PutsText text w w3 a c x z r → PutsText {T = Unit {0}} text w w3 a c x z (Ok tt)
+    as_done text w w3 a c x z r done is puts = record {
+      ok = ok_puts text w w3 a c r done is puts.ok;
+      name = puts.name;
+      only = puts.only;
+      later = puts.later;
+      cause = λ failed. cc;
+    }
+
+-- a part fails
+pub part_cut : {X T : Type 0} (f : X → List ℕ) (xs : List X) (i : ℕ) (d : X) → i < length xs → (w w2 w3 : Writer) (a b c : Told) (x y z : ℕ) (r : Result T DiskRefusal) (refusal : DiskRefusal)
+    → r ≡ Err refusal → PutsText {T = Unit {0}} (flat_map f (take i xs)) w w2 a b x y (Ok tt) → PutsText (f (get_or xs i d)) w2 w3 b c y z r
+    → PutsText {T = Unit {0}} (flat_map f xs) w w3 a c x z (Err refusal)
+part_cut f xs i d below w w2 w3 a b c x y z r refusal is first second =
+    text_cut (flat_map f (take i xs) ++ f (get_or xs i d)) (flat_map f xs) w w3 a c x z r (Err refusal) refusal is refl
+    (text_both (flat_map f (take i xs)) (f (get_or xs i d)) w w2 w3 a b c x y z (Ok tt) r tt refl first second)

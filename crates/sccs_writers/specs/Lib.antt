@@ -1,3 +1,4 @@
+pub mod Controls
 pub mod HeldBytes
 pub mod OneFile
 pub mod Puts

@@ -1,6 +1,10 @@
 //! The written spelling of s-files, appended to a file in pieces.
 #![tactic(auto)]
 
+mod item_writers;
 mod piece_writers;
+#[cfg(test)]
+mod tests;
 
+pub use item_writers::ItemWriter;
 pub use piece_writers::PieceWriter;

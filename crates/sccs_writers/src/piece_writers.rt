@@ -1,4 +1,4 @@
-ghost use Rattle.std.specs.Prelude.{◌≡◌, ◌≤◌, List, ℕ, [], ◌++◌, length, flat_map, IsTrue, OnOk};
+ghost use Rattle.std.specs.Prelude.{◌≡◌, ◌+◌, ◌≤◌, List, ℕ, [], ◌++◌, length, take, flat_map, IsTrue, OnOk};
 ghost use Rattle.sccs_disk.specs.Calls.{IsThere, Writes};
 ghost use Rattle.sccs_disk.specs.Effects.{appending};
 ghost use Rattle.sccs_table.specs.SumOf.{IsSumOf};
@@ -51,6 +51,18 @@ fn append<D: Disk>(
     Ok(())
 }
 
+// puts bytes after those at the front of a piece, and answers how many stand there then
+fn put_after(piece: &mut [u8], len: usize, bytes: &[u8]) -> usize
+    requires { len + length bytes.now ≤ length piece.old }
+    ensures end { result ≡ len + length bytes.now }
+    ensures same { length piece.new ≡ length piece.old }
+    ensures put { take result piece.new ≡ take len piece.old ++ bytes.now }
+{
+    let end = len + bytes.len();
+    piece[len..end].copy_from_slice(bytes);
+    end
+}
+
 impl PieceWriter {
     /// Holds nothing back yet, and goes on with these sums.
     pub fn new(name: &Name, sum: Sum) -> PieceWriter
@@ -73,15 +85,15 @@ impl PieceWriter {
 
     // holds bytes back where there is room for them
     fn hold(&mut self, bytes: &[u8]) -> bool
-        ensures held { IsTrue result → self.new ≡ record self.old { held = self.old.held ++ bytes.now } }
+        ensures held { IsTrue result → self.new.held ≡ self.old.held ++ bytes.now }
         ensures full { ¬ IsTrue result → self.new ≡ self.old }
+        ensures name { self.new.name ≡ self.old.name }
+        ensures sums { self.new.sums ≡ self.old.sums }
     {
         if bytes.len() > PIECE - self.len {
             return false;
         }
-        let end = self.len + bytes.len();
-        self.piece[self.len..end].copy_from_slice(bytes);
-        self.len = end;
+        self.len = put_after(&mut self.piece, self.len, bytes);
         true
     }
 
