@@ -11,7 +11,7 @@ fn name(text: &[u8]) -> Result<Name, Fail> {
 }
 
 // whether a file is new, and has these bytes then
-fn put<D: Disk>(disk: &mut D, name: &Name, bytes: &[u8]) -> bool {
+fn put(disk: &mut FolderDisk<HostRuntime>, name: &Name, bytes: &[u8]) -> bool {
     let _ = disk.remove(name);
     let created = disk.create(name) == Ok(Creation::Created);
     let appended = disk.append(name, bytes).is_ok();
@@ -19,7 +19,13 @@ fn put<D: Disk>(disk: &mut D, name: &Name, bytes: &[u8]) -> bool {
 }
 
 // whether a file has these bytes from a place on, and no more within a piece of so many
-fn has<D: Disk>(disk: &mut D, name: &Name, from: u64, room: usize, wanted: &[u8]) -> bool {
+fn has(
+    disk: &mut FolderDisk<HostRuntime>,
+    name: &Name,
+    from: u64,
+    room: usize,
+    wanted: &[u8],
+) -> bool {
     let mut piece = [0; 20];
     match disk.read_at(name, from, &mut piece[..room.min(20)]) {
         Ok(Some(count)) => piece.get(..count) == Some(wanted),
@@ -28,7 +34,7 @@ fn has<D: Disk>(disk: &mut D, name: &Name, from: u64, room: usize, wanted: &[u8]
 }
 
 // whether each call on a file that is there does what it is to do
-fn changes<D: Disk>(disk: &mut D, name: &Name) -> bool {
+fn changes(disk: &mut FolderDisk<HostRuntime>, name: &Name) -> bool {
     let exists = disk.create(name) == Ok(Creation::Exists);
     let appended = disk.append(name, b" two").is_ok();
     let read = has(disk, name, 0, 9, b"one two");
@@ -42,7 +48,7 @@ fn changes<D: Disk>(disk: &mut D, name: &Name) -> bool {
 }
 
 // whether a name is in the listing
-fn lists<D: Disk>(alloc: Global, disk: &mut D, name: &Name) -> bool {
+fn lists(alloc: Global, disk: &mut FolderDisk<HostRuntime>, name: &Name) -> bool {
     match disk.list(alloc) {
         Ok(names) => names.items().iter().any(|n| n.is(name)),
         Err(_) => false,
@@ -69,7 +75,7 @@ fn each_call_on_files_that_are_there(rt: HostRuntime) -> Result<(), Fail> {
 }
 
 // whether each call that changes a file is a fault
-fn fails<D: Disk>(disk: &mut D, name: &Name, other: &Name) -> bool {
+fn fails(disk: &mut FolderDisk<HostRuntime>, name: &Name, other: &Name) -> bool {
     let append = disk.append(name, b"a") == Err(DiskRefusal::Failed);
     let write = disk.write_at(name, 0, b"a") == Err(DiskRefusal::Failed);
     let protect = disk.protect(name) == Err(Failed);
@@ -124,9 +130,9 @@ fn a_name_has_another_file(rt: HostRuntime) -> Result<(), Fail> {
 }
 
 // appends so many numbered lines of 14 bytes to two files in turn
-fn append_lines<D: Disk>(
+fn append_lines(
     alloc: Global,
-    disk: &mut D,
+    disk: &mut FolderDisk<HostRuntime>,
     long: &Name,
     other: &Name,
 ) -> Result<(), Fail> {
