@@ -53,11 +53,11 @@ grew_both : (n : List ℕ) (m : Model) (past : List Model) (mid new : Told) → 
 grew_both n m past mid new first second = record {
   added = second.added ++ first.added;
   is =
-    second.is
-    ∙ (ap (λ (now : Model). Tells now (earlier second.added (newest first.added m) (earlier first.added m past))) (sym (newest_joined second.added first.added m))
-    ∙ ap (λ (before : List Model). Tells (newest (second.added ++ first.added) m) before) (sym (earlier_joined second.added first.added m past)));
+      second.is
+      ∙ (ap (λ (now : Model). Tells now (earlier second.added (newest first.added m) (earlier first.added m past))) (sym (newest_joined second.added first.added m))
+      ∙ ap (λ (before : List Model). Tells (newest (second.added ++ first.added) m) before) (sym (earlier_joined second.added first.added m past)));
   each =
-    each_joined n m (newest first.added m) second.added first.added (each_newest (IsBut n m) first.added m first.each) second.each first.each;
+      each_joined n m (newest first.added m) second.added first.added (each_newest (IsBut n m) first.added m first.each) second.each first.each;
 }
 
 -- ---- views
@@ -109,8 +109,8 @@ only_both n a b d first second = record {
   view = moves_both n (seen a) (seen b) (seen d) first.view second.view;
   there = λ is. second.there (first.there is);
   story = λ m past is.
-    let start : Grew n m past b = first.story m past is in
-    grew_both n m past b d start (second.story (newest start.added m) (earlier start.added m past) start.is);
+      let start : Grew n m past b = first.story m past is in
+      grew_both n m past b d start (second.story (newest start.added m) (earlier start.added m past) start.is);
 }
 
 one_more : (n : List ℕ) (g : File → File) (m : Model) (past : List Model) (new : Told) → new ≡ Tells (changed n g m) (m ∷ past) → Grew n m past new

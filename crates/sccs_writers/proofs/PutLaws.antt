@@ -70,8 +70,8 @@ puts_both x y w w2 w3 a b c first second = record {
   added = first.added ++ second.added;
   split = split_two w.held x y first.added w2.held second.added w3.held first.split second.split;
   file =
-    views_two w.name first.added second.added (seen a) (seen b) (seen c) first.file
-    (subst (λ n. seen c ≡ option_map (altered n (appended second.added)) (seen b)) first.name second.file);
+      views_two w.name first.added second.added (seen a) (seen b) (seen c) first.file
+      (subst (λ n. seen c ≡ option_map (altered n (appended second.added)) (seen b)) first.name second.file);
   sums = λ front is. subst (IsSumOf w3.sums) (append_assoc front first.added second.added) (second.sums (front ++ first.added) (first.sums front is));
   name = second.name ∙ first.name;
 }
@@ -162,7 +162,6 @@ held_puts x w w2 t f r done is held name sums = record {
   where
     ok_no_error : {T : Type 0} (r : Result T DiskRefusal) (done : T) → r ≡ Ok done → r ≡ Err fault.Failed → ⊥
     ok_no_error r done is failed = cc
-
 
 pub puts_nothing : (w : Writer) (t : Told) (f : ℕ) → PutsText {T = Unit {0}} [] w w t t f f (Ok tt)
 puts_nothing w t f = held_puts [] w w t f (Ok tt) tt refl (sym (append-nil w.held)) refl refl
