@@ -1,2 +1,4 @@
+pub mod HeaderCalls
+pub mod HeaderLaws
 pub mod OneFile
 pub mod PutLaws

@@ -7,6 +7,8 @@ use Rattle.sccs_base.proofs.Gifts.{part_more}
 use Rattle.sccs_disk.specs.Files.{Content, View, put}
 use Rattle.sccs_disk.specs.Told.{Told, seen}
 use Rattle.sccs_disk.specs.Effects.{altered, appended, appending, KeepsMark}
+use Rattle.std.specs.Result.{IsErrAnd}
+use Rattle.std.proofs.lemmas.Result.{err_from_is_err_and}
 use Rattle.sccs_disk.specs.Calls.{IsThere, Writes}
 use Rattle.sccs_disk.specs.declared.disks.DiskRefusal.{DiskRefusal}
 use Rattle.sccs_disk.specs.declared.disks.DiskRefusal.TheVariants as fault
@@ -44,7 +46,7 @@ views_none : (n : List ℕ) (o : Option View) → o ≡ option_map (altered n (a
 views_none n None = refl
 views_none n (Some v) = ap (λ (u : View). Some u) (sym (altered_none n v))
 
-views_two : (n x y : List ℕ) (a b c : Option View) → b ≡ option_map (altered n (appended x)) a → c ≡ option_map (altered n (appended y)) b → c ≡ option_map (altered n (appended (x ++ y))) a
+pub views_two : (n x y : List ℕ) (a b c : Option View) → b ≡ option_map (altered n (appended x)) a → c ≡ option_map (altered n (appended y)) b → c ≡ option_map (altered n (appended (x ++ y))) a
 views_two n x y None b c first second = subst (λ o. c ≡ option_map (altered n (appended y)) o) first second
 views_two n x y (Some v) b c first second =
     subst (λ o. c ≡ option_map (altered n (appended y)) o) first second ∙ ap (λ (u : View). Some u) (altered_two n x y v)
@@ -119,7 +121,7 @@ text_cut x y w w2 a b f g q r refusal is so first = record {
 
 -- ---- a call of the disk, and bytes that are held back
 
-writes_only : {T : Type 0} (n bytes : List ℕ) (a b : Told) (f g : ℕ) (r : Result T DiskRefusal) → Writes (appending n bytes) a b f g r → OnlyWrites n a b
+pub writes_only : {T : Type 0} (n bytes : List ℕ) (a b : Told) (f g : ℕ) (r : Result T DiskRefusal) → Writes (appending n bytes) a b f g r → OnlyWrites n a b
 writes_only n bytes a b f g (Ok done) writes = only_done n (appended bytes) KeepsMark a b writes.done
 writes_only n bytes a b f g (Err fault.Failed) writes = only_half n (appended bytes) KeepsMark a b (writes.half refl)
 writes_only n bytes a b f g (Err fault.Memory) writes = only_same n a b (writes.memory refl)
@@ -192,3 +194,47 @@ pub part_cut : {X T : Type 0} (f : X → List ℕ) (xs : List X) (i : ℕ) (d : 
 part_cut f xs i d below w w2 w3 a b c x y z r refusal is first second =
     text_cut (flat_map f (take i xs) ++ f (get_or xs i d)) (flat_map f xs) w w3 a c x z r (Err refusal) refusal is refl
     (text_both (flat_map f (take i xs)) (f (get_or xs i d)) w w2 w3 a b c x y z (Ok tt) r tt refl first second)
+
+-- ---- calls one after the other
+
+-- after a call that put a text its file is still there
+pub still_there : {T : Type 0} (x : List ℕ) (w w2 : Writer) (a b : Told) (f g : ℕ) (q : Result T DiskRefusal) → PutsText x w w2 a b f g q → IsThere w.name a → IsThere w2.name b
+still_there x w w2 a b f g q puts there = subst (λ n. IsThere n b) (sym puts.name) (puts.only.there there)
+
+-- a further call puts more
+pub puts_then : {T U : Type 0} {x y : List ℕ} {w w2 w3 : Writer} {a b c : Told} {f g h : ℕ} {q : Result U DiskRefusal} {r : Result T DiskRefusal} (done : U)
+    → q ≡ Ok done → PutsText x w w2 a b f g q → PutsText y w2 w3 b c g h r → PutsText (x ++ y) w w3 a c f h r
+puts_then {x = x} {y = y} {w = w} {w2 = w2} {w3 = w3} {a = a} {b = b} {c = c} {f = f} {g = g} {h = h} {q = q} {r = r} done is first second =
+    text_both x y w w2 w3 a b c f g h q r done is first second
+
+-- a call that fails leaves a longer text unput
+pub puts_cut : {T U : Type 0} {x : List ℕ} {w w2 : Writer} {a b : Told} {f g : ℕ} {q : Result U DiskRefusal} {r : Result T DiskRefusal} (y : List ℕ) (refusal : DiskRefusal)
+    → q ≡ Err refusal → r ≡ Err refusal → PutsText x w w2 a b f g q → PutsText y w w2 a b f g r
+puts_cut {x = x} {w = w} {w2 = w2} {a = a} {b = b} {f = f} {g = g} {q = q} {r = r} y refusal is so first = text_cut x y w w2 a b f g q r refusal is so first
+
+-- a text that is the same
+pub same_text : {T : Type 0} {x y : List ℕ} {w w2 : Writer} {a b : Told} {f g : ℕ} {r : Result T DiskRefusal} → x ≡ y → PutsText x w w2 a b f g r → PutsText y w w2 a b f g r
+same_text {w = w} {w2 = w2} {a = a} {b = b} {f = f} {g = g} {r = r} is puts = subst (λ text. PutsText text w w2 a b f g r) is puts
+
+-- the same of a call that was left by `?`
+pub puts_left : {T U : Type 0} {x : List ℕ} {w w2 : Writer} {a b : Told} {f g : ℕ} {q : Result U DiskRefusal} {r : Result T DiskRefusal} (y : List ℕ) (refusal : DiskRefusal)
+    → q ≡ Err refusal → IsErrAnd r (λ e. e ≡ refusal) → PutsText x w w2 a b f g q → PutsText y w w2 a b f g r
+puts_left {r = r} y refusal is left first =
+    let p = err_from_is_err_and r left in
+    puts_cut y refusal is (p.1 ∙ ap Err p.2) first
+
+-- one item more of a list is put, as a call lent it
+pub list_put : {X T : Type 0} (f : X → List ℕ) (xs ys : List X) → ys ≡ xs → (i : ℕ) (item d : X) → i < length ys → item ≡ get_or ys i d → (w w2 w3 : Writer) (a b c : Told) (x y z : ℕ) (r : Result T DiskRefusal) (done : T)
+    → r ≡ Ok done → PutsText {T = Unit {0}} (flat_map f (take i xs)) w w2 a b x y (Ok tt) → PutsText (f item) w2 w3 b c y z r
+    → PutsText {T = Unit {0}} (flat_map f (take (i + 1) xs)) w w3 a c x z (Ok tt)
+list_put {X = X} f xs ys same i item d below is w w2 w3 a b c x y z r done ok first second =
+    part_put f xs i d (subst (λ (zs : List X). i < length zs) same below) w w2 w3 a b c x y z r done ok first
+    (subst (λ (t : X). PutsText (f t) w2 w3 b c y z r) (is ∙ ap (λ (zs : List X). get_or zs i d) same) second)
+
+-- an item of a list fails
+pub list_cut : {X T : Type 0} (f : X → List ℕ) (xs ys : List X) → ys ≡ xs → (i : ℕ) (item d : X) → i < length ys → item ≡ get_or ys i d → (w w2 w3 : Writer) (a b c : Told) (x y z : ℕ) (r : Result T DiskRefusal) (refusal : DiskRefusal)
+    → r ≡ Err refusal → PutsText {T = Unit {0}} (flat_map f (take i xs)) w w2 a b x y (Ok tt) → PutsText (f item) w2 w3 b c y z r
+    → PutsText {T = Unit {0}} (flat_map f xs) w w3 a c x z (Err refusal)
+list_cut {X = X} f xs ys same i item d below is w w2 w3 a b c x y z r refusal ok first second =
+    part_cut f xs i d (subst (λ (zs : List X). i < length zs) same below) w w2 w3 a b c x y z r refusal ok first
+    (subst (λ (t : X). PutsText (f t) w2 w3 b c y z r) (is ∙ ap (λ (zs : List X). get_or zs i d) same) second)

@@ -1,4 +1,5 @@
 pub mod Controls
+pub mod HeaderBytes
 pub mod HeldBytes
 pub mod OneFile
 pub mod Puts

@@ -75,6 +75,15 @@ impl ItemWriter {
         }
     }
 
+    /// Puts text lines that stand together, each with its LF.
+    pub fn put_lines<D: Disk>(&mut self, disk: &mut D, lines: &[u8]) -> Result<(), DiskRefusal>
+        requires { IsThere self.old.name (D.told disk.old) }
+        ensures { PutsText lines.now self.old self.new (D.told disk.old) (D.told disk.new)
+            (D.faults disk.old) (D.faults disk.new) result }
+    {
+        self.out.put(lines, disk)
+    }
+
     /// Appends the bytes that are held back.
     pub fn flush<D: Disk>(&mut self, disk: &mut D) -> Result<(), DiskRefusal>
         requires { IsThere self.old.name (D.told disk.old) }

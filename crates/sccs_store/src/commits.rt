@@ -1,0 +1,63 @@
+ghost use Rattle.std.specs.Prelude.{◌≡◌, ◌≤◌, drop, OnErr, OnOk};
+ghost use Rattle.sccs_base.specs.Name.{IsSfile, sibling};
+ghost use Rattle.sccs_base.specs.Stream.{Rose};
+ghost use Rattle.sccs_disk.specs.Calls.{IsThere};
+ghost use Rattle.sccs_disk.specs.Told.{seen};
+ghost use Rattle.sccs_store.specs.Commits.{Becomes, IsPart, MayBecome, Needs, committed, plan, replaced, swapped};
+
+use crate::new_files::NewFile;
+use sccs_base::{Failed, Name};
+use sccs_disk::Disk;
+
+// puts a prepared file in the place of another, or removes that one
+fn swap<D: Disk>(disk: &mut D, new: NewFile, from: &Name, to: &Name) -> Result<(), Failed>
+    requires { Needs new from.now to.now (D.told disk.old) }
+    ensures ok { OnOk result (Becomes (swapped new from.now to.now) (seen (D.told disk.old)) (seen (D.told disk.new))) }
+    ensures err { OnErr result (MayBecome (swapped new from.now to.now) (seen (D.told disk.old)) (seen (D.told disk.new))) }
+    ensures later { D.faults disk.old ≤ D.faults disk.new }
+    ensures cause { OnErr result (Rose (D.faults disk.old) (D.faults disk.new)) }
+{
+    match new {
+        NewFile::Keep => Ok(()),
+        NewFile::Replace => disk.rename(from, to),
+        NewFile::Remove => disk.remove(to),
+    }
+}
+
+// whether the s-file is replaced or kept
+fn replaced(new_s: bool) -> NewFile
+    ensures { result ≡ replaced new_s }
+{
+    if new_s {
+        NewFile::Replace
+    } else {
+        NewFile::Keep
+    }
+}
+
+/// Puts the prepared files in the place of the old ones: x over the s-file, then q over the p-file, or
+/// the p-file is removed, then y over the g-file, or that is removed; then z is removed, and the names
+/// are synced. It takes no memory. Where it fails, recovery runs first.
+pub fn commit<D: Disk>(
+    disk: &mut D,
+    name: &Name,
+    new_s: bool,
+    new_p: NewFile,
+    new_g: NewFile,
+) -> Result<(), Failed>
+    requires sfile { IsSfile name.now }
+    requires z { IsThere (sibling 122 name.now) (D.told disk.old) }
+    requires s { Needs (replaced new_s) (sibling 120 name.now) name.now (D.told disk.old) }
+    requires p { Needs new_p (sibling 113 name.now) (sibling 112 name.now) (D.told disk.old) }
+    requires g { Needs new_g (sibling 121 name.now) (drop 2 name.now) (D.told disk.old) }
+    ensures view { OnOk result (Becomes (committed name.now (plan new_s new_p new_g)) (seen (D.told disk.old)) (seen (D.told disk.new))) }
+    ensures halfway { OnErr result (IsPart name.now (plan new_s new_p new_g) (seen (D.told disk.old)) (seen (D.told disk.new))) }
+    ensures later { D.faults disk.old ≤ D.faults disk.new }
+    ensures cause { OnErr result (Rose (D.faults disk.old) (D.faults disk.new)) }
+{
+    swap(disk, replaced(new_s), &name.sibling(b'x'), name)?;
+    swap(disk, new_p, &name.sibling(b'q'), &name.sibling(b'p'))?;
+    swap(disk, new_g, &name.sibling(b'y'), &name.module())?;
+    disk.remove(&name.sibling(b'z'))?;
+    disk.sync_names()
+}

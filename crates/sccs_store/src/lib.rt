@@ -1,0 +1,13 @@
+//! The files of a name changed whole: the lock, the working files, and the commit. The z-file is made
+//! and honoured; that it keeps other programs out isn't claimed.
+#![tactic(auto)]
+
+mod commits;
+mod locks;
+mod new_files;
+mod working_files;
+
+pub use commits::commit;
+pub use locks::{LockFault, lock};
+pub use new_files::{NewFile, NewG, NewP};
+pub use working_files::{abandon, finish_x, start};

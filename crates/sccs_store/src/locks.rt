@@ -1,0 +1,43 @@
+ghost use Rattle.std.specs.Prelude.{◌≡◌, ◌≤◌, None, IfSome, IsSome, IsErrOf, OnErr, OnOk, option_map};
+ghost use Rattle.std.specs.Str.{bytes_eq};
+ghost use Rattle.sccs_base.specs.Name.{IsSfile, sibling};
+ghost use Rattle.sccs_base.specs.Stream.{Rose};
+ghost use Rattle.sccs_disk.specs.Files.{View};
+ghost use Rattle.sccs_disk.specs.Told.{seen};
+ghost use Rattle.sccs_files.specs.StepFiles.{Moves};
+ghost use Rattle.sccs_images.specs.Touches.{TouchesOnly};
+ghost use Rattle.sccs_store.specs.Commits.{Becomes, locked};
+
+use sccs_base::Name;
+use sccs_disk::{Creation, Disk, DiskRefusal};
+
+/// Why a name wasn't locked.
+#[derive(Clone, Copy, Debug, PartialEq, Eq)]
+pub enum LockFault {
+    /// Its z-file was there.
+    Locked,
+    Failed,
+    Memory,
+}
+
+/// Makes the z-file of an s-file's name, empty. Locked comes exactly where it was there.
+pub fn lock<D: Disk>(disk: &mut D, name: &Name) -> Result<(), LockFault>
+    requires { IsSfile name.now }
+    ensures view { OnOk result (Becomes (locked name.now) (seen (D.told disk.old)) (seen (D.told disk.new))) }
+    ensures free { OnOk result (IfSome (seen (D.told disk.old)) (λ (v : View). v (sibling 122 name.now) ≡ None)) }
+    ensures locked { IsErrOf result LockFault.Locked
+        → IfSome (seen (D.told disk.old)) (λ (v : View). IsSome (v (sibling 122 name.now))) }
+    ensures same { IsErrOf result LockFault.Locked → D.told disk.new ≡ D.told disk.old }
+    ensures memory { IsErrOf result LockFault.Memory → D.told disk.new ≡ D.told disk.old }
+    ensures view_err { OnErr result (Moves (bytes_eq (sibling 122 name.now)) (λ v. v) (seen (D.told disk.old)) (seen (D.told disk.new))) }
+    ensures touches { TouchesOnly (bytes_eq (sibling 122 name.now)) (D.told disk.old) (D.told disk.new) }
+    ensures later { D.faults disk.old ≤ D.faults disk.new }
+    ensures cause { IsErrOf result LockFault.Failed → Rose (D.faults disk.old) (D.faults disk.new) }
+{
+    match disk.create(&name.sibling(b'z')) {
+        Ok(Creation::Created) => Ok(()),
+        Ok(Creation::Exists) => Err(LockFault::Locked),
+        Err(DiskRefusal::Failed) => Err(LockFault::Failed),
+        Err(DiskRefusal::Memory) => Err(LockFault::Memory),
+    }
+}

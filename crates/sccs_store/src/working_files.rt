@@ -1,0 +1,131 @@
+ghost use Rattle.std.specs.Prelude.{◌≡◌, ◌≤◌, Some, IfSome, IsErrOf, OnErr, OnOk, option_map};
+ghost use Rattle.std.specs.Str.{bytes_eq};
+ghost use Rattle.sccs_base.specs.Name.{IsSfile, sibling};
+ghost use Rattle.sccs_base.specs.Stream.{Rose};
+ghost use Rattle.sccs_disk.specs.Calls.{HasRange, IsThere};
+ghost use Rattle.sccs_disk.specs.Effects.{altered, empty_file, protected};
+ghost use Rattle.sccs_disk.specs.Files.{View, put};
+ghost use Rattle.sccs_disk.specs.Images.{IsFirm, IsOwn};
+ghost use Rattle.sccs_disk.specs.Told.{seen};
+ghost use Rattle.sccs_files.specs.StepFiles.{Moves, is_left, is_working};
+ghost use Rattle.sccs_images.specs.Touches.{Leaves, TouchesOnly};
+ghost use Rattle.sccs_store.specs.Commits.{Becomes, abandoned, cleared, summed, without};
+ghost use Rattle.sccs_writers.specs.OneFile.{OnlyWrites};
+
+use sccs_base::{Failed, Name};
+use sccs_disk::{Creation, Disk, DiskRefusal};
+use sccs_table::Sum;
+use sccs_writers::five_digits;
+
+// removes a file where it is there
+fn clear<D: Disk>(disk: &mut D, name: &Name) -> Result<(), Failed>
+    ensures view { OnOk result (Becomes (without name.now) (seen (D.told disk.old)) (seen (D.told disk.new))) }
+    ensures view_err { OnErr result (Moves (bytes_eq name.now) (λ v. v) (seen (D.told disk.old)) (seen (D.told disk.new))) }
+    ensures touches { TouchesOnly (bytes_eq name.now) (D.told disk.old) (D.told disk.new) }
+    ensures later { D.faults disk.old ≤ D.faults disk.new }
+    ensures cause { OnErr result (Rose (D.faults disk.old) (D.faults disk.new)) }
+{
+    match disk.size(name) {
+        Ok(Some(_)) => disk.remove(name),
+        Ok(None) => Ok(()),
+        Err(fault) => Err(fault),
+    }
+}
+
+// Makes an empty file. One that has come there since is another program's, and is left alone.
+fn make<D: Disk>(disk: &mut D, name: &Name) -> Result<(), DiskRefusal>
+    ensures view { OnOk result (Becomes (λ v. put v name.now (Some empty_file)) (seen (D.told disk.old)) (seen (D.told disk.new))) }
+    ensures view_err { OnErr result (Moves (bytes_eq name.now) (λ v. v) (seen (D.told disk.old)) (seen (D.told disk.new))) }
+    ensures touches { TouchesOnly (bytes_eq name.now) (D.told disk.old) (D.told disk.new) }
+    ensures own { OnOk result (Leaves (IsOwn name.now) (D.told disk.old) (D.told disk.new)) }
+    ensures later { D.faults disk.old ≤ D.faults disk.new }
+    ensures cause { IsErrOf result DiskRefusal.Failed → Rose (D.faults disk.old) (D.faults disk.new) }
+{
+    match disk.create(name) {
+        Ok(Creation::Created) => Ok(()),
+        Ok(Creation::Exists) => Err(DiskRefusal::Memory),
+        Err(fault) => Err(fault),
+    }
+}
+
+/// Makes a working file of an s-file's name empty: `x` the new s-file, `q` the new p-file, `y` the new
+/// g-file. One that an earlier stop left is removed.
+pub fn start<D: Disk>(disk: &mut D, name: &Name, letter: u8) -> Result<(), DiskRefusal>
+    requires sfile { IsSfile name.now }
+    requires low { 97 ≤ letter }
+    requires high { letter ≤ 122 }
+    ensures view { OnOk result (Becomes (λ v. put v (sibling letter name.now) (Some empty_file)) (seen (D.told disk.old)) (seen (D.told disk.new))) }
+    ensures view_err { OnErr result (Moves (bytes_eq (sibling letter name.now)) (λ v. v) (seen (D.told disk.old)) (seen (D.told disk.new))) }
+    ensures touches { TouchesOnly (bytes_eq (sibling letter name.now)) (D.told disk.old) (D.told disk.new) }
+    ensures own { OnOk result (Leaves (IsOwn (sibling letter name.now)) (D.told disk.old) (D.told disk.new)) }
+    ensures later { D.faults disk.old ≤ D.faults disk.new }
+    ensures cause { IsErrOf result DiskRefusal.Failed → Rose (D.faults disk.old) (D.faults disk.new) }
+{
+    let file = name.sibling(letter);
+    match clear(disk, &file) {
+        Ok(()) => make(disk, &file),
+        Err(_) => Err(DiskRefusal::Failed),
+    }
+}
+
+// takes the mark writable from a file and syncs it
+fn seal<D: Disk>(disk: &mut D, name: &Name) -> Result<(), Failed>
+    requires { IsThere name.now (D.told disk.old) }
+    ensures view { OnOk result (Becomes (altered name.now protected) (seen (D.told disk.old)) (seen (D.told disk.new))) }
+    ensures only { OnlyWrites name.now (D.told disk.old) (D.told disk.new) }
+    ensures firm { OnOk result (Leaves (IsFirm name.now) (D.told disk.old) (D.told disk.new)) }
+    ensures later { D.faults disk.old ≤ D.faults disk.new }
+    ensures cause { OnErr result (Rose (D.faults disk.old) (D.faults disk.new)) }
+{
+    match disk.protect(name) {
+        Ok(()) => disk.sync(name),
+        Err(fault) => Err(fault),
+    }
+}
+
+/// Puts the digits of the plain sum into the sum line of the x-file, protects the file and syncs it.
+pub fn finish_x<D: Disk>(disk: &mut D, name: &Name, sum: &Sum) -> Result<(), DiskRefusal>
+    requires sfile { IsSfile name.now }
+    requires there { HasRange (sibling 120 name.now) 2 5 (D.told disk.old) }
+    ensures view { OnOk result (Becomes (altered (sibling 120 name.now) (summed sum.now.0)) (seen (D.told disk.old)) (seen (D.told disk.new))) }
+    ensures only { OnlyWrites (sibling 120 name.now) (D.told disk.old) (D.told disk.new) }
+    ensures firm { OnOk result (Leaves (IsFirm (sibling 120 name.now)) (D.told disk.old) (D.told disk.new)) }
+    ensures later { D.faults disk.old ≤ D.faults disk.new }
+    ensures cause { IsErrOf result DiskRefusal.Failed → Rose (D.faults disk.old) (D.faults disk.new) }
+{
+    let x = name.sibling(b'x');
+    match disk.write_at(&x, 2, &five_digits(u32::from(sum.plain()))) {
+        Ok(()) => match seal(disk, &x) {
+            Ok(()) => Ok(()),
+            Err(_) => Err(DiskRefusal::Failed),
+        },
+        Err(fault) => Err(fault),
+    }
+}
+
+// removes the x-, q- and y-file where they are there
+fn clear_working<D: Disk>(disk: &mut D, name: &Name) -> Result<(), Failed>
+    requires { IsSfile name.now }
+    ensures view { OnOk result (Becomes (cleared name.now) (seen (D.told disk.old)) (seen (D.told disk.new))) }
+    ensures view_err { OnErr result (Moves (is_working name.now) (λ v. v) (seen (D.told disk.old)) (seen (D.told disk.new))) }
+    ensures touches { TouchesOnly (is_working name.now) (D.told disk.old) (D.told disk.new) }
+    ensures later { D.faults disk.old ≤ D.faults disk.new }
+    ensures cause { OnErr result (Rose (D.faults disk.old) (D.faults disk.new)) }
+{
+    clear(disk, &name.sibling(b'x'))?;
+    clear(disk, &name.sibling(b'q'))?;
+    clear(disk, &name.sibling(b'y'))
+}
+
+/// Removes the x-, q-, y- and z-file of an s-file's name where they are there.
+pub fn abandon<D: Disk>(disk: &mut D, name: &Name) -> Result<(), Failed>
+    requires { IsSfile name.now }
+    ensures view { OnOk result (Becomes (abandoned name.now) (seen (D.told disk.old)) (seen (D.told disk.new))) }
+    ensures view_err { OnErr result (Moves (is_left name.now) (λ v. v) (seen (D.told disk.old)) (seen (D.told disk.new))) }
+    ensures touches { TouchesOnly (is_left name.now) (D.told disk.old) (D.told disk.new) }
+    ensures later { D.faults disk.old ≤ D.faults disk.new }
+    ensures cause { OnErr result (Rose (D.faults disk.old) (D.faults disk.new)) }
+{
+    clear_working(disk, name)?;
+    clear(disk, &name.sibling(b'z'))
+}
