@@ -3,7 +3,7 @@ ghost use Rattle.sccs_base.specs.Name.{IsSfile, sibling};
 ghost use Rattle.sccs_base.specs.Stream.{Rose};
 ghost use Rattle.sccs_disk.specs.Calls.{IsThere};
 ghost use Rattle.sccs_disk.specs.Told.{seen};
-ghost use Rattle.sccs_store.specs.Commits.{Becomes, IsPart, MayBecome, Needs, committed, plan, replaced, swapped};
+ghost use Rattle.sccs_store.specs.Commits.{Becomes, IsPart, MayBecome, Needs, committed, plan, replaced, swapped, without};
 
 use crate::new_files::NewFile;
 use sccs_base::{Failed, Name};
@@ -35,6 +35,57 @@ fn replaced(new_s: bool) -> NewFile
     }
 }
 
+// puts the x-file in the place of the s-file, or keeps that
+fn swap_s<D: Disk>(disk: &mut D, new_s: bool, name: &Name) -> Result<(), Failed>
+    requires sfile { IsSfile name.now }
+    requires needs { Needs (replaced new_s) (sibling 120 name.now) name.now (D.told disk.old) }
+    ensures ok { OnOk result (Becomes (swapped (replaced new_s) (sibling 120 name.now) name.now) (seen (D.told disk.old)) (seen (D.told disk.new))) }
+    ensures err { OnErr result (MayBecome (swapped (replaced new_s) (sibling 120 name.now) name.now) (seen (D.told disk.old)) (seen (D.told disk.new))) }
+    ensures later { D.faults disk.old ≤ D.faults disk.new }
+    ensures cause { OnErr result (Rose (D.faults disk.old) (D.faults disk.new)) }
+{
+    swap(disk, replaced(new_s), &name.sibling(b'x'), name)
+}
+
+// puts the q-file in the place of the p-file, or removes that
+fn swap_p<D: Disk>(disk: &mut D, new: NewFile, name: &Name) -> Result<(), Failed>
+    requires sfile { IsSfile name.now }
+    requires needs { Needs new (sibling 113 name.now) (sibling 112 name.now) (D.told disk.old) }
+    ensures ok { OnOk result (Becomes (swapped new (sibling 113 name.now) (sibling 112 name.now)) (seen (D.told disk.old)) (seen (D.told disk.new))) }
+    ensures err { OnErr result (MayBecome (swapped new (sibling 113 name.now) (sibling 112 name.now)) (seen (D.told disk.old)) (seen (D.told disk.new))) }
+    ensures later { D.faults disk.old ≤ D.faults disk.new }
+    ensures cause { OnErr result (Rose (D.faults disk.old) (D.faults disk.new)) }
+{
+    swap(disk, new, &name.sibling(b'q'), &name.sibling(b'p'))
+}
+
+// puts the y-file in the place of the g-file, or removes that
+fn swap_g<D: Disk>(disk: &mut D, new: NewFile, name: &Name) -> Result<(), Failed>
+    requires sfile { IsSfile name.now }
+    requires needs { Needs new (sibling 121 name.now) (drop 2 name.now) (D.told disk.old) }
+    ensures ok { OnOk result (Becomes (swapped new (sibling 121 name.now) (drop 2 name.now)) (seen (D.told disk.old)) (seen (D.told disk.new))) }
+    ensures err { OnErr result (MayBecome (swapped new (sibling 121 name.now) (drop 2 name.now)) (seen (D.told disk.old)) (seen (D.told disk.new))) }
+    ensures later { D.faults disk.old ≤ D.faults disk.new }
+    ensures cause { OnErr result (Rose (D.faults disk.old) (D.faults disk.new)) }
+{
+    swap(disk, new, &name.sibling(b'y'), &name.module())
+}
+
+// removes the z-file and syncs the names
+fn unlock<D: Disk>(disk: &mut D, name: &Name) -> Result<(), Failed>
+    requires sfile { IsSfile name.now }
+    requires there { IsThere (sibling 122 name.now) (D.told disk.old) }
+    ensures ok { OnOk result (Becomes (without (sibling 122 name.now)) (seen (D.told disk.old)) (seen (D.told disk.new))) }
+    ensures err { OnErr result (MayBecome (without (sibling 122 name.now)) (seen (D.told disk.old)) (seen (D.told disk.new))) }
+    ensures later { D.faults disk.old ≤ D.faults disk.new }
+    ensures cause { OnErr result (Rose (D.faults disk.old) (D.faults disk.new)) }
+{
+    match disk.remove(&name.sibling(b'z')) {
+        Ok(()) => disk.sync_names(),
+        Err(fault) => Err(fault),
+    }
+}
+
 /// Puts the prepared files in the place of the old ones: x over the s-file, then q over the p-file, or
 /// the p-file is removed, then y over the g-file, or that is removed; then z is removed, and the names
 /// are synced. It takes no memory. Where it fails, recovery runs first.
@@ -55,9 +106,8 @@ pub fn commit<D: Disk>(
     ensures later { D.faults disk.old ≤ D.faults disk.new }
     ensures cause { OnErr result (Rose (D.faults disk.old) (D.faults disk.new)) }
 {
-    swap(disk, replaced(new_s), &name.sibling(b'x'), name)?;
-    swap(disk, new_p, &name.sibling(b'q'), &name.sibling(b'p'))?;
-    swap(disk, new_g, &name.sibling(b'y'), &name.module())?;
-    disk.remove(&name.sibling(b'z'))?;
-    disk.sync_names()
+    swap_s(disk, new_s, name)?;
+    swap_p(disk, new_p, name)?;
+    swap_g(disk, new_g, name)?;
+    unlock(disk, name)
 }

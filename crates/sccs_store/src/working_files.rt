@@ -48,6 +48,21 @@ fn make<D: Disk>(disk: &mut D, name: &Name) -> Result<(), DiskRefusal>
     }
 }
 
+// removes a file where it is there, and makes it empty
+fn renew<D: Disk>(disk: &mut D, name: &Name) -> Result<(), DiskRefusal>
+    ensures view { OnOk result (Becomes (λ v. put v name.now (Some empty_file)) (seen (D.told disk.old)) (seen (D.told disk.new))) }
+    ensures view_err { OnErr result (Moves (bytes_eq name.now) (λ v. v) (seen (D.told disk.old)) (seen (D.told disk.new))) }
+    ensures touches { TouchesOnly (bytes_eq name.now) (D.told disk.old) (D.told disk.new) }
+    ensures own { OnOk result (Leaves (IsOwn name.now) (D.told disk.old) (D.told disk.new)) }
+    ensures later { D.faults disk.old ≤ D.faults disk.new }
+    ensures cause { IsErrOf result DiskRefusal.Failed → Rose (D.faults disk.old) (D.faults disk.new) }
+{
+    match clear(disk, name) {
+        Ok(()) => make(disk, name),
+        Err(_) => Err(DiskRefusal::Failed),
+    }
+}
+
 /// Makes a working file of an s-file's name empty: `x` the new s-file, `q` the new p-file, `y` the new
 /// g-file. One that an earlier stop left is removed.
 pub fn start<D: Disk>(disk: &mut D, name: &Name, letter: u8) -> Result<(), DiskRefusal>
@@ -61,11 +76,7 @@ pub fn start<D: Disk>(disk: &mut D, name: &Name, letter: u8) -> Result<(), DiskR
     ensures later { D.faults disk.old ≤ D.faults disk.new }
     ensures cause { IsErrOf result DiskRefusal.Failed → Rose (D.faults disk.old) (D.faults disk.new) }
 {
-    let file = name.sibling(letter);
-    match clear(disk, &file) {
-        Ok(()) => make(disk, &file),
-        Err(_) => Err(DiskRefusal::Failed),
-    }
+    renew(disk, &name.sibling(letter))
 }
 
 // takes the mark writable from a file and syncs it
@@ -83,6 +94,24 @@ fn seal<D: Disk>(disk: &mut D, name: &Name) -> Result<(), Failed>
     }
 }
 
+// puts the digits of a sum into the sum line of a file, protects the file and syncs it
+fn write_sum<D: Disk>(disk: &mut D, name: &Name, sum: u16) -> Result<(), DiskRefusal>
+    requires { HasRange name.now 2 5 (D.told disk.old) }
+    ensures view { OnOk result (Becomes (altered name.now (summed sum)) (seen (D.told disk.old)) (seen (D.told disk.new))) }
+    ensures only { OnlyWrites name.now (D.told disk.old) (D.told disk.new) }
+    ensures firm { OnOk result (Leaves (IsFirm name.now) (D.told disk.old) (D.told disk.new)) }
+    ensures later { D.faults disk.old ≤ D.faults disk.new }
+    ensures cause { IsErrOf result DiskRefusal.Failed → Rose (D.faults disk.old) (D.faults disk.new) }
+{
+    match disk.write_at(name, 2, &five_digits(u32::from(sum))) {
+        Ok(()) => match seal(disk, name) {
+            Ok(()) => Ok(()),
+            Err(_) => Err(DiskRefusal::Failed),
+        },
+        Err(fault) => Err(fault),
+    }
+}
+
 /// Puts the digits of the plain sum into the sum line of the x-file, protects the file and syncs it.
 pub fn finish_x<D: Disk>(disk: &mut D, name: &Name, sum: &Sum) -> Result<(), DiskRefusal>
     requires sfile { IsSfile name.now }
@@ -93,14 +122,21 @@ pub fn finish_x<D: Disk>(disk: &mut D, name: &Name, sum: &Sum) -> Result<(), Dis
     ensures later { D.faults disk.old ≤ D.faults disk.new }
     ensures cause { IsErrOf result DiskRefusal.Failed → Rose (D.faults disk.old) (D.faults disk.new) }
 {
-    let x = name.sibling(b'x');
-    match disk.write_at(&x, 2, &five_digits(u32::from(sum.plain()))) {
-        Ok(()) => match seal(disk, &x) {
-            Ok(()) => Ok(()),
-            Err(_) => Err(DiskRefusal::Failed),
-        },
-        Err(fault) => Err(fault),
-    }
+    write_sum(disk, &name.sibling(b'x'), sum.plain())
+}
+
+// removes one of the files of an s-file's name where it is there
+fn clear_sibling<D: Disk>(disk: &mut D, name: &Name, letter: u8) -> Result<(), Failed>
+    requires sfile { IsSfile name.now }
+    requires low { 97 ≤ letter }
+    requires high { letter ≤ 122 }
+    ensures view { OnOk result (Becomes (without (sibling letter name.now)) (seen (D.told disk.old)) (seen (D.told disk.new))) }
+    ensures view_err { OnErr result (Moves (bytes_eq (sibling letter name.now)) (λ v. v) (seen (D.told disk.old)) (seen (D.told disk.new))) }
+    ensures touches { TouchesOnly (bytes_eq (sibling letter name.now)) (D.told disk.old) (D.told disk.new) }
+    ensures later { D.faults disk.old ≤ D.faults disk.new }
+    ensures cause { OnErr result (Rose (D.faults disk.old) (D.faults disk.new)) }
+{
+    clear(disk, &name.sibling(letter))
 }
 
 // removes the x-, q- and y-file where they are there
@@ -112,9 +148,9 @@ fn clear_working<D: Disk>(disk: &mut D, name: &Name) -> Result<(), Failed>
     ensures later { D.faults disk.old ≤ D.faults disk.new }
     ensures cause { OnErr result (Rose (D.faults disk.old) (D.faults disk.new)) }
 {
-    clear(disk, &name.sibling(b'x'))?;
-    clear(disk, &name.sibling(b'q'))?;
-    clear(disk, &name.sibling(b'y'))
+    clear_sibling(disk, name, b'x')?;
+    clear_sibling(disk, name, b'q')?;
+    clear_sibling(disk, name, b'y')
 }
 
 /// Removes the x-, q-, y- and z-file of an s-file's name where they are there.
@@ -127,5 +163,5 @@ pub fn abandon<D: Disk>(disk: &mut D, name: &Name) -> Result<(), Failed>
     ensures cause { OnErr result (Rose (D.faults disk.old) (D.faults disk.new)) }
 {
     clear_working(disk, name)?;
-    clear(disk, &name.sibling(b'z'))
+    clear_sibling(disk, name, b'z')
 }
