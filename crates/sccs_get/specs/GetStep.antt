@@ -69,4 +69,4 @@ get_step words files = do
 
 -- get as an action on each operand
 abbrev pub get_action : GetWords → Action
-get_action words = record { fits = is_sfile_name; step = λ name input files. get_step words files; takes = false; reads = true; silent = false; could = quiet_checks get_checks }
+get_action words = record { fits = is_sfile_name; step = λ name input named files. get_step words files; named = []; takes = false; reads = true; silent = false; could = quiet_checks get_checks }

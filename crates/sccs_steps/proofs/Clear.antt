@@ -1,9 +1,10 @@
 -- What a disk shows after a step: of a command that only reads all that it showed, else all but working files.
-use Rattle.std.proofs.Common.{◌≡◌, ℕ, Bool, true, false, ◌||◌, List, [], ◌∷◌, Option, None, Some, Ok, Err, inl, inr, refl, sym, ap, subst}
+use Rattle.std.proofs.Common.{◌≡◌, ℕ, Bool, true, false, ◌||◌, List, [], ◌∷◌, map, Option, None, Some, Ok, Err, inl, inr, refl, sym, ap, subst, ◌∙◌}
 use Rattle.std.proofs.Math.Path.{fun_ext}
 use Rattle.std.specs.Str.{bytes_eq}
 use Rattle.sccs_base.specs.Name.{sibling}
-use Rattle.sccs_disk.specs.Files.{Folder, View, view_in}
+use Rattle.std.specs.List.{AllByRecursion}
+use Rattle.sccs_disk.specs.Files.{Content, Folder, View, view_in}
 use Rattle.sccs_files.specs.StepFiles.{Files, look, moved, moved_in, is_working, is_left, Alike, Moves, MovesPartly, Shows, ShowsPartly}
 use Rattle.sccs_files.proofs.Folders.{moved_view}
 use Rattle.sccs_files.proofs.Views.{look_alike, shows_moved, shows_partly}
@@ -23,6 +24,12 @@ kept_effect reads n (Err refusal) kept is = refl
 pub clear_look : (reads : Bool) (w : List ℕ → Bool) (n : List ℕ) (u v : View) → IsClear reads w n → Alike w u v → look u n ≡ look v n
 clear_look reads w n u v (inl all) alike = ap (λ (view : View). look view n) (fun_ext (λ k. alike k (all.1 k)))
 clear_look reads w n u v (inr apart) alike = look_alike w n u v apart alike
+
+-- a step sees the files that its words name
+pub named_alike : (w : List ℕ → Bool) (u v : View) (names : List (List ℕ)) → Alike w u v → AllByRecursion (λ k. w k ≡ false) names → map u names ≡ map v names
+named_alike w u v [] alike spared = refl
+named_alike w u v (n ∷ names) alike spared =
+    ap (λ (c : Option Content). c ∷ map u names) (alike n spared.0) ∙ ap (λ (cs : List (Option Content)). v n ∷ cs) (named_alike w u v names alike spared.1)
 
 stays : (m : Folder) (n : List ℕ) (new : Option Files) → new ≡ None → m ≡ moved_in m n new
 stays m n new none = ap (λ (f : Option Files). moved_in m n f) (sym none)

@@ -1,5 +1,5 @@
 -- What one operand makes of a run.
-use Rattle.std.proofs.Common.{◌≡◌, ℕ, zero, suc, ◌+◌, ◌<◌, ◌≤◌, max, Bool, true, false, List, [], ◌∷◌, ◌++◌, drop, get_or, length, Option, None, Some, IfSome, Result, Ok, Err, inl, inr, refl, sym, ap, subst, ◌∙◌, arith, append_assoc}
+use Rattle.std.proofs.Common.{◌≡◌, ℕ, zero, suc, ◌+◌, ◌<◌, ◌≤◌, max, Bool, true, false, List, [], ◌∷◌, ◌++◌, map, drop, get_or, length, Option, None, Some, IfSome, Result, Ok, Err, inl, inr, refl, sym, ap, subst, ◌∙◌, arith, append_assoc}
 use Rattle.std.proofs.Math.ListN.{drop_of_length-le}
 use Rattle.std.proofs.lemmas.List.{append-nil, drop_more}
 use Rattle.sccs_base.specs.Stream.{GivesOk, GivesSome}
@@ -8,7 +8,8 @@ use Rattle.sccs_sid.specs.declared.refusals.Refusal.{Refusal}
 use Rattle.sccs_sid.specs.declared.refusals.Refusal.TheVariants.{BadName, Unbuilt}
 use Rattle.sccs_sid.specs.declared.refusals.StepFault.{StepFault}
 use Rattle.sccs_sid.specs.declared.refusals.StepFault.TheVariants as step
-use Rattle.sccs_disk.specs.Files.{Folder, View, view_in}
+use Rattle.std.specs.List.{AllByRecursion}
+use Rattle.sccs_disk.specs.Files.{Content, Folder, View, view_in}
 use Rattle.sccs_disk.specs.Told.{seen}
 use Rattle.sccs_files.specs.StepFiles.{Files, look, Shows}
 use Rattle.sccs_steps.specs.StepEffects.{Outcome, effect_of}
@@ -18,7 +19,7 @@ use Rattle.sccs_steps.specs.StepLists.{NamedStep, Parts, Runs, SoFar, Stops, nam
 use Rattle.sccs_steps.specs.Actions.{Action, AreAmong, AreClear, IsClear, IsHeard, IsLone, KeepsFiles, OperandIsClear, SpeakAll, SpeaksBy, SpeaksOne, SpeakAs, Speaks, Stepped, is_several, outcome_at, step_at, steps_at}
 use Rattle.sccs_steps.specs.declared.faults.Fault.{Fault}
 use Rattle.sccs_steps.specs.declared.faults.Fault.TheVariants.{Memory, ReadFault, WriteFault, DiskFault}
-use Rattle.sccs_steps.proofs.Clear.{IsKept, clear_look}
+use Rattle.sccs_steps.proofs.Clear.{IsKept, clear_look, named_alike}
 use Rattle.sccs_base.proofs.Gifts.{gives_both, gives_none, gives_then, some_none}
 use Rattle.sccs_steps.proofs.JoinedSteps.{ends, ends_early, err_more, goes_on, status_more}
 use Rattle.sccs_steps.proofs.OneStep.{concluded, refusal_ends}
@@ -33,7 +34,7 @@ pub misfit : (x : Action) (m : Folder) (i operand : List ℕ) → is_several ope
 unfolding outcome_at
 misfit x m i operand is fits = rw (is, fits) refl
 
-fitting : (x : Action) (m : Folder) (i operand : List ℕ) → is_several operand ≡ false → x.fits operand ≡ true → outcome_at x m i operand ≡ x.step operand i (look (view_in m) operand)
+fitting : (x : Action) (m : Folder) (i operand : List ℕ) → is_several operand ≡ false → x.fits operand ≡ true → outcome_at x m i operand ≡ x.step operand i (map (view_in m) x.named) (look (view_in m) operand)
 unfolding outcome_at
 fitting x m i operand is fits = rw (is, fits) refl
 
@@ -45,14 +46,15 @@ pub refused_runs : (x : Action) (w : List ℕ → Bool) (m : Folder) (i operand 
 refused_runs x w m i operand refusal r v out err err2 is shows says =
     refusal_ends w m operand (outcome_at x m i operand) refusal r (world v out err) (world v out err2) is shows (some_none out []) says
 
-met : (x : Action) (w : List ℕ → Bool) (m : Folder) (i n : List ℕ) (made : Result (Unit {0}) StepFault) (told : Option View) (left : Option (List ℕ)) (a b : World) → IsClear x.reads w n → Shows w told (view_in m) → IsHeard x.takes left i
-    → IfSome told (λ v. (j : List ℕ) → IsHeard x.takes left j → Meets (λ _. 0) made n (x.step n j (look v n)) a b) → Meets (λ _. 0) made n (x.step n i (look (view_in m) n)) a b
-met x w m i n made None left a b clear shows heard steps = absurd shows
-met x w m i n made (Some u) left a b clear shows heard steps =
-    subst (λ (f : Files). Meets (λ (done : Unit {0}). 0) made n (x.step n i f) a b) (clear_look x.reads w n u (view_in m) clear shows) (steps i heard)
+met : (x : Action) (w : List ℕ → Bool) (m : Folder) (i n : List ℕ) (made : Result (Unit {0}) StepFault) (told : Option View) (left : Option (List ℕ)) (a b : World) → IsClear x.reads w n → AllByRecursion (λ k. w k ≡ false) x.named → Shows w told (view_in m) → IsHeard x.takes left i
+    → IfSome told (λ v. (j : List ℕ) → IsHeard x.takes left j → Meets (λ _. 0) made n (x.step n j (map v x.named) (look v n)) a b) → Meets (λ _. 0) made n (x.step n i (map (view_in m) x.named) (look (view_in m) n)) a b
+met x w m i n made None left a b clear spared shows heard steps = absurd shows
+met x w m i n made (Some u) left a b clear spared shows heard steps =
+    subst (λ (f : Files). Meets (λ (done : Unit {0}). 0) made n (x.step n i (map (view_in m) x.named) f) a b) (clear_look x.reads w n u (view_in m) clear shows)
+    (subst (λ (named : List (Option Content)). Meets (λ (done : Unit {0}). 0) made n (x.step n i named (look u n)) a b) (named_alike w u (view_in m) x.named shows spared) (steps i heard))
 
 kept : (x : Action) (m : Folder) (i operand : List ℕ) → KeepsFiles x → is_several operand ≡ false → x.fits operand ≡ true → IsKept x.reads (outcome_at x m i operand)
-kept x m i operand quiet is fits = subst (IsKept x.reads) (sym (fitting x m i operand is fits)) (λ reads d done. quiet reads operand i (look (view_in m) operand) d done)
+kept x m i operand quiet is fits = subst (IsKept x.reads) (sym (fitting x m i operand is fits)) (λ reads d done. quiet reads operand i (map (view_in m) x.named) (look (view_in m) operand) d done)
 
 -- an operand whose step was called
 pub stepped_runs : (x : Action) (w : List ℕ → Bool) (m : Folder) (i operand n : List ℕ) (made : Result (Unit {0}) StepFault) (r : Result ℕ Fault) (left : Option (List ℕ)) (a b : Scene) (e : Option (List ℕ)) → KeepsFiles x → is_several operand ≡ false → x.fits operand ≡ true → n ≡ operand
@@ -60,8 +62,8 @@ pub stepped_runs : (x : Action) (w : List ℕ → Bool) (m : Folder) (i operand 
     → Runs w r m (step_at x m i operand ∷ []) (shown a) (world (seen b.told) b.out e)
 stepped_runs x w m i operand n made r left a b e quiet is fits same clear reads shows heard steps says =
     let here : Stepped x made operand left a b = subst (λ name. Stepped x made name left a b) same steps in
-    concluded x.reads w m operand (outcome_at x m i operand) made r (shown a) (shown b) e (clear fits) (λ only. ap seen (reads only)) (kept x m i operand quiet is fits) shows
-    (subst (λ (o : Outcome). Meets (λ (done : Unit {0}). 0) made operand o (shown a) (shown b)) (sym (fitting x m i operand is fits)) (met x w m i operand made (seen a.told) left (shown a) (shown b) (clear fits) shows heard here)) says
+    concluded x.reads w m operand (outcome_at x m i operand) made r (shown a) (shown b) e (clear fits).0 (λ only. ap seen (reads only)) (kept x m i operand quiet is fits) shows
+    (subst (λ (o : Outcome). Meets (λ (done : Unit {0}). 0) made operand o (shown a) (shown b)) (sym (fitting x m i operand is fits)) (met x w m i operand made (seen a.told) left (shown a) (shown b) (clear fits).0 (clear fits).1 shows heard here)) says
 
 -- ---- on any disk
 

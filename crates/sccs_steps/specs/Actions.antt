@@ -1,5 +1,6 @@
 -- What a utility does with its operands, in their order.
-use Rattle.std.specs.Prelude.{◌≡◌, ℕ, ◌≤◌, ◌==◌, length, Bool, true, false, ◌||◌, ◌⊎◌, List, [], ◌∷◌, Option, None, Some, Result, Ok, Err, IfSome, codes, if◌then◌else◌}
+use Rattle.std.specs.Prelude.{◌≡◌, ℕ, ◌≤◌, ◌==◌, length, Bool, true, false, ◌||◌, ◌⊎◌, List, [], ◌∷◌, map, Option, None, Some, Result, Ok, Err, IfSome, codes, if◌then◌else◌}
+use Rattle.std.specs.List.{AllByRecursion}
 use Rattle.std.specs.Str.{bytes_eq}
 use Rattle.sccs_base.specs.Stream.{GivesOk, GivesSome}
 use Rattle.sccs_sid.specs.Reading.{is_empty}
@@ -8,7 +9,7 @@ use Rattle.sccs_sid.specs.declared.refusals.Refusal.{Refusal}
 use Rattle.sccs_sid.specs.declared.refusals.Refusal.TheVariants.{BadName, Unbuilt}
 use Rattle.sccs_sid.specs.declared.refusals.StepFault.{StepFault}
 use Rattle.sccs_sid.specs.declared.refusals.StepFault.TheVariants.{Refused}
-use Rattle.sccs_disk.specs.Files.{Folder, view_in}
+use Rattle.sccs_disk.specs.Files.{Content, Folder, view_in}
 use Rattle.sccs_disk.specs.Told.{seen}
 use Rattle.sccs_files.specs.StepFiles.{Files, look, Apart}
 use Rattle.sccs_steps.specs.StepEffects.{StepEffect, Outcome, effect_of}
@@ -16,15 +17,17 @@ use Rattle.sccs_steps.specs.Calls.{Scene, Meets, shown}
 use Rattle.sccs_steps.specs.StepLists.{NamedStep, named_step, folder_after, err_of, status_of}
 use Rattle.sccs_steps.specs.declared.faults.Fault.{Fault}
 
--- what a step does with its name, the input and the files that it sees
+-- what a step does with its name, the input, the files that its words name, and the files of its own name
 abbrev pub Step : Type 0
-Step = List ℕ → List ℕ → Files → Outcome
+Step = List ℕ → List ℕ → List (Option Content) → Files → Outcome
 
 -- What a utility does with an operand.
 pub record Action : Type 0 where
   -- the operands that it takes
   pub fits : List ℕ → Bool
   pub step : Step
+  -- the files that its words name
+  pub named : List (List ℕ)
   -- whether its step takes the input
   pub takes : Bool
   -- whether it changes no file
@@ -42,7 +45,7 @@ is_several operand = bytes_eq operand (codes ".") || bytes_eq operand (codes "-"
 unfoldable pub outcome_at : Action → Folder → List ℕ → List ℕ → Outcome
 outcome_at x m i operand =
     if is_several operand then Err Unbuilt
-    else if x.fits operand then x.step operand i (look (view_in m) operand)
+    else if x.fits operand then x.step operand i (map (view_in m) x.named) (look (view_in m) operand)
     else Err BadName
 
 abbrev pub step_at : Action → Folder → List ℕ → List ℕ → NamedStep
@@ -59,19 +62,19 @@ IsHeard takes left i = (takes ≡ false) ⊎ (left ≡ Some i)
 
 -- what the call of a step answers and leaves, where the disk tells its files
 abbrev pub Stepped : Action → Result (Unit {0}) StepFault → List ℕ → Option (List ℕ) → Scene → Scene → Type 0
-Stepped x r n left a b = IfSome (seen a.told) (λ v. (i : List ℕ) → IsHeard x.takes left i → Meets (λ _. 0) r n (x.step n i (look v n)) (shown a) (shown b))
+Stepped x r n left a b = IfSome (seen a.told) (λ v. (i : List ℕ) → IsHeard x.takes left i → Meets (λ _. 0) r n (x.step n i (map v x.named) (look v n)) (shown a) (shown b))
 
 -- an action that only reads changes no file
 abbrev pub KeepsFiles : Action → Type 0
-KeepsFiles x = x.reads ≡ true → (n i : List ℕ) (f : Files) (d : StepEffect) → x.step n i f ≡ Ok d → d.new ≡ None
+KeepsFiles x = x.reads ≡ true → (n i : List ℕ) (named : List (Option Content)) (f : Files) (d : StepEffect) → x.step n i named f ≡ Ok d → d.new ≡ None
 
 -- a command that only reads needs no premise on names; for others the name's files are apart from working files
 abbrev pub IsClear : Bool → (List ℕ → Bool) → List ℕ → Type 0
 IsClear reads w n = ((reads ≡ true) × ((k : List ℕ) → w k ≡ false)) ⊎ Apart w n
 
--- the same of an operand that is taken, and of each of several
+-- the same of an operand that is taken, and no file that the words name is a working file; and of each of several
 abbrev pub OperandIsClear : Action → (List ℕ → Bool) → List ℕ → Type 0
-OperandIsClear x w operand = x.fits operand ≡ true → IsClear x.reads w operand
+OperandIsClear x w operand = x.fits operand ≡ true → IsClear x.reads w operand × AllByRecursion (λ k. w k ≡ false) x.named
 
 abbrev pub AreClear : Action → (List ℕ → Bool) → List (List ℕ) → Type 0
 AreClear x w [] = Unit {0}

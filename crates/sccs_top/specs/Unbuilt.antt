@@ -1,5 +1,5 @@
 -- What isn't built yet: each operand of such a command is refused. This goes away when all is built.
-use Rattle.std.specs.Prelude.{◌==◌, Bool, true, false, not, ◌&&◌, ◌||◌, Ok, Err, if◌then◌else◌}
+use Rattle.std.specs.Prelude.{◌==◌, Bool, true, false, [], not, ◌&&◌, ◌||◌, Ok, Err, if◌then◌else◌}
 use Rattle.sccs_base.specs.Name.{is_name, is_sfile_name}
 use Rattle.sccs_sid.specs.Refusal.{number_of}
 use Rattle.sccs_sid.specs.declared.refusals.Refusal.TheVariants.{Unbuilt}
@@ -19,7 +19,8 @@ is_unbuilt (Err refusal) = number_of refusal == 99
 abbrev pub unbuilt : Bool → Action
 unbuilt any = record {
   fits = if any then is_name else is_sfile_name;
-  step = λ name input files. Err Unbuilt;
+  step = λ name input named files. Err Unbuilt;
+  named = [];
   takes = false;
   reads = true;
   silent = true;
@@ -27,4 +28,4 @@ unbuilt any = record {
 }
 
 pub unbuilt_keeps : (any : Bool) → KeepsFiles (unbuilt any)
-unbuilt_keeps any = λ reads n i f d is. absurd cc
+unbuilt_keeps any = λ reads n i named f d is. absurd cc

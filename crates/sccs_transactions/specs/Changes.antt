@@ -1,0 +1,93 @@
+-- A change of the files of a name: what it prepares between its lock and its commit, and the action that it is.
+use Rattle.std.specs.Prelude.{◌≡◌, ℕ, Bool, true, false, List, [], map, drop, Option, None, Some, Result, Ok, Err, IfSome, is_none}
+use Rattle.std.specs.Result.{IfOk}
+use Rattle.sccs_base.specs.Name.{is_sfile_name, sibling}
+use Rattle.sccs_base.specs.Stream.{GivesOk, GivesSome}
+use Rattle.sccs_sid.specs.Reading.{◌>>=◌}
+use Rattle.sccs_sid.specs.declared.refusals.Refusal.{Refusal}
+use Rattle.sccs_sid.specs.declared.refusals.Refusal.TheVariants.{Locked}
+use Rattle.sccs_sid.specs.declared.refusals.StepFault.{StepFault}
+use Rattle.sccs_sid.specs.declared.refusals.StepFault.TheVariants.{Refused}
+use Rattle.sccs_disk.specs.Files.{Content, View}
+use Rattle.sccs_disk.specs.Told.{Told, seen}
+use Rattle.sccs_files.specs.StepFiles.{Files, Moves, is_working, look}
+use Rattle.sccs_steps.specs.StepEffects.{Outcome, StepEffect, check, effect_of}
+use Rattle.sccs_steps.specs.Calls.{World}
+use Rattle.sccs_steps.specs.Actions.{Action, IsHeard, Step}
+use Rattle.sccs_disk.specs.Calls.{IsThere}
+use Rattle.sccs_store.specs.Commits.{Needs, Plan, files_after, plan, without}
+use Rattle.sccs_transactions.specs.declared.prepared.Prepared.{Prepared}
+
+-- What a utility makes of the files of a name that no other program has locked.
+pub record Changing : Type 0 where
+  -- what it makes, or why it is refused
+  pub outcome : Step
+  -- the files that its words name
+  pub named : List (List ℕ)
+  -- whether it takes the input
+  pub takes : Bool
+  -- whether it writes nothing on out
+  pub silent : Bool
+  -- the outcomes that may come, over any disk
+  pub could : Outcome → Bool
+
+-- a locked name is refused
+unfoldable pub locking_step : Step → Step
+locking_step outcome n i named f = do
+  free ← check (is_none f.z) Locked
+  outcome n i named f
+
+-- the change as an action
+abbrev pub locking : Changing → Action
+locking x = record { fits = is_sfile_name; step = locking_step x.outcome; named = x.named; takes = x.takes; reads = false; silent = x.silent; could = x.could }
+
+-- the view as it was before the name was locked
+abbrev pub unlocked : List ℕ → View → View
+unlocked n v = without (sibling 122 n) v
+
+abbrev pub plan_of : Prepared → Plan
+plan_of p = plan p.new_s p.new_p p.new_g
+
+-- The new files are prepared, the text before the commit is written, and at most working files have changed.
+pub record IsPrepared (n : List ℕ) (p : Prepared) (o : Outcome) (w w2 : World) : Type 0 where
+  pub effect : StepEffect
+  pub is : o ≡ Ok effect
+  pub status : effect.status ≡ 0
+  pub report : effect.out ≡ p.report
+  pub message : effect.err ≡ p.message
+  pub view : Moves (is_working n) (λ v. v) w.view w2.view
+  pub files : IfSome w2.view (λ v. effect.new ≡ Some (files_after n (plan_of p) v))
+  pub out : GivesOk w.out w2.out effect.text
+
+-- At most working files have changed, and a prefix of the text is written.
+pub record IsUnmade (n text : List ℕ) (w w2 : World) : Type 0 where
+  pub view : Moves (is_working n) (λ v. v) w.view w2.view
+  pub out : GivesSome w.out w2.out text
+
+-- what preparing answers and leaves
+abbrev pub Prepares : Result Prepared StepFault → List ℕ → Outcome → World → World → Type 0
+Prepares (Ok p) n o w w2 = IsPrepared n p o w w2
+Prepares (Err (Refused refusal)) n o w w2 = (o ≡ Err refusal) × IsUnmade n [] w w2
+Prepares (Err fault) n o w w2 = IsUnmade n (effect_of n o).text w w2
+
+-- the same of a change, on a disk that tells its files, the name being locked
+abbrev pub PreparesChange : Changing → Result Prepared StepFault → List ℕ → Option (List ℕ) → World → World → Type 0
+PreparesChange x r n left w w2 =
+    IfSome w.view (λ v. (i : List ℕ) → IsHeard x.takes left i → Prepares r n (x.outcome n i (map (unlocked n v) x.named) (look (unlocked n v) n)) w w2)
+
+-- what a commit needs is there, where a view is told
+pub record IsReady (n : List ℕ) (p : Prepared) (told : Told) : Type 0 where
+  pub z : IsThere (sibling 122 n) told
+  pub s : Needs (plan_of p).s (sibling 120 n) n told
+  pub p_file : Needs (plan_of p).p (sibling 113 n) (sibling 112 n) told
+  pub g : Needs (plan_of p).g (sibling 121 n) (drop 2 n) told
+
+-- over any disk: an outcome that may come explains what is prepared, or why it is refused
+abbrev pub CouldPrepare : (Outcome → Bool) → Result Prepared StepFault → Type 0
+CouldPrepare could (Ok p) = (d : StepEffect) × (could (Ok d) ≡ true) × (d.status ≡ 0) × (d.err ≡ p.message)
+CouldPrepare could (Err (Refused refusal)) = could (Err refusal) ≡ true
+CouldPrepare could (Err fault) = Unit {0}
+
+-- a silent change has no report
+abbrev pub IsQuiet : Result Prepared StepFault → Type 0
+IsQuiet r = IfOk r (λ p. p.report ≡ [])

@@ -1,0 +1,12 @@
+//! A step that changes the files of a name: lock, prepare, then commit or abandon. It is made here once
+//! for every utility that writes.
+#![tactic(auto)]
+
+mod changes;
+mod prepared;
+mod reports;
+mod transactions;
+
+pub use changes::Change;
+pub use prepared::Prepared;
+pub use transactions::change_file;
