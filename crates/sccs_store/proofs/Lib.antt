@@ -1,3 +1,4 @@
+pub mod Committed
 pub mod FileNames
 pub mod Swaps
 pub mod Working

@@ -3,6 +3,7 @@
 #![tactic(auto)]
 
 mod commits;
+pub mod laws;
 mod locks;
 mod new_files;
 mod working_files;

@@ -1,0 +1,3 @@
+pub mod ChangeCauses
+pub mod ChangeEnds
+pub mod ReportLaws

@@ -19,7 +19,7 @@ pub trait Change {
     ghost change: { Self → Changing };
 
     /// A locked name may be refused.
-    ghost locked: { (change : Self) → (change change).could (Err Locked) ≡ true };
+    ghost locked: { (utility : Self) → (change utility).could (Err Locked) ≡ true };
 
     /// Makes the checks behind the lock, and the new files as working files.
     fn prepare<I: Source, O: Sink, D: Disk>(

@@ -40,13 +40,16 @@ fn finish<O: Sink, E: Sink, D: Disk>(
     }
 }
 
-// takes away what a change has made, and answers why it gave up
+// takes away what a change has made, and answers why it gave up; after a disk fault recovery does that
 fn give_up<D: Disk>(fault: StepFault, name: &Name, disk: &mut D) -> Result<(), StepFault>
     requires { IsSfile name.now }
     ensures gives_up { (out err : Option (List ℕ)) → GivesUp result fault name.now (world (seen (D.told disk.old)) out err) (world (seen (D.told disk.new)) out err) }
     ensures later { D.faults disk.old ≤ D.faults disk.new }
-    ensures cause { result ≡ Err step.DiskFault → (fault ≡ step.DiskFault) ⊎ Rose (D.faults disk.old) (D.faults disk.new) }
+    ensures cause { result ≡ Err step.DiskFault → (fault ≡ step.DiskFault) × (D.faults disk.new ≡ D.faults disk.old) ⊎ Rose (D.faults disk.old) (D.faults disk.new) }
 {
+    if let StepFault::DiskFault = fault {
+        return Err(fault);
+    }
     match abandon(disk, name) {
         Ok(()) => Err(fault),
         Err(_) => Err(StepFault::DiskFault),

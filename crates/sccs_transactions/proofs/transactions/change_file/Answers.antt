@@ -1,0 +1,39 @@
+use Rattle.std.proofs.Common.{Err, ap, ◌∙◌}
+use Rattle.sccs_disk.specs.Told.{seen}
+use Rattle.sccs_sid.specs.declared.refusals.StepFault.TheVariants as step
+use Rattle.sccs_steps.specs.Calls.{world}
+use Rattle.sccs_transactions.proofs.ChangeCauses.{fault_speaks, finished_causes, given_up_causes, given_up_ignores, given_up_speaks}
+use Rattle.sccs_transactions.proofs.ChangeEnds.{finished_steps, given_up_steps, locked_steps}
+use Rattle.sccs_transactions.proofs.transactions.change_file.Goals as goal
+
+pub returns-in-Err-Locked-clause-step : goal.returns-in-Err-Locked-clause-step
+returns-in-Err-Locked-clause-step g c = locked_steps (g.C.Change.change c.args.change.now) c.args.name.now _ _ _ _ _ (ap seen (c.lock.ensures.same (c.in-Err-Locked.is ∙ ap Err c.in-Err-Locked.field-0-is))) (c.lock.ensures.locked (c.in-Err-Locked.is ∙ ap Err c.in-Err-Locked.field-0-is))
+
+pub returns-in-Err-Failed-clause-speaks : goal.returns-in-Err-Failed-clause-speaks
+returns-in-Err-Failed-clause-speaks g c = fault_speaks _ step.DiskFault _ _ (g.C.Change.locked c.args.change.now) (λ refusal is. cc)
+
+pub returns-in-Err-Memory-clause-speaks : goal.returns-in-Err-Memory-clause-speaks
+returns-in-Err-Memory-clause-speaks g c = fault_speaks _ step.Memory _ _ (g.C.Change.locked c.args.change.now) (λ refusal is. cc)
+
+pub returns-in-Ok-prepare-clause-step : goal.returns-in-Ok-prepare-clause-step
+returns-in-Ok-prepare-clause-step g c =
+    finished_steps (g.C.Change.change c.args.change.now) c.in-Ok-prepare.prepared c.finish.result c.prepare.result c.args.name.now _ _ _ _ _ _ _ _ _ _ c.requires c.in-Ok-prepare.is c.in-Ok.ensures.view c.in-Ok.ensures.free (c.prepare.ensures.prepares _) c.finish.ensures.finishes
+
+pub returns-in-Ok-prepare-clause-causes : goal.returns-in-Ok-prepare-clause-causes
+returns-in-Ok-prepare-clause-causes g c = finished_causes c.prepare.result c.finish.result _ _ _ _ _ _ _ _ _ _ _ c.lock.ensures.later c.prepare.ensures.causes c.finish.ensures.causes
+
+pub returns-in-Err-clause-step : goal.returns-in-Err-clause-step
+returns-in-Err-clause-step g c =
+    given_up_steps (g.C.Change.change c.args.change.now) c.in-Err.fault c.give_up.result c.prepare.result c.args.name.now _ _ _ _ _ _ _ _ c.in-Err.is c.in-Ok.ensures.view c.in-Ok.ensures.free (c.prepare.ensures.prepares (g.E.Sink.given c.args.err.now)) (c.give_up.ensures.gives_up (g.O.Sink.given c.prepare.new.out) (g.E.Sink.given c.args.err.now))
+
+pub returns-in-Err-clause-speaks : goal.returns-in-Err-clause-speaks
+returns-in-Err-clause-speaks g c =
+    given_up_speaks _ c.in-Err.fault c.prepare.result c.give_up.result c.args.name.now (world (seen (g.D.Disk.told c.prepare.new.disk)) (g.O.Sink.given c.prepare.new.out) (g.E.Sink.given c.args.err.now)) (world (seen (g.D.Disk.told c.give_up.new.disk)) (g.O.Sink.given c.prepare.new.out) (g.E.Sink.given c.args.err.now)) _ (g.C.Change.locked c.args.change.now) c.in-Err.is c.prepare.ensures.speaks (c.give_up.ensures.gives_up (g.O.Sink.given c.prepare.new.out) (g.E.Sink.given c.args.err.now))
+
+pub returns-in-Err-clause-ignores : goal.returns-in-Err-clause-ignores
+returns-in-Err-clause-ignores g c = λ takes.
+    given_up_ignores c.in-Err.fault c.prepare.result c.give_up.result c.args.name.now (world (seen (g.D.Disk.told c.prepare.new.disk)) (g.O.Sink.given c.prepare.new.out) (g.E.Sink.given c.args.err.now)) (world (seen (g.D.Disk.told c.give_up.new.disk)) (g.O.Sink.given c.prepare.new.out) (g.E.Sink.given c.args.err.now)) _ _ _ _ c.in-Err.is (c.give_up.ensures.gives_up (g.O.Sink.given c.prepare.new.out) (g.E.Sink.given c.args.err.now)) (c.prepare.ensures.ignores takes)
+
+pub returns-in-Err-clause-causes : goal.returns-in-Err-clause-causes
+returns-in-Err-clause-causes g c =
+    given_up_causes c.in-Err.fault c.prepare.result c.give_up.result c.args.name.now (world (seen (g.D.Disk.told c.prepare.new.disk)) (g.O.Sink.given c.prepare.new.out) (g.E.Sink.given c.args.err.now)) (world (seen (g.D.Disk.told c.give_up.new.disk)) (g.O.Sink.given c.prepare.new.out) (g.E.Sink.given c.args.err.now)) _ _ _ _ _ _ _ _ _ c.in-Err.is (c.give_up.ensures.gives_up (g.O.Sink.given c.prepare.new.out) (g.E.Sink.given c.args.err.now)) c.lock.ensures.later c.prepare.ensures.causes c.give_up.ensures.later c.give_up.ensures.cause

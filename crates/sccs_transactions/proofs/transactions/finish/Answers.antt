@@ -1,0 +1,9 @@
+use Rattle.sccs_transactions.proofs.ChangeCauses.{finish_causes}
+use Rattle.sccs_transactions.proofs.ReportLaws.{reported}
+use Rattle.sccs_transactions.proofs.transactions.finish.Goals as goal
+
+pub returns-in-Ok-clause-finishes : goal.returns-in-Ok-clause-finishes
+returns-in-Ok-clause-finishes g c = reported c.report.result c.args.name.now c.args.prepared.now _ _ _ _ _ _ c.in-Ok.ensures.view (c.report.ensures.reports _)
+
+pub returns-in-Ok-clause-causes : goal.returns-in-Ok-clause-causes
+returns-in-Ok-clause-causes g c = finish_causes c.report.result _ _ _ _ _ _ c.commit.ensures.later c.report.ensures.causes
