@@ -1,1 +1,2 @@
 pub mod StepFiles
+pub mod WholeFiles
