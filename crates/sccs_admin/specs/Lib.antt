@@ -1,0 +1,3 @@
+pub mod AdminStep
+pub mod NewFiles
+pub mod Texts
