@@ -1,5 +1,6 @@
 pub mod Living
 pub mod Lookups
+pub mod NewSids
 pub mod OnceNamed
 pub mod Passing
 pub mod Putting

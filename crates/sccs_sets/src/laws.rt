@@ -1,10 +1,13 @@
-ghost use Rattle.std.specs.Prelude.{◌≡◌, ◌≤◌, ◌==◌, ℕ, not, ◌&&◌, true, false, Bool, List, [], ◌∷◌, Ok, None, Some, map};
+ghost use Rattle.std.specs.Prelude.{◌≡◌, ◌≤◌, ◌==◌, ℕ, not, ◌&&◌, true, false, Bool, List, [], ◌∷◌, Ok, None, Some, Option, map};
 ghost use Rattle.std.specs.List.{AllByRecursion, IsDistinct, flat_map};
 ghost use Rattle.sccs_sid.specs.declared.sids.Sid.{Sid};
 ghost use Rattle.sccs_sid.specs.declared.sid_lists.Range.{Range};
 ghost use Rattle.sccs_history.specs.declared.headers.Record.{Record};
 ghost use Rattle.sccs_history.specs.Applied.{newest, serials_of};
 ghost use Rattle.sccs_history.specs.Numbers.{Falls, has};
+ghost use Rattle.sccs_history.specs.History.{same_sid};
+ghost use Rattle.sccs_sid.specs.declared.sids.Spec.{Spec};
+ghost use Rattle.sccs_sets.specs.Made.{is_taken, made_on};
 ghost use Rattle.sccs_sets.specs.Naming.{IsRising, in_range, named_serials, range_named, unless};
 ghost use Rattle.sccs_sets.specs.OnceNamed.{first_fault, first_places, range_serials};
 ghost use Rattle.sccs_sets.specs.Retrieved.{live_where, newest_where, retrieved};
@@ -47,4 +50,11 @@ pub fn several_ranges()
 pub fn trunks()
     ensures { (newer : Record) (older : List Record) (top : Bool) → IsTrunk (newer ∷ older)
         → retrieved (newer ∷ older) None top ≡ Some (newest (newer ∷ older)) }
+{}
+
+/// The SID that is made is neither that of a live delta nor a reserved one.
+pub fn made_sids()
+    ensures { (records : List Record) (reserved : List Sid) (got sid : Sid) (spec : Option Spec) (branch : Bool)
+        → made_on records reserved got spec branch ≡ Some sid
+        → is_taken records reserved (λ s. same_sid s sid) ≡ false }
 {}
