@@ -1,7 +1,7 @@
 -- The first line of a p-file.
-use Rattle.std.proofs.Common.{◌≡◌, ◌≢◌, ℕ, ◌+◌, ◌<◌, ◌==◌, ◌⊎◌, inl, inr, true, false, List, [], ◌∷◌, length, Option, None, Some, Result, Ok, Err, refl, sym, ap, ◌∙◌, arith}
+use Rattle.std.proofs.Common.{◌≡◌, ℕ, ◌+◌, ◌<◌, ◌==◌, ◌⊎◌, inl, inr, true, false, List, [], ◌∷◌, length, None, Some, Err, refl, sym, ap, ◌∙◌, arith}
 use Rattle.std.proofs.lemmas.Bool.{cases_Bool}
-use Rattle.sccs_base.specs.Cut.{Cut, cut, before, longer}
+use Rattle.sccs_base.specs.Cut.{Cut, cut, longer}
 use Rattle.sccs_base.proofs.Cuts.{cut-cons}
 use Rattle.sccs_sid.specs.Reading.{until, behind}
 use Rattle.sccs_pfile.specs.Reading.{entries_at, entries_from, entry_of, with_entry}

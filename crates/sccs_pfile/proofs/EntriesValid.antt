@@ -1,10 +1,10 @@
 -- The entries that are read have a spelling.
-use Rattle.std.proofs.Common.{◌≡◌, ℕ, ◌+◌, ◌==◌, Bool, true, false, ◌&&◌, List, [], ◌∷◌, Option, None, Some, Result, Ok, Err, refl, subst, arith}
-use Rattle.std.specs.Prelude.{if◌then◌else◌, All}
+use Rattle.std.proofs.Common.{◌≡◌, ℕ, ◌+◌, ◌==◌, List, [], ◌∷◌, Option, None, Some, Result, Ok, Err, subst, arith}
+use Rattle.std.specs.Prelude.{All}
 use Rattle.std.specs.List.{AllByRecursion}
 use Rattle.std.specs.Option.{IfSome}
 use Rattle.std.specs.Result.{IfOk}
-use Rattle.std.proofs.lemmas.List.Elements.{recursion_from_All, All-from_recursion}
+use Rattle.std.proofs.lemmas.List.Elements.{All-from_recursion}
 use Rattle.sccs_base.specs.Cut.{cut}
 use Rattle.sccs_base.specs.Login.{IsLogin, is_login, login_decides}
 use Rattle.sccs_sid.specs.Reading.{is_empty, only}
@@ -13,7 +13,7 @@ use Rattle.sccs_sid.specs.SidLists.{IsRange, list_of}
 use Rattle.sccs_sid.specs.Moment.{IsMoment, moment_of}
 use Rattle.sccs_sid.specs.Words.{◌>>=◌, found, begins_blank, words}
 use Rattle.sccs_sid.specs.declared.sid_lists.Range.{Range}
-use Rattle.sccs_grammar.proofs.TokenRules.{then_some, then_any, only_so, either, found_so}
+use Rattle.sccs_grammar.proofs.TokenRules.{then_some, only_so, either, found_so}
 use Rattle.sccs_grammar.proofs.SpellingRules.{sid_is, moment_is}
 use Rattle.sccs_pfile.specs.Entries.{IsEdit}
 use Rattle.sccs_pfile.specs.Reading.{without_lists, with_list, with_option, with_last, with_options, entry_of_words, entry_of, with_entry, entries_from, edits_of}

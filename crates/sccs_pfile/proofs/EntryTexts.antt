@@ -1,17 +1,16 @@
 -- A written entry is read back.
-use Rattle.std.proofs.Common.{◌≡◌, ◌≢◌, ℕ, ◌+◌, ◌<◌, ◌==◌, Bool, true, false, List, [], ◌∷◌, ◌++◌, length, Option, None, Some, Result, Ok, Err, refl, sym, ap, subst, ◌∙◌, arith, append_assoc, inl, inr, map}
-use Rattle.std.specs.Prelude.{if◌then◌else◌, All, flat_map}
+use Rattle.std.proofs.Common.{◌≡◌, ◌≢◌, ℕ, ◌+◌, ◌<◌, Bool, true, false, List, [], ◌∷◌, ◌++◌, Some, Ok, refl, sym, ap, subst, ◌∙◌, arith, append_assoc, map}
+use Rattle.std.specs.Prelude.{if◌then◌else◌, All}
 use Rattle.std.specs.List.{AllByRecursion}
-use Rattle.std.proofs.lemmas.Bool.{cases_Bool, ne_eqb}
+use Rattle.std.proofs.lemmas.Bool.{ne_eqb}
 use Rattle.std.proofs.lemmas.List.{append-nil}
 use Rattle.std.proofs.lemmas.List.Elements.{recursion_from_All, All-from_recursion}
 use Rattle.sccs_base.specs.Cut.{Cut, HasNoLf, cut}
-use Rattle.sccs_base.specs.Login.{IsLogin, login_decides}
-use Rattle.sccs_sid.specs.Sid.{IsSid, sid_of, sid_text}
-use Rattle.sccs_sid.specs.SidLists.{IsRange, list_of, list_text, range_text, same_sid}
-use Rattle.sccs_sid.specs.Moment.{civil_of, date_text, moment_of, moment_text, time_text}
+use Rattle.sccs_base.specs.Login.{login_decides}
+use Rattle.sccs_sid.specs.Sid.{sid_text}
+use Rattle.sccs_sid.specs.SidLists.{IsRange, list_text, range_text, same_sid}
+use Rattle.sccs_sid.specs.Moment.{civil_of, date_text, moment_text, time_text}
 use Rattle.sccs_sid.specs.Words.{begins_blank, words}
-use Rattle.sccs_sid.specs.declared.sids.Sid.{Sid}
 use Rattle.sccs_sid.specs.declared.sid_lists.Range.{Range}
 use Rattle.sccs_sid.proofs.ListTexts.{list_text_read}
 use Rattle.sccs_sid.proofs.MomentTexts.{moment_text_again}
@@ -22,7 +21,7 @@ use Rattle.sccs_grammar.proofs.DeltaLaws.{sid_word, date_word, time_word, login_
 use Rattle.sccs_grammar.proofs.LineLaws.{Visible, both, sid_seen, date_seen, time_seen, without_lf, spaced_ends}
 use Rattle.sccs_grammar.proofs.WordLaws.{IsWord, HasNoBlank, word_first, words_again, spaced_ends as ends_word}
 use Rattle.sccs_pfile.specs.Entries.{IsEdit}
-use Rattle.sccs_pfile.specs.Reading.{without_lists, with_list, with_option, with_options, entry_of_words, entry_of, with_entry, entries_from, edits_of}
+use Rattle.sccs_pfile.specs.Reading.{without_lists, with_option, with_options, entry_of_words, entry_of, entries_from, edits_of}
 use Rattle.sccs_pfile.specs.Written.{option_text, include_option, exclude_option, entry_text, edits_text}
 use Rattle.sccs_pfile.specs.declared.entries.Edit.{Edit}
 
@@ -144,7 +143,7 @@ pub entry_again : (e : Edit) → IsEdit e → entry_of (entry_text e) ≡ Some e
 unfolding entry_of entry_of_words
 entry_again e is =
     rw (no_blank_first (sid_text e.got) (32 ∷ sid_text e.made ++ (32 ∷ e.login ++ (32 ∷ moment_text e.moment ++ (option_text include_option e.include ++ option_text exclude_option e.exclude)))) (sid_word e.got is.got), entry_words e is, first_again e is)
-        (lists_again (record { got = e.got; made = e.made; login = e.login; moment = e.moment; include = []; exclude = [] }) e.include e.exclude refl refl is.include is.exclude)
+    (lists_again (record { got = e.got; made = e.made; login = e.login; moment = e.moment; include = []; exclude = [] }) e.include e.exclude refl refl is.include is.exclude)
 
 -- ---- lines
 
@@ -152,7 +151,7 @@ entry_ends : (e : Edit) → IsEdit e → HasNoLf (entry_text e)
 entry_ends e is =
     let later : AllByRecursion Visible (later_words e) = (sid_seen e.made is.made, (recursion_from_All (λ b. 32 < b) e.login is.login.visible, (date_seen (civil_of e.moment), (time_seen (civil_of e.moment), lists_seen e is)))) in
     subst HasNoLf (sym (text_spaced e))
-        (All-from_recursion (λ b. b ≢ 10) (sid_text e.got ++ spaced (later_words e)) (without_lf (sid_text e.got) (spaced (later_words e)) (sid_seen e.got is.got) (spaced_ends (later_words e) later)))
+    (All-from_recursion (λ b. b ≢ 10) (sid_text e.got ++ spaced (later_words e)) (without_lf (sid_text e.got) (spaced (later_words e)) (sid_seen e.got is.got) (spaced_ends (later_words e) later)))
 
 all_end : (edits : List Edit) → AllByRecursion IsEdit edits → AllByRecursion HasNoLf (map entry_text edits)
 all_end [] are = tt

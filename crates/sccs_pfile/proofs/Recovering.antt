@@ -1,8 +1,8 @@
 -- Entries whose delta is made leave the p-file.
-use Rattle.std.proofs.Common.{◌≡◌, ℕ, zero, suc, ◌+◌, ◌==◌, Bool, true, false, cond, not, ◌&&◌, ◌||◌, List, [], ◌∷◌, ◌++◌, length, Option, None, Some, Result, Ok, Err, refl, sym, ap, subst, ◌∙◌, arith, rules}
+use Rattle.std.proofs.Common.{◌≡◌, ℕ, zero, suc, ◌==◌, Bool, true, false, cond, not, ◌&&◌, ◌||◌, List, [], ◌∷◌, length, Option, None, Some, Result, Ok, Err, refl, sym, ap, subst, ◌∙◌, arith, rules}
 use Rattle.std.specs.Prelude.{filter, remove, slice_get}
 use Rattle.std.specs.List.{AllByRecursion, list_any}
-use Rattle.std.proofs.lemmas.Bool.{and_parts, cases_Bool, eqb-true, true≢false}
+use Rattle.std.proofs.lemmas.Bool.{and_parts, eqb-true}
 use Rattle.sccs_disk.specs.Files.{Content}
 use Rattle.sccs_sid.specs.declared.sids.Sid.{Sid}
 use Rattle.sccs_history.specs.History.{lives, same_sid}
@@ -10,8 +10,7 @@ use Rattle.sccs_history.specs.declared.headers.Record.{Record}
 use Rattle.sccs_pfile.specs.Agreement.{Agrees, agrees, has_lists, makers}
 use Rattle.sccs_pfile.specs.Entries.{IsEdit}
 use Rattle.sccs_pfile.specs.Reading.{edits_of}
-use Rattle.sccs_pfile.specs.Recovered.{dropped, is_done, pfile_of, recovered_by, recovered_pfile, table_of, without_done}
-use Rattle.sccs_pfile.specs.Written.{edits_text}
+use Rattle.sccs_pfile.specs.Recovered.{is_done, pfile_of, recovered_by, recovered_pfile, table_of, without_done}
 use Rattle.sccs_pfile.specs.declared.entries.Edit.{Edit}
 use Rattle.sccs_pfile.proofs.EntriesValid.{edits_are}
 use Rattle.sccs_pfile.proofs.EntryTexts.{edits_again}

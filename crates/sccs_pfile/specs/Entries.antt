@@ -1,5 +1,5 @@
 -- The entries of a p-file: deltas that are to be made.
-use Rattle.std.specs.Prelude.{List, All}
+use Rattle.std.specs.Prelude.{All}
 use Rattle.sccs_base.specs.Login.{IsLogin}
 use Rattle.sccs_sid.specs.Moment.{IsMoment}
 use Rattle.sccs_sid.specs.Sid.{IsSid}

@@ -67,9 +67,7 @@ fn agrees(records: &[Record], edits: &[Edit], edit: &Edit) -> bool
 fn first_disagreeing(records: &[Record], edits: &[Edit]) -> Option<usize>
     ensures { result ≡ position (λ e. not (agrees records.now edits.now e)) edits.now }
 {
-    edits
-        .iter()
-        .position(|edit| !agrees(records, edits, edit))
+    edits.iter().position(|edit| !agrees(records, edits, edit))
 }
 
 /// Whether the entries of a p-file agree with the delta table: the SID got of each is live, its SID

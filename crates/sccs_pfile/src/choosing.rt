@@ -33,17 +33,10 @@ fn fits(login: &Login, sid: Option<&Sid>, by_got: bool, edit: &Edit) -> bool
 }
 
 // the place of the first entry that fits
-fn first_fitting(
-    edits: &[Edit],
-    login: &Login,
-    sid: Option<&Sid>,
-    by_got: bool,
-) -> Option<usize>
+fn first_fitting(edits: &[Edit], login: &Login, sid: Option<&Sid>, by_got: bool) -> Option<usize>
     ensures { result ≡ position (fits login.now (option_copied sid.entry) by_got) edits.now }
 {
-    edits
-        .iter()
-        .position(|edit| fits(login, sid, by_got, edit))
+    edits.iter().position(|edit| fits(login, sid, by_got, edit))
 }
 
 // whether some entry fits

@@ -7,7 +7,9 @@ use std::alloc::Global;
 use std::test::Fail;
 
 const BOTH: &[u8] = b"1.1 1.2 ann 21/03/04 05:07:00 -i1.1-1.2,1.3.1.1 -x1.4\n";
+
 const SPACED: &[u8] = b"1.1   01.2 ann 21/3/4 5:7:0  -x1.4 -i1.1-1.2,1.3.1.1-1.3.1.1  \n";
+
 const TWO: &[u8] = b"1.1 1.2 ann 21/03/04 05:07:00\n1.1 1.1.1.1 ann 21/03/04 05:08:00\n";
 
 // a header whose only delta is 1.1, or also 1.2
@@ -17,7 +19,9 @@ fn header(alloc: Global, levels: u16) -> Result<Header, Fail> {
         let record = Record {
             serial: levels - serial,
             removed: false,
-            sid: Sid::read(if serial + 1 == levels { b"1.1" } else { b"1.2" }).map_err(|_| "a SID")?,
+            sid: Sid::read(if serial + 1 == levels { b"1.1" } else { b"1.2" }).map_err(
+                |_| "a SID",
+            )?,
             moment: Moment { seconds: 0 },
             login: Login::nobody(),
             predecessor: levels - serial - 1,
@@ -62,7 +66,11 @@ fn is_written(alloc: Global, bytes: &[u8], written: &[u8]) -> Result<bool, Fail>
 #[test]
 fn entries_are_written_and_read(rt: HostRuntime) -> Result<(), Fail> {
     let alloc = rt.alloc();
-    assert!(rt; is_written(alloc, BOTH, BOTH)? & is_written(alloc, SPACED, BOTH)? & is_written(alloc, b"", b"")?);
+    assert!(rt;
+        is_written(alloc, BOTH, BOTH)?
+            & is_written(alloc, SPACED, BOTH)?
+            & is_written(alloc, b"", b"")?
+    );
     assert!(rt; is_written(alloc, TWO, TWO)?);
     Ok(())
 }
@@ -70,11 +78,21 @@ fn entries_are_written_and_read(rt: HostRuntime) -> Result<(), Fail> {
 #[test]
 fn hostile_lines_are_faults(rt: HostRuntime) -> Result<(), Fail> {
     let alloc = rt.alloc();
-    assert!(rt; has_fault(alloc, b"1.2 1.3 bob 21/03/04\n", 1)
-        & has_fault(alloc, b"1.1 1.2 ann 21/03/04 05:07:00\n 1.1 1.3 ann 21/03/04 05:07:00\n", 2)
-        & has_fault(alloc, b"1.1 1.2 ann 21/03/04 05:07:00 -i1.1 -i1.1\n", 1)
-        & has_fault(alloc, b"1.1 1.2 ann 21/03/04 05:07:00 -i\n", 1)
-        & has_fault(alloc, b"1.1 1.2 ann 21/03/04 05:07:00\n1.1 1.3 ann 21/03/04 05:07:00", 2));
+    assert!(rt;
+        has_fault(alloc, b"1.2 1.3 bob 21/03/04\n", 1)
+            & has_fault(
+                alloc,
+                b"1.1 1.2 ann 21/03/04 05:07:00\n 1.1 1.3 ann 21/03/04 05:07:00\n",
+                2
+            )
+            & has_fault(alloc, b"1.1 1.2 ann 21/03/04 05:07:00 -i1.1 -i1.1\n", 1)
+            & has_fault(alloc, b"1.1 1.2 ann 21/03/04 05:07:00 -i\n", 1)
+            & has_fault(
+                alloc,
+                b"1.1 1.2 ann 21/03/04 05:07:00\n1.1 1.3 ann 21/03/04 05:07:00",
+                2
+            )
+    );
     Ok(())
 }
 
@@ -93,11 +111,30 @@ fn agreement(alloc: Global, levels: u16, bytes: &[u8]) -> Result<Option<u64>, Fa
 fn entries_agree_with_a_table(rt: HostRuntime) -> Result<(), Fail> {
     let alloc = rt.alloc();
     assert_eq!(rt; agreement(alloc, 1, TWO)?, None);
-    assert_eq!(rt; agreement(alloc, 2, b"1.2 1.1 bob 21/03/04 05:11:00\n")?, Some(1));
-    assert_eq!(rt; agreement(alloc, 2, b"1.2 1.3 bob 21/03/04 05:11:00\n1.2 1.3 bob 21/03/04 05:11:00\n")?, Some(1));
-    assert_eq!(rt; agreement(alloc, 2, b"1.2 1.3 bob 21/03/04 05:11:00 -i1.1-1.2\n")?, None);
-    assert_eq!(rt; agreement(alloc, 2, b"1.2 1.3 bob 21/03/04 05:11:00 -i1.1-1.2 -x1.1\n")?, Some(1));
-    assert_eq!(rt; agreement(alloc, 2, b"1.2 1.3 bob 21/03/04 05:11:00 -i1.2-1.1\n")?, Some(1));
+    assert_eq!(rt;
+        agreement(alloc, 2, b"1.2 1.1 bob 21/03/04 05:11:00\n")?,
+        Some(1)
+    );
+    assert_eq!(rt;
+        agreement(
+            alloc,
+            2,
+            b"1.2 1.3 bob 21/03/04 05:11:00\n1.2 1.3 bob 21/03/04 05:11:00\n"
+        )?,
+        Some(1)
+    );
+    assert_eq!(rt;
+        agreement(alloc, 2, b"1.2 1.3 bob 21/03/04 05:11:00 -i1.1-1.2\n")?,
+        None
+    );
+    assert_eq!(rt;
+        agreement(alloc, 2, b"1.2 1.3 bob 21/03/04 05:11:00 -i1.1-1.2 -x1.1\n")?,
+        Some(1)
+    );
+    assert_eq!(rt;
+        agreement(alloc, 2, b"1.2 1.3 bob 21/03/04 05:11:00 -i1.2-1.1\n")?,
+        Some(1)
+    );
     Ok(())
 }
 

@@ -98,7 +98,10 @@ fn put_front<D: Disk>(edit: &Edit, out: &mut PieceWriter, disk: &mut D) -> Resul
     let got = edit.got.text(&mut got);
     let made = edit.made.text(&mut made);
     let moment = edit.moment.text();
-    out.put_parts(&[got, b" ", made, b" ", edit.login.bytes(), b" ", &moment], disk)
+    out.put_parts(
+        &[got, b" ", made, b" ", edit.login.bytes(), b" ", &moment],
+        disk,
+    )
 }
 
 // puts an entry and LF
