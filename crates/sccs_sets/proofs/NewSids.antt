@@ -23,7 +23,7 @@ any_less f g (x ∷ xs) more none = by (f x) (g x) refl refl (any_less f g xs mo
     by false true here there rest = absurd (true≢false (sym (more x there) ∙ here))
     by false false here there rest = rw there (rest (rw here at none))
 
-none_any : {A : Type 0} (f : A → Bool) (xs : List A) → AllByRecursion (λ x. f x ≡ true → ⊥) xs → list_any f xs ≡ false
+pub none_any : {A : Type 0} (f : A → Bool) (xs : List A) → AllByRecursion (λ x. f x ≡ true → ⊥) xs → list_any f xs ≡ false
 none_any f [] are = refl
 none_any f (x ∷ xs) are = by (f x) refl (none_any f xs are.1)
   where
@@ -146,11 +146,11 @@ fold_above : (n : ℕ) (xs : List ℕ) → AllByRecursion (λ x. x ≤ fold max 
 fold_above n [] = tt
 fold_above n (x ∷ xs) = ((let rest = start_below (max n x) xs in omega (arith, rest)), fold_above (max n x) xs)
 
-greatest_above : (xs : List ℕ) → AllByRecursion (λ x. x ≤ unwrap_or (reduce max xs) 0) xs
+pub greatest_above : (xs : List ℕ) → AllByRecursion (λ x. x ≤ unwrap_or (reduce max xs) 0) xs
 greatest_above [] = tt
 greatest_above (x ∷ xs) = (start_below x xs, fold_above x xs)
 
-passing_below : {A : Type 0} (value : A → ℕ) (test : A → Bool) (top : ℕ) (xs : List A) → AllByRecursion (λ v. v ≤ top) (map value (filter test xs)) → AllByRecursion (λ x. test x ≡ true → value x ≤ top) xs
+pub passing_below : {A : Type 0} (value : A → ℕ) (test : A → Bool) (top : ℕ) (xs : List A) → AllByRecursion (λ v. v ≤ top) (map value (filter test xs)) → AllByRecursion (λ x. test x ≡ true → value x ≤ top) xs
 passing_below value test top [] are = tt
 passing_below value test top (x ∷ xs) are = by (test x) refl are (passing_below value test top xs)
   where
