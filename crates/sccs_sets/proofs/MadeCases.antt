@@ -9,7 +9,7 @@ use Rattle.sccs_sid.specs.declared.sids.Spec.TheVariants.{Release, Branch, Full}
 use Rattle.sccs_history.specs.declared.headers.Record.{Record}
 use Rattle.sccs_sets.specs.Naming.{one_line, not_after}
 use Rattle.sccs_sets.specs.Retrieved.{branch_sequence, branch_sid, is_within, live_where, trunk_level, trunk_release, trunk_sid}
-use Rattle.sccs_sets.specs.Made.{comes_after, is_taken, made_on, next_level, next_on_line}
+use Rattle.sccs_sets.specs.Made.{comes_after, is_taken, made_on, next_level, next_on_line, on_new_branch}
 use Rattle.sccs_sets.proofs.NewSids.{greatest_above, none_any, passing_below}
 
 -- what passes a test isn't past the greatest
@@ -126,3 +126,59 @@ on_branch records release level number sequence branch top =
   where
     not_zero : (n : ℕ) → n ≢ 0 → (n == 0) ≡ false
     not_zero n some = search rules
+
+-- ---- a release before the newest one
+
+max_other : (n x top : ℕ) → n ≢ top → x ≢ top → max n x ≢ top
+max_other n x top first second is = omega (arith, is, first, second)
+
+fold_avoids : (top n : ℕ) (xs : List ℕ) → n ≢ top → AllByRecursion (λ x. x ≢ top) xs → fold max n xs ≢ top
+fold_avoids top n [] other others = other
+fold_avoids top n (x ∷ xs) other others = fold_avoids top (max n x) xs (max_other n x top other others.0) others.1
+
+reduce_avoids : (top : ℕ) (xs : List ℕ) → AllByRecursion (λ x. x ≢ top) xs → reduce max xs ≡ Some top → ⊥
+reduce_avoids top [] others is = cc
+reduce_avoids top (x ∷ xs) others is = let same : fold max x xs ≡ top = cc in fold_avoids top x xs others.0 others.1 same
+
+passing_avoid : (value : Record → ℕ) (test : Record → Bool) (top : ℕ) (rs : List Record) → AllByRecursion (λ r. test r ≡ true → value r ≢ top) rs → AllByRecursion (λ v. v ≢ top) (map value (filter test rs))
+passing_avoid value test top [] others = tt
+passing_avoid value test top (r ∷ rs) others = by (test r) refl (passing_avoid value test top rs others.1)
+  where
+    by : (t : Bool) → test r ≡ t → AllByRecursion (λ v. v ≢ top) (map value (filter test rs)) → AllByRecursion (λ v. v ≢ top) (map value (cond t (r ∷ filter test rs) (filter test rs)))
+    by true here rest = (others.0 here, rest)
+    by false here rest = rest
+
+none_each : (f : Record → Bool) (rs : List Record) → list_any f rs ≡ false → AllByRecursion (λ r. f r ≡ false) rs
+none_each f [] none = tt
+none_each f (r ∷ rs) none = let parts = or_no (f r) (list_any f rs) none in (parts.0, none_each f rs parts.1)
+
+after_earlier : (release level newest : ℕ) (r : Record) → release < newest → (not r.removed && comes_after (trunk_sid release level) r.sid) ≡ false
+    → (not r.removed && (r.sid.branch == 0 && true)) ≡ true → r.sid.release ≢ newest
+after_earlier release level newest r low none live is =
+    let parts = and_parts (not r.removed) (r.sid.branch == 0 && true) live in
+    let trunk : r.sid.branch == 0 ≡ true = (and_parts (r.sid.branch == 0) true parts.1).0 in
+    let less : nat_lt r.sid.release release ≡ false = not_lt r.sid.release release (omega (arith, low, is)) in
+    let other : (r.sid.release == release) ≡ false = not_eq r.sid.release release (omega (arith, low, is)) in
+    let after : comes_after (trunk_sid release level) r.sid ≡ true = rw (trunk, less, other) refl in
+    true≢false (sym (both_true (not r.removed) (comes_after (trunk_sid release level) r.sid) parts.0 after) ∙ none)
+  where
+    not_lt : (a b : ℕ) → b < a → nat_lt a b ≡ false
+    not_lt a b more = search (rules, arith)
+
+    not_eq : (a b : ℕ) → b < a → (a == b) ≡ false
+    not_eq a b more = search (rules, arith)
+
+-- cases 7 and 8, and the last of a release before the newest in the others
+pub on_earlier : (records : List Record) (release level newest : ℕ) (spec : Option Spec) (branch : Bool) → trunk_release records None ≡ Some newest → release < newest
+    → made_on records [] (trunk_sid release level) spec branch ≡ on_new_branch records [] (trunk_sid release level)
+on_earlier records release level newest spec branch top low =
+    by (list_any (λ r. not r.removed && comes_after (trunk_sid release level) r.sid) records) refl branch
+  where
+    by : (t : Bool) → list_any (λ r. not r.removed && comes_after (trunk_sid release level) r.sid) records ≡ t → (b : Bool)
+        → cond (b || (t || false)) (on_new_branch records [] (trunk_sid release level)) (next_on_line (trunk_sid release level) spec) ≡ on_new_branch records [] (trunk_sid release level)
+    by t is true = refl
+    by true is false = refl
+    by false none false =
+        absurd (reduce_avoids newest (map (λ r. r.sid.release) (live_where (λ s. s.branch == 0 && true) records))
+        (passing_avoid (λ r. r.sid.release) (λ r. not r.removed && (r.sid.branch == 0 && true)) newest records (one_all {P = λ r. (not r.removed && comes_after (trunk_sid release level) r.sid) ≡ false} {R = λ r. (not r.removed && (r.sid.branch == 0 && true)) ≡ true → r.sid.release ≢ newest} records (λ r no_later. after_earlier release level newest r low no_later) (none_each (λ r. not r.removed && comes_after (trunk_sid release level) r.sid) records none)))
+        top)

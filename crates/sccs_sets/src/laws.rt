@@ -8,7 +8,7 @@ ghost use Rattle.sccs_history.specs.Numbers.{Falls, has};
 ghost use Rattle.sccs_history.specs.History.{same_sid};
 ghost use Rattle.sccs_sid.specs.declared.sids.Spec.{Spec};
 ghost use Rattle.sccs_sid.specs.declared.sids.Spec.TheVariants.{Branch, Release};
-ghost use Rattle.sccs_sets.specs.Made.{is_taken, made_on, next_level, next_on_line};
+ghost use Rattle.sccs_sets.specs.Made.{is_taken, made_on, next_level, next_on_line, on_new_branch};
 ghost use Rattle.sccs_sets.specs.Naming.{IsRising, in_range, named_serials, range_named, unless};
 ghost use Rattle.sccs_sets.specs.OnceNamed.{first_fault, first_places, range_serials};
 ghost use Rattle.sccs_sets.specs.Retrieved.{branch_sequence, branch_sid, live_where, newest_where, retrieved, trunk_level, trunk_release, trunk_sid};
@@ -62,7 +62,8 @@ pub fn made_sids()
 
 /// Where nothing is reserved and no branch is asked for: on the newest delta of the trunk the next
 /// level is made, where its release is given too, and the first delta of a later release that is given;
-/// on the newest delta of a branch the next one of the branch. POSIX, get -e, the cases without `-b`.
+/// on the newest delta of a branch the next one of the branch. On a trunk delta of a release before the
+/// newest a new branch is made. POSIX, get -e, the SID to be made.
 pub fn made_cases()
     ensures newest { (records : List Record) (release level : ℕ)
         → trunk_release records None ≡ Some release → trunk_level records release ≡ Some level
@@ -75,4 +76,7 @@ pub fn made_cases()
         → number ≢ 0 → branch_sequence records release level number ≡ Some sequence
         → made_on records [] (branch_sid release level number sequence) (Some (Branch release level number)) false
         ≡ next_on_line (branch_sid release level number sequence) None }
+    ensures earlier { (records : List Record) (release level newest : ℕ) (spec : Option Spec) (branch : Bool)
+        → trunk_release records None ≡ Some newest → release < newest
+        → made_on records [] (trunk_sid release level) spec branch ≡ on_new_branch records [] (trunk_sid release level) }
 {}

@@ -1,4 +1,4 @@
-use Rattle.sccs_sets.proofs.MadeCases.{in_later_release, on_branch, on_newest}
+use Rattle.sccs_sets.proofs.MadeCases.{in_later_release, on_branch, on_earlier, on_newest}
 use Rattle.sccs_sets.proofs.laws.made_cases.Goals as goal
 
 pub returns-clause-newest : goal.returns-clause-newest
@@ -9,3 +9,6 @@ returns-clause-later c = in_later_release
 
 pub returns-clause-branch : goal.returns-clause-branch
 returns-clause-branch c = on_branch
+
+pub returns-clause-earlier : goal.returns-clause-earlier
+returns-clause-earlier c = on_earlier
