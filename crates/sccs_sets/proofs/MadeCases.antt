@@ -1,14 +1,14 @@
 -- The SID that is made, in the cases of POSIX get, where nothing is reserved.
-use Rattle.std.proofs.Common.{◌≡◌, ◌≢◌, ℕ, ◌+◌, ◌<◌, ◌≤◌, ◌==◌, nat_lt, nat_le, max, ◌⊎◌, inl, inr, Bool, true, false, cond, not, ◌&&◌, ◌||◌, List, [], ◌∷◌, map, Option, None, Some, refl, sym, ap, subst, ◌∙◌, arith, rules}
+use Rattle.std.proofs.Common.{◌≡◌, ◌≢◌, ℕ, ◌<◌, ◌≤◌, ◌==◌, nat_lt, nat_le, max, Bool, true, false, cond, not, ◌&&◌, ◌||◌, List, [], ◌∷◌, map, Option, None, Some, refl, sym, subst, ◌∙◌, arith, rules}
 use Rattle.std.specs.Prelude.{filter, fold, unwrap_or}
 use Rattle.std.specs.List.{AllByRecursion, list_any, reduce}
-use Rattle.std.proofs.lemmas.Bool.{and_parts, eqb-true, true≢false, lt-ltb, le-leb}
+use Rattle.std.proofs.lemmas.Bool.{and_parts, eqb-true, true≢false, lt-ltb}
 use Rattle.sccs_sid.specs.declared.sids.Sid.{Sid}
 use Rattle.sccs_sid.specs.declared.sids.Spec.{Spec}
-use Rattle.sccs_sid.specs.declared.sids.Spec.TheVariants.{Release, Branch, Full}
+use Rattle.sccs_sid.specs.declared.sids.Spec.TheVariants.{Release, Branch}
 use Rattle.sccs_history.specs.declared.headers.Record.{Record}
-use Rattle.sccs_sets.specs.Naming.{one_line, not_after}
-use Rattle.sccs_sets.specs.Retrieved.{branch_sequence, branch_sid, is_within, live_where, trunk_level, trunk_release, trunk_sid}
+use Rattle.sccs_sets.specs.Naming.{not_after}
+use Rattle.sccs_sets.specs.Retrieved.{branch_sequence, branch_sid, live_where, trunk_level, trunk_release, trunk_sid}
 use Rattle.sccs_sets.specs.Made.{comes_after, is_taken, made_on, next_level, next_on_line, on_new_branch}
 use Rattle.sccs_sets.proofs.NewSids.{greatest_above, none_any, passing_below}
 
