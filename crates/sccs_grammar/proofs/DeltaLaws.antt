@@ -35,11 +35,11 @@ word_more (b ∷ word) more is none = both (b ∷ word) more is none
 two_blanks : (n : ℕ) (more : List ℕ) → HasNoBlank more → HasNoBlank (two n ++ more)
 two_blanks n more none = ((λ e. absurd (omega arith)), ((λ e. absurd (omega arith)), none))
 
-date_word : (c : Civil) → IsWord (civil_date c)
+pub date_word : (c : Civil) → IsWord (civil_date c)
 date_word c =
     two_blanks _ (47 ∷ two c.month ++ (47 ∷ two c.day)) ((λ e. absurd (omega arith)), two_blanks c.month (47 ∷ two c.day) ((λ e. absurd (omega arith)), two_blanks c.day [] tt))
 
-time_word : (c : Civil) → IsWord (civil_time c)
+pub time_word : (c : Civil) → IsWord (civil_time c)
 time_word c =
     two_blanks c.hour (58 ∷ two c.minute ++ (58 ∷ two c.second)) ((λ e. absurd (omega arith)), two_blanks c.minute (58 ∷ two c.second) ((λ e. absurd (omega arith)), two_blanks c.second [] tt))
 
@@ -51,7 +51,7 @@ branch_blanks zero sequence is = tt
 branch_blanks (suc b) sequence is =
     ((λ e. absurd (omega arith)), both (decimal (suc b)) (46 ∷ decimal sequence) (blanks_of _ (component_word (suc b) is.0)) ((λ e. absurd (omega arith)), blanks_of _ (component_word sequence is.1.1)))
 
-sid_word : (sid : Sid) → IsSid sid → IsWord (sid_text sid)
+pub sid_word : (sid : Sid) → IsSid sid → IsWord (sid_text sid)
 unfolding sid_text
 sid_word sid is =
     word_more (decimal sid.release) (46 ∷ decimal sid.level ++ branch_text sid.branch sid.sequence) (component_word sid.release is.release.1)
@@ -66,7 +66,7 @@ some_word : (bytes : List ℕ) → 0 < length bytes → HasNoBlank bytes → IsW
 some_word [] some none = absurd (omega (arith, some))
 some_word (b ∷ bytes) some none = none
 
-login_word : (login : List ℕ) → IsLogin login → IsWord login
+pub login_word : (login : List ℕ) → IsLogin login → IsWord login
 login_word login is = some_word login is.some (visible_blanks login is.visible)
 
 kind_word : (removed : Bool) → IsWord (kind_of removed)

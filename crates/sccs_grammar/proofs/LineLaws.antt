@@ -25,18 +25,18 @@ use Rattle.sccs_grammar.proofs.NoLf.{NoLf}
 -- ---- what is above the blank is not LF
 
 -- all bytes are above the blank
-abbrev Visible : List ℕ → Type 0
+abbrev pub Visible : List ℕ → Type 0
 Visible bytes = AllByRecursion (λ b. 32 < b) bytes
 
-both : (bytes more : List ℕ) → Visible bytes → Visible more → Visible (bytes ++ more)
+pub both : (bytes more : List ℕ) → Visible bytes → Visible more → Visible (bytes ++ more)
 both [] more are others = others
 both (b ∷ bytes) more are others = (are.0, both bytes more are.1 others)
 
-without_lf : (bytes more : List ℕ) → Visible bytes → NoLf more → NoLf (bytes ++ more)
+pub without_lf : (bytes more : List ℕ) → Visible bytes → NoLf more → NoLf (bytes ++ more)
 without_lf [] more are none = none
 without_lf (b ∷ bytes) more are none = ((λ e. absurd (omega (arith, are.0))), without_lf bytes more are.1 none)
 
-spaced_ends : (words : List (List ℕ)) → AllByRecursion Visible words → NoLf (spaced words)
+pub spaced_ends : (words : List (List ℕ)) → AllByRecursion Visible words → NoLf (spaced words)
 spaced_ends [] are = tt
 spaced_ends (w ∷ words) are = ((λ e. absurd (omega arith)), without_lf w (spaced words) are.0 (spaced_ends words are.1))
 
@@ -49,7 +49,7 @@ digits_seen : (ds : List ℕ) → AllDigits 10 ds → Visible ds
 digits_seen [] are = tt
 digits_seen (c ∷ ds) are = let digit = digit_from_value c are.0 in (omega arith, digits_seen ds are.1)
 
-decimal_seen : (n : ℕ) → n < 65536 → Visible (decimal n)
+pub decimal_seen : (n : ℕ) → n < 65536 → Visible (decimal n)
 decimal_seen n small = digits_seen (decimal n) (decimal_is_IsNumeral n (omega (arith, small))).0.1
 
 two_seen : (n : ℕ) (more : List ℕ) → Visible more → Visible (two n ++ more)
@@ -58,10 +58,10 @@ two_seen n more are = (omega arith, (omega arith, are))
 five_seen : (n : ℕ) (more : List ℕ) → Visible more → Visible (five n ++ more)
 five_seen n more are = (omega arith, (omega arith, (omega arith, (omega arith, (omega arith, are)))))
 
-date_seen : (c : Civil) → Visible (civil_date c)
+pub date_seen : (c : Civil) → Visible (civil_date c)
 date_seen c = two_seen _ (47 ∷ two c.month ++ (47 ∷ two c.day)) (omega arith, two_seen c.month (47 ∷ two c.day) (omega arith, two_seen c.day [] tt))
 
-time_seen : (c : Civil) → Visible (civil_time c)
+pub time_seen : (c : Civil) → Visible (civil_time c)
 time_seen c = two_seen c.hour (58 ∷ two c.minute ++ (58 ∷ two c.second)) (omega arith, two_seen c.minute (58 ∷ two c.second) (omega arith, two_seen c.second [] tt))
 
 branch_seen : (branch sequence : ℕ) → IsBranch branch sequence → Visible (branch_text branch sequence)
@@ -69,7 +69,7 @@ branch_seen zero sequence is = tt
 branch_seen (suc b) sequence is =
     (omega arith, both (decimal (suc b)) (46 ∷ decimal sequence) (decimal_seen (suc b) (omega (arith, is.0))) (omega arith, decimal_seen sequence (omega (arith, is.1.1))))
 
-sid_seen : (sid : Sid) → IsSid sid → Visible (sid_text sid)
+pub sid_seen : (sid : Sid) → IsSid sid → Visible (sid_text sid)
 unfolding sid_text
 sid_seen sid is =
     both (decimal sid.release) (46 ∷ decimal sid.level ++ branch_text sid.branch sid.sequence) (decimal_seen sid.release (omega (arith, is.release.1)))

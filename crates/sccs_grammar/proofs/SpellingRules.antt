@@ -14,7 +14,7 @@ use Rattle.sccs_grammar.proofs.TokenRules.{digits_small}
 
 -- ---- steps of reading
 
-then_ok : {A B E : Type 0} (P : A → Type 0) (Q : B → Type 0) (r : Result A E) (f : A → Result B E) → IfOk r P → ((a : A) → P a → IfOk (f a) Q) → IfOk (r >>= f) Q
+pub then_ok : {A B E : Type 0} (P : A → Type 0) (Q : B → Type 0) (r : Result A E) (f : A → Result B E) → IfOk r P → ((a : A) → P a → IfOk (f a) Q) → IfOk (r >>= f) Q
 then_ok P Q (Ok a) f h more = more a h
 then_ok P Q (Err e) f h more = tt
 
@@ -32,7 +32,7 @@ first_low b bytes (inr least) (inr greatest) =
     let small : (digits_after 3 (b - 48) bytes).0 + 1 ≤ ((b - 48) + 1) * 1000 = digits_small 3 (b - 48) bytes in
     rw (least, greatest) (omega arith)
 
-number_low : (bytes : List ℕ) → IfOk (number_at 4 bytes) (λ x. x.0 < 10000)
+pub number_low : (bytes : List ℕ) → IfOk (number_at 4 bytes) (λ x. x.0 < 10000)
 unfolding number_at
 number_low [] = tt
 number_low (b ∷ bytes) = first_low b bytes (cases_Bool (nat_lt b 48)) (cases_Bool (nat_lt 57 b))

@@ -50,7 +50,7 @@ word_first (b ∷ c ∷ word) rest is ends =
     words-other b (c ∷ word ++ rest) is.0
     ∙ (ap (joined b (c ∷ word ++ rest)) (word_first (c ∷ word) rest is.1 ends) ∙ joined_more b c (word ++ rest) (c ∷ word) (words rest) is.1.0)
 
-spaced_ends : (ws : List (List ℕ)) → EndsWord (spaced ws)
+pub spaced_ends : (ws : List (List ℕ)) → EndsWord (spaced ws)
 spaced_ends [] = tt
 spaced_ends (w ∷ ws) = refl
 

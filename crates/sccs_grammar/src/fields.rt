@@ -1,5 +1,5 @@
 //! The fields of a line.
-ghost use Rattle.std.specs.Prelude.{◌≡◌, ◌<◌, ◌^◌, ◌≤◌, List, [], ◌∷◌, Some, length, map, option_map, IfOk, IfSome, MatchOption};
+ghost use Rattle.std.specs.Prelude.{◌≡◌, ◌<◌, ◌^◌, ◌≤◌, List, ◌∷◌, Some, length, map, option_map, IfOk, IfSome};
 ghost use Rattle.sccs_base.specs.Cut.{HasNoLf};
 ghost use Rattle.sccs_sid.specs.Words.{words};
 ghost use Rattle.sccs_grammar.specs.Tokens.{drop_zeros, is_removed, is_set_off, listed, padded_serial, serial_field, plain_serial, predecessor, serial, serials, text};
@@ -7,21 +7,8 @@ ghost use Rattle.sccs_grammar.specs.Tokens.{drop_zeros, is_removed, is_set_off, 
 use sccs_base::{Line, Memory};
 use sccs_history::Serials;
 use sccs_sid::reading::number;
-use sccs_sid::words::{begins_blank, ends_blank, next_word, one_word, skip_blanks};
+use sccs_sid::words::{begins_blank, ends_blank, first_word, one_word, skip_blanks};
 use std::alloc::Global;
-
-/// The first word, and the bytes behind it; None where there is no word.
-pub fn first_word(bytes: &[u8]) -> Option<(&[u8], &[u8])>
-    ensures { MatchOption result (words bytes.now ≡ [])
-        (λ x. words bytes.now ≡ x.0.now ∷ words x.1.now) }
-{
-    let (word, rest) = next_word(bytes);
-    if word.is_empty() {
-        None
-    } else {
-        Some((word, rest))
-    }
-}
 
 // the bytes without the zeros in front
 fn drop_zeros(bytes: &[u8]) -> &[u8]

@@ -4,10 +4,9 @@ ghost use Rattle.std.specs.List.{list_all};
 ghost use Rattle.sccs_sid.specs.Words.{words};
 ghost use Rattle.sccs_history.specs.FlagText.{are_releases, are_spaced, fits_letter, is_all, is_any_sid, is_number, is_release};
 
-use crate::fields::first_word;
 use sccs_sid::Spec;
 use sccs_sid::reading::{cut_at, number};
-use sccs_sid::words::{begins_blank, ends_blank};
+use sccs_sid::words::{begins_blank, ends_blank, first_word};
 
 // a number of one to four digits that isn't 0
 fn is_release(word: &[u8]) -> bool

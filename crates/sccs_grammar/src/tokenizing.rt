@@ -7,12 +7,12 @@ ghost use Rattle.sccs_sid.specs.Words.{begins_blank, drop_blanks, skip_blanks, w
 ghost use Rattle.sccs_grammar.specs.Tokens.{behind_soh, body_control, control, counts, delta, delta_of, exactly_seven, flag, listed, part_control, token, text};
 
 use crate::fields::{
-    first_word, is_set_off, line_of, listed, predecessor, removed, serial, serial_field, text,
+    is_set_off, line_of, listed, predecessor, removed, serial, serial_field, text,
 };
 use crate::line_tokens::{LineToken, ListKind};
 use sccs_base::{Line, Login, Memory, Text};
 use sccs_history::{Flag, Record, Serials};
-use sccs_sid::words::{begins_blank, drop_blanks, one_word, skip_blanks, three};
+use sccs_sid::words::{begins_blank, drop_blanks, first_word, one_word, skip_blanks, three};
 use sccs_sid::{Moment, Sid};
 use std::alloc::Global;
 

@@ -1,5 +1,6 @@
 pub mod AppliedSets
 pub mod Falling
+pub mod FlagPieces
 pub mod LinearTables
 pub mod LiveLines
 pub mod Membership

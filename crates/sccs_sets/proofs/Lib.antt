@@ -1,5 +1,7 @@
 pub mod Living
 pub mod Lookups
+pub mod MadeCases
+pub mod NewSids
 pub mod OnceNamed
 pub mod Passing
 pub mod Putting

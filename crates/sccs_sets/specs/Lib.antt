@@ -1,4 +1,5 @@
 pub mod Flags
+pub mod Made
 pub mod Marks
 pub mod Naming
 pub mod OnceNamed

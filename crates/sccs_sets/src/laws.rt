@@ -1,13 +1,17 @@
-ghost use Rattle.std.specs.Prelude.{◌≡◌, ◌≤◌, ◌==◌, ℕ, not, ◌&&◌, true, false, Bool, List, [], ◌∷◌, Ok, None, Some, map};
+ghost use Rattle.std.specs.Prelude.{◌≡◌, ◌≢◌, ◌<◌, ◌≤◌, ◌==◌, ℕ, not, ◌&&◌, true, false, Bool, List, [], ◌∷◌, Ok, None, Some, Option, map};
 ghost use Rattle.std.specs.List.{AllByRecursion, IsDistinct, flat_map};
 ghost use Rattle.sccs_sid.specs.declared.sids.Sid.{Sid};
 ghost use Rattle.sccs_sid.specs.declared.sid_lists.Range.{Range};
 ghost use Rattle.sccs_history.specs.declared.headers.Record.{Record};
 ghost use Rattle.sccs_history.specs.Applied.{newest, serials_of};
 ghost use Rattle.sccs_history.specs.Numbers.{Falls, has};
+ghost use Rattle.sccs_history.specs.History.{same_sid};
+ghost use Rattle.sccs_sid.specs.declared.sids.Spec.{Spec};
+ghost use Rattle.sccs_sid.specs.declared.sids.Spec.TheVariants.{Branch, Release};
+ghost use Rattle.sccs_sets.specs.Made.{is_taken, made_on, next_level, next_on_line, on_new_branch};
 ghost use Rattle.sccs_sets.specs.Naming.{IsRising, in_range, named_serials, range_named, unless};
 ghost use Rattle.sccs_sets.specs.OnceNamed.{first_fault, first_places, range_serials};
-ghost use Rattle.sccs_sets.specs.Retrieved.{live_where, newest_where, retrieved};
+ghost use Rattle.sccs_sets.specs.Retrieved.{branch_sequence, branch_sid, live_where, newest_where, retrieved, trunk_level, trunk_release, trunk_sid};
 ghost use Rattle.sccs_sets.specs.Trunks.{IsTrunk};
 
 /// The first live record that passes a test has the greatest serial of those that do, and where none
@@ -47,4 +51,32 @@ pub fn several_ranges()
 pub fn trunks()
     ensures { (newer : Record) (older : List Record) (top : Bool) → IsTrunk (newer ∷ older)
         → retrieved (newer ∷ older) None top ≡ Some (newest (newer ∷ older)) }
+{}
+
+/// The SID that is made is neither that of a live delta nor a reserved one.
+pub fn made_sids()
+    ensures { (records : List Record) (reserved : List Sid) (got sid : Sid) (spec : Option Spec) (branch : Bool)
+        → made_on records reserved got spec branch ≡ Some sid
+        → is_taken records reserved (λ s. same_sid s sid) ≡ false }
+{}
+
+/// Where nothing is reserved and no branch is asked for: on the newest delta of the trunk the next
+/// level is made, where its release is given too, and the first delta of a later release that is given;
+/// on the newest delta of a branch the next one of the branch. On a trunk delta of a release before the
+/// newest a new branch is made. POSIX, get -e, the SID to be made.
+pub fn made_cases()
+    ensures newest { (records : List Record) (release level : ℕ)
+        → trunk_release records None ≡ Some release → trunk_level records release ≡ Some level
+        → (made_on records [] (trunk_sid release level) None false ≡ next_level (trunk_sid release level))
+        × (made_on records [] (trunk_sid release level) (Some (Release release)) false ≡ next_level (trunk_sid release level)) }
+    ensures later { (records : List Record) (release level later : ℕ)
+        → trunk_release records None ≡ Some release → trunk_level records release ≡ Some level → release < later
+        → made_on records [] (trunk_sid release level) (Some (Release later)) false ≡ Some (trunk_sid later 1) }
+    ensures branch { (records : List Record) (release level number sequence : ℕ)
+        → number ≢ 0 → branch_sequence records release level number ≡ Some sequence
+        → made_on records [] (branch_sid release level number sequence) (Some (Branch release level number)) false
+        ≡ next_on_line (branch_sid release level number sequence) None }
+    ensures earlier { (records : List Record) (release level newest : ℕ) (spec : Option Spec) (branch : Bool)
+        → trunk_release records None ≡ Some newest → release < newest
+        → made_on records [] (trunk_sid release level) spec branch ≡ on_new_branch records [] (trunk_sid release level) }
 {}

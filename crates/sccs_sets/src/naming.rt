@@ -20,8 +20,8 @@ pub struct Named {
     pub serial: u16,
 }
 
-// whether both SIDs are on the trunk, or on one branch
-fn one_line(first: Sid, other: Sid) -> bool
+/// Whether both SIDs are on the trunk, or on one branch.
+pub fn one_line(first: Sid, other: Sid) -> bool
     ensures { result ≡ one_line first other }
 {
     if first.branch == 0 {
@@ -32,8 +32,8 @@ fn one_line(first: Sid, other: Sid) -> bool
     }
 }
 
-// whether a SID doesn't come after another of its line
-fn not_after(first: Sid, other: Sid) -> bool
+/// Whether a SID doesn't come after another of its line.
+pub fn not_after(first: Sid, other: Sid) -> bool
     ensures { result ≡ not_after first other }
 {
     if first.branch == 0 {
@@ -44,15 +44,15 @@ fn not_after(first: Sid, other: Sid) -> bool
     }
 }
 
-// whether a SID is on the line of a range, from the first end to the last
-fn in_range(range: &Range, sid: Sid) -> bool
+/// Whether a SID is on the line of a range, from the first end to the last.
+pub fn in_range(range: &Range, sid: Sid) -> bool
     ensures { result ≡ in_range range.now sid }
 {
     one_line(range.first, sid) && (not_after(range.first, sid) && not_after(sid, range.last))
 }
 
-// whether some live record has the SID
-fn lives(records: &[Record], sid: Sid) -> bool
+/// Whether some live record has the SID.
+pub fn lives(records: &[Record], sid: Sid) -> bool
     ensures { result ≡ lives records.now sid }
 {
     records
@@ -60,8 +60,9 @@ fn lives(records: &[Record], sid: Sid) -> bool
         .any(|record| !record.removed && record.sid == sid)
 }
 
-// the SID at fault in a range
-fn range_fault(records: &[Record], range: &Range) -> Option<Sid>
+/// The SID at fault in a range: the first end that isn't live, or the last where they aren't on one
+/// line in order.
+pub fn range_fault(records: &[Record], range: &Range) -> Option<Sid>
     ensures { result ≡ range_fault records.now range.now }
 {
     let (first, last) = (range.first, range.last);

@@ -2,6 +2,7 @@
 ghost use Rattle.std.specs.Prelude.{◌≡◌, true, false, [], ◌∷◌, None, Some, Ok, Err};
 ghost use Rattle.sccs_history.specs.History.{IsTable};
 ghost use Rattle.sccs_sid.specs.declared.sids.Spec.TheVariants.{Release, Branch, Full};
+ghost use Rattle.sccs_sets.specs.Made.{made_on};
 ghost use Rattle.sccs_sets.specs.Naming.{named_serials};
 ghost use Rattle.sccs_sets.specs.Retrieved.{branch_sid, retrieved, trunk_sid};
 ghost use Rattle.sccs_sets.specs.Samples.{from_to, single, sixteen_table};
@@ -35,6 +36,34 @@ pub fn tops_got()
     ensures lone_level { retrieved sixteen_table (Some (Full (trunk_sid 1 1))) true ≡ Some 1 }
     ensures branch { retrieved sixteen_table (Some (Branch 1 2 1)) true ≡ Some 6 }
     ensures branch_sid { retrieved sixteen_table (Some (Full (branch_sid 1 2 1 1))) true ≡ Some 5 }
+{}
+
+/// The SIDs that are made, in the sixteen cases of what is given and whether a branch is asked for.
+pub fn sids_made()
+    ensures case_1 { made_on sixteen_table [] (trunk_sid 3 2) None false ≡ Some (trunk_sid 3 3) }
+    ensures case_2 { made_on sixteen_table [] (trunk_sid 3 2) None true ≡ Some (branch_sid 3 2 1 1) }
+    ensures case_3 { made_on sixteen_table [] (trunk_sid 3 2) (Some (Release 4)) false ≡ Some (trunk_sid 4 1) }
+    ensures case_4 { made_on sixteen_table [] (trunk_sid 3 2) (Some (Release 3)) false ≡ Some (trunk_sid 3 3) }
+    ensures case_5 { made_on sixteen_table [] (trunk_sid 3 2) (Some (Release 4)) true ≡ Some (branch_sid 3 2 1 1) }
+    ensures case_6 { made_on sixteen_table [] (trunk_sid 3 2) (Some (Release 3)) true ≡ Some (branch_sid 3 2 1 1) }
+    ensures case_7 { made_on sixteen_table [] (trunk_sid 1 2) (Some (Release 2)) false ≡ Some (branch_sid 1 2 3 1) }
+    ensures case_8 { made_on sixteen_table [] (trunk_sid 1 2) (Some (Release 1)) false ≡ Some (branch_sid 1 2 3 1) }
+    ensures case_9 { made_on sixteen_table [] (trunk_sid 3 2) (Some (Full (trunk_sid 3 2))) false ≡ Some (trunk_sid 3 3) }
+    ensures case_10 { made_on sixteen_table [] (trunk_sid 3 2) (Some (Full (trunk_sid 3 2))) true ≡ Some (branch_sid 3 2 1 1) }
+    ensures case_11 { made_on sixteen_table [] (trunk_sid 1 1) (Some (Full (trunk_sid 1 1))) false ≡ Some (branch_sid 1 1 1 1) }
+    ensures case_12 { made_on sixteen_table [] (branch_sid 1 2 1 2) (Some (Branch 1 2 1)) false ≡ Some (branch_sid 1 2 1 3) }
+    ensures case_13 { made_on sixteen_table [] (branch_sid 1 2 1 2) (Some (Branch 1 2 1)) true ≡ Some (branch_sid 1 2 3 1) }
+    ensures case_14 { made_on sixteen_table [] (branch_sid 1 2 1 2) (Some (Full (branch_sid 1 2 1 2))) false ≡ Some (branch_sid 1 2 1 3) }
+    ensures case_15 { made_on sixteen_table [] (branch_sid 1 2 1 2) (Some (Full (branch_sid 1 2 1 2))) true ≡ Some (branch_sid 1 2 3 1) }
+    ensures case_16 { made_on sixteen_table [] (branch_sid 1 2 1 1) (Some (Full (branch_sid 1 2 1 1))) false ≡ Some (branch_sid 1 2 3 1) }
+{}
+
+/// The SIDs that are made beside reserved ones, and where no number is left.
+pub fn sids_made_beside_others()
+    ensures trunk { made_on sixteen_table (trunk_sid 3 3 ∷ []) (trunk_sid 3 2) None false ≡ Some (branch_sid 3 2 1 1) }
+    ensures branch { made_on sixteen_table (branch_sid 1 2 1 3 ∷ []) (branch_sid 1 2 1 2) (Some (Branch 1 2 1)) false ≡ Some (branch_sid 1 2 3 1) }
+    ensures new_branch { made_on sixteen_table (branch_sid 1 2 3 1 ∷ []) (trunk_sid 1 2) (Some (Release 1)) false ≡ Some (branch_sid 1 2 4 1) }
+    ensures full { made_on [] [] (trunk_sid 1 9999) None false ≡ None }
 {}
 
 /// The serials that lists name, each once, and the SID that is named as bad.

@@ -6,7 +6,7 @@ ghost use Rattle.sccs_sid.specs.Sid.{sid_text};
 use crate::sids::Sid;
 use itoa::Buffer;
 
-// the bytes of the longest detail: two numbers, and the words between them
+/// The bytes of the longest detail: two numbers, and the words between them.
 pub const DETAIL_ROOM: usize = 51;
 
 // what a refusal's text says beside its fixed words
@@ -45,8 +45,8 @@ fn put(into: &mut [u8; DETAIL_ROOM], at: usize, bytes: &[u8]) -> usize
     end
 }
 
-// the same with the written SID
-fn put_sid(sid: &Sid, into: &mut [u8; DETAIL_ROOM]) -> usize
+// puts a written SID at the start, and answers where it ends
+pub fn put_sid(sid: &Sid, into: &mut [u8; DETAIL_ROOM]) -> usize
     ensures end { result ≤ 51 }
     ensures put { take result into.new ≡ sid_text sid.now }
 {

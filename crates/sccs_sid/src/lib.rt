@@ -15,6 +15,7 @@ mod tests;
 pub mod words;
 
 pub use cutoffs::Cutoff;
+pub use details::DETAIL_ROOM;
 pub use laws::{
     cutoff_by_pieces, list_fault_stays, list_fault_within, list_prefix_is_viable, list_round_trip,
     spec_round_trip,

@@ -203,6 +203,13 @@ impl SidList {
         self.ranges.insert(place, range)
     }
 
+    /// The ranges as a slice.
+    pub fn items(&self) -> &[Range]
+        ensures { result.now ≡ self.now }
+    {
+        self.ranges.items()
+    }
+
     /// Takes the range at a place below the length out.
     pub fn remove(&mut self, place: u64)
         requires { place < length self.old }

@@ -6,6 +6,7 @@ ghost use Rattle.sccs_sid.specs.Reading.{Gives};
 ghost use Rattle.sccs_sid.specs.Sid.{IsSid, numbers_after, numbers, sid_of_numbers, sid_of, sid_text};
 ghost use Rattle.sccs_sid.specs.Spec.{IsSpec, spec_of_numbers, spec_of};
 
+use crate::details::{DETAIL_ROOM, put_sid};
 use crate::reading::{byte_at, number_at};
 use itoa::Buffer;
 use sccs_base::{Failed, Sink, give_parts};
@@ -160,6 +161,15 @@ impl Sid {
             }
             _ => Err(SidFault::Malformed),
         }
+    }
+
+    /// The written spelling, put at the start of a row of bytes: without leading zeros, `R.L`, or
+    /// `R.L.B.S` on a branch.
+    pub fn text<'a>(&self, row: &'a mut [u8; DETAIL_ROOM]) -> &'a [u8]
+        ensures { result.now ≡ sid_text self.now }
+    {
+        let end = put_sid(self, row);
+        &row[..end]
     }
 
     /// Writes the SID without leading zeros: `R.L`, or `R.L.B.S` on a branch.

@@ -1,5 +1,5 @@
 //! Words between blanks. A blank is the byte 32.
-ghost use Rattle.std.specs.Prelude.{◌≡◌, ◌<◌, ◌≤◌, ◌^◌, length, option_map, IfSome};
+ghost use Rattle.std.specs.Prelude.{◌≡◌, ◌<◌, ◌≤◌, ◌^◌, [], ◌∷◌, length, option_map, IfSome, MatchOption};
 ghost use Rattle.sccs_sid.specs.Words.{begins_blank, ends_blank, skip_blanks, drop_blanks, words, with_word, one, three};
 
 use crate::reading::{byte_at, cut_at, number, number_at};
@@ -60,6 +60,19 @@ pub fn next_word(bytes: &[u8]) -> (&[u8], &[u8])
     match rest {
         Some(rest) => (word, rest),
         None => (word, &bytes[bytes.len()..]),
+    }
+}
+
+/// The first word, and the bytes behind it; None where there is no word.
+pub fn first_word(bytes: &[u8]) -> Option<(&[u8], &[u8])>
+    ensures { MatchOption result (words bytes.now ≡ [])
+        (λ x. words bytes.now ≡ x.0.now ∷ words x.1.now) }
+{
+    let (word, rest) = next_word(bytes);
+    if word.is_empty() {
+        None
+    } else {
+        Some((word, rest))
     }
 }
 

@@ -1,0 +1,2 @@
+pub mod FlagValues
+pub mod Logins

@@ -1,0 +1,9 @@
+pub mod Agreeing
+pub mod Cuts
+pub mod EntriesValid
+pub mod EntryTexts
+pub mod ListsValid
+pub mod Recovering
+pub mod Reserving
+pub mod Texts
+pub mod Turns

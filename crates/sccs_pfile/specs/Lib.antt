@@ -1,0 +1,6 @@
+pub mod Agreement
+pub mod Choices
+pub mod Entries
+pub mod Reading
+pub mod Recovered
+pub mod Written

@@ -1,0 +1,88 @@
+ghost use Rattle.std.specs.Prelude.{◌≡◌, ◌↔◌, ◌==◌, not, true, false, None, Some, position, IsOk, MatchResult};
+ghost use Rattle.sccs_history.specs.History.{same_sid};
+ghost use Rattle.sccs_pfile.specs.Agreement.{Agrees, agrees, are_ranges, first_disagreeing, has_lists, is_listed, makers, share_sid};
+
+use crate::entries::{Edit, Edits};
+use sccs_history::{Header, Record};
+use sccs_sets::{in_range, lives, range_fault};
+use sccs_sid::{Range, Sid};
+
+/// The number, from 1, of the first entry that doesn't agree with a delta table.
+#[derive(Clone, Copy, Debug, PartialEq, Eq)]
+pub struct Disagree {
+    pub entry: u64,
+}
+
+// whether each range goes over live deltas of one line, in order
+fn are_ranges(records: &[Record], ranges: &[Range]) -> bool
+    ensures { result ≡ are_ranges records.now ranges.now }
+{
+    ranges
+        .iter()
+        .all(|range| range_fault(records, range).is_none())
+}
+
+// whether some range of a list goes over a SID
+fn is_listed(ranges: &[Range], sid: Sid) -> bool
+    ensures { result ≡ is_listed ranges.now sid }
+{
+    ranges.iter().any(|range| in_range(range, sid))
+}
+
+// whether some live SID is in both lists
+fn share_sid(records: &[Record], include: &[Range], exclude: &[Range]) -> bool
+    ensures { result ≡ share_sid records.now include.now exclude.now }
+{
+    records.iter().any(|record| {
+        !record.removed && (is_listed(include, record.sid) && is_listed(exclude, record.sid))
+    })
+}
+
+// whether the lists of an entry name live SIDs, and share none
+fn has_lists(records: &[Record], edit: &Edit) -> bool
+    ensures { result ≡ has_lists records.now edit.now }
+{
+    let (include, exclude) = (edit.include.items(), edit.exclude.items());
+    are_ranges(records, include)
+        && (are_ranges(records, exclude) && !share_sid(records, include, exclude))
+}
+
+// how many of the entries are to make a SID
+fn makers(edits: &[Edit], sid: Sid) -> usize
+    ensures { result ≡ makers edits.now sid }
+{
+    edits.iter().filter(|edit| sid == edit.made).count()
+}
+
+// whether an entry agrees with the records and with the other entries
+fn agrees(records: &[Record], edits: &[Edit], edit: &Edit) -> bool
+    ensures { result ≡ agrees records.now edits.now edit.now }
+{
+    lives(records, edit.got)
+        && (!lives(records, edit.made)
+            && (makers(edits, edit.made) == 1 && has_lists(records, edit)))
+}
+
+// the place of the first entry that doesn't agree
+fn first_disagreeing(records: &[Record], edits: &[Edit]) -> Option<usize>
+    ensures { result ≡ position (λ e. not (agrees records.now edits.now e)) edits.now }
+{
+    edits.iter().position(|edit| !agrees(records, edits, edit))
+}
+
+/// Whether the entries of a p-file agree with the delta table: the SID got of each is live, its SID
+/// to be made is neither live nor that of another entry, and its lists name live SIDs, have the ends
+/// of each range on one line in order, and share no SID. Else the first entry, from 1, that doesn't.
+pub fn agree(header: &Header, edits: &Edits) -> Result<(), Disagree>
+    ensures exact { IsOk result ↔ Agrees header.now.records edits.now }
+    ensures first { MatchResult result
+        (λ _. first_disagreeing header.now.records edits.now ≡ None)
+        (λ fault. first_disagreeing header.now.records edits.now ≡ Some fault.entry) }
+{
+    match first_disagreeing(header.records.items(), edits.items()) {
+        Some(place) => Err(Disagree {
+            entry: place as u64 + 1,
+        }),
+        None => Ok(()),
+    }
+}
