@@ -11,6 +11,9 @@ use std::rt::Files;
 // how many bytes one read of the system asks for
 const READ_AHEAD: usize = 65_536;
 
+// from that many bytes on nothing is read ahead
+const LONG_READ: usize = 16_384;
+
 // a file that is open for reading, with its name
 #[derive(Drop)]
 struct OpenFor<F> {
@@ -180,6 +183,12 @@ impl<F: Read + Seek + OpenFile + Drop> FolderReader<F> {
         let Some(open) = &mut self.open else {
             return Ok(None);
         };
+        if into.len() >= LONG_READ {
+            return match read_from(&mut open.file, &mut open.place, from, into) {
+                Some(count) => Ok(Some(count)),
+                None => Err(Failed),
+            };
+        }
         if ahead_from(&self.ahead, open.from, open.count, from).len() < into.len() {
             let Some(count) = read_from(&mut open.file, &mut open.place, from, &mut self.ahead)
             else {
