@@ -8,11 +8,8 @@ use std::fs::{Metadata, OpenFile};
 use std::io::{ErrorKind, Read, Seek, SeekFrom};
 use std::rt::Files;
 
-// how many bytes one read of the system asks for
-const READ_AHEAD: usize = 65_536;
-
-// from that many bytes on nothing is read ahead
-const LONG_READ: usize = 16_384;
+// how many bytes are read ahead; who asks for as many gets them without a copy
+const READ_AHEAD: usize = 16_384;
 
 // a file that is open for reading, with its name
 #[derive(Drop)]
@@ -183,7 +180,7 @@ impl<F: Read + Seek + OpenFile + Drop> FolderReader<F> {
         let Some(open) = &mut self.open else {
             return Ok(None);
         };
-        if into.len() >= LONG_READ {
+        if into.len() >= READ_AHEAD {
             return match read_from(&mut open.file, &mut open.place, from, into) {
                 Some(count) => Ok(Some(count)),
                 None => Err(Failed),

@@ -184,8 +184,10 @@ fn readings_ahead(rt: HostRuntime) -> Result<(), Fail> {
     for (name, from, room, wanted) in rows {
         assert!(rt; has(&mut disk, name, from, room, wanted));
     }
-    assert!(rt; reads_long(alloc, &mut disk, &long, 14, 20_000, b"line 00000001\n")
-        & reads_long(alloc, &mut disk, &long, 97_986, 14, b"line 00006999\n"));
+    assert!(rt;
+        reads_long(alloc, &mut disk, &long, 14, 20_000, b"line 00000001\n")
+            & reads_long(alloc, &mut disk, &long, 97_986, 14, b"line 00006999\n")
+    );
     assert!(rt; disk.append(&long, b"more").is_ok() & has(&mut disk, &long, 98_000, 20, b"more"));
     assert!(rt; disk.remove(&long).is_ok() & disk.remove(&other).is_ok());
     Ok(())
