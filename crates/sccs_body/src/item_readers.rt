@@ -23,7 +23,7 @@ use std::alloc::Global;
 use std::marker::Model;
 
 /// Gives the items of a body in a later reading of its file, one at a time, or text lines in runs. It
-/// holds one piece of 16,384 bytes and one line, and adds up all that it reads, the header included.
+/// holds one piece of 4,096 bytes and one line, and adds up all that it reads, the header included.
 /// At the end it says whether the file is another than at the first reading.
 #[derive(Drop)]
 pub struct ItemReader {

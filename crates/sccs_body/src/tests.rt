@@ -163,12 +163,12 @@ fn long_file(alloc: Global, end: &[u8], off: u16) -> Result<Vec<u8>, Fail> {
     Ok(file)
 }
 
-// 6 calls: the length, 3 pieces, the end of the body, and the end of the sum
+// 15 calls: the length, 12 pieces, the end of the body, and the end of the sum
 #[test]
 fn a_file_is_read_once(rt: HostRuntime) -> Result<(), Fail> {
     let name = Name::read(b"s.a").ok_or("a name")?;
     let file = long_file(rt.alloc(), b"\x01E 1\n", 0)?;
-    let mut disk = MemoryDisk::new(rt.alloc(), 6, &[])?;
+    let mut disk = MemoryDisk::new(rt.alloc(), 15, &[])?;
     disk.put(&name, &file, true)?;
     match inspect(rt.alloc(), &mut disk, &name) {
         Ok(front) => assert_eq!(rt; front.size, file.len() as u64),
@@ -203,7 +203,7 @@ fn faults_of_long_files(rt: HostRuntime) -> Result<(), Fail> {
 fn each_call_may_fail(rt: HostRuntime) -> Result<(), Fail> {
     let name = Name::read(b"s.a").ok_or("a name")?;
     let file = long_file(rt.alloc(), b"\x01E 1\n", 0)?;
-    let rows: [(&[u8], u64); 2] = [(&file, 6), (SIGNED, 6)];
+    let rows: [(&[u8], u64); 2] = [(&file, 15), (SIGNED, 6)];
     for (bytes, calls) in rows {
         for call in 1..=calls {
             let mut disk = MemoryDisk::new(rt.alloc(), 1000, &[call])?;

@@ -8,8 +8,8 @@ use std::fs::{Metadata, OpenFile};
 use std::io::{ErrorKind, Read, Seek, SeekFrom};
 use std::rt::Files;
 
-// how many bytes are read ahead; who asks for as many gets them without a copy
-const READ_AHEAD: usize = 16_384;
+// how many bytes one read of the system asks for
+const READ_AHEAD: usize = 65_536;
 
 // a file that is open for reading, with its name
 #[derive(Drop)]
@@ -180,12 +180,6 @@ impl<F: Read + Seek + OpenFile + Drop> FolderReader<F> {
         let Some(open) = &mut self.open else {
             return Ok(None);
         };
-        if into.len() >= READ_AHEAD {
-            return match read_from(&mut open.file, &mut open.place, from, into) {
-                Some(count) => Ok(Some(count)),
-                None => Err(Failed),
-            };
-        }
         if ahead_from(&self.ahead, open.from, open.count, from).len() < into.len() {
             let Some(count) = read_from(&mut open.file, &mut open.place, from, &mut self.ahead)
             else {

@@ -33,22 +33,6 @@ fn has(
     }
 }
 
-// whether a long reading from a place on gives so many bytes, of which these come first
-fn reads_long(
-    alloc: Global,
-    disk: &mut FolderDisk<HostRuntime>,
-    name: &Name,
-    from: u64,
-    count: usize,
-    front: &[u8],
-) -> bool {
-    let Ok(mut piece) = vec![in alloc; 0; 20_000] else {
-        return false;
-    };
-    disk.read_at(name, from, piece.as_mut_slice()) == Ok(Some(count))
-        && piece.as_slice().starts_with(front)
-}
-
 // whether each call on a file that is there does what it is to do
 fn changes(disk: &mut FolderDisk<HostRuntime>, name: &Name) -> bool {
     let exists = disk.create(name) == Ok(Creation::Exists);
@@ -184,10 +168,6 @@ fn readings_ahead(rt: HostRuntime) -> Result<(), Fail> {
     for (name, from, room, wanted) in rows {
         assert!(rt; has(&mut disk, name, from, room, wanted));
     }
-    assert!(rt;
-        reads_long(alloc, &mut disk, &long, 14, 20_000, b"line 00000001\n")
-            & reads_long(alloc, &mut disk, &long, 97_986, 14, b"line 00006999\n")
-    );
     assert!(rt; disk.append(&long, b"more").is_ok() & has(&mut disk, &long, 98_000, 20, b"more"));
     assert!(rt; disk.remove(&long).is_ok() & disk.remove(&other).is_ok());
     Ok(())

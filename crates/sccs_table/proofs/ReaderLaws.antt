@@ -48,7 +48,7 @@ behind_both file place count low =
     ap behind_sum (take-add place count file)
     ∙ (drop_both 8 (take place file) (take count (drop place file)) ∙ ap (λ n. behind_sum (take place file) ++ drop (8 - n) (take count (drop place file))) long)
 
-module _ (old : ReaderState) (name piece : List ℕ) (place limit lines sum more sum2 count room to : ℕ) (is : holding name [] place limit lines sum ≡ old) (within : count ≤ length piece) (room_is : room ≡ min (to - place) 16384) (low : to ≤ limit)
+module _ (old : ReaderState) (name piece : List ℕ) (place limit lines sum more sum2 count room to : ℕ) (is : holding name [] place limit lines sum ≡ old) (within : count ≤ length piece) (room_is : room ≡ min (to - place) 4096) (low : to ≤ limit)
     (added : (front : List ℕ) → IsPlainSumOf sum front → IsPlainSumOf sum2 (front ++ drop (8 - place) (take count piece))) where
   abbrev filled_with : ReaderState
   filled_with = holding name (take (count - 0) piece) place limit more sum2
@@ -82,7 +82,7 @@ module _ (old : ReaderState) (name piece : List ℕ) (place limit lines sum more
   filled (Some file) got = λ stood. stands_filled file got stood
 
 -- an empty reader that read a piece, where the view tells its file
-pub fill_told : (view : Option View) (old : ReaderState) (name held piece : List ℕ) (place limit lines sum more sum2 count room to : ℕ) → holding name held place limit lines sum ≡ old → old.held ≡ [] → count ≤ length piece → room ≡ min (to - place) 16384 → to ≤ old.limit
+pub fill_told : (view : Option View) (old : ReaderState) (name held piece : List ℕ) (place limit lines sum more sum2 count room to : ℕ) → holding name held place limit lines sum ≡ old → old.held ≡ [] → count ≤ length piece → room ≡ min (to - place) 4096 → to ≤ old.limit
     → ((front : List ℕ) → IsPlainSumOf sum front → IsPlainSumOf sum2 (front ++ drop (8 - place) (take count piece)))
     → IfSome (bytes_in view name) (λ file. take count piece ≡ take room (drop place file))
     → IfSome (bytes_in view old.name) (λ file. StandsIn old file → StandsIn (holding name (take (count - 0) piece) place limit more sum2) file × (ltb 0 count ≡ false → min to (length file) ≤ place))

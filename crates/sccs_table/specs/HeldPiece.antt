@@ -10,7 +10,7 @@ reader_state r = record { name = r.name; held = take (r.end - r.start) (drop r.s
 -- The held bytes are within the piece and the limit, which is a byte past the longest file at most; each line that ended took a byte.
 pub record IsKept (r : Inside) : Type 0 where
   pub order : r.start ≤ r.end
-  pub within : r.end ≤ 16384
+  pub within : r.end ≤ 4096
   pub ahead : r.place + (r.end - r.start) ≤ r.limit
   pub limit : r.limit ≤ 1073741825
   pub counted : r.lines + r.start ≤ r.place

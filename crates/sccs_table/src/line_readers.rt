@@ -19,20 +19,17 @@ use std::marker::Model;
 /// The place up to which a file is read at most: one byte more than the longest file has.
 pub const READ_LIMIT: u64 = FILE_LIMIT + 1;
 
-// how many bytes are read at once
-const PIECE: usize = 16_384;
-
 // the bytes of a sum line with its LF
 const SUM_LINE: u64 = 8;
 
-/// Takes the lines of a file in pieces of 16,384 bytes, and adds up all bytes that it reads behind the
+/// Takes the lines of a file in pieces of 4,096 bytes, and adds up all bytes that it reads behind the
 /// sum line. Contracts see the bytes that were read and not given yet, the place of the first of
 /// them, the file's name, the place up to which it is read at most, how many lines ended before the
 /// first place, and the plain sum.
 #[derive(Drop)]
 pub struct LineReader {
     name: Name,
-    piece: [u8; PIECE],
+    piece: [u8; 4096],
     start: usize,
     end: usize,
     place: u64,
@@ -175,7 +172,7 @@ impl LineReader {
     {
         LineReader {
             name: *name,
-            piece: [0; PIECE],
+            piece: [0; 4096],
             start: 0,
             end: 0,
             place,
@@ -236,7 +233,7 @@ impl LineReader {
         self.lines += lines_in(&self.piece[..self.start]);
         self.start = 0;
         self.end = 0;
-        let room = to.saturating_sub(self.place).min(PIECE as u64) as usize;
+        let room = to.saturating_sub(self.place).min(4096) as usize;
         let count = read_piece(disk, &self.name, self.place, room, &mut self.piece)?;
         let before = SUM_LINE.saturating_sub(self.place) as usize;
         self.sum.add(behind(&self.piece[..count], before));
