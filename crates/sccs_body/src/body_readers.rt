@@ -44,6 +44,7 @@ impl Model for BodyReader {
 }
 
 // whether an item may stand here; where it may, the state goes on behind it
+#[inline(always)]
 fn goes_on(state: &mut BodyState, item: &Item) -> Result<bool, Memory>
     ensures { (live : List ℕ) (before : List Item) → Knows live before state.old
         → IfOk result (λ stands. (may_stand live before item.now ≡ stands) × (stands ≡ true → Knows live (item.now ∷ before) state.new)) }

@@ -1,12 +1,12 @@
 -- What the bytes of a file give is a whole file, or a fault that is a refusal.
-use Rattle.std.proofs.Common.{◌≡◌, ℕ, Bool, true, false, List, [], ◌∷◌, length, drop, Option, None, Some, IsSome, Result, Ok, Err, nat_lt, refl, subst, if◌then◌else◌}
+use Rattle.std.proofs.Common.{◌≡◌, ℕ, Bool, true, false, List, [], ◌∷◌, length, Option, None, Some, IsSome, Result, Ok, Err, nat_lt, refl, subst, if◌then◌else◌}
 use Rattle.sccs_base.specs.Cut.{cut}
 use Rattle.sccs_sid.specs.Reading.{◌>>=◌}
 use Rattle.sccs_history.specs.Applied.{live_serials}
 use Rattle.sccs_history.specs.History.{is_encoded}
 use Rattle.sccs_history.specs.declared.headers.Header.{Header}
 use Rattle.sccs_history.specs.declared.headers.Item.{Item}
-use Rattle.sccs_grammar.specs.Front.{ParsedFront, start, front_from}
+use Rattle.sccs_grammar.specs.Front.{start, front_from}
 use Rattle.sccs_grammar.specs.Items.{items_from}
 use Rattle.sccs_grammar.specs.File.{Opened, Parsed, answer, as_format, checked_front, file_of, not_encoded, opened, opened_by, opened_cut, stored, sum_holds, summed, within_limit}
 use Rattle.sccs_grammar.specs.Sums.{plain_sum}

@@ -3,6 +3,7 @@ ghost use Rattle.std.specs.Prelude.{◌≡◌, Ok, Err, [], ◌∷◌, ◌++◌,
 ghost use Rattle.sccs_grammar.specs.Entries.{with_entry as with_entry_spec};
 ghost use Rattle.sccs_grammar.specs.Front.{Accepts, AcceptsAt, AcceptsIn, after, at_delta, at_entry, ends_table, in_description, in_flags, in_lists, in_texts, in_users, list_fits, dangling_predecessor, new_flag, put_list, parser_at, seen_with, with_comment, with_list, with_mr};
 
+use crate::boxed_records::BoxedRecord;
 use crate::header_parsers::{
     Entry, FrontFault, HeaderParser, HeaderState, ListsSeen, PartialHeader,
 };
@@ -10,7 +11,7 @@ use crate::line_tokens::{LineToken, ListKind};
 use crate::table_tests::{all_below, flag_fits, is_new, share};
 use crate::tables::{Table, with_entry};
 use sccs_base::{Line, Text};
-use sccs_history::{Flag, Record, Serials};
+use sccs_history::{Flag, Serials};
 use std::alloc::Global;
 use std::mem::replace;
 
@@ -34,7 +35,7 @@ fn refuse_entry(number: u64, entry: Entry, token: LineToken) -> Result<HeaderSta
 fn with_mr(mut entry: Entry, line: Line) -> Result<Entry, FrontFault>
     ensures { Accepts result (Ok (with_mr entry line)) }
 {
-    match entry.row.mrs.push(line) {
+    match entry.row.push_mr(line) {
         Ok(()) => Ok(entry),
         Err(_) => Err(FrontFault::Memory),
     }
@@ -44,7 +45,7 @@ fn with_mr(mut entry: Entry, line: Line) -> Result<Entry, FrontFault>
 fn with_comment(mut entry: Entry, line: Line) -> Result<Entry, FrontFault>
     ensures { Accepts result (Ok (with_comment entry line)) }
 {
-    match entry.row.comments.push(line) {
+    match entry.row.push_comment(line) {
         Ok(()) => Ok(entry),
         Err(_) => Err(FrontFault::Memory),
     }
@@ -87,7 +88,7 @@ fn in_texts(
 fn list_fits(entry: &Entry, seen: ListsSeen, which: ListKind, serials: &[u16]) -> bool
     ensures { result ≡ list_fits entry.now seen which serials.now }
 {
-    let row = &entry.row;
+    let row = entry.row.as_record();
     let below = all_below(row.serial, serials);
     match which {
         ListKind::Included => !seen.included && below && !share(serials, row.exclude.items()),
@@ -100,9 +101,9 @@ fn put_list(mut entry: Entry, which: ListKind, serials: Serials) -> Entry
     ensures { result ≡ put_list entry which serials }
 {
     match which {
-        ListKind::Included => entry.row.include = serials,
-        ListKind::Excluded => entry.row.exclude = serials,
-        ListKind::Ignored => entry.row.ignore = serials,
+        ListKind::Included => entry.row.include(serials),
+        ListKind::Excluded => entry.row.exclude(serials),
+        ListKind::Ignored => entry.row.ignore(serials),
     }
     entry
 }
@@ -183,20 +184,15 @@ fn begin_entry(
     number: u64,
     parts: &PartialHeader,
     counts: (u32, u32, u32),
-    delta: Record,
+    mut row: BoxedRecord,
 ) -> Result<HeaderState, FrontFault>
-    ensures { AcceptsAt parts.now result (at_delta number parts.now counts.0 counts.1 counts.2 (LineToken.Delta delta)) }
+    ensures { AcceptsAt parts.now result (at_delta number parts.now counts.0 counts.1 counts.2 (LineToken.Delta row)) }
 {
-    if !parts.table.may_follow(&delta) {
+    if !parts.table.may_follow(row.as_record()) {
         return Err(FrontFault::Format(number));
     }
     let (inserted, deleted, unchanged) = counts;
-    let row = Record {
-        inserted,
-        deleted,
-        unchanged,
-        ..delta
-    };
+    row.count(inserted, deleted, unchanged);
     let none_seen = ListsSeen {
         included: false,
         excluded: false,

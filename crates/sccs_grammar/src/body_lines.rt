@@ -91,6 +91,7 @@ fn is_written(n: u32, bytes: &[u8], rest: &[u8]) -> bool
 }
 
 // a serial as it is written, before LF, and how many bytes it has
+#[inline(always)]
 fn written_serial(bytes: &[u8]) -> Option<(u16, usize)>
     ensures sound { IfSome result (λ x. IsWrittenSerial bytes.now x.0 x.1) }
     ensures again { (n : ℕ) (rest : List ℕ) → IsSerial n → bytes.now ≡ decimal n ++ 10 ∷ rest → result ≡ Some (n, length (decimal n)) }

@@ -1,9 +1,10 @@
 ghost use Rattle.std.specs.Prelude.{◌≡◌, [], true, false};
 ghost use Rattle.sccs_grammar.specs.Front.{start};
 
+use crate::boxed_records::BoxedRecord;
 use crate::tables::Table;
 use sccs_base::Text;
-use sccs_history::{Flags, Record};
+use sccs_history::Flags;
 use std::alloc::Global;
 
 /// Why the lines of a header were not read on.
@@ -18,7 +19,7 @@ pub enum FrontFault {
 #[derive(Drop)]
 pub struct Entry {
     pub line: u64,
-    pub row: Record,
+    pub row: BoxedRecord,
 }
 
 /// ListKind lists of an entry seen already.

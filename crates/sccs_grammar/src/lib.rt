@@ -3,6 +3,7 @@
 
 mod accepting;
 mod body_lines;
+mod boxed_records;
 mod faults;
 mod fields;
 mod file_refusals;
@@ -16,6 +17,7 @@ mod tokenizing;
 
 pub use accepting::accept;
 pub use body_lines::{read_item, written_item};
+pub use boxed_records::BoxedRecord;
 pub use faults::FileFault;
 pub use file_refusals::files_are_refused;
 pub use header_parsers::{Entry, FrontFault, HeaderParser, HeaderState, ListsSeen, PartialHeader};

@@ -1,5 +1,6 @@
+use crate::boxed_records::BoxedRecord;
 use sccs_base::Line;
-use sccs_history::{Flag, Record, Serials};
+use sccs_history::{Flag, Serials};
 
 /// ListKind of the lists of an entry.
 #[derive(Clone, Copy, Debug, PartialEq, Eq)]
@@ -15,7 +16,7 @@ pub enum LineToken {
     /// Lines inserted, deleted and unchanged.
     Counts(u32, u32, u32),
     /// A record without lists, MRs, comments and counts.
-    Delta(Record),
+    Delta(BoxedRecord),
     Listed(ListKind, Serials),
     Mr(Line),
     Comment(Line),

@@ -186,13 +186,13 @@ pub fn with_entry(table: Table, entry: Entry) -> Result<Table, FrontFault>
         sids,
     } = table;
     let Entry { line, row } = entry;
-    let Ok(serials) = with_serial(serials, &row) else {
+    let Ok(serials) = with_serial(serials, row.as_record()) else {
         return Err(FrontFault::Memory);
     };
-    let Ok(sids) = with_sid(sids, &row) else {
+    let Ok(sids) = with_sid(sids, row.as_record()) else {
         return Err(FrontFault::Memory);
     };
-    let Ok(()) = records.push(row) else {
+    let Ok(()) = records.push(row.into_record()) else {
         return Err(FrontFault::Memory);
     };
     let Ok(()) = lines.push(line) else {

@@ -6,6 +6,7 @@ ghost use Rattle.sccs_sid.specs.Reading.{only};
 ghost use Rattle.sccs_sid.specs.Words.{begins_blank, drop_blanks, skip_blanks, words};
 ghost use Rattle.sccs_grammar.specs.Tokens.{behind_soh, body_control, control, counts, delta, delta_of, exactly_seven, flag, listed, part_control, token, text};
 
+use crate::boxed_records::BoxedRecord;
 use crate::fields::{
     is_set_off, line_of, listed, predecessor, removed, serial, serial_field, text,
 };
@@ -53,8 +54,8 @@ fn delta_words(bytes: &[u8]) -> Option<DeltaWords<'_>>
 
 // a record without lists, MRs, comments and counts
 #[tactic(auto, unfolding(crate::specs::Tokens::delta_of))]
-fn delta_of(alloc: Global, words: &DeltaWords<'_>) -> Option<LineToken>
-    ensures { result ≡ delta_of words.now.kind.now words.now.sid.now words.now.date.now words.now.time.now
+fn record_of(alloc: Global, words: &DeltaWords<'_>) -> Option<Record>
+    ensures { option_map LineToken.Delta result ≡ delta_of words.now.kind.now words.now.sid.now words.now.date.now words.now.time.now
         words.now.login.now words.now.serial.now words.now.predecessor.now }
 {
     let removed = removed(words.kind)?;
@@ -67,7 +68,7 @@ fn delta_of(alloc: Global, words: &DeltaWords<'_>) -> Option<LineToken>
     let login = Login::read(words.login)?;
     let serial = serial(words.serial)?;
     let predecessor = predecessor(words.predecessor)?;
-    Some(LineToken::Delta(Record {
+    Some(Record {
         serial,
         removed,
         sid,
@@ -82,15 +83,21 @@ fn delta_of(alloc: Global, words: &DeltaWords<'_>) -> Option<LineToken>
         inserted: 0,
         deleted: 0,
         unchanged: 0,
-    }))
+    })
 }
 
 // what a delta line says behind its letter
-fn delta(alloc: Global, bytes: &[u8]) -> Option<LineToken>
-    ensures { result ≡ delta (words bytes.now) }
+fn delta(alloc: Global, bytes: &[u8]) -> Result<Option<LineToken>, Memory>
+    ensures { IfOk result (λ o. o ≡ delta (words bytes.now)) }
 {
-    let words = delta_words(bytes)?;
-    delta_of(alloc, &words)
+    let Some(words) = delta_words(bytes) else {
+        return Ok(None);
+    };
+    let Some(record) = record_of(alloc, &words) else {
+        return Ok(None);
+    };
+    let row = BoxedRecord::new(alloc, record)?;
+    Ok(Some(LineToken::Delta(row)))
 }
 
 // lines inserted, deleted and unchanged
@@ -194,13 +201,13 @@ fn counts_line(bytes: &[u8]) -> Option<LineToken>
 // what a delta line says
 #[inline(never)]
 #[tactic(auto, unfolding(crate::specs::Tokens::control))]
-fn delta_line(alloc: Global, bytes: &[u8]) -> Option<LineToken>
-    ensures { result ≡ control 100 bytes.now }
+fn delta_line(alloc: Global, bytes: &[u8]) -> Result<Option<LineToken>, Memory>
+    ensures { IfOk result (λ o. o ≡ control 100 bytes.now) }
 {
     if begins_blank(bytes) {
         delta(alloc, bytes)
     } else {
-        None
+        Ok(None)
     }
 }
 
@@ -262,7 +269,7 @@ fn control(alloc: Global, letter: u8, bytes: &[u8]) -> Result<Option<LineToken>,
 {
     match letter {
         b's' => Ok(counts_line(bytes)),
-        b'd' => Ok(delta_line(alloc, bytes)),
+        b'd' => delta_line(alloc, bytes),
         b'i' => list(alloc, ListKind::Included, bytes),
         b'x' => list(alloc, ListKind::Excluded, bytes),
         b'g' => list(alloc, ListKind::Ignored, bytes),

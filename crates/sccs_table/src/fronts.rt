@@ -65,11 +65,14 @@ fn with_line(
     requires { HasNoLf line.now }
     ensures { AnswersLine (line_after number parser.old line.now) (read_as parser.new result) }
 {
-    let Some(token) = tokenize_line(alloc, line)? else {
-        return Err(FileFault::BadFormat(number));
-    };
-    accept(alloc, number, parser, token)?;
-    Ok(())
+    match tokenize_line(alloc, line) {
+        Ok(Some(token)) => {
+            accept(alloc, number, parser, token)?;
+            Ok(())
+        }
+        Ok(None) => Err(FileFault::BadFormat(number)),
+        Err(_) => Err(FileFault::Memory),
+    }
 }
 
 // reads on with the next line of that number, which is not held whole

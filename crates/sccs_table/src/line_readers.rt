@@ -392,6 +392,7 @@ impl LineReader {
     }
 
     /// The text lines that are held whole, each with its LF, up to a line that begins with SOH.
+    #[inline(always)]
     pub fn texts(&self) -> &[u8]
         ensures fits { length result.now ≤ length self.now.held }
         ensures front { take (length result.now) self.now.held ≡ result.now }

@@ -1,4 +1,4 @@
-ghost use Rattle.std.specs.Prelude.{◌≡◌, ◌||◌, length, IfOk, OnOk, OnErr};
+ghost use Rattle.std.specs.Prelude.{◌≡◌, ◌||◌, length, IfOk, IfSome, OnOk, OnErr};
 ghost use Rattle.std.specs.List.{find};
 ghost use Rattle.std.specs.List.Sorted.{IsSearchInRange};
 ghost use Rattle.std.specs.Option.{option_copied};
@@ -16,13 +16,42 @@ pub struct Region {
     pub applied: bool,
 }
 
+// the place at the front, where a serial's region stands or would stand there
+fn front_place(regions: &[Region], serial: u16) -> Option<Result<usize, usize>>
+    ensures bound { IfSome result (λ found. IsSearchInRange found (length regions.now)) }
+    ensures place { IfSome result (λ found. found ≡ place serial regions.now) }
+{
+    let Some(first) = regions.first() else {
+        return Some(Err(0));
+    };
+    if first.serial < serial {
+        return Some(Err(0));
+    }
+    if first.serial == serial {
+        return Some(Ok(0));
+    }
+    None
+}
+
 // the place of a serial's region, or the one where it would stand
-fn place_of(regions: &[Region], serial: u16) -> Result<usize, usize>
+fn searched_place(regions: &[Region], serial: u16) -> Result<usize, usize>
     requires { AreSorted regions.now }
     ensures bound { IsSearchInRange result (length regions.now) }
     ensures place { result ≡ place serial regions.now }
 {
     regions.binary_search_by(|r| serial.cmp(&r.serial))
+}
+
+// the same; the region is mostly the first
+fn place_of(regions: &[Region], serial: u16) -> Result<usize, usize>
+    requires { AreSorted regions.now }
+    ensures bound { IsSearchInRange result (length regions.now) }
+    ensures place { result ≡ place serial regions.now }
+{
+    match front_place(regions, serial) {
+        Some(place) => place,
+        None => searched_place(regions, serial),
+    }
 }
 
 // opens a region, in the place of an open one of its serial

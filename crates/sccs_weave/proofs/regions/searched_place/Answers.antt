@@ -2,7 +2,7 @@ use Rattle.std.proofs.Common.{rules}
 use Rattle.std.specs.Ordering.{nat_cmp}
 use Rattle.std.proofs.lemmas.Fn.{always_returns_same}
 use Rattle.sccs_weave.proofs.Places.{searched}
-use Rattle.sccs_weave.proofs.regions.place_of.Goals as goal
+use Rattle.sccs_weave.proofs.regions.searched_place.Goals as goal
 
 pub returns-clause-place : goal.returns-clause-place
 returns-clause-place c =
