@@ -6,7 +6,7 @@ ghost use Rattle.sccs_writers.specs.Puts.{PutsText};
 
 use crate::piece_writers::PieceWriter;
 use itoa::Buffer;
-use sccs_base::{Memory, Name};
+use sccs_base::{Line, Memory, Name};
 use sccs_disk::{Disk, DiskRefusal};
 use sccs_history::Item;
 use sccs_table::Sum;
@@ -73,6 +73,15 @@ impl ItemWriter {
             Item::Delete(serial) => put_control(b"D", *serial, &mut self.out, disk),
             Item::End(serial) => put_control(b"E", *serial, &mut self.out, disk),
         }
+    }
+
+    /// Puts a line of text.
+    pub fn put_line<D: Disk>(&mut self, disk: &mut D, line: &Line) -> Result<(), DiskRefusal>
+        requires { IsThere self.old.name (D.told disk.old) }
+        ensures { PutsText (ended line.now) self.old self.new (D.told disk.old) (D.told disk.new)
+            (D.faults disk.old) (D.faults disk.new) result }
+    {
+        self.out.put_parts(&[line.bytes(), b"\n"], disk)
     }
 
     /// Appends the bytes that are held back.

@@ -1,6 +1,7 @@
 //! The written spelling of s-files, appended to a file in pieces.
 #![tactic(auto)]
 
+mod item_lists;
 mod item_writers;
 mod piece_writers;
 #[cfg(test)]
