@@ -5,8 +5,8 @@ use Rattle.sccs_script.proofs.Entries.{plan_edited}
 use Rattle.sccs_script.proofs.PlanLaws.{range_of}
 use Rattle.sccs_script.proofs.plans.plan.Goals as goal
 
-pub returns : goal.returns
-returns c =
+pub returns-clause-value : goal.returns-clause-value
+returns-clause-value c =
     let same = ap (λ orders. plan_of (edited orders (base_of c.args.lines)) c.args.lines) c.orders.ensures.value in
     subst (λ (q : Plan). IfOk c.plan_of.result (λ p. p ≡ q))
     (ap (λ entries. plan_of entries c.args.lines) c.in_ok-pieces.ensures.edited
