@@ -1,0 +1,2 @@
+pub mod KeywordLaws
+pub mod Letters
