@@ -6,6 +6,8 @@ mod laws;
 mod parts;
 mod plan_places;
 mod splicers;
+#[cfg(test)]
+mod tests;
 
 pub use laws::spliced_bodies;
 pub use splicers::Splicer;
