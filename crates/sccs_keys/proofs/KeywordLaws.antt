@@ -1,11 +1,11 @@
 -- Keywords by their places, and by the parts of a line.
-use Rattle.std.proofs.Common.{◌≡◌, ◌≢◌, ℕ, zero, suc, ◌+◌, ◌-◌, ◌<◌, ◌≤◌, ◌==◌, Bool, true, false, cond, ◌&&◌, List, [], ◌∷◌, ◌++◌, Option, None, Some, length, drop, flat_map, get_or, is_some, MatchOption, refl, sym, ap, subst, ◌∙◌, inl, inr, length-drop, take, arith}
+use Rattle.std.proofs.Common.{◌≡◌, ◌≢◌, ℕ, zero, suc, ◌+◌, ◌-◌, ◌<◌, ◌≤◌, ◌==◌, true, false, cond, ◌&&◌, List, [], ◌∷◌, ◌++◌, Option, None, Some, length, drop, flat_map, get_or, is_some, MatchOption, refl, sym, ap, subst, ◌∙◌, inl, inr, length-drop, append_assoc, take, arith}
 use Rattle.std.specs.List.{list_any}
 use Rattle.std.proofs.Math.Seq.{take-length}
 use Rattle.std.proofs.lemmas.Bool.{cases_lt, ne_eqb, false≢true}
-use Rattle.std.proofs.lemmas.List.{get_or-drop}
-use Rattle.sccs_keys.specs.Expansion.{expanded, part_text}
-use Rattle.sccs_keys.specs.Keywords.{bytes_behind, found, HasNone, is_keyword, Key, keyword_of, part_of, Part, parts, parts_behind, Plain}
+use Rattle.std.proofs.lemmas.List.{drop-drop, get_or-drop}
+use Rattle.sccs_keys.specs.Expansion.{expanded, keyword_text, part_text}
+use Rattle.sccs_keys.specs.Keywords.{bytes_behind, found, HasNone, is_keyword, keyword_of, part_of, Part, parts, parts_behind, Plain}
 use Rattle.sccs_keys.specs.declared.facts.Facts.{Facts}
 use Rattle.sccs_keys.specs.declared.keywords.Keyword.{Keyword}
 
@@ -87,3 +87,70 @@ plain_stays f number (b ∷ line) none = by_found (found (b ∷ line)) none (pla
         → flat_map (part_text f number) (part_of b o ∷ parts_behind (bytes_behind o) line) ≡ b ∷ line
     by_found None none rest = ap (λ l. b ∷ l) (rest none)
     by_found (Some keyword) none rest = absurd (false≢true (sym none))
+
+-- ---- a keyword is replaced
+
+pub found_length : (bytes : List ℕ) (keyword : Keyword) → found bytes ≡ Some keyword → 3 ≤ length bytes
+found_length [] keyword is = absurd (none_is keyword is)
+  where
+    none_is : (keyword : Keyword) → None ≡ Some keyword → ⊥
+    none_is keyword e = cc
+found_length (a ∷ []) keyword is = absurd (none_is keyword is)
+  where
+    none_is : (keyword : Keyword) → None ≡ Some keyword → ⊥
+    none_is keyword e = cc
+found_length (a ∷ b ∷ []) keyword is = absurd (none_is keyword is)
+  where
+    none_is : (keyword : Keyword) → None ≡ Some keyword → ⊥
+    none_is keyword e = cc
+found_length (a ∷ b ∷ c ∷ bytes) keyword is = omega arith
+
+-- of the first keyword and what stands before it and behind it
+pub expanded_at : (f : Facts) (number : ℕ) (line : List ℕ) (n : ℕ) (keyword : Keyword) → HasNone line n → found (drop n line) ≡ Some keyword
+    → expanded f number line ≡ take n line ++ (keyword_text f number keyword ++ expanded f number (drop 3 (drop n line)))
+expanded_at f number [] zero keyword none is = absurd (too_short (found_length [] keyword is))
+  where
+    too_short : 3 ≤ 0 → ⊥
+    too_short le = omega (arith, le)
+expanded_at f number [] (suc n) keyword none is = absurd (too_short (found_length [] keyword is))
+  where
+    too_short : 3 ≤ 0 → ⊥
+    too_short le = omega (arith, le)
+expanded_at f number (a ∷ []) zero keyword none is = absurd (too_short (found_length (a ∷ []) keyword is))
+  where
+    too_short : 3 ≤ 1 → ⊥
+    too_short le = omega (arith, le)
+expanded_at f number (a ∷ b ∷ []) zero keyword none is = absurd (too_short (found_length (a ∷ b ∷ []) keyword is))
+  where
+    too_short : 3 ≤ 2 → ⊥
+    too_short le = omega (arith, le)
+expanded_at f number (a ∷ b ∷ c ∷ line) zero keyword none is =
+    ap (λ o. flat_map (part_text f number) (part_of a o ∷ parts_behind (bytes_behind o) (b ∷ c ∷ line))) is
+expanded_at f number (b ∷ line) (suc n) keyword none is =
+    ap (λ o. flat_map (part_text f number) (part_of b o ∷ parts_behind (bytes_behind o) line)) (none 0 (omega arith))
+    ∙ ap (λ l. b ∷ l) (expanded_at f number line n keyword (λ k below. none (suc k) (omega arith)) is)
+
+pub expanded_none : (f : Facts) (number : ℕ) (line : List ℕ) → HasNone line (length line) → expanded f number line ≡ line
+expanded_none f number line none = plain_stays f number line (none_there line none)
+
+-- a turn: what was given, the bytes before the keyword, its text and the expansion of the rest
+pub turn_text : (f : Facts) (number : ℕ) (line done whole : List ℕ) (from place : ℕ) (keyword : Keyword)
+    → HasNone (take (length line - from) (drop from line)) place → found (drop place (take (length line - from) (drop from line))) ≡ Some keyword → done ++ expanded f number (drop from line) ≡ whole
+    → (done ++ take (from + place - from) (drop from line)) ++ (keyword_text f number keyword ++ expanded f number (drop (from + (place + 3)) line)) ≡ whole
+turn_text f number line done whole from place keyword none is same =
+    let near : from + place - from ≡ place = omega arith in
+    let far : from + place + 3 ≡ from + (place + 3) = omega arith in
+    let rest : expanded f number (drop from line) ≡ take place (drop from line) ++ (keyword_text f number keyword ++ expanded f number (drop 3 (drop place (drop from line)))) =
+    expanded_at f number (drop from line) place keyword (subst (λ l. HasNone l place) (rest_is line from) none) (subst (λ l. found (drop place l) ≡ Some keyword) (rest_is line from) is) in
+    let behind : drop 3 (drop place (drop from line)) ≡ drop (from + (place + 3)) line =
+    ap (λ l. drop 3 l) (drop-drop place from line) ∙ (drop-drop 3 (from + place) line ∙ ap (λ k. drop k line) far) in
+    append_assoc done (take (from + place - from) (drop from line)) (keyword_text f number keyword ++ expanded f number (drop (from + (place + 3)) line))
+    ∙ (ap (λ k. done ++ (take k (drop from line) ++ (keyword_text f number keyword ++ expanded f number (drop (from + (place + 3)) line)))) near
+    ∙ (ap (λ l. done ++ (take place (drop from line) ++ (keyword_text f number keyword ++ expanded f number l))) (sym behind)
+    ∙ (ap (λ l. done ++ l) (sym rest) ∙ same)))
+
+-- the end: no keyword is left
+pub last_text : (f : Facts) (number : ℕ) (line done whole : List ℕ) (from : ℕ) → HasNone (take (length line - from) (drop from line)) (length (take (length line - from) (drop from line)))
+    → done ++ expanded f number (drop from line) ≡ whole → done ++ take (length line - from) (drop from line) ≡ whole
+last_text f number line done whole from none same =
+    ap (λ l. done ++ l) (sym (expanded_none f number (take (length line - from) (drop from line)) none) ∙ ap (expanded f number) (rest_is line from)) ∙ same

@@ -1,5 +1,5 @@
 -- A letter that is none of the keywords'.
-use Rattle.std.proofs.Common.{◌≡◌, ℕ, ◌==◌, Bool, true, false, cond, Option, None, Some, refl, sym, ap, ◌∙◌}
+use Rattle.std.proofs.Common.{◌≡◌, ℕ, ◌==◌, Bool, false, cond, Option, None, Some, refl, sym, ap, ◌∙◌}
 use Rattle.sccs_keys.specs.Keywords.{keyword_of}
 use Rattle.sccs_keys.specs.declared.keywords.Keyword.{Keyword}
 use Rattle.sccs_keys.specs.declared.keywords.Keyword.TheVariants.{Module, Sid, Release, Level, Branch, Sequence, Date, MonthFirstDate, Time, NewestDate, NewestMonthFirstDate, NewestTime, Kind, User, FileName, Path, LineNumber, Mark, What, Assembly}

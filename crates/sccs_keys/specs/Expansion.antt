@@ -1,6 +1,6 @@
 -- What keywords stand for, and the expansion of a line.
 use Rattle.std.specs.Prelude.{ℕ, zero, suc, ◌%◌, List, [], ◌∷◌, ◌++◌, decimal, flat_map}
-use Rattle.sccs_sid.specs.Moment.{Civil, civil_of, date_text, time_text, two}
+use Rattle.sccs_sid.specs.Moment.{Civil, civil_of, date_text, IsMoment, time_text, two}
 use Rattle.sccs_sid.specs.Sid.{sid_text}
 use Rattle.sccs_keys.specs.Keywords.{Key, Part, parts, Plain}
 use Rattle.sccs_keys.specs.declared.facts.Facts.{Facts}
@@ -50,3 +50,8 @@ part_text f number (Key keyword) = keyword_text f number keyword
 -- the line with a number, where its keywords are replaced
 abbrev pub expanded : Facts → ℕ → List ℕ → List ℕ
 expanded f number line = flat_map (part_text f number) (parts line)
+
+-- both moments are such
+pub record HasMoments (f : Facts) : Type 0 where
+  pub moment : IsMoment f.moment
+  pub newest : IsMoment f.newest

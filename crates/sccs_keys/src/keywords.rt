@@ -1,4 +1,4 @@
-ghost use Rattle.std.specs.Prelude.{◌≡◌, ◌<◌, ℕ, None, Some, drop, length, MatchOption};
+ghost use Rattle.std.specs.Prelude.{◌≡◌, ◌+◌, ◌<◌, ◌≤◌, ℕ, None, Some, drop, length, IfSome, MatchOption};
 ghost use Rattle.std.specs.List.{list_any};
 ghost use Rattle.sccs_keys.specs.Keywords.{found, HasNone, is_keyword, keyword_of, parts};
 
@@ -95,10 +95,11 @@ fn keyword_at(bytes: &[u8]) -> Option<Keyword>
     keyword_of(bytes[1])
 }
 
-// the place of the first keyword, and which it is
-fn find_keyword(line: &[u8]) -> Option<(usize, Keyword)>
-    ensures { MatchOption result (HasNone line.now (length line.now))
+/// The place of the first keyword, and which it is.
+pub fn find_keyword(line: &[u8]) -> Option<(usize, Keyword)>
+    ensures first { MatchOption result (HasNone line.now (length line.now))
         (λ r. HasNone line.now r.0 × (found (drop r.0 line.now) ≡ Some r.1)) }
+    ensures fits { IfSome result (λ r. r.0 + 3 ≤ length line.now) }
 {
     let mut from = 0;
     'places: while let Some(at) = memchr(b'%', &line[from..]) {
