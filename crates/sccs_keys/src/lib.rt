@@ -5,6 +5,8 @@ mod expansion;
 mod facts;
 mod keywords;
 mod laws;
+#[cfg(test)]
+mod tests;
 mod values;
 
 pub use expansion::expand;
