@@ -229,6 +229,7 @@ impl Splicer {
     }
 
     /// Pushes the next item of the body; `visible` says of a line of text whether it is one of the base.
+    /// Where it fails the splicer is of no more use.
     pub fn push<D: Disk>(
         &mut self,
         item: &Item,
@@ -257,7 +258,7 @@ impl Splicer {
     }
 
     /// Puts what is owed behind the last item. The plan is that of a script for as many lines as items
-    /// were pushed as visible, else new lines may be left out.
+    /// were pushed as visible, else some of its lines are left out.
     pub fn finish<D: Disk>(&mut self, out: &mut ItemWriter, disk: &mut D) -> Result<(), DiskRefusal>
         requires { IsThere out.old.name (D.told disk.old) }
         ensures puts { PutsText (spelled (owed self.old [])) out.old out.new (D.told disk.old) (D.told disk.new)
