@@ -1,6 +1,7 @@
 pub mod Examples
 pub mod Marks
 pub mod PlacedItems
+pub mod PlanOrder
 pub mod Plants
 pub mod Rules
 pub mod Runs

@@ -1,12 +1,15 @@
 -- The woven lines are the old ones with those of the script's plan.
-use Rattle.std.proofs.Common.{◌≡◌, ℕ, zero, suc, ◌-◌, ◌<◌, ◌≤◌, ◌==◌, ◌⊎◌, Bool, true, false, cond, not, ◌||◌, List, [], ◌∷◌, ◌++◌, length, map, replicate, refl, sym, subst, ap, ◌∙◌, inl, inr, arith, eq-eqb, append_assoc, append-nil}
+use Rattle.std.proofs.Common.{◌≡◌, ℕ, zero, suc, ◌+◌, ◌-◌, ◌<◌, ◌≤◌, ◌==◌, ◌⊎◌, Bool, true, false, cond, not, ◌&&◌, ◌||◌, List, [], ◌∷◌, ◌++◌, length, map, replicate, refl, sym, subst, ap, ◌∙◌, inl, inr, arith, eq-eqb, append_assoc, append-nil, length-append}
+use Rattle.std.proofs.Math.Bool.{and-false}
+use Rattle.std.specs.List.{AllByRecursion, count_by}
+use Rattle.std.proofs.lemmas.List.Sums.{sum_by-cons}
 use Rattle.std.proofs.lemmas.Bool.{ne_eqb, false≢true}
 use Rattle.sccs_history.specs.Numbers.{front_if, has}
 use Rattle.sccs_history.specs.Body.{HistoryLine}
 use Rattle.sccs_history.specs.Select.{select, shows}
 use Rattle.sccs_edits.specs.Scripts.{put_after, run, step, take_away}
-use Rattle.sccs_edits.specs.Weave.{AreBelow, IsBelow, gone, marked, new_line, weave}
-use Rattle.sccs_edits.specs.Plans.{added_after, added_from, added_lines, Base, Cell, cells_of, deleted_from, is_there, New, plan, planted, planted_from, struck, struck_line, with_added}
+use Rattle.sccs_edits.specs.Weave.{AreBelow, deleted, gone, inserted, IsBelow, marked, new_line, unchanged, weave}
+use Rattle.sccs_edits.specs.Plans.{added_after, added_count, added_from, added_lines, Base, Cell, cells_of, deleted_from, is_there, New, plan, planted, planted_from, struck, struck_line, with_added}
 use Rattle.sccs_edits.specs.declared.scripts.Added.{Added}
 use Rattle.sccs_edits.specs.declared.scripts.Order.{Order}
 use Rattle.sccs_edits.specs.declared.scripts.OrderKind.{OrderKind}
@@ -81,6 +84,62 @@ plan_agrees orders count = agrees_from (plan orders count) 0 [] (cells_of orders
 
 plan_front : (orders : List Order) (count : ℕ) → added_after 0 (plan orders count).added ≡ news (cells_of orders count)
 plan_front orders count = added_news 0 [] (cells_of orders count)
+
+-- how many of the cells are new lines
+abbrev fresh_count : List Cell → ℕ
+fresh_count [] = 0
+fresh_count (Base deleted ∷ cells) = fresh_count cells
+fresh_count (New text ∷ cells) = suc (fresh_count cells)
+
+-- how many are deleted
+abbrev struck_count : List Cell → ℕ
+struck_count [] = 0
+struck_count (Base deleted ∷ cells) = cond deleted 1 0 + struck_count cells
+struck_count (New text ∷ cells) = struck_count cells
+
+with_counted : (k : ℕ) (texts : List (List ℕ)) (rest : List Added) → added_count (with_added k texts rest) ≡ length texts + added_count rest
+with_counted k [] rest = omega arith
+with_counted k (text ∷ texts) rest = refl
+
+added_counted : (k : ℕ) (texts : List (List ℕ)) (cells : List Cell) → added_count (added_from k texts cells) ≡ length texts + fresh_count cells
+added_counted k texts [] = with_counted k texts []
+added_counted k texts (Base deleted ∷ cells) =
+    let rest : added_count (added_from (suc k) [] cells) ≡ 0 + fresh_count cells = added_counted (suc k) [] cells in
+    omega (arith, with_counted k texts (added_from (suc k) [] cells), rest)
+added_counted k texts (New text ∷ cells) =
+    let rest : added_count (added_from k (texts ++ text ∷ []) cells) ≡ length (texts ++ text ∷ []) + fresh_count cells = added_counted k (texts ++ text ∷ []) cells in
+    let longer : length (texts ++ text ∷ []) ≡ length texts + 1 = length-append texts (text ∷ []) in
+    omega (arith, rest, longer)
+
+deleted_counted : (k : ℕ) (cells : List Cell) → length (deleted_from k cells) ≡ struck_count cells
+deleted_counted k [] = refl
+deleted_counted k (Base true ∷ cells) = let rest : length (deleted_from (suc k) cells) ≡ struck_count cells = deleted_counted (suc k) cells in omega (arith, rest)
+deleted_counted k (Base false ∷ cells) = let rest : length (deleted_from (suc k) cells) ≡ struck_count cells = deleted_counted (suc k) cells in omega (arith, rest)
+deleted_counted k (New text ∷ cells) = deleted_counted k cells
+
+abbrev one_if : Bool → ℕ
+one_if t = cond t 1 0
+
+count_more : {A : Type 0} (p : A → Bool) (x : A) (xs : List A) → count_by p (x ∷ xs) ≡ one_if (p x) + count_by p xs
+count_more p x xs = sum_by-cons (λ y. cond (p y) 1 0) x xs
+
+counts_not : {A : Type 0} (p : A → Bool) (x : A) (xs : List A) (b : ℕ) → p x ≡ false → count_by p xs ≡ b → count_by p (x ∷ xs) ≡ b
+counts_not p x xs b is same =
+    let none : one_if (p x) ≡ 0 = ap one_if is in omega (arith, count_more p x xs, none, same)
+
+counts_one : {A : Type 0} (p : A → Bool) (x : A) (xs : List A) (b : ℕ) → p x ≡ true → count_by p xs ≡ b → count_by p (x ∷ xs) ≡ suc b
+counts_one p x xs b is same =
+    let one : one_if (p x) ≡ 1 = ap one_if is in omega (arith, count_more p x xs, one, same)
+
+one_more : (k : ℕ) → suc k ≡ 1 + k
+one_more k = omega arith
+
+none_more : (k : ℕ) → k ≡ 0 + k
+none_more k = omega arith
+
+has_below : (n : ℕ) (ns : List ℕ) → AllByRecursion (λ d. d < n) ns → has ns n ≡ false
+has_below n [] below = refl
+has_below n (m ∷ ms) below = ap (λ t. t || has ms n) (ne_eqb m n (λ e. omega (arith, below.0))) ∙ has_below n ms below.1
 
 module _ (n : ℕ) (set : List ℕ) where
   -- an old line that the set doesn't show, one that it shows, deleted or not, or a new line
@@ -284,6 +343,106 @@ module _ (n : ℕ) (set : List ℕ) where
       ∙ (ap (λ l. map (new_line n) (news (flat cell tags)) ++ planted_from (shows (n ∷ set)) (plan orders count) n 0 l) (sym old)
       ∙ (plants (plan orders count) 0 true tags (packed-run orders (tags_of lines below) (packed_tags lines below true)) (subst (λ l. Agrees (plan orders count) 0 l) (sym cells) (plan_agrees orders count))
       ∙ (woven_run orders (tags_of lines below) ∙ ap (λ l. weave set n orders l) (tags_woven lines below))))
+
+  marked_has : (line : HistoryLine) → has (marked n line).deleters n ≡ true
+  marked_has line = ap (λ t. t || has line.deleters n) (eq-eqb n n refl)
+
+  counts_inserted : (tags : List Tag) → AreBelow n (flat before tags) → inserted n (flat woven tags) ≡ fresh_count (flat cell tags)
+  counts_inserted [] below = refl
+  counts_inserted (Unseen line hidden ∷ tags) below =
+      counts_not (λ (l : HistoryLine). l.inserter == n) line (flat woven tags) (fresh_count (flat cell tags)) (ne_eqb line.inserter n (λ e. omega (arith, below.0.inserter))) (counts_inserted tags below.1)
+  counts_inserted (Old line shown other true ∷ tags) below =
+      counts_not (λ (l : HistoryLine). l.inserter == n) (marked n line) (flat woven tags) (fresh_count (flat cell tags)) other (counts_inserted tags below.1)
+  counts_inserted (Old line shown other false ∷ tags) below =
+      counts_not (λ (l : HistoryLine). l.inserter == n) line (flat woven tags) (fresh_count (flat cell tags)) other (counts_inserted tags below.1)
+  counts_inserted (Fresh text ∷ tags) below =
+      counts_one (λ (l : HistoryLine). l.inserter == n) (new_line n text) (flat woven tags) (fresh_count (flat cell tags)) (eq-eqb n n refl) (counts_inserted tags below)
+
+  counts_deleted : (tags : List Tag) → AreBelow n (flat before tags) → deleted n (flat woven tags) ≡ struck_count (flat cell tags)
+  counts_deleted [] below = refl
+  counts_deleted (Unseen line hidden ∷ tags) below =
+      counts_not (λ (l : HistoryLine). has l.deleters n) line (flat woven tags) (struck_count (flat cell tags)) (has_below n line.deleters below.0.deleters) (counts_deleted tags below.1)
+  counts_deleted (Old line shown other true ∷ tags) below =
+      counts_one (λ (l : HistoryLine). has l.deleters n) (marked n line) (flat woven tags) (struck_count (flat cell tags)) (marked_has line) (counts_deleted tags below.1)
+      ∙ one_more (struck_count (flat cell tags))
+  counts_deleted (Old line shown other false ∷ tags) below =
+      counts_not (λ (l : HistoryLine). has l.deleters n) line (flat woven tags) (struck_count (flat cell tags)) (has_below n line.deleters below.0.deleters) (counts_deleted tags below.1)
+      ∙ none_more (struck_count (flat cell tags))
+  counts_deleted (Fresh text ∷ tags) below =
+      counts_not (λ (l : HistoryLine). has l.deleters n) (new_line n text) (flat woven tags) (struck_count (flat cell tags)) refl (counts_deleted tags below)
+
+  -- a line of the base that the serial left alone
+  abbrev is_left : HistoryLine → Bool
+  is_left line = shows set line && not (has line.deleters n)
+
+  hidden_left : (line : HistoryLine) → shows set line ≡ false → is_left line ≡ false
+  hidden_left line hidden = ap (λ t. t && not (has line.deleters n)) hidden
+
+  shown_left : (line : HistoryLine) → shows set line ≡ true → has line.deleters n ≡ false → is_left line ≡ true
+  shown_left line shown kept = ap (λ t. t && not (has line.deleters n)) shown ∙ ap not kept
+
+  marked_left : (line : HistoryLine) → is_left (marked n line) ≡ false
+  marked_left line = ap (λ t. shows set (marked n line) && not t) (marked_has line) ∙ and-false (shows set (marked n line))
+
+  texts_hidden : (line : HistoryLine) (texts : List (List ℕ)) → shows set line ≡ false → length (front_if (shows set line) line.text texts) ≡ length texts
+  texts_hidden line texts hidden = ap (λ t. length (front_if t line.text texts)) hidden
+
+  texts_shown : (line : HistoryLine) (texts : List (List ℕ)) → shows set line ≡ true → length (front_if (shows set line) line.text texts) ≡ suc (length texts)
+  texts_shown line texts shown = ap (λ t. length (front_if t line.text texts)) shown
+
+  counts_unchanged : (tags : List Tag) → has set n ≡ false → AreBelow n (flat before tags) → unchanged set n (flat woven tags) + struck_count (flat cell tags) ≡ length (select set (flat before tags))
+  counts_unchanged [] apart below = refl
+  counts_unchanged (Unseen line hidden ∷ tags) apart below =
+      let unseen : shows set line ≡ false = sym (shows_below n set line below.0) ∙ hidden in
+      let rest : unchanged set n (flat woven tags) + struck_count (flat cell tags) ≡ length (select set (flat before tags)) = counts_unchanged tags apart below.1 in
+      let one : count_by is_left (line ∷ flat woven tags) ≡ unchanged set n (flat woven tags) = counts_not is_left line (flat woven tags) _ (hidden_left line unseen) refl in
+      omega (arith, one, rest, texts_hidden line (select set (flat before tags)) unseen)
+  counts_unchanged (Old line shown other true ∷ tags) apart below =
+      let seen : shows set line ≡ true = sym (shows_below n set line below.0) ∙ shown in
+      let rest : unchanged set n (flat woven tags) + struck_count (flat cell tags) ≡ length (select set (flat before tags)) = counts_unchanged tags apart below.1 in
+      let one : count_by is_left (marked n line ∷ flat woven tags) ≡ unchanged set n (flat woven tags) = counts_not is_left (marked n line) (flat woven tags) _ (marked_left line) refl in
+      omega (arith, one, rest, texts_shown line (select set (flat before tags)) seen)
+  counts_unchanged (Old line shown other false ∷ tags) apart below =
+      let seen : shows set line ≡ true = sym (shows_below n set line below.0) ∙ shown in
+      let rest : unchanged set n (flat woven tags) + struck_count (flat cell tags) ≡ length (select set (flat before tags)) = counts_unchanged tags apart below.1 in
+      let one : count_by is_left (line ∷ flat woven tags) ≡ suc (unchanged set n (flat woven tags)) =
+      counts_one is_left line (flat woven tags) _ (shown_left line seen (has_below n line.deleters below.0.deleters)) refl in
+      omega (arith, one, rest, texts_shown line (select set (flat before tags)) seen)
+  counts_unchanged (Fresh text ∷ tags) apart below =
+      let hidden : shows set (new_line n text) ≡ false = ap (λ t. t && true) apart in
+      let rest : unchanged set n (flat woven tags) + struck_count (flat cell tags) ≡ length (select set (flat before tags)) = counts_unchanged tags apart below in
+      let one : count_by is_left (new_line n text ∷ flat woven tags) ≡ unchanged set n (flat woven tags) = counts_not is_left (new_line n text) (flat woven tags) _ (hidden_left (new_line n text) hidden) refl in
+      omega (arith, one, rest)
+
+  -- How many lines of each kind the woven ones have, by the plan.
+  pub record Counted (orders : List Order) (lines : List HistoryLine) (p : Plan) : Type 0 where
+    pub inserted_is : inserted n (weave set n orders lines) ≡ added_count p.added
+    pub deleted_is : deleted n (weave set n orders lines) ≡ length p.deleted
+    pub unchanged_is : has set n ≡ false → unchanged set n (weave set n orders lines) + length p.deleted ≡ length (select set lines)
+
+  counted_own : (orders : List Order) (lines : List HistoryLine) → AreBelow n lines → Counted orders lines (plan orders (length (select (n ∷ set) lines)))
+  counted_own orders lines below =
+      let count : ℕ = length (select (n ∷ set) lines) in
+      let tags : List Tag = run stands away Fresh orders (tags_of lines below) in
+      let cells : flat cell tags ≡ cells_of orders count = cell_run orders (tags_of lines below) ∙ ap (λ l. run is_there struck New orders l) (tags_cells lines below) in
+      let old : flat before tags ≡ lines = before_run orders (tags_of lines below) ∙ tags_before lines below in
+      let under : AreBelow n (flat before tags) = subst (AreBelow n) (sym old) below in
+      let new : flat woven tags ≡ weave set n orders lines = woven_run orders (tags_of lines below) ∙ ap (λ l. weave set n orders l) (tags_woven lines below) in
+      let struck_is : struck_count (flat cell tags) ≡ length (plan orders count).deleted = ap struck_count cells ∙ sym (deleted_counted 0 (cells_of orders count)) in
+      let counted : added_count (plan orders count).added ≡ 0 + fresh_count (cells_of orders count) = added_counted 0 [] (cells_of orders count) in
+      let plain : fresh_count (cells_of orders count) ≡ added_count (plan orders count).added = omega (arith, counted) in
+      let fresh_is : fresh_count (flat cell tags) ≡ added_count (plan orders count).added = ap fresh_count cells ∙ plain in
+      record {
+        inserted_is = ap (λ l. inserted n l) (sym new) ∙ (counts_inserted tags under ∙ fresh_is);
+        deleted_is = ap (λ l. deleted n l) (sym new) ∙ (counts_deleted tags under ∙ struck_is);
+        unchanged_is = λ apart.
+            ap (λ l. unchanged set n l + length (plan orders count).deleted) (sym new)
+            ∙ (ap (λ k. unchanged set n (flat woven tags) + k) (sym struck_is) ∙ (counts_unchanged tags apart under ∙ ap (λ l. length (select set l)) old));
+      }
+
+-- how many lines of each kind the woven ones have
+pub weave_counted : (n : ℕ) (set : List ℕ) (orders : List Order) (lines : List HistoryLine) → AreBelow n lines → Counted n set orders lines (plan orders (length (select set lines)))
+weave_counted n set orders lines below = subst (λ text. Counted n set orders lines (plan orders (length text))) (select_below n set lines below) (counted_own n set orders lines below)
 
 -- the set without the serial sees the same of the old lines
 planted_alike : (n : ℕ) (set : List ℕ) (p : Plan) (k : ℕ) (lines : List HistoryLine) → AreBelow n lines → planted_from (shows set) p n k lines ≡ planted_from (shows (n ∷ set)) p n k lines

@@ -1,5 +1,5 @@
 -- What a script does to a base by the numbers of its lines, and to the lines of a history by such a plan.
-use Rattle.std.specs.Prelude.{ℕ, suc, ◌==◌, Bool, true, false, not, List, [], ◌∷◌, ◌++◌, map, replicate, if◌then◌else◌}
+use Rattle.std.specs.Prelude.{ℕ, suc, ◌+◌, ◌≤◌, ◌==◌, Bool, true, false, not, List, [], ◌∷◌, ◌++◌, length, map, replicate, if◌then◌else◌}
 use Rattle.sccs_history.specs.Numbers.{front_if, has}
 use Rattle.sccs_history.specs.Body.{HistoryLine}
 use Rattle.sccs_edits.specs.Scripts.{run}
@@ -70,3 +70,22 @@ planted_from seen p n k (line ∷ lines) =
 -- deletes, and new lines of the serial stand directly after their visible line, or before all.
 abbrev pub planted : (HistoryLine → Bool) → Plan → ℕ → List HistoryLine → List HistoryLine
 planted seen p n lines = added_lines p n 0 ++ planted_from seen p n 0 lines
+
+-- numbers that rise, from a bound on
+abbrev pub RisesFrom : ℕ → List ℕ → Type 0
+RisesFrom bound [] = Unit {0}
+RisesFrom bound (n ∷ ns) = (bound ≤ n) × RisesFrom (suc n) ns
+
+-- the base lines that new lines follow
+abbrev pub places_of : List Added → List ℕ
+places_of added = map (λ (a : Added). a.after) added
+
+-- The numbers of a plan rise: those of its deleted lines from 1 on, those of the lines that new ones follow from 0 on.
+pub record IsInOrder (p : Plan) : Type 0 where
+  pub deleted : RisesFrom 1 p.deleted
+  pub added : RisesFrom 0 (places_of p.added)
+
+-- how many lines are added
+abbrev pub added_count : List Added → ℕ
+added_count [] = 0
+added_count (a ∷ rest) = length a.lines + added_count rest

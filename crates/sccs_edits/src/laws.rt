@@ -1,13 +1,13 @@
-ghost use Rattle.std.specs.Prelude.{◌≡◌, ◌<◌, ◌≤◌, ◌-◌, ℕ, false, List, [], ◌∷◌, ◌++◌, length, take, drop};
+ghost use Rattle.std.specs.Prelude.{◌≡◌, ◌+◌, ◌<◌, ◌≤◌, ◌-◌, ℕ, false, List, [], ◌∷◌, ◌++◌, length, take, drop};
 ghost use Rattle.sccs_history.specs.Body.{GoesOn, HistoryLine, above, lines_of};
 ghost use Rattle.sccs_history.specs.Numbers.{has};
 ghost use Rattle.sccs_history.specs.Removal.{dropped};
 ghost use Rattle.sccs_history.specs.Select.{select, shows};
 ghost use Rattle.sccs_history.specs.declared.headers.Item.{Item};
 ghost use Rattle.sccs_edits.specs.Places.{places};
-ghost use Rattle.sccs_edits.specs.Plans.{plan, planted};
+ghost use Rattle.sccs_edits.specs.Plans.{added_count, IsInOrder, plan, planted};
 ghost use Rattle.sccs_edits.specs.Scripts.{apply};
-ghost use Rattle.sccs_edits.specs.Weave.{AreBelow, weave};
+ghost use Rattle.sccs_edits.specs.Weave.{AreBelow, deleted, inserted, unchanged, weave};
 ghost use Rattle.sccs_edits.specs.declared.scripts.Order.{Order};
 ghost use Rattle.sccs_edits.specs.declared.scripts.OrderKind.TheVariants.{Append, Change, Delete};
 
@@ -25,6 +25,21 @@ pub fn woven_versions()
 pub fn woven_by_plan()
     ensures { (set : List ℕ) (n : ℕ) (orders : List Order) (lines : List HistoryLine) → AreBelow n lines
         → weave set n orders lines ≡ planted (shows set) (plan orders (length (select set lines))) n lines }
+{}
+
+/// The numbers of a script's plan rise.
+pub fn plans_in_order()
+    ensures { (orders : List Order) (count : ℕ) → IsInOrder (plan orders count) }
+{}
+
+/// How many lines the new delta inserts, deletes and leaves, by the script's plan.
+pub fn counted_by_plan()
+    ensures inserted { (set : List ℕ) (n : ℕ) (orders : List Order) (lines : List HistoryLine) → AreBelow n lines
+        → inserted n (weave set n orders lines) ≡ added_count (plan orders (length (select set lines))).added }
+    ensures deleted { (set : List ℕ) (n : ℕ) (orders : List Order) (lines : List HistoryLine) → AreBelow n lines
+        → deleted n (weave set n orders lines) ≡ length (plan orders (length (select set lines))).deleted }
+    ensures unchanged { (set : List ℕ) (n : ℕ) (orders : List Order) (lines : List HistoryLine) → AreBelow n lines → has set n ≡ false
+        → unchanged set n (weave set n orders lines) + length (plan orders (length (select set lines))).deleted ≡ length (select set lines) }
 {}
 
 /// The items of a new delta: their lines are the woven ones, its set shows what the script makes of

@@ -1,6 +1,6 @@
 ghost use Rattle.std.specs.Prelude.{◌≡◌, ◌≤◌, ◌++◌, ◌-◌, suc, ℕ, List, Ok, IfOk, OnOk};
 ghost use Rattle.std.specs.List.{AllByRecursion};
-ghost use Rattle.sccs_edits.specs.Plans.{plan};
+ghost use Rattle.sccs_edits.specs.Plans.{IsInOrder, plan};
 ghost use Rattle.sccs_script.specs.Checks.{checked};
 ghost use Rattle.sccs_script.specs.Drafts.{Entry, expand, IsPiece, IsWithin, missing, plan_of, span, unstacked};
 
@@ -71,7 +71,8 @@ fn plan_of(alloc: Global, pieces: Vec<Piece>, lines: u64) -> Result<Plan, Memory
 pub fn plan(alloc: Global, script: &Script, lines: u64) -> Result<Plan, Memory>
     requires fits { checked script.now lines ≡ Ok tt }
     requires few { lines ≤ 1073741824 }
-    ensures { IfOk result (λ p. p ≡ plan script.now lines) }
+    ensures value { IfOk result (λ p. p ≡ plan script.now lines) }
+    ensures order { IfOk result IsInOrder }
 {
     let pieces = edited(alloc, script.orders(), lines)?;
     plan_of(alloc, pieces, lines)

@@ -1,10 +1,10 @@
 -- Calls that write one file, one after the other.
-use Rattle.std.proofs.Common.{◌≡◌, ℕ, ◌⊎◌, Bool, true, false, cond, List, [], ◌∷◌, ◌++◌, length, slice_get, Option, None, Some, option_map, Result, Ok, Err, IfSome, IsSome, OnOk, OnErr, IsErrOf, inl, inr, refl, sym, ap, subst, ◌∙◌, append-nil, append_assoc}
+use Rattle.std.proofs.Common.{◌≡◌, ℕ, ◌⊎◌, cond, List, [], ◌∷◌, ◌++◌, Option, None, Some, option_map, IfSome, IsSome, inl, inr, refl, sym, ap, subst, ◌∙◌, append_assoc}
 use Rattle.std.specs.Str.{bytes_eq}
 use Rattle.sccs_base.proofs.SameBytes.{same_bytes}
-use Rattle.sccs_disk.specs.Files.{Content, File, View, Model, Op, Names, names, after, put, view_of}
-use Rattle.sccs_disk.specs.Told.{Told, Tells, Shows, Nothing, seen}
-use Rattle.sccs_disk.specs.Effects.{Effect, altered, change, changed, firm, loose, syncing, synced, writing}
+use Rattle.sccs_disk.specs.Files.{Content, File, View, Model, Op, Names, names, after}
+use Rattle.sccs_disk.specs.Told.{Told, Tells, seen}
+use Rattle.sccs_disk.specs.Effects.{altered, changed, firm, loose, syncing, synced, writing}
 use Rattle.sccs_disk.specs.Calls.{Done, Half}
 use Rattle.sccs_files.specs.StepFiles.{Alike, Moves}
 use Rattle.sccs_images.specs.Touches.{IsBut, newest, earlier, Each, Grew}

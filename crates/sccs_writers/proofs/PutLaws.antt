@@ -1,7 +1,6 @@
 -- Texts that are put one after the other.
-use Rattle.std.proofs.Common.{◌≡◌, ℕ, ◌+◌, ◌≤◌, ◌⊎◌, List, [], ◌∷◌, ◌++◌, zero, suc, ◌<◌, length, take, flat_map, get_or, Option, None, Some, option_map, Result, Ok, Err, OnOk, IfSome, IsErrOf, IsSome, inl, inr, refl, sym, ap, subst, ◌∙◌, append_assoc, add-one, arith}
+use Rattle.std.proofs.Common.{◌≡◌, ℕ, ◌+◌, ◌≤◌, List, [], ◌++◌, ◌<◌, length, take, flat_map, get_or, Option, None, Some, option_map, Result, Ok, Err, OnOk, IsErrOf, inl, inr, refl, sym, ap, subst, ◌∙◌, append_assoc, add-one, arith}
 use Rattle.std.proofs.lemmas.List.{append-nil}
-use Rattle.std.proofs.Math.Path.{fun_ext}
 use Rattle.sccs_base.specs.Stream.{Rose}
 use Rattle.sccs_base.proofs.Gifts.{part_more}
 use Rattle.sccs_disk.specs.Files.{Content, View, put}
@@ -16,7 +15,7 @@ use Rattle.sccs_disk.proofs.Puts.{put_again, put_back, put_same}
 use Rattle.sccs_writers.specs.OneFile.{OnlyWrites}
 use Rattle.sccs_writers.proofs.OneFile.{only_none, only_both, only_done, only_half, only_same}
 use Rattle.sccs_table.specs.SumOf.{IsSumOf}
-use Rattle.sccs_writers.specs.Puts.{Writer, Appends, Puts, PutsText}
+use Rattle.sccs_writers.specs.Puts.{Writer, Puts, PutsText}
 
 -- ---- views
 

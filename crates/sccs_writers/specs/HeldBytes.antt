@@ -1,5 +1,5 @@
 -- How a writer holds bytes back.
-use Rattle.std.specs.Prelude.{ℕ, ◌≤◌, take}
+use Rattle.std.specs.Prelude.{◌≤◌, take}
 use Rattle.sccs_writers.specs.Puts.{Writer}
 use Rattle.sccs_writers.specs.declared.piece_writers.PieceWriter.TheInside.{Inside}
 

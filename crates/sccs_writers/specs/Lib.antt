@@ -3,3 +3,4 @@ pub mod HeaderBytes
 pub mod HeldBytes
 pub mod OneFile
 pub mod Puts
+pub mod Spelled

@@ -6,7 +6,7 @@ ghost use Rattle.sccs_writers.specs.Puts.{PutsText};
 
 use crate::piece_writers::PieceWriter;
 use itoa::Buffer;
-use sccs_base::{Memory, Name};
+use sccs_base::{Line, Memory, Name};
 use sccs_disk::{Disk, DiskRefusal};
 use sccs_history::Item;
 use sccs_table::Sum;
@@ -75,13 +75,22 @@ impl ItemWriter {
         }
     }
 
-    /// Puts text lines that stand together, each with its LF.
-    pub fn put_lines<D: Disk>(&mut self, disk: &mut D, lines: &[u8]) -> Result<(), DiskRefusal>
+    /// Puts lines of text that stand together, each with its LF.
+    pub fn put_text<D: Disk>(&mut self, disk: &mut D, lines: &[u8]) -> Result<(), DiskRefusal>
         requires { IsThere self.old.name (D.told disk.old) }
         ensures { PutsText lines.now self.old self.new (D.told disk.old) (D.told disk.new)
             (D.faults disk.old) (D.faults disk.new) result }
     {
         self.out.put(lines, disk)
+    }
+
+    /// Puts a line of text.
+    pub fn put_line<D: Disk>(&mut self, disk: &mut D, line: &Line) -> Result<(), DiskRefusal>
+        requires { IsThere self.old.name (D.told disk.old) }
+        ensures { PutsText (ended line.now) self.old self.new (D.told disk.old) (D.told disk.new)
+            (D.faults disk.old) (D.faults disk.new) result }
+    {
+        self.out.put_parts(&[line.bytes(), b"\n"], disk)
     }
 
     /// Appends the bytes that are held back.

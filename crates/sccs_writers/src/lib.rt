@@ -3,6 +3,7 @@
 
 mod digits;
 mod header_writers;
+mod item_lists;
 mod item_writers;
 mod piece_writers;
 #[cfg(test)]

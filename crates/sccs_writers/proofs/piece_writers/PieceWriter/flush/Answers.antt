@@ -1,4 +1,4 @@
-use Rattle.std.proofs.Common.{ℕ, List, [], take, refl, subst}
+use Rattle.std.proofs.Common.{ℕ, [], take, refl, subst}
 use Rattle.sccs_disk.specs.Told.{Told}
 use Rattle.sccs_writers.specs.HeldBytes.{writer_of}
 use Rattle.sccs_writers.specs.Puts.{Writer, PutsText}

@@ -1,0 +1,3 @@
+pub mod GiveLaws
+pub mod KeywordLaws
+pub mod Letters

@@ -1,0 +1,100 @@
+-- What the calls of a splicer do: what they put, and what is still owed for the items to come.
+use Rattle.std.specs.Prelude.{◌≡◌, ℕ, suc, ◌+◌, Bool, true, false, not, ◌&&◌, List, [], ◌∷◌, ◌++◌, Result, OnOk, if◌then◌else◌}
+use Rattle.std.specs.List.{AllByRecursion}
+use Rattle.sccs_base.specs.Cut.{HasNoLf}
+use Rattle.sccs_sid.specs.SidLists.{begins}
+use Rattle.sccs_history.specs.Numbers.{front_if, has, is_empty}
+use Rattle.sccs_history.specs.declared.headers.Item.{Item}
+use Rattle.sccs_history.specs.declared.headers.Item.TheVariants.{Text, Insert, Delete, End}
+use Rattle.sccs_edits.specs.Places.{block, spread, visible_next}
+use Rattle.sccs_edits.specs.Plans.{added_after}
+use Rattle.sccs_edits.specs.declared.scripts.Order.{Order}
+use Rattle.sccs_edits.specs.declared.scripts.Plan.{Plan}
+use Rattle.sccs_disk.specs.Told.{Told}
+use Rattle.sccs_disk.specs.declared.disks.DiskRefusal.{DiskRefusal}
+use Rattle.sccs_writers.specs.Puts.{PutsText, Writer}
+use Rattle.sccs_writers.specs.Spelled.{spelled}
+
+-- A splicer: the new serial and the plan, how many lines of the base were pushed, whether the last one was deleted and
+-- its region is open, whether the new lines behind it are still to be put, and control items that are held back.
+pub record State : Type 0 where
+  pub serial : ℕ
+  pub plan : Plan
+  pub line : ℕ
+  pub opened : Bool
+  pub due : Bool
+  pub held : List Item
+
+-- before all items
+abbrev pub begun : ℕ → Plan → State
+begun serial plan = record { serial = serial; plan = plan; line = 0; opened = false; due = true; held = [] }
+
+-- whether the open region goes on with the next line of the base, where that is the next text item
+abbrev pub may_join : State → Bool
+may_join s = s.opened && (is_empty (added_after s.line s.plan.added) && has s.plan.deleted (suc s.line))
+
+-- whether it goes on, by the items to come
+abbrev pub joined : State → List (Item × Bool) → Bool
+joined s told = s.opened && (is_empty (added_after s.line s.plan.added) && (has s.plan.deleted (suc s.line) && visible_next told))
+
+-- the new lines that are still to be put
+abbrev pub due_lines : State → List Item
+due_lines s = if s.due then block s.serial (added_after s.line s.plan.added) else []
+
+-- what is put before the next text item
+abbrev pub settled_items : State → Bool → List Item
+settled_items s goes = front_if (s.opened && not goes) (End s.serial) (due_lines s ++ s.held)
+
+-- the splicer behind it
+abbrev pub settled : State → State
+settled s = record s { opened = false; due = false; held = [] }
+
+-- behind a control item that is held back
+abbrev pub holding : State → Item → State
+holding s item = record s { held = s.held ++ item ∷ [] }
+
+-- a line of the base, behind `Delete n` where it is deleted and no region goes on
+abbrev pub marked_items : State → Bool → List ℕ → List Item
+marked_items s goes text = front_if (has s.plan.deleted (suc s.line) && not goes) (Delete s.serial) (Text text ∷ [])
+
+-- behind a line of the base
+abbrev pub passed : State → State
+passed s = record s { line = suc s.line; opened = has s.plan.deleted (suc s.line); due = true }
+
+abbrev pub IsControl : Item → Type 0
+IsControl (Text text) = ⊥
+IsControl (Insert m) = Unit {0}
+IsControl (Delete m) = Unit {0}
+IsControl (End m) = Unit {0}
+
+-- All that is still to be put for the items to come.
+abbrev pub owed : State → List (Item × Bool) → List Item
+owed s told =
+    front_if (s.opened && not (joined s told)) (End s.serial) (due_lines s ++ (s.held ++ spread s.plan s.serial (joined s told) s.line told))
+
+-- how many of the items are lines of the base
+abbrev pub base_count : List (Item × Bool) → ℕ
+base_count [] = 0
+base_count ((Text text, true) ∷ told) = suc (base_count told)
+base_count ((Text text, false) ∷ told) = base_count told
+base_count ((Insert m, visible) ∷ told) = base_count told
+base_count ((Delete m, visible) ∷ told) = base_count told
+base_count ((End m, visible) ∷ told) = base_count told
+
+-- The splicer behind items that were pushed: what was put and what is owed now are what was owed.
+pub record Goes (pushed : List (Item × Bool)) (items : List Item) (s s2 : State) : Type 0 where
+  pub owes : (rest : List (Item × Bool)) → items ++ owed s2 rest ≡ owed s (pushed ++ rest)
+  pub line : s2.line ≡ s.line + base_count pushed
+  pub plan : s2.plan ≡ s.plan
+
+-- A call that pushes items, each with whether it is a line of the base: some items are put, and they and what is owed
+-- then are what was owed.
+pub record Splices {T : Type 0} (pushed : List (Item × Bool)) (s s2 : State) (w w2 : Writer) (old new : Told) (faults faults_after : ℕ) (result : Result T DiskRefusal) : Type 0 where
+  pub items : List Item
+  pub puts : PutsText (spelled items) w w2 old new faults faults_after result
+  pub goes : OnOk result (Goes pushed items s s2)
+
+-- the lines of a script's texts have no LF, and none begins with SOH
+abbrev pub HaveLines : List Order → Type 0
+HaveLines orders =
+    AllByRecursion (λ (o : Order). AllByRecursion (λ text. (begins 1 text ≡ false) × HasNoLf text) o.lines) orders

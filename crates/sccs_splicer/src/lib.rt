@@ -1,0 +1,13 @@
+//! The items of a new delta, put among those of a body: a pass over the body with the plan of a
+//! script.
+#![tactic(auto)]
+
+mod laws;
+mod parts;
+mod plan_places;
+mod splicers;
+#[cfg(test)]
+mod tests;
+
+pub use laws::spliced_bodies;
+pub use splicers::Splicer;

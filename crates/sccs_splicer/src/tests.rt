@@ -1,0 +1,149 @@
+ghost use Rattle.std.specs.Prelude.{◌≡◌, IfOk};
+ghost use Rattle.sccs_edits.specs.Plans.{IsInOrder};
+
+use crate::Splicer;
+use sccs_base::{Line, Name};
+use sccs_disk::{Disk, FickleDisk, MemoryDisk};
+use sccs_history::Item;
+use sccs_script::{Plan, check, plan, read_script};
+use sccs_table::Sum;
+use sccs_writers::ItemWriter;
+use std::alloc::Global;
+use std::test::Fail;
+
+// an item of a body: a control item's serial, or a line of one byte, of the base or hidden
+#[derive(Clone, Copy)]
+enum Row {
+    Insert(u16),
+    End(u16),
+    Base(u8),
+    Hidden(u8),
+}
+
+fn item_of(alloc: Global, row: Row) -> Result<Item, Fail> {
+    Ok(match row {
+        Row::Insert(serial) => Item::Insert(serial),
+        Row::End(serial) => Item::End(serial),
+        Row::Base(byte) | Row::Hidden(byte) => Item::Text(Line::new(alloc, &[byte])?),
+    })
+}
+
+// puts a body with what a splicer makes of it
+fn put_all(
+    alloc: Global,
+    rows: &[Row],
+    splicer: &mut Splicer,
+    out: &mut ItemWriter,
+    disk: &mut FickleDisk,
+) -> Result<(), Fail>
+    requires { splicer.old.line ≡ 0 }
+{
+    for row in rows {
+        let item = item_of(alloc, *row)?;
+        let visible = matches!(row, Row::Base(_));
+        splicer.push(&item, visible, out, disk)?;
+    }
+    splicer.finish(out, disk)?;
+    out.flush(disk)?;
+    Ok(())
+}
+
+// whether a splicer puts these bytes and counts so many lines: inserted, deleted, unchanged
+fn splices(
+    alloc: Global,
+    rows: &[Row],
+    serial: u16,
+    plan: Plan,
+    wanted: &[u8],
+    counts: [u64; 3],
+) -> Result<bool, Fail>
+    requires { IsInOrder plan }
+{
+    let mut splicer = Splicer::new(alloc, serial, plan);
+    let name = Name::read(b"x.a").ok_or("a name")?;
+    let mut disk = MemoryDisk::new(alloc, 1000, &[])?;
+    disk.put(&name, b"", true)?;
+    // it tells nothing, and no byte of this file changes
+    let mut disk = FickleDisk::new(disk, Name::read(b"s.a").ok_or("a name")?, 0);
+    let mut out = ItemWriter::new(alloc, &name, Sum::new())?;
+    put_all(alloc, rows, &mut splicer, &mut out, &mut disk)?;
+    let mut bytes = [0; 128];
+    let count = disk.read_at(&name, 0, &mut bytes)?;
+    Ok(
+        (count == Some(wanted.len()))
+            & bytes.starts_with(wanted)
+            & (splicer.inserted() == counts[0])
+            & (splicer.deleted() == counts[1])
+            & (splicer.unchanged() == counts[2]),
+    )
+}
+
+// the plan of a script for three or seven lines
+fn plan_of(alloc: Global, script: &[u8], seven: bool) -> Result<Plan, Fail>
+    ensures { IfOk result IsInOrder }
+{
+    let lines = if seven { 7 } else { 3 };
+    let script = read_script(alloc, script)?;
+    check(&script, lines)?;
+    Ok(plan(alloc, &script, lines)?)
+}
+
+#[test]
+fn marks_and_new_lines_placed(rt: HostRuntime) -> Result<(), Fail> {
+    let alloc = rt.alloc();
+    let seven = [
+        Row::Insert(1),
+        Row::Base(b'1'),
+        Row::Base(b'2'),
+        Row::Base(b'3'),
+        Row::Base(b'4'),
+        Row::Base(b'5'),
+        Row::Insert(2),
+        Row::Hidden(b'h'),
+        Row::End(2),
+        Row::Base(b'6'),
+        Row::Base(b'7'),
+        Row::End(1),
+    ];
+    let three = [
+        Row::Insert(1),
+        Row::Base(b'1'),
+        Row::Base(b'2'),
+        Row::Base(b'3'),
+        Row::End(1),
+    ];
+    let first = splices(
+        alloc,
+        &seven,
+        3,
+        plan_of(alloc, b"5,6c\nX\n.\n3d\n0a\nT\n.\n", true)?,
+        b"\x01I 3\nT\n\x01E 3\n\x01I 1\n1\n2\n\x01D 3\n3\n\x01E 3\n4\n\x01I 3\nX\n\x01E 3\n\x01D 3\n5\n\x01E 3\n\x01I 2\nh\n\x01E 2\n\x01D 3\n6\n\x01E 3\n7\n\x01E 1\n",
+        [2, 3, 4],
+    )?;
+    let second = splices(
+        alloc,
+        &three,
+        2,
+        plan_of(alloc, b"1a\nX\n.\n1d\n1d\n", false)?,
+        b"\x01I 1\n\x01D 2\n1\n\x01E 2\n2\n3\n\x01E 1\n",
+        [0, 1, 2],
+    )?;
+    let third = splices(
+        alloc,
+        &three,
+        2,
+        plan_of(alloc, b"1a\nX\n.\n1d\n2a\nY\n.\n", false)?,
+        b"\x01I 1\n\x01D 2\n1\n\x01E 2\n\x01I 2\nX\n\x01E 2\n2\n\x01I 2\nY\n\x01E 2\n3\n\x01E 1\n",
+        [2, 1, 2],
+    )?;
+    let joined = splices(
+        alloc,
+        &three,
+        2,
+        plan_of(alloc, b"2,3d\n", false)?,
+        b"\x01I 1\n1\n\x01D 2\n2\n3\n\x01E 2\n\x01E 1\n",
+        [0, 2, 1],
+    )?;
+    assert!(rt; first & second & third & joined);
+    Ok(())
+}
