@@ -1,5 +1,5 @@
 -- The numbers of a script's plan rise.
-use Rattle.std.proofs.Common.{ℕ, suc, ◌≤◌, Bool, true, false, List, [], ◌∷◌, ◌++◌, map, arith}
+use Rattle.std.proofs.Common.{ℕ, suc, ◌≤◌, Bool, true, false, List, [], ◌∷◌, ◌++◌, arith}
 use Rattle.sccs_history.specs.Numbers.{front_if}
 use Rattle.sccs_edits.specs.Plans.{added_from, Base, Cell, cells_of, deleted_from, IsInOrder, New, places_of, plan, RisesFrom, with_added}
 use Rattle.sccs_edits.specs.declared.scripts.Added.{Added}
