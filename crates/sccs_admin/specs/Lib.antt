@@ -1,3 +1,4 @@
 pub mod AdminStep
 pub mod NewFiles
 pub mod Texts
+pub mod Writing

@@ -55,5 +55,9 @@ new_header words stamp count = record { records = first_record words stamp count
 abbrev pub new_items : List (List ℕ) → List Item
 new_items lines = Insert 1 ∷ map Text lines ++ End 1 ∷ []
 
+-- an s-file as it is written; it isn't writable
+abbrev pub sealed : Header → List Item → Content
+sealed header items = record { bytes = canonical header items; writable = false }
+
 abbrev pub new_content : AdminWords → Stamp → ℕ → List (List ℕ) → Content
-new_content words stamp count lines = record { bytes = canonical (new_header words stamp count) (new_items lines); writable = false }
+new_content words stamp count lines = sealed (new_header words stamp count) (new_items lines)

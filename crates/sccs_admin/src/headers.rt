@@ -1,7 +1,7 @@
 ghost use Rattle.std.specs.Prelude.{◌≡◌, [], ◌∷◌, IfOk};
 ghost use Rattle.sccs_admin.specs.AdminStep.{AreAdminValues};
 ghost use Rattle.sccs_admin.specs.NewFiles.{comment_lines, first_record, made_by, new_header, some_lines};
-ghost use Rattle.sccs_history.specs.History.{HasSpelling, IsSpelled};
+ghost use Rattle.sccs_history.specs.History.{AreLines, HasSpelling, IsSpelled};
 ghost use Rattle.sccs_sid.specs.Moment.{IsMoment};
 
 use sccs_base::{Bytes, Line, Memory, Text};
@@ -31,7 +31,8 @@ fn made_by(alloc: Global, stamp: &Stamp) -> Result<Line, Memory>
 
 // a copy of lines
 fn copy_lines(alloc: Global, lines: &[Line]) -> Result<Text, Memory>
-    ensures { IfOk result (λ copy. copy ≡ lines.now) }
+    ensures value { IfOk result (λ copy. copy ≡ lines.now) }
+    ensures lines { IfOk result AreLines }
 {
     let mut copy = Text::empty(alloc);
     for line in lines {
@@ -45,7 +46,8 @@ fn copy_lines(alloc: Global, lines: &[Line]) -> Result<Text, Memory>
 
 // the lines of a comment, of which there is one at least
 fn some_lines(alloc: Global, lines: &[Line]) -> Result<Text, Memory>
-    ensures { IfOk result (λ text. text ≡ some_lines lines.now) }
+    ensures value { IfOk result (λ text. text ≡ some_lines lines.now) }
+    ensures lines { IfOk result AreLines }
 {
     let mut copy = copy_lines(alloc, lines)?;
     if lines.is_empty() {
@@ -59,9 +61,11 @@ fn some_lines(alloc: Global, lines: &[Line]) -> Result<Text, Memory>
 
 // a text of one line
 fn one_line(alloc: Global, line: Line) -> Result<Text, Memory>
-    ensures { IfOk result (λ text. text ≡ line ∷ []) }
+    ensures value { IfOk result (λ text. text ≡ line ∷ []) }
+    ensures lines { IfOk result AreLines }
 {
     let mut text = Text::empty(alloc);
+    let _bytes = line.bytes();
     text.push(line)?;
     Ok(text)
 }
@@ -69,7 +73,8 @@ fn one_line(alloc: Global, line: Line) -> Result<Text, Memory>
 // the comment of -y, else who made the file, and when
 fn comment_of(alloc: Global, words: &AdminWords, stamp: &Stamp) -> Result<Text, Memory>
     requires { IsMoment stamp.now.moment }
-    ensures { IfOk result (λ text. text ≡ comment_lines words.now.comment stamp.now) }
+    ensures value { IfOk result (λ text. text ≡ comment_lines words.now.comment stamp.now) }
+    ensures lines { IfOk result AreLines }
 {
     match &words.comment {
         Some(lines) => some_lines(alloc, lines.items()),
@@ -89,6 +94,8 @@ fn first_record(
     ensures spelled { IfOk result HasSpelling }
 {
     let comments = comment_of(alloc, words, stamp)?;
+    let login = stamp.login;
+    let _bytes = login.bytes();
     Ok(Record {
         serial: 1,
         removed: false,
@@ -99,7 +106,7 @@ fn first_record(
             sequence: 0,
         },
         moment: stamp.moment,
-        login: stamp.login,
+        login,
         predecessor: 0,
         include: Serials::empty(alloc),
         exclude: Serials::empty(alloc),

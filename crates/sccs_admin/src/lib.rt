@@ -2,4 +2,5 @@
 #![tactic(auto)]
 
 mod headers;
+mod new_files;
 mod texts;

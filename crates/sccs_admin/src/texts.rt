@@ -1,4 +1,5 @@
-ghost use Rattle.std.specs.Prelude.{◌≡◌, ◌++◌, List, [], ◌∷◌, OnErr, OnOk, MatchResult, Ok, Err, ℕ};
+ghost use Rattle.std.specs.Prelude.{◌≡◌, ◌≤◌, length};
+ghost use Rattle.sccs_base.specs.Constants.{file_limit};
 ghost use Rattle.sccs_base.specs.Cut.{text_of, without_lf};
 ghost use Rattle.sccs_sid.specs.SidLists.{begins};
 ghost use Rattle.sccs_admin.specs.Texts.{count_lines, lacking};
@@ -18,6 +19,7 @@ fn is_control(line: &[u8]) -> bool
 
 /// How many lines a text has; or the number of the first, from 1, that begins with SOH.
 pub fn count_lines(text: &[u8]) -> Result<u64, u64>
+    requires { length text.now ≤ file_limit }
     ensures { result ≡ count_lines (text_of text.now) }
 {
     let mut count: u64 = 0;

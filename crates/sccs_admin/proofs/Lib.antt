@@ -1,0 +1,4 @@
+pub mod BodyLaws
+pub mod HeaderRules
+pub mod TextLaws
+pub mod WritingLaws

@@ -1,0 +1,29 @@
+use Rattle.std.proofs.Common.{◌++◌, append_assoc, subst}
+use Rattle.std.specs.Str.{bytes_eq}
+use Rattle.sccs_base.specs.Name.{sibling}
+use Rattle.sccs_disk.specs.Effects.{empty_file}
+use Rattle.sccs_disk.specs.Told.{seen}
+use Rattle.sccs_grammar.specs.Written.{ended, sum_line}
+use Rattle.sccs_store.proofs.Working.{err_of, moves_then, ok_map}
+use Rattle.sccs_writers.specs.HeaderBytes.{header_bytes}
+use Rattle.sccs_writers.specs.Puts.{Appends}
+use Rattle.sccs_admin.specs.Writing.{body_bytes}
+use Rattle.sccs_admin.proofs.WritingLaws.{file_made, has_digits, made_moves, made_there}
+use Rattle.sccs_admin.proofs.new_files.write_new.Goals as goal
+
+pub append_x-requires-clause-there : goal.append_x-requires-clause-there
+append_x-requires-clause-there g c = made_there (sibling 120 c.args.name.now) empty_file (g.D.Disk.told c.args.disk.now) (g.D.Disk.told c.start.new.disk) c.in_ok-start.ensures.view
+
+pub returns-in_err-sum-clause-view_err : goal.returns-in_err-sum-clause-view_err
+returns-in_err-sum-clause-view_err g c = err_of c.from_residual-in_err-sum.result (moves_then (bytes_eq (sibling 120 c.args.name.now)) _ _ _ (made_moves (sibling 120 c.args.name.now) empty_file _ _ c.in_ok-start.ensures.view) c.append_x.ensures.only.view)
+
+pub finish_x-requires-clause-there : goal.finish_x-requires-clause-there
+finish_x-requires-clause-there g c =
+    has_digits (sibling 120 c.args.name.now) (header_bytes c.args.header.now ++ body_bytes c.args.text.now) (g.D.Disk.told c.args.disk.now) (g.D.Disk.told c.start.new.disk) (g.D.Disk.told c.append_x.new.disk) c.in_ok-start.ensures.view c.in_ok-sum.ensures.appends
+
+pub returns-clause-view : goal.returns-clause-view
+returns-clause-view g c = ok_map c.finish_x.result (file_made (sibling 120 c.args.name.now) c.args.header.now c.args.text.now c.in_ok-sum.sum _ (seen (g.D.Disk.told c.start.new.disk)) (seen (g.D.Disk.told c.append_x.new.disk)) _ c.in_ok-start.ensures.view c.in_ok-sum.ensures.appends c.in_ok-sum.ensures.sum) c.finish_x.ensures.view
+
+pub returns-clause-view_err : goal.returns-clause-view_err
+returns-clause-view_err g c =
+    err_of c.finish_x.result (moves_then (bytes_eq (sibling 120 c.args.name.now)) _ _ _ (moves_then (bytes_eq (sibling 120 c.args.name.now)) _ _ _ (made_moves (sibling 120 c.args.name.now) empty_file _ _ c.in_ok-start.ensures.view) c.append_x.ensures.only.view) c.finish_x.ensures.only.view)

@@ -1,0 +1,133 @@
+ghost use Rattle.std.specs.Prelude.{◌≡◌, [], ◌≤◌, ◌++◌, Some, IfOk, IsErrOf, OnErr, OnOk};
+ghost use Rattle.std.specs.Str.{bytes_eq};
+ghost use Rattle.sccs_base.specs.Cut.{text_of};
+ghost use Rattle.sccs_base.specs.Name.{IsSfile, sibling};
+ghost use Rattle.sccs_base.specs.Stream.{Rose};
+ghost use Rattle.sccs_disk.specs.Calls.{IsThere};
+ghost use Rattle.sccs_disk.specs.Files.{put};
+ghost use Rattle.sccs_disk.specs.Told.{seen};
+ghost use Rattle.sccs_files.specs.StepFiles.{Moves};
+ghost use Rattle.sccs_grammar.specs.Written.{ended, sum_line};
+ghost use Rattle.sccs_history.specs.History.{IsSpelled};
+ghost use Rattle.sccs_store.specs.Commits.{Becomes};
+ghost use Rattle.sccs_table.specs.SumOf.{IsSumOf};
+ghost use Rattle.sccs_writers.specs.HeaderBytes.{header_bytes};
+ghost use Rattle.sccs_writers.specs.OneFile.{OnlyWrites};
+ghost use Rattle.sccs_writers.specs.Puts.{Appends, PutsText};
+ghost use Rattle.sccs_admin.specs.NewFiles.{new_items, sealed};
+ghost use Rattle.sccs_admin.specs.Writing.{AppendsSum, body_bytes};
+
+use crate::texts::lacking;
+use sccs_base::Name;
+use sccs_disk::{Disk, DiskRefusal};
+use sccs_history::{Header, Item};
+use sccs_store::{finish_x, start};
+use sccs_table::Sum;
+use sccs_writers::{ItemWriter, write_header};
+use std::alloc::Global;
+
+// puts the body of a new file: the lines of the text, inserted by the first delta
+fn put_body<D: Disk>(text: &[u8], out: &mut ItemWriter, disk: &mut D) -> Result<(), DiskRefusal>
+    requires { IsThere out.old.name (D.told disk.old) }
+    ensures { PutsText (body_bytes text.now) out.old out.new (D.told disk.old) (D.told disk.new)
+        (D.faults disk.old) (D.faults disk.new) result }
+{
+    out.put(disk, &Item::Insert(1))?;
+    out.put_text(disk, text)?;
+    out.put_text(disk, lacking(text))?;
+    out.put(disk, &Item::End(1))
+}
+
+// puts the body of a new file, and appends what is held back
+fn put_whole<D: Disk>(text: &[u8], out: &mut ItemWriter, disk: &mut D) -> Result<(), DiskRefusal>
+    requires { IsThere out.old.name (D.told disk.old) }
+    ensures puts { PutsText (body_bytes text.now) out.old out.new (D.told disk.old) (D.told disk.new)
+        (D.faults disk.old) (D.faults disk.new) result }
+    ensures empty { OnOk result (out.new.held ≡ []) }
+{
+    put_body(text, out, disk)?;
+    out.flush(disk)
+}
+
+// appends the body of a new file, and answers the sums that go on with it
+fn append_body<D: Disk>(
+    alloc: Global,
+    text: &[u8],
+    name: &Name,
+    sum: Sum,
+    disk: &mut D,
+) -> Result<Sum, DiskRefusal>
+    requires { IsThere name.now (D.told disk.old) }
+    ensures { AppendsSum (body_bytes text.now) name.now sum (D.told disk.old) (D.told disk.new)
+        (D.faults disk.old) (D.faults disk.new) result }
+{
+    let Ok(mut out) = ItemWriter::new(alloc, name, sum) else {
+        return Err(DiskRefusal::Memory);
+    };
+    if let Err(fault) = put_whole(text, &mut out, disk) {
+        return Err(fault);
+    }
+    Ok(out.sum())
+}
+
+// appends header and body of a new file
+fn append_all<D: Disk>(
+    alloc: Global,
+    header: &Header,
+    text: &[u8],
+    name: &Name,
+    disk: &mut D,
+) -> Result<Sum, DiskRefusal>
+    requires spelled { IsSpelled header.now }
+    requires there { IsThere name.now (D.told disk.old) }
+    ensures appends { OnOk result (Appends name.now (ended (sum_line 0) ++ header_bytes header.now ++ body_bytes text.now) (D.told disk.old) (D.told disk.new)) }
+    ensures sum { IfOk result (λ sums. IsSumOf sums (header_bytes header.now ++ body_bytes text.now)) }
+    ensures only { OnlyWrites name.now (D.told disk.old) (D.told disk.new) }
+    ensures later { D.faults disk.old ≤ D.faults disk.new }
+    ensures cause { IsErrOf result DiskRefusal.Failed → Rose (D.faults disk.old) (D.faults disk.new) }
+{
+    let mut sum = Sum::new();
+    write_header(header, disk, name, &mut sum)?;
+    append_body(alloc, text, name, sum, disk)
+}
+
+// appends header and body of a new file to the x-file
+fn append_x<D: Disk>(
+    alloc: Global,
+    header: &Header,
+    text: &[u8],
+    name: &Name,
+    disk: &mut D,
+) -> Result<Sum, DiskRefusal>
+    requires sfile { IsSfile name.now }
+    requires spelled { IsSpelled header.now }
+    requires there { IsThere (sibling 120 name.now) (D.told disk.old) }
+    ensures appends { OnOk result (Appends (sibling 120 name.now) (ended (sum_line 0) ++ header_bytes header.now ++ body_bytes text.now) (D.told disk.old) (D.told disk.new)) }
+    ensures sum { IfOk result (λ sums. IsSumOf sums (header_bytes header.now ++ body_bytes text.now)) }
+    ensures only { OnlyWrites (sibling 120 name.now) (D.told disk.old) (D.told disk.new) }
+    ensures later { D.faults disk.old ≤ D.faults disk.new }
+    ensures cause { IsErrOf result DiskRefusal.Failed → Rose (D.faults disk.old) (D.faults disk.new) }
+{
+    append_all(alloc, header, text, &name.sibling(b'x'), disk)
+}
+
+/// Writes the x-file of a new s-file: the header, and the lines of the text as the first delta's. It is
+/// protected and synced.
+pub fn write_new<D: Disk>(
+    alloc: Global,
+    header: &Header,
+    text: &[u8],
+    name: &Name,
+    disk: &mut D,
+) -> Result<(), DiskRefusal>
+    requires sfile { IsSfile name.now }
+    requires spelled { IsSpelled header.now }
+    ensures view { OnOk result (Becomes (λ v. put v (sibling 120 name.now) (Some (sealed header.now (new_items (text_of text.now))))) (seen (D.told disk.old)) (seen (D.told disk.new))) }
+    ensures view_err { OnErr result (Moves (bytes_eq (sibling 120 name.now)) (λ v. v) (seen (D.told disk.old)) (seen (D.told disk.new))) }
+    ensures later { D.faults disk.old ≤ D.faults disk.new }
+    ensures cause { IsErrOf result DiskRefusal.Failed → Rose (D.faults disk.old) (D.faults disk.new) }
+{
+    start(disk, name, b'x')?;
+    let sum = append_x(alloc, header, text, name, disk)?;
+    finish_x(disk, name, &sum)
+}
