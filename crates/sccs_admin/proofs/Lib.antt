@@ -1,4 +1,6 @@
 pub mod BodyLaws
 pub mod HeaderRules
+pub mod PrepareLaws
+pub mod StepLaws
 pub mod TextLaws
 pub mod WritingLaws

@@ -10,7 +10,7 @@ use Rattle.sccs_disk.specs.Calls.{HasBytes, HasRange, IsThere}
 use Rattle.sccs_files.specs.StepFiles.{Moves}
 use Rattle.sccs_disk.specs.Files.{Content, View, put}
 use Rattle.sccs_disk.specs.Told.{Told, seen}
-use Rattle.sccs_disk.proofs.Puts.{put_again, put_other, put_same}
+use Rattle.sccs_disk.proofs.Puts.{put_again, put_same}
 use Rattle.sccs_disk.specs.declared.disks.DiskRefusal.{DiskRefusal}
 use Rattle.sccs_disk.specs.declared.disks.DiskRefusal.TheVariants as fault
 use Rattle.sccs_grammar.specs.Sums.{plain_sum}
@@ -18,7 +18,7 @@ use Rattle.sccs_grammar.specs.Written.{bytes_behind, bytes_of, canonical, ended,
 use Rattle.sccs_history.specs.declared.headers.Header.{Header}
 use Rattle.sccs_history.specs.declared.headers.Item.{Item}
 use Rattle.sccs_store.specs.Commits.{Becomes, summed}
-use Rattle.sccs_store.proofs.Working.{becomes_as, becomes_both, becomes_moves}
+use Rattle.sccs_store.proofs.Working.{becomes_as, becomes_both}
 use Rattle.sccs_table.specs.SumOf.{IsSumOf}
 use Rattle.sccs_writers.specs.HeaderBytes.{WritesHeader, header_bytes}
 use Rattle.sccs_writers.specs.OneFile.{OnlyWrites}
@@ -123,16 +123,6 @@ file_made n h text sums a b c d start append sum finish =
     (becomes_both (λ v. put v n (Some empty_file)) (altered n (appended (ended (sum_line 0) ++ header_bytes h ++ body_bytes text))) a b c start append) finish)
 
 -- ---- the file while it is written
-
-pub made_there : (n : List ℕ) (x : Content) (a b : Told) → Becomes (λ v. put v n (Some x)) (seen a) (seen b) → IsThere n b
-made_there n x a b is = there (seen a) (seen b) is
-  where
-    there : (o o2 : Option View) → Becomes (λ v. put v n (Some x)) o o2 → IfSome o2 (λ (v : View). IsSome (v n))
-    there None o2 is = subst (λ (o : Option View). IfSome o (λ (v : View). IsSome (v n))) (sym is) tt
-    there (Some v) o2 is = subst (λ (o : Option View). IfSome o (λ (u : View). IsSome (u n))) (sym is) (subst IsSome (sym (put_same v n (Some x))) refl)
-
-pub made_moves : (n : List ℕ) (x : Content) (o o2 : Option View) → Becomes (λ v. put v n (Some x)) o o2 → Moves (bytes_eq n) (λ v. v) o o2
-made_moves n x o o2 is = becomes_moves (bytes_eq n) (λ v. put v n (Some x)) o o2 (λ v k h. put_other v n k (Some x) h) is
 
 -- a file that begins with a sum line has its digits
 pub has_digits : (n more : List ℕ) (a b c : Told) → Becomes (λ v. put v n (Some empty_file)) (seen a) (seen b) → Appends n (ended (sum_line 0) ++ more) b c → HasRange n 2 5 c

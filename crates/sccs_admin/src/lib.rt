@@ -1,6 +1,9 @@
 //! admin: new s-files. POSIX, Shell and Utilities, admin.
 #![tactic(auto)]
 
+mod admins;
 mod headers;
 mod new_files;
 mod texts;
+
+pub use admins::Admin;

@@ -97,6 +97,18 @@ pub made_again : (n : List ℕ) (o o2 o3 : Option View) → Becomes (without n) 
 made_again n o o2 o3 first second =
     becomes_as (λ v. put (without n v) n (Some empty_file)) (λ v. put v n (Some empty_file)) o o3 (λ v. put_again v n None (Some empty_file)) (becomes_both (without n) (λ v. put v n (Some empty_file)) o o2 o3 first second)
 
+-- ---- a file that is made
+
+pub made_there : (n : List ℕ) (x : Content) (a b : Told) → Becomes (λ v. put v n (Some x)) (seen a) (seen b) → IsThere n b
+made_there n x a b is = there (seen a) (seen b) is
+  where
+    there : (o o2 : Option View) → Becomes (λ v. put v n (Some x)) o o2 → IfSome o2 (λ (v : View). IsSome (v n))
+    there None o2 is = subst (λ (o : Option View). IfSome o (λ (v : View). IsSome (v n))) (sym is) tt
+    there (Some v) o2 is = subst (λ (o : Option View). IfSome o (λ (u : View). IsSome (u n))) (sym is) (subst IsSome (sym (put_same v n (Some x))) refl)
+
+pub made_moves : (n : List ℕ) (x : Content) (o o2 : Option View) → Becomes (λ v. put v n (Some x)) o o2 → Moves (bytes_eq n) (λ v. v) o o2
+made_moves n x o o2 is = becomes_moves (bytes_eq n) (λ v. put v n (Some x)) o o2 (λ v k h. put_other v n k (Some x) h) is
+
 -- ---- a file that is changed twice
 
 two_changes : (f g : Content → Content) (o : Option Content) → option_map g (option_map f o) ≡ option_map (λ c. g (f c)) o

@@ -1,3 +1,4 @@
 pub mod ChangeCauses
 pub mod ChangeEnds
 pub mod ReportLaws
+pub mod Utilities

@@ -4,11 +4,11 @@ use Rattle.sccs_base.specs.Name.{sibling}
 use Rattle.sccs_disk.specs.Effects.{empty_file}
 use Rattle.sccs_disk.specs.Told.{seen}
 use Rattle.sccs_grammar.specs.Written.{ended, sum_line}
-use Rattle.sccs_store.proofs.Working.{err_of, moves_then, ok_map}
+use Rattle.sccs_store.proofs.Working.{err_of, made_moves, made_there, moves_then, ok_map}
 use Rattle.sccs_writers.specs.HeaderBytes.{header_bytes}
 use Rattle.sccs_writers.specs.Puts.{Appends}
 use Rattle.sccs_admin.specs.Writing.{body_bytes}
-use Rattle.sccs_admin.proofs.WritingLaws.{file_made, has_digits, made_moves, made_there}
+use Rattle.sccs_admin.proofs.WritingLaws.{file_made, has_digits}
 use Rattle.sccs_admin.proofs.new_files.write_new.Goals as goal
 
 pub append_x-requires-clause-there : goal.append_x-requires-clause-there

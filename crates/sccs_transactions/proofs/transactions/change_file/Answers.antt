@@ -1,5 +1,8 @@
 use Rattle.std.proofs.Common.{Err, ap, ◌∙◌}
+use Rattle.sccs_base.specs.Name.{sibling}
+use Rattle.sccs_disk.specs.Effects.{empty_file}
 use Rattle.sccs_disk.specs.Told.{seen}
+use Rattle.sccs_store.proofs.Working.{made_there}
 use Rattle.sccs_sid.specs.declared.refusals.StepFault.TheVariants as step
 use Rattle.sccs_steps.specs.Calls.{world}
 use Rattle.sccs_transactions.proofs.ChangeCauses.{fault_speaks, finished_causes, given_up_causes, given_up_ignores, given_up_speaks}
@@ -37,3 +40,6 @@ returns-in-Err-clause-ignores g c = λ takes.
 pub returns-in-Err-clause-causes : goal.returns-in-Err-clause-causes
 returns-in-Err-clause-causes g c =
     given_up_causes c.in-Err.fault c.prepare.result c.give_up.result c.args.name.now (world (seen (g.D.Disk.told c.prepare.new.disk)) (g.O.Sink.given c.prepare.new.out) (g.E.Sink.given c.args.err.now)) (world (seen (g.D.Disk.told c.give_up.new.disk)) (g.O.Sink.given c.prepare.new.out) (g.E.Sink.given c.args.err.now)) _ _ _ _ _ _ _ _ _ c.in-Err.is (c.give_up.ensures.gives_up (g.O.Sink.given c.prepare.new.out) (g.E.Sink.given c.args.err.now)) c.lock.ensures.later c.prepare.ensures.causes c.give_up.ensures.later c.give_up.ensures.cause
+
+pub prepare-requires-clause-locked : goal.prepare-requires-clause-locked
+prepare-requires-clause-locked g c = made_there (sibling 122 c.args.name.now) empty_file (g.D.Disk.told c.args.disk.now) (g.D.Disk.told c.lock.new.disk) c.in-Ok.ensures.view

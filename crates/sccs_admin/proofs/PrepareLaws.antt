@@ -1,0 +1,165 @@
+-- What admin prepares, from its two parts.
+use Rattle.std.proofs.Common.{◌≡◌, ℕ, Bool, true, false, cond, List, [], map, drop, length, Option, None, Some, IfOk, IfSome, IsSome, Result, Ok, Err, refl, sym, ap, subst, ◌∙◌}
+use Rattle.std.specs.Str.{bytes_eq}
+use Rattle.sccs_base.specs.Cut.{text_of}
+use Rattle.sccs_base.specs.Name.{IsSfile, sibling}
+use Rattle.sccs_base.specs.Stream.{GivesOk, GivesSome}
+use Rattle.sccs_base.proofs.Gifts.{gives_none, some_none}
+use Rattle.sccs_disk.specs.Calls.{IsThere}
+use Rattle.sccs_disk.specs.Files.{Content, View, put}
+use Rattle.sccs_disk.specs.Told.{Told, seen}
+use Rattle.sccs_disk.proofs.Puts.{put_other, put_same}
+use Rattle.sccs_files.specs.StepFiles.{Files, Moves, is_working, look}
+use Rattle.sccs_sid.specs.declared.moments.Stamp.{Stamp}
+use Rattle.sccs_sid.specs.declared.refusals.Refusal.{Refusal}
+use Rattle.sccs_sid.specs.declared.refusals.StepFault.{StepFault}
+use Rattle.sccs_sid.specs.declared.refusals.StepFault.TheVariants.{Refused, Memory, ReadFault, WriteFault, DiskFault}
+use Rattle.sccs_sid.specs.Reading.{◌>>=◌}
+use Rattle.sccs_steps.specs.Actions.{IsHeard, RefusesWithin, quiet_checks}
+use Rattle.sccs_steps.specs.Calls.{World, world}
+use Rattle.sccs_steps.specs.StepEffects.{Outcome, StepEffect, effect_of}
+use Rattle.sccs_store.specs.Commits.{Becomes, Needs, Plan, chosen, files_after, replaced}
+use Rattle.sccs_store.specs.declared.new_files.NewFile.{NewFile}
+use Rattle.sccs_store.specs.declared.new_files.NewFile.TheVariants.{Keep, Replace, Remove}
+use Rattle.sccs_store.proofs.FileNames.{from_g, from_s, no_x}
+use Rattle.sccs_store.proofs.Working.{made_moves, made_there, moves_wider}
+use Rattle.sccs_transactions.specs.Changes.{CouldPrepare, IsPrepared, IsQuiet, IsReady, IsUnmade, Prepares, PreparesChange, plan_of, unlocked}
+use Rattle.sccs_transactions.specs.declared.prepared.Prepared.{Prepared}
+use Rattle.sccs_words.specs.declared.commands.AdminWords.{AdminWords}
+use Rattle.sccs_admin.specs.AdminStep.{AnswersText, FindsText, IsNew, WritesText, admin_change, admin_checks, admin_outcome, found_text, makes}
+use Rattle.sccs_admin.specs.NewFiles.{new_content}
+use Rattle.sccs_admin.specs.Texts.{count_lines, named_by, or_bad_text}
+
+-- the s-file as it was before the lock
+s_unlocked : (n : List ℕ) (v : View) → IsSfile n → unlocked n v n ≡ v n
+s_unlocked n v sfile = put_other v (sibling 122 n) n None (from_s_z n sfile)
+  where
+    from_s_z : (n : List ℕ) → IsSfile n → bytes_eq (sibling 122 n) n ≡ false
+    from_s_z n sfile = from_s 122 n sfile refl
+
+-- the step, from the text that was found
+abbrev from_text : AdminWords → Stamp → Files → List ℕ → Outcome
+from_text words stamp f text = or_bad_text (count_lines (text_of text)) >>= λ count. makes (new_content words stamp count (text_of text)) f
+
+found_outcome : (words : AdminWords) (stamp : Stamp) (n i : List ℕ) (named : List (Option Content)) (f : Files) (text : List ℕ) → found_text words.text i named f.s ≡ Ok text → admin_outcome words stamp n i named f ≡ from_text words stamp f text
+unfolding admin_outcome
+found_outcome words stamp n i named f text is = rw is refl
+
+refused_outcome : (words : AdminWords) (stamp : Stamp) (n i : List ℕ) (named : List (Option Content)) (f : Files) (refusal : Refusal) → found_text words.text i named f.s ≡ Err refusal → admin_outcome words stamp n i named f ≡ Err refusal
+unfolding admin_outcome
+refused_outcome words stamp n i named f refusal is = rw is refl
+
+unnamed_seen : (words : AdminWords) (w : View) → named_by words.text ≡ [] → map w (named_by words.text) ≡ []
+unnamed_seen words w is = ap (map w) is
+
+-- what was found, as the step sees it
+as_seen : (words : AdminWords) (i n : List ℕ) (v : View) (r : Result (List ℕ) Refusal) → IsSfile n → named_by words.text ≡ [] → found_text words.text i [] (v n) ≡ r → found_text words.text i (map (unlocked n v) (named_by words.text)) (look (unlocked n v) n).s ≡ r
+as_seen words i n v r sfile unnamed is =
+    ap (λ named. found_text words.text i named (unlocked n v n)) (unnamed_seen words (unlocked n v) unnamed)
+    ∙ (ap (λ (o : Option Content). found_text words.text i [] o) (s_unlocked n v sfile) ∙ is)
+
+unmade : (n text : List ℕ) (v : View) (o2 : Option View) (out err : Option (List ℕ)) → Moves (bytes_eq (sibling 120 n)) (λ u. u) (Some v) o2 → IsUnmade n text (world (Some v) out err) (world o2 out err)
+unmade n text v o2 out err moves = record { view = moves_wider (bytes_eq (sibling 120 n)) (is_working n) (Some v) o2 (no_x n) moves; out = some_none out text }
+
+-- no text was found
+not_found : (words : AdminWords) (stamp : Stamp) (fault : StepFault) (n i : List ℕ) (v : View) (out err : Option (List ℕ)) → IsSfile n → named_by words.text ≡ [] → AnswersText (found_text words.text i [] (v n)) (Err fault)
+    → Prepares (Err fault) n (admin_outcome words stamp n i (map (unlocked n v) (named_by words.text)) (look (unlocked n v) n)) (world (Some v) out err) (world (Some v) out err)
+not_found words stamp (Refused refusal) n i v out err sfile unnamed answers =
+    (refused_outcome words stamp n i _ (look (unlocked n v) n) refusal (as_seen words i n v (Err refusal) sfile unnamed answers), unmade n [] v (Some v) out err (λ k h. refl))
+not_found words stamp Memory n i v out err sfile unnamed answers = unmade n _ v (Some v) out err (λ k h. refl)
+not_found words stamp ReadFault n i v out err sfile unnamed answers = unmade n _ v (Some v) out err (λ k h. refl)
+not_found words stamp WriteFault n i v out err sfile unnamed answers = unmade n _ v (Some v) out err (λ k h. refl)
+not_found words stamp DiskFault n i v out err sfile unnamed answers = unmade n _ v (Some v) out err (λ k h. refl)
+
+pub find_fails : (words : AdminWords) (stamp : Stamp) (fault : StepFault) (n : List ℕ) (left : Option (List ℕ)) (o o2 : Option View) (out err : Option (List ℕ)) → IsSfile n → named_by words.text ≡ [] → o2 ≡ o → FindsText words.text (Err fault) n left o
+    → PreparesChange (admin_change words stamp) (Err fault) n left (world o out err) (world o2 out err)
+find_fails words stamp fault n left None o2 out err sfile unnamed same finds = tt
+find_fails words stamp fault n left (Some v) o2 out err sfile unnamed same finds = λ i heard.
+    subst (λ (w : Option View). Prepares (Err fault) n (admin_outcome words stamp n i (map (unlocked n v) (named_by words.text)) (look (unlocked n v) n)) (world (Some v) out err) (world w out err)) (sym same)
+    (not_found words stamp fault n i v out err sfile unnamed (finds i heard))
+
+-- ---- the x-file is written
+
+abbrev files_of : Option Content → Option Content → Option Content → Option Files
+files_of s p g = Some (record { s = s; p = p; z = None; g = g })
+
+new_files : (n : List ℕ) (c : Content) (v : View) (p : Prepared) → IsSfile n → IsNew p
+    → files_of (Some c) (unlocked n v (sibling 112 n)) (unlocked n v (drop 2 n)) ≡ Some (files_after n (plan_of p) (put v (sibling 120 n) (Some c)))
+new_files n c v p sfile new =
+    ap (λ (o : Option Content). files_of (Some c) o (unlocked n v (drop 2 n))) (put_other v (sibling 122 n) (sibling 112 n) None refl ∙ sym (put_other v (sibling 120 n) (sibling 112 n) (Some c) refl))
+    ∙ (ap (λ (o : Option Content). files_of (Some c) (u (sibling 112 n)) o) (put_other v (sibling 122 n) (drop 2 n) None (from_g 122 n sfile) ∙ sym (put_other v (sibling 120 n) (drop 2 n) (Some c) (from_g 120 n sfile)))
+    ∙ (ap (λ (o : Option Content). files_of o (u (sibling 112 n)) (u (drop 2 n))) (sym (put_same v (sibling 120 n) (Some c)) ∙ ap (λ b. chosen (replaced b) (u (sibling 120 n)) (u n)) (sym new.s))
+    ∙ (ap (λ (f : NewFile). files_of (chosen (replaced p.new_s) (u (sibling 120 n)) (u n)) (chosen f (u (sibling 113 n)) (u (sibling 112 n))) (u (drop 2 n))) (sym new.p_file)
+    ∙ ap (λ (f : NewFile). files_of (chosen (replaced p.new_s) (u (sibling 120 n)) (u n)) (chosen p.new_p (u (sibling 113 n)) (u (sibling 112 n))) (chosen f (u (sibling 121 n)) (u (drop 2 n)))) (sym new.g))))
+  where
+    u : View
+    u = put v (sibling 120 n) (Some c)
+
+made_outcome : (words : AdminWords) (stamp : Stamp) (f : Files) (text : List ℕ) (count : ℕ) → count_lines (text_of text) ≡ Ok count → from_text words stamp f text ≡ makes (new_content words stamp count (text_of text)) f
+made_outcome words stamp f text count is = ap (λ (r : Result ℕ ℕ). or_bad_text r >>= λ count. makes (new_content words stamp count (text_of text)) f) is
+
+bad_outcome : (words : AdminWords) (stamp : Stamp) (f : Files) (text : List ℕ) (refusal : Refusal) → or_bad_text (count_lines (text_of text)) ≡ Err refusal → from_text words stamp f text ≡ Err refusal
+bad_outcome words stamp f text refusal is = ap (λ (r : Result ℕ Refusal). r >>= λ count. makes (new_content words stamp count (text_of text)) f) is
+
+text_prepared : (words : AdminWords) (stamp : Stamp) (r : Result Prepared StepFault) (text n i : List ℕ) (v : View) (o2 : Option View) (out err : Option (List ℕ)) → IsSfile n → named_by words.text ≡ [] → found_text words.text i [] (v n) ≡ Ok text → WritesText r words stamp text n (Some v) o2
+    → Prepares r n (admin_outcome words stamp n i (map (unlocked n v) (named_by words.text)) (look (unlocked n v) n)) (world (Some v) out err) (world o2 out err)
+text_prepared words stamp (Ok p) text n i v o2 out err sfile unnamed found writes =
+    let f : Files = look (unlocked n v) n in
+    let c : Content = new_content words stamp writes.1.0 (text_of text) in
+    record {
+      effect = record { new = files_of (Some c) f.p f.g; text = []; out = []; err = []; status = 0 };
+      is = found_outcome words stamp n i _ f text (as_seen words i n v (Ok text) sfile unnamed found) ∙ made_outcome words stamp f text writes.1.0 writes.1.1;
+      status = refl;
+      report = sym writes.0.report;
+      message = sym writes.0.message;
+      view = moves_wider (bytes_eq (sibling 120 n)) (is_working n) (Some v) o2 (no_x n) (made_moves (sibling 120 n) c (Some v) o2 writes.1.2);
+      files = subst (λ (o : Option View). IfSome o (λ u. files_of (Some c) f.p f.g ≡ Some (files_after n (plan_of p) u))) (sym writes.1.2) (new_files n c v p sfile writes.0);
+      out = gives_none out;
+    }
+text_prepared words stamp (Err (Refused refusal)) text n i v o2 out err sfile unnamed found writes = (
+  found_outcome words stamp n i _ (look (unlocked n v) n) text (as_seen words i n v (Ok text) sfile unnamed found) ∙ bad_outcome words stamp (look (unlocked n v) n) text refusal writes.0,
+  unmade n [] v o2 out err (subst (λ (o : Option View). Moves (bytes_eq (sibling 120 n)) (λ u. u) (Some v) o) (sym writes.1) (λ k h. refl)),
+)
+text_prepared words stamp (Err Memory) text n i v o2 out err sfile unnamed found writes = unmade n _ v o2 out err writes
+text_prepared words stamp (Err ReadFault) text n i v o2 out err sfile unnamed found writes = unmade n _ v o2 out err writes
+text_prepared words stamp (Err WriteFault) text n i v o2 out err sfile unnamed found writes = unmade n _ v o2 out err writes
+text_prepared words stamp (Err DiskFault) text n i v o2 out err sfile unnamed found writes = unmade n _ v o2 out err writes
+
+pub found_prepares : (words : AdminWords) (stamp : Stamp) (r : Result Prepared StepFault) (text n : List ℕ) (left : Option (List ℕ)) (o o1 o2 : Option View) (out err : Option (List ℕ)) → IsSfile n → named_by words.text ≡ [] → o1 ≡ o → FindsText words.text (Ok text) n left o → WritesText r words stamp text n o1 o2
+    → PreparesChange (admin_change words stamp) r n left (world o out err) (world o2 out err)
+found_prepares words stamp r text n left None o1 o2 out err sfile unnamed same finds writes = tt
+found_prepares words stamp r text n left (Some v) o1 o2 out err sfile unnamed same finds writes = λ i heard.
+    text_prepared words stamp r text n i v o2 out err sfile unnamed (finds i heard) (subst (λ (w : Option View). WritesText r words stamp text n w o2) same writes)
+
+-- ---- what a commit needs, and what may come
+
+there_after : (n : List ℕ) (k : List ℕ) (x : Content) (a b : Option View) → bytes_eq n k ≡ false → Becomes (λ v. put v n (Some x)) a b → IfSome a (λ (v : View). IsSome (v k)) → IfSome b (λ (v : View). IsSome (v k))
+there_after n k x None b other is there = subst (λ (o : Option View). IfSome o (λ (v : View). IsSome (v k))) (sym is) tt
+there_after n k x (Some v) b other is there = subst (λ (o : Option View). IfSome o (λ (u : View). IsSome (u k))) (sym is) (subst IsSome (sym (put_other v n k (Some x) other)) there)
+
+pub text_ready : (words : AdminWords) (stamp : Stamp) (r : Result Prepared StepFault) (text n : List ℕ) (a b : Told) → IsThere (sibling 122 n) a → WritesText r words stamp text n (seen a) (seen b) → IfOk r (λ p. IsReady n p b)
+text_ready words stamp (Ok p) text n a b there writes =
+    let c : Content = new_content words stamp writes.1.0 (text_of text) in
+    record {
+      z = there_after (sibling 120 n) (sibling 122 n) c (seen a) (seen b) refl writes.1.2 there;
+      s = subst (λ t. Needs (replaced t) (sibling 120 n) n b) (sym writes.0.s) (made_there (sibling 120 n) c a b writes.1.2);
+      p_file = subst (λ f. Needs f (sibling 113 n) (sibling 112 n) b) (sym writes.0.p_file) tt;
+      g = subst (λ f. Needs f (sibling 121 n) (drop 2 n) b) (sym writes.0.g) tt;
+    }
+text_ready words stamp (Err fault) text n a b there writes = tt
+
+pub text_speaks : (words : AdminWords) (stamp : Stamp) (r : Result Prepared StepFault) (text n : List ℕ) (a b : Option View) → WritesText r words stamp text n a b → RefusesWithin admin_checks r → CouldPrepare (quiet_checks admin_checks) r
+text_speaks words stamp (Ok p) text n a b writes within =
+    (record { new = None; text = []; out = []; err = []; status = 0 }, refl, refl, sym writes.0.message)
+text_speaks words stamp (Err (Refused refusal)) text n a b writes within = within refusal refl
+text_speaks words stamp (Err Memory) text n a b writes within = tt
+text_speaks words stamp (Err ReadFault) text n a b writes within = tt
+text_speaks words stamp (Err WriteFault) text n a b writes within = tt
+text_speaks words stamp (Err DiskFault) text n a b writes within = tt
+
+pub text_quiet : (words : AdminWords) (stamp : Stamp) (r : Result Prepared StepFault) (text n : List ℕ) (a b : Option View) → WritesText r words stamp text n a b → IsQuiet r
+text_quiet words stamp (Ok p) text n a b writes = writes.0.report
+text_quiet words stamp (Err fault) text n a b writes = tt
+
+pub there_still : (k : List ℕ) (a b : Told) → b ≡ a → IsThere k a → IsThere k b
+there_still k a b same there = subst (λ t. IsThere k t) (sym same) there

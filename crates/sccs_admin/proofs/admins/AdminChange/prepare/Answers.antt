@@ -1,0 +1,23 @@
+use Rattle.std.proofs.Common.{ℕ, List, Ok, refl, ap, subst, sym}
+use Rattle.sccs_disk.specs.Told.{seen}
+use Rattle.sccs_admin.specs.AdminStep.{FindsText}
+use Rattle.sccs_admin.proofs.PrepareLaws.{find_fails, found_prepares, text_quiet, text_ready, text_speaks, there_still}
+use Rattle.sccs_admin.proofs.admins.AdminChange.prepare.Goals as goal
+
+pub returns-in-Ok-clause-prepares : goal.returns-in-Ok-clause-prepares
+returns-in-Ok-clause-prepares g c = λ err.
+    found_prepares c.args.self.now.words.now c.args.self.now.stamp.now c.write_text.result c.bytes.result.now c.args.name.now _ _ (seen (g.D.Disk.told c.find_text.new.disk)) _ _ err c.requires.sfile c.args.self.now.valid.unnamed (ap seen c.find_text.ensures.same)
+    (subst (λ (text : List ℕ). FindsText c.args.self.now.words.now.text (Ok text) c.args.name.now (g.I.Source.left c.args.input.now) (seen (g.D.Disk.told c.args.disk.now))) (sym c.bytes.ensures) c.in-Ok.ensures.finds)
+    c.write_text.ensures.writes
+
+pub returns-in-Ok-clause-needs : goal.returns-in-Ok-clause-needs
+returns-in-Ok-clause-needs g c = text_ready c.args.self.now.words.now c.args.self.now.stamp.now c.write_text.result _ c.args.name.now (g.D.Disk.told c.find_text.new.disk) _ (there_still _ _ _ c.find_text.ensures.same c.requires.locked) c.write_text.ensures.writes
+
+pub returns-in-Ok-clause-speaks : goal.returns-in-Ok-clause-speaks
+returns-in-Ok-clause-speaks g c = text_speaks c.args.self.now.words.now c.args.self.now.stamp.now c.write_text.result _ c.args.name.now _ _ c.write_text.ensures.writes c.write_text.ensures.checks
+
+pub returns-in-Ok-clause-silent : goal.returns-in-Ok-clause-silent
+returns-in-Ok-clause-silent g c = λ silent. (refl, text_quiet c.args.self.now.words.now c.args.self.now.stamp.now c.write_text.result _ c.args.name.now _ _ c.write_text.ensures.writes)
+
+pub returns-in-Err-clause-prepares : goal.returns-in-Err-clause-prepares
+returns-in-Err-clause-prepares g c = λ err. find_fails c.args.self.now.words.now c.args.self.now.stamp.now c.in-Err.fault c.args.name.now _ _ _ _ err c.requires.sfile c.args.self.now.valid.unnamed (ap seen c.find_text.ensures.same) c.in-Err.ensures.finds

@@ -1,0 +1,172 @@
+ghost use Rattle.std.specs.Prelude.{◌≡◌, ◌≢◌, ◌≤◌, ◌⊎◌, ℕ, List, Option, Some, [], length, Err, false, true, IfOk};
+ghost use Rattle.sccs_base.specs.Constants.{file_limit};
+ghost use Rattle.sccs_base.specs.Name.{IsSfile};
+ghost use Rattle.sccs_base.specs.Stream.{Rose};
+ghost use Rattle.sccs_disk.specs.Told.{seen};
+ghost use Rattle.sccs_sid.specs.declared.refusals.StepFault.TheVariants as fault;
+ghost use Rattle.sccs_steps.specs.Causes.{Ignores};
+ghost use Rattle.sccs_admin.specs.AdminStep.{AreAdminValues, FindsText, Hears, IsNew, WritesText, admin_change, admin_checks};
+ghost use Rattle.sccs_admin.specs.Texts.{named_by, takes_input};
+ghost use Rattle.sccs_steps.specs.Actions.{RefusesWithin};
+ghost use Rattle.sccs_transactions.specs.Changes.{locking};
+ghost use Rattle.sccs_transactions.proofs.Utilities.{is_sfile, locking_keeps};
+ghost use Rattle.sccs_admin.specs.Locks.{admin_locked};
+
+use crate::headers::new_header;
+use crate::new_files::write_new;
+use crate::texts::count_lines;
+use sccs_base::{Bytes, FILE_LIMIT, Name, Sink, Source, TakeFault, take_all};
+use sccs_disk::{Disk, DiskRefusal};
+use sccs_sid::{Refusal, Stamp, StepFault};
+use sccs_steps::Utility;
+use sccs_store::NewFile;
+use sccs_transactions::{Change, Prepared, change_file};
+use sccs_words::{AdminWords, Given};
+use std::alloc::Global;
+
+/// admin on a name that is to become an s-file: POSIX, Shell and Utilities, admin, -n and -i.
+#[derive(Drop)]
+pub struct Admin<'a> {
+    pub words: &'a AdminWords,
+    pub stamp: &'a Stamp,
+    ghost valid: { AreAdminValues words.now stamp.now },
+}
+
+// the input, whole
+fn hear<I: Source>(alloc: Global, input: &mut I) -> Result<Bytes, StepFault>
+    ensures hears { (i : List ℕ) → I.left input.old ≡ Some i → Hears result i }
+    ensures bound { IfOk result (λ text. length text ≤ file_limit) }
+    ensures checks { RefusesWithin admin_checks result }
+    ensures later { I.faults input.old ≤ I.faults input.new }
+    ensures read { result ≡ Err fault.ReadFault → Rose (I.faults input.old) (I.faults input.new) }
+    ensures write { result ≢ Err fault.WriteFault }
+    ensures broke { result ≢ Err fault.DiskFault }
+{
+    match take_all(alloc, input, FILE_LIMIT) {
+        Ok(text) => Ok(text),
+        Err(TakeFault::TooLong) => Err(StepFault::Refused(Refusal::TooLong)),
+        Err(TakeFault::Failed) => Err(StepFault::ReadFault),
+        Err(TakeFault::Memory) => Err(StepFault::Memory),
+    }
+}
+
+// the text of the new file, where its name isn't there yet
+fn find_text<I: Source, D: Disk>(
+    alloc: Global,
+    given: Given,
+    name: &Name,
+    input: &mut I,
+    disk: &mut D,
+) -> Result<Bytes, StepFault>
+    requires { named_by given ≡ [] }
+    ensures finds { FindsText given result name.now (I.left input.old) (seen (D.told disk.old)) }
+    ensures bound { IfOk result (λ text. length text ≤ file_limit) }
+    ensures checks { RefusesWithin admin_checks result }
+    ensures same { D.told disk.new ≡ D.told disk.old }
+    ensures ignores { takes_input given ≡ false
+        → Ignores fault.ReadFault (I.left input.old) (I.left input.new) (I.faults input.old) (I.faults input.new) result }
+    ensures heard { I.faults input.old ≤ I.faults input.new }
+    ensures later { D.faults disk.old ≤ D.faults disk.new }
+    ensures read { result ≡ Err fault.ReadFault → Rose (I.faults input.old) (I.faults input.new) }
+    ensures write { result ≢ Err fault.WriteFault }
+    ensures broke { result ≡ Err fault.DiskFault → Rose (D.faults disk.old) (D.faults disk.new) }
+{
+    match disk.size(name) {
+        Ok(None) => {}
+        Ok(Some(_)) => return Err(StepFault::Refused(Refusal::Exists)),
+        Err(_) => return Err(StepFault::DiskFault),
+    }
+    match given {
+        Given::No => Ok(Bytes::empty(alloc)),
+        Given::Bare => hear(alloc, input),
+        Given::From(_) => Err(StepFault::Refused(Refusal::Missing)),
+    }
+}
+
+// what is prepared where the x-file is a new s-file
+fn prepared(alloc: Global) -> Prepared
+    ensures { IsNew result }
+{
+    Prepared {
+        new_s: true,
+        new_p: NewFile::Keep,
+        new_g: NewFile::Keep,
+        report: Bytes::empty(alloc),
+        message: Bytes::empty(alloc),
+    }
+}
+
+// writes the x-file of a text
+fn write_text<D: Disk>(
+    alloc: Global,
+    words: &AdminWords,
+    stamp: &Stamp,
+    text: &[u8],
+    name: &Name,
+    disk: &mut D,
+) -> Result<Prepared, StepFault>
+    requires sfile { IsSfile name.now }
+    requires valid { AreAdminValues words.now stamp.now }
+    requires bound { length text.now ≤ file_limit }
+    ensures writes { WritesText result words.now stamp.now text.now name.now (seen (D.told disk.old)) (seen (D.told disk.new)) }
+    ensures checks { RefusesWithin admin_checks result }
+    ensures later { D.faults disk.old ≤ D.faults disk.new }
+    ensures read { result ≢ Err fault.ReadFault }
+    ensures write { result ≢ Err fault.WriteFault }
+    ensures broke { result ≡ Err fault.DiskFault → Rose (D.faults disk.old) (D.faults disk.new) }
+{
+    let count = match count_lines(text) {
+        Ok(count) => count,
+        Err(line) => return Err(StepFault::Refused(Refusal::BadText(line))),
+    };
+    let Ok(header) = new_header(alloc, words, stamp, count) else {
+        return Err(StepFault::Memory);
+    };
+    match write_new(alloc, &header, text, name, disk) {
+        Ok(()) => Ok(prepared(alloc)),
+        Err(DiskRefusal::Failed) => Err(StepFault::DiskFault),
+        Err(DiskRefusal::Memory) => Err(StepFault::Memory),
+    }
+}
+
+impl Change for Admin<'_> {
+    ghost change = { λ a. admin_change a.words.now a.stamp.now };
+
+    ghost locked = { λ a. admin_locked a.words.now a.stamp.now };
+
+    fn prepare<I: Source, O: Sink, D: Disk>(
+        &self,
+        alloc: Global,
+        name: &Name,
+        input: &mut I,
+        _out: &mut O,
+        disk: &mut D,
+    ) -> Result<Prepared, StepFault> {
+        match find_text(alloc, self.words.text, name, input, disk) {
+            Ok(text) => write_text(alloc, self.words, self.stamp, text.bytes(), name, disk),
+            Err(fault) => Err(fault),
+        }
+    }
+}
+
+impl Utility for Admin<'_> {
+    ghost action = { λ a. locking (admin_change a.words.now a.stamp.now) };
+
+    ghost keeps = { λ a. locking_keeps (admin_change a.words.now a.stamp.now) };
+
+    fn name(&self, operand: &[u8]) -> Option<Name> {
+        Name::read_sfile(operand)
+    }
+
+    fn step<I: Source, O: Sink, E: Sink, D: Disk>(
+        &self,
+        alloc: Global,
+        name: &Name,
+        input: &mut I,
+        out: &mut O,
+        err: &mut E,
+        disk: &mut D,
+    ) -> Result<(), StepFault> {
+        change_file(alloc, self, name, input, out, err, disk)
+    }
+}
