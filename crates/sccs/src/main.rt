@@ -1,6 +1,9 @@
 //! The program: it makes words, stamp, place and adapters, calls `run`, and does its answer.
 #![tactic(auto)]
 
+ghost use Rattle.std.specs.Prelude.{IfOk};
+ghost use Rattle.sccs_sid.specs.Moment.{IsMoment};
+
 use sccs_base::{Bytes, Line, Login, MakeFault, StdErrSink, StdSink, StdSource, Words};
 use sccs_folder::FolderDisk;
 use sccs_sid::{Moment, Stamp};
@@ -68,7 +71,9 @@ fn words_of(rt: &impl Env, alloc: Global) -> Result<Words, End> {
 }
 
 // the clock's second
-fn moment_of(rt: &impl Clock) -> Result<Moment, End> {
+fn moment_of(rt: &impl Clock) -> Result<Moment, End>
+    ensures { IfOk result IsMoment }
+{
     let Ok(since) = rt.since_1970() else {
         return Err(End::NoMoment);
     };

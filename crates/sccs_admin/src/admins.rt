@@ -9,7 +9,7 @@ ghost use Rattle.sccs_admin.specs.AdminStep.{AreAdminValues, FindsText, Hears, I
 ghost use Rattle.sccs_admin.specs.Texts.{named_by, takes_input};
 ghost use Rattle.sccs_steps.specs.Actions.{RefusesWithin};
 ghost use Rattle.sccs_transactions.specs.Changes.{locking};
-ghost use Rattle.sccs_transactions.proofs.Utilities.{is_sfile, locking_keeps};
+ghost use Rattle.sccs_transactions.proofs.Utilities.{locking_keeps};
 ghost use Rattle.sccs_admin.specs.Locks.{admin_locked};
 
 use crate::headers::new_header;

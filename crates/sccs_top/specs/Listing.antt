@@ -1,6 +1,8 @@
 -- What is done with which operands, as `run` takes it from a command.
 use Rattle.std.specs.Prelude.{ℕ, List, [], ◌∷◌}
 use Rattle.sccs_steps.specs.Actions.{Action}
+use Rattle.sccs_transactions.specs.Changes.{locking}
+use Rattle.sccs_admin.specs.AdminStep.{admin_change}
 use Rattle.sccs_get.specs.GetStep.{get_action}
 use Rattle.sccs_top.specs.Runs.{words_in}
 use Rattle.sccs_top.specs.Unbuilt.{unbuilt}
@@ -14,5 +16,6 @@ words_of (Words operands) = words_in operands.now
 words_of (Word word) = word.now ∷ []
 
 abbrev pub action_in : Known → Action
+action_in (known.Admin admin) = locking (admin_change admin.words.now admin.stamp.now)
 action_in (known.Get get) = get_action get.words.now
 action_in (known.Unbuilt u) = unbuilt u.any

@@ -2,6 +2,7 @@
 use Rattle.std.specs.Prelude.{◌≡◌, ℕ, ◌<◌, ◌⊎◌, Bool, true, false, ◌&&◌, ◌||◌, List, [], ◌∷◌, length, Option, None, Result, Ok, Err, codes, if◌then◌else◌}
 use Rattle.sccs_disk.specs.Files.{Folder, view_in}
 use Rattle.sccs_disk.specs.Told.{seen}
+use Rattle.sccs_sid.specs.declared.moments.Stamp.{Stamp}
 use Rattle.sccs_words.specs.declared.commands.Usage.{Usage}
 use Rattle.sccs_words.specs.declared.commands.Operands.{Operands}
 use Rattle.sccs_words.specs.declared.commands.Command.{Command}
@@ -12,9 +13,11 @@ use Rattle.sccs_steps.specs.Calls.{Scene, World, shown}
 use Rattle.sccs_steps.specs.StepLists.{ListInterrupted, NamedStep, Runs, Stopped, Waits}
 use Rattle.sccs_steps.specs.declared.faults.Fault.{Fault}
 use Rattle.sccs_steps.specs.declared.faults.Fault.TheVariants as ends
+use Rattle.sccs_transactions.specs.Changes.{locking}
+use Rattle.sccs_admin.specs.AdminStep.{admin_change}
 use Rattle.sccs_get.specs.GetStep.{get_action}
 use Rattle.sccs_top.specs.Messages.{usage_line}
-use Rattle.sccs_top.specs.Unbuilt.{is_built, unbuilt}
+use Rattle.sccs_top.specs.Unbuilt.{is_admin_built, is_get_built, unbuilt}
 use Rattle.sccs_top.specs.declared.answers.Answer.{Answer}
 use Rattle.sccs_top.specs.declared.answers.Answer.TheVariants.{Finished, Memory, ReadFault, WriteFault, DiskFault}
 
@@ -37,11 +40,12 @@ operands_of (c.Val words) = codes "-" ∷ []
 operands_of c.Batch = codes "-" ∷ []
 operands_of (c.Soak number) = codes "-" ∷ []
 
--- what is done with each of them
-abbrev pub action_of : Command → Action
-action_of (c.Get words operands) = if is_built words then get_action words else unbuilt false
-action_of (c.What first operands) = unbuilt true
-action_of command = unbuilt false
+-- what is done with each of them, where this is the moment and the login
+abbrev pub action_of : Stamp → Command → Action
+action_of stamp (c.Admin words operands) = if is_admin_built words then locking (admin_change words stamp) else unbuilt false
+action_of stamp (c.Get words operands) = if is_get_built words then get_action words else unbuilt false
+action_of stamp (c.What first operands) = unbuilt true
+action_of stamp command = unbuilt false
 
 -- the working files of operands
 abbrev pub working_of : Action → List (List ℕ) → List ℕ → Bool
@@ -49,24 +53,24 @@ working_of x [] k = false
 working_of x (operand ∷ operands) k = (x.fits operand && is_working operand k) || working_of x operands k
 
 -- those of a command; one that only reads has none
-abbrev pub working : Result Command Usage → List ℕ → Bool
-working (Err usage) = nowhere
-working (Ok command) = if (action_of command).reads then nowhere else working_of (action_of command) (operands_of command)
+abbrev pub working : Stamp → Result Command Usage → List ℕ → Bool
+working stamp (Err usage) = nowhere
+working stamp (Ok command) = if (action_of stamp command).reads then nowhere else working_of (action_of stamp command) (operands_of command)
 
 -- the message of a usage fault, as a step
 abbrev pub usage_step : Usage → NamedStep
 usage_step usage = record { name = []; effect = record { new = None; text = []; out = []; err = usage_line usage; status = 2 } }
 
 -- the steps of a run in a folder, with an input
-abbrev pub run_steps : Result Command Usage → Folder → List ℕ → List NamedStep
-run_steps (Err usage) m i = usage_step usage ∷ []
-run_steps (Ok command) m i = steps_at (action_of command) m i (operands_of command)
+abbrev pub run_steps : Stamp → Result Command Usage → Folder → List ℕ → List NamedStep
+run_steps stamp (Err usage) m i = usage_step usage ∷ []
+run_steps stamp (Ok command) m i = steps_at (action_of stamp command) m i (operands_of command)
 
 -- what a step takes of the input is told, and the files of the operands are apart from working files
-abbrev pub IsGiven : Result Command Usage → Option (List ℕ) → List ℕ → Type 0
-IsGiven (Err usage) left i = Unit {0}
-IsGiven (Ok command) left i =
-    IsHeard (action_of command).takes left i × IsLone (action_of command) (operands_of command) × AreClear (action_of command) (working (Ok command)) (operands_of command)
+abbrev pub IsGiven : Stamp → Result Command Usage → Option (List ℕ) → List ℕ → Type 0
+IsGiven stamp (Err usage) left i = Unit {0}
+IsGiven stamp (Ok command) left i =
+    IsHeard (action_of stamp command).takes left i × IsLone (action_of stamp command) (operands_of command) × AreClear (action_of stamp command) (working stamp (Ok command)) (operands_of command)
 
 -- where the disk tells a folder the steps of these operands are made, or the call ends early
 abbrev pub MakesAll : Action → List (List ℕ) → Result ℕ Fault → Option (List ℕ) → Scene → Scene → Type 0
@@ -86,9 +90,9 @@ Ends w WriteFault m ts a b = Stopped w m ts a b
 Ends w DiskFault m ts a b = ListInterrupted w m ts a b
 
 -- where the disk tells a folder the steps of these words are made, or the run ends early
-abbrev pub MakesSteps : Result Command Usage → Answer → Option (List ℕ) → Scene → Scene → Type 0
-MakesSteps meant answer left a b =
-    (m : Folder) (i : List ℕ) → IsGiven meant left i → Shows (working meant) (seen a.told) (view_in m) → Ends (working meant) answer m (run_steps meant m i) (shown a) (shown b)
+abbrev pub MakesSteps : Stamp → Result Command Usage → Answer → Option (List ℕ) → Scene → Scene → Type 0
+MakesSteps stamp meant answer left a b =
+    (m : Folder) (i : List ℕ) → IsGiven stamp meant left i → Shows (working stamp meant) (seen a.told) (view_in m) → Ends (working stamp meant) answer m (run_steps stamp meant m i) (shown a) (shown b)
 
 -- the answer as that of steps
 abbrev pub made_by : Answer → Result ℕ Fault
@@ -99,19 +103,19 @@ made_by WriteFault = Err ends.WriteFault
 made_by DiskFault = Err ends.DiskFault
 
 -- over any disk: some outcomes of the operands that may come explain the status and what is written on err
-abbrev pub SpeaksWords : Result Command Usage → Answer → Option (List ℕ) → Option (List ℕ) → Type 0
-SpeaksWords (Err usage) answer err err2 = SpeakAs (usage_step usage ∷ []) (made_by answer) err err2
-SpeaksWords (Ok command) answer err err2 = SpeakAll (action_of command) (operands_of command) (made_by answer) err err2
+abbrev pub SpeaksWords : Stamp → Result Command Usage → Answer → Option (List ℕ) → Option (List ℕ) → Type 0
+SpeaksWords stamp (Err usage) answer err err2 = SpeakAs (usage_step usage ∷ []) (made_by answer) err err2
+SpeaksWords stamp (Ok command) answer err err2 = SpeakAll (action_of stamp command) (operands_of command) (made_by answer) err err2
 
 -- whether the words change no file, write nothing on out, and take no input
-abbrev pub only_reads : Result Command Usage → Bool
-only_reads (Err usage) = true
-only_reads (Ok command) = (action_of command).reads
+abbrev pub only_reads : Stamp → Result Command Usage → Bool
+only_reads stamp (Err usage) = true
+only_reads stamp (Ok command) = (action_of stamp command).reads
 
-abbrev pub is_silent : Result Command Usage → Bool
-is_silent (Err usage) = true
-is_silent (Ok command) = (action_of command).silent
+abbrev pub is_silent : Stamp → Result Command Usage → Bool
+is_silent stamp (Err usage) = true
+is_silent stamp (Ok command) = (action_of stamp command).silent
 
-abbrev pub takes_input : Result Command Usage → Bool
-takes_input (Err usage) = false
-takes_input (Ok command) = (action_of command).takes
+abbrev pub takes_input : Stamp → Result Command Usage → Bool
+takes_input stamp (Err usage) = false
+takes_input stamp (Ok command) = (action_of stamp command).takes

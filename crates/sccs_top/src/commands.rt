@@ -1,5 +1,7 @@
 ghost use Rattle.std.specs.Prelude.{◌≡◌, true, false, OnOk, OnErr};
+ghost use Rattle.sccs_sid.specs.Moment.{IsMoment};
 ghost use Rattle.sccs_words.specs.Meaning.{meaning};
+ghost use Rattle.sccs_words.specs.ValidValues.{HasValidValues};
 ghost use Rattle.sccs_steps.specs.Actions.{SpeakAll};
 ghost use Rattle.sccs_steps.specs.Calls.{scene};
 ghost use Rattle.sccs_steps.specs.Causes.{Ignores, RunCauses, counts};
@@ -9,8 +11,9 @@ ghost use Rattle.sccs_top.specs.Runs.{MakesAll, MakesSteps, SpeaksWords, action_
 
 use crate::answers::Answer;
 use crate::messages::write_usage;
-use crate::unbuilt::{Unbuilt, is_built};
+use crate::unbuilt::{Unbuilt, is_admin_built, is_get_built};
 use crate::utilities::Get;
+use sccs_admin::Admin;
 use sccs_base::{Line, Sink, Source, Words};
 use sccs_disk::Disk;
 use sccs_sid::Stamp;
@@ -33,16 +36,26 @@ fn ended(made: Result<u8, Fault>) -> Answer
 
 // what is done with the operands of a command
 enum Known<'a> {
+    Admin(Admin<'a>),
     Get(Get<'a>),
     Unbuilt(Unbuilt),
 }
 
-fn utility_of(command: &Command) -> Known<'_>
-    ensures { action_in result ≡ action_of command.now }
+fn utility_of<'a>(command: &'a Command, stamp: &'a Stamp) -> Known<'a>
+    requires values { HasValidValues command.now }
+    requires moment { IsMoment stamp.now.moment }
+    ensures { action_in result ≡ action_of stamp.now command.now }
 {
     match command {
+        Command::Admin(words, _) => {
+            if is_admin_built(words) {
+                Known::Admin(Admin { words, stamp })
+            } else {
+                Known::Unbuilt(Unbuilt { any: false })
+            }
+        }
         Command::Get(words, _) => {
-            if is_built(words) {
+            if is_get_built(words) {
                 Known::Get(Get { words })
             } else {
                 Known::Unbuilt(Unbuilt { any: false })
@@ -124,24 +137,28 @@ fn run_listed<U: Utility, I: Source, O: Sink, E: Sink, D: Disk>(
 fn run_command<I: Source, O: Sink, E: Sink, D: Disk>(
     alloc: Global,
     command: &Command,
+    stamp: &Stamp,
     input: &mut I,
     out: &mut O,
     err: &mut E,
     disk: &mut D,
 ) -> Result<u8, Fault>
-    ensures steps { MakesAll (action_of command.now) (operands_of command.now) result (I.left input.old)
+    requires values { HasValidValues command.now }
+    requires moment { IsMoment stamp.now.moment }
+    ensures steps { MakesAll (action_of stamp.now command.now) (operands_of command.now) result (I.left input.old)
         (scene (D.told disk.old) (O.given out.old) (E.given err.old)) (scene (D.told disk.new) (O.given out.new) (E.given err.new)) }
-    ensures speaks { SpeakAll (action_of command.now) (operands_of command.now) result (E.given err.old) (E.given err.new) }
-    ensures reads { (action_of command.now).reads ≡ true → D.told disk.new ≡ D.told disk.old }
-    ensures silent { (action_of command.now).silent ≡ true → O.given out.new ≡ O.given out.old }
-    ensures ignores { (action_of command.now).takes ≡ false
+    ensures speaks { SpeakAll (action_of stamp.now command.now) (operands_of command.now) result (E.given err.old) (E.given err.new) }
+    ensures reads { (action_of stamp.now command.now).reads ≡ true → D.told disk.new ≡ D.told disk.old }
+    ensures silent { (action_of stamp.now command.now).silent ≡ true → O.given out.new ≡ O.given out.old }
+    ensures ignores { (action_of stamp.now command.now).takes ≡ false
         → Ignores ends.ReadFault (I.left input.old) (I.left input.new) (I.faults input.old) (I.faults input.new) result }
     ensures causes { RunCauses result
         (counts (I.faults input.old) (O.faults out.old) (E.faults err.old) (D.faults disk.old))
         (counts (I.faults input.new) (O.faults out.new) (E.faults err.new) (D.faults disk.new)) }
 {
     let operands = list_operands(command);
-    match utility_of(command) {
+    match utility_of(command, stamp) {
+        Known::Admin(admin) => run_listed(alloc, &admin, operands, input, out, err, disk),
         Known::Get(get) => run_listed(alloc, &get, operands, input, out, err, disk),
         Known::Unbuilt(unbuilt) => run_listed(alloc, &unbuilt, operands, input, out, err, disk),
     }
@@ -150,29 +167,31 @@ fn run_command<I: Source, O: Sink, E: Sink, D: Disk>(
 /// Does a command. The words are those behind the program's name; `stamp` is its moment and login,
 /// `place` the folder's path. Texts go to `out`, messages to `err`.
 ///
-/// Built is get with `-k`, `-p` and `-s`, and of the other options those that say which version.
+/// Built are admin on new files, with `-n` or `-i`, `-r` and `-y`, and get with `-k`, `-p` and `-s`, and of
+/// its other options those that say which version.
 pub fn run<I: Source, O: Sink, E: Sink, D: Disk>(
     alloc: Global,
     words: &Words,
-    _stamp: &Stamp,
+    stamp: &Stamp,
     _place: &Line,
     input: &mut I,
     out: &mut O,
     err: &mut E,
     disk: &mut D,
 ) -> Answer
-    ensures steps { MakesSteps (meaning words.now) result (I.left input.old)
+    requires moment { IsMoment stamp.now.moment }
+    ensures steps { MakesSteps stamp.now (meaning words.now) result (I.left input.old)
         (scene (D.told disk.old) (O.given out.old) (E.given err.old)) (scene (D.told disk.new) (O.given out.new) (E.given err.new)) }
-    ensures speaks { SpeaksWords (meaning words.now) result (E.given err.old) (E.given err.new) }
-    ensures reads { only_reads (meaning words.now) ≡ true → D.told disk.new ≡ D.told disk.old }
-    ensures silent { is_silent (meaning words.now) ≡ true → O.given out.new ≡ O.given out.old }
-    ensures ignores { takes_input (meaning words.now) ≡ false
+    ensures speaks { SpeaksWords stamp.now (meaning words.now) result (E.given err.old) (E.given err.new) }
+    ensures reads { only_reads stamp.now (meaning words.now) ≡ true → D.told disk.new ≡ D.told disk.old }
+    ensures silent { is_silent stamp.now (meaning words.now) ≡ true → O.given out.new ≡ O.given out.old }
+    ensures ignores { takes_input stamp.now (meaning words.now) ≡ false
         → Ignores ends.ReadFault (I.left input.old) (I.left input.new) (I.faults input.old) (I.faults input.new) (made_by result) }
     ensures causes { RunCauses (made_by result) (counts (I.faults input.old) (O.faults out.old) (E.faults err.old) (D.faults disk.old))
         (counts (I.faults input.new) (O.faults out.new) (E.faults err.new) (D.faults disk.new)) }
 {
     match read_words(alloc, words) {
-        Ok(command) => ended(run_command(alloc, &command, input, out, err, disk)),
+        Ok(command) => ended(run_command(alloc, &command, stamp, input, out, err, disk)),
         Err(WordsFault::Usage(usage)) => match write_usage(&usage, err) {
             Ok(()) => Answer::Finished { status: 2 },
             Err(_) => Answer::WriteFault,

@@ -2,6 +2,7 @@ mod disks;
 mod fixtures;
 mod hostile;
 mod long_lines;
+mod new_files;
 mod operands;
 mod readings;
 mod releases;

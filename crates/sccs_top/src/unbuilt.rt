@@ -1,17 +1,32 @@
 ghost use Rattle.std.specs.Prelude.{◌≡◌, true, false};
-ghost use Rattle.sccs_top.specs.Unbuilt.{is_built, unbuilt, unbuilt_keeps};
+ghost use Rattle.sccs_top.specs.Unbuilt.{is_admin_built, is_get_built, unbuilt, unbuilt_keeps};
 
 use sccs_base::{Name, Sink, Source};
 use sccs_disk::Disk;
 use sccs_sid::{Refusal, StepFault};
 use sccs_steps::Utility;
-use sccs_words::GetWords;
+use sccs_words::{AdminWords, GetWords, Given};
 use std::alloc::Global;
 
+// whether admin has `-n` or `-i`, and of the other options only `-r` and `-y`
+#[tactic(auto, unfolding(crate::specs::Unbuilt::is_admin_built))]
+pub fn is_admin_built(words: &AdminWords) -> bool
+    ensures { result ≡ is_admin_built words.now }
+{
+    let is_named = matches!(words.text, Given::From(_));
+    let has_lists = !(words.add.items().is_empty()
+        && words.erase.items().is_empty()
+        && words.set.items().is_empty()
+        && words.unset.items().is_empty()
+        && words.mrs.items().is_empty());
+    let is_described = !matches!(words.description, Given::No);
+    words.fresh && !is_named && !has_lists && !(words.check || words.fix) && !is_described
+}
+
 // whether get has `-k`, `-p` and `-s`, and of the other options only those that say which version
-#[tactic(auto, unfolding(crate::specs::Unbuilt::is_built))]
-pub fn is_built(words: &GetWords) -> bool
-    ensures { result ≡ is_built words.now }
+#[tactic(auto, unfolding(crate::specs::Unbuilt::is_get_built))]
+pub fn is_get_built(words: &GetWords) -> bool
+    ensures { result ≡ is_get_built words.now }
 {
     let has_others = words.branch || words.edit || words.no_text || words.sids || words.module;
     words.keep && words.print && words.silent && !has_others

@@ -1,6 +1,6 @@
 -- A change as a utility.
-use Rattle.std.proofs.Common.{◌≡◌, ℕ, Bool, true, List, subst}
-use Rattle.sccs_base.specs.Name.{IsName, IsSfile, is_sfile_name, sfile_name_decides}
+use Rattle.std.proofs.Common.{◌≡◌, ℕ, true, List}
+use Rattle.sccs_base.specs.Name.{IsSfile, is_sfile_name, sfile_name_decides}
 use Rattle.sccs_steps.specs.Actions.{KeepsFiles}
 use Rattle.sccs_transactions.specs.Changes.{Changing, locking}
 
@@ -9,4 +9,4 @@ pub locking_keeps : (x : Changing) → KeepsFiles (locking x)
 locking_keeps x = λ reads n i named f d is. absurd cc
 
 pub is_sfile : (n : List ℕ) → is_sfile_name n ≡ true → IsSfile n
-is_sfile n fits = (subst (λ (b : Bool). Decides b (IsName n × IsSfile n)) fits (sfile_name_decides n)).1
+is_sfile n fits = ((sfile_name_decides n).0 fits).1

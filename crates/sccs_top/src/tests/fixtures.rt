@@ -1,6 +1,6 @@
 use crate::tests::samples::{BRANCHED, TWO_LINES};
 use crate::*;
-use sccs_base::{Bytes, Line, Login, MemorySink, Name, SteadySource, Words};
+use sccs_base::{Bytes, Line, Login, MemorySink, MemorySource, Name, Words};
 use sccs_disk::{Disk, MemoryDisk};
 use sccs_sid::{Moment, Stamp};
 use std::alloc::Global;
@@ -14,11 +14,13 @@ pub struct Seen {
     pub err: MemorySink,
 }
 
-/// What the program is given, beside its words: the files s.a and s.b, and the calls that fail.
+/// What the program is given, beside its words: the files s.a and s.b, the input, and the calls that fail.
 #[derive(Clone, Copy)]
 pub struct Given<'a> {
     pub file: &'a [u8],
     pub other: &'a [u8],
+    pub input: &'a [u8],
+    pub failing_input: &'a [u64],
     pub failing_disk: &'a [u64],
     pub failing_out: &'a [u64],
     pub failing_err: &'a [u64],
@@ -28,6 +30,8 @@ pub struct Given<'a> {
 pub const PLAIN: Given<'static> = Given {
     file: TWO_LINES,
     other: BRANCHED,
+    input: b"",
+    failing_input: &[],
     failing_disk: &[],
     failing_out: &[],
     failing_err: &[],
@@ -56,10 +60,10 @@ pub fn command_on<D: Disk>(
         moment: Moment::read(b"21/03/04", b"05:06:07")
             .ok()
             .ok_or("a moment")?,
-        login: Login::nobody(),
+        login: Login::read(b"ann").ok_or("a login")?,
     };
     let place = Line::new(alloc, b"/")?;
-    let mut input = SteadySource::new(alloc, b"")?;
+    let mut input = MemorySource::new(alloc, given.input, given.failing_input)?;
     let mut out = MemorySink::new(alloc, 100_000, given.failing_out)?;
     let mut err = MemorySink::new(alloc, 1000, given.failing_err)?;
     let answer = run(

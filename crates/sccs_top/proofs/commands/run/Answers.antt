@@ -10,14 +10,14 @@ use Rattle.sccs_top.proofs.commands.run.Goals as goal
 
 pub returns-in-Ok-clause-steps : goal.returns-in-Ok-clause-steps
 returns-in-Ok-clause-steps g c =
-    command_ends (meaning c.args.words.now) c.in-Ok.command c.ended.result c.run_command.result (g.I.Source.left c.args.input.now) (scene (g.D.Disk.told c.args.disk.now) (g.O.Sink.given c.args.out.now) (g.E.Sink.given c.args.err.now)) (scene (g.D.Disk.told c.run_command.new.disk) (g.O.Sink.given c.run_command.new.out) (g.E.Sink.given c.run_command.new.err))
+    command_ends c.args.stamp.now (meaning c.args.words.now) c.in-Ok.command c.ended.result c.run_command.result (g.I.Source.left c.args.input.now) (scene (g.D.Disk.told c.args.disk.now) (g.O.Sink.given c.args.out.now) (g.E.Sink.given c.args.err.now)) (scene (g.D.Disk.told c.run_command.new.disk) (g.O.Sink.given c.run_command.new.out) (g.E.Sink.given c.run_command.new.err))
     c.in-Ok.ensures.value c.ended.ensures c.run_command.ensures.steps
 
 pub returns-in-Err-clause-steps : goal.returns-in-Err-clause-steps
 returns-in-Err-clause-steps g c =
-    usage_cut (meaning c.args.words.now) c.in-Err-Usage.usage (g.I.Source.left c.args.input.now) (scene (g.D.Disk.told c.args.disk.now) (g.O.Sink.given c.args.out.now) (g.E.Sink.given c.args.err.now)) (g.E.Sink.given c.write_usage.new.out)
+    usage_cut c.args.stamp.now (meaning c.args.words.now) c.in-Err-Usage.usage (g.I.Source.left c.args.input.now) (scene (g.D.Disk.told c.args.disk.now) (g.O.Sink.given c.args.out.now) (g.E.Sink.given c.args.err.now)) (g.E.Sink.given c.write_usage.new.out)
     (subst (λ (fault : WordsFault). Gives (Err fault) (meaning c.args.words.now)) c.in-Err-Usage.field-0-is c.in-Err-Usage.ensures.value)
     (subst (λ (usage : Usage). GivesSome (g.E.Sink.given c.args.err.now) (g.E.Sink.given c.write_usage.new.out) (usage_line usage)) c.in-Err-Usage.usage-is c.in-Err.ensures.err)
 
 pub returns-in-Err-Memory-clause-steps : goal.returns-in-Err-Memory-clause-steps
-returns-in-Err-Memory-clause-steps g c = never_begun (meaning c.args.words.now) (g.I.Source.left c.args.input.now) (scene (g.D.Disk.told c.args.disk.now) (g.O.Sink.given c.args.out.now) (g.E.Sink.given c.args.err.now))
+returns-in-Err-Memory-clause-steps g c = never_begun c.args.stamp.now (meaning c.args.words.now) (g.I.Source.left c.args.input.now) (scene (g.D.Disk.told c.args.disk.now) (g.O.Sink.given c.args.out.now) (g.E.Sink.given c.args.err.now))

@@ -1,0 +1,129 @@
+use crate::tests::fixtures::{Given, PLAIN, command_on};
+use crate::tests::samples::{EMPTY, TWO_LINES};
+use crate::*;
+use sccs_base::Name;
+use sccs_disk::{Fill, MemoryDisk};
+use std::test::Fail;
+
+// two lines, the last without an LF
+const TEXT: &[u8] = b"one\ntwo %I%";
+
+// more than the calls of a new file
+const CALLS: u64 = 24;
+
+#[test]
+fn new_files_are_written(rt: HostRuntime) -> Result<(), Fail> {
+    let given = Given {
+        input: TEXT,
+        ..PLAIN
+    };
+    let name = Name::read(b"s.a").ok_or("a name")?;
+    let rows: [(&[u8], &[u8]); 2] = [(b"admin -n s.a", EMPTY), (b"admin -i s.a", TWO_LINES)];
+    for (line, file) in rows {
+        let mut disk = MemoryDisk::new(rt.alloc(), 1000, &[])?;
+        let made = command_on(rt.alloc(), line, &given, &mut disk)?;
+        assert_eq!(rt; made.answer, Answer::Finished { status: 0 });
+        assert_eq!(rt; made.out.bytes(), b"".as_slice());
+        assert_eq!(rt; made.err.bytes(), b"".as_slice());
+        assert_eq!(rt; disk.bytes(&name).ok_or("a file")?, file);
+        for other in [b"x.a".as_slice(), b"z.a"] {
+            assert!(rt; !disk.has(&Name::read(other).ok_or("a name")?));
+        }
+        let again = command_on(rt.alloc(), line, &given, &mut disk)?;
+        assert_eq!(rt; again.answer, Answer::Finished { status: 1 });
+        assert_eq!(rt;
+            again.err.bytes(),
+            b"ERROR [s.a]: already exists (04)\n".as_slice()
+        );
+        assert_eq!(rt; disk.bytes(&name).ok_or("a file")?, file);
+        let printed = command_on(rt.alloc(), b"get -k -p -s s.a", &PLAIN, &mut disk)?;
+        assert_eq!(rt; printed.answer, Answer::Finished { status: 0 });
+    }
+    Ok(())
+}
+
+#[test]
+fn refused_files_are_not_made(rt: HostRuntime) -> Result<(), Fail> {
+    let bad = Given {
+        input: b"one\n\x01two\n",
+        ..PLAIN
+    };
+    let rows: [(&[u8], &[u8]); 4] = [
+        (
+            b"admin -i s.a",
+            b"ERROR [s.a]: line 2 begins with SOH (23)\n",
+        ),
+        (b"admin -i s.b", b"ERROR [s.b]: locked by z-file (02)\n"),
+        (b"admin -iname s.a", b"ERROR [s.a]: not built yet (99)\n"),
+        (b"admin -n -fb s.a", b"ERROR [s.a]: not built yet (99)\n"),
+    ];
+    let lock = Name::read(b"z.b").ok_or("a name")?;
+    for (line, text) in rows {
+        let mut disk = MemoryDisk::new(rt.alloc(), 1000, &[])?;
+        disk.put(&lock, b"", false)?;
+        let refused = command_on(rt.alloc(), line, &bad, &mut disk)?;
+        assert_eq!(rt; refused.answer, Answer::Finished { status: 1 });
+        assert_eq!(rt; refused.err.bytes(), text);
+        assert!(rt; disk.has(&lock));
+        for other in [b"s.a".as_slice(), b"s.b", b"x.a", b"x.b", b"z.a"] {
+            assert!(rt; !disk.has(&Name::read(other).ok_or("a name")?));
+        }
+    }
+    Ok(())
+}
+
+#[test]
+fn unread_input_makes_no_file(rt: HostRuntime) -> Result<(), Fail> {
+    let broken = Given {
+        input: TEXT,
+        failing_input: &[1],
+        ..PLAIN
+    };
+    let mut disk = MemoryDisk::new(rt.alloc(), 1000, &[])?;
+    let cut = command_on(rt.alloc(), b"admin -i s.a", &broken, &mut disk)?;
+    assert_eq!(rt; cut.answer, Answer::ReadFault);
+    for other in [b"s.a".as_slice(), b"x.a", b"z.a"] {
+        assert!(rt; !disk.has(&Name::read(other).ok_or("a name")?));
+    }
+    Ok(())
+}
+
+#[test]
+fn failing_calls_harm_no_file(rt: HostRuntime) -> Result<(), Fail> {
+    let given = Given {
+        input: TEXT,
+        ..PLAIN
+    };
+    let name = Name::read(b"s.a").ok_or("a name")?;
+    for call in 1..CALLS {
+        let mut disk = MemoryDisk::new(rt.alloc(), 1000, &[call])?;
+        let made = command_on(rt.alloc(), b"admin -i s.a", &given, &mut disk)?;
+        match disk.bytes(&name) {
+            None => assert_eq!(rt; made.answer, Answer::DiskFault),
+            Some(bytes) => assert_eq!(rt; bytes, TWO_LINES),
+        }
+    }
+    Ok(())
+}
+
+#[test]
+fn stopped_runs_leave_whole_files(rt: HostRuntime) -> Result<(), Fail> {
+    let given = Given {
+        input: TEXT,
+        ..PLAIN
+    };
+    let name = Name::read(b"s.a").ok_or("a name")?;
+    let mut disk = MemoryDisk::new(rt.alloc(), 1000, &[])?;
+    command_on(rt.alloc(), b"admin -i s.a", &given, &mut disk)?;
+    for calls in 0..CALLS {
+        for names in 0..4 {
+            for fill in [Fill::Empty, Fill::Written, Fill::Junk(b'?')] {
+                let left = disk.crash(rt.alloc(), calls, names, fill)?;
+                if let Some(bytes) = left.bytes(&name) {
+                    assert_eq!(rt; bytes, TWO_LINES);
+                }
+            }
+        }
+    }
+    Ok(())
+}
