@@ -49,34 +49,29 @@ refused_outcome : (words : AdminWords) (stamp : Stamp) (n i : List ℕ) (named :
 unfolding admin_outcome
 refused_outcome words stamp n i named f refusal is = rw is refl
 
-unnamed_seen : (words : AdminWords) (w : View) → named_by words.text ≡ [] → map w (named_by words.text) ≡ []
-unnamed_seen words w is = ap (map w) is
-
 -- what was found, as the step sees it
-as_seen : (words : AdminWords) (i n : List ℕ) (v : View) (r : Result (List ℕ) Refusal) → IsSfile n → named_by words.text ≡ [] → found_text words.text i [] (v n) ≡ r → found_text words.text i (map (unlocked n v) (named_by words.text)) (look (unlocked n v) n).s ≡ r
-as_seen words i n v r sfile unnamed is =
-    ap (λ named. found_text words.text i named (unlocked n v n)) (unnamed_seen words (unlocked n v) unnamed)
-    ∙ (ap (λ (o : Option Content). found_text words.text i [] o) (s_unlocked n v sfile) ∙ is)
+as_seen : (words : AdminWords) (i n : List ℕ) (v : View) (r : Result (List ℕ) Refusal) → IsSfile n → found_text words.text i (map (unlocked n v) (named_by words.text)) (v n) ≡ r → found_text words.text i (map (unlocked n v) (named_by words.text)) (look (unlocked n v) n).s ≡ r
+as_seen words i n v r sfile is = ap (λ (o : Option Content). found_text words.text i (map (unlocked n v) (named_by words.text)) o) (s_unlocked n v sfile) ∙ is
 
 unmade : (n text : List ℕ) (v : View) (o2 : Option View) (out err : Option (List ℕ)) → Moves (bytes_eq (sibling 120 n)) (λ u. u) (Some v) o2 → IsUnmade n text (world (Some v) out err) (world o2 out err)
 unmade n text v o2 out err moves = record { view = moves_wider (bytes_eq (sibling 120 n)) (is_working n) (Some v) o2 (no_x n) moves; out = some_none out text }
 
 -- no text was found
-not_found : (words : AdminWords) (stamp : Stamp) (fault : StepFault) (n i : List ℕ) (v : View) (out err : Option (List ℕ)) → IsSfile n → named_by words.text ≡ [] → AnswersText (found_text words.text i [] (v n)) (Err fault)
+not_found : (words : AdminWords) (stamp : Stamp) (fault : StepFault) (n i : List ℕ) (v : View) (out err : Option (List ℕ)) → IsSfile n → AnswersText (found_text words.text i (map (unlocked n v) (named_by words.text)) (v n)) (Err fault)
     → Prepares (Err fault) n (admin_outcome words stamp n i (map (unlocked n v) (named_by words.text)) (look (unlocked n v) n)) (world (Some v) out err) (world (Some v) out err)
-not_found words stamp (Refused refusal) n i v out err sfile unnamed answers =
-    (refused_outcome words stamp n i _ (look (unlocked n v) n) refusal (as_seen words i n v (Err refusal) sfile unnamed answers), unmade n [] v (Some v) out err (λ k h. refl))
-not_found words stamp Memory n i v out err sfile unnamed answers = unmade n _ v (Some v) out err (λ k h. refl)
-not_found words stamp ReadFault n i v out err sfile unnamed answers = unmade n _ v (Some v) out err (λ k h. refl)
-not_found words stamp WriteFault n i v out err sfile unnamed answers = unmade n _ v (Some v) out err (λ k h. refl)
-not_found words stamp DiskFault n i v out err sfile unnamed answers = unmade n _ v (Some v) out err (λ k h. refl)
+not_found words stamp (Refused refusal) n i v out err sfile answers =
+    (refused_outcome words stamp n i _ (look (unlocked n v) n) refusal (as_seen words i n v (Err refusal) sfile answers), unmade n [] v (Some v) out err (λ k h. refl))
+not_found words stamp Memory n i v out err sfile answers = unmade n _ v (Some v) out err (λ k h. refl)
+not_found words stamp ReadFault n i v out err sfile answers = unmade n _ v (Some v) out err (λ k h. refl)
+not_found words stamp WriteFault n i v out err sfile answers = unmade n _ v (Some v) out err (λ k h. refl)
+not_found words stamp DiskFault n i v out err sfile answers = unmade n _ v (Some v) out err (λ k h. refl)
 
-pub find_fails : (words : AdminWords) (stamp : Stamp) (fault : StepFault) (n : List ℕ) (left : Option (List ℕ)) (o o2 : Option View) (out err : Option (List ℕ)) → IsSfile n → named_by words.text ≡ [] → o2 ≡ o → FindsText words.text (Err fault) n left o
+pub find_fails : (words : AdminWords) (stamp : Stamp) (fault : StepFault) (n : List ℕ) (left : Option (List ℕ)) (o o2 : Option View) (out err : Option (List ℕ)) → IsSfile n → o2 ≡ o → FindsText words.text (Err fault) n left o
     → PreparesChange (admin_change words stamp) (Err fault) n left (world o out err) (world o2 out err)
-find_fails words stamp fault n left None o2 out err sfile unnamed same finds = tt
-find_fails words stamp fault n left (Some v) o2 out err sfile unnamed same finds = λ i heard.
+find_fails words stamp fault n left None o2 out err sfile same finds = tt
+find_fails words stamp fault n left (Some v) o2 out err sfile same finds = λ i heard.
     subst (λ (w : Option View). Prepares (Err fault) n (admin_outcome words stamp n i (map (unlocked n v) (named_by words.text)) (look (unlocked n v) n)) (world (Some v) out err) (world w out err)) (sym same)
-    (not_found words stamp fault n i v out err sfile unnamed (finds i heard))
+    (not_found words stamp fault n i v out err sfile (finds i heard))
 
 -- ---- the x-file is written
 
@@ -101,14 +96,14 @@ made_outcome words stamp f text count is = ap (λ (r : Result ℕ ℕ). or_bad_t
 bad_outcome : (words : AdminWords) (stamp : Stamp) (f : Files) (text : List ℕ) (refusal : Refusal) → or_bad_text (count_lines (text_of text)) ≡ Err refusal → from_text words stamp f text ≡ Err refusal
 bad_outcome words stamp f text refusal is = ap (λ (r : Result ℕ Refusal). r >>= λ count. makes (new_content words stamp count (text_of text)) f) is
 
-text_prepared : (words : AdminWords) (stamp : Stamp) (r : Result Prepared StepFault) (text n i : List ℕ) (v : View) (o2 : Option View) (out err : Option (List ℕ)) → IsSfile n → named_by words.text ≡ [] → found_text words.text i [] (v n) ≡ Ok text → WritesText r words stamp text n (Some v) o2
+text_prepared : (words : AdminWords) (stamp : Stamp) (r : Result Prepared StepFault) (text n i : List ℕ) (v : View) (o2 : Option View) (out err : Option (List ℕ)) → IsSfile n → found_text words.text i (map (unlocked n v) (named_by words.text)) (v n) ≡ Ok text → WritesText r words stamp text n (Some v) o2
     → Prepares r n (admin_outcome words stamp n i (map (unlocked n v) (named_by words.text)) (look (unlocked n v) n)) (world (Some v) out err) (world o2 out err)
-text_prepared words stamp (Ok p) text n i v o2 out err sfile unnamed found writes =
+text_prepared words stamp (Ok p) text n i v o2 out err sfile found writes =
     let f : Files = look (unlocked n v) n in
     let c : Content = new_content words stamp writes.1.0 (text_of text) in
     record {
       effect = record { new = files_of (Some c) f.p f.g; text = []; out = []; err = []; status = 0 };
-      is = found_outcome words stamp n i _ f text (as_seen words i n v (Ok text) sfile unnamed found) ∙ made_outcome words stamp f text writes.1.0 writes.1.1;
+      is = found_outcome words stamp n i _ f text (as_seen words i n v (Ok text) sfile found) ∙ made_outcome words stamp f text writes.1.0 writes.1.1;
       status = refl;
       report = sym writes.0.report;
       message = sym writes.0.message;
@@ -116,20 +111,20 @@ text_prepared words stamp (Ok p) text n i v o2 out err sfile unnamed found write
       files = subst (λ (o : Option View). IfSome o (λ u. files_of (Some c) f.p f.g ≡ Some (files_after n (plan_of p) u))) (sym writes.1.2) (new_files n c v p sfile writes.0);
       out = gives_none out;
     }
-text_prepared words stamp (Err (Refused refusal)) text n i v o2 out err sfile unnamed found writes = (
-  found_outcome words stamp n i _ (look (unlocked n v) n) text (as_seen words i n v (Ok text) sfile unnamed found) ∙ bad_outcome words stamp (look (unlocked n v) n) text refusal writes.0,
+text_prepared words stamp (Err (Refused refusal)) text n i v o2 out err sfile found writes = (
+  found_outcome words stamp n i _ (look (unlocked n v) n) text (as_seen words i n v (Ok text) sfile found) ∙ bad_outcome words stamp (look (unlocked n v) n) text refusal writes.0,
   unmade n [] v o2 out err (subst (λ (o : Option View). Moves (bytes_eq (sibling 120 n)) (λ u. u) (Some v) o) (sym writes.1) (λ k h. refl)),
 )
-text_prepared words stamp (Err Memory) text n i v o2 out err sfile unnamed found writes = unmade n _ v o2 out err writes
-text_prepared words stamp (Err ReadFault) text n i v o2 out err sfile unnamed found writes = unmade n _ v o2 out err writes
-text_prepared words stamp (Err WriteFault) text n i v o2 out err sfile unnamed found writes = unmade n _ v o2 out err writes
-text_prepared words stamp (Err DiskFault) text n i v o2 out err sfile unnamed found writes = unmade n _ v o2 out err writes
+text_prepared words stamp (Err Memory) text n i v o2 out err sfile found writes = unmade n _ v o2 out err writes
+text_prepared words stamp (Err ReadFault) text n i v o2 out err sfile found writes = unmade n _ v o2 out err writes
+text_prepared words stamp (Err WriteFault) text n i v o2 out err sfile found writes = unmade n _ v o2 out err writes
+text_prepared words stamp (Err DiskFault) text n i v o2 out err sfile found writes = unmade n _ v o2 out err writes
 
-pub found_prepares : (words : AdminWords) (stamp : Stamp) (r : Result Prepared StepFault) (text n : List ℕ) (left : Option (List ℕ)) (o o1 o2 : Option View) (out err : Option (List ℕ)) → IsSfile n → named_by words.text ≡ [] → o1 ≡ o → FindsText words.text (Ok text) n left o → WritesText r words stamp text n o1 o2
+pub found_prepares : (words : AdminWords) (stamp : Stamp) (r : Result Prepared StepFault) (text n : List ℕ) (left : Option (List ℕ)) (o o1 o2 : Option View) (out err : Option (List ℕ)) → IsSfile n → o1 ≡ o → FindsText words.text (Ok text) n left o → WritesText r words stamp text n o1 o2
     → PreparesChange (admin_change words stamp) r n left (world o out err) (world o2 out err)
-found_prepares words stamp r text n left None o1 o2 out err sfile unnamed same finds writes = tt
-found_prepares words stamp r text n left (Some v) o1 o2 out err sfile unnamed same finds writes = λ i heard.
-    text_prepared words stamp r text n i v o2 out err sfile unnamed (finds i heard) (subst (λ (w : Option View). WritesText r words stamp text n w o2) same writes)
+found_prepares words stamp r text n left None o1 o2 out err sfile same finds writes = tt
+found_prepares words stamp r text n left (Some v) o1 o2 out err sfile same finds writes = λ i heard.
+    text_prepared words stamp r text n i v o2 out err sfile (finds i heard) (subst (λ (w : Option View). WritesText r words stamp text n w o2) same writes)
 
 -- ---- what a commit needs, and what may come
 

@@ -1,5 +1,5 @@
 -- What admin does with a name that is to become an s-file: POSIX, Shell and Utilities, admin, -n and -i.
-use Rattle.std.specs.Prelude.{◌≡◌, ◌<◌, ℕ, true, List, [], ◌∷◌, length, nat_le, unwrap_or, Option, Some, IfSome, is_none, None, Result, Ok, Err}
+use Rattle.std.specs.Prelude.{◌≡◌, ◌<◌, ℕ, true, List, [], ◌∷◌, length, map, nat_le, unwrap_or, Option, Some, IfSome, IsSome, is_none, None, Result, Ok, Err}
 use Rattle.std.specs.Str.{bytes_eq}
 use Rattle.sccs_base.specs.Name.{sibling}
 use Rattle.sccs_base.specs.Constants.{file_limit}
@@ -11,14 +11,16 @@ use Rattle.sccs_sid.specs.declared.moments.Stamp.{Stamp}
 use Rattle.sccs_sid.specs.declared.refusals.Refusal.TheVariants.{Exists, TooLong}
 use Rattle.sccs_sid.specs.declared.refusals.Refusal.{Refusal}
 use Rattle.sccs_sid.specs.declared.refusals.StepFault.{StepFault}
-use Rattle.sccs_sid.specs.declared.refusals.StepFault.TheVariants.{Refused}
+use Rattle.sccs_sid.specs.declared.refusals.StepFault.TheVariants.{Refused, DiskFault}
 use Rattle.sccs_disk.specs.Files.{Content, View, put}
 use Rattle.sccs_files.specs.StepFiles.{Files, Moves}
+use Rattle.sccs_files.specs.WholeFiles.{AnswersWhole}
+use Rattle.sccs_files.specs.declared.whole_files.WholeFault.{WholeFault}
 use Rattle.sccs_steps.specs.StepEffects.{Outcome, check}
 use Rattle.sccs_steps.specs.Actions.{IsHeard, Step, quiet_checks}
 use Rattle.sccs_store.specs.Commits.{Becomes}
 use Rattle.sccs_store.specs.declared.new_files.NewFile.TheVariants.{Keep}
-use Rattle.sccs_transactions.specs.Changes.{Changing}
+use Rattle.sccs_transactions.specs.Changes.{Changing, unlocked}
 use Rattle.sccs_transactions.specs.declared.prepared.Prepared.{Prepared}
 use Rattle.sccs_words.specs.declared.commands.AdminWords.{AdminWords}
 use Rattle.sccs_words.specs.declared.commands.Given.{Given}
@@ -51,11 +53,10 @@ admin_outcome words stamp n input named f = do
 abbrev pub admin_change : AdminWords → Stamp → Changing
 admin_change words stamp = record { outcome = admin_outcome words stamp; named = named_by words.text; takes = takes_input words.text; silent = true; could = quiet_checks admin_checks }
 
--- the release and the moment are valid ones, and the words name no file
+-- The release and the moment are valid ones.
 pub record AreAdminValues (words : AdminWords) (stamp : Stamp) : Type 0 where
   pub release : IsComponent (unwrap_or words.release 1)
   pub moment : IsMoment stamp.moment
-  pub unnamed : named_by words.text ≡ []
 
 -- ---- what the parts of admin answer, where a view and the input are told
 
@@ -65,7 +66,17 @@ AnswersText found (Err (Refused refusal)) = found ≡ Err refusal
 AnswersText found (Err fault) = Unit {0}
 
 abbrev pub FindsText : Given → Result (List ℕ) StepFault → List ℕ → Option (List ℕ) → Option View → Type 0
-FindsText given r n left told = IfSome told (λ v. (i : List ℕ) → IsHeard (takes_input given) left i → AnswersText (found_text given i [] (v n)) r)
+FindsText given r n left told = IfSome told (λ v. (i : List ℕ) → IsHeard (takes_input given) left i → AnswersText (found_text given i (map (unlocked n v) (named_by given)) (v n)) r)
+
+-- the bytes of the file that is named as it was before the lock
+abbrev pub ReadsNamed : Result (List ℕ) WholeFault → List ℕ → List ℕ → Option View → Type 0
+ReadsNamed r file n told = IfSome told (λ v. AnswersWhole (unlocked n v file) r)
+
+-- whether the name has no s-file yet
+abbrev pub IsFresh : Result (Unit {0}) StepFault → List ℕ → Option View → Type 0
+IsFresh (Ok done) n told = IfSome told (λ v. v n ≡ None)
+IsFresh (Err (Refused refusal)) n told = (refusal ≡ Exists) × IfSome told (λ v. IsSome (v n))
+IsFresh (Err fault) n told = fault ≡ DiskFault
 
 -- the input, or that it is too long
 abbrev pub Hears : Result (List ℕ) StepFault → List ℕ → Type 0

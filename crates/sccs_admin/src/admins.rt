@@ -1,12 +1,14 @@
-ghost use Rattle.std.specs.Prelude.{◌≡◌, ◌≢◌, ◌≤◌, ◌⊎◌, ℕ, List, Option, Some, [], length, Err, false, true, IfOk};
+ghost use Rattle.std.specs.Prelude.{◌≡◌, ◌≢◌, ◌≤◌, ◌⊎◌, ℕ, List, Option, Some, [], length, Err, false, true, IfOk, IsErrOf};
 ghost use Rattle.sccs_base.specs.Constants.{file_limit};
-ghost use Rattle.sccs_base.specs.Name.{IsSfile};
+ghost use Rattle.sccs_base.specs.Name.{IsSfile, sibling};
+ghost use Rattle.std.specs.Str.{bytes_eq};
 ghost use Rattle.sccs_base.specs.Stream.{Rose};
 ghost use Rattle.sccs_disk.specs.Told.{seen};
 ghost use Rattle.sccs_sid.specs.declared.refusals.StepFault.TheVariants as fault;
 ghost use Rattle.sccs_steps.specs.Causes.{Ignores};
-ghost use Rattle.sccs_admin.specs.AdminStep.{AreAdminValues, FindsText, Hears, IsNew, WritesText, admin_change, admin_checks};
-ghost use Rattle.sccs_admin.specs.Texts.{named_by, takes_input};
+ghost use Rattle.sccs_admin.specs.AdminStep.{AreAdminValues, FindsText, Hears, IsFresh, IsNew, ReadsNamed, WritesText, admin_change, admin_checks};
+ghost use Rattle.sccs_admin.specs.Texts.{takes_input};
+ghost use Rattle.sccs_words.specs.declared.commands.Given.TheVariants as given;
 ghost use Rattle.sccs_steps.specs.Actions.{RefusesWithin};
 ghost use Rattle.sccs_transactions.specs.Changes.{locking};
 ghost use Rattle.sccs_transactions.proofs.Utilities.{locking_keeps};
@@ -17,6 +19,7 @@ use crate::new_files::write_new;
 use crate::texts::count_lines;
 use sccs_base::{Bytes, FILE_LIMIT, Name, Sink, Source, TakeFault, take_all};
 use sccs_disk::{Disk, DiskRefusal};
+use sccs_files::{WholeFault, read_whole};
 use sccs_sid::{Refusal, Stamp, StepFault};
 use sccs_steps::Utility;
 use sccs_store::NewFile;
@@ -50,7 +53,84 @@ fn hear<I: Source>(alloc: Global, input: &mut I) -> Result<Bytes, StepFault>
     }
 }
 
-// the text of the new file, where its name isn't there yet
+// whether a name has no s-file yet
+fn check_fresh<D: Disk>(name: &Name, disk: &mut D) -> Result<(), StepFault>
+    ensures fresh { IsFresh result name.now (seen (D.told disk.old)) }
+    ensures checks { RefusesWithin admin_checks result }
+    ensures same { D.told disk.new ≡ D.told disk.old }
+    ensures later { D.faults disk.old ≤ D.faults disk.new }
+    ensures read { result ≢ Err fault.ReadFault }
+    ensures write { result ≢ Err fault.WriteFault }
+    ensures broke { result ≡ Err fault.DiskFault → Rose (D.faults disk.old) (D.faults disk.new) }
+{
+    match disk.size(name) {
+        Ok(None) => Ok(()),
+        Ok(Some(_)) => Err(StepFault::Refused(Refusal::Exists)),
+        Err(_) => Err(StepFault::DiskFault),
+    }
+}
+
+// whether a file is the z-file of a name
+fn is_lock(file: &Name, name: &Name) -> bool
+    requires { IsSfile name.now }
+    ensures { result ≡ bytes_eq (sibling 122 name.now) file.now }
+{
+    name.sibling(b'z').is(file)
+}
+
+// the bytes of a file that an option names; before the lock its own z-file wasn't there
+fn read_named<D: Disk>(
+    alloc: Global,
+    file: &Name,
+    name: &Name,
+    disk: &mut D,
+) -> Result<Bytes, WholeFault>
+    requires { IsSfile name.now }
+    ensures reads { ReadsNamed result file.now name.now (seen (D.told disk.old)) }
+    ensures bound { IfOk result (λ text. length text ≤ file_limit) }
+    ensures same { D.told disk.new ≡ D.told disk.old }
+    ensures later { D.faults disk.old ≤ D.faults disk.new }
+    ensures cause { IsErrOf result WholeFault.Failed → Rose (D.faults disk.old) (D.faults disk.new) }
+{
+    if is_lock(file, name) {
+        return Err(WholeFault::Missing);
+    }
+    read_whole(alloc, disk, file)
+}
+
+// the text of a file that is named, where the s-file isn't there yet
+fn find_named<D: Disk>(
+    alloc: Global,
+    file: &Name,
+    name: &Name,
+    disk: &mut D,
+) -> Result<Bytes, StepFault>
+    requires { IsSfile name.now }
+    ensures finds { (left : Option (List ℕ)) → FindsText (given.From file.now) result name.now left (seen (D.told disk.old)) }
+    ensures bound { IfOk result (λ text. length text ≤ file_limit) }
+    ensures checks { RefusesWithin admin_checks result }
+    ensures same { D.told disk.new ≡ D.told disk.old }
+    ensures later { D.faults disk.old ≤ D.faults disk.new }
+    ensures read { result ≢ Err fault.ReadFault }
+    ensures write { result ≢ Err fault.WriteFault }
+    ensures broke { result ≡ Err fault.DiskFault → Rose (D.faults disk.old) (D.faults disk.new) }
+{
+    match read_named(alloc, file, name, disk) {
+        Ok(text) => match check_fresh(name, disk) {
+            Ok(()) => Ok(text),
+            Err(fault) => Err(fault),
+        },
+        Err(WholeFault::TooLong) => match check_fresh(name, disk) {
+            Ok(()) => Err(StepFault::Refused(Refusal::TooLong)),
+            Err(fault) => Err(fault),
+        },
+        Err(WholeFault::Missing) => Err(StepFault::Refused(Refusal::Missing)),
+        Err(WholeFault::Failed) => Err(StepFault::DiskFault),
+        Err(WholeFault::Memory) => Err(StepFault::Memory),
+    }
+}
+
+// the text of the new file, where the s-file isn't there yet
 fn find_text<I: Source, D: Disk>(
     alloc: Global,
     given: Given,
@@ -58,7 +138,7 @@ fn find_text<I: Source, D: Disk>(
     input: &mut I,
     disk: &mut D,
 ) -> Result<Bytes, StepFault>
-    requires { named_by given ≡ [] }
+    requires { IsSfile name.now }
     ensures finds { FindsText given result name.now (I.left input.old) (seen (D.told disk.old)) }
     ensures bound { IfOk result (λ text. length text ≤ file_limit) }
     ensures checks { RefusesWithin admin_checks result }
@@ -71,15 +151,16 @@ fn find_text<I: Source, D: Disk>(
     ensures write { result ≢ Err fault.WriteFault }
     ensures broke { result ≡ Err fault.DiskFault → Rose (D.faults disk.old) (D.faults disk.new) }
 {
-    match disk.size(name) {
-        Ok(None) => {}
-        Ok(Some(_)) => return Err(StepFault::Refused(Refusal::Exists)),
-        Err(_) => return Err(StepFault::DiskFault),
-    }
     match given {
-        Given::No => Ok(Bytes::empty(alloc)),
-        Given::Bare => hear(alloc, input),
-        Given::From(_) => Err(StepFault::Refused(Refusal::Missing)),
+        Given::No => match check_fresh(name, disk) {
+            Ok(()) => Ok(Bytes::empty(alloc)),
+            Err(fault) => Err(fault),
+        },
+        Given::Bare => match check_fresh(name, disk) {
+            Ok(()) => hear(alloc, input),
+            Err(fault) => Err(fault),
+        },
+        Given::From(file) => find_named(alloc, &file, name, disk),
     }
 }
 

@@ -1,4 +1,4 @@
-ghost use Rattle.std.specs.Prelude.{◌≡◌, ◌≢◌, ◌<◌, ◌≤◌, ◌+◌, ℕ, List, Some, Ok, Err, true, length, IfSome, IsErrOf};
+ghost use Rattle.std.specs.Prelude.{◌≡◌, ◌≢◌, ◌<◌, ◌≤◌, ◌+◌, ℕ, List, Some, Ok, Err, true, length, IfOk, IfSome, IsErrOf};
 ghost use Rattle.sccs_base.specs.Constants.{file_limit};
 ghost use Rattle.sccs_base.specs.Stream.{Rose};
 ghost use Rattle.sccs_disk.specs.Files.{View};
@@ -59,6 +59,7 @@ fn read_more<D: Disk>(
 /// 1,073,741,824 bytes.
 pub fn read_whole<D: Disk>(alloc: Global, disk: &mut D, name: &Name) -> Result<Bytes, WholeFault>
     ensures told { IfSome (seen (D.told disk.old)) (λ (v : View). AnswersWhole (v name.now) result) }
+    ensures bound { IfOk result (λ bytes. length bytes ≤ file_limit) }
     ensures same { D.told disk.new ≡ D.told disk.old }
     ensures later { D.faults disk.old ≤ D.faults disk.new }
     ensures cause { IsErrOf result WholeFault.Failed → Rose (D.faults disk.old) (D.faults disk.new) }

@@ -7,18 +7,13 @@ use Rattle.sccs_sid.specs.Reading.{is_empty}
 use Rattle.sccs_words.specs.declared.commands.AdminWords.{AdminWords}
 use Rattle.sccs_words.specs.declared.commands.GetWords.{GetWords}
 use Rattle.sccs_words.specs.declared.commands.Given.{Given}
-use Rattle.sccs_words.specs.declared.commands.Given.TheVariants.{No, Bare, From}
+use Rattle.sccs_words.specs.declared.commands.Given.TheVariants.{No}
 use Rattle.sccs_steps.specs.StepEffects.{Outcome}
 use Rattle.sccs_steps.specs.Actions.{Action, KeepsFiles}
 
 -- get prints any version: it has `-k`, `-p` and `-s`, and of the other options only those that say which version
 unfoldable pub is_get_built : GetWords → Bool
 is_get_built words = (words.keep && (words.print && words.silent)) && not (words.branch || (words.edit || (words.no_text || (words.sids || words.module))))
-
--- whether an option has a name
-abbrev pub is_named : Given → Bool
-is_named (From name) = true
-is_named given = false
 
 abbrev pub is_absent : Given → Bool
 is_absent No = true
@@ -27,7 +22,7 @@ is_absent given = false
 -- admin makes new files: it has `-n` or `-i`, and of the other options only `-r` and `-y`
 unfoldable pub is_admin_built : AdminWords → Bool
 is_admin_built words =
-    (words.fresh && not (is_named words.text))
+    words.fresh
     && (is_empty words.add && (is_empty words.erase && (is_empty words.set && (is_empty words.unset && is_empty words.mrs))))
     && (not (words.check || words.fix) && is_absent words.description)
 

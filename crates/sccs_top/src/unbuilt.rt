@@ -13,14 +13,13 @@ use std::alloc::Global;
 pub fn is_admin_built(words: &AdminWords) -> bool
     ensures { result ≡ is_admin_built words.now }
 {
-    let is_named = matches!(words.text, Given::From(_));
     let has_lists = !(words.add.items().is_empty()
         && words.erase.items().is_empty()
         && words.set.items().is_empty()
         && words.unset.items().is_empty()
         && words.mrs.items().is_empty());
     let is_described = !matches!(words.description, Given::No);
-    words.fresh && !is_named && !has_lists && !(words.check || words.fix) && !is_described
+    words.fresh && !has_lists && !(words.check || words.fix) && !is_described
 }
 
 // whether get has `-k`, `-p` and `-s`, and of the other options only those that say which version

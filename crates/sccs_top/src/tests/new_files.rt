@@ -18,9 +18,14 @@ fn new_files_are_written(rt: HostRuntime) -> Result<(), Fail> {
         ..PLAIN
     };
     let name = Name::read(b"s.a").ok_or("a name")?;
-    let rows: [(&[u8], &[u8]); 2] = [(b"admin -n s.a", EMPTY), (b"admin -i s.a", TWO_LINES)];
+    let rows: [(&[u8], &[u8]); 3] = [
+        (b"admin -n s.a", EMPTY),
+        (b"admin -i s.a", TWO_LINES),
+        (b"admin -itext s.a", TWO_LINES),
+    ];
     for (line, file) in rows {
         let mut disk = MemoryDisk::new(rt.alloc(), 1000, &[])?;
+        disk.put(&Name::read(b"text").ok_or("a name")?, TEXT, true)?;
         let made = command_on(rt.alloc(), line, &given, &mut disk)?;
         assert_eq!(rt; made.answer, Answer::Finished { status: 0 });
         assert_eq!(rt; made.out.bytes(), b"".as_slice());
@@ -48,13 +53,14 @@ fn refused_files_are_not_made(rt: HostRuntime) -> Result<(), Fail> {
         input: b"one\n\x01two\n",
         ..PLAIN
     };
-    let rows: [(&[u8], &[u8]); 4] = [
+    let rows: [(&[u8], &[u8]); 5] = [
         (
             b"admin -i s.a",
             b"ERROR [s.a]: line 2 begins with SOH (23)\n",
         ),
         (b"admin -i s.b", b"ERROR [s.b]: locked by z-file (02)\n"),
-        (b"admin -iname s.a", b"ERROR [s.a]: not built yet (99)\n"),
+        (b"admin -iname s.a", b"ERROR [s.a]: no such file (03)\n"),
+        (b"admin -iz.a s.a", b"ERROR [s.a]: no such file (03)\n"),
         (b"admin -n -fb s.a", b"ERROR [s.a]: not built yet (99)\n"),
     ];
     let lock = Name::read(b"z.b").ok_or("a name")?;
@@ -124,6 +130,23 @@ fn stopped_runs_leave_whole_files(rt: HostRuntime) -> Result<(), Fail> {
                 }
             }
         }
+    }
+    Ok(())
+}
+
+#[test]
+fn acknowledged_files_stay(rt: HostRuntime) -> Result<(), Fail> {
+    let given = Given {
+        input: TEXT,
+        ..PLAIN
+    };
+    let name = Name::read(b"s.a").ok_or("a name")?;
+    let mut disk = MemoryDisk::new(rt.alloc(), 1000, &[])?;
+    let made = command_on(rt.alloc(), b"admin -i s.a", &given, &mut disk)?;
+    assert_eq!(rt; made.answer, Answer::Finished { status: 0 });
+    for fill in [Fill::Empty, Fill::Junk(b'?')] {
+        let left = disk.crash(rt.alloc(), CALLS, 0, fill)?;
+        assert_eq!(rt; left.bytes(&name).ok_or("a file")?, TWO_LINES);
     }
     Ok(())
 }

@@ -1,7 +1,7 @@
-use Rattle.std.proofs.Common.{◌∙◌, subst, sym}
+use Rattle.std.proofs.Common.{subst}
 use Rattle.sccs_words.specs.ValidValues.{HasValidValues}
 use Rattle.sccs_top.proofs.AdminValues.{admin_values}
 use Rattle.sccs_top.proofs.commands.utility_of.Goals as goal
 
 pub invariant_of-result : goal.invariant_of-result
-invariant_of-result c = record { valid = admin_values c.in-Admin.words c.args.stamp.now (subst HasValidValues c.in-Admin.is c.requires.values) c.requires.moment (sym c.is_admin_built.ensures ∙ c.if-is_admin_built.true) }
+invariant_of-result c = record { valid = admin_values c.in-Admin.words c.args.stamp.now (subst HasValidValues c.in-Admin.is c.requires.values) c.requires.moment }

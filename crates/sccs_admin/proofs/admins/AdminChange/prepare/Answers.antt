@@ -6,7 +6,7 @@ use Rattle.sccs_admin.proofs.admins.AdminChange.prepare.Goals as goal
 
 pub returns-in-Ok-clause-prepares : goal.returns-in-Ok-clause-prepares
 returns-in-Ok-clause-prepares g c = λ err.
-    found_prepares c.args.self.now.words.now c.args.self.now.stamp.now c.write_text.result c.bytes.result.now c.args.name.now _ _ (seen (g.D.Disk.told c.find_text.new.disk)) _ _ err c.requires.sfile c.args.self.now.valid.unnamed (ap seen c.find_text.ensures.same)
+    found_prepares c.args.self.now.words.now c.args.self.now.stamp.now c.write_text.result c.bytes.result.now c.args.name.now _ _ (seen (g.D.Disk.told c.find_text.new.disk)) _ _ err c.requires.sfile (ap seen c.find_text.ensures.same)
     (subst (λ (text : List ℕ). FindsText c.args.self.now.words.now.text (Ok text) c.args.name.now (g.I.Source.left c.args.input.now) (seen (g.D.Disk.told c.args.disk.now))) (sym c.bytes.ensures) c.in-Ok.ensures.finds)
     c.write_text.ensures.writes
 
@@ -20,4 +20,4 @@ pub returns-in-Ok-clause-silent : goal.returns-in-Ok-clause-silent
 returns-in-Ok-clause-silent g c = λ silent. (refl, text_quiet c.args.self.now.words.now c.args.self.now.stamp.now c.write_text.result _ c.args.name.now _ _ c.write_text.ensures.writes)
 
 pub returns-in-Err-clause-prepares : goal.returns-in-Err-clause-prepares
-returns-in-Err-clause-prepares g c = λ err. find_fails c.args.self.now.words.now c.args.self.now.stamp.now c.in-Err.fault c.args.name.now _ _ _ _ err c.requires.sfile c.args.self.now.valid.unnamed (ap seen c.find_text.ensures.same) c.in-Err.ensures.finds
+returns-in-Err-clause-prepares g c = λ err. find_fails c.args.self.now.words.now c.args.self.now.stamp.now c.in-Err.fault c.args.name.now _ _ _ _ err c.requires.sfile (ap seen c.find_text.ensures.same) c.in-Err.ensures.finds
