@@ -4,3 +4,4 @@ pub mod PrepareLaws
 pub mod StepLaws
 pub mod TextLaws
 pub mod WritingLaws
+pub mod NewFileLaws

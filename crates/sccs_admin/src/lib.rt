@@ -3,6 +3,7 @@
 
 mod admins;
 mod headers;
+pub mod laws;
 mod new_files;
 mod texts;
 
