@@ -3,6 +3,7 @@ use crate::tests::samples::{EMPTY, TWO_LINES};
 use crate::*;
 use sccs_base::Name;
 use sccs_disk::{Fill, MemoryDisk};
+use std::alloc::Global;
 use std::test::Fail;
 
 // two lines, the last without an LF
@@ -147,6 +148,53 @@ fn acknowledged_files_stay(rt: HostRuntime) -> Result<(), Fail> {
     for fill in [Fill::Empty, Fill::Junk(b'?')] {
         let left = disk.crash(rt.alloc(), CALLS, 0, fill)?;
         assert_eq!(rt; left.bytes(&name).ok_or("a file")?, TWO_LINES);
+    }
+    Ok(())
+}
+
+// the files of the name, each with its length
+fn show(alloc: Global, disk: &MemoryDisk) -> Result<Vec<u8>, Fail> {
+    let mut text = Vec::new(alloc);
+    for name in [b"s.a".as_slice(), b"x.a", b"z.a"] {
+        if let Some(bytes) = disk.bytes(&Name::read(name).ok_or("a name")?) {
+            let length = format!(in alloc; "={} ", bytes.len())?;
+            text.extend_from_slice(name)?;
+            text.extend_from_slice(length.as_bytes())?;
+        }
+    }
+    Ok(text)
+}
+
+// What a stop leaves behind the calls: the lock, two that look for the s-file and an x-file, the x-file,
+// its sum line, its header, its body, the sum, the mark, the x-file synced, its new name, the lock's end,
+// the names synced.
+#[test]
+fn calls_come_in_order(rt: HostRuntime) -> Result<(), Fail> {
+    let alloc = rt.alloc();
+    let mut disk = MemoryDisk::new(alloc, 1000, &[])?;
+    command_on(alloc, b"admin -n s.a", &PLAIN, &mut disk)?;
+    let rows: [(u64, u64, Fill, &[u8]); 13] = [
+        (0, 9, Fill::Written, b""),
+        (1, 9, Fill::Written, b"z.a=0 "),
+        (4, 9, Fill::Written, b"x.a=0 z.a=0 "),
+        (5, 9, Fill::Written, b"x.a=8 z.a=0 "),
+        (6, 9, Fill::Written, b"x.a=129 z.a=0 "),
+        (7, 9, Fill::Written, b"x.a=139 z.a=0 "),
+        (9, 9, Fill::Empty, b"x.a=0 z.a=0 "),
+        (10, 9, Fill::Empty, b"x.a=139 z.a=0 "),
+        (11, 9, Fill::Empty, b"s.a=139 z.a=0 "),
+        (11, 0, Fill::Empty, b""),
+        (12, 9, Fill::Empty, b"s.a=139 "),
+        (12, 0, Fill::Empty, b""),
+        (13, 0, Fill::Empty, b"s.a=139 "),
+    ];
+    for (calls, names, fill, left) in rows {
+        let stopped = disk.crash(alloc, calls, names, fill)?;
+        assert_eq!(rt;
+            show(alloc, &stopped)?.as_slice(),
+            left,
+            "after {calls} calls, {names} names"
+        );
     }
     Ok(())
 }
