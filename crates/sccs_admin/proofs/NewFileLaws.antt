@@ -1,15 +1,19 @@
 -- A new s-file is read as it was made, and its version is its text.
-use Rattle.std.proofs.Common.{◌≡◌, ℕ, suc, ◌<◌, ◌≤◌, Bool, true, false, cond, List, [], ◌∷◌, ◌++◌, map, length, get_or, Option, None, Some, Result, Ok, Err, refl, sym, ap, subst, ◌∙◌, arith}
-use Rattle.std.specs.Prelude.{min, not, ◌&&◌}
+use Rattle.std.proofs.Common.{◌≡◌, ◌≢◌, ℕ, suc, ◌+◌, ◌/◌, ◌%◌, ◌==◌, ◌<◌, ◌≤◌, Bool, true, false, cond, List, [], ◌∷◌, ◌++◌, map, length, get_or, Option, None, Some, IfSome, Result, Ok, Err, refl, sym, ap, subst, ◌∙◌, arith}
+use Rattle.std.specs.Prelude.{min, not, ◌&&◌, ◌||◌, codes, unwrap_or}
 use Rattle.std.specs.List.{All, AllByRecursion}
+use Rattle.std.proofs.lemmas.List.Elements.{All-append, All-cons, All-nil}
 use Rattle.std.proofs.Math.Nat.{min-le_right}
 use Rattle.sccs_base.specs.Cut.{HasNoLf, text_of}
 use Rattle.sccs_base.proofs.Lines.{text_fit}
+use Rattle.sccs_base.specs.Login.{IsLogin}
+use Rattle.sccs_sid.specs.Moment.{civil_of, date_text, moment_text, time_text, two}
 use Rattle.sccs_sid.specs.SidLists.{begins}
+use Rattle.sccs_sid.specs.declared.moments.Moment.{Moment}
 use Rattle.sccs_sid.specs.declared.moments.Stamp.{Stamp}
 use Rattle.sccs_history.specs.Numbers.{first, front_if, has, is_empty, share}
 use Rattle.sccs_history.specs.Body.{GoesOn, deleters, inserter, inserters, is_closed, is_over, lines_behind, lines_of, mark}
-use Rattle.sccs_history.specs.History.{IsHeader, IsRecord, IsSpelled}
+use Rattle.sccs_history.specs.History.{AreLines, IsHeader, IsSpelled}
 use Rattle.sccs_history.specs.Select.{select}
 use Rattle.sccs_history.specs.declared.headers.Item.{Item}
 use Rattle.sccs_history.specs.declared.headers.Item.TheVariants.{Text, Insert, End}
@@ -18,7 +22,9 @@ use Rattle.sccs_grammar.specs.Written.{HasLines, IsItem, canonical}
 use Rattle.sccs_grammar.proofs.CanonicalLaws.{canonical_again}
 use Rattle.sccs_script.specs.Checks.{bad_line}
 use Rattle.sccs_words.specs.declared.commands.AdminWords.{AdminWords}
-use Rattle.sccs_admin.specs.NewFiles.{first_record, new_header, new_items}
+use Rattle.sccs_admin.specs.NewFiles.{comment_lines, made_by, new_header, new_items}
+use Rattle.sccs_admin.specs.AdminStep.{AreAdminValues}
+use Rattle.sccs_admin.proofs.HeaderRules.{first_sid_is}
 use Rattle.sccs_admin.specs.Texts.{count_lines, counted}
 
 -- ---- the header
@@ -52,6 +58,58 @@ header_rules words stamp count = record {
     description = tt;
   };
   plain = refl;
+}
+
+-- ---- its spelling
+
+abbrev NoLf : ℕ → Type 0
+NoLf b = b ≢ 10
+
+all_two : (n : ℕ) → All NoLf (two n)
+all_two n = All-cons NoLf (48 + n / 10) ((48 + n % 10) ∷ []) (λ is. omega (arith, is)) (All-cons NoLf (48 + n % 10) [] (λ is. omega (arith, is)) (All-nil NoLf))
+
+parted : (b : ℕ) (xs ys : List ℕ) → b ≢ 10 → All NoLf xs → All NoLf ys → All NoLf (xs ++ (b ∷ ys))
+parted b xs ys other front rest = All-append NoLf xs (b ∷ ys) front (All-cons NoLf b ys other rest)
+
+three_two : (b x y z : ℕ) → b ≢ 10 → All NoLf (two x ++ (b ∷ two y ++ (b ∷ two z)))
+three_two b x y z other = parted b (two x) (two y ++ (b ∷ two z)) other (all_two x) (parted b (two y) (two z) other (all_two y) (all_two z))
+
+moment_line : (moment : Moment) → All NoLf (moment_text moment)
+moment_line moment =
+    let c = civil_of moment in
+    parted 32 (date_text moment) (time_text moment) (λ is. omega (arith, is)) (three_two 47 (c.year % 100) c.month c.day (λ is. omega (arith, is))) (three_two 58 c.hour c.minute c.second (λ is. omega (arith, is)))
+
+neither : (a b : Bool) → (a || b) ≡ false → (a ≡ false) × (b ≡ false)
+neither true b is = absurd (cc)
+neither false b is = (refl, is)
+
+other_byte : (b : ℕ) → (b == 10) ≡ false → b ≢ 10
+other_byte b isnt e = let is : (b == 10) ≡ true = ap (λ n. n == 10) e in cc
+
+without : (xs : List ℕ) → has xs 10 ≡ false → All NoLf xs
+without [] is = All-nil NoLf
+without (x ∷ xs) is = let both = neither (x == 10) (has xs 10) is in All-cons NoLf x xs (other_byte x both.0) (without xs both.1)
+
+login_line : (login : List ℕ) → IsLogin login → All NoLf login
+login_line login is = λ k d low e. omega (arith, is.visible k d low, e)
+
+made_line : (stamp : Stamp) → IsLogin stamp.login → All NoLf (made_by stamp)
+made_line stamp login =
+    All-append NoLf (codes "date and time created ") (moment_text stamp.moment ++ (codes " by " ++ stamp.login)) (without (codes "date and time created ") refl)
+    (All-append NoLf (moment_text stamp.moment) (codes " by " ++ stamp.login) (moment_line stamp.moment)
+    (All-append NoLf (codes " by ") stamp.login (without (codes " by ") refl) (login_line stamp.login login)))
+
+comments_are_lines : (comment : Option (List (List ℕ))) (stamp : Stamp) → IsLogin stamp.login → IfSome comment AreLines → AreLines (comment_lines comment stamp)
+comments_are_lines None stamp login lines = (made_line stamp login, tt)
+comments_are_lines (Some []) stamp login lines = (All-nil NoLf, tt)
+comments_are_lines (Some (line ∷ rest)) stamp login lines = lines
+
+header_spelled : (words : AdminWords) (stamp : Stamp) (count : ℕ) → AreAdminValues words stamp → IsLogin stamp.login → IfSome words.comment AreLines → IsSpelled (new_header words stamp count)
+header_spelled words stamp count valid login lines = record {
+  records = (record { sid = first_sid_is words.release (unwrap_or words.release 1) refl valid.release; moment = valid.moment; login = login; mrs = tt; comments = comments_are_lines words.comment stamp login lines }, tt);
+  users = tt;
+  flags = tt;
+  description = tt;
 }
 
 -- ---- the items
@@ -96,9 +154,9 @@ texts_have_lines (line ∷ lines) all = (all 0 line (omega arith), texts_have_li
 
 -- ---- the laws
 
-pub new_file_again : (words : AdminWords) (stamp : Stamp) (text : List ℕ) (count : ℕ) → IsSpelled (new_header words stamp count) → count_lines (text_of text) ≡ Ok count → IsSFile (canonical (new_header words stamp count) (new_items (text_of text))) (new_header words stamp count) (new_items (text_of text))
-new_file_again words stamp text count spelled is =
-    canonical_again (new_header words stamp count) (new_items (text_of text)) (header_rules words stamp count) spelled
+pub new_file_again : (words : AdminWords) (stamp : Stamp) (text : List ℕ) (count : ℕ) → AreAdminValues words stamp → IsLogin stamp.login → IfSome words.comment AreLines → count_lines (text_of text) ≡ Ok count → IsSFile (canonical (new_header words stamp count) (new_items (text_of text))) (new_header words stamp count) (new_items (text_of text))
+new_file_again words stamp text count valid login lines is =
+    canonical_again (new_header words stamp count) (new_items (text_of text)) (header_rules words stamp count) (header_spelled words stamp count valid login lines)
     ((omega arith, omega arith), lines_are_items 0 (text_of text) (none_bad (text_of text) (bad_line 0 (text_of text)) count is))
     (tt, texts_have_lines (text_of text) (text_fit text))
     (items_go_on (text_of text))

@@ -1,8 +1,10 @@
-ghost use Rattle.std.specs.Prelude.{◌≡◌, ℕ, List, [], ◌∷◌, Ok};
+ghost use Rattle.std.specs.Prelude.{◌≡◌, ℕ, List, [], ◌∷◌, Ok, IfSome};
 ghost use Rattle.sccs_base.specs.Cut.{text_of};
+ghost use Rattle.sccs_base.specs.Login.{IsLogin};
+ghost use Rattle.sccs_admin.specs.AdminStep.{AreAdminValues};
 ghost use Rattle.sccs_grammar.specs.File.{IsSFile};
 ghost use Rattle.sccs_history.specs.Body.{lines_of};
-ghost use Rattle.sccs_history.specs.History.{IsSpelled};
+ghost use Rattle.sccs_history.specs.History.{AreLines};
 ghost use Rattle.sccs_history.specs.Select.{select};
 ghost use Rattle.sccs_sid.specs.declared.moments.Stamp.{Stamp};
 ghost use Rattle.sccs_words.specs.declared.commands.AdminWords.{AdminWords};
@@ -13,7 +15,7 @@ ghost use Rattle.sccs_admin.specs.Texts.{count_lines};
 /// its one delta is the text's lines.
 pub fn new_files_are_read()
     ensures reads { (words : AdminWords) (stamp : Stamp) (text : List ℕ) (count : ℕ)
-        → IsSpelled (new_header words stamp count) → count_lines (text_of text) ≡ Ok count
+        → AreAdminValues words stamp → IsLogin stamp.login → IfSome words.comment AreLines → count_lines (text_of text) ≡ Ok count
         → IsSFile (new_content words stamp count (text_of text)).bytes (new_header words stamp count) (new_items (text_of text)) }
     ensures version { (lines : List (List ℕ)) → select (1 ∷ []) (lines_of (new_items lines)) ≡ lines }
 {}
