@@ -27,7 +27,9 @@ use sccs_transactions::{Change, Prepared, change_file};
 use sccs_words::{AdminWords, Given};
 use std::alloc::Global;
 
-/// admin on a name that is to become an s-file: POSIX, Shell and Utilities, admin, -n and -i.
+/// admin on a name that is to become an s-file: POSIX, Shell and Utilities, admin, -n and -i. It refuses a
+/// name that is locked, a named file that isn't there, an s-file that is, a text of more than
+/// 1,073,741,824 bytes, and one of which a line begins with SOH, in this order.
 #[derive(Drop)]
 pub struct Admin<'a> {
     pub words: &'a AdminWords,

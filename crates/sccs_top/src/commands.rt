@@ -164,8 +164,8 @@ fn run_command<I: Source, O: Sink, E: Sink, D: Disk>(
     }
 }
 
-/// Does a command. The words are those behind the program's name; `stamp` is its moment and login,
-/// `place` the folder's path. Texts go to `out`, messages to `err`.
+/// Does a command. The words are those behind the program's name; `stamp` is its moment, of the years
+/// 1969 to 2068, and its login, `place` the folder's path. Texts go to `out`, messages to `err`.
 ///
 /// Built are admin on new files, with `-n` or `-i`, `-r` and `-y`, and get with `-k`, `-p` and `-s`, and of
 /// its other options those that say which version.

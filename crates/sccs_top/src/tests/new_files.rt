@@ -113,24 +113,39 @@ fn failing_calls_harm_no_file(rt: HostRuntime) -> Result<(), Fail> {
     Ok(())
 }
 
+// whether a stop behind so many calls leaves no s-file or the whole one, whatever else it leaves
+fn is_whole_or_none(alloc: Global, disk: &MemoryDisk, calls: u64) -> Result<bool, Fail> {
+    let name = Name::read(b"s.a").ok_or("a name")?;
+    let images: [(u64, Fill); 6] = [
+        (0, Fill::Empty),
+        (1, Fill::Empty),
+        (2, Fill::Junk(b'?')),
+        (3, Fill::Written),
+        (9, Fill::Empty),
+        (9, Fill::Junk(b'?')),
+    ];
+    for (names, fill) in images {
+        let left = disk.crash(alloc, calls, names, fill)?;
+        if left.bytes(&name).is_some_and(|bytes| bytes != TWO_LINES) {
+            return Ok(false);
+        }
+    }
+    Ok(true)
+}
+
 #[test]
 fn stopped_runs_leave_whole_files(rt: HostRuntime) -> Result<(), Fail> {
     let given = Given {
         input: TEXT,
         ..PLAIN
     };
-    let name = Name::read(b"s.a").ok_or("a name")?;
     let mut disk = MemoryDisk::new(rt.alloc(), 1000, &[])?;
     command_on(rt.alloc(), b"admin -i s.a", &given, &mut disk)?;
     for calls in 0..CALLS {
-        for names in 0..4 {
-            for fill in [Fill::Empty, Fill::Written, Fill::Junk(b'?')] {
-                let left = disk.crash(rt.alloc(), calls, names, fill)?;
-                if let Some(bytes) = left.bytes(&name) {
-                    assert_eq!(rt; bytes, TWO_LINES);
-                }
-            }
-        }
+        assert!(rt;
+            is_whole_or_none(rt.alloc(), &disk, calls)?,
+            "after {calls} calls"
+        );
     }
     Ok(())
 }
