@@ -18,7 +18,7 @@ use Rattle.sccs_grammar.specs.Written.{bytes_behind, bytes_of, canonical, ended,
 use Rattle.sccs_history.specs.declared.headers.Header.{Header}
 use Rattle.sccs_history.specs.declared.headers.Item.{Item}
 use Rattle.sccs_store.specs.Commits.{Becomes, summed}
-use Rattle.sccs_store.proofs.Working.{becomes_as, becomes_both}
+use Rattle.sccs_store.proofs.Working.{altered_put, becomes_as, becomes_both}
 use Rattle.sccs_table.specs.SumOf.{IsSumOf}
 use Rattle.sccs_writers.specs.HeaderBytes.{WritesHeader, header_bytes}
 use Rattle.sccs_writers.specs.OneFile.{OnlyWrites}
@@ -96,9 +96,6 @@ both_summed h text n s s2 a b c f g k q done (Ok sums) is zero first second =
 both_summed h text n s s2 a b c f g k q done (Err refusal) is zero first second = tt
 
 -- ---- the whole file
-
-altered_put : (n : List ℕ) (g : Content → Content) (c : Content) (v : View) → altered n g (put v n (Some c)) ≡ put v n (Some (g c))
-altered_put n g c v = ap (λ (o : Option Content). put (put v n (Some c)) n (option_map g o)) (put_same v n (Some c)) ∙ put_again v n (Some c) (Some (g c))
 
 abbrev content_of : List ℕ → Content
 content_of bytes = record { bytes = bytes; writable = false }

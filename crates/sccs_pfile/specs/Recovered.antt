@@ -19,10 +19,14 @@ is_done records e = lives records e.made
 abbrev pub without_done : List Record → List Edit → List Edit
 without_done records edits = filter (λ e. not (is_done records e)) edits
 
--- the p-file of entries: none where there are none, else their written spelling in a file that may be written
+-- a p-file as it is written; it may be written
+abbrev pub written_pfile : List Edit → Content
+written_pfile edits = record { bytes = edits_text edits; writable = true }
+
+-- the p-file of entries: none where there are none, else their written spelling
 abbrev pub pfile_of : List Edit → Option Content
 pfile_of [] = None
-pfile_of (e ∷ edits) = Some (record { bytes = edits_text (e ∷ edits); writable = true })
+pfile_of (e ∷ edits) = Some (written_pfile (e ∷ edits))
 
 -- the delta table of an s-file that can be read
 unfoldable pub table_of : List ℕ → Option (List Record)

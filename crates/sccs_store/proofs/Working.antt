@@ -124,6 +124,14 @@ pub altered_both : (n : List ℕ) (f g : Content → Content) (o o2 o3 : Option 
 altered_both n f g o o2 o3 first second =
     becomes_as (λ v. altered n g (altered n f v)) (altered n (λ c. g (f c))) o o3 (altered_twice n f g) (becomes_both (altered n f) (altered n g) o o2 o3 first second)
 
+-- a file that is made and then changed
+pub altered_put : (n : List ℕ) (g : Content → Content) (c : Content) (v : View) → altered n g (put v n (Some c)) ≡ put v n (Some (g c))
+altered_put n g c v = ap (λ (o : Option Content). put (put v n (Some c)) n (option_map g o)) (put_same v n (Some c)) ∙ put_again v n (Some c) (Some (g c))
+
+pub made_and_changed : (n : List ℕ) (g : Content → Content) (c : Content) (o o2 o3 : Option View) → Becomes (λ v. put v n (Some c)) o o2 → Becomes (altered n g) o2 o3 → Becomes (λ v. put v n (Some (g c))) o o3
+made_and_changed n g c o o2 o3 first second =
+    becomes_as (λ v. altered n g (put v n (Some c))) (λ v. put v n (Some (g c))) o o3 (altered_put n g c) (becomes_both (λ v. put v n (Some c)) (altered n g) o o2 o3 first second)
+
 -- the digits of a sum are written, and the file is protected
 pub sum_written : (n digits : List ℕ) (sum : ℕ) (o o2 o3 : Option View) → digits ≡ five sum → Becomes (altered n (overwritten 2 digits)) o o2 → Becomes (altered n protected) o2 o3 → Becomes (altered n (summed sum)) o o3
 sum_written n digits sum o o2 o3 is first second =

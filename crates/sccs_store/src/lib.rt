@@ -6,9 +6,11 @@ mod commits;
 pub mod laws;
 mod locks;
 mod new_files;
+mod pfiles;
 mod working_files;
 
 pub use commits::commit;
 pub use locks::{LockFault, lock};
 pub use new_files::{NewFile, NewG, NewP};
+pub use pfiles::prepare_p;
 pub use working_files::{abandon, finish_x, start};
