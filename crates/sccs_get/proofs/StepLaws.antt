@@ -29,6 +29,7 @@ use Rattle.sccs_body.proofs.FileLaws.{file_items}
 use Rattle.sccs_words.specs.declared.commands.GetWords.{GetWords}
 use Rattle.sccs_files.specs.StepFiles.{Files, look, moved, is_working, is_left, Moves, MovesPartly, AreCleared}
 use Rattle.sccs_steps.specs.StepEffects.{StepEffect, Outcome, effect_of}
+use Rattle.sccs_steps.proofs.ReadingSteps.{Explains, broken, ends_silent, kept}
 use Rattle.sccs_steps.specs.Calls.{Meets, Uncommitted, Interrupted, world, scene}
 use Rattle.sccs_steps.specs.Actions.{IsHeard, KeepsFiles, RefusesWithin, SpeaksBy, Stepped, has_number, quiet_checks}
 use Rattle.sccs_base.proofs.Gifts.{gives_none, some_none}
@@ -61,36 +62,6 @@ pub found_set : (words : GetWords) (files : Files) (parsed : Parsed) (set : List
 found_set words files parsed set is asked = read_file words files parsed is ∙ ap (λ (r : Result (List ℕ) Refusal). r >>= λ (s : List ℕ). Ok (prints (bytes_of (select s (lines_of parsed.items))))) asked
 
 -- ---- how its call ends, over a disk that tells what it told
-
-kept : (view : View) (told : Option View) (name text : List ℕ) (out out2 err : Option (List ℕ)) → told ≡ Some view → GivesSome out out2 text → Uncommitted name text (world (Some view) out err) (world told out2 err)
-kept view told name text out out2 err same gives = record {
-  view = subst (λ (t : Option View). Moves (is_working name) (λ v. v) (Some view) t) (sym same) (λ k h. refl);
-  cleared = subst (λ (t : Option View). AreCleared name (Some view) t) (sym same) (λ k h. inr refl);
-  out = gives;
-  err = refl;
-}
-
-broken : (view : View) (told : Option View) (name : List ℕ) (o : Outcome) (out out2 err : Option (List ℕ)) → told ≡ Some view → GivesSome out out2 (effect_of name o).text → Interrupted name o (world (Some view) out err) (world told out2 err)
-broken view told name o out out2 err same gives = record {
-  view = subst (λ (t : Option View). MovesPartly (is_left name) (λ v. moved v name (effect_of name o).new) (Some view) t) (sym same) (λ k h. inl refl);
-  out = gives;
-  err = refl;
-}
-
--- why a step ended before it printed
-abbrev pub Explains : Outcome → StepFault → Type 0
-Explains o (Refused refusal) = o ≡ Err refusal
-Explains o Memory = Unit {0}
-Explains o DiskFault = Unit {0}
-Explains o ReadFault = ⊥
-Explains o WriteFault = ⊥
-
-ends_silent : (view : View) (told : Option View) (name : List ℕ) (o : Outcome) (fault : StepFault) (out err : Option (List ℕ)) → told ≡ Some view → Explains o fault → Meets (λ (done : Unit {0}). 0) (Err fault) name o (world (Some view) out err) (world told out err)
-ends_silent view told name o (Refused refusal) out err same why = (why, kept view told name [] out out err same (some_none out []))
-ends_silent view told name o Memory out err same why = kept view told name (effect_of name o).text out out err same (some_none out (effect_of name o).text)
-ends_silent view told name o DiskFault out err same why = broken view told name o out out err same (some_none out (effect_of name o).text)
-ends_silent view told name o ReadFault out err same why = absurd why
-ends_silent view told name o WriteFault out err same why = absurd why
 
 -- all was found, and the text was given, or a front of it
 ends_printed : (view : View) (told : Option View) (name text : List ℕ) (result : Result (Unit {0}) StepFault) (out out2 err : Option (List ℕ)) → told ≡ Some view → Prints text result out out2

@@ -3,3 +3,4 @@ pub mod Gifts
 pub mod JoinedSteps
 pub mod OneStep
 pub mod OperandLaws
+pub mod ReadingSteps

@@ -9,4 +9,5 @@ mod transactions;
 
 pub use changes::Change;
 pub use prepared::Prepared;
+pub use reports::report;
 pub use transactions::change_file;

@@ -20,7 +20,8 @@ pub fn give_any<S: Sink>(bytes: &[u8], out: &mut S) -> Result<(), Failed>
     out.give(bytes)
 }
 
-/// Gives what a change wrote before its commit: the report and the message.
+/// Gives a report and a message that were made before: those of a change after its commit, or of a step that
+/// only reads.
 pub fn report<O: Sink, E: Sink>(
     prepared: &Prepared,
     out: &mut O,

@@ -1,0 +1,12 @@
+use Rattle.std.proofs.Common.{◌∙◌}
+use Rattle.sccs_base.specs.Name.{sibling}
+use Rattle.sccs_pfile.specs.Recovered.{written_pfile}
+use Rattle.sccs_store.proofs.Working.{made_moves}
+use Rattle.sccs_pending.proofs.EntryLaws.{some_chosen}
+use Rattle.sccs_pending.proofs.new_pfiles.prepare_entries.Goals as goal
+
+pub returns-in-Ok-clause-entries : goal.returns-in-Ok-clause-entries
+returns-in-Ok-clause-entries g c = some_chosen c.args.name.now c.args.edits.now _ (g.D.Disk.told c.prepare_p.new.disk) (λ none. c.if-len-eq0.false (c.len.ensures ∙ none)) c.in-Ok.ensures.view
+
+pub returns-in-Ok-clause-moves : goal.returns-in-Ok-clause-moves
+returns-in-Ok-clause-moves g c = made_moves (sibling 113 c.args.name.now) (written_pfile c.args.edits.now) _ _ c.in-Ok.ensures.view

@@ -1,0 +1,4 @@
+pub mod NewEntries
+pub mod PFiles
+pub mod Pending
+pub mod Reports

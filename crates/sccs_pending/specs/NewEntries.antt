@@ -1,0 +1,52 @@
+-- A p-file that is to have these entries, and what else a step makes of the files of its name.
+use Rattle.std.specs.Prelude.{◌≡◌, ℕ, ◌-◌, Bool, false, List, [], drop, slice_get, Option, None, Some, IfSome, option_map, unwrap_or, Result, Ok, Err, if◌then◌else◌}
+use Rattle.sccs_base.specs.Name.{sibling}
+use Rattle.sccs_disk.specs.Files.{Content, View}
+use Rattle.sccs_disk.specs.Told.{Told, seen}
+use Rattle.sccs_disk.specs.Calls.{IsThere}
+use Rattle.sccs_files.specs.StepFiles.{Files}
+use Rattle.sccs_sid.specs.Sid.{sid_text}
+use Rattle.sccs_sid.specs.declared.refusals.Refusal.{Refusal}
+use Rattle.sccs_sid.specs.declared.refusals.Refusal.TheVariants as refusals
+use Rattle.sccs_pfile.specs.Recovered.{pfile_of}
+use Rattle.sccs_pfile.specs.declared.choosing.Choice.{Choice}
+use Rattle.sccs_pfile.specs.declared.choosing.Choice.TheVariants.{One, NoEdit, ManyEdits}
+use Rattle.sccs_pfile.specs.declared.entries.Edit.{Edit}
+use Rattle.sccs_steps.specs.StepEffects.{StepEffect}
+use Rattle.sccs_store.specs.Commits.{Needs, chosen}
+use Rattle.sccs_store.specs.declared.new_files.NewFile.{NewFile}
+use Rattle.sccs_transactions.specs.declared.prepared.Prepared.{Prepared}
+
+-- the p-file has these entries, the g-file is this, and so much is reported on out
+abbrev pub with_entries : Files → List Edit → Option Content → List ℕ → StepEffect
+with_entries f edits g report = record { new = Some (record { s = f.s; p = pfile_of edits; z = None; g = g }); text = []; out = report; err = []; status = 0 }
+
+-- the number of the entry that is meant, from 1; or none is pending, or the SID must be specified
+abbrev pub or_no_edit : Choice → Result ℕ Refusal
+or_no_edit (One number) = Ok number
+or_no_edit NoEdit = Err refusals.NoEdit
+or_no_edit ManyEdits = Err refusals.ManyEdits
+
+-- the SID that the entry of a number is to make
+abbrev pub made_text : List Edit → ℕ → List ℕ
+made_text edits number = unwrap_or (option_map (λ (e : Edit). sid_text e.made) (slice_get edits (number - 1))) []
+
+-- the g-file is kept, or removed where it is there
+abbrev pub kept_g : Bool → Option Content → Option Content
+kept_g keep g = if keep then g else None
+
+-- What becomes of the p-file is prepared: a commit makes it the p-file of these entries.
+pub record PreparesEntries (n : List ℕ) (edits : List Edit) (new : NewFile) (before told : Told) : Type 0 where
+  pub chosen_is : IfSome (seen told) (λ (v : View). (old : Option Content) → chosen new (v (sibling 113 n)) old ≡ pfile_of edits)
+  pub needs : (edits ≡ [] → IsThere (sibling 112 n) before) → Needs new (sibling 113 n) (sibling 112 n) told
+
+-- A commit leaves the g-file, or removes it.
+pub record LeavesG (n : List ℕ) (keep : Bool) (new : NewFile) (told : Told) : Type 0 where
+  pub chosen_is : IfSome (seen told) (λ (v : View). (y : Option Content) → chosen new y (v (drop 2 n)) ≡ kept_g keep (v (drop 2 n)))
+  pub needs : Needs new (sibling 121 n) (drop 2 n) told
+
+-- What a change prepares that has these entries: the s-file stays, and this is reported.
+pub record IsOfEntries (p : Prepared) (report : List ℕ) : Type 0 where
+  pub s : p.new_s ≡ false
+  pub report_is : p.report ≡ report
+  pub message : p.message ≡ []
