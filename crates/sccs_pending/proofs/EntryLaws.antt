@@ -1,5 +1,5 @@
 -- New entries that are prepared, and what a commit makes of them.
-use Rattle.std.proofs.Common.{◌≡◌, ℕ, Bool, true, false, List, [], ◌∷◌, drop, length, Option, None, Some, Result, Ok, Err, refl, sym, ap, subst, ◌∙◌}
+use Rattle.std.proofs.Common.{◌≡◌, ℕ, zero, suc, Bool, true, false, List, [], ◌∷◌, All, arith, drop, remove, length, Option, None, Some, Result, Ok, Err, refl, sym, ap, subst, ◌∙◌}
 use Rattle.std.specs.Prelude.{IfSome, IsSome, option_map}
 use Rattle.std.specs.Str.{bytes_eq}
 use Rattle.sccs_base.specs.Name.{IsSfile, sibling}
@@ -87,3 +87,16 @@ some_chosen n (e ∷ edits) a b some is = record { chosen_is = chosen_q (seen a)
     there : (o o2 : Option View) → Becomes (λ v. put v (sibling 113 n) (Some (written_pfile (e ∷ edits)))) o o2 → IfSome o2 (λ (v : View). IsSome (v (sibling 113 n)))
     there None o2 is = subst (λ (x : Option View). IfSome x (λ (v : View). IsSome (v (sibling 113 n)))) (sym is) tt
     there (Some v) o2 is = subst (λ (x : Option View). IfSome x (λ (u : View). IsSome (u (sibling 113 n)))) (sym is) (subst IsSome (sym (put_same v (sibling 113 n) (Some (written_pfile (e ∷ edits))))) refl)
+
+-- ---- an entry that is taken out
+
+one_more : {X : Type 0} (P : X → Type 0) (x : X) (xs : List X) → ((d : X) → P x) → All P xs → All P (x ∷ xs)
+one_more P x xs first all zero d low = first d
+one_more P x xs first all (suc k) d low = all k d (omega (arith, low))
+
+-- what holds of each of several holds of those that are left
+pub all_left : {X : Type 0} (P : X → Type 0) (xs : List X) (n : ℕ) → All P xs → All P (remove xs n)
+all_left P [] zero all = all
+all_left P [] (suc n) all = all
+all_left P (x ∷ xs) zero all = λ k d low. all (suc k) d (omega (arith, low))
+all_left P (x ∷ xs) (suc n) all = one_more P x (remove xs n) (λ d. all zero d (omega arith)) (all_left P xs n (λ j e below. all (suc j) e (omega (arith, below))))

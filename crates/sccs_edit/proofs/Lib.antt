@@ -1,0 +1,2 @@
+pub mod SactLaws
+pub mod UngetLaws

@@ -1,0 +1,9 @@
+//! sact and unget: pending edits shown, and dropped. POSIX, Shell and Utilities, sact and unget.
+#![tactic(auto)]
+
+mod sact;
+mod sact_reports;
+mod unget;
+
+pub use sact::Sact;
+pub use unget::Unget;
