@@ -9,7 +9,8 @@ ghost use Rattle.sccs_steps.specs.Actions.{RefusesWithin};
 ghost use Rattle.sccs_transactions.proofs.Utilities.{locking_keeps};
 ghost use Rattle.sccs_transactions.specs.Changes.{locking};
 ghost use Rattle.sccs_edit.specs.Checks.{unget_locked};
-ghost use Rattle.sccs_edit.specs.UngetStep.{DropsEntry, unget_change, unget_checks, unget_report};
+ghost use Rattle.sccs_edit.specs.UngetStep.{unget_change, unget_checks, unget_report, without_entry};
+ghost use Rattle.sccs_pending.specs.NewEntries.{PreparesDecided};
 
 use sccs_base::{Bytes, Memory, Name, Sink, Source};
 use sccs_disk::{Disk, DiskRefusal};
@@ -68,7 +69,7 @@ fn drop_entry<D: Disk>(
     requires edits { All IsEdit edits }
     requires some { 0 < number }
     requires there { number ≤ length edits }
-    ensures drops { DropsEntry result unget.now.words.now unget.now.heading name.now edits number (D.told disk.old) (D.told disk.new) }
+    ensures drops { PreparesDecided result name.now (without_entry unget.now.words.now unget.now.heading name.now edits number) (D.told disk.old) (D.told disk.new) }
     ensures checks { RefusesWithin unget_checks result }
     ensures later { D.faults disk.old ≤ D.faults disk.new }
     ensures cause { result ≡ Err fault.DiskFault → Rose (D.faults disk.old) (D.faults disk.new) }

@@ -19,10 +19,11 @@ use Rattle.sccs_sets.proofs.Trunks.{newest_of_trunk}
 use Rattle.sccs_words.specs.declared.commands.GetWords.{GetWords}
 use Rattle.sccs_files.specs.StepFiles.{Files}
 use Rattle.sccs_sets.specs.Flags.{default_of}
-use Rattle.sccs_get.specs.GetStep.{bytes_at, get_step, listed, prints, set_asked, spec_asked}
+use Rattle.sccs_pending.specs.Pending.{bytes_at}
+use Rattle.sccs_get.specs.GetStep.{get_step, listed, prints, set_asked, spec_asked}
 use Rattle.sccs_get.specs.Linear.{AsksNewest, IsLinearFile}
 use Rattle.sccs_get.proofs.StepLaws.{found_set}
-use Rattle.sccs_get.proofs.TargetLaws.{set_by, asked_by}
+use Rattle.sccs_get.proofs.TargetLaws.{asked_at, asked_by, set_by, set_found}
 
 spec_none : (words : GetWords) (header : Header) → words.spec ≡ None → default_of header.flags ≡ None → spec_asked words header ≡ None
 spec_none words header none default = rw none default
@@ -31,12 +32,13 @@ spec_none words header none default = rw none default
 newest_asked : (words : GetWords) (header : Header) → AsksNewest words → default_of header.flags ≡ None → retrieved header.records None words.top ≡ Some (newest header.records)
     → set_asked words header ≡ Ok (applied (version_of (newest header.records)) header.records)
 newest_asked words header asks default found =
-    asked_by words header
+    set_found words header (asked_at (newest header.records) [] [] (applied (version_of (newest header.records)) header.records))
+    (asked_by words header
     ∙ (ap (λ (spec : Option Spec). set_by (retrieved header.records spec words.top) (listed header.records words.include) (listed header.records words.exclude) (option_map (λ m. m.seconds) words.cutoff) header.records) (spec_none words header asks.spec default)
     ∙ (ap (λ (n : Option ℕ). set_by n (listed header.records words.include) (listed header.records words.exclude) (option_map (λ m. m.seconds) words.cutoff) header.records) found
     ∙ (ap (λ (list : Option (List Range)). set_by (Some (newest header.records)) (listed header.records list) (listed header.records words.exclude) (option_map (λ m. m.seconds) words.cutoff) header.records) asks.include
     ∙ (ap (λ (list : Option (List Range)). set_by (Some (newest header.records)) (Ok []) (listed header.records list) (option_map (λ m. m.seconds) words.cutoff) header.records) asks.exclude
-    ∙ ap (λ last. set_by (Some (newest header.records)) (Ok []) (Ok []) (option_map (λ m. m.seconds) last) header.records) asks.cutoff))))
+    ∙ ap (λ last. set_by (Some (newest header.records)) (Ok []) (Ok []) (option_map (λ m. m.seconds) last) header.records) asks.cutoff)))))
 
 newest_got : (records : List Record) (top : Bool) → is_empty records ≡ false → IsTrunk records → retrieved records None top ≡ Some (newest records)
 newest_got [] top some trunk = cc

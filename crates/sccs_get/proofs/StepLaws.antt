@@ -33,8 +33,9 @@ use Rattle.sccs_steps.proofs.ReadingSteps.{Explains, broken, ends_silent, kept}
 use Rattle.sccs_steps.specs.Calls.{Meets, Uncommitted, Interrupted, world, scene}
 use Rattle.sccs_steps.specs.Actions.{IsHeard, KeepsFiles, RefusesWithin, SpeaksBy, Stepped, has_number, quiet_checks}
 use Rattle.sccs_base.proofs.Gifts.{gives_none, some_none}
-use Rattle.sccs_get.specs.GetStep.{bytes_at, set_asked, prints, get_step, get_action, get_checks}
-use Rattle.sccs_get.specs.Targets.{AnswersSet}
+use Rattle.sccs_pending.specs.Pending.{bytes_at}
+use Rattle.sccs_get.specs.GetStep.{set_asked, prints, get_step, get_action, get_checks}
+use Rattle.sccs_pending.specs.PFiles.{Answers}
 use Rattle.sccs_versions.specs.Coming.{IsBody, shown, text_of_lines}
 use Rattle.sccs_versions.proofs.RunLaws.{shown_text}
 use Rattle.std.specs.Result.{OnOk}
@@ -153,7 +154,7 @@ file_ends (Some view) told2 name words fault ended out same is answers = λ err.
     ends_silent view told2 name (get_step words (look view name)) ended out err same
     (subst (λ e. Explains (get_step words (look view name)) e) (sym is) (refused_by words (look view name) fault answers))
 
-set_refused : (words : GetWords) (files : Files) (parsed : Parsed) (fault : StepFault) → answer file_of (bytes_at files.s) ≡ Ok parsed → AnswersSet (set_asked words parsed.header) (Err fault) → Explains (get_step words files) fault
+set_refused : (words : GetWords) (files : Files) (parsed : Parsed) (fault : StepFault) → answer file_of (bytes_at files.s) ≡ Ok parsed → Answers {A = List ℕ} (set_asked words parsed.header) (Err fault) → Explains (get_step words files) fault
 set_refused words files parsed (Refused refusal) is said = refused_set words files parsed refusal is said
 set_refused words files parsed Memory is said = tt
 set_refused words files parsed ReadFault is said = said
@@ -165,12 +166,12 @@ shown_header : (o : Option (List ℕ)) (parsed : Parsed) (front : Front) → Sho
 shown_header None parsed front shows = absurd shows
 shown_header (Some file) parsed front shows = shows.0
 
-pub set_ends : (told told2 : Option View) (name : List ℕ) (words : GetWords) (front : Front) (fault : StepFault) (out : Option (List ℕ)) → told2 ≡ told → IfSome told (λ view. AnswersFile (file_in view name) (Ok front)) → AnswersSet (set_asked words front.header) (Err fault)
+pub set_ends : (told told2 : Option View) (name : List ℕ) (words : GetWords) (front : Front) (fault : StepFault) (out : Option (List ℕ)) → told2 ≡ told → IfSome told (λ view. AnswersFile (file_in view name) (Ok front)) → Answers {A = List ℕ} (set_asked words front.header) (Err fault)
     → Steps told told2 name words (Err fault) out out
 set_ends None told2 name words front fault out same answers said = tt
 set_ends (Some view) told2 name words front fault out same answers said = λ err.
     ends_silent view told2 name (get_step words (look view name)) fault out err same
-    (set_refused words (look view name) answers.0 fault answers.1 (subst (λ (h : Header). AnswersSet (set_asked words h) (Err fault)) (shown_header (file_in view name) answers.0 front answers.2) said))
+    (set_refused words (look view name) answers.0 fault answers.1 (subst (λ (h : Header). Answers {A = List ℕ} (set_asked words h) (Err fault)) (shown_header (file_in view name) answers.0 front answers.2) said))
 
 -- a told file whose front was read has these items
 body_there : (o told : Option (List ℕ)) (parsed : Parsed) (front : Front) (set : List ℕ) → IsPlaced front → told ≡ o → has set 0 ≡ false → answer file_of o ≡ Ok parsed → ShowsFile o parsed front → (file : List ℕ) × IsBody told front set file parsed.items

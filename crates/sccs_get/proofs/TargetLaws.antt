@@ -10,77 +10,98 @@ use Rattle.sccs_history.specs.Applied.{applied}
 use Rattle.sccs_history.specs.declared.headers.Record.{Record}
 use Rattle.sccs_history.specs.declared.headers.Header.{Header}
 use Rattle.sccs_sets.specs.Retrieved.{retrieved}
-use Rattle.sccs_sets.specs.Naming.{Answers}
+use Rattle.sccs_sets.specs.Naming.{Answers as AnswersList}
 use Rattle.sccs_sets.specs.SetRefusals.{or_bad_list, set_fault}
 use Rattle.sccs_sets.specs.Sets.{Explains, both_listed}
 use Rattle.sccs_sets.specs.declared.faults.SetFault.{SetFault}
 use Rattle.sccs_sets.specs.declared.faults.SetFault.TheVariants.{BadList, Memory}
 use Rattle.sccs_words.specs.declared.commands.GetWords.{GetWords}
 use Rattle.sccs_steps.specs.StepEffects.{there}
-use Rattle.sccs_get.specs.GetStep.{apart, listed, set_asked, spec_asked}
-use Rattle.sccs_get.specs.Targets.{AnswersSet}
+use Rattle.sccs_sid.specs.declared.refusals.StepFault.TheVariants as step
+use Rattle.sccs_pending.specs.PFiles.{Answers}
+use Rattle.sccs_get.specs.GetStep.{apart, asked, listed, set_asked, spec_asked}
+use Rattle.sccs_get.specs.declared.targets.Asked.{Asked}
 
--- the set for parts that are given one by one
-abbrev pub set_by : Option ℕ → Result (List ℕ) Sid → Result (List ℕ) Sid → Option ℤ → List Record → Result (List ℕ) Refusal
+abbrev pub asked_at : ℕ → List ℕ → List ℕ → List ℕ → Asked
+asked_at n include exclude set = record { target = n; include = include; exclude = exclude; set = set }
+
+-- what is asked for, for parts that are given one by one
+abbrev pub set_by : Option ℕ → Result (List ℕ) Sid → Result (List ℕ) Sid → Option ℤ → List Record → Result Asked Refusal
 set_by found include exclude cutoff records = do
   target ← there found refusals.NoSid
   taken ← or_bad_list include
   left ← or_bad_list exclude
   checked ← apart (both_listed records taken left)
-  Ok (applied (record { target = target; include = taken; exclude = left; cutoff = cutoff }) records)
+  Ok (record { target = target; include = taken; exclude = left; set = applied (record { target = target; include = taken; exclude = left; cutoff = cutoff }) records })
 
-pub asked_by : (words : GetWords) (header : Header) → set_asked words header ≡ set_by (retrieved header.records (spec_asked words header) words.top) (listed header.records words.include) (listed header.records words.exclude) (option_map (λ m. m.seconds) words.cutoff) header.records
-unfolding set_asked
+pub asked_by : (words : GetWords) (header : Header) → asked words header ≡ set_by (retrieved header.records (spec_asked words header) words.top) (listed header.records words.include) (listed header.records words.exclude) (option_map (λ m. m.seconds) words.cutoff) header.records
+unfolding asked
 asked_by words header = refl
 
 -- ---- the first part at fault
 
-pub no_target : (words : GetWords) (header : Header) → retrieved header.records (spec_asked words header) words.top ≡ None → set_asked words header ≡ Err refusals.NoSid
+pub no_target : (words : GetWords) (header : Header) → retrieved header.records (spec_asked words header) words.top ≡ None → asked words header ≡ Err refusals.NoSid
 no_target words header none =
     asked_by words header ∙ ap (λ (found : Option ℕ). set_by found (listed header.records words.include) (listed header.records words.exclude) (option_map (λ m. m.seconds) words.cutoff) header.records) none
 
 found_target : (words : GetWords) (header : Header) (n : ℕ) → retrieved header.records (spec_asked words header) words.top ≡ Some n
-    → set_asked words header ≡ set_by (Some n) (listed header.records words.include) (listed header.records words.exclude) (option_map (λ m. m.seconds) words.cutoff) header.records
+    → asked words header ≡ set_by (Some n) (listed header.records words.include) (listed header.records words.exclude) (option_map (λ m. m.seconds) words.cutoff) header.records
 found_target words header n found =
     asked_by words header ∙ ap (λ (found : Option ℕ). set_by found (listed header.records words.include) (listed header.records words.exclude) (option_map (λ m. m.seconds) words.cutoff) header.records) found
 
-pub include_ends : (words : GetWords) (header : Header) (n : ℕ) (fault : SetFault) (ended : StepFault) → retrieved header.records (spec_asked words header) words.top ≡ Some n → Answers (listed header.records words.include) (Err fault) → ended ≡ set_fault fault → AnswersSet (set_asked words header) (Err ended)
+pub include_ends : (words : GetWords) (header : Header) (n : ℕ) (fault : SetFault) (ended : StepFault) → retrieved header.records (spec_asked words header) words.top ≡ Some n → AnswersList (listed header.records words.include) (Err fault) → ended ≡ set_fault fault → Answers {A = Asked} (asked words header) (Err ended)
 include_ends words header n (BadList sid) ended found said is =
-    subst (λ e. AnswersSet (set_asked words header) (Err e)) (sym is)
+    subst (λ e. Answers {A = Asked} (asked words header) (Err e)) (sym is)
     (found_target words header n found ∙ ap (λ (list : Result (List ℕ) Sid). set_by (Some n) list (listed header.records words.exclude) (option_map (λ m. m.seconds) words.cutoff) header.records) said)
-include_ends words header n Memory ended found said is = subst (λ e. AnswersSet (set_asked words header) (Err e)) (sym is) tt
+include_ends words header n Memory ended found said is = subst (λ e. Answers {A = Asked} (asked words header) (Err e)) (sym is) tt
 
 included : (words : GetWords) (header : Header) (n : ℕ) (include : List ℕ) → retrieved header.records (spec_asked words header) words.top ≡ Some n → listed header.records words.include ≡ Ok include
-    → set_asked words header ≡ set_by (Some n) (Ok include) (listed header.records words.exclude) (option_map (λ m. m.seconds) words.cutoff) header.records
+    → asked words header ≡ set_by (Some n) (Ok include) (listed header.records words.exclude) (option_map (λ m. m.seconds) words.cutoff) header.records
 included words header n include found is =
     found_target words header n found ∙ ap (λ (list : Result (List ℕ) Sid). set_by (Some n) list (listed header.records words.exclude) (option_map (λ m. m.seconds) words.cutoff) header.records) is
 
 pub exclude_ends : (words : GetWords) (header : Header) (n : ℕ) (include : List ℕ) (fault : SetFault) (ended : StepFault) → retrieved header.records (spec_asked words header) words.top ≡ Some n → listed header.records words.include ≡ Ok include
-    → Answers (listed header.records words.exclude) (Err fault) → ended ≡ set_fault fault → AnswersSet (set_asked words header) (Err ended)
+    → AnswersList (listed header.records words.exclude) (Err fault) → ended ≡ set_fault fault → Answers {A = Asked} (asked words header) (Err ended)
 exclude_ends words header n include (BadList sid) ended found taken said is =
-    subst (λ e. AnswersSet (set_asked words header) (Err e)) (sym is)
+    subst (λ e. Answers {A = Asked} (asked words header) (Err e)) (sym is)
     (included words header n include found taken ∙ ap (λ (list : Result (List ℕ) Sid). set_by (Some n) (Ok include) list (option_map (λ m. m.seconds) words.cutoff) header.records) said)
-exclude_ends words header n include Memory ended found taken said is = subst (λ e. AnswersSet (set_asked words header) (Err e)) (sym is) tt
+exclude_ends words header n include Memory ended found taken said is = subst (λ e. Answers {A = Asked} (asked words header) (Err e)) (sym is) tt
 
 excluded : (words : GetWords) (header : Header) (n : ℕ) (include exclude : List ℕ) → retrieved header.records (spec_asked words header) words.top ≡ Some n → listed header.records words.include ≡ Ok include → listed header.records words.exclude ≡ Ok exclude
-    → set_asked words header ≡ set_by (Some n) (Ok include) (Ok exclude) (option_map (λ m. m.seconds) words.cutoff) header.records
+    → asked words header ≡ set_by (Some n) (Ok include) (Ok exclude) (option_map (λ m. m.seconds) words.cutoff) header.records
 excluded words header n include exclude found taken left =
     included words header n include found taken ∙ ap (λ (list : Result (List ℕ) Sid). set_by (Some n) (Ok include) list (option_map (λ m. m.seconds) words.cutoff) header.records) left
 
 -- the set when the two lists were judged
-abbrev set_apart : ℕ → List ℕ → List ℕ → Option ℤ → List Record → Option Sid → Result (List ℕ) Refusal
+abbrev set_apart : ℕ → List ℕ → List ℕ → Option ℤ → List Record → Option Sid → Result Asked Refusal
 set_apart n include exclude cutoff records shared = do
   checked ← apart shared
-  Ok (applied (record { target = n; include = include; exclude = exclude; cutoff = cutoff }) records)
+  Ok (asked_at n include exclude (applied (record { target = n; include = include; exclude = exclude; cutoff = cutoff }) records))
 
 pub shared_ends : (words : GetWords) (header : Header) (n : ℕ) (include exclude : List ℕ) (fault : SetFault) (ended : StepFault) → retrieved header.records (spec_asked words header) words.top ≡ Some n → listed header.records words.include ≡ Ok include → listed header.records words.exclude ≡ Ok exclude
-    → Explains (both_listed header.records include exclude) fault → ended ≡ set_fault fault → AnswersSet (set_asked words header) (Err ended)
+    → Explains (both_listed header.records include exclude) fault → ended ≡ set_fault fault → Answers {A = Asked} (asked words header) (Err ended)
 shared_ends words header n include exclude (BadList sid) ended found taken left shared is =
-    subst (λ e. AnswersSet (set_asked words header) (Err e)) (sym is)
+    subst (λ e. Answers {A = Asked} (asked words header) (Err e)) (sym is)
     (excluded words header n include exclude found taken left ∙ ap (set_apart n include exclude (option_map (λ m. m.seconds) words.cutoff) header.records) shared)
-shared_ends words header n include exclude Memory ended found taken left shared is = subst (λ e. AnswersSet (set_asked words header) (Err e)) (sym is) tt
+shared_ends words header n include exclude Memory ended found taken left shared is = subst (λ e. Answers {A = Asked} (asked words header) (Err e)) (sym is) tt
 
 pub set_made : (words : GetWords) (header : Header) (n : ℕ) (include exclude set : List ℕ) → retrieved header.records (spec_asked words header) words.top ≡ Some n → listed header.records words.include ≡ Ok include → listed header.records words.exclude ≡ Ok exclude
-    → both_listed header.records include exclude ≡ None → set ≡ applied (record { target = n; include = include; exclude = exclude; cutoff = option_map (λ m. m.seconds) words.cutoff }) header.records → set_asked words header ≡ Ok set
+    → both_listed header.records include exclude ≡ None → set ≡ applied (record { target = n; include = include; exclude = exclude; cutoff = option_map (λ m. m.seconds) words.cutoff }) header.records → asked words header ≡ Ok (asked_at n include exclude set)
 set_made words header n include exclude set found taken left none is =
-    excluded words header n include exclude found taken left ∙ (ap (set_apart n include exclude (option_map (λ m. m.seconds) words.cutoff) header.records) none ∙ ap Ok (sym is))
+    excluded words header n include exclude found taken left ∙ (ap (set_apart n include exclude (option_map (λ m. m.seconds) words.cutoff) header.records) none ∙ ap (λ (set : List ℕ). Ok (asked_at n include exclude set)) (sym is))
+
+-- ---- the set alone
+
+set_from : (words : GetWords) (header : Header) (r : Result Asked Refusal) → asked words header ≡ r → set_asked words header ≡ (r >>= λ a. Ok a.set)
+unfolding set_asked
+set_from words header r is = ap (λ (x : Result Asked Refusal). x >>= λ a. Ok a.set) is
+
+pub set_found : (words : GetWords) (header : Header) (a : Asked) → asked words header ≡ Ok a → set_asked words header ≡ Ok a.set
+set_found words header a is = set_from words header (Ok a) is
+
+pub set_not_found : (words : GetWords) (header : Header) (fault : StepFault) → Answers {A = Asked} (asked words header) (Err fault) → Answers {A = List ℕ} (set_asked words header) (Err fault)
+set_not_found words header (step.Refused refusal) answers = set_from words header (Err refusal) answers
+set_not_found words header step.Memory answers = tt
+set_not_found words header step.DiskFault answers = tt
+set_not_found words header step.ReadFault answers = answers
+set_not_found words header step.WriteFault answers = answers

@@ -7,7 +7,6 @@ use Rattle.sccs_sid.specs.declared.sids.Spec.{Spec}
 use Rattle.sccs_sid.specs.declared.sid_lists.Range.{Range}
 use Rattle.sccs_sid.specs.declared.refusals.Refusal.{Refusal}
 use Rattle.sccs_sid.specs.declared.refusals.Refusal.TheVariants as refusals
-use Rattle.sccs_disk.specs.Files.{Content}
 use Rattle.sccs_history.specs.Body.{lines_of}
 use Rattle.sccs_history.specs.Select.{select}
 use Rattle.sccs_history.specs.Applied.{applied}
@@ -24,6 +23,8 @@ use Rattle.sccs_sets.specs.Sets.{both_listed}
 use Rattle.sccs_words.specs.declared.commands.GetWords.{GetWords}
 use Rattle.sccs_files.specs.StepFiles.{Files}
 use Rattle.sccs_steps.specs.StepEffects.{StepEffect, Outcome, there}
+use Rattle.sccs_pending.specs.Pending.{bytes_at}
+use Rattle.sccs_get.specs.declared.targets.Asked.{Asked}
 use Rattle.sccs_steps.specs.Actions.{Action, quiet_checks}
 
 -- the SID that is asked for: the one given, or that of the flag d
@@ -39,26 +40,38 @@ listed records (Some list) = named_serials records [] list
 abbrev pub get_checks : List ℕ
 get_checks = 3 ∷ 5 ∷ 6 ∷ 7 ∷ 8 ∷ 9 ∷ 15 ∷ 16 ∷ 34 ∷ []
 
+-- those of what it asks for
+abbrev pub asked_checks : List ℕ
+asked_checks = 15 ∷ 16 ∷ []
+
 -- no SID may be both taken in and left out
 abbrev pub apart : Option Sid → Result Bool Refusal
 apart None = Ok true
 apart (Some sid) = Err (refusals.BadList sid)
 
--- the set of deltas that is asked for; the checks come in this order
-unfoldable pub set_asked : GetWords → Header → Result (List ℕ) Refusal
-set_asked words header = do
+-- the delta that is asked for, the serials of the lists, and the set of deltas; the checks come in this order
+unfoldable pub asked : GetWords → Header → Result Asked Refusal
+asked words header = do
   target ← there (retrieved header.records (spec_asked words header) words.top) refusals.NoSid
   include ← or_bad_list (listed header.records words.include)
   exclude ← or_bad_list (listed header.records words.exclude)
   checked ← apart (both_listed header.records include exclude)
-  Ok (applied (record { target = target; include = include; exclude = exclude; cutoff = option_map (λ m. m.seconds) words.cutoff }) header.records)
+  Ok (record {
+    target = target;
+    include = include;
+    exclude = exclude;
+    set = applied (record { target = target; include = include; exclude = exclude; cutoff = option_map (λ m. m.seconds) words.cutoff }) header.records;
+  })
+
+-- the set alone
+unfoldable pub set_asked : GetWords → Header → Result (List ℕ) Refusal
+set_asked words header = do
+  a ← asked words header
+  Ok a.set
 
 -- a step that prints and changes no file
 abbrev pub prints : List ℕ → StepEffect
 prints text = record { new = None; text = text; out = []; err = []; status = 0 }
-
-abbrev pub bytes_at : Option Content → Option (List ℕ)
-bytes_at found = option_map (λ (c : Content). c.bytes) found
 
 -- What get does with the file: the lines that the set shows, each with LF, or the first check that fails.
 unfoldable pub get_step : GetWords → Files → Outcome

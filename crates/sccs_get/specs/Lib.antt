@@ -1,4 +1,5 @@
+pub mod EditStep
+pub mod Edits
 pub mod GetStep
 pub mod Linear
 pub mod Printing
-pub mod Targets

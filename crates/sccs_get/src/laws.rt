@@ -6,7 +6,8 @@ ghost use Rattle.sccs_grammar.specs.File.{Parsed, answer, file_of};
 ghost use Rattle.sccs_grammar.specs.Written.{bytes_of};
 ghost use Rattle.sccs_words.specs.declared.commands.GetWords.{GetWords};
 ghost use Rattle.sccs_files.specs.StepFiles.{Files};
-ghost use Rattle.sccs_get.specs.GetStep.{bytes_at, get_step, prints};
+ghost use Rattle.sccs_pending.specs.Pending.{bytes_at};
+ghost use Rattle.sccs_get.specs.GetStep.{get_step, prints};
 ghost use Rattle.sccs_get.specs.Linear.{AsksNewest, IsLinearFile};
 
 /// A get of a linear file that asks for no version prints the version of the newest record, which is

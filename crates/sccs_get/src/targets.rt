@@ -1,14 +1,15 @@
-ghost use Rattle.std.specs.Prelude.{◌≡◌, ◌==◌, false, true, Err, None, Some, IfOk, MatchResult, find};
+ghost use Rattle.std.specs.Prelude.{◌≡◌, ◌≢◌, ◌==◌, false, true, Err, None, Some, IfOk, MatchResult, find};
 ghost use Rattle.std.specs.List.{AllByRecursion};
 ghost use Rattle.std.specs.Option.{option_copied};
 ghost use Rattle.sccs_history.specs.Applied.{live_serials};
 ghost use Rattle.sccs_history.specs.History.{IsTable};
 ghost use Rattle.sccs_history.specs.Numbers.{has};
-ghost use Rattle.sccs_sets.specs.Naming.{Answers};
+ghost use Rattle.sccs_sets.specs.Naming.{Answers as AnswersList};
 ghost use Rattle.sccs_sets.specs.Retrieved.{retrieved};
+ghost use Rattle.sccs_sid.specs.declared.refusals.StepFault.TheVariants as faults;
 ghost use Rattle.sccs_steps.specs.Actions.{RefusesWithin};
-ghost use Rattle.sccs_get.specs.GetStep.{get_checks, listed, set_asked, spec_asked};
-ghost use Rattle.sccs_get.specs.Targets.{AnswersSet};
+ghost use Rattle.sccs_get.specs.GetStep.{asked, asked_checks, get_checks, listed, set_asked, spec_asked};
+ghost use Rattle.sccs_pending.specs.PFiles.{Answers};
 
 use sccs_history::{Header, Serials};
 use sccs_sets::{Applied, NoSid, SetFault, default_of, delta_set, retrieve, serials};
@@ -31,7 +32,7 @@ fn target(header: &Header, words: &GetWords) -> Result<u16, NoSid>
 
 // the serials of a list that may not be given
 fn listed(alloc: Global, header: &Header, list: Option<&SidList>) -> Result<Serials, SetFault>
-    ensures value { Answers (listed header.now.records (option_copied list.entry)) result }
+    ensures value { AnswersList (listed header.now.records (option_copied list.entry)) result }
     ensures live { IfOk result
         (AllByRecursion (λ n. has (live_serials header.now.records) n ≡ true)) }
 {
@@ -41,12 +42,26 @@ fn listed(alloc: Global, header: &Header, list: Option<&SidList>) -> Result<Seri
     }
 }
 
-/// The set of deltas that a get asks for.
-pub fn set_of(alloc: Global, header: &Header, words: &GetWords) -> Result<Applied, StepFault>
+/// What a get asks for: a live delta, the serials of its lists, and the set of deltas of its version.
+#[derive(Drop)]
+pub struct Asked {
+    pub target: u16,
+    pub include: Serials,
+    pub exclude: Serials,
+    pub set: Applied,
+}
+
+/// What a get asks for. NoSid comes where its SID names no live delta, BadList with the first SID of a list
+/// that names none, or that is in both lists. POSIX, get -r, -i, -x and -c.
+pub fn asked_of(alloc: Global, header: &Header, words: &GetWords) -> Result<Asked, StepFault>
     requires { IsTable header.now.records }
-    ensures value { AnswersSet (set_asked words.now header.now) result }
-    ensures no_zero { IfOk result (λ set. has set 0 ≡ false) }
-    ensures checks { RefusesWithin get_checks result }
+    ensures value { Answers (asked words.now header.now) result }
+    ensures no_zero { IfOk result (λ a. has a.set 0 ≡ false) }
+    ensures live { IfOk result (λ a. has (live_serials header.now.records) a.target ≡ true) }
+    ensures include { IfOk result (λ a. AllByRecursion (λ n. has (live_serials header.now.records) n ≡ true) a.include) }
+    ensures exclude { IfOk result (λ a. AllByRecursion (λ n. has (live_serials header.now.records) n ≡ true) a.exclude) }
+    ensures checks { RefusesWithin asked_checks result }
+    ensures broke { result ≢ Err faults.DiskFault }
 {
     let target = match target(header, words) {
         Ok(target) => target,
@@ -61,7 +76,26 @@ pub fn set_of(alloc: Global, header: &Header, words: &GetWords) -> Result<Applie
         Err(fault) => return Err(StepFault::from(fault)),
     };
     match delta_set(alloc, header, target, &include, &exclude, words.cutoff) {
-        Ok(set) => Ok(set),
+        Ok(set) => Ok(Asked {
+            target,
+            include,
+            exclude,
+            set,
+        }),
         Err(fault) => Err(StepFault::from(fault)),
+    }
+}
+
+/// The set of deltas that a get asks for.
+pub fn set_of(alloc: Global, header: &Header, words: &GetWords) -> Result<Applied, StepFault>
+    requires { IsTable header.now.records }
+    ensures value { Answers (set_asked words.now header.now) result }
+    ensures no_zero { IfOk result (λ set. has set 0 ≡ false) }
+    ensures checks { RefusesWithin get_checks result }
+    ensures broke { result ≢ Err faults.DiskFault }
+{
+    match asked_of(alloc, header, words) {
+        Ok(asked) => Ok(asked.set),
+        Err(fault) => Err(fault),
     }
 }

@@ -1,2 +1,3 @@
+pub mod EntryChanges
 pub mod EntryLaws
 pub mod PendingLaws

@@ -4,15 +4,21 @@ use Rattle.sccs_base.specs.Name.{sibling}
 use Rattle.sccs_disk.specs.Files.{Content, View}
 use Rattle.sccs_disk.specs.Told.{Told, seen}
 use Rattle.sccs_disk.specs.Calls.{IsThere}
-use Rattle.sccs_files.specs.StepFiles.{Files}
+use Rattle.std.specs.Str.{bytes_eq}
+use Rattle.sccs_files.specs.StepFiles.{Files, Moves}
+use Rattle.sccs_sid.specs.Reading.{◌>>=◌}
 use Rattle.sccs_sid.specs.Sid.{sid_text}
+use Rattle.sccs_sid.specs.declared.refusals.StepFault.{StepFault}
+use Rattle.sccs_sid.specs.declared.refusals.StepFault.TheVariants.{Refused}
 use Rattle.sccs_sid.specs.declared.refusals.Refusal.{Refusal}
 use Rattle.sccs_sid.specs.declared.refusals.Refusal.TheVariants as refusals
 use Rattle.sccs_pfile.specs.Recovered.{pfile_of}
 use Rattle.sccs_pfile.specs.declared.choosing.Choice.{Choice}
 use Rattle.sccs_pfile.specs.declared.choosing.Choice.TheVariants.{One, NoEdit, ManyEdits}
 use Rattle.sccs_pfile.specs.declared.entries.Edit.{Edit}
+use Rattle.sccs_steps.specs.Actions.{Step}
 use Rattle.sccs_steps.specs.StepEffects.{StepEffect}
+use Rattle.sccs_pending.specs.Pending.{Found, pending_of}
 use Rattle.sccs_store.specs.Commits.{Needs, chosen}
 use Rattle.sccs_store.specs.declared.new_files.NewFile.{NewFile}
 use Rattle.sccs_transactions.specs.declared.prepared.Prepared.{Prepared}
@@ -50,3 +56,31 @@ pub record IsOfEntries (p : Prepared) (report : List ℕ) : Type 0 where
   pub s : p.new_s ≡ false
   pub report_is : p.report ≡ report
   pub message : p.message ≡ []
+
+-- ---- a change of the entries
+
+-- What a step decides of what it found: the entries that are left, whether the g-file is kept, and the report.
+pub record Decided : Type 0 where
+  pub edits : List Edit
+  pub keep : Bool
+  pub report : List ℕ
+
+-- the step of such a change: the s-file and the p-file are read, and then it decides
+unfoldable pub entries_outcome : (List ℕ → Found → Result Decided Refusal) → Step
+entries_outcome decide n input named f = do
+  found ← pending_of f.s f.p
+  d ← decide n found
+  Ok (with_entries f d.edits (kept_g d.keep f.g) d.report)
+
+-- What was decided is prepared.
+pub record IsDecided (n : List ℕ) (d : Decided) (p : Prepared) (old new : Told) : Type 0 where
+  pub of : IsOfEntries p d.report
+  pub moves : Moves (bytes_eq (sibling 113 n)) (λ v. v) (seen old) (seen new)
+  pub entries : PreparesEntries n d.edits p.new_p old new
+  pub g : LeavesG n d.keep p.new_g old
+
+-- or at most the q-file has changed
+abbrev pub PreparesDecided : Result Prepared StepFault → List ℕ → Decided → Told → Told → Type 0
+PreparesDecided (Ok p) n d old new = IsDecided n d p old new
+PreparesDecided (Err (Refused refusal)) n d old new = ⊥
+PreparesDecided (Err fault) n d old new = Moves (bytes_eq (sibling 113 n)) (λ v. v) (seen old) (seen new)

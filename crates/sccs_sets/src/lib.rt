@@ -20,3 +20,4 @@ pub use flags::default_of;
 pub use making::{Full, to_make};
 pub use naming::{in_range, lives, range_fault, serials};
 pub use retrieval::{NoSid, retrieve};
+pub use tables::sid_at;

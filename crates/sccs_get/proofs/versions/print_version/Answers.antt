@@ -1,10 +1,10 @@
-use Rattle.std.proofs.Common.{Result, Err, refl, sym, subst, ap, ◌∙◌}
+use Rattle.std.proofs.Common.{ℕ, List, Result, Err, refl, sym, subst, ap, ◌∙◌}
 use Rattle.std.proofs.lemmas.Result.{err_from_is_err_and}
 use Rattle.sccs_disk.specs.Told.{seen}
 use Rattle.sccs_sid.specs.declared.refusals.StepFault.{StepFault}
 use Rattle.sccs_steps.specs.Actions.{RefusesWithin}
 use Rattle.sccs_get.specs.GetStep.{get_checks, set_asked}
-use Rattle.sccs_get.specs.Targets.{AnswersSet}
+use Rattle.sccs_pending.specs.PFiles.{Answers}
 use Rattle.sccs_get.proofs.StepLaws.{version_whole, file_ends, set_ends, body_ends, stepped, speaks_by, file_within, set_within}
 use Rattle.sccs_get.proofs.versions.print_version.Goals as goal
 
@@ -23,7 +23,7 @@ pub returns-in_err-set-clause-step : goal.returns-in_err-set-clause-step
 returns-in_err-set-clause-step g c =
     let p = err_from_is_err_and c.from_residual-in_err-set.result c.from_residual-in_err-set.ensures.1 in
     stepped (g.D.Disk.told c.args.disk.now) (g.D.Disk.told c.inspect.new.disk) c.args.name.now c.args.words.now (Err p.0) c.from_residual-in_err-set.result (g.O.Sink.given c.args.out.now) (g.O.Sink.given c.args.out.now) (sym p.1)
-    (set_ends (seen (g.D.Disk.told c.args.disk.now)) (seen (g.D.Disk.told c.inspect.new.disk)) c.args.name.now c.args.words.now c.in_ok-front.front p.0 (g.O.Sink.given c.args.out.now) (ap seen c.in_ok-front.ensures.frame.same) c.in_ok-front.ensures.told (subst (λ fault. AnswersSet (set_asked c.args.words.now c.in_ok-front.front.header) (Err fault)) (sym p.2) c.in_err-set.ensures.value))
+    (set_ends (seen (g.D.Disk.told c.args.disk.now)) (seen (g.D.Disk.told c.inspect.new.disk)) c.args.name.now c.args.words.now c.in_ok-front.front p.0 (g.O.Sink.given c.args.out.now) (ap seen c.in_ok-front.ensures.frame.same) c.in_ok-front.ensures.told (subst (λ fault. Answers {A = List ℕ} (set_asked c.args.words.now c.in_ok-front.front.header) (Err fault)) (sym p.2) c.in_err-set.ensures.value))
 
 pub returns-in_err-set-clause-speaks : goal.returns-in_err-set-clause-speaks
 returns-in_err-set-clause-speaks g c =

@@ -1,0 +1,112 @@
+-- What get -e does with -g: POSIX, Shell and Utilities, get, -e and -g.
+use Rattle.std.specs.Prelude.{◌≡◌, ℕ, Bool, true, false, not, ◌&&◌, ◌||◌, List, [], ◌∷◌, ◌++◌, map, flat_map, codes, Option, None, Some, IfSome, is_some, Result, Ok, Err, if◌then◌else◌}
+use Rattle.std.specs.List.{list_any}
+use Rattle.sccs_sid.specs.Moment.{IsMoment}
+use Rattle.sccs_sid.specs.Reading.{◌>>=◌}
+use Rattle.sccs_sid.specs.Sid.{sid_text}
+use Rattle.sccs_sid.specs.Spec.{IsSpec}
+use Rattle.sccs_sid.specs.declared.moments.Stamp.{Stamp}
+use Rattle.sccs_sid.specs.declared.sids.Sid.{Sid}
+use Rattle.sccs_sid.specs.declared.sid_lists.Range.{Range}
+use Rattle.sccs_sid.specs.declared.refusals.Refusal.{Refusal}
+use Rattle.sccs_sid.specs.declared.refusals.Refusal.TheVariants as refusals
+use Rattle.sccs_history.specs.History.{same_sid}
+use Rattle.sccs_history.specs.declared.headers.Header.{Header}
+use Rattle.sccs_history.specs.declared.headers.Record.{Record}
+use Rattle.sccs_flags.specs.FlagValues.{has_flag, is_locked, is_within_limits}
+use Rattle.sccs_flags.specs.Logins.{is_allowed}
+use Rattle.sccs_grammar.specs.Written.{ended}
+use Rattle.sccs_sets.specs.Made.{to_be_made}
+use Rattle.sccs_sets.specs.Sets.{sid_at}
+use Rattle.sccs_pfile.specs.declared.entries.Edit.{Edit}
+use Rattle.sccs_steps.specs.StepEffects.{check, there}
+use Rattle.sccs_steps.specs.Actions.{quiet_checks}
+use Rattle.sccs_transactions.specs.Changes.{Changing}
+use Rattle.sccs_words.specs.declared.commands.GetWords.{GetWords}
+use Rattle.sccs_pending.specs.NewEntries.{Decided, entries_outcome}
+use Rattle.sccs_pending.specs.Pending.{Found}
+use Rattle.sccs_pending.specs.Reports.{heading_text}
+use Rattle.sccs_get.specs.GetStep.{asked, spec_asked}
+use Rattle.sccs_get.specs.declared.targets.Asked.{Asked}
+
+-- the numbers of its checks
+abbrev pub edit_checks : List ℕ
+edit_checks = 2 ∷ 3 ∷ 5 ∷ 6 ∷ 7 ∷ 8 ∷ 9 ∷ 10 ∷ 11 ∷ 12 ∷ 15 ∷ 16 ∷ 17 ∷ 18 ∷ 19 ∷ 33 ∷ []
+
+-- the release of the SID to be made; where no number is left for it, that of the SID got
+abbrev pub release_made : Sid → Option Sid → ℕ
+release_made got None = got.release
+release_made got (Some made) = made.release
+
+-- the releases got and to be made lie from floor to ceiling, and the latter isn't locked
+unfoldable pub released : Header → Sid → Option Sid → Result Bool Refusal
+released header got made = do
+  within ← check (is_within_limits header.flags got.release && is_within_limits header.flags (release_made got made)) refusals.OutsideRelease
+  check (not (is_locked header.flags (release_made got made))) refusals.LockedRelease
+
+-- an entry got the SID
+abbrev pub is_got : List Edit → Sid → Bool
+is_got edits got = list_any (λ e. same_sid e.got got) edits
+
+-- the SID to be made, where it may be: several edits of one SID need the flag j
+unfoldable pub free_sid : Header → List Edit → Sid → Option Sid → Result Sid Refusal
+free_sid header edits got made = do
+  free ← released header got made
+  joint ← check (has_flag header.flags 106 || not (is_got edits got)) refusals.BeingEdited
+  there made refusals.Full
+
+-- the SIDs that the entries are to make
+abbrev pub reserved : List Edit → List Sid
+reserved edits = map (λ e. e.made) edits
+
+-- the SIDs of serials, each as a range of its own
+abbrev pub single : Option Sid → List Range
+single None = []
+single (Some sid) = record { first = sid; last = sid } ∷ []
+
+abbrev pub singles : List Record → List ℕ → List Range
+singles records serials = flat_map (λ n. single (sid_at records n)) serials
+
+abbrev pub new_edit : Stamp → List Record → Asked → Sid → Sid → Edit
+new_edit stamp records a got made =
+    record { got = got; made = made; login = stamp.login; moment = stamp.moment; include = singles records a.include; exclude = singles records a.exclude }
+
+-- the new entry of a login; or the first check that fails
+unfoldable pub new_entry : GetWords → Stamp → Header → List Edit → Result Edit Refusal
+new_entry words stamp header edits = do
+  allowed ← check (is_allowed header.users stamp.login) refusals.NotAllowed
+  a ← asked words header
+  got ← there (sid_at header.records a.target) refusals.NoSid
+  made ← free_sid header edits got (to_be_made header (reserved edits) a.target (spec_asked words header) words.branch)
+  Ok (new_edit stamp header.records a got made)
+
+-- SIDs, each on a line, behind a title, where a list was given
+abbrev pub listed_text : Option (List Range) → List ℕ → List Range → List ℕ
+listed_text None title ranges = []
+listed_text (Some list) title ranges = ended title ++ flat_map (λ (r : Range). ended (sid_text r.first)) ranges
+
+-- the lists, the SID that was got and the one that is to be made, unless nothing is to be said
+abbrev pub edit_report : GetWords → Bool → List ℕ → Edit → List ℕ
+edit_report words heading n e =
+    if words.silent then []
+    else heading_text heading n
+        ++ (listed_text words.include (codes "Included:") e.include
+        ++ (listed_text words.exclude (codes "Excluded:") e.exclude
+        ++ (ended (sid_text e.got) ++ (codes "new delta " ++ ended (sid_text e.made)))))
+
+-- one entry more, last; the g-file stays
+abbrev pub with_entry : GetWords → Bool → List ℕ → List Edit → Edit → Decided
+with_entry words heading n edits e = record { edits = edits ++ e ∷ []; keep = true; report = edit_report words heading n e }
+
+unfoldable pub edit_decides : GetWords → Stamp → Bool → List ℕ → Found → Result Decided Refusal
+edit_decides words stamp heading n found = do
+  e ← new_entry words stamp found.parsed.header found.edits
+  Ok (with_entry words heading n found.edits e)
+
+abbrev pub edit_change : GetWords → Stamp → Bool → Changing
+edit_change words stamp heading = record { outcome = entries_outcome (edit_decides words stamp heading); named = []; takes = false; silent = false; could = quiet_checks edit_checks }
+
+-- The SID that is asked for and the moment are valid ones.
+pub record AreEditValues (words : GetWords) (stamp : Stamp) : Type 0 where
+  pub spec : IfSome words.spec IsSpec
+  pub moment : IsMoment stamp.moment

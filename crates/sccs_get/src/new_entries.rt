@@ -1,0 +1,219 @@
+ghost use Rattle.std.specs.Prelude.{◌≡◌, ◌≢◌, ◌∷◌, [], ◌++◌, All, Err, IfOk, IfSome, Option, map, true};
+ghost use Rattle.std.specs.List.{AllByRecursion, list_any};
+ghost use Rattle.sccs_sid.specs.Moment.{IsMoment};
+ghost use Rattle.sccs_sid.specs.Sid.{IsSid};
+ghost use Rattle.sccs_sid.specs.SidLists.{IsRange};
+ghost use Rattle.sccs_sid.specs.declared.refusals.StepFault.TheVariants as faults;
+ghost use Rattle.sccs_history.specs.Applied.{live_serials};
+ghost use Rattle.sccs_history.specs.History.{HasSpelling, IsSpelled, IsTable, same_sid};
+ghost use Rattle.sccs_history.specs.Numbers.{has};
+ghost use Rattle.sccs_pending.specs.PFiles.{Answers, Passes};
+ghost use Rattle.sccs_pfile.specs.Entries.{IsEdit};
+ghost use Rattle.sccs_sets.specs.Made.{to_be_made};
+ghost use Rattle.sccs_steps.specs.Actions.{RefusesWithin};
+ghost use Rattle.sccs_get.specs.EditStep.{AreEditValues, edit_checks, free_sid, is_got, new_edit, new_entry, release_made, released, reserved, singles};
+ghost use Rattle.sccs_get.specs.GetStep.{spec_asked};
+
+use crate::targets::{Asked, asked_of};
+use sccs_base::{ListOf, Memory};
+use sccs_flags::{has_flag, is_allowed, is_locked, is_within_limits};
+use sccs_history::{Header, Record};
+use sccs_pfile::{Edit, Edits};
+use sccs_sets::{Full, default_of, sid_at, to_make};
+use sccs_sid::{Range, Refusal, Sid, SidList, Spec, Stamp, StepFault};
+use sccs_words::GetWords;
+use std::alloc::Global;
+
+// the release of the SID to be made
+fn release_made(got: Sid, made: Option<Sid>) -> u16
+    ensures { result ≡ release_made got made }
+{
+    match made {
+        Some(made) => made.release,
+        None => got.release,
+    }
+}
+
+// whether the releases may be got and made
+#[tactic(auto, unfolding(crate::specs::EditStep::released))]
+fn check_releases(header: &Header, got: Sid, made: Option<Sid>) -> Result<(), StepFault>
+    ensures value { Passes (released header.now got made) result }
+    ensures checks { RefusesWithin (17 ∷ 18 ∷ []) result }
+    ensures memory { result ≢ Err faults.Memory }
+    ensures broke { result ≢ Err faults.DiskFault }
+{
+    let release = release_made(got, made);
+    if !is_within_limits(header, got.release) {
+        return Err(StepFault::Refused(Refusal::OutsideRelease));
+    }
+    if !is_within_limits(header, release) {
+        return Err(StepFault::Refused(Refusal::OutsideRelease));
+    }
+    if is_locked(header, release) {
+        return Err(StepFault::Refused(Refusal::LockedRelease));
+    }
+    Ok(())
+}
+
+// whether an entry got a SID
+fn is_got(edits: &[Edit], got: Sid) -> bool
+    ensures { result ≡ is_got edits.now got }
+{
+    edits.iter().any(|edit| edit.got == got)
+}
+
+// the SID to be made, where it may be
+#[tactic(auto, unfolding(crate::specs::EditStep::free_sid))]
+fn free_sid(
+    header: &Header,
+    edits: &Edits,
+    got: Sid,
+    made: Option<Sid>,
+) -> Result<Sid, StepFault>
+    ensures value { Answers (free_sid header.now edits.now got made) result }
+    ensures checks { RefusesWithin (17 ∷ 18 ∷ 19 ∷ 33 ∷ []) result }
+    ensures memory { result ≢ Err faults.Memory }
+    ensures broke { result ≢ Err faults.DiskFault }
+{
+    match check_releases(header, got, made) {
+        Ok(()) => {}
+        Err(fault) => return Err(fault),
+    }
+    if !has_flag(header, b'j') {
+        if is_got(edits.items(), got) {
+            return Err(StepFault::Refused(Refusal::BeingEdited));
+        }
+    }
+    match made {
+        Some(made) => Ok(made),
+        None => Err(StepFault::Refused(Refusal::Full)),
+    }
+}
+
+// the SIDs that the entries are to make
+fn reserved(alloc: Global, edits: &[Edit]) -> Result<ListOf<Sid>, Memory>
+    ensures { IfOk result (λ sids. sids ≡ reserved edits.now) }
+{
+    let mut sids = ListOf::empty(alloc);
+    for edit in edits {
+        sids.push(edit.made)?;
+    }
+    Ok(sids)
+}
+
+// the SIDs of live serials, each as a range of its own
+fn singles(alloc: Global, records: &[Record], serials: &[u16]) -> Result<SidList, Memory>
+    requires live { AllByRecursion (λ n. has (live_serials records.now) n ≡ true) serials.now }
+    requires spelled { AllByRecursion HasSpelling records.now }
+    ensures value { IfOk result (λ list. list ≡ singles records.now serials.now) }
+    ensures valid { IfOk result (All IsRange) }
+{
+    let mut list = SidList::empty(alloc);
+    for serial in serials {
+        let sid = sid_at(records, *serial);
+        list.insert(list.len(), Range { first: sid, last: sid })?;
+    }
+    Ok(list)
+}
+
+// the SID that is asked for
+fn spec_of(header: &Header, words: &GetWords) -> Option<Spec>
+    ensures { result ≡ spec_asked words.now header.now }
+{
+    match &words.spec {
+        Some(spec) => Some(*spec),
+        None => default_of(header.flags.items()),
+    }
+}
+
+// the SID to be made on the one that is asked for
+fn made_of(
+    alloc: Global,
+    header: &Header,
+    edits: &Edits,
+    words: &GetWords,
+    target: u16,
+) -> Result<Option<Sid>, Memory>
+    requires { has (live_serials header.now.records) target ≡ true }
+    ensures { IfOk result (λ made. made ≡ to_be_made header.now (reserved edits.now) target (spec_asked words.now header.now) words.now.branch) }
+{
+    let sids = reserved(alloc, edits.items())?;
+    let spec = spec_of(header, words);
+    match to_make(header, target, spec.as_ref(), words.branch, sids.items()) {
+        Ok(made) => Ok(Some(made)),
+        Err(Full) => Ok(None),
+    }
+}
+
+// the entry of SIDs and lists
+fn entry(
+    alloc: Global,
+    header: &Header,
+    asked: &Asked,
+    stamp: &Stamp,
+    got: Sid,
+    made: Sid,
+) -> Result<Edit, Memory>
+    requires include { AllByRecursion (λ n. has (live_serials header.now.records) n ≡ true) asked.now.include }
+    requires exclude { AllByRecursion (λ n. has (live_serials header.now.records) n ≡ true) asked.now.exclude }
+    requires spelled { IsSpelled header.now }
+    requires moment { IsMoment stamp.now.moment }
+    requires got { IsSid got }
+    requires made { IsSid made }
+    ensures value { IfOk result (λ e. e ≡ new_edit stamp.now header.now.records asked.now got made) }
+    ensures valid { IfOk result IsEdit }
+{
+    let records = header.records.items();
+    let include = singles(alloc, records, asked.include.items())?;
+    let exclude = singles(alloc, records, asked.exclude.items())?;
+    let login = stamp.login;
+    let _bytes = login.bytes();
+    Ok(Edit {
+        got,
+        made,
+        login,
+        moment: stamp.moment,
+        include,
+        exclude,
+    })
+}
+
+/// The entry that get -e makes for a login: the SID that is asked for, the one that a delta on it is to have, and
+/// the lists, each SID by itself. It refuses a login that isn't let in, a SID or lists that name no live
+/// deltas, releases outside floor and ceiling or locked, a SID that is being edited, and one that has no number
+/// left, in this order. POSIX, get -e.
+pub fn new_entry(
+    alloc: Global,
+    header: &Header,
+    edits: &Edits,
+    words: &GetWords,
+    stamp: &Stamp,
+) -> Result<Edit, StepFault>
+    requires table { IsTable header.now.records }
+    requires spelled { IsSpelled header.now }
+    requires valid { AreEditValues words.now stamp.now }
+    ensures value { Answers (new_entry words.now stamp.now header.now edits.now) result }
+    ensures valid { IfOk result IsEdit }
+    ensures checks { RefusesWithin edit_checks result }
+    ensures broke { result ≢ Err faults.DiskFault }
+{
+    if !is_allowed(header, &stamp.login) {
+        return Err(StepFault::Refused(Refusal::NotAllowed));
+    }
+    let asked = match asked_of(alloc, header, words) {
+        Ok(asked) => asked,
+        Err(fault) => return Err(fault),
+    };
+    let got = sid_at(header.records.items(), asked.target);
+    let Ok(made) = made_of(alloc, header, edits, words, asked.target) else {
+        return Err(StepFault::Memory);
+    };
+    let made = match free_sid(header, edits, got, made) {
+        Ok(made) => made,
+        Err(fault) => return Err(fault),
+    };
+    match entry(alloc, header, &asked, stamp, got, made) {
+        Ok(edit) => Ok(edit),
+        Err(_) => Err(StepFault::Memory),
+    }
+}
