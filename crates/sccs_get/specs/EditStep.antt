@@ -3,10 +3,11 @@ use Rattle.std.specs.Prelude.{◌≡◌, ℕ, Bool, true, false, not, ◌&&◌, 
 use Rattle.std.specs.List.{list_any}
 use Rattle.sccs_sid.specs.Moment.{IsMoment}
 use Rattle.sccs_sid.specs.Reading.{◌>>=◌}
-use Rattle.sccs_sid.specs.Sid.{sid_text}
-use Rattle.sccs_sid.specs.Spec.{IsSpec}
+use Rattle.sccs_sid.specs.Sid.{IsComponent, sid_text}
 use Rattle.sccs_sid.specs.declared.moments.Stamp.{Stamp}
 use Rattle.sccs_sid.specs.declared.sids.Sid.{Sid}
+use Rattle.sccs_sid.specs.declared.sids.Spec.{Spec}
+use Rattle.sccs_sid.specs.declared.sids.Spec.TheVariants.{Release}
 use Rattle.sccs_sid.specs.declared.sid_lists.Range.{Range}
 use Rattle.sccs_sid.specs.declared.refusals.Refusal.{Refusal}
 use Rattle.sccs_sid.specs.declared.refusals.Refusal.TheVariants as refusals
@@ -106,7 +107,12 @@ edit_decides words stamp heading n found = do
 abbrev pub edit_change : GetWords → Stamp → Bool → Changing
 edit_change words stamp heading = record { outcome = entries_outcome (edit_decides words stamp heading); named = []; takes = false; silent = false; could = quiet_checks edit_checks }
 
--- The SID that is asked for and the moment are valid ones.
+-- the release that is asked for alone, else the first
+abbrev pub release_asked : Option Spec → ℕ
+release_asked (Some (Release release)) = release
+release_asked spec = 1
+
+-- The release that is asked for and the moment are valid ones.
 pub record AreEditValues (words : GetWords) (stamp : Stamp) : Type 0 where
-  pub spec : IfSome words.spec IsSpec
+  pub release : IsComponent (release_asked words.spec)
   pub moment : IsMoment stamp.moment

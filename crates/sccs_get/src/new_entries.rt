@@ -1,17 +1,17 @@
-ghost use Rattle.std.specs.Prelude.{◌≡◌, ◌≢◌, ◌∷◌, [], ◌++◌, All, Err, IfOk, IfSome, Option, map, true};
-ghost use Rattle.std.specs.List.{AllByRecursion, list_any};
+ghost use Rattle.std.specs.Prelude.{◌≡◌, ◌≢◌, ◌∷◌, [], All, Err, IfOk, OnOk, true};
+ghost use Rattle.std.specs.List.{AllByRecursion};
 ghost use Rattle.sccs_sid.specs.Moment.{IsMoment};
-ghost use Rattle.sccs_sid.specs.Sid.{IsSid};
+ghost use Rattle.sccs_sid.specs.Sid.{IsComponent, IsSid};
 ghost use Rattle.sccs_sid.specs.SidLists.{IsRange};
 ghost use Rattle.sccs_sid.specs.declared.refusals.StepFault.TheVariants as faults;
 ghost use Rattle.sccs_history.specs.Applied.{live_serials};
-ghost use Rattle.sccs_history.specs.History.{HasSpelling, IsSpelled, IsTable, same_sid};
+ghost use Rattle.sccs_history.specs.History.{HasSpelling, IsSpelled, IsTable};
 ghost use Rattle.sccs_history.specs.Numbers.{has};
 ghost use Rattle.sccs_pending.specs.PFiles.{Answers, Passes};
 ghost use Rattle.sccs_pfile.specs.Entries.{IsEdit};
 ghost use Rattle.sccs_sets.specs.Made.{to_be_made};
 ghost use Rattle.sccs_steps.specs.Actions.{RefusesWithin};
-ghost use Rattle.sccs_get.specs.EditStep.{AreEditValues, edit_checks, free_sid, is_got, new_edit, new_entry, release_made, released, reserved, singles};
+ghost use Rattle.sccs_get.specs.EditStep.{AreEditValues, edit_checks, free_sid, is_got, new_edit, new_entry, release_asked, release_made, released, reserved, singles};
 ghost use Rattle.sccs_get.specs.GetStep.{spec_asked};
 
 use crate::targets::{Asked, asked_of};
@@ -117,8 +117,11 @@ fn singles(alloc: Global, records: &[Record], serials: &[u16]) -> Result<SidList
 }
 
 // the SID that is asked for
+#[tactic(auto, using(crate::proofs::EntrySids::release_of_spec))]
 fn spec_of(header: &Header, words: &GetWords) -> Option<Spec>
-    ensures { result ≡ spec_asked words.now header.now }
+    requires { IsComponent (release_asked words.now.spec) }
+    ensures value { result ≡ spec_asked words.now header.now }
+    ensures valid { IsComponent (release_asked result) }
 {
     match &words.spec {
         Some(spec) => Some(*spec),
@@ -134,8 +137,10 @@ fn made_of(
     words: &GetWords,
     target: u16,
 ) -> Result<Option<Sid>, Memory>
-    requires { has (live_serials header.now.records) target ≡ true }
-    ensures { IfOk result (λ made. made ≡ to_be_made header.now (reserved edits.now) target (spec_asked words.now header.now) words.now.branch) }
+    requires live { has (live_serials header.now.records) target ≡ true }
+    requires asked { IsComponent (release_asked words.now.spec) }
+    ensures value { IfOk result (λ made. made ≡ to_be_made header.now (reserved edits.now) target (spec_asked words.now header.now) words.now.branch) }
+    ensures valid { OnOk result (IsComponent (release_asked (spec_asked words.now header.now))) }
 {
     let sids = reserved(alloc, edits.items())?;
     let spec = spec_of(header, words);

@@ -1,5 +1,5 @@
 -- New entries that are prepared, and what a commit makes of them.
-use Rattle.std.proofs.Common.{◌≡◌, ℕ, zero, suc, Bool, true, false, List, [], ◌∷◌, All, arith, drop, remove, length, Option, None, Some, Result, Ok, Err, refl, sym, ap, subst, ◌∙◌}
+use Rattle.std.proofs.Common.{◌≡◌, ℕ, zero, suc, Bool, true, false, List, [], ◌∷◌, All, arith, drop, insert, remove, length, Option, None, Some, Result, Ok, Err, refl, sym, ap, subst, ◌∙◌}
 use Rattle.std.specs.Prelude.{IfSome, IsSome, option_map}
 use Rattle.std.specs.Str.{bytes_eq}
 use Rattle.sccs_base.specs.Name.{IsSfile, sibling}
@@ -100,3 +100,8 @@ all_left P [] zero all = all
 all_left P [] (suc n) all = all
 all_left P (x ∷ xs) zero all = λ k d low. all (suc k) d (omega (arith, low))
 all_left P (x ∷ xs) (suc n) all = one_more P x (remove xs n) (λ d. all zero d (omega arith)) (all_left P xs n (λ j e below. all (suc j) e (omega (arith, below))))
+
+-- what holds of each of several and of one more holds of all
+pub all_with : {X : Type 0} (P : X → Type 0) (xs : List X) (x : X) → All P xs → P x → All P (insert xs (length xs) x)
+all_with P [] x all is = one_more P x [] (λ d. is) all
+all_with P (y ∷ xs) x all is = one_more P y (insert xs (length xs) x) (λ d. all zero d (omega arith)) (all_with P xs x (λ j e below. all (suc j) e (omega (arith, below))) is)

@@ -1,5 +1,6 @@
-ghost use Rattle.std.specs.Prelude.{◌≡◌, ◌==◌, find};
+ghost use Rattle.std.specs.Prelude.{◌≡◌, ◌==◌, find, IfSome};
 ghost use Rattle.std.specs.Option.{option_copied};
+ghost use Rattle.sccs_sid.specs.Spec.{IsSpec};
 ghost use Rattle.sccs_sets.specs.Flags.{default_of};
 
 use sccs_history::Flag;
@@ -14,7 +15,8 @@ fn default_flag(flags: &[Flag]) -> Option<&Flag>
 
 /// The SID that the flag d names, where it is there: sccsfile(4), "Flags".
 pub fn default_of(flags: &[Flag]) -> Option<Spec>
-    ensures { result ≡ default_of flags.now }
+    ensures value { result ≡ default_of flags.now }
+    ensures valid { IfSome result IsSpec }
 {
     match default_flag(flags) {
         Some(flag) => match Spec::read(flag.text.bytes()) {

@@ -7,5 +7,5 @@ mod operands;
 mod utilities;
 
 pub use faults::Fault;
-pub use operands::{run_operand, run_operands};
+pub use operands::{is_several, run_operand, run_operands};
 pub use utilities::Utility;

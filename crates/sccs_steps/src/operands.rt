@@ -55,8 +55,8 @@ fn greater(a: u8, b: u8) -> u8
     if a < b { b } else { a }
 }
 
-// whether an operand stands for several files
-fn is_several(operand: &[u8]) -> bool
+/// Whether an operand stands for several files, as `.` and `-` do.
+pub fn is_several(operand: &[u8]) -> bool
     ensures { result ≡ is_several operand.now }
 {
     operand == b".".as_slice() || operand == b"-".as_slice()

@@ -1,23 +1,28 @@
 -- What a run does: the steps that its words mean, one for each operand in their order.
-use Rattle.std.specs.Prelude.{◌≡◌, ℕ, ◌<◌, ◌⊎◌, Bool, true, false, ◌&&◌, ◌||◌, List, [], ◌∷◌, length, Option, None, Result, Ok, Err, codes, if◌then◌else◌}
+use Rattle.std.specs.Prelude.{◌≡◌, ℕ, ◌<◌, nat_lt, ◌⊎◌, Bool, true, false, ◌&&◌, ◌||◌, List, [], ◌∷◌, length, Option, None, Result, Ok, Err, codes, if◌then◌else◌}
+use Rattle.std.specs.List.{list_any}
 use Rattle.sccs_disk.specs.Files.{Folder, view_in}
 use Rattle.sccs_disk.specs.Told.{seen}
 use Rattle.sccs_sid.specs.declared.moments.Stamp.{Stamp}
 use Rattle.sccs_words.specs.declared.commands.Usage.{Usage}
+use Rattle.sccs_words.specs.declared.commands.GetWords.{GetWords}
 use Rattle.sccs_words.specs.declared.commands.Operands.{Operands}
 use Rattle.sccs_words.specs.declared.commands.Command.{Command}
 use Rattle.sccs_words.specs.declared.commands.Command.TheVariants as c
 use Rattle.sccs_files.specs.StepFiles.{is_working, nowhere, Shows}
-use Rattle.sccs_steps.specs.Actions.{Action, AreClear, IsHeard, IsLone, SpeakAll, SpeakAs, steps_at}
+use Rattle.sccs_steps.specs.Actions.{Action, AreClear, IsHeard, IsLone, SpeakAll, SpeakAs, is_several, steps_at}
 use Rattle.sccs_steps.specs.Calls.{Scene, World, shown}
 use Rattle.sccs_steps.specs.StepLists.{ListInterrupted, NamedStep, Runs, Stopped, Waits}
 use Rattle.sccs_steps.specs.declared.faults.Fault.{Fault}
 use Rattle.sccs_steps.specs.declared.faults.Fault.TheVariants as ends
 use Rattle.sccs_transactions.specs.Changes.{locking}
 use Rattle.sccs_admin.specs.AdminStep.{admin_change}
+use Rattle.sccs_edit.specs.SactStep.{sact_action}
+use Rattle.sccs_edit.specs.UngetStep.{unget_change}
+use Rattle.sccs_get.specs.EditStep.{edit_change}
 use Rattle.sccs_get.specs.GetStep.{get_action}
 use Rattle.sccs_top.specs.Messages.{usage_line}
-use Rattle.sccs_top.specs.Unbuilt.{is_admin_built, is_get_built, unbuilt}
+use Rattle.sccs_top.specs.Unbuilt.{is_admin_built, is_get_built, is_reserve_built, unbuilt}
 use Rattle.sccs_top.specs.declared.answers.Answer.{Answer}
 use Rattle.sccs_top.specs.declared.answers.Answer.TheVariants.{Finished, Memory, ReadFault, WriteFault, DiskFault}
 
@@ -40,10 +45,23 @@ operands_of (c.Val words) = codes "-" ∷ []
 operands_of c.Batch = codes "-" ∷ []
 operands_of (c.Soak number) = codes "-" ∷ []
 
+-- a heading stands before each report where there are several operands, or one that stands for several files
+abbrev pub has_heading : Operands → Bool
+has_heading operands = operands.from_input || (nat_lt 1 (length operands.words) || list_any is_several operands.words)
+
+-- get as it is built: a version is printed, or an edit reserved
+abbrev pub get_in : GetWords → Stamp → Bool → Action
+get_in words stamp heading =
+    if is_get_built words then get_action words
+    else if is_reserve_built words then locking (edit_change words stamp heading)
+    else unbuilt false
+
 -- what is done with each of them, where this is the moment and the login
 abbrev pub action_of : Stamp → Command → Action
 action_of stamp (c.Admin words operands) = if is_admin_built words then locking (admin_change words stamp) else unbuilt false
-action_of stamp (c.Get words operands) = if is_get_built words then get_action words else unbuilt false
+action_of stamp (c.Get words operands) = get_in words stamp (has_heading operands)
+action_of stamp (c.Unget words operands) = locking (unget_change words stamp (has_heading operands))
+action_of stamp (c.Sact operands) = sact_action (has_heading operands)
 action_of stamp (c.What first operands) = unbuilt true
 action_of stamp command = unbuilt false
 

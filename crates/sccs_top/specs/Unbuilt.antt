@@ -15,6 +15,10 @@ use Rattle.sccs_steps.specs.Actions.{Action, KeepsFiles}
 unfoldable pub is_get_built : GetWords → Bool
 is_get_built words = (words.keep && (words.print && words.silent)) && not (words.branch || (words.edit || (words.no_text || (words.sids || words.module))))
 
+-- get reserves an edit: it has `-e` and `-g`, and of the other options only `-b`, `-i`, `-r`, `-s`, `-t` and `-x`
+unfoldable pub is_reserve_built : GetWords → Bool
+is_reserve_built words = (words.edit && words.no_text) && not (words.keep || (words.print || (words.sids || words.module)))
+
 abbrev pub is_absent : Given → Bool
 is_absent No = true
 is_absent given = false

@@ -1,24 +1,26 @@
 ghost use Rattle.std.specs.Prelude.{◌≡◌, true, false, OnOk, OnErr};
 ghost use Rattle.sccs_sid.specs.Moment.{IsMoment};
 ghost use Rattle.sccs_words.specs.Meaning.{meaning};
-ghost use Rattle.sccs_words.specs.ValidValues.{HasValidValues};
+ghost use Rattle.sccs_words.specs.ValidValues.{AreGetValues, HasValidValues};
 ghost use Rattle.sccs_steps.specs.Actions.{SpeakAll};
 ghost use Rattle.sccs_steps.specs.Calls.{scene};
 ghost use Rattle.sccs_steps.specs.Causes.{Ignores, RunCauses, counts};
 ghost use Rattle.sccs_steps.specs.declared.faults.Fault.TheVariants as ends;
 ghost use Rattle.sccs_top.specs.Listing.{action_in, words_of};
-ghost use Rattle.sccs_top.specs.Runs.{MakesAll, MakesSteps, SpeaksWords, action_of, is_silent, made_by, only_reads, operands_of, takes_input};
+ghost use Rattle.sccs_top.specs.Runs.{MakesAll, MakesSteps, SpeaksWords, action_of, get_in, has_heading, is_silent, made_by, only_reads, operands_of, takes_input};
 
 use crate::answers::Answer;
 use crate::messages::write_usage;
-use crate::unbuilt::{Unbuilt, is_admin_built, is_get_built};
+use crate::unbuilt::{Unbuilt, is_admin_built, is_get_built, is_reserve_built};
 use crate::utilities::Get;
 use sccs_admin::Admin;
 use sccs_base::{Line, Sink, Source, Words};
 use sccs_disk::Disk;
+use sccs_edit::{Sact, Unget};
+use sccs_get::Reserve;
 use sccs_sid::Stamp;
-use sccs_steps::{Fault, Utility, run_operand, run_operands};
-use sccs_words::{Command, Operands, WordsFault, read_words};
+use sccs_steps::{Fault, Utility, is_several, run_operand, run_operands};
+use sccs_words::{Command, GetWords, Operands, WordsFault, read_words};
 use std::alloc::Global;
 
 // how a command ends whose steps end so
@@ -38,7 +40,38 @@ fn ended(made: Result<u8, Fault>) -> Answer
 enum Known<'a> {
     Admin(Admin<'a>),
     Get(Get<'a>),
+    Reserve(Reserve<'a>),
+    Sact(Sact),
+    Unget(Unget<'a>),
     Unbuilt(Unbuilt),
+}
+
+// whether a heading stands before each report
+fn has_heading(operands: &Operands) -> bool
+    ensures { result ≡ has_heading operands.now }
+{
+    let words = operands.words.items();
+    operands.from_input || (words.len() > 1 || words.iter().any(|word| is_several(word.bytes())))
+}
+
+// get as it is built: a version is printed, or an edit reserved
+fn get_of<'a>(words: &'a GetWords, operands: &Operands, stamp: &'a Stamp) -> Known<'a>
+    requires values { AreGetValues words.now }
+    requires moment { IsMoment stamp.now.moment }
+    ensures { action_in result ≡ get_in words.now stamp.now (has_heading operands.now) }
+{
+    if is_get_built(words) {
+        return Known::Get(Get { words });
+    }
+    if is_reserve_built(words) {
+        let heading = has_heading(operands);
+        return Known::Reserve(Reserve {
+            words,
+            stamp,
+            heading,
+        });
+    }
+    Known::Unbuilt(Unbuilt { any: false })
 }
 
 fn utility_of<'a>(command: &'a Command, stamp: &'a Stamp) -> Known<'a>
@@ -54,13 +87,15 @@ fn utility_of<'a>(command: &'a Command, stamp: &'a Stamp) -> Known<'a>
                 Known::Unbuilt(Unbuilt { any: false })
             }
         }
-        Command::Get(words, _) => {
-            if is_get_built(words) {
-                Known::Get(Get { words })
-            } else {
-                Known::Unbuilt(Unbuilt { any: false })
-            }
-        }
+        Command::Get(words, operands) => get_of(words, operands, stamp),
+        Command::Unget(words, operands) => Known::Unget(Unget {
+            words,
+            stamp,
+            heading: has_heading(operands),
+        }),
+        Command::Sact(operands) => Known::Sact(Sact {
+            heading: has_heading(operands),
+        }),
         Command::What(_, _) => Known::Unbuilt(Unbuilt { any: true }),
         _ => Known::Unbuilt(Unbuilt { any: false }),
     }
@@ -160,6 +195,9 @@ fn run_command<I: Source, O: Sink, E: Sink, D: Disk>(
     match utility_of(command, stamp) {
         Known::Admin(admin) => run_listed(alloc, &admin, operands, input, out, err, disk),
         Known::Get(get) => run_listed(alloc, &get, operands, input, out, err, disk),
+        Known::Reserve(get) => run_listed(alloc, &get, operands, input, out, err, disk),
+        Known::Sact(sact) => run_listed(alloc, &sact, operands, input, out, err, disk),
+        Known::Unget(unget) => run_listed(alloc, &unget, operands, input, out, err, disk),
         Known::Unbuilt(unbuilt) => run_listed(alloc, &unbuilt, operands, input, out, err, disk),
     }
 }
@@ -167,8 +205,8 @@ fn run_command<I: Source, O: Sink, E: Sink, D: Disk>(
 /// Does a command. The words are those behind the program's name; `stamp` is its moment, of the years
 /// 1969 to 2068, and its login, `place` the folder's path. Texts go to `out`, messages to `err`.
 ///
-/// Built are admin on new files, with `-n` or `-i`, `-r` and `-y`, and get with `-k`, `-p` and `-s`, and of
-/// its other options those that say which version.
+/// Built are admin on new files, with `-n` or `-i`, `-r` and `-y`; get with `-k`, `-p` and `-s`, and with `-e`
+/// and `-g`, each with the options that say which version; sact and unget.
 pub fn run<I: Source, O: Sink, E: Sink, D: Disk>(
     alloc: Global,
     words: &Words,

@@ -4,6 +4,7 @@ mod hostile;
 mod long_lines;
 mod new_files;
 mod operands;
+mod pending;
 mod readings;
 mod releases;
 mod samples;

@@ -1,5 +1,5 @@
 ghost use Rattle.std.specs.Prelude.{◌≡◌, true, false};
-ghost use Rattle.sccs_top.specs.Unbuilt.{is_admin_built, is_get_built, unbuilt, unbuilt_keeps};
+ghost use Rattle.sccs_top.specs.Unbuilt.{is_admin_built, is_get_built, is_reserve_built, unbuilt, unbuilt_keeps};
 
 use sccs_base::{Name, Sink, Source};
 use sccs_disk::Disk;
@@ -29,6 +29,15 @@ pub fn is_get_built(words: &GetWords) -> bool
 {
     let has_others = words.branch || words.edit || words.no_text || words.sids || words.module;
     words.keep && words.print && words.silent && !has_others
+}
+
+// whether get has `-e` and `-g`, and of the other options only those that say which version, `-b` and `-s`
+#[tactic(auto, unfolding(crate::specs::Unbuilt::is_reserve_built))]
+pub fn is_reserve_built(words: &GetWords) -> bool
+    ensures { result ≡ is_reserve_built words.now }
+{
+    let has_others = words.keep || words.print || words.sids || words.module;
+    words.edit && words.no_text && !has_others
 }
 
 /// What isn't built yet.

@@ -14,12 +14,15 @@ pub struct Seen {
     pub err: MemorySink,
 }
 
-/// What the program is given, beside its words: the files s.a and s.b, the input, and the calls that fail.
+/// What the program is given, beside its words: the files s.a and s.b, the input, the time of a day and the
+/// login, and the calls that fail.
 #[derive(Clone, Copy)]
 pub struct Given<'a> {
     pub file: &'a [u8],
     pub other: &'a [u8],
     pub input: &'a [u8],
+    pub time: &'a [u8],
+    pub login: &'a [u8],
     pub failing_input: &'a [u64],
     pub failing_disk: &'a [u64],
     pub failing_out: &'a [u64],
@@ -31,6 +34,8 @@ pub const PLAIN: Given<'static> = Given {
     file: TWO_LINES,
     other: BRANCHED,
     input: b"",
+    time: b"05:06:07",
+    login: b"ann",
     failing_input: &[],
     failing_disk: &[],
     failing_out: &[],
@@ -57,10 +62,10 @@ pub fn command_on<D: Disk>(
 ) -> Result<Seen, Fail> {
     let words = words_of(alloc, line)?;
     let stamp = Stamp {
-        moment: Moment::read(b"21/03/04", b"05:06:07")
+        moment: Moment::read(b"21/03/04", given.time)
             .ok()
             .ok_or("a moment")?,
-        login: Login::read(b"ann").ok_or("a login")?,
+        login: Login::read(given.login).ok_or("a login")?,
     };
     let place = Line::new(alloc, b"/")?;
     let mut input = MemorySource::new(alloc, given.input, given.failing_input)?;

@@ -1,0 +1,157 @@
+-- What get -e decides.
+use Rattle.std.proofs.Common.{◌≡◌, ℕ, zero, suc, All, ◌+◌, ◌<◌, Bool, true, false, not, ◌||◌, List, [], ◌∷◌, ◌++◌, length, take, insert, get_or, Option, None, Some, Result, Ok, Err, refl, sym, ap, subst, ◌∙◌, arith, append-nil, add-one}
+use Rattle.std.proofs.Math.Seq.{take-suc}
+use Rattle.std.proofs.lemmas.Grind.{flat_map-append}
+use Rattle.std.proofs.lemmas.List.Elements.{All-append}
+use Rattle.std.specs.List.{AllByRecursion}
+use Rattle.sccs_sid.specs.Sid.{IsComponent, IsSid}
+use Rattle.sccs_sid.specs.declared.sids.Sid.{Sid}
+use Rattle.sccs_sid.specs.declared.sids.Spec.{Spec}
+use Rattle.sccs_sid.specs.declared.sid_lists.Range.{Range}
+use Rattle.sccs_sid.specs.declared.refusals.Refusal.TheVariants as refusals
+use Rattle.sccs_flags.specs.FlagValues.{has_flag}
+use Rattle.sccs_flags.specs.Logins.{is_allowed}
+use Rattle.sccs_history.specs.Applied.{live_serials, serials_of}
+use Rattle.sccs_history.specs.History.{IsSpelled}
+use Rattle.sccs_history.specs.Numbers.{has}
+use Rattle.sccs_history.specs.declared.headers.Record.{Record}
+use Rattle.sccs_sets.specs.Made.{to_be_made}
+use Rattle.sccs_sets.specs.Sets.{sid_at}
+use Rattle.sccs_sets.proofs.Lookups.{live_there}
+use Rattle.sccs_steps.specs.StepEffects.{check, there}
+use Rattle.sccs_sid.specs.Reading.{◌>>=◌}
+use Rattle.sccs_sid.specs.declared.moments.Stamp.{Stamp}
+use Rattle.sccs_sid.specs.declared.refusals.Refusal.{Refusal}
+use Rattle.sccs_sid.specs.declared.refusals.StepFault.{StepFault}
+use Rattle.sccs_sid.specs.declared.refusals.StepFault.TheVariants.{Refused, Memory, ReadFault, WriteFault, DiskFault}
+use Rattle.sccs_history.specs.declared.headers.Header.{Header}
+use Rattle.sccs_pfile.specs.declared.entries.Edit.{Edit}
+use Rattle.sccs_words.specs.declared.commands.GetWords.{GetWords}
+use Rattle.sccs_pending.specs.NewEntries.{Decided}
+use Rattle.sccs_pending.specs.PFiles.{Answers}
+use Rattle.sccs_pending.specs.Pending.{Found}
+use Rattle.sccs_pending.specs.declared.pending.Pending.{Pending}
+use Rattle.sccs_pending.proofs.EntryChanges.{ShowsFound}
+use Rattle.sccs_get.specs.EditStep.{edit_decides, free_sid, is_got, new_edit, new_entry, release_asked, released, reserved, single, singles, with_entry}
+use Rattle.sccs_get.specs.GetStep.{asked, spec_asked}
+use Rattle.sccs_get.specs.declared.targets.Asked.{Asked}
+use Rattle.sccs_get.proofs.EntrySids.{made_sid, sid_there}
+
+-- ---- a new entry
+
+abbrev entry_from : Stamp → List Record → Asked → Sid → Result Sid Refusal → Result Edit Refusal
+entry_from stamp records a got r = r >>= λ made. Ok (new_edit stamp records a got made)
+
+abbrev entry_on : GetWords → Stamp → Header → List Edit → Asked → Result Sid Refusal → Result Edit Refusal
+entry_on words stamp header edits a r = r >>= λ got. entry_from stamp header.records a got (free_sid header edits got (to_be_made header (reserved edits) a.target (spec_asked words header) words.branch))
+
+abbrev entry_of : GetWords → Stamp → Header → List Edit → Result Asked Refusal → Result Edit Refusal
+entry_of words stamp header edits r = r >>= λ a. entry_on words stamp header edits a (there (sid_at header.records a.target) refusals.NoSid)
+
+pub not_let_in : (words : GetWords) (stamp : Stamp) (header : Header) (edits : List Edit) → is_allowed header.users stamp.login ≡ false → new_entry words stamp header edits ≡ Err refusals.NotAllowed
+unfolding new_entry
+not_let_in words stamp header edits is = rw is refl
+
+let_in : (words : GetWords) (stamp : Stamp) (header : Header) (edits : List Edit) → is_allowed header.users stamp.login ≡ true → new_entry words stamp header edits ≡ entry_of words stamp header edits (asked words header)
+unfolding new_entry
+let_in words stamp header edits is = rw is refl
+
+pub not_asked : (words : GetWords) (stamp : Stamp) (header : Header) (edits : List Edit) (fault : StepFault) → is_allowed header.users stamp.login ≡ true → Answers {A = Asked} (asked words header) (Err fault) → Answers {A = Edit} (new_entry words stamp header edits) (Err fault)
+not_asked words stamp header edits (Refused refusal) is answers = let_in words stamp header edits is ∙ ap (entry_of words stamp header edits) answers
+not_asked words stamp header edits Memory is answers = tt
+not_asked words stamp header edits DiskFault is answers = tt
+not_asked words stamp header edits ReadFault is answers = answers
+not_asked words stamp header edits WriteFault is answers = answers
+
+free_as : (words : GetWords) (stamp : Stamp) (header : Header) (edits : List Edit) (a : Asked) (got : Sid) (made : Option Sid) (r : Result Sid Refusal) → is_allowed header.users stamp.login ≡ true → asked words header ≡ Ok a → sid_at header.records a.target ≡ Some got
+    → made ≡ to_be_made header (reserved edits) a.target (spec_asked words header) words.branch → free_sid header edits got made ≡ r → new_entry words stamp header edits ≡ entry_from stamp header.records a got r
+free_as words stamp header edits a got made r is found at making free =
+    let_in words stamp header edits is
+    ∙ (ap (entry_of words stamp header edits) found
+    ∙ (ap (λ (o : Option Sid). entry_on words stamp header edits a (there o refusals.NoSid)) at
+    ∙ (ap (λ (o : Option Sid). entry_from stamp header.records a got (free_sid header edits got o)) (sym making) ∙ ap (entry_from stamp header.records a got) free)))
+
+pub not_free : (words : GetWords) (stamp : Stamp) (header : Header) (edits : List Edit) (a : Asked) (got : Sid) (made : Option Sid) (fault : StepFault) → is_allowed header.users stamp.login ≡ true → asked words header ≡ Ok a → sid_at header.records a.target ≡ Some got
+    → made ≡ to_be_made header (reserved edits) a.target (spec_asked words header) words.branch → Answers {A = Sid} (free_sid header edits got made) (Err fault) → Answers {A = Edit} (new_entry words stamp header edits) (Err fault)
+not_free words stamp header edits a got made (Refused refusal) is found at making answers = free_as words stamp header edits a got made (Err refusal) is found at making answers
+not_free words stamp header edits a got made Memory is found at making answers = tt
+not_free words stamp header edits a got made DiskFault is found at making answers = tt
+not_free words stamp header edits a got made ReadFault is found at making answers = answers
+not_free words stamp header edits a got made WriteFault is found at making answers = answers
+
+pub entry_made : (words : GetWords) (stamp : Stamp) (header : Header) (edits : List Edit) (a : Asked) (got : Sid) (made : Option Sid) (sid : Sid) (e : Edit) → is_allowed header.users stamp.login ≡ true → asked words header ≡ Ok a → sid_at header.records a.target ≡ Some got
+    → made ≡ to_be_made header (reserved edits) a.target (spec_asked words header) words.branch → free_sid header edits got made ≡ Ok sid → e ≡ new_edit stamp header.records a got sid → new_entry words stamp header edits ≡ Ok e
+entry_made words stamp header edits a got made sid e is found at making free same = free_as words stamp header edits a got made (Ok sid) is found at making free ∙ ap Ok (sym same)
+
+pub made_as : (header : Header) (sids sids2 : List Sid) (target : ℕ) (spec spec2 : Option Spec) (branch : Bool) (o : Option Sid) → sids2 ≡ sids → spec2 ≡ spec → to_be_made header sids2 target spec2 branch ≡ o → o ≡ to_be_made header sids target spec branch
+made_as header sids sids2 target spec spec2 branch o first second is =
+    sym is ∙ (ap (λ (s : List Sid). to_be_made header s target spec2 branch) first ∙ ap (λ (s : Option Spec). to_be_made header sids target s branch) second)
+
+-- where a SID is free, it is that which is to be made
+free_is : (header : Header) (edits : List Edit) (got : Sid) (made : Option Sid) (sid : Sid) → free_sid header edits got made ≡ Ok sid → made ≡ Some sid
+unfolding free_sid
+free_is header edits got made sid is = by (released header got made) (has_flag header.flags 106 || not (is_got edits got)) made is
+  where
+    by : (r : Result Bool Refusal) (b : Bool) (m : Option Sid) → (r >>= λ free. check b refusals.BeingEdited >>= λ joint. there m refusals.Full) ≡ Ok sid → m ≡ Some sid
+    by (Ok x) true (Some s) e = let same : s ≡ sid = cc in ap Some same
+    by (Ok x) true None e = absurd cc
+    by (Ok x) false m e = absurd cc
+    by (Err refusal) b m e = absurd cc
+
+-- the SID to be made is a SID
+pub free_valid : (words : GetWords) (header : Header) (edits : List Edit) (target : ℕ) (got : Sid) (made : Option Sid) (sid : Sid) → IsSpelled header → IsComponent (release_asked (spec_asked words header)) → sid_at header.records target ≡ Some got
+    → made ≡ to_be_made header (reserved edits) target (spec_asked words header) words.branch → free_sid header edits got made ≡ Ok sid → IsSid sid
+free_valid words header edits target got made sid spelled release at making free =
+    made_sid header (reserved edits) target (spec_asked words header) words.branch got sid at (sid_there header.records target got spelled.records at) release (sym making ∙ free_is header edits got made sid free)
+
+-- ---- a live serial of a list
+
+pub live_at : (records : List Record) (serials : List ℕ) (i d : ℕ) → AllByRecursion (λ n. has (live_serials records) n ≡ true) serials → i < length serials → has (serials_of records) (get_or serials i d) ≡ true
+live_at records [] i d all low = absurd (omega (arith, low))
+live_at records (n ∷ serials) zero d all low = live_there records n all.0
+live_at records (n ∷ serials) (suc i) d all low = live_at records serials i d all.1 (omega (arith, low))
+
+abbrev pub single_range : Sid → Range
+single_range sid = record { first = sid; last = sid }
+
+pub single_added : (records : List Record) (serials : List ℕ) (list list2 : List Range) (i d : ℕ) (sid : Sid) → i < length serials → list ≡ singles records (take i serials) → sid_at records (get_or serials i d) ≡ Some sid → list2 ≡ insert list (length list) (record { first = sid; last = sid }) → list2 ≡ singles records (take (i + 1) serials)
+single_added records serials list list2 i d sid low is at put =
+    put
+    ∙ (at_end list (record { first = sid; last = sid })
+    ∙ (ap (λ (l : List Range). l ++ record { first = sid; last = sid } ∷ []) is
+    ∙ (ap (λ (o : Option Sid). singles records (take i serials) ++ single o) (sym at)
+    ∙ sym (ap (λ k. singles records (take k serials)) (add-one i) ∙ (ap (singles records) (take-suc serials i d low) ∙ (flat_map-append (λ n. single (sid_at records n)) (take i serials) (get_or serials i d ∷ []) ∙ ap (λ (l : List Range). singles records (take i serials) ++ l) (append-nil (single (sid_at records (get_or serials i d))))))))))
+  where
+    at_end : {X : Type 0} (xs : List X) (x : X) → insert xs (length xs) x ≡ xs ++ x ∷ []
+    at_end [] x = refl
+    at_end (y ∷ xs) x = ap (λ zs. y ∷ zs) (at_end xs x)
+
+decides_as : (words : GetWords) (stamp : Stamp) (heading : Bool) (n : List ℕ) (x : Pending) (found : Found) (r : Result Edit Refusal) → ShowsFound x found → new_entry words stamp x.front.header x.edits ≡ r
+    → edit_decides words stamp heading n found ≡ (r >>= λ e. Ok (with_entry words heading n x.edits e))
+unfolding edit_decides
+decides_as words stamp heading n x found r shows is =
+    ap (λ (h : Header). new_entry words stamp h found.edits >>= λ e. Ok (with_entry words heading n found.edits e)) shows.0
+    ∙ (ap (λ (edits : List Edit). new_entry words stamp x.front.header edits >>= λ e. Ok (with_entry words heading n edits e)) shows.1 ∙ ap (λ (s : Result Edit Refusal). s >>= λ e. Ok (with_entry words heading n x.edits e)) is)
+
+pub no_entry : (words : GetWords) (stamp : Stamp) (heading : Bool) (n : List ℕ) (x : Pending) (fault : StepFault) → Answers {A = Edit} (new_entry words stamp x.front.header x.edits) (Err fault) → (found : Found) → ShowsFound x found → Answers {A = Decided} (edit_decides words stamp heading n found) (Err fault)
+no_entry words stamp heading n x (Refused refusal) answers found shows = decides_as words stamp heading n x found (Err refusal) shows answers
+no_entry words stamp heading n x Memory answers found shows = tt
+no_entry words stamp heading n x DiskFault answers found shows = tt
+no_entry words stamp heading n x ReadFault answers found shows = answers
+no_entry words stamp heading n x WriteFault answers found shows = answers
+
+pub one_entry : (words : GetWords) (stamp : Stamp) (heading : Bool) (n : List ℕ) (x : Pending) (e : Edit) → new_entry words stamp x.front.header x.edits ≡ Ok e → (found : Found) → ShowsFound x found → edit_decides words stamp heading n found ≡ Ok (with_entry words heading n x.edits e)
+one_entry words stamp heading n x e is found shows = decides_as words stamp heading n x found (Ok e) shows is
+
+pub never_empty : (edits : List Edit) (e : Edit) → edits ++ e ∷ [] ≡ [] → edits ≡ [] → ⊥
+never_empty [] e none empty = cc
+never_empty (x ∷ edits) e none empty = cc
+
+-- ---- one entry more
+
+one_all : {X : Type 0} (P : X → Type 0) (x : X) → P x → All P (x ∷ [])
+one_all P x is zero d low = is
+one_all P x is (suc k) d low = absurd (omega (arith, low))
+
+pub all_and : {X : Type 0} (P : X → Type 0) (xs : List X) (x : X) → All P xs → P x → All P (xs ++ x ∷ [])
+all_and P xs x all is = All-append P xs (x ∷ []) all (one_all P x is)

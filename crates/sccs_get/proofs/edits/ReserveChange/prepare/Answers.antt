@@ -1,0 +1,31 @@
+use Rattle.std.proofs.Common.{ap}
+use Rattle.sccs_disk.specs.Told.{seen}
+use Rattle.sccs_steps.specs.Actions.{quiet_checks}
+use Rattle.sccs_pending.proofs.EntryChanges.{decided_prepares, decided_ready, decided_speaks, undecided_prepares, unread_prepares}
+use Rattle.sccs_get.specs.EditStep.{edit_checks, edit_decides, with_entry}
+use Rattle.sccs_get.proofs.EditLaws.{never_empty, no_entry, one_entry}
+use Rattle.sccs_get.proofs.edits.ReserveChange.prepare.Goals as goal
+
+pub returns-in-Err-clause-prepares : goal.returns-in-Err-clause-prepares
+returns-in-Err-clause-prepares g c = λ err.
+    unread_prepares (edit_decides c.args.self.now.words.now c.args.self.now.stamp.now c.args.self.now.heading) (quiet_checks edit_checks) c.in-Err.fault c.args.name.now _ _ _ _ err c.requires.sfile (ap seen c.read_pending.ensures.frame.same) c.in-Err.ensures.told
+
+pub returns-in-Ok-new_entry-clause-prepares : goal.returns-in-Ok-new_entry-clause-prepares
+returns-in-Ok-new_entry-clause-prepares g c = λ err.
+    decided_prepares (edit_decides c.args.self.now.words.now c.args.self.now.stamp.now c.args.self.now.heading) (quiet_checks edit_checks) c.args.name.now c.in-Ok.found (with_entry c.args.self.now.words.now c.args.self.now.heading c.args.name.now c.in-Ok.found.edits c.in-Ok-new_entry.edit) c.add_entry.result _
+    (g.D.Disk.told c.args.disk.now) (g.D.Disk.told c.read_pending.new.disk) (g.D.Disk.told c.add_entry.new.disk) _ err c.requires.sfile c.read_pending.ensures.frame.same c.in-Ok.ensures.told
+    (one_entry c.args.self.now.words.now c.args.self.now.stamp.now c.args.self.now.heading c.args.name.now c.in-Ok.found c.in-Ok-new_entry.edit c.in-Ok-new_entry.ensures.value) c.add_entry.ensures.adds
+
+pub returns-in-Ok-new_entry-clause-needs : goal.returns-in-Ok-new_entry-clause-needs
+returns-in-Ok-new_entry-clause-needs g c =
+    decided_ready c.args.name.now c.in-Ok.found (with_entry c.args.self.now.words.now c.args.self.now.heading c.args.name.now c.in-Ok.found.edits c.in-Ok-new_entry.edit) c.add_entry.result (g.D.Disk.told c.args.disk.now) (g.D.Disk.told c.read_pending.new.disk) (g.D.Disk.told c.add_entry.new.disk)
+    c.requires.sfile c.read_pending.ensures.frame.same c.requires.locked c.in-Ok.ensures.told (never_empty c.in-Ok.found.edits c.in-Ok-new_entry.edit) c.add_entry.ensures.adds
+
+pub returns-in-Ok-new_entry-clause-speaks : goal.returns-in-Ok-new_entry-clause-speaks
+returns-in-Ok-new_entry-clause-speaks g c =
+    decided_speaks edit_checks c.args.name.now (with_entry c.args.self.now.words.now c.args.self.now.heading c.args.name.now c.in-Ok.found.edits c.in-Ok-new_entry.edit) c.add_entry.result _ _ c.add_entry.ensures.adds c.add_entry.ensures.checks
+
+pub returns-in-Err-new_entry-clause-prepares : goal.returns-in-Err-new_entry-clause-prepares
+returns-in-Err-new_entry-clause-prepares g c = λ err.
+    undecided_prepares (edit_decides c.args.self.now.words.now c.args.self.now.stamp.now c.args.self.now.heading) (quiet_checks edit_checks) c.in-Err-new_entry.fault c.args.name.now c.in-Ok.found _ _ _ _ err c.requires.sfile (ap seen c.read_pending.ensures.frame.same) c.in-Ok.ensures.told
+    (no_entry c.args.self.now.words.now c.args.self.now.stamp.now c.args.self.now.heading c.args.name.now c.in-Ok.found c.in-Err-new_entry.fault c.in-Err-new_entry.ensures.value)

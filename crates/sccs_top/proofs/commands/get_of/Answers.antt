@@ -1,0 +1,4 @@
+use Rattle.sccs_top.proofs.commands.get_of.Goals as goal
+
+pub invariant_of-result : goal.invariant_of-result
+invariant_of-result c = record { valid = record { spec = c.requires.values.spec; moment = c.requires.moment } }
