@@ -1,6 +1,6 @@
 -- Trees that are turned, joined and cut, by their entries.
-use Rattle.std.proofs.Common.{◌≡◌, ℕ, ◌+◌, ◌-◌, ◌<◌, ◌≤◌, List, [], ◌∷◌, ◌++◌, Result, Ok, Err, OnOk, length, map, take, drop, get_or, sym, ap, ◌∙◌, arith, append_assoc}
-use Rattle.std.proofs.lemmas.List.{drop-append-le, drop_more, take-append-le}
+use Rattle.std.proofs.Common.{◌≡◌, ℕ, zero, suc, ◌+◌, ◌-◌, ◌≤◌, List, [], ◌∷◌, ◌++◌, Result, Ok, Err, OnOk, length, map, take, drop, refl, sym, ap, ◌∙◌, arith, append_assoc}
+use Rattle.std.proofs.lemmas.List.{drop-append-le, take-append-le}
 use Rattle.std.proofs.Math.Seq.{drop-append-add, take-append-add}
 use Rattle.sccs_script.specs.Drafts.{anchor, anchor_from, Entry, expand, Fresh, put_entries, unstacked}
 use Rattle.sccs_script.specs.declared.pieces.Piece.{Piece}
@@ -10,11 +10,6 @@ use Rattle.sccs_script.proofs.PieceLaws.{unstacked_push}
 -- what is grouped to the left, grouped to the right
 pub turned : (a b c d : List Entry) → (a ++ (b ++ c)) ++ d ≡ a ++ (b ++ (c ++ d))
 turned a b c d = append_assoc a (b ++ c) d ∙ ap (λ l. a ++ l) (append_assoc b c d)
-
--- two sides, and what stands in the middle shared between them
-pub shared : (a b c d e f g : List Entry) → (a ++ (b ++ c)) ++ (d ++ (e ++ (f ++ g))) ≡ a ++ (b ++ ((c ++ (d ++ e)) ++ (f ++ g)))
-shared a b c d e f g =
-    turned a b c (d ++ (e ++ (f ++ g))) ∙ ap (λ l. a ++ (b ++ l)) (sym (turned c d e (f ++ g)))
 
 -- the place is in the left part
 pub low_front : (place : ℕ) (left rest : List Entry) → place ≤ length left → take place left ≡ take place (left ++ rest)
@@ -69,21 +64,32 @@ unloaded left right p s s2 s3 s4 first push last =
     ∙ (ap (λ l. left ++ l) (ap unstacked push ∙ (unstacked_push s2 p ∙ ap (λ l. expand p ++ l) first))
     ∙ sym (turned left (expand p) right (unstacked s)))
 
--- one line more at the end
-pub line_added : (after i : ℕ) (line : List ℕ) (lines : List (List ℕ)) (tree tree2 : List Entry) → i < length lines → line ≡ get_or lines i line → tree2 ≡ tree ++ (Fresh after line ∷ [])
-    → tree2 ++ map (Fresh after) (drop (i + 1) lines) ≡ tree ++ map (Fresh after) (drop i lines)
-line_added after i line lines tree tree2 low at is =
-    ap (λ l. l ++ map (Fresh after) (drop (i + 1) lines)) is
-    ∙ (append_assoc tree (Fresh after line ∷ []) (map (Fresh after) (drop (i + 1) lines))
-    ∙ ap (λ l. tree ++ map (Fresh after) l) (sym (drop_more lines i line low ∙ ap (λ x. x ∷ drop (i + 1) lines) (sym at))))
-
 -- new lines between the two halves of a tree
-pub put_between : (k : ℕ) (new : List (List ℕ)) (entries front back with_new : List Entry) → front ≡ take k entries → back ≡ drop k entries → with_new ≡ front ++ map (Fresh (anchor front)) new
-    → with_new ++ back ≡ put_entries k new entries
-put_between k new entries front back with_new one two is =
-    ap (λ l. l ++ back) is
-    ∙ (append_assoc front (map (Fresh (anchor front)) new) back
-    ∙ (ap (λ l. l ++ (map (Fresh (anchor l)) new ++ back)) one ∙ ap (λ l. take k entries ++ (map (Fresh (anchor (take k entries))) new ++ l)) two))
+put_at : (k : ℕ) (new : List (List ℕ)) (entries front back : List Entry) → front ≡ take k entries → back ≡ drop k entries
+    → front ++ (map (Fresh (anchor front)) new ++ back) ≡ put_entries k new entries
+put_at k new entries front back one two =
+    ap (λ l. l ++ (map (Fresh (anchor l)) new ++ back)) one ∙ ap (λ l. take k entries ++ (map (Fresh (anchor (take k entries))) new ++ l)) two
+
+-- what stands before a place, and some of what stands behind it, cut at that place once more
+none_left : (m : ℕ) → ◌≡◌ {A = List Entry} (drop m []) []
+none_left zero = refl
+none_left (suc m) = refl
+
+cut_front : (k m : ℕ) (entries : List Entry) → take k entries ≡ take k (take k entries ++ drop m (drop k entries))
+cut_front zero m entries = refl
+cut_front (suc k) m [] = sym (ap (take (suc k)) (none_left m))
+cut_front (suc k) m (e ∷ entries) = ap (λ l. e ∷ l) (cut_front k m entries)
+
+cut_back : (k m : ℕ) (entries : List Entry) → drop m (drop k entries) ≡ drop k (take k entries ++ drop m (drop k entries))
+cut_back zero m entries = refl
+cut_back (suc k) m [] = none_left m ∙ sym (ap (drop (suc k)) (none_left m))
+cut_back (suc k) m (e ∷ entries) = cut_back k m entries
+
+-- new lines in the place of some that were taken away
+pub put_for : (k m : ℕ) (new : List (List ℕ)) (entries front back : List Entry) → front ≡ take k entries → back ≡ drop m (drop k entries)
+    → front ++ (map (Fresh (anchor front)) new ++ back) ≡ put_entries k new (take k entries ++ drop m (drop k entries))
+put_for k m new entries front back one two =
+    put_at k new (take k entries ++ drop m (drop k entries)) front back (one ∙ cut_front k m entries) (two ∙ cut_back k m entries)
 
 -- the anchor of a tree is that of its right side behind the piece
 pub anchor_right : (before end : ℕ) (left middle right : List Entry) → ((n : ℕ) → end ≡ anchor_from n middle) → anchor_from end right ≡ anchor_from before (left ++ (middle ++ right))

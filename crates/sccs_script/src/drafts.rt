@@ -1,11 +1,11 @@
-ghost use Rattle.std.specs.Prelude.{◌≡◌, ◌++◌, map, IfOk};
+ghost use Rattle.std.specs.Prelude.{◌≡◌, ◌-◌, ◌++◌, drop, map, take, IfOk};
 ghost use Rattle.std.specs.List.{AllByRecursion};
-ghost use Rattle.sccs_script.specs.Drafts.{base_of, cut_entries, edit, edited, Fresh, IsPiece, IsWithin, put_entries, unstacked};
+ghost use Rattle.sccs_script.specs.Drafts.{anchor, base_of, edit, edited, Fresh, IsPiece, IsWithin, unstacked};
 
 use crate::copies::copy_line;
 use crate::pieces::Piece;
 use crate::trees::{Halves, Tree, anchor, append, join, split, unload};
-use sccs_base::{Memory, Text};
+use sccs_base::{Line, Memory, Text};
 use sccs_edits::{Order, OrderKind};
 use std::alloc::Global;
 
@@ -20,35 +20,40 @@ fn base(alloc: Global, lines: u64) -> Result<Tree, Memory>
 }
 
 // with new lines at the end, all of which follow one base line
-fn add_lines(alloc: Global, tree: Tree, after: u64, lines: &Text) -> Result<Tree, Memory>
+fn add_lines(alloc: Global, tree: Tree, after: u64, lines: &[Line]) -> Result<Tree, Memory>
     ensures { IfOk result (λ t. t ≡ tree ++ map (Fresh after) lines.now) }
 {
     let mut tree = tree;
-    for line in lines.items() {
+    for line in lines {
         let line = copy_line(alloc, line)?;
         tree = join(alloc, tree, Piece::Fresh(after, line), Tree::empty())?;
     }
     Ok(tree)
 }
 
-// with new lines behind so many
-fn put(alloc: Global, tree: Tree, place: u64, lines: &Text) -> Result<Tree, Memory>
-    ensures { IfOk result (λ t. t ≡ put_entries place lines.now tree) }
+// new lines between two halves
+fn put_between(alloc: Global, halves: Halves, lines: &Text) -> Result<Tree, Memory>
+    ensures { IfOk result (λ t. t ≡ halves.front ++ (map (Fresh (anchor halves.front)) lines.now ++ halves.back)) }
 {
-    let Halves { front, back } = split(alloc, tree, place)?;
+    let Halves { front, back } = halves;
+    let Some((last, others)) = lines.items().split_last() else {
+        return append(alloc, front, back);
+    };
     let after = anchor(&front, 0);
-    let front = add_lines(alloc, front, after, lines)?;
-    append(alloc, front, back)
+    let front = add_lines(alloc, front, after, others)?;
+    let last = copy_line(alloc, last)?;
+    join(alloc, front, Piece::Fresh(after, last), back)
 }
 
-// without the lines from one to another
-fn cut(alloc: Global, tree: Tree, first: u32, last: u32) -> Result<Tree, Memory>
-    ensures { IfOk result (λ t. t ≡ cut_entries first last tree) }
+// the lines before the one with the first number, and those behind the one with the last
+fn cut(alloc: Global, tree: Tree, first: u32, last: u32) -> Result<Halves, Memory>
+    ensures front { IfOk result (λ h. h.front ≡ take (first - 1) tree) }
+    ensures back { IfOk result (λ h. h.back ≡ drop (last - (first - 1)) (drop (first - 1) tree)) }
 {
     let before = u64::from(first).saturating_sub(1);
     let Halves { front, back: rest } = split(alloc, tree, before)?;
     let Halves { front: _, back } = split(alloc, rest, u64::from(last).saturating_sub(before))?;
-    append(alloc, front, back)
+    Ok(Halves { front, back })
 }
 
 // the text behind an order
@@ -56,12 +61,17 @@ fn edit(alloc: Global, tree: Tree, order: &Order) -> Result<Tree, Memory>
     ensures { IfOk result (λ t. t ≡ edit order.now.kind order.now.first order.now.last order.now.lines tree) }
 {
     match order.kind {
-        OrderKind::Append => put(alloc, tree, u64::from(order.first), &order.lines),
-        OrderKind::Delete => cut(alloc, tree, order.first, order.last),
+        OrderKind::Append => {
+            let halves = split(alloc, tree, u64::from(order.first))?;
+            put_between(alloc, halves, &order.lines)
+        }
+        OrderKind::Delete => {
+            let Halves { front, back } = cut(alloc, tree, order.first, order.last)?;
+            append(alloc, front, back)
+        }
         OrderKind::Change => {
-            let tree = cut(alloc, tree, order.first, order.last)?;
-            let before = u64::from(order.first).saturating_sub(1);
-            put(alloc, tree, before, &order.lines)
+            let halves = cut(alloc, tree, order.first, order.last)?;
+            put_between(alloc, halves, &order.lines)
         }
     }
 }
