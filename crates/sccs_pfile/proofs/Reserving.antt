@@ -27,7 +27,8 @@ each_other sid [] none = tt
 each_other sid (x ∷ edits) none =
     let parts = or_none (same_sid x.made sid) (list_any (λ s. same_sid s sid) (map (λ y. y.made) edits)) none in (parts.0, each_other sid edits parts.1)
 
-count_more : (test : Edit → Bool) (edits : List Edit) (e : Edit) → length (filter test (edits ++ e ∷ [])) ≡ length (filter test edits) + cond (test e) 1 0
+-- one more of those that pass a test, or none
+pub count_more : (test : Edit → Bool) (edits : List Edit) (e : Edit) → length (filter test (edits ++ e ∷ [])) ≡ length (filter test edits) + cond (test e) 1 0
 count_more test [] e = by (test e)
   where
     by : (t : Bool) → length (cond t (e ∷ []) []) ≡ 0 + cond t 1 0

@@ -1,11 +1,14 @@
-ghost use Rattle.std.specs.Prelude.{◌≡◌, ◌↔◌, ◌==◌, not, true, false, None, Some, position, IsOk, MatchResult};
+ghost use Rattle.std.specs.Prelude.{◌≡◌, ◌↔◌, ◌==◌, not, true, false, None, Some, position, IfSome, IsOk, MatchResult};
 ghost use Rattle.sccs_history.specs.History.{same_sid};
+ghost use Rattle.sccs_pfile.specs.MadeSids.{HasMakers};
 ghost use Rattle.sccs_pfile.specs.Agreement.{Agrees, agrees, are_ranges, first_disagreeing, has_lists, is_listed, makers, share_sid};
 
 use crate::entries::{Edit, Edits};
+use crate::makers::{Makers, find_makers, has_one_maker};
 use sccs_history::{Header, Record};
 use sccs_sets::{in_range, lives, range_fault};
 use sccs_sid::{Range, Sid};
+use std::alloc::Global;
 
 /// The number, from 1, of the first entry that doesn't agree with a delta table.
 #[derive(Clone, Copy, Debug, PartialEq, Eq)]
@@ -54,32 +57,59 @@ fn makers(edits: &[Edit], sid: Sid) -> usize
     edits.iter().filter(|edit| sid == edit.made).count()
 }
 
+// whether an entry alone is to make a SID; where it isn't known which SIDs the entries make, they are
+// counted
+fn is_made_once(edits: &[Edit], found: Option<&Makers>, sid: Sid) -> bool
+    requires { IfSome found (λ m. HasMakers m.now edits.now) }
+    ensures { result ≡ (makers edits.now sid == 1) }
+{
+    match found {
+        Some(found) => has_one_maker(found, sid),
+        None => makers(edits, sid) == 1,
+    }
+}
+
 // whether an entry agrees with the records and with the other entries
-fn agrees(records: &[Record], edits: &[Edit], edit: &Edit) -> bool
+fn agrees(records: &[Record], edits: &[Edit], found: Option<&Makers>, edit: &Edit) -> bool
+    requires { IfSome found (λ m. HasMakers m.now edits.now) }
     ensures { result ≡ agrees records.now edits.now edit.now }
 {
     lives(records, edit.got)
         && (!lives(records, edit.made)
-            && (makers(edits, edit.made) == 1 && has_lists(records, edit)))
+            && (is_made_once(edits, found, edit.made) && has_lists(records, edit)))
 }
 
 // the place of the first entry that doesn't agree
-fn first_disagreeing(records: &[Record], edits: &[Edit]) -> Option<usize>
+fn first_disagreeing(records: &[Record], edits: &[Edit], found: Option<&Makers>) -> Option<usize>
+    requires { IfSome found (λ m. HasMakers m.now edits.now) }
     ensures { result ≡ position (λ e. not (agrees records.now edits.now e)) edits.now }
 {
-    edits.iter().position(|edit| !agrees(records, edits, edit))
+    edits
+        .iter()
+        .position(|edit| !agrees(records, edits, found, edit))
+}
+
+// the same, by the sets of the SIDs that the entries make, where there is memory for them
+fn first_by_sets(alloc: Global, records: &[Record], edits: &[Edit]) -> Option<usize>
+    ensures { result ≡ position (λ e. not (agrees records.now edits.now e)) edits.now }
+{
+    match find_makers(alloc, edits) {
+        Ok(found) => first_disagreeing(records, edits, Some(&found)),
+        Err(_) => first_disagreeing(records, edits, None),
+    }
 }
 
 /// Whether the entries of a p-file agree with the delta table: the SID got of each is live, its SID
 /// to be made is neither live nor that of another entry, and its lists name live SIDs, have the ends
 /// of each range on one line in order, and share no SID. Else the first entry, from 1, that doesn't.
-pub fn agree(header: &Header, edits: &Edits) -> Result<(), Disagree>
+/// Where there is no memory for the SIDs to be made, each is counted among all entries.
+pub fn agree(alloc: Global, header: &Header, edits: &Edits) -> Result<(), Disagree>
     ensures exact { IsOk result ↔ Agrees header.now.records edits.now }
     ensures first { MatchResult result
         (λ _. first_disagreeing header.now.records edits.now ≡ None)
         (λ fault. first_disagreeing header.now.records edits.now ≡ Some fault.entry) }
 {
-    match first_disagreeing(header.records.items(), edits.items()) {
+    match first_by_sets(alloc, header.records.items(), edits.items()) {
         Some(place) => Err(Disagree {
             entry: place as u64 + 1,
         }),

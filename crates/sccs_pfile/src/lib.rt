@@ -5,6 +5,7 @@ mod agreement;
 mod choosing;
 mod entries;
 mod laws;
+mod makers;
 mod reading;
 #[cfg(test)]
 mod tests;

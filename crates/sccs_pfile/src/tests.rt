@@ -101,7 +101,7 @@ fn agreement(alloc: Global, levels: u16, bytes: &[u8]) -> Result<Option<u64>, Fa
     let Ok(edits) = read_edits(alloc, bytes) else {
         return Ok(Some(0));
     };
-    match agree(&header(alloc, levels)?, &edits) {
+    match agree(alloc, &header(alloc, levels)?, &edits) {
         Ok(()) => Ok(None),
         Err(fault) => Ok(Some(fault.entry)),
     }

@@ -5,3 +5,5 @@ pub mod Entries
 pub mod OneTurn
 pub mod PieceLaws
 pub mod PlanLaws
+pub mod ScriptLines
+pub mod TreeLaws

@@ -1,5 +1,7 @@
 -- Which scripts fit a text of so many lines.
-use Rattle.std.specs.Prelude.{ℕ, suc, ◌+◌, ◌-◌, nat_lt, List, [], ◌∷◌, length, Option, None, Some, Result, Ok, Err, if◌then◌else◌}
+use Rattle.std.specs.Prelude.{◌≡◌, ℕ, suc, ◌+◌, ◌-◌, nat_lt, false, List, [], ◌∷◌, length, Option, None, Some, Result, Ok, Err, if◌then◌else◌}
+use Rattle.std.specs.List.{AllByRecursion}
+use Rattle.sccs_base.specs.Cut.{HasNoLf}
 use Rattle.sccs_sid.specs.SidLists.{begins}
 use Rattle.sccs_edits.specs.declared.scripts.Order.{Order}
 use Rattle.sccs_edits.specs.declared.scripts.OrderKind.{OrderKind}
@@ -42,3 +44,8 @@ both_ok (Err fault) rest = Err fault
 -- a script for a text of so many lines: first its numbers are judged, then its texts
 abbrev pub checked : List Order → ℕ → Result (Unit {0}) ScriptFault
 checked orders lines = both_ok (ranged orders lines) (bare orders)
+
+-- the lines of a script's texts have no LF, and none begins with SOH
+abbrev pub HaveLines : List Order → Type 0
+HaveLines orders =
+    AllByRecursion (λ (o : Order). AllByRecursion (λ text. (begins 1 text ≡ false) × HasNoLf text) o.lines) orders

@@ -1,12 +1,11 @@
 -- A text while orders are made on it, by what stands in it.
-use Rattle.std.specs.Prelude.{◌≡◌, ◌<◌, ◌≤◌, ℕ, zero, suc, ◌-◌, ◌==◌, false, List, [], ◌∷◌, ◌++◌, length, map, take, drop, if◌then◌else◌}
+use Rattle.std.specs.Prelude.{◌≡◌, ◌<◌, ◌≤◌, ℕ, zero, suc, ◌-◌, ◌==◌, false, List, [], ◌∷◌, ◌++◌, map, take, drop, if◌then◌else◌}
 use Rattle.sccs_edits.specs.Plans.{with_added}
 use Rattle.sccs_edits.specs.declared.scripts.Added.{Added}
 use Rattle.sccs_edits.specs.declared.scripts.Order.{Order}
 use Rattle.sccs_edits.specs.declared.scripts.OrderKind.{OrderKind}
 use Rattle.sccs_edits.specs.declared.scripts.OrderKind.TheVariants.{Append, Change, Delete}
 use Rattle.sccs_edits.specs.declared.scripts.Plan.{Plan}
-use Rattle.std.specs.List.{AllByRecursion}
 use Rattle.sccs_script.specs.Commands.{is_append}
 use Rattle.sccs_script.specs.declared.pieces.Piece.{Piece}
 use Rattle.sccs_script.specs.declared.pieces.Piece.TheVariants as pieces
@@ -84,11 +83,6 @@ abbrev pub expand : Piece → List Entry
 expand (pieces.Kept first last) = map Kept (span first (suc last - first))
 expand (pieces.Fresh after line) = Fresh after line ∷ []
 
--- the entries of pieces
-abbrev pub expanded : List Piece → List Entry
-expanded [] = []
-expanded (p ∷ ps) = expand p ++ expanded ps
-
 -- the entries of a stack of pieces, of which the last comes first
 abbrev pub unstacked : List Piece → List Entry
 unstacked [] = []
@@ -98,43 +92,6 @@ unstacked (p ∷ ps) = unstacked ps ++ expand p
 abbrev pub IsPiece : Piece → Type 0
 IsPiece (pieces.Kept first last) = (0 < first) × (first ≤ last)
 IsPiece (pieces.Fresh after line) = Unit {0}
-
--- The entries before a place and behind it.
-pub record Split : Type 0 where
-  pub left : List Entry
-  pub right : List Entry
-
--- all entries
-abbrev pub whole : Split → List Entry
-whole s = s.left ++ s.right
-
--- Pieces are such, and so many entries stand before the place.
-pub record IsDraft (front back : List Piece) (at : ℕ) : Type 0 where
-  pub front_fits : AllByRecursion IsPiece front
-  pub back_fits : AllByRecursion IsPiece back
-  pub at_is : at ≡ length (expanded front)
-
--- Some entries, at most as many as are counted, went over the place from right to left.
-pub record Moves (most : ℕ) (a b : Split) : Type 0 where
-  pub moved : List Entry
-  pub left : b.left ≡ a.left ++ moved
-  pub right : a.right ≡ moved ++ b.right
-  pub some : 0 < length moved
-  pub few : length moved ≤ most
-
--- Of a stack of pieces the first was taken off, with at most as many entries as are counted.
-pub record TakesOff (most : ℕ) (p : Piece) (before after : List Entry) : Type 0 where
-  pub whole : before ≡ expand p ++ after
-  pub few : length (expand p) ≤ most
-  pub some : 0 < length (expand p)
-  pub fits : IsPiece p
-
--- Of pieces the last was taken off.
-pub record TakesLast (most : ℕ) (p : Piece) (before after : List Entry) : Type 0 where
-  pub whole : before ≡ after ++ expand p
-  pub few : length (expand p) ≤ most
-  pub some : 0 < length (expand p)
-  pub fits : IsPiece p
 
 -- a base line of so many
 abbrev pub InBase : ℕ → Entry → Type 0

@@ -8,11 +8,13 @@ mod copies;
 mod drafts;
 mod faults;
 mod groups;
+pub mod laws;
 mod pieces;
 mod plans;
 mod reading;
 #[cfg(test)]
 mod tests;
+mod trees;
 mod turns;
 
 pub use applying::apply;

@@ -1,3 +1,4 @@
+pub mod Greatest
 pub mod Living
 pub mod Lookups
 pub mod MadeCases
@@ -6,4 +7,5 @@ pub mod OnceNamed
 pub mod Passing
 pub mod Putting
 pub mod Ranges
+pub mod SidTableLaws
 pub mod Trunks

@@ -13,7 +13,7 @@ use Rattle.sccs_sets.specs.Made.{comes_after, is_taken, made_on, next_level, nex
 use Rattle.sccs_sets.proofs.NewSids.{greatest_above, none_any, passing_below}
 
 -- what passes a test isn't past the greatest
-top_of_all : (value : Sid → ℕ) (test : Sid → Bool) (records : List Record) (top : ℕ) → reduce max (map (λ r. value r.sid) (live_where test records)) ≡ Some top
+pub top_of_all : (value : Sid → ℕ) (test : Sid → Bool) (records : List Record) (top : ℕ) → reduce max (map (λ r. value r.sid) (live_where test records)) ≡ Some top
     → AllByRecursion (λ r. (not r.removed && test r.sid) ≡ true → value r.sid ≤ top) records
 top_of_all value test records top is =
     subst (λ o. AllByRecursion (λ r. (not r.removed && test r.sid) ≡ true → value r.sid ≤ unwrap_or o 0) records) is

@@ -7,4 +7,5 @@ pub mod Retrieved
 pub mod Samples
 pub mod SetRefusals
 pub mod Sets
+pub mod SidTable
 pub mod Trunks

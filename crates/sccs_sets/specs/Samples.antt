@@ -1,10 +1,11 @@
 -- Tables by which SIDs got, lists and sets are tried.
-use Rattle.std.specs.Prelude.{ℕ, pos, true, List, [], ◌∷◌, codes}
+use Rattle.std.specs.Prelude.{ℕ, pos, true, List, [], ◌∷◌, codes, map}
 use Rattle.sccs_sid.specs.declared.sids.Sid.{Sid}
 use Rattle.sccs_sid.specs.declared.sid_lists.Range.{Range}
 use Rattle.sccs_history.specs.Samples.{delta}
 use Rattle.sccs_history.specs.declared.headers.Record.{Record}
 use Rattle.sccs_sets.specs.Retrieved.{trunk_sid, branch_sid}
+use Rattle.sccs_sets.specs.SidTable.{Row}
 
 -- live are 1.1, 1.2, 3.1, 3.2, 1.2.1.1, 1.2.1.2 and 1.2.2.1, with the serials 1 to 7; 4.1 is removed
 abbrev pub sixteen_table : List Record
@@ -27,3 +28,7 @@ plain serial predecessor sid exclude = record (delta serial predecessor sid (pos
 abbrev pub listing : List Record
 listing =
     plain 4 2 (trunk_sid 1 3) [] ∷ plain 3 2 (branch_sid 1 2 1 1) (2 ∷ []) ∷ plain 2 1 (trunk_sid 1 2) [] ∷ plain 1 0 (trunk_sid 1 1) [] ∷ []
+
+-- the numbers of rows
+abbrev pub numbers_of : List Row → List ℕ
+numbers_of rows = map (λ (r : Row). r.number) rows

@@ -1,17 +1,21 @@
-ghost use Rattle.std.specs.Prelude.{◌≡◌, ◌≢◌, ◌<◌, ◌≤◌, ◌==◌, ℕ, not, ◌&&◌, true, false, Bool, List, [], ◌∷◌, Ok, None, Some, Option, map};
+ghost use Rattle.std.specs.Prelude.{◌≡◌, ◌≢◌, ◌<◌, ◌≤◌, ◌==◌, ℕ, not, ◌&&◌, true, false, Bool, List, [], ◌∷◌, Ok, None, Some, Option, length, map, option_and_then, IfSome};
 ghost use Rattle.std.specs.List.{AllByRecursion, IsDistinct, flat_map};
 ghost use Rattle.sccs_sid.specs.declared.sids.Sid.{Sid};
 ghost use Rattle.sccs_sid.specs.declared.sid_lists.Range.{Range};
+ghost use Rattle.sccs_history.specs.declared.headers.Header.{Header};
 ghost use Rattle.sccs_history.specs.declared.headers.Record.{Record};
 ghost use Rattle.sccs_history.specs.Applied.{newest, serials_of};
 ghost use Rattle.sccs_history.specs.Numbers.{Falls, has};
 ghost use Rattle.sccs_history.specs.History.{same_sid};
+ghost use Rattle.sccs_sid.specs.Spec.{IsSpec};
 ghost use Rattle.sccs_sid.specs.declared.sids.Spec.{Spec};
+ghost use Rattle.sccs_flags.specs.FlagValues.{has_flag};
 ghost use Rattle.sccs_sid.specs.declared.sids.Spec.TheVariants.{Branch, Release};
-ghost use Rattle.sccs_sets.specs.Made.{is_taken, made_on, next_level, next_on_line, on_new_branch};
+ghost use Rattle.sccs_sets.specs.Made.{is_taken, made_on, next_level, next_on_line, on_new_branch, to_be_made};
 ghost use Rattle.sccs_sets.specs.Naming.{IsRising, in_range, named_serials, range_named, unless};
 ghost use Rattle.sccs_sets.specs.OnceNamed.{first_fault, first_places, range_serials};
-ghost use Rattle.sccs_sets.specs.Retrieved.{branch_sequence, branch_sid, live_where, newest_where, retrieved, trunk_level, trunk_release, trunk_sid};
+ghost use Rattle.sccs_sets.specs.Retrieved.{branch_sequence, branch_sid, live_where, newest_where, retrieved, serial_of, trunk_level, trunk_release, trunk_sid};
+ghost use Rattle.sccs_sets.specs.SidTable.{fitting, got_in, made_in, rows};
 ghost use Rattle.sccs_sets.specs.Trunks.{IsTrunk};
 
 /// The first live record that passes a test has the greatest serial of those that do, and where none
@@ -58,6 +62,19 @@ pub fn made_sids()
     ensures { (records : List Record) (reserved : List Sid) (got sid : Sid) (spec : Option Spec) (branch : Bool)
         → made_on records reserved got spec branch ≡ Some sid
         → is_taken records reserved (λ s. same_sid s sid) ≡ false }
+{}
+
+/// Where nothing is reserved, the SID got and the SID to be made are those of the one row of the table
+/// of POSIX get that fits; where none fits, or its SID isn't live, none is got.
+pub fn sid_table()
+    ensures one { (records : List Record) (spec : Option Spec) (branch : Bool)
+        → length (fitting branch (rows records spec)) ≤ 1 }
+    ensures got { (records : List Record) (spec : Option Spec) (branch : Bool)
+        → retrieved records spec false ≡ option_and_then (serial_of records) (got_in (fitting branch (rows records spec))) }
+    ensures made { (header : Header) (spec : Option Spec) (branch : Bool) (n : ℕ)
+        → Falls 65536 (serials_of header.records) → IfSome spec IsSpec → retrieved header.records spec false ≡ Some n
+        → to_be_made header [] n spec branch
+        ≡ made_in (fitting (branch && has_flag header.flags 98) (rows header.records spec)) }
 {}
 
 /// Where nothing is reserved and no branch is asked for: on the newest delta of the trunk the next

@@ -1,14 +1,10 @@
 -- What the calls of a splicer do: what they put, and what is still owed for the items to come.
 use Rattle.std.specs.Prelude.{◌≡◌, ℕ, suc, ◌+◌, Bool, true, false, not, ◌&&◌, List, [], ◌∷◌, ◌++◌, Result, OnOk, if◌then◌else◌}
-use Rattle.std.specs.List.{AllByRecursion}
-use Rattle.sccs_base.specs.Cut.{HasNoLf}
-use Rattle.sccs_sid.specs.SidLists.{begins}
 use Rattle.sccs_history.specs.Numbers.{front_if, has, is_empty}
 use Rattle.sccs_history.specs.declared.headers.Item.{Item}
 use Rattle.sccs_history.specs.declared.headers.Item.TheVariants.{Text, Insert, Delete, End}
 use Rattle.sccs_edits.specs.Places.{block, spread, visible_next}
 use Rattle.sccs_edits.specs.Plans.{added_after}
-use Rattle.sccs_edits.specs.declared.scripts.Order.{Order}
 use Rattle.sccs_edits.specs.declared.scripts.Plan.{Plan}
 use Rattle.sccs_disk.specs.Told.{Told}
 use Rattle.sccs_disk.specs.declared.disks.DiskRefusal.{DiskRefusal}
@@ -93,8 +89,3 @@ pub record Splices {T : Type 0} (pushed : List (Item × Bool)) (s s2 : State) (w
   pub items : List Item
   pub puts : PutsText (spelled items) w w2 old new faults faults_after result
   pub goes : OnOk result (Goes pushed items s s2)
-
--- the lines of a script's texts have no LF, and none begins with SOH
-abbrev pub HaveLines : List Order → Type 0
-HaveLines orders =
-    AllByRecursion (λ (o : Order). AllByRecursion (λ text. (begins 1 text ≡ false) × HasNoLf text) o.lines) orders

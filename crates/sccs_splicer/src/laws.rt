@@ -12,9 +12,10 @@ ghost use Rattle.sccs_history.specs.declared.headers.Item.{Item};
 ghost use Rattle.sccs_edits.specs.Places.{places, told_behind};
 ghost use Rattle.sccs_edits.specs.Plans.{plan};
 ghost use Rattle.sccs_edits.specs.declared.scripts.Order.{Order};
+ghost use Rattle.sccs_script.specs.Checks.{HaveLines};
 ghost use Rattle.sccs_writers.specs.Puts.{PutsText, Writer};
 ghost use Rattle.sccs_writers.specs.Spelled.{spelled};
-ghost use Rattle.sccs_splicer.specs.Splices.{begun, HaveLines, owed, Splices, State};
+ghost use Rattle.sccs_splicer.specs.Splices.{begun, owed, Splices, State};
 
 /// The items of a body are pushed, each line with whether a set shows it, to a splicer that began with
 /// the plan of a script for as many lines as the set shows, and then it is finished: what was put is

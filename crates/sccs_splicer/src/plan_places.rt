@@ -54,12 +54,12 @@ fn after_at(added: &AddedList, place: u64) -> Option<u64>
     }
 }
 
-// whether a number is the one that comes next
-fn is_next(next: Option<u64>, number: u64) -> bool
-    ensures { result ≡ is_next next number }
+// whether the number that comes next is the one behind a line
+fn is_next(next: Option<u64>, line: u64) -> bool
+    ensures { result ≡ is_next next (line + 1) }
 {
     match next {
-        Some(next) => next == number,
+        Some(next) => 0 < next && next - 1 == line,
         None => false,
     }
 }
@@ -104,13 +104,10 @@ impl PlanPlace {
 
     /// Whether the next line is deleted.
     pub fn deletes_next(&self) -> bool
-        requires { self.now.line + 1 < 2 ^ 64 }
         ensures { result ≡ has self.now.plan.deleted (suc self.now.line) }
     {
-        is_next(
-            number_at(&self.plan.deleted, self.deleted_at),
-            self.line + 1,
-        )
+        let next = number_at(&self.plan.deleted, self.deleted_at);
+        is_next(next, self.line)
     }
 
     /// The new lines behind the last line, or before all.

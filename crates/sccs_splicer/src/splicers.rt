@@ -36,6 +36,9 @@ impl Model for Splicer {
     ghost view = { λ s. record { serial = s.serial; plan = s.at.plan; line = s.at.line; opened = s.opened; due = s.due; held = s.held.items } };
 }
 
+// how many lines of the base a splicer counts
+const LAST: u64 = u64::MAX;
+
 // how many new lines there are
 fn count_lines(added: &[Added]) -> u64
     ensures { result ≡ min (added_count added.now) last_count }
@@ -64,7 +67,6 @@ impl Splicer {
 
     // whether the open region goes on with the next line of the base, where that is the next text item
     fn may_join(&self) -> bool
-        requires { self.now.line + 1 < 2 ^ 64 }
         ensures { result ≡ may_join self.now }
     {
         self.opened & (self.at.new_lines().is_empty() & self.at.deletes_next())
@@ -145,7 +147,6 @@ impl Splicer {
     ) -> Result<(), DiskRefusal>
         requires control { IsControl item }
         requires there { IsThere out.old.name (D.told disk.old) }
-        requires few { self.old.line + 1 < 2 ^ 64 }
         ensures { (visible : Bool) → Splices ((item, visible) ∷ []) self.old self.new out.old out.new
             (D.told disk.old) (D.told disk.new) (D.faults disk.old) (D.faults disk.new) result }
     {
@@ -166,8 +167,7 @@ impl Splicer {
         out: &mut ItemWriter,
         disk: &mut D,
     ) -> Result<(), DiskRefusal>
-        requires there { IsThere out.old.name (D.told disk.old) }
-        requires few { self.now.line + 1 < 2 ^ 64 }
+        requires { IsThere out.old.name (D.told disk.old) }
         ensures { PutsText (spelled (marked_items self.now goes line.now)) out.old out.new
             (D.told disk.old) (D.told disk.new) (D.faults disk.old) (D.faults disk.new) result }
     {
@@ -195,11 +195,13 @@ impl Splicer {
         out: &mut ItemWriter,
         disk: &mut D,
     ) -> Result<(), DiskRefusal>
-        requires there { IsThere out.old.name (D.told disk.old) }
-        requires few { self.old.line + 1 < 2 ^ 64 }
+        requires { IsThere out.old.name (D.told disk.old) }
         ensures { Splices ((items.Text line.now, true) ∷ []) self.old self.new out.old out.new
             (D.told disk.old) (D.told disk.new) (D.faults disk.old) (D.faults disk.new) result }
     {
+        if self.at.line() == LAST {
+            return Err(DiskRefusal::Memory);
+        }
         let goes = self.may_join();
         if let Err(fault) = self.settle(goes, out, disk) {
             return Err(fault);
@@ -229,7 +231,8 @@ impl Splicer {
     }
 
     /// Pushes the next item of the body; `visible` says of a line of text whether it is one of the base.
-    /// Where it fails the splicer is of no more use.
+    /// A line that a number of 64 bits no longer counts is answered as want of memory. Where it fails
+    /// the splicer is of no more use.
     pub fn push<D: Disk>(
         &mut self,
         item: &Item,
@@ -237,8 +240,7 @@ impl Splicer {
         out: &mut ItemWriter,
         disk: &mut D,
     ) -> Result<(), DiskRefusal>
-        requires there { IsThere out.old.name (D.told disk.old) }
-        requires few { self.old.line + 1 < 2 ^ 64 }
+        requires { IsThere out.old.name (D.told disk.old) }
         ensures splices { Splices ((item.now, visible) ∷ []) self.old self.new out.old out.new
             (D.told disk.old) (D.told disk.new) (D.faults disk.old) (D.faults disk.new) result }
         ensures line { OnOk result (self.new.line ≤ self.old.line + 1) }

@@ -35,9 +35,7 @@ fn put_all(
     splicer: &mut Splicer,
     out: &mut ItemWriter,
     disk: &mut FickleDisk,
-) -> Result<(), Fail>
-    requires { splicer.old.line ≡ 0 }
-{
+) -> Result<(), Fail> {
     for row in rows {
         let item = item_of(alloc, *row)?;
         let visible = matches!(row, Row::Base(_));
