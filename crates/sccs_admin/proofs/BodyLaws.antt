@@ -1,13 +1,11 @@
 -- The body of a new file, part by part.
-use Rattle.std.proofs.Common.{◌≡◌, ℕ, ◌==◌, Bool, true, false, cond, List, [], ◌∷◌, ◌++◌, map, flat_map, refl, sym, ap, subst, ◌∙◌, append-nil, append_assoc}
+use Rattle.std.proofs.Common.{◌≡◌, ℕ, ◌==◌, Bool, true, false, cond, List, [], ◌∷◌, ◌++◌, map, refl, sym, ap, ◌∙◌, append-nil, append_assoc}
 use Rattle.std.proofs.lemmas.Grind.{flat_map-append}
-use Rattle.sccs_base.specs.Cut.{Cut, before, closed, cut, text_of}
-use Rattle.sccs_base.proofs.Cuts.{cut-cons}
+use Rattle.sccs_base.specs.Cut.{before, closed, cut, text_of}
 use Rattle.sccs_grammar.specs.Written.{bytes_of, ended, item_line}
 use Rattle.sccs_history.specs.declared.headers.Item.{Item}
 use Rattle.sccs_history.specs.declared.headers.Item.TheVariants.{Text, Insert, End}
 use Rattle.sccs_table.proofs.RunLaws.{cut_joined}
-use Rattle.sccs_admin.specs.NewFiles.{new_items}
 use Rattle.sccs_admin.specs.Texts.{lacking}
 use Rattle.sccs_admin.specs.Writing.{body_bytes}
 

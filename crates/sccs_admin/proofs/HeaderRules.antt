@@ -1,5 +1,5 @@
 -- The header of a new file keeps the rules.
-use Rattle.std.proofs.Common.{◌≡◌, ℕ, Option, None, Some, IfSome, refl, sym, subst, arith}
+use Rattle.std.proofs.Common.{◌≡◌, ℕ, Option, refl, sym, subst, arith}
 use Rattle.std.specs.Prelude.{unwrap_or}
 use Rattle.sccs_sid.specs.Sid.{IsComponent, IsSid}
 

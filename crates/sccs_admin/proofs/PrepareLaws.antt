@@ -1,9 +1,8 @@
 -- What admin prepares, from its two parts.
-use Rattle.std.proofs.Common.{◌≡◌, ℕ, Bool, true, false, cond, List, [], map, drop, length, Option, None, Some, IfOk, IfSome, IsSome, Result, Ok, Err, refl, sym, ap, subst, ◌∙◌}
+use Rattle.std.proofs.Common.{◌≡◌, ℕ, false, List, [], map, drop, Option, None, Some, IfOk, IfSome, IsSome, Result, Ok, Err, refl, sym, ap, subst, ◌∙◌}
 use Rattle.std.specs.Str.{bytes_eq}
 use Rattle.sccs_base.specs.Cut.{text_of}
 use Rattle.sccs_base.specs.Name.{IsSfile, sibling}
-use Rattle.sccs_base.specs.Stream.{GivesOk, GivesSome}
 use Rattle.sccs_base.proofs.Gifts.{gives_none, some_none}
 use Rattle.sccs_disk.specs.Calls.{IsThere}
 use Rattle.sccs_disk.specs.Files.{Content, View, put}
@@ -15,15 +14,14 @@ use Rattle.sccs_sid.specs.declared.refusals.Refusal.{Refusal}
 use Rattle.sccs_sid.specs.declared.refusals.StepFault.{StepFault}
 use Rattle.sccs_sid.specs.declared.refusals.StepFault.TheVariants.{Refused, Memory, ReadFault, WriteFault, DiskFault}
 use Rattle.sccs_sid.specs.Reading.{◌>>=◌}
-use Rattle.sccs_steps.specs.Actions.{IsHeard, RefusesWithin, quiet_checks}
-use Rattle.sccs_steps.specs.Calls.{World, world}
-use Rattle.sccs_steps.specs.StepEffects.{Outcome, StepEffect, effect_of}
-use Rattle.sccs_store.specs.Commits.{Becomes, Needs, Plan, chosen, files_after, replaced}
+use Rattle.sccs_steps.specs.Actions.{RefusesWithin, quiet_checks}
+use Rattle.sccs_steps.specs.Calls.{world}
+use Rattle.sccs_steps.specs.StepEffects.{Outcome}
+use Rattle.sccs_store.specs.Commits.{Becomes, Needs, chosen, files_after, replaced}
 use Rattle.sccs_store.specs.declared.new_files.NewFile.{NewFile}
-use Rattle.sccs_store.specs.declared.new_files.NewFile.TheVariants.{Keep, Replace, Remove}
-use Rattle.sccs_store.proofs.FileNames.{from_g, from_s, no_x}
+use Rattle.sccs_moments.proofs.FileNames.{from_g, from_s, no_x}
 use Rattle.sccs_store.proofs.Working.{made_moves, made_there, moves_wider}
-use Rattle.sccs_transactions.specs.Changes.{CouldPrepare, IsPrepared, IsQuiet, IsReady, IsUnmade, Prepares, PreparesChange, plan_of, unlocked}
+use Rattle.sccs_transactions.specs.Changes.{CouldPrepare, IsQuiet, IsReady, IsUnmade, Prepares, PreparesChange, plan_of, unlocked}
 use Rattle.sccs_transactions.specs.declared.prepared.Prepared.{Prepared}
 use Rattle.sccs_words.specs.declared.commands.AdminWords.{AdminWords}
 use Rattle.sccs_admin.specs.AdminStep.{AnswersText, FindsText, IsNew, WritesText, admin_change, admin_checks, admin_outcome, found_text, makes}

@@ -1,6 +1,6 @@
 -- What the parts of admin make of its step.
-use Rattle.std.proofs.Common.{◌≡◌, ℕ, ◌<◌, ◌≤◌, ◌⊎◌, Bool, true, false, cond, List, [], ◌∷◌, length, Option, None, Some, IfOk, IfSome, IsSome, Result, Ok, Err, inl, inr, refl, sym, ap, subst, ◌∙◌, arith}
-use Rattle.std.specs.Prelude.{is_none, nat_le, option_map}
+use Rattle.std.proofs.Common.{◌≡◌, ℕ, ◌<◌, ◌≤◌, ◌⊎◌, true, false, cond, List, [], ◌∷◌, length, Option, None, Some, IfOk, IfSome, IsSome, Result, Ok, Err, inl, inr, refl, sym, ap, subst, ◌∙◌, arith}
+use Rattle.std.specs.Prelude.{nat_le, option_map}
 use Rattle.std.proofs.lemmas.Bool.Decides.{leb_tells}
 use Rattle.std.proofs.lemmas.Bool.{le-leb}
 use Rattle.std.specs.Str.{bytes_eq}
@@ -11,7 +11,6 @@ use Rattle.sccs_files.specs.WholeFiles.{AnswersWhole}
 use Rattle.sccs_files.specs.declared.whole_files.WholeFault.{WholeFault}
 use Rattle.sccs_files.specs.declared.whole_files.WholeFault.TheVariants as whole
 use Rattle.sccs_transactions.specs.Changes.{unlocked}
-use Rattle.sccs_sid.specs.declared.refusals.Refusal.{Refusal}
 use Rattle.sccs_sid.specs.declared.refusals.Refusal.TheVariants.{Exists, Missing, TooLong}
 use Rattle.sccs_sid.specs.declared.refusals.StepFault.{StepFault}
 use Rattle.sccs_sid.specs.declared.refusals.StepFault.TheVariants.{Refused, Memory, ReadFault, WriteFault, DiskFault}
@@ -21,7 +20,7 @@ use Rattle.sccs_steps.specs.Actions.{IsHeard}
 use Rattle.sccs_words.specs.declared.commands.Given.{Given}
 use Rattle.sccs_words.specs.declared.commands.Given.TheVariants.{No, Bare, From}
 use Rattle.sccs_admin.specs.AdminStep.{AnswersText, FindsText, Hears, IsFresh, ReadsNamed, found_text}
-use Rattle.sccs_admin.specs.Texts.{named_by, takes_input}
+use Rattle.sccs_admin.specs.Texts.{named_by}
 
 -- ---- the text
 

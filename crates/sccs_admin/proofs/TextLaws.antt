@@ -1,8 +1,8 @@
 -- The lines of a text, counted, and the LF that it lacks.
-use Rattle.std.proofs.Common.{◌≡◌, ◌≢◌, ℕ, zero, suc, ◌+◌, ◌-◌, ◌<◌, ◌≤◌, ◌==◌, Bool, true, false, cond, List, [], ◌∷◌, ◌++◌, length, map, get_or, Option, None, Some, Result, Ok, Err, refl, sym, ap, subst, ◌∙◌, arith, append-nil, append_assoc, add-one, length-append}
+use Rattle.std.proofs.Common.{◌≡◌, ℕ, suc, ◌+◌, ◌-◌, ◌<◌, ◌≤◌, ◌==◌, Bool, true, false, cond, List, [], ◌∷◌, ◌++◌, length, get_or, Some, Ok, Err, refl, sym, ap, ◌∙◌, arith, add-one, length-append}
 use Rattle.std.proofs.lemmas.Bool.{ne_eqb}
 use Rattle.sccs_table.proofs.RunLaws.{cut_joined}
-use Rattle.sccs_base.specs.Cut.{Cut, cut, closed, text_of, without_lf}
+use Rattle.sccs_base.specs.Cut.{cut, closed, text_of, without_lf}
 use Rattle.sccs_sid.specs.SidLists.{begins}
 use Rattle.sccs_grammar.specs.Written.{bytes_of, ended}
 use Rattle.sccs_script.specs.Checks.{bad_line}

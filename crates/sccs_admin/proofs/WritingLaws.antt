@@ -1,16 +1,14 @@
 -- A new file that is written: header, body and sum.
-use Rattle.std.proofs.Common.{◌≡◌, ℕ, false, ◌≤◌, List, [], ◌∷◌, ◌++◌, map, take, drop, length, Option, None, Some, option_map, IfSome, IsSome, IfOk, OnOk, Result, Ok, Err, refl, sym, ap, subst, ◌∙◌, arith, append-nil, append_assoc, inl, inr}
+use Rattle.std.proofs.Common.{◌≡◌, ℕ, false, ◌≤◌, List, [], ◌∷◌, ◌++◌, map, Option, None, Some, option_map, IfSome, IfOk, OnOk, Result, Ok, Err, refl, sym, ap, subst, ◌∙◌, arith, append-nil, inl, inr}
 use Rattle.std.specs.Result.{IsErrAnd}
 use Rattle.std.proofs.lemmas.Result.{err_from_is_err_and}
 use Rattle.sccs_base.specs.Cut.{text_of}
 use Rattle.sccs_base.specs.Stream.{Rose}
 use Rattle.sccs_disk.specs.Effects.{altered, appended, empty_file}
-use Rattle.std.specs.Str.{bytes_eq}
-use Rattle.sccs_disk.specs.Calls.{HasBytes, HasRange, IsThere}
-use Rattle.sccs_files.specs.StepFiles.{Moves}
+use Rattle.sccs_disk.specs.Calls.{HasBytes, HasRange}
 use Rattle.sccs_disk.specs.Files.{Content, View, put}
 use Rattle.sccs_disk.specs.Told.{Told, seen}
-use Rattle.sccs_disk.proofs.Puts.{put_again, put_same}
+use Rattle.sccs_disk.proofs.Puts.{put_same}
 use Rattle.sccs_disk.specs.declared.disks.DiskRefusal.{DiskRefusal}
 use Rattle.sccs_disk.specs.declared.disks.DiskRefusal.TheVariants as fault
 use Rattle.sccs_grammar.specs.Sums.{plain_sum}
@@ -24,7 +22,7 @@ use Rattle.sccs_writers.specs.HeaderBytes.{WritesHeader, header_bytes}
 use Rattle.sccs_writers.specs.OneFile.{OnlyWrites}
 use Rattle.sccs_writers.specs.Puts.{Appends, Puts, PutsText, Writer}
 use Rattle.sccs_writers.proofs.HeaderLaws.{header_and}
-use Rattle.sccs_writers.proofs.OneFile.{only_both, only_none}
+use Rattle.sccs_writers.proofs.OneFile.{only_none}
 use Rattle.sccs_writers.proofs.PutLaws.{views_two}
 use Rattle.sccs_admin.specs.NewFiles.{new_items, sealed}
 use Rattle.sccs_admin.specs.Writing.{AppendsSum, body_bytes}

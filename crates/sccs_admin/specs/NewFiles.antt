@@ -1,5 +1,5 @@
 -- A new s-file: one delta, its lines, and no user, flag or description. sccsfile(4); POSIX, admin.
-use Rattle.std.specs.Prelude.{ℕ, min, false, List, [], ◌∷◌, ◌++◌, map, length, codes, Option, None, Some, unwrap_or}
+use Rattle.std.specs.Prelude.{ℕ, min, false, List, [], ◌∷◌, ◌++◌, map, codes, Option, None, Some, unwrap_or}
 use Rattle.sccs_sid.specs.Moment.{moment_text}
 use Rattle.sccs_sid.specs.declared.moments.Stamp.{Stamp}
 use Rattle.sccs_sid.specs.declared.sids.Sid.{Sid}

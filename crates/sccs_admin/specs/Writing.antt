@@ -1,12 +1,11 @@
 -- The body of a new file, and what calls that write a new file say.
-use Rattle.std.specs.Prelude.{◌≡◌, ◌≤◌, ℕ, List, [], ◌∷◌, ◌++◌, map, Result, Err, OnOk, IfOk}
+use Rattle.std.specs.Prelude.{◌≡◌, ◌≤◌, ℕ, List, ◌++◌, map, Result, Err, OnOk, IfOk}
 use Rattle.sccs_base.specs.Cut.{text_of}
 use Rattle.sccs_base.specs.Stream.{Rose}
 use Rattle.sccs_disk.specs.Told.{Told}
 use Rattle.sccs_disk.specs.declared.disks.DiskRefusal.{DiskRefusal}
 use Rattle.sccs_disk.specs.declared.disks.DiskRefusal.TheVariants as fault
-use Rattle.sccs_grammar.specs.Written.{bytes_of, ended, item_line}
-use Rattle.sccs_history.specs.declared.headers.Item.TheVariants.{Insert, End}
+use Rattle.sccs_grammar.specs.Written.{bytes_of, item_line}
 use Rattle.sccs_table.specs.SumOf.{IsSumOf}
 use Rattle.sccs_writers.specs.OneFile.{OnlyWrites}
 use Rattle.sccs_writers.specs.Puts.{Appends}

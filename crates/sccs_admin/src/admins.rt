@@ -1,4 +1,4 @@
-ghost use Rattle.std.specs.Prelude.{◌≡◌, ◌≢◌, ◌≤◌, ◌⊎◌, ℕ, List, Option, Some, [], length, Err, false, true, IfOk, IsErrOf};
+ghost use Rattle.std.specs.Prelude.{◌≡◌, ◌≢◌, ◌≤◌, ◌⊎◌, ℕ, List, Option, Some, [], length, Err, None, false, true, IfOk, IfSome, IsErrOf, OnOk};
 ghost use Rattle.sccs_base.specs.Constants.{file_limit};
 ghost use Rattle.sccs_base.specs.Name.{IsSfile, sibling};
 ghost use Rattle.std.specs.Str.{bytes_eq};
@@ -10,7 +10,9 @@ ghost use Rattle.sccs_admin.specs.AdminStep.{AreAdminValues, FindsText, Hears, I
 ghost use Rattle.sccs_admin.specs.Texts.{takes_input};
 ghost use Rattle.sccs_words.specs.declared.commands.Given.TheVariants as given;
 ghost use Rattle.sccs_steps.specs.Actions.{RefusesWithin};
+ghost use Rattle.sccs_images.specs.Touches.{TouchesOnly};
 ghost use Rattle.sccs_transactions.specs.Changes.{locking};
+ghost use Rattle.sccs_transactions.specs.Stops.{IsFirmPrepared};
 ghost use Rattle.sccs_transactions.proofs.Utilities.{locking_keeps};
 ghost use Rattle.sccs_admin.specs.Locks.{admin_locked};
 
@@ -109,6 +111,7 @@ fn find_named<D: Disk>(
 ) -> Result<Bytes, StepFault>
     requires { IsSfile name.now }
     ensures finds { (left : Option (List ℕ)) → FindsText (given.From file.now) result name.now left (seen (D.told disk.old)) }
+    ensures free { OnOk result (IfSome (seen (D.told disk.old)) (λ v. v name.now ≡ None)) }
     ensures bound { IfOk result (λ text. length text ≤ file_limit) }
     ensures checks { RefusesWithin admin_checks result }
     ensures same { D.told disk.new ≡ D.told disk.old }
@@ -142,6 +145,7 @@ fn find_text<I: Source, D: Disk>(
 ) -> Result<Bytes, StepFault>
     requires { IsSfile name.now }
     ensures finds { FindsText given result name.now (I.left input.old) (seen (D.told disk.old)) }
+    ensures free { OnOk result (IfSome (seen (D.told disk.old)) (λ v. v name.now ≡ None)) }
     ensures bound { IfOk result (λ text. length text ≤ file_limit) }
     ensures checks { RefusesWithin admin_checks result }
     ensures same { D.told disk.new ≡ D.told disk.old }
@@ -192,6 +196,8 @@ fn write_text<D: Disk>(
     requires valid { AreAdminValues words.now stamp.now }
     requires bound { length text.now ≤ file_limit }
     ensures writes { WritesText result words.now stamp.now text.now name.now (seen (D.told disk.old)) (seen (D.told disk.new)) }
+    ensures touches { TouchesOnly (bytes_eq (sibling 120 name.now)) (D.told disk.old) (D.told disk.new) }
+    ensures firm { IfOk result (λ p. IsFirmPrepared name.now p (D.told disk.old) (D.told disk.new)) }
     ensures checks { RefusesWithin admin_checks result }
     ensures later { D.faults disk.old ≤ D.faults disk.new }
     ensures read { result ≢ Err fault.ReadFault }

@@ -1,4 +1,6 @@
 pub mod Committed
-pub mod FileNames
+pub mod Parts
+pub mod Stages
 pub mod Swaps
 pub mod Working
+pub mod WholeSteps

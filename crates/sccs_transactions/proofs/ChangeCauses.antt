@@ -1,17 +1,17 @@
 -- Why a change answers a fault, and what may come of it over any disk.
-use Rattle.std.proofs.Common.{◌≡◌, ◌≢◌, ◌⊎◌, ℕ, ◌+◌, ◌<◌, ◌≤◌, Bool, true, false, List, [], Option, Result, Ok, Err, inl, inr, refl, sym, ap, subst, ◌∙◌, arith}
-use Rattle.sccs_base.specs.Stream.{GivesOk, GivesSome, Rose}
+use Rattle.std.proofs.Common.{◌≡◌, ◌≢◌, ◌⊎◌, ℕ, ◌≤◌, Bool, true, List, Option, Result, Err, inl, inr, refl, sym, ap, subst, ◌∙◌, arith}
+use Rattle.sccs_base.specs.Stream.{Rose}
 use Rattle.sccs_base.proofs.Gifts.{some_none}
 use Rattle.sccs_sid.specs.declared.refusals.Refusal.{Refusal}
 use Rattle.sccs_sid.specs.declared.refusals.Refusal.TheVariants as refusals
 use Rattle.sccs_sid.specs.declared.refusals.StepFault.{StepFault}
 use Rattle.sccs_sid.specs.declared.refusals.StepFault.TheVariants.{Refused, Memory, ReadFault, WriteFault, DiskFault}
-use Rattle.sccs_steps.specs.Causes.{Counts, Ignores, Rises, StepCauses, counts}
-use Rattle.sccs_steps.specs.StepEffects.{Outcome, StepEffect, effect_of}
-use Rattle.sccs_steps.specs.Actions.{Speaks, SpeaksBy}
+use Rattle.sccs_steps.specs.Causes.{Ignores, StepCauses, counts}
+use Rattle.sccs_steps.specs.StepEffects.{Outcome}
+use Rattle.sccs_steps.specs.Actions.{SpeaksBy}
 use Rattle.sccs_steps.specs.Calls.{World}
 use Rattle.sccs_transactions.specs.Changes.{CouldPrepare}
-use Rattle.sccs_transactions.specs.Ends.{Finishes, GivesUp}
+use Rattle.sccs_transactions.specs.Ends.{GivesUp}
 use Rattle.sccs_transactions.specs.declared.prepared.Prepared.{Prepared}
 
 -- no count rises from 0 to 0

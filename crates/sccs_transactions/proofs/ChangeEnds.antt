@@ -1,12 +1,10 @@
 -- What the parts of a change make of its step.
-use Rattle.std.proofs.Common.{◌≡◌, ◌≢◌, ◌⊎◌, ℕ, Bool, true, false, ◌||◌, cond, List, [], ◌++◌, map, take, length, Option, None, Some, option_map, IfSome, IsSome, Result, Ok, Err, inl, inr, refl, sym, ap, subst, ◌∙◌}
+use Rattle.std.proofs.Common.{◌≡◌, ◌⊎◌, ℕ, Bool, true, false, ◌||◌, cond, List, [], ◌++◌, map, Option, None, Some, IfSome, IsSome, Result, Ok, Err, inl, inr, refl, sym, ap, subst, ◌∙◌}
 use Rattle.std.specs.Prelude.{is_none}
 use Rattle.std.specs.Str.{bytes_eq}
-use Rattle.std.proofs.Math.Path.{fun_ext}
 use Rattle.sccs_base.specs.Name.{IsSfile, sibling}
 use Rattle.sccs_base.specs.Stream.{GivesOk, GivesSome}
-use Rattle.sccs_base.proofs.Gifts.{gives_both, gives_none, gives_then, some_longer, some_none, some_of_whole}
-use Rattle.sccs_sid.specs.declared.refusals.Refusal.{Refusal}
+use Rattle.sccs_base.proofs.Gifts.{gives_both, gives_then, some_longer, some_none, some_of_whole}
 use Rattle.sccs_sid.specs.declared.refusals.Refusal.TheVariants as refusals
 use Rattle.sccs_sid.specs.declared.refusals.StepFault.{StepFault}
 use Rattle.sccs_sid.specs.declared.refusals.StepFault.TheVariants.{Refused, Memory, ReadFault, WriteFault, DiskFault}
@@ -15,23 +13,24 @@ use Rattle.sccs_disk.proofs.Puts.{name_cases, put_again, put_back, put_other, pu
 use Rattle.sccs_disk.specs.Effects.{empty_file}
 use Rattle.sccs_files.specs.StepFiles.{AreCleared, Files, Moves, MovesPartly, is_left, is_working, look, moved, placed}
 use Rattle.sccs_steps.specs.StepEffects.{Outcome, StepEffect, effect_of}
-use Rattle.sccs_steps.specs.Calls.{Fails, Interrupted, Made, Meets, ReportCut, Uncommitted, World, world}
+use Rattle.sccs_steps.specs.Calls.{Fails, Interrupted, Meets, ReportCut, Uncommitted, World, world}
 use Rattle.sccs_steps.specs.Actions.{IsHeard}
-use Rattle.sccs_store.specs.Commits.{Becomes, IsPart, Plan, abandoned, cleared, committed, files_after, locked, part_of, without}
+use Rattle.sccs_store.specs.Commits.{Becomes, IsPart, Plan, abandoned, committed, files_after, locked, part_of}
+use Rattle.sccs_moments.specs.Recovery.{cleared, without}
 use Rattle.sccs_store.proofs.Committed.{committed_at, part_at}
-use Rattle.sccs_store.proofs.FileNames.{no_q, no_working, no_x, no_y, no_z}
+use Rattle.sccs_moments.proofs.FileNames.{no_q, no_working, no_x, no_y, no_z}
 use Rattle.sccs_transactions.specs.Changes.{Changing, IsPrepared, IsUnmade, Prepares, PreparesChange, locking_step, plan_of, unlocked}
-use Rattle.sccs_transactions.specs.Ends.{Finishes, GivesUp, IsCut, IsReported}
+use Rattle.sccs_transactions.specs.Ends.{Finishes, GivesUp}
 use Rattle.sccs_transactions.specs.declared.prepared.Prepared.{Prepared}
 
 -- ---- the lock
 
 -- the view before the lock
-before_lock : (n : List ℕ) (v : View) → v (sibling 122 n) ≡ None → unlocked n (locked n v) ≡ v
+pub before_lock : (n : List ℕ) (v : View) → v (sibling 122 n) ≡ None → unlocked n (locked n v) ≡ v
 before_lock n v free =
     put_again v (sibling 122 n) (Some empty_file) None ∙ (ap (λ (o : Option Content). put v (sibling 122 n) o) (sym free) ∙ put_back v (sibling 122 n))
 
-free_step : (x : Changing) (n i : List ℕ) (named : List (Option Content)) (f : Files) → f.z ≡ None → locking_step x.outcome n i named f ≡ x.outcome n i named f
+pub free_step : (x : Changing) (n i : List ℕ) (named : List (Option Content)) (f : Files) → f.z ≡ None → locking_step x.outcome n i named f ≡ x.outcome n i named f
 unfolding locking_step
 free_step x n i named f free = rw free refl
 
@@ -100,7 +99,7 @@ gone_at : (n : List ℕ) (u : View) (k : List ℕ) → is_working n k ≡ true �
 gone_at n u k h = gone_by (bytes_eq (sibling 120 n) k) (bytes_eq (sibling 113 n) k) (bytes_eq (sibling 121 n) k) (bytes_eq (sibling 122 n) k) (u k) h
 
 -- nothing is committed, and working files are gone
-given_up : (n text : List ℕ) (v : View) (ob2 od : Option View) (out out2 err : Option (List ℕ)) → v (sibling 122 n) ≡ None → Moves (is_working n) (λ u. u) (Some (locked n v)) ob2 → Becomes (abandoned n) ob2 od → GivesSome out out2 text
+pub given_up : (n text : List ℕ) (v : View) (ob2 od : Option View) (out out2 err : Option (List ℕ)) → v (sibling 122 n) ≡ None → Moves (is_working n) (λ u. u) (Some (locked n v)) ob2 → Becomes (abandoned n) ob2 od → GivesSome out out2 text
     → Uncommitted n text (world (Some v) out err) (world od out2 err)
 given_up n text v None od out out2 err free moves gone gives = absurd moves
 given_up n text v (Some u) od out out2 err free moves gone gives = record {
@@ -115,11 +114,11 @@ left_alone n v None od f moves broken = absurd moves
 left_alone n v (Some u) None f moves broken = absurd broken
 left_alone n v (Some u) (Some w) f moves broken = λ k h. inl (broken k h ∙ (moves k (no_working n k h) ∙ put_other v (sibling 122 n) k (Some empty_file) (no_z n k h)))
 
-broken_off : (n : List ℕ) (o : Outcome) (v : View) (ob2 od : Option View) (out out2 err : Option (List ℕ)) → Moves (is_working n) (λ u. u) (Some (locked n v)) ob2 → Moves (is_left n) (λ u. u) ob2 od → GivesSome out out2 (effect_of n o).text
+pub broken_off : (n : List ℕ) (o : Outcome) (v : View) (ob2 od : Option View) (out out2 err : Option (List ℕ)) → Moves (is_working n) (λ u. u) (Some (locked n v)) ob2 → Moves (is_left n) (λ u. u) ob2 od → GivesSome out out2 (effect_of n o).text
     → Interrupted n o (world (Some v) out err) (world od out2 err)
 broken_off n o v ob2 od out out2 err moves broken gives = record { view = left_alone n v ob2 od (λ u. moved u n (effect_of n o).new) moves broken; out = gives; err = refl }
 
-gone_left : (n : List ℕ) (ob2 od : Option View) → Becomes (abandoned n) ob2 od → Moves (is_left n) (λ u. u) ob2 od
+pub gone_left : (n : List ℕ) (ob2 od : Option View) → Becomes (abandoned n) ob2 od → Moves (is_left n) (λ u. u) ob2 od
 gone_left n None od is = is
 gone_left n (Some u) od is = subst (λ (o : Option View). Moves (is_left n) (λ w. w) (Some u) o) (sym is) (λ k h.
     put_other (cleared n u) (sibling 122 n) k None (no_z n k h)
@@ -135,7 +134,7 @@ gave_up ReadFault n o v ob2 od out out2 err free prepares gone = given_up n _ v 
 gave_up WriteFault n o v ob2 od out out2 err free prepares gone = inl (given_up n _ v ob2 od out out2 err free prepares.view gone prepares.out)
 gave_up DiskFault n o v ob2 od out out2 err free prepares gone = broken_off n o v ob2 od out out2 err prepares.view (gone_left n ob2 od gone) prepares.out
 
-unmade_of : (fault : StepFault) (n : List ℕ) (o : Outcome) (w w2 : World) → Prepares (Err fault) n o w w2 → IsUnmade n (effect_of n o).text w w2
+pub unmade_of : (fault : StepFault) (n : List ℕ) (o : Outcome) (w w2 : World) → Prepares (Err fault) n o w w2 → IsUnmade n (effect_of n o).text w w2
 unmade_of (Refused refusal) n o w w2 prepares = record { view = prepares.1.view; out = some_longer w.out w2.out [] (effect_of n o).text prepares.1.out }
 unmade_of Memory n o w w2 prepares = prepares
 unmade_of ReadFault n o w w2 prepares = prepares
@@ -156,7 +155,7 @@ moved_as : (v : View) (n : List ℕ) (new : Option Files) (f : Files) → new �
 moved_as v n new f is = ap (λ (o : Option Files). moved v n o) is
 
 -- the views before the lock, at the commit and at the end
-committed_moves : (n : List ℕ) (c : Plan) (new : Option Files) (v : View) (ob2 od : Option View) → IsSfile n → v (sibling 122 n) ≡ None → Moves (is_working n) (λ u. u) (Some (locked n v)) ob2 → IfSome ob2 (λ u. new ≡ Some (files_after n c u)) → Becomes (committed n c) ob2 od
+pub committed_moves : (n : List ℕ) (c : Plan) (new : Option Files) (v : View) (ob2 od : Option View) → IsSfile n → v (sibling 122 n) ≡ None → Moves (is_working n) (λ u. u) (Some (locked n v)) ob2 → IfSome ob2 (λ u. new ≡ Some (files_after n c u)) → Becomes (committed n c) ob2 od
     → Moves (is_working n) (λ u. moved u n new) (Some v) od
 committed_moves n c new v None od sfile free moves files done = absurd moves
 committed_moves n c new v (Some u) od sfile free moves files done =
@@ -180,8 +179,21 @@ text_gives a b c text out report first second is = subst (λ r. GivesOk a c (tex
 text_cut : (a b c : Option (List ℕ)) (text out report : List ℕ) → GivesOk a b text → GivesSome b c report → out ≡ report → GivesSome a c (text ++ out)
 text_cut a b c text out report first second is = subst (λ r. GivesSome a c (text ++ r)) (sym is) (gives_then a b c text report first second)
 
+-- the report of a commit was cut
+pub cut_finished : (n : List ℕ) (p : Prepared) (o : Outcome) (v : View) (ob2 od : Option View) (out out2 out3 err err3 : Option (List ℕ)) → IsSfile n → v (sibling 122 n) ≡ None → IsPrepared n p o (world (Some (locked n v)) out err) (world ob2 out2 err)
+    → Finishes (Err WriteFault) n p (world ob2 out2 err) (world od out3 err3) → (d : StepEffect) × (o ≡ Ok d) × ReportCut n d (world (Some v) out err) (world od out3 err3)
+cut_finished n p o v ob2 od out out2 out3 err err3 sfile free prepared finishes = (
+  prepared.effect,
+  prepared.is,
+  record {
+    view = committed_moves n (plan_of p) prepared.effect.new v ob2 od sfile free prepared.view prepared.files finishes.0;
+    out = text_cut out out2 out3 prepared.effect.text prepared.effect.out p.report prepared.out finishes.1.out prepared.report;
+    err = subst (λ m. GivesSome err err3 m) (sym prepared.message) finishes.1.err;
+  },
+)
+
 -- how it ends whose files were prepared
-ends_finished : (r : Result (Unit {0}) StepFault) (n : List ℕ) (p : Prepared) (o : Outcome) (v : View) (ob2 od : Option View) (out out2 out3 err err3 : Option (List ℕ)) → IsSfile n → v (sibling 122 n) ≡ None → IsPrepared n p o (world (Some (locked n v)) out err) (world ob2 out2 err)
+pub ends_finished : (r : Result (Unit {0}) StepFault) (n : List ℕ) (p : Prepared) (o : Outcome) (v : View) (ob2 od : Option View) (out out2 out3 err err3 : Option (List ℕ)) → IsSfile n → v (sibling 122 n) ≡ None → IsPrepared n p o (world (Some (locked n v)) out err) (world ob2 out2 err)
     → Finishes r n p (world ob2 out2 err) (world od out3 err3) → Meets (λ (done : Unit {0}). 0) r n o (world (Some v) out err) (world od out3 err3)
 ends_finished (Ok done) n p o v ob2 od out out2 out3 err err3 sfile free prepared finishes = (
   prepared.effect,
@@ -193,15 +205,7 @@ ends_finished (Ok done) n p o v ob2 od out out2 out3 err err3 sfile free prepare
     err = subst (λ m. GivesOk err err3 m) (sym prepared.message) finishes.1.err;
   },
 )
-ends_finished (Err WriteFault) n p o v ob2 od out out2 out3 err err3 sfile free prepared finishes = inr (
-  prepared.effect,
-  prepared.is,
-  record {
-    view = committed_moves n (plan_of p) prepared.effect.new v ob2 od sfile free prepared.view prepared.files finishes.0;
-    out = text_cut out out2 out3 prepared.effect.text prepared.effect.out p.report prepared.out finishes.1.out prepared.report;
-    err = subst (λ m. GivesSome err err3 m) (sym prepared.message) finishes.1.err;
-  },
-)
+ends_finished (Err WriteFault) n p o v ob2 od out out2 out3 err err3 sfile free prepared finishes = inr (cut_finished n p o v ob2 od out out2 out3 err err3 sfile free prepared finishes)
 ends_finished (Err DiskFault) n p o v ob2 od out out2 out3 err err3 sfile free prepared finishes =
     subst (λ (q : Outcome). Interrupted n q (world (Some v) out err) (world od out3 err3)) (sym prepared.is) (record {
       view = part_moves n (plan_of p) prepared.effect.new v ob2 od sfile prepared.view prepared.files finishes.0;

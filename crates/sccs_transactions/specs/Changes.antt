@@ -1,21 +1,21 @@
 -- A change of the files of a name: what it prepares between its lock and its commit, and the action that it is.
-use Rattle.std.specs.Prelude.{◌≡◌, ℕ, Bool, true, false, List, [], map, drop, Option, None, Some, Result, Ok, Err, IfSome, is_none}
+use Rattle.std.specs.Prelude.{◌≡◌, ℕ, Bool, true, false, List, [], map, drop, Option, Some, Result, Ok, Err, IfSome, is_none}
 use Rattle.std.specs.Result.{IfOk}
 use Rattle.sccs_base.specs.Name.{is_sfile_name, sibling}
 use Rattle.sccs_base.specs.Stream.{GivesOk, GivesSome}
 use Rattle.sccs_sid.specs.Reading.{◌>>=◌}
-use Rattle.sccs_sid.specs.declared.refusals.Refusal.{Refusal}
 use Rattle.sccs_sid.specs.declared.refusals.Refusal.TheVariants.{Locked}
 use Rattle.sccs_sid.specs.declared.refusals.StepFault.{StepFault}
 use Rattle.sccs_sid.specs.declared.refusals.StepFault.TheVariants.{Refused}
-use Rattle.sccs_disk.specs.Files.{Content, View}
-use Rattle.sccs_disk.specs.Told.{Told, seen}
-use Rattle.sccs_files.specs.StepFiles.{Files, Moves, is_working, look}
+use Rattle.sccs_disk.specs.Files.{View}
+use Rattle.sccs_disk.specs.Told.{Told}
+use Rattle.sccs_files.specs.StepFiles.{Moves, is_working, look}
 use Rattle.sccs_steps.specs.StepEffects.{Outcome, StepEffect, check, effect_of}
 use Rattle.sccs_steps.specs.Calls.{World}
 use Rattle.sccs_steps.specs.Actions.{Action, IsHeard, Step}
 use Rattle.sccs_disk.specs.Calls.{IsThere}
-use Rattle.sccs_store.specs.Commits.{Needs, Plan, files_after, plan, without}
+use Rattle.sccs_store.specs.Commits.{Needs, Plan, files_after, plan}
+use Rattle.sccs_moments.specs.Recovery.{without}
 use Rattle.sccs_transactions.specs.declared.prepared.Prepared.{Prepared}
 
 -- What a utility makes of the files of a name that no other program has locked.

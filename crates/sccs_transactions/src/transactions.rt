@@ -7,7 +7,10 @@ ghost use Rattle.sccs_steps.specs.Actions.{SpeaksBy, Stepped};
 ghost use Rattle.sccs_steps.specs.Calls.{scene, world};
 ghost use Rattle.sccs_steps.specs.Causes.{Ignores, StepCauses, counts};
 ghost use Rattle.sccs_transactions.specs.Changes.{IsReady, locking};
+ghost use Rattle.sccs_files.specs.StepFiles.{is_left};
+ghost use Rattle.sccs_images.specs.Touches.{TouchesOnly};
 ghost use Rattle.sccs_transactions.specs.Ends.{Finishes, GivesUp};
+ghost use Rattle.sccs_transactions.specs.Stops.{Commits, StepMoments};
 
 use crate::changes::Change;
 use crate::prepared::Prepared;
@@ -30,6 +33,7 @@ fn finish<O: Sink, E: Sink, D: Disk>(
     requires ready { IsReady name.now prepared.now (D.told disk.old) }
     ensures finishes { Finishes result name.now prepared.now
         (world (seen (D.told disk.old)) (O.given out.old) (E.given err.old)) (world (seen (D.told disk.new)) (O.given out.new) (E.given err.new)) }
+    ensures commits { Commits result name.now prepared.now (D.told disk.old) (D.told disk.new) }
     ensures none { prepared.now.report ≡ [] → O.given out.new ≡ O.given out.old }
     ensures causes { (input : ℕ) → StepCauses result
         (counts input (O.faults out.old) (E.faults err.old) (D.faults disk.old)) (counts input (O.faults out.new) (E.faults err.new) (D.faults disk.new)) }
@@ -43,6 +47,7 @@ fn finish<O: Sink, E: Sink, D: Disk>(
 // takes away what a change has made, and answers why it gave up; after a disk fault recovery does that
 fn give_up<D: Disk>(fault: StepFault, name: &Name, disk: &mut D) -> Result<(), StepFault>
     requires { IsSfile name.now }
+    ensures touches { TouchesOnly (is_left name.now) (D.told disk.old) (D.told disk.new) }
     ensures gives_up { (out err : Option (List ℕ)) → GivesUp result fault name.now (world (seen (D.told disk.old)) out err) (world (seen (D.told disk.new)) out err) }
     ensures later { D.faults disk.old ≤ D.faults disk.new }
     ensures cause { result ≡ Err step.DiskFault → (fault ≡ step.DiskFault) × (D.faults disk.new ≡ D.faults disk.old) ⊎ Rose (D.faults disk.old) (D.faults disk.new) }
@@ -57,7 +62,9 @@ fn give_up<D: Disk>(fault: StepFault, name: &Name, disk: &mut D) -> Result<(), S
 }
 
 /// Changes the files of a name whole or not at all: locks it, prepares the new files, and commits them; or
-/// gives up, and nothing has changed. The report and the message are written after the commit.
+/// gives up, and nothing has changed. The report and the message are written after the commit. Where it
+/// begins on a calm disk and the name is safe, a stop at any moment leaves what recovers as before it or as
+/// after it; and it ends on a calm disk, unless the disk failed.
 pub fn change_file<C: Change, I: Source, O: Sink, E: Sink, D: Disk>(
     alloc: Global,
     change: &C,
@@ -69,6 +76,8 @@ pub fn change_file<C: Change, I: Source, O: Sink, E: Sink, D: Disk>(
 ) -> Result<(), StepFault>
     requires { IsSfile name.now }
     ensures step { Stepped (locking (C.change change.now)) result name.now (I.left input.old)
+        (scene (D.told disk.old) (O.given out.old) (E.given err.old)) (scene (D.told disk.new) (O.given out.new) (E.given err.new)) }
+    ensures moments { StepMoments (locking (C.change change.now)) result name.now (I.left input.old)
         (scene (D.told disk.old) (O.given out.old) (E.given err.old)) (scene (D.told disk.new) (O.given out.new) (E.given err.new)) }
     ensures speaks { SpeaksBy (C.change change.now).could result name.now (E.given err.old) (E.given err.new) }
     ensures silent { (C.change change.now).silent ≡ true → O.given out.new ≡ O.given out.old }

@@ -5,9 +5,10 @@ use Rattle.sccs_base.specs.Name.{sibling}
 use Rattle.sccs_disk.specs.Files.{put}
 use Rattle.sccs_disk.specs.Told.{seen}
 use Rattle.sccs_store.specs.Commits.{Becomes}
-use Rattle.sccs_store.proofs.Working.{moves_same}
+use Rattle.sccs_store.proofs.Working.{moves_same, same_touches}
 use Rattle.sccs_admin.specs.NewFiles.{new_items, sealed}
 use Rattle.sccs_admin.specs.Texts.{or_bad_text}
+use Rattle.sccs_admin.proofs.StopLaws.{new_firm}
 use Rattle.sccs_admin.proofs.admins.write_text.Goals as goal
 
 pub returns-in-Err-clause-writes : goal.returns-in-Err-clause-writes
@@ -27,3 +28,12 @@ returns-in-Err-Failed-clause-writes g c = c.in-Err-Failed.ensures.view_err
 
 pub returns-clause-writes : goal.returns-clause-writes
 returns-clause-writes g c = c.in-Err-Memory.ensures.view_err
+
+pub returns-in-Err-clause-touches : goal.returns-in-Err-clause-touches
+returns-in-Err-clause-touches g c = same_touches (bytes_eq (sibling 120 c.args.name.now)) _ _ refl
+
+pub returns-in_default-clause-touches : goal.returns-in_default-clause-touches
+returns-in_default-clause-touches g c = same_touches (bytes_eq (sibling 120 c.args.name.now)) _ _ refl
+
+pub returns-in-Ok-write_new-clause-firm : goal.returns-in-Ok-write_new-clause-firm
+returns-in-Ok-write_new-clause-firm g c = new_firm c.args.name.now c.prepared.result _ _ c.prepared.ensures c.in-Ok-write_new.ensures.firm

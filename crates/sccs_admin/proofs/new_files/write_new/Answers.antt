@@ -1,12 +1,12 @@
-use Rattle.std.proofs.Common.{◌++◌, append_assoc, subst}
+use Rattle.std.proofs.Common.{◌++◌}
 use Rattle.std.specs.Str.{bytes_eq}
 use Rattle.sccs_base.specs.Name.{sibling}
 use Rattle.sccs_disk.specs.Effects.{empty_file}
 use Rattle.sccs_disk.specs.Told.{seen}
-use Rattle.sccs_grammar.specs.Written.{ended, sum_line}
-use Rattle.sccs_store.proofs.Working.{err_of, made_moves, made_there, moves_then, ok_map}
+use Rattle.sccs_disk.specs.Images.{IsFirm}
+use Rattle.sccs_store.proofs.Working.{err_of, firm_after, leaves_from, made_moves, made_there, moves_then, ok_map, written_touches}
+use Rattle.sccs_writers.proofs.OneFile.{only_both}
 use Rattle.sccs_writers.specs.HeaderBytes.{header_bytes}
-use Rattle.sccs_writers.specs.Puts.{Appends}
 use Rattle.sccs_admin.specs.Writing.{body_bytes}
 use Rattle.sccs_admin.proofs.WritingLaws.{file_made, has_digits}
 use Rattle.sccs_admin.proofs.new_files.write_new.Goals as goal
@@ -27,3 +27,16 @@ returns-clause-view g c = ok_map c.finish_x.result (file_made (sibling 120 c.arg
 pub returns-clause-view_err : goal.returns-clause-view_err
 returns-clause-view_err g c =
     err_of c.finish_x.result (moves_then (bytes_eq (sibling 120 c.args.name.now)) _ _ _ (moves_then (bytes_eq (sibling 120 c.args.name.now)) _ _ _ (made_moves (sibling 120 c.args.name.now) empty_file _ _ c.in_ok-start.ensures.view) c.append_x.ensures.only.view) c.finish_x.ensures.only.view)
+
+pub returns-in_err-sum-clause-touches : goal.returns-in_err-sum-clause-touches
+returns-in_err-sum-clause-touches g c =
+    written_touches (sibling 120 c.args.name.now) (bytes_eq (sibling 120 c.args.name.now)) _ (g.D.Disk.told c.start.new.disk) _ (g.met.D.Disk.sane c.start.new.disk) (λ k h. h) c.start.ensures.touches c.in_ok-start.ensures.own c.append_x.ensures.only
+
+pub returns-clause-touches : goal.returns-clause-touches
+returns-clause-touches g c =
+    written_touches (sibling 120 c.args.name.now) (bytes_eq (sibling 120 c.args.name.now)) _ (g.D.Disk.told c.start.new.disk) _ (g.met.D.Disk.sane c.start.new.disk) (λ k h. h) c.start.ensures.touches c.in_ok-start.ensures.own
+    (only_both (sibling 120 c.args.name.now) _ (g.D.Disk.told c.append_x.new.disk) _ c.append_x.ensures.only c.finish_x.ensures.only)
+
+pub returns-clause-firm : goal.returns-clause-firm
+returns-clause-firm g c =
+    ok_map c.finish_x.result (λ firm. leaves_from (IsFirm (sibling 120 c.args.name.now)) (bytes_eq (sibling 120 c.args.name.now)) _ (g.D.Disk.told c.start.new.disk) _ c.start.ensures.touches (firm_after (sibling 120 c.args.name.now) _ (g.D.Disk.told c.append_x.new.disk) _ c.append_x.ensures.only firm)) c.finish_x.ensures.firm

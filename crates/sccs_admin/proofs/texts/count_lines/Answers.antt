@@ -1,8 +1,8 @@
-use Rattle.std.proofs.Common.{◌≡◌, ℕ, ◌+◌, ◌∙◌, ap, sym, map, length, arith}
-use Rattle.sccs_base.specs.Cut.{text_of, without_lf}
+use Rattle.std.proofs.Common.{◌∙◌, ap, map, length, arith}
+use Rattle.sccs_base.specs.Cut.{without_lf}
 use Rattle.sccs_base.proofs.Lines.{lines_text}
 use Rattle.sccs_script.specs.Checks.{bad_line}
-use Rattle.sccs_admin.proofs.TextLaws.{first_control, lines_most, none_control, other_line}
+use Rattle.sccs_admin.proofs.TextLaws.{lines_most}
 use Rattle.sccs_admin.proofs.texts.count_lines.Goals as goal
 
 pub lines-init : goal.lines-init

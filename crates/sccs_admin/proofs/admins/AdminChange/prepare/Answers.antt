@@ -2,6 +2,13 @@ use Rattle.std.proofs.Common.{ℕ, List, Ok, refl, ap, subst, sym}
 use Rattle.sccs_disk.specs.Told.{seen}
 use Rattle.sccs_admin.specs.AdminStep.{FindsText}
 use Rattle.sccs_admin.proofs.PrepareLaws.{find_fails, found_prepares, text_quiet, text_ready, text_speaks, there_still}
+use Rattle.std.specs.Str.{bytes_eq}
+use Rattle.sccs_base.specs.Name.{sibling}
+use Rattle.sccs_files.specs.StepFiles.{is_working}
+use Rattle.sccs_images.proofs.Touched.{only_wider}
+use Rattle.sccs_moments.proofs.FileNames.{no_x}
+use Rattle.sccs_store.proofs.Working.{same_touches, touches_from}
+use Rattle.sccs_admin.proofs.StopLaws.{firm_still, text_settles}
 use Rattle.sccs_admin.proofs.admins.AdminChange.prepare.Goals as goal
 
 pub returns-in-Ok-clause-prepares : goal.returns-in-Ok-clause-prepares
@@ -21,3 +28,17 @@ returns-in-Ok-clause-silent g c = λ silent. (refl, text_quiet c.args.self.now.w
 
 pub returns-in-Err-clause-prepares : goal.returns-in-Err-clause-prepares
 returns-in-Err-clause-prepares g c = λ err. find_fails c.args.self.now.words.now c.args.self.now.stamp.now c.in-Err.fault c.args.name.now _ _ _ _ err c.requires.sfile (ap seen c.find_text.ensures.same) c.in-Err.ensures.finds
+
+pub returns-in-Ok-clause-touches : goal.returns-in-Ok-clause-touches
+returns-in-Ok-clause-touches g c =
+    touches_from (is_working c.args.name.now) _ (g.D.Disk.told c.find_text.new.disk) _ c.find_text.ensures.same (only_wider (bytes_eq (sibling 120 c.args.name.now)) (is_working c.args.name.now) _ _ (no_x c.args.name.now) c.write_text.ensures.touches)
+
+pub returns-in-Ok-clause-firm : goal.returns-in-Ok-clause-firm
+returns-in-Ok-clause-firm g c = firm_still c.write_text.result c.args.name.now _ (g.D.Disk.told c.find_text.new.disk) _ c.find_text.ensures.same c.write_text.ensures.firm
+
+pub returns-in-Ok-clause-entries : goal.returns-in-Ok-clause-entries
+returns-in-Ok-clause-entries g c =
+    text_settles c.args.self.now.words.now c.args.self.now.stamp.now c.write_text.result _ c.args.name.now (seen (g.D.Disk.told c.args.disk.now)) (g.D.Disk.told c.find_text.new.disk) _ c.requires.sfile (ap seen c.find_text.ensures.same) c.in-Ok.ensures.free c.write_text.ensures.writes
+
+pub returns-in-Err-clause-touches : goal.returns-in-Err-clause-touches
+returns-in-Err-clause-touches g c = same_touches (is_working c.args.name.now) _ _ c.find_text.ensures.same

@@ -1,0 +1,68 @@
+-- What a stop leaves of a new s-file: what its step asks of recovery.
+use Rattle.std.proofs.Common.{◌≡◌, ℕ, List, Option, None, Some, IfOk, IfSome, Result, Ok, Err, refl, sym, ap, subst, ◌∙◌}
+use Rattle.sccs_base.specs.Cut.{text_of}
+use Rattle.sccs_base.specs.Name.{IsSfile, sibling}
+use Rattle.sccs_disk.specs.Files.{Content, View, put}
+use Rattle.sccs_disk.specs.Images.{IsFirm}
+use Rattle.sccs_disk.specs.Told.{Told, seen}
+use Rattle.sccs_disk.proofs.Puts.{put_other}
+use Rattle.sccs_images.specs.Touches.{Leaves}
+use Rattle.sccs_moments.proofs.FileNames.{from_s}
+use Rattle.sccs_pfile.specs.Recovered.{recovered_pfile}
+use Rattle.sccs_sid.specs.declared.moments.Stamp.{Stamp}
+use Rattle.sccs_sid.specs.declared.refusals.StepFault.{StepFault}
+use Rattle.sccs_store.specs.Commits.{Becomes, chosen, files_after}
+use Rattle.sccs_store.specs.Stops.{KeepsEntries, OnReplace}
+use Rattle.sccs_store.specs.declared.new_files.NewFile.{NewFile}
+use Rattle.sccs_store.specs.declared.new_files.NewFile.TheVariants.{Keep, Replace, Remove}
+use Rattle.sccs_transactions.specs.Changes.{plan_of}
+use Rattle.sccs_transactions.specs.Stops.{IsFirmPrepared, IsPaired, SettlesEntries}
+use Rattle.sccs_transactions.specs.declared.prepared.Prepared.{Prepared}
+use Rattle.sccs_transactions.proofs.StopEnds.{plain_where}
+use Rattle.sccs_words.specs.declared.commands.AdminWords.{AdminWords}
+use Rattle.sccs_admin.specs.AdminStep.{IsNew, WritesText}
+use Rattle.sccs_admin.specs.NewFiles.{new_content}
+
+where_replaced : (new : NewFile) (P : Type 0) → P → OnReplace new P
+where_replaced Keep P holds = tt
+where_replaced Replace P holds = holds
+where_replaced Remove P holds = tt
+
+-- the x-file is firm, and no q-file takes a place
+pub new_firm : (n : List ℕ) (p : Prepared) (a b : Told) → IsNew p → Leaves (IsFirm (sibling 120 n)) a b → IsFirmPrepared n p a b
+new_firm n p a b new firm = record {
+  x_file = where_replaced (plan_of p).s (Leaves (IsFirm (sibling 120 n)) a b) firm;
+  q_file = subst (λ f. OnReplace f (Leaves (IsFirm (sibling 113 n)) a b)) (sym new.p_file) tt;
+}
+
+pub firm_still : (r : Result Prepared StepFault) (n : List ℕ) (a a2 b : Told) → a2 ≡ a → IfOk r (λ p. IsFirmPrepared n p a2 b) → IfOk r (λ p. IsFirmPrepared n p a b)
+firm_still r n a a2 b same firm = subst (λ t. IfOk r (λ p. IsFirmPrepared n p t b)) same firm
+
+-- recovery makes no p-file where there is none
+none_made : (s : Option Content) → recovered_pfile s None ≡ None
+none_made None = refl
+none_made (Some s) = refl
+
+none_kept : (s p : Option Content) → p ≡ None → recovered_pfile s p ≡ p
+none_kept s p none = subst (λ (o : Option Content). recovered_pfile s o ≡ o) (sym none) (none_made s)
+
+settled_at : (n : List ℕ) (p : Prepared) (u : View) → IsNew p → u n ≡ None → IsPaired n u → KeepsEntries n (plan_of p) u
+settled_at n p u new fresh paired =
+    let same : (files_after n (plan_of p) u).p ≡ u (sibling 112 n) = ap (λ (f : NewFile). chosen f (u (sibling 113 n)) (u (sibling 112 n))) new.p_file in
+    let none : u (sibling 112 n) ≡ None = paired fresh in
+    record {
+      leaves =
+          plain_where (plan_of p).s (recovered_pfile (files_after n (plan_of p) u).s (u (sibling 112 n)) ≡ (files_after n (plan_of p) u).p) (none_kept (files_after n (plan_of p) u).s (u (sibling 112 n)) none ∙ sym same);
+      sound = none_kept (files_after n (plan_of p) u).s (files_after n (plan_of p) u).p (same ∙ none);
+    }
+
+settled_seen : (n : List ℕ) (p : Prepared) (x : Content) (a b : Option View) → IsSfile n → IsNew p → IfSome a (λ v. v n ≡ None) → Becomes (λ v. put v (sibling 120 n) (Some x)) a b → IfSome b (λ v. IsPaired n v → KeepsEntries n (plan_of p) v)
+settled_seen n p x None b sfile new fresh is = subst (λ (o : Option View). IfSome o (λ v. IsPaired n v → KeepsEntries n (plan_of p) v)) (sym is) tt
+settled_seen n p x (Some v) b sfile new fresh is =
+    subst (λ (o : Option View). IfSome o (λ v. IsPaired n v → KeepsEntries n (plan_of p) v)) (sym is)
+    (λ paired. settled_at n p (put v (sibling 120 n) (Some x)) new (put_other v (sibling 120 n) n (Some x) (from_s 120 n sfile refl) ∙ fresh) paired)
+
+pub text_settles : (words : AdminWords) (stamp : Stamp) (r : Result Prepared StepFault) (text n : List ℕ) (o : Option View) (a b : Told) → IsSfile n → seen a ≡ o → IfSome o (λ v. v n ≡ None) → WritesText r words stamp text n (seen a) (seen b) → IfOk r (λ p. SettlesEntries n p b)
+text_settles words stamp (Ok p) text n o a b sfile same fresh writes =
+    settled_seen n p (new_content words stamp writes.1.0 (text_of text)) (seen a) (seen b) sfile writes.0 (subst (λ (x : Option View). IfSome x (λ v. v n ≡ None)) (sym same) fresh) writes.1.2
+text_settles words stamp (Err fault) text n o a b sfile same fresh writes = tt

@@ -1,0 +1,10 @@
+//! Recovery of a name on which a step was stopped: what the step began is finished or undone.
+#![tactic(auto)]
+
+mod entries_left;
+mod readings;
+mod recoveries;
+#[cfg(test)]
+mod tests;
+
+pub use recoveries::{Recovered, recover};
