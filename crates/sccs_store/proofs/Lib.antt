@@ -1,4 +1,5 @@
 pub mod Committed
 pub mod FileNames
+pub mod SealedLaws
 pub mod Swaps
 pub mod Working
