@@ -8,17 +8,13 @@ use Rattle.sccs_history.specs.declared.headers.Header.{Header}
 use Rattle.sccs_history.specs.declared.headers.Item.{Item}
 use Rattle.sccs_history.specs.declared.headers.Item.TheVariants.{Text, Insert, End}
 use Rattle.sccs_disk.specs.Files.{Content}
-use Rattle.sccs_grammar.specs.Written.{canonical}
+use Rattle.sccs_records.specs.Texts.{some_lines}
+use Rattle.sccs_store.specs.SealedFiles.{sealed}
 use Rattle.sccs_words.specs.declared.commands.AdminWords.{AdminWords}
 
 -- who made the file, and when
 abbrev pub made_by : Stamp → List ℕ
 made_by stamp = codes "date and time created " ++ (moment_text stamp.moment ++ (codes " by " ++ stamp.login))
-
--- the lines of a comment, of which there is one at least
-abbrev pub some_lines : List (List ℕ) → List (List ℕ)
-some_lines [] = [] ∷ []
-some_lines (line ∷ lines) = line ∷ lines
 
 -- the comment of -y, else who made the file, and when
 abbrev pub comment_lines : Option (List (List ℕ)) → Stamp → List (List ℕ)
@@ -54,10 +50,6 @@ new_header words stamp count = record { records = first_record words stamp count
 -- the lines, inserted by the first delta
 abbrev pub new_items : List (List ℕ) → List Item
 new_items lines = Insert 1 ∷ map Text lines ++ End 1 ∷ []
-
--- an s-file as it is written; it isn't writable
-abbrev pub sealed : Header → List Item → Content
-sealed header items = record { bytes = canonical header items; writable = false }
 
 abbrev pub new_content : AdminWords → Stamp → ℕ → List (List ℕ) → Content
 new_content words stamp count lines = sealed (new_header words stamp count) (new_items lines)

@@ -1,11 +1,12 @@
 ghost use Rattle.std.specs.Prelude.{◌≡◌, [], ◌∷◌, IfOk};
 ghost use Rattle.sccs_admin.specs.AdminStep.{AreAdminValues};
-ghost use Rattle.sccs_admin.specs.NewFiles.{comment_lines, first_record, made_by, new_header, some_lines};
+ghost use Rattle.sccs_admin.specs.NewFiles.{comment_lines, first_record, made_by, new_header};
 ghost use Rattle.sccs_history.specs.History.{AreLines, HasSpelling, IsSpelled};
 ghost use Rattle.sccs_sid.specs.Moment.{IsMoment};
 
 use sccs_base::{Bytes, Line, Memory, Text};
 use sccs_history::{Flags, Header, Record, Records, Serials};
+use sccs_records::some_lines;
 use sccs_sid::{Sid, Stamp};
 use sccs_words::AdminWords;
 use std::alloc::Global;
@@ -27,36 +28,6 @@ fn made_by(alloc: Global, stamp: &Stamp) -> Result<Line, Memory>
         Ok(line) => Ok(line),
         Err(_) => Err(Memory),
     }
-}
-
-// a copy of lines
-fn copy_lines(alloc: Global, lines: &[Line]) -> Result<Text, Memory>
-    ensures value { IfOk result (λ copy. copy ≡ lines.now) }
-    ensures lines { IfOk result AreLines }
-{
-    let mut copy = Text::empty(alloc);
-    for line in lines {
-        let Ok(line) = Line::new(alloc, line.bytes()) else {
-            return Err(Memory);
-        };
-        copy.push(line)?;
-    }
-    Ok(copy)
-}
-
-// the lines of a comment, of which there is one at least
-fn some_lines(alloc: Global, lines: &[Line]) -> Result<Text, Memory>
-    ensures value { IfOk result (λ text. text ≡ some_lines lines.now) }
-    ensures lines { IfOk result AreLines }
-{
-    let mut copy = copy_lines(alloc, lines)?;
-    if lines.is_empty() {
-        let Ok(line) = Line::new(alloc, b"") else {
-            return Err(Memory);
-        };
-        copy.push(line)?;
-    }
-    Ok(copy)
 }
 
 // a text of one line

@@ -16,7 +16,8 @@ ghost use Rattle.sccs_table.specs.SumOf.{IsSumOf};
 ghost use Rattle.sccs_writers.specs.HeaderBytes.{header_bytes};
 ghost use Rattle.sccs_writers.specs.OneFile.{OnlyWrites};
 ghost use Rattle.sccs_writers.specs.Puts.{Appends, PutsText};
-ghost use Rattle.sccs_admin.specs.NewFiles.{new_items, sealed};
+ghost use Rattle.sccs_store.specs.SealedFiles.{sealed};
+ghost use Rattle.sccs_admin.specs.NewFiles.{new_items};
 ghost use Rattle.sccs_admin.specs.Writing.{AppendsSum, body_bytes};
 
 use crate::texts::lacking;

@@ -1,6 +1,7 @@
 pub mod Committed
 pub mod Parts
 pub mod Stages
+pub mod SealedLaws
 pub mod Swaps
 pub mod Working
 pub mod WholeSteps

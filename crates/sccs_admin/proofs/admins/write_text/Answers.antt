@@ -6,7 +6,8 @@ use Rattle.sccs_disk.specs.Files.{put}
 use Rattle.sccs_disk.specs.Told.{seen}
 use Rattle.sccs_store.specs.Commits.{Becomes}
 use Rattle.sccs_store.proofs.Working.{moves_same, same_touches}
-use Rattle.sccs_admin.specs.NewFiles.{new_items, sealed}
+use Rattle.sccs_store.specs.SealedFiles.{sealed}
+use Rattle.sccs_admin.specs.NewFiles.{new_items}
 use Rattle.sccs_admin.specs.Texts.{or_bad_text}
 use Rattle.sccs_admin.proofs.StopLaws.{new_firm}
 use Rattle.sccs_admin.proofs.admins.write_text.Goals as goal

@@ -1,4 +1,5 @@
-use Rattle.std.proofs.Common.{◌++◌}
+use Rattle.std.proofs.Common.{◌++◌, append_assoc, refl, subst}
+use Rattle.sccs_base.specs.Cut.{text_of}
 use Rattle.std.specs.Str.{bytes_eq}
 use Rattle.sccs_base.specs.Name.{sibling}
 use Rattle.sccs_disk.specs.Effects.{empty_file}
@@ -8,7 +9,8 @@ use Rattle.sccs_store.proofs.Working.{err_of, firm_after, leaves_from, made_move
 use Rattle.sccs_writers.proofs.OneFile.{only_both}
 use Rattle.sccs_writers.specs.HeaderBytes.{header_bytes}
 use Rattle.sccs_admin.specs.Writing.{body_bytes}
-use Rattle.sccs_admin.proofs.WritingLaws.{file_made, has_digits}
+use Rattle.sccs_admin.specs.NewFiles.{new_items}
+use Rattle.sccs_store.proofs.SealedLaws.{has_digits, sealed_made}
 use Rattle.sccs_admin.proofs.new_files.write_new.Goals as goal
 
 pub append_x-requires-clause-there : goal.append_x-requires-clause-there
@@ -22,7 +24,7 @@ finish_x-requires-clause-there g c =
     has_digits (sibling 120 c.args.name.now) (header_bytes c.args.header.now ++ body_bytes c.args.text.now) (g.D.Disk.told c.args.disk.now) (g.D.Disk.told c.start.new.disk) (g.D.Disk.told c.append_x.new.disk) c.in_ok-start.ensures.view c.in_ok-sum.ensures.appends
 
 pub returns-clause-view : goal.returns-clause-view
-returns-clause-view g c = ok_map c.finish_x.result (file_made (sibling 120 c.args.name.now) c.args.header.now c.args.text.now c.in_ok-sum.sum _ (seen (g.D.Disk.told c.start.new.disk)) (seen (g.D.Disk.told c.append_x.new.disk)) _ c.in_ok-start.ensures.view c.in_ok-sum.ensures.appends c.in_ok-sum.ensures.sum) c.finish_x.ensures.view
+returns-clause-view g c = ok_map c.finish_x.result (sealed_made (sibling 120 c.args.name.now) c.args.header.now (new_items (text_of c.args.text.now)) (body_bytes c.args.text.now) c.in_ok-sum.sum _ (seen (g.D.Disk.told c.start.new.disk)) (seen (g.D.Disk.told c.append_x.new.disk)) _ refl c.in_ok-start.ensures.view c.in_ok-sum.ensures.appends c.in_ok-sum.ensures.sum) c.finish_x.ensures.view
 
 pub returns-clause-view_err : goal.returns-clause-view_err
 returns-clause-view_err g c =

@@ -1,0 +1,3 @@
+pub mod AppendLaws
+pub mod ComingItems
+pub mod CopyLaws

@@ -1,0 +1,3 @@
+pub mod NullLaws
+pub mod SetLaws
+pub mod TableLaws

@@ -1,0 +1,2 @@
+pub mod NewDeltas
+pub mod Texts
