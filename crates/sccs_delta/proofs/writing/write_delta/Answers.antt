@@ -5,7 +5,7 @@ use Rattle.sccs_disk.specs.Effects.{empty_file}
 use Rattle.sccs_disk.specs.Told.{seen}
 use Rattle.sccs_splicer.specs.Splices.{owed}
 use Rattle.sccs_writers.specs.Spelled.{spelled}
-use Rattle.sccs_store.proofs.FileNames.{from_s}
+use Rattle.sccs_moments.proofs.FileNames.{from_s}
 use Rattle.sccs_store.proofs.SealedLaws.{has_digits, sealed_made, spelled_bytes}
 use Rattle.sccs_store.proofs.Working.{made_moves, made_there, moves_then}
 use Rattle.sccs_delta.proofs.ComingItems.{bytes_stay}
