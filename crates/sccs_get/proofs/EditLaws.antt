@@ -1,9 +1,10 @@
 -- What get -e decides.
-use Rattle.std.proofs.Common.{◌≡◌, ℕ, zero, suc, All, ◌+◌, ◌<◌, Bool, true, false, not, ◌||◌, List, [], ◌∷◌, ◌++◌, length, take, insert, get_or, Option, None, Some, Result, Ok, Err, refl, sym, ap, subst, ◌∙◌, arith, append-nil, add-one}
+use Rattle.std.proofs.Common.{◌≡◌, ℕ, zero, suc, All, ◌+◌, ◌<◌, Bool, true, false, not, ◌&&◌, ◌||◌, List, [], ◌∷◌, ◌++◌, length, take, insert, get_or, Option, None, Some, Result, Ok, Err, refl, sym, ap, subst, ◌∙◌, arith, append-nil, add-one}
 use Rattle.std.proofs.Math.Seq.{take-suc}
 use Rattle.std.proofs.lemmas.Grind.{flat_map-append}
 use Rattle.std.proofs.lemmas.List.Elements.{All-append}
-use Rattle.std.specs.List.{AllByRecursion}
+use Rattle.std.specs.List.{AllByRecursion, list_any}
+use Rattle.std.specs.Prelude.{option_and_then}
 use Rattle.sccs_sid.specs.Sid.{IsComponent, IsSid}
 use Rattle.sccs_sid.specs.declared.sids.Sid.{Sid}
 use Rattle.sccs_sid.specs.declared.sids.Spec.{Spec}
@@ -12,12 +13,13 @@ use Rattle.sccs_sid.specs.declared.refusals.Refusal.TheVariants as refusals
 use Rattle.sccs_flags.specs.FlagValues.{has_flag}
 use Rattle.sccs_flags.specs.Logins.{is_allowed}
 use Rattle.sccs_history.specs.Applied.{live_serials, serials_of}
-use Rattle.sccs_history.specs.History.{IsSpelled}
+use Rattle.sccs_history.specs.History.{IsSpelled, lives, same_sid}
 use Rattle.sccs_history.specs.Numbers.{has}
 use Rattle.sccs_history.specs.declared.headers.Record.{Record}
-use Rattle.sccs_sets.specs.Made.{to_be_made}
+use Rattle.sccs_sets.specs.Made.{made_on, to_be_made}
 use Rattle.sccs_sets.specs.Sets.{sid_at}
 use Rattle.sccs_sets.proofs.Lookups.{live_there}
+use Rattle.sccs_sets.proofs.NewSids.{made_is_free}
 use Rattle.sccs_steps.specs.StepEffects.{check, there}
 use Rattle.sccs_sid.specs.Reading.{◌>>=◌}
 use Rattle.sccs_sid.specs.declared.moments.Stamp.{Stamp}
@@ -104,6 +106,20 @@ pub free_valid : (words : GetWords) (header : Header) (edits : List Edit) (targe
 free_valid words header edits target got made sid spelled release at making free =
     made_sid header (reserved edits) target (spec_asked words header) words.branch got sid at (sid_there header.records target got spelled.records at) release (sym making ∙ free_is header edits got made sid free)
 
+left_no : (a b : Bool) → (a || b) ≡ false → a ≡ false
+left_no true b is = cc
+left_no false b is = refl
+
+unlive_at : (header : Header) (sids : List Sid) (spec : Option Spec) (branch : Bool) (o : Option Sid) (sid : Sid) → option_and_then (λ on. made_on header.records sids on spec (branch && has_flag header.flags 98)) o ≡ Some sid → lives header.records sid ≡ false
+unlive_at header sids spec branch None sid is = absurd cc
+unlive_at header sids spec branch (Some on) sid is = left_no (lives header.records sid) (list_any (λ s. same_sid s sid) sids) (made_is_free header.records sids on sid spec (branch && has_flag header.flags 98) is)
+
+-- the SID to be made isn't live
+pub free_unlive : (words : GetWords) (header : Header) (edits : List Edit) (target : ℕ) (got : Sid) (made : Option Sid) (sid : Sid) (e : Edit) (stamp : Stamp) (a : Asked) → made ≡ to_be_made header (reserved edits) target (spec_asked words header) words.branch → free_sid header edits got made ≡ Ok sid
+    → e ≡ new_edit stamp header.records a got sid → lives header.records e.made ≡ false
+free_unlive words header edits target got made sid e stamp a making free same =
+    ap (λ (x : Edit). lives header.records x.made) same ∙ unlive_at header (reserved edits) (spec_asked words header) words.branch (sid_at header.records target) sid (sym making ∙ free_is header edits got made sid free)
+
 -- ---- a live serial of a list
 
 pub live_at : (records : List Record) (serials : List ℕ) (i d : ℕ) → AllByRecursion (λ n. has (live_serials records) n ≡ true) serials → i < length serials → has (serials_of records) (get_or serials i d) ≡ true
@@ -155,3 +171,7 @@ one_all P x is (suc k) d low = absurd (omega (arith, low))
 
 pub all_and : {X : Type 0} (P : X → Type 0) (xs : List X) (x : X) → All P xs → P x → All P (xs ++ x ∷ [])
 all_and P xs x all is = All-append P xs (x ∷ []) all (one_all P x is)
+
+pub each_and : {X : Type 0} (P : X → Type 0) (xs : List X) (x : X) → AllByRecursion P xs → P x → AllByRecursion P (xs ++ x ∷ [])
+each_and P [] x all is = (is, tt)
+each_and P (y ∷ xs) x all is = (all.0, each_and P xs x all.1 is)

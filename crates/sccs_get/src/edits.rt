@@ -1,14 +1,17 @@
 ghost use Rattle.std.specs.Prelude.{◌≡◌, ◌≢◌, ◌≤◌, ◌++◌, All, Err, IfOk, OnOk, codes};
 ghost use Rattle.std.specs.Option.{option_copied};
-ghost use Rattle.sccs_base.specs.Name.{IsSfile};
+ghost use Rattle.std.specs.Str.{bytes_eq};
+ghost use Rattle.sccs_base.specs.Name.{IsSfile, sibling};
 ghost use Rattle.sccs_base.specs.Stream.{Rose};
 ghost use Rattle.sccs_grammar.specs.Written.{ended};
+ghost use Rattle.sccs_images.specs.Touches.{TouchesOnly};
 ghost use Rattle.sccs_pfile.specs.Entries.{IsEdit};
 ghost use Rattle.sccs_sid.specs.Sid.{sid_text};
 ghost use Rattle.sccs_sid.specs.declared.refusals.StepFault.TheVariants as faults;
 ghost use Rattle.sccs_steps.specs.Actions.{RefusesWithin};
 ghost use Rattle.sccs_transactions.proofs.Utilities.{locking_keeps};
 ghost use Rattle.sccs_transactions.specs.Changes.{locking};
+ghost use Rattle.sccs_transactions.specs.Stops.{IsFirmPrepared};
 ghost use Rattle.sccs_pending.specs.NewEntries.{PreparesDecided};
 ghost use Rattle.sccs_get.specs.Edits.{edit_locked, sid_lines};
 ghost use Rattle.sccs_get.specs.EditStep.{AreEditValues, edit_change, edit_checks, edit_report, listed_text, with_entry};
@@ -125,6 +128,8 @@ fn add_entry<D: Disk>(
     requires edits { All IsEdit edits }
     requires edit { IsEdit edit }
     ensures adds { PreparesDecided result name.now (with_entry get.now.words.now get.now.heading name.now edits edit) (D.told disk.old) (D.told disk.new) }
+    ensures touches { TouchesOnly (bytes_eq (sibling 113 name.now)) (D.told disk.old) (D.told disk.new) }
+    ensures firm { IfOk result (λ p. IsFirmPrepared name.now p (D.told disk.old) (D.told disk.new)) }
     ensures checks { RefusesWithin edit_checks result }
     ensures later { D.faults disk.old ≤ D.faults disk.new }
     ensures cause { result ≡ Err faults.DiskFault → Rose (D.faults disk.old) (D.faults disk.new) }

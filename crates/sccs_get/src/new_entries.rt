@@ -1,11 +1,11 @@
-ghost use Rattle.std.specs.Prelude.{◌≡◌, ◌≢◌, ◌∷◌, [], All, Err, IfOk, OnOk, true};
+ghost use Rattle.std.specs.Prelude.{◌≡◌, ◌≢◌, ◌∷◌, [], All, Err, IfOk, OnOk, false, true};
 ghost use Rattle.std.specs.List.{AllByRecursion};
 ghost use Rattle.sccs_sid.specs.Moment.{IsMoment};
 ghost use Rattle.sccs_sid.specs.Sid.{IsComponent, IsSid};
 ghost use Rattle.sccs_sid.specs.SidLists.{IsRange};
 ghost use Rattle.sccs_sid.specs.declared.refusals.StepFault.TheVariants as faults;
 ghost use Rattle.sccs_history.specs.Applied.{live_serials};
-ghost use Rattle.sccs_history.specs.History.{HasSpelling, IsSpelled, IsTable};
+ghost use Rattle.sccs_history.specs.History.{HasSpelling, IsSpelled, IsTable, lives};
 ghost use Rattle.sccs_history.specs.Numbers.{has};
 ghost use Rattle.sccs_pending.specs.PFiles.{Answers, Passes};
 ghost use Rattle.sccs_pfile.specs.Entries.{IsEdit};
@@ -199,6 +199,7 @@ pub fn new_entry(
     requires valid { AreEditValues words.now stamp.now }
     ensures value { Answers (new_entry words.now stamp.now header.now edits.now) result }
     ensures valid { IfOk result IsEdit }
+    ensures free { IfOk result (λ e. lives header.now.records e.made ≡ false) }
     ensures checks { RefusesWithin edit_checks result }
     ensures broke { result ≢ Err faults.DiskFault }
 {

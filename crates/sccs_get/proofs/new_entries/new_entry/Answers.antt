@@ -4,7 +4,7 @@ use Rattle.sccs_history.specs.Numbers.{has}
 use Rattle.sccs_history.specs.declared.headers.Record.{Record}
 use Rattle.sccs_sets.specs.Sets.{sid_at}
 use Rattle.sccs_sets.proofs.Lookups.{live_there}
-use Rattle.sccs_get.proofs.EditLaws.{entry_made, free_valid, not_asked, not_free, not_let_in}
+use Rattle.sccs_get.proofs.EditLaws.{entry_made, free_unlive, free_valid, not_asked, not_free, not_let_in}
 use Rattle.sccs_get.proofs.EntrySids.{sid_there}
 use Rattle.sccs_get.proofs.new_entries.new_entry.Goals as goal
 
@@ -34,3 +34,7 @@ pub returns-in-Ok-entry-clause-value : goal.returns-in-Ok-entry-clause-value
 returns-in-Ok-entry-clause-value c =
     entry_made c.args.words.now c.args.stamp.now c.args.header.now c.args.edits.now c.in-Ok.asked c.sid_at-got.result c.in-Ok-made_of.made c.in-Ok-free_sid.made c.in-Ok-entry.edit (sym c.is_allowed.ensures ∙ c.if-not-is_allowed.false) c.in-Ok.ensures.value
     (subst (λ (rs : List Record). sid_at rs c.in-Ok.asked.target ≡ Some c.sid_at-got.result) c.items.ensures c.sid_at-got.ensures) c.in-Ok-made_of.ensures.value c.in-Ok-free_sid.ensures.value c.in-Ok-entry.ensures.value
+
+pub returns-in-Ok-entry-clause-free : goal.returns-in-Ok-entry-clause-free
+returns-in-Ok-entry-clause-free c =
+    free_unlive c.args.words.now c.args.header.now c.args.edits.now c.in-Ok.asked.target c.sid_at-got.result c.in-Ok-made_of.made c.in-Ok-free_sid.made c.in-Ok-entry.edit c.args.stamp.now c.in-Ok.asked c.in-Ok-made_of.ensures.value c.in-Ok-free_sid.ensures.value c.in-Ok-entry.ensures.value
