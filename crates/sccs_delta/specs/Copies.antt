@@ -39,6 +39,10 @@ IsOuterFault Failed = Unit {0}
 IsOuterFault Memory = Unit {0}
 IsOuterFault _ = ⊥
 
+abbrev pub IsOuterResult : {T : Type 0} → Result T FileFault → Type 0
+IsOuterResult (Ok x) = Unit {0}
+IsOuterResult (Err fault) = IsOuterFault fault
+
 -- A call that puts some text while another file is read: at every exit at most the writer's file is another, and a failing disk
 -- is counted.
 pub record PutsSome {T : Type 0} (w w2 : Writer) (old new : Told) (faults faults_after : ℕ) (result : Result T FileFault) : Type 0 where

@@ -2,7 +2,10 @@
 #![tactic(auto)]
 
 mod copies;
+mod examining;
+mod result_checks;
 mod writing;
 
 pub use copies::Copying;
+pub use examining::{Found, examine};
 pub use writing::write_delta;

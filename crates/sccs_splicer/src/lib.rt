@@ -10,4 +10,5 @@ mod splicers;
 mod tests;
 
 pub use laws::spliced_bodies;
+pub use plan_places::PlanPlace;
 pub use splicers::Splicer;
