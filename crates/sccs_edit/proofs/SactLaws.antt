@@ -1,28 +1,26 @@
 -- What the parts of sact make of its step.
-use Rattle.std.proofs.Common.{◌≡◌, ℕ, ◌≤◌, Bool, true, false, List, [], ◌∷◌, ◌++◌, length, take, arith, Option, None, Some, Result, Ok, Err, inl, inr, refl, sym, ap, subst, ◌∙◌, append_assoc}
+use Rattle.std.proofs.Common.{◌≡◌, ℕ, ◌≤◌, Bool, true, false, List, [], ◌∷◌, ◌++◌, length, arith, Option, None, Some, Result, Ok, Err, inl, inr, refl, sym, ap, subst, ◌∙◌, append_assoc}
 use Rattle.std.specs.Prelude.{IfSome, is_some, option_map}
-use Rattle.std.specs.Str.{bytes_eq}
 use Rattle.sccs_base.specs.Stream.{GivesOk, GivesSome, Rose}
-use Rattle.sccs_base.proofs.Gifts.{gives_none, some_none}
+use Rattle.sccs_base.proofs.Gifts.{some_none}
 use Rattle.sccs_disk.specs.Files.{Content, View}
 use Rattle.sccs_disk.specs.Reads.{Measures}
 use Rattle.sccs_disk.specs.Told.{Told, seen}
 use Rattle.sccs_sid.specs.Reading.{◌>>=◌}
-use Rattle.sccs_sid.specs.Refusal.{number_of}
 use Rattle.sccs_sid.specs.declared.refusals.Refusal.{Refusal}
 use Rattle.sccs_sid.specs.declared.refusals.Refusal.TheVariants as refusals
 use Rattle.sccs_sid.specs.declared.refusals.StepFault.{StepFault}
 use Rattle.sccs_sid.specs.declared.refusals.StepFault.TheVariants.{Refused, Memory, ReadFault, WriteFault, DiskFault}
-use Rattle.sccs_files.specs.StepFiles.{Files, look, moved, is_working, Moves}
+use Rattle.sccs_files.specs.StepFiles.{Files, look, is_working, Moves}
 use Rattle.sccs_grammar.specs.Written.{ended}
 use Rattle.sccs_pfile.specs.declared.entries.Edit.{Edit}
-use Rattle.sccs_steps.specs.StepEffects.{StepEffect, Outcome, effect_of}
-use Rattle.sccs_steps.specs.Calls.{Made, Meets, ReportCut, scene, world}
-use Rattle.sccs_steps.specs.Actions.{IsHeard, KeepsFiles, RefusesWithin, SpeaksBy, Stepped, has_number}
+use Rattle.sccs_steps.specs.StepEffects.{StepEffect}
+use Rattle.sccs_steps.specs.Calls.{Meets, scene, world}
+use Rattle.sccs_steps.specs.Actions.{IsHeard, RefusesWithin, SpeaksBy, Stepped}
 use Rattle.sccs_steps.specs.Causes.{StepCauses, counts}
 use Rattle.sccs_transactions.specs.Ends.{Reports}
 use Rattle.sccs_transactions.specs.declared.prepared.Prepared.{Prepared}
-use Rattle.sccs_steps.proofs.ReadingSteps.{Explains, ends_silent, kept}
+use Rattle.sccs_steps.proofs.ReadingSteps.{Explains, ends_silent}
 use Rattle.sccs_pending.specs.PFiles.{Answers, entries_of}
 use Rattle.sccs_edit.specs.Checks.{step_is}
 use Rattle.sccs_edit.specs.SactStep.{ShowsEdits, could_show, found_edits, none_text, sact_action, sact_checks, sact_step, shows}

@@ -1,5 +1,5 @@
 -- sact changes no file, and a locked name is one of unget's refusals.
-use Rattle.std.proofs.Common.{◌≡◌, ℕ, Bool, true, List, Option, None, Some, Result, Ok, Err, refl, sym, ap, ◌∙◌}
+use Rattle.std.proofs.Common.{◌≡◌, ℕ, Bool, true, List, None, Result, Ok, Err, refl, sym, ap, ◌∙◌}
 use Rattle.sccs_sid.specs.Reading.{◌>>=◌}
 use Rattle.sccs_sid.specs.declared.moments.Stamp.{Stamp}
 use Rattle.sccs_sid.specs.declared.refusals.Refusal.{Refusal}

@@ -1,5 +1,5 @@
 -- What sact does: POSIX, Shell and Utilities, sact. It reads the p-file alone.
-use Rattle.std.specs.Prelude.{◌≡◌, ℕ, Bool, true, false, List, [], ◌∷◌, ◌++◌, flat_map, codes, take, ◌||◌, Option, None, Some, is_some, Result, Ok, Err}
+use Rattle.std.specs.Prelude.{◌≡◌, ℕ, Bool, true, false, List, [], ◌∷◌, ◌++◌, flat_map, codes, take, ◌||◌, Option, None, is_some, Result, Ok, Err}
 use Rattle.std.specs.Str.{bytes_eq}
 use Rattle.sccs_base.specs.Name.{is_sfile_name}
 use Rattle.sccs_sid.specs.Moment.{moment_text}
@@ -15,7 +15,7 @@ use Rattle.sccs_files.specs.StepFiles.{Files}
 use Rattle.sccs_grammar.specs.Written.{ended}
 use Rattle.sccs_pfile.specs.declared.entries.Edit.{Edit}
 use Rattle.sccs_steps.specs.StepEffects.{Outcome, StepEffect, check}
-use Rattle.sccs_steps.specs.Actions.{Action, Step, has_number}
+use Rattle.sccs_steps.specs.Actions.{Action, has_number}
 use Rattle.sccs_pending.specs.PFiles.{entries_of}
 use Rattle.sccs_pending.specs.Reports.{heading_text}
 

@@ -7,7 +7,10 @@ ghost use Rattle.sccs_pfile.specs.Entries.{IsEdit};
 ghost use Rattle.sccs_sid.specs.declared.refusals.StepFault.TheVariants as fault;
 ghost use Rattle.sccs_steps.specs.Actions.{RefusesWithin};
 ghost use Rattle.sccs_transactions.proofs.Utilities.{locking_keeps};
+ghost use Rattle.std.specs.Str.{bytes_eq};
+ghost use Rattle.sccs_images.specs.Touches.{TouchesOnly};
 ghost use Rattle.sccs_transactions.specs.Changes.{locking};
+ghost use Rattle.sccs_transactions.specs.Stops.{IsFirmPrepared};
 ghost use Rattle.sccs_edit.specs.Checks.{unget_locked};
 ghost use Rattle.sccs_edit.specs.UngetStep.{unget_change, unget_checks, unget_report, without_entry};
 ghost use Rattle.sccs_pending.specs.NewEntries.{PreparesDecided};
@@ -70,6 +73,8 @@ fn drop_entry<D: Disk>(
     requires some { 0 < number }
     requires there { number ≤ length edits }
     ensures drops { PreparesDecided result name.now (without_entry unget.now.words.now unget.now.heading name.now edits number) (D.told disk.old) (D.told disk.new) }
+    ensures touches { TouchesOnly (bytes_eq (sibling 113 name.now)) (D.told disk.old) (D.told disk.new) }
+    ensures firm { IfOk result (λ p. IsFirmPrepared name.now p (D.told disk.old) (D.told disk.new)) }
     ensures checks { RefusesWithin unget_checks result }
     ensures later { D.faults disk.old ≤ D.faults disk.new }
     ensures cause { result ≡ Err fault.DiskFault → Rose (D.faults disk.old) (D.faults disk.new) }

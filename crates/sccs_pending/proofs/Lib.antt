@@ -1,3 +1,4 @@
 pub mod EntryChanges
 pub mod EntryLaws
 pub mod PendingLaws
+pub mod StopLaws

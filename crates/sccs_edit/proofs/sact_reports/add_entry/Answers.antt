@@ -1,4 +1,4 @@
-use Rattle.std.proofs.Common.{ℕ, List, ◌∷◌, [], ◌++◌, ◌≡◌, OnOk, ap, subst, ◌∙◌}
+use Rattle.std.proofs.Common.{ℕ, List, ◌∷◌, [], ◌++◌, ap, ◌∙◌}
 use Rattle.sccs_store.proofs.Working.{ok_map}
 use Rattle.sccs_edit.proofs.SactLaws.{line_added}
 use Rattle.sccs_edit.proofs.sact_reports.add_entry.Goals as goal

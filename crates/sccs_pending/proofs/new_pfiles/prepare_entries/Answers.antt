@@ -1,7 +1,9 @@
 use Rattle.std.proofs.Common.{◌∙◌}
 use Rattle.sccs_base.specs.Name.{sibling}
 use Rattle.sccs_pfile.specs.Recovered.{written_pfile}
-use Rattle.sccs_store.proofs.Working.{made_moves}
+use Rattle.std.proofs.Common.{refl}
+use Rattle.std.specs.Str.{bytes_eq}
+use Rattle.sccs_store.proofs.Working.{made_moves, same_touches}
 use Rattle.sccs_pending.proofs.EntryLaws.{some_chosen}
 use Rattle.sccs_pending.proofs.new_pfiles.prepare_entries.Goals as goal
 
@@ -10,3 +12,6 @@ returns-in-Ok-clause-entries g c = some_chosen c.args.name.now c.args.edits.now 
 
 pub returns-in-Ok-clause-moves : goal.returns-in-Ok-clause-moves
 returns-in-Ok-clause-moves g c = made_moves (sibling 113 c.args.name.now) (written_pfile c.args.edits.now) _ _ c.in-Ok.ensures.view
+
+pub returns-then-len-eq0-clause-touches : goal.returns-then-len-eq0-clause-touches
+returns-then-len-eq0-clause-touches g c = same_touches (bytes_eq (sibling 113 c.args.name.now)) _ _ refl

@@ -1,5 +1,3 @@
-use Rattle.std.proofs.Common.{Err}
-use Rattle.sccs_sid.specs.declared.refusals.StepFault.{StepFault}
 use Rattle.sccs_transactions.proofs.Utilities.{is_sfile}
 use Rattle.sccs_edit.specs.SactStep.{sact_checks}
 use Rattle.sccs_edit.proofs.SactLaws.{shown_causes, shown_speaks, shown_steps, unread_speaks, unread_steps, within_err}
