@@ -21,7 +21,7 @@ use Rattle.sccs_steps.specs.StepEffects.{Outcome, StepEffect, effect_of}
 use Rattle.sccs_store.specs.Commits.{Becomes, Needs, Plan, chosen, files_after, replaced}
 use Rattle.sccs_store.specs.declared.new_files.NewFile.{NewFile}
 use Rattle.sccs_store.specs.declared.new_files.NewFile.TheVariants.{Keep, Replace, Remove}
-use Rattle.sccs_store.proofs.FileNames.{from_g, from_s, no_x}
+use Rattle.sccs_moments.proofs.FileNames.{from_g, from_s, no_x}
 use Rattle.sccs_store.proofs.Working.{made_moves, made_there, moves_wider}
 use Rattle.sccs_transactions.specs.Changes.{CouldPrepare, IsPrepared, IsQuiet, IsReady, IsUnmade, Prepares, PreparesChange, plan_of, unlocked}
 use Rattle.sccs_transactions.specs.declared.prepared.Prepared.{Prepared}

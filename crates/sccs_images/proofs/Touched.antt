@@ -86,11 +86,11 @@ pub firm_touched : (mine : List ℕ → Bool) (m m2 : Model) (k : List ℕ) → 
 firm_touched mine m m2 k touches other firm = subst (λ o. IfSome o (λ (f : File). f.firm ≡ true)) (sym (touches.files k other)) firm
 
 -- Two runs of a story are one.
-newest_more : (xs ys : List Model) (m : Model) → newest (xs ++ ys) m ≡ newest xs (newest ys m)
+pub newest_more : (xs ys : List Model) (m : Model) → newest (xs ++ ys) m ≡ newest xs (newest ys m)
 newest_more [] ys m = refl
 newest_more (a ∷ xs) ys m = refl
 
-earlier_more : (xs ys : List Model) (m : Model) (past : List Model) → earlier (xs ++ ys) m past ≡ earlier xs (newest ys m) (earlier ys m past)
+pub earlier_more : (xs ys : List Model) (m : Model) (past : List Model) → earlier (xs ++ ys) m past ≡ earlier xs (newest ys m) (earlier ys m past)
 earlier_more [] ys m past = refl
 earlier_more (a ∷ xs) [] m past = ap (λ l. l ++ m ∷ past) (append-nil xs)
 earlier_more (a ∷ xs) (b ∷ ys) m past = append_assoc xs (b ∷ ys) (m ∷ past)

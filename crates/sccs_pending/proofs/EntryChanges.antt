@@ -18,7 +18,7 @@ use Rattle.sccs_steps.specs.Actions.{IsHeard, RefusesWithin, Step, quiet_checks}
 use Rattle.sccs_steps.specs.Calls.{world}
 use Rattle.sccs_steps.specs.StepEffects.{Outcome}
 use Rattle.sccs_store.specs.Commits.{chosen}
-use Rattle.sccs_store.proofs.FileNames.{from_g, from_s, no_q}
+use Rattle.sccs_moments.proofs.FileNames.{from_g, from_s, no_q}
 use Rattle.sccs_store.proofs.Working.{moves_wider}
 use Rattle.sccs_transactions.specs.Changes.{Changing, CouldPrepare, IsReady, IsUnmade, Prepares, PreparesChange, unlocked}
 use Rattle.sccs_transactions.specs.declared.prepared.Prepared.{Prepared}

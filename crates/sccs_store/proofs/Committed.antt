@@ -1,18 +1,18 @@
 -- A commit puts the chosen files in their places, and leaves all others.
-use Rattle.std.proofs.Common.{◌≡◌, ◌⊎◌, ℕ, zero, suc, Bool, true, false, cond, List, drop, Option, None, Some, inl, inr, refl, sym, ap, subst, ◌∙◌}
+use Rattle.std.proofs.Common.{◌≡◌, ◌⊎◌, ℕ, zero, suc, Bool, true, false, cond, List, drop, Option, None, inl, inr, refl, sym, ap, subst, ◌∙◌}
 use Rattle.std.specs.Str.{bytes_eq}
 use Rattle.sccs_base.specs.Name.{IsSfile, sibling}
-use Rattle.sccs_disk.specs.Files.{Content, View, put}
+use Rattle.sccs_disk.specs.Files.{Content, View}
 use Rattle.sccs_disk.proofs.Puts.{put_back, put_other, same_name}
-use Rattle.sccs_files.specs.StepFiles.{Files, is_working, placed}
-use Rattle.sccs_store.specs.Commits.{Plan, chosen, committed, files_after, g_swapped, p_swapped, part_of, s_swapped, swapped, without}
+use Rattle.sccs_files.specs.StepFiles.{is_working, placed}
+use Rattle.sccs_store.specs.Commits.{Plan, chosen, committed, files_after, g_swapped, p_swapped, part_of, s_swapped, swapped}
 use Rattle.sccs_store.specs.declared.new_files.NewFile.{NewFile}
 use Rattle.sccs_store.specs.declared.new_files.NewFile.TheVariants.{Keep, Replace, Remove}
-use Rattle.sccs_store.proofs.FileNames.{from_g, from_s, no_q, no_x, no_y, s_and_g, to_g, to_s}
+use Rattle.sccs_moments.proofs.FileNames.{from_g, no_q, no_x, no_y, s_and_g, to_g, to_s}
 use Rattle.sccs_store.proofs.Swaps.{swapped_other}
 
 -- what stands under a name after one change
-swapped_at : (new : NewFile) (from to : List ℕ) (v : View) (k : List ℕ) → bytes_eq from k ≡ false → swapped new from to v k ≡ cond (bytes_eq to k) (chosen new (v from) (v to)) (v k)
+pub swapped_at : (new : NewFile) (from to : List ℕ) (v : View) (k : List ℕ) → bytes_eq from k ≡ false → swapped new from to v k ≡ cond (bytes_eq to k) (chosen new (v from) (v to)) (v k)
 swapped_at Keep from to v k h = sym (ap (λ (u : View). u k) (put_back v to))
 swapped_at Replace from to v k h = ap (λ (o : Option Content). cond (bytes_eq to k) (v from) o) (put_other v from k None h)
 swapped_at Remove from to v k h = refl

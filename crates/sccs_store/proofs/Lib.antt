@@ -1,4 +1,5 @@
 pub mod Committed
-pub mod FileNames
+pub mod Parts
+pub mod Stages
 pub mod Swaps
 pub mod Working

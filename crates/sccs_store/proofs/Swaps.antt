@@ -1,15 +1,15 @@
 -- What a commit makes of a view, change by change.
-use Rattle.std.proofs.Common.{◌≡◌, ◌⊎◌, ℕ, Bool, true, false, cond, List, drop, Option, None, Some, option_map, IfSome, IsSome, Result, Ok, Err, inl, inr, refl, sym, ap, subst, ◌∙◌}
+use Rattle.std.proofs.Common.{◌≡◌, ℕ, false, List, Option, None, Some, option_map, IfSome, IsSome, inl, inr, refl, sym, subst, ◌∙◌}
 use Rattle.std.specs.Str.{bytes_eq}
-use Rattle.sccs_base.specs.Name.{IsSfile, sibling}
+use Rattle.sccs_base.specs.Name.{sibling}
 use Rattle.sccs_disk.specs.Calls.{IsThere}
-use Rattle.sccs_disk.specs.Files.{Content, View, put}
+use Rattle.sccs_disk.specs.Files.{View, put}
 use Rattle.sccs_disk.specs.Told.{Told, seen}
 use Rattle.sccs_disk.proofs.Puts.{put_other}
-use Rattle.sccs_store.specs.Commits.{Becomes, IsPart, MayBecome, Needs, Plan, committed, g_swapped, p_swapped, part_of, s_swapped, swapped, without}
+use Rattle.sccs_store.specs.Commits.{Becomes, IsPart, MayBecome, Needs, Plan, committed, g_swapped, p_swapped, part_of, s_swapped, swapped}
+use Rattle.sccs_moments.specs.Recovery.{without}
 use Rattle.sccs_store.specs.declared.new_files.NewFile.{NewFile}
 use Rattle.sccs_store.specs.declared.new_files.NewFile.TheVariants.{Keep, Replace, Remove}
-use Rattle.sccs_store.proofs.FileNames.{from_g, from_s, s_and_g, to_g, to_s}
 use Rattle.sccs_store.proofs.Working.{becomes_both}
 
 -- ---- other names

@@ -1,25 +1,24 @@
 -- Calls that change working files, one after the other.
-use Rattle.std.proofs.Common.{◌≡◌, ℕ, Bool, false, cond, List, ◌++◌, length, take, drop, Option, None, Some, option_map, IfSome, IsSome, Result, Ok, Err, OnOk, OnErr, refl, sym, ap, subst, ◌∙◌}
+use Rattle.std.proofs.Common.{◌≡◌, ℕ, Bool, false, List, Option, None, Some, option_map, IfSome, IsSome, Result, Ok, Err, OnOk, OnErr, refl, sym, ap, subst, ◌∙◌}
 use Rattle.std.specs.Str.{bytes_eq}
-use Rattle.std.proofs.Math.Path.{fun_ext}
-use Rattle.sccs_base.specs.Name.{sibling}
 use Rattle.sccs_disk.specs.Files.{Content, Model, View, put}
 use Rattle.sccs_disk.specs.Effects.{KeepsMark, altered, empty_file, overwriting, overwritten, protected, syncing}
-use Rattle.sccs_disk.specs.Told.{Told, Tells, seen}
+use Rattle.sccs_disk.specs.Told.{Told, seen}
 use Rattle.sccs_disk.proofs.Puts.{put_again, put_other, put_same}
 use Rattle.sccs_base.specs.declared.streams.Failed.{Failed}
 use Rattle.sccs_disk.specs.Calls.{Changes, HasBytes, HasRange, IsThere, Writes}
-use Rattle.sccs_disk.specs.Images.{IsFirm}
+use Rattle.sccs_disk.specs.Images.{IsFirm, IsOwn}
 use Rattle.sccs_disk.specs.declared.disks.DiskRefusal.{DiskRefusal}
 use Rattle.sccs_disk.specs.declared.disks.DiskRefusal.TheVariants as fault
 use Rattle.sccs_writers.specs.OneFile.{OnlyWrites}
 use Rattle.sccs_writers.proofs.OneFile.{only_done, only_half, only_same, only_sync_half, only_synced}
-use Rattle.sccs_files.specs.StepFiles.{Alike, Moves, is_left, is_working}
-use Rattle.sccs_images.specs.Touches.{Grew, Leaves, Touching, TouchesOnly, earlier, newest}
-use Rattle.sccs_images.proofs.Touched.{same_touching}
+use Rattle.sccs_files.specs.StepFiles.{Moves, is_working}
+use Rattle.sccs_images.specs.Touches.{Grew, Leaves, TellsSane, Touching, TouchesOnly, earlier, newest}
+use Rattle.sccs_images.proofs.Touched.{grew_touching, only_then, only_wider, same_touching}
 use Rattle.sccs_grammar.specs.Written.{five}
-use Rattle.sccs_store.proofs.FileNames.{no_q, no_x, no_y}
-use Rattle.sccs_store.specs.Commits.{Becomes, MayBecome, cleared, summed, without}
+use Rattle.sccs_moments.proofs.Recovering.{cleared_other}
+use Rattle.sccs_store.specs.Commits.{Becomes, summed}
+use Rattle.sccs_moments.specs.Recovery.{cleared, without}
 
 -- ---- results
 
@@ -49,6 +48,12 @@ same_touches mine a b same = λ m past is. same_touching mine m past a b is same
 pub touches_from : (mine : List ℕ → Bool) (a b c : Told) → b ≡ a → TouchesOnly mine b c → TouchesOnly mine a c
 touches_from mine a b c same touches = subst (λ t. TouchesOnly mine t c) same touches
 
+-- a file that is its name's own is written, and nothing else is touched
+pub written_touches : (n : List ℕ) (mine : List ℕ → Bool) (a b d : Told) → TellsSane b → ((k : List ℕ) → mine k ≡ false → bytes_eq n k ≡ false) → TouchesOnly mine a b → Leaves (IsOwn n) a b → OnlyWrites n b d → TouchesOnly mine a d
+written_touches n mine a b d sane within touches own only = λ m past is.
+    only_then mine a b d touches
+    (λ m2 past2 is2. only_wider (bytes_eq n) mine b d within (λ m3 past3 is3. grew_touching n m3 past3 d (sane m3 past3 is3) (own m past is m3 past3 is3) (only.story m3 past3 is3)) m2 past2 is2) m past is
+
 -- ---- views
 
 pub moves_same : (mine : List ℕ → Bool) (o : Option View) → Moves mine (λ v. v) o o
@@ -74,11 +79,6 @@ becomes_moves mine f (Some v) o2 own is = subst (λ (o : Option View). Moves min
 
 pub without_moves : (n : List ℕ) (o o2 : Option View) → Becomes (without n) o o2 → Moves (bytes_eq n) (λ v. v) o o2
 without_moves n o o2 is = becomes_moves (bytes_eq n) (without n) o o2 (λ v k h. put_other v n k None h) is
-
-cleared_other : (n : List ℕ) (v : View) (k : List ℕ) → is_working n k ≡ false → cleared n v k ≡ v k
-cleared_other n v k h =
-    put_other (without (sibling 113 n) (without (sibling 120 n) v)) (sibling 121 n) k None (no_y n k h)
-    ∙ (put_other (without (sibling 120 n) v) (sibling 113 n) k None (no_q n k h) ∙ put_other v (sibling 120 n) k None (no_x n k h))
 
 pub cleared_moves : (n : List ℕ) (o o2 : Option View) → Becomes (cleared n) o o2 → Moves (is_working n) (λ v. v) o o2
 cleared_moves n o o2 is = becomes_moves (is_working n) (cleared n) o o2 (cleared_other n) is

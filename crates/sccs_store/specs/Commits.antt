@@ -1,5 +1,5 @@
 -- What locks, working files and commits make of the files of a name.
-use Rattle.std.specs.Prelude.{◌≡◌, ◌⊎◌, ℕ, ◌+◌, zero, suc, Bool, List, ◌++◌, take, drop, false, Option, None, Some, option_map, if◌then◌else◌}
+use Rattle.std.specs.Prelude.{◌≡◌, ◌⊎◌, ℕ, zero, suc, Bool, List, ◌++◌, take, drop, false, Option, None, Some, option_map, if◌then◌else◌}
 use Rattle.sccs_base.specs.Name.{sibling}
 use Rattle.sccs_disk.specs.Files.{Content, View, put}
 use Rattle.sccs_disk.specs.Effects.{empty_file, renamed}
@@ -7,6 +7,7 @@ use Rattle.sccs_disk.specs.Calls.{IsThere}
 use Rattle.sccs_disk.specs.Told.{Told}
 use Rattle.sccs_files.specs.StepFiles.{Files}
 use Rattle.sccs_grammar.specs.Written.{five}
+use Rattle.sccs_moments.specs.Recovery.{cleared, without}
 use Rattle.sccs_store.specs.declared.new_files.NewFile.{NewFile}
 use Rattle.sccs_store.specs.declared.new_files.NewFile.TheVariants.{Keep, Replace, Remove}
 
@@ -18,18 +19,11 @@ Becomes f old new = new ≡ option_map f old
 abbrev pub MayBecome : (View → View) → Option View → Option View → Type 0
 MayBecome f old new = (new ≡ old) ⊎ Becomes f old new
 
--- no file under a name
-abbrev pub without : List ℕ → View → View
-without k v = put v k None
-
 -- the z-file is there, empty
 abbrev pub locked : List ℕ → View → View
 locked n v = put v (sibling 122 n) (Some empty_file)
 
--- the x-, q- and y-file are gone, and the z-file too
-abbrev pub cleared : List ℕ → View → View
-cleared n v = without (sibling 121 n) (without (sibling 113 n) (without (sibling 120 n) v))
-
+-- the x-, q-, y- and z-file are gone
 abbrev pub abandoned : List ℕ → View → View
 abandoned n v = without (sibling 122 n) (cleared n v)
 

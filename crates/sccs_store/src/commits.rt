@@ -3,7 +3,9 @@ ghost use Rattle.sccs_base.specs.Name.{IsSfile, sibling};
 ghost use Rattle.sccs_base.specs.Stream.{Rose};
 ghost use Rattle.sccs_disk.specs.Calls.{IsThere};
 ghost use Rattle.sccs_disk.specs.Told.{seen};
-ghost use Rattle.sccs_store.specs.Commits.{Becomes, IsPart, MayBecome, Needs, committed, plan, replaced, swapped, without};
+ghost use Rattle.sccs_moments.specs.Recovery.{without};
+ghost use Rattle.sccs_store.specs.Commits.{Becomes, IsPart, MayBecome, Needs, committed, plan, replaced, swapped};
+ghost use Rattle.sccs_store.specs.Stops.{CommitEnds, CommitStops, HalfSwaps, HalfUnlocks, Swaps, Unlocks};
 
 use crate::new_files::NewFile;
 use sccs_base::{Failed, Name};
@@ -14,6 +16,8 @@ fn swap<D: Disk>(disk: &mut D, new: NewFile, from: &Name, to: &Name) -> Result<(
     requires { Needs new from.now to.now (D.told disk.old) }
     ensures ok { OnOk result (Becomes (swapped new from.now to.now) (seen (D.told disk.old)) (seen (D.told disk.new))) }
     ensures err { OnErr result (MayBecome (swapped new from.now to.now) (seen (D.told disk.old)) (seen (D.told disk.new))) }
+    ensures done { OnOk result (Swaps new from.now to.now (D.told disk.old) (D.told disk.new)) }
+    ensures half { OnErr result (HalfSwaps new from.now to.now (D.told disk.old) (D.told disk.new)) }
     ensures later { D.faults disk.old ≤ D.faults disk.new }
     ensures cause { OnErr result (Rose (D.faults disk.old) (D.faults disk.new)) }
 {
@@ -41,6 +45,8 @@ fn swap_s<D: Disk>(disk: &mut D, new_s: bool, name: &Name) -> Result<(), Failed>
     requires needs { Needs (replaced new_s) (sibling 120 name.now) name.now (D.told disk.old) }
     ensures ok { OnOk result (Becomes (swapped (replaced new_s) (sibling 120 name.now) name.now) (seen (D.told disk.old)) (seen (D.told disk.new))) }
     ensures err { OnErr result (MayBecome (swapped (replaced new_s) (sibling 120 name.now) name.now) (seen (D.told disk.old)) (seen (D.told disk.new))) }
+    ensures done { OnOk result (Swaps (replaced new_s) (sibling 120 name.now) name.now (D.told disk.old) (D.told disk.new)) }
+    ensures half { OnErr result (HalfSwaps (replaced new_s) (sibling 120 name.now) name.now (D.told disk.old) (D.told disk.new)) }
     ensures later { D.faults disk.old ≤ D.faults disk.new }
     ensures cause { OnErr result (Rose (D.faults disk.old) (D.faults disk.new)) }
 {
@@ -53,6 +59,8 @@ fn swap_p<D: Disk>(disk: &mut D, new: NewFile, name: &Name) -> Result<(), Failed
     requires needs { Needs new (sibling 113 name.now) (sibling 112 name.now) (D.told disk.old) }
     ensures ok { OnOk result (Becomes (swapped new (sibling 113 name.now) (sibling 112 name.now)) (seen (D.told disk.old)) (seen (D.told disk.new))) }
     ensures err { OnErr result (MayBecome (swapped new (sibling 113 name.now) (sibling 112 name.now)) (seen (D.told disk.old)) (seen (D.told disk.new))) }
+    ensures done { OnOk result (Swaps new (sibling 113 name.now) (sibling 112 name.now) (D.told disk.old) (D.told disk.new)) }
+    ensures half { OnErr result (HalfSwaps new (sibling 113 name.now) (sibling 112 name.now) (D.told disk.old) (D.told disk.new)) }
     ensures later { D.faults disk.old ≤ D.faults disk.new }
     ensures cause { OnErr result (Rose (D.faults disk.old) (D.faults disk.new)) }
 {
@@ -65,6 +73,8 @@ fn swap_g<D: Disk>(disk: &mut D, new: NewFile, name: &Name) -> Result<(), Failed
     requires needs { Needs new (sibling 121 name.now) (drop 2 name.now) (D.told disk.old) }
     ensures ok { OnOk result (Becomes (swapped new (sibling 121 name.now) (drop 2 name.now)) (seen (D.told disk.old)) (seen (D.told disk.new))) }
     ensures err { OnErr result (MayBecome (swapped new (sibling 121 name.now) (drop 2 name.now)) (seen (D.told disk.old)) (seen (D.told disk.new))) }
+    ensures done { OnOk result (Swaps new (sibling 121 name.now) (drop 2 name.now) (D.told disk.old) (D.told disk.new)) }
+    ensures half { OnErr result (HalfSwaps new (sibling 121 name.now) (drop 2 name.now) (D.told disk.old) (D.told disk.new)) }
     ensures later { D.faults disk.old ≤ D.faults disk.new }
     ensures cause { OnErr result (Rose (D.faults disk.old) (D.faults disk.new)) }
 {
@@ -77,6 +87,8 @@ fn unlock<D: Disk>(disk: &mut D, name: &Name) -> Result<(), Failed>
     requires there { IsThere (sibling 122 name.now) (D.told disk.old) }
     ensures ok { OnOk result (Becomes (without (sibling 122 name.now)) (seen (D.told disk.old)) (seen (D.told disk.new))) }
     ensures err { OnErr result (MayBecome (without (sibling 122 name.now)) (seen (D.told disk.old)) (seen (D.told disk.new))) }
+    ensures done { OnOk result (Unlocks (sibling 122 name.now) (D.told disk.old) (D.told disk.new)) }
+    ensures half { OnErr result (HalfUnlocks (sibling 122 name.now) (D.told disk.old) (D.told disk.new)) }
     ensures later { D.faults disk.old ≤ D.faults disk.new }
     ensures cause { OnErr result (Rose (D.faults disk.old) (D.faults disk.new)) }
 {
@@ -88,7 +100,8 @@ fn unlock<D: Disk>(disk: &mut D, name: &Name) -> Result<(), Failed>
 
 /// Puts the prepared files in the place of the old ones: x over the s-file, then q over the p-file, or
 /// the p-file is removed, then y over the g-file, or that is removed; then z is removed, and the names
-/// are synced. It takes no memory. Where it fails, recovery runs first.
+/// are synced. It takes no memory. Where it fails, recovery runs first. A stop leaves what one could leave
+/// before the commit, or what recovers to the new files; after it, only the latter.
 pub fn commit<D: Disk>(
     disk: &mut D,
     name: &Name,
@@ -103,6 +116,8 @@ pub fn commit<D: Disk>(
     requires g { Needs new_g (sibling 121 name.now) (drop 2 name.now) (D.told disk.old) }
     ensures view { OnOk result (Becomes (committed name.now (plan new_s new_p new_g)) (seen (D.told disk.old)) (seen (D.told disk.new))) }
     ensures halfway { OnErr result (IsPart name.now (plan new_s new_p new_g) (seen (D.told disk.old)) (seen (D.told disk.new))) }
+    ensures stopped { OnErr result (CommitStops name.now (plan new_s new_p new_g) (D.told disk.old) (D.told disk.new)) }
+    ensures calm { OnOk result (CommitEnds name.now (plan new_s new_p new_g) (D.told disk.old) (D.told disk.new)) }
     ensures later { D.faults disk.old ≤ D.faults disk.new }
     ensures cause { OnErr result (Rose (D.faults disk.old) (D.faults disk.new)) }
 {

@@ -9,7 +9,8 @@ ghost use Rattle.sccs_disk.specs.Images.{IsFirm, IsOwn};
 ghost use Rattle.sccs_disk.specs.Told.{seen};
 ghost use Rattle.sccs_files.specs.StepFiles.{Moves, is_left, is_working};
 ghost use Rattle.sccs_images.specs.Touches.{Leaves, TouchesOnly};
-ghost use Rattle.sccs_store.specs.Commits.{Becomes, abandoned, cleared, summed, without};
+ghost use Rattle.sccs_store.specs.Commits.{Becomes, abandoned, summed};
+ghost use Rattle.sccs_moments.specs.Recovery.{cleared, without};
 ghost use Rattle.sccs_writers.specs.OneFile.{OnlyWrites};
 
 use sccs_base::{Failed, Name};
@@ -125,8 +126,8 @@ pub fn finish_x<D: Disk>(disk: &mut D, name: &Name, sum: &Sum) -> Result<(), Dis
     write_sum(disk, &name.sibling(b'x'), sum.plain())
 }
 
-// removes one of the files of an s-file's name where it is there
-fn clear_sibling<D: Disk>(disk: &mut D, name: &Name, letter: u8) -> Result<(), Failed>
+/// Removes one of the files of an s-file's name, by its first letter, where it is there.
+pub fn clear_sibling<D: Disk>(disk: &mut D, name: &Name, letter: u8) -> Result<(), Failed>
     requires sfile { IsSfile name.now }
     requires low { 97 ≤ letter }
     requires high { letter ≤ 122 }
@@ -139,8 +140,8 @@ fn clear_sibling<D: Disk>(disk: &mut D, name: &Name, letter: u8) -> Result<(), F
     clear(disk, &name.sibling(letter))
 }
 
-// removes the x-, q- and y-file where they are there
-fn clear_working<D: Disk>(disk: &mut D, name: &Name) -> Result<(), Failed>
+/// Removes the x-, q- and y-file of an s-file's name where they are there.
+pub fn clear_working<D: Disk>(disk: &mut D, name: &Name) -> Result<(), Failed>
     requires { IsSfile name.now }
     ensures view { OnOk result (Becomes (cleared name.now) (seen (D.told disk.old)) (seen (D.told disk.new))) }
     ensures view_err { OnErr result (Moves (is_working name.now) (λ v. v) (seen (D.told disk.old)) (seen (D.told disk.new))) }

@@ -17,9 +17,10 @@ use Rattle.sccs_files.specs.StepFiles.{AreCleared, Files, Moves, MovesPartly, is
 use Rattle.sccs_steps.specs.StepEffects.{Outcome, StepEffect, effect_of}
 use Rattle.sccs_steps.specs.Calls.{Fails, Interrupted, Made, Meets, ReportCut, Uncommitted, World, world}
 use Rattle.sccs_steps.specs.Actions.{IsHeard}
-use Rattle.sccs_store.specs.Commits.{Becomes, IsPart, Plan, abandoned, cleared, committed, files_after, locked, part_of, without}
+use Rattle.sccs_store.specs.Commits.{Becomes, IsPart, Plan, abandoned, committed, files_after, locked, part_of}
+use Rattle.sccs_moments.specs.Recovery.{cleared, without}
 use Rattle.sccs_store.proofs.Committed.{committed_at, part_at}
-use Rattle.sccs_store.proofs.FileNames.{no_q, no_working, no_x, no_y, no_z}
+use Rattle.sccs_moments.proofs.FileNames.{no_q, no_working, no_x, no_y, no_z}
 use Rattle.sccs_transactions.specs.Changes.{Changing, IsPrepared, IsUnmade, Prepares, PreparesChange, locking_step, plan_of, unlocked}
 use Rattle.sccs_transactions.specs.Ends.{Finishes, GivesUp, IsCut, IsReported}
 use Rattle.sccs_transactions.specs.declared.prepared.Prepared.{Prepared}

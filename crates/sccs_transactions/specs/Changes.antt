@@ -15,7 +15,8 @@ use Rattle.sccs_steps.specs.StepEffects.{Outcome, StepEffect, check, effect_of}
 use Rattle.sccs_steps.specs.Calls.{World}
 use Rattle.sccs_steps.specs.Actions.{Action, IsHeard, Step}
 use Rattle.sccs_disk.specs.Calls.{IsThere}
-use Rattle.sccs_store.specs.Commits.{Needs, Plan, files_after, plan, without}
+use Rattle.sccs_store.specs.Commits.{Needs, Plan, files_after, plan}
+use Rattle.sccs_moments.specs.Recovery.{without}
 use Rattle.sccs_transactions.specs.declared.prepared.Prepared.{Prepared}
 
 -- What a utility makes of the files of a name that no other program has locked.

@@ -2,8 +2,8 @@ use Rattle.std.specs.Str.{bytes_eq}
 use Rattle.sccs_base.specs.Name.{sibling}
 use Rattle.sccs_files.specs.StepFiles.{is_left, is_working}
 use Rattle.sccs_images.proofs.Touched.{only_then, only_wider}
-use Rattle.sccs_store.specs.Commits.{cleared, without}
-use Rattle.sccs_store.proofs.FileNames.{no_working, no_z}
+use Rattle.sccs_moments.specs.Recovery.{cleared, without}
+use Rattle.sccs_moments.proofs.FileNames.{no_working, no_z}
 use Rattle.sccs_store.proofs.Working.{becomes_both, cleared_moves, err_map, moves_then, moves_wider, ok_map}
 use Rattle.sccs_store.proofs.working_files.abandon.Goals as goal
 

@@ -2,7 +2,7 @@ use Rattle.std.specs.Str.{bytes_eq}
 use Rattle.sccs_base.specs.Name.{sibling}
 use Rattle.sccs_files.specs.StepFiles.{is_working}
 use Rattle.sccs_images.proofs.Touched.{only_then, only_wider}
-use Rattle.sccs_store.proofs.FileNames.{no_q, no_x, no_y}
+use Rattle.sccs_moments.proofs.FileNames.{no_q, no_x, no_y}
 use Rattle.sccs_store.proofs.Working.{err_map, err_of, moves_then, moves_wider, without_moves}
 use Rattle.sccs_store.proofs.working_files.clear_working.Goals as goal
 

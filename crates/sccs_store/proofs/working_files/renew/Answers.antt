@@ -1,4 +1,3 @@
-use Rattle.std.proofs.Common.{Some}
 use Rattle.std.specs.Str.{bytes_eq}
 use Rattle.sccs_disk.specs.Images.{IsOwn}
 use Rattle.sccs_images.proofs.Touched.{only_then}

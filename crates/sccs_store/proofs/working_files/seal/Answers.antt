@@ -1,4 +1,3 @@
-use Rattle.std.proofs.Common.{Ok, Err}
 use Rattle.sccs_disk.specs.Effects.{IsAny, protected}
 use Rattle.sccs_images.proofs.Called.{sync_firm}
 use Rattle.sccs_writers.proofs.OneFile.{only_both, only_done, only_half}

@@ -1,0 +1,105 @@
+-- The names of the files of an s-file's name differ.
+use Rattle.std.proofs.Common.{◌≡◌, ℕ, false, ◌||◌, Bool, true, List, [], ◌∷◌, length, drop, take, refl, sym, ap, subst, arith, length-drop, ◌∙◌}
+use Rattle.std.specs.Str.{bytes_eq}
+use Rattle.sccs_base.specs.Name.{IsSfile, sibling}
+use Rattle.sccs_base.proofs.SameBytes.{other_bytes, same_bytes}
+use Rattle.sccs_base.proofs.Siblings.{sfile_long}
+use Rattle.sccs_files.specs.StepFiles.{is_left, is_working}
+use Rattle.sccs_moments.specs.Recovery.{begins, is_kept}
+
+-- the name of an s-file begins with s
+pub sfile_is : (n : List ℕ) → IsSfile n → n ≡ sibling 115 n
+sfile_is [] sfile = absurd (let e = sfile.front in cc)
+sfile_is (b ∷ []) sfile = absurd (let e = sfile.front in cc)
+sfile_is (b ∷ d ∷ rest) sfile = ap (λ x. x ∷ d ∷ rest) (let e = sfile.front in cc)
+
+-- the name of an s-file, and a name with another letter
+pub from_sfile : (letter : ℕ) (k n : List ℕ) → IsSfile n → bytes_eq (sibling letter k) (sibling 115 n) ≡ false → bytes_eq (sibling letter k) n ≡ false
+from_sfile letter k n sfile is = subst (λ l. bytes_eq (sibling letter k) l ≡ false) (sym (sfile_is n sfile)) is
+
+pub to_sfile : (letter : ℕ) (n k : List ℕ) → IsSfile n → bytes_eq (sibling 115 n) (sibling letter k) ≡ false → bytes_eq n (sibling letter k) ≡ false
+to_sfile letter n k sfile is = subst (λ l. bytes_eq l (sibling letter k) ≡ false) (sym (sfile_is n sfile)) is
+
+-- a sibling with another letter
+pub from_s : (letter : ℕ) (n : List ℕ) → IsSfile n → bytes_eq (sibling letter n) (sibling 115 n) ≡ false → bytes_eq (sibling letter n) n ≡ false
+from_s letter n sfile is = from_sfile letter n n sfile is
+
+pub to_s : (letter : ℕ) (n : List ℕ) → IsSfile n → bytes_eq (sibling 115 n) (sibling letter n) ≡ false → bytes_eq n (sibling letter n) ≡ false
+to_s letter n sfile is = to_sfile letter n n sfile is
+
+-- siblings of different names differ
+pub siblings_differ : (letter : ℕ) (n k : List ℕ) → IsSfile n → IsSfile k → bytes_eq n k ≡ false → bytes_eq (sibling letter n) (sibling letter k) ≡ false
+siblings_differ letter n k sfile other apart =
+    other_bytes (sibling letter n) (sibling letter k)
+    (λ e. let one : n ≡ k = sfile_is n sfile ∙ (ap (λ (l : List ℕ). 115 ∷ drop 1 l) e ∙ sym (sfile_is k other)) in
+    let test : bytes_eq n k ≡ true = subst (λ l. bytes_eq n l ≡ true) one (same_bytes n) in
+    absurd (cc))
+
+shorter : (letter : ℕ) (n : List ℕ) → IsSfile n → sibling letter n ≡ drop 2 n → ⊥
+shorter letter n sfile e = let e2 = ap length e in omega (arith, e2, length-drop 1 n, length-drop 2 n, sfile_long n sfile)
+
+pub from_g : (letter : ℕ) (n : List ℕ) → IsSfile n → bytes_eq (sibling letter n) (drop 2 n) ≡ false
+from_g letter n sfile = other_bytes (sibling letter n) (drop 2 n) (shorter letter n sfile)
+
+pub to_g : (letter : ℕ) (n : List ℕ) → IsSfile n → bytes_eq (drop 2 n) (sibling letter n) ≡ false
+to_g letter n sfile = other_bytes (drop 2 n) (sibling letter n) (λ e. shorter letter n sfile (sym e))
+
+pub s_and_g : (n : List ℕ) → IsSfile n → bytes_eq n (drop 2 n) ≡ false
+s_and_g n sfile = other_bytes n (drop 2 n) (λ e. let e2 = ap length e in omega (arith, e2, length-drop 2 n, sfile_long n sfile))
+
+-- ---- working files
+
+left_false : (x y : Bool) → (x || y) ≡ false → x ≡ false
+left_false true y h = cc
+left_false false y h = refl
+
+right_false : (x y : Bool) → (x || y) ≡ false → y ≡ false
+right_false true y h = cc
+right_false false y h = h
+
+pub no_x : (n k : List ℕ) → is_working n k ≡ false → bytes_eq (sibling 120 n) k ≡ false
+no_x n k h = left_false _ _ h
+
+pub no_q : (n k : List ℕ) → is_working n k ≡ false → bytes_eq (sibling 113 n) k ≡ false
+no_q n k h = left_false _ _ (right_false _ _ h)
+
+pub no_y : (n k : List ℕ) → is_working n k ≡ false → bytes_eq (sibling 121 n) k ≡ false
+no_y n k h = right_false _ _ (right_false _ _ h)
+
+pub no_working : (n k : List ℕ) → is_left n k ≡ false → is_working n k ≡ false
+no_working n k h = left_false _ _ h
+
+pub no_z : (n k : List ℕ) → is_left n k ≡ false → bytes_eq (sibling 122 n) k ≡ false
+no_z n k h = right_false _ _ h
+
+-- ---- s-files, p-files and z-files
+
+pub working_s : (n k : List ℕ) → IsSfile k → is_working n k ≡ false
+working_s n k sfile = subst (λ l. is_working n l ≡ false) (sym (sfile_is k sfile)) refl
+
+pub left_s : (n k : List ℕ) → IsSfile k → is_left n k ≡ false
+left_s n k sfile = subst (λ l. is_left n l ≡ false) (sym (sfile_is k sfile)) refl
+
+pub left_z : (n k : List ℕ) → IsSfile n → IsSfile k → bytes_eq n k ≡ false → is_left n (sibling 122 k) ≡ false
+left_z n k sfile other apart = siblings_differ 122 n k sfile other apart
+
+-- a name that isn't kept is none of them
+begins_not : (letter : ℕ) (k l : List ℕ) → begins letter k ≡ false → take 2 l ≡ letter ∷ 46 ∷ [] → bytes_eq k l ≡ false
+begins_not letter k l not_so front =
+    other_bytes k l
+    (λ e. let test : bytes_eq (take 2 k) (letter ∷ 46 ∷ []) ≡ true = subst (λ f. bytes_eq f (letter ∷ 46 ∷ []) ≡ true) (sym (ap (take 2) e ∙ front)) (same_bytes (letter ∷ 46 ∷ [])) in
+    absurd (cc))
+
+sibling_front : (letter : ℕ) (k : List ℕ) → IsSfile k → take 2 (sibling letter k) ≡ letter ∷ 46 ∷ []
+sibling_front letter [] sfile = absurd (let e = sfile.front in cc)
+sibling_front letter (b ∷ []) sfile = absurd (let e = sfile.front in cc)
+sibling_front letter (b ∷ d ∷ rest) sfile = ap (λ x. letter ∷ x ∷ []) (let e = sfile.front in cc)
+
+pub kept_s : (g k : List ℕ) → is_kept g ≡ false → IsSfile k → bytes_eq g k ≡ false
+kept_s g k h sfile = begins_not 115 g k (left_false _ _ h) sfile.front
+
+pub kept_p : (g k : List ℕ) → is_kept g ≡ false → IsSfile k → bytes_eq g (sibling 112 k) ≡ false
+kept_p g k h sfile = begins_not 112 g (sibling 112 k) (left_false _ _ (right_false _ _ h)) (sibling_front 112 k sfile)
+
+pub kept_z : (g k : List ℕ) → is_kept g ≡ false → IsSfile k → bytes_eq g (sibling 122 k) ≡ false
+kept_z g k h sfile = begins_not 122 g (sibling 122 k) (right_false _ _ (right_false _ _ h)) (sibling_front 122 k sfile)

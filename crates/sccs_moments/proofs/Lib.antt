@@ -1,0 +1,6 @@
+pub mod CalmDisks
+pub mod FileNames
+pub mod Full
+pub mod Joined
+pub mod Recovering
+pub mod Untouched

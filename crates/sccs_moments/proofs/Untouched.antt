@@ -1,0 +1,94 @@
+-- Calls that touch the files of a sound name that a step leaves behind lose nothing.
+use Rattle.std.proofs.Common.{◌≡◌, ℕ, Bool, false, List, [], ◌∷◌, option_map, is_some, inl, inr, refl, sym, ap, subst, ◌∙◌, ⊎_elim, arith}
+use Rattle.std.specs.Str.{bytes_eq}
+use Rattle.sccs_base.specs.Name.{IsSfile, sibling}
+use Rattle.sccs_disk.specs.Files.{File, Model, View, view_of}
+use Rattle.sccs_disk.specs.Images.{Allows, Image}
+use Rattle.sccs_disk.specs.Told.{Told}
+use Rattle.sccs_disk.proofs.Puts.{name_cases}
+use Rattle.sccs_files.specs.StepFiles.{is_left, is_working}
+use Rattle.sccs_images.specs.Touches.{Each, Touches, Touching, newest}
+use Rattle.sccs_images.proofs.Touched.{each_newest}
+use Rattle.sccs_moments.specs.Calm.{IsCalm, KeepsPairs}
+use Rattle.sccs_moments.specs.Moments.{Guarded, IsAt, IsFrom, Stays, Went}
+use Rattle.sccs_moments.specs.Recovery.{IsSound, pair_of}
+use Rattle.sccs_moments.proofs.CalmDisks.{calm_kept}
+use Rattle.sccs_moments.proofs.FileNames.{left_s, left_z, working_s}
+use Rattle.sccs_moments.proofs.Joined.{numbered_as, numbered_now, numbered_zero}
+use Rattle.sccs_moments.proofs.Recovering.{p_of, pair_same, recovered_at, recovered_same, recovers_from, recovers_to, s_of, same_recovers, sound_recovered}
+
+-- ---- views
+
+-- the same pair, and the name sound
+sound_alike : (n : List ℕ) (v w : View) → IsSound n v → pair_of w n ≡ pair_of v n → recovered_at w n ≡ recovered_at v n
+sound_alike n v w sound same =
+    recovered_same (w n) (v n) (w (sibling 112 n)) (v (sibling 112 n)) (is_some (w (sibling 122 n))) (is_some (w (sibling 122 n))) (ap s_of same) (ap p_of same) refl
+    ∙ (sound_recovered (v n) (v (sibling 112 n)) (is_some (w (sibling 122 n))) sound ∙ sym (sound_recovered (v n) (v (sibling 112 n)) (is_some (v (sibling 122 n))) sound))
+
+-- a view that has the pairs of v, but for what a step leaves behind
+keeps_pairs : (n : List ℕ) (v u w : View) → IsSfile n → IsSound n v → KeepsPairs v u → ((k : List ℕ) → is_left n k ≡ false → u k ≡ w k) → KeepsPairs v w
+keeps_pairs n v u w sfile sound keeps same = record {
+  pairs = pairs;
+  recovers = recovers_from v w (λ k other. ⊎_elim (λ e. subst (λ l. recovered_at w l ≡ recovered_at v l) e (sound_alike n v w sound (pairs n sfile))) (λ apart. elsewhere k other apart) (name_cases n k));
+}
+  where
+    pairs : (k : List ℕ) → IsSfile k → pair_of w k ≡ pair_of v k
+    pairs k other = pair_same _ _ _ _ (sym (same k (left_s n k other)) ∙ ap s_of (keeps.pairs k other)) (sym (same (sibling 112 k) refl) ∙ ap p_of (keeps.pairs k other))
+
+    elsewhere : (k : List ℕ) → IsSfile k → bytes_eq n k ≡ false → recovered_at w k ≡ recovered_at v k
+    elsewhere k other apart =
+        recovered_same (w k) (u k) (w (sibling 112 k)) (u (sibling 112 k)) (is_some (w (sibling 122 k))) (is_some (u (sibling 122 k)))
+        (sym (same k (left_s n k other))) (sym (same (sibling 112 k) refl)) (ap is_some (sym (same (sibling 122 k) (left_z n k sfile other apart))))
+        ∙ recovers_to v u keeps.recovers k other
+
+-- ---- moments
+
+view_touched : (mine : List ℕ → Bool) (m m2 : Model) (k : List ℕ) → Touches mine m m2 → mine k ≡ false → view_of m2 k ≡ view_of m k
+view_touched mine m m2 k touches h = ap (option_map (λ (f : File). f.content)) (touches.files k h)
+
+pair_touched : (mine : List ℕ → Bool) (m m2 : Model) (k : List ℕ) → Touches mine m m2 → mine k ≡ false → mine (sibling 112 k) ≡ false → pair_of (view_of m2) k ≡ pair_of (view_of m) k
+pair_touched mine m m2 k touches s p = pair_same _ _ _ _ (view_touched mine m m2 k touches s) (view_touched mine m m2 (sibling 112 k) touches p)
+
+-- no s-file and no p-file changes
+pub guards_touched : (mine : List ℕ → Bool) (m : Model) (added : List Model) → ((k : List ℕ) → IsSfile k → mine k ≡ false) → ((k : List ℕ) → IsSfile k → mine (sibling 112 k) ≡ false) → Each (Touches mine m) added m → Guarded added m
+guards_touched mine m [] s p each = tt
+guards_touched mine m (a ∷ added) s p each =
+    (λ k sfile. inl (pair_touched mine m a k each.0 (s k sfile) (p k sfile) ∙ sym (pair_touched mine m (newest added m) k (each_newest (Touches mine m) added m each.1) (s k sfile) (p k sfile))), guards_touched mine m added s p each.1)
+
+keeps_image : (n : List ℕ) (m m2 : Model) → IsSfile n → IsCalm m → IsSound n (view_of m) → Touches (is_left n) m m2 → Allows (KeepsPairs (view_of m)) m2
+keeps_image n m m2 sfile calm sound touches = λ w image.
+    let before : (u : View) × Image m u × ((k : List ℕ) → is_left n k ≡ false → u k ≡ w k) = touches.images w image in
+    keeps_pairs n (view_of m) before.0 w sfile sound (calm before.0 before.1) before.2
+
+-- From a calm disk on, each image of each moment has the old pairs.
+pub stays_touched : (n : List ℕ) (m : Model) (past : List Model) (new : Told) → IsSfile n → IsCalm m → IsSound n (view_of m) → Touching (is_left n) m past new → Stays (view_of m) m past new
+stays_touched n m past new sfile calm sound run = record {
+  added = run.added;
+  is = run.is;
+  numbers = numbered_zero (Touches (is_left n) m) (λ i m2. Allows (KeepsPairs (view_of m)) m2) run.added m (λ m2 touches. keeps_image n m m2 sfile calm sound touches) run.each;
+  guarded = guards_touched (is_left n) m run.added (λ k other. left_s n k other) (λ k other. refl) run.each;
+}
+
+-- and the disk is calm
+pub calm_stayed : (v : View) (m : Model) (past : List Model) (new : Told) → (went : Stays v m past new) → IsCalm (newest went.added m)
+calm_stayed v m past new went = calm_kept v (newest went.added m) (numbered_now (λ i m2. Allows (KeepsPairs v) m2) 0 went.added m 0 went.numbers)
+
+pub calm_touched : (n : List ℕ) (m m2 : Model) → IsSfile n → IsCalm m → IsSound n (view_of m) → Touches (is_left n) m m2 → IsCalm m2
+calm_touched n m m2 sfile calm sound touches = calm_kept (view_of m) m2 (keeps_image n m m2 sfile calm sound touches)
+
+-- a run that keeps the pairs is one at the number 0 of any step from the view
+pub went_at : (v w : View) (m : Model) (past : List Model) (new : Told) → (went : Stays v m past new) → Went (IsAt v w) m past 0 new
+went_at v w m past new went = record {
+  added = went.added;
+  is = went.is;
+  numbers = numbered_as (λ i m2. Allows (KeepsPairs v) m2) (λ i m2. Allows (IsAt v w i) m2) 0 went.added m 0 (λ i low m2 keeps u image. inr (omega (arith, low), (keeps u image).recovers)) went.numbers;
+  guarded = went.guarded;
+}
+
+-- ---- working files alone
+
+-- a folder that differs in working files from one that a stop leaves
+pub from_touched : (n : List ℕ) (m m2 : Model) → Touches (is_working n) m m2 → Allows (IsFrom m) m2
+from_touched n m m2 touches = λ w image.
+    let before : (u : View) × Image m u × ((k : List ℕ) → is_working n k ≡ false → u k ≡ w k) = touches.images w image in
+    (before.0, before.1, same_recovers before.0 w (λ k sfile. sym (before.2 k (working_s n k sfile))) (λ k sfile. sym (before.2 (sibling 112 k) refl)) (λ k sfile. ap is_some (sym (before.2 (sibling 122 k) refl))))

@@ -1,0 +1,66 @@
+-- The moments of a call: each has a number, which never falls, and what a stop may leave of it.
+use Rattle.std.specs.Prelude.{◌≡◌, ◌⊎◌, ◌≤◌, ℕ, false, List, [], ◌∷◌, IsSome}
+use Rattle.std.specs.Str.{bytes_eq}
+use Rattle.sccs_base.specs.Name.{IsSfile, sibling}
+use Rattle.sccs_disk.specs.Files.{View, Model, view_of}
+use Rattle.sccs_disk.specs.Images.{Allows, Image}
+use Rattle.sccs_disk.specs.Told.{Told, Tells}
+use Rattle.sccs_images.specs.Touches.{earlier, newest}
+use Rattle.sccs_moments.specs.Calm.{HasFirm, IsCalm, KeepsPairs}
+use Rattle.sccs_moments.specs.Recovery.{RecoversAs, pair_of, recover}
+
+-- Each moment has a number, which never falls from one to the next: from low at the start to j now.
+abbrev pub Numbered : (ℕ → Model → Type 0) → ℕ → List Model → Model → ℕ → Type 0
+Numbered P low [] m j = (low ≤ j) × P j m
+Numbered P low (a ∷ added) m j = P j a × ((i : ℕ) × (i ≤ j) × Numbered P low added m i)
+
+-- where an s-file or its p-file differs, its z-file is in both views
+abbrev pub Guards : View → View → Type 0
+Guards v w = (n : List ℕ) → IsSfile n → (pair_of w n ≡ pair_of v n) ⊎ (IsSome (v (sibling 122 n)) × IsSome (w (sibling 122 n)))
+
+-- from each moment to the next no s-file or p-file changes whose z-file isn't there
+abbrev pub Guarded : List Model → Model → Type 0
+Guarded [] m = Unit {0}
+Guarded (a ∷ added) m = Guards (view_of (newest added m)) (view_of a) × Guarded added m
+
+-- The story went on from a model: P holds of each moment's number and each of its images, and the last number is j.
+pub record Went (P : ℕ → View → Type 0) (m : Model) (past : List Model) (j : ℕ) (new : Told) : Type 0 where
+  pub added : List Model
+  pub is : new ≡ Tells (newest added m) (earlier added m past)
+  pub numbers : Numbered (λ i m2. Allows (P i) m2) 0 added m j
+  pub guarded : Guarded added m
+
+-- a folder that recovers as w, or as v while j is 0
+abbrev pub IsAt : View → View → ℕ → View → Type 0
+IsAt v w j u = RecoversAs w u ⊎ ((j ≡ 0) × RecoversAs v u)
+
+-- a folder that recovers as w, or one that a stop could leave at the start, while j is 0
+abbrev pub IsNew : Model → View → ℕ → View → Type 0
+IsNew m w j u = RecoversAs w u ⊎ ((j ≡ 0) × Image m u)
+
+-- the story went on, and each image of each moment has the s-files and p-files of a view, and recovers as it does
+abbrev pub Stays : View → Model → List Model → Told → Type 0
+Stays v m past new = Went (λ j w. KeepsPairs v w) m past 0 new
+
+-- w recovers as some folder that a stop leaves
+abbrev pub IsFrom : Model → View → Type 0
+IsFrom m w = (u : View) × Image m u × RecoversAs u w
+
+-- where s-files and p-files are firm, a stop leaves a folder that recovers as one that a stop could leave at the start
+abbrev pub RecoversOn : Told → Told → Type 0
+RecoversOn old new = (m : Model) (past : List Model) → old ≡ Tells m past → HasFirm m → Went (λ j w. IsFrom m w) m past 0 new
+
+-- where s-files and p-files were firm, the disk is calm
+abbrev pub LeavesCalm : Told → Told → Type 0
+LeavesCalm old new = (m : Model) (past : List Model) → old ≡ Tells m past → HasFirm m → (m2 : Model) (past2 : List Model) → new ≡ Tells m2 past2 → IsCalm m2
+
+-- ---- name by name
+
+-- the two views have the same s-file, p-file and z-file of every other name
+abbrev pub SameElsewhere : List ℕ → View → View → Type 0
+SameElsewhere n v w = (k : List ℕ) → IsSfile k → bytes_eq n k ≡ false → (pair_of w k ≡ pair_of v k) × (w (sibling 122 k) ≡ v (sibling 122 k))
+
+-- The step's name recovers as in w, or as in v while j is 0, and every other name as in v.
+pub record IsAtName (n : List ℕ) (v w : View) (j : ℕ) (u : View) : Type 0 where
+  pub own : (pair_of (recover n u) n ≡ pair_of (recover n w) n) ⊎ ((j ≡ 0) × (pair_of (recover n u) n ≡ pair_of (recover n v) n))
+  pub others : (k : List ℕ) → IsSfile k → bytes_eq n k ≡ false → pair_of (recover k u) k ≡ pair_of (recover k v) k

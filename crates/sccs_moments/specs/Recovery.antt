@@ -1,0 +1,47 @@
+-- What recovery makes of the files of a name, and views that recover alike.
+use Rattle.std.specs.Prelude.{◌≡◌, ◌||◌, ℕ, Bool, List, [], ◌∷◌, take, Option, None, is_some, if◌then◌else◌}
+use Rattle.std.specs.Str.{bytes_eq}
+use Rattle.sccs_base.specs.Name.{IsSfile, sibling}
+use Rattle.sccs_disk.specs.Files.{Content, View, put}
+use Rattle.sccs_pfile.specs.Recovered.{recovered_pfile}
+
+-- no file under a name
+abbrev pub without : List ℕ → View → View
+without k v = put v k None
+
+-- the x-, q- and y-file are gone
+abbrev pub cleared : List ℕ → View → View
+cleared n v = without (sibling 121 n) (without (sibling 113 n) (without (sibling 120 n) v))
+
+-- the working files are gone, and the entries whose delta is made
+abbrev pub cleaned : List ℕ → View → View
+cleaned n v = put (cleared n v) (sibling 112 n) (recovered_pfile (v n) (v (sibling 112 n)))
+
+-- The view after recovery (own). Where the z-file is there, x, q and y go, entries whose delta is made leave the p-file, and z
+-- goes; where it isn't, y goes alone.
+abbrev pub recover : List ℕ → View → View
+recover n v = if is_some (v (sibling 122 n)) then without (sibling 122 n) (cleaned n v) else without (sibling 121 n) v
+
+-- an s-file and its p-file
+pub record Pair : Type 0 where
+  pub s : Option Content
+  pub p : Option Content
+
+abbrev pub pair_of : View → List ℕ → Pair
+pair_of v n = record { s = v n; p = v (sibling 112 n) }
+
+-- w recovers to the s-files and p-files to which v recovers
+abbrev pub RecoversAs : View → View → Type 0
+RecoversAs v w = (n : List ℕ) → IsSfile n → pair_of (recover n w) n ≡ pair_of (recover n v) n
+
+-- no entry of the p-file has its delta in the s-file: recovery would leave the p-file as it is
+abbrev pub IsSound : List ℕ → View → Type 0
+IsSound n v = recovered_pfile (v n) (v (sibling 112 n)) ≡ v (sibling 112 n)
+
+-- a name begins with this letter and a dot
+abbrev pub begins : ℕ → List ℕ → Bool
+begins letter k = bytes_eq (take 2 k) (letter ∷ 46 ∷ [])
+
+-- the names that s-files, p-files and z-files have begin so
+abbrev pub is_kept : List ℕ → Bool
+is_kept k = begins 115 k || (begins 112 k || begins 122 k)
