@@ -32,6 +32,11 @@ numbered_as P Q low [] m j as_q numbers = (numbers.0, as_q j (omega arith) m num
 numbered_as P Q low (a ∷ added) m j as_q numbers =
     (as_q j (omega arith) a numbers.0, (numbers.1.0, numbers.1.1, numbered_as P Q low added m numbers.1.0 (λ i below. as_q i (let high = numbers.1.1 in omega (arith, below, high))) numbers.1.2))
 
+-- what is said of each moment, whatever its number
+pub numbered_plain : (P : ℕ → Model → Type 0) (Q : Model → Type 0) (low : ℕ) (added : List Model) (m : Model) (j : ℕ) → ((i : ℕ) (m2 : Model) → P i m2 → Q m2) → Numbered P low added m j → Numbered (λ i m2. Q m2) 0 added m 0
+numbered_plain P Q low [] m j as_q numbers = (omega arith, as_q j m numbers.1)
+numbered_plain P Q low (a ∷ added) m j as_q numbers = (as_q j a numbers.0, (0, omega arith, numbered_plain P Q low added m numbers.1.0 as_q numbers.1.2))
+
 -- ---- guards
 
 pub guarded_joined : (later added : List Model) (m : Model) → Guarded added m → Guarded later (newest added m) → Guarded (later ++ added) m

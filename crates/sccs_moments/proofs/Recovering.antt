@@ -1,14 +1,14 @@
 -- What recovery makes of an s-file and its p-file.
-use Rattle.std.proofs.Common.{◌≡◌, ℕ, Bool, true, false, cond, List, Option, None, is_some, inl, inr, refl, sym, ap, ◌∙◌}
+use Rattle.std.proofs.Common.{◌≡◌, ℕ, Bool, true, false, cond, List, Option, None, is_some, inl, inr, refl, sym, ap, ◌∙◌, subst, ⊎_elim}
 use Rattle.std.specs.Str.{bytes_eq}
 use Rattle.sccs_base.specs.Name.{IsSfile, sibling}
 use Rattle.sccs_disk.specs.Files.{Content, View, put}
-use Rattle.sccs_disk.proofs.Puts.{put_back, put_other, put_same}
+use Rattle.sccs_disk.proofs.Puts.{name_cases, put_back, put_other, put_same}
 use Rattle.sccs_files.specs.StepFiles.{is_working}
 use Rattle.sccs_pfile.specs.Recovered.{recovered_pfile}
 use Rattle.sccs_moments.specs.Moments.{IsAt, IsAtName, SameElsewhere}
 use Rattle.sccs_moments.specs.Recovery.{IsSound, Pair, RecoversAs, cleaned, cleared, pair_of, recover, without}
-use Rattle.sccs_moments.proofs.FileNames.{from_sfile, no_q, no_x, no_y, working_s}
+use Rattle.sccs_moments.proofs.FileNames.{from_sfile, no_q, no_x, no_y, siblings_differ, working_s}
 
 abbrev pub pair : Option Content → Option Content → Pair
 pair s p = record { s = s; p = p }
@@ -39,7 +39,7 @@ cleared_other n v k h =
     ∙ (put_other (without (sibling 120 n) v) (sibling 113 n) k None (no_q n k h) ∙ put_other v (sibling 120 n) k None (no_x n k h))
 
 -- recovery, by whether the z-file is there
-abbrev recover_by : List ℕ → View → Bool → View
+abbrev pub recover_by : List ℕ → View → Bool → View
 recover_by n v z = cond z (without (sibling 122 n) (cleaned n v)) (without (sibling 121 n) v)
 
 by_lock : (n : List ℕ) (v : View) (z : Bool) → IsSfile n → pair_of (recover_by n v z) n ≡ recovered (v n) (v (sibling 112 n)) z
@@ -99,6 +99,25 @@ once_by n v false is = nothing_to_do n (without (sibling 121 n) v) is (put_same 
 
 pub recovered_once : (n : List ℕ) (v : View) → recover n (recover n v) ≡ recover n v
 recovered_once n v = once_by n v (is_some (v (sibling 122 n))) refl
+
+-- ---- other names
+
+-- recovery of a name leaves the files of every other name
+left_alone : (n k : List ℕ) (v : View) (z : Bool) → IsSfile n → IsSfile k → bytes_eq n k ≡ false → recovered_at (recover_by n v z) k ≡ recovered_at v k
+left_alone n k v true sfile other apart =
+    recovered_same _ (v k) _ (v (sibling 112 k)) _ (is_some (v (sibling 122 k)))
+    (put_other (cleaned n v) (sibling 122 n) k None (from_sfile 122 n k other refl)
+      ∙ (put_other (cleared n v) (sibling 112 n) k (recovered_pfile (v n) (v (sibling 112 n))) (from_sfile 112 n k other refl) ∙ cleared_other n v k (working_s n k other)))
+    (put_other (cleared n v) (sibling 112 n) (sibling 112 k) (recovered_pfile (v n) (v (sibling 112 n))) (siblings_differ 112 n k sfile other apart))
+    (ap is_some (put_other (cleaned n v) (sibling 122 n) (sibling 122 k) None (siblings_differ 122 n k sfile other apart)))
+left_alone n k v false sfile other apart = recovered_same _ (v k) _ (v (sibling 112 k)) _ (is_some (v (sibling 122 k))) (put_other v (sibling 121 n) k None (from_sfile 121 n k other refl)) refl refl
+
+-- what recovery made recovers as what it was made of
+pub recovers_recovered : (n : List ℕ) (v : View) → IsSfile n → RecoversAs v (recover n v)
+recovers_recovered n v sfile =
+    λ k other. ⊎_elim (λ e. subst (λ l. pair_of (recover l (recover n v)) l ≡ pair_of (recover l v) l) e (ap (λ (w : View). pair_of w n) (recovered_once n v)))
+    (λ apart. recovered_is k (recover n v) other ∙ (left_alone n k v (is_some (v (sibling 122 n))) sfile other apart ∙ sym (recovered_is k v other)))
+    (name_cases n k)
 
 -- ---- name by name
 
