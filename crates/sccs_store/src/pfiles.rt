@@ -8,7 +8,7 @@ ghost use Rattle.sccs_disk.specs.Files.{put};
 ghost use Rattle.sccs_disk.specs.Images.{IsFirm};
 ghost use Rattle.sccs_disk.specs.Told.{seen};
 ghost use Rattle.sccs_files.specs.StepFiles.{Moves};
-ghost use Rattle.sccs_images.specs.Touches.{Leaves};
+ghost use Rattle.sccs_images.specs.Touches.{Leaves, TouchesOnly};
 ghost use Rattle.sccs_pfile.specs.Entries.{IsEdit};
 ghost use Rattle.sccs_pfile.specs.Recovered.{written_pfile};
 ghost use Rattle.sccs_pfile.specs.Written.{edits_text};
@@ -58,6 +58,7 @@ pub fn prepare_p<D: Disk>(edits: &Edits, disk: &mut D, name: &Name) -> Result<()
     requires edits { All IsEdit edits.now }
     ensures view { OnOk result (Becomes (λ v. put v (sibling 113 name.now) (Some (written_pfile edits.now))) (seen (D.told disk.old)) (seen (D.told disk.new))) }
     ensures view_err { OnErr result (Moves (bytes_eq (sibling 113 name.now)) (λ v. v) (seen (D.told disk.old)) (seen (D.told disk.new))) }
+    ensures touches { TouchesOnly (bytes_eq (sibling 113 name.now)) (D.told disk.old) (D.told disk.new) }
     ensures firm { OnOk result (Leaves (IsFirm (sibling 113 name.now)) (D.told disk.old) (D.told disk.new)) }
     ensures later { D.faults disk.old ≤ D.faults disk.new }
     ensures cause { IsErrOf result DiskRefusal.Failed → Rose (D.faults disk.old) (D.faults disk.new) }

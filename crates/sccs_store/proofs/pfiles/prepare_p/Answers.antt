@@ -4,7 +4,7 @@ use Rattle.sccs_disk.specs.Effects.{appended, empty_file}
 use Rattle.sccs_disk.specs.Images.{IsFirm}
 use Rattle.sccs_disk.specs.Told.{seen}
 use Rattle.sccs_pfile.specs.Written.{edits_text}
-use Rattle.sccs_store.proofs.Working.{err_of, leaves_from, made_and_changed, made_moves, made_there, moves_then, ok_map}
+use Rattle.sccs_store.proofs.Working.{err_of, leaves_from, made_and_changed, made_moves, made_there, moves_then, ok_map, written_touches}
 use Rattle.sccs_store.proofs.pfiles.prepare_p.Goals as goal
 
 pub append_q-requires-clause-there : goal.append_q-requires-clause-there
@@ -21,3 +21,7 @@ returns-clause-view_err g c =
 pub returns-clause-firm : goal.returns-clause-firm
 returns-clause-firm g c =
     ok_map c.append_q.result (leaves_from (IsFirm (sibling 113 c.args.name.now)) (bytes_eq (sibling 113 c.args.name.now)) _ (g.D.Disk.told c.start.new.disk) _ c.start.ensures.touches) c.append_q.ensures.firm
+
+pub returns-clause-touches : goal.returns-clause-touches
+returns-clause-touches g c =
+    written_touches (sibling 113 c.args.name.now) (bytes_eq (sibling 113 c.args.name.now)) _ (g.D.Disk.told c.start.new.disk) _ (g.met.D.Disk.sane c.start.new.disk) (λ k h. h) c.start.ensures.touches c.in_ok-start.ensures.own c.append_q.ensures.only
