@@ -1,0 +1,3 @@
+mod EntryLists
+mod ReadingLaws
+mod RecoveryLaws

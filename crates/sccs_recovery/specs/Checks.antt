@@ -1,0 +1,67 @@
+-- The checks that recovery makes where it finds a z-file (own), and their order.
+use Rattle.std.specs.Prelude.{◌≡◌, ℕ, Bool, true, List, [], length, nat_lt, Option, None, Some, is_some, option_map, Result, Ok, Err, if◌then◌else◌}
+use Rattle.sccs_base.specs.Name.{sibling}
+use Rattle.sccs_disk.specs.Files.{Content, View}
+use Rattle.sccs_sid.specs.Reading.{◌>>=◌}
+use Rattle.sccs_sid.specs.declared.refusals.Refusal.{Refusal}
+use Rattle.sccs_sid.specs.declared.refusals.Refusal.TheVariants.{BadPfile, TooLong}
+use Rattle.sccs_sid.specs.declared.refusals.StepFault.{StepFault}
+use Rattle.sccs_sid.specs.declared.refusals.StepFault.TheVariants.{Refused}
+use Rattle.sccs_history.specs.declared.headers.Record.{Record}
+use Rattle.sccs_grammar.specs.File.{answer, file_of}
+use Rattle.sccs_grammar.specs.FileRefusals.{or_refusal}
+use Rattle.sccs_table.specs.declared.fronts.Front.{Front}
+use Rattle.sccs_pfile.specs.Reading.{edits_of}
+use Rattle.sccs_pfile.specs.declared.entries.Edit.{Edit}
+
+-- the bytes of a file, where it is there; a file past the limit is refused
+abbrev pub bytes_read : Option Content → Result (Option (List ℕ)) Refusal
+bytes_read None = Ok None
+bytes_read (Some c) = if nat_lt 1073741824 (length c.bytes) then Err TooLong else Ok (Some c.bytes)
+
+-- the delta table of an s-file, where it is there
+abbrev pub table_read : Option Content → Result (Option (List Record)) Refusal
+table_read None = Ok None
+table_read (Some c) = or_refusal (answer file_of (Some c.bytes)) >>= λ f. Ok (Some f.header.records)
+
+abbrev pub as_pfile : Result (List Edit) ℕ → Result (List Edit) Refusal
+as_pfile (Ok edits) = Ok edits
+as_pfile (Err line) = Err (BadPfile line)
+
+-- the entries of a p-file; none where it isn't there
+abbrev pub entries_read : Option (List ℕ) → Result (List Edit) Refusal
+entries_read None = Ok []
+entries_read (Some bytes) = as_pfile (edits_of bytes)
+
+-- The checks in their order: no file past the limit, an s-file that can be read where one is there, and a p-file.
+unfoldable pub readable : Option Content → Option Content → Result Bool Refusal
+readable s p = do
+  bytes ← bytes_read p
+  table ← table_read s
+  edits ← entries_read bytes
+  Ok true
+
+-- the same of a view; they are made only where the z-file is there
+abbrev pub checked : List ℕ → View → Result Bool Refusal
+checked n v = if is_some (v (sibling 122 n)) then readable (v n) (v (sibling 112 n)) else Ok true
+
+-- what a call returned is what is read, or its refusal; a fault may come in place of either
+abbrev pub Reads : {A : Type 0} → Result A Refusal → Result A StepFault → Type 0
+Reads read (Ok x) = read ≡ Ok x
+Reads read (Err (Refused refusal)) = read ≡ Err refusal
+Reads read (Err fault) = Unit {0}
+
+-- the table of a front that was read
+abbrev pub table_in : Option Front → Option (List Record)
+table_in front = option_map (λ (f : Front). f.header.records) front
+
+abbrev pub ReadsTable : Result (Option (List Record)) Refusal → Result (Option Front) StepFault → Type 0
+ReadsTable read (Ok front) = read ≡ Ok (table_in front)
+ReadsTable read (Err (Refused refusal)) = read ≡ Err refusal
+ReadsTable read (Err fault) = Unit {0}
+
+-- the checks pass, or the first that fails is answered
+abbrev pub Passes : {A : Type 0} → Result Bool Refusal → Result A StepFault → Type 0
+Passes checks (Ok x) = checks ≡ Ok true
+Passes checks (Err (Refused refusal)) = checks ≡ Err refusal
+Passes checks (Err fault) = Unit {0}

@@ -1,0 +1,8 @@
+//! Recovery of a name on which a step was stopped: what the step began is finished or undone.
+#![tactic(auto)]
+
+mod entries_left;
+mod readings;
+mod recoveries;
+
+pub use recoveries::{Recovered, recover};
