@@ -55,13 +55,13 @@ guards_touched mine m [] s p each = tt
 guards_touched mine m (a ∷ added) s p each =
     (λ k sfile. inl (pair_touched mine m a k each.0 (s k sfile) (p k sfile) ∙ sym (pair_touched mine m (newest added m) k (each_newest (Touches mine m) added m each.1) (s k sfile) (p k sfile))), guards_touched mine m added s p each.1)
 
-keeps_image : (n : List ℕ) (m m2 : Model) → IsSfile n → IsCalm m → IsSound n (view_of m) → Touches (is_left n) m m2 → Allows (KeepsPairs (view_of m)) m2
+pub keeps_image : (n : List ℕ) (m m2 : Model) → IsSfile n → IsCalm m → IsSound n (view_of m) → Touches (is_left n) m m2 → Allows (KeepsPairs (view_of m)) m2
 keeps_image n m m2 sfile calm sound touches = λ w image.
     let before : (u : View) × Image m u × ((k : List ℕ) → is_left n k ≡ false → u k ≡ w k) = touches.images w image in
     keeps_pairs n (view_of m) before.0 w sfile sound (calm before.0 before.1) before.2
 
 -- From a calm disk on, each image of each moment has the old pairs.
-pub stays_touched : (n : List ℕ) (m : Model) (past : List Model) (new : Told) → IsSfile n → IsCalm m → IsSound n (view_of m) → Touching (is_left n) m past new → Stays (view_of m) m past new
+abbrev pub stays_touched : (n : List ℕ) (m : Model) (past : List Model) (new : Told) → IsSfile n → IsCalm m → IsSound n (view_of m) → Touching (is_left n) m past new → Stays (view_of m) m past new
 stays_touched n m past new sfile calm sound run = record {
   added = run.added;
   is = run.is;
@@ -77,7 +77,7 @@ pub calm_touched : (n : List ℕ) (m m2 : Model) → IsSfile n → IsCalm m → 
 calm_touched n m m2 sfile calm sound touches = calm_kept (view_of m) m2 (keeps_image n m m2 sfile calm sound touches)
 
 -- a run that keeps the pairs is one at the number 0 of any step from the view
-pub went_at : (v w : View) (m : Model) (past : List Model) (new : Told) → (went : Stays v m past new) → Went (IsAt v w) m past 0 new
+abbrev pub went_at : (v w : View) (m : Model) (past : List Model) (new : Told) → (went : Stays v m past new) → Went (IsAt v w) m past 0 new
 went_at v w m past new went = record {
   added = went.added;
   is = went.is;

@@ -42,6 +42,22 @@ IsNew m w j u = RecoversAs w u ⊎ ((j ≡ 0) × Image m u)
 abbrev pub Stays : View → Model → List Model → Told → Type 0
 Stays v m past new = Went (λ j w. KeepsPairs v w) m past 0 new
 
+-- ---- where the call of a step from v to w ends that began on a calm disk
+
+-- Before it: each image of each moment has the old s-files and p-files, and the disk is calm.
+abbrev pub EndsBefore : View → Model → List Model → Told → Type 0
+EndsBefore v m past new = (went : Stays v m past new) × IsCalm (newest went.added m)
+
+-- Within it: each image of each moment recovers as before or as after it, and s-files and p-files are firm, so that recovery may run.
+abbrev pub EndsWithin : View → View → Model → List Model → Told → Type 0
+EndsWithin v w m past new = (went : Went (IsAt v w) m past 0 new) × HasFirm (newest went.added m)
+
+-- After it: the same of each moment; now each image recovers as after it, and the disk is calm.
+abbrev pub EndsAfter : View → View → Model → List Model → Told → Type 0
+EndsAfter v w m past new = (went : Went (IsAt v w) m past 1 new) × IsCalm (newest went.added m)
+
+-- ---- recovery
+
 -- w recovers as some folder that a stop leaves
 abbrev pub IsFrom : Model → View → Type 0
 IsFrom m w = (u : View) × Image m u × RecoversAs u w

@@ -184,8 +184,7 @@ can_commit n new m m1 sfile firm q there view = record {
   x_file = tt;
   q_file = q;
   plain = tt;
-  leaves = tt;
-  sound = sound;
+  entries = record { leaves = tt; sound = sound };
 }
   where
     pairs : pair (files_after n (plan_left new) (view_of m1)).s (files_after n (plan_left new) (view_of m1)).p ≡ pair (view_of m n) (recovered_pfile (view_of m n) (view_of m (sibling 112 n)))

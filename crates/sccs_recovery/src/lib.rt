@@ -4,5 +4,7 @@
 mod entries_left;
 mod readings;
 mod recoveries;
+#[cfg(test)]
+mod tests;
 
 pub use recoveries::{Recovered, recover};

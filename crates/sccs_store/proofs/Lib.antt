@@ -3,3 +3,4 @@ pub mod Parts
 pub mod Stages
 pub mod Swaps
 pub mod Working
+pub mod WholeSteps

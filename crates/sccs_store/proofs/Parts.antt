@@ -249,7 +249,7 @@ new_pair n c m = pair (files_after n c (view_of m)).s (files_after n c (view_of 
 new_recovered : (n : List ℕ) (c : Plan) (m : Model) → CanCommit n c m → (w : View) → pair_of w n ≡ new_pair n c m → recovered_at w n ≡ new_pair n c m
 new_recovered n c m can w same =
     recovered_same (w n) (files_after n c (view_of m)).s (w (sibling 112 n)) (files_after n c (view_of m)).p (is_some (w (sibling 122 n))) (is_some (w (sibling 122 n))) (ap s_of same) (ap p_of same) refl
-    ∙ sound_recovered (files_after n c (view_of m)).s (files_after n c (view_of m)).p (is_some (w (sibling 122 n))) can.sound
+    ∙ sound_recovered (files_after n c (view_of m)).s (files_after n c (view_of m)).p (is_some (w (sibling 122 n))) can.entries.sound
 
 other_recovered : (n k : List ℕ) (c : Plan) (m : Model) (u : View) → IsSfile n → IsSfile k → bytes_eq n k ≡ false → CanCommit n c m → Full m u → (i : ℕ) → recovered_at (part_of n c i u) k ≡ recovered_at (view_of m) k
 other_recovered n k c m u sfile other apart can full i =
@@ -278,9 +278,9 @@ first_recovered n c m u sfile can full there leaves =
 first_by : (n : List ℕ) (c : Plan) (m : Model) (u v : View) → IsSfile n → CanCommit n c m → Full m u → Full m v → IsSome (view_of m (sibling 122 n)) → (new : NewFile) → c.s ≡ new → IsNew m (committed n c v) 0 (part_of n c 1 u)
 first_by n c m u v sfile can full full2 there Keep is = inr (refl, subst (λ (x : NewFile). Image m (swapped x (sibling 120 n) n u)) (sym is) (full_image m u full))
 first_by n c m u v sfile can full full2 there Replace is =
-    inl (recovers_new n c m u v sfile can full full2 1 (first_recovered n c m u sfile can full there (subst (λ (x : NewFile). OnChange x (recovered_pfile (files_after n c (view_of m)).s (view_of m (sibling 112 n)) ≡ (files_after n c (view_of m)).p)) is can.leaves)))
+    inl (recovers_new n c m u v sfile can full full2 1 (first_recovered n c m u sfile can full there (subst (λ (x : NewFile). OnChange x (recovered_pfile (files_after n c (view_of m)).s (view_of m (sibling 112 n)) ≡ (files_after n c (view_of m)).p)) is can.entries.leaves)))
 first_by n c m u v sfile can full full2 there Remove is =
-    inl (recovers_new n c m u v sfile can full full2 1 (first_recovered n c m u sfile can full there (subst (λ (x : NewFile). OnChange x (recovered_pfile (files_after n c (view_of m)).s (view_of m (sibling 112 n)) ≡ (files_after n c (view_of m)).p)) is can.leaves)))
+    inl (recovers_new n c m u v sfile can full full2 1 (first_recovered n c m u sfile can full there (subst (λ (x : NewFile). OnChange x (recovered_pfile (files_after n c (view_of m)).s (view_of m (sibling 112 n)) ≡ (files_after n c (view_of m)).p)) is can.entries.leaves)))
 
 pub first_new : (n : List ℕ) (c : Plan) (m : Model) (u v : View) → IsSfile n → CanCommit n c m → Full m u → Full m v → IsSome (view_of m (sibling 122 n)) → IsNew m (committed n c v) 0 (part_of n c 1 u)
 first_new n c m u v sfile can full full2 there = first_by n c m u v sfile can full full2 there c.s refl

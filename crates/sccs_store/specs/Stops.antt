@@ -3,10 +3,11 @@ use Rattle.std.specs.Prelude.{◌≡◌, ◌⊎◌, ℕ, false, List, drop}
 use Rattle.sccs_base.specs.Name.{sibling}
 use Rattle.sccs_disk.specs.Calls.{Done, Half}
 use Rattle.sccs_disk.specs.Effects.{removing, renaming, syncing_names}
-use Rattle.sccs_disk.specs.Files.{Model, view_of}
+use Rattle.sccs_disk.specs.Files.{Model, View, view_of}
 use Rattle.sccs_disk.specs.Images.{IsFirm}
 use Rattle.sccs_disk.specs.Told.{Told, Tells}
-use Rattle.sccs_images.specs.Touches.{newest}
+use Rattle.sccs_files.specs.StepFiles.{is_left}
+use Rattle.sccs_images.specs.Touches.{Leaves, TouchesOnly, newest}
 use Rattle.sccs_pfile.specs.Recovered.{recovered_pfile}
 use Rattle.sccs_moments.specs.Calm.{HasFirm, IsCalm}
 use Rattle.sccs_moments.specs.Moments.{IsNew, Went}
@@ -48,18 +49,34 @@ OnChange Keep P = Unit {0}
 OnChange Replace P = P
 OnChange Remove P = P
 
+-- What recovery makes of the entries of a commit's name, in the view before it.
+pub record KeepsEntries (n : List ℕ) (c : Plan) (v : View) : Type 0 where
+  -- with a new s-file it makes the new p-file of the old one
+  pub leaves : OnChange c.s (recovered_pfile (files_after n c v).s (v (sibling 112 n)) ≡ (files_after n c v).p)
+  -- and it leaves the new p-file as it is
+  pub sound : recovered_pfile (files_after n c v).s (files_after n c v).p ≡ (files_after n c v).p
+
+-- the g-file's name, where it changes, is that of no s-file, p-file or z-file
+abbrev pub IsPlain : List ℕ → Plan → Type 0
+IsPlain n c = OnChange c.g (is_kept (drop 2 n) ≡ false)
+
 -- What a commit needs of the files of a disk that tells its model.
 pub record CanCommit (n : List ℕ) (c : Plan) (m : Model) : Type 0 where
   -- s-files and p-files are firm, and the prepared files that take their places
   pub firm : HasFirm m
   pub x_file : OnReplace c.s (IsFirm (sibling 120 n) m)
   pub q_file : OnReplace c.p (IsFirm (sibling 113 n) m)
-  -- the g-file's name is that of no s-file, p-file or z-file
-  pub plain : OnChange c.g (is_kept (drop 2 n) ≡ false)
-  -- with a new s-file recovery makes the new p-file of the old one
-  pub leaves : OnChange c.s (recovered_pfile (files_after n c (view_of m)).s (view_of m (sibling 112 n)) ≡ (files_after n c (view_of m)).p)
-  -- and leaves the new p-file as it is
-  pub sound : recovered_pfile (files_after n c (view_of m)).s (files_after n c (view_of m)).p ≡ (files_after n c (view_of m)).p
+  pub plain : IsPlain n c
+  pub entries : KeepsEntries n c (view_of m)
+
+-- What the calls from the start of a step up to its commit have done.
+pub record HasPrepared (n : List ℕ) (c : Plan) (old new : Told) : Type 0 where
+  -- at most working files and the z-file are touched
+  pub touches : TouchesOnly (is_left n) old new
+  -- the prepared files that take the places of others are firm
+  pub x_file : OnReplace c.s (Leaves (IsFirm (sibling 120 n)) old new)
+  pub q_file : OnReplace c.p (Leaves (IsFirm (sibling 113 n)) old new)
+  pub entries : Leaves (λ m. KeepsEntries n c (view_of m)) old new
 
 -- ---- what a stop leaves
 

@@ -1,9 +1,15 @@
 ghost use Rattle.std.specs.Prelude.{◌≡◌, ◌⊎◌, ℕ, List, false};
 ghost use Rattle.std.specs.Str.{bytes_eq};
 ghost use Rattle.sccs_base.specs.Name.{IsSfile, sibling};
-ghost use Rattle.sccs_disk.specs.Files.{View};
-ghost use Rattle.sccs_files.specs.StepFiles.{is_working, placed};
+ghost use Rattle.sccs_disk.specs.Files.{Model, View, view_of};
+ghost use Rattle.sccs_disk.specs.Told.{Tells, Told};
+ghost use Rattle.sccs_files.specs.StepFiles.{is_left, is_working, placed};
+ghost use Rattle.sccs_images.specs.Touches.{TouchesOnly};
+ghost use Rattle.sccs_moments.specs.Calm.{IsCalm};
+ghost use Rattle.sccs_moments.specs.Moments.{EndsAfter, EndsBefore, EndsWithin};
+ghost use Rattle.sccs_moments.specs.Recovery.{IsSound, RecoversAs};
 ghost use Rattle.sccs_store.specs.Commits.{Plan, committed, files_after, part_of};
+ghost use Rattle.sccs_store.specs.Stops.{CommitEnds, CommitStops, HasPrepared, IsPlain};
 
 /// A commit puts the chosen files in their places and leaves all others but working files; after some of
 /// its changes each file but the z-file is as it was, or as the commit makes it.
@@ -13,4 +19,21 @@ pub fn commits_place_their_files()
     ensures parts { (n : List ℕ) (c : Plan) (u v : View) (k : List ℕ) (i : ℕ) → IsSfile n → is_working n k ≡ false
         → bytes_eq (sibling 122 n) k ≡ false → u k ≡ v k
         → (part_of n c i u k ≡ v k) ⊎ (part_of n c i u k ≡ placed v n (files_after n c u) k) }
+{}
+
+/// A step that begins on a calm disk, where its name is sound, is made whole or not at all, wherever it is
+/// stopped: before its commit each image of each moment has the old s-files and p-files, and the disk is
+/// calm; in it each recovers as before the step or as after it; after it as after the step, and the disk
+/// is calm.
+pub fn steps_are_made_whole()
+    ensures before { (n : List ℕ) (a b : Told) (m : Model) (past : List Model) → IsSfile n → a ≡ Tells m past → IsCalm m
+        → IsSound n (view_of m) → TouchesOnly (is_left n) a b → EndsBefore (view_of m) m past b }
+    ensures within { (n : List ℕ) (c : Plan) (a b d : Told) (m : Model) (past : List Model) (w : View) → IsSfile n
+        → a ≡ Tells m past → IsCalm m → IsSound n (view_of m) → IsPlain n c → HasPrepared n c a b
+        → ((m1 : Model) (past1 : List Model) → b ≡ Tells m1 past1 → RecoversAs w (committed n c (view_of m1)))
+        → CommitStops n c b d → EndsWithin (view_of m) w m past d }
+    ensures after { (n : List ℕ) (c : Plan) (a b d : Told) (m : Model) (past : List Model) (w : View) → IsSfile n
+        → a ≡ Tells m past → IsCalm m → IsSound n (view_of m) → IsPlain n c → HasPrepared n c a b
+        → ((m1 : Model) (past1 : List Model) → b ≡ Tells m1 past1 → RecoversAs w (committed n c (view_of m1)))
+        → CommitEnds n c b d → EndsAfter (view_of m) w m past d }
 {}

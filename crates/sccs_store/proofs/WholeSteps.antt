@@ -1,0 +1,94 @@
+-- A whole step: what is prepared under its lock, and the commit.
+use Rattle.std.proofs.Common.{◌≡◌, ◌⊎◌, ◌≤◌, ℕ, Bool, false, List, [], ◌∷◌, ◌++◌, drop, Option, inl, inr, refl, sym, ap, subst, ◌∙◌, arith}
+use Rattle.std.specs.Str.{bytes_eq}
+use Rattle.sccs_base.specs.Name.{IsSfile, sibling}
+use Rattle.sccs_disk.specs.Files.{Model, View, view_of}
+use Rattle.sccs_disk.specs.Images.{Allows, Image, IsFirm}
+use Rattle.sccs_disk.specs.Told.{Told, Tells}
+use Rattle.sccs_files.specs.StepFiles.{is_left}
+use Rattle.sccs_images.specs.Touches.{Leaves, Touches, TouchesOnly, Touching, earlier, newest}
+use Rattle.sccs_images.proofs.Touched.{each_newest, newest_more}
+use Rattle.sccs_moments.specs.Calm.{HasFirm, IsCalm, KeepsPairs}
+use Rattle.sccs_moments.specs.Moments.{EndsAfter, EndsBefore, EndsWithin, IsAt, IsNew, Stays, Went}
+use Rattle.sccs_moments.specs.Recovery.{IsSound, RecoversAs}
+use Rattle.sccs_moments.proofs.CalmDisks.{calm_firm, firms_touched}
+use Rattle.sccs_moments.proofs.FileNames.{left_s}
+use Rattle.sccs_moments.proofs.Joined.{numbered_as, numbered_now, went_then}
+use Rattle.sccs_moments.proofs.Recovering.{recovers_then}
+use Rattle.sccs_moments.proofs.Untouched.{calm_stayed, stays_touched, went_at}
+use Rattle.sccs_store.specs.Commits.{Plan, committed}
+use Rattle.sccs_store.specs.Stops.{CanCommit, CommitEnds, CommitStops, HasPrepared, IsPlain, OnReplace}
+use Rattle.sccs_store.specs.declared.new_files.NewFile.{NewFile}
+use Rattle.sccs_store.specs.declared.new_files.NewFile.TheVariants.{Keep, Replace, Remove}
+
+-- ---- up to the commit
+
+-- a step that has touched at most the files that it leaves behind ends before it
+pub ends_before : (n : List ℕ) (a b : Told) (m : Model) (past : List Model) → IsSfile n → a ≡ Tells m past → IsCalm m → IsSound n (view_of m) → TouchesOnly (is_left n) a b → EndsBefore (view_of m) m past b
+ends_before n a b m past sfile is calm sound touches =
+    (stays_touched n m past b sfile calm sound (touches m past is), calm_stayed (view_of m) m past b (stays_touched n m past b sfile calm sound (touches m past is)))
+
+-- the same, as the end of a step within which something failed
+pub before_within : (v w : View) (m : Model) (past : List Model) (b : Told) → EndsBefore v m past b → EndsWithin v w m past b
+before_within v w m past b ends = (went_at v w m past b ends.0, calm_firm (newest ends.0.added m) ends.1)
+
+-- ---- the commit
+
+firm_where : (new : NewFile) (k : List ℕ) (a b : Told) (m m1 : Model) (past past1 : List Model) → a ≡ Tells m past → b ≡ Tells m1 past1 → OnReplace new (Leaves (IsFirm k) a b) → OnReplace new (IsFirm k m1)
+firm_where Keep k a b m m1 past past1 is is1 firm = tt
+firm_where Replace k a b m m1 past past1 is is1 firm = firm m past is m1 past1 is1
+firm_where Remove k a b m m1 past past1 is is1 firm = tt
+
+-- what the commit needs
+can_commit : (n : List ℕ) (c : Plan) (a b : Told) (m : Model) (past : List Model) → IsSfile n → a ≡ Tells m past → IsCalm m → (run : Touching (is_left n) m past b) → IsPlain n c → HasPrepared n c a b → CanCommit n c (newest run.added m)
+can_commit n c a b m past sfile is calm run plain prepared = record {
+  firm = firms_touched (is_left n) m (newest run.added m) (λ k other. left_s n k other) (λ k other. refl) (each_newest (Touches (is_left n) m) run.added m run.each) (calm_firm m calm);
+  x_file = firm_where c.s (sibling 120 n) a b m (newest run.added m) past (earlier run.added m past) is run.is prepared.x_file;
+  q_file = firm_where c.p (sibling 113 n) a b m (newest run.added m) past (earlier run.added m past) is run.is prepared.q_file;
+  plain = plain;
+  entries = prepared.entries m past is (newest run.added m) (earlier run.added m past) run.is;
+}
+
+-- an image of the commit is at the old view or at the new one
+at_new : (v w : View) (m1 : Model) (w1 : View) (i : ℕ) (u : View) → Allows (KeepsPairs v) m1 → RecoversAs w w1 → IsNew m1 w1 i u → IsAt v w i u
+at_new v w m1 w1 i u keeps same (inl new) = inl (recovers_then w w1 u same new)
+at_new v w m1 w1 i u keeps same (inr old) = inr (old.0, (keeps u old.1).recovers)
+
+abbrev as_step : (v w : View) (m1 : Model) (w1 : View) (past1 : List Model) (j : ℕ) (t : Told) → Allows (KeepsPairs v) m1 → RecoversAs w w1 → Went (IsNew m1 w1) m1 past1 j t → Went (IsAt v w) m1 past1 j t
+as_step v w m1 w1 past1 j t keeps same went = record {
+  added = went.added;
+  is = went.is;
+  numbers = numbered_as (λ i m2. Allows (IsNew m1 w1 i) m2) (λ i m2. Allows (IsAt v w i) m2) 0 went.added m1 j (λ i low m2 new u image. at_new v w m1 w1 i u keeps same (new u image)) went.numbers;
+  guarded = went.guarded;
+}
+
+abbrev whole_run : (v w : View) (m : Model) (past : List Model) (j : ℕ) (b d : Told) (w1 : View) → (stays : Stays v m past b) → RecoversAs w w1 → Went (IsNew (newest stays.added m) w1) (newest stays.added m) (earlier stays.added m past) j d → Went (IsAt v w) m past j d
+whole_run v w m past j b d w1 stays same went =
+    went_then (IsAt v w) m past j b d (record { added = stays.added; is = stays.is; numbers = (went_at v w m past b stays).numbers; guarded = stays.guarded })
+    (as_step v w (newest stays.added m) w1 (earlier stays.added m past) j d (numbered_now (λ i m2. Allows (KeepsPairs v) m2) 0 stays.added m 0 stays.numbers) same went)
+
+-- the commit was made
+pub ends_after : (n : List ℕ) (c : Plan) (a b d : Told) (m : Model) (past : List Model) (w : View) → IsSfile n → a ≡ Tells m past → IsCalm m → IsSound n (view_of m) → IsPlain n c → HasPrepared n c a b
+    → ((m1 : Model) (past1 : List Model) → b ≡ Tells m1 past1 → RecoversAs w (committed n c (view_of m1))) → CommitEnds n c b d → EndsAfter (view_of m) w m past d
+ends_after n c a b d m past w sfile is calm sound plain prepared same commit =
+    let stays : Stays (view_of m) m past b = stays_touched n m past b sfile calm sound (prepared.touches m past is) in
+    after stays (can_commit n c a b m past sfile is calm (record { added = stays.added; is = stays.is; each = (prepared.touches m past is).each }) plain prepared)
+  where
+    after : (stays : Stays (view_of m) m past b) → CanCommit n c (newest stays.added m) → EndsAfter (view_of m) w m past d
+    after stays can =
+        let end : (went : Went (IsNew (newest stays.added m) (committed n c (view_of (newest stays.added m)))) (newest stays.added m) (earlier stays.added m past) 1 d) × IsCalm (newest went.added (newest stays.added m))
+          = commit (newest stays.added m) (earlier stays.added m past) stays.is can in
+        (whole_run (view_of m) w m past 1 b d (committed n c (view_of (newest stays.added m))) stays (same (newest stays.added m) (earlier stays.added m past) stays.is) end.0, subst IsCalm (sym (newest_more end.0.added stays.added m)) end.1)
+
+-- the commit was stopped, or failed
+pub ends_within : (n : List ℕ) (c : Plan) (a b d : Told) (m : Model) (past : List Model) (w : View) → IsSfile n → a ≡ Tells m past → IsCalm m → IsSound n (view_of m) → IsPlain n c → HasPrepared n c a b
+    → ((m1 : Model) (past1 : List Model) → b ≡ Tells m1 past1 → RecoversAs w (committed n c (view_of m1))) → CommitStops n c b d → EndsWithin (view_of m) w m past d
+ends_within n c a b d m past w sfile is calm sound plain prepared same commit =
+    let stays : Stays (view_of m) m past b = stays_touched n m past b sfile calm sound (prepared.touches m past is) in
+    within stays (can_commit n c a b m past sfile is calm (record { added = stays.added; is = stays.is; each = (prepared.touches m past is).each }) plain prepared)
+  where
+    within : (stays : Stays (view_of m) m past b) → CanCommit n c (newest stays.added m) → EndsWithin (view_of m) w m past d
+    within stays can =
+        let end : (went : Went (IsNew (newest stays.added m) (committed n c (view_of (newest stays.added m)))) (newest stays.added m) (earlier stays.added m past) 0 d) × HasFirm (newest went.added (newest stays.added m))
+          = commit (newest stays.added m) (earlier stays.added m past) stays.is can in
+        (whole_run (view_of m) w m past 0 b d (committed n c (view_of (newest stays.added m))) stays (same (newest stays.added m) (earlier stays.added m past) stays.is) end.0, subst HasFirm (sym (newest_more end.0.added stays.added m)) end.1)
