@@ -48,14 +48,14 @@ fn check_size<D: Disk>(disk: &mut D, name: &Name) -> Result<(), StepFault>
 }
 
 // whether the entries agree with the table
-fn check_agreement(header: &Header, edits: &Edits) -> Result<(), StepFault>
+fn check_agreement(alloc: Global, header: &Header, edits: &Edits) -> Result<(), StepFault>
     ensures value { Passes (agreeing (first_disagreeing header.now.records edits.now)) result }
     ensures agrees { IfOk result (λ _. Agrees header.now.records edits.now) }
     ensures checks { RefusesWithin (11 ∷ []) result }
     ensures fault { result ≢ Err faults.Memory }
     ensures broke { result ≢ Err faults.DiskFault }
 {
-    match agree(header, edits) {
+    match agree(alloc, header, edits) {
         Ok(()) => Ok(()),
         Err(fault) => Err(StepFault::Refused(Refusal::Disagree(fault.entry))),
     }
@@ -91,7 +91,7 @@ pub fn read_pending<D: Disk>(alloc: Global, disk: &mut D, name: &Name) -> Result
         Ok(edits) => edits,
         Err(fault) => return Err(fault),
     };
-    match check_agreement(&front.header, &edits) {
+    match check_agreement(alloc, &front.header, &edits) {
         Ok(()) => Ok(Pending { front, edits }),
         Err(fault) => Err(fault),
     }
