@@ -65,9 +65,8 @@ fn plan_of(alloc: Global, pieces: Vec<Piece>, lines: u64) -> Result<Plan, Memory
 
 /// What a script that `check` accepts does to a base of so many lines, at most 1,073,741,824,
 /// whatever the order of its commands: the numbers of the base lines that it deletes, rising, and the
-/// new lines that stay, by the base line that they follow. A script that goes through the text in one
-/// direction costs what it names, and what it adds; in any other the commands cost the pieces besides
-/// that lie between them.
+/// new lines that stay, by the base line that they follow. It costs the base's lines, and for each
+/// command and each line that is added the height of a balanced tree of the pieces so far.
 pub fn plan(alloc: Global, script: &Script, lines: u64) -> Result<Plan, Memory>
     requires fits { checked script.now lines ≡ Ok tt }
     requires few { lines ≤ 1073741824 }

@@ -8,8 +8,8 @@ use std::alloc::Global;
 use std::marker::Model;
 
 /// A text in pieces while orders are made on it: a search tree by the numbers of its lines, balanced
-/// by the heights of its sides (Adelson-Velsky and Landis). Contracts see its entries in order. Each
-/// call but `lines` and `anchor` costs about the tree's height.
+/// by the heights of its sides (Adelson-Velsky and Landis). Contracts see its entries in order. A call
+/// that joins, cuts or looks up costs about the tree's height, which no contract speaks of.
 #[cycle(tree)]
 #[derive(Drop)]
 pub struct Tree {
