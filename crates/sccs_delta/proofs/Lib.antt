@@ -3,3 +3,6 @@ pub mod BaseLaws
 pub mod CheckLaws
 pub mod ComingItems
 pub mod CopyLaws
+pub mod LongerBases
+pub mod PlanResults
+pub mod VersionLaws

@@ -1,2 +1,4 @@
 pub mod Copies
+pub mod DeltaStep
 pub mod Examining
+pub mod Versions

@@ -3,6 +3,7 @@
 
 mod copies;
 mod examining;
+pub mod laws;
 mod result_checks;
 mod writing;
 

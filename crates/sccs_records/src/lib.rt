@@ -5,6 +5,8 @@
 pub mod laws;
 mod new_deltas;
 mod null_deltas;
+#[cfg(test)]
+mod tests;
 mod texts;
 
 pub use new_deltas::{Counts, NewDelta, add_delta};

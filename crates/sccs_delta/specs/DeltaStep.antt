@@ -1,0 +1,207 @@
+-- What delta does with the files of a name and its input: POSIX, Shell and Utilities, delta. The order of the checks is own.
+use Rattle.std.specs.Prelude.{◌≡◌, ℕ, zero, suc, ◌+◌, ◌-◌, ◌==◌, nat_le, nat_lt, min, Bool, true, false, not, ◌&&◌, ◌||◌, List, [], ◌∷◌, ◌++◌, length, map, remove, find, slice_get, Option, None, Some, option_and_then, option_map, unwrap_or, Result, Ok, Err, codes, decimal, if◌then◌else◌}
+use Rattle.std.specs.List.{list_any}
+use Rattle.sccs_base.specs.Constants.{file_limit}
+use Rattle.sccs_base.specs.Cut.{text_of}
+use Rattle.sccs_sid.specs.Reading.{◌>>=◌, is_empty}
+use Rattle.sccs_sid.specs.Sid.{sid_text}
+use Rattle.sccs_sid.specs.declared.moments.Stamp.{Stamp}
+use Rattle.sccs_sid.specs.declared.sids.Sid.{Sid}
+use Rattle.sccs_sid.specs.declared.sid_lists.Range.{Range}
+use Rattle.sccs_sid.specs.declared.refusals.Refusal.{Refusal}
+use Rattle.sccs_sid.specs.declared.refusals.Refusal.TheVariants as refusals
+use Rattle.sccs_disk.specs.Files.{Content}
+use Rattle.sccs_history.specs.Numbers.{front_if}
+use Rattle.sccs_history.specs.Applied.{applied, newest}
+use Rattle.sccs_history.specs.Body.{lines_of}
+use Rattle.sccs_history.specs.Select.{select}
+use Rattle.sccs_history.specs.declared.headers.Flag.{Flag}
+use Rattle.sccs_history.specs.declared.headers.Header.{Header}
+use Rattle.sccs_history.specs.declared.headers.Record.{Record}
+use Rattle.sccs_flags.specs.FlagValues.{flag_of, has_flag, is_locked, is_within_limits}
+use Rattle.sccs_flags.specs.Logins.{is_allowed}
+use Rattle.sccs_grammar.specs.Written.{ended}
+use Rattle.sccs_edits.specs.Places.{places}
+use Rattle.sccs_edits.specs.Plans.{added_count, plan}
+use Rattle.sccs_edits.specs.Scripts.{apply}
+use Rattle.sccs_edits.specs.declared.scripts.Order.{Order}
+use Rattle.sccs_edits.specs.declared.scripts.Plan.{Plan}
+use Rattle.sccs_script.specs.Checks.{checked}
+use Rattle.sccs_script.specs.Commands.{orders_of}
+use Rattle.sccs_script.specs.declared.faults.ScriptFault.{ScriptFault}
+use Rattle.sccs_script.specs.declared.faults.ScriptFault.TheVariants as faults
+use Rattle.sccs_sets.specs.Naming.{named_serials}
+use Rattle.sccs_sets.specs.Retrieved.{serial_of}
+use Rattle.sccs_sets.specs.SetRefusals.{or_bad_list}
+use Rattle.sccs_files.specs.StepFiles.{Files}
+use Rattle.sccs_pfile.specs.Choices.{choice, fits}
+use Rattle.sccs_pfile.specs.Recovered.{pfile_of}
+use Rattle.sccs_pfile.specs.declared.entries.Edit.{Edit}
+use Rattle.sccs_steps.specs.StepEffects.{Outcome, StepEffect, check, there}
+use Rattle.sccs_steps.specs.Actions.{Step}
+use Rattle.sccs_store.specs.SealedFiles.{sealed}
+use Rattle.sccs_pending.specs.NewEntries.{kept_g, or_no_edit}
+use Rattle.sccs_pending.specs.PFiles.{is_short}
+use Rattle.sccs_pending.specs.Pending.{Found, pending_of}
+use Rattle.sccs_words.specs.declared.commands.DeltaWords.{DeltaWords}
+use Rattle.sccs_records.specs.NewDeltas.{last_of, null_delta, with_delta, with_deltas}
+use Rattle.sccs_records.specs.Texts.{some_lines}
+use Rattle.sccs_records.specs.declared.new_deltas.NewDelta.{NewDelta}
+use Rattle.sccs_delta.specs.Examining.{first_difference, has_keyword}
+
+-- the numbers of its checks
+abbrev pub delta_checks : List ℕ
+delta_checks = 2 ∷ 3 ∷ 5 ∷ 6 ∷ 7 ∷ 8 ∷ 9 ∷ 10 ∷ 11 ∷ 12 ∷ 13 ∷ 14 ∷ 17 ∷ 18 ∷ 20 ∷ 22 ∷ 23 ∷ 24 ∷ 26 ∷ 28 ∷ 29 ∷ 30 ∷ 33 ∷ 34 ∷ []
+
+-- ---- null deltas (sccsfile(4), Flags, n)
+
+-- the first delta of a release of the trunk
+abbrev pub first_of : ℕ → Sid
+first_of release = record { release = release; level = 1; branch = 0; sequence = 0 }
+
+abbrev pub is_on_trunk : ℕ → Sid → Bool
+is_on_trunk release sid = sid.branch == 0 && sid.release == release
+
+-- some live delta of the trunk is of the release, or one that is reserved
+abbrev pub is_used : List Record → List Sid → ℕ → Bool
+is_used records reserved release = list_any (λ r. not r.removed && is_on_trunk release r.sid) records || list_any (is_on_trunk release) reserved
+
+-- of so many releases, from one on, those without a delta
+abbrev pub unused_from : List Record → List Sid → ℕ → ℕ → List Sid
+unused_from records reserved release zero = []
+unused_from records reserved release (suc count) = front_if (not (is_used records reserved release)) (first_of release) (unused_from records reserved (suc release) count)
+
+-- The SIDs of the null deltas: with the flag n, the first ones of the releases without a delta between those of the SID got and
+-- of the SID to be made, where both are on the trunk.
+abbrev pub skipped : Header → Sid → Sid → List Sid → List Sid
+skipped header got made reserved =
+    if has_flag header.flags 110 && (got.branch == 0 && made.branch == 0) then unused_from header.records reserved (suc got.release) (made.release - suc got.release) else []
+
+-- ---- the delta that an entry is to make
+
+-- What an entry says by serials: that of the delta got, and those of its lists.
+pub record Base : Type 0 where
+  pub got : ℕ
+  pub include : List ℕ
+  pub exclude : List ℕ
+
+-- entries that agree with the table have one
+unfoldable pub base_of : List Record → Edit → Result Base Refusal
+base_of records edit = do
+  got ← there (serial_of records edit.got) refusals.NoSid
+  include ← or_bad_list (named_serials records [] edit.include)
+  exclude ← or_bad_list (named_serials records [] edit.exclude)
+  Ok (record { got = got; include = include; exclude = exclude })
+
+-- the set whose version is the base
+abbrev pub set_of : List Record → Base → List ℕ
+set_of records base = applied (record { target = base.got; include = base.include; exclude = base.exclude; cutoff = None }) records
+
+-- the new delta with the plan of its script, for a base of so many lines
+abbrev pub delta_of : DeltaWords → Stamp → Edit → Base → Plan → ℕ → NewDelta
+delta_of words stamp edit base p lines = record {
+  sid = edit.made;
+  stamp = stamp;
+  include = base.include;
+  exclude = base.exclude;
+  mrs = words.mrs;
+  comments = some_lines words.comment;
+  counts = record { inserted = added_count p.added; deleted = length p.deleted; unchanged = lines - length p.deleted };
+}
+
+-- ---- checks
+
+abbrev pub or_script_fault : {A : Type 0} → Result A ScriptFault → Result A Refusal
+or_script_fault (Ok x) = Ok x
+or_script_fault (Err (faults.BadScript line)) = Err (refusals.BadScript line)
+or_script_fault (Err (faults.ScriptRange line lines)) = Err (refusals.ScriptRange line lines)
+or_script_fault (Err (faults.BadText line)) = Err (refusals.BadText line)
+or_script_fault (Err faults.Memory) = Err (refusals.BadScript 0)
+
+abbrev pub or_differs : Option ℕ → Result Bool Refusal
+or_differs None = Ok true
+or_differs (Some line) = Err (refusals.GDiffers line)
+
+-- where a g-file is there, it is the result
+abbrev pub compared : Option Content → List (List ℕ) → Result Bool Refusal
+compared None result = Ok true
+compared (Some c) result = or_differs (first_difference 0 result (text_of c.bytes))
+
+-- a flag v or i has a text, which would name a program or a keyword
+abbrev pub has_text : List Flag → ℕ → Bool
+has_text flags letter = unwrap_or (option_map (λ (f : Flag). not (is_empty f.text)) (flag_of flags letter)) false
+
+unfoldable pub mrs_checked : List Flag → List (List ℕ) → Result Bool Refusal
+mrs_checked flags mrs = do
+  given ← check (not (has_flag flags 118 && is_empty mrs)) refusals.MrNeeded
+  wanted ← check (has_flag flags 118 || is_empty mrs) refusals.MrNotAllowed
+  program ← check (not (has_text flags 118)) (refusals.Unsupported 118)
+  check (not (has_text flags 105)) (refusals.Unsupported 105)
+
+-- The releases may be used, and the script fits the base; the result has a keyword where one is wanted, and is that of the g-file.
+unfoldable pub script_checked : List Flag → Edit → List ℕ → List (List ℕ) → Option Content → Result (List Order) Refusal
+script_checked flags edit input base g = do
+  within ← check (is_within_limits flags edit.got.release && is_within_limits flags edit.made.release) refusals.OutsideRelease
+  free ← check (not (is_locked flags edit.made.release)) refusals.LockedRelease
+  orders ← or_script_fault (orders_of input)
+  fits ← or_script_fault (checked orders (length base))
+  keywords ← check (not (has_flag flags 105) || list_any has_keyword (apply orders base)) refusals.NoKeywords
+  same ← compared g (apply orders base)
+  Ok orders
+
+-- ---- the step
+
+-- a line of the report
+abbrev pub count_line : ℕ → List ℕ → List ℕ
+count_line n word = decimal n ++ (32 ∷ ended word)
+
+-- the SID, and the true counts
+abbrev pub delta_report : DeltaWords → NewDelta → List ℕ
+delta_report words d =
+    if words.silent then []
+    else ended (sid_text d.sid) ++ (count_line d.counts.inserted (codes "inserted") ++ (count_line d.counts.deleted (codes "deleted") ++ count_line d.counts.unchanged (codes "unchanged")))
+
+-- what is said where the result has no keyword
+abbrev pub warning : List ℕ → List (List ℕ) → List ℕ
+warning n result = if list_any has_keyword result then [] else codes "WARNING [" ++ (n ++ ended (codes "]: no id keywords"))
+
+-- The s-file has the null deltas and the new one, the entry leaves the p-file, and the g-file goes unless it is kept.
+abbrev pub makes_delta : DeltaWords → Stamp → List ℕ → Files → Found → ℕ → Edit → Base → List Order → StepEffect
+makes_delta words stamp n f found number edit base orders =
+    let header = found.parsed.header in
+    let set = set_of header.records base in
+    let lines = select set (lines_of found.parsed.items) in
+    let nulls = map (null_delta stamp) (skipped header edit.got edit.made (map (λ (e : Edit). e.made) found.edits)) in
+    let before = with_deltas header base.got nulls in
+    let d = delta_of words stamp edit base (plan orders (length lines)) (length lines) in
+    record {
+      new = Some (record {
+        s = Some (sealed (with_delta before (last_of base.got (newest header.records) nulls) d) (places found.parsed.items set orders (suc (newest before.records))));
+        p = pfile_of (remove found.edits (number - 1));
+        z = None;
+        g = kept_g words.keep f.g;
+      });
+      text = [];
+      out = delta_report words d;
+      err = warning n (apply orders lines);
+      status = 0;
+    }
+
+-- the sizes of the files and of the input come before any content
+unfoldable pub sizes_checked : List ℕ → Files → Result Bool Refusal
+sizes_checked input f = do
+  s_file ← check (unwrap_or (option_map (λ (c : Content). true) f.s) false) refusals.Missing
+  check (is_short f.s && (is_short f.p && (is_short f.g && nat_le (length input) file_limit))) refusals.TooLong
+
+unfoldable pub delta_outcome : DeltaWords → Stamp → Step
+delta_outcome words stamp n input named f = do
+  sizes ← sizes_checked input f
+  found ← pending_of f.s f.p
+  allowed ← check (is_allowed found.parsed.header.users stamp.login) refusals.NotAllowed
+  number ← or_no_edit (choice (fits stamp.login words.sid true) found.edits)
+  edit ← there (slice_get found.edits (number - 1)) refusals.NoEdit
+  base ← base_of found.parsed.header.records edit
+  orders ← script_checked found.parsed.header.flags edit input (select (set_of found.parsed.header.records base) (lines_of found.parsed.items)) f.g
+  mrs ← mrs_checked found.parsed.header.flags words.mrs
+  left ← check (nat_lt (newest found.parsed.header.records + length (skipped found.parsed.header edit.got edit.made (map (λ (e : Edit). e.made) found.edits))) 65535) refusals.Full
+  Ok (makes_delta words stamp n f found number edit base orders)
