@@ -1,3 +1,4 @@
 mod EntryLists
 mod ReadingLaws
 mod RecoveryLaws
+pub mod RecoveryEnds

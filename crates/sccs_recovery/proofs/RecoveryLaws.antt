@@ -39,14 +39,14 @@ plan_left new = plan false new Keep
 cleared_p : (n : List ℕ) (v : View) → cleared n v (sibling 112 n) ≡ v (sibling 112 n)
 cleared_p n v = refl
 
-cleared_q : (n : List ℕ) (v : View) → cleared n v (sibling 113 n) ≡ None
+pub cleared_q : (n : List ℕ) (v : View) → cleared n v (sibling 113 n) ≡ None
 cleared_q n v = put_same (without (sibling 120 n) v) (sibling 113 n) None
 
 cleared_z : (n : List ℕ) (v : View) → cleared n v (sibling 122 n) ≡ v (sibling 122 n)
 cleared_z n v = refl
 
 -- the q-file in the place of the p-file, where there was none
-q_placed : (n : List ℕ) (u : View) (x : Option Content) → u (sibling 113 n) ≡ None → swapped Replace (sibling 113 n) (sibling 112 n) (put u (sibling 113 n) x) ≡ put u (sibling 112 n) x
+pub q_placed : (n : List ℕ) (u : View) (x : Option Content) → u (sibling 113 n) ≡ None → swapped Replace (sibling 113 n) (sibling 112 n) (put u (sibling 113 n) x) ≡ put u (sibling 112 n) x
 q_placed n u x none =
     ap (λ (o : Option Content). put (put (put u (sibling 113 n) x) (sibling 113 n) None) (sibling 112 n) o) (put_same u (sibling 113 n) x)
     ∙ ap (λ (w : View). put w (sibling 112 n) x) (put_again u (sibling 113 n) x None ∙ (ap (λ (o : Option Content). put u (sibling 113 n) o) (sym none) ∙ put_back u (sibling 113 n)))

@@ -1,17 +1,19 @@
 -- The checks that recovery makes where it finds a z-file (own), and their order.
-use Rattle.std.specs.Prelude.{◌≡◌, ℕ, Bool, true, List, [], length, nat_lt, Option, None, Some, is_some, option_map, Result, Ok, Err, if◌then◌else◌}
+use Rattle.std.specs.Prelude.{◌≡◌, ◌≢◌, ◌∷◌, ℕ, Bool, true, List, [], length, nat_lt, Option, None, Some, is_some, option_map, Result, Ok, Err, if◌then◌else◌}
 use Rattle.sccs_base.specs.Name.{sibling}
 use Rattle.sccs_disk.specs.Files.{Content, View}
 use Rattle.sccs_sid.specs.Reading.{◌>>=◌}
 use Rattle.sccs_sid.specs.declared.refusals.Refusal.{Refusal}
 use Rattle.sccs_sid.specs.declared.refusals.Refusal.TheVariants.{BadPfile, TooLong}
 use Rattle.sccs_sid.specs.declared.refusals.StepFault.{StepFault}
-use Rattle.sccs_sid.specs.declared.refusals.StepFault.TheVariants.{Refused}
+use Rattle.sccs_sid.specs.declared.refusals.StepFault.TheVariants.{Refused, ReadFault, WriteFault}
 use Rattle.sccs_history.specs.declared.headers.Record.{Record}
 use Rattle.sccs_grammar.specs.File.{answer, file_of}
 use Rattle.sccs_grammar.specs.FileRefusals.{or_refusal}
 use Rattle.sccs_table.specs.declared.fronts.Front.{Front}
 use Rattle.sccs_pfile.specs.Reading.{edits_of}
+use Rattle.sccs_moments.specs.Recovery.{recover}
+use Rattle.sccs_steps.specs.Actions.{RefusesWithin}
 use Rattle.sccs_pfile.specs.declared.entries.Edit.{Edit}
 
 -- the bytes of a file, where it is there; a file past the limit is refused
@@ -65,3 +67,18 @@ abbrev pub Passes : {A : Type 0} → Result Bool Refusal → Result A StepFault 
 Passes checks (Ok x) = checks ≡ Ok true
 Passes checks (Err (Refused refusal)) = checks ≡ Err refusal
 Passes checks (Err fault) = Unit {0}
+
+-- the numbers of the checks; only where the disk tells nothing an s-file may be missing (3) that was there
+abbrev pub recover_checks : List ℕ
+recover_checks = 3 ∷ 5 ∷ 6 ∷ 7 ∷ 8 ∷ 9 ∷ 10 ∷ []
+
+-- Only these checks refuse, and no stream fails.
+pub record IsWithin {T : Type 0} (result : Result T StepFault) : Type 0 where
+  pub checks : RefusesWithin recover_checks result
+  pub read : result ≢ Err ReadFault
+  pub write : result ≢ Err WriteFault
+
+-- the view after recovery, where the checks pass
+abbrev pub recovers_if : Result Bool Refusal → List ℕ → View → View
+recovers_if (Ok passed) n v = recover n v
+recovers_if (Err refusal) n v = v

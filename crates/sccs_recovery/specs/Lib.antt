@@ -1,2 +1,4 @@
 pub mod Checks
 pub mod Entries
+pub mod RecoverStep
+pub mod Commands

@@ -1,10 +1,12 @@
 //! Recovery of a name on which a step was stopped: what the step began is finished or undone.
 #![tactic(auto)]
 
+mod commands;
 mod entries_left;
 mod readings;
 mod recoveries;
 #[cfg(test)]
 mod tests;
 
+pub use commands::Recover;
 pub use recoveries::{Recovered, recover};

@@ -5,7 +5,7 @@ ghost use Rattle.sccs_disk.specs.Files.{Content, View};
 ghost use Rattle.sccs_disk.specs.Told.{seen};
 ghost use Rattle.sccs_pfile.specs.Entries.{IsEdit};
 ghost use Rattle.sccs_pfile.specs.Reading.{edits_of};
-ghost use Rattle.sccs_recovery.specs.Checks.{Reads, ReadsTable, bytes_read, table_in, table_read};
+ghost use Rattle.sccs_recovery.specs.Checks.{IsWithin, Reads, ReadsTable, bytes_read, table_in, table_read};
 ghost use Rattle.sccs_recovery.specs.Entries.{Finds, HasEntries, Recovers};
 
 use crate::entries_left::{PfileLeft, entries_left};
@@ -24,6 +24,7 @@ fn read_bytes<D: Disk>(alloc: Global, disk: &mut D, name: &Name) -> Result<Optio
     ensures same { D.told disk.new ≡ D.told disk.old }
     ensures later { D.faults disk.old ≤ D.faults disk.new }
     ensures cause { IsErrOf result StepFault.DiskFault → Rose (D.faults disk.old) (D.faults disk.new) }
+    ensures within { IsWithin result }
 {
     match read_whole(alloc, disk, name) {
         Ok(bytes) => Ok(Some(bytes)),
@@ -41,6 +42,7 @@ fn read_p<D: Disk>(alloc: Global, disk: &mut D, name: &Name) -> Result<Option<By
     ensures same { D.told disk.new ≡ D.told disk.old }
     ensures later { D.faults disk.old ≤ D.faults disk.new }
     ensures cause { IsErrOf result StepFault.DiskFault → Rose (D.faults disk.old) (D.faults disk.new) }
+    ensures within { IsWithin result }
 {
     read_bytes(alloc, disk, &name.sibling(b'p'))
 }
@@ -51,6 +53,7 @@ fn read_there<D: Disk>(alloc: Global, disk: &mut D, name: &Name) -> Result<Optio
     ensures same { D.told disk.new ≡ D.told disk.old }
     ensures later { D.faults disk.old ≤ D.faults disk.new }
     ensures cause { IsErrOf result StepFault.DiskFault → Rose (D.faults disk.old) (D.faults disk.new) }
+    ensures within { IsWithin result }
 {
     match inspect(alloc, disk, name) {
         Ok(front) => Ok(Some(front)),
@@ -64,6 +67,7 @@ fn read_s<D: Disk>(alloc: Global, disk: &mut D, name: &Name) -> Result<Option<Fr
     ensures same { D.told disk.new ≡ D.told disk.old }
     ensures later { D.faults disk.old ≤ D.faults disk.new }
     ensures cause { IsErrOf result StepFault.DiskFault → Rose (D.faults disk.old) (D.faults disk.new) }
+    ensures within { IsWithin result }
 {
     match disk.size(name) {
         Ok(Some(_)) => read_there(alloc, disk, name),
@@ -95,6 +99,7 @@ fn left_of_bytes(
         → Finds s p result }
     ensures entries { IfOk result HasEntries }
     ensures works { result ≢ Err StepFault.DiskFault }
+    ensures within { IsWithin result }
 {
     match bytes {
         Some(all) => match read_edits(alloc, all.bytes()) {
@@ -119,6 +124,7 @@ fn left_with<D: Disk>(
     ensures same { D.told disk.new ≡ D.told disk.old }
     ensures later { D.faults disk.old ≤ D.faults disk.new }
     ensures cause { IsErrOf result StepFault.DiskFault → Rose (D.faults disk.old) (D.faults disk.new) }
+    ensures within { IsWithin result }
 {
     match read_s(alloc, disk, name) {
         Ok(front) => left_of_bytes(alloc, bytes, front),
@@ -135,6 +141,7 @@ pub fn read_left<D: Disk>(alloc: Global, disk: &mut D, name: &Name) -> Result<Pf
     ensures same { D.told disk.new ≡ D.told disk.old }
     ensures later { D.faults disk.old ≤ D.faults disk.new }
     ensures cause { IsErrOf result StepFault.DiskFault → Rose (D.faults disk.old) (D.faults disk.new) }
+    ensures within { IsWithin result }
 {
     match read_p(alloc, disk, name) {
         Ok(bytes) => left_with(alloc, bytes, disk, name),

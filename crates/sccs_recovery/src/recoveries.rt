@@ -1,20 +1,20 @@
-ghost use Rattle.std.specs.Prelude.{◌≡◌, ◌↔◌, ◌≤◌, ℕ, false, Err, None, IfOk, IfSome, IsErrOf, OnErr, OnOk, option_map};
+ghost use Rattle.std.specs.Prelude.{◌≡◌, ◌≢◌, ◌↔◌, ◌≤◌, ℕ, false, Err, None, IfOk, IfSome, IsErrOf, OnErr, OnOk, option_map};
 ghost use Rattle.sccs_base.specs.Name.{IsSfile, sibling};
 ghost use Rattle.sccs_base.specs.Stream.{Rose};
 ghost use Rattle.sccs_disk.specs.Calls.{IsThere};
 ghost use Rattle.sccs_disk.specs.Files.{View};
 ghost use Rattle.sccs_disk.specs.Images.{IsFirm};
 ghost use Rattle.sccs_disk.specs.Told.{seen};
-ghost use Rattle.sccs_files.specs.StepFiles.{Moves, is_working};
+ghost use Rattle.sccs_files.specs.StepFiles.{AreCleared, Moves, MovesPartly, is_left, is_working};
 ghost use Rattle.sccs_images.specs.Touches.{Leaves, TouchesOnly};
 ghost use Rattle.sccs_moments.specs.Moments.{LeavesCalm, RecoversOn};
-ghost use Rattle.sccs_moments.specs.Recovery.{recover, without};
+ghost use Rattle.sccs_moments.specs.Recovery.{cleared, recover, without};
 ghost use Rattle.sccs_sid.specs.declared.refusals.Refusal.{Refusal};
 ghost use Rattle.sccs_sid.specs.declared.refusals.StepFault.TheVariants as step;
 ghost use Rattle.sccs_store.specs.Commits.{Becomes, Needs, committed, plan};
 ghost use Rattle.sccs_store.specs.Stops.{OnReplace};
 ghost use Rattle.sccs_store.specs.declared.new_files.NewFile.TheVariants.{Keep};
-ghost use Rattle.sccs_recovery.specs.Checks.{Passes, checked, readable};
+ghost use Rattle.sccs_recovery.specs.Checks.{IsWithin, Passes, checked, readable, recovers_if};
 ghost use Rattle.sccs_recovery.specs.Entries.{HasEntries, PreparesLeft, Recovers, new_of};
 
 use crate::entries_left::PfileLeft;
@@ -44,7 +44,7 @@ fn prepare_left<D: Disk>(
     requires entries { HasEntries left.now }
     ensures new { IfOk result (λ new. new ≡ new_of left.now) }
     ensures view { OnOk result (PreparesLeft name.now left.now (seen (D.told disk.old)) (seen (D.told disk.new))) }
-    ensures view_err { OnErr result (Moves (is_working name.now) (λ v. v) (seen (D.told disk.old)) (seen (D.told disk.new))) }
+    ensures moves { Moves (is_working name.now) (λ v. v) (seen (D.told disk.old)) (seen (D.told disk.new)) }
     ensures touches { TouchesOnly (is_working name.now) (D.told disk.old) (D.told disk.new) }
     ensures firm { IfOk result (λ new. OnReplace new (Leaves (IsFirm (sibling 113 name.now)) (D.told disk.old) (D.told disk.new))) }
     ensures later { D.faults disk.old ≤ D.faults disk.new }
@@ -69,7 +69,7 @@ fn prepare<D: Disk>(left: &PfileLeft, disk: &mut D, name: &Name) -> Result<NewFi
     ensures view { IfOk result (λ new. option_map (committed name.now (plan false new Keep)) (seen (D.told disk.new)) ≡ option_map (recover name.now) (seen (D.told disk.old))) }
     ensures z { OnOk result (IsThere (sibling 122 name.now) (D.told disk.new)) }
     ensures needs { IfOk result (λ new. Needs new (sibling 113 name.now) (sibling 112 name.now) (D.told disk.new)) }
-    ensures view_err { OnErr result (Moves (is_working name.now) (λ v. v) (seen (D.told disk.old)) (seen (D.told disk.new))) }
+    ensures moves { Moves (is_working name.now) (λ v. v) (seen (D.told disk.old)) (seen (D.told disk.new)) }
     ensures touches { TouchesOnly (is_working name.now) (D.told disk.old) (D.told disk.new) }
     ensures firm { IfOk result (λ new. OnReplace new (Leaves (IsFirm (sibling 113 name.now)) (D.told disk.old) (D.told disk.new))) }
     ensures later { D.faults disk.old ≤ D.faults disk.new }
@@ -78,6 +78,24 @@ fn prepare<D: Disk>(left: &PfileLeft, disk: &mut D, name: &Name) -> Result<NewFi
     match clear_working(disk, name) {
         Ok(()) => prepare_left(left, disk, name),
         Err(_) => Err(DiskRefusal::Failed),
+    }
+}
+
+// takes away what was prepared, where memory is wanting
+fn give_up<D: Disk>(disk: &mut D, name: &Name) -> StepFault
+    requires { IsSfile name.now }
+    ensures accepts { (refusal : Refusal) → result ≡ step.Refused refusal → ⊥ }
+    ensures moves { Moves (is_working name.now) (λ v. v) (seen (D.told disk.old)) (seen (D.told disk.new)) }
+    ensures view { result ≡ step.Memory → Becomes (cleared name.now) (seen (D.told disk.old)) (seen (D.told disk.new)) }
+    ensures touches { TouchesOnly (is_working name.now) (D.told disk.old) (D.told disk.new) }
+    ensures later { D.faults disk.old ≤ D.faults disk.new }
+    ensures cause { result ≡ step.DiskFault → Rose (D.faults disk.old) (D.faults disk.new) }
+    ensures read { result ≢ step.ReadFault }
+    ensures write { result ≢ step.WriteFault }
+{
+    match clear_working(disk, name) {
+        Ok(()) => StepFault::Memory,
+        Err(_) => StepFault::DiskFault,
     }
 }
 
@@ -90,10 +108,13 @@ fn finish<D: Disk>(left: &PfileLeft, disk: &mut D, name: &Name) -> Result<(), St
     ensures view { OnOk result (Becomes (recover name.now) (seen (D.told disk.old)) (seen (D.told disk.new))) }
     ensures accepts { (refusal : Refusal) → result ≡ Err (step.Refused refusal) → ⊥ }
     ensures memory { IsErrOf result StepFault.Memory → Moves (is_working name.now) (λ v. v) (seen (D.told disk.old)) (seen (D.told disk.new)) }
+    ensures cleared { IsErrOf result StepFault.Memory → AreCleared name.now (seen (D.told disk.old)) (seen (D.told disk.new)) }
+    ensures partly { IsErrOf result StepFault.DiskFault → MovesPartly (is_left name.now) (recover name.now) (seen (D.told disk.old)) (seen (D.told disk.new)) }
     ensures story { RecoversOn (D.told disk.old) (D.told disk.new) }
     ensures calm { OnOk result (LeavesCalm (D.told disk.old) (D.told disk.new)) }
     ensures later { D.faults disk.old ≤ D.faults disk.new }
     ensures cause { IsErrOf result StepFault.DiskFault → Rose (D.faults disk.old) (D.faults disk.new) }
+    ensures within { IsWithin result }
 {
     match prepare(left, disk, name) {
         Ok(new_p) => match commit(disk, name, false, new_p, NewFile::Keep) {
@@ -101,7 +122,7 @@ fn finish<D: Disk>(left: &PfileLeft, disk: &mut D, name: &Name) -> Result<(), St
             Err(_) => Err(StepFault::DiskFault),
         },
         Err(DiskRefusal::Failed) => Err(StepFault::DiskFault),
-        Err(DiskRefusal::Memory) => Err(StepFault::Memory),
+        Err(DiskRefusal::Memory) => Err(give_up(disk, name)),
     }
 }
 
@@ -113,10 +134,13 @@ fn unlock<D: Disk>(alloc: Global, disk: &mut D, name: &Name) -> Result<(), StepF
     ensures checks { IfSome (seen (D.told disk.old)) (λ (v : View). Passes (readable (v name.now) (v (sibling 112 name.now))) result) }
     ensures refused { (refusal : Refusal) → result ≡ Err (step.Refused refusal) → D.told disk.new ≡ D.told disk.old }
     ensures memory { IsErrOf result StepFault.Memory → Moves (is_working name.now) (λ v. v) (seen (D.told disk.old)) (seen (D.told disk.new)) }
+    ensures cleared { IsErrOf result StepFault.Memory → AreCleared name.now (seen (D.told disk.old)) (seen (D.told disk.new)) }
+    ensures partly { IsErrOf result StepFault.DiskFault → MovesPartly (is_left name.now) (λ (v : View). recovers_if (checked name.now v) name.now v) (seen (D.told disk.old)) (seen (D.told disk.new)) }
     ensures story { RecoversOn (D.told disk.old) (D.told disk.new) }
     ensures calm { OnOk result (LeavesCalm (D.told disk.old) (D.told disk.new)) }
     ensures later { D.faults disk.old ≤ D.faults disk.new }
     ensures cause { IsErrOf result StepFault.DiskFault → Rose (D.faults disk.old) (D.faults disk.new) }
+    ensures within { IsWithin result }
 {
     match read_left(alloc, disk, name) {
         Ok(left) => finish(&left, disk, name),
@@ -128,6 +152,7 @@ fn unlock<D: Disk>(alloc: Global, disk: &mut D, name: &Name) -> Result<(), StepF
 fn tidy<D: Disk>(disk: &mut D, name: &Name) -> Result<(), Failed>
     requires { IsSfile name.now }
     ensures view { OnOk result (Becomes (without (sibling 121 name.now)) (seen (D.told disk.old)) (seen (D.told disk.new))) }
+    ensures view_err { OnErr result (Moves (is_working name.now) (λ v. v) (seen (D.told disk.old)) (seen (D.told disk.new))) }
     ensures story { RecoversOn (D.told disk.old) (D.told disk.new) }
     ensures calm { OnOk result (LeavesCalm (D.told disk.old) (D.told disk.new)) }
     ensures later { D.faults disk.old ≤ D.faults disk.new }
@@ -152,10 +177,13 @@ pub fn recover<D: Disk>(alloc: Global, disk: &mut D, name: &Name) -> Result<Reco
     ensures checks { IfSome (seen (D.told disk.old)) (λ (v : View). Passes (checked name.now v) result) }
     ensures refused { (refusal : Refusal) → result ≡ Err (step.Refused refusal) → D.told disk.new ≡ D.told disk.old }
     ensures memory { IsErrOf result StepFault.Memory → Moves (is_working name.now) (λ v. v) (seen (D.told disk.old)) (seen (D.told disk.new)) }
+    ensures cleared { IsErrOf result StepFault.Memory → AreCleared name.now (seen (D.told disk.old)) (seen (D.told disk.new)) }
+    ensures partly { IsErrOf result StepFault.DiskFault → MovesPartly (is_left name.now) (λ (v : View). recovers_if (checked name.now v) name.now v) (seen (D.told disk.old)) (seen (D.told disk.new)) }
     ensures story { RecoversOn (D.told disk.old) (D.told disk.new) }
     ensures calm { OnOk result (LeavesCalm (D.told disk.old) (D.told disk.new)) }
     ensures later { D.faults disk.old ≤ D.faults disk.new }
     ensures cause { IsErrOf result StepFault.DiskFault → Rose (D.faults disk.old) (D.faults disk.new) }
+    ensures within { IsWithin result }
 {
     match disk.size(&name.sibling(b'z')) {
         Ok(Some(_)) => match unlock(alloc, disk, name) {

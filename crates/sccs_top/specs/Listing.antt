@@ -7,6 +7,7 @@ use Rattle.sccs_edit.specs.SactStep.{sact_action}
 use Rattle.sccs_edit.specs.UngetStep.{unget_change}
 use Rattle.sccs_get.specs.EditStep.{edit_change}
 use Rattle.sccs_get.specs.GetStep.{get_action}
+use Rattle.sccs_recovery.specs.RecoverStep.{recover_action}
 use Rattle.sccs_top.specs.Runs.{words_in}
 use Rattle.sccs_top.specs.Unbuilt.{unbuilt}
 use Rattle.sccs_top.specs.declared.commands.Listed.{Listed}
@@ -24,4 +25,5 @@ action_in (known.Get get) = get_action get.words.now
 action_in (known.Reserve r) = locking (edit_change r.words.now r.stamp.now r.heading)
 action_in (known.Sact s) = sact_action s.heading
 action_in (known.Unget u) = locking (unget_change u.words.now u.stamp.now u.heading)
+action_in (known.Recover r) = recover_action
 action_in (known.Unbuilt u) = unbuilt u.any

@@ -21,6 +21,7 @@ use Rattle.sccs_edit.specs.SactStep.{sact_action}
 use Rattle.sccs_edit.specs.UngetStep.{unget_change}
 use Rattle.sccs_get.specs.EditStep.{edit_change}
 use Rattle.sccs_get.specs.GetStep.{get_action}
+use Rattle.sccs_recovery.specs.RecoverStep.{recover_action}
 use Rattle.sccs_top.specs.Messages.{usage_line}
 use Rattle.sccs_top.specs.Unbuilt.{is_admin_built, is_get_built, is_reserve_built, unbuilt}
 use Rattle.sccs_top.specs.declared.answers.Answer.{Answer}
@@ -62,6 +63,7 @@ action_of stamp (c.Admin words operands) = if is_admin_built words then locking 
 action_of stamp (c.Get words operands) = get_in words stamp (has_heading operands)
 action_of stamp (c.Unget words operands) = locking (unget_change words stamp (has_heading operands))
 action_of stamp (c.Sact operands) = sact_action (has_heading operands)
+action_of stamp (c.Recover operands) = recover_action
 action_of stamp (c.What first operands) = unbuilt true
 action_of stamp command = unbuilt false
 

@@ -18,6 +18,7 @@ use sccs_base::{Line, Sink, Source, Words};
 use sccs_disk::Disk;
 use sccs_edit::{Sact, Unget};
 use sccs_get::Reserve;
+use sccs_recovery::Recover;
 use sccs_sid::Stamp;
 use sccs_steps::{Fault, Utility, is_several, run_operand, run_operands};
 use sccs_words::{Command, GetWords, Operands, WordsFault, read_words};
@@ -43,6 +44,7 @@ enum Known<'a> {
     Reserve(Reserve<'a>),
     Sact(Sact),
     Unget(Unget<'a>),
+    Recover(Recover),
     Unbuilt(Unbuilt),
 }
 
@@ -96,6 +98,7 @@ fn utility_of<'a>(command: &'a Command, stamp: &'a Stamp) -> Known<'a>
         Command::Sact(operands) => Known::Sact(Sact {
             heading: has_heading(operands),
         }),
+        Command::Recover(_) => Known::Recover(Recover),
         Command::What(_, _) => Known::Unbuilt(Unbuilt { any: true }),
         _ => Known::Unbuilt(Unbuilt { any: false }),
     }
@@ -198,6 +201,7 @@ fn run_command<I: Source, O: Sink, E: Sink, D: Disk>(
         Known::Reserve(get) => run_listed(alloc, &get, operands, input, out, err, disk),
         Known::Sact(sact) => run_listed(alloc, &sact, operands, input, out, err, disk),
         Known::Unget(unget) => run_listed(alloc, &unget, operands, input, out, err, disk),
+        Known::Recover(recover) => run_listed(alloc, &recover, operands, input, out, err, disk),
         Known::Unbuilt(unbuilt) => run_listed(alloc, &unbuilt, operands, input, out, err, disk),
     }
 }

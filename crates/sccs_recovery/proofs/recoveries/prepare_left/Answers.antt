@@ -5,6 +5,7 @@ use Rattle.sccs_files.specs.StepFiles.{is_working}
 use Rattle.sccs_images.proofs.Touched.{only_wider}
 use Rattle.sccs_moments.proofs.FileNames.{no_q}
 use Rattle.sccs_store.proofs.Working.{same_touches}
+use Rattle.sccs_recovery.proofs.RecoveryEnds.{q_moves}
 use Rattle.sccs_recovery.proofs.recoveries.prepare_left.Goals as goal
 
 pub returns-in-Same-clause-touches : goal.returns-in-Same-clause-touches
@@ -18,3 +19,6 @@ returns-in-Ok-clause-touches g c = only_wider (bytes_eq (sibling 113 c.args.name
 
 pub returns-in-Err-clause-touches : goal.returns-in-Err-clause-touches
 returns-in-Err-clause-touches g c = only_wider (bytes_eq (sibling 113 c.args.name.now)) (is_working c.args.name.now) _ _ (no_q c.args.name.now) c.prepare_p.ensures.touches
+
+pub returns-in-Ok-clause-moves : goal.returns-in-Ok-clause-moves
+returns-in-Ok-clause-moves g c = q_moves c.args.name.now _ _ _ c.in-Ok.ensures.view

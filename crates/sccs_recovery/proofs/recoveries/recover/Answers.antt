@@ -1,4 +1,5 @@
 use Rattle.sccs_recovery.proofs.RecoveryLaws.{calm_from, same_story, story_from}
+use Rattle.sccs_recovery.proofs.RecoveryEnds.{partly, partly_from, retyped, same_partly}
 use Rattle.sccs_recovery.proofs.recoveries.recover.Goals as goal
 
 pub returns-in-Ok-clause-calm : goal.returns-in-Ok-clause-calm
@@ -18,3 +19,13 @@ returns-in-Err-tidy-clause-story g c = story_from _ (g.D.Disk.told c.size.new.se
 
 pub returns-in-Err-clause-story : goal.returns-in-Err-clause-story
 returns-in-Err-clause-story g c = same_story _ _ c.size.ensures.same
+
+pub returns-in-Err-unlock-clause-partly : goal.returns-in-Err-unlock-clause-partly
+returns-in-Err-unlock-clause-partly g c = λ fault. partly_from c.args.name.now _ (g.D.Disk.told c.args.disk.now) (g.D.Disk.told c.size.new.self) _ c.size.ensures.same (c.in-Err-unlock.ensures.partly (retyped c.in-Err-unlock.fault _ fault))
+
+pub returns-in-Err-tidy-clause-partly : goal.returns-in-Err-tidy-clause-partly
+returns-in-Err-tidy-clause-partly g c =
+    λ fault. partly_from c.args.name.now _ (g.D.Disk.told c.args.disk.now) (g.D.Disk.told c.size.new.self) _ c.size.ensures.same (partly c.args.name.now _ _ _ c.in-Err-tidy.ensures.view_err)
+
+pub returns-in-Err-clause-partly : goal.returns-in-Err-clause-partly
+returns-in-Err-clause-partly g c = λ fault. same_partly c.args.name.now _ (g.D.Disk.told c.args.disk.now) (g.D.Disk.told c.size.new.self) c.size.ensures.same

@@ -5,6 +5,8 @@ use Rattle.sccs_images.proofs.Touched.{only_wider}
 use Rattle.sccs_moments.proofs.FileNames.{no_y}
 use Rattle.sccs_store.proofs.Working.{ok_map}
 use Rattle.sccs_recovery.proofs.RecoveryLaws.{synced_calm, synced_story, touched_story}
+use Rattle.sccs_store.proofs.Working.{err_map}
+use Rattle.sccs_recovery.proofs.RecoveryEnds.{tidied_moves}
 use Rattle.sccs_recovery.proofs.recoveries.tidy.Goals as goal
 
 pub returns-in-Ok-clause-story : goal.returns-in-Ok-clause-story
@@ -18,3 +20,7 @@ returns-in-Ok-clause-calm g c =
 pub returns-in-Err-clause-story : goal.returns-in-Err-clause-story
 returns-in-Err-clause-story g c =
     touched_story c.args.name.now _ _ (only_wider (bytes_eq (sibling 121 c.args.name.now)) (is_working c.args.name.now) _ _ (no_y c.args.name.now) c.clear_sibling.ensures.touches)
+
+pub returns-in-Ok-clause-view_err : goal.returns-in-Ok-clause-view_err
+returns-in-Ok-clause-view_err g c =
+    err_map c.sync_names.result (tidied_moves c.args.name.now (g.D.Disk.told c.args.disk.now) (g.D.Disk.told c.clear_sibling.new.disk) _ c.in-Ok.ensures.view) c.sync_names.ensures.half

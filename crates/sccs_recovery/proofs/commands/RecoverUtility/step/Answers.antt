@@ -1,0 +1,28 @@
+use Rattle.sccs_recovery.specs.Commands.{is_locked}
+use Rattle.sccs_recovery.specs.RecoverStep.{found_text}
+use Rattle.sccs_recovery.proofs.RecoveryEnds.{fault_causes, fault_speaks, fault_steps, faults_of, is_sfile, made_steps, say_causes, say_speaks}
+use Rattle.sccs_recovery.proofs.commands.RecoverUtility.step.Goals as goal
+
+pub recover-requires : goal.recover-requires
+recover-requires g c = is_sfile c.args.name.now c.requires
+
+pub returns-in-Ok-clause-step : goal.returns-in-Ok-clause-step
+returns-in-Ok-clause-step g c =
+    made_steps c.args.name.now c.in-Ok.found c.say.result (g.D.Disk.told c.args.disk.now) (g.D.Disk.told c.recover.new.disk) _ _ _ _ (is_sfile c.args.name.now c.requires) c.in-Ok.ensures.view c.in-Ok.ensures.clean c.in-Ok.ensures.checks c.say.ensures.says
+
+pub returns-in-Ok-clause-speaks : goal.returns-in-Ok-clause-speaks
+returns-in-Ok-clause-speaks g c = say_speaks c.args.name.now (found_text c.args.name.now (is_locked c.in-Ok.found)) c.say.result _ _ _ c.say.ensures.says
+
+pub returns-in-Ok-clause-causes : goal.returns-in-Ok-clause-causes
+returns-in-Ok-clause-causes g c = say_causes c.say.result _ _ _ _ _ _ c.recover.ensures.later c.say.ensures.causes
+
+pub returns-in-Err-clause-step : goal.returns-in-Err-clause-step
+returns-in-Err-clause-step g c =
+    fault_steps c.args.name.now c.in-Err.fault (g.D.Disk.told c.args.disk.now) (g.D.Disk.told c.recover.new.disk) _ _ _ (is_sfile c.args.name.now c.requires)
+    (faults_of c.args.name.now c.in-Err.fault (g.D.Disk.told c.args.disk.now) (g.D.Disk.told c.recover.new.disk) c.in-Err.ensures.checks c.in-Err.ensures.refused c.in-Err.ensures.memory c.in-Err.ensures.cleared c.in-Err.ensures.partly c.in-Err.ensures.within)
+
+pub returns-in-Err-clause-speaks : goal.returns-in-Err-clause-speaks
+returns-in-Err-clause-speaks g c = fault_speaks c.in-Err.fault c.args.name.now _ c.in-Err.ensures.within.checks
+
+pub returns-in-Err-clause-causes : goal.returns-in-Err-clause-causes
+returns-in-Err-clause-causes g c = fault_causes c.in-Err.fault _ _ _ _ _ c.recover.ensures.later c.in-Err.ensures.within c.in-Err.ensures.cause

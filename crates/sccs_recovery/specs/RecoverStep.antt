@@ -1,0 +1,40 @@
+-- What the command recover does with the files of a name (own).
+use Rattle.std.specs.Prelude.{ℕ, Bool, false, true, List, [], ◌++◌, codes, None, Some, is_some, Result, Ok, if◌then◌else◌}
+use Rattle.sccs_base.specs.Name.{is_sfile_name}
+use Rattle.sccs_sid.specs.Reading.{◌>>=◌}
+use Rattle.sccs_sid.specs.declared.refusals.Refusal.{Refusal}
+use Rattle.sccs_files.specs.StepFiles.{Files}
+use Rattle.sccs_pfile.specs.Recovered.{recovered_pfile}
+use Rattle.sccs_steps.specs.StepEffects.{Outcome, StepEffect}
+use Rattle.sccs_steps.specs.Actions.{Action, quiet_checks}
+use Rattle.sccs_recovery.specs.Checks.{readable, recover_checks}
+
+-- the entries whose delta is made leave the p-file, and the z-file goes
+abbrev pub unlocked : Files → Files
+unlocked f = record { s = f.s; p = recovered_pfile f.s f.p; z = None; g = f.g }
+
+-- a name, and how it was found
+abbrev pub found_text : List ℕ → Bool → List ℕ
+found_text n locked = n ++ (if locked then codes ": recovered\n" else codes ": clean\n")
+
+-- where the z-file is there, the name is unlocked; else its files stay
+abbrev pub recovers : List ℕ → Files → StepEffect
+recovers n f = record {
+  new = if is_some f.z then Some (unlocked f) else None;
+  text = [];
+  out = found_text n (is_some f.z);
+  err = [];
+  status = 0;
+}
+
+-- the checks are made only where the z-file is there
+abbrev pub files_checked : Files → Result Bool Refusal
+files_checked f = if is_some f.z then readable f.s f.p else Ok true
+
+unfoldable pub recover_step : List ℕ → Files → Outcome
+recover_step n f = do
+  done ← files_checked f
+  Ok (recovers n f)
+
+abbrev pub recover_action : Action
+recover_action = record { fits = is_sfile_name; step = λ n input named files. recover_step n files; named = []; takes = false; reads = false; silent = false; could = quiet_checks recover_checks }

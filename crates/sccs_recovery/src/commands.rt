@@ -1,0 +1,59 @@
+ghost use Rattle.std.specs.Prelude.{◌≡◌, ◌≤◌, Err};
+ghost use Rattle.sccs_base.specs.Causes.{GivesText};
+ghost use Rattle.sccs_base.specs.Stream.{Rose};
+ghost use Rattle.sccs_sid.specs.declared.refusals.StepFault.TheVariants as step;
+ghost use Rattle.sccs_steps.specs.Causes.{WriteCauses};
+ghost use Rattle.sccs_recovery.specs.Commands.{Says, is_locked, recover_keeps};
+ghost use Rattle.sccs_recovery.specs.RecoverStep.{found_text, recover_action};
+
+use crate::recoveries::{Recovered, recover};
+use sccs_base::{Name, Sink, Source, give_parts};
+use sccs_disk::Disk;
+use sccs_sid::StepFault;
+use sccs_steps::Utility;
+use std::alloc::Global;
+
+/// recover on a name: what a step that was stopped had begun is finished or undone, and the answer says which
+/// names were locked. It refuses a locked name whose files are too long or can't be read.
+#[derive(Clone, Copy)]
+pub struct Recover;
+
+// says how a name was found
+fn say<O: Sink>(name: &Name, found: Recovered, out: &mut O) -> Result<(), StepFault>
+    ensures says { Says result (found_text name.now (is_locked found)) (O.given out.old) (O.given out.new) }
+    ensures causes { WriteCauses result (O.faults out.old) (O.faults out.new) }
+{
+    let word: &[u8] = match found {
+        Recovered::Clean => b": clean\n",
+        Recovered::Recovered => b": recovered\n",
+    };
+    match give_parts(out, &[name.bytes(), word]) {
+        Ok(()) => Ok(()),
+        Err(_) => Err(StepFault::WriteFault),
+    }
+}
+
+impl Utility for Recover {
+    ghost action = { λ r. recover_action };
+
+    ghost keeps = { λ r. recover_keeps };
+
+    fn name(&self, operand: &[u8]) -> Option<Name> {
+        Name::read_sfile(operand)
+    }
+
+    fn step<I: Source, O: Sink, E: Sink, D: Disk>(
+        &self,
+        alloc: Global,
+        name: &Name,
+        _input: &mut I,
+        out: &mut O,
+        _err: &mut E,
+        disk: &mut D,
+    ) -> Result<(), StepFault> {
+        match recover(alloc, disk, name) {
+            Ok(found) => say(name, found, out),
+            Err(fault) => Err(fault),
+        }
+    }
+}
