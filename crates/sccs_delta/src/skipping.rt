@@ -36,9 +36,7 @@ fn is_on_trunk(release: u16, sid: Sid) -> bool
 fn is_live(records: &[Record], release: u16) -> bool
     ensures { result ≡ list_any (λ r. not r.removed && is_on_trunk release r.sid) records.now }
 {
-    records
-        .iter()
-        .any(|record| !record.removed && is_on_trunk(release, record.sid))
+    records.iter().any(|record| !record.removed && is_on_trunk(release, record.sid))
 }
 
 // whether some reserved SID is

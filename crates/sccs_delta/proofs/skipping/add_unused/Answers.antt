@@ -1,4 +1,4 @@
-use Rattle.std.proofs.Common.{◌+◌, ◌-◌, ◌++◌, sym, ap, ◌∙◌}
+use Rattle.std.proofs.Common.{◌+◌, ◌-◌, ◌++◌, ap, ◌∙◌}
 use Rattle.sccs_delta.specs.DeltaStep.{unused_from}
 use Rattle.sccs_delta.proofs.SkippedLaws.{release_put}
 use Rattle.sccs_delta.proofs.skipping.add_unused.Goals as goal
