@@ -1,5 +1,5 @@
 -- A body that is appended behind a header.
-use Rattle.std.proofs.Common.{◌≡◌, ℕ, ◌≤◌, List, [], ◌∷◌, ◌++◌, Result, Ok, Err, OnOk, inl, inr, refl, sym, ap, subst, ◌∙◌, arith, append-nil, append_assoc}
+use Rattle.std.proofs.Common.{◌≡◌, ℕ, ◌≤◌, List, [], ◌++◌, Result, Ok, Err, OnOk, inl, inr, sym, ap, subst, ◌∙◌, arith, append-nil, append_assoc}
 use Rattle.sccs_base.specs.Stream.{Rose}
 use Rattle.sccs_disk.specs.Told.{Told, seen}
 use Rattle.sccs_disk.specs.declared.disks.DiskRefusal.{DiskRefusal}
@@ -9,12 +9,11 @@ use Rattle.sccs_history.specs.declared.headers.Header.{Header}
 use Rattle.sccs_history.specs.declared.headers.Item.{Item}
 use Rattle.sccs_table.specs.SumOf.{IsSumOf}
 use Rattle.sccs_writers.specs.HeaderBytes.{WritesHeader, header_bytes}
-use Rattle.sccs_writers.specs.OneFile.{OnlyWrites}
 use Rattle.sccs_writers.specs.Puts.{Appends, Puts, Writer}
 use Rattle.sccs_writers.specs.Spelled.{spelled}
 use Rattle.sccs_writers.proofs.OneFile.{only_both}
 use Rattle.sccs_writers.proofs.PutLaws.{views_two}
-use Rattle.sccs_delta.specs.Copies.{AppendsFile, AppendsSome, AppendsSpliced, AppendsText, AppendsWhole}
+use Rattle.sccs_delta.specs.Copies.{AppendsSome, AppendsSpliced, AppendsText, AppendsWhole}
 
 -- all that was put is appended, where nothing is held back before and after it
 pub whole_appended : (text n : List ℕ) (sums : ℕ × ℕ) (w w2 : Writer) (a b : Told) → w ≡ record { name = n; held = []; sums = sums } → w2.held ≡ [] → Puts text w w2 a b → AppendsText n text sums w2.sums a b

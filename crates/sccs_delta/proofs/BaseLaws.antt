@@ -1,5 +1,5 @@
 -- Lines of a base that go by.
-use Rattle.std.proofs.Common.{◌≡◌, ℕ, suc, ◌+◌, ◌≤◌, Bool, true, false, List, [], ◌∷◌, ◌++◌, length, drop, Option, None, Some, Result, Ok, Err, refl, sym, ap, subst, ◌∙◌, arith, append_assoc, append-nil, length-drop, max}
+use Rattle.std.proofs.Common.{◌≡◌, ℕ, suc, ◌+◌, ◌≤◌, Bool, true, false, List, [], ◌∷◌, ◌++◌, length, drop, Option, None, Some, Result, Ok, Err, refl, sym, ap, subst, ◌∙◌, arith, append_assoc, append-nil, length-drop}
 use Rattle.std.specs.Prelude.{if◌then◌else◌, ◌&&◌, ◌||◌}
 use Rattle.std.specs.List.{list_any}
 use Rattle.sccs_base.specs.Cut.{cut, text_of, closed}
@@ -15,8 +15,6 @@ use Rattle.sccs_history.specs.declared.headers.Item.TheVariants as items
 use Rattle.sccs_edits.specs.declared.scripts.Plan.{Plan}
 use Rattle.sccs_splicer.specs.PlanPlaces.{Passed}
 use Rattle.sccs_table.proofs.RunLaws.{lines_bound}
-use Rattle.sccs_body.specs.BodyFile.{items_of}
-use Rattle.sccs_body.specs.ToCome.{ToCome}
 use Rattle.sccs_versions.specs.Coming.{Coming, ComesNext, GivesNext, IsBody, shown}
 use Rattle.sccs_versions.specs.Place.{VersionPlace}
 use Rattle.sccs_delta.specs.Copies.{IsOuterFault}

@@ -1,5 +1,5 @@
 -- Lines of a result that go by.
-use Rattle.std.proofs.Common.{◌≡◌, ℕ, suc, ◌+◌, ◌<◌, ◌≤◌, Bool, true, false, cond, not, ◌||◌, List, [], ◌∷◌, ◌++◌, take, get_or, length, Option, None, Some, Result, Ok, Err, OnOk, IfOk, refl, sym, ap, subst, ◌∙◌, arith, append_assoc}
+use Rattle.std.proofs.Common.{◌≡◌, ℕ, suc, ◌+◌, ◌<◌, ◌≤◌, Bool, true, false, cond, not, ◌||◌, List, [], ◌∷◌, ◌++◌, take, get_or, length, Option, None, Some, Result, Ok, Err, OnOk, refl, sym, ap, subst, ◌∙◌, arith, append_assoc}
 use Rattle.std.proofs.lemmas.List.Folds.{list_any-append}
 use Rattle.std.specs.List.{list_any}
 use Rattle.std.specs.Str.{bytes_eq}
@@ -8,7 +8,7 @@ use Rattle.std.proofs.lemmas.Grind.{take_at_read}
 use Rattle.sccs_history.specs.Numbers.{front_if, has}
 use Rattle.sccs_edits.specs.Plans.{added_after}
 use Rattle.sccs_edits.specs.declared.scripts.Plan.{Plan}
-use Rattle.sccs_delta.specs.Copies.{IsOuterFault, IsOuterResult}
+use Rattle.sccs_delta.specs.Copies.{IsOuterResult}
 use Rattle.sccs_delta.specs.Examining.{ComparesOn, GComes, GivesGLine, LinesLeft, Sees, SeesAll, difference, first_difference, has_keyword, line_result}
 use Rattle.sccs_delta.specs.declared.result_checks.ResultCheck.{ResultCheck}
 

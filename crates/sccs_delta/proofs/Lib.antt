@@ -5,4 +5,5 @@ pub mod ComingItems
 pub mod CopyLaws
 pub mod LongerBases
 pub mod PlanResults
+pub mod SkippedLaws
 pub mod VersionLaws

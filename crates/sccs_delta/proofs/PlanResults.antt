@@ -1,9 +1,8 @@
 -- What a plan makes of its base is what its script makes of it.
-use Rattle.std.proofs.Common.{◌≡◌, ℕ, suc, ◌<◌, Bool, true, false, cond, not, List, [], ◌∷◌, ◌++◌, length, map, refl, sym, ap, ◌∙◌, arith}
-use Rattle.std.specs.List.{AllByRecursion}
-use Rattle.sccs_edits.specs.Plans.{added_after, added_lines, plan, planted, planted_from, struck_line}
+use Rattle.std.proofs.Common.{◌≡◌, ℕ, suc, Bool, true, false, cond, not, List, [], ◌∷◌, ◌++◌, length, map, refl, sym, ap, ◌∙◌, arith}
+use Rattle.sccs_edits.specs.Plans.{added_after, added_lines, plan, planted, planted_from}
 use Rattle.sccs_edits.specs.Scripts.{apply}
-use Rattle.sccs_edits.specs.Weave.{AreBelow, marked, new_line, weave}
+use Rattle.sccs_edits.specs.Weave.{AreBelow, marked, new_line}
 use Rattle.sccs_edits.specs.declared.scripts.Order.{Order}
 use Rattle.sccs_edits.specs.declared.scripts.Plan.{Plan}
 use Rattle.sccs_edits.proofs.Plants.{weave_planted}
@@ -11,7 +10,7 @@ use Rattle.sccs_edits.proofs.Selects.{select_woven}
 use Rattle.sccs_history.specs.Numbers.{front_if, has}
 use Rattle.sccs_history.specs.Body.{HistoryLine}
 use Rattle.sccs_history.specs.Select.{select, shows}
-use Rattle.sccs_delta.specs.Examining.{line_result, result_from, result_of}
+use Rattle.sccs_delta.specs.Examining.{result_from, result_of}
 
 -- the text as lines of one delta
 abbrev as_lines : List (List ℕ) → List HistoryLine

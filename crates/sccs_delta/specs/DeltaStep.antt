@@ -1,5 +1,5 @@
 -- What delta does with the files of a name and its input: POSIX, Shell and Utilities, delta. The order of the checks is own.
-use Rattle.std.specs.Prelude.{◌≡◌, ℕ, zero, suc, ◌+◌, ◌-◌, ◌==◌, nat_le, nat_lt, min, Bool, true, false, not, ◌&&◌, ◌||◌, List, [], ◌∷◌, ◌++◌, length, map, remove, find, slice_get, Option, None, Some, option_and_then, option_map, unwrap_or, Result, Ok, Err, codes, decimal, if◌then◌else◌}
+use Rattle.std.specs.Prelude.{ℕ, zero, suc, ◌+◌, ◌-◌, ◌==◌, nat_le, nat_lt, Bool, true, false, not, ◌&&◌, ◌||◌, List, [], ◌∷◌, ◌++◌, length, map, remove, slice_get, Option, None, Some, option_map, unwrap_or, Result, Ok, Err, codes, decimal, if◌then◌else◌}
 use Rattle.std.specs.List.{list_any}
 use Rattle.sccs_base.specs.Constants.{file_limit}
 use Rattle.sccs_base.specs.Cut.{text_of}
@@ -7,7 +7,6 @@ use Rattle.sccs_sid.specs.Reading.{◌>>=◌, is_empty}
 use Rattle.sccs_sid.specs.Sid.{sid_text}
 use Rattle.sccs_sid.specs.declared.moments.Stamp.{Stamp}
 use Rattle.sccs_sid.specs.declared.sids.Sid.{Sid}
-use Rattle.sccs_sid.specs.declared.sid_lists.Range.{Range}
 use Rattle.sccs_sid.specs.declared.refusals.Refusal.{Refusal}
 use Rattle.sccs_sid.specs.declared.refusals.Refusal.TheVariants as refusals
 use Rattle.sccs_disk.specs.Files.{Content}
@@ -37,7 +36,7 @@ use Rattle.sccs_files.specs.StepFiles.{Files}
 use Rattle.sccs_pfile.specs.Choices.{choice, fits}
 use Rattle.sccs_pfile.specs.Recovered.{pfile_of}
 use Rattle.sccs_pfile.specs.declared.entries.Edit.{Edit}
-use Rattle.sccs_steps.specs.StepEffects.{Outcome, StepEffect, check, there}
+use Rattle.sccs_steps.specs.StepEffects.{StepEffect, check, there}
 use Rattle.sccs_steps.specs.Actions.{Step}
 use Rattle.sccs_store.specs.SealedFiles.{sealed}
 use Rattle.sccs_pending.specs.NewEntries.{kept_g, or_no_edit}

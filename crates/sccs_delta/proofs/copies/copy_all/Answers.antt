@@ -1,4 +1,4 @@
-use Rattle.std.proofs.Common.{◌≡◌, ◌∙◌, Ok, Some, ap, refl, subst}
+use Rattle.std.proofs.Common.{◌∙◌, Ok, ap, refl, subst}
 use Rattle.sccs_disk.specs.Told.{seen}
 use Rattle.sccs_table.specs.ReaderState.{bytes_in}
 use Rattle.sccs_delta.specs.Copies.{CopiesNext}

@@ -1,4 +1,4 @@
-use Rattle.std.proofs.Common.{◌≡◌, false, Ok, Some, arith, refl, subst}
+use Rattle.std.proofs.Common.{◌≡◌, false, Ok, refl, subst}
 use Rattle.std.specs.Prelude.{IfSome}
 use Rattle.sccs_splicer.specs.Splices.{IsControl}
 use Rattle.sccs_delta.specs.Copies.{GivesBaseItem}

@@ -1,4 +1,4 @@
-use Rattle.sccs_delta.proofs.ComingItems.{item_fault, item_given, no_item}
+use Rattle.sccs_delta.proofs.ComingItems.{item_given}
 use Rattle.sccs_delta.proofs.copies.next_item.Goals as goal
 
 pub returns-in-Ok-clause-told : goal.returns-in-Ok-clause-told

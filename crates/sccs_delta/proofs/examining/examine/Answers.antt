@@ -1,4 +1,4 @@
-use Rattle.std.proofs.Common.{◌≡◌, ◌∙◌, Some, ap, arith, refl, subst, sym}
+use Rattle.std.proofs.Common.{◌≡◌, ◌∙◌, ap, arith, subst}
 use Rattle.std.specs.Prelude.{drop}
 use Rattle.sccs_disk.specs.Told.{seen}
 use Rattle.sccs_history.specs.Body.{lines_of}

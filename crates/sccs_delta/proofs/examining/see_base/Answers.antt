@@ -1,4 +1,4 @@
-use Rattle.std.proofs.Common.{◌++◌, [], ◌∙◌, ap, not, subst}
+use Rattle.std.proofs.Common.{[], ◌∙◌, ap, not, subst}
 use Rattle.sccs_disk.specs.Told.{seen}
 use Rattle.sccs_edits.specs.Plans.{added_after}
 use Rattle.sccs_history.specs.Numbers.{front_if}

@@ -1,4 +1,3 @@
-use Rattle.std.proofs.Common.{Ok, refl}
 use Rattle.sccs_splicer.specs.Splices.{owed}
 use Rattle.sccs_delta.proofs.AppendLaws.{behind_header, items_behind}
 use Rattle.sccs_delta.proofs.ComingItems.{bytes_stay}
