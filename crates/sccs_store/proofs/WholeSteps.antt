@@ -1,9 +1,8 @@
 -- A whole step: what is prepared under its lock, and the commit.
-use Rattle.std.proofs.Common.{◌≡◌, ◌⊎◌, ◌≤◌, ℕ, Bool, false, List, [], ◌∷◌, ◌++◌, drop, Option, inl, inr, refl, sym, ap, subst, ◌∙◌, arith}
-use Rattle.std.specs.Str.{bytes_eq}
+use Rattle.std.proofs.Common.{◌≡◌, ℕ, List, inl, inr, refl, sym, subst}
 use Rattle.sccs_base.specs.Name.{IsSfile, sibling}
 use Rattle.sccs_disk.specs.Files.{Model, View, view_of}
-use Rattle.sccs_disk.specs.Images.{Allows, Image, IsFirm}
+use Rattle.sccs_disk.specs.Images.{Allows, IsFirm}
 use Rattle.sccs_disk.specs.Told.{Told, Tells}
 use Rattle.sccs_files.specs.StepFiles.{is_left}
 use Rattle.sccs_images.specs.Touches.{Leaves, Touches, TouchesOnly, Touching, earlier, newest}
