@@ -120,7 +120,12 @@ impl Change for Unget<'_> {
             Ok(found) => found,
             Err(fault) => return Err(fault),
         };
-        match chosen(&found.edits, &self.stamp.login, self.words.sid.as_ref(), false) {
+        match chosen(
+            &found.edits,
+            &self.stamp.login,
+            self.words.sid.as_ref(),
+            false,
+        ) {
             Ok(number) => drop_entry(alloc, self, name, found.edits, number, disk),
             Err(fault) => Err(fault),
         }

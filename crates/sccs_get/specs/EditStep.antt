@@ -91,9 +91,9 @@ abbrev pub edit_report : GetWords → Bool → List ℕ → Edit → List ℕ
 edit_report words heading n e =
     if words.silent then []
     else heading_text heading n
-        ++ (listed_text words.include (codes "Included:") e.include
-        ++ (listed_text words.exclude (codes "Excluded:") e.exclude
-        ++ (ended (sid_text e.got) ++ (codes "new delta " ++ ended (sid_text e.made)))))
+    ++ (listed_text words.include (codes "Included:") e.include
+    ++ (listed_text words.exclude (codes "Excluded:") e.exclude
+    ++ (ended (sid_text e.got) ++ (codes "new delta " ++ ended (sid_text e.made)))))
 
 -- one entry more, last; the g-file stays
 abbrev pub with_entry : GetWords → Bool → List ℕ → List Edit → Edit → Decided

@@ -98,12 +98,7 @@ fn add_delta(edit: &Edit, report: &mut Vec<u8>) -> Result<(), Memory>
 }
 
 // the report of an entry, unless nothing is to be said
-fn report_of(
-    alloc: Global,
-    get: &Reserve<'_>,
-    name: &Name,
-    edit: &Edit,
-) -> Result<Bytes, Memory>
+fn report_of(alloc: Global, get: &Reserve<'_>, name: &Name, edit: &Edit) -> Result<Bytes, Memory>
     ensures { IfOk result (λ report. report ≡ edit_report get.now.words.now get.now.heading name.now edit.now) }
 {
     let mut report = Vec::new(alloc);
@@ -173,7 +168,13 @@ impl Change for Reserve<'_> {
             Ok(found) => found,
             Err(fault) => return Err(fault),
         };
-        match new_entry(alloc, &found.front.header, &found.edits, self.words, self.stamp) {
+        match new_entry(
+            alloc,
+            &found.front.header,
+            &found.edits,
+            self.words,
+            self.stamp,
+        ) {
             Ok(edit) => add_entry(alloc, self, name, found.edits, edit, disk),
             Err(fault) => Err(fault),
         }

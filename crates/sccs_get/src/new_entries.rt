@@ -64,12 +64,7 @@ fn is_got(edits: &[Edit], got: Sid) -> bool
 
 // the SID to be made, where it may be
 #[tactic(auto, unfolding(crate::specs::EditStep::free_sid))]
-fn free_sid(
-    header: &Header,
-    edits: &Edits,
-    got: Sid,
-    made: Option<Sid>,
-) -> Result<Sid, StepFault>
+fn free_sid(header: &Header, edits: &Edits, got: Sid, made: Option<Sid>) -> Result<Sid, StepFault>
     ensures value { Answers (free_sid header.now edits.now got made) result }
     ensures checks { RefusesWithin (17 ∷ 18 ∷ 19 ∷ 33 ∷ []) result }
     ensures memory { result ≢ Err faults.Memory }
@@ -111,7 +106,13 @@ fn singles(alloc: Global, records: &[Record], serials: &[u16]) -> Result<SidList
     let mut list = SidList::empty(alloc);
     for serial in serials {
         let sid = sid_at(records, *serial);
-        list.insert(list.len(), Range { first: sid, last: sid })?;
+        list.insert(
+            list.len(),
+            Range {
+                first: sid,
+                last: sid,
+            },
+        )?;
     }
     Ok(list)
 }

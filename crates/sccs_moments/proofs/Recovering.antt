@@ -107,7 +107,7 @@ left_alone : (n k : List ℕ) (v : View) (z : Bool) → IsSfile n → IsSfile k 
 left_alone n k v true sfile other apart =
     recovered_same _ (v k) _ (v (sibling 112 k)) _ (is_some (v (sibling 122 k)))
     (put_other (cleaned n v) (sibling 122 n) k None (from_sfile 122 n k other refl)
-      ∙ (put_other (cleared n v) (sibling 112 n) k (recovered_pfile (v n) (v (sibling 112 n))) (from_sfile 112 n k other refl) ∙ cleared_other n v k (working_s n k other)))
+    ∙ (put_other (cleared n v) (sibling 112 n) k (recovered_pfile (v n) (v (sibling 112 n))) (from_sfile 112 n k other refl) ∙ cleared_other n v k (working_s n k other)))
     (put_other (cleared n v) (sibling 112 n) (sibling 112 k) (recovered_pfile (v n) (v (sibling 112 n))) (siblings_differ 112 n k sfile other apart))
     (ap is_some (put_other (cleaned n v) (sibling 122 n) (sibling 122 k) None (siblings_differ 122 n k sfile other apart)))
 left_alone n k v false sfile other apart = recovered_same _ (v k) _ (v (sibling 112 k)) _ (is_some (v (sibling 122 k))) (put_other v (sibling 121 n) k None (from_sfile 121 n k other refl)) refl refl

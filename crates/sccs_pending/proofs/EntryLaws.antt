@@ -77,9 +77,6 @@ pub some_chosen : (n : List ℕ) (edits : List Edit) (a b : Told) → (length ed
 some_chosen n [] a b some is = absurd (some refl)
 some_chosen n (e ∷ edits) a b some is = record { chosen_is = chosen_q (seen a) (seen b) is; needs = λ none. there (seen a) (seen b) is }
   where
-
-
-
     chosen_q : (o o2 : Option View) → Becomes (λ v. put v (sibling 113 n) (Some (written_pfile (e ∷ edits)))) o o2 → IfSome o2 (λ (v : View). (old : Option Content) → v (sibling 113 n) ≡ pfile_of (e ∷ edits))
     chosen_q None o2 is = subst (λ (x : Option View). IfSome x (λ (v : View). (old : Option Content) → v (sibling 113 n) ≡ pfile_of (e ∷ edits))) (sym is) tt
     chosen_q (Some v) o2 is = subst (λ (x : Option View). IfSome x (λ (u : View). (old : Option Content) → u (sibling 113 n) ≡ pfile_of (e ∷ edits))) (sym is) (λ old. put_same v (sibling 113 n) (Some (written_pfile (e ∷ edits))))

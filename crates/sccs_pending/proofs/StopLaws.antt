@@ -132,7 +132,7 @@ decided_settles n x d (Ok p) o a b sfile same read valid undone prepares =
     by (seen a) (seen b) (subst (λ (t : Told). IfSome (seen t) (λ (v : View). AnswersPending (v n) (v (sibling 112 n)) (Ok x))) (sym same) read) prepares.moves prepares.entries.chosen_is
   where
     by : (oa ob : Option View) → IfSome oa (λ (v : View). AnswersPending (v n) (v (sibling 112 n)) (Ok x)) → Moves (bytes_eq (sibling 113 n)) (λ v. v) oa ob → IfSome ob (λ (v : View). (old : Option Content) → chosen p.new_p (v (sibling 113 n)) old ≡ pfile_of d.edits)
-      → IfSome ob (λ v. IsPaired n v → KeepsEntries n (plan_of p) v)
+        → IfSome ob (λ v. IsPaired n v → KeepsEntries n (plan_of p) v)
     by None None r2 moves is = tt
     by None (Some u) r2 moves is = cc
     by (Some v) None r2 moves is = tt

@@ -1,9 +1,8 @@
 -- A whole step: what is prepared under its lock, and the commit.
-use Rattle.std.proofs.Common.{◌≡◌, ◌⊎◌, ◌≤◌, ℕ, Bool, false, List, [], ◌∷◌, ◌++◌, drop, Option, inl, inr, refl, sym, ap, subst, ◌∙◌, arith}
-use Rattle.std.specs.Str.{bytes_eq}
+use Rattle.std.proofs.Common.{◌≡◌, ℕ, List, inl, inr, refl, sym, subst}
 use Rattle.sccs_base.specs.Name.{IsSfile, sibling}
 use Rattle.sccs_disk.specs.Files.{Model, View, view_of}
-use Rattle.sccs_disk.specs.Images.{Allows, Image, IsFirm}
+use Rattle.sccs_disk.specs.Images.{Allows, IsFirm}
 use Rattle.sccs_disk.specs.Told.{Told, Tells}
 use Rattle.sccs_files.specs.StepFiles.{is_left}
 use Rattle.sccs_images.specs.Touches.{Leaves, Touches, TouchesOnly, Touching, earlier, newest}
@@ -77,7 +76,7 @@ ends_after n c a b d m past w sfile is calm sound plain prepared same commit =
     after : (stays : Stays (view_of m) m past b) → CanCommit n c (newest stays.added m) → EndsAfter (view_of m) w m past d
     after stays can =
         let end : (went : Went (IsNew (newest stays.added m) (committed n c (view_of (newest stays.added m)))) (newest stays.added m) (earlier stays.added m past) 1 d) × IsCalm (newest went.added (newest stays.added m))
-          = commit (newest stays.added m) (earlier stays.added m past) stays.is can in
+        = commit (newest stays.added m) (earlier stays.added m past) stays.is can in
         (whole_run (view_of m) w m past 1 b d (committed n c (view_of (newest stays.added m))) stays (same (newest stays.added m) (earlier stays.added m past) stays.is) end.0, subst IsCalm (sym (newest_more end.0.added stays.added m)) end.1)
 
 -- the commit was stopped, or failed
@@ -90,5 +89,5 @@ ends_within n c a b d m past w sfile is calm sound plain prepared same commit =
     within : (stays : Stays (view_of m) m past b) → CanCommit n c (newest stays.added m) → EndsWithin (view_of m) w m past d
     within stays can =
         let end : (went : Went (IsNew (newest stays.added m) (committed n c (view_of (newest stays.added m)))) (newest stays.added m) (earlier stays.added m past) 0 d) × HasFirm (newest went.added (newest stays.added m))
-          = commit (newest stays.added m) (earlier stays.added m past) stays.is can in
+        = commit (newest stays.added m) (earlier stays.added m past) stays.is can in
         (whole_run (view_of m) w m past 0 b d (committed n c (view_of (newest stays.added m))) stays (same (newest stays.added m) (earlier stays.added m past) stays.is) end.0, subst HasFirm (sym (newest_more end.0.added stays.added m)) end.1)

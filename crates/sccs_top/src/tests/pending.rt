@@ -51,10 +51,12 @@ fn ends(alloc: Global, disk: &mut MemoryDisk, pfile: &[u8], row: &Row) -> Result
     };
     let seen = command_on(alloc, row.line, &given, disk)?;
     let status = row.status;
-    Ok(seen.answer == Answer::Finished { status }
-        && seen.out.bytes() == row.out
-        && seen.err.bytes() == row.err
-        && disk.bytes(&name(pfile)?) == row.pfile)
+    Ok(
+        seen.answer == Answer::Finished { status }
+            && seen.out.bytes() == row.out
+            && seen.err.bytes() == row.err
+            && disk.bytes(&name(pfile)?) == row.pfile,
+    )
 }
 
 // a file with these flags in place of none
@@ -197,7 +199,10 @@ const JOINT: [Row<'static>; 6] = [
 #[test]
 fn joint_edits_are_dropped_one_by_one(rt: HostRuntime) -> Result<(), Fail> {
     let joint = flagged(rt.alloc(), SECOND, b"\x01f j\n")?;
-    let mut disk = disk_with(rt.alloc(), &[(b"s.a", &joint), (b"p.a", ENTRY), (b"a", b"mine")])?;
+    let mut disk = disk_with(
+        rt.alloc(),
+        &[(b"s.a", &joint), (b"p.a", ENTRY), (b"a", b"mine")],
+    )?;
     for row in &JOINT {
         assert!(rt; disk.has(&name(b"a")?) || row.pfile == Some(ENTRY) || row.pfile == None);
         assert!(rt; ends(rt.alloc(), &mut disk, b"p.a", row)?);
@@ -208,7 +213,10 @@ fn joint_edits_are_dropped_one_by_one(rt: HostRuntime) -> Result<(), Fail> {
 
 #[test]
 fn operands_have_headings(rt: HostRuntime) -> Result<(), Fail> {
-    let mut disk = disk_with(rt.alloc(), &[(b"s.a", SECOND), (b"s.c", TWO_LINES), (b"p.a", ENTRY)])?;
+    let mut disk = disk_with(
+        rt.alloc(),
+        &[(b"s.a", SECOND), (b"s.c", TWO_LINES), (b"p.a", ENTRY)],
+    )?;
     let row = Row {
         time: b"05:10:00",
         login: b"ann",
@@ -225,12 +233,36 @@ fn operands_have_headings(rt: HostRuntime) -> Result<(), Fail> {
 #[test]
 fn releases_may_be_closed(rt: HostRuntime) -> Result<(), Fail> {
     let rows: [(&[u8], &[u8], &[u8]); 6] = [
-        (b"\x01f f 2\n", b"get -e -g s.a", b"ERROR [s.a]: release outside floor and ceiling (17)\n"),
-        (b"\x01f c 1\n", b"get -e -g -r2 s.a", b"ERROR [s.a]: release outside floor and ceiling (17)\n"),
-        (b"\x01f l 1\n", b"get -e -g s.a", b"ERROR [s.a]: release is locked (18)\n"),
-        (b"\x01f l a\n", b"get -e -g -r2 s.a", b"ERROR [s.a]: release is locked (18)\n"),
-        (b"", b"get -e -g -r9.9 s.a", b"ERROR [s.a]: no such SID (15)\n"),
-        (b"", b"get -e -g -i1.2 -x1.2 s.a", b"ERROR [s.a]: bad list at 1.2 (16)\n"),
+        (
+            b"\x01f f 2\n",
+            b"get -e -g s.a",
+            b"ERROR [s.a]: release outside floor and ceiling (17)\n",
+        ),
+        (
+            b"\x01f c 1\n",
+            b"get -e -g -r2 s.a",
+            b"ERROR [s.a]: release outside floor and ceiling (17)\n",
+        ),
+        (
+            b"\x01f l 1\n",
+            b"get -e -g s.a",
+            b"ERROR [s.a]: release is locked (18)\n",
+        ),
+        (
+            b"\x01f l a\n",
+            b"get -e -g -r2 s.a",
+            b"ERROR [s.a]: release is locked (18)\n",
+        ),
+        (
+            b"",
+            b"get -e -g -r9.9 s.a",
+            b"ERROR [s.a]: no such SID (15)\n",
+        ),
+        (
+            b"",
+            b"get -e -g -i1.2 -x1.2 s.a",
+            b"ERROR [s.a]: bad list at 1.2 (16)\n",
+        ),
     ];
     for (flags, line, err) in rows {
         let file = flagged(rt.alloc(), SECOND, flags)?;
@@ -285,14 +317,26 @@ fn numbers_end(rt: HostRuntime) -> Result<(), Fail> {
 #[test]
 fn hostile_entries_are_refused(rt: HostRuntime) -> Result<(), Fail> {
     let rows: [(&[u8], &[u8]); 5] = [
-        (b"1.2 1.3 bob 21/03/04\n", b"ERROR [s.b]: format error in p-file at line 1 (10)\n"),
-        (b"1.2 1.1 bob 21/03/04 05:11:00\n", b"ERROR [s.b]: p-file entry 1 disagrees (11)\n"),
+        (
+            b"1.2 1.3 bob 21/03/04\n",
+            b"ERROR [s.b]: format error in p-file at line 1 (10)\n",
+        ),
+        (
+            b"1.2 1.1 bob 21/03/04 05:11:00\n",
+            b"ERROR [s.b]: p-file entry 1 disagrees (11)\n",
+        ),
         (
             b"1.2 1.3 bob 21/03/04 05:11:00\n1.2 1.3 bob 21/03/04 05:11:00\n",
             b"ERROR [s.b]: p-file entry 1 disagrees (11)\n",
         ),
-        (b"1.2 1.3 bob 21/03/04 05:11:00 -i1.9\n", b"ERROR [s.b]: p-file entry 1 disagrees (11)\n"),
-        (b"1.2 1.3 ann 21/03/04 05:11:00\n", b"ERROR [s.b]: no edit is pending (13)\n"),
+        (
+            b"1.2 1.3 bob 21/03/04 05:11:00 -i1.9\n",
+            b"ERROR [s.b]: p-file entry 1 disagrees (11)\n",
+        ),
+        (
+            b"1.2 1.3 ann 21/03/04 05:11:00\n",
+            b"ERROR [s.b]: no edit is pending (13)\n",
+        ),
     ];
     for (pfile, err) in rows {
         let mut disk = disk_with(rt.alloc(), &[(b"s.b", BRANCHED), (b"p.b", pfile)])?;
@@ -312,7 +356,12 @@ fn hostile_entries_are_refused(rt: HostRuntime) -> Result<(), Fail> {
 }
 
 // whether each failing call of a command leaves the s-file, and one of two p-files
-fn harms_none(alloc: Global, line: &[u8], old: Option<&[u8]>, new: Option<&[u8]>) -> Result<bool, Fail> {
+fn harms_none(
+    alloc: Global,
+    line: &[u8],
+    old: Option<&[u8]>,
+    new: Option<&[u8]>,
+) -> Result<bool, Fail> {
     let given = Given {
         time: b"05:09:00",
         ..PLAIN
@@ -334,7 +383,12 @@ fn harms_none(alloc: Global, line: &[u8], old: Option<&[u8]>, new: Option<&[u8]>
 }
 
 // whether a stop behind each call leaves the s-file, and one of two p-files
-fn is_stopped_well(alloc: Global, line: &[u8], old: Option<&[u8]>, new: Option<&[u8]>) -> Result<bool, Fail> {
+fn is_stopped_well(
+    alloc: Global,
+    line: &[u8],
+    old: Option<&[u8]>,
+    new: Option<&[u8]>,
+) -> Result<bool, Fail> {
     let given = Given {
         time: b"05:09:00",
         ..PLAIN

@@ -13,5 +13,5 @@ pub loop-serial-preserved : goal.loop-serial-preserved
 loop-serial-preserved c = record {
   value = single_added c.args.records.now c.args.serials.now c.loop-serial.list c.insert.new.self c.loop-serial.serial-index 0 c.sid_at-sid.result c.loop-serial-test.true c.loop-serial.invariant.value c.sid_at-sid.ensures (c.in_ok-insert.ensures.ok ∙ ap (λ k. insert c.loop-serial.list k (single_range c.sid_at-sid.result)) c.len.ensures);
   valid = subst (λ (l : List Range). All IsRange l) (sym (c.in_ok-insert.ensures.ok ∙ ap (λ k. insert c.loop-serial.list k (single_range c.sid_at-sid.result)) c.len.ensures))
-  (all_with IsRange c.loop-serial.list (single_range c.sid_at-sid.result) c.loop-serial.invariant.valid (sid_there c.args.records.now _ c.sid_at-sid.result c.requires.spelled c.sid_at-sid.ensures, sid_there c.args.records.now _ c.sid_at-sid.result c.requires.spelled c.sid_at-sid.ensures));
+      (all_with IsRange c.loop-serial.list (single_range c.sid_at-sid.result) c.loop-serial.invariant.valid (sid_there c.args.records.now _ c.sid_at-sid.result c.requires.spelled c.sid_at-sid.ensures, sid_there c.args.records.now _ c.sid_at-sid.result c.requires.spelled c.sid_at-sid.ensures));
 }
