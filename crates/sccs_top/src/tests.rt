@@ -8,5 +8,6 @@ mod pending;
 mod readings;
 mod releases;
 mod samples;
+mod stops;
 mod usages;
 mod versions;

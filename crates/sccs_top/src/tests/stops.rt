@@ -1,0 +1,198 @@
+use crate::Answer;
+use crate::tests::fixtures::{Given, PLAIN, command_on};
+use crate::tests::samples::{SECOND, TWO_LINES};
+use sccs_base::Name;
+use sccs_disk::{Disk, Fill, MemoryDisk};
+use std::alloc::Global;
+use std::test::Fail;
+
+// more calls than any of these commands makes
+const CALLS: u64 = 30;
+
+const ENTRY: &[u8] = b"1.2 1.3 ann 21/03/04 05:09:00\n";
+
+/// A command that may be stopped, with the s-file and the p-file before and after it.
+#[derive(Clone, Copy)]
+struct Stop<'a> {
+    line: &'a [u8],
+    time: &'a [u8],
+    input: &'a [u8],
+    old: [Option<&'a [u8]>; 2],
+    new: [Option<&'a [u8]>; 2],
+    /// Whether a step was stopped before it.
+    locked: bool,
+}
+
+const STOPS: [Stop<'static>; 4] = [
+    Stop {
+        line: b"admin -i s.a",
+        time: b"05:06:07",
+        input: b"one\ntwo %I%",
+        old: [None, None],
+        new: [Some(TWO_LINES), None],
+        locked: false,
+    },
+    Stop {
+        line: b"get -e -g s.a",
+        time: b"05:09:00",
+        input: b"",
+        old: [Some(SECOND), None],
+        new: [Some(SECOND), Some(ENTRY)],
+        locked: false,
+    },
+    Stop {
+        line: b"unget s.a",
+        time: b"05:09:00",
+        input: b"",
+        old: [Some(SECOND), Some(ENTRY)],
+        new: [Some(SECOND), None],
+        locked: false,
+    },
+    Stop {
+        line: b"recover s.a",
+        time: b"05:09:00",
+        input: b"",
+        old: [
+            Some(SECOND),
+            Some(b"1.1 1.2 ann 21/03/04 05:07:08\n1.2 1.3 ann 21/03/04 05:09:00\n"),
+        ],
+        new: [Some(SECOND), Some(ENTRY)],
+        locked: true,
+    },
+];
+
+fn name(letter: u8) -> Result<Name, Fail> {
+    Ok(Name::read(b"s.a").ok_or("a name")?.sibling(letter))
+}
+
+// the disk before a command, of which so many calls fail
+fn disk_before(alloc: Global, stop: &Stop, failing: &[u64]) -> Result<MemoryDisk, Fail> {
+    let mut disk = MemoryDisk::new(alloc, 10_000, failing)?;
+    let [s_file, p_file] = stop.old;
+    if let Some(bytes) = s_file {
+        disk.put(&name(b's')?, bytes, false)?;
+    }
+    if let Some(bytes) = p_file {
+        disk.put(&name(b'p')?, bytes, true)?;
+    }
+    if stop.locked {
+        disk.put(&name(b'x')?, b"half", true)?;
+        disk.put(&name(b'z')?, b"", true)?;
+    }
+    Ok(disk)
+}
+
+// makes the command
+fn answer(alloc: Global, stop: &Stop, disk: &mut MemoryDisk) -> Result<Answer, Fail> {
+    let given = Given {
+        input: stop.input,
+        time: stop.time,
+        ..PLAIN
+    };
+    Ok(command_on(alloc, stop.line, &given, disk)?.answer)
+}
+
+// the s-file and the p-file
+fn files(disk: &MemoryDisk) -> Result<[Option<&[u8]>; 2], Fail> {
+    Ok([disk.bytes(&name(b's')?), disk.bytes(&name(b'p')?)])
+}
+
+// whether recover says that the name is clean, or recovered
+fn says(alloc: Global, disk: &mut MemoryDisk, either: &[&[u8]]) -> Result<bool, Fail> {
+    let seen = command_on(alloc, b"recover s.a", &PLAIN, disk)?;
+    Ok(
+        seen.answer == Answer::Finished { status: 0 }
+            && either.iter().any(|text| *text == seen.out.bytes())
+            && seen.err.bytes().is_empty(),
+    )
+}
+
+// whether recovery leaves the s-file and the p-file as before or after the command, and no other file of the name
+fn recovers(alloc: Global, stop: &Stop, disk: &mut MemoryDisk) -> Result<bool, Fail> {
+    let well = says(alloc, disk, &[b"s.a: clean\n", b"s.a: recovered\n"])?
+        && says(alloc, disk, &[b"s.a: clean\n"])?;
+    let pair = files(disk)?;
+    let gone = !disk.has(&name(b'x')?)
+        && !disk.has(&name(b'q')?)
+        && !disk.has(&name(b'y')?)
+        && !disk.has(&name(b'z')?);
+    Ok(well && gone && (pair == stop.new || (pair == stop.old && !stop.locked)))
+}
+
+// whether several of the images that a stop behind so many calls may leave recover so
+fn images_recover(alloc: Global, stop: &Stop, disk: &MemoryDisk, calls: u64) -> Result<bool, Fail> {
+    let images: [(u64, Fill); 6] = [
+        (0, Fill::Empty),
+        (1, Fill::Junk(b'?')),
+        (2, Fill::Written),
+        (3, Fill::Empty),
+        (9, Fill::Written),
+        (9, Fill::Junk(b'?')),
+    ];
+    for (names, fill) in images {
+        let mut left = disk.crash(alloc, calls, names, fill)?;
+        if !recovers(alloc, stop, &mut left)? {
+            return Ok(false);
+        }
+    }
+    Ok(true)
+}
+
+// whether a stop behind any call of a command recovers so
+fn stops_recover(alloc: Global, stop: &Stop) -> Result<bool, Fail> {
+    let mut disk = disk_before(alloc, stop, &[])?;
+    if answer(alloc, stop, &mut disk)? != (Answer::Finished { status: 0 }) {
+        return Ok(false);
+    }
+    for calls in 0..CALLS {
+        if !images_recover(alloc, stop, &disk, calls)? {
+            return Ok(false);
+        }
+    }
+    Ok(true)
+}
+
+// whether a disk of which any one call fails recovers so
+fn faults_recover(alloc: Global, stop: &Stop) -> Result<bool, Fail> {
+    for call in 1..CALLS {
+        let mut disk = disk_before(alloc, stop, &[call])?;
+        let well = match answer(alloc, stop, &mut disk)? {
+            Answer::DiskFault => recovers(alloc, stop, &mut disk)?,
+            ended => ended == (Answer::Finished { status: 0 }) && files(&disk)? == stop.new,
+        };
+        if !well {
+            return Ok(false);
+        }
+    }
+    Ok(true)
+}
+
+#[test]
+fn stopped_commands_recover(rt: HostRuntime) -> Result<(), Fail> {
+    for stop in &STOPS {
+        assert!(rt; stops_recover(rt.alloc(), stop)?);
+    }
+    Ok(())
+}
+
+#[test]
+fn failed_commands_recover(rt: HostRuntime) -> Result<(), Fail> {
+    for stop in &STOPS {
+        assert!(rt; faults_recover(rt.alloc(), stop)?);
+    }
+    Ok(())
+}
+
+#[test]
+fn locked_names_are_unlocked(rt: HostRuntime) -> Result<(), Fail> {
+    let mut disk = MemoryDisk::new(rt.alloc(), 1000, &[])?;
+    disk.put(&name(b's')?, TWO_LINES, false)?;
+    disk.put(&name(b'z')?, b"", false)?;
+    let seen = command_on(rt.alloc(), b"unget s.a", &PLAIN, &mut disk)?;
+    assert!(rt; seen.err.bytes() == b"ERROR [s.a]: locked by z-file (02)\n".as_slice());
+    assert!(rt; disk.has(&name(b'z')?));
+    assert!(rt; says(rt.alloc(), &mut disk, &[b"s.a: recovered\n"])?);
+    assert!(rt; !disk.has(&name(b'z')?));
+    assert!(rt; says(rt.alloc(), &mut disk, &[b"s.a: clean\n"])?);
+    Ok(())
+}
