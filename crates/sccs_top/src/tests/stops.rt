@@ -11,73 +11,103 @@ const CALLS: u64 = 30;
 
 const ENTRY: &[u8] = b"1.2 1.3 ann 21/03/04 05:09:00\n";
 
-/// A command that may be stopped, with the s-file and the p-file before and after it.
+/// An s-file and its p-file, where they are there.
+#[derive(Clone, Copy)]
+struct Pair<'a> {
+    s_file: Option<&'a [u8]>,
+    p_file: Option<&'a [u8]>,
+}
+
+/// A command that may be stopped, with the files before and after it.
 #[derive(Clone, Copy)]
 struct Stop<'a> {
     line: &'a [u8],
     time: &'a [u8],
     input: &'a [u8],
-    old: [Option<&'a [u8]>; 2],
-    new: [Option<&'a [u8]>; 2],
+    old: Pair<'a>,
+    new: Pair<'a>,
     /// Whether a step was stopped before it.
     locked: bool,
 }
+
+// two entries, of which the first has its delta
+const DONE: &[u8] = b"1.1 1.2 ann 21/03/04 05:07:08\n1.2 1.3 ann 21/03/04 05:09:00\n";
 
 const STOPS: [Stop<'static>; 4] = [
     Stop {
         line: b"admin -i s.a",
         time: b"05:06:07",
         input: b"one\ntwo %I%",
-        old: [None, None],
-        new: [Some(TWO_LINES), None],
+        old: Pair {
+            s_file: None,
+            p_file: None,
+        },
+        new: Pair {
+            s_file: Some(TWO_LINES),
+            p_file: None,
+        },
         locked: false,
     },
     Stop {
         line: b"get -e -g s.a",
         time: b"05:09:00",
         input: b"",
-        old: [Some(SECOND), None],
-        new: [Some(SECOND), Some(ENTRY)],
+        old: Pair {
+            s_file: Some(SECOND),
+            p_file: None,
+        },
+        new: Pair {
+            s_file: Some(SECOND),
+            p_file: Some(ENTRY),
+        },
         locked: false,
     },
     Stop {
         line: b"unget s.a",
         time: b"05:09:00",
         input: b"",
-        old: [Some(SECOND), Some(ENTRY)],
-        new: [Some(SECOND), None],
+        old: Pair {
+            s_file: Some(SECOND),
+            p_file: Some(ENTRY),
+        },
+        new: Pair {
+            s_file: Some(SECOND),
+            p_file: None,
+        },
         locked: false,
     },
     Stop {
         line: b"recover s.a",
         time: b"05:09:00",
         input: b"",
-        old: [
-            Some(SECOND),
-            Some(b"1.1 1.2 ann 21/03/04 05:07:08\n1.2 1.3 ann 21/03/04 05:09:00\n"),
-        ],
-        new: [Some(SECOND), Some(ENTRY)],
+        old: Pair {
+            s_file: Some(SECOND),
+            p_file: Some(DONE),
+        },
+        new: Pair {
+            s_file: Some(SECOND),
+            p_file: Some(ENTRY),
+        },
         locked: true,
     },
 ];
 
-fn name(letter: u8) -> Result<Name, Fail> {
-    Ok(Name::read(b"s.a").ok_or("a name")?.sibling(letter))
+fn name(text: &[u8]) -> Result<Name, Fail> {
+    Ok(Name::read(text).ok_or("a name")?)
 }
 
 // the disk before a command, of which so many calls fail
 fn disk_before(alloc: Global, stop: &Stop, failing: &[u64]) -> Result<MemoryDisk, Fail> {
     let mut disk = MemoryDisk::new(alloc, 10_000, failing)?;
-    let [s_file, p_file] = stop.old;
-    if let Some(bytes) = s_file {
-        disk.put(&name(b's')?, bytes, false)?;
+    if let Some(bytes) = stop.old.s_file {
+        disk.put(&name(b"s.a")?, bytes, false)?;
     }
-    if let Some(bytes) = p_file {
-        disk.put(&name(b'p')?, bytes, true)?;
+    if let Some(bytes) = stop.old.p_file {
+        disk.put(&name(b"p.a")?, bytes, true)?;
     }
     if stop.locked {
-        disk.put(&name(b'x')?, b"half", true)?;
-        disk.put(&name(b'z')?, b"", true)?;
+        disk.put(&name(b"x.a")?, b"half", true)?;
+        disk.put(&name(b"z.a")?, b"", true)?;
     }
     Ok(disk)
 }
@@ -92,9 +122,18 @@ fn answer(alloc: Global, stop: &Stop, disk: &mut MemoryDisk) -> Result<Answer, F
     Ok(command_on(alloc, stop.line, &given, disk)?.answer)
 }
 
-// the s-file and the p-file
-fn files(disk: &MemoryDisk) -> Result<[Option<&[u8]>; 2], Fail> {
-    Ok([disk.bytes(&name(b's')?), disk.bytes(&name(b'p')?)])
+// whether these are the s-file and the p-file
+fn has(disk: &MemoryDisk, pair: &Pair) -> Result<bool, Fail> {
+    let s_file = disk.bytes(&name(b"s.a")?) == pair.s_file;
+    let p_file = disk.bytes(&name(b"p.a")?) == pair.p_file;
+    Ok(s_file && p_file)
+}
+
+// whether no other file of the name is left
+fn is_alone(disk: &MemoryDisk) -> Result<bool, Fail> {
+    let prepared = disk.has(&name(b"x.a")?) || disk.has(&name(b"q.a")?);
+    let other = disk.has(&name(b"y.a")?) || disk.has(&name(b"z.a")?);
+    Ok(!prepared && !other)
 }
 
 // whether recover says that the name is clean, or recovered
@@ -107,16 +146,13 @@ fn says(alloc: Global, disk: &mut MemoryDisk, either: &[&[u8]]) -> Result<bool, 
     )
 }
 
-// whether recovery leaves the s-file and the p-file as before or after the command, and no other file of the name
+// whether recovery leaves the files as before or after the command; a recovery that was stopped goes on
 fn recovers(alloc: Global, stop: &Stop, disk: &mut MemoryDisk) -> Result<bool, Fail> {
-    let well = says(alloc, disk, &[b"s.a: clean\n", b"s.a: recovered\n"])?
-        && says(alloc, disk, &[b"s.a: clean\n"])?;
-    let pair = files(disk)?;
-    let gone = !disk.has(&name(b'x')?)
-        && !disk.has(&name(b'q')?)
-        && !disk.has(&name(b'y')?)
-        && !disk.has(&name(b'z')?);
-    Ok(well && gone && (pair == stop.new || (pair == stop.old && !stop.locked)))
+    let said = says(alloc, disk, &[b"s.a: clean\n", b"s.a: recovered\n"])?;
+    let again = says(alloc, disk, &[b"s.a: clean\n"])?;
+    let new = has(disk, &stop.new)?;
+    let old = has(disk, &stop.old)? && !stop.locked;
+    Ok(said && again && is_alone(disk)? && (new || old))
 }
 
 // whether several of the images that a stop behind so many calls may leave recover so
@@ -158,7 +194,7 @@ fn faults_recover(alloc: Global, stop: &Stop) -> Result<bool, Fail> {
         let mut disk = disk_before(alloc, stop, &[call])?;
         let well = match answer(alloc, stop, &mut disk)? {
             Answer::DiskFault => recovers(alloc, stop, &mut disk)?,
-            ended => ended == (Answer::Finished { status: 0 }) && files(&disk)? == stop.new,
+            ended => ended == (Answer::Finished { status: 0 }) && has(&disk, &stop.new)?,
         };
         if !well {
             return Ok(false);
@@ -183,16 +219,23 @@ fn failed_commands_recover(rt: HostRuntime) -> Result<(), Fail> {
     Ok(())
 }
 
+// whether a locked name is refused, and its lock stays
+fn is_refused(alloc: Global, disk: &mut MemoryDisk) -> Result<bool, Fail> {
+    let seen = command_on(alloc, b"unget s.a", &PLAIN, disk)?;
+    Ok(
+        seen.err.bytes() == b"ERROR [s.a]: locked by z-file (02)\n".as_slice()
+            && disk.has(&name(b"z.a")?),
+    )
+}
+
 #[test]
 fn locked_names_are_unlocked(rt: HostRuntime) -> Result<(), Fail> {
     let mut disk = MemoryDisk::new(rt.alloc(), 1000, &[])?;
-    disk.put(&name(b's')?, TWO_LINES, false)?;
-    disk.put(&name(b'z')?, b"", false)?;
-    let seen = command_on(rt.alloc(), b"unget s.a", &PLAIN, &mut disk)?;
-    assert!(rt; seen.err.bytes() == b"ERROR [s.a]: locked by z-file (02)\n".as_slice());
-    assert!(rt; disk.has(&name(b'z')?));
-    assert!(rt; says(rt.alloc(), &mut disk, &[b"s.a: recovered\n"])?);
-    assert!(rt; !disk.has(&name(b'z')?));
-    assert!(rt; says(rt.alloc(), &mut disk, &[b"s.a: clean\n"])?);
+    disk.put(&name(b"s.a")?, TWO_LINES, false)?;
+    disk.put(&name(b"z.a")?, b"", false)?;
+    let refused = is_refused(rt.alloc(), &mut disk)?;
+    let recovered = says(rt.alloc(), &mut disk, &[b"s.a: recovered\n"])?;
+    let clean = says(rt.alloc(), &mut disk, &[b"s.a: clean\n"])?;
+    assert!(rt; refused && recovered && clean && is_alone(&disk)?);
     Ok(())
 }
