@@ -201,7 +201,7 @@ g_begins file name s lines over number few = record {
 pub found_result : (g : Option (List ℕ)) (p : Plan) (set name : List ℕ) (all : List HistoryLine) (compares : Bool) (at at2 : Passed) (s s1 s2 : ResultCheck) (new : List (List ℕ)) (found : Found)
     → at ≡ record { plan = p; line = 0 } → new ≡ added_after at.line at.plan.added → s.keyword ≡ false → s.compares ≡ compares → s.lines ≡ record { name = name; held = []; place = 0; limit = 1073741825; lines = 0; sum = 0 } → s.over ≡ false → s.number ≡ 0 → s.differs ≡ None
     → Sees g new s s1 → ExaminesWhole g (shown set all) at at2 s1 s2 → found.lines ≡ at2.line → found.keyword ≡ s2.keyword
-    → ((file : List ℕ) (rest : List (List ℕ)) → g ≡ Some file → s2.compares ≡ true → GComes file s2 rest → found.differs ≡ difference s2.differs s2.number [] rest)
+    → ((file : List ℕ) (rest : List (List ℕ)) → g ≡ Some file → compares ≡ true → GComes file s2 rest → found.differs ≡ difference s2.differs s2.number [] rest)
     → FindsResult g p (select set all) compares found
 found_result g p set name all compares at at2 s s1 s2 new found at_is new_is keyword comparing lines over number differs first whole lines_is keyword_is differs_is =
     let base : texts (shown set all) ≡ select set all = shown_texts set all in
@@ -218,7 +218,7 @@ found_result g p set name all compares at at2 s s1 s2 new found at_is new_is key
       keyword = keyword_is ∙ (all_seen.keyword ∙ ap (λ t. t || list_any has_keyword (result_of p (select set all))) keyword);
       differs = λ file is few compare.
           let one = all_seen.compared file (text_of file) is (comparing ∙ compare) (g_begins file name s lines over number few) in
-          differs_is file one.left is (all_seen.compares ∙ (comparing ∙ compare)) one.comes
+          differs_is file one.left is compare one.comes
           ∙ (one.same []
           ∙ (ap (λ o. difference o s.number (result_of p (select set all) ++ []) (text_of file)) differs
           ∙ (ap (λ n. first_difference n (result_of p (select set all) ++ []) (text_of file)) number

@@ -1,5 +1,5 @@
 -- What delta does with the files of a name and its input: POSIX, Shell and Utilities, delta. The order of the checks is own.
-use Rattle.std.specs.Prelude.{ℕ, zero, suc, ◌+◌, ◌-◌, ◌==◌, nat_le, nat_lt, Bool, true, false, not, ◌&&◌, ◌||◌, List, [], ◌∷◌, ◌++◌, length, map, remove, slice_get, Option, None, Some, option_map, unwrap_or, Result, Ok, Err, codes, decimal, if◌then◌else◌}
+use Rattle.std.specs.Prelude.{ℕ, zero, suc, ◌+◌, ◌-◌, ◌==◌, nat_le, nat_lt, Bool, true, false, not, ◌&&◌, ◌||◌, List, [], ◌∷◌, ◌++◌, length, map, remove, slice_get, Option, None, Some, option_map, unwrap_or, is_none, is_some, min, take, Result, Ok, Err, codes, decimal, if◌then◌else◌}
 use Rattle.std.specs.List.{list_any}
 use Rattle.sccs_base.specs.Constants.{file_limit}
 use Rattle.sccs_base.specs.Cut.{text_of}
@@ -16,6 +16,7 @@ use Rattle.sccs_history.specs.Body.{lines_of}
 use Rattle.sccs_history.specs.Select.{select}
 use Rattle.sccs_history.specs.declared.headers.Flag.{Flag}
 use Rattle.sccs_history.specs.declared.headers.Header.{Header}
+use Rattle.sccs_history.specs.declared.headers.Item.{Item}
 use Rattle.sccs_history.specs.declared.headers.Record.{Record}
 use Rattle.sccs_flags.specs.FlagValues.{flag_of, has_flag, is_locked, is_within_limits}
 use Rattle.sccs_flags.specs.Logins.{is_allowed}
@@ -31,7 +32,6 @@ use Rattle.sccs_script.specs.declared.faults.ScriptFault.{ScriptFault}
 use Rattle.sccs_script.specs.declared.faults.ScriptFault.TheVariants as faults
 use Rattle.sccs_sets.specs.Naming.{named_serials}
 use Rattle.sccs_sets.specs.Retrieved.{serial_of}
-use Rattle.sccs_sets.specs.SetRefusals.{or_bad_list}
 use Rattle.sccs_files.specs.StepFiles.{Files}
 use Rattle.sccs_pfile.specs.Choices.{choice, fits}
 use Rattle.sccs_pfile.specs.Recovered.{pfile_of}
@@ -45,7 +45,16 @@ use Rattle.sccs_pending.specs.Pending.{Found, pending_of}
 use Rattle.sccs_words.specs.declared.commands.DeltaWords.{DeltaWords}
 use Rattle.sccs_records.specs.NewDeltas.{last_of, null_delta, with_delta, with_deltas}
 use Rattle.sccs_records.specs.Texts.{some_lines}
+use Rattle.sccs_records.specs.declared.new_deltas.Counts.{Counts}
 use Rattle.sccs_records.specs.declared.new_deltas.NewDelta.{NewDelta}
+use Rattle.sccs_sets.specs.Sets.{both_listed}
+use Rattle.sccs_sid.specs.Refusal.{number_of}
+use Rattle.sccs_base.specs.Stream.{last_count}
+use Rattle.sccs_steps.specs.StepEffects.{Outcome}
+use Rattle.sccs_steps.specs.Actions.{has_number}
+use Rattle.sccs_transactions.specs.Changes.{Changing}
+use Rattle.sccs_delta.specs.declared.bases.Base.{Base}
+use Rattle.std.specs.Str.{bytes_eq}
 use Rattle.sccs_delta.specs.Examining.{first_difference, has_keyword}
 
 -- the numbers of its checks
@@ -76,37 +85,52 @@ abbrev pub skipped : Header → Sid → Sid → List Sid → List Sid
 skipped header got made reserved =
     if has_flag header.flags 110 && (got.branch == 0 && made.branch == 0) then unused_from header.records reserved (suc got.release) (made.release - suc got.release) else []
 
--- ---- the delta that an entry is to make
+-- ---- the entry, and its base
 
--- What an entry says by serials: that of the delta got, and those of its lists.
-pub record Base : Type 0 where
-  pub got : ℕ
-  pub include : List ℕ
-  pub exclude : List ℕ
+abbrev pub or_disagrees : {A : Type 0} → ℕ → Result A Sid → Result A Refusal
+or_disagrees number (Ok x) = Ok x
+or_disagrees number (Err sid) = Err (refusals.Disagree number)
 
--- entries that agree with the table have one
-unfoldable pub base_of : List Record → Edit → Result Base Refusal
-base_of records edit = do
-  got ← there (serial_of records edit.got) refusals.NoSid
-  include ← or_bad_list (named_serials records [] edit.include)
-  exclude ← or_bad_list (named_serials records [] edit.exclude)
-  Ok (record { got = got; include = include; exclude = exclude })
+-- What an entry says by serials: the delta got, those of its lists, and the set whose version is the base. An entry of
+-- which the table has no live deltas disagrees.
+unfoldable pub base_of : List Record → ℕ → Edit → Result Base Refusal
+base_of records number edit = do
+  got ← there (serial_of records edit.got) (refusals.Disagree number)
+  include ← or_disagrees number (named_serials records [] edit.include)
+  exclude ← or_disagrees number (named_serials records [] edit.exclude)
+  apart ← check (is_none (both_listed records include exclude)) (refusals.Disagree number)
+  Ok (record {
+    got = got;
+    include = include;
+    exclude = exclude;
+    set = applied (record { target = got; include = include; exclude = exclude; cutoff = None }) records;
+  })
 
--- the set whose version is the base
-abbrev pub set_of : List Record → Base → List ℕ
-set_of records base = applied (record { target = base.got; include = base.include; exclude = base.exclude; cutoff = None }) records
+-- an entry, by its number from 1, and its base
+pub record Entry : Type 0 where
+  pub number : ℕ
+  pub edit : Edit
+  pub base : Base
 
--- the new delta with the plan of its script, for a base of so many lines
-abbrev pub delta_of : DeltaWords → Stamp → Edit → Base → Plan → ℕ → NewDelta
-delta_of words stamp edit base p lines = record {
-  sid = edit.made;
-  stamp = stamp;
-  include = base.include;
-  exclude = base.exclude;
-  mrs = words.mrs;
-  comments = some_lines words.comment;
-  counts = record { inserted = added_count p.added; deleted = length p.deleted; unchanged = lines - length p.deleted };
-}
+-- the releases got and to be made lie from floor to ceiling, and the latter isn't locked
+unfoldable pub released : List Flag → Edit → Result Bool Refusal
+released flags edit = do
+  within ← check (is_within_limits flags edit.got.release && is_within_limits flags edit.made.release) refusals.OutsideRelease
+  check (not (is_locked flags edit.made.release)) refusals.LockedRelease
+
+-- the one entry of a login that is let in, whose releases may be used
+unfoldable pub entry_of : DeltaWords → Stamp → Header → List Edit → Result Entry Refusal
+entry_of words stamp header edits = do
+  allowed ← check (is_allowed header.users stamp.login) refusals.NotAllowed
+  number ← or_no_edit (choice (fits stamp.login words.sid true) edits)
+  edit ← there (slice_get edits (number - 1)) refusals.NoEdit
+  base ← base_of header.records number edit
+  free ← released header.flags edit
+  Ok (record { number = number; edit = edit; base = base })
+
+-- the lines of the base
+abbrev pub base_lines : List Item → Base → List (List ℕ)
+base_lines items base = select base.set (lines_of items)
 
 -- ---- checks
 
@@ -137,16 +161,32 @@ mrs_checked flags mrs = do
   program ← check (not (has_text flags 118)) (refusals.Unsupported 118)
   check (not (has_text flags 105)) (refusals.Unsupported 105)
 
--- The releases may be used, and the script fits the base; the result has a keyword where one is wanted, and is that of the g-file.
-unfoldable pub script_checked : List Flag → Edit → List ℕ → List (List ℕ) → Option Content → Result (List Order) Refusal
-script_checked flags edit input base g = do
-  within ← check (is_within_limits flags edit.got.release && is_within_limits flags edit.made.release) refusals.OutsideRelease
-  free ← check (not (is_locked flags edit.made.release)) refusals.LockedRelease
-  orders ← or_script_fault (orders_of input)
+-- The script fits the base, its result has a keyword where one is wanted, and is the text of the g-file.
+unfoldable pub fitted : List Flag → List Order → List (List ℕ) → Option Content → Result Bool Refusal
+fitted flags orders base g = do
   fits ← or_script_fault (checked orders (length base))
   keywords ← check (not (has_flag flags 105) || list_any has_keyword (apply orders base)) refusals.NoKeywords
-  same ← compared g (apply orders base)
-  Ok orders
+  compared g (apply orders base)
+
+-- the SIDs of the null deltas, where numbers are left for them and the new one
+unfoldable pub nulls_of : Header → List Edit → Edit → Result (List Sid) Refusal
+nulls_of header edits edit = do
+  left ← check (nat_lt (newest header.records + length (skipped header edit.got edit.made (map (λ e. e.made) edits))) 65535) refusals.Full
+  Ok (skipped header edit.got edit.made (map (λ e. e.made) edits))
+
+-- ---- what is made
+
+-- how many lines a plan inserts and deletes, and how many of the base it leaves
+abbrev pub counts_of : Plan → ℕ → Counts
+counts_of p lines = record { inserted = min (added_count p.added) last_count; deleted = length p.deleted; unchanged = lines - length p.deleted }
+
+abbrev pub delta_of : DeltaWords → Stamp → Edit → List ℕ → List ℕ → Counts → NewDelta
+delta_of words stamp edit include exclude counts =
+    record { sid = edit.made; stamp = stamp; include = include; exclude = exclude; mrs = words.mrs; comments = some_lines words.comment; counts = counts }
+
+-- the null deltas and the new one are put on the table, each on the one before
+abbrev pub header_with : Header → ℕ → List NewDelta → NewDelta → Header
+header_with header on nulls d = with_delta (with_deltas header on nulls) (last_of on (newest header.records) nulls) d
 
 -- ---- the step
 
@@ -154,53 +194,56 @@ script_checked flags edit input base g = do
 abbrev pub count_line : ℕ → List ℕ → List ℕ
 count_line n word = decimal n ++ (32 ∷ ended word)
 
--- the SID, and the true counts
-abbrev pub delta_report : DeltaWords → NewDelta → List ℕ
-delta_report words d =
-    if words.silent then []
-    else ended (sid_text d.sid) ++ (count_line d.counts.inserted (codes "inserted") ++ (count_line d.counts.deleted (codes "deleted") ++ count_line d.counts.unchanged (codes "unchanged")))
+-- the SID, and the counts
+abbrev pub delta_report : Bool → Sid → Counts → List ℕ
+delta_report silent sid counts =
+    if silent then []
+    else ended (sid_text sid) ++ (count_line counts.inserted (codes "inserted") ++ (count_line counts.deleted (codes "deleted") ++ count_line counts.unchanged (codes "unchanged")))
 
 -- what is said where the result has no keyword
-abbrev pub warning : List ℕ → List (List ℕ) → List ℕ
-warning n result = if list_any has_keyword result then [] else codes "WARNING [" ++ (n ++ ended (codes "]: no id keywords"))
+abbrev pub warning : List ℕ → Bool → List ℕ
+warning n keyword = if keyword then [] else codes "WARNING [" ++ (n ++ ended (codes "]: no id keywords"))
 
 -- The s-file has the null deltas and the new one, the entry leaves the p-file, and the g-file goes unless it is kept.
-abbrev pub makes_delta : DeltaWords → Stamp → List ℕ → Files → Found → ℕ → Edit → Base → List Order → StepEffect
-makes_delta words stamp n f found number edit base orders =
+abbrev pub makes_delta : DeltaWords → Stamp → List ℕ → Files → Found → Entry → List Order → List Sid → StepEffect
+makes_delta words stamp n f found e orders nulls =
     let header = found.parsed.header in
-    let set = set_of header.records base in
-    let lines = select set (lines_of found.parsed.items) in
-    let nulls = map (null_delta stamp) (skipped header edit.got edit.made (map (λ (e : Edit). e.made) found.edits)) in
-    let before = with_deltas header base.got nulls in
-    let d = delta_of words stamp edit base (plan orders (length lines)) (length lines) in
+    let lines = base_lines found.parsed.items e.base in
+    let d = delta_of words stamp e.edit e.base.include e.base.exclude (counts_of (plan orders (length lines)) (length lines)) in
     record {
       new = Some (record {
-        s = Some (sealed (with_delta before (last_of base.got (newest header.records) nulls) d) (places found.parsed.items set orders (suc (newest before.records))));
-        p = pfile_of (remove found.edits (number - 1));
+        s = Some (sealed (header_with header e.base.got (map (null_delta stamp) nulls) d) (places found.parsed.items e.base.set orders (suc (newest header.records + length nulls))));
+        p = pfile_of (remove found.edits (e.number - 1));
         z = None;
         g = kept_g words.keep f.g;
       });
       text = [];
-      out = delta_report words d;
-      err = warning n (apply orders lines);
+      out = delta_report words.silent d.sid d.counts;
+      err = warning n (list_any has_keyword (apply orders lines));
       status = 0;
     }
 
 -- the sizes of the files and of the input come before any content
 unfoldable pub sizes_checked : List ℕ → Files → Result Bool Refusal
 sizes_checked input f = do
-  s_file ← check (unwrap_or (option_map (λ (c : Content). true) f.s) false) refusals.Missing
+  s_file ← check (is_some f.s) refusals.Missing
   check (is_short f.s && (is_short f.p && (is_short f.g && nat_le (length input) file_limit))) refusals.TooLong
 
 unfoldable pub delta_outcome : DeltaWords → Stamp → Step
 delta_outcome words stamp n input named f = do
   sizes ← sizes_checked input f
   found ← pending_of f.s f.p
-  allowed ← check (is_allowed found.parsed.header.users stamp.login) refusals.NotAllowed
-  number ← or_no_edit (choice (fits stamp.login words.sid true) found.edits)
-  edit ← there (slice_get found.edits (number - 1)) refusals.NoEdit
-  base ← base_of found.parsed.header.records edit
-  orders ← script_checked found.parsed.header.flags edit input (select (set_of found.parsed.header.records base) (lines_of found.parsed.items)) f.g
+  e ← entry_of words stamp found.parsed.header found.edits
+  orders ← or_script_fault (orders_of input)
+  fits ← fitted found.parsed.header.flags orders (base_lines found.parsed.items e.base) f.g
   mrs ← mrs_checked found.parsed.header.flags words.mrs
-  left ← check (nat_lt (newest found.parsed.header.records + length (skipped found.parsed.header edit.got edit.made (map (λ (e : Edit). e.made) found.edits))) 65535) refusals.Full
-  Ok (makes_delta words stamp n f found number edit base orders)
+  nulls ← nulls_of found.parsed.header found.edits e.edit
+  Ok (makes_delta words stamp n f found e orders nulls)
+
+-- over any disk: what is said on err is nothing, or that there is no keyword
+abbrev pub could_make : Outcome → Bool
+could_make (Ok effect) = is_empty effect.err || bytes_eq (codes "WARNING [") (take 9 effect.err)
+could_make (Err refusal) = has_number delta_checks (number_of refusal)
+
+abbrev pub delta_change : DeltaWords → Stamp → Changing
+delta_change words stamp = record { outcome = delta_outcome words stamp; named = []; takes = true; silent = false; could = could_make }

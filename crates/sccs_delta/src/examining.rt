@@ -1,4 +1,4 @@
-ghost use Rattle.std.specs.Prelude.{◌≡◌, ◌≢◌, ◌+◌, ◌<◌, ◌≤◌, ◌^◌, ℕ, suc, List, [], Bool, true, Some, Option, IfOk, OnOk, drop, length};
+ghost use Rattle.std.specs.Prelude.{◌≡◌, ◌≢◌, ◌+◌, ◌<◌, ◌≤◌, ◌^◌, ℕ, suc, List, [], Bool, true, false, None, Some, Option, IfOk, OnOk, drop, length};
 ghost use Rattle.sccs_base.specs.Constants.{file_limit};
 ghost use Rattle.sccs_base.specs.Name.{IsSfile};
 ghost use Rattle.sccs_disk.specs.Told.{seen};
@@ -150,6 +150,7 @@ pub fn examine<D: Disk>(
     requires order { IsInOrder plan }
     ensures frame { ReadsDisk D.told D.faults disk.old disk.new result }
     ensures few { IfOk result (λ found. found.lines ≤ file_limit) }
+    ensures alone { compares ≡ false → IfOk result (λ found. found.differs ≡ None) }
     ensures told { (file : List ℕ) (items : List Item) → IsBody (bytes_in (seen (D.told disk.old)) name.now) front.now set.now file items
         → Examines (bytes_in (seen (D.told disk.old)) (drop 2 name.now)) plan (select set.now (lines_of items)) compares result }
 {
@@ -166,7 +167,7 @@ pub fn examine<D: Disk>(
         Ok(()) => {}
         Err(fault) => return Err(fault),
     }
-    match first_difference(alloc, &mut check, disk) {
+    match first_difference(alloc, compares, &mut check, disk) {
         Ok(differs) => Ok(Found {
             lines: at.line(),
             keyword: check.keyword,

@@ -174,16 +174,18 @@ pub fn see_lines<D: Disk>(
 /// shorter one plus 1; None where they are equal, or aren't compared.
 pub fn first_difference<D: Disk>(
     alloc: Global,
+    compares: bool,
     check: &mut ResultCheck,
     disk: &mut D,
 ) -> Result<Option<u64>, FileFault>
     ensures frame { ReadsDisk D.told D.faults disk.old disk.new result }
     ensures outer { IsOuterResult result }
     ensures keyword { check.new.keyword ≡ check.old.keyword }
+    ensures alone { compares ≡ false → IfOk result (λ found. found ≡ None) }
     ensures told { (file : List ℕ) (rest : List (List ℕ)) → bytes_in (seen (D.told disk.old)) check.old.lines.name ≡ Some file
-        → check.old.compares ≡ true → GComes file check.old rest → IfOk result (λ found. found ≡ difference check.old.differs check.old.number [] rest) }
+        → compares ≡ true → GComes file check.old rest → IfOk result (λ found. found ≡ difference check.old.differs check.old.number [] rest) }
 {
-    if !check.compares {
+    if !compares {
         return Ok(None);
     }
     if check.differs.is_some() {

@@ -4,12 +4,14 @@ ghost use Rattle.sccs_base.specs.Constants.{file_limit};
 ghost use Rattle.sccs_base.specs.Name.{IsSfile, sibling};
 ghost use Rattle.sccs_base.specs.Stream.{Rose};
 ghost use Rattle.sccs_disk.specs.Calls.{IsThere};
+ghost use Rattle.sccs_disk.specs.Images.{IsFirm};
 ghost use Rattle.sccs_disk.specs.Told.{seen};
 ghost use Rattle.sccs_files.specs.StepFiles.{Moves};
 ghost use Rattle.sccs_grammar.specs.Written.{ended, sum_line};
 ghost use Rattle.sccs_grammar.specs.declared.faults.FileFault.TheVariants as faults;
 ghost use Rattle.sccs_history.specs.History.{IsSpelled};
 ghost use Rattle.sccs_history.specs.declared.headers.Item.{Item};
+ghost use Rattle.sccs_images.specs.Touches.{Leaves, TouchesOnly};
 ghost use Rattle.sccs_splicer.specs.Splices.{owed};
 ghost use Rattle.sccs_table.specs.ReaderState.{bytes_in};
 ghost use Rattle.sccs_table.specs.SumOf.{IsSumOf};
@@ -142,6 +144,8 @@ pub fn write_delta<D: Disk>(
         → MakesFile header.now (owed copying.splicer told) (sibling 120 name.now) (seen (D.told disk.old)) (seen (D.told disk.new)) result }
     ensures moves { Moves (bytes_eq (sibling 120 name.now)) (λ v. v) (seen (D.told disk.old)) (seen (D.told disk.new)) }
     ensures there { OnOk result (IsThere (sibling 120 name.now) (D.told disk.new)) }
+    ensures touches { TouchesOnly (bytes_eq (sibling 120 name.now)) (D.told disk.old) (D.told disk.new) }
+    ensures firm { OnOk result (Leaves (IsFirm (sibling 120 name.now)) (D.told disk.old) (D.told disk.new)) }
     ensures later { D.faults disk.old ≤ D.faults disk.new }
     ensures cause { result ≡ Err faults.Failed → Rose (D.faults disk.old) (D.faults disk.new) }
 {

@@ -9,6 +9,6 @@ mod null_deltas;
 mod tests;
 mod texts;
 
-pub use new_deltas::{Counts, NewDelta, add_delta};
+pub use new_deltas::{Counts, NewDelta, add_delta, newest};
 pub use null_deltas::{BasedHeader, add_null_deltas};
 pub use texts::{copy_lines, some_lines};

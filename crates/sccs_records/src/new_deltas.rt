@@ -38,8 +38,8 @@ fn count_of(count: u64) -> u32
     count.min(COUNT_LIMIT) as u32
 }
 
-// the serial of the newest record, 0 in an empty table
-pub(crate) fn newest(records: &Records) -> u16
+/// The serial of the newest record, 0 in an empty table.
+pub fn newest(records: &Records) -> u16
     ensures { result ≡ newest records.now }
 {
     match records.items() {

@@ -3,6 +3,7 @@ use Rattle.std.specs.Prelude.{ℕ, List, [], ◌∷◌}
 use Rattle.sccs_steps.specs.Actions.{Action}
 use Rattle.sccs_transactions.specs.Changes.{locking}
 use Rattle.sccs_admin.specs.AdminStep.{admin_change}
+use Rattle.sccs_delta.specs.DeltaStep.{delta_change}
 use Rattle.sccs_edit.specs.SactStep.{sact_action}
 use Rattle.sccs_edit.specs.UngetStep.{unget_change}
 use Rattle.sccs_get.specs.EditStep.{edit_change}
@@ -24,6 +25,7 @@ action_in (known.Admin admin) = locking (admin_change admin.words.now admin.stam
 action_in (known.Get get) = get_action get.words.now
 action_in (known.Reserve r) = locking (edit_change r.words.now r.stamp.now r.heading)
 action_in (known.Sact s) = sact_action s.heading
+action_in (known.Delta d) = locking (delta_change d.words.now d.stamp.now)
 action_in (known.Unget u) = locking (unget_change u.words.now u.stamp.now u.heading)
 action_in (known.Recover r) = recover_action
 action_in (known.Unbuilt u) = unbuilt u.any

@@ -17,6 +17,7 @@ use Rattle.sccs_steps.specs.declared.faults.Fault.{Fault}
 use Rattle.sccs_steps.specs.declared.faults.Fault.TheVariants as ends
 use Rattle.sccs_transactions.specs.Changes.{locking}
 use Rattle.sccs_admin.specs.AdminStep.{admin_change}
+use Rattle.sccs_delta.specs.DeltaStep.{delta_change}
 use Rattle.sccs_edit.specs.SactStep.{sact_action}
 use Rattle.sccs_edit.specs.UngetStep.{unget_change}
 use Rattle.sccs_get.specs.EditStep.{edit_change}
@@ -61,6 +62,7 @@ get_in words stamp heading =
 abbrev pub action_of : Stamp → Command → Action
 action_of stamp (c.Admin words operands) = if is_admin_built words then locking (admin_change words stamp) else unbuilt false
 action_of stamp (c.Get words operands) = get_in words stamp (has_heading operands)
+action_of stamp (c.Delta words name) = locking (delta_change words stamp)
 action_of stamp (c.Unget words operands) = locking (unget_change words stamp (has_heading operands))
 action_of stamp (c.Sact operands) = sact_action (has_heading operands)
 action_of stamp (c.Recover operands) = recover_action

@@ -15,6 +15,7 @@ use crate::unbuilt::{Unbuilt, is_admin_built, is_get_built, is_reserve_built};
 use crate::utilities::Get;
 use sccs_admin::Admin;
 use sccs_base::{Line, Sink, Source, Words};
+use sccs_delta::Delta;
 use sccs_disk::Disk;
 use sccs_edit::{Sact, Unget};
 use sccs_get::Reserve;
@@ -42,6 +43,7 @@ enum Known<'a> {
     Admin(Admin<'a>),
     Get(Get<'a>),
     Reserve(Reserve<'a>),
+    Delta(Delta<'a>),
     Sact(Sact),
     Unget(Unget<'a>),
     Recover(Recover),
@@ -90,6 +92,7 @@ fn utility_of<'a>(command: &'a Command, stamp: &'a Stamp) -> Known<'a>
             }
         }
         Command::Get(words, operands) => get_of(words, operands, stamp),
+        Command::Delta(words, _) => Known::Delta(Delta { words, stamp }),
         Command::Unget(words, operands) => Known::Unget(Unget {
             words,
             stamp,
@@ -199,6 +202,7 @@ fn run_command<I: Source, O: Sink, E: Sink, D: Disk>(
         Known::Admin(admin) => run_listed(alloc, &admin, operands, input, out, err, disk),
         Known::Get(get) => run_listed(alloc, &get, operands, input, out, err, disk),
         Known::Reserve(get) => run_listed(alloc, &get, operands, input, out, err, disk),
+        Known::Delta(delta) => run_listed(alloc, &delta, operands, input, out, err, disk),
         Known::Sact(sact) => run_listed(alloc, &sact, operands, input, out, err, disk),
         Known::Unget(unget) => run_listed(alloc, &unget, operands, input, out, err, disk),
         Known::Recover(recover) => run_listed(alloc, &recover, operands, input, out, err, disk),
@@ -210,7 +214,7 @@ fn run_command<I: Source, O: Sink, E: Sink, D: Disk>(
 /// 1969 to 2068, and its login, `place` the folder's path. Texts go to `out`, messages to `err`.
 ///
 /// Built are admin on new files, with `-n` or `-i`, `-r` and `-y`; get with `-k`, `-p` and `-s`, and with `-e`
-/// and `-g`, each with the options that say which version; sact and unget.
+/// and `-g`, each with the options that say which version; delta, sact, unget and recover.
 pub fn run<I: Source, O: Sink, E: Sink, D: Disk>(
     alloc: Global,
     words: &Words,

@@ -1,3 +1,4 @@
+mod deltas;
 mod disks;
 mod fixtures;
 mod hostile;

@@ -101,3 +101,25 @@ pub fn summed(alloc: Global, sum: u16, bytes: &[u8]) -> Result<Vec<u8>, Fail> {
     file.extend_from_slice(bytes)?;
     Ok(file)
 }
+
+/// The name of a file.
+pub fn name(text: &[u8]) -> Result<Name, Fail> {
+    Ok(Name::read(text).ok_or("a name")?)
+}
+
+/// A file with these flags in place of none.
+pub fn flagged(alloc: Global, file: &[u8], flags: &[u8]) -> Result<Vec<u8>, Fail> {
+    let mut rest = Vec::new(alloc);
+    let mut is_first = true;
+    for line in file.split(|byte| *byte == b'\n') {
+        if !is_first && !line.is_empty() {
+            if line == b"\x01t".as_slice() {
+                rest.extend_from_slice(flags)?;
+            }
+            rest.extend_from_slice(line)?;
+            rest.push(b'\n')?;
+        }
+        is_first = false;
+    }
+    summed(alloc, sum_of(&rest), &rest)
+}

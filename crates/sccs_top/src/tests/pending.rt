@@ -1,7 +1,6 @@
-use crate::tests::fixtures::{Given, PLAIN, command_on, sum_of, summed};
+use crate::tests::fixtures::{Given, PLAIN, command_on, flagged, name};
 use crate::tests::samples::{BRANCHED, SECOND, TWO_LINES};
 use crate::*;
-use sccs_base::Name;
 use sccs_disk::{Fill, MemoryDisk};
 use std::alloc::Global;
 use std::test::Fail;
@@ -21,10 +20,6 @@ struct Row<'a> {
     out: &'a [u8],
     err: &'a [u8],
     pfile: Option<&'a [u8]>,
-}
-
-fn name(text: &[u8]) -> Result<Name, Fail> {
-    Ok(Name::read(text).ok_or("a name")?)
 }
 
 // a disk with these files, three at most
@@ -57,23 +52,6 @@ fn ends(alloc: Global, disk: &mut MemoryDisk, pfile: &[u8], row: &Row) -> Result
             && seen.err.bytes() == row.err
             && disk.bytes(&name(pfile)?) == row.pfile,
     )
-}
-
-// a file with these flags in place of none
-fn flagged(alloc: Global, file: &[u8], flags: &[u8]) -> Result<Vec<u8>, Fail> {
-    let mut rest = Vec::new(alloc);
-    let mut is_first = true;
-    for line in file.split(|byte| *byte == b'\n') {
-        if !is_first && !line.is_empty() {
-            if line == b"\x01t".as_slice() {
-                rest.extend_from_slice(flags)?;
-            }
-            rest.extend_from_slice(line)?;
-            rest.push(b'\n')?;
-        }
-        is_first = false;
-    }
-    summed(alloc, sum_of(&rest), &rest)
 }
 
 #[test]

@@ -1,13 +1,12 @@
 use crate::Answer;
-use crate::tests::fixtures::{Given, PLAIN, command_on};
+use crate::tests::fixtures::{Given, PLAIN, command_on, name};
 use crate::tests::samples::{SECOND, TWO_LINES};
-use sccs_base::Name;
 use sccs_disk::{Disk, Fill, MemoryDisk};
 use std::alloc::Global;
 use std::test::Fail;
 
 // more calls than any of these commands makes
-const CALLS: u64 = 30;
+const CALLS: u64 = 60;
 
 const ENTRY: &[u8] = b"1.2 1.3 ann 21/03/04 05:09:00\n";
 
@@ -33,7 +32,7 @@ struct Stop<'a> {
 // two entries, of which the first has its delta
 const DONE: &[u8] = b"1.1 1.2 ann 21/03/04 05:07:08\n1.2 1.3 ann 21/03/04 05:09:00\n";
 
-const STOPS: [Stop<'static>; 4] = [
+const STOPS: [Stop<'static>; 5] = [
     Stop {
         line: b"admin -i s.a",
         time: b"05:06:07",
@@ -77,6 +76,20 @@ const STOPS: [Stop<'static>; 4] = [
         locked: false,
     },
     Stop {
+        line: b"delta -ysecond s.a",
+        time: b"05:08:00",
+        input: b"1a\nmid\n.\n",
+        old: Pair {
+            s_file: Some(TWO_LINES),
+            p_file: Some(b"1.1 1.2 ann 21/03/04 05:07:00\n"),
+        },
+        new: Pair {
+            s_file: Some(SECOND),
+            p_file: None,
+        },
+        locked: false,
+    },
+    Stop {
         line: b"recover s.a",
         time: b"05:09:00",
         input: b"",
@@ -91,10 +104,6 @@ const STOPS: [Stop<'static>; 4] = [
         locked: true,
     },
 ];
-
-fn name(text: &[u8]) -> Result<Name, Fail> {
-    Ok(Name::read(text).ok_or("a name")?)
-}
 
 // the disk before a command, of which so many calls fail
 fn disk_before(alloc: Global, stop: &Stop, failing: &[u64]) -> Result<MemoryDisk, Fail> {

@@ -7,7 +7,9 @@ use Rattle.sccs_splicer.specs.Splices.{owed}
 use Rattle.sccs_writers.specs.Spelled.{spelled}
 use Rattle.sccs_moments.proofs.FileNames.{from_s}
 use Rattle.sccs_store.proofs.SealedLaws.{has_digits, sealed_made, spelled_bytes}
-use Rattle.sccs_store.proofs.Working.{made_moves, made_there, moves_then}
+use Rattle.sccs_disk.specs.Images.{IsFirm}
+use Rattle.sccs_store.proofs.Working.{firm_after, leaves_from, made_moves, made_there, moves_then, written_touches}
+use Rattle.sccs_writers.proofs.OneFile.{only_both}
 use Rattle.sccs_delta.proofs.ComingItems.{bytes_stay}
 use Rattle.sccs_delta.proofs.writing.write_delta.Goals as goal
 
@@ -44,3 +46,21 @@ returns-in-Ok-finish_x-clause-there g c =
 pub returns-in-Err-finish_x-clause-moves : goal.returns-in-Err-finish_x-clause-moves
 returns-in-Err-finish_x-clause-moves g c =
     moves_then (bytes_eq (sibling 120 c.args.name.now)) _ _ _ (moves_then (bytes_eq (sibling 120 c.args.name.now)) _ _ _ (made_moves (sibling 120 c.args.name.now) empty_file _ _ c.in_default.ensures.view) c.in-Ok.ensures.appends.only.view) c.finish_x.ensures.only.view
+
+pub returns-in-Err-append_x-clause-touches : goal.returns-in-Err-append_x-clause-touches
+returns-in-Err-append_x-clause-touches g c =
+    written_touches (sibling 120 c.args.name.now) (bytes_eq (sibling 120 c.args.name.now)) _ (g.D.Disk.told c.start.new.disk) _ (g.met.D.Disk.sane c.start.new.disk) (λ k h. h) c.start.ensures.touches c.in_default.ensures.own c.in-Err-append_x.ensures.appends.only
+
+pub returns-in-Err-finish_x-clause-touches : goal.returns-in-Err-finish_x-clause-touches
+returns-in-Err-finish_x-clause-touches g c =
+    written_touches (sibling 120 c.args.name.now) (bytes_eq (sibling 120 c.args.name.now)) _ (g.D.Disk.told c.start.new.disk) _ (g.met.D.Disk.sane c.start.new.disk) (λ k h. h) c.start.ensures.touches c.in_default.ensures.own
+    (only_both (sibling 120 c.args.name.now) _ (g.D.Disk.told c.append_x.new.disk) _ c.in-Ok.ensures.appends.only c.finish_x.ensures.only)
+
+pub returns-in-Ok-finish_x-clause-touches : goal.returns-in-Ok-finish_x-clause-touches
+returns-in-Ok-finish_x-clause-touches g c =
+    written_touches (sibling 120 c.args.name.now) (bytes_eq (sibling 120 c.args.name.now)) _ (g.D.Disk.told c.start.new.disk) _ (g.met.D.Disk.sane c.start.new.disk) (λ k h. h) c.start.ensures.touches c.in_default.ensures.own
+    (only_both (sibling 120 c.args.name.now) _ (g.D.Disk.told c.append_x.new.disk) _ c.in-Ok.ensures.appends.only c.finish_x.ensures.only)
+
+pub returns-in-Ok-finish_x-clause-firm : goal.returns-in-Ok-finish_x-clause-firm
+returns-in-Ok-finish_x-clause-firm g c =
+    leaves_from (IsFirm (sibling 120 c.args.name.now)) (bytes_eq (sibling 120 c.args.name.now)) _ (g.D.Disk.told c.start.new.disk) _ c.start.ensures.touches (firm_after (sibling 120 c.args.name.now) _ (g.D.Disk.told c.append_x.new.disk) _ c.in-Ok.ensures.appends.only c.in-Ok-finish_x.ensures.firm)

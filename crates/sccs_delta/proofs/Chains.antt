@@ -1,0 +1,23 @@
+-- Checks one after the other.
+use Rattle.std.proofs.Common.{◌≡◌, Result, Ok, Err, ap, subst, sym}
+use Rattle.sccs_sid.specs.Reading.{◌>>=◌}
+use Rattle.sccs_sid.specs.declared.refusals.Refusal.{Refusal}
+use Rattle.sccs_sid.specs.declared.refusals.StepFault.{StepFault}
+use Rattle.sccs_sid.specs.declared.refusals.StepFault.TheVariants.{Refused, Memory, ReadFault, WriteFault, DiskFault}
+use Rattle.sccs_pending.specs.PFiles.{Answers}
+
+-- a check that ends the chain ends the whole
+pub ends : {A B : Type 0} (r : Result A Refusal) (f : A → Result B Refusal) (fault : StepFault) → Answers {A = A} r (Err fault) → Answers {A = B} (r >>= f) (Err fault)
+ends r f (Refused refusal) is = ap (λ x. x >>= f) is
+ends r f Memory is = tt
+ends r f ReadFault is = is
+ends r f WriteFault is = is
+ends r f DiskFault is = tt
+
+-- one that is passed leaves the rest
+pub goes : {A B : Type 0} (r : Result A Refusal) (f : A → Result B Refusal) (x : A) → r ≡ Ok x → (r >>= f) ≡ f x
+goes r f x is = ap (λ y. y >>= f) is
+
+-- the same answer to what is the same
+pub answers_as : {A : Type 0} (r s : Result A Refusal) (fault : StepFault) → r ≡ s → Answers {A = A} s (Err fault) → Answers {A = A} r (Err fault)
+answers_as r s fault is answers = subst (λ x. Answers {A = _} x (Err fault)) (sym is) answers

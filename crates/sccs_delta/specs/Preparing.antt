@@ -1,0 +1,86 @@
+-- What the parts of a delta answer before its files are written.
+use Rattle.std.specs.Prelude.{◌≡◌, ℕ, ◌-◌, Bool, true, not, ◌||◌, List, length, Option, Some, slice_get, Result, Ok, Err}
+use Rattle.std.specs.List.{list_any}
+use Rattle.sccs_disk.specs.Files.{Content}
+use Rattle.sccs_sid.specs.Reading.{◌>>=◌}
+use Rattle.sccs_sid.specs.declared.moments.Stamp.{Stamp}
+use Rattle.sccs_sid.specs.declared.refusals.Refusal.{Refusal}
+use Rattle.sccs_sid.specs.declared.refusals.Refusal.TheVariants as refusals
+use Rattle.sccs_sid.specs.declared.refusals.StepFault.{StepFault}
+use Rattle.sccs_sid.specs.declared.refusals.StepFault.TheVariants.{Refused, Memory, ReadFault, WriteFault, DiskFault}
+use Rattle.sccs_history.specs.declared.headers.Flag.{Flag}
+use Rattle.sccs_history.specs.declared.headers.Header.{Header}
+use Rattle.sccs_flags.specs.FlagValues.{has_flag}
+use Rattle.sccs_edits.specs.Scripts.{apply}
+use Rattle.sccs_edits.specs.declared.scripts.Order.{Order}
+use Rattle.sccs_script.specs.Checks.{checked}
+use Rattle.sccs_script.specs.declared.faults.ScriptFault.{ScriptFault}
+use Rattle.sccs_script.specs.declared.faults.ScriptFault.TheVariants as faults
+use Rattle.sccs_sets.specs.declared.faults.SetFault.{SetFault}
+use Rattle.sccs_sets.specs.declared.faults.SetFault.TheVariants as sets
+use Rattle.sccs_steps.specs.StepEffects.{check}
+use Rattle.sccs_pfile.specs.declared.entries.Edit.{Edit}
+use Rattle.sccs_words.specs.declared.commands.DeltaWords.{DeltaWords}
+use Rattle.sccs_pending.specs.PFiles.{is_short}
+use Rattle.sccs_delta.specs.DeltaStep.{compared, entry_of, fitted, or_differs, or_script_fault}
+use Rattle.sccs_delta.specs.Examining.{has_keyword}
+use Rattle.sccs_delta.specs.declared.entries.Chosen.{Chosen}
+use Rattle.sccs_delta.specs.declared.examining.Found.{Found}
+
+-- an entry whose list names no live deltas disagrees
+abbrev pub list_fault : ℕ → SetFault → StepFault
+list_fault number (sets.BadList sid) = Refused (refusals.Disagree number)
+list_fault number sets.Memory = Memory
+
+-- how delta refuses a script
+abbrev pub script_refusal : ScriptFault → StepFault
+script_refusal (faults.BadScript line) = Refused (refusals.BadScript line)
+script_refusal (faults.ScriptRange line lines) = Refused (refusals.ScriptRange line lines)
+script_refusal (faults.BadText line) = Refused (refusals.BadText line)
+script_refusal faults.Memory = Memory
+
+-- the entry that is found, with its base; of want of memory nothing is said
+abbrev pub FindsEntry : DeltaWords → Stamp → Header → List Edit → Result Chosen StepFault → Type 0
+FindsEntry words stamp header edits (Ok c) =
+    (edit : Edit) × (slice_get edits (c.number - 1) ≡ Some edit) × (entry_of words stamp header edits ≡ Ok (record { number = c.number; edit = edit; base = c.base }))
+FindsEntry words stamp header edits (Err (Refused refusal)) = entry_of words stamp header edits ≡ Err refusal
+FindsEntry words stamp header edits (Err Memory) = Unit {0}
+FindsEntry words stamp header edits (Err DiskFault) = Unit {0}
+FindsEntry words stamp header edits (Err ReadFault) = ⊥
+FindsEntry words stamp header edits (Err WriteFault) = ⊥
+
+-- what is judged of what a reading found
+unfoldable pub judged : List Flag → List Order → Found → Result Bool Refusal
+judged flags orders found = do
+  fits ← or_script_fault (checked orders found.lines)
+  keywords ← check (not (has_flag flags 105) || found.keyword) refusals.NoKeywords
+  or_differs found.differs
+
+-- What a reading found of a base, and, where a script fits it, of the result.
+pub record FindsBase (orders : List Order) (base : List (List ℕ)) (g : Option Content) (found : Found) : Type 0 where
+  pub lines : found.lines ≡ length base
+  pub keyword : checked orders (length base) ≡ Ok tt → found.keyword ≡ list_any has_keyword (apply orders base)
+  pub differs : checked orders (length base) ≡ Ok tt → is_short g ≡ true → or_differs found.differs ≡ compared g (apply orders base)
+
+-- the same, or no fault of the file
+abbrev pub ReadsBase : List Order → List (List ℕ) → Option Content → Result Found StepFault → Type 0
+ReadsBase orders base g (Ok found) = FindsBase orders base g found
+ReadsBase orders base g (Err (Refused refusal)) = ⊥
+ReadsBase orders base g (Err Memory) = Unit {0}
+ReadsBase orders base g (Err DiskFault) = Unit {0}
+ReadsBase orders base g (Err ReadFault) = ⊥
+ReadsBase orders base g (Err WriteFault) = ⊥
+
+-- What a reading found of the result of a script that fits its base.
+pub record FindsFit (orders : List Order) (base : List (List ℕ)) (found : Found) : Type 0 where
+  pub lines : found.lines ≡ length base
+  pub keyword : found.keyword ≡ list_any has_keyword (apply orders base)
+
+-- the script fits, or a check fails
+abbrev pub Fits : List Flag → List Order → List (List ℕ) → Option Content → Result Found StepFault → Type 0
+Fits flags orders base g (Ok found) = (fitted flags orders base g ≡ Ok true) × FindsFit orders base found
+Fits flags orders base g (Err (Refused refusal)) = fitted flags orders base g ≡ Err refusal
+Fits flags orders base g (Err Memory) = Unit {0}
+Fits flags orders base g (Err DiskFault) = Unit {0}
+Fits flags orders base g (Err ReadFault) = ⊥
+Fits flags orders base g (Err WriteFault) = ⊥

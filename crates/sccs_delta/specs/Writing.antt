@@ -1,0 +1,102 @@
+-- What is written of a delta.
+use Rattle.std.specs.Prelude.{◌≡◌, ◌≢◌, ◌≤◌, ℕ, suc, ◌+◌, ◌-◌, Bool, true, List, length, remove, map, drop, Option, Some, IfSome, Result, Ok, Err}
+use Rattle.sccs_base.specs.Name.{sibling}
+use Rattle.sccs_disk.specs.Files.{Content, View, put}
+use Rattle.sccs_disk.specs.Told.{Told, seen}
+use Rattle.sccs_sid.specs.declared.moments.Stamp.{Stamp}
+use Rattle.sccs_sid.specs.declared.sids.Sid.{Sid}
+use Rattle.sccs_sid.specs.declared.refusals.StepFault.{StepFault}
+use Rattle.sccs_sid.specs.declared.refusals.StepFault.TheVariants.{Refused, Memory, ReadFault, WriteFault, DiskFault}
+use Rattle.sccs_history.specs.Applied.{newest}
+use Rattle.sccs_history.specs.declared.headers.Header.{Header}
+use Rattle.sccs_history.specs.declared.headers.Item.{Item}
+use Rattle.sccs_edits.specs.Plans.{plan}
+use Rattle.sccs_edits.specs.declared.scripts.Order.{Order}
+use Rattle.sccs_pfile.specs.Recovered.{pfile_of}
+use Rattle.sccs_pfile.specs.declared.entries.Edit.{Edit}
+use Rattle.sccs_records.specs.NewDeltas.{null_delta}
+use Rattle.sccs_splicer.specs.Splices.{begun}
+use Rattle.sccs_store.specs.Commits.{Becomes, chosen}
+use Rattle.sccs_store.specs.SealedFiles.{sealed}
+use Rattle.sccs_transactions.specs.declared.prepared.Prepared.{Prepared}
+use Rattle.sccs_pending.specs.NewEntries.{kept_g}
+use Rattle.sccs_words.specs.declared.commands.DeltaWords.{DeltaWords}
+use Rattle.sccs_edits.specs.Places.{places}
+use Rattle.sccs_base.specs.Stream.{Rose}
+use Rattle.sccs_sid.specs.Reading.{◌>>=◌}
+use Rattle.sccs_sid.specs.declared.refusals.Refusal.{Refusal}
+use Rattle.sccs_delta.specs.DeltaStep.{Entry, base_lines, counts_of, delta_of, delta_report, fitted, header_with, mrs_checked, nulls_of, warning}
+use Rattle.sccs_delta.specs.declared.bases.Base.{Base}
+use Rattle.sccs_delta.specs.declared.new_sfiles.NewSfile.{NewSfile}
+
+-- The s-file that the delta of an entry makes, with null deltas of these SIDs before it.
+pub record IsSfileOf (words : DeltaWords) (stamp : Stamp) (header : Header) (edit : Edit) (base : Base) (orders : List Order) (lines : ℕ) (nulls : List Sid) (s : NewSfile) : Type 0 where
+  pub header : s.header ≡ header_with header base.got (map (null_delta stamp) nulls) (delta_of words stamp edit base.include base.exclude (counts_of (plan orders lines) lines))
+  pub splicer : s.copying.splicer ≡ begun (suc (newest header.records + length nulls)) (plan orders lines)
+  pub set : s.set ≡ base.set
+  pub sid : s.sid ≡ edit.made
+  pub counts : s.counts ≡ counts_of (plan orders lines) lines
+
+-- it is made, or no serial is left; of want of memory nothing is said
+abbrev pub MakesSfile : DeltaWords → Stamp → Header → List Edit → Edit → Base → List Order → ℕ → Result NewSfile StepFault → Type 0
+MakesSfile words stamp header edits edit base orders lines (Ok s) = (nulls : List Sid) × (nulls_of header edits edit ≡ Ok nulls) × IsSfileOf words stamp header edit base orders lines nulls s
+MakesSfile words stamp header edits edit base orders lines (Err (Refused refusal)) = nulls_of header edits edit ≡ Err refusal
+MakesSfile words stamp header edits edit base orders lines (Err Memory) = Unit {0}
+MakesSfile words stamp header edits edit base orders lines (Err DiskFault) = Unit {0}
+MakesSfile words stamp header edits edit base orders lines (Err ReadFault) = ⊥
+MakesSfile words stamp header edits edit base orders lines (Err WriteFault) = ⊥
+
+-- the x-file is this s-file; of a told file no refusal comes
+abbrev pub WritesX : Header → List Item → List ℕ → Option View → Option View → Result (Unit {0}) StepFault → Type 0
+WritesX h items n old new (Ok done) = Becomes (λ v. put v n (Some (sealed h items))) old new
+WritesX h items n old new (Err (Refused refusal)) = ⊥
+WritesX h items n old new (Err Memory) = Unit {0}
+WritesX h items n old new (Err DiskFault) = Unit {0}
+WritesX h items n old new (Err ReadFault) = ⊥
+WritesX h items n old new (Err WriteFault) = ⊥
+
+-- The x-file is this s-file, and a commit leaves these entries and the g-file or none.
+pub record WritesFiles (n : List ℕ) (h : Header) (items : List Item) (edits : List Edit) (keep : Bool) (report message : List ℕ) (p : Prepared) (old new : Told) : Type 0 where
+  pub new_s : p.new_s ≡ true
+  pub report_is : p.report ≡ report
+  pub message_is : p.message ≡ message
+  pub x_file : IfSome (seen new) (λ (v : View). v (sibling 120 n) ≡ Some (sealed h items))
+  pub entries : IfSome (seen new) (λ (v : View). (kept : Option Content) → chosen p.new_p (v (sibling 113 n)) kept ≡ pfile_of edits)
+  pub g_file : IfSome (seen old) (λ (v : View). (y : Option Content) → chosen p.new_g y (v (drop 2 n)) ≡ kept_g keep (v (drop 2 n)))
+
+-- of a told file no refusal comes
+abbrev pub WritesDelta : List ℕ → Header → List Item → List Edit → Bool → List ℕ → List ℕ → Told → Told → Result Prepared StepFault → Type 0
+WritesDelta n h items edits keep report message old new (Ok p) = WritesFiles n h items edits keep report message p old new
+WritesDelta n h items edits keep report message old new (Err (Refused refusal)) = ⊥
+WritesDelta n h items edits keep report message old new (Err Memory) = Unit {0}
+WritesDelta n h items edits keep report message old new (Err DiskFault) = Unit {0}
+WritesDelta n h items edits keep report message old new (Err ReadFault) = ⊥
+WritesDelta n h items edits keep report message old new (Err WriteFault) = ⊥
+
+-- the checks of a script and of the new record; what passes them are the SIDs of the null deltas
+unfoldable pub script_checked : DeltaWords → Header → List Item → List Edit → Entry → List Order → Option Content → Result (List Sid) Refusal
+script_checked words header items edits e orders g = do
+  fits ← fitted header.flags orders (base_lines items e.base) g
+  mrs ← mrs_checked header.flags words.mrs
+  nulls_of header edits e.edit
+
+-- The delta of an entry, with null deltas before it, is written; or a check fails.
+abbrev pub MakesDelta : Result (List Sid) Refusal → DeltaWords → Stamp → List ℕ → Header → List Item → List Edit → Entry → List Order → Bool → Told → Told → Result Prepared StepFault → Type 0
+MakesDelta checks words stamp n header items edits e orders keyword old new (Ok p) =
+    let lines = base_lines items e.base in
+    let counts = counts_of (plan orders (length lines)) (length lines) in
+    (nulls : List Sid) × (checks ≡ Ok nulls)
+    × WritesFiles n (header_with header e.base.got (map (null_delta stamp) nulls) (delta_of words stamp e.edit e.base.include e.base.exclude counts))
+    (places items e.base.set orders (suc (newest header.records + length nulls))) (remove edits (e.number - 1)) words.keep (delta_report words.silent e.edit.made counts) (warning n keyword) p old new
+MakesDelta checks words stamp n header items edits e orders keyword old new (Err (Refused refusal)) = checks ≡ Err refusal
+MakesDelta checks words stamp n header items edits e orders keyword old new (Err Memory) = Unit {0}
+MakesDelta checks words stamp n header items edits e orders keyword old new (Err DiskFault) = Unit {0}
+MakesDelta checks words stamp n header items edits e orders keyword old new (Err ReadFault) = ⊥
+MakesDelta checks words stamp n header items edits e orders keyword old new (Err WriteFault) = ⊥
+
+-- A call of a step that changes a disk: it fails only where that did.
+pub record ChangesDisk {D T : Type 0} (faults : D → ℕ) (disk disk2 : D) (result : Result T StepFault) : Type 0 where
+  pub later : faults disk ≤ faults disk2
+  pub cause : result ≡ Err DiskFault → Rose (faults disk) (faults disk2)
+  pub read : result ≢ Err ReadFault
+  pub write : result ≢ Err WriteFault

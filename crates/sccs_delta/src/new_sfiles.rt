@@ -1,0 +1,139 @@
+ghost use Rattle.std.specs.Prelude.{◌≡◌, ◌≢◌, ◌<◌, ◌≤◌, ◌+◌, ◌-◌, ℕ, suc, List, [], Some, Ok, Err, All, IfOk, length, map, slice_get};
+ghost use Rattle.sccs_base.specs.Constants.{file_limit};
+ghost use Rattle.sccs_edits.specs.Places.{told_behind};
+ghost use Rattle.sccs_edits.specs.Plans.{plan};
+ghost use Rattle.sccs_history.specs.Applied.{newest};
+ghost use Rattle.sccs_history.specs.History.{IsSpelled};
+ghost use Rattle.sccs_history.specs.declared.headers.Item.{Item};
+ghost use Rattle.sccs_body.specs.Reader.{name_read};
+ghost use Rattle.sccs_pfile.specs.Entries.{IsEdit};
+ghost use Rattle.sccs_script.specs.Checks.{checked};
+ghost use Rattle.sccs_sid.specs.Moment.{IsMoment};
+ghost use Rattle.sccs_sid.specs.Sid.{IsSid};
+ghost use Rattle.sccs_sid.specs.declared.refusals.StepFault.TheVariants as faults;
+ghost use Rattle.sccs_splicer.specs.Splices.{begun};
+ghost use Rattle.sccs_steps.specs.Actions.{RefusesWithin};
+ghost use Rattle.sccs_versions.specs.Coming.{IsBody};
+ghost use Rattle.sccs_delta.specs.Copies.{ItemsCome};
+ghost use Rattle.sccs_delta.specs.DeltaStep.{counts_of, delta_checks};
+ghost use Rattle.sccs_delta.specs.Writing.{MakesSfile};
+
+use crate::copies::Copying;
+use crate::entries::Chosen;
+use crate::headers::{header_with, new_delta, nulls_of};
+use sccs_base::{Memory, Name};
+use sccs_history::Header;
+use sccs_pfile::Edits;
+use sccs_records::{Counts, newest};
+use sccs_script::{Script, plan};
+use sccs_sets::Applied;
+use sccs_sid::{Sid, Stamp, StepFault};
+use sccs_splicer::Splicer;
+use sccs_table::Front;
+use sccs_words::DeltaWords;
+use std::alloc::Global;
+
+/// The s-file that a delta makes, as it is to be written: its header, its body as it is copied from the old one,
+/// the set of the base and how many lines that has, and the SID and the counts of the new delta.
+#[derive(Drop)]
+pub struct NewSfile {
+    pub header: Header,
+    pub copying: Copying,
+    pub set: Applied,
+    pub lines: u64,
+    pub sid: Sid,
+    pub counts: Counts,
+}
+
+// how many lines a plan inserts and deletes, and how many of a base of so many it leaves
+fn counts_of(splicer: &Splicer, lines: u64) -> Counts
+    ensures { result ≡ counts_of splicer.now.plan lines }
+{
+    let deleted = splicer.deleted();
+    Counts {
+        inserted: splicer.inserted(),
+        deleted,
+        unchanged: lines.saturating_sub(deleted),
+    }
+}
+
+// a copy of a body with what a script makes of a base of so many lines, as the delta of a serial
+fn copying_of(
+    alloc: Global,
+    name: &Name,
+    front: &Front,
+    script: &Script,
+    lines: u64,
+    serial: u16,
+) -> Result<Copying, Memory>
+    requires fits { checked script.now lines ≡ Ok tt }
+    requires few { lines ≤ file_limit }
+    ensures name { IfOk result (λ c. name_read c.items ≡ name.now) }
+    ensures splicer { IfOk result (λ c. c.splicer ≡ begun serial (plan script.now lines)) }
+    ensures seen { IfOk result (λ c. c.seen ≡ 0) }
+    ensures told { (set file : List ℕ) (items : List Item) → IsBody (Some file) front.now set file items
+        → IfOk result (λ c. ItemsCome file set c.items c.weaver (told_behind set [] items)) }
+{
+    let plan = plan(alloc, script, lines)?;
+    Copying::new(alloc, name, front, serial, plan)
+}
+
+/// What the delta of an entry makes of an s-file. Full comes exactly where no serial is left.
+pub fn new_sfile(
+    alloc: Global,
+    words: &DeltaWords,
+    stamp: &Stamp,
+    name: &Name,
+    front: Front,
+    edits: &Edits,
+    chosen: Chosen,
+    script: &Script,
+    lines: u64,
+) -> Result<NewSfile, StepFault>
+    requires moment { IsMoment stamp.now.moment }
+    requires spelled { IsSpelled front.header }
+    requires edits { All IsEdit edits.now }
+    requires some { 0 < chosen.number }
+    requires there { chosen.number ≤ length edits.now }
+    requires fits { checked script.now lines ≡ Ok tt }
+    requires few { lines ≤ file_limit }
+    ensures makes { (e : Edit) → slice_get edits.now (chosen.number - 1) ≡ Some e
+        → MakesSfile words.now stamp.now front.header edits.now e chosen.base script.now lines result }
+    ensures told { (file : List ℕ) (items : List Item) → IsBody (Some file) front chosen.base.set file items
+        → IfOk result (λ s. ItemsCome file chosen.base.set s.copying.items s.copying.weaver (told_behind chosen.base.set [] items)) }
+    ensures name { IfOk result (λ s. name_read s.copying.items ≡ name.now) }
+    ensures seen { IfOk result (λ s. s.copying.seen ≡ 0) }
+    ensures start { IfOk result (λ s. s.copying.splicer.line ≡ 0) }
+    ensures spelled { IfOk result (λ s. IsSpelled s.header) }
+    ensures sid { IfOk result (λ s. IsSid s.sid) }
+    ensures lines { IfOk result (λ s. s.lines ≡ lines) }
+    ensures checks { RefusesWithin delta_checks result }
+    ensures broke { result ≢ Err faults.DiskFault }
+{
+    let edit = edits.at(chosen.number - 1);
+    let nulls = match nulls_of(alloc, &front.header, edits.items(), edit) {
+        Ok(nulls) => nulls,
+        Err(fault) => return Err(fault),
+    };
+    let serial = newest(&front.header.records) + nulls.len() as u16 + 1;
+    let Ok(copying) = copying_of(alloc, name, &front, script, lines, serial) else {
+        return Err(StepFault::Memory);
+    };
+    let counts = counts_of(&copying.splicer, lines);
+    let base = chosen.base;
+    let Ok(delta) = new_delta(alloc, words, stamp, edit, base.include, base.exclude, counts) else {
+        return Err(StepFault::Memory);
+    };
+    let sids = nulls.items();
+    match header_with(alloc, front.header, base.got, stamp, sids, delta) {
+        Ok(header) => Ok(NewSfile {
+            header,
+            copying,
+            set: base.set,
+            lines,
+            sid: edit.made,
+            counts,
+        }),
+        Err(_) => Err(StepFault::Memory),
+    }
+}

@@ -1,0 +1,70 @@
+ghost use Rattle.std.specs.Prelude.{◌∷◌, [], ◌≤◌, IfSome, length};
+ghost use Rattle.sccs_base.specs.Constants.{file_limit};
+ghost use Rattle.sccs_base.specs.Name.{IsSfile};
+ghost use Rattle.sccs_disk.specs.Files.{View};
+ghost use Rattle.sccs_disk.specs.Told.{seen};
+ghost use Rattle.sccs_files.specs.StepFiles.{look};
+ghost use Rattle.sccs_pending.specs.PFiles.{OnlyReads, Passes};
+ghost use Rattle.sccs_steps.specs.Actions.{RefusesWithin};
+ghost use Rattle.sccs_delta.specs.DeltaStep.{delta_checks, sizes_checked};
+ghost use Rattle.sccs_delta.specs.Sizes.{is_short_enough, s_is_there};
+
+use sccs_base::{FILE_LIMIT, Name};
+use sccs_disk::Disk;
+use sccs_sid::{Refusal, StepFault};
+
+/// Whether an s-file is there: Missing comes exactly where it isn't.
+pub fn check_there<D: Disk>(disk: &mut D, name: &Name) -> Result<(), StepFault>
+    ensures told { IfSome (seen (D.told disk.old)) (λ (v : View). Passes (s_is_there (v name.now)) result) }
+    ensures checks { RefusesWithin delta_checks result }
+    ensures frame { OnlyReads D.told D.faults disk.old disk.new result }
+{
+    match disk.size(name) {
+        Ok(Some(_)) => Ok(()),
+        Ok(None) => Err(StepFault::Refused(Refusal::Missing)),
+        Err(_) => Err(StepFault::DiskFault),
+    }
+}
+
+// whether a file isn't longer than it may be
+fn check_short<D: Disk>(disk: &mut D, file: &Name) -> Result<(), StepFault>
+    ensures told { IfSome (seen (D.told disk.old)) (λ (v : View). Passes (is_short_enough (v file.now)) result) }
+    ensures checks { RefusesWithin delta_checks result }
+    ensures frame { OnlyReads D.told D.faults disk.old disk.new result }
+{
+    match disk.size(file) {
+        Ok(Some(size)) => {
+            if size > FILE_LIMIT {
+                Err(StepFault::Refused(Refusal::TooLong))
+            } else {
+                Ok(())
+            }
+        }
+        Ok(None) => Ok(()),
+        Err(_) => Err(StepFault::DiskFault),
+    }
+}
+
+/// Whether the s-file is there, and it, the p-file and the g-file aren't longer than files may be. The script
+/// isn't.
+pub fn check_sizes<D: Disk>(disk: &mut D, name: &Name, script: &[u8]) -> Result<(), StepFault>
+    requires sfile { IsSfile name.now }
+    requires short { length script.now ≤ file_limit }
+    ensures told { IfSome (seen (D.told disk.old)) (λ (v : View). Passes (sizes_checked script.now (look v name.now)) result) }
+    ensures checks { RefusesWithin delta_checks result }
+    ensures frame { OnlyReads D.told D.faults disk.old disk.new result }
+{
+    match check_there(disk, name) {
+        Ok(()) => {}
+        Err(fault) => return Err(fault),
+    }
+    match check_short(disk, name) {
+        Ok(()) => {}
+        Err(fault) => return Err(fault),
+    }
+    match check_short(disk, &name.sibling(b'p')) {
+        Ok(()) => {}
+        Err(fault) => return Err(fault),
+    }
+    check_short(disk, &name.module())
+}
