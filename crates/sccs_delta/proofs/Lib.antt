@@ -1,10 +1,15 @@
 pub mod AppendLaws
 pub mod BaseLaws
 pub mod Chains
+pub mod EntryBases
+pub mod EntryChains
+pub mod FitLaws
 pub mod CheckLaws
 pub mod ComingItems
 pub mod CopyLaws
 pub mod LongerBases
 pub mod PlanResults
+pub mod PrepareLaws
 pub mod SkippedLaws
 pub mod VersionLaws
+pub mod WriteLaws

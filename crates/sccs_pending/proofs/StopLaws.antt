@@ -66,11 +66,14 @@ short_by : (s : Content) (bytes : List ℕ) (f : Found) (b : Bool) → (check b 
 short_by s bytes f true e = file_by bytes f (answer file_of (Some s.bytes)) e
 short_by s bytes f false e = absurd (cc)
 
-pending_file : (s : Content) (p : Option Content) (f : Found) → pending_of (Some s) p ≡ Ok f → file_of s.bytes ≡ Ok f.parsed
+pub pending_answer : (s : Content) (p : Option Content) (f : Found) → pending_of (Some s) p ≡ Ok f → answer file_of (Some s.bytes) ≡ Ok f.parsed
 unfolding pending_of
-pending_file s p f e = limit_by s f.parsed (nat_lt 1073741824 (length s.bytes)) (short_by s (bytes_or_none p) f (is_short (Some s) && is_short p) e)
+pending_answer s p f e = short_by s (bytes_or_none p) f (is_short (Some s) && is_short p) e
 
-table_is : (s : Content) (parsed : Parsed) → file_of s.bytes ≡ Ok parsed → table_of s.bytes ≡ Some parsed.header.records
+pub pending_file : (s : Content) (p : Option Content) (f : Found) → pending_of (Some s) p ≡ Ok f → file_of s.bytes ≡ Ok f.parsed
+pending_file s p f e = limit_by s f.parsed (nat_lt 1073741824 (length s.bytes)) (pending_answer s p f e)
+
+pub table_is : (s : Content) (parsed : Parsed) → file_of s.bytes ≡ Ok parsed → table_of s.bytes ≡ Some parsed.header.records
 unfolding table_of
 table_is s parsed e = ap (λ (r : Result Parsed FileFault). option_records (found r)) e
   where

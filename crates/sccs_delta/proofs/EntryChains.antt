@@ -1,0 +1,93 @@
+-- The entry of a delta, check by check.
+use Rattle.std.proofs.Common.{◌≡◌, ℕ, ◌-◌, Bool, true, false, List, Option, None, Some, Result, Ok, Err, refl, sym, ap, subst, ◌∙◌}
+use Rattle.std.specs.Prelude.{slice_get}
+use Rattle.sccs_sid.specs.Reading.{◌>>=◌}
+use Rattle.sccs_sid.specs.declared.moments.Stamp.{Stamp}
+use Rattle.sccs_sid.specs.declared.refusals.Refusal.{Refusal}
+use Rattle.sccs_sid.specs.declared.refusals.Refusal.TheVariants as refusals
+use Rattle.sccs_sid.specs.declared.refusals.StepFault.{StepFault}
+use Rattle.sccs_sid.specs.declared.refusals.StepFault.TheVariants.{Refused, Memory, ReadFault, WriteFault, DiskFault}
+use Rattle.sccs_flags.specs.Logins.{is_allowed}
+use Rattle.sccs_history.specs.declared.headers.Header.{Header}
+use Rattle.sccs_pending.specs.NewEntries.{or_no_edit}
+use Rattle.sccs_pending.specs.PFiles.{Answers, Passes}
+use Rattle.sccs_pfile.specs.Choices.{choice, fits}
+use Rattle.sccs_pfile.specs.declared.entries.Edit.{Edit}
+use Rattle.sccs_steps.specs.StepEffects.{check, there}
+use Rattle.sccs_words.specs.declared.commands.DeltaWords.{DeltaWords}
+use Rattle.sccs_delta.specs.DeltaStep.{Entry, base_of, entry_of, released}
+use Rattle.sccs_delta.specs.Preparing.{FindsEntry}
+use Rattle.sccs_delta.specs.declared.bases.Base.{Base}
+use Rattle.sccs_delta.specs.declared.entries.Chosen.{Chosen}
+use Rattle.sccs_delta.proofs.Chains.{ends, goes}
+
+-- ---- what follows each check
+
+abbrev with_base : Header → ℕ → Edit → Base → Result Entry Refusal
+with_base header number edit base = released header.flags edit >>= λ free. Ok (record { number = number; edit = edit; base = base })
+
+abbrev with_edit : Header → ℕ → Edit → Result Entry Refusal
+with_edit header number edit = base_of header.records number edit >>= with_base header number edit
+
+abbrev with_number : Header → List Edit → ℕ → Result Entry Refusal
+with_number header edits number = there (slice_get edits (number - 1)) refusals.NoEdit >>= with_edit header number
+
+abbrev entry_by : DeltaWords → Stamp → Header → List Edit → Bool → Result Entry Refusal
+entry_by words stamp header edits allowed = check allowed refusals.NotAllowed >>= λ x. or_no_edit (choice (fits stamp.login words.sid true) edits) >>= with_number header edits
+
+entry_is : (words : DeltaWords) (stamp : Stamp) (header : Header) (edits : List Edit) → entry_of words stamp header edits ≡ entry_by words stamp header edits (is_allowed header.users stamp.login)
+unfolding entry_of
+entry_is words stamp header edits = refl
+
+let_in : (words : DeltaWords) (stamp : Stamp) (header : Header) (edits : List Edit) → is_allowed header.users stamp.login ≡ true → entry_of words stamp header edits ≡ (or_no_edit (choice (fits stamp.login words.sid true) edits) >>= with_number header edits)
+let_in words stamp header edits allowed = entry_is words stamp header edits ∙ ap (entry_by words stamp header edits) allowed
+
+numbered : (words : DeltaWords) (stamp : Stamp) (header : Header) (edits : List Edit) (number : ℕ) (edit : Edit) → is_allowed header.users stamp.login ≡ true → or_no_edit (choice (fits stamp.login words.sid true) edits) ≡ Ok number → slice_get edits (number - 1) ≡ Some edit
+    → entry_of words stamp header edits ≡ with_edit header number edit
+numbered words stamp header edits number edit allowed is at =
+    let_in words stamp header edits allowed
+    ∙ (goes (or_no_edit (choice (fits stamp.login words.sid true) edits)) (with_number header edits) number is
+    ∙ ap (λ (o : Option Edit). there o refusals.NoEdit >>= with_edit header number) at)
+
+-- ---- what is found
+
+finds : (words : DeltaWords) (stamp : Stamp) (header : Header) (edits : List Edit) (fault : StepFault) → Answers {A = Entry} (entry_of words stamp header edits) (Err fault) → FindsEntry words stamp header edits (Err fault)
+finds words stamp header edits (Refused refusal) answers = answers
+finds words stamp header edits Memory answers = tt
+finds words stamp header edits ReadFault answers = answers
+finds words stamp header edits WriteFault answers = answers
+finds words stamp header edits DiskFault answers = tt
+
+by_rest : (words : DeltaWords) (stamp : Stamp) (header : Header) (edits : List Edit) (rest : Result Entry Refusal) (fault : StepFault) → entry_of words stamp header edits ≡ rest → Answers {A = Entry} rest (Err fault) → FindsEntry words stamp header edits (Err fault)
+by_rest words stamp header edits rest fault is answers = finds words stamp header edits fault (subst (λ (r : Result Entry Refusal). Answers {A = Entry} r (Err fault)) (sym is) answers)
+
+pub not_let_in : (words : DeltaWords) (stamp : Stamp) (header : Header) (edits : List Edit) → is_allowed header.users stamp.login ≡ false → entry_of words stamp header edits ≡ Err refusals.NotAllowed
+not_let_in words stamp header edits no = entry_is words stamp header edits ∙ ap (entry_by words stamp header edits) no
+
+pub no_number : (words : DeltaWords) (stamp : Stamp) (header : Header) (edits : List Edit) (fault : StepFault) → is_allowed header.users stamp.login ≡ true → Answers {A = ℕ} (or_no_edit (choice (fits stamp.login words.sid true) edits)) (Err fault) → FindsEntry words stamp header edits (Err fault)
+no_number words stamp header edits fault allowed answers =
+    by_rest words stamp header edits _ fault (let_in words stamp header edits allowed) (ends (or_no_edit (choice (fits stamp.login words.sid true) edits)) (with_number header edits) fault answers)
+
+pub no_base : (words : DeltaWords) (stamp : Stamp) (header : Header) (edits : List Edit) (number : ℕ) (edit : Edit) (fault : StepFault) → is_allowed header.users stamp.login ≡ true → or_no_edit (choice (fits stamp.login words.sid true) edits) ≡ Ok number → slice_get edits (number - 1) ≡ Some edit
+    → Answers {A = Base} (base_of header.records number edit) (Err fault) → FindsEntry words stamp header edits (Err fault)
+no_base words stamp header edits number edit fault allowed is at answers =
+    by_rest words stamp header edits _ fault (numbered words stamp header edits number edit allowed is at) (ends (base_of header.records number edit) (with_base header number edit) fault answers)
+
+-- a check that fails, as an answer
+passes_answers : (found : Result Bool Refusal) (fault : StepFault) → Passes found (Err fault) → Answers {A = Bool} found (Err fault)
+passes_answers found (Refused refusal) passes = passes
+passes_answers found Memory passes = tt
+passes_answers found ReadFault passes = passes
+passes_answers found WriteFault passes = passes
+passes_answers found DiskFault passes = tt
+
+pub not_released : (words : DeltaWords) (stamp : Stamp) (header : Header) (edits : List Edit) (number : ℕ) (edit : Edit) (base : Base) (fault : StepFault) → is_allowed header.users stamp.login ≡ true → or_no_edit (choice (fits stamp.login words.sid true) edits) ≡ Ok number → slice_get edits (number - 1) ≡ Some edit
+    → base_of header.records number edit ≡ Ok base → Passes (released header.flags edit) (Err fault) → FindsEntry words stamp header edits (Err fault)
+not_released words stamp header edits number edit base fault allowed is at based passes =
+    by_rest words stamp header edits _ fault (numbered words stamp header edits number edit allowed is at ∙ goes (base_of header.records number edit) (with_base header number edit) base based)
+    (ends (released header.flags edit) (λ free. Ok (record { number = number; edit = edit; base = base })) fault (passes_answers (released header.flags edit) fault passes))
+
+pub entry_found : (words : DeltaWords) (stamp : Stamp) (header : Header) (edits : List Edit) (number : ℕ) (edit : Edit) (base : Base) → is_allowed header.users stamp.login ≡ true → or_no_edit (choice (fits stamp.login words.sid true) edits) ≡ Ok number → slice_get edits (number - 1) ≡ Some edit
+    → base_of header.records number edit ≡ Ok base → released header.flags edit ≡ Ok true → FindsEntry words stamp header edits (Ok (record { number = number; base = base }))
+entry_found words stamp header edits number edit base allowed is at based free =
+    (edit, at, numbered words stamp header edits number edit allowed is at ∙ (goes (base_of header.records number edit) (with_base header number edit) base based ∙ goes (released header.flags edit) (λ x. Ok (record { number = number; edit = edit; base = base })) true free))

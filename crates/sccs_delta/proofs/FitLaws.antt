@@ -1,0 +1,125 @@
+-- What is judged of a reading of the base, and what of the base itself.
+use Rattle.std.proofs.Common.{◌≡◌, ℕ, ◌+◌, ◌-◌, ◌≤◌, ◌^◌, Bool, true, false, not, ◌||◌, List, length, Option, None, Some, Result, Ok, Err, refl, sym, ap, subst, ◌∙◌, arith}
+use Rattle.std.specs.List.{AllByRecursion, list_any}
+use Rattle.std.specs.Prelude.{is_some, option_map}
+use Rattle.sccs_base.specs.Cut.{text_of}
+use Rattle.sccs_grammar.specs.FileRefusals.{file_fault}
+use Rattle.sccs_grammar.specs.declared.faults.FileFault.{FileFault}
+use Rattle.sccs_grammar.specs.declared.faults.FileFault.TheVariants as files
+use Rattle.sccs_disk.specs.Files.{Content}
+use Rattle.sccs_sid.specs.Reading.{◌>>=◌}
+use Rattle.sccs_sid.specs.declared.refusals.Refusal.{Refusal}
+use Rattle.sccs_sid.specs.declared.refusals.Refusal.TheVariants as refusals
+use Rattle.sccs_sid.specs.declared.refusals.StepFault.{StepFault}
+use Rattle.sccs_sid.specs.declared.refusals.StepFault.TheVariants.{Refused, Memory, ReadFault, WriteFault, DiskFault}
+use Rattle.sccs_history.specs.declared.headers.Flag.{Flag}
+use Rattle.sccs_flags.specs.FlagValues.{has_flag}
+use Rattle.sccs_edits.specs.Plans.{plan}
+use Rattle.sccs_edits.specs.Scripts.{apply}
+use Rattle.sccs_edits.specs.declared.scripts.Order.{Order}
+use Rattle.sccs_edits.specs.declared.scripts.Plan.{Plan}
+use Rattle.sccs_script.specs.Checks.{bare, both_ok, checked, ranged}
+use Rattle.sccs_script.specs.Commands.{FitsIn}
+use Rattle.sccs_script.specs.declared.faults.ScriptFault.{ScriptFault}
+use Rattle.sccs_script.specs.declared.faults.ScriptFault.TheVariants as faults
+use Rattle.sccs_steps.specs.StepEffects.{check}
+use Rattle.sccs_pending.specs.PFiles.{Passes, is_short}
+use Rattle.sccs_delta.specs.DeltaStep.{compared, fitted, or_differs, or_script_fault}
+use Rattle.sccs_delta.specs.Examining.{Examines, FindsResult, first_difference, has_keyword, result_of}
+use Rattle.sccs_delta.specs.Preparing.{FindsBase, FindsFit, Fits, ReadsBase, judged}
+use Rattle.sccs_delta.specs.Versions.{IsOrdered}
+use Rattle.sccs_delta.specs.declared.examining.Found.{Found}
+use Rattle.sccs_delta.proofs.LongerBases.{fits_longer, plan_longer}
+use Rattle.sccs_delta.proofs.PlanResults.{plan_applied}
+
+-- ---- what is judged
+
+abbrev judged_by : List Flag → Result (Unit {0}) ScriptFault → Bool → Result Bool Refusal → Result Bool Refusal
+judged_by flags r keyword last = or_script_fault r >>= λ x. check (not (has_flag flags 105) || keyword) refusals.NoKeywords >>= λ y. last
+
+judged_is : (flags : List Flag) (orders : List Order) (found : Found) → judged flags orders found ≡ judged_by flags (checked orders found.lines) found.keyword (or_differs found.differs)
+unfolding judged
+judged_is flags orders found = refl
+
+fitted_is : (flags : List Flag) (orders : List Order) (base : List (List ℕ)) (g : Option Content) → fitted flags orders base g ≡ judged_by flags (checked orders (length base)) (list_any has_keyword (apply orders base)) (compared g (apply orders base))
+unfolding fitted
+fitted_is flags orders base g = refl
+
+same_judged : (flags : List Flag) (r : Result (Unit {0}) ScriptFault) (a b : Bool) (x y : Result Bool Refusal) → (r ≡ Ok tt → a ≡ b) → (r ≡ Ok tt → x ≡ y) → judged_by flags r a x ≡ judged_by flags r b y
+same_judged flags (Ok tt) a b x y keyword last = ap (λ k. judged_by flags (Ok tt) k x) (keyword refl) ∙ ap (judged_by flags (Ok tt) b) (last refl)
+same_judged flags (Err (faults.BadScript line)) a b x y keyword last = refl
+same_judged flags (Err (faults.ScriptRange line lines)) a b x y keyword last = refl
+same_judged flags (Err (faults.BadText line)) a b x y keyword last = refl
+same_judged flags (Err faults.Memory) a b x y keyword last = refl
+
+judged_fits : (flags : List Flag) (orders : List Order) (base : List (List ℕ)) (g : Option Content) (found : Found) → is_short g ≡ true → FindsBase orders base g found → judged flags orders found ≡ fitted flags orders base g
+judged_fits flags orders base g found short finds =
+    judged_is flags orders found
+    ∙ (ap (λ n. judged_by flags (checked orders n) found.keyword (or_differs found.differs)) finds.lines
+    ∙ (same_judged flags (checked orders (length base)) found.keyword (list_any has_keyword (apply orders base)) (or_differs found.differs) (compared g (apply orders base)) finds.keyword (λ fits. finds.differs fits short)
+    ∙ sym (fitted_is flags orders base g)))
+
+pub fit_judged : (flags : List Flag) (orders : List Order) (base : List (List ℕ)) (g : Option Content) (found : Found) → is_short g ≡ true → FindsBase orders base g found → checked orders found.lines ≡ Ok tt → Passes (judged flags orders found) (Ok tt) → Fits flags orders base g (Ok found)
+fit_judged flags orders base g found short finds fits passes =
+    (sym (judged_fits flags orders base g found short finds) ∙ passes, record { lines = finds.lines; keyword = finds.keyword (ap (checked orders) (sym finds.lines) ∙ fits) })
+
+pub unfit_judged : (flags : List Flag) (orders : List Order) (base : List (List ℕ)) (g : Option Content) (found : Found) (fault : StepFault) → is_short g ≡ true → FindsBase orders base g found → Passes (judged flags orders found) (Err fault) → Fits flags orders base g (Err fault)
+unfit_judged flags orders base g found (Refused refusal) short finds passes = sym (judged_fits flags orders base g found short finds) ∙ passes
+unfit_judged flags orders base g found Memory short finds passes = tt
+unfit_judged flags orders base g found ReadFault short finds passes = passes
+unfit_judged flags orders base g found WriteFault short finds passes = passes
+unfit_judged flags orders base g found DiskFault short finds passes = tt
+
+pub unread_fits : (flags : List Flag) (orders : List Order) (base : List (List ℕ)) (g : Option Content) (fault : StepFault) → ReadsBase orders base g (Err fault) → Fits flags orders base g (Err fault)
+unread_fits flags orders base g (Refused refusal) reads = absurd reads
+unread_fits flags orders base g Memory reads = tt
+unread_fits flags orders base g ReadFault reads = reads
+unread_fits flags orders base g WriteFault reads = reads
+unread_fits flags orders base g DiskFault reads = tt
+
+-- ---- a plan for a longer base
+
+ordered_of : (n : ℕ) (orders : List Order) → AllByRecursion (FitsIn n) orders → AllByRecursion IsOrdered orders
+ordered_of n [] are = tt
+ordered_of n (order ∷ orders) are = (are.0.numbers, ordered_of n orders are.1)
+
+ranged_ok : (orders : List Order) (r s : Result (Unit {0}) ScriptFault) → both_ok r s ≡ Ok tt → (r ≡ Ok tt) × (s ≡ Ok tt)
+ranged_ok orders (Ok tt) s is = (refl, is)
+ranged_ok orders (Err fault) s is = absurd cc
+
+pub longest_plan_is : (orders : List Order) (count limit : ℕ) (p : Plan) → AllByRecursion (FitsIn 18446744073709551616) orders → count ≤ limit → checked orders count ≡ Ok tt → (checked orders limit ≡ Ok tt → p ≡ plan orders limit) → p ≡ plan orders count
+longest_plan_is orders count limit p ordered few fits is =
+    let parts = ranged_ok orders (ranged orders count) (bare orders) fits in
+    let long : count + (limit - count) ≡ limit = omega (arith, few) in
+    let each = ordered_of 18446744073709551616 orders ordered in
+    let ranges : ranged orders limit ≡ Ok tt = subst (λ n. ranged orders n ≡ Ok tt) long (fits_longer orders count (limit - count) each parts.0) in
+    let whole : checked orders limit ≡ Ok tt = ap (λ (r : Result (Unit {0}) ScriptFault). both_ok r (bare orders)) ranges ∙ parts.1 in
+    is whole ∙ (ap (plan orders) (sym long) ∙ plan_longer orders count (limit - count) each parts.0)
+
+same_difference : (o : Option Content) (compares : Bool) (base result : List (List ℕ)) (found : Found) → result ≡ base → is_short o ≡ true → compares ≡ is_some o → (compares ≡ false → found.differs ≡ None)
+    → ((file : List ℕ) → option_map (λ (c : Content). c.bytes) o ≡ Some file → length file ≤ 1073741824 → compares ≡ true → found.differs ≡ first_difference 0 result (text_of file)) → or_differs found.differs ≡ compared o base
+same_difference None compares base result found is short there alone finds = ap or_differs (alone there)
+same_difference (Some c) compares base result found is short there alone finds =
+    ap or_differs (finds c.bytes refl (omega (arith, short)) there ∙ ap (λ r. first_difference 0 r (text_of c.bytes)) is)
+
+pub base_found : (orders : List Order) (base : List (List ℕ)) (o : Option Content) (compares : Bool) (p : Plan) (found : Found)
+    → (checked orders (length base) ≡ Ok tt → p ≡ plan orders (length base)) → compares ≡ is_some o → (compares ≡ false → found.differs ≡ None) → FindsResult (option_map (λ (c : Content). c.bytes) o) p base compares found → FindsBase orders base o found
+base_found orders base o compares p found plans there alone finds = record {
+  lines = finds.lines;
+  keyword = λ fits. finds.keyword ∙ ap (list_any has_keyword) (made fits);
+  differs = λ fits short. same_difference o compares (apply orders base) (result_of p base) found (made fits) short there alone finds.differs;
+}
+  where
+    made : checked orders (length base) ≡ Ok tt → result_of p base ≡ apply orders base
+    made fits = ap (λ q. result_of q base) (plans fits) ∙ plan_applied orders base
+
+pub base_unread : (told : Option (List ℕ)) (orders : List Order) (base : List (List ℕ)) (g : Option Content) (p : Plan) (compares : Bool) (fault : FileFault) (ended : StepFault) → Examines told p base compares (Err fault) → ended ≡ file_fault fault → ReadsBase orders base g (Err ended)
+base_unread told orders base g p compares files.Failed ended outer is = subst (λ e. ReadsBase orders base g (Err e)) (sym is) tt
+base_unread told orders base g p compares files.Memory ended outer is = subst (λ e. ReadsBase orders base g (Err e)) (sym is) tt
+base_unread told orders base g p compares files.Missing ended outer is = absurd outer
+base_unread told orders base g p compares files.TooLong ended outer is = absurd outer
+base_unread told orders base g p compares files.NotSccs ended outer is = absurd outer
+base_unread told orders base g p compares (files.BadSum stored sum) ended outer is = absurd outer
+base_unread told orders base g p compares (files.BadFormat line) ended outer is = absurd outer
+base_unread told orders base g p compares files.Encoded ended outer is = absurd outer
+base_unread told orders base g p compares (files.Changed a b c d) ended outer is = absurd outer

@@ -1,0 +1,140 @@
+-- What is written of a delta, part by part.
+use Rattle.std.proofs.Common.{◌≡◌, ℕ, zero, suc, ◌+◌, ◌-◌, ◌<◌, ◌≤◌, Bool, true, false, List, [], length, map, remove, Option, None, Some, Result, Ok, Err, refl, sym, ap, subst, ◌∙◌, arith}
+use Rattle.std.specs.Prelude.{IfSome, drop}
+use Rattle.std.specs.Str.{bytes_eq}
+use Rattle.sccs_disk.proofs.Puts.{put_same}
+use Rattle.sccs_disk.specs.Files.{put}
+use Rattle.sccs_files.specs.StepFiles.{Moves}
+use Rattle.sccs_store.specs.Commits.{Becomes, chosen}
+use Rattle.sccs_pending.specs.NewEntries.{PreparesEntries, kept_g}
+use Rattle.sccs_base.specs.Name.{sibling}
+use Rattle.sccs_disk.specs.Files.{Content, View}
+use Rattle.sccs_disk.specs.Told.{Told, seen}
+use Rattle.sccs_sid.specs.declared.moments.Stamp.{Stamp}
+use Rattle.sccs_sid.specs.declared.sids.Sid.{Sid}
+use Rattle.sccs_sid.specs.declared.refusals.StepFault.{StepFault}
+use Rattle.sccs_sid.specs.declared.refusals.StepFault.TheVariants.{Refused, Memory, ReadFault, WriteFault, DiskFault}
+use Rattle.sccs_edits.specs.Places.{places, spliced, told_behind}
+use Rattle.sccs_edits.specs.Plans.{plan}
+use Rattle.sccs_edits.specs.declared.scripts.Order.{Order}
+use Rattle.sccs_history.specs.Applied.{newest}
+use Rattle.sccs_pfile.specs.declared.entries.Edit.{Edit}
+use Rattle.sccs_records.specs.NewDeltas.{null_delta}
+use Rattle.sccs_splicer.specs.Splices.{State, base_count, begun, owed}
+use Rattle.sccs_splicer.proofs.Pushes.{shown_lines}
+use Rattle.sccs_splicer.proofs.SpliceLaws.{owed_first}
+use Rattle.sccs_store.specs.SealedFiles.{sealed}
+use Rattle.sccs_transactions.specs.declared.prepared.Prepared.{Prepared}
+use Rattle.sccs_words.specs.declared.commands.DeltaWords.{DeltaWords}
+use Rattle.sccs_delta.specs.DeltaStep.{Entry, base_lines, counts_of, delta_of, delta_report, header_with, nulls_of, warning}
+use Rattle.sccs_delta.specs.declared.bases.Base.{Base}
+use Rattle.sccs_delta.specs.declared.copies.Copying.{Copying}
+use Rattle.sccs_delta.specs.declared.new_sfiles.NewSfile.{NewSfile}
+use Rattle.sccs_grammar.specs.FileRefusals.{file_fault}
+use Rattle.sccs_grammar.specs.declared.faults.FileFault.{FileFault}
+use Rattle.sccs_grammar.specs.declared.faults.FileFault.TheVariants as files
+use Rattle.sccs_history.specs.declared.headers.Header.{Header}
+use Rattle.sccs_history.specs.declared.headers.Item.{Item}
+use Rattle.sccs_delta.specs.Copies.{CopyComes, ItemsCome, MakesFile}
+use Rattle.sccs_delta.specs.Writing.{IsSfileOf, MakesDelta, MakesSfile, WritesDelta, WritesFiles, WritesX}
+
+pub x_written : (h : Header) (items : List Item) (n : List ℕ) (old new : Option View) (done : Unit {0}) → MakesFile h items n old new (Ok done) → WritesX h items n old new (Ok done)
+x_written h items n old new done makes = makes
+
+pub x_unwritten : (h : Header) (items : List Item) (n : List ℕ) (old new : Option View) (fault : FileFault) (ended : StepFault) → MakesFile h items n old new (Err fault) → ended ≡ file_fault fault → WritesX h items n old new (Err ended)
+x_unwritten h items n old new files.Failed ended outer is = subst (λ e. WritesX h items n old new (Err e)) (sym is) tt
+x_unwritten h items n old new files.Memory ended outer is = subst (λ e. WritesX h items n old new (Err e)) (sym is) tt
+x_unwritten h items n old new files.Missing ended outer is = absurd outer
+x_unwritten h items n old new files.TooLong ended outer is = absurd outer
+x_unwritten h items n old new files.NotSccs ended outer is = absurd outer
+x_unwritten h items n old new (files.BadSum stored sum) ended outer is = absurd outer
+x_unwritten h items n old new (files.BadFormat line) ended outer is = absurd outer
+x_unwritten h items n old new files.Encoded ended outer is = absurd outer
+x_unwritten h items n old new (files.Changed a b c d) ended outer is = absurd outer
+
+-- ---- the copy
+
+-- before all items, of which so many are lines of the base
+pub copy_begins : (file set set2 : List ℕ) (items : List Item) (lines : ℕ) (c : Copying) → set2 ≡ set → c.seen ≡ 0 → lines ≡ length (base_lines items (record { got = 0; include = []; exclude = []; set = set })) → ItemsCome file set c.items c.weaver (told_behind set [] items) → CopyComes file set2 lines c (told_behind set [] items)
+copy_begins file set set2 items lines c same none is come = record {
+  come = subst (λ s. ItemsCome file s c.items c.weaver (told_behind set [] items)) (sym same) come;
+  count = omega (arith, none, is, shown_lines set [] items);
+}
+
+-- ---- the s-file
+
+pub no_sfile : (words : DeltaWords) (stamp : Stamp) (n : List ℕ) (header : Header) (items : List Item) (edits : List Edit) (e : Entry) (orders : List Order) (lines : ℕ) (keyword : Bool) (a b : Told) (fault : StepFault) → MakesSfile words stamp header edits e.edit e.base orders lines (Err fault)
+    → MakesDelta (nulls_of header edits e.edit) words stamp n header items edits e orders keyword a b (Err fault)
+no_sfile words stamp n header items edits e orders lines keyword a b (Refused refusal) makes = makes
+no_sfile words stamp n header items edits e orders lines keyword a b Memory makes = tt
+no_sfile words stamp n header items edits e orders lines keyword a b ReadFault makes = makes
+no_sfile words stamp n header items edits e orders lines keyword a b WriteFault makes = makes
+no_sfile words stamp n header items edits e orders lines keyword a b DiskFault makes = tt
+
+writes_as : (n : List ℕ) (h h2 : Header) (items items2 : List Item) (edits : List Edit) (keep : Bool) (report report2 message message2 : List ℕ) (p : Prepared) (a b : Told) → h ≡ h2 → items ≡ items2 → report ≡ report2 → message ≡ message2 → WritesFiles n h items edits keep report message p a b → WritesFiles n h2 items2 edits keep report2 message2 p a b
+writes_as n h h2 items items2 edits keep report report2 message message2 p a b same_h same_items same_report same_message writes = record {
+  new_s = writes.new_s;
+  report_is = writes.report_is ∙ same_report;
+  message_is = writes.message_is ∙ same_message;
+  x_file = subst (λ (i : List Item). IfSome (seen b) (λ (v : View). v (sibling 120 n) ≡ Some (sealed h2 i))) same_items (subst (λ (x : Header). IfSome (seen b) (λ (v : View). v (sibling 120 n) ≡ Some (sealed x items))) same_h writes.x_file);
+  entries = writes.entries;
+  g_file = writes.g_file;
+}
+
+pub delta_made : (words : DeltaWords) (stamp : Stamp) (n : List ℕ) (header : Header) (items : List Item) (edits : List Edit) (e : Entry) (orders : List Order) (lines : ℕ) (keyword : Bool) (s : NewSfile) (report message : List ℕ) (r : Result Prepared StepFault) (a b : Told) → lines ≡ length (base_lines items e.base)
+    → (makes : MakesSfile words stamp header edits e.edit e.base orders lines (Ok s)) → report ≡ delta_report words.silent s.sid s.counts → message ≡ warning n keyword
+    → WritesDelta n s.header (owed s.copying.splicer (told_behind e.base.set [] items)) (remove edits (e.number - 1)) words.keep report message a b r → MakesDelta (nulls_of header edits e.edit) words stamp n header items edits e orders keyword a b r
+delta_made words stamp n header items edits e orders lines keyword s report message (Ok p) a b is makes report_is message_is writes = (
+  makes.0,
+  makes.1,
+  writes_as n s.header _ (owed s.copying.splicer (told_behind e.base.set [] items)) _ (remove edits (e.number - 1)) words.keep report _ message _ p a b
+  (makes.2.header ∙ ap (λ k. header_with header e.base.got (map (null_delta stamp) makes.0) (delta_of words stamp e.edit e.base.include e.base.exclude (counts_of (plan orders k) k))) is)
+  (ap (λ (t : State). owed t (told_behind e.base.set [] items)) makes.2.splicer
+  ∙ (owed_first (suc (newest header.records + length makes.0)) (plan orders lines) (told_behind e.base.set [] items)
+  ∙ placed_for lines is))
+  (report_is ∙ (ap (λ sid. delta_report words.silent sid s.counts) makes.2.sid ∙ ap (delta_report words.silent e.edit.made) (makes.2.counts ∙ ap (λ k. counts_of (plan orders k) k) is)))
+  message_is
+  writes,
+)
+  where
+    placed_for : (k : ℕ) → k ≡ length (base_lines items e.base) → spliced (plan orders k) (suc (newest header.records + length makes.0)) (told_behind e.base.set [] items) ≡ places items e.base.set orders (suc (newest header.records + length makes.0))
+    placed_for k same = ap (λ j. spliced (plan orders j) (suc (newest header.records + length makes.0)) (told_behind e.base.set [] items)) same
+delta_made words stamp n header items edits e orders lines keyword s report message (Err (Refused refusal)) a b is makes report_is message_is writes = absurd writes
+delta_made words stamp n header items edits e orders lines keyword s report message (Err Memory) a b is makes report_is message_is writes = tt
+delta_made words stamp n header items edits e orders lines keyword s report message (Err ReadFault) a b is makes report_is message_is writes = writes
+delta_made words stamp n header items edits e orders lines keyword s report message (Err WriteFault) a b is makes report_is message_is writes = writes
+delta_made words stamp n header items edits e orders lines keyword s report message (Err DiskFault) a b is makes report_is message_is writes = tt
+
+-- ---- the files
+
+-- what the x-file holds stays while the q-file is written, and what is written is chosen
+g_before : (n : List ℕ) (keep : Bool) (p : Prepared) (o o2 : Option View) → bytes_eq (sibling 120 n) (drop 2 n) ≡ false → Moves (bytes_eq (sibling 120 n)) (λ v. v) o o2 → IfSome o2 (λ (v : View). (y : Option Content) → chosen p.new_g y (v (drop 2 n)) ≡ kept_g keep (v (drop 2 n)))
+    → IfSome o (λ (v : View). (y : Option Content) → chosen p.new_g y (v (drop 2 n)) ≡ kept_g keep (v (drop 2 n)))
+g_before n keep p None o2 apart moves g = tt
+g_before n keep p (Some v) None apart moves g = absurd moves
+g_before n keep p (Some v) (Some w) apart moves g = subst (λ (c : Option Content). (y : Option Content) → chosen p.new_g y c ≡ kept_g keep c) (moves (drop 2 n) apart) g
+
+pub files_written : (n : List ℕ) (h : Header) (items : List Item) (edits : List Edit) (keep : Bool) (report message : List ℕ) (p : Prepared) (a b c : Told) → bytes_eq (sibling 113 n) (sibling 120 n) ≡ false → bytes_eq (sibling 120 n) (drop 2 n) ≡ false → p.new_s ≡ true → p.report ≡ report → p.message ≡ message → WritesX h items (sibling 120 n) (seen a) (seen b) (Ok tt)
+    → Moves (bytes_eq (sibling 113 n)) (λ v. v) (seen b) (seen c) → PreparesEntries n edits p.new_p b c → Moves (bytes_eq (sibling 120 n)) (λ v. v) (seen a) (seen b) → IfSome (seen b) (λ (v : View). (y : Option Content) → chosen p.new_g y (v (drop 2 n)) ≡ kept_g keep (v (drop 2 n))) → WritesFiles n h items edits keep report message p a c
+files_written n h items edits keep report message p a b c apart apart_g new_s report_is message_is x moves entries before g = record {
+  new_s = new_s;
+  report_is = report_is;
+  message_is = message_is;
+  x_file = by (seen a) (seen b) (seen c) x moves;
+  entries = entries.chosen_is;
+  g_file = g_before n keep p (seen a) (seen b) apart_g before g;
+}
+  where
+    by : (o o2 o3 : Option View) → Becomes (λ v. put v (sibling 120 n) (Some (sealed h items))) o o2 → Moves (bytes_eq (sibling 113 n)) (λ v. v) o2 o3 → IfSome o3 (λ (v : View). v (sibling 120 n) ≡ Some (sealed h items))
+    by None o2 o3 x moves = none o2 o3 x moves
+      where
+        none : (o2 o3 : Option View) → o2 ≡ None → Moves (bytes_eq (sibling 113 n)) (λ v. v) o2 o3 → IfSome o3 (λ (v : View). v (sibling 120 n) ≡ Some (sealed h items))
+        none None None is moves = tt
+        none None (Some u) is moves = cc
+        none (Some w) o3 is moves = absurd cc
+    by (Some v) None o3 x moves = absurd cc
+    by (Some v) (Some w) None x moves = absurd moves
+    by (Some v) (Some w) (Some u) x moves = moves (sibling 120 n) apart ∙ (ap (λ (o : Option View). at o) x ∙ put_same v (sibling 120 n) (Some (sealed h items)))
+      where
+        at : Option View → Option Content
+        at o = elim o as (λ _. Option Content) [ None ↦ None | Some f ↦ f (sibling 120 n) ]
