@@ -62,7 +62,7 @@ by_rest : (words : DeltaWords) (stamp : Stamp) (header : Header) (edits : List E
 by_rest words stamp header edits rest fault is answers = finds words stamp header edits fault (subst (λ (r : Result Entry Refusal). Answers {A = Entry} r (Err fault)) (sym is) answers)
 
 pub not_let_in : (words : DeltaWords) (stamp : Stamp) (header : Header) (edits : List Edit) → is_allowed header.users stamp.login ≡ false → entry_of words stamp header edits ≡ Err refusals.NotAllowed
-not_let_in words stamp header edits no = entry_is words stamp header edits ∙ ap (entry_by words stamp header edits) no
+not_let_in words stamp header edits refused = entry_is words stamp header edits ∙ ap (entry_by words stamp header edits) refused
 
 pub no_number : (words : DeltaWords) (stamp : Stamp) (header : Header) (edits : List Edit) (fault : StepFault) → is_allowed header.users stamp.login ≡ true → Answers {A = ℕ} (or_no_edit (choice (fits stamp.login words.sid true) edits)) (Err fault) → FindsEntry words stamp header edits (Err fault)
 no_number words stamp header edits fault allowed answers =

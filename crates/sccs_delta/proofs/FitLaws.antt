@@ -1,12 +1,20 @@
 -- What is judged of a reading of the base, and what of the base itself.
-use Rattle.std.proofs.Common.{◌≡◌, ℕ, ◌+◌, ◌-◌, ◌≤◌, ◌^◌, Bool, true, false, not, ◌||◌, List, length, Option, None, Some, Result, Ok, Err, refl, sym, ap, subst, ◌∙◌, arith}
+use Rattle.std.proofs.Common.{◌≡◌, ℕ, ◌+◌, ◌-◌, ◌≤◌, ◌^◌, Bool, true, false, not, ◌||◌, List, [], ◌∷◌, length, Option, None, Some, Result, Ok, Err, refl, sym, ap, subst, ◌∙◌, arith}
 use Rattle.std.specs.List.{AllByRecursion, list_any}
-use Rattle.std.specs.Prelude.{is_some, option_map}
+use Rattle.std.proofs.lemmas.Bool.{leb-true}
+use Rattle.std.specs.Prelude.{IfSome, drop, is_some, option_map}
 use Rattle.sccs_base.specs.Cut.{text_of}
 use Rattle.sccs_grammar.specs.FileRefusals.{file_fault}
 use Rattle.sccs_grammar.specs.declared.faults.FileFault.{FileFault}
 use Rattle.sccs_grammar.specs.declared.faults.FileFault.TheVariants as files
-use Rattle.sccs_disk.specs.Files.{Content}
+use Rattle.sccs_disk.specs.Files.{Content, View}
+use Rattle.sccs_history.specs.Body.{lines_of}
+use Rattle.sccs_history.specs.Select.{select}
+use Rattle.sccs_history.specs.declared.headers.Item.{Item}
+use Rattle.sccs_table.specs.ReaderState.{bytes_in}
+use Rattle.sccs_table.specs.declared.fronts.Front.{Front}
+use Rattle.sccs_versions.specs.Coming.{IsBody, shown}
+use Rattle.sccs_delta.proofs.BaseLaws.{body_few, shown_texts, texts_long}
 use Rattle.sccs_sid.specs.Reading.{◌>>=◌}
 use Rattle.sccs_sid.specs.declared.refusals.Refusal.{Refusal}
 use Rattle.sccs_sid.specs.declared.refusals.Refusal.TheVariants as refusals
@@ -100,7 +108,7 @@ same_difference : (o : Option Content) (compares : Bool) (base result : List (Li
     → ((file : List ℕ) → option_map (λ (c : Content). c.bytes) o ≡ Some file → length file ≤ 1073741824 → compares ≡ true → found.differs ≡ first_difference 0 result (text_of file)) → or_differs found.differs ≡ compared o base
 same_difference None compares base result found is short there alone finds = ap or_differs (alone there)
 same_difference (Some c) compares base result found is short there alone finds =
-    ap or_differs (finds c.bytes refl (omega (arith, short)) there ∙ ap (λ r. first_difference 0 r (text_of c.bytes)) is)
+    ap or_differs (finds c.bytes refl (leb-true (length c.bytes) 1073741824 short) there ∙ ap (λ r. first_difference 0 r (text_of c.bytes)) is)
 
 pub base_found : (orders : List Order) (base : List (List ℕ)) (o : Option Content) (compares : Bool) (p : Plan) (found : Found)
     → (checked orders (length base) ≡ Ok tt → p ≡ plan orders (length base)) → compares ≡ is_some o → (compares ≡ false → found.differs ≡ None) → FindsResult (option_map (λ (c : Content). c.bytes) o) p base compares found → FindsBase orders base o found
@@ -123,3 +131,44 @@ base_unread told orders base g p compares (files.BadSum stored sum) ended outer 
 base_unread told orders base g p compares (files.BadFormat line) ended outer is = absurd outer
 base_unread told orders base g p compares files.Encoded ended outer is = absurd outer
 base_unread told orders base g p compares (files.Changed a b c d) ended outer is = absurd outer
+
+-- ---- over a view that may be told
+
+pub fits_unread : (o : Option View) (n : List ℕ) (flags : List Flag) (orders : List Order) (base : List (List ℕ)) (fault : StepFault) → IfSome o (λ (v : View). ReadsBase orders base (v (drop 2 n)) (Err fault)) → IfSome o (λ (v : View). is_short (v (drop 2 n)) ≡ true → Fits flags orders base (v (drop 2 n)) (Err fault))
+fits_unread None n flags orders base fault reads = tt
+fits_unread (Some v) n flags orders base fault reads = λ short. unread_fits flags orders base (v (drop 2 n)) fault reads
+
+pub fits_judged : (o : Option View) (n : List ℕ) (flags : List Flag) (orders : List Order) (base : List (List ℕ)) (found : Found) → checked orders found.lines ≡ Ok tt → Passes (judged flags orders found) (Ok tt) → IfSome o (λ (v : View). ReadsBase orders base (v (drop 2 n)) (Ok found))
+    → IfSome o (λ (v : View). is_short (v (drop 2 n)) ≡ true → Fits flags orders base (v (drop 2 n)) (Ok found))
+fits_judged None n flags orders base found fits passes reads = tt
+fits_judged (Some v) n flags orders base found fits passes reads = λ short. fit_judged flags orders base (v (drop 2 n)) found short reads fits passes
+
+pub fits_unjudged : (o : Option View) (n : List ℕ) (flags : List Flag) (orders : List Order) (base : List (List ℕ)) (found : Found) (fault : StepFault) → Passes (judged flags orders found) (Err fault) → IfSome o (λ (v : View). ReadsBase orders base (v (drop 2 n)) (Ok found))
+    → IfSome o (λ (v : View). is_short (v (drop 2 n)) ≡ true → Fits flags orders base (v (drop 2 n)) (Err fault))
+fits_unjudged None n flags orders base found fault passes reads = tt
+fits_unjudged (Some v) n flags orders base found fault passes reads = λ short. unfit_judged flags orders base (v (drop 2 n)) found fault short reads passes
+
+-- the base of a told body isn't longer than files may be
+base_few : (told : Option (List ℕ)) (front : Front) (set file : List ℕ) (items : List Item) → IsBody told front set file items → length (select set (lines_of items)) ≤ 1073741824
+base_few told front set file items is = omega (arith, body_few told front set file items is, sym (texts_long (shown set (lines_of items))), ap length (sym (shown_texts set (lines_of items))))
+
+body_in : (o o2 : Option View) (n : List ℕ) (front : Front) (set file : List ℕ) (items : List Item) → o2 ≡ o → IsBody (bytes_in o n) front set file items → IsBody (bytes_in o2 n) front set file items
+body_in o o2 n front set file items same is = subst (λ (w : Option View). IsBody (bytes_in w n) front set file items) (sym same) is
+
+pub base_read : (o o2 : Option View) (n k : List ℕ) (orders : List Order) (front : Front) (set file : List ℕ) (items : List Item) (compares : Bool) (p : Plan) (found : Found) → o2 ≡ o → k ≡ drop 2 n → IsBody (bytes_in o n) front set file items → AllByRecursion (FitsIn 18446744073709551616) orders
+    → IfSome o (λ (v : View). compares ≡ is_some (v k)) → (checked orders 1073741824 ≡ Ok tt → p ≡ plan orders 1073741824) → (compares ≡ false → found.differs ≡ None)
+    → ((f : List ℕ) (list : List Item) → IsBody (bytes_in o2 n) front set f list → Examines (bytes_in o2 (drop 2 n)) p (select set (lines_of list)) compares (Ok found))
+    → IfSome o (λ (v : View). ReadsBase orders (select set (lines_of items)) (v (drop 2 n)) (Ok found))
+base_read None o2 n k orders front set file items compares p found same named is ordered there plans alone told = tt
+base_read (Some v) o2 n k orders front set file items compares p found same named is ordered there plans alone told =
+    base_found orders (select set (lines_of items)) (v (drop 2 n)) compares p found
+    (λ fits. longest_plan_is orders (length (select set (lines_of items))) 1073741824 p ordered (base_few (bytes_in (Some v) n) front set file items is) fits plans)
+    (there ∙ ap (λ m. is_some (v m)) named) alone
+    (subst (λ (w : Option View). FindsResult (bytes_in w (drop 2 n)) p (select set (lines_of items)) compares found) same (told file items (body_in (Some v) o2 n front set file items same is)))
+
+pub base_ends : (o o2 : Option View) (n : List ℕ) (orders : List Order) (front : Front) (set file : List ℕ) (items : List Item) (compares : Bool) (p : Plan) (fault : FileFault) (ended : StepFault) → o2 ≡ o → IsBody (bytes_in o n) front set file items → ended ≡ file_fault fault
+    → ((f : List ℕ) (list : List Item) → IsBody (bytes_in o2 n) front set f list → Examines (bytes_in o2 (drop 2 n)) p (select set (lines_of list)) compares (Err fault))
+    → IfSome o (λ (v : View). ReadsBase orders (select set (lines_of items)) (v (drop 2 n)) (Err ended))
+base_ends None o2 n orders front set file items compares p fault ended same is ended_is told = tt
+base_ends (Some v) o2 n orders front set file items compares p fault ended same is ended_is told =
+    base_unread (bytes_in o2 (drop 2 n)) orders (select set (lines_of items)) (v (drop 2 n)) p compares fault ended (told file items (body_in (Some v) o2 n front set file items same is)) ended_is

@@ -7,9 +7,12 @@ pub mod FitLaws
 pub mod CheckLaws
 pub mod ComingItems
 pub mod CopyLaws
+pub mod HearLaws
 pub mod LongerBases
+pub mod NullSids
 pub mod PlanResults
 pub mod PrepareLaws
+pub mod SizeLaws
 pub mod SkippedLaws
 pub mod VersionLaws
 pub mod WriteLaws

@@ -1,12 +1,25 @@
 -- What is written of a delta, part by part.
 use Rattle.std.proofs.Common.{◌≡◌, ℕ, zero, suc, ◌+◌, ◌-◌, ◌<◌, ◌≤◌, Bool, true, false, List, [], length, map, remove, Option, None, Some, Result, Ok, Err, refl, sym, ap, subst, ◌∙◌, arith}
-use Rattle.std.specs.Prelude.{IfSome, drop}
+use Rattle.std.specs.Prelude.{IfSome, IsSome, drop}
 use Rattle.std.specs.Str.{bytes_eq}
 use Rattle.sccs_disk.proofs.Puts.{put_same}
 use Rattle.sccs_disk.specs.Files.{put}
 use Rattle.sccs_files.specs.StepFiles.{Moves}
-use Rattle.sccs_store.specs.Commits.{Becomes, chosen}
-use Rattle.sccs_pending.specs.NewEntries.{PreparesEntries, kept_g}
+use Rattle.sccs_images.specs.Touches.{Leaves, Touches, TouchesOnly, Touching, earlier, newest as newest_model}
+use Rattle.sccs_images.proofs.Touched.{each_newest, firm_touched}
+use Rattle.sccs_disk.specs.Calls.{IsThere}
+use Rattle.sccs_disk.specs.Images.{IsFirm}
+use Rattle.sccs_moments.proofs.FileNames.{from_g}
+use Rattle.sccs_moments.proofs.Joined.{newest_is}
+use Rattle.sccs_base.specs.Name.{IsSfile}
+use Rattle.sccs_store.proofs.Working.{leaves_from}
+use Rattle.sccs_store.specs.Commits.{Becomes, Needs, chosen, replaced}
+use Rattle.sccs_store.specs.Stops.{OnReplace}
+use Rattle.sccs_store.specs.declared.new_files.NewFile.{NewFile}
+use Rattle.sccs_store.specs.declared.new_files.NewFile.TheVariants.{Keep, Replace, Remove}
+use Rattle.sccs_transactions.specs.Changes.{IsReady}
+use Rattle.sccs_transactions.specs.Stops.{IsFirmPrepared}
+use Rattle.sccs_pending.specs.NewEntries.{LeavesG, PreparesEntries, kept_g}
 use Rattle.sccs_base.specs.Name.{sibling}
 use Rattle.sccs_disk.specs.Files.{Content, View}
 use Rattle.sccs_disk.specs.Told.{Told, seen}
@@ -88,11 +101,11 @@ delta_made words stamp n header items edits e orders lines keyword s report mess
   makes.0,
   makes.1,
   writes_as n s.header _ (owed s.copying.splicer (told_behind e.base.set [] items)) _ (remove edits (e.number - 1)) words.keep report _ message _ p a b
-  (makes.2.header ∙ ap (λ k. header_with header e.base.got (map (null_delta stamp) makes.0) (delta_of words stamp e.edit e.base.include e.base.exclude (counts_of (plan orders k) k))) is)
-  (ap (λ (t : State). owed t (told_behind e.base.set [] items)) makes.2.splicer
+  (makes.2.header_is ∙ ap (λ k. header_with header e.base.got (map (null_delta stamp) makes.0) (delta_of words stamp e.edit e.base.include e.base.exclude (counts_of (plan orders k) k))) is)
+  (ap (λ (t : State). owed t (told_behind e.base.set [] items)) makes.2.splicer_is
   ∙ (owed_first (suc (newest header.records + length makes.0)) (plan orders lines) (told_behind e.base.set [] items)
   ∙ placed_for lines is))
-  (report_is ∙ (ap (λ sid. delta_report words.silent sid s.counts) makes.2.sid ∙ ap (delta_report words.silent e.edit.made) (makes.2.counts ∙ ap (λ k. counts_of (plan orders k) k) is)))
+  (report_is ∙ (ap (λ sid. delta_report words.silent sid s.counts) makes.2.sid_is ∙ ap (delta_report words.silent e.edit.made) (makes.2.counts_is ∙ ap (λ k. counts_of (plan orders k) k) is)))
   message_is
   writes,
 )
@@ -114,13 +127,13 @@ g_before n keep p None o2 apart moves g = tt
 g_before n keep p (Some v) None apart moves g = absurd moves
 g_before n keep p (Some v) (Some w) apart moves g = subst (λ (c : Option Content). (y : Option Content) → chosen p.new_g y c ≡ kept_g keep c) (moves (drop 2 n) apart) g
 
-pub files_written : (n : List ℕ) (h : Header) (items : List Item) (edits : List Edit) (keep : Bool) (report message : List ℕ) (p : Prepared) (a b c : Told) → bytes_eq (sibling 113 n) (sibling 120 n) ≡ false → bytes_eq (sibling 120 n) (drop 2 n) ≡ false → p.new_s ≡ true → p.report ≡ report → p.message ≡ message → WritesX h items (sibling 120 n) (seen a) (seen b) (Ok tt)
-    → Moves (bytes_eq (sibling 113 n)) (λ v. v) (seen b) (seen c) → PreparesEntries n edits p.new_p b c → Moves (bytes_eq (sibling 120 n)) (λ v. v) (seen a) (seen b) → IfSome (seen b) (λ (v : View). (y : Option Content) → chosen p.new_g y (v (drop 2 n)) ≡ kept_g keep (v (drop 2 n))) → WritesFiles n h items edits keep report message p a c
-files_written n h items edits keep report message p a b c apart apart_g new_s report_is message_is x moves entries before g = record {
+pub files_written : (n : List ℕ) (h : Header) (items : List Item) (edits : List Edit) (keep : Bool) (report message : List ℕ) (p : Prepared) (a b b2 c : Told) → b2 ≡ b → bytes_eq (sibling 113 n) (sibling 120 n) ≡ false → bytes_eq (sibling 120 n) (drop 2 n) ≡ false → p.new_s ≡ true → p.report ≡ report → p.message ≡ message → WritesX h items (sibling 120 n) (seen a) (seen b) (Ok tt)
+    → Moves (bytes_eq (sibling 113 n)) (λ v. v) (seen b2) (seen c) → PreparesEntries n edits p.new_p b2 c → Moves (bytes_eq (sibling 120 n)) (λ v. v) (seen a) (seen b) → IfSome (seen b) (λ (v : View). (y : Option Content) → chosen p.new_g y (v (drop 2 n)) ≡ kept_g keep (v (drop 2 n))) → WritesFiles n h items edits keep report message p a c
+files_written n h items edits keep report message p a b b2 c same apart apart_g new_s report_is message_is x moves entries before g = record {
   new_s = new_s;
   report_is = report_is;
   message_is = message_is;
-  x_file = by (seen a) (seen b) (seen c) x moves;
+  x_file = by (seen a) (seen b) (seen c) x (subst (λ t. Moves (bytes_eq (sibling 113 n)) (λ v. v) (seen t) (seen c)) same moves);
   entries = entries.chosen_is;
   g_file = g_before n keep p (seen a) (seen b) apart_g before g;
 }
@@ -138,3 +151,47 @@ files_written n h items edits keep report message p a b c apart apart_g new_s re
       where
         at : Option View → Option Content
         at o = elim o as (λ _. Option Content) [ None ↦ None | Some f ↦ f (sibling 120 n) ]
+
+-- ---- what is firm
+
+-- a firm file stays firm through calls that don't touch it
+firm_kept : (k : List ℕ) (mine before : List ℕ → Bool) (a b c : Told) → TouchesOnly before a b → TouchesOnly mine b c → mine k ≡ false → Leaves (IsFirm k) a b → Leaves (IsFirm k) a c
+firm_kept k mine before a b c first next other firm = λ m past is m3 past3 is3.
+    let begun : Touching before m past b = first m past is in
+    let on : Touching mine (newest_model begun.added m) (earlier begun.added m past) c = next (newest_model begun.added m) (earlier begun.added m past) begun.is in
+    subst (IsFirm k) (newest_is (newest_model begun.added m) m3 (earlier begun.added m past) past3 on.added c on.is is3)
+    (firm_touched mine (newest_model begun.added m) (newest_model on.added (newest_model begun.added m)) k (each_newest (Touches mine (newest_model begun.added m)) on.added (newest_model begun.added m) on.each) other (firm m past is (newest_model begun.added m) (earlier begun.added m past) begun.is))
+
+pub files_firm : (n : List ℕ) (p : Prepared) (a b b2 c : Told) → b2 ≡ b → p.new_s ≡ true → bytes_eq (sibling 113 n) (sibling 120 n) ≡ false → TouchesOnly (bytes_eq (sibling 120 n)) a b → Leaves (IsFirm (sibling 120 n)) a b → TouchesOnly (bytes_eq (sibling 113 n)) b2 c
+    → OnReplace p.new_p (Leaves (IsFirm (sibling 113 n)) b2 c) → IsFirmPrepared n p a c
+files_firm n p a b b2 c same new_s apart touches_x x touches_q q = record {
+  x_file = subst (λ (t : Bool). OnReplace (replaced t) (Leaves (IsFirm (sibling 120 n)) a c)) (sym new_s) (firm_kept (sibling 120 n) (bytes_eq (sibling 113 n)) (bytes_eq (sibling 120 n)) a b c touches_x (subst (λ t. TouchesOnly (bytes_eq (sibling 113 n)) t c) same touches_q) apart x);
+  q_file = on_replace p.new_p (leaves_from (IsFirm (sibling 113 n)) (bytes_eq (sibling 120 n)) a b c touches_x) (subst (λ t. OnReplace p.new_p (Leaves (IsFirm (sibling 113 n)) t c)) same q);
+}
+  where
+    on_replace : (new : NewFile) → (Leaves (IsFirm (sibling 113 n)) b c → Leaves (IsFirm (sibling 113 n)) a c) → OnReplace new (Leaves (IsFirm (sibling 113 n)) b c) → OnReplace new (Leaves (IsFirm (sibling 113 n)) a c)
+    on_replace Keep on firm = tt
+    on_replace Replace on firm = on firm
+    on_replace Remove on firm = tt
+
+-- ---- what a commit needs
+
+still_there : (k : List ℕ) (mine : List ℕ → Bool) (o o2 : Option View) → mine k ≡ false → Moves mine (λ v. v) o o2 → IfSome o (λ (v : View). IsSome (v k)) → IfSome o2 (λ (v : View). IsSome (v k))
+still_there k mine None o2 other moves there = subst (λ (o : Option View). IfSome o (λ (v : View). IsSome (v k))) (sym moves) tt
+still_there k mine (Some v) None other moves there = absurd moves
+still_there k mine (Some v) (Some u) other moves there = subst IsSome (sym (moves k other)) there
+
+g_needed : (n : List ℕ) (new : NewFile) (mine : List ℕ → Bool) (b c : Told) → mine (drop 2 n) ≡ false → mine (sibling 121 n) ≡ false → Moves mine (λ v. v) (seen b) (seen c) → Needs new (sibling 121 n) (drop 2 n) b → Needs new (sibling 121 n) (drop 2 n) c
+g_needed n Keep mine b c g y moves needs = tt
+g_needed n Replace mine b c g y moves needs = still_there (sibling 121 n) mine (seen b) (seen c) y moves needs
+g_needed n Remove mine b c g y moves needs = still_there (drop 2 n) mine (seen b) (seen c) g moves needs
+
+pub files_ready : (n : List ℕ) (edits : List Edit) (keep : Bool) (p : Prepared) (a b b2 c : Told) → IsSfile n → b2 ≡ b → p.new_s ≡ true → Moves (bytes_eq (sibling 120 n)) (λ v. v) (seen a) (seen b) → IsThere (sibling 120 n) b → Moves (bytes_eq (sibling 113 n)) (λ v. v) (seen b2) (seen c)
+    → PreparesEntries n edits p.new_p b2 c → LeavesG n keep p.new_g b → IsThere (sibling 122 n) a → IsThere (sibling 112 n) a → IsReady n p c
+files_ready n edits keep p a b b2 c sfile same new_s moves_x x moves_q2 entries g z p_there =
+    let moves_q = subst (λ t. Moves (bytes_eq (sibling 113 n)) (λ v. v) (seen t) (seen c)) same moves_q2 in record {
+      z = still_there (sibling 122 n) (bytes_eq (sibling 113 n)) (seen b) (seen c) refl moves_q (still_there (sibling 122 n) (bytes_eq (sibling 120 n)) (seen a) (seen b) refl moves_x z);
+      s = subst (λ (t : Bool). Needs (replaced t) (sibling 120 n) n c) (sym new_s) (still_there (sibling 120 n) (bytes_eq (sibling 113 n)) (seen b) (seen c) refl moves_q x);
+      p_file = entries.needs (λ none. subst (IsThere (sibling 112 n)) (sym same) (still_there (sibling 112 n) (bytes_eq (sibling 120 n)) (seen a) (seen b) refl moves_x p_there));
+      g = g_needed n p.new_g (bytes_eq (sibling 113 n)) b c (from_g 113 n sfile) refl moves_q g.needs;
+    }

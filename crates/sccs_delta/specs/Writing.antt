@@ -31,11 +31,11 @@ use Rattle.sccs_delta.specs.declared.new_sfiles.NewSfile.{NewSfile}
 
 -- The s-file that the delta of an entry makes, with null deltas of these SIDs before it.
 pub record IsSfileOf (words : DeltaWords) (stamp : Stamp) (header : Header) (edit : Edit) (base : Base) (orders : List Order) (lines : ℕ) (nulls : List Sid) (s : NewSfile) : Type 0 where
-  pub header : s.header ≡ header_with header base.got (map (null_delta stamp) nulls) (delta_of words stamp edit base.include base.exclude (counts_of (plan orders lines) lines))
-  pub splicer : s.copying.splicer ≡ begun (suc (newest header.records + length nulls)) (plan orders lines)
-  pub set : s.set ≡ base.set
-  pub sid : s.sid ≡ edit.made
-  pub counts : s.counts ≡ counts_of (plan orders lines) lines
+  pub header_is : s.header ≡ header_with header base.got (map (null_delta stamp) nulls) (delta_of words stamp edit base.include base.exclude (counts_of (plan orders lines) lines))
+  pub splicer_is : s.copying.splicer ≡ begun (suc (newest header.records + length nulls)) (plan orders lines)
+  pub set_is : s.set ≡ base.set
+  pub sid_is : s.sid ≡ edit.made
+  pub counts_is : s.counts ≡ counts_of (plan orders lines) lines
 
 -- it is made, or no serial is left; of want of memory nothing is said
 abbrev pub MakesSfile : DeltaWords → Stamp → Header → List Edit → Edit → Base → List Order → ℕ → Result NewSfile StepFault → Type 0

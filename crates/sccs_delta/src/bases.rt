@@ -11,7 +11,7 @@ ghost use Rattle.sccs_delta.specs.Preparing.{list_fault};
 
 use sccs_history::{Header, Serials};
 use sccs_pfile::Edit;
-use sccs_sets::{Applied, SetFault, delta_set, retrieve, serials};
+use sccs_sets::{Applied, NoSid, SetFault, delta_set, retrieve, serials};
 use sccs_sid::{Refusal, Spec, StepFault};
 use std::alloc::Global;
 
@@ -49,8 +49,9 @@ pub fn base_of(
     ensures broke { result ≢ Err faults.DiskFault }
 {
     let spec = Spec::Full(edit.got);
-    let Ok(got) = retrieve(header, Some(&spec), false) else {
-        return Err(StepFault::Refused(Refusal::Disagree(number)));
+    let got = match retrieve(header, Some(&spec), false) {
+        Ok(got) => got,
+        Err(NoSid) => return Err(StepFault::Refused(Refusal::Disagree(number))),
     };
     let include = match serials(alloc, header, &edit.include) {
         Ok(include) => include,

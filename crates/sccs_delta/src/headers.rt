@@ -45,6 +45,7 @@ pub fn nulls_of(
 ) -> Result<Sids, StepFault>
     requires { IsEdit edit.now }
     ensures value { Answers (nulls_of header.now edits.now edit.now) result }
+    ensures sids { IfOk result (AllByRecursion IsSid) }
     ensures room { IfOk result (λ sids. newest header.now.records + length sids < 65535) }
     ensures checks { RefusesWithin delta_checks result }
     ensures broke { result ≢ Err faults.DiskFault }

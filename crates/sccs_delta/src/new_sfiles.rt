@@ -7,6 +7,7 @@ ghost use Rattle.sccs_history.specs.History.{IsSpelled};
 ghost use Rattle.sccs_history.specs.declared.headers.Item.{Item};
 ghost use Rattle.sccs_body.specs.Reader.{name_read};
 ghost use Rattle.sccs_pfile.specs.Entries.{IsEdit};
+ghost use Rattle.sccs_pfile.specs.declared.entries.Edit.{Edit};
 ghost use Rattle.sccs_script.specs.Checks.{checked};
 ghost use Rattle.sccs_sid.specs.Moment.{IsMoment};
 ghost use Rattle.sccs_sid.specs.Sid.{IsSid};

@@ -98,15 +98,8 @@ fn write_x<D: Disk>(
     ensures checks { RefusesWithin delta_checks result }
     ensures causes { ChangesDisk D.faults disk.old disk.new result }
 {
-    match write_delta(
-        alloc,
-        &file.header,
-        file.copying,
-        &file.set,
-        file.lines,
-        name,
-        disk,
-    ) {
+    let (copying, lines) = (file.copying, file.lines);
+    match write_delta(alloc, &file.header, copying, &file.set, lines, name, disk) {
         Ok(()) => Ok(()),
         Err(fault) => Err(StepFault::from(fault)),
     }

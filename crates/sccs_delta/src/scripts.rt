@@ -1,7 +1,8 @@
-ghost use Rattle.std.specs.Prelude.{◌≡◌, ◌≢◌, ◌≤◌, ◌^◌, ℕ, List, true, Ok, Err, IfOk, IfSome, OnOk, drop, is_some};
+ghost use Rattle.std.specs.Prelude.{◌≡◌, ◌≢◌, ◌≤◌, ◌^◌, ℕ, List, true, Ok, Err, IfOk, IfSome, OnErr, OnOk, drop, is_some};
 ghost use Rattle.std.specs.List.{AllByRecursion};
 ghost use Rattle.sccs_base.specs.Constants.{file_limit};
 ghost use Rattle.sccs_base.specs.Name.{IsSfile};
+ghost use Rattle.sccs_base.specs.Stream.{Rose};
 ghost use Rattle.sccs_disk.specs.Files.{View};
 ghost use Rattle.sccs_disk.specs.Told.{seen};
 ghost use Rattle.sccs_edits.specs.Plans.{IsInOrder, plan};
@@ -19,7 +20,7 @@ ghost use Rattle.sccs_delta.specs.DeltaStep.{delta_checks, has_text, mrs_checked
 ghost use Rattle.sccs_delta.specs.Preparing.{Fits, ReadsBase, judged, script_refusal};
 
 use crate::examining::{Found, examine};
-use sccs_base::{FILE_LIMIT, Memory, Name, Words};
+use sccs_base::{FILE_LIMIT, Failed, Memory, Name, Words};
 use sccs_disk::Disk;
 use sccs_flags::has_flag;
 use sccs_history::{Flag, Header};
@@ -71,14 +72,16 @@ fn longest_plan(alloc: Global, script: &Script) -> Result<Plan, Memory>
 }
 
 // whether a file is there
-fn is_there<D: Disk>(disk: &mut D, file: &Name) -> Result<bool, StepFault>
+fn is_there<D: Disk>(disk: &mut D, file: &Name) -> Result<bool, Failed>
     ensures told { IfSome (seen (D.told disk.old)) (λ (v : View). IfOk result (λ there. there ≡ is_some (v file.now))) }
-    ensures frame { OnlyReads D.told D.faults disk.old disk.new result }
+    ensures same { D.told disk.new ≡ D.told disk.old }
+    ensures later { D.faults disk.old ≤ D.faults disk.new }
+    ensures cause { OnErr result (Rose (D.faults disk.old) (D.faults disk.new)) }
 {
     match disk.size(file) {
         Ok(Some(_)) => Ok(true),
         Ok(None) => Ok(false),
-        Err(_) => Err(StepFault::DiskFault),
+        Err(fault) => Err(fault),
     }
 }
 
@@ -124,7 +127,7 @@ fn read_base<D: Disk>(
 {
     let compares = match is_there(disk, &name.module()) {
         Ok(compares) => compares,
-        Err(fault) => return Err(fault),
+        Err(_) => return Err(StepFault::DiskFault),
     };
     let Ok(plan) = longest_plan(alloc, script) else {
         return Err(StepFault::Memory);
