@@ -1,7 +1,6 @@
 -- The moments of the command recover.
 use Rattle.std.proofs.Common.{◌≡◌, ◌↔◌, ℕ, Bool, true, false, cond, List, Option, None, Some, IfSome, IsErrOf, is_some, Result, Ok, Err, inl, inr, refl, sym, ap, subst, ◌∙◌, arith}
 use Rattle.sccs_base.specs.Name.{IsSfile, sibling}
-use Rattle.sccs_sid.specs.declared.refusals.Refusal.{Refusal}
 use Rattle.sccs_sid.specs.declared.refusals.StepFault.{StepFault}
 use Rattle.sccs_sid.specs.declared.refusals.StepFault.TheVariants.{Refused, Memory, ReadFault, WriteFault, DiskFault}
 use Rattle.sccs_disk.specs.Files.{Content, Model, View, view_of}
@@ -9,7 +8,7 @@ use Rattle.sccs_disk.specs.Images.{Allows}
 use Rattle.sccs_disk.specs.Told.{Told, Tells, seen}
 use Rattle.sccs_pfile.specs.Recovered.{recovered_pfile}
 use Rattle.sccs_pfile.proofs.Recovering.{twice_once}
-use Rattle.sccs_files.specs.StepFiles.{Files, is_working, look, moved}
+use Rattle.sccs_files.specs.StepFiles.{is_working, look, moved}
 use Rattle.sccs_images.specs.Touches.{TouchesOnly, earlier, newest}
 use Rattle.sccs_moments.specs.Calm.{IsCalm}
 use Rattle.sccs_moments.specs.Moments.{EndsAfter, EndsWithin, IsAt, IsFrom, LeavesCalm, LeavesFirm, RecoversOn, Went}
@@ -21,7 +20,7 @@ use Rattle.sccs_moments.proofs.Recovering.{recovers_back, recovers_recovered, re
 use Rattle.sccs_moments.proofs.Untouched.{before_after, ends_working, same_before}
 use Rattle.sccs_steps.specs.StepEffects.{Outcome, effect_of}
 use Rattle.sccs_steps.specs.Calls.{Meets, scene, world}
-use Rattle.sccs_steps.specs.Actions.{IsHeard, Stepped}
+use Rattle.sccs_steps.specs.Actions.{IsHeard}
 use Rattle.sccs_steps.specs.StepStops.{Ends, IsSafe, IsSafeFor, MeetsAt, StepMoments, place_of}
 use Rattle.sccs_steps.proofs.Safety.{placed_safe}
 use Rattle.sccs_store.specs.Commits.{Becomes}

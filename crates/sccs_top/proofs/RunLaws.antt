@@ -1,27 +1,26 @@
 -- How a run ends whose steps end so.
-use Rattle.std.proofs.Common.{◌≡◌, ◌≢◌, ℕ, Bool, true, false, cond, ◌&&◌, ◌||◌, List, [], ◌∷◌, length, Option, None, Some, IfSome, IsOk, Result, Ok, Err, inl, inr, refl, sym, ap, subst, ◌∙◌, arith}
+use Rattle.std.proofs.Common.{◌≡◌, ℕ, Bool, true, false, cond, ◌&&◌, ◌||◌, List, [], ◌∷◌, Option, None, Some, IfSome, Result, Ok, Err, inl, inr, refl, sym, ap, subst, ◌∙◌}
 use Rattle.std.proofs.lemmas.List.{append-nil}
-use Rattle.sccs_base.specs.Name.{IsSfile, sibling}
+use Rattle.sccs_base.specs.Name.{sibling}
 use Rattle.sccs_base.specs.Stream.{GivesOk, GivesSome}
 use Rattle.sccs_base.proofs.Gifts.{some_none, some_of_whole}
-use Rattle.sccs_disk.specs.Files.{Folder, Model, View, view_in, view_of}
-use Rattle.sccs_disk.specs.Told.{Told, Tells, seen}
+use Rattle.sccs_disk.specs.Files.{Folder, View, view_in, view_of}
+use Rattle.sccs_disk.specs.Told.{seen}
 use Rattle.sccs_sid.specs.declared.refusals.Refusal.TheVariants as refusals
 use Rattle.sccs_sid.specs.declared.refusals.StepFault.TheVariants as step
 use Rattle.sccs_sid.specs.declared.moments.Stamp.{Stamp}
 use Rattle.sccs_words.specs.declared.commands.Usage.{Usage}
 use Rattle.sccs_words.specs.declared.commands.Command.{Command}
-use Rattle.sccs_files.specs.StepFiles.{Shows, is_working, look, nowhere}
-use Rattle.sccs_moments.specs.Calm.{IsCalm}
+use Rattle.sccs_files.specs.StepFiles.{is_working, nowhere}
 use Rattle.sccs_moments.proofs.FileNames.{working_s}
 use Rattle.sccs_moments.proofs.Untouched.{before_after, same_before}
 use Rattle.sccs_steps.specs.Actions.{Action, IsHeard, Stepped}
 use Rattle.sccs_steps.specs.Calls.{Meets, Scene, World, scene, shown, world}
 use Rattle.sccs_steps.specs.StepLists.{NamedStep, Runs, next_text}
 use Rattle.sccs_steps.specs.StepStops.{StepMoments}
-use Rattle.sccs_steps.specs.ListStops.{AreSafe, ListMoments, RunMoments, Spares, StopsAll}
+use Rattle.sccs_steps.specs.ListStops.{RunMoments, Spares, StopsAll}
 use Rattle.sccs_steps.proofs.MomentLists.{alike_recovers, moments_never}
-use Rattle.sccs_steps.proofs.OneMoment.{Alikes, one_after}
+use Rattle.sccs_steps.proofs.OneMoment.{one_after}
 use Rattle.sccs_steps.proofs.ReadingMoments.{reading_moments}
 use Rattle.sccs_steps.proofs.ReadingSteps.{ends_silent}
 use Rattle.sccs_steps.proofs.StopLoop.{alike_told, run_moments}

@@ -1,5 +1,5 @@
 -- What a stop leaves of a change, at each of its ends.
-use Rattle.std.proofs.Common.{◌≡◌, ℕ, Bool, true, false, List, [], map, drop, Option, None, Some, option_map, IfSome, Result, Ok, Err, is_some, inl, inr, refl, sym, ap, subst, ◌∙◌, arith}
+use Rattle.std.proofs.Common.{◌≡◌, ℕ, Bool, true, false, List, [], map, drop, Option, None, Some, option_map, IfSome, Result, Ok, Err, is_some, inl, inr, refl, sym, ap, subst, ◌∙◌}
 use Rattle.std.specs.Str.{bytes_eq}
 use Rattle.sccs_base.specs.Name.{IsSfile, sibling}
 use Rattle.sccs_sid.specs.declared.refusals.Refusal.{Refusal}
