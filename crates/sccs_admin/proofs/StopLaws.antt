@@ -16,7 +16,8 @@ use Rattle.sccs_store.specs.Stops.{KeepsEntries, OnReplace}
 use Rattle.sccs_store.specs.declared.new_files.NewFile.{NewFile}
 use Rattle.sccs_store.specs.declared.new_files.NewFile.TheVariants.{Keep, Replace, Remove}
 use Rattle.sccs_transactions.specs.Changes.{plan_of}
-use Rattle.sccs_transactions.specs.Stops.{IsFirmPrepared, IsPaired, SettlesEntries}
+use Rattle.sccs_steps.specs.StepStops.{ArePaired, IsPaired}
+use Rattle.sccs_transactions.specs.Stops.{IsFirmPrepared, SettlesEntries}
 use Rattle.sccs_transactions.specs.declared.prepared.Prepared.{Prepared}
 use Rattle.sccs_transactions.proofs.StopEnds.{plain_where}
 use Rattle.sccs_words.specs.declared.commands.AdminWords.{AdminWords}
@@ -46,20 +47,22 @@ none_made (Some s) = refl
 none_kept : (s p : Option Content) → p ≡ None → recovered_pfile s p ≡ p
 none_kept s p none = subst (λ (o : Option Content). recovered_pfile s o ≡ o) (sym none) (none_made s)
 
-settled_at : (n : List ℕ) (p : Prepared) (u : View) → IsNew p → u n ≡ None → IsPaired n u → KeepsEntries n (plan_of p) u
+settled_at : (n : List ℕ) (p : Prepared) (u : View) → IsNew p → u n ≡ None → IsPaired n u → KeepsEntries n (plan_of p) u × ArePaired (files_after n (plan_of p) u).s (files_after n (plan_of p) u).p
 settled_at n p u new fresh paired =
     let same : (files_after n (plan_of p) u).p ≡ u (sibling 112 n) = ap (λ (f : NewFile). chosen f (u (sibling 113 n)) (u (sibling 112 n))) new.p_file in
-    let none : u (sibling 112 n) ≡ None = paired fresh in
-    record {
-      leaves =
-          plain_where (plan_of p).s (recovered_pfile (files_after n (plan_of p) u).s (u (sibling 112 n)) ≡ (files_after n (plan_of p) u).p) (none_kept (files_after n (plan_of p) u).s (u (sibling 112 n)) none ∙ sym same);
-      sound = none_kept (files_after n (plan_of p) u).s (files_after n (plan_of p) u).p (same ∙ none);
-    }
+    let none : u (sibling 112 n) ≡ None = paired fresh in (
+      record {
+        leaves =
+            plain_where (plan_of p).s (recovered_pfile (files_after n (plan_of p) u).s (u (sibling 112 n)) ≡ (files_after n (plan_of p) u).p) (none_kept (files_after n (plan_of p) u).s (u (sibling 112 n)) none ∙ sym same);
+        sound = none_kept (files_after n (plan_of p) u).s (files_after n (plan_of p) u).p (same ∙ none);
+      },
+      λ gone. same ∙ none,
+    )
 
-settled_seen : (n : List ℕ) (p : Prepared) (x : Content) (a b : Option View) → IsSfile n → IsNew p → IfSome a (λ v. v n ≡ None) → Becomes (λ v. put v (sibling 120 n) (Some x)) a b → IfSome b (λ v. IsPaired n v → KeepsEntries n (plan_of p) v)
-settled_seen n p x None b sfile new fresh is = subst (λ (o : Option View). IfSome o (λ v. IsPaired n v → KeepsEntries n (plan_of p) v)) (sym is) tt
+settled_seen : (n : List ℕ) (p : Prepared) (x : Content) (a b : Option View) → IsSfile n → IsNew p → IfSome a (λ v. v n ≡ None) → Becomes (λ v. put v (sibling 120 n) (Some x)) a b → IfSome b (λ v. IsPaired n v → KeepsEntries n (plan_of p) v × ArePaired (files_after n (plan_of p) v).s (files_after n (plan_of p) v).p)
+settled_seen n p x None b sfile new fresh is = subst (λ (o : Option View). IfSome o (λ v. IsPaired n v → KeepsEntries n (plan_of p) v × ArePaired (files_after n (plan_of p) v).s (files_after n (plan_of p) v).p)) (sym is) tt
 settled_seen n p x (Some v) b sfile new fresh is =
-    subst (λ (o : Option View). IfSome o (λ v. IsPaired n v → KeepsEntries n (plan_of p) v)) (sym is)
+    subst (λ (o : Option View). IfSome o (λ v. IsPaired n v → KeepsEntries n (plan_of p) v × ArePaired (files_after n (plan_of p) v).s (files_after n (plan_of p) v).p)) (sym is)
     (λ paired. settled_at n p (put v (sibling 120 n) (Some x)) new (put_other v (sibling 120 n) n (Some x) (from_s 120 n sfile refl) ∙ fresh) paired)
 
 pub text_settles : (words : AdminWords) (stamp : Stamp) (r : Result Prepared StepFault) (text n : List ℕ) (o : Option View) (a b : Told) → IsSfile n → seen a ≡ o → IfSome o (λ v. v n ≡ None) → WritesText r words stamp text n (seen a) (seen b) → IfOk r (λ p. SettlesEntries n p b)

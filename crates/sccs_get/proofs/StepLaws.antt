@@ -212,7 +212,7 @@ unfolding get_step
 only_reads words files d is = file_reads words (or_refusal (answer file_of (bytes_at files.s))) d is
 
 pub get_keeps : (words : GetWords) → KeepsFiles (get_action words)
-get_keeps words = λ reads name input named files d is. only_reads words files d is
+get_keeps words = record { quiet = λ reads name input named files d is. only_reads words files d is; names = λ changes n fits. absurd cc }
 
 -- ---- over any disk
 

@@ -4,18 +4,18 @@ use Rattle.std.specs.Str.{bytes_eq}
 use Rattle.sccs_base.specs.Name.{IsSfile, sibling}
 use Rattle.sccs_disk.specs.Files.{File, Model, View, view_of}
 use Rattle.sccs_disk.specs.Images.{Allows, Image}
-use Rattle.sccs_disk.specs.Told.{Told}
+use Rattle.sccs_disk.specs.Told.{Told, Tells}
 use Rattle.sccs_disk.proofs.Puts.{name_cases}
 use Rattle.sccs_files.specs.StepFiles.{is_left, is_working}
 use Rattle.sccs_images.specs.Touches.{Each, Touches, Touching, newest}
 use Rattle.sccs_images.proofs.Touched.{each_newest}
 use Rattle.sccs_moments.specs.Calm.{IsCalm, KeepsPairs}
-use Rattle.sccs_moments.specs.Moments.{Guarded, IsAt, IsFrom, Stays, Went}
+use Rattle.sccs_moments.specs.Moments.{EndsAfter, EndsBefore, EndsWithin, Guarded, IsAt, IsFrom, Stays, Went}
 use Rattle.sccs_moments.specs.Recovery.{IsSound, pair_of}
-use Rattle.sccs_moments.proofs.CalmDisks.{calm_kept}
+use Rattle.sccs_moments.proofs.CalmDisks.{calm_firm, calm_kept}
 use Rattle.sccs_moments.proofs.FileNames.{left_s, left_z, working_s}
-use Rattle.sccs_moments.proofs.Joined.{numbered_as, numbered_now, numbered_zero}
-use Rattle.sccs_moments.proofs.Recovering.{p_of, pair_same, recovered_at, recovered_same, recovers_from, recovers_to, s_of, same_recovers, sound_recovered}
+use Rattle.sccs_moments.proofs.Joined.{numbered_as, numbered_now, numbered_zero, raised}
+use Rattle.sccs_moments.proofs.Recovering.{p_of, pair_same, recovered_at, recovered_same, recovers_from, recovers_then, recovers_to, s_of, same_recovers, sound_recovered}
 
 -- ---- views
 
@@ -85,6 +85,30 @@ went_at v w m past new went = record {
   guarded = went.guarded;
 }
 
+-- ---- where a step ends that changes nothing
+
+-- nothing was done
+pub same_before : (m : Model) (past : List Model) (t : Told) → IsCalm m → t ≡ Tells m past → EndsBefore (view_of m) m past t
+same_before m past t calm is = (record { added = []; is = is; numbers = (omega arith, calm); guarded = tt }, calm)
+
+-- it may count as made
+pub before_after : (v : View) (m : Model) (past : List Model) (t : Told) → EndsBefore v m past t → EndsAfter v v m past t
+before_after v m past t ends = (
+  record {
+    added = ends.0.added;
+    is = ends.0.is;
+    numbers =
+        raised (λ i m2. Allows (IsAt v v i) m2) 0 ends.0.added m 0 1 (omega arith) (λ u image. inl ((numbered_now (λ i m2. Allows (KeepsPairs v) m2) 0 ends.0.added m 0 ends.0.numbers u image).recovers))
+        (went_at v v m past t ends.0).numbers;
+    guarded = ends.0.guarded;
+  },
+  ends.1,
+)
+
+-- the same, as the end of a step within which something failed
+pub before_within : (v w : View) (m : Model) (past : List Model) (b : Told) → EndsBefore v m past b → EndsWithin v w m past b
+before_within v w m past b ends = (went_at v w m past b ends.0, calm_firm (newest ends.0.added m) ends.1)
+
 -- ---- working files alone
 
 -- a folder that differs in working files from one that a stop leaves
@@ -92,3 +116,23 @@ pub from_touched : (n : List ℕ) (m m2 : Model) → Touches (is_working n) m m2
 from_touched n m m2 touches = λ w image.
     let before : (u : View) × Image m u × ((k : List ℕ) → is_working n k ≡ false → u k ≡ w k) = touches.images w image in
     (before.0, before.1, same_recovers before.0 w (λ k sfile. sym (before.2 k (working_s n k sfile))) (λ k sfile. sym (before.2 (sibling 112 k) refl)) (λ k sfile. ap is_some (sym (before.2 (sibling 122 k) refl))))
+
+-- such a call leaves every pair in each image, whether the name is sound or not
+working_keeps : (n : List ℕ) (m m2 : Model) → IsCalm m → Touches (is_working n) m m2 → Allows (KeepsPairs (view_of m)) m2
+working_keeps n m m2 calm touches = λ w image.
+    let before : (u : View) × Image m u × ((k : List ℕ) → is_working n k ≡ false → u k ≡ w k) = touches.images w image in
+    record {
+      pairs = λ k sfile. pair_same _ _ _ _ (sym (before.2 k (working_s n k sfile)) ∙ ap s_of ((calm before.0 before.1).pairs k sfile)) (sym (before.2 (sibling 112 k) refl) ∙ ap p_of ((calm before.0 before.1).pairs k sfile));
+      recovers = recovers_then (view_of m) before.0 w (calm before.0 before.1).recovers (same_recovers before.0 w (λ k sfile. sym (before.2 k (working_s n k sfile))) (λ k sfile. sym (before.2 (sibling 112 k) refl)) (λ k sfile. ap is_some (sym (before.2 (sibling 122 k) refl))));
+    }
+
+pub ends_working : (n : List ℕ) (m : Model) (past : List Model) (new : Told) → IsCalm m → Touching (is_working n) m past new → EndsBefore (view_of m) m past new
+ends_working n m past new calm run = (
+  record {
+    added = run.added;
+    is = run.is;
+    numbers = numbered_zero (Touches (is_working n) m) (λ i m2. Allows (KeepsPairs (view_of m)) m2) run.added m (λ m2 touches. working_keeps n m m2 calm touches) run.each;
+    guarded = guards_touched (is_working n) m run.added (λ k sfile. working_s n k sfile) (λ k sfile. refl) run.each;
+  },
+  calm_kept (view_of m) (newest run.added m) (working_keeps n m (newest run.added m) calm (each_newest (Touches (is_working n) m) run.added m run.each)),
+)

@@ -33,7 +33,8 @@ use Rattle.sccs_store.specs.Commits.{chosen, files_after, replaced}
 use Rattle.sccs_store.specs.Stops.{KeepsEntries, OnChange, OnReplace}
 use Rattle.sccs_store.specs.declared.new_files.NewFile.{NewFile}
 use Rattle.sccs_transactions.specs.Changes.{plan_of}
-use Rattle.sccs_transactions.specs.Stops.{IsFirmPrepared, IsPaired, SettlesEntries}
+use Rattle.sccs_steps.specs.StepStops.{ArePaired, IsPaired}
+use Rattle.sccs_transactions.specs.Stops.{IsFirmPrepared, SettlesEntries}
 use Rattle.sccs_transactions.specs.declared.prepared.Prepared.{Prepared}
 use Rattle.sccs_pending.specs.NewEntries.{Decided, PreparesDecided}
 use Rattle.sccs_pending.specs.PFiles.{bytes_or_none, is_short, or_bad_pfile}
@@ -119,14 +120,22 @@ stays_at None p x edits read valid undone = absurd read.1
 stays_at (Some s) p x edits read valid undone =
     entries_stay s x.front.header.records edits (table_is s read.0 (pending_file s p (record { parsed = read.0; edits = x.edits }) read.2) ∙ ap (λ header. Some header.records) (sym read.1.0)) valid undone
 
+-- an s-file that was read is there
+read_there : (o p : Option Content) (x : Pending) → AnswersPending o p (Ok x) → o ≡ None → ⊥
+read_there None p x read none = absurd read.1
+read_there (Some s) p x read none = cc
+
 settled_at : (n : List ℕ) (x : Pending) (d : Decided) (p : Prepared) (v u : View) → p.new_s ≡ false → AnswersPending (v n) (v (sibling 112 n)) (Ok x) → AllByRecursion IsEdit d.edits → AllByRecursion (λ e. is_done x.front.header.records e ≡ false) d.edits → u n ≡ v n
-    → ((old : Option Content) → chosen p.new_p (u (sibling 113 n)) old ≡ pfile_of d.edits) → KeepsEntries n (plan_of p) u
-settled_at n x d p v u new_s read valid undone same is = record {
-  leaves = no_change p.new_s (recovered_pfile (files_after n (plan_of p) u).s (u (sibling 112 n)) ≡ (files_after n (plan_of p) u).p) new_s;
-  sound =
-      ap (λ (o : Option Content). recovered_pfile o (files_after n (plan_of p) u).p) (ap (λ (b : Bool). chosen (replaced b) (u (sibling 120 n)) (u n)) new_s ∙ same)
-      ∙ (ap (recovered_pfile (v n)) (is (u (sibling 112 n))) ∙ (stays_at (v n) (v (sibling 112 n)) x d.edits read valid undone ∙ sym (is (u (sibling 112 n)))));
-}
+    → ((old : Option Content) → chosen p.new_p (u (sibling 113 n)) old ≡ pfile_of d.edits) → KeepsEntries n (plan_of p) u × ArePaired (files_after n (plan_of p) u).s (files_after n (plan_of p) u).p
+settled_at n x d p v u new_s read valid undone same is = (
+  record {
+    leaves = no_change p.new_s (recovered_pfile (files_after n (plan_of p) u).s (u (sibling 112 n)) ≡ (files_after n (plan_of p) u).p) new_s;
+    sound =
+        ap (λ (o : Option Content). recovered_pfile o (files_after n (plan_of p) u).p) (ap (λ (b : Bool). chosen (replaced b) (u (sibling 120 n)) (u n)) new_s ∙ same)
+        ∙ (ap (recovered_pfile (v n)) (is (u (sibling 112 n))) ∙ (stays_at (v n) (v (sibling 112 n)) x d.edits read valid undone ∙ sym (is (u (sibling 112 n)))));
+  },
+  λ gone. absurd (read_there (v n) (v (sibling 112 n)) x read (sym (ap (λ (b : Bool). chosen (replaced b) (u (sibling 120 n)) (u n)) new_s ∙ same) ∙ gone)),
+)
 
 pub decided_settles : (n : List ℕ) (x : Pending) (d : Decided) (r : Result Prepared StepFault) (o a b : Told) → IsSfile n → a ≡ o → IfSome (seen o) (λ (v : View). AnswersPending (v n) (v (sibling 112 n)) (Ok x))
     → AllByRecursion IsEdit d.edits → AllByRecursion (λ e. is_done x.front.header.records e ≡ false) d.edits → PreparesDecided r n d a b → IfOk r (λ p. SettlesEntries n p b)
@@ -135,7 +144,7 @@ decided_settles n x d (Ok p) o a b sfile same read valid undone prepares =
     by (seen a) (seen b) (subst (λ (t : Told). IfSome (seen t) (λ (v : View). AnswersPending (v n) (v (sibling 112 n)) (Ok x))) (sym same) read) prepares.moves prepares.entries.chosen_is
   where
     by : (oa ob : Option View) → IfSome oa (λ (v : View). AnswersPending (v n) (v (sibling 112 n)) (Ok x)) → Moves (bytes_eq (sibling 113 n)) (λ v. v) oa ob → IfSome ob (λ (v : View). (old : Option Content) → chosen p.new_p (v (sibling 113 n)) old ≡ pfile_of d.edits)
-        → IfSome ob (λ v. IsPaired n v → KeepsEntries n (plan_of p) v)
+        → IfSome ob (λ v. IsPaired n v → KeepsEntries n (plan_of p) v × ArePaired (files_after n (plan_of p) v).s (files_after n (plan_of p) v).p)
     by None None r2 moves is = tt
     by None (Some u) r2 moves is = cc
     by (Some v) None r2 moves is = tt

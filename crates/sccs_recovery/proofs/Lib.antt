@@ -1,4 +1,5 @@
 mod EntryLists
 mod ReadingLaws
+mod RecoverMoments
 mod RecoveryLaws
 pub mod RecoveryEnds

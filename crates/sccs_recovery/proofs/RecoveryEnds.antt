@@ -18,8 +18,8 @@ use Rattle.sccs_files.specs.StepFiles.{AreCleared, Files, Moves, MovesPartly, is
 use Rattle.sccs_moments.specs.Recovery.{cleared, recover, without}
 use Rattle.sccs_moments.proofs.FileNames.{from_g, from_sfile, no_q, no_working, no_y, no_z, working_s}
 use Rattle.sccs_moments.proofs.Recovering.{cleared_other, recover_by}
-use Rattle.sccs_steps.specs.StepEffects.{StepEffect}
-use Rattle.sccs_steps.specs.Calls.{Meets, scene, world}
+use Rattle.sccs_steps.specs.StepEffects.{Outcome, StepEffect}
+use Rattle.sccs_steps.specs.Calls.{Meets, ReportCut, scene, world}
 use Rattle.sccs_steps.specs.Causes.{StepCauses, WriteCauses, counts}
 use Rattle.sccs_steps.specs.Actions.{IsHeard, RefusesWithin, SpeaksBy, Stepped, quiet_checks}
 use Rattle.sccs_steps.proofs.ReadingSteps.{ends_silent}
@@ -132,17 +132,33 @@ recovers_at n v k sfile h = moved_by n v k (is_some (v (sibling 122 n))) refl sf
 
 -- ---- how the call ends
 
-step_of : (n : List ℕ) (f : Files) (r : Result Bool Refusal) → files_checked f ≡ r → recover_step n f ≡ (r >>= λ done. Ok (recovers n f))
+pub step_of : (n : List ℕ) (f : Files) (r : Result Bool Refusal) → files_checked f ≡ r → recover_step n f ≡ (r >>= λ done. Ok (recovers n f))
 unfolding recover_step
 step_of n f r is = ap (λ (x : Result Bool Refusal). x >>= λ done. Ok (recovers n f)) is
 
 -- what is said is whether the z-file was there
-is_said : (found : Recovered) (o : Option Content) → (found ≡ ways.Clean) ↔ (o ≡ None) → is_locked found ≡ is_some o
+pub is_said : (found : Recovered) (o : Option Content) → (found ≡ ways.Clean) ↔ (o ≡ None) → is_locked found ≡ is_some o
 is_said ways.Clean o same = sym (ap is_some (same.0 refl))
 is_said ways.Recovered None same = absurd (let e = same.1 refl in cc)
 is_said ways.Recovered (Some c) same = refl
 
-made_ends : (n : List ℕ) (v : View) (r : Result (Unit {0}) StepFault) (o2 : Option View) (out out2 err : Option (List ℕ)) → IsSfile n → o2 ≡ Some (recover n v) → Says r (recovers n (look v n)).out out out2
+abbrev pub is_recovered : List ℕ → View → Outcome
+is_recovered n v = Ok (recovers n (look v n))
+
+-- it is recovered, and what is said of it is cut
+pub cut_ends : (n : List ℕ) (v : View) (o2 : Option View) (out out2 err : Option (List ℕ)) → IsSfile n → o2 ≡ Some (recover n v) → Says (Err WriteFault) (recovers n (look v n)).out out out2
+    → (d : StepEffect) × (is_recovered n v ≡ Ok d) × ReportCut n d (world (Some v) out err) (world o2 out2 err)
+cut_ends n v o2 out out2 err sfile is says = (
+  recovers n (look v n),
+  refl,
+  record {
+    view = subst (λ (t : Option View). Moves (is_working n) (λ u. moved u n (recovers n (look v n)).new) (Some v) t) (sym is) (λ k h. recovers_at n v k sfile h);
+    out = says;
+    err = some_none err [];
+  },
+)
+
+pub made_ends : (n : List ℕ) (v : View) (r : Result (Unit {0}) StepFault) (o2 : Option View) (out out2 err : Option (List ℕ)) → IsSfile n → o2 ≡ Some (recover n v) → Says r (recovers n (look v n)).out out out2
     → Meets (λ (done : Unit {0}). 0) r n (Ok (recovers n (look v n))) (world (Some v) out err) (world o2 out2 err)
 made_ends n v (Ok done) o2 out out2 err sfile is says = (
   recovers n (look v n),
@@ -154,15 +170,7 @@ made_ends n v (Ok done) o2 out out2 err sfile is says = (
     err = gives_none err;
   },
 )
-made_ends n v (Err WriteFault) o2 out out2 err sfile is says = inr (
-  recovers n (look v n),
-  refl,
-  record {
-    view = subst (λ (t : Option View). Moves (is_working n) (λ u. moved u n (recovers n (look v n)).new) (Some v) t) (sym is) (λ k h. recovers_at n v k sfile h);
-    out = says;
-    err = some_none err [];
-  },
-)
+made_ends n v (Err WriteFault) o2 out out2 err sfile is says = inr (cut_ends n v o2 out out2 err sfile is says)
 made_ends n v (Err Memory) o2 out out2 err sfile is says = absurd says
 made_ends n v (Err ReadFault) o2 out out2 err sfile is says = absurd says
 made_ends n v (Err DiskFault) o2 out out2 err sfile is says = absurd says

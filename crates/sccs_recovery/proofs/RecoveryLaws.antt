@@ -14,9 +14,9 @@ use Rattle.sccs_images.proofs.Touched.{each_newest}
 use Rattle.sccs_pfile.specs.Recovered.{recovered_pfile, written_pfile}
 use Rattle.sccs_pfile.proofs.Recovering.{twice_once}
 use Rattle.sccs_moments.specs.Calm.{HasFirm, IsCalm}
-use Rattle.sccs_moments.specs.Moments.{IsFrom, IsNew, LeavesCalm, RecoversOn, Went}
+use Rattle.sccs_moments.specs.Moments.{IsFrom, IsNew, LeavesCalm, LeavesFirm, RecoversOn, Went}
 use Rattle.sccs_moments.specs.Recovery.{RecoversAs, cleared, pair_of, recover, without}
-use Rattle.sccs_moments.proofs.CalmDisks.{calm_settled, firms_touched}
+use Rattle.sccs_moments.proofs.CalmDisks.{calm_firm, calm_settled, firms_touched}
 use Rattle.sccs_moments.proofs.FileNames.{working_s}
 use Rattle.sccs_moments.proofs.Joined.{newest_is, numbered_plain, numbered_zero, went_then}
 use Rattle.sccs_moments.proofs.Recovering.{p_of, pair, recover_by, recovered_is, recovers_recovered, recovers_then, s_of}
@@ -283,6 +283,35 @@ synced_calm n a b d touches done = λ m past is firm m2 past2 is2.
   where
     model_is : (x y : Model) (p q : List Model) → Tells x p ≡ Tells y q → x ≡ y
     model_is x y p q e = cc
+
+-- ---- s-files and p-files stay firm
+
+pub touched_firm : (n : List ℕ) (a b : Told) → TouchesOnly (is_working n) a b → LeavesFirm a b
+touched_firm n a b touches = λ m past is firm m2 past2 is2.
+    let run : Touching (is_working n) m past b = touches m past is in subst HasFirm (newest_is m m2 past past2 run.added b run.is is2) (firm_now n m past b firm run)
+
+pub same_firm : (a b : Told) → b ≡ a → LeavesFirm a b
+same_firm a b same = λ m past is firm m2 past2 is2. subst HasFirm (newest_is m m2 past past2 [] b (same ∙ is) is2) firm
+
+pub firm_since : (a b d : Told) → b ≡ a → LeavesFirm b d → LeavesFirm a d
+firm_since a b d same firm = subst (λ t. LeavesFirm t d) same firm
+
+pub calm_leaves : (a b : Told) → LeavesCalm a b → LeavesFirm a b
+calm_leaves a b calm = λ m past is firm m2 past2 is2. calm_firm m2 (calm m past is firm m2 past2 is2)
+
+pub stopped_firm : (n : List ℕ) (new : NewFile) (a b d : Told) → IsSfile n → IsThere (sibling 122 n) a → option_map (committed n (plan_left new)) (seen b) ≡ option_map (recover n) (seen a)
+    → TouchesOnly (is_working n) a b → OnReplace new (Leaves (IsFirm (sibling 113 n)) a b) → CommitStops n (plan_left new) b d → LeavesFirm a d
+stopped_firm n new a b d sfile there view touches firm_q stops = λ m past is firm m2 past2 is2.
+    let p : Prepared n new m past b = is_prepared n new a b m past sfile there view touches firm_q is firm in
+    let e : Went (IsNew (newest p.run.added m) (committed n (plan_left new) (view_of (newest p.run.added m)))) (newest p.run.added m) (earlier p.run.added m past) 0 d = (stops (newest p.run.added m) (earlier p.run.added m past) p.run.is p.can).0 in
+    subst HasFirm (newest_is (newest p.run.added m) m2 (earlier p.run.added m past) past2 e.added d e.is is2) (stops (newest p.run.added m) (earlier p.run.added m past) p.run.is p.can).1
+
+pub synced_firm : {T F : Type 0} (n : List ℕ) (a b d : Told) (r : Result T F) → TouchesOnly (is_working n) a b → OnOk r (Done syncing_names b d) → OnErr r (Half syncing_names b d) → LeavesFirm a d
+synced_firm n a b d (Ok x) touches done half = calm_leaves a d (synced_calm n a b d touches done)
+synced_firm n a b d (Err e) touches done half = λ m past is firm m2 past2 is2.
+    let run : Touching (is_working n) m past b = touches m past is in
+    ⊎_elim (λ same. subst HasFirm (newest_is m m2 past past2 run.added d (same ∙ run.is) is2) (firm_now n m past b firm run))
+    (λ made. subst HasFirm (newest_is (newest run.added m) m2 (earlier run.added m past) past2 (settled (newest run.added m) ∷ []) d (subst (λ (x : Model). d ≡ Tells x (newest run.added m ∷ earlier run.added m past)) made.2 made.1) is2) (calm_firm (settled (newest run.added m)) (calm_settled (newest run.added m) (firm_now n m past b firm run)))) (half.model _ _ run.is)
 
 -- ---- results
 

@@ -1,5 +1,6 @@
 -- What the command recover says.
 use Rattle.std.specs.Prelude.{ℕ, Bool, true, false, List, Option, Result, Ok, Err}
+use Rattle.sccs_base.specs.Name.{sfile_name_decides}
 use Rattle.sccs_base.specs.Stream.{GivesOk, GivesSome}
 use Rattle.sccs_sid.specs.declared.refusals.StepFault.{StepFault}
 use Rattle.sccs_sid.specs.declared.refusals.StepFault.TheVariants.{WriteFault}
@@ -21,4 +22,4 @@ Says (Err fault) text out out2 = ⊥
 
 -- it doesn't only read
 pub recover_keeps : KeepsFiles recover_action
-recover_keeps = λ reads n i named f d is. absurd cc
+recover_keeps = record { quiet = λ reads n i named f d is. absurd cc; names = λ changes n fits. ((sfile_name_decides n).0 fits).1 }

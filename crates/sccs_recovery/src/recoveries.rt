@@ -7,7 +7,7 @@ ghost use Rattle.sccs_disk.specs.Images.{IsFirm};
 ghost use Rattle.sccs_disk.specs.Told.{seen};
 ghost use Rattle.sccs_files.specs.StepFiles.{AreCleared, Moves, MovesPartly, is_left, is_working};
 ghost use Rattle.sccs_images.specs.Touches.{Leaves, TouchesOnly};
-ghost use Rattle.sccs_moments.specs.Moments.{LeavesCalm, RecoversOn};
+ghost use Rattle.sccs_moments.specs.Moments.{LeavesCalm, LeavesFirm, RecoversOn};
 ghost use Rattle.sccs_moments.specs.Recovery.{cleared, recover, without};
 ghost use Rattle.sccs_sid.specs.declared.refusals.Refusal.{Refusal};
 ghost use Rattle.sccs_sid.specs.declared.refusals.StepFault.TheVariants as step;
@@ -109,9 +109,11 @@ fn finish<D: Disk>(left: &PfileLeft, disk: &mut D, name: &Name) -> Result<(), St
     ensures accepts { (refusal : Refusal) → result ≡ Err (step.Refused refusal) → ⊥ }
     ensures memory { IsErrOf result StepFault.Memory → Moves (is_working name.now) (λ v. v) (seen (D.told disk.old)) (seen (D.told disk.new)) }
     ensures cleared { IsErrOf result StepFault.Memory → AreCleared name.now (seen (D.told disk.old)) (seen (D.told disk.new)) }
+    ensures touches { IsErrOf result StepFault.Memory → TouchesOnly (is_working name.now) (D.told disk.old) (D.told disk.new) }
     ensures partly { IsErrOf result StepFault.DiskFault → MovesPartly (is_left name.now) (recover name.now) (seen (D.told disk.old)) (seen (D.told disk.new)) }
     ensures story { RecoversOn (D.told disk.old) (D.told disk.new) }
     ensures calm { OnOk result (LeavesCalm (D.told disk.old) (D.told disk.new)) }
+    ensures firm { LeavesFirm (D.told disk.old) (D.told disk.new) }
     ensures later { D.faults disk.old ≤ D.faults disk.new }
     ensures cause { IsErrOf result StepFault.DiskFault → Rose (D.faults disk.old) (D.faults disk.new) }
     ensures within { IsWithin result }
@@ -135,9 +137,11 @@ fn unlock<D: Disk>(alloc: Global, disk: &mut D, name: &Name) -> Result<(), StepF
     ensures refused { (refusal : Refusal) → result ≡ Err (step.Refused refusal) → D.told disk.new ≡ D.told disk.old }
     ensures memory { IsErrOf result StepFault.Memory → Moves (is_working name.now) (λ v. v) (seen (D.told disk.old)) (seen (D.told disk.new)) }
     ensures cleared { IsErrOf result StepFault.Memory → AreCleared name.now (seen (D.told disk.old)) (seen (D.told disk.new)) }
+    ensures touches { IsErrOf result StepFault.Memory → TouchesOnly (is_working name.now) (D.told disk.old) (D.told disk.new) }
     ensures partly { IsErrOf result StepFault.DiskFault → MovesPartly (is_left name.now) (λ (v : View). recovers_if (checked name.now v) name.now v) (seen (D.told disk.old)) (seen (D.told disk.new)) }
     ensures story { RecoversOn (D.told disk.old) (D.told disk.new) }
     ensures calm { OnOk result (LeavesCalm (D.told disk.old) (D.told disk.new)) }
+    ensures firm { LeavesFirm (D.told disk.old) (D.told disk.new) }
     ensures later { D.faults disk.old ≤ D.faults disk.new }
     ensures cause { IsErrOf result StepFault.DiskFault → Rose (D.faults disk.old) (D.faults disk.new) }
     ensures within { IsWithin result }
@@ -155,6 +159,7 @@ fn tidy<D: Disk>(disk: &mut D, name: &Name) -> Result<(), Failed>
     ensures view_err { OnErr result (Moves (is_working name.now) (λ v. v) (seen (D.told disk.old)) (seen (D.told disk.new))) }
     ensures story { RecoversOn (D.told disk.old) (D.told disk.new) }
     ensures calm { OnOk result (LeavesCalm (D.told disk.old) (D.told disk.new)) }
+    ensures firm { LeavesFirm (D.told disk.old) (D.told disk.new) }
     ensures later { D.faults disk.old ≤ D.faults disk.new }
     ensures cause { OnErr result (Rose (D.faults disk.old) (D.faults disk.new)) }
 {
@@ -168,8 +173,8 @@ fn tidy<D: Disk>(disk: &mut D, name: &Name) -> Result<(), Failed>
 /// x-, q- and y-file are removed, entries whose SID to be made is live leave the p-file, z is removed,
 /// and the names are synced. Where it isn't there, a y-file is removed, the names are synced, and the
 /// answer is Clean. It may be stopped at any moment and run again: a stop leaves what recovers to the
-/// s-files and p-files that a stop could leave at its start. At Ok the disk is calm. The checks are
-/// made only where the z-file is there, and at a refusal nothing has changed.
+/// s-files and p-files that a stop could leave at its start, and s-files and p-files stay firm. At Ok the
+/// disk is calm. The checks are made only where the z-file is there, and at a refusal nothing has changed.
 pub fn recover<D: Disk>(alloc: Global, disk: &mut D, name: &Name) -> Result<Recovered, StepFault>
     requires { IsSfile name.now }
     ensures view { OnOk result (Becomes (recover name.now) (seen (D.told disk.old)) (seen (D.told disk.new))) }
@@ -178,9 +183,11 @@ pub fn recover<D: Disk>(alloc: Global, disk: &mut D, name: &Name) -> Result<Reco
     ensures refused { (refusal : Refusal) → result ≡ Err (step.Refused refusal) → D.told disk.new ≡ D.told disk.old }
     ensures memory { IsErrOf result StepFault.Memory → Moves (is_working name.now) (λ v. v) (seen (D.told disk.old)) (seen (D.told disk.new)) }
     ensures cleared { IsErrOf result StepFault.Memory → AreCleared name.now (seen (D.told disk.old)) (seen (D.told disk.new)) }
+    ensures touches { IsErrOf result StepFault.Memory → TouchesOnly (is_working name.now) (D.told disk.old) (D.told disk.new) }
     ensures partly { IsErrOf result StepFault.DiskFault → MovesPartly (is_left name.now) (λ (v : View). recovers_if (checked name.now v) name.now v) (seen (D.told disk.old)) (seen (D.told disk.new)) }
     ensures story { RecoversOn (D.told disk.old) (D.told disk.new) }
     ensures calm { OnOk result (LeavesCalm (D.told disk.old) (D.told disk.new)) }
+    ensures firm { LeavesFirm (D.told disk.old) (D.told disk.new) }
     ensures later { D.faults disk.old ≤ D.faults disk.new }
     ensures cause { IsErrOf result StepFault.DiskFault → Rose (D.faults disk.old) (D.faults disk.new) }
     ensures within { IsWithin result }

@@ -17,7 +17,7 @@ pub after_more : (m : Folder) (ts us : List NamedStep) → folder_after m (ts ++
 after_more m [] us = refl
 after_more m (t ∷ ts) us = after_more (next_folder m (t ∷ ts)) ts us
 
-out_more : (ts us : List NamedStep) → out_of (ts ++ us) ≡ out_of ts ++ out_of us
+pub out_more : (ts us : List NamedStep) → out_of (ts ++ us) ≡ out_of ts ++ out_of us
 out_more ts us = flat_map-append (λ (t : NamedStep). t.effect.text ++ t.effect.out) ts us
 
 pub err_more : (ts us : List NamedStep) → err_of (ts ++ us) ≡ err_of ts ++ err_of us

@@ -1,6 +1,12 @@
 pub mod Clear
+pub mod Fronts
 pub mod Gifts
 pub mod JoinedSteps
+pub mod MomentLists
+pub mod OneMoment
 pub mod OneStep
 pub mod OperandLaws
+pub mod ReadingMoments
 pub mod ReadingSteps
+pub mod Safety
+pub mod StopLoop

@@ -34,7 +34,7 @@ pub misfit : (x : Action) (m : Folder) (i operand : List ℕ) → is_several ope
 unfolding outcome_at
 misfit x m i operand is fits = rw (is, fits) refl
 
-fitting : (x : Action) (m : Folder) (i operand : List ℕ) → is_several operand ≡ false → x.fits operand ≡ true → outcome_at x m i operand ≡ x.step operand i (map (view_in m) x.named) (look (view_in m) operand)
+pub fitting : (x : Action) (m : Folder) (i operand : List ℕ) → is_several operand ≡ false → x.fits operand ≡ true → outcome_at x m i operand ≡ x.step operand i (map (view_in m) x.named) (look (view_in m) operand)
 unfolding outcome_at
 fitting x m i operand is fits = rw (is, fits) refl
 
@@ -53,8 +53,8 @@ met x w m i n made (Some u) left a b clear spared shows heard steps =
     subst (λ (f : Files). Meets (λ (done : Unit {0}). 0) made n (x.step n i (map (view_in m) x.named) f) a b) (clear_look x.reads w n u (view_in m) clear shows)
     (subst (λ (named : List (Option Content)). Meets (λ (done : Unit {0}). 0) made n (x.step n i named (look u n)) a b) (named_alike w u (view_in m) x.named shows spared) (steps i heard))
 
-kept : (x : Action) (m : Folder) (i operand : List ℕ) → KeepsFiles x → is_several operand ≡ false → x.fits operand ≡ true → IsKept x.reads (outcome_at x m i operand)
-kept x m i operand quiet is fits = subst (IsKept x.reads) (sym (fitting x m i operand is fits)) (λ reads d done. quiet reads operand i (map (view_in m) x.named) (look (view_in m) operand) d done)
+pub kept : (x : Action) (m : Folder) (i operand : List ℕ) → KeepsFiles x → is_several operand ≡ false → x.fits operand ≡ true → IsKept x.reads (outcome_at x m i operand)
+kept x m i operand quiet is fits = subst (IsKept x.reads) (sym (fitting x m i operand is fits)) (λ reads d done. quiet.quiet reads operand i (map (view_in m) x.named) (look (view_in m) operand) d done)
 
 -- an operand whose step was called
 pub stepped_runs : (x : Action) (w : List ℕ → Bool) (m : Folder) (i operand n : List ℕ) (made : Result (Unit {0}) StepFault) (r : Result ℕ Fault) (left : Option (List ℕ)) (a b : Scene) (e : Option (List ℕ)) → KeepsFiles x → is_several operand ≡ false → x.fits operand ≡ true → n ≡ operand
@@ -149,7 +149,7 @@ spoke_ends x operands k status a b so = (so.made, subst (AreAmong x operands) (a
 
 -- ---- the loop over operands
 
-heard_on : (takes : Bool) (left left2 : Option (List ℕ)) (i : List ℕ) → IsHeard takes left i → left2 ≡ left → IsHeard takes left2 i
+pub heard_on : (takes : Bool) (left left2 : Option (List ℕ)) (i : List ℕ) → IsHeard takes left i → left2 ≡ left → IsHeard takes left2 i
 heard_on takes left left2 i (inl never) same = inl never
 heard_on takes left left2 i (inr is) same = inr (same ∙ is)
 

@@ -1,5 +1,5 @@
 -- How the call of a step ends that changes no file, over a disk that tells what it told.
-use Rattle.std.proofs.Common.{◌≡◌, ℕ, List, [], Option, None, Some, Result, Ok, Err, inl, inr, refl, sym, subst}
+use Rattle.std.proofs.Common.{◌≡◌, ℕ, List, [], Option, Some, Err, inl, inr, refl, sym, subst}
 use Rattle.sccs_base.specs.Stream.{GivesSome}
 use Rattle.sccs_base.proofs.Gifts.{some_none}
 use Rattle.sccs_disk.specs.Files.{View}

@@ -2,6 +2,7 @@
 use Rattle.std.specs.Prelude.{◌≡◌, ℕ, ◌≤◌, ◌==◌, length, Bool, true, false, ◌||◌, ◌⊎◌, List, [], ◌∷◌, map, Option, None, Some, Result, Ok, Err, IfSome, codes, if◌then◌else◌}
 use Rattle.std.specs.List.{AllByRecursion}
 use Rattle.std.specs.Str.{bytes_eq}
+use Rattle.sccs_base.specs.Name.{IsSfile}
 use Rattle.sccs_base.specs.Stream.{GivesOk, GivesSome}
 use Rattle.sccs_sid.specs.Reading.{is_empty}
 use Rattle.sccs_sid.specs.Refusal.{number_of}
@@ -64,9 +65,10 @@ IsHeard takes left i = (takes ≡ false) ⊎ (left ≡ Some i)
 abbrev pub Stepped : Action → Result (Unit {0}) StepFault → List ℕ → Option (List ℕ) → Scene → Scene → Type 0
 Stepped x r n left a b = IfSome (seen a.told) (λ v. (i : List ℕ) → IsHeard x.takes left i → Meets (λ _. 0) r n (x.step n i (map v x.named) (look v n)) (shown a) (shown b))
 
--- an action that only reads changes no file
-abbrev pub KeepsFiles : Action → Type 0
-KeepsFiles x = x.reads ≡ true → (n i : List ℕ) (named : List (Option Content)) (f : Files) (d : StepEffect) → x.step n i named f ≡ Ok d → d.new ≡ None
+-- An action that only reads changes no file, and one that changes files takes the names of s-files alone.
+pub record KeepsFiles (x : Action) : Type 0 where
+  pub quiet : x.reads ≡ true → (n i : List ℕ) (named : List (Option Content)) (f : Files) (d : StepEffect) → x.step n i named f ≡ Ok d → d.new ≡ None
+  pub names : x.reads ≡ false → (n : List ℕ) → x.fits n ≡ true → IsSfile n
 
 -- a command that only reads needs no premise on names; for others the name's files are apart from working files
 abbrev pub IsClear : Bool → (List ℕ → Bool) → List ℕ → Type 0

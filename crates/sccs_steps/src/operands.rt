@@ -6,6 +6,7 @@ ghost use Rattle.sccs_files.specs.StepFiles.{Shows};
 ghost use Rattle.sccs_steps.specs.Actions.{AreClear, IsHeard, IsLone, OperandIsClear, SpeakAll, SpeaksOne, is_several, step_at, steps_at};
 ghost use Rattle.sccs_steps.specs.Calls.{scene, shown};
 ghost use Rattle.sccs_steps.specs.Causes.{Ignores, RunCauses, counts};
+ghost use Rattle.sccs_steps.specs.ListStops.{StopsAll};
 ghost use Rattle.sccs_steps.specs.Messages.{Concludes, SaysRefusal};
 ghost use Rattle.sccs_steps.specs.StepLists.{Runs};
 ghost use Rattle.sccs_steps.specs.declared.faults.Fault.TheVariants as end;
@@ -77,6 +78,8 @@ pub fn run_operand<U: Utility, I: Source, O: Sink, E: Sink, D: Disk>(
         → Runs w result m (step_at (U.action utility.now) m i operand.now ∷ [])
         (shown (scene (D.told disk.old) (O.given out.old) (E.given err.old)))
         (shown (scene (D.told disk.new) (O.given out.new) (E.given err.new))) }
+    ensures stops { StopsAll (U.action utility.now) (operand.now ∷ []) result (I.left input.old)
+        (scene (D.told disk.old) (O.given out.old) (E.given err.old)) (scene (D.told disk.new) (O.given out.new) (E.given err.new)) }
     ensures speaks { SpeaksOne (U.action utility.now) operand.now result (E.given err.old) (E.given err.new) }
     ensures reads { (U.action utility.now).reads ≡ true → D.told disk.new ≡ D.told disk.old }
     ensures silent { (U.action utility.now).silent ≡ true → O.given out.new ≡ O.given out.old }
@@ -96,7 +99,9 @@ pub fn run_operand<U: Utility, I: Source, O: Sink, E: Sink, D: Disk>(
     conclude(operand, made, err)
 }
 
-/// Makes the step of each operand in turn, and answers the greatest status.
+/// Makes the step of each operand in turn, and answers the greatest status. Where it begins on a calm disk
+/// and the operands are safe, a stop at any moment leaves all names as after the same number of steps, no
+/// fewer than were acknowledged; and it ends on a calm disk, unless the disk failed.
 pub fn run_operands<U: Utility, I: Source, O: Sink, E: Sink, D: Disk>(
     alloc: Global,
     utility: &U,
@@ -112,6 +117,8 @@ pub fn run_operands<U: Utility, I: Source, O: Sink, E: Sink, D: Disk>(
         → Runs w result m (steps_at (U.action utility.now) m i operands.now)
         (shown (scene (D.told disk.old) (O.given out.old) (E.given err.old)))
         (shown (scene (D.told disk.new) (O.given out.new) (E.given err.new))) }
+    ensures stops { StopsAll (U.action utility.now) operands.now result (I.left input.old)
+        (scene (D.told disk.old) (O.given out.old) (E.given err.old)) (scene (D.told disk.new) (O.given out.new) (E.given err.new)) }
     ensures speaks { SpeakAll (U.action utility.now) operands.now result (E.given err.old) (E.given err.new) }
     ensures reads { (U.action utility.now).reads ≡ true → D.told disk.new ≡ D.told disk.old }
     ensures silent { (U.action utility.now).silent ≡ true → O.given out.new ≡ O.given out.old }

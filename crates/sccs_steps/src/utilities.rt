@@ -4,6 +4,7 @@ ghost use Rattle.sccs_sid.specs.declared.refusals.StepFault.TheVariants as step;
 ghost use Rattle.sccs_steps.specs.Actions.{Action, KeepsFiles, SpeaksBy, Stepped};
 ghost use Rattle.sccs_steps.specs.Calls.{scene};
 ghost use Rattle.sccs_steps.specs.Causes.{Ignores, StepCauses, counts};
+ghost use Rattle.sccs_steps.specs.StepStops.{StepMoments};
 
 use sccs_base::{Name, Sink, Source};
 use sccs_disk::Disk;
@@ -15,7 +16,7 @@ pub trait Utility {
     /// What is done with an operand.
     ghost action: { Self → Action };
 
-    /// A utility that only reads changes no file.
+    /// A utility that only reads changes no file, and one that changes files takes s-files' names alone.
     ghost keeps: { (utility : Self) → KeepsFiles (action utility) };
 
     /// The name that an operand is; None where the utility takes no such operand.
@@ -23,7 +24,9 @@ pub trait Utility {
         ensures found { IfSome result (λ name. name ≡ operand.now) }
         ensures exact { is_some result ≡ (action self.now).fits operand.now };
 
-    /// Makes the step of one file.
+    /// Makes the step of one file. Where it begins on a calm disk and the name is safe, a stop at any
+    /// moment leaves what recovers as before the step or as after it; and it ends on a calm disk, unless
+    /// the disk failed.
     fn step<I: Source, O: Sink, E: Sink, D: Disk>(
         &self,
         alloc: Global,
@@ -35,6 +38,9 @@ pub trait Utility {
     ) -> Result<(), StepFault>
         requires { (action self.now).fits name.now ≡ true }
         ensures step { Stepped (action self.now) result name.now (I.left input.old)
+            (scene (D.told disk.old) (O.given out.old) (E.given err.old))
+            (scene (D.told disk.new) (O.given out.new) (E.given err.new)) }
+        ensures moments { StepMoments (action self.now) result name.now (I.left input.old)
             (scene (D.told disk.old) (O.given out.old) (E.given err.old))
             (scene (D.told disk.new) (O.given out.new) (E.given err.new)) }
         ensures speaks { SpeaksBy (action self.now).could result name.now (E.given err.old) (E.given err.new) }

@@ -1,4 +1,5 @@
 pub mod Committed
+pub mod HeldLocks
 pub mod Parts
 pub mod Stages
 pub mod SealedLaws

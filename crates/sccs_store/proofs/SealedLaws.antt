@@ -1,5 +1,5 @@
 -- An s-file that is written from its start: header, body and sum.
-use Rattle.std.proofs.Common.{◌≡◌, ℕ, false, List, [], ◌∷◌, ◌++◌, map, flat_map, Option, None, Some, option_map, IfSome, refl, sym, ap, subst, ◌∙◌, arith}
+use Rattle.std.proofs.Common.{◌≡◌, ℕ, false, List, [], ◌∷◌, ◌++◌, map, Option, None, Some, option_map, IfSome, refl, sym, ap, subst, ◌∙◌, arith}
 use Rattle.sccs_disk.specs.Effects.{altered, appended, empty_file}
 use Rattle.sccs_disk.specs.Calls.{HasBytes, HasRange}
 use Rattle.sccs_disk.specs.Files.{Content, View, put}

@@ -27,10 +27,6 @@ pub ends_before : (n : List ℕ) (a b : Told) (m : Model) (past : List Model) �
 ends_before n a b m past sfile is calm sound touches =
     (stays_touched n m past b sfile calm sound (touches m past is), calm_stayed (view_of m) m past b (stays_touched n m past b sfile calm sound (touches m past is)))
 
--- the same, as the end of a step within which something failed
-pub before_within : (v w : View) (m : Model) (past : List Model) (b : Told) → EndsBefore v m past b → EndsWithin v w m past b
-before_within v w m past b ends = (went_at v w m past b ends.0, calm_firm (newest ends.0.added m) ends.1)
-
 -- ---- the commit
 
 firm_where : (new : NewFile) (k : List ℕ) (a b : Told) (m m1 : Model) (past past1 : List Model) → a ≡ Tells m past → b ≡ Tells m1 past1 → OnReplace new (Leaves (IsFirm k) a b) → OnReplace new (IsFirm k m1)

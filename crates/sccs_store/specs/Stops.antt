@@ -1,5 +1,5 @@
 -- What a commit needs, so that a stop in it loses nothing, and what a stop in it leaves.
-use Rattle.std.specs.Prelude.{◌≡◌, ◌⊎◌, ℕ, false, List, drop}
+use Rattle.std.specs.Prelude.{◌≡◌, ◌⊎◌, ℕ, false, true, List, drop, is_some}
 use Rattle.sccs_base.specs.Name.{sibling}
 use Rattle.sccs_disk.specs.Calls.{Done, Half}
 use Rattle.sccs_disk.specs.Effects.{removing, renaming, syncing_names}
@@ -10,7 +10,7 @@ use Rattle.sccs_files.specs.StepFiles.{is_left}
 use Rattle.sccs_images.specs.Touches.{Leaves, TouchesOnly, newest}
 use Rattle.sccs_pfile.specs.Recovered.{recovered_pfile}
 use Rattle.sccs_moments.specs.Calm.{HasFirm, IsCalm}
-use Rattle.sccs_moments.specs.Moments.{IsNew, Went}
+use Rattle.sccs_moments.specs.Moments.{EndsBefore, IsNew, Went}
 use Rattle.sccs_moments.specs.Recovery.{is_kept}
 use Rattle.sccs_store.specs.Commits.{Plan, committed, files_after}
 use Rattle.sccs_store.specs.declared.new_files.NewFile.{NewFile}
@@ -89,3 +89,7 @@ CommitStops n c old new = (m : Model) (past : List Model) → old ≡ Tells m pa
 abbrev pub CommitEnds : List ℕ → Plan → Told → Told → Type 0
 CommitEnds n c old new = (m : Model) (past : List Model) → old ≡ Tells m past → CanCommit n c m
     → (went : Went (IsNew m (committed n c (view_of m))) m past 1 new) × IsCalm (newest went.added m)
+
+-- On a name that was locked already each image of each moment has the old s-files and p-files, and the disk is calm.
+abbrev pub KeepsHeld : List ℕ → Told → Told → Type 0
+KeepsHeld n old new = (m : Model) (past : List Model) → old ≡ Tells m past → IsCalm m → is_some (view_of m (sibling 122 n)) ≡ true → EndsBefore (view_of m) m past new

@@ -7,6 +7,7 @@ ghost use Rattle.sccs_disk.specs.Told.{seen};
 ghost use Rattle.sccs_files.specs.StepFiles.{Moves};
 ghost use Rattle.sccs_images.specs.Touches.{TouchesOnly};
 ghost use Rattle.sccs_store.specs.Commits.{Becomes, locked};
+ghost use Rattle.sccs_store.specs.Stops.{KeepsHeld};
 
 use sccs_base::Name;
 use sccs_disk::{Creation, Disk, DiskRefusal};
@@ -31,6 +32,7 @@ pub fn lock<D: Disk>(disk: &mut D, name: &Name) -> Result<(), LockFault>
     ensures memory { IsErrOf result LockFault.Memory → D.told disk.new ≡ D.told disk.old }
     ensures view_err { OnErr result (Moves (bytes_eq (sibling 122 name.now)) (λ v. v) (seen (D.told disk.old)) (seen (D.told disk.new))) }
     ensures touches { TouchesOnly (bytes_eq (sibling 122 name.now)) (D.told disk.old) (D.told disk.new) }
+    ensures held { IsErrOf result LockFault.Failed → KeepsHeld name.now (D.told disk.old) (D.told disk.new) }
     ensures later { D.faults disk.old ≤ D.faults disk.new }
     ensures cause { IsErrOf result LockFault.Failed → Rose (D.faults disk.old) (D.faults disk.new) }
 {

@@ -1,8 +1,9 @@
 -- What a run does: the steps that its words mean, one for each operand in their order.
 use Rattle.std.specs.Prelude.{◌≡◌, ℕ, ◌<◌, nat_lt, ◌⊎◌, Bool, true, false, ◌&&◌, ◌||◌, List, [], ◌∷◌, length, Option, None, Result, Ok, Err, codes, if◌then◌else◌}
 use Rattle.std.specs.List.{list_any}
-use Rattle.sccs_disk.specs.Files.{Folder, view_in}
-use Rattle.sccs_disk.specs.Told.{seen}
+use Rattle.sccs_disk.specs.Files.{Folder, Model, view_in}
+use Rattle.sccs_disk.specs.Told.{Tells, seen}
+use Rattle.sccs_moments.specs.Calm.{IsCalm}
 use Rattle.sccs_sid.specs.declared.moments.Stamp.{Stamp}
 use Rattle.sccs_words.specs.declared.commands.Usage.{Usage}
 use Rattle.sccs_words.specs.declared.commands.GetWords.{GetWords}
@@ -12,6 +13,7 @@ use Rattle.sccs_words.specs.declared.commands.Command.TheVariants as c
 use Rattle.sccs_files.specs.StepFiles.{is_working, nowhere, Shows}
 use Rattle.sccs_steps.specs.Actions.{Action, AreClear, IsHeard, IsLone, SpeakAll, SpeakAs, is_several, steps_at}
 use Rattle.sccs_steps.specs.Calls.{Scene, World, shown}
+use Rattle.sccs_steps.specs.ListStops.{AreSafe, RunMoments}
 use Rattle.sccs_steps.specs.StepLists.{ListInterrupted, NamedStep, Runs, Stopped, Waits}
 use Rattle.sccs_steps.specs.declared.faults.Fault.{Fault}
 use Rattle.sccs_steps.specs.declared.faults.Fault.TheVariants as ends
@@ -141,3 +143,20 @@ is_silent stamp (Ok command) = (action_of stamp command).silent
 abbrev pub takes_input : Stamp → Result Command Usage → Bool
 takes_input stamp (Err usage) = false
 takes_input stamp (Ok command) = (action_of stamp command).takes
+
+-- what is done with which operands; a usage fault is said, and does nothing with any
+abbrev pub action_meant : Stamp → Result Command Usage → Action
+action_meant stamp (Err usage) = unbuilt false
+action_meant stamp (Ok command) = action_of stamp command
+
+abbrev pub operands_meant : Result Command Usage → List (List ℕ)
+operands_meant (Err usage) = []
+operands_meant (Ok command) = operands_of command
+
+-- What a stop leaves of a run that begins on a calm disk, where its operands are safe: all names as after one number of steps, no
+-- fewer than those that are acknowledged.
+abbrev pub StopsSteps : Stamp → Result Command Usage → Answer → Option (List ℕ) → Scene → Scene → Type 0
+StopsSteps stamp meant answer left a b = (folder : Folder) (i : List ℕ) (m : Model) (past : List Model)
+    → IsGiven stamp meant left i → Shows (working stamp meant) (seen a.told) (view_in folder)
+    → a.told ≡ Tells m past → IsCalm m → AreSafe (action_meant stamp meant) (operands_meant meant) (view_in folder)
+    → RunMoments (action_meant stamp meant) (operands_meant meant) (working stamp meant) (made_by answer) folder (run_steps stamp meant folder i) a b m past

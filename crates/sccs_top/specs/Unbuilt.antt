@@ -47,4 +47,4 @@ unbuilt any = record {
 }
 
 pub unbuilt_keeps : (any : Bool) → KeepsFiles (unbuilt any)
-unbuilt_keeps any = λ reads n i named f d is. absurd cc
+unbuilt_keeps any = record { quiet = λ reads n i named f d is. absurd cc; names = λ changes n fits. absurd cc }

@@ -5,9 +5,10 @@ ghost use Rattle.sccs_words.specs.ValidValues.{AreGetValues, HasValidValues};
 ghost use Rattle.sccs_steps.specs.Actions.{SpeakAll};
 ghost use Rattle.sccs_steps.specs.Calls.{scene};
 ghost use Rattle.sccs_steps.specs.Causes.{Ignores, RunCauses, counts};
+ghost use Rattle.sccs_steps.specs.ListStops.{StopsAll};
 ghost use Rattle.sccs_steps.specs.declared.faults.Fault.TheVariants as ends;
 ghost use Rattle.sccs_top.specs.Listing.{action_in, words_of};
-ghost use Rattle.sccs_top.specs.Runs.{MakesAll, MakesSteps, SpeaksWords, action_of, get_in, has_heading, is_silent, made_by, only_reads, operands_of, takes_input};
+ghost use Rattle.sccs_top.specs.Runs.{MakesAll, MakesSteps, SpeaksWords, StopsSteps, action_of, get_in, has_heading, is_silent, made_by, only_reads, operands_of, takes_input};
 
 use crate::answers::Answer;
 use crate::messages::write_usage;
@@ -145,6 +146,8 @@ fn run_listed<U: Utility, I: Source, O: Sink, E: Sink, D: Disk>(
 ) -> Result<u8, Fault>
     ensures steps { MakesAll (U.action utility.now) (words_of operands.entry) result (I.left input.old)
         (scene (D.told disk.old) (O.given out.old) (E.given err.old)) (scene (D.told disk.new) (O.given out.new) (E.given err.new)) }
+    ensures stops { StopsAll (U.action utility.now) (words_of operands.entry) result (I.left input.old)
+        (scene (D.told disk.old) (O.given out.old) (E.given err.old)) (scene (D.told disk.new) (O.given out.new) (E.given err.new)) }
     ensures speaks { SpeakAll (U.action utility.now) (words_of operands.entry) result (E.given err.old) (E.given err.new) }
     ensures reads { (U.action utility.now).reads ≡ true → D.told disk.new ≡ D.told disk.old }
     ensures silent { (U.action utility.now).silent ≡ true → O.given out.new ≡ O.given out.old }
@@ -188,6 +191,8 @@ fn run_command<I: Source, O: Sink, E: Sink, D: Disk>(
     requires moment { IsMoment stamp.now.moment }
     ensures steps { MakesAll (action_of stamp.now command.now) (operands_of command.now) result (I.left input.old)
         (scene (D.told disk.old) (O.given out.old) (E.given err.old)) (scene (D.told disk.new) (O.given out.new) (E.given err.new)) }
+    ensures stops { StopsAll (action_of stamp.now command.now) (operands_of command.now) result (I.left input.old)
+        (scene (D.told disk.old) (O.given out.old) (E.given err.old)) (scene (D.told disk.new) (O.given out.new) (E.given err.new)) }
     ensures speaks { SpeakAll (action_of stamp.now command.now) (operands_of command.now) result (E.given err.old) (E.given err.new) }
     ensures reads { (action_of stamp.now command.now).reads ≡ true → D.told disk.new ≡ D.told disk.old }
     ensures silent { (action_of stamp.now command.now).silent ≡ true → O.given out.new ≡ O.given out.old }
@@ -215,6 +220,10 @@ fn run_command<I: Source, O: Sink, E: Sink, D: Disk>(
 ///
 /// Built are admin on new files, with `-n` or `-i`, `-r` and `-y`; get with `-k`, `-p` and `-s`, and with `-e`
 /// and `-g`, each with the options that say which version; delta, sact, unget and recover.
+///
+/// A stop at any moment of a run that began on a calm disk, with safe operands, leaves what recovers on all
+/// names as after the same number of steps, no fewer than are acknowledged; and s-files and p-files are firm
+/// at each end, so that recovery may run.
 pub fn run<I: Source, O: Sink, E: Sink, D: Disk>(
     alloc: Global,
     words: &Words,
@@ -227,6 +236,8 @@ pub fn run<I: Source, O: Sink, E: Sink, D: Disk>(
 ) -> Answer
     requires moment { IsMoment stamp.now.moment }
     ensures steps { MakesSteps stamp.now (meaning words.now) result (I.left input.old)
+        (scene (D.told disk.old) (O.given out.old) (E.given err.old)) (scene (D.told disk.new) (O.given out.new) (E.given err.new)) }
+    ensures stops { StopsSteps stamp.now (meaning words.now) result (I.left input.old)
         (scene (D.told disk.old) (O.given out.old) (E.given err.old)) (scene (D.told disk.new) (O.given out.new) (E.given err.new)) }
     ensures speaks { SpeaksWords stamp.now (meaning words.now) result (E.given err.old) (E.given err.new) }
     ensures reads { only_reads stamp.now (meaning words.now) ≡ true → D.told disk.new ≡ D.told disk.old }

@@ -6,11 +6,12 @@ ghost use Rattle.sccs_sid.specs.declared.refusals.StepFault.TheVariants as step;
 ghost use Rattle.sccs_steps.specs.Actions.{SpeaksBy, Stepped};
 ghost use Rattle.sccs_steps.specs.Calls.{scene, world};
 ghost use Rattle.sccs_steps.specs.Causes.{Ignores, StepCauses, counts};
+ghost use Rattle.sccs_steps.specs.StepStops.{StepMoments};
 ghost use Rattle.sccs_transactions.specs.Changes.{IsReady, locking};
 ghost use Rattle.sccs_files.specs.StepFiles.{is_left};
 ghost use Rattle.sccs_images.specs.Touches.{TouchesOnly};
 ghost use Rattle.sccs_transactions.specs.Ends.{Finishes, GivesUp};
-ghost use Rattle.sccs_transactions.specs.Stops.{Commits, StepMoments};
+ghost use Rattle.sccs_transactions.specs.Stops.{Commits};
 
 use crate::changes::Change;
 use crate::prepared::Prepared;

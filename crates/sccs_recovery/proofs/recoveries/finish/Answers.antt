@@ -8,7 +8,7 @@ use Rattle.sccs_store.specs.Commits.{plan}
 use Rattle.sccs_store.specs.declared.new_files.NewFile.TheVariants.{Keep}
 use Rattle.sccs_store.proofs.Working.{moves_then}
 use Rattle.sccs_recovery.proofs.RecoveryEnds.{cleared_gone, err_is, part_partly, partly}
-use Rattle.sccs_recovery.proofs.RecoveryLaws.{ended_calm, ended_story, stopped_story, touched_story}
+use Rattle.sccs_recovery.proofs.RecoveryLaws.{calm_leaves, ended_calm, ended_story, stopped_firm, stopped_story, touched_firm, touched_story}
 use Rattle.sccs_recovery.proofs.recoveries.finish.Goals as goal
 
 pub returns-in-Ok-commit-clause-story : goal.returns-in-Ok-commit-clause-story
@@ -47,3 +47,20 @@ returns-in-Err-Memory-clause-cleared g c =
 pub returns-in-Err-Memory-clause-partly : goal.returns-in-Err-Memory-clause-partly
 returns-in-Err-Memory-clause-partly g c =
     λ fault. partly c.args.name.now (recover c.args.name.now) _ _ (moves_then (is_working c.args.name.now) _ (seen (g.D.Disk.told c.prepare.new.disk)) _ c.prepare.ensures.moves c.give_up.ensures.moves)
+
+pub returns-in-Ok-commit-clause-firm : goal.returns-in-Ok-commit-clause-firm
+returns-in-Ok-commit-clause-firm g c = calm_leaves _ _ (returns-in-Ok-commit-clause-calm g c)
+
+pub returns-in-Err-clause-firm : goal.returns-in-Err-clause-firm
+returns-in-Err-clause-firm g c =
+    stopped_firm c.args.name.now c.in-Ok.new_p _ (g.D.Disk.told c.prepare.new.disk) _ c.requires.sfile c.requires.z c.in-Ok.ensures.view c.prepare.ensures.touches c.in-Ok.ensures.firm c.in-Err.ensures.stopped
+
+pub returns-in-Err-Failed-clause-firm : goal.returns-in-Err-Failed-clause-firm
+returns-in-Err-Failed-clause-firm g c = touched_firm c.args.name.now _ _ c.prepare.ensures.touches
+
+pub returns-in-Err-Memory-clause-firm : goal.returns-in-Err-Memory-clause-firm
+returns-in-Err-Memory-clause-firm g c =
+    touched_firm c.args.name.now _ _ (only_then (is_working c.args.name.now) _ (g.D.Disk.told c.prepare.new.disk) _ c.prepare.ensures.touches c.give_up.ensures.touches)
+
+pub returns-in-Err-Memory-clause-touches : goal.returns-in-Err-Memory-clause-touches
+returns-in-Err-Memory-clause-touches g c = λ fault. only_then (is_working c.args.name.now) _ (g.D.Disk.told c.prepare.new.disk) _ c.prepare.ensures.touches c.give_up.ensures.touches

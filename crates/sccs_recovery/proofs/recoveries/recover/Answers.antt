@@ -1,4 +1,6 @@
-use Rattle.sccs_recovery.proofs.RecoveryLaws.{calm_from, same_story, story_from}
+use Rattle.sccs_files.specs.StepFiles.{is_working}
+use Rattle.sccs_store.proofs.Working.{touches_from}
+use Rattle.sccs_recovery.proofs.RecoveryLaws.{calm_from, firm_since, same_firm, same_story, story_from}
 use Rattle.sccs_recovery.proofs.RecoveryEnds.{partly, partly_from, retyped, same_partly}
 use Rattle.sccs_recovery.proofs.recoveries.recover.Goals as goal
 
@@ -29,3 +31,21 @@ returns-in-Err-tidy-clause-partly g c =
 
 pub returns-in-Err-clause-partly : goal.returns-in-Err-clause-partly
 returns-in-Err-clause-partly g c = λ fault. same_partly c.args.name.now _ (g.D.Disk.told c.args.disk.now) (g.D.Disk.told c.size.new.self) c.size.ensures.same
+
+pub returns-in-Ok-clause-firm : goal.returns-in-Ok-clause-firm
+returns-in-Ok-clause-firm g c = firm_since _ (g.D.Disk.told c.size.new.self) _ c.size.ensures.same c.unlock.ensures.firm
+
+pub returns-in-Err-unlock-clause-firm : goal.returns-in-Err-unlock-clause-firm
+returns-in-Err-unlock-clause-firm g c = firm_since _ (g.D.Disk.told c.size.new.self) _ c.size.ensures.same c.unlock.ensures.firm
+
+pub returns-in-Ok-tidy-clause-firm : goal.returns-in-Ok-tidy-clause-firm
+returns-in-Ok-tidy-clause-firm g c = firm_since _ (g.D.Disk.told c.size.new.self) _ c.size.ensures.same c.tidy.ensures.firm
+
+pub returns-in-Err-tidy-clause-firm : goal.returns-in-Err-tidy-clause-firm
+returns-in-Err-tidy-clause-firm g c = firm_since _ (g.D.Disk.told c.size.new.self) _ c.size.ensures.same c.tidy.ensures.firm
+
+pub returns-in-Err-clause-firm : goal.returns-in-Err-clause-firm
+returns-in-Err-clause-firm g c = same_firm _ _ c.size.ensures.same
+
+pub returns-in-Err-unlock-clause-touches : goal.returns-in-Err-unlock-clause-touches
+returns-in-Err-unlock-clause-touches g c = λ fault. touches_from (is_working c.args.name.now) _ (g.D.Disk.told c.size.new.self) _ c.size.ensures.same (c.in-Err-unlock.ensures.touches (retyped c.in-Err-unlock.fault _ fault))

@@ -4,7 +4,7 @@ use Rattle.sccs_files.specs.StepFiles.{is_working}
 use Rattle.sccs_images.proofs.Touched.{only_wider}
 use Rattle.sccs_moments.proofs.FileNames.{no_y}
 use Rattle.sccs_store.proofs.Working.{ok_map}
-use Rattle.sccs_recovery.proofs.RecoveryLaws.{synced_calm, synced_story, touched_story}
+use Rattle.sccs_recovery.proofs.RecoveryLaws.{synced_calm, synced_firm, synced_story, touched_firm, touched_story}
 use Rattle.sccs_store.proofs.Working.{err_map}
 use Rattle.sccs_recovery.proofs.RecoveryEnds.{tidied_moves}
 use Rattle.sccs_recovery.proofs.recoveries.tidy.Goals as goal
@@ -24,3 +24,11 @@ returns-in-Err-clause-story g c =
 pub returns-in-Ok-clause-view_err : goal.returns-in-Ok-clause-view_err
 returns-in-Ok-clause-view_err g c =
     err_map c.sync_names.result (tidied_moves c.args.name.now (g.D.Disk.told c.args.disk.now) (g.D.Disk.told c.clear_sibling.new.disk) _ c.in-Ok.ensures.view) c.sync_names.ensures.half
+
+pub returns-in-Ok-clause-firm : goal.returns-in-Ok-clause-firm
+returns-in-Ok-clause-firm g c =
+    synced_firm c.args.name.now _ (g.D.Disk.told c.clear_sibling.new.disk) _ c.sync_names.result (only_wider (bytes_eq (sibling 121 c.args.name.now)) (is_working c.args.name.now) _ _ (no_y c.args.name.now) c.clear_sibling.ensures.touches) c.sync_names.ensures.done c.sync_names.ensures.half
+
+pub returns-in-Err-clause-firm : goal.returns-in-Err-clause-firm
+returns-in-Err-clause-firm g c =
+    touched_firm c.args.name.now _ _ (only_wider (bytes_eq (sibling 121 c.args.name.now)) (is_working c.args.name.now) _ _ (no_y c.args.name.now) c.clear_sibling.ensures.touches)

@@ -2,6 +2,7 @@ use Rattle.std.proofs.Common.{sym, ◌∙◌}
 use Rattle.sccs_sid.specs.declared.refusals.Refusal.TheVariants.{BadName, Unbuilt}
 use Rattle.sccs_steps.specs.Calls.{scene}
 use Rattle.sccs_steps.proofs.OperandLaws.{several, misfit, refused_runs, several_speaks, misfit_speaks, stepped_runs, step_speaks}
+use Rattle.sccs_steps.proofs.StopLoop.{refused_stops, stepped_stops}
 use Rattle.sccs_steps.proofs.operands.run_operand.Goals as goal
 
 pub returns-then-is_several-clause-step : goal.returns-then-is_several-clause-step
@@ -31,3 +32,19 @@ returns-clause-step g c = λ w m i clear shows heard.
 pub returns-clause-speaks : goal.returns-clause-speaks
 returns-clause-speaks g c =
     step_speaks (g.U.Utility.action c.args.utility.now) c.args.operand.now c.in-Some.name c.step-made.result _ _ _ _ (sym c.is_several.ensures ∙ c.if-is_several.false) (sym c.in-Some.ensures.exact) c.in-Some.ensures.found c.step-made.ensures.speaks c.conclude-2.ensures.concludes
+
+pub returns-then-is_several-clause-stops : goal.returns-then-is_several-clause-stops
+returns-then-is_several-clause-stops g c =
+    refused_stops (g.U.Utility.action c.args.utility.now) c.args.operand.now Unbuilt _ (g.I.Source.left c.args.input.now) (scene (g.D.Disk.told c.args.disk.now) (g.O.Sink.given c.args.out.now) (g.E.Sink.given c.args.err.now)) _
+    (λ m i. several (g.U.Utility.action c.args.utility.now) m i c.args.operand.now (sym c.is_several.ensures ∙ c.if-is_several.true)) c.conclude.ensures.concludes
+
+pub returns-in_default-clause-stops : goal.returns-in_default-clause-stops
+returns-in_default-clause-stops g c =
+    refused_stops (g.U.Utility.action c.args.utility.now) c.args.operand.now BadName _ (g.I.Source.left c.args.input.now) (scene (g.D.Disk.told c.args.disk.now) (g.O.Sink.given c.args.out.now) (g.E.Sink.given c.args.err.now)) _
+    (λ m i. misfit (g.U.Utility.action c.args.utility.now) m i c.args.operand.now (sym c.is_several.ensures ∙ c.if-is_several.false) (sym c.in_default.ensures.exact)) c.conclude-in_default.ensures.concludes
+
+pub returns-clause-stops : goal.returns-clause-stops
+returns-clause-stops g c =
+    stepped_stops (g.U.Utility.action c.args.utility.now) c.args.operand.now c.in-Some.name c.step-made.result _ (g.I.Source.left c.args.input.now)
+    (scene (g.D.Disk.told c.args.disk.now) (g.O.Sink.given c.args.out.now) (g.E.Sink.given c.args.err.now)) (scene (g.D.Disk.told c.step-made.new.disk) (g.O.Sink.given c.step-made.new.out) (g.E.Sink.given c.step-made.new.err)) _
+    (g.U.Utility.keeps c.args.utility.now) (sym c.is_several.ensures ∙ c.if-is_several.false) (sym c.in-Some.ensures.exact) c.in-Some.ensures.found c.step-made.ensures.reads c.step-made.ensures.moments c.conclude-2.ensures.concludes

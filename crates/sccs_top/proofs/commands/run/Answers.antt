@@ -1,11 +1,12 @@
 use Rattle.std.proofs.Common.{Err, subst}
-use Rattle.sccs_base.specs.Stream.{GivesSome}
+use Rattle.sccs_base.specs.Stream.{GivesOk, GivesSome}
 use Rattle.sccs_words.specs.Meaning.{Gives, meaning}
 use Rattle.sccs_words.specs.declared.commands.Usage.{Usage}
 use Rattle.sccs_words.specs.declared.commands.WordsFault.{WordsFault}
 use Rattle.sccs_steps.specs.Calls.{scene}
 use Rattle.sccs_top.specs.Messages.{usage_line}
-use Rattle.sccs_top.proofs.RunLaws.{command_ends, never_begun, usage_cut}
+use Rattle.sccs_top.specs.declared.answers.Answer.TheVariants as answers
+use Rattle.sccs_top.proofs.RunLaws.{command_ends, command_stops, never_begun, never_stops, usage_cut, usage_said, usage_stops}
 use Rattle.sccs_top.proofs.commands.run.Goals as goal
 
 pub returns-in-Ok-clause-steps : goal.returns-in-Ok-clause-steps
@@ -21,3 +22,23 @@ returns-in-Err-clause-steps g c =
 
 pub returns-in-Err-Memory-clause-steps : goal.returns-in-Err-Memory-clause-steps
 returns-in-Err-Memory-clause-steps g c = never_begun c.args.stamp.now (meaning c.args.words.now) (g.I.Source.left c.args.input.now) (scene (g.D.Disk.told c.args.disk.now) (g.O.Sink.given c.args.out.now) (g.E.Sink.given c.args.err.now))
+
+pub returns-in-Ok-clause-stops : goal.returns-in-Ok-clause-stops
+returns-in-Ok-clause-stops g c =
+    command_stops c.args.stamp.now (meaning c.args.words.now) c.in-Ok.command c.ended.result c.run_command.result (g.I.Source.left c.args.input.now) (scene (g.D.Disk.told c.args.disk.now) (g.O.Sink.given c.args.out.now) (g.E.Sink.given c.args.err.now)) (scene (g.D.Disk.told c.run_command.new.disk) (g.O.Sink.given c.run_command.new.out) (g.E.Sink.given c.run_command.new.err))
+    c.in-Ok.ensures.value c.ended.ensures c.run_command.ensures.stops
+
+pub returns-in-Ok-write_usage-clause-stops : goal.returns-in-Ok-write_usage-clause-stops
+returns-in-Ok-write_usage-clause-stops g c =
+    usage_said c.args.stamp.now (meaning c.args.words.now) c.in-Err-Usage.usage (answers.Finished 2) (g.I.Source.left c.args.input.now) (scene (g.D.Disk.told c.args.disk.now) (g.O.Sink.given c.args.out.now) (g.E.Sink.given c.args.err.now)) (g.E.Sink.given c.write_usage.new.out)
+    (subst (λ (fault : WordsFault). Gives (Err fault) (meaning c.args.words.now)) c.in-Err-Usage.field-0-is c.in-Err-Usage.ensures.value)
+    (subst (λ (usage : Usage). GivesOk (g.E.Sink.given c.args.err.now) (g.E.Sink.given c.write_usage.new.out) (usage_line usage)) c.in-Err-Usage.usage-is c.in-Ok-write_usage.ensures.ok)
+
+pub returns-in-Err-clause-stops : goal.returns-in-Err-clause-stops
+returns-in-Err-clause-stops g c =
+    usage_stops c.args.stamp.now (meaning c.args.words.now) c.in-Err-Usage.usage answers.WriteFault (g.I.Source.left c.args.input.now) (scene (g.D.Disk.told c.args.disk.now) (g.O.Sink.given c.args.out.now) (g.E.Sink.given c.args.err.now)) (g.E.Sink.given c.write_usage.new.out)
+    (subst (λ (fault : WordsFault). Gives (Err fault) (meaning c.args.words.now)) c.in-Err-Usage.field-0-is c.in-Err-Usage.ensures.value)
+    (subst (λ (usage : Usage). GivesSome (g.E.Sink.given c.args.err.now) (g.E.Sink.given c.write_usage.new.out) (usage_line usage)) c.in-Err-Usage.usage-is c.in-Err.ensures.err)
+
+pub returns-in-Err-Memory-clause-stops : goal.returns-in-Err-Memory-clause-stops
+returns-in-Err-Memory-clause-stops g c = never_stops c.args.stamp.now (meaning c.args.words.now) (g.I.Source.left c.args.input.now) (scene (g.D.Disk.told c.args.disk.now) (g.O.Sink.given c.args.out.now) (g.E.Sink.given c.args.err.now))

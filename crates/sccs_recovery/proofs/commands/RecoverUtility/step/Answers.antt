@@ -1,5 +1,6 @@
 use Rattle.sccs_recovery.specs.Commands.{is_locked}
 use Rattle.sccs_recovery.specs.RecoverStep.{found_text}
+use Rattle.sccs_recovery.proofs.RecoverMoments.{fault_moments, made_moments}
 use Rattle.sccs_recovery.proofs.RecoveryEnds.{fault_causes, fault_speaks, fault_steps, faults_of, is_sfile, made_steps, say_causes, say_speaks}
 use Rattle.sccs_recovery.proofs.commands.RecoverUtility.step.Goals as goal
 
@@ -26,3 +27,14 @@ returns-in-Err-clause-speaks g c = fault_speaks c.in-Err.fault c.args.name.now _
 
 pub returns-in-Err-clause-causes : goal.returns-in-Err-clause-causes
 returns-in-Err-clause-causes g c = fault_causes c.in-Err.fault _ _ _ _ _ c.recover.ensures.later c.in-Err.ensures.within c.in-Err.ensures.cause
+
+pub returns-in-Ok-clause-moments : goal.returns-in-Ok-clause-moments
+returns-in-Ok-clause-moments g c =
+    made_moments c.args.name.now c.in-Ok.found c.say.result (g.D.Disk.told c.args.disk.now) (g.D.Disk.told c.recover.new.disk) (g.I.Source.left c.args._input.now) (g.O.Sink.given c.args.out.now) _ (g.E.Sink.given c.args._err.now) (is_sfile c.args.name.now c.requires) c.in-Ok.ensures.view c.in-Ok.ensures.clean c.in-Ok.ensures.checks c.say.ensures.says
+    c.recover.ensures.story c.in-Ok.ensures.calm
+
+pub returns-in-Err-clause-moments : goal.returns-in-Err-clause-moments
+returns-in-Err-clause-moments g c =
+    fault_moments c.args.name.now c.in-Err.fault (g.D.Disk.told c.args.disk.now) (g.D.Disk.told c.recover.new.disk) (g.I.Source.left c.args._input.now) (g.O.Sink.given c.args.out.now) (g.E.Sink.given c.args._err.now) (is_sfile c.args.name.now c.requires)
+    (faults_of c.args.name.now c.in-Err.fault (g.D.Disk.told c.args.disk.now) (g.D.Disk.told c.recover.new.disk) c.in-Err.ensures.checks c.in-Err.ensures.refused c.in-Err.ensures.memory c.in-Err.ensures.cleared c.in-Err.ensures.partly c.in-Err.ensures.within)
+    c.recover.ensures.story c.recover.ensures.firm c.in-Err.ensures.touches

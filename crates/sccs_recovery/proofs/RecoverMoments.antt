@@ -1,0 +1,135 @@
+-- The moments of the command recover.
+use Rattle.std.proofs.Common.{◌≡◌, ◌↔◌, ℕ, Bool, true, false, cond, List, Option, None, Some, IfSome, IsErrOf, is_some, Result, Ok, Err, inl, inr, refl, sym, ap, subst, ◌∙◌, arith}
+use Rattle.sccs_base.specs.Name.{IsSfile, sibling}
+use Rattle.sccs_sid.specs.declared.refusals.StepFault.{StepFault}
+use Rattle.sccs_sid.specs.declared.refusals.StepFault.TheVariants.{Refused, Memory, ReadFault, WriteFault, DiskFault}
+use Rattle.sccs_disk.specs.Files.{Content, Model, View, view_of}
+use Rattle.sccs_disk.specs.Images.{Allows}
+use Rattle.sccs_disk.specs.Told.{Told, Tells, seen}
+use Rattle.sccs_pfile.specs.Recovered.{recovered_pfile}
+use Rattle.sccs_pfile.proofs.Recovering.{twice_once}
+use Rattle.sccs_files.specs.StepFiles.{is_working, look, moved}
+use Rattle.sccs_images.specs.Touches.{TouchesOnly, earlier, newest}
+use Rattle.sccs_moments.specs.Calm.{IsCalm}
+use Rattle.sccs_moments.specs.Moments.{EndsAfter, EndsWithin, IsAt, IsFrom, LeavesCalm, LeavesFirm, RecoversOn, Went}
+use Rattle.sccs_moments.specs.Recovery.{RecoversAs, recover}
+use Rattle.sccs_moments.proofs.CalmDisks.{calm_firm}
+use Rattle.sccs_moments.proofs.FileNames.{working_s}
+use Rattle.sccs_moments.proofs.Joined.{numbered_as, numbered_now, raised}
+use Rattle.sccs_moments.proofs.Recovering.{recovers_back, recovers_recovered, recovers_then, same_recovers}
+use Rattle.sccs_moments.proofs.Untouched.{before_after, ends_working, same_before}
+use Rattle.sccs_steps.specs.StepEffects.{Outcome, effect_of}
+use Rattle.sccs_steps.specs.Calls.{Meets, scene, world}
+use Rattle.sccs_steps.specs.Actions.{IsHeard}
+use Rattle.sccs_steps.specs.StepStops.{Ends, IsSafe, IsSafeFor, MeetsAt, StepMoments, place_of}
+use Rattle.sccs_steps.proofs.Safety.{placed_safe}
+use Rattle.sccs_store.specs.Commits.{Becomes}
+use Rattle.sccs_recovery.specs.Checks.{Passes, checked}
+use Rattle.sccs_recovery.specs.Commands.{Says, is_locked}
+use Rattle.sccs_recovery.specs.RecoverStep.{found_text, recover_action, recover_step, recovers, unlocked}
+use Rattle.sccs_recovery.specs.declared.recoveries.Recovered.{Recovered}
+use Rattle.sccs_recovery.specs.declared.recoveries.Recovered.TheVariants as ways
+use Rattle.sccs_recovery.proofs.RecoveryEnds.{Faults, cut_ends, fault_steps, is_said, made_ends, recovers_at, step_of}
+
+-- ---- views
+
+-- the view after the step recovers as the one before it
+after_recovers : (n : List ℕ) (v : View) → IsSfile n → RecoversAs (moved v n (recovers n (look v n)).new) v
+after_recovers n v sfile =
+    recovers_then (moved v n (recovers n (look v n)).new) (recover n v) v
+    (same_recovers (moved v n (recovers n (look v n)).new) (recover n v) (λ k other. recovers_at n v k sfile (working_s n k other)) (λ k other. recovers_at n v (sibling 112 k) sfile refl) (λ k other. ap is_some (recovers_at n v (sibling 122 k) sfile refl)))
+    (recovers_back v (recover n v) (recovers_recovered n v sfile))
+
+none_left : (s : Option Content) → recovered_pfile s None ≡ None
+none_left None = refl
+none_left (Some s) = refl
+
+-- and the name is safe again
+after_safe : (n : List ℕ) (v : View) (z : Bool) → is_some (v (sibling 122 n)) ≡ z → IsSfile n → IsSafe n v → IsSafe n (moved v n (cond z (Some (unlocked (look v n))) None))
+after_safe n v true is sfile safe =
+    placed_safe n v (unlocked (look v n)) sfile safe.plain (twice_once (v n) (v (sibling 112 n))) (λ gone. ap (recovered_pfile (v n)) (safe.paired gone) ∙ none_left (v n))
+after_safe n v false is sfile safe = safe
+
+-- ---- moments
+
+-- what recovers as an image of a calm disk recovers as its view
+as_before : (m : Model) (u : View) → IsCalm m → IsFrom m u → RecoversAs (view_of m) u
+as_before m u calm from = recovers_then (view_of m) from.0 u (calm from.0 from.1).recovers from.2
+
+made_after : (n : List ℕ) (a b : Told) (m : Model) (past : List Model) → IsSfile n → RecoversOn a b → LeavesCalm a b → a ≡ Tells m past → IsCalm m → EndsAfter (view_of m) (moved (view_of m) n (recovers n (look (view_of m) n)).new) m past b
+made_after n a b m past sfile story leaves is calm =
+    let v : View = view_of m in
+    let w : View = moved (view_of m) n (recovers n (look (view_of m) n)).new in
+    let went : Went (λ j u. IsFrom m u) m past 0 b = story m past is (calm_firm m calm) in (
+      record {
+        added = went.added;
+        is = went.is;
+        numbers =
+            raised (λ i m2. Allows (IsAt v w i) m2) 0 went.added m 0 1 (omega arith)
+            (λ u image. inl (recovers_then w v u (after_recovers n v sfile) (as_before m u calm (numbered_now (λ i m2. Allows (IsFrom m) m2) 0 went.added m 0 went.numbers u image))))
+            (numbered_as (λ i m2. Allows (IsFrom m) m2) (λ i m2. Allows (IsAt v w i) m2) 0 went.added m 0 (λ i low m2 from u image. inl (recovers_then w v u (after_recovers n v sfile) (as_before m u calm (from u image)))) went.numbers);
+        guarded = went.guarded;
+      },
+      leaves m past is (calm_firm m calm) (newest went.added m) (earlier went.added m past) went.is,
+    )
+
+stopped_within : (w : View) (a b : Told) (m : Model) (past : List Model) → RecoversOn a b → LeavesFirm a b → a ≡ Tells m past → IsCalm m → EndsWithin (view_of m) w m past b
+stopped_within w a b m past story leaves is calm =
+    let went : Went (λ j u. IsFrom m u) m past 0 b = story m past is (calm_firm m calm) in (
+      record {
+        added = went.added;
+        is = went.is;
+        numbers =
+            numbered_as (λ i m2. Allows (IsFrom m) m2) (λ i m2. Allows (IsAt (view_of m) w i) m2) 0 went.added m 0 (λ i low m2 from u image. inr (omega (arith, low), as_before m u calm (from u image))) went.numbers;
+        guarded = went.guarded;
+      },
+      leaves m past is (calm_firm m calm) (newest went.added m) (earlier went.added m past) went.is,
+    )
+
+-- ---- the call
+
+-- the name was recovered, and it is said how it was found
+made_at : (n : List ℕ) (r : Result (Unit {0}) StepFault) (m : Model) (past : List Model) (a b : Told) (out out2 err : Option (List ℕ)) → IsSfile n → seen b ≡ Some (recover n (view_of m)) → Says r (recovers n (look (view_of m) n)).out out out2
+    → EndsAfter (view_of m) (moved (view_of m) n (recovers n (look (view_of m) n)).new) m past b → IsSafeFor recover_action n (moved (view_of m) n (recovers n (look (view_of m) n)).new)
+    → (met : Meets (λ (done : Unit {0}). 0) r n (Ok (recovers n (look (view_of m) n))) (world (Some (view_of m)) out err) (world (seen b) out2 err))
+    × Ends (place_of r n (Ok (recovers n (look (view_of m) n))) (world (Some (view_of m)) out err) (world (seen b) out2 err) met) recover_action n (view_of m) (moved (view_of m) n (recovers n (look (view_of m) n)).new) m past b
+made_at n (Ok done) m past a b out out2 err sfile view says ends safe = (made_ends n (view_of m) (Ok done) (seen b) out out2 err sfile view says, (ends, safe))
+made_at n (Err WriteFault) m past a b out out2 err sfile view says ends safe = (inr (cut_ends n (view_of m) (seen b) out out2 err sfile view says), (ends, safe))
+made_at n (Err Memory) m past a b out out2 err sfile view says ends safe = absurd says
+made_at n (Err ReadFault) m past a b out out2 err sfile view says ends safe = absurd says
+made_at n (Err DiskFault) m past a b out out2 err sfile view says ends safe = absurd says
+made_at n (Err (Refused refusal)) m past a b out out2 err sfile view says ends safe = absurd says
+
+pub made_moments : (n : List ℕ) (found : Recovered) (r : Result (Unit {0}) StepFault) (a b : Told) (left out out2 err : Option (List ℕ)) → IsSfile n → Becomes (recover n) (seen a) (seen b)
+    → IfSome (seen a) (λ (v : View). (found ≡ ways.Clean) ↔ (v (sibling 122 n) ≡ None)) → IfSome (seen a) (λ (v : View). Passes (checked n v) (Ok found)) → Says r (found_text n (is_locked found)) out out2 → RecoversOn a b → LeavesCalm a b
+    → StepMoments recover_action r n left (scene a out err) (scene b out2 err)
+made_moments n found r a b left out out2 err sfile view clean checks says story leaves = λ m past i is heard calm safe.
+    let v : View = view_of m in
+    let view_is : seen b ≡ Some (recover n v) = subst (λ (t : Told). Becomes (recover n) (seen t) (seen b)) is view in
+    let clean_is : (found ≡ ways.Clean) ↔ (v (sibling 122 n) ≡ None) = subst (λ (t : Told). IfSome (seen t) (λ (u : View). (found ≡ ways.Clean) ↔ (u (sibling 122 n) ≡ None))) is clean in
+    let passed : Passes (checked n v) (Ok found) = subst (λ (t : Told). IfSome (seen t) (λ (u : View). Passes (checked n u) (Ok found))) is checks in
+    let said : Says r (recovers n (look v n)).out out out2 = subst (λ (z : Bool). Says r (found_text n z) out out2) (is_said found (v (sibling 122 n)) clean_is) says in
+    subst (λ (t : Told). MeetsAt recover_action r n (recover_step n (look v n)) v m past (scene t out err) (scene b out2 err)) (sym is)
+    (subst (λ (o : Outcome). (met : Meets (λ (done : Unit {0}). 0) r n o (world (Some v) out err) (world (seen b) out2 err)) × Ends (place_of r n o (world (Some v) out err) (world (seen b) out2 err) met) recover_action n v (moved v n (effect_of n o).new) m past b) (sym (step_of n (look v n) (Ok true) passed))
+    (made_at n r m past a b out out2 err sfile view_is said (made_after n a b m past sfile story leaves is calm) (λ changes. after_safe n v (is_some (v (sibling 122 n))) refl sfile (safe changes))))
+
+-- the call answers a fault
+fault_at : (fault : StepFault) (n : List ℕ) (o : Outcome) (a b : Told) (out err : Option (List ℕ)) (m : Model) (past : List Model) → Faults n fault a b → RecoversOn a b → LeavesFirm a b → (fault ≡ Memory → TouchesOnly (is_working n) a b) → a ≡ Tells m past → IsCalm m → IsSafeFor recover_action n (view_of m)
+    → (met : Meets (λ (done : Unit {0}). 0) (Err fault) n o (world (Some (view_of m)) out err) (world (seen b) out err)) → Ends (place_of (Err fault) n o (world (Some (view_of m)) out err) (world (seen b) out err) met) recover_action n (view_of m) (moved (view_of m) n (effect_of n o).new) m past b
+fault_at (Refused refusal) n o a b out err m past faults story leaves touches is calm safe met =
+    subst (λ (q : Outcome). EndsAfter (view_of m) (moved (view_of m) n (effect_of n q).new) m past b × IsSafeFor recover_action n (moved (view_of m) n (effect_of n q).new)) (sym met.0)
+    (before_after (view_of m) m past b (same_before m past b calm (faults.refused refusal refl ∙ is)), safe)
+fault_at Memory n o a b out err m past faults story leaves touches is calm safe met = ends_working n m past b calm (touches refl m past is)
+fault_at ReadFault n o a b out err m past faults story leaves touches is calm safe met = absurd (faults.read refl)
+fault_at WriteFault n o a b out err m past faults story leaves touches is calm safe met = absurd (faults.write refl)
+fault_at DiskFault n o a b out err m past faults story leaves touches is calm safe met = stopped_within (moved (view_of m) n (effect_of n o).new) a b m past story leaves is calm
+
+pub fault_moments : (n : List ℕ) (fault : StepFault) (a b : Told) (left out err : Option (List ℕ)) → IsSfile n → Faults n fault a b → RecoversOn a b → LeavesFirm a b → (IsErrOf {T = Recovered} (Err fault) Memory → TouchesOnly (is_working n) a b)
+    → StepMoments recover_action (Err fault) n left (scene a out err) (scene b out err)
+fault_moments n fault a b left out err sfile faults story leaves touches = λ m past i is heard calm safe.
+    let v : View = view_of m in
+    let o : Outcome = recover_step n (look v n) in
+    let met : Meets (λ (done : Unit {0}). 0) (Err fault) n o (world (Some v) out err) (world (seen b) out err) =
+    subst (λ (t : Told). IfSome (seen t) (λ (u : View). (j : List ℕ) → IsHeard false left j → Meets (λ (done : Unit {0}). 0) (Err fault) n (recover_step n (look u n)) (world (seen t) out err) (world (seen b) out err))) is (fault_steps n fault a b left out err sfile faults) i heard in
+    subst (λ (t : Told). MeetsAt recover_action (Err fault) n o v m past (scene t out err) (scene b out err)) (sym is)
+    (met, fault_at fault n o a b out err m past faults story leaves (λ e. touches (ap Err e)) is calm safe met)

@@ -1,0 +1,94 @@
+-- The moments of a list of steps that began on a calm disk, and which of the steps are acknowledged.
+use Rattle.std.specs.Prelude.{◌≡◌, ◌≢◌, ℕ, suc, ◌+◌, ◌-◌, ◌<◌, ◌≤◌, ◌⊎◌, Bool, true, false, List, [], ◌∷◌, ◌++◌, length, take, drop, Option, None, Some, Result, Err, IsOk}
+use Rattle.sccs_base.specs.Name.{IsSfile, sibling}
+use Rattle.sccs_base.specs.Stream.{GivesSome}
+use Rattle.sccs_disk.specs.Files.{Folder, Model, View, view_in}
+use Rattle.sccs_disk.specs.Told.{Tells, seen}
+use Rattle.sccs_files.specs.StepFiles.{Shows}
+use Rattle.sccs_images.specs.Touches.{newest}
+use Rattle.sccs_moments.specs.Calm.{HasFirm, IsCalm}
+use Rattle.sccs_moments.specs.Moments.{Went}
+use Rattle.sccs_moments.specs.Recovery.{RecoversAs}
+use Rattle.sccs_steps.specs.Actions.{Action, AreClear, IsHeard, IsLone, steps_at}
+use Rattle.sccs_steps.specs.Calls.{Scene, World, shown}
+use Rattle.sccs_steps.specs.StepLists.{NamedStep, err_of, folder_after, next_text, out_of}
+use Rattle.sccs_steps.specs.StepStops.{IsSafeFor}
+use Rattle.sccs_steps.specs.declared.faults.Fault.{Fault}
+use Rattle.sccs_steps.specs.declared.faults.Fault.TheVariants.{DiskFault}
+
+-- ---- where a list of steps stands
+
+-- the view after so many of the steps
+abbrev pub view_at : Folder → List NamedStep → ℕ → View
+view_at m ts k = view_in (folder_after m (take k ts))
+
+-- what is written on out before the report of the step behind so many, and on err
+abbrev pub out_before : List NamedStep → ℕ → List ℕ
+out_before ts k = out_of (take k ts) ++ next_text (drop k ts)
+
+abbrev pub err_before : List NamedStep → ℕ → List ℕ
+err_before ts k = err_of (take k ts)
+
+-- ---- acknowledged steps
+
+-- how many bytes a sink was given, where it tells them
+abbrev pub given_more : Option (List ℕ) → Option (List ℕ) → ℕ
+given_more None after = 0
+given_more (Some given) None = 0
+given_more (Some given) (Some after) = length after - length given
+
+-- The step behind k others is acknowledged: a byte of its report, or of what stands behind it, was written on out or on err, or
+-- the call answered Ok.
+abbrev pub IsAcknowledged : Result ℕ Fault → List NamedStep → ℕ → World → World → Type 0
+IsAcknowledged r ts k a b = (length (out_before ts k) < given_more a.out b.out) ⊎ ((length (err_before ts k) < given_more a.err b.err) ⊎ IsOk r)
+
+-- ---- moments
+
+-- a folder that recovers as the view of this number, or as the next one up to the last
+abbrev pub IsAtNumber : (ℕ → View) → ℕ → ℕ → View → Type 0
+IsAtNumber views last j u = (k : ℕ) × ((k ≡ j) ⊎ (k ≡ j + 1)) × (k ≤ last) × RecoversAs (views k) u
+
+-- From a calm model on: where the call ends, as a list of steps from a folder on.
+pub record ListMoments (w : List ℕ → Bool) (r : Result ℕ Fault) (folder : Folder) (ts : List NamedStep) (a b : Scene) (m : Model) (past : List Model) : Type 0 where
+  -- the number of the last moment
+  pub number : ℕ
+  pub most : number ≤ length ts
+  -- the numbers never fall, and each image of each moment recovers as the view of its number, or as the next one
+  pub went : Went (IsAtNumber (view_at folder ts) (length ts)) m past number b.told
+  -- no byte of the report of a later step is written
+  pub out : GivesSome a.out b.out (out_before ts number)
+  pub err : GivesSome a.err b.err (err_before ts number)
+  -- at Ok all steps are counted
+  pub all : IsOk r → number ≡ length ts
+  -- but at a disk fault the disk is calm, and so many steps are committed
+  pub calm : r ≢ Err DiskFault → IsCalm (newest went.added m)
+  pub committed : r ≢ Err DiskFault → Shows w (seen b.told) (view_at folder ts number)
+  -- s-files and p-files are firm, so that recovery may run next
+  pub firm : HasFirm (newest went.added m)
+
+-- ---- operands
+
+-- each operand that is taken is safe, where files are changed
+abbrev pub AreSafe : Action → List (List ℕ) → View → Type 0
+AreSafe x [] v = Unit {0}
+AreSafe x (operand ∷ operands) v = (x.fits operand ≡ true → IsSafeFor x operand v) × AreSafe x operands v
+
+-- no s-file, p-file or z-file is a working file
+pub record Spares (w : List ℕ → Bool) : Type 0 where
+  pub s : (n : List ℕ) → IsSfile n → w n ≡ false
+  pub p : (n : List ℕ) → IsSfile n → w (sibling 112 n) ≡ false
+  pub z : (n : List ℕ) → IsSfile n → w (sibling 122 n) ≡ false
+
+-- The moments of the steps of operands. The last number is at least that of each step that is acknowledged, and at Ok what was
+-- asked of the names at the start holds of them again.
+pub record RunMoments (x : Action) (operands : List (List ℕ)) (w : List ℕ → Bool) (r : Result ℕ Fault) (folder : Folder) (ts : List NamedStep) (a b : Scene) (m : Model) (past : List Model) : Type 0 where
+  pub list : ListMoments w r folder ts a b m past
+  pub acknowledged : (k : ℕ) → k < length ts → IsAcknowledged r ts k (shown a) (shown b) → suc k ≤ list.number
+  pub safe : IsOk r → AreSafe x operands (view_in (folder_after folder ts))
+
+-- what a stop leaves of the steps of these operands, where they begin on a calm disk and their names are safe
+abbrev pub StopsAll : Action → List (List ℕ) → Result ℕ Fault → Option (List ℕ) → Scene → Scene → Type 0
+StopsAll x operands r left a b = (w : List ℕ → Bool) (folder : Folder) (i : List ℕ) (m : Model) (past : List Model)
+    → Spares w → AreClear x w operands → IsLone x operands → Shows w (seen a.told) (view_in folder) → IsHeard x.takes left i
+    → a.told ≡ Tells m past → IsCalm m → AreSafe x operands (view_in folder)
+    → RunMoments x operands w r folder (steps_at x folder i operands) a b m past
