@@ -1,5 +1,5 @@
 -- Checks one after the other.
-use Rattle.std.proofs.Common.{◌≡◌, Result, Ok, Err, ap, subst, sym}
+use Rattle.std.proofs.Common.{◌≡◌, Result, Ok, Err, refl, ap, subst, sym}
 use Rattle.sccs_sid.specs.Reading.{◌>>=◌}
 use Rattle.sccs_sid.specs.declared.refusals.Refusal.{Refusal}
 use Rattle.sccs_sid.specs.declared.refusals.StepFault.{StepFault}
@@ -21,3 +21,8 @@ goes r f x is = ap (λ y. y >>= f) is
 -- the same answer to what is the same
 pub answers_as : {A : Type 0} (r s : Result A Refusal) (fault : StepFault) → r ≡ s → Answers {A = A} s (Err fault) → Answers {A = A} r (Err fault)
 answers_as r s fault is answers = subst (λ x. Answers {A = _} x (Err fault)) (sym is) answers
+
+-- where the whole is passed each check was
+pub passed : {A B : Type 0} (r : Result A Refusal) (f : A → Result B Refusal) (y : B) → (r >>= f) ≡ Ok y → (x : A) × (r ≡ Ok x) × (f x ≡ Ok y)
+passed (Ok x) f y is = (x, refl, is)
+passed (Err refusal) f y is = absurd cc

@@ -19,7 +19,7 @@ use Rattle.sccs_delta.specs.DeltaStep.{Entry, base_of, entry_of, released}
 use Rattle.sccs_delta.specs.Preparing.{FindsEntry}
 use Rattle.sccs_delta.specs.declared.bases.Base.{Base}
 use Rattle.sccs_delta.specs.declared.entries.Chosen.{Chosen}
-use Rattle.sccs_delta.proofs.Chains.{ends, goes}
+use Rattle.sccs_delta.proofs.Chains.{ends, goes, passed}
 
 -- ---- what follows each check
 
@@ -91,3 +91,16 @@ pub entry_found : (words : DeltaWords) (stamp : Stamp) (header : Header) (edits 
     → base_of header.records number edit ≡ Ok base → released header.flags edit ≡ Ok true → FindsEntry words stamp header edits (Ok (record { number = number; base = base }))
 entry_found words stamp header edits number edit base allowed is at based free =
     (edit, at, numbered words stamp header edits number edit allowed is at ∙ (goes (base_of header.records number edit) (with_base header number edit) base based ∙ goes (released header.flags edit) (λ x. Ok (record { number = number; edit = edit; base = base })) true free))
+
+-- an entry that is found has its base
+pub has_base : (words : DeltaWords) (stamp : Stamp) (header : Header) (edits : List Edit) (e : Entry) → entry_of words stamp header edits ≡ Ok e → base_of header.records e.number e.edit ≡ Ok e.base
+has_base words stamp header edits e is =
+    let allowed = passed (check (is_allowed header.users stamp.login) refusals.NotAllowed) (λ x. or_no_edit (choice (fits stamp.login words.sid true) edits) >>= with_number header edits) e (sym (entry_is words stamp header edits) ∙ is) in
+    let numbered = passed (or_no_edit (choice (fits stamp.login words.sid true) edits)) (with_number header edits) e allowed.2 in
+    let there_is = passed (there (slice_get edits (numbered.0 - 1)) refusals.NoEdit) (with_edit header numbered.0) e numbered.2 in
+    let based = passed (base_of header.records numbered.0 there_is.0) (with_base header numbered.0 there_is.0) e there_is.2 in
+    let free = passed (released header.flags there_is.0) (λ x. Ok (record { number = numbered.0; edit = there_is.0; base = based.0 })) e based.2 in
+    subst (λ (x : Entry). base_of header.records x.number x.edit ≡ Ok x.base) (the_entry numbered.0 there_is.0 based.0 e free.2) based.1
+  where
+    the_entry : (number : ℕ) (edit : Edit) (base : Base) (e : Entry) → Ok {E = Refusal} (record { number = number; edit = edit; base = base }) ≡ Ok e → record { number = number; edit = edit; base = base } ≡ e
+    the_entry number edit base e is = cc

@@ -16,7 +16,7 @@ use Rattle.sccs_files.specs.StepFiles.{Files, look}
 use Rattle.sccs_steps.specs.Actions.{IsHeard}
 use Rattle.sccs_steps.specs.Calls.{world}
 use Rattle.sccs_steps.specs.StepEffects.{check}
-use Rattle.sccs_transactions.specs.Changes.{IsUnmade, Prepares, PreparesChange, unlocked}
+use Rattle.sccs_transactions.specs.Changes.{Prepares, PreparesChange, unlocked}
 use Rattle.sccs_transactions.specs.declared.prepared.Prepared.{Prepared}
 use Rattle.sccs_pending.specs.PFiles.{Passes, is_short}
 use Rattle.sccs_words.specs.declared.commands.DeltaWords.{DeltaWords}
@@ -88,7 +88,7 @@ unheard_prepares words stamp n fault left (Some v) o2 out err sfile same hears =
     taken (inr is) = is
 
     unmade : (i : List ℕ) → Prepares (Err ReadFault) n (delta_outcome words stamp n i [] (look (unlocked n v) n)) (world (Some v) out err) (world o2 out err)
-    unmade i = subst (λ (w : Option View). IsUnmade n _ (world (Some v) out err) (world w out err)) (sym same) (record { view = λ k h. refl; out = some_none out _ })
+    unmade i = subst (λ (w : Option View). Prepares (Err ReadFault) n (delta_outcome words stamp n i [] (look (unlocked n v) n)) (world (Some v) out err) (world w out err)) (sym same) (record { view = λ k h. refl; out = some_none out _ })
 
     by : (i : List ℕ) → left ≡ Some i → Prepares (Err fault) n (delta_outcome words stamp n i [] (look (unlocked n v) n)) (world (Some v) out err) (world o2 out err)
     by i is = at fault (hears i is)

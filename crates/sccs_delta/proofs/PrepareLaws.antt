@@ -195,7 +195,7 @@ entry_end words stamp n i x fault (Some v) o2 out err sfile same sizes read find
     ended_as n _ _ fault v o2 out err same (entry_as words stamp n i v x _ read sfile sizes refl)
     (ends (entry_of words stamp x.front.header x.edits) (with_entry words stamp n i (files_at n v) (found_of n v x read)) fault (finds_answers words stamp x.front.header x.edits fault finds))
 
-abbrev entry_at : Chosen → Edit → Entry
+abbrev pub entry_at : Chosen → Edit → Entry
 entry_at c edit = record { number = c.number; edit = edit; base = c.base }
 
 pub script_end : (words : DeltaWords) (stamp : Stamp) (n i : List ℕ) (x : Pending) (c : Chosen) (fault : StepFault) (o o2 : Option View) (out err : Option (List ℕ)) → IsSfile n → o2 ≡ o → IfSome o (λ (v : View). Passes (sizes_checked i (look v n)) (Ok tt)) → IfSome o (λ (v : View). IsRead n v x)
@@ -247,7 +247,7 @@ g_kept n keep p v u sfile same g =
     g_no_working n sfile = rw (from_g 120 n sfile) (rw (from_g 113 n sfile) (from_g 121 n sfile))
 
 -- the delta of an entry, as it was found
-abbrev MakesAt : Result (List Sid) Refusal → DeltaWords → Stamp → List ℕ → Header → List Item → List Edit → Entry → List Order → Told → Told → Result Prepared StepFault → Type 0
+abbrev pub MakesAt : Result (List Sid) Refusal → DeltaWords → Stamp → List ℕ → Header → List Item → List Edit → Entry → List Order → Told → Told → Result Prepared StepFault → Type 0
 MakesAt checks words stamp n header items edits e orders a b r = MakesDelta checks words stamp n header items edits e orders (list_any has_keyword (apply orders (base_lines items e.base))) a b r
 
 files_seen : (n : List ℕ) (s p_file : Option Content) (keep : Bool) (p : Prepared) (v : View) (w : Option View) → IsSfile n → p.new_s ≡ true → Moves (is_working n) (λ x. x) (Some v) w → IfSome w (λ (u : View). u (sibling 120 n) ≡ s)
@@ -278,7 +278,7 @@ made words stamp n v found e orders checks (Err WriteFault) a b o out err sfile 
 made words stamp n v found e orders checks (Err DiskFault) a b o out err sfile here moves is makes = unwritten n _ v (seen b) out err moves
 
 -- a told file whose front was read has these items
-body_there : (s p : Option Content) (x : Pending) (set : List ℕ) (told : Option (List ℕ)) (read : AnswersPending s p (Ok x)) → IsPlaced x.front → told ≡ bytes_at s → has set 0 ≡ false → (file : List ℕ) × (told ≡ Some file) × IsBody (Some file) x.front set file read.0.items
+pub body_there : (s p : Option Content) (x : Pending) (set : List ℕ) (told : Option (List ℕ)) (read : AnswersPending s p (Ok x)) → IsPlaced x.front → told ≡ bytes_at s → has set 0 ≡ false → (file : List ℕ) × (told ≡ Some file) × IsBody (Some file) x.front set file read.0.items
 body_there None p x set told read placed same zero = absurd read.1
 body_there (Some s) p x set told read placed same zero = (
   s.bytes,
@@ -296,7 +296,7 @@ sized_by true true is = refl
 sized_by true false is = absurd cc
 sized_by false b is = absurd cc
 
-g_short : (i : List ℕ) (f : Files) → sizes_checked i f ≡ Ok true → is_short f.g ≡ true
+pub g_short : (i : List ℕ) (f : Files) → sizes_checked i f ≡ Ok true → is_short f.g ≡ true
 unfolding sizes_checked
 g_short i f is =
     let all = sized_by (is_some f.s) (is_short f.s && (is_short f.p && (is_short f.g && nat_le (length i) file_limit))) is in

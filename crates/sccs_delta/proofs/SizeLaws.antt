@@ -1,5 +1,5 @@
 -- The checks of sizes, one after the other.
-use Rattle.std.proofs.Common.{◌≡◌, ℕ, Bool, true, false, ◌&&◌, List, length, Option, None, Some, Result, Ok, Err, refl, sym, ap, subst, ◌∙◌}
+use Rattle.std.proofs.Common.{◌≡◌, ◌≤◌, ℕ, Bool, true, false, ◌&&◌, List, length, Option, None, Some, Result, Ok, Err, refl, sym, ap, subst, ◌∙◌}
 use Rattle.std.specs.Prelude.{IfSome, drop, is_some, nat_le}
 use Rattle.std.proofs.lemmas.Bool.{le-leb}
 use Rattle.sccs_base.specs.Constants.{file_limit}

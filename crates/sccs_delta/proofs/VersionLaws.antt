@@ -35,7 +35,7 @@ above_live live before (End m ∷ items) n low goes =
     let rest : above items ≤ n = above_live live (End m ∷ before) items n low goes.1 in omega (arith, here, rest)
 
 -- a body names no serial above the newest
-body_below : (records : List Record) (items : List Item) → IsTable records → GoesOn (live_serials records) [] items → above items ≤ suc (newest records)
+pub body_below : (records : List Record) (items : List Item) → IsTable records → GoesOn (live_serials records) [] items → above items ≤ suc (newest records)
 body_below records items table goes =
     above_live (live_serials records) [] items (suc (newest records)) (λ m live. let low : m ≤ newest records = at_most_newest records 65536 m table.falls (live_is_there records m live) in omega (arith, low)) goes
 

@@ -1,6 +1,9 @@
 -- What is written of a delta, part by part.
-use Rattle.std.proofs.Common.{◌≡◌, ℕ, zero, suc, ◌+◌, ◌-◌, ◌<◌, ◌≤◌, Bool, true, false, List, [], length, map, remove, Option, None, Some, Result, Ok, Err, refl, sym, ap, subst, ◌∙◌, arith}
-use Rattle.std.specs.Prelude.{IfSome, IsSome, drop}
+use Rattle.std.proofs.Common.{◌≡◌, ℕ, zero, suc, ◌+◌, ◌-◌, ◌<◌, ◌≤◌, Bool, true, false, List, [], ◌∷◌, length, map, remove, Option, None, Some, Result, Ok, Err, refl, sym, ap, subst, ◌∙◌, arith}
+use Rattle.std.specs.Prelude.{All, IfSome, IsSome, drop, slice_get}
+use Rattle.std.specs.List.{AllByRecursion}
+use Rattle.std.proofs.lemmas.List.Elements.{recursion_from_All}
+use Rattle.sccs_pfile.specs.Entries.{IsEdit}
 use Rattle.std.specs.Str.{bytes_eq}
 use Rattle.sccs_disk.proofs.Puts.{put_same}
 use Rattle.sccs_disk.specs.Files.{put}
@@ -31,8 +34,11 @@ use Rattle.sccs_edits.specs.Places.{places, spliced, told_behind}
 use Rattle.sccs_edits.specs.Plans.{plan}
 use Rattle.sccs_edits.specs.declared.scripts.Order.{Order}
 use Rattle.sccs_history.specs.Applied.{newest}
+use Rattle.sccs_history.specs.History.{IsSpelled}
 use Rattle.sccs_pfile.specs.declared.entries.Edit.{Edit}
 use Rattle.sccs_records.specs.NewDeltas.{null_delta}
+use Rattle.sccs_records.specs.declared.new_deltas.Counts.{Counts}
+use Rattle.sccs_records.specs.declared.new_deltas.NewDelta.{NewDelta}
 use Rattle.sccs_splicer.specs.Splices.{State, base_count, begun, owed}
 use Rattle.sccs_splicer.proofs.Pushes.{shown_lines}
 use Rattle.sccs_splicer.proofs.SpliceLaws.{owed_first}
@@ -86,6 +92,7 @@ no_sfile words stamp n header items edits e orders lines keyword a b DiskFault m
 
 writes_as : (n : List ℕ) (h h2 : Header) (items items2 : List Item) (edits : List Edit) (keep : Bool) (report report2 message message2 : List ℕ) (p : Prepared) (a b : Told) → h ≡ h2 → items ≡ items2 → report ≡ report2 → message ≡ message2 → WritesFiles n h items edits keep report message p a b → WritesFiles n h2 items2 edits keep report2 message2 p a b
 writes_as n h h2 items items2 edits keep report report2 message message2 p a b same_h same_items same_report same_message writes = record {
+  spelled = subst IsSpelled same_h writes.spelled;
   new_s = writes.new_s;
   report_is = writes.report_is ∙ same_report;
   message_is = writes.message_is ∙ same_message;
@@ -127,9 +134,10 @@ g_before n keep p None o2 apart moves g = tt
 g_before n keep p (Some v) None apart moves g = absurd moves
 g_before n keep p (Some v) (Some w) apart moves g = subst (λ (c : Option Content). (y : Option Content) → chosen p.new_g y c ≡ kept_g keep c) (moves (drop 2 n) apart) g
 
-pub files_written : (n : List ℕ) (h : Header) (items : List Item) (edits : List Edit) (keep : Bool) (report message : List ℕ) (p : Prepared) (a b b2 c : Told) → b2 ≡ b → bytes_eq (sibling 113 n) (sibling 120 n) ≡ false → bytes_eq (sibling 120 n) (drop 2 n) ≡ false → p.new_s ≡ true → p.report ≡ report → p.message ≡ message → WritesX h items (sibling 120 n) (seen a) (seen b) (Ok tt)
+pub files_written : (n : List ℕ) (h : Header) (items : List Item) (edits : List Edit) (keep : Bool) (report message : List ℕ) (p : Prepared) (a b b2 c : Told) → IsSpelled h → b2 ≡ b → bytes_eq (sibling 113 n) (sibling 120 n) ≡ false → bytes_eq (sibling 120 n) (drop 2 n) ≡ false → p.new_s ≡ true → p.report ≡ report → p.message ≡ message → WritesX h items (sibling 120 n) (seen a) (seen b) (Ok tt)
     → Moves (bytes_eq (sibling 113 n)) (λ v. v) (seen b2) (seen c) → PreparesEntries n edits p.new_p b2 c → Moves (bytes_eq (sibling 120 n)) (λ v. v) (seen a) (seen b) → IfSome (seen b) (λ (v : View). (y : Option Content) → chosen p.new_g y (v (drop 2 n)) ≡ kept_g keep (v (drop 2 n))) → WritesFiles n h items edits keep report message p a c
-files_written n h items edits keep report message p a b b2 c same apart apart_g new_s report_is message_is x moves entries before g = record {
+files_written n h items edits keep report message p a b b2 c spelling same apart apart_g new_s report_is message_is x moves entries before g = record {
+  spelled = spelling;
   new_s = new_s;
   report_is = report_is;
   message_is = message_is;
@@ -195,3 +203,40 @@ files_ready n edits keep p a b b2 c sfile same new_s moves_x x moves_q2 entries 
       p_file = entries.needs (λ none. subst (IsThere (sibling 112 n)) (sym same) (still_there (sibling 112 n) (bytes_eq (sibling 120 n)) (seen a) (seen b) refl moves_x p_there));
       g = g_needed n p.new_g (bytes_eq (sibling 113 n)) b c (from_g 113 n sfile) refl moves_q g.needs;
     }
+
+-- ---- the entries
+
+pub some_entries : (edits : List Edit) (number : ℕ) → 0 < number → number ≤ length edits → edits ≡ [] → ⊥
+some_entries [] number some there none = omega (arith, some, there)
+some_entries (e ∷ edits) number some there none = cc
+
+pub entry_valid : (edits : List Edit) (k : ℕ) (e : Edit) → All IsEdit edits → slice_get edits k ≡ Some e → IsEdit e
+entry_valid edits k e are at = at_place edits k (recursion_from_All IsEdit edits are) at
+  where
+    at_place : (edits : List Edit) (k : ℕ) → AllByRecursion IsEdit edits → slice_get edits k ≡ Some e → IsEdit e
+    at_place [] k are at = cc
+    at_place (x ∷ edits) zero are at = let same : x ≡ e = cc in subst IsEdit same are.0
+    at_place (x ∷ edits) (suc k) are at = at_place edits k are.1 at
+
+-- ---- the new s-file
+
+pub sfile_made : (words : DeltaWords) (stamp : Stamp) (header : Header) (edits edits2 : List Edit) (e edit : Edit) (base : Base) (orders : List Order) (lines serial : ℕ) (nulls sids : List Sid) (d : NewDelta) (counts : Counts) (s : NewSfile) (o : Option Edit) → o ≡ Some edit → o ≡ Some e → edits2 ≡ edits → nulls_of header edits2 edit ≡ Ok nulls
+    → sids ≡ nulls → s.header ≡ header_with header base.got (map (null_delta stamp) sids) d → d ≡ delta_of words stamp edit base.include base.exclude counts → counts ≡ counts_of s.copying.splicer.plan lines → s.copying.splicer ≡ begun serial (plan orders lines) → serial ≡ suc (newest header.records + length nulls)
+    → s.set ≡ base.set → s.sid ≡ edit.made → s.counts ≡ counts → MakesSfile words stamp header edits e base orders lines (Ok s)
+sfile_made words stamp header edits edits2 e edit base orders lines serial nulls sids d counts s o one two same_edits is sids_are header_is d_is counts_are splicer_is serial_is set_is sid_is said =
+    let same : edit ≡ e = the_same edit e (sym one ∙ two) in
+    let plan_counts : counts ≡ counts_of (plan orders lines) lines = counts_are ∙ ap (λ (t : State). counts_of t.plan lines) splicer_is in (
+      nulls,
+      ap (λ (l : List Edit). nulls_of header l e) (sym same_edits) ∙ (ap (nulls_of header edits2) (sym same) ∙ is),
+      record {
+        header_is = header_is ∙ (ap (λ (l : List Sid). header_with header base.got (map (null_delta stamp) l) d) sids_are
+            ∙ ap (header_with header base.got (map (null_delta stamp) nulls)) (d_is ∙ (ap (λ (x : Edit). delta_of words stamp x base.include base.exclude counts) same ∙ ap (delta_of words stamp e base.include base.exclude) plan_counts)));
+        splicer_is = splicer_is ∙ ap (λ k. begun k (plan orders lines)) serial_is;
+        set_is = set_is;
+        sid_is = sid_is ∙ ap (λ (x : Edit). x.made) same;
+        counts_is = said ∙ plan_counts;
+      },
+    )
+  where
+    the_same : (a b : Edit) → Some a ≡ Some b → a ≡ b
+    the_same a b is = cc

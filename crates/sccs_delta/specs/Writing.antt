@@ -8,6 +8,7 @@ use Rattle.sccs_sid.specs.declared.sids.Sid.{Sid}
 use Rattle.sccs_sid.specs.declared.refusals.StepFault.{StepFault}
 use Rattle.sccs_sid.specs.declared.refusals.StepFault.TheVariants.{Refused, Memory, ReadFault, WriteFault, DiskFault}
 use Rattle.sccs_history.specs.Applied.{newest}
+use Rattle.sccs_history.specs.History.{IsSpelled}
 use Rattle.sccs_history.specs.declared.headers.Header.{Header}
 use Rattle.sccs_history.specs.declared.headers.Item.{Item}
 use Rattle.sccs_edits.specs.Plans.{plan}
@@ -55,8 +56,9 @@ WritesX h items n old new (Err DiskFault) = Unit {0}
 WritesX h items n old new (Err ReadFault) = ⊥
 WritesX h items n old new (Err WriteFault) = ⊥
 
--- The x-file is this s-file, and a commit leaves these entries and the g-file or none.
+-- The x-file is this s-file, whose header has a spelling, and a commit leaves these entries and the g-file or none.
 pub record WritesFiles (n : List ℕ) (h : Header) (items : List Item) (edits : List Edit) (keep : Bool) (report message : List ℕ) (p : Prepared) (old new : Told) : Type 0 where
+  pub spelled : IsSpelled h
   pub new_s : p.new_s ≡ true
   pub report_is : p.report ≡ report
   pub message_is : p.message ≡ message

@@ -1,19 +1,33 @@
-ghost use Rattle.std.specs.Prelude.{◌≡◌, ◌+◌, ◌≤◌, ℕ, suc, List, [], Ok, None, length};
+ghost use Rattle.std.specs.Prelude.{◌≡◌, ◌+◌, ◌<◌, ◌≤◌, ℕ, suc, true, List, [], Ok, None, Some, length, remove, slice_get};
 ghost use Rattle.std.specs.List.{AllByRecursion};
+ghost use Rattle.sccs_base.specs.Login.{IsLogin};
+ghost use Rattle.sccs_sid.specs.Moment.{IsMoment};
+ghost use Rattle.sccs_sid.specs.declared.moments.Stamp.{Stamp};
+ghost use Rattle.sccs_sid.specs.declared.sids.Sid.{Sid};
 ghost use Rattle.sccs_edits.specs.Places.{places};
 ghost use Rattle.sccs_edits.specs.Plans.{plan};
 ghost use Rattle.sccs_edits.specs.Scripts.{apply};
 ghost use Rattle.sccs_edits.specs.declared.scripts.Order.{Order};
+ghost use Rattle.sccs_records.specs.declared.new_deltas.Counts.{Counts};
 ghost use Rattle.sccs_history.specs.Applied.{live_serials, newest, version};
 ghost use Rattle.sccs_history.specs.Body.{GoesOn, lines_of};
-ghost use Rattle.sccs_history.specs.History.{IsTable};
+ghost use Rattle.sccs_history.specs.History.{AreLines, IsHeader, IsSpelled, IsTable};
+ghost use Rattle.sccs_history.specs.Numbers.{has};
 ghost use Rattle.sccs_history.specs.Select.{select};
+ghost use Rattle.sccs_history.specs.declared.headers.Header.{Header};
 ghost use Rattle.sccs_history.specs.declared.headers.Item.{Item};
 ghost use Rattle.sccs_history.specs.declared.headers.Record.{Record};
+ghost use Rattle.sccs_pfile.specs.Agreement.{Agrees};
+ghost use Rattle.sccs_pfile.specs.Entries.{IsEdit};
+ghost use Rattle.sccs_pfile.specs.declared.entries.Edit.{Edit};
 ghost use Rattle.sccs_records.specs.NewDeltas.{FitsTable, with_record};
 ghost use Rattle.sccs_records.specs.declared.new_deltas.NewDelta.{NewDelta};
 ghost use Rattle.sccs_script.specs.Checks.{ranged};
+ghost use Rattle.sccs_words.specs.declared.commands.DeltaWords.{DeltaWords};
+ghost use Rattle.sccs_delta.specs.DeltaStep.{base_of, delta_of};
+ghost use Rattle.sccs_delta.specs.declared.bases.Base.{Base};
 ghost use Rattle.sccs_delta.specs.Examining.{result_of};
+ghost use Rattle.sccs_delta.specs.NullDeltas.{lines_with, null_deltas, serial_behind, skipped_by, with_nulls};
 ghost use Rattle.sccs_delta.specs.Versions.{IsOrdered, base_set};
 
 /// What a script's plan makes of its base is what the script makes of it. A script that fits a text fits a
@@ -35,4 +49,48 @@ pub fn versions_through_deltas()
         → IsTable records → GoesOn (live_serials records) [] items → m ≤ newest records
         → version m (with_record records on d) (lines_of (places items (base_set records on d) orders (suc (newest records))))
         ≡ version m records (lines_of items) }
+{}
+
+/// The null deltas of an entry that agrees with the table may be put on it, one after the other, and then the
+/// entry's delta on the last of them: the header keeps the rules, and has a spelling where it had one.
+/// sccsfile(4), "Flags", n.
+pub fn null_deltas_fit()
+    ensures rules { (header : Header) (edits : List Edit) (place number : ℕ) (edit : Edit) (base : Base) (words : DeltaWords) (stamp : Stamp) (counts : Counts)
+        → IsHeader header → Agrees header.records edits → slice_get edits place ≡ Some edit → base_of header.records number edit ≡ Ok base
+        → newest header.records + length (skipped_by header edits edit) < 65535
+        → IsHeader (with_nulls header base.got (null_deltas stamp (skipped_by header edits edit)) (delta_of words stamp edit base.include base.exclude counts)) }
+    ensures spelled { (header : Header) (edits : List Edit) (edit : Edit) (base : Base) (words : DeltaWords) (stamp : Stamp) (counts : Counts)
+        → IsSpelled header → IsEdit edit → IsMoment stamp.moment → IsLogin stamp.login → AreLines words.mrs → AreLines words.comment
+        → IsSpelled (with_nulls header base.got (null_deltas stamp (skipped_by header edits edit)) (delta_of words stamp edit base.include base.exclude counts)) }
+{}
+
+/// The entries that a delta leaves agree with the table that has its null deltas and the delta: no null delta has
+/// a SID that an entry is to make, and lists that share no live SID share none of the new ones.
+pub fn left_entries_agree()
+    ensures { (stamp : Stamp) (header : Header) (got : ℕ) (edits : List Edit) (place : ℕ) (edit : Edit) (d : NewDelta)
+        → Agrees header.records edits → slice_get edits place ≡ Some edit → d.sid ≡ edit.made
+        → Agrees (with_nulls header got (null_deltas stamp (skipped_by header edits edit)) d).records (remove edits place) }
+{}
+
+/// Behind null deltas a new delta's version is what its script makes of the base, that is of the version got
+/// with the delta's lists. Each null delta's version is that of the delta got, on which the first of them is
+/// made, and no other version changes.
+pub fn versions_through_null_deltas()
+    ensures own { (stamp : Stamp) (header : Header) (got : ℕ) (sids : List Sid) (d : NewDelta) (items : List Item) (orders : List Order)
+        → IsTable header.records → GoesOn (live_serials header.records) [] items → newest header.records + length sids < 65535
+        → AllByRecursion (λ n. has (live_serials header.records) n ≡ true) d.include
+        → AllByRecursion (λ n. has (live_serials header.records) n ≡ true) d.exclude
+        → version (serial_behind header got (null_deltas stamp sids)) (with_nulls header got (null_deltas stamp sids) d).records
+        (lines_with header got (null_deltas stamp sids) d items orders)
+        ≡ apply orders (select (base_set header.records got d) (lines_of items)) }
+    ensures nulls { (stamp : Stamp) (header : Header) (got : ℕ) (sids : List Sid) (d : NewDelta) (items : List Item) (orders : List Order)
+        → IsTable header.records → GoesOn (live_serials header.records) [] items → newest header.records + length sids < 65535
+        → (k : ℕ) → newest header.records < k → k < serial_behind header got (null_deltas stamp sids)
+        → version k (with_nulls header got (null_deltas stamp sids) d).records (lines_with header got (null_deltas stamp sids) d items orders)
+        ≡ version got header.records (lines_of items) }
+    ensures others { (stamp : Stamp) (header : Header) (got : ℕ) (sids : List Sid) (d : NewDelta) (items : List Item) (orders : List Order)
+        → IsTable header.records → GoesOn (live_serials header.records) [] items → newest header.records + length sids < 65535
+        → (m : ℕ) → m ≤ newest header.records
+        → version m (with_nulls header got (null_deltas stamp sids) d).records (lines_with header got (null_deltas stamp sids) d items orders)
+        ≡ version m header.records (lines_of items) }
 {}

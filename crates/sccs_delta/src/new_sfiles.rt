@@ -22,6 +22,7 @@ ghost use Rattle.sccs_delta.specs.Writing.{MakesSfile};
 use crate::copies::Copying;
 use crate::entries::Chosen;
 use crate::headers::{header_with, new_delta, nulls_of};
+use crate::skipping::Sids;
 use sccs_base::{Memory, Name};
 use sccs_history::Header;
 use sccs_pfile::Edits;
@@ -79,6 +80,14 @@ fn copying_of(
     Copying::new(alloc, name, front, serial, plan)
 }
 
+// the serial of a delta behind null deltas
+fn serial_behind(header: &Header, nulls: &Sids) -> u16
+    requires { newest header.now.records + length nulls.now < 65535 }
+    ensures { result ≡ suc (newest header.now.records + length nulls.now) }
+{
+    newest(&header.records) + nulls.len() as u16 + 1
+}
+
 /// What the delta of an entry makes of an s-file. Full comes exactly where no serial is left.
 pub fn new_sfile(
     alloc: Global,
@@ -110,13 +119,15 @@ pub fn new_sfile(
     ensures lines { IfOk result (λ s. s.lines ≡ lines) }
     ensures checks { RefusesWithin delta_checks result }
     ensures broke { result ≢ Err faults.DiskFault }
+    ensures read { result ≢ Err faults.ReadFault }
+    ensures write { result ≢ Err faults.WriteFault }
 {
     let edit = edits.at(chosen.number - 1);
     let nulls = match nulls_of(alloc, &front.header, edits.items(), edit) {
         Ok(nulls) => nulls,
         Err(fault) => return Err(fault),
     };
-    let serial = newest(&front.header.records) + nulls.len() as u16 + 1;
+    let serial = serial_behind(&front.header, &nulls);
     let Ok(copying) = copying_of(alloc, name, &front, script, lines, serial) else {
         return Err(StepFault::Memory);
     };

@@ -27,7 +27,7 @@ ghost use Rattle.sccs_steps.specs.Calls.{world};
 ghost use Rattle.sccs_store.specs.Stops.{OnReplace};
 ghost use Rattle.sccs_table.specs.ReaderState.{bytes_in};
 ghost use Rattle.sccs_transactions.specs.Changes.{CouldPrepare, IsReady, Prepares, unlocked};
-ghost use Rattle.sccs_transactions.specs.Stops.{IsFirmPrepared};
+ghost use Rattle.sccs_transactions.specs.Stops.{IsFirmPrepared, SettlesEntries};
 ghost use Rattle.sccs_versions.specs.Coming.{IsBody};
 ghost use Rattle.sccs_delta.specs.Copies.{CopyComes};
 ghost use Rattle.sccs_delta.specs.DeltaStep.{base_lines, could_make, delta_checks, delta_outcome, delta_report, nulls_of, warning};
@@ -310,6 +310,7 @@ pub fn prepare_delta<D: Disk>(
     ensures needs { IfOk result (λ p. IsReady name.now p (D.told disk.new)) }
     ensures touches { TouchesOnly (is_working name.now) (D.told disk.old) (D.told disk.new) }
     ensures firm { IfOk result (λ p. IsFirmPrepared name.now p (D.told disk.old) (D.told disk.new)) }
+    ensures entries { IfOk result (λ p. SettlesEntries name.now p (D.told disk.new)) }
     ensures speaks { CouldPrepare could_make result }
     ensures causes { ChangesDisk D.faults disk.old disk.new result }
 {

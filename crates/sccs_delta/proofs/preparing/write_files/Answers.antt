@@ -22,7 +22,7 @@ returns-in-Err-remove_g-clause-touches g c =
 pub returns-in-Ok-drop_entry-clause-told : goal.returns-in-Ok-drop_entry-clause-told
 returns-in-Ok-drop_entry-clause-told g c = λ bytes told is come.
     files_written c.args.name.now c.args.file.header (owed c.args.file.copying.splicer told) (remove c.args.edits (c.args.number - 1)) c.args.keep c.args.said.report c.args.said.message _
-    (g.D.Disk.told c.args.disk.now) (g.D.Disk.told c.write_x.new.disk) (g.D.Disk.told c.remove_g.new.disk) (g.D.Disk.told c.drop_entry.new.disk) c.remove_g.ensures.frame.same refl (from_g 120 c.args.name.now c.requires.sfile) refl refl refl
+    (g.D.Disk.told c.args.disk.now) (g.D.Disk.told c.write_x.new.disk) (g.D.Disk.told c.remove_g.new.disk) (g.D.Disk.told c.drop_entry.new.disk) c.requires.spelled c.remove_g.ensures.frame.same refl (from_g 120 c.args.name.now c.requires.sfile) refl refl refl
     (c.in-Ok.ensures.told bytes told is come) c.in-Ok-drop_entry.ensures.moves c.in-Ok-drop_entry.ensures.entries c.write_x.ensures.moves c.in-Ok-remove_g.ensures.leaves.chosen_is
 
 pub returns-in-Ok-drop_entry-clause-moves : goal.returns-in-Ok-drop_entry-clause-moves

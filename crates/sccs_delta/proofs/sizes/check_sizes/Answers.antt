@@ -12,11 +12,11 @@ returns-in-Err-check_short-clause-told g c =
 
 pub returns-in-Err-check_short-2-clause-told : goal.returns-in-Err-check_short-2-clause-told
 returns-in-Err-check_short-2-clause-told g c =
-    p_ends (seen (g.D.Disk.told c.args.disk.now)) (seen (g.D.Disk.told c.check_there.new.disk)) (seen (g.D.Disk.told c.check_short.new.disk)) c.args.name.now c.sibling.result.now c.args.script.now c.in-Err-check_short-2.fault
+    p_ends (seen (g.D.Disk.told c.args.disk.now)) (seen (g.D.Disk.told c.check_there.new.disk)) (seen (g.D.Disk.told c.check_short.new.disk)) c.args.name.now c.sibling.result c.args.script.now c.in-Err-check_short-2.fault
     (ap seen c.check_there.ensures.frame.same) (ap seen (c.check_short.ensures.frame.same ∙ c.check_there.ensures.frame.same)) c.sibling.ensures c.in-Ok.ensures.told c.in-Ok-check_short.ensures.told c.in-Err-check_short-2.ensures.told
 
 pub returns-clause-told : goal.returns-clause-told
 returns-clause-told g c =
-    all_sized (seen (g.D.Disk.told c.args.disk.now)) (seen (g.D.Disk.told c.check_there.new.disk)) (seen (g.D.Disk.told c.check_short.new.disk)) (seen (g.D.Disk.told c.check_short-2.new.disk)) c.args.name.now c.sibling.result.now c.module.result.now c.args.script.now c.check_short-3.result
+    all_sized (seen (g.D.Disk.told c.args.disk.now)) (seen (g.D.Disk.told c.check_there.new.disk)) (seen (g.D.Disk.told c.check_short.new.disk)) (seen (g.D.Disk.told c.check_short-2.new.disk)) c.args.name.now c.sibling.result c.module.result c.args.script.now c.check_short-3.result
     (ap seen c.check_there.ensures.frame.same) (ap seen (c.check_short.ensures.frame.same ∙ c.check_there.ensures.frame.same)) (ap seen (c.check_short-2.ensures.frame.same ∙ (c.check_short.ensures.frame.same ∙ c.check_there.ensures.frame.same)))
     c.sibling.ensures c.module.ensures c.requires.short c.in-Ok.ensures.told c.in-Ok-check_short.ensures.told c.in-Ok-check_short-2.ensures.told c.check_short-3.ensures.told
