@@ -92,6 +92,9 @@ pub entry_found : (words : DeltaWords) (stamp : Stamp) (header : Header) (edits 
 entry_found words stamp header edits number edit base allowed is at based free =
     (edit, at, numbered words stamp header edits number edit allowed is at ∙ (goes (base_of header.records number edit) (with_base header number edit) base based ∙ goes (released header.flags edit) (λ x. Ok (record { number = number; edit = edit; base = base })) true free))
 
+abbrev found_entry : Entry → Result Entry Refusal
+found_entry e = Ok e
+
 -- an entry that is found has its base
 pub has_base : (words : DeltaWords) (stamp : Stamp) (header : Header) (edits : List Edit) (e : Entry) → entry_of words stamp header edits ≡ Ok e → base_of header.records e.number e.edit ≡ Ok e.base
 has_base words stamp header edits e is =
@@ -100,7 +103,7 @@ has_base words stamp header edits e is =
     let there_is = passed (there (slice_get edits (numbered.0 - 1)) refusals.NoEdit) (with_edit header numbered.0) e numbered.2 in
     let based = passed (base_of header.records numbered.0 there_is.0) (with_base header numbered.0 there_is.0) e there_is.2 in
     let free = passed (released header.flags there_is.0) (λ x. Ok (record { number = numbered.0; edit = there_is.0; base = based.0 })) e based.2 in
-    subst (λ (x : Entry). base_of header.records x.number x.edit ≡ Ok x.base) (the_entry numbered.0 there_is.0 based.0 e free.2) based.1
+    subst (λ (x : Entry). base_of header.records x.number x.edit ≡ Ok x.base) (the_entry (record { number = numbered.0; edit = there_is.0; base = based.0 }) e free.2) based.1
   where
-    the_entry : (number : ℕ) (edit : Edit) (base : Base) (e : Entry) → Ok {E = Refusal} (record { number = number; edit = edit; base = base }) ≡ Ok e → record { number = number; edit = edit; base = base } ≡ e
-    the_entry number edit base e is = cc
+    the_entry : (a b : Entry) → found_entry a ≡ found_entry b → a ≡ b
+    the_entry a b is = cc

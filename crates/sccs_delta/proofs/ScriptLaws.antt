@@ -89,7 +89,7 @@ pub unfit_makes : (o : Option View) (words : DeltaWords) (stamp : Stamp) (n : Li
     → IfSome o (λ (v : View). is_short (v (drop 2 n)) ≡ true → MakesDelta (script_checked words header items edits e orders (v (drop 2 n))) words stamp n header items edits e orders (list_any has_keyword (apply orders (base_lines items e.base))) a b (Err fault))
 unfit_makes None words stamp n header items edits e orders a b fault fits = tt
 unfit_makes (Some v) words stamp n header items edits e orders a b fault fits = λ short.
-    makes_end (script_checked words header items edits e orders (v (drop 2 n))) words stamp n header items edits e orders _ a b fault
+    makes_end (script_checked words header items edits e orders (v (drop 2 n))) words stamp n header items edits e orders (list_any has_keyword (apply orders (base_lines items e.base))) a b fault
     (answers_by _ _ fault (checks_are words header items edits e orders (v (drop 2 n)))
     (ends (fitted header.flags orders (base_lines items e.base) (v (drop 2 n))) (λ x. mrs_checked header.flags words.mrs >>= λ y. nulls_of header edits e.edit) fault (fits_answers header.flags orders (base_lines items e.base) (v (drop 2 n)) fault (fits short))))
 
@@ -102,7 +102,7 @@ pub mrs_make : (o : Option View) (words : DeltaWords) (stamp : Stamp) (n : List 
     → IfSome o (λ (v : View). is_short (v (drop 2 n)) ≡ true → MakesDelta (script_checked words header items edits e orders (v (drop 2 n))) words stamp n header items edits e orders (list_any has_keyword (apply orders (base_lines items e.base))) a b (Err fault))
 mrs_make None words stamp n header items edits e orders found a b fault fits passes = tt
 mrs_make (Some v) words stamp n header items edits e orders found a b fault fits passes = λ short.
-    makes_end (script_checked words header items edits e orders (v (drop 2 n))) words stamp n header items edits e orders _ a b fault
+    makes_end (script_checked words header items edits e orders (v (drop 2 n))) words stamp n header items edits e orders (list_any has_keyword (apply orders (base_lines items e.base))) a b fault
     (answers_by _ _ fault (fit_checks words header items edits e orders (v (drop 2 n)) (fits short).0)
     (ends (mrs_checked header.flags words.mrs) (λ y. nulls_of header edits e.edit) fault (passes_answers (mrs_checked header.flags words.mrs) fault passes)))
 

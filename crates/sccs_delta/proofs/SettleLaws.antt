@@ -62,6 +62,9 @@ use Rattle.sccs_delta.proofs.PrepareLaws.{IsRead, MakesAt, Whole, Writes, body_t
 
 -- ---- what was passed
 
+abbrev found_sids : List Sid → Result (List Sid) Refusal
+found_sids sids = Ok sids
+
 room_of : (header : Header) (edits : List Edit) (edit : Edit) (nulls : List Sid) → nulls_of header edits edit ≡ Ok nulls → (newest header.records + length (skipped_by header edits edit) < 65535) × (nulls ≡ skipped_by header edits edit)
 unfolding nulls_of
 room_of header edits edit nulls is =
@@ -72,7 +75,7 @@ room_of header edits edit nulls is =
     checked_true true t is = refl
     checked_true false t is = absurd cc
 
-    the_sids : (a b : List Sid) → Ok {E = Refusal} a ≡ Ok b → b ≡ a
+    the_sids : (a b : List Sid) → found_sids a ≡ found_sids b → b ≡ a
     the_sids a b is = cc
 
 script_ok : (r : Result (Unit {0}) ScriptFault) (x : Unit {0}) → or_script_fault r ≡ Ok x → r ≡ Ok tt

@@ -8,7 +8,7 @@ use Rattle.sccs_delta.proofs.preparing.make.Goals as goal
 
 pub returns-in-Err-clause-told : goal.returns-in-Err-clause-told
 returns-in-Err-clause-told g c = λ bytes items e told is at lines.
-    no_sfile c.args.words.now c.args.stamp.now c.args.name.now c.args.pending.front.header items c.args.pending.edits (record { number = c.args.chosen.number; edit = e; base = c.args.chosen.base }) c.args.script.now c.args.found.now.lines c.args.found.now.keyword _ _ c.in-Err.fault (c.in-Err.ensures.makes e at)
+    no_sfile c.args.words.now c.args.stamp.now c.args.name.now c.args.pending.front.header items c.args.pending.edits (record { number = c.args.chosen.number; edit = e; base = c.args.chosen.base }) c.args.script.now c.args.found.now.lines c.args.found.now.keyword (g.D.Disk.told c.args.disk.now) (g.D.Disk.told c.args.disk.now) c.in-Err.fault (c.in-Err.ensures.makes e at)
 
 pub returns-clause-told : goal.returns-clause-told
 returns-clause-told g c = λ bytes items e told is at lines.

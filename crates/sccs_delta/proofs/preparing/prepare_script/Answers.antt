@@ -8,12 +8,12 @@ use Rattle.sccs_delta.proofs.preparing.prepare_script.Goals as goal
 
 pub returns-in-Err-clause-told : goal.returns-in-Err-clause-told
 returns-in-Err-clause-told g c = λ bytes items e told is at.
-    unfit_makes (seen (g.D.Disk.told c.args.disk.now)) c.args.words.now c.args.stamp.now c.args.name.now c.args.pending.front.header items c.args.pending.edits (record { number = c.args.chosen.number; edit = e; base = c.args.chosen.base }) c.args.script.now _ _ c.in-Err.fault
+    unfit_makes (seen (g.D.Disk.told c.args.disk.now)) c.args.words.now c.args.stamp.now c.args.name.now c.args.pending.front.header items c.args.pending.edits (record { number = c.args.chosen.number; edit = e; base = c.args.chosen.base }) c.args.script.now (g.D.Disk.told c.args.disk.now) (g.D.Disk.told c.fit.new.disk) c.in-Err.fault
     (c.in-Err.ensures.told bytes items (told_body (bytes_in (seen (g.D.Disk.told c.args.disk.now)) c.args.name.now) bytes c.args.pending.front c.args.chosen.base.set items told is))
 
 pub returns-in-Err-check_mrs-clause-told : goal.returns-in-Err-check_mrs-clause-told
 returns-in-Err-check_mrs-clause-told g c = λ bytes items e told is at.
-    mrs_make (seen (g.D.Disk.told c.args.disk.now)) c.args.words.now c.args.stamp.now c.args.name.now c.args.pending.front.header items c.args.pending.edits (record { number = c.args.chosen.number; edit = e; base = c.args.chosen.base }) c.args.script.now c.in-Ok.found _ _ c.in-Err-check_mrs.fault
+    mrs_make (seen (g.D.Disk.told c.args.disk.now)) c.args.words.now c.args.stamp.now c.args.name.now c.args.pending.front.header items c.args.pending.edits (record { number = c.args.chosen.number; edit = e; base = c.args.chosen.base }) c.args.script.now c.in-Ok.found (g.D.Disk.told c.args.disk.now) (g.D.Disk.told c.fit.new.disk) c.in-Err-check_mrs.fault
     (c.in-Ok.ensures.told bytes items (told_body (bytes_in (seen (g.D.Disk.told c.args.disk.now)) c.args.name.now) bytes c.args.pending.front c.args.chosen.base.set items told is)) c.in-Err-check_mrs.ensures.value
 
 pub returns-clause-told : goal.returns-clause-told
