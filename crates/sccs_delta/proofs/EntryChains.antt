@@ -1,5 +1,5 @@
 -- The entry of a delta, check by check.
-use Rattle.std.proofs.Common.{◌≡◌, ℕ, ◌-◌, Bool, true, false, List, Option, None, Some, Result, Ok, Err, refl, sym, ap, subst, ◌∙◌}
+use Rattle.std.proofs.Common.{◌≡◌, ℕ, ◌-◌, Bool, true, false, List, Option, Some, Result, Ok, Err, refl, sym, ap, subst, ◌∙◌}
 use Rattle.std.specs.Prelude.{slice_get}
 use Rattle.sccs_sid.specs.Reading.{◌>>=◌}
 use Rattle.sccs_sid.specs.declared.moments.Stamp.{Stamp}
@@ -18,7 +18,6 @@ use Rattle.sccs_words.specs.declared.commands.DeltaWords.{DeltaWords}
 use Rattle.sccs_delta.specs.DeltaStep.{Entry, base_of, entry_of, released}
 use Rattle.sccs_delta.specs.Preparing.{FindsEntry}
 use Rattle.sccs_delta.specs.declared.bases.Base.{Base}
-use Rattle.sccs_delta.specs.declared.entries.Chosen.{Chosen}
 use Rattle.sccs_delta.proofs.Chains.{ends, goes, passed}
 
 -- ---- what follows each check

@@ -1,5 +1,5 @@
 -- What is judged of a reading of the base, and what of the base itself.
-use Rattle.std.proofs.Common.{◌≡◌, ℕ, ◌+◌, ◌-◌, ◌≤◌, ◌^◌, Bool, true, false, not, ◌||◌, List, [], ◌∷◌, length, Option, None, Some, Result, Ok, Err, refl, sym, ap, subst, ◌∙◌, arith}
+use Rattle.std.proofs.Common.{◌≡◌, ℕ, ◌+◌, ◌-◌, ◌≤◌, Bool, true, false, not, ◌||◌, List, [], ◌∷◌, length, Option, None, Some, Result, Ok, Err, refl, sym, ap, subst, ◌∙◌, arith}
 use Rattle.std.specs.List.{AllByRecursion, list_any}
 use Rattle.std.proofs.lemmas.Bool.{leb-true}
 use Rattle.std.specs.Prelude.{IfSome, drop, is_some, option_map}
@@ -34,7 +34,7 @@ use Rattle.sccs_steps.specs.StepEffects.{check}
 use Rattle.sccs_pending.specs.PFiles.{Passes, is_short}
 use Rattle.sccs_delta.specs.DeltaStep.{compared, fitted, or_differs, or_script_fault}
 use Rattle.sccs_delta.specs.Examining.{Examines, FindsResult, first_difference, has_keyword, result_of}
-use Rattle.sccs_delta.specs.Preparing.{FindsBase, FindsFit, Fits, ReadsBase, judged}
+use Rattle.sccs_delta.specs.Preparing.{FindsBase, Fits, ReadsBase, judged}
 use Rattle.sccs_delta.specs.Versions.{IsOrdered}
 use Rattle.sccs_delta.specs.declared.examining.Found.{Found}
 use Rattle.sccs_delta.proofs.LongerBases.{fits_longer, plan_longer}

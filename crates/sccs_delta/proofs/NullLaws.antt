@@ -1,19 +1,13 @@
 -- The null deltas of a new delta, and the new one itself.
-use Rattle.std.proofs.Common.{◌≡◌, ℕ, zero, suc, ◌+◌, ◌-◌, ◌<◌, ◌≤◌, ◌==◌, Bool, true, false, not, ◌&&◌, List, [], ◌∷◌, map, length, refl, ap, arith}
-use Rattle.std.specs.Prelude.{if◌then◌else◌}
-use Rattle.std.specs.List.{AllByRecursion}
+use Rattle.std.proofs.Common.{◌≡◌, ℕ, suc, ◌+◌, List, [], ◌∷◌, map, length, refl, ap, arith}
 use Rattle.sccs_base.specs.Login.{IsLogin}
 use Rattle.sccs_sid.specs.Moment.{IsMoment}
-use Rattle.sccs_sid.specs.Sid.{IsSid}
 use Rattle.sccs_sid.specs.declared.moments.Stamp.{Stamp}
 use Rattle.sccs_sid.specs.declared.sids.Sid.{Sid}
 use Rattle.sccs_records.specs.declared.new_deltas.Counts.{Counts}
-use Rattle.sccs_flags.specs.FlagValues.{has_flag}
 use Rattle.sccs_history.specs.Applied.{newest}
 use Rattle.sccs_history.specs.History.{AreLines}
-use Rattle.sccs_history.specs.Numbers.{front_if}
 use Rattle.sccs_history.specs.declared.headers.Header.{Header}
-use Rattle.sccs_history.specs.declared.headers.Record.{Record}
 use Rattle.sccs_pfile.specs.Entries.{IsEdit}
 use Rattle.sccs_pfile.specs.declared.entries.Edit.{Edit}
 use Rattle.sccs_records.specs.NewDeltas.{HasSpellings, null_delta, with_delta, with_deltas}
@@ -21,7 +15,7 @@ use Rattle.sccs_records.specs.Texts.{some_lines}
 use Rattle.sccs_records.specs.declared.new_deltas.NewDelta.{NewDelta}
 use Rattle.sccs_words.specs.declared.commands.DeltaWords.{DeltaWords}
 use Rattle.sccs_delta.specs.declared.bases.Base.{Base}
-use Rattle.sccs_delta.specs.DeltaStep.{delta_of, skipped}
+use Rattle.sccs_delta.specs.DeltaStep.{delta_of}
 
 -- ---- the new delta
 

@@ -1,5 +1,5 @@
 -- The SIDs of the null deltas of a new delta.
-use Rattle.std.proofs.Common.{◌≡◌, ℕ, zero, suc, ◌+◌, ◌-◌, ◌<◌, ◌≤◌, ◌==◌, Bool, true, false, not, ◌&&◌, List, [], ◌∷◌, refl, arith}
+use Rattle.std.proofs.Common.{ℕ, zero, suc, ◌+◌, ◌-◌, ◌<◌, ◌≤◌, ◌==◌, Bool, true, false, not, ◌&&◌, List, [], refl, arith}
 use Rattle.std.specs.Prelude.{if◌then◌else◌}
 use Rattle.std.specs.List.{AllByRecursion}
 use Rattle.sccs_sid.specs.Sid.{IsSid}
@@ -31,4 +31,3 @@ skipped_sids header got made reserved is_got is_made =
         → AllByRecursion IsSid (if t then unused_from header.records reserved (suc got.release) (made.release - suc got.release) else [])
     by true are = are
     by false are = tt
-

@@ -1,8 +1,7 @@
 -- A delta that is prepared, check by check.
-use Rattle.std.proofs.Common.{◌≡◌, ℕ, ◌+◌, ◌-◌, ◌≤◌, Bool, true, false, ◌&&◌, List, [], length, drop, map, remove, Option, None, Some, Result, Ok, Err, refl, sym, ap, subst, ◌∙◌, arith}
-use Rattle.std.specs.Prelude.{IfSome, IsSome, is_some, nat_le, slice_get}
+use Rattle.std.proofs.Common.{◌≡◌, ℕ, ◌-◌, Bool, true, false, ◌&&◌, List, [], length, drop, Option, None, Some, Result, Ok, Err, refl, sym, ap, subst, ◌∙◌}
+use Rattle.std.specs.Prelude.{IfSome, is_some, nat_le, slice_get}
 use Rattle.std.specs.List.{list_any}
-use Rattle.std.specs.Str.{bytes_eq}
 use Rattle.std.proofs.lemmas.Bool.{and_parts}
 use Rattle.sccs_base.specs.Constants.{file_limit}
 use Rattle.sccs_base.specs.Name.{IsSfile, sibling}
@@ -21,12 +20,9 @@ use Rattle.sccs_files.specs.StepFiles.{Files, Moves, is_working, look}
 use Rattle.sccs_history.specs.Numbers.{has}
 use Rattle.sccs_history.specs.declared.headers.Header.{Header}
 use Rattle.sccs_history.specs.declared.headers.Item.{Item}
-use Rattle.sccs_grammar.specs.File.{Parsed}
-use Rattle.sccs_body.specs.BodyFile.{ShowsFile}
 use Rattle.sccs_body.proofs.FileLaws.{file_items}
 use Rattle.sccs_table.specs.FrontFile.{IsPlaced}
 use Rattle.sccs_table.specs.ReaderState.{bytes_in}
-use Rattle.sccs_table.specs.declared.fronts.Front.{Front}
 use Rattle.sccs_versions.specs.Coming.{IsBody}
 use Rattle.sccs_edits.specs.Scripts.{apply}
 use Rattle.sccs_edits.specs.declared.scripts.Order.{Order}
@@ -35,8 +31,8 @@ use Rattle.sccs_pfile.specs.declared.entries.Edit.{Edit}
 use Rattle.sccs_steps.specs.Calls.{world}
 use Rattle.sccs_steps.specs.StepEffects.{Outcome, StepEffect, check}
 use Rattle.sccs_store.specs.Commits.{chosen, files_after, replaced}
-use Rattle.sccs_moments.proofs.FileNames.{from_g, from_s, no_working}
-use Rattle.sccs_transactions.specs.Changes.{IsPrepared, IsUnmade, Prepares, plan_of, unlocked}
+use Rattle.sccs_moments.proofs.FileNames.{from_g, from_s}
+use Rattle.sccs_transactions.specs.Changes.{IsUnmade, Prepares, plan_of, unlocked}
 use Rattle.sccs_transactions.specs.declared.prepared.Prepared.{Prepared}
 use Rattle.sccs_pending.specs.NewEntries.{kept_g}
 use Rattle.sccs_pending.specs.PFiles.{Answers, Passes, is_short}
@@ -48,7 +44,7 @@ use Rattle.sccs_words.specs.declared.commands.DeltaWords.{DeltaWords}
 use Rattle.sccs_delta.specs.DeltaStep.{Entry, base_lines, delta_outcome, entry_of, fitted, makes_delta, mrs_checked, nulls_of, or_script_fault, sizes_checked}
 use Rattle.sccs_delta.specs.Examining.{has_keyword}
 use Rattle.sccs_delta.specs.Preparing.{FindsEntry}
-use Rattle.sccs_delta.specs.Writing.{MakesDelta, WritesFiles, script_checked}
+use Rattle.sccs_delta.specs.Writing.{MakesDelta, script_checked}
 use Rattle.sccs_delta.specs.declared.entries.Chosen.{Chosen}
 use Rattle.sccs_delta.proofs.Chains.{ends, goes}
 

@@ -1,7 +1,6 @@
 -- A delta that is prepared settles the entries of its name.
-use Rattle.std.proofs.Common.{◌≡◌, ℕ, suc, ◌+◌, ◌-◌, ◌<◌, ◌^◌, Bool, true, false, All, List, length, map, drop, Option, None, Some, Result, Ok, Err, refl, sym, ap, subst, ◌∙◌}
-use Rattle.std.specs.Prelude.{IfOk, IfSome, nat_lt, remove, slice_get}
-use Rattle.std.specs.List.{list_any}
+use Rattle.std.proofs.Common.{◌≡◌, ℕ, suc, ◌+◌, ◌-◌, ◌<◌, Bool, true, false, All, List, length, map, drop, Option, None, Some, Result, Ok, Err, refl, sym, ap, subst, ◌∙◌}
+use Rattle.std.specs.Prelude.{IfOk, IfSome, nat_lt, remove}
 use Rattle.std.proofs.lemmas.Bool.{leb-true}
 use Rattle.sccs_base.specs.Name.{IsSfile, sibling}
 use Rattle.sccs_disk.specs.Files.{Content, View}
@@ -14,9 +13,8 @@ use Rattle.sccs_sid.specs.declared.refusals.StepFault.{StepFault}
 use Rattle.sccs_sid.specs.Reading.{◌>>=◌}
 use Rattle.sccs_edits.specs.Places.{places}
 use Rattle.sccs_edits.specs.Plans.{plan}
-use Rattle.sccs_edits.specs.Scripts.{apply}
 use Rattle.sccs_edits.specs.declared.scripts.Order.{Order}
-use Rattle.sccs_script.specs.Checks.{HaveLines, checked}
+use Rattle.sccs_script.specs.Checks.{checked}
 use Rattle.sccs_script.specs.Commands.{orders_of}
 use Rattle.sccs_script.specs.declared.faults.ScriptFault.{ScriptFault}
 use Rattle.sccs_script.specs.declared.faults.ScriptFault.TheVariants as faults
@@ -43,15 +41,13 @@ use Rattle.sccs_store.specs.Stops.{KeepsEntries}
 use Rattle.sccs_transactions.specs.Changes.{plan_of}
 use Rattle.sccs_transactions.specs.Stops.{SettlesEntries}
 use Rattle.sccs_transactions.specs.declared.prepared.Prepared.{Prepared}
-use Rattle.sccs_moments.proofs.FileNames.{from_s}
 use Rattle.sccs_pending.specs.PFiles.{Passes, is_short}
-use Rattle.sccs_pending.specs.Pending.{AnswersPending, bytes_at}
 use Rattle.sccs_pending.specs.declared.pending.Pending.{Pending}
 use Rattle.sccs_words.specs.declared.commands.DeltaWords.{DeltaWords}
-use Rattle.sccs_delta.specs.DeltaStep.{Entry, base_lines, base_of, counts_of, delta_of, entry_of, fitted, header_with, mrs_checked, nulls_of, or_script_fault, sizes_checked}
+use Rattle.sccs_delta.specs.DeltaStep.{Entry, base_lines, counts_of, delta_of, fitted, header_with, mrs_checked, nulls_of, or_script_fault, sizes_checked}
 use Rattle.sccs_delta.specs.NullDeltas.{null_deltas, skipped_by, with_nulls}
 use Rattle.sccs_delta.specs.Preparing.{FindsEntry}
-use Rattle.sccs_delta.specs.Writing.{WritesFiles, script_checked}
+use Rattle.sccs_delta.specs.Writing.{script_checked}
 use Rattle.sccs_delta.specs.declared.entries.Chosen.{Chosen}
 use Rattle.sccs_delta.proofs.Chains.{passed}
 use Rattle.sccs_delta.proofs.DeltaStops.{delta_settles_read, settles_told}
@@ -129,17 +125,19 @@ settled words stamp n i x c orders p a b v u sfile here there alike sizes read p
     let room = room_of x.front.header x.edits e.edit told.0 passes.1 in
     let counts = counts_of (plan orders (length (base_lines read.0.items e.base))) (length (base_lines read.0.items e.base)) in
     let d = delta_of words stamp e.edit e.base.include e.base.exclude counts in
-    let x_is = subst (λ (o : Option View). IfSome o (λ (w : View). w (sibling 120 n) ≡ Some (sealed (header_with x.front.header e.base.got (map (null_delta stamp) told.0) d) (places read.0.items e.base.set orders (suc (newest x.front.header.records + length told.0)))))) there told.2.x_file in
-    (delta_settles_read n x stamp c.number e.base.got e.edit d e.base.set orders p v u read rules valid agree finds.1 refl
-    (rules_kept x.front.header x.edits (c.number - 1) c.number e.edit e.base words stamp counts rules agree finds.1 (has_base words stamp x.front.header x.edits e finds.2) room.0)
-    (subst (λ (sids : List Sid). IsSpelled (header_with x.front.header e.base.got (map (null_delta stamp) sids) d)) room.1 told.2.spelled)
-    (have_lines i orders (length (base_lines read.0.items e.base)) (orders_ok (orders_of i) orders is) passes.0)
-    (alike (sibling 112 n) refl)
-    (subst (λ (sids : List Sid). u (sibling 120 n) ≡ Some (sealed (header_with x.front.header e.base.got (map (null_delta stamp) sids) d) (places read.0.items e.base.set orders (suc (newest x.front.header.records + length sids))))) room.1 x_is
-    ∙ ap (λ k. Some (sealed (with_nulls x.front.header e.base.got (null_deltas stamp (skipped_by x.front.header x.edits e.edit)) d) (places read.0.items e.base.set orders (suc k)))) (sym (newest_nulls x.front.header e.base.got stamp (skipped_by x.front.header x.edits e.edit))))
-    told.2.new_s
-    (subst (λ (o : Option View). IfSome o (λ (w : View). (kept : Option Content) → chosen p.new_p (w (sibling 113 n)) kept ≡ pfile_of (remove x.edits (c.number - 1)))) there told.2.entries),
-    paired_there n p u _ told.2.new_s x_is)
+    let x_is = subst (λ (o : Option View). IfSome o (λ (w : View). w (sibling 120 n) ≡ Some (sealed (header_with x.front.header e.base.got (map (null_delta stamp) told.0) d) (places read.0.items e.base.set orders (suc (newest x.front.header.records + length told.0)))))) there told.2.x_file in (
+      delta_settles_read n x stamp c.number e.base.got e.edit d e.base.set orders p v u read rules valid agree finds.1 refl
+          (rules_kept x.front.header x.edits (c.number - 1) c.number e.edit e.base words stamp counts rules agree finds.1 (has_base words stamp x.front.header x.edits e finds.2) room.0)
+          (subst (λ (sids : List Sid). IsSpelled (header_with x.front.header e.base.got (map (null_delta stamp) sids) d)) room.1 told.2.spelled)
+          (have_lines i orders (length (base_lines read.0.items e.base)) (orders_ok (orders_of i) orders is) passes.0)
+          (alike (sibling 112 n) refl)
+          (subst (λ (sids : List Sid). u (sibling 120 n) ≡ Some (sealed (header_with x.front.header e.base.got (map (null_delta stamp) sids) d) (places read.0.items e.base.set orders (suc (newest x.front.header.records + length sids))))) room.1 x_is
+          ∙ ap (λ k. Some (sealed (with_nulls x.front.header e.base.got (null_deltas stamp (skipped_by x.front.header x.edits e.edit)) d) (places read.0.items e.base.set orders (suc k)))) (sym (newest_nulls x.front.header e.base.got stamp (skipped_by x.front.header x.edits e.edit))))
+          told.2.new_s
+          (subst (λ (o : Option View). IfSome o (λ (w : View). (kept : Option Content) → chosen p.new_p (w (sibling 113 n)) kept ≡ pfile_of (remove x.edits (c.number - 1)))) there told.2.entries),
+      paired_there n p u _ told.2.new_s x_is,
+    )
+
 pub delta_entries : (words : DeltaWords) (stamp : Stamp) (n i : List ℕ) (x : Pending) (c : Chosen) (orders : List Order) (r : Result Prepared StepFault) (o : Option View) (a b : Told) → IsSfile n → seen a ≡ o → IfSome o (λ (v : View). Passes (sizes_checked i (look v n)) (Ok tt)) → IfSome o (λ (v : View). IsRead n v x)
     → IsPlaced x.front → has c.base.set 0 ≡ false → IsHeader x.front.header → All IsEdit x.edits → Agrees x.front.header.records x.edits → FindsEntry words stamp x.front.header x.edits (Ok c) → or_script_fault (orders_of i) ≡ Ok orders
     → Moves (is_working n) (λ w. w) (seen a) (seen b) → Writes words stamp n x c orders r a b → IfOk r (λ p. SettlesEntries n p b)

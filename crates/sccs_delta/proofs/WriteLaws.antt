@@ -39,7 +39,7 @@ use Rattle.sccs_pfile.specs.declared.entries.Edit.{Edit}
 use Rattle.sccs_records.specs.NewDeltas.{null_delta}
 use Rattle.sccs_records.specs.declared.new_deltas.Counts.{Counts}
 use Rattle.sccs_records.specs.declared.new_deltas.NewDelta.{NewDelta}
-use Rattle.sccs_splicer.specs.Splices.{State, base_count, begun, owed}
+use Rattle.sccs_splicer.specs.Splices.{State, begun, owed}
 use Rattle.sccs_splicer.proofs.Pushes.{shown_lines}
 use Rattle.sccs_splicer.proofs.SpliceLaws.{owed_first}
 use Rattle.sccs_store.specs.SealedFiles.{sealed}
@@ -55,7 +55,7 @@ use Rattle.sccs_grammar.specs.declared.faults.FileFault.TheVariants as files
 use Rattle.sccs_history.specs.declared.headers.Header.{Header}
 use Rattle.sccs_history.specs.declared.headers.Item.{Item}
 use Rattle.sccs_delta.specs.Copies.{CopyComes, ItemsCome, MakesFile}
-use Rattle.sccs_delta.specs.Writing.{IsSfileOf, MakesDelta, MakesSfile, WritesDelta, WritesFiles, WritesX}
+use Rattle.sccs_delta.specs.Writing.{MakesDelta, MakesSfile, WritesDelta, WritesFiles, WritesX}
 
 pub x_written : (h : Header) (items : List Item) (n : List ℕ) (old new : Option View) (done : Unit {0}) → MakesFile h items n old new (Ok done) → WritesX h items n old new (Ok done)
 x_written h items n old new done makes = makes
@@ -108,13 +108,13 @@ delta_made words stamp n header items edits e orders lines keyword s report mess
   makes.0,
   makes.1,
   writes_as n s.header _ (owed s.copying.splicer (told_behind e.base.set [] items)) _ (remove edits (e.number - 1)) words.keep report _ message _ p a b
-  (makes.2.header_is ∙ ap (λ k. header_with header e.base.got (map (null_delta stamp) makes.0) (delta_of words stamp e.edit e.base.include e.base.exclude (counts_of (plan orders k) k))) is)
-  (ap (λ (t : State). owed t (told_behind e.base.set [] items)) makes.2.splicer_is
-  ∙ (owed_first (suc (newest header.records + length makes.0)) (plan orders lines) (told_behind e.base.set [] items)
-  ∙ placed_for lines is))
-  (report_is ∙ (ap (λ sid. delta_report words.silent sid s.counts) makes.2.sid_is ∙ ap (delta_report words.silent e.edit.made) (makes.2.counts_is ∙ ap (λ k. counts_of (plan orders k) k) is)))
-  message_is
-  writes,
+      (makes.2.header_is ∙ ap (λ k. header_with header e.base.got (map (null_delta stamp) makes.0) (delta_of words stamp e.edit e.base.include e.base.exclude (counts_of (plan orders k) k))) is)
+      (ap (λ (t : State). owed t (told_behind e.base.set [] items)) makes.2.splicer_is
+      ∙ (owed_first (suc (newest header.records + length makes.0)) (plan orders lines) (told_behind e.base.set [] items)
+      ∙ placed_for lines is))
+      (report_is ∙ (ap (λ sid. delta_report words.silent sid s.counts) makes.2.sid_is ∙ ap (delta_report words.silent e.edit.made) (makes.2.counts_is ∙ ap (λ k. counts_of (plan orders k) k) is)))
+      message_is
+      writes,
 )
   where
     placed_for : (k : ℕ) → k ≡ length (base_lines items e.base) → spliced (plan orders k) (suc (newest header.records + length makes.0)) (told_behind e.base.set [] items) ≡ places items e.base.set orders (suc (newest header.records + length makes.0))

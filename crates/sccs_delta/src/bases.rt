@@ -36,12 +36,7 @@ fn list_fault(fault: SetFault, number: u64) -> StepFault
 
 /// What an entry of a number says by serials. Disagree comes where its SID got is that of no live delta, or a
 /// list names a SID that is none or is in both lists; of entries that agree with the table it never comes.
-pub fn base_of(
-    alloc: Global,
-    header: &Header,
-    number: u64,
-    edit: &Edit,
-) -> Result<Base, StepFault>
+pub fn base_of(alloc: Global, header: &Header, number: u64, edit: &Edit) -> Result<Base, StepFault>
     requires { IsTable header.now.records }
     ensures value { Answers (base_of header.now.records number edit.now) result }
     ensures no_zero { IfOk result (λ b. has b.set 0 ≡ false) }

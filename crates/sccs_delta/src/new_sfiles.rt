@@ -133,7 +133,15 @@ pub fn new_sfile(
     };
     let counts = counts_of(&copying.splicer, lines);
     let base = chosen.base;
-    let Ok(delta) = new_delta(alloc, words, stamp, edit, base.include, base.exclude, counts) else {
+    let Ok(delta) = new_delta(
+        alloc,
+        words,
+        stamp,
+        edit,
+        base.include,
+        base.exclude,
+        counts,
+    ) else {
         return Err(StepFault::Memory);
     };
     let sids = nulls.items();

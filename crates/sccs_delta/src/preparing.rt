@@ -269,14 +269,7 @@ fn prepare_script<D: Disk>(
     ensures speaks { CouldPrepare could_make result }
     ensures causes { ChangesDisk D.faults disk.old disk.new result }
 {
-    let found = match fit(
-        alloc,
-        name,
-        &pending.front,
-        &chosen.base.set,
-        script,
-        disk,
-    ) {
+    let found = match fit(alloc, name, &pending.front, &chosen.base.set, script, disk) {
         Ok(found) => found,
         Err(fault) => return Err(fault),
     };

@@ -1,9 +1,9 @@
-use Rattle.std.proofs.Common.{◌≡◌, ◌<◌, ◌≤◌, List, [], length, Ok, Err, arith, sym, ap, subst, ◌∙◌}
+use Rattle.std.proofs.Common.{Ok, Err, sym, ap, subst, ◌∙◌}
 use Rattle.std.specs.Prelude.{IfSome}
 use Rattle.sccs_base.specs.Name.{sibling}
 use Rattle.sccs_disk.specs.Calls.{IsThere}
 use Rattle.sccs_disk.specs.Told.{seen}
-use Rattle.sccs_files.specs.StepFiles.{Moves, is_working}
+use Rattle.sccs_files.specs.StepFiles.{is_working}
 use Rattle.sccs_pending.specs.Pending.{AnswersPending}
 use Rattle.sccs_pending.proofs.PendingLaws.{found_there}
 use Rattle.sccs_store.proofs.Working.{same_touches}

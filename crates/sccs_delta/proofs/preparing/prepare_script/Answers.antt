@@ -1,4 +1,4 @@
-use Rattle.std.proofs.Common.{◌≡◌, ap, Some, sym, ◌∙◌}
+use Rattle.std.proofs.Common.{ap, ◌∙◌}
 use Rattle.sccs_disk.specs.Told.{seen}
 use Rattle.sccs_files.specs.StepFiles.{is_working}
 use Rattle.sccs_store.proofs.Working.{same_touches}

@@ -1,4 +1,4 @@
-use Rattle.std.proofs.Common.{◌-◌, Ok, refl, sym, ap, subst, ◌∙◌}
+use Rattle.std.proofs.Common.{◌-◌, refl, sym, subst}
 use Rattle.std.specs.Prelude.{remove}
 use Rattle.std.specs.Str.{bytes_eq}
 use Rattle.sccs_base.specs.Name.{sibling}

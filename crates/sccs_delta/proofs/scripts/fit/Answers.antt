@@ -1,4 +1,3 @@
-use Rattle.std.specs.Prelude.{drop}
 use Rattle.sccs_disk.specs.Told.{seen}
 use Rattle.sccs_history.specs.Body.{lines_of}
 use Rattle.sccs_history.specs.Select.{select}

@@ -1,8 +1,5 @@
 use Rattle.std.proofs.Common.{ap}
-use Rattle.std.specs.Prelude.{drop}
 use Rattle.sccs_disk.specs.Told.{seen}
-use Rattle.sccs_history.specs.Body.{lines_of}
-use Rattle.sccs_history.specs.Select.{select}
 use Rattle.sccs_delta.proofs.FitLaws.{base_read, base_ends}
 use Rattle.sccs_delta.proofs.scripts.read_base.Goals as goal
 

@@ -1,4 +1,4 @@
-use Rattle.std.proofs.Common.{Ok, ap, subst, sym, ◌∙◌, List}
+use Rattle.std.proofs.Common.{Ok, ap, subst, sym}
 use Rattle.std.specs.Prelude.{IfSome}
 use Rattle.sccs_disk.specs.Told.{seen}
 use Rattle.sccs_files.specs.StepFiles.{is_working}
