@@ -1,7 +1,7 @@
 use crate::tests::fixtures::{Given, PLAIN, command_on, flagged, name, sum_of, summed};
 use crate::tests::samples::{BRANCHED, SECOND, TWO_LINES};
 use crate::*;
-use sccs_disk::{FickleDisk, MemoryDisk};
+use sccs_disk::{FickleDisk, Fill, MemoryDisk};
 use std::alloc::Global;
 use std::test::Fail;
 
@@ -99,7 +99,13 @@ fn ends(alloc: Global, case: &Case) -> Result<bool, Fail> {
 }
 
 // whether a delta of ann on 1.1 is refused, and changes nothing
-fn is_refused(alloc: Global, line: &[u8], input: &[u8], err: &[u8], old: Files) -> Result<bool, Fail> {
+fn is_refused(
+    alloc: Global,
+    line: &[u8],
+    input: &[u8],
+    err: &[u8],
+    old: Files,
+) -> Result<bool, Fail> {
     ends(
         alloc,
         &Case {
@@ -365,7 +371,8 @@ fn releases_are_passed_over(rt: HostRuntime) -> Result<(), Fail> {
     };
     let mut disk = disk_of(rt.alloc(), &old, &[])?;
     assert!(rt; all_end(rt.alloc(), &mut disk, &PASSED_OVER)?);
-    let table = b"\x01s 00000/00000/00000\n\x01d D 3.1 21/03/04 05:10:00 ann 4 3\n\x01c AUTO NULL DELTA\n\x01e\n";
+    let table =
+        b"\x01s 00000/00000/00000\n\x01d D 3.1 21/03/04 05:10:00 ann 4 3\n\x01c AUTO NULL DELTA\n\x01e\n";
     assert!(rt; holds(&disk, table)?);
     assert!(rt; holds(&disk, b"\x01d D 4.1 21/03/04 05:10:00 ann 5 4\n")?);
     assert!(rt; holds(&disk, b"\x01d D 2.1 21/03/04 05:10:00 ann 3 2\n")?);
@@ -425,13 +432,19 @@ fn lists_are_taken_over(rt: HostRuntime) -> Result<(), Fail> {
     };
     let mut disk = disk_of(rt.alloc(), &old, &[])?;
     assert!(rt; all_end(rt.alloc(), &mut disk, &LISTED)?);
-    assert!(rt; holds(&disk, b"\n\x01d D 1.3 21/03/04 05:12:00 ann 4 2\n\x01i 3\n\x01c \n\x01e\n")?);
+    assert!(rt;
+        holds(
+            &disk,
+            b"\n\x01d D 1.3 21/03/04 05:12:00 ann 4 2\n\x01i 3\n\x01c \n\x01e\n"
+        )?
+    );
     Ok(())
 }
 
 #[test]
 fn serials_end(rt: HostRuntime) -> Result<(), Fail> {
-    let last = b"\x01h00000\n\x01s 00000/00000/00000\n\x01d D 1.1 21/03/04 05:06:07 ann 65535 0\n\x01c\n\x01e\n\x01u\n\x01U\n\x01t\n\x01T\n\x01I 65535\n\x01E 65535\n";
+    let last =
+        b"\x01h00000\n\x01s 00000/00000/00000\n\x01d D 1.1 21/03/04 05:06:07 ann 65535 0\n\x01c\n\x01e\n\x01u\n\x01U\n\x01t\n\x01T\n\x01I 65535\n\x01E 65535\n";
     let file = flagged(rt.alloc(), last, b"")?;
     let old = Files {
         s_file: &file,
@@ -535,5 +548,34 @@ fn bodies_are_copied_in_pieces(rt: HostRuntime) -> Result<(), Fail> {
         before = length;
     }
     assert!(rt; pauses >= 2);
+    Ok(())
+}
+
+// whether a delta that was stopped behind so many calls is made whole or not at all, and made where a byte of its
+// report was written
+fn is_whole(alloc: Global, calls: u64, names: u64, fill: Fill) -> Result<bool, Fail> {
+    let given = Given {
+        input: MID,
+        time: b"05:08:00",
+        ..PLAIN
+    };
+    let mut disk = disk_of(alloc, &EDITED, &[])?;
+    disk.stop_after(calls);
+    let seen = command_on(alloc, b"delta -ysecond s.a", &given, &mut disk)?;
+    let mut left = disk.crash(alloc, calls, names, fill)?;
+    let recovered = command_on(alloc, b"recover s.a", &PLAIN, &mut left)?;
+    let clean = command_on(alloc, b"recover s.a", &PLAIN, &mut left)?;
+    let said = recovered.answer == (Answer::Finished { status: 0 })
+        && clean.out.bytes() == b"s.a: clean\n".as_slice();
+    let unmade = seen.out.bytes().is_empty() && has(&left, &EDITED)?;
+    Ok(said && (unmade || has(&left, &ADDED)?))
+}
+
+#[test]
+fn reported_deltas_stay(rt: HostRuntime) -> Result<(), Fail> {
+    for calls in 0..60 {
+        assert!(rt; is_whole(rt.alloc(), calls, 0, Fill::Empty)?);
+        assert!(rt; is_whole(rt.alloc(), calls, 9, Fill::Written)?);
+    }
     Ok(())
 }
