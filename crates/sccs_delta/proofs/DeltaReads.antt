@@ -66,7 +66,7 @@ lines_fit lines (b ∷ tail) are = front_all HasNoLf lines ((b ∷ tail) ∷ [])
 cut_fit : (bytes : List ℕ) → AllByRecursion HasNoLf (cut bytes).lines
 cut_fit bytes = lines_fit (cut bytes).lines (cut bytes).tail (recursion_from_All HasNoLf (text_of bytes) (text_fit bytes))
 
-opened_fit : (bytes : List ℕ) → IfOk (opened bytes) (λ (o : Opened). AllByRecursion HasNoLf o.lines)
+pub opened_fit : (bytes : List ℕ) → IfOk (opened bytes) (λ (o : Opened). AllByRecursion HasNoLf o.lines)
 unfolding opened
 opened_fit bytes = by (cut bytes).lines (cut_fit bytes)
   where

@@ -1,3 +1,4 @@
+pub mod AddedVersions
 pub mod AgreeLaws
 pub mod AppendLaws
 pub mod BaseLaws
@@ -10,6 +11,7 @@ pub mod DeltaStops
 pub mod EntryBases
 pub mod EntryChains
 pub mod EntryLaws
+pub mod FileRules
 pub mod FitLaws
 pub mod HearLaws
 pub mod LongerBases
@@ -26,5 +28,6 @@ pub mod ScriptLaws
 pub mod SettleLaws
 pub mod SizeLaws
 pub mod SkippedLaws
+pub mod StepParts
 pub mod VersionLaws
 pub mod WriteLaws

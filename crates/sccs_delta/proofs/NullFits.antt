@@ -50,7 +50,7 @@ both_none : (a b : Bool) → a ≡ false → b ≡ false → (a || b) ≡ false
 both_none true b one two = one
 both_none false b one two = two
 
-same_base : (r : Result Base Refusal) (one two : Base) → r ≡ Ok one → r ≡ Ok two → one ≡ two
+pub same_base : (r : Result Base Refusal) (one two : Base) → r ≡ Ok one → r ≡ Ok two → one ≡ two
 same_base r one two is_one is_two = let same : Ok one ≡ Ok two = sym is_one ∙ is_two in cc
 
 pub delta_fits : (header : Header) (edits : List Edit) (place number : ℕ) (edit : Edit) (base : Base) (words : DeltaWords) (stamp : Stamp) (counts : Counts) → Agrees header.records edits → slice_get edits place ≡ Some edit → HasBase header.records edit base

@@ -61,7 +61,7 @@ use Rattle.sccs_delta.proofs.PrepareLaws.{IsRead, MakesAt, Whole, Writes, body_t
 abbrev found_sids : List Sid → Result (List Sid) Refusal
 found_sids sids = Ok sids
 
-room_of : (header : Header) (edits : List Edit) (edit : Edit) (nulls : List Sid) → nulls_of header edits edit ≡ Ok nulls → (newest header.records + length (skipped_by header edits edit) < 65535) × (nulls ≡ skipped_by header edits edit)
+pub room_of : (header : Header) (edits : List Edit) (edit : Edit) (nulls : List Sid) → nulls_of header edits edit ≡ Ok nulls → (newest header.records + length (skipped_by header edits edit) < 65535) × (nulls ≡ skipped_by header edits edit)
 unfolding nulls_of
 room_of header edits edit nulls is =
     let room = passed (check (nat_lt (newest header.records + length (skipped_by header edits edit)) 65535) refusals.Full) (λ left. Ok (skipped_by header edits edit)) nulls is in
@@ -81,14 +81,14 @@ script_ok (Err (faults.ScriptRange line lines)) x is = absurd cc
 script_ok (Err (faults.BadText line)) x is = absurd cc
 script_ok (Err faults.Memory) x is = absurd cc
 
-orders_ok : (r : Result (List Order) ScriptFault) (orders : List Order) → or_script_fault r ≡ Ok orders → r ≡ Ok orders
+pub orders_ok : (r : Result (List Order) ScriptFault) (orders : List Order) → or_script_fault r ≡ Ok orders → r ≡ Ok orders
 orders_ok (Ok x) orders is = let same : x ≡ orders = cc in ap (λ (l : List Order). Ok l) same
 orders_ok (Err (faults.BadScript line)) orders is = absurd cc
 orders_ok (Err (faults.ScriptRange line lines)) orders is = absurd cc
 orders_ok (Err (faults.BadText line)) orders is = absurd cc
 orders_ok (Err faults.Memory) orders is = absurd cc
 
-fitted_ok : (flags : List Flag) (orders : List Order) (base : List (List ℕ)) (g : Option Content) (t : Bool) → fitted flags orders base g ≡ Ok t → checked orders (length base) ≡ Ok tt
+pub fitted_ok : (flags : List Flag) (orders : List Order) (base : List (List ℕ)) (g : Option Content) (t : Bool) → fitted flags orders base g ≡ Ok t → checked orders (length base) ≡ Ok tt
 unfolding fitted
 fitted_ok flags orders base g t is = let first = passed (or_script_fault (checked orders (length base))) _ t is in script_ok (checked orders (length base)) first.0 first.1
 

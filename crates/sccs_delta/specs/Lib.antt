@@ -2,6 +2,7 @@ pub mod Copies
 pub mod DeltaStep
 pub mod Examining
 pub mod Locks
+pub mod NewVersions
 pub mod NullDeltas
 pub mod Preparing
 pub mod Sizes

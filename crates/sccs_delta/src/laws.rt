@@ -1,6 +1,7 @@
 ghost use Rattle.std.specs.Prelude.{◌≡◌, ◌+◌, ◌<◌, ◌≤◌, ℕ, suc, true, List, [], Ok, None, Some, length, remove, slice_get};
 ghost use Rattle.std.specs.List.{AllByRecursion};
 ghost use Rattle.sccs_base.specs.Login.{IsLogin};
+ghost use Rattle.sccs_disk.specs.Files.{Content};
 ghost use Rattle.sccs_sid.specs.Moment.{IsMoment};
 ghost use Rattle.sccs_sid.specs.declared.moments.Stamp.{Stamp};
 ghost use Rattle.sccs_sid.specs.declared.sids.Sid.{Sid};
@@ -17,16 +18,19 @@ ghost use Rattle.sccs_history.specs.Select.{select};
 ghost use Rattle.sccs_history.specs.declared.headers.Header.{Header};
 ghost use Rattle.sccs_history.specs.declared.headers.Item.{Item};
 ghost use Rattle.sccs_history.specs.declared.headers.Record.{Record};
+ghost use Rattle.sccs_files.specs.StepFiles.{Files};
 ghost use Rattle.sccs_pfile.specs.Agreement.{Agrees};
 ghost use Rattle.sccs_pfile.specs.Entries.{IsEdit};
 ghost use Rattle.sccs_pfile.specs.declared.entries.Edit.{Edit};
 ghost use Rattle.sccs_records.specs.NewDeltas.{FitsTable, with_record};
 ghost use Rattle.sccs_records.specs.declared.new_deltas.NewDelta.{NewDelta};
 ghost use Rattle.sccs_script.specs.Checks.{ranged};
+ghost use Rattle.sccs_steps.specs.StepEffects.{StepEffect};
 ghost use Rattle.sccs_words.specs.declared.commands.DeltaWords.{DeltaWords};
-ghost use Rattle.sccs_delta.specs.DeltaStep.{base_of, delta_of};
+ghost use Rattle.sccs_delta.specs.DeltaStep.{base_of, delta_of, delta_outcome};
 ghost use Rattle.sccs_delta.specs.declared.bases.Base.{Base};
 ghost use Rattle.sccs_delta.specs.Examining.{result_of};
+ghost use Rattle.sccs_delta.specs.NewVersions.{MakesVersions};
 ghost use Rattle.sccs_delta.specs.NullDeltas.{lines_with, null_deltas, serial_behind, skipped_by, with_nulls};
 ghost use Rattle.sccs_delta.specs.Versions.{IsOrdered, base_set};
 
@@ -93,4 +97,15 @@ pub fn versions_through_null_deltas()
         → (m : ℕ) → m ≤ newest header.records
         → version m (with_nulls header got (null_deltas stamp sids) d).records (lines_with header got (null_deltas stamp sids) d items orders)
         ≡ version m header.records (lines_of items) }
+{}
+
+/// A delta's step that is accepted makes an s-file that can be read. Its newest delta has the SID of the entry, and
+/// its version is what the script makes of the base: of what the set of the delta got, with the lists of the entry,
+/// shows of the file before. Each null delta's version is that of the delta got, each older one stays, and the
+/// entry leaves the p-file. POSIX, Shell and Utilities, delta.
+pub fn deltas_add_versions()
+    ensures { (words : DeltaWords) (stamp : Stamp) (n input : List ℕ) (f : Files) (s : Content) (effect : StepEffect)
+        → IsMoment stamp.moment → IsLogin stamp.login → AreLines words.mrs → AreLines words.comment
+        → f.s ≡ Some s → delta_outcome words stamp n input [] f ≡ Ok effect
+        → MakesVersions words stamp input f s effect }
 {}
