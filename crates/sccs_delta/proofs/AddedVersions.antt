@@ -162,6 +162,8 @@ module _ (words : DeltaWords) (stamp : Stamp) (moment : IsMoment stamp.moment) (
         numbered = at;
         base = record { got = base.got; include = base.include; exclude = base.exclude; alone = alone_is file e.edit e.base base };
         script = parts.script;
+        header = ap (λ (set : List ℕ). with_nulls file.header e.base.got (null_deltas stamp sids) (delta_of words stamp e.edit e.base.include e.base.exclude (counts_of (plan parts.orders (length (select set (lines_of file.items)))) (length (select set (lines_of file.items)))))) (base_set_is file.header.records e.number e.edit e.base based);
+        serial = ap suc (newest_nulls file.header e.base.got stamp sids);
         files = ap (λ (x : StepEffect). x.new) (sym parts.made)
             ∙ (ap (λ (l : List Sid). files_with file d e l (places file.items e.base.set parts.orders (suc (newest file.header.records + length l)))) room.1
             ∙ (ap (λ k. files_with file d e sids (places file.items e.base.set parts.orders (suc k))) (sym (newest_nulls file.header e.base.got stamp sids))

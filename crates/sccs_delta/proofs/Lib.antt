@@ -24,6 +24,7 @@ pub mod NullVersions
 pub mod PendingReads
 pub mod PlanResults
 pub mod PrepareLaws
+pub mod Replaying
 pub mod ScriptLaws
 pub mod SettleLaws
 pub mod SizeLaws

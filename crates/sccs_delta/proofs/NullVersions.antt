@@ -107,7 +107,7 @@ alike_select live xs ys (line ∷ lines) are alike =
 
 -- ---- the laws
 
-older_live : (records : List Record) (j : ℕ) → IsTable records → has (live_serials records) j ≡ true → j ≤ newest records
+pub older_live : (records : List Record) (j : ℕ) → IsTable records → has (live_serials records) j ≡ true → j ≤ newest records
 older_live records j table live = at_most_newest records 65536 j table.falls (live_is_there records j live)
 
 none_above : (records : List Record) (ns : List ℕ) → IsTable records → AllByRecursion (λ n. has (live_serials records) n ≡ true) ns → (m : ℕ) → newest records < m → has ns m ≡ false

@@ -5,6 +5,7 @@ pub mod Locks
 pub mod NewVersions
 pub mod NullDeltas
 pub mod Preparing
+pub mod Replays
 pub mod Sizes
 pub mod Versions
 pub mod Writing

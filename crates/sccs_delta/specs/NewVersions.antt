@@ -1,5 +1,5 @@
 -- What a delta that is made leaves, version by version: POSIX, delta; sccsfile(4), "Flags", n.
-use Rattle.std.specs.Prelude.{◌≡◌, ℕ, ◌-◌, ◌<◌, ◌≤◌, true, List, [], None, Some, Ok, remove, slice_get}
+use Rattle.std.specs.Prelude.{◌≡◌, ℕ, suc, ◌+◌, ◌-◌, ◌<◌, ◌≤◌, true, List, [], length, None, Some, Ok, remove, slice_get}
 use Rattle.sccs_disk.specs.Files.{Content}
 use Rattle.sccs_sid.specs.declared.moments.Stamp.{Stamp}
 use Rattle.sccs_history.specs.Applied.{applied, live_serials, newest, version}
@@ -7,9 +7,11 @@ use Rattle.sccs_history.specs.Body.{lines_of}
 use Rattle.sccs_history.specs.Numbers.{has}
 use Rattle.sccs_history.specs.Select.{select}
 use Rattle.sccs_grammar.specs.File.{IsSFile, Parsed}
+use Rattle.sccs_edits.specs.Plans.{plan}
 use Rattle.sccs_edits.specs.Scripts.{apply}
 use Rattle.sccs_edits.specs.declared.scripts.Order.{Order}
 use Rattle.sccs_script.specs.Commands.{orders_of}
+use Rattle.sccs_records.specs.declared.new_deltas.NewDelta.{NewDelta}
 use Rattle.sccs_sets.specs.Naming.{named_serials}
 use Rattle.sccs_sets.specs.Retrieved.{serial_of}
 use Rattle.sccs_files.specs.StepFiles.{Files}
@@ -22,7 +24,8 @@ use Rattle.sccs_store.specs.SealedFiles.{sealed}
 use Rattle.sccs_pending.specs.NewEntries.{kept_g}
 use Rattle.sccs_pending.specs.PFiles.{bytes_or_none}
 use Rattle.sccs_words.specs.declared.commands.DeltaWords.{DeltaWords}
-use Rattle.sccs_delta.specs.DeltaStep.{Entry, entry_of}
+use Rattle.sccs_delta.specs.DeltaStep.{Entry, counts_of, delta_of, entry_of}
+use Rattle.sccs_delta.specs.NullDeltas.{null_deltas, skipped_by, with_nulls}
 use Rattle.sccs_delta.specs.declared.bases.Base.{Base}
 
 -- the text of a serial's version in a file
@@ -32,6 +35,12 @@ text_in file n = version n file.header.records (lines_of file.items)
 -- the text on which a delta is made: what the set of the delta got, with the lists, shows of the file
 abbrev pub base_text : Parsed → Base → List (List ℕ)
 base_text file base = select (applied (record { target = base.got; include = base.include; exclude = base.exclude; cutoff = None }) file.header.records) (lines_of file.items)
+
+-- the new delta of an entry, with the counts of its script
+abbrev pub delta_on : DeltaWords → Stamp → Parsed → Entry → List Order → NewDelta
+delta_on words stamp file e orders =
+    let lines = length (base_text file e.base) in
+    delta_of words stamp e.edit e.base.include e.base.exclude (counts_of (plan orders lines) lines)
 
 -- A base is what an entry says by serials.
 pub record IsBaseOf (file : Parsed) (edit : Edit) (base : Base) : Type 0 where
@@ -65,6 +74,9 @@ pub record MakesVersions (words : DeltaWords) (stamp : Stamp) (input : List ℕ)
   pub numbered : slice_get edits (entry.number - 1) ≡ Some entry.edit
   pub base : IsBaseOf before entry.edit entry.base
   pub script : orders_of input ≡ Ok orders
+  -- null deltas and the new delta are put on the table, and users, flags and description stay
+  pub header : after.header ≡ with_nulls before.header entry.base.got (null_deltas stamp (skipped_by before.header edits entry.edit)) (delta_on words stamp before entry orders)
+  pub serial : newest after.header.records ≡ suc (newest before.header.records + length (skipped_by before.header edits entry.edit))
   -- the new s-file reads as this file, and the entry leaves the p-file
   pub files : effect.new ≡ Some (record { s = Some (sealed after.header after.items); p = pfile_of (remove edits (entry.number - 1)); z = None; g = kept_g words.keep f.g })
   pub reads : IsSFile (sealed after.header after.items).bytes after.header after.items

@@ -5,6 +5,7 @@ ghost use Rattle.sccs_disk.specs.Files.{Content};
 ghost use Rattle.sccs_sid.specs.Moment.{IsMoment};
 ghost use Rattle.sccs_sid.specs.declared.moments.Stamp.{Stamp};
 ghost use Rattle.sccs_sid.specs.declared.sids.Sid.{Sid};
+ghost use Rattle.sccs_grammar.specs.File.{IsSFile, Parsed};
 ghost use Rattle.sccs_edits.specs.Places.{places};
 ghost use Rattle.sccs_edits.specs.Plans.{plan};
 ghost use Rattle.sccs_edits.specs.Scripts.{apply};
@@ -31,6 +32,7 @@ ghost use Rattle.sccs_delta.specs.DeltaStep.{base_of, delta_of, delta_outcome};
 ghost use Rattle.sccs_delta.specs.declared.bases.Base.{Base};
 ghost use Rattle.sccs_delta.specs.Examining.{result_of};
 ghost use Rattle.sccs_delta.specs.NewVersions.{MakesVersions};
+ghost use Rattle.sccs_delta.specs.Replays.{DeltaCall, IsDeltaCall, ReplaysVersions};
 ghost use Rattle.sccs_delta.specs.NullDeltas.{lines_with, null_deltas, serial_behind, skipped_by, with_nulls};
 ghost use Rattle.sccs_delta.specs.Versions.{IsOrdered, base_set};
 
@@ -108,4 +110,13 @@ pub fn deltas_add_versions()
         → IsMoment stamp.moment → IsLogin stamp.login → AreLines words.mrs → AreLines words.comment
         → f.s ≡ Some s → delta_outcome words stamp n input [] f ≡ Ok effect
         → MakesVersions words stamp input f s effect }
+{}
+
+/// Behind calls of delta on an s-file, accepted or refused, the version of each live serial is its replay. The replay
+/// of a serial that was there is its version at the start, that of a null delta is the replay of the delta got, and
+/// that of a delta is what its script makes of its base: without lists of the replay of the delta got, else of
+/// what the listed set shows of the s-file just before. A refused call changes nothing.
+pub fn histories_replay()
+    ensures { (n : List ℕ) (s : Content) (file : Parsed) (calls : List DeltaCall)
+        → IsSFile s.bytes file.header file.items → AllByRecursion IsDeltaCall calls → ReplaysVersions n s file calls }
 {}
