@@ -1,4 +1,5 @@
 pub mod Listing
+pub mod MadeHistories
 pub mod Messages
 pub mod Runs
 pub mod Unbuilt

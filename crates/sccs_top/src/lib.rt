@@ -3,6 +3,7 @@
 
 mod answers;
 mod commands;
+pub mod laws;
 mod messages;
 #[cfg(test)]
 mod tests;
