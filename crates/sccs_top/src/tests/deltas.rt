@@ -99,12 +99,12 @@ fn ends(alloc: Global, case: &Case) -> Result<bool, Fail> {
 }
 
 // whether a delta of ann on 1.1 is refused, and changes nothing
-fn is_refused(
+fn is_refused<'a>(
     alloc: Global,
-    line: &[u8],
-    input: &[u8],
-    err: &[u8],
-    old: Files,
+    line: &'a [u8],
+    input: &'a [u8],
+    err: &'a [u8],
+    old: Files<'a>,
 ) -> Result<bool, Fail> {
     ends(
         alloc,
@@ -358,7 +358,15 @@ fn holds(disk: &MemoryDisk, text: &[u8]) -> Result<bool, Fail> {
     let Some(bytes) = disk.bytes(&name(b"s.a")?) else {
         return Ok(false);
     };
-    Ok(bytes.windows(text.len()).any(|part| part == text))
+    for at in 0..bytes.len() {
+        let Some(rest) = bytes.get(at..) else {
+            return Ok(false);
+        };
+        if rest.starts_with(text) {
+            return Ok(true);
+        }
+    }
+    Ok(false)
 }
 
 #[test]
@@ -539,11 +547,11 @@ fn bodies_are_copied_in_pieces(rt: HostRuntime) -> Result<(), Fail> {
         s_file: &file,
         ..EDITED
     };
-    let (mut before, mut pauses) = (0, 0);
+    let (mut before, mut pauses) = (0, 0_u64);
     for calls in 40..80 {
         let length = copied(rt.alloc(), &files, calls)?;
         if length >= 16_384 && length == before {
-            pauses = pauses + 1;
+            pauses = pauses.wrapping_add(1);
         }
         before = length;
     }
