@@ -1,0 +1,3 @@
+pub mod MadeWhole
+pub mod Marks
+pub mod Placed

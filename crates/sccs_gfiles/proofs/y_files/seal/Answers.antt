@@ -1,0 +1,19 @@
+use Rattle.sccs_disk.specs.Effects.{IsAny, protected}
+use Rattle.sccs_images.proofs.Called.{sync_firm}
+use Rattle.sccs_writers.proofs.OneFile.{only_both, only_done, only_half}
+use Rattle.sccs_store.proofs.Working.{firm_after, ok_map, sync_only}
+use Rattle.sccs_gfiles.proofs.y_files.seal.Goals as goal
+
+pub sync-requires : goal.sync-requires
+sync-requires g c = (only_done c.args.name.now protected IsAny _ _ c.in-Ok.ensures.done).there c.requires
+
+pub returns-in-Ok-clause-only : goal.returns-in-Ok-clause-only
+returns-in-Ok-clause-only g c =
+    only_both c.args.name.now _ (g.D.Disk.told c.protect.new.self) _ (only_done c.args.name.now protected IsAny _ _ c.in-Ok.ensures.done) (sync_only c.args.name.now _ _ _ _ c.sync.result c.sync.ensures)
+
+pub returns-in-Ok-clause-firm : goal.returns-in-Ok-clause-firm
+returns-in-Ok-clause-firm g c =
+    ok_map c.sync.result (λ done. firm_after c.args.name.now _ (g.D.Disk.told c.protect.new.self) _ (only_done c.args.name.now protected IsAny _ _ c.in-Ok.ensures.done) (sync_firm c.args.name.now _ _ done)) c.sync.ensures.done
+
+pub returns-in-Err-clause-only : goal.returns-in-Err-clause-only
+returns-in-Err-clause-only g c = only_half c.args.name.now protected IsAny _ _ c.in-Err.ensures.half
