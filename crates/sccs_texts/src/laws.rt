@@ -21,5 +21,5 @@ pub fn texts_without_keywords()
 pub fn texts_put_together()
     ensures { (form : LineForm) (records : List Record) (number : ℕ) (lines more : List HistoryLine)
         → formed_text form records number (lines ++ more)
-            ≡ formed_text form records number lines ++ formed_text form records (number + length lines) more }
+        ≡ formed_text form records number lines ++ formed_text form records (number + length lines) more }
 {}

@@ -5,8 +5,8 @@ ghost use Rattle.sccs_keys.specs.Expansion.{HasMoments};
 ghost use Rattle.sccs_sid.specs.Moment.{IsMoment};
 ghost use Rattle.sccs_texts.specs.Forms.{form_of};
 
-use crate::{LineForm, SidFinder, give_line};
-use sccs_base::{Line, Login, Memory, MemorySink, Name, Text};
+use crate::{HeldLine, LineForm, SidFinder, give_line};
+use sccs_base::{Line, Login, Memory, MemorySink, Name, Sink, Text};
 use sccs_history::{Record, Serials};
 use sccs_keys::Facts;
 use sccs_sid::{Moment, Sid};
@@ -96,29 +96,41 @@ fn gives(alloc: Global, form: &LineForm, wanted: &[u8]) -> Result<bool, Fail>
 fn prefixes(rt: HostRuntime) -> Result<(), Fail> {
     let alloc = rt.alloc();
     let name = Line::new(alloc, b"%I%")?;
-    let mut form = LineForm {
+    let bare = LineForm {
         module_name: None,
         has_sids: false,
         facts: None,
     };
-    let none = gives(alloc, &form, b"%C% of %M%\n\n%C%\nend\n")?;
-    form.has_sids = true;
+    let none = gives(alloc, &bare, b"%C% of %M%\n\n%C%\nend\n")?;
+    let with_sids = LineForm {
+        module_name: None,
+        has_sids: true,
+        facts: None,
+    };
     let sids = gives(
         alloc,
-        &form,
+        &with_sids,
         b"1.1\t%C% of %M%\n1.1\t\n1.3\t%C%\n1.2\tend\n",
     )?;
-    form.module_name = Some(&name);
-    let both = gives(
-        alloc,
-        &form,
-        b"%I%\t1.1\t%C% of %M%\n%I%\t1.1\t\n%I%\t1.3\t%C%\n%I%\t1.2\tend\n",
-    )?;
-    form.has_sids = false;
+    let with_name = LineForm {
+        module_name: Some(&name),
+        has_sids: false,
+        facts: None,
+    };
     let names = gives(
         alloc,
-        &form,
+        &with_name,
         b"%I%\t%C% of %M%\n%I%\t\n%I%\t%C%\n%I%\tend\n",
+    )?;
+    let with_both = LineForm {
+        module_name: Some(&name),
+        has_sids: true,
+        facts: None,
+    };
+    let both = gives(
+        alloc,
+        &with_both,
+        b"%I%\t1.1\t%C% of %M%\n%I%\t1.1\t\n%I%\t1.3\t%C%\n%I%\t1.2\tend\n",
     )?;
     assert!(rt; none & sids & both & names);
     Ok(())
@@ -129,22 +141,20 @@ fn keywords_behind_prefixes(rt: HostRuntime) -> Result<(), Fail> {
     let alloc = rt.alloc();
     let name = Line::new(alloc, b"%I%")?;
     let facts = facts(alloc)?;
-    let plain = gives(
-        alloc,
-        &LineForm {
-            module_name: None,
-            has_sids: false,
-            facts: Some(&facts),
-        },
-        b"1 of a\n\n3\nend\n",
-    )?;
+    let alone = LineForm {
+        module_name: None,
+        has_sids: false,
+        facts: Some(&facts),
+    };
+    let plain = gives(alloc, &alone, b"1 of a\n\n3\nend\n")?;
+    let form = LineForm {
+        module_name: Some(&name),
+        has_sids: true,
+        facts: Some(&facts),
+    };
     let behind = gives(
         alloc,
-        &LineForm {
-            module_name: Some(&name),
-            has_sids: true,
-            facts: Some(&facts),
-        },
+        &form,
         b"%I%\t1.1\t1 of a\n%I%\t1.1\t\n%I%\t1.3\t3\n%I%\t1.2\tend\n",
     )?;
     assert!(rt; plain & behind);
@@ -183,5 +193,22 @@ fn fails(alloc: Global, room: u64) -> Result<bool, Fail> {
 fn sink_without_room(rt: HostRuntime) -> Result<(), Fail> {
     let alloc = rt.alloc();
     assert!(rt; fails(alloc, 0)? & fails(alloc, 3)? & fails(alloc, 5)? & !fails(alloc, 6)?);
+    Ok(())
+}
+
+// whether two lines are held one after the other, each by itself
+fn holds(alloc: Global) -> Result<bool, Fail> {
+    let mut held = HeldLine::new(alloc);
+    held.give(b"1.1\t")?;
+    held.give(b"a\n")?;
+    let first = held.bytes() == b"1.1\ta\n".as_slice();
+    held.clear();
+    held.give(b"b\n")?;
+    Ok(first & (held.bytes() == b"b\n".as_slice()))
+}
+
+#[test]
+fn lines_held(rt: HostRuntime) -> Result<(), Fail> {
+    assert!(rt; holds(rt.alloc())?);
     Ok(())
 }
