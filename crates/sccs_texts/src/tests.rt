@@ -122,6 +122,14 @@ fn prefixes(rt: HostRuntime) -> Result<(), Fail> {
         &with_name,
         b"%I%\t%C% of %M%\n%I%\t\n%I%\t%C%\n%I%\tend\n",
     )?;
+    assert!(rt; none & sids & names);
+    Ok(())
+}
+
+#[test]
+fn both_prefixes(rt: HostRuntime) -> Result<(), Fail> {
+    let alloc = rt.alloc();
+    let name = Line::new(alloc, b"%I%")?;
     let with_both = LineForm {
         module_name: Some(&name),
         has_sids: true,
@@ -132,7 +140,7 @@ fn prefixes(rt: HostRuntime) -> Result<(), Fail> {
         &with_both,
         b"%I%\t1.1\t%C% of %M%\n%I%\t1.1\t\n%I%\t1.3\t%C%\n%I%\t1.2\tend\n",
     )?;
-    assert!(rt; none & sids & both & names);
+    assert!(rt; both);
     Ok(())
 }
 
