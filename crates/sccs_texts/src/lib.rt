@@ -1,0 +1,14 @@
+//! The lines of a version as get gives them: module name, SID, and the line with its keywords replaced.
+#![tactic(auto)]
+
+mod finders;
+mod forms;
+mod held_lines;
+mod laws;
+#[cfg(test)]
+mod tests;
+
+pub use finders::SidFinder;
+pub use forms::{LineForm, give_line};
+pub use held_lines::HeldLine;
+pub use laws::{lines_as_they_are, texts_put_together, texts_without_keywords};
