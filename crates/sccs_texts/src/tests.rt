@@ -93,40 +93,6 @@ fn gives(alloc: Global, form: &LineForm, wanted: &[u8]) -> Result<bool, Fail>
 }
 
 #[test]
-fn prefixes(rt: HostRuntime) -> Result<(), Fail> {
-    let alloc = rt.alloc();
-    let name = Line::new(alloc, b"%I%")?;
-    let bare = LineForm {
-        module_name: None,
-        has_sids: false,
-        facts: None,
-    };
-    let none = gives(alloc, &bare, b"%C% of %M%\n\n%C%\nend\n")?;
-    let with_sids = LineForm {
-        module_name: None,
-        has_sids: true,
-        facts: None,
-    };
-    let sids = gives(
-        alloc,
-        &with_sids,
-        b"1.1\t%C% of %M%\n1.1\t\n1.3\t%C%\n1.2\tend\n",
-    )?;
-    let with_name = LineForm {
-        module_name: Some(&name),
-        has_sids: false,
-        facts: None,
-    };
-    let names = gives(
-        alloc,
-        &with_name,
-        b"%I%\t%C% of %M%\n%I%\t\n%I%\t%C%\n%I%\tend\n",
-    )?;
-    assert!(rt; none & sids & names);
-    Ok(())
-}
-
-#[test]
 fn both_prefixes(rt: HostRuntime) -> Result<(), Fail> {
     let alloc = rt.alloc();
     let name = Line::new(alloc, b"%I%")?;
