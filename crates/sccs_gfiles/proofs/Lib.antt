@@ -1,3 +1,4 @@
 pub mod MadeWhole
 pub mod Marks
+pub mod OwnFiles
 pub mod Placed

@@ -1,4 +1,5 @@
-ghost use Rattle.std.specs.Prelude.{◌≡◌, ◌≤◌, drop, IfOk, OnErr, OnOk};
+ghost use Rattle.std.specs.Prelude.{◌≡◌, ◌≤◌, ◌||◌, drop, IfOk, OnErr, OnOk};
+ghost use Rattle.std.specs.Str.{bytes_eq};
 ghost use Rattle.sccs_base.specs.Name.{IsSfile, sibling};
 ghost use Rattle.sccs_base.specs.Stream.{Rose};
 ghost use Rattle.sccs_disk.specs.Calls.{IsThere};
@@ -6,6 +7,7 @@ ghost use Rattle.sccs_disk.specs.Effects.{renamed};
 ghost use Rattle.sccs_disk.specs.Told.{seen};
 ghost use Rattle.sccs_gfiles.specs.Finished.{MayWrite};
 ghost use Rattle.sccs_gfiles.specs.Placing.{HalfPlaces, PlaceEnds, PlaceStops, Places};
+ghost use Rattle.sccs_moments.specs.Unlocked.{KeepsOthers};
 ghost use Rattle.sccs_store.specs.Commits.{Becomes, MayBecome};
 
 use sccs_base::{Failed, Name};
@@ -52,6 +54,7 @@ pub fn place_g<D: Disk>(disk: &mut D, name: &Name) -> Result<(), Failed>
     ensures halfway { OnErr result (MayBecome (renamed (sibling 121 name.now) (drop 2 name.now)) (seen (D.told disk.old)) (seen (D.told disk.new))) }
     ensures stopped { OnErr result (PlaceStops name.now (D.told disk.old) (D.told disk.new)) }
     ensures calm { OnOk result (PlaceEnds name.now (D.told disk.old) (D.told disk.new)) }
+    ensures others { KeepsOthers (λ k. bytes_eq (sibling 121 name.now) k || bytes_eq (drop 2 name.now) k) (D.told disk.old) (D.told disk.new) }
     ensures later { D.faults disk.old ≤ D.faults disk.new }
     ensures cause { OnErr result (Rose (D.faults disk.old) (D.faults disk.new)) }
 {

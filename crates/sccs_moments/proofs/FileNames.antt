@@ -49,13 +49,16 @@ s_and_g n sfile = other_bytes n (drop 2 n) (λ e. let e2 = ap length e in omega 
 
 -- ---- working files
 
-left_false : (x y : Bool) → (x || y) ≡ false → x ≡ false
+pub left_false : (x y : Bool) → (x || y) ≡ false → x ≡ false
 left_false true y h = cc
 left_false false y h = refl
 
-right_false : (x y : Bool) → (x || y) ≡ false → y ≡ false
+pub right_false : (x y : Bool) → (x || y) ≡ false → y ≡ false
 right_false true y h = cc
 right_false false y h = h
+
+pub both_false : (x y : Bool) → x ≡ false → y ≡ false → (x || y) ≡ false
+both_false x y a b = cc
 
 pub no_x : (n k : List ℕ) → is_working n k ≡ false → bytes_eq (sibling 120 n) k ≡ false
 no_x n k h = left_false _ _ h

@@ -3,4 +3,5 @@ pub mod FileNames
 pub mod Full
 pub mod Joined
 pub mod Recovering
+pub mod Unlocked
 pub mod Untouched

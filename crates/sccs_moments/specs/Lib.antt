@@ -1,3 +1,4 @@
 pub mod Calm
 pub mod Moments
 pub mod Recovery
+pub mod Unlocked

@@ -1,8 +1,9 @@
 pub mod Committed
 pub mod HeldLocks
+pub mod OwnFiles
 pub mod Parts
-pub mod Stages
 pub mod SealedLaws
+pub mod Stages
 pub mod Swaps
-pub mod Working
 pub mod WholeSteps
+pub mod Working

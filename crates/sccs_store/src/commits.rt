@@ -4,6 +4,7 @@ ghost use Rattle.sccs_base.specs.Stream.{Rose};
 ghost use Rattle.sccs_disk.specs.Calls.{IsThere};
 ghost use Rattle.sccs_disk.specs.Told.{seen};
 ghost use Rattle.sccs_moments.specs.Recovery.{without};
+ghost use Rattle.sccs_moments.specs.Unlocked.{KeepsOthers, is_own};
 ghost use Rattle.sccs_store.specs.Commits.{Becomes, IsPart, MayBecome, Needs, committed, plan, replaced, swapped};
 ghost use Rattle.sccs_store.specs.Stops.{CommitEnds, CommitStops, HalfSwaps, HalfUnlocks, Swaps, Unlocks};
 
@@ -118,6 +119,7 @@ pub fn commit<D: Disk>(
     ensures halfway { OnErr result (IsPart name.now (plan new_s new_p new_g) (seen (D.told disk.old)) (seen (D.told disk.new))) }
     ensures stopped { OnErr result (CommitStops name.now (plan new_s new_p new_g) (D.told disk.old) (D.told disk.new)) }
     ensures calm { OnOk result (CommitEnds name.now (plan new_s new_p new_g) (D.told disk.old) (D.told disk.new)) }
+    ensures others { KeepsOthers (is_own name.now) (D.told disk.old) (D.told disk.new) }
     ensures later { D.faults disk.old ≤ D.faults disk.new }
     ensures cause { OnErr result (Rose (D.faults disk.old) (D.faults disk.new)) }
 {

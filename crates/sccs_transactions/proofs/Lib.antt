@@ -1,5 +1,6 @@
 pub mod ChangeCauses
 pub mod ChangeEnds
 pub mod ReportLaws
-pub mod Utilities
 pub mod StopEnds
+pub mod UnlockedChanges
+pub mod Utilities

@@ -39,7 +39,7 @@ locking_step outcome n i named f = do
 
 -- the change as an action
 abbrev pub locking : Changing → Action
-locking x = record { fits = is_sfile_name; step = locking_step x.outcome; named = x.named; takes = x.takes; reads = false; silent = x.silent; could = x.could }
+locking x = record { fits = is_sfile_name; step = locking_step x.outcome; named = x.named; takes = x.takes; reads = false; locks = true; silent = x.silent; could = x.could }
 
 -- the view as it was before the name was locked
 abbrev pub unlocked : List ℕ → View → View

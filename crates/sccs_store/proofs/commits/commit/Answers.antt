@@ -2,6 +2,7 @@ use Rattle.std.proofs.Common.{drop, refl}
 use Rattle.sccs_base.specs.Name.{sibling}
 use Rattle.sccs_store.specs.Commits.{plan, replaced}
 use Rattle.sccs_moments.proofs.FileNames.{from_g, s_and_g, to_g, to_s}
+use Rattle.sccs_store.proofs.OwnFiles.{commit_others, first_others, second_others, third_others}
 use Rattle.sccs_store.proofs.Stages.{commit_ends, first_stop, last_stop, second_stop, third_stop}
 use Rattle.sccs_store.proofs.Swaps.{all_made, first_cut, last_cut, second_cut, swapped_needs, swapped_there, third_cut}
 use Rattle.sccs_store.proofs.Working.{err_map, err_of, ok_map}
@@ -53,3 +54,15 @@ returns-clause-stopped g c = err_map c.unlock.result (last_stop c.args.name.now 
 
 pub returns-clause-calm : goal.returns-clause-calm
 returns-clause-calm g c = ok_map c.unlock.result (commit_ends c.args.name.now (plan c.args.new_s c.args.new_p c.args.new_g) _ _ _ _ _ c.requires.sfile c.requires.z c.in_ok-swap_s.ensures.done c.in_ok-swap_p.ensures.done c.in_ok-swap_g.ensures.done) c.unlock.ensures.done
+
+pub returns-in_err-swap_s-clause-others : goal.returns-in_err-swap_s-clause-others
+returns-in_err-swap_s-clause-others g c = first_others c.args.name.now (plan c.args.new_s c.args.new_p c.args.new_g) _ _ c.in_err-swap_s.ensures.half
+
+pub returns-in_err-swap_p-clause-others : goal.returns-in_err-swap_p-clause-others
+returns-in_err-swap_p-clause-others g c = second_others c.args.name.now (plan c.args.new_s c.args.new_p c.args.new_g) _ _ _ c.in_ok-swap_s.ensures.done c.in_err-swap_p.ensures.half
+
+pub returns-in_err-swap_g-clause-others : goal.returns-in_err-swap_g-clause-others
+returns-in_err-swap_g-clause-others g c = third_others c.args.name.now (plan c.args.new_s c.args.new_p c.args.new_g) _ _ _ _ c.in_ok-swap_s.ensures.done c.in_ok-swap_p.ensures.done c.in_err-swap_g.ensures.half
+
+pub returns-clause-others : goal.returns-clause-others
+returns-clause-others g c = commit_others c.unlock.result c.args.name.now (plan c.args.new_s c.args.new_p c.args.new_g) _ _ _ _ _ c.in_ok-swap_s.ensures.done c.in_ok-swap_p.ensures.done c.in_ok-swap_g.ensures.done c.unlock.ensures.done c.unlock.ensures.half

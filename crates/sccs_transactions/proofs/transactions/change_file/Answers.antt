@@ -8,6 +8,8 @@ use Rattle.sccs_steps.specs.Calls.{world}
 use Rattle.sccs_transactions.proofs.ChangeCauses.{fault_speaks, finished_causes, given_up_causes, given_up_ignores, given_up_speaks}
 use Rattle.sccs_transactions.proofs.ChangeEnds.{finished_steps, given_up_steps, locked_steps}
 use Rattle.sccs_transactions.proofs.StopEnds.{at_failed, at_finished, at_given_up, at_locked, at_memory}
+use Rattle.sccs_moments.proofs.Unlocked.{unlocked_same}
+use Rattle.sccs_transactions.proofs.UnlockedChanges.{unlocked_failed, unlocked_finished, unlocked_given_up}
 use Rattle.sccs_transactions.proofs.transactions.change_file.Goals as goal
 
 pub returns-in-Err-Locked-clause-step : goal.returns-in-Err-Locked-clause-step
@@ -66,3 +68,18 @@ pub returns-in-Err-clause-moments : goal.returns-in-Err-clause-moments
 returns-in-Err-clause-moments g c = λ m past i is heard calm safe.
     at_given_up (g.C.Change.change c.args.change.now) c.in-Err.fault c.give_up.result c.prepare.result c.args.name.now _ _ (g.D.Disk.told c.lock.new.disk) (g.D.Disk.told c.prepare.new.disk) _ _ _ (g.E.Sink.given c.args.err.now) m past i c.requires c.in-Err.is c.in-Ok.ensures.view c.in-Ok.ensures.free (c.prepare.ensures.prepares (g.E.Sink.given c.args.err.now)) (c.give_up.ensures.gives_up (g.O.Sink.given c.prepare.new.out) (g.E.Sink.given c.args.err.now))
     c.lock.ensures.touches c.prepare.ensures.touches c.give_up.ensures.touches is heard calm (safe refl)
+
+pub returns-in-Err-Locked-clause-unlocked : goal.returns-in-Err-Locked-clause-unlocked
+returns-in-Err-Locked-clause-unlocked g c = λ locks plain. unlocked_same _ _ (c.lock.ensures.same (c.in-Err-Locked.is ∙ ap Err c.in-Err-Locked.field-0-is))
+
+pub returns-in-Err-Failed-clause-unlocked : goal.returns-in-Err-Failed-clause-unlocked
+returns-in-Err-Failed-clause-unlocked g c = λ locks plain. unlocked_failed c.args.name.now _ _ c.lock.ensures.touches
+
+pub returns-in-Err-Memory-clause-unlocked : goal.returns-in-Err-Memory-clause-unlocked
+returns-in-Err-Memory-clause-unlocked g c = λ locks plain. unlocked_failed c.args.name.now _ _ c.lock.ensures.touches
+
+pub returns-in-Ok-prepare-clause-unlocked : goal.returns-in-Ok-prepare-clause-unlocked
+returns-in-Ok-prepare-clause-unlocked g c = λ locks plain. unlocked_finished c.args.name.now _ _ _ _ c.requires (plain refl) c.in-Ok.ensures.free c.lock.ensures.touches c.prepare.ensures.touches c.finish.ensures.others
+
+pub returns-in-Err-clause-unlocked : goal.returns-in-Err-clause-unlocked
+returns-in-Err-clause-unlocked g c = λ locks plain. unlocked_given_up c.args.name.now _ _ _ _ c.lock.ensures.touches c.prepare.ensures.touches c.give_up.ensures.touches

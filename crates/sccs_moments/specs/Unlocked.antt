@@ -1,0 +1,48 @@
+-- Which s-files and p-files a call changes: those that weren't locked when it began, or at a later moment before the change.
+use Rattle.std.specs.Prelude.{◌≡◌, ◌⊎◌, ◌||◌, ℕ, Bool, false, List, [], ◌∷◌, drop, None}
+use Rattle.std.specs.Str.{bytes_eq}
+use Rattle.sccs_base.specs.Name.{IsSfile, sibling}
+use Rattle.sccs_disk.specs.Files.{Model, View, view_of}
+use Rattle.sccs_disk.specs.Told.{Told, Tells}
+use Rattle.sccs_files.specs.StepFiles.{is_left}
+use Rattle.sccs_images.specs.Touches.{Each, earlier, newest}
+use Rattle.sccs_moments.specs.Recovery.{pair_of}
+
+-- the files of an s-file's name: itself, its p-file and g-file, and those that a step leaves behind
+abbrev pub is_own : List ℕ → List ℕ → Bool
+is_own n k = bytes_eq n k || (bytes_eq (sibling 112 n) k || (bytes_eq (drop 2 n) k || is_left n k))
+
+-- a view that has the files of other names as another has them
+abbrev pub SameOthers : (List ℕ → Bool) → View → View → Type 0
+SameOthers mine v w = (k : List ℕ) → mine k ≡ false → w k ≡ v k
+
+-- The story went on from a model, and at each moment the files of other names are as they were.
+pub record KeptOthers (mine : List ℕ → Bool) (m : Model) (past : List Model) (new : Told) : Type 0 where
+  pub added : List Model
+  pub is : new ≡ Tells (newest added m) (earlier added m past)
+  pub each : Each (λ m2. SameOthers mine (view_of m) (view_of m2)) added m
+
+-- a call that changes the files of some names alone
+abbrev pub KeepsOthers : (List ℕ → Bool) → Told → Told → Type 0
+KeepsOthers mine old new = (m : Model) (past : List Model) → old ≡ Tells m past → KeptOthers mine m past new
+
+-- at one of these moments the name's z-file wasn't there
+abbrev pub WasUnlocked : List ℕ → List Model → Model → Type 0
+WasUnlocked n [] m = view_of m (sibling 122 n) ≡ None
+WasUnlocked n (a ∷ added) m = (view_of a (sibling 122 n) ≡ None) ⊎ WasUnlocked n added m
+
+-- where an s-file or its p-file differs from one moment to the next, its z-file wasn't there at an earlier moment
+abbrev pub ComeUnlocked : List Model → Model → Type 0
+ComeUnlocked [] m = Unit {0}
+ComeUnlocked (a ∷ added) m =
+    ((n : List ℕ) → IsSfile n → (pair_of (view_of a) n ≡ pair_of (view_of (newest added m)) n) ⊎ WasUnlocked n added m) × ComeUnlocked added m
+
+-- The story went on from a model, and before each change of an s-file or p-file its z-file wasn't there at a moment of the call.
+pub record BeganUnlocked (m : Model) (past : List Model) (new : Told) : Type 0 where
+  pub added : List Model
+  pub is : new ≡ Tells (newest added m) (earlier added m past)
+  pub changes : ComeUnlocked added m
+
+-- so it is of a call
+abbrev pub BeginsUnlocked : Told → Told → Type 0
+BeginsUnlocked old new = (m : Model) (past : List Model) → old ≡ Tells m past → BeganUnlocked m past new
