@@ -247,6 +247,10 @@ impl Utility for Admin<'_> {
         Name::read_sfile(operand)
     }
 
+    fn takes_input(&self) -> bool {
+        matches!(&self.words.text, Given::Bare)
+    }
+
     fn step<I: Source, O: Sink, E: Sink, D: Disk>(
         &self,
         alloc: Global,

@@ -141,6 +141,10 @@ impl Utility for Unget<'_> {
         Name::read_sfile(operand)
     }
 
+    fn takes_input(&self) -> bool {
+        false
+    }
+
     fn step<I: Source, O: Sink, E: Sink, D: Disk>(
         &self,
         alloc: Global,

@@ -2,3 +2,4 @@ pub mod EntryChanges
 pub mod EntryLaws
 pub mod PendingLaws
 pub mod StopLaws
+pub mod Warnings

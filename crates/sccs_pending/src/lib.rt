@@ -14,4 +14,4 @@ pub use g_files::remove_g;
 pub use new_pfiles::prepare_entries;
 pub use pending::{Pending, read_pending};
 pub use pfiles::read_pfile;
-pub use reports::heading;
+pub use reports::{add_warning, heading, warning};

@@ -1,7 +1,8 @@
-ghost use Rattle.std.specs.Prelude.{◌≡◌, ◌++◌, OnErr, OnOk};
-ghost use Rattle.sccs_pending.specs.Reports.{heading_text};
+ghost use Rattle.std.specs.Prelude.{◌≡◌, ◌++◌, IfOk, OnOk};
+ghost use Rattle.sccs_pending.specs.Reports.{heading_text, warning};
 
-use sccs_base::{Memory, Name};
+use sccs_base::{Bytes, Memory, Name};
+use std::alloc::Global;
 
 /// Adds the heading of a name to a report, where the command has several operands: LF, the name, a colon and
 /// LF. POSIX get, STDOUT.
@@ -14,4 +15,25 @@ pub fn heading(heading: bool, name: &Name, report: &mut Vec<u8>) -> Result<(), M
         report.extend_from_slice(b":\n")?;
     }
     Ok(())
+}
+
+/// Adds to a message that a text has no keyword, where it has none.
+pub fn add_warning(name: &Name, keyword: bool, message: &mut Vec<u8>) -> Result<(), Memory>
+    ensures ok { OnOk result (message.new.items ≡ message.old.items ++ warning name.now keyword) }
+{
+    if !keyword {
+        message.extend_from_slice(b"WARNING [")?;
+        message.extend_from_slice(name.bytes())?;
+        message.extend_from_slice(b"]: no id keywords\n")?;
+    }
+    Ok(())
+}
+
+/// That a text has no keyword, where it has none.
+pub fn warning(alloc: Global, name: &Name, keyword: bool) -> Result<Bytes, Memory>
+    ensures { IfOk result (λ message. message ≡ warning name.now keyword) }
+{
+    let mut message = Vec::new(alloc);
+    add_warning(name, keyword, &mut message)?;
+    Ok(Bytes::from_vec(message))
 }

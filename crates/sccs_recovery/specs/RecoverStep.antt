@@ -37,4 +37,4 @@ recover_step n f = do
   Ok (recovers n f)
 
 abbrev pub recover_action : Action
-recover_action = record { fits = is_sfile_name; step = λ n input named files. recover_step n files; named = []; takes = false; reads = false; silent = false; could = quiet_checks recover_checks }
+recover_action = record { fits = is_sfile_name; step = λ n input named files. recover_step n files; named = []; takes = false; reads = false; locks = false; silent = false; could = quiet_checks recover_checks }

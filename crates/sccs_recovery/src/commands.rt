@@ -42,6 +42,10 @@ impl Utility for Recover {
         Name::read_sfile(operand)
     }
 
+    fn takes_input(&self) -> bool {
+        false
+    }
+
     fn step<I: Source, O: Sink, E: Sink, D: Disk>(
         &self,
         alloc: Global,

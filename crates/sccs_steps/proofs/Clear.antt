@@ -49,7 +49,7 @@ left_false : (x y : Bool) → (x || y) ≡ false → x ≡ false
 left_false true y h = cc
 left_false false y h = refl
 
-shows_first : (w : List ℕ → Bool) (told : Option View) (u v : View) (t : NamedStep) → Shows w told u → ShowsPartly (left_by w (t ∷ [])) told u v
+pub shows_first : (w : List ℕ → Bool) (told : Option View) (u v : View) (t : NamedStep) → Shows w told u → ShowsPartly (left_by w (t ∷ [])) told u v
 shows_first w None u v t shows = absurd shows
 shows_first w (Some s) u v t shows = λ k h. inl (shows k (left_false (w k) (bytes_eq (sibling 122 t.name) k) h))
 

@@ -1,5 +1,5 @@
 -- Safe names stay safe from step to step.
-use Rattle.std.proofs.Common.{◌≡◌, ℕ, zero, suc, ◌<◌, Bool, true, false, List, [], ◌∷◌, drop, length, get_or, Option, None, Some, refl, sym, ap, subst, ◌∙◌, ⊎_elim, arith}
+use Rattle.std.proofs.Common.{◌≡◌, ℕ, Bool, true, false, List, drop, Option, None, Some, refl, sym, subst, ◌∙◌, ⊎_elim}
 use Rattle.std.specs.Str.{bytes_eq}
 use Rattle.sccs_base.specs.Name.{IsSfile, sibling}
 use Rattle.sccs_disk.specs.Files.{Content, Folder, View, put, view_in}
@@ -9,12 +9,9 @@ use Rattle.sccs_files.proofs.Folders.{moved_view}
 use Rattle.sccs_pfile.specs.Recovered.{recovered_pfile}
 use Rattle.sccs_moments.specs.Recovery.{is_kept}
 use Rattle.sccs_moments.proofs.FileNames.{from_sfile, kept_p, kept_s, kept_z, siblings_differ, to_s, to_sfile}
-use Rattle.sccs_steps.specs.StepEffects.{Outcome, effect_of}
-use Rattle.sccs_steps.specs.Actions.{Action, KeepsFiles, is_several, outcome_at, step_at}
-use Rattle.sccs_steps.specs.StepLists.{folder_after}
+use Rattle.sccs_steps.specs.Actions.{Action, KeepsFiles}
 use Rattle.sccs_steps.specs.StepStops.{ArePaired, IsSafe, IsSafeFor}
-use Rattle.sccs_steps.specs.ListStops.{AreSafe, Spares}
-use Rattle.sccs_steps.proofs.OperandLaws.{misfit, several}
+use Rattle.sccs_steps.specs.ListStops.{Spares, StaySafe}
 
 -- ---- views
 
@@ -57,45 +54,23 @@ other_moved : (n k : List ℕ) (v : View) (new : Option Files) → IsSfile n →
 other_moved n k v None sfile other plain apart safe = safe
 other_moved n k v (Some f) sfile other plain apart safe = other_placed n k v f sfile other plain apart safe
 
--- ---- operands
+-- ---- names
 
--- what is asked of an operand that is taken
-abbrev pub OperandIsSafe : Action → View → List ℕ → Type 0
-OperandIsSafe x v n = x.fits n ≡ true → IsSafeFor x n v
-
-next_safe : (x : Action) (n k : List ℕ) (v : View) (new : Option Files) → KeepsFiles x → x.fits n ≡ true → IsSafeFor x n v → IsSafeFor x n (moved v n new) → OperandIsSafe x v k → OperandIsSafe x (moved v n new) k
-next_safe x n k v new keeps fits before own safe = λ taken changes.
+-- after the step of a name all that were safe are safe, where it is
+pub stay_moved : (x : Action) (n : List ℕ) (v : View) (new : Option Files) → KeepsFiles x → x.fits n ≡ true → IsSafeFor x n v → IsSafeFor x n (moved v n new) → StaySafe x v (moved v n new)
+stay_moved x n v new keeps fits before own = λ k taken safe changes.
     ⊎_elim (λ e. subst (λ l. IsSafe l (moved v n new)) e (own changes))
-    (λ apart. other_moved n k v new (keeps.names changes n fits) (keeps.names changes k taken) (before changes).plain apart (safe taken changes)) (name_cases n k)
+    (λ apart. other_moved n k v new (keeps.names changes n fits) (keeps.names changes k taken) (before changes).plain apart (safe changes)) (name_cases n k)
 
-all_next : (x : Action) (n : List ℕ) (operands : List (List ℕ)) (v : View) (new : Option Files) → KeepsFiles x → x.fits n ≡ true → IsSafeFor x n v → IsSafeFor x n (moved v n new) → AreSafe x operands v → AreSafe x operands (moved v n new)
-all_next x n [] v new keeps fits before own safe = tt
-all_next x n (k ∷ operands) v new keeps fits before own safe = (next_safe x n k v new keeps fits before own safe.0, all_next x n operands v new keeps fits before own safe.1)
+pub stay_folder : (x : Action) (m : Folder) (n : List ℕ) (new : Option Files) → KeepsFiles x → x.fits n ≡ true → IsSafeFor x n (view_in m) → IsSafeFor x n (view_in (moved_in m n new)) → StaySafe x (view_in m) (view_in (moved_in m n new))
+stay_folder x m n new keeps fits before own =
+    subst (λ (v : View). StaySafe x (view_in m) v) (sym (moved_view m n new)) (stay_moved x n (view_in m) new keeps fits before (subst (λ (v : View). IsSafeFor x n v) (moved_view m n new) own))
 
-refused_at : (x : Action) (m : Folder) (i n : List ℕ) → (many : Bool) → is_several n ≡ many → x.fits n ≡ false → (effect_of n (outcome_at x m i n)).new ≡ None
-refused_at x m i n true is unfit = ap (λ (o : Outcome). (effect_of n o).new) (several x m i n is)
-refused_at x m i n false is unfit = ap (λ (o : Outcome). (effect_of n o).new) (misfit x m i n is unfit)
+pub stay_same : (x : Action) (v : View) → StaySafe x v v
+stay_same x v = λ n fits safe. safe
 
-same_after : (x : Action) (m : Folder) (i n : List ℕ) (operands : List (List ℕ)) → (effect_of n (outcome_at x m i n)).new ≡ None → AreSafe x operands (view_in m) → AreSafe x operands (view_in (folder_after m (step_at x m i n ∷ [])))
-same_after x m i n operands none safe = subst (λ (new : Option Files). AreSafe x operands (view_in (moved_in m n new))) (sym none) safe
-
--- after the step of an operand all are safe, where it is
-pub all_after : (x : Action) (m : Folder) (i n : List ℕ) (operands : List (List ℕ)) → KeepsFiles x → OperandIsSafe x (view_in m) n → OperandIsSafe x (view_in (folder_after m (step_at x m i n ∷ []))) n → AreSafe x operands (view_in m)
-    → AreSafe x operands (view_in (folder_after m (step_at x m i n ∷ [])))
-all_after x m i n operands keeps before own safe = by (x.fits n) refl
-  where
-    by : (taken : Bool) → x.fits n ≡ taken → AreSafe x operands (view_in (folder_after m (step_at x m i n ∷ [])))
-    by false unfit = same_after x m i n operands (refused_at x m i n (is_several n) refl unfit) safe
-    by true fits =
-        let new : Option Files = (effect_of n (outcome_at x m i n)).new in
-        subst (λ (v : View). AreSafe x operands v) (sym (moved_view m n new))
-        (all_next x n operands (view_in m) new keeps fits (before fits) (subst (λ (v : View). IsSafeFor x n v) (moved_view m n new) (own fits)) safe)
-
--- one of several
-pub safe_at : (x : Action) (v : View) (operands : List (List ℕ)) (k : ℕ) (operand : List ℕ) → k < length operands → AreSafe x operands v → OperandIsSafe x v (get_or operands k operand)
-safe_at x v [] k operand below safe = absurd (omega (arith, below))
-safe_at x v (n ∷ operands) zero operand below safe = safe.0
-safe_at x v (n ∷ operands) (suc k) operand below safe = safe_at x v operands k operand (omega (arith, below)) safe.1
+pub stay_on : (x : Action) (u v w : View) → StaySafe x u v → StaySafe x v w → StaySafe x u w
+stay_on x u v w first second = λ n fits safe. second n fits (first n fits safe)
 
 -- the folder's view and the one that is told
 pub told_safe : (x : Action) (work : List ℕ → Bool) (n : List ℕ) (u v : View) → KeepsFiles x → x.fits n ≡ true → Spares work → Alike work u v → IsSafeFor x n u → IsSafeFor x n v

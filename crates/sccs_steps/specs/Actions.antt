@@ -1,22 +1,26 @@
 -- What a utility does with its operands, in their order.
-use Rattle.std.specs.Prelude.{◌≡◌, ℕ, ◌≤◌, ◌==◌, length, Bool, true, false, ◌||◌, ◌⊎◌, List, [], ◌∷◌, map, Option, None, Some, Result, Ok, Err, IfSome, codes, if◌then◌else◌}
-use Rattle.std.specs.List.{AllByRecursion}
+use Rattle.std.specs.Prelude.{◌≡◌, ℕ, ◌≤◌, nat_lt, ◌==◌, length, Bool, true, false, ◌||◌, ◌⊎◌, List, [], ◌∷◌, map, Option, None, Some, Result, Ok, Err, IfSome, codes, if◌then◌else◌}
+use Rattle.std.specs.List.{AllByRecursion, filter, list_any}
 use Rattle.std.specs.Str.{bytes_eq}
+use Rattle.sccs_base.specs.Constants.{file_limit}
+use Rattle.sccs_base.specs.Cut.{text_of}
 use Rattle.sccs_base.specs.Name.{IsSfile}
 use Rattle.sccs_base.specs.Stream.{GivesOk, GivesSome}
 use Rattle.sccs_sid.specs.Reading.{is_empty}
 use Rattle.sccs_sid.specs.Refusal.{number_of}
 use Rattle.sccs_sid.specs.declared.refusals.Refusal.{Refusal}
-use Rattle.sccs_sid.specs.declared.refusals.Refusal.TheVariants.{BadName, Unbuilt}
+use Rattle.sccs_sid.specs.declared.refusals.Refusal.TheVariants.{BadName, TooLong}
 use Rattle.sccs_sid.specs.declared.refusals.StepFault.{StepFault}
 use Rattle.sccs_sid.specs.declared.refusals.StepFault.TheVariants.{Refused}
 use Rattle.sccs_disk.specs.Files.{Content, Folder, view_in}
 use Rattle.sccs_disk.specs.Told.{seen}
+use Rattle.sccs_operands.specs.FolderNames.{sfiles_in}
 use Rattle.sccs_files.specs.StepFiles.{Files, look, Apart}
 use Rattle.sccs_steps.specs.StepEffects.{StepEffect, Outcome, effect_of}
 use Rattle.sccs_steps.specs.Calls.{Scene, Meets, shown}
-use Rattle.sccs_steps.specs.StepLists.{NamedStep, named_step, folder_after, err_of, status_of}
-use Rattle.sccs_steps.specs.declared.faults.Fault.{Fault}
+use Rattle.sccs_steps.specs.StepLists.{NamedStep, in_turn, named_step}
+use Rattle.sccs_steps.specs.declared.operands.OperandKind.{OperandKind}
+use Rattle.sccs_steps.specs.declared.operands.OperandKind.TheVariants.{Named, Here, FromInput}
 
 -- what a step does with its name, the input, the files that its words name, and the files of its own name
 abbrev pub Step : Type 0
@@ -33,6 +37,8 @@ pub record Action : Type 0 where
   pub takes : Bool
   -- whether it changes no file
   pub reads : Bool
+  -- whether it locks a name before it changes its s-file or p-file
+  pub locks : Bool
   -- whether it writes nothing on out
   pub silent : Bool
   -- the outcomes that may come, over any disk
@@ -42,20 +48,60 @@ pub record Action : Type 0 where
 abbrev pub is_several : List ℕ → Bool
 is_several operand = bytes_eq operand (codes ".") || bytes_eq operand (codes "-")
 
--- what is done with an operand in a folder: `.` and `-` aren't built, and an operand that isn't taken is refused
+-- what is done with a file in a folder: a name that isn't taken is refused
 unfoldable pub outcome_at : Action → Folder → List ℕ → List ℕ → Outcome
-outcome_at x m i operand =
-    if is_several operand then Err Unbuilt
-    else if x.fits operand then x.step operand i (map (view_in m) x.named) (look (view_in m) operand)
-    else Err BadName
+outcome_at x m i name = if x.fits name then x.step name i (map (view_in m) x.named) (look (view_in m) name) else Err BadName
 
 abbrev pub step_at : Action → Folder → List ℕ → List ℕ → NamedStep
-step_at x m i operand = named_step operand (outcome_at x m i operand)
+step_at x m i name = named_step name (outcome_at x m i name)
 
--- the steps of operands, each in the folder that the one before left
+-- the steps of names, each in the folder that the one before left
+abbrev pub steps_of : Action → List ℕ → Folder → List (List ℕ) → List NamedStep
+steps_of x i = in_turn (λ m name. step_at x m i name ∷ [])
+
+-- ---- operands
+
+-- what an operand is. A utility whose step takes the input takes files by their own names alone.
+unfoldable pub kind_of : Bool → List ℕ → OperandKind
+kind_of takes operand =
+    if takes then Named
+    else if bytes_eq operand (codes ".") then Here
+    else if bytes_eq operand (codes "-") then FromInput
+    else Named
+
+-- the names that an input gives: its lines, but for those that aren't taken
+unfoldable pub names_given : Action → List ℕ → Result (List (List ℕ)) Refusal
+names_given x i = if nat_lt file_limit (length i) then Err TooLong else Ok (filter x.fits (text_of i))
+
+-- that names are found is a step too, of the folder itself, which does nothing
+abbrev pub names_found : NamedStep
+names_found = record { name = codes "./"; effect = record { new = None; text = []; out = []; err = []; status = 0 } }
+
+abbrev pub input_steps : Action → List ℕ → Folder → Result (List (List ℕ)) Refusal → List NamedStep
+input_steps x i m (Ok names) = names_found ∷ steps_of x i m names
+input_steps x i m (Err refusal) = named_step (codes "-") (Err refusal) ∷ []
+
+abbrev pub kind_steps : Action → List ℕ → Folder → List ℕ → OperandKind → List NamedStep
+kind_steps x i m operand Named = step_at x m i operand ∷ []
+kind_steps x i m operand Here = names_found ∷ steps_of x i m (sfiles_in m)
+kind_steps x i m operand FromInput = input_steps x i m (names_given x i)
+
+-- the steps of an operand: that of its file, or those of the files that are there, or that the input names
+abbrev pub operand_steps : Action → List ℕ → Folder → List ℕ → List NamedStep
+operand_steps x i m operand = kind_steps x i m operand (kind_of x.takes operand)
+
+-- the steps of operands; `.` stands for the files that are there when its turn comes
 abbrev pub steps_at : Action → Folder → List ℕ → List (List ℕ) → List NamedStep
-steps_at x m i [] = []
-steps_at x m i (operand ∷ operands) = step_at x m i operand ∷ steps_at x (folder_after m (step_at x m i operand ∷ [])) i operands
+steps_at x m i operands = in_turn (operand_steps x i) m operands
+
+-- whether the input is taken, by a step or for names
+abbrev pub kind_hears : Bool → OperandKind → Bool
+kind_hears takes Named = takes
+kind_hears takes Here = false
+kind_hears takes FromInput = true
+
+abbrev pub hears : Action → List (List ℕ) → Bool
+hears x operands = list_any (λ operand. kind_hears x.takes (kind_of x.takes operand)) operands
 
 -- the input is this, where the step takes it
 abbrev pub IsHeard : Bool → Option (List ℕ) → List ℕ → Type 0
@@ -74,17 +120,16 @@ pub record KeepsFiles (x : Action) : Type 0 where
 abbrev pub IsClear : Bool → (List ℕ → Bool) → List ℕ → Type 0
 IsClear reads w n = ((reads ≡ true) × ((k : List ℕ) → w k ≡ false)) ⊎ Apart w n
 
--- the same of an operand that is taken, and no file that the words name is a working file; and of each of several
-abbrev pub OperandIsClear : Action → (List ℕ → Bool) → List ℕ → Type 0
-OperandIsClear x w operand = x.fits operand ≡ true → IsClear x.reads w operand × AllByRecursion (λ k. w k ≡ false) x.named
+-- the same of a name that is taken, and no file that the words name is a working file; and of the names of steps
+abbrev pub NameIsClear : Action → (List ℕ → Bool) → List ℕ → Type 0
+NameIsClear x w name = x.fits name ≡ true → IsClear x.reads w name × AllByRecursion (λ k. w k ≡ false) x.named
 
-abbrev pub AreClear : Action → (List ℕ → Bool) → List (List ℕ) → Type 0
-AreClear x w [] = Unit {0}
-AreClear x w (operand ∷ operands) = OperandIsClear x w operand × AreClear x w operands
+abbrev pub AreClear : Action → (List ℕ → Bool) → List NamedStep → Type 0
+AreClear x w ts = AllByRecursion (λ (t : NamedStep). NameIsClear x w t.name) ts
 
--- only a lone step takes the input
+-- only a lone operand takes the input
 abbrev pub IsLone : Action → List (List ℕ) → Type 0
-IsLone x operands = (x.takes ≡ false) ⊎ (length operands ≤ 1)
+IsLone x operands = (hears x operands ≡ false) ⊎ (length operands ≤ 1)
 
 -- ---- over any disk
 
@@ -110,28 +155,3 @@ Speaks (Err fault) n o err err2 = GivesSome err err2 (effect_of n o).err
 -- an outcome that may come explains the answer and what is written on err
 abbrev pub SpeaksBy : (Outcome → Bool) → Result (Unit {0}) StepFault → List ℕ → Option (List ℕ) → Option (List ℕ) → Type 0
 SpeaksBy could r n err err2 = (o : Outcome) × (could o ≡ true) × Speaks r n o err err2
-
--- what may come of an operand: `.` and `-` aren't built, what isn't taken is refused, and else what may come of a step
-abbrev pub CouldBe : Action → List ℕ → Outcome → Type 0
-CouldBe x n o =
-    ((is_several n ≡ true) × (o ≡ Err Unbuilt))
-    ⊎ (((is_several n ≡ false) × (x.fits n ≡ false) × (o ≡ Err BadName)) ⊎ ((is_several n ≡ false) × (x.fits n ≡ true) × (x.could o ≡ true)))
-
--- steps of the first operands, each of which may come
-abbrev pub AreAmong : Action → List (List ℕ) → List NamedStep → Type 0
-AreAmong x operands [] = Unit {0}
-AreAmong x [] (t ∷ ts) = ⊥
-AreAmong x (n ∷ operands) (t ∷ ts) = (o : Outcome) × CouldBe x n o × (t ≡ named_step n o) × AreAmong x operands ts
-
--- what steps answer, and what they write on err
-abbrev pub SpeakAs : List NamedStep → Result ℕ Fault → Option (List ℕ) → Option (List ℕ) → Type 0
-SpeakAs ts (Ok status) err err2 = (status ≡ status_of ts) × GivesOk err err2 (err_of ts)
-SpeakAs ts (Err fault) err err2 = GivesSome err err2 (err_of ts)
-
--- an outcome that may come of an operand explains the answer and what is written on err
-abbrev pub SpeaksOne : Action → List ℕ → Result ℕ Fault → Option (List ℕ) → Option (List ℕ) → Type 0
-SpeaksOne x operand r err err2 = (o : Outcome) × CouldBe x operand o × SpeakAs (named_step operand o ∷ []) r err err2
-
--- some steps of these operands that may come explain the answer and what is written on err
-abbrev pub SpeakAll : Action → List (List ℕ) → Result ℕ Fault → Option (List ℕ) → Option (List ℕ) → Type 0
-SpeakAll x operands r err err2 = (ts : List NamedStep) × AreAmong x operands ts × SpeakAs ts r err err2

@@ -3,6 +3,9 @@ pub mod Calls
 pub mod Causes
 pub mod ListStops
 pub mod Messages
+pub mod Running
+pub mod Speaking
 pub mod StepEffects
 pub mod StepLists
 pub mod StepStops
+pub mod Unlocked

@@ -1,15 +1,16 @@
 -- The moments of a list of steps that began on a calm disk, and which of the steps are acknowledged.
-use Rattle.std.specs.Prelude.{◌≡◌, ◌≢◌, ℕ, suc, ◌+◌, ◌-◌, ◌<◌, ◌≤◌, ◌⊎◌, Bool, true, false, List, [], ◌∷◌, ◌++◌, length, take, drop, Option, None, Some, Result, Err, IsOk}
+use Rattle.std.specs.Prelude.{◌≡◌, ◌≢◌, ℕ, suc, ◌+◌, ◌-◌, ◌<◌, ◌≤◌, ◌⊎◌, Bool, true, false, List, ◌++◌, length, take, drop, Option, None, Some, Result, Err, IsOk}
+use Rattle.std.specs.List.{AllByRecursion}
 use Rattle.sccs_base.specs.Name.{IsSfile, sibling}
 use Rattle.sccs_base.specs.Stream.{GivesSome}
 use Rattle.sccs_disk.specs.Files.{Folder, Model, View, view_in}
-use Rattle.sccs_disk.specs.Told.{Tells, seen}
+use Rattle.sccs_disk.specs.Told.{seen}
 use Rattle.sccs_files.specs.StepFiles.{Shows}
 use Rattle.sccs_images.specs.Touches.{newest}
 use Rattle.sccs_moments.specs.Calm.{HasFirm, IsCalm}
 use Rattle.sccs_moments.specs.Moments.{Went}
 use Rattle.sccs_moments.specs.Recovery.{RecoversAs}
-use Rattle.sccs_steps.specs.Actions.{Action, AreClear, IsHeard, IsLone, steps_at}
+use Rattle.sccs_steps.specs.Actions.{Action}
 use Rattle.sccs_steps.specs.Calls.{Scene, World, shown}
 use Rattle.sccs_steps.specs.StepLists.{NamedStep, err_of, folder_after, next_text, out_of}
 use Rattle.sccs_steps.specs.StepStops.{IsSafeFor}
@@ -66,12 +67,15 @@ pub record ListMoments (w : List ℕ → Bool) (r : Result ℕ Fault) (folder : 
   -- s-files and p-files are firm, so that recovery may run next
   pub firm : HasFirm (newest went.added m)
 
--- ---- operands
+-- ---- names
 
--- each operand that is taken is safe, where files are changed
-abbrev pub AreSafe : Action → List (List ℕ) → View → Type 0
-AreSafe x [] v = Unit {0}
-AreSafe x (operand ∷ operands) v = (x.fits operand ≡ true → IsSafeFor x operand v) × AreSafe x operands v
+-- each name of a step that is taken is safe, where files are changed
+abbrev pub AreSafe : Action → List NamedStep → View → Type 0
+AreSafe x ts v = AllByRecursion (λ (t : NamedStep). x.fits t.name ≡ true → IsSafeFor x t.name v) ts
+
+-- each name that was safe is safe again
+abbrev pub StaySafe : Action → View → View → Type 0
+StaySafe x u v = (n : List ℕ) → x.fits n ≡ true → IsSafeFor x n u → IsSafeFor x n v
 
 -- no s-file, p-file or z-file is a working file
 pub record Spares (w : List ℕ → Bool) : Type 0 where
@@ -79,16 +83,9 @@ pub record Spares (w : List ℕ → Bool) : Type 0 where
   pub p : (n : List ℕ) → IsSfile n → w (sibling 112 n) ≡ false
   pub z : (n : List ℕ) → IsSfile n → w (sibling 122 n) ≡ false
 
--- The moments of the steps of operands. The last number is at least that of each step that is acknowledged, and at Ok what was
--- asked of the names at the start holds of them again.
-pub record RunMoments (x : Action) (operands : List (List ℕ)) (w : List ℕ → Bool) (r : Result ℕ Fault) (folder : Folder) (ts : List NamedStep) (a b : Scene) (m : Model) (past : List Model) : Type 0 where
+-- The moments of steps. The last number is at least that of each step that is acknowledged, and at Ok the names that were safe
+-- are safe again.
+pub record RunMoments (x : Action) (w : List ℕ → Bool) (r : Result ℕ Fault) (folder : Folder) (ts : List NamedStep) (a b : Scene) (m : Model) (past : List Model) : Type 0 where
   pub list : ListMoments w r folder ts a b m past
   pub acknowledged : (k : ℕ) → k < length ts → IsAcknowledged r ts k (shown a) (shown b) → suc k ≤ list.number
-  pub safe : IsOk r → AreSafe x operands (view_in (folder_after folder ts))
-
--- what a stop leaves of the steps of these operands, where they begin on a calm disk and their names are safe
-abbrev pub StopsAll : Action → List (List ℕ) → Result ℕ Fault → Option (List ℕ) → Scene → Scene → Type 0
-StopsAll x operands r left a b = (w : List ℕ → Bool) (folder : Folder) (i : List ℕ) (m : Model) (past : List Model)
-    → Spares w → AreClear x w operands → IsLone x operands → Shows w (seen a.told) (view_in folder) → IsHeard x.takes left i
-    → a.told ≡ Tells m past → IsCalm m → AreSafe x operands (view_in folder)
-    → RunMoments x operands w r folder (steps_at x folder i operands) a b m past
+  pub safe : IsOk r → StaySafe x (view_in folder) (view_in (folder_after folder ts))

@@ -23,6 +23,11 @@ abbrev pub folder_after : Folder → List NamedStep → Folder
 folder_after m [] = m
 folder_after m (t ∷ ts) = folder_after (moved_in m t.name t.effect.new) ts
 
+-- the steps of several things in turn, each in the folder that those before left
+abbrev pub in_turn : (Folder → List ℕ → List NamedStep) → Folder → List (List ℕ) → List NamedStep
+in_turn steps m [] = []
+in_turn steps m (thing ∷ things) = steps m thing ++ in_turn steps (folder_after m (steps m thing)) things
+
 -- what steps write on out, and on err
 abbrev pub out_of : List NamedStep → List ℕ
 out_of ts = flat_map (λ (t : NamedStep). t.effect.text ++ t.effect.out) ts

@@ -3,6 +3,7 @@
 #![tactic(auto)]
 
 mod faults;
+mod names;
 mod operands;
 mod utilities;
 

@@ -1,59 +1,26 @@
-ghost use Rattle.std.specs.Prelude.{◌≡◌, ◌≤◌, ◌⊎◌, ℕ, List, [], ◌∷◌, max, length, Bool, Some, Err, true, false};
-ghost use Rattle.sccs_base.specs.Stream.{Rose};
-ghost use Rattle.sccs_disk.specs.Files.{Folder, view_in};
-ghost use Rattle.sccs_disk.specs.Told.{seen};
-ghost use Rattle.sccs_files.specs.StepFiles.{Shows};
-ghost use Rattle.sccs_steps.specs.Actions.{AreClear, IsHeard, IsLone, OperandIsClear, SpeakAll, SpeaksOne, is_several, step_at, steps_at};
-ghost use Rattle.sccs_steps.specs.Calls.{scene, shown};
-ghost use Rattle.sccs_steps.specs.Causes.{Ignores, RunCauses, counts};
-ghost use Rattle.sccs_steps.specs.ListStops.{StopsAll};
-ghost use Rattle.sccs_steps.specs.Messages.{Concludes, SaysRefusal};
-ghost use Rattle.sccs_steps.specs.StepLists.{Runs};
-ghost use Rattle.sccs_steps.specs.declared.faults.Fault.TheVariants as end;
-ghost use Rattle.sccs_sid.specs.declared.refusals.StepFault.TheVariants as fault;
+ghost use Rattle.std.specs.Prelude.{◌≡◌, List, [], false, IfOk};
+ghost use Rattle.std.specs.List.{filter};
+ghost use Rattle.sccs_steps.specs.Actions.{is_several, kind_of};
+ghost use Rattle.sccs_steps.specs.Calls.{scene};
+ghost use Rattle.sccs_steps.specs.Causes.{counts};
+ghost use Rattle.sccs_steps.specs.Running.{RunsKind, RunsLines, RunsOperand, RunsOperands};
+ghost use Rattle.sccs_steps.specs.declared.operands.OperandKind.TheVariants as kind;
 
 use crate::faults::Fault;
+use crate::names::{greater, refuse, run_name, run_names};
 use crate::utilities::Utility;
-use sccs_base::{Bytes, Sink, Source};
-use sccs_disk::Disk;
-use sccs_sid::{Refusal, StepFault, write_refusal};
+use sccs_base::{Bytes, FILE_LIMIT, Line, Memory, Sink, Source, TakeFault, Words};
+use sccs_disk::{Disk, DiskRefusal};
+use sccs_operands::{list_sfiles, read_names};
+use sccs_sid::Refusal;
 use std::alloc::Global;
 
-// says why a step was refused; its status is 1
-fn refuse<E: Sink>(operand: &[u8], refusal: &Refusal, err: &mut E) -> Result<u8, Fault>
-    ensures says { SaysRefusal operand.now refusal.now result (E.given err.old) (E.given err.new) }
-    ensures later { E.faults err.old ≤ E.faults err.new }
-    ensures cause { result ≡ Err end.WriteFault → Rose (E.faults err.old) (E.faults err.new) }
-{
-    match write_refusal(operand, refusal, err) {
-        Ok(()) => Ok(1),
-        Err(_) => Err(Fault::WriteFault),
-    }
-}
-
-// how an operand ends whose step ended so
-fn conclude<E: Sink>(operand: &[u8], made: Result<(), StepFault>, err: &mut E) -> Result<u8, Fault>
-    ensures concludes { Concludes made operand.now result (E.given err.old) (E.given err.new) }
-    ensures later { E.faults err.old ≤ E.faults err.new }
-    ensures cause { result ≡ Err end.WriteFault → (made ≡ Err fault.WriteFault) × (E.faults err.new ≡ E.faults err.old) ⊎ Rose (E.faults err.old) (E.faults err.new) }
-    ensures read { result ≡ Err end.ReadFault → made ≡ Err fault.ReadFault }
-    ensures broke { result ≡ Err end.DiskFault → made ≡ Err fault.DiskFault }
-{
-    match made {
-        Ok(()) => Ok(0),
-        Err(StepFault::Refused(refusal)) => refuse(operand, &refusal, err),
-        Err(StepFault::Memory) => Err(Fault::Memory),
-        Err(StepFault::ReadFault) => Err(Fault::ReadFault),
-        Err(StepFault::WriteFault) => Err(Fault::WriteFault),
-        Err(StepFault::DiskFault) => Err(Fault::DiskFault),
-    }
-}
-
-// the greater of two statuses
-fn greater(a: u8, b: u8) -> u8
-    ensures { result ≡ max a b }
-{
-    if a < b { b } else { a }
+/// What an operand is: the name of a file, `.`, or `-`.
+#[derive(Clone, Copy)]
+pub enum OperandKind {
+    Named,
+    Here,
+    FromInput,
 }
 
 /// Whether an operand stands for several files, as `.` and `-` do.
@@ -63,7 +30,106 @@ pub fn is_several(operand: &[u8]) -> bool
     operand == b".".as_slice() || operand == b"-".as_slice()
 }
 
-/// Makes the step of one operand, says why it was refused, and answers the status.
+// what an operand is; where a step takes the input, the name of a file
+#[tactic(auto, unfolding(crate::specs::Actions::kind_of))]
+fn kind_of(operand: &[u8], takes: bool) -> OperandKind
+    ensures { result ≡ kind_of takes operand.now }
+{
+    if takes {
+        return OperandKind::Named;
+    }
+    if operand == b".".as_slice() {
+        return OperandKind::Here;
+    }
+    if operand == b"-".as_slice() {
+        return OperandKind::FromInput;
+    }
+    OperandKind::Named
+}
+
+// makes the steps of the s-files that are there
+fn run_here<U: Utility, I: Source, O: Sink, E: Sink, D: Disk>(
+    alloc: Global,
+    utility: &U,
+    input: &mut I,
+    out: &mut O,
+    err: &mut E,
+    disk: &mut D,
+) -> Result<u8, Fault>
+    requires { (U.action utility.now).takes ≡ false }
+    ensures { RunsKind (U.action utility.now) kind.Here [] result (I.left input.old) (I.left input.new)
+        (scene (D.told disk.old) (O.given out.old) (E.given err.old)) (scene (D.told disk.new) (O.given out.new) (E.given err.new))
+        (counts (I.faults input.old) (O.faults out.old) (E.faults err.old) (D.faults disk.old))
+        (counts (I.faults input.new) (O.faults out.new) (E.faults err.new) (D.faults disk.new)) }
+{
+    match list_sfiles(alloc, disk) {
+        Ok(names) => run_names(alloc, utility, names.items(), input, out, err, disk),
+        Err(DiskRefusal::Failed) => Err(Fault::DiskFault),
+        Err(DiskRefusal::Memory) => Err(Fault::Memory),
+    }
+}
+
+// those of lines that the utility takes
+fn names_among<U: Utility>(alloc: Global, utility: &U, lines: &[Line]) -> Result<Words, Memory>
+    ensures { IfOk result (λ names. names ≡ filter (U.action utility.now).fits lines.now) }
+{
+    let mut names = Words::new(alloc);
+    for line in lines {
+        if utility.name(line.bytes()).is_some() {
+            names.push(Bytes::new(alloc, line.bytes())?)?;
+        }
+    }
+    Ok(names)
+}
+
+// makes the steps of the files that lines name
+fn run_lines<U: Utility, I: Source, O: Sink, E: Sink, D: Disk>(
+    alloc: Global,
+    utility: &U,
+    lines: &[Line],
+    input: &mut I,
+    out: &mut O,
+    err: &mut E,
+    disk: &mut D,
+) -> Result<u8, Fault>
+    requires { (U.action utility.now).takes ≡ false }
+    ensures { RunsLines (U.action utility.now) lines.now result (I.left input.old) (I.left input.new)
+        (scene (D.told disk.old) (O.given out.old) (E.given err.old)) (scene (D.told disk.new) (O.given out.new) (E.given err.new))
+        (counts (I.faults input.old) (O.faults out.old) (E.faults err.old) (D.faults disk.old))
+        (counts (I.faults input.new) (O.faults out.new) (E.faults err.new) (D.faults disk.new)) }
+{
+    match names_among(alloc, utility, lines) {
+        Ok(names) => run_names(alloc, utility, names.items(), input, out, err, disk),
+        Err(_) => Err(Fault::Memory),
+    }
+}
+
+// makes the steps of the files that the input names
+fn run_input<U: Utility, I: Source, O: Sink, E: Sink, D: Disk>(
+    alloc: Global,
+    utility: &U,
+    input: &mut I,
+    out: &mut O,
+    err: &mut E,
+    disk: &mut D,
+) -> Result<u8, Fault>
+    requires { (U.action utility.now).takes ≡ false }
+    ensures { RunsKind (U.action utility.now) kind.FromInput [] result (I.left input.old) (I.left input.new)
+        (scene (D.told disk.old) (O.given out.old) (E.given err.old)) (scene (D.told disk.new) (O.given out.new) (E.given err.new))
+        (counts (I.faults input.old) (O.faults out.old) (E.faults err.old) (D.faults disk.old))
+        (counts (I.faults input.new) (O.faults out.new) (E.faults err.new) (D.faults disk.new)) }
+{
+    match read_names(alloc, input, FILE_LIMIT) {
+        Ok(lines) => run_lines(alloc, utility, lines.items(), input, out, err, disk),
+        Err(TakeFault::TooLong) => refuse(b"-", &Refusal::TooLong, err),
+        Err(TakeFault::Failed) => Err(Fault::ReadFault),
+        Err(TakeFault::Memory) => Err(Fault::Memory),
+    }
+}
+
+/// Makes the steps of one operand, says why each that is refused was, and answers the greatest status. `.`
+/// stands for the s-files that are there, in byte order, and `-` for the files that the input names, a line
+/// each; lines that are no such names are passed over.
 pub fn run_operand<U: Utility, I: Source, O: Sink, E: Sink, D: Disk>(
     alloc: Global,
     utility: &U,
@@ -73,34 +139,20 @@ pub fn run_operand<U: Utility, I: Source, O: Sink, E: Sink, D: Disk>(
     err: &mut E,
     disk: &mut D,
 ) -> Result<u8, Fault>
-    ensures step { (w : List ℕ → Bool) (m : Folder) (i : List ℕ)
-        → OperandIsClear (U.action utility.now) w operand.now → Shows w (seen (D.told disk.old)) (view_in m) → IsHeard (U.action utility.now).takes (I.left input.old) i
-        → Runs w result m (step_at (U.action utility.now) m i operand.now ∷ [])
-        (shown (scene (D.told disk.old) (O.given out.old) (E.given err.old)))
-        (shown (scene (D.told disk.new) (O.given out.new) (E.given err.new))) }
-    ensures stops { StopsAll (U.action utility.now) (operand.now ∷ []) result (I.left input.old)
-        (scene (D.told disk.old) (O.given out.old) (E.given err.old)) (scene (D.told disk.new) (O.given out.new) (E.given err.new)) }
-    ensures speaks { SpeaksOne (U.action utility.now) operand.now result (E.given err.old) (E.given err.new) }
-    ensures reads { (U.action utility.now).reads ≡ true → D.told disk.new ≡ D.told disk.old }
-    ensures silent { (U.action utility.now).silent ≡ true → O.given out.new ≡ O.given out.old }
-    ensures ignores { (U.action utility.now).takes ≡ false
-        → Ignores end.ReadFault (I.left input.old) (I.left input.new) (I.faults input.old) (I.faults input.new) result }
-    ensures causes { RunCauses result
+    ensures { RunsOperand (U.action utility.now) operand.now result (I.left input.old) (I.left input.new)
+        (scene (D.told disk.old) (O.given out.old) (E.given err.old)) (scene (D.told disk.new) (O.given out.new) (E.given err.new))
         (counts (I.faults input.old) (O.faults out.old) (E.faults err.old) (D.faults disk.old))
         (counts (I.faults input.new) (O.faults out.new) (E.faults err.new) (D.faults disk.new)) }
 {
-    if is_several(operand) {
-        return conclude(operand, Err(StepFault::Refused(Refusal::Unbuilt)), err);
+    match kind_of(operand, utility.takes_input()) {
+        OperandKind::Named => run_name(alloc, utility, operand, input, out, err, disk),
+        OperandKind::Here => run_here(alloc, utility, input, out, err, disk),
+        OperandKind::FromInput => run_input(alloc, utility, input, out, err, disk),
     }
-    let Some(name) = utility.name(operand) else {
-        return conclude(operand, Err(StepFault::Refused(Refusal::BadName)), err);
-    };
-    let made = utility.step(alloc, &name, input, out, err, disk);
-    conclude(operand, made, err)
 }
 
-/// Makes the step of each operand in turn, and answers the greatest status. Where it begins on a calm disk
-/// and the operands are safe, a stop at any moment leaves all names as after the same number of steps, no
+/// Makes the steps of each operand in turn, and answers the greatest status. Where it begins on a calm disk
+/// and the names are safe, a stop at any moment leaves all names as after the same number of steps, no
 /// fewer than were acknowledged; and it ends on a calm disk, unless the disk failed.
 pub fn run_operands<U: Utility, I: Source, O: Sink, E: Sink, D: Disk>(
     alloc: Global,
@@ -111,20 +163,8 @@ pub fn run_operands<U: Utility, I: Source, O: Sink, E: Sink, D: Disk>(
     err: &mut E,
     disk: &mut D,
 ) -> Result<u8, Fault>
-    ensures steps { (w : List ℕ → Bool) (m : Folder) (i : List ℕ)
-        → AreClear (U.action utility.now) w operands.now → IsLone (U.action utility.now) operands.now
-        → Shows w (seen (D.told disk.old)) (view_in m) → IsHeard (U.action utility.now).takes (I.left input.old) i
-        → Runs w result m (steps_at (U.action utility.now) m i operands.now)
-        (shown (scene (D.told disk.old) (O.given out.old) (E.given err.old)))
-        (shown (scene (D.told disk.new) (O.given out.new) (E.given err.new))) }
-    ensures stops { StopsAll (U.action utility.now) operands.now result (I.left input.old)
-        (scene (D.told disk.old) (O.given out.old) (E.given err.old)) (scene (D.told disk.new) (O.given out.new) (E.given err.new)) }
-    ensures speaks { SpeakAll (U.action utility.now) operands.now result (E.given err.old) (E.given err.new) }
-    ensures reads { (U.action utility.now).reads ≡ true → D.told disk.new ≡ D.told disk.old }
-    ensures silent { (U.action utility.now).silent ≡ true → O.given out.new ≡ O.given out.old }
-    ensures ignores { (U.action utility.now).takes ≡ false
-        → Ignores end.ReadFault (I.left input.old) (I.left input.new) (I.faults input.old) (I.faults input.new) result }
-    ensures causes { RunCauses result
+    ensures { RunsOperands (U.action utility.now) operands.now result (I.left input.old) (I.left input.new)
+        (scene (D.told disk.old) (O.given out.old) (E.given err.old)) (scene (D.told disk.new) (O.given out.new) (E.given err.new))
         (counts (I.faults input.old) (O.faults out.old) (E.faults err.old) (D.faults disk.old))
         (counts (I.faults input.new) (O.faults out.new) (E.faults err.new) (D.faults disk.new)) }
 {

@@ -5,6 +5,7 @@ ghost use Rattle.sccs_steps.specs.Actions.{Action, KeepsFiles, SpeaksBy, Stepped
 ghost use Rattle.sccs_steps.specs.Calls.{scene};
 ghost use Rattle.sccs_steps.specs.Causes.{Ignores, StepCauses, counts};
 ghost use Rattle.sccs_steps.specs.StepStops.{StepMoments};
+ghost use Rattle.sccs_steps.specs.Unlocked.{StepUnlocked};
 
 use sccs_base::{Name, Sink, Source};
 use sccs_disk::Disk;
@@ -23,6 +24,10 @@ pub trait Utility {
     fn name(&self, operand: &[u8]) -> Option<Name>
         ensures found { IfSome result (λ name. name ≡ operand.now) }
         ensures exact { is_some result ≡ (action self.now).fits operand.now };
+
+    /// Whether its step takes the input; then each operand is the name of a file.
+    fn takes_input(&self) -> bool
+        ensures { result ≡ (action self.now).takes };
 
     /// Makes the step of one file. Where it begins on a calm disk and the name is safe, a stop at any
     /// moment leaves what recovers as before the step or as after it; and it ends on a calm disk, unless
@@ -43,6 +48,7 @@ pub trait Utility {
         ensures moments { StepMoments (action self.now) result name.now (I.left input.old)
             (scene (D.told disk.old) (O.given out.old) (E.given err.old))
             (scene (D.told disk.new) (O.given out.new) (E.given err.new)) }
+        ensures unlocked { StepUnlocked (action self.now) name.now (D.told disk.old) (D.told disk.new) }
         ensures speaks { SpeaksBy (action self.now).could result name.now (E.given err.old) (E.given err.new) }
         ensures reads { (action self.now).reads ≡ true → D.told disk.new ≡ D.told disk.old }
         ensures silent { (action self.now).silent ≡ true → O.given out.new ≡ O.given out.old }

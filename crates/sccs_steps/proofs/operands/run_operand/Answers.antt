@@ -1,50 +1,35 @@
-use Rattle.std.proofs.Common.{sym, ◌∙◌}
-use Rattle.sccs_sid.specs.declared.refusals.Refusal.TheVariants.{BadName, Unbuilt}
+use Rattle.std.proofs.Common.{◌≡◌, sym, ap, subst, ◌∙◌}
+use Rattle.sccs_steps.specs.Actions.{kind_of}
 use Rattle.sccs_steps.specs.Calls.{scene}
-use Rattle.sccs_steps.proofs.OperandLaws.{several, misfit, refused_runs, several_speaks, misfit_speaks, stepped_runs, step_speaks}
-use Rattle.sccs_steps.proofs.StopLoop.{refused_stops, stepped_stops}
+use Rattle.sccs_steps.specs.Causes.{counts}
+use Rattle.sccs_steps.specs.Running.{RunsKind}
+use Rattle.sccs_steps.specs.declared.operands.OperandKind.{OperandKind}
+use Rattle.sccs_steps.specs.declared.operands.OperandKind.TheVariants as kind
+use Rattle.sccs_steps.proofs.KindLaws.{name_speaks, never_given, never_here}
 use Rattle.sccs_steps.proofs.operands.run_operand.Goals as goal
 
-pub returns-then-is_several-clause-step : goal.returns-then-is_several-clause-step
-returns-then-is_several-clause-step g c = λ w m i clear shows heard.
-    refused_runs (g.U.Utility.action c.args.utility.now) w m i c.args.operand.now Unbuilt _ _ _ _ _
-    (several (g.U.Utility.action c.args.utility.now) m i c.args.operand.now (sym c.is_several.ensures ∙ c.if-is_several.true)) shows c.conclude.ensures.concludes
+pub run_here-requires : goal.run_here-requires
+run_here-requires g c =
+    never_here (g.U.Utility.action c.args.utility.now).takes c.args.operand.now (ap (λ takes. kind_of takes c.args.operand.now) (sym c.takes_input.ensures) ∙ sym c.in-Here.ensures)
 
-pub returns-then-is_several-clause-speaks : goal.returns-then-is_several-clause-speaks
-returns-then-is_several-clause-speaks g c =
-    several_speaks (g.U.Utility.action c.args.utility.now) c.args.operand.now _ _ _ (sym c.is_several.ensures ∙ c.if-is_several.true) c.conclude.ensures.concludes
+pub run_input-requires : goal.run_input-requires
+run_input-requires g c =
+    never_given (g.U.Utility.action c.args.utility.now).takes c.args.operand.now (ap (λ takes. kind_of takes c.args.operand.now) (sym c.takes_input.ensures) ∙ sym c.in-FromInput.ensures)
 
-pub returns-in_default-clause-step : goal.returns-in_default-clause-step
-returns-in_default-clause-step g c = λ w m i clear shows heard.
-    refused_runs (g.U.Utility.action c.args.utility.now) w m i c.args.operand.now BadName _ _ _ _ _
-    (misfit (g.U.Utility.action c.args.utility.now) m i c.args.operand.now (sym c.is_several.ensures ∙ c.if-is_several.false) (sym c.in_default.ensures.exact)) shows c.conclude-in_default.ensures.concludes
-
-pub returns-in_default-clause-speaks : goal.returns-in_default-clause-speaks
-returns-in_default-clause-speaks g c =
-    misfit_speaks (g.U.Utility.action c.args.utility.now) c.args.operand.now _ _ _ (sym c.is_several.ensures ∙ c.if-is_several.false) (sym c.in_default.ensures.exact) c.conclude-in_default.ensures.concludes
-
-pub returns-clause-step : goal.returns-clause-step
-returns-clause-step g c = λ w m i clear shows heard.
-    stepped_runs (g.U.Utility.action c.args.utility.now) w m i c.args.operand.now c.in-Some.name c.step-made.result _ _
-    (scene (g.D.Disk.told c.args.disk.now) (g.O.Sink.given c.args.out.now) (g.E.Sink.given c.args.err.now)) (scene (g.D.Disk.told c.step-made.new.disk) (g.O.Sink.given c.step-made.new.out) (g.E.Sink.given c.step-made.new.err)) _
-    (g.U.Utility.keeps c.args.utility.now) (sym c.is_several.ensures ∙ c.if-is_several.false) (sym c.in-Some.ensures.exact) c.in-Some.ensures.found clear c.step-made.ensures.reads shows heard c.step-made.ensures.step c.conclude-2.ensures.concludes
-
-pub returns-clause-speaks : goal.returns-clause-speaks
-returns-clause-speaks g c =
-    step_speaks (g.U.Utility.action c.args.utility.now) c.args.operand.now c.in-Some.name c.step-made.result _ _ _ _ (sym c.is_several.ensures ∙ c.if-is_several.false) (sym c.in-Some.ensures.exact) c.in-Some.ensures.found c.step-made.ensures.speaks c.conclude-2.ensures.concludes
-
-pub returns-then-is_several-clause-stops : goal.returns-then-is_several-clause-stops
-returns-then-is_several-clause-stops g c =
-    refused_stops (g.U.Utility.action c.args.utility.now) c.args.operand.now Unbuilt _ (g.I.Source.left c.args.input.now) (scene (g.D.Disk.told c.args.disk.now) (g.O.Sink.given c.args.out.now) (g.E.Sink.given c.args.err.now)) _
-    (λ m i. several (g.U.Utility.action c.args.utility.now) m i c.args.operand.now (sym c.is_several.ensures ∙ c.if-is_several.true)) c.conclude.ensures.concludes
-
-pub returns-in_default-clause-stops : goal.returns-in_default-clause-stops
-returns-in_default-clause-stops g c =
-    refused_stops (g.U.Utility.action c.args.utility.now) c.args.operand.now BadName _ (g.I.Source.left c.args.input.now) (scene (g.D.Disk.told c.args.disk.now) (g.O.Sink.given c.args.out.now) (g.E.Sink.given c.args.err.now)) _
-    (λ m i. misfit (g.U.Utility.action c.args.utility.now) m i c.args.operand.now (sym c.is_several.ensures ∙ c.if-is_several.false) (sym c.in_default.ensures.exact)) c.conclude-in_default.ensures.concludes
-
-pub returns-clause-stops : goal.returns-clause-stops
-returns-clause-stops g c =
-    stepped_stops (g.U.Utility.action c.args.utility.now) c.args.operand.now c.in-Some.name c.step-made.result _ (g.I.Source.left c.args.input.now)
-    (scene (g.D.Disk.told c.args.disk.now) (g.O.Sink.given c.args.out.now) (g.E.Sink.given c.args.err.now)) (scene (g.D.Disk.told c.step-made.new.disk) (g.O.Sink.given c.step-made.new.out) (g.E.Sink.given c.step-made.new.err)) _
-    (g.U.Utility.keeps c.args.utility.now) (sym c.is_several.ensures ∙ c.if-is_several.false) (sym c.in-Some.ensures.exact) c.in-Some.ensures.found c.step-made.ensures.reads c.step-made.ensures.moments c.conclude-2.ensures.concludes
+pub returns-in-Named : goal.returns-in-Named
+returns-in-Named g c =
+    let is : kind.Named ≡ kind_of (g.U.Utility.action c.args.utility.now).takes c.args.operand.now = c.in-Named.ensures ∙ ap (λ takes. kind_of takes c.args.operand.now) c.takes_input.ensures in
+    subst (λ (k : OperandKind). RunsKind (g.U.Utility.action c.args.utility.now) k c.args.operand.now c.run_name.result (g.I.Source.left c.args.input.now) (g.I.Source.left c.run_name.new.input)
+    (scene (g.D.Disk.told c.args.disk.now) (g.O.Sink.given c.args.out.now) (g.E.Sink.given c.args.err.now)) (scene (g.D.Disk.told c.run_name.new.disk) (g.O.Sink.given c.run_name.new.out) (g.E.Sink.given c.run_name.new.err))
+    (counts (g.I.Source.faults c.args.input.now) (g.O.Sink.faults c.args.out.now) (g.E.Sink.faults c.args.err.now) (g.D.Disk.faults c.args.disk.now))
+    (counts (g.I.Source.faults c.run_name.new.input) (g.O.Sink.faults c.run_name.new.out) (g.E.Sink.faults c.run_name.new.err) (g.D.Disk.faults c.run_name.new.disk))) is
+    (record {
+      steps = c.run_name.ensures.steps;
+      stops = c.run_name.ensures.stops;
+      unlocked = c.run_name.ensures.unlocked;
+      speaks = name_speaks (g.U.Utility.action c.args.utility.now) c.args.operand.now c.run_name.result _ _ c.run_name.ensures.speaks;
+      reads = c.run_name.ensures.reads;
+      silent = c.run_name.ensures.silent;
+      ignores = c.run_name.ensures.ignores;
+      causes = c.run_name.ensures.causes;
+    })

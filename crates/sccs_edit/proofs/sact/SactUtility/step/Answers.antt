@@ -1,6 +1,7 @@
 use Rattle.std.proofs.Common.{Err, refl}
 use Rattle.sccs_steps.specs.Calls.{scene}
 use Rattle.sccs_steps.proofs.ReadingMoments.{reading_moments}
+use Rattle.sccs_steps.proofs.UnlockedSteps.{unlocked_reading}
 use Rattle.sccs_transactions.proofs.Utilities.{is_sfile}
 use Rattle.sccs_edit.specs.Checks.{sact_keeps}
 use Rattle.sccs_edit.specs.SactStep.{sact_action, sact_checks}
@@ -35,3 +36,9 @@ pub returns-in-Err-clause-moments : goal.returns-in-Err-clause-moments
 returns-in-Err-clause-moments g c =
     reading_moments (sact_action c.args.self.now.heading) (Err c.in-Err.fault) c.args.name.now (g.I.Source.left c.args._input.now) (scene (g.D.Disk.told c.args.disk.now) (g.O.Sink.given c.args.out.now) (g.E.Sink.given c.args.err.now)) (scene (g.D.Disk.told c.find_edits.new.disk) (g.O.Sink.given c.args.out.now) (g.E.Sink.given c.args.err.now))
     (sact_keeps c.args.self.now.heading) refl c.find_edits.ensures.frame.same (returns-in-Err-clause-step g c)
+
+pub returns-in-Ok-clause-unlocked : goal.returns-in-Ok-clause-unlocked
+returns-in-Ok-clause-unlocked g c = unlocked_reading (sact_action c.args.self.now.heading) c.args.name.now _ _ c.find_edits.ensures.frame.same
+
+pub returns-in-Err-clause-unlocked : goal.returns-in-Err-clause-unlocked
+returns-in-Err-clause-unlocked g c = unlocked_reading (sact_action c.args.self.now.heading) c.args.name.now _ _ c.find_edits.ensures.frame.same

@@ -1,0 +1,63 @@
+-- Steps that change names which weren't locked.
+use Rattle.std.proofs.Common.{◌≡◌, ℕ, ◌<◌, Bool, true, false, List, [], ◌∷◌, drop, length, get_or, Option, IfSome, Result, Ok, Err, inl, sym, subst}
+use Rattle.std.specs.List.{filter}
+use Rattle.sccs_base.specs.Constants.{file_limit}
+use Rattle.sccs_disk.specs.Files.{Folder, view_in}
+use Rattle.sccs_disk.specs.Told.{Told, seen}
+use Rattle.sccs_files.specs.StepFiles.{Shows}
+use Rattle.sccs_moments.specs.Unlocked.{BeginsUnlocked}
+use Rattle.sccs_moments.proofs.Unlocked.{unlocked_same, unlocked_then}
+use Rattle.sccs_operands.specs.FolderNames.{HasSfilesOf, sfiles_in}
+use Rattle.sccs_operands.specs.InputNames.{GivesLines}
+use Rattle.sccs_sid.specs.declared.refusals.Refusal.{Refusal}
+use Rattle.sccs_steps.specs.Actions.{Action, AreClear, IsHeard, input_steps, kind_steps, names_found, names_given, step_at, steps_of}
+use Rattle.sccs_steps.specs.Calls.{World}
+use Rattle.sccs_steps.specs.ListStops.{Spares}
+use Rattle.sccs_steps.specs.Running.{UnlockedBy}
+use Rattle.sccs_steps.specs.StepLists.{NamedStep, SoFar, folder_after, in_turn}
+use Rattle.sccs_steps.specs.Unlocked.{ArePlain, StepUnlocked}
+use Rattle.sccs_steps.specs.declared.operands.OperandKind.TheVariants.{FromInput, Here}
+use Rattle.sccs_steps.proofs.KindLaws.{here_names, input_names}
+use Rattle.sccs_steps.proofs.Turns.{next_all}
+
+-- what changes no file
+pub unlocked_reading : (x : Action) (n : List ℕ) (a b : Told) → b ≡ a → StepUnlocked x n a b
+unlocked_reading x n a b same locks plain = unlocked_same a b same
+
+pub none_unlocked : (x : Action) (steps : Folder → List ℕ → List NamedStep) (given : List ℕ → Type 0) (a b : Told) → b ≡ a → UnlockedBy x steps given a b
+none_unlocked x steps given a b same = λ w folder i spares clear shows heard locks plain. unlocked_same a b same
+
+-- the step of a name
+pub one_unlocked : (x : Action) (n name : List ℕ) (given : List ℕ → Type 0) (a b : Told) → x.fits n ≡ true → name ≡ n → StepUnlocked x name a b → UnlockedBy x (λ folder i. step_at x folder i n ∷ []) given a b
+one_unlocked x n name given a b fits is step = λ w folder i spares clear shows heard locks plain. subst (λ k. StepUnlocked x k a b) is step locks (plain.0 fits)
+
+-- the next one of several
+pub next_unlocked : (x : Action) (w : List ℕ → Bool) (m : Folder) (steps : Folder → List ℕ → List NamedStep) (things : List (List ℕ)) (k status : ℕ) (item thing : List ℕ) (a b : World) (old now new : Told) → thing ≡ get_or things k item → k < length things → b.view ≡ seen now
+    → AreClear x w (in_turn steps m things) → SoFar w m (in_turn steps m things) (λ u. in_turn steps u (drop k things)) status a b → ArePlain x (in_turn steps m things) → BeginsUnlocked old now
+    → ((u : Folder) → AreClear x w (steps u thing) → Shows w (seen now) (view_in u) → ArePlain x (steps u thing) → BeginsUnlocked now new) → BeginsUnlocked old new
+next_unlocked x w m steps things k status item thing a b old now new is below told clear so plain far next =
+    unlocked_then old now new far
+    (next (folder_after m so.made) (next_all _ w m steps things k status item thing a b is below so clear) (subst (λ v. Shows w v (view_in (folder_after m so.made))) told so.ran.view) (next_all _ w m steps things k status item thing a b is below so plain))
+
+-- the steps of names that are these
+found_unlocked : (x : Action) (names found : List (List ℕ)) (left : Option (List ℕ)) (a b : Told) (w : List ℕ → Bool) (m : Folder) (i : List ℕ) → x.takes ≡ false → names ≡ found → UnlockedBy x (λ m i. steps_of x i m names) (IsHeard x.takes left) a b
+    → Spares w → AreClear x w (names_found ∷ steps_of x i m found) → Shows w (seen a) (view_in m) → x.locks ≡ true → ArePlain x (names_found ∷ steps_of x i m found) → BeginsUnlocked a b
+found_unlocked x names found left a b w m i never is unlocked spares clear shows locks plain =
+    unlocked w m i spares (subst (λ ns. AreClear x w (steps_of x i m ns)) (sym is) clear.1) shows (inl never) locks (subst (λ ns. ArePlain x (steps_of x i m ns)) (sym is) plain.1)
+
+pub here_unlocked : (x : Action) (names : List (List ℕ)) (left left2 : Option (List ℕ)) (old now new : Told) → x.takes ≡ false → now ≡ old → IfSome (seen old) (λ v. (u : Folder) → HasSfilesOf v u → names ≡ sfiles_in u)
+    → UnlockedBy x (λ m i. steps_of x i m names) (IsHeard x.takes left) now new → UnlockedBy x (λ m i. kind_steps x i m [] Here) (IsHeard false left2) old new
+here_unlocked x names left left2 old now new never same each unlocked = λ w m i spares clear shows heard locks plain.
+    found_unlocked x names (sfiles_in m) left old new w m i never (here_names w (seen old) m names spares shows each)
+    (subst (λ (t : Told). UnlockedBy x (λ m i. steps_of x i m names) (IsHeard x.takes left) t new) same unlocked) spares clear shows locks plain
+
+pub lines_unlocked : (x : Action) (lines names : List (List ℕ)) (left : Option (List ℕ)) (a b : Told) → x.takes ≡ false → names ≡ filter x.fits lines → UnlockedBy x (λ m i. steps_of x i m names) (IsHeard x.takes left) a b
+    → UnlockedBy x (λ m i. input_steps x i m (Ok (filter x.fits lines))) (IsHeard x.takes left) a b
+lines_unlocked x lines names left a b never is unlocked = λ w m i spares clear shows heard locks plain. found_unlocked x names (filter x.fits lines) left a b w m i never is unlocked spares clear shows locks plain
+
+pub input_unlocked : (x : Action) (lines : List (List ℕ)) (left left2 : Option (List ℕ)) (a b : Told) → x.takes ≡ false → IfSome left (λ bytes. GivesLines file_limit bytes (Ok lines))
+    → UnlockedBy x (λ m i. input_steps x i m (Ok (filter x.fits lines))) (IsHeard x.takes left2) a b → UnlockedBy x (λ m i. kind_steps x i m [] FromInput) (IsHeard true left) a b
+input_unlocked x lines left left2 a b never told unlocked = λ w m i spares clear shows heard locks plain.
+    let is : names_given x i ≡ Ok (filter x.fits lines) = input_names x left i lines heard told in
+    unlocked w m i spares (subst (λ (ns : Result (List (List ℕ)) Refusal). AreClear x w (input_steps x i m ns)) is clear) shows (inl never) locks
+    (subst (λ (ns : Result (List (List ℕ)) Refusal). ArePlain x (input_steps x i m ns)) is plain)

@@ -1,0 +1,20 @@
+-- Steps that change no s-file or p-file but one whose z-file wasn't there at an earlier moment.
+use Rattle.std.specs.Prelude.{◌≡◌, ℕ, true, false, List, drop}
+use Rattle.std.specs.List.{AllByRecursion}
+use Rattle.sccs_disk.specs.Told.{Told}
+use Rattle.sccs_moments.specs.Recovery.{is_kept}
+use Rattle.sccs_moments.specs.Unlocked.{BeginsUnlocked}
+use Rattle.sccs_steps.specs.Actions.{Action}
+use Rattle.sccs_steps.specs.StepLists.{NamedStep}
+
+-- where files are changed, the g-file's name is that of no s-file, p-file or z-file
+abbrev pub IsPlainFor : Action → List ℕ → Type 0
+IsPlainFor x n = x.reads ≡ false → is_kept (drop 2 n) ≡ false
+
+-- so it is of each name of steps that is taken
+abbrev pub ArePlain : Action → List NamedStep → Type 0
+ArePlain x ts = AllByRecursion (λ (t : NamedStep). x.fits t.name ≡ true → IsPlainFor x t.name) ts
+
+-- a step that locks its name: before each change of an s-file or p-file its z-file wasn't there at a moment of the call
+abbrev pub StepUnlocked : Action → List ℕ → Told → Told → Type 0
+StepUnlocked x n old new = x.locks ≡ true → IsPlainFor x n → BeginsUnlocked old new

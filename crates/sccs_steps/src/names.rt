@@ -1,0 +1,100 @@
+ghost use Rattle.std.specs.Prelude.{◌≡◌, ◌≤◌, ◌⊎◌, ℕ, max, Err, false};
+ghost use Rattle.sccs_base.specs.Stream.{Rose};
+ghost use Rattle.sccs_steps.specs.Calls.{scene};
+ghost use Rattle.sccs_steps.specs.Causes.{counts};
+ghost use Rattle.sccs_steps.specs.Messages.{Concludes, SaysRefusal};
+ghost use Rattle.sccs_steps.specs.Running.{RunsName, RunsNames};
+ghost use Rattle.sccs_steps.specs.declared.faults.Fault.TheVariants as end;
+ghost use Rattle.sccs_sid.specs.declared.refusals.StepFault.TheVariants as fault;
+
+use crate::faults::Fault;
+use crate::utilities::Utility;
+use sccs_base::{Bytes, Sink, Source};
+use sccs_disk::Disk;
+use sccs_sid::{Refusal, StepFault, write_refusal};
+use std::alloc::Global;
+
+/// Says why a step was refused; its status is 1.
+pub fn refuse<E: Sink>(operand: &[u8], refusal: &Refusal, err: &mut E) -> Result<u8, Fault>
+    ensures says { SaysRefusal operand.now refusal.now result (E.given err.old) (E.given err.new) }
+    ensures later { E.faults err.old ≤ E.faults err.new }
+    ensures cause { result ≡ Err end.WriteFault → Rose (E.faults err.old) (E.faults err.new) }
+{
+    match write_refusal(operand, refusal, err) {
+        Ok(()) => Ok(1),
+        Err(_) => Err(Fault::WriteFault),
+    }
+}
+
+// how an operand ends whose step ended so
+fn conclude<E: Sink>(operand: &[u8], made: Result<(), StepFault>, err: &mut E) -> Result<u8, Fault>
+    ensures concludes { Concludes made operand.now result (E.given err.old) (E.given err.new) }
+    ensures later { E.faults err.old ≤ E.faults err.new }
+    ensures cause { result ≡ Err end.WriteFault → (made ≡ Err fault.WriteFault) × (E.faults err.new ≡ E.faults err.old) ⊎ Rose (E.faults err.old) (E.faults err.new) }
+    ensures read { result ≡ Err end.ReadFault → made ≡ Err fault.ReadFault }
+    ensures broke { result ≡ Err end.DiskFault → made ≡ Err fault.DiskFault }
+{
+    match made {
+        Ok(()) => Ok(0),
+        Err(StepFault::Refused(refusal)) => refuse(operand, &refusal, err),
+        Err(StepFault::Memory) => Err(Fault::Memory),
+        Err(StepFault::ReadFault) => Err(Fault::ReadFault),
+        Err(StepFault::WriteFault) => Err(Fault::WriteFault),
+        Err(StepFault::DiskFault) => Err(Fault::DiskFault),
+    }
+}
+
+/// The greater of two statuses.
+pub fn greater(a: u8, b: u8) -> u8
+    ensures { result ≡ max a b }
+{
+    if a < b { b } else { a }
+}
+
+/// Makes the step of one file, says why it was refused, and answers the status.
+pub fn run_name<U: Utility, I: Source, O: Sink, E: Sink, D: Disk>(
+    alloc: Global,
+    utility: &U,
+    name: &[u8],
+    input: &mut I,
+    out: &mut O,
+    err: &mut E,
+    disk: &mut D,
+) -> Result<u8, Fault>
+    ensures { RunsName (U.action utility.now) name.now result (I.left input.old) (I.left input.new)
+        (scene (D.told disk.old) (O.given out.old) (E.given err.old)) (scene (D.told disk.new) (O.given out.new) (E.given err.new))
+        (counts (I.faults input.old) (O.faults out.old) (E.faults err.old) (D.faults disk.old))
+        (counts (I.faults input.new) (O.faults out.new) (E.faults err.new) (D.faults disk.new)) }
+{
+    let Some(file) = utility.name(name) else {
+        return conclude(name, Err(StepFault::Refused(Refusal::BadName)), err);
+    };
+    let made = utility.step(alloc, &file, input, out, err, disk);
+    conclude(name, made, err)
+}
+
+/// Makes the step of each file in turn, and answers the greatest status.
+pub fn run_names<U: Utility, I: Source, O: Sink, E: Sink, D: Disk>(
+    alloc: Global,
+    utility: &U,
+    names: &[Bytes],
+    input: &mut I,
+    out: &mut O,
+    err: &mut E,
+    disk: &mut D,
+) -> Result<u8, Fault>
+    requires { (U.action utility.now).takes ≡ false }
+    ensures { RunsNames (U.action utility.now) names.now result (I.left input.old) (I.left input.new)
+        (scene (D.told disk.old) (O.given out.old) (E.given err.old)) (scene (D.told disk.new) (O.given out.new) (E.given err.new))
+        (counts (I.faults input.old) (O.faults out.old) (E.faults err.old) (D.faults disk.old))
+        (counts (I.faults input.new) (O.faults out.new) (E.faults err.new) (D.faults disk.new)) }
+{
+    let mut status = 0;
+    for name in names {
+        match run_name(alloc, utility, name.bytes(), input, out, err, disk) {
+            Ok(one) => status = greater(status, one),
+            Err(fault) => return Err(fault),
+        }
+    }
+    Ok(status)
+}
