@@ -23,7 +23,8 @@ use Rattle.sccs_table.specs.declared.fronts.Front.{Front}
 use Rattle.sccs_versions.specs.Coming.{IsBody}
 use Rattle.sccs_pending.specs.PFiles.{Answers, Passes, is_short}
 use Rattle.sccs_words.specs.declared.commands.DeltaWords.{DeltaWords}
-use Rattle.sccs_delta.specs.DeltaStep.{Entry, base_lines, could_make, delta_checks, fitted, mrs_checked, nulls_of, warning}
+use Rattle.sccs_delta.specs.DeltaStep.{Entry, base_lines, could_make, delta_checks, fitted, mrs_checked, nulls_of}
+use Rattle.sccs_pending.specs.Reports.{warning}
 use Rattle.sccs_delta.specs.Examining.{has_keyword}
 use Rattle.sccs_delta.specs.Preparing.{Fits}
 use Rattle.sccs_delta.specs.Writing.{MakesDelta, script_checked}

@@ -1,7 +1,6 @@
 -- The checks of sizes, one after the other.
-use Rattle.std.proofs.Common.{◌≡◌, ◌≤◌, ℕ, Bool, true, false, ◌&&◌, List, length, Option, None, Some, Result, Ok, Err, refl, sym, ap, subst}
+use Rattle.std.proofs.Common.{◌≡◌, ℕ, Bool, true, false, ◌&&◌, List, length, Option, None, Some, Result, Ok, Err, refl, sym, ap, subst, ◌∙◌}
 use Rattle.std.specs.Prelude.{IfSome, drop, is_some, nat_le}
-use Rattle.std.proofs.lemmas.Bool.{le-leb}
 use Rattle.sccs_base.specs.Constants.{file_limit}
 use Rattle.sccs_base.specs.Name.{sibling}
 use Rattle.sccs_disk.specs.Files.{View}
@@ -14,7 +13,7 @@ use Rattle.sccs_files.specs.StepFiles.{Files, look}
 use Rattle.sccs_steps.specs.StepEffects.{check}
 use Rattle.sccs_pending.specs.PFiles.{Passes, is_short}
 use Rattle.sccs_delta.specs.DeltaStep.{sizes_checked}
-use Rattle.sccs_delta.specs.Sizes.{is_short_enough, s_is_there}
+use Rattle.sccs_delta.specs.Sizes.{is_short_enough, s_is_there, script_is_short}
 
 abbrev sizes_by : Bool → Bool → Bool → Bool → Bool → Result Bool Refusal
 sizes_by a b c d e = check a Missing >>= λ x. check (b && (c && (d && e))) TooLong
@@ -41,6 +40,21 @@ long_one t rest ReadFault is = is
 long_one t rest WriteFault is = is
 long_one t rest DiskFault is = tt
 
+-- the last of four is false
+long_last : (b c d e : Bool) (fault : StepFault) → Passes (check e TooLong) (Err fault) → Passes (check (b && (c && (d && e))) TooLong) (Err fault)
+long_last b c d true (Refused refusal) is = absurd cc
+long_last b c d false (Refused refusal) is = ap (λ x. check x TooLong) (never b c d) ∙ is
+  where
+    never : (b c d : Bool) → (b && (c && (d && false))) ≡ false
+    never false c d = refl
+    never true false d = refl
+    never true true false = refl
+    never true true true = refl
+long_last b c d e Memory is = tt
+long_last b c d e ReadFault is = is
+long_last b c d e WriteFault is = is
+long_last b c d e DiskFault is = tt
+
 last_one : (t : Bool) (r : Result (Unit {0}) StepFault) → Passes (check t TooLong) r → Passes (check (t && true) TooLong) r
 last_one true r is = is
 last_one false r is = is
@@ -55,6 +69,13 @@ pub there_ends : (o : Option View) (n i : List ℕ) (fault : StepFault) → IfSo
 there_ends None n i fault is = tt
 there_ends (Some v) n i fault is =
     subst (λ (r : Result Bool Refusal). Passes r (Err fault)) (sym (sizes_are i (look v n))) (no_s (is_some (v n)) (is_short (v n)) (is_short (v (sibling 112 n))) (is_short (v (drop 2 n))) (nat_le (length i) file_limit) fault is)
+
+pub script_ends : (o : Option View) (n i : List ℕ) (fault : StepFault) → IfSome o (λ (v : View). Passes (s_is_there (v n)) (Ok tt)) → Passes (script_is_short i) (Err fault) → IfSome o (λ (v : View). Passes (sizes_checked i (look v n)) (Err fault))
+script_ends None n i fault there is = tt
+script_ends (Some v) n i fault there is =
+    subst (λ (r : Result Bool Refusal). Passes r (Err fault)) (sym (sizes_are i (look v n)))
+    (subst (λ (a : Bool). Passes (sizes_by a (is_short (v n)) (is_short (v (sibling 112 n))) (is_short (v (drop 2 n))) (nat_le (length i) file_limit)) (Err fault)) (sym (is_true (is_some (v n)) Missing there))
+    (long_last (is_short (v n)) (is_short (v (sibling 112 n))) (is_short (v (drop 2 n))) (nat_le (length i) file_limit) fault is))
 
 pub s_ends : (o o2 : Option View) (n i : List ℕ) (fault : StepFault) → o2 ≡ o → IfSome o (λ (v : View). Passes (s_is_there (v n)) (Ok tt)) → IfSome o2 (λ (v : View). Passes (is_short_enough (v n)) (Err fault)) → IfSome o (λ (v : View). Passes (sizes_checked i (look v n)) (Err fault))
 s_ends None o2 n i fault same there is = tt
@@ -74,7 +95,7 @@ p_ends (Some v) o2 o3 n k i fault same same3 named there s is =
     (subst (λ (b : Bool). Passes (sizes_by true b (is_short (v (sibling 112 n))) (is_short (v (drop 2 n))) (nat_le (length i) file_limit)) (Err fault)) (sym (is_true (is_short (v n)) TooLong short))
     (long_one (is_short (v (sibling 112 n))) _ fault long)))
 
-pub all_sized : (o o2 o3 o4 : Option View) (n k g i : List ℕ) (r : Result (Unit {0}) StepFault) → o2 ≡ o → o3 ≡ o → o4 ≡ o → k ≡ sibling 112 n → g ≡ drop 2 n → length i ≤ file_limit → IfSome o (λ (v : View). Passes (s_is_there (v n)) (Ok tt)) → IfSome o2 (λ (v : View). Passes (is_short_enough (v n)) (Ok tt))
+pub all_sized : (o o2 o3 o4 : Option View) (n k g i : List ℕ) (r : Result (Unit {0}) StepFault) → o2 ≡ o → o3 ≡ o → o4 ≡ o → k ≡ sibling 112 n → g ≡ drop 2 n → Passes (script_is_short i) (Ok tt) → IfSome o (λ (v : View). Passes (s_is_there (v n)) (Ok tt)) → IfSome o2 (λ (v : View). Passes (is_short_enough (v n)) (Ok tt))
     → IfSome o3 (λ (v : View). Passes (is_short_enough (v k)) (Ok tt)) → IfSome o4 (λ (v : View). Passes (is_short_enough (v g)) r) → IfSome o (λ (v : View). Passes (sizes_checked i (look v n)) r)
 all_sized None o2 o3 o4 n k g i r same same3 same4 named named4 few there s p is = tt
 all_sized (Some v) o2 o3 o4 n k g i r same same3 same4 named named4 few there s p is =
@@ -85,5 +106,5 @@ all_sized (Some v) o2 o3 o4 n k g i r same same3 same4 named named4 few there s 
     (subst (λ (a : Bool). Passes (sizes_by a (is_short (v n)) (is_short (v (sibling 112 n))) (is_short (v (drop 2 n))) (nat_le (length i) file_limit)) r) (sym (is_true (is_some (v n)) Missing there))
     (subst (λ (b : Bool). Passes (sizes_by true b (is_short (v (sibling 112 n))) (is_short (v (drop 2 n))) (nat_le (length i) file_limit)) r) (sym (is_true (is_short (v n)) TooLong short))
     (subst (λ (c : Bool). Passes (sizes_by true true c (is_short (v (drop 2 n))) (nat_le (length i) file_limit)) r) (sym (is_true (is_short (v (sibling 112 n))) TooLong short_p))
-    (subst (λ (e : Bool). Passes (sizes_by true true true (is_short (v (drop 2 n))) e) r) (sym (le-leb (length i) file_limit few))
+    (subst (λ (e : Bool). Passes (sizes_by true true true (is_short (v (drop 2 n))) e) r) (sym (is_true (nat_le (length i) file_limit) TooLong few))
     (last_one (is_short (v (drop 2 n))) r last)))))

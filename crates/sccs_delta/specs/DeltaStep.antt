@@ -41,6 +41,7 @@ use Rattle.sccs_steps.specs.Actions.{Step}
 use Rattle.sccs_store.specs.SealedFiles.{sealed}
 use Rattle.sccs_pending.specs.NewEntries.{kept_g, or_no_edit}
 use Rattle.sccs_pending.specs.PFiles.{is_short}
+use Rattle.sccs_pending.specs.Reports.{warning}
 use Rattle.sccs_pending.specs.Pending.{Found, pending_of}
 use Rattle.sccs_words.specs.declared.commands.DeltaWords.{DeltaWords}
 use Rattle.sccs_records.specs.NewDeltas.{last_of, null_delta, with_delta, with_deltas}
@@ -199,10 +200,6 @@ abbrev pub delta_report : Bool → Sid → Counts → List ℕ
 delta_report silent sid counts =
     if silent then []
     else ended (sid_text sid) ++ (count_line counts.inserted (codes "inserted") ++ (count_line counts.deleted (codes "deleted") ++ count_line counts.unchanged (codes "unchanged")))
-
--- what is said where the result has no keyword
-abbrev pub warning : List ℕ → Bool → List ℕ
-warning n keyword = if keyword then [] else codes "WARNING [" ++ (n ++ ended (codes "]: no id keywords"))
 
 -- The s-file has the null deltas and the new one, the entry leaves the p-file, and the g-file goes unless it is kept.
 abbrev pub makes_delta : DeltaWords → Stamp → List ℕ → Files → Found → Entry → List Order → List Sid → StepEffect

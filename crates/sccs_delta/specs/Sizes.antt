@@ -18,11 +18,15 @@ s_is_there s = check (is_some s) Missing
 abbrev pub is_short_enough : Option Content → Result Bool Refusal
 is_short_enough o = check (is_short o) TooLong
 
+-- a script isn't longer than a file may be
+abbrev pub script_is_short : List ℕ → Result Bool Refusal
+script_is_short script = check (nat_le (length script) file_limit) TooLong
+
 -- the s-file is there, and the input isn't longer than a file may be
 unfoldable pub heard : List ℕ → Option Content → Result Bool Refusal
 heard i s = do
   there ← s_is_there s
-  check (nat_le (length i) file_limit) TooLong
+  script_is_short i
 
 -- the input, or why it isn't taken
 abbrev pub HearsScript : List ℕ → Option Content → Result (List ℕ) StepFault → Type 0

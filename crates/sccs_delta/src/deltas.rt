@@ -1,5 +1,4 @@
-ghost use Rattle.std.specs.Prelude.{◌≡◌, ◌≢◌, ◌≤◌, ℕ, List, Some, Err, IfOk, IfSome, length, true, false};
-ghost use Rattle.sccs_base.specs.Constants.{file_limit};
+ghost use Rattle.std.specs.Prelude.{◌≡◌, ◌≢◌, ◌≤◌, ℕ, List, Some, Err, IfSome, true, false};
 ghost use Rattle.sccs_base.specs.Stream.{Rose};
 ghost use Rattle.sccs_disk.specs.Files.{View};
 ghost use Rattle.sccs_disk.specs.Told.{seen};
@@ -39,7 +38,6 @@ fn hear<I: Source, D: Disk>(
     disk: &mut D,
 ) -> Result<Bytes, StepFault>
     ensures hears { (i : List ℕ) → I.left input.old ≡ Some i → IfSome (seen (D.told disk.old)) (λ (v : View). HearsScript i (v name.now) result) }
-    ensures bound { IfOk result (λ script. length script ≤ file_limit) }
     ensures checks { RefusesWithin delta_checks result }
     ensures same { D.told disk.new ≡ D.told disk.old }
     ensures heard { I.faults input.old ≤ I.faults input.new }
@@ -87,6 +85,10 @@ impl Utility for Delta<'_> {
 
     fn name(&self, operand: &[u8]) -> Option<Name> {
         Name::read_sfile(operand)
+    }
+
+    fn takes_input(&self) -> bool {
+        true
     }
 
     fn step<I: Source, O: Sink, E: Sink, D: Disk>(

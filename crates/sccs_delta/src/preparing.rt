@@ -30,20 +30,21 @@ ghost use Rattle.sccs_transactions.specs.Changes.{CouldPrepare, IsReady, Prepare
 ghost use Rattle.sccs_transactions.specs.Stops.{IsFirmPrepared, SettlesEntries};
 ghost use Rattle.sccs_versions.specs.Coming.{IsBody};
 ghost use Rattle.sccs_delta.specs.Copies.{CopyComes};
-ghost use Rattle.sccs_delta.specs.DeltaStep.{base_lines, could_make, delta_checks, delta_outcome, delta_report, nulls_of, warning};
+ghost use Rattle.sccs_delta.specs.DeltaStep.{base_lines, could_make, delta_checks, delta_outcome, delta_report, nulls_of};
+ghost use Rattle.sccs_pending.specs.Reports.{warning};
 ghost use Rattle.sccs_delta.specs.Examining.{has_keyword};
 ghost use Rattle.sccs_delta.specs.Writing.{ChangesDisk, MakesDelta, WritesDelta, WritesX, script_checked};
 
 use crate::entries::{Chosen, chosen_entry};
 use crate::examining::Found;
 use crate::new_sfiles::{NewSfile, new_sfile};
-use crate::reports::{delta_report, warning};
+use crate::reports::delta_report;
 use crate::scripts::{check_mrs, fit, orders_of};
 use crate::sizes::check_sizes;
 use crate::writing::write_delta;
 use sccs_base::{Bytes, Memory, Name};
 use sccs_disk::{Disk, DiskRefusal};
-use sccs_pending::{Pending, prepare_entries, read_pending, remove_g};
+use sccs_pending::{Pending, prepare_entries, read_pending, remove_g, warning};
 use sccs_pfile::{Edits, release};
 use sccs_script::Script;
 use sccs_sid::{Stamp, StepFault};
@@ -296,7 +297,6 @@ pub fn prepare_delta<D: Disk>(
     requires sfile { IsSfile name.now }
     requires locked { IsThere (sibling 122 name.now) (D.told disk.old) }
     requires moment { IsMoment stamp.now.moment }
-    requires short { length script.now ≤ file_limit }
     ensures prepares { (out err : Option (List ℕ)) → IfSome (seen (D.told disk.old)) (λ (v : View).
         Prepares result name.now (delta_outcome words.now stamp.now name.now script.now [] (look (unlocked name.now v) name.now))
         (world (Some v) out err) (world (seen (D.told disk.new)) out err)) }

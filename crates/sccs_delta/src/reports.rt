@@ -1,10 +1,10 @@
 ghost use Rattle.std.specs.Prelude.{◌≡◌, ◌++◌, ◌∷◌, IfOk, OnOk, decimal};
 ghost use Rattle.sccs_sid.specs.Sid.{IsSid, sid_text};
-ghost use Rattle.sccs_delta.specs.DeltaStep.{count_line, delta_report, warning};
+ghost use Rattle.sccs_delta.specs.DeltaStep.{count_line, delta_report};
 ghost use Rattle.sccs_records.specs.declared.new_deltas.NewDelta.{NewDelta};
 
 use itoa::Buffer;
-use sccs_base::{Bytes, Memory, Name};
+use sccs_base::{Bytes, Memory};
 use sccs_records::Counts;
 use sccs_sid::{DETAIL_ROOM, Sid};
 use std::alloc::Global;
@@ -42,17 +42,4 @@ pub fn delta_report(
         add_count(counts.unchanged, b"unchanged", &mut report)?;
     }
     Ok(Bytes::from_vec(report))
-}
-
-/// What is said where the result of a delta has no keyword.
-pub fn warning(alloc: Global, name: &Name, keyword: bool) -> Result<Bytes, Memory>
-    ensures { IfOk result (λ message. message ≡ warning name.now keyword) }
-{
-    let mut message = Vec::new(alloc);
-    if !keyword {
-        message.extend_from_slice(b"WARNING [")?;
-        message.extend_from_slice(name.bytes())?;
-        message.extend_from_slice(b"]: no id keywords\n")?;
-    }
-    Ok(Bytes::from_vec(message))
 }

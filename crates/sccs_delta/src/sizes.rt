@@ -1,13 +1,13 @@
-ghost use Rattle.std.specs.Prelude.{◌∷◌, [], ◌≤◌, IfSome, length};
-ghost use Rattle.sccs_base.specs.Constants.{file_limit};
+ghost use Rattle.std.specs.Prelude.{◌≢◌, Err, IfSome};
 ghost use Rattle.sccs_base.specs.Name.{IsSfile};
 ghost use Rattle.sccs_disk.specs.Files.{View};
 ghost use Rattle.sccs_disk.specs.Told.{seen};
 ghost use Rattle.sccs_files.specs.StepFiles.{look};
 ghost use Rattle.sccs_pending.specs.PFiles.{OnlyReads, Passes};
+ghost use Rattle.sccs_sid.specs.declared.refusals.StepFault.TheVariants as faults;
 ghost use Rattle.sccs_steps.specs.Actions.{RefusesWithin};
 ghost use Rattle.sccs_delta.specs.DeltaStep.{delta_checks, sizes_checked};
-ghost use Rattle.sccs_delta.specs.Sizes.{is_short_enough, s_is_there};
+ghost use Rattle.sccs_delta.specs.Sizes.{is_short_enough, s_is_there, script_is_short};
 
 use sccs_base::{FILE_LIMIT, Name};
 use sccs_disk::Disk;
@@ -45,16 +45,33 @@ fn check_short<D: Disk>(disk: &mut D, file: &Name) -> Result<(), StepFault>
     }
 }
 
-/// Whether the s-file is there, and it, the p-file and the g-file aren't longer than files may be. The script
-/// isn't.
+// whether a script isn't longer than a file may be
+fn check_script(script: &[u8]) -> Result<(), StepFault>
+    ensures told { Passes (script_is_short script.now) result }
+    ensures checks { RefusesWithin delta_checks result }
+    ensures broke { result ≢ Err faults.DiskFault }
+    ensures read { result ≢ Err faults.ReadFault }
+    ensures write { result ≢ Err faults.WriteFault }
+{
+    if script.len() as u64 > FILE_LIMIT {
+        Err(StepFault::Refused(Refusal::TooLong))
+    } else {
+        Ok(())
+    }
+}
+
+/// Whether the s-file is there, and it, the p-file, the g-file and the script aren't longer than files may be.
 pub fn check_sizes<D: Disk>(disk: &mut D, name: &Name, script: &[u8]) -> Result<(), StepFault>
     requires sfile { IsSfile name.now }
-    requires short { length script.now ≤ file_limit }
     ensures told { IfSome (seen (D.told disk.old)) (λ (v : View). Passes (sizes_checked script.now (look v name.now)) result) }
     ensures checks { RefusesWithin delta_checks result }
     ensures frame { OnlyReads D.told D.faults disk.old disk.new result }
 {
     match check_there(disk, name) {
+        Ok(()) => {}
+        Err(fault) => return Err(fault),
+    }
+    match check_script(script) {
         Ok(()) => {}
         Err(fault) => return Err(fault),
     }
