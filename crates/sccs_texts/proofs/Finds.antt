@@ -1,5 +1,5 @@
 -- The record of a serial, where serials fall.
-use Rattle.std.proofs.Common.{◌≡◌, ◌≢◌, ℕ, zero, suc, ◌==◌, ◌<◌, ◌≤◌, cond, List, [], ◌∷◌, Option, None, Some, option_map, Result, Ok, Err, Less, Equal, Greater, length, get_or, slice_get, refl, sym, ap, ◌∙◌, arith, tests, eq-eqb, inl, inr}
+use Rattle.std.proofs.Common.{◌≡◌, ◌≢◌, ℕ, zero, suc, ◌<◌, ◌≤◌, cond, List, [], ◌∷◌, None, Some, option_map, Result, Ok, Err, Less, Equal, Greater, length, get_or, refl, sym, ap, ◌∙◌, arith, tests, eq-eqb, inl, inr}
 use Rattle.std.specs.List.Sorted.{IsBinarySearchResult, IsSearchInRange}
 use Rattle.std.specs.Ordering.{nat_cmp, ordering_index}
 use Rattle.std.proofs.lemmas.Bool.{cases_lt, ne_eqb}

@@ -1,5 +1,5 @@
 -- How get gives the lines of a version (POSIX get, -m, -n, and Identification Keywords).
-use Rattle.std.specs.Prelude.{ℕ, suc, ◌==◌, Bool, true, false, List, [], ◌∷◌, ◌++◌, map, Option, None, Some, option_map, if◌then◌else◌}
+use Rattle.std.specs.Prelude.{ℕ, suc, ◌==◌, Bool, true, false, ◌||◌, List, [], ◌∷◌, ◌++◌, map, Option, None, Some, is_some, option_map, if◌then◌else◌}
 use Rattle.std.specs.List.{list_any}
 use Rattle.sccs_sid.specs.Sid.{sid_text}
 use Rattle.sccs_sid.specs.declared.sids.Sid.{Sid}
@@ -64,6 +64,15 @@ abbrev pub formed_text : LineForm → List Record → ℕ → List HistoryLine �
 formed_text form records number [] = []
 formed_text form records number (line ∷ lines) = formed_line form records number line ++ formed_text form records (suc number) lines
 
+-- what is given for lines that a delta inserted, the first of which has this number
+abbrev pub formed_lines : LineForm → List Record → ℕ → ℕ → List (List ℕ) → List ℕ
+formed_lines form records number inserter [] = []
+formed_lines form records number inserter (line ∷ lines) = formed form records number inserter line ++ formed_lines form records (suc number) inserter lines
+
+-- whether something stands before each line
+abbrev pub has_prefix : LineForm → Bool
+has_prefix form = is_some form.module_name || form.has_sids
+
 -- whether some of these lines has a keyword
 abbrev pub has_keywords : List (List ℕ) → Bool
 has_keywords lines = list_any (λ line. list_any is_keyword (parts line)) lines
@@ -71,6 +80,15 @@ has_keywords lines = list_any (λ line. list_any is_keyword (parts line)) lines
 -- the texts of lines
 abbrev pub texts : List HistoryLine → List (List ℕ)
 texts lines = map (λ line. line.text) lines
+
+-- whether a keyword is replaced, where they are and there is one or none
+abbrev pub if_replaced : Option Facts → Bool → Bool
+if_replaced None some = false
+if_replaced (Some facts) some = some
+
+-- the same of these lines
+abbrev pub replaces : LineForm → List (List ℕ) → Bool
+replaces form lines = if_replaced form.facts (has_keywords lines)
 
 -- the form of a line that is given as it is
 abbrev pub bare : LineForm

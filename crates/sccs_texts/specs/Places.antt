@@ -1,5 +1,5 @@
 -- Records by their places in a table.
-use Rattle.std.specs.Prelude.{ℕ, List, Option, None, Some, option_map, Result, Ok, Err, slice_get}
+use Rattle.std.specs.Prelude.{ℕ, List, Option, None, option_map, Result, Ok, Err, slice_get}
 use Rattle.sccs_sid.specs.declared.sids.Sid.{Sid}
 use Rattle.sccs_history.specs.declared.headers.Record.{Record}
 

@@ -1,13 +1,17 @@
-ghost use Rattle.std.specs.Prelude.{◌≡◌, ◌++◌, IfSome, option_map};
+ghost use Rattle.std.specs.Prelude.{◌≡◌, ◌+◌, ◌<◌, ◌^◌, ◌++◌, [], IfSome, length, option_map};
+ghost use Rattle.std.specs.List.{list_any};
 ghost use Rattle.sccs_base.specs.Causes.{GivesText};
+ghost use Rattle.sccs_base.specs.Cut.{cut};
 ghost use Rattle.sccs_grammar.specs.Written.{ended};
 ghost use Rattle.sccs_keys.specs.Expansion.{expanded, HasMoments};
-ghost use Rattle.sccs_texts.specs.Forms.{form_of, formed, module_prefix, replaced, sid_prefix, tabbed};
+ghost use Rattle.sccs_keys.specs.Keywords.{is_keyword, parts};
+ghost use Rattle.sccs_texts.specs.Forms.{form_of, formed, formed_lines, has_prefix, if_replaced, module_prefix, replaced, sid_prefix, tabbed};
 
 use crate::finders::SidFinder;
+use memchr::memchr;
 use sccs_base::{Failed, Line, Sink, give_parts};
 use sccs_history::Sid;
-use sccs_keys::{Facts, expand};
+use sccs_keys::{Facts, expand, has_keyword};
 
 /// How the lines of a version are given: POSIX get, -m, -n, and "Identification Keywords".
 #[derive(Clone, Copy)]
@@ -18,6 +22,22 @@ pub struct LineForm<'a> {
     pub has_sids: bool,
     /// What keywords are replaced by; none with -k, -e and -g.
     pub facts: Option<&'a Facts>,
+}
+
+impl<'a> LineForm<'a> {
+    /// Whether something stands before each line.
+    pub fn has_prefix(&self) -> bool
+        ensures { result ≡ has_prefix (form_of self.now) }
+    {
+        self.module_name.is_some() || self.has_sids
+    }
+
+    /// Whether a keyword of a line, or of whole lines, is replaced.
+    pub fn replaces(&self, lines: &[u8]) -> bool
+        ensures { result ≡ if_replaced (form_of self.now).facts (list_any is_keyword (parts lines.now)) }
+    {
+        self.facts.is_some() && has_keyword(lines)
+    }
 }
 
 // gives the module name and a tab, where the name is given
@@ -113,4 +133,33 @@ pub fn give_line<S: Sink>(
         return Err(fault);
     }
     give_replaced(form.facts, number, line, out)
+}
+
+/// Gives whole lines that one delta inserted, each as `give_line` does. So many lines stand before them in
+/// their text.
+pub fn give_lines<S: Sink>(
+    form: &LineForm,
+    sids: &mut SidFinder,
+    inserter: u16,
+    before: u64,
+    lines: &[u8],
+    out: &mut S,
+) -> Result<(), Failed>
+    requires facts { IfSome (form_of form.now).facts HasMoments }
+    requires whole { (cut lines.now).tail ≡ [] }
+    requires few { before + length (cut lines.now).lines < 2 ^ 64 }
+    ensures text { GivesText (formed_lines (form_of form.now) sids.old (before + 1) inserter (cut lines.now).lines) (S.given out.old) (S.given out.new) (S.faults out.old) (S.faults out.new) result }
+    ensures table { sids.new ≡ sids.old }
+{
+    let mut before = before;
+    let mut from = 0;
+    'lines: while let Some(place) = memchr(b'\n', &lines[from..]) {
+        let end = from + place;
+        if let Err(fault) = give_line(form, sids, inserter, before + 1, &lines[from..end], out) {
+            return Err(fault);
+        }
+        before += 1;
+        from = end + 1;
+    }
+    Ok(())
 }

@@ -9,6 +9,6 @@ mod laws;
 mod tests;
 
 pub use finders::SidFinder;
-pub use forms::{LineForm, give_line};
+pub use forms::{LineForm, give_line, give_lines};
 pub use held_lines::HeldLine;
 pub use laws::{lines_as_they_are, texts_put_together, texts_without_keywords};

@@ -1,29 +1,27 @@
 -- What was read of a body, over any disk.
-use Rattle.std.proofs.Common.{◌≡◌, ℕ, ◌+◌, ◌<◌, ◌⊎◌, Bool, true, false, List, [], ◌∷◌, ◌++◌, length, take, Option, None, Some, Result, Ok, Err, inl, inr, refl, sym, ap, subst, ◌∙◌, append_assoc, arith}
+use Rattle.std.proofs.Common.{◌≡◌, ℕ, ◌<◌, ◌⊎◌, Bool, true, false, List, [], ◌∷◌, ◌++◌, length, map, Option, None, Some, Result, Ok, Err, inl, inr, refl, sym, ap, subst, ◌∙◌, append_assoc, arith}
 use Rattle.std.proofs.lemmas.List.{append-nil}
 use Rattle.sccs_base.specs.Cut.{cut}
 use Rattle.sccs_history.specs.Numbers.{front_if}
-use Rattle.sccs_history.specs.Body.{HistoryLine, is_over, line_at, lines_behind, may_stand}
+use Rattle.sccs_history.specs.Body.{HistoryLine, line_at, lines_behind, may_stand}
 use Rattle.sccs_history.specs.Select.{shows}
 use Rattle.sccs_history.specs.declared.headers.Item.{Item}
 use Rattle.sccs_history.specs.declared.headers.Item.TheVariants.{Text, Insert, Delete}
 use Rattle.sccs_history.specs.declared.headers.Item.TheVariants as items
 use Rattle.sccs_grammar.specs.Written.{ended, bytes_of}
 use Rattle.sccs_grammar.specs.declared.faults.FileFault.{FileFault}
-use Rattle.sccs_grammar.specs.declared.faults.FileFault.TheVariants as faults
-use Rattle.sccs_table.specs.Runs.{IsRun}
-use Rattle.sccs_table.proofs.RunLaws.{run_bytes}
 use Rattle.sccs_body.specs.Reader.{ItemPlace}
 use Rattle.sccs_body.proofs.TextLaws.{some_bytes}
 use Rattle.sccs_body.proofs.ComingLaws.{hand_long}
 use Rattle.sccs_body.specs.ItemsRead.{Goes, IsBehind, texts_behind}
 use Rattle.sccs_weave.specs.Regions.{Holds}
+use Rattle.sccs_weave.specs.declared.regions.Region.{Region}
 use Rattle.sccs_versions.specs.Coming.{ShowsItem, shown, text_of_lines}
 use Rattle.sccs_versions.specs.Place.{AreShown, VersionPlace, at_hand}
-use Rattle.sccs_versions.specs.WasRead.{HasRead, ReadsAll, ReadsNext, ReadsOn, Stood, lines_before, text_before}
+use Rattle.sccs_versions.specs.WasRead.{HasRead, ReadsAll, ReadsNext, ReadsOn, Stood, lines_before, shown_before, text_before}
 use Rattle.sccs_versions.specs.declared.readers.Next.{Next}
 use Rattle.sccs_versions.specs.declared.readers.Next.TheVariants.{Line, Hidden, End}
-use Rattle.sccs_versions.proofs.RunLaws.{Passed, holds_behind, kept_or_none, run_behind, run_lines, run_text, text_append}
+use Rattle.sccs_versions.proofs.RunLaws.{Passed, holds_behind, kept_or_none, run_behind, run_inserted, run_lines, run_texts, text_append}
 
 -- ---- what is shown of lines, one behind others
 
@@ -35,12 +33,9 @@ shown_append : (set : List ℕ) (xs ys : List HistoryLine) → shown set (xs ++ 
 shown_append set [] ys = refl
 shown_append set (line ∷ xs) ys = ap (λ more. front_if (shows set line) line more) (shown_append set xs ys) ∙ front_append (shows set line) line (shown set xs) (shown set ys)
 
-nothing_shown : (set : List ℕ) (before : List Item) → text_of_lines (shown set (run_lines before (cut []).lines)) ≡ []
+nothing_shown : (set : List ℕ) (before : List Item) → shown set (run_lines before (cut []).lines) ≡ run_lines before (cut []).lines
 unfolding cut
 nothing_shown set before = refl
-
-more_text : (set : List ℕ) (xs ys : List HistoryLine) → text_of_lines (shown set (xs ++ ys)) ≡ text_of_lines (shown set xs) ++ text_of_lines (shown set ys)
-more_text set xs ys = ap text_of_lines (shown_append set xs ys) ∙ text_append (shown set xs) (shown set ys)
 
 -- ---- a run of lines
 
@@ -72,39 +67,53 @@ read_run live r r2 run before h passed stand = record {
   holds = subst (λ set. Holds set (texts_behind (cut run).lines before) r2.regions) (sym passed.set) (subst (λ w. Holds r.set (texts_behind (cut run).lines before) w) (sym passed.regions) (holds_behind r.set (cut run).lines before r.regions h.holds));
 }
 
-shown_first : (set : List ℕ) (before : List Item) (run : List ℕ) → (cut run).tail ≡ [] → (shows set (line_at before []) ≡ true) ⊎ (run ≡ []) → text_of_lines (shown set (run_lines before (cut run).lines)) ≡ run
-shown_first set before run whole (inl is) = ap text_of_lines (run_all set before (cut run).lines is) ∙ (sym (run_text before (cut run).lines) ∙ sym (run_bytes run whole))
-shown_first set before run whole (inr none) = subst (λ bytes. text_of_lines (shown set (run_lines before (cut bytes).lines)) ≡ bytes) (sym none) (nothing_shown set before)
+shown_first : (set : List ℕ) (before : List Item) (run : List ℕ) → (shows set (line_at before []) ≡ true) ⊎ (run ≡ []) → shown set (run_lines before (cut run).lines) ≡ run_lines before (cut run).lines
+shown_first set before run (inl is) = run_all set before (cut run).lines is
+shown_first set before run (inr none) = subst (λ bytes. shown set (run_lines before (cut bytes).lines) ≡ run_lines before (cut bytes).lines) (sym none) (nothing_shown set before)
 
-pub shown_on : (live : List ℕ) (r r2 : VersionPlace) (count : ℕ) (before : List Item) → AreShown r count → Passed (at_hand r count) r r2 → HasRead live r before → ReadsOn live r2 before (at_hand r count)
+pub shown_on : (live : List ℕ) (r r2 : VersionPlace) (count : ℕ) (before : List Item) → AreShown r count → Passed (at_hand r count) r r2 → HasRead live r before → ReadsOn live r2 r.regions before (cut (at_hand r count)).lines
 shown_on live r r2 count before are passed h =
     let run = at_hand r count in
     record {
       items = texts_behind (cut run).lines before;
       read = read_run live r r2 run before h passed (λ live before text behind some. are.may.stand live before text behind (subst (λ n. 0 < n) (hand_long r.items count are.may) some));
-      text_is = subst (λ set. text_before set (texts_behind (cut run).lines before) ≡ text_before set before ++ run) (sym passed.set)
-          (ap (λ lines. text_of_lines (shown r.set lines)) (lines_on (cut run).lines before)
-          ∙ (more_text r.set (lines_before before) (run_lines before (cut run).lines) ∙ ap (λ text. text_before r.set before ++ text) (shown_first r.set before run are.may.run.0 (kept_or_none r count before are.kept h.holds))));
+      first = run_lines before (cut run).lines;
+      whole = subst (λ set. shown_before set (texts_behind (cut run).lines before) ≡ shown_before set before ++ run_lines before (cut run).lines) (sym passed.set)
+          (ap (shown r.set) (lines_on (cut run).lines before)
+          ∙ (shown_append r.set (lines_before before) (run_lines before (cut run).lines) ∙ ap (λ lines. shown_before r.set before ++ lines) (shown_first r.set before run (kept_or_none r count before are.kept h.holds))));
+      texts_are = run_texts before (cut run).lines;
+      inserted = λ n is. run_inserted before (cut run).lines n (sym (is before h.holds.opens));
     }
 
 hidden_on : (live : List ℕ) (r r2 : VersionPlace) (run : List ℕ) (before : List Item) (kept : Bool) → Passed run r r2 → ((live : List ℕ) (before : List Item) (text : List ℕ) → IsBehind live before r.items → 0 < length run → may_stand live before (Text text) ≡ true)
-    → ((set : List ℕ) (before : List Item) (text : List ℕ) → Holds set before r.regions → kept ≡ shows set (line_at before text)) → kept ≡ false → HasRead live r before → ReadsOn live r2 before []
+    → ((set : List ℕ) (before : List Item) (text : List ℕ) → Holds set before r.regions → kept ≡ shows set (line_at before text)) → kept ≡ false → HasRead live r before → ReadsOn live r2 r.regions before []
 hidden_on live r r2 run before kept passed stand keep none h = record {
   items = texts_behind (cut run).lines before;
   read = read_run live r r2 run before h passed stand;
-  text_is = subst (λ set. text_before set (texts_behind (cut run).lines before) ≡ text_before set before ++ []) (sym passed.set)
-      (ap (λ lines. text_of_lines (shown r.set lines)) (lines_on (cut run).lines before)
-      ∙ (more_text r.set (lines_before before) (run_lines before (cut run).lines) ∙ ap (λ lines. text_before r.set before ++ text_of_lines lines) (run_none r.set before (cut run).lines (sym (keep r.set before [] h.holds) ∙ none))));
+  first = [];
+  whole = subst (λ set. shown_before set (texts_behind (cut run).lines before) ≡ shown_before set before ++ []) (sym passed.set)
+      (ap (shown r.set) (lines_on (cut run).lines before)
+      ∙ (shown_append r.set (lines_before before) (run_lines before (cut run).lines) ∙ ap (λ lines. shown_before r.set before ++ lines) (run_none r.set before (cut run).lines (sym (keep r.set before [] h.holds) ∙ none))));
+  texts_are = refl;
+  inserted = λ n is. tt;
 }
 
 -- the same, as the code goes over lines that aren't shown
 pub hidden_read : (live : List ℕ) (r r2 : VersionPlace) (text : List ℕ) (before : List Item) (kept : Bool) → at_hand r (length text) ≡ text → Passed (at_hand r (length text)) r r2
     → ((live : List ℕ) (before : List Item) (line : List ℕ) → IsBehind live before r.items → 0 < length text → may_stand live before (Text line) ≡ true)
-    → ((set : List ℕ) (before : List Item) (line : List ℕ) → Holds set before r.regions → kept ≡ shows set (line_at before line)) → kept ≡ false → HasRead live r before → ReadsOn live r2 before []
+    → ((set : List ℕ) (before : List Item) (line : List ℕ) → Holds set before r.regions → kept ≡ shows set (line_at before line)) → kept ≡ false → HasRead live r before → ReadsOn live r2 r.regions before []
 hidden_read live r r2 text before kept front passed stand keep none h = hidden_on live r r2 text before kept (subst (λ run. Passed run r r2) front passed) stand keep none h
 
-pub read_same : (live : List ℕ) (r : VersionPlace) (before : List Item) → HasRead live r before → ReadsOn live r before []
-read_same live r before h = record { items = before; read = h; text_is = sym (append-nil (text_before r.set before)) }
+pub read_same : (live : List ℕ) (r : VersionPlace) (regions : List Region) (before : List Item) → HasRead live r before → ReadsOn live r regions before []
+read_same live r regions before h = record { items = before; read = h; first = []; whole = sym (append-nil (shown_before r.set before)); texts_are = refl; inserted = λ n is. tt }
+
+no_texts : (lines : List HistoryLine) → map (λ (line : HistoryLine). line.text) lines ≡ [] → lines ≡ []
+no_texts [] none = refl
+no_texts (line ∷ lines) none = absurd cc
+
+-- a reader that showed nothing more
+nothing_more : (live : List ℕ) (r : VersionPlace) (regions : List Region) (before : List Item) → (on : ReadsOn live r regions before []) → shown_before r.set on.items ≡ shown_before r.set before
+nothing_more live r regions before on = on.whole ∙ (ap (λ lines. shown_before r.set before ++ lines) (no_texts on.first on.texts_are) ∙ append-nil (shown_before r.set before))
 
 -- ---- one item
 
@@ -112,11 +121,11 @@ one_shown : (b : Bool) (line : HistoryLine) → b ≡ true → front_if b line [
 one_shown true line is = refl
 one_shown false line is = absurd cc
 
-item_text : (set : List ℕ) (before : List Item) (item : Item) → text_before set (item ∷ before) ≡ text_before set before ++ text_of_lines (shown set (lines_behind before (item ∷ [])))
-item_text set before (Text text) = more_text set (lines_before before) (line_at before text ∷ [])
-item_text set before (Insert n) = sym (append-nil (text_before set before))
-item_text set before (Delete n) = sym (append-nil (text_before set before))
-item_text set before (items.End n) = sym (append-nil (text_before set before))
+item_shows : (set : List ℕ) (before : List Item) (item : Item) → shown_before set (item ∷ before) ≡ shown_before set before ++ shown set (lines_behind before (item ∷ []))
+item_shows set before (Text text) = shown_append set (lines_before before) (line_at before text ∷ [])
+item_shows set before (Insert n) = sym (append-nil (shown_before set before))
+item_shows set before (Delete n) = sym (append-nil (shown_before set before))
+item_shows set before (items.End n) = sym (append-nil (shown_before set before))
 
 item_read : (live : List ℕ) (r r2 : VersionPlace) (before : List Item) (item : Item) → HasRead live r before → r2.set ≡ r.set → Goes live before r2.items (Ok (Some item)) → Holds r.set (item ∷ before) r2.regions → HasRead live r2 (item ∷ before)
 item_read live r r2 before item h same goes holds = record {
@@ -125,34 +134,54 @@ item_read live r r2 before item h same goes holds = record {
   holds = subst (λ set. Holds set (item ∷ before) r2.regions) (sym same) holds;
 }
 
-joined_text : (set : List ℕ) (first before : List Item) (text more : List ℕ) → text_before set first ≡ text_before set before ++ [] → more ≡ text → text_before set first ++ more ≡ text_before set before ++ text
-joined_text set first before text more is same = ap (λ front. front ++ more) (is ∙ append-nil (text_before set before)) ∙ ap (λ rest. text_before set before ++ rest) same
+-- an item behind those that showed nothing more shows these lines
+one_more : (live : List ℕ) (r : VersionPlace) (regions : List Region) (before : List Item) (on : ReadsOn live r regions before []) (item : Item) (lines : List HistoryLine) → shown r.set (lines_behind on.items (item ∷ [])) ≡ lines
+    → shown_before r.set (item ∷ on.items) ≡ shown_before r.set before ++ lines
+one_more live r regions before on item lines is =
+    item_shows r.set on.items item ∙ (ap (λ front. front ++ shown r.set (lines_behind on.items (item ∷ []))) (nothing_more live r regions before on) ∙ ap (λ more. shown_before r.set before ++ more) is)
 
-shown_item : (live : List ℕ) (r r2 : VersionPlace) (before : List Item) (on : ReadsOn live r before []) (item : Item) (result : Result Next FileFault) → r2.set ≡ r.set → Goes live on.items r2.items (Ok (Some item)) → ShowsItem r.set on.items item r2.regions result → ReadsNext live r2 before result
-shown_item live r r2 before on item (Ok (Line text)) same goes it = record {
+shown_item : (live : List ℕ) (r r2 : VersionPlace) (regions : List Region) (before : List Item) (on : ReadsOn live r regions before []) (item : Item) (result : Result Next FileFault) → r2.set ≡ r.set → Goes live on.items r2.items (Ok (Some item)) → ShowsItem r.set on.items item r2.regions result → ReadsNext live r2 before result
+shown_item live r r2 regions before on item (Ok (Line text)) same goes it = record {
   items = item ∷ on.items;
   read = item_read live r r2 on.items item on.read same goes it.0;
-  text_is = subst (λ set. text_before set (item ∷ on.items) ≡ text_before set before ++ ended text) (sym same)
-      (item_text r.set on.items item ∙ joined_text r.set on.items before (ended text) _ on.text_is
-      (ap (λ (i : Item). text_of_lines (shown r.set (lines_behind on.items (i ∷ [])))) it.1 ∙ (ap text_of_lines (one_shown (shows r.set (line_at on.items text)) (line_at on.items text) it.2) ∙ append-nil (ended text))));
+  first = line_at on.items text ∷ [];
+  whole = subst (λ set. shown_before set (item ∷ on.items) ≡ shown_before set before ++ line_at on.items text ∷ []) (sym same)
+      (one_more live r regions before on item (line_at on.items text ∷ [])
+      (ap (λ (i : Item). shown r.set (lines_behind on.items (i ∷ []))) it.1 ∙ one_shown (shows r.set (line_at on.items text)) (line_at on.items text) it.2));
+  texts_are = refl;
+  inserted = λ n is. (sym (is (Text text ∷ on.items) (subst (λ (i : Item). Holds r.set (i ∷ on.items) r2.regions) it.1 it.0).opens), tt);
 }
-shown_item live r r2 before on item (Ok Hidden) same goes it = record {
+shown_item live r r2 regions before on item (Ok Hidden) same goes it = record {
   items = item ∷ on.items;
   read = item_read live r r2 on.items item on.read same goes it.0;
-  text_is = subst (λ set. text_before set (item ∷ on.items) ≡ text_before set before ++ []) (sym same) (item_text r.set on.items item ∙ joined_text r.set on.items before [] _ on.text_is (ap text_of_lines it.1));
+  first = [];
+  whole = subst (λ set. shown_before set (item ∷ on.items) ≡ shown_before set before ++ []) (sym same) (one_more live r regions before on item [] it.1);
+  texts_are = refl;
+  inserted = λ n is. tt;
 }
-shown_item live r r2 before on item (Ok End) same goes it = absurd it
-shown_item live r r2 before on item (Err fault) same goes it = tt
+shown_item live r r2 regions before on item (Ok End) same goes it = absurd it
+shown_item live r r2 regions before on item (Err fault) same goes it = tt
 
-pub next_read : (live : List ℕ) (r r2 : VersionPlace) (before : List Item) (found : Option Item) (item : Item) (result : Result Next FileFault) → found ≡ Some item → r2.set ≡ r.set → ((live : List ℕ) (before : List Item) → IsBehind live before r.items → Goes live before r2.items (Ok found))
-    → ((before : List Item) → Holds r.set before r.regions → ShowsItem r.set before item r2.regions result) → ReadsOn live r before [] → ReadsNext live r2 before result
-next_read live r r2 before found item result is same goes it on =
-    shown_item live r r2 before on item result same (subst (λ f. Goes live on.items r2.items (Ok f)) is (goes live on.items on.read.behind)) (it on.items on.read.holds)
+pub next_read : (live : List ℕ) (r r2 : VersionPlace) (regions : List Region) (before : List Item) (found : Option Item) (item : Item) (result : Result Next FileFault) → found ≡ Some item → r2.set ≡ r.set → ((live : List ℕ) (before : List Item) → IsBehind live before r.items → Goes live before r2.items (Ok found))
+    → ((before : List Item) → Holds r.set before r.regions → ShowsItem r.set before item r2.regions result) → ReadsOn live r regions before [] → ReadsNext live r2 before result
+next_read live r r2 regions before found item result is same goes it on =
+    shown_item live r r2 regions before on item result same (subst (λ f. Goes live on.items r2.items (Ok f)) is (goes live on.items on.read.behind)) (it on.items on.read.holds)
 
-pub end_read : (live : List ℕ) (r : VersionPlace) (new : ItemPlace) (set : List ℕ) (before : List Item) (found : Option Item) → found ≡ None → set ≡ r.set → ((live : List ℕ) (before : List Item) → IsBehind live before r.items → Goes live before new (Ok found)) → ReadsOn live r before [] → ReadsAll live set before
-end_read live r new set before found is same goes on = record {
+pub end_read : (live : List ℕ) (r : VersionPlace) (regions : List Region) (new : ItemPlace) (set : List ℕ) (before : List Item) (found : Option Item) → found ≡ None → set ≡ r.set → ((live : List ℕ) (before : List Item) → IsBehind live before r.items → Goes live before new (Ok found)) → ReadsOn live r regions before [] → ReadsAll live set before
+end_read live r regions new set before found is same goes on = record {
   items = on.items;
   stood = on.read.stood;
   over = subst (λ f. Goes live on.items new (Ok f)) is (goes live on.items on.read.behind);
-  text_is = subst (λ s. text_before s on.items ≡ text_before s before) (sym same) (on.text_is ∙ append-nil (text_before r.set before));
+  whole = subst (λ s. shown_before s on.items ≡ shown_before s before) (sym same) (nothing_more live r regions before on);
 }
+
+-- ---- texts
+
+-- the text of what was shown is that of what was shown before, and these lines
+pub text_on : (live : List ℕ) (r : VersionPlace) (regions : List Region) (before : List Item) (texts : List (List ℕ)) → (on : ReadsOn live r regions before texts) → text_before r.set on.items ≡ text_before r.set before ++ bytes_of texts
+text_on live r regions before texts on =
+    ap text_of_lines on.whole ∙ (text_append (shown_before r.set before) on.first ∙ ap (λ more. text_before r.set before ++ more) (lines_text on.first ∙ ap bytes_of on.texts_are))
+  where
+    lines_text : (lines : List HistoryLine) → text_of_lines lines ≡ bytes_of (map (λ (line : HistoryLine). line.text) lines)
+    lines_text [] = refl
+    lines_text (line ∷ lines) = ap (λ more. ended line.text ++ more) (lines_text lines)

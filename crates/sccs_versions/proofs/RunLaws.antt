@@ -15,7 +15,7 @@ use Rattle.sccs_body.specs.ToCome.{TextsCome, ToCome, onto}
 use Rattle.sccs_body.proofs.ComingLaws.{nothing_at_hand, nothing_may_pass}
 use Rattle.sccs_weave.specs.Regions.{Holds}
 use Rattle.sccs_weave.specs.declared.regions.Region.{Region}
-use Rattle.sccs_versions.specs.Coming.{ComeFirst, Coming, shown, text_of_lines}
+use Rattle.sccs_versions.specs.Coming.{ComeFirst, Coming, StandFirst, shown, text_of_lines}
 use Rattle.sccs_versions.specs.Place.{AreShown, VersionPlace, at_hand}
 
 -- ---- lines that stand together behind some items
@@ -32,7 +32,11 @@ pub run_text : (before : List Item) (lines : List (List ℕ)) → bytes_of lines
 run_text before [] = refl
 run_text before (line ∷ lines) = ap (λ more. ended line ++ more) (run_text before lines)
 
-run_inserted : (before : List Item) (lines : List (List ℕ)) (n : ℕ) → inserter before ≡ n → AllByRecursion (λ (line : HistoryLine). line.inserter ≡ n) (run_lines before lines)
+pub run_texts : (before : List Item) (lines : List (List ℕ)) → map (λ (line : HistoryLine). line.text) (run_lines before lines) ≡ lines
+run_texts before [] = refl
+run_texts before (line ∷ lines) = ap (λ more. line ∷ more) (run_texts before lines)
+
+pub run_inserted : (before : List Item) (lines : List (List ℕ)) (n : ℕ) → inserter before ≡ n → AllByRecursion (λ (line : HistoryLine). line.inserter ≡ n) (run_lines before lines)
 run_inserted before [] n is = tt
 run_inserted before (line ∷ lines) n is = (is, run_inserted before lines n is)
 
@@ -108,18 +112,24 @@ pub kept_or_none : (r : VersionPlace) (count : ℕ) (before : List Item) → ((s
 kept_or_none r count before (inl kept) holds = inl (kept r.set before [] holds)
 kept_or_none r count before (inr none) holds = inr (nothing_at_hand r.items count none)
 
+-- a run, and what comes behind it
+stand_first : (file : List ℕ) (r : VersionPlace) (run : List ℕ) (lines : List HistoryLine) → (p : Coming file r lines) → (items : List Item) → p.rest ≡ map Text (cut run).lines ++ items → (shows r.set (line_at p.before []) ≡ true) ⊎ (run ≡ []) → (cut run).tail ≡ []
+    → StandFirst r run lines
+stand_first file r run lines p items is kept whole = record {
+  first = run_lines p.before (cut run).lines;
+  rest = shown r.set (lines_behind (texts_behind (cut run).lines p.before) items);
+  whole = p.lines_are ∙ (ap (λ rest. shown r.set (lines_behind p.before rest)) is ∙ first_shown r.set p.before run items kept);
+  text_is = run_bytes run whole ∙ run_text p.before (cut run).lines;
+  lines_are = run_texts p.before (cut run).lines;
+  inserted = λ n at. run_inserted p.before (cut run).lines n (sym (at p.before p.holds.opens));
+}
+
 pub lines_passed : (file : List ℕ) (r r2 : VersionPlace) (count : ℕ) (lines : List HistoryLine) → AreShown r count → Passed (at_hand r count) r r2 → Coming file r lines → ComeFirst file r r2 (at_hand r count) lines
+unfolding stand_first passed_on
 lines_passed file r r2 count lines are passed p =
     let run = at_hand r count in
     let on = passed_on file r r2 run lines p passed in
-    record {
-      first = run_lines p.before (cut run).lines;
-      rest = shown r.set (lines_behind (texts_behind (cut run).lines p.before) on.0);
-      whole = p.lines_are ∙ (ap (λ rest. shown r.set (lines_behind p.before rest)) on.1 ∙ first_shown r.set p.before run on.0 (kept_or_none r count p.before are.kept p.holds));
-      text_is = run_bytes run are.may.run.0 ∙ run_text p.before (cut run).lines;
-      inserted = λ n is. run_inserted p.before (cut run).lines n (sym (is p.before p.holds.opens));
-      on = on.2;
-    }
+    record { stand = stand_first file r run lines p on.0 on.1 (kept_or_none r count p.before are.kept p.holds) are.may.run.0; on = on.2 }
 
 -- the same, as the code goes over lines that aren't shown
 pub hidden_run : (file : List ℕ) (r r2 : VersionPlace) (text : List ℕ) (lines : List HistoryLine) (kept : Bool) → at_hand r (length text) ≡ text → Passed (at_hand r (length text)) r r2
@@ -140,17 +150,19 @@ text_append (line ∷ xs) ys = ap (λ more. ended line.text ++ more) (text_appen
 abbrev pub ComeAtHand : List ℕ → ItemPlace → List ℕ → Type 0
 ComeAtHand file r text = (live : List ℕ) (before : List Item) (found : Result (List Item) ℕ) → ToCome file live before found r → (rest : Result (List Item) ℕ) × (found ≡ onto (map Text (cut text).lines) rest)
 
-pub comes_first : (file : List ℕ) (r : VersionPlace) (text : List ℕ) (lines : List HistoryLine) → AreShown r (length text) → at_hand r (length text) ≡ text → ComeAtHand file r.items text → Coming file r lines → (rest : List ℕ) × (text_of_lines lines ≡ text ++ rest)
+pub comes_first : (file : List ℕ) (r : VersionPlace) (text : List ℕ) (lines : List HistoryLine) → AreShown r (length text) → at_hand r (length text) ≡ text → ComeAtHand file r.items text → Coming file r lines → StandFirst r text lines
 comes_first file r text lines are is first p =
     let come = first p.live p.before (Ok p.rest) p.comes in
     let split = onto_read (map Text (cut text).lines) come.0 p.rest (sym come.1) in
-    let behind2 = shown r.set (lines_behind (texts_behind (cut text).lines p.before) split.0) in
-    let shown_is : lines ≡ run_lines p.before (cut text).lines ++ behind2 =
-    p.lines_are ∙ (ap (λ rest. shown r.set (lines_behind p.before rest)) split.2
-    ∙ first_shown r.set p.before text split.0 (subst (λ t. (shows r.set (line_at p.before []) ≡ true) ⊎ (t ≡ [])) is (kept_or_none r (length text) p.before are.kept p.holds))) in
-    let text_is : text ≡ text_of_lines (run_lines p.before (cut text).lines) =
-    run_bytes text (subst (λ t. (cut t).tail ≡ []) is are.may.run.0) ∙ run_text p.before (cut text).lines in
-    (text_of_lines behind2, ap text_of_lines shown_is ∙ (text_append (run_lines p.before (cut text).lines) behind2 ∙ ap (λ front. front ++ text_of_lines behind2) (sym text_is)))
+    stand_first file r text lines p split.0 split.2 (subst (λ t. (shows r.set (line_at p.before []) ≡ true) ⊎ (t ≡ [])) is (kept_or_none r (length text) p.before are.kept p.holds)) (subst (λ t. (cut t).tail ≡ []) is are.may.run.0)
+
+pub no_tail : (cut []).tail ≡ []
+unfolding cut
+no_tail = refl
+
+pub none_first : (r : VersionPlace) (lines : List HistoryLine) → StandFirst r [] lines
+unfolding cut
+none_first r lines = record { first = []; rest = lines; whole = refl; text_is = refl; lines_are = refl; inserted = λ n is. tt }
 
 -- ---- the text of all lines
 

@@ -1,6 +1,7 @@
 -- The lines that a reader of a version is still to give.
-use Rattle.std.specs.Prelude.{◌≡◌, ℕ, true, false, List, [], ◌∷◌, ◌++◌, Option, Some, Result, Ok, Err}
+use Rattle.std.specs.Prelude.{◌≡◌, ℕ, true, false, List, [], ◌∷◌, ◌++◌, map, Option, Some, Result, Ok, Err}
 use Rattle.std.specs.List.{AllByRecursion}
+use Rattle.sccs_base.specs.Cut.{cut}
 use Rattle.sccs_history.specs.Numbers.{front_if, has}
 use Rattle.sccs_history.specs.Body.{HistoryLine, line_at, lines_behind}
 use Rattle.sccs_history.specs.Select.{shows}
@@ -37,14 +38,19 @@ pub record Coming (file : List ℕ) (r : VersionPlace) (lines : List HistoryLine
   pub comes : ToCome file live before (Ok rest) r.items
   pub lines_are : lines ≡ shown r.set (lines_behind before rest)
 
--- Of the lines to come these are the first, the delta of the place inserted them, and others follow.
-pub record ComeFirst (file : List ℕ) (r r2 : VersionPlace) (text : List ℕ) (lines : List HistoryLine) : Type 0 where
+-- Of the lines to come those of a text are the first, and the delta of the place inserted them.
+pub record StandFirst (r : VersionPlace) (text : List ℕ) (lines : List HistoryLine) : Type 0 where
   pub first : List HistoryLine
   pub rest : List HistoryLine
   pub whole : lines ≡ first ++ rest
   pub text_is : text ≡ text_of_lines first
+  pub lines_are : map (λ (line : HistoryLine). line.text) first ≡ (cut text).lines
   pub inserted : (n : ℕ) → IsInserter r.regions n → AllByRecursion (λ (line : HistoryLine). line.inserter ≡ n) first
-  pub on : Coming file r2 rest
+
+-- The same, and the reader stands before the others.
+pub record ComeFirst (file : List ℕ) (r r2 : VersionPlace) (text : List ℕ) (lines : List HistoryLine) : Type 0 where
+  pub stand : StandFirst r text lines
+  pub on : Coming file r2 stand.rest
 
 -- The next line to come has this text, the delta of the place inserted it, and others follow.
 pub record ComesNext (file : List ℕ) (r : VersionPlace) (text : List ℕ) (lines : List HistoryLine) : Type 0 where

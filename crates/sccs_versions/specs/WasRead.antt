@@ -1,14 +1,15 @@
 -- What was read of a body, whatever the disk tells. Items stand nearest first.
-use Rattle.std.specs.Prelude.{◌≡◌, ℕ, true, List, [], ◌∷◌, ◌++◌, Result, Ok, Err}
+use Rattle.std.specs.Prelude.{◌≡◌, ℕ, true, List, [], ◌∷◌, ◌++◌, map, Result, Ok, Err}
+use Rattle.std.specs.List.{AllByRecursion}
 use Rattle.sccs_history.specs.Body.{HistoryLine, is_over, line_at, may_stand}
 use Rattle.sccs_history.specs.declared.headers.Item.{Item}
 use Rattle.sccs_history.specs.declared.headers.Item.TheVariants.{Text, Insert, Delete, End}
-use Rattle.sccs_grammar.specs.Written.{ended}
 use Rattle.sccs_grammar.specs.declared.faults.FileFault.{FileFault}
 use Rattle.sccs_body.specs.ItemsRead.{IsBehind}
 use Rattle.sccs_weave.specs.Regions.{Holds}
+use Rattle.sccs_weave.specs.declared.regions.Region.{Region}
 use Rattle.sccs_versions.specs.Coming.{shown, text_of_lines}
-use Rattle.sccs_versions.specs.Place.{VersionPlace}
+use Rattle.sccs_versions.specs.Place.{IsInserter, VersionPlace}
 use Rattle.sccs_versions.specs.declared.readers.Next.{Next}
 use Rattle.sccs_versions.specs.declared.readers.Next.TheVariants as next
 
@@ -20,9 +21,12 @@ lines_before (Insert n ∷ before) = lines_before before
 lines_before (Delete n ∷ before) = lines_before before
 lines_before (End n ∷ before) = lines_before before
 
--- the text of those that a set shows
+-- those that a set shows, and their text
+abbrev pub shown_before : List ℕ → List Item → List HistoryLine
+shown_before set before = shown set (lines_before before)
+
 abbrev pub text_before : List ℕ → List Item → List ℕ
-text_before set before = text_of_lines (shown set (lines_before before))
+text_before set before = text_of_lines (shown_before set before)
 
 -- each of them may stand where it does
 abbrev pub Stood : List ℕ → List Item → Type 0
@@ -35,22 +39,25 @@ pub record HasRead (live : List ℕ) (r : VersionPlace) (before : List Item) : T
   pub behind : IsBehind live before r.items
   pub holds : Holds r.set before r.regions
 
--- The reader went on behind more items, of which this was shown.
-pub record ReadsOn (live : List ℕ) (r : VersionPlace) (before : List Item) (text : List ℕ) : Type 0 where
+-- The reader went on behind more items, of which lines with these texts were shown; the delta of the regions inserted them.
+pub record ReadsOn (live : List ℕ) (r : VersionPlace) (regions : List Region) (before : List Item) (texts : List (List ℕ)) : Type 0 where
   pub items : List Item
   pub read : HasRead live r items
-  pub text_is : text_before r.set items ≡ text_before r.set before ++ text
+  pub first : List HistoryLine
+  pub whole : shown_before r.set items ≡ shown_before r.set before ++ first
+  pub texts_are : map (λ (line : HistoryLine). line.text) first ≡ texts
+  pub inserted : (n : ℕ) → IsInserter regions n → AllByRecursion (λ (line : HistoryLine). line.inserter ≡ n) first
 
 -- Nothing more was shown, and the items are a whole body.
 pub record ReadsAll (live set : List ℕ) (before : List Item) : Type 0 where
   pub items : List Item
   pub stood : Stood live items
   pub over : is_over items ≡ true
-  pub text_is : text_before set items ≡ text_before set before
+  pub whole : shown_before set items ≡ shown_before set before
 
 -- what is read of a body when the reader goes on
 abbrev pub ReadsNext : List ℕ → VersionPlace → List Item → Result Next FileFault → Type 0
-ReadsNext live r before (Ok (next.Line text)) = ReadsOn live r before (ended text)
-ReadsNext live r before (Ok next.Hidden) = ReadsOn live r before []
+ReadsNext live r before (Ok (next.Line text)) = ReadsOn live r r.regions before (text ∷ [])
+ReadsNext live r before (Ok next.Hidden) = ReadsOn live r r.regions before []
 ReadsNext live r before (Ok next.End) = ReadsAll live r.set before
 ReadsNext live r before (Err fault) = Unit {0}

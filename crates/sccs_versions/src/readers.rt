@@ -1,4 +1,5 @@
 ghost use Rattle.std.specs.Prelude.{◌≡◌, ◌≢◌, ◌++◌, [], false, ◌<◌, ◌≤◌, ℕ, List, Option, length, take, Some, Ok, Err, IfOk, IsTrue};
+ghost use Rattle.sccs_base.specs.Cut.{cut};
 ghost use Rattle.sccs_disk.specs.Told.{seen};
 ghost use Rattle.sccs_grammar.specs.declared.faults.FileFault.TheVariants as faults;
 ghost use Rattle.sccs_history.specs.Body.{HistoryLine, lines_of};
@@ -9,7 +10,7 @@ ghost use Rattle.sccs_table.specs.FrontFile.{IsFirst, ReadsDisk};
 ghost use Rattle.sccs_table.specs.ReaderState.{bytes_in};
 ghost use Rattle.sccs_body.specs.ToCome.{Changes};
 ghost use Rattle.sccs_weave.specs.Regions.{Holds};
-ghost use Rattle.sccs_versions.specs.Coming.{ComeFirst, Coming, GivesNext, IsBody, ShowsItem, shown, text_of_lines};
+ghost use Rattle.sccs_versions.specs.Coming.{ComeFirst, Coming, GivesNext, IsBody, ShowsItem, StandFirst, shown};
 ghost use Rattle.sccs_versions.specs.Place.{AreShown, IsInserter, KeepsFirst, at_hand, bytes_left, name_of};
 ghost use Rattle.sccs_versions.specs.WasRead.{HasRead, ReadsNext, ReadsOn};
 ghost use Rattle.sccs_versions.specs.declared.readers.Next.TheVariants as next;
@@ -106,8 +107,9 @@ impl<'a> VersionReader<'a> {
     pub fn texts(&self) -> &[u8]
         ensures shown { AreShown self.now (length result.now) }
         ensures value { result.now ≡ at_hand self.now (length result.now) }
+        ensures whole { (cut result.now).tail ≡ [] }
         ensures first { (file : List ℕ) (lines : List HistoryLine) → Coming file self.now lines
-            → (rest : List ℕ) × (text_of_lines lines ≡ result.now ++ rest) }
+            → StandFirst self.now result.now lines }
     {
         if self.weaver.keep() {
             self.items.texts()
@@ -133,7 +135,8 @@ impl<'a> VersionReader<'a> {
         ensures left { bytes_left self.new ≤ bytes_left self.old }
         ensures coming { (file : List ℕ) (lines : List HistoryLine) → Coming file self.old lines
             → ComeFirst file self.old self.new (at_hand self.old count) lines }
-        ensures read { (live : List ℕ) (before : List Item) → HasRead live self.old before → ReadsOn live self.new before (at_hand self.old count) }
+        ensures read { (live : List ℕ) (before : List Item) → HasRead live self.old before
+            → ReadsOn live self.new self.old.regions before (cut (at_hand self.old count)).lines }
     {
         self.items.pass(count);
     }
@@ -146,7 +149,7 @@ impl<'a> VersionReader<'a> {
         ensures name { name_of self.new ≡ name_of self.old }
         ensures left { bytes_left self.new ≤ bytes_left self.old }
         ensures coming { (file : List ℕ) (lines : List HistoryLine) → Coming file self.old lines → Coming file self.new lines }
-        ensures read { (live : List ℕ) (before : List Item) → HasRead live self.old before → ReadsOn live self.new before [] }
+        ensures read { (live : List ℕ) (before : List Item) → HasRead live self.old before → ReadsOn live self.new self.old.regions before [] }
     {
         if !self.weaver.keep() {
             let count = self.items.texts().len();

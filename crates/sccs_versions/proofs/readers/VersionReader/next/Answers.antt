@@ -6,7 +6,7 @@ use Rattle.sccs_body.specs.ToCome.{Changes, IsChange}
 use Rattle.sccs_versions.specs.Coming.{Coming}
 use Rattle.sccs_versions.specs.Place.{VersionPlace, name_of}
 use Rattle.sccs_versions.specs.WasRead.{ReadsOn}
-use Rattle.sccs_versions.proofs.ReadLaws.{next_read}
+use Rattle.sccs_versions.proofs.ReadLaws.{end_read, next_read}
 use Rattle.sccs_versions.proofs.ItemLaws.{next_shown, next_none, next_fails}
 use Rattle.sccs_versions.proofs.readers.VersionReader.next.Goals as goal
 
@@ -34,8 +34,8 @@ pub returns-in-Some-clause-read : goal.returns-in-Some-clause-read
 returns-in-Some-clause-read g c = λ live before h.
     let here : VersionPlace = record { set = c.self.inside.set.now; items = c.self.inside.items; regions = c.self.inside.weaver } in
     let gone : VersionPlace = record { set = c.self.inside.set.now; items = c.next.new.self; regions = c.show_item.new.weaver } in
-    next_read live here gone before c.in_ok-item.field-0 c.in-Some.item c.show_item.result c.in-Some.is refl c.in_ok-item.ensures.goes c.show_item.ensures.shows
-    (subst (λ r. ReadsOn live r before []) (sym c.self.view_is) (c.pass_hidden.ensures.read live before h))
+    next_read live here gone c.args.self.now.regions before c.in_ok-item.field-0 c.in-Some.item c.show_item.result c.in-Some.is refl c.in_ok-item.ensures.goes c.show_item.ensures.shows
+    (subst (λ r. ReadsOn live r c.args.self.now.regions before []) (sym c.self.view_is) (c.pass_hidden.ensures.read live before h))
 
 pub returns-in_err-item-clause-changed : goal.returns-in_err-item-clause-changed
 returns-in_err-item-clause-changed g c =
@@ -44,3 +44,9 @@ returns-in_err-item-clause-changed g c =
     let sum_is = ap (λ (r : VersionPlace). r.items.sum) c.self.view_is ∙ c.pass_hidden.ensures.first.sum in
     subst (λ r. Changes c.args.self.now.items r) (sym exit)
     (subst (λ n. IsChange n c.args.self.now.items.sum c.in_err-item.field-0.0) size_is (subst (λ n. IsChange c.self.inside.items.size n c.in_err-item.field-0.0) sum_is c.in_err-item.ensures.changed))
+
+pub returns-in-None-clause-read : goal.returns-in-None-clause-read
+returns-in-None-clause-read g c = λ live before h.
+    let here : VersionPlace = record { set = c.self.inside.set.now; items = c.self.inside.items; regions = c.self.inside.weaver } in
+    end_read live here c.args.self.now.regions c.next.new.self c.self.inside.set.now before c.in_ok-item.field-0 c.in-None.is refl c.in_ok-item.ensures.goes
+    (subst (λ r. ReadsOn live r c.args.self.now.regions before []) (sym c.self.view_is) (c.pass_hidden.ensures.read live before h))

@@ -1,4 +1,5 @@
 use Rattle.std.proofs.Common.{refl, sym, subst}
+use Rattle.sccs_base.specs.Cut.{cut}
 use Rattle.sccs_versions.specs.Coming.{Coming, ComeFirst}
 use Rattle.sccs_versions.specs.Place.{AreShown, VersionPlace, at_hand}
 use Rattle.sccs_versions.specs.WasRead.{HasRead, ReadsOn}
@@ -19,7 +20,7 @@ pub returns-clause-read : goal.returns-clause-read
 returns-clause-read c = λ live before h.
     let here : VersionPlace = record { set = c.self.inside.set.now; items = c.self.inside.items; regions = c.self.inside.weaver } in
     let gone : VersionPlace = record { set = c.self.inside.set.now; items = c.pass.new.self; regions = c.self.inside.weaver } in
-    subst (λ r. ReadsOn live gone before (at_hand r c.args.count)) c.self.view_is
+    subst (λ (r : VersionPlace). ReadsOn live gone r.regions before (cut (at_hand r c.args.count)).lines) c.self.view_is
     (shown_on live here gone c.args.count before (subst (λ r. AreShown r c.args.count) (sym c.self.view_is) c.requires)
     (record { set = refl; regions = refl; behind = c.pass.ensures.behind; told = c.pass.ensures.told })
     (subst (λ r. HasRead live r before) (sym c.self.view_is) h))

@@ -1,0 +1,20 @@
+use Rattle.std.proofs.Common.{sym, subst}
+use Rattle.sccs_base.specs.Cut.{cut}
+use Rattle.sccs_versions.specs.Coming.{ComeFirst}
+use Rattle.sccs_versions.specs.WasRead.{ReadsOn}
+use Rattle.sccs_printing.proofs.GivingLaws.{run_cut, run_given, some_read}
+use Rattle.sccs_printing.proofs.givings.give_run.Goals as goal
+
+pub returns-in-Err-clause-gives : goal.returns-in-Err-clause-gives
+returns-in-Err-clause-gives g c = λ file lines p.
+    run_cut c.args.version.now c.texts-texts.result.now c.inserter.result lines c.in-Err.fault c.args.giving.now c.give_lines.new.self _ _ c.inserter.ensures (c.texts-texts.ensures.first file lines p) c.in-Err.ensures.gives
+
+pub returns-clause-gives : goal.returns-clause-gives
+returns-clause-gives g c = λ file lines p.
+    run_given file c.args.version.now c.pass.new.self c.texts-texts.result.now c.inserter.result lines c.args.giving.now c.give_lines.new.self _ _ c.inserter.ensures
+    (subst (λ text. ComeFirst file c.args.version.now c.pass.new.self text lines) (sym c.texts-texts.ensures.value) (c.pass.ensures.coming file lines p)) c.in_default.ensures.gives c.in_default.ensures.shown
+
+pub returns-clause-read : goal.returns-clause-read
+returns-clause-read g c = λ live before h.
+    some_read live c.pass.new.self c.args.version.now.regions before c.inserter.result _ c.args.giving.now c.give_lines.new.self _ _ c.inserter.ensures
+    (subst (λ text. ReadsOn live c.pass.new.self c.args.version.now.regions before (cut text).lines) (sym c.texts-texts.ensures.value) (c.pass.ensures.read live before h)) c.in_default.ensures.gives c.in_default.ensures.shown

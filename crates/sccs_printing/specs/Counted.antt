@@ -1,0 +1,17 @@
+-- What is found of lines that are given.
+use Rattle.std.specs.Prelude.{ℕ, ◌+◌, false, ◌||◌, List, length}
+use Rattle.sccs_history.specs.Body.{HistoryLine}
+use Rattle.sccs_texts.specs.Forms.{LineForm, replaces, texts}
+use Rattle.sccs_printing.specs.declared.shown.Shown.{Shown}
+
+-- no line was given yet
+abbrev pub nothing : Shown
+nothing = record { lines = 0; keywords = false }
+
+-- lines with these texts more
+abbrev pub counted : LineForm → Shown → List (List ℕ) → Shown
+counted form s lines = record { lines = s.lines + length lines; keywords = s.keywords || replaces form lines }
+
+-- how many lines there are, and whether a keyword of them is replaced
+abbrev pub shown_of : LineForm → List HistoryLine → Shown
+shown_of form lines = record { lines = length lines; keywords = replaces form (texts lines) }

@@ -1,0 +1,343 @@
+ghost use Rattle.std.specs.Prelude.{◌≡◌, ◌≢◌, ◌<◌, ◌≤◌, ◌+◌, ◌^◌, ℕ, List, [], ◌∷◌, true, false, Some, length, IfOk, IfSome, OnOk};
+ghost use Rattle.sccs_base.specs.Cut.{cut};
+ghost use Rattle.sccs_disk.specs.Told.{seen};
+ghost use Rattle.sccs_history.specs.Applied.{serials_of};
+ghost use Rattle.sccs_history.specs.Body.{HistoryLine};
+ghost use Rattle.sccs_history.specs.Numbers.{Falls};
+ghost use Rattle.sccs_history.specs.declared.headers.Item.{Item};
+ghost use Rattle.sccs_keys.specs.Expansion.{HasMoments};
+ghost use Rattle.sccs_steps.specs.Actions.{RefusesWithin};
+ghost use Rattle.sccs_steps.specs.Causes.{PrintCauses};
+ghost use Rattle.sccs_table.specs.ReaderState.{bytes_in};
+ghost use Rattle.sccs_table.specs.Runs.{lf_count};
+ghost use Rattle.sccs_texts.specs.Forms.{form_of, formed_lines};
+ghost use Rattle.sccs_versions.specs.Coming.{Coming};
+ghost use Rattle.sccs_versions.specs.Place.{bytes_left, name_of};
+ghost use Rattle.sccs_versions.specs.WasRead.{HasRead};
+ghost use Rattle.sccs_printing.specs.Counted.{counted, nothing};
+ghost use Rattle.sccs_printing.specs.Giving.{GivesAll, GivesMore, GivesRun, KeepsForm, ReadSome, ReadWhole, ReadsMore, form_in};
+ghost use Rattle.sccs_printing.specs.Printing.{file_checks};
+ghost use Rattle.sccs_printing.specs.Targets.{CanTake, GivesTo, IsApart, KeepsMark, Reaches, Spares, file_of, got, held_back};
+
+use crate::counts::lines_in;
+use crate::shown::Shown;
+use crate::targets::{Target, put};
+use sccs_base::{Line, Sink};
+use sccs_disk::Disk;
+use sccs_history::Record;
+use sccs_sid::StepFault;
+use sccs_texts::{HeldLine, LineForm, SidFinder, give_line, give_lines};
+use sccs_versions::{Next, VersionReader};
+use std::alloc::Global;
+
+/// How the lines of a version are given, what was found of those that were, and where they go.
+#[derive(Drop)]
+pub struct Giving<'a> {
+    pub form: &'a LineForm<'a>,
+    pub sids: SidFinder<'a>,
+    // lines that don't go as they stand in the file
+    pub formed: HeldLine,
+    pub shown: Shown,
+    pub target: Target,
+}
+
+impl<'a> Giving<'a> {
+    /// Before all lines of a version of a table.
+    pub fn new(
+        alloc: Global,
+        form: &'a LineForm<'a>,
+        records: &'a [Record],
+        target: Target,
+    ) -> Giving<'a>
+        requires { Falls 65536 (serials_of records.now) }
+        ensures form { form_in result ≡ form_of form.now }
+        ensures sids { result.sids ≡ records.now }
+        ensures shown { result.shown ≡ nothing }
+        ensures target { result.target ≡ target }
+    {
+        Giving {
+            form,
+            sids: SidFinder::new(records),
+            formed: HeldLine::new(alloc),
+            shown: Shown {
+                lines: 0,
+                keywords: false,
+            },
+            target,
+        }
+    }
+
+    // forms whole lines that one delta inserted, and gives them
+    fn form_lines<O: Sink, D: Disk>(
+        &mut self,
+        inserter: u16,
+        lines: &[u8],
+        out: &mut O,
+        disk: &mut D,
+    ) -> Result<(), StepFault>
+        requires facts { IfSome (form_in self.old).facts HasMoments }
+        requires there { CanTake (file_of self.old.target) (D.told disk.old) }
+        requires whole { (cut lines.now).tail ≡ [] }
+        requires few { self.old.shown.lines + length (cut lines.now).lines < 2 ^ 64 }
+        ensures gives { GivesTo (file_of self.old.target) (formed_lines (form_in self.old) self.old.sids (self.old.shown.lines + 1) inserter (cut lines.now).lines) result (held_back self.old.target) (held_back self.new.target)
+            (got (file_of self.old.target) (O.given out.old) (D.told disk.old)) (got (file_of self.old.target) (O.given out.new) (D.told disk.new)) }
+        ensures shown { self.new.shown ≡ self.old.shown }
+        ensures keeps { KeepsForm self.old self.new }
+        ensures reaches { Reaches (file_of self.old.target) (O.given out.old) (O.given out.new) (D.told disk.old) (D.told disk.new) }
+        ensures mark { OnOk result (KeepsMark (file_of self.old.target) (D.told disk.old) (D.told disk.new)) }
+        ensures spares { Spares (file_of self.old.target) result }
+        ensures causes { PrintCauses result (O.faults out.old) (O.faults out.new) (D.faults disk.old) (D.faults disk.new) }
+        ensures checks { RefusesWithin file_checks result }
+    {
+        self.formed.clear();
+        let before = self.shown.lines;
+        let Ok(()) = give_lines(
+            self.form,
+            &mut self.sids,
+            inserter,
+            before,
+            lines,
+            &mut self.formed,
+        ) else {
+            return Err(StepFault::Memory);
+        };
+        put(&mut self.target, self.formed.bytes(), out, disk)
+    }
+
+    // gives whole lines that one delta inserted, as they are or formed
+    fn give_formed<O: Sink, D: Disk>(
+        &mut self,
+        changes: bool,
+        inserter: u16,
+        lines: &[u8],
+        out: &mut O,
+        disk: &mut D,
+    ) -> Result<(), StepFault>
+        requires facts { IfSome (form_in self.old).facts HasMoments }
+        requires there { CanTake (file_of self.old.target) (D.told disk.old) }
+        requires whole { (cut lines.now).tail ≡ [] }
+        requires few { self.old.shown.lines + length (cut lines.now).lines < 2 ^ 64 }
+        requires same { changes ≡ false → (n : ℕ) → formed_lines (form_in self.old) self.old.sids (self.old.shown.lines + 1) n (cut lines.now).lines ≡ lines.now }
+        ensures gives { GivesTo (file_of self.old.target) (formed_lines (form_in self.old) self.old.sids (self.old.shown.lines + 1) inserter (cut lines.now).lines) result (held_back self.old.target) (held_back self.new.target)
+            (got (file_of self.old.target) (O.given out.old) (D.told disk.old)) (got (file_of self.old.target) (O.given out.new) (D.told disk.new)) }
+        ensures shown { self.new.shown ≡ self.old.shown }
+        ensures keeps { KeepsForm self.old self.new }
+        ensures reaches { Reaches (file_of self.old.target) (O.given out.old) (O.given out.new) (D.told disk.old) (D.told disk.new) }
+        ensures mark { OnOk result (KeepsMark (file_of self.old.target) (D.told disk.old) (D.told disk.new)) }
+        ensures spares { Spares (file_of self.old.target) result }
+        ensures causes { PrintCauses result (O.faults out.old) (O.faults out.new) (D.faults disk.old) (D.faults disk.new) }
+        ensures checks { RefusesWithin file_checks result }
+    {
+        if changes {
+            self.form_lines(inserter, lines, out, disk)
+        } else {
+            put(&mut self.target, lines, out, disk)
+        }
+    }
+
+    // gives whole lines that one delta inserted, and counts them
+    fn give_lines<O: Sink, D: Disk>(
+        &mut self,
+        inserter: u16,
+        lines: &[u8],
+        out: &mut O,
+        disk: &mut D,
+    ) -> Result<(), StepFault>
+        requires facts { IfSome (form_in self.old).facts HasMoments }
+        requires there { CanTake (file_of self.old.target) (D.told disk.old) }
+        requires whole { (cut lines.now).tail ≡ [] }
+        ensures gives { GivesTo (file_of self.old.target) (formed_lines (form_in self.old) self.old.sids (self.old.shown.lines + 1) inserter (cut lines.now).lines) result (held_back self.old.target) (held_back self.new.target)
+            (got (file_of self.old.target) (O.given out.old) (D.told disk.old)) (got (file_of self.old.target) (O.given out.new) (D.told disk.new)) }
+        ensures shown { OnOk result (self.new.shown ≡ counted (form_in self.old) self.old.shown (cut lines.now).lines) }
+        ensures keeps { KeepsForm self.old self.new }
+        ensures reaches { Reaches (file_of self.old.target) (O.given out.old) (O.given out.new) (D.told disk.old) (D.told disk.new) }
+        ensures mark { OnOk result (KeepsMark (file_of self.old.target) (D.told disk.old) (D.told disk.new)) }
+        ensures spares { Spares (file_of self.old.target) result }
+        ensures causes { PrintCauses result (O.faults out.old) (O.faults out.new) (D.faults disk.old) (D.faults disk.new) }
+        ensures checks { RefusesWithin file_checks result }
+    {
+        let Some(count) = self.shown.lines.checked_add(lines_in(lines)) else {
+            return Err(StepFault::Memory);
+        };
+        let replaces = self.form.replaces(lines);
+        let changes = replaces | self.form.has_prefix();
+        if let Err(fault) = self.give_formed(changes, inserter, lines, out, disk) {
+            return Err(fault);
+        }
+        self.shown = Shown {
+            lines: count,
+            keywords: self.shown.keywords | replaces,
+        };
+        Ok(())
+    }
+
+    // forms a line and gives it
+    fn form_line<O: Sink, D: Disk>(
+        &mut self,
+        inserter: u16,
+        number: u64,
+        line: &Line,
+        out: &mut O,
+        disk: &mut D,
+    ) -> Result<(), StepFault>
+        requires facts { IfSome (form_in self.old).facts HasMoments }
+        requires there { CanTake (file_of self.old.target) (D.told disk.old) }
+        ensures gives { GivesTo (file_of self.old.target) (formed_lines (form_in self.old) self.old.sids number inserter (line.now ∷ [])) result (held_back self.old.target) (held_back self.new.target)
+            (got (file_of self.old.target) (O.given out.old) (D.told disk.old)) (got (file_of self.old.target) (O.given out.new) (D.told disk.new)) }
+        ensures shown { self.new.shown ≡ self.old.shown }
+        ensures keeps { KeepsForm self.old self.new }
+        ensures reaches { Reaches (file_of self.old.target) (O.given out.old) (O.given out.new) (D.told disk.old) (D.told disk.new) }
+        ensures mark { OnOk result (KeepsMark (file_of self.old.target) (D.told disk.old) (D.told disk.new)) }
+        ensures spares { Spares (file_of self.old.target) result }
+        ensures causes { PrintCauses result (O.faults out.old) (O.faults out.new) (D.faults disk.old) (D.faults disk.new) }
+        ensures checks { RefusesWithin file_checks result }
+    {
+        self.formed.clear();
+        let Ok(()) = give_line(
+            self.form,
+            &mut self.sids,
+            inserter,
+            number,
+            line.bytes(),
+            &mut self.formed,
+        ) else {
+            return Err(StepFault::Memory);
+        };
+        put(&mut self.target, self.formed.bytes(), out, disk)
+    }
+
+    // gives a line that a delta inserted, and counts it
+    fn give_line<O: Sink, D: Disk>(
+        &mut self,
+        inserter: u16,
+        line: &Line,
+        out: &mut O,
+        disk: &mut D,
+    ) -> Result<(), StepFault>
+        requires facts { IfSome (form_in self.old).facts HasMoments }
+        requires there { CanTake (file_of self.old.target) (D.told disk.old) }
+        ensures gives { GivesTo (file_of self.old.target) (formed_lines (form_in self.old) self.old.sids (self.old.shown.lines + 1) inserter (line.now ∷ [])) result (held_back self.old.target) (held_back self.new.target)
+            (got (file_of self.old.target) (O.given out.old) (D.told disk.old)) (got (file_of self.old.target) (O.given out.new) (D.told disk.new)) }
+        ensures shown { OnOk result (self.new.shown ≡ counted (form_in self.old) self.old.shown (line.now ∷ [])) }
+        ensures keeps { KeepsForm self.old self.new }
+        ensures reaches { Reaches (file_of self.old.target) (O.given out.old) (O.given out.new) (D.told disk.old) (D.told disk.new) }
+        ensures mark { OnOk result (KeepsMark (file_of self.old.target) (D.told disk.old) (D.told disk.new)) }
+        ensures spares { Spares (file_of self.old.target) result }
+        ensures causes { PrintCauses result (O.faults out.old) (O.faults out.new) (D.faults disk.old) (D.faults disk.new) }
+        ensures checks { RefusesWithin file_checks result }
+    {
+        let Some(number) = self.shown.lines.checked_add(1) else {
+            return Err(StepFault::Memory);
+        };
+        if let Err(fault) = self.form_line(inserter, number, line, out, disk) {
+            return Err(fault);
+        }
+        let replaces = self.form.replaces(line.bytes());
+        self.shown = Shown {
+            lines: number,
+            keywords: self.shown.keywords | replaces,
+        };
+        Ok(())
+    }
+}
+
+// gives the lines that are held whole, and passes over them
+fn give_run<O: Sink, D: Disk>(
+    giving: &mut Giving<'_>,
+    version: &mut VersionReader<'_>,
+    out: &mut O,
+    disk: &mut D,
+) -> Result<(), StepFault>
+    requires facts { IfSome (form_in giving.old).facts HasMoments }
+    requires there { CanTake (file_of giving.old.target) (D.told disk.old) }
+    ensures keeps { KeepsForm giving.old giving.new }
+    ensures reaches { Reaches (file_of giving.old.target) (O.given out.old) (O.given out.new) (D.told disk.old) (D.told disk.new) }
+    ensures mark { OnOk result (KeepsMark (file_of giving.old.target) (D.told disk.old) (D.told disk.new)) }
+    ensures spares { Spares (file_of giving.old.target) result }
+    ensures causes { PrintCauses result (O.faults out.old) (O.faults out.new) (D.faults disk.old) (D.faults disk.new) }
+    ensures checks { RefusesWithin file_checks result }
+    ensures set { version.new.set ≡ version.old.set }
+    ensures name { name_of version.new ≡ name_of version.old }
+    ensures left { bytes_left version.new ≤ bytes_left version.old }
+    ensures gives { (file : List ℕ) (lines : List HistoryLine) → Coming file version.old lines
+        → GivesRun file version.new lines result giving.old giving.new (got (file_of giving.old.target) (O.given out.old) (D.told disk.old)) (got (file_of giving.old.target) (O.given out.new) (D.told disk.new)) }
+    ensures read { OnOk result ((live : List ℕ) (before : List Item) → HasRead live version.old before
+        → ReadSome live version.new before giving.old giving.new (got (file_of giving.old.target) (O.given out.old) (D.told disk.old)) (got (file_of giving.old.target) (O.given out.new) (D.told disk.new))) }
+{
+    let texts = version.texts();
+    let count = texts.len();
+    if let Err(fault) = giving.give_lines(version.inserter(), texts, out, disk) {
+        return Err(fault);
+    }
+    version.pass(count);
+    Ok(())
+}
+
+// gives the next line; false at the end of the body
+fn give_next<O: Sink, D: Disk>(
+    giving: &mut Giving<'_>,
+    version: &mut VersionReader<'_>,
+    out: &mut O,
+    disk: &mut D,
+) -> Result<bool, StepFault>
+    requires facts { IfSome (form_in giving.old).facts HasMoments }
+    requires there { CanTake (file_of giving.old.target) (D.told disk.old) }
+    ensures keeps { KeepsForm giving.old giving.new }
+    ensures reaches { Reaches (file_of giving.old.target) (O.given out.old) (O.given out.new) (D.told disk.old) (D.told disk.new) }
+    ensures mark { OnOk result (KeepsMark (file_of giving.old.target) (D.told disk.old) (D.told disk.new)) }
+    ensures spares { Spares (file_of giving.old.target) result }
+    ensures causes { PrintCauses result (O.faults out.old) (O.faults out.new) (D.faults disk.old) (D.faults disk.new) }
+    ensures checks { RefusesWithin file_checks result }
+    ensures set { version.new.set ≡ version.old.set }
+    ensures name { name_of version.new ≡ name_of version.old }
+    ensures further { IfOk result (λ more. more ≡ true → bytes_left version.new < bytes_left version.old) }
+    ensures gives { (file : List ℕ) (lines : List HistoryLine) → bytes_in (seen (D.told disk.old)) (name_of version.old) ≡ Some file → Coming file version.old lines
+        → GivesMore file version.new lines result giving.old giving.new (got (file_of giving.old.target) (O.given out.old) (D.told disk.old)) (got (file_of giving.old.target) (O.given out.new) (D.told disk.new)) }
+    ensures read { (live : List ℕ) (before : List Item) → HasRead live version.old before
+        → ReadsMore live version.new before result giving.old giving.new (got (file_of giving.old.target) (O.given out.old) (D.told disk.old)) (got (file_of giving.old.target) (O.given out.new) (D.told disk.new)) }
+{
+    match version.next(disk) {
+        Ok(Next::Line(line)) => match giving.give_line(version.inserter(), &line, out, disk) {
+            Ok(()) => Ok(true),
+            Err(fault) => Err(fault),
+        },
+        Ok(Next::Hidden) => Ok(true),
+        Ok(Next::End) => Ok(false),
+        Err(fault) => Err(StepFault::from(fault)),
+    }
+}
+
+/// Gives all lines of a version that are to come.
+pub fn give_all<O: Sink, D: Disk>(
+    giving: &mut Giving<'_>,
+    version: &mut VersionReader<'_>,
+    out: &mut O,
+    disk: &mut D,
+) -> Result<(), StepFault>
+    requires facts { IfSome (form_in giving.old).facts HasMoments }
+    requires there { CanTake (file_of giving.old.target) (D.told disk.old) }
+    requires apart { IsApart (file_of giving.old.target) (name_of version.old) }
+    ensures keeps { KeepsForm giving.old giving.new }
+    ensures reaches { Reaches (file_of giving.old.target) (O.given out.old) (O.given out.new) (D.told disk.old) (D.told disk.new) }
+    ensures mark { OnOk result (KeepsMark (file_of giving.old.target) (D.told disk.old) (D.told disk.new)) }
+    ensures spares { Spares (file_of giving.old.target) result }
+    ensures causes { PrintCauses result (O.faults out.old) (O.faults out.new) (D.faults disk.old) (D.faults disk.new) }
+    ensures checks { RefusesWithin file_checks result }
+    ensures there { CanTake (file_of giving.new.target) (D.told disk.new) }
+    ensures gives { (file : List ℕ) (lines : List HistoryLine) → bytes_in (seen (D.told disk.old)) (name_of version.old) ≡ Some file → Coming file version.old lines
+        → GivesAll lines result giving.old giving.new (got (file_of giving.old.target) (O.given out.old) (D.told disk.old)) (got (file_of giving.old.target) (O.given out.new) (D.told disk.new)) }
+    ensures read { OnOk result ((live : List ℕ) (before : List Item) → HasRead live version.old before
+        → ReadWhole live version.old.set before giving.old giving.new (got (file_of giving.old.target) (O.given out.old) (D.told disk.old)) (got (file_of giving.old.target) (O.given out.new) (D.told disk.new))) }
+{
+    'lines: loop {
+        match give_run(giving, version, out, disk) {
+            Ok(()) => {}
+            Err(fault) => return Err(fault),
+        }
+        match give_next(giving, version, out, disk) {
+            Ok(true) => {}
+            Ok(false) => return Ok(()),
+            Err(fault) => return Err(fault),
+        }
+    }
+}

@@ -1,0 +1,86 @@
+ghost use Rattle.std.specs.Prelude.{◌≡◌, [], OnOk};
+ghost use Rattle.sccs_disk.specs.Calls.{IsThere};
+ghost use Rattle.sccs_steps.specs.Actions.{RefusesWithin};
+ghost use Rattle.sccs_steps.specs.Causes.{PrintCauses};
+ghost use Rattle.sccs_printing.specs.Printing.{file_checks};
+ghost use Rattle.sccs_printing.specs.Targets.{CanTake, GivesTo, KeepsMark, Reaches, Spares, file_of, got, held_back, writing_fault};
+
+use sccs_base::{OutputBuffer, Sink};
+use sccs_disk::{Disk, DiskRefusal};
+use sccs_sid::StepFault;
+use sccs_writers::PieceWriter;
+
+/// Where a text goes, and what is held back of it.
+#[derive(Drop)]
+pub enum Target {
+    ToSink(OutputBuffer),
+    ToFile(PieceWriter),
+}
+
+/// How a step ends where a file isn't written.
+pub fn step_fault(refusal: DiskRefusal) -> StepFault
+    ensures { result ≡ writing_fault refusal }
+{
+    match refusal {
+        DiskRefusal::Failed => StepFault::DiskFault,
+        DiskRefusal::Memory => StepFault::Memory,
+    }
+}
+
+/// Gives a text to a target: to the sink, or into the file.
+pub fn put<O: Sink, D: Disk>(
+    target: &mut Target,
+    text: &[u8],
+    out: &mut O,
+    disk: &mut D,
+) -> Result<(), StepFault>
+    requires { CanTake (file_of target.old) (D.told disk.old) }
+    ensures gives { GivesTo (file_of target.old) text.now result (held_back target.old) (held_back target.new)
+        (got (file_of target.old) (O.given out.old) (D.told disk.old)) (got (file_of target.old) (O.given out.new) (D.told disk.new)) }
+    ensures file { file_of target.new ≡ file_of target.old }
+    ensures reaches { Reaches (file_of target.old) (O.given out.old) (O.given out.new) (D.told disk.old) (D.told disk.new) }
+    ensures mark { OnOk result (KeepsMark (file_of target.old) (D.told disk.old) (D.told disk.new)) }
+    ensures spares { Spares (file_of target.old) result }
+    ensures causes { PrintCauses result (O.faults out.old) (O.faults out.new) (D.faults disk.old) (D.faults disk.new) }
+    ensures checks { RefusesWithin file_checks result }
+{
+    match target {
+        Target::ToSink(buffer) => match buffer.give(out, text) {
+            Ok(()) => Ok(()),
+            Err(_) => Err(StepFault::WriteFault),
+        },
+        Target::ToFile(writer) => match writer.put(text, disk) {
+            Ok(()) => Ok(()),
+            Err(refusal) => Err(step_fault(refusal)),
+        },
+    }
+}
+
+/// Gives what is held back.
+pub fn flush<O: Sink, D: Disk>(
+    target: &mut Target,
+    out: &mut O,
+    disk: &mut D,
+) -> Result<(), StepFault>
+    requires { CanTake (file_of target.old) (D.told disk.old) }
+    ensures gives { GivesTo (file_of target.old) [] result (held_back target.old) (held_back target.new)
+        (got (file_of target.old) (O.given out.old) (D.told disk.old)) (got (file_of target.old) (O.given out.new) (D.told disk.new)) }
+    ensures empty { OnOk result (held_back target.new ≡ []) }
+    ensures file { file_of target.new ≡ file_of target.old }
+    ensures reaches { Reaches (file_of target.old) (O.given out.old) (O.given out.new) (D.told disk.old) (D.told disk.new) }
+    ensures mark { OnOk result (KeepsMark (file_of target.old) (D.told disk.old) (D.told disk.new)) }
+    ensures spares { Spares (file_of target.old) result }
+    ensures causes { PrintCauses result (O.faults out.old) (O.faults out.new) (D.faults disk.old) (D.faults disk.new) }
+    ensures checks { RefusesWithin file_checks result }
+{
+    match target {
+        Target::ToSink(buffer) => match buffer.flush(out) {
+            Ok(()) => Ok(()),
+            Err(_) => Err(StepFault::WriteFault),
+        },
+        Target::ToFile(writer) => match writer.flush(disk) {
+            Ok(()) => Ok(()),
+            Err(refusal) => Err(step_fault(refusal)),
+        },
+    }
+}
