@@ -34,7 +34,7 @@ use Rattle.sccs_pending.specs.PFiles.{Answers}
 use Rattle.sccs_pending.specs.Pending.{Found}
 use Rattle.sccs_pending.specs.declared.pending.Pending.{Pending}
 use Rattle.sccs_pending.proofs.EntryChanges.{ShowsFound}
-use Rattle.sccs_get.specs.EditStep.{edit_decides, free_sid, is_got, new_edit, new_entry, release_asked, released, reserved, single, singles, with_entry}
+use Rattle.sccs_get.specs.NewEntry.{free_sid, is_got, new_edit, new_entry, release_asked, released, reserved, single, singles}
 use Rattle.sccs_get.specs.GetStep.{asked, spec_asked}
 use Rattle.sccs_get.specs.declared.targets.Asked.{Asked}
 use Rattle.sccs_get.proofs.EntrySids.{made_sid, sid_there}
@@ -44,67 +44,68 @@ use Rattle.sccs_get.proofs.EntrySids.{made_sid, sid_there}
 abbrev entry_from : Stamp → List Record → Asked → Sid → Result Sid Refusal → Result Edit Refusal
 entry_from stamp records a got r = r >>= λ made. Ok (new_edit stamp records a got made)
 
-abbrev entry_on : GetWords → Stamp → Header → List Edit → Asked → Result Sid Refusal → Result Edit Refusal
-entry_on words stamp header edits a r = r >>= λ got. entry_from stamp header.records a got (free_sid header edits got (to_be_made header (reserved edits) a.target (spec_asked words header) words.branch))
+abbrev entry_on : GetWords → Stamp → Header → List Edit → Bool → Asked → Result Sid Refusal → Result Edit Refusal
+entry_on words stamp header edits way a r = r >>= λ got. entry_from stamp header.records a got (free_sid header edits way got (to_be_made header (reserved edits) a.target (spec_asked words header) words.branch))
 
-abbrev entry_of : GetWords → Stamp → Header → List Edit → Result Asked Refusal → Result Edit Refusal
-entry_of words stamp header edits r = r >>= λ a. entry_on words stamp header edits a (there (sid_at header.records a.target) refusals.NoSid)
+abbrev entry_of : GetWords → Stamp → Header → List Edit → Bool → Result Asked Refusal → Result Edit Refusal
+entry_of words stamp header edits way r = r >>= λ a. entry_on words stamp header edits way a (there (sid_at header.records a.target) refusals.NoSid)
 
-pub not_let_in : (words : GetWords) (stamp : Stamp) (header : Header) (edits : List Edit) → is_allowed header.users stamp.login ≡ false → new_entry words stamp header edits ≡ Err refusals.NotAllowed
+pub not_let_in : (words : GetWords) (stamp : Stamp) (header : Header) (edits : List Edit) (way : Bool) → is_allowed header.users stamp.login ≡ false → new_entry words stamp header edits way ≡ Err refusals.NotAllowed
 unfolding new_entry
-not_let_in words stamp header edits is = rw is refl
+not_let_in words stamp header edits way is = rw is refl
 
-let_in : (words : GetWords) (stamp : Stamp) (header : Header) (edits : List Edit) → is_allowed header.users stamp.login ≡ true → new_entry words stamp header edits ≡ entry_of words stamp header edits (asked words header)
+let_in : (words : GetWords) (stamp : Stamp) (header : Header) (edits : List Edit) (way : Bool) → is_allowed header.users stamp.login ≡ true → new_entry words stamp header edits way ≡ entry_of words stamp header edits way (asked words header)
 unfolding new_entry
-let_in words stamp header edits is = rw is refl
+let_in words stamp header edits way is = rw is refl
 
-pub not_asked : (words : GetWords) (stamp : Stamp) (header : Header) (edits : List Edit) (fault : StepFault) → is_allowed header.users stamp.login ≡ true → Answers {A = Asked} (asked words header) (Err fault) → Answers {A = Edit} (new_entry words stamp header edits) (Err fault)
-not_asked words stamp header edits (Refused refusal) is answers = let_in words stamp header edits is ∙ ap (entry_of words stamp header edits) answers
-not_asked words stamp header edits Memory is answers = tt
-not_asked words stamp header edits DiskFault is answers = tt
-not_asked words stamp header edits ReadFault is answers = answers
-not_asked words stamp header edits WriteFault is answers = answers
+pub not_asked : (words : GetWords) (stamp : Stamp) (header : Header) (edits : List Edit) (way : Bool) (fault : StepFault) → is_allowed header.users stamp.login ≡ true → Answers {A = Asked} (asked words header) (Err fault) → Answers {A = Edit} (new_entry words stamp header edits way) (Err fault)
+not_asked words stamp header edits way (Refused refusal) is answers = let_in words stamp header edits way is ∙ ap (entry_of words stamp header edits way) answers
+not_asked words stamp header edits way Memory is answers = tt
+not_asked words stamp header edits way DiskFault is answers = tt
+not_asked words stamp header edits way ReadFault is answers = answers
+not_asked words stamp header edits way WriteFault is answers = answers
 
-free_as : (words : GetWords) (stamp : Stamp) (header : Header) (edits : List Edit) (a : Asked) (got : Sid) (made : Option Sid) (r : Result Sid Refusal) → is_allowed header.users stamp.login ≡ true → asked words header ≡ Ok a → sid_at header.records a.target ≡ Some got
-    → made ≡ to_be_made header (reserved edits) a.target (spec_asked words header) words.branch → free_sid header edits got made ≡ r → new_entry words stamp header edits ≡ entry_from stamp header.records a got r
-free_as words stamp header edits a got made r is found at making free =
-    let_in words stamp header edits is
-    ∙ (ap (entry_of words stamp header edits) found
-    ∙ (ap (λ (o : Option Sid). entry_on words stamp header edits a (there o refusals.NoSid)) at
-    ∙ (ap (λ (o : Option Sid). entry_from stamp header.records a got (free_sid header edits got o)) (sym making) ∙ ap (entry_from stamp header.records a got) free)))
+free_as : (words : GetWords) (stamp : Stamp) (header : Header) (edits : List Edit) (way : Bool) (a : Asked) (got : Sid) (made : Option Sid) (r : Result Sid Refusal) → is_allowed header.users stamp.login ≡ true → asked words header ≡ Ok a → sid_at header.records a.target ≡ Some got
+    → made ≡ to_be_made header (reserved edits) a.target (spec_asked words header) words.branch → free_sid header edits way got made ≡ r → new_entry words stamp header edits way ≡ entry_from stamp header.records a got r
+free_as words stamp header edits way a got made r is found at making free =
+    let_in words stamp header edits way is
+    ∙ (ap (entry_of words stamp header edits way) found
+    ∙ (ap (λ (o : Option Sid). entry_on words stamp header edits way a (there o refusals.NoSid)) at
+    ∙ (ap (λ (o : Option Sid). entry_from stamp header.records a got (free_sid header edits way got o)) (sym making) ∙ ap (entry_from stamp header.records a got) free)))
 
-pub not_free : (words : GetWords) (stamp : Stamp) (header : Header) (edits : List Edit) (a : Asked) (got : Sid) (made : Option Sid) (fault : StepFault) → is_allowed header.users stamp.login ≡ true → asked words header ≡ Ok a → sid_at header.records a.target ≡ Some got
-    → made ≡ to_be_made header (reserved edits) a.target (spec_asked words header) words.branch → Answers {A = Sid} (free_sid header edits got made) (Err fault) → Answers {A = Edit} (new_entry words stamp header edits) (Err fault)
-not_free words stamp header edits a got made (Refused refusal) is found at making answers = free_as words stamp header edits a got made (Err refusal) is found at making answers
-not_free words stamp header edits a got made Memory is found at making answers = tt
-not_free words stamp header edits a got made DiskFault is found at making answers = tt
-not_free words stamp header edits a got made ReadFault is found at making answers = answers
-not_free words stamp header edits a got made WriteFault is found at making answers = answers
+pub not_free : (words : GetWords) (stamp : Stamp) (header : Header) (edits : List Edit) (way : Bool) (a : Asked) (got : Sid) (made : Option Sid) (fault : StepFault) → is_allowed header.users stamp.login ≡ true → asked words header ≡ Ok a → sid_at header.records a.target ≡ Some got
+    → made ≡ to_be_made header (reserved edits) a.target (spec_asked words header) words.branch → Answers {A = Sid} (free_sid header edits way got made) (Err fault) → Answers {A = Edit} (new_entry words stamp header edits way) (Err fault)
+not_free words stamp header edits way a got made (Refused refusal) is found at making answers = free_as words stamp header edits way a got made (Err refusal) is found at making answers
+not_free words stamp header edits way a got made Memory is found at making answers = tt
+not_free words stamp header edits way a got made DiskFault is found at making answers = tt
+not_free words stamp header edits way a got made ReadFault is found at making answers = answers
+not_free words stamp header edits way a got made WriteFault is found at making answers = answers
 
-pub entry_made : (words : GetWords) (stamp : Stamp) (header : Header) (edits : List Edit) (a : Asked) (got : Sid) (made : Option Sid) (sid : Sid) (e : Edit) → is_allowed header.users stamp.login ≡ true → asked words header ≡ Ok a → sid_at header.records a.target ≡ Some got
-    → made ≡ to_be_made header (reserved edits) a.target (spec_asked words header) words.branch → free_sid header edits got made ≡ Ok sid → e ≡ new_edit stamp header.records a got sid → new_entry words stamp header edits ≡ Ok e
-entry_made words stamp header edits a got made sid e is found at making free same = free_as words stamp header edits a got made (Ok sid) is found at making free ∙ ap Ok (sym same)
+pub entry_made : (words : GetWords) (stamp : Stamp) (header : Header) (edits : List Edit) (way : Bool) (a : Asked) (got : Sid) (made : Option Sid) (sid : Sid) (e : Edit) → is_allowed header.users stamp.login ≡ true → asked words header ≡ Ok a → sid_at header.records a.target ≡ Some got
+    → made ≡ to_be_made header (reserved edits) a.target (spec_asked words header) words.branch → free_sid header edits way got made ≡ Ok sid → e ≡ new_edit stamp header.records a got sid → new_entry words stamp header edits way ≡ Ok e
+entry_made words stamp header edits way a got made sid e is found at making free same = free_as words stamp header edits way a got made (Ok sid) is found at making free ∙ ap Ok (sym same)
 
 pub made_as : (header : Header) (sids sids2 : List Sid) (target : ℕ) (spec spec2 : Option Spec) (branch : Bool) (o : Option Sid) → sids2 ≡ sids → spec2 ≡ spec → to_be_made header sids2 target spec2 branch ≡ o → o ≡ to_be_made header sids target spec branch
 made_as header sids sids2 target spec spec2 branch o first second is =
     sym is ∙ (ap (λ (s : List Sid). to_be_made header s target spec2 branch) first ∙ ap (λ (s : Option Spec). to_be_made header sids target s branch) second)
 
 -- where a SID is free, it is that which is to be made
-free_is : (header : Header) (edits : List Edit) (got : Sid) (made : Option Sid) (sid : Sid) → free_sid header edits got made ≡ Ok sid → made ≡ Some sid
+free_is : (header : Header) (edits : List Edit) (way : Bool) (got : Sid) (made : Option Sid) (sid : Sid) → free_sid header edits way got made ≡ Ok sid → made ≡ Some sid
 unfolding free_sid
-free_is header edits got made sid is = by (released header got made) (has_flag header.flags 106 || not (is_got edits got)) made is
+free_is header edits way got made sid is = by (released header got made) (has_flag header.flags 106 || not (is_got edits got)) (not way) made is
   where
-    by : (r : Result Bool Refusal) (b : Bool) (m : Option Sid) → (r >>= λ free. check b refusals.BeingEdited >>= λ joint. there m refusals.Full) ≡ Ok sid → m ≡ Some sid
-    by (Ok x) true (Some s) e = let same : s ≡ sid = cc in ap Some same
-    by (Ok x) true None e = absurd cc
-    by (Ok x) false m e = absurd cc
-    by (Err refusal) b m e = absurd cc
+    by : (r : Result Bool Refusal) (b c : Bool) (m : Option Sid) → (r >>= λ free. check b refusals.BeingEdited >>= λ joint. check c refusals.GExists >>= λ place. there m refusals.Full) ≡ Ok sid → m ≡ Some sid
+    by (Ok x) true true (Some s) e = let same : s ≡ sid = cc in ap Some same
+    by (Ok x) true true None e = absurd cc
+    by (Ok x) true false m e = absurd cc
+    by (Ok x) false c m e = absurd cc
+    by (Err refusal) b c m e = absurd cc
 
 -- the SID to be made is a SID
-pub free_valid : (words : GetWords) (header : Header) (edits : List Edit) (target : ℕ) (got : Sid) (made : Option Sid) (sid : Sid) → IsSpelled header → IsComponent (release_asked (spec_asked words header)) → sid_at header.records target ≡ Some got
-    → made ≡ to_be_made header (reserved edits) target (spec_asked words header) words.branch → free_sid header edits got made ≡ Ok sid → IsSid sid
-free_valid words header edits target got made sid spelled release at making free =
-    made_sid header (reserved edits) target (spec_asked words header) words.branch got sid at (sid_there header.records target got spelled.records at) release (sym making ∙ free_is header edits got made sid free)
+pub free_valid : (words : GetWords) (header : Header) (edits : List Edit) (way : Bool) (target : ℕ) (got : Sid) (made : Option Sid) (sid : Sid) → IsSpelled header → IsComponent (release_asked (spec_asked words header)) → sid_at header.records target ≡ Some got
+    → made ≡ to_be_made header (reserved edits) target (spec_asked words header) words.branch → free_sid header edits way got made ≡ Ok sid → IsSid sid
+free_valid words header edits way target got made sid spelled release at making free =
+    made_sid header (reserved edits) target (spec_asked words header) words.branch got sid at (sid_there header.records target got spelled.records at) release (sym making ∙ free_is header edits way got made sid free)
 
 left_no : (a b : Bool) → (a || b) ≡ false → a ≡ false
 left_no true b is = cc
@@ -115,10 +116,10 @@ unlive_at header sids spec branch None sid is = absurd cc
 unlive_at header sids spec branch (Some on) sid is = left_no (lives header.records sid) (list_any (λ s. same_sid s sid) sids) (made_is_free header.records sids on sid spec (branch && has_flag header.flags 98) is)
 
 -- the SID to be made isn't live
-pub free_unlive : (words : GetWords) (header : Header) (edits : List Edit) (target : ℕ) (got : Sid) (made : Option Sid) (sid : Sid) (e : Edit) (stamp : Stamp) (a : Asked) → made ≡ to_be_made header (reserved edits) target (spec_asked words header) words.branch → free_sid header edits got made ≡ Ok sid
+pub free_unlive : (words : GetWords) (header : Header) (edits : List Edit) (way : Bool) (target : ℕ) (got : Sid) (made : Option Sid) (sid : Sid) (e : Edit) (stamp : Stamp) (a : Asked) → made ≡ to_be_made header (reserved edits) target (spec_asked words header) words.branch → free_sid header edits way got made ≡ Ok sid
     → e ≡ new_edit stamp header.records a got sid → lives header.records e.made ≡ false
-free_unlive words header edits target got made sid e stamp a making free same =
-    ap (λ (x : Edit). lives header.records x.made) same ∙ unlive_at header (reserved edits) (spec_asked words header) words.branch (sid_at header.records target) sid (sym making ∙ free_is header edits got made sid free)
+free_unlive words header edits way target got made sid e stamp a making free same =
+    ap (λ (x : Edit). lives header.records x.made) same ∙ unlive_at header (reserved edits) (spec_asked words header) words.branch (sid_at header.records target) sid (sym making ∙ free_is header edits way got made sid free)
 
 -- ---- a live serial of a list
 
@@ -141,23 +142,6 @@ single_added records serials list list2 i d sid low is at put =
     at_end : {X : Type 0} (xs : List X) (x : X) → insert xs (length xs) x ≡ xs ++ x ∷ []
     at_end [] x = refl
     at_end (y ∷ xs) x = ap (λ zs. y ∷ zs) (at_end xs x)
-
-decides_as : (words : GetWords) (stamp : Stamp) (heading : Bool) (n : List ℕ) (x : Pending) (found : Found) (r : Result Edit Refusal) → ShowsFound x found → new_entry words stamp x.front.header x.edits ≡ r
-    → edit_decides words stamp heading n found ≡ (r >>= λ e. Ok (with_entry words heading n x.edits e))
-unfolding edit_decides
-decides_as words stamp heading n x found r shows is =
-    ap (λ (h : Header). new_entry words stamp h found.edits >>= λ e. Ok (with_entry words heading n found.edits e)) shows.0
-    ∙ (ap (λ (edits : List Edit). new_entry words stamp x.front.header edits >>= λ e. Ok (with_entry words heading n edits e)) shows.1 ∙ ap (λ (s : Result Edit Refusal). s >>= λ e. Ok (with_entry words heading n x.edits e)) is)
-
-pub no_entry : (words : GetWords) (stamp : Stamp) (heading : Bool) (n : List ℕ) (x : Pending) (fault : StepFault) → Answers {A = Edit} (new_entry words stamp x.front.header x.edits) (Err fault) → (found : Found) → ShowsFound x found → Answers {A = Decided} (edit_decides words stamp heading n found) (Err fault)
-no_entry words stamp heading n x (Refused refusal) answers found shows = decides_as words stamp heading n x found (Err refusal) shows answers
-no_entry words stamp heading n x Memory answers found shows = tt
-no_entry words stamp heading n x DiskFault answers found shows = tt
-no_entry words stamp heading n x ReadFault answers found shows = answers
-no_entry words stamp heading n x WriteFault answers found shows = answers
-
-pub one_entry : (words : GetWords) (stamp : Stamp) (heading : Bool) (n : List ℕ) (x : Pending) (e : Edit) → new_entry words stamp x.front.header x.edits ≡ Ok e → (found : Found) → ShowsFound x found → edit_decides words stamp heading n found ≡ Ok (with_entry words heading n x.edits e)
-one_entry words stamp heading n x e is found shows = decides_as words stamp heading n x found (Ok e) shows is
 
 pub never_empty : (edits : List Edit) (e : Edit) → edits ++ e ∷ [] ≡ [] → edits ≡ [] → ⊥
 never_empty [] e none empty = cc

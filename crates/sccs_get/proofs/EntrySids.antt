@@ -12,7 +12,7 @@ use Rattle.sccs_flags.specs.FlagValues.{has_flag}
 use Rattle.sccs_history.specs.History.{HasSpelling}
 use Rattle.sccs_history.specs.declared.headers.Header.{Header}
 use Rattle.sccs_history.specs.declared.headers.Record.{Record}
-use Rattle.sccs_get.specs.EditStep.{release_asked}
+use Rattle.sccs_get.specs.NewEntry.{release_asked}
 use Rattle.sccs_sets.specs.Made.{is_taken, comes_after, made_on, next, next_level, next_on_line, next_on_trunk, on_new_branch, taken_branch, to_be_made}
 use Rattle.sccs_sets.specs.Retrieved.{branch_sid, trunk_sid}
 use Rattle.sccs_sets.specs.Sets.{record_at, sid_at}

@@ -17,9 +17,8 @@ use Rattle.sccs_sets.specs.declared.faults.SetFault.{SetFault}
 use Rattle.sccs_sets.specs.declared.faults.SetFault.TheVariants.{BadList, Memory}
 use Rattle.sccs_words.specs.declared.commands.GetWords.{GetWords}
 use Rattle.sccs_steps.specs.StepEffects.{there}
-use Rattle.sccs_sid.specs.declared.refusals.StepFault.TheVariants as step
 use Rattle.sccs_pending.specs.PFiles.{Answers}
-use Rattle.sccs_get.specs.GetStep.{apart, asked, listed, set_asked, spec_asked}
+use Rattle.sccs_get.specs.GetStep.{apart, asked, listed, spec_asked}
 use Rattle.sccs_get.specs.declared.targets.Asked.{Asked}
 
 abbrev pub asked_at : ℕ → List ℕ → List ℕ → List ℕ → Asked
@@ -89,19 +88,3 @@ pub set_made : (words : GetWords) (header : Header) (n : ℕ) (include exclude s
     → both_listed header.records include exclude ≡ None → set ≡ applied (record { target = n; include = include; exclude = exclude; cutoff = option_map (λ m. m.seconds) words.cutoff }) header.records → asked words header ≡ Ok (asked_at n include exclude set)
 set_made words header n include exclude set found taken left none is =
     excluded words header n include exclude found taken left ∙ (ap (set_apart n include exclude (option_map (λ m. m.seconds) words.cutoff) header.records) none ∙ ap (λ (set : List ℕ). Ok (asked_at n include exclude set)) (sym is))
-
--- ---- the set alone
-
-set_from : (words : GetWords) (header : Header) (r : Result Asked Refusal) → asked words header ≡ r → set_asked words header ≡ (r >>= λ a. Ok a.set)
-unfolding set_asked
-set_from words header r is = ap (λ (x : Result Asked Refusal). x >>= λ a. Ok a.set) is
-
-pub set_found : (words : GetWords) (header : Header) (a : Asked) → asked words header ≡ Ok a → set_asked words header ≡ Ok a.set
-set_found words header a is = set_from words header (Ok a) is
-
-pub set_not_found : (words : GetWords) (header : Header) (fault : StepFault) → Answers {A = Asked} (asked words header) (Err fault) → Answers {A = List ℕ} (set_asked words header) (Err fault)
-set_not_found words header (step.Refused refusal) answers = set_from words header (Err refusal) answers
-set_not_found words header step.Memory answers = tt
-set_not_found words header step.DiskFault answers = tt
-set_not_found words header step.ReadFault answers = answers
-set_not_found words header step.WriteFault answers = answers

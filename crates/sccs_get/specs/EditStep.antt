@@ -1,118 +1,69 @@
--- What get -e does with -g: POSIX, Shell and Utilities, get, -e and -g.
-use Rattle.std.specs.Prelude.{◌≡◌, ℕ, Bool, true, false, not, ◌&&◌, ◌||◌, List, [], ◌∷◌, ◌++◌, map, flat_map, codes, Option, None, Some, IfSome, is_some, Result, Ok, Err, if◌then◌else◌}
-use Rattle.std.specs.List.{list_any}
-use Rattle.sccs_sid.specs.Moment.{IsMoment}
+-- What get -e does: POSIX, Shell and Utilities, get, -e.
+use Rattle.std.specs.Prelude.{ℕ, Bool, false, List, [], ◌∷◌, ◌++◌, length, Option, None, Some, Result, Ok, Err, if◌then◌else◌}
 use Rattle.sccs_sid.specs.Reading.{◌>>=◌}
-use Rattle.sccs_sid.specs.Sid.{IsComponent, sid_text}
+use Rattle.sccs_sid.specs.Refusal.{number_of}
 use Rattle.sccs_sid.specs.declared.moments.Stamp.{Stamp}
-use Rattle.sccs_sid.specs.declared.sids.Sid.{Sid}
-use Rattle.sccs_sid.specs.declared.sids.Spec.{Spec}
-use Rattle.sccs_sid.specs.declared.sids.Spec.TheVariants.{Release}
-use Rattle.sccs_sid.specs.declared.sid_lists.Range.{Range}
 use Rattle.sccs_sid.specs.declared.refusals.Refusal.{Refusal}
-use Rattle.sccs_sid.specs.declared.refusals.Refusal.TheVariants as refusals
-use Rattle.sccs_history.specs.History.{same_sid}
-use Rattle.sccs_history.specs.declared.headers.Header.{Header}
+use Rattle.sccs_disk.specs.Files.{Content}
+use Rattle.sccs_history.specs.Body.{HistoryLine}
 use Rattle.sccs_history.specs.declared.headers.Record.{Record}
-use Rattle.sccs_flags.specs.FlagValues.{has_flag, is_locked, is_within_limits}
-use Rattle.sccs_flags.specs.Logins.{is_allowed}
-use Rattle.sccs_grammar.specs.Written.{ended}
-use Rattle.sccs_sets.specs.Made.{to_be_made}
-use Rattle.sccs_sets.specs.Sets.{sid_at}
+use Rattle.sccs_grammar.specs.File.{Parsed}
+use Rattle.sccs_files.specs.StepFiles.{Files}
+use Rattle.sccs_pfile.specs.Recovered.{pfile_of}
 use Rattle.sccs_pfile.specs.declared.entries.Edit.{Edit}
-use Rattle.sccs_steps.specs.StepEffects.{check, there}
-use Rattle.sccs_steps.specs.Actions.{quiet_checks}
-use Rattle.sccs_transactions.specs.Changes.{Changing}
+use Rattle.sccs_texts.specs.Forms.{has_keywords, texts}
 use Rattle.sccs_words.specs.declared.commands.GetWords.{GetWords}
-use Rattle.sccs_pending.specs.NewEntries.{Decided, entries_outcome}
-use Rattle.sccs_pending.specs.Pending.{Found}
-use Rattle.sccs_pending.specs.Reports.{heading_text}
-use Rattle.sccs_get.specs.GetStep.{asked, spec_asked}
-use Rattle.sccs_get.specs.declared.targets.Asked.{Asked}
+use Rattle.sccs_pending.specs.Pending.{pending_of}
+use Rattle.sccs_steps.specs.Actions.{Step, has_number}
+use Rattle.sccs_steps.specs.StepEffects.{Outcome, StepEffect}
+use Rattle.sccs_transactions.specs.Changes.{Changing}
+use Rattle.sccs_get.specs.NewEntry.{edit_checks, new_entry}
+use Rattle.sccs_get.specs.Reports.{get_warning, said_on_err, said_on_out}
+use Rattle.sccs_get.specs.VersionStep.{found_of, is_in_the_way, lines_in, report_on, says_well, stays_writable, text_in, writes_g}
+use Rattle.sccs_get.specs.declared.found.Found.{Found as Version}
 
--- the numbers of its checks
-abbrev pub edit_checks : List ℕ
-edit_checks = 2 ∷ 3 ∷ 5 ∷ 6 ∷ 7 ∷ 8 ∷ 9 ∷ 10 ∷ 11 ∷ 12 ∷ 15 ∷ 16 ∷ 17 ∷ 18 ∷ 19 ∷ 33 ∷ []
+-- What is found: the header and items, the entries, the new one, and the version that is got.
+pub record Reserved : Type 0 where
+  pub parsed : Parsed
+  pub edits : List Edit
+  pub edit : Edit
+  pub version : Version
 
--- the release of the SID to be made; where no number is left for it, that of the SID got
-abbrev pub release_made : Sid → Option Sid → ℕ
-release_made got None = got.release
-release_made got (Some made) = made.release
+-- it is found in the files of a name; or the first check that fails
+unfoldable pub reserved_of : GetWords → Stamp → List ℕ → List ℕ → Files → Result Reserved Refusal
+reserved_of words stamp place n f = do
+  found ← pending_of f.s f.p
+  edit ← new_entry words stamp found.parsed.header found.edits (is_in_the_way words f.g)
+  version ← found_of words stamp place n found.parsed.header
+  Ok (record { parsed = found.parsed; edits = found.edits; edit = edit; version = version })
 
--- the releases got and to be made lie from floor to ceiling, and the latter isn't locked
-unfoldable pub released : Header → Sid → Option Sid → Result Bool Refusal
-released header got made = do
-  within ← check (is_within_limits header.flags got.release && is_within_limits header.flags (release_made got made)) refusals.OutsideRelease
-  check (not (is_locked header.flags (release_made got made))) refusals.LockedRelease
+-- what becomes of the g-file
+abbrev pub g_after : GetWords → List ℕ → Option Content → Option Content
+g_after words text g = if writes_g words then Some (record { bytes = text; writable = stays_writable words }) else g
 
--- an entry got the SID
-abbrev pub is_got : List Edit → Sid → Bool
-is_got edits got = list_any (λ e. same_sid e.got got) edits
+-- The entries are one more, last; the text goes to out before that with -p, becomes the g-file, or is none with -g; and the report
+-- goes to err with -p.
+abbrev pub edited : GetWords → Bool → List ℕ → List Record → Files → List Edit → Edit → Version → List HistoryLine → StepEffect
+edited words heading n records f edits edit version lines =
+    let text : List ℕ = text_in words records version lines in
+    let report : List ℕ = report_on words heading n version (Some edit.made) (length lines) in
+    record {
+      new = Some (record { s = f.s; p = pfile_of (edits ++ edit ∷ []); z = None; g = g_after words text f.g });
+      text = if words.print then text else [];
+      out = said_on_out words report;
+      err = said_on_err words report (get_warning words n (has_keywords (texts lines)));
+      status = 0;
+    }
 
--- the SID to be made, where it may be: several edits of one SID need the flag j
-unfoldable pub free_sid : Header → List Edit → Sid → Option Sid → Result Sid Refusal
-free_sid header edits got made = do
-  free ← released header got made
-  joint ← check (has_flag header.flags 106 || not (is_got edits got)) refusals.BeingEdited
-  there made refusals.Full
+unfoldable pub edit_outcome : GetWords → Stamp → List ℕ → Bool → Step
+edit_outcome words stamp place heading n input named f = do
+  x ← reserved_of words stamp place n f
+  Ok (edited words heading n x.parsed.header.records f x.edits x.edit x.version (lines_in x.version x.parsed.items))
 
--- the SIDs that the entries are to make
-abbrev pub reserved : List Edit → List Sid
-reserved edits = map (λ e. e.made) edits
+-- the outcomes that may come over any disk
+abbrev pub could_edit : GetWords → Outcome → Bool
+could_edit words (Ok effect) = says_well words effect.err
+could_edit words (Err refusal) = has_number edit_checks (number_of refusal)
 
--- the SIDs of serials, each as a range of its own
-abbrev pub single : Option Sid → List Range
-single None = []
-single (Some sid) = record { first = sid; last = sid } ∷ []
-
-abbrev pub singles : List Record → List ℕ → List Range
-singles records serials = flat_map (λ n. single (sid_at records n)) serials
-
-abbrev pub new_edit : Stamp → List Record → Asked → Sid → Sid → Edit
-new_edit stamp records a got made =
-    record { got = got; made = made; login = stamp.login; moment = stamp.moment; include = singles records a.include; exclude = singles records a.exclude }
-
--- the new entry of a login; or the first check that fails
-unfoldable pub new_entry : GetWords → Stamp → Header → List Edit → Result Edit Refusal
-new_entry words stamp header edits = do
-  allowed ← check (is_allowed header.users stamp.login) refusals.NotAllowed
-  a ← asked words header
-  got ← there (sid_at header.records a.target) refusals.NoSid
-  made ← free_sid header edits got (to_be_made header (reserved edits) a.target (spec_asked words header) words.branch)
-  Ok (new_edit stamp header.records a got made)
-
--- SIDs, each on a line, behind a title, where a list was given
-abbrev pub listed_text : Option (List Range) → List ℕ → List Range → List ℕ
-listed_text None title ranges = []
-listed_text (Some list) title ranges = ended title ++ flat_map (λ (r : Range). ended (sid_text r.first)) ranges
-
--- the lists, the SID that was got and the one that is to be made, unless nothing is to be said
-abbrev pub edit_report : GetWords → Bool → List ℕ → Edit → List ℕ
-edit_report words heading n e =
-    if words.silent then []
-    else heading_text heading n
-    ++ (listed_text words.include (codes "Included:") e.include
-    ++ (listed_text words.exclude (codes "Excluded:") e.exclude
-    ++ (ended (sid_text e.got) ++ (codes "new delta " ++ ended (sid_text e.made)))))
-
--- one entry more, last; the g-file stays
-abbrev pub with_entry : GetWords → Bool → List ℕ → List Edit → Edit → Decided
-with_entry words heading n edits e = record { edits = edits ++ e ∷ []; keep = true; report = edit_report words heading n e }
-
-unfoldable pub edit_decides : GetWords → Stamp → Bool → List ℕ → Found → Result Decided Refusal
-edit_decides words stamp heading n found = do
-  e ← new_entry words stamp found.parsed.header found.edits
-  Ok (with_entry words heading n found.edits e)
-
-abbrev pub edit_change : GetWords → Stamp → Bool → Changing
-edit_change words stamp heading = record { outcome = entries_outcome (edit_decides words stamp heading); named = []; takes = false; silent = false; could = quiet_checks edit_checks }
-
--- the release that is asked for alone, else the first
-abbrev pub release_asked : Option Spec → ℕ
-release_asked (Some (Release release)) = release
-release_asked spec = 1
-
--- The release that is asked for and the moment are valid ones.
-pub record AreEditValues (words : GetWords) (stamp : Stamp) : Type 0 where
-  pub release : IsComponent (release_asked words.spec)
-  pub moment : IsMoment stamp.moment
+abbrev pub edit_change : GetWords → Stamp → List ℕ → Bool → Changing
+edit_change words stamp place heading = record { outcome = edit_outcome words stamp place heading; named = []; takes = false; silent = false; could = could_edit words }

@@ -1,31 +1,22 @@
--- What a get does that prints a version: POSIX, Shell and Utilities, get.
+-- The version that get's words ask for: POSIX, Shell and Utilities, get.
 use Rattle.std.specs.Prelude.{ℕ, Bool, true, false, List, [], ◌∷◌, Option, None, Some, option_map, Result, Ok, Err}
-use Rattle.sccs_base.specs.Name.{is_sfile_name}
 use Rattle.sccs_sid.specs.Reading.{◌>>=◌}
 use Rattle.sccs_sid.specs.declared.sids.Sid.{Sid}
 use Rattle.sccs_sid.specs.declared.sids.Spec.{Spec}
 use Rattle.sccs_sid.specs.declared.sid_lists.Range.{Range}
 use Rattle.sccs_sid.specs.declared.refusals.Refusal.{Refusal}
 use Rattle.sccs_sid.specs.declared.refusals.Refusal.TheVariants as refusals
-use Rattle.sccs_history.specs.Body.{lines_of}
-use Rattle.sccs_history.specs.Select.{select}
 use Rattle.sccs_history.specs.Applied.{applied}
 use Rattle.sccs_history.specs.declared.headers.Record.{Record}
 use Rattle.sccs_history.specs.declared.headers.Header.{Header}
-use Rattle.sccs_grammar.specs.File.{answer, file_of}
-use Rattle.sccs_grammar.specs.Written.{bytes_of}
-use Rattle.sccs_grammar.specs.FileRefusals.{or_refusal}
 use Rattle.sccs_sets.specs.Retrieved.{retrieved}
 use Rattle.sccs_sets.specs.Naming.{named_serials}
 use Rattle.sccs_sets.specs.Flags.{default_of}
 use Rattle.sccs_sets.specs.SetRefusals.{or_bad_list}
 use Rattle.sccs_sets.specs.Sets.{both_listed}
 use Rattle.sccs_words.specs.declared.commands.GetWords.{GetWords}
-use Rattle.sccs_files.specs.StepFiles.{Files}
-use Rattle.sccs_steps.specs.StepEffects.{StepEffect, Outcome, there}
-use Rattle.sccs_pending.specs.Pending.{bytes_at}
+use Rattle.sccs_steps.specs.StepEffects.{there}
 use Rattle.sccs_get.specs.declared.targets.Asked.{Asked}
-use Rattle.sccs_steps.specs.Actions.{Action, quiet_checks}
 
 -- the SID that is asked for: the one given, or that of the flag d
 abbrev pub spec_asked : GetWords → Header → Option Spec
@@ -36,11 +27,7 @@ abbrev pub listed : List Record → Option (List Range) → Result (List ℕ) Si
 listed records None = Ok []
 listed records (Some list) = named_serials records [] list
 
--- the numbers of the checks that get makes of a file
-abbrev pub get_checks : List ℕ
-get_checks = 3 ∷ 5 ∷ 6 ∷ 7 ∷ 8 ∷ 9 ∷ 15 ∷ 16 ∷ 34 ∷ []
-
--- those of what it asks for
+-- the numbers of these checks
 abbrev pub asked_checks : List ℕ
 asked_checks = 15 ∷ 16 ∷ []
 
@@ -62,24 +49,3 @@ asked words header = do
     exclude = exclude;
     set = applied (record { target = target; include = include; exclude = exclude; cutoff = option_map (λ m. m.seconds) words.cutoff }) header.records;
   })
-
--- the set alone
-unfoldable pub set_asked : GetWords → Header → Result (List ℕ) Refusal
-set_asked words header = do
-  a ← asked words header
-  Ok a.set
-
--- a step that prints and changes no file
-abbrev pub prints : List ℕ → StepEffect
-prints text = record { new = None; text = text; out = []; err = []; status = 0 }
-
--- What get does with the file: the lines that the set shows, each with LF, or the first check that fails.
-unfoldable pub get_step : GetWords → Files → Outcome
-get_step words files = do
-  parsed ← or_refusal (answer file_of (bytes_at files.s))
-  set ← set_asked words parsed.header
-  Ok (prints (bytes_of (select set (lines_of parsed.items))))
-
--- get as an action on each operand
-abbrev pub get_action : GetWords → Action
-get_action words = record { fits = is_sfile_name; step = λ name input named files. get_step words files; named = []; takes = false; reads = true; silent = false; could = quiet_checks get_checks }

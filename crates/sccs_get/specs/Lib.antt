@@ -1,5 +1,10 @@
+pub mod EditGiving
 pub mod EditStep
 pub mod Edits
 pub mod GetStep
+pub mod Giving
+pub mod Keeps
 pub mod Linear
-pub mod Printing
+pub mod NewEntry
+pub mod Reports
+pub mod VersionStep

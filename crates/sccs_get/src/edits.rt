@@ -1,193 +1,269 @@
-ghost use Rattle.std.specs.Prelude.{◌≡◌, ◌≢◌, ◌≤◌, ◌++◌, All, Err, IfOk, OnOk, codes};
-ghost use Rattle.std.specs.Option.{option_copied};
+ghost use Rattle.std.specs.Prelude.{◌≡◌, ◌≢◌, ◌≤◌, ◌∷◌, ◌++◌, [], ℕ, List, Option, Some, All, Ok, Err, IfOk, IfSome, is_some, true, false};
 ghost use Rattle.std.specs.Str.{bytes_eq};
 ghost use Rattle.sccs_base.specs.Name.{IsSfile, sibling};
 ghost use Rattle.sccs_base.specs.Stream.{Rose};
-ghost use Rattle.sccs_grammar.specs.Written.{ended};
-ghost use Rattle.sccs_images.specs.Touches.{TouchesOnly};
+ghost use Rattle.sccs_disk.specs.Calls.{IsThere};
+ghost use Rattle.sccs_disk.specs.Files.{View};
+ghost use Rattle.sccs_disk.specs.Images.{IsFirm};
+ghost use Rattle.sccs_disk.specs.Told.{seen};
+ghost use Rattle.sccs_files.specs.StepFiles.{Moves, is_working, look};
+ghost use Rattle.sccs_history.specs.Applied.{serials_of};
+ghost use Rattle.sccs_history.specs.History.{lives};
+ghost use Rattle.sccs_history.specs.Numbers.{Falls, has};
+ghost use Rattle.sccs_history.specs.declared.headers.Item.{Item};
+ghost use Rattle.sccs_images.specs.Touches.{Leaves, TouchesOnly};
+ghost use Rattle.sccs_keys.specs.Expansion.{HasMoments};
+ghost use Rattle.sccs_pending.specs.NewEntries.{PreparesEntries};
+ghost use Rattle.sccs_pending.specs.PFiles.{OnlyReads};
+ghost use Rattle.sccs_pending.specs.Pending.{AnswersPending};
+ghost use Rattle.sccs_pfile.specs.Agreement.{Agrees};
 ghost use Rattle.sccs_pfile.specs.Entries.{IsEdit};
-ghost use Rattle.sccs_sid.specs.Sid.{sid_text};
 ghost use Rattle.sccs_sid.specs.declared.refusals.StepFault.TheVariants as faults;
 ghost use Rattle.sccs_steps.specs.Actions.{RefusesWithin};
+ghost use Rattle.sccs_steps.specs.Calls.{world};
+ghost use Rattle.sccs_steps.specs.Causes.{PrintCauses};
+ghost use Rattle.sccs_store.specs.Stops.{OnReplace};
+ghost use Rattle.sccs_table.specs.FrontFile.{IsPlaced};
+ghost use Rattle.sccs_table.specs.ReaderState.{bytes_in};
 ghost use Rattle.sccs_transactions.proofs.Utilities.{locking_keeps};
-ghost use Rattle.sccs_transactions.specs.Changes.{locking};
-ghost use Rattle.sccs_transactions.specs.Stops.{IsFirmPrepared};
-ghost use Rattle.sccs_pending.specs.NewEntries.{PreparesDecided};
-ghost use Rattle.sccs_get.specs.Edits.{edit_locked, sid_lines};
-ghost use Rattle.sccs_get.specs.EditStep.{AreEditValues, edit_change, edit_checks, edit_report, listed_text, with_entry};
+ghost use Rattle.sccs_transactions.specs.Changes.{IsReady, Prepares, locking, unlocked};
+ghost use Rattle.sccs_transactions.specs.Stops.{IsFirmPrepared, SettlesEntries};
+ghost use Rattle.sccs_versions.specs.Coming.{IsBody};
+ghost use Rattle.sccs_get.specs.Edits.{edit_locked};
+ghost use Rattle.sccs_get.specs.EditGiving.{AnswersReserved, new_g};
+ghost use Rattle.sccs_get.specs.EditStep.{edit_change, edited};
+ghost use Rattle.sccs_get.specs.NewEntry.{AreEditValues, edit_checks};
+ghost use Rattle.sccs_get.specs.VersionStep.{lines_in, says_well};
+ghost use Rattle.sccs_get.specs.Reports.{replaces};
 
+use crate::checks::{is_in_the_way, writes_g};
+use crate::found::{Found, find_version};
+use crate::giving::give_version;
 use crate::new_entries::new_entry;
-use sccs_base::{Bytes, Memory, Name, Sink, Source};
+use crate::reports::said;
+use sccs_base::{Line, Name, Sink, Source};
 use sccs_disk::{Disk, DiskRefusal};
-use sccs_pending::{heading, prepare_entries, read_pending};
+use sccs_pending::{Pending, prepare_entries, read_pending};
 use sccs_pfile::{Edit, Edits, reserve};
-use sccs_sid::{DETAIL_ROOM, Range, Sid, SidList, Stamp, StepFault};
+use sccs_sid::{Stamp, StepFault};
 use sccs_steps::Utility;
-use sccs_store::NewG;
+use sccs_store::{NewG, NewP};
 use sccs_transactions::{Change, Prepared, change_file};
 use sccs_words::GetWords;
 use std::alloc::Global;
 
-/// get on a name with -e and -g: an edit of a version is reserved for the login, and no text is got. It refuses a
-/// name that is locked, files that can't be read or don't agree, and what `new_entry` refuses. POSIX, Shell and
-/// Utilities, get, -e and -g.
+/// get on a name with -e: an edit of a version is reserved for the login, and its text goes to standard output
+/// with -p, nowhere with -g, and else into the g-file, which may be written. It refuses a name that is locked,
+/// files that can't be read or don't agree, and what `new_entry` refuses. POSIX, Shell and Utilities, get, -e.
 #[derive(Drop)]
 pub struct Reserve<'a> {
     pub words: &'a GetWords,
     pub stamp: &'a Stamp,
+    /// The folder's path.
+    pub place: &'a Line,
     /// Whether a heading stands before the report.
     pub heading: bool,
     ghost valid: { AreEditValues words.now stamp.now },
 }
 
-// adds a SID on a line of its own
-fn add_sid(sid: &Sid, report: &mut Vec<u8>) -> Result<(), Memory>
-    ensures { OnOk result (report.new.items ≡ report.old.items ++ ended (sid_text sid.now)) }
-{
-    let mut row = [0; DETAIL_ROOM];
-    report.extend_from_slice(sid.text(&mut row))?;
-    report.push(b'\n')?;
-    Ok(())
+/// What is found for an edit: the file with its entries, the new entry, and the version that is got.
+#[derive(Drop)]
+pub struct Reserved {
+    pub pending: Pending,
+    pub edit: Edit,
+    pub version: Found,
 }
 
-// adds the first SIDs of ranges, each on a line of its own
-fn add_sids(ranges: &[Range], report: &mut Vec<u8>) -> Result<(), Memory>
-    ensures { OnOk result (report.new.items ≡ report.old.items ++ sid_lines ranges.now) }
+// makes all checks, and finds the entry and the version
+fn find_edit<D: Disk>(
+    alloc: Global,
+    get: &Reserve<'_>,
+    name: &Name,
+    disk: &mut D,
+) -> Result<Reserved, StepFault>
+    requires { IsSfile name.now }
+    ensures told { IfSome (seen (D.told disk.old)) (λ (v : View). AnswersReserved get.now.words.now get.now.stamp.now get.now.place.now name.now (look v name.now) result) }
+    ensures pending { IfOk result (λ r. IfSome (seen (D.told disk.old)) (λ (v : View). AnswersPending (v name.now) (v (sibling 112 name.now)) (Ok r.pending))) }
+    ensures placed { IfOk result (λ r. IsPlaced r.pending.front) }
+    ensures table { IfOk result (λ r. Falls 65536 (serials_of r.pending.front.header.records)) }
+    ensures edits { IfOk result (λ r. All IsEdit r.pending.edits) }
+    ensures agrees { IfOk result (λ r. Agrees r.pending.front.header.records r.pending.edits) }
+    ensures edit { IfOk result (λ r. IsEdit r.edit) }
+    ensures free { IfOk result (λ r. lives r.pending.front.header.records r.edit.made ≡ false) }
+    ensures no_zero { IfOk result (λ r. has r.version.set 0 ≡ false) }
+    ensures facts { IfOk result (λ r. IfSome r.version.facts HasMoments) }
+    ensures replaced { IfOk result (λ r. is_some r.version.facts ≡ replaces get.now.words.now) }
+    ensures checks { RefusesWithin edit_checks result }
+    ensures frame { OnlyReads D.told D.faults disk.old disk.new result }
 {
-    for range in ranges {
-        add_sid(&range.first, report)?;
+    let pending = match read_pending(alloc, disk, name) {
+        Ok(pending) => pending,
+        Err(fault) => return Err(fault),
+    };
+    let in_the_way = match is_in_the_way(get.words, name, disk) {
+        Ok(in_the_way) => in_the_way,
+        Err(fault) => return Err(fault),
+    };
+    let header = &pending.front.header;
+    let edit = match new_entry(
+        alloc,
+        header,
+        &pending.edits,
+        get.words,
+        get.stamp,
+        in_the_way,
+    ) {
+        Ok(edit) => edit,
+        Err(fault) => return Err(fault),
+    };
+    match find_version(alloc, get.words, get.stamp, get.place, name, header) {
+        Ok(version) => Ok(Reserved {
+            pending,
+            edit,
+            version,
+        }),
+        Err(fault) => Err(fault),
     }
-    Ok(())
-}
-
-// adds SIDs behind a title, where a list was given
-fn add_list(
-    given: Option<&SidList>,
-    title: &[u8],
-    ranges: &[Range],
-    report: &mut Vec<u8>,
-) -> Result<(), Memory>
-    ensures { OnOk result (report.new.items ≡ report.old.items ++ listed_text (option_copied given.entry) title.now ranges.now) }
-{
-    match given {
-        Some(_) => {
-            report.extend_from_slice(title)?;
-            report.push(b'\n')?;
-            add_sids(ranges, report)
-        }
-        None => Ok(()),
-    }
-}
-
-// adds the lists that were given
-fn add_lists(words: &GetWords, edit: &Edit, report: &mut Vec<u8>) -> Result<(), Memory>
-    ensures { OnOk result (report.new.items ≡ report.old.items ++ (listed_text words.now.include (codes "Included:") edit.now.include ++ listed_text words.now.exclude (codes "Excluded:") edit.now.exclude)) }
-{
-    let (include, exclude) = (words.include.as_ref(), words.exclude.as_ref());
-    add_list(include, b"Included:", edit.include.items(), report)?;
-    add_list(exclude, b"Excluded:", edit.exclude.items(), report)
-}
-
-// adds the SID that was got and the one that is to be made
-fn add_delta(edit: &Edit, report: &mut Vec<u8>) -> Result<(), Memory>
-    ensures { OnOk result (report.new.items ≡ report.old.items ++ (ended (sid_text edit.now.got) ++ (codes "new delta " ++ ended (sid_text edit.now.made)))) }
-{
-    add_sid(&edit.got, report)?;
-    report.extend_from_slice(b"new delta ")?;
-    add_sid(&edit.made, report)
-}
-
-// the report of an entry, unless nothing is to be said
-fn report_of(alloc: Global, get: &Reserve<'_>, name: &Name, edit: &Edit) -> Result<Bytes, Memory>
-    ensures { IfOk result (λ report. report ≡ edit_report get.now.words.now get.now.heading name.now edit.now) }
-{
-    let mut report = Vec::new(alloc);
-    if !get.words.silent {
-        heading(get.heading, name, &mut report)?;
-        add_lists(get.words, edit, &mut report)?;
-        add_delta(edit, &mut report)?;
-    }
-    Ok(Bytes::from_vec(report))
 }
 
 // prepares the p-file with an entry more
 fn add_entry<D: Disk>(
-    alloc: Global,
-    get: &Reserve<'_>,
     name: &Name,
     edits: Edits,
     edit: Edit,
     disk: &mut D,
-) -> Result<Prepared, StepFault>
+) -> Result<NewP, StepFault>
     requires sfile { IsSfile name.now }
     requires edits { All IsEdit edits }
     requires edit { IsEdit edit }
-    ensures adds { PreparesDecided result name.now (with_entry get.now.words.now get.now.heading name.now edits edit) (D.told disk.old) (D.told disk.new) }
+    ensures entries { IfOk result (λ new. PreparesEntries name.now (edits ++ edit ∷ []) new (D.told disk.old) (D.told disk.new)) }
+    ensures moves { Moves (bytes_eq (sibling 113 name.now)) (λ v. v) (seen (D.told disk.old)) (seen (D.told disk.new)) }
     ensures touches { TouchesOnly (bytes_eq (sibling 113 name.now)) (D.told disk.old) (D.told disk.new) }
-    ensures firm { IfOk result (λ p. IsFirmPrepared name.now p (D.told disk.old) (D.told disk.new)) }
-    ensures checks { RefusesWithin edit_checks result }
+    ensures firm { IfOk result (λ new. OnReplace new (Leaves (IsFirm (sibling 113 name.now)) (D.told disk.old) (D.told disk.new))) }
+    ensures checks { RefusesWithin [] result }
     ensures later { D.faults disk.old ≤ D.faults disk.new }
     ensures cause { result ≡ Err faults.DiskFault → Rose (D.faults disk.old) (D.faults disk.new) }
     ensures read { result ≢ Err faults.ReadFault }
     ensures write { result ≢ Err faults.WriteFault }
 {
-    let Ok(report) = report_of(alloc, get, name, &edit) else {
-        return Err(StepFault::Memory);
-    };
     let mut edits = edits;
     let Ok(()) = reserve(&mut edits, edit) else {
         return Err(StepFault::Memory);
     };
     match prepare_entries(&edits, disk, name) {
-        Ok(new_p) => Ok(Prepared {
-            new_s: false,
-            new_p,
-            new_g: NewG::Keep,
-            report,
-            message: Bytes::empty(alloc),
-        }),
+        Ok(new_p) => Ok(new_p),
         Err(DiskRefusal::Failed) => Err(StepFault::DiskFault),
         Err(DiskRefusal::Memory) => Err(StepFault::Memory),
     }
 }
 
-impl Change for Reserve<'_> {
-    ghost change = { λ r. edit_change r.words.now r.stamp.now r.heading };
+// what becomes of the g-file
+fn new_g(words: &GetWords) -> NewG
+    ensures { result ≡ new_g words.now }
+{
+    if writes_g(words) {
+        NewG::Replace
+    } else {
+        NewG::Keep
+    }
+}
 
-    ghost locked = { λ r. edit_locked r.words.now r.stamp.now r.heading };
+// makes the working files of an edit, and gives its text
+fn give_edit<O: Sink, D: Disk>(
+    alloc: Global,
+    get: &Reserve<'_>,
+    name: &Name,
+    reserved: Reserved,
+    out: &mut O,
+    disk: &mut D,
+) -> Result<Prepared, StepFault>
+    requires sfile { IsSfile name.now }
+    requires edits { All IsEdit reserved.pending.edits }
+    requires edit { IsEdit reserved.edit }
+    requires facts { IfSome reserved.version.facts HasMoments }
+    requires replaced { is_some reserved.version.facts ≡ replaces get.now.words.now }
+    requires table { Falls 65536 (serials_of reserved.pending.front.header.records) }
+    ensures prepares { (v : View) (file : List ℕ) (items : List Item) (err : Option (List ℕ)) → seen (D.told disk.old) ≡ Some v
+        → IsBody (bytes_in (Some v) name.now) reserved.pending.front reserved.version.set file items
+        → Prepares result name.now (Ok (edited get.now.words.now get.now.heading name.now reserved.pending.front.header.records (look (unlocked name.now v) name.now) reserved.pending.edits reserved.edit reserved.version (lines_in reserved.version items)))
+        (world (Some v) (O.given out.old) err) (world (seen (D.told disk.new)) (O.given out.new) err) }
+    ensures needs { IsThere (sibling 122 name.now) (D.told disk.old) → IfOk result (λ p. IsReady name.now p (D.told disk.new)) }
+    ensures touches { TouchesOnly (is_working name.now) (D.told disk.old) (D.told disk.new) }
+    ensures firm { IfOk result (λ p. IsFirmPrepared name.now p (D.told disk.old) (D.told disk.new)) }
+    ensures entries { Agrees reserved.pending.front.header.records reserved.pending.edits
+        → lives reserved.pending.front.header.records reserved.edit.made ≡ false
+        → IfSome (seen (D.told disk.old)) (λ (v : View). AnswersPending (v name.now) (v (sibling 112 name.now)) (Ok reserved.pending))
+        → IfOk result (λ p. SettlesEntries name.now p (D.told disk.new)) }
+    ensures says { IfOk result (λ p. says_well get.now.words.now p.message ≡ true) }
+    ensures checks { RefusesWithin edit_checks result }
+    ensures causes { PrintCauses result (O.faults out.old) (O.faults out.new) (D.faults disk.old) (D.faults disk.new) }
+{
+    let Reserved {
+        pending,
+        edit,
+        version,
+    } = reserved;
+    let Pending { front, edits } = pending;
+    let made = edit.made;
+    let new_p = match add_entry(name, edits, edit, disk) {
+        Ok(new_p) => new_p,
+        Err(fault) => return Err(fault),
+    };
+    let shown = match give_version(alloc, get.words, name, &front, &version, out, disk) {
+        Ok(shown) => shown,
+        Err(fault) => return Err(fault),
+    };
+    match said(
+        alloc,
+        get.words,
+        get.heading,
+        name,
+        &version,
+        Some(made),
+        shown,
+    ) {
+        Ok(said) => Ok(Prepared {
+            new_s: false,
+            new_p,
+            new_g: new_g(get.words),
+            report: said.out,
+            message: said.err,
+        }),
+        Err(_) => Err(StepFault::Memory),
+    }
+}
+
+impl Change for Reserve<'_> {
+    ghost change = { λ r. edit_change r.words.now r.stamp.now r.place.now r.heading };
+
+    ghost locked = { λ r. edit_locked r.words.now r.stamp.now r.place.now r.heading };
 
     fn prepare<I: Source, O: Sink, D: Disk>(
         &self,
         alloc: Global,
         name: &Name,
         _input: &mut I,
-        _out: &mut O,
+        out: &mut O,
         disk: &mut D,
     ) -> Result<Prepared, StepFault> {
-        let found = match read_pending(alloc, disk, name) {
-            Ok(found) => found,
-            Err(fault) => return Err(fault),
-        };
-        match new_entry(
-            alloc,
-            &found.front.header,
-            &found.edits,
-            self.words,
-            self.stamp,
-        ) {
-            Ok(edit) => add_entry(alloc, self, name, found.edits, edit, disk),
+        match find_edit(alloc, self, name, disk) {
+            Ok(reserved) => give_edit(alloc, self, name, reserved, out, disk),
             Err(fault) => Err(fault),
         }
     }
 }
 
 impl Utility for Reserve<'_> {
-    ghost action = { λ r. locking (edit_change r.words.now r.stamp.now r.heading) };
+    ghost action = { λ r. locking (edit_change r.words.now r.stamp.now r.place.now r.heading) };
 
-    ghost keeps = { λ r. locking_keeps (edit_change r.words.now r.stamp.now r.heading) };
+    ghost keeps = { λ r. locking_keeps (edit_change r.words.now r.stamp.now r.place.now r.heading) };
 
     fn name(&self, operand: &[u8]) -> Option<Name> {
         Name::read_sfile(operand)
+    }
+
+    fn takes_input(&self) -> bool {
+        false
     }
 
     fn step<I: Source, O: Sink, E: Sink, D: Disk>(

@@ -1,12 +1,17 @@
-//! get: any version of an s-file, printed. POSIX, Shell and Utilities, get.
+//! get: a version of an s-file, printed or as its g-file, and an edit of one reserved. POSIX, Shell and
+//! Utilities, get.
 #![tactic(auto)]
 
+mod checks;
 mod edits;
-pub mod laws;
+mod found;
+mod giving;
+mod laws;
 mod new_entries;
-mod printing;
+mod reports;
+mod steps;
 mod targets;
-mod versions;
 
 pub use edits::Reserve;
-pub use versions::print_version;
+pub use laws::linear_files;
+pub use steps::Get;

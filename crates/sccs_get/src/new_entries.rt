@@ -11,7 +11,7 @@ ghost use Rattle.sccs_pending.specs.PFiles.{Answers, Passes};
 ghost use Rattle.sccs_pfile.specs.Entries.{IsEdit};
 ghost use Rattle.sccs_sets.specs.Made.{to_be_made};
 ghost use Rattle.sccs_steps.specs.Actions.{RefusesWithin};
-ghost use Rattle.sccs_get.specs.EditStep.{AreEditValues, edit_checks, free_sid, is_got, new_edit, new_entry, release_asked, release_made, released, reserved, singles};
+ghost use Rattle.sccs_get.specs.NewEntry.{AreEditValues, edit_checks, free_sid, is_got, new_edit, new_entry, release_asked, release_made, released, reserved, singles};
 ghost use Rattle.sccs_get.specs.GetStep.{spec_asked};
 
 use crate::targets::{Asked, asked_of};
@@ -35,7 +35,7 @@ fn release_made(got: Sid, made: Option<Sid>) -> u16
 }
 
 // whether the releases may be got and made
-#[tactic(auto, unfolding(crate::specs::EditStep::released))]
+#[tactic(auto, unfolding(crate::specs::NewEntry::released))]
 fn check_releases(header: &Header, got: Sid, made: Option<Sid>) -> Result<(), StepFault>
     ensures value { Passes (released header.now got made) result }
     ensures checks { RefusesWithin (17 ∷ 18 ∷ []) result }
@@ -63,10 +63,16 @@ fn is_got(edits: &[Edit], got: Sid) -> bool
 }
 
 // the SID to be made, where it may be
-#[tactic(auto, unfolding(crate::specs::EditStep::free_sid))]
-fn free_sid(header: &Header, edits: &Edits, got: Sid, made: Option<Sid>) -> Result<Sid, StepFault>
-    ensures value { Answers (free_sid header.now edits.now got made) result }
-    ensures checks { RefusesWithin (17 ∷ 18 ∷ 19 ∷ 33 ∷ []) result }
+#[tactic(auto, unfolding(crate::specs::NewEntry::free_sid))]
+fn free_sid(
+    header: &Header,
+    edits: &Edits,
+    in_the_way: bool,
+    got: Sid,
+    made: Option<Sid>,
+) -> Result<Sid, StepFault>
+    ensures value { Answers (free_sid header.now edits.now in_the_way got made) result }
+    ensures checks { RefusesWithin (17 ∷ 18 ∷ 19 ∷ 25 ∷ 33 ∷ []) result }
     ensures memory { result ≢ Err faults.Memory }
     ensures broke { result ≢ Err faults.DiskFault }
 {
@@ -78,6 +84,9 @@ fn free_sid(header: &Header, edits: &Edits, got: Sid, made: Option<Sid>) -> Resu
         if is_got(edits.items(), got) {
             return Err(StepFault::Refused(Refusal::BeingEdited));
         }
+    }
+    if in_the_way {
+        return Err(StepFault::Refused(Refusal::GExists));
     }
     match made {
         Some(made) => Ok(made),
@@ -96,8 +105,8 @@ fn reserved(alloc: Global, edits: &[Edit]) -> Result<ListOf<Sid>, Memory>
     Ok(sids)
 }
 
-// the SIDs of live serials, each as a range of its own
-fn singles(alloc: Global, records: &[Record], serials: &[u16]) -> Result<SidList, Memory>
+/// The SIDs of live serials, each as a range of its own.
+pub fn singles(alloc: Global, records: &[Record], serials: &[u16]) -> Result<SidList, Memory>
     requires live { AllByRecursion (λ n. has (live_serials records.now) n ≡ true) serials.now }
     requires spelled { AllByRecursion HasSpelling records.now }
     ensures value { IfOk result (λ list. list ≡ singles records.now serials.now) }
@@ -186,19 +195,20 @@ fn entry(
 
 /// The entry that get -e makes for a login: the SID that is asked for, the one that a delta on it is to have, and
 /// the lists, each SID by itself. It refuses a login that isn't let in, a SID or lists that name no live
-/// deltas, releases outside floor and ceiling or locked, a SID that is being edited, and one that has no number
-/// left, in this order. POSIX, get -e.
+/// deltas, releases outside floor and ceiling or locked, a SID that is being edited, a g-file that is in the
+/// way, and a SID that has no number left, in this order. POSIX, get -e.
 pub fn new_entry(
     alloc: Global,
     header: &Header,
     edits: &Edits,
     words: &GetWords,
     stamp: &Stamp,
+    in_the_way: bool,
 ) -> Result<Edit, StepFault>
     requires table { IsTable header.now.records }
     requires spelled { IsSpelled header.now }
     requires valid { AreEditValues words.now stamp.now }
-    ensures value { Answers (new_entry words.now stamp.now header.now edits.now) result }
+    ensures value { Answers (new_entry words.now stamp.now header.now edits.now in_the_way) result }
     ensures valid { IfOk result IsEdit }
     ensures free { IfOk result (λ e. lives header.now.records e.made ≡ false) }
     ensures checks { RefusesWithin edit_checks result }
@@ -215,7 +225,7 @@ pub fn new_entry(
     let Ok(made) = made_of(alloc, header, edits, words, asked.target) else {
         return Err(StepFault::Memory);
     };
-    let made = match free_sid(header, edits, got, made) {
+    let made = match free_sid(header, edits, in_the_way, got, made) {
         Ok(made) => made,
         Err(fault) => return Err(fault),
     };

@@ -8,7 +8,7 @@ ghost use Rattle.sccs_sets.specs.Naming.{Answers as AnswersList};
 ghost use Rattle.sccs_sets.specs.Retrieved.{retrieved};
 ghost use Rattle.sccs_sid.specs.declared.refusals.StepFault.TheVariants as faults;
 ghost use Rattle.sccs_steps.specs.Actions.{RefusesWithin};
-ghost use Rattle.sccs_get.specs.GetStep.{asked, asked_checks, get_checks, listed, set_asked, spec_asked};
+ghost use Rattle.sccs_get.specs.GetStep.{asked, asked_checks, listed, spec_asked};
 ghost use Rattle.sccs_pending.specs.PFiles.{Answers};
 
 use sccs_history::{Header, Serials};
@@ -83,19 +83,5 @@ pub fn asked_of(alloc: Global, header: &Header, words: &GetWords) -> Result<Aske
             set,
         }),
         Err(fault) => Err(StepFault::from(fault)),
-    }
-}
-
-/// The set of deltas that a get asks for.
-pub fn set_of(alloc: Global, header: &Header, words: &GetWords) -> Result<Applied, StepFault>
-    requires { IsTable header.now.records }
-    ensures value { Answers (set_asked words.now header.now) result }
-    ensures no_zero { IfOk result (λ set. has set 0 ≡ false) }
-    ensures checks { RefusesWithin get_checks result }
-    ensures broke { result ≢ Err faults.DiskFault }
-{
-    match asked_of(alloc, header, words) {
-        Ok(asked) => Ok(asked.set),
-        Err(fault) => Err(fault),
     }
 }

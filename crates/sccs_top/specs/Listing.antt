@@ -7,7 +7,7 @@ use Rattle.sccs_delta.specs.DeltaStep.{delta_change}
 use Rattle.sccs_edit.specs.SactStep.{sact_action}
 use Rattle.sccs_edit.specs.UngetStep.{unget_change}
 use Rattle.sccs_get.specs.EditStep.{edit_change}
-use Rattle.sccs_get.specs.GetStep.{get_action}
+use Rattle.sccs_get.specs.VersionStep.{get_action}
 use Rattle.sccs_recovery.specs.RecoverStep.{recover_action}
 use Rattle.sccs_top.specs.Runs.{words_in}
 use Rattle.sccs_top.specs.Unbuilt.{unbuilt}
@@ -22,10 +22,10 @@ words_of (Word word) = word.now ∷ []
 
 abbrev pub action_in : Known → Action
 action_in (known.Admin admin) = locking (admin_change admin.words.now admin.stamp.now)
-action_in (known.Get get) = get_action get.words.now
-action_in (known.Reserve r) = locking (edit_change r.words.now r.stamp.now r.heading)
+action_in (known.Get get) = get_action get.words.now get.stamp.now get.place.now get.heading
+action_in (known.Reserve r) = locking (edit_change r.words.now r.stamp.now r.place.now r.heading)
 action_in (known.Sact s) = sact_action s.heading
 action_in (known.Delta d) = locking (delta_change d.words.now d.stamp.now)
 action_in (known.Unget u) = locking (unget_change u.words.now u.stamp.now u.heading)
 action_in (known.Recover r) = recover_action
-action_in (known.Unbuilt u) = unbuilt u.any
+action_in (known.Unbuilt u) = unbuilt u.any u.takes

@@ -5,19 +5,10 @@ use Rattle.sccs_sid.specs.Refusal.{number_of}
 use Rattle.sccs_sid.specs.declared.refusals.Refusal.TheVariants.{Unbuilt}
 use Rattle.sccs_sid.specs.Reading.{is_empty}
 use Rattle.sccs_words.specs.declared.commands.AdminWords.{AdminWords}
-use Rattle.sccs_words.specs.declared.commands.GetWords.{GetWords}
 use Rattle.sccs_words.specs.declared.commands.Given.{Given}
 use Rattle.sccs_words.specs.declared.commands.Given.TheVariants.{No}
 use Rattle.sccs_steps.specs.StepEffects.{Outcome}
 use Rattle.sccs_steps.specs.Actions.{Action, KeepsFiles}
-
--- get prints any version: it has `-k`, `-p` and `-s`, and of the other options only those that say which version
-unfoldable pub is_get_built : GetWords → Bool
-is_get_built words = (words.keep && (words.print && words.silent)) && not (words.branch || (words.edit || (words.no_text || (words.sids || words.module))))
-
--- get reserves an edit: it has `-e` and `-g`, and of the other options only `-b`, `-i`, `-r`, `-s`, `-t` and `-x`
-unfoldable pub is_reserve_built : GetWords → Bool
-is_reserve_built words = (words.edit && words.no_text) && not (words.keep || (words.print || (words.sids || words.module)))
 
 abbrev pub is_absent : Given → Bool
 is_absent No = true
@@ -34,17 +25,18 @@ abbrev pub is_unbuilt : Outcome → Bool
 is_unbuilt (Ok effect) = false
 is_unbuilt (Err refusal) = number_of refusal == 99
 
--- each operand is refused; what takes any file's name, the others that of an s-file
-abbrev pub unbuilt : Bool → Action
-unbuilt any = record {
+-- each operand is refused; what takes any file's name, the others that of an s-file, and of some the input isn't taken for names
+abbrev pub unbuilt : Bool → Bool → Action
+unbuilt any takes = record {
   fits = if any then is_name else is_sfile_name;
   step = λ name input named files. Err Unbuilt;
   named = [];
-  takes = false;
+  takes = takes;
   reads = true;
+  locks = true;
   silent = true;
   could = is_unbuilt;
 }
 
-pub unbuilt_keeps : (any : Bool) → KeepsFiles (unbuilt any)
-unbuilt_keeps any = record { quiet = λ reads n i named f d is. absurd cc; names = λ changes n fits. absurd cc }
+pub unbuilt_keeps : (any takes : Bool) → KeepsFiles (unbuilt any takes)
+unbuilt_keeps any takes = record { quiet = λ reads n i named f d is. absurd cc; names = λ changes n fits. absurd cc }

@@ -2,24 +2,26 @@ ghost use Rattle.std.specs.Prelude.{◌≡◌, true, false, OnOk, OnErr};
 ghost use Rattle.sccs_sid.specs.Moment.{IsMoment};
 ghost use Rattle.sccs_words.specs.Meaning.{meaning};
 ghost use Rattle.sccs_words.specs.ValidValues.{AreGetValues, HasValidValues};
-ghost use Rattle.sccs_steps.specs.Actions.{SpeakAll};
 ghost use Rattle.sccs_steps.specs.Calls.{scene};
 ghost use Rattle.sccs_steps.specs.Causes.{Ignores, RunCauses, counts};
-ghost use Rattle.sccs_steps.specs.ListStops.{StopsAll};
+ghost use Rattle.sccs_steps.specs.Running.{RunsOperands};
 ghost use Rattle.sccs_steps.specs.declared.faults.Fault.TheVariants as ends;
+ghost use Rattle.sccs_get.specs.EditStep.{edit_change};
+ghost use Rattle.sccs_get.specs.VersionStep.{get_action};
+ghost use Rattle.sccs_transactions.specs.Changes.{locking};
 ghost use Rattle.sccs_top.specs.Listing.{action_in, words_of};
-ghost use Rattle.sccs_top.specs.Runs.{MakesAll, MakesSteps, SpeaksWords, StopsSteps, action_of, get_in, has_heading, is_silent, made_by, only_reads, operands_of, takes_input};
+ghost use Rattle.sccs_top.specs.declared.commands.Known.TheVariants as known;
+ghost use Rattle.sccs_top.specs.Runs.{MakesSteps, SpeaksWords, StopsSteps, UnlockedSteps, action_of, caller, get_in, has_heading, is_silent, made_by, only_reads, operands_of, takes_input};
 
 use crate::answers::Answer;
 use crate::messages::write_usage;
-use crate::unbuilt::{Unbuilt, is_admin_built, is_get_built, is_reserve_built};
-use crate::utilities::Get;
+use crate::unbuilt::{Unbuilt, is_admin_built};
 use sccs_admin::Admin;
 use sccs_base::{Line, Sink, Source, Words};
 use sccs_delta::Delta;
 use sccs_disk::Disk;
 use sccs_edit::{Sact, Unget};
-use sccs_get::Reserve;
+use sccs_get::{Get, Reserve};
 use sccs_recovery::Recover;
 use sccs_sid::Stamp;
 use sccs_steps::{Fault, Utility, is_several, run_operand, run_operands};
@@ -59,40 +61,78 @@ fn has_heading(operands: &Operands) -> bool
     operands.from_input || (words.len() > 1 || words.iter().any(|word| is_several(word.bytes())))
 }
 
-// get as it is built: a version is printed, or an edit reserved
-fn get_of<'a>(words: &'a GetWords, operands: &Operands, stamp: &'a Stamp) -> Known<'a>
-    requires values { AreGetValues words.now }
+// get without -e
+fn version_got<'a>(
+    words: &'a GetWords,
+    operands: &Operands,
+    stamp: &'a Stamp,
+    place: &'a Line,
+) -> Get<'a>
     requires moment { IsMoment stamp.now.moment }
-    ensures { action_in result ≡ get_in words.now stamp.now (has_heading operands.now) }
+    ensures { action_in (known.Get result) ≡ get_action words.now stamp.now place.now (has_heading operands.now) }
 {
-    if is_get_built(words) {
-        return Known::Get(Get { words });
+    Get {
+        words,
+        stamp,
+        place,
+        heading: has_heading(operands),
     }
-    if is_reserve_built(words) {
-        let heading = has_heading(operands);
-        return Known::Reserve(Reserve {
-            words,
-            stamp,
-            heading,
-        });
-    }
-    Known::Unbuilt(Unbuilt { any: false })
 }
 
-fn utility_of<'a>(command: &'a Command, stamp: &'a Stamp) -> Known<'a>
+// get -e
+fn edit_reserved<'a>(
+    words: &'a GetWords,
+    operands: &Operands,
+    stamp: &'a Stamp,
+    place: &'a Line,
+) -> Reserve<'a>
+    requires values { AreGetValues words.now }
+    requires moment { IsMoment stamp.now.moment }
+    ensures { action_in (known.Reserve result) ≡ locking (edit_change words.now stamp.now place.now (has_heading operands.now)) }
+{
+    Reserve {
+        words,
+        stamp,
+        place,
+        heading: has_heading(operands),
+    }
+}
+
+// get: with -e an edit is reserved
+fn get_of<'a>(
+    words: &'a GetWords,
+    operands: &Operands,
+    stamp: &'a Stamp,
+    place: &'a Line,
+) -> Known<'a>
+    requires values { AreGetValues words.now }
+    requires moment { IsMoment stamp.now.moment }
+    ensures { action_in result ≡ get_in words.now (caller stamp.now place.now) (has_heading operands.now) }
+{
+    if words.edit {
+        Known::Reserve(edit_reserved(words, operands, stamp, place))
+    } else {
+        Known::Get(version_got(words, operands, stamp, place))
+    }
+}
+
+fn utility_of<'a>(command: &'a Command, stamp: &'a Stamp, place: &'a Line) -> Known<'a>
     requires values { HasValidValues command.now }
     requires moment { IsMoment stamp.now.moment }
-    ensures { action_in result ≡ action_of stamp.now command.now }
+    ensures { action_in result ≡ action_of (caller stamp.now place.now) command.now }
 {
     match command {
         Command::Admin(words, _) => {
             if is_admin_built(words) {
                 Known::Admin(Admin { words, stamp })
             } else {
-                Known::Unbuilt(Unbuilt { any: false })
+                Known::Unbuilt(Unbuilt {
+                    any: false,
+                    takes: false,
+                })
             }
         }
-        Command::Get(words, operands) => get_of(words, operands, stamp),
+        Command::Get(words, operands) => get_of(words, operands, stamp, place),
         Command::Delta(words, _) => Known::Delta(Delta { words, stamp }),
         Command::Unget(words, operands) => Known::Unget(Unget {
             words,
@@ -103,8 +143,18 @@ fn utility_of<'a>(command: &'a Command, stamp: &'a Stamp) -> Known<'a>
             heading: has_heading(operands),
         }),
         Command::Recover(_) => Known::Recover(Recover),
-        Command::What(_, _) => Known::Unbuilt(Unbuilt { any: true }),
-        _ => Known::Unbuilt(Unbuilt { any: false }),
+        Command::What(_, _) => Known::Unbuilt(Unbuilt {
+            any: true,
+            takes: false,
+        }),
+        Command::Val(_) | Command::Batch | Command::Soak(_) => Known::Unbuilt(Unbuilt {
+            any: true,
+            takes: true,
+        }),
+        _ => Known::Unbuilt(Unbuilt {
+            any: false,
+            takes: false,
+        }),
     }
 }
 
@@ -144,16 +194,8 @@ fn run_listed<U: Utility, I: Source, O: Sink, E: Sink, D: Disk>(
     err: &mut E,
     disk: &mut D,
 ) -> Result<u8, Fault>
-    ensures steps { MakesAll (U.action utility.now) (words_of operands.entry) result (I.left input.old)
-        (scene (D.told disk.old) (O.given out.old) (E.given err.old)) (scene (D.told disk.new) (O.given out.new) (E.given err.new)) }
-    ensures stops { StopsAll (U.action utility.now) (words_of operands.entry) result (I.left input.old)
-        (scene (D.told disk.old) (O.given out.old) (E.given err.old)) (scene (D.told disk.new) (O.given out.new) (E.given err.new)) }
-    ensures speaks { SpeakAll (U.action utility.now) (words_of operands.entry) result (E.given err.old) (E.given err.new) }
-    ensures reads { (U.action utility.now).reads ≡ true → D.told disk.new ≡ D.told disk.old }
-    ensures silent { (U.action utility.now).silent ≡ true → O.given out.new ≡ O.given out.old }
-    ensures ignores { (U.action utility.now).takes ≡ false
-        → Ignores ends.ReadFault (I.left input.old) (I.left input.new) (I.faults input.old) (I.faults input.new) result }
-    ensures causes { RunCauses result
+    ensures { RunsOperands (U.action utility.now) (words_of operands.entry) result (I.left input.old) (I.left input.new)
+        (scene (D.told disk.old) (O.given out.old) (E.given err.old)) (scene (D.told disk.new) (O.given out.new) (E.given err.new))
         (counts (I.faults input.old) (O.faults out.old) (E.faults err.old) (D.faults disk.old))
         (counts (I.faults input.new) (O.faults out.new) (E.faults err.new) (D.faults disk.new)) }
 {
@@ -182,6 +224,7 @@ fn run_command<I: Source, O: Sink, E: Sink, D: Disk>(
     alloc: Global,
     command: &Command,
     stamp: &Stamp,
+    place: &Line,
     input: &mut I,
     out: &mut O,
     err: &mut E,
@@ -189,21 +232,13 @@ fn run_command<I: Source, O: Sink, E: Sink, D: Disk>(
 ) -> Result<u8, Fault>
     requires values { HasValidValues command.now }
     requires moment { IsMoment stamp.now.moment }
-    ensures steps { MakesAll (action_of stamp.now command.now) (operands_of command.now) result (I.left input.old)
-        (scene (D.told disk.old) (O.given out.old) (E.given err.old)) (scene (D.told disk.new) (O.given out.new) (E.given err.new)) }
-    ensures stops { StopsAll (action_of stamp.now command.now) (operands_of command.now) result (I.left input.old)
-        (scene (D.told disk.old) (O.given out.old) (E.given err.old)) (scene (D.told disk.new) (O.given out.new) (E.given err.new)) }
-    ensures speaks { SpeakAll (action_of stamp.now command.now) (operands_of command.now) result (E.given err.old) (E.given err.new) }
-    ensures reads { (action_of stamp.now command.now).reads ≡ true → D.told disk.new ≡ D.told disk.old }
-    ensures silent { (action_of stamp.now command.now).silent ≡ true → O.given out.new ≡ O.given out.old }
-    ensures ignores { (action_of stamp.now command.now).takes ≡ false
-        → Ignores ends.ReadFault (I.left input.old) (I.left input.new) (I.faults input.old) (I.faults input.new) result }
-    ensures causes { RunCauses result
+    ensures { RunsOperands (action_of (caller stamp.now place.now) command.now) (operands_of command.now) result (I.left input.old) (I.left input.new)
+        (scene (D.told disk.old) (O.given out.old) (E.given err.old)) (scene (D.told disk.new) (O.given out.new) (E.given err.new))
         (counts (I.faults input.old) (O.faults out.old) (E.faults err.old) (D.faults disk.old))
         (counts (I.faults input.new) (O.faults out.new) (E.faults err.new) (D.faults disk.new)) }
 {
     let operands = list_operands(command);
-    match utility_of(command, stamp) {
+    match utility_of(command, stamp, place) {
         Known::Admin(admin) => run_listed(alloc, &admin, operands, input, out, err, disk),
         Known::Get(get) => run_listed(alloc, &get, operands, input, out, err, disk),
         Known::Reserve(get) => run_listed(alloc, &get, operands, input, out, err, disk),
@@ -218,37 +253,38 @@ fn run_command<I: Source, O: Sink, E: Sink, D: Disk>(
 /// Does a command. The words are those behind the program's name; `stamp` is its moment, of the years
 /// 1969 to 2068, and its login, `place` the folder's path. Texts go to `out`, messages to `err`.
 ///
-/// Built are admin on new files, with `-n` or `-i`, `-r` and `-y`; get with `-k`, `-p` and `-s`, and with `-e`
-/// and `-g`, each with the options that say which version; delta, sact, unget and recover.
+/// Built are admin on new files, with `-n` or `-i`, `-r` and `-y`; get, delta, sact, unget and recover.
 ///
 /// A stop at any moment of a run that began on a calm disk, with safe operands, leaves what recovers on all
 /// names as after the same number of steps, no fewer than are acknowledged; and s-files and p-files are firm
-/// at each end, so that recovery may run.
+/// at each end, so that recovery may run. No s-file or p-file changes but one whose z-file wasn't there at an
+/// earlier moment of the run, unless it recovers.
 pub fn run<I: Source, O: Sink, E: Sink, D: Disk>(
     alloc: Global,
     words: &Words,
     stamp: &Stamp,
-    _place: &Line,
+    place: &Line,
     input: &mut I,
     out: &mut O,
     err: &mut E,
     disk: &mut D,
 ) -> Answer
     requires moment { IsMoment stamp.now.moment }
-    ensures steps { MakesSteps stamp.now (meaning words.now) result (I.left input.old)
+    ensures steps { MakesSteps (caller stamp.now place.now) (meaning words.now) result (I.left input.old)
         (scene (D.told disk.old) (O.given out.old) (E.given err.old)) (scene (D.told disk.new) (O.given out.new) (E.given err.new)) }
-    ensures stops { StopsSteps stamp.now (meaning words.now) result (I.left input.old)
+    ensures stops { StopsSteps (caller stamp.now place.now) (meaning words.now) result (I.left input.old)
         (scene (D.told disk.old) (O.given out.old) (E.given err.old)) (scene (D.told disk.new) (O.given out.new) (E.given err.new)) }
-    ensures speaks { SpeaksWords stamp.now (meaning words.now) result (E.given err.old) (E.given err.new) }
-    ensures reads { only_reads stamp.now (meaning words.now) ≡ true → D.told disk.new ≡ D.told disk.old }
-    ensures silent { is_silent stamp.now (meaning words.now) ≡ true → O.given out.new ≡ O.given out.old }
-    ensures ignores { takes_input stamp.now (meaning words.now) ≡ false
+    ensures unlocked { UnlockedSteps (caller stamp.now place.now) (meaning words.now) (I.left input.old) (D.told disk.old) (D.told disk.new) }
+    ensures speaks { SpeaksWords (caller stamp.now place.now) (meaning words.now) result (E.given err.old) (E.given err.new) }
+    ensures reads { only_reads (caller stamp.now place.now) (meaning words.now) ≡ true → D.told disk.new ≡ D.told disk.old }
+    ensures silent { is_silent (caller stamp.now place.now) (meaning words.now) ≡ true → O.given out.new ≡ O.given out.old }
+    ensures ignores { takes_input (caller stamp.now place.now) (meaning words.now) ≡ false
         → Ignores ends.ReadFault (I.left input.old) (I.left input.new) (I.faults input.old) (I.faults input.new) (made_by result) }
     ensures causes { RunCauses (made_by result) (counts (I.faults input.old) (O.faults out.old) (E.faults err.old) (D.faults disk.old))
         (counts (I.faults input.new) (O.faults out.new) (E.faults err.new) (D.faults disk.new)) }
 {
     match read_words(alloc, words) {
-        Ok(command) => ended(run_command(alloc, &command, stamp, input, out, err, disk)),
+        Ok(command) => ended(run_command(alloc, &command, stamp, place, input, out, err, disk)),
         Err(WordsFault::Usage(usage)) => match write_usage(&usage, err) {
             Ok(()) => Answer::Finished { status: 2 },
             Err(_) => Answer::WriteFault,

@@ -5,10 +5,7 @@ mod answers;
 mod commands;
 pub mod laws;
 mod messages;
-#[cfg(test)]
-mod tests;
 mod unbuilt;
-mod utilities;
 
 pub use answers::Answer;
 pub use commands::run;

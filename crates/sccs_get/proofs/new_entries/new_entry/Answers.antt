@@ -9,17 +9,17 @@ use Rattle.sccs_get.proofs.EntrySids.{sid_there}
 use Rattle.sccs_get.proofs.new_entries.new_entry.Goals as goal
 
 pub returns-then-not-is_allowed-clause-value : goal.returns-then-not-is_allowed-clause-value
-returns-then-not-is_allowed-clause-value c = not_let_in c.args.words.now c.args.stamp.now c.args.header.now c.args.edits.now (sym c.is_allowed.ensures ∙ c.if-not-is_allowed.true)
+returns-then-not-is_allowed-clause-value c = not_let_in c.args.words.now c.args.stamp.now c.args.header.now c.args.edits.now c.args.in_the_way (sym c.is_allowed.ensures ∙ c.if-not-is_allowed.true)
 
 pub returns-in-Err-clause-value : goal.returns-in-Err-clause-value
-returns-in-Err-clause-value c = not_asked c.args.words.now c.args.stamp.now c.args.header.now c.args.edits.now c.in-Err.fault (sym c.is_allowed.ensures ∙ c.if-not-is_allowed.false) c.in-Err.ensures.value
+returns-in-Err-clause-value c = not_asked c.args.words.now c.args.stamp.now c.args.header.now c.args.edits.now c.args.in_the_way c.in-Err.fault (sym c.is_allowed.ensures ∙ c.if-not-is_allowed.false) c.in-Err.ensures.value
 
 pub sid_at-got-requires : goal.sid_at-got-requires
 sid_at-got-requires c = subst (λ (rs : List Record). has (serials_of rs) c.in-Ok.asked.target ≡ true) (sym c.items.ensures) (live_there c.args.header.now.records c.in-Ok.asked.target c.in-Ok.ensures.live)
 
 pub returns-in-Err-free_sid-clause-value : goal.returns-in-Err-free_sid-clause-value
 returns-in-Err-free_sid-clause-value c =
-    not_free c.args.words.now c.args.stamp.now c.args.header.now c.args.edits.now c.in-Ok.asked c.sid_at-got.result c.in-Ok-made_of.made c.in-Err-free_sid.fault (sym c.is_allowed.ensures ∙ c.if-not-is_allowed.false) c.in-Ok.ensures.value
+    not_free c.args.words.now c.args.stamp.now c.args.header.now c.args.edits.now c.args.in_the_way c.in-Ok.asked c.sid_at-got.result c.in-Ok-made_of.made c.in-Err-free_sid.fault (sym c.is_allowed.ensures ∙ c.if-not-is_allowed.false) c.in-Ok.ensures.value
     (subst (λ (rs : List Record). sid_at rs c.in-Ok.asked.target ≡ Some c.sid_at-got.result) c.items.ensures c.sid_at-got.ensures) c.in-Ok-made_of.ensures.value c.in-Err-free_sid.ensures.value
 
 pub entry-requires-clause-got : goal.entry-requires-clause-got
@@ -27,14 +27,14 @@ entry-requires-clause-got c = sid_there c.args.header.now.records c.in-Ok.asked.
 
 pub entry-requires-clause-made : goal.entry-requires-clause-made
 entry-requires-clause-made c =
-    free_valid c.args.words.now c.args.header.now c.args.edits.now c.in-Ok.asked.target c.sid_at-got.result c.in-Ok-made_of.made c.in-Ok-free_sid.made c.requires.spelled c.in-Ok-made_of.ensures.valid
+    free_valid c.args.words.now c.args.header.now c.args.edits.now c.args.in_the_way c.in-Ok.asked.target c.sid_at-got.result c.in-Ok-made_of.made c.in-Ok-free_sid.made c.requires.spelled c.in-Ok-made_of.ensures.valid
     (subst (λ (rs : List Record). sid_at rs c.in-Ok.asked.target ≡ Some c.sid_at-got.result) c.items.ensures c.sid_at-got.ensures) c.in-Ok-made_of.ensures.value c.in-Ok-free_sid.ensures.value
 
 pub returns-in-Ok-entry-clause-value : goal.returns-in-Ok-entry-clause-value
 returns-in-Ok-entry-clause-value c =
-    entry_made c.args.words.now c.args.stamp.now c.args.header.now c.args.edits.now c.in-Ok.asked c.sid_at-got.result c.in-Ok-made_of.made c.in-Ok-free_sid.made c.in-Ok-entry.edit (sym c.is_allowed.ensures ∙ c.if-not-is_allowed.false) c.in-Ok.ensures.value
+    entry_made c.args.words.now c.args.stamp.now c.args.header.now c.args.edits.now c.args.in_the_way c.in-Ok.asked c.sid_at-got.result c.in-Ok-made_of.made c.in-Ok-free_sid.made c.in-Ok-entry.edit (sym c.is_allowed.ensures ∙ c.if-not-is_allowed.false) c.in-Ok.ensures.value
     (subst (λ (rs : List Record). sid_at rs c.in-Ok.asked.target ≡ Some c.sid_at-got.result) c.items.ensures c.sid_at-got.ensures) c.in-Ok-made_of.ensures.value c.in-Ok-free_sid.ensures.value c.in-Ok-entry.ensures.value
 
 pub returns-in-Ok-entry-clause-free : goal.returns-in-Ok-entry-clause-free
 returns-in-Ok-entry-clause-free c =
-    free_unlive c.args.words.now c.args.header.now c.args.edits.now c.in-Ok.asked.target c.sid_at-got.result c.in-Ok-made_of.made c.in-Ok-free_sid.made c.in-Ok-entry.edit c.args.stamp.now c.in-Ok.asked c.in-Ok-made_of.ensures.value c.in-Ok-free_sid.ensures.value c.in-Ok-entry.ensures.value
+    free_unlive c.args.words.now c.args.header.now c.args.edits.now c.args.in_the_way c.in-Ok.asked.target c.sid_at-got.result c.in-Ok-made_of.made c.in-Ok-free_sid.made c.in-Ok-entry.edit c.args.stamp.now c.in-Ok.asked c.in-Ok-made_of.ensures.value c.in-Ok-free_sid.ensures.value c.in-Ok-entry.ensures.value

@@ -1,5 +1,5 @@
 use Rattle.std.proofs.Common.{◌≡◌, take}
-use Rattle.sccs_get.specs.EditStep.{reserved}
+use Rattle.sccs_get.specs.NewEntry.{reserved}
 use Rattle.sccs_get.proofs.new_entries.reserved.Given as goal
 
 -- the SIDs of the entries so far

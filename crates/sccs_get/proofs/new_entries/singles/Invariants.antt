@@ -1,6 +1,6 @@
 use Rattle.std.proofs.Common.{◌≡◌, All, take}
 use Rattle.sccs_sid.specs.SidLists.{IsRange}
-use Rattle.sccs_get.specs.EditStep.{singles}
+use Rattle.sccs_get.specs.NewEntry.{singles}
 use Rattle.sccs_get.proofs.new_entries.singles.Given as goal
 
 -- the SIDs of the serials so far

@@ -6,39 +6,55 @@ use Rattle.sccs_words.specs.declared.commands.WordsFault.{WordsFault}
 use Rattle.sccs_steps.specs.Calls.{scene}
 use Rattle.sccs_top.specs.Messages.{usage_line}
 use Rattle.sccs_top.specs.declared.answers.Answer.TheVariants as answers
-use Rattle.sccs_top.proofs.RunLaws.{command_ends, command_stops, never_begun, never_stops, usage_cut, usage_said, usage_stops}
+use Rattle.sccs_top.proofs.RunLaws.{command_ends, command_stops, command_unlocked, never_begun, never_speaks, never_stops, same_unlocked, usage_cut, usage_said, usage_stops}
+use Rattle.sccs_top.specs.Runs.{caller}
 use Rattle.sccs_top.proofs.commands.run.Goals as goal
 
 pub returns-in-Ok-clause-steps : goal.returns-in-Ok-clause-steps
 returns-in-Ok-clause-steps g c =
-    command_ends c.args.stamp.now (meaning c.args.words.now) c.in-Ok.command c.ended.result c.run_command.result (g.I.Source.left c.args.input.now) (scene (g.D.Disk.told c.args.disk.now) (g.O.Sink.given c.args.out.now) (g.E.Sink.given c.args.err.now)) (scene (g.D.Disk.told c.run_command.new.disk) (g.O.Sink.given c.run_command.new.out) (g.E.Sink.given c.run_command.new.err))
+    command_ends (caller c.args.stamp.now c.args.place.now) (meaning c.args.words.now) c.in-Ok.command c.ended.result c.run_command.result (g.I.Source.left c.args.input.now) (scene (g.D.Disk.told c.args.disk.now) (g.O.Sink.given c.args.out.now) (g.E.Sink.given c.args.err.now)) (scene (g.D.Disk.told c.run_command.new.disk) (g.O.Sink.given c.run_command.new.out) (g.E.Sink.given c.run_command.new.err))
     c.in-Ok.ensures.value c.ended.ensures c.run_command.ensures.steps
 
 pub returns-in-Err-clause-steps : goal.returns-in-Err-clause-steps
 returns-in-Err-clause-steps g c =
-    usage_cut c.args.stamp.now (meaning c.args.words.now) c.in-Err-Usage.usage (g.I.Source.left c.args.input.now) (scene (g.D.Disk.told c.args.disk.now) (g.O.Sink.given c.args.out.now) (g.E.Sink.given c.args.err.now)) (g.E.Sink.given c.write_usage.new.out)
+    usage_cut (caller c.args.stamp.now c.args.place.now) (meaning c.args.words.now) c.in-Err-Usage.usage (g.I.Source.left c.args.input.now) (scene (g.D.Disk.told c.args.disk.now) (g.O.Sink.given c.args.out.now) (g.E.Sink.given c.args.err.now)) (g.E.Sink.given c.write_usage.new.out)
     (subst (λ (fault : WordsFault). Gives (Err fault) (meaning c.args.words.now)) c.in-Err-Usage.field-0-is c.in-Err-Usage.ensures.value)
     (subst (λ (usage : Usage). GivesSome (g.E.Sink.given c.args.err.now) (g.E.Sink.given c.write_usage.new.out) (usage_line usage)) c.in-Err-Usage.usage-is c.in-Err.ensures.err)
 
 pub returns-in-Err-Memory-clause-steps : goal.returns-in-Err-Memory-clause-steps
-returns-in-Err-Memory-clause-steps g c = never_begun c.args.stamp.now (meaning c.args.words.now) (g.I.Source.left c.args.input.now) (scene (g.D.Disk.told c.args.disk.now) (g.O.Sink.given c.args.out.now) (g.E.Sink.given c.args.err.now))
+returns-in-Err-Memory-clause-steps g c = never_begun (caller c.args.stamp.now c.args.place.now) (meaning c.args.words.now) (g.I.Source.left c.args.input.now) (scene (g.D.Disk.told c.args.disk.now) (g.O.Sink.given c.args.out.now) (g.E.Sink.given c.args.err.now))
 
 pub returns-in-Ok-clause-stops : goal.returns-in-Ok-clause-stops
 returns-in-Ok-clause-stops g c =
-    command_stops c.args.stamp.now (meaning c.args.words.now) c.in-Ok.command c.ended.result c.run_command.result (g.I.Source.left c.args.input.now) (scene (g.D.Disk.told c.args.disk.now) (g.O.Sink.given c.args.out.now) (g.E.Sink.given c.args.err.now)) (scene (g.D.Disk.told c.run_command.new.disk) (g.O.Sink.given c.run_command.new.out) (g.E.Sink.given c.run_command.new.err))
+    command_stops (caller c.args.stamp.now c.args.place.now) (meaning c.args.words.now) c.in-Ok.command c.ended.result c.run_command.result (g.I.Source.left c.args.input.now) (scene (g.D.Disk.told c.args.disk.now) (g.O.Sink.given c.args.out.now) (g.E.Sink.given c.args.err.now)) (scene (g.D.Disk.told c.run_command.new.disk) (g.O.Sink.given c.run_command.new.out) (g.E.Sink.given c.run_command.new.err))
     c.in-Ok.ensures.value c.ended.ensures c.run_command.ensures.stops
 
 pub returns-in-Ok-write_usage-clause-stops : goal.returns-in-Ok-write_usage-clause-stops
 returns-in-Ok-write_usage-clause-stops g c =
-    usage_said c.args.stamp.now (meaning c.args.words.now) c.in-Err-Usage.usage (answers.Finished 2) (g.I.Source.left c.args.input.now) (scene (g.D.Disk.told c.args.disk.now) (g.O.Sink.given c.args.out.now) (g.E.Sink.given c.args.err.now)) (g.E.Sink.given c.write_usage.new.out)
+    usage_said (caller c.args.stamp.now c.args.place.now) (meaning c.args.words.now) c.in-Err-Usage.usage (answers.Finished 2) (g.I.Source.left c.args.input.now) (scene (g.D.Disk.told c.args.disk.now) (g.O.Sink.given c.args.out.now) (g.E.Sink.given c.args.err.now)) (g.E.Sink.given c.write_usage.new.out)
     (subst (λ (fault : WordsFault). Gives (Err fault) (meaning c.args.words.now)) c.in-Err-Usage.field-0-is c.in-Err-Usage.ensures.value)
     (subst (λ (usage : Usage). GivesOk (g.E.Sink.given c.args.err.now) (g.E.Sink.given c.write_usage.new.out) (usage_line usage)) c.in-Err-Usage.usage-is c.in-Ok-write_usage.ensures.ok)
 
 pub returns-in-Err-clause-stops : goal.returns-in-Err-clause-stops
 returns-in-Err-clause-stops g c =
-    usage_stops c.args.stamp.now (meaning c.args.words.now) c.in-Err-Usage.usage answers.WriteFault (g.I.Source.left c.args.input.now) (scene (g.D.Disk.told c.args.disk.now) (g.O.Sink.given c.args.out.now) (g.E.Sink.given c.args.err.now)) (g.E.Sink.given c.write_usage.new.out)
+    usage_stops (caller c.args.stamp.now c.args.place.now) (meaning c.args.words.now) c.in-Err-Usage.usage answers.WriteFault (g.I.Source.left c.args.input.now) (scene (g.D.Disk.told c.args.disk.now) (g.O.Sink.given c.args.out.now) (g.E.Sink.given c.args.err.now)) (g.E.Sink.given c.write_usage.new.out)
     (subst (λ (fault : WordsFault). Gives (Err fault) (meaning c.args.words.now)) c.in-Err-Usage.field-0-is c.in-Err-Usage.ensures.value)
     (subst (λ (usage : Usage). GivesSome (g.E.Sink.given c.args.err.now) (g.E.Sink.given c.write_usage.new.out) (usage_line usage)) c.in-Err-Usage.usage-is c.in-Err.ensures.err)
 
 pub returns-in-Err-Memory-clause-stops : goal.returns-in-Err-Memory-clause-stops
-returns-in-Err-Memory-clause-stops g c = never_stops c.args.stamp.now (meaning c.args.words.now) (g.I.Source.left c.args.input.now) (scene (g.D.Disk.told c.args.disk.now) (g.O.Sink.given c.args.out.now) (g.E.Sink.given c.args.err.now))
+returns-in-Err-Memory-clause-stops g c = never_stops (caller c.args.stamp.now c.args.place.now) (meaning c.args.words.now) (g.I.Source.left c.args.input.now) (scene (g.D.Disk.told c.args.disk.now) (g.O.Sink.given c.args.out.now) (g.E.Sink.given c.args.err.now))
+
+pub returns-in-Ok-clause-unlocked : goal.returns-in-Ok-clause-unlocked
+returns-in-Ok-clause-unlocked g c = command_unlocked (caller c.args.stamp.now c.args.place.now) (meaning c.args.words.now) c.in-Ok.command (g.I.Source.left c.args.input.now) _ _ c.in-Ok.ensures.value c.run_command.ensures.unlocked
+
+pub returns-in-Ok-write_usage-clause-unlocked : goal.returns-in-Ok-write_usage-clause-unlocked
+returns-in-Ok-write_usage-clause-unlocked g c = same_unlocked (caller c.args.stamp.now c.args.place.now) (meaning c.args.words.now) (g.I.Source.left c.args.input.now) (g.D.Disk.told c.args.disk.now)
+
+pub returns-in-Err-clause-unlocked : goal.returns-in-Err-clause-unlocked
+returns-in-Err-clause-unlocked g c = same_unlocked (caller c.args.stamp.now c.args.place.now) (meaning c.args.words.now) (g.I.Source.left c.args.input.now) (g.D.Disk.told c.args.disk.now)
+
+pub returns-in-Err-Memory-clause-unlocked : goal.returns-in-Err-Memory-clause-unlocked
+returns-in-Err-Memory-clause-unlocked g c = same_unlocked (caller c.args.stamp.now c.args.place.now) (meaning c.args.words.now) (g.I.Source.left c.args.input.now) (g.D.Disk.told c.args.disk.now)
+
+pub returns-in-Err-Memory-clause-speaks : goal.returns-in-Err-Memory-clause-speaks
+returns-in-Err-Memory-clause-speaks g c = never_speaks (caller c.args.stamp.now c.args.place.now) (meaning c.args.words.now) (g.E.Sink.given c.args.err.now)

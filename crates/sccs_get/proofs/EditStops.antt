@@ -1,0 +1,129 @@
+-- What a commit needs of an edit that is prepared, and what a stop leaves of it.
+use Rattle.std.proofs.Common.{◌≡◌, ◌≢◌, ℕ, Bool, true, false, List, [], ◌∷◌, ◌++◌, All, drop, Option, None, Some, Result, Ok, Err, refl, sym, ap, subst, ◌∙◌}
+use Rattle.std.specs.Prelude.{IfSome, IsSome, if◌then◌else◌}
+use Rattle.std.specs.List.{AllByRecursion}
+use Rattle.std.specs.Str.{bytes_eq}
+use Rattle.std.proofs.lemmas.List.Elements.{recursion_from_All}
+use Rattle.sccs_base.specs.Name.{IsSfile, sibling}
+use Rattle.sccs_disk.specs.Calls.{IsThere}
+use Rattle.sccs_disk.specs.Files.{Content, View}
+use Rattle.sccs_disk.specs.Images.{IsFirm}
+use Rattle.sccs_disk.specs.Told.{Told, seen}
+use Rattle.sccs_images.specs.Touches.{Leaves, Touches, TouchesOnly, Touching, earlier, newest as newest_model}
+use Rattle.sccs_images.proofs.Touched.{each_newest, firm_touched}
+use Rattle.sccs_history.specs.History.{lives}
+use Rattle.sccs_history.specs.declared.headers.Record.{Record}
+use Rattle.sccs_files.specs.StepFiles.{Moves}
+use Rattle.sccs_moments.proofs.FileNames.{from_s}
+use Rattle.sccs_moments.proofs.Joined.{newest_is}
+use Rattle.sccs_pfile.specs.Agreement.{Agrees}
+use Rattle.sccs_pfile.specs.Entries.{IsEdit}
+use Rattle.sccs_pfile.specs.Recovered.{is_done, pfile_of, recovered_pfile}
+use Rattle.sccs_pfile.specs.declared.entries.Edit.{Edit}
+use Rattle.sccs_pending.specs.NewEntries.{Decided, IsDecided, PreparesEntries, kept_g}
+use Rattle.sccs_pending.specs.Pending.{AnswersPending}
+use Rattle.sccs_pending.specs.declared.pending.Pending.{Pending}
+use Rattle.sccs_pending.proofs.StopLaws.{agreeing_undone, decided_settles}
+use Rattle.sccs_steps.specs.StepStops.{ArePaired, IsPaired}
+use Rattle.sccs_store.specs.Commits.{Needs, chosen, files_after}
+use Rattle.sccs_store.specs.Stops.{KeepsEntries, OnReplace}
+use Rattle.sccs_store.specs.declared.new_files.NewFile.{NewFile}
+use Rattle.sccs_store.specs.declared.new_files.NewFile.TheVariants.{Keep, Replace, Remove}
+use Rattle.sccs_transactions.specs.Changes.{IsReady, plan_of}
+use Rattle.sccs_transactions.specs.Stops.{IsFirmPrepared, SettlesEntries}
+use Rattle.sccs_transactions.specs.declared.prepared.Prepared.{Prepared}
+use Rattle.sccs_words.specs.declared.commands.GetWords.{GetWords}
+use Rattle.sccs_get.specs.EditGiving.{new_g}
+use Rattle.sccs_get.specs.VersionStep.{writes_g}
+use Rattle.sccs_get.proofs.EditLaws.{all_and, each_and, never_empty}
+
+abbrev pub edit_prepared : NewFile → NewFile → List ℕ → List ℕ → Prepared
+edit_prepared new_p g report message = record { new_s = false; new_p = new_p; new_g = g; report = report; message = message }
+
+-- ---- what is firm
+
+-- a firm file stays firm through calls that don't touch it
+firm_kept : (k : List ℕ) (mine before : List ℕ → Bool) (a b c : Told) → TouchesOnly before a b → TouchesOnly mine b c → mine k ≡ false → Leaves (IsFirm k) a b → Leaves (IsFirm k) a c
+firm_kept k mine before a b c first next other firm = λ m past is m3 past3 is3.
+    let begun : Touching before m past b = first m past is in
+    let on : Touching mine (newest_model begun.added m) (earlier begun.added m past) c = next (newest_model begun.added m) (earlier begun.added m past) begun.is in
+    subst (IsFirm k) (newest_is (newest_model begun.added m) m3 (earlier begun.added m past) past3 on.added c on.is is3)
+    (firm_touched mine (newest_model begun.added m) (newest_model on.added (newest_model begun.added m)) k (each_newest (Touches mine (newest_model begun.added m)) on.added (newest_model begun.added m) on.each) other (firm m past is (newest_model begun.added m) (earlier begun.added m past) begun.is))
+
+pub edit_firm : (n : List ℕ) (new_p g : NewFile) (report message : List ℕ) (a b c : Told) → TouchesOnly (bytes_eq (sibling 113 n)) a b → TouchesOnly (bytes_eq (sibling 121 n)) b c → OnReplace new_p (Leaves (IsFirm (sibling 113 n)) a b) → IsFirmPrepared n (edit_prepared new_p g report message) a c
+edit_firm n new_p g report message a b c q y firm = record { x_file = tt; q_file = by new_p firm }
+  where
+    by : (new : NewFile) → OnReplace new (Leaves (IsFirm (sibling 113 n)) a b) → OnReplace new (Leaves (IsFirm (sibling 113 n)) a c)
+    by Keep firm = tt
+    by Replace firm = firm_kept (sibling 113 n) (bytes_eq (sibling 121 n)) (bytes_eq (sibling 113 n)) a b c q y refl firm
+    by Remove firm = tt
+
+-- ---- what a commit needs
+
+there_moved : (m k : List ℕ) (o o2 : Option View) → bytes_eq m k ≡ false → Moves (bytes_eq m) (λ v. v) o o2 → IfSome o (λ (v : View). IsSome (v k)) → IfSome o2 (λ (v : View). IsSome (v k))
+there_moved m k None o2 other moves there = subst (λ (o : Option View). IfSome o (λ (v : View). IsSome (v k))) (sym moves) tt
+there_moved m k (Some v) None other moves there = absurd moves
+there_moved m k (Some v) (Some u) other moves there = subst IsSome (sym (moves k other)) there
+
+pub edit_ready : (words : GetWords) (n : List ℕ) (edits : List Edit) (edit : Edit) (new_p g : NewFile) (report message : List ℕ) (a b c : Told) → g ≡ new_g words → IsThere (sibling 122 n) a → Moves (bytes_eq (sibling 113 n)) (λ v. v) (seen a) (seen b) → Moves (bytes_eq (sibling 121 n)) (λ v. v) (seen b) (seen c)
+    → PreparesEntries n (edits ++ edit ∷ []) new_p a b → (writes_g words ≡ true → IsThere (sibling 121 n) c) → IsReady n (edit_prepared new_p g report message) c
+edit_ready words n edits edit new_p g report message a b c g_is z q y entries there = record {
+  z = there_moved (sibling 121 n) (sibling 122 n) (seen b) (seen c) refl y (there_moved (sibling 113 n) (sibling 122 n) (seen a) (seen b) refl q z);
+  s = tt;
+  p_file = p_needs new_p (entries.needs (λ none. absurd (some_edit edits none)));
+  g = subst (λ (x : NewFile). Needs x (sibling 121 n) (drop 2 n) c) (sym g_is) (g_needs (writes_g words) there);
+}
+  where
+    some_edit : (edits : List Edit) → edits ++ edit ∷ [] ≡ [] → ⊥
+    some_edit [] none = cc
+    some_edit (e ∷ edits) none = cc
+
+    p_needs : (new : NewFile) → Needs new (sibling 113 n) (sibling 112 n) b → Needs new (sibling 113 n) (sibling 112 n) c
+    p_needs Keep needs = tt
+    p_needs Replace needs = there_moved (sibling 121 n) (sibling 113 n) (seen b) (seen c) refl y needs
+    p_needs Remove needs = there_moved (sibling 121 n) (sibling 112 n) (seen b) (seen c) refl y needs
+
+    g_needs : (w : Bool) → (w ≡ true → IsThere (sibling 121 n) c) → Needs (if w then Replace else Keep) (sibling 121 n) (drop 2 n) c
+    g_needs true there = there refl
+    g_needs false there = tt
+
+-- ---- what recovery makes of the entries
+
+entries_prepared : (n : List ℕ) (edits : List Edit) (new_p : NewFile) (a b : Told) → Moves (bytes_eq (sibling 113 n)) (λ v. v) (seen a) (seen b) → PreparesEntries n edits new_p a b
+    → IsDecided n (record { edits = edits; keep = true; report = [] }) (edit_prepared new_p Keep [] []) a b
+entries_prepared n edits new_p a b moves entries = record {
+  of = record { s = refl; report_is = refl; message = refl };
+  moves = moves;
+  entries = entries;
+  g = record { chosen_is = g_kept (seen a); needs = tt };
+}
+  where
+    g_kept : (o : Option View) → IfSome o (λ (v : View). (y : Option Content) → chosen Keep y (v (drop 2 n)) ≡ kept_g true (v (drop 2 n)))
+    g_kept None = tt
+    g_kept (Some v) = λ y. refl
+
+settles_on : (n : List ℕ) (new_p g : NewFile) (report message : List ℕ) (b c : Told) → IsSfile n → Moves (bytes_eq (sibling 121 n)) (λ v. v) (seen b) (seen c) → SettlesEntries n (edit_prepared new_p Keep [] []) b → SettlesEntries n (edit_prepared new_p g report message) c
+settles_on n new_p g report message b c sfile moves settles = by (seen b) (seen c) moves settles
+  where
+    by : (o o2 : Option View) → Moves (bytes_eq (sibling 121 n)) (λ v. v) o o2 → IfSome o (λ v. IsPaired n v → KeepsEntries n (plan_of (edit_prepared new_p Keep [] [])) v × ArePaired (files_after n (plan_of (edit_prepared new_p Keep [] [])) v).s (files_after n (plan_of (edit_prepared new_p Keep [] [])) v).p)
+        → IfSome o2 (λ v. IsPaired n v → KeepsEntries n (plan_of (edit_prepared new_p g report message)) v × ArePaired (files_after n (plan_of (edit_prepared new_p g report message)) v).s (files_after n (plan_of (edit_prepared new_p g report message)) v).p)
+    by None None moves settles = tt
+    by None (Some u) moves settles = absurd cc
+    by (Some v) None moves settles = tt
+    by (Some v) (Some u) moves settles = λ paired.
+        let s : u n ≡ v n = moves n (from_s 121 n sfile refl) in
+        let p : u (sibling 112 n) ≡ v (sibling 112 n) = moves (sibling 112 n) refl in
+        let q : u (sibling 113 n) ≡ v (sibling 113 n) = moves (sibling 113 n) refl in
+        let new : chosen new_p (u (sibling 113 n)) (u (sibling 112 n)) ≡ chosen new_p (v (sibling 113 n)) (v (sibling 112 n)) = ap (λ (o : Option Content). chosen new_p o (u (sibling 112 n))) q ∙ ap (λ (o : Option Content). chosen new_p (v (sibling 113 n)) o) p in
+        let old : KeepsEntries n (plan_of (edit_prepared new_p Keep [] [])) v × ArePaired (v n) (chosen new_p (v (sibling 113 n)) (v (sibling 112 n))) = settles (λ none. sym p ∙ paired (s ∙ none)) in (
+          record { leaves = tt; sound = ap (λ (o : Option Content). recovered_pfile o (chosen new_p (u (sibling 113 n)) (u (sibling 112 n)))) s ∙ (ap (recovered_pfile (v n)) new ∙ (old.0.sound ∙ sym new)) },
+          λ none. new ∙ old.1 (sym s ∙ none),
+        )
+
+pub edit_settles : (n : List ℕ) (x : Pending) (edit : Edit) (new_p g : NewFile) (report message : List ℕ) (a b c : Told) → IsSfile n → All IsEdit x.edits → IsEdit edit → Agrees x.front.header.records x.edits → lives x.front.header.records edit.made ≡ false
+    → IfSome (seen a) (λ (v : View). AnswersPending (v n) (v (sibling 112 n)) (Ok x)) → Moves (bytes_eq (sibling 113 n)) (λ v. v) (seen a) (seen b) → Moves (bytes_eq (sibling 121 n)) (λ v. v) (seen b) (seen c) → PreparesEntries n (x.edits ++ edit ∷ []) new_p a b
+    → SettlesEntries n (edit_prepared new_p g report message) c
+edit_settles n x edit new_p g report message a b c sfile edits valid agrees free read q y entries =
+    settles_on n new_p g report message b c sfile y
+    (decided_settles n x (record { edits = x.edits ++ edit ∷ []; keep = true; report = [] }) (Ok (edit_prepared new_p Keep [] [])) a a b sfile refl read (recursion_from_All IsEdit (x.edits ++ edit ∷ []) (all_and IsEdit x.edits edit edits valid))
+    (each_and (λ e. is_done x.front.header.records e ≡ false) x.edits edit (agreeing_undone x.front.header.records x.edits x.edits agrees) free) (entries_prepared n (x.edits ++ edit ∷ []) new_p a b q entries))

@@ -1,0 +1,49 @@
+-- A get that writes no g-file changes no file.
+use Rattle.std.proofs.Common.{◌≡◌, ℕ, Bool, true, false, not, List, None, Some, Option, Result, Ok, Err, refl, subst}
+use Rattle.std.specs.Prelude.{if◌then◌else◌}
+use Rattle.sccs_base.specs.Name.{IsSfile, is_sfile_name, sfile_name_decides}
+use Rattle.sccs_sid.specs.Reading.{◌>>=◌}
+use Rattle.sccs_sid.specs.declared.moments.Stamp.{Stamp}
+use Rattle.sccs_sid.specs.declared.refusals.Refusal.{Refusal}
+use Rattle.sccs_grammar.specs.File.{Parsed, answer, file_of}
+use Rattle.sccs_grammar.specs.FileRefusals.{or_refusal}
+use Rattle.sccs_words.specs.declared.commands.GetWords.{GetWords}
+use Rattle.sccs_files.specs.StepFiles.{Files}
+use Rattle.sccs_pending.specs.Pending.{bytes_at}
+use Rattle.sccs_steps.specs.Actions.{KeepsFiles}
+use Rattle.sccs_steps.specs.StepEffects.{Outcome, StepEffect}
+use Rattle.sccs_get.specs.VersionStep.{found_of, g_is_free, get_action, get_outcome, got, has_its_keywords, lines_in, writes_g}
+use Rattle.sccs_get.specs.declared.found.Found.{Found}
+
+-- what is accepted changes no file
+LeavesFiles : Outcome → Type 0
+LeavesFiles o = (d : StepEffect) → o ≡ Ok d → d.new ≡ None
+
+passed_leaves : {A : Type 0} (r : Result A Refusal) (rest : A → Outcome) → ((x : A) → LeavesFiles (rest x)) → LeavesFiles (r >>= rest)
+unfolding LeavesFiles
+passed_leaves (Ok x) rest leaves d is = leaves x d is
+passed_leaves (Err refusal) rest leaves d is = absurd cc
+
+none_new : (b : Bool) (f : Files) → not b ≡ true → (if b then Some f else None) ≡ None
+none_new true f is = absurd cc
+none_new false f is = refl
+
+got_leaves : (words : GetWords) (e : StepEffect) → e.new ≡ None → LeavesFiles (Ok e)
+unfolding LeavesFiles
+got_leaves words e none d is = let same : e ≡ d = cc in subst (λ (x : StepEffect). x.new ≡ None) same none
+
+outcome_leaves : (words : GetWords) (stamp : Stamp) (place : List ℕ) (heading : Bool) (n : List ℕ) (f : Files) → not (writes_g words) ≡ true → LeavesFiles (get_outcome words stamp place heading n f)
+unfolding get_outcome
+outcome_leaves words stamp place heading n f reads =
+    passed_leaves (or_refusal (answer file_of (bytes_at f.s))) _ (λ parsed.
+    passed_leaves (found_of words stamp place n parsed.header) _ (λ found.
+    passed_leaves (has_its_keywords words parsed.header.flags (lines_in found parsed.items)) _ (λ keywords.
+    passed_leaves (g_is_free words f.g) _ (λ free.
+    got_leaves words (got words heading n parsed.header.records f found (lines_in found parsed.items)) (none_new (writes_g words) _ reads)))))
+
+quiet : (words : GetWords) (stamp : Stamp) (place : List ℕ) (heading : Bool) (n : List ℕ) (f : Files) (d : StepEffect) → not (writes_g words) ≡ true → get_outcome words stamp place heading n f ≡ Ok d → d.new ≡ None
+unfolding LeavesFiles
+quiet words stamp place heading n f d reads is = outcome_leaves words stamp place heading n f reads d is
+
+pub get_keeps : (words : GetWords) (stamp : Stamp) (place : List ℕ) (heading : Bool) → KeepsFiles (get_action words stamp place heading)
+get_keeps words stamp place heading = record { quiet = λ reads n input named files d is. quiet words stamp place heading n files d reads is; names = λ changes n fits. ((sfile_name_decides n).0 fits).1 }

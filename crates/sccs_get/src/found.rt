@@ -1,0 +1,161 @@
+ghost use Rattle.std.specs.Prelude.{◌≡◌, ◌≢◌, IfOk, IfSome, false, is_some};
+ghost use Rattle.std.specs.List.{AllByRecursion};
+ghost use Rattle.sccs_base.specs.Name.{IsSfile};
+ghost use Rattle.sccs_history.specs.Applied.{live_serials};
+ghost use Rattle.sccs_history.specs.History.{IsSpelled, IsTable};
+ghost use Rattle.sccs_history.specs.Numbers.{has};
+ghost use Rattle.sccs_keys.specs.Expansion.{HasMoments};
+ghost use Rattle.sccs_pending.specs.PFiles.{Answers};
+ghost use Rattle.sccs_sid.specs.Moment.{IsMoment};
+ghost use Rattle.sccs_sid.specs.declared.refusals.StepFault.TheVariants as faults;
+ghost use Rattle.sccs_steps.specs.Actions.{RefusesWithin};
+ghost use Rattle.sccs_get.specs.GetStep.{asked_checks};
+ghost use Rattle.sccs_get.specs.Reports.{replaces};
+ghost use Rattle.sccs_get.specs.VersionStep.{facts_in, form_in, found_of, module_in};
+ghost use Rattle.sccs_texts.specs.Forms as forms;
+
+use crate::new_entries::singles;
+use crate::reports::replaces;
+use crate::targets::asked_of;
+use sccs_base::{Line, Memory, Name};
+use sccs_facts::{facts_of, module_name};
+use sccs_history::Header;
+use sccs_keys::Facts;
+use sccs_sets::{Applied, sid_at};
+use sccs_sid::{Sid, SidList, Stamp, StepFault};
+use sccs_texts::LineForm;
+use sccs_words::GetWords;
+use std::alloc::Global;
+
+/// A version as it is found in an s-file: the set of its deltas, the SIDs of the lists that were given, its
+/// SID, and what its lines are given with.
+#[derive(Drop)]
+pub struct Found {
+    pub set: Applied,
+    pub include: SidList,
+    pub exclude: SidList,
+    pub sid: Sid,
+    /// What stands before each line with -n.
+    pub module: Option<Line>,
+    /// What keywords are replaced by, where they are.
+    pub facts: Option<Facts>,
+}
+
+impl Found {
+    /// How the lines are given.
+    pub fn form(&self, words: &GetWords) -> LineForm<'_>
+        ensures { forms.form_of result ≡ form_in words.now self.now }
+    {
+        LineForm {
+            module_name: self.module.as_ref(),
+            has_sids: words.sids,
+            facts: self.facts.as_ref(),
+        }
+    }
+}
+
+// the module's name, where it stands before lines
+fn module_in(
+    alloc: Global,
+    words: &GetWords,
+    header: &Header,
+    name: &Name,
+) -> Result<Option<Line>, Memory>
+    requires { IsSfile name.now }
+    ensures { IfOk result (λ module_name. module_name ≡ module_in words.now header.now name.now) }
+{
+    if !words.module {
+        return Ok(None);
+    }
+    match Line::new(alloc, module_name(header.flags.items(), name)) {
+        Ok(line) => Ok(Some(line)),
+        Err(_) => Err(Memory),
+    }
+}
+
+// what keywords are replaced by, where they are
+fn facts_in(
+    alloc: Global,
+    words: &GetWords,
+    stamp: &Stamp,
+    place: &Line,
+    name: &Name,
+    header: &Header,
+    set: &Applied,
+    target: u16,
+    sid: Sid,
+) -> Result<Option<Facts>, Memory>
+    requires sfile { IsSfile name.now }
+    requires spelled { IsSpelled header.now }
+    requires moment { IsMoment stamp.now.moment }
+    ensures value { IfOk result (λ facts. facts ≡ facts_in words.now stamp.now place.now name.now header.now set.now target sid) }
+    ensures valid { IfOk result (λ facts. IfSome facts HasMoments) }
+    ensures replaced { IfOk result (λ facts. is_some facts ≡ replaces words.now) }
+{
+    if !replaces(words) {
+        return Ok(None);
+    }
+    match facts_of(alloc, header, set, target, sid, name, place, stamp) {
+        Ok(facts) => Ok(Some(facts)),
+        Err(_) => Err(Memory),
+    }
+}
+
+/// Finds the version that get's words ask for in a header. NoSid comes where its SID names no live delta,
+/// BadList with the first SID of a list that names none, or that is in both lists. POSIX get.
+pub fn find_version(
+    alloc: Global,
+    words: &GetWords,
+    stamp: &Stamp,
+    place: &Line,
+    name: &Name,
+    header: &Header,
+) -> Result<Found, StepFault>
+    requires sfile { IsSfile name.now }
+    requires table { IsTable header.now.records }
+    requires spelled { IsSpelled header.now }
+    requires moment { IsMoment stamp.now.moment }
+    ensures value { Answers (found_of words.now stamp.now place.now name.now header.now) result }
+    ensures no_zero { IfOk result (λ f. has f.set 0 ≡ false) }
+    ensures facts { IfOk result (λ f. IfSome f.facts HasMoments) }
+    ensures replaced { IfOk result (λ f. is_some f.facts ≡ replaces words.now) }
+    ensures checks { RefusesWithin asked_checks result }
+    ensures broke { result ≢ Err faults.DiskFault }
+{
+    let asked = match asked_of(alloc, header, words) {
+        Ok(asked) => asked,
+        Err(fault) => return Err(fault),
+    };
+    let records = header.records.items();
+    let sid = sid_at(records, asked.target);
+    let Ok(include) = singles(alloc, records, asked.include.items()) else {
+        return Err(StepFault::Memory);
+    };
+    let Ok(exclude) = singles(alloc, records, asked.exclude.items()) else {
+        return Err(StepFault::Memory);
+    };
+    let Ok(module) = module_in(alloc, words, header, name) else {
+        return Err(StepFault::Memory);
+    };
+    let Ok(facts) = facts_in(
+        alloc,
+        words,
+        stamp,
+        place,
+        name,
+        header,
+        &asked.set,
+        asked.target,
+        sid,
+    ) else {
+        return Err(StepFault::Memory);
+    };
+    Ok(Found {
+        set: asked.set,
+        include,
+        exclude,
+        sid,
+        module,
+        facts,
+    })
+}

@@ -1,0 +1,207 @@
+ghost use Rattle.std.specs.Prelude.{◌≡◌, ◌≤◌, ◌⊎◌, ◌||◌, ℕ, true, false, List, drop, Option, Err, IfOk, IfSome, OnErr, OnOk};
+ghost use Rattle.std.specs.Str.{bytes_eq};
+ghost use Rattle.sccs_base.specs.Name.{IsSfile, sibling};
+ghost use Rattle.sccs_base.specs.Stream.{Rose};
+ghost use Rattle.sccs_disk.specs.Calls.{IsThere};
+ghost use Rattle.sccs_disk.specs.Files.{View};
+ghost use Rattle.sccs_disk.specs.Images.{IsFirm};
+ghost use Rattle.sccs_disk.specs.Told.{seen};
+ghost use Rattle.sccs_files.specs.StepFiles.{Moves, look};
+ghost use Rattle.sccs_images.specs.Touches.{Leaves, TouchesOnly};
+ghost use Rattle.sccs_sid.specs.Moment.{IsMoment};
+ghost use Rattle.sccs_sid.specs.declared.refusals.StepFault.TheVariants as faults;
+ghost use Rattle.sccs_steps.specs.Actions.{RefusesWithin};
+ghost use Rattle.sccs_steps.specs.Calls.{world};
+ghost use Rattle.sccs_steps.specs.Causes.{PrintCauses, StepCauses, counts};
+ghost use Rattle.sccs_gfiles.specs.Placing.{PlaceEnds, PlaceStops};
+ghost use Rattle.sccs_moments.specs.Unlocked.{KeepsOthers};
+ghost use Rattle.sccs_store.specs.Commits.{Becomes, MayBecome};
+ghost use Rattle.sccs_get.specs.Giving.{FinishesGet, GivesUpGet, PlacesG, Readies, g_placed};
+ghost use Rattle.sccs_get.specs.VersionStep.{get_action, get_outcome, says_well, version_checks, writes_g};
+ghost use Rattle.sccs_get.specs.Keeps.{get_keeps};
+
+use crate::checks::{check_g, check_keywords, writes_g};
+use crate::found::find_version;
+use crate::giving::give_version;
+use crate::reports::said;
+use sccs_base::{Line, Name, Sink, Source};
+use sccs_body::inspect;
+use sccs_disk::Disk;
+use sccs_gfiles::place_g;
+use sccs_sid::{Stamp, StepFault};
+use sccs_steps::Utility;
+use sccs_store::{NewG, NewP, clear_sibling};
+use sccs_transactions::{Prepared, report};
+use sccs_words::GetWords;
+use std::alloc::Global;
+
+/// get on a name, without -e: the text of a version goes to standard output with -p, nowhere with -g, and else
+/// into the g-file. It refuses an s-file that can't be read, a SID or lists that name no live deltas, a version
+/// without keywords where the flag i is set, and a g-file that may be written. POSIX, Shell and Utilities, get.
+#[derive(Drop)]
+pub struct Get<'a> {
+    pub words: &'a GetWords,
+    pub stamp: &'a Stamp,
+    /// The folder's path.
+    pub place: &'a Line,
+    /// Whether a heading stands before the report.
+    pub heading: bool,
+    ghost valid: { IsMoment stamp.now.moment },
+}
+
+// makes all but the g-file: the checks, the text, and what is said behind it
+fn ready<O: Sink, D: Disk>(
+    alloc: Global,
+    get: &Get<'_>,
+    name: &Name,
+    out: &mut O,
+    disk: &mut D,
+) -> Result<Prepared, StepFault>
+    requires { IsSfile name.now }
+    ensures readies { (err : Option (List ℕ)) → IfSome (seen (D.told disk.old)) (λ (v : View).
+        Readies get.now.words.now name.now (get_outcome get.now.words.now get.now.stamp.now get.now.place.now get.now.heading name.now (look v name.now)) result
+        (world (Some v) (O.given out.old) err) (world (seen (D.told disk.new)) (O.given out.new) err)) }
+    ensures moves { Moves (bytes_eq (sibling 121 name.now)) (λ v. v) (seen (D.told disk.old)) (seen (D.told disk.new)) }
+    ensures there { OnOk result (writes_g get.now.words.now ≡ true → IsThere (sibling 121 name.now) (D.told disk.new)) }
+    ensures touches { TouchesOnly (bytes_eq (sibling 121 name.now)) (D.told disk.old) (D.told disk.new) }
+    ensures firm { OnOk result (writes_g get.now.words.now ≡ true → Leaves (IsFirm (sibling 121 name.now)) (D.told disk.old) (D.told disk.new)) }
+    ensures same { writes_g get.now.words.now ≡ false → D.told disk.new ≡ D.told disk.old }
+    ensures says { IfOk result (λ p. says_well get.now.words.now p.message ≡ true) }
+    ensures checks { RefusesWithin version_checks result }
+    ensures causes { PrintCauses result (O.faults out.old) (O.faults out.new) (D.faults disk.old) (D.faults disk.new) }
+{
+    let front = match inspect(alloc, disk, name) {
+        Ok(front) => front,
+        Err(fault) => return Err(StepFault::from(fault)),
+    };
+    let header = &front.header;
+    let found = match find_version(alloc, get.words, get.stamp, get.place, name, header) {
+        Ok(found) => found,
+        Err(fault) => return Err(fault),
+    };
+    match check_keywords(alloc, get.words, name, &front, &found, disk) {
+        Ok(()) => {}
+        Err(fault) => return Err(fault),
+    }
+    match check_g(get.words, name, disk) {
+        Ok(()) => {}
+        Err(fault) => return Err(fault),
+    }
+    let shown = match give_version(alloc, get.words, name, &front, &found, out, disk) {
+        Ok(shown) => shown,
+        Err(fault) => return Err(fault),
+    };
+    match said(alloc, get.words, get.heading, name, &found, None, shown) {
+        Ok(said) => Ok(Prepared {
+            new_s: false,
+            new_p: NewP::Keep,
+            new_g: NewG::Keep,
+            report: said.out,
+            message: said.err,
+        }),
+        Err(_) => Err(StepFault::Memory),
+    }
+}
+
+// puts the y-file in the place of the g-file, where there is a text for it
+fn place<D: Disk>(words: &GetWords, name: &Name, disk: &mut D) -> Result<(), StepFault>
+    requires sfile { IsSfile name.now }
+    requires there { writes_g words.now ≡ true → IsThere (sibling 121 name.now) (D.told disk.old) }
+    ensures view { OnOk result (Becomes (g_placed words.now name.now) (seen (D.told disk.old)) (seen (D.told disk.new))) }
+    ensures halfway { OnErr result (MayBecome (g_placed words.now name.now) (seen (D.told disk.old)) (seen (D.told disk.new))) }
+    ensures stopped { OnErr result (PlaceStops name.now (D.told disk.old) (D.told disk.new)) }
+    ensures calm { OnOk result (writes_g words.now ≡ true → PlaceEnds name.now (D.told disk.old) (D.told disk.new)) }
+    ensures others { KeepsOthers (λ k. bytes_eq (sibling 121 name.now) k || bytes_eq (drop 2 name.now) k) (D.told disk.old) (D.told disk.new) }
+    ensures same { writes_g words.now ≡ false → D.told disk.new ≡ D.told disk.old }
+    ensures fault { OnErr result (result ≡ Err faults.DiskFault) }
+    ensures later { D.faults disk.old ≤ D.faults disk.new }
+    ensures cause { OnErr result (Rose (D.faults disk.old) (D.faults disk.new)) }
+{
+    if !writes_g(words) {
+        return Ok(());
+    }
+    match place_g(disk, name) {
+        Ok(()) => Ok(()),
+        Err(_) => Err(StepFault::DiskFault),
+    }
+}
+
+// places the g-file, where there is one, and says what is to be said
+fn finish<O: Sink, E: Sink, D: Disk>(
+    words: &GetWords,
+    prepared: &Prepared,
+    name: &Name,
+    out: &mut O,
+    err: &mut E,
+    disk: &mut D,
+) -> Result<(), StepFault>
+    requires sfile { IsSfile name.now }
+    requires there { writes_g words.now ≡ true → IsThere (sibling 121 name.now) (D.told disk.old) }
+    ensures finishes { FinishesGet words.now name.now prepared.now result
+        (world (seen (D.told disk.old)) (O.given out.old) (E.given err.old)) (world (seen (D.told disk.new)) (O.given out.new) (E.given err.new)) }
+    ensures places { PlacesG words.now name.now result (D.told disk.old) (D.told disk.new) }
+    ensures others { KeepsOthers (λ k. bytes_eq (sibling 121 name.now) k || bytes_eq (drop 2 name.now) k) (D.told disk.old) (D.told disk.new) }
+    ensures same { writes_g words.now ≡ false → D.told disk.new ≡ D.told disk.old }
+    ensures causes { (input : ℕ) → StepCauses result
+        (counts input (O.faults out.old) (E.faults err.old) (D.faults disk.old)) (counts input (O.faults out.new) (E.faults err.new) (D.faults disk.new)) }
+{
+    match place(words, name, disk) {
+        Ok(()) => report(prepared, out, err),
+        Err(fault) => Err(fault),
+    }
+}
+
+// takes away the y-file, where one was made, and answers why get gave up; after a disk fault recovery does that
+fn give_up<D: Disk>(
+    words: &GetWords,
+    fault: StepFault,
+    name: &Name,
+    disk: &mut D,
+) -> Result<(), StepFault>
+    requires { IsSfile name.now }
+    ensures gives_up { GivesUpGet words.now name.now fault result (seen (D.told disk.old)) (seen (D.told disk.new)) }
+    ensures touches { TouchesOnly (bytes_eq (sibling 121 name.now)) (D.told disk.old) (D.told disk.new) }
+    ensures same { writes_g words.now ≡ false → D.told disk.new ≡ D.told disk.old }
+    ensures later { D.faults disk.old ≤ D.faults disk.new }
+    ensures cause { result ≡ Err faults.DiskFault → (fault ≡ faults.DiskFault) × (D.faults disk.new ≡ D.faults disk.old) ⊎ Rose (D.faults disk.old) (D.faults disk.new) }
+{
+    if let StepFault::DiskFault = fault {
+        return Err(fault);
+    }
+    if !writes_g(words) {
+        return Err(fault);
+    }
+    match clear_sibling(disk, name, b'y') {
+        Ok(()) => Err(fault),
+        Err(_) => Err(StepFault::DiskFault),
+    }
+}
+
+impl Utility for Get<'_> {
+    ghost action = { λ get. get_action get.words.now get.stamp.now get.place.now get.heading };
+
+    ghost keeps = { λ get. get_keeps get.words.now get.stamp.now get.place.now get.heading };
+
+    fn name(&self, operand: &[u8]) -> Option<Name> {
+        Name::read_sfile(operand)
+    }
+
+    fn takes_input(&self) -> bool {
+        false
+    }
+
+    fn step<I: Source, O: Sink, E: Sink, D: Disk>(
+        &self,
+        alloc: Global,
+        name: &Name,
+        _input: &mut I,
+        out: &mut O,
+        err: &mut E,
+        disk: &mut D,
+    ) -> Result<(), StepFault> {
+        match ready(alloc, self, name, out, disk) {
+            Ok(prepared) => finish(self.words, &prepared, name, out, err, disk),
+            Err(fault) => give_up(self.words, fault, name, disk),
+        }
+    }
+}
