@@ -1,0 +1,5 @@
+//! Tests of delta.
+#![tactic(auto)]
+
+#[cfg(test)]
+mod tests;

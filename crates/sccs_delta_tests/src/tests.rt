@@ -1,0 +1,6 @@
+mod added;
+mod copies;
+mod lists;
+mod refusals;
+mod releases;
+mod samples;

@@ -1,0 +1,14 @@
+mod disks;
+mod gets;
+mod hostile;
+mod long_lines;
+mod new_files;
+mod operands;
+mod pending;
+mod readings;
+mod releases;
+mod rows;
+mod several_files;
+mod stops;
+mod usages;
+mod versions;

@@ -1,0 +1,97 @@
+use crate::tests::rows::{Row, silent, wrong_row};
+use sccs_fixtures::samples::{BRANCHED, SECOND, TWO_LINES};
+use sccs_fixtures::{File, Given, PLAIN};
+use sccs_top::Answer;
+use std::test::Fail;
+
+const ONE_FILE: [File<'static>; 1] = [File {
+    name: b"s.a",
+    bytes: Some(SECOND),
+}];
+
+#[test]
+fn faults_have_causes(rt: HostRuntime) -> Result<(), Fail> {
+    let alloc = rt.alloc();
+    let cut = Given {
+        failing_out: &[1],
+        ..PLAIN
+    };
+    let deaf = Given {
+        failing_err: &[1],
+        ..PLAIN
+    };
+    let line = b"get -k -p -s s.a";
+    assert_eq!(rt;
+        silent(alloc, line, &cut, &[], &ONE_FILE)?,
+        Some(Answer::WriteFault)
+    );
+    assert_eq!(rt;
+        silent(alloc, line, &PLAIN, &[1], &ONE_FILE)?,
+        Some(Answer::DiskFault)
+    );
+    let line = b"get -k -p -s s.c s.a";
+    assert_eq!(rt;
+        silent(alloc, line, &deaf, &[], &ONE_FILE)?,
+        Some(Answer::WriteFault)
+    );
+    Ok(())
+}
+
+const IN_ORDER: [Row<'static>; 5] = [
+    (b"get -kps s.c", 1, b"", b"ERROR [s.c]: no such file (03)\n"),
+    (b"get -kps s.a s.b", 0, b"one\ntwo %I%\na\nB\n", b""),
+    (
+        b"get -kps -r1.1.1.1 s.b s.a s.b",
+        1,
+        b"a\nb\nc\na\nb\nc\n",
+        b"ERROR [s.a]: no such SID (15)\n",
+    ),
+    (
+        b"get -kps x s.a . s.c s.a",
+        1,
+        b"one\ntwo %I%\none\ntwo %I%\na\nB\none\ntwo %I%\n",
+        b"ERROR [x]: not a name of an s-file (01)\nERROR [s.c]: no such file (03)\n",
+    ),
+    (
+        b"get -kps d/s.a s.b",
+        1,
+        b"a\nB\n",
+        b"ERROR [d/s.a]: not a name of an s-file (01)\n",
+    ),
+];
+
+#[test]
+fn operands_come_in_order(rt: HostRuntime) -> Result<(), Fail> {
+    assert_eq!(rt;
+        wrong_row(rt.alloc(), TWO_LINES, BRANCHED, &IN_ORDER)?,
+        None
+    );
+    Ok(())
+}
+
+const UNBUILT: [Row<'static>; 3] = [
+    (
+        b"prs x s.a -",
+        2,
+        b"",
+        b"USAGE: options exclude each other (word 4)\n",
+    ),
+    (
+        b"prs x s.a .",
+        1,
+        b"",
+        b"ERROR [x]: not a name of an s-file (01)\nERROR [s.a]: not built yet (99)\nERROR [s.a]: not built yet (99)\nERROR [s.b]: not built yet (99)\n",
+    ),
+    (
+        b"what x -",
+        2,
+        b"",
+        b"USAGE: options exclude each other (word 3)\n",
+    ),
+];
+
+#[test]
+fn unbuilt_commands_refuse_each_operand(rt: HostRuntime) -> Result<(), Fail> {
+    assert_eq!(rt; wrong_row(rt.alloc(), TWO_LINES, BRANCHED, &UNBUILT)?, None);
+    Ok(())
+}
