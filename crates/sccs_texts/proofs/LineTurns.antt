@@ -1,13 +1,15 @@
 -- Whole lines that are given one by one.
-use Rattle.std.proofs.Common.{◌≡◌, ℕ, suc, ◌+◌, ◌-◌, ◌<◌, ◌≤◌, ◌==◌, true, List, [], ◌∷◌, ◌++◌, length, length-drop, length-take, take, drop, drop-cons, get_or, sym, ap, subst, ◌∙◌, append_assoc, arith, eq-eqb}
+use Rattle.std.proofs.Common.{◌≡◌, ℕ, suc, ◌+◌, ◌-◌, ◌<◌, ◌≤◌, ◌==◌, true, List, [], ◌∷◌, ◌++◌, length, length-drop, length-take, take, drop, drop-cons, get_or, Option, Result, sym, ap, subst, ◌∙◌, append_assoc, arith, eq-eqb}
 use Rattle.std.proofs.lemmas.Bool.{eqb-true}
 use Rattle.std.proofs.lemmas.List.{append-nil, drop-drop, take-append-drop}
+use Rattle.sccs_base.specs.Causes.{GivesText}
 use Rattle.sccs_base.specs.Cut.{cut}
 use Rattle.sccs_base.proofs.Cuts.{NoLfBefore, no_lf_all, no_lf_front}
+use Rattle.sccs_grammar.specs.Written.{ended}
 use Rattle.sccs_grammar.proofs.CutLaws.{cut_line, cut_tail}
 use Rattle.sccs_history.specs.declared.headers.Record.{Record}
 use Rattle.sccs_keys.proofs.KeywordLaws.{rest_is}
-use Rattle.sccs_texts.specs.Forms.{LineForm, formed, formed_lines}
+use Rattle.sccs_texts.specs.Forms.{LineForm, formed, formed_lines, replaced, sid_before, tabbed}
 
 -- the bytes from a place on, as they are searched
 abbrev pub searched : List ℕ → ℕ → List ℕ
@@ -51,14 +53,13 @@ no_line lines from none =
     (λ k below lf. none k (omega arith) (subst (λ l. k < length l) (sym same) below) (eq-eqb (get_or (searched lines from) k 0) 10 (subst (λ l. get_or l k 0 ≡ 10) (sym same) lf)))))
 
 -- a turn: the text of a line was given, and that of the others makes the rest
-pub turn_text : (form : LineForm) (records records2 : List Record) (n n2 inserter : ℕ) (lines : List ℕ) (from place : ℕ) (done whole : List ℕ) → NextLine lines from place → records2 ≡ records → n2 ≡ suc n
+pub turn_text : (form : LineForm) (records : List Record) (n n2 inserter : ℕ) (lines : List ℕ) (from place : ℕ) (done whole : List ℕ) → NextLine lines from place → n2 ≡ suc n
     → done ++ formed_lines form records n inserter (cut (drop from lines)).lines ≡ whole
-    → (done ++ formed form records n inserter (take (from + place - from) (drop from lines))) ++ formed_lines form records2 n2 inserter (cut (drop (from + place + 1) lines)).lines ≡ whole
-turn_text form records records2 n n2 inserter lines from place done whole next same further is =
-    append_assoc done (formed form records n inserter (take (from + place - from) (drop from lines))) (formed_lines form records2 n2 inserter (cut (drop (from + place + 1) lines)).lines)
-    ∙ (ap (λ r. done ++ (formed form records n inserter (take (from + place - from) (drop from lines)) ++ formed_lines form r n2 inserter (cut (drop (from + place + 1) lines)).lines)) same
+    → (done ++ formed form records n inserter (take (from + place - from) (drop from lines))) ++ formed_lines form records n2 inserter (cut (drop (from + place + 1) lines)).lines ≡ whole
+turn_text form records n n2 inserter lines from place done whole next further is =
+    append_assoc done (formed form records n inserter (take (from + place - from) (drop from lines))) (formed_lines form records n2 inserter (cut (drop (from + place + 1) lines)).lines)
     ∙ (ap (λ m. done ++ (formed form records n inserter (take (from + place - from) (drop from lines)) ++ formed_lines form records m inserter (cut (drop (from + place + 1) lines)).lines)) further
-    ∙ (ap (λ all. done ++ formed_lines form records n inserter all) (sym next.line) ∙ is)))
+    ∙ (ap (λ all. done ++ formed_lines form records n inserter all) (sym next.line) ∙ is))
 
 -- the end
 pub last_text : (form : LineForm) (records : List Record) (n inserter : ℕ) (lines : List ℕ) (from : ℕ) (done whole : List ℕ) → (cut (drop from lines)).lines ≡ [] → done ++ formed_lines form records n inserter (cut (drop from lines)).lines ≡ whole → done ≡ whole
@@ -69,3 +70,11 @@ count_on lines from place before first next is = let long = ap length next.line 
 
 pub count_fits : (lines : List ℕ) (from place before first : ℕ) → NextLine lines from place → before + length (cut (drop from lines)).lines ≡ first → before + 1 ≤ first
 count_fits lines from place before first next is = let long = ap length next.line in omega (arith, long, is)
+
+-- a line behind the SID that was found for its inserter
+pub behind_sid : {T E : Type 0} (form : LineForm) (records : List Record) (number inserter : ℕ) (line : List ℕ) (sid : Option (List ℕ)) (a b : Option (List ℕ)) (f g : ℕ) (r : Result T E) → sid ≡ sid_before form.has_sids records inserter
+    → GivesText (tabbed form.module_name ++ (tabbed sid ++ ended (replaced form.facts number line))) a b f g r → GivesText (formed form records number inserter line) a b f g r
+behind_sid form records number inserter line sid a b f g r is text = subst (λ (s : Option (List ℕ)). GivesText (tabbed form.module_name ++ (tabbed s ++ ended (replaced form.facts number line))) a b f g r) is text
+
+pub tabbed_as : {T E : Type 0} (s t : Option (List ℕ)) (a b : Option (List ℕ)) (f g : ℕ) (r : Result T E) → s ≡ t → GivesText (tabbed s) a b f g r → GivesText (tabbed t) a b f g r
+tabbed_as s t a b f g r is text = subst (λ (o : Option (List ℕ)). GivesText (tabbed o) a b f g r) is text

@@ -7,7 +7,7 @@ use Rattle.sccs_grammar.specs.Written.{bytes_of, ended}
 use Rattle.sccs_keys.specs.Keywords.{is_keyword, parts}
 use Rattle.sccs_keys.specs.declared.facts.Facts.{Facts}
 use Rattle.sccs_keys.proofs.KeywordLaws.{plain_stays}
-use Rattle.sccs_texts.specs.Forms.{bare, formed_line, formed_text, has_keywords, LineForm, module_prefix, replaced, sid_prefix, texts, unreplaced}
+use Rattle.sccs_texts.specs.Forms.{bare, formed_line, formed_text, has_keywords, LineForm, replaced, sid_before, tabbed, texts, unreplaced}
 
 pub as_they_are : (records : List Record) (number : ℕ) (lines : List HistoryLine) → formed_text bare records number lines ≡ bytes_of (texts lines)
 as_they_are records number [] = refl
@@ -43,7 +43,7 @@ pub without_keywords : (form : LineForm) (records : List Record) (number : ℕ) 
     → has_keywords (texts lines) ≡ false → formed_text form records number lines ≡ formed_text (unreplaced form) records number lines
 without_keywords form records number [] none = refl
 without_keywords form records number (line ∷ lines) none =
-    ap (λ text. (module_prefix form.module_name ++ (sid_prefix form.has_sids records line.inserter ++ ended text)) ++ formed_text form records (suc number) lines)
+    ap (λ text. (tabbed form.module_name ++ (tabbed (sid_before form.has_sids records line.inserter) ++ ended text)) ++ formed_text form records (suc number) lines)
     (stays form.facts number line.text (first_false (list_any is_keyword (parts line.text)) (has_keywords (texts lines)) none))
     ∙ ap (λ rest. formed_line (unreplaced form) records number line ++ rest)
     (without_keywords form records (suc number) lines (rest_false (list_any is_keyword (parts line.text)) (has_keywords (texts lines)) none))

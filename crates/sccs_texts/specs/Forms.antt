@@ -26,25 +26,20 @@ form_of form = record {
   facts = option_map (λ facts. facts.now) form.facts;
 }
 
--- the module name and a tab
-abbrev pub module_prefix : Option (List ℕ) → List ℕ
-module_prefix None = []
-module_prefix (Some name) = name ++ 9 ∷ []
+-- a text and a tab, where there is one
+abbrev pub tabbed : Option (List ℕ) → List ℕ
+tabbed None = []
+tabbed (Some text) = text ++ 9 ∷ []
 
 -- the SID of the record with a serial
 abbrev pub sid_of_serial : List Record → ℕ → Option Sid
 sid_of_serial [] serial = None
 sid_of_serial (r ∷ rs) serial = if r.serial == serial then Some r.sid else sid_of_serial rs serial
 
--- a SID and a tab
-abbrev pub tabbed : Option Sid → List ℕ
-tabbed None = []
-tabbed (Some sid) = sid_text sid ++ 9 ∷ []
-
--- the SID of the delta that inserted a line, and a tab, where SIDs stand before lines
-abbrev pub sid_prefix : Bool → List Record → ℕ → List ℕ
-sid_prefix false records inserter = []
-sid_prefix true records inserter = tabbed (sid_of_serial records inserter)
+-- the SID of the delta that inserted a line, where SIDs stand before lines
+abbrev pub sid_before : Bool → List Record → ℕ → Option (List ℕ)
+sid_before false records inserter = None
+sid_before true records inserter = option_map sid_text (sid_of_serial records inserter)
 
 -- the line with a number, its keywords replaced where they are
 abbrev pub replaced : Option Facts → ℕ → List ℕ → List ℕ
@@ -54,7 +49,7 @@ replaced (Some facts) number line = expanded facts number line
 -- what is given for bytes that a delta inserted as a line, which is the one with this number in its text
 abbrev pub formed : LineForm → List Record → ℕ → ℕ → List ℕ → List ℕ
 formed form records number inserter line =
-    module_prefix form.module_name ++ (sid_prefix form.has_sids records inserter ++ ended (replaced form.facts number line))
+    tabbed form.module_name ++ (tabbed (sid_before form.has_sids records inserter) ++ ended (replaced form.facts number line))
 
 abbrev pub formed_line : LineForm → List Record → ℕ → HistoryLine → List ℕ
 formed_line form records number line = formed form records number line.inserter line.text

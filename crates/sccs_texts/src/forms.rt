@@ -5,13 +5,13 @@ ghost use Rattle.sccs_base.specs.Cut.{cut};
 ghost use Rattle.sccs_grammar.specs.Written.{ended};
 ghost use Rattle.sccs_keys.specs.Expansion.{expanded, HasMoments};
 ghost use Rattle.sccs_keys.specs.Keywords.{is_keyword, parts};
-ghost use Rattle.sccs_texts.specs.Forms.{form_of, formed, formed_lines, has_prefix, if_replaced, module_prefix, replaced, sid_prefix, tabbed};
+ghost use Rattle.sccs_texts.specs.Forms.{form_of, formed, formed_lines, has_prefix, if_replaced, replaced, sid_before, tabbed};
 
 use crate::finders::SidFinder;
 use memchr::memchr;
 use sccs_base::{Failed, Line, Sink, give_parts};
-use sccs_history::Sid;
 use sccs_keys::{Facts, expand, has_keyword};
+use sccs_sid::DETAIL_ROOM;
 
 /// How the lines of a version are given: POSIX get, -m, -n, and "Identification Keywords".
 #[derive(Clone, Copy)]
@@ -25,6 +25,13 @@ pub struct LineForm<'a> {
 }
 
 impl<'a> LineForm<'a> {
+    // the module name, where it stands before lines
+    fn module_text(&self) -> Option<&[u8]>
+        ensures { option_map (λ (b : _). b.now) result ≡ (form_of self.now).module_name }
+    {
+        self.module_name.map(Line::bytes)
+    }
+
     /// Whether something stands before each line.
     pub fn has_prefix(&self) -> bool
         ensures { result ≡ has_prefix (form_of self.now) }
@@ -40,43 +47,30 @@ impl<'a> LineForm<'a> {
     }
 }
 
-// gives the module name and a tab, where the name is given
-fn give_module<S: Sink>(name: Option<&Line>, out: &mut S) -> Result<(), Failed>
-    ensures { GivesText (module_prefix (option_map (λ n. n.now) name.entry)) (S.given out.old) (S.given out.new) (S.faults out.old) (S.faults out.new) result }
-{
-    match name {
-        Some(name) => give_parts(out, &[name.bytes(), b"\t"]),
-        None => Ok(()),
-    }
-}
-
-// gives a SID and a tab, where there is one
-fn give_tabbed<S: Sink>(sid: Option<Sid>, out: &mut S) -> Result<(), Failed>
-    ensures { GivesText (tabbed sid) (S.given out.old) (S.given out.new) (S.faults out.old) (S.faults out.new) result }
-{
-    let Some(sid) = sid else {
-        return Ok(());
-    };
-    if let Err(fault) = sid.write(out) {
-        return Err(fault);
-    }
-    out.give(b"\t")
-}
-
-// gives the SID of a line's inserter and a tab, where SIDs stand before lines
-fn give_sid<S: Sink>(
+// the SID of a line's inserter, where SIDs stand before lines, put at the start of a row of bytes
+fn sid_before<'a>(
     has_sids: bool,
     sids: &mut SidFinder,
     inserter: u16,
-    out: &mut S,
-) -> Result<(), Failed>
-    ensures text { GivesText (sid_prefix has_sids sids.old inserter) (S.given out.old) (S.given out.new) (S.faults out.old) (S.faults out.new) result }
+    row: &'a mut [u8; DETAIL_ROOM],
+) -> Option<&'a [u8]>
+    ensures text { option_map (λ (b : _). b.now) result ≡ sid_before has_sids sids.old inserter }
     ensures table { sids.new ≡ sids.old }
 {
-    if has_sids {
-        give_tabbed(sids.find(inserter), out)
-    } else {
-        Ok(())
+    if !has_sids {
+        return None;
+    }
+    let sid = sids.find(inserter)?;
+    Some(sid.text(row))
+}
+
+// gives a text and a tab, where there is a text
+fn give_tabbed<S: Sink>(text: Option<&[u8]>, out: &mut S) -> Result<(), Failed>
+    ensures { GivesText (tabbed (option_map (λ t. t.now) text.entry)) (S.given out.old) (S.given out.new) (S.faults out.old) (S.faults out.new) result }
+{
+    match text {
+        Some(text) => give_parts(out, &[text, b"\t"]),
+        None => Ok(()),
     }
 }
 
@@ -112,6 +106,27 @@ fn give_replaced<S: Sink>(
     }
 }
 
+// gives a line behind the module name and the SID, where these stand before lines
+fn give_behind<S: Sink>(
+    form: &LineForm,
+    sid: Option<&[u8]>,
+    number: u64,
+    line: &[u8],
+    out: &mut S,
+) -> Result<(), Failed>
+    requires { IfSome (form_of form.now).facts HasMoments }
+    ensures { GivesText (tabbed (form_of form.now).module_name ++ (tabbed (option_map (λ t. t.now) sid.entry) ++ ended (replaced (form_of form.now).facts number line.now)))
+        (S.given out.old) (S.given out.new) (S.faults out.old) (S.faults out.new) result }
+{
+    if let Err(fault) = give_tabbed(form.module_text(), out) {
+        return Err(fault);
+    }
+    if let Err(fault) = give_tabbed(sid, out) {
+        return Err(fault);
+    }
+    give_replaced(form.facts, number, line, out)
+}
+
 /// Gives a line of a version: the module name and a tab with -n, the SID of the delta that inserted it
 /// and a tab with -m, the line, and LF. `number` is that of the line in its text, from 1.
 pub fn give_line<S: Sink>(
@@ -126,13 +141,9 @@ pub fn give_line<S: Sink>(
     ensures text { GivesText (formed (form_of form.now) sids.old number inserter line.now) (S.given out.old) (S.given out.new) (S.faults out.old) (S.faults out.new) result }
     ensures table { sids.new ≡ sids.old }
 {
-    if let Err(fault) = give_module(form.module_name, out) {
-        return Err(fault);
-    }
-    if let Err(fault) = give_sid(form.has_sids, sids, inserter, out) {
-        return Err(fault);
-    }
-    give_replaced(form.facts, number, line, out)
+    let mut row = [0; DETAIL_ROOM];
+    let sid = sid_before(form.has_sids, sids, inserter, &mut row);
+    give_behind(form, sid, number, line, out)
 }
 
 /// Gives whole lines that one delta inserted, each as `give_line` does. So many lines stand before them in
@@ -151,11 +162,13 @@ pub fn give_lines<S: Sink>(
     ensures text { GivesText (formed_lines (form_of form.now) sids.old (before + 1) inserter (cut lines.now).lines) (S.given out.old) (S.given out.new) (S.faults out.old) (S.faults out.new) result }
     ensures table { sids.new ≡ sids.old }
 {
+    let mut row = [0; DETAIL_ROOM];
+    let sid = sid_before(form.has_sids, sids, inserter, &mut row);
     let mut before = before;
     let mut from = 0;
     'lines: while let Some(place) = memchr(b'\n', &lines[from..]) {
         let end = from + place;
-        if let Err(fault) = give_line(form, sids, inserter, before + 1, &lines[from..end], out) {
+        if let Err(fault) = give_behind(form, sid, before + 1, &lines[from..end], out) {
             return Err(fault);
         }
         before += 1;
