@@ -1,5 +1,5 @@
 -- What get -e decides.
-use Rattle.std.proofs.Common.{◌≡◌, ℕ, zero, suc, All, ◌+◌, ◌<◌, Bool, true, false, not, ◌&&◌, ◌||◌, List, [], ◌∷◌, ◌++◌, length, take, insert, get_or, Option, None, Some, Result, Ok, Err, refl, sym, ap, subst, ◌∙◌, arith, append-nil, add-one}
+use Rattle.std.proofs.Common.{◌≡◌, ℕ, zero, suc, All, ◌+◌, ◌<◌, Bool, true, false, not, ◌&&◌, ◌||◌, List, [], ◌∷◌, ◌++◌, length, take, insert, get_or, Option, None, Some, Result, Ok, Err, refl, sym, ap, ◌∙◌, arith, append-nil, add-one}
 use Rattle.std.proofs.Math.Seq.{take-suc}
 use Rattle.std.proofs.lemmas.Grind.{flat_map-append}
 use Rattle.std.proofs.lemmas.List.Elements.{All-append}
@@ -29,13 +29,9 @@ use Rattle.sccs_sid.specs.declared.refusals.StepFault.TheVariants.{Refused, Memo
 use Rattle.sccs_history.specs.declared.headers.Header.{Header}
 use Rattle.sccs_pfile.specs.declared.entries.Edit.{Edit}
 use Rattle.sccs_words.specs.declared.commands.GetWords.{GetWords}
-use Rattle.sccs_pending.specs.NewEntries.{Decided}
 use Rattle.sccs_pending.specs.PFiles.{Answers}
-use Rattle.sccs_pending.specs.Pending.{Found}
-use Rattle.sccs_pending.specs.declared.pending.Pending.{Pending}
-use Rattle.sccs_pending.proofs.EntryChanges.{ShowsFound}
 use Rattle.sccs_get.specs.NewEntry.{free_sid, is_got, new_edit, new_entry, release_asked, released, reserved, single, singles}
-use Rattle.sccs_get.specs.GetStep.{asked, spec_asked}
+use Rattle.sccs_get.specs.AskedVersion.{asked, spec_asked}
 use Rattle.sccs_get.specs.declared.targets.Asked.{Asked}
 use Rattle.sccs_get.proofs.EntrySids.{made_sid, sid_there}
 

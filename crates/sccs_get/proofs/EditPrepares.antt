@@ -1,5 +1,5 @@
 -- What is prepared of an edit.
-use Rattle.std.proofs.Common.{◌≡◌, ℕ, Bool, true, false, List, [], ◌∷◌, ◌++◌, drop, Option, None, Some, Result, Ok, Err, refl, sym, ap, subst, ◌∙◌}
+use Rattle.std.proofs.Common.{◌≡◌, ℕ, Bool, true, false, List, [], drop, Option, None, Some, Result, Ok, Err, refl, sym, ap, subst, ◌∙◌}
 use Rattle.std.specs.Prelude.{IfSome}
 use Rattle.std.specs.Result.{IfOk}
 use Rattle.sccs_base.specs.Name.{IsSfile, sibling}
@@ -18,13 +18,13 @@ use Rattle.sccs_history.specs.declared.headers.Item.{Item}
 use Rattle.sccs_table.specs.FrontFile.{IsPlaced}
 use Rattle.sccs_table.specs.ReaderState.{bytes_in}
 use Rattle.sccs_versions.specs.Coming.{IsBody}
-use Rattle.sccs_files.specs.StepFiles.{is_working, look}
+use Rattle.sccs_files.specs.StepFiles.{look}
 use Rattle.sccs_moments.proofs.FileNames.{from_g, from_s}
 use Rattle.sccs_pending.specs.Pending.{bytes_at}
 use Rattle.sccs_pending.proofs.PendingLaws.{shown_header}
 use Rattle.sccs_steps.specs.Actions.{RefusesWithin}
 use Rattle.sccs_steps.specs.Calls.{world}
-use Rattle.sccs_steps.specs.StepEffects.{Outcome, StepEffect}
+use Rattle.sccs_steps.specs.StepEffects.{Outcome}
 use Rattle.sccs_transactions.specs.Changes.{CouldPrepare, IsUnmade, Prepares, PreparesChange, unlocked}
 use Rattle.sccs_transactions.specs.declared.prepared.Prepared.{Prepared}
 use Rattle.sccs_words.specs.declared.commands.GetWords.{GetWords}

@@ -1,7 +1,6 @@
 -- What a commit needs of an edit that is prepared, and what a stop leaves of it.
-use Rattle.std.proofs.Common.{◌≡◌, ◌≢◌, ℕ, Bool, true, false, List, [], ◌∷◌, ◌++◌, All, drop, Option, None, Some, Result, Ok, Err, refl, sym, ap, subst, ◌∙◌}
+use Rattle.std.proofs.Common.{◌≡◌, ℕ, Bool, true, false, List, [], ◌∷◌, ◌++◌, All, drop, Option, None, Some, Ok, refl, sym, ap, subst, ◌∙◌}
 use Rattle.std.specs.Prelude.{IfSome, IsSome, if◌then◌else◌}
-use Rattle.std.specs.List.{AllByRecursion}
 use Rattle.std.specs.Str.{bytes_eq}
 use Rattle.std.proofs.lemmas.List.Elements.{recursion_from_All}
 use Rattle.sccs_base.specs.Name.{IsSfile, sibling}
@@ -12,15 +11,14 @@ use Rattle.sccs_disk.specs.Told.{Told, seen}
 use Rattle.sccs_images.specs.Touches.{Leaves, Touches, TouchesOnly, Touching, earlier, newest as newest_model}
 use Rattle.sccs_images.proofs.Touched.{each_newest, firm_touched}
 use Rattle.sccs_history.specs.History.{lives}
-use Rattle.sccs_history.specs.declared.headers.Record.{Record}
 use Rattle.sccs_files.specs.StepFiles.{Moves}
 use Rattle.sccs_moments.proofs.FileNames.{from_s}
 use Rattle.sccs_moments.proofs.Joined.{newest_is}
 use Rattle.sccs_pfile.specs.Agreement.{Agrees}
 use Rattle.sccs_pfile.specs.Entries.{IsEdit}
-use Rattle.sccs_pfile.specs.Recovered.{is_done, pfile_of, recovered_pfile}
+use Rattle.sccs_pfile.specs.Recovered.{is_done, recovered_pfile}
 use Rattle.sccs_pfile.specs.declared.entries.Edit.{Edit}
-use Rattle.sccs_pending.specs.NewEntries.{Decided, IsDecided, PreparesEntries, kept_g}
+use Rattle.sccs_pending.specs.NewEntries.{IsDecided, PreparesEntries, kept_g}
 use Rattle.sccs_pending.specs.Pending.{AnswersPending}
 use Rattle.sccs_pending.specs.declared.pending.Pending.{Pending}
 use Rattle.sccs_pending.proofs.StopLaws.{agreeing_undone, decided_settles}
@@ -35,7 +33,7 @@ use Rattle.sccs_transactions.specs.declared.prepared.Prepared.{Prepared}
 use Rattle.sccs_words.specs.declared.commands.GetWords.{GetWords}
 use Rattle.sccs_get.specs.EditGiving.{new_g}
 use Rattle.sccs_get.specs.VersionStep.{writes_g}
-use Rattle.sccs_get.proofs.EditLaws.{all_and, each_and, never_empty}
+use Rattle.sccs_get.proofs.EditLaws.{all_and, each_and}
 
 abbrev pub edit_prepared : NewFile → NewFile → List ℕ → List ℕ → Prepared
 edit_prepared new_p g report message = record { new_s = false; new_p = new_p; new_g = g; report = report; message = message }

@@ -1,9 +1,9 @@
 -- What is prepared of an edit behind its checks.
-use Rattle.std.proofs.Common.{◌≡◌, ℕ, Bool, true, false, List, [], ◌∷◌, ◌++◌, length, drop, Option, None, Some, Result, Ok, Err, refl, sym, ap, subst, ◌∙◌}
-use Rattle.std.specs.Prelude.{IfSome, IsSome, is_some, if◌then◌else◌}
+use Rattle.std.proofs.Common.{◌≡◌, ℕ, Bool, true, false, List, [], ◌∷◌, ◌++◌, length, drop, Option, None, Some, Ok, Err, refl, sym, ap, subst, ◌∙◌}
+use Rattle.std.specs.Prelude.{IfSome, is_some, if◌then◌else◌}
 use Rattle.std.specs.Str.{bytes_eq}
 use Rattle.sccs_base.specs.Name.{IsSfile, sibling}
-use Rattle.sccs_base.specs.Stream.{GivesOk, GivesSome}
+use Rattle.sccs_base.specs.Stream.{GivesSome}
 use Rattle.sccs_base.proofs.Gifts.{some_none, some_of_whole}
 use Rattle.sccs_disk.specs.Files.{Content, View, put}
 use Rattle.sccs_disk.proofs.Puts.{put_other, put_same}
@@ -22,24 +22,21 @@ use Rattle.sccs_files.specs.StepFiles.{Files, Moves, is_working, look}
 use Rattle.sccs_moments.proofs.FileNames.{from_g, from_s, no_q, no_y}
 use Rattle.sccs_pfile.specs.Recovered.{pfile_of}
 use Rattle.sccs_pfile.specs.declared.entries.Edit.{Edit}
-use Rattle.sccs_printing.specs.Counted.{shown_of}
 use Rattle.sccs_printing.specs.declared.shown.Shown.{Shown}
 use Rattle.sccs_steps.specs.Actions.{RefusesWithin}
-use Rattle.sccs_steps.specs.Calls.{World, world}
-use Rattle.sccs_steps.specs.StepEffects.{Outcome, StepEffect, effect_of}
+use Rattle.sccs_steps.specs.Calls.{world}
+use Rattle.sccs_steps.specs.StepEffects.{StepEffect}
 use Rattle.sccs_store.specs.Commits.{Becomes, chosen, files_after, plan}
 use Rattle.sccs_store.specs.declared.new_files.NewFile.{NewFile}
 use Rattle.sccs_store.specs.declared.new_files.NewFile.TheVariants.{Keep, Replace}
 use Rattle.sccs_store.proofs.Working.{moves_then, moves_wider}
-use Rattle.sccs_texts.specs.Forms.{has_keywords, texts}
-use Rattle.sccs_transactions.specs.Changes.{IsPrepared, IsUnmade, Prepares, plan_of, unlocked}
-use Rattle.sccs_transactions.specs.declared.prepared.Prepared.{Prepared}
+use Rattle.sccs_transactions.specs.Changes.{IsUnmade, Prepares, unlocked}
 use Rattle.sccs_words.specs.declared.commands.GetWords.{GetWords}
 use Rattle.sccs_get.specs.EditGiving.{new_g}
 use Rattle.sccs_get.specs.EditStep.{edited}
-use Rattle.sccs_get.specs.Giving.{GivesVersion, IsGiven, IsLate, printed, with_y}
+use Rattle.sccs_get.specs.Giving.{GivesVersion, IsLate, with_y}
 use Rattle.sccs_get.specs.Reports.{get_report, get_warning, replaces, said_on_err, said_on_out}
-use Rattle.sccs_get.specs.VersionStep.{form_in, stays_writable, text_in, writes_g}
+use Rattle.sccs_get.specs.VersionStep.{stays_writable, text_in, writes_g}
 use Rattle.sccs_get.specs.declared.found.Found.{Found}
 use Rattle.sccs_get.proofs.ReadyLaws.{report_same, warning_same}
 

@@ -1,5 +1,5 @@
 -- The version that is found, part by part.
-use Rattle.std.proofs.Common.{◌≡◌, ℕ, List, Option, Some, Result, Ok, Err, refl, sym, ap, subst, ◌∙◌}
+use Rattle.std.proofs.Common.{◌≡◌, ℕ, List, Option, Some, Result, Ok, Err, refl, sym, ap, ◌∙◌}
 use Rattle.sccs_sid.specs.Reading.{◌>>=◌}
 use Rattle.sccs_sid.specs.declared.moments.Stamp.{Stamp}
 use Rattle.sccs_sid.specs.declared.sids.Sid.{Sid}
@@ -15,7 +15,7 @@ use Rattle.sccs_steps.specs.StepEffects.{there}
 use Rattle.sccs_pending.specs.PFiles.{Answers}
 use Rattle.sccs_words.specs.declared.commands.GetWords.{GetWords}
 use Rattle.sccs_get.specs.NewEntry.{singles}
-use Rattle.sccs_get.specs.GetStep.{asked}
+use Rattle.sccs_get.specs.AskedVersion.{asked}
 use Rattle.sccs_get.specs.VersionStep.{facts_in, found_of, module_in}
 use Rattle.sccs_get.specs.declared.found.Found.{Found}
 use Rattle.sccs_get.specs.declared.targets.Asked.{Asked}

@@ -1,6 +1,6 @@
 -- The moments of a get that writes a g-file.
-use Rattle.std.proofs.Common.{◌≡◌, ℕ, Bool, true, false, not, List, drop, map, Option, None, Some, is_some, option_map, Result, Ok, Err, inl, inr, refl, sym, ap, subst, ◌∙◌, ⊎_elim, arith}
-use Rattle.std.specs.Prelude.{IfSome, if◌then◌else◌}
+use Rattle.std.proofs.Common.{◌≡◌, ℕ, Bool, true, false, not, List, drop, Option, None, Some, is_some, Result, Ok, Err, inl, inr, refl, sym, ap, subst, ◌∙◌}
+use Rattle.std.specs.Prelude.{if◌then◌else◌}
 use Rattle.std.specs.Str.{bytes_eq}
 use Rattle.sccs_base.specs.Name.{IsSfile, sibling}
 use Rattle.sccs_sid.specs.declared.moments.Stamp.{Stamp}
@@ -19,15 +19,15 @@ use Rattle.sccs_gfiles.specs.Placing.{HasMade}
 use Rattle.sccs_gfiles.proofs.MadeWhole.{ends_after, ends_pairs, ends_within}
 use Rattle.sccs_moments.specs.Calm.{IsCalm}
 use Rattle.sccs_moments.specs.Moments.{EndsAfter, EndsBefore, IsAt}
-use Rattle.sccs_moments.specs.Recovery.{IsSound, RecoversAs, is_kept}
+use Rattle.sccs_moments.specs.Recovery.{RecoversAs, is_kept}
 use Rattle.sccs_moments.proofs.FileNames.{kept_p, kept_s, kept_z, no_y, to_g}
 use Rattle.sccs_moments.proofs.Joined.{numbered_as}
 use Rattle.sccs_moments.proofs.Recovering.{recovers_then, same_recovers}
 use Rattle.sccs_moments.proofs.Untouched.{before_after, before_within, ends_working}
-use Rattle.sccs_steps.specs.Actions.{Action, IsHeard}
+use Rattle.sccs_steps.specs.Actions.{Action}
 use Rattle.sccs_steps.specs.Calls.{Meets, scene, world}
 use Rattle.sccs_steps.specs.StepEffects.{Outcome, effect_of}
-use Rattle.sccs_steps.specs.StepStops.{After, Before, Ends, IsPaired, IsSafe, IsSafeFor, MeetsAt, Place, StepMoments, Within, place_of}
+use Rattle.sccs_steps.specs.StepStops.{Ends, IsSafe, IsSafeFor, MeetsAt, StepMoments, place_of}
 use Rattle.sccs_store.specs.Commits.{Becomes}
 use Rattle.sccs_transactions.specs.declared.prepared.Prepared.{Prepared}
 use Rattle.sccs_words.specs.declared.commands.GetWords.{GetWords}

@@ -1,6 +1,6 @@
 -- What giving a text, placing a g-file and giving up say.
-use Rattle.std.proofs.Common.{◌≡◌, ◌≤◌, ◌⊎◌, ℕ, Bool, true, false, not, ◌||◌, List, [], Option, None, Some, option_map, Result, Ok, Err, inl, inr, refl, sym, ap, subst, ◌∙◌, arith}
-use Rattle.std.specs.Prelude.{IfSome, if◌then◌else◌}
+use Rattle.std.proofs.Common.{◌≡◌, ◌≤◌, ℕ, Bool, true, false, not, ◌||◌, List, [], Option, None, Some, Result, Ok, Err, inl, inr, refl, sym, ap, subst, ◌∙◌, arith}
+use Rattle.std.specs.Prelude.{if◌then◌else◌}
 use Rattle.std.specs.Result.{IfOk}
 use Rattle.std.specs.Str.{bytes_eq}
 use Rattle.sccs_base.specs.Name.{sibling}
@@ -11,7 +11,6 @@ use Rattle.sccs_sid.specs.declared.refusals.StepFault.{StepFault}
 use Rattle.sccs_sid.specs.declared.refusals.StepFault.TheVariants.{Refused, Memory, ReadFault, WriteFault, DiskFault}
 use Rattle.sccs_disk.specs.Files.{View, put}
 use Rattle.sccs_disk.specs.Told.{Told}
-use Rattle.sccs_files.specs.StepFiles.{Moves}
 use Rattle.sccs_gfiles.specs.Placing.{PlaceEnds}
 use Rattle.sccs_gfiles.specs.declared.modes.Mode.{Mode}
 use Rattle.sccs_history.specs.Body.{HistoryLine}
@@ -23,7 +22,7 @@ use Rattle.sccs_printing.specs.Targets.{Prints}
 use Rattle.sccs_printing.specs.declared.shown.Shown.{Shown}
 use Rattle.sccs_moments.specs.Recovery.{without}
 use Rattle.sccs_pending.specs.PFiles.{OnlyReads}
-use Rattle.sccs_steps.specs.Calls.{World, world}
+use Rattle.sccs_steps.specs.Calls.{world}
 use Rattle.sccs_steps.specs.Causes.{PrintCauses}
 use Rattle.sccs_store.specs.Commits.{Becomes}
 use Rattle.sccs_store.proofs.Working.{moves_same}
@@ -41,15 +40,15 @@ has_text : (b : Bool) (x : List ℕ) → b ≡ false → (if b then [] else x) �
 has_text true x is = absurd cc
 has_text false x is = refl
 
-goes_out : (b : Bool) (x : List ℕ) → b ≡ true → (if b then x else []) ≡ x
+pub goes_out : (b : Bool) (x : List ℕ) → b ≡ true → (if b then x else []) ≡ x
 goes_out true x is = refl
 goes_out false x is = absurd cc
 
-goes_nowhere : (b : Bool) (x : List ℕ) → b ≡ false → (if b then x else []) ≡ []
+pub goes_nowhere : (b : Bool) (x : List ℕ) → b ≡ false → (if b then x else []) ≡ []
 goes_nowhere true x is = absurd cc
 goes_nowhere false x is = refl
 
-none_written : (p t : Bool) → p ≡ true → not (p || t) ≡ false
+pub none_written : (p t : Bool) → p ≡ true → not (p || t) ≡ false
 none_written true t is = refl
 none_written false t is = absurd cc
 

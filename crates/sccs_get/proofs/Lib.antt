@@ -13,3 +13,4 @@ pub mod SpeakLaws
 pub mod StepEnds
 pub mod StepLaws
 pub mod TargetLaws
+pub mod WholeLaws

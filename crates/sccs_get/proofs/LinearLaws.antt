@@ -1,10 +1,11 @@
 -- The lines that a get of a linear file finds.
-use Rattle.std.proofs.Common.{◌≡◌, ℕ, Bool, true, false, List, [], ◌∷◌, Option, None, Some, Result, Ok, refl, sym, ap, subst, ◌∙◌, eq-eqb}
-use Rattle.std.specs.Prelude.{◌==◌, option_map, find, if◌then◌else◌}
+use Rattle.std.proofs.Common.{◌≡◌, ℕ, Bool, true, false, List, [], ◌∷◌, Option, None, Some, Ok, refl, ap, subst, ◌∙◌, eq-eqb}
+use Rattle.std.specs.Prelude.{◌==◌, not, ◌&&◌, ◌||◌, option_map, find, if◌then◌else◌}
 use Rattle.sccs_sid.specs.declared.moments.Stamp.{Stamp}
 use Rattle.sccs_sid.specs.declared.sids.Sid.{Sid}
 use Rattle.sccs_sid.specs.declared.sids.Spec.{Spec}
 use Rattle.sccs_sid.specs.declared.sid_lists.Range.{Range}
+use Rattle.sccs_sid.specs.declared.refusals.Refusal.TheVariants as refusals
 use Rattle.sccs_history.specs.Numbers.{front_if, is_empty}
 use Rattle.sccs_history.specs.Applied.{applied, newest, version, version_of}
 use Rattle.sccs_history.specs.Body.{HistoryLine, lines_of}
@@ -13,21 +14,32 @@ use Rattle.sccs_history.specs.Select.{select, shows}
 use Rattle.sccs_history.specs.declared.headers.Record.{Record}
 use Rattle.sccs_history.specs.declared.headers.Header.{Header}
 use Rattle.sccs_history.proofs.LinearTables.{version_linear_body, undeleted_all}
+use Rattle.sccs_flags.specs.FlagValues.{has_flag}
 use Rattle.sccs_grammar.specs.File.{Parsed, answer, file_of}
+use Rattle.sccs_grammar.specs.Written.{bytes_of}
 use Rattle.sccs_body.proofs.FileLaws.{file_body}
 use Rattle.sccs_sets.specs.Flags.{default_of}
 use Rattle.sccs_sets.specs.Retrieved.{retrieved}
 use Rattle.sccs_sets.specs.Sets.{sid_at}
 use Rattle.sccs_sets.specs.Trunks.{IsTrunk}
 use Rattle.sccs_sets.proofs.Trunks.{newest_of_trunk}
-use Rattle.sccs_texts.specs.Forms.{texts}
+use Rattle.sccs_texts.specs.Forms.{has_keywords, texts}
+use Rattle.sccs_texts.proofs.TextLaws.{as_they_are}
+use Rattle.sccs_keys.specs.declared.facts.Facts.{Facts}
+use Rattle.sccs_facts.specs.VersionFacts.{facts_of, module_name}
+use Rattle.sccs_printing.specs.Printing.{version_text}
+use Rattle.sccs_files.specs.StepFiles.{Files}
+use Rattle.sccs_pending.specs.Pending.{bytes_at}
+use Rattle.sccs_steps.specs.StepEffects.{check}
 use Rattle.sccs_versions.specs.Coming.{shown}
 use Rattle.sccs_words.specs.declared.commands.GetWords.{GetWords}
 use Rattle.sccs_get.specs.NewEntry.{singles}
-use Rattle.sccs_get.specs.GetStep.{asked, listed, spec_asked}
-use Rattle.sccs_get.specs.Linear.{AsksNewest, FindsTexts, IsLinearFile}
-use Rattle.sccs_get.specs.VersionStep.{facts_in, module_in}
+use Rattle.sccs_get.specs.AskedVersion.{asked, listed, spec_asked}
+use Rattle.sccs_get.specs.Linear.{AsksNewest, GivesLinesPlain, GivesTexts, IsLinearFile, StepGives}
+use Rattle.sccs_get.specs.VersionStep.{facts_in, form_in, found_of, g_is_free, got, has_its_keywords, is_in_the_way, lines_in, module_in, stays_writable, text_in, with_g}
+use Rattle.sccs_get.specs.declared.found.Found.{Found}
 use Rattle.sccs_get.proofs.FoundLaws.{found_so, found_with}
+use Rattle.sccs_get.proofs.ReadyLaws.{is_got}
 use Rattle.sccs_get.proofs.TargetLaws.{asked_at, asked_by, set_by}
 
 spec_none : (words : GetWords) (header : Header) → words.spec ≡ None → default_of header.flags ≡ None → spec_asked words header ≡ None
@@ -66,22 +78,68 @@ shown_texts : (set : List ℕ) (lines : List HistoryLine) → texts (shown set l
 shown_texts set [] = refl
 shown_texts set (line ∷ lines) = texts_by (shows set line) line (shown set lines) (select set lines) (shown_texts set lines)
 
-module _ (words : GetWords) (stamp : Stamp) (place n : List ℕ) (file : Option (List ℕ)) (parsed : Parsed) where
-  pub version_found : answer file_of file ≡ Ok parsed → AsksNewest words → IsLinearFile parsed → FindsTexts words stamp place n parsed (version (newest parsed.header.records) parsed.header.records (lines_of parsed.items))
+-- ---- what is given
+
+found_module : (words : GetWords) (header : Header) (n : List ℕ) → words.«module» ≡ false → module_in words header n ≡ None
+found_module words header n none = ap (λ (b : Bool). if b then Some (module_name header.flags n) else None) none
+
+found_facts : (words : GetWords) (stamp : Stamp) (place n : List ℕ) (header : Header) (set : List ℕ) (target : ℕ) (sid : Sid) → words.keep ≡ true → facts_in words stamp place n header set target sid ≡ None
+found_facts words stamp place n header set target sid keep = ap (λ (b : Bool). if not (b || (words.edit || words.no_text)) then Some (facts_of header set target sid n place stamp) else None) keep
+
+module _ (words : GetWords) (stamp : Stamp) (place n : List ℕ) (heading : Bool) (f : Files) (parsed : Parsed) where
+  -- a version whose lines are given as they are
+  plain_text : (found : Found) (lines : List (List ℕ)) → GivesLinesPlain words → found.«module» ≡ None → found.facts ≡ None → texts (lines_in found parsed.items) ≡ lines
+      → text_in words parsed.header.records found (lines_in found parsed.items) ≡ bytes_of lines
+  plain_text found lines plain no_module no_facts is =
+      ap (λ (b : Bool). if b then [] else version_text (form_in words found) parsed.header.records (lines_in found parsed.items)) plain.text
+      ∙ (ap (λ (m : Option (List ℕ)). version_text (record { module_name = m; has_sids = words.sids; facts = found.facts }) parsed.header.records (lines_in found parsed.items)) no_module
+      ∙ (ap (λ (b : Bool). version_text (record { module_name = None; has_sids = b; facts = found.facts }) parsed.header.records (lines_in found parsed.items)) plain.sids
+      ∙ (ap (λ (x : Option Facts). version_text (record { module_name = None; has_sids = false; facts = x }) parsed.header.records (lines_in found parsed.items)) no_facts
+      ∙ (as_they_are parsed.header.records 1 (lines_in found parsed.items) ∙ ap bytes_of is))))
+
+  keywords_stay : (lines : List HistoryLine) → words.keep ≡ true → has_its_keywords words parsed.header.flags lines ≡ Ok true
+  keywords_stay lines keep = ap (λ (b : Bool). check (not (not (b || (words.edit || words.no_text)) && has_flag parsed.header.flags 105) || has_keywords (texts lines)) refusals.NoKeywords) keep
+
+  g_free : is_in_the_way words f.g ≡ false → g_is_free words f.g ≡ Ok true
+  g_free free = ap (λ (b : Bool). check (not b) refusals.GExists) free
+
+  may_be_written : words.keep ≡ true → stays_writable words ≡ true
+  may_be_written keep = ap (λ (b : Bool). b || words.edit) keep
+
+  step_gives : (found : Found) (lines : List (List ℕ)) → answer file_of (bytes_at f.s) ≡ Ok parsed → found_of words stamp place n parsed.header ≡ Ok found → found.«module» ≡ None → found.facts ≡ None
+      → texts (lines_in found parsed.items) ≡ lines → GivesLinesPlain words → is_in_the_way words f.g ≡ false → StepGives words stamp place heading n f (bytes_of lines)
+  step_gives found lines is found_is no_module no_facts texts_are plain free =
+      let text : text_in words parsed.header.records found (lines_in found parsed.items) ≡ bytes_of lines = plain_text found lines plain no_module no_facts texts_are in
+      record {
+        effect = got words heading n parsed.header.records f found (lines_in found parsed.items);
+        is = is_got words stamp place heading n f parsed found is found_is (keywords_stay (lines_in found parsed.items) plain.keep) (g_free free);
+        printed = ap (λ t. if words.print then t else []) text;
+        made = λ writes.
+            ap (λ (b : Bool). if b then Some (with_g f (text_in words parsed.header.records found (lines_in found parsed.items)) (stays_writable words)) else None) writes
+            ∙ (ap (λ t. Some (with_g f t (stays_writable words))) text ∙ ap (λ (b : Bool). Some (with_g f (bytes_of lines) b)) (may_be_written plain.keep));
+      }
+
+  pub version_found : answer file_of (bytes_at f.s) ≡ Ok parsed → AsksNewest words → IsLinearFile parsed → GivesTexts words stamp place heading n f parsed (version (newest parsed.header.records) parsed.header.records (lines_of parsed.items))
   version_found is asks linear =
       let header : Header = parsed.header in
       let records : List Record = header.records in
       let set : List ℕ = newest_set records in
-      let sid : (sid : Sid) × (sid_at records (newest records) ≡ Some sid) = head_sid records linear.some in (
-        found_with set (singles records []) (singles records []) sid.0 (module_in words header n) (facts_in words stamp place n header set (newest records) sid.0),
-        found_so words stamp place n header (asked_at (newest records) [] [] set) sid.0 (singles records []) (singles records []) (module_in words header n) (facts_in words stamp place n header set (newest records) sid.0)
-            (newest_asked words header asks linear.default (newest_got records words.top linear.some linear.trunk)) sid.1 refl refl refl refl,
-        shown_texts set (lines_of parsed.items),
-      )
+      let sid : (sid : Sid) × (sid_at records (newest records) ≡ Some sid) = head_sid records linear.some in
+      let found : Found = found_with set (singles records []) (singles records []) sid.0 (module_in words header n) (facts_in words stamp place n header set (newest records) sid.0) in
+      let found_is : found_of words stamp place n header ≡ Ok found =
+      found_so words stamp place n header (asked_at (newest records) [] [] set) sid.0 (singles records []) (singles records []) (module_in words header n) (facts_in words stamp place n header set (newest records) sid.0)
+      (newest_asked words header asks linear.default (newest_got records words.top linear.some linear.trunk)) sid.1 refl refl refl refl in
+      let texts_are : texts (lines_in found parsed.items) ≡ version (newest records) records (lines_of parsed.items) = shown_texts set (lines_of parsed.items) in
+      record {
+        found = found;
+        is = found_is;
+        texts_are = texts_are;
+        step = λ plain free. step_gives found (version (newest records) records (lines_of parsed.items)) is found_is (found_module words header n plain.«module») (found_facts words stamp place n header set (newest records) sid.0 plain.keep) texts_are plain free;
+      }
 
-  pub undeleted_found : answer file_of file ≡ Ok parsed → AsksNewest words → IsLinearFile parsed → FindsTexts words stamp place n parsed (undeleted (lines_of parsed.items))
+  pub undeleted_found : answer file_of (bytes_at f.s) ≡ Ok parsed → AsksNewest words → IsLinearFile parsed → GivesTexts words stamp place heading n f parsed (undeleted (lines_of parsed.items))
   undeleted_found is asks linear =
-      subst (FindsTexts words stamp place n parsed) (version_linear_body parsed.header.records parsed.items linear.linear (file_body file parsed is)) (version_found is asks linear)
+      subst (GivesTexts words stamp place heading n f parsed) (version_linear_body parsed.header.records parsed.items linear.linear (file_body (bytes_at f.s) parsed is)) (version_found is asks linear)
 
-  pub texts_found : answer file_of file ≡ Ok parsed → AsksNewest words → IsLinearFile parsed → has_no_delete parsed.items ≡ true → FindsTexts words stamp place n parsed (texts_of parsed.items)
-  texts_found is asks linear none = subst (FindsTexts words stamp place n parsed) (undeleted_all parsed.items none) (undeleted_found is asks linear)
+  pub texts_found : answer file_of (bytes_at f.s) ≡ Ok parsed → AsksNewest words → IsLinearFile parsed → has_no_delete parsed.items ≡ true → GivesTexts words stamp place heading n f parsed (texts_of parsed.items)
+  texts_found is asks linear none = subst (GivesTexts words stamp place heading n f parsed) (undeleted_all parsed.items none) (undeleted_found is asks linear)

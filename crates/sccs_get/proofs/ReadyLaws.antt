@@ -1,8 +1,7 @@
 -- What is ready behind each check of a get, or why it ended there.
-use Rattle.std.proofs.Common.{◌≡◌, ◌==◌, ℕ, Bool, true, false, cond, not, ◌&&◌, ◌||◌, List, [], ◌++◌, length, Option, None, Some, Result, Ok, Err, refl, sym, ap, subst, ◌∙◌}
+use Rattle.std.proofs.Common.{◌≡◌, ℕ, Bool, true, false, not, ◌||◌, List, [], ◌++◌, length, Option, None, Some, Result, Ok, Err, refl, sym, ap, subst, ◌∙◌}
 use Rattle.std.specs.Prelude.{IfSome, codes, is_some, if◌then◌else◌}
-use Rattle.sccs_base.specs.Name.{sibling}
-use Rattle.sccs_base.specs.Stream.{GivesOk, GivesSome}
+use Rattle.sccs_base.specs.Stream.{GivesSome}
 use Rattle.sccs_base.proofs.Gifts.{some_none, some_of_whole}
 use Rattle.sccs_disk.specs.Files.{View}
 use Rattle.sccs_sid.specs.Reading.{◌>>=◌}
@@ -13,11 +12,10 @@ use Rattle.sccs_sid.specs.declared.moments.Stamp.{Stamp}
 use Rattle.sccs_sid.specs.declared.refusals.Refusal.{Refusal}
 use Rattle.sccs_sid.specs.declared.refusals.StepFault.{StepFault}
 use Rattle.sccs_sid.specs.declared.refusals.StepFault.TheVariants.{Refused, Memory, ReadFault, WriteFault, DiskFault}
-use Rattle.sccs_history.specs.Body.{HistoryLine, lines_of}
+use Rattle.sccs_history.specs.Body.{HistoryLine}
 use Rattle.sccs_history.specs.Numbers.{has}
 use Rattle.sccs_history.specs.declared.headers.Header.{Header}
 use Rattle.sccs_history.specs.declared.headers.Item.{Item}
-use Rattle.sccs_history.specs.declared.headers.Record.{Record}
 use Rattle.sccs_grammar.specs.File.{Parsed, answer, file_of}
 use Rattle.sccs_grammar.specs.Written.{ended}
 use Rattle.sccs_grammar.specs.FileRefusals.{file_fault, or_none, or_refusal, refusal_of}
@@ -41,10 +39,10 @@ use Rattle.sccs_steps.specs.Calls.{World, world}
 use Rattle.sccs_steps.specs.StepEffects.{Outcome, StepEffect, effect_of}
 use Rattle.sccs_steps.proofs.ReadingSteps.{Explains}
 use Rattle.sccs_transactions.specs.declared.prepared.Prepared.{Prepared}
-use Rattle.sccs_get.specs.Giving.{GivesVersion, IsGiven, IsLate, IsReadied, Readies, printed}
+use Rattle.sccs_get.specs.Giving.{GivesVersion, IsGiven, IsLate, Readies, printed}
 use Rattle.sccs_pending.specs.Reports.{heading_text, warning}
 use Rattle.sccs_get.specs.Reports.{get_report, get_warning, lines_text, listed_text, made_text, replaces, said_on_err, said_on_out}
-use Rattle.sccs_get.specs.VersionStep.{form_in, found_of, g_is_free, get_outcome, got, has_its_keywords, lines_in, stays_writable, text_in, with_g, writes_g}
+use Rattle.sccs_get.specs.VersionStep.{form_in, found_of, g_is_free, get_outcome, got, has_its_keywords, lines_in, text_in}
 use Rattle.sccs_get.specs.declared.found.Found.{Found}
 
 module _ (words : GetWords) (stamp : Stamp) (place : List ℕ) (heading : Bool) (n : List ℕ) where

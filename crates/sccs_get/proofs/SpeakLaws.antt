@@ -1,9 +1,9 @@
 -- What a get says over any disk, and why it answers a fault.
-use Rattle.std.proofs.Common.{◌≡◌, ◌≢◌, ◌⊎◌, ℕ, ◌≤◌, Bool, true, false, cond, not, ◌&&◌, ◌||◌, List, [], ◌++◌, take, Option, None, Some, Result, Ok, Err, inl, inr, refl, sym, ap, subst, ◌∙◌, arith, ⊎_elim}
+use Rattle.std.proofs.Common.{◌≡◌, ◌≢◌, ◌⊎◌, ℕ, ◌≤◌, Bool, true, false, not, ◌&&◌, ◌||◌, List, [], ◌++◌, take, Option, None, Result, Ok, Err, inl, inr, refl, sym, ap, subst, ◌∙◌, arith}
 use Rattle.std.specs.Prelude.{codes, if◌then◌else◌}
 use Rattle.std.specs.Str.{bytes_eq}
-use Rattle.sccs_base.specs.Stream.{GivesOk, GivesSome, Rose}
-use Rattle.sccs_base.proofs.Gifts.{gives_none, some_none}
+use Rattle.sccs_base.specs.Stream.{Rose}
+use Rattle.sccs_base.proofs.Gifts.{some_none}
 use Rattle.sccs_sid.specs.Reading.{is_empty}
 use Rattle.sccs_sid.specs.Refusal.{number_of}
 use Rattle.sccs_sid.specs.declared.sids.Sid.{Sid}
@@ -13,9 +13,9 @@ use Rattle.sccs_sid.specs.declared.refusals.StepFault.{StepFault}
 use Rattle.sccs_sid.specs.declared.refusals.StepFault.TheVariants.{Refused, Memory, ReadFault, WriteFault, DiskFault}
 use Rattle.sccs_disk.specs.Files.{View}
 use Rattle.sccs_steps.specs.Actions.{RefusesWithin, SpeaksBy, has_number}
-use Rattle.sccs_steps.specs.Calls.{World, world}
+use Rattle.sccs_steps.specs.Calls.{world}
 use Rattle.sccs_steps.specs.Causes.{PrintCauses, StepCauses, counts}
-use Rattle.sccs_steps.specs.StepEffects.{Outcome, StepEffect}
+use Rattle.sccs_steps.specs.StepEffects.{StepEffect}
 use Rattle.sccs_transactions.specs.declared.prepared.Prepared.{Prepared}
 use Rattle.sccs_transactions.proofs.ChangeCauses.{finished_causes}
 use Rattle.sccs_pending.specs.Reports.{warning}

@@ -1,6 +1,6 @@
 -- How a get ends behind what is ready, over a disk that tells its files.
-use Rattle.std.proofs.Common.{◌≡◌, ◌⊎◌, ℕ, Bool, true, false, cond, not, List, [], ◌++◌, drop, Option, None, Some, option_map, Result, Ok, Err, inl, inr, refl, sym, ap, subst, ◌∙◌, ⊎_elim}
-use Rattle.std.specs.Prelude.{IfSome, if◌then◌else◌}
+use Rattle.std.proofs.Common.{◌≡◌, ◌⊎◌, ℕ, Bool, true, false, List, [], drop, Option, None, Some, option_map, Result, Ok, Err, inl, inr, refl, sym, ap, subst, ◌∙◌, ⊎_elim}
+use Rattle.std.specs.Prelude.{if◌then◌else◌}
 use Rattle.std.specs.Str.{bytes_eq}
 use Rattle.sccs_base.specs.Name.{IsSfile, sibling}
 use Rattle.sccs_base.specs.Stream.{GivesOk, GivesSome}
@@ -14,13 +14,12 @@ use Rattle.sccs_files.specs.StepFiles.{AreCleared, Files, Moves, MovesPartly, is
 use Rattle.sccs_moments.specs.Recovery.{without}
 use Rattle.sccs_base.proofs.SameBytes.{other_bytes, same_bytes}
 use Rattle.sccs_moments.proofs.FileNames.{no_working, no_y, s_and_g, to_g}
-use Rattle.sccs_steps.specs.Calls.{Fails, Interrupted, Made, Meets, ReportCut, Uncommitted, World, world}
-use Rattle.sccs_steps.specs.StepEffects.{Outcome, StepEffect, effect_of}
+use Rattle.sccs_steps.specs.Calls.{Fails, Meets, Uncommitted, World, world}
+use Rattle.sccs_steps.specs.StepEffects.{Outcome, effect_of}
 use Rattle.sccs_store.specs.Commits.{Becomes, MayBecome}
-use Rattle.sccs_transactions.specs.Ends.{IsCut, IsReported}
 use Rattle.sccs_transactions.specs.declared.prepared.Prepared.{Prepared}
 use Rattle.sccs_words.specs.declared.commands.GetWords.{GetWords}
-use Rattle.sccs_get.specs.Giving.{FinishesGet, GivesUpGet, IsGiven, IsReadied, Readies, g_placed, printed, with_y, y_cleared}
+use Rattle.sccs_get.specs.Giving.{FinishesGet, GivesUpGet, IsReadied, Readies, g_placed, with_y, y_cleared}
 use Rattle.sccs_get.specs.VersionStep.{stays_writable, with_g, writes_g}
 
 -- ---- views

@@ -1,5 +1,5 @@
 -- What the parts of a get make of its step.
-use Rattle.std.proofs.Common.{◌≡◌, ◌||◌, ℕ, Bool, true, false, not, List, map, drop, Option, None, Some, Result, Ok, Err, inl, refl, ap, subst, ◌∙◌}
+use Rattle.std.proofs.Common.{◌≡◌, ◌||◌, ℕ, Bool, true, false, not, List, drop, Option, None, Some, Result, Ok, Err, inl, refl, ap}
 use Rattle.std.specs.Prelude.{IfSome}
 use Rattle.std.specs.Str.{bytes_eq}
 use Rattle.sccs_base.specs.Name.{IsSfile, sibling}
@@ -15,13 +15,12 @@ use Rattle.sccs_moments.proofs.FileNames.{both_false, from_sfile, kept_p, kept_s
 use Rattle.sccs_moments.proofs.Unlocked.{is_either, others_then, others_touched, others_wider, unlocked_by, unlocked_same}
 use Rattle.sccs_steps.specs.Actions.{Action, IsHeard, Stepped}
 use Rattle.sccs_steps.specs.Calls.{Meets, scene, world}
-use Rattle.sccs_steps.specs.StepEffects.{Outcome}
 use Rattle.sccs_steps.specs.StepStops.{StepMoments}
 use Rattle.sccs_steps.specs.Unlocked.{StepUnlocked}
 use Rattle.sccs_steps.proofs.ReadingMoments.{reading_moments}
 use Rattle.sccs_transactions.specs.declared.prepared.Prepared.{Prepared}
 use Rattle.sccs_words.specs.declared.commands.GetWords.{GetWords}
-use Rattle.sccs_get.specs.Giving.{FinishesGet, GivesUpGet, Readies}
+use Rattle.sccs_get.specs.Giving.{FinishesGet, GivesUpGet}
 use Rattle.sccs_get.specs.Keeps.{get_keeps}
 use Rattle.sccs_get.specs.VersionStep.{get_action, get_outcome, writes_g}
 use Rattle.sccs_get.proofs.ReadyLaws.{ReadiesAt}

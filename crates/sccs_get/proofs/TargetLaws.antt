@@ -18,7 +18,7 @@ use Rattle.sccs_sets.specs.declared.faults.SetFault.TheVariants.{BadList, Memory
 use Rattle.sccs_words.specs.declared.commands.GetWords.{GetWords}
 use Rattle.sccs_steps.specs.StepEffects.{there}
 use Rattle.sccs_pending.specs.PFiles.{Answers}
-use Rattle.sccs_get.specs.GetStep.{apart, asked, listed, spec_asked}
+use Rattle.sccs_get.specs.AskedVersion.{apart, asked, listed, spec_asked}
 use Rattle.sccs_get.specs.declared.targets.Asked.{Asked}
 
 abbrev pub asked_at : ℕ → List ℕ → List ℕ → List ℕ → Asked

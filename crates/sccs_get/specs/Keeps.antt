@@ -1,11 +1,11 @@
 -- A get that writes no g-file changes no file.
-use Rattle.std.proofs.Common.{◌≡◌, ℕ, Bool, true, false, not, List, None, Some, Option, Result, Ok, Err, refl, subst}
+use Rattle.std.proofs.Common.{◌≡◌, ℕ, Bool, true, false, not, List, None, Some, Result, Ok, Err, refl, subst}
 use Rattle.std.specs.Prelude.{if◌then◌else◌}
-use Rattle.sccs_base.specs.Name.{IsSfile, is_sfile_name, sfile_name_decides}
+use Rattle.sccs_base.specs.Name.{sfile_name_decides}
 use Rattle.sccs_sid.specs.Reading.{◌>>=◌}
 use Rattle.sccs_sid.specs.declared.moments.Stamp.{Stamp}
 use Rattle.sccs_sid.specs.declared.refusals.Refusal.{Refusal}
-use Rattle.sccs_grammar.specs.File.{Parsed, answer, file_of}
+use Rattle.sccs_grammar.specs.File.{answer, file_of}
 use Rattle.sccs_grammar.specs.FileRefusals.{or_refusal}
 use Rattle.sccs_words.specs.declared.commands.GetWords.{GetWords}
 use Rattle.sccs_files.specs.StepFiles.{Files}
@@ -13,7 +13,6 @@ use Rattle.sccs_pending.specs.Pending.{bytes_at}
 use Rattle.sccs_steps.specs.Actions.{KeepsFiles}
 use Rattle.sccs_steps.specs.StepEffects.{Outcome, StepEffect}
 use Rattle.sccs_get.specs.VersionStep.{found_of, g_is_free, get_action, get_outcome, got, has_its_keywords, lines_in, writes_g}
-use Rattle.sccs_get.specs.declared.found.Found.{Found}
 
 -- what is accepted changes no file
 LeavesFiles : Outcome → Type 0

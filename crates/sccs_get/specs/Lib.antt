@@ -1,10 +1,11 @@
+pub mod AskedVersion
 pub mod EditGiving
 pub mod EditStep
 pub mod Edits
-pub mod GetStep
 pub mod Giving
 pub mod Keeps
 pub mod Linear
 pub mod NewEntry
 pub mod Reports
 pub mod VersionStep
+pub mod Whole

@@ -1,13 +1,17 @@
 -- Files without branches, removals, lists and a flag d, and gets that ask for no version.
-use Rattle.std.specs.Prelude.{◌≡◌, ℕ, false, List, None, Ok}
+use Rattle.std.specs.Prelude.{◌≡◌, ℕ, Bool, true, false, List, None, Some, Ok}
 use Rattle.sccs_history.specs.Numbers.{is_empty}
 use Rattle.sccs_history.specs.Linear.{IsLinear}
 use Rattle.sccs_grammar.specs.File.{Parsed}
+use Rattle.sccs_grammar.specs.Written.{bytes_of}
+use Rattle.sccs_files.specs.StepFiles.{Files}
+use Rattle.sccs_steps.specs.StepEffects.{StepEffect}
+use Rattle.sccs_get.specs.Giving.{printed}
 use Rattle.sccs_sets.specs.Trunks.{IsTrunk}
 use Rattle.sccs_sid.specs.declared.moments.Stamp.{Stamp}
 use Rattle.sccs_texts.specs.Forms.{texts}
 use Rattle.sccs_words.specs.declared.commands.GetWords.{GetWords}
-use Rattle.sccs_get.specs.VersionStep.{found_of, lines_in}
+use Rattle.sccs_get.specs.VersionStep.{found_of, get_outcome, is_in_the_way, lines_in, with_g, writes_g}
 use Rattle.sccs_get.specs.declared.found.Found.{Found}
 use Rattle.sccs_sets.specs.Flags.{default_of}
 
@@ -26,6 +30,23 @@ pub record IsLinearFile (parsed : Parsed) : Type 0 where
   pub trunk : IsTrunk parsed.header.records
   pub default : default_of parsed.header.flags ≡ None
 
--- a version is found, and its lines have these texts
-abbrev pub FindsTexts : GetWords → Stamp → List ℕ → List ℕ → Parsed → List (List ℕ) → Type 0
-FindsTexts words stamp place n parsed lines = (found : Found) × (found_of words stamp place n parsed.header ≡ Ok found) × (texts (lines_in found parsed.items) ≡ lines)
+-- Lines are given as they are: keywords stay, and neither module names nor SIDs stand before lines.
+pub record GivesLinesPlain (words : GetWords) : Type 0 where
+  pub text : words.no_text ≡ false
+  pub keep : words.keep ≡ true
+  pub «module» : words.«module» ≡ false
+  pub sids : words.sids ≡ false
+
+-- The step gives a text: to out with -p, else as the g-file, which may be written.
+pub record StepGives (words : GetWords) (stamp : Stamp) (place : List ℕ) (heading : Bool) (n : List ℕ) (f : Files) (text : List ℕ) : Type 0 where
+  pub effect : StepEffect
+  pub is : get_outcome words stamp place heading n f ≡ Ok effect
+  pub printed : effect.text ≡ printed words text
+  pub made : writes_g words ≡ true → effect.new ≡ Some (with_g f text true)
+
+-- A version is found, and its lines have these texts; a get that gives lines as they are gives these, each with LF.
+pub record GivesTexts (words : GetWords) (stamp : Stamp) (place : List ℕ) (heading : Bool) (n : List ℕ) (f : Files) (parsed : Parsed) (lines : List (List ℕ)) : Type 0 where
+  pub found : Found
+  pub is : found_of words stamp place n parsed.header ≡ Ok found
+  pub texts_are : texts (lines_in found parsed.items) ≡ lines
+  pub step : GivesLinesPlain words → is_in_the_way words f.g ≡ false → StepGives words stamp place heading n f (bytes_of lines)

@@ -1,5 +1,5 @@
 -- The entry that get -e makes: POSIX, Shell and Utilities, get, -e.
-use Rattle.std.specs.Prelude.{◌≡◌, ℕ, Bool, true, false, not, ◌&&◌, ◌||◌, List, [], ◌∷◌, map, flat_map, Option, None, Some, Result, Ok, Err}
+use Rattle.std.specs.Prelude.{ℕ, Bool, not, ◌&&◌, ◌||◌, List, [], ◌∷◌, map, flat_map, Option, None, Some, Result, Ok}
 use Rattle.std.specs.List.{list_any}
 use Rattle.sccs_sid.specs.Moment.{IsMoment}
 use Rattle.sccs_sid.specs.Reading.{◌>>=◌}
@@ -21,7 +21,7 @@ use Rattle.sccs_sets.specs.Sets.{sid_at}
 use Rattle.sccs_pfile.specs.declared.entries.Edit.{Edit}
 use Rattle.sccs_steps.specs.StepEffects.{check, there}
 use Rattle.sccs_words.specs.declared.commands.GetWords.{GetWords}
-use Rattle.sccs_get.specs.GetStep.{asked, spec_asked}
+use Rattle.sccs_get.specs.AskedVersion.{asked, spec_asked}
 use Rattle.sccs_get.specs.declared.targets.Asked.{Asked}
 
 -- the numbers of the checks of get -e

@@ -30,7 +30,7 @@ use Rattle.sccs_pending.specs.Pending.{bytes_at}
 use Rattle.sccs_steps.specs.Actions.{Action, has_number}
 use Rattle.sccs_steps.specs.StepEffects.{Outcome, StepEffect, check, there}
 use Rattle.sccs_get.specs.NewEntry.{singles}
-use Rattle.sccs_get.specs.GetStep.{asked}
+use Rattle.sccs_get.specs.AskedVersion.{asked}
 use Rattle.sccs_get.specs.Reports.{get_report, get_warning, replaces, said_on_err, said_on_out}
 use Rattle.sccs_get.specs.declared.found.Found.{Found}
 

@@ -8,7 +8,7 @@ ghost use Rattle.sccs_disk.specs.Images.{IsFirm};
 ghost use Rattle.sccs_disk.specs.Told.{seen};
 ghost use Rattle.sccs_files.specs.StepFiles.{Moves, is_working, look};
 ghost use Rattle.sccs_history.specs.Applied.{serials_of};
-ghost use Rattle.sccs_history.specs.History.{lives};
+ghost use Rattle.sccs_history.specs.History.{IsHeader, lives};
 ghost use Rattle.sccs_history.specs.Numbers.{Falls, has};
 ghost use Rattle.sccs_history.specs.declared.headers.Item.{Item};
 ghost use Rattle.sccs_images.specs.Touches.{Leaves, TouchesOnly};
@@ -33,8 +33,9 @@ ghost use Rattle.sccs_get.specs.Edits.{edit_locked};
 ghost use Rattle.sccs_get.specs.EditGiving.{AnswersReserved, new_g};
 ghost use Rattle.sccs_get.specs.EditStep.{edit_change, edited};
 ghost use Rattle.sccs_get.specs.NewEntry.{AreEditValues, edit_checks};
-ghost use Rattle.sccs_get.specs.VersionStep.{lines_in, says_well};
+ghost use Rattle.sccs_get.specs.VersionStep.{found_of, lines_in, says_well};
 ghost use Rattle.sccs_get.specs.Reports.{replaces};
+ghost use Rattle.sccs_get.specs.Whole.{GivesFound};
 
 use crate::checks::{is_in_the_way, writes_g};
 use crate::found::{Found, find_version};
@@ -93,6 +94,8 @@ fn find_edit<D: Disk>(
     ensures no_zero { IfOk result (λ r. has r.version.set 0 ≡ false) }
     ensures facts { IfOk result (λ r. IfSome r.version.facts HasMoments) }
     ensures replaced { IfOk result (λ r. is_some r.version.facts ≡ replaces get.now.words.now) }
+    ensures rules { IfOk result (λ r. IsHeader r.pending.front.header) }
+    ensures found { IfOk result (λ r. found_of get.now.words.now get.now.stamp.now get.now.place.now name.now r.pending.front.header ≡ Ok r.version) }
     ensures checks { RefusesWithin edit_checks result }
     ensures frame { OnlyReads D.told D.faults disk.old disk.new result }
 {
@@ -194,6 +197,8 @@ fn give_edit<O: Sink, D: Disk>(
         → lives reserved.pending.front.header.records reserved.edit.made ≡ false
         → IfSome (seen (D.told disk.old)) (λ (v : View). AnswersPending (v name.now) (v (sibling 112 name.now)) (Ok reserved.pending))
         → IfOk result (λ p. SettlesEntries name.now p (D.told disk.new)) }
+    ensures whole { IfOk result (λ p. get.now.words.now.no_text ≡ false → has reserved.version.set 0 ≡ false
+        → GivesFound get.now.words.now get.now.heading name.now reserved.pending.front.header.records reserved.version (Some reserved.edit.made) p (O.given out.old) (O.given out.new) (seen (D.told disk.new))) }
     ensures says { IfOk result (λ p. says_well get.now.words.now p.message ≡ true) }
     ensures checks { RefusesWithin edit_checks result }
     ensures causes { PrintCauses result (O.faults out.old) (O.faults out.new) (D.faults disk.old) (D.faults disk.new) }

@@ -9,7 +9,7 @@ ghost use Rattle.sccs_pending.specs.PFiles.{Answers};
 ghost use Rattle.sccs_sid.specs.Moment.{IsMoment};
 ghost use Rattle.sccs_sid.specs.declared.refusals.StepFault.TheVariants as faults;
 ghost use Rattle.sccs_steps.specs.Actions.{RefusesWithin};
-ghost use Rattle.sccs_get.specs.GetStep.{asked_checks};
+ghost use Rattle.sccs_get.specs.AskedVersion.{asked_checks};
 ghost use Rattle.sccs_get.specs.Reports.{replaces};
 ghost use Rattle.sccs_get.specs.VersionStep.{facts_in, form_in, found_of, module_in};
 ghost use Rattle.sccs_texts.specs.Forms as forms;

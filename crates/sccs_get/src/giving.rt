@@ -6,7 +6,7 @@ ghost use Rattle.sccs_disk.specs.Images.{IsFirm};
 ghost use Rattle.sccs_disk.specs.Told.{seen};
 ghost use Rattle.sccs_files.specs.StepFiles.{Moves};
 ghost use Rattle.sccs_history.specs.Applied.{serials_of};
-ghost use Rattle.sccs_history.specs.Numbers.{Falls};
+ghost use Rattle.sccs_history.specs.Numbers.{Falls, has};
 ghost use Rattle.sccs_history.specs.declared.headers.Item.{Item};
 ghost use Rattle.sccs_images.specs.Touches.{Leaves, TouchesOnly};
 ghost use Rattle.sccs_keys.specs.Expansion.{HasMoments};
@@ -18,6 +18,7 @@ ghost use Rattle.sccs_versions.specs.Coming.{IsBody};
 ghost use Rattle.sccs_printing.specs.Printing.{file_checks, may_write};
 ghost use Rattle.sccs_get.specs.Giving.{GivesVersion};
 ghost use Rattle.sccs_get.specs.VersionStep.{lines_in, stays_writable, writes_g};
+ghost use Rattle.sccs_get.specs.Whole.{GivesWhole};
 
 use crate::checks::writes_g;
 use crate::found::Found;
@@ -65,6 +66,8 @@ pub fn give_version<O: Sink, D: Disk>(
     ensures touches { TouchesOnly (bytes_eq (sibling 121 name.now)) (D.told disk.old) (D.told disk.new) }
     ensures firm { OnOk result (writes_g words.now ≡ true → Leaves (IsFirm (sibling 121 name.now)) (D.told disk.old) (D.told disk.new)) }
     ensures same { writes_g words.now ≡ false → D.told disk.new ≡ D.told disk.old }
+    ensures whole { IfOk result (λ s. words.now.no_text ≡ false → has found.now.set 0 ≡ false
+        → GivesWhole words.now name.now front.now.header.records found.now s (O.given out.old) (O.given out.new) (seen (D.told disk.new))) }
     ensures checks { RefusesWithin file_checks result }
     ensures causes { PrintCauses result (O.faults out.old) (O.faults out.new) (D.faults disk.old) (D.faults disk.new) }
 {

@@ -12,7 +12,7 @@ ghost use Rattle.sccs_pfile.specs.Entries.{IsEdit};
 ghost use Rattle.sccs_sets.specs.Made.{to_be_made};
 ghost use Rattle.sccs_steps.specs.Actions.{RefusesWithin};
 ghost use Rattle.sccs_get.specs.NewEntry.{AreEditValues, edit_checks, free_sid, is_got, new_edit, new_entry, release_asked, release_made, released, reserved, singles};
-ghost use Rattle.sccs_get.specs.GetStep.{spec_asked};
+ghost use Rattle.sccs_get.specs.AskedVersion.{spec_asked};
 
 use crate::targets::{Asked, asked_of};
 use sccs_base::{ListOf, Memory};

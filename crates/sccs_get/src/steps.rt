@@ -19,6 +19,7 @@ ghost use Rattle.sccs_store.specs.Commits.{Becomes, MayBecome};
 ghost use Rattle.sccs_get.specs.Giving.{FinishesGet, GivesUpGet, PlacesG, Readies, g_placed};
 ghost use Rattle.sccs_get.specs.VersionStep.{get_action, get_outcome, says_well, version_checks, writes_g};
 ghost use Rattle.sccs_get.specs.Keeps.{get_keeps};
+ghost use Rattle.sccs_get.specs.Whole.{GivesAsked};
 
 use crate::checks::{check_g, check_keywords, writes_g};
 use crate::found::find_version;
@@ -66,6 +67,8 @@ fn ready<O: Sink, D: Disk>(
     ensures touches { TouchesOnly (bytes_eq (sibling 121 name.now)) (D.told disk.old) (D.told disk.new) }
     ensures firm { OnOk result (writes_g get.now.words.now ≡ true → Leaves (IsFirm (sibling 121 name.now)) (D.told disk.old) (D.told disk.new)) }
     ensures same { writes_g get.now.words.now ≡ false → D.told disk.new ≡ D.told disk.old }
+    ensures whole { IfOk result (λ p. get.now.words.now.no_text ≡ false
+        → GivesAsked get.now.words.now get.now.stamp.now get.now.place.now get.now.heading name.now p (O.given out.old) (O.given out.new) (seen (D.told disk.new))) }
     ensures says { IfOk result (λ p. says_well get.now.words.now p.message ≡ true) }
     ensures checks { RefusesWithin version_checks result }
     ensures causes { PrintCauses result (O.faults out.old) (O.faults out.new) (D.faults disk.old) (D.faults disk.new) }

@@ -8,7 +8,7 @@ ghost use Rattle.sccs_sets.specs.Naming.{Answers as AnswersList};
 ghost use Rattle.sccs_sets.specs.Retrieved.{retrieved};
 ghost use Rattle.sccs_sid.specs.declared.refusals.StepFault.TheVariants as faults;
 ghost use Rattle.sccs_steps.specs.Actions.{RefusesWithin};
-ghost use Rattle.sccs_get.specs.GetStep.{asked, asked_checks, listed, spec_asked};
+ghost use Rattle.sccs_get.specs.AskedVersion.{asked, asked_checks, listed, spec_asked};
 ghost use Rattle.sccs_pending.specs.PFiles.{Answers};
 
 use sccs_history::{Header, Serials};

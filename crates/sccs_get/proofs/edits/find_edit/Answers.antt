@@ -1,4 +1,4 @@
-use Rattle.std.proofs.Common.{ap, ◌∙◌}
+use Rattle.std.proofs.Common.{ap}
 use Rattle.sccs_disk.specs.Told.{seen}
 use Rattle.sccs_get.proofs.ReservedLaws.{all_found, no_entry, no_version, unread}
 use Rattle.sccs_get.proofs.edits.find_edit.Goals as goal

@@ -57,3 +57,11 @@ pub returns-in-Ok-said-clause-says : goal.returns-in-Ok-said-clause-says
 returns-in-Ok-said-clause-says g c =
     subst (λ (m : List ℕ). says_well c.args.get.now.words.now m ≡ true) (sym c.in-Ok-said.ensures.err)
     (well_said c.args.get.now.words.now c.args.get.now.heading c.args.name.now c.args.reserved.version.include c.args.reserved.version.exclude c.args.reserved.version.sid (Some c.args.reserved.edit.made) c.in-Ok-give_version.shown.lines c.in-Ok-give_version.shown.keywords)
+
+pub returns-in-Ok-said-clause-whole : goal.returns-in-Ok-said-clause-whole
+returns-in-Ok-said-clause-whole g c = λ text no_zero. record {
+  shown = c.in-Ok-give_version.shown;
+  whole = c.in-Ok-give_version.ensures.whole text no_zero;
+  report = c.in-Ok-said.ensures.out;
+  message = c.in-Ok-said.ensures.err;
+}

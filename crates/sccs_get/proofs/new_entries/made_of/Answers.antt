@@ -1,6 +1,6 @@
 use Rattle.std.proofs.Common.{Some, None, ap, ◌∙◌}
 use Rattle.sccs_get.specs.NewEntry.{reserved}
-use Rattle.sccs_get.specs.GetStep.{spec_asked}
+use Rattle.sccs_get.specs.AskedVersion.{spec_asked}
 use Rattle.sccs_get.proofs.EditLaws.{made_as}
 use Rattle.sccs_get.proofs.new_entries.made_of.Goals as goal
 

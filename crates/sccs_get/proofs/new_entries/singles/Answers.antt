@@ -1,4 +1,4 @@
-use Rattle.std.proofs.Common.{ℕ, List, All, insert, ap, subst, sym, ◌∙◌}
+use Rattle.std.proofs.Common.{List, All, insert, ap, subst, sym, ◌∙◌}
 use Rattle.sccs_sid.specs.SidLists.{IsRange}
 use Rattle.sccs_sid.specs.declared.sid_lists.Range.{Range}
 use Rattle.sccs_pending.proofs.EntryLaws.{all_with}

@@ -1,4 +1,4 @@
-use Rattle.std.proofs.Common.{rules, refl, inl, inr, arith, sym, ◌∙◌}
+use Rattle.std.proofs.Common.{rules, refl, inl, sym, ◌∙◌}
 use Rattle.std.specs.Str.{bytes_eq}
 use Rattle.sccs_base.specs.Name.{sibling}
 use Rattle.sccs_disk.specs.Told.{seen}

@@ -59,3 +59,17 @@ pub returns-in-Ok-said-clause-says : goal.returns-in-Ok-said-clause-says
 returns-in-Ok-said-clause-says g c =
     subst (λ m. says_well c.args.get.now.words.now m ≡ true) (sym c.in-Ok-said.ensures.err)
     (well_said c.args.get.now.words.now c.args.get.now.heading c.args.name.now c.in-Ok-find_version.found.include c.in-Ok-find_version.found.exclude c.in-Ok-find_version.found.sid None c.in-Ok-give_version.shown.lines c.in-Ok-give_version.shown.keywords)
+
+pub returns-in-Ok-said-clause-whole : goal.returns-in-Ok-said-clause-whole
+returns-in-Ok-said-clause-whole g c = λ text. record {
+  header = c.in-Ok.front.header;
+  rules = c.in-Ok.ensures.rules;
+  found = c.in-Ok-find_version.found;
+  is = c.in-Ok-find_version.ensures.value;
+  gives = record {
+    shown = c.in-Ok-give_version.shown;
+    whole = c.in-Ok-give_version.ensures.whole text c.in-Ok-find_version.ensures.no_zero;
+    report = c.in-Ok-said.ensures.out;
+    message = c.in-Ok-said.ensures.err;
+  };
+}

@@ -1,6 +1,6 @@
 use Rattle.std.proofs.Common.{◌≡◌, Ok, Err, subst}
 use Rattle.sccs_sets.specs.Naming.{Answers as AnswersList}
-use Rattle.sccs_get.specs.GetStep.{listed}
+use Rattle.sccs_get.specs.AskedVersion.{listed}
 use Rattle.sccs_get.proofs.TargetLaws.{no_target, include_ends, exclude_ends, shared_ends, set_made}
 use Rattle.sccs_get.proofs.targets.asked_of.Goals as goal
 

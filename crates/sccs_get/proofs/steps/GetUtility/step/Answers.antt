@@ -1,5 +1,4 @@
 use Rattle.std.proofs.Common.{◌≡◌, Bool, true, false, refl, ◌∙◌}
-use Rattle.sccs_disk.specs.Told.{seen}
 use Rattle.sccs_steps.specs.Calls.{scene}
 use Rattle.sccs_steps.specs.StepStops.{StepMoments}
 use Rattle.sccs_transactions.proofs.Utilities.{is_sfile}
