@@ -1,5 +1,5 @@
 use sccs_disk::{Fill, MemoryDisk};
-use sccs_fixtures::samples::{BRANCHED, TWO_LINES};
+use sccs_fixtures::samples::{BRANCHED, SECOND, TWO_LINES};
 use sccs_fixtures::{
     CASE, Case, File, PLAIN, answer_to, disk_with, first_wrong, flagged, has_file,
 };
@@ -112,6 +112,74 @@ const PRINTED: [Case<'static>; 6] = [
 fn versions_are_printed_in_any_form(rt: HostRuntime) -> Result<(), Fail> {
     let mut disk = disk_with(rt.alloc(), &[], &files(BRANCHED))?;
     assert_eq!(rt; first_wrong(rt.alloc(), &mut disk, &PRINTED)?, None);
+    Ok(())
+}
+
+// s-files of two deltas and of a branch, and one that is made here
+const SEVERAL: [Case<'static>; 7] = [
+    Case {
+        line: b"admin -n s.c",
+        ..CASE
+    },
+    Case {
+        line: b"get -p s.c",
+        err: b"1.1\n0 lines\nWARNING [s.c]: no id keywords\n",
+        ..CASE
+    },
+    Case {
+        line: b"get -p s.a",
+        out: b"one\nmid\ntwo 1.2\n",
+        err: b"1.2\n3 lines\n",
+        ..CASE
+    },
+    Case {
+        line: b"get -p -m -n -s s.a",
+        out: b"a\t1.1\tone\na\t1.2\tmid\na\t1.1\ttwo 1.2\n",
+        ..CASE
+    },
+    Case {
+        line: b"get s.a s.b",
+        out: b"\ns.a:\n1.2\n3 lines\n\ns.b:\n1.2\n2 lines\n",
+        err: b"WARNING [s.b]: no id keywords\n",
+        ..CASE
+    },
+    Case {
+        line: b"get -g .",
+        out: b"\ns.a:\n1.2\n\ns.b:\n1.2\n\ns.c:\n1.1\n",
+        ..CASE
+    },
+    Case {
+        line: b"get -s s.zz d/s.a s.a",
+        status: 1,
+        err: b"ERROR [s.zz]: no such file (03)\nERROR [d/s.a]: not a name of an s-file (01)\n",
+        ..CASE
+    },
+];
+
+// two s-files, the first of two deltas
+const TWO_DELTAS: [File<'static>; 2] = [
+    File {
+        name: b"s.a",
+        bytes: Some(SECOND),
+    },
+    File {
+        name: b"s.b",
+        bytes: Some(BRANCHED),
+    },
+];
+
+// whether both g-files are there and whole
+fn are_both_made(disk: &MemoryDisk) -> Result<bool, Fail> {
+    let first = has_file(disk, b"a", Some(b"one\nmid\ntwo 1.2\n"))?;
+    let second = has_file(disk, b"b", Some(b"a\nB\n"))?;
+    Ok(first && second)
+}
+
+#[test]
+fn gets_of_several_files(rt: HostRuntime) -> Result<(), Fail> {
+    let mut disk = disk_with(rt.alloc(), &[], &TWO_DELTAS)?;
+    assert_eq!(rt; first_wrong(rt.alloc(), &mut disk, &SEVERAL)?, None);
+    assert!(rt; are_both_made(&disk)?);
     Ok(())
 }
 

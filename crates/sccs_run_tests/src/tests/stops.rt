@@ -27,6 +27,8 @@ struct Stop<'a> {
     input: &'a [u8],
     old: Pair<'a>,
     new: Pair<'a>,
+    /// The g-file that it leaves, where there is one.
+    g_file: Option<&'a [u8]>,
     /// Whether a step was stopped before it.
     locked: bool,
 }
@@ -34,7 +36,7 @@ struct Stop<'a> {
 // two entries, of which the first has its delta
 const DONE: &[u8] = b"1.1 1.2 ann 21/03/04 05:07:08\n1.2 1.3 ann 21/03/04 05:09:00\n";
 
-const STOPS: [Stop<'static>; 5] = [
+const STOPS: [Stop<'static>; 6] = [
     Stop {
         line: b"admin -i s.a",
         time: b"05:06:07",
@@ -47,6 +49,7 @@ const STOPS: [Stop<'static>; 5] = [
             s_file: Some(TWO_LINES),
             p_file: None,
         },
+        g_file: None,
         locked: false,
     },
     Stop {
@@ -61,6 +64,22 @@ const STOPS: [Stop<'static>; 5] = [
             s_file: Some(SECOND),
             p_file: Some(ENTRY),
         },
+        g_file: None,
+        locked: false,
+    },
+    Stop {
+        line: b"get -e s.a",
+        time: b"05:09:00",
+        input: b"",
+        old: Pair {
+            s_file: Some(SECOND),
+            p_file: None,
+        },
+        new: Pair {
+            s_file: Some(SECOND),
+            p_file: Some(ENTRY),
+        },
+        g_file: Some(b"one\nmid\ntwo %I%\n"),
         locked: false,
     },
     Stop {
@@ -75,6 +94,7 @@ const STOPS: [Stop<'static>; 5] = [
             s_file: Some(SECOND),
             p_file: None,
         },
+        g_file: None,
         locked: false,
     },
     Stop {
@@ -89,6 +109,7 @@ const STOPS: [Stop<'static>; 5] = [
             s_file: Some(SECOND),
             p_file: None,
         },
+        g_file: None,
         locked: false,
     },
     Stop {
@@ -103,6 +124,7 @@ const STOPS: [Stop<'static>; 5] = [
             s_file: Some(SECOND),
             p_file: Some(ENTRY),
         },
+        g_file: None,
         locked: true,
     },
 ];
@@ -161,6 +183,13 @@ fn is_left(disk: &MemoryDisk, pair: &Pair) -> Result<bool, Fail> {
     has(disk, &all(pair))
 }
 
+// whether the g-file is whole, where it is there
+fn is_g_whole(disk: &MemoryDisk, stop: &Stop) -> Result<bool, Fail> {
+    let none = has_file(disk, b"a", None)?;
+    let whole = has_file(disk, b"a", stop.g_file)?;
+    Ok(none || whole)
+}
+
 // makes the command
 fn answer(alloc: Global, stop: &Stop, disk: &mut MemoryDisk) -> Result<Answer, Fail> {
     let given = Given {
@@ -194,7 +223,8 @@ fn recovers(alloc: Global, stop: &Stop, disk: &mut MemoryDisk) -> Result<bool, F
     let again = ends(alloc, disk, &CLEAN)?;
     let new = is_left(disk, &stop.new)?;
     let old = is_left(disk, &stop.old)?;
-    Ok(said && (again && (new || (old && !stop.locked))))
+    let whole = is_g_whole(disk, stop)?;
+    Ok(said && (again && (whole && (new || (old && !stop.locked)))))
 }
 
 // whether an image that a stop behind so many calls may leave recovers so
@@ -244,11 +274,18 @@ fn stops_recover(alloc: Global, stop: &Stop) -> Result<bool, Fail> {
     stops_recover_on(alloc, stop, &mut disk)
 }
 
+// whether a command left its files
+fn is_made(disk: &MemoryDisk, stop: &Stop) -> Result<bool, Fail> {
+    let left = is_left(disk, &stop.new)?;
+    let g_file = has_file(disk, b"a", stop.g_file)?;
+    Ok(left && g_file)
+}
+
 // whether a command on a disk ends well, or with a fault behind which the disk recovers so
 fn fault_recovers_on(alloc: Global, stop: &Stop, disk: &mut MemoryDisk) -> Result<bool, Fail> {
     match answer(alloc, stop, disk)? {
         Answer::DiskFault => recovers(alloc, stop, disk),
-        Answer::Finished { status: 0 } => is_left(disk, &stop.new),
+        Answer::Finished { status: 0 } => is_made(disk, stop),
         _ => Ok(false),
     }
 }
