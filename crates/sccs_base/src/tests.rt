@@ -8,45 +8,86 @@ fn nine(alloc: Global) -> Result<SteadySource, Memory> {
     SteadySource::new(alloc, b"123456789")
 }
 
+fn is_too_long(alloc: Global) -> Result<bool, Fail> {
+    let mut source = nine(alloc)?;
+    Ok(matches!(take_all(alloc, &mut source, 8), Err(TakeFault::TooLong)))
+}
+
+fn are_nine(alloc: Global) -> Result<bool, Fail> {
+    let mut source = nine(alloc)?;
+    let bytes = take_all(alloc, &mut source, 9)?;
+    Ok(bytes.bytes() == b"123456789".as_slice())
+}
+
 #[test]
 fn takes_all_within_a_limit(rt: HostRuntime) -> Result<(), Fail> {
-    let long = take_all(rt.alloc(), &mut nine(rt.alloc())?, 8);
-    assert!(rt; matches!(&long, Err(TakeFault::TooLong)));
-    let bytes = take_all(rt.alloc(), &mut nine(rt.alloc())?, 9)?;
-    assert_eq!(rt; bytes.bytes(), b"123456789".as_slice());
+    assert!(rt; is_too_long(rt.alloc())? & are_nine(rt.alloc())?);
     Ok(())
+}
+
+fn has_lines(alloc: Global) -> Result<bool, Fail> {
+    let text = Text::read(alloc, b"one\r\n\ntwo")?;
+    let lines = text.items();
+    Ok(match lines {
+        [first, second, third] => {
+            (first.bytes() == b"one\r".as_slice())
+                & second.bytes().is_empty()
+                & (third.bytes() == b"two".as_slice())
+        }
+        _ => false,
+    })
+}
+
+fn has_line(alloc: Global) -> Result<bool, Fail> {
+    let line = Line::new(alloc, b"one")?;
+    Ok(line.bytes() == b"one".as_slice())
+}
+
+// puts two words into an empty list, and takes one out again
+fn change(alloc: Global, words: &mut Words) -> Result<(), Fail> {
+    words.push(Bytes::new(alloc, b"get")?)?;
+    words.insert(0, Bytes::new(alloc, b"sccs")?)?;
+    words.remove(1);
+    Ok(())
+}
+
+fn has_one_word(alloc: Global) -> Result<bool, Fail> {
+    let mut words = Words::new(alloc);
+    change(alloc, &mut words)?;
+    Ok(words.len() == 1)
 }
 
 #[test]
 fn lines_and_words(rt: HostRuntime) -> Result<(), Fail> {
-    let text = Text::read(rt.alloc(), b"one\r\n\ntwo")?;
-    assert_eq!(rt; text.len(), 3);
-    assert_eq!(rt; text.at(0).bytes(), b"one\r".as_slice());
-    assert_eq!(rt; text.at(2).bytes(), b"two".as_slice());
-    let line = Line::new(rt.alloc(), b"one")?;
-    assert_eq!(rt; line.bytes(), b"one".as_slice());
-    let mut words = Words::new(rt.alloc());
-    words.push(Bytes::new(rt.alloc(), b"get")?)?;
-    words.insert(0, Bytes::new(rt.alloc(), b"sccs")?)?;
-    words.remove(1);
-    assert_eq!(rt; words.len(), 1);
+    let alloc = rt.alloc();
+    let lines = has_lines(alloc)? & has_line(alloc)?;
+    assert!(rt; lines & has_one_word(alloc)?);
     Ok(())
+}
+
+fn source_fails(alloc: Global) -> Result<bool, Fail> {
+    let mut source = MemorySource::new(alloc, b"abc", &[1])?;
+    let mut piece = [0; 2];
+    let failed = source.take(&mut piece) == Err(Failed);
+    Ok(failed & (source.take(&mut piece) == Ok(2)))
+}
+
+// whether a sink with room for four bytes fails at its second call, and where its room ends
+fn sink_fails_twice(sink: &mut MemorySink) -> bool {
+    let planned = give_parts(sink, &[b"ab".as_slice(), b"c".as_slice()]) == Err(Failed);
+    let full = sink.give(b"cde") == Err(Failed);
+    planned & full & (sink.give(b"cd") == Ok(()))
+}
+
+fn sink_fails(alloc: Global) -> Result<bool, Fail> {
+    let mut sink = MemorySink::new(alloc, 4, &[2])?;
+    let failed = sink_fails_twice(&mut sink);
+    Ok(failed & (sink.bytes() == b"abcd".as_slice()))
 }
 
 #[test]
 fn planned_calls_fail(rt: HostRuntime) -> Result<(), Fail> {
-    let mut source = MemorySource::new(rt.alloc(), b"abc", &[1])?;
-    let mut piece = [0; 2];
-    assert_eq!(rt; source.take(&mut piece), Err(Failed));
-    assert_eq!(rt; source.take(&mut piece), Ok(2));
-    let mut sink = MemorySink::new(rt.alloc(), 4, &[2])?;
-    assert_eq!(rt;
-        give_parts(&mut sink, &[b"ab".as_slice(), b"c".as_slice()]),
-        Err(Failed)
-    );
-    assert_eq!(rt; sink.give(b"cde"), Err(Failed));
-    assert_eq!(rt; sink.give(b"cd"), Ok(()));
-    assert_eq!(rt; sink.bytes(), b"abcd".as_slice());
+    assert!(rt; source_fails(rt.alloc())? & sink_fails(rt.alloc())?);
     Ok(())
 }
 
@@ -89,48 +130,87 @@ fn many(alloc: Global, count: usize) -> Result<Vec<u8>, Memory> {
     Ok(bytes)
 }
 
+fn source_passes_on(alloc: Global) -> Result<bool, Fail> {
+    let mut source = ReaderSource::new(b"abc".as_slice());
+    let bytes = take_all(alloc, &mut source, 10)?;
+    Ok(bytes.bytes() == b"abc".as_slice())
+}
+
+fn gives_twice<S: Sink>(sink: &mut S) -> bool {
+    let first = sink.give(b"abc") == Ok(());
+    first & (sink.give(b"def") == Err(Failed))
+}
+
+fn sink_passes_on(alloc: Global) -> bool {
+    let mut writer = narrow_writer(alloc, Some(5));
+    let failed = gives_twice(&mut WriterSink::new(&mut writer));
+    failed & (writer.taken.as_slice() == b"abcde".as_slice())
+}
+
 #[test]
 fn adapters_pass_bytes_on(rt: HostRuntime) -> Result<(), Fail> {
-    let mut source = ReaderSource::new(b"abc".as_slice());
-    let bytes = take_all(rt.alloc(), &mut source, 10)?;
-    assert_eq!(rt; bytes.bytes(), b"abc".as_slice());
-    let mut writer = narrow_writer(rt.alloc(), Some(5));
-    let mut sink = WriterSink::new(&mut writer);
-    assert_eq!(rt; sink.give(bytes.bytes()), Ok(()));
-    assert_eq!(rt; sink.give(b"def"), Err(Failed));
-    assert_eq!(rt; writer.taken.as_slice(), b"abcde".as_slice());
+    assert!(rt; source_passes_on(rt.alloc())? & sink_passes_on(rt.alloc()));
     Ok(())
+}
+
+// whether each of these is given, a long text among them
+fn gives_all<S: Sink>(buffer: &mut OutputBuffer, sink: &mut S, long: &[u8]) -> bool {
+    let first = buffer.give(sink, b"ab") == Ok(());
+    let flushed = buffer.flush(sink) == Ok(());
+    let held = buffer.give(sink, b"cd") == Ok(());
+    let passed = buffer.give(sink, long) == Ok(());
+    let last = buffer.give(sink, b"ef") == Ok(());
+    first & flushed & held & passed & last & (buffer.flush(sink) == Ok(()))
+}
+
+fn buffer_gives(alloc: Global, writer: &mut Narrow, long: &[u8]) -> Result<bool, Fail> {
+    let mut buffer = OutputBuffer::new(alloc)?;
+    Ok(gives_all(&mut buffer, &mut WriterSink::new(writer), long))
+}
+
+// whether these are all bytes, each once
+fn are_all(taken: &[u8]) -> bool {
+    let front = taken.starts_with(b"abcdx");
+    let back = taken.ends_with(b"xef");
+    front & back & (taken.len() == 70_006)
+}
+
+fn buffer_passes_on(alloc: Global, long: &[u8]) -> Result<bool, Fail> {
+    let mut writer = narrow_writer(alloc, None);
+    let given = buffer_gives(alloc, &mut writer, long)?;
+    Ok(given & are_all(writer.taken.as_slice()))
 }
 
 #[test]
 fn a_buffer_passes_each_byte_on_once(rt: HostRuntime) -> Result<(), Fail> {
     let long = many(rt.alloc(), 70_000)?;
-    let mut writer = narrow_writer(rt.alloc(), None);
-    let mut sink = WriterSink::new(&mut writer);
-    let mut buffer = OutputBuffer::new(rt.alloc())?;
-    assert_eq!(rt; buffer.give(&mut sink, b"ab"), Ok(()));
-    assert_eq!(rt; buffer.flush(&mut sink), Ok(()));
-    assert_eq!(rt; buffer.give(&mut sink, b"cd"), Ok(()));
-    assert_eq!(rt; buffer.give(&mut sink, long.as_slice()), Ok(()));
-    assert_eq!(rt; buffer.give(&mut sink, b"ef"), Ok(()));
-    assert_eq!(rt; buffer.flush(&mut sink), Ok(()));
-    assert_eq!(rt; writer.taken.len(), 70_006);
-    assert_eq!(rt; &writer.taken[..5], b"abcdx".as_slice());
-    assert_eq!(rt; &writer.taken[70_003..], b"xef".as_slice());
+    assert!(rt; buffer_passes_on(rt.alloc(), long.as_slice())?);
     Ok(())
+}
+
+// whether what was held is given, and then the long text isn't
+fn fails_behind<S: Sink>(buffer: &mut OutputBuffer, sink: &mut S, long: &[u8]) -> bool {
+    let first = buffer.give(sink, b"ab") == Ok(());
+    let flushed = buffer.flush(sink) == Ok(());
+    let held = buffer.give(sink, b"cd") == Ok(());
+    let failed = buffer.give(sink, long) == Err(Failed);
+    first & flushed & held & failed & (buffer.flush(sink) == Ok(()))
+}
+
+fn buffer_fails(alloc: Global, writer: &mut Narrow, long: &[u8]) -> Result<bool, Fail> {
+    let mut buffer = OutputBuffer::new(alloc)?;
+    Ok(fails_behind(&mut buffer, &mut WriterSink::new(writer), long))
+}
+
+fn tells_failure(alloc: Global, long: &[u8]) -> Result<bool, Fail> {
+    let mut writer = narrow_writer(alloc, Some(3));
+    let failed = buffer_fails(alloc, &mut writer, long)?;
+    Ok(failed & (writer.taken.as_slice() == b"abc".as_slice()))
 }
 
 #[test]
 fn a_failure_after_a_buffer_is_told(rt: HostRuntime) -> Result<(), Fail> {
     let long = many(rt.alloc(), 70_000)?;
-    let mut writer = narrow_writer(rt.alloc(), Some(3));
-    let mut sink = WriterSink::new(&mut writer);
-    let mut buffer = OutputBuffer::new(rt.alloc())?;
-    assert_eq!(rt; buffer.give(&mut sink, b"ab"), Ok(()));
-    assert_eq!(rt; buffer.flush(&mut sink), Ok(()));
-    assert_eq!(rt; buffer.give(&mut sink, b"cd"), Ok(()));
-    assert_eq!(rt; buffer.give(&mut sink, long.as_slice()), Err(Failed));
-    assert_eq!(rt; buffer.flush(&mut sink), Ok(()));
-    assert_eq!(rt; writer.taken.as_slice(), b"abc".as_slice());
+    assert!(rt; tells_failure(rt.alloc(), long.as_slice())?);
     Ok(())
 }

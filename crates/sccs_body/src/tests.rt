@@ -47,54 +47,103 @@ const ENCODED: &[u8] =
 const BOTH: &[u8] =
     b"\x01h05633\n\x01s 00002/00000/00000\n\x01d D 1.1 21/03/04 05:06:07 ann 1 0\n\x01c one\n\x01e\n\x01u\nann\n\x01U\n\x01f e 1\n\x01t\nabout\n\x01T\n\x01I 2\none\n\x01E 1\n";
 
+fn s_file() -> Result<Name, Fail> {
+    Ok(Name::read(b"s.a").ok_or("a name")?)
+}
+
 fn disk_with(alloc: Global, name: &Name, bytes: &[u8]) -> Result<MemoryDisk, Fail> {
     let mut disk = MemoryDisk::new(alloc, 1000, &[])?;
     disk.put(name, bytes, true)?;
     Ok(disk)
 }
 
+// what is read of an s-file first
+fn front_of(alloc: Global, disk: &mut MemoryDisk, name: &Name) -> Result<Front, Fail> {
+    match inspect(alloc, disk, name) {
+        Ok(front) => Ok(front),
+        Err(_) => Err("an s-file".into()),
+    }
+}
+
+// a reader of the items of an s-file
+fn reader_of(alloc: Global, disk: &mut MemoryDisk, name: &Name) -> Result<ItemReader, Fail> {
+    let front = front_of(alloc, disk, name)?;
+    Ok(ItemReader::new(alloc, name, &front)?)
+}
+
+// why an s-file is none
+fn fault_on(alloc: Global, disk: &mut MemoryDisk, name: &Name) -> Option<FileFault> {
+    match inspect(alloc, disk, name) {
+        Ok(_) => None,
+        Err(fault) => Some(fault),
+    }
+}
+
+// the same of bytes
+fn fault_of(alloc: Global, name: &Name, bytes: &[u8]) -> Result<Option<FileFault>, Fail> {
+    let mut disk = disk_with(alloc, name, bytes)?;
+    Ok(fault_on(alloc, &mut disk, name))
+}
+
+// whether the next item opens region 1
+fn opens(disk: &mut MemoryDisk, reader: &mut ItemReader) -> bool {
+    matches!(reader.next(disk), Ok(Some(Item::Insert(1))))
+}
+
+// whether the next item ends it
+fn ends(disk: &mut MemoryDisk, reader: &mut ItemReader) -> bool {
+    matches!(reader.next(disk), Ok(Some(Item::End(1))))
+}
+
+// whether the next item is this line
+fn gives_line(disk: &mut MemoryDisk, reader: &mut ItemReader, text: &[u8]) -> bool {
+    match reader.next(disk) {
+        Ok(Some(Item::Text(line))) => line.bytes() == text,
+        _ => false,
+    }
+}
+
+// whether the body's first line comes behind its first region's begin
+fn reads_a_line(alloc: Global, disk: &mut MemoryDisk, name: &Name) -> Result<bool, Fail> {
+    let mut reader = reader_of(alloc, disk, name)?;
+    let opened = opens(disk, &mut reader);
+    Ok(opened & gives_line(disk, &mut reader, b"one"))
+}
+
 #[test]
 fn a_body_is_read(rt: HostRuntime) -> Result<(), Fail> {
-    let name = Name::read(b"s.a").ok_or("a name")?;
+    let name = s_file()?;
     let mut disk = disk_with(rt.alloc(), &name, FILE)?;
-    let Ok(front) = inspect(rt.alloc(), &mut disk, &name) else {
-        return Err("a file".into());
-    };
-    let mut reader = ItemReader::new(rt.alloc(), &name, &front)?;
-    let Ok(Some(Item::Insert(1))) = reader.next(&mut disk) else {
-        return Err("an insert".into());
-    };
-    let Ok(Some(Item::Text(line))) = reader.next(&mut disk) else {
-        return Err("a line".into());
-    };
-    assert_eq!(rt; line.bytes(), b"one".as_slice());
+    assert!(rt; reads_a_line(rt.alloc(), &mut disk, &name)?);
     Ok(())
+}
+
+// whether both text lines are held, and none once they are passed over
+fn passes_lines(disk: &mut MemoryDisk, reader: &mut ItemReader) -> bool {
+    let opened = opens(disk, reader);
+    let held = reader.texts() == b"one\ntwo\n".as_slice();
+    let count = reader.texts().len();
+    reader.pass(count);
+    let ended = ends(disk, reader);
+    opened & held & ended & reader.texts().is_empty()
+}
+
+fn passes_over(alloc: Global, disk: &mut MemoryDisk, name: &Name) -> Result<bool, Fail> {
+    let mut reader = reader_of(alloc, disk, name)?;
+    Ok(passes_lines(disk, &mut reader))
 }
 
 #[test]
 fn text_lines_are_passed_over(rt: HostRuntime) -> Result<(), Fail> {
-    let name = Name::read(b"s.a").ok_or("a name")?;
+    let name = s_file()?;
     let mut disk = disk_with(rt.alloc(), &name, FILE)?;
-    let Ok(front) = inspect(rt.alloc(), &mut disk, &name) else {
-        return Err("a file".into());
-    };
-    let mut reader = ItemReader::new(rt.alloc(), &name, &front)?;
-    let Ok(Some(Item::Insert(1))) = reader.next(&mut disk) else {
-        return Err("an insert".into());
-    };
-    assert_eq!(rt; reader.texts(), b"one\ntwo\n".as_slice());
-    let count = reader.texts().len();
-    reader.pass(count);
-    let Ok(Some(Item::End(1))) = reader.next(&mut disk) else {
-        return Err("an end".into());
-    };
-    assert_eq!(rt; reader.texts(), b"".as_slice());
+    assert!(rt; passes_over(rt.alloc(), &mut disk, &name)?);
     Ok(())
 }
 
 #[test]
 fn faults_of_files(rt: HostRuntime) -> Result<(), Fail> {
-    let name = Name::read(b"s.a").ok_or("a name")?;
+    let name = s_file()?;
     let rows: [(&[u8], FileFault); 7] = [
         (UNKNOWN_SERIAL, FileFault::BadFormat(13)),
         (TEXT_OUTSIDE, FileFault::BadFormat(16)),
@@ -105,11 +154,7 @@ fn faults_of_files(rt: HostRuntime) -> Result<(), Fail> {
         (SIGNED_AND_ONE, FileFault::BadSum(6055, 6310)),
     ];
     for (bytes, wanted) in rows {
-        let mut disk = disk_with(rt.alloc(), &name, bytes)?;
-        match inspect(rt.alloc(), &mut disk, &name) {
-            Ok(_) => return Err("no file".into()),
-            Err(fault) => assert_eq!(rt; fault, wanted),
-        }
+        assert!(rt; fault_of(rt.alloc(), &name, bytes)? == Some(wanted));
     }
     Ok(())
 }
@@ -130,15 +175,17 @@ fn count_lines<D: Disk>(alloc: Global, disk: &mut D, name: &Name) -> Result<u64,
     Ok(count)
 }
 
+// whether the body of an s-file has two lines
+fn has_two_lines(alloc: Global, name: &Name, bytes: &[u8]) -> Result<bool, Fail> {
+    let mut disk = disk_with(alloc, name, bytes)?;
+    Ok(count_lines(alloc, &mut disk, name) == Ok(2))
+}
+
 #[test]
 fn lines_are_counted(rt: HostRuntime) -> Result<(), Fail> {
-    let name = Name::read(b"s.a").ok_or("a name")?;
+    let name = s_file()?;
     for bytes in [FILE, PADDED, SIGNED] {
-        let mut disk = disk_with(rt.alloc(), &name, bytes)?;
-        match count_lines(rt.alloc(), &mut disk, &name) {
-            Ok(count) => assert_eq!(rt; count, 2),
-            Err(_) => return Err("a file".into()),
-        }
+        assert!(rt; has_two_lines(rt.alloc(), &name, bytes)?);
     }
     Ok(())
 }
@@ -163,24 +210,35 @@ fn long_file(alloc: Global, end: &[u8], off: u16) -> Result<Vec<u8>, Fail> {
     Ok(file)
 }
 
+// whether an s-file is read in so many calls
+fn is_read_within(alloc: Global, name: &Name, file: &[u8], calls: u64) -> Result<bool, Fail> {
+    let mut disk = MemoryDisk::new(alloc, calls, &[])?;
+    disk.put(name, file, true)?;
+    match inspect(alloc, &mut disk, name) {
+        Ok(front) => Ok(front.size == file.len() as u64),
+        Err(_) => Ok(false),
+    }
+}
+
 // 15 calls: the length, 12 pieces, the end of the body, and the end of the sum
 #[test]
 fn a_file_is_read_once(rt: HostRuntime) -> Result<(), Fail> {
-    let name = Name::read(b"s.a").ok_or("a name")?;
+    let name = s_file()?;
     let file = long_file(rt.alloc(), b"\x01E 1\n", 0)?;
-    let mut disk = MemoryDisk::new(rt.alloc(), 15, &[])?;
-    disk.put(&name, &file, true)?;
-    match inspect(rt.alloc(), &mut disk, &name) {
-        Ok(front) => assert_eq!(rt; front.size, file.len() as u64),
-        Err(fault) => assert_eq!(rt; fault, FileFault::Missing),
-    }
+    assert!(rt; is_read_within(rt.alloc(), &name, &file, 15)?);
     Ok(())
+}
+
+// why a long file is none
+fn long_fault(alloc: Global, name: &Name, end: &[u8], off: u16) -> Result<Option<FileFault>, Fail> {
+    let file = long_file(alloc, end, off)?;
+    fault_of(alloc, name, &file)
 }
 
 // a wrong sum comes before a wrong line, wherever the line stands
 #[test]
 fn faults_of_long_files(rt: HostRuntime) -> Result<(), Fail> {
-    let name = Name::read(b"s.a").ok_or("a name")?;
+    let name = s_file()?;
     let rows: [(&[u8], u16, Option<u64>); 4] = [
         (b"\x01E 1\n", 1, None),
         (b"\x01E 2\n", 1, None),
@@ -188,32 +246,39 @@ fn faults_of_long_files(rt: HostRuntime) -> Result<(), Fail> {
         (b"\x01E 1\n\x01E 1\n\x01E 1\n", 0, Some(3015)),
     ];
     for (end, off, line) in rows {
-        let file = long_file(rt.alloc(), end, off)?;
-        let mut disk = disk_with(rt.alloc(), &name, &file)?;
-        match (inspect(rt.alloc(), &mut disk, &name), line) {
-            (Err(FileFault::BadFormat(found)), Some(wanted)) => assert_eq!(rt; found, wanted),
-            (Err(FileFault::BadSum(_, _)), None) => {}
-            _ => return Err("another answer".into()),
-        }
+        let is_wanted = match (long_fault(rt.alloc(), &name, end, off)?, line) {
+            (Some(FileFault::BadFormat(found)), Some(wanted)) => found == wanted,
+            (Some(FileFault::BadSum(_, _)), None) => true,
+            _ => false,
+        };
+        assert!(rt; is_wanted);
     }
     Ok(())
 }
 
-#[test]
-fn each_call_may_fail(rt: HostRuntime) -> Result<(), Fail> {
-    let name = Name::read(b"s.a").ok_or("a name")?;
-    let file = long_file(rt.alloc(), b"\x01E 1\n", 0)?;
-    let rows: [(&[u8], u64); 2] = [(&file, 15), (SIGNED, 6)];
-    for (bytes, calls) in rows {
-        for call in 1..=calls {
-            let mut disk = MemoryDisk::new(rt.alloc(), 1000, &[call])?;
-            disk.put(&name, bytes, true)?;
-            match inspect(rt.alloc(), &mut disk, &name) {
-                Ok(_) => return Err("a failing disk".into()),
-                Err(fault) => assert_eq!(rt; fault, FileFault::Failed),
-            }
+// whether reading an s-file fails where one call does
+fn fails_at(alloc: Global, name: &Name, bytes: &[u8], call: u64) -> Result<bool, Fail> {
+    let mut disk = MemoryDisk::new(alloc, 1000, &[call])?;
+    disk.put(name, bytes, true)?;
+    Ok(fault_on(alloc, &mut disk, name) == Some(FileFault::Failed))
+}
+
+// whether it does for each of so many calls
+fn each_fails(alloc: Global, name: &Name, bytes: &[u8], calls: u64) -> Result<bool, Fail> {
+    for call in 1..=calls {
+        if !fails_at(alloc, name, bytes, call)? {
+            return Ok(false);
         }
     }
+    Ok(true)
+}
+
+#[test]
+fn each_call_may_fail(rt: HostRuntime) -> Result<(), Fail> {
+    let name = s_file()?;
+    let file = long_file(rt.alloc(), b"\x01E 1\n", 0)?;
+    let long = each_fails(rt.alloc(), &name, &file, 15)?;
+    assert!(rt; long & each_fails(rt.alloc(), &name, SIGNED, 6)?);
     Ok(())
 }
 
@@ -233,15 +298,31 @@ fn end_of<D: Disk>(
     Ok(())
 }
 
-// another byte, more bytes, fewer bytes, fewer than the header has, and no file
-#[test]
-fn files_that_were_changed(rt: HostRuntime) -> Result<(), Fail> {
-    let name = Name::read(b"s.a").ok_or("a name")?;
-    let mut disk = disk_with(rt.alloc(), &name, FILE)?;
-    let Ok(front) = inspect(rt.alloc(), &mut disk, &name) else {
-        return Err("a file".into());
-    };
-    assert_eq!(rt; end_of(rt.alloc(), &mut disk, &name, &front), Ok(()));
+// the front of FILE
+fn first_front(alloc: Global, name: &Name) -> Result<Front, Fail> {
+    let mut disk = disk_with(alloc, name, FILE)?;
+    front_of(alloc, &mut disk, name)
+}
+
+// how a reader of FILE ends where these bytes stand under its name
+fn later_end(
+    alloc: Global,
+    name: &Name,
+    front: &Front,
+    bytes: &[u8],
+) -> Result<Result<(), FileFault>, Fail> {
+    let mut disk = disk_with(alloc, name, bytes)?;
+    Ok(end_of(alloc, &mut disk, name, front))
+}
+
+// how it ends where nothing does
+fn missing_end(alloc: Global, name: &Name, front: &Front) -> Result<Result<(), FileFault>, Fail> {
+    let mut empty = MemoryDisk::new(alloc, 1000, &[])?;
+    Ok(end_of(alloc, &mut empty, name, front))
+}
+
+// whether each change of FILE is noticed, with its size and sum
+fn are_noticed(alloc: Global, name: &Name, front: &Front) -> Result<bool, Fail> {
     let rows: [(&[u8], u64, u16); 4] = [
         (OTHER_BYTE, 123, 6179),
         (LONGER, 127, 6499),
@@ -249,12 +330,21 @@ fn files_that_were_changed(rt: HostRuntime) -> Result<(), Fail> {
         (&FILE[..20], 20, 581),
     ];
     for (bytes, size, sum) in rows {
-        let mut later = disk_with(rt.alloc(), &name, bytes)?;
-        let wanted = FileFault::Changed(123, 6178, size, sum);
-        assert_eq!(rt; end_of(rt.alloc(), &mut later, &name, &front), Err(wanted));
+        if later_end(alloc, name, front, bytes)? != Err(FileFault::Changed(123, 6178, size, sum)) {
+            return Ok(false);
+        }
     }
-    let mut empty = MemoryDisk::new(rt.alloc(), 1000, &[])?;
-    let wanted = FileFault::Changed(123, 6178, 0, 0);
-    assert_eq!(rt; end_of(rt.alloc(), &mut empty, &name, &front), Err(wanted));
+    Ok(true)
+}
+
+// another byte, more bytes, fewer bytes, fewer than the header has, and no file
+#[test]
+fn files_that_were_changed(rt: HostRuntime) -> Result<(), Fail> {
+    let name = s_file()?;
+    let front = first_front(rt.alloc(), &name)?;
+    let same = later_end(rt.alloc(), &name, &front, FILE)? == Ok(());
+    let missing = Err(FileFault::Changed(123, 6178, 0, 0));
+    let gone = missing_end(rt.alloc(), &name, &front)? == missing;
+    assert!(rt; same & gone & are_noticed(rt.alloc(), &name, &front)?);
     Ok(())
 }

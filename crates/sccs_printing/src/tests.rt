@@ -1,4 +1,5 @@
 ghost use Rattle.std.specs.Prelude.{◌≡◌, IfOk, IfSome};
+ghost use Rattle.sccs_base.specs.Name.{IsSfile};
 ghost use Rattle.sccs_disk.specs.MemoryDisks.{disk_call};
 ghost use Rattle.sccs_history.specs.History.{IsHeader};
 ghost use Rattle.sccs_keys.specs.Expansion.{HasMoments};
@@ -92,6 +93,58 @@ fn facts(alloc: Global) -> Result<Facts, Fail>
     })
 }
 
+/// A version of the s-file: what is read of the file first, and the set of its deltas.
+#[derive(Drop)]
+struct Version {
+    front: Front,
+    set: Applied,
+}
+
+// the version of the delta 1.1 or 1.2
+fn version_of(alloc: Global, disk: &mut MemoryDisk, level: u16) -> Result<Version, Fail>
+    ensures { IfOk result (λ v. IsHeader v.front.header) }
+{
+    let front = front(alloc, disk)?;
+    let set = set(alloc, &front, level)?;
+    Ok(Version { front, set })
+}
+
+// what is found where a version is printed
+fn printed_on(
+    alloc: Global,
+    disk: &mut MemoryDisk,
+    level: u16,
+    form: &LineForm,
+    out: &mut MemorySink,
+) -> Result<Result<Shown, StepFault>, Fail>
+    requires { IfSome (form_of form.now).facts HasMoments }
+{
+    let s_file = name(b"s.a")?;
+    let version = version_of(alloc, disk, level)?;
+    Ok(print_text(
+        alloc,
+        &s_file,
+        &version.front,
+        &version.set,
+        form,
+        out,
+        disk,
+    ))
+}
+
+// the same of the s-file alone in a folder
+fn printed(
+    alloc: Global,
+    level: u16,
+    form: &LineForm,
+    out: &mut MemorySink,
+) -> Result<Result<Shown, StepFault>, Fail>
+    requires { IfSome (form_of form.now).facts HasMoments }
+{
+    let mut disk = folder(alloc, &[])?;
+    printed_on(alloc, &mut disk, level, form, out)
+}
+
 // whether a version is printed so in a form, with what was found
 fn prints(
     alloc: Global,
@@ -102,12 +155,8 @@ fn prints(
 ) -> Result<bool, Fail>
     requires { IfSome (form_of form.now).facts HasMoments }
 {
-    let mut disk = folder(alloc, &[])?;
-    let front = front(alloc, &mut disk)?;
-    let set = set(alloc, &front, level)?;
-    let s_file = name(b"s.a")?;
     let mut out = MemorySink::new(alloc, 200, &[])?;
-    let shown = print_text(alloc, &s_file, &front, &set, form, &mut out, &mut disk);
+    let shown = printed(alloc, level, form, &mut out)?;
     Ok((shown == Ok(found)) & (out.bytes() == wanted))
 }
 
@@ -154,7 +203,55 @@ fn prefixes_and_keywords(rt: HostRuntime) -> Result<(), Fail> {
     Ok(())
 }
 
-// whether the y-file of a version is made so
+// what is found where the y-file of the newest version is made
+fn made_on(
+    alloc: Global,
+    disk: &mut MemoryDisk,
+    s_file: &Name,
+    form: &LineForm,
+    mode: Mode,
+) -> Result<Result<Shown, StepFault>, Fail>
+    requires sfile { IsSfile s_file.now }
+    requires facts { IfSome (form_of form.now).facts HasMoments }
+{
+    let version = version_of(alloc, disk, 2)?;
+    Ok(make_y(
+        alloc,
+        s_file,
+        &version.front,
+        &version.set,
+        form,
+        mode,
+        disk,
+    ))
+}
+
+// whether the y-file is made so over one that a stop left
+fn makes_on(
+    alloc: Global,
+    disk: &mut MemoryDisk,
+    form: &LineForm,
+    mode: Mode,
+    wanted: &[u8],
+    writable: bool,
+) -> Result<bool, Fail>
+    requires facts { IfSome (form_of form.now).facts HasMoments }
+    requires first { disk_call disk.old ≡ 0 }
+{
+    let Some(s_file) = Name::read_sfile(b"s.a") else {
+        return Err("a name".into());
+    };
+    let y_file = s_file.sibling(b'y');
+    disk.put(&y_file, b"left by a stop", true)?;
+    let made = made_on(alloc, disk, &s_file, form, mode)?;
+    let lines = matches!(made, Ok(Shown { lines: 3, .. }));
+    let written = disk.bytes(&y_file) == Some(wanted);
+    let kept = disk.bytes(&s_file) == Some(S_FILE);
+    let marked = disk.writable(&y_file) == Ok(Some(writable));
+    Ok(lines & written & kept & marked)
+}
+
+// the same of a folder
 fn makes(
     alloc: Global,
     form: &LineForm,
@@ -165,24 +262,7 @@ fn makes(
     requires { IfSome (form_of form.now).facts HasMoments }
 {
     let mut disk = folder(alloc, &[])?;
-    let Some(s_file) = Name::read_sfile(b"s.a") else {
-        return Err("a name".into());
-    };
-    let y_file = s_file.sibling(b'y');
-    disk.put(&y_file, b"left by a stop", true)?;
-    let front = front(alloc, &mut disk)?;
-    let set = set(alloc, &front, 2)?;
-    let shown = make_y(alloc, &s_file, &front, &set, form, mode, &mut disk);
-    let lines = match shown {
-        Ok(shown) => shown.lines,
-        Err(_) => 0,
-    };
-    Ok(
-        (lines == 3)
-            & (disk.bytes(&y_file) == Some(wanted))
-            & (disk.bytes(&s_file) == Some(S_FILE))
-            & (disk.writable(&y_file) == Ok(Some(writable))),
-    )
+    makes_on(alloc, &mut disk, form, mode, wanted, writable)
 }
 
 #[test]
@@ -213,13 +293,8 @@ fn writable_y_files(rt: HostRuntime) -> Result<(), Fail> {
     Ok(())
 }
 
-// whether making the y-file ends so where a call fails
-fn ends(alloc: Global, failing: u64, wanted: Result<Shown, StepFault>) -> Result<bool, Fail> {
-    let mut disk = folder(alloc, &[failing])?;
-    let Ok(front) = inspect(alloc, &mut disk, &name(b"s.a")?) else {
-        return Ok(true);
-    };
-    let set = set(alloc, &front, 2)?;
+// how making the y-file ends; None where the s-file can't be read
+fn end_on(alloc: Global, disk: &mut MemoryDisk) -> Result<Option<Result<Shown, StepFault>>, Fail> {
     let Some(s_file) = Name::read_sfile(b"s.a") else {
         return Err("a name".into());
     };
@@ -228,8 +303,21 @@ fn ends(alloc: Global, failing: u64, wanted: Result<Shown, StepFault>) -> Result
         has_sids: true,
         facts: None,
     };
+    let Ok(front) = inspect(alloc, disk, &s_file) else {
+        return Ok(None);
+    };
+    let set = set(alloc, &front, 2)?;
     let mode = Mode::Protected;
-    Ok(make_y(alloc, &s_file, &front, &set, &form, mode, &mut disk) == wanted)
+    Ok(Some(make_y(alloc, &s_file, &front, &set, &form, mode, disk)))
+}
+
+// whether it ends so where a call fails
+fn ends(alloc: Global, failing: u64, wanted: Result<Shown, StepFault>) -> Result<bool, Fail> {
+    let mut disk = folder(alloc, &[failing])?;
+    match end_on(alloc, &mut disk)? {
+        Some(end) => Ok(end == wanted),
+        None => Ok(true),
+    }
 }
 
 #[test]
@@ -250,17 +338,13 @@ fn calls_that_fail(rt: HostRuntime) -> Result<(), Fail> {
 
 // whether a sink with so little room fails, and gets no more than a prefix
 fn cuts(alloc: Global, room: u64) -> Result<bool, Fail> {
-    let mut disk = folder(alloc, &[])?;
-    let front = front(alloc, &mut disk)?;
-    let set = set(alloc, &front, 2)?;
-    let s_file = name(b"s.a")?;
     let form = LineForm {
         module_name: None,
         has_sids: false,
         facts: None,
     };
     let mut out = MemorySink::new(alloc, room, &[])?;
-    let shown = print_text(alloc, &s_file, &front, &set, &form, &mut out, &mut disk);
+    let shown = printed(alloc, 2, &form, &mut out)?;
     Ok((shown == Err(StepFault::WriteFault)) & b"one\nnew %C%".starts_with(out.bytes()))
 }
 
@@ -271,13 +355,17 @@ fn sinks_without_room(rt: HostRuntime) -> Result<(), Fail> {
     Ok(())
 }
 
+// whether the first version has keywords
+fn has_some(alloc: Global, disk: &mut MemoryDisk) -> Result<bool, Fail> {
+    let s_file = name(b"s.a")?;
+    let version = version_of(alloc, disk, 1)?;
+    let found = has_keywords(alloc, &s_file, &version.front, &version.set, disk);
+    Ok(found == Ok(true))
+}
+
 #[test]
 fn searched_for_keywords(rt: HostRuntime) -> Result<(), Fail> {
-    let alloc = rt.alloc();
-    let mut disk = folder(alloc, &[])?;
-    let front = front(alloc, &mut disk)?;
-    let set = set(alloc, &front, 1)?;
-    let s_file = name(b"s.a")?;
-    assert!(rt; has_keywords(alloc, &s_file, &front, &set, &mut disk) == Ok(true));
+    let mut disk = folder(rt.alloc(), &[])?;
+    assert!(rt; has_some(rt.alloc(), &mut disk)?);
     Ok(())
 }
