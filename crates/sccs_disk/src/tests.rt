@@ -92,53 +92,83 @@ fn memory_disk(alloc: Global, room: u64, failing: &[u64]) -> Result<MemoryDisk, 
     Ok(disk)
 }
 
+// whether all changes are made, and leave one file
+fn are_made<D: Disk>(alloc: Global, disk: &mut D, changes: &[Change]) -> Result<bool, Fail> {
+    let made = make_all(disk, changes) == 7;
+    let shown = show(alloc, disk)?;
+    Ok(made & (shown.as_slice() == b"s=aBc!".as_slice()))
+}
+
+fn change_memory(alloc: Global, changes: &[Change]) -> Result<bool, Fail> {
+    let mut disk = memory_disk(alloc, 50, &[])?;
+    are_made(alloc, &mut disk, changes)
+}
+
+fn change_steady(alloc: Global, changes: &[Change]) -> Result<bool, Fail> {
+    let mut disk = SteadyDisk::new(alloc);
+    disk.put(&name(b"s.a")?, b"one", true)?;
+    let made = are_made(alloc, &mut disk, changes)?;
+    let names = disk.list(alloc)?;
+    Ok(made & (names.len() == 1))
+}
+
 #[test]
 fn calls_change_files(rt: HostRuntime) -> Result<(), Fail> {
-    let alloc = rt.alloc();
-    let changes = replacement(alloc)?;
-    let mut disk = memory_disk(alloc, 50, &[])?;
-    assert_eq!(rt; make_all(&mut disk, &changes), 7);
-    assert_eq!(rt; show(alloc, &mut disk)?.as_slice(), b"s=aBc!".as_slice());
-    let mut steady = SteadyDisk::new(alloc);
-    steady.put(&name(b"s.a")?, b"one", true)?;
-    assert_eq!(rt; make_all(&mut steady, &changes), 7);
-    assert_eq!(rt; show(alloc, &mut steady)?.as_slice(), b"s=aBc!".as_slice());
-    assert_eq!(rt; steady.list(alloc)?.len(), 1);
+    let changes = replacement(rt.alloc())?;
+    let memory = change_memory(rt.alloc(), &changes)?;
+    assert!(rt; memory & change_steady(rt.alloc(), &changes)?);
     Ok(())
+}
+
+// whether the second call fails, and each behind a stop after three
+fn answers_by_plan(disk: &mut MemoryDisk, name: &Name) -> bool {
+    let first = disk.size(name) == Ok(Some(3));
+    let planned = disk.size(name) == Err(Failed);
+    let third = disk.size(name) == Ok(Some(3));
+    disk.stop_after(3);
+    let stopped = disk.size(name) == Err(Failed);
+    let again = disk.size(name) == Err(Failed);
+    first & planned & third & stopped & again
+}
+
+fn fails_by_plan(alloc: Global, name: &Name) -> Result<bool, Fail> {
+    let mut disk = memory_disk(alloc, 5, &[2])?;
+    let by_plan = answers_by_plan(&mut disk, name);
+    Ok(by_plan & (disk.bytes(name) == Some(b"one".as_slice())))
+}
+
+fn fails_past_the_room(alloc: Global, name: &Name) -> Result<bool, Fail> {
+    let mut disk = memory_disk(alloc, 1, &[])?;
+    let first = disk.size(name) == Ok(Some(3));
+    Ok(first & (disk.size(name) == Err(Failed)))
 }
 
 // a call fails by plan, past the room, and past a stop
 #[test]
 fn memory_disk_fails_by_plan(rt: HostRuntime) -> Result<(), Fail> {
     let name = name(b"s.a")?;
-    let mut disk = memory_disk(rt.alloc(), 5, &[2])?;
-    let answers = [
-        Ok(Some(3)),
-        Err(Failed),
-        Ok(Some(3)),
-        Err(Failed),
-        Err(Failed),
-        Err(Failed),
-    ];
-    for (call, answer) in answers.iter().enumerate() {
-        if call == 3 {
-            disk.stop_after(3);
-        }
-        assert_eq!(rt; disk.size(&name), *answer, "call {call}");
-    }
-    assert_eq!(rt; disk.bytes(&name), Some(b"one".as_slice()));
-    let mut full = memory_disk(rt.alloc(), 1, &[])?;
-    assert_eq!(rt; full.size(&name), Ok(Some(3)));
-    assert_eq!(rt; full.size(&name), Err(Failed), "past the room");
+    let by_plan = fails_by_plan(rt.alloc(), &name)?;
+    assert!(rt; by_plan & fails_past_the_room(rt.alloc(), &name)?);
     Ok(())
 }
 
-// what a stop leaves, by the calls before it, the name operations that it makes, and its filling
-#[test]
-fn a_stop_leaves_what_is_firm(rt: HostRuntime) -> Result<(), Fail> {
-    let alloc = rt.alloc();
-    let mut disk = memory_disk(alloc, 50, &[])?;
-    make_all(&mut disk, &replacement(alloc)?);
+// whether a stop leaves these files
+fn leaves(
+    alloc: Global,
+    disk: &MemoryDisk,
+    calls: u64,
+    names: u64,
+    fill: Fill,
+    left: &[u8],
+) -> Result<bool, Fail> {
+    let mut crashed = disk.crash(alloc, calls, names, fill)?;
+    let shown = show(alloc, &mut crashed)?;
+    Ok(shown.as_slice() == left)
+}
+
+// the first of these stops, by the calls before it, the name operations that it makes, and its
+// filling, that leaves other files
+fn first_wrong(alloc: Global, disk: &MemoryDisk) -> Result<Option<(u64, u64)>, Fail> {
     let rows: [(u64, u64, Fill, &[u8]); 12] = [
         (0, 9, Fill::Empty, b"s=one"),
         (3, 0, Fill::Written, b"s=one"),
@@ -154,39 +184,68 @@ fn a_stop_leaves_what_is_firm(rt: HostRuntime) -> Result<(), Fail> {
         (99, 0, Fill::Junk(0), b"s=aBc!"),
     ];
     for (calls, names, fill, left) in rows {
-        let mut crashed = disk.crash(alloc, calls, names, fill)?;
-        assert_eq!(rt;
-            show(alloc, &mut crashed)?.as_slice(),
-            left,
-            "after {calls} calls, {names} names"
-        );
+        if !leaves(alloc, disk, calls, names, fill, left)? {
+            return Ok(Some((calls, names)));
+        }
     }
+    Ok(None)
+}
+
+// a disk on which all changes were made
+fn changed_disk(alloc: Global) -> Result<MemoryDisk, Fail> {
+    let changes = replacement(alloc)?;
+    let mut disk = memory_disk(alloc, 50, &[])?;
+    make_all(&mut disk, &changes);
+    Ok(disk)
+}
+
+#[test]
+fn a_stop_leaves_what_is_firm(rt: HostRuntime) -> Result<(), Fail> {
+    let disk = changed_disk(rt.alloc())?;
+    assert_eq!(rt; first_wrong(rt.alloc(), &disk)?, None);
     Ok(())
 }
 
-// from the second reading on one byte is another; calls on what isn't there are faults
+// whether a reading of the first three bytes gives these
+fn reads(disk: &mut FickleDisk, name: &Name, bytes: &[u8]) -> bool {
+    let mut piece = [0; 3];
+    let read = disk.read_at(name, 0, &mut piece) == Ok(Some(3));
+    read & (piece.as_slice() == bytes)
+}
+
+// whether a byte is another from the second reading of it on
+fn changes_a_byte(disk: &mut FickleDisk, name: &Name) -> bool {
+    let behind = disk.read_at(name, 2, &mut [0; 3]) == Ok(Some(1));
+    let first = reads(disk, name, b"one");
+    let second = reads(disk, name, b"ooe");
+    behind & first & second & reads(disk, name, b"ooe")
+}
+
+// whether calls on what isn't there are faults
+fn refuses(disk: &mut FickleDisk, name: &Name, absent: &Name) -> bool {
+    let append = disk.append(absent, b"a") == Err(DiskRefusal::Failed);
+    let write = disk.write_at(name, 2, b"ab") == Err(DiskRefusal::Failed);
+    let protect = disk.protect(absent) == Err(Failed);
+    let sync = disk.sync(absent) == Err(Failed);
+    let rename = disk.rename(absent, name) == Err(Failed);
+    let remove = disk.remove(absent) == Err(Failed);
+    append & write & protect & sync & rename & remove
+}
+
+// whether calls on what is there are made; under its new name the file reads as at first
+fn passes_on(disk: &mut FickleDisk, name: &Name, absent: &Name) -> bool {
+    let appended = disk.append(name, b"s") == Ok(());
+    let written = disk.write_at(name, 3, b"!") == Ok(());
+    let size = disk.size(name) == Ok(Some(4));
+    let renamed = disk.rename(name, absent) == Ok(());
+    appended & written & size & renamed & reads(disk, absent, b"one")
+}
+
 #[test]
 fn fickle_disk_changes_a_byte(rt: HostRuntime) -> Result<(), Fail> {
-    let name = name(b"s.a")?;
-    let absent = Name::read(b"x.a").ok_or("a name")?;
+    let (name, absent) = (name(b"s.a")?, name(b"x.a")?);
     let mut disk = FickleDisk::new(memory_disk(rt.alloc(), 50, &[])?, name, 1);
-    let mut piece = [0; 3];
-    assert_eq!(rt; disk.read_at(&name, 2, &mut piece), Ok(Some(1)));
-    for bytes in [b"one", b"ooe", b"ooe"] {
-        assert_eq!(rt; disk.read_at(&name, 0, &mut piece), Ok(Some(3)));
-        assert_eq!(rt; piece, *bytes);
-    }
-    assert_eq!(rt; disk.append(&absent, b"a"), Err(DiskRefusal::Failed));
-    assert_eq!(rt; disk.write_at(&name, 2, b"ab"), Err(DiskRefusal::Failed));
-    assert_eq!(rt; disk.protect(&absent), Err(Failed));
-    assert_eq!(rt; disk.sync(&absent), Err(Failed));
-    assert_eq!(rt; disk.rename(&absent, &name), Err(Failed));
-    assert_eq!(rt; disk.remove(&absent), Err(Failed));
-    assert_eq!(rt; disk.append(&name, b"s"), Ok(()));
-    assert_eq!(rt; disk.write_at(&name, 3, b"!"), Ok(()));
-    assert_eq!(rt; disk.size(&name), Ok(Some(4)));
-    assert_eq!(rt; disk.rename(&name, &absent), Ok(()));
-    assert_eq!(rt; disk.read_at(&absent, 0, &mut piece), Ok(Some(3)));
-    assert_eq!(rt; piece, *b"one");
+    let changed = changes_a_byte(&mut disk, &name) & refuses(&mut disk, &name, &absent);
+    assert!(rt; changed & passes_on(&mut disk, &name, &absent));
     Ok(())
 }

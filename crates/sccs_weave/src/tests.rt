@@ -1,4 +1,7 @@
-ghost use Rattle.std.specs.Prelude.{◌≡◌, IfOk};
+ghost use Rattle.std.specs.Prelude.{◌≡◌, ◌∷◌, [], true, IfOk};
+ghost use Rattle.std.specs.List.{AllByRecursion};
+ghost use Rattle.sccs_history.specs.Applied.{live_serials};
+ghost use Rattle.sccs_history.specs.Numbers.{has};
 ghost use Rattle.sccs_weave.specs.Samples.{crossing_table, plain};
 
 use crate::*;
@@ -47,51 +50,116 @@ fn header(alloc: Global) -> Result<Header, Memory>
     })
 }
 
-fn text(alloc: Global, byte: u8) -> Result<Item, Fail> {
-    Ok(Item::Text(Line::new(alloc, &[byte])?))
+/// A line of a body, or where a region begins or ends.
+#[derive(Clone, Copy)]
+enum Row {
+    Text(u8),
+    Insert(u16),
+    Delete(u16),
+    End(u16),
 }
 
-// the bytes that a set keeps, of regions that cross
-fn kept(alloc: Global, set: &Applied) -> Result<Vec<u8>, Fail> {
-    let items = vec![in alloc;
-        Item::Insert(1),
-        text(alloc, b'p')?,
-        Item::Delete(3),
-        text(alloc, b'q')?,
-        Item::Insert(5),
-        text(alloc, b'r')?,
-        Item::End(3),
-        text(alloc, b's')?,
-        Item::End(5),
-        text(alloc, b't')?,
-        Item::End(1),
-    ]?;
-    let mut weaver = Weaver::new(alloc);
-    let mut kept = Vec::new(alloc);
-    for item in &items {
-        weaver.push_item(item, set)?;
-        if let Item::Text(line) = item {
-            if weaver.keep() {
-                kept.extend_from_slice(line.bytes())?;
-            }
+// regions that cross
+const ROWS: [Row; 11] = [
+    Row::Insert(1),
+    Row::Text(b'p'),
+    Row::Delete(3),
+    Row::Text(b'q'),
+    Row::Insert(5),
+    Row::Text(b'r'),
+    Row::End(3),
+    Row::Text(b's'),
+    Row::End(5),
+    Row::Text(b't'),
+    Row::End(1),
+];
+
+fn item_of(alloc: Global, row: Row) -> Result<Item, Fail> {
+    match row {
+        Row::Text(byte) => Ok(Item::Text(Line::new(alloc, &[byte])?)),
+        Row::Insert(serial) => Ok(Item::Insert(serial)),
+        Row::Delete(serial) => Ok(Item::Delete(serial)),
+        Row::End(serial) => Ok(Item::End(serial)),
+    }
+}
+
+// takes an item, and keeps its bytes where the set shows them
+fn take_item(
+    weaver: &mut Weaver,
+    set: &Applied,
+    item: &Item,
+    kept: &mut Vec<u8>,
+) -> Result<(), Fail> {
+    weaver.push_item(item, set)?;
+    if let Item::Text(line) = item {
+        if weaver.keep() {
+            kept.extend_from_slice(line.bytes())?;
         }
     }
-    Ok(kept)
+    Ok(())
+}
+
+fn take_row(
+    alloc: Global,
+    weaver: &mut Weaver,
+    set: &Applied,
+    row: Row,
+    kept: &mut Vec<u8>,
+) -> Result<(), Fail> {
+    let item = item_of(alloc, row)?;
+    take_item(weaver, set, &item, kept)
+}
+
+// keeps the bytes that a set shows
+fn take_rows(alloc: Global, set: &Applied, kept: &mut Vec<u8>) -> Result<(), Fail> {
+    let mut weaver = Weaver::new(alloc);
+    for row in ROWS {
+        take_row(alloc, &mut weaver, set, row, kept)?;
+    }
+    Ok(())
+}
+
+// whether a set shows these bytes
+fn shows(alloc: Global, set: &Applied, wanted: &[u8]) -> Result<bool, Fail> {
+    let mut kept = Vec::new(alloc);
+    take_rows(alloc, set, &mut kept)?;
+    Ok(kept.as_slice() == wanted)
+}
+
+// whether the version of a serial, with others included, has these bytes
+fn is_version(
+    alloc: Global,
+    header: &Header,
+    target: u16,
+    include: &Serials,
+    wanted: &[u8],
+) -> Result<bool, Fail>
+    requires table { header.now.records ≡ crossing_table }
+    requires target { has (live_serials header.now.records) target ≡ true }
+    requires include { AllByRecursion (λ n. has (live_serials header.now.records) n ≡ true) include.now }
+{
+    let none = Serials::empty(alloc);
+    let set = delta_set(alloc, header, target, include, &none, None)?;
+    shows(alloc, &set, wanted)
+}
+
+// whether each version of the table has its bytes
+fn are_versions(alloc: Global, header: &Header, fifth: &Serials) -> Result<bool, Fail>
+    requires table { header.now.records ≡ crossing_table }
+    requires fifth { fifth.now ≡ 5 ∷ [] }
+{
+    let none = Serials::empty(alloc);
+    let first = is_version(alloc, header, 1, &none, b"pqt")?;
+    let third = is_version(alloc, header, 3, &none, b"pt")?;
+    let other = is_version(alloc, header, 5, &none, b"pqrst")?;
+    let both = is_version(alloc, header, 3, fifth, b"prst")?;
+    Ok(first & third & other & both)
 }
 
 #[test]
 fn crossing_regions(rt: HostRuntime) -> Result<(), Fail> {
-    let alloc = rt.alloc();
-    let header = header(alloc)?;
-    let none = Serials::empty(alloc);
-    let fifth: Serials = ListOf::from_vec(vec![in alloc; 5]?);
-    let first = delta_set(alloc, &header, 1, &none, &none, None)?;
-    assert_eq!(rt; kept(alloc, &first)?.as_slice(), b"pqt".as_slice());
-    let third = delta_set(alloc, &header, 3, &none, &none, None)?;
-    assert_eq!(rt; kept(alloc, &third)?.as_slice(), b"pt".as_slice());
-    let other = delta_set(alloc, &header, 5, &none, &none, None)?;
-    assert_eq!(rt; kept(alloc, &other)?.as_slice(), b"pqrst".as_slice());
-    let both = delta_set(alloc, &header, 3, &fifth, &none, None)?;
-    assert_eq!(rt; kept(alloc, &both)?.as_slice(), b"prst".as_slice());
+    let header = header(rt.alloc())?;
+    let fifth: Serials = ListOf::from_vec(vec![in rt.alloc(); 5]?);
+    assert!(rt; are_versions(rt.alloc(), &header, &fifth)?);
     Ok(())
 }
