@@ -11,9 +11,7 @@ ghost use Rattle.sccs_admin.specs.Texts.{takes_input};
 ghost use Rattle.sccs_words.specs.declared.commands.Given.TheVariants as given;
 ghost use Rattle.sccs_steps.specs.Actions.{RefusesWithin};
 ghost use Rattle.sccs_images.specs.Touches.{TouchesOnly};
-ghost use Rattle.sccs_transactions.specs.Changes.{locking};
 ghost use Rattle.sccs_transactions.specs.Stops.{IsFirmPrepared};
-ghost use Rattle.sccs_transactions.proofs.Utilities.{locking_keeps};
 ghost use Rattle.sccs_admin.specs.Locks.{admin_locked};
 
 use crate::headers::new_header;
@@ -23,9 +21,8 @@ use sccs_base::{Bytes, FILE_LIMIT, Name, Sink, Source, TakeFault, take_all};
 use sccs_disk::{Disk, DiskRefusal};
 use sccs_files::{WholeFault, read_whole};
 use sccs_sid::{Refusal, Stamp, StepFault};
-use sccs_steps::Utility;
 use sccs_store::NewFile;
-use sccs_transactions::{Change, Prepared, change_file};
+use sccs_transactions::{Change, Prepared};
 use sccs_words::{AdminWords, Given};
 use std::alloc::Global;
 
@@ -223,6 +220,10 @@ impl Change for Admin<'_> {
 
     ghost locked = { λ a. admin_locked a.words.now a.stamp.now };
 
+    fn takes_input(&self) -> bool {
+        matches!(&self.words.text, Given::Bare)
+    }
+
     fn prepare<I: Source, O: Sink, D: Disk>(
         &self,
         alloc: Global,
@@ -235,31 +236,5 @@ impl Change for Admin<'_> {
             Ok(text) => write_text(alloc, self.words, self.stamp, text.bytes(), name, disk),
             Err(fault) => Err(fault),
         }
-    }
-}
-
-impl Utility for Admin<'_> {
-    ghost action = { λ a. locking (admin_change a.words.now a.stamp.now) };
-
-    ghost keeps = { λ a. locking_keeps (admin_change a.words.now a.stamp.now) };
-
-    fn name(&self, operand: &[u8]) -> Option<Name> {
-        Name::read_sfile(operand)
-    }
-
-    fn takes_input(&self) -> bool {
-        matches!(&self.words.text, Given::Bare)
-    }
-
-    fn step<I: Source, O: Sink, E: Sink, D: Disk>(
-        &self,
-        alloc: Global,
-        name: &Name,
-        input: &mut I,
-        out: &mut O,
-        err: &mut E,
-        disk: &mut D,
-    ) -> Result<(), StepFault> {
-        change_file(alloc, self, name, input, out, err, disk)
     }
 }

@@ -5,8 +5,6 @@ ghost use Rattle.sccs_disk.specs.Told.{seen};
 ghost use Rattle.sccs_sid.specs.Moment.{IsMoment};
 ghost use Rattle.sccs_sid.specs.declared.refusals.StepFault.TheVariants as faults;
 ghost use Rattle.sccs_steps.specs.Actions.{RefusesWithin};
-ghost use Rattle.sccs_transactions.proofs.Utilities.{locking_keeps};
-ghost use Rattle.sccs_transactions.specs.Changes.{locking};
 ghost use Rattle.sccs_delta.specs.DeltaStep.{delta_change, delta_checks};
 ghost use Rattle.sccs_delta.specs.Locks.{delta_locked};
 ghost use Rattle.sccs_delta.specs.Sizes.{HearsScript};
@@ -16,8 +14,7 @@ use crate::sizes::check_there;
 use sccs_base::{Bytes, FILE_LIMIT, Name, Sink, Source, TakeFault, take_all};
 use sccs_disk::Disk;
 use sccs_sid::{Refusal, Stamp, StepFault};
-use sccs_steps::Utility;
-use sccs_transactions::{Change, Prepared, change_file};
+use sccs_transactions::{Change, Prepared};
 use sccs_words::DeltaWords;
 use std::alloc::Global;
 
@@ -63,6 +60,10 @@ impl Change for Delta<'_> {
 
     ghost locked = { λ d. delta_locked d.words.now d.stamp.now };
 
+    fn takes_input(&self) -> bool {
+        true
+    }
+
     fn prepare<I: Source, O: Sink, D: Disk>(
         &self,
         alloc: Global,
@@ -75,31 +76,5 @@ impl Change for Delta<'_> {
             Ok(script) => prepare_delta(alloc, self.words, name, self.stamp, script.bytes(), disk),
             Err(fault) => Err(fault),
         }
-    }
-}
-
-impl Utility for Delta<'_> {
-    ghost action = { λ d. locking (delta_change d.words.now d.stamp.now) };
-
-    ghost keeps = { λ d. locking_keeps (delta_change d.words.now d.stamp.now) };
-
-    fn name(&self, operand: &[u8]) -> Option<Name> {
-        Name::read_sfile(operand)
-    }
-
-    fn takes_input(&self) -> bool {
-        true
-    }
-
-    fn step<I: Source, O: Sink, E: Sink, D: Disk>(
-        &self,
-        alloc: Global,
-        name: &Name,
-        input: &mut I,
-        out: &mut O,
-        err: &mut E,
-        disk: &mut D,
-    ) -> Result<(), StepFault> {
-        change_file(alloc, self, name, input, out, err, disk)
     }
 }

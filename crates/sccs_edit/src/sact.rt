@@ -79,14 +79,6 @@ impl Utility for Sact {
 
     ghost keeps = { λ s. sact_keeps s.heading };
 
-    fn name(&self, operand: &[u8]) -> Option<Name> {
-        Name::read_sfile(operand)
-    }
-
-    fn takes_input(&self) -> bool {
-        false
-    }
-
     fn step<I: Source, O: Sink, E: Sink, D: Disk>(
         &self,
         alloc: Global,
@@ -100,5 +92,13 @@ impl Utility for Sact {
             Ok(edits) => show(alloc, self.heading, name, &edits, out, err),
             Err(fault) => Err(fault),
         }
+    }
+
+    fn name(&self, operand: &[u8]) -> Option<Name> {
+        Name::read_sfile(operand)
+    }
+
+    fn takes_input(&self) -> bool {
+        false
     }
 }

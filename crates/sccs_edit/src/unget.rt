@@ -6,10 +6,8 @@ ghost use Rattle.sccs_disk.specs.Told.{seen};
 ghost use Rattle.sccs_pfile.specs.Entries.{IsEdit};
 ghost use Rattle.sccs_sid.specs.declared.refusals.StepFault.TheVariants as fault;
 ghost use Rattle.sccs_steps.specs.Actions.{RefusesWithin};
-ghost use Rattle.sccs_transactions.proofs.Utilities.{locking_keeps};
 ghost use Rattle.std.specs.Str.{bytes_eq};
 ghost use Rattle.sccs_images.specs.Touches.{TouchesOnly};
-ghost use Rattle.sccs_transactions.specs.Changes.{locking};
 ghost use Rattle.sccs_transactions.specs.Stops.{IsFirmPrepared};
 ghost use Rattle.sccs_edit.specs.Checks.{unget_locked};
 ghost use Rattle.sccs_edit.specs.UngetStep.{unget_change, unget_checks, unget_report, without_entry};
@@ -20,8 +18,7 @@ use sccs_disk::{Disk, DiskRefusal};
 use sccs_pending::{chosen, heading, prepare_entries, read_pending, remove_g};
 use sccs_pfile::{Edits, release};
 use sccs_sid::{DETAIL_ROOM, Stamp, StepFault};
-use sccs_steps::Utility;
-use sccs_transactions::{Change, Prepared, change_file};
+use sccs_transactions::{Change, Prepared};
 use sccs_words::UngetWords;
 use std::alloc::Global;
 
@@ -108,6 +105,10 @@ impl Change for Unget<'_> {
 
     ghost locked = { λ u. unget_locked u.words.now u.stamp.now u.heading };
 
+    fn takes_input(&self) -> bool {
+        false
+    }
+
     fn prepare<I: Source, O: Sink, D: Disk>(
         &self,
         alloc: Global,
@@ -129,31 +130,5 @@ impl Change for Unget<'_> {
             Ok(number) => drop_entry(alloc, self, name, found.edits, number, disk),
             Err(fault) => Err(fault),
         }
-    }
-}
-
-impl Utility for Unget<'_> {
-    ghost action = { λ u. locking (unget_change u.words.now u.stamp.now u.heading) };
-
-    ghost keeps = { λ u. locking_keeps (unget_change u.words.now u.stamp.now u.heading) };
-
-    fn name(&self, operand: &[u8]) -> Option<Name> {
-        Name::read_sfile(operand)
-    }
-
-    fn takes_input(&self) -> bool {
-        false
-    }
-
-    fn step<I: Source, O: Sink, E: Sink, D: Disk>(
-        &self,
-        alloc: Global,
-        name: &Name,
-        input: &mut I,
-        out: &mut O,
-        err: &mut E,
-        disk: &mut D,
-    ) -> Result<(), StepFault> {
-        change_file(alloc, self, name, input, out, err, disk)
     }
 }

@@ -25,8 +25,7 @@ ghost use Rattle.sccs_steps.specs.Causes.{PrintCauses};
 ghost use Rattle.sccs_store.specs.Stops.{OnReplace};
 ghost use Rattle.sccs_table.specs.FrontFile.{IsPlaced};
 ghost use Rattle.sccs_table.specs.ReaderState.{bytes_in};
-ghost use Rattle.sccs_transactions.proofs.Utilities.{locking_keeps};
-ghost use Rattle.sccs_transactions.specs.Changes.{IsReady, Prepares, locking, unlocked};
+ghost use Rattle.sccs_transactions.specs.Changes.{IsReady, Prepares, unlocked};
 ghost use Rattle.sccs_transactions.specs.Stops.{IsFirmPrepared, SettlesEntries};
 ghost use Rattle.sccs_versions.specs.Coming.{IsBody};
 ghost use Rattle.sccs_get.specs.Edits.{edit_locked};
@@ -47,9 +46,8 @@ use sccs_disk::{Disk, DiskRefusal};
 use sccs_pending::{Pending, prepare_entries, read_pending};
 use sccs_pfile::{Edit, Edits, reserve};
 use sccs_sid::{Stamp, StepFault};
-use sccs_steps::Utility;
 use sccs_store::{NewG, NewP};
-use sccs_transactions::{Change, Prepared, change_file};
+use sccs_transactions::{Change, Prepared};
 use sccs_words::GetWords;
 use std::alloc::Global;
 
@@ -256,30 +254,8 @@ impl Change for Reserve<'_> {
             Err(fault) => Err(fault),
         }
     }
-}
-
-impl Utility for Reserve<'_> {
-    ghost action = { λ r. locking (edit_change r.words.now r.stamp.now r.place.now r.heading) };
-
-    ghost keeps = { λ r. locking_keeps (edit_change r.words.now r.stamp.now r.place.now r.heading) };
-
-    fn name(&self, operand: &[u8]) -> Option<Name> {
-        Name::read_sfile(operand)
-    }
 
     fn takes_input(&self) -> bool {
         false
-    }
-
-    fn step<I: Source, O: Sink, E: Sink, D: Disk>(
-        &self,
-        alloc: Global,
-        name: &Name,
-        input: &mut I,
-        out: &mut O,
-        err: &mut E,
-        disk: &mut D,
-    ) -> Result<(), StepFault> {
-        change_file(alloc, self, name, input, out, err, disk)
     }
 }

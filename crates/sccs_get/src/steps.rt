@@ -185,14 +185,6 @@ impl Utility for Get<'_> {
 
     ghost keeps = { λ get. get_keeps get.words.now get.stamp.now get.place.now get.heading };
 
-    fn name(&self, operand: &[u8]) -> Option<Name> {
-        Name::read_sfile(operand)
-    }
-
-    fn takes_input(&self) -> bool {
-        false
-    }
-
     fn step<I: Source, O: Sink, E: Sink, D: Disk>(
         &self,
         alloc: Global,
@@ -206,5 +198,13 @@ impl Utility for Get<'_> {
             Ok(prepared) => finish(self.words, &prepared, name, out, err, disk),
             Err(fault) => give_up(self.words, fault, name, disk),
         }
+    }
+
+    fn name(&self, operand: &[u8]) -> Option<Name> {
+        Name::read_sfile(operand)
+    }
+
+    fn takes_input(&self) -> bool {
+        false
     }
 }

@@ -21,11 +21,11 @@ words_of (Words operands) = words_in operands.now
 words_of (Word word) = word.now ∷ []
 
 abbrev pub action_in : Known → Action
-action_in (known.Admin admin) = locking (admin_change admin.words.now admin.stamp.now)
+action_in (known.Admin a) = locking (admin_change a.change.words.now a.change.stamp.now)
 action_in (known.Get get) = get_action get.words.now get.stamp.now get.place.now get.heading
-action_in (known.Reserve r) = locking (edit_change r.words.now r.stamp.now r.place.now r.heading)
+action_in (known.Reserve r) = locking (edit_change r.change.words.now r.change.stamp.now r.change.place.now r.change.heading)
 action_in (known.Sact s) = sact_action s.heading
-action_in (known.Delta d) = locking (delta_change d.words.now d.stamp.now)
-action_in (known.Unget u) = locking (unget_change u.words.now u.stamp.now u.heading)
+action_in (known.Delta d) = locking (delta_change d.change.words.now d.change.stamp.now)
+action_in (known.Unget u) = locking (unget_change u.change.words.now u.change.stamp.now u.change.heading)
 action_in (known.Recover r) = recover_action
 action_in (known.Unbuilt u) = unbuilt u.any u.takes

@@ -6,11 +6,7 @@ ghost use Rattle.sccs_steps.specs.Calls.{scene};
 ghost use Rattle.sccs_steps.specs.Causes.{Ignores, RunCauses, counts};
 ghost use Rattle.sccs_steps.specs.Running.{RunsOperands};
 ghost use Rattle.sccs_steps.specs.declared.faults.Fault.TheVariants as ends;
-ghost use Rattle.sccs_get.specs.EditStep.{edit_change};
-ghost use Rattle.sccs_get.specs.VersionStep.{get_action};
-ghost use Rattle.sccs_transactions.specs.Changes.{locking};
 ghost use Rattle.sccs_top.specs.Listing.{action_in, words_of};
-ghost use Rattle.sccs_top.specs.declared.commands.Known.TheVariants as known;
 ghost use Rattle.sccs_top.specs.Runs.{MakesSteps, SpeaksWords, StopsSteps, UnlockedSteps, action_of, caller, get_in, has_heading, is_silent, made_by, only_reads, operands_of, takes_input};
 
 use crate::answers::Answer;
@@ -25,6 +21,7 @@ use sccs_get::{Get, Reserve};
 use sccs_recovery::Recover;
 use sccs_sid::Stamp;
 use sccs_steps::{Fault, Utility, is_several, run_operand, run_operands};
+use sccs_transactions::Locking;
 use sccs_words::{Command, GetWords, Operands, WordsFault, read_words};
 use std::alloc::Global;
 
@@ -43,12 +40,12 @@ fn ended(made: Result<u8, Fault>) -> Answer
 
 // what is done with the operands of a command
 enum Known<'a> {
-    Admin(Admin<'a>),
+    Admin(Locking<Admin<'a>>),
     Get(Get<'a>),
-    Reserve(Reserve<'a>),
-    Delta(Delta<'a>),
+    Reserve(Locking<Reserve<'a>>),
+    Delta(Locking<Delta<'a>>),
     Sact(Sact),
-    Unget(Unget<'a>),
+    Unget(Locking<Unget<'a>>),
     Recover(Recover),
     Unbuilt(Unbuilt),
 }
@@ -59,43 +56,6 @@ fn has_heading(operands: &Operands) -> bool
 {
     let words = operands.words.items();
     operands.from_input || (words.len() > 1 || words.iter().any(|word| is_several(word.bytes())))
-}
-
-// get without -e
-fn version_got<'a>(
-    words: &'a GetWords,
-    operands: &Operands,
-    stamp: &'a Stamp,
-    place: &'a Line,
-) -> Get<'a>
-    requires moment { IsMoment stamp.now.moment }
-    ensures { action_in (known.Get result) ≡ get_action words.now stamp.now place.now (has_heading operands.now) }
-{
-    Get {
-        words,
-        stamp,
-        place,
-        heading: has_heading(operands),
-    }
-}
-
-// get -e
-fn edit_reserved<'a>(
-    words: &'a GetWords,
-    operands: &Operands,
-    stamp: &'a Stamp,
-    place: &'a Line,
-) -> Reserve<'a>
-    requires values { AreGetValues words.now }
-    requires moment { IsMoment stamp.now.moment }
-    ensures { action_in (known.Reserve result) ≡ locking (edit_change words.now stamp.now place.now (has_heading operands.now)) }
-{
-    Reserve {
-        words,
-        stamp,
-        place,
-        heading: has_heading(operands),
-    }
 }
 
 // get: with -e an edit is reserved
@@ -109,10 +69,23 @@ fn get_of<'a>(
     requires moment { IsMoment stamp.now.moment }
     ensures { action_in result ≡ get_in words.now (caller stamp.now place.now) (has_heading operands.now) }
 {
+    let heading = has_heading(operands);
     if words.edit {
-        Known::Reserve(edit_reserved(words, operands, stamp, place))
+        Known::Reserve(Locking {
+            change: Reserve {
+                words,
+                stamp,
+                place,
+                heading,
+            },
+        })
     } else {
-        Known::Get(version_got(words, operands, stamp, place))
+        Known::Get(Get {
+            words,
+            stamp,
+            place,
+            heading,
+        })
     }
 }
 
@@ -124,7 +97,9 @@ fn utility_of<'a>(command: &'a Command, stamp: &'a Stamp, place: &'a Line) -> Kn
     match command {
         Command::Admin(words, _) => {
             if is_admin_built(words) {
-                Known::Admin(Admin { words, stamp })
+                Known::Admin(Locking {
+                    change: Admin { words, stamp },
+                })
             } else {
                 Known::Unbuilt(Unbuilt {
                     any: false,
@@ -133,11 +108,15 @@ fn utility_of<'a>(command: &'a Command, stamp: &'a Stamp, place: &'a Line) -> Kn
             }
         }
         Command::Get(words, operands) => get_of(words, operands, stamp, place),
-        Command::Delta(words, _) => Known::Delta(Delta { words, stamp }),
-        Command::Unget(words, operands) => Known::Unget(Unget {
-            words,
-            stamp,
-            heading: has_heading(operands),
+        Command::Delta(words, _) => Known::Delta(Locking {
+            change: Delta { words, stamp },
+        }),
+        Command::Unget(words, operands) => Known::Unget(Locking {
+            change: Unget {
+                words,
+                stamp,
+                heading: has_heading(operands),
+            },
         }),
         Command::Sact(operands) => Known::Sact(Sact {
             heading: has_heading(operands),

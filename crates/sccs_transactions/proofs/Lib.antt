@@ -3,4 +3,3 @@ pub mod ChangeEnds
 pub mod ReportLaws
 pub mod StopEnds
 pub mod UnlockedChanges
-pub mod Utilities

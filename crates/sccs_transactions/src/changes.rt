@@ -25,6 +25,10 @@ pub trait Change {
     /// A locked name may be refused.
     ghost locked: { (utility : Self) → (change utility).could (Err Locked) ≡ true };
 
+    /// Whether it takes the input.
+    fn takes_input(&self) -> bool
+        ensures { result ≡ (change self.now).takes };
+
     /// Makes the checks behind the lock, and the new files as working files.
     fn prepare<I: Source, O: Sink, D: Disk>(
         &self,

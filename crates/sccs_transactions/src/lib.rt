@@ -6,8 +6,10 @@ mod changes;
 mod prepared;
 mod reports;
 mod transactions;
+mod utilities;
 
 pub use changes::Change;
 pub use prepared::Prepared;
 pub use reports::report;
 pub use transactions::change_file;
+pub use utilities::Locking;

@@ -1,7 +1,7 @@
 use Rattle.std.proofs.Common.{◌≡◌, Bool, true, false, refl, ◌∙◌}
 use Rattle.sccs_steps.specs.Calls.{scene}
 use Rattle.sccs_steps.specs.StepStops.{StepMoments}
-use Rattle.sccs_transactions.proofs.Utilities.{is_sfile}
+use Rattle.sccs_transactions.specs.Utilities.{is_sfile}
 use Rattle.sccs_get.specs.VersionStep.{get_action, writes_g}
 use Rattle.sccs_get.proofs.GetMoments.{finished_moments, given_up_moments}
 use Rattle.sccs_get.proofs.SpeakLaws.{finished_speaks, given_up_causes, given_up_speaks, ready_finished}
