@@ -2,7 +2,7 @@ ghost use Rattle.std.specs.Prelude.{◌≤◌, OnErr, OnOk};
 ghost use Rattle.sccs_base.specs.Name.{IsSfile, sibling};
 ghost use Rattle.sccs_base.specs.Stream.{Rose};
 ghost use Rattle.sccs_disk.specs.Calls.{IsThere};
-ghost use Rattle.sccs_disk.specs.Effects.{altered, protected};
+ghost use Rattle.sccs_disk.specs.Effects.{altered};
 ghost use Rattle.sccs_disk.specs.Images.{IsFirm};
 ghost use Rattle.sccs_disk.specs.Told.{seen};
 ghost use Rattle.sccs_gfiles.specs.Finished.{finished};
@@ -13,21 +13,7 @@ ghost use Rattle.sccs_writers.specs.OneFile.{OnlyWrites};
 use crate::modes::Mode;
 use sccs_base::{Failed, Name};
 use sccs_disk::Disk;
-
-// takes the mark writable from a file and syncs it
-fn seal<D: Disk>(disk: &mut D, name: &Name) -> Result<(), Failed>
-    requires { IsThere name.now (D.told disk.old) }
-    ensures view { OnOk result (Becomes (altered name.now protected) (seen (D.told disk.old)) (seen (D.told disk.new))) }
-    ensures only { OnlyWrites name.now (D.told disk.old) (D.told disk.new) }
-    ensures firm { OnOk result (Leaves (IsFirm name.now) (D.told disk.old) (D.told disk.new)) }
-    ensures later { D.faults disk.old ≤ D.faults disk.new }
-    ensures cause { OnErr result (Rose (D.faults disk.old) (D.faults disk.new)) }
-{
-    match disk.protect(name) {
-        Ok(()) => disk.sync(name),
-        Err(fault) => Err(fault),
-    }
-}
+use sccs_store::seal;
 
 // syncs a file, with its mark as it is to be
 fn finish<D: Disk>(disk: &mut D, name: &Name, mode: Mode) -> Result<(), Failed>

@@ -80,8 +80,8 @@ pub fn start<D: Disk>(disk: &mut D, name: &Name, letter: u8) -> Result<(), DiskR
     renew(disk, &name.sibling(letter))
 }
 
-// takes the mark writable from a file and syncs it
-fn seal<D: Disk>(disk: &mut D, name: &Name) -> Result<(), Failed>
+/// Takes the mark writable from a file and syncs it.
+pub fn seal<D: Disk>(disk: &mut D, name: &Name) -> Result<(), Failed>
     requires { IsThere name.now (D.told disk.old) }
     ensures view { OnOk result (Becomes (altered name.now protected) (seen (D.told disk.old)) (seen (D.told disk.new))) }
     ensures only { OnlyWrites name.now (D.told disk.old) (D.told disk.new) }
