@@ -1,4 +1,4 @@
-ghost use Rattle.std.specs.Prelude.{◌≡◌, ◌<◌, ◌≤◌, ◌↔◌, List, ◌∷◌, drop, is_some, IsTrue, IfSome, OnSome};
+ghost use Rattle.std.specs.Prelude.{◌≡◌, ◌≢◌, ◌<◌, ◌≤◌, ◌↔◌, List, [], ◌∷◌, length, drop, is_some, IsTrue, IfSome, OnSome};
 ghost use Rattle.std.specs.Str.{bytes_eq};
 ghost use Rattle.sccs_base.specs.Name.{IsName, IsSfile, is_name, is_sfile_name, sibling};
 
@@ -26,14 +26,22 @@ impl Model for Name {
     ghost inverse = { λ bytes. record { bytes = bytes } };
 }
 
-// whether bytes are a name
-fn fits(bytes: &[u8]) -> bool
-    ensures { IsTrue result ↔ IsName bytes.now }
+// whether bytes are as many as a name has, and neither `.` nor `..`
+fn is_sized(bytes: &[u8]) -> bool
+    ensures { IsTrue result ↔ ((0 < length bytes.now) × ((length bytes.now < 251)
+        × ((bytes.now ≢ 46 ∷ []) × (bytes.now ≢ 46 ∷ 46 ∷ [])))) }
 {
     0 < bytes.len()
         && bytes.len() <= NAME_LENGTH
         && bytes != b".".as_slice()
         && bytes != b"..".as_slice()
+}
+
+// whether bytes are a name
+fn fits(bytes: &[u8]) -> bool
+    ensures { IsTrue result ↔ IsName bytes.now }
+{
+    is_sized(bytes)
         && bytes.iter().all(|b| *b != b'/' && *b != LF && *b != 0)
         && std::str::from_utf8(bytes).is_ok()
 }

@@ -9,6 +9,19 @@ use std::alloc::Global;
 // how many bytes a source is asked for at once
 const PIECE: usize = 4096;
 
+// how many bytes a source is asked for: one more than there is room for, up to a piece
+fn asked(room: u64) -> usize
+    ensures some { 0 < result }
+    ensures piece { result ≤ 4096 }
+    ensures room { result ≤ room + 1 }
+{
+    if room < PIECE as u64 {
+        room as usize + 1
+    } else {
+        PIECE
+    }
+}
+
 /// All that a source has left; TooLong exactly where that is more than `limit` bytes. Each turn
 /// gets at least one byte, and no more than `limit` plus one bytes are taken.
 pub fn take_all<S: Source>(alloc: Global, source: &mut S, limit: u64) -> Result<Bytes, TakeFault>
@@ -23,12 +36,7 @@ pub fn take_all<S: Source>(alloc: Global, source: &mut S, limit: u64) -> Result<
     let mut room = limit;
     let mut piece = [0; PIECE];
     loop {
-        let want = if room < PIECE as u64 {
-            room as usize + 1
-        } else {
-            PIECE
-        };
-        let Ok(n) = source.take(&mut piece[..want]) else {
+        let Ok(n) = source.take(&mut piece[..asked(room)]) else {
             return Err(TakeFault::Failed);
         };
         if n == 0 {
@@ -37,9 +45,9 @@ pub fn take_all<S: Source>(alloc: Global, source: &mut S, limit: u64) -> Result<
         if n as u64 > room {
             return Err(TakeFault::TooLong);
         }
-        if all.extend_from_slice(&piece[..n]).is_err() {
+        let Ok(()) = all.extend_from_slice(&piece[..n]) else {
             return Err(TakeFault::Memory);
-        }
+        };
         room -= n as u64;
     }
 }

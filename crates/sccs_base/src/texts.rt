@@ -1,4 +1,4 @@
-ghost use Rattle.std.specs.Prelude.{◌≡◌, ◌≢◌, IfOk, OnOk, IsErrOf};
+ghost use Rattle.std.specs.Prelude.{◌≡◌, ◌≢◌, ◌↔◌, IsTrue, IfOk, OnOk, IsErrOf};
 ghost use Rattle.sccs_base.specs.Cut.{HasNoLf, text_of, without_lf};
 
 use crate::constants::LF;
@@ -26,6 +26,13 @@ impl Model for Line {
     ghost invariant = { λ s. HasNoLf s.bytes.items };
 }
 
+// whether LF is not among bytes
+fn is_line(bytes: &[u8]) -> bool
+    ensures { IsTrue result ↔ HasNoLf bytes.now }
+{
+    memchr(LF, bytes).is_none()
+}
+
 impl Line {
     /// A line of these bytes; Unfit exactly where LF is among them.
     pub fn new(alloc: Global, bytes: &[u8]) -> Result<Line, MakeFault>
@@ -33,7 +40,7 @@ impl Line {
         ensures fit { OnOk result (HasNoLf bytes.now) }
         ensures unfit { IsErrOf result MakeFault.Unfit → ¬ HasNoLf bytes.now }
     {
-        if memchr(LF, bytes).is_some() {
+        if !is_line(bytes) {
             return Err(MakeFault::Unfit);
         }
         let Ok(bytes) = bytes.to_vec(alloc) else {

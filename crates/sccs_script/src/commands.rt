@@ -5,7 +5,7 @@ use sccs_edits::OrderKind;
 use sccs_sid::reading::wide_number_at;
 
 /// What a command line says.
-#[derive(Clone, Copy, Debug, PartialEq, Eq)]
+#[derive(Clone, Copy)]
 pub struct Command {
     pub kind: OrderKind,
     pub first: u32,

@@ -1,4 +1,4 @@
-ghost use Rattle.std.specs.Prelude.{◌≡◌, ◌-◌, ◌++◌, drop, map, take, IfOk};
+ghost use Rattle.std.specs.Prelude.{◌≡◌, ◌-◌, ◌∷◌, ◌++◌, drop, map, take, IfOk};
 ghost use Rattle.std.specs.List.{AllByRecursion};
 ghost use Rattle.sccs_script.specs.Drafts.{anchor, base_of, edit, edited, Fresh, IsPiece, IsWithin, unstacked};
 
@@ -19,14 +19,21 @@ fn base(alloc: Global, lines: u64) -> Result<Tree, Memory>
     join(alloc, Tree::empty(), Piece::Kept(1, lines), Tree::empty())
 }
 
+// a new line between two texts, behind a base line
+fn put_line(alloc: Global, front: Tree, after: u64, line: &Line, back: Tree) -> Result<Tree, Memory>
+    ensures { IfOk result (λ t. t ≡ front ++ (Fresh after line.now ∷ back)) }
+{
+    let line = copy_line(alloc, line)?;
+    join(alloc, front, Piece::Fresh(after, line), back)
+}
+
 // with new lines at the end, all of which follow one base line
 fn add_lines(alloc: Global, tree: Tree, after: u64, lines: &[Line]) -> Result<Tree, Memory>
     ensures { IfOk result (λ t. t ≡ tree ++ map (Fresh after) lines.now) }
 {
     let mut tree = tree;
     for line in lines {
-        let line = copy_line(alloc, line)?;
-        tree = join(alloc, tree, Piece::Fresh(after, line), Tree::empty())?;
+        tree = put_line(alloc, tree, after, line, Tree::empty())?;
     }
     Ok(tree)
 }
@@ -41,8 +48,15 @@ fn put_between(alloc: Global, halves: Halves, lines: &Text) -> Result<Tree, Memo
     };
     let after = anchor(&front, 0);
     let front = add_lines(alloc, front, after, others)?;
-    let last = copy_line(alloc, last)?;
-    join(alloc, front, Piece::Fresh(after, last), back)
+    put_line(alloc, front, after, last, back)
+}
+
+// the lines behind a place
+fn behind(alloc: Global, tree: Tree, place: u64) -> Result<Tree, Memory>
+    ensures { IfOk result (λ t. t ≡ drop place tree) }
+{
+    let Halves { front: _, back } = split(alloc, tree, place)?;
+    Ok(back)
 }
 
 // the lines before the one with the first number, and those behind the one with the last
@@ -52,7 +66,7 @@ fn cut(alloc: Global, tree: Tree, first: u32, last: u32) -> Result<Halves, Memor
 {
     let before = u64::from(first).saturating_sub(1);
     let Halves { front, back: rest } = split(alloc, tree, before)?;
-    let Halves { front: _, back } = split(alloc, rest, u64::from(last).saturating_sub(before))?;
+    let back = behind(alloc, rest, u64::from(last).saturating_sub(before))?;
     Ok(Halves { front, back })
 }
 

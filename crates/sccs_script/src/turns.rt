@@ -2,7 +2,7 @@ ghost use Rattle.std.specs.Prelude.{◌≡◌, ◌+◌, IfOk, IfSome};
 ghost use Rattle.sccs_script.specs.Commands.{begun, command_of, FitsIn, HasNumbers, is_dot, order_of, turn_at, TurnFits, with_line};
 
 use crate::commands::{Command, command_of, is_dot};
-use crate::copies::copy_line;
+use crate::copies::push_copy;
 use sccs_base::{Line, Memory, Text};
 use sccs_edits::{Order, OrderKind};
 use std::alloc::Global;
@@ -58,7 +58,7 @@ fn go_on(alloc: Global, mut order: Order, number: u64, line: &Line) -> Result<Tu
     if is_dot(line.bytes()) {
         return Ok(Turn::Whole(order));
     }
-    order.lines.push(copy_line(alloc, line)?)?;
+    push_copy(alloc, &mut order.lines, line)?;
     Ok(Turn::Open(order))
 }
 

@@ -61,11 +61,11 @@ impl Cutoff {
         let (hour, rest) = unit_at(4, 0, 23, rest)?;
         let (minute, rest) = unit_at(5, 0, 59, rest)?;
         let (second, rest) = unit_at(6, 0, 59, rest)?;
-        if piece_at(rest).is_ok() {
-            return Err(MomentFault { place: 7 });
+        match piece_at(rest) {
+            Ok(_) => Err(MomentFault { place: 7 }),
+            Err(_) => Ok(Moment {
+                seconds: second_of(year, month, day, hour, minute, second),
+            }),
         }
-        Ok(Moment {
-            seconds: second_of(year, month, day, hour, minute, second),
-        })
     }
 }

@@ -1,7 +1,8 @@
-ghost use Rattle.std.specs.Prelude.{◌≡◌, ◌+◌, ◌^◌, ◌<◌, length, option_and_then, IfOk};
+ghost use Rattle.std.specs.Prelude.{◌≡◌, ◌+◌, ◌^◌, ◌<◌, length, option_and_then, IfOk, Ok};
 ghost use Rattle.sccs_words.specs.Letters as opt;
+ghost use Rattle.sccs_words.specs.declared.commands.Command.TheVariants as commands;
 ghost use Rattle.sccs_words.specs.Meaning.{Gives, meaning, first_of, with_name, with_sid, with_number, own_utility, utility_of as utility_spec, command_of as command_spec, refusal_of as refusal_spec, line_meaning as line_spec};
-ghost use Rattle.sccs_words.specs.Records.{value_of as value_spec};
+ghost use Rattle.sccs_words.specs.Records.{value_of as value_spec, admin_words as admin_spec, get_words as get_spec, prs_words as prs_spec, operands_of as operands_spec};
 ghost use Rattle.sccs_words.specs.Scan.{end_of};
 ghost use Rattle.sccs_words.specs.Scanned.{line_of};
 ghost use Rattle.sccs_words.specs.ValidValues.{HasValidValues};
@@ -83,6 +84,33 @@ fn first_number(operands: &[Bytes]) -> Option<u64>
     }
 }
 
+fn admin_of(alloc: Global, line: &CommandLine<'_>) -> Result<Command, WordsFault>
+    ensures value { Gives result (Ok (commands.Admin (admin_spec line.now.uses.now) (operands_spec line.now.operands.now))) }
+    ensures valid { IfOk result HasValidValues }
+{
+    let operands = operands_of(alloc, line.operands)?;
+    let words = admin_words(alloc, line.uses)?;
+    Ok(Command::Admin(words, operands))
+}
+
+fn get_of(alloc: Global, line: &CommandLine<'_>) -> Result<Command, WordsFault>
+    ensures value { Gives result (Ok (commands.Get (get_spec line.now.uses.now) (operands_spec line.now.operands.now))) }
+    ensures valid { IfOk result HasValidValues }
+{
+    let operands = operands_of(alloc, line.operands)?;
+    let words = get_words(alloc, line.uses)?;
+    Ok(Command::Get(words, operands))
+}
+
+fn prs_of(alloc: Global, line: &CommandLine<'_>) -> Result<Command, WordsFault>
+    ensures value { Gives result (Ok (commands.Prs (prs_spec line.now.uses.now) (operands_spec line.now.operands.now))) }
+    ensures valid { IfOk result HasValidValues }
+{
+    let operands = operands_of(alloc, line.operands)?;
+    let words = prs_words(alloc, line.uses)?;
+    Ok(Command::Prs(words, operands))
+}
+
 fn delta_of(alloc: Global, line: &CommandLine<'_>) -> Result<Command, WordsFault>
     ensures value { Gives result (with_name line.now.uses.now (end_of (line_of line.now)) (option_and_then name_value (first_of line.now.operands.now))) }
     ensures valid { IfOk result HasValidValues }
@@ -140,22 +168,13 @@ fn command_of(
     let uses = line.uses;
     let operands = line.operands;
     match utility {
-        Utility::Admin => {
-            let words = admin_words(alloc, uses)?;
-            Ok(Command::Admin(words, operands_of(alloc, operands)?))
-        }
-        Utility::Get => {
-            let words = get_words(alloc, uses)?;
-            Ok(Command::Get(words, operands_of(alloc, operands)?))
-        }
+        Utility::Admin => admin_of(alloc, line),
+        Utility::Get => get_of(alloc, line),
         Utility::Delta => delta_of(alloc, line),
         Utility::Unget => Ok(Command::Unget(unget_words(uses), operands_of(alloc, operands)?)),
         Utility::Sact => Ok(Command::Sact(operands_of(alloc, operands)?)),
         Utility::Rmdel => rmdel_of(alloc, line),
-        Utility::Prs => {
-            let words = prs_words(alloc, uses)?;
-            Ok(Command::Prs(words, operands_of(alloc, operands)?))
-        }
+        Utility::Prs => prs_of(alloc, line),
         Utility::Val => Ok(Command::Val(val_words(alloc, line)?)),
         Utility::What => Ok(Command::What(has(uses, b's'), operands_of(alloc, operands)?)),
         Utility::Recover => Ok(Command::Recover(operands_of(alloc, operands)?)),

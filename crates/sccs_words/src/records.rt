@@ -1,4 +1,5 @@
 ghost use Rattle.std.specs.Prelude.{◌≡◌, ◌+◌, ◌^◌, ◌<◌, ◌≤◌, length, option_map, option_and_then, All, IfOk, IfSome};
+ghost use Rattle.sccs_sid.specs.Reading.{is_empty};
 ghost use Rattle.sccs_sid.specs.Sid.{IsComponent, IsSid};
 ghost use Rattle.sccs_sid.specs.Spec.{IsSpec};
 ghost use Rattle.sccs_sid.specs.SidLists.{IsRange};
@@ -15,7 +16,9 @@ use crate::commands::{
 use crate::judging::{has, is_dash, operands_fault, uses_fault};
 use crate::scanning::{OptionArgument, Use};
 use crate::tables::{OperandRule, Utility};
-use crate::values::{list_value, moment_value, mr_words, release_value, sid_value, spec_value};
+use crate::values::{
+    list_value, moment_value, mr_words, push_copy, release_value, sid_value, spec_value,
+};
 use sccs_base::{Bytes, Memory, Name, Text, Words};
 use sccs_sid::{Moment, Sid, SidList, Spec};
 use std::alloc::Global;
@@ -62,7 +65,7 @@ fn values_of(alloc: Global, uses: &[Use], letter: u8) -> Result<Words, Memory>
             None
         };
         match found {
-            Some(bytes) => values.push(Bytes::new(alloc, bytes)?)?,
+            Some(bytes) => push_copy(alloc, &mut values, bytes)?,
             None => {}
         }
     }
@@ -234,22 +237,41 @@ pub fn prs_words(alloc: Global, uses: &[Use]) -> Result<PrsWords, Memory>
     })
 }
 
+// the values of all uses of two letters
+fn values_of_both(
+    alloc: Global,
+    uses: &[Use],
+    first: u8,
+    second: u8,
+) -> Result<(Words, Words), Memory>
+    ensures first { IfOk result (λ both. both.0 ≡ values_spec first uses.now) }
+    ensures second { IfOk result (λ both. both.1 ≡ values_spec second uses.now) }
+{
+    let of_first = values_of(alloc, uses, first)?;
+    let of_second = values_of(alloc, uses, second)?;
+    Ok((of_first, of_second))
+}
+
 pub fn admin_words(alloc: Global, uses: &[Use]) -> Result<AdminWords, Memory>
     ensures value { IfOk result (λ r. r ≡ admin_spec uses.now) }
     ensures valid { IfOk result (λ r. IfSome r.release IsComponent) }
 {
+    let mrs = mrs_at(alloc, uses, b'm')?;
+    let comment = comment_of(alloc, uses)?;
+    let (add, erase) = values_of_both(alloc, uses, b'a', b'e')?;
+    let (set, unset) = values_of_both(alloc, uses, b'f', b'd')?;
     Ok(AdminWords {
-        add: values_of(alloc, uses, b'a')?,
-        erase: values_of(alloc, uses, b'e')?,
-        set: values_of(alloc, uses, b'f')?,
-        unset: values_of(alloc, uses, b'd')?,
+        add,
+        erase,
+        set,
+        unset,
         check: has(uses, b'h'),
         fix: has(uses, b'z'),
         fresh: has(uses, b'n') || has(uses, b'i'),
         text: given_of(uses, b'i'),
         release: release_at(uses, b'r'),
-        mrs: mrs_at(alloc, uses, b'm')?,
-        comment: comment_of(alloc, uses)?,
+        mrs,
+        comment,
         description: given_of(uses, b't'),
     })
 }
@@ -269,7 +291,7 @@ fn copied(alloc: Global, words: &[Bytes]) -> Result<Words, Memory>
 {
     let mut copies = Words::new(alloc);
     for word in words {
-        copies.push(Bytes::new(alloc, word.bytes())?)?;
+        push_copy(alloc, &mut copies, word.bytes())?;
     }
     Ok(copies)
 }
@@ -306,17 +328,29 @@ fn bit(holds: bool, value: u8) -> u8
     if holds { value } else { 0 }
 }
 
-pub fn val_words(alloc: Global, line: &CommandLine<'_>) -> Result<ValWords, Memory>
-    ensures { IfOk result (λ r. r ≡ val_spec (line_of line.now)) }
+// the bits of the faults of val's words
+fn val_fault(alloc: Global, line: &CommandLine<'_>) -> Result<u8, Memory>
+    ensures { IfOk result (λ r. r ≡ bit_spec (is_option_fault (line_of line.now)) 64 + bit_spec (is_empty line.now.operands.now) 128) }
 {
     let option = bit(has_option_fault(alloc, line)?, OPTION_FAULT);
     let none = bit(line.operands.is_empty(), NO_OPERAND_BIT);
+    Ok(option + none)
+}
+
+pub fn val_words(alloc: Global, line: &CommandLine<'_>) -> Result<ValWords, Memory>
+    ensures { IfOk result (λ r. r ≡ val_spec (line_of line.now)) }
+{
+    let fault = val_fault(alloc, line)?;
+    let operands = operands_of(alloc, line.operands)?;
+    let sid = bytes_at(alloc, line.uses, b'r')?;
+    let kind = bytes_at(alloc, line.uses, b'y')?;
+    let module = bytes_at(alloc, line.uses, b'm')?;
     Ok(ValWords {
-        fault: option + none,
+        fault,
         silent: has(line.uses, b's'),
-        sid: bytes_at(alloc, line.uses, b'r')?,
-        kind: bytes_at(alloc, line.uses, b'y')?,
-        module: bytes_at(alloc, line.uses, b'm')?,
-        operands: operands_of(alloc, line.operands)?,
+        sid,
+        kind,
+        module,
+        operands,
     })
 }

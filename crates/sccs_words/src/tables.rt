@@ -3,7 +3,7 @@ ghost use Rattle.sccs_words.specs.Synopsis.{options_of, exclusions_of, needs_of,
 
 /// An option: without a value; with one in the rest of the word or none; with one, there or in the
 /// next word; the same, and it may repeat.
-#[derive(Clone, Copy, Debug, PartialEq, Eq)]
+#[derive(Clone, Copy)]
 pub enum OptionSpec {
     Plain(u8),
     Joined(u8, Form),
@@ -12,7 +12,7 @@ pub enum OptionSpec {
 }
 
 /// How a value is spelled.
-#[derive(Clone, Copy, Debug, PartialEq, Eq)]
+#[derive(Clone, Copy)]
 pub enum Form {
     Any,
     User,
@@ -28,7 +28,7 @@ pub enum Form {
 
 /// Options that exclude each other: these two; the first without a value and the second; the one
 /// and any other.
-#[derive(Clone, Copy, Debug, PartialEq, Eq)]
+#[derive(Clone, Copy)]
 pub enum Exclusion {
     Both(u8, u8),
     Bare(u8, u8),
@@ -36,7 +36,7 @@ pub enum Exclusion {
 }
 
 /// Options that are needed: this one always; or one of the last two where the first stands.
-#[derive(Clone, Copy, Debug, PartialEq, Eq)]
+#[derive(Clone, Copy)]
 pub enum Need {
     Always(u8),
     With(u8, u8, u8),
@@ -44,7 +44,7 @@ pub enum Need {
 
 /// Operands: none; one s-file; one number; one or more; one or more, and with this option one that
 /// is neither `.` nor `-`.
-#[derive(Clone, Copy, Debug, PartialEq, Eq)]
+#[derive(Clone, Copy)]
 pub enum OperandRule {
     Nothing,
     Sfile,
@@ -54,7 +54,7 @@ pub enum OperandRule {
 }
 
 /// The utilities, by the first word.
-#[derive(Clone, Copy, Debug, PartialEq, Eq)]
+#[derive(Clone, Copy)]
 pub enum Utility {
     Admin,
     Get,

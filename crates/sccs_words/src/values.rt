@@ -1,4 +1,4 @@
-ghost use Rattle.std.specs.Prelude.{◌≡◌, ◌<◌, ◌≤◌, [], ◌++◌, drop, option_map, All, IfOk, IfSome, OnOk};
+ghost use Rattle.std.specs.Prelude.{◌≡◌, ◌<◌, ◌≤◌, [], ◌∷◌, ◌++◌, drop, option_map, All, IfOk, IfSome, OnOk};
 ghost use Rattle.sccs_sid.specs.Sid.{IsComponent, IsSid};
 ghost use Rattle.sccs_sid.specs.Spec.{IsSpec};
 ghost use Rattle.sccs_sid.specs.SidLists.{IsRange};
@@ -109,6 +109,13 @@ fn is_gap(byte: u8) -> bool
     byte == b' ' || byte == b'\t' || byte == b'\n'
 }
 
+/// Puts a copy of bytes after others.
+pub fn push_copy(alloc: Global, words: &mut Words, bytes: &[u8]) -> Result<(), Memory>
+    ensures { OnOk result (words.new ≡ words.old ++ (bytes.now ∷ [])) }
+{
+    words.push(Bytes::new(alloc, bytes)?)
+}
+
 // puts a word after others, unless it is empty
 fn end_word(alloc: Global, words: &mut Words, word: &mut Vec<u8>) -> Result<(), Memory>
     ensures { OnOk result ((words.new ≡ ended words.old word.old.items) × (word.new.items ≡ [])) }
@@ -116,7 +123,7 @@ fn end_word(alloc: Global, words: &mut Words, word: &mut Vec<u8>) -> Result<(), 
     if word.is_empty() {
         return Ok(());
     }
-    words.push(Bytes::new(alloc, word.as_slice())?)?;
+    push_copy(alloc, words, word.as_slice())?;
     word.clear();
     Ok(())
 }

@@ -13,7 +13,7 @@ use itoa::Buffer;
 use sccs_base::{Name, Text};
 use sccs_disk::{Disk, DiskRefusal};
 use sccs_history::{Flags, Header, Record, Records, Serials};
-use sccs_sid::Sid;
+use sccs_sid::{DETAIL_ROOM, Sid};
 use sccs_table::Sum;
 
 // puts three counts of five digits each
@@ -35,22 +35,13 @@ fn put_counts<D: Disk>(
 }
 
 // puts a SID as it is written
-#[tactic(auto, unfolding(sccs_sid::specs::Sid::sid_text))]
 fn put_sid<D: Disk>(sid: &Sid, out: &mut PieceWriter, disk: &mut D) -> Result<(), DiskRefusal>
     requires { IsThere out.old.name (D.told disk.old) }
     ensures { PutsText (sid_text sid.now) out.old out.new (D.told disk.old) (D.told disk.new)
         (D.faults disk.old) (D.faults disk.new) result }
 {
-    let (mut release, mut level) = (Buffer::new(), Buffer::new());
-    let release = release.format(sid.release).as_bytes();
-    let level = level.format(sid.level).as_bytes();
-    if sid.branch == 0 {
-        return out.put_parts(&[release, b".", level], disk);
-    }
-    let (mut branch, mut sequence) = (Buffer::new(), Buffer::new());
-    let branch = branch.format(sid.branch).as_bytes();
-    let sequence = sequence.format(sid.sequence).as_bytes();
-    out.put_parts(&[release, b".", level, b".", branch, b".", sequence], disk)
+    let mut row = [0; DETAIL_ROOM];
+    out.put(sid.text(&mut row), disk)
 }
 
 // puts serials, each behind a blank
