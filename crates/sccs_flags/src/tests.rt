@@ -22,29 +22,45 @@ fn header(alloc: Global, flags: &[(u8, &[u8])], users: &[u8]) -> Result<Header, 
     })
 }
 
+fn has_no_limits(header: &Header) -> bool {
+    (ceiling(header) == 9999) & (floor(header) == 1) & !is_locked(header, 1)
+}
+
+fn has_limits(header: &Header) -> bool {
+    is_within_limits(header, 2) & is_within_limits(header, 5) & !is_within_limits(header, 6)
+}
+
+fn has_locks(header: &Header) -> bool {
+    let locked = is_locked(header, 3) & is_locked(header, 7) & !is_locked(header, 5);
+    locked & has_flag(header, b'l') & !has_flag(header, b'j')
+}
+
 #[test]
 fn releases_are_within_limits_and_locked(rt: HostRuntime) -> Result<(), Fail> {
     let plain = header(rt.alloc(), &[], b"")?;
-    assert!(rt; ceiling(&plain) == 9999 && floor(&plain) == 1 && !is_locked(&plain, 1));
+    assert!(rt; has_no_limits(&plain));
     let flags: [(u8, &[u8]); 3] = [(b'c', b"5"), (b'f', b"02"), (b'l', b"3,4  7")];
     let set = header(rt.alloc(), &flags, b"")?;
-    assert!(rt;
-        is_within_limits(&set, 2) && is_within_limits(&set, 5) && !is_within_limits(&set, 6)
-    );
-    assert!(rt; is_locked(&set, 3) && is_locked(&set, 7) && !is_locked(&set, 5));
-    assert!(rt; has_flag(&set, b'l') && !has_flag(&set, b'j'));
+    assert!(rt; has_limits(&set) & has_locks(&set));
     Ok(())
+}
+
+// whether the users of a header let ann and bob in
+fn are_allowed(alloc: Global, users: &[u8]) -> Result<[bool; 2], Fail> {
+    let ann = Login::read(b"ann").ok_or("a login")?;
+    let bob = Login::read(b"bob").ok_or("a login")?;
+    let header = header(alloc, &[], users)?;
+    Ok([is_allowed(&header, &ann), is_allowed(&header, &bob)])
 }
 
 #[test]
 fn logins_are_let_in(rt: HostRuntime) -> Result<(), Fail> {
-    let ann = Login::read(b"ann").ok_or("a login")?;
-    let bob = Login::read(b"bob").ok_or("a login")?;
-    let open = header(rt.alloc(), &[], b"!bob\n")?;
-    assert!(rt; is_allowed(&open, &ann) && !is_allowed(&open, &bob));
-    let listed = header(rt.alloc(), &[], b"bob\n100\n!bob\nann\n")?;
-    assert!(rt; is_allowed(&listed, &ann) && !is_allowed(&listed, &bob));
-    let group = header(rt.alloc(), &[], b"100\n")?;
-    assert!(rt; !is_allowed(&group, &ann));
+    let alloc = rt.alloc();
+    assert_eq!(rt; are_allowed(alloc, b"!bob\n")?, [true, false]);
+    assert_eq!(rt;
+        are_allowed(alloc, b"bob\n100\n!bob\nann\n")?,
+        [true, false]
+    );
+    assert_eq!(rt; are_allowed(alloc, b"100\n")?, [false, false]);
     Ok(())
 }

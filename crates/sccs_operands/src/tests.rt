@@ -1,8 +1,25 @@
 use crate::*;
-use sccs_base::{MemorySource, Name, TakeFault};
+use sccs_base::{MemorySource, Name, TakeFault, Text, Words};
 use sccs_disk::SteadyDisk;
 use std::alloc::Global;
 use std::test::Fail;
+
+// names with a blank behind each
+fn joined(alloc: Global, names: &Words) -> Result<Vec<u8>, Fail> {
+    let mut line = Vec::new(alloc);
+    for name in names.items() {
+        line.extend_from_slice(name.bytes())?;
+        line.push(b' ')?;
+    }
+    Ok(line)
+}
+
+fn sfiles_in(alloc: Global, disk: &mut SteadyDisk) -> Result<Vec<u8>, Fail> {
+    match list_sfiles(alloc, disk) {
+        Ok(found) => joined(alloc, &found),
+        Err(_) => Err("a listing".into()),
+    }
+}
 
 // the names of s-files among files of these names, with a blank behind each
 fn sfiles_among(alloc: Global, names: &[&[u8]]) -> Result<Vec<u8>, Fail> {
@@ -10,13 +27,7 @@ fn sfiles_among(alloc: Global, names: &[&[u8]]) -> Result<Vec<u8>, Fail> {
     for name in names {
         disk.put(&Name::read(name).ok_or("a name")?, b"", true)?;
     }
-    let found = list_sfiles(alloc, &mut disk).ok().ok_or("a listing")?;
-    let mut line = Vec::new(alloc);
-    for name in found.items() {
-        line.extend_from_slice(name.bytes())?;
-        line.push(b' ')?;
-    }
-    Ok(line)
+    sfiles_in(alloc, &mut disk)
 }
 
 #[test]
@@ -26,21 +37,33 @@ fn sfiles_come_in_byte_order(rt: HostRuntime) -> Result<(), Fail> {
     ];
     let found = sfiles_among(rt.alloc(), &names)?;
     assert_eq!(rt; found.as_slice(), b"s.A s.a s.a.c s.b ".as_slice());
-    assert_eq!(rt;
-        sfiles_among(rt.alloc(), &[b"a"])?.as_slice(),
-        b"".as_slice()
-    );
+    let none = sfiles_among(rt.alloc(), &[b"a"])?;
+    assert!(rt; none.is_empty());
     Ok(())
+}
+
+// whether lines are those of the input
+fn are_both(lines: &Text) -> bool {
+    match lines.items() {
+        [first, second] => (first.bytes() == b"s.a".as_slice())
+            & (second.bytes() == b"s.b".as_slice()),
+        _ => false,
+    }
+}
+
+// whether both lines of an input are read within a limit; None where they are too long
+fn reads_both(alloc: Global, limit: u64) -> Result<Option<bool>, Fail> {
+    let mut input = MemorySource::new(alloc, b"s.a\ns.b", &[])?;
+    match read_names(alloc, &mut input, limit) {
+        Ok(lines) => Ok(Some(are_both(&lines))),
+        Err(TakeFault::TooLong) => Ok(None),
+        Err(_) => Err("an answer".into()),
+    }
 }
 
 #[test]
 fn an_input_has_a_limit(rt: HostRuntime) -> Result<(), Fail> {
-    let mut long = MemorySource::new(rt.alloc(), b"s.a\ns.b", &[])?;
-    let answer = read_names(rt.alloc(), &mut long, 6);
-    assert!(rt; matches!(&answer, Err(TakeFault::TooLong)));
-    let mut short = MemorySource::new(rt.alloc(), b"s.a\ns.b", &[])?;
-    let lines = read_names(rt.alloc(), &mut short, 7)?;
-    assert_eq!(rt; lines.len(), 2);
-    assert_eq!(rt; lines.at(1).bytes(), b"s.b".as_slice());
+    assert_eq!(rt; reads_both(rt.alloc(), 6)?, None);
+    assert_eq!(rt; reads_both(rt.alloc(), 7)?, Some(true));
     Ok(())
 }

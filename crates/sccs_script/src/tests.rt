@@ -49,6 +49,23 @@ fn joined(alloc: Global, text: &Text) -> Result<Vec<u8>, Fail> {
     Ok(bytes)
 }
 
+// what a script that is accepted makes of a text
+fn made_of(alloc: Global, script: &Script, text: &Text) -> Result<Vec<u8>, Fail> {
+    if FILE_LIMIT < text.len() {
+        return Err(Fail::from("the text is too long"));
+    }
+    check(script, text.len())?;
+    let result = apply(alloc, script, text)?;
+    joined(alloc, &result)
+}
+
+// the same of their bytes
+fn applied(alloc: Global, script: &[u8], text: &[u8]) -> Result<Vec<u8>, Fail> {
+    let script = read_script(alloc, script)?;
+    let text = Text::read(alloc, text)?;
+    made_of(alloc, &script, &text)
+}
+
 #[test]
 fn scripts_applied(rt: HostRuntime) -> Result<(), Fail> {
     let rows: [(&[u8], &[u8], &[u8]); 7] = [
@@ -64,34 +81,35 @@ fn scripts_applied(rt: HostRuntime) -> Result<(), Fail> {
         (b"", b"1\n2", b"1\n2\n"),
         (b"0a\nX\n.\n", b"", b"X\n"),
     ];
-    let alloc = rt.alloc();
     for (script, text, wanted) in rows {
-        let script = read_script(alloc, script)?;
-        let text = Text::read(alloc, text)?;
-        assert!(rt; text.len() <= FILE_LIMIT);
-        check(&script, text.len())?;
-        let result = apply(alloc, &script, &text)?;
-        assert_eq!(rt; joined(alloc, &result)?.as_slice(), wanted);
+        let found = applied(rt.alloc(), script, text)?;
+        assert_eq!(rt; found.as_slice(), wanted);
     }
     Ok(())
 }
 
-// the numbers of deleted lines, and behind each number new lines
+// puts the numbers of deleted lines, and behind each number new lines
+fn put_plan(bytes: &mut Vec<u8>, plan: &Plan) -> Result<(), Fail> {
+    for number in plan.deleted.items() {
+        bytes.push(b'0' + (*number % 10) as u8)?;
+    }
+    for added in plan.added.items() {
+        bytes.push(b' ')?;
+        bytes.push(b'0' + (added.after % 10) as u8)?;
+        for line in added.lines.items() {
+            bytes.extend_from_slice(line.bytes())?;
+        }
+    }
+    Ok(())
+}
+
+// the plan of a script that is accepted, and no bytes for another
 fn planned(alloc: Global, script: &[u8], lines: u64) -> Result<Vec<u8>, Fail> {
     let script = read_script(alloc, script)?;
     let mut bytes = Vec::new(alloc);
     if lines <= 9 && check(&script, lines).is_ok() {
         let plan = plan(alloc, &script, lines)?;
-        for number in plan.deleted.items() {
-            bytes.push(b'0' + (*number % 10) as u8)?;
-        }
-        for added in plan.added.items() {
-            bytes.push(b' ')?;
-            bytes.push(b'0' + (added.after % 10) as u8)?;
-            for line in added.lines.items() {
-                bytes.extend_from_slice(line.bytes())?;
-            }
-        }
+        put_plan(&mut bytes, &plan)?;
     }
     Ok(bytes)
 }

@@ -1,4 +1,7 @@
-ghost use Rattle.std.specs.Prelude.{◌≡◌, IfOk};
+ghost use Rattle.std.specs.Prelude.{◌≡◌, [], true, IfOk};
+ghost use Rattle.std.specs.List.{AllByRecursion};
+ghost use Rattle.sccs_history.specs.Applied.{live_serials};
+ghost use Rattle.sccs_history.specs.Numbers.{has};
 ghost use Rattle.sccs_sets.specs.Samples.{listing, plain};
 ghost use Rattle.sccs_sets.specs.Retrieved.{trunk_sid};
 
@@ -70,49 +73,104 @@ fn listing(alloc: Global) -> Result<Header, Memory>
     })
 }
 
+// which of the serials 1 to 4 the set of delta 4 has, with these lists; None where there is none
+fn first_four(
+    alloc: Global,
+    header: &Header,
+    include: &Serials,
+    exclude: &Serials,
+) -> Option<[bool; 4]>
+    requires listing { header.now.records ≡ listing }
+    requires include { AllByRecursion (λ n. has (live_serials listing) n ≡ true) include.now }
+    requires exclude { AllByRecursion (λ n. has (live_serials listing) n ≡ true) exclude.now }
+{
+    match delta_set(alloc, header, 4, include, exclude, None) {
+        Ok(set) => Some([set.has(1), set.has(2), set.has(3), set.has(4)]),
+        Err(_) => None,
+    }
+}
+
+// the SID that both lists name
+fn shared(alloc: Global, header: &Header, include: &Serials, exclude: &Serials) -> Option<Sid>
+    requires listing { header.now.records ≡ listing }
+    requires include { AllByRecursion (λ n. has (live_serials listing) n ≡ true) include.now }
+    requires exclude { AllByRecursion (λ n. has (live_serials listing) n ≡ true) exclude.now }
+{
+    match delta_set(alloc, header, 4, include, exclude, None) {
+        Err(SetFault::BadList(sid)) => Some(sid),
+        _ => None,
+    }
+}
+
+fn with_three(alloc: Global, header: &Header) -> Result<Option<[bool; 4]>, Fail>
+    requires { header.now.records ≡ listing }
+{
+    let include = numbers(alloc, &[3])?;
+    Ok(first_four(alloc, header, &include, &Serials::empty(alloc)))
+}
+
 #[test]
 fn included_delta_brings_its_lists(rt: HostRuntime) -> Result<(), Fail> {
     let header = listing(rt.alloc())?;
-    let include = numbers(rt.alloc(), &[3])?;
-    let exclude = numbers(rt.alloc(), &[])?;
-    let set = delta_set(rt.alloc(), &header, 4, &include, &exclude, None)?;
     assert_eq!(rt;
-        [set.has(1), set.has(2), set.has(3), set.has(4)],
-        [true, false, true, true]
+        with_three(rt.alloc(), &header)?,
+        Some([true, false, true, true])
     );
     Ok(())
 }
 
+fn with_include(alloc: Global, header: &Header, include: &Serials) -> Result<Option<Sid>, Fail>
+    requires listing { header.now.records ≡ listing }
+    requires include { AllByRecursion (λ n. has (live_serials listing) n ≡ true) include.now }
+{
+    let exclude = numbers(alloc, &[1, 2])?;
+    Ok(shared(alloc, header, include, &exclude))
+}
+
+fn with_both(alloc: Global, header: &Header) -> Result<Option<Sid>, Fail>
+    requires { header.now.records ≡ listing }
+{
+    let include = numbers(alloc, &[4, 2, 1])?;
+    with_include(alloc, header, &include)
+}
+
 #[test]
-fn bad_lists_are_named(rt: HostRuntime) -> Result<(), Fail> {
+fn a_sid_in_both_lists_is_named(rt: HostRuntime) -> Result<(), Fail> {
     let header = listing(rt.alloc())?;
-    let include = numbers(rt.alloc(), &[4, 2, 1])?;
-    let exclude = numbers(rt.alloc(), &[1, 2])?;
-    match delta_set(rt.alloc(), &header, 4, &include, &exclude, None) {
-        Err(fault) => assert_eq!(rt; fault, SetFault::BadList(trunk(2))),
-        Ok(_) => assert!(rt; false),
+    assert_eq!(rt; with_both(rt.alloc(), &header)?, Some(trunk(2)));
+    Ok(())
+}
+
+// whether a list of ranges names these serials, or the SID at fault
+fn names(alloc: Global, header: &Header, list: &SidList, wanted: Result<&[u16], Sid>) -> bool {
+    match serials(alloc, header, list) {
+        Ok(named) => wanted == Ok(named.items()),
+        Err(SetFault::BadList(sid)) => wanted == Err(sid),
+        Err(SetFault::Memory) => false,
     }
-    let mut list = SidList::empty(rt.alloc());
-    list.insert(
-        0,
-        Range {
-            first: trunk(1),
-            last: trunk(3),
-        },
-    )?;
-    let named = serials(rt.alloc(), &header, &list)?;
-    assert_eq!(rt; named.items(), [1, 2, 4].as_slice());
-    list.insert(
-        1,
-        Range {
-            first: trunk(3),
-            last: trunk(2),
-        },
-    )?;
-    match serials(rt.alloc(), &header, &list) {
-        Err(fault) => assert_eq!(rt; fault, SetFault::BadList(trunk(2))),
-        Ok(_) => assert!(rt; false),
-    }
+}
+
+fn are_named(alloc: Global, header: &Header, list: &mut SidList) -> Result<bool, Fail>
+    requires { list.old ≡ [] }
+{
+    let first = Range {
+        first: trunk(1),
+        last: trunk(3),
+    };
+    list.insert(0, first)?;
+    let named = names(alloc, header, list, Ok(&[1, 2, 4]));
+    let second = Range {
+        first: trunk(3),
+        last: trunk(2),
+    };
+    list.insert(1, second)?;
+    Ok(named & names(alloc, header, list, Err(trunk(2))))
+}
+
+#[test]
+fn ranges_name_serials(rt: HostRuntime) -> Result<(), Fail> {
+    let header = listing(rt.alloc())?;
+    assert!(rt; are_named(rt.alloc(), &header, &mut SidList::empty(rt.alloc()))?);
     assert_eq!(rt; retrieve(&header, Some(&Spec::Release(7)), false), Ok(4));
     Ok(())
 }

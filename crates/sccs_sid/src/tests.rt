@@ -47,6 +47,21 @@ fn lists_and_their_places(rt: HostRuntime) -> Result<(), Fail> {
     Ok(())
 }
 
+// whether a list has these two ranges
+fn has_ranges(list: &SidList, first: &Range, second: &Range) -> bool {
+    list.len() == 2 && *list.at(0) == *first && *list.at(1) == *second
+}
+
+// whether a range comes first once it is put there; the one behind it goes
+fn comes_first(list: &mut SidList, range: Range) -> bool {
+    let put = list.insert(0, range).is_ok();
+    if list.len() < 2 {
+        return false;
+    }
+    list.remove(1);
+    put & (*list.at(0) == range)
+}
+
 #[test]
 fn a_list_of_ranges(rt: HostRuntime) -> Result<(), Fail> {
     let one = Range {
@@ -58,60 +73,66 @@ fn a_list_of_ranges(rt: HostRuntime) -> Result<(), Fail> {
         last: sid(1, 2, 1, 10),
     };
     let mut list = SidList::read(rt.alloc(), b"1.2,1.3-1.2.1.10")?;
-    assert_eq!(rt; list.len(), 2);
-    assert_eq!(rt; *list.at(0), one);
-    assert_eq!(rt; *list.at(1), two);
-    list.insert(0, two)?;
-    list.remove(1);
-    assert_eq!(rt; *list.at(0), two);
+    let read = has_ranges(&list, &one, &two);
+    assert!(rt; read & comes_first(&mut list, two));
     assert_eq!(rt; SidList::empty(rt.alloc()).len(), 0);
     Ok(())
 }
 
+fn sids_are_read() -> bool {
+    let trunk = Sid::read(b"1.2") == Ok(sid(1, 2, 0, 0));
+    let branch = Sid::read(b"1.2.3.0004") == Ok(sid(1, 2, 3, 4));
+    let zero = Sid::read(b"1.0") == Err(SidFault::OutOfRange);
+    let prefix = Sid::read(b"1.0.1") == Err(SidFault::Malformed);
+    trunk & branch & zero & prefix
+}
+
+fn prefixes_are_read() -> bool {
+    let release = Spec::read(b"7") == Ok(Spec::Release(7));
+    let branch = Spec::read(b"1.2.3") == Ok(Spec::Branch(1, 2, 3));
+    let full = Spec::read(b"1.2") == Ok(Spec::Full(sid(1, 2, 0, 0)));
+    let zero = Spec::read(b"1.2.0") == Err(SidFault::OutOfRange);
+    let dot = Spec::read(b"1.") == Err(SidFault::Malformed);
+    release & branch & full & zero & dot
+}
+
 #[test]
 fn sids_and_their_prefixes(rt: HostRuntime) -> Result<(), Fail> {
-    assert_eq!(rt; Sid::read(b"1.2"), Ok(sid(1, 2, 0, 0)));
-    assert_eq!(rt; Sid::read(b"1.2.3.0004"), Ok(sid(1, 2, 3, 4)));
-    assert_eq!(rt; Sid::read(b"1.0"), Err(SidFault::OutOfRange));
-    assert_eq!(rt; Sid::read(b"1.0.1"), Err(SidFault::Malformed));
-    assert_eq!(rt; Spec::read(b"7"), Ok(Spec::Release(7)));
-    assert_eq!(rt; Spec::read(b"1.2.3"), Ok(Spec::Branch(1, 2, 3)));
-    assert_eq!(rt; Spec::read(b"1.2"), Ok(Spec::Full(sid(1, 2, 0, 0))));
-    assert_eq!(rt; Spec::read(b"1.2.0"), Err(SidFault::OutOfRange));
-    assert_eq!(rt; Spec::read(b"1."), Err(SidFault::Malformed));
+    assert!(rt; sids_are_read());
+    assert!(rt; prefixes_are_read());
     Ok(())
+}
+
+const fn at(seconds: i64) -> Result<Moment, MomentFault> {
+    Ok(Moment { seconds })
+}
+
+const fn fault(place: u64) -> Result<Moment, MomentFault> {
+    Err(MomentFault { place })
+}
+
+fn moments_are_read() -> bool {
+    let later = Moment::read(b"75/2/28", b"23:59:59") == at(162_863_999);
+    let day = Moment::read(b"75/2/29", b"0:0:0") == fault(3);
+    let month = Moment::read(b"75", b"0:0:0") == fault(2);
+    let second = Moment::read(b"75/2/1", b"0:0") == fault(6);
+    later & day & month & second
+}
+
+fn cutoffs_are_read() -> bool {
+    let month = Cutoff::read(b"7502") == at(162_863_999);
+    let parted = Cutoff::read(b"77/2/2 9:22:25") == at(223_723_345);
+    let joined = Cutoff::read(b"770202092225") == at(223_723_345);
+    let none = Cutoff::read(b"") == fault(1);
+    let thirteenth = Cutoff::read(b"7513") == fault(2);
+    let seventh = Cutoff::read(b"7702020922251") == fault(7);
+    month & parted & joined & none & thirteenth & seventh
 }
 
 #[test]
 fn moments_and_cutoffs(rt: HostRuntime) -> Result<(), Fail> {
-    let later = Ok(Moment {
-        seconds: 162_863_999,
-    });
-    let named = Ok(Moment {
-        seconds: 223_723_345,
-    });
-    assert_eq!(rt; Moment::read(b"75/2/28", b"23:59:59"), later);
-    assert_eq!(rt;
-        Moment::read(b"75/2/29", b"0:0:0"),
-        Err(MomentFault { place: 3 })
-    );
-    assert_eq!(rt;
-        Moment::read(b"75", b"0:0:0"),
-        Err(MomentFault { place: 2 })
-    );
-    assert_eq!(rt;
-        Moment::read(b"75/2/1", b"0:0"),
-        Err(MomentFault { place: 6 })
-    );
-    assert_eq!(rt; Cutoff::read(b"7502"), later);
-    assert_eq!(rt; Cutoff::read(b"77/2/2 9:22:25"), named);
-    assert_eq!(rt; Cutoff::read(b"770202092225"), named);
-    assert_eq!(rt; Cutoff::read(b""), Err(MomentFault { place: 1 }));
-    assert_eq!(rt; Cutoff::read(b"7513"), Err(MomentFault { place: 2 }));
-    assert_eq!(rt;
-        Cutoff::read(b"7702020922251"),
-        Err(MomentFault { place: 7 })
-    );
+    assert!(rt; moments_are_read());
+    assert!(rt; cutoffs_are_read());
     assert_eq!(rt; Moment::from_seconds(3_124_224_000), None);
     assert!(rt; Moment::from_seconds(-31_536_000).is_some());
     Ok(())
@@ -145,14 +166,22 @@ fn written_texts(rt: HostRuntime) -> Result<(), Fail> {
     Ok(())
 }
 
+fn words_are_found() -> bool {
+    let (first, rest) = next_word(b"  one  two ");
+    let word = first == b"one".as_slice();
+    let last = one_word(rest) == Some(b"two".as_slice());
+    let none = one_word(b"one two").is_none();
+    word & last & none & (drop_blanks(b" a b  ") == b" a b".as_slice())
+}
+
+fn threes_are_read() -> bool {
+    let numbers = three(5, b'/', b"00012/3/00000") == Some((12, 3, 0));
+    numbers & three(5, b'/', b"1/2").is_none()
+}
+
 #[test]
 fn words_of_a_line(rt: HostRuntime) -> Result<(), Fail> {
-    let (first, rest) = next_word(b"  one  two ");
-    assert_eq!(rt; first, b"one".as_slice());
-    assert_eq!(rt; one_word(rest), Some(b"two".as_slice()));
-    assert_eq!(rt; one_word(b"one two"), None);
-    assert_eq!(rt; drop_blanks(b" a b  "), b" a b".as_slice());
-    assert_eq!(rt; three(5, b'/', b"00012/3/00000"), Some((12, 3, 0)));
-    assert_eq!(rt; three(5, b'/', b"1/2"), None);
+    assert!(rt; words_are_found());
+    assert!(rt; threes_are_read());
     Ok(())
 }

@@ -46,34 +46,62 @@ fn put_all(
     Ok(())
 }
 
+// what a splicer counts: lines that are inserted, deleted and unchanged
+fn counts_of(splicer: &Splicer) -> [u64; 3] {
+    [splicer.inserted(), splicer.deleted(), splicer.unchanged()]
+}
+
+// whether a file has these bytes
+fn has(disk: &mut FickleDisk, name: &Name, wanted: &[u8]) -> Result<bool, Fail> {
+    let mut bytes = [0; 128];
+    let count = disk.read_at(name, 0, &mut bytes)?;
+    Ok((count == Some(wanted.len())) & bytes.starts_with(wanted))
+}
+
+// whether a splicer puts these bytes into a file
+fn puts(
+    alloc: Global,
+    rows: &[Row],
+    splicer: &mut Splicer,
+    wanted: &[u8],
+    disk: &mut FickleDisk,
+) -> Result<bool, Fail> {
+    let name = Name::read(b"x.a").ok_or("a name")?;
+    let mut out = ItemWriter::new(alloc, &name, Sum::new())?;
+    put_all(alloc, rows, splicer, &mut out, disk)?;
+    has(disk, &name, wanted)
+}
+
+// a disk with an empty file. It tells nothing, and no byte of this file changes
+fn disk_of(alloc: Global) -> Result<FickleDisk, Fail> {
+    let mut disk = MemoryDisk::new(alloc, 1000, &[])?;
+    disk.put(&Name::read(b"x.a").ok_or("a name")?, b"", true)?;
+    Ok(FickleDisk::new(disk, Name::read(b"s.a").ok_or("a name")?, 0))
+}
+
+fn puts_on_disk(
+    alloc: Global,
+    rows: &[Row],
+    splicer: &mut Splicer,
+    wanted: &[u8],
+) -> Result<bool, Fail> {
+    let mut disk = disk_of(alloc)?;
+    puts(alloc, rows, splicer, wanted, &mut disk)
+}
+
 // whether a splicer puts these bytes and counts so many lines: inserted, deleted, unchanged
 fn splices(
     alloc: Global,
     rows: &[Row],
     serial: u16,
-    plan: Plan,
+    script: &[u8],
     wanted: &[u8],
     counts: [u64; 3],
-) -> Result<bool, Fail>
-    requires { IsInOrder plan }
-{
+) -> Result<bool, Fail> {
+    let plan = plan_of(alloc, script, rows.len() > 5)?;
     let mut splicer = Splicer::new(alloc, serial, plan);
-    let name = Name::read(b"x.a").ok_or("a name")?;
-    let mut disk = MemoryDisk::new(alloc, 1000, &[])?;
-    disk.put(&name, b"", true)?;
-    // it tells nothing, and no byte of this file changes
-    let mut disk = FickleDisk::new(disk, Name::read(b"s.a").ok_or("a name")?, 0);
-    let mut out = ItemWriter::new(alloc, &name, Sum::new())?;
-    put_all(alloc, rows, &mut splicer, &mut out, &mut disk)?;
-    let mut bytes = [0; 128];
-    let count = disk.read_at(&name, 0, &mut bytes)?;
-    Ok(
-        (count == Some(wanted.len()))
-            & bytes.starts_with(wanted)
-            & (splicer.inserted() == counts[0])
-            & (splicer.deleted() == counts[1])
-            & (splicer.unchanged() == counts[2]),
-    )
+    let is_put = puts_on_disk(alloc, rows, &mut splicer, wanted)?;
+    Ok(is_put & (counts_of(&splicer) == counts))
 }
 
 // the plan of a script for three or seven lines
@@ -86,62 +114,59 @@ fn plan_of(alloc: Global, script: &[u8], seven: bool) -> Result<Plan, Fail>
     Ok(plan(alloc, &script, lines)?)
 }
 
+const SEVEN: [Row; 12] = [
+    Row::Insert(1),
+    Row::Base(b'1'),
+    Row::Base(b'2'),
+    Row::Base(b'3'),
+    Row::Base(b'4'),
+    Row::Base(b'5'),
+    Row::Insert(2),
+    Row::Hidden(b'h'),
+    Row::End(2),
+    Row::Base(b'6'),
+    Row::Base(b'7'),
+    Row::End(1),
+];
+
+const THREE: [Row; 5] = [
+    Row::Insert(1),
+    Row::Base(b'1'),
+    Row::Base(b'2'),
+    Row::Base(b'3'),
+    Row::End(1),
+];
+
 #[test]
 fn marks_and_new_lines_placed(rt: HostRuntime) -> Result<(), Fail> {
-    let alloc = rt.alloc();
-    let seven = [
-        Row::Insert(1),
-        Row::Base(b'1'),
-        Row::Base(b'2'),
-        Row::Base(b'3'),
-        Row::Base(b'4'),
-        Row::Base(b'5'),
-        Row::Insert(2),
-        Row::Hidden(b'h'),
-        Row::End(2),
-        Row::Base(b'6'),
-        Row::Base(b'7'),
-        Row::End(1),
+    let wanted =
+        b"\x01I 3\nT\n\x01E 3\n\x01I 1\n1\n2\n\x01D 3\n3\n\x01E 3\n4\n\x01I 3\nX\n\x01E 3\n\x01D 3\n5\n\x01E 3\n\x01I 2\nh\n\x01E 2\n\x01D 3\n6\n\x01E 3\n7\n\x01E 1\n";
+    let script = b"5,6c\nX\n.\n3d\n0a\nT\n.\n";
+    assert!(rt; splices(rt.alloc(), &SEVEN, 3, script, wanted, [2, 3, 4])?);
+    Ok(())
+}
+
+#[test]
+fn marks_placed_in_three_lines(rt: HostRuntime) -> Result<(), Fail> {
+    let rows: [(&[u8], &[u8], [u64; 3]); 3] = [
+        (
+            b"1a\nX\n.\n1d\n1d\n",
+            b"\x01I 1\n\x01D 2\n1\n\x01E 2\n2\n3\n\x01E 1\n",
+            [0, 1, 2],
+        ),
+        (
+            b"1a\nX\n.\n1d\n2a\nY\n.\n",
+            b"\x01I 1\n\x01D 2\n1\n\x01E 2\n\x01I 2\nX\n\x01E 2\n2\n\x01I 2\nY\n\x01E 2\n3\n\x01E 1\n",
+            [2, 1, 2],
+        ),
+        (
+            b"2,3d\n",
+            b"\x01I 1\n1\n\x01D 2\n2\n3\n\x01E 2\n\x01E 1\n",
+            [0, 2, 1],
+        ),
     ];
-    let three = [
-        Row::Insert(1),
-        Row::Base(b'1'),
-        Row::Base(b'2'),
-        Row::Base(b'3'),
-        Row::End(1),
-    ];
-    let first = splices(
-        alloc,
-        &seven,
-        3,
-        plan_of(alloc, b"5,6c\nX\n.\n3d\n0a\nT\n.\n", true)?,
-        b"\x01I 3\nT\n\x01E 3\n\x01I 1\n1\n2\n\x01D 3\n3\n\x01E 3\n4\n\x01I 3\nX\n\x01E 3\n\x01D 3\n5\n\x01E 3\n\x01I 2\nh\n\x01E 2\n\x01D 3\n6\n\x01E 3\n7\n\x01E 1\n",
-        [2, 3, 4],
-    )?;
-    let second = splices(
-        alloc,
-        &three,
-        2,
-        plan_of(alloc, b"1a\nX\n.\n1d\n1d\n", false)?,
-        b"\x01I 1\n\x01D 2\n1\n\x01E 2\n2\n3\n\x01E 1\n",
-        [0, 1, 2],
-    )?;
-    let third = splices(
-        alloc,
-        &three,
-        2,
-        plan_of(alloc, b"1a\nX\n.\n1d\n2a\nY\n.\n", false)?,
-        b"\x01I 1\n\x01D 2\n1\n\x01E 2\n\x01I 2\nX\n\x01E 2\n2\n\x01I 2\nY\n\x01E 2\n3\n\x01E 1\n",
-        [2, 1, 2],
-    )?;
-    let joined = splices(
-        alloc,
-        &three,
-        2,
-        plan_of(alloc, b"2,3d\n", false)?,
-        b"\x01I 1\n1\n\x01D 2\n2\n3\n\x01E 2\n\x01E 1\n",
-        [0, 2, 1],
-    )?;
-    assert!(rt; first & second & third & joined);
+    for (script, wanted, counts) in rows {
+        assert!(rt; splices(rt.alloc(), &THREE, 2, script, wanted, counts)?);
+    }
     Ok(())
 }

@@ -27,19 +27,45 @@ fn disk_with(
     Ok(disk)
 }
 
+// whether this is what the file has before its body
+fn is_front(front: &Front) -> bool {
+    let body = front.body_line == 13 && front.body_from == 105;
+    let whole = front.size == 123 && front.sum == 6178;
+    body & whole & (front.header.records.items().len() == 1)
+}
+
+fn reads_front(alloc: Global, disk: &mut MemoryDisk, name: &Name) -> bool {
+    match read_header(alloc, disk, name) {
+        Ok(front) => is_front(&front),
+        Err(_) => false,
+    }
+}
+
 #[test]
 fn a_header_is_read(rt: HostRuntime) -> Result<(), Fail> {
     let name = Name::read(b"s.a").ok_or("a name")?;
     let mut disk = disk_with(rt.alloc(), &name, FILE, &[])?;
-    let Ok(front) = read_header(rt.alloc(), &mut disk, &name) else {
-        return Err("a front".into());
-    };
-    assert_eq!(rt; front.body_line, 13);
-    assert_eq!(rt; front.body_from, 105);
-    assert_eq!(rt; front.size, 123);
-    assert_eq!(rt; front.sum, 6178);
-    assert_eq!(rt; front.header.records.items().len(), 1);
+    assert!(rt; reads_front(rt.alloc(), &mut disk, &name));
     Ok(())
+}
+
+// the fault of the header; None where it is read
+fn fault_on(alloc: Global, disk: &mut MemoryDisk, name: &Name) -> Option<FileFault> {
+    match read_header(alloc, disk, name) {
+        Ok(_) => None,
+        Err(fault) => Some(fault),
+    }
+}
+
+// the fault of these bytes, on a disk that fails at the calls of these numbers
+fn fault_of(
+    alloc: Global,
+    name: &Name,
+    bytes: &[u8],
+    failing: &[u64],
+) -> Result<Option<FileFault>, Fail> {
+    let mut disk = disk_with(alloc, name, bytes, failing)?;
+    Ok(fault_on(alloc, &mut disk, name))
 }
 
 #[test]
@@ -52,11 +78,8 @@ fn faults_of_headers(rt: HostRuntime) -> Result<(), Fail> {
         (ENCODED, FileFault::Encoded),
     ];
     for (bytes, wanted) in rows {
-        let mut disk = disk_with(rt.alloc(), &name, bytes, &[])?;
-        match read_header(rt.alloc(), &mut disk, &name) {
-            Ok(_) => return Err("no front".into()),
-            Err(fault) => assert_eq!(rt; fault, wanted),
-        }
+        let fault = fault_of(rt.alloc(), &name, bytes, &[])?;
+        assert_eq!(rt; fault, Some(wanted));
     }
     Ok(())
 }
@@ -64,10 +87,7 @@ fn faults_of_headers(rt: HostRuntime) -> Result<(), Fail> {
 #[test]
 fn a_failing_disk(rt: HostRuntime) -> Result<(), Fail> {
     let name = Name::read(b"s.a").ok_or("a name")?;
-    let mut disk = disk_with(rt.alloc(), &name, FILE, &[2])?;
-    match read_header(rt.alloc(), &mut disk, &name) {
-        Ok(_) => return Err("no front".into()),
-        Err(fault) => assert_eq!(rt; fault, FileFault::Failed),
-    }
+    let fault = fault_of(rt.alloc(), &name, FILE, &[2])?;
+    assert_eq!(rt; fault, Some(FileFault::Failed));
     Ok(())
 }

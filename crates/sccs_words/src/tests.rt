@@ -2,6 +2,33 @@ use crate::values::mr_words;
 use crate::*;
 use std::test::Fail;
 
+// the place of a command's utility among all, from 1
+fn utility_number(command: &Command) -> u64 {
+    match command {
+        Command::Admin(_, _) => 1,
+        Command::Get(_, _) => 2,
+        Command::Delta(_, _) => 3,
+        Command::Unget(_, _) => 4,
+        Command::Sact(_) => 5,
+        Command::Rmdel(_, _) => 6,
+        Command::Prs(_, _) => 7,
+        Command::Val(_) => 8,
+        Command::What(_, _) => 9,
+        Command::Recover(_) => 10,
+        Command::Batch => 11,
+        Command::Soak(_) => 12,
+    }
+}
+
+// 0 and the number of the utility, or the kind of the fault and the number of its word
+fn kind_and_number(read: Result<Command, WordsFault>) -> (u8, u64) {
+    match read {
+        Ok(command) => (0, utility_number(&command)),
+        Err(WordsFault::Usage(usage)) => (usage.kind, usage.word),
+        Err(WordsFault::Memory) => (99, 0),
+    }
+}
+
 #[test]
 fn commands_and_faults(rt: HostRuntime) -> Result<(), Fail> {
     let examples: [(&[u8], u8, u64); 16] = [
@@ -24,22 +51,7 @@ fn commands_and_faults(rt: HostRuntime) -> Result<(), Fail> {
     ];
     for (line, kind, number) in examples {
         let words = mr_words(rt.alloc(), line)?;
-        let found = match read_words(rt.alloc(), &words) {
-            Ok(Command::Admin(_, _)) => (0, 1),
-            Ok(Command::Get(_, _)) => (0, 2),
-            Ok(Command::Delta(_, _)) => (0, 3),
-            Ok(Command::Unget(_, _)) => (0, 4),
-            Ok(Command::Sact(_)) => (0, 5),
-            Ok(Command::Rmdel(_, _)) => (0, 6),
-            Ok(Command::Prs(_, _)) => (0, 7),
-            Ok(Command::Val(_)) => (0, 8),
-            Ok(Command::What(_, _)) => (0, 9),
-            Ok(Command::Recover(_)) => (0, 10),
-            Ok(Command::Batch) => (0, 11),
-            Ok(Command::Soak(_)) => (0, 12),
-            Err(WordsFault::Usage(usage)) => (usage.kind, usage.word),
-            Err(WordsFault::Memory) => (99, 0),
-        };
+        let found = kind_and_number(read_words(rt.alloc(), &words));
         assert_eq!(rt; found, (kind, number));
     }
     Ok(())
