@@ -43,6 +43,7 @@ impl OutputBuffer {
     }
 
     // holds bytes back where there is room for them
+    #[inline(always)]
     fn hold(&mut self, bytes: &[u8]) -> bool
         ensures held { IsTrue result → self.new ≡ self.old ++ bytes.now }
         ensures full { ¬ IsTrue result → self.new ≡ self.old }

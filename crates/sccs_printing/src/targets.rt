@@ -28,6 +28,7 @@ pub fn step_fault(refusal: DiskRefusal) -> StepFault
 }
 
 /// Gives a text to a target: to the sink, or into the file.
+#[inline(always)]
 pub fn put<O: Sink, D: Disk>(
     target: &mut Target,
     text: &[u8],

@@ -46,6 +46,7 @@ impl Weaver {
 
     /// Takes the next item of a body. All items are taken with one set. At want of memory nothing
     /// changes.
+    #[inline(always)]
     pub fn push_item(&mut self, item: &Item, applied: &Applied) -> Result<(), Memory>
         ensures ok { OnOk result ((before : List Item) → Holds applied.now before self.old
             → Holds applied.now (item.now ∷ before) self.new) }
