@@ -12,8 +12,6 @@ mod pieces;
 mod short_bytes;
 mod standard_streams;
 mod streams;
-#[cfg(test)]
-mod tests;
 mod texts;
 
 pub use constants::{BLANK, FILE_LIMIT, LF, SOH};

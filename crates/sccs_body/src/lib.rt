@@ -4,8 +4,6 @@
 mod bodies;
 mod body_readers;
 mod item_readers;
-#[cfg(test)]
-mod tests;
 
 pub use bodies::inspect;
 pub use item_readers::ItemReader;

@@ -10,8 +10,6 @@ mod memory_disk;
 mod name_table;
 mod replays;
 mod steady_disk;
-#[cfg(test)]
-mod tests;
 
 pub use disks::{Creation, Disk, DiskRefusal};
 pub use fickle_disk::FickleDisk;

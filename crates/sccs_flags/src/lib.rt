@@ -3,8 +3,6 @@
 
 mod flag_values;
 mod logins;
-#[cfg(test)]
-mod tests;
 
 pub use flag_values::{ceiling, floor, has_flag, is_locked, is_within_limits};
 pub use logins::is_allowed;

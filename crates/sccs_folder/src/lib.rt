@@ -5,7 +5,5 @@ mod folder_disk;
 mod folder_reading;
 mod folder_writing;
 mod folders;
-#[cfg(test)]
-mod tests;
 
 pub use folder_disk::FolderDisk;

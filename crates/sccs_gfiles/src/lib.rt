@@ -5,8 +5,6 @@
 mod g_files;
 pub mod laws;
 mod modes;
-#[cfg(test)]
-mod tests;
 mod y_files;
 
 pub use g_files::{is_writable_g, place_g};

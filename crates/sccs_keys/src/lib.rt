@@ -5,8 +5,6 @@ mod expansion;
 mod facts;
 mod keywords;
 mod laws;
-#[cfg(test)]
-mod tests;
 mod values;
 
 pub use expansion::expand;

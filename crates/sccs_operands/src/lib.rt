@@ -4,8 +4,6 @@
 
 mod input_names;
 mod listing;
-#[cfg(test)]
-mod tests;
 
 pub use input_names::read_names;
 pub use listing::list_sfiles;

@@ -7,8 +7,6 @@ mod entries;
 mod laws;
 mod makers;
 mod reading;
-#[cfg(test)]
-mod tests;
 mod writing;
 
 pub use agreement::{Disagree, agree};

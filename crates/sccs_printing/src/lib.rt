@@ -7,8 +7,6 @@ mod keyword_search;
 mod printing;
 mod shown;
 mod targets;
-#[cfg(test)]
-mod tests;
 mod y_texts;
 
 pub use keyword_search::has_keywords;

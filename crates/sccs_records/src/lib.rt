@@ -5,8 +5,6 @@
 pub mod laws;
 mod new_deltas;
 mod null_deltas;
-#[cfg(test)]
-mod tests;
 mod texts;
 
 pub use new_deltas::{Counts, NewDelta, add_delta, newest};

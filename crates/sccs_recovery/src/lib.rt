@@ -5,8 +5,6 @@ mod commands;
 mod entries_left;
 mod readings;
 mod recoveries;
-#[cfg(test)]
-mod tests;
 
 pub use commands::Recover;
 pub use recoveries::{Recovered, recover};

@@ -12,8 +12,6 @@ pub mod laws;
 mod pieces;
 mod plans;
 mod reading;
-#[cfg(test)]
-mod tests;
 mod trees;
 mod turns;
 

@@ -11,8 +11,6 @@ mod naming;
 mod retrieval;
 pub mod samples;
 mod tables;
-#[cfg(test)]
-mod tests;
 
 pub use delta_sets::{Applied, delta_set};
 pub use faults::SetFault;

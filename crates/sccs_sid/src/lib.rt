@@ -10,8 +10,6 @@ pub mod reading;
 mod refusals;
 mod sid_lists;
 mod sids;
-#[cfg(test)]
-mod tests;
 pub mod words;
 
 pub use cutoffs::Cutoff;

@@ -6,8 +6,6 @@ mod laws;
 mod parts;
 mod plan_places;
 mod splicers;
-#[cfg(test)]
-mod tests;
 
 pub use laws::spliced_bodies;
 pub use plan_places::PlanPlace;

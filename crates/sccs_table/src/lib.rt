@@ -4,8 +4,6 @@
 mod fronts;
 mod line_readers;
 mod sums;
-#[cfg(test)]
-mod tests;
 
 pub use fronts::{
     Front, check_front, check_sum, is_encoded, open_file, read_header, read_lines, read_sum,

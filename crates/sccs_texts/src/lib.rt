@@ -5,8 +5,6 @@ mod finders;
 mod forms;
 mod held_lines;
 mod laws;
-#[cfg(test)]
-mod tests;
 
 pub use finders::SidFinder;
 pub use forms::{LineForm, give_line, give_lines};

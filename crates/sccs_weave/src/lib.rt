@@ -2,8 +2,6 @@
 #![tactic(auto)]
 
 mod regions;
-#[cfg(test)]
-mod tests;
 mod weavers;
 
 pub use regions::Region;

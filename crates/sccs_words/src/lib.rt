@@ -9,8 +9,6 @@ mod meanings;
 mod records;
 mod scanning;
 mod tables;
-#[cfg(test)]
-mod tests;
 mod values;
 
 pub use commands::{

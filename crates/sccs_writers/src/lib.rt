@@ -6,8 +6,6 @@ mod header_writers;
 mod item_lists;
 mod item_writers;
 mod piece_writers;
-#[cfg(test)]
-mod tests;
 
 pub use digits::five_digits;
 pub use header_writers::write_header;

@@ -183,6 +183,14 @@ fn gets_of_several_files(rt: HostRuntime) -> Result<(), Fail> {
     Ok(())
 }
 
+// whether the files are those that the edit makes
+fn is_edited(disk: &MemoryDisk) -> Result<bool, Fail> {
+    let text = has_file(disk, b"a", Some(b"one\ntwo %I%\n"))?;
+    let entry = has_file(disk, b"p.a", Some(b"1.1 1.2 ann 21/03/04 05:06:07\n"))?;
+    let none = has_file(disk, b"p.b", None)?;
+    Ok(text && (entry && none))
+}
+
 const EDITED: [Case<'static>; 5] = [
     Case {
         line: b"get -e s.a",
@@ -227,14 +235,6 @@ const EDITED_ON_OUT: [Case<'static>; 2] = [
         ..CASE
     },
 ];
-
-// whether the files are those that the edit makes
-fn is_edited(disk: &MemoryDisk) -> Result<bool, Fail> {
-    let text = has_file(disk, b"a", Some(b"one\ntwo %I%\n"))?;
-    let entry = has_file(disk, b"p.a", Some(b"1.1 1.2 ann 21/03/04 05:06:07\n"))?;
-    let none = has_file(disk, b"p.b", None)?;
-    Ok(text && (entry && none))
-}
 
 #[test]
 fn edits_give_their_text(rt: HostRuntime) -> Result<(), Fail> {

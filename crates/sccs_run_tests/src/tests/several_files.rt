@@ -26,6 +26,34 @@ fn first_wrong_of(alloc: Global, cases: &[Case]) -> Result<Option<usize>, Fail> 
     first_wrong(alloc, &mut disk, cases)
 }
 
+const HEADINGS: [Case<'static>; 4] = [
+    Case {
+        line: b"get -e -g .",
+        out: b"\ns.a:\n1.1\nnew delta 1.2\n\ns.b:\n1.2\nnew delta 1.3\n",
+        ..CASE
+    },
+    Case {
+        line: b"sact -",
+        input: b"s.b\nx\n\n.\ns.c",
+        status: 1,
+        out: b"\ns.b:\n1.2 1.3 ann 21/03/04 05:06:07\n",
+        err: b"ERROR [s.c]: no such file (03)\n",
+        ..CASE
+    },
+    Case {
+        line: b"unget -",
+        input: b"s.a\n",
+        out: b"\ns.a:\n1.2\n",
+        ..CASE
+    },
+    Case {
+        line: b"unget -s .",
+        status: 1,
+        err: b"ERROR [s.a]: no edit is pending (13)\n",
+        ..CASE
+    },
+];
+
 const DOTS: [Case<'static>; 4] = [
     Case {
         line: b"get -kps .",
@@ -58,34 +86,6 @@ fn a_dot_is_all_sfiles(rt: HostRuntime) -> Result<(), Fail> {
     assert_eq!(rt; first_wrong_of(rt.alloc(), &DOTS)?, None);
     Ok(())
 }
-
-const HEADINGS: [Case<'static>; 4] = [
-    Case {
-        line: b"get -e -g .",
-        out: b"\ns.a:\n1.1\nnew delta 1.2\n\ns.b:\n1.2\nnew delta 1.3\n",
-        ..CASE
-    },
-    Case {
-        line: b"sact -",
-        input: b"s.b\nx\n\n.\ns.c",
-        status: 1,
-        out: b"\ns.b:\n1.2 1.3 ann 21/03/04 05:06:07\n",
-        err: b"ERROR [s.c]: no such file (03)\n",
-        ..CASE
-    },
-    Case {
-        line: b"unget -",
-        input: b"s.a\n",
-        out: b"\ns.a:\n1.2\n",
-        ..CASE
-    },
-    Case {
-        line: b"unget -s .",
-        status: 1,
-        err: b"ERROR [s.a]: no edit is pending (13)\n",
-        ..CASE
-    },
-];
 
 #[test]
 fn a_heading_stands_before_each_name(rt: HostRuntime) -> Result<(), Fail> {

@@ -2,6 +2,29 @@ use crate::tests::rows::{Row, wrong_row};
 use sccs_fixtures::samples::{BRANCHED, DEFAULT, EMPTY, LISTED, SECOND, TWO_LINES};
 use std::test::Fail;
 
+const BRANCHES: [Row<'static>; 10] = [
+    (b"get -k -p -s s.b", 0, b"a\nB\n", b""),
+    (b"get -k -p -s -r1.1 s.b", 0, b"a\nb\n", b""),
+    (b"get -k -p -s -r1.2 s.b", 0, b"a\nB\n", b""),
+    (b"get -k -p -s -r1.1.1.1 s.b", 0, b"a\nb\nc\n", b""),
+    (b"get -k -p -s -t s.b", 0, b"a\nb\nc\n", b""),
+    (b"get -k -p -s -r1.2 -i1.1.1.1 s.b", 0, b"a\nB\nc\n", b""),
+    (b"get -k -p -s -r1.2 -x1.2 s.b", 0, b"a\nb\n", b""),
+    (b"get -k -p -s -r1.2 -c7502 s.b", 0, b"a\nb\n", b""),
+    (
+        b"get -k -p -s -r9.9 s.b",
+        1,
+        b"",
+        b"ERROR [s.b]: no such SID (15)\n",
+    ),
+    (
+        b"get -k -p -s -i1.2 -x1.2 s.b",
+        1,
+        b"",
+        b"ERROR [s.b]: bad list at 1.2 (16)\n",
+    ),
+];
+
 const SMALL: [(&[u8], Row<'static>); 9] = [
     (EMPTY, (b"get -k -p -s s.a", 0, b"", b"")),
     (TWO_LINES, (b"get -spk s.a", 0, b"one\ntwo %I%\n", b"")),
@@ -33,29 +56,6 @@ fn small_files(rt: HostRuntime) -> Result<(), Fail> {
     }
     Ok(())
 }
-
-const BRANCHES: [Row<'static>; 10] = [
-    (b"get -k -p -s s.b", 0, b"a\nB\n", b""),
-    (b"get -k -p -s -r1.1 s.b", 0, b"a\nb\n", b""),
-    (b"get -k -p -s -r1.2 s.b", 0, b"a\nB\n", b""),
-    (b"get -k -p -s -r1.1.1.1 s.b", 0, b"a\nb\nc\n", b""),
-    (b"get -k -p -s -t s.b", 0, b"a\nb\nc\n", b""),
-    (b"get -k -p -s -r1.2 -i1.1.1.1 s.b", 0, b"a\nB\nc\n", b""),
-    (b"get -k -p -s -r1.2 -x1.2 s.b", 0, b"a\nb\n", b""),
-    (b"get -k -p -s -r1.2 -c7502 s.b", 0, b"a\nb\n", b""),
-    (
-        b"get -k -p -s -r9.9 s.b",
-        1,
-        b"",
-        b"ERROR [s.b]: no such SID (15)\n",
-    ),
-    (
-        b"get -k -p -s -i1.2 -x1.2 s.b",
-        1,
-        b"",
-        b"ERROR [s.b]: bad list at 1.2 (16)\n",
-    ),
-];
 
 #[test]
 fn branched_versions(rt: HostRuntime) -> Result<(), Fail> {

@@ -1,6 +1,5 @@
-use crate::changes::{Change, FileChange};
-use crate::*;
 use sccs_base::{Failed, Name};
+use sccs_disk::*;
 use std::alloc::Global;
 use std::test::Fail;
 
@@ -8,25 +7,41 @@ fn name(bytes: &[u8]) -> Result<Name, Fail> {
     Ok(Name::read(bytes).ok_or("a name")?)
 }
 
+// what a call changes of a file
+#[derive(Clone, Copy)]
+enum FileChange {
+    Append(&'static [u8]),
+    WriteAt(u64, &'static [u8]),
+    Protect,
+    Sync,
+}
+
+// a call that changes files
+#[derive(Clone, Copy)]
+enum Change {
+    Create(Name),
+    File(Name, FileChange),
+    Rename(Name, Name),
+    SyncNames,
+}
+
 // A file of three bytes is made, written over, protected and synced, and then takes the place of
 // another one.
-fn replacement(alloc: Global) -> Result<Vec<Change>, Fail> {
+fn replacement() -> Result<[Change; 7], Fail> {
     let (old, new) = (name(b"s.a")?, name(b"x.a")?);
-    let abc = b"abc".to_vec(alloc)?;
-    let b = b"B".to_vec(alloc)?;
-    Ok(vec![in alloc;
+    Ok([
         Change::Create(new),
-        Change::File(new, FileChange::Append(abc)),
-        Change::File(new, FileChange::WriteAt(1, b)),
+        Change::File(new, FileChange::Append(b"abc")),
+        Change::File(new, FileChange::WriteAt(1, b"B")),
         Change::File(new, FileChange::Protect),
         Change::File(new, FileChange::Sync),
         Change::Rename(new, old),
         Change::SyncNames,
-    ]?)
+    ])
 }
 
 // whether a change of a file was made by calls: its length is asked for first
-#[tactic(auto, using(crate::proofs::Sized::sized_there, crate::proofs::Sized::sized_range))]
+#[tactic(auto, using(sccs_disk::proofs::Sized::sized_there, sccs_disk::proofs::Sized::sized_range))]
 fn change_file<D: Disk>(disk: &mut D, name: &Name, change: &FileChange) -> bool {
     let Ok(Some(size)) = disk.size(name) else {
         return false;
@@ -44,14 +59,13 @@ fn change_file<D: Disk>(disk: &mut D, name: &Name, change: &FileChange) -> bool 
 }
 
 // whether a change was made by calls
-#[tactic(auto, using(crate::proofs::Sized::sized_there))]
+#[tactic(auto, using(sccs_disk::proofs::Sized::sized_there))]
 fn make<D: Disk>(disk: &mut D, change: &Change) -> bool {
     match change {
         Change::Create(name) => disk.create(name) == Ok(Creation::Created),
         Change::File(name, change) => change_file(disk, name, change),
         Change::Rename(from, to) => matches!(disk.size(from), Ok(Some(_)))
             && disk.rename(from, to).is_ok(),
-        Change::Remove(name) => matches!(disk.size(name), Ok(Some(_))) && disk.remove(name).is_ok(),
         Change::SyncNames => disk.sync_names().is_ok(),
     }
 }
@@ -114,7 +128,7 @@ fn change_steady(alloc: Global, changes: &[Change]) -> Result<bool, Fail> {
 
 #[test]
 fn calls_change_files(rt: HostRuntime) -> Result<(), Fail> {
-    let changes = replacement(rt.alloc())?;
+    let changes = replacement()?;
     let memory = change_memory(rt.alloc(), &changes)?;
     assert!(rt; memory & change_steady(rt.alloc(), &changes)?);
     Ok(())
@@ -193,7 +207,7 @@ fn first_wrong(alloc: Global, disk: &MemoryDisk) -> Result<Option<(u64, u64)>, F
 
 // a disk on which all changes were made
 fn changed_disk(alloc: Global) -> Result<MemoryDisk, Fail> {
-    let changes = replacement(alloc)?;
+    let changes = replacement()?;
     let mut disk = memory_disk(alloc, 50, &[])?;
     make_all(&mut disk, &changes);
     Ok(disk)

@@ -1,6 +1,6 @@
-use crate::*;
 use sccs_base::Name;
 use sccs_disk::{Disk, Fill, MemoryDisk};
+use sccs_gfiles::*;
 use sccs_store::start;
 use std::alloc::Global;
 use std::test::Fail;

@@ -5,9 +5,9 @@ ghost use Rattle.sccs_history.specs.Numbers.{has};
 ghost use Rattle.sccs_sets.specs.Samples.{listing, plain};
 ghost use Rattle.sccs_sets.specs.Retrieved.{trunk_sid};
 
-use crate::*;
 use sccs_base::{ListOf, Login, Memory, Text};
 use sccs_history::{Flags, Header, Record, Records, Serials};
+use sccs_sets::*;
 use sccs_sid::{Moment, Range, Sid, SidList, Spec};
 use std::alloc::Global;
 use std::test::Fail;

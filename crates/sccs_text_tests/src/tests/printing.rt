@@ -3,18 +3,17 @@ ghost use Rattle.sccs_base.specs.Name.{IsSfile};
 ghost use Rattle.sccs_disk.specs.MemoryDisks.{disk_call};
 ghost use Rattle.sccs_history.specs.History.{IsHeader};
 ghost use Rattle.sccs_keys.specs.Expansion.{HasMoments};
-ghost use Rattle.sccs_sid.specs.Moment.{IsMoment};
 ghost use Rattle.sccs_texts.specs.Forms.{form_of};
 
-use crate::{Shown, has_keywords, make_y, print_text};
+use crate::tests::samples::{facts, trunk};
 use sccs_base::{Line, MemorySink, Name};
 use sccs_body::inspect;
 use sccs_disk::{Disk, MemoryDisk};
 use sccs_gfiles::Mode;
 use sccs_history::Serials;
-use sccs_keys::Facts;
+use sccs_printing::{Shown, has_keywords, make_y, print_text};
 use sccs_sets::{Applied, delta_set, retrieve};
-use sccs_sid::{Moment, Sid, Spec, StepFault};
+use sccs_sid::{Spec, StepFault};
 use sccs_table::Front;
 use sccs_texts::LineForm;
 use std::alloc::Global;
@@ -23,15 +22,6 @@ use std::test::Fail;
 // the deltas 1.1 and 1.2, each with a keyword in its second line
 const S_FILE: &[u8] =
     b"\x01h10325\n\x01s 00001/00001/00002\n\x01d D 1.2 21/03/04 05:08:00 ann 2 1\n\x01c two\n\x01e\n\x01s 00003/00000/00000\n\x01d D 1.1 21/03/04 05:06:07 ann 1 0\n\x01c one\n\x01e\n\x01u\n\x01U\n\x01t\n\x01T\n\x01I 1\none\n\x01D 2\nold %I%\n\x01E 2\n\x01I 2\nnew %C% of %M%\n\x01E 2\nlast\n\x01E 1\n";
-
-fn trunk(level: u16) -> Sid {
-    Sid {
-        release: 1,
-        level,
-        branch: 0,
-        sequence: 0,
-    }
-}
 
 fn name(bytes: &[u8]) -> Result<Name, Fail> {
     Ok(Name::read(bytes).ok_or("a name")?)
@@ -67,30 +57,6 @@ fn set(alloc: Global, front: &Front, level: u16) -> Result<Applied, Fail>
         Ok(set) => Ok(set),
         Err(_) => Err("a set".into()),
     }
-}
-
-fn moment(seconds: i64) -> Result<Moment, Fail>
-    ensures { IfOk result IsMoment }
-{
-    match Moment::from_seconds(seconds) {
-        Some(moment) => Ok(moment),
-        None => Err("a moment".into()),
-    }
-}
-
-fn facts(alloc: Global) -> Result<Facts, Fail>
-    ensures { IfOk result HasMoments }
-{
-    Ok(Facts {
-        module: Line::new(alloc, b"a")?,
-        sid: trunk(2),
-        moment: moment(0)?,
-        newest: moment(0)?,
-        kind: Line::new(alloc, b"c")?,
-        user: Line::new(alloc, b"u")?,
-        file: name(b"s.a")?,
-        place: Line::new(alloc, b"/d")?,
-    })
 }
 
 /// A version of the s-file: what is read of the file first, and the set of its deltas.
@@ -182,7 +148,7 @@ fn versions_as_they_are(rt: HostRuntime) -> Result<(), Fail> {
 fn prefixes_and_keywords(rt: HostRuntime) -> Result<(), Fail> {
     let alloc = rt.alloc();
     let module_name = Line::new(alloc, b"%M%")?;
-    let facts = facts(alloc)?;
+    let facts = facts(alloc, 2)?;
     let form = LineForm {
         module_name: Some(&module_name),
         has_sids: true,
@@ -268,7 +234,7 @@ fn makes(
 #[test]
 fn protected_y_files(rt: HostRuntime) -> Result<(), Fail> {
     let alloc = rt.alloc();
-    let facts = facts(alloc)?;
+    let facts = facts(alloc, 2)?;
     let form = LineForm {
         module_name: None,
         has_sids: false,

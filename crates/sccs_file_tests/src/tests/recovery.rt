@@ -1,6 +1,6 @@
-use crate::*;
 use sccs_base::Name;
 use sccs_disk::{Fill, MemoryDisk};
+use sccs_recovery::*;
 use std::alloc::Global;
 use std::test::Fail;
 

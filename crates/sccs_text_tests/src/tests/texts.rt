@@ -2,25 +2,15 @@ ghost use Rattle.std.specs.Prelude.{◌≡◌, IfOk, IfSome};
 ghost use Rattle.sccs_history.specs.Applied.{serials_of};
 ghost use Rattle.sccs_history.specs.Numbers.{Falls};
 ghost use Rattle.sccs_keys.specs.Expansion.{HasMoments};
-ghost use Rattle.sccs_sid.specs.Moment.{IsMoment};
 ghost use Rattle.sccs_texts.specs.Forms.{form_of};
 
-use crate::{HeldLine, LineForm, SidFinder, give_line};
-use sccs_base::{Line, Login, Memory, MemorySink, Name, Sink, Text};
+use crate::tests::samples::{facts, trunk};
+use sccs_base::{Line, Login, Memory, MemorySink, Sink, Text};
 use sccs_history::{Record, Serials};
-use sccs_keys::Facts;
-use sccs_sid::{Moment, Sid};
+use sccs_sid::Moment;
+use sccs_texts::{HeldLine, LineForm, SidFinder, give_line};
 use std::alloc::Global;
 use std::test::Fail;
-
-fn trunk(level: u16) -> Sid {
-    Sid {
-        release: 1,
-        level,
-        branch: 0,
-        sequence: 0,
-    }
-}
 
 fn record(alloc: Global, serial: u16, level: u16) -> Record
     ensures { result.serial ≡ serial }
@@ -52,30 +42,6 @@ fn table(alloc: Global) -> Result<Vec<Record>, Memory>
         record(alloc, 1, 1),
     ]?;
     Ok(records)
-}
-
-fn moment(seconds: i64) -> Result<Moment, Fail>
-    ensures { IfOk result IsMoment }
-{
-    match Moment::from_seconds(seconds) {
-        Some(moment) => Ok(moment),
-        None => Err("a moment".into()),
-    }
-}
-
-fn facts(alloc: Global) -> Result<Facts, Fail>
-    ensures { IfOk result HasMoments }
-{
-    Ok(Facts {
-        module: Line::new(alloc, b"a")?,
-        sid: trunk(3),
-        moment: moment(0)?,
-        newest: moment(0)?,
-        kind: Line::new(alloc, b"c")?,
-        user: Line::new(alloc, b"u")?,
-        file: Name::read(b"s.a").ok_or("a name")?,
-        place: Line::new(alloc, b"/d")?,
-    })
 }
 
 // whether four lines are given so
@@ -114,7 +80,7 @@ fn both_prefixes(rt: HostRuntime) -> Result<(), Fail> {
 fn keywords_behind_prefixes(rt: HostRuntime) -> Result<(), Fail> {
     let alloc = rt.alloc();
     let name = Line::new(alloc, b"%I%")?;
-    let facts = facts(alloc)?;
+    let facts = facts(alloc, 3)?;
     let alone = LineForm {
         module_name: None,
         has_sids: false,

@@ -1,6 +1,6 @@
-use crate::*;
 use sccs_base::{MemorySource, Name, TakeFault, Text, Words};
 use sccs_disk::SteadyDisk;
+use sccs_operands::*;
 use std::alloc::Global;
 use std::test::Fail;
 

@@ -1,4 +1,4 @@
-use crate::*;
+use sccs_base::*;
 use std::alloc::Global;
 use std::io;
 use std::io::Write;

@@ -1,41 +1,10 @@
-ghost use Rattle.std.specs.Prelude.{IfOk};
 ghost use Rattle.sccs_keys.specs.Expansion.{HasMoments};
-ghost use Rattle.sccs_sid.specs.Moment.{IsMoment};
 
-use crate::{Facts, expand, has_keyword};
-use sccs_base::{Line, MemorySink, Name};
-use sccs_sid::{Moment, Sid};
+use crate::tests::samples::facts;
+use sccs_base::MemorySink;
+use sccs_keys::{Facts, expand, has_keyword};
 use std::alloc::Global;
 use std::test::Fail;
-
-fn moment(seconds: i64) -> Result<Moment, Fail>
-    ensures { IfOk result IsMoment }
-{
-    match Moment::from_seconds(seconds) {
-        Some(moment) => Ok(moment),
-        None => Err("a moment".into()),
-    }
-}
-
-fn facts(alloc: Global) -> Result<Facts, Fail>
-    ensures { IfOk result HasMoments }
-{
-    Ok(Facts {
-        module: Line::new(alloc, b"a")?,
-        sid: Sid {
-            release: 1,
-            level: 2,
-            branch: 0,
-            sequence: 0,
-        },
-        moment: moment(0)?,
-        newest: moment(90_061)?,
-        kind: Line::new(alloc, b"c")?,
-        user: Line::new(alloc, b"u")?,
-        file: Name::read(b"s.a").ok_or("a name")?,
-        place: Line::new(alloc, b"/d")?,
-    })
-}
 
 // whether a line becomes this one, and has a keyword where it is another
 fn becomes(alloc: Global, facts: &Facts, line: &[u8], wanted: &[u8]) -> Result<bool, Fail>
@@ -49,7 +18,7 @@ fn becomes(alloc: Global, facts: &Facts, line: &[u8], wanted: &[u8]) -> Result<b
 #[test]
 fn keywords_replaced(rt: HostRuntime) -> Result<(), Fail> {
     let alloc = rt.alloc();
-    let facts = facts(alloc)?;
+    let facts = facts(alloc, 2)?;
     let row = becomes(
         alloc,
         &facts,

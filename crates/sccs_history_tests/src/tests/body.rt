@@ -1,5 +1,5 @@
-use crate::*;
 use sccs_base::Name;
+use sccs_body::*;
 use sccs_disk::{Disk, MemoryDisk};
 use sccs_grammar::FileFault;
 use sccs_table::Front;
@@ -17,35 +17,12 @@ const PADDED: &[u8] =
 const SIGNED: &[u8] =
     b"\x01h06054\n\x01s 00002/00000/00000\n\x01d D 1.1 21/03/04 05:06:07 ann 1 0\n\x01c one\n\x01e\n\x01u\nann\n\x01U\n\x01f q a b\n\x01t\nabout\n\x01T\n\x01I 1\non\xe9\ntwo\n\x01E 1\n";
 
-// the same with a stored sum that is one more
-const SIGNED_AND_ONE: &[u8] =
-    b"\x01h06055\n\x01s 00002/00000/00000\n\x01d D 1.1 21/03/04 05:06:07 ann 1 0\n\x01c one\n\x01e\n\x01u\nann\n\x01U\n\x01f q a b\n\x01t\nabout\n\x01T\n\x01I 1\non\xe9\ntwo\n\x01E 1\n";
-
 // the first of these with another byte, and with a line more
 const OTHER_BYTE: &[u8] =
     b"\x01h06178\n\x01s 00002/00000/00000\n\x01d D 1.1 21/03/04 05:06:07 ann 1 0\n\x01c one\n\x01e\n\x01u\nann\n\x01U\n\x01f q a b\n\x01t\nabout\n\x01T\n\x01I 1\none\ntwp\n\x01E 1\n";
 
 const LONGER: &[u8] =
     b"\x01h06178\n\x01s 00002/00000/00000\n\x01d D 1.1 21/03/04 05:06:07 ann 1 0\n\x01c one\n\x01e\n\x01u\nann\n\x01U\n\x01f q a b\n\x01t\nabout\n\x01T\n\x01I 1\none\ntwo\n\x01E 1\nend\n";
-
-const UNKNOWN_SERIAL: &[u8] =
-    b"\x01h05824\n\x01s 00002/00000/00000\n\x01d D 1.1 21/03/04 05:06:07 ann 1 0\n\x01c one\n\x01e\n\x01u\nann\n\x01U\n\x01f q a b\n\x01t\nabout\n\x01T\n\x01I 2\none\n\x01E 2\n";
-
-const TEXT_OUTSIDE: &[u8] =
-    b"\x01h06178\n\x01s 00002/00000/00000\n\x01d D 1.1 21/03/04 05:06:07 ann 1 0\n\x01c one\n\x01e\n\x01u\nann\n\x01U\n\x01f q a b\n\x01t\nabout\n\x01T\n\x01I 1\none\n\x01E 1\ntwo\n";
-
-const OPEN: &[u8] =
-    b"\x01h05661\n\x01s 00002/00000/00000\n\x01d D 1.1 21/03/04 05:06:07 ann 1 0\n\x01c one\n\x01e\n\x01u\nann\n\x01U\n\x01f q a b\n\x01t\nabout\n\x01T\n\x01I 1\none\n";
-
-const BYTES_BEHIND: &[u8] =
-    b"\x01h05942\n\x01s 00002/00000/00000\n\x01d D 1.1 21/03/04 05:06:07 ann 1 0\n\x01c one\n\x01e\n\x01u\nann\n\x01U\n\x01f q a b\n\x01t\nabout\n\x01T\n\x01I 1\none\n\x01E 1\nx";
-
-const ENCODED: &[u8] =
-    b"\x01h05632\n\x01s 00002/00000/00000\n\x01d D 1.1 21/03/04 05:06:07 ann 1 0\n\x01c one\n\x01e\n\x01u\nann\n\x01U\n\x01f e 1\n\x01t\nabout\n\x01T\n\x01I 1\none\n\x01E 1\n";
-
-// encoded, and with a serial that is not there
-const BOTH: &[u8] =
-    b"\x01h05633\n\x01s 00002/00000/00000\n\x01d D 1.1 21/03/04 05:06:07 ann 1 0\n\x01c one\n\x01e\n\x01u\nann\n\x01U\n\x01f e 1\n\x01t\nabout\n\x01T\n\x01I 2\none\n\x01E 1\n";
 
 fn s_file() -> Result<Name, Fail> {
     Ok(Name::read(b"s.a").ok_or("a name")?)
@@ -145,13 +122,36 @@ fn text_lines_are_passed_over(rt: HostRuntime) -> Result<(), Fail> {
 fn faults_of_files(rt: HostRuntime) -> Result<(), Fail> {
     let name = s_file()?;
     let rows: [(&[u8], FileFault); 7] = [
-        (UNKNOWN_SERIAL, FileFault::BadFormat(13)),
-        (TEXT_OUTSIDE, FileFault::BadFormat(16)),
-        (OPEN, FileFault::BadFormat(15)),
-        (BYTES_BEHIND, FileFault::BadFormat(16)),
-        (ENCODED, FileFault::Encoded),
-        (BOTH, FileFault::BadFormat(13)),
-        (SIGNED_AND_ONE, FileFault::BadSum(6055, 6310)),
+        (
+            b"\x01h05824\n\x01s 00002/00000/00000\n\x01d D 1.1 21/03/04 05:06:07 ann 1 0\n\x01c one\n\x01e\n\x01u\nann\n\x01U\n\x01f q a b\n\x01t\nabout\n\x01T\n\x01I 2\none\n\x01E 2\n",
+            FileFault::BadFormat(13),
+        ),
+        (
+            b"\x01h06178\n\x01s 00002/00000/00000\n\x01d D 1.1 21/03/04 05:06:07 ann 1 0\n\x01c one\n\x01e\n\x01u\nann\n\x01U\n\x01f q a b\n\x01t\nabout\n\x01T\n\x01I 1\none\n\x01E 1\ntwo\n",
+            FileFault::BadFormat(16),
+        ),
+        (
+            b"\x01h05661\n\x01s 00002/00000/00000\n\x01d D 1.1 21/03/04 05:06:07 ann 1 0\n\x01c one\n\x01e\n\x01u\nann\n\x01U\n\x01f q a b\n\x01t\nabout\n\x01T\n\x01I 1\none\n",
+            FileFault::BadFormat(15),
+        ),
+        (
+            b"\x01h05942\n\x01s 00002/00000/00000\n\x01d D 1.1 21/03/04 05:06:07 ann 1 0\n\x01c one\n\x01e\n\x01u\nann\n\x01U\n\x01f q a b\n\x01t\nabout\n\x01T\n\x01I 1\none\n\x01E 1\nx",
+            FileFault::BadFormat(16),
+        ),
+        (
+            b"\x01h05632\n\x01s 00002/00000/00000\n\x01d D 1.1 21/03/04 05:06:07 ann 1 0\n\x01c one\n\x01e\n\x01u\nann\n\x01U\n\x01f e 1\n\x01t\nabout\n\x01T\n\x01I 1\none\n\x01E 1\n",
+            FileFault::Encoded,
+        ),
+        // encoded, and with a serial that is not there
+        (
+            b"\x01h05633\n\x01s 00002/00000/00000\n\x01d D 1.1 21/03/04 05:06:07 ann 1 0\n\x01c one\n\x01e\n\x01u\nann\n\x01U\n\x01f e 1\n\x01t\nabout\n\x01T\n\x01I 2\none\n\x01E 1\n",
+            FileFault::BadFormat(13),
+        ),
+        // a stored sum that is one more than the signed one
+        (
+            b"\x01h06055\n\x01s 00002/00000/00000\n\x01d D 1.1 21/03/04 05:06:07 ann 1 0\n\x01c one\n\x01e\n\x01u\nann\n\x01U\n\x01f q a b\n\x01t\nabout\n\x01T\n\x01I 1\non\xe9\ntwo\n\x01E 1\n",
+            FileFault::BadSum(6055, 6310),
+        ),
     ];
     for (bytes, wanted) in rows {
         assert!(rt; fault_of(rt.alloc(), &name, bytes)? == Some(wanted));

@@ -1,11 +1,11 @@
 ghost use Rattle.std.specs.Prelude.{◌≡◌, IfOk};
 ghost use Rattle.sccs_edits.specs.Plans.{IsInOrder};
 
-use crate::Splicer;
 use sccs_base::{Line, Name};
 use sccs_disk::{Disk, FickleDisk, MemoryDisk};
 use sccs_history::Item;
 use sccs_script::{Plan, check, plan, read_script};
+use sccs_splicer::Splicer;
 use sccs_table::Sum;
 use sccs_writers::ItemWriter;
 use std::alloc::Global;

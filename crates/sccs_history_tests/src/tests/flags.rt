@@ -1,5 +1,5 @@
-use crate::*;
 use sccs_base::{Line, Login, Text};
+use sccs_flags::*;
 use sccs_history::{Flag, Flags, Header, Records};
 use std::alloc::Global;
 use std::test::Fail;

@@ -1,7 +1,7 @@
-use crate::*;
 use sccs_base::{Login, Name, Text};
 use sccs_disk::{Disk, MemoryDisk};
 use sccs_history::{Flags, Header, Record, Records, Serials};
+use sccs_pfile::*;
 use sccs_sid::{Moment, Sid, SidList};
 use std::alloc::Global;
 use std::test::Fail;

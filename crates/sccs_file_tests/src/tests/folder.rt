@@ -1,6 +1,6 @@
-use crate::*;
 use sccs_base::{Failed, Name};
 use sccs_disk::{Creation, Disk, DiskRefusal};
+use sccs_folder::*;
 use std::alloc::Global;
 use std::rt::Files;
 use std::test::Fail;

@@ -1,5 +1,6 @@
-use crate::values::mr_words;
-use crate::*;
+use sccs_base::{Bytes, Memory, Words};
+use sccs_words::*;
+use std::alloc::Global;
 use std::test::Fail;
 
 // the place of a command's utility among all, from 1
@@ -18,6 +19,15 @@ fn utility_number(command: &Command) -> u64 {
         Command::Batch => 11,
         Command::Soak(_) => 12,
     }
+}
+
+// the words of a line, which blanks part
+fn words_of(alloc: Global, line: &[u8]) -> Result<Words, Memory> {
+    let mut words = Words::new(alloc);
+    for word in line.split(|byte| *byte == b' ') {
+        words.push(Bytes::new(alloc, word)?)?;
+    }
+    Ok(words)
 }
 
 // 0 and the number of the utility, or the kind of the fault and the number of its word
@@ -50,7 +60,7 @@ fn commands_and_faults(rt: HostRuntime) -> Result<(), Fail> {
         (b"rmdel s.a", 8, 3),
     ];
     for (line, kind, number) in examples {
-        let words = mr_words(rt.alloc(), line)?;
+        let words = words_of(rt.alloc(), line)?;
         let found = kind_and_number(read_words(rt.alloc(), &words));
         assert_eq!(rt; found, (kind, number));
     }

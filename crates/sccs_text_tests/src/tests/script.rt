@@ -1,5 +1,5 @@
-use crate::*;
 use sccs_base::{FILE_LIMIT, Text};
+use sccs_script::*;
 use std::alloc::Global;
 use std::test::Fail;
 

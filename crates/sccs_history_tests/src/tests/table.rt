@@ -1,7 +1,7 @@
-use crate::*;
 use sccs_base::Name;
 use sccs_disk::MemoryDisk;
 use sccs_grammar::FileFault;
+use sccs_table::*;
 use std::alloc::Global;
 use std::test::Fail;
 

@@ -1,6 +1,6 @@
-use crate::*;
 use sccs_base::{Line, Login, Text};
 use sccs_history::{Flags, Header, Records, Serials};
+use sccs_records::*;
 use sccs_sid::{Moment, Sid, Stamp};
 use std::alloc::Global;
 use std::test::Fail;

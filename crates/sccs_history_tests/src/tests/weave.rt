@@ -4,10 +4,10 @@ ghost use Rattle.sccs_history.specs.Applied.{live_serials};
 ghost use Rattle.sccs_history.specs.Numbers.{has};
 ghost use Rattle.sccs_weave.specs.Samples.{crossing_table, plain};
 
-use crate::*;
 use sccs_base::{Line, ListOf, Login, Memory, Text};
 use sccs_history::{Flags, Header, Item, Moment, Record, Records, Serials, Sid};
 use sccs_sets::{Applied, delta_set};
+use sccs_weave::*;
 use std::alloc::Global;
 use std::test::Fail;
 

@@ -1,6 +1,6 @@
-use crate::words::{drop_blanks, next_word, one_word, three};
-use crate::*;
 use sccs_base::MemorySink;
+use sccs_sid::words::{drop_blanks, next_word, one_word, three};
+use sccs_sid::*;
 use std::test::Fail;
 
 const fn sid(release: u16, level: u16, branch: u16, sequence: u16) -> Sid {

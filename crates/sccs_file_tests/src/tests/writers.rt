@@ -1,8 +1,8 @@
-use crate::*;
 use sccs_base::{Line, Name};
 use sccs_disk::{Disk, DiskRefusal, FickleDisk, MemoryDisk};
 use sccs_history::Item;
 use sccs_table::Sum;
+use sccs_writers::*;
 use std::alloc::Global;
 use std::test::Fail;
 

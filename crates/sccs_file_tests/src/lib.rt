@@ -1,0 +1,5 @@
+//! Tests of what works on files and disks.
+#![tactic(auto)]
+
+#[cfg(test)]
+mod tests;

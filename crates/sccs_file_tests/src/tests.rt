@@ -1,0 +1,8 @@
+mod base;
+mod disk;
+mod folder;
+mod gfiles;
+mod operands;
+mod pfile;
+mod recovery;
+mod writers;

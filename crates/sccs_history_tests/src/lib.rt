@@ -1,0 +1,5 @@
+//! Tests of what reads histories.
+#![tactic(auto)]
+
+#[cfg(test)]
+mod tests;

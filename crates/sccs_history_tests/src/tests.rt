@@ -1,0 +1,7 @@
+mod body;
+mod flags;
+mod records;
+mod sets;
+mod sid;
+mod table;
+mod weave;

@@ -1,0 +1,5 @@
+//! Tests of words, scripts and texts.
+#![tactic(auto)]
+
+#[cfg(test)]
+mod tests;
