@@ -1,4 +1,5 @@
 pub mod Clear
+pub mod Exits
 pub mod Fronts
 pub mod Gifts
 pub mod JoinedSteps

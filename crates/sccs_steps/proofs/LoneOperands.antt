@@ -1,12 +1,12 @@
 -- An operand by itself is a list of one.
-use Rattle.std.proofs.Common.{◌≡◌, ℕ, Bool, true, false, ◌||◌, List, [], ◌∷◌, ◌++◌, Option, Result, Ok, Err, inl, inr, refl, sym, ap, subst, ◌∙◌}
+use Rattle.std.proofs.Common.{◌≡◌, ℕ, Bool, true, false, ◌||◌, List, [], ◌∷◌, Option, Result, Ok, Err, inr, refl, sym, subst, ◌∙◌}
 use Rattle.std.proofs.lemmas.List.{append-nil}
 use Rattle.sccs_disk.specs.Files.{Folder, view_in}
 use Rattle.sccs_steps.specs.Actions.{Action, AreClear, IsHeard, hears, kind_hears, kind_of, operand_steps, steps_at}
-use Rattle.sccs_steps.specs.Calls.{Scene, shown}
-use Rattle.sccs_steps.specs.Causes.{Counts}
+use Rattle.sccs_steps.specs.Calls.{shown}
 use Rattle.sccs_steps.specs.ListStops.{AreSafe, RunMoments}
 use Rattle.sccs_steps.specs.Running.{RunsOperand, RunsOperands}
+use Rattle.sccs_steps.specs.Settings.{Setting}
 use Rattle.sccs_steps.specs.Speaking.{OperandBegins, OperandMakes, SpeakAll, SpeakBy}
 use Rattle.sccs_steps.specs.StepLists.{NamedStep, Runs}
 use Rattle.sccs_steps.specs.Unlocked.{ArePlain}
@@ -26,19 +26,19 @@ speaks_one : (x : Action) (operand : List ℕ) (r : Result ℕ Fault) (err err2 
 speaks_one x operand (Ok status) err err2 says = (says.0, (says.0, [], sym (append-nil says.0), says.1, refl), says.2)
 speaks_one x operand (Err fault) err err2 says = (says.0, inr ([], operand, [], [], says.0, refl, refl, refl, says.1), says.2)
 
-pub lone_operand : (x : Action) (operand : List ℕ) (r : Result ℕ Fault) (left left2 : Option (List ℕ)) (a b : Scene) (c c2 : Counts) → RunsOperand x operand r left left2 a b c c2 → RunsOperands x (operand ∷ []) r left left2 a b c c2
-lone_operand x operand r left left2 a b c c2 runs = record {
+pub lone_operand : (x : Action) (operand : List ℕ) (r : Result ℕ Fault) (s t : Setting) → RunsOperand x operand r s t → RunsOperands x (operand ∷ []) r s t
+lone_operand x operand r s t runs = record {
   steps = λ w m i spares clear shows given.
-      subst (λ (ts : List NamedStep). Runs w r m ts (shown a) (shown b)) (sym (alone x m i operand))
-      (runs.steps w m i spares (subst (λ (ts : List NamedStep). AreClear x w ts) (alone x m i operand) clear) shows (subst (λ hearing. IsHeard hearing left i) (hears_one x operand) given.0));
+      subst (λ (ts : List NamedStep). Runs w r m ts (shown s.stage) (shown t.stage)) (sym (alone x m i operand))
+      (runs.steps w m i spares (subst (λ (ts : List NamedStep). AreClear x w ts) (alone x m i operand) clear) shows (subst (λ hearing. IsHeard hearing s.left i) (hears_one x operand) given.0));
   stops = λ w folder i m past spares clear shows given is calm safe.
-      subst (λ (ts : List NamedStep). RunMoments x w r folder ts a b m past) (sym (alone x folder i operand))
-      (runs.stops w folder i m past spares (subst (λ (ts : List NamedStep). AreClear x w ts) (alone x folder i operand) clear) shows (subst (λ hearing. IsHeard hearing left i) (hears_one x operand) given.0) is calm
+      subst (λ (ts : List NamedStep). RunMoments x w r folder ts s.stage t.stage m past) (sym (alone x folder i operand))
+      (runs.stops w folder i m past spares (subst (λ (ts : List NamedStep). AreClear x w ts) (alone x folder i operand) clear) shows (subst (λ hearing. IsHeard hearing s.left i) (hears_one x operand) given.0) is calm
       (subst (λ (ts : List NamedStep). AreSafe x ts (view_in folder)) (alone x folder i operand) safe));
   unlocked = λ w folder i spares clear shows given locks plain.
-      runs.unlocked w folder i spares (subst (λ (ts : List NamedStep). AreClear x w ts) (alone x folder i operand) clear) shows (subst (λ hearing. IsHeard hearing left i) (hears_one x operand) given.0) locks
+      runs.unlocked w folder i spares (subst (λ (ts : List NamedStep). AreClear x w ts) (alone x folder i operand) clear) shows (subst (λ hearing. IsHeard hearing s.left i) (hears_one x operand) given.0) locks
       (subst (λ (ts : List NamedStep). ArePlain x ts) (alone x folder i operand) plain);
-  speaks = speaks_one x operand r a.err b.err runs.speaks;
+  speaks = speaks_one x operand r s.stage.err t.stage.err runs.speaks;
   reads = runs.reads;
   silent = runs.silent;
   ignores = λ none. runs.ignores (sym (hears_one x operand) ∙ none);

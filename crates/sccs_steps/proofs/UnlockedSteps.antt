@@ -1,5 +1,5 @@
 -- Steps that change names which weren't locked.
-use Rattle.std.proofs.Common.{◌≡◌, ℕ, ◌<◌, Bool, true, false, List, [], ◌∷◌, drop, length, get_or, Option, IfSome, Result, Ok, Err, inl, sym, subst}
+use Rattle.std.proofs.Common.{◌≡◌, ℕ, ◌<◌, Bool, true, false, List, [], ◌∷◌, drop, length, get_or, Option, IfSome, Result, Ok, inl, sym, subst}
 use Rattle.std.specs.List.{filter}
 use Rattle.sccs_base.specs.Constants.{file_limit}
 use Rattle.sccs_disk.specs.Files.{Folder, view_in}

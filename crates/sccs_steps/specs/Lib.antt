@@ -4,6 +4,7 @@ pub mod Causes
 pub mod ListStops
 pub mod Messages
 pub mod Running
+pub mod Settings
 pub mod Speaking
 pub mod StepEffects
 pub mod StepLists

@@ -8,8 +8,9 @@ use Rattle.sccs_moments.specs.Calm.{IsCalm}
 use Rattle.sccs_moments.specs.Unlocked.{BeginsUnlocked}
 use Rattle.sccs_steps.specs.Actions.{Action, AreClear, IsHeard, IsLone, hears, input_steps, kind_hears, kind_of, kind_steps, step_at, steps_at, steps_of}
 use Rattle.sccs_steps.specs.Calls.{Scene, shown}
-use Rattle.sccs_steps.specs.Causes.{Counts, Ignores, RunCauses}
+use Rattle.sccs_steps.specs.Causes.{Ignores, RunCauses}
 use Rattle.sccs_steps.specs.ListStops.{AreSafe, RunMoments, Spares}
+use Rattle.sccs_steps.specs.Settings.{Setting}
 use Rattle.sccs_steps.specs.Speaking.{SpeakAll, SpeakNames, SpeaksKind, SpeaksOne}
 use Rattle.sccs_steps.specs.StepLists.{NamedStep, Runs}
 use Rattle.sccs_steps.specs.Unlocked.{ArePlain}
@@ -40,41 +41,41 @@ UnlockedBy x steps given old new = (w : List ℕ → Bool) (folder : Folder) (i 
 
 -- The steps are made, where the disk tells its files; what a stop leaves of them; that names are changed that weren't locked; what the call answers and writes on err, over any
 -- disk; and what an action that only reads, that is silent, or that takes no input leaves as it was.
-pub record RunsSteps (x : Action) (made : Steps) (given : List ℕ → Type 0) (says : Result ℕ Fault → Option (List ℕ) → Option (List ℕ) → Type 0) (hearing : Bool) (r : Result ℕ Fault) (left left2 : Option (List ℕ)) (a b : Scene) (c c2 : Counts) : Type 0 where
-  pub steps : MakesBy x made given r a b
-  pub stops : StopsBy x made given r a b
-  pub unlocked : UnlockedBy x made given a.told b.told
-  pub speaks : says r a.err b.err
-  pub reads : x.reads ≡ true → b.told ≡ a.told
-  pub silent : x.silent ≡ true → b.out ≡ a.out
-  pub ignores : hearing ≡ false → Ignores end.ReadFault left left2 c.input c2.input r
-  pub causes : RunCauses r c c2
+pub record RunsSteps (x : Action) (made : Steps) (given : List ℕ → Type 0) (says : Result ℕ Fault → Option (List ℕ) → Option (List ℕ) → Type 0) (hearing : Bool) (r : Result ℕ Fault) (s t : Setting) : Type 0 where
+  pub steps : MakesBy x made given r s.stage t.stage
+  pub stops : StopsBy x made given r s.stage t.stage
+  pub unlocked : UnlockedBy x made given s.stage.told t.stage.told
+  pub speaks : says r s.stage.err t.stage.err
+  pub reads : x.reads ≡ true → t.stage.told ≡ s.stage.told
+  pub silent : x.silent ≡ true → t.stage.out ≡ s.stage.out
+  pub ignores : hearing ≡ false → Ignores end.ReadFault s.left t.left s.faults.input t.faults.input r
+  pub causes : RunCauses r s.faults t.faults
 
 -- the step of one name
-abbrev pub RunsName : Action → List ℕ → Result ℕ Fault → Option (List ℕ) → Option (List ℕ) → Scene → Scene → Counts → Counts → Type 0
-RunsName x name r left = RunsSteps x (λ folder i. step_at x folder i name ∷ []) (IsHeard x.takes left) (SpeaksOne x name) x.takes r left
+abbrev pub RunsName : Action → List ℕ → Result ℕ Fault → Setting → Setting → Type 0
+RunsName x name r s = RunsSteps x (λ folder i. step_at x folder i name ∷ []) (IsHeard x.takes s.left) (SpeaksOne x name) x.takes r s
 
 -- the steps of names
-abbrev pub RunsNames : Action → List (List ℕ) → Result ℕ Fault → Option (List ℕ) → Option (List ℕ) → Scene → Scene → Counts → Counts → Type 0
-RunsNames x names r left = RunsSteps x (λ folder i. steps_of x i folder names) (IsHeard x.takes left) (SpeakNames x names) x.takes r left
+abbrev pub RunsNames : Action → List (List ℕ) → Result ℕ Fault → Setting → Setting → Type 0
+RunsNames x names r s = RunsSteps x (λ folder i. steps_of x i folder names) (IsHeard x.takes s.left) (SpeakNames x names) x.takes r s
 
 -- the input is this, where it is taken, and only a lone operand takes it
 abbrev pub IsInput : Action → List (List ℕ) → Option (List ℕ) → List ℕ → Type 0
 IsInput x operands left i = IsHeard (hears x operands) left i × IsLone x operands
 
 -- the steps of an operand of a kind, and of an operand
-abbrev pub RunsKind : Action → OperandKind → List ℕ → Result ℕ Fault → Option (List ℕ) → Option (List ℕ) → Scene → Scene → Counts → Counts → Type 0
-RunsKind x kind operand r left =
-    RunsSteps x (λ folder i. kind_steps x i folder operand kind) (IsHeard (kind_hears x.takes kind) left) (SpeaksKind x kind operand) (kind_hears x.takes kind) r left
+abbrev pub RunsKind : Action → OperandKind → List ℕ → Result ℕ Fault → Setting → Setting → Type 0
+RunsKind x kind operand r s =
+    RunsSteps x (λ folder i. kind_steps x i folder operand kind) (IsHeard (kind_hears x.takes kind) s.left) (SpeaksKind x kind operand) (kind_hears x.takes kind) r s
 
-abbrev pub RunsOperand : Action → List ℕ → Result ℕ Fault → Option (List ℕ) → Option (List ℕ) → Scene → Scene → Counts → Counts → Type 0
+abbrev pub RunsOperand : Action → List ℕ → Result ℕ Fault → Setting → Setting → Type 0
 RunsOperand x operand = RunsKind x (kind_of x.takes operand) operand
 
 -- the steps of the files that lines of an input name
-abbrev pub RunsLines : Action → List (List ℕ) → Result ℕ Fault → Option (List ℕ) → Option (List ℕ) → Scene → Scene → Counts → Counts → Type 0
-RunsLines x lines r left =
-    RunsSteps x (λ folder i. input_steps x i folder (Ok (filter x.fits lines))) (IsHeard x.takes left) (SpeaksKind x FromInput []) x.takes r left
+abbrev pub RunsLines : Action → List (List ℕ) → Result ℕ Fault → Setting → Setting → Type 0
+RunsLines x lines r s =
+    RunsSteps x (λ folder i. input_steps x i folder (Ok (filter x.fits lines))) (IsHeard x.takes s.left) (SpeaksKind x FromInput []) x.takes r s
 
 -- the steps of operands
-abbrev pub RunsOperands : Action → List (List ℕ) → Result ℕ Fault → Option (List ℕ) → Option (List ℕ) → Scene → Scene → Counts → Counts → Type 0
-RunsOperands x operands r left = RunsSteps x (λ folder i. steps_at x folder i operands) (IsInput x operands left) (SpeakAll x operands) (hears x operands) r left
+abbrev pub RunsOperands : Action → List (List ℕ) → Result ℕ Fault → Setting → Setting → Type 0
+RunsOperands x operands r s = RunsSteps x (λ folder i. steps_at x folder i operands) (IsInput x operands s.left) (SpeakAll x operands) (hears x operands) r s

@@ -5,8 +5,10 @@
 mod faults;
 mod names;
 mod operands;
+mod streams;
 mod utilities;
 
 pub use faults::Fault;
 pub use operands::{is_several, run_operand, run_operands};
+pub use streams::Streams;
 pub use utilities::Utility;

@@ -1,13 +1,13 @@
 ghost use Rattle.std.specs.Prelude.{◌≡◌, ◌≤◌, ◌⊎◌, ℕ, max, Err, false};
 ghost use Rattle.sccs_base.specs.Stream.{Rose};
-ghost use Rattle.sccs_steps.specs.Calls.{scene};
-ghost use Rattle.sccs_steps.specs.Causes.{counts};
 ghost use Rattle.sccs_steps.specs.Messages.{Concludes, SaysRefusal};
 ghost use Rattle.sccs_steps.specs.Running.{RunsName, RunsNames};
+ghost use Rattle.sccs_steps.specs.Settings.{SameLoans, setting};
 ghost use Rattle.sccs_steps.specs.declared.faults.Fault.TheVariants as end;
 ghost use Rattle.sccs_sid.specs.declared.refusals.StepFault.TheVariants as fault;
 
 use crate::faults::Fault;
+use crate::streams::Streams;
 use crate::utilities::Utility;
 use sccs_base::{Bytes, Sink, Source};
 use sccs_disk::Disk;
@@ -56,21 +56,23 @@ pub fn run_name<U: Utility, I: Source, O: Sink, E: Sink, D: Disk>(
     alloc: Global,
     utility: &U,
     name: &[u8],
-    input: &mut I,
-    out: &mut O,
-    err: &mut E,
-    disk: &mut D,
+    streams: &mut Streams<I, O, E, D>,
 ) -> Result<u8, Fault>
-    ensures { RunsName (U.action utility.now) name.now result (I.left input.old) (I.left input.new)
-        (scene (D.told disk.old) (O.given out.old) (E.given err.old)) (scene (D.told disk.new) (O.given out.new) (E.given err.new))
-        (counts (I.faults input.old) (O.faults out.old) (E.faults err.old) (D.faults disk.old))
-        (counts (I.faults input.new) (O.faults out.new) (E.faults err.new) (D.faults disk.new)) }
+    ensures loans { SameLoans streams.old streams.new }
+    ensures run { RunsName (U.action utility.now) name.now result (setting I.Source O.Sink E.Sink D.Disk streams.old) (setting I.Source O.Sink E.Sink D.Disk streams.new) }
 {
     let Some(file) = utility.name(name) else {
-        return conclude(name, Err(StepFault::Refused(Refusal::BadName)), err);
+        return conclude(name, Err(StepFault::Refused(Refusal::BadName)), streams.err);
     };
-    let made = utility.step(alloc, &file, input, out, err, disk);
-    conclude(name, made, err)
+    let made = utility.step(
+        alloc,
+        &file,
+        streams.input,
+        streams.out,
+        streams.err,
+        streams.disk,
+    );
+    conclude(name, made, streams.err)
 }
 
 /// Makes the step of each file in turn, and answers the greatest status.
@@ -78,23 +80,16 @@ pub fn run_names<U: Utility, I: Source, O: Sink, E: Sink, D: Disk>(
     alloc: Global,
     utility: &U,
     names: &[Bytes],
-    input: &mut I,
-    out: &mut O,
-    err: &mut E,
-    disk: &mut D,
+    streams: &mut Streams<I, O, E, D>,
 ) -> Result<u8, Fault>
     requires { (U.action utility.now).takes ≡ false }
-    ensures { RunsNames (U.action utility.now) names.now result (I.left input.old) (I.left input.new)
-        (scene (D.told disk.old) (O.given out.old) (E.given err.old)) (scene (D.told disk.new) (O.given out.new) (E.given err.new))
-        (counts (I.faults input.old) (O.faults out.old) (E.faults err.old) (D.faults disk.old))
-        (counts (I.faults input.new) (O.faults out.new) (E.faults err.new) (D.faults disk.new)) }
+    ensures loans { SameLoans streams.old streams.new }
+    ensures run { RunsNames (U.action utility.now) names.now result (setting I.Source O.Sink E.Sink D.Disk streams.old) (setting I.Source O.Sink E.Sink D.Disk streams.new) }
 {
     let mut status = 0;
     for name in names {
-        match run_name(alloc, utility, name.bytes(), input, out, err, disk) {
-            Ok(one) => status = greater(status, one),
-            Err(fault) => return Err(fault),
-        }
+        let one = run_name(alloc, utility, name.bytes(), streams)?;
+        status = greater(status, one);
     }
     Ok(status)
 }

@@ -1,13 +1,13 @@
 ghost use Rattle.std.specs.Prelude.{◌≡◌, List, [], false, IfOk};
 ghost use Rattle.std.specs.List.{filter};
 ghost use Rattle.sccs_steps.specs.Actions.{is_several, kind_of};
-ghost use Rattle.sccs_steps.specs.Calls.{scene};
-ghost use Rattle.sccs_steps.specs.Causes.{counts};
 ghost use Rattle.sccs_steps.specs.Running.{RunsKind, RunsLines, RunsOperand, RunsOperands};
+ghost use Rattle.sccs_steps.specs.Settings.{SameLoans, setting};
 ghost use Rattle.sccs_steps.specs.declared.operands.OperandKind.TheVariants as kind;
 
 use crate::faults::Fault;
 use crate::names::{greater, refuse, run_name, run_names};
+use crate::streams::Streams;
 use crate::utilities::Utility;
 use sccs_base::{Bytes, FILE_LIMIT, Line, Memory, Sink, Source, TakeFault, Words};
 use sccs_disk::{Disk, DiskRefusal};
@@ -51,19 +51,14 @@ fn kind_of(operand: &[u8], takes: bool) -> OperandKind
 fn run_here<U: Utility, I: Source, O: Sink, E: Sink, D: Disk>(
     alloc: Global,
     utility: &U,
-    input: &mut I,
-    out: &mut O,
-    err: &mut E,
-    disk: &mut D,
+    streams: &mut Streams<I, O, E, D>,
 ) -> Result<u8, Fault>
     requires { (U.action utility.now).takes ≡ false }
-    ensures { RunsKind (U.action utility.now) kind.Here [] result (I.left input.old) (I.left input.new)
-        (scene (D.told disk.old) (O.given out.old) (E.given err.old)) (scene (D.told disk.new) (O.given out.new) (E.given err.new))
-        (counts (I.faults input.old) (O.faults out.old) (E.faults err.old) (D.faults disk.old))
-        (counts (I.faults input.new) (O.faults out.new) (E.faults err.new) (D.faults disk.new)) }
+    ensures loans { SameLoans streams.old streams.new }
+    ensures run { RunsKind (U.action utility.now) kind.Here [] result (setting I.Source O.Sink E.Sink D.Disk streams.old) (setting I.Source O.Sink E.Sink D.Disk streams.new) }
 {
-    match list_sfiles(alloc, disk) {
-        Ok(names) => run_names(alloc, utility, names.items(), input, out, err, disk),
+    match list_sfiles(alloc, streams.disk) {
+        Ok(names) => run_names(alloc, utility, names.items(), streams),
         Err(DiskRefusal::Failed) => Err(Fault::DiskFault),
         Err(DiskRefusal::Memory) => Err(Fault::Memory),
     }
@@ -87,19 +82,14 @@ fn run_lines<U: Utility, I: Source, O: Sink, E: Sink, D: Disk>(
     alloc: Global,
     utility: &U,
     lines: &[Line],
-    input: &mut I,
-    out: &mut O,
-    err: &mut E,
-    disk: &mut D,
+    streams: &mut Streams<I, O, E, D>,
 ) -> Result<u8, Fault>
     requires { (U.action utility.now).takes ≡ false }
-    ensures { RunsLines (U.action utility.now) lines.now result (I.left input.old) (I.left input.new)
-        (scene (D.told disk.old) (O.given out.old) (E.given err.old)) (scene (D.told disk.new) (O.given out.new) (E.given err.new))
-        (counts (I.faults input.old) (O.faults out.old) (E.faults err.old) (D.faults disk.old))
-        (counts (I.faults input.new) (O.faults out.new) (E.faults err.new) (D.faults disk.new)) }
+    ensures loans { SameLoans streams.old streams.new }
+    ensures run { RunsLines (U.action utility.now) lines.now result (setting I.Source O.Sink E.Sink D.Disk streams.old) (setting I.Source O.Sink E.Sink D.Disk streams.new) }
 {
     match names_among(alloc, utility, lines) {
-        Ok(names) => run_names(alloc, utility, names.items(), input, out, err, disk),
+        Ok(names) => run_names(alloc, utility, names.items(), streams),
         Err(_) => Err(Fault::Memory),
     }
 }
@@ -108,20 +98,15 @@ fn run_lines<U: Utility, I: Source, O: Sink, E: Sink, D: Disk>(
 fn run_input<U: Utility, I: Source, O: Sink, E: Sink, D: Disk>(
     alloc: Global,
     utility: &U,
-    input: &mut I,
-    out: &mut O,
-    err: &mut E,
-    disk: &mut D,
+    streams: &mut Streams<I, O, E, D>,
 ) -> Result<u8, Fault>
     requires { (U.action utility.now).takes ≡ false }
-    ensures { RunsKind (U.action utility.now) kind.FromInput [] result (I.left input.old) (I.left input.new)
-        (scene (D.told disk.old) (O.given out.old) (E.given err.old)) (scene (D.told disk.new) (O.given out.new) (E.given err.new))
-        (counts (I.faults input.old) (O.faults out.old) (E.faults err.old) (D.faults disk.old))
-        (counts (I.faults input.new) (O.faults out.new) (E.faults err.new) (D.faults disk.new)) }
+    ensures loans { SameLoans streams.old streams.new }
+    ensures run { RunsKind (U.action utility.now) kind.FromInput [] result (setting I.Source O.Sink E.Sink D.Disk streams.old) (setting I.Source O.Sink E.Sink D.Disk streams.new) }
 {
-    match read_names(alloc, input, FILE_LIMIT) {
-        Ok(lines) => run_lines(alloc, utility, lines.items(), input, out, err, disk),
-        Err(TakeFault::TooLong) => refuse(b"-", &Refusal::TooLong, err),
+    match read_names(alloc, streams.input, FILE_LIMIT) {
+        Ok(lines) => run_lines(alloc, utility, lines.items(), streams),
+        Err(TakeFault::TooLong) => refuse(b"-", &Refusal::TooLong, streams.err),
         Err(TakeFault::Failed) => Err(Fault::ReadFault),
         Err(TakeFault::Memory) => Err(Fault::Memory),
     }
@@ -134,20 +119,15 @@ pub fn run_operand<U: Utility, I: Source, O: Sink, E: Sink, D: Disk>(
     alloc: Global,
     utility: &U,
     operand: &[u8],
-    input: &mut I,
-    out: &mut O,
-    err: &mut E,
-    disk: &mut D,
+    streams: &mut Streams<I, O, E, D>,
 ) -> Result<u8, Fault>
-    ensures { RunsOperand (U.action utility.now) operand.now result (I.left input.old) (I.left input.new)
-        (scene (D.told disk.old) (O.given out.old) (E.given err.old)) (scene (D.told disk.new) (O.given out.new) (E.given err.new))
-        (counts (I.faults input.old) (O.faults out.old) (E.faults err.old) (D.faults disk.old))
-        (counts (I.faults input.new) (O.faults out.new) (E.faults err.new) (D.faults disk.new)) }
+    ensures loans { SameLoans streams.old streams.new }
+    ensures run { RunsOperand (U.action utility.now) operand.now result (setting I.Source O.Sink E.Sink D.Disk streams.old) (setting I.Source O.Sink E.Sink D.Disk streams.new) }
 {
     match kind_of(operand, utility.takes_input()) {
-        OperandKind::Named => run_name(alloc, utility, operand, input, out, err, disk),
-        OperandKind::Here => run_here(alloc, utility, input, out, err, disk),
-        OperandKind::FromInput => run_input(alloc, utility, input, out, err, disk),
+        OperandKind::Named => run_name(alloc, utility, operand, streams),
+        OperandKind::Here => run_here(alloc, utility, streams),
+        OperandKind::FromInput => run_input(alloc, utility, streams),
     }
 }
 
@@ -158,22 +138,15 @@ pub fn run_operands<U: Utility, I: Source, O: Sink, E: Sink, D: Disk>(
     alloc: Global,
     utility: &U,
     operands: &[Bytes],
-    input: &mut I,
-    out: &mut O,
-    err: &mut E,
-    disk: &mut D,
+    streams: &mut Streams<I, O, E, D>,
 ) -> Result<u8, Fault>
-    ensures { RunsOperands (U.action utility.now) operands.now result (I.left input.old) (I.left input.new)
-        (scene (D.told disk.old) (O.given out.old) (E.given err.old)) (scene (D.told disk.new) (O.given out.new) (E.given err.new))
-        (counts (I.faults input.old) (O.faults out.old) (E.faults err.old) (D.faults disk.old))
-        (counts (I.faults input.new) (O.faults out.new) (E.faults err.new) (D.faults disk.new)) }
+    ensures loans { SameLoans streams.old streams.new }
+    ensures run { RunsOperands (U.action utility.now) operands.now result (setting I.Source O.Sink E.Sink D.Disk streams.old) (setting I.Source O.Sink E.Sink D.Disk streams.new) }
 {
     let mut status = 0;
     for operand in operands {
-        match run_operand(alloc, utility, operand.bytes(), input, out, err, disk) {
-            Ok(one) => status = greater(status, one),
-            Err(fault) => return Err(fault),
-        }
+        let one = run_operand(alloc, utility, operand.bytes(), streams)?;
+        status = greater(status, one);
     }
     Ok(status)
 }

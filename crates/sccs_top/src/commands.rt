@@ -5,6 +5,7 @@ ghost use Rattle.sccs_words.specs.ValidValues.{AreGetValues, HasValidValues};
 ghost use Rattle.sccs_steps.specs.Calls.{scene};
 ghost use Rattle.sccs_steps.specs.Causes.{Ignores, RunCauses, counts};
 ghost use Rattle.sccs_steps.specs.Running.{RunsOperands};
+ghost use Rattle.sccs_steps.specs.Settings.{SameLoans, setting, setting_of};
 ghost use Rattle.sccs_steps.specs.declared.faults.Fault.TheVariants as ends;
 ghost use Rattle.sccs_top.specs.Listing.{action_in, words_of};
 ghost use Rattle.sccs_top.specs.Runs.{MakesSteps, SpeaksWords, StopsSteps, UnlockedSteps, action_of, caller, get_in, has_heading, is_silent, made_by, only_reads, operands_of, takes_input};
@@ -20,7 +21,7 @@ use sccs_edit::{Sact, Unget};
 use sccs_get::{Get, Reserve};
 use sccs_recovery::Recover;
 use sccs_sid::Stamp;
-use sccs_steps::{Fault, Utility, is_several, run_operand, run_operands};
+use sccs_steps::{Fault, Streams, Utility, is_several, run_operand, run_operands};
 use sccs_transactions::Locking;
 use sccs_words::{Command, GetWords, Operands, WordsFault, read_words};
 use std::alloc::Global;
@@ -168,31 +169,18 @@ fn run_listed<U: Utility, I: Source, O: Sink, E: Sink, D: Disk>(
     alloc: Global,
     utility: &U,
     operands: Listed<'_>,
-    input: &mut I,
-    out: &mut O,
-    err: &mut E,
-    disk: &mut D,
+    streams: &mut Streams<I, O, E, D>,
 ) -> Result<u8, Fault>
-    ensures { RunsOperands (U.action utility.now) (words_of operands.entry) result (I.left input.old) (I.left input.new)
-        (scene (D.told disk.old) (O.given out.old) (E.given err.old)) (scene (D.told disk.new) (O.given out.new) (E.given err.new))
-        (counts (I.faults input.old) (O.faults out.old) (E.faults err.old) (D.faults disk.old))
-        (counts (I.faults input.new) (O.faults out.new) (E.faults err.new) (D.faults disk.new)) }
+    ensures loans { SameLoans streams.old streams.new }
+    ensures run { RunsOperands (U.action utility.now) (words_of operands.entry) result (setting I.Source O.Sink E.Sink D.Disk streams.old) (setting I.Source O.Sink E.Sink D.Disk streams.new) }
 {
     match operands {
-        Listed::Word(word) => run_operand(alloc, utility, word, input, out, err, disk),
+        Listed::Word(word) => run_operand(alloc, utility, word, streams),
         Listed::Words(operands) => {
             if operands.from_input {
-                run_operand(alloc, utility, b"-", input, out, err, disk)
+                run_operand(alloc, utility, b"-", streams)
             } else {
-                run_operands(
-                    alloc,
-                    utility,
-                    operands.words.items(),
-                    input,
-                    out,
-                    err,
-                    disk,
-                )
+                run_operands(alloc, utility, operands.words.items(), streams)
             }
         }
     }
@@ -204,6 +192,32 @@ fn run_command<I: Source, O: Sink, E: Sink, D: Disk>(
     command: &Command,
     stamp: &Stamp,
     place: &Line,
+    streams: &mut Streams<I, O, E, D>,
+) -> Result<u8, Fault>
+    requires values { HasValidValues command.now }
+    requires moment { IsMoment stamp.now.moment }
+    ensures loans { SameLoans streams.old streams.new }
+    ensures run { RunsOperands (action_of (caller stamp.now place.now) command.now) (operands_of command.now) result (setting I.Source O.Sink E.Sink D.Disk streams.old) (setting I.Source O.Sink E.Sink D.Disk streams.new) }
+{
+    let operands = list_operands(command);
+    match utility_of(command, stamp, place) {
+        Known::Admin(admin) => run_listed(alloc, &admin, operands, streams),
+        Known::Get(get) => run_listed(alloc, &get, operands, streams),
+        Known::Reserve(get) => run_listed(alloc, &get, operands, streams),
+        Known::Delta(delta) => run_listed(alloc, &delta, operands, streams),
+        Known::Sact(sact) => run_listed(alloc, &sact, operands, streams),
+        Known::Unget(unget) => run_listed(alloc, &unget, operands, streams),
+        Known::Recover(recover) => run_listed(alloc, &recover, operands, streams),
+        Known::Unbuilt(unbuilt) => run_listed(alloc, &unbuilt, operands, streams),
+    }
+}
+
+// the same over streams that are lent one by one
+fn run_lent<I: Source, O: Sink, E: Sink, D: Disk>(
+    alloc: Global,
+    command: &Command,
+    stamp: &Stamp,
+    place: &Line,
     input: &mut I,
     out: &mut O,
     err: &mut E,
@@ -211,22 +225,16 @@ fn run_command<I: Source, O: Sink, E: Sink, D: Disk>(
 ) -> Result<u8, Fault>
     requires values { HasValidValues command.now }
     requires moment { IsMoment stamp.now.moment }
-    ensures { RunsOperands (action_of (caller stamp.now place.now) command.now) (operands_of command.now) result (I.left input.old) (I.left input.new)
-        (scene (D.told disk.old) (O.given out.old) (E.given err.old)) (scene (D.told disk.new) (O.given out.new) (E.given err.new))
-        (counts (I.faults input.old) (O.faults out.old) (E.faults err.old) (D.faults disk.old))
-        (counts (I.faults input.new) (O.faults out.new) (E.faults err.new) (D.faults disk.new)) }
+    ensures { RunsOperands (action_of (caller stamp.now place.now) command.now) (operands_of command.now) result
+        (setting_of I.Source O.Sink E.Sink D.Disk input.old out.old err.old disk.old) (setting_of I.Source O.Sink E.Sink D.Disk input.new out.new err.new disk.new) }
 {
-    let operands = list_operands(command);
-    match utility_of(command, stamp, place) {
-        Known::Admin(admin) => run_listed(alloc, &admin, operands, input, out, err, disk),
-        Known::Get(get) => run_listed(alloc, &get, operands, input, out, err, disk),
-        Known::Reserve(get) => run_listed(alloc, &get, operands, input, out, err, disk),
-        Known::Delta(delta) => run_listed(alloc, &delta, operands, input, out, err, disk),
-        Known::Sact(sact) => run_listed(alloc, &sact, operands, input, out, err, disk),
-        Known::Unget(unget) => run_listed(alloc, &unget, operands, input, out, err, disk),
-        Known::Recover(recover) => run_listed(alloc, &recover, operands, input, out, err, disk),
-        Known::Unbuilt(unbuilt) => run_listed(alloc, &unbuilt, operands, input, out, err, disk),
-    }
+    let mut streams = Streams {
+        input,
+        out,
+        err,
+        disk,
+    };
+    run_command(alloc, command, stamp, place, &mut streams)
 }
 
 /// Does a command. The words are those behind the program's name; `stamp` is its moment, of the years
@@ -263,7 +271,7 @@ pub fn run<I: Source, O: Sink, E: Sink, D: Disk>(
         (counts (I.faults input.new) (O.faults out.new) (E.faults err.new) (D.faults disk.new)) }
 {
     match read_words(alloc, words) {
-        Ok(command) => ended(run_command(alloc, &command, stamp, place, input, out, err, disk)),
+        Ok(command) => ended(run_lent(alloc, &command, stamp, place, input, out, err, disk)),
         Err(WordsFault::Usage(usage)) => match write_usage(&usage, err) {
             Ok(()) => Answer::Finished { status: 2 },
             Err(_) => Answer::WriteFault,

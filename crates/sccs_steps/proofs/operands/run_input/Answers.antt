@@ -4,40 +4,40 @@ use Rattle.sccs_base.specs.declared.streams.TakeFault.{TakeFault}
 use Rattle.sccs_base.specs.declared.streams.TakeFault.TheVariants as take
 use Rattle.sccs_operands.specs.InputNames.{GivesLines}
 use Rattle.sccs_steps.specs.Actions.{IsHeard, kind_steps}
-use Rattle.sccs_steps.specs.Calls.{scene}
+use Rattle.sccs_steps.specs.Settings.{setting}
 use Rattle.sccs_steps.specs.declared.faults.Fault.TheVariants as end
 use Rattle.sccs_steps.specs.declared.operands.OperandKind.TheVariants as kind
 use Rattle.sccs_steps.proofs.KindLaws.{input_makes, input_stops, long_makes, long_speaks, long_stops, never_begun, never_stops, none_spoken, some_given}
 use Rattle.sccs_steps.proofs.UnlockedSteps.{input_unlocked, none_unlocked}
 use Rattle.sccs_steps.proofs.operands.run_input.Goals as goal
 
-pub returns-in-Ok : goal.returns-in-Ok
-returns-in-Ok g c =
-    let told : IfSome (g.I.Source.left c.args.input.now) (λ bytes. GivesLines file_limit bytes (Ok c.items.result.now)) =
-    subst (λ lines. IfSome (g.I.Source.left c.args.input.now) (λ bytes. GivesLines file_limit bytes (Ok lines))) (sym c.items.ensures) c.in-Ok.ensures.told in
+pub returns-in-Ok-clause-run : goal.returns-in-Ok-clause-run
+returns-in-Ok-clause-run g c =
+    let told : IfSome (g.I.Source.left c.args.streams.now.input.now) (λ bytes. GivesLines file_limit bytes (Ok c.items.result.now)) =
+    subst (λ lines. IfSome (g.I.Source.left c.args.streams.now.input.now) (λ bytes. GivesLines file_limit bytes (Ok lines))) (sym c.items.ensures) c.in-Ok.ensures.told in
     record {
       steps =
-          input_makes (g.U.Utility.action c.args.utility.now) c.items.result.now c.run_lines.result (g.I.Source.left c.args.input.now) (g.I.Source.left c.read_names.new.input) (scene (g.D.Disk.told c.args.disk.now) (g.O.Sink.given c.args.out.now) (g.E.Sink.given c.args.err.now))
-          (scene (g.D.Disk.told c.run_lines.new.disk) (g.O.Sink.given c.run_lines.new.out) (g.E.Sink.given c.run_lines.new.err)) c.requires told c.run_lines.ensures.steps;
+          input_makes (g.U.Utility.action c.args.utility.now) c.items.result.now c.run_lines.result (g.I.Source.left c.args.streams.now.input.now) (g.I.Source.left c.read_names.new.input) (setting g.I.Source g.O.Sink g.E.Sink g.D.Disk c.args.streams.now).stage
+          (setting g.I.Source g.O.Sink g.E.Sink g.D.Disk c.run_lines.new.streams).stage c.requires told c.run_lines.ensures.run.steps;
       stops =
-          input_stops (g.U.Utility.action c.args.utility.now) c.items.result.now c.run_lines.result (g.I.Source.left c.args.input.now) (g.I.Source.left c.read_names.new.input) (scene (g.D.Disk.told c.args.disk.now) (g.O.Sink.given c.args.out.now) (g.E.Sink.given c.args.err.now))
-          (scene (g.D.Disk.told c.run_lines.new.disk) (g.O.Sink.given c.run_lines.new.out) (g.E.Sink.given c.run_lines.new.err)) c.requires told c.run_lines.ensures.stops;
-      unlocked = input_unlocked (g.U.Utility.action c.args.utility.now) c.items.result.now (g.I.Source.left c.args.input.now) (g.I.Source.left c.read_names.new.input) _ _ c.requires told c.run_lines.ensures.unlocked;
-      speaks = c.run_lines.ensures.speaks;
+          input_stops (g.U.Utility.action c.args.utility.now) c.items.result.now c.run_lines.result (g.I.Source.left c.args.streams.now.input.now) (g.I.Source.left c.read_names.new.input) (setting g.I.Source g.O.Sink g.E.Sink g.D.Disk c.args.streams.now).stage
+          (setting g.I.Source g.O.Sink g.E.Sink g.D.Disk c.run_lines.new.streams).stage c.requires told c.run_lines.ensures.run.stops;
+      unlocked = input_unlocked (g.U.Utility.action c.args.utility.now) c.items.result.now (g.I.Source.left c.args.streams.now.input.now) (g.I.Source.left c.read_names.new.input) _ _ c.requires told c.run_lines.ensures.run.unlocked;
+      speaks = c.run_lines.ensures.run.speaks;
       reads = search rules;
       silent = search rules;
       ignores = λ never. absurd (cc);
       causes = search rules;
     }
 
-pub returns-in-Err-TooLong : goal.returns-in-Err-TooLong
-returns-in-Err-TooLong g c =
-    let told : IfSome (g.I.Source.left c.args.input.now) (λ bytes. GivesLines file_limit bytes (Err take.TooLong)) =
-    subst (λ (fault : TakeFault). IfSome (g.I.Source.left c.args.input.now) (λ bytes. GivesLines file_limit bytes (Err fault))) c.in-Err-TooLong.field-0-is c.in-Err-TooLong.ensures.told in
+pub returns-in-Err-TooLong-clause-run : goal.returns-in-Err-TooLong-clause-run
+returns-in-Err-TooLong-clause-run g c =
+    let told : IfSome (g.I.Source.left c.args.streams.now.input.now) (λ bytes. GivesLines file_limit bytes (Err take.TooLong)) =
+    subst (λ (fault : TakeFault). IfSome (g.I.Source.left c.args.streams.now.input.now) (λ bytes. GivesLines file_limit bytes (Err fault))) c.in-Err-TooLong.field-0-is c.in-Err-TooLong.ensures.told in
     record {
-      steps = long_makes (g.U.Utility.action c.args.utility.now) c.refuse.result (g.I.Source.left c.args.input.now) (scene (g.D.Disk.told c.args.disk.now) (g.O.Sink.given c.args.out.now) (g.E.Sink.given c.args.err.now)) (g.E.Sink.given c.refuse.new.err) told c.refuse.ensures.says;
-      stops = long_stops (g.U.Utility.action c.args.utility.now) c.refuse.result (g.I.Source.left c.args.input.now) (scene (g.D.Disk.told c.args.disk.now) (g.O.Sink.given c.args.out.now) (g.E.Sink.given c.args.err.now)) (g.E.Sink.given c.refuse.new.err) told c.refuse.ensures.says;
-      unlocked = none_unlocked (g.U.Utility.action c.args.utility.now) (λ m i. kind_steps (g.U.Utility.action c.args.utility.now) i m [] kind.FromInput) (IsHeard _ (g.I.Source.left c.args.input.now)) _ _ refl;
+      steps = long_makes (g.U.Utility.action c.args.utility.now) c.refuse.result (g.I.Source.left c.args.streams.now.input.now) (setting g.I.Source g.O.Sink g.E.Sink g.D.Disk c.args.streams.now).stage (g.E.Sink.given c.refuse.new.err) told c.refuse.ensures.says;
+      stops = long_stops (g.U.Utility.action c.args.utility.now) c.refuse.result (g.I.Source.left c.args.streams.now.input.now) (setting g.I.Source g.O.Sink g.E.Sink g.D.Disk c.args.streams.now).stage (g.E.Sink.given c.refuse.new.err) told c.refuse.ensures.says;
+      unlocked = none_unlocked (g.U.Utility.action c.args.utility.now) (λ m i. kind_steps (g.U.Utility.action c.args.utility.now) i m [] kind.FromInput) (IsHeard _ (g.I.Source.left c.args.streams.now.input.now)) _ _ refl;
       speaks = long_speaks (g.U.Utility.action c.args.utility.now) c.refuse.result _ _ c.refuse.ensures.says;
       reads = search rules;
       silent = search rules;
@@ -45,30 +45,30 @@ returns-in-Err-TooLong g c =
       causes = search rules;
     }
 
-pub returns-in-Err-Failed : goal.returns-in-Err-Failed
-returns-in-Err-Failed g c = record {
+pub returns-in-Err-Failed-clause-run : goal.returns-in-Err-Failed-clause-run
+returns-in-Err-Failed-clause-run g c = record {
   steps =
-      never_begun (g.U.Utility.action c.args.utility.now) (λ m i. kind_steps (g.U.Utility.action c.args.utility.now) i m [] kind.FromInput) (IsHeard _ (g.I.Source.left c.args.input.now)) end.ReadFault (g.D.Disk.told c.args.disk.now) (g.D.Disk.told c.args.disk.now) (g.O.Sink.given c.args.out.now) (g.E.Sink.given c.args.err.now)
+      never_begun (g.U.Utility.action c.args.utility.now) (λ m i. kind_steps (g.U.Utility.action c.args.utility.now) i m [] kind.FromInput) (IsHeard _ (g.I.Source.left c.args.streams.now.input.now)) end.ReadFault (g.D.Disk.told c.args.streams.now.disk.now) (g.D.Disk.told c.args.streams.now.disk.now) (g.O.Sink.given c.args.streams.now.out.now) (g.E.Sink.given c.args.streams.now.err.now)
       (some_given (g.U.Utility.action c.args.utility.now)) refl;
   stops =
-      never_stops (g.U.Utility.action c.args.utility.now) (λ m i. kind_steps (g.U.Utility.action c.args.utility.now) i m [] kind.FromInput) (IsHeard _ (g.I.Source.left c.args.input.now)) end.ReadFault (g.D.Disk.told c.args.disk.now) (g.D.Disk.told c.args.disk.now) (g.O.Sink.given c.args.out.now) (g.E.Sink.given c.args.err.now) refl;
-  unlocked = none_unlocked (g.U.Utility.action c.args.utility.now) (λ m i. kind_steps (g.U.Utility.action c.args.utility.now) i m [] kind.FromInput) (IsHeard _ (g.I.Source.left c.args.input.now)) _ _ refl;
-  speaks = none_spoken (g.U.Utility.action c.args.utility.now) kind.FromInput [] end.ReadFault (g.E.Sink.given c.args.err.now);
+      never_stops (g.U.Utility.action c.args.utility.now) (λ m i. kind_steps (g.U.Utility.action c.args.utility.now) i m [] kind.FromInput) (IsHeard _ (g.I.Source.left c.args.streams.now.input.now)) end.ReadFault (g.D.Disk.told c.args.streams.now.disk.now) (g.D.Disk.told c.args.streams.now.disk.now) (g.O.Sink.given c.args.streams.now.out.now) (g.E.Sink.given c.args.streams.now.err.now) refl;
+  unlocked = none_unlocked (g.U.Utility.action c.args.utility.now) (λ m i. kind_steps (g.U.Utility.action c.args.utility.now) i m [] kind.FromInput) (IsHeard _ (g.I.Source.left c.args.streams.now.input.now)) _ _ refl;
+  speaks = none_spoken (g.U.Utility.action c.args.utility.now) kind.FromInput [] end.ReadFault (g.E.Sink.given c.args.streams.now.err.now);
   reads = search rules;
   silent = search rules;
   ignores = λ never. absurd (cc);
   causes = search rules;
 }
 
-pub returns-in-Err-Memory : goal.returns-in-Err-Memory
-returns-in-Err-Memory g c = record {
+pub returns-in-Err-Memory-clause-run : goal.returns-in-Err-Memory-clause-run
+returns-in-Err-Memory-clause-run g c = record {
   steps =
-      never_begun (g.U.Utility.action c.args.utility.now) (λ m i. kind_steps (g.U.Utility.action c.args.utility.now) i m [] kind.FromInput) (IsHeard _ (g.I.Source.left c.args.input.now)) end.Memory (g.D.Disk.told c.args.disk.now) (g.D.Disk.told c.args.disk.now) (g.O.Sink.given c.args.out.now) (g.E.Sink.given c.args.err.now)
+      never_begun (g.U.Utility.action c.args.utility.now) (λ m i. kind_steps (g.U.Utility.action c.args.utility.now) i m [] kind.FromInput) (IsHeard _ (g.I.Source.left c.args.streams.now.input.now)) end.Memory (g.D.Disk.told c.args.streams.now.disk.now) (g.D.Disk.told c.args.streams.now.disk.now) (g.O.Sink.given c.args.streams.now.out.now) (g.E.Sink.given c.args.streams.now.err.now)
       (some_given (g.U.Utility.action c.args.utility.now)) refl;
   stops =
-      never_stops (g.U.Utility.action c.args.utility.now) (λ m i. kind_steps (g.U.Utility.action c.args.utility.now) i m [] kind.FromInput) (IsHeard _ (g.I.Source.left c.args.input.now)) end.Memory (g.D.Disk.told c.args.disk.now) (g.D.Disk.told c.args.disk.now) (g.O.Sink.given c.args.out.now) (g.E.Sink.given c.args.err.now) refl;
-  unlocked = none_unlocked (g.U.Utility.action c.args.utility.now) (λ m i. kind_steps (g.U.Utility.action c.args.utility.now) i m [] kind.FromInput) (IsHeard _ (g.I.Source.left c.args.input.now)) _ _ refl;
-  speaks = none_spoken (g.U.Utility.action c.args.utility.now) kind.FromInput [] end.Memory (g.E.Sink.given c.args.err.now);
+      never_stops (g.U.Utility.action c.args.utility.now) (λ m i. kind_steps (g.U.Utility.action c.args.utility.now) i m [] kind.FromInput) (IsHeard _ (g.I.Source.left c.args.streams.now.input.now)) end.Memory (g.D.Disk.told c.args.streams.now.disk.now) (g.D.Disk.told c.args.streams.now.disk.now) (g.O.Sink.given c.args.streams.now.out.now) (g.E.Sink.given c.args.streams.now.err.now) refl;
+  unlocked = none_unlocked (g.U.Utility.action c.args.utility.now) (λ m i. kind_steps (g.U.Utility.action c.args.utility.now) i m [] kind.FromInput) (IsHeard _ (g.I.Source.left c.args.streams.now.input.now)) _ _ refl;
+  speaks = none_spoken (g.U.Utility.action c.args.utility.now) kind.FromInput [] end.Memory (g.E.Sink.given c.args.streams.now.err.now);
   reads = search rules;
   silent = search rules;
   ignores = λ never. absurd (cc);

@@ -1,8 +1,12 @@
-use Rattle.std.proofs.Common.{rules, ◌+◌, refl, sym, subst, ◌∙◌, drop}
+use Rattle.std.proofs.Common.{rules, ℕ, Result, ◌+◌, refl, sym, subst, ◌∙◌, drop}
 use Rattle.sccs_steps.specs.Actions.{operand_steps, steps_at}
-use Rattle.sccs_steps.specs.Calls.{scene, shown}
+use Rattle.sccs_steps.specs.Calls.{shown}
+use Rattle.sccs_steps.specs.Running.{RunsOperands}
+use Rattle.sccs_steps.specs.Settings.{setting}
 use Rattle.sccs_steps.specs.Speaking.{OperandBegins, OperandMakes}
 use Rattle.sccs_steps.specs.StepLists.{SoFar}
+use Rattle.sccs_steps.specs.declared.faults.Fault.{Fault}
+use Rattle.sccs_steps.proofs.Exits.{exit_is}
 use Rattle.sccs_steps.proofs.JoinedSteps.{begins}
 use Rattle.sccs_steps.proofs.KindLaws.{deaf_at, heard_at, still_left}
 use Rattle.sccs_steps.proofs.Turns.{SpokeSoFar, spoke_begins, spoke_cut, spoke_ends, spoke_on, turn_on, turn_stops, turns_end}
@@ -13,10 +17,11 @@ use Rattle.sccs_steps.proofs.operands.run_operands.Goals as goal
 
 pub loop-operand-init : goal.loop-operand-init
 loop-operand-init g c = record {
-  so_far = λ w m i spares clear shows given. begins w m (λ u. steps_at (g.U.Utility.action c.args.utility.now) u i c.args.operands.now) (shown (scene (g.D.Disk.told c.args.disk.now) (g.O.Sink.given c.args.out.now) (g.E.Sink.given c.args.err.now))) shows;
-  stops = λ w folder i m past spares clear shows given is calm safe. stops_begin (g.U.Utility.action c.args.utility.now) w folder (λ u. steps_at (g.U.Utility.action c.args.utility.now) u i c.args.operands.now) (scene (g.D.Disk.told c.args.disk.now) (g.O.Sink.given c.args.out.now) (g.E.Sink.given c.args.err.now)) m past spares shows is calm;
+  loans = search rules;
+  so_far = λ w m i spares clear shows given. begins w m (λ u. steps_at (g.U.Utility.action c.args.utility.now) u i c.args.operands.now) (shown (setting g.I.Source g.O.Sink g.E.Sink g.D.Disk c.args.streams.now).stage) shows;
+  stops = λ w folder i m past spares clear shows given is calm safe. stops_begin (g.U.Utility.action c.args.utility.now) w folder (λ u. steps_at (g.U.Utility.action c.args.utility.now) u i c.args.operands.now) (setting g.I.Source g.O.Sink g.E.Sink g.D.Disk c.args.streams.now).stage m past spares shows is calm;
   unlocked = λ w m i spares clear shows given locks plain. unlocked_same _ _ refl;
-  said = spoke_begins (OperandMakes (g.U.Utility.action c.args.utility.now)) c.args.operands.now (g.E.Sink.given c.args.err.now);
+  said = spoke_begins (OperandMakes (g.U.Utility.action c.args.utility.now)) c.args.operands.now (g.E.Sink.given c.args.streams.now.err.now);
   left = λ lone below. refl;
   silent = λ only. refl;
   same = λ reads. refl;
@@ -28,72 +33,75 @@ loop-operand-init g c = record {
   disk_later = search rules;
 }
 
-pub returns-in-Err : goal.returns-in-Err
-returns-in-Err g c = record {
-  steps = λ w m i spares clear shows given.
-      turn_stops (g.U.Utility.action c.args.utility.now) w m (operand_steps (g.U.Utility.action c.args.utility.now) i) c.args.operands.now c.loop-operand.operand-index c.loop-operand.status c.in-Err.fault c.operand-item.result c.bytes.result.now _ _ _
-      (c.bytes.ensures ∙ c.operand-item.is) c.loop-operand-test.true clear (c.loop-operand.invariant.so_far w m i spares clear shows given) (λ u clear shows. c.in-Err.ensures.steps w u i spares clear shows (heard_at (g.U.Utility.action c.args.utility.now) c.args.operands.now c.loop-operand.operand-index c.operand-item.result c.bytes.result.now (g.I.Source.left c.args.input.now) (g.I.Source.left c.loop-operand.input) i (c.bytes.ensures ∙ c.operand-item.is) c.loop-operand-test.true given.0 (c.loop-operand.invariant.left given.1 c.loop-operand-test.true)));
-  stops = λ w folder i m past spares clear shows given is calm safe.
-      stops_early (g.U.Utility.action c.args.utility.now) w folder (operand_steps (g.U.Utility.action c.args.utility.now) i) c.args.operands.now c.loop-operand.operand-index c.loop-operand.status c.in-Err.fault c.operand-item.result c.bytes.result.now
-      (scene (g.D.Disk.told c.args.disk.now) (g.O.Sink.given c.args.out.now) (g.E.Sink.given c.args.err.now)) (scene (g.D.Disk.told c.loop-operand.disk) (g.O.Sink.given c.loop-operand.out) (g.E.Sink.given c.loop-operand.err)) (scene (g.D.Disk.told c.run_operand.new.disk) (g.O.Sink.given c.run_operand.new.out) (g.E.Sink.given c.run_operand.new.err)) m past
-      (c.bytes.ensures ∙ c.operand-item.is) c.loop-operand-test.true clear safe (c.loop-operand.invariant.stops w folder i m past spares clear shows given is calm safe)
-      (λ u m past clear shows is calm safe. c.in-Err.ensures.stops w u i m past spares clear shows (heard_at (g.U.Utility.action c.args.utility.now) c.args.operands.now c.loop-operand.operand-index c.operand-item.result c.bytes.result.now (g.I.Source.left c.args.input.now) (g.I.Source.left c.loop-operand.input) i (c.bytes.ensures ∙ c.operand-item.is) c.loop-operand-test.true given.0 (c.loop-operand.invariant.left given.1 c.loop-operand-test.true)) is calm safe);
-  unlocked = λ w m i spares clear shows given locks plain.
-      next_unlocked (g.U.Utility.action c.args.utility.now) w m (operand_steps (g.U.Utility.action c.args.utility.now) i) c.args.operands.now c.loop-operand.operand-index c.loop-operand.status c.operand-item.result c.bytes.result.now _ (shown (scene (g.D.Disk.told c.loop-operand.disk) (g.O.Sink.given c.loop-operand.out) (g.E.Sink.given c.loop-operand.err))) _ _ _
-      (c.bytes.ensures ∙ c.operand-item.is) c.loop-operand-test.true refl clear (c.loop-operand.invariant.so_far w m i spares clear shows given) plain (c.loop-operand.invariant.unlocked w m i spares clear shows given locks plain)
-      (λ u clear shows plain. c.in-Err.ensures.unlocked w u i spares clear shows (heard_at (g.U.Utility.action c.args.utility.now) c.args.operands.now c.loop-operand.operand-index c.operand-item.result c.bytes.result.now (g.I.Source.left c.args.input.now) (g.I.Source.left c.loop-operand.input) i (c.bytes.ensures ∙ c.operand-item.is) c.loop-operand-test.true given.0 (c.loop-operand.invariant.left given.1 c.loop-operand-test.true)) locks plain);
-  speaks =
-      spoke_cut (OperandMakes (g.U.Utility.action c.args.utility.now)) (OperandBegins (g.U.Utility.action c.args.utility.now)) c.args.operands.now c.loop-operand.operand-index c.loop-operand.status c.in-Err.fault c.operand-item.result c.bytes.result.now _ _ _
-      (c.bytes.ensures ∙ c.operand-item.is) c.loop-operand-test.true c.loop-operand.invariant.said c.in-Err.ensures.speaks;
-  reads = λ only. c.in-Err.ensures.reads only ∙ c.loop-operand.invariant.same only;
-  silent = λ only. c.in-Err.ensures.silent only ∙ c.loop-operand.invariant.silent only;
-  ignores = λ none. record {
-    same = (c.in-Err.ensures.ignores (deaf_at (g.U.Utility.action c.args.utility.now) c.args.operands.now c.loop-operand.operand-index c.operand-item.result c.bytes.result.now (c.bytes.ensures ∙ c.operand-item.is) c.loop-operand-test.true none)).same ∙ c.loop-operand.invariant.input_same none;
-    quiet = (c.in-Err.ensures.ignores (deaf_at (g.U.Utility.action c.args.utility.now) c.args.operands.now c.loop-operand.operand-index c.operand-item.result c.bytes.result.now (c.bytes.ensures ∙ c.operand-item.is) c.loop-operand-test.true none)).quiet ∙ c.loop-operand.invariant.input_quiet none;
-    cause = (c.in-Err.ensures.ignores (deaf_at (g.U.Utility.action c.args.utility.now) c.args.operands.now c.loop-operand.operand-index c.operand-item.result c.bytes.result.now (c.bytes.ensures ∙ c.operand-item.is) c.loop-operand-test.true none)).cause;
-  };
-  causes = search rules;
-}
+pub returns-in_err-one-clause-run : goal.returns-in_err-one-clause-run
+returns-in_err-one-clause-run g c =
+    subst (λ (r : Result ℕ Fault). RunsOperands (g.U.Utility.action c.args.utility.now) c.args.operands.now r (setting g.I.Source g.O.Sink g.E.Sink g.D.Disk c.args.streams.now) (setting g.I.Source g.O.Sink g.E.Sink g.D.Disk c.run_operand.new.streams)) (sym (exit_is c.from_residual.result c.in_err-one.field-0.0 c.from_residual.ensures.1))
+    (record {
+      steps = λ w m i spares clear shows given.
+          turn_stops (g.U.Utility.action c.args.utility.now) w m (operand_steps (g.U.Utility.action c.args.utility.now) i) c.args.operands.now c.loop-operand.operand-index c.loop-operand.status c.in_err-one.field-0.0 c.operand-item.result c.bytes.result.now _ _ _
+          (c.bytes.ensures ∙ c.operand-item.is) c.loop-operand-test.true clear (c.loop-operand.invariant.so_far w m i spares clear shows given) (λ u clear shows. c.in_err-one.ensures.run.steps w u i spares clear shows (heard_at (g.U.Utility.action c.args.utility.now) c.args.operands.now c.loop-operand.operand-index c.operand-item.result c.bytes.result.now (g.I.Source.left c.args.streams.now.input.now) (g.I.Source.left c.loop-operand.streams.input.now) i (c.bytes.ensures ∙ c.operand-item.is) c.loop-operand-test.true given.0 (c.loop-operand.invariant.left given.1 c.loop-operand-test.true)));
+      stops = λ w folder i m past spares clear shows given is calm safe.
+          stops_early (g.U.Utility.action c.args.utility.now) w folder (operand_steps (g.U.Utility.action c.args.utility.now) i) c.args.operands.now c.loop-operand.operand-index c.loop-operand.status c.in_err-one.field-0.0 c.operand-item.result c.bytes.result.now
+          (setting g.I.Source g.O.Sink g.E.Sink g.D.Disk c.args.streams.now).stage (setting g.I.Source g.O.Sink g.E.Sink g.D.Disk c.loop-operand.streams).stage (setting g.I.Source g.O.Sink g.E.Sink g.D.Disk c.run_operand.new.streams).stage m past
+          (c.bytes.ensures ∙ c.operand-item.is) c.loop-operand-test.true clear safe (c.loop-operand.invariant.stops w folder i m past spares clear shows given is calm safe)
+          (λ u m past clear shows is calm safe. c.in_err-one.ensures.run.stops w u i m past spares clear shows (heard_at (g.U.Utility.action c.args.utility.now) c.args.operands.now c.loop-operand.operand-index c.operand-item.result c.bytes.result.now (g.I.Source.left c.args.streams.now.input.now) (g.I.Source.left c.loop-operand.streams.input.now) i (c.bytes.ensures ∙ c.operand-item.is) c.loop-operand-test.true given.0 (c.loop-operand.invariant.left given.1 c.loop-operand-test.true)) is calm safe);
+      unlocked = λ w m i spares clear shows given locks plain.
+          next_unlocked (g.U.Utility.action c.args.utility.now) w m (operand_steps (g.U.Utility.action c.args.utility.now) i) c.args.operands.now c.loop-operand.operand-index c.loop-operand.status c.operand-item.result c.bytes.result.now _ (shown (setting g.I.Source g.O.Sink g.E.Sink g.D.Disk c.loop-operand.streams).stage) _ _ _
+          (c.bytes.ensures ∙ c.operand-item.is) c.loop-operand-test.true refl clear (c.loop-operand.invariant.so_far w m i spares clear shows given) plain (c.loop-operand.invariant.unlocked w m i spares clear shows given locks plain)
+          (λ u clear shows plain. c.in_err-one.ensures.run.unlocked w u i spares clear shows (heard_at (g.U.Utility.action c.args.utility.now) c.args.operands.now c.loop-operand.operand-index c.operand-item.result c.bytes.result.now (g.I.Source.left c.args.streams.now.input.now) (g.I.Source.left c.loop-operand.streams.input.now) i (c.bytes.ensures ∙ c.operand-item.is) c.loop-operand-test.true given.0 (c.loop-operand.invariant.left given.1 c.loop-operand-test.true)) locks plain);
+      speaks =
+          spoke_cut (OperandMakes (g.U.Utility.action c.args.utility.now)) (OperandBegins (g.U.Utility.action c.args.utility.now)) c.args.operands.now c.loop-operand.operand-index c.loop-operand.status c.in_err-one.field-0.0 c.operand-item.result c.bytes.result.now _ _ _
+          (c.bytes.ensures ∙ c.operand-item.is) c.loop-operand-test.true c.loop-operand.invariant.said c.in_err-one.ensures.run.speaks;
+      reads = λ only. c.in_err-one.ensures.run.reads only ∙ c.loop-operand.invariant.same only;
+      silent = λ only. c.in_err-one.ensures.run.silent only ∙ c.loop-operand.invariant.silent only;
+      ignores = λ none. record {
+        same = (c.in_err-one.ensures.run.ignores (deaf_at (g.U.Utility.action c.args.utility.now) c.args.operands.now c.loop-operand.operand-index c.operand-item.result c.bytes.result.now (c.bytes.ensures ∙ c.operand-item.is) c.loop-operand-test.true none)).same ∙ c.loop-operand.invariant.input_same none;
+        quiet = (c.in_err-one.ensures.run.ignores (deaf_at (g.U.Utility.action c.args.utility.now) c.args.operands.now c.loop-operand.operand-index c.operand-item.result c.bytes.result.now (c.bytes.ensures ∙ c.operand-item.is) c.loop-operand-test.true none)).quiet ∙ c.loop-operand.invariant.input_quiet none;
+        cause = (c.in_err-one.ensures.run.ignores (deaf_at (g.U.Utility.action c.args.utility.now) c.args.operands.now c.loop-operand.operand-index c.operand-item.result c.bytes.result.now (c.bytes.ensures ∙ c.operand-item.is) c.loop-operand-test.true none)).cause;
+      };
+      causes = search rules;
+    })
 
 pub loop-operand-preserved : goal.loop-operand-preserved
 loop-operand-preserved g c = record {
+  loans = search rules;
   so_far = λ w m i spares clear shows given.
       subst (λ status. SoFar w m (steps_at (g.U.Utility.action c.args.utility.now) m i c.args.operands.now) (λ u. steps_at (g.U.Utility.action c.args.utility.now) u i (drop (c.loop-operand.operand-index + 1) c.args.operands.now)) status
-      (shown (scene (g.D.Disk.told c.args.disk.now) (g.O.Sink.given c.args.out.now) (g.E.Sink.given c.args.err.now))) (shown (scene (g.D.Disk.told c.run_operand.new.disk) (g.O.Sink.given c.run_operand.new.out) (g.E.Sink.given c.run_operand.new.err)))) (sym c.greater-status.ensures)
-      (turn_on (g.U.Utility.action c.args.utility.now) w m (operand_steps (g.U.Utility.action c.args.utility.now) i) c.args.operands.now c.loop-operand.operand-index c.loop-operand.status c.in-Ok.one c.operand-item.result c.bytes.result.now _ _ _
-      (c.bytes.ensures ∙ c.operand-item.is) c.loop-operand-test.true clear (c.loop-operand.invariant.so_far w m i spares clear shows given) (λ u clear shows. c.in-Ok.ensures.steps w u i spares clear shows (heard_at (g.U.Utility.action c.args.utility.now) c.args.operands.now c.loop-operand.operand-index c.operand-item.result c.bytes.result.now (g.I.Source.left c.args.input.now) (g.I.Source.left c.loop-operand.input) i (c.bytes.ensures ∙ c.operand-item.is) c.loop-operand-test.true given.0 (c.loop-operand.invariant.left given.1 c.loop-operand-test.true))));
+      (shown (setting g.I.Source g.O.Sink g.E.Sink g.D.Disk c.args.streams.now).stage) (shown (setting g.I.Source g.O.Sink g.E.Sink g.D.Disk c.run_operand.new.streams).stage)) (sym c.greater-status.ensures)
+      (turn_on (g.U.Utility.action c.args.utility.now) w m (operand_steps (g.U.Utility.action c.args.utility.now) i) c.args.operands.now c.loop-operand.operand-index c.loop-operand.status c.in_ok-one.one c.operand-item.result c.bytes.result.now _ _ _
+      (c.bytes.ensures ∙ c.operand-item.is) c.loop-operand-test.true clear (c.loop-operand.invariant.so_far w m i spares clear shows given) (λ u clear shows. c.in_ok-one.ensures.run.steps w u i spares clear shows (heard_at (g.U.Utility.action c.args.utility.now) c.args.operands.now c.loop-operand.operand-index c.operand-item.result c.bytes.result.now (g.I.Source.left c.args.streams.now.input.now) (g.I.Source.left c.loop-operand.streams.input.now) i (c.bytes.ensures ∙ c.operand-item.is) c.loop-operand-test.true given.0 (c.loop-operand.invariant.left given.1 c.loop-operand-test.true))));
   stops = λ w folder i m past spares clear shows given is calm safe.
       subst (λ status. StopsSoFar (g.U.Utility.action c.args.utility.now) w folder (steps_at (g.U.Utility.action c.args.utility.now) folder i c.args.operands.now) (λ u. steps_at (g.U.Utility.action c.args.utility.now) u i (drop (c.loop-operand.operand-index + 1) c.args.operands.now)) status
-      (scene (g.D.Disk.told c.args.disk.now) (g.O.Sink.given c.args.out.now) (g.E.Sink.given c.args.err.now)) (scene (g.D.Disk.told c.run_operand.new.disk) (g.O.Sink.given c.run_operand.new.out) (g.E.Sink.given c.run_operand.new.err)) m past) (sym c.greater-status.ensures)
-      (stops_on (g.U.Utility.action c.args.utility.now) w folder (operand_steps (g.U.Utility.action c.args.utility.now) i) c.args.operands.now c.loop-operand.operand-index c.loop-operand.status c.in-Ok.one c.operand-item.result c.bytes.result.now
-      (scene (g.D.Disk.told c.args.disk.now) (g.O.Sink.given c.args.out.now) (g.E.Sink.given c.args.err.now)) (scene (g.D.Disk.told c.loop-operand.disk) (g.O.Sink.given c.loop-operand.out) (g.E.Sink.given c.loop-operand.err)) (scene (g.D.Disk.told c.run_operand.new.disk) (g.O.Sink.given c.run_operand.new.out) (g.E.Sink.given c.run_operand.new.err)) m past
-      (c.bytes.ensures ∙ c.operand-item.is) c.loop-operand-test.true clear safe (c.loop-operand.invariant.stops w folder i m past spares clear shows given is calm safe) (λ u clear shows. c.in-Ok.ensures.steps w u i spares clear shows (heard_at (g.U.Utility.action c.args.utility.now) c.args.operands.now c.loop-operand.operand-index c.operand-item.result c.bytes.result.now (g.I.Source.left c.args.input.now) (g.I.Source.left c.loop-operand.input) i (c.bytes.ensures ∙ c.operand-item.is) c.loop-operand-test.true given.0 (c.loop-operand.invariant.left given.1 c.loop-operand-test.true)))
-      (λ u m past clear shows is calm safe. c.in-Ok.ensures.stops w u i m past spares clear shows (heard_at (g.U.Utility.action c.args.utility.now) c.args.operands.now c.loop-operand.operand-index c.operand-item.result c.bytes.result.now (g.I.Source.left c.args.input.now) (g.I.Source.left c.loop-operand.input) i (c.bytes.ensures ∙ c.operand-item.is) c.loop-operand-test.true given.0 (c.loop-operand.invariant.left given.1 c.loop-operand-test.true)) is calm safe));
+      (setting g.I.Source g.O.Sink g.E.Sink g.D.Disk c.args.streams.now).stage (setting g.I.Source g.O.Sink g.E.Sink g.D.Disk c.run_operand.new.streams).stage m past) (sym c.greater-status.ensures)
+      (stops_on (g.U.Utility.action c.args.utility.now) w folder (operand_steps (g.U.Utility.action c.args.utility.now) i) c.args.operands.now c.loop-operand.operand-index c.loop-operand.status c.in_ok-one.one c.operand-item.result c.bytes.result.now
+      (setting g.I.Source g.O.Sink g.E.Sink g.D.Disk c.args.streams.now).stage (setting g.I.Source g.O.Sink g.E.Sink g.D.Disk c.loop-operand.streams).stage (setting g.I.Source g.O.Sink g.E.Sink g.D.Disk c.run_operand.new.streams).stage m past
+      (c.bytes.ensures ∙ c.operand-item.is) c.loop-operand-test.true clear safe (c.loop-operand.invariant.stops w folder i m past spares clear shows given is calm safe) (λ u clear shows. c.in_ok-one.ensures.run.steps w u i spares clear shows (heard_at (g.U.Utility.action c.args.utility.now) c.args.operands.now c.loop-operand.operand-index c.operand-item.result c.bytes.result.now (g.I.Source.left c.args.streams.now.input.now) (g.I.Source.left c.loop-operand.streams.input.now) i (c.bytes.ensures ∙ c.operand-item.is) c.loop-operand-test.true given.0 (c.loop-operand.invariant.left given.1 c.loop-operand-test.true)))
+      (λ u m past clear shows is calm safe. c.in_ok-one.ensures.run.stops w u i m past spares clear shows (heard_at (g.U.Utility.action c.args.utility.now) c.args.operands.now c.loop-operand.operand-index c.operand-item.result c.bytes.result.now (g.I.Source.left c.args.streams.now.input.now) (g.I.Source.left c.loop-operand.streams.input.now) i (c.bytes.ensures ∙ c.operand-item.is) c.loop-operand-test.true given.0 (c.loop-operand.invariant.left given.1 c.loop-operand-test.true)) is calm safe));
   unlocked = λ w m i spares clear shows given locks plain.
-      next_unlocked (g.U.Utility.action c.args.utility.now) w m (operand_steps (g.U.Utility.action c.args.utility.now) i) c.args.operands.now c.loop-operand.operand-index c.loop-operand.status c.operand-item.result c.bytes.result.now _ (shown (scene (g.D.Disk.told c.loop-operand.disk) (g.O.Sink.given c.loop-operand.out) (g.E.Sink.given c.loop-operand.err))) _ _ _
+      next_unlocked (g.U.Utility.action c.args.utility.now) w m (operand_steps (g.U.Utility.action c.args.utility.now) i) c.args.operands.now c.loop-operand.operand-index c.loop-operand.status c.operand-item.result c.bytes.result.now _ (shown (setting g.I.Source g.O.Sink g.E.Sink g.D.Disk c.loop-operand.streams).stage) _ _ _
       (c.bytes.ensures ∙ c.operand-item.is) c.loop-operand-test.true refl clear (c.loop-operand.invariant.so_far w m i spares clear shows given) plain (c.loop-operand.invariant.unlocked w m i spares clear shows given locks plain)
-      (λ u clear shows plain. c.in-Ok.ensures.unlocked w u i spares clear shows (heard_at (g.U.Utility.action c.args.utility.now) c.args.operands.now c.loop-operand.operand-index c.operand-item.result c.bytes.result.now (g.I.Source.left c.args.input.now) (g.I.Source.left c.loop-operand.input) i (c.bytes.ensures ∙ c.operand-item.is) c.loop-operand-test.true given.0 (c.loop-operand.invariant.left given.1 c.loop-operand-test.true)) locks plain);
+      (λ u clear shows plain. c.in_ok-one.ensures.run.unlocked w u i spares clear shows (heard_at (g.U.Utility.action c.args.utility.now) c.args.operands.now c.loop-operand.operand-index c.operand-item.result c.bytes.result.now (g.I.Source.left c.args.streams.now.input.now) (g.I.Source.left c.loop-operand.streams.input.now) i (c.bytes.ensures ∙ c.operand-item.is) c.loop-operand-test.true given.0 (c.loop-operand.invariant.left given.1 c.loop-operand-test.true)) locks plain);
   said =
-      subst (λ status. SpokeSoFar (OperandMakes (g.U.Utility.action c.args.utility.now)) c.args.operands.now (c.loop-operand.operand-index + 1) status (g.E.Sink.given c.args.err.now) (g.E.Sink.given c.run_operand.new.err)) (sym c.greater-status.ensures)
-      (spoke_on (OperandMakes (g.U.Utility.action c.args.utility.now)) (OperandBegins (g.U.Utility.action c.args.utility.now)) c.args.operands.now c.loop-operand.operand-index c.loop-operand.status c.in-Ok.one c.operand-item.result c.bytes.result.now _ _ _
-      (c.bytes.ensures ∙ c.operand-item.is) c.loop-operand-test.true c.loop-operand.invariant.said c.in-Ok.ensures.speaks);
+      subst (λ status. SpokeSoFar (OperandMakes (g.U.Utility.action c.args.utility.now)) c.args.operands.now (c.loop-operand.operand-index + 1) status (g.E.Sink.given c.args.streams.now.err.now) (g.E.Sink.given c.run_operand.new.streams.err.now)) (sym c.greater-status.ensures)
+      (spoke_on (OperandMakes (g.U.Utility.action c.args.utility.now)) (OperandBegins (g.U.Utility.action c.args.utility.now)) c.args.operands.now c.loop-operand.operand-index c.loop-operand.status c.in_ok-one.one c.operand-item.result c.bytes.result.now _ _ _
+      (c.bytes.ensures ∙ c.operand-item.is) c.loop-operand-test.true c.loop-operand.invariant.said c.in_ok-one.ensures.run.speaks);
   left = λ lone below.
-      still_left (g.U.Utility.action c.args.utility.now) c.args.operands.now c.loop-operand.operand-index _ _ _ lone below (c.loop-operand.invariant.left lone c.loop-operand-test.true) (λ none. (c.in-Ok.ensures.ignores (deaf_at (g.U.Utility.action c.args.utility.now) c.args.operands.now c.loop-operand.operand-index c.operand-item.result c.bytes.result.now (c.bytes.ensures ∙ c.operand-item.is) c.loop-operand-test.true none)).same);
-  silent = λ only. c.in-Ok.ensures.silent only ∙ c.loop-operand.invariant.silent only;
-  same = λ only. c.in-Ok.ensures.reads only ∙ c.loop-operand.invariant.same only;
-  input_same = λ none. (c.in-Ok.ensures.ignores (deaf_at (g.U.Utility.action c.args.utility.now) c.args.operands.now c.loop-operand.operand-index c.operand-item.result c.bytes.result.now (c.bytes.ensures ∙ c.operand-item.is) c.loop-operand-test.true none)).same ∙ c.loop-operand.invariant.input_same none;
-  input_quiet = λ none. (c.in-Ok.ensures.ignores (deaf_at (g.U.Utility.action c.args.utility.now) c.args.operands.now c.loop-operand.operand-index c.operand-item.result c.bytes.result.now (c.bytes.ensures ∙ c.operand-item.is) c.loop-operand-test.true none)).quiet ∙ c.loop-operand.invariant.input_quiet none;
+      still_left (g.U.Utility.action c.args.utility.now) c.args.operands.now c.loop-operand.operand-index _ _ _ lone below (c.loop-operand.invariant.left lone c.loop-operand-test.true) (λ none. (c.in_ok-one.ensures.run.ignores (deaf_at (g.U.Utility.action c.args.utility.now) c.args.operands.now c.loop-operand.operand-index c.operand-item.result c.bytes.result.now (c.bytes.ensures ∙ c.operand-item.is) c.loop-operand-test.true none)).same);
+  silent = λ only. c.in_ok-one.ensures.run.silent only ∙ c.loop-operand.invariant.silent only;
+  same = λ only. c.in_ok-one.ensures.run.reads only ∙ c.loop-operand.invariant.same only;
+  input_same = λ none. (c.in_ok-one.ensures.run.ignores (deaf_at (g.U.Utility.action c.args.utility.now) c.args.operands.now c.loop-operand.operand-index c.operand-item.result c.bytes.result.now (c.bytes.ensures ∙ c.operand-item.is) c.loop-operand-test.true none)).same ∙ c.loop-operand.invariant.input_same none;
+  input_quiet = λ none. (c.in_ok-one.ensures.run.ignores (deaf_at (g.U.Utility.action c.args.utility.now) c.args.operands.now c.loop-operand.operand-index c.operand-item.result c.bytes.result.now (c.bytes.ensures ∙ c.operand-item.is) c.loop-operand-test.true none)).quiet ∙ c.loop-operand.invariant.input_quiet none;
   input_later = search rules;
   out_later = search rules;
   err_later = search rules;
   disk_later = search rules;
 }
 
-pub returns : goal.returns
-returns g c = record {
+pub returns-clause-run : goal.returns-clause-run
+returns-clause-run g c = record {
   steps = λ w m i spares clear shows given. turns_end w m (operand_steps (g.U.Utility.action c.args.utility.now) i) c.args.operands.now c.loop-operand.operand-index c.loop-operand.status _ _ c.loop-operand-test.false (c.loop-operand.invariant.so_far w m i spares clear shows given);
   stops = λ w folder i m past spares clear shows given is calm safe.
-      stops_end (g.U.Utility.action c.args.utility.now) w folder (operand_steps (g.U.Utility.action c.args.utility.now) i) c.args.operands.now c.loop-operand.operand-index c.loop-operand.status (scene (g.D.Disk.told c.args.disk.now) (g.O.Sink.given c.args.out.now) (g.E.Sink.given c.args.err.now)) (scene (g.D.Disk.told c.loop-operand.disk) (g.O.Sink.given c.loop-operand.out) (g.E.Sink.given c.loop-operand.err)) m past
+      stops_end (g.U.Utility.action c.args.utility.now) w folder (operand_steps (g.U.Utility.action c.args.utility.now) i) c.args.operands.now c.loop-operand.operand-index c.loop-operand.status (setting g.I.Source g.O.Sink g.E.Sink g.D.Disk c.args.streams.now).stage (setting g.I.Source g.O.Sink g.E.Sink g.D.Disk c.loop-operand.streams).stage m past
       c.loop-operand-test.false (c.loop-operand.invariant.stops w folder i m past spares clear shows given is calm safe);
   unlocked = λ w m i spares clear shows given locks plain. c.loop-operand.invariant.unlocked w m i spares clear shows given locks plain;
   speaks = spoke_ends (OperandMakes (g.U.Utility.action c.args.utility.now)) (OperandBegins (g.U.Utility.action c.args.utility.now)) c.args.operands.now c.loop-operand.operand-index c.loop-operand.status _ _ c.loop-operand-test.false c.loop-operand.invariant.said;

@@ -12,8 +12,8 @@ use Rattle.sccs_top.proofs.commands.run.Goals as goal
 
 pub returns-in-Ok-clause-steps : goal.returns-in-Ok-clause-steps
 returns-in-Ok-clause-steps g c =
-    command_ends (caller c.args.stamp.now c.args.place.now) (meaning c.args.words.now) c.in-Ok.command c.ended.result c.run_command.result (g.I.Source.left c.args.input.now) (scene (g.D.Disk.told c.args.disk.now) (g.O.Sink.given c.args.out.now) (g.E.Sink.given c.args.err.now)) (scene (g.D.Disk.told c.run_command.new.disk) (g.O.Sink.given c.run_command.new.out) (g.E.Sink.given c.run_command.new.err))
-    c.in-Ok.ensures.value c.ended.ensures c.run_command.ensures.steps
+    command_ends (caller c.args.stamp.now c.args.place.now) (meaning c.args.words.now) c.in-Ok.command c.ended.result c.run_lent.result (g.I.Source.left c.args.input.now) (scene (g.D.Disk.told c.args.disk.now) (g.O.Sink.given c.args.out.now) (g.E.Sink.given c.args.err.now)) (scene (g.D.Disk.told c.run_lent.new.disk) (g.O.Sink.given c.run_lent.new.out) (g.E.Sink.given c.run_lent.new.err))
+    c.in-Ok.ensures.value c.ended.ensures c.run_lent.ensures.steps
 
 pub returns-in-Err-clause-steps : goal.returns-in-Err-clause-steps
 returns-in-Err-clause-steps g c =
@@ -26,8 +26,8 @@ returns-in-Err-Memory-clause-steps g c = never_begun (caller c.args.stamp.now c.
 
 pub returns-in-Ok-clause-stops : goal.returns-in-Ok-clause-stops
 returns-in-Ok-clause-stops g c =
-    command_stops (caller c.args.stamp.now c.args.place.now) (meaning c.args.words.now) c.in-Ok.command c.ended.result c.run_command.result (g.I.Source.left c.args.input.now) (scene (g.D.Disk.told c.args.disk.now) (g.O.Sink.given c.args.out.now) (g.E.Sink.given c.args.err.now)) (scene (g.D.Disk.told c.run_command.new.disk) (g.O.Sink.given c.run_command.new.out) (g.E.Sink.given c.run_command.new.err))
-    c.in-Ok.ensures.value c.ended.ensures c.run_command.ensures.stops
+    command_stops (caller c.args.stamp.now c.args.place.now) (meaning c.args.words.now) c.in-Ok.command c.ended.result c.run_lent.result (g.I.Source.left c.args.input.now) (scene (g.D.Disk.told c.args.disk.now) (g.O.Sink.given c.args.out.now) (g.E.Sink.given c.args.err.now)) (scene (g.D.Disk.told c.run_lent.new.disk) (g.O.Sink.given c.run_lent.new.out) (g.E.Sink.given c.run_lent.new.err))
+    c.in-Ok.ensures.value c.ended.ensures c.run_lent.ensures.stops
 
 pub returns-in-Ok-write_usage-clause-stops : goal.returns-in-Ok-write_usage-clause-stops
 returns-in-Ok-write_usage-clause-stops g c =
@@ -45,7 +45,7 @@ pub returns-in-Err-Memory-clause-stops : goal.returns-in-Err-Memory-clause-stops
 returns-in-Err-Memory-clause-stops g c = never_stops (caller c.args.stamp.now c.args.place.now) (meaning c.args.words.now) (g.I.Source.left c.args.input.now) (scene (g.D.Disk.told c.args.disk.now) (g.O.Sink.given c.args.out.now) (g.E.Sink.given c.args.err.now))
 
 pub returns-in-Ok-clause-unlocked : goal.returns-in-Ok-clause-unlocked
-returns-in-Ok-clause-unlocked g c = command_unlocked (caller c.args.stamp.now c.args.place.now) (meaning c.args.words.now) c.in-Ok.command (g.I.Source.left c.args.input.now) _ _ c.in-Ok.ensures.value c.run_command.ensures.unlocked
+returns-in-Ok-clause-unlocked g c = command_unlocked (caller c.args.stamp.now c.args.place.now) (meaning c.args.words.now) c.in-Ok.command (g.I.Source.left c.args.input.now) _ _ c.in-Ok.ensures.value c.run_lent.ensures.unlocked
 
 pub returns-in-Ok-write_usage-clause-unlocked : goal.returns-in-Ok-write_usage-clause-unlocked
 returns-in-Ok-write_usage-clause-unlocked g c = same_unlocked (caller c.args.stamp.now c.args.place.now) (meaning c.args.words.now) (g.I.Source.left c.args.input.now) (g.D.Disk.told c.args.disk.now)
