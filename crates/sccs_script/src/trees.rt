@@ -143,8 +143,7 @@ fn share(
     last: Piece,
     right: Tree,
 ) -> Result<Tree, Memory>
-    requires first { IsPiece first }
-    requires last { IsPiece last }
+    requires { IsPiece first × IsPiece last }
     ensures { IfOk result (λ t. t ≡ left ++ (expand first ++ (middle ++ (expand last ++ right)))) }
 {
     match middle.node {
@@ -166,48 +165,53 @@ fn share(
     }
 }
 
-// a tree whose left side may be too high
+// a tree of three and the pieces between them, where the outer ones may be too high
+fn regroup(
+    alloc: Global,
+    left: Tree,
+    first: Piece,
+    middle: Tree,
+    last: Piece,
+    right: Tree,
+) -> Result<Tree, Memory>
+    requires { IsPiece first × IsPiece last }
+    ensures { IfOk result (λ t. t ≡ left ++ (expand first ++ (middle ++ (expand last ++ right)))) }
+{
+    if left.height().max(right.height()) < middle.height() {
+        share(alloc, left, first, middle, last, right)
+    } else if right.height() < left.height() {
+        let back = fork_of(alloc, middle, last, right)?;
+        fork_of(alloc, left, first, back)
+    } else {
+        let front = fork_of(alloc, left, first, middle)?;
+        fork_of(alloc, front, last, right)
+    }
+}
+
+// a tree whose left side is too high
 fn lean_left(alloc: Global, left: Tree, piece: Piece, right: Tree) -> Result<Tree, Memory>
     requires { IsPiece piece }
     ensures { IfOk result (λ t. t ≡ left ++ (expand piece ++ right)) }
 {
     match left.node {
-        Node::Leaf => fork_of(alloc, Tree::empty(), piece, right),
+        Node::Leaf => fork_of(alloc, left, piece, right),
         Node::Fork(side) => {
-            let Fork {
-                left: low,
-                piece: first,
-                right: high,
-                ..
-            } = Box::into_inner(side);
-            if low.height() < high.height() {
-                return share(alloc, low, first, high, piece, right);
-            }
-            let back = fork_of(alloc, high, piece, right)?;
-            fork_of(alloc, low, first, back)
+            let side = Box::into_inner(side);
+            regroup(alloc, side.left, side.piece, side.right, piece, right)
         }
     }
 }
 
-// a tree whose right side may be too high
+// a tree whose right side is too high
 fn lean_right(alloc: Global, left: Tree, piece: Piece, right: Tree) -> Result<Tree, Memory>
     requires { IsPiece piece }
     ensures { IfOk result (λ t. t ≡ left ++ (expand piece ++ right)) }
 {
     match right.node {
-        Node::Leaf => fork_of(alloc, left, piece, Tree::empty()),
+        Node::Leaf => fork_of(alloc, left, piece, right),
         Node::Fork(side) => {
-            let Fork {
-                left: low,
-                piece: last,
-                right: high,
-                ..
-            } = Box::into_inner(side);
-            if high.height() < low.height() {
-                return share(alloc, left, piece, low, last, high);
-            }
-            let front = fork_of(alloc, left, piece, low)?;
-            fork_of(alloc, front, last, high)
+            let side = Box::into_inner(side);
+            regroup(alloc, left, piece, side.left, side.piece, side.right)
         }
     }
 }
