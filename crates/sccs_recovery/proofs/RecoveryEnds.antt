@@ -28,6 +28,7 @@ use Rattle.sccs_store.specs.declared.new_files.NewFile.TheVariants.{Keep, Replac
 use Rattle.sccs_store.proofs.Committed.{committed_at, part_at}
 use Rattle.sccs_store.proofs.Working.{becomes_moves}
 use Rattle.sccs_recovery.specs.Checks.{IsWithin, Passes, checked, readable, recover_checks, recovers_if}
+use Rattle.sccs_recovery.specs.Ends.{RecoversName}
 use Rattle.sccs_recovery.specs.Entries.{Finds}
 use Rattle.sccs_recovery.specs.Commands.{Says, is_locked}
 use Rattle.sccs_recovery.specs.RecoverStep.{files_checked, found_text, recover_action, recover_step, recovers, unlocked}
@@ -308,17 +309,15 @@ fault_causes fault i o e d d2 later within cause = record {
 }
 
 -- what the call says where it answers a fault
-pub faults_of : (n : List ℕ) (fault : StepFault) (a b : Told) → IfSome (seen a) (λ (v : View). Passes {A = Recovered} (checked n v) (Err fault)) → ((refusal : Refusal) → IsErrOf {T = Recovered} (Err fault) (Refused refusal) → b ≡ a)
-    → (IsErrOf {T = Recovered} (Err fault) Memory → Moves (is_working n) (λ v. v) (seen a) (seen b)) → (IsErrOf {T = Recovered} (Err fault) Memory → AreCleared n (seen a) (seen b))
-    → (IsErrOf {T = Recovered} (Err fault) DiskFault → MovesPartly (is_left n) (λ (v : View). recovers_if (checked n v) n v) (seen a) (seen b)) → IsWithin {T = Recovered} (Err fault) → Faults n fault a b
-faults_of n fault a b checks refused memory cleared parts within = record {
+pub faults_of : (n : List ℕ) (fault : StepFault) (a b : Told) (f f2 : ℕ) → IfSome (seen a) (λ (v : View). Passes {A = Recovered} (checked n v) (Err fault)) → RecoversName {T = Recovered} n a b f f2 (Err fault) → Faults n fault a b
+faults_of n fault a b f f2 checks ends = record {
   checks = checks;
-  refused = λ refusal is. refused refusal (ap Err is);
-  memory = λ is. memory (ap Err is);
-  cleared = λ is. cleared (ap Err is);
-  partly = λ is. parts (ap Err is);
-  read = λ is. within.read (ap Err is);
-  write = λ is. within.write (ap Err is);
+  refused = λ refusal is. ends.refused refusal (ap Err is);
+  memory = λ is. ends.memory (ap Err is);
+  cleared = λ is. ends.cleared (ap Err is);
+  partly = λ is. ends.partly (ap Err is);
+  read = λ is. ends.within.read (ap Err is);
+  write = λ is. ends.within.write (ap Err is);
 }
 
 -- ---- what the parts leave of the files
@@ -338,3 +337,49 @@ tidied_moves n a b d is half =
 
 pub retyped : {S T : Type 0} (e fault : StepFault) → IsErrOf {T = S} (Err e) fault → IsErrOf {T = T} (Err e) fault
 retyped e fault is = let same : e ≡ fault = cc in ap Err same
+
+-- ---- a call behind another one that left the disk as it was
+
+pub ended : {S T : Type 0} (n : List ℕ) (a b d : Told) (f g h : ℕ) (x : S) (y : T) → b ≡ a → f ≤ g → RecoversName n b d g h (Ok x) → RecoversName n a d f h (Ok y)
+ended {S} {T} n a b d f g h x y same rises ends =
+    subst (λ (t : Told). RecoversName {T = T} n t d f h (Ok y)) same
+    (record {
+      view = ends.view;
+      refused = λ refusal is. absurd cc;
+      memory = λ is. absurd cc;
+      cleared = λ is. absurd cc;
+      touches = λ is. absurd cc;
+      partly = λ is. absurd cc;
+      story = ends.story;
+      calm = ends.calm;
+      firm = ends.firm;
+      later = omega (arith, rises, ends.later);
+      cause = λ is. absurd cc;
+      within = record { checks = λ refusal is. absurd cc; read = λ is. absurd cc; write = λ is. absurd cc };
+    })
+
+pub failed : {S T : Type 0} (n : List ℕ) (a b d : Told) (f g h : ℕ) (fault : StepFault) → b ≡ a → f ≤ g → RecoversName {T = S} n b d g h (Err fault) → RecoversName {T = T} n a d f h (Err fault)
+failed {S} {T} n a b d f g h fault same rises ends =
+    subst (λ (t : Told). RecoversName {T = T} n t d f h (Err fault)) same
+    (record {
+      view = tt;
+      refused = λ refusal is. ends.refused refusal (retyped fault (Refused refusal) is);
+      memory = λ is. ends.memory (retyped fault Memory is);
+      cleared = λ is. ends.cleared (retyped fault Memory is);
+      touches = λ is. ends.touches (retyped fault Memory is);
+      partly = λ is. ends.partly (retyped fault DiskFault is);
+      story = ends.story;
+      calm = tt;
+      firm = ends.firm;
+      later = omega (arith, rises, ends.later);
+      cause = λ is. risen f g h rises (ends.cause (retyped fault DiskFault is));
+      within = record {
+        checks = λ refusal is. ends.within.checks refusal (retyped fault (Refused refusal) is);
+        read = λ is. ends.within.read (retyped fault ReadFault is);
+        write = λ is. ends.within.write (retyped fault WriteFault is);
+      };
+    })
+  where
+    risen : (f g h : ℕ) → f ≤ g → Rose g h → Rose f h
+    risen f g h rises (inl more) = inl (omega (arith, rises, more))
+    risen f g h rises (inr last) = inr last

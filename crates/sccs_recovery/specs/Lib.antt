@@ -1,4 +1,5 @@
 pub mod Checks
+pub mod Ends
 pub mod Entries
 pub mod RecoverStep
 pub mod Commands

@@ -14,7 +14,8 @@ ghost use Rattle.sccs_sid.specs.declared.refusals.StepFault.TheVariants as step;
 ghost use Rattle.sccs_store.specs.Commits.{Becomes, Needs, committed, plan};
 ghost use Rattle.sccs_store.specs.Stops.{OnReplace};
 ghost use Rattle.sccs_store.specs.declared.new_files.NewFile.TheVariants.{Keep};
-ghost use Rattle.sccs_recovery.specs.Checks.{IsWithin, Passes, checked, readable, recovers_if};
+ghost use Rattle.sccs_recovery.specs.Checks.{IsWithin, Passes, checked, readable};
+ghost use Rattle.sccs_recovery.specs.Ends.{RecoversName};
 ghost use Rattle.sccs_recovery.specs.Entries.{HasEntries, PreparesLeft, Recovers, new_of};
 
 use crate::entries_left::PfileLeft;
@@ -132,19 +133,8 @@ fn finish<D: Disk>(left: &PfileLeft, disk: &mut D, name: &Name) -> Result<(), St
 fn unlock<D: Disk>(alloc: Global, disk: &mut D, name: &Name) -> Result<(), StepFault>
     requires sfile { IsSfile name.now }
     requires z { IsThere (sibling 122 name.now) (D.told disk.old) }
-    ensures view { OnOk result (Becomes (recover name.now) (seen (D.told disk.old)) (seen (D.told disk.new))) }
     ensures checks { IfSome (seen (D.told disk.old)) (λ (v : View). Passes (readable (v name.now) (v (sibling 112 name.now))) result) }
-    ensures refused { (refusal : Refusal) → result ≡ Err (step.Refused refusal) → D.told disk.new ≡ D.told disk.old }
-    ensures memory { IsErrOf result StepFault.Memory → Moves (is_working name.now) (λ v. v) (seen (D.told disk.old)) (seen (D.told disk.new)) }
-    ensures cleared { IsErrOf result StepFault.Memory → AreCleared name.now (seen (D.told disk.old)) (seen (D.told disk.new)) }
-    ensures touches { IsErrOf result StepFault.Memory → TouchesOnly (is_working name.now) (D.told disk.old) (D.told disk.new) }
-    ensures partly { IsErrOf result StepFault.DiskFault → MovesPartly (is_left name.now) (λ (v : View). recovers_if (checked name.now v) name.now v) (seen (D.told disk.old)) (seen (D.told disk.new)) }
-    ensures story { RecoversOn (D.told disk.old) (D.told disk.new) }
-    ensures calm { OnOk result (LeavesCalm (D.told disk.old) (D.told disk.new)) }
-    ensures firm { LeavesFirm (D.told disk.old) (D.told disk.new) }
-    ensures later { D.faults disk.old ≤ D.faults disk.new }
-    ensures cause { IsErrOf result StepFault.DiskFault → Rose (D.faults disk.old) (D.faults disk.new) }
-    ensures within { IsWithin result }
+    ensures ends { RecoversName name.now (D.told disk.old) (D.told disk.new) (D.faults disk.old) (D.faults disk.new) result }
 {
     match read_left(alloc, disk, name) {
         Ok(left) => finish(&left, disk, name),
@@ -177,20 +167,9 @@ fn tidy<D: Disk>(disk: &mut D, name: &Name) -> Result<(), Failed>
 /// disk is calm. The checks are made only where the z-file is there, and at a refusal nothing has changed.
 pub fn recover<D: Disk>(alloc: Global, disk: &mut D, name: &Name) -> Result<Recovered, StepFault>
     requires { IsSfile name.now }
-    ensures view { OnOk result (Becomes (recover name.now) (seen (D.told disk.old)) (seen (D.told disk.new))) }
     ensures clean { IfOk result (λ answer. IfSome (seen (D.told disk.old)) (λ (v : View). (answer ≡ Recovered.Clean) ↔ (v (sibling 122 name.now) ≡ None))) }
     ensures checks { IfSome (seen (D.told disk.old)) (λ (v : View). Passes (checked name.now v) result) }
-    ensures refused { (refusal : Refusal) → result ≡ Err (step.Refused refusal) → D.told disk.new ≡ D.told disk.old }
-    ensures memory { IsErrOf result StepFault.Memory → Moves (is_working name.now) (λ v. v) (seen (D.told disk.old)) (seen (D.told disk.new)) }
-    ensures cleared { IsErrOf result StepFault.Memory → AreCleared name.now (seen (D.told disk.old)) (seen (D.told disk.new)) }
-    ensures touches { IsErrOf result StepFault.Memory → TouchesOnly (is_working name.now) (D.told disk.old) (D.told disk.new) }
-    ensures partly { IsErrOf result StepFault.DiskFault → MovesPartly (is_left name.now) (λ (v : View). recovers_if (checked name.now v) name.now v) (seen (D.told disk.old)) (seen (D.told disk.new)) }
-    ensures story { RecoversOn (D.told disk.old) (D.told disk.new) }
-    ensures calm { OnOk result (LeavesCalm (D.told disk.old) (D.told disk.new)) }
-    ensures firm { LeavesFirm (D.told disk.old) (D.told disk.new) }
-    ensures later { D.faults disk.old ≤ D.faults disk.new }
-    ensures cause { IsErrOf result StepFault.DiskFault → Rose (D.faults disk.old) (D.faults disk.new) }
-    ensures within { IsWithin result }
+    ensures ends { RecoversName name.now (D.told disk.old) (D.told disk.new) (D.faults disk.old) (D.faults disk.new) result }
 {
     match disk.size(&name.sibling(b'z')) {
         Ok(Some(_)) => match unlock(alloc, disk, name) {

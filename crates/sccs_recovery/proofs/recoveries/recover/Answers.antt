@@ -1,51 +1,58 @@
-use Rattle.sccs_files.specs.StepFiles.{is_working}
-use Rattle.sccs_store.proofs.Working.{touches_from}
+use Rattle.std.proofs.Common.{rules}
 use Rattle.sccs_recovery.proofs.RecoveryLaws.{calm_from, firm_since, same_firm, same_story, story_from}
-use Rattle.sccs_recovery.proofs.RecoveryEnds.{partly, partly_from, retyped, same_partly}
+use Rattle.sccs_recovery.proofs.RecoveryEnds.{ended, failed, partly, partly_from, same_partly}
 use Rattle.sccs_recovery.proofs.recoveries.recover.Goals as goal
 
-pub returns-in-Ok-clause-calm : goal.returns-in-Ok-clause-calm
-returns-in-Ok-clause-calm g c = calm_from _ (g.D.Disk.told c.size.new.self) _ c.size.ensures.same c.in-Ok.ensures.calm
+pub returns-in-Ok-clause-ends : goal.returns-in-Ok-clause-ends
+returns-in-Ok-clause-ends g c = ended c.args.name.now _ (g.D.Disk.told c.size.new.self) _ _ _ _ c.in-Ok.field-0 _ c.size.ensures.same c.size.ensures.later c.in-Ok.ensures.ends
 
-pub returns-in-Err-unlock-clause-story : goal.returns-in-Err-unlock-clause-story
-returns-in-Err-unlock-clause-story g c = story_from _ (g.D.Disk.told c.size.new.self) _ c.size.ensures.same c.unlock.ensures.story
+pub returns-in-Err-unlock-clause-ends : goal.returns-in-Err-unlock-clause-ends
+returns-in-Err-unlock-clause-ends g c = failed c.args.name.now _ (g.D.Disk.told c.size.new.self) _ _ _ _ c.in-Err-unlock.fault c.size.ensures.same c.size.ensures.later c.in-Err-unlock.ensures.ends
 
-pub returns-in-Ok-tidy-clause-story : goal.returns-in-Ok-tidy-clause-story
-returns-in-Ok-tidy-clause-story g c = story_from _ (g.D.Disk.told c.size.new.self) _ c.size.ensures.same c.tidy.ensures.story
+pub returns-in-Ok-tidy-clause-ends : goal.returns-in-Ok-tidy-clause-ends
+returns-in-Ok-tidy-clause-ends g c = record {
+  view = search rules;
+  refused = search rules;
+  memory = search rules;
+  cleared = search rules;
+  touches = search rules;
+  partly = search rules;
+  story = story_from _ (g.D.Disk.told c.size.new.self) _ c.size.ensures.same c.tidy.ensures.story;
+  calm = calm_from _ (g.D.Disk.told c.size.new.self) _ c.size.ensures.same c.in-Ok-tidy.ensures.calm;
+  firm = firm_since _ (g.D.Disk.told c.size.new.self) _ c.size.ensures.same c.tidy.ensures.firm;
+  later = search rules;
+  cause = search rules;
+  within = search rules;
+}
 
-pub returns-in-Ok-tidy-clause-calm : goal.returns-in-Ok-tidy-clause-calm
-returns-in-Ok-tidy-clause-calm g c = calm_from _ (g.D.Disk.told c.size.new.self) _ c.size.ensures.same c.in-Ok-tidy.ensures.calm
+pub returns-in-Err-tidy-clause-ends : goal.returns-in-Err-tidy-clause-ends
+returns-in-Err-tidy-clause-ends g c = record {
+  view = search rules;
+  refused = search rules;
+  memory = search rules;
+  cleared = search rules;
+  touches = search rules;
+  partly = λ fault. partly_from c.args.name.now _ (g.D.Disk.told c.args.disk.now) (g.D.Disk.told c.size.new.self) _ c.size.ensures.same (partly c.args.name.now _ _ _ c.in-Err-tidy.ensures.view_err);
+  story = story_from _ (g.D.Disk.told c.size.new.self) _ c.size.ensures.same c.tidy.ensures.story;
+  calm = search rules;
+  firm = firm_since _ (g.D.Disk.told c.size.new.self) _ c.size.ensures.same c.tidy.ensures.firm;
+  later = search rules;
+  cause = search rules;
+  within = search rules;
+}
 
-pub returns-in-Err-tidy-clause-story : goal.returns-in-Err-tidy-clause-story
-returns-in-Err-tidy-clause-story g c = story_from _ (g.D.Disk.told c.size.new.self) _ c.size.ensures.same c.tidy.ensures.story
-
-pub returns-in-Err-clause-story : goal.returns-in-Err-clause-story
-returns-in-Err-clause-story g c = same_story _ _ c.size.ensures.same
-
-pub returns-in-Err-unlock-clause-partly : goal.returns-in-Err-unlock-clause-partly
-returns-in-Err-unlock-clause-partly g c = λ fault. partly_from c.args.name.now _ (g.D.Disk.told c.args.disk.now) (g.D.Disk.told c.size.new.self) _ c.size.ensures.same (c.in-Err-unlock.ensures.partly (retyped c.in-Err-unlock.fault _ fault))
-
-pub returns-in-Err-tidy-clause-partly : goal.returns-in-Err-tidy-clause-partly
-returns-in-Err-tidy-clause-partly g c =
-    λ fault. partly_from c.args.name.now _ (g.D.Disk.told c.args.disk.now) (g.D.Disk.told c.size.new.self) _ c.size.ensures.same (partly c.args.name.now _ _ _ c.in-Err-tidy.ensures.view_err)
-
-pub returns-in-Err-clause-partly : goal.returns-in-Err-clause-partly
-returns-in-Err-clause-partly g c = λ fault. same_partly c.args.name.now _ (g.D.Disk.told c.args.disk.now) (g.D.Disk.told c.size.new.self) c.size.ensures.same
-
-pub returns-in-Ok-clause-firm : goal.returns-in-Ok-clause-firm
-returns-in-Ok-clause-firm g c = firm_since _ (g.D.Disk.told c.size.new.self) _ c.size.ensures.same c.unlock.ensures.firm
-
-pub returns-in-Err-unlock-clause-firm : goal.returns-in-Err-unlock-clause-firm
-returns-in-Err-unlock-clause-firm g c = firm_since _ (g.D.Disk.told c.size.new.self) _ c.size.ensures.same c.unlock.ensures.firm
-
-pub returns-in-Ok-tidy-clause-firm : goal.returns-in-Ok-tidy-clause-firm
-returns-in-Ok-tidy-clause-firm g c = firm_since _ (g.D.Disk.told c.size.new.self) _ c.size.ensures.same c.tidy.ensures.firm
-
-pub returns-in-Err-tidy-clause-firm : goal.returns-in-Err-tidy-clause-firm
-returns-in-Err-tidy-clause-firm g c = firm_since _ (g.D.Disk.told c.size.new.self) _ c.size.ensures.same c.tidy.ensures.firm
-
-pub returns-in-Err-clause-firm : goal.returns-in-Err-clause-firm
-returns-in-Err-clause-firm g c = same_firm _ _ c.size.ensures.same
-
-pub returns-in-Err-unlock-clause-touches : goal.returns-in-Err-unlock-clause-touches
-returns-in-Err-unlock-clause-touches g c = λ fault. touches_from (is_working c.args.name.now) _ (g.D.Disk.told c.size.new.self) _ c.size.ensures.same (c.in-Err-unlock.ensures.touches (retyped c.in-Err-unlock.fault _ fault))
+pub returns-in-Err-clause-ends : goal.returns-in-Err-clause-ends
+returns-in-Err-clause-ends g c = record {
+  view = search rules;
+  refused = search rules;
+  memory = search rules;
+  cleared = search rules;
+  touches = search rules;
+  partly = λ fault. same_partly c.args.name.now _ (g.D.Disk.told c.args.disk.now) (g.D.Disk.told c.size.new.self) c.size.ensures.same;
+  story = same_story _ _ c.size.ensures.same;
+  calm = search rules;
+  firm = same_firm _ _ c.size.ensures.same;
+  later = search rules;
+  cause = search rules;
+  within = search rules;
+}

@@ -9,32 +9,32 @@ recover-requires g c = is_sfile c.args.name.now c.requires
 
 pub returns-in-Ok-clause-step : goal.returns-in-Ok-clause-step
 returns-in-Ok-clause-step g c =
-    made_steps c.args.name.now c.in-Ok.found c.say.result (g.D.Disk.told c.args.disk.now) (g.D.Disk.told c.recover.new.disk) _ _ _ _ (is_sfile c.args.name.now c.requires) c.in-Ok.ensures.view c.in-Ok.ensures.clean c.in-Ok.ensures.checks c.say.ensures.says
+    made_steps c.args.name.now c.in-Ok.found c.say.result (g.D.Disk.told c.args.disk.now) (g.D.Disk.told c.recover.new.disk) _ _ _ _ (is_sfile c.args.name.now c.requires) c.in-Ok.ensures.ends.view c.in-Ok.ensures.clean c.in-Ok.ensures.checks c.say.ensures.says
 
 pub returns-in-Ok-clause-speaks : goal.returns-in-Ok-clause-speaks
 returns-in-Ok-clause-speaks g c = say_speaks c.args.name.now (found_text c.args.name.now (is_locked c.in-Ok.found)) c.say.result _ _ _ c.say.ensures.says
 
 pub returns-in-Ok-clause-causes : goal.returns-in-Ok-clause-causes
-returns-in-Ok-clause-causes g c = say_causes c.say.result _ _ _ _ _ _ c.recover.ensures.later c.say.ensures.causes
+returns-in-Ok-clause-causes g c = say_causes c.say.result _ _ _ _ _ _ c.recover.ensures.ends.later c.say.ensures.causes
 
 pub returns-in-Err-clause-step : goal.returns-in-Err-clause-step
 returns-in-Err-clause-step g c =
     fault_steps c.args.name.now c.in-Err.fault (g.D.Disk.told c.args.disk.now) (g.D.Disk.told c.recover.new.disk) _ _ _ (is_sfile c.args.name.now c.requires)
-    (faults_of c.args.name.now c.in-Err.fault (g.D.Disk.told c.args.disk.now) (g.D.Disk.told c.recover.new.disk) c.in-Err.ensures.checks c.in-Err.ensures.refused c.in-Err.ensures.memory c.in-Err.ensures.cleared c.in-Err.ensures.partly c.in-Err.ensures.within)
+    (faults_of c.args.name.now c.in-Err.fault (g.D.Disk.told c.args.disk.now) (g.D.Disk.told c.recover.new.disk) _ _ c.in-Err.ensures.checks c.in-Err.ensures.ends)
 
 pub returns-in-Err-clause-speaks : goal.returns-in-Err-clause-speaks
-returns-in-Err-clause-speaks g c = fault_speaks c.in-Err.fault c.args.name.now _ c.in-Err.ensures.within.checks
+returns-in-Err-clause-speaks g c = fault_speaks c.in-Err.fault c.args.name.now _ c.in-Err.ensures.ends.within.checks
 
 pub returns-in-Err-clause-causes : goal.returns-in-Err-clause-causes
-returns-in-Err-clause-causes g c = fault_causes c.in-Err.fault _ _ _ _ _ c.recover.ensures.later c.in-Err.ensures.within c.in-Err.ensures.cause
+returns-in-Err-clause-causes g c = fault_causes c.in-Err.fault _ _ _ _ _ c.recover.ensures.ends.later c.in-Err.ensures.ends.within c.in-Err.ensures.ends.cause
 
 pub returns-in-Ok-clause-moments : goal.returns-in-Ok-clause-moments
 returns-in-Ok-clause-moments g c =
-    made_moments c.args.name.now c.in-Ok.found c.say.result (g.D.Disk.told c.args.disk.now) (g.D.Disk.told c.recover.new.disk) (g.I.Source.left c.args._input.now) (g.O.Sink.given c.args.out.now) _ (g.E.Sink.given c.args._err.now) (is_sfile c.args.name.now c.requires) c.in-Ok.ensures.view c.in-Ok.ensures.clean c.in-Ok.ensures.checks c.say.ensures.says
-    c.recover.ensures.story c.in-Ok.ensures.calm
+    made_moments c.args.name.now c.in-Ok.found c.say.result (g.D.Disk.told c.args.disk.now) (g.D.Disk.told c.recover.new.disk) (g.I.Source.left c.args._input.now) (g.O.Sink.given c.args.out.now) _ (g.E.Sink.given c.args._err.now) (is_sfile c.args.name.now c.requires) c.in-Ok.ensures.ends.view c.in-Ok.ensures.clean c.in-Ok.ensures.checks c.say.ensures.says
+    c.recover.ensures.ends.story c.in-Ok.ensures.ends.calm
 
 pub returns-in-Err-clause-moments : goal.returns-in-Err-clause-moments
 returns-in-Err-clause-moments g c =
     fault_moments c.args.name.now c.in-Err.fault (g.D.Disk.told c.args.disk.now) (g.D.Disk.told c.recover.new.disk) (g.I.Source.left c.args._input.now) (g.O.Sink.given c.args.out.now) (g.E.Sink.given c.args._err.now) (is_sfile c.args.name.now c.requires)
-    (faults_of c.args.name.now c.in-Err.fault (g.D.Disk.told c.args.disk.now) (g.D.Disk.told c.recover.new.disk) c.in-Err.ensures.checks c.in-Err.ensures.refused c.in-Err.ensures.memory c.in-Err.ensures.cleared c.in-Err.ensures.partly c.in-Err.ensures.within)
-    c.recover.ensures.story c.recover.ensures.firm c.in-Err.ensures.touches
+    (faults_of c.args.name.now c.in-Err.fault (g.D.Disk.told c.args.disk.now) (g.D.Disk.told c.recover.new.disk) _ _ c.in-Err.ensures.checks c.in-Err.ensures.ends)
+    c.recover.ensures.ends.story c.recover.ensures.ends.firm c.in-Err.ensures.ends.touches
