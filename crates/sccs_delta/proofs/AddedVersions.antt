@@ -41,7 +41,7 @@ use Rattle.sccs_words.specs.declared.commands.DeltaWords.{DeltaWords}
 use Rattle.sccs_delta.specs.DeltaStep.{Entry, base_lines, base_of, counts_of, delta_of, delta_outcome}
 use Rattle.sccs_delta.specs.NewVersions.{AddsVersions, MakesVersions, base_text, text_in}
 use Rattle.sccs_delta.specs.NullDeltas.{null_deltas, serial_behind, skipped_by, with_nulls}
-use Rattle.sccs_delta.specs.declared.bases.Base.{Base}
+use Rattle.sccs_delta.specs.declared.entries.Base.{Base}
 use Rattle.sccs_delta.proofs.AgreeLaws.{others_agree}
 use Rattle.sccs_delta.proofs.DeltaReads.{delta_reads}
 use Rattle.sccs_delta.proofs.EntryChains.{has_base}

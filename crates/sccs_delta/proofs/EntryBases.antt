@@ -17,7 +17,7 @@ use Rattle.sccs_pfile.specs.declared.entries.Edit.{Edit}
 use Rattle.sccs_steps.specs.StepEffects.{check, there}
 use Rattle.sccs_delta.specs.DeltaStep.{base_of, or_disagrees}
 use Rattle.sccs_delta.specs.Preparing.{list_fault}
-use Rattle.sccs_delta.specs.declared.bases.Base.{Base}
+use Rattle.sccs_delta.specs.declared.entries.Base.{Base}
 
 abbrev base_at : List Record → ℕ → List ℕ → List ℕ → Base
 base_at records got include exclude =

@@ -17,7 +17,7 @@ use Rattle.sccs_steps.specs.StepEffects.{check, there}
 use Rattle.sccs_words.specs.declared.commands.DeltaWords.{DeltaWords}
 use Rattle.sccs_delta.specs.DeltaStep.{Entry, base_of, entry_of, released}
 use Rattle.sccs_delta.specs.Preparing.{FindsEntry}
-use Rattle.sccs_delta.specs.declared.bases.Base.{Base}
+use Rattle.sccs_delta.specs.declared.entries.Base.{Base}
 use Rattle.sccs_delta.proofs.Chains.{ends, goes, passed}
 
 -- ---- what follows each check

@@ -21,7 +21,7 @@ use Rattle.sccs_sets.proofs.Living.{newest_live, serials_live}
 use Rattle.sccs_sets.proofs.OnceNamed.{places_all, serials_once}
 use Rattle.sccs_sets.proofs.Ranges.{ranges_named}
 use Rattle.sccs_delta.specs.DeltaStep.{base_of}
-use Rattle.sccs_delta.specs.declared.bases.Base.{Base}
+use Rattle.sccs_delta.specs.declared.entries.Base.{Base}
 use Rattle.sccs_delta.proofs.EntryBases.{base_made}
 
 -- ---- the SID got

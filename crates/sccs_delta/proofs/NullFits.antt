@@ -24,7 +24,7 @@ use Rattle.sccs_records.specs.NewDeltas.{FitsTable, HasSpellings, last_of, with_
 use Rattle.sccs_records.proofs.TableLaws.{header_kept, live_is_there, spelled_kept}
 use Rattle.sccs_words.specs.declared.commands.DeltaWords.{DeltaWords}
 use Rattle.sccs_delta.specs.DeltaStep.{base_of, delta_of}
-use Rattle.sccs_delta.specs.declared.bases.Base.{Base}
+use Rattle.sccs_delta.specs.declared.entries.Base.{Base}
 use Rattle.sccs_delta.specs.NullDeltas.{made_sids, null_deltas, skipped_by, with_nulls}
 use Rattle.sccs_delta.proofs.EntryLaws.{HasBase, base_found, entry_agrees}
 use Rattle.sccs_delta.proofs.NullLaws.{delta_spelled, newest_nulls}

@@ -14,7 +14,7 @@ use Rattle.sccs_records.specs.NewDeltas.{HasSpellings, null_delta, with_delta, w
 use Rattle.sccs_records.specs.Texts.{some_lines}
 use Rattle.sccs_records.specs.declared.new_deltas.NewDelta.{NewDelta}
 use Rattle.sccs_words.specs.declared.commands.DeltaWords.{DeltaWords}
-use Rattle.sccs_delta.specs.declared.bases.Base.{Base}
+use Rattle.sccs_delta.specs.declared.entries.Base.{Base}
 use Rattle.sccs_delta.specs.DeltaStep.{delta_of}
 
 -- ---- the new delta

@@ -30,7 +30,7 @@ use Rattle.sccs_pending.specs.PFiles.{bytes_or_none, is_short, or_bad_pfile}
 use Rattle.sccs_pending.specs.Pending.{Found, agreeing, bytes_at, pending_of}
 use Rattle.sccs_words.specs.declared.commands.DeltaWords.{DeltaWords}
 use Rattle.sccs_delta.specs.DeltaStep.{Entry, base_lines, base_of, delta_outcome, entry_of, fitted, makes_delta, mrs_checked, nulls_of, or_disagrees, or_script_fault, released, sizes_checked}
-use Rattle.sccs_delta.specs.declared.bases.Base.{Base}
+use Rattle.sccs_delta.specs.declared.entries.Base.{Base}
 use Rattle.sccs_delta.proofs.Chains.{passed}
 use Rattle.sccs_delta.proofs.SettleLaws.{fitted_ok, orders_ok}
 

@@ -47,7 +47,7 @@ use Rattle.sccs_transactions.specs.declared.prepared.Prepared.{Prepared}
 use Rattle.sccs_words.specs.declared.commands.DeltaWords.{DeltaWords}
 use Rattle.sccs_delta.specs.DeltaStep.{Entry, base_lines, counts_of, delta_of, delta_report, header_with, nulls_of}
 use Rattle.sccs_pending.specs.Reports.{warning}
-use Rattle.sccs_delta.specs.declared.bases.Base.{Base}
+use Rattle.sccs_delta.specs.declared.entries.Base.{Base}
 use Rattle.sccs_delta.specs.declared.copies.Copying.{Copying}
 use Rattle.sccs_delta.specs.declared.new_sfiles.NewSfile.{NewSfile}
 use Rattle.sccs_grammar.specs.FileRefusals.{file_fault}

@@ -1,6 +1,9 @@
 -- A body that is copied with the items of a new delta, while its file is read again.
 use Rattle.std.specs.Prelude.{◌≡◌, ℕ, ◌+◌, ◌≤◌, Bool, true, false, List, [], ◌∷◌, ◌++◌, Option, None, Some, Result, Ok, Err, OnOk}
+use Rattle.std.specs.Str.{bytes_eq}
+use Rattle.sccs_base.specs.Constants.{file_limit}
 use Rattle.sccs_base.specs.Stream.{Rose}
+use Rattle.sccs_disk.specs.Calls.{IsThere}
 use Rattle.sccs_disk.specs.Files.{View, put}
 use Rattle.sccs_disk.specs.Told.{Told}
 use Rattle.sccs_disk.specs.declared.disks.DiskRefusal.{DiskRefusal}
@@ -16,7 +19,7 @@ use Rattle.sccs_store.specs.SealedFiles.{sealed}
 use Rattle.sccs_writers.specs.HeaderBytes.{header_bytes}
 use Rattle.sccs_splicer.specs.Splices.{base_count, Splices}
 use Rattle.sccs_table.specs.SumOf.{IsSumOf}
-use Rattle.sccs_body.specs.Reader.{ItemPlace}
+use Rattle.sccs_body.specs.Reader.{ItemPlace, name_read}
 use Rattle.sccs_body.specs.ToCome.{ToCome}
 use Rattle.sccs_weave.specs.Regions.{Holds}
 use Rattle.sccs_weave.specs.declared.regions.Region.{Region}
@@ -27,6 +30,15 @@ use Rattle.sccs_delta.specs.declared.copies.Copying.{Copying}
 use Rattle.sccs_delta.specs.declared.copies.BaseItem.{BaseItem}
 
 -- ---- over any disk
+
+-- A body with a base of so many lines can be copied into a file: that is there and is another than the one that is read, and the
+-- plan is at no line of the base that wasn't read.
+pub record CanCopy (c : Copying) (lines : ℕ) (n : List ℕ) (told : Told) : Type 0 where
+  pub there : IsThere n told
+  pub apart : bytes_eq n (name_read c.items) ≡ false
+  pub counted : c.splicer.line ≤ c.seen
+  pub within : c.splicer.line ≤ lines
+  pub few : lines ≤ file_limit
 
 -- writing failed, or there was no memory
 abbrev pub as_file_fault : DiskRefusal → FileFault

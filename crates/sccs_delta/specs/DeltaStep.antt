@@ -54,7 +54,7 @@ use Rattle.sccs_base.specs.Stream.{last_count}
 use Rattle.sccs_steps.specs.StepEffects.{Outcome}
 use Rattle.sccs_steps.specs.Actions.{has_number}
 use Rattle.sccs_transactions.specs.Changes.{Changing}
-use Rattle.sccs_delta.specs.declared.bases.Base.{Base}
+use Rattle.sccs_delta.specs.declared.entries.Base.{Base}
 use Rattle.std.specs.Str.{bytes_eq}
 use Rattle.sccs_delta.specs.Examining.{first_difference, has_keyword}
 

@@ -26,7 +26,7 @@ use Rattle.sccs_pending.specs.PFiles.{bytes_or_none}
 use Rattle.sccs_words.specs.declared.commands.DeltaWords.{DeltaWords}
 use Rattle.sccs_delta.specs.DeltaStep.{Entry, counts_of, delta_of, entry_of}
 use Rattle.sccs_delta.specs.NullDeltas.{null_deltas, skipped_by, with_nulls}
-use Rattle.sccs_delta.specs.declared.bases.Base.{Base}
+use Rattle.sccs_delta.specs.declared.entries.Base.{Base}
 
 -- the text of a serial's version in a file
 abbrev pub text_in : Parsed → ℕ → List (List ℕ)

@@ -28,7 +28,7 @@ use Rattle.sccs_sid.specs.Reading.{◌>>=◌}
 use Rattle.sccs_sid.specs.declared.refusals.Refusal.{Refusal}
 use Rattle.sccs_delta.specs.DeltaStep.{Entry, base_lines, counts_of, delta_of, delta_report, fitted, header_with, mrs_checked, nulls_of}
 use Rattle.sccs_pending.specs.Reports.{warning}
-use Rattle.sccs_delta.specs.declared.bases.Base.{Base}
+use Rattle.sccs_delta.specs.declared.entries.Base.{Base}
 use Rattle.sccs_delta.specs.declared.new_sfiles.NewSfile.{NewSfile}
 
 -- The s-file that the delta of an entry makes, with null deltas of these SIDs before it.

@@ -1,5 +1,4 @@
 ghost use Rattle.std.specs.Prelude.{◌≡◌, ◌≢◌, ◌<◌, ◌≤◌, ◌+◌, ◌^◌, ◌&&◌, ℕ, Bool, List, [], ◌∷◌, true, false, nat_lt, Some, Err, IfOk, IfSome, OnOk, if◌then◌else◌};
-ghost use Rattle.std.specs.Str.{bytes_eq};
 ghost use Rattle.sccs_base.specs.Constants.{file_limit};
 ghost use Rattle.sccs_disk.specs.Calls.{IsThere};
 ghost use Rattle.sccs_disk.specs.Told.{seen};
@@ -14,7 +13,7 @@ ghost use Rattle.sccs_versions.specs.Coming.{IsBody};
 ghost use Rattle.sccs_weave.specs.Regions.{Holds};
 ghost use Rattle.sccs_writers.specs.Puts.{PutsText};
 ghost use Rattle.sccs_writers.specs.Spelled.{spelled};
-ghost use Rattle.sccs_delta.specs.Copies.{CopiesAll, CopiesNext, CopyComes, GivesBaseItem, ItemsCome, PutsSome, PutsSpliced, as_file_fault};
+ghost use Rattle.sccs_delta.specs.Copies.{CanCopy, CopiesAll, CopiesNext, CopyComes, GivesBaseItem, ItemsCome, PutsSome, PutsSpliced, as_file_fault};
 
 use sccs_base::{Memory, Name};
 use sccs_body::ItemReader;
@@ -195,11 +194,7 @@ fn copy_all<D: Disk>(
     out: &mut ItemWriter,
     disk: &mut D,
 ) -> Result<(), FileFault>
-    requires there { IsThere out.old.name (D.told disk.old) }
-    requires apart { bytes_eq out.old.name (name_read copying.old.items) ≡ false }
-    requires counted { copying.old.splicer.line ≤ copying.old.seen }
-    requires within { copying.old.splicer.line ≤ lines }
-    requires few { lines ≤ file_limit }
+    requires { CanCopy copying.old lines out.old.name (D.told disk.old) }
     ensures puts { PutsSome out.old out.new (D.told disk.old) (D.told disk.new) (D.faults disk.old) (D.faults disk.new) result }
     ensures told { (file : List ℕ) (told : List (Item × Bool)) → bytes_in (seen (D.told disk.old)) (name_read copying.old.items) ≡ Some file
         → CopyComes file set.now lines copying.old told
@@ -238,11 +233,7 @@ pub fn put_spliced<D: Disk>(
     out: &mut ItemWriter,
     disk: &mut D,
 ) -> Result<(), FileFault>
-    requires there { IsThere out.old.name (D.told disk.old) }
-    requires apart { bytes_eq out.old.name (name_read copying.old.items) ≡ false }
-    requires counted { copying.old.splicer.line ≤ copying.old.seen }
-    requires within { copying.old.splicer.line ≤ lines }
-    requires few { lines ≤ file_limit }
+    requires { CanCopy copying.old lines out.old.name (D.told disk.old) }
     ensures puts { PutsSome out.old out.new (D.told disk.old) (D.told disk.new) (D.faults disk.old) (D.faults disk.new) result }
     ensures empty { OnOk result (out.new.held ≡ []) }
     ensures told { (file : List ℕ) (told : List (Item × Bool)) → bytes_in (seen (D.told disk.old)) (name_read copying.old.items) ≡ Some file

@@ -29,7 +29,7 @@ ghost use Rattle.sccs_script.specs.Checks.{ranged};
 ghost use Rattle.sccs_steps.specs.StepEffects.{StepEffect};
 ghost use Rattle.sccs_words.specs.declared.commands.DeltaWords.{DeltaWords};
 ghost use Rattle.sccs_delta.specs.DeltaStep.{base_of, delta_of, delta_outcome};
-ghost use Rattle.sccs_delta.specs.declared.bases.Base.{Base};
+ghost use Rattle.sccs_delta.specs.declared.entries.Base.{Base};
 ghost use Rattle.sccs_delta.specs.Examining.{result_of};
 ghost use Rattle.sccs_delta.specs.NewVersions.{MakesVersions};
 ghost use Rattle.sccs_delta.specs.Replays.{DeltaCall, IsDeltaCall, ReplaysVersions};

@@ -1,7 +1,6 @@
 //! delta: a new version of an s-file. POSIX, Shell and Utilities, delta.
 #![tactic(auto)]
 
-mod bases;
 mod copies;
 mod deltas;
 mod entries;
@@ -17,10 +16,9 @@ mod sizes;
 mod skipping;
 mod writing;
 
-pub use bases::Base;
 pub use copies::Copying;
 pub use deltas::Delta;
-pub use entries::{Chosen, chosen_entry};
+pub use entries::{Base, Chosen, chosen_entry};
 pub use examining::{Found, examine};
 pub use preparing::prepare_delta;
 pub use skipping::{Sids, skipped};

@@ -1,4 +1,4 @@
-ghost use Rattle.std.specs.Prelude.{◌≡◌, ◌≤◌, ◌++◌, ℕ, List, Bool, false, [], Some, Ok, IfOk, OnOk, OnErr, Err};
+ghost use Rattle.std.specs.Prelude.{◌≡◌, ◌≤◌, ◌++◌, ℕ, List, Bool, [], Some, Ok, IfOk, OnOk, OnErr, Err};
 ghost use Rattle.std.specs.Str.{bytes_eq};
 ghost use Rattle.sccs_base.specs.Constants.{file_limit};
 ghost use Rattle.sccs_base.specs.Name.{IsSfile, sibling};
@@ -17,7 +17,7 @@ ghost use Rattle.sccs_table.specs.ReaderState.{bytes_in};
 ghost use Rattle.sccs_table.specs.SumOf.{IsSumOf};
 ghost use Rattle.sccs_body.specs.Reader.{name_read};
 ghost use Rattle.sccs_writers.specs.HeaderBytes.{header_bytes};
-ghost use Rattle.sccs_delta.specs.Copies.{AppendsSome, AppendsSpliced, AppendsWhole, CopyComes, MakesFile};
+ghost use Rattle.sccs_delta.specs.Copies.{AppendsSome, AppendsSpliced, AppendsWhole, CanCopy, CopyComes, MakesFile};
 
 use crate::copies::{Copying, file_fault, put_spliced};
 use sccs_base::Name;
@@ -40,11 +40,7 @@ fn append_spliced<D: Disk>(
     sum: Sum,
     disk: &mut D,
 ) -> Result<Sum, FileFault>
-    requires there { IsThere name.now (D.told disk.old) }
-    requires apart { bytes_eq name.now (name_read copying.items) ≡ false }
-    requires counted { copying.splicer.line ≤ copying.seen }
-    requires within { copying.splicer.line ≤ lines }
-    requires few { lines ≤ file_limit }
+    requires { CanCopy copying lines name.now (D.told disk.old) }
     ensures appends { AppendsSome name.now [] (D.told disk.old) (D.told disk.new) (D.faults disk.old) (D.faults disk.new) result }
     ensures told { (file : List ℕ) (told : List (Item × Bool)) → bytes_in (seen (D.told disk.old)) (name_read copying.items) ≡ Some file
         → CopyComes file set.now lines copying told
@@ -71,11 +67,7 @@ fn append_all<D: Disk>(
     disk: &mut D,
 ) -> Result<Sum, FileFault>
     requires spelled { IsSpelled header.now }
-    requires there { IsThere name.now (D.told disk.old) }
-    requires apart { bytes_eq name.now (name_read copying.items) ≡ false }
-    requires counted { copying.splicer.line ≤ copying.seen }
-    requires within { copying.splicer.line ≤ lines }
-    requires few { lines ≤ file_limit }
+    requires copy { CanCopy copying lines name.now (D.told disk.old) }
     ensures appends { AppendsSome name.now (ended (sum_line 0)) (D.told disk.old) (D.told disk.new) (D.faults disk.old) (D.faults disk.new) result }
     ensures told { (file : List ℕ) (told : List (Item × Bool)) → bytes_in (seen (D.told disk.old)) (name_read copying.items) ≡ Some file
         → CopyComes file set.now lines copying told

@@ -1,9 +1,9 @@
 use Rattle.std.proofs.Common.{Err, subst, sym}
 use Rattle.sccs_pending.specs.PFiles.{Answers}
 use Rattle.sccs_delta.specs.DeltaStep.{base_of}
-use Rattle.sccs_delta.specs.declared.bases.Base.{Base}
+use Rattle.sccs_delta.specs.declared.entries.Base.{Base}
 use Rattle.sccs_delta.proofs.EntryBases.{base_made, exclude_ends, include_ends, no_got, shared_ends}
-use Rattle.sccs_delta.proofs.bases.base_of.Goals as goal
+use Rattle.sccs_delta.proofs.entries.base_of.Goals as goal
 
 pub returns-in-Err-clause-value : goal.returns-in-Err-clause-value
 returns-in-Err-clause-value c = no_got c.args.header.now.records c.args.number c.args.edit.now c.in-Err.ensures.value
