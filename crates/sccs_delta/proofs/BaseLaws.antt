@@ -19,7 +19,7 @@ use Rattle.sccs_versions.specs.Coming.{Coming, ComesNext, GivesNext, IsBody, sho
 use Rattle.sccs_versions.specs.Place.{VersionPlace}
 use Rattle.sccs_delta.specs.Copies.{IsOuterFault}
 use Rattle.sccs_edits.specs.Plans.{added_after}
-use Rattle.sccs_delta.specs.Examining.{ExaminesSome, ExaminesWhole, FindsResult, GComes, LinesLeft, Sees, difference, first_difference, has_keyword, line_result, result_from, result_of, texts}
+use Rattle.sccs_delta.specs.Examining.{ExaminesSome, ExaminesWhole, FindsResult, GComes, IsBefore, LinesLeft, Sees, difference, first_difference, has_keyword, line_result, result_from, result_of, texts}
 use Rattle.sccs_delta.specs.declared.examining.Found.{Found}
 use Rattle.sccs_delta.specs.declared.result_checks.ResultCheck.{ResultCheck}
 use Rattle.sccs_delta.proofs.CheckLaws.{sees_both, sees_none}
@@ -198,29 +198,28 @@ g_begins file name s lines over number few = record {
   few = omega (arith, number, text_few file, few);
 }
 
-pub found_result : (g : Option (List ℕ)) (p : Plan) (set name : List ℕ) (all : List HistoryLine) (compares : Bool) (at at2 : Passed) (s s1 s2 : ResultCheck) (new : List (List ℕ)) (found : Found)
-    → at ≡ record { plan = p; line = 0 } → new ≡ added_after at.line at.plan.added → s.keyword ≡ false → s.compares ≡ compares → s.lines ≡ record { name = name; held = []; place = 0; limit = 1073741825; lines = 0; sum = 0 } → s.over ≡ false → s.number ≡ 0 → s.differs ≡ None
+pub found_result : (g : Option (List ℕ)) (set name : List ℕ) (all : List HistoryLine) (compares : Bool) (at at2 : Passed) (s s1 s2 : ResultCheck) (new : List (List ℕ)) (found : Found)
+    → at.line ≡ 0 → new ≡ added_after at.line at.plan.added → IsBefore name compares s
     → Sees g new s s1 → ExaminesWhole g (shown set all) at at2 s1 s2 → found.lines ≡ at2.line → found.keyword ≡ s2.keyword
     → ((file : List ℕ) (rest : List (List ℕ)) → g ≡ Some file → compares ≡ true → GComes file s2 rest → found.differs ≡ difference s2.differs s2.number [] rest)
-    → FindsResult g p (select set all) compares found
-found_result g p set name all compares at at2 s s1 s2 new found at_is new_is keyword comparing lines over number differs first whole lines_is keyword_is differs_is =
+    → FindsResult g at.plan (select set all) compares found
+found_result g set name all compares at at2 s s1 s2 new found begins new_is before first whole lines_is keyword_is differs_is =
     let base : texts (shown set all) ≡ select set all = shown_texts set all in
-    let result_is : new ++ result_from at.plan at.line (texts (shown set all)) ≡ result_of p (select set all) =
+    let result_is : new ++ result_from at.plan at.line (texts (shown set all)) ≡ result_of at.plan (select set all) =
     ap (λ l. l ++ result_from at.plan at.line (texts (shown set all))) new_is
-    ∙ (ap (λ (a : Passed). added_after a.line a.plan.added ++ result_from a.plan a.line (texts (shown set all))) at_is
-    ∙ ap (λ l. added_after 0 p.added ++ result_from p 0 l) base) in
-    let all_seen : Sees g (result_of p (select set all)) s s2 =
+    ∙ (ap (λ n. added_after n at.plan.added ++ result_from at.plan n (texts (shown set all))) begins
+    ∙ ap (λ l. added_after 0 at.plan.added ++ result_from at.plan 0 l) base) in
+    let all_seen : Sees g (result_of at.plan (select set all)) s s2 =
     subst (λ l. Sees g l s s2) result_is (sees_both g new (result_from at.plan at.line (texts (shown set all))) s s1 s2 first whole.sees) in
     let long : length (select set all) ≡ length (shown set all) = ap length (sym base) ∙ texts_long (shown set all) in
-    let begins : at.line ≡ 0 = ap (λ (a : Passed). a.line) at_is in
     record {
       lines = omega (arith, lines_is, whole.line, begins, long);
-      keyword = keyword_is ∙ (all_seen.keyword ∙ ap (λ t. t || list_any has_keyword (result_of p (select set all))) keyword);
+      keyword = keyword_is ∙ (all_seen.keyword ∙ ap (λ t. t || list_any has_keyword (result_of at.plan (select set all))) before.keyword);
       differs = λ file is few compare.
-          let one = all_seen.compared file (text_of file) is (comparing ∙ compare) (g_begins file name s lines over number few) in
+          let one = all_seen.compared file (text_of file) is (before.compares ∙ compare) (g_begins file name s before.lines before.over before.number few) in
           differs_is file one.left is compare one.comes
           ∙ (one.same []
-          ∙ (ap (λ o. difference o s.number (result_of p (select set all) ++ []) (text_of file)) differs
-          ∙ (ap (λ n. first_difference n (result_of p (select set all) ++ []) (text_of file)) number
-          ∙ ap (λ l. first_difference 0 l (text_of file)) (append-nil (result_of p (select set all))))));
+          ∙ (ap (λ o. difference o s.number (result_of at.plan (select set all) ++ []) (text_of file)) before.differs
+          ∙ (ap (λ n. first_difference n (result_of at.plan (select set all) ++ []) (text_of file)) before.number
+          ∙ ap (λ l. first_difference 0 l (text_of file)) (append-nil (result_of at.plan (select set all))))));
     }

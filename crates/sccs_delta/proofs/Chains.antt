@@ -26,3 +26,16 @@ answers_as r s fault is answers = subst (λ x. Answers {A = _} x (Err fault)) (s
 pub passed : {A B : Type 0} (r : Result A Refusal) (f : A → Result B Refusal) (y : B) → (r >>= f) ≡ Ok y → (x : A) × (r ≡ Ok x) × (f x ≡ Ok y)
 passed (Ok x) f y is = (x, refl, is)
 passed (Err refusal) f y is = absurd cc
+
+pub assoc : {A B C : Type 0} (r : Result A Refusal) (f : A → Result B Refusal) (k : B → Result C Refusal) → (r >>= λ x. f x >>= k) ≡ ((r >>= f) >>= k)
+assoc (Ok x) f k = refl
+assoc (Err refusal) f k = refl
+
+-- two checks that end the chain end the whole
+pub both_end : {A B C : Type 0} (r : Result A Refusal) (s : Result B Refusal) (k : A → B → Result C Refusal) (fault : StepFault) → Answers {A = B} (r >>= λ x. s) (Err fault) → Answers {A = C} (r >>= λ x. s >>= k x) (Err fault)
+both_end (Ok x) s k fault is = ends s (k x) fault is
+both_end (Err refusal) s k (Refused other) is = let same : refusal ≡ other = cc in ap Err same
+both_end (Err refusal) s k Memory is = tt
+both_end (Err refusal) s k ReadFault is = is
+both_end (Err refusal) s k WriteFault is = is
+both_end (Err refusal) s k DiskFault is = tt

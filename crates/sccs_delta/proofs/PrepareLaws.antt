@@ -43,10 +43,10 @@ use Rattle.sccs_pending.proofs.StopLaws.{pending_answer}
 use Rattle.sccs_words.specs.declared.commands.DeltaWords.{DeltaWords}
 use Rattle.sccs_delta.specs.DeltaStep.{Entry, base_lines, delta_outcome, entry_of, fitted, makes_delta, mrs_checked, nulls_of, or_script_fault, sizes_checked}
 use Rattle.sccs_delta.specs.Examining.{has_keyword}
-use Rattle.sccs_delta.specs.Preparing.{FindsEntry}
+use Rattle.sccs_delta.specs.Preparing.{FindsAsked, FindsEntry}
 use Rattle.sccs_delta.specs.Writing.{MakesDelta, script_checked}
 use Rattle.sccs_delta.specs.declared.entries.Chosen.{Chosen}
-use Rattle.sccs_delta.proofs.Chains.{ends, goes}
+use Rattle.sccs_delta.proofs.Chains.{answers_as, assoc, both_end, ends, goes}
 
 -- ---- what follows each check
 
@@ -184,28 +184,39 @@ entry_as words stamp n i v x r read sfile sizes is =
     read_as words stamp n i v (found_of n v x read) sfile sizes read.2
     ∙ ap (λ (s : Result Entry Refusal). s >>= with_entry words stamp n i (files_at n v) (found_of n v x read)) (ap (λ header. entry_of words stamp header x.edits) (sym (header_of n v x read)) ∙ is)
 
-pub entry_end : (words : DeltaWords) (stamp : Stamp) (n i : List ℕ) (x : Pending) (fault : StepFault) (o o2 : Option View) (out err : Option (List ℕ)) → IsSfile n → o2 ≡ o → IfSome o (λ (v : View). Passes (sizes_checked i (look v n)) (Ok tt)) → IfSome o (λ (v : View). IsRead n v x) → FindsEntry words stamp x.front.header x.edits (Err fault)
-    → IfSome o (λ (v : View). PreparesAt (Err fault) words stamp n i v o2 out err)
-entry_end words stamp n i x fault None o2 out err sfile same sizes read finds = tt
-entry_end words stamp n i x fault (Some v) o2 out err sfile same sizes read finds =
-    ended_as n _ _ fault v o2 out err same (entry_as words stamp n i v x _ read sfile sizes refl)
-    (ends (entry_of words stamp x.front.header x.edits) (with_entry words stamp n i (files_at n v) (found_of n v x read)) fault (finds_answers words stamp x.front.header x.edits fault finds))
-
 abbrev pub entry_at : Chosen → Edit → Entry
 entry_at c edit = record { number = c.number; edit = edit; base = c.base }
 
-pub script_end : (words : DeltaWords) (stamp : Stamp) (n i : List ℕ) (x : Pending) (c : Chosen) (fault : StepFault) (o o2 : Option View) (out err : Option (List ℕ)) → IsSfile n → o2 ≡ o → IfSome o (λ (v : View). Passes (sizes_checked i (look v n)) (Ok tt)) → IfSome o (λ (v : View). IsRead n v x)
-    → FindsEntry words stamp x.front.header x.edits (Ok c) → Answers {A = List Order} (or_script_fault (orders_of i)) (Err fault) → IfSome o (λ (v : View). PreparesAt (Err fault) words stamp n i v o2 out err)
-script_end words stamp n i x c fault None o2 out err sfile same sizes read finds answers = tt
-script_end words stamp n i x c fault (Some v) o2 out err sfile same sizes read finds answers =
-    ended_as n _ _ fault v o2 out err same (entry_as words stamp n i v x _ read sfile sizes finds.2)
-    (ends (or_script_fault (orders_of i)) (with_orders words stamp n (files_at n v) (found_of n v x read) (entry_at c finds.0)) fault answers)
+asked_answers : (words : DeltaWords) (stamp : Stamp) (header : Header) (edits : List Edit) (i : List ℕ) (fault : StepFault) → FindsAsked words stamp header edits i (Err fault) → Answers {A = List Order} (entry_of words stamp header edits >>= λ e. or_script_fault (orders_of i)) (Err fault)
+asked_answers words stamp header edits i (Refused refusal) finds = finds
+asked_answers words stamp header edits i Memory finds = tt
+asked_answers words stamp header edits i ReadFault finds = finds
+asked_answers words stamp header edits i WriteFault finds = finds
+asked_answers words stamp header edits i DiskFault finds = tt
+
+answers_asked : (words : DeltaWords) (stamp : Stamp) (header : Header) (edits : List Edit) (i : List ℕ) (fault : StepFault) → Answers {A = List Order} (entry_of words stamp header edits >>= λ e. or_script_fault (orders_of i)) (Err fault) → FindsAsked words stamp header edits i (Err fault)
+answers_asked words stamp header edits i (Refused refusal) answers = answers
+answers_asked words stamp header edits i Memory answers = tt
+answers_asked words stamp header edits i ReadFault answers = answers
+answers_asked words stamp header edits i WriteFault answers = answers
+answers_asked words stamp header edits i DiskFault answers = tt
+
+-- no entry is found, or the script is none
+pub no_entry : (words : DeltaWords) (stamp : Stamp) (header : Header) (edits : List Edit) (i : List ℕ) (fault : StepFault) → FindsEntry words stamp header edits (Err fault) → FindsAsked words stamp header edits i (Err fault)
+no_entry words stamp header edits i fault finds = answers_asked words stamp header edits i fault (ends (entry_of words stamp header edits) (λ e. or_script_fault (orders_of i)) fault (finds_answers words stamp header edits fault finds))
+
+pub no_orders : (words : DeltaWords) (stamp : Stamp) (header : Header) (edits : List Edit) (i : List ℕ) (c : Chosen) (fault : StepFault) → FindsEntry words stamp header edits (Ok c) → Answers {A = List Order} (or_script_fault (orders_of i)) (Err fault) → FindsAsked words stamp header edits i (Err fault)
+no_orders words stamp header edits i c fault finds answers =
+    answers_asked words stamp header edits i fault (answers_as _ _ fault (goes (entry_of words stamp header edits) (λ e. or_script_fault (orders_of i)) (entry_at c finds.0) finds.2) answers)
+
+pub asked_end : (words : DeltaWords) (stamp : Stamp) (n i : List ℕ) (x : Pending) (fault : StepFault) (o o2 : Option View) (out err : Option (List ℕ)) → IsSfile n → o2 ≡ o → IfSome o (λ (v : View). Passes (sizes_checked i (look v n)) (Ok tt)) → IfSome o (λ (v : View). IsRead n v x)
+    → FindsAsked words stamp x.front.header x.edits i (Err fault) → IfSome o (λ (v : View). PreparesAt (Err fault) words stamp n i v o2 out err)
+asked_end words stamp n i x fault None o2 out err sfile same sizes read finds = tt
+asked_end words stamp n i x fault (Some v) o2 out err sfile same sizes read finds =
+    ended_as n _ _ fault v o2 out err same (entry_as words stamp n i v x _ read sfile sizes refl)
+    (both_end (entry_of words stamp x.front.header x.edits) (or_script_fault (orders_of i)) (with_orders words stamp n (files_at n v) (found_of n v x read)) fault (asked_answers words stamp x.front.header x.edits i fault finds))
 
 -- ---- the files are written, or a check of the script fails
-
-assoc : {A B C : Type 0} (r : Result A Refusal) (f : A → Result B Refusal) (k : B → Result C Refusal) → (r >>= λ x. f x >>= k) ≡ ((r >>= f) >>= k)
-assoc (Ok x) f k = refl
-assoc (Err refusal) f k = refl
 
 abbrev checks_by : Result Bool Refusal → Result Bool Refusal → Result (List Sid) Refusal → Result (List Sid) Refusal
 checks_by fits mrs nulls = fits >>= λ x. mrs >>= λ y. nulls

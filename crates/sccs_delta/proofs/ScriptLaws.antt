@@ -26,10 +26,10 @@ use Rattle.sccs_words.specs.declared.commands.DeltaWords.{DeltaWords}
 use Rattle.sccs_delta.specs.DeltaStep.{Entry, base_lines, could_make, delta_checks, fitted, mrs_checked, nulls_of}
 use Rattle.sccs_pending.specs.Reports.{warning}
 use Rattle.sccs_delta.specs.Examining.{has_keyword}
-use Rattle.sccs_delta.specs.Preparing.{Fits}
+use Rattle.sccs_delta.specs.Preparing.{Fits, FitsBy, script_fits}
 use Rattle.sccs_delta.specs.Writing.{MakesDelta, script_checked}
 use Rattle.sccs_delta.specs.declared.examining.Found.{Found}
-use Rattle.sccs_delta.proofs.Chains.{ends, goes}
+use Rattle.sccs_delta.proofs.Chains.{answers_as, assoc, ends, goes}
 
 -- ---- over any disk
 
@@ -53,12 +53,19 @@ made_speaks n keyword message (Err fault) is says within = could_end fault withi
 pub told_body : (told : Option (List ℕ)) (bytes : List ℕ) (front : Front) (set : List ℕ) (items : List Item) → told ≡ Some bytes → IsBody (Some bytes) front set bytes items → IsBody told front set bytes items
 told_body told bytes front set items is body = subst (λ t. IsBody t front set bytes items) (sym is) body
 
-fits_answers : (flags : List Flag) (orders : List Order) (base : List (List ℕ)) (g : Option Content) (fault : StepFault) → Fits flags orders base g (Err fault) → Answers {A = Bool} (fitted flags orders base g) (Err fault)
-fits_answers flags orders base g (Refused refusal) fits = fits
-fits_answers flags orders base g Memory fits = tt
-fits_answers flags orders base g ReadFault fits = fits
-fits_answers flags orders base g WriteFault fits = fits
-fits_answers flags orders base g DiskFault fits = tt
+fits_answers : (checks : Result Bool Refusal) (orders : List Order) (base : List (List ℕ)) (fault : StepFault) → FitsBy checks orders base (Err fault) → Answers {A = Bool} checks (Err fault)
+fits_answers checks orders base (Refused refusal) fits = fits
+fits_answers checks orders base Memory fits = tt
+fits_answers checks orders base ReadFault fits = fits
+fits_answers checks orders base WriteFault fits = fits
+fits_answers checks orders base DiskFault fits = tt
+
+answers_fits : (checks : Result Bool Refusal) (orders : List Order) (base : List (List ℕ)) (fault : StepFault) → Answers {A = Bool} checks (Err fault) → FitsBy checks orders base (Err fault)
+answers_fits checks orders base (Refused refusal) answers = answers
+answers_fits checks orders base Memory answers = tt
+answers_fits checks orders base ReadFault answers = answers
+answers_fits checks orders base WriteFault answers = answers
+answers_fits checks orders base DiskFault answers = tt
 
 passes_answers : (found : Result Bool Refusal) (fault : StepFault) → Passes found (Err fault) → Answers {A = Bool} found (Err fault)
 passes_answers found (Refused refusal) passes = passes
@@ -66,6 +73,28 @@ passes_answers found Memory passes = tt
 passes_answers found ReadFault passes = passes
 passes_answers found WriteFault passes = passes
 passes_answers found DiskFault passes = tt
+
+-- ---- the checks of a script
+
+pub unfit : (o : Option View) (n : List ℕ) (flags : List Flag) (mrs : List (List ℕ)) (orders : List Order) (base : List (List ℕ)) (fault : StepFault) → IfSome o (λ (v : View). is_short (v (drop 2 n)) ≡ true → Fits flags orders base (v (drop 2 n)) (Err fault))
+    → IfSome o (λ (v : View). is_short (v (drop 2 n)) ≡ true → FitsBy (script_fits flags mrs orders base (v (drop 2 n))) orders base (Err fault))
+unfit None n flags mrs orders base fault fits = tt
+unfit (Some v) n flags mrs orders base fault fits = λ short.
+    answers_fits (script_fits flags mrs orders base (v (drop 2 n))) orders base fault (ends (fitted flags orders base (v (drop 2 n))) (λ x. mrs_checked flags mrs) fault (fits_answers (fitted flags orders base (v (drop 2 n))) orders base fault (fits short)))
+
+pub mrs_unfit : (o : Option View) (n : List ℕ) (flags : List Flag) (mrs : List (List ℕ)) (orders : List Order) (base : List (List ℕ)) (found : Found) (fault : StepFault) → Passes (mrs_checked flags mrs) (Err fault) → IfSome o (λ (v : View). is_short (v (drop 2 n)) ≡ true → Fits flags orders base (v (drop 2 n)) (Ok found))
+    → IfSome o (λ (v : View). is_short (v (drop 2 n)) ≡ true → FitsBy (script_fits flags mrs orders base (v (drop 2 n))) orders base (Err fault))
+mrs_unfit None n flags mrs orders base found fault passes fits = tt
+mrs_unfit (Some v) n flags mrs orders base found fault passes fits = λ short.
+    answers_fits (script_fits flags mrs orders base (v (drop 2 n))) orders base fault
+    (answers_as _ _ fault (goes (fitted flags orders base (v (drop 2 n))) (λ x. mrs_checked flags mrs) true (fits short).0) (passes_answers (mrs_checked flags mrs) fault passes))
+
+pub mrs_fit : (o : Option View) (n : List ℕ) (flags : List Flag) (mrs : List (List ℕ)) (orders : List Order) (base : List (List ℕ)) (found : Found) → Passes (mrs_checked flags mrs) (Ok tt) → IfSome o (λ (v : View). is_short (v (drop 2 n)) ≡ true → Fits flags orders base (v (drop 2 n)) (Ok found))
+    → IfSome o (λ (v : View). is_short (v (drop 2 n)) ≡ true → FitsBy (script_fits flags mrs orders base (v (drop 2 n))) orders base (Ok found))
+mrs_fit None n flags mrs orders base found passes fits = tt
+mrs_fit (Some v) n flags mrs orders base found passes fits = λ short. (goes (fitted flags orders base (v (drop 2 n))) (λ x. mrs_checked flags mrs) true (fits short).0 ∙ passes, (fits short).1)
+
+-- ---- what is written behind them
 
 makes_end : (checks : Result (List Sid) Refusal) (words : DeltaWords) (stamp : Stamp) (n : List ℕ) (header : Header) (items : List Item) (edits : List Edit) (e : Entry) (orders : List Order) (keyword : Bool) (a b : Told) (fault : StepFault) → Answers {A = List Sid} checks (Err fault)
     → MakesDelta checks words stamp n header items edits e orders keyword a b (Err fault)
@@ -75,37 +104,24 @@ makes_end checks words stamp n header items edits e orders keyword a b ReadFault
 makes_end checks words stamp n header items edits e orders keyword a b WriteFault answers = answers
 makes_end checks words stamp n header items edits e orders keyword a b DiskFault answers = tt
 
-abbrev checks_by : Result Bool Refusal → Result Bool Refusal → Result (List Sid) Refusal → Result (List Sid) Refusal
-checks_by fits mrs nulls = fits >>= λ x. mrs >>= λ y. nulls
-
-checks_are : (words : DeltaWords) (header : Header) (items : List Item) (edits : List Edit) (e : Entry) (orders : List Order) (g : Option Content) → script_checked words header items edits e orders g ≡ checks_by (fitted header.flags orders (base_lines items e.base) g) (mrs_checked header.flags words.mrs) (nulls_of header edits e.edit)
+checks_are : (words : DeltaWords) (header : Header) (items : List Item) (edits : List Edit) (e : Entry) (orders : List Order) (g : Option Content)
+    → script_checked words header items edits e orders g ≡ (fitted header.flags orders (base_lines items e.base) g >>= λ x. mrs_checked header.flags words.mrs >>= λ y. nulls_of header edits e.edit)
 unfolding script_checked
 checks_are words header items edits e orders g = refl
 
-answers_by : (checks rest : Result (List Sid) Refusal) (fault : StepFault) → checks ≡ rest → Answers {A = List Sid} rest (Err fault) → Answers {A = List Sid} checks (Err fault)
-answers_by checks rest fault is answers = subst (λ (r : Result (List Sid) Refusal). Answers {A = List Sid} r (Err fault)) (sym is) answers
+checks_fit : (words : DeltaWords) (header : Header) (items : List Item) (edits : List Edit) (e : Entry) (orders : List Order) (g : Option Content)
+    → script_checked words header items edits e orders g ≡ (script_fits header.flags words.mrs orders (base_lines items e.base) g >>= λ y. nulls_of header edits e.edit)
+checks_fit words header items edits e orders g =
+    checks_are words header items edits e orders g ∙ assoc (fitted header.flags orders (base_lines items e.base) g) (λ x. mrs_checked header.flags words.mrs) (λ y. nulls_of header edits e.edit)
 
 pub unfit_makes : (o : Option View) (words : DeltaWords) (stamp : Stamp) (n : List ℕ) (header : Header) (items : List Item) (edits : List Edit) (e : Entry) (orders : List Order) (a b : Told) (fault : StepFault)
-    → IfSome o (λ (v : View). is_short (v (drop 2 n)) ≡ true → Fits header.flags orders (base_lines items e.base) (v (drop 2 n)) (Err fault))
+    → IfSome o (λ (v : View). is_short (v (drop 2 n)) ≡ true → FitsBy (script_fits header.flags words.mrs orders (base_lines items e.base) (v (drop 2 n))) orders (base_lines items e.base) (Err fault))
     → IfSome o (λ (v : View). is_short (v (drop 2 n)) ≡ true → MakesDelta (script_checked words header items edits e orders (v (drop 2 n))) words stamp n header items edits e orders (list_any has_keyword (apply orders (base_lines items e.base))) a b (Err fault))
 unfit_makes None words stamp n header items edits e orders a b fault fits = tt
 unfit_makes (Some v) words stamp n header items edits e orders a b fault fits = λ short.
     makes_end (script_checked words header items edits e orders (v (drop 2 n))) words stamp n header items edits e orders (list_any has_keyword (apply orders (base_lines items e.base))) a b fault
-    (answers_by _ _ fault (checks_are words header items edits e orders (v (drop 2 n)))
-    (ends (fitted header.flags orders (base_lines items e.base) (v (drop 2 n))) (λ x. mrs_checked header.flags words.mrs >>= λ y. nulls_of header edits e.edit) fault (fits_answers header.flags orders (base_lines items e.base) (v (drop 2 n)) fault (fits short))))
-
-fit_checks : (words : DeltaWords) (header : Header) (items : List Item) (edits : List Edit) (e : Entry) (orders : List Order) (g : Option Content) → fitted header.flags orders (base_lines items e.base) g ≡ Ok true → script_checked words header items edits e orders g ≡ (mrs_checked header.flags words.mrs >>= λ y. nulls_of header edits e.edit)
-fit_checks words header items edits e orders g fits =
-    checks_are words header items edits e orders g ∙ goes (fitted header.flags orders (base_lines items e.base) g) (λ x. mrs_checked header.flags words.mrs >>= λ y. nulls_of header edits e.edit) true fits
-
-pub mrs_make : (o : Option View) (words : DeltaWords) (stamp : Stamp) (n : List ℕ) (header : Header) (items : List Item) (edits : List Edit) (e : Entry) (orders : List Order) (found : Found) (a b : Told) (fault : StepFault)
-    → IfSome o (λ (v : View). is_short (v (drop 2 n)) ≡ true → Fits header.flags orders (base_lines items e.base) (v (drop 2 n)) (Ok found)) → Passes (mrs_checked header.flags words.mrs) (Err fault)
-    → IfSome o (λ (v : View). is_short (v (drop 2 n)) ≡ true → MakesDelta (script_checked words header items edits e orders (v (drop 2 n))) words stamp n header items edits e orders (list_any has_keyword (apply orders (base_lines items e.base))) a b (Err fault))
-mrs_make None words stamp n header items edits e orders found a b fault fits passes = tt
-mrs_make (Some v) words stamp n header items edits e orders found a b fault fits passes = λ short.
-    makes_end (script_checked words header items edits e orders (v (drop 2 n))) words stamp n header items edits e orders (list_any has_keyword (apply orders (base_lines items e.base))) a b fault
-    (answers_by _ _ fault (fit_checks words header items edits e orders (v (drop 2 n)) (fits short).0)
-    (ends (mrs_checked header.flags words.mrs) (λ y. nulls_of header edits e.edit) fault (passes_answers (mrs_checked header.flags words.mrs) fault passes)))
+    (answers_as _ _ fault (checks_fit words header items edits e orders (v (drop 2 n)))
+    (ends (script_fits header.flags words.mrs orders (base_lines items e.base) (v (drop 2 n))) (λ y. nulls_of header edits e.edit) fault (fits_answers (script_fits header.flags words.mrs orders (base_lines items e.base) (v (drop 2 n))) orders (base_lines items e.base) fault (fits short))))
 
 makes_as : (checks checks2 : Result (List Sid) Refusal) (words : DeltaWords) (stamp : Stamp) (n : List ℕ) (header : Header) (items : List Item) (edits : List Edit) (e : Entry) (orders : List Order) (keyword keyword2 : Bool) (a a2 b : Told) (r : Result Prepared StepFault)
     → checks2 ≡ checks → keyword2 ≡ keyword → a2 ≡ a → MakesDelta checks words stamp n header items edits e orders keyword a b r → MakesDelta checks2 words stamp n header items edits e orders keyword2 a2 b r
@@ -114,11 +130,11 @@ makes_as checks checks2 words stamp n header items edits e orders keyword keywor
     (subst (λ k. MakesDelta checks2 words stamp n header items edits e orders k a b r) (sym same_keyword) (subst (λ (c : Result (List Sid) Refusal). MakesDelta c words stamp n header items edits e orders keyword a b r) (sym same) makes))
 
 pub script_made : (o : Option View) (words : DeltaWords) (stamp : Stamp) (n : List ℕ) (header : Header) (items : List Item) (edits : List Edit) (e : Entry) (orders : List Order) (found : Found) (a a2 b : Told) (r : Result Prepared StepFault)
-    → IfSome o (λ (v : View). is_short (v (drop 2 n)) ≡ true → Fits header.flags orders (base_lines items e.base) (v (drop 2 n)) (Ok found)) → Passes (mrs_checked header.flags words.mrs) (Ok tt) → a2 ≡ a
+    → IfSome o (λ (v : View). is_short (v (drop 2 n)) ≡ true → FitsBy (script_fits header.flags words.mrs orders (base_lines items e.base) (v (drop 2 n))) orders (base_lines items e.base) (Ok found)) → a2 ≡ a
     → (found.lines ≡ length (base_lines items e.base) → MakesDelta (nulls_of header edits e.edit) words stamp n header items edits e orders found.keyword a2 b r)
     → IfSome o (λ (v : View). is_short (v (drop 2 n)) ≡ true → MakesDelta (script_checked words header items edits e orders (v (drop 2 n))) words stamp n header items edits e orders (list_any has_keyword (apply orders (base_lines items e.base))) a b r)
-script_made None words stamp n header items edits e orders found a a2 b r fits passes same makes = tt
-script_made (Some v) words stamp n header items edits e orders found a a2 b r fits passes same makes = λ short.
+script_made None words stamp n header items edits e orders found a a2 b r fits same makes = tt
+script_made (Some v) words stamp n header items edits e orders found a a2 b r fits same makes = λ short.
     makes_as (nulls_of header edits e.edit) (script_checked words header items edits e orders (v (drop 2 n))) words stamp n header items edits e orders found.keyword _ a2 a b r
-    (fit_checks words header items edits e orders (v (drop 2 n)) (fits short).0 ∙ goes (mrs_checked header.flags words.mrs) (λ y. nulls_of header edits e.edit) true passes)
+    (checks_fit words header items edits e orders (v (drop 2 n)) ∙ goes (script_fits header.flags words.mrs orders (base_lines items e.base) (v (drop 2 n))) (λ y. nulls_of header edits e.edit) true (fits short).0)
     (sym (fits short).1.keyword) (sym same) (makes (fits short).1.lines)

@@ -38,7 +38,6 @@ use Rattle.sccs_history.specs.History.{IsSpelled}
 use Rattle.sccs_pfile.specs.declared.entries.Edit.{Edit}
 use Rattle.sccs_records.specs.NewDeltas.{null_delta}
 use Rattle.sccs_records.specs.declared.new_deltas.Counts.{Counts}
-use Rattle.sccs_records.specs.declared.new_deltas.NewDelta.{NewDelta}
 use Rattle.sccs_splicer.specs.Splices.{State, begun, owed}
 use Rattle.sccs_splicer.proofs.Pushes.{shown_lines}
 use Rattle.sccs_splicer.proofs.SpliceLaws.{owed_first}
@@ -56,7 +55,7 @@ use Rattle.sccs_grammar.specs.declared.faults.FileFault.TheVariants as files
 use Rattle.sccs_history.specs.declared.headers.Header.{Header}
 use Rattle.sccs_history.specs.declared.headers.Item.{Item}
 use Rattle.sccs_delta.specs.Copies.{CopyComes, ItemsCome, MakesFile}
-use Rattle.sccs_delta.specs.Writing.{MakesDelta, MakesSfile, WritesDelta, WritesFiles, WritesX}
+use Rattle.sccs_delta.specs.Writing.{IsSfileOf, MakesDelta, MakesSfile, WritesDelta, WritesFiles, WritesX}
 
 pub x_written : (h : Header) (items : List Item) (n : List ℕ) (old new : Option View) (done : Unit {0}) → MakesFile h items n old new (Ok done) → WritesX h items n old new (Ok done)
 x_written h items n old new done makes = makes
@@ -221,22 +220,27 @@ entry_valid edits k e are at = at_place edits k (recursion_from_All IsEdit edits
 
 -- ---- the new s-file
 
-pub sfile_made : (words : DeltaWords) (stamp : Stamp) (header : Header) (edits edits2 : List Edit) (e edit : Edit) (base : Base) (orders : List Order) (lines serial : ℕ) (nulls sids : List Sid) (d : NewDelta) (counts : Counts) (s : NewSfile) (o : Option Edit) → o ≡ Some edit → o ≡ Some e → edits2 ≡ edits → nulls_of header edits2 edit ≡ Ok nulls
-    → sids ≡ nulls → s.header ≡ header_with header base.got (map (null_delta stamp) sids) d → d ≡ delta_of words stamp edit base.include base.exclude counts → counts ≡ counts_of s.copying.splicer.plan lines → s.copying.splicer ≡ begun serial (plan orders lines) → serial ≡ suc (newest header.records + length nulls)
-    → s.set ≡ base.set → s.sid ≡ edit.made → s.counts ≡ counts → MakesSfile words stamp header edits e base orders lines (Ok s)
-sfile_made words stamp header edits edits2 e edit base orders lines serial nulls sids d counts s o one two same_edits is sids_are header_is d_is counts_are splicer_is serial_is set_is sid_is said =
-    let same : edit ≡ e = the_same edit e (sym one ∙ two) in
-    let plan_counts : counts ≡ counts_of (plan orders lines) lines = counts_are ∙ ap (λ (t : State). counts_of t.plan lines) splicer_is in (
+pub sfile_of : (words : DeltaWords) (stamp : Stamp) (header : Header) (edit : Edit) (base : Base) (orders : List Order) (lines serial : ℕ) (nulls sids : List Sid) (counts : Counts) (s : NewSfile) → sids ≡ nulls
+    → s.header ≡ header_with header base.got (map (null_delta stamp) sids) (delta_of words stamp edit base.include base.exclude counts) → counts ≡ counts_of s.copying.splicer.plan lines → s.copying.splicer ≡ begun serial (plan orders lines) → serial ≡ suc (newest header.records + length nulls)
+    → s.set ≡ base.set → s.sid ≡ edit.made → s.counts ≡ counts → IsSfileOf words stamp header edit base orders lines nulls s
+sfile_of words stamp header edit base orders lines serial nulls sids counts s sids_are header_is counts_are splicer_is serial_is set_is sid_is said =
+    let plan_counts : counts ≡ counts_of (plan orders lines) lines = counts_are ∙ ap (λ (t : State). counts_of t.plan lines) splicer_is in
+    record {
+      header_is = header_is ∙ (ap (λ (l : List Sid). header_with header base.got (map (null_delta stamp) l) (delta_of words stamp edit base.include base.exclude counts)) sids_are
+          ∙ ap (λ (k : Counts). header_with header base.got (map (null_delta stamp) nulls) (delta_of words stamp edit base.include base.exclude k)) plan_counts);
+      splicer_is = splicer_is ∙ ap (λ k. begun k (plan orders lines)) serial_is;
+      set_is = set_is;
+      sid_is = sid_is;
+      counts_is = said ∙ plan_counts;
+    }
+
+pub sfile_made : (words : DeltaWords) (stamp : Stamp) (header : Header) (edits edits2 : List Edit) (e edit : Edit) (base : Base) (orders : List Order) (lines : ℕ) (nulls : List Sid) (s : NewSfile) (o : Option Edit) → o ≡ Some edit → o ≡ Some e → edits2 ≡ edits → nulls_of header edits2 edit ≡ Ok nulls
+    → IsSfileOf words stamp header edit base orders lines nulls s → MakesSfile words stamp header edits e base orders lines (Ok s)
+sfile_made words stamp header edits edits2 e edit base orders lines nulls s o one two same_edits is made =
+    let same : edit ≡ e = the_same edit e (sym one ∙ two) in (
       nulls,
       ap (λ (l : List Edit). nulls_of header l e) (sym same_edits) ∙ (ap (nulls_of header edits2) (sym same) ∙ is),
-      record {
-        header_is = header_is ∙ (ap (λ (l : List Sid). header_with header base.got (map (null_delta stamp) l) d) sids_are
-            ∙ ap (header_with header base.got (map (null_delta stamp) nulls)) (d_is ∙ (ap (λ (x : Edit). delta_of words stamp x base.include base.exclude counts) same ∙ ap (delta_of words stamp e base.include base.exclude) plan_counts)));
-        splicer_is = splicer_is ∙ ap (λ k. begun k (plan orders lines)) serial_is;
-        set_is = set_is;
-        sid_is = sid_is ∙ ap (λ (x : Edit). x.made) same;
-        counts_is = said ∙ plan_counts;
-      },
+      subst (λ (x : Edit). IsSfileOf words stamp header x base orders lines nulls s) same made,
     )
   where
     the_same : (a b : Edit) → Some a ≡ Some b → a ≡ b

@@ -48,6 +48,15 @@ first_difference k (a ∷ rest) (b ∷ others) = if bytes_eq a b then first_diff
 
 -- ---- a reading
 
+-- Before all lines of a text, which is compared with a g-file or not.
+pub record IsBefore (g : List ℕ) (compared : Bool) (s : ResultCheck) : Type 0 where
+  pub keyword : s.keyword ≡ false
+  pub compares : s.compares ≡ compared
+  pub lines : s.lines ≡ record { name = g; held = []; place = 0; limit = 1073741825; lines = 0; sum = 0 }
+  pub over : s.over ≡ false
+  pub number : s.number ≡ 0
+  pub differs : s.differs ≡ None
+
 -- These lines of a told g-file are to come.
 abbrev pub LinesLeft : List ℕ → ResultCheck → List (List ℕ) → Bool → Type 0
 LinesLeft file s rest true = rest ≡ []

@@ -14,6 +14,7 @@ use Rattle.sccs_flags.specs.FlagValues.{has_flag}
 use Rattle.sccs_edits.specs.Scripts.{apply}
 use Rattle.sccs_edits.specs.declared.scripts.Order.{Order}
 use Rattle.sccs_script.specs.Checks.{checked}
+use Rattle.sccs_script.specs.Commands.{orders_of}
 use Rattle.sccs_script.specs.declared.faults.ScriptFault.{ScriptFault}
 use Rattle.sccs_script.specs.declared.faults.ScriptFault.TheVariants as faults
 use Rattle.sccs_sets.specs.declared.faults.SetFault.{SetFault}
@@ -22,8 +23,9 @@ use Rattle.sccs_steps.specs.StepEffects.{check}
 use Rattle.sccs_pfile.specs.declared.entries.Edit.{Edit}
 use Rattle.sccs_words.specs.declared.commands.DeltaWords.{DeltaWords}
 use Rattle.sccs_pending.specs.PFiles.{is_short}
-use Rattle.sccs_delta.specs.DeltaStep.{compared, entry_of, fitted, or_differs, or_script_fault}
+use Rattle.sccs_delta.specs.DeltaStep.{compared, entry_of, fitted, mrs_checked, or_differs, or_script_fault}
 use Rattle.sccs_delta.specs.Examining.{has_keyword}
+use Rattle.sccs_delta.specs.declared.entries.Asked.{Asked}
 use Rattle.sccs_delta.specs.declared.entries.Chosen.{Chosen}
 use Rattle.sccs_delta.specs.declared.examining.Found.{Found}
 
@@ -76,11 +78,28 @@ pub record FindsFit (orders : List Order) (base : List (List ℕ)) (found : Foun
   pub lines : found.lines ≡ length base
   pub keyword : found.keyword ≡ list_any has_keyword (apply orders base)
 
+-- the checks are passed, and this was found; or one of them fails
+abbrev pub FitsBy : Result Bool Refusal → List Order → List (List ℕ) → Result Found StepFault → Type 0
+FitsBy checks orders base (Ok found) = (checks ≡ Ok true) × FindsFit orders base found
+FitsBy checks orders base (Err (Refused refusal)) = checks ≡ Err refusal
+FitsBy checks orders base (Err Memory) = Unit {0}
+FitsBy checks orders base (Err DiskFault) = Unit {0}
+FitsBy checks orders base (Err ReadFault) = ⊥
+FitsBy checks orders base (Err WriteFault) = ⊥
+
 -- the script fits, or a check fails
 abbrev pub Fits : List Flag → List Order → List (List ℕ) → Option Content → Result Found StepFault → Type 0
-Fits flags orders base g (Ok found) = (fitted flags orders base g ≡ Ok true) × FindsFit orders base found
-Fits flags orders base g (Err (Refused refusal)) = fitted flags orders base g ≡ Err refusal
-Fits flags orders base g (Err Memory) = Unit {0}
-Fits flags orders base g (Err DiskFault) = Unit {0}
-Fits flags orders base g (Err ReadFault) = ⊥
-Fits flags orders base g (Err WriteFault) = ⊥
+Fits flags orders base g result = FitsBy (fitted flags orders base g) orders base result
+
+-- the script fits, and the MRs are as the flag v asks
+abbrev pub script_fits : List Flag → List (List ℕ) → List Order → List (List ℕ) → Option Content → Result Bool Refusal
+script_fits flags mrs orders base g = fitted flags orders base g >>= λ fits. mrs_checked flags mrs
+
+-- the entry that is found and the orders of the script; of want of memory nothing is said
+abbrev pub FindsAsked : DeltaWords → Stamp → Header → List Edit → List ℕ → Result Asked StepFault → Type 0
+FindsAsked words stamp header edits i (Ok a) = FindsEntry words stamp header edits (Ok a.chosen) × (or_script_fault (orders_of i) ≡ Ok a.script)
+FindsAsked words stamp header edits i (Err (Refused refusal)) = (entry_of words stamp header edits >>= λ e. or_script_fault (orders_of i)) ≡ Err refusal
+FindsAsked words stamp header edits i (Err Memory) = Unit {0}
+FindsAsked words stamp header edits i (Err DiskFault) = Unit {0}
+FindsAsked words stamp header edits i (Err ReadFault) = ⊥
+FindsAsked words stamp header edits i (Err WriteFault) = ⊥

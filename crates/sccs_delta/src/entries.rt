@@ -1,16 +1,20 @@
-ghost use Rattle.std.specs.Prelude.{◌≡◌, ◌≢◌, ◌<◌, ◌≤◌, false, Err, IfOk, length};
+ghost use Rattle.std.specs.Prelude.{◌≡◌, ◌≢◌, ◌<◌, ◌≤◌, ◌^◌, false, Err, IfOk, length};
+ghost use Rattle.std.specs.List.{AllByRecursion};
 ghost use Rattle.sccs_history.specs.History.{IsTable};
 ghost use Rattle.sccs_history.specs.Numbers.{has};
 ghost use Rattle.sccs_pending.specs.PFiles.{Answers, Passes};
+ghost use Rattle.sccs_script.specs.Commands.{FitsIn};
 ghost use Rattle.sccs_sid.specs.declared.refusals.StepFault.TheVariants as faults;
 ghost use Rattle.sccs_steps.specs.Actions.{RefusesWithin};
 ghost use Rattle.sccs_delta.specs.DeltaStep.{base_of, delta_checks, released};
-ghost use Rattle.sccs_delta.specs.Preparing.{FindsEntry, list_fault};
+ghost use Rattle.sccs_delta.specs.Preparing.{FindsAsked, FindsEntry, list_fault};
 
+use crate::scripts::orders_of;
 use sccs_flags::{is_allowed, is_locked, is_within_limits};
 use sccs_history::{Header, Serials};
 use sccs_pending::{Pending, chosen};
 use sccs_pfile::Edit;
+use sccs_script::Script;
 use sccs_sets::{Applied, NoSid, SetFault, delta_set, retrieve, serials};
 use sccs_sid::{Refusal, Spec, Stamp, StepFault};
 use sccs_words::DeltaWords;
@@ -30,6 +34,13 @@ pub struct Base {
 pub struct Chosen {
     pub number: u64,
     pub base: Base,
+}
+
+/// The entry that is asked for, with its base, and the orders of the script.
+#[derive(Drop)]
+pub struct Asked {
+    pub chosen: Chosen,
+    pub script: Script,
 }
 
 // an entry whose list names no live deltas disagrees with the table
@@ -127,6 +138,33 @@ pub fn chosen_entry(
     };
     match check_releases(header, edit) {
         Ok(()) => Ok(Chosen { number, base }),
+        Err(fault) => Err(fault),
+    }
+}
+
+/// The entry that is asked for, as `chosen_entry` finds it, and the orders of the script, in this order.
+pub fn read_asked(
+    alloc: Global,
+    words: &DeltaWords,
+    stamp: &Stamp,
+    pending: &Pending,
+    script: &[u8],
+) -> Result<Asked, StepFault>
+    requires { IsTable pending.now.front.header.records }
+    ensures value { FindsAsked words.now stamp.now pending.now.front.header pending.now.edits script.now result }
+    ensures no_zero { IfOk result (λ a. has a.chosen.base.set 0 ≡ false) }
+    ensures some { IfOk result (λ a. 0 < a.chosen.number) }
+    ensures there { IfOk result (λ a. a.chosen.number ≤ length pending.now.edits) }
+    ensures fits { IfOk result (λ a. AllByRecursion (FitsIn (2 ^ 64)) a.script) }
+    ensures checks { RefusesWithin delta_checks result }
+    ensures broke { result ≢ Err faults.DiskFault }
+{
+    let chosen = match chosen_entry(alloc, words, stamp, pending) {
+        Ok(chosen) => chosen,
+        Err(fault) => return Err(fault),
+    };
+    match orders_of(alloc, script) {
+        Ok(script) => Ok(Asked { chosen, script }),
         Err(fault) => Err(fault),
     }
 }

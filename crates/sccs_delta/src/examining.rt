@@ -9,9 +9,9 @@ ghost use Rattle.sccs_history.specs.Select.{select};
 ghost use Rattle.sccs_history.specs.declared.headers.Item.{Item};
 ghost use Rattle.sccs_table.specs.FrontFile.{ReadsDisk};
 ghost use Rattle.sccs_table.specs.ReaderState.{bytes_in};
-ghost use Rattle.sccs_versions.specs.Coming.{Coming, IsBody};
+ghost use Rattle.sccs_versions.specs.Coming.{Coming, IsBody, shown};
 ghost use Rattle.sccs_versions.specs.Place.{bytes_left, name_of};
-ghost use Rattle.sccs_delta.specs.Examining.{Examines, ExaminesAll, ExaminesNext, SeesAll, line_result};
+ghost use Rattle.sccs_delta.specs.Examining.{Examines, ExaminesAll, ExaminesNext, IsBefore, SeesAll, line_result};
 
 use crate::result_checks::{ResultCheck, first_difference, see_line, see_lines};
 use sccs_base::{FILE_LIMIT, Line, Name};
@@ -135,6 +135,41 @@ fn see_all<D: Disk>(
     }
 }
 
+// what is found of a base and of a text of which no line went by yet
+fn examine_all<D: Disk>(
+    alloc: Global,
+    version: &mut VersionReader<'_>,
+    at: &mut PlanPlace,
+    compares: bool,
+    check: &mut ResultCheck,
+    disk: &mut D,
+) -> Result<Found, FileFault>
+    requires { at.old.line ≡ 0 }
+    ensures frame { ReadsDisk D.told D.faults disk.old disk.new result }
+    ensures few { IfOk result (λ found. found.lines ≤ file_limit) }
+    ensures alone { compares ≡ false → IfOk result (λ found. found.differs ≡ None) }
+    ensures told { (file set g : List ℕ) (lines : List HistoryLine) → bytes_in (seen (D.told disk.old)) (name_of version.old) ≡ Some file
+        → Coming file version.old (shown set lines) → length (shown set lines) ≤ file_limit → IsBefore g compares check.old
+        → Examines (bytes_in (seen (D.told disk.old)) g) at.old.plan (select set lines) compares result }
+{
+    match see_lines(alloc, check, at.new_lines(), disk) {
+        Ok(()) => {}
+        Err(fault) => return Err(fault),
+    }
+    match see_all(alloc, version, at, check, disk) {
+        Ok(()) => {}
+        Err(fault) => return Err(fault),
+    }
+    match first_difference(alloc, compares, check, disk) {
+        Ok(differs) => Ok(Found {
+            lines: at.line(),
+            keyword: check.keyword,
+            differs,
+        }),
+        Err(fault) => Err(fault),
+    }
+}
+
 /// Reads the base of a plan once, that is the lines that a set shows of a body: counts them, looks for a
 /// keyword in what the plan makes of them, and compares this with a g-file.
 pub fn examine<D: Disk>(
@@ -159,20 +194,5 @@ pub fn examine<D: Disk>(
     };
     let mut at = PlanPlace::new(plan);
     let mut check = ResultCheck::new(&name.module(), compares);
-    match see_lines(alloc, &mut check, at.new_lines(), disk) {
-        Ok(()) => {}
-        Err(fault) => return Err(fault),
-    }
-    match see_all(alloc, &mut version, &mut at, &mut check, disk) {
-        Ok(()) => {}
-        Err(fault) => return Err(fault),
-    }
-    match first_difference(alloc, compares, &mut check, disk) {
-        Ok(differs) => Ok(Found {
-            lines: at.line(),
-            keyword: check.keyword,
-            differs,
-        }),
-        Err(fault) => Err(fault),
-    }
+    examine_all(alloc, &mut version, &mut at, compares, &mut check, disk)
 }

@@ -77,8 +77,8 @@ fn mr_lines(alloc: Global, mrs: &[Bytes]) -> Result<Text, Memory>
     Ok(text)
 }
 
-/// The delta of an entry.
-pub fn new_delta(
+// the delta of an entry
+fn new_delta(
     alloc: Global,
     words: &DeltaWords,
     stamp: &Stamp,
@@ -107,9 +107,9 @@ pub fn new_delta(
     })
 }
 
-/// Puts null deltas of these SIDs on the table of a header, the first on the delta of a serial, and a new delta
-/// on the last of them.
-pub fn header_with(
+// puts null deltas of these SIDs on the table of a header, the first on the delta of a serial, and a new delta
+// on the last of them
+fn header_with(
     alloc: Global,
     header: Header,
     on: u16,
@@ -127,4 +127,30 @@ pub fn header_with(
 {
     let based = add_null_deltas(alloc, BasedHeader { header, on }, stamp, nulls)?;
     add_delta(alloc, based.header, based.on, delta)
+}
+
+/// Puts null deltas of these SIDs on the table of a header, the first on the delta of a serial, and the delta of
+/// an entry on the last of them.
+pub fn header_of(
+    alloc: Global,
+    words: &DeltaWords,
+    stamp: &Stamp,
+    header: Header,
+    on: u16,
+    nulls: &[Sid],
+    edit: &Edit,
+    include: Serials,
+    exclude: Serials,
+    counts: Counts,
+) -> Result<Header, Memory>
+    requires room { newest header.records + length nulls.now < 65535 }
+    requires spelled { IsSpelled header }
+    requires moment { IsMoment stamp.now.moment }
+    requires sids { AllByRecursion IsSid nulls.now }
+    requires edit { IsEdit edit.now }
+    ensures value { IfOk result (λ h. h ≡ header_with header on (map (null_delta stamp.now) nulls.now) (delta_of words.now stamp.now edit.now include exclude counts)) }
+    ensures spelled { IfOk result IsSpelled }
+{
+    let delta = new_delta(alloc, words, stamp, edit, include, exclude, counts)?;
+    header_with(alloc, header, on, stamp, nulls, delta)
 }

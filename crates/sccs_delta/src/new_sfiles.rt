@@ -1,4 +1,5 @@
 ghost use Rattle.std.specs.Prelude.{◌≡◌, ◌≢◌, ◌<◌, ◌≤◌, ◌+◌, ◌-◌, ℕ, suc, List, [], Some, Ok, Err, All, IfOk, length, map, slice_get};
+ghost use Rattle.std.specs.List.{AllByRecursion};
 ghost use Rattle.sccs_base.specs.Constants.{file_limit};
 ghost use Rattle.sccs_edits.specs.Places.{told_behind};
 ghost use Rattle.sccs_edits.specs.Plans.{plan};
@@ -17,15 +18,15 @@ ghost use Rattle.sccs_steps.specs.Actions.{RefusesWithin};
 ghost use Rattle.sccs_versions.specs.Coming.{IsBody};
 ghost use Rattle.sccs_delta.specs.Copies.{ItemsCome};
 ghost use Rattle.sccs_delta.specs.DeltaStep.{counts_of, delta_checks};
-ghost use Rattle.sccs_delta.specs.Writing.{MakesSfile};
+ghost use Rattle.sccs_delta.specs.Writing.{IsSfileOf, MakesSfile};
 
 use crate::copies::Copying;
-use crate::entries::Chosen;
-use crate::headers::{header_with, new_delta, nulls_of};
+use crate::entries::{Base, Chosen};
+use crate::headers::{header_of, nulls_of};
 use crate::skipping::Sids;
 use sccs_base::{Memory, Name};
 use sccs_history::Header;
-use sccs_pfile::Edits;
+use sccs_pfile::{Edit, Edits};
 use sccs_records::{Counts, newest};
 use sccs_script::{Script, plan};
 use sccs_sets::Applied;
@@ -88,6 +89,61 @@ fn serial_behind(header: &Header, nulls: &Sids) -> u16
     newest(&header.records) + nulls.len() as u16 + 1
 }
 
+// the s-file with null deltas of these SIDs and the delta of an entry
+fn sfile_with(
+    alloc: Global,
+    words: &DeltaWords,
+    stamp: &Stamp,
+    name: &Name,
+    front: Front,
+    edit: &Edit,
+    base: Base,
+    nulls: &Sids,
+    script: &Script,
+    lines: u64,
+) -> Result<NewSfile, Memory>
+    requires moment { IsMoment stamp.now.moment }
+    requires spelled { IsSpelled front.header }
+    requires edit { IsEdit edit.now }
+    requires sids { AllByRecursion IsSid nulls.now }
+    requires room { newest front.header.records + length nulls.now < 65535 }
+    requires fits { checked script.now lines ≡ Ok tt }
+    requires few { lines ≤ file_limit }
+    ensures makes { IfOk result (IsSfileOf words.now stamp.now front.header edit.now base script.now lines nulls.now) }
+    ensures told { (file : List ℕ) (items : List Item) → IsBody (Some file) front base.set file items
+        → IfOk result (λ s. ItemsCome file base.set s.copying.items s.copying.weaver (told_behind base.set [] items)) }
+    ensures name { IfOk result (λ s. name_read s.copying.items ≡ name.now) }
+    ensures seen { IfOk result (λ s. s.copying.seen ≡ 0) }
+    ensures start { IfOk result (λ s. s.copying.splicer.line ≡ 0) }
+    ensures spelled { IfOk result (λ s. IsSpelled s.header) }
+    ensures sid { IfOk result (λ s. IsSid s.sid) }
+    ensures lines { IfOk result (λ s. s.lines ≡ lines) }
+{
+    let serial = serial_behind(&front.header, nulls);
+    let copying = copying_of(alloc, name, &front, script, lines, serial)?;
+    let counts = counts_of(&copying.splicer, lines);
+    let header = header_of(
+        alloc,
+        words,
+        stamp,
+        front.header,
+        base.got,
+        nulls.items(),
+        edit,
+        base.include,
+        base.exclude,
+        counts,
+    )?;
+    Ok(NewSfile {
+        header,
+        copying,
+        set: base.set,
+        lines,
+        sid: edit.made,
+        counts,
+    })
+}
+
 /// What the delta of an entry makes of an s-file. Full comes exactly where no serial is left.
 pub fn new_sfile(
     alloc: Global,
@@ -127,33 +183,19 @@ pub fn new_sfile(
         Ok(nulls) => nulls,
         Err(fault) => return Err(fault),
     };
-    let serial = serial_behind(&front.header, &nulls);
-    let Ok(copying) = copying_of(alloc, name, &front, script, lines, serial) else {
-        return Err(StepFault::Memory);
-    };
-    let counts = counts_of(&copying.splicer, lines);
-    let base = chosen.base;
-    let Ok(delta) = new_delta(
+    match sfile_with(
         alloc,
         words,
         stamp,
+        name,
+        front,
         edit,
-        base.include,
-        base.exclude,
-        counts,
-    ) else {
-        return Err(StepFault::Memory);
-    };
-    let sids = nulls.items();
-    match header_with(alloc, front.header, base.got, stamp, sids, delta) {
-        Ok(header) => Ok(NewSfile {
-            header,
-            copying,
-            set: base.set,
-            lines,
-            sid: edit.made,
-            counts,
-        }),
+        chosen.base,
+        &nulls,
+        script,
+        lines,
+    ) {
+        Ok(file) => Ok(file),
         Err(_) => Err(StepFault::Memory),
     }
 }

@@ -35,11 +35,11 @@ ghost use Rattle.sccs_pending.specs.Reports.{warning};
 ghost use Rattle.sccs_delta.specs.Examining.{has_keyword};
 ghost use Rattle.sccs_delta.specs.Writing.{ChangesDisk, MakesDelta, WritesDelta, WritesX, script_checked};
 
-use crate::entries::{Chosen, chosen_entry};
+use crate::entries::{Chosen, read_asked};
 use crate::examining::Found;
 use crate::new_sfiles::{NewSfile, new_sfile};
 use crate::reports::delta_report;
-use crate::scripts::{check_mrs, fit, orders_of};
+use crate::scripts::fit;
 use crate::sizes::check_sizes;
 use crate::writing::write_delta;
 use sccs_base::{Bytes, Memory, Name};
@@ -270,14 +270,18 @@ fn prepare_script<D: Disk>(
     ensures speaks { CouldPrepare could_make result }
     ensures causes { ChangesDisk D.faults disk.old disk.new result }
 {
-    let found = match fit(alloc, name, &pending.front, &chosen.base.set, script, disk) {
+    let found = match fit(
+        alloc,
+        name,
+        &pending.front,
+        &chosen.base.set,
+        &words.mrs,
+        script,
+        disk,
+    ) {
         Ok(found) => found,
         Err(fault) => return Err(fault),
     };
-    match check_mrs(&pending.front.header, &words.mrs) {
-        Ok(()) => {}
-        Err(fault) => return Err(fault),
-    }
     make(
         alloc, words, stamp, name, pending, chosen, script, &found, disk,
     )
@@ -315,13 +319,10 @@ pub fn prepare_delta<D: Disk>(
         Ok(pending) => pending,
         Err(fault) => return Err(fault),
     };
-    let chosen = match chosen_entry(alloc, words, stamp, &pending) {
-        Ok(chosen) => chosen,
+    let asked = match read_asked(alloc, words, stamp, &pending, script) {
+        Ok(asked) => asked,
         Err(fault) => return Err(fault),
     };
-    let script = match orders_of(alloc, script) {
-        Ok(script) => script,
-        Err(fault) => return Err(fault),
-    };
+    let (chosen, script) = (asked.chosen, asked.script);
     prepare_script(alloc, words, stamp, name, pending, chosen, &script, disk)
 }

@@ -4,7 +4,7 @@ ghost use Rattle.sccs_disk.specs.Told.{seen};
 ghost use Rattle.sccs_table.specs.FrontFile.{ReadsDisk};
 ghost use Rattle.sccs_table.specs.ReaderState.{bytes_in};
 ghost use Rattle.sccs_delta.specs.Copies.{IsOuterResult};
-ghost use Rattle.sccs_delta.specs.Examining.{ComparesOn, difference, GComes, GivesGLine, LinesLeft, SeesAll, has_keyword};
+ghost use Rattle.sccs_delta.specs.Examining.{ComparesOn, difference, GComes, GivesGLine, IsBefore, LinesLeft, SeesAll, has_keyword};
 
 use sccs_base::{Line, Name};
 use sccs_disk::Disk;
@@ -29,12 +29,7 @@ pub struct ResultCheck {
 impl ResultCheck {
     /// Before all lines.
     pub fn new(g_file: &Name, compares: bool) -> ResultCheck
-        ensures keyword { result.keyword ≡ false }
-        ensures compares { result.compares ≡ compares }
-        ensures lines { result.lines ≡ record { name = g_file.now; held = []; place = 0; limit = 1073741825; lines = 0; sum = 0 } }
-        ensures over { result.over ≡ false }
-        ensures number { result.number ≡ 0 }
-        ensures differs { result.differs ≡ None }
+        ensures { IsBefore g_file.now compares result }
     {
         ResultCheck {
             keyword: false,

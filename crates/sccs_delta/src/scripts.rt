@@ -17,7 +17,7 @@ ghost use Rattle.sccs_steps.specs.Actions.{RefusesWithin};
 ghost use Rattle.sccs_table.specs.ReaderState.{bytes_in};
 ghost use Rattle.sccs_versions.specs.Coming.{IsBody};
 ghost use Rattle.sccs_delta.specs.DeltaStep.{delta_checks, has_text, mrs_checked, or_script_fault};
-ghost use Rattle.sccs_delta.specs.Preparing.{Fits, ReadsBase, judged, script_refusal};
+ghost use Rattle.sccs_delta.specs.Preparing.{FitsBy, ReadsBase, judged, script_fits, script_refusal};
 
 use crate::examining::{Found, examine};
 use sccs_base::{FILE_LIMIT, Failed, Memory, Name, Words};
@@ -138,37 +138,6 @@ fn read_base<D: Disk>(
     }
 }
 
-/// Reads the base of a script once, and judges the script: it fits the base, its result has a keyword where the
-/// flag i wants one, and is the text of the g-file where that is there. ScriptRange, BadText, NoKeywords and
-/// GDiffers come in this order. POSIX, delta.
-pub fn fit<D: Disk>(
-    alloc: Global,
-    name: &Name,
-    front: &Front,
-    set: &Applied,
-    script: &Script,
-    disk: &mut D,
-) -> Result<Found, StepFault>
-    requires sfile { IsSfile name.now }
-    requires ordered { AllByRecursion (FitsIn (2 ^ 64)) script.now }
-    ensures told { (file : List ℕ) (items : List Item) → IsBody (bytes_in (seen (D.told disk.old)) name.now) front.now set.now file items
-        → IfSome (seen (D.told disk.old)) (λ (v : View). is_short (v (drop 2 name.now)) ≡ true
-        → Fits front.now.header.flags script.now (select set.now (lines_of items)) (v (drop 2 name.now)) result) }
-    ensures fits { IfOk result (λ found. checked script.now found.lines ≡ Ok tt) }
-    ensures few { IfOk result (λ found. found.lines ≤ file_limit) }
-    ensures checks { RefusesWithin delta_checks result }
-    ensures frame { OnlyReads D.told D.faults disk.old disk.new result }
-{
-    let found = match read_base(alloc, name, front, set, script, disk) {
-        Ok(found) => found,
-        Err(fault) => return Err(fault),
-    };
-    match judge(&front.header, script, &found) {
-        Ok(()) => Ok(found),
-        Err(fault) => Err(fault),
-    }
-}
-
 // whether the flag of a letter is there and has a text
 fn has_text(flags: &[Flag], letter: u8) -> bool
     ensures { result ≡ has_text flags.now letter }
@@ -179,11 +148,11 @@ fn has_text(flags: &[Flag], letter: u8) -> bool
     }
 }
 
-/// Whether the MRs of a delta are as the flag v asks. MrNeeded comes where it is there and none is given,
-/// MrNotAllowed where it isn't there and some are, Unsupported where v or i has a text, which would name a
-/// program or a keyword, in this order. sccsfile(4), "Flags".
+// Whether the MRs of a delta are as the flag v asks. MrNeeded comes where it is there and none is given,
+// MrNotAllowed where it isn't there and some are, Unsupported where v or i has a text, which would name a
+// program or a keyword, in this order. sccsfile(4), "Flags".
 #[tactic(auto, unfolding(crate::specs::DeltaStep::mrs_checked))]
-pub fn check_mrs(header: &Header, mrs: &Words) -> Result<(), StepFault>
+fn check_mrs(header: &Header, mrs: &Words) -> Result<(), StepFault>
     ensures value { Passes (mrs_checked header.now.flags mrs.now) result }
     ensures checks { RefusesWithin delta_checks result }
     ensures memory { result ≢ Err faults.Memory }
@@ -203,4 +172,40 @@ pub fn check_mrs(header: &Header, mrs: &Words) -> Result<(), StepFault>
         return Err(StepFault::Refused(Refusal::Unsupported(b'i')));
     }
     Ok(())
+}
+
+/// Reads the base of a script once, and judges the script: it fits the base, its result has a keyword where the
+/// flag i wants one, and is the text of the g-file where that is there; then the MRs. ScriptRange, BadText,
+/// NoKeywords, GDiffers and the refusals of the MRs come in this order. POSIX, delta.
+pub fn fit<D: Disk>(
+    alloc: Global,
+    name: &Name,
+    front: &Front,
+    set: &Applied,
+    mrs: &Words,
+    script: &Script,
+    disk: &mut D,
+) -> Result<Found, StepFault>
+    requires sfile { IsSfile name.now }
+    requires ordered { AllByRecursion (FitsIn (2 ^ 64)) script.now }
+    ensures told { (file : List ℕ) (items : List Item) → IsBody (bytes_in (seen (D.told disk.old)) name.now) front.now set.now file items
+        → IfSome (seen (D.told disk.old)) (λ (v : View). is_short (v (drop 2 name.now)) ≡ true
+        → FitsBy (script_fits front.now.header.flags mrs.now script.now (select set.now (lines_of items)) (v (drop 2 name.now))) script.now (select set.now (lines_of items)) result) }
+    ensures fits { IfOk result (λ found. checked script.now found.lines ≡ Ok tt) }
+    ensures few { IfOk result (λ found. found.lines ≤ file_limit) }
+    ensures checks { RefusesWithin delta_checks result }
+    ensures frame { OnlyReads D.told D.faults disk.old disk.new result }
+{
+    let found = match read_base(alloc, name, front, set, script, disk) {
+        Ok(found) => found,
+        Err(fault) => return Err(fault),
+    };
+    match judge(&front.header, script, &found) {
+        Ok(()) => {}
+        Err(fault) => return Err(fault),
+    }
+    match check_mrs(&front.header, mrs) {
+        Ok(()) => Ok(found),
+        Err(fault) => Err(fault),
+    }
 }

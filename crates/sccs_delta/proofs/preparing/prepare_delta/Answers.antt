@@ -7,7 +7,7 @@ use Rattle.sccs_files.specs.StepFiles.{is_working}
 use Rattle.sccs_pending.specs.Pending.{AnswersPending}
 use Rattle.sccs_pending.proofs.PendingLaws.{found_there}
 use Rattle.sccs_store.proofs.Working.{same_touches}
-use Rattle.sccs_delta.proofs.PrepareLaws.{delta_written, entry_end, pending_end, script_end, sizes_end}
+use Rattle.sccs_delta.proofs.PrepareLaws.{asked_end, delta_written, pending_end, sizes_end}
 use Rattle.sccs_delta.proofs.SettleLaws.{delta_entries}
 use Rattle.sccs_delta.proofs.WriteLaws.{some_entries}
 use Rattle.sccs_delta.proofs.preparing.prepare_delta.Goals as goal
@@ -21,31 +21,25 @@ returns-in-Err-read_pending-clause-prepares g c = λ out err.
     pending_end c.args.words.now c.args.stamp.now c.args.name.now c.args.script.now c.in-Err-read_pending.fault (seen (g.D.Disk.told c.args.disk.now)) (seen (g.D.Disk.told c.read_pending.new.disk)) out err c.requires.sfile (ap seen (c.read_pending.ensures.frame.same ∙ c.check_sizes.ensures.frame.same)) c.in-Ok.ensures.told
     (subst (λ t. IfSome (seen t) (λ v. AnswersPending (v c.args.name.now) (v (sibling 112 c.args.name.now)) (Err c.in-Err-read_pending.fault))) c.check_sizes.ensures.frame.same c.in-Err-read_pending.ensures.told)
 
-pub returns-in-Err-chosen_entry-clause-prepares : goal.returns-in-Err-chosen_entry-clause-prepares
-returns-in-Err-chosen_entry-clause-prepares g c = λ out err.
-    entry_end c.args.words.now c.args.stamp.now c.args.name.now c.args.script.now c.in-Ok-read_pending.pending c.in-Err-chosen_entry.fault (seen (g.D.Disk.told c.args.disk.now)) (seen (g.D.Disk.told c.read_pending.new.disk)) out err c.requires.sfile (ap seen (c.read_pending.ensures.frame.same ∙ c.check_sizes.ensures.frame.same)) c.in-Ok.ensures.told
+pub returns-in-Err-read_asked-clause-prepares : goal.returns-in-Err-read_asked-clause-prepares
+returns-in-Err-read_asked-clause-prepares g c = λ out err.
+    asked_end c.args.words.now c.args.stamp.now c.args.name.now c.args.script.now c.in-Ok-read_pending.pending c.in-Err-read_asked.fault (seen (g.D.Disk.told c.args.disk.now)) (seen (g.D.Disk.told c.read_pending.new.disk)) out err c.requires.sfile (ap seen (c.read_pending.ensures.frame.same ∙ c.check_sizes.ensures.frame.same)) c.in-Ok.ensures.told
     (subst (λ t. IfSome (seen t) (λ v. AnswersPending (v c.args.name.now) (v (sibling 112 c.args.name.now)) (Ok c.in-Ok-read_pending.pending))) c.check_sizes.ensures.frame.same c.in-Ok-read_pending.ensures.told)
-    c.in-Err-chosen_entry.ensures.value
-
-pub returns-in-Err-orders_of-clause-prepares : goal.returns-in-Err-orders_of-clause-prepares
-returns-in-Err-orders_of-clause-prepares g c = λ out err.
-    script_end c.args.words.now c.args.stamp.now c.args.name.now c.args.script.now c.in-Ok-read_pending.pending c.in-Ok-chosen_entry.chosen c.in-Err-orders_of.fault (seen (g.D.Disk.told c.args.disk.now)) (seen (g.D.Disk.told c.read_pending.new.disk)) out err c.requires.sfile (ap seen (c.read_pending.ensures.frame.same ∙ c.check_sizes.ensures.frame.same)) c.in-Ok.ensures.told
-    (subst (λ t. IfSome (seen t) (λ v. AnswersPending (v c.args.name.now) (v (sibling 112 c.args.name.now)) (Ok c.in-Ok-read_pending.pending))) c.check_sizes.ensures.frame.same c.in-Ok-read_pending.ensures.told)
-    c.in-Ok-chosen_entry.ensures.value c.in-Err-orders_of.ensures.value
+    c.in-Err-read_asked.ensures.value
 
 pub returns-clause-prepares : goal.returns-clause-prepares
 returns-clause-prepares g c = λ out err.
-    delta_written c.args.words.now c.args.stamp.now c.args.name.now c.args.script.now c.in-Ok-read_pending.pending c.in-Ok-chosen_entry.chosen c.in-Ok-orders_of.script c.prepare_script.result (seen (g.D.Disk.told c.args.disk.now)) (g.D.Disk.told c.read_pending.new.disk) (g.D.Disk.told c.prepare_script.new.disk) out err c.requires.sfile
+    delta_written c.args.words.now c.args.stamp.now c.args.name.now c.args.script.now c.in-Ok-read_pending.pending c.in-Ok-read_asked.asked.chosen c.in-Ok-read_asked.asked.script c.prepare_script.result (seen (g.D.Disk.told c.args.disk.now)) (g.D.Disk.told c.read_pending.new.disk) (g.D.Disk.told c.prepare_script.new.disk) out err c.requires.sfile
     (ap seen (c.read_pending.ensures.frame.same ∙ c.check_sizes.ensures.frame.same)) c.in-Ok.ensures.told
     (subst (λ t. IfSome (seen t) (λ v. AnswersPending (v c.args.name.now) (v (sibling 112 c.args.name.now)) (Ok c.in-Ok-read_pending.pending))) c.check_sizes.ensures.frame.same c.in-Ok-read_pending.ensures.told)
-    c.in-Ok-read_pending.ensures.placed c.in-Ok-chosen_entry.ensures.no_zero c.in-Ok-chosen_entry.ensures.value c.in-Ok-orders_of.ensures.value c.prepare_script.ensures.moves c.prepare_script.ensures.told
+    c.in-Ok-read_pending.ensures.placed c.in-Ok-read_asked.ensures.no_zero c.in-Ok-read_asked.ensures.value.0 c.in-Ok-read_asked.ensures.value.1 c.prepare_script.ensures.moves c.prepare_script.ensures.told
 
 pub returns-clause-needs : goal.returns-clause-needs
 returns-clause-needs g c =
     c.prepare_script.ensures.needs (subst (λ t. IsThere (sibling 122 c.args.name.now) t) (sym (c.read_pending.ensures.frame.same ∙ c.check_sizes.ensures.frame.same)) c.requires.locked)
     (found_there c.args.name.now c.in-Ok-read_pending.pending (g.D.Disk.told c.read_pending.new.disk)
     (subst (λ t. IfSome (seen t) (λ v. AnswersPending (v c.args.name.now) (v (sibling 112 c.args.name.now)) (Ok c.in-Ok-read_pending.pending))) (sym c.read_pending.ensures.frame.same) c.in-Ok-read_pending.ensures.told)
-    (some_entries c.in-Ok-read_pending.pending.edits c.in-Ok-chosen_entry.chosen.number c.in-Ok-chosen_entry.ensures.some c.in-Ok-chosen_entry.ensures.there))
+    (some_entries c.in-Ok-read_pending.pending.edits c.in-Ok-read_asked.asked.chosen.number c.in-Ok-read_asked.ensures.some c.in-Ok-read_asked.ensures.there))
 
 pub returns-in-Err-clause-touches : goal.returns-in-Err-clause-touches
 returns-in-Err-clause-touches g c = same_touches (is_working c.args.name.now) _ _ c.check_sizes.ensures.frame.same
@@ -53,15 +47,12 @@ returns-in-Err-clause-touches g c = same_touches (is_working c.args.name.now) _ 
 pub returns-in-Err-read_pending-clause-touches : goal.returns-in-Err-read_pending-clause-touches
 returns-in-Err-read_pending-clause-touches g c = same_touches (is_working c.args.name.now) _ _ (c.read_pending.ensures.frame.same ∙ c.check_sizes.ensures.frame.same)
 
-pub returns-in-Err-chosen_entry-clause-touches : goal.returns-in-Err-chosen_entry-clause-touches
-returns-in-Err-chosen_entry-clause-touches g c = same_touches (is_working c.args.name.now) _ _ (c.read_pending.ensures.frame.same ∙ c.check_sizes.ensures.frame.same)
-
-pub returns-in-Err-orders_of-clause-touches : goal.returns-in-Err-orders_of-clause-touches
-returns-in-Err-orders_of-clause-touches g c = same_touches (is_working c.args.name.now) _ _ (c.read_pending.ensures.frame.same ∙ c.check_sizes.ensures.frame.same)
+pub returns-in-Err-read_asked-clause-touches : goal.returns-in-Err-read_asked-clause-touches
+returns-in-Err-read_asked-clause-touches g c = same_touches (is_working c.args.name.now) _ _ (c.read_pending.ensures.frame.same ∙ c.check_sizes.ensures.frame.same)
 
 pub returns-clause-entries : goal.returns-clause-entries
 returns-clause-entries g c =
-    delta_entries c.args.words.now c.args.stamp.now c.args.name.now c.args.script.now c.in-Ok-read_pending.pending c.in-Ok-chosen_entry.chosen c.in-Ok-orders_of.script c.prepare_script.result (seen (g.D.Disk.told c.args.disk.now)) (g.D.Disk.told c.read_pending.new.disk) (g.D.Disk.told c.prepare_script.new.disk) c.requires.sfile
+    delta_entries c.args.words.now c.args.stamp.now c.args.name.now c.args.script.now c.in-Ok-read_pending.pending c.in-Ok-read_asked.asked.chosen c.in-Ok-read_asked.asked.script c.prepare_script.result (seen (g.D.Disk.told c.args.disk.now)) (g.D.Disk.told c.read_pending.new.disk) (g.D.Disk.told c.prepare_script.new.disk) c.requires.sfile
     (ap seen (c.read_pending.ensures.frame.same ∙ c.check_sizes.ensures.frame.same)) c.in-Ok.ensures.told
     (subst (λ t. IfSome (seen t) (λ v. AnswersPending (v c.args.name.now) (v (sibling 112 c.args.name.now)) (Ok c.in-Ok-read_pending.pending))) c.check_sizes.ensures.frame.same c.in-Ok-read_pending.ensures.told)
-    c.in-Ok-read_pending.ensures.placed c.in-Ok-chosen_entry.ensures.no_zero c.in-Ok-read_pending.ensures.rules c.in-Ok-read_pending.ensures.edits c.in-Ok-read_pending.ensures.agrees c.in-Ok-chosen_entry.ensures.value c.in-Ok-orders_of.ensures.value c.prepare_script.ensures.moves c.prepare_script.ensures.told
+    c.in-Ok-read_pending.ensures.placed c.in-Ok-read_asked.ensures.no_zero c.in-Ok-read_pending.ensures.rules c.in-Ok-read_pending.ensures.edits c.in-Ok-read_pending.ensures.agrees c.in-Ok-read_asked.ensures.value.0 c.in-Ok-read_asked.ensures.value.1 c.prepare_script.ensures.moves c.prepare_script.ensures.told
