@@ -35,8 +35,8 @@ impl Mark {
 /// How each serial stands, and how many are open. Contracts see the marks in a list.
 #[derive(Drop)]
 pub struct Marks {
-    marks: Vec<Mark>,
     inserts: usize,
+    marks: Vec<Mark>,
     opens: usize,
 }
 
@@ -67,8 +67,8 @@ impl Marks {
     {
         let marks = all_closed(alloc, 65536)?;
         Ok(Marks {
-            marks,
             inserts: 0,
+            marks,
             opens: 0,
         })
     }
