@@ -266,6 +266,9 @@ fn give_run<O: Sink, D: Disk>(
 {
     let texts = version.texts();
     let count = texts.len();
+    if count == 0 {
+        return Ok(());
+    }
     if let Err(fault) = giving.give_lines(version.inserter(), texts, out, disk) {
         return Err(fault);
     }

@@ -2,8 +2,14 @@ use Rattle.std.proofs.Common.{sym, subst}
 use Rattle.sccs_base.specs.Cut.{cut}
 use Rattle.sccs_versions.specs.Coming.{ComeFirst}
 use Rattle.sccs_versions.specs.WasRead.{ReadsOn}
-use Rattle.sccs_printing.proofs.GivingLaws.{run_cut, run_given, some_read}
+use Rattle.sccs_printing.proofs.GivingLaws.{moved_none, run_cut, run_given, some_none, some_read}
 use Rattle.sccs_printing.proofs.givings.give_run.Goals as goal
+
+pub returns-then-count-eq0-clause-gives : goal.returns-then-count-eq0-clause-gives
+returns-then-count-eq0-clause-gives g c = λ file lines p. moved_none file c.args.version.now lines c.args.giving.now _ p
+
+pub returns-then-count-eq0-clause-read : goal.returns-then-count-eq0-clause-read
+returns-then-count-eq0-clause-read g c = λ live before h. some_none live c.args.version.now before c.args.giving.now _ h
 
 pub returns-in-Err-clause-gives : goal.returns-in-Err-clause-gives
 returns-in-Err-clause-gives g c = λ file lines p.
