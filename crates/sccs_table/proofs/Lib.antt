@@ -3,3 +3,4 @@ pub mod FileLaws
 pub mod FrontLaws
 pub mod ReaderLaws
 pub mod RunLaws
+pub mod SumLaws
