@@ -55,6 +55,7 @@ fn place_of(regions: &[Region], serial: u16) -> Result<usize, usize>
 }
 
 // opens a region, in the place of an open one of its serial
+#[inline(always)]
 fn open(regions: &mut Vec<Region>, region: Region) -> Result<(), AllocError>
     requires { AreSorted regions.old.items }
     ensures ok { OnOk result (regions.new.items ≡ opened region regions.old.items) }
@@ -73,6 +74,7 @@ fn open(regions: &mut Vec<Region>, region: Region) -> Result<(), AllocError>
 }
 
 // closes the region of a serial
+#[inline(always)]
 fn close(regions: &mut Vec<Region>, serial: u16)
     requires { AreSorted regions.old.items }
     ensures { regions.new.items ≡ closed serial regions.old.items }
@@ -83,6 +85,7 @@ fn close(regions: &mut Vec<Region>, serial: u16)
 }
 
 // opens or closes the region of an item's serial
+#[inline(always)]
 fn take(regions: &mut Vec<Region>, item: &Item, applied: &Applied) -> Result<(), AllocError>
     requires { AreSorted regions.old.items }
     ensures ok { OnOk result (regions.new.items ≡ behind applied.now item.now regions.old.items) }
@@ -149,6 +152,7 @@ pub fn keeps(regions: &[Region]) -> bool
 
 /// Opens or closes the region of an item's serial, and answers what `keeps` then says; before, it
 /// said `keep`. At want of memory nothing changes.
+#[inline(always)]
 pub fn take_item(
     regions: &mut Vec<Region>,
     keep: bool,
