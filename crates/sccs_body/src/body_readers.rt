@@ -76,6 +76,7 @@ fn goes_on(state: &mut BodyState, item: &Item) -> Result<bool, Memory>
 }
 
 // the item that a line is, where one may stand; the state then goes on behind it
+#[inline(never)]
 fn next_item(alloc: Global, state: &mut BodyState, line: &[u8]) -> Result<Option<Item>, Memory>
     requires { HasNoLf line.now }
     ensures { (live : List ℕ) (before : List Item) → Knows live before state.old → TakesItem live before state.new line.now result }
@@ -97,6 +98,7 @@ fn is_empty(line: &[u8]) -> bool
 }
 
 // whether a body may end where these bytes are left
+#[inline(never)]
 fn ends_with(state: &BodyState, line: &[u8]) -> bool
     ensures { (live : List ℕ) (before : List Item) → Knows live before state.now
         → result ≡ (is_over before && is_empty line.now) }
@@ -213,7 +215,7 @@ impl BodyReader {
     }
 
     // the next item, however its line is spelled and held
-    #[inline(never)]
+    #[inline(always)]
     fn read_next<D: Disk>(&mut self, disk: &mut D) -> Result<Option<Item>, FileFault>
         ensures frame { ReadsOn D.told D.faults disk.old disk.new self.old.lines self.new.lines result }
         ensures first { IsFirst result }
