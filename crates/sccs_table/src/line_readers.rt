@@ -73,6 +73,7 @@ fn read_piece<D: Disk>(
 }
 
 // how many of so few bytes are LF; a byte counts them, so that many are compared at once
+#[inline(always)]
 fn few_lines(bytes: &[u8]) -> u8
     requires { length bytes.now ≤ 255 }
     ensures { result ≡ lf_count bytes.now }
@@ -92,12 +93,12 @@ fn lines_in(bytes: &[u8]) -> u64
 {
     let mut count = 0;
     let mut rest = bytes;
-    'parts: while !rest.is_empty() {
-        let (part, behind) = rest.split_at(rest.len().min(192));
+    'parts: while rest.len() >= 192 {
+        let (part, behind) = rest.split_at(192);
         count += u64::from(few_lines(part));
         rest = behind;
     }
-    count
+    count + u64::from(few_lines(rest))
 }
 
 fn begins_with_soh(bytes: &[u8]) -> bool
