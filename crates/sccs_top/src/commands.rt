@@ -8,6 +8,7 @@ ghost use Rattle.sccs_steps.specs.Running.{RunsOperands};
 ghost use Rattle.sccs_steps.specs.Settings.{SameLoans, setting, setting_of};
 ghost use Rattle.sccs_steps.specs.declared.faults.Fault.TheVariants as ends;
 ghost use Rattle.sccs_top.specs.Listing.{action_in, words_of};
+ghost use Rattle.sccs_top.specs.Unbuilt.{unbuilt};
 ghost use Rattle.sccs_top.specs.Runs.{MakesSteps, SpeaksWords, StopsSteps, UnlockedSteps, action_of, caller, get_in, has_heading, is_silent, made_by, only_reads, operands_of, takes_input};
 
 use crate::answers::Answer;
@@ -90,6 +91,13 @@ fn get_of<'a>(
     }
 }
 
+// what isn't built yet
+fn unbuilt<'a>(any: bool, takes: bool) -> Known<'a>
+    ensures { action_in result ≡ unbuilt any takes }
+{
+    Known::Unbuilt(Unbuilt { any, takes })
+}
+
 fn utility_of<'a>(command: &'a Command, stamp: &'a Stamp, place: &'a Line) -> Known<'a>
     requires values { HasValidValues command.now }
     requires moment { IsMoment stamp.now.moment }
@@ -102,10 +110,7 @@ fn utility_of<'a>(command: &'a Command, stamp: &'a Stamp, place: &'a Line) -> Kn
                     change: Admin { words, stamp },
                 })
             } else {
-                Known::Unbuilt(Unbuilt {
-                    any: false,
-                    takes: false,
-                })
+                unbuilt(false, false)
             }
         }
         Command::Get(words, operands) => get_of(words, operands, stamp, place),
@@ -123,18 +128,9 @@ fn utility_of<'a>(command: &'a Command, stamp: &'a Stamp, place: &'a Line) -> Kn
             heading: has_heading(operands),
         }),
         Command::Recover(_) => Known::Recover(Recover),
-        Command::What(_, _) => Known::Unbuilt(Unbuilt {
-            any: true,
-            takes: false,
-        }),
-        Command::Val(_) | Command::Batch | Command::Soak(_) => Known::Unbuilt(Unbuilt {
-            any: true,
-            takes: true,
-        }),
-        _ => Known::Unbuilt(Unbuilt {
-            any: false,
-            takes: false,
-        }),
+        Command::What(_, _) => unbuilt(true, false),
+        Command::Val(_) | Command::Batch | Command::Soak(_) => unbuilt(true, true),
+        _ => unbuilt(false, false),
     }
 }
 
