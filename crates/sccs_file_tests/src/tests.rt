@@ -5,4 +5,5 @@ mod gfiles;
 mod operands;
 mod pfile;
 mod recovery;
+mod samples;
 mod writers;

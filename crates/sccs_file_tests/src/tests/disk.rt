@@ -1,11 +1,8 @@
+use crate::tests::samples::name;
 use sccs_base::{Failed, Name};
 use sccs_disk::*;
 use std::alloc::Global;
 use std::test::Fail;
-
-fn name(bytes: &[u8]) -> Result<Name, Fail> {
-    Ok(Name::read(bytes).ok_or("a name")?)
-}
 
 // what a call changes of a file
 #[derive(Clone, Copy)]

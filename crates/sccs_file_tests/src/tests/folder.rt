@@ -1,3 +1,4 @@
+use crate::tests::samples::name;
 use sccs_base::{Failed, Name};
 use sccs_disk::{Creation, Disk, DiskRefusal};
 use sccs_folder::*;
@@ -6,10 +7,6 @@ use std::rt::Files;
 use std::test::Fail;
 
 // the names of a test are its own, since tests share a folder
-fn name(text: &[u8]) -> Result<Name, Fail> {
-    Ok(Name::read(text).ok_or("a name")?)
-}
-
 // whether a file is new, and has these bytes then
 fn put(disk: &mut FolderDisk<HostRuntime>, name: &Name, bytes: &[u8]) -> bool {
     let _ = disk.remove(name);

@@ -1,3 +1,4 @@
+use crate::tests::samples::name;
 use sccs_base::Name;
 use sccs_disk::{Disk, Fill, MemoryDisk};
 use sccs_gfiles::*;
@@ -12,10 +13,6 @@ const NEW: &[u8] = b"new line\n";
 const S_FILE: &[u8] = b"the s-file\n";
 
 const P_FILE: &[u8] = b"the p-file\n";
-
-fn name(bytes: &[u8]) -> Result<Name, Fail> {
-    Ok(Name::read(bytes).ok_or("a name")?)
-}
 
 // a disk with an s-file and a p-file, and with a g-file where its bytes are given
 fn folder(alloc: Global, g_file: Option<&[u8]>, failing: &[u64]) -> Result<MemoryDisk, Fail> {
