@@ -42,10 +42,10 @@ fn with_mr(mut entry: Entry, line: Line) -> Result<Entry, FrontFault>
 }
 
 // the entry with a comment more
-fn with_comment(mut entry: Entry, line: Line) -> Result<Entry, FrontFault>
+fn with_comment(alloc: Global, mut entry: Entry, line: Line) -> Result<Entry, FrontFault>
     ensures { Accepts result (Ok (with_comment entry line)) }
 {
-    match entry.row.push_comment(line) {
+    match entry.row.push_comment(alloc, line) {
         Ok(()) => Ok(entry),
         Err(_) => Err(FrontFault::Memory),
     }
@@ -77,7 +77,7 @@ fn in_texts(
 {
     match token {
         LineToken::Mr(line) => Ok(HeaderState::InTexts(with_mr(entry, line)?)),
-        LineToken::Comment(line) => Ok(HeaderState::InTexts(with_comment(entry, line)?)),
+        LineToken::Comment(line) => Ok(HeaderState::InTexts(with_comment(alloc, entry, line)?)),
         LineToken::EndEntry => end_entry(alloc, parts, entry),
         token => refuse_entry(number, entry, token),
     }

@@ -1,9 +1,17 @@
 ghost use Rattle.std.specs.Prelude.{◌≡◌, [], ◌∷◌, ◌++◌, IfOk, OnOk};
 
-use sccs_base::{Line, Memory};
+use sccs_base::{Line, Memory, Text};
 use sccs_history::{Record, Serials};
 use std::alloc::Global;
 use std::marker::Model;
+
+// a text of a line, with no more room than that takes
+fn one_line(alloc: Global, line: Line) -> Result<Text, Memory>
+    ensures { IfOk result (λ text. text ≡ line ∷ []) }
+{
+    let lines = vec![in alloc; line]?;
+    Ok(Text::from_vec(lines))
+}
 
 /// A record in a place of its own, so that what holds it is small and is moved quickly. Contracts see
 /// the record.
@@ -82,9 +90,13 @@ impl BoxedRecord {
     }
 
     /// Puts a comment behind the others.
-    pub fn push_comment(&mut self, line: Line) -> Result<(), Memory>
+    pub fn push_comment(&mut self, alloc: Global, line: Line) -> Result<(), Memory>
         ensures { OnOk result (self.new ≡ record self.old { comments = self.old.comments ++ line ∷ [] }) }
     {
+        if self.boxed.comments.items().is_empty() {
+            self.boxed.comments = one_line(alloc, line)?;
+            return Ok(());
+        }
         self.boxed.comments.push(line)
     }
 }
