@@ -19,13 +19,13 @@ ghost use Rattle.sccs_printing.specs.Giving.{GivesAll, GivesMore, GivesRun, Keep
 ghost use Rattle.sccs_printing.specs.Printing.{file_checks};
 ghost use Rattle.sccs_printing.specs.Targets.{CanTake, GivesTo, IsApart, KeepsMark, Reaches, Spares, file_of, got, held_back};
 
-use crate::counts::lines_in;
 use crate::shown::Shown;
 use crate::targets::{Target, put};
 use sccs_base::{Line, Sink};
 use sccs_disk::Disk;
 use sccs_history::Record;
 use sccs_sid::StepFault;
+use sccs_table::lines_in;
 use sccs_texts::{HeldLine, LineForm, SidFinder, give_line, give_lines};
 use sccs_versions::{Next, VersionReader};
 use std::alloc::Global;

@@ -1,7 +1,6 @@
 //! The text of a version, in any form, given to a sink or written into the y-file of a name.
 #![tactic(auto)]
 
-mod counts;
 mod givings;
 mod keyword_search;
 mod printing;

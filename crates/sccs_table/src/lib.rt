@@ -1,10 +1,12 @@
 //! The header of an s-file: its lines read from a disk in pieces, and the sums of its bytes.
 #![tactic(auto)]
 
+mod counts;
 mod fronts;
 mod line_readers;
 mod sums;
 
+pub use counts::lines_in;
 pub use fronts::{
     Front, check_front, check_sum, is_encoded, open_file, read_header, read_lines, read_sum,
 };

@@ -8,6 +8,7 @@ ghost use Rattle.sccs_table.specs.SumOf.{IsSumOf};
 ghost use Rattle.sccs_table.specs.FrontFile.{IsOuter, ReadsBytes, ReadsOn};
 ghost use Rattle.sccs_table.specs.ReaderState.{StandsIn, Stays, Takes, TakesLine, bytes_in};
 
+use crate::counts::lines_in;
 use crate::sums::{PlainSum, Sum};
 use memchr::{memchr, memrchr};
 use sccs_base::{FILE_LIMIT, Failed, Memory, Name};
@@ -70,35 +71,6 @@ fn read_piece<D: Disk>(
 {
     let count = disk.read_at(name, from, &mut piece[..room])?;
     Ok(count.unwrap_or(0))
-}
-
-// how many of so few bytes are LF; a byte counts them, so that many are compared at once
-#[inline(always)]
-fn few_lines(bytes: &[u8]) -> u8
-    requires { length bytes.now ≤ 255 }
-    ensures { result ≡ lf_count bytes.now }
-{
-    let mut count = 0;
-    for byte in bytes {
-        if *byte == b'\n' {
-            count += 1;
-        }
-    }
-    count
-}
-
-// how many bytes are LF
-fn lines_in(bytes: &[u8]) -> u64
-    ensures { result ≡ lf_count bytes.now }
-{
-    let mut count = 0;
-    let mut rest = bytes;
-    'parts: while rest.len() >= 192 {
-        let (part, behind) = rest.split_at(192);
-        count += u64::from(few_lines(part));
-        rest = behind;
-    }
-    count + u64::from(few_lines(rest))
 }
 
 fn begins_with_soh(bytes: &[u8]) -> bool

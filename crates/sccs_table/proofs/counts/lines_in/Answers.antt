@@ -1,6 +1,6 @@
 use Rattle.std.proofs.Common.{◌∙◌, arith}
 use Rattle.sccs_table.proofs.RunLaws.{lf_count_bound, parts_on}
-use Rattle.sccs_table.proofs.line_readers.lines_in.Goals as goal
+use Rattle.sccs_table.proofs.counts.lines_in.Goals as goal
 
 pub parts-preserved : goal.parts-preserved
 parts-preserved c =

@@ -1,6 +1,6 @@
 use Rattle.std.proofs.Common.{◌≡◌, ◌+◌, ◌≤◌, length}
 use Rattle.sccs_table.specs.Runs.{lf_count}
-use Rattle.sccs_table.proofs.line_readers.lines_in.Given as goal
+use Rattle.sccs_table.proofs.counts.lines_in.Given as goal
 
 -- the LFs so far and those of the rest are all
 abbrev pub invariant-parts : goal.invariant-parts

@@ -1,6 +1,6 @@
 use Rattle.std.proofs.Common.{◌≡◌, ◌≤◌, take}
 use Rattle.sccs_table.specs.Runs.{lf_count}
-use Rattle.sccs_printing.proofs.counts.few_lines.Given as goal
+use Rattle.sccs_table.proofs.counts.few_lines.Given as goal
 
 -- the LFs so far, no more than the bytes so far
 abbrev pub invariant-loop-byte : goal.invariant-loop-byte
