@@ -4,11 +4,11 @@ use sccs_disk::*;
 use std::alloc::Global;
 use std::test::Fail;
 
-// what a call changes of a file
+// what a call changes of a file: three bytes more, another second byte
 #[derive(Clone, Copy)]
 enum FileChange {
-    Append(&'static [u8]),
-    WriteAt(u64, &'static [u8]),
+    Append,
+    WriteOver,
     Protect,
     Sync,
 }
@@ -28,8 +28,8 @@ fn replacement() -> Result<[Change; 7], Fail> {
     let (old, new) = (name(b"s.a")?, name(b"x.a")?);
     Ok([
         Change::Create(new),
-        Change::File(new, FileChange::Append(b"abc")),
-        Change::File(new, FileChange::WriteAt(1, b"B")),
+        Change::File(new, FileChange::Append),
+        Change::File(new, FileChange::WriteOver),
         Change::File(new, FileChange::Protect),
         Change::File(new, FileChange::Sync),
         Change::Rename(new, old),
@@ -44,12 +44,8 @@ fn change_file<D: Disk>(disk: &mut D, name: &Name, change: &FileChange) -> bool 
         return false;
     };
     match change {
-        FileChange::Append(bytes) => disk.append(name, bytes).is_ok(),
-        FileChange::WriteAt(from, bytes) => {
-            *from <= size
-                && bytes.len() as u64 <= size - *from
-                && disk.write_at(name, *from, bytes).is_ok()
-        }
+        FileChange::Append => disk.append(name, b"abc").is_ok(),
+        FileChange::WriteOver => size >= 2 && disk.write_at(name, 1, b"B").is_ok(),
         FileChange::Protect => disk.protect(name).is_ok(),
         FileChange::Sync => disk.sync(name).is_ok(),
     }
