@@ -13,6 +13,7 @@ pub mod HeaderLaws
 pub mod ItemLines
 pub mod LineLaws
 pub mod LinesKeep
+pub mod LongSerialLaws
 pub mod NoLf
 pub mod NumberLaws
 pub mod SerialFieldLaws

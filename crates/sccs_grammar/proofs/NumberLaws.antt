@@ -16,7 +16,7 @@ abbrev pub Stops : List ℕ → Type 0
 Stops [] = Unit {0}
 Stops (b ∷ bytes) = (b < 48) ⊎ (57 < b)
 
-stops_at : (most high b : ℕ) (bytes : List ℕ) → (b < 48) ⊎ (57 < b) → digits_after most high (b ∷ bytes) ≡ (high, b ∷ bytes)
+pub stops_at : (most high b : ℕ) (bytes : List ℕ) → (b < 48) ⊎ (57 < b) → digits_after most high (b ∷ bytes) ≡ (high, b ∷ bytes)
 unfolding digits_after
 stops_at zero high b bytes other = refl
 stops_at (suc most) high b bytes (inl low) = rw (lt-ltb b 48 low) refl
@@ -28,7 +28,7 @@ stops zero high [] ends = refl
 stops (suc most) high [] ends = refl
 stops most high (b ∷ rest) ends = stops_at most high b rest ends
 
-digit_more : (most high c : ℕ) (bytes : List ℕ) → IsInRange 48 57 c → digits_after (suc most) high (c ∷ bytes) ≡ digits_after most (high * 10 + (c - 48)) bytes
+pub digit_more : (most high c : ℕ) (bytes : List ℕ) → IsInRange 48 57 c → digits_after (suc most) high (c ∷ bytes) ≡ digits_after most (high * 10 + (c - 48)) bytes
 unfolding digits_after
 digit_more most high c bytes digit =
     rw (le-ltb c 48 (omega arith), le-ltb 57 c (omega arith)) refl
@@ -44,7 +44,7 @@ digits_all (suc most) high (c ∷ ds) rest are room ends =
     digit_more most high c (ds ++ rest) digit
     ∙ (ap (λ n. digits_after most (high * 10 + n) (ds ++ rest)) (digit_is c digit) ∙ digits_all most (high * 10 + digit_value c) ds rest are.1 (omega arith) ends)
 
-number_first : (most c : ℕ) (bytes : List ℕ) → IsInRange 48 57 c → number_at most (c ∷ bytes) ≡ Ok (digits_after (most - 1) (c - 48) bytes)
+pub number_first : (most c : ℕ) (bytes : List ℕ) → IsInRange 48 57 c → number_at most (c ∷ bytes) ≡ Ok (digits_after (most - 1) (c - 48) bytes)
 unfolding number_at
 number_first most c bytes digit = rw (le-ltb c 48 (omega arith), le-ltb 57 c (omega arith)) refl
 

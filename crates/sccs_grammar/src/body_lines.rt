@@ -1,9 +1,10 @@
 //! The lines of a body.
-ghost use Rattle.std.specs.Prelude.{◌≡◌, ◌≢◌, ◌∷◌, ◌++◌, ◌+◌, ◌&&◌, List, ℕ, Some, length, nat_lt, not, option_map, decimal, IfOk, IfSome};
+ghost use Rattle.std.specs.Prelude.{◌≡◌, ◌≢◌, ◌∷◌, ◌++◌, ◌+◌, ◌<◌, ◌≤◌, ◌&&◌, IsTrue, List, ℕ, Ok, Some, drop, length, nat_lt, not, option_map, decimal, IfOk, IfSome};
 ghost use Rattle.sccs_base.specs.Cut.{HasNoLf};
 ghost use Rattle.sccs_grammar.specs.Items.{IsWrittenItem, IsWrittenSerial, item_behind, item_for, item_read};
 ghost use Rattle.sccs_grammar.specs.Written.{IsSerial};
 ghost use Rattle.sccs_grammar.specs.Tokens.{serial_field as place_spec};
+ghost use Rattle.sccs_sid.specs.Reading.{digits_after, number_at as number_spec};
 ghost use Rattle.sccs_sid.specs.SidLists.{begins};
 
 use crate::fields::{line_of, serial_field};
@@ -90,9 +91,8 @@ fn is_written(n: u32, bytes: &[u8], rest: &[u8]) -> bool
     0 < n && (n < 65536 && (begins_with(b'\n', rest) && !begins_with(b'0', bytes)))
 }
 
-// a serial as it is written, before LF, and how many bytes it has
-#[inline(always)]
-fn written_serial(bytes: &[u8]) -> Option<(u16, usize)>
+// a serial as it is written, of one to five digits, before LF, and how many bytes it has
+fn any_serial(bytes: &[u8]) -> Option<(u16, usize)>
     ensures sound { IfSome result (λ x. IsWrittenSerial bytes.now x.0 x.1) }
     ensures again { (n : ℕ) (rest : List ℕ) → IsSerial n → bytes.now ≡ decimal n ++ 10 ∷ rest → result ≡ Some (n, length (decimal n)) }
 {
@@ -104,6 +104,84 @@ fn written_serial(bytes: &[u8]) -> Option<(u16, usize)>
     } else {
         None
     }
+}
+
+// the value of a digit; of another byte 10 or more
+#[inline(always)]
+fn digit(byte: u8) -> u32
+    ensures value { result < 10 → byte ≡ 48 + result }
+    ensures small { result < 256 }
+{
+    u32::from(byte.wrapping_sub(b'0'))
+}
+
+// whether four values are of digits, the first of them not of 0
+#[inline(always)]
+fn are_digits(a: u32, b: u32, c: u32, d: u32) -> bool
+    ensures { IsTrue result → (0 < a) × (a < 10) × (b < 10) × (c < 10) × (d < 10) }
+{
+    (a > 0) & (a < 10) & (b < 10) & (c < 10) & (d < 10)
+}
+
+// the number that four digits begin, the first of them not 0
+#[inline(always)]
+fn four_digits(a: u8, b: u8, c: u8, d: u8) -> Option<u32>
+    ensures read { IfSome result (λ n. (rest : List ℕ) → number_spec 5 (a ∷ b ∷ c ∷ d ∷ rest) ≡ Ok (digits_after 1 n rest)) }
+    ensures small { IfSome result (λ n. (0 < n) × (n < 10000)) }
+    ensures plain { IfSome result (λ n. a ≢ 48) }
+{
+    let (a, b, c, d) = (digit(a), digit(b), digit(c), digit(d));
+    if are_digits(a, b, c, d) {
+        Some(a * 1000 + b * 100 + c * 10 + d)
+    } else {
+        None
+    }
+}
+
+// the number with the next byte, where that is a digit; the byte behind it, and how many digits were taken
+#[inline(always)]
+fn with_digit(four: u32, e: u8, f: u8) -> (u32, u8, usize)
+    requires { four < 10000 }
+    ensures read { (rest : List ℕ) → result.1 ≡ 10 → digits_after 1 four (e ∷ f ∷ rest) ≡ (result.0, 10 ∷ drop result.2 (f ∷ rest)) }
+    ensures count { result.2 ≤ 1 }
+    ensures more { four ≤ result.0 }
+{
+    let last = digit(e);
+    if last < 10 {
+        (four * 10 + last, f, 1)
+    } else {
+        (four, e, 0)
+    }
+}
+
+// a serial of four or five digits before LF; the digits decide no branch, since their number is hard to foresee
+#[inline(always)]
+fn long_serial(bytes: &[u8]) -> Option<(u16, usize)>
+    ensures sound { IfSome result (λ x. IsWrittenSerial bytes.now x.0 x.1) }
+    ensures again { IfSome result (λ x. (n : ℕ) (rest : List ℕ) → IsSerial n → bytes.now ≡ decimal n ++ 10 ∷ rest → x ≡ (n, length (decimal n))) }
+{
+    let [a, b, c, d, e, f, ..] = bytes else {
+        return None;
+    };
+    let four = four_digits(*a, *b, *c, *d)?;
+    let (n, end, more) = with_digit(four, *e, *f);
+    if (end == b'\n') & (n < 65536) {
+        Some((n as u16, 4 + more))
+    } else {
+        None
+    }
+}
+
+// a serial as it is written, before LF, and how many bytes it has
+#[inline(always)]
+fn written_serial(bytes: &[u8]) -> Option<(u16, usize)>
+    ensures sound { IfSome result (λ x. IsWrittenSerial bytes.now x.0 x.1) }
+    ensures again { (n : ℕ) (rest : List ℕ) → IsSerial n → bytes.now ≡ decimal n ++ 10 ∷ rest → result ≡ Some (n, length (decimal n)) }
+{
+    if let Some(found) = long_serial(bytes) {
+        return Some(found);
+    }
+    any_serial(bytes)
 }
 
 // the item of a letter with a serial

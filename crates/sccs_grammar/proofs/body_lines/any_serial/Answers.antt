@@ -1,6 +1,6 @@
 use Rattle.std.proofs.Common.{◌-◌, ◌∙◌, length, decimal, sym, arith}
 use Rattle.sccs_grammar.proofs.ControlLaws.{clash, count_is, no_fault, same_serial, some_pair, test_holds, written_so}
-use Rattle.sccs_grammar.proofs.body_lines.written_serial.Goals as goal
+use Rattle.sccs_grammar.proofs.body_lines.any_serial.Goals as goal
 
 pub returns-in_default-clause-again : goal.returns-in_default-clause-again
 returns-in_default-clause-again c = λ n rest is at. no_fault n c.in_default.field-0 rest c.args.bytes.now is at c.in_default.ensures.value
