@@ -18,7 +18,7 @@ pub share-any : (ms ns : List ℕ) → list_any (λ m. has ns m) ms ≡ share ms
 share-any [] ns = refl
 share-any (m ∷ ms) ns = ap (λ rest. has ns m || rest) (share-any ms ns)
 
-serials-any : (records : List Record) (n : ℕ) → list_any (λ r. r.serial == n) records ≡ has (serials_of records) n
+pub serials-any : (records : List Record) (n : ℕ) → list_any (λ r. r.serial == n) records ≡ has (serials_of records) n
 serials-any [] n = refl
 serials-any (r ∷ records) n = ap (λ rest. r.serial == n || rest) (serials-any records n)
 

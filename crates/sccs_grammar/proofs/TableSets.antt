@@ -1,4 +1,4 @@
--- The sets of serials and of SIDs that a table keeps.
+-- The set of SIDs that a table keeps.
 use Rattle.std.proofs.Common.{◌≡◌, ℕ, ◌==◌, Bool, true, false, not, cond, ◌&&◌, ◌||◌, List, [], ◌∷◌, ◌++◌, refl, sym, ap, ◌∙◌, rules}
 use Rattle.std.specs.Ordering.{is_eq, nat_cmp, ordering_then}
 use Rattle.std.specs.declared.cmp.Ordering.{Ordering}
@@ -6,12 +6,10 @@ use Rattle.std.specs.declared.cmp.Ordering.TheVariants.{Less, Equal, Greater}
 use Rattle.std.specs.BTreeSet.{BTreeSet, Updates, contains}
 use Rattle.std.proofs.lemmas.List.Folds.{list_any-append}
 use Rattle.sccs_sid.specs.declared.sids.Sid.{Sid}
-use Rattle.sccs_history.specs.Applied.{serials_of}
 use Rattle.sccs_history.specs.History.{lives, same_sid}
-use Rattle.sccs_history.specs.Numbers.{has}
 use Rattle.sccs_history.specs.declared.headers.Record.{Record}
 use Rattle.sccs_grammar.specs.SidKeys.{sid_key}
-use Rattle.sccs_grammar.specs.HeldTable.{HasSerials, HasSids, four_cmp}
+use Rattle.sccs_grammar.specs.HeldTable.{HasSids, four_cmp}
 
 -- ---- one record more
 
@@ -32,10 +30,6 @@ or_swap false false = refl
 chosen : (same there : Bool) → cond same true there ≡ (there || same)
 chosen true there = or_swap true there
 chosen false there = sym (or_none there)
-
-has_more : (rs : List Record) (r : Record) (n : ℕ) → has (serials_of (rs ++ r ∷ [])) n ≡ (has (serials_of rs) n || (r.serial == n))
-has_more [] r n = or_none (r.serial == n)
-has_more (q ∷ rs) r n = ap (λ rest. (q.serial == n) || rest) (has_more rs r n) ∙ or_assoc (q.serial == n) (has (serials_of rs) n) (r.serial == n)
 
 lives_more : (rs : List Record) (r : Record) (sid : Sid) → lives (rs ++ r ∷ []) sid ≡ (lives rs sid || (not r.removed && same_sid r.sid sid))
 lives_more rs r sid =
@@ -72,12 +66,6 @@ sid_same a b =
     ∙ (and_assoc (r && l) n s ∙ and_assoc r l (n && s)))))))
 
 -- ---- one key more
-
-pub serials_more : (old new : BTreeSet ℕ) (rs : List Record) (r : Record) → HasSerials old rs → Updates nat_cmp old new r.serial true → HasSerials new (rs ++ r ∷ [])
-serials_more old new rs r has_old updates = λ n.
-    updates.0 n ∙ (ap (λ same. cond same true (contains nat_cmp old n)) (nat_same r.serial n)
-    ∙ (chosen (r.serial == n) (contains nat_cmp old n)
-    ∙ (ap (λ there. there || (r.serial == n)) (has_old n) ∙ sym (has_more rs r n))))
 
 pub sids_more : (old new : BTreeSet (ℕ × ℕ × ℕ × ℕ)) (rs : List Record) (r : Record) → HasSids old rs → r.removed ≡ false → Updates four_cmp old new (sid_key r.sid) true → HasSids new (rs ++ r ∷ [])
 sids_more old new rs r has_old live updates = λ sid.

@@ -1,13 +1,11 @@
 //! The delta table as far as it was read, with what makes its rules quick to judge.
-ghost use Rattle.std.specs.Prelude.{◌≡◌, ℕ, ◌<◌, List, [], ◌∷◌, ◌++◌, length, Ok, IfOk};
-ghost use Rattle.std.specs.Ordering.{nat_cmp};
-ghost use Rattle.std.specs.BTreeSet.{contains};
+ghost use Rattle.std.specs.Prelude.{◌≡◌, ◌<◌, true, List, [], ◌∷◌, ◌++◌, length, IsTrue, Ok, IfOk};
 ghost use Rattle.sccs_history.specs.Applied.{serials_of};
 ghost use Rattle.sccs_history.specs.History.{lives};
 ghost use Rattle.sccs_history.specs.Numbers.{has};
 ghost use Rattle.sccs_grammar.specs.Entries.{no_entries, with_entry};
 ghost use Rattle.sccs_grammar.specs.Front.{Accepts, dangling_predecessor, may_follow};
-ghost use Rattle.sccs_grammar.specs.HeldTable.{HasSerials, HasSids};
+ghost use Rattle.sccs_grammar.specs.HeldTable.{HasSids};
 ghost use Rattle.sccs_grammar.specs.SidKeys.{sid_key};
 
 use crate::header_parsers::{Entry, FrontFault};
@@ -25,8 +23,7 @@ use std::marker::Model;
 pub struct Table {
     records: Records,
     lines: ListOf<u64>,
-    // the serials, and the SIDs of live records
-    serials: BTreeSet<u16, Global>,
+    // the SIDs of live records
     sids: BTreeSet<(u16, u16, u16, u16), Global>,
 }
 
@@ -48,43 +45,56 @@ fn sid_key(sid: &Sid) -> (u16, u16, u16, u16)
     (sid.release, sid.level, sid.branch, sid.sequence)
 }
 
-// whether a number is 0 or among the serials
-fn has_serial(serials: &BTreeSet<u16, Global>, n: u16) -> bool
-    ensures { (table : List ℕ) → ((m : ℕ) → contains nat_cmp serials.now m ≡ has table m)
-        → result ≡ has (0 ∷ table) n }
+// whether the record at a place, where one stands there, has the serial
+fn has_at(table: &[Record], at: usize, n: u16) -> bool
+    ensures { IsTrue result → has (0 ∷ serials_of table.now) n ≡ true }
 {
-    n == 0 || serials.contains(&n)
+    match table.get(at) {
+        Some(record) => record.serial == n,
+        None => false,
+    }
 }
 
-// whether a number is 0 or the serial of a record. The record behind a place is looked at
-// first: its serial is mostly the predecessor of the record at that place.
-fn is_there(serials: &BTreeSet<u16, Global>, table: &[Record], at: usize, n: u16) -> bool
-    requires kept { HasSerials serials.now table.now }
-    requires within { at < length table.now }
+// whether a search by halves finds the serial, as it does where the serials fall and it is among them
+fn is_found(table: &[Record], n: u16) -> bool
+    ensures { IsTrue result → has (0 ∷ serials_of table.now) n ≡ true }
+{
+    match table.binary_search_by(|record| n.cmp(&record.serial)) {
+        Ok(at) => has_at(table, at, n),
+        Err(_) => false,
+    }
+}
+
+// whether a number is among the serials, in whatever order they stand
+#[inline(never)]
+fn is_among(table: &[Record], n: u16) -> bool
+    ensures { result ≡ has (serials_of table.now) n }
+{
+    table.iter().any(|record| record.serial == n)
+}
+
+// whether a number is 0 or the serial of a record. The record behind a place is looked at first: its
+// serial is mostly the predecessor of the record at that place. All of them are looked at where a table
+// whose serials fall hasn't the number, so once at most, for there the reading of it ends.
+fn is_there(table: &[Record], at: usize, n: u16) -> bool
+    requires { at < length table.now }
     ensures { result ≡ has (0 ∷ serials_of table.now) n }
 {
-    if let Some(next) = table.get(at + 1) {
-        if next.serial == n {
-            return true;
-        }
+    if has_at(table, at + 1, n) || is_found(table, n) {
+        return true;
     }
-    has_serial(serials, n)
+    n == 0 || is_among(table, n)
 }
 
 // the delta line of the first entry whose predecessor is neither 0 nor among the serials
-fn dangling_predecessor(
-    serials: &BTreeSet<u16, Global>,
-    table: &[Record],
-    lines: &[u64],
-) -> Option<u64>
-    requires { HasSerials serials.now table.now }
+fn dangling_predecessor(table: &[Record], lines: &[u64]) -> Option<u64>
     ensures { result ≡ dangling_predecessor table.now table.now lines.now }
 {
     for (at, record) in table.iter().enumerate() {
         let Some(line) = lines.get(at) else {
             return None;
         };
-        if !is_there(serials, table, at, record.predecessor) {
+        if !is_there(table, at, record.predecessor) {
             return Some(*line);
         }
     }
@@ -99,7 +109,6 @@ impl Table {
         Table {
             records: Records::empty(alloc),
             lines: ListOf::empty(alloc),
-            serials: BTreeSet::new(alloc),
             sids: BTreeSet::new(alloc),
         }
     }
@@ -140,21 +149,7 @@ impl Table {
     pub fn dangling_predecessor(&self) -> Option<u64>
         ensures { result ≡ dangling_predecessor self.now.records self.now.records self.now.lines }
     {
-        dangling_predecessor(&self.serials, self.records.items(), self.lines.items())
-    }
-}
-
-// with the serial of a record more
-fn with_serial(
-    mut serials: BTreeSet<u16, Global>,
-    row: &Record,
-) -> Result<BTreeSet<u16, Global>, FrontFault>
-    ensures { (table : List Record) → HasSerials serials table
-        → IfOk result (λ more. HasSerials more (table ++ row.now ∷ [])) }
-{
-    match serials.insert(row.serial) {
-        Ok(_) => Ok(serials),
-        Err(_) => Err(FrontFault::Memory),
+        dangling_predecessor(self.records.items(), self.lines.items())
     }
 }
 
@@ -182,13 +177,9 @@ pub fn with_entry(table: Table, entry: Entry) -> Result<Table, FrontFault>
     let Table {
         mut records,
         mut lines,
-        serials,
         sids,
     } = table;
     let Entry { line, row } = entry;
-    let Ok(serials) = with_serial(serials, row.as_record()) else {
-        return Err(FrontFault::Memory);
-    };
     let Ok(sids) = with_sid(sids, row.as_record()) else {
         return Err(FrontFault::Memory);
     };
@@ -201,7 +192,6 @@ pub fn with_entry(table: Table, entry: Entry) -> Result<Table, FrontFault>
     Ok(Table {
         records,
         lines,
-        serials,
         sids,
     })
 }
