@@ -9,6 +9,7 @@ pub mod DeltaWords
 pub mod EntryLaws
 pub mod FaultLaws
 pub mod FileFaults
+pub mod FiveDigitLaws
 pub mod HeaderLaws
 pub mod ItemLines
 pub mod LineLaws

@@ -7,7 +7,7 @@ ghost use Rattle.sccs_grammar.specs.Tokens.{serial_field as place_spec};
 ghost use Rattle.sccs_sid.specs.Reading.{digits_after, number_at as number_spec};
 ghost use Rattle.sccs_sid.specs.SidLists.{begins};
 
-use crate::fields::{line_of, serial_field};
+use crate::fields::{digit, line_of, serial_field};
 use sccs_base::Memory;
 use sccs_history::Item;
 use sccs_sid::reading::number_at;
@@ -104,15 +104,6 @@ fn any_serial(bytes: &[u8]) -> Option<(u16, usize)>
     } else {
         None
     }
-}
-
-// the value of a digit; of another byte 10 or more
-#[inline(always)]
-fn digit(byte: u8) -> u32
-    ensures value { result < 10 → byte ≡ 48 + result }
-    ensures small { result < 256 }
-{
-    u32::from(byte.wrapping_sub(b'0'))
 }
 
 // whether four values are of digits, the first of them not of 0

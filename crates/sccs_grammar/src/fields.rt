@@ -1,5 +1,5 @@
 //! The fields of a line.
-ghost use Rattle.std.specs.Prelude.{◌≡◌, ◌<◌, ◌^◌, ◌≤◌, List, ◌∷◌, Some, length, map, option_map, IfOk, IfSome};
+ghost use Rattle.std.specs.Prelude.{◌≡◌, ◌+◌, ◌<◌, ◌^◌, ◌≤◌, List, ◌∷◌, Some, length, map, option_map, IfOk, IfSome};
 ghost use Rattle.sccs_base.specs.Cut.{HasNoLf};
 ghost use Rattle.sccs_sid.specs.Words.{words};
 ghost use Rattle.sccs_grammar.specs.Tokens.{drop_zeros, is_removed, is_set_off, listed, padded_serial, serial_field, plain_serial, predecessor, serial, serials, text};
@@ -9,6 +9,15 @@ use sccs_history::Serials;
 use sccs_sid::reading::number;
 use sccs_sid::words::{begins_blank, ends_blank, first_word, one_word, skip_blanks};
 use std::alloc::Global;
+
+/// The value of a digit; of another byte 10 or more.
+#[inline(always)]
+pub fn digit(byte: u8) -> u32
+    ensures value { result < 10 → byte ≡ 48 + result }
+    ensures small { result < 256 }
+{
+    u32::from(byte.wrapping_sub(b'0'))
+}
 
 // the bytes without the zeros in front
 fn drop_zeros(bytes: &[u8]) -> &[u8]

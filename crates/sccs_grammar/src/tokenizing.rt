@@ -1,14 +1,15 @@
 //! What one line says.
-ghost use Rattle.std.specs.Prelude.{◌≡◌, ◌||◌, [], ◌∷◌, None, option_map, if◌then◌else◌, IfOk, IfSome, MatchOption};
+ghost use Rattle.std.specs.Prelude.{◌≡◌, ◌||◌, ◌<◌, [], ◌∷◌, ◌++◌, IsTrue, None, Some, option_map, if◌then◌else◌, IfOk, IfSome, MatchOption};
 ghost use Rattle.sccs_base.specs.Cut.{HasNoLf};
 ghost use Rattle.sccs_history.specs.Numbers.{is_empty};
 ghost use Rattle.sccs_sid.specs.Reading.{only};
 ghost use Rattle.sccs_sid.specs.Words.{begins_blank, drop_blanks, skip_blanks, words};
+ghost use Rattle.sccs_grammar.specs.Written.{five};
 ghost use Rattle.sccs_grammar.specs.Tokens.{behind_soh, body_control, control, counts, delta, delta_of, exactly_seven, flag, listed, part_control, token, text};
 
 use crate::boxed_records::BoxedRecord;
 use crate::fields::{
-    is_set_off, line_of, listed, predecessor, removed, serial, serial_field, text,
+    digit, is_set_off, line_of, listed, predecessor, removed, serial, serial_field, text,
 };
 use crate::line_tokens::{LineToken, ListKind};
 use sccs_base::{Line, Login, Memory, Text};
@@ -185,10 +186,60 @@ fn alone(bytes: &[u8], token: LineToken) -> Option<LineToken>
     if bytes.is_empty() { Some(token) } else { None }
 }
 
-// what a statistics line says behind its letter
+// whether all are values of digits
+#[inline(always)]
+fn are_digits(a: u32, b: u32, c: u32, d: u32, e: u32) -> bool
+    ensures { IsTrue result → (a < 10) × (b < 10) × (c < 10) × (d < 10) × (e < 10) }
+{
+    (a < 10) & (b < 10) & (c < 10) & (d < 10) & (e < 10)
+}
+
+// the number of five digits, and the bytes behind them
+#[inline(always)]
+fn five_digits(bytes: &[u8]) -> Option<(u32, &[u8])>
+    ensures { IfSome result (λ x. (x.0 < 100000) × (bytes.now ≡ five x.0 ++ x.1.now)) }
+{
+    let [a, b, c, d, e, rest @ ..] = bytes else {
+        return None;
+    };
+    let (a, b, c, d, e) = (digit(*a), digit(*b), digit(*c), digit(*d), digit(*e));
+    if are_digits(a, b, c, d, e) {
+        Some((a * 10000 + b * 1000 + c * 100 + d * 10 + e, rest))
+    } else {
+        None
+    }
+}
+
+// the bytes behind this one
+#[inline(always)]
+fn behind(wanted: u8, bytes: &[u8]) -> Option<&[u8]>
+    ensures { IfSome result (λ rest. bytes.now ≡ wanted ∷ rest.now) }
+{
+    match bytes {
+        [first, rest @ ..] if *first == wanted => Some(rest),
+        _ => None,
+    }
+}
+
+// the numbers of a statistics line as it is written, with five digits each
+fn written_counts(bytes: &[u8]) -> Option<LineToken>
+    ensures { IfSome result (λ token. Some token ≡ control 115 bytes.now) }
+{
+    let word = behind(b' ', bytes)?;
+    let (inserted, rest) = five_digits(word)?;
+    let (deleted, rest) = five_digits(behind(b'/', rest)?)?;
+    let (unchanged, rest) = five_digits(behind(b'/', rest)?)?;
+    if rest.is_empty() {
+        Some(LineToken::Counts(inserted, deleted, unchanged))
+    } else {
+        None
+    }
+}
+
+// what a statistics line says behind its letter, however it is spelled
 #[inline(never)]
 #[tactic(auto, unfolding(crate::specs::Tokens::control))]
-fn counts_line(bytes: &[u8]) -> Option<LineToken>
+fn any_counts(bytes: &[u8]) -> Option<LineToken>
     ensures { result ≡ control 115 bytes.now }
 {
     if is_set_off(bytes) {
@@ -196,6 +247,17 @@ fn counts_line(bytes: &[u8]) -> Option<LineToken>
     } else {
         None
     }
+}
+
+// what a statistics line says behind its letter; mostly it is as it is written
+#[inline(never)]
+fn counts_line(bytes: &[u8]) -> Option<LineToken>
+    ensures { result ≡ control 115 bytes.now }
+{
+    if let Some(token) = written_counts(bytes) {
+        return Some(token);
+    }
+    any_counts(bytes)
 }
 
 // what a delta line says
