@@ -6,6 +6,7 @@ pub mod ControlLaws
 pub mod CutLaws
 pub mod DeltaLaws
 pub mod DeltaWords
+pub mod EightByteWords
 pub mod EntryLaws
 pub mod FaultLaws
 pub mod FileFaults

@@ -1,5 +1,5 @@
 //! What one line says.
-ghost use Rattle.std.specs.Prelude.{◌≡◌, ◌||◌, ◌<◌, [], ◌∷◌, ◌++◌, IsTrue, None, Some, option_map, if◌then◌else◌, IfOk, IfSome, MatchOption};
+ghost use Rattle.std.specs.Prelude.{◌≡◌, ◌≢◌, ◌||◌, ◌<◌, [], ◌∷◌, ◌++◌, IsTrue, None, Some, option_map, if◌then◌else◌, IfOk, IfSome, MatchOption};
 ghost use Rattle.sccs_base.specs.Cut.{HasNoLf};
 ghost use Rattle.sccs_history.specs.Numbers.{is_empty};
 ghost use Rattle.sccs_sid.specs.Reading.{only};
@@ -12,7 +12,7 @@ use crate::fields::{
     digit, is_set_off, line_of, listed, predecessor, removed, serial, serial_field, text,
 };
 use crate::line_tokens::{LineToken, ListKind};
-use sccs_base::{Line, Login, Memory, Text};
+use sccs_base::{BLANK, Line, Login, Memory, Text};
 use sccs_history::{Flag, Record, Serials};
 use sccs_sid::words::{begins_blank, drop_blanks, first_word, one_word, skip_blanks, three};
 use sccs_sid::{Moment, Sid};
@@ -30,6 +30,44 @@ struct DeltaWords<'a> {
     predecessor: &'a [u8],
 }
 
+// whether none is a blank
+#[inline(always)]
+fn are_no_blanks(a: u8, b: u8, c: u8, d: u8) -> bool
+    ensures { IsTrue result → (a ≢ 32) × (b ≢ 32) × (c ≢ 32) × (d ≢ 32) }
+{
+    (a != BLANK) & (b != BLANK) & (c != BLANK) & (d != BLANK)
+}
+
+// the first word, where that has eight bytes, stands in front and has a blank behind it, and the bytes
+// behind that
+#[inline(always)]
+fn eight_bytes(bytes: &[u8]) -> Option<(&[u8], &[u8])>
+    ensures { IfSome result (λ x. words bytes.now ≡ x.0.now ∷ words x.1.now) }
+{
+    let [a, b, c, d, e, f, g, h, last, ..] = bytes else {
+        return None;
+    };
+    let first = are_no_blanks(*a, *b, *c, *d);
+    let second = are_no_blanks(*e, *f, *g, *h);
+    if first & second & (*last == BLANK) {
+        Some((&bytes[..8], &bytes[9..]))
+    } else {
+        None
+    }
+}
+
+// the first word, and the bytes behind it; a date and a time have eight bytes
+#[inline(always)]
+fn date_word(bytes: &[u8]) -> Option<(&[u8], &[u8])>
+    ensures { MatchOption result (words bytes.now ≡ [])
+        (λ x. words bytes.now ≡ x.0.now ∷ words x.1.now) }
+{
+    if let Some(found) = eight_bytes(bytes) {
+        return Some(found);
+    }
+    first_word(bytes)
+}
+
 // exactly seven words
 fn delta_words(bytes: &[u8]) -> Option<DeltaWords<'_>>
     ensures { option_map (λ w. w.kind.now ∷ w.sid.now ∷ w.date.now ∷ w.time.now ∷ w.login.now ∷ w.serial.now ∷ w.predecessor.now ∷ []) result
@@ -37,8 +75,8 @@ fn delta_words(bytes: &[u8]) -> Option<DeltaWords<'_>>
 {
     let (kind, rest) = first_word(bytes)?;
     let (sid, rest) = first_word(rest)?;
-    let (date, rest) = first_word(rest)?;
-    let (time, rest) = first_word(rest)?;
+    let (date, rest) = date_word(rest)?;
+    let (time, rest) = date_word(rest)?;
     let (login, rest) = first_word(rest)?;
     let (serial, rest) = first_word(rest)?;
     let predecessor = one_word(rest)?;
