@@ -1,13 +1,12 @@
 -- What the open regions say of a line.
-use Rattle.std.proofs.Common.{◌≡◌, ℕ, zero, suc, max, ◌==◌, ◌<◌, ◌⊎◌, nat_lt, Bool, true, false, cond, not, ◌&&◌, ◌||◌, List, [], ◌∷◌, Option, None, Some, refl, sym, subst, ap, ◌∙◌, inl, inr, ⊎_elim, arith, eq-eqb, lt-ltb, le-ltb}
-use Rattle.std.specs.List.{AllByRecursion, find}
-use Rattle.std.proofs.lemmas.Bool.{eqb-true, ne_eqb, false≢true, cases_lt, cases_Bool}
+use Rattle.std.proofs.Common.{◌≡◌, ℕ, zero, suc, ◌==◌, ◌<◌, nat_lt, Bool, true, false, cond, not, ◌&&◌, ◌||◌, List, [], ◌∷◌, refl, sym, ap, ◌∙◌, ⊎_elim, arith, eq-eqb, lt-ltb, le-ltb}
+use Rattle.std.specs.List.{AllByRecursion}
+use Rattle.std.proofs.lemmas.Bool.{eqb-true, ne_eqb, false≢true, cases_lt}
 use Rattle.std.proofs.Math.Bool.{and-false}
 use Rattle.sccs_history.specs.Numbers.{front_if, first, has, share, Falls}
 use Rattle.sccs_history.specs.Body.{Mark, Closed, ByInsert, ByDelete, is_closed, is_insert, is_delete, mark, above, inserters, inserter, deleters, line_at}
 use Rattle.sccs_history.specs.Select.{shows}
 use Rattle.sccs_history.specs.declared.headers.Item.{Item}
-use Rattle.sccs_history.specs.declared.headers.Item.TheVariants.{Text, Insert, Delete, End}
 use Rattle.sccs_history.proofs.Falling.{falling-alike, falling-has, Falls-wider}
 use Rattle.sccs_history.proofs.OpenMarks.{mark_below}
 use Rattle.sccs_weave.specs.Regions.{AreSorted, first_insert, found, Holds, keeps, kind, Opens, serials}
@@ -159,32 +158,3 @@ shows_regions set before rs text sorted holds =
     ∙ (and_same (has set (first_insert rs)) (not (share (deleting rs) set)) (not (share (deleters before) set))
     (λ there. ap (λ ds. not (share ds set)) (sym (deleters_regions before rs sorted holds.opens (some_from_has set (first_insert rs) holds.no_zero there))))
     ∙ ap (λ i. has set i && not (share (deleters before) set)) (inserter_regions before rs sorted holds.opens))
-
--- a region by Insert is applied
-abbrev pub says_yes : Option Region → Bool
-says_yes None = false
-says_yes (Some r) = r.inserts && r.applied
-
-yes_step : (t a : Bool) (r : Region) (rest : Option Region) → r.inserts ≡ t → r.applied ≡ a → says_yes (cond (t || a) (Some r) rest) ≡ cond t a (not a && says_yes rest)
-yes_step true a r rest one two = ap (λ t. t && r.applied) one ∙ two
-yes_step false true r rest one two = ap (λ t. t && r.applied) one
-yes_step false false r rest one two = refl
-
--- the first region that is applied or by Insert decides
-pub keeps_found : (rs : List Region) → says_yes (find (λ r. r.inserts || r.applied) rs) ≡ keeps rs
-keeps_found [] = refl
-keeps_found (r ∷ rs) =
-    yes_step r.inserts r.applied r (find (λ q. q.inserts || q.applied) rs) refl refl ∙ ap (λ k. cond r.inserts r.applied (not r.applied && k)) (keeps_found rs)
-
--- the serial of a region that was found, or 0
-abbrev pub serial_of : Option Region → ℕ
-serial_of None = 0
-serial_of (Some r) = r.serial
-
-serial_step : (t : Bool) (r : Region) (rest : Option Region) → serial_of (cond t (Some r) rest) ≡ cond t r.serial (serial_of rest)
-serial_step true r rest = refl
-serial_step false r rest = refl
-
-pub first_found : (rs : List Region) → serial_of (find (λ r. r.inserts) rs) ≡ first_insert rs
-first_found [] = refl
-first_found (r ∷ rs) = serial_step r.inserts r (find (λ q. q.inserts) rs) ∙ ap (λ n. cond r.inserts r.serial n) (first_found rs)

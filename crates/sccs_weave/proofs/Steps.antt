@@ -9,7 +9,11 @@ use Rattle.sccs_history.specs.declared.headers.Item.TheVariants.{Text, Insert, D
 use Rattle.sccs_history.proofs.Falling.{Falls-wider, IsFalling-from_Falls}
 use Rattle.sccs_weave.specs.Regions.{AreSorted, behind, behind_one, found, Holds, kind, Opens, replaced, serials}
 use Rattle.sccs_weave.specs.declared.regions.Region.{Region}
-use Rattle.sccs_weave.proofs.Places.{sorted_falls}
+
+-- a bound of a sorted list
+sorted_falls : (rs : List Region) → AreSorted rs → (b : ℕ) × Falls b (serials rs)
+sorted_falls [] sorted = (0, tt)
+sorted_falls (r ∷ rs) sorted = (suc r.serial, (omega arith, sorted))
 
 same_twice : (t : Bool) (x y z : Mark) → cond t x z ≡ cond t x (cond t y z)
 same_twice true x y z = refl

@@ -1,5 +1,5 @@
 -- The regions that are open at a place of a body, the greatest serial first.
-use Rattle.std.specs.Prelude.{◌≡◌, ℕ, suc, nat_lt, ◌==◌, Bool, true, false, not, ◌&&◌, List, [], ◌∷◌, map, Option, None, Some, Result, Ok, Err, if◌then◌else◌}
+use Rattle.std.specs.Prelude.{◌≡◌, ℕ, nat_lt, ◌==◌, Bool, true, false, not, ◌&&◌, List, [], ◌∷◌, map, Option, None, Some, if◌then◌else◌}
 use Rattle.std.specs.List.{AllByRecursion}
 use Rattle.sccs_history.specs.Numbers.{has, IsFalling}
 use Rattle.sccs_history.specs.Body.{Mark, Closed, ByInsert, ByDelete, mark}
@@ -23,16 +23,6 @@ kind r = if r.inserts then ByInsert else ByDelete
 abbrev pub found : ℕ → List Region → Mark
 found n [] = Closed
 found n (r ∷ rs) = if r.serial == n then kind r else found n rs
-
--- a place one further on
-abbrev pub further : Result ℕ ℕ → Result ℕ ℕ
-further (Ok i) = Ok (suc i)
-further (Err i) = Err (suc i)
-
--- the place of a serial's region, or the one where it would stand
-abbrev pub place : ℕ → List Region → Result ℕ ℕ
-place n [] = Err 0
-place n (r ∷ rs) = if nat_lt n r.serial then further (place n rs) else (if r.serial == n then Ok 0 else Err 0)
 
 -- regions behind another one, where there is one
 abbrev pub behind_one : Option Region → List Region → List Region
@@ -78,8 +68,3 @@ first_insert (r ∷ rs) = if r.inserts then r.serial else first_insert rs
 abbrev pub keeps : List Region → Bool
 keeps [] = false
 keeps (r ∷ rs) = if r.inserts then r.applied else (not r.applied && keeps rs)
-
--- The regions are in order, and this is the answer for a line there.
-pub record IsAnswered (regions : List Region) (keep : Bool) : Type 0 where
-  pub sorted : AreSorted regions
-  pub answer : keep ≡ keeps regions

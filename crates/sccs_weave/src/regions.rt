@@ -1,8 +1,7 @@
-ghost use Rattle.std.specs.Prelude.{◌≡◌, ◌||◌, length, IfOk, IfSome, OnOk, OnErr};
-ghost use Rattle.std.specs.List.{find};
+ghost use Rattle.std.specs.Prelude.{◌≡◌, ◌≤◌, ◌↔◌, [], ◌∷◌, Some, not, ◌&&◌, length, if◌then◌else◌, IfOk, IsTrue, OnOk, OnErr};
 ghost use Rattle.std.specs.List.Sorted.{IsSearchInRange};
-ghost use Rattle.std.specs.Option.{option_copied};
-ghost use Rattle.sccs_weave.specs.Regions.{AreSorted, behind, closed, first_insert, IsAnswered, keeps, opened, place};
+ghost use Rattle.sccs_weave.specs.Regions.{AreSorted, behind, closed, first_insert, keeps, opened};
+ghost use Rattle.sccs_weave.specs.Stacks.{AreAnswered, behind_first, first_serial, IsLow, IsPlace, stacked};
 
 use sccs_history::Item;
 use sccs_sets::Applied;
@@ -16,49 +15,97 @@ pub struct Region {
     pub applied: bool,
 }
 
-// the place at the front, where a serial's region stands or would stand there
-fn front_place(regions: &[Region], serial: u16) -> Option<Result<usize, usize>>
-    ensures bound { IfSome result (λ found. IsSearchInRange found (length regions.now)) }
-    ensures place { IfSome result (λ found. found ≡ place serial regions.now) }
+// whether lines are kept in a region, where those of smaller serials say `below`
+#[inline(always)]
+fn keeps_above(region: Region, below: bool) -> bool
+    ensures { result ≡ (if region.inserts then region.applied else (not region.applied && below)) }
 {
-    let Some(first) = regions.first() else {
-        return Some(Err(0));
-    };
-    if first.serial < serial {
-        return Some(Err(0));
+    if region.inserts {
+        region.applied
+    } else {
+        !region.applied & below
     }
-    if first.serial == serial {
-        return Some(Ok(0));
+}
+
+/// Whether lines are kept: the inserter is applied, and no greater serial that is open by Delete.
+/// The greatest serial stands last.
+#[inline(always)]
+pub fn keeps(regions: &[Region]) -> bool
+    ensures { result ≡ keeps (stacked [] regions.now) }
+{
+    let mut left = regions.len();
+    'regions: while left > 0 {
+        left -= 1;
+        let region = regions[left];
+        if region.inserts | region.applied {
+            return region.inserts & region.applied;
+        }
     }
-    None
+    false
+}
+
+/// The greatest serial that is open by Insert, 0 where there is none. The greatest serial stands last.
+pub fn inserter(regions: &[Region]) -> u16
+    ensures { result ≡ first_insert (stacked [] regions.now) }
+{
+    let mut left = regions.len();
+    'regions: while left > 0 {
+        left -= 1;
+        let region = regions[left];
+        if region.inserts {
+            return region.serial;
+        }
+    }
+    0
+}
+
+// the greatest open serial
+#[inline(always)]
+fn greatest(regions: &[Region]) -> Option<u16>
+    ensures { result ≡ first_serial (stacked [] regions.now) }
+{
+    match regions.last() {
+        Some(last) => Some(last.serial),
+        None => None,
+    }
+}
+
+// whether a serial is above all that are open
+#[inline(always)]
+fn is_above(regions: &[Region], serial: u16) -> bool
+    ensures { IsTrue result ↔ IsLow serial (stacked [] regions.now) }
+{
+    match greatest(regions) {
+        Some(last) => last < serial,
+        None => true,
+    }
+}
+
+// whether it is the greatest that is open
+#[inline(always)]
+fn is_last(regions: &[Region], serial: u16) -> bool
+    ensures { IsTrue result ↔ (first_serial (stacked [] regions.now) ≡ Some serial) }
+{
+    match greatest(regions) {
+        Some(last) => last == serial,
+        None => false,
+    }
 }
 
 // the place of a serial's region, or the one where it would stand
-fn searched_place(regions: &[Region], serial: u16) -> Result<usize, usize>
-    requires { AreSorted regions.now }
-    ensures bound { IsSearchInRange result (length regions.now) }
-    ensures place { result ≡ place serial regions.now }
-{
-    regions.binary_search_by(|r| serial.cmp(&r.serial))
-}
-
-// the same; the region is mostly the first
 fn place_of(regions: &[Region], serial: u16) -> Result<usize, usize>
-    requires { AreSorted regions.now }
+    requires { AreSorted (stacked [] regions.now) }
     ensures bound { IsSearchInRange result (length regions.now) }
-    ensures place { result ≡ place serial regions.now }
+    ensures place { IsPlace serial regions.now result }
 {
-    match front_place(regions, serial) {
-        Some(place) => place,
-        None => searched_place(regions, serial),
-    }
+    regions.binary_search_by(|region| region.serial.cmp(&serial))
 }
 
-// opens a region, in the place of an open one of its serial
-#[inline(always)]
-fn open(regions: &mut Vec<Region>, region: Region) -> Result<(), AllocError>
-    requires { AreSorted regions.old.items }
-    ensures ok { OnOk result (regions.new.items ≡ opened region regions.old.items) }
+// opens a region anywhere; rarely called
+#[inline(never)]
+fn open_within(regions: &mut Vec<Region>, region: Region) -> Result<(), AllocError>
+    requires { AreSorted (stacked [] regions.old.items) }
+    ensures ok { OnOk result (stacked [] regions.new.items ≡ opened region (stacked [] regions.old.items)) }
     ensures err { OnErr result (regions.new.items ≡ regions.old.items) }
 {
     match place_of(regions, region.serial) {
@@ -73,80 +120,68 @@ fn open(regions: &mut Vec<Region>, region: Region) -> Result<(), AllocError>
     }
 }
 
+// closes the region of a serial anywhere; rarely called
+#[inline(never)]
+fn close_within(regions: &mut Vec<Region>, serial: u16)
+    requires { AreSorted (stacked [] regions.old.items) }
+    ensures { stacked [] regions.new.items ≡ closed serial (stacked [] regions.old.items) }
+{
+    match place_of(regions, serial) {
+        Ok(at) => {
+            regions.remove(at);
+        }
+        Err(_) => {}
+    }
+}
+
+// opens a region above all others
+#[inline(always)]
+fn open_last(regions: &mut Vec<Region>, keep: bool, region: Region) -> Result<bool, AllocError>
+    requires { keep ≡ keeps (stacked [] regions.old.items) }
+    ensures ok { OnOk result (stacked [] regions.new.items ≡ region ∷ stacked [] regions.old.items) }
+    ensures keep { IfOk result (λ k. k ≡ keeps (stacked [] regions.new.items)) }
+    ensures err { OnErr result (regions.new.items ≡ regions.old.items) }
+{
+    regions.push(region)?;
+    Ok(keeps_above(region, keep))
+}
+
+// closes the greatest region
+#[inline(always)]
+fn close_last(regions: &mut Vec<Region>)
+    ensures { stacked [] regions.new.items ≡ behind_first (stacked [] regions.old.items) }
+{
+    match regions.pop() {
+        Some(_) => {}
+        None => {}
+    }
+}
+
+// opens a region, in the place of an open one of its serial
+#[inline(always)]
+fn open(regions: &mut Vec<Region>, keep: bool, region: Region) -> Result<bool, AllocError>
+    requires { AreAnswered regions.old.items keep }
+    ensures ok { OnOk result (stacked [] regions.new.items ≡ opened region (stacked [] regions.old.items)) }
+    ensures keep { IfOk result (λ k. k ≡ keeps (stacked [] regions.new.items)) }
+    ensures err { OnErr result (regions.new.items ≡ regions.old.items) }
+{
+    if is_above(regions, region.serial) {
+        return open_last(regions, keep, region);
+    }
+    open_within(regions, region)?;
+    Ok(keeps(regions))
+}
+
 // closes the region of a serial
 #[inline(always)]
 fn close(regions: &mut Vec<Region>, serial: u16)
-    requires { AreSorted regions.old.items }
-    ensures { regions.new.items ≡ closed serial regions.old.items }
+    requires { AreSorted (stacked [] regions.old.items) }
+    ensures { stacked [] regions.new.items ≡ closed serial (stacked [] regions.old.items) }
 {
-    if let Ok(at) = place_of(regions, serial) {
-        regions.remove(at);
-    }
-}
-
-// opens or closes the region of an item's serial
-#[inline(always)]
-fn take(regions: &mut Vec<Region>, item: &Item, applied: &Applied) -> Result<(), AllocError>
-    requires { AreSorted regions.old.items }
-    ensures ok { OnOk result (regions.new.items ≡ behind applied.now item.now regions.old.items) }
-    ensures err { OnErr result (regions.new.items ≡ regions.old.items) }
-{
-    match item {
-        Item::Text(_) => Ok(()),
-        Item::Insert(serial) => {
-            let region = Region {
-                serial: *serial,
-                inserts: true,
-                applied: applied.has(*serial),
-            };
-            open(regions, region)
-        }
-        Item::Delete(serial) => {
-            let region = Region {
-                serial: *serial,
-                inserts: false,
-                applied: applied.has(*serial),
-            };
-            open(regions, region)
-        }
-        Item::End(serial) => {
-            close(regions, *serial);
-            Ok(())
-        }
-    }
-}
-
-// the first region by Insert
-fn first_by_insert(regions: &[Region]) -> Option<&Region>
-    ensures { option_copied result ≡ find (λ r. r.inserts) regions.now }
-{
-    regions.iter().find(|r| r.inserts)
-}
-
-/// The greatest serial that is open by Insert, 0 where there is none.
-pub fn inserter(regions: &[Region]) -> u16
-    ensures { result ≡ first_insert regions.now }
-{
-    match first_by_insert(regions) {
-        Some(region) => region.serial,
-        None => 0,
-    }
-}
-
-// the first region that is applied or by Insert
-fn first_that_decides(regions: &[Region]) -> Option<&Region>
-    ensures { option_copied result ≡ find (λ r. r.inserts || r.applied) regions.now }
-{
-    regions.iter().find(|r| r.inserts || r.applied)
-}
-
-/// Whether the inserter is applied, and no greater serial that is open by Delete.
-pub fn keeps(regions: &[Region]) -> bool
-    ensures { result ≡ keeps regions.now }
-{
-    match first_that_decides(regions) {
-        Some(region) => region.inserts & region.applied,
-        None => false,
+    if is_last(regions, serial) {
+        close_last(regions);
+    } else {
+        close_within(regions, serial);
     }
 }
 
@@ -159,14 +194,32 @@ pub fn take_item(
     item: &Item,
     applied: &Applied,
 ) -> Result<bool, AllocError>
-    requires { IsAnswered regions.old.items keep }
-    ensures ok { OnOk result (regions.new.items ≡ behind applied.now item.now regions.old.items) }
-    ensures keep { IfOk result (λ k. k ≡ keeps regions.new.items) }
+    requires { AreAnswered regions.old.items keep }
+    ensures ok { OnOk result (stacked [] regions.new.items ≡ behind applied.now item.now (stacked [] regions.old.items)) }
+    ensures keep { IfOk result (λ k. k ≡ keeps (stacked [] regions.new.items)) }
     ensures err { OnErr result (regions.new.items ≡ regions.old.items) }
 {
-    if let Item::Text(_) = item {
-        return Ok(keep);
+    match item {
+        Item::Text(_) => Ok(keep),
+        Item::Insert(serial) => {
+            let region = Region {
+                serial: *serial,
+                inserts: true,
+                applied: applied.has(*serial),
+            };
+            open(regions, keep, region)
+        }
+        Item::Delete(serial) => {
+            let region = Region {
+                serial: *serial,
+                inserts: false,
+                applied: applied.has(*serial),
+            };
+            open(regions, keep, region)
+        }
+        Item::End(serial) => {
+            close(regions, *serial);
+            Ok(keeps(regions))
+        }
     }
-    take(regions, item, applied)?;
-    Ok(keeps(regions))
 }

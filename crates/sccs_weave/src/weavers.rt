@@ -4,7 +4,7 @@ ghost use Rattle.sccs_history.specs.Numbers.{has};
 ghost use Rattle.sccs_history.specs.Select.{shows};
 ghost use Rattle.sccs_weave.specs.Regions.{AreSorted, Holds, Opens};
 
-use crate::regions::{Region, inserter, take_item};
+use crate::regions::{Region, inserter as inserter_of, take_item};
 use sccs_base::Memory;
 use sccs_history::Item;
 use sccs_sets::Applied;
@@ -15,21 +15,22 @@ use std::marker::Model;
 /// are open, in which each serial stands at most once, the greatest first.
 #[derive(Drop)]
 pub struct Weaver {
+    // the greatest serial last
     regions: Vec<Region>,
     // what `keep` answers
     keep: bool,
 }
 
 impl Model for Weaver {
-    ghost use Rattle.std.specs.Prelude.{List};
+    ghost use Rattle.std.specs.Prelude.{List, []};
     ghost use Rattle.sccs_weave.specs.declared.regions.Region.{Region};
-    ghost use Rattle.sccs_weave.specs.Regions.{IsAnswered};
+    ghost use Rattle.sccs_weave.specs.Stacks.{AreAnswered, stacked};
 
     ghost Value = { List Region };
 
-    ghost view = { λ w. w.regions.items };
+    ghost view = { λ w. stacked [] w.regions.items };
 
-    ghost invariant = { λ w. IsAnswered w.regions.items w.keep };
+    ghost invariant = { λ w. AreAnswered w.regions.items w.keep };
 }
 
 impl Weaver {
@@ -71,6 +72,6 @@ impl Weaver {
     pub fn inserter(&self) -> u16
         ensures { (before : List Item) → Opens before self.now → result ≡ inserter before }
     {
-        inserter(&self.regions)
+        inserter_of(&self.regions)
     }
 }

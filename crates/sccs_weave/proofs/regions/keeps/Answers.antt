@@ -1,12 +1,12 @@
-use Rattle.std.proofs.Common.{sym, ap, ◌∙◌}
-use Rattle.std.specs.Option.{option_copied}
-use Rattle.sccs_weave.proofs.Keeps.{keeps_found, says_yes}
+use Rattle.std.proofs.Common.{arith}
+use Rattle.sccs_weave.proofs.Places.{keep_found, keep_passed}
 use Rattle.sccs_weave.proofs.regions.keeps.Goals as goal
 
-pub returns-in-Some : goal.returns-in-Some
-returns-in-Some c =
-    ap (λ found. says_yes (option_copied found)) (sym c.in-Some.is) ∙ (ap says_yes c.first_that_decides.ensures ∙ keeps_found c.args.regions.now)
+pub returns-then-region : goal.returns-then-region
+returns-then-region c = keep_found c.args.regions.now c.regions.left (omega (arith, c.regions-test.true)) c.regions.invariant.within c.regions.invariant.rest c.if-region.true
 
-pub returns-in-None : goal.returns-in-None
-returns-in-None c =
-    ap (λ found. says_yes (option_copied found)) (sym c.in-None.is) ∙ (ap says_yes c.first_that_decides.ensures ∙ keeps_found c.args.regions.now)
+pub regions-preserved : goal.regions-preserved
+regions-preserved c = record {
+  within = omega (arith, c.regions.invariant.within);
+  rest = keep_passed c.args.regions.now c.regions.left (omega (arith, c.regions-test.true)) c.regions.invariant.within c.regions.invariant.rest c.if-region.false;
+}
