@@ -1,13 +1,14 @@
 -- All items of a body, one after the other.
-use Rattle.std.proofs.Common.{◌≡◌, ℕ, suc, ◌≤◌, List, [], ◌∷◌, ◌++◌, length, Option, None, Some, Result, Ok, Err, refl, sym, ap, ◌∙◌, subst, arith, append_assoc}
-use Rattle.std.specs.Prelude.{IfSome}
-use Rattle.sccs_base.specs.Cut.{Cut}
+use Rattle.std.proofs.Common.{◌≡◌, ℕ, zero, suc, ◌+◌, ◌-◌, ◌*◌, ◌<◌, ◌≤◌, true, false, List, [], ◌∷◌, ◌++◌, length, drop, Option, None, Some, Result, Ok, Err, refl, sym, ap, ◌∙◌, subst, arith, append_assoc}
+use Rattle.std.specs.Prelude.{IfSome, is_some}
+use Rattle.sccs_base.specs.Cut.{Cut, cut}
 use Rattle.sccs_sid.specs.Reading.{◌>>=◌}
 use Rattle.sccs_history.specs.declared.headers.Item.{Item}
 use Rattle.sccs_grammar.specs.Items.{item_at, items_from}
 use Rattle.sccs_grammar.specs.declared.faults.FileFault.{FileFault}
 use Rattle.sccs_grammar.specs.declared.faults.FileFault.TheVariants.{Missing, TooLong, NotSccs, BadSum, BadFormat, Encoded, Changed, Failed, Memory}
-use Rattle.sccs_table.specs.ReaderState.{ReaderState, StandsIn, left}
+use Rattle.sccs_table.specs.ReaderState.{ReaderState, StandsIn, Stays, left}
+use Rattle.sccs_table.specs.Runs.{lf_count}
 use Rattle.sccs_body.specs.Reader.{BodyPlace}
 use Rattle.sccs_body.specs.ItemsRead.{Gives, GivesItem, GoesBehind, HasBehind}
 use Rattle.sccs_body.specs.ToCome.{onto}
@@ -69,6 +70,40 @@ pub somewhere_on : (o p : Option (List ℕ)) (live : List ℕ) (begun : ReaderSt
 somewhere_on o p live begun n0 now new found item is same here goes gives =
     let went = subst (λ f. GoesBehind live here.0 new (Ok f)) is (goes live here.0 here.1) in
     (item ∷ here.0, went.1, reached_on o p live begun n0 here.0 now new item same here.2 (subst (λ f. Gives p live here.0 now new (Ok f)) is (gives live here.0 here.1)))
+
+-- the same behind a control line that was taken
+pub somewhere_taken : (o : Option (List ℕ)) (live : List ℕ) (begun : ReaderState) (n0 : ℕ) (now new : BodyPlace) (taken : Option Item) → is_some taken ≡ true → Somewhere o live begun n0 now
+    → ((live : List ℕ) (before : List Item) → HasBehind live before now → IfSome taken (λ item. GoesBehind live before new (Ok (Some item))))
+    → ((o : Option (List ℕ)) (live : List ℕ) (before : List Item) → HasBehind live before now → IfSome taken (λ item. Gives o live before now new (Ok (Some item)))) → Somewhere o live begun n0 new
+somewhere_taken o live begun n0 now new (Some item) is here goes gives =
+    (item ∷ here.0, (goes live here.0 here.1).1, reached_on o o live begun n0 here.0 now new item refl here.2 (gives o live here.0 here.1))
+somewhere_taken o live begun n0 now new None is here goes gives = absurd cc
+
+pub not_taken : (taken : Option Item) → is_some taken ≡ false → taken ≡ None
+not_taken (Some item) is = absurd cc
+not_taken None is = refl
+
+-- a line is held whole now, and wasn't before
+pub fewer_steps : (old now mid new : ReaderState) (count : ℕ) → now.limit ≡ old.limit → now.place + length now.held ≤ now.limit → now.place ≡ old.place + count → now.held ≡ drop count old.held → mid ≡ now → new.limit ≡ mid.limit → new.place ≡ mid.place → lf_count mid.held ≡ 0 → 0 < lf_count new.held
+    → 2 * (new.limit - new.place) + (1 - lf_count new.held) < 2 * (old.limit - old.place) + (1 - lf_count old.held)
+fewer_steps old now mid new zero limit ahead place held same limit2 place2 none more =
+    omega (arith, limit, place, ap lf_count held, ap (λ (r : ReaderState). r.limit) same, ap (λ (r : ReaderState). r.place) same, ap (λ (r : ReaderState). lf_count r.held) same, limit2, place2, none, more)
+fewer_steps old now mid new (suc count) limit ahead place held same limit2 place2 none more =
+    omega (arith, limit, ahead, place, ap (λ (r : ReaderState). r.limit) same, ap (λ (r : ReaderState). r.place) same, limit2, place2, more)
+
+-- the reader stands where it stood, and holds something else
+reached_kept : (o p : Option (List ℕ)) (live : List ℕ) (begun : ReaderState) (n0 : ℕ) (before : List Item) (now new : BodyPlace) → p ≡ o → new.lines.place ≡ now.lines.place → new.number ≡ now.number → Stays p now.lines new.lines → Reached o live begun n0 before now → Reached o live begun n0 before new
+reached_kept None p live begun n0 before now new same place number stays reached = tt
+reached_kept (Some file) p live begun n0 before now new same place number stays reached = λ stands.
+    let here = reached stands in
+    let next : items_from live now.number before (left now.lines file).lines (left now.lines file).tail ≡ items_from live new.number before (left new.lines file).lines (left new.lines file).tail =
+    ap (λ k. items_from live k before (left now.lines file).lines (left now.lines file).tail) (sym number)
+    ∙ ap (λ n. items_from live new.number before (cut (drop n file)).lines (cut (drop n file)).tail) (sym place) in
+    (stays file same here.0, (here.1.0, here.1.1 ∙ ap (onto here.1.0) next))
+
+pub somewhere_kept : (o p : Option (List ℕ)) (live : List ℕ) (begun : ReaderState) (n0 : ℕ) (now new : BodyPlace) → p ≡ o → new.lines.place ≡ now.lines.place → new.number ≡ now.number → ((live : List ℕ) (before : List Item) → HasBehind live before now → HasBehind live before new) → Stays p now.lines new.lines
+    → Somewhere o live begun n0 now → Somewhere o live begun n0 new
+somewhere_kept o p live begun n0 now new same place number behind stays here = (here.0, behind live here.0 here.1, reached_kept o p live begun n0 here.0 now new same place number stays here.2)
 
 done_at : (o : Option (List ℕ)) (live : List ℕ) (begun : BodyPlace) → IfSome o (λ file. StandsIn begun.lines file → (items : List Item) × (items_left file live begun ≡ Ok items)) → ChecksRest o live begun (Ok tt)
 done_at None live begun done = tt

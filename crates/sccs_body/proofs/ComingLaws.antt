@@ -1,5 +1,5 @@
 -- What is still to come of a told file that is read again.
-use Rattle.std.proofs.Common.{◌≡◌, ◌≢◌, ℕ, suc, ◌+◌, ◌-◌, ◌<◌, ◌≤◌, max, min, true, List, [], ◌∷◌, ◌++◌, length, map, take, drop, Option, None, Some, Result, Ok, Err, inl, inr, refl, sym, ap, ◌∙◌, subst, arith}
+use Rattle.std.proofs.Common.{◌≡◌, ◌≢◌, ℕ, suc, ◌+◌, ◌<◌, ◌≤◌, max, min, true, List, [], ◌∷◌, length, map, take, drop, Option, None, Some, Result, Ok, Err, inl, inr, refl, sym, ap, ◌∙◌, subst, arith}
 use Rattle.std.specs.Prelude.{IfOk, IfSome}
 use Rattle.std.proofs.lemmas.Bool.{cases_lt}
 use Rattle.std.proofs.lemmas.List.{length-take-le}
@@ -14,7 +14,7 @@ use Rattle.sccs_grammar.specs.declared.faults.FileFault.TheVariants.{Missing, To
 use Rattle.sccs_marks.specs.States.{Knows}
 use Rattle.sccs_marks.specs.declared.body_states.BodyState.{BodyState}
 use Rattle.sccs_table.specs.Runs.{IsRun, PassesRun}
-use Rattle.sccs_table.specs.ReaderState.{ReaderState, StandsIn, behind_sum, left}
+use Rattle.sccs_table.specs.ReaderState.{ReaderState, StandsIn, Stays, behind_sum, left}
 use Rattle.sccs_table.specs.SumOf.{IsPlainSumOf}
 use Rattle.sccs_table.specs.FrontFile.{IsOuter}
 use Rattle.sccs_table.specs.declared.fronts.Front.{Front}
@@ -22,8 +22,8 @@ use Rattle.sccs_table.proofs.ReaderLaws.{holding}
 use Rattle.sccs_table.proofs.FileLaws.{fresh_stands, sum_of_all}
 use Rattle.sccs_body.specs.BodyFile.{items_of}
 use Rattle.sccs_body.specs.ItemsRead.{Gives, GivesItem, GoesBehind, IsBehind, texts_behind}
-use Rattle.sccs_body.specs.Reader.{BodyPlace, ItemPlace, at_hand, bytes_left}
-use Rattle.sccs_body.specs.ToCome.{Agrees, BeginsIn, GivesNext, IsFrontFor, KeepsFile, MayPass, TextsCome, ToCome, onto, rest_of}
+use Rattle.sccs_body.specs.Reader.{ItemPlace, at_hand, bytes_left}
+use Rattle.sccs_body.specs.ToCome.{Agrees, BeginsIn, ComesOrStays, GivesNext, IsFrontFor, KeepsFile, MayPass, TextsCome, ToCome, onto, rest_of}
 use Rattle.sccs_body.proofs.BodyLaws.{items_on, onto_none}
 use Rattle.sccs_body.proofs.TextLaws.{behind_texts, items_from_texts, some_bytes}
 use Rattle.sccs_table.proofs.RunLaws.{no_run, run_passed}
@@ -250,6 +250,33 @@ pub further_on : (old now new : ItemPlace) (result : Result (Option Item) FileFa
 further_on old now new (Ok (Some item)) kept onward further = omega (arith, kept.limit, onward, further)
 further_on old now new (Ok None) kept onward further = tt
 further_on old now new (Err fault) kept onward further = tt
+
+-- ---- a control line that was taken, or what was read on
+
+-- the reader stands where it stood, and holds something else
+kept_comes : (file live : List ℕ) (before : List Item) (found : Result (List Item) ℕ) (old new : ItemPlace) → KeepsFile old new → old.from ≤ old.body.lines.place → new.body.lines.place ≡ old.body.lines.place → new.body.number ≡ old.body.number → IsBehind live before new → StandsIn new.body.lines file
+    → ToCome file live before found old → ToCome file live before found new
+kept_comes file live before found old new kept begun place number behind stands p =
+    let there : max old.from old.body.lines.place ≡ max new.from new.body.lines.place = omega (arith, kept.from, place) in
+    record {
+      behind = behind;
+      stands = stands;
+      begins = λ low. absurd (omega (arith, kept.from, place));
+      within = omega (arith, kept.from, p.within);
+      size = kept.size ∙ p.size;
+      sum = kept.sum ∙ p.sum;
+      items = p.items
+          ∙ (ap (λ n. items_from live n before (rest_of old file).lines (rest_of old file).tail) (sym number)
+          ∙ ap (λ n. items_from live new.body.number before (cut (drop n file)).lines (cut (drop n file)).tail) there);
+    }
+
+pub control_comes : (file live : List ℕ) (before : List Item) (found : Result (List Item) ℕ) (old new : ItemPlace) (taken : Option Item) → KeepsFile old new → old.from ≤ old.body.lines.place → Stays (Some file) old.body.lines new.body.lines → IfSome taken (λ _. old.body.lines.place < new.body.lines.place)
+    → (taken ≡ None → new.body.lines ≡ old.body.lines) → (taken ≡ None → new.body.number ≡ old.body.number) → (taken ≡ None → IsBehind live before new) → IfSome taken (λ item. GoesBehind live before new.body (Ok (Some item)))
+    → IfSome taken (λ item. Gives (Some file) live before old.body new.body (Ok (Some item))) → ToCome file live before found old → ComesOrStays file live before found new taken
+control_comes file live before found old new (Some item) kept begun stays further same number behind goes gives p =
+    next_gives file live before found old new kept begun (omega (arith, further)) p (Some file) (Ok (Some item)) refl gives goes
+control_comes file live before found old new None kept begun stays further same number behind goes gives p =
+    kept_comes file live before found old new kept begun (ap (λ (r : ReaderState). r.place) (same refl)) (number refl) (behind refl) (stays file refl p.stands) p
 
 pub kept_on : (old now new : ItemPlace) → KeepsFile old now → KeepsFile now new → KeepsFile old new
 kept_on old now new first behind = record { name = behind.name ∙ first.name; limit = behind.limit ∙ first.limit; from = behind.from ∙ first.from; size = behind.size ∙ first.size; sum = behind.sum ∙ first.sum }

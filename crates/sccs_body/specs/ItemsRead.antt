@@ -40,6 +40,11 @@ GoesBehind live before new (Err e) = Unit {0}
 abbrev pub Goes : List ℕ → List Item → ItemPlace → Result (Option Item) FileFault → Type 0
 Goes live before new result = GoesBehind live before new.body result
 
+-- an item was taken, or none
+abbrev pub GoesOrStays : List ℕ → List Item → ItemPlace → Option Item → Type 0
+GoesOrStays live before new (Some item) = Goes live before new (Ok (Some item))
+GoesOrStays live before new None = IsBehind live before new
+
 -- the next line of the file is the item; or nothing is left; or no item may stand at the line
 abbrev pub GivesItem : List ℕ → List Item → List ℕ → BodyPlace → BodyPlace → Result (Option Item) FileFault → Type 0
 GivesItem live before file old new (Ok (Some item)) =

@@ -1,6 +1,7 @@
 -- Where a reader of items stands.
-use Rattle.std.specs.Prelude.{ℕ, ◌-◌, List, take, drop}
+use Rattle.std.specs.Prelude.{ℕ, ◌+◌, ◌-◌, ◌*◌, List, take, drop}
 use Rattle.sccs_table.specs.ReaderState.{ReaderState}
+use Rattle.sccs_table.specs.Runs.{lf_count}
 use Rattle.sccs_marks.specs.declared.body_states.BodyState.{BodyState}
 
 -- Where the next line stands in the file, what the items so far leave open, and the next line's number.
@@ -24,6 +25,10 @@ name_read r = r.body.lines.name
 -- how many bytes may be read yet
 abbrev pub bytes_left : ItemPlace → ℕ
 bytes_left r = r.body.lines.limit - r.body.lines.place
+
+-- how many steps may be left at most: a step takes bytes, or makes a line whole where none is held whole
+abbrev pub steps_left : ItemPlace → ℕ
+steps_left r = 2 * bytes_left r + (1 - lf_count r.body.lines.held)
 
 -- so many of the bytes that were read and not given yet, and those behind them
 abbrev pub at_hand : ItemPlace → ℕ → List ℕ

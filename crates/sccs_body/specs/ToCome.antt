@@ -63,6 +63,11 @@ GivesNext file live before found new (Err Failed) = Unit {0}
 GivesNext file live before found new (Err Memory) = Unit {0}
 GivesNext file live before found new (Err _) = ⊥
 
+-- an item was taken, or none
+abbrev pub ComesOrStays : List ℕ → List ℕ → List Item → Result (List Item) ℕ → ItemPlace → Option Item → Type 0
+ComesOrStays file live before found new (Some item) = ItemComes file live before found item new
+ComesOrStays file live before found new None = ToCome file live before found new
+
 -- over any disk: a file was changed where its size or its sum is another than that of the first reading
 abbrev pub IsChange : ℕ → ℕ → FileFault → Type 0
 IsChange size sum (Changed first_size first_sum size_now sum_now) = (first_size ≡ size) × (first_sum ≡ sum) × ((first_size ≢ size_now) ⊎ (first_sum ≢ sum_now))

@@ -25,6 +25,12 @@ fn check_items<D: Disk>(disk: &mut D, body: &mut BodyReader) -> Result<(), FileF
     'items: loop {
         let count = body.texts().len();
         body.pass(count);
+        if body.next_control().is_some() {
+            continue;
+        }
+        if body.read_on(disk)? {
+            continue;
+        }
         match body.next(disk) {
             Ok(Some(_)) => {}
             Ok(None) => return Ok(()),

@@ -1,4 +1,4 @@
-ghost use Rattle.std.specs.Prelude.{◌≡◌, ◌≢◌, ◌&&◌, ℕ, ◌+◌, ◌<◌, ◌≤◌, List, [], ◌∷◌, length, max, min, take, drop, true, Option, Some, IfOk, IfSome, OnOk, Err};
+ghost use Rattle.std.specs.Prelude.{◌≡◌, ◌≢◌, ◌&&◌, ℕ, ◌+◌, ◌<◌, ◌≤◌, List, [], ◌∷◌, length, max, min, take, drop, true, Option, None, Some, IfOk, IfSome, OnOk, Ok, Err};
 ghost use Rattle.sccs_base.specs.Cut.{HasNoLf, cut};
 ghost use Rattle.sccs_disk.specs.Told.{seen};
 ghost use Rattle.sccs_grammar.specs.Items.{IsWrittenItem};
@@ -7,7 +7,7 @@ ghost use Rattle.sccs_history.specs.Body.{is_over, may_stand};
 ghost use Rattle.sccs_history.specs.declared.headers.Item.TheVariants as items;
 ghost use Rattle.sccs_marks.specs.States.{Knows};
 ghost use Rattle.sccs_table.specs.FrontFile.{IsFirst, ReadsBytes, ReadsOn};
-ghost use Rattle.sccs_table.specs.Runs.{HasNoRun, IsRun, PassesRun};
+ghost use Rattle.sccs_table.specs.Runs.{HasNoRun, IsRun, PassesRun, lf_count};
 ghost use Rattle.sccs_table.specs.ReaderState.{StandsIn, Stays, bytes_in};
 ghost use Rattle.sccs_body.specs.ItemsRead.{Gives, GoesBehind, HasBehind, TakesItem, texts_behind};
 
@@ -43,11 +43,13 @@ impl Model for BodyReader {
     ghost invariant = { IsCounted };
 }
 
-// whether an item may stand here; where it may, the state goes on behind it
+// whether an item may stand here; where it may, the state goes on behind it, and else it stays
 #[inline(always)]
 fn goes_on(state: &mut BodyState, item: &Item) -> Result<bool, Memory>
-    ensures { (live : List ℕ) (before : List Item) → Knows live before state.old
+    ensures goes { (live : List ℕ) (before : List Item) → Knows live before state.old
         → IfOk result (λ stands. (may_stand live before item.now ≡ stands) × (stands ≡ true → Knows live (item.now ∷ before) state.new)) }
+    ensures kept { (live : List ℕ) (before : List Item) → Knows live before state.old
+        → result ≢ Ok true → Knows live before state.new }
 {
     match item {
         Item::Text(_) => Ok(state.may_stand_text()),
@@ -262,6 +264,58 @@ impl BodyReader {
             Ok(false) => Err(FileFault::BadFormat(self.line_number() - 1)),
             Err(_) => Err(FileFault::Memory),
         }
+    }
+
+    /// The next item, where it is a control line that is held whole and spelled as it is written, and
+    /// may stand; at None nothing was taken.
+    #[inline(always)]
+    pub fn next_control(&mut self) -> Option<Item>
+        ensures name { self.new.lines.name ≡ self.old.lines.name }
+        ensures limit { self.new.lines.limit ≡ self.old.lines.limit }
+        ensures stays { (o : Option (List ℕ)) → Stays o self.old.lines self.new.lines }
+        ensures ahead { IfSome result (λ _. self.new.lines.place + length self.new.lines.held ≤ self.new.lines.limit) }
+        ensures further { IfSome result (λ _. self.old.lines.place < self.new.lines.place) }
+        ensures none { result ≡ None → self.new.lines ≡ self.old.lines }
+        ensures number { result ≡ None → self.new.number ≡ self.old.number }
+        ensures kept { (live : List ℕ) (before : List Item) → HasBehind live before self.old → result ≡ None → HasBehind live before self.new }
+        ensures goes { (live : List ℕ) (before : List Item) → HasBehind live before self.old
+            → IfSome result (λ item. GoesBehind live before self.new (Ok (Some item))) }
+        ensures told { (o : Option (List ℕ)) (live : List ℕ) (before : List Item) → HasBehind live before self.old
+            → IfSome result (λ item. Gives o live before self.old self.new (Ok (Some item))) }
+    {
+        let Some((item, count)) = written_item(self.lines.held()) else {
+            return None;
+        };
+        match goes_on(&mut self.state, &item) {
+            Ok(true) => {
+                self.lines.pass_line(count);
+                Some(item)
+            }
+            Ok(false) => None,
+            Err(_) => None,
+        }
+    }
+
+    /// Where no LF is held, reads on behind the held bytes, as far as there is room for them; true
+    /// where an LF is held then.
+    pub fn read_on<D: Disk>(&mut self, disk: &mut D) -> Result<bool, Failed>
+        ensures frame { ReadsBytes D.told D.faults disk.old disk.new self.old.lines self.new.lines result }
+        ensures stays { Stays (bytes_in (seen (D.told disk.old)) self.old.lines.name) self.old.lines self.new.lines }
+        ensures place { self.new.lines.place ≡ self.old.lines.place }
+        ensures state { self.new.state ≡ self.old.state }
+        ensures number { self.new.number ≡ self.old.number }
+        ensures more { IfOk result (λ more. more ≡ true → (lf_count self.old.lines.held ≡ 0) × (0 < lf_count self.new.lines.held)) }
+    {
+        self.lines.read_on(disk)
+    }
+
+    /// How many lines end in so many of the held bytes.
+    #[inline(always)]
+    pub fn lines_held(&self, count: usize) -> u64
+        requires { count ≤ length self.now.lines.held }
+        ensures { result ≡ lf_count (take count self.now.lines.held) }
+    {
+        self.lines.lines_held(count)
     }
 
     /// The next item; None at the end of the body. BadFormat has the number of the line at which no

@@ -4,13 +4,13 @@ ghost use Rattle.sccs_disk.specs.Told.{seen};
 ghost use Rattle.sccs_history.specs.Applied.{live_serials};
 ghost use Rattle.sccs_history.specs.Body.{may_stand};
 ghost use Rattle.sccs_history.specs.declared.headers.Item.TheVariants as items;
-ghost use Rattle.sccs_table.specs.FrontFile.{ReadsDisk};
-ghost use Rattle.sccs_table.specs.Runs.{HasNoRun};
+ghost use Rattle.sccs_table.specs.FrontFile.{IsFirst, IsOuter, ReadsDisk};
+ghost use Rattle.sccs_table.specs.Runs.{HasNoRun, lf_count};
 ghost use Rattle.sccs_table.specs.ReaderState.{bytes_in};
 ghost use Rattle.sccs_body.specs.BodyFile.{items_of};
-ghost use Rattle.sccs_body.specs.ItemsRead.{Goes, IsBehind, texts_behind};
-ghost use Rattle.sccs_body.specs.Reader.{at_hand, behind_hand, bytes_left, name_read};
-ghost use Rattle.sccs_body.specs.ToCome.{Agrees, Begins, Changes, Ends, GivesNext, IsFrontFor, MayPass, ReadsNext, TextsCome, ToCome, onto};
+ghost use Rattle.sccs_body.specs.ItemsRead.{Goes, GoesOrStays, IsBehind, texts_behind};
+ghost use Rattle.sccs_body.specs.Reader.{at_hand, behind_hand, bytes_left, name_read, steps_left};
+ghost use Rattle.sccs_body.specs.ToCome.{Agrees, Begins, Changes, ComesOrStays, Ends, GivesNext, IsFrontFor, MayPass, ReadsNext, TextsCome, ToCome, onto};
 
 use crate::body_readers::BodyReader;
 use sccs_base::{Memory, Name};
@@ -89,12 +89,64 @@ impl ItemReader {
         ensures size { self.new.size ≡ self.old.size }
         ensures sum { self.new.sum ≡ self.old.sum }
         ensures left { bytes_left self.new ≤ bytes_left self.old }
+        ensures steps { steps_left self.new ≤ steps_left self.old }
         ensures behind { (live : List ℕ) (before : List Item) → IsBehind live before self.old
             → IsBehind live (texts_behind (cut (at_hand self.old count)).lines before) self.new }
         ensures told { (file live : List ℕ) (before : List Item) (found : Result (List Item) ℕ) → ToCome file live before found self.old
             → TextsCome file live before found (at_hand self.old count) self.new }
     {
         self.body.pass(count);
+    }
+
+    /// How many lines end in so many of the bytes of `texts`.
+    #[inline(always)]
+    pub fn lines_held(&self, count: usize) -> u64
+        requires { MayPass self.now count }
+        ensures { result ≡ lf_count (at_hand self.now count) }
+    {
+        self.body.lines_held(count)
+    }
+
+    /// The next item, where its line is held whole and is found without reading on; at None nothing was
+    /// taken.
+    #[inline(always)]
+    pub fn next_control(&mut self) -> Option<Item>
+        ensures name { name_read self.new ≡ name_read self.old }
+        ensures size { self.new.size ≡ self.old.size }
+        ensures sum { self.new.sum ≡ self.old.sum }
+        ensures left { bytes_left self.new ≤ bytes_left self.old }
+        ensures steps { steps_left self.new ≤ steps_left self.old }
+        ensures further { IfSome result (λ _. steps_left self.new < steps_left self.old) }
+        ensures goes { (live : List ℕ) (before : List Item) → IsBehind live before self.old → GoesOrStays live before self.new result }
+        ensures told { (file live : List ℕ) (before : List Item) (found : Result (List Item) ℕ) → ToCome file live before found self.old
+            → ComesOrStays file live before found self.new result }
+    {
+        if self.body.place() < self.from {
+            return None;
+        }
+        self.body.next_control()
+    }
+
+    /// Where no line is held whole, reads on behind what is held, as far as there is room for it; true
+    /// where one is then. Nothing is taken, and nothing read before the header is read again.
+    pub fn read_on<D: Disk>(&mut self, disk: &mut D) -> Result<bool, FileFault>
+        ensures frame { ReadsDisk D.told D.faults disk.old disk.new result }
+        ensures first { IsFirst result }
+        ensures name { name_read self.new ≡ name_read self.old }
+        ensures size { self.new.size ≡ self.old.size }
+        ensures sum { self.new.sum ≡ self.old.sum }
+        ensures outer { IsOuter result }
+        ensures left { bytes_left self.new ≡ bytes_left self.old }
+        ensures further { IfOk result (λ more. more ≡ true → steps_left self.new < steps_left self.old) }
+        ensures goes { (live : List ℕ) (before : List Item) → IsBehind live before self.old → IsBehind live before self.new }
+        ensures told { (file live : List ℕ) (before : List Item) (found : Result (List Item) ℕ) → bytes_in (seen (D.told disk.old)) (name_read self.old) ≡ Some file
+            → ToCome file live before found self.old → ToCome file live before found self.new }
+    {
+        if self.body.place() < self.from {
+            return Ok(false);
+        }
+        let more = self.body.read_on(disk)?;
+        Ok(more)
     }
 
     // reads the header again; BadFormat where the file ends within it

@@ -12,7 +12,7 @@ ghost use Rattle.sccs_table.specs.ReaderState.{bytes_in};
 ghost use Rattle.sccs_table.specs.Runs.{lf_count};
 ghost use Rattle.sccs_texts.specs.Forms.{form_of, formed_lines};
 ghost use Rattle.sccs_versions.specs.Coming.{Coming};
-ghost use Rattle.sccs_versions.specs.Place.{bytes_left, name_of};
+ghost use Rattle.sccs_versions.specs.Place.{name_of, steps_left};
 ghost use Rattle.sccs_versions.specs.WasRead.{HasRead};
 ghost use Rattle.sccs_printing.specs.Counted.{counted, nothing};
 ghost use Rattle.sccs_printing.specs.Giving.{GivesAll, GivesMore, GivesRun, KeepsForm, ReadSome, ReadWhole, ReadsMore, form_in};
@@ -25,7 +25,6 @@ use sccs_base::{Line, Sink};
 use sccs_disk::Disk;
 use sccs_history::Record;
 use sccs_sid::StepFault;
-use sccs_table::lines_in;
 use sccs_texts::{HeldLine, LineForm, SidFinder, give_line, give_lines};
 use sccs_versions::{Next, VersionReader};
 use std::alloc::Global;
@@ -135,16 +134,18 @@ impl<'a> Giving<'a> {
         }
     }
 
-    // gives whole lines that one delta inserted, and counts them
+    // gives so many whole lines that one delta inserted, and counts them
     fn give_lines<O: Sink, D: Disk>(
         &mut self,
         inserter: u16,
+        more: u64,
         lines: &[u8],
         out: &mut O,
         disk: &mut D,
     ) -> Result<(), StepFault>
         requires facts { IfSome (form_in self.old).facts HasMoments }
         requires there { CanTake (file_of self.old.target) (D.told disk.old) }
+        requires counted { more ≡ lf_count lines.now }
         requires whole { (cut lines.now).tail ≡ [] }
         ensures gives { GivesTo (file_of self.old.target) (formed_lines (form_in self.old) self.old.sids (self.old.shown.lines + 1) inserter (cut lines.now).lines) result (held_back self.old.target) (held_back self.new.target)
             (got (file_of self.old.target) (O.given out.old) (D.told disk.old)) (got (file_of self.old.target) (O.given out.new) (D.told disk.new)) }
@@ -156,7 +157,7 @@ impl<'a> Giving<'a> {
         ensures causes { PrintCauses result (O.faults out.old) (O.faults out.new) (D.faults disk.old) (D.faults disk.new) }
         ensures checks { RefusesWithin file_checks result }
     {
-        let Some(count) = self.shown.lines.checked_add(lines_in(lines)) else {
+        let Some(count) = self.shown.lines.checked_add(more) else {
             return Err(StepFault::Memory);
         };
         let replaces = self.form.replaces(lines);
@@ -258,7 +259,7 @@ fn give_run<O: Sink, D: Disk>(
     ensures checks { RefusesWithin file_checks result }
     ensures set { version.new.set ≡ version.old.set }
     ensures name { name_of version.new ≡ name_of version.old }
-    ensures left { bytes_left version.new ≤ bytes_left version.old }
+    ensures left { steps_left version.new ≤ steps_left version.old }
     ensures gives { (file : List ℕ) (lines : List HistoryLine) → Coming file version.old lines
         → GivesRun file version.new lines result giving.old giving.new (got (file_of giving.old.target) (O.given out.old) (D.told disk.old)) (got (file_of giving.old.target) (O.given out.new) (D.told disk.new)) }
     ensures read { OnOk result ((live : List ℕ) (before : List Item) → HasRead live version.old before
@@ -269,7 +270,8 @@ fn give_run<O: Sink, D: Disk>(
     if count == 0 {
         return Ok(());
     }
-    if let Err(fault) = giving.give_lines(version.inserter(), texts, out, disk) {
+    let more = version.lines_held(count);
+    if let Err(fault) = giving.give_lines(version.inserter(), more, texts, out, disk) {
         return Err(fault);
     }
     version.pass(count);
@@ -293,7 +295,7 @@ fn give_next<O: Sink, D: Disk>(
     ensures checks { RefusesWithin file_checks result }
     ensures set { version.new.set ≡ version.old.set }
     ensures name { name_of version.new ≡ name_of version.old }
-    ensures further { IfOk result (λ more. more ≡ true → bytes_left version.new < bytes_left version.old) }
+    ensures further { IfOk result (λ more. more ≡ true → steps_left version.new < steps_left version.old) }
     ensures gives { (file : List ℕ) (lines : List HistoryLine) → bytes_in (seen (D.told disk.old)) (name_of version.old) ≡ Some file → Coming file version.old lines
         → GivesMore file version.new lines result giving.old giving.new (got (file_of giving.old.target) (O.given out.old) (D.told disk.old)) (got (file_of giving.old.target) (O.given out.new) (D.told disk.new)) }
     ensures read { (live : List ℕ) (before : List Item) → HasRead live version.old before

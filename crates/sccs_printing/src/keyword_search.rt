@@ -6,7 +6,7 @@ ghost use Rattle.sccs_steps.specs.Actions.{RefusesWithin};
 ghost use Rattle.sccs_steps.specs.Causes.{PrintCauses};
 ghost use Rattle.sccs_table.specs.ReaderState.{bytes_in};
 ghost use Rattle.sccs_versions.specs.Coming.{Coming, IsBody, shown};
-ghost use Rattle.sccs_versions.specs.Place.{bytes_left, name_of};
+ghost use Rattle.sccs_versions.specs.Place.{name_of, steps_left};
 ghost use Rattle.sccs_printing.specs.Printing.{file_checks};
 ghost use Rattle.sccs_printing.specs.Searching.{Searched, Searches, SearchesNext};
 
@@ -22,7 +22,7 @@ use std::alloc::Global;
 // whether the lines that are held whole have a keyword; they are passed over
 fn search_run(version: &mut VersionReader<'_>) -> bool
     ensures name { name_of version.new ≡ name_of version.old }
-    ensures left { bytes_left version.new ≤ bytes_left version.old }
+    ensures left { steps_left version.new ≤ steps_left version.old }
     ensures told { (file : List ℕ) (lines : List HistoryLine) → Coming file version.old lines → Searched file version.new lines result }
 {
     let texts = version.texts();
@@ -41,7 +41,7 @@ fn search_next<D: Disk>(
     ensures causes { (out : ℕ) → PrintCauses result out out (D.faults disk.old) (D.faults disk.new) }
     ensures checks { RefusesWithin file_checks result }
     ensures name { name_of version.new ≡ name_of version.old }
-    ensures further { IfOk result (λ more. IfSome more (λ _. bytes_left version.new < bytes_left version.old)) }
+    ensures further { IfOk result (λ more. IfSome more (λ _. steps_left version.new < steps_left version.old)) }
     ensures told { (file : List ℕ) (lines : List HistoryLine) → bytes_in (seen (D.told disk.old)) (name_of version.old) ≡ Some file → Coming file version.old lines
         → SearchesNext file version.new lines result }
 {

@@ -26,7 +26,7 @@ pub passed_bound : (old : ReaderState) (name piece : List ℕ) (start end place 
 passed_bound old name piece start end place limit before sum count is fits =
     omega (arith, passed_lines old name piece start end place limit before sum count is fits, lf_count_bound (take count old.held), length-take count old.held)
 
-no_lines : (bytes : List ℕ) → HasNoLf bytes → lf_count bytes ≡ 0
+pub no_lines : (bytes : List ℕ) → HasNoLf bytes → lf_count bytes ≡ 0
 no_lines bytes none = lines_are bytes ∙ ap (λ (c : Cut). length c.lines) (cut_tail bytes none)
 
 one_line : (line : List ℕ) → HasNoLf line → lf_count (line ++ 10 ∷ []) ≡ 1

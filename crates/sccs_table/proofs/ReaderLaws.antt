@@ -1,8 +1,11 @@
 -- What a reader of lines holds after it read and after it gave.
-use Rattle.std.proofs.Common.{◌≡◌, ◌≢◌, ℕ, zero, suc, ◌+◌, ◌-◌, ◌<◌, ◌≤◌, min, Bool, true, false, ltb, List, [], ◌∷◌, ◌++◌, length, take, drop, Option, None, Some, refl, sym, ap, ◌∙◌, arith, subst, get_or, drop-cons, length-take, length-drop, length-append, append_assoc}
+use Rattle.std.proofs.Common.{◌≡◌, ◌≢◌, ℕ, zero, suc, ◌+◌, ◌-◌, ◌%◌, ◌<◌, ◌≤◌, min, replicate, sum, Bool, true, false, ltb, List, [], ◌∷◌, ◌++◌, length, take, drop, Option, None, Some, refl, sym, ap, ◌∙◌, arith, subst, get_or, drop-cons, length-take, length-drop, length-append, append_assoc}
 use Rattle.std.specs.Prelude.{IfSome}
-use Rattle.std.proofs.lemmas.List.{take-append-drop, drop-take, take-take, take_min, drop-drop, drop_all, append-nil}
-use Rattle.std.proofs.lemmas.List.Elements.{All-append, All-nil}
+use Rattle.std.proofs.lemmas.List.{take-append-drop, drop-take, take-take, take_min, drop-drop, drop_all, drop-replicate, append-nil}
+use Rattle.std.proofs.lemmas.List.Elements.{All-append, All-drop, All-nil}
+use Rattle.std.proofs.Math.Nat.{mul-zero}
+use Rattle.std.proofs.lemmas.List.Folds.{sum_by-replicate}
+use Rattle.std.proofs.lemmas.List.Sums.{sum_by-append, sum_by-take-drop}
 use Rattle.std.proofs.Math.Seq.{take-add, take-append_seam, drop-append_seam}
 use Rattle.sccs_grammar.proofs.CutLaws.{cut_line, cut_tail}
 use Rattle.sccs_base.specs.Cut.{HasNoLf, cut}
@@ -369,3 +372,65 @@ gone_stays o now gone line longer kept takes file is here = gone_stands_in now g
 -- all that was held was let go
 pub emptied_stays : (o : Option (List ℕ)) (now gone : ReaderState) → Kept now gone → gone.held ≡ [] → gone.place ≡ now.place + length now.held → Stays o now gone
 emptied_stays o now gone kept held_is place_is file is here = emptied_stands now gone file here kept held_is place_is
+
+-- ---- what is read behind the held bytes
+
+-- held bytes that were moved to the front of a piece, and more of the file behind them
+stands_on_behind : (old : ReaderState) (name piece piece2 : List ℕ) (start end place limit lines sum more sum2 count room : ℕ) → holding name (held_of piece start end) place limit lines sum ≡ old
+    → start ≤ end → end ≤ length piece → take (end - start) piece2 ≡ held_of piece start end → count ≤ length (drop (end - start) piece2) → room ≤ 4096 → place + (end - start) + room ≤ limit
+    → ((front : List ℕ) → IsPlainSumOf sum front → IsPlainSumOf sum2 (front ++ drop (8 - (place + (end - start))) (take count (drop (end - start) piece2))))
+    → (file : List ℕ) → take count (drop (end - start) piece2) ≡ take room (drop (place + (end - start)) file) → StandsIn old file → StandsIn (holding name (take (end - start + count - 0) piece2) place limit more sum2) file
+stands_on_behind old name piece piece2 start end place limit lines sum more sum2 count room is order within same fits small low added file got stood =
+    let h = end - start in
+    let place_is : place ≡ old.place = ap (λ (s : ReaderState). s.place) is in
+    let held_is : held_of piece start end ≡ old.held = ap (λ (s : ReaderState). s.held) is in
+    let long : length old.held ≡ h = sym (ap length held_is) ∙ omega (arith, length-take h (drop start piece), length-drop start piece) in
+    let gone = holding name [] (place + h) limit lines sum in
+    let empty : StandsIn gone file = emptied_stands old gone file stood (ap (λ (s : ReaderState). s.limit) is, ap (λ (s : ReaderState). s.sum) is) refl (omega (arith, place_is, long)) in
+    let filled = (stands_filled gone name (drop h piece2) (place + h) limit lines sum more sum2 count room (place + h + room) refl fits (omega arith) low added file got empty).0 in
+    let rest = drop place file in
+    let front : take h piece2 ≡ take h rest = same ∙ (held_is ∙ (stood.held ∙ (ap (λ n. take n (drop old.place file)) long ∙ ap (λ p. take h (drop p file)) (sym place_is)))) in
+    let back : take count (drop h piece2) ≡ take room (drop h rest) = got ∙ ap (take room) (sym (drop-drop h place file)) in
+    let whole : take (h + count) piece2 ≡ take (h + room) rest = take-add h count piece2 ∙ (ap (λ f. f ++ take count (drop h piece2)) front ∙ (ap (λ b. take h rest ++ b) back ∙ sym (take-add h room rest))) in
+    let here : take (h + count - 0) piece2 ≡ take (h + room) rest = ap (λ n. take n piece2) (omega arith) ∙ whole in
+    stands_behind (holding name (take (count - 0) (drop h piece2)) (place + h) limit more sum2) (holding name (take (h + count - 0) piece2) place limit more sum2) file (refl, refl)
+    (omega (arith, length-take (h + count - 0) piece2, length-take (count - 0) (drop h piece2), length-drop h piece2, fits, ap length same, length-take h piece2, length-take h (drop start piece), length-drop start piece))
+    (here ∙ (take_long (h + room) rest ∙ ap (λ bytes. take (length bytes) rest) (sym here))) filled
+
+pub read_on_stays : (view : Option View) (old : ReaderState) (name piece piece2 : List ℕ) (start end place limit lines sum more sum2 count room : ℕ) → holding name (held_of piece start end) place limit lines sum ≡ old
+    → start ≤ end → end ≤ length piece → take (end - start) piece2 ≡ held_of piece start end → count ≤ length (drop (end - start) piece2) → room ≤ 4096 → place + (end - start) + room ≤ limit
+    → ((front : List ℕ) → IsPlainSumOf sum front → IsPlainSumOf sum2 (front ++ drop (8 - (place + (end - start))) (take count (drop (end - start) piece2))))
+    → IfSome (bytes_in view name) (λ file. take count (drop (end - start) piece2) ≡ take room (drop (place + (end - start)) file))
+    → Stays (bytes_in view old.name) old (holding name (take (end - start + count - 0) piece2) place limit more sum2)
+read_on_stays view old name piece piece2 start end place limit lines sum more sum2 count room is order within same fits small low added got file told stood =
+    let P = λ (f : List ℕ). take count (drop (end - start) piece2) ≡ take room (drop (place + (end - start)) f) in
+    let name_is : name ≡ old.name = ap (λ (s : ReaderState). s.name) is in
+    stands_on_behind old name piece piece2 start end place limit lines sum more sum2 count room is order within same fits small low added file
+    (subst (λ o. IfSome o P) (ap (bytes_in view) name_is ∙ told) got) stood
+
+-- behind the last LF of a piece nothing that is held has one
+pub no_lf_held : (piece : List ℕ) (start end whole : ℕ) → whole ≤ start → start ≤ end → HasNoLf (drop whole (take end piece)) → HasNoLf (held_of piece start end)
+no_lf_held piece start end whole low order none =
+    let many : end ≡ start + (end - start) = omega arith in
+    let parts : drop start (take end piece) ≡ held_of piece start end = ap (λ n. drop start (take n piece)) many ∙ drop-take start (end - start) piece in
+    let again : drop (start - whole) (drop whole (take end piece)) ≡ drop start (take end piece) = drop-drop (start - whole) whole (take end piece) ∙ ap (λ n. drop n (take end piece)) (omega arith) in
+    subst HasNoLf (again ∙ parts) (All-drop (λ b. b ≢ 10) (start - whole) (drop whole (take end piece)) none)
+
+-- ---- the sum of what was read
+
+-- behind the bytes that were read all is 0, so the sum of a piece is that of its front and of what is read behind it
+pub sum_rest : (piece : List ℕ) (count m k total : ℕ) → drop count piece ≡ replicate m 0 → total ≡ sum piece % 65536 → total ≡ (sum (take k piece) + sum (drop k (take count piece))) % 65536
+sum_rest piece count m k total zeros is =
+    let back : drop k piece ≡ drop k (take count piece) ++ drop (k - length (take count piece)) (drop count piece) = ap (drop k) (sym (take-append-drop count piece)) ∙ drop_both k (take count piece) (drop count piece) in
+    let none : sum (drop (k - length (take count piece)) (drop count piece)) ≡ 0 = ap (λ z. sum (drop (k - length (take count piece)) z)) zeros ∙ (ap sum (drop-replicate (k - length (take count piece)) m 0) ∙ (sum_by-replicate (λ b. b) (m - (k - length (take count piece))) 0 ∙ mul-zero (m - (k - length (take count piece))))) in
+    let parts : sum piece ≡ sum (take k piece) + sum (drop k (take count piece)) =
+    let whole : sum (take k piece) + sum (drop k piece) ≡ sum piece = sum_by-take-drop (λ b. b) piece k in
+    let rest : sum (drop k piece) ≡ sum (drop k (take count piece)) + sum (drop (k - length (take count piece)) (drop count piece)) = ap sum back ∙ sum_by-append (λ b. b) (drop k (take count piece)) (drop (k - length (take count piece)) (drop count piece)) in
+    omega (arith, whole, rest, none) in
+    is ∙ ap (λ n. n % 65536) parts
+
+-- the same where a front stays
+pub sum_behind : (piece : List ℕ) (front count m k total : ℕ) → drop count (drop front piece) ≡ replicate m 0 → total ≡ sum piece % 65536 → total ≡ (sum (take (front + k) piece) + sum (drop k (take count (drop front piece)))) % 65536
+sum_behind piece front count m k total zeros is =
+    let same : drop (front + k) (take (front + count) piece) ≡ drop k (take count (drop front piece)) = sym (drop-drop k front (take (front + count) piece)) ∙ ap (drop k) (drop-take front count piece) in
+    sum_rest piece (front + count) m (front + k) total (sym (drop-drop count front piece) ∙ zeros) is ∙ ap (λ bytes. (sum (take (front + k) piece) + sum bytes) % 65536) same

@@ -4,9 +4,9 @@
 mod counts;
 mod fronts;
 mod line_readers;
+mod piece_marks;
 mod sums;
 
-pub use counts::lines_in;
 pub use fronts::{
     Front, check_front, check_sum, is_encoded, open_file, read_header, read_lines, read_sum,
 };

@@ -1,14 +1,15 @@
-ghost use Rattle.std.specs.Prelude.{◌≡◌, ℕ, List, ◌++◌, ◌<◌, ◌≤◌, ◌+◌, [], ◌∷◌, true, false, if◌then◌else◌, Option, None, Some, length, max, min, take, drop, IfOk, IfSome, OnOk, OnErr};
+ghost use Rattle.std.specs.Prelude.{◌≡◌, ℕ, List, ◌++◌, ◌<◌, ◌≤◌, ◌+◌, ◌-◌, [], ◌∷◌, true, false, if◌then◌else◌, Option, None, Some, length, max, min, replicate, take, drop, IfOk, IfSome, OnOk, OnErr};
 ghost use Rattle.sccs_base.specs.Cut.{HasNoLf, cut};
 ghost use Rattle.sccs_base.specs.Stream.{Rose};
 ghost use Rattle.sccs_disk.specs.Told.{seen};
 ghost use Rattle.sccs_sid.specs.SidLists.{begins};
+ghost use Rattle.sccs_table.specs.Marks.{IsNextSoh, MarksOf};
 ghost use Rattle.sccs_table.specs.Runs.{HasNoMark, HasNoRun, IsMark, IsRun, lf_count};
 ghost use Rattle.sccs_table.specs.SumOf.{IsSumOf};
 ghost use Rattle.sccs_table.specs.FrontFile.{IsOuter, ReadsBytes, ReadsOn};
 ghost use Rattle.sccs_table.specs.ReaderState.{StandsIn, Stays, Takes, TakesLine, bytes_in};
 
-use crate::counts::lines_in;
+use crate::piece_marks::{PieceMarks, whole_lines};
 use crate::sums::{PlainSum, Sum};
 use memchr::{memchr, memrchr};
 use sccs_base::{FILE_LIMIT, Failed, Memory, Name};
@@ -38,6 +39,9 @@ pub struct LineReader {
     // how many lines ended before the piece
     lines: u64,
     sum: PlainSum,
+    marks: PieceMarks,
+    // the place in the piece behind its last LF
+    whole: usize,
 }
 
 impl Model for LineReader {
@@ -51,7 +55,18 @@ impl Model for LineReader {
     ghost invariant = { IsKept };
 }
 
-// reads so many bytes at a place into the front of a piece; fewer where the file ends
+// makes all bytes behind a front 0
+fn clear_behind(bytes: &mut [u8], front: usize)
+    requires { front ≤ length bytes.old }
+    ensures len { length bytes.new ≡ length bytes.old }
+    ensures front { take front bytes.new ≡ take front bytes.old }
+    ensures rest { drop front bytes.new ≡ replicate (length bytes.old - front) 0 }
+{
+    bytes[front..].fill(0);
+}
+
+// reads so many bytes at a place into the front of a piece; fewer where the file ends. Behind them
+// all is 0
 fn read_piece<D: Disk>(
     disk: &mut D,
     name: &Name,
@@ -67,10 +82,13 @@ fn read_piece<D: Disk>(
     ensures within { IfOk result (λ count. count ≤ length piece.new) }
     ensures told { IfOk result (λ count. IfSome (bytes_in (seen (D.told disk.old)) name.now)
         (λ file. take count piece.new ≡ take room (drop from file))) }
+    ensures rest { IfOk result (λ count. drop count piece.new ≡ replicate (length piece.old - count) 0) }
     ensures missing { IfOk result (λ count. IfSome (seen (D.told disk.old)) (λ view. view name.now ≡ None → count ≡ 0)) }
 {
     let count = disk.read_at(name, from, &mut piece[..room])?;
-    Ok(count.unwrap_or(0))
+    let count = count.unwrap_or(0);
+    clear_behind(piece, count);
+    Ok(count)
 }
 
 fn begins_with_soh(bytes: &[u8]) -> bool
@@ -82,15 +100,39 @@ fn begins_with_soh(bytes: &[u8]) -> bool
     }
 }
 
-// the first place where SOH stands behind LF, or the length
-fn mark_place(bytes: &[u8]) -> usize
+// the first SOH from a place on of bytes that stand in a piece
+#[inline(always)]
+fn soh_in(
+    marks: &PieceMarks,
+    piece: &[u8],
+    start: usize,
+    bytes: &[u8],
+    from: usize,
+) -> Option<usize>
+    requires marks { MarksOf marks.now piece.now }
+    requires order { start ≤ 4096 }
+    requires part { bytes.now ≡ take (length bytes.now) (drop start piece.now) }
+    requires fits { from ≤ length bytes.now }
+    ensures { IsNextSoh bytes.now from (length bytes.now) result }
+{
+    match marks.next_soh(piece, start + from, start + bytes.len()) {
+        Some(at) => Some(at - start),
+        None => None,
+    }
+}
+
+// the first place where SOH stands behind LF, or the length, of bytes that stand in a piece
+#[inline(always)]
+fn mark_place(marks: &PieceMarks, piece: &[u8], start: usize, bytes: &[u8]) -> usize
+    requires marks { MarksOf marks.now piece.now }
+    requires order { start ≤ 4096 }
+    requires part { bytes.now ≡ take (length bytes.now) (drop start piece.now) }
     ensures fits { result ≤ length bytes.now }
     ensures first { HasNoMark bytes.now result }
     ensures mark { result < length bytes.now → IsMark bytes.now result }
 {
     let mut from = 0;
-    'places: while let Some(at) = memchr(1, &bytes[from..]) {
-        let place = from + at;
+    'places: while let Some(place) = soh_in(marks, piece, start, bytes, from) {
         if 0 < place && bytes[place - 1] == b'\n' {
             return place;
         }
@@ -99,8 +141,12 @@ fn mark_place(bytes: &[u8]) -> usize
     bytes.len()
 }
 
-// how many bytes at the front are text lines, each with its LF
-fn run_length(bytes: &[u8]) -> usize
+// how many bytes at the front are text lines, each with its LF, of bytes that stand in a piece
+#[inline(always)]
+fn run_length(marks: &PieceMarks, piece: &[u8], start: usize, bytes: &[u8]) -> usize
+    requires marks { MarksOf marks.now piece.now }
+    requires order { start ≤ 4096 }
+    requires part { bytes.now ≡ take (length bytes.now) (drop start piece.now) }
     ensures fits { result ≤ length bytes.now }
     ensures run { IsRun (take result bytes.now) }
     ensures longest { HasNoRun (drop result bytes.now) }
@@ -108,7 +154,7 @@ fn run_length(bytes: &[u8]) -> usize
     if begins_with_soh(bytes) {
         return 0;
     }
-    let end = mark_place(bytes);
+    let end = mark_place(marks, piece, start, bytes);
     if end < bytes.len() {
         return end;
     }
@@ -129,11 +175,44 @@ fn first_line(bytes: &[u8]) -> Option<&[u8]>
     Some(&bytes[..at])
 }
 
-// the bytes behind so many
-fn behind(bytes: &[u8], count: usize) -> &[u8]
-    ensures { result.now ≡ drop count bytes.now }
+// moves a part of a piece to its front
+fn move_front(piece: &mut [u8], start: usize, end: usize)
+    requires order { start ≤ end }
+    requires within { end ≤ length piece.old }
+    ensures len { length piece.new ≡ length piece.old }
+    ensures front { take (end - start) piece.new ≡ take (end - start) (drop start piece.old) }
 {
-    bytes.get(count..).unwrap_or(&[])
+    piece.copy_within(start..end, 0);
+}
+
+// reads so many bytes at a place behind the front of a piece, which stays; fewer where the file ends
+fn read_behind<D: Disk>(
+    disk: &mut D,
+    name: &Name,
+    from: u64,
+    front: usize,
+    room: usize,
+    piece: &mut [u8],
+) -> Result<usize, Failed>
+    requires { front + room ≤ length piece.old }
+    ensures same { D.told disk.new ≡ D.told disk.old }
+    ensures later { D.faults disk.old ≤ D.faults disk.new }
+    ensures cause { OnErr result (Rose (D.faults disk.old) (D.faults disk.new)) }
+    ensures bound { IfOk result (λ count. count ≤ room) }
+    ensures len { length piece.new ≡ length piece.old }
+    ensures front { take front piece.new ≡ take front piece.old }
+    ensures rest { IfOk result (λ count. drop count (drop front piece.new) ≡ replicate (length piece.old - front - count) 0) }
+    ensures told { IfOk result (λ count. IfSome (bytes_in (seen (D.told disk.old)) name.now)
+        (λ file. take count (drop front piece.new) ≡ take room (drop from file))) }
+{
+    read_piece(disk, name, from, room, &mut piece[front..])
+}
+
+// the first bytes, or all
+fn front_part(bytes: &[u8], count: usize) -> &[u8]
+    ensures { result.now ≡ take count bytes.now }
+{
+    bytes.get(..count).unwrap_or(bytes)
 }
 
 impl LineReader {
@@ -143,15 +222,20 @@ impl LineReader {
         requires high { limit ≤ 1073741825 }
         ensures { result ≡ record { name = name.now; held = []; place = place; limit = limit; lines = 0; sum = 0 } }
     {
+        let piece = [0; 4096];
+        let mut marks = PieceMarks::new();
+        let _ = marks.read(&piece);
         LineReader {
             name: *name,
-            piece: [0; 4096],
+            piece,
             start: 0,
             end: 0,
             place,
             limit,
             lines: 0,
             sum: PlainSum::new(),
+            marks,
+            whole: 0,
         }
     }
 
@@ -203,14 +287,18 @@ impl LineReader {
             (λ file. StandsIn self.old file → StandsIn self.new file × (more ≡ false → min to (length file) ≤ self.new.place))) }
         ensures lines { self.new.lines ≡ self.old.lines }
     {
-        self.lines += lines_in(&self.piece[..self.start]);
+        self.lines += self.marks.lines_before(&self.piece, self.start);
         self.start = 0;
         self.end = 0;
+        self.whole = 0;
         let room = to.saturating_sub(self.place).min(4096) as usize;
-        let count = read_piece(disk, &self.name, self.place, room, &mut self.piece)?;
+        let read = read_piece(disk, &self.name, self.place, room, &mut self.piece);
+        let total = self.marks.read(&self.piece);
+        let count = read?;
         let before = SUM_LINE.saturating_sub(self.place) as usize;
-        self.sum.add(behind(&self.piece[..count], before));
+        self.sum.add_behind(total, front_part(&self.piece, before));
         self.end = count;
+        self.whole = whole_lines(&self.piece[..count]);
         Ok(count > 0)
     }
 
@@ -239,10 +327,11 @@ impl LineReader {
         ensures lines { self.new.lines ≡ self.old.lines }
         ensures ahead { self.new.place + length self.new.held ≤ self.new.limit }
     {
-        self.lines += lines_in(&self.piece[..self.start]);
+        self.lines += self.marks.lines_before(&self.piece, self.start);
         self.place += (self.end - self.start) as u64;
         self.start = 0;
         self.end = 0;
+        self.whole = 0;
     }
 
     /// Passes over all bytes before a place, or up to the end of a file that ends there or before; no
@@ -328,6 +417,47 @@ impl LineReader {
         }
     }
 
+    /// Where no LF is held, reads on behind the held bytes, as far as there is room for them; true
+    /// where an LF is held then.
+    pub fn read_on<D: Disk>(&mut self, disk: &mut D) -> Result<bool, Failed>
+        ensures frame { ReadsBytes D.told D.faults disk.old disk.new self.old self.new result }
+        ensures stays { Stays (bytes_in (seen (D.told disk.old)) self.old.name) self.old self.new }
+        ensures place { self.new.place ≡ self.old.place }
+        ensures lines { self.new.lines ≡ self.old.lines }
+        ensures ahead { self.new.place + length self.new.held ≤ self.new.limit }
+        ensures more { IfOk result (λ more. more ≡ true → (lf_count self.old.held ≡ 0) × (0 < lf_count self.new.held)) }
+    {
+        if self.start < self.whole {
+            return Ok(false);
+        }
+        self.lines += self.marks.lines_before(&self.piece, self.start);
+        let held = self.end - self.start;
+        move_front(&mut self.piece, self.start, self.end);
+        self.start = 0;
+        self.end = held;
+        self.whole = 0;
+        let from = self.place + held as u64;
+        let room = self.limit.saturating_sub(from).min((4096 - held) as u64) as usize;
+        let read = read_behind(disk, &self.name, from, held, room, &mut self.piece);
+        let total = self.marks.read(&self.piece);
+        let count = read?;
+        let before = held + SUM_LINE.saturating_sub(from) as usize;
+        self.sum.add_behind(total, front_part(&self.piece, before));
+        self.end = held + count;
+        self.whole = whole_lines(&self.piece[..self.end]);
+        Ok(self.whole > 0)
+    }
+
+    /// How many lines end in so many of the held bytes.
+    #[inline(always)]
+    pub fn lines_held(&self, count: usize) -> u64
+        requires { count ≤ length self.now.held }
+        ensures { result ≡ lf_count (take count self.now.held) }
+    {
+        let before = self.marks.lines_before(&self.piece, self.start);
+        self.marks.lines_before(&self.piece, self.start + count) - before
+    }
+
     /// The bytes that were read and not given yet.
     pub fn held(&self) -> &[u8]
         ensures { result.now ≡ self.now.held }
@@ -373,7 +503,7 @@ impl LineReader {
         ensures longest { HasNoRun (drop (length result.now) self.now.held) }
     {
         let held = &self.piece[self.start..self.end];
-        &held[..run_length(held)]
+        &held[..run_length(&self.marks, &self.piece, self.start, held)]
     }
 
     /// Passes over so many of the held bytes.
@@ -399,7 +529,7 @@ impl LineReader {
         ensures bound { result ≤ self.now.place }
         ensures limit { self.now.place ≤ 1073741825 }
     {
-        self.lines + lines_in(&self.piece[..self.start])
+        self.lines + self.marks.lines_before(&self.piece, self.start)
     }
 
     // adds the held bytes to the sums, and holds none

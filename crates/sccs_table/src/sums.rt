@@ -1,4 +1,4 @@
-ghost use Rattle.std.specs.Prelude.{◌≡◌, ℕ, ◌+◌, ◌%◌, List, [], ◌++◌, sum, sum_by};
+ghost use Rattle.std.specs.Prelude.{◌≡◌, ℕ, length, ◌+◌, ◌%◌, List, [], ◌++◌, sum, sum_by};
 ghost use Rattle.sccs_grammar.specs.Sums.{signed_weight};
 ghost use Rattle.sccs_table.specs.SumOf.{IsPlainSumOf, IsSumOf};
 
@@ -94,7 +94,7 @@ impl Model for PlainSum {
 
 // the plain sum after more bytes
 #[inline(always)]
-fn plain_after(plain: u16, bytes: &[u8]) -> u16
+pub fn plain_after(plain: u16, bytes: &[u8]) -> u16
     ensures { result ≡ (plain + sum bytes.now) % 65536 }
 {
     let mut plain = plain;
@@ -104,15 +104,25 @@ fn plain_after(plain: u16, bytes: &[u8]) -> u16
     plain
 }
 
-// the same of many bytes; 64 of them are added by four instructions
-fn plain_in_parts(before: u16, bytes: &[u8]) -> u16
+// the same of 128 bytes, of which each half is added by four instructions
+#[inline(always)]
+fn plain_after_halves(plain: u16, bytes: &[u8]) -> u16
+    requires { length bytes.now ≡ 128 }
+    ensures { result ≡ (plain + sum bytes.now) % 65536 }
+{
+    let (front, back) = bytes.split_at(64);
+    plain_after(plain_after(plain, front), back)
+}
+
+// the same of many bytes
+pub fn plain_in_parts(before: u16, bytes: &[u8]) -> u16
     ensures { result ≡ (before + sum bytes.now) % 65536 }
 {
     let mut plain = before;
     let mut rest = bytes;
-    'parts: while rest.len() >= 64 {
-        let (part, behind) = rest.split_at(64);
-        plain = plain_after(plain, part);
+    'parts: while rest.len() >= 128 {
+        let (part, behind) = rest.split_at(128);
+        plain = plain_after_halves(plain, part);
         rest = behind;
     }
     plain_after(plain, rest)
@@ -126,11 +136,12 @@ impl PlainSum {
         PlainSum { value: 0 }
     }
 
-    /// Adds bytes.
-    pub fn add(&mut self, bytes: &[u8])
-        ensures { (front : List ℕ) → IsPlainSumOf self.old front → IsPlainSumOf self.new (front ++ bytes.now) }
+    /// Adds the bytes that stand behind others, from the plain sum of both.
+    pub fn add_behind(&mut self, total: u16, front: &[u8])
+        ensures { (before bytes : List ℕ) → total ≡ (sum front.now + sum bytes) % 65536 → IsPlainSumOf self.old before → IsPlainSumOf self.new (before ++ bytes) }
     {
-        self.value = plain_in_parts(self.value, bytes);
+        let behind = total.wrapping_sub(plain_in_parts(0, front));
+        self.value = self.value.wrapping_add(behind);
     }
 
     /// The sum.

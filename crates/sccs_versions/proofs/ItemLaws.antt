@@ -11,14 +11,16 @@ use Rattle.sccs_grammar.specs.declared.faults.FileFault.TheVariants as faults
 use Rattle.sccs_table.specs.declared.fronts.Front.{Front}
 use Rattle.sccs_history.specs.Applied.{live_serials}
 use Rattle.sccs_body.specs.Reader.{ItemPlace}
+use Rattle.sccs_body.specs.ItemsRead.{GoesOrStays, IsBehind}
 use Rattle.sccs_body.specs.BodyFile.{items_of}
-use Rattle.sccs_body.specs.ToCome.{ItemComes, ToCome}
+use Rattle.sccs_body.specs.ToCome.{ComesOrStays, ItemComes, ToCome}
 use Rattle.sccs_body.specs.ToCome as items
 use Rattle.sccs_versions.proofs.RunLaws.{onto_read}
 use Rattle.sccs_weave.specs.Regions.{Holds}
 use Rattle.sccs_weave.specs.declared.regions.Region.{Region}
 use Rattle.sccs_versions.specs.Coming.{Coming, GivesNext, IsBody, ShowsItem, shown}
 use Rattle.sccs_versions.specs.Place.{VersionPlace}
+use Rattle.sccs_versions.specs.WasRead.{HasRead}
 use Rattle.sccs_versions.specs.declared.readers.Next.{Next}
 use Rattle.sccs_versions.specs.declared.readers.Next.TheVariants.{Line, Hidden, End}
 
@@ -137,6 +139,26 @@ fault_given file r r2 lines (faults.Changed a b c d) p given = given
 
 pub next_fails : (file : List ℕ) (r r2 : VersionPlace) (lines : List HistoryLine) (fault : FileFault) (result : Result Next FileFault) → result ≡ Err fault → Given file r.items r2.items (Err fault) → Coming file r lines → GivesNext file r2 lines result
 next_fails file r r2 lines fault result is given p = subst (λ x. GivesNext file r2 lines x) (sym is) (fault_given file r r2 lines fault p (given p.live p.before (Ok p.rest) p.comes))
+
+-- a reader that took nothing: at None nothing was taken, and then more was read on
+pub coming_still : (file : List ℕ) (r r2 : VersionPlace) (mid : ItemPlace) (lines : List HistoryLine) (taken : Option Item) → taken ≡ None → r2.set ≡ r.set → r2.regions ≡ r.regions → ((live : List ℕ) (before : List Item) (found : Result (List Item) ℕ) → ToCome file live before found r.items → ComesOrStays file live before found mid taken)
+    → ((live : List ℕ) (before : List Item) (found : Result (List Item) ℕ) → ToCome file live before found mid → ToCome file live before found r2.items) → Coming file r lines → Coming file r2 lines
+coming_still file r r2 mid lines taken none set regions taken_none read_on p = record {
+  live = p.live;
+  before = p.before;
+  rest = p.rest;
+  holds = subst (λ s. Holds s p.before r2.regions) (sym set) (subst (λ w. Holds r.set p.before w) (sym regions) p.holds);
+  comes = read_on p.live p.before (Ok p.rest) (subst (λ t. ComesOrStays file p.live p.before (Ok p.rest) mid t) none (taken_none p.live p.before (Ok p.rest) p.comes));
+  lines_are = p.lines_are ∙ ap (λ s. shown s (lines_behind p.before p.rest)) (sym set);
+}
+
+pub read_still : (live : List ℕ) (r r2 : VersionPlace) (mid : ItemPlace) (before : List Item) (taken : Option Item) → taken ≡ None → r2.set ≡ r.set → r2.regions ≡ r.regions → ((live : List ℕ) (before : List Item) → IsBehind live before r.items → GoesOrStays live before mid taken)
+    → ((live : List ℕ) (before : List Item) → IsBehind live before mid → IsBehind live before r2.items) → HasRead live r before → HasRead live r2 before
+read_still live r r2 mid before taken none set regions taken_none read_on h = record {
+  stood = h.stood;
+  behind = read_on live before (subst (λ t. GoesOrStays live before mid t) none (taken_none live before h.behind));
+  holds = subst (λ s. Holds s before r2.regions) (sym set) (subst (λ w. Holds r.set before w) (sym regions) h.holds);
+}
 
 -- a reader that was made before the body of a told file
 pub body_comes : (file : List ℕ) (told : Option (List ℕ)) (front : Front) (r : VersionPlace) (list : List Item) → IsBody told front r.set file list → Holds r.set [] r.regions → ToCome file (live_serials front.header.records) [] (items_of file front) r.items → Coming file r (shown r.set (lines_of list))

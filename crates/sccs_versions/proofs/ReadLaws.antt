@@ -175,6 +175,16 @@ end_read live r regions new set before found is same goes on = record {
   whole = subst (λ s. shown_before s on.items ≡ shown_before s before) (sym same) (nothing_more live r regions before on);
 }
 
+-- what is read of a body behind items of which nothing more is shown
+pub read_then : (live : List ℕ) (r r2 : VersionPlace) (regions : List Region) (before : List Item) (result : Result Next FileFault) → r2.set ≡ r.set → ReadsOn live r regions before [] → ((before : List Item) → HasRead live r before → ReadsNext live r2 before result) → ReadsNext live r2 before result
+read_then live r r2 regions before result same on next = then_read live r2 before on.items result (ap (λ set. shown_before set on.items) same ∙ (nothing_more live r regions before on ∙ ap (λ set. shown_before set before) (sym same))) (next on.items on.read)
+  where
+    then_read : (live : List ℕ) (r : VersionPlace) (before items : List Item) (result : Result Next FileFault) → shown_before r.set items ≡ shown_before r.set before → ReadsNext live r items result → ReadsNext live r before result
+    then_read live r before items (Ok (Line text)) is next = record { items = next.items; read = next.read; first = next.first; whole = next.whole ∙ ap (λ lines. lines ++ next.first) is; texts_are = next.texts_are; inserted = next.inserted }
+    then_read live r before items (Ok Hidden) is next = record { items = next.items; read = next.read; first = next.first; whole = next.whole ∙ ap (λ lines. lines ++ next.first) is; texts_are = next.texts_are; inserted = next.inserted }
+    then_read live r before items (Ok End) is next = record { items = next.items; stood = next.stood; over = next.over; whole = next.whole ∙ is }
+    then_read live r before items (Err fault) is next = tt
+
 -- ---- texts
 
 -- the text of what was shown is that of what was shown before, and these lines

@@ -3,7 +3,7 @@ use Rattle.std.specs.Prelude.{◌≡◌, ℕ, ◌⊎◌, true, List}
 use Rattle.sccs_history.specs.Body.{inserter, line_at}
 use Rattle.sccs_history.specs.Select.{shows}
 use Rattle.sccs_history.specs.declared.headers.Item.{Item}
-use Rattle.sccs_body.specs.Reader.{ItemPlace, name_read, at_hand as items_at_hand, bytes_left as items_left}
+use Rattle.sccs_body.specs.Reader.{ItemPlace, name_read, at_hand as items_at_hand, steps_left as items_steps}
 use Rattle.sccs_body.specs.ToCome.{MayPass}
 use Rattle.sccs_weave.specs.Regions.{Holds, Opens}
 use Rattle.sccs_weave.specs.declared.regions.Region.{Region}
@@ -14,9 +14,9 @@ pub record VersionPlace : Type 0 where
   pub items : ItemPlace
   pub regions : List Region
 
--- how many bytes may be read yet
-abbrev pub bytes_left : VersionPlace → ℕ
-bytes_left r = items_left r.items
+-- how many steps may be left at most
+abbrev pub steps_left : VersionPlace → ℕ
+steps_left r = items_steps r.items
 
 -- the file that is read
 abbrev pub name_of : VersionPlace → List ℕ

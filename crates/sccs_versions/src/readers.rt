@@ -8,10 +8,12 @@ ghost use Rattle.sccs_history.specs.Numbers.{has};
 ghost use Rattle.sccs_history.specs.declared.headers.Item.{Item};
 ghost use Rattle.sccs_table.specs.FrontFile.{IsFirst, ReadsDisk};
 ghost use Rattle.sccs_table.specs.ReaderState.{bytes_in};
+ghost use Rattle.sccs_table.specs.Runs.{lf_count};
+ghost use Rattle.sccs_body.specs.Reader.{bytes_left};
 ghost use Rattle.sccs_body.specs.ToCome.{Changes};
 ghost use Rattle.sccs_weave.specs.Regions.{Holds};
 ghost use Rattle.sccs_versions.specs.Coming.{ComeFirst, Coming, GivesNext, IsBody, ShowsItem, StandFirst, shown};
-ghost use Rattle.sccs_versions.specs.Place.{AreShown, IsInserter, KeepsFirst, at_hand, bytes_left, name_of};
+ghost use Rattle.sccs_versions.specs.Place.{AreShown, IsInserter, KeepsFirst, at_hand, name_of, steps_left};
 ghost use Rattle.sccs_versions.specs.WasRead.{HasRead, ReadsNext, ReadsOn};
 ghost use Rattle.sccs_versions.specs.declared.readers.Next.TheVariants as next;
 
@@ -30,7 +32,7 @@ use std::marker::Model;
 pub enum Next {
     /// A line that the set shows.
     Line(Line),
-    /// A line or a mark of which nothing is shown.
+    /// Nothing of what was read is shown, or no line or mark was taken yet.
     Hidden,
     /// The end of the body.
     End,
@@ -56,6 +58,7 @@ impl<'a> Model for VersionReader<'a> {
 }
 
 // what an item shows of itself; the weaver then stands behind it
+#[inline(always)]
 fn show_item(weaver: &mut Weaver, set: &Applied, item: Item) -> Result<Next, FileFault>
     ensures shows { (before : List Item) → Holds set.now before weaver.old → ShowsItem set.now before item weaver.new result }
     ensures never { result ≢ Err faults.Failed }
@@ -132,7 +135,7 @@ impl<'a> VersionReader<'a> {
         ensures set { self.new.set ≡ self.old.set }
         ensures first { KeepsFirst self.old self.new }
         ensures name { name_of self.new ≡ name_of self.old }
-        ensures left { bytes_left self.new ≤ bytes_left self.old }
+        ensures left { steps_left self.new ≤ steps_left self.old }
         ensures coming { (file : List ℕ) (lines : List HistoryLine) → Coming file self.old lines
             → ComeFirst file self.old self.new (at_hand self.old count) lines }
         ensures read { (live : List ℕ) (before : List Item) → HasRead live self.old before
@@ -147,7 +150,7 @@ impl<'a> VersionReader<'a> {
         ensures set { self.new.set ≡ self.old.set }
         ensures first { KeepsFirst self.old self.new }
         ensures name { name_of self.new ≡ name_of self.old }
-        ensures left { bytes_left self.new ≤ bytes_left self.old }
+        ensures left { steps_left self.new ≤ steps_left self.old }
         ensures coming { (file : List ℕ) (lines : List HistoryLine) → Coming file self.old lines → Coming file self.new lines }
         ensures read { (live : List ℕ) (before : List Item) → HasRead live self.old before → ReadsOn live self.new self.old.regions before [] }
     {
@@ -157,24 +160,73 @@ impl<'a> VersionReader<'a> {
         }
     }
 
-    /// The next line that the set shows, or that nothing of the next item is shown; the end of the
+    /// How many lines end in so many bytes of lines that `texts` gives.
+    #[inline(always)]
+    pub fn lines_held(&self, count: usize) -> u64
+        requires { AreShown self.now count }
+        ensures { result ≡ lf_count (at_hand self.now count) }
+    {
+        self.items.lines_held(count)
+    }
+
+    // what the next item shows of itself, however its line is spelled and held
+    #[inline(never)]
+    fn next_item<D: Disk>(&mut self, disk: &mut D) -> Result<Next, FileFault>
+        ensures frame { ReadsDisk D.told D.faults disk.old disk.new result }
+        ensures changed { Changes self.old.items result }
+        ensures set { self.new.set ≡ self.old.set }
+        ensures first { KeepsFirst self.old self.new }
+        ensures name { name_of self.new ≡ name_of self.old }
+        ensures further { IfOk result (λ n. n ≢ next.End → bytes_left self.new.items < bytes_left self.old.items) }
+        ensures told { (file : List ℕ) (lines : List HistoryLine) → bytes_in (seen (D.told disk.old)) (name_of self.old) ≡ Some file
+            → Coming file self.old lines → GivesNext file self.new lines result }
+        ensures read { (live : List ℕ) (before : List Item) → HasRead live self.old before → ReadsNext live self.new before result }
+    {
+        match self.items.next(disk)? {
+            Some(item) => show_item(&mut self.weaver, self.set, item),
+            None => Ok(Next::End),
+        }
+    }
+
+    // the same behind lines that aren't shown: an item that is held and read quickly, or more that was
+    // read on, or the next item
+    #[inline(always)]
+    fn next_behind<D: Disk>(&mut self, disk: &mut D) -> Result<Next, FileFault>
+        ensures frame { ReadsDisk D.told D.faults disk.old disk.new result }
+        ensures changed { Changes self.old.items result }
+        ensures set { self.new.set ≡ self.old.set }
+        ensures first { KeepsFirst self.old self.new }
+        ensures name { name_of self.new ≡ name_of self.old }
+        ensures further { IfOk result (λ n. n ≢ next.End → steps_left self.new < steps_left self.old) }
+        ensures told { (file : List ℕ) (lines : List HistoryLine) → bytes_in (seen (D.told disk.old)) (name_of self.old) ≡ Some file
+            → Coming file self.old lines → GivesNext file self.new lines result }
+        ensures read { (live : List ℕ) (before : List Item) → HasRead live self.old before → ReadsNext live self.new before result }
+    {
+        if let Some(item) = self.items.next_control() {
+            return show_item(&mut self.weaver, self.set, item);
+        }
+        if self.items.read_on(disk)? {
+            return Ok(Next::Hidden);
+        }
+        self.next_item(disk)
+    }
+
+    /// The next line that the set shows, or that nothing of what was read is shown; the end of the
     /// body. BadFormat has the number of the line at which no item may stand; `Changed` comes as with an
     /// `ItemReader`.
+    #[inline(always)]
     pub fn next<D: Disk>(&mut self, disk: &mut D) -> Result<Next, FileFault>
         ensures frame { ReadsDisk D.told D.faults disk.old disk.new result }
         ensures changed { Changes self.old.items result }
         ensures set { self.new.set ≡ self.old.set }
         ensures first { KeepsFirst self.old self.new }
         ensures name { name_of self.new ≡ name_of self.old }
-        ensures further { IfOk result (λ n. n ≢ next.End → bytes_left self.new < bytes_left self.old) }
+        ensures further { IfOk result (λ n. n ≢ next.End → steps_left self.new < steps_left self.old) }
         ensures told { (file : List ℕ) (lines : List HistoryLine) → bytes_in (seen (D.told disk.old)) (name_of self.old) ≡ Some file
             → Coming file self.old lines → GivesNext file self.new lines result }
         ensures read { (live : List ℕ) (before : List Item) → HasRead live self.old before → ReadsNext live self.new before result }
     {
         self.pass_hidden();
-        match self.items.next(disk)? {
-            Some(item) => show_item(&mut self.weaver, self.set, item),
-            None => Ok(Next::End),
-        }
+        self.next_behind(disk)
     }
 }

@@ -1,6 +1,7 @@
-use Rattle.std.proofs.Common.{◌≡◌, ◌+◌, ◌-◌, ◌≤◌, [], List, length, ℕ}
+use Rattle.std.proofs.Common.{◌≡◌, ◌+◌, ◌-◌, ◌*◌, ◌≤◌, [], List, ℕ}
 use Rattle.sccs_disk.specs.Told.{seen}
 use Rattle.sccs_table.specs.ReaderState.{Stays, bytes_in}
+use Rattle.sccs_table.specs.Runs.{lf_count}
 use Rattle.sccs_body.specs.ItemsRead.{HasBehind}
 use Rattle.sccs_body.proofs.BodyLaws.{Somewhere}
 use Rattle.sccs_body.proofs.bodies.check_items.Given as goal
@@ -17,4 +18,4 @@ invariant-items g l = record {
 }
 
 abbrev pub decreases-items : goal.decreases-items
-decreases-items g l = l.body.lines.limit - l.body.lines.place
+decreases-items g l = 2 * (l.body.lines.limit - l.body.lines.place) + (1 - lf_count l.body.lines.held)

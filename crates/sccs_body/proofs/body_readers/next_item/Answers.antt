@@ -7,11 +7,11 @@ returns-in_default c = λ live before knows. line_silent live before c.args.line
 
 pub returns-then-branch : goal.returns-then-branch
 returns-then-branch c = λ live before knows.
-    let stood = c.in_ok-goes_on.ensures live before knows in
+    let stood = c.in_ok-goes_on.ensures.goes live before knows in
     let may = stood.0 ∙ c.if-branch.true in
     (line_item live before c.args.line.now c.in-Some.item true (sym c.in_ok-item.ensures ∙ c.in-Some.is) may, may, stood.1 c.if-branch.true)
 
 pub returns-else-branch : goal.returns-else-branch
 returns-else-branch c = λ live before knows.
-    let stood = c.in_ok-goes_on.ensures live before knows in
+    let stood = c.in_ok-goes_on.ensures.goes live before knows in
     line_item live before c.args.line.now c.in-Some.item false (sym c.in_ok-item.ensures ∙ c.in-Some.is) (stood.0 ∙ c.if-branch.false)

@@ -1,5 +1,6 @@
-use Rattle.std.proofs.Common.{sym, subst}
+use Rattle.std.proofs.Common.{ap, sym, subst, ◌∙◌}
 use Rattle.sccs_base.specs.Cut.{cut}
+use Rattle.sccs_table.specs.Runs.{lf_count}
 use Rattle.sccs_versions.specs.Coming.{ComeFirst}
 use Rattle.sccs_versions.specs.WasRead.{ReadsOn}
 use Rattle.sccs_printing.proofs.GivingLaws.{moved_none, run_cut, run_given, some_none, some_read}
@@ -10,6 +11,9 @@ returns-then-count-eq0-clause-gives g c = λ file lines p. moved_none file c.arg
 
 pub returns-then-count-eq0-clause-read : goal.returns-then-count-eq0-clause-read
 returns-then-count-eq0-clause-read g c = λ live before h. some_none live c.args.version.now before c.args.giving.now _ h
+
+pub give_lines-requires-clause-counted : goal.give_lines-requires-clause-counted
+give_lines-requires-clause-counted g c = c.lines_held-more.ensures ∙ ap lf_count (sym c.texts-texts.ensures.value)
 
 pub returns-in-Err-clause-gives : goal.returns-in-Err-clause-gives
 returns-in-Err-clause-gives g c = λ file lines p.

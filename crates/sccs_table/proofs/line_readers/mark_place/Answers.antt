@@ -1,5 +1,7 @@
-use Rattle.std.proofs.Common.{◌≢◌, ◌<◌, ◌≤◌, ◌+◌, ◌-◌, arith, get_or, take, drop, length, eq-eqb, length-take, length-drop}
-use Rattle.sccs_table.proofs.RunLaws.{before_in, no_mark_on, no_mark_to}
+use Rattle.std.proofs.Common.{◌≡◌, ◌≢◌, ◌<◌, ◌+◌, ◌-◌, ◌∙◌, arith, get_or, length, subst, sym}
+use Rattle.std.proofs.lemmas.List.{get_or-drop}
+use Rattle.sccs_table.specs.Runs.{HasNoMark}
+use Rattle.sccs_table.proofs.RunLaws.{no_mark_on, no_mark_to}
 use Rattle.sccs_table.proofs.line_readers.mark_place.Goals.{else-place-gt0-via-then-place-gt0+else-bytes-place-eq10, else-place-gt0-via-else-place-gt0}
 use Rattle.sccs_table.proofs.line_readers.mark_place.Goals as goal
 
@@ -7,30 +9,29 @@ pub returns-then-bytes-place-eq10-clause-first : goal.returns-then-bytes-place-e
 returns-then-bytes-place-eq10-clause-first c =
     let bytes = c.args.bytes.now in
     let from = c.places.from in
-    let rest = take (length bytes - from) (drop from bytes) in
-    let fits : from + c.in-Some.at ≤ length bytes = omega (arith, c.in-Some.ensures.0.high, c.places.invariant.fits, length-take (length bytes - from) (drop from bytes), length-drop from bytes) in
-    no_mark_to bytes from (from + c.in-Some.at) fits c.places.invariant.none
-    (λ k low below. before_in bytes from c.in-Some.at fits (λ k low below is. c.in-Some.ensures.0.before k low below (eq-eqb (get_or rest k 0) 1 is)) k low (omega arith))
+    no_mark_to bytes from c.in-Some.place (omega (arith, c.in-Some.ensures.1)) c.places.invariant.none
+    (λ k low below is. c.in-Some.ensures.2 (from + k) (omega arith) (omega arith) (sym (get_or-drop from bytes k 0) ∙ is))
 
 pub places-preserved : goal.places-preserved
 places-preserved c =
     let bytes = c.args.bytes.now in
     let from = c.places.from in
-    let rest = take (length bytes - from) (drop from bytes) in
-    let within : from + c.in-Some.at < length bytes = omega (arith, c.in-Some.ensures.0.high, c.places.invariant.fits, length-take (length bytes - from) (drop from bytes), length-drop from bytes) in
-    let last : 0 < from + c.in-Some.at → get_or bytes (from + c.in-Some.at - 1) 0 ≢ 10 = elim c.else-place-gt0.branch [
+    let place = c.in-Some.place in
+    let at : from + (place - from) ≡ place = omega (arith, c.in-Some.ensures.0) in
+    let last : 0 < place → get_or bytes (place - 1) 0 ≢ 10 = elim c.else-place-gt0.branch [
       | else-place-gt0-via-then-place-gt0+else-bytes-place-eq10 w ↦ λ some. w.if-bytes-place-eq10.false
       | else-place-gt0-via-else-place-gt0 w ↦ λ some. absurd (omega (arith, w.if-place-gt0.false))
     ] in
     record {
-      fits = omega arith;
-      none = no_mark_on bytes from c.in-Some.at c.places.invariant.none (before_in bytes from c.in-Some.at (omega arith) (λ k low below is. c.in-Some.ensures.0.before k low below (eq-eqb (get_or rest k 0) 1 is))) last;
+      fits = omega (arith, c.in-Some.ensures.1);
+      none = subst (λ n. HasNoMark bytes (n + 1)) at (no_mark_on bytes from (place - from) c.places.invariant.none
+          (λ k low below is. c.in-Some.ensures.2 (from + k) (omega arith) (omega arith) (sym (get_or-drop from bytes k 0) ∙ is))
+          (λ some. subst (λ n. get_or bytes (n - 1) 0 ≢ 10) (sym at) (last (omega (arith, some, at)))));
     }
 
 pub returns-clause-first : goal.returns-clause-first
 returns-clause-first c =
     let bytes = c.args.bytes.now in
     let from = c.places.from in
-    let rest = take (length bytes - from) (drop from bytes) in
     no_mark_to bytes from (length bytes) (omega arith) c.places.invariant.none
-    (before_in bytes from (length bytes - from) (omega (arith, c.places.invariant.fits)) (λ k low below is. c.in_default.ensures k low (omega (arith, length-take (length bytes - from) (drop from bytes), length-drop from bytes)) (eq-eqb (get_or rest k 0) 1 is)))
+    (λ k low below is. c.in_default.ensures (from + k) (omega arith) (omega arith) (sym (get_or-drop from bytes k 0) ∙ is))

@@ -1,5 +1,4 @@
 use Rattle.std.proofs.Common.{◌∙◌, ap, rules, subst, sym}
-use Rattle.std.proofs.lemmas.Result.{err_from_is_err_and}
 use Rattle.sccs_disk.specs.Told.{seen}
 use Rattle.sccs_marks.specs.States.{Knows}
 use Rattle.sccs_table.proofs.FrontLaws.{exit_is}

@@ -1,4 +1,4 @@
-use Rattle.std.proofs.Common.{◌≤◌, refl, rules, subst, sym}
+use Rattle.std.proofs.Common.{◌≤◌, refl, subst, sym}
 use Rattle.sccs_body.specs.Reader.{ItemPlace}
 use Rattle.sccs_body.specs.ToCome.{KeepsFile, ReadsNext}
 use Rattle.sccs_body.proofs.ComingLaws.{next_further, next_gives}

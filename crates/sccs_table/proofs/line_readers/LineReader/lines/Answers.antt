@@ -4,7 +4,7 @@ use Rattle.sccs_table.proofs.CountLaws.{line_bound}
 use Rattle.sccs_table.proofs.line_readers.LineReader.lines.Goals as goal
 
 pub overflow_add-result : goal.overflow_add-result
-overflow_add-result c = omega (arith, c.lines_in.ensures, line_bound c.self.inside.piece c.self.inside.start, c.self.invariant.counted, c.self.invariant.ahead, c.self.invariant.limit)
+overflow_add-result c = omega (arith, c.lines_before.ensures, line_bound c.self.inside.piece c.self.inside.start, c.self.invariant.counted, c.self.invariant.ahead, c.self.invariant.limit)
 
 pub returns-clause-bound : goal.returns-clause-bound
-returns-clause-bound c = omega (arith, c.lines_in.ensures, line_bound c.self.inside.piece c.self.inside.start, c.self.invariant.counted, ap (λ (s : ReaderState). s.place) c.self.view_is)
+returns-clause-bound c = omega (arith, c.lines_before.ensures, line_bound c.self.inside.piece c.self.inside.start, c.self.invariant.counted, ap (λ (s : ReaderState). s.place) c.self.view_is)

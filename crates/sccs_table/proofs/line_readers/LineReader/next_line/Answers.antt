@@ -63,3 +63,6 @@ returns-in-Err-fill-clause-stays g c =
 pub returns-in-Ok-false-fill-clause-line : goal.returns-in-Ok-false-fill-clause-line
 returns-in-Ok-false-fill-clause-line g c =
     line_without c.pieces.self c.take_held.new.self c.pieces.line.items c.take_held.new.line.items false c.pieces.invariant.none (takes_at c.pieces.self c.take_held.new.self c.pieces.line.items c.take_held.new.line.items c.in-Ok-false.field-0 false c.in-Ok-false.field-0-test c.in-Ok-false.ensures.taken)
+
+pub returns-in-Ok-true-clause-line : goal.returns-in-Ok-true-clause-line
+returns-in-Ok-true-clause-line g c = line_without c.pieces.self c.take_held.new.self c.pieces.line.items c.take_held.new.line.items c.in-Ok-true.field-0 c.pieces.invariant.none c.in-Ok-true.ensures.taken

@@ -1,7 +1,7 @@
-use Rattle.std.proofs.Common.{◌∙◌, false, ap, refl, rules, subst}
+use Rattle.std.proofs.Common.{◌∙◌, ap, refl, rules}
 use Rattle.sccs_disk.specs.Told.{seen}
 use Rattle.sccs_table.specs.ReaderState.{bytes_in}
-use Rattle.sccs_table.proofs.ReaderLaws.{emptied_stays, filled_stays, same_file, skipped_all, stays_on}
+use Rattle.sccs_table.proofs.ReaderLaws.{emptied_stays, same_file, skipped_all, stays_on}
 use Rattle.sccs_table.proofs.line_readers.LineReader.skip_to.Goals as goal
 
 pub returns-in_err-fill_to-clause-stays : goal.returns-in_err-fill_to-clause-stays

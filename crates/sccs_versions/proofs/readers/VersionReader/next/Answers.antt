@@ -1,52 +1,13 @@
-use Rattle.std.proofs.Common.{[], ap, refl, sym, subst, ◌∙◌}
+use Rattle.std.proofs.Common.{ap, ◌∙◌}
 use Rattle.sccs_disk.specs.Told.{seen}
 use Rattle.sccs_table.specs.ReaderState.{bytes_in}
-use Rattle.sccs_table.proofs.FrontLaws.{exit_is}
-use Rattle.sccs_body.specs.ToCome.{Changes, IsChange}
-use Rattle.sccs_versions.specs.Coming.{Coming}
-use Rattle.sccs_versions.specs.Place.{VersionPlace, name_of}
-use Rattle.sccs_versions.specs.WasRead.{ReadsOn}
-use Rattle.sccs_versions.proofs.ReadLaws.{end_read, next_read}
-use Rattle.sccs_versions.proofs.ItemLaws.{next_shown, next_none, next_fails}
+use Rattle.sccs_versions.proofs.ReadLaws.{read_then}
 use Rattle.sccs_versions.proofs.readers.VersionReader.next.Goals as goal
 
-pub returns-in-Some-clause-told : goal.returns-in-Some-clause-told
-returns-in-Some-clause-told g c = λ file lines told p.
-    let here : VersionPlace = record { set = c.self.inside.set.now; items = c.self.inside.items; regions = c.self.inside.weaver } in
-    let gone : VersionPlace = record { set = c.self.inside.set.now; items = c.next.new.self; regions = c.show_item.new.weaver } in
-    next_shown file here gone lines c.in_ok-item.field-0 c.in-Some.item c.show_item.result c.in-Some.is refl (λ live before found comes. c.in_ok-item.ensures.told file live before found (ap (λ r. bytes_in (seen (g.D.Disk.told c.args.disk.now)) (name_of r)) c.self.view_is ∙ (ap (λ name. bytes_in (seen (g.D.Disk.told c.args.disk.now)) name) c.pass_hidden.ensures.name ∙ told)) comes) c.show_item.ensures.shows
-    (subst (λ r. Coming file r lines) (sym c.self.view_is) (c.pass_hidden.ensures.coming file lines p))
+pub returns-clause-told : goal.returns-clause-told
+returns-clause-told g c = λ file lines told p.
+    c.next_behind.ensures.told file lines (ap (λ name. bytes_in (seen (g.D.Disk.told c.args.disk.now)) name) c.pass_hidden.ensures.name ∙ told) (c.pass_hidden.ensures.coming file lines p)
 
-pub returns-in-None-clause-told : goal.returns-in-None-clause-told
-returns-in-None-clause-told g c = λ file lines told p.
-    let here : VersionPlace = record { set = c.self.inside.set.now; items = c.self.inside.items; regions = c.self.inside.weaver } in
-    next_none file here c.next.new.self lines c.in_ok-item.field-0 c.in-None.is (λ live before found comes. c.in_ok-item.ensures.told file live before found (ap (λ r. bytes_in (seen (g.D.Disk.told c.args.disk.now)) (name_of r)) c.self.view_is ∙ (ap (λ name. bytes_in (seen (g.D.Disk.told c.args.disk.now)) name) c.pass_hidden.ensures.name ∙ told)) comes)
-    (subst (λ r. Coming file r lines) (sym c.self.view_is) (c.pass_hidden.ensures.coming file lines p))
-
-pub returns-in_err-item-clause-told : goal.returns-in_err-item-clause-told
-returns-in_err-item-clause-told g c = λ file lines told p.
-    let here : VersionPlace = record { set = c.self.inside.set.now; items = c.self.inside.items; regions = c.self.inside.weaver } in
-    let gone : VersionPlace = record { set = c.self.inside.set.now; items = c.next.new.self; regions = c.self.inside.weaver } in
-    next_fails file here gone lines c.in_err-item.field-0.0 c.from_residual.result (exit_is c.from_residual.result c.in_err-item.field-0.0 c.from_residual.ensures.1) (λ live before found comes. c.in_err-item.ensures.told file live before found (ap (λ r. bytes_in (seen (g.D.Disk.told c.args.disk.now)) (name_of r)) c.self.view_is ∙ (ap (λ name. bytes_in (seen (g.D.Disk.told c.args.disk.now)) name) c.pass_hidden.ensures.name ∙ told)) comes)
-    (subst (λ r. Coming file r lines) (sym c.self.view_is) (c.pass_hidden.ensures.coming file lines p))
-
-pub returns-in-Some-clause-read : goal.returns-in-Some-clause-read
-returns-in-Some-clause-read g c = λ live before h.
-    let here : VersionPlace = record { set = c.self.inside.set.now; items = c.self.inside.items; regions = c.self.inside.weaver } in
-    let gone : VersionPlace = record { set = c.self.inside.set.now; items = c.next.new.self; regions = c.show_item.new.weaver } in
-    next_read live here gone c.args.self.now.regions before c.in_ok-item.field-0 c.in-Some.item c.show_item.result c.in-Some.is refl c.in_ok-item.ensures.goes c.show_item.ensures.shows
-    (subst (λ r. ReadsOn live r c.args.self.now.regions before []) (sym c.self.view_is) (c.pass_hidden.ensures.read live before h))
-
-pub returns-in_err-item-clause-changed : goal.returns-in_err-item-clause-changed
-returns-in_err-item-clause-changed g c =
-    let exit = exit_is c.from_residual.result c.in_err-item.field-0.0 c.from_residual.ensures.1 in
-    let size_is = ap (λ (r : VersionPlace). r.items.size) c.self.view_is ∙ c.pass_hidden.ensures.first.size in
-    let sum_is = ap (λ (r : VersionPlace). r.items.sum) c.self.view_is ∙ c.pass_hidden.ensures.first.sum in
-    subst (λ r. Changes c.args.self.now.items r) (sym exit)
-    (subst (λ n. IsChange n c.args.self.now.items.sum c.in_err-item.field-0.0) size_is (subst (λ n. IsChange c.self.inside.items.size n c.in_err-item.field-0.0) sum_is c.in_err-item.ensures.changed))
-
-pub returns-in-None-clause-read : goal.returns-in-None-clause-read
-returns-in-None-clause-read g c = λ live before h.
-    let here : VersionPlace = record { set = c.self.inside.set.now; items = c.self.inside.items; regions = c.self.inside.weaver } in
-    end_read live here c.args.self.now.regions c.next.new.self c.self.inside.set.now before c.in_ok-item.field-0 c.in-None.is refl c.in_ok-item.ensures.goes
-    (subst (λ r. ReadsOn live r c.args.self.now.regions before []) (sym c.self.view_is) (c.pass_hidden.ensures.read live before h))
+pub returns-clause-read : goal.returns-clause-read
+returns-clause-read g c = λ live before h.
+    read_then live c.pass_hidden.new.self c.next_behind.new.self c.args.self.now.regions before c.next_behind.result c.next_behind.ensures.set (c.pass_hidden.ensures.read live before h) (c.next_behind.ensures.read live)

@@ -1,0 +1,18 @@
+use Rattle.std.proofs.Common.{◌≡◌, ◌*◌, ◌≤◌, ◌%◌, ℕ, length, take}
+use Rattle.std.specs.Prelude.{sum}
+use Rattle.std.specs.Int.{bit_at}
+use Rattle.sccs_table.specs.Runs.{lf_count}
+use Rattle.sccs_table.specs.Marks.{Describes}
+use Rattle.sccs_table.proofs.piece_marks.describe.Given as goal
+
+-- the blocks so far are described
+abbrev pub invariant-loop-n : goal.invariant-loop-n
+invariant-loop-n l = record {
+  blocks : Describes l.ends l.before l.marked l.piece l.n;
+  count : l.count ≡ lf_count (take (64 * l.n) l.piece);
+  above : (k : ℕ) → l.n ≤ k → bit_at l.marked k ≡ 0;
+  ends : length l.ends ≡ 65;
+  before : length l.before ≡ 65;
+  end : l.n ≤ 64;
+  sum : l.total ≡ sum (take (64 * l.n) l.piece) % 65536;
+}

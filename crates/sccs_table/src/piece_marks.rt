@@ -1,0 +1,253 @@
+//! Where LF and SOH stand in a piece.
+ghost use Rattle.std.specs.Prelude.{◌≡◌, ◌≢◌, false, true, ℕ, ◌%◌, sum, ◌+◌, ◌*◌, ◌<◌, ◌≤◌, length, take, drop, get_or, if◌then◌else◌, ◌==◌};
+ghost use Rattle.std.specs.Int.{bit_at};
+ghost use Rattle.sccs_base.specs.Cut.{HasNoLf};
+ghost use Rattle.sccs_table.specs.Runs.{lf_count};
+ghost use Rattle.sccs_table.specs.Marks.{Describes, HasNoMarked, HasNoSoh, IsNextBlock, IsNextSoh, MarksOf, bit, bits_of, block};
+
+use crate::counts::lines_in;
+use crate::sums::{plain_after, plain_in_parts};
+use memchr::memrchr;
+use std::simd::prelude::*;
+
+const LF: u8 = b'\n';
+
+const SOH: u8 = 1;
+
+/// Where LF and SOH stand in a piece of 4,096 bytes, so that neither is searched for byte by byte.
+/// Where no SOH stands in it, nor in the one before, its LFs are only counted.
+#[derive(Drop)]
+pub struct PieceMarks {
+    // whether the LFs are known one by one
+    placed: bool,
+    // for each 64 bytes, a bit for each that is LF
+    ends: [u64; 65],
+    // how many LFs stand before each 64 bytes, and how many in all
+    before: [u64; 65],
+    // a bit for each 64 bytes among which SOH stands
+    marked: u64,
+    // how many LFs there are, and the place behind the last, where they are only counted
+    count: u64,
+    last: usize,
+}
+
+// a bit for each of 64 bytes from a place on, whether it is that byte
+#[inline(always)]
+fn bits_at(piece: &[u8], at: usize, byte: u8) -> u64
+    requires { at + 64 ≤ length piece.now }
+    ensures { result ≡ bits_of byte (take 64 (drop at piece.now)) }
+{
+    let lanes = u8x64::from_slice(&piece[at..]);
+    lanes.simd_eq(u8x64::splat(byte)).to_bitmask()
+}
+
+// the place of the lowest bit
+#[inline(always)]
+fn lowest(bits: u64) -> usize
+    requires { bits ≢ 0 }
+    ensures bound { result < 64 }
+    ensures set { bit_at bits result ≡ 1 }
+    ensures below { (k : ℕ) → k < result → bit_at bits k ≡ 0 }
+{
+    bits.trailing_zeros() as usize
+}
+
+#[inline(always)]
+fn shifted_down(bits: u64, by: usize) -> u64
+    requires { by < 64 }
+    ensures { (k : ℕ) → bit_at result k ≡ bit_at bits (by + k) }
+{
+    bits >> by
+}
+
+// one more bit, where it is set
+#[inline(always)]
+fn with_bit(bits: u64, at: usize, set: bool) -> u64
+    requires { at < 64 }
+    ensures kept { (k : ℕ) → k < at → bit_at result k ≡ bit_at bits k }
+    ensures last { bit_at bits at ≡ 0 → bit_at result at ≡ bit set }
+    ensures above { (k : ℕ) → at < k → bit_at bits k ≡ 0 → bit_at result k ≡ 0 }
+{
+    if set { bits | (1 << at) } else { bits }
+}
+
+// the first marked block behind one
+#[inline(always)]
+fn block_behind(marked: u64, n: usize) -> Option<usize>
+    requires { n < 64 }
+    ensures { IsNextBlock marked n result }
+{
+    let behind = shifted_down(shifted_down(marked, n), 1);
+    if behind == 0 {
+        None
+    } else {
+        Some(n + 1 + lowest(behind))
+    }
+}
+
+// describes the blocks of a piece, of which the number of its LFs comes last; answers the marked
+// blocks and the sum of all bytes
+fn describe(piece: &[u8], ends: &mut [u64], before: &mut [u64]) -> (u64, u16)
+    requires long { length piece.now ≡ 4096 }
+    requires ends { length ends.old ≡ 65 }
+    requires before { length before.old ≡ 65 }
+    ensures blocks { Describes ends.new before.new result.0 piece.now 64 }
+    ensures sum { result.1 ≡ sum piece.now % 65536 }
+    ensures all { get_or before.new 64 0 ≡ lf_count piece.now }
+{
+    let mut marked = 0;
+    let mut count = 0;
+    let mut total = 0;
+    for n in 0..64usize {
+        total = plain_after(total, &piece[64 * n..64 * n + 64]);
+        let bits = bits_at(piece, 64 * n, LF);
+        ends[n] = bits;
+        before[n] = count;
+        count += u64::from(bits.count_ones());
+        marked = with_bit(marked, n, bits_at(piece, 64 * n, SOH) != 0);
+    }
+    before[64] = count;
+    (marked, total)
+}
+
+// a number that no byte is below; it is found without a branch, so that many bytes are looked at at once
+fn least_byte(bytes: &[u8]) -> u8
+    ensures { (k : ℕ) → k < length bytes.now → result ≤ get_or bytes.now k 0 }
+{
+    let mut least = u8::MAX;
+    for byte in bytes {
+        if *byte < least {
+            least = *byte;
+        }
+    }
+    least
+}
+
+// whether SOH may stand in a piece: it does, or NUL does
+fn may_have_soh(piece: &[u8]) -> bool
+    requires { length piece.now ≡ 4096 }
+    ensures { result ≡ false → HasNoMarked piece.now 64 }
+{
+    least_byte(piece) <= SOH
+}
+
+// whether no SOH stands in a piece, which is asked where none stood in the one before
+fn is_plain(marked: u64, piece: &[u8]) -> bool
+    requires { length piece.now ≡ 4096 }
+    ensures clear { result ≡ true → marked ≡ 0 }
+    ensures none { result ≡ true → HasNoMarked piece.now 64 }
+{
+    if marked == 0 {
+        !may_have_soh(piece)
+    } else {
+        false
+    }
+}
+
+/// The place behind the last LF.
+pub fn whole_lines(bytes: &[u8]) -> usize
+    ensures fits { result ≤ length bytes.now }
+    ensures ended { 0 < result → 0 < lf_count bytes.now }
+    ensures rest { HasNoLf (drop result bytes.now) }
+{
+    match memrchr(b'\n', bytes) {
+        Some(at) => at + 1,
+        None => 0,
+    }
+}
+
+impl PieceMarks {
+    /// No LF and no SOH stand in a piece of zeros.
+    pub fn new() -> PieceMarks {
+        PieceMarks {
+            placed: false,
+            ends: [0; 65],
+            before: [0; 65],
+            marked: 0,
+            count: 0,
+            last: 0,
+        }
+    }
+
+    /// Looks at a piece, and answers the plain sum of its bytes.
+    pub fn read(&mut self, piece: &[u8]) -> u16
+        requires { length piece.now ≡ 4096 }
+        ensures marks { MarksOf self.new piece.now }
+        ensures sum { result ≡ sum piece.now % 65536 }
+    {
+        if is_plain(self.marked, piece) {
+            self.placed = false;
+            self.count = lines_in(piece);
+            self.last = whole_lines(piece);
+            return plain_in_parts(0, piece);
+        }
+        let (marked, total) = describe(piece, &mut self.ends, &mut self.before);
+        self.marked = marked;
+        self.placed = true;
+        total
+    }
+
+    /// How many LFs stand before a place of the piece.
+    #[inline(always)]
+    pub fn lines_before(&self, piece: &[u8], at: usize) -> u64
+        requires marks { MarksOf self.now piece.now }
+        requires fits { at ≤ 4096 }
+        ensures { result ≡ lf_count (take at piece.now) }
+    {
+        if self.placed {
+            let low = self.ends[at / 64] % (1 << (at % 64));
+            return self.before[at / 64] + u64::from(low.count_ones());
+        }
+        if at >= self.last {
+            return self.count;
+        }
+        lines_in(&piece[..at])
+    }
+
+    // the first SOH behind the block of that number; 4,096 where there is none
+    #[inline(always)]
+    fn soh_behind(&self, piece: &[u8], n: usize) -> usize
+        requires marks { MarksOf self.now piece.now }
+        requires fits { n < 64 }
+        ensures low { 64 * (n + 1) ≤ result }
+        ensures high { result ≤ 4096 }
+        ensures none { HasNoSoh piece.now (64 * (n + 1)) result }
+        ensures first { result < 4096 → get_or piece.now result 0 ≡ 1 }
+    {
+        match block_behind(self.marked, n) {
+            Some(next) => 64 * next + lowest(bits_at(piece, 64 * next, SOH)),
+            None => 4096,
+        }
+    }
+
+    // the first SOH from a place on; 4,096 where there is none
+    #[inline(always)]
+    fn soh_from(&self, piece: &[u8], from: usize) -> usize
+        requires marks { MarksOf self.now piece.now }
+        requires fits { from < 4096 }
+        ensures low { from ≤ result }
+        ensures high { result ≤ 4096 }
+        ensures none { HasNoSoh piece.now from result }
+        ensures first { result < 4096 → get_or piece.now result 0 ≡ 1 }
+    {
+        let bits = shifted_down(bits_at(piece, 64 * (from / 64), SOH), from % 64);
+        if bits == 0 {
+            return self.soh_behind(piece, from / 64);
+        }
+        from + lowest(bits)
+    }
+
+    /// The first SOH from a place on that stands before another.
+    #[inline(always)]
+    pub fn next_soh(&self, piece: &[u8], from: usize, to: usize) -> Option<usize>
+        requires marks { MarksOf self.now piece.now }
+        requires fits { to ≤ 4096 }
+        ensures { IsNextSoh piece.now from to result }
+    {
+        if from >= to {
+            return None;
+        }
+        let at = self.soh_from(piece, from);
+        if at < to { Some(at) } else { None }
+    }
+}
