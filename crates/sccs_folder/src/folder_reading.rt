@@ -9,7 +9,7 @@ use std::io::{ErrorKind, Read, Seek, SeekFrom};
 use std::rt::Files;
 
 // how many bytes one read of the system asks for
-const READ_AHEAD: usize = 65_536;
+const READ_AHEAD: usize = 262_144;
 
 // a file that is open for reading, with its name
 #[derive(Drop)]
@@ -180,15 +180,18 @@ impl<F: Read + Seek + OpenFile + Drop> FolderReader<F> {
         let Some(open) = &mut self.open else {
             return Ok(None);
         };
-        if ahead_from(&self.ahead, open.from, open.count, from).len() < into.len() {
-            let Some(count) = read_from(&mut open.file, &mut open.place, from, &mut self.ahead)
-            else {
-                return Err(Failed);
-            };
-            open.from = from;
-            open.count = count;
-        }
         let ready = ahead_from(&self.ahead, open.from, open.count, from);
-        Ok(Some(copy_front(ready, into)))
+        let first = copy_front(ready, into);
+        if first == into.len() {
+            return Ok(Some(first));
+        }
+        let next = from.saturating_add(first as u64);
+        let Some(count) = read_from(&mut open.file, &mut open.place, next, &mut self.ahead) else {
+            return Err(Failed);
+        };
+        open.from = next;
+        open.count = count;
+        let ready = ahead_from(&self.ahead, open.from, open.count, next);
+        Ok(Some(first + copy_front(ready, &mut into[first..])))
     }
 }
