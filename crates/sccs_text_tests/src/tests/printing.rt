@@ -295,10 +295,10 @@ fn calls_that_fail(rt: HostRuntime) -> Result<(), Fail> {
         keywords: false,
     };
     // one of the calls that make, fill, protect and sync the y-file, or read the s-file meanwhile
-    for call in 1..15 {
+    for call in 1..17 {
         assert!(rt; ends(alloc, call, fault)?, "call {call}");
     }
-    assert!(rt; ends(alloc, 15, Ok(found))?);
+    assert!(rt; ends(alloc, 17, Ok(found))?);
     Ok(())
 }
 
