@@ -61,7 +61,7 @@ fn end_entry(
     ensures { AcceptsAt parts.new result (Ok (parser_at HeaderState.AtEntry (record parts.old { table = with_entry_spec parts.old.table entry }))) }
 {
     let table = replace(&mut parts.table, Table::new(alloc));
-    parts.table = with_entry(table, entry)?;
+    parts.table = with_entry(alloc, table, entry)?;
     Ok(HeaderState::AtEntry)
 }
 

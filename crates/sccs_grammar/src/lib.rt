@@ -11,6 +11,7 @@ mod flag_texts;
 mod header_parsers;
 mod laws;
 mod line_tokens;
+mod live_sids;
 mod table_tests;
 mod tables;
 mod tokenizing;

@@ -1,20 +1,16 @@
 //! The delta table as far as it was read, with what makes its rules quick to judge.
-ghost use Rattle.std.specs.Prelude.{◌≡◌, ◌<◌, true, List, [], ◌∷◌, ◌++◌, length, IsTrue, Ok, IfOk};
+ghost use Rattle.std.specs.Prelude.{◌≡◌, ◌<◌, true, ◌∷◌, length, IsTrue, Ok};
 ghost use Rattle.sccs_history.specs.Applied.{serials_of};
-ghost use Rattle.sccs_history.specs.History.{lives};
 ghost use Rattle.sccs_history.specs.Numbers.{has};
 ghost use Rattle.sccs_grammar.specs.Entries.{no_entries, with_entry};
 ghost use Rattle.sccs_grammar.specs.Front.{Accepts, dangling_predecessor, may_follow};
-ghost use Rattle.sccs_grammar.specs.HeldTable.{HasSids};
-ghost use Rattle.sccs_grammar.specs.SidKeys.{sid_key};
 
 use crate::header_parsers::{Entry, FrontFault};
+use crate::live_sids::{LiveSids, with_sid};
 use crate::table_tests::least;
 use sccs_base::ListOf;
 use sccs_history::{Record, Records};
-use sccs_sid::Sid;
 use std::alloc::Global;
-use std::collections::BTreeSet;
 use std::marker::Model;
 
 /// The entries that were read so far. Contracts see their records, and the numbers of their delta
@@ -23,8 +19,7 @@ use std::marker::Model;
 pub struct Table {
     records: Records,
     lines: ListOf<u64>,
-    // the SIDs of live records
-    sids: BTreeSet<(u16, u16, u16, u16), Global>,
+    sids: LiveSids,
 }
 
 impl Model for Table {
@@ -36,13 +31,6 @@ impl Model for Table {
     ghost view = { entries };
 
     ghost invariant = { IsKept };
-}
-
-// the four numbers of a SID
-fn sid_key(sid: &Sid) -> (u16, u16, u16, u16)
-    ensures { result ≡ sid_key sid.now }
-{
-    (sid.release, sid.level, sid.branch, sid.sequence)
 }
 
 // whether the record at a place, where one stands there, has the serial
@@ -109,7 +97,7 @@ impl Table {
         Table {
             records: Records::empty(alloc),
             lines: ListOf::empty(alloc),
-            sids: BTreeSet::new(alloc),
+            sids: LiveSids::none(),
         }
     }
 
@@ -128,13 +116,6 @@ impl Table {
         records
     }
 
-    // whether some live record has the SID
-    fn lives(&self, sid: &Sid) -> bool
-        ensures { result ≡ lives self.now.records sid.now }
-    {
-        self.sids.contains(&sid_key(sid))
-    }
-
     /// Whether a record may stand behind these: serials fall, a predecessor is smaller, SIDs of live
     /// records differ.
     pub fn may_follow(&self, row: &Record) -> bool
@@ -142,7 +123,7 @@ impl Table {
     {
         u32::from(row.serial) < least(self.records.items())
             && row.predecessor < row.serial
-            && (row.removed || !self.lives(&row.sid))
+            && (row.removed || !self.sids.lives(self.records.items(), &row.sid))
     }
 
     /// The delta line of the first entry whose predecessor is neither 0 nor in the table.
@@ -153,25 +134,8 @@ impl Table {
     }
 }
 
-// with the SID of a record more, where it is live
-fn with_sid(
-    mut sids: BTreeSet<(u16, u16, u16, u16), Global>,
-    row: &Record,
-) -> Result<BTreeSet<(u16, u16, u16, u16), Global>, FrontFault>
-    ensures { (table : List Record) → HasSids sids table
-        → IfOk result (λ more. HasSids more (table ++ row.now ∷ [])) }
-{
-    if row.removed {
-        return Ok(sids);
-    }
-    match sids.insert(sid_key(&row.sid)) {
-        Ok(_) => Ok(sids),
-        Err(_) => Err(FrontFault::Memory),
-    }
-}
-
 /// A table with an entry more.
-pub fn with_entry(table: Table, entry: Entry) -> Result<Table, FrontFault>
+pub fn with_entry(alloc: Global, table: Table, entry: Entry) -> Result<Table, FrontFault>
     ensures { Accepts result (Ok (with_entry table entry)) }
 {
     let Table {
@@ -180,7 +144,7 @@ pub fn with_entry(table: Table, entry: Entry) -> Result<Table, FrontFault>
         sids,
     } = table;
     let Entry { line, row } = entry;
-    let Ok(sids) = with_sid(sids, row.as_record()) else {
+    let Ok(sids) = with_sid(alloc, sids, records.items(), row.as_record()) else {
         return Err(FrontFault::Memory);
     };
     let Ok(()) = records.push(row.into_record()) else {

@@ -15,6 +15,22 @@ const BLANK: &[u8] =
 const ENCODED: &[u8] =
     b"\x01h05632\n\x01s 00002/00000/00000\n\x01d D 1.1 21/03/04 05:06:07 ann 1 0\n\x01c one\n\x01e\n\x01u\nann\n\x01U\n\x01f e 1\n\x01t\nabout\n\x01T\n\x01I 1\none\n\x01E 1\n";
 
+// SIDs that fall, and then those of a branch and of its trunk
+const BRANCH: &[u8] =
+    b"\x01h12747\n\x01s 00001/00000/00000\n\x01d D 1.3 21/03/04 05:06:07 ann 4 2\n\x01e\n\x01s 00001/00000/00000\n\x01d D 1.1.1.1 21/03/04 05:06:07 ann 3 1\n\x01e\n\x01s 00001/00000/00000\n\x01d D 1.2 21/03/04 05:06:07 ann 2 1\n\x01e\n\x01s 00001/00000/00000\n\x01d D 1.1 21/03/04 05:06:07 ann 1 0\n\x01e\n\x01u\n\x01U\n\x01t\n\x01T\n\x01I 1\none\n\x01E 1\n";
+
+// the same with 1.3 once more in place of 1.2
+const TWICE_APART: &[u8] =
+    b"\x01h12748\n\x01s 00001/00000/00000\n\x01d D 1.3 21/03/04 05:06:07 ann 4 2\n\x01e\n\x01s 00001/00000/00000\n\x01d D 1.1.1.1 21/03/04 05:06:07 ann 3 1\n\x01e\n\x01s 00001/00000/00000\n\x01d D 1.3 21/03/04 05:06:07 ann 2 1\n\x01e\n\x01s 00001/00000/00000\n\x01d D 1.1 21/03/04 05:06:07 ann 1 0\n\x01e\n\x01u\n\x01U\n\x01t\n\x01T\n\x01I 1\none\n\x01E 1\n";
+
+// two live deltas of one SID
+const TWICE: &[u8] =
+    b"\x01h09692\n\x01s 00001/00000/00000\n\x01d D 1.2 21/03/04 05:06:07 ann 3 2\n\x01e\n\x01s 00001/00000/00000\n\x01d D 1.2 21/03/04 05:06:07 ann 2 1\n\x01e\n\x01s 00001/00000/00000\n\x01d D 1.1 21/03/04 05:06:07 ann 1 0\n\x01e\n\x01u\n\x01U\n\x01t\n\x01T\n\x01I 1\none\n\x01E 1\n";
+
+// the same where one is removed
+const ONE_REMOVED: &[u8] =
+    b"\x01h09705\n\x01s 00001/00000/00000\n\x01d D 1.2 21/03/04 05:06:07 ann 3 1\n\x01e\n\x01s 00001/00000/00000\n\x01d R 1.2 21/03/04 05:06:07 ann 2 1\n\x01e\n\x01s 00001/00000/00000\n\x01d D 1.1 21/03/04 05:06:07 ann 1 0\n\x01e\n\x01u\n\x01U\n\x01t\n\x01T\n\x01I 1\none\n\x01E 1\n";
+
 // a disk with one file, which fails at the call of this number
 fn disk_with(
     alloc: Global,
@@ -89,5 +105,21 @@ fn a_failing_disk(rt: HostRuntime) -> Result<(), Fail> {
     let name = Name::read(b"s.a").ok_or("a name")?;
     let fault = fault_of(rt.alloc(), &name, FILE, &[2])?;
     assert_eq!(rt; fault, Some(FileFault::Failed));
+    Ok(())
+}
+
+#[test]
+fn sids_of_tables(rt: HostRuntime) -> Result<(), Fail> {
+    let name = Name::read(b"s.a").ok_or("a name")?;
+    let rows: [(&[u8], Option<FileFault>); 4] = [
+        (BRANCH, None),
+        (TWICE_APART, Some(FileFault::BadFormat(9))),
+        (TWICE, Some(FileFault::BadFormat(6))),
+        (ONE_REMOVED, None),
+    ];
+    for (bytes, wanted) in rows {
+        let fault = fault_of(rt.alloc(), &name, bytes, &[])?;
+        assert_eq!(rt; fault, wanted);
+    }
     Ok(())
 }
