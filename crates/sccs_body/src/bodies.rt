@@ -12,7 +12,9 @@ use sccs_base::Name;
 use sccs_disk::Disk;
 use sccs_grammar::FileFault;
 use sccs_marks::BodyState;
-use sccs_table::{Front, LineReader, check_sum, is_encoded, open_file, read_lines, read_sum};
+use sccs_table::{
+    Front, LineEnds, LineReader, check_sum, is_encoded, open_file, read_lines, read_sum,
+};
 use std::alloc::Global;
 
 // reads the items of a body up to its end
@@ -94,7 +96,7 @@ pub fn inspect<D: Disk>(alloc: Global, disk: &mut D, name: &Name) -> Result<Fron
     ensures told { IfSome (seen (D.told disk.old)) (λ view. AnswersFile (file_in view name.now) result) }
 {
     let size = open_file(disk, name)?;
-    let mut lines = LineReader::new(name, 0, size);
+    let mut lines = LineReader::new(name, 0, size, LineEnds::Counted);
     let stored = read_sum(alloc, disk, &mut lines)?;
     let (read, mut lines) = read_front(alloc, disk, lines, size);
     let sum = check_sum(disk, &mut lines, stored)?;

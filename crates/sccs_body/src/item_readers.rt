@@ -18,7 +18,7 @@ use sccs_disk::Disk;
 use sccs_grammar::FileFault;
 use sccs_history::Item;
 use sccs_marks::BodyState;
-use sccs_table::{Front, LineReader, READ_LIMIT};
+use sccs_table::{Front, LineEnds, LineReader, READ_LIMIT};
 use std::alloc::Global;
 use std::marker::Model;
 
@@ -58,7 +58,7 @@ impl ItemReader {
             → IfOk result (ToCome file (live_serials front.now.header.records) [] (items_of file front.now)) }
     {
         let state = BodyState::new(alloc, front.header.records.items())?;
-        let lines = LineReader::new(name, 0, READ_LIMIT);
+        let lines = LineReader::new(name, 0, READ_LIMIT, LineEnds::Placed);
         let first = front.body_line.min(READ_LIMIT + 2);
         Ok(ItemReader {
             body: BodyReader::new(alloc, lines, state, first),

@@ -10,7 +10,7 @@ use sccs_base::{Line, Name};
 use sccs_disk::Disk;
 use sccs_grammar::FileFault;
 use sccs_keys::has_keyword;
-use sccs_table::{LineReader, READ_LIMIT};
+use sccs_table::{LineEnds, LineReader, READ_LIMIT};
 use std::alloc::Global;
 
 /// What is known of the lines of a text that went by: whether one has a keyword, and, where they are compared
@@ -34,7 +34,7 @@ impl ResultCheck {
         ResultCheck {
             keyword: false,
             compares,
-            lines: LineReader::new(g_file, 0, READ_LIMIT),
+            lines: LineReader::new(g_file, 0, READ_LIMIT, LineEnds::Counted),
             over: false,
             number: 0,
             differs: None,

@@ -8,6 +8,7 @@ use Rattle.std.specs.Simd.Lanes.{mask_l}
 use Rattle.std.proofs.lemmas.Bool.{cases_lt, eqb-true}
 use Rattle.std.proofs.lemmas.Nat.{pow_pos}
 use Rattle.std.proofs.Math.Pow.{pow_mono}
+use Rattle.std.proofs.lemmas.Nat.Bits.{bit_at-zero}
 use Rattle.std.proofs.lemmas.List.{drop-drop, get_or-map, length-map, length-take, take_all, take-map, take-take}
 use Rattle.std.proofs.lemmas.List.Elements.{All-drop}
 use Rattle.std.proofs.lemmas.List.Sums.{count_by-le-length, sum_by-append, sum_by-take-drop}
@@ -17,7 +18,7 @@ use Rattle.sccs_table.specs.Runs.{lf_count}
 use Rattle.sccs_table.specs.declared.piece_marks.PieceMarks.{PieceMarks}
 use Rattle.sccs_base.specs.Cut.{HasNoLf}
 use Rattle.sccs_table.proofs.CountLaws.{no_lines}
-use Rattle.sccs_table.specs.Marks.{Describes, HasNoMarked, HasNoSoh, MarksOf, bit, bits_of, block}
+use Rattle.sccs_table.specs.Marks.{AreMarked, AreSohs, Describes, HasNoMarked, HasNoSoh, MarksOf, bit, bits_of, block}
 
 -- ---- SOH
 
@@ -45,6 +46,15 @@ full_by false x is some = λ empty. no_both (eq-eqb x 0 empty) is
 
 pub unmarked : (marks : PieceMarks) (piece : List ℕ) (m : ℕ) → MarksOf marks piece → m < 64 → bit_at marks.marked m ≡ 0 → bits_of 1 (block m piece) ≡ 0
 unmarked marks piece m are low none = empty_by (bits_of 1 (block m piece) == 0) _ refl (sym (are.marked_are m low) ∙ none)
+
+-- where no block is marked there is none at all
+pub none_marked : (marks : PieceMarks) (piece : List ℕ) (from : ℕ) → MarksOf marks piece → marks.marked ≡ 0 → HasNoSoh piece from 4096
+none_marked marks piece from are none k low high =
+    none_in_blocks piece 0 64 (omega (arith, are.long)) (λ m above below. unmarked marks piece m are below (ap (λ b. bit_at b m) none ∙ bit_at-zero m)) k (omega arith) (omega arith)
+
+-- a number with a bit is not 0
+pub some_bit : (bits k : ℕ) → bit_at bits k ≡ 1 → bits ≢ 0
+some_bit bits k set none = absurd (omega (arith, set, ap (λ b. bit_at b k) none ∙ bit_at-zero k))
 
 pub marked_block : (marks : PieceMarks) (piece : List ℕ) (m : ℕ) → MarksOf marks piece → m < 64 → bit_at marks.marked m ≡ 1 → bits_of 1 (block m piece) ≢ 0
 marked_block marks piece m are low some = full_by (bits_of 1 (block m piece) == 0) _ refl (sym (are.marked_are m low) ∙ some)
@@ -154,15 +164,21 @@ count_bound piece n = omega (arith, count_by-le-length (λ b. b == 10) (take n p
 on_to : (P : ℕ → Type 0) (n : ℕ) → ((m : ℕ) → m < n → P m) → P n → (m : ℕ) → m < n + 1 → P m
 on_to P n below here m low = ⊎_elim (λ l. below m l) (λ ge. let is : n ≡ m = omega arith in subst P is here) (cases_lt m n)
 
-pub described_on : (ends before ends2 before2 piece : List ℕ) (marked marked2 n : ℕ) → Describes ends before marked piece n
+pub marked_on : (piece : List ℕ) (marked marked2 n : ℕ) → AreMarked marked piece n
+    → ((m : ℕ) → m < n → bit_at marked2 m ≡ bit_at marked m) → bit_at marked2 n ≡ bit (not (bits_of 1 (block n piece) == 0)) → AreMarked marked2 piece (n + 1)
+marked_on piece marked marked2 n are stay mark = on_to (λ m. bit_at marked2 m ≡ bit (not (bits_of 1 (block m piece) == 0))) n (λ m low. stay m low ∙ are m low) mark
+
+pub sohs_on : (piece sohs sohs2 : List ℕ) (n : ℕ) → AreSohs sohs piece n
+    → ((m : ℕ) → m < n → get_or sohs2 m 0 ≡ get_or sohs m 0) → get_or sohs2 n 0 ≡ bits_of 1 (block n piece) → AreSohs sohs2 piece (n + 1)
+sohs_on piece sohs sohs2 n are stay here = on_to (λ m. get_or sohs2 m 0 ≡ bits_of 1 (block m piece)) n (λ m low. stay m low ∙ are m low) here
+
+pub described_on : (ends before ends2 before2 piece : List ℕ) (n : ℕ) → Describes ends before piece n
     → ((m : ℕ) → m < n → get_or ends2 m 0 ≡ get_or ends m 0) → get_or ends2 n 0 ≡ bits_of 10 (block n piece)
     → ((m : ℕ) → m < n → get_or before2 m 0 ≡ get_or before m 0) → get_or before2 n 0 ≡ lf_count (take (64 * n) piece)
-    → ((m : ℕ) → m < n → bit_at marked2 m ≡ bit_at marked m) → bit_at marked2 n ≡ bit (not (bits_of 1 (block n piece) == 0))
-    → Describes ends2 before2 marked2 piece (n + 1)
-described_on ends before ends2 before2 piece marked marked2 n are ends_stay end before_stay here marked_stay mark = record {
+    → Describes ends2 before2 piece (n + 1)
+described_on ends before ends2 before2 piece n are ends_stay end before_stay here = record {
   ends_are = on_to (λ m. get_or ends2 m 0 ≡ bits_of 10 (block m piece)) n (λ m low. ends_stay m low ∙ are.ends_are m low) end;
   before_are = on_to (λ m. get_or before2 m 0 ≡ lf_count (take (64 * m) piece)) n (λ m low. before_stay m low ∙ are.before_are m low) here;
-  marked_are = on_to (λ m. bit_at marked2 m ≡ bit (not (bits_of 1 (block m piece) == 0))) n (λ m low. marked_stay m low ∙ are.marked_are m low) mark;
 }
 
 one_bit : (n : ℕ) → n < 64 → 1 * 2 ^ n % 2 ^ 64 ≡ 2 ^ n
@@ -174,10 +190,10 @@ all_lines : (before piece : List ℕ) (low : ℕ) → get_or before 64 0 ≡ lf_
 all_lines before piece low all long none = omega (arith, all, none, ap lf_count (take_all 4096 piece (omega (arith, long))))
 
 -- how many LFs stand before a place, by the numbers of its block
-pub lines_at : (ends before piece : List ℕ) (marked at low : ℕ) → Describes ends before marked piece 64 → get_or before 64 0 ≡ lf_count piece → length piece ≡ 4096 → at ≤ 4096
+pub lines_at : (ends before piece : List ℕ) (at low : ℕ) → Describes ends before piece 64 → get_or before 64 0 ≡ lf_count piece → length piece ≡ 4096 → at ≤ 4096
     → low ≡ count_ones (get_or ends (at / 64) 0 % (1 * 2 ^ (at % 64) % 2 ^ 64)) → get_or before (at / 64) 0 + low ≡ lf_count (take at piece)
 unfolding ones
-lines_at ends before piece marked at low are all long fits is =
+lines_at ends before piece at low are all long fits is =
     ⊎_elim (λ l.
     let within : at / 64 < 64 = omega arith in
     let bits = is ∙ (ap (λ p. count_ones (get_or ends (at / 64) 0 % p)) (one_bit (at % 64) (omega arith)) ∙ ap (λ x. count_ones (x % 2 ^ (at % 64))) (are.ends_are (at / 64) within)) in

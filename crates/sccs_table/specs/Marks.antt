@@ -18,11 +18,18 @@ bits_of byte bytes = mask_l (map (λ b. b == byte) bytes)
 abbrev pub bit : Bool → ℕ
 bit set = if set then 1 else 0
 
--- the first blocks are described: their LFs, how many stand before each, and whether it has an SOH
-pub record Describes (ends before : List ℕ) (marked : ℕ) (piece : List ℕ) (blocks : ℕ) : Type 0 where
+-- of the first blocks those are marked that have an SOH
+abbrev pub AreMarked : ℕ → List ℕ → ℕ → Type 0
+AreMarked marked piece blocks = (n : ℕ) → n < blocks → bit_at marked n ≡ bit (not (bits_of 1 (block n piece) == 0))
+
+-- of the first blocks it is known where SOH stands
+abbrev pub AreSohs : List ℕ → List ℕ → ℕ → Type 0
+AreSohs sohs piece blocks = (n : ℕ) → n < blocks → get_or sohs n 0 ≡ bits_of 1 (block n piece)
+
+-- of the first blocks it is known where LF stands, and how many stand before each
+pub record Describes (ends before : List ℕ) (piece : List ℕ) (blocks : ℕ) : Type 0 where
   pub ends_are : (n : ℕ) → n < blocks → get_or ends n 0 ≡ bits_of 10 (block n piece)
   pub before_are : (n : ℕ) → n < blocks → get_or before n 0 ≡ lf_count (take (64 * n) piece)
-  pub marked_are : (n : ℕ) → n < blocks → bit_at marked n ≡ bit (not (bits_of 1 (block n piece) == 0))
 
 -- the first blocks have no SOH
 abbrev pub HasNoMarked : List ℕ → ℕ → Type 0
@@ -30,13 +37,14 @@ HasNoMarked piece blocks = (n : ℕ) → n < blocks → bits_of 1 (block n piece
 
 -- the LFs of a piece are known one by one; or how many there are, and a place behind which none stands
 abbrev pub Counted : Bool → PieceMarks → List ℕ → Type 0
-Counted true marks piece = Describes marks.ends marks.before marks.marked piece 64 × (get_or marks.before 64 0 ≡ lf_count piece)
+Counted true marks piece = Describes marks.ends marks.before piece 64 × (get_or marks.before 64 0 ≡ lf_count piece)
 Counted false marks piece = (marks.count ≡ lf_count piece) × HasNoLf (drop marks.last piece)
 
 -- The marks are those of a piece of 4,096 bytes.
 pub record MarksOf (marks : PieceMarks) (piece : List ℕ) : Type 0 where
   pub long : length piece ≡ 4096
-  pub marked_are : (n : ℕ) → n < 64 → bit_at marks.marked n ≡ bit (not (bits_of 1 (block n piece) == 0))
+  pub marked_are : AreMarked marks.marked piece 64
+  pub sohs_are : marks.marked ≢ 0 → AreSohs marks.sohs piece 64
   pub counted : Counted marks.placed marks piece
 
 -- no byte from one place to another is SOH

@@ -8,6 +8,7 @@ ghost use Rattle.sccs_table.specs.FrontFile.{AnswersFront, AnswersLine, ChecksSu
 ghost use Rattle.sccs_table.specs.ReaderState.{StandsIn, Stays, behind_sum, bytes_in, file_in};
 
 use crate::line_readers::LineReader;
+use crate::piece_marks::LineEnds;
 use crate::sums::Sum;
 use sccs_base::{FILE_LIMIT, Name};
 use sccs_disk::Disk;
@@ -250,7 +251,7 @@ pub fn check_front<D: Disk>(alloc: Global, disk: &mut D, name: &Name) -> Result<
     ensures told { IfSome (seen (D.told disk.old)) (λ view. AnswersFront (file_in view name.now) checked_front result) }
 {
     let size = open_file(disk, name)?;
-    let mut reader = LineReader::new(name, 0, size);
+    let mut reader = LineReader::new(name, 0, size, LineEnds::Counted);
     let stored = read_sum(alloc, disk, &mut reader)?;
     let found = read_lines(alloc, disk, &mut reader);
     let body_from = reader.place();

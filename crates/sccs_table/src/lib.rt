@@ -11,6 +11,7 @@ pub use fronts::{
     Front, check_front, check_sum, is_encoded, open_file, read_header, read_lines, read_sum,
 };
 pub use line_readers::{LineReader, READ_LIMIT};
+pub use piece_marks::LineEnds;
 pub use sccs_grammar::FileFault;
 pub use sccs_history::{Flag, Flags, Header, Record, Records, Serials};
 pub use sums::{PlainSum, Sum};

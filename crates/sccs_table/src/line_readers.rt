@@ -9,7 +9,7 @@ ghost use Rattle.sccs_table.specs.SumOf.{IsSumOf};
 ghost use Rattle.sccs_table.specs.FrontFile.{IsOuter, ReadsBytes, ReadsOn};
 ghost use Rattle.sccs_table.specs.ReaderState.{StandsIn, Stays, Takes, TakesLine, bytes_in};
 
-use crate::piece_marks::{PieceMarks, whole_lines};
+use crate::piece_marks::{LineEnds, PieceMarks, whole_lines};
 use crate::sums::{PlainSum, Sum};
 use memchr::{memchr, memrchr};
 use sccs_base::{FILE_LIMIT, Failed, Memory, Name};
@@ -216,14 +216,15 @@ fn front_part(bytes: &[u8], count: usize) -> &[u8]
 }
 
 impl LineReader {
-    /// Stands at a place of a file: at its front, or behind its sum line.
-    pub fn new(name: &Name, place: u64, limit: u64) -> LineReader
+    /// Stands at a place of a file: at its front, or behind its sum line. How closely LFs are looked at
+    /// changes no answer, only how soon `lines_held` has it.
+    pub fn new(name: &Name, place: u64, limit: u64, ends: LineEnds) -> LineReader
         requires low { place ≤ limit }
         requires high { limit ≤ 1073741825 }
         ensures { result ≡ record { name = name.now; held = []; place = place; limit = limit; lines = 0; sum = 0 } }
     {
         let piece = [0; 4096];
-        let mut marks = PieceMarks::new();
+        let mut marks = PieceMarks::new(ends);
         let _ = marks.read(&piece);
         LineReader {
             name: *name,
@@ -269,7 +270,7 @@ impl LineReader {
         requires { 8 ≤ self.now.limit }
         ensures { result ≡ record { name = self.now.name; held = []; place = 8; limit = self.now.limit; lines = 0; sum = 0 } }
     {
-        LineReader::new(&self.name, SUM_LINE, self.limit)
+        LineReader::new(&self.name, SUM_LINE, self.limit, LineEnds::Counted)
     }
 
     // reads the next piece before a place, where nothing is held; false where nothing is left there
@@ -556,7 +557,7 @@ impl LineReader {
         ensures told { IfOk result (λ sum. IfSome (bytes_in (seen (D.told disk.old)) self.old.name)
             (λ file. StandsIn self.old file → IsSumOf sum (drop self.old.place file))) }
     {
-        let _ = &self.limit;
+        let _ = self.limit();
         let mut sum = Sum::new();
         'pieces: loop {
             self.add_held(&mut sum);

@@ -3,7 +3,7 @@ ghost use Rattle.std.specs.Prelude.{◌≡◌, ◌≢◌, false, true, ℕ, ◌%
 ghost use Rattle.std.specs.Int.{bit_at};
 ghost use Rattle.sccs_base.specs.Cut.{HasNoLf};
 ghost use Rattle.sccs_table.specs.Runs.{lf_count};
-ghost use Rattle.sccs_table.specs.Marks.{Describes, HasNoMarked, HasNoSoh, IsNextBlock, IsNextSoh, MarksOf, bit, bits_of, block};
+ghost use Rattle.sccs_table.specs.Marks.{AreMarked, AreSohs, Counted, Describes, HasNoMarked, HasNoSoh, IsNextBlock, IsNextSoh, MarksOf, bit, bits_of, block};
 
 use crate::counts::lines_in;
 use crate::sums::{plain_after, plain_in_parts};
@@ -14,10 +14,20 @@ const LF: u8 = b'\n';
 
 const SOH: u8 = 1;
 
+/// How closely the LFs of pieces are looked at.
+#[derive(Clone, Copy, Debug, PartialEq, Eq)]
+pub enum LineEnds {
+    /// They are counted, for a reader that is hardly asked how many stand before a place.
+    Counted,
+    /// Each one's place is known.
+    Placed,
+}
+
 /// Where LF and SOH stand in a piece of 4,096 bytes, so that neither is searched for byte by byte.
-/// Where no SOH stands in it, nor in the one before, its LFs are only counted.
+/// Where no more is wanted, or no SOH stands in it nor in the one before, its LFs are only counted.
 #[derive(Drop)]
 pub struct PieceMarks {
+    wanted: LineEnds,
     // whether the LFs are known one by one
     placed: bool,
     // for each 64 bytes, a bit for each that is LF
@@ -26,6 +36,8 @@ pub struct PieceMarks {
     before: [u64; 65],
     // a bit for each 64 bytes among which SOH stands
     marked: u64,
+    // for each 64 bytes, a bit for each that is SOH, where one stands in the piece
+    sohs: [u64; 64],
     // how many LFs there are, and the place behind the last, where they are only counted
     count: u64,
     last: usize,
@@ -85,13 +97,32 @@ fn block_behind(marked: u64, n: usize) -> Option<usize>
     }
 }
 
-// describes the blocks of a piece, of which the number of its LFs comes last; answers the marked
-// blocks and the sum of all bytes
-fn describe(piece: &[u8], ends: &mut [u64], before: &mut [u64]) -> (u64, u16)
+// finds the SOHs of each block of a piece, and answers the marked blocks
+fn find_sohs(piece: &[u8], sohs: &mut [u64]) -> u64
+    requires long { length piece.now ≡ 4096 }
+    requires sohs { length sohs.old ≡ 64 }
+    ensures marked { AreMarked result piece.now 64 }
+    ensures sohs { AreSohs sohs.new piece.now 64 }
+{
+    let mut marked = 0;
+    for n in 0..64usize {
+        let bits = bits_at(piece, 64 * n, SOH);
+        marked = with_bit(marked, n, bits != 0);
+        sohs[n] = bits;
+    }
+    marked
+}
+
+// describes the blocks of a piece, their LFs and SOHs; the number of all its LFs comes last in `before`.
+// Answers the marked blocks and the sum of all bytes
+fn describe(piece: &[u8], ends: &mut [u64], before: &mut [u64], sohs: &mut [u64]) -> (u64, u16)
     requires long { length piece.now ≡ 4096 }
     requires ends { length ends.old ≡ 65 }
     requires before { length before.old ≡ 65 }
-    ensures blocks { Describes ends.new before.new result.0 piece.now 64 }
+    requires sohs { length sohs.old ≡ 64 }
+    ensures blocks { Describes ends.new before.new piece.now 64 }
+    ensures marked { AreMarked result.0 piece.now 64 }
+    ensures sohs { AreSohs sohs.new piece.now 64 }
     ensures sum { result.1 ≡ sum piece.now % 65536 }
     ensures all { get_or before.new 64 0 ≡ lf_count piece.now }
 {
@@ -101,10 +132,12 @@ fn describe(piece: &[u8], ends: &mut [u64], before: &mut [u64]) -> (u64, u16)
     for n in 0..64usize {
         total = plain_after(total, &piece[64 * n..64 * n + 64]);
         let bits = bits_at(piece, 64 * n, LF);
+        let found = bits_at(piece, 64 * n, SOH);
+        marked = with_bit(marked, n, found != 0);
+        sohs[n] = found;
         ends[n] = bits;
         before[n] = count;
         count += u64::from(bits.count_ones());
-        marked = with_bit(marked, n, bits_at(piece, 64 * n, SOH) != 0);
     }
     before[64] = count;
     (marked, total)
@@ -158,12 +191,14 @@ pub fn whole_lines(bytes: &[u8]) -> usize
 
 impl PieceMarks {
     /// No LF and no SOH stand in a piece of zeros.
-    pub fn new() -> PieceMarks {
+    pub fn new(wanted: LineEnds) -> PieceMarks {
         PieceMarks {
+            wanted,
             placed: false,
             ends: [0; 65],
             before: [0; 65],
             marked: 0,
+            sohs: [0; 64],
             count: 0,
             last: 0,
         }
@@ -176,15 +211,39 @@ impl PieceMarks {
         ensures sum { result ≡ sum piece.now % 65536 }
     {
         if is_plain(self.marked, piece) {
-            self.placed = false;
-            self.count = lines_in(piece);
-            self.last = whole_lines(piece);
+            self.count_ends(piece);
             return plain_in_parts(0, piece);
         }
-        let (marked, total) = describe(piece, &mut self.ends, &mut self.before);
-        self.marked = marked;
-        self.placed = true;
-        total
+        match self.wanted {
+            LineEnds::Counted => {
+                self.marked = find_sohs(piece, &mut self.sohs);
+                self.count_ends(piece);
+                plain_in_parts(0, piece)
+            }
+            LineEnds::Placed => {
+                let (marked, total) = describe(
+                    piece,
+                    &mut self.ends,
+                    &mut self.before,
+                    &mut self.sohs,
+                );
+                self.marked = marked;
+                self.placed = true;
+                total
+            }
+        }
+    }
+
+    // counts the LFs, whose places aren't known then
+    fn count_ends(&mut self, piece: &[u8])
+        ensures counted { Counted false self.new piece.now }
+        ensures placed { self.new.placed ≡ false }
+        ensures marked { self.new.marked ≡ self.old.marked }
+        ensures sohs { self.new.sohs ≡ self.old.sohs }
+    {
+        self.placed = false;
+        self.count = lines_in(piece);
+        self.last = whole_lines(piece);
     }
 
     /// How many LFs stand before a place of the piece.
@@ -215,7 +274,7 @@ impl PieceMarks {
         ensures first { result < 4096 → get_or piece.now result 0 ≡ 1 }
     {
         match block_behind(self.marked, n) {
-            Some(next) => 64 * next + lowest(bits_at(piece, 64 * next, SOH)),
+            Some(next) => 64 * next + lowest(self.sohs[next]),
             None => 4096,
         }
     }
@@ -230,7 +289,10 @@ impl PieceMarks {
         ensures none { HasNoSoh piece.now from result }
         ensures first { result < 4096 → get_or piece.now result 0 ≡ 1 }
     {
-        let bits = shifted_down(bits_at(piece, 64 * (from / 64), SOH), from % 64);
+        if self.marked == 0 {
+            return 4096;
+        }
+        let bits = shifted_down(self.sohs[from / 64], from % 64);
         if bits == 0 {
             return self.soh_behind(piece, from / 64);
         }

@@ -6,12 +6,12 @@ use Rattle.sccs_table.proofs.piece_marks.PieceMarks.lines_before.Goals as goal
 pub overflow_add-result : goal.overflow_add-result
 overflow_add-result c =
     let known = subst (λ b. Counted b c.args.self.now c.args.piece.now) c.if-self.true c.requires.marks.counted in
-    omega (arith, lines_at _ _ c.args.piece.now _ c.args.at c.from.result known.0 known.1 c.requires.marks.long c.requires.fits c.from.ensures, count_bound c.args.piece.now c.args.at)
+    omega (arith, lines_at _ _ c.args.piece.now c.args.at c.from.result known.0 known.1 c.requires.marks.long c.requires.fits c.from.ensures, count_bound c.args.piece.now c.args.at)
 
 pub returns-then-self : goal.returns-then-self
 returns-then-self c =
     let known = subst (λ b. Counted b c.args.self.now c.args.piece.now) c.if-self.true c.requires.marks.counted in
-    lines_at _ _ c.args.piece.now _ c.args.at c.from.result known.0 known.1 c.requires.marks.long c.requires.fits c.from.ensures
+    lines_at _ _ c.args.piece.now c.args.at c.from.result known.0 known.1 c.requires.marks.long c.requires.fits c.from.ensures
 
 pub returns-then-at-self : goal.returns-then-at-self
 returns-then-at-self c =
