@@ -19,10 +19,11 @@ IsDigit b x = (b ≡ 48 + x) × (x < 10)
 in_range : (b x : ℕ) → IsDigit b x → IsInRange 48 57 b
 in_range b x is = (omega (arith, is.0, is.1), omega (arith, is.0, is.1))
 
-four_are : (a b c d x y z w : ℕ) → IsDigit a x → IsDigit b y → IsDigit c z → IsDigit d w → (((a - 48) * 10 + (b - 48)) * 10 + (c - 48)) * 10 + (d - 48) ≡ x * 1000 + y * 100 + z * 10 + w
+four_are : (a b c d x y z w : ℕ) → IsDigit a x → IsDigit b y → IsDigit c z → IsDigit d w → (((a - 48) * 10 + (b - 48)) * 10 + (c - 48)) * 10 + (d - 48) ≡ ((a * 10 + b) * 10 + c) * 10 + d - 53328
 four_are a b c d x y z w first second third fourth = omega (arith, first.0, second.0, third.0, fourth.0)
 
-pub four_read : (a b c d x y z w : ℕ) → IsDigit a x → IsDigit b y → IsDigit c z → IsDigit d w → (rest : List ℕ) → number_at 5 (a ∷ b ∷ c ∷ d ∷ rest) ≡ Ok (digits_after 1 (x * 1000 + y * 100 + z * 10 + w) rest)
+-- four digits, by their bytes
+pub four_read : (a b c d x y z w : ℕ) → IsDigit a x → IsDigit b y → IsDigit c z → IsDigit d w → (rest : List ℕ) → number_at 5 (a ∷ b ∷ c ∷ d ∷ rest) ≡ Ok (digits_after 1 (((a * 10 + b) * 10 + c) * 10 + d - 53328) rest)
 four_read a b c d x y z w first second third fourth rest =
     let one = a - 48 in
     let two = one * 10 + (b - 48) in

@@ -114,16 +114,20 @@ fn are_digits(a: u32, b: u32, c: u32, d: u32) -> bool
     (a > 0) & (a < 10) & (b < 10) & (c < 10) & (d < 10)
 }
 
-// the number that four digits begin, the first of them not 0
+// what four bytes 0 count as the digits of a number
+const FOUR_ZEROS: u32 = 1111 * b'0' as u32;
+
+// the number that four digits begin, the first of them not 0; taken from the bytes as they are, for the
+// tests of four digits are made at once, and each value would have to be taken out of them
 #[inline(always)]
 fn four_digits(a: u8, b: u8, c: u8, d: u8) -> Option<u32>
     ensures read { IfSome result (λ n. (rest : List ℕ) → number_spec 5 (a ∷ b ∷ c ∷ d ∷ rest) ≡ Ok (digits_after 1 n rest)) }
     ensures small { IfSome result (λ n. (0 < n) × (n < 10000)) }
     ensures plain { IfSome result (λ n. a ≢ 48) }
 {
-    let (a, b, c, d) = (digit(a), digit(b), digit(c), digit(d));
-    if are_digits(a, b, c, d) {
-        Some(a * 1000 + b * 100 + c * 10 + d)
+    if are_digits(digit(a), digit(b), digit(c), digit(d)) {
+        let three = (u32::from(a) * 10 + u32::from(b)) * 10 + u32::from(c);
+        Some(three * 10 + u32::from(d) - FOUR_ZEROS)
     } else {
         None
     }
