@@ -19,9 +19,9 @@ const ENCODED: &[u8] =
 const BRANCH: &[u8] =
     b"\x01h12747\n\x01s 00001/00000/00000\n\x01d D 1.3 21/03/04 05:06:07 ann 4 2\n\x01e\n\x01s 00001/00000/00000\n\x01d D 1.1.1.1 21/03/04 05:06:07 ann 3 1\n\x01e\n\x01s 00001/00000/00000\n\x01d D 1.2 21/03/04 05:06:07 ann 2 1\n\x01e\n\x01s 00001/00000/00000\n\x01d D 1.1 21/03/04 05:06:07 ann 1 0\n\x01e\n\x01u\n\x01U\n\x01t\n\x01T\n\x01I 1\none\n\x01E 1\n";
 
-// the same with 1.3 once more in place of 1.2
+// the same with 1.3 once more in place of 1.1
 const TWICE_APART: &[u8] =
-    b"\x01h12748\n\x01s 00001/00000/00000\n\x01d D 1.3 21/03/04 05:06:07 ann 4 2\n\x01e\n\x01s 00001/00000/00000\n\x01d D 1.1.1.1 21/03/04 05:06:07 ann 3 1\n\x01e\n\x01s 00001/00000/00000\n\x01d D 1.3 21/03/04 05:06:07 ann 2 1\n\x01e\n\x01s 00001/00000/00000\n\x01d D 1.1 21/03/04 05:06:07 ann 1 0\n\x01e\n\x01u\n\x01U\n\x01t\n\x01T\n\x01I 1\none\n\x01E 1\n";
+    b"\x01h12749\n\x01s 00001/00000/00000\n\x01d D 1.3 21/03/04 05:06:07 ann 4 2\n\x01e\n\x01s 00001/00000/00000\n\x01d D 1.1.1.1 21/03/04 05:06:07 ann 3 1\n\x01e\n\x01s 00001/00000/00000\n\x01d D 1.2 21/03/04 05:06:07 ann 2 1\n\x01e\n\x01s 00001/00000/00000\n\x01d D 1.3 21/03/04 05:06:07 ann 1 0\n\x01e\n\x01u\n\x01U\n\x01t\n\x01T\n\x01I 1\none\n\x01E 1\n";
 
 // two live deltas of one SID
 const TWICE: &[u8] =
@@ -87,11 +87,13 @@ fn fault_of(
 #[test]
 fn faults_of_headers(rt: HostRuntime) -> Result<(), Fail> {
     let name = Name::read(b"s.a").ok_or("a name")?;
-    let rows: [(&[u8], FileFault); 4] = [
+    let rows: [(&[u8], FileFault); 6] = [
         (b"", FileFault::NotSccs),
         (b"\x01h00009\nab\n", FileFault::BadSum(9, 205)),
         (BLANK, FileFault::BadFormat(2)),
         (ENCODED, FileFault::Encoded),
+        (TWICE, FileFault::BadFormat(6)),
+        (TWICE_APART, FileFault::BadFormat(12)),
     ];
     for (bytes, wanted) in rows {
         let fault = fault_of(rt.alloc(), &name, bytes, &[])?;
@@ -109,17 +111,12 @@ fn a_failing_disk(rt: HostRuntime) -> Result<(), Fail> {
 }
 
 #[test]
-fn sids_of_tables(rt: HostRuntime) -> Result<(), Fail> {
+fn tables_are_read(rt: HostRuntime) -> Result<(), Fail> {
     let name = Name::read(b"s.a").ok_or("a name")?;
-    let rows: [(&[u8], Option<FileFault>); 4] = [
-        (BRANCH, None),
-        (TWICE_APART, Some(FileFault::BadFormat(9))),
-        (TWICE, Some(FileFault::BadFormat(6))),
-        (ONE_REMOVED, None),
-    ];
-    for (bytes, wanted) in rows {
+    let rows: [&[u8]; 2] = [BRANCH, ONE_REMOVED];
+    for bytes in rows {
         let fault = fault_of(rt.alloc(), &name, bytes, &[])?;
-        assert_eq!(rt; fault, wanted);
+        assert_eq!(rt; fault, None);
     }
     Ok(())
 }
