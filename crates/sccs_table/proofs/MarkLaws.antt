@@ -18,7 +18,7 @@ use Rattle.sccs_table.specs.Runs.{lf_count}
 use Rattle.sccs_table.specs.declared.piece_marks.PieceMarks.{PieceMarks}
 use Rattle.sccs_base.specs.Cut.{HasNoLf}
 use Rattle.sccs_table.proofs.CountLaws.{no_lines}
-use Rattle.sccs_table.specs.Marks.{AreMarked, AreSohs, Describes, HasNoMarked, HasNoSoh, MarksOf, bit, bits_of, block}
+use Rattle.sccs_table.specs.Marks.{AreMarked, AreSohs, Describes, HasNoSoh, MarksOf, bit, bits_of, block}
 
 -- ---- SOH
 
@@ -161,7 +161,7 @@ count_bound piece n = omega (arith, count_by-le-length (λ b. b == 10) (take n p
 
 -- ---- block by block
 
-on_to : (P : ℕ → Type 0) (n : ℕ) → ((m : ℕ) → m < n → P m) → P n → (m : ℕ) → m < n + 1 → P m
+pub on_to : (P : ℕ → Type 0) (n : ℕ) → ((m : ℕ) → m < n → P m) → P n → (m : ℕ) → m < n + 1 → P m
 on_to P n below here m low = ⊎_elim (λ l. below m l) (λ ge. let is : n ≡ m = omega arith in subst P is here) (cases_lt m n)
 
 pub marked_on : (piece : List ℕ) (marked marked2 n : ℕ) → AreMarked marked piece n
@@ -216,14 +216,9 @@ no_bit : (test : Bool) (b rest : ℕ) → (b == 1) ≡ test → b ≢ 1 → rest
 no_bit true b rest is isnt none = absurd (isnt (eqb-true b 1 is))
 no_bit false b rest is isnt none = omega (arith, none)
 
-no_bits : (bytes : List ℕ) → ((k : ℕ) → k < length bytes → get_or bytes k 0 ≢ 1) → bits_of 1 bytes ≡ 0
+pub no_bits : (bytes : List ℕ) → ((k : ℕ) → k < length bytes → get_or bytes k 0 ≢ 1) → bits_of 1 bytes ≡ 0
 no_bits [] none = refl
 no_bits (b ∷ bytes) none = no_bit (b == 1) b (bits_of 1 bytes) refl (none 0 (omega arith)) (no_bits bytes (λ k low. none (suc k) (omega (arith, low))))
-
-pub all_unmarked : (piece : List ℕ) → length piece ≡ 4096 → ((k : ℕ) → k < length piece → get_or piece k 0 ≢ 1) → HasNoMarked piece 64
-all_unmarked piece long none n low =
-    let size = length-chunk (64 * n) 64 piece (omega (arith, long)) in
-    no_bits (block n piece) (λ k below is. none (64 * n + k) (omega (arith, long, size)) (sym (get_or-chunk (64 * n) 64 piece k 0 (omega (arith, size))) ∙ is))
 
 -- ---- the sum
 
@@ -231,10 +226,21 @@ remainder : (total part more : ℕ) → more ≡ (total % 65536 + part) % 65536 
 remainder total part more is = omega (arith, is)
 
 -- one block more
-pub sum_block : (piece : List ℕ) (n total more : ℕ) → total ≡ sum (take (64 * n) piece) % 65536 → more ≡ (total + sum (take (64 * n + 64 - 64 * n) (drop (64 * n) piece))) % 65536 → more ≡ sum (take (64 * (n + 1)) piece) % 65536
+pub sum_block : (piece : List ℕ) (n total more : ℕ) → total ≡ sum (take (64 * n) piece) % 65536 → more ≡ (total + sum (block n piece)) % 65536 → more ≡ sum (take (64 * (n + 1)) piece) % 65536
 sum_block piece n total more so is =
     let at : 64 * (n + 1) ≡ 64 * n + 64 = omega arith in
-    let many : 64 * n + 64 - 64 * n ≡ 64 = omega arith in
-    let parts : sum (take (64 * (n + 1)) piece) ≡ sum (take (64 * n) piece) + sum (take 64 (drop (64 * n) piece)) = ap (λ k. sum (take k piece)) at ∙ (ap sum (take-add (64 * n) 64 piece) ∙ sum_by-append (λ b. b) (take (64 * n) piece) (take 64 (drop (64 * n) piece))) in
-    remainder (sum (take (64 * n) piece)) (sum (take 64 (drop (64 * n) piece))) more (is ∙ (ap (λ t. (t + sum (take (64 * n + 64 - 64 * n) (drop (64 * n) piece))) % 65536) so ∙ ap (λ k. (sum (take (64 * n) piece) % 65536 + sum (take k (drop (64 * n) piece))) % 65536) many))
-    ∙ ap (λ s. s % 65536) (sym parts)
+    let parts : sum (take (64 * (n + 1)) piece) ≡ sum (take (64 * n) piece) + sum (block n piece) = ap (λ k. sum (take k piece)) at ∙ (ap sum (take-add (64 * n) 64 piece) ∙ sum_by-append (λ b. b) (take (64 * n) piece) (block n piece)) in
+    remainder (sum (take (64 * n) piece)) (sum (block n piece)) more (is ∙ ap (λ t. (t + sum (block n piece)) % 65536) so) ∙ ap (λ s. s % 65536) (sym parts)
+
+-- one block more of LFs
+pub lines_block : (piece : List ℕ) (n : ℕ) → lf_count (take (64 * (n + 1)) piece) ≡ lf_count (take (64 * n) piece) + lf_count (block n piece)
+lines_block piece n = count_block piece n ∙ ap (λ k. lf_count (take (64 * n) piece) + k) (ends_all (block n piece))
+
+-- no byte of a block below its lane, which isn't as low as SOH
+pub none_below : (least piece : List ℕ) (n : ℕ) → length piece ≡ 4096 → n < 64 → ((k : ℕ) → k < 64 → get_or least k 0 ≤ get_or (block n piece) k 0) → ((k : ℕ) → k < 64 → 1 < get_or least k 0) → bits_of 1 (block n piece) ≡ 0
+none_below least piece n long low below high =
+    let size = length-chunk (64 * n) 64 piece (omega (arith, long)) in
+    no_bits (block n piece) (λ k within is. absurd (omega (arith, is, below k (omega (arith, within, size)), high k (omega (arith, within, size)))))
+
+pub whole : (piece : List ℕ) → length piece ≡ 4096 → take (64 * 64) piece ≡ piece
+whole piece long = take_all 4096 piece (omega (arith, long))

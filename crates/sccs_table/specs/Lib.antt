@@ -1,3 +1,4 @@
+pub mod BlockCounts
 pub mod FrontFile
 pub mod HeldPiece
 pub mod Marks

@@ -4,6 +4,7 @@
 mod counts;
 mod fronts;
 mod line_readers;
+mod piece_counts;
 mod piece_marks;
 mod sums;
 

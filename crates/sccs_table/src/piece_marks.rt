@@ -3,16 +3,13 @@ ghost use Rattle.std.specs.Prelude.{◌≡◌, ◌≢◌, false, true, ℕ, ◌%
 ghost use Rattle.std.specs.Int.{bit_at};
 ghost use Rattle.sccs_base.specs.Cut.{HasNoLf};
 ghost use Rattle.sccs_table.specs.Runs.{lf_count};
-ghost use Rattle.sccs_table.specs.Marks.{AreMarked, AreSohs, Counted, Describes, HasNoMarked, HasNoSoh, IsNextBlock, IsNextSoh, MarksOf, bit, bits_of, block};
+ghost use Rattle.sccs_table.specs.Marks.{AreMarked, AreSohs, Counted, Describes, HasNoSoh, IsNextBlock, IsNextSoh, MarksOf, bit, bits_of, block};
 
 use crate::counts::lines_in;
-use crate::sums::{plain_after, plain_in_parts};
+use crate::piece_counts::{BlockCount, PieceCount, lanes_of, plain_count, sum_with};
 use memchr::memrchr;
+use sccs_base::{LF, SOH};
 use std::simd::prelude::*;
-
-const LF: u8 = b'\n';
-
-const SOH: u8 = 1;
 
 /// How closely the LFs of pieces are looked at.
 #[derive(Clone, Copy, Debug, PartialEq, Eq)]
@@ -97,20 +94,24 @@ fn block_behind(marked: u64, n: usize) -> Option<usize>
     }
 }
 
-// finds the SOHs of each block of a piece, and answers the marked blocks
-fn find_sohs(piece: &[u8], sohs: &mut [u64]) -> u64
+// finds the SOHs of each block of a piece, and counts its LFs. Answers the marked blocks, and the count
+fn find_sohs(piece: &[u8], sohs: &mut [u64]) -> (u64, PieceCount)
     requires long { length piece.now ≡ 4096 }
     requires sohs { length sohs.old ≡ 64 }
-    ensures marked { AreMarked result piece.now 64 }
+    ensures marked { AreMarked result.0 piece.now 64 }
     ensures sohs { AreSohs sohs.new piece.now 64 }
+    ensures lines { result.1.lines ≡ lf_count piece.now }
+    ensures total { result.1.total ≡ sum piece.now % 65536 }
 {
     let mut marked = 0;
+    let mut count = BlockCount::new();
     for n in 0..64usize {
         let bits = bits_at(piece, 64 * n, SOH);
         marked = with_bit(marked, n, bits != 0);
         sohs[n] = bits;
+        count = count.with_block(piece, n);
     }
-    marked
+    (marked, count.of_piece(piece))
 }
 
 // describes the blocks of a piece, their LFs and SOHs; the number of all its LFs comes last in `before`.
@@ -128,9 +129,9 @@ fn describe(piece: &[u8], ends: &mut [u64], before: &mut [u64], sohs: &mut [u64]
 {
     let mut marked = 0;
     let mut count = 0;
-    let mut total = 0;
+    let mut total: u16 = 0;
     for n in 0..64usize {
-        total = plain_after(total, &piece[64 * n..64 * n + 64]);
+        total = sum_with(total, lanes_of(piece, n));
         let bits = bits_at(piece, 64 * n, LF);
         let found = bits_at(piece, 64 * n, SOH);
         marked = with_bit(marked, n, found != 0);
@@ -141,40 +142,6 @@ fn describe(piece: &[u8], ends: &mut [u64], before: &mut [u64], sohs: &mut [u64]
     }
     before[64] = count;
     (marked, total)
-}
-
-// a number that no byte is below; it is found without a branch, so that many bytes are looked at at once
-fn least_byte(bytes: &[u8]) -> u8
-    ensures { (k : ℕ) → k < length bytes.now → result ≤ get_or bytes.now k 0 }
-{
-    let mut least = u8::MAX;
-    for byte in bytes {
-        if *byte < least {
-            least = *byte;
-        }
-    }
-    least
-}
-
-// whether SOH may stand in a piece: it does, or NUL does
-fn may_have_soh(piece: &[u8]) -> bool
-    requires { length piece.now ≡ 4096 }
-    ensures { result ≡ false → HasNoMarked piece.now 64 }
-{
-    least_byte(piece) <= SOH
-}
-
-// whether no SOH stands in a piece, which is asked where none stood in the one before
-fn is_plain(marked: u64, piece: &[u8]) -> bool
-    requires { length piece.now ≡ 4096 }
-    ensures clear { result ≡ true → marked ≡ 0 }
-    ensures none { result ≡ true → HasNoMarked piece.now 64 }
-{
-    if marked == 0 {
-        !may_have_soh(piece)
-    } else {
-        false
-    }
 }
 
 /// The place behind the last LF.
@@ -210,15 +177,18 @@ impl PieceMarks {
         ensures marks { MarksOf self.new piece.now }
         ensures sum { result ≡ sum piece.now % 65536 }
     {
-        if is_plain(self.marked, piece) {
-            self.count_ends(piece);
-            return plain_in_parts(0, piece);
+        if self.marked == 0 {
+            if let Some(count) = plain_count(piece) {
+                self.count_ends(piece, count.lines);
+                return count.total;
+            }
         }
         match self.wanted {
             LineEnds::Counted => {
-                self.marked = find_sohs(piece, &mut self.sohs);
-                self.count_ends(piece);
-                plain_in_parts(0, piece)
+                let (marked, count) = find_sohs(piece, &mut self.sohs);
+                self.marked = marked;
+                self.count_ends(piece, count.lines);
+                count.total
             }
             LineEnds::Placed => {
                 let (marked, total) = describe(
@@ -234,15 +204,16 @@ impl PieceMarks {
         }
     }
 
-    // counts the LFs, whose places aren't known then
-    fn count_ends(&mut self, piece: &[u8])
+    // knows how many LFs there are, and not where
+    fn count_ends(&mut self, piece: &[u8], count: u64)
+        requires { count ≡ lf_count piece.now }
         ensures counted { Counted false self.new piece.now }
         ensures placed { self.new.placed ≡ false }
         ensures marked { self.new.marked ≡ self.old.marked }
         ensures sohs { self.new.sohs ≡ self.old.sohs }
     {
         self.placed = false;
-        self.count = lines_in(piece);
+        self.count = count;
         self.last = whole_lines(piece);
     }
 

@@ -92,40 +92,15 @@ impl Model for PlainSum {
     ghost inverse = { λ n. record { value = n } };
 }
 
-// the plain sum after more bytes
-#[inline(always)]
-pub fn plain_after(plain: u16, bytes: &[u8]) -> u16
-    ensures { result ≡ (plain + sum bytes.now) % 65536 }
+// the plain sum of bytes
+fn plain_of(bytes: &[u8]) -> u16
+    ensures { result ≡ sum bytes.now % 65536 }
 {
-    let mut plain = plain;
+    let mut plain: u16 = 0;
     for byte in bytes {
         plain = plain.wrapping_add(u16::from(*byte));
     }
     plain
-}
-
-// the same of 128 bytes, of which each half is added by four instructions
-#[inline(always)]
-fn plain_after_halves(plain: u16, bytes: &[u8]) -> u16
-    requires { length bytes.now ≡ 128 }
-    ensures { result ≡ (plain + sum bytes.now) % 65536 }
-{
-    let (front, back) = bytes.split_at(64);
-    plain_after(plain_after(plain, front), back)
-}
-
-// the same of many bytes
-pub fn plain_in_parts(before: u16, bytes: &[u8]) -> u16
-    ensures { result ≡ (before + sum bytes.now) % 65536 }
-{
-    let mut plain = before;
-    let mut rest = bytes;
-    'parts: while rest.len() >= 128 {
-        let (part, behind) = rest.split_at(128);
-        plain = plain_after_halves(plain, part);
-        rest = behind;
-    }
-    plain_after(plain, rest)
 }
 
 impl PlainSum {
@@ -140,7 +115,7 @@ impl PlainSum {
     pub fn add_behind(&mut self, total: u16, front: &[u8])
         ensures { (before bytes : List ℕ) → total ≡ (sum front.now + sum bytes) % 65536 → IsPlainSumOf self.old before → IsPlainSumOf self.new (before ++ bytes) }
     {
-        let behind = total.wrapping_sub(plain_in_parts(0, front));
+        let behind = total.wrapping_sub(plain_of(front));
         self.value = self.value.wrapping_add(behind);
     }
 

@@ -1,5 +1,5 @@
-use Rattle.std.proofs.Common.{◌+◌, ◌*◌, ◌∙◌, ap, arith, rules}
-use Rattle.std.specs.Prelude.{count_ones, not, ◌==◌}
+use Rattle.std.proofs.Common.{◌+◌, ◌*◌, ◌%◌, ◌∙◌, ap, arith, rules}
+use Rattle.std.specs.Prelude.{count_ones, not, sum, ◌==◌}
 use Rattle.std.proofs.lemmas.List.{get_or-set_other, get_or-set_same}
 use Rattle.sccs_table.specs.Marks.{bit}
 use Rattle.sccs_table.proofs.MarkLaws.{count_block, count_bound, described_on, marked_on, sohs_on, sum_block}
@@ -28,5 +28,5 @@ loop-n-preserved c =
       before = search rules;
       sohs = search rules;
       end = search rules;
-      sum = sum_block c.args.piece.now n c.loop-n.total c.plain_after-total.result old.sum c.plain_after-total.ensures;
+      sum = sum_block c.args.piece.now n c.loop-n.total c.sum_with-total.result old.sum (c.sum_with-total.ensures ∙ ap (λ l. (c.loop-n.total + sum l) % 65536) c.lanes_of.ensures);
     }
