@@ -1,6 +1,6 @@
 -- An item that may stand, and the state behind it.
 use Rattle.std.proofs.Common.{◌≡◌, ℕ, ◌+◌, Bool, true, false, ◌&&◌, List, [], ◌∷◌, Option, None, Some, Result, Ok, Err, ◌++◌, refl, sym, ap, ◌∙◌, subst, arith}
-use Rattle.std.specs.Prelude.{if◌then◌else◌}
+use Rattle.std.specs.Prelude.{IfSome, if◌then◌else◌}
 use Rattle.std.specs.Prelude.{length, take}
 use Rattle.std.proofs.lemmas.List.{length-take-le}
 use Rattle.sccs_base.specs.Cut.{Cut, HasNoLf}
@@ -10,10 +10,10 @@ use Rattle.sccs_history.specs.Numbers.{is_empty}
 use Rattle.sccs_history.specs.Body.{may_stand, is_over}
 use Rattle.sccs_grammar.specs.Items.{IsWrittenItem, item_standing, item_read, item_at, items_from}
 use Rattle.sccs_grammar.specs.declared.faults.FileFault.{FileFault}
-use Rattle.sccs_grammar.specs.declared.faults.FileFault.TheVariants.{BadFormat}
+use Rattle.sccs_grammar.specs.declared.faults.FileFault.TheVariants.{Missing, TooLong, NotSccs, BadSum, BadFormat, Encoded, Changed, Failed, Memory}
 use Rattle.sccs_table.specs.ReaderState.{ReaderState, TakesLine, bytes_in, left}
-use Rattle.sccs_body.specs.Reader.{BodyPlace}
-use Rattle.sccs_body.specs.ItemsRead.{end_answer, Gives, GivesItem, HasBehind, TakesItem}
+use Rattle.sccs_body.specs.Reader.{BodyPlace, number_at}
+use Rattle.sccs_body.specs.ItemsRead.{Gives, GivesItem, HasBehind, IsFormatAt, TakesItem}
 use Rattle.sccs_history.specs.declared.headers.Item.{Item}
 use Rattle.sccs_history.specs.declared.headers.Item.TheVariants.{Text}
 use Rattle.sccs_marks.specs.States.{Knows}
@@ -51,25 +51,43 @@ items_fault : (live : List ℕ) (n : ℕ) (before : List Item) (line : List ℕ)
 unfolding items_from
 items_fault live n before line lines tail none = rw none refl
 
-from_end : (live : List ℕ) (before : List Item) (file line : List ℕ) (old new : BodyPlace) (over : Bool) → left old.lines file ≡ record { lines = []; tail = line } → (is_over before && is_empty line) ≡ over → GivesItem live before file old new (end_answer over old.number)
-from_end live before file line old new true is over =
-    ap (λ (c : Cut). items_from live old.number before c.lines c.tail) is ∙ (items_end live old.number before line ∙ rw over refl)
-from_end live before file line old new false is over =
-    (refl, ap (λ (c : Cut). items_from live old.number before c.lines c.tail) is ∙ (items_end live old.number before line ∙ rw over refl))
+-- the fault of a line at which no item may stand
+format_given : (live : List ℕ) (before : List Item) (file : List ℕ) (old new : BodyPlace) (e : FileFault) → items_from live (number_at old file) before (left old.lines file).lines (left old.lines file).tail ≡ Err (number_at old file) → IsFormatAt (number_at old file) e → GivesItem live before file old new (Err e)
+format_given live before file old new (BadFormat line) found is = (is, found ∙ ap Err (sym is))
+format_given live before file old new Failed found is = tt
+format_given live before file old new Memory found is = absurd is
+format_given live before file old new Missing found is = absurd is
+format_given live before file old new TooLong found is = absurd is
+format_given live before file old new NotSccs found is = absurd is
+format_given live before file old new (BadSum s k) found is = absurd is
+format_given live before file old new Encoded found is = absurd is
+format_given live before file old new (Changed a b c d) found is = absurd is
 
-pub end_gives : (o : Option (List ℕ)) (live : List ℕ) (before : List Item) (line : List ℕ) (old new : BodyPlace) (over : Bool) → TakesLine o old.lines new.lines line false → (is_over before && is_empty line) ≡ over → Gives o live before old new (end_answer over old.number)
-end_gives None live before line old new over takes is = tt
-end_gives (Some file) live before line old new over takes is = λ stands. from_end live before file line old new over (takes stands).1 is
+-- where no line is left
+ended : (live : List ℕ) (before : List Item) (file line : List ℕ) (old : BodyPlace) (over : Bool) → left old.lines file ≡ record { lines = []; tail = line } → (is_over before && is_empty line) ≡ over → items_from live (number_at old file) before (left old.lines file).lines (left old.lines file).tail ≡ (if over then Ok [] else Err (number_at old file))
+ended live before file line old over is same = ap (λ (c : Cut). items_from live (number_at old file) before c.lines c.tail) is ∙ (items_end live (number_at old file) before line ∙ ap (λ (b : Bool). if b then Ok [] else Err (number_at old file)) same)
 
-pub item_gives : (o : Option (List ℕ)) (live : List ℕ) (before : List Item) (line : List ℕ) (old new : BodyPlace) (item : Item) → TakesLine o old.lines new.lines line true → item_at live before line ≡ Some item → new.number ≡ old.number + 1 → Gives o live before old new (Ok (Some item))
-item_gives None live before line old new item takes is number = tt
-item_gives (Some file) live before line old new item takes is number = λ stands. let taken = takes stands in (taken.0, number, (line, taken.1, is))
+pub end_gives : (o : Option (List ℕ)) (live : List ℕ) (before : List Item) (line : List ℕ) (old new : BodyPlace) → TakesLine o old.lines new.lines line false → (is_over before && is_empty line) ≡ true → Gives o live before old new (Ok None)
+end_gives None live before line old new takes is = tt
+end_gives (Some file) live before line old new takes is = λ stands. ended live before file line old true (takes stands).1 is
 
-pub fault_gives : (o : Option (List ℕ)) (live : List ℕ) (before : List Item) (line : List ℕ) (old new : BodyPlace) → TakesLine o old.lines new.lines line true → item_at live before line ≡ None → Gives o live before old new (Err (BadFormat old.number))
-fault_gives None live before line old new takes none = tt
-fault_gives (Some file) live before line old new takes none = λ stands.
+pub end_fault : (o p : Option (List ℕ)) (live : List ℕ) (before : List Item) (line : List ℕ) (old new other : BodyPlace) (e : FileFault) → p ≡ o → TakesLine o old.lines new.lines line false → (is_over before && is_empty line) ≡ false
+    → IfSome p (λ file. IsFormatAt (number_at old file) e) → Gives o live before old other (Err e)
+end_fault None p live before line old new other e same takes is fault = tt
+end_fault (Some file) p live before line old new other e same takes is fault = λ stands.
+    format_given live before file old other e (ended live before file line old false (takes stands).1 is) (subst (λ q. IfSome q (λ f. IsFormatAt (number_at old f) e)) same fault)
+
+pub item_gives : (o : Option (List ℕ)) (live : List ℕ) (before : List Item) (line : List ℕ) (old new : BodyPlace) (item : Item) → TakesLine o old.lines new.lines line true → item_at live before line ≡ Some item → Gives o live before old new (Ok (Some item))
+item_gives None live before line old new item takes is = tt
+item_gives (Some file) live before line old new item takes is = λ stands. let taken = takes stands in (taken.0, (line, taken.1, is))
+
+pub fault_gives : (o p : Option (List ℕ)) (live : List ℕ) (before : List Item) (line : List ℕ) (old new other : BodyPlace) (e : FileFault) → p ≡ o → TakesLine o old.lines new.lines line true → item_at live before line ≡ None
+    → IfSome p (λ file. IsFormatAt (number_at old file) e) → Gives o live before old other (Err e)
+fault_gives None p live before line old new other e same takes none fault = tt
+fault_gives (Some file) p live before line old new other e same takes none fault = λ stands.
     let taken = takes stands in
-    (refl, ap (λ (c : Cut). items_from live old.number before c.lines c.tail) taken.1 ∙ items_fault live old.number before line (left new.lines file).lines (left new.lines file).tail none)
+    format_given live before file old other e (ap (λ (c : Cut). items_from live (number_at old file) before c.lines c.tail) taken.1 ∙ items_fault live (number_at old file) before line (left new.lines file).lines (left new.lines file).tail none)
+    (subst (λ q. IfSome q (λ f. IsFormatAt (number_at old f) e)) same fault)
 
 -- ---- a line that is held whole, as it is written
 
@@ -81,38 +99,20 @@ held_taken : (o : Option (List ℕ)) (old new : ReaderState) (item : Item) (coun
 held_taken o old new item count is takes = takes o (take count old.held) is.line (length-take-le count old.held (omega (arith, is.short))) is.ended
 
 pub held_gives : (o : Option (List ℕ)) (live : List ℕ) (before : List Item) (here now new : BodyPlace) (item : Item) (count : ℕ) → here ≡ now → IsWrittenItem now.lines.held item count → TakesHeld here.lines new.lines count
-    → may_stand live before item ≡ true → new.number ≡ here.number + 1 → Gives o live before now new (Ok (Some item))
-held_gives o live before here now new item count same is takes may number =
+    → may_stand live before item ≡ true → Gives o live before now new (Ok (Some item))
+held_gives o live before here now new item count same is takes may =
     let written = subst (λ (p : BodyPlace). IsWrittenItem p.lines.held item count) (sym same) is in
     let line = take count here.lines.held in
     subst (λ p. Gives o live before p new (Ok (Some item))) same
-    (item_gives o live before line here new item (held_taken o here.lines new.lines item count written takes) (line_item live before line item true written.token may) number)
+    (item_gives o live before line here new item (held_taken o here.lines new.lines item count written takes) (line_item live before line item true written.token may))
 
-pub held_counted : (old new : ReaderState) (item : Item) (count : ℕ) → IsWrittenItem old.held item count → ((line : List ℕ) → HasNoLf line → take (count + 1) old.held ≡ line ++ 10 ∷ [] → new.lines ≡ old.lines + 1) → new.lines ≡ old.lines + 1
-held_counted old new item count is counted = counted (take count old.held) is.line is.ended
-
--- a fault says nothing of where the reader stands then
-fault_anywhere : (o : Option (List ℕ)) (live : List ℕ) (before : List Item) (old new other : BodyPlace) (k : ℕ) → Gives o live before old new (Err (BadFormat k)) → Gives o live before old other (Err (BadFormat k))
-fault_anywhere None live before old new other k gives = tt
-fault_anywhere (Some file) live before old new other k gives = gives
-
-pub held_fault : (o : Option (List ℕ)) (live : List ℕ) (before : List Item) (here now new other : BodyPlace) (item : Item) (count : ℕ) → here ≡ now → IsWrittenItem now.lines.held item count → TakesHeld here.lines new.lines count
-    → may_stand live before item ≡ false → Gives o live before now other (Err (BadFormat here.number))
-held_fault o live before here now new other item count same is takes may =
+pub held_fault : (o p : Option (List ℕ)) (live : List ℕ) (before : List Item) (here now new other : BodyPlace) (item : Item) (count : ℕ) (e : FileFault) → here ≡ now → p ≡ o → IsWrittenItem now.lines.held item count → TakesHeld here.lines new.lines count
+    → may_stand live before item ≡ false → IfSome p (λ file. IsFormatAt (number_at here file) e) → Gives o live before now other (Err e)
+held_fault o p live before here now new other item count e same told is takes may fault =
     let written = subst (λ (p : BodyPlace). IsWrittenItem p.lines.held item count) (sym same) is in
     let line = take count here.lines.held in
-    subst (λ p. Gives o live before p other (Err (BadFormat here.number))) same
-    (fault_anywhere o live before here new other here.number (fault_gives o live before line here new (held_taken o here.lines new.lines item count written takes) (line_item live before line item false written.token may)))
-
--- ---- the number of a line
-
--- lines at the arm of a test
-pub lines_at : (n m : ℕ) (a b : Bool) → a ≡ b → n ≡ m + (if a then 1 else 0) → n ≡ m + (if b then 1 else 0)
-lines_at n m a b is lines = subst (λ e. n ≡ m + (if e then 1 else 0)) is lines
-
--- a fault at a line, whose number is computed in another way
-pub fault_named : (o : Option (List ℕ)) (live : List ℕ) (before : List Item) (old new other : BodyPlace) (k j : ℕ) → k ≡ j → Gives o live before old new (Err (BadFormat k)) → Gives o live before old other (Err (BadFormat j))
-fault_named o live before old new other k j is gives = subst (λ n. Gives o live before old other (Err (BadFormat n))) is (fault_anywhere o live before old new other k gives)
+    subst (λ p. Gives o live before p other (Err e)) same
+    (fault_gives o p live before line here new other e told (held_taken o here.lines new.lines item count written takes) (line_item live before line item false written.token may) fault)
 
 -- ---- as the reader is seen
 

@@ -1,5 +1,5 @@
 -- Runs of text lines that are passed over.
-use Rattle.std.proofs.Common.{◌≡◌, ℕ, suc, ◌+◌, ◌<◌, Bool, true, false, List, [], ◌∷◌, ◌++◌, length, map, take, Option, None, Some, Result, Ok, Err, refl, sym, ap, ◌∙◌, subst, arith, append_assoc}
+use Rattle.std.proofs.Common.{◌≡◌, ℕ, suc, ◌+◌, ◌<◌, ◌≤◌, Bool, true, false, List, [], ◌∷◌, ◌++◌, length, map, take, Option, None, Some, Result, Ok, Err, refl, sym, ap, ◌∙◌, subst, arith, append_assoc}
 use Rattle.sccs_base.specs.Cut.{Cut, cut}
 use Rattle.sccs_sid.specs.Reading.{◌>>=◌}
 use Rattle.sccs_sid.specs.SidLists.{begins}
@@ -13,12 +13,13 @@ use Rattle.sccs_grammar.proofs.TokenLaws.{token_plain}
 use Rattle.sccs_marks.specs.States.{Knows}
 use Rattle.sccs_marks.specs.declared.body_states.BodyState.{BodyState}
 use Rattle.sccs_table.specs.Runs.{IsRun, PassesRun}
-use Rattle.sccs_table.specs.ReaderState.{ReaderState, left}
+use Rattle.sccs_table.specs.ReaderState.{left}
 use Rattle.sccs_table.proofs.RunLaws.{lines_bound}
-use Rattle.sccs_body.specs.Reader.{BodyPlace}
+use Rattle.sccs_body.specs.Reader.{BodyPlace, KeepsBody, number_at}
 use Rattle.sccs_body.specs.ItemsRead.{HasBehind, texts_behind}
 use Rattle.sccs_body.proofs.ItemLaws.{behind_text, line_item}
 use Rattle.sccs_body.specs.ToCome.{onto}
+use Rattle.sccs_body.proofs.NumberLaws.{number_on}
 use Rattle.sccs_body.proofs.BodyLaws.{onto_none, items_on, Reached, Somewhere}
 
 pub not_both : {P : Type 0} (b : Bool) → b ≡ true → b ≡ false → P
@@ -57,33 +58,34 @@ items_from_texts live n before (text ∷ texts) lines tail are stand =
 pub some_bytes : (run : List ℕ) → 0 < length (cut run).lines → 0 < length run
 some_bytes run some = omega (arith, lines_bound run)
 
-pub reached_texts : (o : Option (List ℕ)) (live : List ℕ) (begun : ReaderState) (n0 : ℕ) (before : List Item) (now new : BodyPlace) (run : List ℕ) → IsRun run → (0 < length run → (text : List ℕ) → may_stand live before (Text text) ≡ true)
-    → new.number ≡ now.number + length (cut run).lines → ((file : List ℕ) → PassesRun run file now.lines new.lines) → Reached o live begun n0 before now → Reached o live begun n0 (texts_behind (cut run).lines before) new
-reached_texts None live begun n0 before now new run is stand number passes reached = tt
-reached_texts (Some file) live begun n0 before now new run is stand number passes reached = λ stands.
+pub reached_texts : (o : Option (List ℕ)) (live : List ℕ) (begun : BodyPlace) (before : List Item) (now new : BodyPlace) (run : List ℕ) → IsRun run → (0 < length run → (text : List ℕ) → may_stand live before (Text text) ≡ true)
+    → KeepsBody now new → now.from ≤ now.lines.place → now.lines.place ≤ new.lines.place → ((file : List ℕ) → PassesRun run file now.lines new.lines) → Reached o live begun before now → Reached o live begun (texts_behind (cut run).lines before) new
+reached_texts None live begun before now new run is stand kept low onward passes reached = tt
+reached_texts (Some file) live begun before now new run is stand kept low onward passes reached = λ stands.
     let here = reached stands in
     let passed = passes file here.0 in
     let lines = (cut run).lines in
-    let next : items_from live now.number before (left now.lines file).lines (left now.lines file).tail ≡ onto (map Text lines) (items_from live new.number (texts_behind lines before) (left new.lines file).lines (left new.lines file).tail) =
-    ap (λ (c : Cut). items_from live now.number before c.lines c.tail) passed.1
-    ∙ (items_from_texts live now.number before lines (left new.lines file).lines (left new.lines file).tail is.1 (λ some. stand (some_bytes run some))
+    let number = number_on file now new lines kept low onward (ap (λ (c : Cut). c.lines) passed.1) in
+    let next : items_from live (number_at now file) before (left now.lines file).lines (left now.lines file).tail ≡ onto (map Text lines) (items_from live (number_at new file) (texts_behind lines before) (left new.lines file).lines (left new.lines file).tail) =
+    ap (λ (c : Cut). items_from live (number_at now file) before c.lines c.tail) passed.1
+    ∙ (items_from_texts live (number_at now file) before lines (left new.lines file).lines (left new.lines file).tail is.1 (λ some. stand (some_bytes run some))
     ∙ ap (λ k. onto (map Text lines) (items_from live k (texts_behind lines before) (left new.lines file).lines (left new.lines file).tail)) (sym number)) in
     (passed.0, (here.1.0 ++ map Text lines, here.1.1 ∙ (ap (onto here.1.0) next ∙ onto_both here.1.0 (map Text lines) _)))
 
 -- the reader stands behind the lines that it passed over
-pub somewhere_behind : (o : Option (List ℕ)) (live : List ℕ) (begun : ReaderState) (n0 : ℕ) (now new : BodyPlace) (run : List ℕ) → IsRun run → ((live : List ℕ) (before : List Item) (text : List ℕ) → HasBehind live before now → 0 < length run → may_stand live before (Text text) ≡ true)
-    → new.number ≡ now.number + length (cut run).lines → ((live : List ℕ) (before : List Item) → HasBehind live before now → HasBehind live (texts_behind (cut run).lines before) new) → ((file : List ℕ) → PassesRun run file now.lines new.lines)
-    → Somewhere o live begun n0 now → Somewhere o live begun n0 new
-somewhere_behind o live begun n0 now new run is stand number behind passes here =
-    (texts_behind (cut run).lines here.0, behind live here.0 here.1, reached_texts o live begun n0 here.0 now new run is (λ some text. stand live here.0 text here.1 some) number passes here.2)
+pub somewhere_behind : (o : Option (List ℕ)) (live : List ℕ) (begun now new : BodyPlace) (run : List ℕ) → IsRun run → ((live : List ℕ) (before : List Item) (text : List ℕ) → HasBehind live before now → 0 < length run → may_stand live before (Text text) ≡ true)
+    → KeepsBody now new → now.lines.place ≤ new.lines.place → ((live : List ℕ) (before : List Item) → HasBehind live before now → HasBehind live (texts_behind (cut run).lines before) new) → ((file : List ℕ) → PassesRun run file now.lines new.lines)
+    → Somewhere o live begun now → Somewhere o live begun new
+somewhere_behind o live begun now new run is stand kept onward behind passes here =
+    let before = here.1.0 in
+    (omega (arith, kept.from, here.0, onward), (texts_behind (cut run).lines before, behind live before here.1.1, reached_texts o live begun before now new run is (λ some text. stand live before text here.1.1 some) kept here.0 onward passes here.1.2))
 
 -- the same, where the run is known as the front of what is held
-pub somewhere_behind_front : (o : Option (List ℕ)) (live : List ℕ) (begun : ReaderState) (n0 : ℕ) (now new : BodyPlace) (run : List ℕ) → take (length run) now.lines.held ≡ run → IsRun run
+pub somewhere_behind_front : (o : Option (List ℕ)) (live : List ℕ) (begun now new : BodyPlace) (run : List ℕ) → take (length run) now.lines.held ≡ run → IsRun run
     → ((live : List ℕ) (before : List Item) (text : List ℕ) → HasBehind live before now → 0 < length run → may_stand live before (Text text) ≡ true)
-    → new.number ≡ now.number + length (cut (take (length run) now.lines.held)).lines → ((live : List ℕ) (before : List Item) → HasBehind live before now → HasBehind live (texts_behind (cut (take (length run) now.lines.held)).lines before) new)
-    → ((file : List ℕ) → PassesRun (take (length run) now.lines.held) file now.lines new.lines) → Somewhere o live begun n0 now → Somewhere o live begun n0 new
-somewhere_behind_front o live begun n0 now new run front is stand number behind passes here =
-    somewhere_behind o live begun n0 now new run is stand
-    (subst (λ bytes. new.number ≡ now.number + length (cut bytes).lines) front number)
+    → KeepsBody now new → new.lines.place ≡ now.lines.place + length run → ((live : List ℕ) (before : List Item) → HasBehind live before now → HasBehind live (texts_behind (cut (take (length run) now.lines.held)).lines before) new)
+    → ((file : List ℕ) → PassesRun (take (length run) now.lines.held) file now.lines new.lines) → Somewhere o live begun now → Somewhere o live begun new
+somewhere_behind_front o live begun now new run front is stand kept place behind passes here =
+    somewhere_behind o live begun now new run is stand kept (omega (arith, place))
     (subst (λ bytes. (live : List ℕ) (before : List Item) → HasBehind live before now → HasBehind live (texts_behind (cut bytes).lines before) new) front behind)
     (subst (λ bytes. (file : List ℕ) → PassesRun bytes file now.lines new.lines) front passes) here

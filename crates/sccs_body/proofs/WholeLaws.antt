@@ -1,5 +1,5 @@
 -- What one reading behind the sum line, and the sum of its bytes, make of the answer for a whole file.
-use Rattle.std.proofs.Common.{◌≡◌, inl, inr, ℕ, ◌≤◌, true, false, List, [], length, drop, Option, None, Some, Result, Ok, Err, sym, ap, ◌∙◌, subst}
+use Rattle.std.proofs.Common.{◌≡◌, inl, inr, ℕ, ◌≤◌, true, false, List, [], length, drop, Option, None, Some, Result, Ok, Err, sym, ap, ◌∙◌, subst, arith}
 use Rattle.std.specs.Prelude.{IfSome}
 use Rattle.sccs_base.specs.Cut.{cut}
 use Rattle.sccs_disk.specs.Files.{View}
@@ -17,6 +17,7 @@ use Rattle.sccs_table.proofs.FileLaws.{at_file, format_refused, front_found, sum
 use Rattle.sccs_body.specs.BodyFile.{AnswersFile, ChecksFile, ChecksFound, ChecksRest, items_left, items_of}
 use Rattle.sccs_body.specs.Behind.{IsRead, ReadsBehind}
 use Rattle.sccs_body.specs.Reader.{BodyPlace}
+use Rattle.sccs_body.proofs.NumberLaws.{number_low}
 use Rattle.sccs_body.proofs.FileLaws.{refusal_stays, refused_in, encoded_in, plain_in}
 
 -- the answer is needed at a file that is told alone
@@ -69,15 +70,15 @@ state_refused None old last front from reads = tt
 state_refused (Some file) old last front from reads = λ stands long. inr (front, (last, reads stands, from, long), tt)
 
 -- the body that was read is that of the front
-items_are : (file : List ℕ) (front : Front) (begun : BodyPlace) → front.body_from ≡ begun.lines.place → front.body_line ≡ begun.number → items_left file (live_serials front.header.records) begun ≡ items_of file front
-items_are file front begun from line =
-    ap (λ n. items_from (live_serials front.header.records) n [] (left begun.lines file).lines (left begun.lines file).tail) (sym line)
+items_are : (file : List ℕ) (front : Front) (begun : BodyPlace) → front.body_from ≡ begun.lines.place → begun.from ≡ begun.lines.place → front.body_line ≡ begun.first → items_left file (live_serials front.header.records) begun ≡ items_of file front
+items_are file front begun from begins line =
+    ap (λ n. items_from (live_serials front.header.records) n [] (left begun.lines file).lines (left begun.lines file).tail) (number_low file begun (omega (arith, begins)) ∙ sym line)
     ∙ ap (λ n. items_from (live_serials front.header.records) front.body_line [] (cut (drop n file)).lines (cut (drop n file)).tail) (sym from)
 
-module _ (old : ReaderState) (front : Front) (begun : BodyPlace) (from : front.body_from ≡ begun.lines.place) (line : front.body_line ≡ begun.number) where
+module _ (old : ReaderState) (front : Front) (begun : BodyPlace) (from : front.body_from ≡ begun.lines.place) (begins : begun.from ≡ begun.lines.place) (line : front.body_line ≡ begun.first) where
   rest_checked : (q : Option (List ℕ)) (file : List ℕ) (result : Result (Unit {0}) FileFault) → q ≡ Some file → StandsIn begun.lines file → ChecksRest q (live_serials front.header.records) begun result → ChecksFile file front result
   rest_checked q file result is stands checks =
-      subst (λ found. ChecksFound found result) (items_are file front begun from line) (subst (λ o. ChecksRest o (live_serials front.header.records) begun result) is checks stands)
+      subst (λ found. ChecksFound found result) (items_are file front begun from begins line) (subst (λ o. ChecksRest o (live_serials front.header.records) begun result) is checks stands)
 
   pub items_refused : (o q : Option (List ℕ)) (e : FileFault) → q ≡ o → Reads o old begun.lines start 2 (Ok (front.header, front.body_line)) → ChecksRest q (live_serials front.header.records) begun (Err e)
       → IfSome o (λ file. StandsIn old file → front.size ≡ length file → ReadsBehind file old (Err e))

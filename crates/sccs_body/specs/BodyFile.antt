@@ -10,7 +10,7 @@ use Rattle.sccs_grammar.specs.declared.faults.FileFault.{FileFault}
 use Rattle.sccs_grammar.specs.declared.faults.FileFault.TheVariants.{BadFormat, Failed, Memory}
 use Rattle.sccs_table.specs.FrontFile.{Answers, IsFrontOf}
 use Rattle.sccs_table.specs.ReaderState.{StandsIn, left}
-use Rattle.sccs_body.specs.Reader.{BodyPlace}
+use Rattle.sccs_body.specs.Reader.{BodyPlace, number_at}
 use Rattle.sccs_table.specs.declared.fronts.Front.{Front}
 
 -- what the body of a front's file has, from its first line on
@@ -30,7 +30,7 @@ ChecksFile file front result = ChecksFound (items_of file front) result
 
 -- the lines from where a reader stands in a told file
 abbrev pub items_left : List ℕ → List ℕ → BodyPlace → Result (List Item) ℕ
-items_left file live r = items_from live r.number [] (left r.lines file).lines (left r.lines file).tail
+items_left file live r = items_from live (number_at r file) [] (left r.lines file).lines (left r.lines file).tail
 
 abbrev pub ChecksRest : Option (List ℕ) → List ℕ → BodyPlace → Result (Unit {0}) FileFault → Type 0
 ChecksRest None live old result = Unit {0}

@@ -4,9 +4,9 @@ use Rattle.sccs_body.specs.Reader.{ItemPlace}
 use Rattle.sccs_body.specs.declared.item_readers.ItemReader.TheInside.{Inside}
 
 abbrev pub item_place : Inside → ItemPlace
-item_place r = record { body = r.body; from = r.from; size = r.size; sum = r.sum }
+item_place r = record { body = r.body; size = r.size; sum = r.sum }
 
 -- The body begins where a file may be read.
 pub record IsWithin (r : Inside) : Type 0 where
-  pub from : r.from ≤ r.body.lines.limit
+  pub from : r.body.from ≤ r.body.lines.limit
   pub limit : r.body.lines.limit ≡ 1073741825

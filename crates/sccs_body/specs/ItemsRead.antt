@@ -1,5 +1,5 @@
 -- What reading the items of a body answers.
-use Rattle.std.specs.Prelude.{◌≡◌, ℕ, ◌+◌, true, List, [], ◌∷◌, Option, None, Some, Result, Ok, Err, Bool, if◌then◌else◌}
+use Rattle.std.specs.Prelude.{◌≡◌, ℕ, true, List, [], ◌∷◌, Option, None, Some, Result, Ok, Err}
 use Rattle.sccs_history.specs.Body.{may_stand, is_over}
 use Rattle.sccs_history.specs.declared.headers.Item.{Item}
 use Rattle.sccs_history.specs.declared.headers.Item.TheVariants.{Text}
@@ -11,7 +11,7 @@ use Rattle.sccs_grammar.specs.declared.faults.FileFault.{FileFault}
 use Rattle.sccs_grammar.specs.declared.faults.FileFault.TheVariants.{BadFormat, Failed}
 use Rattle.sccs_grammar.specs.declared.faults.FileFault.TheVariants as fault
 use Rattle.sccs_table.specs.ReaderState.{StandsIn, left}
-use Rattle.sccs_body.specs.Reader.{BodyPlace, ItemPlace}
+use Rattle.sccs_body.specs.Reader.{BodyPlace, ItemPlace, number_at}
 
 -- the reader stands behind these items, the last first, of a body over live serials
 abbrev pub HasBehind : List ℕ → List Item → BodyPlace → Type 0
@@ -48,11 +48,11 @@ GoesOrStays live before new None = IsBehind live before new
 -- the next line of the file is the item; or nothing is left; or no item may stand at the line
 abbrev pub GivesItem : List ℕ → List Item → List ℕ → BodyPlace → BodyPlace → Result (Option Item) FileFault → Type 0
 GivesItem live before file old new (Ok (Some item)) =
-    StandsIn new.lines file × (new.number ≡ old.number + 1)
+    StandsIn new.lines file
     × ((line : List ℕ) × (left old.lines file ≡ record { lines = line ∷ (left new.lines file).lines; tail = (left new.lines file).tail }) × (item_at live before line ≡ Some item))
-GivesItem live before file old new (Ok None) = items_from live old.number before (left old.lines file).lines (left old.lines file).tail ≡ Ok []
+GivesItem live before file old new (Ok None) = items_from live (number_at old file) before (left old.lines file).lines (left old.lines file).tail ≡ Ok []
 GivesItem live before file old new (Err (BadFormat line)) =
-    (line ≡ old.number) × (items_from live old.number before (left old.lines file).lines (left old.lines file).tail ≡ Err line)
+    (line ≡ number_at old file) × (items_from live (number_at old file) before (left old.lines file).lines (left old.lines file).tail ≡ Err line)
 GivesItem live before file old new (Err Failed) = Unit {0}
 GivesItem live before file old new (Err fault.Memory) = Unit {0}
 GivesItem live before file old new (Err _) = ⊥
@@ -62,6 +62,14 @@ abbrev pub Gives : Option (List ℕ) → List ℕ → List Item → BodyPlace �
 Gives None live before old new result = Unit {0}
 Gives (Some file) live before old new result = StandsIn old.lines file → GivesItem live before file old new result
 
--- what is given where no LF is left: nothing, where the body is over and no byte is left
-abbrev pub end_answer : Bool → ℕ → Result (Option Item) FileFault
-end_answer over number = if over then Ok None else Err (BadFormat number)
+-- what a line of that number is at which no item may stand: its fault, or that of a disk that failed while it was looked for
+abbrev pub IsFormatAt : ℕ → FileFault → Type 0
+IsFormatAt number (BadFormat line) = line ≡ number
+IsFormatAt number Failed = Unit {0}
+IsFormatAt number _ = ⊥
+
+-- the same, whatever its number
+abbrev pub IsFormat : FileFault → Type 0
+IsFormat (BadFormat line) = Unit {0}
+IsFormat Failed = Unit {0}
+IsFormat _ = ⊥

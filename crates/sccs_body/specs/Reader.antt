@@ -1,20 +1,32 @@
 -- Where a reader of items stands.
-use Rattle.std.specs.Prelude.{ℕ, ◌+◌, ◌-◌, ◌*◌, List, take, drop}
+use Rattle.std.specs.Prelude.{◌≡◌, ℕ, ◌+◌, ◌-◌, ◌*◌, List, take, drop}
 use Rattle.sccs_table.specs.ReaderState.{ReaderState}
 use Rattle.sccs_table.specs.Runs.{lf_count}
 use Rattle.sccs_marks.specs.declared.body_states.BodyState.{BodyState}
 
--- Where the next line stands in the file, what the items so far leave open, and the next line's number.
+-- Where the next line stands in the file, what the items so far leave open, and the number and the place of the body's first line.
 pub record BodyPlace : Type 0 where
   pub lines : ReaderState
   pub state : BodyState
-  pub number : ℕ
+  pub first : ℕ
+  pub from : ℕ
 
--- The same in a later reading of a file, the place where its body begins, and what the first reading found: the file's size, and
--- its plain sum.
+-- the number of the line that begins at a place of a file, where a line of that number begins at another before it
+abbrev pub line_at : ℕ → ℕ → List ℕ → ℕ → ℕ
+line_at first from file place = first + lf_count (take (place - from) (drop from file))
+
+-- the number of the next line in a file
+abbrev pub number_at : BodyPlace → List ℕ → ℕ
+number_at r file = line_at r.first r.from file r.lines.place
+
+-- The body whose items are given stays.
+pub record KeepsBody (old new : BodyPlace) : Type 0 where
+  pub first : new.first ≡ old.first
+  pub from : new.from ≡ old.from
+
+-- The same in a later reading of a file, and what the first reading found: the file's size, and its plain sum.
 pub record ItemPlace : Type 0 where
   pub body : BodyPlace
-  pub from : ℕ
   pub size : ℕ
   pub sum : ℕ
 

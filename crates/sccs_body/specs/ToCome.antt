@@ -14,7 +14,7 @@ use Rattle.sccs_table.specs.Runs.{IsRun}
 use Rattle.sccs_table.specs.ReaderState.{StandsIn, behind_sum, bytes_in}
 use Rattle.sccs_table.specs.SumOf.{IsPlainSumOf}
 use Rattle.sccs_table.specs.declared.fronts.Front.{Front}
-use Rattle.sccs_body.specs.Reader.{ItemPlace, at_hand, bytes_left, name_read}
+use Rattle.sccs_body.specs.Reader.{ItemPlace, KeepsBody, at_hand, bytes_left, name_read, number_at}
 use Rattle.sccs_body.specs.ItemsRead.{Goes, IsBehind, texts_behind}
 
 -- A front that was read from a file: its places are within the file, whose size and plain sum it has.
@@ -25,18 +25,18 @@ pub record IsFrontFor (file : List ℕ) (front : Front) : Type 0 where
 
 -- what is left of the body
 abbrev pub rest_of : ItemPlace → List ℕ → Cut
-rest_of r file = cut (drop (max r.from r.body.lines.place) file)
+rest_of r file = cut (drop (max r.body.from r.body.lines.place) file)
 
 -- The reader stands behind some items, the last first, in the file that the first reading found; and from here on its body has
 -- these items, or its first fault at the line of this number.
 pub record ToCome (file live : List ℕ) (before : List Item) (found : Result (List Item) ℕ) (r : ItemPlace) : Type 0 where
   pub behind : IsBehind live before r
   pub stands : StandsIn r.body.lines file
-  pub begins : r.body.lines.place < r.from → r.body.lines.held ≡ []
-  pub within : r.from ≤ length file
+  pub begins : r.body.lines.place < r.body.from → r.body.lines.held ≡ []
+  pub within : r.body.from ≤ length file
   pub size : r.size ≡ length file
   pub sum : IsPlainSumOf r.sum (behind_sum file)
-  pub items : found ≡ items_from live r.body.number before (rest_of r file).lines (rest_of r file).tail
+  pub items : found ≡ items_from live (number_at r.body file) before (rest_of r file).lines (rest_of r file).tail
 
 -- some items, and those that are read behind them
 abbrev pub onto : List Item → Result (List Item) ℕ → Result (List Item) ℕ
@@ -99,7 +99,7 @@ pub record MayPass (r : ItemPlace) (count : ℕ) : Type 0 where
 pub record KeepsFile (old new : ItemPlace) : Type 0 where
   pub name : name_read new ≡ name_read old
   pub limit : new.body.lines.limit ≡ old.body.lines.limit
-  pub from : new.from ≡ old.from
+  pub body : KeepsBody old.body new.body
   pub size : new.size ≡ old.size
   pub sum : new.sum ≡ old.sum
 
@@ -115,7 +115,7 @@ pub record Begins {D : Type 0} (told : D → Told) (faults : D → ℕ) (disk di
   pub kept : KeepsFile old new
   pub onward : old.body.lines.place ≤ new.body.lines.place
   pub state : new.body.state ≡ old.body.state
-  pub there : OnOk result (new.from ≤ new.body.lines.place)
+  pub there : OnOk result (new.body.from ≤ new.body.lines.place)
   pub begins : (file live : List ℕ) (before : List Item) (found : Result (List Item) ℕ) → bytes_in (seen (told disk)) (name_read old) ≡ Some file → ToCome file live before found old → BeginsIn file live before found new result
 
 -- The next item was read, whatever the file was before; the reader stays in a told file.

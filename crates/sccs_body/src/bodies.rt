@@ -19,6 +19,7 @@ use std::alloc::Global;
 
 // reads the items of a body up to its end
 fn check_items<D: Disk>(disk: &mut D, body: &mut BodyReader) -> Result<(), FileFault>
+    requires { body.old.from ≤ body.old.lines.place }
     ensures frame { ReadsOn D.told D.faults disk.old disk.new body.old.lines body.new.lines result }
     ensures first { IsFirst result }
     ensures stays { Stays (bytes_in (seen (D.told disk.old)) body.old.lines.name) body.old.lines body.new.lines }
@@ -50,7 +51,6 @@ fn read_front<D: Disk>(
     size: u64,
 ) -> (Result<Front, FileFault>, LineReader)
     requires size { lines.limit ≡ size }
-    requires counted { lines.lines ≡ 1 }
     requires limit { size ≤ 1073741824 }
     ensures frame { ReadsOn D.told D.faults disk.old disk.new lines result.1 result.0 }
     ensures first { IsFirst result.0 }
@@ -69,7 +69,7 @@ fn read_front<D: Disk>(
     let Ok(state) = BodyState::new(alloc, header.records.items()) else {
         return (Err(FileFault::Memory), lines);
     };
-    let mut body = BodyReader::new(alloc, lines, state, 1);
+    let mut body = BodyReader::new(alloc, lines, state, body_line, body_from);
     let checked = check_items(disk, &mut body);
     let lines = body.into_lines();
     if let Err(fault) = checked {
@@ -96,7 +96,7 @@ pub fn inspect<D: Disk>(alloc: Global, disk: &mut D, name: &Name) -> Result<Fron
     ensures told { IfSome (seen (D.told disk.old)) (λ view. AnswersFile (file_in view name.now) result) }
 {
     let size = open_file(disk, name)?;
-    let mut lines = LineReader::new(name, 0, size, LineEnds::Counted);
+    let mut lines = LineReader::new(name, 0, size, LineEnds::Unasked);
     let stored = read_sum(alloc, disk, &mut lines)?;
     let (read, mut lines) = read_front(alloc, disk, lines, size);
     let sum = check_sum(disk, &mut lines, stored)?;

@@ -9,7 +9,9 @@ ghost use Rattle.sccs_marks.specs.States.{Knows};
 ghost use Rattle.sccs_table.specs.FrontFile.{IsFirst, ReadsBytes, ReadsOn};
 ghost use Rattle.sccs_table.specs.Runs.{HasNoRun, IsRun, PassesRun, lf_count};
 ghost use Rattle.sccs_table.specs.ReaderState.{StandsIn, Stays, bytes_in};
-ghost use Rattle.sccs_body.specs.ItemsRead.{Gives, GoesBehind, HasBehind, TakesItem, texts_behind};
+ghost use Rattle.sccs_base.specs.Stream.{Rose};
+ghost use Rattle.sccs_body.specs.ItemsRead.{Gives, GoesBehind, HasBehind, IsFormat, IsFormatAt, TakesItem, texts_behind};
+ghost use Rattle.sccs_body.specs.Reader.{KeepsBody, line_at};
 
 use sccs_base::{Failed, Memory};
 use sccs_disk::Disk;
@@ -21,15 +23,17 @@ use std::alloc::Global;
 use std::marker::Model;
 
 /// Gives the items of the body in which a reader of lines stands, one line at a time. Contracts see
-/// where the next line stands, what the items so far leave open, and the next line's number.
+/// where the next line stands, what the items so far leave open, and the number and the place of the
+/// body's first line.
 #[derive(Drop)]
 pub struct BodyReader {
     alloc: Global,
     lines: LineReader,
     line: Vec<u8>,
     state: BodyState,
-    // the number of the line where the count of lines began
+    // the number and the place of the body's first line
     first: u64,
+    from: u64,
 }
 
 impl Model for BodyReader {
@@ -111,11 +115,17 @@ fn ends_with(state: &BodyState, line: &[u8]) -> bool
 }
 
 impl BodyReader {
-    /// Reads on where a reader of lines stands, with the state of a body there and the number of the
-    /// line where the reader's count began.
-    pub fn new(alloc: Global, lines: LineReader, state: BodyState, first: u64) -> BodyReader
+    /// Reads on where a reader of lines stands, with the state of a body there, and the number and the
+    /// place of its first line.
+    pub fn new(
+        alloc: Global,
+        lines: LineReader,
+        state: BodyState,
+        first: u64,
+        from: u64,
+    ) -> BodyReader
         requires { first ≤ 1073741827 }
-        ensures { result ≡ record { lines = lines; state = state; number = first + lines.lines } }
+        ensures { result ≡ record { lines = lines; state = state; first = first; from = from } }
     {
         BodyReader {
             alloc,
@@ -123,6 +133,7 @@ impl BodyReader {
             line: Vec::new(alloc),
             state,
             first,
+            from,
         }
     }
 
@@ -136,6 +147,7 @@ impl BodyReader {
             line: _,
             state: _,
             first: _,
+            from: _,
         } = self;
         lines
     }
@@ -157,15 +169,14 @@ impl BodyReader {
         self.lines.sum()
     }
 
-    /// Passes over all bytes before a place, or up to the end of a file that ends there or before; no
-    /// line of them counts.
+    /// Passes over all bytes before a place, or up to the end of a file that ends there or before.
     pub fn skip_to<D: Disk>(&mut self, disk: &mut D, to: u64) -> Result<(), Failed>
         requires { to ≤ self.old.lines.limit }
         ensures frame { ReadsBytes D.told D.faults disk.old disk.new self.old.lines self.new.lines result }
         ensures stays { Stays (bytes_in (seen (D.told disk.old)) self.old.lines.name) self.old.lines self.new.lines }
         ensures held { self.new.lines.held ≡ [] }
         ensures state { self.new.state ≡ self.old.state }
-        ensures number { self.new.number ≡ self.old.number }
+        ensures body { KeepsBody self.old self.new }
         ensures onward { self.old.lines.place + length self.old.lines.held ≤ self.new.lines.place }
         ensures bound { self.new.lines.place ≤ max to (self.old.lines.place + length self.old.lines.held) }
         ensures told { OnOk result ((file : List ℕ) → bytes_in (seen (D.told disk.old)) self.old.lines.name ≡ Some file → StandsIn self.old.lines file → min to (length file) ≤ self.new.lines.place) }
@@ -173,11 +184,35 @@ impl BodyReader {
         self.lines.skip_to(disk, to)
     }
 
-    /// The number of the next line.
-    pub fn line_number(&self) -> u64
-        ensures { result ≡ self.now.number }
+    /// The place of the body's first line.
+    #[inline(always)]
+    pub fn body_from(&self) -> u64
+        ensures { result ≡ self.now.from }
     {
-        self.first + self.lines.lines()
+        self.from
+    }
+
+    /// The number of the body's first line.
+    pub fn body_line(&self) -> u64
+        ensures { result ≡ self.now.first }
+    {
+        self.first
+    }
+
+    // the fault of the line that begins at a place; the body is read again for its number
+    #[inline(never)]
+    fn fault_at<D: Disk>(&self, disk: &mut D, place: u64) -> FileFault
+        requires { place ≤ 1073741825 }
+        ensures same { D.told disk.new ≡ D.told disk.old }
+        ensures later { D.faults disk.old ≤ D.faults disk.new }
+        ensures cause { result ≡ FileFault.Failed → Rose (D.faults disk.old) (D.faults disk.new) }
+        ensures kind { IsFormat result }
+        ensures told { IfSome (bytes_in (seen (D.told disk.old)) self.now.lines.name) (λ file. IsFormatAt (line_at self.now.first self.now.from file place) result) }
+    {
+        match self.lines.lines_between(disk, self.from, place) {
+            Ok(count) => FileFault::BadFormat(self.first + count),
+            Err(Failed) => FileFault::Failed,
+        }
     }
 
     /// The text lines that are held whole, each with its LF; none where no text line may stand.
@@ -208,7 +243,7 @@ impl BodyReader {
         ensures ahead { self.new.lines.place + length self.new.lines.held ≤ self.new.lines.limit }
         ensures place { self.new.lines.place ≡ self.old.lines.place + count }
         ensures held { self.new.lines.held ≡ drop count self.old.lines.held }
-        ensures number { self.new.number ≡ self.old.number + length (cut (take count self.old.lines.held)).lines }
+        ensures body { KeepsBody self.old self.new }
         ensures behind { (live : List ℕ) (before : List Item) → HasBehind live before self.old
             → HasBehind live (texts_behind (cut (take count self.old.lines.held)).lines before) self.new }
         ensures told { (file : List ℕ) → PassesRun (take count self.old.lines.held) file self.old.lines self.new.lines }
@@ -219,6 +254,7 @@ impl BodyReader {
     // the next item, however its line is spelled and held
     #[inline(always)]
     fn read_next<D: Disk>(&mut self, disk: &mut D) -> Result<Option<Item>, FileFault>
+        ensures body { KeepsBody self.old self.new }
         ensures frame { ReadsOn D.told D.faults disk.old disk.new self.old.lines self.new.lines result }
         ensures first { IsFirst result }
         ensures stays { Stays (bytes_in (seen (D.told disk.old)) self.old.lines.name) self.old.lines self.new.lines }
@@ -228,25 +264,34 @@ impl BodyReader {
         ensures told { (live : List ℕ) (before : List Item) → HasBehind live before self.old
             → Gives (bytes_in (seen (D.told disk.old)) self.old.lines.name) live before self.old self.new result }
     {
+        let place = self.lines.place();
         self.line.clear();
         if !self.lines.next_line(disk, &mut self.line)? {
             if ends_with(&self.state, self.line.as_slice()) {
                 return Ok(None);
             }
-            return Err(FileFault::BadFormat(self.line_number()));
+            return Err(self.fault_at(disk, place));
         }
         match next_item(self.alloc, &mut self.state, self.line.as_slice()) {
             Ok(Some(item)) => Ok(Some(item)),
-            Ok(None) => Err(FileFault::BadFormat(self.line_number() - 1)),
+            Ok(None) => Err(self.fault_at(disk, place)),
             Err(_) => Err(FileFault::Memory),
         }
     }
 
     // passes over a line of that length, which is held whole and is that item
     #[inline(always)]
-    fn pass_item(&mut self, item: Item, count: usize) -> Result<Option<Item>, FileFault>
+    fn pass_item<D: Disk>(
+        &mut self,
+        disk: &mut D,
+        item: Item,
+        count: usize,
+    ) -> Result<Option<Item>, FileFault>
         requires { IsWrittenItem self.old.lines.held item count }
-        ensures failed { result ≢ Err FileFault.Failed }
+        ensures body { KeepsBody self.old self.new }
+        ensures same { D.told disk.new ≡ D.told disk.old }
+        ensures later { D.faults disk.old ≤ D.faults disk.new }
+        ensures cause { result ≡ Err FileFault.Failed → Rose (D.faults disk.old) (D.faults disk.new) }
         ensures first { IsFirst result }
         ensures name { self.new.lines.name ≡ self.old.lines.name }
         ensures limit { self.new.lines.limit ≡ self.old.lines.limit }
@@ -254,14 +299,15 @@ impl BodyReader {
         ensures ahead { self.new.lines.place + length self.new.lines.held ≤ self.new.lines.limit }
         ensures further { self.old.lines.place < self.new.lines.place }
         ensures goes { (live : List ℕ) (before : List Item) → HasBehind live before self.old → GoesBehind live before self.new result }
-        ensures told { (o : Option (List ℕ)) (live : List ℕ) (before : List Item) → HasBehind live before self.old
-            → Gives o live before self.old self.new result }
+        ensures told { (live : List ℕ) (before : List Item) → HasBehind live before self.old
+            → Gives (bytes_in (seen (D.told disk.old)) self.old.lines.name) live before self.old self.new result }
     {
+        let place = self.lines.place();
         let stands = goes_on(&mut self.state, &item);
         self.lines.pass_line(count);
         match stands {
             Ok(true) => Ok(Some(item)),
-            Ok(false) => Err(FileFault::BadFormat(self.line_number() - 1)),
+            Ok(false) => Err(self.fault_at(disk, place)),
             Err(_) => Err(FileFault::Memory),
         }
     }
@@ -276,7 +322,7 @@ impl BodyReader {
         ensures ahead { IfSome result (λ _. self.new.lines.place + length self.new.lines.held ≤ self.new.lines.limit) }
         ensures further { IfSome result (λ _. self.old.lines.place < self.new.lines.place) }
         ensures none { result ≡ None → self.new.lines ≡ self.old.lines }
-        ensures number { result ≡ None → self.new.number ≡ self.old.number }
+        ensures body { KeepsBody self.old self.new }
         ensures kept { (live : List ℕ) (before : List Item) → HasBehind live before self.old → result ≡ None → HasBehind live before self.new }
         ensures goes { (live : List ℕ) (before : List Item) → HasBehind live before self.old
             → IfSome result (λ item. GoesBehind live before self.new (Ok (Some item))) }
@@ -303,7 +349,7 @@ impl BodyReader {
         ensures stays { Stays (bytes_in (seen (D.told disk.old)) self.old.lines.name) self.old.lines self.new.lines }
         ensures place { self.new.lines.place ≡ self.old.lines.place }
         ensures state { self.new.state ≡ self.old.state }
-        ensures number { self.new.number ≡ self.old.number }
+        ensures body { KeepsBody self.old self.new }
         ensures more { IfOk result (λ more. more ≡ true → (lf_count self.old.lines.held ≡ 0) × (0 < lf_count self.new.lines.held)) }
     {
         self.lines.read_on(disk)
@@ -322,6 +368,7 @@ impl BodyReader {
     /// item may stand.
     #[inline(always)]
     pub fn next<D: Disk>(&mut self, disk: &mut D) -> Result<Option<Item>, FileFault>
+        ensures body { KeepsBody self.old self.new }
         ensures frame { ReadsOn D.told D.faults disk.old disk.new self.old.lines self.new.lines result }
         ensures first { IsFirst result }
         ensures stays { Stays (bytes_in (seen (D.told disk.old)) self.old.lines.name) self.old.lines self.new.lines }
@@ -332,7 +379,7 @@ impl BodyReader {
             → Gives (bytes_in (seen (D.told disk.old)) self.old.lines.name) live before self.old self.new result }
     {
         match written_item(self.lines.held()) {
-            Some((item, count)) => self.pass_item(item, count),
+            Some((item, count)) => self.pass_item(disk, item, count),
             None => self.read_next(disk),
         }
     }

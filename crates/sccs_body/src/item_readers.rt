@@ -28,8 +28,6 @@ use std::marker::Model;
 #[derive(Drop)]
 pub struct ItemReader {
     body: BodyReader,
-    // the place where the body begins
-    from: u64,
     // the file's size and plain sum at the first reading
     size: u64,
     sum: u16,
@@ -58,11 +56,10 @@ impl ItemReader {
             → IfOk result (ToCome file (live_serials front.now.header.records) [] (items_of file front.now)) }
     {
         let state = BodyState::new(alloc, front.header.records.items())?;
-        let lines = LineReader::new(name, 0, READ_LIMIT, LineEnds::Placed);
+        let lines = LineReader::new(name, 0, READ_LIMIT, LineEnds::Asked);
         let first = front.body_line.min(READ_LIMIT + 2);
         Ok(ItemReader {
-            body: BodyReader::new(alloc, lines, state, first),
-            from: front.body_from.min(READ_LIMIT),
+            body: BodyReader::new(alloc, lines, state, first, front.body_from.min(READ_LIMIT)),
             size: front.size,
             sum: front.sum,
         })
@@ -121,7 +118,7 @@ impl ItemReader {
         ensures told { (file live : List ℕ) (before : List Item) (found : Result (List Item) ℕ) → ToCome file live before found self.old
             → ComesOrStays file live before found self.new result }
     {
-        if self.body.place() < self.from {
+        if self.body.place() < self.body.body_from() {
             return None;
         }
         self.body.next_control()
@@ -142,7 +139,7 @@ impl ItemReader {
         ensures told { (file live : List ℕ) (before : List Item) (found : Result (List Item) ℕ) → bytes_in (seen (D.told disk.old)) (name_read self.old) ≡ Some file
             → ToCome file live before found self.old → ToCome file live before found self.new }
     {
-        if self.body.place() < self.from {
+        if self.body.place() < self.body.body_from() {
             return Ok(false);
         }
         let more = self.body.read_on(disk)?;
@@ -151,12 +148,12 @@ impl ItemReader {
 
     // reads the header again; BadFormat where the file ends within it
     fn begin<D: Disk>(&mut self, disk: &mut D) -> Result<(), FileFault>
-        requires { self.old.body.lines.place < self.old.from }
+        requires { self.old.body.lines.place < self.old.body.from }
         ensures { Begins D.told D.faults disk.old disk.new self.old self.new result }
     {
-        self.body.skip_to(disk, self.from)?;
-        if self.body.place() < self.from {
-            return Err(FileFault::BadFormat(self.body.line_number()));
+        self.body.skip_to(disk, self.body.body_from())?;
+        if self.body.place() < self.body.body_from() {
+            return Err(FileFault::BadFormat(self.body.body_line()));
         }
         Ok(())
     }
@@ -164,7 +161,7 @@ impl ItemReader {
     // the next item behind the header
     #[inline(always)]
     fn next_behind<D: Disk>(&mut self, disk: &mut D) -> Result<Option<Item>, FileFault>
-        requires { self.old.from ≤ self.old.body.lines.place }
+        requires { self.old.body.from ≤ self.old.body.lines.place }
         ensures { ReadsNext D.told D.faults disk.old disk.new self.old self.new result }
     {
         self.body.next(disk)
@@ -173,7 +170,7 @@ impl ItemReader {
     // reads the header again, and then the first item
     #[inline(never)]
     fn first_item<D: Disk>(&mut self, disk: &mut D) -> Result<Option<Item>, FileFault>
-        requires { self.old.body.lines.place < self.old.from }
+        requires { self.old.body.lines.place < self.old.body.from }
         ensures { ReadsNext D.told D.faults disk.old disk.new self.old self.new result }
     {
         self.begin(disk)?;
@@ -185,7 +182,7 @@ impl ItemReader {
     fn next_read<D: Disk>(&mut self, disk: &mut D) -> Result<Option<Item>, FileFault>
         ensures { ReadsNext D.told D.faults disk.old disk.new self.old self.new result }
     {
-        if self.body.place() < self.from {
+        if self.body.place() < self.body.body_from() {
             self.first_item(disk)
         } else {
             self.next_behind(disk)

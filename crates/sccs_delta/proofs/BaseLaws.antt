@@ -192,7 +192,7 @@ text_few bytes = let low : length (cut bytes).lines ≤ length bytes = lines_bou
     closed_few lines [] = omega arith
     closed_few lines (b ∷ tail) = omega (arith, one_more lines (b ∷ tail))
 
-pub g_begins : (file name : List ℕ) (s : ResultCheck) → s.lines ≡ record { name = name; held = []; place = 0; limit = 1073741825; lines = 0; sum = 0 } → s.over ≡ false → s.number ≡ 0 → length file ≤ 1073741824 → GComes file s (text_of file)
+pub g_begins : (file name : List ℕ) (s : ResultCheck) → s.lines ≡ record { name = name; held = []; place = 0; limit = 1073741825; sum = 0 } → s.over ≡ false → s.number ≡ 0 → length file ≤ 1073741824 → GComes file s (text_of file)
 g_begins file name s lines over number few = record {
   left = subst (λ t. LinesLeft file s (text_of file) t) (sym over) (subst (λ r. LinesLeft file (record s { lines = r }) (text_of file) false) (sym lines) (record { limit = omega (arith, few); within = omega arith; held = refl; sum = refl }, refl));
   few = omega (arith, number, text_few file, few);

@@ -34,7 +34,7 @@ impl ResultCheck {
         ResultCheck {
             keyword: false,
             compares,
-            lines: LineReader::new(g_file, 0, READ_LIMIT, LineEnds::Counted),
+            lines: LineReader::new(g_file, 0, READ_LIMIT, LineEnds::Unasked),
             over: false,
             number: 0,
             differs: None,

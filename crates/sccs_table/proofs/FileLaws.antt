@@ -148,11 +148,11 @@ pub at_file : (file : List ℕ) (result : Result Front FileFault) (read : List �
 at_file file result read limit answers = subst (λ a. Answers (λ p front. IsFrontOf file p front) result a) (sym (within_at file read limit)) answers
 
 -- a new reader stands in its file
-pub fresh_stands : (name file : List ℕ) (limit : ℕ) → length file ≤ limit → StandsIn (holding name [] 0 limit 0 0) file
+pub fresh_stands : (name file : List ℕ) (limit : ℕ) → length file ≤ limit → StandsIn (holding name [] 0 limit 0) file
 fresh_stands name file limit low = record { limit = low; within = omega arith; held = refl; sum = refl }
 
 -- behind the sum line too
-pub again_stands : (name file : List ℕ) (limit : ℕ) → length file ≤ limit → 8 ≤ length file → StandsIn (holding name [] 8 limit 0 0) file
+pub again_stands : (name file : List ℕ) (limit : ℕ) → length file ≤ limit → 8 ≤ length file → StandsIn (holding name [] 8 limit 0) file
 again_stands name file limit low long = record {
   limit = low;
   within = omega arith;
@@ -169,7 +169,7 @@ front_answer (Some view) name size result limit opens answers =
 
 -- ---- the parts of a reading, at a file that is there
 
-pub sum_taken : (o : Option (List ℕ)) (file name : List ℕ) (size : ℕ) (old new : ReaderState) (result : Result ℕ FileFault) → o ≡ Some file → old ≡ holding name [] 0 size 0 0 → size ≡ length file → SumLine o old new result → TakesSum file new result
+pub sum_taken : (o : Option (List ℕ)) (file name : List ℕ) (size : ℕ) (old new : ReaderState) (result : Result ℕ FileFault) → o ≡ Some file → old ≡ holding name [] 0 size 0 → size ≡ length file → SumLine o old new result → TakesSum file new result
 sum_taken o file name size old new result is fresh long takes =
     subst (λ q. SumLine q old new result) is takes (subst (λ s. StandsIn s file) (sym fresh) (fresh_stands name file size (omega arith)))
 
@@ -177,7 +177,7 @@ pub lines_taken : (o : Option (List ℕ)) (file : List ℕ) (new last : ReaderSt
 lines_taken o file new last n result is takes reads = subst (λ q. Reads q new last start 2 result) is reads takes.0
 
 -- the sum line that was read, and the sum that was judged at the end of the file
-pub judged : (o p q : Option (List ℕ)) (file name : List ℕ) (size : ℕ) (begun now last : ReaderState) (n : ℕ) (sum : Result ℕ FileFault) → o ≡ Some file → p ≡ Some file → q ≡ Some file → begun ≡ holding name [] 0 size 0 0 → size ≡ length file
+pub judged : (o p q : Option (List ℕ)) (file name : List ℕ) (size : ℕ) (begun now last : ReaderState) (n : ℕ) (sum : Result ℕ FileFault) → o ≡ Some file → p ≡ Some file → q ≡ Some file → begun ≡ holding name [] 0 size 0 → size ≡ length file
     → SumLine o begun now (Ok n) → now.place ≡ 8 → Stays p now last → ((f : List ℕ) → q ≡ Some f → 8 ≤ length f → StandsIn last f → ChecksSum n (behind_sum f) sum) → TakesSum file now (Ok n) × ChecksSum n (behind_sum file) sum
 judged o p q file name size begun now last n sum o_is p_is q_is fresh long line place_is stays checks =
     let takes = sum_taken o file name size begun now (Ok n) o_is fresh long line in
@@ -196,7 +196,7 @@ pub is_either : (stored : ℕ) (bytes : List ℕ) (sums : ℕ × ℕ) (fits : Bo
 is_either stored bytes sums fits are test = ap (λ n. (stored == n) || (stored == signed_sum bytes)) (sym are.0) ∙ (ap (λ n. (stored == sums.0) || (stored == n)) (sym are.1) ∙ test)
 
 -- the sums of a second reading
-pub sums_again : (o : Option (List ℕ)) (file name : List ℕ) (limit : ℕ) (again : ReaderState) (sums : ℕ × ℕ) → o ≡ Some file → again ≡ holding name [] 8 limit 0 0 → length file ≤ limit → 8 ≤ length file → IfSome o (λ f. StandsIn again f → IsSumOf sums (drop again.place f)) → IsSumOf sums (behind_sum file)
+pub sums_again : (o : Option (List ℕ)) (file name : List ℕ) (limit : ℕ) (again : ReaderState) (sums : ℕ × ℕ) → o ≡ Some file → again ≡ holding name [] 8 limit 0 → length file ≤ limit → 8 ≤ length file → IfSome o (λ f. StandsIn again f → IsSumOf sums (drop again.place f)) → IsSumOf sums (behind_sum file)
 sums_again o file name limit again sums is fresh low long summed =
     let here = subst (λ q. IfSome q (λ f. StandsIn again f → IsSumOf sums (drop again.place f))) is summed in
     subst (λ n. IsSumOf sums (drop n file)) (ap (λ (s : ReaderState). s.place) fresh) (here (subst (λ s. StandsIn s file) (sym fresh) (again_stands name file limit low long)))

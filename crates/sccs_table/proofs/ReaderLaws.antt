@@ -17,8 +17,8 @@ use Rattle.sccs_table.specs.SumOf.{IsPlainSumOf, IsSumOf}
 use Rattle.sccs_table.specs.ReaderState.{ReaderState, StandsIn, Stays, Takes, TakesLine, behind_sum, bytes_in}
 
 -- a reader that holds the front of a piece
-abbrev pub holding : List ℕ → List ℕ → ℕ → ℕ → ℕ → ℕ → ReaderState
-holding name held place limit lines sum = record { name = name; held = held; place = place; limit = limit; lines = lines; sum = sum }
+abbrev pub holding : List ℕ → List ℕ → ℕ → ℕ → ℕ → ReaderState
+holding name held place limit sum = record { name = name; held = held; place = place; limit = limit; sum = sum }
 
 pub fill_more : (piece : List ℕ) (count : ℕ) → count ≤ length piece → ltb 0 count ≡ true → 0 < length (take (count - 0) piece)
 fill_more piece count within more = let some = ltb-true 0 count more in omega (arith, length-take (count - 0) piece)
@@ -51,10 +51,10 @@ behind_both file place count low =
     ap behind_sum (take-add place count file)
     ∙ (drop_both 8 (take place file) (take count (drop place file)) ∙ ap (λ n. behind_sum (take place file) ++ drop (8 - n) (take count (drop place file))) long)
 
-module _ (old : ReaderState) (name piece : List ℕ) (place limit lines sum more sum2 count room to : ℕ) (is : holding name [] place limit lines sum ≡ old) (within : count ≤ length piece) (room_is : room ≡ min (to - place) 4096) (low : to ≤ limit)
+module _ (old : ReaderState) (name piece : List ℕ) (place limit sum sum2 count room to : ℕ) (is : holding name [] place limit sum ≡ old) (within : count ≤ length piece) (room_is : room ≡ min (to - place) 4096) (low : to ≤ limit)
     (added : (front : List ℕ) → IsPlainSumOf sum front → IsPlainSumOf sum2 (front ++ drop (8 - place) (take count piece))) where
   abbrev filled_with : ReaderState
-  filled_with = holding name (take (count - 0) piece) place limit more sum2
+  filled_with = holding name (take (count - 0) piece) place limit sum2
 
   stands_filled : (file : List ℕ) → take count piece ≡ take room (drop place file) → StandsIn old file → StandsIn filled_with file × (ltb 0 count ≡ false → min to (length file) ≤ place)
   stands_filled file got stood =
@@ -85,20 +85,20 @@ module _ (old : ReaderState) (name piece : List ℕ) (place limit lines sum more
   filled (Some file) got = λ stood. stands_filled file got stood
 
 -- an empty reader that read a piece, where the view tells its file
-pub fill_told : (view : Option View) (old : ReaderState) (name held piece : List ℕ) (place limit lines sum more sum2 count room to : ℕ) → holding name held place limit lines sum ≡ old → old.held ≡ [] → count ≤ length piece → room ≡ min (to - place) 4096 → to ≤ old.limit
+pub fill_told : (view : Option View) (old : ReaderState) (name held piece : List ℕ) (place limit sum sum2 count room to : ℕ) → holding name held place limit sum ≡ old → old.held ≡ [] → count ≤ length piece → room ≡ min (to - place) 4096 → to ≤ old.limit
     → ((front : List ℕ) → IsPlainSumOf sum front → IsPlainSumOf sum2 (front ++ drop (8 - place) (take count piece)))
     → IfSome (bytes_in view name) (λ file. take count piece ≡ take room (drop place file))
-    → IfSome (bytes_in view old.name) (λ file. StandsIn old file → StandsIn (holding name (take (count - 0) piece) place limit more sum2) file × (ltb 0 count ≡ false → min to (length file) ≤ place))
-fill_told view old name held piece place limit lines sum more sum2 count room to is none within room_is low added got =
+    → IfSome (bytes_in view old.name) (λ file. StandsIn old file → StandsIn (holding name (take (count - 0) piece) place limit sum2) file × (ltb 0 count ≡ false → min to (length file) ≤ place))
+fill_told view old name held piece place limit sum sum2 count room to is none within room_is low added got =
     let held_is : held ≡ [] = ap (λ (s : ReaderState). s.held) is ∙ none in
-    let empty : holding name [] place limit lines sum ≡ old = ap (λ h. holding name h place limit lines sum) (sym held_is) ∙ is in
+    let empty : holding name [] place limit sum ≡ old = ap (λ h. holding name h place limit sum) (sym held_is) ∙ is in
     let name_is : name ≡ old.name = ap (λ (s : ReaderState). s.name) is in
     let limit_is : to ≤ limit = subst (λ (s : ReaderState). to ≤ s.limit) (sym is) low in
-    filled old name piece place limit lines sum more sum2 count room to empty within room_is limit_is added (bytes_in view old.name) (subst (λ n. IfSome (bytes_in view n) (λ file. take count piece ≡ take room (drop place file))) name_is got)
+    filled old name piece place limit sum sum2 count room to empty within room_is limit_is added (bytes_in view old.name) (subst (λ n. IfSome (bytes_in view n) (λ file. take count piece ≡ take room (drop place file))) name_is got)
 
 -- the reader that read nothing
-pub fill_failed : (o : Option (List ℕ)) (old : ReaderState) (name held piece : List ℕ) (place limit lines sum more : ℕ) → holding name held place limit lines sum ≡ old → old.held ≡ [] → Stays o old (holding name (take (0 - 0) (drop 0 piece)) place limit more sum)
-fill_failed o old name held piece place limit lines sum more is none file same stands = record {
+pub fill_failed : (o : Option (List ℕ)) (old : ReaderState) (name held piece : List ℕ) (place limit sum : ℕ) → holding name held place limit sum ≡ old → old.held ≡ [] → Stays o old (holding name (take (0 - 0) (drop 0 piece)) place limit sum)
+fill_failed o old name held piece place limit sum is none file same stands = record {
   limit = subst (λ (s : ReaderState). length file ≤ s.limit) (sym is) stands.limit;
   within = omega (arith, stands.within, ap (λ (s : ReaderState). s.place) is);
   held = refl;
@@ -146,18 +146,18 @@ held_split piece start end at within is =
     let rest = held_behind piece start end at within in
     sym (take-append-drop at held) ∙ ap (λ behind. take at held ++ behind) (drop-cons held at 0 within ∙ (ap (λ b. b ∷ drop (suc at) held) is ∙ ap (λ behind. 10 ∷ behind) rest))
 
-pub takes_some : (old : ReaderState) (name line longer piece : List ℕ) (start end place limit lines sum more at : ℕ) → holding name (held_of piece start end) place limit lines sum ≡ old
+pub takes_some : (old : ReaderState) (name line longer piece : List ℕ) (start end place limit sum at : ℕ) → holding name (held_of piece start end) place limit sum ≡ old
     → longer ≡ line ++ take at (held_of piece start end) → at < length (held_of piece start end) → get_or (held_of piece start end) at 0 ≡ 10 → NoLfBefore (held_of piece start end) at
-    → Takes old (holding name (held_of piece (start + (at + 1)) end) (place + (at + 1)) limit more sum) line longer true
-takes_some old name line longer piece start end place limit lines sum more at is items within found none =
+    → Takes old (holding name (held_of piece (start + (at + 1)) end) (place + (at + 1)) limit sum) line longer true
+takes_some old name line longer piece start end place limit sum at is items within found none =
     let held_is : held_of piece start end ≡ old.held = ap (λ (s : ReaderState). s.held) is in
     let place_is : place ≡ old.place = ap (λ (s : ReaderState). s.place) is in
     (take at (held_of piece start end), (items, no_lf_front at (held_of piece start end) none within, sym held_is ∙ held_split piece start end at within found, omega (arith, length-take at (held_of piece start end))))
 
-pub takes_none : (old : ReaderState) (name line longer piece : List ℕ) (start end place limit lines sum more : ℕ) → holding name (held_of piece start end) place limit lines sum ≡ old
+pub takes_none : (old : ReaderState) (name line longer piece : List ℕ) (start end place limit sum : ℕ) → holding name (held_of piece start end) place limit sum ≡ old
     → longer ≡ line ++ held_of piece start end → NoLfBefore (held_of piece start end) (length (held_of piece start end))
-    → Takes old (holding name (held_of piece end end) (place + length (held_of piece start end)) limit more sum) line longer false
-takes_none old name line longer piece start end place limit lines sum more is items none =
+    → Takes old (holding name (held_of piece end end) (place + length (held_of piece start end)) limit sum) line longer false
+takes_none old name line longer piece start end place limit sum is items none =
     let held_is : held_of piece start end ≡ old.held = ap (λ (s : ReaderState). s.held) is in
     let place_is : place ≡ old.place = ap (λ (s : ReaderState). s.place) is in
     let zero_is : end - end ≡ 0 = omega arith in
@@ -165,21 +165,21 @@ takes_none old name line longer piece start end place limit lines sum more is it
 
 -- ---- what is passed over
 
-held_within : (old : ReaderState) (name piece : List ℕ) (start end place limit lines sum count : ℕ) → holding name (held_of piece start end) place limit lines sum ≡ old → count ≤ length old.held → count ≤ end - start
-held_within old name piece start end place limit lines sum count is fits =
+held_within : (old : ReaderState) (name piece : List ℕ) (start end place limit sum count : ℕ) → holding name (held_of piece start end) place limit sum ≡ old → count ≤ length old.held → count ≤ end - start
+held_within old name piece start end place limit sum count is fits =
     let long : length (held_of piece start end) ≡ length old.held = ap (λ (s : ReaderState). length s.held) is in omega (arith, length-take (end - start) (drop start piece))
 
-pub held_past : (old : ReaderState) (name piece : List ℕ) (start end place limit lines sum count : ℕ) → holding name (held_of piece start end) place limit lines sum ≡ old → count ≤ length old.held → held_of piece (start + count) end ≡ drop count old.held
-held_past old name piece start end place limit lines sum count is fits =
-    let within = held_within old name piece start end place limit lines sum count is fits in
+pub held_past : (old : ReaderState) (name piece : List ℕ) (start end place limit sum count : ℕ) → holding name (held_of piece start end) place limit sum ≡ old → count ≤ length old.held → held_of piece (start + count) end ≡ drop count old.held
+held_past old name piece start end place limit sum count is fits =
+    let within = held_within old name piece start end place limit sum count is fits in
     let room : end - start ≡ count + (end - (start + count)) = omega arith in
     sym (ap (λ (s : ReaderState). drop count s.held) (sym is)
     ∙ (ap (λ n. drop count (take n (drop start piece))) room
     ∙ (drop-take count (end - (start + count)) (drop start piece) ∙ ap (take (end - (start + count))) (drop-drop count start piece))))
 
-pub passed_over : (old : ReaderState) (name piece : List ℕ) (start end place limit lines sum count : ℕ) → holding name (held_of piece start end) place limit lines sum ≡ old → count ≤ length old.held → take (start + count - start) (drop start piece) ≡ take count old.held
-passed_over old name piece start end place limit lines sum count is fits =
-    let within = held_within old name piece start end place limit lines sum count is fits in
+pub passed_over : (old : ReaderState) (name piece : List ℕ) (start end place limit sum count : ℕ) → holding name (held_of piece start end) place limit sum ≡ old → count ≤ length old.held → take (start + count - start) (drop start piece) ≡ take count old.held
+passed_over old name piece start end place limit sum count is fits =
+    let within = held_within old name piece start end place limit sum count is fits in
     let many : start + count - start ≡ count = omega arith in
     ap (λ n. take n (drop start piece)) many ∙ (sym (take-take count (end - start) (drop start piece) within) ∙ ap (λ (s : ReaderState). take count s.held) is)
 
@@ -311,10 +311,10 @@ held_line_taken o old new line count none long front kept held_is place_is =
     line_taken o old old new [] line (going_start o old) (All-nil (λ b. b ≢ 10)) kept (held_line_takes old new line count none long front held_is place_is)
 
 -- what is held behind a line and its LF
-pub held_past_line : (old : ReaderState) (name piece : List ℕ) (start end place limit lines sum count : ℕ) → holding name (held_of piece start end) place limit lines sum ≡ old → count < length old.held → held_of piece (start + count + 1) end ≡ drop (count + 1) old.held
-held_past_line old name piece start end place limit lines sum count is fits =
+pub held_past_line : (old : ReaderState) (name piece : List ℕ) (start end place limit sum count : ℕ) → holding name (held_of piece start end) place limit sum ≡ old → count < length old.held → held_of piece (start + count + 1) end ≡ drop (count + 1) old.held
+held_past_line old name piece start end place limit sum count is fits =
     let from : start + count + 1 ≡ start + (count + 1) = omega arith in
-    ap (λ n. held_of piece n end) from ∙ held_past old name piece start end place limit lines sum (count + 1) is (omega arith)
+    ap (λ n. held_of piece n end) from ∙ held_past old name piece start end place limit sum (count + 1) is (omega arith)
 
 -- ---- the sums
 
@@ -376,36 +376,36 @@ emptied_stays o now gone kept held_is place_is file is here = emptied_stands now
 -- ---- what is read behind the held bytes
 
 -- held bytes that were moved to the front of a piece, and more of the file behind them
-stands_on_behind : (old : ReaderState) (name piece piece2 : List ℕ) (start end place limit lines sum more sum2 count room : ℕ) → holding name (held_of piece start end) place limit lines sum ≡ old
+stands_on_behind : (old : ReaderState) (name piece piece2 : List ℕ) (start end place limit sum sum2 count room : ℕ) → holding name (held_of piece start end) place limit sum ≡ old
     → start ≤ end → end ≤ length piece → take (end - start) piece2 ≡ held_of piece start end → count ≤ length (drop (end - start) piece2) → room ≤ 4096 → place + (end - start) + room ≤ limit
     → ((front : List ℕ) → IsPlainSumOf sum front → IsPlainSumOf sum2 (front ++ drop (8 - (place + (end - start))) (take count (drop (end - start) piece2))))
-    → (file : List ℕ) → take count (drop (end - start) piece2) ≡ take room (drop (place + (end - start)) file) → StandsIn old file → StandsIn (holding name (take (end - start + count - 0) piece2) place limit more sum2) file
-stands_on_behind old name piece piece2 start end place limit lines sum more sum2 count room is order within same fits small low added file got stood =
+    → (file : List ℕ) → take count (drop (end - start) piece2) ≡ take room (drop (place + (end - start)) file) → StandsIn old file → StandsIn (holding name (take (end - start + count - 0) piece2) place limit sum2) file
+stands_on_behind old name piece piece2 start end place limit sum sum2 count room is order within same fits small low added file got stood =
     let h = end - start in
     let place_is : place ≡ old.place = ap (λ (s : ReaderState). s.place) is in
     let held_is : held_of piece start end ≡ old.held = ap (λ (s : ReaderState). s.held) is in
     let long : length old.held ≡ h = sym (ap length held_is) ∙ omega (arith, length-take h (drop start piece), length-drop start piece) in
-    let gone = holding name [] (place + h) limit lines sum in
+    let gone = holding name [] (place + h) limit sum in
     let empty : StandsIn gone file = emptied_stands old gone file stood (ap (λ (s : ReaderState). s.limit) is, ap (λ (s : ReaderState). s.sum) is) refl (omega (arith, place_is, long)) in
-    let filled = (stands_filled gone name (drop h piece2) (place + h) limit lines sum more sum2 count room (place + h + room) refl fits (omega arith) low added file got empty).0 in
+    let filled = (stands_filled gone name (drop h piece2) (place + h) limit sum sum2 count room (place + h + room) refl fits (omega arith) low added file got empty).0 in
     let rest = drop place file in
     let front : take h piece2 ≡ take h rest = same ∙ (held_is ∙ (stood.held ∙ (ap (λ n. take n (drop old.place file)) long ∙ ap (λ p. take h (drop p file)) (sym place_is)))) in
     let back : take count (drop h piece2) ≡ take room (drop h rest) = got ∙ ap (take room) (sym (drop-drop h place file)) in
     let whole : take (h + count) piece2 ≡ take (h + room) rest = take-add h count piece2 ∙ (ap (λ f. f ++ take count (drop h piece2)) front ∙ (ap (λ b. take h rest ++ b) back ∙ sym (take-add h room rest))) in
     let here : take (h + count - 0) piece2 ≡ take (h + room) rest = ap (λ n. take n piece2) (omega arith) ∙ whole in
-    stands_behind (holding name (take (count - 0) (drop h piece2)) (place + h) limit more sum2) (holding name (take (h + count - 0) piece2) place limit more sum2) file (refl, refl)
+    stands_behind (holding name (take (count - 0) (drop h piece2)) (place + h) limit sum2) (holding name (take (h + count - 0) piece2) place limit sum2) file (refl, refl)
     (omega (arith, length-take (h + count - 0) piece2, length-take (count - 0) (drop h piece2), length-drop h piece2, fits, ap length same, length-take h piece2, length-take h (drop start piece), length-drop start piece))
     (here ∙ (take_long (h + room) rest ∙ ap (λ bytes. take (length bytes) rest) (sym here))) filled
 
-pub read_on_stays : (view : Option View) (old : ReaderState) (name piece piece2 : List ℕ) (start end place limit lines sum more sum2 count room : ℕ) → holding name (held_of piece start end) place limit lines sum ≡ old
+pub read_on_stays : (view : Option View) (old : ReaderState) (name piece piece2 : List ℕ) (start end place limit sum sum2 count room : ℕ) → holding name (held_of piece start end) place limit sum ≡ old
     → start ≤ end → end ≤ length piece → take (end - start) piece2 ≡ held_of piece start end → count ≤ length (drop (end - start) piece2) → room ≤ 4096 → place + (end - start) + room ≤ limit
     → ((front : List ℕ) → IsPlainSumOf sum front → IsPlainSumOf sum2 (front ++ drop (8 - (place + (end - start))) (take count (drop (end - start) piece2))))
     → IfSome (bytes_in view name) (λ file. take count (drop (end - start) piece2) ≡ take room (drop (place + (end - start)) file))
-    → Stays (bytes_in view old.name) old (holding name (take (end - start + count - 0) piece2) place limit more sum2)
-read_on_stays view old name piece piece2 start end place limit lines sum more sum2 count room is order within same fits small low added got file told stood =
+    → Stays (bytes_in view old.name) old (holding name (take (end - start + count - 0) piece2) place limit sum2)
+read_on_stays view old name piece piece2 start end place limit sum sum2 count room is order within same fits small low added got file told stood =
     let P = λ (f : List ℕ). take count (drop (end - start) piece2) ≡ take room (drop (place + (end - start)) f) in
     let name_is : name ≡ old.name = ap (λ (s : ReaderState). s.name) is in
-    stands_on_behind old name piece piece2 start end place limit lines sum more sum2 count room is order within same fits small low added file
+    stands_on_behind old name piece piece2 start end place limit sum sum2 count room is order within same fits small low added file
     (subst (λ o. IfSome o P) (ap (bytes_in view) name_is ∙ told) got) stood
 
 -- behind the last LF of a piece nothing that is held has one

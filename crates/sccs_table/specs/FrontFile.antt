@@ -160,12 +160,11 @@ pub record ReadsBytes {D T E : Type 0} (told : D → Told) (faults : D → ℕ) 
   pub limit : new.limit ≡ old.limit
   pub ahead : new.place + length new.held ≤ new.limit
 
--- A call that reads on with the next line of that number: it takes one line, which was accepted and is counted.
+-- A call that reads on with the next line of that number: it takes one line, which was accepted.
 pub record ReadsLine {D : Type 0} (told : D → Told) (faults : D → ℕ) (disk disk2 : D) (old new : ReaderState) (n : ℕ) (r s : HeaderParser) (result : Result (Unit {0}) FileFault) : Type 0 where
   pub frame : ReadsOn told faults disk disk2 old new result
   pub first : IsFirst result
   pub stays : Stays (bytes_in (seen (told disk)) old.name) old new
   pub further : OnOk result (old.place < new.place)
-  pub counted : OnOk result (new.lines ≡ old.lines + 1)
   pub accepted : OnOk result ((line : List ℕ) × HasNoLf line × (line_after n r line ≡ Ok s))
   pub hears : AcceptsNext (bytes_in (seen (told disk)) old.name) old new n r (read_as s result)

@@ -1,9 +1,11 @@
 -- Where LF and SOH stand in a piece, 64 bytes at a time.
-use Rattle.std.specs.Prelude.{◌≡◌, ◌≢◌, ℕ, ◌*◌, ◌<◌, ◌≤◌, ◌==◌, Bool, true, false, not, Option, None, Some, List, length, map, take, drop, get_or, if◌then◌else◌}
+use Rattle.std.specs.Prelude.{◌≡◌, ◌≢◌, ℕ, ◌*◌, ◌<◌, ◌≤◌, ◌==◌, Bool, not, Option, None, Some, List, length, map, take, drop, get_or, if◌then◌else◌}
 use Rattle.std.specs.Int.{bit_at}
 use Rattle.std.specs.Simd.Lanes.{mask_l}
 use Rattle.sccs_base.specs.Cut.{HasNoLf}
 use Rattle.sccs_table.specs.Runs.{lf_count}
+use Rattle.sccs_table.specs.declared.piece_marks.Known.{Known}
+use Rattle.sccs_table.specs.declared.piece_marks.Known.TheVariants.{Nothing, Number, Places}
 use Rattle.sccs_table.specs.declared.piece_marks.PieceMarks.{PieceMarks}
 
 -- the 64 bytes of that number, from 0
@@ -35,17 +37,18 @@ pub record Describes (ends before : List ℕ) (piece : List ℕ) (blocks : ℕ) 
 abbrev pub HasNoMarked : List ℕ → ℕ → Type 0
 HasNoMarked piece blocks = (n : ℕ) → n < blocks → bits_of 1 (block n piece) ≡ 0
 
--- the LFs of a piece are known one by one; or how many there are, and a place behind which none stands
-abbrev pub Counted : Bool → PieceMarks → List ℕ → Type 0
-Counted true marks piece = Describes marks.ends marks.before piece 64 × (get_or marks.before 64 0 ≡ lf_count piece)
-Counted false marks piece = (marks.count ≡ lf_count piece) × HasNoLf (drop marks.last piece)
+-- nothing is known of the LFs of a piece; or how many there are, and a place behind which none stands; or each one's place
+abbrev pub Knows : Known → PieceMarks → List ℕ → Type 0
+Knows Nothing marks piece = Unit {0}
+Knows Number marks piece = (marks.count ≡ lf_count piece) × HasNoLf (drop marks.last piece)
+Knows Places marks piece = Describes marks.ends marks.before piece 64 × (get_or marks.before 64 0 ≡ lf_count piece)
 
 -- The marks are those of a piece of 4,096 bytes.
 pub record MarksOf (marks : PieceMarks) (piece : List ℕ) : Type 0 where
   pub long : length piece ≡ 4096
   pub marked_are : AreMarked marks.marked piece 64
   pub sohs_are : marks.marked ≢ 0 → AreSohs marks.sohs piece 64
-  pub counted : Counted marks.placed marks piece
+  pub ends_known : Knows marks.known marks piece
 
 -- no byte from one place to another is SOH
 abbrev pub HasNoSoh : List ℕ → ℕ → ℕ → Type 0

@@ -5,13 +5,12 @@ use Rattle.sccs_disk.specs.Files.{Content, View}
 use Rattle.sccs_grammar.specs.Sums.{plain_sum}
 
 -- The bytes that were read and not given yet, the place of the first of them, the file's name, the place up to which it is
--- read at most, how many lines ended before the first place, and the plain sum of all bytes that were read behind the sum line.
+-- read at most, and the plain sum of all bytes that were read behind the sum line.
 pub record ReaderState : Type 0 where
   pub name : List ℕ
   pub held : List ℕ
   pub place : ℕ
   pub limit : ℕ
-  pub lines : ℕ
   pub sum : ℕ
 
 -- the bytes behind the sum line, which has 8 bytes with its LF

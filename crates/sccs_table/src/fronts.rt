@@ -145,7 +145,6 @@ pub fn read_lines<D: Disk>(
     ensures first { IsFirst result }
     ensures stays { Stays (bytes_in (seen (D.told disk.old)) reader.old.name) reader.old reader.new }
     ensures number { IfOk result (λ found. found.1 ≤ reader.new.place + 2) }
-    ensures counted { IfOk result (λ found. found.1 + reader.old.lines ≡ 2 + reader.new.lines) }
     ensures rules { IfOk result (λ found. KeepsRules found.0) }
     ensures spelled { IfOk result (λ found. IsSpelled found.0) }
     ensures told { Reads (bytes_in (seen (D.told disk.old)) reader.old.name) reader.old reader.new start 2 result }
@@ -194,7 +193,6 @@ pub fn read_sum<D: Disk>(
     ensures first { IsFirst result }
     ensures stays { Stays (bytes_in (seen (D.told disk.old)) reader.old.name) reader.old reader.new }
     ensures place { OnOk result (reader.new.place ≡ 8) }
-    ensures counted { OnOk result (reader.new.lines ≡ reader.old.lines + 1) }
     ensures told { SumLine (bytes_in (seen (D.told disk.old)) reader.old.name) reader.old reader.new result }
 {
     let mut line = Vec::new(alloc);
@@ -251,7 +249,7 @@ pub fn check_front<D: Disk>(alloc: Global, disk: &mut D, name: &Name) -> Result<
     ensures told { IfSome (seen (D.told disk.old)) (λ view. AnswersFront (file_in view name.now) checked_front result) }
 {
     let size = open_file(disk, name)?;
-    let mut reader = LineReader::new(name, 0, size, LineEnds::Counted);
+    let mut reader = LineReader::new(name, 0, size, LineEnds::Unasked);
     let stored = read_sum(alloc, disk, &mut reader)?;
     let found = read_lines(alloc, disk, &mut reader);
     let body_from = reader.place();

@@ -9,6 +9,7 @@ ghost use Rattle.sccs_table.specs.SumOf.{IsSumOf};
 ghost use Rattle.sccs_table.specs.FrontFile.{IsOuter, ReadsBytes, ReadsOn};
 ghost use Rattle.sccs_table.specs.ReaderState.{StandsIn, Stays, Takes, TakesLine, bytes_in};
 
+use crate::counts::lines_in;
 use crate::piece_marks::{LineEnds, PieceMarks, whole_lines};
 use crate::sums::{PlainSum, Sum};
 use memchr::{memchr, memrchr};
@@ -26,8 +27,7 @@ const SUM_LINE: u64 = 8;
 
 /// Takes the lines of a file in pieces of 4,096 bytes, and adds up all bytes that it reads behind the
 /// sum line. Contracts see the bytes that were read and not given yet, the place of the first of
-/// them, the file's name, the place up to which it is read at most, how many lines ended before the
-/// first place, and the plain sum.
+/// them, the file's name, the place up to which it is read at most, and the plain sum.
 #[derive(Drop)]
 pub struct LineReader {
     name: Name,
@@ -36,8 +36,6 @@ pub struct LineReader {
     end: usize,
     place: u64,
     limit: u64,
-    // how many lines ended before the piece
-    lines: u64,
     sum: PlainSum,
     marks: PieceMarks,
     // the place in the piece behind its last LF
@@ -215,13 +213,37 @@ fn front_part(bytes: &[u8], count: usize) -> &[u8]
     bytes.get(..count).unwrap_or(bytes)
 }
 
+// how many lines end between two places of a file, which is read for it
+fn lines_between<D: Disk>(disk: &mut D, name: &Name, from: u64, to: u64) -> Result<u64, Failed>
+    requires { to ≤ 1073741825 }
+    ensures same { D.told disk.new ≡ D.told disk.old }
+    ensures later { D.faults disk.old ≤ D.faults disk.new }
+    ensures cause { OnErr result (Rose (D.faults disk.old) (D.faults disk.new)) }
+    ensures bound { IfOk result (λ count. count ≤ to - from) }
+    ensures told { IfOk result (λ count. IfSome (bytes_in (seen (D.told disk.old)) name.now)
+        (λ file. count ≡ lf_count (take (to - from) (drop from file)))) }
+{
+    let mut piece = [0; 4096];
+    let mut at = from;
+    let mut count = 0;
+    'pieces: loop {
+        let room = to.saturating_sub(at).min(4096) as usize;
+        let read = read_piece(disk, name, at, room, &mut piece)?;
+        if read == 0 {
+            return Ok(count);
+        }
+        count += lines_in(front_part(&piece, read));
+        at += read as u64;
+    }
+}
+
 impl LineReader {
-    /// Stands at a place of a file: at its front, or behind its sum line. How closely LFs are looked at
+    /// Stands at a place of a file: at its front, or behind its sum line. Whether LFs are looked for
     /// changes no answer, only how soon `lines_held` has it.
     pub fn new(name: &Name, place: u64, limit: u64, ends: LineEnds) -> LineReader
         requires low { place ≤ limit }
         requires high { limit ≤ 1073741825 }
-        ensures { result ≡ record { name = name.now; held = []; place = place; limit = limit; lines = 0; sum = 0 } }
+        ensures { result ≡ record { name = name.now; held = []; place = place; limit = limit; sum = 0 } }
     {
         let piece = [0; 4096];
         let mut marks = PieceMarks::new(ends);
@@ -233,7 +255,6 @@ impl LineReader {
             end: 0,
             place,
             limit,
-            lines: 0,
             sum: PlainSum::new(),
             marks,
             whole: 0,
@@ -268,9 +289,9 @@ impl LineReader {
     /// A new reader of the same file, which stands behind its sum line.
     pub fn again(&self) -> LineReader
         requires { 8 ≤ self.now.limit }
-        ensures { result ≡ record { name = self.now.name; held = []; place = 8; limit = self.now.limit; lines = 0; sum = 0 } }
+        ensures { result ≡ record { name = self.now.name; held = []; place = 8; limit = self.now.limit; sum = 0 } }
     {
-        LineReader::new(&self.name, SUM_LINE, self.limit, LineEnds::Counted)
+        LineReader::new(&self.name, SUM_LINE, self.limit, LineEnds::Unasked)
     }
 
     // reads the next piece before a place, where nothing is held; false where nothing is left there
@@ -286,9 +307,7 @@ impl LineReader {
         ensures failed { OnErr result (self.new.held ≡ []) }
         ensures told { IfOk result (λ more. IfSome (bytes_in (seen (D.told disk.old)) self.old.name)
             (λ file. StandsIn self.old file → StandsIn self.new file × (more ≡ false → min to (length file) ≤ self.new.place))) }
-        ensures lines { self.new.lines ≡ self.old.lines }
     {
-        self.lines += self.marks.lines_before(&self.piece, self.start);
         self.start = 0;
         self.end = 0;
         self.whole = 0;
@@ -312,37 +331,32 @@ impl LineReader {
         ensures more { IfOk result (λ more. more ≡ true → 0 < length self.new.held) }
         ensures told { IfOk result (λ more. IfSome (bytes_in (seen (D.told disk.old)) self.old.name)
             (λ file. StandsIn self.old file → StandsIn self.new file × (more ≡ false → self.new.place ≡ length file))) }
-        ensures lines { self.new.lines ≡ self.old.lines }
     {
         let to = self.limit();
         self.fill_to(disk, to)
     }
 
-    // passes over all that is held; none of its lines counts
+    // passes over all that is held
     fn let_go(&mut self)
         ensures name { self.new.name ≡ self.old.name }
         ensures limit { self.new.limit ≡ self.old.limit }
         ensures held { self.new.held ≡ [] }
         ensures place { self.new.place ≡ self.old.place + length self.old.held }
         ensures sum { self.new.sum ≡ self.old.sum }
-        ensures lines { self.new.lines ≡ self.old.lines }
         ensures ahead { self.new.place + length self.new.held ≤ self.new.limit }
     {
-        self.lines += self.marks.lines_before(&self.piece, self.start);
         self.place += (self.end - self.start) as u64;
         self.start = 0;
         self.end = 0;
         self.whole = 0;
     }
 
-    /// Passes over all bytes before a place, or up to the end of a file that ends there or before; no
-    /// line of them counts.
+    /// Passes over all bytes before a place, or up to the end of a file that ends there or before.
     pub fn skip_to<D: Disk>(&mut self, disk: &mut D, to: u64) -> Result<(), Failed>
         requires { to ≤ self.old.limit }
         ensures frame { ReadsBytes D.told D.faults disk.old disk.new self.old self.new result }
         ensures stays { Stays (bytes_in (seen (D.told disk.old)) self.old.name) self.old self.new }
         ensures held { self.new.held ≡ [] }
-        ensures lines { self.new.lines ≡ self.old.lines }
         ensures onward { self.old.place + length self.old.held ≤ self.new.place }
         ensures bound { self.new.place ≤ max to (self.old.place + length self.old.held) }
         ensures told { OnOk result ((file : List ℕ) → bytes_in (seen (D.told disk.old)) self.old.name ≡ Some file → StandsIn self.old file → min to (length file) ≤ self.new.place) }
@@ -365,8 +379,6 @@ impl LineReader {
         ensures taken { IfOk result (λ ended. Takes self.old self.new line.old.items line.new.items ended) }
         ensures onward { self.old.place ≤ self.new.place }
         ensures ahead { self.new.place + length self.new.held ≤ self.new.limit }
-        ensures counted { IfOk result (λ ended. self.new.lines ≡ self.old.lines + (if ended then 1 else 0)) }
-        ensures bytes { self.new.lines + self.old.place ≤ self.old.lines + self.new.place }
     {
         let held = &self.piece[self.start..self.end];
         match memchr(b'\n', held) {
@@ -400,8 +412,6 @@ impl LineReader {
         ensures line { OnOk result (HasNoLf line.new.items) }
         ensures onward { self.old.place ≤ self.new.place }
         ensures moved { IfOk result (λ ended. ended ≡ true → self.new.place ≡ self.old.place + length line.new.items + 1) }
-        ensures counted { IfOk result (λ ended. self.new.lines ≡ self.old.lines + (if ended then 1 else 0)) }
-        ensures bytes { self.new.lines + self.old.place ≤ self.old.lines + self.new.place }
     {
         let _ = &self.limit;
         'pieces: loop {
@@ -424,14 +434,12 @@ impl LineReader {
         ensures frame { ReadsBytes D.told D.faults disk.old disk.new self.old self.new result }
         ensures stays { Stays (bytes_in (seen (D.told disk.old)) self.old.name) self.old self.new }
         ensures place { self.new.place ≡ self.old.place }
-        ensures lines { self.new.lines ≡ self.old.lines }
         ensures ahead { self.new.place + length self.new.held ≤ self.new.limit }
         ensures more { IfOk result (λ more. more ≡ true → (lf_count self.old.held ≡ 0) × (0 < lf_count self.new.held)) }
     {
         if self.start < self.whole {
             return Ok(false);
         }
-        self.lines += self.marks.lines_before(&self.piece, self.start);
         let held = self.end - self.start;
         move_front(&mut self.piece, self.start, self.end);
         self.start = 0;
@@ -488,7 +496,6 @@ impl LineReader {
         ensures ahead { self.new.place + length self.new.held ≤ self.new.limit }
         ensures told { (o : Option (List ℕ)) (line : List ℕ) → HasNoLf line → length line ≡ count
             → take (count + 1) self.old.held ≡ line ++ 10 ∷ [] → TakesLine o self.old self.new line true }
-        ensures counted { (line : List ℕ) → HasNoLf line → take (count + 1) self.old.held ≡ line ++ 10 ∷ [] → self.new.lines ≡ self.old.lines + 1 }
     {
         let end = self.start + count;
         self.start = end + 1;
@@ -517,20 +524,22 @@ impl LineReader {
         ensures held { self.new.held ≡ drop count self.old.held }
         ensures place { self.new.place ≡ self.old.place + count }
         ensures ahead { self.new.place + length self.new.held ≤ self.new.limit }
-        ensures lines { self.new.lines ≡ self.old.lines + length (cut (take count self.old.held)).lines }
-        ensures bound { self.new.lines ≤ self.old.lines + count }
     {
         self.start += count;
         self.place += count as u64;
     }
 
-    /// How many lines ended before the place since the reader began.
-    pub fn lines(&self) -> u64
-        ensures value { result ≡ self.now.lines }
-        ensures bound { result ≤ self.now.place }
-        ensures limit { self.now.place ≤ 1073741825 }
+    /// How many lines end between two places of the file, which is read again for it.
+    pub fn lines_between<D: Disk>(&self, disk: &mut D, from: u64, to: u64) -> Result<u64, Failed>
+        requires { to ≤ 1073741825 }
+        ensures same { D.told disk.new ≡ D.told disk.old }
+        ensures later { D.faults disk.old ≤ D.faults disk.new }
+        ensures cause { OnErr result (Rose (D.faults disk.old) (D.faults disk.new)) }
+        ensures bound { IfOk result (λ count. count ≤ to - from) }
+        ensures told { IfOk result (λ count. IfSome (bytes_in (seen (D.told disk.old)) self.now.name)
+            (λ file. count ≡ lf_count (take (to - from) (drop from file)))) }
     {
-        self.lines + self.marks.lines_before(&self.piece, self.start)
+        lines_between(disk, &self.name, from, to)
     }
 
     // adds the held bytes to the sums, and holds none

@@ -1,4 +1,4 @@
-//! How many LFs a piece has, and its sum, 64 bytes at a time.
+//! What is found of a piece in which no SOH stands: its sum and how many LFs it has, 64 bytes at a time.
 ghost use Rattle.std.specs.Prelude.{◌≡◌, ◌<◌, ◌≤◌, ◌+◌, ◌*◌, ◌%◌, ℕ, List, true, false, sum, length, take, drop, get_or, IfSome};
 ghost use Rattle.std.specs.Simd.Lanes.{Each1, sum_l};
 ghost use Rattle.sccs_table.specs.Runs.{lf_count};
@@ -116,6 +116,22 @@ fn has_low(least: u8x64) -> bool
     ensures { result ≡ false → (k : ℕ) → k < 64 → 1 < get_or least k 0 }
 {
     least.simd_le(u8x64::splat(SOH)).to_bitmask() != 0
+}
+
+/// The sum of a piece in which no SOH stands; None where it does, or NUL.
+pub fn plain_sum(piece: &[u8]) -> Option<u16>
+    requires { length piece.now ≡ 4096 }
+    ensures none { IfSome result (λ _. HasNoMarked piece.now 64) }
+    ensures sum { IfSome result (λ total. total ≡ sum piece.now % 65536) }
+{
+    let mut total: u16 = 0;
+    let mut least = u8x64::splat(u8::MAX);
+    for n in 0..64usize {
+        let lanes = lanes_of(piece, n);
+        total = sum_with(total, lanes);
+        least = least_of(least, lanes);
+    }
+    if has_low(least) { None } else { Some(total) }
 }
 
 /// The counts of a piece in which no SOH stands; None where it does, or NUL.

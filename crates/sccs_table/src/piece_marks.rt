@@ -3,30 +3,39 @@ ghost use Rattle.std.specs.Prelude.{◌≡◌, ◌≢◌, false, true, ℕ, ◌%
 ghost use Rattle.std.specs.Int.{bit_at};
 ghost use Rattle.sccs_base.specs.Cut.{HasNoLf};
 ghost use Rattle.sccs_table.specs.Runs.{lf_count};
-ghost use Rattle.sccs_table.specs.Marks.{AreMarked, AreSohs, Counted, Describes, HasNoSoh, IsNextBlock, IsNextSoh, MarksOf, bit, bits_of, block};
+ghost use Rattle.sccs_table.specs.Marks.{AreMarked, AreSohs, Describes, HasNoSoh, IsNextBlock, IsNextSoh, MarksOf, bit, bits_of, block};
 
 use crate::counts::lines_in;
-use crate::piece_counts::{BlockCount, PieceCount, lanes_of, plain_count, sum_with};
+use crate::piece_counts::{lanes_of, plain_count, plain_sum, sum_with};
 use memchr::memrchr;
 use sccs_base::{LF, SOH};
 use std::simd::prelude::*;
 
-/// How closely the LFs of pieces are looked at.
+/// Whether a reader will be asked how many lines end before a place.
 #[derive(Clone, Copy, Debug, PartialEq, Eq)]
 pub enum LineEnds {
-    /// They are counted, for a reader that is hardly asked how many stand before a place.
-    Counted,
-    /// Each one's place is known.
-    Placed,
+    /// It will hardly be, and LFs aren't looked for.
+    Unasked,
+    /// It will be, and LFs are counted in each piece, or placed.
+    Asked,
+}
+
+/// What is known of the LFs of a piece.
+#[derive(Clone, Copy)]
+enum Known {
+    Nothing,
+    /// How many there are, and the place behind the last.
+    Number,
+    /// Each one's place.
+    Places,
 }
 
 /// Where LF and SOH stand in a piece of 4,096 bytes, so that neither is searched for byte by byte.
-/// Where no more is wanted, or no SOH stands in it nor in the one before, its LFs are only counted.
+/// Where no SOH stands in it nor in the one before, its LFs are only counted, if they are asked for.
 #[derive(Drop)]
 pub struct PieceMarks {
     wanted: LineEnds,
-    // whether the LFs are known one by one
-    placed: bool,
+    known: Known,
     // for each 64 bytes, a bit for each that is LF
     ends: [u64; 65],
     // how many LFs stand before each 64 bytes, and how many in all
@@ -35,7 +44,7 @@ pub struct PieceMarks {
     marked: u64,
     // for each 64 bytes, a bit for each that is SOH, where one stands in the piece
     sohs: [u64; 64],
-    // how many LFs there are, and the place behind the last, where they are only counted
+    // how many LFs there are, and the place behind the last, where their number is known
     count: u64,
     last: usize,
 }
@@ -94,24 +103,23 @@ fn block_behind(marked: u64, n: usize) -> Option<usize>
     }
 }
 
-// finds the SOHs of each block of a piece, and counts its LFs. Answers the marked blocks, and the count
-fn find_sohs(piece: &[u8], sohs: &mut [u64]) -> (u64, PieceCount)
+// finds the SOHs of each block of a piece. Answers the marked blocks, and the sum of all bytes
+fn find_sohs(piece: &[u8], sohs: &mut [u64]) -> (u64, u16)
     requires long { length piece.now ≡ 4096 }
     requires sohs { length sohs.old ≡ 64 }
     ensures marked { AreMarked result.0 piece.now 64 }
     ensures sohs { AreSohs sohs.new piece.now 64 }
-    ensures lines { result.1.lines ≡ lf_count piece.now }
-    ensures total { result.1.total ≡ sum piece.now % 65536 }
+    ensures sum { result.1 ≡ sum piece.now % 65536 }
 {
     let mut marked = 0;
-    let mut count = BlockCount::new();
+    let mut total: u16 = 0;
     for n in 0..64usize {
+        total = sum_with(total, lanes_of(piece, n));
         let bits = bits_at(piece, 64 * n, SOH);
         marked = with_bit(marked, n, bits != 0);
         sohs[n] = bits;
-        count = count.with_block(piece, n);
     }
-    (marked, count.of_piece(piece))
+    (marked, total)
 }
 
 // describes the blocks of a piece, their LFs and SOHs; the number of all its LFs comes last in `before`.
@@ -161,7 +169,7 @@ impl PieceMarks {
     pub fn new(wanted: LineEnds) -> PieceMarks {
         PieceMarks {
             wanted,
-            placed: false,
+            known: Known::Nothing,
             ends: [0; 65],
             before: [0; 65],
             marked: 0,
@@ -177,44 +185,47 @@ impl PieceMarks {
         ensures marks { MarksOf self.new piece.now }
         ensures sum { result ≡ sum piece.now % 65536 }
     {
-        if self.marked == 0 {
-            if let Some(count) = plain_count(piece) {
-                self.count_ends(piece, count.lines);
-                return count.total;
-            }
-        }
         match self.wanted {
-            LineEnds::Counted => {
-                let (marked, count) = find_sohs(piece, &mut self.sohs);
-                self.marked = marked;
-                self.count_ends(piece, count.lines);
-                count.total
-            }
-            LineEnds::Placed => {
-                let (marked, total) = describe(
-                    piece,
-                    &mut self.ends,
-                    &mut self.before,
-                    &mut self.sohs,
-                );
-                self.marked = marked;
-                self.placed = true;
-                total
-            }
+            LineEnds::Unasked => self.read_sohs(piece),
+            LineEnds::Asked => self.read_ends(piece),
         }
     }
 
-    // knows how many LFs there are, and not where
-    fn count_ends(&mut self, piece: &[u8], count: u64)
-        requires { count ≡ lf_count piece.now }
-        ensures counted { Counted false self.new piece.now }
-        ensures placed { self.new.placed ≡ false }
-        ensures marked { self.new.marked ≡ self.old.marked }
-        ensures sohs { self.new.sohs ≡ self.old.sohs }
+    // looks for SOH alone
+    fn read_sohs(&mut self, piece: &[u8]) -> u16
+        requires { length piece.now ≡ 4096 }
+        ensures marks { MarksOf self.new piece.now }
+        ensures sum { result ≡ sum piece.now % 65536 }
     {
-        self.placed = false;
-        self.count = count;
-        self.last = whole_lines(piece);
+        self.known = Known::Nothing;
+        if self.marked == 0 {
+            if let Some(total) = plain_sum(piece) {
+                return total;
+            }
+        }
+        let (marked, total) = find_sohs(piece, &mut self.sohs);
+        self.marked = marked;
+        total
+    }
+
+    // looks for LFs too
+    fn read_ends(&mut self, piece: &[u8]) -> u16
+        requires { length piece.now ≡ 4096 }
+        ensures marks { MarksOf self.new piece.now }
+        ensures sum { result ≡ sum piece.now % 65536 }
+    {
+        if self.marked == 0 {
+            if let Some(count) = plain_count(piece) {
+                self.known = Known::Number;
+                self.count = count.lines;
+                self.last = whole_lines(piece);
+                return count.total;
+            }
+        }
+        let (marked, total) = describe(piece, &mut self.ends, &mut self.before, &mut self.sohs);
+        self.marked = marked;
+        self.known = Known::Places;
+        total
     }
 
     /// How many LFs stand before a place of the piece.
@@ -224,14 +235,20 @@ impl PieceMarks {
         requires fits { at ≤ 4096 }
         ensures { result ≡ lf_count (take at piece.now) }
     {
-        if self.placed {
-            let low = self.ends[at / 64] % (1 << (at % 64));
-            return self.before[at / 64] + u64::from(low.count_ones());
+        match self.known {
+            Known::Places => {
+                let low = self.ends[at / 64] % (1 << (at % 64));
+                self.before[at / 64] + u64::from(low.count_ones())
+            }
+            Known::Number => {
+                if at >= self.last {
+                    self.count
+                } else {
+                    lines_in(&piece[..at])
+                }
+            }
+            Known::Nothing => lines_in(&piece[..at]),
         }
-        if at >= self.last {
-            return self.count;
-        }
-        lines_in(&piece[..at])
     }
 
     // the first SOH behind the block of that number; 4,096 where there is none

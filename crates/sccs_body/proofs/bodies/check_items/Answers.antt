@@ -13,9 +13,9 @@ returns-in-Ok-None-clause-told g c = λ live none.
     let not = not_taken c.next_control.result (sym c.is_some.ensures ∙ c.if-is_some.false) in
     let there = same_file _ _ _ _ (ap seen c.items.invariant.same) (c.next_control.ensures.name ∙ (c.pass.ensures.name ∙ c.items.invariant.name)) in
     let file_is = same_file _ _ _ _ (ap seen (c.in_ok-read_on.ensures.frame.same ∙ c.items.invariant.same)) (c.in_ok-read_on.ensures.frame.name ∙ (c.next_control.ensures.name ∙ (c.pass.ensures.name ∙ c.items.invariant.name))) in
-    let passed = somewhere_behind_front start live c.args.body.now.lines c.args.body.now.number c.items.body c.pass.new.self c.texts-count.result.now c.texts-count.ensures.front c.texts-count.ensures.run c.texts-count.ensures.stand c.pass.ensures.number c.pass.ensures.behind c.pass.ensures.told (c.items.invariant.reached live none) in
-    let still = somewhere_kept start start live c.args.body.now.lines c.args.body.now.number c.pass.new.self c.next_control.new.self refl (ap (λ (r : ReaderState). r.place) (c.next_control.ensures.none not)) (c.next_control.ensures.number not) (λ live before behind. c.next_control.ensures.kept live before behind not) (c.next_control.ensures.stays start) passed in
-    let more = somewhere_kept start _ live c.args.body.now.lines c.args.body.now.number c.next_control.new.self c.read_on.new.self there c.in_ok-read_on.ensures.place c.in_ok-read_on.ensures.number (λ live before behind. subst (λ s. Knows live before s) (sym c.in_ok-read_on.ensures.state) behind) c.in_ok-read_on.ensures.stays still in
+    let passed = somewhere_behind_front start live c.args.body.now c.items.body c.pass.new.self c.texts-count.result.now c.texts-count.ensures.front c.texts-count.ensures.run c.texts-count.ensures.stand c.pass.ensures.body c.pass.ensures.place c.pass.ensures.behind c.pass.ensures.told (c.items.invariant.reached live none) in
+    let still = somewhere_kept start start live c.args.body.now c.pass.new.self c.next_control.new.self refl (ap (λ (r : ReaderState). r.place) (c.next_control.ensures.none not)) c.next_control.ensures.body (λ live before behind. c.next_control.ensures.kept live before behind not) (c.next_control.ensures.stays start) passed in
+    let more = somewhere_kept start _ live c.args.body.now c.next_control.new.self c.read_on.new.self there c.in_ok-read_on.ensures.place c.in_ok-read_on.ensures.body (λ live before behind. subst (λ s. Knows live before s) (sym c.in_ok-read_on.ensures.state) behind) c.in_ok-read_on.ensures.stays still in
     rest_read start _ live c.args.body.now c.read_on.new.self c.next.new.self file_is more c.in-Ok-None.field-0 c.in-Ok-None.field-0-is c.in-Ok-None.ensures.told
 
 pub returns-in-Err-clause-told : goal.returns-in-Err-clause-told
@@ -24,9 +24,9 @@ returns-in-Err-clause-told g c = λ live none.
     let not = not_taken c.next_control.result (sym c.is_some.ensures ∙ c.if-is_some.false) in
     let there = same_file _ _ _ _ (ap seen c.items.invariant.same) (c.next_control.ensures.name ∙ (c.pass.ensures.name ∙ c.items.invariant.name)) in
     let file_is = same_file _ _ _ _ (ap seen (c.in_ok-read_on.ensures.frame.same ∙ c.items.invariant.same)) (c.in_ok-read_on.ensures.frame.name ∙ (c.next_control.ensures.name ∙ (c.pass.ensures.name ∙ c.items.invariant.name))) in
-    let passed = somewhere_behind_front start live c.args.body.now.lines c.args.body.now.number c.items.body c.pass.new.self c.texts-count.result.now c.texts-count.ensures.front c.texts-count.ensures.run c.texts-count.ensures.stand c.pass.ensures.number c.pass.ensures.behind c.pass.ensures.told (c.items.invariant.reached live none) in
-    let still = somewhere_kept start start live c.args.body.now.lines c.args.body.now.number c.pass.new.self c.next_control.new.self refl (ap (λ (r : ReaderState). r.place) (c.next_control.ensures.none not)) (c.next_control.ensures.number not) (λ live before behind. c.next_control.ensures.kept live before behind not) (c.next_control.ensures.stays start) passed in
-    let more = somewhere_kept start _ live c.args.body.now.lines c.args.body.now.number c.next_control.new.self c.read_on.new.self there c.in_ok-read_on.ensures.place c.in_ok-read_on.ensures.number (λ live before behind. subst (λ s. Knows live before s) (sym c.in_ok-read_on.ensures.state) behind) c.in_ok-read_on.ensures.stays still in
+    let passed = somewhere_behind_front start live c.args.body.now c.items.body c.pass.new.self c.texts-count.result.now c.texts-count.ensures.front c.texts-count.ensures.run c.texts-count.ensures.stand c.pass.ensures.body c.pass.ensures.place c.pass.ensures.behind c.pass.ensures.told (c.items.invariant.reached live none) in
+    let still = somewhere_kept start start live c.args.body.now c.pass.new.self c.next_control.new.self refl (ap (λ (r : ReaderState). r.place) (c.next_control.ensures.none not)) c.next_control.ensures.body (λ live before behind. c.next_control.ensures.kept live before behind not) (c.next_control.ensures.stays start) passed in
+    let more = somewhere_kept start _ live c.args.body.now c.next_control.new.self c.read_on.new.self there c.in_ok-read_on.ensures.place c.in_ok-read_on.ensures.body (λ live before behind. subst (λ s. Knows live before s) (sym c.in_ok-read_on.ensures.state) behind) c.in_ok-read_on.ensures.stays still in
     rest_fault start _ live c.args.body.now c.read_on.new.self c.next.new.self file_is more c.in-Err.fault c.in-Err.ensures.told
 
 pub returns-in-Ok-None-clause-stays : goal.returns-in-Ok-None-clause-stays
@@ -65,10 +65,10 @@ items-preserved-in-Ok-Some g c =
       limit = search rules;
       stays = stays_on start _ c.args.body.now.lines c.read_on.new.self.lines c.next.new.self.lines file_is more_stays c.in-Ok-Some.ensures.stays;
       reached = λ live none.
-          let passed = somewhere_behind_front start live c.args.body.now.lines c.args.body.now.number c.items.body c.pass.new.self c.texts-count.result.now c.texts-count.ensures.front c.texts-count.ensures.run c.texts-count.ensures.stand c.pass.ensures.number c.pass.ensures.behind c.pass.ensures.told (c.items.invariant.reached live none) in
-          let still = somewhere_kept start start live c.args.body.now.lines c.args.body.now.number c.pass.new.self c.next_control.new.self refl (ap (λ (r : ReaderState). r.place) (c.next_control.ensures.none not)) (c.next_control.ensures.number not) (λ live before behind. c.next_control.ensures.kept live before behind not) (c.next_control.ensures.stays start) passed in
-          let more = somewhere_kept start _ live c.args.body.now.lines c.args.body.now.number c.next_control.new.self c.read_on.new.self there c.in_ok-read_on.ensures.place c.in_ok-read_on.ensures.number (λ live before behind. subst (λ s. Knows live before s) (sym c.in_ok-read_on.ensures.state) behind) c.in_ok-read_on.ensures.stays still in
-          somewhere_on start _ live c.args.body.now.lines c.args.body.now.number c.read_on.new.self c.next.new.self c.in-Ok-Some.field-0 c.in-Ok-Some.field-0-0 c.in-Ok-Some.field-0-is file_is more c.in-Ok-Some.ensures.goes c.in-Ok-Some.ensures.told;
+          let passed = somewhere_behind_front start live c.args.body.now c.items.body c.pass.new.self c.texts-count.result.now c.texts-count.ensures.front c.texts-count.ensures.run c.texts-count.ensures.stand c.pass.ensures.body c.pass.ensures.place c.pass.ensures.behind c.pass.ensures.told (c.items.invariant.reached live none) in
+          let still = somewhere_kept start start live c.args.body.now c.pass.new.self c.next_control.new.self refl (ap (λ (r : ReaderState). r.place) (c.next_control.ensures.none not)) c.next_control.ensures.body (λ live before behind. c.next_control.ensures.kept live before behind not) (c.next_control.ensures.stays start) passed in
+          let more = somewhere_kept start _ live c.args.body.now c.next_control.new.self c.read_on.new.self there c.in_ok-read_on.ensures.place c.in_ok-read_on.ensures.body (λ live before behind. subst (λ s. Knows live before s) (sym c.in_ok-read_on.ensures.state) behind) c.in_ok-read_on.ensures.stays still in
+          somewhere_on start _ live c.args.body.now c.read_on.new.self c.next.new.self c.in-Ok-Some.field-0 c.in-Ok-Some.field-0-0 c.in-Ok-Some.field-0-is file_is c.in-Ok-Some.ensures.body c.in-Ok-Some.ensures.onward more c.in-Ok-Some.ensures.goes c.in-Ok-Some.ensures.told;
     }
 
 pub items-preserved-in-Ok-Some-2 : goal.items-preserved-in-Ok-Some-2
@@ -87,10 +87,10 @@ items-preserved-in-Ok-Some-2 g c =
       limit = search rules;
       stays = stays_on start _ c.args.body.now.lines c.read_on.new.self.lines c.next.new.self.lines file_is more_stays c.in-Ok-Some.ensures.stays;
       reached = λ live none.
-          let passed = somewhere_behind_front start live c.args.body.now.lines c.args.body.now.number c.items.body c.pass.new.self c.texts-count.result.now c.texts-count.ensures.front c.texts-count.ensures.run c.texts-count.ensures.stand c.pass.ensures.number c.pass.ensures.behind c.pass.ensures.told (c.items.invariant.reached live none) in
-          let still = somewhere_kept start start live c.args.body.now.lines c.args.body.now.number c.pass.new.self c.next_control.new.self refl (ap (λ (r : ReaderState). r.place) (c.next_control.ensures.none not)) (c.next_control.ensures.number not) (λ live before behind. c.next_control.ensures.kept live before behind not) (c.next_control.ensures.stays start) passed in
-          let more = somewhere_kept start _ live c.args.body.now.lines c.args.body.now.number c.next_control.new.self c.read_on.new.self there c.in_ok-read_on.ensures.place c.in_ok-read_on.ensures.number (λ live before behind. subst (λ s. Knows live before s) (sym c.in_ok-read_on.ensures.state) behind) c.in_ok-read_on.ensures.stays still in
-          somewhere_on start _ live c.args.body.now.lines c.args.body.now.number c.read_on.new.self c.next.new.self c.in-Ok-Some.field-0 c.in-Ok-Some.field-0-0 c.in-Ok-Some.field-0-is file_is more c.in-Ok-Some.ensures.goes c.in-Ok-Some.ensures.told;
+          let passed = somewhere_behind_front start live c.args.body.now c.items.body c.pass.new.self c.texts-count.result.now c.texts-count.ensures.front c.texts-count.ensures.run c.texts-count.ensures.stand c.pass.ensures.body c.pass.ensures.place c.pass.ensures.behind c.pass.ensures.told (c.items.invariant.reached live none) in
+          let still = somewhere_kept start start live c.args.body.now c.pass.new.self c.next_control.new.self refl (ap (λ (r : ReaderState). r.place) (c.next_control.ensures.none not)) c.next_control.ensures.body (λ live before behind. c.next_control.ensures.kept live before behind not) (c.next_control.ensures.stays start) passed in
+          let more = somewhere_kept start _ live c.args.body.now c.next_control.new.self c.read_on.new.self there c.in_ok-read_on.ensures.place c.in_ok-read_on.ensures.body (λ live before behind. subst (λ s. Knows live before s) (sym c.in_ok-read_on.ensures.state) behind) c.in_ok-read_on.ensures.stays still in
+          somewhere_on start _ live c.args.body.now c.read_on.new.self c.next.new.self c.in-Ok-Some.field-0 c.in-Ok-Some.field-0-0 c.in-Ok-Some.field-0-is file_is c.in-Ok-Some.ensures.body c.in-Ok-Some.ensures.onward more c.in-Ok-Some.ensures.goes c.in-Ok-Some.ensures.told;
     }
 
 pub items-preserved-then-is_some : goal.items-preserved-then-is_some
@@ -105,8 +105,8 @@ items-preserved-then-is_some g c =
       limit = search rules;
       stays = taken_stays;
       reached = λ live none.
-          let passed = somewhere_behind_front start live c.args.body.now.lines c.args.body.now.number c.items.body c.pass.new.self c.texts-count.result.now c.texts-count.ensures.front c.texts-count.ensures.run c.texts-count.ensures.stand c.pass.ensures.number c.pass.ensures.behind c.pass.ensures.told (c.items.invariant.reached live none) in
-          somewhere_taken start live c.args.body.now.lines c.args.body.now.number c.pass.new.self c.next_control.new.self c.next_control.result (sym c.is_some.ensures ∙ c.if-is_some.true) passed c.next_control.ensures.goes c.next_control.ensures.told;
+          let passed = somewhere_behind_front start live c.args.body.now c.items.body c.pass.new.self c.texts-count.result.now c.texts-count.ensures.front c.texts-count.ensures.run c.texts-count.ensures.stand c.pass.ensures.body c.pass.ensures.place c.pass.ensures.behind c.pass.ensures.told (c.items.invariant.reached live none) in
+          somewhere_taken start live c.args.body.now c.pass.new.self c.next_control.new.self c.next_control.result (sym c.is_some.ensures ∙ c.if-is_some.true) c.next_control.ensures.body c.next_control.ensures.further passed c.next_control.ensures.goes c.next_control.ensures.told;
     }
 
 pub items-preserved-then-branch : goal.items-preserved-then-branch
@@ -125,9 +125,9 @@ items-preserved-then-branch g c =
       limit = search rules;
       stays = more_stays;
       reached = λ live none.
-          let passed = somewhere_behind_front start live c.args.body.now.lines c.args.body.now.number c.items.body c.pass.new.self c.texts-count.result.now c.texts-count.ensures.front c.texts-count.ensures.run c.texts-count.ensures.stand c.pass.ensures.number c.pass.ensures.behind c.pass.ensures.told (c.items.invariant.reached live none) in
-          let still = somewhere_kept start start live c.args.body.now.lines c.args.body.now.number c.pass.new.self c.next_control.new.self refl (ap (λ (r : ReaderState). r.place) (c.next_control.ensures.none not)) (c.next_control.ensures.number not) (λ live before behind. c.next_control.ensures.kept live before behind not) (c.next_control.ensures.stays start) passed in
-          let more = somewhere_kept start _ live c.args.body.now.lines c.args.body.now.number c.next_control.new.self c.read_on.new.self there c.in_ok-read_on.ensures.place c.in_ok-read_on.ensures.number (λ live before behind. subst (λ s. Knows live before s) (sym c.in_ok-read_on.ensures.state) behind) c.in_ok-read_on.ensures.stays still in
+          let passed = somewhere_behind_front start live c.args.body.now c.items.body c.pass.new.self c.texts-count.result.now c.texts-count.ensures.front c.texts-count.ensures.run c.texts-count.ensures.stand c.pass.ensures.body c.pass.ensures.place c.pass.ensures.behind c.pass.ensures.told (c.items.invariant.reached live none) in
+          let still = somewhere_kept start start live c.args.body.now c.pass.new.self c.next_control.new.self refl (ap (λ (r : ReaderState). r.place) (c.next_control.ensures.none not)) c.next_control.ensures.body (λ live before behind. c.next_control.ensures.kept live before behind not) (c.next_control.ensures.stays start) passed in
+          let more = somewhere_kept start _ live c.args.body.now c.next_control.new.self c.read_on.new.self there c.in_ok-read_on.ensures.place c.in_ok-read_on.ensures.body (λ live before behind. subst (λ s. Knows live before s) (sym c.in_ok-read_on.ensures.state) behind) c.in_ok-read_on.ensures.stays still in
           more;
     }
 

@@ -10,7 +10,6 @@ returns-in-Ok-true g c = record {
   first = answered_first _ c.with_line.new.parser c.with_line.result c.with_line.ensures;
   stays = c.in-Ok-true.ensures.stays;
   further = search rules;
-  counted = search rules;
   accepted = search rules;
   hears = line_answered _ c.args.reader.now c.next_line.new.self c.args.number c.args.parser.now c.next_line.new.line.items (read_as c.with_line.new.parser c.with_line.result)
       (takes_line_at _ _ _ _ c.in-Ok-true.field-0 true c.in-Ok-true.field-0-test c.in-Ok-true.ensures.told)
@@ -23,7 +22,6 @@ returns-in-Ok-false g c = record {
   first = search rules;
   stays = c.in-Ok-false.ensures.stays;
   further = search rules;
-  counted = search rules;
   accepted = search rules;
   hears = no_line _ c.args.reader.now c.next_line.new.self c.args.number c.args.parser.now c.next_line.new.line.items (takes_line_at _ _ _ _ c.in-Ok-false.field-0 false c.in-Ok-false.field-0-test c.in-Ok-false.ensures.told);
 }

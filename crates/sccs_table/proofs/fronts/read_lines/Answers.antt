@@ -38,7 +38,6 @@ lines-preserved g c =
       later = search rules;
       name = search rules;
       limit = search rules;
-      counted = search rules;
       stays = stays_on begun here c.args.reader.now c.lines.reader c.next_line_parsed.new.reader file_is c.lines.invariant.stays c.in_ok-next_line_parsed.ensures.stays;
       ahead = omega (arith, c.in_ok-next_line_parsed.ensures.further, c.in_ok-next_line_parsed.ensures.frame.ahead);
       within = omega (arith, c.in_ok-next_line_parsed.ensures.further, c.in_ok-next_line_parsed.ensures.frame.ahead);

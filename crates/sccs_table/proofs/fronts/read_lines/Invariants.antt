@@ -16,7 +16,6 @@ invariant-lines g l = record {
   limit : l.reader.limit ≡ l.fn.reader.limit;
   ahead : l.fn.reader.place + l.number ≤ l.reader.place + 2;
   within : l.number ≤ 2 + l.fn.reader.limit;
-  counted : l.number + l.fn.reader.lines ≡ 2 + l.reader.lines;
   stays : Stays (bytes_in (seen (g.D.Disk.told l.fn.disk)) l.fn.reader.name) l.fn.reader l.reader;
   kept : Keeps l.parser;
   spelled : IsSpelledSoFar l.parser;

@@ -1,10 +1,8 @@
-use Rattle.std.proofs.Common.{◌∙◌, ap, arith, rules, subst}
-use Rattle.std.specs.Prelude.{not, ◌==◌}
+use Rattle.std.proofs.Common.{◌+◌, ◌%◌, ◌∙◌, ap, arith, rules}
+use Rattle.std.specs.Prelude.{not, sum, ◌==◌}
 use Rattle.std.proofs.lemmas.List.{get_or-set_other, get_or-set_same}
-use Rattle.std.proofs.lemmas.Nat.Bits.{bit_at-zero}
-use Rattle.sccs_table.specs.BlockCounts.{CountedTo}
 use Rattle.sccs_table.specs.Marks.{bit}
-use Rattle.sccs_table.proofs.MarkLaws.{marked_on, sohs_on}
+use Rattle.sccs_table.proofs.MarkLaws.{marked_on, sohs_on, sum_block}
 use Rattle.sccs_table.proofs.piece_marks.find_sohs.Goals as goal
 
 pub loop-n-preserved : goal.loop-n-preserved
@@ -19,18 +17,5 @@ loop-n-preserved c =
       above = λ k low. c.with_bit-marked.ensures.above k (omega arith) (old.above k (omega arith));
       long = search rules;
       end = search rules;
-      counted = c.with_block-count.ensures;
+      sum = sum_block c.args.piece.now n c.loop-n.total c.sum_with-total.result old.sum (c.sum_with-total.ensures ∙ ap (λ l. (c.loop-n.total + sum l) % 65536) c.lanes_of.ensures);
     }
-
-pub loop-n-init : goal.loop-n-init
-loop-n-init c = record {
-  marked = λ m low. absurd (omega (arith, low));
-  sohs = λ m low. absurd (omega (arith, low));
-  above = λ k low. bit_at-zero k;
-  long = search rules;
-  end = omega arith;
-  counted = c.new-count.ensures c.args.piece.now;
-}
-
-pub of_piece-requires-clause-all : goal.of_piece-requires-clause-all
-of_piece-requires-clause-all c = subst (CountedTo c.loop-n.count c.args.piece.now) (omega (arith, c.loop-n-test.false, c.loop-n.invariant.end)) c.loop-n.invariant.counted

@@ -1,6 +1,6 @@
-use Rattle.std.proofs.Common.{◌≡◌, ◌≤◌, ℕ, length}
+use Rattle.std.proofs.Common.{◌≡◌, ◌*◌, ◌≤◌, ◌%◌, ℕ, length, take}
+use Rattle.std.specs.Prelude.{sum}
 use Rattle.std.specs.Int.{bit_at}
-use Rattle.sccs_table.specs.BlockCounts.{CountedTo}
 use Rattle.sccs_table.specs.Marks.{AreMarked, AreSohs}
 use Rattle.sccs_table.proofs.piece_marks.find_sohs.Given as goal
 
@@ -12,5 +12,5 @@ invariant-loop-n l = record {
   above : (k : ℕ) → l.n ≤ k → bit_at l.marked k ≡ 0;
   long : length l.sohs ≡ 64;
   end : l.n ≤ 64;
-  counted : CountedTo l.count l.piece l.n;
+  sum : l.total ≡ sum (take (64 * l.n) l.piece) % 65536;
 }

@@ -8,7 +8,7 @@ use Rattle.sccs_body.proofs.body_readers.BodyReader.pass.Goals as goal
 
 pub returns-clause-behind : goal.returns-clause-behind
 returns-clause-behind c = λ live before behind.
-    let knows = seen_behind live before (record { lines = c.self.inside.lines; state = c.self.inside.state; number = c.self.inside.first + c.self.inside.lines.lines }) c.args.self.now c.self.view_is behind in
+    let knows = seen_behind live before (record { lines = c.self.inside.lines; state = c.self.inside.state; first = c.self.inside.first; from = c.self.inside.from }) c.args.self.now c.self.view_is behind in
     behind_texts live (cut (take c.args.count c.args.self.now.lines.held)).lines before c.self.inside.state knows
 
 pub returns-clause-told : goal.returns-clause-told

@@ -6,10 +6,10 @@ use Rattle.sccs_body.proofs.item_readers.ItemReader.next_behind.Goals as goal
 
 pub returns : goal.returns
 returns g c =
-    let here : ItemPlace = record { body = c.self.inside.body; from = c.self.inside.from; size = c.self.inside.size; sum = c.self.inside.sum } in
-    let gone : ItemPlace = record { body = c.next.new.self; from = c.self.inside.from; size = c.self.inside.size; sum = c.self.inside.sum } in
-    let kept : KeepsFile here gone = record { name = c.next.ensures.frame.name; limit = c.next.ensures.frame.limit; from = refl; size = refl; sum = refl } in
-    let begun = subst (λ (r : ItemPlace). r.from ≤ r.body.lines.place) (sym c.self.view_is) c.requires in
+    let here : ItemPlace = record { body = c.self.inside.body; size = c.self.inside.size; sum = c.self.inside.sum } in
+    let gone : ItemPlace = record { body = c.next.new.self; size = c.self.inside.size; sum = c.self.inside.sum } in
+    let kept : KeepsFile here gone = record { name = c.next.ensures.frame.name; limit = c.next.ensures.frame.limit; body = c.next.ensures.body; size = refl; sum = refl } in
+    let begun = subst (λ (r : ItemPlace). r.body.from ≤ r.body.lines.place) (sym c.self.view_is) c.requires in
     subst (λ r. ReadsNext g.D.Disk.told g.D.Disk.faults c.args.disk.now c.next.new.disk r gone c.next.result) c.self.view_is
     (record {
       frame = record { same = c.next.ensures.frame.same; later = c.next.ensures.frame.later; cause = c.next.ensures.frame.cause };

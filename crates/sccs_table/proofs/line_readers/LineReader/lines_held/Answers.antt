@@ -1,6 +1,5 @@
-use Rattle.std.proofs.Common.{arith, ap}
-use Rattle.sccs_table.specs.ReaderState.{ReaderState}
-use Rattle.sccs_table.proofs.CountLaws.{passed_lines}
+use Rattle.std.proofs.Common.{arith}
+use Rattle.sccs_table.proofs.CountLaws.{held_lines}
 use Rattle.sccs_table.proofs.line_readers.LineReader.lines_held.Goals as goal
 
 pub overflow_sub-result : goal.overflow_sub-result
@@ -9,8 +8,7 @@ overflow_sub-result c =
       arith,
       c.lines_before.ensures,
       c.lines_before-before.ensures,
-      ap (λ (s : ReaderState). s.lines) c.self.view_is,
-      passed_lines c.args.self.now c.self.inside.name c.self.inside.piece c.self.inside.start c.self.inside.end c.self.inside.place c.self.inside.limit c.self.inside.lines _ c.args.count c.self.view_is c.requires,
+      held_lines c.args.self.now c.self.inside.name c.self.inside.piece c.self.inside.start c.self.inside.end c.self.inside.place c.self.inside.limit _ c.args.count c.self.view_is c.requires,
     )
 
 pub returns : goal.returns
@@ -19,6 +17,5 @@ returns c =
       arith,
       c.lines_before.ensures,
       c.lines_before-before.ensures,
-      ap (λ (s : ReaderState). s.lines) c.self.view_is,
-      passed_lines c.args.self.now c.self.inside.name c.self.inside.piece c.self.inside.start c.self.inside.end c.self.inside.place c.self.inside.limit c.self.inside.lines _ c.args.count c.self.view_is c.requires,
+      held_lines c.args.self.now c.self.inside.name c.self.inside.piece c.self.inside.start c.self.inside.end c.self.inside.place c.self.inside.limit _ c.args.count c.self.view_is c.requires,
     )

@@ -20,7 +20,6 @@ pieces-preserved g c =
       name = search rules;
       limit = search rules;
       ahead = search rules;
-      counted = search rules;
       moved = later_place c.pieces.self c.take_held.new.self c.pieces.line.items c.take_held.new.line.items _ _ c.pieces.invariant.moved taken c.in-Ok-true-fill.ensures.place;
       none = line_without c.pieces.self c.take_held.new.self c.pieces.line.items c.take_held.new.line.items false c.pieces.invariant.none taken;
       going = going_on_by start here c.args.self.now c.pieces.self c.take_held.new.self c.fill.new.self c.pieces.line.items c.take_held.new.line.items true file_is c.pieces.invariant.going (c.in-Ok-false.ensures.limit, c.in-Ok-false.ensures.sum) taken (filled_at here c.take_held.new.self c.fill.new.self c.in-Ok-true-fill.field-0 true c.in-Ok-true-fill.field-0-test c.in-Ok-true-fill.ensures.told) c.in-Ok-true-fill.ensures.place;

@@ -14,7 +14,6 @@ invariant-pieces g l = record {
   limit : l.self.limit ≡ l.fn.self.limit;
   ahead : l.self.place + length l.self.held ≤ l.self.limit;
   moved : l.self.place ≡ l.fn.self.place + length l.line.items;
-  counted : l.self.lines ≡ l.fn.self.lines;
   none : HasNoLf l.line.items;
   going : Going (bytes_in (seen (g.D.Disk.told l.fn.disk)) l.fn.self.name) l.fn.self l.self l.line.items;
 }

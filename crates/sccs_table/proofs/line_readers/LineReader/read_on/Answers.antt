@@ -5,23 +5,18 @@ use Rattle.sccs_disk.specs.Told.{seen}
 use Rattle.sccs_table.specs.Runs.{lf_count}
 use Rattle.sccs_table.specs.ReaderState.{ReaderState}
 use Rattle.sccs_table.specs.SumOf.{IsPlainSumOf}
-use Rattle.sccs_table.proofs.CountLaws.{line_bound, no_lines}
+use Rattle.sccs_table.proofs.CountLaws.{no_lines}
 use Rattle.sccs_table.proofs.ReaderLaws.{no_lf_held, read_on_stays, sum_behind}
 use Rattle.sccs_table.proofs.line_readers.LineReader.read_on.Goals as goal
 
-pub overflow_add-self : goal.overflow_add-self
-overflow_add-self g c = omega (arith, c.lines_before.ensures, line_bound c.self.inside.piece c.self.inside.start, c.self.invariant.counted, c.self.invariant.ahead, c.self.invariant.limit)
-
 pub invariant_of-self : goal.invariant_of-self
 invariant_of-self g c =
-    let bound = line_bound c.self.inside.piece c.self.inside.start in
     let none = no_lf_held c.self.inside.piece c.self.inside.start c.self.inside.end c.self.inside.whole (omega (arith, c.if-self.false)) c.self.invariant.order c.self.invariant.rest in
     record {
       order = search rules;
       within = search rules;
       ahead = omega (arith, c.self.invariant.ahead);
       limit = search rules;
-      counted = omega (arith, bound, c.lines_before.ensures, c.self.invariant.counted);
       marks = c.read-total.ensures.marks;
       whole = search rules;
       rest = subst HasNoLf (sym (c.read_behind-read.ensures.front ∙ c.move_front.ensures.front)) none;
@@ -29,13 +24,11 @@ invariant_of-self g c =
 
 pub invariant_of-self-2 : goal.invariant_of-self-2
 invariant_of-self-2 g c =
-    let bound = line_bound c.self.inside.piece c.self.inside.start in
     record {
       order = search rules;
       within = omega (arith, c.in_ok-count.ensures.bound, c.self.invariant.within, c.self.invariant.order);
       ahead = omega (arith, c.in_ok-count.ensures.bound, c.self.invariant.ahead);
       limit = search rules;
-      counted = omega (arith, bound, c.lines_before.ensures, c.self.invariant.counted);
       marks = c.read-total.ensures.marks;
       whole = search rules;
       rest = c.whole_lines-self-inside.ensures.rest;
@@ -49,7 +42,7 @@ returns-clause-stays g c =
     let front_is = c.front_part.ensures ∙ ap (λ n. take (held + n) piece) c.saturating_sub-2.ensures in
     let added : (front : List ℕ) → IsPlainSumOf c.self.inside.sum front → IsPlainSumOf c.add_behind.new.self (front ++ drop (8 - (c.self.inside.place + held)) (take c.in_ok-count.count (drop held piece))) = λ front is. c.add_behind.ensures front (drop (8 - (c.self.inside.place + held)) (take c.in_ok-count.count (drop held piece)))
     (sum_behind piece held c.in_ok-count.count _ skip c.read-total.result c.in_ok-count.ensures.rest c.read-total.ensures.sum ∙ ap (λ bytes. (sum bytes + sum (drop skip (take c.in_ok-count.count (drop held piece)))) % 65536) (sym front_is)) is in
-    read_on_stays (seen (g.D.Disk.told c.args.disk.now)) c.args.self.now c.self.inside.name c.self.inside.piece piece c.self.inside.start c.self.inside.end c.self.inside.place c.self.inside.limit _ c.self.inside.sum _ c.add_behind.new.self c.in_ok-count.count c.min-room.result c.self.view_is c.self.invariant.order (search rules)
+    read_on_stays (seen (g.D.Disk.told c.args.disk.now)) c.args.self.now c.self.inside.name c.self.inside.piece piece c.self.inside.start c.self.inside.end c.self.inside.place c.self.inside.limit c.self.inside.sum c.add_behind.new.self c.in_ok-count.count c.min-room.result c.self.view_is c.self.invariant.order (search rules)
     (c.read_behind-read.ensures.front ∙ c.move_front.ensures.front) (omega (arith, c.in_ok-count.ensures.bound, length-drop held piece)) (omega arith) (omega (arith, c.self.invariant.ahead)) added c.in_ok-count.ensures.told
 
 pub returns-clause-more : goal.returns-clause-more

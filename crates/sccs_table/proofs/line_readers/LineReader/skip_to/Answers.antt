@@ -39,7 +39,6 @@ pieces-preserved g c =
       later = search rules;
       name = search rules;
       limit = search rules;
-      lines = search rules;
       ahead = search rules;
       onward = search rules;
       bound = search rules;

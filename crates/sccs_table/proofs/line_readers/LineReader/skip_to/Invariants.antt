@@ -10,7 +10,6 @@ invariant-pieces g l = record {
   later : g.D.Disk.faults l.fn.disk ≤ g.D.Disk.faults l.disk;
   name : l.self.name ≡ l.fn.self.name;
   limit : l.self.limit ≡ l.fn.self.limit;
-  lines : l.self.lines ≡ l.fn.self.lines;
   ahead : l.self.place + length l.self.held ≤ l.self.limit;
   onward : l.fn.self.place + length l.fn.self.held ≤ l.self.place + length l.self.held;
   bound : l.self.place + length l.self.held ≤ max l.fn.to (l.fn.self.place + length l.fn.self.held);
