@@ -14,7 +14,7 @@ use Rattle.sccs_history.specs.declared.headers.Item.{Item}
 use Rattle.sccs_table.specs.ReaderState.{bytes_in}
 use Rattle.sccs_table.specs.declared.fronts.Front.{Front}
 use Rattle.sccs_versions.specs.Coming.{IsBody, shown}
-use Rattle.sccs_delta.proofs.BaseLaws.{body_few, shown_texts, texts_long}
+use Rattle.sccs_copies.proofs.BaseLaws.{body_few, shown_texts, texts_long}
 use Rattle.sccs_sid.specs.Reading.{◌>>=◌}
 use Rattle.sccs_sid.specs.declared.refusals.Refusal.{Refusal}
 use Rattle.sccs_sid.specs.declared.refusals.Refusal.TheVariants as refusals
@@ -33,10 +33,10 @@ use Rattle.sccs_script.specs.declared.faults.ScriptFault.TheVariants as faults
 use Rattle.sccs_steps.specs.StepEffects.{check}
 use Rattle.sccs_pending.specs.PFiles.{Passes, is_short}
 use Rattle.sccs_delta.specs.DeltaStep.{compared, fitted, or_differs, or_script_fault}
-use Rattle.sccs_delta.specs.Examining.{Examines, FindsResult, first_difference, has_keyword, result_of}
+use Rattle.sccs_copies.specs.Examining.{Examines, FindsResult, first_difference, has_keyword, result_of}
 use Rattle.sccs_delta.specs.Preparing.{FindsBase, Fits, ReadsBase, judged}
 use Rattle.sccs_delta.specs.Versions.{IsOrdered}
-use Rattle.sccs_delta.specs.declared.examining.Found.{Found}
+use Rattle.sccs_copies.specs.declared.examining.Found.{Found}
 use Rattle.sccs_delta.proofs.LongerBases.{fits_longer, plan_longer}
 use Rattle.sccs_delta.proofs.PlanResults.{plan_applied}
 

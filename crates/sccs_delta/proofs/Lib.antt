@@ -1,11 +1,6 @@
 pub mod AddedVersions
 pub mod AgreeLaws
-pub mod AppendLaws
-pub mod BaseLaws
 pub mod Chains
-pub mod CheckLaws
-pub mod ComingItems
-pub mod CopyLaws
 pub mod DeltaReads
 pub mod DeltaStops
 pub mod EntryBases

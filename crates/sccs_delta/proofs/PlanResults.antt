@@ -10,7 +10,7 @@ use Rattle.sccs_edits.proofs.Selects.{select_woven}
 use Rattle.sccs_history.specs.Numbers.{front_if, has}
 use Rattle.sccs_history.specs.Body.{HistoryLine}
 use Rattle.sccs_history.specs.Select.{select, shows}
-use Rattle.sccs_delta.specs.Examining.{result_from, result_of}
+use Rattle.sccs_copies.specs.Examining.{result_from, result_of}
 
 -- the text as lines of one delta
 abbrev as_lines : List (List ℕ) → List HistoryLine

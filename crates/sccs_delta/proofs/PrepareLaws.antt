@@ -42,7 +42,7 @@ use Rattle.sccs_pending.proofs.PendingLaws.{shown_header}
 use Rattle.sccs_pending.proofs.StopLaws.{pending_answer}
 use Rattle.sccs_words.specs.declared.commands.DeltaWords.{DeltaWords}
 use Rattle.sccs_delta.specs.DeltaStep.{Entry, base_lines, delta_outcome, entry_of, fitted, makes_delta, mrs_checked, nulls_of, or_script_fault, sizes_checked}
-use Rattle.sccs_delta.specs.Examining.{has_keyword}
+use Rattle.sccs_copies.specs.Examining.{has_keyword}
 use Rattle.sccs_delta.specs.Preparing.{FindsAsked, FindsEntry}
 use Rattle.sccs_delta.specs.Writing.{MakesDelta, script_checked}
 use Rattle.sccs_delta.specs.declared.entries.Chosen.{Chosen}

@@ -25,10 +25,10 @@ use Rattle.sccs_pending.specs.PFiles.{Answers, Passes, is_short}
 use Rattle.sccs_words.specs.declared.commands.DeltaWords.{DeltaWords}
 use Rattle.sccs_delta.specs.DeltaStep.{Entry, base_lines, could_make, delta_checks, fitted, mrs_checked, nulls_of}
 use Rattle.sccs_pending.specs.Reports.{warning}
-use Rattle.sccs_delta.specs.Examining.{has_keyword}
+use Rattle.sccs_copies.specs.Examining.{has_keyword}
 use Rattle.sccs_delta.specs.Preparing.{Fits, FitsBy, script_fits}
 use Rattle.sccs_delta.specs.Writing.{MakesDelta, script_checked}
-use Rattle.sccs_delta.specs.declared.examining.Found.{Found}
+use Rattle.sccs_copies.specs.declared.examining.Found.{Found}
 use Rattle.sccs_delta.proofs.Chains.{answers_as, assoc, ends, goes}
 
 -- ---- over any disk

@@ -47,14 +47,14 @@ use Rattle.sccs_words.specs.declared.commands.DeltaWords.{DeltaWords}
 use Rattle.sccs_delta.specs.DeltaStep.{Entry, base_lines, counts_of, delta_of, delta_report, header_with, nulls_of}
 use Rattle.sccs_pending.specs.Reports.{warning}
 use Rattle.sccs_delta.specs.declared.entries.Base.{Base}
-use Rattle.sccs_delta.specs.declared.copies.Copying.{Copying}
+use Rattle.sccs_copies.specs.declared.copies.Copying.{Copying}
 use Rattle.sccs_delta.specs.declared.new_sfiles.NewSfile.{NewSfile}
 use Rattle.sccs_grammar.specs.FileRefusals.{file_fault}
 use Rattle.sccs_grammar.specs.declared.faults.FileFault.{FileFault}
 use Rattle.sccs_grammar.specs.declared.faults.FileFault.TheVariants as files
 use Rattle.sccs_history.specs.declared.headers.Header.{Header}
 use Rattle.sccs_history.specs.declared.headers.Item.{Item}
-use Rattle.sccs_delta.specs.Copies.{CopyComes, ItemsCome, MakesFile}
+use Rattle.sccs_copies.specs.Copies.{CopyComes, ItemsCome, MakesFile}
 use Rattle.sccs_delta.specs.Writing.{IsSfileOf, MakesDelta, MakesSfile, WritesDelta, WritesFiles, WritesX}
 
 pub x_written : (h : Header) (items : List Item) (n : List ℕ) (old new : Option View) (done : Unit {0}) → MakesFile h items n old new (Ok done) → WritesX h items n old new (Ok done)

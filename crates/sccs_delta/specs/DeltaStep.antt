@@ -56,7 +56,7 @@ use Rattle.sccs_steps.specs.Actions.{has_number}
 use Rattle.sccs_transactions.specs.Changes.{Changing}
 use Rattle.sccs_delta.specs.declared.entries.Base.{Base}
 use Rattle.std.specs.Str.{bytes_eq}
-use Rattle.sccs_delta.specs.Examining.{first_difference, has_keyword}
+use Rattle.sccs_copies.specs.Examining.{first_difference, has_keyword}
 
 -- the numbers of its checks
 abbrev pub delta_checks : List ℕ

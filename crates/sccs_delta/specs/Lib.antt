@@ -1,6 +1,4 @@
-pub mod Copies
 pub mod DeltaStep
-pub mod Examining
 pub mod Locks
 pub mod NewVersions
 pub mod NullDeltas

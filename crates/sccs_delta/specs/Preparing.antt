@@ -24,10 +24,10 @@ use Rattle.sccs_pfile.specs.declared.entries.Edit.{Edit}
 use Rattle.sccs_words.specs.declared.commands.DeltaWords.{DeltaWords}
 use Rattle.sccs_pending.specs.PFiles.{is_short}
 use Rattle.sccs_delta.specs.DeltaStep.{compared, entry_of, fitted, mrs_checked, or_differs, or_script_fault}
-use Rattle.sccs_delta.specs.Examining.{has_keyword}
+use Rattle.sccs_copies.specs.Examining.{has_keyword}
 use Rattle.sccs_delta.specs.declared.entries.Asked.{Asked}
 use Rattle.sccs_delta.specs.declared.entries.Chosen.{Chosen}
-use Rattle.sccs_delta.specs.declared.examining.Found.{Found}
+use Rattle.sccs_copies.specs.declared.examining.Found.{Found}
 
 -- an entry whose list names no live deltas disagrees
 abbrev pub list_fault : ℕ → SetFault → StepFault

@@ -30,7 +30,7 @@ ghost use Rattle.sccs_steps.specs.StepEffects.{StepEffect};
 ghost use Rattle.sccs_words.specs.declared.commands.DeltaWords.{DeltaWords};
 ghost use Rattle.sccs_delta.specs.DeltaStep.{base_of, delta_of, delta_outcome};
 ghost use Rattle.sccs_delta.specs.declared.entries.Base.{Base};
-ghost use Rattle.sccs_delta.specs.Examining.{result_of};
+ghost use Rattle.sccs_copies.specs.Examining.{result_of};
 ghost use Rattle.sccs_delta.specs.NewVersions.{MakesVersions};
 ghost use Rattle.sccs_delta.specs.Replays.{DeltaCall, IsDeltaCall, ReplaysVersions};
 ghost use Rattle.sccs_delta.specs.NullDeltas.{lines_with, null_deltas, serial_behind, skipped_by, with_nulls};

@@ -16,15 +16,15 @@ ghost use Rattle.sccs_sid.specs.declared.refusals.StepFault.TheVariants as fault
 ghost use Rattle.sccs_splicer.specs.Splices.{begun};
 ghost use Rattle.sccs_steps.specs.Actions.{RefusesWithin};
 ghost use Rattle.sccs_versions.specs.Coming.{IsBody};
-ghost use Rattle.sccs_delta.specs.Copies.{ItemsCome};
+ghost use Rattle.sccs_copies.specs.Copies.{ItemsCome};
 ghost use Rattle.sccs_delta.specs.DeltaStep.{counts_of, delta_checks};
 ghost use Rattle.sccs_delta.specs.Writing.{IsSfileOf, MakesSfile};
 
-use crate::copies::Copying;
 use crate::entries::{Base, Chosen};
 use crate::headers::{header_of, nulls_of};
 use crate::skipping::Sids;
 use sccs_base::{Memory, Name};
+use sccs_copies::Copying;
 use sccs_history::Header;
 use sccs_pfile::{Edit, Edits};
 use sccs_records::{Counts, newest};

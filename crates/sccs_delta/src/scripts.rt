@@ -19,8 +19,8 @@ ghost use Rattle.sccs_versions.specs.Coming.{IsBody};
 ghost use Rattle.sccs_delta.specs.DeltaStep.{delta_checks, has_text, mrs_checked, or_script_fault};
 ghost use Rattle.sccs_delta.specs.Preparing.{FitsBy, ReadsBase, judged, script_fits, script_refusal};
 
-use crate::examining::{Found, examine};
 use sccs_base::{FILE_LIMIT, Failed, Memory, Name, Words};
+use sccs_copies::{Found, examine};
 use sccs_disk::Disk;
 use sccs_flags::has_flag;
 use sccs_history::{Flag, Header};

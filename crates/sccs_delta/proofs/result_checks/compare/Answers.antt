@@ -1,9 +1,0 @@
-use Rattle.std.proofs.Common.{rules, subst}
-use Rattle.sccs_delta.proofs.CheckLaws.{Notes, compared_next}
-use Rattle.sccs_delta.proofs.result_checks.compare.Goals as goal
-
-pub returns-in-Ok-clause-told : goal.returns-in-Ok-clause-told
-returns-in-Ok-clause-told g c = λ file rest is comes.
-    compared_next file c.args.line.now c.next_line.new.line.items c.args.check.now c.next_line.new.check c.note_line.new.check rest c.in-Ok.there (search rules) c.in-Ok.ensures.number (c.in-Ok.ensures.told file rest is comes.left)
-    (subst (λ other. Notes c.next_line.new.check c.note_line.new.check c.args.line.now other c.in-Ok.there) c.as_slice.ensures.value
-    (record { lines = c.note_line.ensures.lines; over = c.note_line.ensures.over; more = c.note_line.ensures.more; other_one = c.note_line.ensures.other; none = c.note_line.ensures.none })) comes
