@@ -2,7 +2,7 @@
 use Rattle.std.proofs.Common.{◌≡◌, ℕ, ◌==◌, Bool, true, false, cond, List, [], ◌∷◌, ◌++◌, map, refl, sym, ap, ◌∙◌, append-nil, append_assoc}
 use Rattle.std.proofs.lemmas.Grind.{flat_map-append}
 use Rattle.sccs_base.specs.Cut.{before, closed, cut, text_of}
-use Rattle.sccs_grammar.specs.Written.{bytes_of, ended, item_line}
+use Rattle.sccs_tokens.specs.Written.{bytes_of, ended, item_line}
 use Rattle.sccs_history.specs.declared.headers.Item.{Item}
 use Rattle.sccs_history.specs.declared.headers.Item.TheVariants.{Text, Insert, End}
 use Rattle.sccs_table.proofs.RunLaws.{cut_joined}

@@ -18,7 +18,7 @@ use Rattle.sccs_history.specs.Select.{select}
 use Rattle.sccs_history.specs.declared.headers.Item.{Item}
 use Rattle.sccs_history.specs.declared.headers.Item.TheVariants.{Text, Insert, End}
 use Rattle.sccs_grammar.specs.File.{IsSFile}
-use Rattle.sccs_grammar.specs.Written.{HasLines, IsItem, canonical}
+use Rattle.sccs_tokens.specs.Written.{HasLines, IsItem, canonical}
 use Rattle.sccs_grammar.proofs.CanonicalLaws.{canonical_again}
 use Rattle.sccs_script.specs.Checks.{bad_line}
 use Rattle.sccs_words.specs.declared.commands.AdminWords.{AdminWords}

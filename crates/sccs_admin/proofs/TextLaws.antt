@@ -4,7 +4,7 @@ use Rattle.std.proofs.lemmas.Bool.{ne_eqb}
 use Rattle.sccs_table.proofs.RunLaws.{cut_joined}
 use Rattle.sccs_base.specs.Cut.{cut, closed, text_of, without_lf}
 use Rattle.sccs_sid.specs.SidLists.{begins}
-use Rattle.sccs_grammar.specs.Written.{bytes_of, ended}
+use Rattle.sccs_tokens.specs.Written.{bytes_of, ended}
 use Rattle.sccs_script.specs.Checks.{bad_line}
 use Rattle.sccs_admin.specs.Texts.{count_lines, counted, lacking}
 

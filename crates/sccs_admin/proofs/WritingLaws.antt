@@ -6,7 +6,7 @@ use Rattle.sccs_base.specs.Stream.{Rose}
 use Rattle.sccs_disk.specs.Told.{Told, seen}
 use Rattle.sccs_disk.specs.declared.disks.DiskRefusal.{DiskRefusal}
 use Rattle.sccs_disk.specs.declared.disks.DiskRefusal.TheVariants as fault
-use Rattle.sccs_grammar.specs.Written.{ended, sum_line}
+use Rattle.sccs_tokens.specs.Written.{ended, sum_line}
 use Rattle.sccs_history.specs.declared.headers.Header.{Header}
 use Rattle.sccs_table.specs.SumOf.{IsSumOf}
 use Rattle.sccs_writers.specs.HeaderBytes.{WritesHeader, header_bytes}

@@ -5,7 +5,7 @@ use Rattle.sccs_base.specs.Stream.{Rose}
 use Rattle.sccs_disk.specs.Told.{Told}
 use Rattle.sccs_disk.specs.declared.disks.DiskRefusal.{DiskRefusal}
 use Rattle.sccs_disk.specs.declared.disks.DiskRefusal.TheVariants as fault
-use Rattle.sccs_grammar.specs.Written.{bytes_of, item_line}
+use Rattle.sccs_tokens.specs.Written.{bytes_of, item_line}
 use Rattle.sccs_table.specs.SumOf.{IsSumOf}
 use Rattle.sccs_writers.specs.OneFile.{OnlyWrites}
 use Rattle.sccs_writers.specs.Puts.{Appends}

@@ -8,7 +8,7 @@ ghost use Rattle.sccs_disk.specs.Files.{put};
 ghost use Rattle.sccs_disk.specs.Images.{IsFirm};
 ghost use Rattle.sccs_disk.specs.Told.{seen};
 ghost use Rattle.sccs_files.specs.StepFiles.{Moves};
-ghost use Rattle.sccs_grammar.specs.Written.{ended, sum_line};
+ghost use Rattle.sccs_tokens.specs.Written.{ended, sum_line};
 ghost use Rattle.sccs_history.specs.History.{IsSpelled};
 ghost use Rattle.sccs_images.specs.Touches.{Leaves, TouchesOnly};
 ghost use Rattle.sccs_store.specs.Commits.{Becomes};

@@ -8,7 +8,7 @@ use Rattle.sccs_history.specs.Applied.{live_serials}
 use Rattle.sccs_history.specs.Body.{may_stand}
 use Rattle.sccs_history.specs.declared.headers.Item.{Item}
 use Rattle.sccs_history.specs.declared.headers.Item.TheVariants.{Text}
-use Rattle.sccs_grammar.specs.Items.{items_from}
+use Rattle.sccs_tokens.specs.Items.{items_from}
 use Rattle.sccs_grammar.specs.declared.faults.FileFault.{FileFault}
 use Rattle.sccs_grammar.specs.declared.faults.FileFault.TheVariants.{Missing, TooLong, NotSccs, BadSum, BadFormat, Encoded, Changed, Failed, Memory}
 use Rattle.sccs_marks.specs.States.{Knows}

@@ -8,7 +8,7 @@ use Rattle.sccs_disk.specs.Files.{View}
 use Rattle.sccs_sid.specs.Reading.{only}
 use Rattle.sccs_history.specs.Numbers.{is_empty}
 use Rattle.sccs_history.specs.Body.{may_stand, is_over}
-use Rattle.sccs_grammar.specs.Items.{IsWrittenItem, item_standing, item_read, item_at, items_from}
+use Rattle.sccs_tokens.specs.Items.{IsWrittenItem, item_standing, item_read, item_at, items_from}
 use Rattle.sccs_grammar.specs.declared.faults.FileFault.{FileFault}
 use Rattle.sccs_grammar.specs.declared.faults.FileFault.TheVariants.{Missing, TooLong, NotSccs, BadSum, BadFormat, Encoded, Changed, Failed, Memory}
 use Rattle.sccs_table.specs.ReaderState.{ReaderState, TakesLine, bytes_in, left}

@@ -5,8 +5,8 @@ use Rattle.sccs_sid.specs.Reading.{◌>>=◌}
 use Rattle.sccs_history.specs.Numbers.{is_empty}
 use Rattle.sccs_history.specs.Body.{GoesOn, is_over}
 use Rattle.sccs_history.specs.declared.headers.Item.{Item}
-use Rattle.sccs_grammar.specs.Items.{go_on, item_at, items_from}
-use Rattle.sccs_grammar.proofs.BodyLaws.{line_may}
+use Rattle.sccs_tokens.specs.Items.{go_on, item_at, items_from}
+use Rattle.sccs_tokens.proofs.BodyLaws.{line_may}
 
 over_both : (over empty : Bool) (n : ℕ) (items : List Item) → (if over && empty then Ok [] else Err n) ≡ Ok items → (over ≡ true) × (items ≡ [])
 over_both true true n items is = (refl, cc)

@@ -7,7 +7,7 @@ use Rattle.sccs_history.specs.Applied.{live_serials}
 use Rattle.sccs_history.specs.History.{is_encoded}
 use Rattle.sccs_grammar.specs.Front.{start}
 use Rattle.sccs_grammar.specs.File.{checked_front}
-use Rattle.sccs_grammar.specs.Items.{items_from}
+use Rattle.sccs_tokens.specs.Items.{items_from}
 use Rattle.sccs_grammar.specs.declared.faults.FileFault.{FileFault}
 use Rattle.sccs_grammar.specs.declared.faults.FileFault.TheVariants.{Encoded, Memory}
 use Rattle.sccs_table.specs.declared.fronts.Front.{Front}

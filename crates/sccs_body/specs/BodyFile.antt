@@ -4,7 +4,7 @@ use Rattle.sccs_base.specs.Cut.{cut}
 use Rattle.sccs_history.specs.Applied.{live_serials}
 use Rattle.sccs_history.specs.declared.headers.Item.{Item}
 use Rattle.sccs_grammar.specs.Front.{ParsedFront}
-use Rattle.sccs_grammar.specs.Items.{items_from}
+use Rattle.sccs_tokens.specs.Items.{items_from}
 use Rattle.sccs_grammar.specs.File.{Parsed, answer, checked_front, file_of}
 use Rattle.sccs_grammar.specs.declared.faults.FileFault.{FileFault}
 use Rattle.sccs_grammar.specs.declared.faults.FileFault.TheVariants.{BadFormat, Failed, Memory}

@@ -6,7 +6,7 @@ use Rattle.sccs_history.specs.declared.headers.Item.TheVariants.{Text}
 use Rattle.sccs_base.specs.declared.streams.Memory.{Memory}
 use Rattle.sccs_marks.specs.States.{Knows}
 use Rattle.sccs_marks.specs.declared.body_states.BodyState.{BodyState}
-use Rattle.sccs_grammar.specs.Items.{item_at, items_from}
+use Rattle.sccs_tokens.specs.Items.{item_at, items_from}
 use Rattle.sccs_grammar.specs.declared.faults.FileFault.{FileFault}
 use Rattle.sccs_grammar.specs.declared.faults.FileFault.TheVariants.{BadFormat, Failed}
 use Rattle.sccs_grammar.specs.declared.faults.FileFault.TheVariants as fault

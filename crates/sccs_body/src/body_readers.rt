@@ -1,7 +1,7 @@
 ghost use Rattle.std.specs.Prelude.{◌≡◌, ◌≢◌, ◌&&◌, ℕ, ◌+◌, ◌<◌, ◌≤◌, List, [], ◌∷◌, length, max, min, take, drop, true, Option, None, Some, IfOk, IfSome, OnOk, Ok, Err};
 ghost use Rattle.sccs_base.specs.Cut.{HasNoLf, cut};
 ghost use Rattle.sccs_disk.specs.Told.{seen};
-ghost use Rattle.sccs_grammar.specs.Items.{IsWrittenItem};
+ghost use Rattle.sccs_tokens.specs.Items.{IsWrittenItem};
 ghost use Rattle.sccs_history.specs.Numbers.{is_empty};
 ghost use Rattle.sccs_history.specs.Body.{is_over, may_stand};
 ghost use Rattle.sccs_history.specs.declared.headers.Item.TheVariants as items;
@@ -15,10 +15,11 @@ ghost use Rattle.sccs_body.specs.Reader.{KeepsBody, line_at};
 
 use sccs_base::{Failed, Memory};
 use sccs_disk::Disk;
-use sccs_grammar::{FileFault, read_item, written_item};
+use sccs_grammar::FileFault;
 use sccs_history::Item;
 use sccs_marks::BodyState;
 use sccs_table::LineReader;
+use sccs_tokens::{read_item, written_item};
 use std::alloc::Global;
 use std::marker::Model;
 

@@ -3,7 +3,7 @@ use Rattle.std.proofs.Common.{◌≡◌, ℕ, ◌≤◌, List, [], ◌++◌, Res
 use Rattle.sccs_base.specs.Stream.{Rose}
 use Rattle.sccs_disk.specs.Told.{Told, seen}
 use Rattle.sccs_disk.specs.declared.disks.DiskRefusal.{DiskRefusal}
-use Rattle.sccs_grammar.specs.Written.{ended, sum_line}
+use Rattle.sccs_tokens.specs.Written.{ended, sum_line}
 use Rattle.sccs_grammar.specs.declared.faults.FileFault.{FileFault}
 use Rattle.sccs_history.specs.declared.headers.Header.{Header}
 use Rattle.sccs_history.specs.declared.headers.Item.{Item}

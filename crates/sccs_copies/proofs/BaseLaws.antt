@@ -6,7 +6,7 @@ use Rattle.sccs_base.specs.Cut.{cut, text_of, closed}
 use Rattle.sccs_sid.specs.Reading.{◌>>=◌}
 use Rattle.sccs_grammar.specs.declared.faults.FileFault.{FileFault}
 use Rattle.sccs_grammar.specs.declared.faults.FileFault.TheVariants as faults
-use Rattle.sccs_grammar.specs.Items.{go_on, item_at, items_from}
+use Rattle.sccs_tokens.specs.Items.{go_on, item_at, items_from}
 use Rattle.sccs_history.specs.Numbers.{front_if, is_empty}
 use Rattle.sccs_history.specs.Body.{HistoryLine, is_over, line_at, lines_behind, lines_of}
 use Rattle.sccs_history.specs.Select.{select, shows}

@@ -11,7 +11,7 @@ use Rattle.sccs_disk.specs.declared.disks.DiskRefusal.TheVariants as refusals
 use Rattle.sccs_edits.specs.Places.{told_behind}
 use Rattle.sccs_grammar.specs.declared.faults.FileFault.{FileFault}
 use Rattle.sccs_grammar.specs.declared.faults.FileFault.TheVariants.{Failed, Memory}
-use Rattle.sccs_grammar.specs.Written.{ended, sum_line}
+use Rattle.sccs_tokens.specs.Written.{ended, sum_line}
 use Rattle.sccs_history.specs.declared.headers.Header.{Header}
 use Rattle.sccs_history.specs.declared.headers.Item.{Item}
 use Rattle.sccs_store.specs.Commits.{Becomes}

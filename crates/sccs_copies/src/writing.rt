@@ -7,7 +7,7 @@ ghost use Rattle.sccs_disk.specs.Calls.{IsThere};
 ghost use Rattle.sccs_disk.specs.Images.{IsFirm};
 ghost use Rattle.sccs_disk.specs.Told.{seen};
 ghost use Rattle.sccs_files.specs.StepFiles.{Moves};
-ghost use Rattle.sccs_grammar.specs.Written.{ended, sum_line};
+ghost use Rattle.sccs_tokens.specs.Written.{ended, sum_line};
 ghost use Rattle.sccs_grammar.specs.declared.faults.FileFault.TheVariants as faults;
 ghost use Rattle.sccs_history.specs.History.{IsSpelled};
 ghost use Rattle.sccs_history.specs.declared.headers.Item.{Item};

@@ -16,14 +16,14 @@ use Rattle.sccs_edits.specs.declared.scripts.Order.{Order}
 use Rattle.sccs_edits.proofs.Rules.{rules_spliced}
 use Rattle.sccs_grammar.specs.File.{IsSFile, Opened, Parsed, as_format, checked_front, file_of, opened, opened_by, opened_cut, stored, sum_holds, summed}
 use Rattle.sccs_grammar.specs.Front.{ParsedFront, front_from, header_of, is_whole, line_after, start}
-use Rattle.sccs_grammar.specs.Items.{go_on, item_at, item_of, item_read, item_standing, items_from}
-use Rattle.sccs_grammar.specs.Tokens.{behind_soh, control, token}
-use Rattle.sccs_grammar.specs.Written.{HasLines, IsItem, IsSerial, canonical}
+use Rattle.sccs_tokens.specs.Items.{go_on, item_at, item_of, item_read, item_standing, items_from}
+use Rattle.sccs_tokens.specs.Tokens.{behind_soh, control, token}
+use Rattle.sccs_tokens.specs.Written.{HasLines, IsItem, IsSerial, canonical}
 use Rattle.sccs_grammar.specs.declared.header_parsers.HeaderParser.{HeaderParser}
-use Rattle.sccs_grammar.specs.declared.line_tokens.LineToken.{LineToken}
-use Rattle.sccs_grammar.specs.declared.line_tokens.LineToken.TheVariants as tokens
+use Rattle.sccs_tokens.specs.declared.line_tokens.LineToken.{LineToken}
+use Rattle.sccs_tokens.specs.declared.line_tokens.LineToken.TheVariants as tokens
 use Rattle.sccs_grammar.proofs.CanonicalLaws.{canonical_again}
-use Rattle.sccs_grammar.proofs.TokenRules.{IsValidToken, control_keeps, each_of_kinds, token_well}
+use Rattle.sccs_tokens.proofs.TokenRules.{IsValidToken, control_keeps, each_of_kinds, token_well}
 use Rattle.sccs_history.specs.Applied.{live_serials, newest, serials_of}
 use Rattle.sccs_history.specs.Body.{GoesOn, above, is_closed, is_over, lines_of, mark, may_stand}
 use Rattle.sccs_history.specs.History.{IsHeader, IsRecord, IsSpelled, IsTable, is_encoded}

@@ -9,7 +9,7 @@ use Rattle.sccs_history.specs.Body.{GoesOn}
 use Rattle.sccs_history.specs.History.{IsHeader, IsSpelled, KeepsRules, is_encoded}
 use Rattle.sccs_grammar.specs.File.{Opened, Parsed, as_format, checked_front, file_of, opened, sum_holds, summed}
 use Rattle.sccs_grammar.specs.Front.{ParsedFront, front_from, start}
-use Rattle.sccs_grammar.specs.Items.{items_from}
+use Rattle.sccs_tokens.specs.Items.{items_from}
 use Rattle.sccs_grammar.specs.declared.faults.FileFault.{FileFault}
 use Rattle.sccs_grammar.proofs.ParserRules.{lines_keep_rules}
 use Rattle.sccs_grammar.proofs.SpelledParsers.{lines_spelled}

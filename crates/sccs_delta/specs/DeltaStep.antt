@@ -20,7 +20,7 @@ use Rattle.sccs_history.specs.declared.headers.Item.{Item}
 use Rattle.sccs_history.specs.declared.headers.Record.{Record}
 use Rattle.sccs_flags.specs.FlagValues.{flag_of, has_flag, is_locked, is_within_limits}
 use Rattle.sccs_flags.specs.Logins.{is_allowed}
-use Rattle.sccs_grammar.specs.Written.{ended}
+use Rattle.sccs_tokens.specs.Written.{ended}
 use Rattle.sccs_edits.specs.Places.{places}
 use Rattle.sccs_edits.specs.Plans.{added_count, plan}
 use Rattle.sccs_edits.specs.Scripts.{apply}

@@ -12,7 +12,7 @@ use Rattle.sccs_sid.specs.declared.refusals.StepFault.{StepFault}
 use Rattle.sccs_sid.specs.declared.refusals.StepFault.TheVariants.{Refused, Memory, ReadFault, WriteFault, DiskFault}
 use Rattle.sccs_base.specs.Stream.{GivesOk, GivesSome}
 use Rattle.sccs_files.specs.StepFiles.{Files}
-use Rattle.sccs_grammar.specs.Written.{ended}
+use Rattle.sccs_tokens.specs.Written.{ended}
 use Rattle.sccs_pfile.specs.declared.entries.Edit.{Edit}
 use Rattle.sccs_steps.specs.StepEffects.{Outcome, StepEffect, check}
 use Rattle.sccs_steps.specs.Actions.{Action, has_number}

@@ -1,5 +1,5 @@
 ghost use Rattle.std.specs.Prelude.{◌≡◌, ◌∷◌, ◌++◌, [], All, IfOk, OnOk};
-ghost use Rattle.sccs_grammar.specs.Written.{ended};
+ghost use Rattle.sccs_tokens.specs.Written.{ended};
 ghost use Rattle.sccs_pfile.specs.Entries.{IsEdit};
 ghost use Rattle.sccs_edit.specs.SactStep.{edit_line, edit_lines, none_text};
 ghost use Rattle.sccs_pending.specs.Reports.{heading_text};

@@ -16,7 +16,7 @@ use Rattle.sccs_history.specs.declared.headers.Header.{Header}
 use Rattle.sccs_history.proofs.LinearTables.{version_linear_body, undeleted_all}
 use Rattle.sccs_flags.specs.FlagValues.{has_flag}
 use Rattle.sccs_grammar.specs.File.{Parsed, answer, file_of}
-use Rattle.sccs_grammar.specs.Written.{bytes_of}
+use Rattle.sccs_tokens.specs.Written.{bytes_of}
 use Rattle.sccs_body.proofs.FileLaws.{file_body}
 use Rattle.sccs_sets.specs.Flags.{default_of}
 use Rattle.sccs_sets.specs.Retrieved.{retrieved}

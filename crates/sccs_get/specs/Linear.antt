@@ -3,7 +3,7 @@ use Rattle.std.specs.Prelude.{◌≡◌, ℕ, Bool, true, false, List, None, Som
 use Rattle.sccs_history.specs.Numbers.{is_empty}
 use Rattle.sccs_history.specs.Linear.{IsLinear}
 use Rattle.sccs_grammar.specs.File.{Parsed}
-use Rattle.sccs_grammar.specs.Written.{bytes_of}
+use Rattle.sccs_tokens.specs.Written.{bytes_of}
 use Rattle.sccs_files.specs.StepFiles.{Files}
 use Rattle.sccs_steps.specs.StepEffects.{StepEffect}
 use Rattle.sccs_get.specs.Giving.{printed}

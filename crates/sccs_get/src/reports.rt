@@ -1,6 +1,6 @@
 ghost use Rattle.std.specs.Prelude.{◌≡◌, ◌++◌, IfOk, OnOk, codes};
 ghost use Rattle.std.specs.Option.{option_copied};
-ghost use Rattle.sccs_grammar.specs.Written.{ended};
+ghost use Rattle.sccs_tokens.specs.Written.{ended};
 ghost use Rattle.sccs_sid.specs.Sid.{sid_text};
 ghost use Rattle.sccs_get.specs.VersionStep.{report_on};
 ghost use Rattle.sccs_get.specs.Reports.{get_report, get_warning, lines_text, listed_text, made_text, replaces, said_on_err, said_on_out, sid_lines};

@@ -9,15 +9,15 @@ use Rattle.sccs_history.specs.History.{IsHeader, IsSpelled, is_encoded}
 use Rattle.sccs_history.specs.declared.headers.Header.{Header}
 use Rattle.sccs_history.specs.declared.headers.Item.{Item}
 use Rattle.sccs_grammar.specs.Front.{ParsedFront, start, front_from}
-use Rattle.sccs_grammar.specs.Items.{items_from}
-use Rattle.sccs_grammar.specs.Sums.{plain_sum}
+use Rattle.sccs_tokens.specs.Items.{items_from}
+use Rattle.sccs_tokens.specs.Sums.{plain_sum}
 use Rattle.sccs_grammar.specs.File.{Opened, stored, opened, opened_cut, checked_front, file_of, IsSFile}
-use Rattle.sccs_grammar.specs.Written.{sum_line, ended, IsItem, HasLines, item_line, header_lines, bytes_behind, canonical}
-use Rattle.sccs_grammar.proofs.TokenLaws.{five_again}
-use Rattle.sccs_grammar.proofs.CutLaws.{cut_line, cut-bytes_of}
-use Rattle.sccs_grammar.proofs.BodyLaws.{items_again}
+use Rattle.sccs_tokens.specs.Written.{sum_line, ended, IsItem, HasLines, item_line, header_lines, bytes_behind, canonical}
+use Rattle.sccs_tokens.proofs.TokenLaws.{five_again}
+use Rattle.sccs_tokens.proofs.CutLaws.{cut_line, cut-bytes_of}
+use Rattle.sccs_tokens.proofs.BodyLaws.{items_again}
 use Rattle.sccs_grammar.proofs.HeaderLaws.{header_again}
-use Rattle.sccs_grammar.proofs.LineLaws.{sum_line_ends, lines_end}
+use Rattle.sccs_tokens.proofs.LineLaws.{sum_line_ends, lines_end}
 
 -- ---- the sum line
 

@@ -8,14 +8,14 @@ use Rattle.sccs_history.specs.Applied.{serials_of}
 use Rattle.sccs_history.specs.History.{NamesSmaller, IsRecord, HasSpelling, same_sid, lives, has_own_sids}
 use Rattle.sccs_history.specs.declared.headers.Record.{Record}
 use Rattle.sccs_grammar.specs.Front.{at_table, at_lists, with_include, with_exclude, with_ignore, parser_at, table_alone, none_seen, entry, all_below, least, may_follow, dangling_predecessor, front_from}
-use Rattle.sccs_grammar.specs.Written.{IsSerial, counts_line, delta_line, delta_part, list_lines, mr_line, comment_line, end_line, entry_lines, table_lines}
+use Rattle.sccs_tokens.specs.Written.{IsSerial, counts_line, delta_line, delta_part, list_lines, mr_line, comment_line, end_line, entry_lines, table_lines}
 use Rattle.sccs_grammar.specs.declared.header_parsers.Entry.{Entry}
 use Rattle.sccs_grammar.specs.declared.header_parsers.ListsSeen.{ListsSeen}
 use Rattle.sccs_grammar.specs.Entries.{Entries, with_entry}
 use Rattle.sccs_grammar.specs.declared.header_parsers.HeaderState.TheVariants.{AtDelta}
-use Rattle.sccs_grammar.specs.declared.line_tokens.LineToken.TheVariants.{Counts, Delta}
-use Rattle.sccs_grammar.proofs.TokenLaws.{token_counts}
-use Rattle.sccs_grammar.proofs.DeltaLaws.{token_delta}
+use Rattle.sccs_tokens.specs.declared.line_tokens.LineToken.TheVariants.{Counts, Delta}
+use Rattle.sccs_tokens.proofs.TokenLaws.{token_counts}
+use Rattle.sccs_tokens.proofs.DeltaLaws.{token_delta}
 use Rattle.sccs_grammar.proofs.SectionLaws.{says, include_again, exclude_again, ignore_again, texts_behind}
 
 -- ---- lists that share nothing

@@ -6,7 +6,7 @@ use Rattle.sccs_history.specs.Body.{is_over}
 use Rattle.sccs_history.specs.declared.headers.Item.{Item}
 use Rattle.sccs_grammar.specs.declared.header_parsers.HeaderParser.{HeaderParser}
 use Rattle.sccs_grammar.specs.Front.{ParsedFront, header_of, is_whole, line_after, front_from}
-use Rattle.sccs_grammar.specs.Items.{item_at, go_on, items_from}
+use Rattle.sccs_tokens.specs.Items.{item_at, go_on, items_from}
 
 -- where reading goes on behind a line
 abbrev step : Bool → ℕ → HeaderParser → List (List ℕ) → Result ParsedFront ℕ

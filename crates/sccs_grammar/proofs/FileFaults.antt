@@ -7,9 +7,9 @@ use Rattle.sccs_history.specs.History.{is_encoded}
 use Rattle.sccs_history.specs.declared.headers.Header.{Header}
 use Rattle.sccs_history.specs.declared.headers.Item.{Item}
 use Rattle.sccs_grammar.specs.Front.{start, front_from}
-use Rattle.sccs_grammar.specs.Items.{items_from}
+use Rattle.sccs_tokens.specs.Items.{items_from}
 use Rattle.sccs_grammar.specs.File.{Opened, Parsed, answer, as_format, checked_front, file_of, not_encoded, opened, opened_by, opened_cut, stored, sum_holds, summed, within_limit}
-use Rattle.sccs_grammar.specs.Sums.{plain_sum}
+use Rattle.sccs_tokens.specs.Sums.{plain_sum}
 use Rattle.sccs_grammar.specs.FileRefusals.{refusal_of}
 use Rattle.sccs_grammar.specs.declared.faults.FileFault.{FileFault}
 use Rattle.sccs_grammar.specs.declared.faults.FileFault.TheVariants.{TooLong, BadSum, Encoded}

@@ -4,11 +4,11 @@ use Rattle.sccs_history.specs.History.{IsHeader, IsSpelled}
 use Rattle.sccs_history.specs.declared.headers.Record.{Record}
 use Rattle.sccs_history.specs.declared.headers.Flag.{Flag}
 use Rattle.sccs_history.specs.declared.headers.Header.{Header}
-use Rattle.sccs_grammar.specs.Tokens.{token, control}
+use Rattle.sccs_tokens.specs.Tokens.{token, control}
 use Rattle.sccs_grammar.specs.Front.{start, at_table, at_users, at_flags, at_description, line_after, front_from}
-use Rattle.sccs_grammar.specs.Written.{flag_line, mark, header_lines}
+use Rattle.sccs_tokens.specs.Written.{flag_line, mark, header_lines}
 use Rattle.sccs_grammar.specs.Entries.{Entries}
-use Rattle.sccs_grammar.specs.declared.line_tokens.LineToken.TheVariants.{Users, EndUsers, Description, EndDescription}
+use Rattle.sccs_tokens.specs.declared.line_tokens.LineToken.TheVariants.{Users, EndUsers, Description, EndDescription}
 use Rattle.sccs_grammar.proofs.SectionLaws.{says, users_again, flags_again, description_again}
 use Rattle.sccs_grammar.proofs.EntryLaws.{none_lost, whole_table}
 

@@ -14,7 +14,7 @@ use Rattle.sccs_history.specs.History.{AreBare, NamesSmaller, IsRecord, IsTable,
 use Rattle.sccs_history.specs.declared.headers.Record.{Record}
 use Rattle.sccs_history.specs.declared.headers.Flag.{Flag}
 use Rattle.sccs_grammar.specs.Front.{ParsedFront, header_of, start, least, may_follow, dangling_predecessor, all_below, flag_fits, if_fits, in_texts, with_list, in_lists, ends_table, at_entry, at_delta, in_users, in_flags, in_description, after, accepted, line_after, is_whole, front_from}
-use Rattle.sccs_grammar.specs.Tokens.{token}
+use Rattle.sccs_tokens.specs.Tokens.{token}
 use Rattle.sccs_grammar.specs.declared.header_parsers.Entry.{Entry}
 use Rattle.sccs_grammar.specs.declared.header_parsers.ListsSeen.{ListsSeen}
 use Rattle.sccs_grammar.specs.Entries.{Entries, with_entry}
@@ -22,14 +22,14 @@ use Rattle.sccs_grammar.specs.declared.header_parsers.PartialHeader.{PartialHead
 use Rattle.sccs_grammar.specs.declared.header_parsers.HeaderState.{HeaderState}
 use Rattle.sccs_grammar.specs.declared.header_parsers.HeaderState.TheVariants.{AtEntry, AtDelta, InLists, InTexts, InUsers, InFlags, InDescription, AtBody}
 use Rattle.sccs_grammar.specs.declared.header_parsers.HeaderParser.{HeaderParser}
-use Rattle.sccs_grammar.specs.declared.line_tokens.LineToken.{LineToken}
-use Rattle.sccs_grammar.specs.declared.line_tokens.LineToken.TheVariants.{Counts, Delta, Listed, Mr, Comment, EndEntry, Users, EndUsers, FlagIs, Description, EndDescription, Plain}
-use Rattle.sccs_grammar.specs.declared.line_tokens.ListKind.{ListKind}
-use Rattle.sccs_grammar.specs.declared.line_tokens.ListKind.TheVariants.{Included, Excluded, Ignored}
+use Rattle.sccs_tokens.specs.declared.line_tokens.LineToken.{LineToken}
+use Rattle.sccs_tokens.specs.declared.line_tokens.LineToken.TheVariants.{Counts, Delta, Listed, Mr, Comment, EndEntry, Users, EndUsers, FlagIs, Description, EndDescription, Plain}
+use Rattle.sccs_tokens.specs.declared.line_tokens.ListKind.{ListKind}
+use Rattle.sccs_tokens.specs.declared.line_tokens.ListKind.TheVariants.{Included, Excluded, Ignored}
 use Rattle.sccs_grammar.proofs.EntryLaws.{share_flip, flip_sids}
 use Rattle.sccs_grammar.proofs.SectionLaws.{any-push}
 use Rattle.sccs_grammar.proofs.LinesKeep.{Kept, lines_keep}
-use Rattle.sccs_grammar.proofs.TokenRules.{IsValidToken, token_well}
+use Rattle.sccs_tokens.proofs.TokenRules.{IsValidToken, token_well}
 
 -- ---- what is kept
 

@@ -15,16 +15,16 @@ use Rattle.sccs_history.specs.declared.headers.Record.{Record}
 use Rattle.sccs_history.specs.declared.headers.Item.{Item}
 use Rattle.sccs_history.specs.declared.headers.Item.TheVariants as item
 use Rattle.sccs_sid.specs.Words.{ends_blank, skip_blanks, drop_blanks, words, three}
-use Rattle.sccs_grammar.specs.Tokens.{serial, predecessor, delta_of, counts, serials, listed, serial_field, control, token}
+use Rattle.sccs_tokens.specs.Tokens.{serial, predecessor, delta_of, counts, serials, listed, serial_field, control, token}
 use Rattle.sccs_grammar.specs.Front.{ParsedFront, dangling_predecessor, line_after, front_from}
-use Rattle.sccs_grammar.specs.Items.{item_at, items_from}
+use Rattle.sccs_tokens.specs.Items.{item_at, items_from}
 use Rattle.sccs_grammar.specs.File.{Parsed, stored, opened, checked_front, front_of, file_of}
-use Rattle.sccs_grammar.specs.Written.{bytes_of, sum_line}
+use Rattle.sccs_tokens.specs.Written.{bytes_of, sum_line}
 use Rattle.sccs_grammar.specs.declared.faults.FileFault.{FileFault}
 use Rattle.sccs_grammar.specs.declared.faults.FileFault.TheVariants.{NotSccs, BadSum, BadFormat, Encoded}
-use Rattle.sccs_grammar.specs.declared.line_tokens.LineToken.{LineToken}
-use Rattle.sccs_grammar.specs.declared.line_tokens.LineToken.TheVariants.{Counts, Delta, Listed, Mr, Comment, FlagIs, Insert, Plain}
-use Rattle.sccs_grammar.specs.declared.line_tokens.ListKind.TheVariants.{Included, Excluded, Ignored}
+use Rattle.sccs_tokens.specs.declared.line_tokens.LineToken.{LineToken}
+use Rattle.sccs_tokens.specs.declared.line_tokens.LineToken.TheVariants.{Counts, Delta, Listed, Mr, Comment, FlagIs, Insert, Plain}
+use Rattle.sccs_tokens.specs.declared.line_tokens.ListKind.TheVariants.{Included, Excluded, Ignored}
 use Rattle.sccs_grammar.proofs.Samples.{with_sum, at_line, empty_delta, two_lines, second_delta, branched}
 
 -- the items of a file, or its fault

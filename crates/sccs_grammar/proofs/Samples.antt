@@ -1,8 +1,8 @@
 -- Sample files, as lists of lines, and changes of such lists.
 use Rattle.std.proofs.Common.{ℕ, ◌-◌, List, [], ◌∷◌, ◌++◌, take, drop}
 use Rattle.std.specs.Prelude.{codes}
-use Rattle.sccs_grammar.specs.Sums.{plain_sum}
-use Rattle.sccs_grammar.specs.Written.{bytes_of, sum_line}
+use Rattle.sccs_tokens.specs.Sums.{plain_sum}
+use Rattle.sccs_tokens.specs.Written.{bytes_of, sum_line}
 
 -- lines with the sum line that fits them
 abbrev pub with_sum : List (List ℕ) → List (List ℕ)

@@ -6,17 +6,17 @@ use Rattle.std.proofs.lemmas.Bool.{and_parts, or_parts, or_from, not-true, ne_eq
 use Rattle.sccs_history.specs.Numbers.{is_empty, share}
 use Rattle.sccs_history.specs.History.{AreBare, IsFlag, has_own_letters, is_new}
 use Rattle.sccs_history.specs.declared.headers.Flag.{Flag}
-use Rattle.sccs_grammar.specs.Tokens.{token, control}
+use Rattle.sccs_tokens.specs.Tokens.{token, control}
 use Rattle.sccs_grammar.specs.Front.{at_table, at_lists, at_texts, at_users, at_flags, at_description, with_mr, with_comment, with_mrs, with_comments, with_include, with_exclude, with_ignore, all_below, after, accepted, is_whole, line_after, front_from}
-use Rattle.sccs_grammar.specs.Written.{end_line, IsSerial, spaced, list_lines, mr_line, comment_line, flag_line}
+use Rattle.sccs_tokens.specs.Written.{end_line, IsSerial, spaced, list_lines, mr_line, comment_line, flag_line}
 use Rattle.sccs_grammar.specs.declared.header_parsers.Entry.{Entry}
 use Rattle.sccs_grammar.specs.declared.header_parsers.ListsSeen.{ListsSeen}
 use Rattle.sccs_grammar.specs.Entries.{Entries, with_entry}
 use Rattle.sccs_grammar.specs.declared.header_parsers.HeaderParser.{HeaderParser}
-use Rattle.sccs_grammar.specs.declared.line_tokens.LineToken.{LineToken}
-use Rattle.sccs_grammar.specs.declared.line_tokens.LineToken.TheVariants.{Plain, FlagIs, Mr, Comment, EndEntry, Listed}
-use Rattle.sccs_grammar.specs.declared.line_tokens.ListKind.TheVariants.{Included, Excluded, Ignored}
-use Rattle.sccs_grammar.proofs.TokenLaws.{token_plain, token_mr, token_comment, token_flag, token_include, token_exclude, token_ignore}
+use Rattle.sccs_tokens.specs.declared.line_tokens.LineToken.{LineToken}
+use Rattle.sccs_tokens.specs.declared.line_tokens.LineToken.TheVariants.{Plain, FlagIs, Mr, Comment, EndEntry, Listed}
+use Rattle.sccs_tokens.specs.declared.line_tokens.ListKind.TheVariants.{Included, Excluded, Ignored}
+use Rattle.sccs_tokens.proofs.TokenLaws.{token_plain, token_mr, token_comment, token_flag, token_include, token_exclude, token_ignore}
 
 -- where reading goes on after a line
 pub go_on : (n : ℕ) (r s : HeaderParser) (line : List ℕ) (lines : List (List ℕ)) → line_after n r line ≡ Ok s → is_whole s.state ≡ false → front_from n r (line ∷ lines) ≡ front_from (suc n) s lines

@@ -16,7 +16,7 @@ use Rattle.sccs_history.specs.Numbers.{is_empty}
 use Rattle.sccs_history.specs.History.{AreLines, HasSpelling, IsSpelled}
 use Rattle.sccs_history.specs.declared.headers.Record.{Record}
 use Rattle.sccs_history.specs.declared.headers.Flag.{Flag}
-use Rattle.sccs_grammar.specs.Tokens.{serial, predecessor, is_removed, delta_of, delta, counts, listed, text, flag, behind_soh, token}
+use Rattle.sccs_tokens.specs.Tokens.{serial, predecessor, is_removed, delta_of, delta, counts, listed, text, flag, behind_soh, token}
 use Rattle.sccs_grammar.specs.Front.{ParsedFront, header_of, start, if_fits, in_texts, in_lists, ends_table, at_entry, at_delta, in_users, in_flags, in_description, after, accepted, line_after, front_from}
 use Rattle.sccs_grammar.specs.declared.header_parsers.Entry.{Entry}
 use Rattle.sccs_grammar.specs.declared.header_parsers.ListsSeen.{ListsSeen}
@@ -24,14 +24,14 @@ use Rattle.sccs_grammar.specs.declared.header_parsers.HeaderState.{HeaderState}
 use Rattle.sccs_grammar.specs.declared.header_parsers.HeaderState.TheVariants.{AtEntry, AtDelta, InLists, InTexts, InUsers, InFlags, InDescription, AtBody}
 use Rattle.sccs_grammar.specs.declared.header_parsers.PartialHeader.{PartialHeader}
 use Rattle.sccs_grammar.specs.declared.header_parsers.HeaderParser.{HeaderParser}
-use Rattle.sccs_grammar.specs.declared.line_tokens.LineToken.{LineToken}
-use Rattle.sccs_grammar.specs.declared.line_tokens.LineToken.TheVariants.{Counts, Delta, Listed, Mr, Comment, EndEntry, Users, EndUsers, FlagIs, Description, EndDescription, Plain}
-use Rattle.sccs_grammar.specs.declared.line_tokens.ListKind.{ListKind}
-use Rattle.sccs_grammar.specs.declared.line_tokens.ListKind.TheVariants.{Included, Excluded, Ignored}
+use Rattle.sccs_tokens.specs.declared.line_tokens.LineToken.{LineToken}
+use Rattle.sccs_tokens.specs.declared.line_tokens.LineToken.TheVariants.{Counts, Delta, Listed, Mr, Comment, EndEntry, Users, EndUsers, FlagIs, Description, EndDescription, Plain}
+use Rattle.sccs_tokens.specs.declared.line_tokens.ListKind.{ListKind}
+use Rattle.sccs_tokens.specs.declared.line_tokens.ListKind.TheVariants.{Included, Excluded, Ignored}
 use Rattle.sccs_grammar.proofs.LinesKeep.{Kept, lines_keep}
-use Rattle.sccs_grammar.proofs.NoLf.{NoLf, no_lf_skip, no_lf_drop}
+use Rattle.sccs_tokens.proofs.NoLf.{NoLf, no_lf_skip, no_lf_drop}
 use Rattle.sccs_grammar.proofs.ParserRules.{all_push}
-use Rattle.sccs_grammar.proofs.TokenRules.{EachKeeps, control_keeps, then_some, then_any, only_so, found_so}
+use Rattle.sccs_tokens.proofs.TokenRules.{EachKeeps, control_keeps, then_some, then_any, only_so, found_so}
 use Rattle.sccs_grammar.proofs.SpellingRules.{sid_is, moment_is}
 
 -- ---- one line

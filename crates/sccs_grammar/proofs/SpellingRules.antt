@@ -10,7 +10,7 @@ use Rattle.sccs_sid.specs.Sid.{IsSid, ended, numbers_after, numbers, sid_of_numb
 use Rattle.sccs_sid.specs.Moment.{IsMoment, full_year, within, unit, date_of, time_of, moment_of}
 use Rattle.sccs_sid.proofs.Hundred.{second_in}
 use Rattle.sccs_grammar.proofs.ParserRules.{all_push}
-use Rattle.sccs_grammar.proofs.TokenRules.{digits_small}
+use Rattle.sccs_tokens.proofs.TokenRules.{digits_small}
 
 -- ---- steps of reading
 

@@ -7,8 +7,8 @@ use Rattle.sccs_history.specs.History.{is_encoded}
 use Rattle.sccs_history.specs.declared.headers.Header.{Header}
 use Rattle.sccs_history.specs.declared.headers.Item.{Item}
 use Rattle.sccs_grammar.specs.Front.{ParsedFront, start, front_from}
-use Rattle.sccs_grammar.specs.Items.{items_from}
-use Rattle.sccs_grammar.specs.Sums.{plain_sum, signed_sum}
+use Rattle.sccs_tokens.specs.Items.{items_from}
+use Rattle.sccs_tokens.specs.Sums.{plain_sum, signed_sum}
 use Rattle.sccs_grammar.specs.declared.faults.FileFault.{FileFault}
 use Rattle.sccs_grammar.specs.declared.faults.FileFault.TheVariants.{Missing, TooLong, NotSccs, BadSum, BadFormat, Encoded}
 

@@ -10,7 +10,7 @@ use Rattle.sccs_history.specs.declared.headers.Record.{Record}
 use Rattle.sccs_history.specs.declared.headers.Flag.{Flag}
 use Rattle.sccs_history.specs.declared.headers.Header.{Header}
 use Rattle.sccs_grammar.specs.Entries.{Entries, no_entries, with_entry}
-use Rattle.sccs_grammar.specs.Tokens.{token}
+use Rattle.sccs_tokens.specs.Tokens.{token}
 use Rattle.sccs_grammar.specs.declared.header_parsers.FrontFault.{FrontFault}
 use Rattle.sccs_grammar.specs.declared.header_parsers.FrontFault.TheVariants.{Format, Memory}
 use Rattle.sccs_grammar.specs.declared.header_parsers.Entry.{Entry}
@@ -19,10 +19,10 @@ use Rattle.sccs_grammar.specs.declared.header_parsers.PartialHeader.{PartialHead
 use Rattle.sccs_grammar.specs.declared.header_parsers.HeaderState.{HeaderState}
 use Rattle.sccs_grammar.specs.declared.header_parsers.HeaderState.TheVariants.{AtEntry, AtDelta, InLists, InTexts, InUsers, InFlags, InDescription, AtBody}
 use Rattle.sccs_grammar.specs.declared.header_parsers.HeaderParser.{HeaderParser}
-use Rattle.sccs_grammar.specs.declared.line_tokens.LineToken.{LineToken}
-use Rattle.sccs_grammar.specs.declared.line_tokens.LineToken.TheVariants.{Counts, Delta, Listed, Mr, Comment, EndEntry, Users, EndUsers, FlagIs, Description, EndDescription, Plain}
-use Rattle.sccs_grammar.specs.declared.line_tokens.ListKind.{ListKind}
-use Rattle.sccs_grammar.specs.declared.line_tokens.ListKind.TheVariants.{Included, Excluded, Ignored}
+use Rattle.sccs_tokens.specs.declared.line_tokens.LineToken.{LineToken}
+use Rattle.sccs_tokens.specs.declared.line_tokens.LineToken.TheVariants.{Counts, Delta, Listed, Mr, Comment, EndEntry, Users, EndUsers, FlagIs, Description, EndDescription, Plain}
+use Rattle.sccs_tokens.specs.declared.line_tokens.ListKind.{ListKind}
+use Rattle.sccs_tokens.specs.declared.line_tokens.ListKind.TheVariants.{Included, Excluded, Ignored}
 
 abbrev pub header_of : HeaderParser → Header
 header_of r = record { records = r.parts.table.records; users = r.parts.users; flags = r.parts.flags; description = r.parts.description }

@@ -3,8 +3,4 @@ pub mod File
 pub mod FileRefusals
 pub mod Front
 pub mod HeldTable
-pub mod Items
-pub mod Tokens
 pub mod SidKeys
-pub mod Sums
-pub mod Written

@@ -3,15 +3,14 @@ ghost use Rattle.std.specs.Prelude.{◌≡◌, Ok, Err, [], ◌∷◌, ◌++◌,
 ghost use Rattle.sccs_grammar.specs.Entries.{with_entry as with_entry_spec};
 ghost use Rattle.sccs_grammar.specs.Front.{Accepts, AcceptsAt, AcceptsIn, after, at_delta, at_entry, ends_table, in_description, in_flags, in_lists, in_texts, in_users, list_fits, dangling_predecessor, new_flag, put_list, parser_at, seen_with, with_comment, with_list, with_mr};
 
-use crate::boxed_records::BoxedRecord;
 use crate::header_parsers::{
     Entry, FrontFault, HeaderParser, HeaderState, ListsSeen, PartialHeader,
 };
-use crate::line_tokens::{LineToken, ListKind};
 use crate::table_tests::{all_below, flag_fits, is_new, share};
 use crate::tables::{Table, with_entry};
 use sccs_base::{Line, Text};
 use sccs_history::{Flag, Serials};
+use sccs_tokens::{BoxedRecord, LineToken, ListKind};
 use std::alloc::Global;
 use std::mem::replace;
 

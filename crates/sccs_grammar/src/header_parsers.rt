@@ -1,10 +1,10 @@
 ghost use Rattle.std.specs.Prelude.{◌≡◌, [], true, false};
 ghost use Rattle.sccs_grammar.specs.Front.{start};
 
-use crate::boxed_records::BoxedRecord;
 use crate::tables::Table;
 use sccs_base::Text;
 use sccs_history::Flags;
+use sccs_tokens::BoxedRecord;
 use std::alloc::Global;
 
 /// Why the lines of a header were not read on.

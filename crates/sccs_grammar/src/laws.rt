@@ -7,14 +7,14 @@ ghost use Rattle.sccs_history.specs.Numbers.{is_empty, share};
 ghost use Rattle.sccs_grammar.specs.Entries.{with_entry};
 ghost use Rattle.sccs_grammar.specs.Front.{ParsedFront, all_below, at_description, at_flags, at_lists, at_table, at_texts, at_users, front_from, start, with_comments, with_exclude, with_ignore, with_include, with_mrs};
 ghost use Rattle.sccs_grammar.specs.File.{IsSFile};
-ghost use Rattle.sccs_grammar.specs.Items.{items_from};
-ghost use Rattle.sccs_grammar.specs.Tokens.{token};
-ghost use Rattle.sccs_grammar.specs.Written.{HasLines, IsItem, IsSerial, canonical, comment_line, counts_line, delta_line, delta_part, end_line, flag_line, item_line, list_lines, mr_line};
+ghost use Rattle.sccs_tokens.specs.Items.{items_from};
+ghost use Rattle.sccs_tokens.specs.Tokens.{token};
+ghost use Rattle.sccs_tokens.specs.Written.{HasLines, IsItem, IsSerial, canonical, comment_line, counts_line, delta_line, delta_part, end_line, flag_line, item_line, list_lines, mr_line};
 
 use crate::header_parsers::{Entry, HeaderParser, ListsSeen};
-use crate::line_tokens::LineToken;
 use crate::tables::Table;
 use sccs_history::{Flag, Header, Item, Record};
+use sccs_tokens::LineToken;
 
 /// A fault within the lines is the fault whatever lines follow, and whatever bytes follow the last LF.
 pub fn faults_stay()

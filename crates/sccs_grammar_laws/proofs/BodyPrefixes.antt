@@ -9,9 +9,9 @@ use Rattle.sccs_history.specs.declared.headers.Item.{Item}
 use Rattle.sccs_history.specs.declared.headers.Item.TheVariants.{Text, Insert, Delete, End}
 use Rattle.sccs_history.proofs.Falling.{falling_has, has-falling, has-falls, Falls-falling}
 use Rattle.sccs_history.proofs.LiveLines.{OpensLive, opens_live}
-use Rattle.sccs_grammar.specs.Items.{go_on, item_at, items_from}
-use Rattle.sccs_grammar.specs.Written.{IsItem, IsSerial, item_line}
-use Rattle.sccs_grammar.proofs.BodyLaws.{items_again, line_may}
+use Rattle.sccs_tokens.specs.Items.{go_on, item_at, items_from}
+use Rattle.sccs_tokens.specs.Written.{IsItem, IsSerial, item_line}
+use Rattle.sccs_tokens.proofs.BodyLaws.{items_again, line_may}
 use Rattle.sccs_grammar_laws.specs.ViablePrefixes.{AreSerials, BodyCompletion, Reached, ends}
 
 -- ---- what is open

@@ -5,7 +5,7 @@ use Rattle.sccs_sid.specs.Reading.{◌>>=◌}
 use Rattle.sccs_history.specs.History.{KeepsRules}
 use Rattle.sccs_grammar.specs.File.{Opened, as_format, checked_front, opened, opened_by, opened_cut, stored, sum_holds, summed}
 use Rattle.sccs_grammar.specs.Front.{ParsedFront, front_from, start}
-use Rattle.sccs_grammar.specs.Sums.{plain_sum}
+use Rattle.sccs_tokens.specs.Sums.{plain_sum}
 use Rattle.sccs_grammar.specs.declared.faults.FileFault.{FileFault}
 use Rattle.sccs_grammar.specs.declared.faults.FileFault.TheVariants.{NotSccs, BadSum, BadFormat}
 use Rattle.sccs_grammar.proofs.ParserRules.{lines_keep_rules}

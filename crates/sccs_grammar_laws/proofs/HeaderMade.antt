@@ -10,16 +10,16 @@ use Rattle.sccs_history.specs.declared.headers.Record.{Record}
 use Rattle.sccs_history.specs.declared.headers.Flag.{Flag}
 use Rattle.sccs_history.specs.declared.headers.Header.{Header}
 use Rattle.sccs_grammar.specs.Front.{ParsedFront, all_below, ends_table, entry, flag_fits, front_from, if_fits, least, may_follow, none_seen, parser_at, start, table_alone, with_comment, with_mr}
-use Rattle.sccs_grammar.specs.Written.{delta_part}
+use Rattle.sccs_tokens.specs.Written.{delta_part}
 use Rattle.sccs_grammar.specs.declared.header_parsers.Entry.{Entry}
 use Rattle.sccs_grammar.specs.declared.header_parsers.PartialHeader.{PartialHeader}
 use Rattle.sccs_grammar.specs.declared.header_parsers.HeaderState.TheVariants.{AtEntry, InLists, InTexts, InUsers, InFlags, InDescription, AtBody}
 use Rattle.sccs_grammar.specs.declared.header_parsers.HeaderParser.{HeaderParser}
 use Rattle.sccs_grammar.specs.declared.header_parsers.ListsSeen.{ListsSeen}
-use Rattle.sccs_grammar.specs.declared.line_tokens.LineToken.{LineToken}
-use Rattle.sccs_grammar.specs.declared.line_tokens.LineToken.TheVariants.{EndEntry, Users, EndUsers, FlagIs, EndDescription, Plain}
-use Rattle.sccs_grammar.specs.declared.line_tokens.ListKind.{ListKind}
-use Rattle.sccs_grammar.specs.declared.line_tokens.ListKind.TheVariants.{Included, Excluded, Ignored}
+use Rattle.sccs_tokens.specs.declared.line_tokens.LineToken.{LineToken}
+use Rattle.sccs_tokens.specs.declared.line_tokens.LineToken.TheVariants.{EndEntry, Users, EndUsers, FlagIs, EndDescription, Plain}
+use Rattle.sccs_tokens.specs.declared.line_tokens.ListKind.{ListKind}
+use Rattle.sccs_tokens.specs.declared.line_tokens.ListKind.TheVariants.{Included, Excluded, Ignored}
 use Rattle.sccs_grammar.proofs.EntryLaws.{AreOwn, all_own, each_differs, follows_by, least-push, none_lost, own_push, share-nil, share_flip, smaller_below}
 use Rattle.sccs_grammar.proofs.SectionLaws.{AreNew, all_new, still_new}
 use Rattle.sccs_grammar_laws.specs.HeaderLines.{AreHeaderLines, BeginWithHeader, EntryText, MrText, CommentText, EntryLines, IsEntry, list_of, same_list, mrs_in, comments_in, list_says, text_says, entry_says, users_say, description_says, header_says}

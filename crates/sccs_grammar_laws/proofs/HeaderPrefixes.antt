@@ -1,8 +1,8 @@
 -- A header that has its table can be followed to a whole one.
 use Rattle.std.proofs.Common.{◌≡◌, ℕ, suc, Bool, true, false, not, List, [], ◌∷◌, Some, Ok, refl, ap, ◌∙◌}
 use Rattle.sccs_history.specs.Numbers.{is_empty}
-use Rattle.sccs_grammar.specs.Tokens.{token}
-use Rattle.sccs_grammar.specs.Written.{end_line, mark}
+use Rattle.sccs_tokens.specs.Tokens.{token}
+use Rattle.sccs_tokens.specs.Written.{end_line, mark}
 use Rattle.sccs_grammar.specs.Entries.{with_entry}
 use Rattle.sccs_grammar.specs.Front.{after, front_from, header_of, accepted, is_whole, line_after, parser_at, ends_table, if_fits}
 use Rattle.sccs_grammar.specs.declared.header_parsers.HeaderParser.{HeaderParser}
@@ -10,8 +10,8 @@ use Rattle.sccs_grammar.specs.declared.header_parsers.PartialHeader.{PartialHead
 use Rattle.sccs_grammar.specs.declared.header_parsers.HeaderState.{HeaderState}
 use Rattle.sccs_grammar.specs.declared.header_parsers.Entry.{Entry}
 use Rattle.sccs_grammar.specs.declared.header_parsers.HeaderState.TheVariants.{AtEntry, AtDelta, InLists, InTexts, InUsers, InFlags, InDescription, AtBody}
-use Rattle.sccs_grammar.specs.declared.line_tokens.LineToken.{LineToken}
-use Rattle.sccs_grammar.specs.declared.line_tokens.LineToken.TheVariants.{EndEntry, Users, EndUsers, Description, EndDescription}
+use Rattle.sccs_tokens.specs.declared.line_tokens.LineToken.{LineToken}
+use Rattle.sccs_tokens.specs.declared.line_tokens.LineToken.TheVariants.{EndEntry, Users, EndUsers, Description, EndDescription}
 use Rattle.sccs_grammar.proofs.SectionLaws.{token_end_entry}
 use Rattle.sccs_grammar.proofs.HeaderLaws.{token_users, token_end_users, token_description, token_end_description}
 use Rattle.sccs_grammar_laws.specs.ViablePrefixes.{IsViable, HeaderCompletion, KeepsAll}

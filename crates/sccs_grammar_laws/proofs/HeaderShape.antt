@@ -4,7 +4,7 @@ use Rattle.std.specs.Option.{IfSome}
 use Rattle.std.specs.List.{AllByRecursion, IsDistinct, list_any, flat_map}
 use Rattle.std.proofs.lemmas.Bool.{and_parts, or_parts, not-true}
 use Rattle.sccs_sid.specs.Reading.{◌>>=◌}
-use Rattle.sccs_grammar.proofs.TokenRules.{KindsKeep, each_of_kinds, line_keeps}
+use Rattle.sccs_tokens.proofs.TokenRules.{KindsKeep, each_of_kinds, line_keeps}
 use Rattle.sccs_history.specs.Numbers.{is_empty, share}
 use Rattle.sccs_history.specs.History.{is_new}
 use Rattle.sccs_history.specs.declared.headers.Record.{Record}
@@ -12,18 +12,18 @@ use Rattle.sccs_history.specs.declared.headers.Flag.{Flag}
 use Rattle.sccs_history.specs.declared.headers.Header.{Header}
 use Rattle.sccs_grammar.specs.Entries.{with_entry}
 use Rattle.sccs_grammar.specs.Front.{ParsedFront, after, all_below, at_delta, at_entry, ends_table, entry, flag_fits, front_from, header_of, if_fits, in_description, in_flags, in_lists, in_texts, in_users, is_whole, dangling_predecessor, may_follow, none_seen, parser_at, start, with_comment, with_exclude, with_ignore, with_include, with_list, with_mr}
-use Rattle.sccs_grammar.specs.Tokens.{token}
-use Rattle.sccs_grammar.specs.Written.{delta_part}
+use Rattle.sccs_tokens.specs.Tokens.{token}
+use Rattle.sccs_tokens.specs.Written.{delta_part}
 use Rattle.sccs_grammar.specs.declared.header_parsers.Entry.{Entry}
 use Rattle.sccs_grammar.specs.declared.header_parsers.PartialHeader.{PartialHeader}
 use Rattle.sccs_grammar.specs.declared.header_parsers.HeaderState.{HeaderState}
 use Rattle.sccs_grammar.specs.declared.header_parsers.HeaderState.TheVariants.{AtEntry, AtDelta, InLists, InTexts, InUsers, InFlags, InDescription, AtBody}
 use Rattle.sccs_grammar.specs.declared.header_parsers.HeaderParser.{HeaderParser}
 use Rattle.sccs_grammar.specs.declared.header_parsers.ListsSeen.{ListsSeen}
-use Rattle.sccs_grammar.specs.declared.line_tokens.LineToken.{LineToken}
-use Rattle.sccs_grammar.specs.declared.line_tokens.LineToken.TheVariants.{Counts, Delta, Listed, Mr, Comment, EndEntry, Users, EndUsers, FlagIs, Description, EndDescription, Plain}
-use Rattle.sccs_grammar.specs.declared.line_tokens.ListKind.{ListKind}
-use Rattle.sccs_grammar.specs.declared.line_tokens.ListKind.TheVariants.{Included, Excluded, Ignored}
+use Rattle.sccs_tokens.specs.declared.line_tokens.LineToken.{LineToken}
+use Rattle.sccs_tokens.specs.declared.line_tokens.LineToken.TheVariants.{Counts, Delta, Listed, Mr, Comment, EndEntry, Users, EndUsers, FlagIs, Description, EndDescription, Plain}
+use Rattle.sccs_tokens.specs.declared.line_tokens.ListKind.{ListKind}
+use Rattle.sccs_tokens.specs.declared.line_tokens.ListKind.TheVariants.{Included, Excluded, Ignored}
 use Rattle.sccs_grammar_laws.specs.HeaderLines.{BeginWithHeader, EntryText, MrText, CommentText, EntryLines, IsEntry, list_of, same_list, mrs_in, comments_in, list_says, text_says, entry_says, users_say, description_says, header_says}
 use Rattle.sccs_grammar_laws.proofs.MoreRead.{more, no_texts, push_more, regroup, text_row}
 use Rattle.sccs_grammar_laws.proofs.TokenLists.{Found, found as found_sayings, run, same_first}

@@ -5,8 +5,8 @@ use Rattle.sccs_history.specs.Numbers.{is_empty}
 use Rattle.sccs_history.specs.Body.{may_stand, open_serials}
 use Rattle.sccs_history.specs.declared.headers.Item.{Item}
 use Rattle.sccs_history.specs.declared.headers.Item.TheVariants.{End}
-use Rattle.sccs_grammar.specs.Items.{items_from}
-use Rattle.sccs_grammar.specs.Written.{IsSerial}
+use Rattle.sccs_tokens.specs.Items.{items_from}
+use Rattle.sccs_tokens.specs.Written.{IsSerial}
 use Rattle.sccs_grammar.specs.Front.{ParsedFront, front_from, dangling_predecessor}
 use Rattle.sccs_grammar.specs.declared.header_parsers.HeaderParser.{HeaderParser}
 use Rattle.sccs_grammar.specs.Entries.{Entries, with_entry}

@@ -4,7 +4,7 @@ ghost use Rattle.sccs_history.specs.Body.{GoesOn};
 ghost use Rattle.sccs_history.specs.History.{KeepsRules};
 ghost use Rattle.sccs_grammar.specs.File.{checked_front};
 ghost use Rattle.sccs_grammar.specs.Front.{ParsedFront, front_from, start};
-ghost use Rattle.sccs_grammar.specs.Items.{items_from};
+ghost use Rattle.sccs_tokens.specs.Items.{items_from};
 ghost use Rattle.sccs_grammar.specs.declared.header_parsers.HeaderParser.{HeaderParser};
 ghost use Rattle.sccs_grammar_laws.specs.HeaderLines.{BeginSFile, BeginWithHeader};
 ghost use Rattle.sccs_grammar_laws.specs.ViablePrefixes.{AreSerials, BodyCompletion, IsViable, HeaderCompletion, Reached, ends};

@@ -1,7 +1,7 @@
 -- A warning that is added to a message in three pieces.
 use Rattle.std.proofs.Common.{◌≡◌, ℕ, Bool, true, false, List, ◌++◌, refl, sym, ap, ◌∙◌, append_assoc}
 use Rattle.std.specs.Prelude.{codes}
-use Rattle.sccs_grammar.specs.Written.{ended}
+use Rattle.sccs_tokens.specs.Written.{ended}
 use Rattle.sccs_pending.specs.Reports.{warning}
 
 pub warned : (old n one two three : List ℕ) (keyword : Bool) → keyword ≡ false → one ≡ old ++ codes "WARNING [" → two ≡ one ++ n → three ≡ two ++ ended (codes "]: no id keywords") → three ≡ old ++ warning n keyword

@@ -1,6 +1,6 @@
 -- What several utilities say: the heading of a report where a command has several operands (POSIX get, STDOUT), and the warning on keywords.
 use Rattle.std.specs.Prelude.{ℕ, Bool, List, [], ◌∷◌, ◌++◌, codes, if◌then◌else◌}
-use Rattle.sccs_grammar.specs.Written.{ended}
+use Rattle.sccs_tokens.specs.Written.{ended}
 
 -- LF, the name, a colon and LF
 abbrev pub heading_text : Bool → List ℕ → List ℕ

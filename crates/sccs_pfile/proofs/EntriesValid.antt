@@ -13,7 +13,7 @@ use Rattle.sccs_sid.specs.SidLists.{IsRange, list_of}
 use Rattle.sccs_sid.specs.Moment.{IsMoment, moment_of}
 use Rattle.sccs_sid.specs.Words.{◌>>=◌, found, begins_blank, words}
 use Rattle.sccs_sid.specs.declared.sid_lists.Range.{Range}
-use Rattle.sccs_grammar.proofs.TokenRules.{then_some, only_so, either, found_so}
+use Rattle.sccs_tokens.proofs.TokenRules.{then_some, only_so, either, found_so}
 use Rattle.sccs_grammar.proofs.SpellingRules.{sid_is, moment_is}
 use Rattle.sccs_pfile.specs.Entries.{IsEdit}
 use Rattle.sccs_pfile.specs.Reading.{without_lists, with_list, with_option, with_last, with_options, entry_of_words, entry_of, with_entry, entries_from, edits_of}

@@ -15,11 +15,11 @@ use Rattle.sccs_sid.specs.declared.sid_lists.Range.{Range}
 use Rattle.sccs_sid.proofs.ListTexts.{list_text_read}
 use Rattle.sccs_sid.proofs.MomentTexts.{moment_text_again}
 use Rattle.sccs_sid.proofs.SidTexts.{sid_text_again}
-use Rattle.sccs_grammar.specs.Written.{bytes_of, ended, spaced}
-use Rattle.sccs_grammar.proofs.CutLaws.{cut-bytes_of}
-use Rattle.sccs_grammar.proofs.DeltaLaws.{sid_word, date_word, time_word, login_word}
-use Rattle.sccs_grammar.proofs.LineLaws.{Visible, both, sid_seen, date_seen, time_seen, without_lf, spaced_ends}
-use Rattle.sccs_grammar.proofs.WordLaws.{IsWord, HasNoBlank, word_first, words_again, spaced_ends as ends_word}
+use Rattle.sccs_tokens.specs.Written.{bytes_of, ended, spaced}
+use Rattle.sccs_tokens.proofs.CutLaws.{cut-bytes_of}
+use Rattle.sccs_tokens.proofs.DeltaLaws.{sid_word, date_word, time_word, login_word}
+use Rattle.sccs_tokens.proofs.LineLaws.{Visible, both, sid_seen, date_seen, time_seen, without_lf, spaced_ends}
+use Rattle.sccs_tokens.proofs.WordLaws.{IsWord, HasNoBlank, word_first, words_again, spaced_ends as ends_word}
 use Rattle.sccs_pfile.specs.Entries.{IsEdit}
 use Rattle.sccs_pfile.specs.Reading.{without_lists, with_option, with_options, entry_of_words, entry_of, entries_from, edits_of}
 use Rattle.sccs_pfile.specs.Written.{option_text, include_option, exclude_option, entry_text, edits_text}

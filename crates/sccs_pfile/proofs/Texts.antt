@@ -8,7 +8,7 @@ use Rattle.sccs_sid.specs.Sid.{sid_text}
 use Rattle.sccs_sid.specs.SidLists.{list_text, range_text}
 use Rattle.sccs_sid.specs.Moment.{moment_text}
 use Rattle.sccs_sid.specs.declared.sid_lists.Range.{Range}
-use Rattle.sccs_grammar.specs.Written.{ended}
+use Rattle.sccs_tokens.specs.Written.{ended}
 use Rattle.sccs_writers.specs.OneFile.{OnlyWrites}
 use Rattle.sccs_writers.specs.Puts.{Appends, Puts, PutsText, Writer}
 use Rattle.sccs_writers.proofs.PutLaws.{text_both}

@@ -4,7 +4,7 @@ use Rattle.sccs_sid.specs.Sid.{sid_text}
 use Rattle.sccs_sid.specs.SidLists.{list_text}
 use Rattle.sccs_sid.specs.Moment.{moment_text}
 use Rattle.sccs_sid.specs.declared.sid_lists.Range.{Range}
-use Rattle.sccs_grammar.specs.Written.{ended}
+use Rattle.sccs_tokens.specs.Written.{ended}
 use Rattle.sccs_pfile.specs.declared.entries.Edit.{Edit}
 
 -- a list behind its option, where it isn't empty

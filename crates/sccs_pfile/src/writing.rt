@@ -4,7 +4,7 @@ ghost use Rattle.sccs_disk.specs.Calls.{IsThere};
 ghost use Rattle.sccs_sid.specs.Moment.{moment_text};
 ghost use Rattle.sccs_sid.specs.Sid.{sid_text};
 ghost use Rattle.sccs_sid.specs.SidLists.{range_text};
-ghost use Rattle.sccs_grammar.specs.Written.{ended};
+ghost use Rattle.sccs_tokens.specs.Written.{ended};
 ghost use Rattle.sccs_writers.specs.OneFile.{OnlyWrites};
 ghost use Rattle.sccs_writers.specs.Puts.{Appends, PutsText};
 ghost use Rattle.sccs_pfile.specs.Entries.{IsEdit};

@@ -5,7 +5,7 @@ use Rattle.std.proofs.lemmas.List.Folds.{list_any-append}
 use Rattle.sccs_base.specs.Cut.{cut}
 use Rattle.sccs_history.specs.Body.{HistoryLine}
 use Rattle.sccs_history.specs.declared.headers.Record.{Record}
-use Rattle.sccs_grammar.specs.Written.{bytes_of, ended}
+use Rattle.sccs_tokens.specs.Written.{bytes_of, ended}
 use Rattle.sccs_keys.specs.Keywords.{Plain, bytes_behind, found, is_keyword, keyword_of, part_of, parts, parts_behind}
 use Rattle.sccs_keys.specs.declared.facts.Facts.{Facts}
 use Rattle.sccs_keys.specs.declared.keywords.Keyword.{Keyword}

@@ -6,7 +6,7 @@ use Rattle.sccs_disk.specs.declared.disks.DiskRefusal.TheVariants as fault
 use Rattle.sccs_history.specs.Numbers.{front_if}
 use Rattle.sccs_history.specs.declared.headers.Item.{Item}
 use Rattle.sccs_history.specs.declared.headers.Item.TheVariants.{Text, Insert, End}
-use Rattle.sccs_grammar.specs.Written.{bytes_of, ended, item_line}
+use Rattle.sccs_tokens.specs.Written.{bytes_of, ended, item_line}
 use Rattle.sccs_edits.specs.Places.{block}
 use Rattle.sccs_writers.specs.Puts.{PutsText, Writer}
 use Rattle.sccs_writers.specs.Spelled.{spelled}

@@ -2,7 +2,7 @@
 use Rattle.std.proofs.Common.{◌≡◌, ℕ, List, [], ◌∷◌, ◌++◌, map, refl, sym, ap, ◌∙◌, append_assoc, append-nil}
 use Rattle.sccs_history.specs.declared.headers.Item.{Item}
 use Rattle.sccs_history.specs.declared.headers.Item.TheVariants.{Text, Insert, End}
-use Rattle.sccs_grammar.specs.Written.{bytes_of, ended, item_line}
+use Rattle.sccs_tokens.specs.Written.{bytes_of, ended, item_line}
 use Rattle.sccs_edits.specs.Places.{block}
 use Rattle.sccs_writers.specs.Spelled.{spelled}
 

@@ -2,7 +2,7 @@ ghost use Rattle.std.specs.Prelude.{◌≡◌, ◌<◌, ◌≤◌, ℕ, List, []
 ghost use Rattle.std.specs.List.{AllByRecursion};
 ghost use Rattle.sccs_disk.specs.Told.{Told};
 ghost use Rattle.sccs_grammar.specs.File.{IsSFile};
-ghost use Rattle.sccs_grammar.specs.Written.{canonical, HasLines, IsItem};
+ghost use Rattle.sccs_tokens.specs.Written.{canonical, HasLines, IsItem};
 ghost use Rattle.sccs_history.specs.Applied.{live_serials};
 ghost use Rattle.sccs_history.specs.Body.{above, GoesOn, lines_of};
 ghost use Rattle.sccs_history.specs.History.{IsHeader, IsSpelled};

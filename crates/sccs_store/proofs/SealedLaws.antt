@@ -5,8 +5,8 @@ use Rattle.sccs_disk.specs.Calls.{HasBytes, HasRange}
 use Rattle.sccs_disk.specs.Files.{Content, View, put}
 use Rattle.sccs_disk.specs.Told.{Told, seen}
 use Rattle.sccs_disk.proofs.Puts.{put_same}
-use Rattle.sccs_grammar.specs.Sums.{plain_sum}
-use Rattle.sccs_grammar.specs.Written.{bytes_behind, bytes_of, canonical, ended, five, item_line, sum_line}
+use Rattle.sccs_tokens.specs.Sums.{plain_sum}
+use Rattle.sccs_tokens.specs.Written.{bytes_behind, bytes_of, canonical, ended, five, item_line, sum_line}
 use Rattle.sccs_history.specs.declared.headers.Header.{Header}
 use Rattle.sccs_history.specs.declared.headers.Item.{Item}
 use Rattle.sccs_table.specs.SumOf.{IsSumOf}

@@ -15,7 +15,7 @@ use Rattle.sccs_writers.proofs.OneFile.{only_done, only_half, only_same, only_sy
 use Rattle.sccs_files.specs.StepFiles.{Moves, is_working}
 use Rattle.sccs_images.specs.Touches.{Grew, Leaves, TellsSane, Touching, TouchesOnly, earlier, newest}
 use Rattle.sccs_images.proofs.Touched.{grew_touching, only_then, only_wider, same_touching}
-use Rattle.sccs_grammar.specs.Written.{five}
+use Rattle.sccs_tokens.specs.Written.{five}
 use Rattle.sccs_moments.proofs.Recovering.{cleared_other}
 use Rattle.sccs_store.specs.Commits.{Becomes, summed}
 use Rattle.sccs_moments.specs.Recovery.{cleared, without}

@@ -6,7 +6,7 @@ use Rattle.sccs_disk.specs.Effects.{empty_file, renamed}
 use Rattle.sccs_disk.specs.Calls.{IsThere}
 use Rattle.sccs_disk.specs.Told.{Told}
 use Rattle.sccs_files.specs.StepFiles.{Files}
-use Rattle.sccs_grammar.specs.Written.{five}
+use Rattle.sccs_tokens.specs.Written.{five}
 use Rattle.sccs_moments.specs.Recovery.{cleared, without}
 use Rattle.sccs_store.specs.declared.new_files.NewFile.{NewFile}
 use Rattle.sccs_store.specs.declared.new_files.NewFile.TheVariants.{Keep, Replace, Remove}

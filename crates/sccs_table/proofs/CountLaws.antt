@@ -5,7 +5,7 @@ use Rattle.std.proofs.lemmas.Bool.{cases_lt}
 use Rattle.std.proofs.lemmas.List.{drop-drop, take_all, take-take}
 use Rattle.std.proofs.Math.Seq.{take-add}
 use Rattle.sccs_base.specs.Cut.{Cut, HasNoLf}
-use Rattle.sccs_grammar.proofs.CutLaws.{cut_tail}
+use Rattle.sccs_tokens.proofs.CutLaws.{cut_tail}
 use Rattle.sccs_table.specs.Runs.{lf_count}
 use Rattle.sccs_table.specs.ReaderState.{ReaderState}
 use Rattle.sccs_table.proofs.ReaderLaws.{held_of, holding, passed_over}

@@ -10,7 +10,7 @@ use Rattle.sccs_history.specs.History.{is_encoded}
 use Rattle.sccs_history.specs.declared.headers.Header.{Header}
 use Rattle.sccs_grammar.specs.Front.{ParsedFront, start, front_from}
 use Rattle.sccs_grammar.specs.File.{Opened, five_digits, stored, opened_by, opened_cut, opened, sum_holds, summed, as_format, answer, within_limit, checked_front, front_of, not_encoded}
-use Rattle.sccs_grammar.specs.Sums.{plain_sum, signed_sum}
+use Rattle.sccs_tokens.specs.Sums.{plain_sum, signed_sum}
 use Rattle.sccs_grammar.specs.declared.faults.FileFault.{FileFault}
 use Rattle.sccs_grammar.specs.declared.faults.FileFault.TheVariants.{Missing, TooLong, NotSccs, BadSum, BadFormat, Encoded, Changed, Failed, Memory}
 use Rattle.sccs_table.specs.declared.fronts.Front.{Front}

@@ -1,7 +1,7 @@
 -- What a line more makes of the reading of a header.
 use Rattle.std.proofs.Common.{◌≡◌, ℕ, suc, ◌+◌, Bool, true, false, List, [], ◌∷◌, Option, None, Some, Result, Ok, Err, refl, sym, ap, ◌∙◌, subst, arith}
 use Rattle.sccs_base.specs.Cut.{Cut}
-use Rattle.sccs_grammar.specs.Tokens.{token}
+use Rattle.sccs_tokens.specs.Tokens.{token}
 use Rattle.std.specs.Result.{IsErrAnd}
 use Rattle.std.proofs.lemmas.Result.{err_from_is_err_and}
 use Rattle.sccs_grammar.specs.FileRefusals.{line_fault}
@@ -9,7 +9,7 @@ use Rattle.sccs_grammar.specs.declared.header_parsers.FrontFault.{FrontFault}
 use Rattle.sccs_grammar.specs.declared.header_parsers.FrontFault.TheVariants as fronts
 use Rattle.sccs_grammar.specs.Front.{AcceptsIn, ParsedFront, after, accepted, header_of, is_whole, line_after, front_from}
 use Rattle.sccs_grammar.specs.declared.header_parsers.HeaderParser.{HeaderParser}
-use Rattle.sccs_grammar.specs.declared.line_tokens.LineToken.{LineToken}
+use Rattle.sccs_tokens.specs.declared.line_tokens.LineToken.{LineToken}
 use Rattle.sccs_grammar.specs.declared.faults.FileFault.{FileFault}
 use Rattle.sccs_grammar.specs.declared.faults.FileFault.TheVariants.{Missing, TooLong, NotSccs, BadSum, BadFormat, Encoded, Changed, Failed, Memory}
 use Rattle.sccs_table.specs.ReaderState.{ReaderState, StandsIn, TakesLine, left}

@@ -7,12 +7,12 @@ use Rattle.std.proofs.Math.Nat.{mul-zero}
 use Rattle.std.proofs.lemmas.List.Folds.{sum_by-replicate}
 use Rattle.std.proofs.lemmas.List.Sums.{sum_by-append, sum_by-take-drop}
 use Rattle.std.proofs.Math.Seq.{take-add, take-append_seam, drop-append_seam}
-use Rattle.sccs_grammar.proofs.CutLaws.{cut_line, cut_tail}
+use Rattle.sccs_tokens.proofs.CutLaws.{cut_line, cut_tail}
 use Rattle.sccs_base.specs.Cut.{HasNoLf, cut}
 use Rattle.sccs_base.proofs.Cuts.{NoLfBefore, no_lf_front, no_lf_all}
 use Rattle.std.proofs.lemmas.Bool.{ltb-false, ltb-true}
 use Rattle.sccs_disk.specs.Files.{View}
-use Rattle.sccs_grammar.specs.Sums.{plain_sum}
+use Rattle.sccs_tokens.specs.Sums.{plain_sum}
 use Rattle.sccs_table.specs.SumOf.{IsPlainSumOf, IsSumOf}
 use Rattle.sccs_table.specs.ReaderState.{ReaderState, StandsIn, Stays, Takes, TakesLine, behind_sum, bytes_in}
 

@@ -8,7 +8,7 @@ use Rattle.sccs_base.specs.Cut.{Cut, HasNoLf, cut, before, longer}
 use Rattle.sccs_base.proofs.Cuts.{no_lf_all}
 use Rattle.sccs_sid.specs.SidLists.{begins}
 use Rattle.sccs_history.specs.History.{AreBare}
-use Rattle.sccs_grammar.specs.Written.{bytes_of}
+use Rattle.sccs_tokens.specs.Written.{bytes_of}
 use Rattle.sccs_table.specs.Runs.{HasNoMark, HasNoRun, IsMark, IsRun, PassesRun, lf_count}
 use Rattle.sccs_table.specs.ReaderState.{ReaderState, StandsIn, Stays}
 use Rattle.sccs_table.proofs.ReaderLaws.{Kept, stands_behind}

@@ -2,7 +2,7 @@
 use Rattle.std.specs.Prelude.{◌≡◌, ℕ, ◌+◌, ◌≤◌, Bool, true, false, List, [], ◌∷◌, ◌++◌, length, take, drop, Option, None, Some, option_map}
 use Rattle.sccs_base.specs.Cut.{Cut, HasNoLf, cut}
 use Rattle.sccs_disk.specs.Files.{Content, View}
-use Rattle.sccs_grammar.specs.Sums.{plain_sum}
+use Rattle.sccs_tokens.specs.Sums.{plain_sum}
 
 -- The bytes that were read and not given yet, the place of the first of them, the file's name, the place up to which it is
 -- read at most, and the plain sum of all bytes that were read behind the sum line.

@@ -12,9 +12,10 @@ use crate::piece_marks::LineEnds;
 use crate::sums::Sum;
 use sccs_base::{FILE_LIMIT, Name};
 use sccs_disk::Disk;
-use sccs_grammar::{FileFault, HeaderParser, HeaderState, PartialHeader, accept, tokenize_line};
+use sccs_grammar::{FileFault, HeaderParser, HeaderState, PartialHeader, accept};
 use sccs_history::{Flag, Header};
 use sccs_sid::reading::number;
+use sccs_tokens::tokenize_line;
 use std::alloc::Global;
 
 /// All of an s-file but its body.

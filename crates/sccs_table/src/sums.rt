@@ -1,5 +1,5 @@
 ghost use Rattle.std.specs.Prelude.{◌≡◌, ℕ, length, ◌+◌, ◌%◌, List, [], ◌++◌, sum, sum_by};
-ghost use Rattle.sccs_grammar.specs.Sums.{signed_weight};
+ghost use Rattle.sccs_tokens.specs.Sums.{signed_weight};
 ghost use Rattle.sccs_table.specs.SumOf.{IsPlainSumOf, IsSumOf};
 
 use std::marker::Model;

@@ -5,8 +5,8 @@ use Rattle.std.proofs.lemmas.List.{append-nil, drop-drop, take-append-drop}
 use Rattle.sccs_base.specs.Causes.{GivesText}
 use Rattle.sccs_base.specs.Cut.{cut}
 use Rattle.sccs_base.proofs.Cuts.{NoLfBefore, no_lf_all, no_lf_front}
-use Rattle.sccs_grammar.specs.Written.{ended}
-use Rattle.sccs_grammar.proofs.CutLaws.{cut_line, cut_tail}
+use Rattle.sccs_tokens.specs.Written.{ended}
+use Rattle.sccs_tokens.proofs.CutLaws.{cut_line, cut_tail}
 use Rattle.sccs_history.specs.declared.headers.Record.{Record}
 use Rattle.sccs_keys.proofs.KeywordLaws.{rest_is}
 use Rattle.sccs_texts.specs.Forms.{LineForm, formed, formed_lines, replaced, sid_before, tabbed}

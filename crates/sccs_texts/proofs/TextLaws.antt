@@ -3,7 +3,7 @@ use Rattle.std.proofs.Common.{◌≡◌, ℕ, suc, ◌+◌, Bool, true, false, �
 use Rattle.std.specs.List.{list_any}
 use Rattle.sccs_history.specs.Body.{HistoryLine}
 use Rattle.sccs_history.specs.declared.headers.Record.{Record}
-use Rattle.sccs_grammar.specs.Written.{bytes_of, ended}
+use Rattle.sccs_tokens.specs.Written.{bytes_of, ended}
 use Rattle.sccs_keys.specs.Keywords.{is_keyword, parts}
 use Rattle.sccs_keys.specs.declared.facts.Facts.{Facts}
 use Rattle.sccs_keys.proofs.KeywordLaws.{plain_stays}

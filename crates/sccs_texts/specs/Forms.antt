@@ -5,7 +5,7 @@ use Rattle.sccs_sid.specs.Sid.{sid_text}
 use Rattle.sccs_sid.specs.declared.sids.Sid.{Sid}
 use Rattle.sccs_history.specs.Body.{HistoryLine}
 use Rattle.sccs_history.specs.declared.headers.Record.{Record}
-use Rattle.sccs_grammar.specs.Written.{ended}
+use Rattle.sccs_tokens.specs.Written.{ended}
 use Rattle.sccs_keys.specs.Expansion.{expanded}
 use Rattle.sccs_keys.specs.Keywords.{is_keyword, parts}
 use Rattle.sccs_keys.specs.declared.facts.Facts.{Facts}

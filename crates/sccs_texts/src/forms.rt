@@ -2,7 +2,7 @@ ghost use Rattle.std.specs.Prelude.{◌≡◌, ◌+◌, ◌<◌, ◌^◌, ◌++�
 ghost use Rattle.std.specs.List.{list_any};
 ghost use Rattle.sccs_base.specs.Causes.{GivesText};
 ghost use Rattle.sccs_base.specs.Cut.{cut};
-ghost use Rattle.sccs_grammar.specs.Written.{ended};
+ghost use Rattle.sccs_tokens.specs.Written.{ended};
 ghost use Rattle.sccs_keys.specs.Expansion.{expanded, HasMoments};
 ghost use Rattle.sccs_keys.specs.Keywords.{is_keyword, parts};
 ghost use Rattle.sccs_texts.specs.Forms.{form_of, formed, formed_lines, has_prefix, if_replaced, replaced, sid_before, tabbed};

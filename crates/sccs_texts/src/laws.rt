@@ -1,5 +1,5 @@
 ghost use Rattle.std.specs.Prelude.{◌≡◌, ◌+◌, ◌++◌, ℕ, false, List, length, map};
-ghost use Rattle.sccs_grammar.specs.Written.{bytes_of};
+ghost use Rattle.sccs_tokens.specs.Written.{bytes_of};
 ghost use Rattle.sccs_history.specs.Body.{HistoryLine};
 ghost use Rattle.sccs_history.specs.declared.headers.Record.{Record};
 ghost use Rattle.sccs_texts.specs.Forms.{LineForm, bare, formed_text, has_keywords, texts, unreplaced};

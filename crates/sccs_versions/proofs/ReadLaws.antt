@@ -8,7 +8,7 @@ use Rattle.sccs_history.specs.Select.{shows}
 use Rattle.sccs_history.specs.declared.headers.Item.{Item}
 use Rattle.sccs_history.specs.declared.headers.Item.TheVariants.{Text, Insert, Delete}
 use Rattle.sccs_history.specs.declared.headers.Item.TheVariants as items
-use Rattle.sccs_grammar.specs.Written.{ended, bytes_of}
+use Rattle.sccs_tokens.specs.Written.{ended, bytes_of}
 use Rattle.sccs_grammar.specs.declared.faults.FileFault.{FileFault}
 use Rattle.sccs_body.specs.Reader.{ItemPlace}
 use Rattle.sccs_body.proofs.TextLaws.{some_bytes}

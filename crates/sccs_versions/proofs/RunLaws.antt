@@ -7,7 +7,7 @@ use Rattle.sccs_history.specs.Body.{HistoryLine, inserter, line_at, lines_behind
 use Rattle.sccs_history.specs.Select.{select, shows}
 use Rattle.sccs_history.specs.declared.headers.Item.{Item}
 use Rattle.sccs_history.specs.declared.headers.Item.TheVariants.{Text}
-use Rattle.sccs_grammar.specs.Written.{ended, bytes_of}
+use Rattle.sccs_tokens.specs.Written.{ended, bytes_of}
 use Rattle.sccs_table.proofs.RunLaws.{run_bytes}
 use Rattle.sccs_body.specs.Reader.{ItemPlace}
 use Rattle.sccs_body.specs.ItemsRead.{IsBehind, texts_behind}

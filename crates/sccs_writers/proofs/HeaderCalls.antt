@@ -9,7 +9,7 @@ use Rattle.sccs_disk.specs.Calls.{IsThere, Writes}
 use Rattle.sccs_disk.specs.declared.disks.DiskRefusal.{DiskRefusal}
 use Rattle.sccs_disk.specs.declared.disks.DiskRefusal.TheVariants as fault
 use Rattle.sccs_history.specs.declared.headers.Header.{Header}
-use Rattle.sccs_grammar.specs.Written.{ended, sum_line}
+use Rattle.sccs_tokens.specs.Written.{ended, sum_line}
 use Rattle.sccs_table.specs.SumOf.{IsSumOf}
 use Rattle.sccs_writers.specs.OneFile.{OnlyWrites}
 use Rattle.sccs_writers.specs.Puts.{Appends, Puts, PutsText, Writer}

@@ -7,7 +7,7 @@ use Rattle.sccs_disk.specs.declared.disks.DiskRefusal.TheVariants as fault
 use Rattle.sccs_history.specs.declared.headers.Record.{Record}
 use Rattle.sccs_history.specs.declared.headers.Flag.{Flag}
 use Rattle.sccs_history.specs.declared.headers.Header.{Header}
-use Rattle.sccs_grammar.specs.Written.{bytes_of, comment_line, counts_line, delta_line, end_line, ended, flag_line, header_lines, list_lines, mark, mr_line, sum_line}
+use Rattle.sccs_tokens.specs.Written.{bytes_of, comment_line, counts_line, delta_line, end_line, ended, flag_line, header_lines, list_lines, mark, mr_line, sum_line}
 use Rattle.sccs_table.specs.SumOf.{IsSumOf}
 use Rattle.sccs_writers.specs.OneFile.{OnlyWrites}
 use Rattle.sccs_writers.specs.Puts.{Appends}

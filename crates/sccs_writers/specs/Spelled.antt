@@ -1,7 +1,7 @@
 -- The lines of a body as they are written.
 use Rattle.std.specs.Prelude.{ℕ, List, flat_map}
 use Rattle.sccs_history.specs.declared.headers.Item.{Item}
-use Rattle.sccs_grammar.specs.Written.{ended, item_line}
+use Rattle.sccs_tokens.specs.Written.{ended, item_line}
 
 -- the written spelling of items
 abbrev pub spelled : List Item → List ℕ

@@ -1,5 +1,5 @@
 ghost use Rattle.std.specs.Prelude.{◌≡◌};
-ghost use Rattle.sccs_grammar.specs.Written.{five};
+ghost use Rattle.sccs_tokens.specs.Written.{five};
 
 /// The last five decimal digits of a number, as counts and sums have them: sccsfile(4).
 pub fn five_digits(n: u32) -> [u8; 5]

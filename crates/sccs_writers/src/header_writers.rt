@@ -1,7 +1,7 @@
 ghost use Rattle.std.specs.Prelude.{◌≡◌, ◌≤◌, ◌++◌, ℕ, List, [], ◌∷◌, decimal, flat_map, OnOk};
 ghost use Rattle.std.specs.List.{AllByRecursion};
 ghost use Rattle.sccs_disk.specs.Calls.{IsThere};
-ghost use Rattle.sccs_grammar.specs.Written.{behind_blank, bytes_of, counts_line, delta_line, ended, kind_of, list_lines, mr_line};
+ghost use Rattle.sccs_tokens.specs.Written.{behind_blank, bytes_of, counts_line, delta_line, ended, kind_of, list_lines, mr_line};
 ghost use Rattle.sccs_history.specs.History.{HasSpelling, IsSpelled};
 ghost use Rattle.sccs_sid.specs.Sid.{sid_text};
 ghost use Rattle.sccs_writers.specs.HeaderBytes.{WritesHeader, entry_bytes, flags_bytes, header_bytes, lists_bytes, table_bytes, texts_bytes};

@@ -1,6 +1,6 @@
 ghost use Rattle.std.specs.Prelude.{◌≡◌};
 ghost use Rattle.sccs_disk.specs.Calls.{IsThere};
-ghost use Rattle.sccs_grammar.specs.Written.{bytes_of};
+ghost use Rattle.sccs_tokens.specs.Written.{bytes_of};
 ghost use Rattle.sccs_writers.specs.Puts.{PutsText};
 ghost use Rattle.sccs_writers.specs.Spelled.{spelled};
 

@@ -1,6 +1,6 @@
 ghost use Rattle.std.specs.Prelude.{◌≡◌, [], IfOk, OnOk};
 ghost use Rattle.sccs_disk.specs.Calls.{IsThere};
-ghost use Rattle.sccs_grammar.specs.Written.{ended, item_line};
+ghost use Rattle.sccs_tokens.specs.Written.{ended, item_line};
 ghost use Rattle.sccs_writers.specs.Controls.{control_line};
 ghost use Rattle.sccs_writers.specs.Puts.{PutsText};
 

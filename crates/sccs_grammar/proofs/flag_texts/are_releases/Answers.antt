@@ -1,6 +1,6 @@
 use Rattle.std.proofs.Common.{◌≡◌, true, false, sym, ◌∙◌}
 use Rattle.sccs_history.specs.FlagText.{are_spaced}
-use Rattle.sccs_grammar.proofs.ReleaseLaws.{first_fails, first_alone, first_passes}
+use Rattle.sccs_tokens.proofs.ReleaseLaws.{first_fails, first_alone, first_passes}
 use Rattle.sccs_grammar.proofs.flag_texts.are_releases.Goals as goal
 
 pub returns-then-not-are_spaced : goal.returns-then-not-are_spaced

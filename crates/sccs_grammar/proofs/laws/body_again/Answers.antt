@@ -1,4 +1,4 @@
-use Rattle.sccs_grammar.proofs.BodyLaws.{items_again}
+use Rattle.sccs_tokens.proofs.BodyLaws.{items_again}
 use Rattle.sccs_grammar.proofs.laws.body_again.Goals as goal
 
 pub returns : goal.returns

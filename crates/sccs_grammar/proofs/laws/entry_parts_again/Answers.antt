@@ -1,4 +1,4 @@
-use Rattle.sccs_grammar.proofs.TokenLaws.{token_counts}
+use Rattle.sccs_tokens.proofs.TokenLaws.{token_counts}
 use Rattle.sccs_grammar.proofs.SectionLaws.{include_again, exclude_again, ignore_again, texts_behind}
 use Rattle.sccs_grammar.proofs.laws.entry_parts_again.Goals as goal
 

@@ -1,5 +1,5 @@
 use Rattle.std.proofs.Common.{get_or}
-use Rattle.sccs_grammar.specs.Written.{ended}
+use Rattle.sccs_tokens.specs.Written.{ended}
 use Rattle.sccs_writers.proofs.PutLaws.{part_cut, part_put, puts_nothing}
 use Rattle.sccs_pfile.specs.Written.{entry_text}
 use Rattle.sccs_pfile.proofs.Texts.{entry_as}

@@ -1,5 +1,5 @@
 use Rattle.std.proofs.Common.{take, flat_map, Ok}
-use Rattle.sccs_grammar.specs.Written.{ended}
+use Rattle.sccs_tokens.specs.Written.{ended}
 use Rattle.sccs_writers.specs.Puts.{PutsText}
 use Rattle.sccs_pfile.specs.Written.{entry_text}
 use Rattle.sccs_pfile.proofs.writing.put_edits.Given as goal

@@ -1,5 +1,5 @@
 use Rattle.std.proofs.Common.{◌++◌, Err, refl}
-use Rattle.sccs_grammar.specs.Written.{ended}
+use Rattle.sccs_tokens.specs.Written.{ended}
 use Rattle.sccs_writers.proofs.PutLaws.{text_both, text_cut}
 use Rattle.sccs_pfile.specs.Written.{entry_text}
 use Rattle.sccs_pfile.proofs.Texts.{entry_puts, front_text, lists_text}

@@ -1,7 +1,7 @@
 use Rattle.std.proofs.Common.{false, ◌≡◌, false, [], Ok, length, refl, sym, subst, arith}
 use Rattle.sccs_base.specs.Cut.{HasNoLf}
 use Rattle.sccs_sid.specs.SidLists.{begins}
-use Rattle.sccs_grammar.specs.Written.{HasLines, IsItem}
+use Rattle.sccs_tokens.specs.Written.{HasLines, IsItem}
 use Rattle.sccs_grammar.proofs.CanonicalLaws.{canonical_again}
 use Rattle.sccs_history.specs.Body.{GoesOn, lines_of}
 use Rattle.sccs_history.specs.Select.{select}

@@ -1,5 +1,5 @@
 use Rattle.std.proofs.Common.{ap, ◌∙◌}
-use Rattle.sccs_grammar.specs.Written.{five}
+use Rattle.sccs_tokens.specs.Written.{five}
 use Rattle.sccs_disk.specs.Told.{seen}
 use Rattle.sccs_writers.proofs.OneFile.{only_both}
 use Rattle.sccs_store.proofs.Working.{firm_after, range_there, sum_written, write_only}

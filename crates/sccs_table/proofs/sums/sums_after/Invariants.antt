@@ -1,6 +1,6 @@
 use Rattle.std.proofs.Common.{◌≡◌, ◌+◌, ◌%◌, take}
 use Rattle.std.specs.Prelude.{sum, sum_by}
-use Rattle.sccs_grammar.specs.Sums.{signed_weight}
+use Rattle.sccs_tokens.specs.Sums.{signed_weight}
 use Rattle.sccs_table.proofs.sums.sums_after.Given as goal
 
 -- the sums of the bytes so far

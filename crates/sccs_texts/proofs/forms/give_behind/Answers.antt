@@ -1,6 +1,6 @@
 use Rattle.std.proofs.Common.{ℕ, List, ◌++◌, refl, append_assoc}
 use Rattle.std.specs.Prelude.{option_map}
-use Rattle.sccs_grammar.specs.Written.{ended}
+use Rattle.sccs_tokens.specs.Written.{ended}
 use Rattle.sccs_keys.proofs.GiveLaws.{text_fails, text_then}
 use Rattle.sccs_texts.specs.Forms.{form_of, replaced, tabbed}
 use Rattle.sccs_texts.proofs.LineTurns.{tabbed_as}

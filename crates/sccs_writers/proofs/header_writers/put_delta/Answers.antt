@@ -1,5 +1,5 @@
 use Rattle.sccs_writers.proofs.PutLaws.{puts_left, puts_then, same_text}
-use Rattle.sccs_grammar.specs.Written.{delta_line, ended}
+use Rattle.sccs_tokens.specs.Written.{delta_line, ended}
 use Rattle.sccs_writers.proofs.HeaderLaws.{delta_parts}
 use Rattle.sccs_writers.proofs.header_writers.put_delta.Goals as goal
 

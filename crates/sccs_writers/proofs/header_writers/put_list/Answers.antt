@@ -1,6 +1,6 @@
 use Rattle.sccs_writers.proofs.PutLaws.{puts_left, puts_nothing, puts_then, same_text}
 use Rattle.std.proofs.Common.{◌∙◌, sym}
-use Rattle.sccs_grammar.specs.Written.{bytes_of, list_lines}
+use Rattle.sccs_tokens.specs.Written.{bytes_of, list_lines}
 use Rattle.sccs_writers.proofs.HeaderLaws.{list_of_none, list_of_some}
 use Rattle.sccs_writers.proofs.header_writers.put_list.Goals as goal
 

@@ -1,6 +1,6 @@
 use Rattle.sccs_writers.proofs.PutLaws.{puts_left, puts_then}
 use Rattle.std.proofs.Common.{◌++◌, flat_map}
-use Rattle.sccs_grammar.specs.Written.{ended}
+use Rattle.sccs_tokens.specs.Written.{ended}
 use Rattle.sccs_writers.proofs.header_writers.put_part.Goals as goal
 
 pub returns-in_err-put_lines : goal.returns-in_err-put_lines

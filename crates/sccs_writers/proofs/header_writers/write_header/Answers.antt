@@ -1,6 +1,6 @@
 use Rattle.std.proofs.Common.{[], Ok, ap, subst, sym}
 use Rattle.sccs_disk.specs.Calls.{IsThere}
-use Rattle.sccs_grammar.specs.Written.{ended, sum_line}
+use Rattle.sccs_tokens.specs.Written.{ended, sum_line}
 use Rattle.sccs_writers.specs.HeaderBytes.{WritesHeader, header_bytes}
 use Rattle.sccs_writers.specs.Puts.{PutsText, Writer}
 use Rattle.sccs_writers.proofs.HeaderCalls.{header_cut, header_unbegun, header_whole}

@@ -1,5 +1,5 @@
 use Rattle.std.proofs.Common.{◌∙◌, subst}
-use Rattle.sccs_grammar.specs.Items.{IsWrittenItem}
+use Rattle.sccs_tokens.specs.Items.{IsWrittenItem}
 use Rattle.sccs_body.specs.Reader.{BodyPlace}
 use Rattle.sccs_body.proofs.ItemLaws.{seen_behind, held_gives}
 use Rattle.sccs_body.proofs.body_readers.BodyReader.next_control.Goals as goal

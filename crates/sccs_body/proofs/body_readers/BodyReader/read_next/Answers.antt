@@ -3,7 +3,7 @@ use Rattle.std.specs.Prelude.{IfSome}
 use Rattle.sccs_disk.specs.Told.{seen}
 use Rattle.sccs_history.specs.Body.{is_over}
 use Rattle.sccs_history.specs.Numbers.{is_empty}
-use Rattle.sccs_grammar.specs.Items.{item_at}
+use Rattle.sccs_tokens.specs.Items.{item_at}
 use Rattle.sccs_table.specs.ReaderState.{bytes_in}
 use Rattle.sccs_table.proofs.ReaderLaws.{same_file}
 use Rattle.sccs_body.specs.ItemsRead.{IsFormatAt}

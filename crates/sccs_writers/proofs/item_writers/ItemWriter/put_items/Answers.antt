@@ -1,6 +1,6 @@
 use Rattle.std.proofs.Common.{subst, sym}
 use Rattle.sccs_history.specs.declared.headers.Item.{Item}
-use Rattle.sccs_grammar.specs.Written.{ended, item_line}
+use Rattle.sccs_tokens.specs.Written.{ended, item_line}
 use Rattle.sccs_disk.specs.Calls.{IsThere}
 use Rattle.sccs_writers.specs.Puts.{PutsText}
 use Rattle.sccs_writers.proofs.PutLaws.{part_cut, part_put, puts_nothing}

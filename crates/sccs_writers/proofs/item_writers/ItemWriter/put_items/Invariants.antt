@@ -1,6 +1,6 @@
 use Rattle.std.proofs.Common.{take, flat_map, Ok}
 use Rattle.sccs_history.specs.declared.headers.Item.{Item}
-use Rattle.sccs_grammar.specs.Written.{ended, item_line}
+use Rattle.sccs_tokens.specs.Written.{ended, item_line}
 use Rattle.sccs_writers.specs.Puts.{PutsText}
 use Rattle.sccs_writers.proofs.item_writers.ItemWriter.put_items.Given as goal
 

@@ -1,5 +1,5 @@
 use Rattle.std.proofs.Common.{ℕ, List, subst, sym}
-use Rattle.sccs_grammar.specs.Written.{ended}
+use Rattle.sccs_tokens.specs.Written.{ended}
 use Rattle.sccs_disk.specs.Calls.{IsThere}
 use Rattle.sccs_writers.specs.Puts.{PutsText}
 use Rattle.sccs_writers.proofs.PutLaws.{part_cut, part_put, puts_nothing}

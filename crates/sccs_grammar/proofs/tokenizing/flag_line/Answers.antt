@@ -1,5 +1,0 @@
-use Rattle.sccs_grammar.proofs.NoLf.{no_lf_skipped}
-use Rattle.sccs_grammar.proofs.tokenizing.flag_line.Goals as goal
-
-pub flag-requires : goal.flag-requires
-flag-requires c = rw c.skip_blanks.ensures.value (no_lf_skipped c.args.bytes.now c.requires)

@@ -1,0 +1,17 @@
+pub mod BodyLaws
+pub mod ControlLaws
+pub mod CutLaws
+pub mod DeltaLaws
+pub mod DeltaWords
+pub mod EightByteWords
+pub mod FiveDigitLaws
+pub mod ItemLines
+pub mod LineLaws
+pub mod LongSerialLaws
+pub mod NoLf
+pub mod NumberLaws
+pub mod ReleaseLaws
+pub mod SerialFieldLaws
+pub mod TokenLaws
+pub mod TokenRules
+pub mod WordLaws

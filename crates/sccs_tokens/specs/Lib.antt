@@ -1,0 +1,4 @@
+pub mod Tokens
+pub mod Items
+pub mod Written
+pub mod Sums
