@@ -99,7 +99,7 @@ some_there w w2 a b f g r puts there = subst (λ n. IsThere n b) (sym puts.name)
 -- ---- of a told file
 
 -- items are put behind a reading
-splices_from : (xs : List (Item × Bool)) (s s2 : State) (w w2 : Writer) (a m b : Told) (f g h : ℕ) (q : Result (Unit {0}) DiskRefusal) (done : Unit {0}) → q ≡ Ok done → m ≡ a → f ≤ g → Splices xs s s2 w w2 m b g h q → Splices {T = Unit {0}} xs s s2 w w2 a b f h (Ok tt)
+pub splices_from : (xs : List (Item × Bool)) (s s2 : State) (w w2 : Writer) (a m b : Told) (f g h : ℕ) (q : Result (Unit {0}) DiskRefusal) (done : Unit {0}) → q ≡ Ok done → m ≡ a → f ≤ g → Splices xs s s2 w w2 m b g h q → Splices {T = Unit {0}} xs s s2 w w2 a b f h (Ok tt)
 splices_from xs s s2 w w2 a m b f g h q done is same low pushed = record {
   items = pushed.items;
   puts = record {

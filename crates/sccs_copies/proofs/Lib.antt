@@ -1,5 +1,6 @@
 pub mod AppendLaws
 pub mod BaseLaws
+pub mod BodyLaws
 pub mod CheckLaws
 pub mod ComingItems
 pub mod CopyLaws

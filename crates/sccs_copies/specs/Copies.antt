@@ -1,5 +1,5 @@
 -- A body that is copied with the items of a new delta, while its file is read again.
-use Rattle.std.specs.Prelude.{◌≡◌, ℕ, ◌+◌, ◌≤◌, Bool, true, false, List, [], ◌∷◌, ◌++◌, Option, None, Some, Result, Ok, Err, OnOk}
+use Rattle.std.specs.Prelude.{◌≡◌, ℕ, ◌+◌, ◌≤◌, Bool, true, false, List, [], ◌∷◌, ◌++◌, length, Option, None, Some, Result, Ok, Err, OnOk}
 use Rattle.std.specs.Str.{bytes_eq}
 use Rattle.sccs_base.specs.Constants.{file_limit}
 use Rattle.sccs_base.specs.Stream.{Rose}
@@ -12,6 +12,8 @@ use Rattle.sccs_edits.specs.Places.{told_behind}
 use Rattle.sccs_grammar.specs.declared.faults.FileFault.{FileFault}
 use Rattle.sccs_grammar.specs.declared.faults.FileFault.TheVariants.{Failed, Memory}
 use Rattle.sccs_tokens.specs.Written.{ended, sum_line}
+use Rattle.sccs_history.specs.Body.{GoesOn, is_over, lines_of, may_stand}
+use Rattle.sccs_history.specs.Select.{select}
 use Rattle.sccs_history.specs.declared.headers.Header.{Header}
 use Rattle.sccs_history.specs.declared.headers.Item.{Item}
 use Rattle.sccs_store.specs.Commits.{Becomes}
@@ -19,6 +21,7 @@ use Rattle.sccs_store.specs.SealedFiles.{sealed}
 use Rattle.sccs_writers.specs.HeaderBytes.{header_bytes}
 use Rattle.sccs_splicer.specs.Splices.{base_count, Splices}
 use Rattle.sccs_table.specs.SumOf.{IsSumOf}
+use Rattle.sccs_body.specs.ItemsRead.{IsBehind}
 use Rattle.sccs_body.specs.Reader.{ItemPlace, name_read}
 use Rattle.sccs_body.specs.ToCome.{ToCome}
 use Rattle.sccs_weave.specs.Regions.{Holds}
@@ -72,6 +75,63 @@ pub record AppendsSome {T : Type 0} (n front : List ℕ) (old new : Told) (fault
   pub only : OnlyWrites n old new
   pub later : faults ≤ faults_after
   pub cause : result ≡ Err Failed → Rose faults faults_after
+
+-- A copy stands before the items of a body over live serials, whose lines a set shows.
+pub record IsBegun (live set : List ℕ) (c : Copying) : Type 0 where
+  pub behind : IsBehind live [] c.items
+  pub holds : Holds set [] c.weaver
+  pub seen : c.seen ≡ 0
+
+-- An item was read behind others where it may stand, and it is told whether it is a line that the set shows.
+pub record ReadsBase (live set : List ℕ) (before : List Item) (items : ItemPlace) (regions : List Region) (b : BaseItem) : Type 0 where
+  pub stands : may_stand live before b.item ≡ true
+  pub behind : IsBehind live (b.item ∷ before) items
+  pub holds : Holds set (b.item ∷ before) regions
+  pub shown : (rest : List Item) → told_behind set before (b.item ∷ rest) ≡ (b.item, b.visible) ∷ told_behind set (b.item ∷ before) rest
+
+-- an item was read; or the body is over
+abbrev pub GoesBase : List ℕ → List ℕ → List Item → ItemPlace → List Region → Option BaseItem → Type 0
+GoesBase live set before items regions (Some b) = ReadsBase live set before items regions b
+GoesBase live set before items regions None = is_over before ≡ true
+
+-- These items were put, and as many lines more were seen as they are lines of the base.
+pub record CopiesExactly (told : List (Item × Bool)) (c c2 : Copying) (w w2 : Writer) (old new : Told) (faults faults_after : ℕ) : Type 0 where
+  pub count : c2.seen ≡ c.seen + base_count told
+  pub splices : Splices {T = Unit {0}} told c.splicer c2.splicer w w2 old new faults faults_after (Ok tt)
+
+-- Behind some items more were read, each of which may stand; they were put, unless more lines were seen than were counted.
+pub record CopiesItems (live set : List ℕ) (lines : ℕ) (before : List Item) (c c2 : Copying) (w w2 : Writer) (old new : Told) (faults faults_after : ℕ) : Type 0 where
+  pub items : List Item
+  pub after : List Item
+  pub goes : (rest : List Item) → GoesOn live after rest → GoesOn live before (items ++ rest)
+  pub told : (rest : List Item) → told_behind set before (items ++ rest) ≡ told_behind set before items ++ told_behind set after rest
+  pub more : c.seen ≤ c2.seen
+  pub exact : c2.seen ≤ lines → CopiesExactly (told_behind set before items) c c2 w w2 old new faults faults_after
+
+-- The same, and the copy stands behind them; or the body is over.
+pub record CopiesOn (live set : List ℕ) (lines : ℕ) (before : List Item) (c c2 : Copying) (w w2 : Writer) (old new : Told) (faults faults_after : ℕ) : Type 0 where
+  pub some : CopiesItems live set lines before c c2 w w2 old new faults faults_after
+  pub behind : IsBehind live some.after c2.items
+  pub holds : Holds set some.after c2.weaver
+
+pub record CopiesBody (live set : List ℕ) (lines : ℕ) (before : List Item) (c c2 : Copying) (w w2 : Writer) (old new : Told) (faults faults_after : ℕ) : Type 0 where
+  pub some : CopiesItems live set lines before c c2 w w2 old new faults faults_after
+  pub over : is_over some.after ≡ true
+
+-- what becomes of the next item
+abbrev pub CopiesItem : List ℕ → List ℕ → ℕ → List Item → Copying → Copying → Writer → Writer → Told → Told → ℕ → ℕ → Result Bool FileFault → Type 0
+CopiesItem live set lines before c c2 w w2 old new f f2 (Ok true) = CopiesOn live set lines before c c2 w w2 old new f f2
+CopiesItem live set lines before c c2 w w2 old new f f2 (Ok false) = CopiesBody live set lines before c c2 w w2 old new f f2
+CopiesItem live set lines before c c2 w w2 old new f f2 (Err fault) = Unit {0}
+
+-- The items are a whole body over live serials, of which the set shows so many lines.
+pub record IsBase (live set : List ℕ) (lines : ℕ) (items : List Item) : Type 0 where
+  pub goes : GoesOn live [] items
+  pub count : length (select set (lines_of items)) ≡ lines
+
+-- of the items of some such body, each with whether it is a line that the set shows
+abbrev pub OfSomeBase : List ℕ → List ℕ → ℕ → (List (Item × Bool) → Type 0) → Type 0
+OfSomeBase live set lines P = (items : List Item) × IsBase live set lines items × P (told_behind set [] items)
 
 -- ---- of a file that is told
 

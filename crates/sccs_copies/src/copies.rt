@@ -4,16 +4,19 @@ ghost use Rattle.sccs_disk.specs.Calls.{IsThere};
 ghost use Rattle.sccs_disk.specs.Told.{seen};
 ghost use Rattle.sccs_edits.specs.Places.{told_behind};
 ghost use Rattle.sccs_edits.specs.Plans.{IsInOrder};
+ghost use Rattle.sccs_history.specs.Applied.{live_serials};
+ghost use Rattle.sccs_history.specs.Numbers.{has};
 ghost use Rattle.sccs_history.specs.declared.headers.Item.{Item};
 ghost use Rattle.sccs_splicer.specs.Splices.{begun, IsControl, owed, Splices};
 ghost use Rattle.sccs_table.specs.FrontFile.{ReadsDisk};
 ghost use Rattle.sccs_table.specs.ReaderState.{bytes_in};
+ghost use Rattle.sccs_body.specs.ItemsRead.{IsBehind};
 ghost use Rattle.sccs_body.specs.Reader.{bytes_left, name_read};
 ghost use Rattle.sccs_versions.specs.Coming.{IsBody};
 ghost use Rattle.sccs_weave.specs.Regions.{Holds};
-ghost use Rattle.sccs_writers.specs.Puts.{PutsText};
+ghost use Rattle.sccs_writers.specs.Puts.{Puts, PutsText};
 ghost use Rattle.sccs_writers.specs.Spelled.{spelled};
-ghost use Rattle.sccs_copies.specs.Copies.{CanCopy, CopiesAll, CopiesNext, CopyComes, GivesBaseItem, ItemsCome, PutsSome, PutsSpliced, as_file_fault};
+ghost use Rattle.sccs_copies.specs.Copies.{CanCopy, CopiesAll, CopiesBody, CopiesItem, CopiesNext, CopyComes, GivesBaseItem, GoesBase, IsBegun, ItemsCome, OfSomeBase, PutsSome, PutsSpliced, as_file_fault};
 
 use sccs_base::{Memory, Name};
 use sccs_body::ItemReader;
@@ -60,6 +63,7 @@ impl Copying {
         ensures name { IfOk result (λ c. name_read c.items ≡ name.now) }
         ensures splicer { IfOk result (λ c. c.splicer ≡ begun serial plan) }
         ensures seen { IfOk result (λ c. c.seen ≡ 0) }
+        ensures begun { (set : List ℕ) → has set 0 ≡ false → IfOk result (IsBegun (live_serials front.now.header.records) set) }
         ensures told { (set file : List ℕ) (items : List Item) → IsBody (Some file) front.now set file items
             → IfOk result (λ c. ItemsCome file set c.items c.weaver (told_behind set [] items)) }
     {
@@ -109,6 +113,8 @@ fn next_item<D: Disk>(
     ensures name { name_read items.new ≡ name_read items.old }
     ensures further { IfOk result (λ o. IfSome o (λ _. bytes_left items.new < bytes_left items.old)) }
     ensures control { IfOk result (λ o. IfSome o (λ b. IsControl b.item → b.visible ≡ false)) }
+    ensures goes { (live : List ℕ) (before : List Item) → IsBehind live before items.old → Holds set.now before weaver.old
+        → IfOk result (GoesBase live set.now before items.new weaver.new) }
     ensures told { (file : List ℕ) (told : List (Item × Bool)) → bytes_in (seen (D.told disk.old)) (name_read items.old) ≡ Some file
         → ItemsCome file set.now items.old weaver.old told → GivesBaseItem file set.now items.new weaver.new told result }
 {
@@ -171,6 +177,8 @@ fn copy_next<D: Disk>(
     ensures further { IfOk result (λ more. more ≡ true → bytes_left copying.new.items < bytes_left copying.old.items) }
     ensures counted { OnOk result (copying.new.splicer.line ≤ copying.new.seen) }
     ensures within { OnOk result (copying.new.splicer.line ≤ lines) }
+    ensures goes { (live : List ℕ) (before : List Item) → IsBehind live before copying.old.items → Holds set.now before copying.old.weaver
+        → CopiesItem live set.now lines before copying.old copying.new out.old out.new (D.told disk.old) (D.told disk.new) (D.faults disk.old) (D.faults disk.new) result }
     ensures told { (file : List ℕ) (told : List (Item × Bool)) → bytes_in (seen (D.told disk.old)) (name_read copying.old.items) ≡ Some file
         → CopyComes file set.now lines copying.old told
         → CopiesNext file set.now lines told copying.old copying.new out.old out.new (D.told disk.old) (D.told disk.new) (D.faults disk.old) (D.faults disk.new) result }
@@ -196,6 +204,8 @@ fn copy_all<D: Disk>(
 ) -> Result<(), FileFault>
     requires { CanCopy copying.old lines out.old.name (D.told disk.old) }
     ensures puts { PutsSome out.old out.new (D.told disk.old) (D.told disk.new) (D.faults disk.old) (D.faults disk.new) result }
+    ensures goes { (live : List ℕ) → IsBehind live [] copying.old.items → Holds set.now [] copying.old.weaver
+        → OnOk result (CopiesBody live set.now lines [] copying.old copying.new out.old out.new (D.told disk.old) (D.told disk.new) (D.faults disk.old) (D.faults disk.new)) }
     ensures told { (file : List ℕ) (told : List (Item × Bool)) → bytes_in (seen (D.told disk.old)) (name_read copying.old.items) ≡ Some file
         → CopyComes file set.now lines copying.old told
         → CopiesAll told lines copying.old copying.new out.old out.new (D.told disk.old) (D.told disk.new) (D.faults disk.old) (D.faults disk.new) result }
@@ -236,6 +246,8 @@ pub fn put_spliced<D: Disk>(
     requires { CanCopy copying.old lines out.old.name (D.told disk.old) }
     ensures puts { PutsSome out.old out.new (D.told disk.old) (D.told disk.new) (D.faults disk.old) (D.faults disk.new) result }
     ensures empty { OnOk result (out.new.held ≡ []) }
+    ensures whole { (live : List ℕ) → IsBegun live set.now copying.old
+        → OnOk result (OfSomeBase live set.now lines (λ told. Puts (spelled (owed copying.old.splicer told)) out.old out.new (D.told disk.old) (D.told disk.new))) }
     ensures told { (file : List ℕ) (told : List (Item × Bool)) → bytes_in (seen (D.told disk.old)) (name_read copying.old.items) ≡ Some file
         → CopyComes file set.now lines copying.old told
         → PutsSpliced (owed copying.old.splicer told) out.old out.new (D.told disk.old) (D.told disk.new) result }

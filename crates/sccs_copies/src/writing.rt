@@ -4,6 +4,7 @@ ghost use Rattle.sccs_base.specs.Constants.{file_limit};
 ghost use Rattle.sccs_base.specs.Name.{IsSfile, sibling};
 ghost use Rattle.sccs_base.specs.Stream.{Rose};
 ghost use Rattle.sccs_disk.specs.Calls.{IsThere};
+ghost use Rattle.sccs_disk.specs.Files.{put};
 ghost use Rattle.sccs_disk.specs.Images.{IsFirm};
 ghost use Rattle.sccs_disk.specs.Told.{seen};
 ghost use Rattle.sccs_files.specs.StepFiles.{Moves};
@@ -13,11 +14,14 @@ ghost use Rattle.sccs_history.specs.History.{IsSpelled};
 ghost use Rattle.sccs_history.specs.declared.headers.Item.{Item};
 ghost use Rattle.sccs_images.specs.Touches.{Leaves, TouchesOnly};
 ghost use Rattle.sccs_splicer.specs.Splices.{owed};
+ghost use Rattle.sccs_store.specs.Commits.{Becomes};
+ghost use Rattle.sccs_store.specs.SealedFiles.{sealed};
 ghost use Rattle.sccs_table.specs.ReaderState.{bytes_in};
 ghost use Rattle.sccs_table.specs.SumOf.{IsSumOf};
 ghost use Rattle.sccs_body.specs.Reader.{name_read};
 ghost use Rattle.sccs_writers.specs.HeaderBytes.{header_bytes};
-ghost use Rattle.sccs_copies.specs.Copies.{AppendsSome, AppendsSpliced, AppendsWhole, CanCopy, CopyComes, MakesFile};
+ghost use Rattle.sccs_writers.specs.Spelled.{spelled};
+ghost use Rattle.sccs_copies.specs.Copies.{AppendsFile, AppendsSome, AppendsSpliced, AppendsText, AppendsWhole, CanCopy, CopyComes, IsBegun, MakesFile, OfSomeBase};
 
 use crate::copies::{Copying, file_fault, put_spliced};
 use sccs_base::Name;
@@ -42,6 +46,8 @@ fn append_spliced<D: Disk>(
 ) -> Result<Sum, FileFault>
     requires { CanCopy copying lines name.now (D.told disk.old) }
     ensures appends { AppendsSome name.now [] (D.told disk.old) (D.told disk.new) (D.faults disk.old) (D.faults disk.new) result }
+    ensures whole { (live : List ℕ) → IsBegun live set.now copying
+        → IfOk result (λ after. OfSomeBase live set.now lines (λ told. AppendsText name.now (spelled (owed copying.splicer told)) sum after (D.told disk.old) (D.told disk.new))) }
     ensures told { (file : List ℕ) (told : List (Item × Bool)) → bytes_in (seen (D.told disk.old)) (name_read copying.items) ≡ Some file
         → CopyComes file set.now lines copying told
         → AppendsSpliced (owed copying.splicer told) name.now sum (D.told disk.old) (D.told disk.new) result }
@@ -69,6 +75,8 @@ fn append_all<D: Disk>(
     requires spelled { IsSpelled header.now }
     requires copy { CanCopy copying lines name.now (D.told disk.old) }
     ensures appends { AppendsSome name.now (ended (sum_line 0)) (D.told disk.old) (D.told disk.new) (D.faults disk.old) (D.faults disk.new) result }
+    ensures whole { (live : List ℕ) → IsBegun live set.now copying
+        → IfOk result (λ after. OfSomeBase live set.now lines (λ told. AppendsFile header.now (owed copying.splicer told) name.now after (D.told disk.old) (D.told disk.new))) }
     ensures told { (file : List ℕ) (told : List (Item × Bool)) → bytes_in (seen (D.told disk.old)) (name_read copying.items) ≡ Some file
         → CopyComes file set.now lines copying told
         → AppendsWhole header.now (owed copying.splicer told) name.now (D.told disk.old) (D.told disk.new) result }
@@ -98,6 +106,8 @@ fn append_x<D: Disk>(
     requires within { copying.splicer.line ≤ lines }
     requires few { lines ≤ file_limit }
     ensures appends { AppendsSome (sibling 120 name.now) (ended (sum_line 0)) (D.told disk.old) (D.told disk.new) (D.faults disk.old) (D.faults disk.new) result }
+    ensures whole { (live : List ℕ) → IsBegun live set.now copying
+        → IfOk result (λ after. OfSomeBase live set.now lines (λ told. AppendsFile header.now (owed copying.splicer told) (sibling 120 name.now) after (D.told disk.old) (D.told disk.new))) }
     ensures told { (file : List ℕ) (told : List (Item × Bool)) → bytes_in (seen (D.told disk.old)) name.now ≡ Some file
         → CopyComes file set.now lines copying told
         → AppendsWhole header.now (owed copying.splicer told) (sibling 120 name.now) (D.told disk.old) (D.told disk.new) result }
@@ -115,7 +125,9 @@ fn append_x<D: Disk>(
 
 /// Writes the x-file of a delta: the header, and the items of the body with those of the new delta. It is
 /// protected and synced. BadFormat comes where another number of lines of the base is read than was
-/// counted, Changed where the file is another than at the first reading; of a told file neither.
+/// counted, Changed where the file is another than at the first reading; of a told file neither. Whatever the
+/// disk tells, at Ok some whole body was read that has as many lines of the base as were counted, and the
+/// x-file is of its items.
 pub fn write_delta<D: Disk>(
     alloc: Global,
     header: &Header,
@@ -134,6 +146,9 @@ pub fn write_delta<D: Disk>(
     ensures view { (file : List ℕ) (told : List (Item × Bool)) → bytes_in (seen (D.told disk.old)) name.now ≡ Some file
         → CopyComes file set.now lines copying told
         → MakesFile header.now (owed copying.splicer told) (sibling 120 name.now) (seen (D.told disk.old)) (seen (D.told disk.new)) result }
+    ensures whole { (live : List ℕ) → IsBegun live set.now copying
+        → OnOk result (OfSomeBase live set.now lines (λ told. Becomes (λ v. put v (sibling 120 name.now) (Some (sealed header.now (owed copying.splicer told))))
+        (seen (D.told disk.old)) (seen (D.told disk.new)))) }
     ensures moves { Moves (bytes_eq (sibling 120 name.now)) (λ v. v) (seen (D.told disk.old)) (seen (D.told disk.new)) }
     ensures there { OnOk result (IsThere (sibling 120 name.now) (D.told disk.new)) }
     ensures touches { TouchesOnly (bytes_eq (sibling 120 name.now)) (D.told disk.old) (D.told disk.new) }

@@ -93,6 +93,7 @@ shown_ends heading n edits (Err WriteFault) v o2 out out2 err err2 same gives = 
   shows heading n edits,
   refl,
   record {
+    status = refl;
     view = subst (λ (t : Option View). Moves (is_working n) (λ u. u) (Some v) t) (sym same) (λ k h. refl);
     out = gives.0;
     err = gives.1;

@@ -1,9 +1,9 @@
 -- Views that are alike but for working files.
-use Rattle.std.proofs.Common.{◌≡◌, ℕ, ◌⊎◌, Bool, true, false, ◌||◌, cond, List, drop, Option, None, Some, inl, inr, refl, sym, ap, subst, ◌∙◌}
+use Rattle.std.proofs.Common.{◌≡◌, ℕ, Bool, cond, List, drop, Option, None, Some, sym, ap, subst, ◌∙◌}
 use Rattle.std.specs.Str.{bytes_eq}
 use Rattle.sccs_base.specs.Name.{sibling}
 use Rattle.sccs_disk.specs.Files.{Content, View, put}
-use Rattle.sccs_files.specs.StepFiles.{Files, look, placed, moved, is_working, is_left, Alike, Moves, MovesPartly, Shows, ShowsPartly, Apart}
+use Rattle.sccs_files.specs.StepFiles.{Files, look, moved, is_working, Alike, Moves, Shows, Apart}
 
 put_alike : (w : List ℕ → Bool) (u v : View) (n : List ℕ) (x : Option Content) → Alike w u v → Alike w (put u n x) (put v n x)
 put_alike w u v n x alike k h = ap (λ r. cond (bytes_eq n k) x r) (alike k h)
@@ -36,29 +36,3 @@ shows_kept w n v a b apart shows moves = shows_moved w n None v a b apart shows 
 
 pub shows_same : (w : List ℕ → Bool) (v : View) (a b : Option View) → b ≡ a → Shows w a v → Shows w b v
 shows_same w v a b is shows = subst (λ told. Shows w told v) (sym is) shows
-
-left_false : (x y : Bool) → (x || y) ≡ false → x ≡ false
-left_false true y h = cc
-left_false false y h = refl
-
-right_false : (x y : Bool) → (x || y) ≡ false → y ≡ false
-right_false true y h = cc
-right_false false y h = h
-
-both_false : (x y : Bool) → x ≡ false → y ≡ false → (x || y) ≡ false
-both_false x y p q = ap (λ z. z || y) p ∙ q
-
-one_of : (x y z s t : Option Content) → (x ≡ y) ⊎ (x ≡ z) → y ≡ s → z ≡ t → (x ≡ s) ⊎ (x ≡ t)
-one_of x y z s t (inl e) p q = inl (e ∙ p)
-one_of x y z s t (inr e) p q = inr (e ∙ q)
-
--- the same where the disk failed in the step
-pub shows_partly : (w : List ℕ → Bool) (n : List ℕ) (new : Option Files) (v : View) (a b : Option View) → Apart w n → Shows w a v
-    → MovesPartly (is_left n) (λ u. moved u n new) a b → ShowsPartly (λ k. w k || bytes_eq (sibling 122 n) k) b v (moved v n new)
-shows_partly w n new v None b apart shows moves = absurd shows
-shows_partly w n new v (Some u) None apart shows moves = absurd moves
-shows_partly w n new v (Some u) (Some t) apart shows moves = λ k h.
-    let out_w : w k ≡ false = left_false (w k) (bytes_eq (sibling 122 n) k) h in
-    let out_z : bytes_eq (sibling 122 n) k ≡ false = right_false (w k) (bytes_eq (sibling 122 n) k) h in
-    one_of (t k) (u k) (moved u n new k) (v k) (moved v n new k)
-    (moves k (both_false (is_working n k) (bytes_eq (sibling 122 n) k) (apart.own k out_w) out_z)) (shows k out_w) (moved_alike w u v n new shows k out_w)

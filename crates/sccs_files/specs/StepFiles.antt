@@ -63,11 +63,6 @@ abbrev pub Shows : (List ℕ → Bool) → Option View → View → Type 0
 Shows w None v = ⊥
 Shows w (Some u) v = Alike w u v
 
--- each file that is told is that of one of two views, but for working files
-abbrev pub ShowsPartly : (List ℕ → Bool) → Option View → View → View → Type 0
-ShowsPartly w None v v2 = ⊥
-ShowsPartly w (Some u) v v2 = (k : List ℕ) → w k ≡ false → (u k ≡ v k) ⊎ (u k ≡ v2 k)
-
 -- no file is a working file: a command that only reads makes none
 abbrev pub nowhere : List ℕ → Bool
 nowhere k = false

@@ -178,7 +178,7 @@ module _ (words : GetWords) (stamp : Stamp) (place : List ℕ) (heading : Bool) 
   broken_so : (fault : StepFault) (o : Outcome) (v : View) (m : Model) (past : List Model) (o4 : Option View) (td : Told) (out out2 err : Option (List ℕ)) → Readies words n o (Err fault) (world (Some v) out err) (world o4 out2 err) → Moves (bytes_eq (sibling 121 n)) (λ u. u) (Some v) o4
       → Moves (bytes_eq (sibling 121 n)) (λ u. u) o4 (seen td) → EndsBefore v m past td → EndsSo (Err DiskFault) v m past td out err out2 err o
   broken_so fault o v m past o4 td out out2 err ready moves more kept = (
-    record { view = left_y words n sfile v o4 (seen td) (λ u. moved u n (effect_of n o).new) moves more; out = written words n sfile fault o (world (Some v) out err) (world o4 out2 err) ready; err = refl },
+    record { view = (0, left_y words n sfile v o4 (seen td) moves more); out = written words n sfile fault o (world (Some v) out err) (world o4 out2 err) ready; err = refl },
     before_within v (moved v n (effect_of n o).new) m past td kept,
   )
 

@@ -10,12 +10,13 @@ use Rattle.sccs_sid.specs.declared.refusals.StepFault.TheVariants.{Refused, Memo
 use Rattle.sccs_disk.specs.Effects.{renamed}
 use Rattle.sccs_disk.specs.Files.{Content, View, put}
 use Rattle.sccs_disk.proofs.Puts.{name_cases, put_back, put_other, put_same}
-use Rattle.sccs_files.specs.StepFiles.{AreCleared, Files, Moves, MovesPartly, is_left, is_working, look, moved, placed}
+use Rattle.sccs_files.specs.StepFiles.{AreCleared, Files, Moves, is_left, is_working, look, moved, placed}
 use Rattle.sccs_moments.specs.Recovery.{without}
 use Rattle.sccs_base.proofs.SameBytes.{other_bytes, same_bytes}
 use Rattle.sccs_moments.proofs.FileNames.{no_working, no_y, s_and_g, to_g}
 use Rattle.sccs_steps.specs.Calls.{Fails, Meets, Uncommitted, World, world}
 use Rattle.sccs_steps.specs.StepEffects.{Outcome, effect_of}
+use Rattle.sccs_steps.specs.FirstFiles.{MovesInOrder}
 use Rattle.sccs_store.specs.Commits.{Becomes, MayBecome}
 use Rattle.sccs_transactions.specs.declared.prepared.Prepared.{Prepared}
 use Rattle.sccs_words.specs.declared.commands.GetWords.{GetWords}
@@ -92,17 +93,14 @@ module _ (words : GetWords) (n : List ℕ) (sfile : IsSfile n) where
       (λ k h. made_by (writes_g words) n text (stays_writable words) v k sfile h ∙ ap (λ (f : Option Files). moved v n f k) (sym is))
 
   -- the g-file is placed or not
-  pub placed_partly : (text : List ℕ) (v : View) (o4 o5 : Option View) (new : Option Files) → new ≡ files_new text v → Becomes (with_y words n text) (Some v) o4 → MayBecome (g_placed words n) o4 o5 → MovesPartly (is_left n) (λ u. moved u n new) (Some v) o5
+  pub placed_partly : (text : List ℕ) (v : View) (o4 o5 : Option View) (new : Option Files) → new ≡ files_new text v → Becomes (with_y words n text) (Some v) o4 → MayBecome (g_placed words n) o4 o5 → MovesInOrder n new (Some v) o5
   placed_partly text v o4 o5 new is given (inl same) =
-      subst (λ (o : Option View). MovesPartly (is_left n) (λ u. moved u n new) (Some v) o) (sym (same ∙ given)) (λ k h. inl (y_other (writes_g words) n (content text (stays_writable words)) v k (no_y n k (no_working n k h))))
-  placed_partly text v o4 o5 new is given (inr placed) = whole (made_view text v o4 o5 new is given placed)
+      (0, subst (λ (o : Option View). Moves (is_left n) (λ u. u) (Some v) o) (sym (same ∙ given)) (λ k h. y_other (writes_g words) n (content text (stays_writable words)) v k (no_y n k (no_working n k h))))
+  placed_partly text v o4 o5 new is given (inr placed) = (3, whole o5 (made_view text v o4 o5 new is given placed))
     where
-      partly : (o : Option View) → Moves (is_working n) (λ u. moved u n new) (Some v) o → MovesPartly (is_left n) (λ u. moved u n new) (Some v) o
-      partly None moves = absurd moves
-      partly (Some w) moves = λ k h. inr (moves k (no_working n k h))
-
-      whole : Moves (is_working n) (λ u. moved u n new) (Some v) o5 → MovesPartly (is_left n) (λ u. moved u n new) (Some v) o5
-      whole moves = partly o5 moves
+      whole : (o : Option View) → Moves (is_working n) (λ u. moved u n new) (Some v) o → Moves (is_left n) (λ u. moved u n new) (Some v) o
+      whole None moves = absurd moves
+      whole (Some w) moves = λ k h. moves k (no_working n k h)
 
   -- nothing is made, and no y-file is left
   pub undone : (b : Bool) (text : List ℕ) (v : View) (o4 o5 : Option View) (out out2 err : Option (List ℕ)) → Moves (bytes_eq (sibling 121 n)) (λ u. u) (Some v) o4 → (b ≡ false → o4 ≡ Some v) → Becomes (gone_by b n) o4 o5 → GivesSome out out2 text → Uncommitted n text (world (Some v) out err) (world o5 out2 err)
@@ -122,10 +120,10 @@ module _ (words : GetWords) (n : List ℕ) (sfile : IsSfile n) where
       cleared_at false same k = inr (ap (λ (t : View). t k) (view_is (same refl)))
 
   -- the y-file alone is another
-  pub left_y : (v : View) (o4 o5 : Option View) (f : View → View) → Moves (bytes_eq (sibling 121 n)) (λ u. u) (Some v) o4 → Moves (bytes_eq (sibling 121 n)) (λ u. u) o4 o5 → MovesPartly (is_left n) f (Some v) o5
-  left_y v None o5 f moves more = absurd moves
-  left_y v (Some u) None f moves more = absurd more
-  left_y v (Some u) (Some w) f moves more = λ k h. inl (more k (no_y n k (no_working n k h)) ∙ moves k (no_y n k (no_working n k h)))
+  pub left_y : (v : View) (o4 o5 : Option View) → Moves (bytes_eq (sibling 121 n)) (λ u. u) (Some v) o4 → Moves (bytes_eq (sibling 121 n)) (λ u. u) o4 o5 → Moves (is_left n) (λ u. u) (Some v) o5
+  left_y v None o5 moves more = absurd moves
+  left_y v (Some u) None moves more = absurd more
+  left_y v (Some u) (Some w) moves more = λ k h. more k (no_y n k (no_working n k h)) ∙ moves k (no_y n k (no_working n k h))
 
   pub cleared_moves : (b : Bool) (o4 o5 : Option View) → Becomes (gone_by b n) o4 o5 → Moves (bytes_eq (sibling 121 n)) (λ u. u) o4 o5
   cleared_moves b None o5 gone = gone
@@ -152,13 +150,14 @@ module _ (words : GetWords) (n : List ℕ) (sfile : IsSfile n) where
     ready.effect,
     ready.is,
     record {
+      status = ready.status;
       view = made_view ready.text v o4 o5 ready.effect.new ready.new ready.given.view finishes.0;
       out = gives_then out out2 out3 ready.effect.text ready.effect.out (subst (λ t. GivesOk out out2 t) (sym ready.text_is) ready.given.out) (subst (λ t. GivesSome out2 out3 t) (sym ready.report) finishes.1.out);
       err = subst (λ t. GivesSome err err2 t) (sym ready.message) finishes.1.err;
     },
   )
   finished (Err DiskFault) p o v o4 o5 out out2 out3 err err2 ready finishes = record {
-    view = subst (λ (x : Outcome). MovesPartly (is_left n) (λ u. moved u n (effect_of n x).new) (Some v) o5) (sym ready.is) (placed_partly ready.text v o4 o5 ready.effect.new ready.new ready.given.view finishes.0);
+    view = subst (λ (x : Outcome). MovesInOrder n (effect_of n x).new (Some v) o5) (sym ready.is) (placed_partly ready.text v o4 o5 ready.effect.new ready.new ready.given.view finishes.0);
     out = subst (λ (x : Option (List ℕ)). GivesSome out x (effect_of n o).text) (sym finishes.1)
         (some_of_whole out out2 (effect_of n o).text (subst (λ t. GivesOk out out2 t) (sym (ap (λ x. (effect_of n x).text) ready.is ∙ ready.text_is)) ready.given.out));
     err = finishes.2;
@@ -173,7 +172,7 @@ module _ (words : GetWords) (n : List ℕ) (sfile : IsSfile n) where
   gave_up (Refused refusal) o v o4 o5 out out2 err ready moves same gone = (ready.0, undone (writes_g words) [] v o4 o5 out out2 err moves same gone (subst (λ (x : Option (List ℕ)). GivesSome out x []) (sym ready.1) (some_none out [])))
   gave_up Memory o v o4 o5 out out2 err ready moves same gone = undone (writes_g words) (effect_of n o).text v o4 o5 out out2 err moves same gone ready
   gave_up WriteFault o v o4 o5 out out2 err ready moves same gone = inl (undone (writes_g words) (effect_of n o).text v o4 o5 out out2 err moves same gone ready)
-  gave_up DiskFault o v o4 o5 out out2 err ready moves same gone = record { view = left_y v o4 o5 (λ u. moved u n (effect_of n o).new) moves (cleared_moves (writes_g words) o4 o5 gone); out = ready; err = refl }
+  gave_up DiskFault o v o4 o5 out out2 err ready moves same gone = record { view = (0, left_y v o4 o5 moves (cleared_moves (writes_g words) o4 o5 gone)); out = ready; err = refl }
   gave_up ReadFault o v o4 o5 out out2 err ready moves same gone = absurd ready
 
   -- a prefix of the text was written, whatever failed
@@ -190,4 +189,4 @@ module _ (words : GetWords) (n : List ℕ) (sfile : IsSfile n) where
       subst (λ (s : Result (Unit {0}) StepFault). Met s o v o5 out out2 err err) (sym gone.0) (gave_up fault o v o4 o5 out out2 err ready moves same gone.1)
   gives_up fault r o v o4 o5 out out2 err ready moves same (inr broken) =
       subst (λ (s : Result (Unit {0}) StepFault). Met s o v o5 out out2 err err) (sym broken.0)
-      (record { view = left_y v o4 o5 (λ u. moved u n (effect_of n o).new) moves broken.1; out = written fault o (world (Some v) out err) (world o4 out2 err) ready; err = refl })
+      (record { view = (0, left_y v o4 o5 moves broken.1); out = written fault o (world (Some v) out err) (world o4 out2 err) ready; err = refl })

@@ -1,10 +1,16 @@
 -- Calm disks, and disks whose s-files and p-files are firm.
-use Rattle.std.proofs.Common.{◌≡◌, ℕ, Bool, true, false, cond, not, List, Option, None, Some, option_map, is_some, refl, sym, ap, subst, ◌∙◌, ⊎_elim}
-use Rattle.std.specs.Prelude.{IfSome, IsSome}
+use Rattle.std.proofs.Common.{◌≡◌, ℕ, zero, suc, Bool, true, false, cond, not, List, [], ◌∷◌, take, Option, None, Some, option_map, is_some, refl, sym, ap, subst, ◌∙◌, ⊎_elim, arith}
+use Rattle.std.proofs.lemmas.List.Elements.{All-append}
+use Rattle.std.proofs.lemmas.Option.{get_or_from_slice_get, slice_get_within}
+use Rattle.std.specs.List.{All}
+use Rattle.std.specs.Prelude.{IfSome, IsSome, slice_get}
 use Rattle.sccs_base.specs.Name.{IsSfile, sibling}
 use Rattle.sccs_disk.specs.Effects.{settled}
-use Rattle.sccs_disk.specs.Files.{Content, File, Model, View, put, view_of}
-use Rattle.sccs_disk.specs.Images.{Allows, Fits, Full, IsFirm, file_of}
+use Rattle.sccs_disk.specs.Effects as effects
+use Rattle.sccs_disk.specs.Files.{Content, File, Model, Names, Op, View, after, file_at, names, put, view_of}
+use Rattle.sccs_disk.specs.MemoryFiles.{IsFirmFile, IsSettled, model_of, placed}
+use Rattle.sccs_disk.specs.States.{empty_state}
+use Rattle.sccs_disk.specs.Images.{Allows, Fits, Full, Image, IsFirm, file_of}
 use Rattle.sccs_disk.proofs.Puts.{name_cases, put_other, put_same}
 use Rattle.sccs_images.specs.Touches.{Touches}
 use Rattle.sccs_images.proofs.Images.{full_image, image_settled, view_full, view_image}
@@ -107,6 +113,47 @@ calm_kept v m keeps = λ w image.
       pairs = λ n sfile. later.pairs n sfile ∙ sym (now.pairs n sfile);
       recovers = recovers_then (view_of m) v w (recovers_back v (view_of m) now.recovers) later.recovers;
     }
+
+-- ---- disks on which every file is firm and nothing is pending
+
+none_pending : (base : Names) (j : ℕ) → after (take j []) base ≡ base
+none_pending base zero = refl
+none_pending base (suc j) = refl
+
+image_full : (m : Model) (w : View) → m.pending ≡ [] → Image m w → Full m w
+image_full m w none (j, fits) n =
+    subst (λ (t : Names). Fits (file_at m.files (t n)) (w n))
+    (ap (λ (ops : List Op). after (take j ops) m.base) none ∙ (none_pending m.base j ∙ sym (ap (λ (ops : List Op). after ops m.base) none))) (fits n)
+
+each_firm : (files : List File) (o : Option ℕ) → All IsFirmFile files → IfSome (file_at files o) (λ (f : File). f.firm ≡ true)
+each_firm files None each = tt
+each_firm files (Some p) each = by (slice_get files p) refl
+  where
+    by : (o : Option File) → slice_get files p ≡ o → IfSome o (λ (f : File). f.firm ≡ true)
+    by None is = tt
+    by (Some f) is = subst IsFirmFile (get_or_from_slice_get files p f f is) (each p f (slice_get_within files p f is))
+
+pub settled_calm : (m : Model) → IsSettled m → IsCalm m
+settled_calm m still = λ w image. full_keeps m w all_firm (image_full m w still.pending image)
+  where
+    all_firm : HasFirm m
+    all_firm = record {
+      s_files = λ n sfile. each_firm m.files (names m n) still.files;
+      p_files = λ n sfile. each_firm m.files (names m (sibling 112 n)) still.files;
+    }
+
+none_firm : All IsFirmFile []
+none_firm k d low = absurd (omega (arith, low))
+
+one_firm : (c : Content) → All IsFirmFile (effects.firm c ∷ [])
+one_firm c zero d low = refl
+one_firm c (suc k) d low = absurd (omega (arith, low))
+
+pub empty_settled : IsSettled (model_of empty_state)
+empty_settled = record { files = none_firm; pending = refl }
+
+pub placed_settled : (n : List ℕ) (c : Content) (m : Model) → IsSettled m → IsSettled (placed n c m)
+placed_settled n c m still = record { files = All-append IsFirmFile m.files (effects.firm c ∷ []) still.files (one_firm c); pending = still.pending }
 
 -- firm files stay so where others are touched
 pub firms_touched : (mine : List ℕ → Bool) (m m2 : Model) → ((n : List ℕ) → IsSfile n → mine n ≡ false) → ((n : List ℕ) → IsSfile n → mine (sibling 112 n) ≡ false) → Touches mine m m2 → HasFirm m → HasFirm m2

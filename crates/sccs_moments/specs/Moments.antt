@@ -70,6 +70,10 @@ RecoversOn old new = (m : Model) (past : List Model) → old ≡ Tells m past �
 abbrev pub LeavesCalm : Told → Told → Type 0
 LeavesCalm old new = (m : Model) (past : List Model) → old ≡ Tells m past → HasFirm m → (m2 : Model) (past2 : List Model) → new ≡ Tells m2 past2 → IsCalm m2
 
+-- a calm disk stays calm
+abbrev pub KeepsCalm : Told → Told → Type 0
+KeepsCalm old new = (m : Model) (past : List Model) → old ≡ Tells m past → IsCalm m → (m2 : Model) (past2 : List Model) → new ≡ Tells m2 past2 → IsCalm m2
+
 -- where s-files and p-files were firm they are firm still, so that recovery may run again
 abbrev pub LeavesFirm : Told → Told → Type 0
 LeavesFirm old new = (m : Model) (past : List Model) → old ≡ Tells m past → HasFirm m → (m2 : Model) (past2 : List Model) → new ≡ Tells m2 past2 → HasFirm m2

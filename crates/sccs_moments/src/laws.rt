@@ -2,7 +2,9 @@
 ghost use Rattle.std.specs.Prelude.{◌≡◌, ℕ, List};
 ghost use Rattle.sccs_base.specs.Name.{IsSfile, sibling};
 ghost use Rattle.sccs_disk.specs.Effects.{settled};
-ghost use Rattle.sccs_disk.specs.Files.{Model, View, view_of};
+ghost use Rattle.sccs_disk.specs.Files.{Content, Model, View, view_of};
+ghost use Rattle.sccs_disk.specs.MemoryFiles.{IsSettled, model_of, placed};
+ghost use Rattle.sccs_disk.specs.States.{empty_state};
 ghost use Rattle.sccs_disk.specs.Told.{Told};
 ghost use Rattle.sccs_files.specs.StepFiles.{is_left};
 ghost use Rattle.sccs_images.specs.Touches.{Touching, newest};
@@ -22,6 +24,14 @@ pub fn recovery_is_made_once()
 pub fn calm_disks_are_firm()
     ensures firm { (m : Model) → IsCalm m → HasFirm m }
     ensures synced { (m : Model) → HasFirm m → IsCalm (settled m) }
+{}
+
+/// A disk is calm where each of its files is firm and no name operation is pending. So it is where it has no
+/// file, it stays so where a firm file is put on it, and so a stop leaves a disk in memory.
+pub fn settled_disks_are_calm()
+    ensures calm { (m : Model) → IsSettled m → IsCalm m }
+    ensures empty { IsSettled (model_of empty_state) }
+    ensures put { (n : List ℕ) (c : Content) (m : Model) → IsSettled m → IsSettled (placed n c m) }
 {}
 
 /// From a calm disk on, a call that touches at most the working files and the z-file of a sound name

@@ -1,5 +1,5 @@
 -- The moments of the command recover.
-use Rattle.std.proofs.Common.{◌≡◌, ◌↔◌, ℕ, Bool, true, false, cond, List, Option, None, Some, IfSome, IsErrOf, is_some, Result, Ok, Err, inl, inr, refl, sym, ap, subst, ◌∙◌, arith}
+use Rattle.std.proofs.Common.{◌≡◌, ◌≢◌, ◌↔◌, ℕ, Bool, true, false, cond, List, Option, None, Some, IfSome, IsErrOf, is_some, Result, Ok, Err, inl, inr, refl, sym, ap, subst, ◌∙◌, arith}
 use Rattle.sccs_base.specs.Name.{IsSfile, sibling}
 use Rattle.sccs_sid.specs.declared.refusals.StepFault.{StepFault}
 use Rattle.sccs_sid.specs.declared.refusals.StepFault.TheVariants.{Refused, Memory, ReadFault, WriteFault, DiskFault}
@@ -11,16 +11,18 @@ use Rattle.sccs_pfile.proofs.Recovering.{twice_once}
 use Rattle.sccs_files.specs.StepFiles.{is_working, look, moved}
 use Rattle.sccs_images.specs.Touches.{TouchesOnly, earlier, newest}
 use Rattle.sccs_moments.specs.Calm.{IsCalm}
-use Rattle.sccs_moments.specs.Moments.{EndsAfter, EndsWithin, IsAt, IsFrom, LeavesCalm, LeavesFirm, RecoversOn, Went}
+use Rattle.sccs_moments.specs.Moments.{EndsAfter, EndsWithin, IsAt, IsFrom, KeepsCalm, LeavesCalm, LeavesFirm, RecoversOn, Went}
 use Rattle.sccs_moments.specs.Recovery.{RecoversAs, recover}
 use Rattle.sccs_moments.proofs.CalmDisks.{calm_firm}
 use Rattle.sccs_moments.proofs.FileNames.{working_s}
 use Rattle.sccs_moments.proofs.Joined.{numbered_as, numbered_now, raised}
+use Rattle.sccs_moments.proofs.Recoveries.{calm_keeps, calm_same, working_calm}
 use Rattle.sccs_moments.proofs.Recovering.{recovers_back, recovers_recovered, recovers_then, same_recovers}
 use Rattle.sccs_moments.proofs.Untouched.{before_after, ends_working, same_before}
 use Rattle.sccs_steps.specs.StepEffects.{Outcome, effect_of}
 use Rattle.sccs_steps.specs.Calls.{Meets, scene, world}
 use Rattle.sccs_steps.specs.Actions.{IsHeard}
+use Rattle.sccs_steps.specs.Recovering.{RecoversStep}
 use Rattle.sccs_steps.specs.StepStops.{Ends, IsSafe, IsSafeFor, MeetsAt, StepMoments, place_of}
 use Rattle.sccs_steps.proofs.Safety.{placed_safe}
 use Rattle.sccs_store.specs.Commits.{Becomes}
@@ -133,3 +135,19 @@ fault_moments n fault a b left out err sfile faults story leaves touches = λ m 
     subst (λ (t : Told). IfSome (seen t) (λ (u : View). (j : List ℕ) → IsHeard false left j → Meets (λ (done : Unit {0}). 0) (Err fault) n (recover_step n (look u n)) (world (seen t) out err) (world (seen b) out err))) is (fault_steps n fault a b left out err sfile faults) i heard in
     subst (λ (t : Told). MeetsAt recover_action (Err fault) n o v m past (scene t out err) (scene b out err)) (sym is)
     (met, fault_at fault n o a b out err m past faults story leaves (λ e. touches (ap Err e)) is calm safe met)
+
+-- ---- on a disk that isn't calm
+
+pub made_recovers : (r : Result (Unit {0}) StepFault) (a b : Told) → RecoversOn a b → LeavesFirm a b → LeavesCalm a b → RecoversStep r a b
+made_recovers (Ok done) a b story firm leaves = record { story = story; firm = firm; calm = leaves; keeps = λ other. calm_keeps a b leaves }
+made_recovers (Err fault) a b story firm leaves = record { story = story; firm = firm; calm = tt; keeps = λ other. calm_keeps a b leaves }
+
+fault_keeps : (fault : StepFault) (n : List ℕ) (a b : Told) → Faults n fault a b → (fault ≡ Memory → TouchesOnly (is_working n) a b) → fault ≢ DiskFault → KeepsCalm a b
+fault_keeps (Refused refusal) n a b faults touches other = calm_same a b (faults.refused refusal refl)
+fault_keeps Memory n a b faults touches other = working_calm n a b (touches refl)
+fault_keeps ReadFault n a b faults touches other = absurd (faults.read refl)
+fault_keeps WriteFault n a b faults touches other = absurd (faults.write refl)
+fault_keeps DiskFault n a b faults touches other = absurd (other refl)
+
+pub fault_recovers : (fault : StepFault) (n : List ℕ) (a b : Told) → Faults n fault a b → RecoversOn a b → LeavesFirm a b → (IsErrOf {T = Recovered} (Err fault) Memory → TouchesOnly (is_working n) a b) → RecoversStep {X = Unit {0}} (Err fault) a b
+fault_recovers fault n a b faults story firm touches = record { story = story; firm = firm; calm = tt; keeps = λ other. fault_keeps fault n a b faults (λ e. touches (ap Err e)) (λ e. other (ap Err e)) }

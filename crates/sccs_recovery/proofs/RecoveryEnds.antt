@@ -8,18 +8,19 @@ use Rattle.sccs_disk.specs.Files.{Content, View, put}
 use Rattle.sccs_disk.specs.Calls.{Half, IsThere}
 use Rattle.sccs_disk.specs.Effects.{syncing_names}
 use Rattle.sccs_disk.specs.Told.{Told, seen}
-use Rattle.sccs_disk.proofs.Puts.{put_other, put_same}
+use Rattle.sccs_disk.proofs.Puts.{name_cases, put_other, put_same}
 use Rattle.sccs_sid.specs.Reading.{◌>>=◌}
 use Rattle.sccs_sid.specs.declared.refusals.Refusal.{Refusal}
 use Rattle.sccs_sid.specs.declared.refusals.StepFault.{StepFault}
 use Rattle.sccs_sid.specs.declared.refusals.StepFault.TheVariants.{Refused, Memory, ReadFault, WriteFault, DiskFault}
 use Rattle.sccs_pfile.specs.Recovered.{recovered_pfile}
 use Rattle.sccs_files.specs.StepFiles.{AreCleared, Files, Moves, MovesPartly, is_left, is_working, look, moved, placed}
-use Rattle.sccs_moments.specs.Recovery.{cleared, recover, without}
+use Rattle.sccs_moments.specs.Recovery.{cleaned, cleared, recover, without}
 use Rattle.sccs_moments.proofs.FileNames.{from_g, from_sfile, no_q, no_working, no_y, no_z, working_s}
 use Rattle.sccs_moments.proofs.Recovering.{cleared_other, recover_by}
 use Rattle.sccs_steps.specs.StepEffects.{Outcome, StepEffect}
 use Rattle.sccs_steps.specs.Calls.{Meets, ReportCut, scene, world}
+use Rattle.sccs_steps.specs.FirstFiles.{MovesInOrder}
 use Rattle.sccs_steps.specs.Causes.{StepCauses, WriteCauses, counts}
 use Rattle.sccs_steps.specs.Actions.{IsHeard, RefusesWithin, SpeaksBy, Stepped, quiet_checks}
 use Rattle.sccs_steps.proofs.ReadingSteps.{ends_silent}
@@ -153,6 +154,7 @@ cut_ends n v o2 out out2 err sfile is says = (
   recovers n (look v n),
   refl,
   record {
+    status = refl;
     view = subst (λ (t : Option View). Moves (is_working n) (λ u. moved u n (recovers n (look v n)).new) (Some v) t) (sym is) (λ k h. recovers_at n v k sfile h);
     out = says;
     err = some_none err [];
@@ -199,19 +201,46 @@ pub record Faults (n : List ℕ) (fault : StepFault) (a b : Told) : Type 0 where
   pub read : fault ≢ ReadFault
   pub write : fault ≢ WriteFault
 
-parts_moved : (n : List ℕ) (v : View) (o2 : Option View) (f : View → View) → ((k : List ℕ) → is_working n k ≡ false → recover n v k ≡ f v k) → MovesPartly (is_left n) (recover n) (Some v) o2 → MovesPartly (is_left n) f (Some v) o2
-parts_moved n v None f same parts = absurd parts
-parts_moved n v (Some w) f same parts = λ k h. ⊎_elim inl (λ e. inr (e ∙ same k (no_working n k h))) (parts k h)
-
 -- each file is as it was, or as the step would make it
 partly_by : (n : List ℕ) (v : View) (o2 : Option View) (r : Result Bool Refusal) → checked n v ≡ r → MovesPartly (is_left n) (λ (u : View). recovers_if (checked n u) n u) (Some v) o2 → MovesPartly (is_left n) (λ (u : View). recovers_if r n u) (Some v) o2
 partly_by n v None r is parts = absurd parts
 partly_by n v (Some w) r is parts = λ k h. subst (λ (x : Result Bool Refusal). (w k ≡ v k) ⊎ (w k ≡ recovers_if x n v k)) is (parts k h)
 
+-- recovery changes no file but working files, the p-file and the z-file
+recover_other : (n : List ℕ) (v : View) (k : List ℕ) → is_left n k ≡ false → bytes_eq (sibling 112 n) k ≡ false → recover n v k ≡ v k
+recover_other n v k h other = by (is_some (v (sibling 122 n)))
+  where
+    by : (z : Bool) → cond z (without (sibling 122 n) (cleaned n v)) (without (sibling 121 n) v) k ≡ v k
+    by true = put_other (cleaned n v) (sibling 122 n) k None (no_z n k h) ∙ (put_other (cleared n v) (sibling 112 n) k (recovered_pfile (v n) (v (sibling 112 n))) other ∙ cleared_other n v k (no_working n k h))
+    by false = put_other v (sibling 121 n) k None (no_y n k (no_working n k h))
+
+-- with the old p-file all files are as they were, with the new one as the step makes them
+recovered_or_not : (n : List ℕ) (v w f : View) → ((k : List ℕ) → is_left n k ≡ false → recover n v k ≡ f k) → ((k : List ℕ) → is_left n k ≡ false → (w k ≡ v k) ⊎ (w k ≡ recover n v k))
+    → ((k : List ℕ) → is_left n k ≡ false → w k ≡ v k) ⊎ ((k : List ℕ) → is_left n k ≡ false → w k ≡ f k)
+recovered_or_not n v w f same parts = ⊎_elim old_one new_one (parts (sibling 112 n) refl)
+  where
+    at_other : (k : List ℕ) → is_left n k ≡ false → bytes_eq (sibling 112 n) k ≡ false → w k ≡ v k
+    at_other k h other = ⊎_elim (λ e. e) (λ e. e ∙ recover_other n v k h other) (parts k h)
+
+    old_one : w (sibling 112 n) ≡ v (sibling 112 n) → ((k : List ℕ) → is_left n k ≡ false → w k ≡ v k) ⊎ ((k : List ℕ) → is_left n k ≡ false → w k ≡ f k)
+    old_one e = inl (λ k h. ⊎_elim (λ is. subst (λ m. w m ≡ v m) is e) (at_other k h) (name_cases (sibling 112 n) k))
+
+    new_one : w (sibling 112 n) ≡ recover n v (sibling 112 n) → ((k : List ℕ) → is_left n k ≡ false → w k ≡ v k) ⊎ ((k : List ℕ) → is_left n k ≡ false → w k ≡ f k)
+    new_one e = inr (λ k h.
+        ⊎_elim (λ is. subst (λ m. w m ≡ recover n v m) is e) (λ other. at_other k h other ∙ sym (recover_other n v k h other)) (name_cases (sibling 112 n) k) ∙ same k h)
+
+in_order : (n : List ℕ) (v : View) (o2 : Option View) (new : Option Files) → ((k : List ℕ) → is_left n k ≡ false → recover n v k ≡ moved v n new k) → MovesPartly (is_left n) (recover n) (Some v) o2 → MovesInOrder n new (Some v) o2
+in_order n v None new same parts = absurd parts
+in_order n v (Some w) new same parts = ⊎_elim (λ old. (0, old)) (λ made. (3, made)) (recovered_or_not n v w (moved v n new) same parts)
+
+all_kept : (n : List ℕ) (v : View) (o2 : Option View) → MovesPartly (is_left n) (λ (u : View). u) (Some v) o2 → Moves (is_left n) (λ u. u) (Some v) o2
+all_kept n v None parts = absurd parts
+all_kept n v (Some w) parts = λ k h. ⊎_elim (λ e. e) (λ e. e) (parts k h)
+
 interrupted : (n : List ℕ) (v : View) (o2 : Option View) (r : Result Bool Refusal) (out err : Option (List ℕ)) → IsSfile n → MovesPartly (is_left n) (λ (u : View). recovers_if r n u) (Some v) o2
     → Meets (λ (done : Unit {0}). 0) (Err DiskFault) n (r >>= λ done. Ok (recovers n (look v n))) (world (Some v) out err) (world o2 out err)
-interrupted n v o2 (Ok done) out err sfile parts = record { view = parts_moved n v o2 (λ u. moved u n (recovers n (look v n)).new) (λ k h. recovers_at n v k sfile h) parts; out = some_none out []; err = refl }
-interrupted n v o2 (Err refusal) out err sfile parts = record { view = parts; out = some_none out []; err = refl }
+interrupted n v o2 (Ok done) out err sfile parts = record { view = in_order n v o2 (recovers n (look v n)).new (λ k h. recovers_at n v k sfile (no_working n k h)) parts; out = some_none out []; err = refl }
+interrupted n v o2 (Err refusal) out err sfile parts = record { view = (0, all_kept n v o2 parts); out = some_none out []; err = refl }
 
 fault_ends : (n : List ℕ) (v : View) (fault : StepFault) (r : Result Bool Refusal) (a b : Told) (out err : Option (List ℕ)) → IsSfile n → seen a ≡ Some v → checked n v ≡ r → Faults n fault a b
     → Meets (λ (done : Unit {0}). 0) (Err fault) n (r >>= λ done. Ok (recovers n (look v n))) (world (Some v) out err) (world (seen b) out err)

@@ -4,7 +4,7 @@ use Rattle.std.specs.Fmt.{decimal}
 use Rattle.sccs_sid.specs.Moment.{two}
 use Rattle.sccs_sid.specs.Sid.{sid_text}
 use Rattle.sccs_sid.specs.declared.refusals.Refusal.{Refusal}
-use Rattle.sccs_sid.specs.declared.refusals.Refusal.TheVariants.{BadName, Locked, Missing, Exists, TooLong, NotSccs, BadSum, BadFormat, Encoded, BadPfile, Disagree, NotAllowed, NoEdit, ManyEdits, NoSid, BadList, OutsideRelease, LockedRelease, BeingEdited, BadScript, ScriptRange, BadText, NoKeywords, GExists, GDiffers, FlagBad, MrNeeded, MrNotAllowed, Unsupported, NotTip, NotOwner, Full, Changed, Unbuilt}
+use Rattle.sccs_sid.specs.declared.refusals.Refusal.TheVariants.{BadName, Locked, Missing, Exists, TooLong, NotSccs, BadSum, BadFormat, Encoded, BadPfile, Disagree, NotAllowed, NoEdit, ManyEdits, NoSid, BadList, OutsideRelease, LockedRelease, BeingEdited, BadScript, ScriptRange, BadText, NoKeywords, GExists, GDiffers, FlagBad, MrNeeded, MrNotAllowed, Unsupported, NotTip, NotOwner, Full, Changed, BadRcs, BadRevision, RcsScript, GroupPending, BadIntent, Unbuilt}
 
 -- the number of a refusal; the checks of a step are made in the order of these numbers
 abbrev pub number_of : Refusal → ℕ
@@ -41,6 +41,11 @@ number_of NotTip = 31
 number_of NotOwner = 32
 number_of Full = 33
 number_of (Changed size sum size_again sum_again) = 34
+number_of (BadRcs byte) = 35
+number_of (BadRevision revision) = 36
+number_of (RcsScript revision line) = 37
+number_of GroupPending = 38
+number_of (BadIntent line) = 39
 number_of Unbuilt = 99
 
 -- the last five digits
@@ -54,6 +59,10 @@ sums_text stored computed = five stored ++ (codes ", computed " ++ five computed
 -- a line of a script, and how many lines the text has
 abbrev pub script_range : ℕ → ℕ → List ℕ
 script_range line count = decimal line ++ (codes ": text has " ++ decimal count)
+
+-- a revision of an RCS file, and a line of its text or script
+abbrev pub script_fault : ℕ → ℕ → List ℕ
+script_fault revision line = decimal revision ++ (codes " fails at line " ++ decimal line)
 
 -- what is wrong
 abbrev pub reason : Refusal → List ℕ
@@ -90,6 +99,11 @@ reason NotTip = codes "not the newest delta of its branch"
 reason NotOwner = codes "not the owner"
 reason Full = codes "no number is left"
 reason (Changed size sum size_again sum_again) = codes "file changed while read"
+reason (BadRcs byte) = codes "bad RCS file at byte " ++ decimal byte
+reason (BadRevision revision) = codes "revision " ++ (decimal revision ++ codes " is unfit")
+reason (RcsScript revision line) = codes "revision " ++ script_fault revision line
+reason GroupPending = codes "a group is pending"
+reason (BadIntent line) = codes "format error in intent at line " ++ decimal line
 reason Unbuilt = codes "not built yet"
 
 -- the line of a file: what is wrong, and the digits of a number in parentheses

@@ -7,7 +7,7 @@ use crate::sids::Sid;
 use itoa::Buffer;
 
 /// The bytes of the longest detail: two numbers, and the words between them.
-pub const DETAIL_ROOM: usize = 51;
+pub const DETAIL_ROOM: usize = 55;
 
 // what a refusal's text says beside its fixed words
 #[derive(Clone, Copy)]
@@ -16,6 +16,7 @@ pub enum Detail {
     Number(u64),
     Sums(u32, u16),
     Range(u64, u64),
+    Fails(u64, u64),
     Letter(u8),
     Place(Sid),
 }
@@ -36,7 +37,7 @@ fn five(number: u32) -> [u8; 5]
 
 // puts bytes after those that stand up to a place, and answers where they end
 fn put(into: &mut [u8; DETAIL_ROOM], at: usize, bytes: &[u8]) -> usize
-    requires { at + length bytes.now ≤ 51 }
+    requires { at + length bytes.now ≤ 55 }
     ensures end { result ≡ at + length bytes.now }
     ensures put { take result into.new ≡ take at into.old ++ bytes.now }
 {
@@ -47,7 +48,7 @@ fn put(into: &mut [u8; DETAIL_ROOM], at: usize, bytes: &[u8]) -> usize
 
 // puts a written SID at the start, and answers where it ends
 pub fn put_sid(sid: &Sid, into: &mut [u8; DETAIL_ROOM]) -> usize
-    ensures end { result ≤ 51 }
+    ensures end { result ≤ 55 }
     ensures put { take result into.new ≡ sid_text sid.now }
 {
     let mut buffer = Buffer::new();
@@ -63,9 +64,21 @@ pub fn put_sid(sid: &Sid, into: &mut [u8; DETAIL_ROOM]) -> usize
     put(into, end, buffer.format(sid.sequence).as_bytes())
 }
 
+// puts two numbers at the start, with words between them, and answers where they end
+fn put_two(first: u64, words: &[u8], second: u64, into: &mut [u8; DETAIL_ROOM]) -> usize
+    requires { length words.now ≤ 15 }
+    ensures end { result ≤ 55 }
+    ensures put { take result into.new ≡ decimal first ++ (words.now ++ decimal second) }
+{
+    let mut buffer = Buffer::new();
+    let end = put(into, 0, buffer.format(first).as_bytes());
+    let end = put(into, end, words);
+    put(into, end, buffer.format(second).as_bytes())
+}
+
 // puts the text of a detail at the start, and answers where it ends
 pub fn put_detail(detail: &Detail, into: &mut [u8; DETAIL_ROOM]) -> usize
-    ensures end { result ≤ 51 }
+    ensures end { result ≤ 55 }
     ensures put { take result into.new ≡ detail_text detail.now }
 {
     match detail {
@@ -76,12 +89,8 @@ pub fn put_detail(detail: &Detail, into: &mut [u8; DETAIL_ROOM]) -> usize
             let end = put(into, end, b", computed ");
             put(into, end, &five(u32::from(*computed)))
         }
-        Detail::Range(line, count) => {
-            let mut buffer = Buffer::new();
-            let end = put(into, 0, buffer.format(*line).as_bytes());
-            let end = put(into, end, b": text has ");
-            put(into, end, buffer.format(*count).as_bytes())
-        }
+        Detail::Range(line, count) => put_two(*line, b": text has ", *count, into),
+        Detail::Fails(revision, line) => put_two(*revision, b" fails at line ", *line, into),
         Detail::Letter(letter) => put(into, 0, &[*letter]),
         Detail::Place(sid) => put_sid(sid, into),
     }

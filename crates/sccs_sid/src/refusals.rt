@@ -77,6 +77,16 @@ pub enum Refusal {
     Full,
     /// The size and the sum of a file at a first reading, and at a second.
     Changed(u64, u16, u64, u16),
+    /// The byte of an RCS file, from 1, at which no spelling goes on.
+    BadRcs(u64),
+    /// The first revision of an RCS file's trunk, from 1, that is no delta; 0 for its description.
+    BadRevision(u64),
+    /// The first revision whose text or script fails, and the line of it.
+    RcsScript(u64, u64),
+    /// A change of several files was begun and isn't ended.
+    GroupPending,
+    /// The first line at which no spelling of such a change goes on.
+    BadIntent(u64),
     /// This isn't built yet.
     Unbuilt,
 }
@@ -131,6 +141,11 @@ impl Refusal {
             Refusal::NotOwner => 32,
             Refusal::Full => 33,
             Refusal::Changed(_, _, _, _) => 34,
+            Refusal::BadRcs(_) => 35,
+            Refusal::BadRevision(_) => 36,
+            Refusal::RcsScript(_, _) => 37,
+            Refusal::GroupPending => 38,
+            Refusal::BadIntent(_) => 39,
             Refusal::Unbuilt => 99,
         }
     }
@@ -186,6 +201,15 @@ fn wording(refusal: &Refusal) -> (&'static [u8], Detail, &'static [u8])
         Refusal::NotOwner => (b"not the owner", Detail::Nothing, b""),
         Refusal::Full => (b"no number is left", Detail::Nothing, b""),
         Refusal::Changed(_, _, _, _) => (b"file changed while read", Detail::Nothing, b""),
+        Refusal::BadRcs(byte) => (b"bad RCS file at byte ", Detail::Number(byte), b""),
+        Refusal::BadRevision(revision) => (b"revision ", Detail::Number(revision), b" is unfit"),
+        Refusal::RcsScript(revision, line) => (b"revision ", Detail::Fails(revision, line), b""),
+        Refusal::GroupPending => (b"a group is pending", Detail::Nothing, b""),
+        Refusal::BadIntent(line) => (
+            b"format error in intent at line ",
+            Detail::Number(line),
+            b"",
+        ),
         Refusal::Unbuilt => (b"not built yet", Detail::Nothing, b""),
     }
 }

@@ -17,7 +17,7 @@ use Rattle.sccs_splicer.proofs.Spelling.{spelled_both}
 goes_none : (s : State) → Goes [] [] s s
 goes_none s = record { owes = λ rest. refl; line = omega arith; plan = refl }
 
-count_both : (xs ys : List (Item × Bool)) → base_count (xs ++ ys) ≡ base_count xs + base_count ys
+pub count_both : (xs ys : List (Item × Bool)) → base_count (xs ++ ys) ≡ base_count xs + base_count ys
 count_both [] ys = omega arith
 count_both ((Text text, true) ∷ xs) ys = omega (arith, count_both xs ys)
 count_both ((Text text, false) ∷ xs) ys = count_both xs ys

@@ -1,16 +1,16 @@
 -- What a disk shows after a step: of a command that only reads all that it showed, else all but working files.
-use Rattle.std.proofs.Common.{◌≡◌, ℕ, Bool, true, false, ◌||◌, List, [], ◌∷◌, map, Option, None, Some, Ok, Err, inl, inr, refl, sym, ap, subst, ◌∙◌}
+use Rattle.std.proofs.Common.{◌≡◌, ℕ, Bool, true, false, List, [], ◌∷◌, map, Option, None, Ok, Err, inl, inr, refl, sym, ap, subst, ◌∙◌}
 use Rattle.std.proofs.Math.Path.{fun_ext}
-use Rattle.std.specs.Str.{bytes_eq}
-use Rattle.sccs_base.specs.Name.{sibling}
 use Rattle.std.specs.List.{AllByRecursion}
 use Rattle.sccs_disk.specs.Files.{Content, Folder, View, view_in}
-use Rattle.sccs_files.specs.StepFiles.{Files, look, moved, moved_in, is_working, is_left, Alike, Moves, MovesPartly, Shows, ShowsPartly}
+use Rattle.sccs_files.specs.StepFiles.{Files, look, moved, moved_in, is_working, Alike, Moves, Shows}
 use Rattle.sccs_files.proofs.Folders.{moved_view}
-use Rattle.sccs_files.proofs.Views.{look_alike, shows_moved, shows_partly}
+use Rattle.sccs_files.proofs.Views.{look_alike, shows_moved}
 use Rattle.sccs_steps.specs.StepEffects.{StepEffect, Outcome, effect_of}
-use Rattle.sccs_steps.specs.StepLists.{NamedStep, named_step, left_by}
+use Rattle.sccs_steps.specs.FirstFiles.{MovesInOrder}
+use Rattle.sccs_steps.specs.StepLists.{ShowsNext, named_step}
 use Rattle.sccs_steps.specs.Actions.{IsClear}
+use Rattle.sccs_steps.proofs.FirstMoved.{shows_in_order, shows_none}
 
 -- where it only reads the files are left as they are
 abbrev pub IsKept : Bool → Outcome → Type 0
@@ -45,19 +45,7 @@ pub clear_same : (reads : Bool) (w : List ℕ → Bool) (m : Folder) (n : List �
     → Shows w a (view_in m) → Moves (is_working n) (λ u. u) a b → Shows w b (view_in m)
 clear_same reads w m n a b clear same shows moves = clear_moved reads w m n None a b clear same (λ is. refl) shows moves
 
-left_false : (x y : Bool) → (x || y) ≡ false → x ≡ false
-left_false true y h = cc
-left_false false y h = refl
-
-pub shows_first : (w : List ℕ → Bool) (told : Option View) (u v : View) (t : NamedStep) → Shows w told u → ShowsPartly (left_by w (t ∷ [])) told u v
-shows_first w None u v t shows = absurd shows
-shows_first w (Some s) u v t shows = λ k h. inl (shows k (left_false (w k) (bytes_eq (sibling 122 t.name) k) h))
-
-pub clear_partly : (reads : Bool) (w : List ℕ → Bool) (m : Folder) (n : List ℕ) (o : Outcome) (a b : Option View) → IsClear reads w n → (reads ≡ true → b ≡ a)
-    → Shows w a (view_in m) → MovesPartly (is_left n) (λ u. moved u n (effect_of n o).new) a b
-    → ShowsPartly (left_by w (named_step n o ∷ [])) b (view_in m) (view_in (moved_in m n (effect_of n o).new))
-clear_partly reads w m n o a b (inl all) same shows moves =
-    shows_first w b (view_in m) (view_in (moved_in m n (effect_of n o).new)) (named_step n o) (subst (λ told. Shows w told (view_in m)) (sym (same all.0)) shows)
-clear_partly reads w m n o a b (inr apart) same shows moves =
-    subst (λ (v : View). ShowsPartly (left_by w (named_step n o ∷ [])) b (view_in m) v) (sym (moved_view m n (effect_of n o).new))
-    (shows_partly w n (effect_of n o).new (view_in m) a b apart shows moves)
+pub clear_in_order : (reads : Bool) (w : List ℕ → Bool) (m : Folder) (n : List ℕ) (o : Outcome) (a b : Option View) → IsClear reads w n → (reads ≡ true → b ≡ a)
+    → Shows w a (view_in m) → MovesInOrder n (effect_of n o).new a b → ShowsNext w (named_step n o ∷ []) b (view_in m)
+clear_in_order reads w m n o a b (inl all) same shows moves = shows_none w b (view_in m) (named_step n o) [] (subst (λ told. Shows w told (view_in m)) (sym (same all.0)) shows)
+clear_in_order reads w m n o a b (inr apart) same shows moves = (moves.0, shows_in_order w moves.0 n (effect_of n o).new (view_in m) a b apart shows moves.1)

@@ -1,6 +1,6 @@
 -- Fronts of lists of steps: the views, and what is written before a report.
 use Rattle.std.proofs.Common.{◌≡◌, ℕ, zero, suc, ◌+◌, ◌≤◌, List, [], ◌∷◌, ◌++◌, take, drop, length, Option, None, Some, refl, sym, ap, subst, ◌∙◌, arith, append_assoc, length-append, length-take}
-use Rattle.std.proofs.lemmas.List.{drop-append-le, take-append-le}
+use Rattle.std.proofs.lemmas.List.{drop-append-le, take-append-le, take_all}
 use Rattle.std.proofs.Math.Seq.{drop-append-add, take-append-add}
 use Rattle.sccs_base.specs.Stream.{GivesSome}
 use Rattle.sccs_disk.specs.Files.{Folder, view_in}
@@ -15,6 +15,9 @@ view_front m ts us k low = ap (λ (front : List NamedStep). view_in (folder_afte
 
 pub view_past : (m : Folder) (ts us : List NamedStep) (k : ℕ) → view_at m (ts ++ us) (length ts + k) ≡ view_at (folder_after m ts) us k
 view_past m ts us k = ap (λ (front : List NamedStep). view_in (folder_after m front)) (take-append-add ts us k) ∙ ap (λ (u : Folder). view_in u) (after_more m ts (take k us))
+
+pub view_all : (m : Folder) (ts : List NamedStep) (k : ℕ) → k ≡ length ts → view_at m ts k ≡ view_in (folder_after m ts)
+view_all m ts k is = ap (λ (front : List NamedStep). view_in (folder_after m front)) (take_all k ts (omega (arith, is)))
 
 -- ---- what is written
 

@@ -1,17 +1,17 @@
 -- Lists of steps, one behind another.
-use Rattle.std.proofs.Common.{◌≡◌, ℕ, ◌<◌, max, ◌⊎◌, Bool, true, false, ◌||◌, List, [], ◌∷◌, ◌++◌, length, Option, Some, None, Ok, inl, inr, refl, sym, ap, subst, ◌∙◌, arith, append_assoc, length-append}
-use Rattle.std.specs.Str.{bytes_eq}
+use Rattle.std.proofs.Common.{◌≡◌, ℕ, ◌<◌, max, Bool, List, [], ◌∷◌, ◌++◌, length, Option, Ok, refl, sym, ap, subst, ◌∙◌, arith, append_assoc, length-append}
 use Rattle.std.proofs.lemmas.List.{append-nil}
 use Rattle.std.proofs.lemmas.Grind.{flat_map-append}
-use Rattle.sccs_base.specs.Name.{sibling}
 use Rattle.sccs_base.specs.Stream.{GivesOk, GivesSome}
-use Rattle.sccs_disk.specs.Files.{Folder, View, view_in}
+use Rattle.sccs_disk.specs.Files.{Folder, view_in}
 use Rattle.sccs_steps.specs.Calls.{World}
-use Rattle.sccs_files.specs.StepFiles.{Shows, ShowsPartly}
-use Rattle.sccs_steps.specs.StepLists.{NamedStep, Ran, Stopped, ListInterrupted, Stops, Runs, SoFar, Parts, folder_after, next_folder, out_of, err_of, status_of, next_text, left_by}
+use Rattle.sccs_files.specs.StepFiles.{Shows}
+use Rattle.sccs_steps.specs.StepLists.{NamedStep, Ran, Stopped, ListInterrupted, Stops, Runs, ShowsNext, SoFar, Parts, folder_after, next_folder, out_of, err_of, status_of, next_text}
 use Rattle.sccs_steps.specs.declared.faults.Fault.{Fault}
 use Rattle.sccs_steps.specs.declared.faults.Fault.TheVariants.{Memory, ReadFault, WriteFault, DiskFault}
+use Rattle.sccs_steps.proofs.Cleared.{cleared_same, cleared_then}
 use Rattle.sccs_base.proofs.Gifts.{gives_none, gives_both, gives_then, some_longer}
+use Rattle.sccs_steps.proofs.FirstMoved.{next_longer}
 
 pub after_more : (m : Folder) (ts us : List NamedStep) → folder_after m (ts ++ us) ≡ folder_after (folder_after m ts) us
 after_more m [] us = refl
@@ -28,11 +28,12 @@ status_more [] us = omega arith
 status_more (t ∷ ts) us = let rest : status_of (ts ++ us) ≡ max (status_of ts) (status_of us) = status_more ts us in omega arith
 
 pub ran_none : (w : List ℕ → Bool) (m : Folder) (a : World) → Shows w a.view (view_in m) → Ran w m [] a a
-ran_none w m a shows = record { view = shows; out = gives_none a.out; err = gives_none a.err }
+ran_none w m a shows = record { view = shows; cleared = cleared_same w [] a.view a.view refl; out = gives_none a.out; err = gives_none a.err }
 
 pub ran_then : (w : List ℕ → Bool) (m : Folder) (ts us : List NamedStep) (a b c : World) → Ran w m ts a b → Ran w (folder_after m ts) us b c → Ran w m (ts ++ us) a c
 ran_then w m ts us a b c first second = record {
   view = subst (λ (u : Folder). Shows w c.view (view_in u)) (sym (after_more m ts us)) second.view;
+  cleared = cleared_then w ts us a.view b.view c.view first.cleared second.cleared;
   out = subst (λ text. GivesOk a.out c.out text) (sym (out_more ts us)) (gives_both a.out b.out c.out (out_of ts) (out_of us) first.out second.out);
   err = subst (λ text. GivesOk a.err c.err text) (sym (err_more ts us)) (gives_both a.err b.err c.err (err_of ts) (err_of us) first.err second.err);
 }
@@ -53,6 +54,7 @@ stopped_then w m ts us a b c first s = record {
   rest = s.rest;
   is = ap (λ rest. ts ++ rest) s.is ∙ sym (append_assoc ts s.made s.rest);
   view = subst (λ (u : Folder). Shows w c.view (view_in u)) (sym (after_more m ts s.made)) s.view;
+  cleared = cleared_then w ts s.made a.view b.view c.view first.cleared s.cleared;
   out = out_then w m ts s.made s.rest a b c first s.out;
   err = err_then w m ts s.made a b c first s.err;
 }
@@ -62,7 +64,7 @@ broke_then w m ts us a b c first s = record {
   made = ts ++ s.made;
   rest = s.rest;
   is = ap (λ rest. ts ++ rest) s.is ∙ sym (append_assoc ts s.made s.rest);
-  view = subst (λ (u : Folder). ShowsPartly (left_by w s.rest) c.view (view_in u) (view_in (next_folder u s.rest))) (sym (after_more m ts s.made)) s.view;
+  view = subst (λ (u : Folder). ShowsNext w s.rest c.view (view_in u)) (sym (after_more m ts s.made)) s.view;
   out = out_then w m ts s.made s.rest a b c first s.out;
   err = err_then w m ts s.made a b c first s.err;
 }
@@ -84,32 +86,17 @@ stopped_more w m ts us a b s = record {
   rest = s.rest ++ us;
   is = ap (λ all. all ++ us) s.is ∙ append_assoc s.made s.rest us;
   view = s.view;
+  cleared = s.cleared;
   out = text_longer a.out b.out (out_of s.made) s.rest us s.out;
   err = s.err;
 }
-
-left_false : (x y : Bool) → (x || y) ≡ false → x ≡ false
-left_false true y h = cc
-left_false false y h = refl
-
-one_view : {A : Type 0} (x y z : A) → (x ≡ y) ⊎ (x ≡ y) → (x ≡ y) ⊎ (x ≡ z)
-one_view x y z (inl e) = inl e
-one_view x y z (inr e) = inl e
-
-partly_longer : (w : List ℕ → Bool) (told : Option View) (u : Folder) (rest us : List NamedStep) → ShowsPartly (left_by w rest) told (view_in u) (view_in (next_folder u rest))
-    → ShowsPartly (left_by w (rest ++ us)) told (view_in u) (view_in (next_folder u (rest ++ us)))
-partly_longer w told u (t ∷ rest) us shows = shows
-partly_longer w told u [] [] shows = shows
-partly_longer w None u [] (t ∷ us) shows = shows
-partly_longer w (Some v) u [] (t ∷ us) shows = λ k h.
-    one_view (v k) (view_in u k) (view_in (next_folder u (t ∷ us)) k) (shows k (left_false (w k) (bytes_eq (sibling 122 t.name) k) h))
 
 broke_more : (w : List ℕ → Bool) (m : Folder) (ts us : List NamedStep) (a b : World) → ListInterrupted w m ts a b → ListInterrupted w m (ts ++ us) a b
 broke_more w m ts us a b s = record {
   made = s.made;
   rest = s.rest ++ us;
   is = ap (λ all. all ++ us) s.is ∙ append_assoc s.made s.rest us;
-  view = partly_longer w b.view (folder_after m s.made) s.rest us s.view;
+  view = next_longer w b.view (view_in (folder_after m s.made)) s.rest us s.view;
   out = text_longer a.out b.out (out_of s.made) s.rest us s.out;
   err = s.err;
 }

@@ -20,25 +20,28 @@ use Rattle.sccs_sid.specs.declared.refusals.Refusal.{Refusal}
 use Rattle.sccs_sid.specs.declared.refusals.Refusal.TheVariants.{TooLong}
 use Rattle.sccs_steps.specs.Actions.{Action, AreClear, IsHeard, hears, input_steps, kind_hears, kind_of, kind_steps, names_found, names_given, steps_of}
 use Rattle.sccs_steps.specs.Calls.{Scene, World, scene, shown}
-use Rattle.sccs_steps.specs.ListStops.{AreSafe, ListMoments, RunMoments, Spares}
+use Rattle.sccs_steps.specs.ListStops.{AreSafe, ListMoments, RunMoments, Spares, StaySafe}
 use Rattle.sccs_steps.specs.Messages.{SaysRefusal}
 use Rattle.sccs_steps.specs.Running.{MakesBy, StopsBy}
 use Rattle.sccs_steps.specs.Speaking.{KindBegins, KindMakes, MayStandFor, SpeakNames, SpeaksKind, SpeaksOne}
-use Rattle.sccs_steps.specs.StepLists.{NamedStep, Ran, Runs, Stopped, folder_after, named_step, next_text}
+use Rattle.sccs_steps.specs.StepLists.{NamedStep, Ran, Runs, Stopped, named_step, next_text}
 use Rattle.sccs_steps.specs.declared.faults.Fault.{Fault}
 use Rattle.sccs_steps.specs.declared.faults.Fault.TheVariants.{Memory, ReadFault, WriteFault, DiskFault}
 use Rattle.sccs_steps.specs.declared.operands.OperandKind.{OperandKind}
 use Rattle.sccs_steps.specs.declared.operands.OperandKind.TheVariants.{Named, Here, FromInput}
-use Rattle.sccs_steps.proofs.Clear.{shows_first}
+use Rattle.sccs_steps.proofs.Cleared.{cleared_same}
+use Rattle.sccs_steps.proofs.FirstMoved.{shows_none}
 use Rattle.sccs_steps.proofs.JoinedSteps.{ran_then, stops_then}
-use Rattle.sccs_steps.proofs.MomentLists.{alike_recovers, moments_never, moments_then}
+use Rattle.sccs_steps.proofs.Fronts.{view_past}
+use Rattle.sccs_steps.proofs.MomentLists.{alike_recovers, moments_never, moments_then, run_moments}
 use Rattle.sccs_steps.proofs.NameLaws.{refusal_runs, speak_refusal, speak_whole}
-use Rattle.sccs_steps.proofs.NameStops.{alike_told, refusal_stops, run_moments}
+use Rattle.sccs_steps.proofs.NameStops.{alike_told, refusal_stops}
+use Rattle.sccs_steps.proofs.Safety.{stay_same}
 
 -- ---- steps that weren't begun
 
 abbrev unbegun : (w : List ℕ → Bool) (m : Folder) (ts : List NamedStep) (a : World) → Shows w a.view (view_in m) → Stopped w m ts a a
-unbegun w m ts a shows = record { made = []; rest = ts; is = refl; view = shows; out = some_none a.out (next_text ts); err = some_none a.err [] }
+unbegun w m ts a shows = record { made = []; rest = ts; is = refl; view = shows; cleared = cleared_same w [] a.view a.view refl; out = some_none a.out (next_text ts); err = some_none a.err [] }
 
 pub never_runs : (w : List ℕ → Bool) (fault : Fault) (m : Folder) (ts : List NamedStep) (a : World) → 0 < length ts → Shows w a.view (view_in m) → Runs w (Err fault) m ts a a
 never_runs w Memory m ts a some shows = (unbegun w m ts a shows, some)
@@ -49,7 +52,7 @@ never_runs w DiskFault m (t ∷ ts) a some shows = record {
   made = [];
   rest = t ∷ ts;
   is = refl;
-  view = shows_first w a.view (view_in m) (view_in (folder_after m (t ∷ []))) t shows;
+  view = shows_none w a.view (view_in m) t ts shows;
   out = some_none a.out (next_text (t ∷ ts));
   err = some_none a.err [];
 }
@@ -62,12 +65,12 @@ pub never_stops : (x : Action) (steps : Folder → List ℕ → List NamedStep) 
 never_stops x steps given fault old new out err same = λ w folder i m past spares clear shows heard is calm safe.
     subst (λ (t : Told). RunMoments x w (Err fault) folder (steps folder i) (scene old out err) (scene t out err) m past) (sym same)
     (run_moments x w (Err fault) folder (steps folder i) (scene old out err) (scene old out err) m past
-    (moments_never w fault folder (steps folder i) (scene old out err) m past spares is calm (alike_told w folder old m past is shows) shows) (λ ok. absurd (cc)))
+    (moments_never w fault folder (steps folder i) (scene old out err) m past spares is calm (alike_told w folder old m past is shows) shows) (λ other. stay_same x (view_in folder)))
 
 -- ---- names that were found, and their steps
 
 found_ran : (w : List ℕ → Bool) (m : Folder) (a : World) → Shows w a.view (view_in m) → Ran w m (names_found ∷ []) a a
-found_ran w m a shows = record { view = shows; out = gives_none a.out; err = gives_none a.err }
+found_ran w m a shows = record { view = shows; cleared = cleared_same w (names_found ∷ []) a.view a.view refl; out = gives_none a.out; err = gives_none a.err }
 
 pub found_runs : (w : List ℕ → Bool) (r : Result ℕ Fault) (m : Folder) (ts : List NamedStep) (a b : World) → Shows w a.view (view_in m) → Runs w r m ts a b → Runs w r m (names_found ∷ ts) a b
 found_runs w (Ok status) m ts a b shows runs = (runs.0 ∙ omega arith, ran_then w m (names_found ∷ []) ts a a b (found_ran w m a shows) runs.1)
@@ -95,7 +98,8 @@ pub found_moments : (x : Action) (w : List ℕ → Bool) (r : Result ℕ Fault) 
     → RunMoments x w r folder (names_found ∷ ts) a b m past
 found_moments x w r folder ts a b m past spares is calm shows next =
     run_moments x w r folder (names_found ∷ ts) a b m past
-    (moments_then w 0 r folder (names_found ∷ []) ts a a b m past (found_ran w folder (shown a) shows) (moments_found w folder a m past spares is calm (alike_told w folder a.told m past is shows) shows) next.list) next.safe
+    (moments_then w 0 r folder (names_found ∷ []) ts a a b m past (found_ran w folder (shown a) shows) (moments_found w folder a m past spares is calm (alike_told w folder a.told m past is shows) shows) next.list)
+    (λ other. subst (λ (v : View). StaySafe x (view_in folder) v) (sym (view_past folder (names_found ∷ []) ts next.list.number)) (next.safe other))
 
 -- what is said of the names is said of the operand
 pub names_speak : (x : Action) (kind : OperandKind) (operand : List ℕ) (names : List (List ℕ)) (r : Result ℕ Fault) (err err2 : Option (List ℕ)) → MayStandFor x kind operand names → SpeakNames x names r err err2 → SpeaksKind x kind operand r err err2
@@ -208,7 +212,7 @@ input_stops x lines r left left2 a b never told stops = λ w folder i m past spa
     (subst (λ (ns : Result (List (List ℕ)) Refusal). AreSafe x (input_steps x i folder ns) (view_in folder)) found safe))
 
 -- an input that is too long
-long_names : (x : Action) (left : Option (List ℕ)) (i : List ℕ) → IsHeard true left i → IfSome left (λ bytes. GivesLines file_limit bytes (Err take.TooLong)) → names_given x i ≡ Err TooLong
+pub long_names : (x : Action) (left : Option (List ℕ)) (i : List ℕ) → IsHeard true left i → IfSome left (λ bytes. GivesLines file_limit bytes (Err take.TooLong)) → names_given x i ≡ Err TooLong
 long_names x left i heard told =
     names_none x i (subst (λ (o : Option (List ℕ)). IfSome o (λ bytes. GivesLines file_limit bytes (Err take.TooLong))) (heard_input left i heard) told)
 

@@ -1,5 +1,7 @@
 pub mod Clear
+pub mod Cleared
 pub mod Exits
+pub mod FirstMoved
 pub mod Fronts
 pub mod Gifts
 pub mod JoinedSteps
@@ -12,6 +14,7 @@ pub mod OneMoment
 pub mod OneStep
 pub mod ReadingMoments
 pub mod ReadingSteps
+pub mod RecoveringSteps
 pub mod Safety
 pub mod Turns
 pub mod TurnStops

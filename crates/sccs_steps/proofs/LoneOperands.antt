@@ -6,6 +6,7 @@ use Rattle.sccs_steps.specs.Actions.{Action, AreClear, IsHeard, hears, kind_hear
 use Rattle.sccs_steps.specs.Calls.{shown}
 use Rattle.sccs_steps.specs.ListStops.{AreSafe, RunMoments}
 use Rattle.sccs_steps.specs.Running.{RunsOperand, RunsOperands}
+use Rattle.sccs_steps.specs.Recovering.{has_made}
 use Rattle.sccs_steps.specs.Settings.{Setting}
 use Rattle.sccs_steps.specs.Speaking.{OperandBegins, OperandMakes, SpeakAll, SpeakBy}
 use Rattle.sccs_steps.specs.StepLists.{NamedStep, Runs}
@@ -38,6 +39,14 @@ lone_operand x operand r s t runs = record {
   unlocked = λ w folder i spares clear shows given locks plain.
       runs.unlocked w folder i spares (subst (λ (ts : List NamedStep). AreClear x w ts) (alone x folder i operand) clear) shows (subst (λ hearing. IsHeard hearing s.left i) (hears_one x operand) given.0) locks
       (subst (λ (ts : List NamedStep). ArePlain x ts) (alone x folder i operand) plain);
+  recovers = λ never. record {
+    story = (runs.recovers never).story;
+    firm = (runs.recovers never).firm;
+    calm = λ ok w folder i spares clear shows given made.
+        (runs.recovers never).calm ok w folder i spares (subst (λ (ts : List NamedStep). AreClear x w ts) (alone x folder i operand) clear) shows (subst (λ hearing. IsHeard hearing s.left i) (hears_one x operand) given.0)
+        (subst (λ (ts : List NamedStep). has_made ts ≡ true) (alone x folder i operand) made);
+    keeps = (runs.recovers never).keeps;
+  };
   speaks = speaks_one x operand r s.stage.err t.stage.err runs.speaks;
   reads = runs.reads;
   silent = runs.silent;

@@ -1,5 +1,5 @@
 -- The moments of lists of steps, one behind another.
-use Rattle.std.proofs.Common.{◌≡◌, ◌⊎◌, ℕ, suc, ◌+◌, ◌<◌, ◌≤◌, Bool, List, [], ◌∷◌, ◌++◌, length, is_some, Result, Ok, Err, inl, inr, refl, sym, ap, subst, ◌∙◌, ⊎_elim, arith, length-append}
+use Rattle.std.proofs.Common.{◌≡◌, ◌≢◌, ◌⊎◌, ℕ, suc, ◌+◌, ◌<◌, ◌≤◌, Bool, List, [], ◌∷◌, ◌++◌, length, is_some, Result, Ok, Err, inl, inr, refl, sym, ap, subst, ◌∙◌, ⊎_elim, arith, length-append}
 use Rattle.std.proofs.lemmas.Bool.{cases_lt}
 use Rattle.sccs_base.specs.Name.{sibling}
 use Rattle.sccs_base.specs.Stream.{GivesSome}
@@ -16,10 +16,12 @@ use Rattle.sccs_moments.specs.Recovery.{RecoversAs}
 use Rattle.sccs_moments.proofs.CalmDisks.{calm_firm}
 use Rattle.sccs_moments.proofs.Joined.{guarded_joined, numbered_as, numbered_joined}
 use Rattle.sccs_moments.proofs.Recovering.{recovers_then, same_recovers}
+use Rattle.sccs_steps.specs.Actions.{Action}
 use Rattle.sccs_steps.specs.Calls.{Scene, shown}
 use Rattle.sccs_steps.specs.StepLists.{NamedStep, Ran, err_of, folder_after, next_text, out_of}
-use Rattle.sccs_steps.specs.ListStops.{IsAcknowledged, IsAtNumber, ListMoments, Spares, err_before, out_before, view_at}
+use Rattle.sccs_steps.specs.ListStops.{IsAcknowledged, IsAtNumber, ListMoments, RunMoments, Spares, StaySafe, err_before, out_before, view_at}
 use Rattle.sccs_steps.specs.declared.faults.Fault.{Fault}
+use Rattle.sccs_steps.specs.declared.faults.Fault.TheVariants.{DiskFault}
 use Rattle.sccs_steps.proofs.Fronts.{err_front, err_past, err_rises, more_within, out_front, out_past, out_rises, view_front, view_past}
 
 -- views that are alike but for working files recover alike
@@ -48,7 +50,7 @@ moments_none w folder a m past spares is calm alike shows = record {
 }
 
 -- a list that wasn't begun
-pub moments_never : (w : List ℕ → Bool) (fault : Fault) (folder : Folder) (ts : List NamedStep) (a : Scene) (m : Model) (past : List Model) → Spares w → a.told ≡ Tells m past → IsCalm m → Alike w (view_of m) (view_in folder) → Shows w (seen a.told) (view_in folder) → ListMoments w (Err fault) folder ts a a m past
+abbrev pub moments_never : (w : List ℕ → Bool) (fault : Fault) (folder : Folder) (ts : List NamedStep) (a : Scene) (m : Model) (past : List Model) → Spares w → a.told ≡ Tells m past → IsCalm m → Alike w (view_of m) (view_in folder) → Shows w (seen a.told) (view_in folder) → ListMoments w (Err fault) folder ts a a m past
 moments_never w fault folder ts a m past spares is calm alike shows = record {
   number = 0;
   most = omega arith;
@@ -125,7 +127,7 @@ went_front folder ts us j b m past went = record {
   guarded = went.guarded;
 }
 
-pub moments_more : (w : List ℕ → Bool) (fault : Fault) (folder : Folder) (ts us : List NamedStep) (a b : Scene) (m : Model) (past : List Model) → ListMoments w (Err fault) folder ts a b m past → ListMoments w (Err fault) folder (ts ++ us) a b m past
+abbrev pub moments_more : (w : List ℕ → Bool) (fault : Fault) (folder : Folder) (ts us : List NamedStep) (a b : Scene) (m : Model) (past : List Model) → ListMoments w (Err fault) folder ts a b m past → ListMoments w (Err fault) folder (ts ++ us) a b m past
 moments_more w fault folder ts us a b m past l = record {
   number = l.number;
   most = (let low = l.most in omega (arith, low, length-append ts us));
@@ -147,3 +149,7 @@ acknowledged w r folder ts a b m past l k below known = ⊎_elim (λ low. absurd
     uncounted low (inl out) = omega (arith, out, more_within a.out b.out (out_before ts l.number) l.out, out_rises ts l.number k low)
     uncounted low (inr (inl err)) = omega (arith, err, more_within a.err b.err (err_before ts l.number) l.err, err_rises ts l.number k low)
     uncounted low (inr (inr ok)) = omega (arith, low, below, l.all ok)
+
+pub run_moments : (x : Action) (w : List ℕ → Bool) (r : Result ℕ Fault) (folder : Folder) (ts : List NamedStep) (a b : Scene) (m : Model) (past : List Model) → (list : ListMoments w r folder ts a b m past)
+    → (r ≢ Err DiskFault → StaySafe x (view_in folder) (view_at folder ts list.number)) → RunMoments x w r folder ts a b m past
+run_moments x w r folder ts a b m past list safe = record { list = list; acknowledged = acknowledged w r folder ts a b m past list; safe = safe }

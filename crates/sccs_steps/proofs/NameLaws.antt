@@ -20,6 +20,7 @@ use Rattle.sccs_steps.specs.Actions.{Action, IsClear, IsHeard, KeepsFiles, NameI
 use Rattle.sccs_steps.specs.declared.faults.Fault.{Fault}
 use Rattle.sccs_steps.specs.declared.faults.Fault.TheVariants.{Memory, ReadFault, WriteFault, DiskFault}
 use Rattle.sccs_steps.proofs.Clear.{IsKept, clear_look, named_alike}
+use Rattle.sccs_steps.proofs.Cleared.{cleared_same}
 use Rattle.sccs_base.proofs.Gifts.{some_none}
 use Rattle.sccs_steps.proofs.OneStep.{concluded, refusal_ends}
 
@@ -38,7 +39,7 @@ fitting x m i name fits = rw fits refl
 -- a refusal that is said
 pub refusal_runs : (w : List ℕ → Bool) (m : Folder) (n : List ℕ) (refusal : Refusal) (r : Result ℕ Fault) (v : Option View) (out err err2 : Option (List ℕ)) → Shows w v (view_in m) → SaysRefusal n refusal r err err2
     → Runs w r m (named_step n (Err refusal) ∷ []) (world v out err) (world v out err2)
-refusal_runs w m n refusal r v out err err2 shows says = refusal_ends w m n (Err refusal) refusal r (world v out err) (world v out err2) refl shows (some_none out []) says
+refusal_runs w m n refusal r v out err err2 shows says = refusal_ends w m n (Err refusal) refusal r (world v out err) (world v out err2) refl shows (cleared_same w [] v v refl) (some_none out []) says
 
 -- a name that isn't taken
 pub misfit_runs : (x : Action) (w : List ℕ → Bool) (m : Folder) (i n : List ℕ) (r : Result ℕ Fault) (v : Option View) (out err err2 : Option (List ℕ)) → x.fits n ≡ false → Shows w v (view_in m) → SaysRefusal n BadName r err err2

@@ -1,11 +1,10 @@
 -- What a stop leaves of the step of one name.
-use Rattle.std.proofs.Common.{◌≡◌, ℕ, Bool, true, false, List, [], ◌∷◌, map, Option, IsOk, is_ok, Result, Ok, Err, sym, ap, subst, ◌∙◌}
+use Rattle.std.proofs.Common.{◌≡◌, ℕ, Bool, true, false, List, [], ◌∷◌, map, Option, Result, Ok, Err, sym, ap, subst, ◌∙◌}
 use Rattle.sccs_base.proofs.Gifts.{some_none, some_of_whole}
 use Rattle.sccs_sid.specs.Refusal.{refusal_line}
 use Rattle.sccs_sid.specs.declared.refusals.Refusal.{Refusal}
 use Rattle.sccs_sid.specs.declared.refusals.Refusal.TheVariants.{BadName}
 use Rattle.sccs_sid.specs.declared.refusals.StepFault.{StepFault}
-use Rattle.sccs_sid.specs.declared.refusals.StepFault.TheVariants as step
 use Rattle.sccs_disk.specs.Files.{Content, Folder, Model, View, view_in, view_of}
 use Rattle.sccs_disk.specs.Told.{Told, Tells, seen}
 use Rattle.sccs_files.specs.StepFiles.{Alike, Files, Shows, look, moved, moved_in}
@@ -17,21 +16,17 @@ use Rattle.sccs_steps.specs.StepEffects.{Outcome, effect_of}
 use Rattle.sccs_steps.specs.Calls.{Scene, scene}
 use Rattle.sccs_steps.specs.Messages.{Concludes, SaysRefusal}
 use Rattle.sccs_steps.specs.Actions.{Action, IsHeard, KeepsFiles, NameIsClear, outcome_at, step_at}
-use Rattle.sccs_steps.specs.StepLists.{NamedStep, folder_after, named_step}
+use Rattle.sccs_steps.specs.StepLists.{named_step}
 use Rattle.sccs_steps.specs.StepStops.{IsSafeFor, MeetsAt, StepMoments}
-use Rattle.sccs_steps.specs.ListStops.{ListMoments, RunMoments, Spares, StaySafe}
+use Rattle.sccs_steps.specs.ListStops.{RunMoments, Spares}
 use Rattle.sccs_steps.specs.Running.{StopsBy}
 use Rattle.sccs_steps.specs.declared.faults.Fault.{Fault}
 use Rattle.sccs_steps.specs.declared.faults.Fault.TheVariants.{Memory, ReadFault, WriteFault, DiskFault}
 use Rattle.sccs_steps.proofs.Clear.{clear_look, kept_effect, named_alike}
-use Rattle.sccs_steps.proofs.MomentLists.{acknowledged}
+use Rattle.sccs_steps.proofs.MomentLists.{run_moments}
 use Rattle.sccs_steps.proofs.OneMoment.{alikes_of, one_after, turned}
 use Rattle.sccs_steps.proofs.NameLaws.{fitting, kept, misfit}
 use Rattle.sccs_steps.proofs.Safety.{stay_folder, stay_same, told_safe}
-
-pub run_moments : (x : Action) (w : List ℕ → Bool) (r : Result ℕ Fault) (folder : Folder) (ts : List NamedStep) (a b : Scene) (m : Model) (past : List Model) → ListMoments w r folder ts a b m past → (IsOk r → StaySafe x (view_in folder) (view_in (folder_after folder ts)))
-    → RunMoments x w r folder ts a b m past
-run_moments x w r folder ts a b m past list safe = record { list = list; acknowledged = acknowledged w r folder ts a b m past list; safe = safe }
 
 -- the view that is told is the folder's, but for working files
 pub alike_told : (w : List ℕ → Bool) (folder : Folder) (t : Told) (m : Model) (past : List Model) → t ≡ Tells m past → Shows w (seen t) (view_in folder) → Alike w (view_of m) (view_in folder)
@@ -39,22 +34,19 @@ alike_told w folder t m past is shows = subst (λ (told : Told). Shows w (seen t
 
 -- ---- a name that is refused before its step
 
-refusal_moments : (w : List ℕ → Bool) (r : Result ℕ Fault) (folder : Folder) (n : List ℕ) (refusal : Refusal) (a : Scene) (e : Option (List ℕ)) (m : Model) (past : List Model) → Spares w → a.told ≡ Tells m past → IsCalm m → Shows w (seen a.told) (view_in folder) → SaysRefusal n refusal r a.err e
-    → ListMoments w r folder (named_step n (Err refusal) ∷ []) a (scene a.told a.out e) m past
-refusal_moments w (Ok status) folder n refusal a e m past spares is calm shows says =
-    one_after w (Ok status) folder (named_step n (Err refusal)) (view_of m) (view_of m) a (scene a.told a.out e) m past (alikes_of w folder n (Err refusal) (view_of m) spares (alike_told w folder a.told m past is shows))
-    (before_after (view_of m) m past a.told (same_before m past a.told calm is)) (some_none a.out []) (some_of_whole a.err e (refusal_line n refusal) says.1) shows
-refusal_moments w (Err WriteFault) folder n refusal a e m past spares is calm shows says =
-    one_after w (Err WriteFault) folder (named_step n (Err refusal)) (view_of m) (view_of m) a (scene a.told a.out e) m past (alikes_of w folder n (Err refusal) (view_of m) spares (alike_told w folder a.told m past is shows))
-    (before_after (view_of m) m past a.told (same_before m past a.told calm is)) (some_none a.out []) says shows
-refusal_moments w (Err Memory) folder n refusal a e m past spares is calm shows says = absurd says
-refusal_moments w (Err ReadFault) folder n refusal a e m past spares is calm shows says = absurd says
-refusal_moments w (Err DiskFault) folder n refusal a e m past spares is calm shows says = absurd says
-
 pub refusal_stops : (x : Action) (w : List ℕ → Bool) (r : Result ℕ Fault) (folder : Folder) (n : List ℕ) (refusal : Refusal) (a : Scene) (e : Option (List ℕ)) (m : Model) (past : List Model) → Spares w → a.told ≡ Tells m past → IsCalm m → Shows w (seen a.told) (view_in folder) → SaysRefusal n refusal r a.err e
     → RunMoments x w r folder (named_step n (Err refusal) ∷ []) a (scene a.told a.out e) m past
-refusal_stops x w r folder n refusal a e m past spares is calm shows says =
-    run_moments x w r folder (named_step n (Err refusal) ∷ []) a (scene a.told a.out e) m past (refusal_moments w r folder n refusal a e m past spares is calm shows says) (λ ok. stay_same x (view_in folder))
+refusal_stops x w (Ok status) folder n refusal a e m past spares is calm shows says =
+    run_moments x w (Ok status) folder (named_step n (Err refusal) ∷ []) a (scene a.told a.out e) m past
+    (one_after w (Ok status) folder (named_step n (Err refusal)) (view_of m) (view_of m) a (scene a.told a.out e) m past (alikes_of w folder n (Err refusal) (view_of m) spares (alike_told w folder a.told m past is shows))
+    (before_after (view_of m) m past a.told (same_before m past a.told calm is)) (some_none a.out []) (some_of_whole a.err e (refusal_line n refusal) says.1) shows) (λ other. stay_same x (view_in folder))
+refusal_stops x w (Err WriteFault) folder n refusal a e m past spares is calm shows says =
+    run_moments x w (Err WriteFault) folder (named_step n (Err refusal) ∷ []) a (scene a.told a.out e) m past
+    (one_after w (Err WriteFault) folder (named_step n (Err refusal)) (view_of m) (view_of m) a (scene a.told a.out e) m past (alikes_of w folder n (Err refusal) (view_of m) spares (alike_told w folder a.told m past is shows))
+    (before_after (view_of m) m past a.told (same_before m past a.told calm is)) (some_none a.out []) says shows) (λ other. stay_same x (view_in folder))
+refusal_stops x w (Err Memory) folder n refusal a e m past spares is calm shows says = absurd says
+refusal_stops x w (Err ReadFault) folder n refusal a e m past spares is calm shows says = absurd says
+refusal_stops x w (Err DiskFault) folder n refusal a e m past spares is calm shows says = absurd says
 
 -- a name that isn't taken
 pub misfit_stops : (x : Action) (n : List ℕ) (given : List ℕ → Type 0) (r : Result ℕ Fault) (a : Scene) (e : Option (List ℕ)) → x.fits n ≡ false → SaysRefusal n BadName r a.err e → StopsBy x (λ folder i. step_at x folder i n ∷ []) given r a (scene a.told a.out e)
@@ -62,18 +54,6 @@ misfit_stops x n given r a e unfit says = λ w folder i m past spares clear show
     subst (λ (o : Outcome). RunMoments x w r folder (named_step n o ∷ []) a (scene a.told a.out e) m past) (sym (misfit x folder i n unfit)) (refusal_stops x w r folder n BadName a e m past spares is calm shows says)
 
 -- ---- a name whose step was called
-
-not_ok : (r : Result ℕ Fault) (fault : Fault) → r ≡ Err fault → IsOk r → ⊥
-not_ok r fault is ok = let e : false ≡ true = sym (ap is_ok is) ∙ ok in cc
-
--- where its operand ends well its name is safe again
-own_after : (x : Action) (made : Result (Unit {0}) StepFault) (r : Result ℕ Fault) (n : List ℕ) (o : Outcome) (v : View) (m : Model) (past : List Model) (a b : Scene) (e : Option (List ℕ)) → MeetsAt x made n o v m past a b → Concludes made n r b.err e → IsOk r → IsSafeFor x n (moved v n (effect_of n o).new)
-own_after x (Ok done) r n o v m past a b e met says ok = met.1.1
-own_after x (Err (step.Refused refusal)) r n o v m past a b e met says ok = met.1.1
-own_after x (Err step.Memory) r n o v m past a b e met says ok = absurd (not_ok r Memory says.0 ok)
-own_after x (Err step.ReadFault) r n o v m past a b e met says ok = absurd (not_ok r ReadFault says.0 ok)
-own_after x (Err step.WriteFault) r n o v m past a b e met says ok = absurd (not_ok r WriteFault says.0 ok)
-own_after x (Err step.DiskFault) r n o v m past a b e met says ok = absurd (not_ok r DiskFault says.0 ok)
 
 -- what a step sees of the view that is told is what it sees of the folder
 outcome_told : (x : Action) (w : List ℕ → Bool) (folder : Folder) (i n : List ℕ) (v : View) → x.fits n ≡ true → NameIsClear x w n → Alike w v (view_in folder) → x.step n i (map v x.named) (look v n) ≡ outcome_at x folder i n
@@ -95,15 +75,13 @@ called_stops x n made r left a b e keeps fits same moments says = λ w folder i 
     let met : MeetsAt x made n o (view_of m) m past a b =
     subst (λ (q : Outcome). MeetsAt x made n q (view_of m) m past a b) (outcome_told x w folder i n (view_of m) fits clear.0 alike)
     (moments m past i is heard calm (told_safe x w n (view_in folder) (view_of m) keeps fits spares (λ k h. sym (alike k h)) (safe.0 fits))) in
-    run_moments x w r folder (named_step n o ∷ []) a (scene b.told b.out e) m past
-    (turned x w folder n o made r m past a b e (record {
+    turned x w folder n o made r m past a b e (record {
       alikes = alikes_of w folder n o (view_of m) spares alike;
       clear = (clear.0 fits).0;
       same = λ only. ap seen (same only);
       kept = λ only. kept_effect x.reads n o (kept x folder i n keeps fits) only;
       shows = shows;
-    }) met says)
-    (λ ok. stay_folder x folder n (effect_of n o).new keeps fits (safe.0 fits) (own_folder x w folder n o (view_of m) keeps fits spares alike (own_after x made r n o (view_of m) m past a b e met says ok)))
+    }) (λ own. stay_folder x folder n (effect_of n o).new keeps fits (safe.0 fits) (own_folder x w folder n o (view_of m) keeps fits spares alike own)) met says
 
 pub stepped_stops : (x : Action) (operand n : List ℕ) (made : Result (Unit {0}) StepFault) (r : Result ℕ Fault) (left : Option (List ℕ)) (a b : Scene) (e : Option (List ℕ)) → KeepsFiles x → x.fits operand ≡ true → n ≡ operand → (x.reads ≡ true → b.told ≡ a.told)
     → StepMoments x made n left a b → Concludes made operand r b.err e → StopsBy x (λ folder i. step_at x folder i operand ∷ []) (IsHeard x.takes left) r a (scene b.told b.out e)

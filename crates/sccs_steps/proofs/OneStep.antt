@@ -12,10 +12,11 @@ use Rattle.sccs_steps.specs.StepEffects.{StepEffect, Outcome, effect_of}
 use Rattle.sccs_steps.specs.Calls.{World, Meets, Fails, Uncommitted, Made, ReportCut, Interrupted, world}
 use Rattle.sccs_steps.specs.Messages.{SaysRefusal, Concludes}
 use Rattle.sccs_steps.specs.Actions.{IsClear}
-use Rattle.sccs_steps.specs.StepLists.{Stopped, ListInterrupted, Waits, Runs, named_step}
+use Rattle.sccs_steps.specs.StepLists.{AreAllCleared, Stopped, ListInterrupted, Waits, Runs, named_step}
 use Rattle.sccs_steps.specs.declared.faults.Fault.{Fault}
 use Rattle.sccs_steps.specs.declared.faults.Fault.TheVariants.{Memory, ReadFault, WriteFault, DiskFault}
-use Rattle.sccs_steps.proofs.Clear.{IsKept, clear_moved, clear_same, clear_partly}
+use Rattle.sccs_steps.proofs.Clear.{IsKept, clear_moved, clear_in_order, clear_same}
+use Rattle.sccs_steps.proofs.Cleared.{cleared_kept, cleared_made, cleared_more}
 use Rattle.sccs_steps.proofs.Gifts.{some_same}
 
 -- the step is made
@@ -26,6 +27,7 @@ made_runs reads w m n o d a b clear same kept shows is code made =
       sym code ∙ omega arith,
       record {
         view = clear_moved reads w m n d.new a.view b.view clear same (λ only. kept only d is) shows made.view;
+        cleared = cleared_made reads w n d a.view b.view clear same code made.view;
         out = subst (λ text. GivesOk a.out b.out text) (sym (append-nil (d.text ++ d.out))) made.out;
         err = subst (λ text. GivesOk a.err b.err text) (sym (append-nil d.err)) made.err;
       },
@@ -40,6 +42,7 @@ kept_waits reads w m n o a b clear same shows kept = (
     rest = named_step n o ∷ [];
     is = refl;
     view = clear_same reads w m n a.view b.view clear same shows kept.view;
+    cleared = cleared_kept w n a.view b.view kept.view kept.cleared;
     out = kept.out;
     err = some_same a.err b.err [] kept.err;
   },
@@ -56,6 +59,7 @@ cut_stops reads w m n o d a b clear same kept shows is cut =
       rest = [];
       is = refl;
       view = clear_moved reads w m n d.new a.view b.view clear same (λ only. kept only d is) shows cut.view;
+      cleared = cleared_made reads w n d a.view b.view clear same cut.status cut.view;
       out = subst (λ text. GivesSome a.out b.out text) (sym (append-nil (d.text ++ d.out)) ∙ sym (append-nil ((d.text ++ d.out) ++ []))) cut.out;
       err = subst (λ text. GivesSome a.err b.err text) (sym (append-nil d.err)) cut.err;
     })
@@ -73,7 +77,7 @@ disk_stops reads w m n o a b clear same shows interrupted = record {
   made = [];
   rest = named_step n o ∷ [];
   is = refl;
-  view = clear_partly reads w m n o a.view b.view clear same shows interrupted.view;
+  view = clear_in_order reads w m n o a.view b.view clear same shows interrupted.view;
   out = interrupted.out;
   err = some_same a.err b.err [] interrupted.err;
 }
@@ -87,25 +91,26 @@ some_nothing None b some = some
 some_nothing (Some f) b some = some.2 ∙ ap (λ text. Some (f ++ text)) (take_none some.0)
 
 -- the step is refused, and that is said, or what is said of it is cut
-pub refusal_ends : (w : List ℕ → Bool) (m : Folder) (n : List ℕ) (o : Outcome) (refusal : Refusal) (r : Result ℕ Fault) (a b : World) → o ≡ Err refusal → Shows w b.view (view_in m) → GivesSome a.out b.out []
+pub refusal_ends : (w : List ℕ → Bool) (m : Folder) (n : List ℕ) (o : Outcome) (refusal : Refusal) (r : Result ℕ Fault) (a b : World) → o ≡ Err refusal → Shows w b.view (view_in m) → AreAllCleared w [] a.view b.view → GivesSome a.out b.out []
     → SaysRefusal n refusal r a.err b.err → Runs w r m (named_step n o ∷ []) a b
-refusal_ends w m n o refusal (Ok status) a b is shows out said =
+refusal_ends w m n o refusal (Ok status) a b is shows cleared out said =
     subst (λ s. Runs w (Ok s) m (named_step n o ∷ []) a b) (sym said.0)
     (subst (λ (outcome : Outcome). Runs w (Ok 1) m (named_step n outcome ∷ []) a b) (sym is)
-    (refl, record { view = shows; out = some_nothing a.out b.out out; err = subst (λ text. GivesOk a.err b.err text) (sym (append-nil (refusal_line n refusal))) said.1 }))
-refusal_ends w m n o refusal (Err WriteFault) a b is shows out said =
+    (refl, record { view = shows; cleared = cleared_more w (named_step n (Err refusal) ∷ []) a.view b.view cleared; out = some_nothing a.out b.out out; err = subst (λ text. GivesOk a.err b.err text) (sym (append-nil (refusal_line n refusal))) said.1 }))
+refusal_ends w m n o refusal (Err WriteFault) a b is shows cleared out said =
     subst (λ (outcome : Outcome). Stopped w m (named_step n outcome ∷ []) a b) (sym is)
     (record {
       made = named_step n (Err refusal) ∷ [];
       rest = [];
       is = refl;
       view = shows;
+      cleared = cleared_more w (named_step n (Err refusal) ∷ []) a.view b.view cleared;
       out = out;
       err = subst (λ text. GivesSome a.err b.err text) (sym (append-nil (refusal_line n refusal))) said;
     })
-refusal_ends w m n o refusal (Err Memory) a b is shows out said = absurd said
-refusal_ends w m n o refusal (Err ReadFault) a b is shows out said = absurd said
-refusal_ends w m n o refusal (Err DiskFault) a b is shows out said = absurd said
+refusal_ends w m n o refusal (Err Memory) a b is shows cleared out said = absurd said
+refusal_ends w m n o refusal (Err ReadFault) a b is shows cleared out said = absurd said
+refusal_ends w m n o refusal (Err DiskFault) a b is shows cleared out said = absurd said
 
 -- ---- a step that was called, and how its operand ends
 
@@ -118,7 +123,7 @@ kept_with n text a b e same kept = record { view = kept.view; cleared = kept.cle
 write_with : (n : List ℕ) (o : Outcome) (a b : World) (e : Option (List ℕ)) → e ≡ b.err → Fails step.WriteFault n o a b → Fails step.WriteFault n o a (world b.view b.out e)
 write_with n o a b e same (inl kept) = inl (kept_with n _ a b e same kept)
 write_with n o a b e same (inr cut) =
-    inr (cut.0, cut.1, record { view = cut.2.view; out = cut.2.out; err = subst (λ t. GivesSome a.err t cut.0.err) (sym same) cut.2.err })
+    inr (cut.0, cut.1, record { status = cut.2.status; view = cut.2.view; out = cut.2.out; err = subst (λ t. GivesSome a.err t cut.0.err) (sym same) cut.2.err })
 
 pub concluded : (reads : Bool) (w : List ℕ → Bool) (m : Folder) (n : List ℕ) (o : Outcome) (made : Result (Unit {0}) StepFault) (r : Result ℕ Fault) (a b : World) (e : Option (List ℕ)) → IsClear reads w n → (reads ≡ true → b.view ≡ a.view) → IsKept reads o → Shows w a.view (view_in m)
     → Meets (λ _. 0) made n o a b → Concludes made n r b.err e → Runs w r m (named_step n o ∷ []) a (world b.view b.out e)
@@ -126,7 +131,7 @@ concluded reads w m n o (Ok done) r a b e clear same kept shows met says =
     subst (λ (res : Result ℕ Fault). Runs w res m (named_step n o ∷ []) a (world b.view b.out e)) (sym says.0)
     (made_runs reads w m n o met.0 a (world b.view b.out e) clear same kept shows met.1 met.2 (record { view = met.3.view; out = met.3.out; err = subst (λ t. GivesOk a.err t met.0.err) (sym says.1) met.3.err }))
 concluded reads w m n o (Err (step.Refused refusal)) r a b e clear same kept shows met says =
-    refusal_ends w m n o refusal r a (world b.view b.out e) met.0 (clear_same reads w m n a.view b.view clear same shows met.1.view) met.1.out (subst (λ t. SaysRefusal n refusal r t e) met.1.err says)
+    refusal_ends w m n o refusal r a (world b.view b.out e) met.0 (clear_same reads w m n a.view b.view clear same shows met.1.view) (cleared_kept w n a.view b.view met.1.view met.1.cleared) met.1.out (subst (λ t. SaysRefusal n refusal r t e) met.1.err says)
 concluded reads w m n o (Err step.Memory) r a b e clear same kept shows met says =
     subst (λ (res : Result ℕ Fault). Runs w res m (named_step n o ∷ []) a (world b.view b.out e)) (sym says.0)
     (kept_waits reads w m n o a (world b.view b.out e) clear same shows (kept_with n _ a b e says.1 met))

@@ -1,11 +1,11 @@
 -- How the call of a step ends that changes no file, over a disk that tells what it told.
-use Rattle.std.proofs.Common.{◌≡◌, ℕ, List, [], Option, Some, Err, inl, inr, refl, sym, subst}
+use Rattle.std.proofs.Common.{◌≡◌, ℕ, List, [], Option, Some, Err, inr, refl, sym, subst}
 use Rattle.sccs_base.specs.Stream.{GivesSome}
 use Rattle.sccs_base.proofs.Gifts.{some_none}
 use Rattle.sccs_disk.specs.Files.{View}
 use Rattle.sccs_sid.specs.declared.refusals.StepFault.{StepFault}
 use Rattle.sccs_sid.specs.declared.refusals.StepFault.TheVariants.{Refused, Memory, ReadFault, WriteFault, DiskFault}
-use Rattle.sccs_files.specs.StepFiles.{moved, is_working, is_left, Moves, MovesPartly, AreCleared}
+use Rattle.sccs_files.specs.StepFiles.{is_working, is_left, Moves, AreCleared}
 use Rattle.sccs_steps.specs.StepEffects.{Outcome, effect_of}
 use Rattle.sccs_steps.specs.Calls.{Meets, Uncommitted, Interrupted, world}
 
@@ -19,7 +19,7 @@ kept view told name text out out2 err same gives = record {
 
 pub broken : (view : View) (told : Option View) (name : List ℕ) (o : Outcome) (out out2 err : Option (List ℕ)) → told ≡ Some view → GivesSome out out2 (effect_of name o).text → Interrupted name o (world (Some view) out err) (world told out2 err)
 broken view told name o out out2 err same gives = record {
-  view = subst (λ (t : Option View). MovesPartly (is_left name) (λ v. moved v name (effect_of name o).new) (Some view) t) (sym same) (λ k h. inl refl);
+  view = (0, subst (λ (t : Option View). Moves (is_left name) (λ v. v) (Some view) t) (sym same) (λ k h. refl));
   out = gives;
   err = refl;
 }

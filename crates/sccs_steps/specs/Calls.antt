@@ -5,7 +5,8 @@ use Rattle.sccs_sid.specs.declared.refusals.StepFault.{StepFault}
 use Rattle.sccs_sid.specs.declared.refusals.StepFault.TheVariants.{Refused, Memory, ReadFault, WriteFault, DiskFault}
 use Rattle.sccs_disk.specs.Files.{View}
 use Rattle.sccs_disk.specs.Told.{Told, seen}
-use Rattle.sccs_files.specs.StepFiles.{moved, is_working, is_left, Moves, MovesPartly, AreCleared}
+use Rattle.sccs_files.specs.StepFiles.{moved, is_working, Moves, AreCleared}
+use Rattle.sccs_steps.specs.FirstFiles.{MovesInOrder}
 use Rattle.sccs_steps.specs.StepEffects.{StepEffect, Outcome, effect_of}
 
 -- a disk and two sinks, as they are told
@@ -44,13 +45,15 @@ pub record Made (n : List ℕ) (d : StepEffect) (w w2 : World) : Type 0 where
 
 -- The step is committed, and a prefix of its report is written.
 pub record ReportCut (n : List ℕ) (d : StepEffect) (w w2 : World) : Type 0 where
+  pub status : d.status ≡ 0
   pub view : Moves (is_working n) (λ v. moved v n d.new) w.view w2.view
   pub out : GivesSome w.out w2.out (d.text ++ d.out)
   pub err : GivesSome w.err w2.err d.err
 
--- The disk failed: each file is as it was or as the step makes it, and a prefix of the text is written.
+-- The disk failed: some first of s-file, p-file and g-file are as the step makes them and the others as they were, and a prefix
+-- of the text is written.
 pub record Interrupted (n : List ℕ) (o : Outcome) (w w2 : World) : Type 0 where
-  pub view : MovesPartly (is_left n) (λ v. moved v n (effect_of n o).new) w.view w2.view
+  pub view : MovesInOrder n (effect_of n o).new w.view w2.view
   pub out : GivesSome w.out w2.out (effect_of n o).text
   pub err : w2.err ≡ w.err
 

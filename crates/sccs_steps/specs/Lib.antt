@@ -1,8 +1,10 @@
 pub mod Actions
 pub mod Calls
 pub mod Causes
+pub mod FirstFiles
 pub mod ListStops
 pub mod Messages
+pub mod Recovering
 pub mod Running
 pub mod Settings
 pub mod Speaking

@@ -83,9 +83,9 @@ pub record Spares (w : List ℕ → Bool) : Type 0 where
   pub p : (n : List ℕ) → IsSfile n → w (sibling 112 n) ≡ false
   pub z : (n : List ℕ) → IsSfile n → w (sibling 122 n) ≡ false
 
--- The moments of steps. The last number is at least that of each step that is acknowledged, and at Ok the names that were safe
--- are safe again.
+-- The moments of steps. The last number is at least that of each step that is acknowledged, and but at a disk fault the names that
+-- were safe are safe again, after so many steps.
 pub record RunMoments (x : Action) (w : List ℕ → Bool) (r : Result ℕ Fault) (folder : Folder) (ts : List NamedStep) (a b : Scene) (m : Model) (past : List Model) : Type 0 where
   pub list : ListMoments w r folder ts a b m past
   pub acknowledged : (k : ℕ) → k < length ts → IsAcknowledged r ts k (shown a) (shown b) → suc k ≤ list.number
-  pub safe : IsOk r → StaySafe x (view_in folder) (view_in (folder_after folder ts))
+  pub safe : r ≢ Err DiskFault → StaySafe x (view_in folder) (view_at folder ts list.number)

@@ -10,6 +10,7 @@ use Rattle.sccs_steps.specs.Actions.{Action, AreClear, IsHeard, IsLone, hears, i
 use Rattle.sccs_steps.specs.Calls.{Scene, shown}
 use Rattle.sccs_steps.specs.Causes.{Ignores, RunCauses}
 use Rattle.sccs_steps.specs.ListStops.{AreSafe, RunMoments, Spares}
+use Rattle.sccs_steps.specs.Recovering.{RecoversBy}
 use Rattle.sccs_steps.specs.Settings.{Setting}
 use Rattle.sccs_steps.specs.Speaking.{SpeakAll, SpeakNames, SpeaksKind, SpeaksOne}
 use Rattle.sccs_steps.specs.StepLists.{NamedStep, Runs}
@@ -39,12 +40,13 @@ abbrev pub UnlockedBy : Action → Steps → (List ℕ → Type 0) → Told → 
 UnlockedBy x steps given old new = (w : List ℕ → Bool) (folder : Folder) (i : List ℕ)
     → Spares w → AreClear x w (steps folder i) → Shows w (seen old) (view_in folder) → given i → x.locks ≡ true → ArePlain x (steps folder i) → BeginsUnlocked old new
 
--- The steps are made, where the disk tells its files; what a stop leaves of them; that names are changed that weren't locked; what the call answers and writes on err, over any
--- disk; and what an action that only reads, that is silent, or that takes no input leaves as it was.
+-- The steps are made, where the disk tells its files; what a stop leaves of them; that names are changed that weren't locked; what those leave that lock no name, on a disk that isn't
+-- calm too; what the call answers and writes on err, over any disk; and what an action that only reads, that is silent, or that takes no input leaves as it was.
 pub record RunsSteps (x : Action) (made : Steps) (given : List ℕ → Type 0) (says : Result ℕ Fault → Option (List ℕ) → Option (List ℕ) → Type 0) (hearing : Bool) (r : Result ℕ Fault) (s t : Setting) : Type 0 where
   pub steps : MakesBy x made given r s.stage t.stage
   pub stops : StopsBy x made given r s.stage t.stage
   pub unlocked : UnlockedBy x made given s.stage.told t.stage.told
+  pub recovers : RecoversBy x made given r s.stage.told t.stage.told
   pub speaks : says r s.stage.err t.stage.err
   pub reads : x.reads ≡ true → t.stage.told ≡ s.stage.told
   pub silent : x.silent ≡ true → t.stage.out ≡ s.stage.out

@@ -4,6 +4,7 @@ ghost use Rattle.sccs_sid.specs.declared.refusals.StepFault.TheVariants as step;
 ghost use Rattle.sccs_steps.specs.Actions.{Action, KeepsFiles, SpeaksBy, Stepped};
 ghost use Rattle.sccs_steps.specs.Calls.{scene};
 ghost use Rattle.sccs_steps.specs.Causes.{Ignores, StepCauses, counts};
+ghost use Rattle.sccs_steps.specs.Recovering.{StepRecovers};
 ghost use Rattle.sccs_steps.specs.StepStops.{StepMoments};
 ghost use Rattle.sccs_steps.specs.Unlocked.{StepUnlocked};
 
@@ -31,7 +32,9 @@ pub trait Utility {
 
     /// Makes the step of one file. Where it begins on a calm disk and the name is safe, a stop at any
     /// moment leaves what recovers as before the step or as after it; and it ends on a calm disk, unless
-    /// the disk failed.
+    /// the disk failed. One that doesn't lock its name may begin on any disk whose s-files and p-files are
+    /// firm: a stop leaves what recovers as something that one could leave at its start, they are firm at
+    /// its end, and at Ok the disk is calm.
     fn step<I: Source, O: Sink, E: Sink, D: Disk>(
         &self,
         alloc: Global,
@@ -49,6 +52,7 @@ pub trait Utility {
             (scene (D.told disk.old) (O.given out.old) (E.given err.old))
             (scene (D.told disk.new) (O.given out.new) (E.given err.new)) }
         ensures unlocked { StepUnlocked (action self.now) name.now (D.told disk.old) (D.told disk.new) }
+        ensures recovers { StepRecovers (action self.now) result (D.told disk.old) (D.told disk.new) }
         ensures speaks { SpeaksBy (action self.now).could result name.now (E.given err.old) (E.given err.new) }
         ensures reads { (action self.now).reads ≡ true → D.told disk.new ≡ D.told disk.old }
         ensures silent { (action self.now).silent ≡ true → O.given out.new ≡ O.given out.old }

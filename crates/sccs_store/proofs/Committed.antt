@@ -27,10 +27,10 @@ second_at n c v k = cond (bytes_eq (sibling 112 n) k) (chosen c.p (v (sibling 11
 abbrev third_at : List ℕ → Plan → View → List ℕ → Option Content
 third_at n c v k = cond (bytes_eq (drop 2 n) k) (chosen c.g (v (sibling 121 n)) (v (drop 2 n))) (second_at n c v k)
 
-first_is : (n : List ℕ) (c : Plan) (v : View) (k : List ℕ) → is_working n k ≡ false → s_swapped n c v k ≡ first_at n c v k
+pub first_is : (n : List ℕ) (c : Plan) (v : View) (k : List ℕ) → is_working n k ≡ false → s_swapped n c v k ≡ first_at n c v k
 first_is n c v k h = swapped_at c.s (sibling 120 n) n v k (no_x n k h)
 
-second_is : (n : List ℕ) (c : Plan) (v : View) (k : List ℕ) → IsSfile n → is_working n k ≡ false → p_swapped n c (s_swapped n c v) k ≡ second_at n c v k
+pub second_is : (n : List ℕ) (c : Plan) (v : View) (k : List ℕ) → IsSfile n → is_working n k ≡ false → p_swapped n c (s_swapped n c v) k ≡ second_at n c v k
 second_is n c v k sfile h =
     let q : s_swapped n c v (sibling 113 n) ≡ v (sibling 113 n) = swapped_other c.s (sibling 120 n) n v (sibling 113 n) refl (to_s 113 n sfile refl) in
     let p : s_swapped n c v (sibling 112 n) ≡ v (sibling 112 n) = swapped_other c.s (sibling 120 n) n v (sibling 112 n) refl (to_s 112 n sfile refl) in

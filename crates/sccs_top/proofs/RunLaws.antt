@@ -1,9 +1,9 @@
 -- How a run ends whose steps end so.
-use Rattle.std.proofs.Common.{◌≡◌, ℕ, Bool, true, false, cond, ◌&&◌, ◌||◌, List, [], ◌∷◌, Option, None, Some, IfSome, Result, Ok, Err, inl, inr, refl, sym, ap, subst, ◌∙◌}
+use Rattle.std.proofs.Common.{◌≡◌, ◌≢◌, ℕ, Bool, true, false, cond, ◌&&◌, ◌||◌, List, [], ◌∷◌, Option, None, Some, IfSome, IsOk, Result, Ok, Err, inl, inr, refl, sym, ap, subst, ◌∙◌}
 use Rattle.std.proofs.lemmas.List.{append-nil}
 use Rattle.sccs_base.specs.Name.{sibling}
 use Rattle.sccs_base.specs.Stream.{GivesOk, GivesSome}
-use Rattle.sccs_base.proofs.Gifts.{some_none, some_of_whole}
+use Rattle.sccs_base.proofs.Gifts.{gives_none, some_none, some_of_whole}
 use Rattle.sccs_disk.specs.Files.{Folder, View, view_in, view_of}
 use Rattle.sccs_disk.specs.Told.{Told, seen}
 use Rattle.sccs_sid.specs.declared.refusals.Refusal.TheVariants as refusals
@@ -19,17 +19,20 @@ use Rattle.sccs_steps.specs.StepLists.{NamedStep, Runs, err_of, next_text}
 use Rattle.sccs_steps.specs.StepStops.{StepMoments}
 use Rattle.sccs_steps.specs.ListStops.{RunMoments, Spares}
 use Rattle.sccs_moments.proofs.Unlocked.{unlocked_same}
+use Rattle.sccs_moments.proofs.Recoveries.{calm_same, firm_same, story_same}
+use Rattle.sccs_steps.specs.Recovering.{RecoversBy}
 use Rattle.sccs_steps.specs.Running.{IsInput, MakesBy, StopsBy, UnlockedBy}
+use Rattle.sccs_steps.proofs.Cleared.{cleared_same}
 use Rattle.sccs_steps.proofs.Safety.{stay_same}
-use Rattle.sccs_steps.proofs.MomentLists.{alike_recovers, moments_never}
+use Rattle.sccs_steps.proofs.MomentLists.{alike_recovers, moments_never, run_moments}
 use Rattle.sccs_steps.proofs.OneMoment.{one_after}
 use Rattle.sccs_steps.proofs.ReadingMoments.{reading_moments}
 use Rattle.sccs_steps.proofs.ReadingSteps.{ends_silent}
-use Rattle.sccs_steps.proofs.NameStops.{alike_told, run_moments}
+use Rattle.sccs_steps.proofs.NameStops.{alike_told}
 use Rattle.sccs_steps.specs.declared.faults.Fault.{Fault}
 use Rattle.sccs_steps.specs.declared.faults.Fault.TheVariants as ends
 use Rattle.sccs_top.specs.Messages.{usage_line}
-use Rattle.sccs_top.specs.Runs.{Caller, Ends, MakesSteps, SpeaksWords, StopsSteps, UnlockedSteps, action_meant, action_of, made_by, operands_of, run_steps, usage_step, working, working_of}
+use Rattle.sccs_top.specs.Runs.{Caller, Ends, MakesSteps, RecoversRun, SpeaksWords, StopsSteps, UnlockedSteps, action_meant, action_of, made_by, operands_of, run_steps, usage_step, working, working_of}
 use Rattle.sccs_top.specs.Unbuilt.{unbuilt, unbuilt_keeps}
 use Rattle.sccs_top.specs.declared.answers.Answer.{Answer}
 use Rattle.sccs_top.specs.declared.answers.Answer.TheVariants.{Finished, Memory, ReadFault, WriteFault, DiskFault}
@@ -86,6 +89,33 @@ command_unlocked who meant command left a b is unlocked =
 pub same_unlocked : (who : Caller) (meant : Result Command Usage) (left : Option (List ℕ)) (a : Told) → UnlockedSteps who meant left a a
 same_unlocked who meant left a = λ folder i given shows locks plain. unlocked_same a a refl
 
+-- the same on a disk that isn't calm
+ended_faults : (answer : Answer) (made : Result ℕ Fault) → made_by answer ≡ made → answer ≢ DiskFault → made ≢ Err ends.DiskFault
+ended_faults (Finished status) made is other so = cc
+ended_faults Memory made is other so = cc
+ended_faults ReadFault made is other so = cc
+ended_faults WriteFault made is other so = cc
+ended_faults DiskFault made is other so = other refl
+
+pub command_recovers : (who : Caller) (meant : Result Command Usage) (command : Command) (answer : Answer) (made : Result ℕ Fault) (left : Option (List ℕ)) (a b : Told) → meant ≡ Ok command → made_by answer ≡ made
+    → RecoversBy (action_of who command) (λ m i. run_steps who (Ok command) m i) (IsInput (action_of who command) (operands_of command) left) made a b → RecoversRun who meant answer left a b
+command_recovers who meant command answer made left a b is answered recovers =
+    subst (λ (r : Result Command Usage). RecoversRun who r answer left a b) (sym is)
+    (λ never. record {
+      story = (recovers never).story;
+      firm = (recovers never).firm;
+      calm = λ ok folder i given shows is_made.
+          (recovers never).calm (subst (λ (r : Result ℕ Fault). IsOk r) answered ok) (working who (Ok command) folder i) folder i (spares_meant who (Ok command) folder i) given.1 shows given.0 is_made;
+      keeps = λ other. (recovers never).keeps (ended_faults answer made answered other);
+    })
+
+pub never_recovers : (who : Caller) (meant : Result Command Usage) (left : Option (List ℕ)) (a : Told) → RecoversRun who meant Memory left a a
+never_recovers who meant left a = λ never. record { story = story_same a a refl; firm = firm_same a a refl; calm = λ ok. absurd (cc); keeps = λ other. calm_same a a refl }
+
+-- a usage fault isn't recovery
+pub usage_recovers : (who : Caller) (meant : Result Command Usage) (usage : Usage) (answer : Answer) (left : Option (List ℕ)) (a b : Told) → meant ≡ Err usage → RecoversRun who meant answer left a b
+usage_recovers who meant usage answer left a b is = subst (λ (r : Result Command Usage). RecoversRun who r answer left a b) (sym is) (λ never. absurd (cc))
+
 -- nothing was said
 pub never_speaks : (who : Caller) (meant : Result Command Usage) (err : Option (List ℕ)) → SpeaksWords who meant Memory err err
 never_speaks who (Err usage) err = some_none err (err_of (usage_step usage ∷ []))
@@ -99,6 +129,7 @@ never_begun who meant left a = λ m i given shows. (
     rest = run_steps who meant m i;
     is = refl;
     view = shows;
+    cleared = cleared_same (working who meant m i) [] (seen a.told) (seen a.told) refl;
     out = some_none a.out (next_text (run_steps who meant m i));
     err = some_none a.err [];
   },
@@ -114,9 +145,24 @@ usage_cut who meant usage left a err is some =
       rest = [];
       is = refl;
       view = shows;
+      cleared = cleared_same nowhere (usage_step usage ∷ []) (seen a.told) (seen a.told) refl;
       out = some_none a.out [];
       err = subst (λ text. GivesSome a.err err text) (sym (append-nil (usage_line usage))) some;
     })
+
+-- a usage fault was said
+pub usage_made : (who : Caller) (meant : Result Command Usage) (usage : Usage) (left : Option (List ℕ)) (a : Scene) (err : Option (List ℕ)) → meant ≡ Err usage → GivesOk a.err err (usage_line usage) → MakesSteps who meant (Finished 2) left a (scene a.told a.out err)
+usage_made who meant usage left a err is whole =
+    subst (λ (r : Result Command Usage). MakesSteps who r (Finished 2) left a (scene a.told a.out err)) (sym is)
+    (λ m i given shows. (
+      refl,
+      record {
+        view = shows;
+        cleared = cleared_same nowhere (usage_step usage ∷ []) (seen a.told) (seen a.told) refl;
+        out = gives_none a.out;
+        err = subst (λ text. GivesOk a.err err text) (sym (append-nil (usage_line usage))) whole;
+      },
+    ))
 
 -- ---- what isn't built
 
@@ -145,14 +191,14 @@ command_stops who meant command answer made left a b is answered stops =
 pub never_stops : (who : Caller) (meant : Result Command Usage) (left : Option (List ℕ)) (a : Scene) → StopsSteps who meant Memory left a a
 never_stops who meant left a = λ folder i m past given shows told calm safe.
     run_moments (action_meant who meant) (working who meant folder i) (made_by Memory) folder (run_steps who meant folder i) a a m past
-    (moments_never (working who meant folder i) ends.Memory folder (run_steps who meant folder i) a m past (spares_meant who meant folder i) told calm (alike_told (working who meant folder i) folder a.told m past told shows) shows) (λ ok. absurd (cc))
+    (moments_never (working who meant folder i) ends.Memory folder (run_steps who meant folder i) a m past (spares_meant who meant folder i) told calm (alike_told (working who meant folder i) folder a.told m past told shows) shows) (λ other. stay_same (action_meant who meant) (view_in folder))
 
 -- a usage fault was said, or a prefix of it
 usage_moments : (who : Caller) (usage : Usage) (answer : Answer) (left : Option (List ℕ)) (a : Scene) (err : Option (List ℕ)) → GivesSome a.err err (usage_line usage) → StopsSteps who (Err usage) answer left a (scene a.told a.out err)
 usage_moments who usage answer left a err some = λ folder i m past given shows told calm safe.
     let recovers = alike_recovers nowhere (view_of m) (view_in folder) spares_nowhere (alike_told nowhere folder a.told m past told shows) in
     run_moments (unbuilt false false) nowhere (made_by answer) folder (usage_step usage ∷ []) a (scene a.told a.out err) m past
-    (one_after nowhere (made_by answer) folder (usage_step usage) (view_of m) (view_of m) a (scene a.told a.out err) m past (record { old = recovers; new = recovers }) (before_after (view_of m) m past a.told (same_before m past a.told calm told)) (some_none a.out []) some shows) (λ ok. stay_same (unbuilt false false) (view_in folder))
+    (one_after nowhere (made_by answer) folder (usage_step usage) (view_of m) (view_of m) a (scene a.told a.out err) m past (record { old = recovers; new = recovers }) (before_after (view_of m) m past a.told (same_before m past a.told calm told)) (some_none a.out []) some shows) (λ other. stay_same (unbuilt false false) (view_in folder))
 
 pub usage_stops : (who : Caller) (meant : Result Command Usage) (usage : Usage) (answer : Answer) (left : Option (List ℕ)) (a : Scene) (err : Option (List ℕ)) → meant ≡ Err usage → GivesSome a.err err (usage_line usage) → StopsSteps who meant answer left a (scene a.told a.out err)
 usage_stops who meant usage answer left a err is some =

@@ -1,9 +1,10 @@
 -- What a run does: the steps that its words mean, one for each operand in their order.
-use Rattle.std.specs.Prelude.{◌≡◌, ℕ, ◌<◌, nat_lt, ◌⊎◌, Bool, true, false, ◌&&◌, ◌||◌, List, [], ◌∷◌, length, Option, None, Result, Ok, Err, codes, if◌then◌else◌}
+use Rattle.std.specs.Prelude.{◌≡◌, ◌≢◌, ℕ, ◌<◌, nat_lt, ◌⊎◌, Bool, true, false, ◌&&◌, ◌||◌, List, [], ◌∷◌, length, Option, None, Result, Ok, Err, IsOk, codes, if◌then◌else◌}
 use Rattle.std.specs.List.{list_any}
 use Rattle.sccs_disk.specs.Files.{Folder, Model, view_in}
 use Rattle.sccs_disk.specs.Told.{Told, Tells, seen}
 use Rattle.sccs_moments.specs.Calm.{IsCalm}
+use Rattle.sccs_moments.specs.Moments.{KeepsCalm, LeavesCalm, LeavesFirm, RecoversOn}
 use Rattle.sccs_moments.specs.Unlocked.{BeginsUnlocked}
 use Rattle.sccs_sid.specs.declared.moments.Stamp.{Stamp}
 use Rattle.sccs_words.specs.declared.commands.Usage.{Usage}
@@ -15,6 +16,7 @@ use Rattle.sccs_files.specs.StepFiles.{is_working, nowhere, Shows}
 use Rattle.sccs_steps.specs.Actions.{Action, AreClear, hears, is_several, steps_at}
 use Rattle.sccs_steps.specs.Calls.{Scene, World, shown}
 use Rattle.sccs_steps.specs.ListStops.{AreSafe, RunMoments}
+use Rattle.sccs_steps.specs.Recovering.{has_made}
 use Rattle.sccs_steps.specs.Running.{IsInput}
 use Rattle.sccs_steps.specs.Speaking.{SpeakAll, SpeakAs}
 use Rattle.sccs_steps.specs.StepLists.{ListInterrupted, NamedStep, Runs, Stopped, Waits}
@@ -169,3 +171,19 @@ abbrev pub UnlockedSteps : Caller → Result Command Usage → Option (List ℕ)
 UnlockedSteps who meant left old new = (folder : Folder) (i : List ℕ)
     → IsGiven who meant left folder i → Shows (working who meant folder i) (seen old) (view_in folder)
     → (action_meant who meant).locks ≡ true → ArePlain (action_meant who meant) (run_steps who meant folder i) → BeginsUnlocked old new
+
+-- What a run leaves of a disk whose s-files and p-files are firm, be it calm or not, as a disk fault leaves it.
+pub record RecoversDisk (who : Caller) (meant : Result Command Usage) (answer : Answer) (left : Option (List ℕ)) (old new : Told) : Type 0 where
+  -- a stop leaves what recovers as a folder that one could leave at the start
+  pub story : RecoversOn old new
+  -- s-files and p-files are firm still, so that recovery may run again
+  pub firm : LeavesFirm old new
+  -- where it is finished the disk is calm, if some step was made and not refused
+  pub calm : IsOk (made_by answer) → (folder : Folder) (i : List ℕ) → IsGiven who meant left folder i → Shows (working who meant folder i) (seen old) (view_in folder)
+      → has_made (run_steps who meant folder i) ≡ true → LeavesCalm old new
+  -- but at a disk fault a calm disk stays calm
+  pub keeps : answer ≢ DiskFault → KeepsCalm old new
+
+-- so it is where the steps don't lock their names
+abbrev pub RecoversRun : Caller → Result Command Usage → Answer → Option (List ℕ) → Told → Told → Type 0
+RecoversRun who meant answer left old new = (action_meant who meant).locks ≡ false → RecoversDisk who meant answer left old new

@@ -9,7 +9,7 @@ ghost use Rattle.sccs_steps.specs.Settings.{SameLoans, setting, setting_of};
 ghost use Rattle.sccs_steps.specs.declared.faults.Fault.TheVariants as ends;
 ghost use Rattle.sccs_top.specs.Listing.{action_in, words_of};
 ghost use Rattle.sccs_top.specs.Unbuilt.{unbuilt};
-ghost use Rattle.sccs_top.specs.Runs.{MakesSteps, SpeaksWords, StopsSteps, UnlockedSteps, action_of, caller, get_in, has_heading, is_silent, made_by, only_reads, operands_of, takes_input};
+ghost use Rattle.sccs_top.specs.Runs.{MakesSteps, RecoversRun, SpeaksWords, StopsSteps, UnlockedSteps, action_of, caller, get_in, has_heading, is_silent, made_by, only_reads, operands_of, takes_input};
 
 use crate::answers::Answer;
 use crate::messages::write_usage;
@@ -242,6 +242,10 @@ fn run_lent<I: Source, O: Sink, E: Sink, D: Disk>(
 /// names as after the same number of steps, no fewer than are acknowledged; and s-files and p-files are firm
 /// at each end, so that recovery may run. No s-file or p-file changes but one whose z-file wasn't there at an
 /// earlier moment of the run, unless it recovers.
+///
+/// recover may begin on any disk whose s-files and p-files are firm, as one is that a disk fault has left: a
+/// stop leaves what recovers as something that one could leave at its start, they stay firm, and where some
+/// name is recovered and the run is finished the disk is calm.
 pub fn run<I: Source, O: Sink, E: Sink, D: Disk>(
     alloc: Global,
     words: &Words,
@@ -258,6 +262,7 @@ pub fn run<I: Source, O: Sink, E: Sink, D: Disk>(
     ensures stops { StopsSteps (caller stamp.now place.now) (meaning words.now) result (I.left input.old)
         (scene (D.told disk.old) (O.given out.old) (E.given err.old)) (scene (D.told disk.new) (O.given out.new) (E.given err.new)) }
     ensures unlocked { UnlockedSteps (caller stamp.now place.now) (meaning words.now) (I.left input.old) (D.told disk.old) (D.told disk.new) }
+    ensures recovers { RecoversRun (caller stamp.now place.now) (meaning words.now) result (I.left input.old) (D.told disk.old) (D.told disk.new) }
     ensures speaks { SpeaksWords (caller stamp.now place.now) (meaning words.now) result (E.given err.old) (E.given err.new) }
     ensures reads { only_reads (caller stamp.now place.now) (meaning words.now) ≡ true → D.told disk.new ≡ D.told disk.old }
     ensures silent { is_silent (caller stamp.now place.now) (meaning words.now) ≡ true → O.given out.new ≡ O.given out.old }

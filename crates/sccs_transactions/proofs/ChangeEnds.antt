@@ -1,5 +1,5 @@
 -- What the parts of a change make of its step.
-use Rattle.std.proofs.Common.{◌≡◌, ◌⊎◌, ℕ, Bool, true, false, ◌||◌, cond, List, [], ◌++◌, map, Option, None, Some, IfSome, IsSome, Result, Ok, Err, inl, inr, refl, sym, ap, subst, ◌∙◌}
+use Rattle.std.proofs.Common.{◌≡◌, ◌⊎◌, ℕ, zero, suc, Bool, true, false, ◌||◌, cond, List, [], ◌++◌, map, Option, None, Some, IfSome, IsSome, Result, Ok, Err, inl, inr, refl, sym, ap, subst, ◌∙◌}
 use Rattle.std.specs.Prelude.{is_none}
 use Rattle.std.specs.Str.{bytes_eq}
 use Rattle.sccs_base.specs.Name.{IsSfile, sibling}
@@ -11,13 +11,14 @@ use Rattle.sccs_sid.specs.declared.refusals.StepFault.TheVariants.{Refused, Memo
 use Rattle.sccs_disk.specs.Files.{Content, View, put}
 use Rattle.sccs_disk.proofs.Puts.{name_cases, put_again, put_back, put_other, put_same}
 use Rattle.sccs_disk.specs.Effects.{empty_file}
-use Rattle.sccs_files.specs.StepFiles.{AreCleared, Files, Moves, MovesPartly, is_left, is_working, look, moved, placed}
+use Rattle.sccs_files.specs.StepFiles.{AreCleared, Files, Moves, is_left, is_working, look, moved, placed}
 use Rattle.sccs_steps.specs.StepEffects.{Outcome, StepEffect, effect_of}
 use Rattle.sccs_steps.specs.Calls.{Fails, Interrupted, Meets, ReportCut, Uncommitted, World, world}
 use Rattle.sccs_steps.specs.Actions.{IsHeard}
-use Rattle.sccs_store.specs.Commits.{Becomes, IsPart, Plan, abandoned, committed, files_after, locked, part_of}
+use Rattle.sccs_steps.specs.FirstFiles.{MovesInOrder, first_moved}
+use Rattle.sccs_store.specs.Commits.{Becomes, IsPart, Plan, abandoned, committed, files_after, g_swapped, locked, p_swapped, part_of, s_swapped}
 use Rattle.sccs_moments.specs.Recovery.{cleared, without}
-use Rattle.sccs_store.proofs.Committed.{committed_at, part_at}
+use Rattle.sccs_store.proofs.Committed.{committed_at, first_is, second_is}
 use Rattle.sccs_moments.proofs.FileNames.{no_q, no_working, no_x, no_y, no_z}
 use Rattle.sccs_transactions.specs.Changes.{Changing, IsPrepared, IsUnmade, Prepares, PreparesChange, locking_step, plan_of, unlocked}
 use Rattle.sccs_transactions.specs.Ends.{Finishes, GivesUp}
@@ -71,7 +72,7 @@ pub failed_steps : (x : Changing) (n : List ℕ) (left : Option (List ℕ)) (oa 
 failed_steps x n left None od out err moves = tt
 failed_steps x n left (Some v) None out err moves = absurd moves
 failed_steps x n left (Some v) (Some w) out err moves = λ i heard.
-    record { view = λ k h. inl (moves k (no_z n k h)); out = some_none out _; err = refl }
+    record { view = (0, λ k h. moves k (no_z n k h)); out = some_none out _; err = refl }
 
 -- ---- giving up
 
@@ -109,14 +110,14 @@ given_up n text v (Some u) od out out2 err free moves gone gives = record {
   err = refl;
 }
 
-left_alone : (n : List ℕ) (v : View) (ob2 od : Option View) (f : View → View) → Moves (is_working n) (λ u. u) (Some (locked n v)) ob2 → Moves (is_left n) (λ u. u) ob2 od → MovesPartly (is_left n) f (Some v) od
-left_alone n v None od f moves broken = absurd moves
-left_alone n v (Some u) None f moves broken = absurd broken
-left_alone n v (Some u) (Some w) f moves broken = λ k h. inl (broken k h ∙ (moves k (no_working n k h) ∙ put_other v (sibling 122 n) k (Some empty_file) (no_z n k h)))
+left_alone : (n : List ℕ) (v : View) (ob2 od : Option View) → Moves (is_working n) (λ u. u) (Some (locked n v)) ob2 → Moves (is_left n) (λ u. u) ob2 od → Moves (is_left n) (λ u. u) (Some v) od
+left_alone n v None od moves broken = absurd moves
+left_alone n v (Some u) None moves broken = absurd broken
+left_alone n v (Some u) (Some w) moves broken = λ k h. broken k h ∙ (moves k (no_working n k h) ∙ put_other v (sibling 122 n) k (Some empty_file) (no_z n k h))
 
 pub broken_off : (n : List ℕ) (o : Outcome) (v : View) (ob2 od : Option View) (out out2 err : Option (List ℕ)) → Moves (is_working n) (λ u. u) (Some (locked n v)) ob2 → Moves (is_left n) (λ u. u) ob2 od → GivesSome out out2 (effect_of n o).text
     → Interrupted n o (world (Some v) out err) (world od out2 err)
-broken_off n o v ob2 od out out2 err moves broken gives = record { view = left_alone n v ob2 od (λ u. moved u n (effect_of n o).new) moves broken; out = gives; err = refl }
+broken_off n o v ob2 od out out2 err moves broken gives = record { view = (0, left_alone n v ob2 od moves broken); out = gives; err = refl }
 
 pub gone_left : (n : List ℕ) (ob2 od : Option View) → Becomes (abandoned n) ob2 od → Moves (is_left n) (λ u. u) ob2 od
 gone_left n None od is = is
@@ -162,16 +163,25 @@ committed_moves n c new v (Some u) od sfile free moves files done =
     subst (λ (o : Option View). Moves (is_working n) (λ w. moved w n new) (Some v) o) (sym done) (λ k h.
     committed_at n c u v k sfile h (λ other. moves k h ∙ put_other v (sibling 122 n) k (Some empty_file) other) ∙ sym (ap (λ (w : View). w k) (moved_as v n new (files_after n c u) files)))
 
+-- the view after some of a commit's changes, as that after some first files
+part_first : (i : ℕ) (n : List ℕ) (c : Plan) (u v : View) (k : List ℕ) → IsSfile n → is_left n k ≡ false → u k ≡ v k → part_of n c i u k ≡ first_moved i v n (Some (files_after n c u)) k
+part_first zero n c u v k sfile h same = same
+part_first (suc zero) n c u v k sfile h same = first_is n c u k (no_working n k h) ∙ ap (λ (o : Option Content). cond (bytes_eq n k) (files_after n c u).s o) same
+part_first (suc (suc zero)) n c u v k sfile h same =
+    second_is n c u k sfile (no_working n k h) ∙ ap (λ (o : Option Content). cond (bytes_eq (sibling 112 n) k) (files_after n c u).p (cond (bytes_eq n k) (files_after n c u).s o)) same
+part_first (suc (suc (suc zero))) n c u v k sfile h same =
+    sym (put_other (g_swapped n c (p_swapped n c (s_swapped n c u))) (sibling 122 n) k None (no_z n k h)) ∙ committed_at n c u v k sfile (no_working n k h) (λ other. same)
+part_first (suc (suc (suc (suc i)))) n c u v k sfile h same = committed_at n c u v k sfile (no_working n k h) (λ other. same)
+
 part_moves : (n : List ℕ) (c : Plan) (new : Option Files) (v : View) (ob2 od : Option View) → IsSfile n → Moves (is_working n) (λ u. u) (Some (locked n v)) ob2 → IfSome ob2 (λ u. new ≡ Some (files_after n c u)) → IsPart n c ob2 od
-    → MovesPartly (is_left n) (λ u. moved u n new) (Some v) od
+    → MovesInOrder n new (Some v) od
 part_moves n c new v None od sfile moves files part = absurd moves
-part_moves n c new v (Some u) od sfile moves files part =
-    subst (λ (o : Option View). MovesPartly (is_left n) (λ w. moved w n new) (Some v) o) (sym part.1) (λ k h.
-    as_moved k (part_at n c u v k part.0 sfile (no_working n k h) (no_z n k h) (moves k (no_working n k h) ∙ put_other v (sibling 122 n) k (Some empty_file) (no_z n k h))))
-  where
-    as_moved : (k : List ℕ) → (part_of n c part.0 u k ≡ v k) ⊎ (part_of n c part.0 u k ≡ placed v n (files_after n c u) k) → (part_of n c part.0 u k ≡ v k) ⊎ (part_of n c part.0 u k ≡ moved v n new k)
-    as_moved k (inl e) = inl e
-    as_moved k (inr e) = inr (e ∙ sym (ap (λ (w : View). w k) (moved_as v n new (files_after n c u) files)))
+part_moves n c new v (Some u) od sfile moves files part = (
+  part.0,
+  subst (λ (o : Option View). Moves (is_left n) (λ w. first_moved part.0 w n new) (Some v) o) (sym part.1) (λ k h.
+      part_first part.0 n c u v k sfile h (moves k (no_working n k h) ∙ put_other v (sibling 122 n) k (Some empty_file) (no_z n k h))
+      ∙ sym (ap (λ (f : Option Files). first_moved part.0 v n f k) files)),
+)
 
 text_gives : (a b c : Option (List ℕ)) (text out report : List ℕ) → GivesOk a b text → GivesOk b c report → out ≡ report → GivesOk a c (text ++ out)
 text_gives a b c text out report first second is = subst (λ r. GivesOk a c (text ++ r)) (sym is) (gives_both a b c text report first second)
@@ -186,6 +196,7 @@ cut_finished n p o v ob2 od out out2 out3 err err3 sfile free prepared finishes 
   prepared.effect,
   prepared.is,
   record {
+    status = prepared.status;
     view = committed_moves n (plan_of p) prepared.effect.new v ob2 od sfile free prepared.view prepared.files finishes.0;
     out = text_cut out out2 out3 prepared.effect.text prepared.effect.out p.report prepared.out finishes.1.out prepared.report;
     err = subst (λ m. GivesSome err err3 m) (sym prepared.message) finishes.1.err;

@@ -1,7 +1,8 @@
-use Rattle.std.proofs.Common.{◌∙◌, Ok, ap, refl, subst}
+use Rattle.std.proofs.Common.{◌∙◌, [], Ok, ap, refl, subst}
 use Rattle.sccs_disk.specs.Told.{seen}
 use Rattle.sccs_table.specs.ReaderState.{bytes_in}
-use Rattle.sccs_copies.specs.Copies.{CopiesNext}
+use Rattle.sccs_copies.specs.Copies.{CopiesItem, CopiesNext}
+use Rattle.sccs_copies.proofs.BodyLaws.{body_both, on_both, on_none}
 use Rattle.sccs_copies.proofs.ComingItems.{bytes_stay}
 use Rattle.sccs_copies.proofs.CopyLaws.{copies_both, copies_end, copies_none, some_as, some_both, some_err, some_none}
 use Rattle.sccs_copies.proofs.copies.copy_all.Goals as goal
@@ -12,6 +13,7 @@ items-init g c = record {
   name = refl;
   counted = c.requires.counted;
   within = c.requires.within;
+  goes = λ live behind holds. on_none live c.args.set.now c.args.lines [] c.args.copying.now c.args.out.now (g.D.Disk.told c.args.disk.now) (g.D.Disk.faults c.args.disk.now) behind holds;
   told = λ file told is come. copies_none file c.args.set.now c.args.lines told c.args.copying.now c.args.out.now (g.D.Disk.told c.args.disk.now) (g.D.Disk.faults c.args.disk.now) come;
 }
 
@@ -21,6 +23,11 @@ items-preserved g c = record {
   name = c.in-Ok-true.ensures.read ∙ c.items.invariant.name;
   counted = c.in-Ok-true.ensures.counted;
   within = c.in-Ok-true.ensures.within;
+  goes = λ live behind holds.
+      let p = c.items.invariant.goes live behind holds in
+      on_both live c.args.set.now c.args.lines [] c.args.copying.now c.items.copying c.copy_next.new.copying c.args.out.now c.items.out c.copy_next.new.out _ _ _ _ _ _ p
+      (subst (λ more. CopiesItem live c.args.set.now c.args.lines p.some.after c.items.copying c.copy_next.new.copying c.items.out c.copy_next.new.out (g.D.Disk.told c.items.disk) (g.D.Disk.told c.copy_next.new.disk) (g.D.Disk.faults c.items.disk) (g.D.Disk.faults c.copy_next.new.disk) (Ok more)) c.in-Ok-true.field-0-test
+      (c.in-Ok-true.ensures.goes live p.some.after p.behind p.holds));
   told = λ file told is come.
       let here = ap (bytes_in (seen (g.D.Disk.told c.items.disk))) c.items.invariant.name ∙ bytes_stay c.args.out.now.name _ file _ _ c.requires.apart c.items.invariant.puts.only.view is in
       let p = c.items.invariant.told file told is come in
@@ -31,6 +38,13 @@ items-preserved g c = record {
 
 pub returns-in-Ok-false-clause-puts : goal.returns-in-Ok-false-clause-puts
 returns-in-Ok-false-clause-puts g c = some_both c.args.out.now c.items.out c.copy_next.new.out _ _ _ _ _ _ (Ok tt) tt (Ok tt) refl c.items.invariant.puts (some_as c.items.out c.copy_next.new.out _ _ _ _ c.in-Ok-false.field-0 tt c.in-Ok-false.ensures.puts)
+
+pub returns-in-Ok-false-clause-goes : goal.returns-in-Ok-false-clause-goes
+returns-in-Ok-false-clause-goes g c = λ live behind holds.
+    let p = c.items.invariant.goes live behind holds in
+    body_both live c.args.set.now c.args.lines [] c.args.copying.now c.items.copying c.copy_next.new.copying c.args.out.now c.items.out c.copy_next.new.out _ _ _ _ _ _ p
+    (subst (λ more. CopiesItem live c.args.set.now c.args.lines p.some.after c.items.copying c.copy_next.new.copying c.items.out c.copy_next.new.out (g.D.Disk.told c.items.disk) (g.D.Disk.told c.copy_next.new.disk) (g.D.Disk.faults c.items.disk) (g.D.Disk.faults c.copy_next.new.disk) (Ok more)) c.in-Ok-false.field-0-test
+    (c.in-Ok-false.ensures.goes live p.some.after p.behind p.holds))
 
 pub returns-in-Ok-false-clause-told : goal.returns-in-Ok-false-clause-told
 returns-in-Ok-false-clause-told g c = λ file told is come.

@@ -1,6 +1,7 @@
 use Rattle.std.proofs.Common.{Ok, Err, [], ap, arith, refl}
 use Rattle.sccs_splicer.specs.Splices.{owed}
 use Rattle.sccs_writers.specs.Spelled.{spelled}
+use Rattle.sccs_copies.proofs.BodyLaws.{body_put}
 use Rattle.sccs_copies.proofs.CopyLaws.{some_both, some_cut, some_put, spliced_put}
 use Rattle.sccs_copies.proofs.copies.put_spliced.Goals as goal
 
@@ -20,3 +21,7 @@ pub returns-in-Err-finish-clause-puts : goal.returns-in-Err-finish-clause-puts
 returns-in-Err-finish-clause-puts g c =
     some_both c.args.out.now c.copy_all.new.out c.finish.new.out _ _ _ _ _ _ (Ok c.in_default.field-0) c.in_default.field-0 _ refl c.in_default.ensures.puts
     (some_cut (spelled (owed c.copy_all.new.copying.splicer [])) c.copy_all.new.out c.finish.new.out _ _ _ _ _ _ c.finish.result c.in-Err-finish.refusal _ c.in-Err-finish.is (ap Err c.file_fault.ensures) refl (omega arith) c.finish.ensures.puts)
+
+pub returns-in-Ok-clause-whole : goal.returns-in-Ok-clause-whole
+returns-in-Ok-clause-whole g c = λ live begun.
+    body_put live c.args.set.now c.args.lines c.args.copying.now c.copy_all.new.copying c.args.out.now c.copy_all.new.out c.finish.new.out _ _ _ _ _ _ (Ok c.in-Ok.field-0) c.in-Ok.field-0 refl begun.seen c.if-copying-lines.false (c.in_default.ensures.goes live begun.behind begun.holds) c.in-Ok.ensures.puts

@@ -1,8 +1,9 @@
-use Rattle.std.proofs.Common.{refl}
+use Rattle.std.proofs.Common.{[], refl}
 use Rattle.std.specs.Str.{bytes_eq}
 use Rattle.sccs_base.specs.Name.{sibling}
 use Rattle.sccs_disk.specs.Effects.{empty_file}
 use Rattle.sccs_disk.specs.Told.{seen}
+use Rattle.sccs_edits.specs.Places.{told_behind}
 use Rattle.sccs_splicer.specs.Splices.{owed}
 use Rattle.sccs_writers.specs.Spelled.{spelled}
 use Rattle.sccs_moments.proofs.FileNames.{from_s}
@@ -64,3 +65,13 @@ returns-in-Ok-finish_x-clause-touches g c =
 pub returns-in-Ok-finish_x-clause-firm : goal.returns-in-Ok-finish_x-clause-firm
 returns-in-Ok-finish_x-clause-firm g c =
     leaves_from (IsFirm (sibling 120 c.args.name.now)) (bytes_eq (sibling 120 c.args.name.now)) _ (g.D.Disk.told c.start.new.disk) _ c.start.ensures.touches (firm_after (sibling 120 c.args.name.now) _ (g.D.Disk.told c.append_x.new.disk) _ c.in-Ok.ensures.appends.only c.in-Ok-finish_x.ensures.firm)
+
+pub returns-in-Ok-finish_x-clause-whole : goal.returns-in-Ok-finish_x-clause-whole
+returns-in-Ok-finish_x-clause-whole g c = λ live begun.
+    let made = c.in-Ok.ensures.whole live begun in
+    let items = owed c.args.copying.splicer (told_behind c.args.set.now [] made.0) in (
+      made.0,
+      made.1,
+      sealed_made (sibling 120 c.args.name.now) c.args.header.now items (spelled items) c.in-Ok.sum _ (seen (g.D.Disk.told c.start.new.disk)) (seen (g.D.Disk.told c.append_x.new.disk)) _
+          (spelled_bytes items) c.in_default.ensures.view made.2.file made.2.sum c.in-Ok-finish_x.ensures.view,
+    )

@@ -1,15 +1,16 @@
 use Rattle.std.proofs.Common.{rules, ℕ, Result, ◌+◌, [], ◌∷◌, inl, refl, sym, subst, ◌∙◌, drop}
-use Rattle.sccs_steps.specs.Actions.{step_at, steps_of}
+use Rattle.sccs_steps.specs.Actions.{IsHeard, step_at, steps_of}
 use Rattle.sccs_steps.specs.Calls.{shown}
 use Rattle.sccs_steps.specs.Running.{RunsNames}
 use Rattle.sccs_steps.specs.Settings.{setting}
 use Rattle.sccs_steps.specs.Speaking.{NameMakes}
-use Rattle.sccs_steps.specs.StepLists.{SoFar}
+use Rattle.sccs_steps.specs.StepLists.{SoFar, in_turn}
 use Rattle.sccs_steps.specs.declared.faults.Fault.{Fault}
 use Rattle.sccs_steps.proofs.Exits.{exit_is}
 use Rattle.sccs_steps.proofs.JoinedSteps.{begins}
 use Rattle.sccs_steps.proofs.Turns.{SpokeSoFar, spoke_begins, spoke_cut, spoke_ends, spoke_on, turn_on, turn_stops, turns_end}
 use Rattle.sccs_moments.proofs.Unlocked.{unlocked_same}
+use Rattle.sccs_steps.proofs.RecoveringSteps.{RecoversSoFar, firm_begins, firm_on, recovers_begin, recovers_early, recovers_end, recovers_on}
 use Rattle.sccs_steps.proofs.UnlockedSteps.{next_unlocked}
 use Rattle.sccs_steps.proofs.TurnStops.{StopsSoFar, stops_begin, stops_early, stops_end, stops_on}
 use Rattle.sccs_steps.proofs.names.run_names.Goals as goal
@@ -21,6 +22,9 @@ loop-name-init g c = record {
   stops = λ w folder i m past spares clear shows is calm safe.
       stops_begin (g.U.Utility.action c.args.utility.now) w folder (λ u. steps_of (g.U.Utility.action c.args.utility.now) i u c.args.names.now) (setting g.I.Source g.O.Sink g.E.Sink g.D.Disk c.args.streams.now).stage m past spares shows is calm;
   unlocked = λ w m i spares clear shows locks plain. unlocked_same _ _ refl;
+  firm = λ never. firm_begins (g.D.Disk.told c.args.streams.now.disk.now);
+  recovered = λ w m i spares clear shows never.
+      recovers_begin w m (λ u. in_turn (λ u n. step_at (g.U.Utility.action c.args.utility.now) u i n ∷ []) u c.args.names.now) (setting g.I.Source g.O.Sink g.E.Sink g.D.Disk c.args.streams.now).stage shows;
   said = spoke_begins (NameMakes (g.U.Utility.action c.args.utility.now)) c.args.names.now (g.E.Sink.given c.args.streams.now.err.now);
   silent = λ only. refl;
   same = λ reads. refl;
@@ -46,6 +50,8 @@ returns-in_err-one-clause-run g c =
           next_unlocked (g.U.Utility.action c.args.utility.now) w m (λ u n. step_at (g.U.Utility.action c.args.utility.now) u i n ∷ []) c.args.names.now c.loop-name.name-index c.loop-name.status c.name-item.result c.bytes.result.now _ (shown (setting g.I.Source g.O.Sink g.E.Sink g.D.Disk c.loop-name.streams).stage) _ _ _
           (c.bytes.ensures ∙ c.name-item.is) c.loop-name-test.true refl clear (c.loop-name.invariant.so_far w m i spares clear shows) plain (c.loop-name.invariant.unlocked w m i spares clear shows locks plain)
           (λ u clear shows plain. c.in_err-one.ensures.run.unlocked w u i spares clear shows (inl c.requires) locks plain);
+      recovers = λ never.
+          recovers_early (g.U.Utility.action c.args.utility.now) (λ m i. steps_of (g.U.Utility.action c.args.utility.now) i m c.args.names.now) (λ m i. step_at (g.U.Utility.action c.args.utility.now) m i c.bytes.result.now ∷ []) (IsHeard (g.U.Utility.action c.args.utility.now).takes (g.I.Source.left c.args.streams.now.input.now)) (IsHeard (g.U.Utility.action c.args.utility.now).takes (g.I.Source.left c.loop-name.streams.input.now)) c.in_err-one.field-0.0 (setting g.I.Source g.O.Sink g.E.Sink g.D.Disk c.args.streams.now).stage.told (setting g.I.Source g.O.Sink g.E.Sink g.D.Disk c.loop-name.streams).stage.told (setting g.I.Source g.O.Sink g.E.Sink g.D.Disk c.run_name.new.streams).stage.told (c.loop-name.invariant.firm never) (c.in_err-one.ensures.run.recovers never);
       speaks =
           spoke_cut (NameMakes (g.U.Utility.action c.args.utility.now)) (NameMakes (g.U.Utility.action c.args.utility.now)) c.args.names.now c.loop-name.name-index c.loop-name.status c.in_err-one.field-0.0 c.name-item.result c.bytes.result.now _ _ _
           (c.bytes.ensures ∙ c.name-item.is) c.loop-name-test.true c.loop-name.invariant.said c.in_err-one.ensures.run.speaks;
@@ -74,6 +80,13 @@ loop-name-preserved g c = record {
       next_unlocked (g.U.Utility.action c.args.utility.now) w m (λ u n. step_at (g.U.Utility.action c.args.utility.now) u i n ∷ []) c.args.names.now c.loop-name.name-index c.loop-name.status c.name-item.result c.bytes.result.now _ (shown (setting g.I.Source g.O.Sink g.E.Sink g.D.Disk c.loop-name.streams).stage) _ _ _
       (c.bytes.ensures ∙ c.name-item.is) c.loop-name-test.true refl clear (c.loop-name.invariant.so_far w m i spares clear shows) plain (c.loop-name.invariant.unlocked w m i spares clear shows locks plain)
       (λ u clear shows plain. c.in_ok-one.ensures.run.unlocked w u i spares clear shows (inl c.requires) locks plain);
+  firm = λ never. firm_on (g.U.Utility.action c.args.utility.now) (λ m i. step_at (g.U.Utility.action c.args.utility.now) m i c.bytes.result.now ∷ []) (IsHeard (g.U.Utility.action c.args.utility.now).takes (g.I.Source.left c.loop-name.streams.input.now)) c.in_ok-one.one (setting g.I.Source g.O.Sink g.E.Sink g.D.Disk c.args.streams.now).stage.told (setting g.I.Source g.O.Sink g.E.Sink g.D.Disk c.loop-name.streams).stage.told (setting g.I.Source g.O.Sink g.E.Sink g.D.Disk c.run_name.new.streams).stage.told (c.loop-name.invariant.firm never) (c.in_ok-one.ensures.run.recovers never);
+  recovered = λ w m i spares clear shows never.
+      subst (λ status. RecoversSoFar w m (in_turn (λ u n. step_at (g.U.Utility.action c.args.utility.now) u i n ∷ []) m c.args.names.now) (λ u. in_turn (λ u n. step_at (g.U.Utility.action c.args.utility.now) u i n ∷ []) u (drop (c.loop-name.name-index + 1) c.args.names.now)) status (setting g.I.Source g.O.Sink g.E.Sink g.D.Disk c.args.streams.now).stage (setting g.I.Source g.O.Sink g.E.Sink g.D.Disk c.run_name.new.streams).stage) (sym c.greater-status.ensures)
+      (recovers_on (g.U.Utility.action c.args.utility.now) w m (λ u n. step_at (g.U.Utility.action c.args.utility.now) u i n ∷ []) c.args.names.now c.loop-name.name-index c.loop-name.status c.in_ok-one.one c.name-item.result c.bytes.result.now (setting g.I.Source g.O.Sink g.E.Sink g.D.Disk c.args.streams.now).stage (setting g.I.Source g.O.Sink g.E.Sink g.D.Disk c.loop-name.streams).stage (setting g.I.Source g.O.Sink g.E.Sink g.D.Disk c.run_name.new.streams).stage
+      (c.bytes.ensures ∙ c.name-item.is) c.loop-name-test.true clear (c.loop-name.invariant.firm never) ((c.in_ok-one.ensures.run.recovers never).keeps (λ is. cc)) (c.loop-name.invariant.recovered w m i spares clear shows never)
+      (λ u clear shows. c.in_ok-one.ensures.run.steps w u i spares clear shows (inl c.requires))
+      (λ u clear shows made. (c.in_ok-one.ensures.run.recovers never).calm refl w u i spares clear shows (inl c.requires) made));
   said =
       subst (λ status. SpokeSoFar (NameMakes (g.U.Utility.action c.args.utility.now)) c.args.names.now (c.loop-name.name-index + 1) status (g.E.Sink.given c.args.streams.now.err.now) (g.E.Sink.given c.run_name.new.streams.err.now)) (sym c.greater-status.ensures)
       (spoke_on (NameMakes (g.U.Utility.action c.args.utility.now)) (NameMakes (g.U.Utility.action c.args.utility.now)) c.args.names.now c.loop-name.name-index c.loop-name.status c.in_ok-one.one c.name-item.result c.bytes.result.now _ _ _
@@ -96,6 +109,8 @@ returns-clause-run g c = record {
       (setting g.I.Source g.O.Sink g.E.Sink g.D.Disk c.args.streams.now).stage (setting g.I.Source g.O.Sink g.E.Sink g.D.Disk c.loop-name.streams).stage m past
       c.loop-name-test.false (c.loop-name.invariant.stops w folder i m past spares clear shows is calm safe);
   unlocked = λ w m i spares clear shows heard locks plain. c.loop-name.invariant.unlocked w m i spares clear shows locks plain;
+  recovers = λ never.
+      recovers_end (g.U.Utility.action c.args.utility.now) (λ i u n. step_at (g.U.Utility.action c.args.utility.now) u i n ∷ []) (IsHeard (g.U.Utility.action c.args.utility.now).takes (g.I.Source.left c.args.streams.now.input.now)) c.args.names.now c.loop-name.name-index c.loop-name.status (setting g.I.Source g.O.Sink g.E.Sink g.D.Disk c.args.streams.now).stage (setting g.I.Source g.O.Sink g.E.Sink g.D.Disk c.loop-name.streams).stage c.loop-name-test.false (c.loop-name.invariant.firm never) (λ w m i spares clear shows given. c.loop-name.invariant.recovered w m i spares clear shows never);
   speaks = spoke_ends (NameMakes (g.U.Utility.action c.args.utility.now)) (NameMakes (g.U.Utility.action c.args.utility.now)) c.args.names.now c.loop-name.name-index c.loop-name.status _ _ c.loop-name-test.false c.loop-name.invariant.said;
   reads = c.loop-name.invariant.same;
   silent = c.loop-name.invariant.silent;

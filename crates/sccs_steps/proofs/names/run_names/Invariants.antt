@@ -1,16 +1,17 @@
-use Rattle.std.proofs.Common.{◌≡◌, ◌≤◌, ℕ, Bool, true, List, drop}
+use Rattle.std.proofs.Common.{◌≡◌, ◌≤◌, ℕ, Bool, true, false, List, [], ◌∷◌, drop}
 use Rattle.sccs_disk.specs.Files.{Folder, Model, view_in}
 use Rattle.sccs_disk.specs.Told.{Tells, seen}
 use Rattle.sccs_files.specs.StepFiles.{Shows}
 use Rattle.sccs_moments.specs.Calm.{IsCalm}
 use Rattle.sccs_moments.specs.Unlocked.{BeginsUnlocked}
-use Rattle.sccs_steps.specs.Actions.{AreClear, steps_of}
+use Rattle.sccs_steps.specs.Actions.{AreClear, step_at, steps_of}
 use Rattle.sccs_steps.specs.Calls.{shown}
 use Rattle.sccs_steps.specs.ListStops.{AreSafe, Spares}
 use Rattle.sccs_steps.specs.Settings.{SameLoans, setting}
 use Rattle.sccs_steps.specs.Speaking.{NameMakes}
-use Rattle.sccs_steps.specs.StepLists.{SoFar}
+use Rattle.sccs_steps.specs.StepLists.{SoFar, in_turn}
 use Rattle.sccs_steps.specs.Unlocked.{ArePlain}
+use Rattle.sccs_steps.proofs.RecoveringSteps.{RecoversSoFar, StaysFirm}
 use Rattle.sccs_steps.proofs.Turns.{SpokeSoFar}
 use Rattle.sccs_steps.proofs.TurnStops.{StopsSoFar}
 use Rattle.sccs_steps.proofs.names.run_names.Given as goal
@@ -28,6 +29,10 @@ invariant-loop-name g l = record {
       (setting g.I.Source g.O.Sink g.E.Sink g.D.Disk l.fn.streams).stage (setting g.I.Source g.O.Sink g.E.Sink g.D.Disk l.streams).stage m past;
   unlocked : (w : List ℕ → Bool) (m : Folder) (i : List ℕ) → Spares w → AreClear (g.U.Utility.action l.utility) w (steps_of (g.U.Utility.action l.utility) i m l.names) → Shows w (seen (g.D.Disk.told l.fn.streams.disk.now)) (view_in m)
       → (g.U.Utility.action l.utility).locks ≡ true → ArePlain (g.U.Utility.action l.utility) (steps_of (g.U.Utility.action l.utility) i m l.names) → BeginsUnlocked (g.D.Disk.told l.fn.streams.disk.now) (g.D.Disk.told l.streams.disk.now);
+  firm : (g.U.Utility.action l.utility).locks ≡ false → StaysFirm (g.D.Disk.told l.fn.streams.disk.now) (g.D.Disk.told l.streams.disk.now);
+  recovered : (w : List ℕ → Bool) (m : Folder) (i : List ℕ) → Spares w → AreClear (g.U.Utility.action l.utility) w (steps_of (g.U.Utility.action l.utility) i m l.names) → Shows w (seen (g.D.Disk.told l.fn.streams.disk.now)) (view_in m) → (g.U.Utility.action l.utility).locks ≡ false
+      → RecoversSoFar w m (in_turn (λ u n. step_at (g.U.Utility.action l.utility) u i n ∷ []) m l.names) (λ u. in_turn (λ u n. step_at (g.U.Utility.action l.utility) u i n ∷ []) u (drop l.name-index l.names)) l.status
+      (setting g.I.Source g.O.Sink g.E.Sink g.D.Disk l.fn.streams).stage (setting g.I.Source g.O.Sink g.E.Sink g.D.Disk l.streams).stage;
   said : SpokeSoFar (NameMakes (g.U.Utility.action l.utility)) l.names l.name-index l.status (g.E.Sink.given l.fn.streams.err.now) (g.E.Sink.given l.streams.err.now);
   silent : (g.U.Utility.action l.utility).silent ≡ true → g.O.Sink.given l.streams.out.now ≡ g.O.Sink.given l.fn.streams.out.now;
   same : (g.U.Utility.action l.utility).reads ≡ true → g.D.Disk.told l.streams.disk.now ≡ g.D.Disk.told l.fn.streams.disk.now;

@@ -7,6 +7,7 @@ use Rattle.sccs_steps.specs.Settings.{setting}
 use Rattle.sccs_steps.specs.declared.faults.Fault.TheVariants as end
 use Rattle.sccs_steps.specs.declared.operands.OperandKind.TheVariants as kind
 use Rattle.sccs_steps.proofs.KindLaws.{here_makes, here_stops, names_speak, never_begun, never_stops, none_spoken, some_here}
+use Rattle.sccs_steps.proofs.RecoveringSteps.{here_recovers, never_recovers}
 use Rattle.sccs_steps.proofs.UnlockedSteps.{here_unlocked, none_unlocked}
 use Rattle.sccs_steps.proofs.operands.run_here.Goals as goal
 
@@ -22,6 +23,7 @@ returns-in-Ok-clause-run g c =
           here_stops (g.U.Utility.action c.args.utility.now) c.items.result.now c.run_names.result (g.I.Source.left c.args.streams.now.input.now) (g.I.Source.left c.args.streams.now.input.now) (g.D.Disk.told c.args.streams.now.disk.now) (g.D.Disk.told c.list_sfiles.new.disk) (g.O.Sink.given c.args.streams.now.out.now) (g.E.Sink.given c.args.streams.now.err.now)
           (setting g.I.Source g.O.Sink g.E.Sink g.D.Disk c.run_names.new.streams).stage c.requires c.in-Ok.ensures.same told c.run_names.ensures.run.stops;
       unlocked = here_unlocked (g.U.Utility.action c.args.utility.now) c.items.result.now (g.I.Source.left c.args.streams.now.input.now) (g.I.Source.left c.args.streams.now.input.now) _ _ _ c.requires c.in-Ok.ensures.same told c.run_names.ensures.run.unlocked;
+      recovers = here_recovers (g.U.Utility.action c.args.utility.now) c.items.result.now c.run_names.result (g.I.Source.left c.args.streams.now.input.now) (g.I.Source.left c.args.streams.now.input.now) _ _ _ c.requires c.in-Ok.ensures.same told c.run_names.ensures.run.recovers;
       speaks = names_speak (g.U.Utility.action c.args.utility.now) kind.Here [] c.items.result.now c.run_names.result _ _ (subst AreSfiles (sym c.items.ensures) c.in-Ok.ensures.names) c.run_names.ensures.run.speaks;
       reads = λ only. c.run_names.ensures.run.reads only ∙ c.in-Ok.ensures.same;
       silent = search rules;
@@ -38,6 +40,7 @@ returns-in-Err-Failed-clause-run g c = record {
       never_stops (g.U.Utility.action c.args.utility.now) (λ m i. kind_steps (g.U.Utility.action c.args.utility.now) i m [] kind.Here) (IsHeard _ (g.I.Source.left c.args.streams.now.input.now)) end.DiskFault (g.D.Disk.told c.args.streams.now.disk.now) (g.D.Disk.told c.list_sfiles.new.disk) (g.O.Sink.given c.args.streams.now.out.now) (g.E.Sink.given c.args.streams.now.err.now)
       c.in-Err-Failed.ensures.same;
   unlocked = none_unlocked (g.U.Utility.action c.args.utility.now) (λ m i. kind_steps (g.U.Utility.action c.args.utility.now) i m [] kind.Here) (IsHeard _ (g.I.Source.left c.args.streams.now.input.now)) _ _ c.in-Err-Failed.ensures.same;
+  recovers = never_recovers (g.U.Utility.action c.args.utility.now) (λ m i. kind_steps (g.U.Utility.action c.args.utility.now) i m [] kind.Here) (IsHeard _ (g.I.Source.left c.args.streams.now.input.now)) end.DiskFault _ _ c.in-Err-Failed.ensures.same;
   speaks = none_spoken (g.U.Utility.action c.args.utility.now) kind.Here [] end.DiskFault (g.E.Sink.given c.args.streams.now.err.now);
   reads = search rules;
   silent = search rules;
@@ -54,6 +57,7 @@ returns-in-Err-Memory-clause-run g c = record {
       never_stops (g.U.Utility.action c.args.utility.now) (λ m i. kind_steps (g.U.Utility.action c.args.utility.now) i m [] kind.Here) (IsHeard _ (g.I.Source.left c.args.streams.now.input.now)) end.Memory (g.D.Disk.told c.args.streams.now.disk.now) (g.D.Disk.told c.list_sfiles.new.disk) (g.O.Sink.given c.args.streams.now.out.now) (g.E.Sink.given c.args.streams.now.err.now)
       c.in-Err-Memory.ensures.same;
   unlocked = none_unlocked (g.U.Utility.action c.args.utility.now) (λ m i. kind_steps (g.U.Utility.action c.args.utility.now) i m [] kind.Here) (IsHeard _ (g.I.Source.left c.args.streams.now.input.now)) _ _ c.in-Err-Memory.ensures.same;
+  recovers = never_recovers (g.U.Utility.action c.args.utility.now) (λ m i. kind_steps (g.U.Utility.action c.args.utility.now) i m [] kind.Here) (IsHeard _ (g.I.Source.left c.args.streams.now.input.now)) end.Memory _ _ c.in-Err-Memory.ensures.same;
   speaks = none_spoken (g.U.Utility.action c.args.utility.now) kind.Here [] end.Memory (g.E.Sink.given c.args.streams.now.err.now);
   reads = search rules;
   silent = search rules;

@@ -5,6 +5,7 @@ use Rattle.sccs_steps.specs.Settings.{setting}
 use Rattle.sccs_steps.specs.declared.faults.Fault.TheVariants as end
 use Rattle.sccs_steps.specs.declared.operands.OperandKind.TheVariants as kind
 use Rattle.sccs_steps.proofs.KindLaws.{lines_make, lines_speak, lines_stop, never_begun, never_stops, none_spoken, some_lines}
+use Rattle.sccs_steps.proofs.RecoveringSteps.{lines_recover, never_recovers}
 use Rattle.sccs_steps.proofs.UnlockedSteps.{lines_unlocked, none_unlocked}
 use Rattle.sccs_steps.proofs.operands.run_lines.Goals as goal
 
@@ -17,6 +18,7 @@ returns-in-Ok-clause-run g c = record {
       lines_stop (g.U.Utility.action c.args.utility.now) c.args.lines.now c.items.result.now c.run_names.result (g.I.Source.left c.args.streams.now.input.now) (setting g.I.Source g.O.Sink g.E.Sink g.D.Disk c.args.streams.now).stage
       (setting g.I.Source g.O.Sink g.E.Sink g.D.Disk c.run_names.new.streams).stage c.requires (c.items.ensures ∙ c.in-Ok.ensures) c.run_names.ensures.run.stops;
   unlocked = lines_unlocked (g.U.Utility.action c.args.utility.now) c.args.lines.now c.items.result.now (g.I.Source.left c.args.streams.now.input.now) _ _ c.requires (c.items.ensures ∙ c.in-Ok.ensures) c.run_names.ensures.run.unlocked;
+  recovers = lines_recover (g.U.Utility.action c.args.utility.now) c.args.lines.now c.items.result.now c.run_names.result (g.I.Source.left c.args.streams.now.input.now) _ _ c.requires (c.items.ensures ∙ c.in-Ok.ensures) c.run_names.ensures.run.recovers;
   speaks = lines_speak (g.U.Utility.action c.args.utility.now) c.args.lines.now c.items.result.now c.run_names.result _ _ (c.items.ensures ∙ c.in-Ok.ensures) c.run_names.ensures.run.speaks;
   reads = search rules;
   silent = search rules;
@@ -33,6 +35,7 @@ returns-in-Err-clause-run g c = record {
       never_stops (g.U.Utility.action c.args.utility.now) (λ m i. input_steps (g.U.Utility.action c.args.utility.now) i m (Ok (filter (g.U.Utility.action c.args.utility.now).fits c.args.lines.now))) (IsHeard _ (g.I.Source.left c.args.streams.now.input.now)) end.Memory (g.D.Disk.told c.args.streams.now.disk.now) (g.D.Disk.told c.args.streams.now.disk.now) (g.O.Sink.given c.args.streams.now.out.now) (g.E.Sink.given c.args.streams.now.err.now)
       refl;
   unlocked = none_unlocked (g.U.Utility.action c.args.utility.now) (λ m i. input_steps (g.U.Utility.action c.args.utility.now) i m (Ok (filter (g.U.Utility.action c.args.utility.now).fits c.args.lines.now))) (IsHeard _ (g.I.Source.left c.args.streams.now.input.now)) _ _ refl;
+  recovers = never_recovers (g.U.Utility.action c.args.utility.now) (λ m i. input_steps (g.U.Utility.action c.args.utility.now) i m (Ok (filter (g.U.Utility.action c.args.utility.now).fits c.args.lines.now))) (IsHeard _ (g.I.Source.left c.args.streams.now.input.now)) end.Memory _ _ refl;
   speaks = none_spoken (g.U.Utility.action c.args.utility.now) kind.FromInput [] end.Memory (g.E.Sink.given c.args.streams.now.err.now);
   reads = search rules;
   silent = search rules;

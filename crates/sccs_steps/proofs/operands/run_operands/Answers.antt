@@ -1,16 +1,17 @@
 use Rattle.std.proofs.Common.{rules, ℕ, Result, ◌+◌, refl, sym, subst, ◌∙◌, drop}
-use Rattle.sccs_steps.specs.Actions.{operand_steps, steps_at}
+use Rattle.sccs_steps.specs.Actions.{IsHeard, kind_hears, kind_of, operand_steps, steps_at}
 use Rattle.sccs_steps.specs.Calls.{shown}
-use Rattle.sccs_steps.specs.Running.{RunsOperands}
+use Rattle.sccs_steps.specs.Running.{IsInput, RunsOperands}
 use Rattle.sccs_steps.specs.Settings.{setting}
 use Rattle.sccs_steps.specs.Speaking.{OperandBegins, OperandMakes}
-use Rattle.sccs_steps.specs.StepLists.{SoFar}
+use Rattle.sccs_steps.specs.StepLists.{SoFar, in_turn}
 use Rattle.sccs_steps.specs.declared.faults.Fault.{Fault}
 use Rattle.sccs_steps.proofs.Exits.{exit_is}
 use Rattle.sccs_steps.proofs.JoinedSteps.{begins}
 use Rattle.sccs_steps.proofs.KindLaws.{deaf_at, heard_at, still_left}
 use Rattle.sccs_steps.proofs.Turns.{SpokeSoFar, spoke_begins, spoke_cut, spoke_ends, spoke_on, turn_on, turn_stops, turns_end}
 use Rattle.sccs_moments.proofs.Unlocked.{unlocked_same}
+use Rattle.sccs_steps.proofs.RecoveringSteps.{RecoversSoFar, firm_begins, firm_on, recovers_begin, recovers_early, recovers_end, recovers_on}
 use Rattle.sccs_steps.proofs.UnlockedSteps.{next_unlocked}
 use Rattle.sccs_steps.proofs.TurnStops.{StopsSoFar, stops_begin, stops_early, stops_end, stops_on}
 use Rattle.sccs_steps.proofs.operands.run_operands.Goals as goal
@@ -21,6 +22,9 @@ loop-operand-init g c = record {
   so_far = λ w m i spares clear shows given. begins w m (λ u. steps_at (g.U.Utility.action c.args.utility.now) u i c.args.operands.now) (shown (setting g.I.Source g.O.Sink g.E.Sink g.D.Disk c.args.streams.now).stage) shows;
   stops = λ w folder i m past spares clear shows given is calm safe. stops_begin (g.U.Utility.action c.args.utility.now) w folder (λ u. steps_at (g.U.Utility.action c.args.utility.now) u i c.args.operands.now) (setting g.I.Source g.O.Sink g.E.Sink g.D.Disk c.args.streams.now).stage m past spares shows is calm;
   unlocked = λ w m i spares clear shows given locks plain. unlocked_same _ _ refl;
+  firm = λ never. firm_begins (g.D.Disk.told c.args.streams.now.disk.now);
+  recovered = λ w m i spares clear shows given never.
+      recovers_begin w m (λ u. in_turn (operand_steps (g.U.Utility.action c.args.utility.now) i) u c.args.operands.now) (setting g.I.Source g.O.Sink g.E.Sink g.D.Disk c.args.streams.now).stage shows;
   said = spoke_begins (OperandMakes (g.U.Utility.action c.args.utility.now)) c.args.operands.now (g.E.Sink.given c.args.streams.now.err.now);
   left = λ lone below. refl;
   silent = λ only. refl;
@@ -49,6 +53,8 @@ returns-in_err-one-clause-run g c =
           next_unlocked (g.U.Utility.action c.args.utility.now) w m (operand_steps (g.U.Utility.action c.args.utility.now) i) c.args.operands.now c.loop-operand.operand-index c.loop-operand.status c.operand-item.result c.bytes.result.now _ (shown (setting g.I.Source g.O.Sink g.E.Sink g.D.Disk c.loop-operand.streams).stage) _ _ _
           (c.bytes.ensures ∙ c.operand-item.is) c.loop-operand-test.true refl clear (c.loop-operand.invariant.so_far w m i spares clear shows given) plain (c.loop-operand.invariant.unlocked w m i spares clear shows given locks plain)
           (λ u clear shows plain. c.in_err-one.ensures.run.unlocked w u i spares clear shows (heard_at (g.U.Utility.action c.args.utility.now) c.args.operands.now c.loop-operand.operand-index c.operand-item.result c.bytes.result.now (g.I.Source.left c.args.streams.now.input.now) (g.I.Source.left c.loop-operand.streams.input.now) i (c.bytes.ensures ∙ c.operand-item.is) c.loop-operand-test.true given.0 (c.loop-operand.invariant.left given.1 c.loop-operand-test.true)) locks plain);
+      recovers = λ never.
+          recovers_early (g.U.Utility.action c.args.utility.now) (λ m i. steps_at (g.U.Utility.action c.args.utility.now) m i c.args.operands.now) (λ m i. operand_steps (g.U.Utility.action c.args.utility.now) i m c.bytes.result.now) (IsInput (g.U.Utility.action c.args.utility.now) c.args.operands.now (g.I.Source.left c.args.streams.now.input.now)) (IsHeard (kind_hears (g.U.Utility.action c.args.utility.now).takes (kind_of (g.U.Utility.action c.args.utility.now).takes c.bytes.result.now)) (g.I.Source.left c.loop-operand.streams.input.now)) c.in_err-one.field-0.0 (setting g.I.Source g.O.Sink g.E.Sink g.D.Disk c.args.streams.now).stage.told (setting g.I.Source g.O.Sink g.E.Sink g.D.Disk c.loop-operand.streams).stage.told (setting g.I.Source g.O.Sink g.E.Sink g.D.Disk c.run_operand.new.streams).stage.told (c.loop-operand.invariant.firm never) (c.in_err-one.ensures.run.recovers never);
       speaks =
           spoke_cut (OperandMakes (g.U.Utility.action c.args.utility.now)) (OperandBegins (g.U.Utility.action c.args.utility.now)) c.args.operands.now c.loop-operand.operand-index c.loop-operand.status c.in_err-one.field-0.0 c.operand-item.result c.bytes.result.now _ _ _
           (c.bytes.ensures ∙ c.operand-item.is) c.loop-operand-test.true c.loop-operand.invariant.said c.in_err-one.ensures.run.speaks;
@@ -81,6 +87,13 @@ loop-operand-preserved g c = record {
       next_unlocked (g.U.Utility.action c.args.utility.now) w m (operand_steps (g.U.Utility.action c.args.utility.now) i) c.args.operands.now c.loop-operand.operand-index c.loop-operand.status c.operand-item.result c.bytes.result.now _ (shown (setting g.I.Source g.O.Sink g.E.Sink g.D.Disk c.loop-operand.streams).stage) _ _ _
       (c.bytes.ensures ∙ c.operand-item.is) c.loop-operand-test.true refl clear (c.loop-operand.invariant.so_far w m i spares clear shows given) plain (c.loop-operand.invariant.unlocked w m i spares clear shows given locks plain)
       (λ u clear shows plain. c.in_ok-one.ensures.run.unlocked w u i spares clear shows (heard_at (g.U.Utility.action c.args.utility.now) c.args.operands.now c.loop-operand.operand-index c.operand-item.result c.bytes.result.now (g.I.Source.left c.args.streams.now.input.now) (g.I.Source.left c.loop-operand.streams.input.now) i (c.bytes.ensures ∙ c.operand-item.is) c.loop-operand-test.true given.0 (c.loop-operand.invariant.left given.1 c.loop-operand-test.true)) locks plain);
+  firm = λ never. firm_on (g.U.Utility.action c.args.utility.now) (λ m i. operand_steps (g.U.Utility.action c.args.utility.now) i m c.bytes.result.now) (IsHeard (kind_hears (g.U.Utility.action c.args.utility.now).takes (kind_of (g.U.Utility.action c.args.utility.now).takes c.bytes.result.now)) (g.I.Source.left c.loop-operand.streams.input.now)) c.in_ok-one.one (setting g.I.Source g.O.Sink g.E.Sink g.D.Disk c.args.streams.now).stage.told (setting g.I.Source g.O.Sink g.E.Sink g.D.Disk c.loop-operand.streams).stage.told (setting g.I.Source g.O.Sink g.E.Sink g.D.Disk c.run_operand.new.streams).stage.told (c.loop-operand.invariant.firm never) (c.in_ok-one.ensures.run.recovers never);
+  recovered = λ w m i spares clear shows given never.
+      subst (λ status. RecoversSoFar w m (in_turn (operand_steps (g.U.Utility.action c.args.utility.now) i) m c.args.operands.now) (λ u. in_turn (operand_steps (g.U.Utility.action c.args.utility.now) i) u (drop (c.loop-operand.operand-index + 1) c.args.operands.now)) status (setting g.I.Source g.O.Sink g.E.Sink g.D.Disk c.args.streams.now).stage (setting g.I.Source g.O.Sink g.E.Sink g.D.Disk c.run_operand.new.streams).stage) (sym c.greater-status.ensures)
+      (recovers_on (g.U.Utility.action c.args.utility.now) w m (operand_steps (g.U.Utility.action c.args.utility.now) i) c.args.operands.now c.loop-operand.operand-index c.loop-operand.status c.in_ok-one.one c.operand-item.result c.bytes.result.now (setting g.I.Source g.O.Sink g.E.Sink g.D.Disk c.args.streams.now).stage (setting g.I.Source g.O.Sink g.E.Sink g.D.Disk c.loop-operand.streams).stage (setting g.I.Source g.O.Sink g.E.Sink g.D.Disk c.run_operand.new.streams).stage
+      (c.bytes.ensures ∙ c.operand-item.is) c.loop-operand-test.true clear (c.loop-operand.invariant.firm never) ((c.in_ok-one.ensures.run.recovers never).keeps (λ is. cc)) (c.loop-operand.invariant.recovered w m i spares clear shows given never)
+      (λ u clear shows. c.in_ok-one.ensures.run.steps w u i spares clear shows (heard_at (g.U.Utility.action c.args.utility.now) c.args.operands.now c.loop-operand.operand-index c.operand-item.result c.bytes.result.now (g.I.Source.left c.args.streams.now.input.now) (g.I.Source.left c.loop-operand.streams.input.now) i (c.bytes.ensures ∙ c.operand-item.is) c.loop-operand-test.true given.0 (c.loop-operand.invariant.left given.1 c.loop-operand-test.true)))
+      (λ u clear shows made. (c.in_ok-one.ensures.run.recovers never).calm refl w u i spares clear shows (heard_at (g.U.Utility.action c.args.utility.now) c.args.operands.now c.loop-operand.operand-index c.operand-item.result c.bytes.result.now (g.I.Source.left c.args.streams.now.input.now) (g.I.Source.left c.loop-operand.streams.input.now) i (c.bytes.ensures ∙ c.operand-item.is) c.loop-operand-test.true given.0 (c.loop-operand.invariant.left given.1 c.loop-operand-test.true)) made));
   said =
       subst (λ status. SpokeSoFar (OperandMakes (g.U.Utility.action c.args.utility.now)) c.args.operands.now (c.loop-operand.operand-index + 1) status (g.E.Sink.given c.args.streams.now.err.now) (g.E.Sink.given c.run_operand.new.streams.err.now)) (sym c.greater-status.ensures)
       (spoke_on (OperandMakes (g.U.Utility.action c.args.utility.now)) (OperandBegins (g.U.Utility.action c.args.utility.now)) c.args.operands.now c.loop-operand.operand-index c.loop-operand.status c.in_ok-one.one c.operand-item.result c.bytes.result.now _ _ _
@@ -104,6 +117,8 @@ returns-clause-run g c = record {
       stops_end (g.U.Utility.action c.args.utility.now) w folder (operand_steps (g.U.Utility.action c.args.utility.now) i) c.args.operands.now c.loop-operand.operand-index c.loop-operand.status (setting g.I.Source g.O.Sink g.E.Sink g.D.Disk c.args.streams.now).stage (setting g.I.Source g.O.Sink g.E.Sink g.D.Disk c.loop-operand.streams).stage m past
       c.loop-operand-test.false (c.loop-operand.invariant.stops w folder i m past spares clear shows given is calm safe);
   unlocked = λ w m i spares clear shows given locks plain. c.loop-operand.invariant.unlocked w m i spares clear shows given locks plain;
+  recovers = λ never.
+      recovers_end (g.U.Utility.action c.args.utility.now) (operand_steps (g.U.Utility.action c.args.utility.now)) (IsInput (g.U.Utility.action c.args.utility.now) c.args.operands.now (g.I.Source.left c.args.streams.now.input.now)) c.args.operands.now c.loop-operand.operand-index c.loop-operand.status (setting g.I.Source g.O.Sink g.E.Sink g.D.Disk c.args.streams.now).stage (setting g.I.Source g.O.Sink g.E.Sink g.D.Disk c.loop-operand.streams).stage c.loop-operand-test.false (c.loop-operand.invariant.firm never) (λ w m i spares clear shows given. c.loop-operand.invariant.recovered w m i spares clear shows given never);
   speaks = spoke_ends (OperandMakes (g.U.Utility.action c.args.utility.now)) (OperandBegins (g.U.Utility.action c.args.utility.now)) c.args.operands.now c.loop-operand.operand-index c.loop-operand.status _ _ c.loop-operand-test.false c.loop-operand.invariant.said;
   reads = c.loop-operand.invariant.same;
   silent = c.loop-operand.invariant.silent;

@@ -4,14 +4,15 @@ use Rattle.sccs_disk.specs.Told.{Tells, seen}
 use Rattle.sccs_files.specs.StepFiles.{Shows}
 use Rattle.sccs_moments.specs.Calm.{IsCalm}
 use Rattle.sccs_moments.specs.Unlocked.{BeginsUnlocked}
-use Rattle.sccs_steps.specs.Actions.{AreClear, IsLone, hears, steps_at}
+use Rattle.sccs_steps.specs.Actions.{AreClear, IsLone, hears, operand_steps, steps_at}
 use Rattle.sccs_steps.specs.Calls.{shown}
 use Rattle.sccs_steps.specs.ListStops.{AreSafe, Spares}
 use Rattle.sccs_steps.specs.Running.{IsInput}
 use Rattle.sccs_steps.specs.Settings.{SameLoans, setting}
 use Rattle.sccs_steps.specs.Speaking.{OperandMakes}
-use Rattle.sccs_steps.specs.StepLists.{SoFar}
+use Rattle.sccs_steps.specs.StepLists.{SoFar, in_turn}
 use Rattle.sccs_steps.specs.Unlocked.{ArePlain}
+use Rattle.sccs_steps.proofs.RecoveringSteps.{RecoversSoFar, StaysFirm}
 use Rattle.sccs_steps.proofs.Turns.{SpokeSoFar}
 use Rattle.sccs_steps.proofs.TurnStops.{StopsSoFar}
 use Rattle.sccs_steps.proofs.operands.run_operands.Given as goal
@@ -30,6 +31,11 @@ invariant-loop-operand g l = record {
       (setting g.I.Source g.O.Sink g.E.Sink g.D.Disk l.fn.streams).stage (setting g.I.Source g.O.Sink g.E.Sink g.D.Disk l.streams).stage m past;
   unlocked : (w : List ℕ → Bool) (m : Folder) (i : List ℕ) → Spares w → AreClear (g.U.Utility.action l.utility) w (steps_at (g.U.Utility.action l.utility) m i l.operands) → Shows w (seen (g.D.Disk.told l.fn.streams.disk.now)) (view_in m)
       → IsInput (g.U.Utility.action l.utility) l.operands (g.I.Source.left l.fn.streams.input.now) i → (g.U.Utility.action l.utility).locks ≡ true → ArePlain (g.U.Utility.action l.utility) (steps_at (g.U.Utility.action l.utility) m i l.operands) → BeginsUnlocked (g.D.Disk.told l.fn.streams.disk.now) (g.D.Disk.told l.streams.disk.now);
+  firm : (g.U.Utility.action l.utility).locks ≡ false → StaysFirm (g.D.Disk.told l.fn.streams.disk.now) (g.D.Disk.told l.streams.disk.now);
+  recovered : (w : List ℕ → Bool) (m : Folder) (i : List ℕ) → Spares w → AreClear (g.U.Utility.action l.utility) w (steps_at (g.U.Utility.action l.utility) m i l.operands) → Shows w (seen (g.D.Disk.told l.fn.streams.disk.now)) (view_in m)
+      → IsInput (g.U.Utility.action l.utility) l.operands (g.I.Source.left l.fn.streams.input.now) i → (g.U.Utility.action l.utility).locks ≡ false
+      → RecoversSoFar w m (in_turn (operand_steps (g.U.Utility.action l.utility) i) m l.operands) (λ u. in_turn (operand_steps (g.U.Utility.action l.utility) i) u (drop l.operand-index l.operands)) l.status
+      (setting g.I.Source g.O.Sink g.E.Sink g.D.Disk l.fn.streams).stage (setting g.I.Source g.O.Sink g.E.Sink g.D.Disk l.streams).stage;
   said : SpokeSoFar (OperandMakes (g.U.Utility.action l.utility)) l.operands l.operand-index l.status (g.E.Sink.given l.fn.streams.err.now) (g.E.Sink.given l.streams.err.now);
   left : IsLone (g.U.Utility.action l.utility) l.operands → l.operand-index < length l.operands → g.I.Source.left l.streams.input.now ≡ g.I.Source.left l.fn.streams.input.now;
   silent : (g.U.Utility.action l.utility).silent ≡ true → g.O.Sink.given l.streams.out.now ≡ g.O.Sink.given l.fn.streams.out.now;

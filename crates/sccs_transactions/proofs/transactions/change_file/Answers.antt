@@ -6,7 +6,7 @@ use Rattle.sccs_store.proofs.Working.{made_there}
 use Rattle.sccs_sid.specs.declared.refusals.StepFault.TheVariants as step
 use Rattle.sccs_steps.specs.Calls.{world}
 use Rattle.sccs_transactions.proofs.ChangeCauses.{fault_speaks, finished_causes, given_up_causes, given_up_ignores, given_up_speaks}
-use Rattle.sccs_transactions.proofs.ChangeEnds.{finished_steps, given_up_steps, locked_steps}
+use Rattle.sccs_transactions.proofs.ChangeEnds.{failed_steps, finished_steps, given_up_steps, locked_steps}
 use Rattle.sccs_transactions.proofs.StopEnds.{at_failed, at_finished, at_given_up, at_locked, at_memory}
 use Rattle.sccs_moments.proofs.Unlocked.{unlocked_same}
 use Rattle.sccs_transactions.proofs.UnlockedChanges.{unlocked_failed, unlocked_finished, unlocked_given_up}
@@ -14,6 +14,9 @@ use Rattle.sccs_transactions.proofs.transactions.change_file.Goals as goal
 
 pub returns-in-Err-Locked-clause-step : goal.returns-in-Err-Locked-clause-step
 returns-in-Err-Locked-clause-step g c = locked_steps (g.C.Change.change c.args.change.now) c.args.name.now _ _ _ _ _ (ap seen (c.lock.ensures.same (c.in-Err-Locked.is ∙ ap Err c.in-Err-Locked.field-0-is))) (c.lock.ensures.locked (c.in-Err-Locked.is ∙ ap Err c.in-Err-Locked.field-0-is))
+
+pub returns-in-Err-Failed-clause-step : goal.returns-in-Err-Failed-clause-step
+returns-in-Err-Failed-clause-step g c = failed_steps (g.C.Change.change c.args.change.now) c.args.name.now _ _ _ _ _ c.in-Err-Failed.ensures.view_err
 
 pub returns-in-Err-Failed-clause-speaks : goal.returns-in-Err-Failed-clause-speaks
 returns-in-Err-Failed-clause-speaks g c = fault_speaks _ step.DiskFault _ _ (g.C.Change.locked c.args.change.now) (λ refusal is. cc)

@@ -1,6 +1,6 @@
 use Rattle.sccs_recovery.specs.Commands.{is_locked}
 use Rattle.sccs_recovery.specs.RecoverStep.{found_text}
-use Rattle.sccs_recovery.proofs.RecoverMoments.{fault_moments, made_moments}
+use Rattle.sccs_recovery.proofs.RecoverMoments.{fault_moments, fault_recovers, made_moments, made_recovers}
 use Rattle.sccs_recovery.proofs.RecoveryEnds.{fault_causes, fault_speaks, fault_steps, faults_of, is_sfile, made_steps, say_causes, say_speaks}
 use Rattle.sccs_recovery.proofs.commands.RecoverUtility.step.Goals as goal
 
@@ -36,5 +36,14 @@ returns-in-Ok-clause-moments g c =
 pub returns-in-Err-clause-moments : goal.returns-in-Err-clause-moments
 returns-in-Err-clause-moments g c =
     fault_moments c.args.name.now c.in-Err.fault (g.D.Disk.told c.args.disk.now) (g.D.Disk.told c.recover.new.disk) (g.I.Source.left c.args._input.now) (g.O.Sink.given c.args.out.now) (g.E.Sink.given c.args._err.now) (is_sfile c.args.name.now c.requires)
+    (faults_of c.args.name.now c.in-Err.fault (g.D.Disk.told c.args.disk.now) (g.D.Disk.told c.recover.new.disk) _ _ c.in-Err.ensures.checks c.in-Err.ensures.ends)
+    c.recover.ensures.ends.story c.recover.ensures.ends.firm c.in-Err.ensures.ends.touches
+
+pub returns-in-Ok-clause-recovers : goal.returns-in-Ok-clause-recovers
+returns-in-Ok-clause-recovers g c = λ never. made_recovers c.say.result (g.D.Disk.told c.args.disk.now) (g.D.Disk.told c.recover.new.disk) c.recover.ensures.ends.story c.recover.ensures.ends.firm c.in-Ok.ensures.ends.calm
+
+pub returns-in-Err-clause-recovers : goal.returns-in-Err-clause-recovers
+returns-in-Err-clause-recovers g c = λ never.
+    fault_recovers c.in-Err.fault c.args.name.now (g.D.Disk.told c.args.disk.now) (g.D.Disk.told c.recover.new.disk)
     (faults_of c.args.name.now c.in-Err.fault (g.D.Disk.told c.args.disk.now) (g.D.Disk.told c.recover.new.disk) _ _ c.in-Err.ensures.checks c.in-Err.ensures.ends)
     c.recover.ensures.ends.story c.recover.ensures.ends.firm c.in-Err.ensures.ends.touches

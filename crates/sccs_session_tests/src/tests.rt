@@ -1,0 +1,5 @@
+mod commands;
+mod draws;
+mod runs;
+mod sessions;
+mod texts;
