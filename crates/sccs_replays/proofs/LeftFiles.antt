@@ -1,0 +1,111 @@
+-- Steps that leave an s-file as it is, and where the files of a step stand in a folder.
+use Rattle.std.proofs.Common.{◌≡◌, ℕ, Bool, true, false, List, drop, Option, None, Some, Result, Ok, Err, refl, ap, subst, ◌∙◌}
+use Rattle.std.specs.Prelude.{if◌then◌else◌, is_none, is_some}
+use Rattle.std.specs.Str.{bytes_eq}
+use Rattle.sccs_base.specs.Name.{IsSfile, sibling}
+use Rattle.sccs_disk.specs.Files.{Content, Folder, View, put, view_in}
+use Rattle.sccs_disk.proofs.Puts.{put_other, put_same}
+use Rattle.sccs_sid.specs.Reading.{◌>>=◌}
+use Rattle.sccs_sid.specs.declared.moments.Stamp.{Stamp}
+use Rattle.sccs_sid.specs.declared.refusals.Refusal.{Refusal}
+use Rattle.sccs_sid.specs.declared.refusals.Refusal.TheVariants.{Locked}
+use Rattle.sccs_grammar.specs.File.{answer, file_of}
+use Rattle.sccs_grammar.specs.FileRefusals.{or_refusal}
+use Rattle.sccs_words.specs.declared.commands.GetWords.{GetWords}
+use Rattle.sccs_files.specs.StepFiles.{Files, moved_in}
+use Rattle.sccs_files.proofs.Folders.{moved_view}
+use Rattle.sccs_moments.specs.Recovery.{is_kept}
+use Rattle.sccs_moments.proofs.FileNames.{from_sfile, kept_s}
+use Rattle.sccs_pending.specs.NewEntries.{Decided, entries_outcome, kept_g, with_entries}
+use Rattle.sccs_pending.specs.Pending.{Found, bytes_at, pending_of}
+use Rattle.sccs_steps.specs.Actions.{Step}
+use Rattle.sccs_steps.specs.StepEffects.{Outcome, StepEffect, check}
+use Rattle.sccs_transactions.specs.Changes.{locking_step}
+use Rattle.sccs_edit.specs.SactStep.{found_edits, sact_step, shows}
+use Rattle.sccs_get.specs.EditStep.{edit_outcome, edited, reserved_of}
+use Rattle.sccs_get.specs.VersionStep.{found_of, g_is_free, get_outcome, got, has_its_keywords, lines_in, stays_writable, text_in, with_g, writes_g}
+use Rattle.sccs_recovery.specs.RecoverStep.{files_checked, recover_step, recovers, unlocked}
+
+-- the s-file behind a step that makes these files
+abbrev pub s_of : Option Content → Option Files → Option Content
+s_of s None = s
+s_of s (Some f) = f.s
+
+-- what is accepted leaves this s-file
+unfoldable pub Leaves : Option Content → Outcome → Type 0
+Leaves s o = (d : StepEffect) → o ≡ Ok d → s_of s d.new ≡ s
+
+passed_leaves : {A : Type 0} (s : Option Content) (r : Result A Refusal) (rest : A → Outcome) → ((x : A) → Leaves s (rest x)) → Leaves s (r >>= rest)
+unfolding Leaves
+passed_leaves s (Ok x) rest leaves d is = leaves x d is
+passed_leaves s (Err refusal) rest leaves d is = absurd cc
+
+done_leaves : (s : Option Content) (e : StepEffect) → s_of s e.new ≡ s → Leaves s (Ok e)
+unfolding Leaves
+done_leaves s e kept d is = let same : e ≡ d = cc in subst (λ (x : StepEffect). s_of s x.new ≡ s) same kept
+
+either_leaves : (b : Bool) (s : Option Content) (f : Files) → f.s ≡ s → s_of s (if b then Some f else None) ≡ s
+either_leaves true s f kept = kept
+either_leaves false s f kept = refl
+
+-- ---- utilities
+
+pub refused_leaves : (s : Option Content) (refusal : Refusal) → Leaves s (Err refusal)
+unfolding Leaves
+refused_leaves s refusal d is = absurd cc
+
+pub get_leaves : (words : GetWords) (stamp : Stamp) (place : List ℕ) (heading : Bool) (n : List ℕ) (f : Files) → Leaves f.s (get_outcome words stamp place heading n f)
+unfolding get_outcome
+get_leaves words stamp place heading n f =
+    passed_leaves f.s (or_refusal (answer file_of (bytes_at f.s))) _ (λ parsed.
+    passed_leaves f.s (found_of words stamp place n parsed.header) _ (λ found.
+    passed_leaves f.s (has_its_keywords words parsed.header.flags (lines_in found parsed.items)) _ (λ keywords.
+    passed_leaves f.s (g_is_free words f.g) _ (λ free.
+    done_leaves f.s (got words heading n parsed.header.records f found (lines_in found parsed.items))
+    (either_leaves (writes_g words) f.s (with_g f (text_in words parsed.header.records found (lines_in found parsed.items)) (stays_writable words)) refl)))))
+
+pub edit_leaves : (words : GetWords) (stamp : Stamp) (place : List ℕ) (heading : Bool) (n input : List ℕ) (named : List (Option Content)) (f : Files) → Leaves f.s (edit_outcome words stamp place heading n input named f)
+unfolding edit_outcome
+edit_leaves words stamp place heading n input named f =
+    passed_leaves f.s (reserved_of words stamp place n f) _ (λ x.
+    done_leaves f.s (edited words heading n x.parsed.header.records f x.edits x.edit x.version (lines_in x.version x.parsed.items)) refl)
+
+pub entries_leave : (decide : List ℕ → Found → Result Decided Refusal) (n input : List ℕ) (named : List (Option Content)) (f : Files) → Leaves f.s (entries_outcome decide n input named f)
+unfolding entries_outcome
+entries_leave decide n input named f =
+    passed_leaves f.s (pending_of f.s f.p) _ (λ found.
+    passed_leaves f.s (decide n found) _ (λ d. done_leaves f.s (with_entries f d.edits (kept_g d.keep f.g) d.report) refl))
+
+pub sact_leaves : (heading : Bool) (n : List ℕ) (f : Files) → Leaves f.s (sact_step heading n f)
+unfolding sact_step
+sact_leaves heading n f = passed_leaves f.s (found_edits f) _ (λ edits. done_leaves f.s (shows heading n edits) refl)
+
+pub recover_leaves : (n : List ℕ) (f : Files) → Leaves f.s (recover_step n f)
+unfolding recover_step
+recover_leaves n f = passed_leaves f.s (files_checked f) _ (λ done. done_leaves f.s (recovers n f) (either_leaves (is_some f.z) f.s (unlocked f) refl))
+
+pub locking_leaves : (outcome : Step) (n input : List ℕ) (named : List (Option Content)) (f : Files) → Leaves f.s (outcome n input named f) → Leaves f.s (locking_step outcome n input named f)
+unfolding locking_step
+locking_leaves outcome n input named f leaves = passed_leaves f.s (check (is_none f.z) Locked) _ (λ free. leaves)
+
+-- ---- folders
+
+-- the s-file of a step's own name
+pub own_file : (m : Folder) (n : List ℕ) (new : Option Files) → view_in (moved_in m n new) n ≡ s_of (view_in m n) new
+own_file m n None = refl
+own_file m n (Some f) =
+    ap (λ (v : View). v n) (moved_view m n (Some f))
+    ∙ put_same (put (put (put (view_in m) (sibling 122 n) f.z) (drop 2 n) f.g) (sibling 112 n) f.p) n f.s
+
+-- that of another name
+pub other_file : (m : Folder) (k n : List ℕ) (new : Option Files) → IsSfile n → is_kept (drop 2 k) ≡ false → bytes_eq k n ≡ false → view_in (moved_in m k new) n ≡ view_in m n
+other_file m k n None sfile plain apart = refl
+other_file m k n (Some f) sfile plain apart =
+    let z : View = put (view_in m) (sibling 122 k) f.z in
+    let g : View = put z (drop 2 k) f.g in
+    let p : View = put g (sibling 112 k) f.p in
+    ap (λ (v : View). v n) (moved_view m k (Some f))
+    ∙ (put_other p k n f.s apart
+    ∙ (put_other g (sibling 112 k) n f.p (from_sfile 112 k n sfile refl)
+    ∙ (put_other z (drop 2 k) n f.g (kept_s (drop 2 k) n plain sfile)
+    ∙ put_other (view_in m) (sibling 122 k) n f.z (from_sfile 122 k n sfile refl))))

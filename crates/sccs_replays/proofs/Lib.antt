@@ -1,0 +1,6 @@
+pub mod LeftFiles
+pub mod LiveVersions
+pub mod MadeSteps
+pub mod MeantValues
+pub mod ReplayedRuns
+pub mod StepVersions

@@ -1,0 +1,129 @@
+-- What words mean has valid values: the lines of MRs and comments, and the release of a new file.
+use Rattle.std.proofs.Common.{◌≡◌, ◌≢◌, ◌≤◌, ℕ, Bool, true, false, ◌&&◌, List, [], ◌∷◌, Option, None, Some, IfSome, Result, Ok, Err, refl, subst, arith}
+use Rattle.std.specs.Prelude.{nat_le, nat_lt, option_and_then, if◌then◌else◌}
+use Rattle.std.proofs.lemmas.Bool.{leb-true, ltb-true}
+use Rattle.std.proofs.lemmas.List.Elements.{All-from_recursion, recursion_from_All}
+use Rattle.sccs_base.specs.Constants.{lf}
+use Rattle.sccs_base.specs.Cut.{HasNoLf, text_of}
+use Rattle.sccs_base.proofs.Lines.{text_fit}
+use Rattle.sccs_sid.specs.Reading.{number, only}
+use Rattle.sccs_sid.specs.Sid.{IsComponent}
+use Rattle.sccs_sid.specs.declared.sids.Sid.{Sid}
+use Rattle.sccs_history.specs.History.{AreLines}
+use Rattle.sccs_steps.proofs.Turns.{each_all}
+use Rattle.sccs_words.specs.BetweenGaps.{AreWordsOf}
+use Rattle.sccs_words.specs.Judge.{has}
+use Rattle.sccs_words.specs.Letters as opt
+use Rattle.sccs_words.specs.Meaning.{command_of, first_of, line_meaning, meaning, meaning_by, refusal_of, unless, utility_of, with_name, with_number, with_sid}
+use Rattle.sccs_words.specs.MrWords.{is_gap, mr_words}
+use Rattle.sccs_words.specs.Records.{lines_in, mrs_of, value_of}
+use Rattle.sccs_words.specs.Scan.{CommandLine, scanned}
+use Rattle.sccs_words.specs.Synopsis.{options_of}
+use Rattle.sccs_words.specs.Values.{name_value, release_value, sid_value, soak_number, up_to}
+use Rattle.sccs_words.specs.declared.commands.Command.{Command}
+use Rattle.sccs_words.specs.declared.commands.Command.TheVariants as c
+use Rattle.sccs_words.specs.declared.commands.Usage.{Usage}
+use Rattle.sccs_words.specs.declared.scanning.Use.{Use}
+use Rattle.sccs_words.specs.declared.tables.Utility.{Utility}
+use Rattle.sccs_words.specs.declared.tables.Utility.TheVariants as u
+use Rattle.sccs_words.proofs.MrWordLaws.{words_found}
+
+abbrev pub HasMeantValues : Command → Type 0
+HasMeantValues (c.Delta words name) = AreLines words.mrs × AreLines words.comment
+HasMeantValues (c.Admin words operands) = IfSome words.release IsComponent × IfSome words.comment AreLines
+HasMeantValues command = Unit {0}
+
+abbrev pub AreMeantValues : Result Command Usage → Type 0
+AreMeantValues (Ok command) = HasMeantValues command
+AreMeantValues (Err usage) = Unit {0}
+
+-- ---- MRs and comments
+
+no_gap : (b : ℕ) → is_gap b ≡ false → b ≢ lf
+no_gap b free is = let gap : is_gap lf ≡ false = subst (λ k. is_gap k ≡ false) is free in absurd cc
+
+words_are_lines : (words : List (List ℕ)) (bytes : List ℕ) → AreWordsOf bytes words → AreLines words
+words_are_lines [] bytes are = tt
+words_are_lines (word ∷ words) bytes (gaps, after, same, gap, one, end, more) =
+    (All-from_recursion (λ b. b ≢ lf) word (each_all (λ b. is_gap b ≡ false) (λ b. b ≢ lf) word no_gap one.whole), words_are_lines words after more)
+
+mrs_are_lines : (value : Option (List ℕ)) → AreLines (mrs_of value)
+mrs_are_lines None = tt
+mrs_are_lines (Some bytes) = words_are_lines (mr_words bytes) bytes (words_found bytes)
+
+comment_is_lines : (value : Option (List ℕ)) → AreLines (lines_in value)
+comment_is_lines None = tt
+comment_is_lines (Some bytes) = recursion_from_All HasNoLf (text_of bytes) (text_fit bytes)
+
+asked_comment : (asked : Bool) (value : Option (List ℕ)) → IfSome (if asked then Some (lines_in value) else None) AreLines
+asked_comment true value = comment_is_lines value
+asked_comment false value = tt
+
+-- ---- releases
+
+both_true : (a b : Bool) → (a && b) ≡ true → (a ≡ true) × (b ≡ true)
+both_true true b is = (refl, is)
+both_true false b is = absurd cc
+
+only_fitting : (fits : Bool) (n : ℕ) → (fits ≡ true → IsComponent n) → IfSome (only fits n) IsComponent
+only_fitting true n valid = valid refl
+only_fitting false n valid = tt
+
+fitting_release : (n : ℕ) → (nat_lt 0 n && nat_le n 9999) ≡ true → IsComponent n
+fitting_release n is =
+    let both = both_true (nat_lt 0 n) (nat_le n 9999) is in
+    let most : n ≤ 9999 = leb-true n 9999 both.1 in
+    (ltb-true 0 n both.0, omega (arith, most))
+
+number_is_release : (o : Option ℕ) → IfSome (option_and_then (up_to 9999) o) IsComponent
+number_is_release None = tt
+number_is_release (Some n) = only_fitting (nat_lt 0 n && nat_le n 9999) n (fitting_release n)
+
+release_is_valid : (value : Option (List ℕ)) → IfSome (option_and_then release_value value) IsComponent
+release_is_valid None = tt
+release_is_valid (Some bytes) = number_is_release (number 4 bytes)
+
+-- ---- commands
+
+named_delta : (uses : List Use) (n : ℕ) (name : Option (List ℕ)) → AreMeantValues (with_name uses n name)
+named_delta uses n None = tt
+named_delta uses n (Some name) = (mrs_are_lines (value_of opt.m uses), comment_is_lines (value_of opt.y uses))
+
+given_sid : (operands : List (List ℕ)) (n : ℕ) (sid : Option Sid) → AreMeantValues (with_sid operands n sid)
+given_sid operands n None = tt
+given_sid operands n (Some sid) = tt
+
+given_number : (n : ℕ) (number : Option ℕ) → AreMeantValues (with_number n number)
+given_number n None = tt
+given_number n (Some number) = tt
+
+command_values : (utility : Utility) (l : CommandLine) (n : ℕ) → AreMeantValues (command_of utility l n)
+command_values u.Admin l n = (release_is_valid (value_of opt.r l.uses), asked_comment (has opt.y l.uses) (value_of opt.y l.uses))
+command_values u.Get l n = tt
+command_values u.Delta l n = named_delta l.uses n (option_and_then name_value (first_of l.operands))
+command_values u.Unget l n = tt
+command_values u.Sact l n = tt
+command_values u.Rmdel l n = given_sid l.operands n (option_and_then sid_value (value_of opt.r l.uses))
+command_values u.Prs l n = tt
+command_values u.Val l n = tt
+command_values u.What l n = tt
+command_values u.Recover l n = tt
+command_values u.Batch l n = tt
+command_values u.Soak l n = given_number n (option_and_then soak_number (first_of l.operands))
+
+unless_refused : (refusal : Option Usage) (meant : Result Command Usage) → AreMeantValues meant → AreMeantValues (unless refusal meant)
+unless_refused None meant values = values
+unless_refused (Some usage) meant values = tt
+
+line_values : (utility : Utility) (l : CommandLine) (n : ℕ) → AreMeantValues (line_meaning utility l n)
+unfolding line_meaning
+line_values utility l n = unless_refused (refusal_of utility l n) (command_of utility l n) (command_values utility l n)
+
+utility_values : (utility : Option Utility) (words : List (List ℕ)) → AreMeantValues (meaning_by utility words)
+utility_values None words = tt
+utility_values (Some utility) words = line_values utility (scanned (options_of utility) 2 [] None words) _
+
+pub meant_values : (words : List (List ℕ)) → AreMeantValues (meaning words)
+unfolding meaning
+meant_values [] = tt
+meant_values (word ∷ words) = utility_values (utility_of word) words

@@ -1,0 +1,174 @@
+-- What the step of each command makes of the versions of an s-file.
+use Rattle.std.proofs.Common.{◌≡◌, ◌==◌, ◌||◌, ℕ, Bool, true, false, List, [], ◌∷◌, drop, Option, None, Some, Ok, Err, refl, sym, ap, subst, ◌∙◌}
+use Rattle.std.specs.Prelude.{if◌then◌else◌, is_none, is_some, map}
+use Rattle.std.proofs.lemmas.Bool.{eqb-true}
+use Rattle.sccs_base.specs.Login.{IsLogin}
+use Rattle.sccs_base.specs.Name.{sibling}
+use Rattle.sccs_disk.specs.Files.{Content, Folder, view_in}
+use Rattle.sccs_sid.specs.Moment.{IsMoment}
+use Rattle.sccs_sid.specs.declared.refusals.Refusal.TheVariants as refusals
+use Rattle.sccs_history.specs.Applied.{live_serials}
+use Rattle.sccs_history.specs.Numbers.{has}
+use Rattle.sccs_grammar.specs.File.{Parsed, file_of}
+use Rattle.sccs_words.specs.declared.commands.AdminWords.{AdminWords}
+use Rattle.sccs_words.specs.declared.commands.Command.{Command}
+use Rattle.sccs_words.specs.declared.commands.Command.TheVariants as c
+use Rattle.sccs_words.specs.declared.commands.DeltaWords.{DeltaWords}
+use Rattle.sccs_words.specs.declared.commands.GetWords.{GetWords}
+use Rattle.sccs_files.specs.StepFiles.{Files, look}
+use Rattle.sccs_steps.specs.Actions.{Action, Step}
+use Rattle.sccs_steps.specs.StepEffects.{Outcome, StepEffect, check}
+use Rattle.sccs_transactions.specs.Changes.{locking, locking_step}
+use Rattle.sccs_admin.specs.AdminStep.{admin_change, admin_outcome, found_text}
+use Rattle.sccs_admin.specs.Texts.{named_by}
+use Rattle.sccs_delta.specs.DeltaStep.{delta_outcome, sizes_checked}
+use Rattle.sccs_delta.specs.NewVersions.{MakesVersions, text_in}
+use Rattle.sccs_delta.specs.Replays.{CallRead, DeltaCall, Texts, call_read, files_at}
+use Rattle.sccs_delta.proofs.AddedVersions.{versions_made}
+use Rattle.sccs_delta.proofs.Chains.{passed}
+use Rattle.sccs_edit.specs.UngetStep.{unget_decides}
+use Rattle.sccs_get.specs.EditStep.{edit_change, edit_outcome}
+use Rattle.sccs_get.specs.VersionStep.{get_action}
+use Rattle.sccs_top.specs.Runs.{Caller, action_of, has_heading}
+use Rattle.sccs_top.specs.Unbuilt.{is_admin_built, unbuilt}
+use Rattle.sccs_top.specs.MadeHistories.{IsReplayed}
+use Rattle.sccs_top.proofs.AdminValues.{admin_values}
+use Rattle.sccs_top.proofs.MadeHistoryLaws.{made_replayed}
+use Rattle.sccs_replays.specs.PastRuns.{HasVersions, call_in, first_version, versions_after_command, with_delta, with_read}
+use Rattle.sccs_replays.proofs.LeftFiles.{Leaves, edit_leaves, entries_leave, get_leaves, locking_leaves, recover_leaves, refused_leaves, s_of, sact_leaves}
+use Rattle.sccs_replays.proofs.LiveVersions.{follows_on, read_is}
+use Rattle.sccs_replays.proofs.MeantValues.{HasMeantValues}
+
+-- where files are made, an s-file of these versions becomes one of those
+abbrev pub Goes : Option Content → Option Files → Texts → Texts → Type 0
+Goes s new texts after = HasVersions s texts → HasVersions (s_of s new) (if is_some new then after else texts)
+
+goes_left : (s : Option Content) (new : Option Files) (texts : Texts) → s_of s new ≡ s → Goes s new texts texts
+goes_left s None texts kept are = are
+goes_left s (Some f) texts kept are = subst (λ (o : Option Content). HasVersions o texts) (sym kept) are
+
+left : (s : Option Content) (o : Outcome) (d : StepEffect) (texts : Texts) → Leaves s o → o ≡ Ok d → Goes s d.new texts texts
+unfolding Leaves
+left s o d texts leaves is = goes_left s d.new texts (leaves d is)
+
+-- ---- locks
+
+none_there : (z : Option Content) (free : Bool) → check (is_none z) refusals.Locked ≡ Ok free → z ≡ None
+none_there None free is = refl
+none_there (Some c) free is = absurd cc
+
+-- what is accepted had no z-file
+unlocked_step : (outcome : Step) (n i : List ℕ) (named : List (Option Content)) (f : Files) (d : StepEffect) → locking_step outcome n i named f ≡ Ok d → (f.z ≡ None) × (outcome n i named f ≡ Ok d)
+unfolding locking_step
+unlocked_step outcome n i named f d is =
+    let free = passed (check (is_none f.z) refusals.Locked) _ d is in
+    (none_there f.z free.0 free.1, free.2)
+
+-- ---- delta
+
+-- without an s-file it is refused
+missing : (s : Option Content) (found : Bool) → s ≡ None → check (is_some s) refusals.Missing ≡ Ok found → ⊥
+missing None found none is = cc
+missing (Some c) found none is = cc
+
+sized_is : (i : List ℕ) (f : Files) (sized : Bool) → sizes_checked i f ≡ Ok sized → f.s ≡ None → ⊥
+unfolding sizes_checked
+sized_is i f sized is none = let there = passed (check (is_some f.s) refusals.Missing) _ sized is in missing f.s there.0 none there.1
+
+needs_file : (words : DeltaWords) (who : Caller) (n i : List ℕ) (f : Files) (d : StepEffect) → delta_outcome words who.stamp n i [] f ≡ Ok d → f.s ≡ None → ⊥
+unfolding delta_outcome
+needs_file words who n i f d is none = let sized = passed (sizes_checked i f) _ d is in sized_is i f sized.0 sized.1 none
+
+-- the same file is read
+same_file : (bytes : List ℕ) (a b : Parsed) → file_of bytes ≡ Ok a → file_of bytes ≡ Ok b → a ≡ b
+same_file bytes a b one two = let same : Ok a ≡ Ok b = sym one ∙ two in cc
+
+-- the new s-file has the versions with those of the call
+delta_made : (n : List ℕ) (call : DeltaCall) (s : Content) (d : StepEffect) (texts : Texts) → MakesVersions call.words call.stamp call.input (files_at s call) s d → Goes (Some s) d.new texts (with_read (call_read s call) texts)
+delta_made n call s d texts made are =
+    let read : CallRead = record { file = made.before; edits = made.edits; entry = made.entry; orders = made.orders } in
+    let same : are.file ≡ made.before = same_file s.bytes are.file made.before are.reads made.was in
+    let follows = follows_on call s d texts made (subst (λ (file : Parsed). (m : ℕ) → has (live_serials file.header.records) m ≡ true → text_in file m ≡ texts m) same are.versions) in
+    subst (λ (new : Option Files). HasVersions (s_of (Some s) new) (if is_some new then with_read (call_read s call) texts else texts)) (sym made.files)
+    (record {
+      file = made.after;
+      reads = made.reads;
+      versions = λ m live. follows m live ∙ ap (λ r. with_read r texts m) (sym (read_is s call d made));
+    })
+
+delta_goes : (who : Caller) (words : DeltaWords) (i n : List ℕ) (m : Folder) (texts : Texts) (d : StepEffect) → IsMoment who.stamp.moment → IsLogin who.stamp.login → HasMeantValues (c.Delta words n)
+    → locking_step (delta_outcome words who.stamp) n i [] (look (view_in m) n) ≡ Ok d → Goes (view_in m n) d.new texts (with_delta (view_in m n) (call_in who words i m n) texts)
+delta_goes who words i n m texts d moment login values is = by (view_in m n) refl
+  where
+    call : DeltaCall
+    call = call_in who words i m n
+
+    parts : (view_in m (sibling 122 n) ≡ None) × (delta_outcome words who.stamp n i [] (look (view_in m) n) ≡ Ok d)
+    parts = unlocked_step (delta_outcome words who.stamp) n i [] (look (view_in m) n) d is
+
+    files : (s z : Option Content) → Files
+    files s z = record { s = s; p = view_in m (sibling 112 n); z = z; g = view_in m (drop 2 n) }
+
+    by : (s : Option Content) → view_in m n ≡ s → Goes (view_in m n) d.new texts (with_delta (view_in m n) call texts)
+    by None none = absurd (needs_file words who n i (look (view_in m) n) d parts.1 none)
+    by (Some s) there =
+        subst (λ (o : Option Content). Goes o d.new texts (with_delta o call texts)) (sym there)
+        (delta_made n call s d texts (versions_made words who.stamp moment login values.0 values.1 n i (files_at s call) s d refl
+        (sym (ap (λ (o : Option Content). delta_outcome words who.stamp n i [] (files o (view_in m (sibling 122 n)))) there ∙ ap (λ (o : Option Content). delta_outcome words who.stamp n i [] (files (Some s) o)) parts.0) ∙ parts.1)))
+
+-- ---- admin
+
+only_first : (m : ℕ) → has (1 ∷ []) m ≡ true → m ≡ 1
+only_first m live = sym (eqb-true 1 m (without_false (1 == m) live))
+  where
+    without_false : (b : Bool) → (b || false) ≡ true → b ≡ true
+    without_false true is = refl
+    without_false false is = is
+
+admin_goes : (who : Caller) (words : AdminWords) (i n : List ℕ) (named : List (Option Content)) (f : Files) (texts : Texts) (d : StepEffect) → IsMoment who.stamp.moment → IsLogin who.stamp.login → HasMeantValues (c.Admin words (record { words = []; from_input = false }))
+    → admin_outcome words who.stamp n i named f ≡ Ok d → Goes f.s d.new texts (first_version (found_text words.text i named f.s))
+admin_goes who words i n named f texts d moment login values is are =
+    let made : IsReplayed words n i named f d [] = made_replayed words who.stamp n i named f d [] (admin_values words who.stamp values.0 moment) login values.1 is tt in
+    subst (λ (new : Option Files). HasVersions (s_of f.s new) (if is_some new then first_version (found_text words.text i named f.s) else texts)) (sym made.made)
+    (record {
+      file = made.file;
+      reads = made.reads;
+      versions = λ m live. ap (text_in made.file) (only_first m (subst (λ (live_ones : List ℕ). has live_ones m ≡ true) made.only live))
+          ∙ (made.first ∙ ap (λ r. first_version r m) (sym made.found));
+    })
+
+-- ---- commands
+
+admin_by : (built : Bool) (who : Caller) (words : AdminWords) (i n : List ℕ) (m : Folder) (texts : Texts) (d : StepEffect) → IsMoment who.stamp.moment → IsLogin who.stamp.login → HasMeantValues (c.Admin words (record { words = []; from_input = false }))
+    → (let x : Action = if built then locking (admin_change words who.stamp) else unbuilt false false in x.step n i (map (view_in m) x.named) (look (view_in m) n) ≡ Ok d)
+    → Goes (view_in m n) d.new texts (first_version (found_text words.text i (map (view_in m) (named_by words.text)) (view_in m n)))
+admin_by true who words i n m texts d moment login values is =
+    admin_goes who words i n (map (view_in m) (named_by words.text)) (look (view_in m) n) texts d moment login values
+    (unlocked_step (admin_outcome words who.stamp) n i (map (view_in m) (named_by words.text)) (look (view_in m) n) d is).1
+admin_by false who words i n m texts d moment login values is = absurd cc
+
+get_by : (edit : Bool) (who : Caller) (words : GetWords) (heading : Bool) (i n : List ℕ) (m : Folder) (texts : Texts) (d : StepEffect)
+    → (let x : Action = if edit then locking (edit_change words who.stamp who.place heading) else get_action words who.stamp who.place heading in x.step n i (map (view_in m) x.named) (look (view_in m) n) ≡ Ok d)
+    → Goes (view_in m n) d.new texts texts
+get_by true who words heading i n m texts d is =
+    left (view_in m n) _ d texts (locking_leaves (edit_outcome words who.stamp who.place heading) n i [] (look (view_in m) n) (edit_leaves words who.stamp who.place heading n i [] (look (view_in m) n))) is
+get_by false who words heading i n m texts d is = left (view_in m n) _ d texts (get_leaves words who.stamp who.place heading n (look (view_in m) n)) is
+
+refused : (m : Folder) (n : List ℕ) (texts : Texts) (d : StepEffect) → (let o : Outcome = Err refusals.Unbuilt in o) ≡ Ok d → Goes (view_in m n) d.new texts texts
+refused m n texts d is = left (view_in m n) (Err refusals.Unbuilt) d texts (refused_leaves (view_in m n) refusals.Unbuilt) is
+
+pub command_goes : (who : Caller) (command : Command) (i n : List ℕ) (m : Folder) (texts : Texts) (d : StepEffect) → IsMoment who.stamp.moment → IsLogin who.stamp.login → HasMeantValues command
+    → (action_of who command).step n i (map (view_in m) (action_of who command).named) (look (view_in m) n) ≡ Ok d → Goes (view_in m n) d.new texts (versions_after_command who command i m n texts)
+command_goes who (c.Admin words operands) i n m texts d moment login values is = admin_by (is_admin_built words) who words i n m texts d moment login values is
+command_goes who (c.Get words operands) i n m texts d moment login values is = get_by words.edit who words (has_heading operands) i n m texts d is
+command_goes who (c.Delta words name) i n m texts d moment login values is = delta_goes who words i n m texts d moment login values is
+command_goes who (c.Unget words operands) i n m texts d moment login values is =
+    left (view_in m n) _ d texts (locking_leaves _ n i [] (look (view_in m) n) (entries_leave (unget_decides words who.stamp (has_heading operands)) n i [] (look (view_in m) n))) is
+command_goes who (c.Sact operands) i n m texts d moment login values is = left (view_in m n) _ d texts (sact_leaves (has_heading operands) n (look (view_in m) n)) is
+command_goes who (c.Rmdel sid operands) i n m texts d moment login values is = refused m n texts d is
+command_goes who (c.Prs words operands) i n m texts d moment login values is = refused m n texts d is
+command_goes who (c.Val words) i n m texts d moment login values is = refused m n texts d is
+command_goes who (c.What first operands) i n m texts d moment login values is = refused m n texts d is
+command_goes who (c.Recover operands) i n m texts d moment login values is = left (view_in m n) _ d texts (recover_leaves n (look (view_in m) n)) is
+command_goes who c.Batch i n m texts d moment login values is = refused m n texts d is
+command_goes who (c.Soak number) i n m texts d moment login values is = refused m n texts d is

@@ -1,0 +1,118 @@
+-- Runs that follow one another, and what their scripts make of the versions of an s-file: POSIX, Shell and Utilities, admin and delta.
+use Rattle.std.specs.Prelude.{◌≡◌, ℕ, true, ◌&&◌, List, [], ◌∷◌, map, take, drop, Option, None, Some, IfSome, is_some, Result, Ok, Err, if◌then◌else◌}
+use Rattle.std.specs.Str.{bytes_eq}
+use Rattle.sccs_base.specs.Cut.{text_of}
+use Rattle.sccs_base.specs.Login.{IsLogin}
+use Rattle.sccs_base.specs.Name.{sibling}
+use Rattle.sccs_disk.specs.Files.{Content, Folder, view_in}
+use Rattle.sccs_sid.specs.Moment.{IsMoment}
+use Rattle.sccs_sid.specs.declared.refusals.Refusal.{Refusal}
+use Rattle.sccs_history.specs.Applied.{live_serials}
+use Rattle.sccs_history.specs.Numbers.{has}
+use Rattle.sccs_grammar.specs.File.{IsSFile, Parsed}
+use Rattle.sccs_files.specs.StepFiles.{moved_in}
+use Rattle.sccs_steps.specs.StepLists.{NamedStep, folder_after}
+use Rattle.sccs_steps.specs.Unlocked.{ArePlain}
+use Rattle.sccs_words.specs.Meaning.{meaning}
+use Rattle.sccs_words.specs.declared.commands.Command.{Command}
+use Rattle.sccs_words.specs.declared.commands.Command.TheVariants as c
+use Rattle.sccs_words.specs.declared.commands.DeltaWords.{DeltaWords}
+use Rattle.sccs_words.specs.declared.commands.Usage.{Usage}
+use Rattle.sccs_admin.specs.AdminStep.{found_text}
+use Rattle.sccs_admin.specs.Texts.{named_by}
+use Rattle.sccs_delta.specs.NewVersions.{text_in}
+use Rattle.sccs_delta.specs.Replays.{CallRead, DeltaCall, Texts, call_read, with_texts}
+use Rattle.sccs_top.specs.Runs.{Caller, action_meant, run_steps}
+
+-- ---- runs
+
+-- A run, with the folder in which it begins, and how many of its steps are made: all of them, or some where it is stopped.
+pub record PastRun : Type 0 where
+  pub folder : Folder
+  pub who : Caller
+  pub words : List (List ℕ)
+  pub input : List ℕ
+  pub made : ℕ
+
+abbrev pub steps_of : PastRun → Result Command Usage → List NamedStep
+steps_of r meant = take r.made (run_steps r.who meant r.folder r.input)
+
+abbrev pub steps_made : PastRun → List NamedStep
+steps_made r = steps_of r (meaning r.words)
+
+-- the folder that it leaves
+abbrev pub folder_after_run : PastRun → Folder
+folder_after_run r = folder_after r.folder (steps_made r)
+
+-- Its moment and login are such, and where it changes files no g-file has the name of an s-file, p-file or z-file.
+pub record IsPastRun (r : PastRun) : Type 0 where
+  pub moment : IsMoment r.who.stamp.moment
+  pub login : IsLogin r.who.stamp.login
+  pub plain : ArePlain (action_meant r.who (meaning r.words)) (steps_made r)
+
+-- each run begins with the s-file of a name that the one before has left; other files may have changed in between
+abbrev pub AreInTurn : List ℕ → Option Content → List PastRun → Type 0
+AreInTurn n s [] = Unit {0}
+AreInTurn n s (r ∷ runs) = (view_in r.folder n ≡ s) × AreInTurn n (view_in (folder_after_run r) n) runs
+
+-- the s-file that the last one leaves; without a run it is this
+abbrev pub s_file_after : List ℕ → Option Content → List PastRun → Option Content
+s_file_after n s [] = s
+s_file_after n s (r ∷ runs) = s_file_after n (view_in (folder_after_run r) n) runs
+
+-- ---- versions
+
+-- The s-file can be read, and these are the versions of its live serials.
+pub record IsOfVersions (s : Content) (texts : Texts) : Type 0 where
+  pub file : Parsed
+  pub reads : IsSFile s.bytes file.header file.items
+  pub versions : (m : ℕ) → has (live_serials file.header.records) m ≡ true → text_in file m ≡ texts m
+
+-- so it is where the s-file is there
+abbrev pub HasVersions : Option Content → Texts → Type 0
+HasVersions s texts = IfSome s (λ (c : Content). IsOfVersions c texts)
+
+-- ---- what a step makes of them
+
+-- the call of delta that is made on a name in a folder
+abbrev pub call_in : Caller → DeltaWords → List ℕ → Folder → List ℕ → DeltaCall
+call_in who words i m n = record { words = words; stamp = who.stamp; input = i; p = view_in m (sibling 112 n); g = view_in m (drop 2 n) }
+
+-- a delta, and null deltas before it, are added; the others stay
+abbrev pub with_read : Result CallRead Refusal → Texts → Texts
+with_read (Ok read) texts = with_texts texts read
+with_read (Err refusal) texts = texts
+
+abbrev pub with_delta : Option Content → DeltaCall → Texts → Texts
+with_delta None call texts = texts
+with_delta (Some s) call texts = with_read (call_read s call) texts
+
+-- the one version of a new file is the lines of the text
+abbrev pub first_version : Result (List ℕ) Refusal → Texts
+first_version (Ok text) = λ m. text_of text
+first_version (Err refusal) = λ m. []
+
+-- the versions after an accepted step on a name in a folder: delta adds some, admin makes the first one, and all else leaves them
+abbrev pub versions_after_command : Caller → Command → List ℕ → Folder → List ℕ → Texts → Texts
+versions_after_command who (c.Delta words name) i m n texts = with_delta (view_in m n) (call_in who words i m n) texts
+versions_after_command who (c.Admin words operands) i m n texts = first_version (found_text words.text i (map (view_in m) (named_by words.text)) (view_in m n))
+versions_after_command who command i m n texts = texts
+
+-- those of a name after a step: one that is refused, or on another name, leaves them
+abbrev pub versions_after_step : Caller → Command → List ℕ → List ℕ → Folder → NamedStep → Texts → Texts
+versions_after_step who command i n m t texts = if bytes_eq t.name n && is_some t.effect.new then versions_after_command who command i m n texts else texts
+
+-- the same after steps, each in the folder that those before left
+abbrev pub versions_after_steps : Caller → Command → List ℕ → List ℕ → Folder → List NamedStep → Texts → Texts
+versions_after_steps who command i n m [] texts = texts
+versions_after_steps who command i n m (t ∷ ts) texts = versions_after_steps who command i n (moved_in m t.name t.effect.new) ts (versions_after_step who command i n m t texts)
+
+-- the same after a run; a usage fault leaves them
+abbrev pub versions_after_run : List ℕ → PastRun → Result Command Usage → Texts → Texts
+versions_after_run n r (Ok command) texts = versions_after_steps r.who command r.input n r.folder (steps_of r (Ok command)) texts
+versions_after_run n r (Err usage) texts = texts
+
+-- The replay of runs on the versions at the start.
+abbrev pub replay : List ℕ → Texts → List PastRun → Texts
+replay n texts [] = texts
+replay n texts (r ∷ runs) = replay n (versions_after_run n r (meaning r.words) texts) runs
