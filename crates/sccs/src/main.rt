@@ -10,6 +10,7 @@ use sccs_sid::{Moment, Stamp};
 use sccs_top::{Answer, run};
 use std::alloc::Global;
 use std::env::{Env, FillError};
+use std::fs;
 use std::process::ExitCode;
 use std::time::Clock;
 
@@ -17,6 +18,9 @@ use std::time::Clock;
 const WORD_ROOM: usize = 131_072;
 
 const PLACE_ROOM: usize = 4096;
+
+// a folder that may always be opened
+const ROOT: &str = "/";
 
 // how the program ends
 #[derive(Clone, Copy, Debug, PartialEq, Eq)]
@@ -106,6 +110,13 @@ fn place_of(rt: &impl Env, alloc: Global) -> Result<Line, End> {
 }
 
 fn serve(rt: HostRuntime) -> Result<Answer, End> {
+    // A standard stream that was closed leaves its number to the next file that is opened, which would be read or
+    // written in its place. A folder takes the number until the end, of which neither can be done.
+    let _numbers = [
+        fs::open(&rt, ROOT),
+        fs::open(&rt, ROOT),
+        fs::open(&rt, ROOT),
+    ];
     let alloc = rt.alloc();
     let words = words_of(&rt, alloc)?;
     let moment = moment_of(&rt)?;

@@ -47,12 +47,24 @@ fn sync_path<R: Files>(rt: &R, path: &str) -> Result<(), Failed> {
     made(file.sync_all())
 }
 
-// the name of an entry of the folder; None where it is no name, or no regular file has it
-fn name_of<R: Files, S: Files>(rt: &R, entry: &DirEntry<S, Global>) -> Option<Name> {
-    let name = Name::read(entry.file_name().as_bytes())?;
-    match regular(rt, &name) {
-        Ok(Some(_)) => Some(name),
-        _ => None,
+// the name of an entry of the folder; None where it is no name, or no regular file has it. That what stands under the
+// name of an s-file can't be told is a failure, so that none is passed over in silence.
+fn name_of<R: Files, S: Files>(
+    rt: &R,
+    entry: &DirEntry<S, Global>,
+) -> Result<Option<Name>, Failed> {
+    let Some(name) = Name::read(entry.file_name().as_bytes()) else {
+        return Ok(None);
+    };
+    match fs::metadata(rt, name.text()) {
+        Ok(metadata) => Ok(if metadata.is_file() { Some(name) } else { None }),
+        Err(error) => {
+            if name.is_sfile() && error.kind() != ErrorKind::NotFound {
+                Err(Failed)
+            } else {
+                Ok(None)
+            }
+        }
     }
 }
 
@@ -179,7 +191,8 @@ where
         sync_path(&self.rt, HERE)
     }
 
-    /// The names of the regular files; what has no name that is one is passed over.
+    /// The names of the regular files; what has no name that is one is passed over. An s-file's name of which
+    /// can't be told what stands there fails.
     pub fn list(&mut self, alloc: Global) -> Result<Names, DiskRefusal>
     where
         R: Clone + Drop,
@@ -194,7 +207,7 @@ where
         for entry in entries {
             match entry {
                 Ok(entry) => {
-                    if let Some(name) = name_of(&self.rt, &entry) {
+                    if let Some(name) = name_of(&self.rt, &entry)? {
                         names.push(name)?;
                     }
                 }
