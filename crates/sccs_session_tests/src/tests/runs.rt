@@ -9,10 +9,6 @@ pub const NAMES: [&[u8]; 5] = [b"a", b"b", b"c", b"d", b"e"];
 
 const RECOVER_ALL: &[u8] = b"recover s.a s.b s.c s.d s.e";
 
-const S_FILES: [&[u8]; 5] = [b"s.a", b"s.b", b"s.c", b"s.d", b"s.e"];
-
-const P_FILES: [&[u8]; 5] = [b"p.a", b"p.b", b"p.c", b"p.d", b"p.e"];
-
 /// The s-file and the p-file of a name, where they are there.
 #[derive(Drop, PartialEq)]
 pub struct Pair {
@@ -61,19 +57,31 @@ fn beside(letter: u8, module: &[u8]) -> Result<sccs_base::Name, Fail> {
     name(&[letter, b'.', first])
 }
 
+// a file that is there, or isn't
+fn file_of<'a>(name: &'a [u8], bytes: &'a Option<Vec<u8>>) -> File<'a> {
+    File {
+        name,
+        bytes: bytes.as_deref(),
+    }
+}
+
 // a disk with these files, of which one call fails
 fn disk_of(alloc: Global, failing: &[u64], files: &Files) -> Result<MemoryDisk, Fail> {
-    let mut named = Vec::new(alloc);
-    for (at, pair) in files.iter().enumerate() {
-        named.push(File {
-            name: S_FILES.get(at).ok_or("a name")?,
-            bytes: pair.s_file.as_deref(),
-        })?;
-        named.push(File {
-            name: P_FILES.get(at).ok_or("a name")?,
-            bytes: pair.p_file.as_deref(),
-        })?;
-    }
+    let [a, b, c, d, e] = files.as_slice() else {
+        return Err(Fail::from("as many pairs as names"));
+    };
+    let named = [
+        file_of(b"s.a", &a.s_file),
+        file_of(b"p.a", &a.p_file),
+        file_of(b"s.b", &b.s_file),
+        file_of(b"p.b", &b.p_file),
+        file_of(b"s.c", &c.s_file),
+        file_of(b"p.c", &c.p_file),
+        file_of(b"s.d", &d.s_file),
+        file_of(b"p.d", &d.p_file),
+        file_of(b"s.e", &e.s_file),
+        file_of(b"p.e", &e.p_file),
+    ];
     disk_with(alloc, failing, &named)
 }
 

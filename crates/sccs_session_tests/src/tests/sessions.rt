@@ -192,18 +192,38 @@ fn empty_session(alloc: Global, seed: u64) -> Result<Session, Fail> {
     })
 }
 
+// whether each command of a session leaves what it may
+fn goes_through(alloc: Global, session: &mut Session) -> Result<bool, Fail> {
+    for number in 0..COMMANDS {
+        if !session.goes_on(alloc, number)? {
+            return Ok(false);
+        }
+    }
+    Ok(true)
+}
+
+// how many versions were made
+fn versions(known: &Histories) -> usize {
+    let mut count: usize = 0;
+    for history in known {
+        count = count.saturating_add(history.len());
+    }
+    count
+}
+
+// whether a session goes through, makes enough versions, and each is its replay
+fn is_right(alloc: Global, session: &mut Session) -> Result<bool, Fail> {
+    let through = goes_through(alloc, session)?;
+    let replayed = session.is_replayed(alloc)?;
+    let enough = versions(&session.known) >= 60;
+    Ok(through & replayed & enough)
+}
+
 #[test]
 fn versions_are_their_replay(rt: HostRuntime) -> Result<(), Fail> {
     let alloc = rt.alloc();
     let mut session = empty_session(alloc, 1)?;
-    for number in 0..COMMANDS {
-        assert!(rt; session.goes_on(alloc, number)?, "command {number}");
-    }
-    let mut versions: usize = 0;
-    for history in &session.known {
-        versions = versions.saturating_add(history.len());
-    }
-    assert!(rt; versions >= 60, "{versions} versions");
-    assert!(rt; session.is_replayed(alloc)?);
+    let right = is_right(alloc, &mut session)?;
+    assert!(rt; right);
     Ok(())
 }
