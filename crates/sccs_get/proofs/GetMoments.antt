@@ -28,6 +28,7 @@ use Rattle.sccs_steps.specs.Actions.{Action}
 use Rattle.sccs_steps.specs.Calls.{Meets, scene, world}
 use Rattle.sccs_steps.specs.StepEffects.{Outcome, effect_of}
 use Rattle.sccs_steps.specs.StepStops.{Ends, IsSafe, IsSafeFor, MeetsAt, StepMoments, place_of}
+use Rattle.sccs_steps.proofs.SafeImages.{recovers_before}
 use Rattle.sccs_store.specs.Commits.{Becomes}
 use Rattle.sccs_transactions.specs.declared.prepared.Prepared.{Prepared}
 use Rattle.sccs_words.specs.declared.commands.GetWords.{GetWords}
@@ -135,7 +136,7 @@ module _ (words : GetWords) (stamp : Stamp) (place : List ℕ) (heading : Bool) 
       by : (r : Result (Unit {0}) StepFault) → FinishesGet words n p r (world (seen tb) out2 err) (world (seen td) out3 err2) → EndsSo r v m past td out err out3 err2 o
       by (Ok done) finishes = (finished words n sfile (Ok done) p o v (seen tb) (seen td) out out2 out3 err err2 ready finishes, after)
       by (Err WriteFault) finishes = (finished words n sfile (Err WriteFault) p o v (seen tb) (seen td) out out2 out3 err err2 ready finishes, after)
-      by (Err DiskFault) finishes = (finished words n sfile (Err DiskFault) p o v (seen tb) (seen td) out out2 out3 err err2 ready finishes, before_within v (moved v n (effect_of n o).new) m past td kept)
+      by (Err DiskFault) finishes = (finished words n sfile (Err DiskFault) p o v (seen tb) (seen td) out out2 out3 err err2 ready finishes, (before_within v (moved v n (effect_of n o).new) m past td kept, inr (recovers_before v m past td kept)))
       by (Err (Refused refusal)) finishes = absurd finishes
       by (Err Memory) finishes = absurd finishes
       by (Err ReadFault) finishes = absurd finishes
@@ -172,14 +173,14 @@ module _ (words : GetWords) (stamp : Stamp) (place : List ℕ) (heading : Bool) 
   given_so WriteFault o v m past o4 td out out2 err ready moves same (inl gone) safe kept = (gave_up words n sfile WriteFault o v o4 (seen td) out out2 err ready moves same gone.1, kept)
   given_so WriteFault o v m past o4 td out out2 err ready moves same (inr broken) safe kept = absurd (let e = broken.0 in cc)
   given_so DiskFault o v m past o4 td out out2 err ready moves same gives safe kept =
-      (gives_up words n sfile DiskFault (Err DiskFault) o v o4 (seen td) out out2 err ready moves same gives, before_within v (moved v n (effect_of n o).new) m past td kept)
+      (gives_up words n sfile DiskFault (Err DiskFault) o v o4 (seen td) out out2 err ready moves same gives, (before_within v (moved v n (effect_of n o).new) m past td kept, inr (recovers_before v m past td kept)))
   given_so ReadFault o v m past o4 td out out2 err ready moves same gives safe kept = absurd ready
 
   broken_so : (fault : StepFault) (o : Outcome) (v : View) (m : Model) (past : List Model) (o4 : Option View) (td : Told) (out out2 err : Option (List ℕ)) → Readies words n o (Err fault) (world (Some v) out err) (world o4 out2 err) → Moves (bytes_eq (sibling 121 n)) (λ u. u) (Some v) o4
       → Moves (bytes_eq (sibling 121 n)) (λ u. u) o4 (seen td) → EndsBefore v m past td → EndsSo (Err DiskFault) v m past td out err out2 err o
   broken_so fault o v m past o4 td out out2 err ready moves more kept = (
     record { view = (0, left_y words n sfile v o4 (seen td) moves more); out = written words n sfile fault o (world (Some v) out err) (world o4 out2 err) ready; err = refl },
-    before_within v (moved v n (effect_of n o).new) m past td kept,
+    (before_within v (moved v n (effect_of n o).new) m past td kept, inr (recovers_before v m past td kept)),
   )
 
   gives_so : (fault : StepFault) (r : Result (Unit {0}) StepFault) (o : Outcome) (v : View) (m : Model) (past : List Model) (o4 : Option View) (td : Told) (out out2 err : Option (List ℕ)) → Readies words n o (Err fault) (world (Some v) out err) (world o4 out2 err) → Moves (bytes_eq (sibling 121 n)) (λ u. u) (Some v) o4 → (writes_g words ≡ false → o4 ≡ Some v)

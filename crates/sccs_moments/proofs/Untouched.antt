@@ -106,7 +106,7 @@ before_after v m past t ends = (
 )
 
 -- the same, as the end of a step within which something failed
-pub before_within : (v w : View) (m : Model) (past : List Model) (b : Told) → EndsBefore v m past b → EndsWithin v w m past b
+abbrev pub before_within : (v w : View) (m : Model) (past : List Model) (b : Told) → EndsBefore v m past b → EndsWithin v w m past b
 before_within v w m past b ends = (went_at v w m past b ends.0, calm_firm (newest ends.0.added m) ends.1)
 
 -- ---- working files alone

@@ -9,7 +9,7 @@ use Rattle.sccs_disk.specs.Told.{Told, Tells, seen}
 use Rattle.sccs_pfile.specs.Recovered.{recovered_pfile}
 use Rattle.sccs_pfile.proofs.Recovering.{twice_once}
 use Rattle.sccs_files.specs.StepFiles.{is_working, look, moved}
-use Rattle.sccs_images.specs.Touches.{TouchesOnly, earlier, newest}
+use Rattle.sccs_images.specs.Touches.{Each, TouchesOnly, earlier, newest}
 use Rattle.sccs_moments.specs.Calm.{IsCalm}
 use Rattle.sccs_moments.specs.Moments.{EndsAfter, EndsWithin, IsAt, IsFrom, KeepsCalm, LeavesCalm, LeavesFirm, RecoversOn, Went}
 use Rattle.sccs_moments.specs.Recovery.{RecoversAs, recover}
@@ -24,6 +24,7 @@ use Rattle.sccs_steps.specs.Calls.{Meets, scene, world}
 use Rattle.sccs_steps.specs.Actions.{IsHeard}
 use Rattle.sccs_steps.specs.Recovering.{RecoversStep}
 use Rattle.sccs_steps.specs.StepStops.{Ends, IsSafe, IsSafeFor, MeetsAt, StepMoments, place_of}
+use Rattle.sccs_steps.proofs.SafeImages.{numbered_each}
 use Rattle.sccs_steps.proofs.Safety.{placed_safe}
 use Rattle.sccs_store.specs.Commits.{Becomes}
 use Rattle.sccs_recovery.specs.Checks.{Passes, checked}
@@ -75,7 +76,7 @@ made_after n a b m past sfile story leaves is calm =
       leaves m past is (calm_firm m calm) (newest went.added m) (earlier went.added m past) went.is,
     )
 
-stopped_within : (w : View) (a b : Told) (m : Model) (past : List Model) → RecoversOn a b → LeavesFirm a b → a ≡ Tells m past → IsCalm m → EndsWithin (view_of m) w m past b
+abbrev stopped_within : (w : View) (a b : Told) (m : Model) (past : List Model) → RecoversOn a b → LeavesFirm a b → a ≡ Tells m past → IsCalm m → EndsWithin (view_of m) w m past b
 stopped_within w a b m past story leaves is calm =
     let went : Went (λ j u. IsFrom m u) m past 0 b = story m past is (calm_firm m calm) in (
       record {
@@ -87,6 +88,11 @@ stopped_within w a b m past story leaves is calm =
       },
       leaves m past is (calm_firm m calm) (newest went.added m) (earlier went.added m past) went.is,
     )
+
+stopped_same : (w : View) (a b : Told) (m : Model) (past : List Model) (story : RecoversOn a b) (leaves : LeavesFirm a b) (is : a ≡ Tells m past) (calm : IsCalm m) → Each (Allows (RecoversAs (view_of m))) (stopped_within w a b m past story leaves is calm).0.added m
+stopped_same w a b m past story leaves is calm =
+    let went : Went (λ j u. IsFrom m u) m past 0 b = story m past is (calm_firm m calm) in
+    numbered_each (λ i u. IsFrom m u) (RecoversAs (view_of m)) 0 went.added m 0 (λ i u from. as_before m u calm from) went.numbers
 
 -- ---- the call
 
@@ -124,7 +130,8 @@ fault_at (Refused refusal) n o a b out err m past faults story leaves touches is
 fault_at Memory n o a b out err m past faults story leaves touches is calm safe met = ends_working n m past b calm (touches refl m past is)
 fault_at ReadFault n o a b out err m past faults story leaves touches is calm safe met = absurd (faults.read refl)
 fault_at WriteFault n o a b out err m past faults story leaves touches is calm safe met = absurd (faults.write refl)
-fault_at DiskFault n o a b out err m past faults story leaves touches is calm safe met = stopped_within (moved (view_of m) n (effect_of n o).new) a b m past story leaves is calm
+fault_at DiskFault n o a b out err m past faults story leaves touches is calm safe met =
+    (stopped_within (moved (view_of m) n (effect_of n o).new) a b m past story leaves is calm, inr (stopped_same (moved (view_of m) n (effect_of n o).new) a b m past story leaves is calm))
 
 pub fault_moments : (n : List ℕ) (fault : StepFault) (a b : Told) (left out err : Option (List ℕ)) → IsSfile n → Faults n fault a b → RecoversOn a b → LeavesFirm a b → (IsErrOf {T = Recovered} (Err fault) Memory → TouchesOnly (is_working n) a b)
     → StepMoments recover_action (Err fault) n left (scene a out err) (scene b out err)

@@ -36,6 +36,7 @@ use Rattle.sccs_steps.proofs.Fronts.{view_past}
 use Rattle.sccs_steps.proofs.MomentLists.{alike_recovers, moments_never, moments_then, run_moments}
 use Rattle.sccs_steps.proofs.NameLaws.{refusal_runs, speak_refusal, speak_whole}
 use Rattle.sccs_steps.proofs.NameStops.{alike_told, refusal_stops}
+use Rattle.sccs_steps.proofs.SafeImages.{images_now, images_then}
 use Rattle.sccs_steps.proofs.Safety.{stay_same}
 
 -- ---- steps that weren't begun
@@ -65,7 +66,7 @@ pub never_stops : (x : Action) (steps : Folder → List ℕ → List NamedStep) 
 never_stops x steps given fault old new out err same = λ w folder i m past spares clear shows heard is calm safe.
     subst (λ (t : Told). RunMoments x w (Err fault) folder (steps folder i) (scene old out err) (scene t out err) m past) (sym same)
     (run_moments x w (Err fault) folder (steps folder i) (scene old out err) (scene old out err) m past
-    (moments_never w fault folder (steps folder i) (scene old out err) m past spares is calm (alike_told w folder old m past is shows) shows) (λ other. stay_same x (view_in folder)))
+    (moments_never w fault folder (steps folder i) (scene old out err) m past spares is calm (alike_told w folder old m past is shows) shows) (λ other. stay_same x (view_in folder)) (images_now m calm))
 
 -- ---- names that were found, and their steps
 
@@ -100,6 +101,7 @@ found_moments x w r folder ts a b m past spares is calm shows next =
     run_moments x w r folder (names_found ∷ ts) a b m past
     (moments_then w 0 r folder (names_found ∷ []) ts a a b m past (found_ran w folder (shown a) shows) (moments_found w folder a m past spares is calm (alike_told w folder a.told m past is shows) shows) next.list)
     (λ other. subst (λ (v : View). StaySafe x (view_in folder) v) (sym (view_past folder (names_found ∷ []) ts next.list.number)) (next.safe other))
+    (images_then next.list.went.added [] m (images_now m calm) next.images)
 
 -- what is said of the names is said of the operand
 pub names_speak : (x : Action) (kind : OperandKind) (operand : List ℕ) (names : List (List ℕ)) (r : Result ℕ Fault) (err err2 : Option (List ℕ)) → MayStandFor x kind operand names → SpeakNames x names r err err2 → SpeaksKind x kind operand r err err2

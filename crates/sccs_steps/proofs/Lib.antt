@@ -15,6 +15,7 @@ pub mod OneStep
 pub mod ReadingMoments
 pub mod ReadingSteps
 pub mod RecoveringSteps
+pub mod SafeImages
 pub mod Safety
 pub mod Turns
 pub mod TurnStops

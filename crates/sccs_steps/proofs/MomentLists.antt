@@ -8,7 +8,7 @@ use Rattle.sccs_disk.specs.Files.{Folder, Model, View, view_in, view_of}
 use Rattle.sccs_disk.specs.Images.{Allows}
 use Rattle.sccs_disk.specs.Told.{Told, Tells, seen}
 use Rattle.sccs_files.specs.StepFiles.{Alike, Shows}
-use Rattle.sccs_images.specs.Touches.{earlier, newest}
+use Rattle.sccs_images.specs.Touches.{Each, earlier, newest}
 use Rattle.sccs_images.proofs.Touched.{earlier_more, newest_more}
 use Rattle.sccs_moments.specs.Calm.{HasFirm, IsCalm}
 use Rattle.sccs_moments.specs.Moments.{Numbered, Went}
@@ -19,7 +19,7 @@ use Rattle.sccs_moments.proofs.Recovering.{recovers_then, same_recovers}
 use Rattle.sccs_steps.specs.Actions.{Action}
 use Rattle.sccs_steps.specs.Calls.{Scene, shown}
 use Rattle.sccs_steps.specs.StepLists.{NamedStep, Ran, err_of, folder_after, next_text, out_of}
-use Rattle.sccs_steps.specs.ListStops.{IsAcknowledged, IsAtNumber, ListMoments, RunMoments, Spares, StaySafe, err_before, out_before, view_at}
+use Rattle.sccs_steps.specs.ListStops.{IsAcknowledged, IsAtNumber, KeepsSafe, ListMoments, RunMoments, Spares, StaySafe, err_before, out_before, view_at}
 use Rattle.sccs_steps.specs.declared.faults.Fault.{Fault}
 use Rattle.sccs_steps.specs.declared.faults.Fault.TheVariants.{DiskFault}
 use Rattle.sccs_steps.proofs.Fronts.{err_front, err_past, err_rises, more_within, out_front, out_past, out_rises, view_front, view_past}
@@ -151,5 +151,5 @@ acknowledged w r folder ts a b m past l k below known = ⊎_elim (λ low. absurd
     uncounted low (inr (inr ok)) = omega (arith, low, below, l.all ok)
 
 pub run_moments : (x : Action) (w : List ℕ → Bool) (r : Result ℕ Fault) (folder : Folder) (ts : List NamedStep) (a b : Scene) (m : Model) (past : List Model) → (list : ListMoments w r folder ts a b m past)
-    → (r ≢ Err DiskFault → StaySafe x (view_in folder) (view_at folder ts list.number)) → RunMoments x w r folder ts a b m past
-run_moments x w r folder ts a b m past list safe = record { list = list; acknowledged = acknowledged w r folder ts a b m past list; safe = safe }
+    → (r ≢ Err DiskFault → StaySafe x (view_in folder) (view_at folder ts list.number)) → Each (Allows (KeepsSafe (view_of m))) list.went.added m → RunMoments x w r folder ts a b m past
+run_moments x w r folder ts a b m past list safe images = record { list = list; acknowledged = acknowledged w r folder ts a b m past list; safe = safe; images = images }

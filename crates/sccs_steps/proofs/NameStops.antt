@@ -26,7 +26,8 @@ use Rattle.sccs_steps.proofs.Clear.{clear_look, kept_effect, named_alike}
 use Rattle.sccs_steps.proofs.MomentLists.{run_moments}
 use Rattle.sccs_steps.proofs.OneMoment.{alikes_of, one_after, turned}
 use Rattle.sccs_steps.proofs.NameLaws.{fitting, kept, misfit}
-use Rattle.sccs_steps.proofs.Safety.{stay_folder, stay_same, told_safe}
+use Rattle.sccs_steps.proofs.SafeImages.{images_after}
+use Rattle.sccs_steps.proofs.Safety.{keeps_moved, stay_folder, stay_same, told_safe}
 
 -- the view that is told is the folder's, but for working files
 pub alike_told : (w : List ℕ → Bool) (folder : Folder) (t : Told) (m : Model) (past : List Model) → t ≡ Tells m past → Shows w (seen t) (view_in folder) → Alike w (view_of m) (view_in folder)
@@ -39,11 +40,11 @@ pub refusal_stops : (x : Action) (w : List ℕ → Bool) (r : Result ℕ Fault) 
 refusal_stops x w (Ok status) folder n refusal a e m past spares is calm shows says =
     run_moments x w (Ok status) folder (named_step n (Err refusal) ∷ []) a (scene a.told a.out e) m past
     (one_after w (Ok status) folder (named_step n (Err refusal)) (view_of m) (view_of m) a (scene a.told a.out e) m past (alikes_of w folder n (Err refusal) (view_of m) spares (alike_told w folder a.told m past is shows))
-    (before_after (view_of m) m past a.told (same_before m past a.told calm is)) (some_none a.out []) (some_of_whole a.err e (refusal_line n refusal) says.1) shows) (λ other. stay_same x (view_in folder))
+    (before_after (view_of m) m past a.told (same_before m past a.told calm is)) (some_none a.out []) (some_of_whole a.err e (refusal_line n refusal) says.1) shows) (λ other. stay_same x (view_in folder)) (images_after (view_of m) (view_of m) m past a.told (before_after (view_of m) m past a.told (same_before m past a.told calm is)) (λ k sfile safe. safe))
 refusal_stops x w (Err WriteFault) folder n refusal a e m past spares is calm shows says =
     run_moments x w (Err WriteFault) folder (named_step n (Err refusal) ∷ []) a (scene a.told a.out e) m past
     (one_after w (Err WriteFault) folder (named_step n (Err refusal)) (view_of m) (view_of m) a (scene a.told a.out e) m past (alikes_of w folder n (Err refusal) (view_of m) spares (alike_told w folder a.told m past is shows))
-    (before_after (view_of m) m past a.told (same_before m past a.told calm is)) (some_none a.out []) says shows) (λ other. stay_same x (view_in folder))
+    (before_after (view_of m) m past a.told (same_before m past a.told calm is)) (some_none a.out []) says shows) (λ other. stay_same x (view_in folder)) (images_after (view_of m) (view_of m) m past a.told (before_after (view_of m) m past a.told (same_before m past a.told calm is)) (λ k sfile safe. safe))
 refusal_stops x w (Err Memory) folder n refusal a e m past spares is calm shows says = absurd says
 refusal_stops x w (Err ReadFault) folder n refusal a e m past spares is calm shows says = absurd says
 refusal_stops x w (Err DiskFault) folder n refusal a e m past spares is calm shows says = absurd says
@@ -81,7 +82,8 @@ called_stops x n made r left a b e keeps fits same moments says = λ w folder i 
       same = λ only. ap seen (same only);
       kept = λ only. kept_effect x.reads n o (kept x folder i n keeps fits) only;
       shows = shows;
-    }) (λ own. stay_folder x folder n (effect_of n o).new keeps fits (safe.0 fits) (own_folder x w folder n o (view_of m) keeps fits spares alike own)) met says
+    }) (λ own. stay_folder x folder n (effect_of n o).new keeps fits (safe.0 fits) (own_folder x w folder n o (view_of m) keeps fits spares alike own))
+    (λ own. keeps_moved x n (view_of m) (effect_of n o).new keeps fits (λ only. kept_effect x.reads n o (kept x folder i n keeps fits) only) (told_safe x w n (view_in folder) (view_of m) keeps fits spares (λ k h. sym (alike k h)) (safe.0 fits)) own) met says
 
 pub stepped_stops : (x : Action) (operand n : List ℕ) (made : Result (Unit {0}) StepFault) (r : Result ℕ Fault) (left : Option (List ℕ)) (a b : Scene) (e : Option (List ℕ)) → KeepsFiles x → x.fits operand ≡ true → n ≡ operand → (x.reads ≡ true → b.told ≡ a.told)
     → StepMoments x made n left a b → Concludes made operand r b.err e → StopsBy x (λ folder i. step_at x folder i operand ∷ []) (IsHeard x.takes left) r a (scene b.told b.out e)

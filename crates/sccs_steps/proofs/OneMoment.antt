@@ -1,5 +1,5 @@
 -- The moments of the call of one step, as a list of one step.
-use Rattle.std.proofs.Common.{◌≡◌, ◌⊎◌, ℕ, zero, suc, ◌+◌, ◌≤◌, Bool, true, List, [], ◌∷◌, ◌++◌, length, Option, None, Result, Ok, Err, inl, inr, refl, sym, ap, subst, ◌∙◌, arith}
+use Rattle.std.proofs.Common.{◌≡◌, ◌⊎◌, ℕ, zero, suc, ◌+◌, ◌≤◌, Bool, true, List, [], ◌∷◌, ◌++◌, length, Option, None, Result, Ok, Err, inl, inr, refl, sym, ap, subst, ◌∙◌, ⊎_elim, arith}
 use Rattle.std.proofs.lemmas.List.{append-nil}
 use Rattle.sccs_base.specs.Stream.{GivesOk, GivesSome}
 use Rattle.sccs_base.proofs.Gifts.{some_of_whole}
@@ -26,12 +26,13 @@ use Rattle.sccs_steps.specs.Messages.{Concludes, SaysRefusal}
 use Rattle.sccs_steps.specs.Actions.{Action, IsClear}
 use Rattle.sccs_steps.specs.StepLists.{NamedStep, named_step}
 use Rattle.sccs_steps.specs.StepStops.{IsSafeFor, MeetsAt}
-use Rattle.sccs_steps.specs.ListStops.{IsAtNumber, ListMoments, RunMoments, Spares, StaySafe, view_at}
+use Rattle.sccs_steps.specs.ListStops.{IsAtNumber, KeepsSafe, ListMoments, RunMoments, Spares, StaySafe, view_at}
 use Rattle.sccs_steps.specs.declared.faults.Fault.{Fault}
 use Rattle.sccs_steps.specs.declared.faults.Fault.TheVariants.{Memory, ReadFault, WriteFault, DiskFault}
 use Rattle.sccs_steps.proofs.Clear.{clear_moved, clear_same}
 use Rattle.sccs_steps.proofs.Gifts.{some_same}
 use Rattle.sccs_steps.proofs.MomentLists.{alike_recovers, run_moments}
+use Rattle.sccs_steps.proofs.SafeImages.{images_after, images_before, images_within}
 use Rattle.sccs_steps.proofs.Safety.{stay_same}
 
 -- ---- the numbers of one step
@@ -123,26 +124,26 @@ pub record IsCalled (reads : Bool) (work : List ℕ → Bool) (folder : Folder) 
   pub shows : Shows work (seen a.told) (view_in folder)
 
 refused_ends : (x : Action) (work : List ℕ → Bool) (r : Result ℕ Fault) (folder : Folder) (n : List ℕ) (o : Outcome) (refusal : Refusal) (m : Model) (past : List Model) (a b : Scene) (e : Option (List ℕ)) → IsCalled x.reads work folder n o m a b → o ≡ Err refusal → b.err ≡ a.err → GivesSome a.out b.out []
-    → Shows work (seen b.told) (view_in folder) → EndsAfter (view_of m) (moved (view_of m) n (effect_of n o).new) m past b.told → StaySafe x (view_in folder) (view_in (moved_in folder n (effect_of n o).new)) → SaysRefusal n refusal r b.err e → RunMoments x work r folder (named_step n o ∷ []) a (scene b.told b.out e) m past
-refused_ends x work (Ok status) folder n o refusal m past a b e called is quiet out shows ends again says =
-    subst (λ (q : Outcome). Alikes folder (named_step n q) (view_of m) (moved (view_of m) n (effect_of n q).new) → EndsAfter (view_of m) (moved (view_of m) n (effect_of n q).new) m past b.told → StaySafe x (view_in folder) (view_in (moved_in folder n (effect_of n q).new)) → RunMoments x work (Ok status) folder (named_step n q ∷ []) a (scene b.told b.out e) m past) (sym is)
-    (λ alikes after safe. run_moments x work (Ok status) folder (named_step n (Err refusal) ∷ []) a (scene b.told b.out e) m past
-    (one_after work (Ok status) folder (named_step n (Err refusal)) (view_of m) (view_of m) a (scene b.told b.out e) m past alikes after out (some_of_whole a.err e (refusal_line n refusal) (subst (λ t. GivesOk t e (refusal_line n refusal)) quiet says.1)) shows) (λ other. safe)) called.alikes ends again
-refused_ends x work (Err WriteFault) folder n o refusal m past a b e called is quiet out shows ends again says =
-    subst (λ (q : Outcome). Alikes folder (named_step n q) (view_of m) (moved (view_of m) n (effect_of n q).new) → EndsAfter (view_of m) (moved (view_of m) n (effect_of n q).new) m past b.told → StaySafe x (view_in folder) (view_in (moved_in folder n (effect_of n q).new)) → RunMoments x work (Err WriteFault) folder (named_step n q ∷ []) a (scene b.told b.out e) m past) (sym is)
-    (λ alikes after safe. run_moments x work (Err WriteFault) folder (named_step n (Err refusal) ∷ []) a (scene b.told b.out e) m past
-    (one_after work (Err WriteFault) folder (named_step n (Err refusal)) (view_of m) (view_of m) a (scene b.told b.out e) m past alikes after out (subst (λ t. GivesSome t e (refusal_line n refusal)) quiet says) shows) (λ other. safe)) called.alikes ends again
-refused_ends x work (Err Memory) folder n o refusal m past a b e called is quiet out shows ends again says = absurd says
-refused_ends x work (Err ReadFault) folder n o refusal m past a b e called is quiet out shows ends again says = absurd says
-refused_ends x work (Err DiskFault) folder n o refusal m past a b e called is quiet out shows ends again says = absurd says
+    → Shows work (seen b.told) (view_in folder) → EndsAfter (view_of m) (moved (view_of m) n (effect_of n o).new) m past b.told → StaySafe x (view_in folder) (view_in (moved_in folder n (effect_of n o).new)) → KeepsSafe (view_of m) (moved (view_of m) n (effect_of n o).new) → SaysRefusal n refusal r b.err e → RunMoments x work r folder (named_step n o ∷ []) a (scene b.told b.out e) m past
+refused_ends x work (Ok status) folder n o refusal m past a b e called is quiet out shows ends again keeps says =
+    subst (λ (q : Outcome). Alikes folder (named_step n q) (view_of m) (moved (view_of m) n (effect_of n q).new) → EndsAfter (view_of m) (moved (view_of m) n (effect_of n q).new) m past b.told → StaySafe x (view_in folder) (view_in (moved_in folder n (effect_of n q).new)) → KeepsSafe (view_of m) (moved (view_of m) n (effect_of n q).new) → RunMoments x work (Ok status) folder (named_step n q ∷ []) a (scene b.told b.out e) m past) (sym is)
+    (λ alikes after safe kept. run_moments x work (Ok status) folder (named_step n (Err refusal) ∷ []) a (scene b.told b.out e) m past
+    (one_after work (Ok status) folder (named_step n (Err refusal)) (view_of m) (view_of m) a (scene b.told b.out e) m past alikes after out (some_of_whole a.err e (refusal_line n refusal) (subst (λ t. GivesOk t e (refusal_line n refusal)) quiet says.1)) shows) (λ other. safe) (images_after (view_of m) (view_of m) m past b.told after kept)) called.alikes ends again keeps
+refused_ends x work (Err WriteFault) folder n o refusal m past a b e called is quiet out shows ends again keeps says =
+    subst (λ (q : Outcome). Alikes folder (named_step n q) (view_of m) (moved (view_of m) n (effect_of n q).new) → EndsAfter (view_of m) (moved (view_of m) n (effect_of n q).new) m past b.told → StaySafe x (view_in folder) (view_in (moved_in folder n (effect_of n q).new)) → KeepsSafe (view_of m) (moved (view_of m) n (effect_of n q).new) → RunMoments x work (Err WriteFault) folder (named_step n q ∷ []) a (scene b.told b.out e) m past) (sym is)
+    (λ alikes after safe kept. run_moments x work (Err WriteFault) folder (named_step n (Err refusal) ∷ []) a (scene b.told b.out e) m past
+    (one_after work (Err WriteFault) folder (named_step n (Err refusal)) (view_of m) (view_of m) a (scene b.told b.out e) m past alikes after out (subst (λ t. GivesSome t e (refusal_line n refusal)) quiet says) shows) (λ other. safe) (images_after (view_of m) (view_of m) m past b.told after kept)) called.alikes ends again keeps
+refused_ends x work (Err Memory) folder n o refusal m past a b e called is quiet out shows ends again keeps says = absurd says
+refused_ends x work (Err ReadFault) folder n o refusal m past a b e called is quiet out shows ends again keeps says = absurd says
+refused_ends x work (Err DiskFault) folder n o refusal m past a b e called is quiet out shows ends again keeps says = absurd says
 
 -- the step was made, and its report given or cut
 made_ends : (x : Action) (work : List ℕ → Bool) (r : Result ℕ Fault) (folder : Folder) (n : List ℕ) (o : Outcome) (d : StepEffect) (m : Model) (past : List Model) (a b : Scene) (e : Option (List ℕ)) → IsCalled x.reads work folder n o m a b → o ≡ Ok d → GivesSome a.out b.out (d.text ++ d.out) → GivesSome a.err e d.err
-    → Shows work (seen b.told) (view_in (moved_in folder n d.new)) → EndsAfter (view_of m) (moved (view_of m) n (effect_of n o).new) m past b.told → StaySafe x (view_in folder) (view_in (moved_in folder n (effect_of n o).new)) → RunMoments x work r folder (named_step n o ∷ []) a (scene b.told b.out e) m past
-made_ends x work r folder n o d m past a b e called is out err shows ends again =
-    subst (λ (q : Outcome). Alikes folder (named_step n q) (view_of m) (moved (view_of m) n (effect_of n q).new) → EndsAfter (view_of m) (moved (view_of m) n (effect_of n q).new) m past b.told → StaySafe x (view_in folder) (view_in (moved_in folder n (effect_of n q).new)) → RunMoments x work r folder (named_step n q ∷ []) a (scene b.told b.out e) m past) (sym is)
-    (λ alikes after safe. run_moments x work r folder (named_step n (Ok d) ∷ []) a (scene b.told b.out e) m past
-    (one_after work r folder (named_step n (Ok d)) (view_of m) (moved (view_of m) n d.new) a (scene b.told b.out e) m past alikes after out err shows) (λ other. safe)) called.alikes ends again
+    → Shows work (seen b.told) (view_in (moved_in folder n d.new)) → EndsAfter (view_of m) (moved (view_of m) n (effect_of n o).new) m past b.told → StaySafe x (view_in folder) (view_in (moved_in folder n (effect_of n o).new)) → KeepsSafe (view_of m) (moved (view_of m) n (effect_of n o).new) → RunMoments x work r folder (named_step n o ∷ []) a (scene b.told b.out e) m past
+made_ends x work r folder n o d m past a b e called is out err shows ends again keeps =
+    subst (λ (q : Outcome). Alikes folder (named_step n q) (view_of m) (moved (view_of m) n (effect_of n q).new) → EndsAfter (view_of m) (moved (view_of m) n (effect_of n q).new) m past b.told → StaySafe x (view_in folder) (view_in (moved_in folder n (effect_of n q).new)) → KeepsSafe (view_of m) (moved (view_of m) n (effect_of n q).new) → RunMoments x work r folder (named_step n q ∷ []) a (scene b.told b.out e) m past) (sym is)
+    (λ alikes after safe kept. run_moments x work r folder (named_step n (Ok d) ∷ []) a (scene b.told b.out e) m past
+    (one_after work r folder (named_step n (Ok d)) (view_of m) (moved (view_of m) n d.new) a (scene b.told b.out e) m past alikes after out err shows) (λ other. safe) (images_after (view_of m) (moved (view_of m) n d.new) m past b.told after kept)) called.alikes ends again keeps
 
 effect_new : (n : List ℕ) (o : Outcome) (d : StepEffect) → o ≡ Ok d → (effect_of n o).new ≡ d.new
 effect_new n o d is = ap (λ (q : Outcome). (effect_of n q).new) is
@@ -152,30 +153,32 @@ kept_ends : (x : Action) (work : List ℕ → Bool) (fault : Fault) (folder : Fo
     → Shows work (seen b.told) (view_in folder) → EndsBefore (view_of m) m past b.told → RunMoments x work (Err fault) folder (named_step n o ∷ []) a (scene b.told b.out e) m past
 kept_ends x work fault folder n o m past a b e called out err shows ends =
     run_moments x work (Err fault) folder (named_step n o ∷ []) a (scene b.told b.out e) m past
-    (one_before work fault folder (named_step n o) (view_of m) (moved (view_of m) n (effect_of n o).new) a (scene b.told b.out e) m past called.alikes ends out (some_same a.err e [] err) shows) (λ other. stay_same x (view_in folder))
+    (one_before work fault folder (named_step n o) (view_of m) (moved (view_of m) n (effect_of n o).new) a (scene b.told b.out e) m past called.alikes ends out (some_same a.err e [] err) shows) (λ other. stay_same x (view_in folder)) (images_before (view_of m) m past b.told ends)
 
 -- where its name is safe behind the step all are that were
 pub turned : (x : Action) (work : List ℕ → Bool) (folder : Folder) (n : List ℕ) (o : Outcome) (made : Result (Unit {0}) StepFault) (r : Result ℕ Fault) (m : Model) (past : List Model) (a b : Scene) (e : Option (List ℕ)) → IsCalled x.reads work folder n o m a b
-    → (IsSafeFor x n (moved (view_of m) n (effect_of n o).new) → StaySafe x (view_in folder) (view_in (moved_in folder n (effect_of n o).new))) → MeetsAt x made n o (view_of m) m past a b → Concludes made n r b.err e → RunMoments x work r folder (named_step n o ∷ []) a (scene b.told b.out e) m past
-turned x work folder n o (Ok done) r m past a b e called again (met, ends) says =
+    → (IsSafeFor x n (moved (view_of m) n (effect_of n o).new) → StaySafe x (view_in folder) (view_in (moved_in folder n (effect_of n o).new)))
+    → (IsSafeFor x n (moved (view_of m) n (effect_of n o).new) → KeepsSafe (view_of m) (moved (view_of m) n (effect_of n o).new)) → MeetsAt x made n o (view_of m) m past a b → Concludes made n r b.err e → RunMoments x work r folder (named_step n o ∷ []) a (scene b.told b.out e) m past
+turned x work folder n o (Ok done) r m past a b e called again keeps (met, ends) says =
     made_ends x work r folder n o met.0 m past a b e called met.1 (some_of_whole a.out b.out (met.0.text ++ met.0.out) met.3.out) (some_of_whole a.err e met.0.err (subst (λ t. GivesOk a.err t met.0.err) (sym says.1) met.3.err))
-    (clear_moved x.reads work folder n met.0.new (seen a.told) (seen b.told) called.clear called.same (λ only. sym (effect_new n o met.0 met.1) ∙ called.kept only) called.shows met.3.view) ends.0 (again ends.1)
-turned x work folder n o (Err (step.Refused refusal)) r m past a b e called again (met, ends) says =
-    refused_ends x work r folder n o refusal m past a b e called met.0 met.1.err met.1.out (clear_same x.reads work folder n (seen a.told) (seen b.told) called.clear called.same called.shows met.1.view) ends.0 (again ends.1) says
-turned x work folder n o (Err step.Memory) r m past a b e called again (met, ends) says =
+    (clear_moved x.reads work folder n met.0.new (seen a.told) (seen b.told) called.clear called.same (λ only. sym (effect_new n o met.0 met.1) ∙ called.kept only) called.shows met.3.view) ends.0 (again ends.1) (keeps ends.1)
+turned x work folder n o (Err (step.Refused refusal)) r m past a b e called again keeps (met, ends) says =
+    refused_ends x work r folder n o refusal m past a b e called met.0 met.1.err met.1.out (clear_same x.reads work folder n (seen a.told) (seen b.told) called.clear called.same called.shows met.1.view) ends.0 (again ends.1) (keeps ends.1) says
+turned x work folder n o (Err step.Memory) r m past a b e called again keeps (met, ends) says =
     subst (λ (s : Result ℕ Fault). RunMoments x work s folder (named_step n o ∷ []) a (scene b.told b.out e) m past) (sym says.0)
     (kept_ends x work Memory folder n o m past a b e called met.out (says.1 ∙ met.err) (clear_same x.reads work folder n (seen a.told) (seen b.told) called.clear called.same called.shows met.view) ends)
-turned x work folder n o (Err step.ReadFault) r m past a b e called again (met, ends) says =
+turned x work folder n o (Err step.ReadFault) r m past a b e called again keeps (met, ends) says =
     subst (λ (s : Result ℕ Fault). RunMoments x work s folder (named_step n o ∷ []) a (scene b.told b.out e) m past) (sym says.0)
     (kept_ends x work ReadFault folder n o m past a b e called met.out (says.1 ∙ met.err) (clear_same x.reads work folder n (seen a.told) (seen b.told) called.clear called.same called.shows met.view) ends)
-turned x work folder n o (Err step.WriteFault) r m past a b e called again (inl met, ends) says =
+turned x work folder n o (Err step.WriteFault) r m past a b e called again keeps (inl met, ends) says =
     subst (λ (s : Result ℕ Fault). RunMoments x work s folder (named_step n o ∷ []) a (scene b.told b.out e) m past) (sym says.0)
     (kept_ends x work WriteFault folder n o m past a b e called met.out (says.1 ∙ met.err) (clear_same x.reads work folder n (seen a.told) (seen b.told) called.clear called.same called.shows met.view) ends)
-turned x work folder n o (Err step.WriteFault) r m past a b e called again (inr met, ends) says =
+turned x work folder n o (Err step.WriteFault) r m past a b e called again keeps (inr met, ends) says =
     subst (λ (s : Result ℕ Fault). RunMoments x work s folder (named_step n o ∷ []) a (scene b.told b.out e) m past) (sym says.0)
     (made_ends x work (Err WriteFault) folder n o met.0 m past a b e called met.1 met.2.out (subst (λ t. GivesSome a.err t met.0.err) (sym says.1) met.2.err)
-    (clear_moved x.reads work folder n met.0.new (seen a.told) (seen b.told) called.clear called.same (λ only. sym (effect_new n o met.0 met.1) ∙ called.kept only) called.shows met.2.view) ends.0 (again ends.1))
-turned x work folder n o (Err step.DiskFault) r m past a b e called again (met, ends) says =
+    (clear_moved x.reads work folder n met.0.new (seen a.told) (seen b.told) called.clear called.same (λ only. sym (effect_new n o met.0 met.1) ∙ called.kept only) called.shows met.2.view) ends.0 (again ends.1) (keeps ends.1))
+turned x work folder n o (Err step.DiskFault) r m past a b e called again keeps (met, ends) says =
     subst (λ (s : Result ℕ Fault). RunMoments x work s folder (named_step n o ∷ []) a (scene b.told b.out e) m past) (sym says.0)
     (run_moments x work (Err DiskFault) folder (named_step n o ∷ []) a (scene b.told b.out e) m past
-    (one_within work folder (named_step n o) (view_of m) (moved (view_of m) n (effect_of n o).new) a (scene b.told b.out e) m past called.alikes ends met.out (some_same a.err e [] (says.1 ∙ met.err))) (λ other. absurd (other refl)))
+    (one_within work folder (named_step n o) (view_of m) (moved (view_of m) n (effect_of n o).new) a (scene b.told b.out e) m past called.alikes ends.0 met.out (some_same a.err e [] (says.1 ∙ met.err))) (λ other. absurd (other refl))
+    (images_within (view_of m) (moved (view_of m) n (effect_of n o).new) m past b.told ends.0 (⊎_elim (λ safe. inl (keeps safe)) (λ old. inr old) ends.1)))

@@ -1,5 +1,5 @@
 -- The moments of a step that only reads: nothing is told anew.
-use Rattle.std.proofs.Common.{◌≡◌, ℕ, true, List, map, Option, None, IfSome, Result, sym, subst, ◌∙◌}
+use Rattle.std.proofs.Common.{◌≡◌, ℕ, true, List, map, Option, None, IfSome, Result, inr, sym, subst, ◌∙◌}
 use Rattle.sccs_sid.specs.declared.refusals.StepFault.{StepFault}
 use Rattle.sccs_disk.specs.Files.{Model, view_of}
 use Rattle.sccs_disk.specs.Told.{Told, Tells, seen}
@@ -11,11 +11,12 @@ use Rattle.sccs_steps.specs.Calls.{Meets, Scene, shown}
 use Rattle.sccs_steps.specs.Actions.{Action, IsHeard, KeepsFiles, Stepped}
 use Rattle.sccs_steps.specs.StepStops.{After, Before, Ends, MeetsAt, Place, StepMoments, Within, place_of}
 use Rattle.sccs_steps.proofs.Clear.{kept_effect}
+use Rattle.sccs_steps.proofs.SafeImages.{recovers_before}
 
 -- wherever such a call ends
 still_ends : (p : Place) (x : Action) (n : List ℕ) (m : Model) (past : List Model) (t : Told) → x.reads ≡ true → IsCalm m → t ≡ Tells m past → Ends p x n (view_of m) (view_of m) m past t
 still_ends Before x n m past t reads calm is = same_before m past t calm is
-still_ends Within x n m past t reads calm is = before_within (view_of m) (view_of m) m past t (same_before m past t calm is)
+still_ends Within x n m past t reads calm is = (before_within (view_of m) (view_of m) m past t (same_before m past t calm is), inr (recovers_before (view_of m) m past t (same_before m past t calm is)))
 still_ends After x n m past t reads calm is = (before_after (view_of m) m past t (same_before m past t calm is), λ changes. absurd (cc))
 
 met_at : (x : Action) (r : Result (Unit {0}) StepFault) (n : List ℕ) (o : Outcome) (m : Model) (past : List Model) (a b : Scene) → x.reads ≡ true → (effect_of n o).new ≡ None → IsCalm m → b.told ≡ Tells m past → Meets (λ (done : Unit {0}). 0) r n o (shown a) (shown b) → MeetsAt x r n o (view_of m) m past a b

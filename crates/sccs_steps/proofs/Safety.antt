@@ -11,7 +11,7 @@ use Rattle.sccs_moments.specs.Recovery.{is_kept}
 use Rattle.sccs_moments.proofs.FileNames.{from_sfile, kept_p, kept_s, kept_z, siblings_differ, to_s, to_sfile}
 use Rattle.sccs_steps.specs.Actions.{Action, KeepsFiles}
 use Rattle.sccs_steps.specs.StepStops.{ArePaired, IsSafe, IsSafeFor}
-use Rattle.sccs_steps.specs.ListStops.{Spares, StaySafe}
+use Rattle.sccs_steps.specs.ListStops.{KeepsSafe, Spares, StaySafe}
 
 -- ---- views
 
@@ -61,6 +61,15 @@ pub stay_moved : (x : Action) (n : List ℕ) (v : View) (new : Option Files) →
 stay_moved x n v new keeps fits before own = λ k taken safe changes.
     ⊎_elim (λ e. subst (λ l. IsSafe l (moved v n new)) e (own changes))
     (λ apart. other_moved n k v new (keeps.names changes n fits) (keeps.names changes k taken) (before changes).plain apart (safe changes)) (name_cases n k)
+
+-- the same of every s-file's name, also where nothing changes
+pub keeps_moved : (x : Action) (n : List ℕ) (v : View) (new : Option Files) → KeepsFiles x → x.fits n ≡ true → (x.reads ≡ true → new ≡ None) → IsSafeFor x n v → IsSafeFor x n (moved v n new) → KeepsSafe v (moved v n new)
+keeps_moved x n v new keeps fits none before own = by x.reads refl
+  where
+    by : (b : Bool) → x.reads ≡ b → KeepsSafe v (moved v n new)
+    by true reads = subst (λ (f : Option Files). KeepsSafe v (moved v n f)) (sym (none reads)) (λ k sfile safe. safe)
+    by false changes = λ k sfile safe.
+        ⊎_elim (λ e. subst (λ l. IsSafe l (moved v n new)) e (own changes)) (λ apart. other_moved n k v new (keeps.names changes n fits) sfile (before changes).plain apart safe) (name_cases n k)
 
 pub stay_folder : (x : Action) (m : Folder) (n : List ℕ) (new : Option Files) → KeepsFiles x → x.fits n ≡ true → IsSafeFor x n (view_in m) → IsSafeFor x n (view_in (moved_in m n new)) → StaySafe x (view_in m) (view_in (moved_in m n new))
 stay_folder x m n new keeps fits before own =

@@ -2,20 +2,22 @@
 use Rattle.std.proofs.Common.{◌≡◌, ℕ, ◌+◌, ◌<◌, ◌≤◌, max, Bool, List, ◌++◌, drop, get_or, length, Result, Ok, Err, refl, sym, ap, subst, ◌∙◌, append_assoc, arith, length-append}
 use Rattle.std.proofs.Math.ListN.{drop_of_length-le}
 use Rattle.std.proofs.lemmas.List.{append-nil}
-use Rattle.sccs_disk.specs.Files.{Folder, Model, View, view_in}
+use Rattle.sccs_disk.specs.Files.{Folder, Model, View, view_in, view_of}
+use Rattle.sccs_disk.specs.Images.{Allows}
 use Rattle.sccs_disk.specs.Told.{Tells, seen}
 use Rattle.sccs_files.specs.StepFiles.{Shows}
-use Rattle.sccs_images.specs.Touches.{earlier, newest}
+use Rattle.sccs_images.specs.Touches.{Each, earlier, newest}
 use Rattle.sccs_moments.specs.Calm.{IsCalm}
 use Rattle.sccs_steps.specs.Actions.{Action, AreClear}
 use Rattle.sccs_steps.specs.Calls.{Scene, shown}
-use Rattle.sccs_steps.specs.ListStops.{AreSafe, ListMoments, RunMoments, Spares, StaySafe, view_at}
+use Rattle.sccs_steps.specs.ListStops.{AreSafe, KeepsSafe, ListMoments, RunMoments, Spares, StaySafe, view_at}
 use Rattle.sccs_steps.specs.StepLists.{NamedStep, Runs, SoFar, folder_after, in_turn}
 use Rattle.sccs_steps.specs.declared.faults.Fault.{Fault}
 use Rattle.sccs_steps.proofs.JoinedSteps.{after_more, begins, goes_on}
 use Rattle.sccs_steps.proofs.Fronts.{view_all, view_front, view_past}
 use Rattle.sccs_steps.proofs.MomentLists.{moments_more, moments_none, moments_then, run_moments}
 use Rattle.sccs_steps.proofs.NameStops.{alike_told}
+use Rattle.sccs_steps.proofs.SafeImages.{images_now, images_then}
 use Rattle.sccs_steps.proofs.Safety.{stay_on, stay_same}
 use Rattle.sccs_steps.proofs.Turns.{each_all, next_all, next_turn}
 
@@ -24,14 +26,15 @@ pub record StopsSoFar (x : Action) (w : List ℕ → Bool) (folder : Folder) (al
   pub so : SoFar w folder all left status (shown a) (shown b)
   pub list : ListMoments w (Ok status) folder so.made a b m past
   pub safe : StaySafe x (view_in folder) (view_in (folder_after folder so.made))
+  pub images : Each (Allows (KeepsSafe (view_of m))) list.went.added m
 
 pub stops_begin : (x : Action) (w : List ℕ → Bool) (folder : Folder) (left : Folder → List NamedStep) (a : Scene) (m : Model) (past : List Model) → Spares w → Shows w (seen a.told) (view_in folder) → a.told ≡ Tells m past → IsCalm m
     → StopsSoFar x w folder (left folder) left 0 a a m past
 stops_begin x w folder left a m past spares shows is calm =
-    record { so = begins w folder left (shown a) shows; list = moments_none w folder a m past spares is calm (alike_told w folder a.told m past is shows) shows; safe = stay_same x (view_in folder) }
+    record { so = begins w folder left (shown a) shows; list = moments_none w folder a m past spares is calm (alike_told w folder a.told m past is shows) shows; safe = stay_same x (view_in folder); images = images_now m calm }
 
 -- another status
-pub ok_moments : (w : List ℕ → Bool) (s s2 : ℕ) (folder : Folder) (ts : List NamedStep) (a b : Scene) (m : Model) (past : List Model) → ListMoments w (Ok s) folder ts a b m past → ListMoments w (Ok s2) folder ts a b m past
+abbrev pub ok_moments : (w : List ℕ → Bool) (s s2 : ℕ) (folder : Folder) (ts : List NamedStep) (a b : Scene) (m : Model) (past : List Model) → ListMoments w (Ok s) folder ts a b m past → ListMoments w (Ok s2) folder ts a b m past
 ok_moments w s s2 folder ts a b m past l = record {
   number = l.number;
   most = l.most;
@@ -79,6 +82,7 @@ stops_on x w folder steps things k status one item thing a b c m past is below c
           subst (λ (u : Folder). StaySafe x (view_in folder) (view_in u)) (sym (after_more folder far.so.made (steps (folder_after folder far.so.made) (get_or things k item))))
           (stay_on x (view_in folder) (view_in (folder_after folder far.so.made)) (view_in (folder_after (folder_after folder far.so.made) (steps (folder_after folder far.so.made) (get_or things k item)))) far.safe
           (subst (λ (v : View). StaySafe x (view_in (folder_after folder far.so.made)) v) (view_all (folder_after folder far.so.made) (steps (folder_after folder far.so.made) (get_or things k item)) next.list.number (next.list.all refl)) (next.safe (λ other. cc))));
+      images = images_then next.list.went.added far.list.went.added m far.images next.images;
     }
 
 pub stops_early : (x : Action) (w : List ℕ → Bool) (folder : Folder) (steps : Folder → List ℕ → List NamedStep) (things : List (List ℕ)) (k status : ℕ) (fault : Fault) (item thing : List ℕ) (a b c : Scene) (m : Model) (past : List Model) → thing ≡ get_or things k item → k < length things
@@ -103,13 +107,14 @@ stops_early x w folder steps things k status fault item thing a b c m past is be
         (moments_more w fault folder (far.so.made ++ more) rest a c m past (moments_then w status (Err fault) folder far.so.made more a b c m past far.so.ran far.list next.list))
         (λ other. subst (λ (v : View). StaySafe x (view_in folder) v)
         (sym (view_front folder (far.so.made ++ more) rest (length far.so.made + next.list.number) (let low = next.list.most in omega (arith, low, length-append far.so.made more)) ∙ view_past folder far.so.made more next.list.number))
-        (stay_on x (view_in folder) (view_in u) (view_at u more next.list.number) far.safe (next.safe other))))
+        (stay_on x (view_in folder) (view_in u) (view_at u more next.list.number) far.safe (next.safe other)))
+        (images_then next.list.went.added far.list.went.added m far.images next.images))
 
 pub stops_end : (x : Action) (w : List ℕ → Bool) (folder : Folder) (steps : Folder → List ℕ → List NamedStep) (things : List (List ℕ)) (k status : ℕ) (a b : Scene) (m : Model) (past : List Model) → length things ≤ k → StopsSoFar x w folder (in_turn steps folder things) (λ u. in_turn steps u (drop k things)) status a b m past
     → RunMoments x w (Ok status) folder (in_turn steps folder things) a b m past
 stops_end x w folder steps things k status a b m past all far =
     subst (λ (ts : List NamedStep). RunMoments x w (Ok status) folder ts a b m past) is
-    (run_moments x w (Ok status) folder far.so.made a b m past far.list (λ other. subst (λ (v : View). StaySafe x (view_in folder) v) (sym (view_all folder far.so.made far.list.number (far.list.all refl))) far.safe))
+    (run_moments x w (Ok status) folder far.so.made a b m past far.list (λ other. subst (λ (v : View). StaySafe x (view_in folder) v) (sym (view_all folder far.so.made far.list.number (far.list.all refl))) far.safe) far.images)
   where
     is : far.so.made ≡ in_turn steps folder things
     is = sym (append-nil far.so.made) ∙ (ap (λ (ts : List NamedStep). far.so.made ++ ts) (sym (ap (λ (rest : List (List ℕ)). in_turn steps (folder_after folder far.so.made) rest) (drop_of_length-le things all))) ∙ sym far.so.is)

@@ -3,17 +3,18 @@ use Rattle.std.specs.Prelude.{◌≡◌, ◌≢◌, ℕ, suc, ◌+◌, ◌-◌, 
 use Rattle.std.specs.List.{AllByRecursion}
 use Rattle.sccs_base.specs.Name.{IsSfile, sibling}
 use Rattle.sccs_base.specs.Stream.{GivesSome}
-use Rattle.sccs_disk.specs.Files.{Folder, Model, View, view_in}
+use Rattle.sccs_disk.specs.Files.{Folder, Model, View, view_in, view_of}
+use Rattle.sccs_disk.specs.Images.{Allows}
 use Rattle.sccs_disk.specs.Told.{seen}
 use Rattle.sccs_files.specs.StepFiles.{Shows}
-use Rattle.sccs_images.specs.Touches.{newest}
+use Rattle.sccs_images.specs.Touches.{Each, newest}
 use Rattle.sccs_moments.specs.Calm.{HasFirm, IsCalm}
 use Rattle.sccs_moments.specs.Moments.{Went}
 use Rattle.sccs_moments.specs.Recovery.{RecoversAs}
 use Rattle.sccs_steps.specs.Actions.{Action}
 use Rattle.sccs_steps.specs.Calls.{Scene, World, shown}
 use Rattle.sccs_steps.specs.StepLists.{NamedStep, err_of, folder_after, next_text, out_of}
-use Rattle.sccs_steps.specs.StepStops.{IsSafeFor}
+use Rattle.sccs_steps.specs.StepStops.{IsSafe, IsSafeFor}
 use Rattle.sccs_steps.specs.declared.faults.Fault.{Fault}
 use Rattle.sccs_steps.specs.declared.faults.Fault.TheVariants.{DiskFault}
 
@@ -77,6 +78,10 @@ AreSafe x ts v = AllByRecursion (λ (t : NamedStep). x.fits t.name ≡ true → 
 abbrev pub StaySafe : Action → View → View → Type 0
 StaySafe x u v = (n : List ℕ) → x.fits n ≡ true → IsSafeFor x n u → IsSafeFor x n v
 
+-- the same of every s-file's name
+abbrev pub KeepsSafe : View → View → Type 0
+KeepsSafe u v = (n : List ℕ) → IsSfile n → IsSafe n u → IsSafe n v
+
 -- no s-file, p-file or z-file is a working file
 pub record Spares (w : List ℕ → Bool) : Type 0 where
   pub s : (n : List ℕ) → IsSfile n → w n ≡ false
@@ -89,3 +94,5 @@ pub record RunMoments (x : Action) (w : List ℕ → Bool) (r : Result ℕ Fault
   pub list : ListMoments w r folder ts a b m past
   pub acknowledged : (k : ℕ) → k < length ts → IsAcknowledged r ts k (shown a) (shown b) → suc k ≤ list.number
   pub safe : r ≢ Err DiskFault → StaySafe x (view_in folder) (view_at folder ts list.number)
+  -- whatever a stop leaves, in it each s-file's name is safe that was, so that the next run may begin there
+  pub images : Each (Allows (KeepsSafe (view_of m))) list.went.added m

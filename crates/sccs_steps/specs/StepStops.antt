@@ -1,15 +1,17 @@
 -- Where the call of a step ends that began on a calm disk, and what a stop leaves of it.
-use Rattle.std.specs.Prelude.{◌≡◌, ℕ, false, List, drop, map, Option, None, Result, Ok, Err}
+use Rattle.std.specs.Prelude.{◌≡◌, ◌⊎◌, ℕ, false, List, drop, map, Option, None, Result, Ok, Err}
 use Rattle.std.proofs.Common.{inl, inr}
 use Rattle.sccs_base.specs.Name.{sibling}
 use Rattle.sccs_sid.specs.declared.refusals.StepFault.{StepFault}
 use Rattle.sccs_sid.specs.declared.refusals.StepFault.TheVariants.{Refused, Memory, ReadFault, WriteFault, DiskFault}
 use Rattle.sccs_disk.specs.Files.{Content, Model, View, view_of}
+use Rattle.sccs_disk.specs.Images.{Allows}
 use Rattle.sccs_disk.specs.Told.{Told, Tells}
 use Rattle.sccs_files.specs.StepFiles.{look, moved}
+use Rattle.sccs_images.specs.Touches.{Each}
 use Rattle.sccs_moments.specs.Calm.{IsCalm}
 use Rattle.sccs_moments.specs.Moments.{EndsAfter, EndsBefore, EndsWithin}
-use Rattle.sccs_moments.specs.Recovery.{IsSound, is_kept}
+use Rattle.sccs_moments.specs.Recovery.{IsSound, RecoversAs, is_kept}
 use Rattle.sccs_steps.specs.StepEffects.{Outcome, effect_of}
 use Rattle.sccs_steps.specs.Actions.{Action, IsHeard}
 use Rattle.sccs_steps.specs.Calls.{Meets, Scene, World, shown}
@@ -48,10 +50,11 @@ place_of (Err WriteFault) n o a b (inl kept) = Before
 place_of (Err WriteFault) n o a b (inr cut) = After
 place_of (Err DiskFault) n o a b met = Within
 
--- From v, and to w where it is made; after it the name is safe again.
+-- From v, and to w where it is made; after it the name is safe again. Within it the name is safe in w, or all that a stop leaves
+-- recovers as v.
 abbrev pub Ends : Place → Action → List ℕ → View → View → Model → List Model → Told → Type 0
 Ends Before x n v w m past new = EndsBefore v m past new
-Ends Within x n v w m past new = EndsWithin v w m past new
+Ends Within x n v w m past new = (ends : EndsWithin v w m past new) × (IsSafeFor x n w ⊎ Each (Allows (RecoversAs v)) ends.0.added m)
 Ends After x n v w m past new = EndsAfter v w m past new × IsSafeFor x n w
 
 -- what the call of a step answers and leaves, and where it ends; v is the view before it, of a model that is told

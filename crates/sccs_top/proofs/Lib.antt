@@ -1,3 +1,4 @@
+pub mod FollowingLaws
 pub mod RunLaws
 pub mod AdminValues
 pub mod MadeHistoryLaws

@@ -23,6 +23,7 @@ use Rattle.sccs_moments.proofs.Recoveries.{calm_same, firm_same, story_same}
 use Rattle.sccs_steps.specs.Recovering.{RecoversBy}
 use Rattle.sccs_steps.specs.Running.{IsInput, MakesBy, StopsBy, UnlockedBy}
 use Rattle.sccs_steps.proofs.Cleared.{cleared_same}
+use Rattle.sccs_steps.proofs.SafeImages.{images_after, images_now}
 use Rattle.sccs_steps.proofs.Safety.{stay_same}
 use Rattle.sccs_steps.proofs.MomentLists.{alike_recovers, moments_never, run_moments}
 use Rattle.sccs_steps.proofs.OneMoment.{one_after}
@@ -191,7 +192,7 @@ command_stops who meant command answer made left a b is answered stops =
 pub never_stops : (who : Caller) (meant : Result Command Usage) (left : Option (List ℕ)) (a : Scene) → StopsSteps who meant Memory left a a
 never_stops who meant left a = λ folder i m past given shows told calm safe.
     run_moments (action_meant who meant) (working who meant folder i) (made_by Memory) folder (run_steps who meant folder i) a a m past
-    (moments_never (working who meant folder i) ends.Memory folder (run_steps who meant folder i) a m past (spares_meant who meant folder i) told calm (alike_told (working who meant folder i) folder a.told m past told shows) shows) (λ other. stay_same (action_meant who meant) (view_in folder))
+    (moments_never (working who meant folder i) ends.Memory folder (run_steps who meant folder i) a m past (spares_meant who meant folder i) told calm (alike_told (working who meant folder i) folder a.told m past told shows) shows) (λ other. stay_same (action_meant who meant) (view_in folder)) (images_now m calm)
 
 -- a usage fault was said, or a prefix of it
 usage_moments : (who : Caller) (usage : Usage) (answer : Answer) (left : Option (List ℕ)) (a : Scene) (err : Option (List ℕ)) → GivesSome a.err err (usage_line usage) → StopsSteps who (Err usage) answer left a (scene a.told a.out err)
@@ -199,6 +200,7 @@ usage_moments who usage answer left a err some = λ folder i m past given shows 
     let recovers = alike_recovers nowhere (view_of m) (view_in folder) spares_nowhere (alike_told nowhere folder a.told m past told shows) in
     run_moments (unbuilt false false) nowhere (made_by answer) folder (usage_step usage ∷ []) a (scene a.told a.out err) m past
     (one_after nowhere (made_by answer) folder (usage_step usage) (view_of m) (view_of m) a (scene a.told a.out err) m past (record { old = recovers; new = recovers }) (before_after (view_of m) m past a.told (same_before m past a.told calm told)) (some_none a.out []) some shows) (λ other. stay_same (unbuilt false false) (view_in folder))
+    (images_after (view_of m) (view_of m) m past a.told (before_after (view_of m) m past a.told (same_before m past a.told calm told)) (λ k sfile safe. safe))
 
 pub usage_stops : (who : Caller) (meant : Result Command Usage) (usage : Usage) (answer : Answer) (left : Option (List ℕ)) (a : Scene) (err : Option (List ℕ)) → meant ≡ Err usage → GivesSome a.err err (usage_line usage) → StopsSteps who meant answer left a (scene a.told a.out err)
 usage_stops who meant usage answer left a err is some =

@@ -1,3 +1,4 @@
+pub mod Following
 pub mod Listing
 pub mod MadeHistories
 pub mod Messages

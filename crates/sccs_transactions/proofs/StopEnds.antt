@@ -24,6 +24,7 @@ use Rattle.sccs_steps.specs.StepEffects.{Outcome, effect_of}
 use Rattle.sccs_steps.specs.Calls.{Meets, World, scene, world}
 use Rattle.sccs_steps.specs.Actions.{Action, IsHeard}
 use Rattle.sccs_steps.specs.StepStops.{ArePaired, Ends, IsPaired, IsSafe, IsSafeFor, MeetsAt, place_of}
+use Rattle.sccs_steps.proofs.SafeImages.{recovers_before}
 use Rattle.sccs_steps.proofs.Safety.{placed_safe}
 use Rattle.sccs_store.specs.Commits.{Becomes, Plan, abandoned, committed, files_after, locked}
 use Rattle.sccs_store.specs.Stops.{CommitEnds, HasPrepared, IsPlain, KeepsEntries, KeepsHeld, OnChange, OnReplace}
@@ -72,7 +73,7 @@ at_failed x n left ta td out err m past i sfile moves touches held is heard calm
     let kept : EndsBefore (view_of m) m past td = failed_before n ta td m past (view_of m (sibling 122 n)) refl sfile touches held is calm sound in
     let here : Moves (bytes_eq (sibling 122 n)) (λ v. v) (Some (view_of m)) (seen td) = subst (λ (t : Told). Moves (bytes_eq (sibling 122 n)) (λ v. v) (seen t) (seen td)) is moves in
     subst (λ (t : Told). MeetsAt (locking x) (Err DiskFault) n (locking_step x.outcome n i (map (view_of m) x.named) (look (view_of m) n)) (view_of m) m past (scene t out err) (scene td out err)) (sym is)
-    (failed_steps x n left (Some (view_of m)) (seen td) out err here i heard, before_within (view_of m) (moved (view_of m) n (effect_of n (locking_step x.outcome n i (map (view_of m) x.named) (look (view_of m) n))).new) m past td kept)
+    (failed_steps x n left (Some (view_of m)) (seen td) out err here i heard, (before_within (view_of m) (moved (view_of m) n (effect_of n (locking_step x.outcome n i (map (view_of m) x.named) (look (view_of m) n))).new) m past td kept, inr (recovers_before (view_of m) m past td kept)))
 
 -- ---- behind the lock
 
@@ -104,7 +105,7 @@ given_so y Memory n o v m past ob2 td out out2 err free prepares gone safe kept 
 given_so y ReadFault n o v m past ob2 td out out2 err free prepares gone safe kept = (given_up n _ v ob2 (seen td) out out2 err free prepares.view gone prepares.out, kept)
 given_so y WriteFault n o v m past ob2 td out out2 err free prepares gone safe kept = (inl (given_up n _ v ob2 (seen td) out out2 err free prepares.view gone prepares.out), kept)
 given_so y DiskFault n o v m past ob2 td out out2 err free prepares gone safe kept =
-    (broken_off n o v ob2 (seen td) out out2 err prepares.view (gone_left n ob2 (seen td) gone) prepares.out, before_within v (moved v n (effect_of n o).new) m past td kept)
+    (broken_off n o v ob2 (seen td) out out2 err prepares.view (gone_left n ob2 (seen td) gone) prepares.out, (before_within v (moved v n (effect_of n o).new) m past td kept, inr (recovers_before v m past td kept)))
 
 gives_so : (y : Action) (fault : StepFault) (r : Result (Unit {0}) StepFault) (n : List ℕ) (o : Outcome) (v : View) (m : Model) (past : List Model) (ob2 : Option View) (td : Told) (out out2 err : Option (List ℕ)) → v (sibling 122 n) ≡ None → Prepares (Err fault) n o (world (Some (locked n v)) out err) (world ob2 out2 err)
     → GivesUp r fault n (world ob2 out2 err) (world (seen td) out2 err) → IsSafeFor y n v → EndsBefore v m past td → EndsSo y r n v m past td out err out2 err o
@@ -113,7 +114,7 @@ gives_so y fault r n o v m past ob2 td out out2 err free prepares (inl gone) saf
 gives_so y fault r n o v m past ob2 td out out2 err free prepares (inr broken) safe kept =
     let unmade = unmade_of fault n o (world (Some (locked n v)) out err) (world ob2 out2 err) prepares in
     subst (λ (s : Result (Unit {0}) StepFault). EndsSo y s n v m past td out err out2 err o) (sym broken.0)
-    (broken_off n o v ob2 (seen td) out out2 err unmade.view broken.1 unmade.out, before_within v (moved v n (effect_of n o).new) m past td kept)
+    (broken_off n o v ob2 (seen td) out out2 err unmade.view broken.1 unmade.out, (before_within v (moved v n (effect_of n o).new) m past td kept, inr (recovers_before v m past td kept)))
 
 -- the lock and the working files are all that was touched
 all_left : (n : List ℕ) (ta tb tb2 : Told) → TouchesOnly (bytes_eq (sibling 122 n)) ta tb → TouchesOnly (is_working n) tb tb2 → TouchesOnly (is_left n) ta tb2
@@ -217,7 +218,7 @@ finished_so y r n p o m past ta tb tb2 td out out2 out3 err err3 sfile is calm s
     )
     by (Err DiskFault) finished committed_so = (
       ends_finished (Err DiskFault) n p o (view_of m) (seen tb2) (seen td) out out2 out3 err err3 sfile free prepared finished,
-      ends_within n (plan_of p) ta tb2 td m past (moved (view_of m) n (effect_of n o).new) sfile is calm (safe.sound free) plain has same committed_so,
+      (ends_within n (plan_of p) ta tb2 td m past (moved (view_of m) n (effect_of n o).new) sfile is calm (safe.sound free) plain has same committed_so, inl safe_again),
     )
     by (Err (Refused refusal)) finished committed_so = absurd finished
     by (Err Memory) finished committed_so = absurd finished

@@ -1,0 +1,11 @@
+use Rattle.sccs_top.proofs.FollowingLaws.{may_follow, still_safe, stops_followed}
+use Rattle.sccs_top.proofs.laws.runs_follow_one_another.Goals as goal
+
+pub returns-clause-ended : goal.returns-clause-ended
+returns-clause-ended c = may_follow
+
+pub returns-clause-stopped : goal.returns-clause-stopped
+returns-clause-stopped c = stops_followed
+
+pub returns-clause-safe : goal.returns-clause-safe
+returns-clause-safe c = still_safe
