@@ -2,7 +2,7 @@
 use Rattle.std.proofs.Common.{◌≡◌, ℕ, false, List, [], map, drop, Option, None, Some, IfOk, IfSome, IsSome, Result, Ok, Err, refl, sym, ap, subst, ◌∙◌}
 use Rattle.std.specs.Str.{bytes_eq}
 use Rattle.sccs_base.specs.Cut.{text_of}
-use Rattle.sccs_base.specs.Name.{IsSfile, sibling}
+use Rattle.sccs_base.specs.Name.{IsSfile, p_file, q_file, x_file, y_file, z_file}
 use Rattle.sccs_base.proofs.Gifts.{gives_none, some_none}
 use Rattle.sccs_disk.specs.Calls.{IsThere}
 use Rattle.sccs_disk.specs.Files.{Content, View, put}
@@ -30,9 +30,9 @@ use Rattle.sccs_admin.specs.Texts.{count_lines, named_by, or_bad_text}
 
 -- the s-file as it was before the lock
 s_unlocked : (n : List ℕ) (v : View) → IsSfile n → unlocked n v n ≡ v n
-s_unlocked n v sfile = put_other v (sibling 122 n) n None (from_s_z n sfile)
+s_unlocked n v sfile = put_other v (z_file n) n None (from_s_z n sfile)
   where
-    from_s_z : (n : List ℕ) → IsSfile n → bytes_eq (sibling 122 n) n ≡ false
+    from_s_z : (n : List ℕ) → IsSfile n → bytes_eq (z_file n) n ≡ false
     from_s_z n sfile = from_s 122 n sfile refl
 
 -- the step, from the text that was found
@@ -51,8 +51,8 @@ refused_outcome words stamp n i named f refusal is = rw is refl
 as_seen : (words : AdminWords) (i n : List ℕ) (v : View) (r : Result (List ℕ) Refusal) → IsSfile n → found_text words.text i (map (unlocked n v) (named_by words.text)) (v n) ≡ r → found_text words.text i (map (unlocked n v) (named_by words.text)) (look (unlocked n v) n).s ≡ r
 as_seen words i n v r sfile is = ap (λ (o : Option Content). found_text words.text i (map (unlocked n v) (named_by words.text)) o) (s_unlocked n v sfile) ∙ is
 
-unmade : (n text : List ℕ) (v : View) (o2 : Option View) (out err : Option (List ℕ)) → Moves (bytes_eq (sibling 120 n)) (λ u. u) (Some v) o2 → IsUnmade n text (world (Some v) out err) (world o2 out err)
-unmade n text v o2 out err moves = record { view = moves_wider (bytes_eq (sibling 120 n)) (is_working n) (Some v) o2 (no_x n) moves; out = some_none out text }
+unmade : (n text : List ℕ) (v : View) (o2 : Option View) (out err : Option (List ℕ)) → Moves (bytes_eq (x_file n)) (λ u. u) (Some v) o2 → IsUnmade n text (world (Some v) out err) (world o2 out err)
+unmade n text v o2 out err moves = record { view = moves_wider (bytes_eq (x_file n)) (is_working n) (Some v) o2 (no_x n) moves; out = some_none out text }
 
 -- no text was found
 not_found : (words : AdminWords) (stamp : Stamp) (fault : StepFault) (n i : List ℕ) (v : View) (out err : Option (List ℕ)) → IsSfile n → AnswersText (found_text words.text i (map (unlocked n v) (named_by words.text)) (v n)) (Err fault)
@@ -77,16 +77,16 @@ abbrev files_of : Option Content → Option Content → Option Content → Optio
 files_of s p g = Some (record { s = s; p = p; z = None; g = g })
 
 new_files : (n : List ℕ) (c : Content) (v : View) (p : Prepared) → IsSfile n → IsNew p
-    → files_of (Some c) (unlocked n v (sibling 112 n)) (unlocked n v (drop 2 n)) ≡ Some (files_after n (plan_of p) (put v (sibling 120 n) (Some c)))
+    → files_of (Some c) (unlocked n v (p_file n)) (unlocked n v (drop 2 n)) ≡ Some (files_after n (plan_of p) (put v (x_file n) (Some c)))
 new_files n c v p sfile new =
-    ap (λ (o : Option Content). files_of (Some c) o (unlocked n v (drop 2 n))) (put_other v (sibling 122 n) (sibling 112 n) None refl ∙ sym (put_other v (sibling 120 n) (sibling 112 n) (Some c) refl))
-    ∙ (ap (λ (o : Option Content). files_of (Some c) (u (sibling 112 n)) o) (put_other v (sibling 122 n) (drop 2 n) None (from_g 122 n sfile) ∙ sym (put_other v (sibling 120 n) (drop 2 n) (Some c) (from_g 120 n sfile)))
-    ∙ (ap (λ (o : Option Content). files_of o (u (sibling 112 n)) (u (drop 2 n))) (sym (put_same v (sibling 120 n) (Some c)) ∙ ap (λ b. chosen (replaced b) (u (sibling 120 n)) (u n)) (sym new.s))
-    ∙ (ap (λ (f : NewFile). files_of (chosen (replaced p.new_s) (u (sibling 120 n)) (u n)) (chosen f (u (sibling 113 n)) (u (sibling 112 n))) (u (drop 2 n))) (sym new.p_file)
-    ∙ ap (λ (f : NewFile). files_of (chosen (replaced p.new_s) (u (sibling 120 n)) (u n)) (chosen p.new_p (u (sibling 113 n)) (u (sibling 112 n))) (chosen f (u (sibling 121 n)) (u (drop 2 n)))) (sym new.g))))
+    ap (λ (o : Option Content). files_of (Some c) o (unlocked n v (drop 2 n))) (put_other v (z_file n) (p_file n) None refl ∙ sym (put_other v (x_file n) (p_file n) (Some c) refl))
+    ∙ (ap (λ (o : Option Content). files_of (Some c) (u (p_file n)) o) (put_other v (z_file n) (drop 2 n) None (from_g 122 n sfile) ∙ sym (put_other v (x_file n) (drop 2 n) (Some c) (from_g 120 n sfile)))
+    ∙ (ap (λ (o : Option Content). files_of o (u (p_file n)) (u (drop 2 n))) (sym (put_same v (x_file n) (Some c)) ∙ ap (λ b. chosen (replaced b) (u (x_file n)) (u n)) (sym new.s))
+    ∙ (ap (λ (f : NewFile). files_of (chosen (replaced p.new_s) (u (x_file n)) (u n)) (chosen f (u (q_file n)) (u (p_file n))) (u (drop 2 n))) (sym new.p_state)
+    ∙ ap (λ (f : NewFile). files_of (chosen (replaced p.new_s) (u (x_file n)) (u n)) (chosen p.new_p (u (q_file n)) (u (p_file n))) (chosen f (u (y_file n)) (u (drop 2 n)))) (sym new.g))))
   where
     u : View
-    u = put v (sibling 120 n) (Some c)
+    u = put v (x_file n) (Some c)
 
 made_outcome : (words : AdminWords) (stamp : Stamp) (f : Files) (text : List ℕ) (count : ℕ) → count_lines (text_of text) ≡ Ok count → from_text words stamp f text ≡ makes (new_content words stamp count (text_of text)) f
 made_outcome words stamp f text count is = ap (λ (r : Result ℕ ℕ). or_bad_text r >>= λ count. makes (new_content words stamp count (text_of text)) f) is
@@ -105,13 +105,13 @@ text_prepared words stamp (Ok p) text n i v o2 out err sfile found writes =
       status = refl;
       report = sym writes.0.report;
       message = sym writes.0.message;
-      view = moves_wider (bytes_eq (sibling 120 n)) (is_working n) (Some v) o2 (no_x n) (made_moves (sibling 120 n) c (Some v) o2 writes.1.2);
+      view = moves_wider (bytes_eq (x_file n)) (is_working n) (Some v) o2 (no_x n) (made_moves (x_file n) c (Some v) o2 writes.1.2);
       files = subst (λ (o : Option View). IfSome o (λ u. files_of (Some c) f.p f.g ≡ Some (files_after n (plan_of p) u))) (sym writes.1.2) (new_files n c v p sfile writes.0);
       out = gives_none out;
     }
 text_prepared words stamp (Err (Refused refusal)) text n i v o2 out err sfile found writes = (
   found_outcome words stamp n i _ (look (unlocked n v) n) text (as_seen words i n v (Ok text) sfile found) ∙ bad_outcome words stamp (look (unlocked n v) n) text refusal writes.0,
-  unmade n [] v o2 out err (subst (λ (o : Option View). Moves (bytes_eq (sibling 120 n)) (λ u. u) (Some v) o) (sym writes.1) (λ k h. refl)),
+  unmade n [] v o2 out err (subst (λ (o : Option View). Moves (bytes_eq (x_file n)) (λ u. u) (Some v) o) (sym writes.1) (λ k h. refl)),
 )
 text_prepared words stamp (Err Memory) text n i v o2 out err sfile found writes = unmade n _ v o2 out err writes
 text_prepared words stamp (Err ReadFault) text n i v o2 out err sfile found writes = unmade n _ v o2 out err writes
@@ -130,14 +130,14 @@ there_after : (n : List ℕ) (k : List ℕ) (x : Content) (a b : Option View) �
 there_after n k x None b other is there = subst (λ (o : Option View). IfSome o (λ (v : View). IsSome (v k))) (sym is) tt
 there_after n k x (Some v) b other is there = subst (λ (o : Option View). IfSome o (λ (u : View). IsSome (u k))) (sym is) (subst IsSome (sym (put_other v n k (Some x) other)) there)
 
-pub text_ready : (words : AdminWords) (stamp : Stamp) (r : Result Prepared StepFault) (text n : List ℕ) (a b : Told) → IsThere (sibling 122 n) a → WritesText r words stamp text n (seen a) (seen b) → IfOk r (λ p. IsReady n p b)
+pub text_ready : (words : AdminWords) (stamp : Stamp) (r : Result Prepared StepFault) (text n : List ℕ) (a b : Told) → IsThere (z_file n) a → WritesText r words stamp text n (seen a) (seen b) → IfOk r (λ p. IsReady n p b)
 text_ready words stamp (Ok p) text n a b there writes =
     let c : Content = new_content words stamp writes.1.0 (text_of text) in
     record {
-      z = there_after (sibling 120 n) (sibling 122 n) c (seen a) (seen b) refl writes.1.2 there;
-      s = subst (λ t. Needs (replaced t) (sibling 120 n) n b) (sym writes.0.s) (made_there (sibling 120 n) c a b writes.1.2);
-      p_file = subst (λ f. Needs f (sibling 113 n) (sibling 112 n) b) (sym writes.0.p_file) tt;
-      g = subst (λ f. Needs f (sibling 121 n) (drop 2 n) b) (sym writes.0.g) tt;
+      z = there_after (x_file n) (z_file n) c (seen a) (seen b) refl writes.1.2 there;
+      s = subst (λ t. Needs (replaced t) (x_file n) n b) (sym writes.0.s) (made_there (x_file n) c a b writes.1.2);
+      p_state = subst (λ f. Needs f (q_file n) (p_file n) b) (sym writes.0.p_state) tt;
+      g = subst (λ f. Needs f (y_file n) (drop 2 n) b) (sym writes.0.g) tt;
     }
 text_ready words stamp (Err fault) text n a b there writes = tt
 

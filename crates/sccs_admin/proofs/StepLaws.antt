@@ -5,7 +5,7 @@ use Rattle.std.proofs.lemmas.Bool.Decides.{leb_tells}
 use Rattle.std.proofs.lemmas.Bool.{le-leb}
 use Rattle.std.specs.Str.{bytes_eq}
 use Rattle.sccs_base.specs.Constants.{file_limit}
-use Rattle.sccs_base.specs.Name.{sibling}
+use Rattle.sccs_base.specs.Name.{z_file}
 use Rattle.sccs_disk.proofs.Puts.{put_other}
 use Rattle.sccs_files.specs.WholeFiles.{AnswersWhole}
 use Rattle.sccs_files.specs.declared.whole_files.WholeFault.{WholeFault}
@@ -110,13 +110,13 @@ heard_finds r n left (Some v) is hears bound = λ i heard. heard_answers r i (v 
 
 -- ---- a named file
 
-pub lock_unread : (n file : List ℕ) (told : Option View) → bytes_eq (sibling 122 n) file ≡ true → ReadsNamed (Err whole.Missing) file n told
+pub lock_unread : (n file : List ℕ) (told : Option View) → bytes_eq (z_file n) file ≡ true → ReadsNamed (Err whole.Missing) file n told
 lock_unread n file None is = tt
 lock_unread n file (Some v) is = ap (λ b. cond b None (v file)) is
 
-pub others_read : (r : Result (List ℕ) WholeFault) (n file : List ℕ) (told : Option View) → bytes_eq (sibling 122 n) file ≡ false → IfSome told (λ (v : View). AnswersWhole (v file) r) → ReadsNamed r file n told
+pub others_read : (r : Result (List ℕ) WholeFault) (n file : List ℕ) (told : Option View) → bytes_eq (z_file n) file ≡ false → IfSome told (λ (v : View). AnswersWhole (v file) r) → ReadsNamed r file n told
 others_read r n file None isnt reads = tt
-others_read r n file (Some v) isnt reads = subst (λ o. AnswersWhole o r) (sym (put_other v (sibling 122 n) file None isnt)) reads
+others_read r n file (Some v) isnt reads = subst (λ o. AnswersWhole o r) (sym (put_other v (z_file n) file None isnt)) reads
 
 named_short : (file i : List ℕ) (c : Content) → nat_le (length c.bytes) file_limit ≡ true → found_text (From file) i (Some c ∷ []) None ≡ Ok c.bytes
 unfolding found_text

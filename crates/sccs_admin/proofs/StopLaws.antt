@@ -1,7 +1,7 @@
 -- What a stop leaves of a new s-file: what its step asks of recovery.
 use Rattle.std.proofs.Common.{◌≡◌, ℕ, List, Option, None, Some, IfOk, IfSome, Result, Ok, Err, refl, sym, ap, subst, ◌∙◌}
 use Rattle.sccs_base.specs.Cut.{text_of}
-use Rattle.sccs_base.specs.Name.{IsSfile, sibling}
+use Rattle.sccs_base.specs.Name.{IsSfile, p_file, q_file, x_file}
 use Rattle.sccs_disk.specs.Files.{Content, View, put}
 use Rattle.sccs_disk.specs.Images.{IsFirm}
 use Rattle.sccs_disk.specs.Told.{Told, seen}
@@ -30,10 +30,10 @@ where_replaced Replace P holds = holds
 where_replaced Remove P holds = tt
 
 -- the x-file is firm, and no q-file takes a place
-pub new_firm : (n : List ℕ) (p : Prepared) (a b : Told) → IsNew p → Leaves (IsFirm (sibling 120 n)) a b → IsFirmPrepared n p a b
+pub new_firm : (n : List ℕ) (p : Prepared) (a b : Told) → IsNew p → Leaves (IsFirm (x_file n)) a b → IsFirmPrepared n p a b
 new_firm n p a b new firm = record {
-  x_file = where_replaced (plan_of p).s (Leaves (IsFirm (sibling 120 n)) a b) firm;
-  q_file = subst (λ f. OnReplace f (Leaves (IsFirm (sibling 113 n)) a b)) (sym new.p_file) tt;
+  x_state = where_replaced (plan_of p).s (Leaves (IsFirm (x_file n)) a b) firm;
+  q_state = subst (λ f. OnReplace f (Leaves (IsFirm (q_file n)) a b)) (sym new.p_state) tt;
 }
 
 pub firm_still : (r : Result Prepared StepFault) (n : List ℕ) (a a2 b : Told) → a2 ≡ a → IfOk r (λ p. IsFirmPrepared n p a2 b) → IfOk r (λ p. IsFirmPrepared n p a b)
@@ -49,21 +49,21 @@ none_kept s p none = subst (λ (o : Option Content). recovered_pfile s o ≡ o) 
 
 settled_at : (n : List ℕ) (p : Prepared) (u : View) → IsNew p → u n ≡ None → IsPaired n u → KeepsEntries n (plan_of p) u × ArePaired (files_after n (plan_of p) u).s (files_after n (plan_of p) u).p
 settled_at n p u new fresh paired =
-    let same : (files_after n (plan_of p) u).p ≡ u (sibling 112 n) = ap (λ (f : NewFile). chosen f (u (sibling 113 n)) (u (sibling 112 n))) new.p_file in
-    let none : u (sibling 112 n) ≡ None = paired fresh in (
+    let same : (files_after n (plan_of p) u).p ≡ u (p_file n) = ap (λ (f : NewFile). chosen f (u (q_file n)) (u (p_file n))) new.p_state in
+    let none : u (p_file n) ≡ None = paired fresh in (
       record {
         leaves =
-            plain_where (plan_of p).s (recovered_pfile (files_after n (plan_of p) u).s (u (sibling 112 n)) ≡ (files_after n (plan_of p) u).p) (none_kept (files_after n (plan_of p) u).s (u (sibling 112 n)) none ∙ sym same);
+            plain_where (plan_of p).s (recovered_pfile (files_after n (plan_of p) u).s (u (p_file n)) ≡ (files_after n (plan_of p) u).p) (none_kept (files_after n (plan_of p) u).s (u (p_file n)) none ∙ sym same);
         sound = none_kept (files_after n (plan_of p) u).s (files_after n (plan_of p) u).p (same ∙ none);
       },
       λ gone. same ∙ none,
     )
 
-settled_seen : (n : List ℕ) (p : Prepared) (x : Content) (a b : Option View) → IsSfile n → IsNew p → IfSome a (λ v. v n ≡ None) → Becomes (λ v. put v (sibling 120 n) (Some x)) a b → IfSome b (λ v. IsPaired n v → KeepsEntries n (plan_of p) v × ArePaired (files_after n (plan_of p) v).s (files_after n (plan_of p) v).p)
+settled_seen : (n : List ℕ) (p : Prepared) (x : Content) (a b : Option View) → IsSfile n → IsNew p → IfSome a (λ v. v n ≡ None) → Becomes (λ v. put v (x_file n) (Some x)) a b → IfSome b (λ v. IsPaired n v → KeepsEntries n (plan_of p) v × ArePaired (files_after n (plan_of p) v).s (files_after n (plan_of p) v).p)
 settled_seen n p x None b sfile new fresh is = subst (λ (o : Option View). IfSome o (λ v. IsPaired n v → KeepsEntries n (plan_of p) v × ArePaired (files_after n (plan_of p) v).s (files_after n (plan_of p) v).p)) (sym is) tt
 settled_seen n p x (Some v) b sfile new fresh is =
     subst (λ (o : Option View). IfSome o (λ v. IsPaired n v → KeepsEntries n (plan_of p) v × ArePaired (files_after n (plan_of p) v).s (files_after n (plan_of p) v).p)) (sym is)
-    (λ paired. settled_at n p (put v (sibling 120 n) (Some x)) new (put_other v (sibling 120 n) n (Some x) (from_s 120 n sfile refl) ∙ fresh) paired)
+    (λ paired. settled_at n p (put v (x_file n) (Some x)) new (put_other v (x_file n) n (Some x) (from_s 120 n sfile refl) ∙ fresh) paired)
 
 pub text_settles : (words : AdminWords) (stamp : Stamp) (r : Result Prepared StepFault) (text n : List ℕ) (o : Option View) (a b : Told) → IsSfile n → seen a ≡ o → IfSome o (λ v. v n ≡ None) → WritesText r words stamp text n (seen a) (seen b) → IfOk r (λ p. SettlesEntries n p b)
 text_settles words stamp (Ok p) text n o a b sfile same fresh writes =

@@ -1,14 +1,16 @@
 -- What admin does with a name that is to become an s-file: POSIX, Shell and Utilities, admin, -n and -i.
 use Rattle.std.specs.Prelude.{◌≡◌, ◌<◌, ℕ, true, List, [], ◌∷◌, length, map, nat_le, unwrap_or, Option, Some, IfSome, IsSome, is_none, None, Result, Ok, Err}
 use Rattle.std.specs.Str.{bytes_eq}
-use Rattle.sccs_base.specs.Name.{sibling}
+use Rattle.sccs_base.specs.Name.{x_file}
 use Rattle.sccs_base.specs.Constants.{file_limit}
 use Rattle.sccs_base.specs.Cut.{text_of}
 use Rattle.sccs_sid.specs.Moment.{IsMoment}
 use Rattle.sccs_sid.specs.Reading.{◌>>=◌}
+use Rattle.sccs_sid.specs.Refusal.{number_of}
 use Rattle.sccs_sid.specs.Sid.{IsComponent}
 use Rattle.sccs_sid.specs.declared.moments.Stamp.{Stamp}
 use Rattle.sccs_sid.specs.declared.refusals.Refusal.TheVariants.{Exists, TooLong}
+use Rattle.sccs_sid.specs.declared.refusals.Refusal.TheVariants as refusals
 use Rattle.sccs_sid.specs.declared.refusals.Refusal.{Refusal}
 use Rattle.sccs_sid.specs.declared.refusals.StepFault.{StepFault}
 use Rattle.sccs_sid.specs.declared.refusals.StepFault.TheVariants.{Refused, DiskFault}
@@ -29,7 +31,9 @@ use Rattle.sccs_admin.specs.Texts.{count_lines, named_by, or_bad_text, source, t
 
 -- the refusals of admin on a new file, by their numbers
 abbrev pub admin_checks : List ℕ
-admin_checks = 2 ∷ 3 ∷ 4 ∷ 5 ∷ 23 ∷ []
+admin_checks =
+    number_of refusals.Locked ∷ number_of refusals.Missing ∷ number_of refusals.Exists
+    ∷ number_of refusals.TooLong ∷ number_of (refusals.BadText 0) ∷ []
 
 -- the new s-file, and all else as it was
 abbrev pub makes : Content → Files → Outcome
@@ -87,7 +91,7 @@ Hears (Err fault) i = Unit {0}
 -- the s-file is replaced, all else kept, and nothing is written
 pub record IsNew (p : Prepared) : Type 0 where
   pub s : p.new_s ≡ true
-  pub p_file : p.new_p ≡ Keep
+  pub p_state : p.new_p ≡ Keep
   pub g : p.new_g ≡ Keep
   pub report : p.report ≡ []
   pub message : p.message ≡ []
@@ -95,6 +99,6 @@ pub record IsNew (p : Prepared) : Type 0 where
 -- the x-file is that of a new file; or a line of the text begins with SOH; or at most the x-file has changed
 abbrev pub WritesText : Result Prepared StepFault → AdminWords → Stamp → List ℕ → List ℕ → Option View → Option View → Type 0
 WritesText (Ok p) words stamp text n old new =
-    IsNew p × ((count : ℕ) × (count_lines (text_of text) ≡ Ok count) × Becomes (λ v. put v (sibling 120 n) (Some (new_content words stamp count (text_of text)))) old new)
+    IsNew p × ((count : ℕ) × (count_lines (text_of text) ≡ Ok count) × Becomes (λ v. put v (x_file n) (Some (new_content words stamp count (text_of text)))) old new)
 WritesText (Err (Refused refusal)) words stamp text n old new = (or_bad_text (count_lines (text_of text)) ≡ Err refusal) × (new ≡ old)
-WritesText (Err fault) words stamp text n old new = Moves (bytes_eq (sibling 120 n)) (λ v. v) old new
+WritesText (Err fault) words stamp text n old new = Moves (bytes_eq (x_file n)) (λ v. v) old new

@@ -1,6 +1,6 @@
 ghost use Rattle.std.specs.Prelude.{◌≡◌, ◌≢◌, ◌≤◌, ◌⊎◌, ℕ, List, Option, Some, [], length, Err, None, false, true, IfOk, IfSome, IsErrOf, OnOk};
 ghost use Rattle.sccs_base.specs.Constants.{file_limit};
-ghost use Rattle.sccs_base.specs.Name.{IsSfile, sibling};
+ghost use Rattle.sccs_base.specs.Name.{IsSfile, x_file, z_file};
 ghost use Rattle.std.specs.Str.{bytes_eq};
 ghost use Rattle.sccs_base.specs.Stream.{Rose};
 ghost use Rattle.sccs_disk.specs.Told.{seen};
@@ -74,7 +74,7 @@ fn check_fresh<D: Disk>(name: &Name, disk: &mut D) -> Result<(), StepFault>
 // whether a file is the z-file of a name
 fn is_lock(file: &Name, name: &Name) -> bool
     requires { IsSfile name.now }
-    ensures { result ≡ bytes_eq (sibling 122 name.now) file.now }
+    ensures { result ≡ bytes_eq (z_file name.now) file.now }
 {
     name.sibling(b'z').is(file)
 }
@@ -193,7 +193,7 @@ fn write_text<D: Disk>(
     requires valid { AreAdminValues words.now stamp.now }
     requires bound { length text.now ≤ file_limit }
     ensures writes { WritesText result words.now stamp.now text.now name.now (seen (D.told disk.old)) (seen (D.told disk.new)) }
-    ensures touches { TouchesOnly (bytes_eq (sibling 120 name.now)) (D.told disk.old) (D.told disk.new) }
+    ensures touches { TouchesOnly (bytes_eq (x_file name.now)) (D.told disk.old) (D.told disk.new) }
     ensures firm { IfOk result (λ p. IsFirmPrepared name.now p (D.told disk.old) (D.told disk.new)) }
     ensures checks { RefusesWithin admin_checks result }
     ensures later { D.faults disk.old ≤ D.faults disk.new }

@@ -1,7 +1,7 @@
 ghost use Rattle.std.specs.Prelude.{◌≡◌, [], ◌≤◌, ◌++◌, Some, IfOk, IsErrOf, OnErr, OnOk};
 ghost use Rattle.std.specs.Str.{bytes_eq};
 ghost use Rattle.sccs_base.specs.Cut.{text_of};
-ghost use Rattle.sccs_base.specs.Name.{IsSfile, sibling};
+ghost use Rattle.sccs_base.specs.Name.{IsSfile, x_file};
 ghost use Rattle.sccs_base.specs.Stream.{Rose};
 ghost use Rattle.sccs_disk.specs.Calls.{IsThere};
 ghost use Rattle.sccs_disk.specs.Files.{put};
@@ -104,10 +104,10 @@ fn append_x<D: Disk>(
 ) -> Result<Sum, DiskRefusal>
     requires sfile { IsSfile name.now }
     requires spelled { IsSpelled header.now }
-    requires there { IsThere (sibling 120 name.now) (D.told disk.old) }
-    ensures appends { OnOk result (Appends (sibling 120 name.now) (ended (sum_line 0) ++ header_bytes header.now ++ body_bytes text.now) (D.told disk.old) (D.told disk.new)) }
+    requires there { IsThere (x_file name.now) (D.told disk.old) }
+    ensures appends { OnOk result (Appends (x_file name.now) (ended (sum_line 0) ++ header_bytes header.now ++ body_bytes text.now) (D.told disk.old) (D.told disk.new)) }
     ensures sum { IfOk result (λ sums. IsSumOf sums (header_bytes header.now ++ body_bytes text.now)) }
-    ensures only { OnlyWrites (sibling 120 name.now) (D.told disk.old) (D.told disk.new) }
+    ensures only { OnlyWrites (x_file name.now) (D.told disk.old) (D.told disk.new) }
     ensures later { D.faults disk.old ≤ D.faults disk.new }
     ensures cause { IsErrOf result DiskRefusal.Failed → Rose (D.faults disk.old) (D.faults disk.new) }
 {
@@ -125,10 +125,10 @@ pub fn write_new<D: Disk>(
 ) -> Result<(), DiskRefusal>
     requires sfile { IsSfile name.now }
     requires spelled { IsSpelled header.now }
-    ensures view { OnOk result (Becomes (λ v. put v (sibling 120 name.now) (Some (sealed header.now (new_items (text_of text.now))))) (seen (D.told disk.old)) (seen (D.told disk.new))) }
-    ensures view_err { OnErr result (Moves (bytes_eq (sibling 120 name.now)) (λ v. v) (seen (D.told disk.old)) (seen (D.told disk.new))) }
-    ensures touches { TouchesOnly (bytes_eq (sibling 120 name.now)) (D.told disk.old) (D.told disk.new) }
-    ensures firm { OnOk result (Leaves (IsFirm (sibling 120 name.now)) (D.told disk.old) (D.told disk.new)) }
+    ensures view { OnOk result (Becomes (λ v. put v (x_file name.now) (Some (sealed header.now (new_items (text_of text.now))))) (seen (D.told disk.old)) (seen (D.told disk.new))) }
+    ensures view_err { OnErr result (Moves (bytes_eq (x_file name.now)) (λ v. v) (seen (D.told disk.old)) (seen (D.told disk.new))) }
+    ensures touches { TouchesOnly (bytes_eq (x_file name.now)) (D.told disk.old) (D.told disk.new) }
+    ensures firm { OnOk result (Leaves (IsFirm (x_file name.now)) (D.told disk.old) (D.told disk.new)) }
     ensures later { D.faults disk.old ≤ D.faults disk.new }
     ensures cause { IsErrOf result DiskRefusal.Failed → Rose (D.faults disk.old) (D.faults disk.new) }
 {

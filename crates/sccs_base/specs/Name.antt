@@ -43,6 +43,22 @@ is_sfile_name bytes = is_name bytes && (bytes_eq (take 2 bytes) (115 ∷ 46 ∷ 
 abbrev pub sibling : ℕ → List ℕ → List ℕ
 sibling letter name = letter ∷ drop 1 name
 
+-- the files beside an s-file: the pending edits, those that will be pending, the new s-file, the new g-file, and the lock
+abbrev pub p_file : List ℕ → List ℕ
+p_file name = 112 ∷ drop 1 name
+
+abbrev pub q_file : List ℕ → List ℕ
+q_file name = 113 ∷ drop 1 name
+
+abbrev pub x_file : List ℕ → List ℕ
+x_file name = 120 ∷ drop 1 name
+
+abbrev pub y_file : List ℕ → List ℕ
+y_file name = 121 ∷ drop 1 name
+
+abbrev pub z_file : List ℕ → List ℕ
+z_file name = 122 ∷ drop 1 name
+
 plain_decides : (b : ℕ) → Decides (is_plain b) (IsPlain b)
 plain_decides b =
     Decides-and _ _ (Decides-not _ (Decides-eqb b 47)) (Decides-and _ _ (Decides-not _ (Decides-eqb b lf)) (Decides-not _ (Decides-eqb b 0)))

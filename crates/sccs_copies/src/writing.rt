@@ -1,7 +1,7 @@
 ghost use Rattle.std.specs.Prelude.{◌≡◌, ◌≤◌, ◌++◌, ℕ, List, Bool, [], Some, Ok, IfOk, OnOk, OnErr, Err};
 ghost use Rattle.std.specs.Str.{bytes_eq};
 ghost use Rattle.sccs_base.specs.Constants.{file_limit};
-ghost use Rattle.sccs_base.specs.Name.{IsSfile, sibling};
+ghost use Rattle.sccs_base.specs.Name.{IsSfile, x_file};
 ghost use Rattle.sccs_base.specs.Stream.{Rose};
 ghost use Rattle.sccs_disk.specs.Calls.{IsThere};
 ghost use Rattle.sccs_disk.specs.Files.{put};
@@ -100,17 +100,17 @@ fn append_x<D: Disk>(
 ) -> Result<Sum, FileFault>
     requires sfile { IsSfile name.now }
     requires spelled { IsSpelled header.now }
-    requires there { IsThere (sibling 120 name.now) (D.told disk.old) }
+    requires there { IsThere (x_file name.now) (D.told disk.old) }
     requires own { name_read copying.items ≡ name.now }
     requires counted { copying.splicer.line ≤ copying.seen }
     requires within { copying.splicer.line ≤ lines }
     requires few { lines ≤ file_limit }
-    ensures appends { AppendsSome (sibling 120 name.now) (ended (sum_line 0)) (D.told disk.old) (D.told disk.new) (D.faults disk.old) (D.faults disk.new) result }
+    ensures appends { AppendsSome (x_file name.now) (ended (sum_line 0)) (D.told disk.old) (D.told disk.new) (D.faults disk.old) (D.faults disk.new) result }
     ensures whole { (live : List ℕ) → IsBegun live set.now copying
-        → IfOk result (λ after. OfSomeBase live set.now lines (λ told. AppendsFile header.now (owed copying.splicer told) (sibling 120 name.now) after (D.told disk.old) (D.told disk.new))) }
+        → IfOk result (λ after. OfSomeBase live set.now lines (λ told. AppendsFile header.now (owed copying.splicer told) (x_file name.now) after (D.told disk.old) (D.told disk.new))) }
     ensures told { (file : List ℕ) (told : List (Item × Bool)) → bytes_in (seen (D.told disk.old)) name.now ≡ Some file
         → CopyComes file set.now lines copying told
-        → AppendsWhole header.now (owed copying.splicer told) (sibling 120 name.now) (D.told disk.old) (D.told disk.new) result }
+        → AppendsWhole header.now (owed copying.splicer told) (x_file name.now) (D.told disk.old) (D.told disk.new) result }
 {
     append_all(
         alloc,
@@ -145,14 +145,14 @@ pub fn write_delta<D: Disk>(
     requires few { lines ≤ file_limit }
     ensures view { (file : List ℕ) (told : List (Item × Bool)) → bytes_in (seen (D.told disk.old)) name.now ≡ Some file
         → CopyComes file set.now lines copying told
-        → MakesFile header.now (owed copying.splicer told) (sibling 120 name.now) (seen (D.told disk.old)) (seen (D.told disk.new)) result }
+        → MakesFile header.now (owed copying.splicer told) (x_file name.now) (seen (D.told disk.old)) (seen (D.told disk.new)) result }
     ensures whole { (live : List ℕ) → IsBegun live set.now copying
-        → OnOk result (OfSomeBase live set.now lines (λ told. Becomes (λ v. put v (sibling 120 name.now) (Some (sealed header.now (owed copying.splicer told))))
+        → OnOk result (OfSomeBase live set.now lines (λ told. Becomes (λ v. put v (x_file name.now) (Some (sealed header.now (owed copying.splicer told))))
         (seen (D.told disk.old)) (seen (D.told disk.new)))) }
-    ensures moves { Moves (bytes_eq (sibling 120 name.now)) (λ v. v) (seen (D.told disk.old)) (seen (D.told disk.new)) }
-    ensures there { OnOk result (IsThere (sibling 120 name.now) (D.told disk.new)) }
-    ensures touches { TouchesOnly (bytes_eq (sibling 120 name.now)) (D.told disk.old) (D.told disk.new) }
-    ensures firm { OnOk result (Leaves (IsFirm (sibling 120 name.now)) (D.told disk.old) (D.told disk.new)) }
+    ensures moves { Moves (bytes_eq (x_file name.now)) (λ v. v) (seen (D.told disk.old)) (seen (D.told disk.new)) }
+    ensures there { OnOk result (IsThere (x_file name.now) (D.told disk.new)) }
+    ensures touches { TouchesOnly (bytes_eq (x_file name.now)) (D.told disk.old) (D.told disk.new) }
+    ensures firm { OnOk result (Leaves (IsFirm (x_file name.now)) (D.told disk.old) (D.told disk.new)) }
     ensures later { D.faults disk.old ≤ D.faults disk.new }
     ensures cause { result ≡ Err faults.Failed → Rose (D.faults disk.old) (D.faults disk.new) }
 {

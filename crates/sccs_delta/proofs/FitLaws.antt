@@ -9,6 +9,7 @@ use Rattle.sccs_grammar.specs.declared.faults.FileFault.{FileFault}
 use Rattle.sccs_grammar.specs.declared.faults.FileFault.TheVariants as files
 use Rattle.sccs_disk.specs.Files.{Content, View}
 use Rattle.sccs_history.specs.Body.{lines_of}
+use Rattle.sccs_history.specs.FlagText.{flag_i}
 use Rattle.sccs_history.specs.Select.{select}
 use Rattle.sccs_history.specs.declared.headers.Item.{Item}
 use Rattle.sccs_table.specs.ReaderState.{bytes_in}
@@ -43,7 +44,7 @@ use Rattle.sccs_delta.proofs.PlanResults.{plan_applied}
 -- ---- what is judged
 
 abbrev judged_by : List Flag → Result (Unit {0}) ScriptFault → Bool → Result Bool Refusal → Result Bool Refusal
-judged_by flags r keyword last = or_script_fault r >>= λ x. check (not (has_flag flags 105) || keyword) refusals.NoKeywords >>= λ y. last
+judged_by flags r keyword last = or_script_fault r >>= λ x. check (not (has_flag flags flag_i) || keyword) refusals.NoKeywords >>= λ y. last
 
 judged_is : (flags : List Flag) (orders : List Order) (found : Found) → judged flags orders found ≡ judged_by flags (checked orders found.lines) found.keyword (or_differs found.differs)
 unfolding judged

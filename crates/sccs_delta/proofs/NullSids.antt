@@ -5,6 +5,7 @@ use Rattle.std.specs.List.{AllByRecursion}
 use Rattle.sccs_sid.specs.Sid.{IsSid}
 use Rattle.sccs_sid.specs.declared.sids.Sid.{Sid}
 use Rattle.sccs_flags.specs.FlagValues.{has_flag}
+use Rattle.sccs_history.specs.FlagText.{flag_n}
 use Rattle.sccs_history.specs.Numbers.{front_if}
 use Rattle.sccs_history.specs.declared.headers.Header.{Header}
 use Rattle.sccs_history.specs.declared.headers.Record.{Record}
@@ -24,7 +25,7 @@ unused_sids records reserved release (suc count) low high =
 
 pub skipped_sids : (header : Header) (got made : Sid) (reserved : List Sid) → IsSid got → IsSid made → AllByRecursion IsSid (skipped header got made reserved)
 skipped_sids header got made reserved is_got is_made =
-    by (has_flag header.flags 110 && (got.branch == 0 && made.branch == 0))
+    by (has_flag header.flags flag_n && (got.branch == 0 && made.branch == 0))
     (unused_sids header.records reserved (suc got.release) (made.release - suc got.release) (omega arith) (omega (arith, is_got.release.1, is_made.release.1)))
   where
     by : (t : Bool) → AllByRecursion IsSid (unused_from header.records reserved (suc got.release) (made.release - suc got.release))

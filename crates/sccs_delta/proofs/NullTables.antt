@@ -8,6 +8,7 @@ use Rattle.sccs_sid.specs.declared.sids.Sid.{Sid}
 use Rattle.sccs_flags.specs.FlagValues.{has_flag}
 use Rattle.sccs_grammar.proofs.EntryLaws.{flip_sids}
 use Rattle.sccs_history.specs.Applied.{live_serials, newest, serials_of}
+use Rattle.sccs_history.specs.FlagText.{flag_n}
 use Rattle.sccs_history.specs.History.{IsHeader, IsSpelled, lives, same_sid}
 use Rattle.sccs_history.specs.Numbers.{front_if, has}
 use Rattle.sccs_history.specs.declared.headers.Header.{Header}
@@ -139,7 +140,7 @@ unused_free records reserved release (suc count) =
 
 pub skipped_free : (header : Header) (got made : Sid) (reserved : List Sid) → AreFree header.records (skipped header got made reserved)
 skipped_free header got made reserved =
-    by (has_flag header.flags 110 && (got.branch == 0 && made.branch == 0)) (unused_free header.records reserved (suc got.release) (made.release - suc got.release))
+    by (has_flag header.flags flag_n && (got.branch == 0 && made.branch == 0)) (unused_free header.records reserved (suc got.release) (made.release - suc got.release))
   where
     by : (t : Bool) → AreFree header.records (unused_from header.records reserved (suc got.release) (made.release - suc got.release))
         → AreFree header.records (if t then unused_from header.records reserved (suc got.release) (made.release - suc got.release) else [])
@@ -165,7 +166,7 @@ unused_apart records reserved release (suc count) t away = put (is_used records 
 skipped_apart : (header : Header) (got made : Sid) (reserved : List Sid) (t : Sid) → ((n : ℕ) → list_any (is_on_trunk n) reserved ≡ false → is_on_trunk n t ≡ false)
     → list_any (λ s. same_sid s t) (skipped header got made reserved) ≡ false
 skipped_apart header got made reserved t away =
-    by (has_flag header.flags 110 && (got.branch == 0 && made.branch == 0)) (unused_apart header.records reserved (suc got.release) (made.release - suc got.release) t away)
+    by (has_flag header.flags flag_n && (got.branch == 0 && made.branch == 0)) (unused_apart header.records reserved (suc got.release) (made.release - suc got.release) t away)
   where
     by : (b : Bool) → list_any (λ s. same_sid s t) (unused_from header.records reserved (suc got.release) (made.release - suc got.release)) ≡ false
         → list_any (λ s. same_sid s t) (if b then unused_from header.records reserved (suc got.release) (made.release - suc got.release) else []) ≡ false

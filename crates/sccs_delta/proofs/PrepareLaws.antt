@@ -4,7 +4,7 @@ use Rattle.std.specs.Prelude.{IfSome, is_some, nat_le, slice_get}
 use Rattle.std.specs.List.{list_any}
 use Rattle.std.proofs.lemmas.Bool.{and_parts}
 use Rattle.sccs_base.specs.Constants.{file_limit}
-use Rattle.sccs_base.specs.Name.{IsSfile, sibling}
+use Rattle.sccs_base.specs.Name.{IsSfile, p_file, q_file, x_file, y_file, z_file}
 use Rattle.sccs_base.proofs.Gifts.{gives_none, some_none}
 use Rattle.sccs_disk.specs.Files.{Content, View}
 use Rattle.sccs_disk.specs.Told.{Told, seen}
@@ -87,27 +87,27 @@ sizes_alone i f = refl
 sizes_seen : (n i : List ℕ) (v : View) → IsSfile n → sizes_checked i (files_at n v) ≡ sizes_checked i (look v n)
 sizes_seen n i v sfile =
     sizes_alone i (files_at n v)
-    ∙ (ap (λ (o : Option Content). sizes_by i o (unlocked n v (sibling 112 n)) (unlocked n v (drop 2 n))) (put_other v (sibling 122 n) n None (from_s 122 n sfile refl))
-    ∙ (ap (λ (o : Option Content). sizes_by i (v n) o (unlocked n v (drop 2 n))) (put_other v (sibling 122 n) (sibling 112 n) None refl)
-    ∙ (ap (λ (o : Option Content). sizes_by i (v n) (v (sibling 112 n)) o) (put_other v (sibling 122 n) (drop 2 n) None (from_g 122 n sfile))
+    ∙ (ap (λ (o : Option Content). sizes_by i o (unlocked n v (p_file n)) (unlocked n v (drop 2 n))) (put_other v (z_file n) n None (from_s 122 n sfile refl))
+    ∙ (ap (λ (o : Option Content). sizes_by i (v n) o (unlocked n v (drop 2 n))) (put_other v (z_file n) (p_file n) None refl)
+    ∙ (ap (λ (o : Option Content). sizes_by i (v n) (v (p_file n)) o) (put_other v (z_file n) (drop 2 n) None (from_g 122 n sfile))
     ∙ sym (sizes_alone i (look v n)))))
 
-pending_seen : (n : List ℕ) (v : View) → IsSfile n → pending_of (files_at n v).s (files_at n v).p ≡ pending_of (v n) (v (sibling 112 n))
+pending_seen : (n : List ℕ) (v : View) → IsSfile n → pending_of (files_at n v).s (files_at n v).p ≡ pending_of (v n) (v (p_file n))
 pending_seen n v sfile =
-    ap (λ (o : Option Content). pending_of o (unlocked n v (sibling 112 n))) (put_other v (sibling 122 n) n None (from_s 122 n sfile refl))
-    ∙ ap (λ (o : Option Content). pending_of (v n) o) (put_other v (sibling 122 n) (sibling 112 n) None refl)
+    ap (λ (o : Option Content). pending_of o (unlocked n v (p_file n))) (put_other v (z_file n) n None (from_s 122 n sfile refl))
+    ∙ ap (λ (o : Option Content). pending_of (v n) o) (put_other v (z_file n) (p_file n) None refl)
 
-outcome_seen : (words : DeltaWords) (stamp : Stamp) (n i : List ℕ) (v : View) → IsSfile n → delta_outcome words stamp n i [] (files_at n v) ≡ by_files words stamp n i (files_at n v) (sizes_checked i (look v n)) (pending_of (v n) (v (sibling 112 n)))
+outcome_seen : (words : DeltaWords) (stamp : Stamp) (n i : List ℕ) (v : View) → IsSfile n → delta_outcome words stamp n i [] (files_at n v) ≡ by_files words stamp n i (files_at n v) (sizes_checked i (look v n)) (pending_of (v n) (v (p_file n)))
 outcome_seen words stamp n i v sfile =
     outcome_is words stamp n i [] (files_at n v)
     ∙ (ap (λ (r : Result Bool Refusal). by_files words stamp n i (files_at n v) r (pending_of (files_at n v).s (files_at n v).p)) (sizes_seen n i v sfile)
     ∙ ap (λ (r : Result Found Refusal). by_files words stamp n i (files_at n v) (sizes_checked i (look v n)) r) (pending_seen n v sfile))
 
-read_as : (words : DeltaWords) (stamp : Stamp) (n i : List ℕ) (v : View) (found : Found) → IsSfile n → sizes_checked i (look v n) ≡ Ok true → pending_of (v n) (v (sibling 112 n)) ≡ Ok found
+read_as : (words : DeltaWords) (stamp : Stamp) (n i : List ℕ) (v : View) (found : Found) → IsSfile n → sizes_checked i (look v n) ≡ Ok true → pending_of (v n) (v (p_file n)) ≡ Ok found
     → delta_outcome words stamp n i [] (files_at n v) ≡ with_found words stamp n i (files_at n v) found
 read_as words stamp n i v found sfile sizes is =
     outcome_seen words stamp n i v sfile
-    ∙ (ap (λ (r : Result Bool Refusal). by_files words stamp n i (files_at n v) r (pending_of (v n) (v (sibling 112 n)))) sizes
+    ∙ (ap (λ (r : Result Bool Refusal). by_files words stamp n i (files_at n v) r (pending_of (v n) (v (p_file n)))) sizes
     ∙ ap (λ (r : Result Found Refusal). by_files words stamp n i (files_at n v) (Ok true) r) is)
 
 -- ---- an end before the files are written
@@ -153,7 +153,7 @@ abbrev pub Whole : List ℕ → List ℕ → View → Type 0
 Whole n i v = sizes_checked i (look v n) ≡ Ok true
 
 abbrev pub IsRead : List ℕ → View → Pending → Type 0
-IsRead n v x = AnswersPending (v n) (v (sibling 112 n)) (Ok x)
+IsRead n v x = AnswersPending (v n) (v (p_file n)) (Ok x)
 
 abbrev PreparesAt : Result Prepared StepFault → DeltaWords → Stamp → List ℕ → List ℕ → View → Option View → Option (List ℕ) → Option (List ℕ) → Type 0
 PreparesAt r words stamp n i v w out err = Prepares r n (delta_outcome words stamp n i [] (look (unlocked n v) n)) (world (Some v) out err) (world w out err)
@@ -161,15 +161,15 @@ PreparesAt r words stamp n i v w out err = Prepares r n (delta_outcome words sta
 pub sizes_end : (words : DeltaWords) (stamp : Stamp) (n i : List ℕ) (fault : StepFault) (o o2 : Option View) (out err : Option (List ℕ)) → IsSfile n → o2 ≡ o → IfSome o (λ (v : View). Passes (sizes_checked i (look v n)) (Err fault)) → IfSome o (λ (v : View). PreparesAt (Err fault) words stamp n i v o2 out err)
 sizes_end words stamp n i fault None o2 out err sfile same passes = tt
 sizes_end words stamp n i fault (Some v) o2 out err sfile same passes =
-    ended_as n _ _ fault v o2 out err same (outcome_seen words stamp n i v sfile) (ends (sizes_checked i (look v n)) (λ x. pending_of (v n) (v (sibling 112 n)) >>= with_found words stamp n i (files_at n v)) fault (passes_answers _ fault passes))
+    ended_as n _ _ fault v o2 out err same (outcome_seen words stamp n i v sfile) (ends (sizes_checked i (look v n)) (λ x. pending_of (v n) (v (p_file n)) >>= with_found words stamp n i (files_at n v)) fault (passes_answers _ fault passes))
 
-pub pending_end : (words : DeltaWords) (stamp : Stamp) (n i : List ℕ) (fault : StepFault) (o o2 : Option View) (out err : Option (List ℕ)) → IsSfile n → o2 ≡ o → IfSome o (λ (v : View). Passes (sizes_checked i (look v n)) (Ok tt)) → IfSome o (λ (v : View). AnswersPending (v n) (v (sibling 112 n)) (Err fault))
+pub pending_end : (words : DeltaWords) (stamp : Stamp) (n i : List ℕ) (fault : StepFault) (o o2 : Option View) (out err : Option (List ℕ)) → IsSfile n → o2 ≡ o → IfSome o (λ (v : View). Passes (sizes_checked i (look v n)) (Ok tt)) → IfSome o (λ (v : View). AnswersPending (v n) (v (p_file n)) (Err fault))
     → IfSome o (λ (v : View). PreparesAt (Err fault) words stamp n i v o2 out err)
 pending_end words stamp n i fault None o2 out err sfile same sizes answers = tt
 pending_end words stamp n i fault (Some v) o2 out err sfile same sizes answers =
     ended_as n _ _ fault v o2 out err same
-    (outcome_seen words stamp n i v sfile ∙ ap (λ (r : Result Bool Refusal). by_files words stamp n i (files_at n v) r (pending_of (v n) (v (sibling 112 n)))) sizes)
-    (ends (pending_of (v n) (v (sibling 112 n))) (with_found words stamp n i (files_at n v)) fault (pending_answers (v n) (v (sibling 112 n)) fault answers))
+    (outcome_seen words stamp n i v sfile ∙ ap (λ (r : Result Bool Refusal). by_files words stamp n i (files_at n v) r (pending_of (v n) (v (p_file n)))) sizes)
+    (ends (pending_of (v n) (v (p_file n))) (with_found words stamp n i (files_at n v)) fault (pending_answers (v n) (v (p_file n)) fault answers))
 
 -- what was found, with the header of the front
 abbrev found_of : (n : List ℕ) (v : View) (x : Pending) → IsRead n v x → Found
@@ -237,18 +237,18 @@ orders_as words stamp n f found e orders =
 abbrev files_of : Option Content → Option Content → Option Content → Option Files
 files_of s p g = Some (record { s = s; p = p; z = None; g = g })
 
-files_written : (n : List ℕ) (s p_file g : Option Content) (p : Prepared) (u : View) → p.new_s ≡ true → u (sibling 120 n) ≡ s → ((kept : Option Content) → chosen p.new_p (u (sibling 113 n)) kept ≡ p_file) → chosen p.new_g (u (sibling 121 n)) (u (drop 2 n)) ≡ g
-    → files_of s p_file g ≡ Some (files_after n (plan_of p) u)
-files_written n s p_file g p u new_s x entries g_is =
-    ap (λ (o : Option Content). files_of o p_file g) (sym x ∙ ap (λ b. chosen (replaced b) (u (sibling 120 n)) (u n)) (sym new_s))
-    ∙ (ap (λ (o : Option Content). files_of (chosen (replaced p.new_s) (u (sibling 120 n)) (u n)) o g) (sym (entries (u (sibling 112 n))))
-    ∙ ap (λ (o : Option Content). files_of (chosen (replaced p.new_s) (u (sibling 120 n)) (u n)) (chosen p.new_p (u (sibling 113 n)) (u (sibling 112 n))) o) (sym g_is))
+files_written : (n : List ℕ) (s p_state g : Option Content) (p : Prepared) (u : View) → p.new_s ≡ true → u (x_file n) ≡ s → ((kept : Option Content) → chosen p.new_p (u (q_file n)) kept ≡ p_state) → chosen p.new_g (u (y_file n)) (u (drop 2 n)) ≡ g
+    → files_of s p_state g ≡ Some (files_after n (plan_of p) u)
+files_written n s p_state g p u new_s x entries g_is =
+    ap (λ (o : Option Content). files_of o p_state g) (sym x ∙ ap (λ b. chosen (replaced b) (u (x_file n)) (u n)) (sym new_s))
+    ∙ (ap (λ (o : Option Content). files_of (chosen (replaced p.new_s) (u (x_file n)) (u n)) o g) (sym (entries (u (p_file n))))
+    ∙ ap (λ (o : Option Content). files_of (chosen (replaced p.new_s) (u (x_file n)) (u n)) (chosen p.new_p (u (q_file n)) (u (p_file n))) o) (sym g_is))
 
 g_kept : (n : List ℕ) (keep : Bool) (p : Prepared) (v u : View) → IsSfile n → ((k : List ℕ) → is_working n k ≡ false → u k ≡ v k) → ((y : Option Content) → chosen p.new_g y (v (drop 2 n)) ≡ kept_g keep (v (drop 2 n)))
-    → chosen p.new_g (u (sibling 121 n)) (u (drop 2 n)) ≡ kept_g keep (unlocked n v (drop 2 n))
+    → chosen p.new_g (u (y_file n)) (u (drop 2 n)) ≡ kept_g keep (unlocked n v (drop 2 n))
 g_kept n keep p v u sfile same g =
-    ap (λ (o : Option Content). chosen p.new_g (u (sibling 121 n)) o) (same (drop 2 n) (g_no_working n sfile))
-    ∙ (g (u (sibling 121 n)) ∙ ap (kept_g keep) (sym (put_other v (sibling 122 n) (drop 2 n) None (from_g 122 n sfile))))
+    ap (λ (o : Option Content). chosen p.new_g (u (y_file n)) o) (same (drop 2 n) (g_no_working n sfile))
+    ∙ (g (u (y_file n)) ∙ ap (kept_g keep) (sym (put_other v (z_file n) (drop 2 n) None (from_g 122 n sfile))))
   where
     g_no_working : (n : List ℕ) → IsSfile n → is_working n (drop 2 n) ≡ false
     g_no_working n sfile = rw (from_g 120 n sfile) (rw (from_g 113 n sfile) (from_g 121 n sfile))
@@ -257,11 +257,11 @@ g_kept n keep p v u sfile same g =
 abbrev pub MakesAt : Result (List Sid) Refusal → DeltaWords → Stamp → List ℕ → Header → List Item → List Edit → Entry → List Order → Told → Told → Result Prepared StepFault → Type 0
 MakesAt checks words stamp n header items edits e orders a b r = MakesDelta checks words stamp n header items edits e orders (list_any has_keyword (apply orders (base_lines items e.base))) a b r
 
-files_seen : (n : List ℕ) (s p_file : Option Content) (keep : Bool) (p : Prepared) (v : View) (w : Option View) → IsSfile n → p.new_s ≡ true → Moves (is_working n) (λ x. x) (Some v) w → IfSome w (λ (u : View). u (sibling 120 n) ≡ s)
-    → IfSome w (λ (u : View). (kept : Option Content) → chosen p.new_p (u (sibling 113 n)) kept ≡ p_file) → ((y : Option Content) → chosen p.new_g y (v (drop 2 n)) ≡ kept_g keep (v (drop 2 n)))
-    → IfSome w (λ (u : View). files_of s p_file (kept_g keep (unlocked n v (drop 2 n))) ≡ Some (files_after n (plan_of p) u))
-files_seen n s p_file keep p v None sfile new_s moved x entries g = absurd moved
-files_seen n s p_file keep p v (Some u) sfile new_s moved x entries g = files_written n s p_file (kept_g keep (unlocked n v (drop 2 n))) p u new_s x entries (g_kept n keep p v u sfile moved g)
+files_seen : (n : List ℕ) (s p_state : Option Content) (keep : Bool) (p : Prepared) (v : View) (w : Option View) → IsSfile n → p.new_s ≡ true → Moves (is_working n) (λ x. x) (Some v) w → IfSome w (λ (u : View). u (x_file n) ≡ s)
+    → IfSome w (λ (u : View). (kept : Option Content) → chosen p.new_p (u (q_file n)) kept ≡ p_state) → ((y : Option Content) → chosen p.new_g y (v (drop 2 n)) ≡ kept_g keep (v (drop 2 n)))
+    → IfSome w (λ (u : View). files_of s p_state (kept_g keep (unlocked n v (drop 2 n))) ≡ Some (files_after n (plan_of p) u))
+files_seen n s p_state keep p v None sfile new_s moved x entries g = absurd moved
+files_seen n s p_state keep p v (Some u) sfile new_s moved x entries g = files_written n s p_state (kept_g keep (unlocked n v (drop 2 n))) p u new_s x entries (g_kept n keep p v u sfile moved g)
 
 unwritten : (n text : List ℕ) (v : View) (w : Option View) (out err : Option (List ℕ)) → Moves (is_working n) (λ x. x) (Some v) w → IsUnmade n text (world (Some v) out err) (world w out err)
 unwritten n text v w out err moved = record { view = moved; out = some_none out text }
@@ -275,7 +275,7 @@ made words stamp n v found e orders checks (Ok p) a b o out err sfile here moves
   report = sym makes.2.report_is;
   message = sym makes.2.message_is;
   view = moves;
-  files = files_seen n _ _ words.keep p v (seen b) sfile makes.2.new_s moves makes.2.x_file makes.2.entries (subst (λ (w : Option View). IfSome w (λ (x : View). (y : Option Content) → chosen p.new_g y (x (drop 2 n)) ≡ kept_g words.keep (x (drop 2 n)))) here makes.2.g_file);
+  files = files_seen n _ _ words.keep p v (seen b) sfile makes.2.new_s moves makes.2.x_state makes.2.entries (subst (λ (w : Option View). IfSome w (λ (x : View). (y : Option Content) → chosen p.new_g y (x (drop 2 n)) ≡ kept_g words.keep (x (drop 2 n)))) here makes.2.g_state);
   out = gives_none out;
 }
 made words stamp n v found e orders checks (Err (Refused refusal)) a b o out err sfile here moves is makes = (is ∙ ap (λ (c : Result (List Sid) Refusal). c >>= with_nulls words stamp n (files_at n v) found e orders) makes, unwritten n [] v (seen b) out err moves)
@@ -321,14 +321,14 @@ written_at : (words : DeltaWords) (stamp : Stamp) (n i : List ℕ) (x : Pending)
 written_at words stamp n i x c orders r a b v out err sfile here sizes read placed zero finds is moves writes =
     let e = entry_at c finds.0 in
     let found = found_of n v x read in
-    let body = body_there (v n) (v (sibling 112 n)) x c.base.set (bytes_in (seen a) n) read placed (ap (λ (o : Option View). bytes_in o n) here) zero in
+    let body = body_there (v n) (v (p_file n)) x c.base.set (bytes_in (seen a) n) read placed (ap (λ (o : Option View). bytes_in o n) here) zero in
     let told = subst (λ (o : Option View). IfSome o (λ (w : View). is_short (w (drop 2 n)) ≡ true → MakesAt (script_checked words x.front.header read.0.items x.edits e orders (w (drop 2 n))) words stamp n x.front.header read.0.items x.edits e orders a b r)) here
     (writes body.0 read.0.items finds.0 body.1 body.2 finds.1) (g_short i (look v n) sizes) in
     made words stamp n v found e orders (script_checked words read.0.header read.0.items x.edits e orders (v (drop 2 n))) r a b _ out err sfile here moves
     (entry_as words stamp n i v x _ read sfile sizes finds.2
     ∙ (goes (or_script_fault (orders_of i)) (with_orders words stamp n (files_at n v) found e) orders is
     ∙ (orders_as words stamp n (files_at n v) found e orders
-    ∙ ap (λ (g : Option Content). script_checked words read.0.header read.0.items x.edits e orders g >>= with_nulls words stamp n (files_at n v) found e orders) (put_other v (sibling 122 n) (drop 2 n) None (from_g 122 n sfile)))))
+    ∙ ap (λ (g : Option Content). script_checked words read.0.header read.0.items x.edits e orders g >>= with_nulls words stamp n (files_at n v) found e orders) (put_other v (z_file n) (drop 2 n) None (from_g 122 n sfile)))))
     (subst (λ (h : Header). MakesAt (script_checked words h read.0.items x.edits e orders (v (drop 2 n))) words stamp n h read.0.items x.edits e orders a b r) (header_of n v x read) told)
 
 pub delta_written : (words : DeltaWords) (stamp : Stamp) (n i : List ℕ) (x : Pending) (c : Chosen) (orders : List Order) (r : Result Prepared StepFault) (o : Option View) (a b : Told) (out err : Option (List ℕ)) → IsSfile n → seen a ≡ o → IfSome o (λ (v : View). Passes (sizes_checked i (look v n)) (Ok tt)) → IfSome o (λ (v : View). IsRead n v x)

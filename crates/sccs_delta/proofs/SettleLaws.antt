@@ -2,7 +2,7 @@
 use Rattle.std.proofs.Common.{◌≡◌, ℕ, suc, ◌+◌, ◌-◌, ◌<◌, Bool, true, false, All, List, length, map, drop, Option, None, Some, Result, Ok, Err, refl, sym, ap, subst, ◌∙◌}
 use Rattle.std.specs.Prelude.{IfOk, IfSome, nat_lt, remove}
 use Rattle.std.proofs.lemmas.Bool.{leb-true}
-use Rattle.sccs_base.specs.Name.{IsSfile, sibling}
+use Rattle.sccs_base.specs.Name.{IsSfile, p_file, q_file, x_file}
 use Rattle.sccs_disk.specs.Files.{Content, View}
 use Rattle.sccs_disk.specs.Told.{Told, seen}
 use Rattle.sccs_sid.specs.declared.moments.Stamp.{Stamp}
@@ -102,8 +102,8 @@ script_passed words header items edits e orders g nulls is =
 -- ---- the entries
 
 -- the new p-file has its s-file
-paired_there : (n : List ℕ) (p : Prepared) (u : View) (c : Content) → p.new_s ≡ true → u (sibling 120 n) ≡ Some c → ArePaired (files_after n (plan_of p) u).s (files_after n (plan_of p) u).p
-paired_there n p u c new_s x = λ gone. absurd (none_some (sym (ap (λ b. chosen (replaced b) (u (sibling 120 n)) (u n)) new_s ∙ x) ∙ gone))
+paired_there : (n : List ℕ) (p : Prepared) (u : View) (c : Content) → p.new_s ≡ true → u (x_file n) ≡ Some c → ArePaired (files_after n (plan_of p) u).s (files_after n (plan_of p) u).p
+paired_there n p u c new_s x = λ gone. absurd (none_some (sym (ap (λ b. chosen (replaced b) (u (x_file n)) (u n)) new_s ∙ x) ∙ gone))
   where
     none_some : Some c ≡ None → ⊥
     none_some is = cc
@@ -118,23 +118,23 @@ settled : (words : DeltaWords) (stamp : Stamp) (n i : List ℕ) (x : Pending) (c
     → KeepsEntries n (plan_of p) u × ArePaired (files_after n (plan_of p) u).s (files_after n (plan_of p) u).p
 settled words stamp n i x c orders p a b v u sfile here there alike sizes read placed zero rules valid agree finds is writes =
     let e = entry_at c finds.0 in
-    let body = body_there (v n) (v (sibling 112 n)) x c.base.set (bytes_in (seen a) n) read placed (ap (λ (o : Option View). bytes_in o n) here) zero in
+    let body = body_there (v n) (v (p_file n)) x c.base.set (bytes_in (seen a) n) read placed (ap (λ (o : Option View). bytes_in o n) here) zero in
     let told = subst (λ (o : Option View). IfSome o (λ (w : View). MakesAt (script_checked words x.front.header read.0.items x.edits e orders (w (drop 2 n))) words stamp n x.front.header read.0.items x.edits e orders a b (Ok p))) here
     (at_view (seen a) v (λ w. is_short (w (drop 2 n)) ≡ true) (λ w. MakesAt (script_checked words x.front.header read.0.items x.edits e orders (w (drop 2 n))) words stamp n x.front.header read.0.items x.edits e orders a b (Ok p)) here (g_short i (look v n) sizes) (writes body.0 read.0.items finds.0 body.1 body.2 finds.1)) in
     let passes = script_passed words x.front.header read.0.items x.edits e orders (v (drop 2 n)) told.0 told.1 in
     let room = room_of x.front.header x.edits e.edit told.0 passes.1 in
     let counts = counts_of (plan orders (length (base_lines read.0.items e.base))) (length (base_lines read.0.items e.base)) in
     let d = delta_of words stamp e.edit e.base.include e.base.exclude counts in
-    let x_is = subst (λ (o : Option View). IfSome o (λ (w : View). w (sibling 120 n) ≡ Some (sealed (header_with x.front.header e.base.got (map (null_delta stamp) told.0) d) (places read.0.items e.base.set orders (suc (newest x.front.header.records + length told.0)))))) there told.2.x_file in (
+    let x_is = subst (λ (o : Option View). IfSome o (λ (w : View). w (x_file n) ≡ Some (sealed (header_with x.front.header e.base.got (map (null_delta stamp) told.0) d) (places read.0.items e.base.set orders (suc (newest x.front.header.records + length told.0)))))) there told.2.x_state in (
       delta_settles_read n x stamp c.number e.base.got e.edit d e.base.set orders p v u read rules valid agree finds.1 refl
           (rules_kept x.front.header x.edits (c.number - 1) c.number e.edit e.base words stamp counts rules agree finds.1 (has_base words stamp x.front.header x.edits e finds.2) room.0)
           (subst (λ (sids : List Sid). IsSpelled (header_with x.front.header e.base.got (map (null_delta stamp) sids) d)) room.1 told.2.spelled)
           (have_lines i orders (length (base_lines read.0.items e.base)) (orders_ok (orders_of i) orders is) passes.0)
-          (alike (sibling 112 n) refl)
-          (subst (λ (sids : List Sid). u (sibling 120 n) ≡ Some (sealed (header_with x.front.header e.base.got (map (null_delta stamp) sids) d) (places read.0.items e.base.set orders (suc (newest x.front.header.records + length sids))))) room.1 x_is
+          (alike (p_file n) refl)
+          (subst (λ (sids : List Sid). u (x_file n) ≡ Some (sealed (header_with x.front.header e.base.got (map (null_delta stamp) sids) d) (places read.0.items e.base.set orders (suc (newest x.front.header.records + length sids))))) room.1 x_is
           ∙ ap (λ k. Some (sealed (with_nulls x.front.header e.base.got (null_deltas stamp (skipped_by x.front.header x.edits e.edit)) d) (places read.0.items e.base.set orders (suc k)))) (sym (newest_nulls x.front.header e.base.got stamp (skipped_by x.front.header x.edits e.edit))))
           told.2.new_s
-          (subst (λ (o : Option View). IfSome o (λ (w : View). (kept : Option Content) → chosen p.new_p (w (sibling 113 n)) kept ≡ pfile_of (remove x.edits (c.number - 1)))) there told.2.entries),
+          (subst (λ (o : Option View). IfSome o (λ (w : View). (kept : Option Content) → chosen p.new_p (w (q_file n)) kept ≡ pfile_of (remove x.edits (c.number - 1)))) there told.2.entries),
       paired_there n p u _ told.2.new_s x_is,
     )
 

@@ -2,7 +2,7 @@
 use Rattle.std.proofs.Common.{◌≡◌, ℕ, Bool, true, false, ◌&&◌, List, length, Option, None, Some, Result, Ok, Err, refl, sym, ap, subst, ◌∙◌}
 use Rattle.std.specs.Prelude.{IfSome, drop, is_some, nat_le}
 use Rattle.sccs_base.specs.Constants.{file_limit}
-use Rattle.sccs_base.specs.Name.{sibling}
+use Rattle.sccs_base.specs.Name.{p_file}
 use Rattle.sccs_disk.specs.Files.{View}
 use Rattle.sccs_sid.specs.Reading.{◌>>=◌}
 use Rattle.sccs_sid.specs.declared.refusals.Refusal.{Refusal}
@@ -68,43 +68,43 @@ is_true false refusal is = absurd cc
 pub there_ends : (o : Option View) (n i : List ℕ) (fault : StepFault) → IfSome o (λ (v : View). Passes (s_is_there (v n)) (Err fault)) → IfSome o (λ (v : View). Passes (sizes_checked i (look v n)) (Err fault))
 there_ends None n i fault is = tt
 there_ends (Some v) n i fault is =
-    subst (λ (r : Result Bool Refusal). Passes r (Err fault)) (sym (sizes_are i (look v n))) (no_s (is_some (v n)) (is_short (v n)) (is_short (v (sibling 112 n))) (is_short (v (drop 2 n))) (nat_le (length i) file_limit) fault is)
+    subst (λ (r : Result Bool Refusal). Passes r (Err fault)) (sym (sizes_are i (look v n))) (no_s (is_some (v n)) (is_short (v n)) (is_short (v (p_file n))) (is_short (v (drop 2 n))) (nat_le (length i) file_limit) fault is)
 
 pub script_ends : (o : Option View) (n i : List ℕ) (fault : StepFault) → IfSome o (λ (v : View). Passes (s_is_there (v n)) (Ok tt)) → Passes (script_is_short i) (Err fault) → IfSome o (λ (v : View). Passes (sizes_checked i (look v n)) (Err fault))
 script_ends None n i fault there is = tt
 script_ends (Some v) n i fault there is =
     subst (λ (r : Result Bool Refusal). Passes r (Err fault)) (sym (sizes_are i (look v n)))
-    (subst (λ (a : Bool). Passes (sizes_by a (is_short (v n)) (is_short (v (sibling 112 n))) (is_short (v (drop 2 n))) (nat_le (length i) file_limit)) (Err fault)) (sym (is_true (is_some (v n)) Missing there))
-    (long_last (is_short (v n)) (is_short (v (sibling 112 n))) (is_short (v (drop 2 n))) (nat_le (length i) file_limit) fault is))
+    (subst (λ (a : Bool). Passes (sizes_by a (is_short (v n)) (is_short (v (p_file n))) (is_short (v (drop 2 n))) (nat_le (length i) file_limit)) (Err fault)) (sym (is_true (is_some (v n)) Missing there))
+    (long_last (is_short (v n)) (is_short (v (p_file n))) (is_short (v (drop 2 n))) (nat_le (length i) file_limit) fault is))
 
 pub s_ends : (o o2 : Option View) (n i : List ℕ) (fault : StepFault) → o2 ≡ o → IfSome o (λ (v : View). Passes (s_is_there (v n)) (Ok tt)) → IfSome o2 (λ (v : View). Passes (is_short_enough (v n)) (Err fault)) → IfSome o (λ (v : View). Passes (sizes_checked i (look v n)) (Err fault))
 s_ends None o2 n i fault same there is = tt
 s_ends (Some v) o2 n i fault same there is =
     subst (λ (r : Result Bool Refusal). Passes r (Err fault)) (sym (sizes_are i (look v n)))
-    (subst (λ (a : Bool). Passes (sizes_by a (is_short (v n)) (is_short (v (sibling 112 n))) (is_short (v (drop 2 n))) (nat_le (length i) file_limit)) (Err fault)) (sym (is_true (is_some (v n)) Missing there))
+    (subst (λ (a : Bool). Passes (sizes_by a (is_short (v n)) (is_short (v (p_file n))) (is_short (v (drop 2 n))) (nat_le (length i) file_limit)) (Err fault)) (sym (is_true (is_some (v n)) Missing there))
     (long_one (is_short (v n)) _ fault (subst (λ (w : Option View). IfSome w (λ (u : View). Passes (is_short_enough (u n)) (Err fault))) same is)))
 
-pub p_ends : (o o2 o3 : Option View) (n k i : List ℕ) (fault : StepFault) → o2 ≡ o → o3 ≡ o → k ≡ sibling 112 n → IfSome o (λ (v : View). Passes (s_is_there (v n)) (Ok tt)) → IfSome o2 (λ (v : View). Passes (is_short_enough (v n)) (Ok tt)) → IfSome o3 (λ (v : View). Passes (is_short_enough (v k)) (Err fault))
+pub p_ends : (o o2 o3 : Option View) (n k i : List ℕ) (fault : StepFault) → o2 ≡ o → o3 ≡ o → k ≡ p_file n → IfSome o (λ (v : View). Passes (s_is_there (v n)) (Ok tt)) → IfSome o2 (λ (v : View). Passes (is_short_enough (v n)) (Ok tt)) → IfSome o3 (λ (v : View). Passes (is_short_enough (v k)) (Err fault))
     → IfSome o (λ (v : View). Passes (sizes_checked i (look v n)) (Err fault))
 p_ends None o2 o3 n k i fault same same3 named there s is = tt
 p_ends (Some v) o2 o3 n k i fault same same3 named there s is =
     let short = subst (λ (w : Option View). IfSome w (λ (u : View). Passes (is_short_enough (u n)) (Ok tt))) same s in
-    let long = subst (λ (w : Option View). IfSome w (λ (u : View). Passes (is_short_enough (u (sibling 112 n))) (Err fault))) same3 (subst (λ (m : List ℕ). IfSome o3 (λ (u : View). Passes (is_short_enough (u m)) (Err fault))) named is) in
+    let long = subst (λ (w : Option View). IfSome w (λ (u : View). Passes (is_short_enough (u (p_file n))) (Err fault))) same3 (subst (λ (m : List ℕ). IfSome o3 (λ (u : View). Passes (is_short_enough (u m)) (Err fault))) named is) in
     subst (λ (r : Result Bool Refusal). Passes r (Err fault)) (sym (sizes_are i (look v n)))
-    (subst (λ (a : Bool). Passes (sizes_by a (is_short (v n)) (is_short (v (sibling 112 n))) (is_short (v (drop 2 n))) (nat_le (length i) file_limit)) (Err fault)) (sym (is_true (is_some (v n)) Missing there))
-    (subst (λ (b : Bool). Passes (sizes_by true b (is_short (v (sibling 112 n))) (is_short (v (drop 2 n))) (nat_le (length i) file_limit)) (Err fault)) (sym (is_true (is_short (v n)) TooLong short))
-    (long_one (is_short (v (sibling 112 n))) _ fault long)))
+    (subst (λ (a : Bool). Passes (sizes_by a (is_short (v n)) (is_short (v (p_file n))) (is_short (v (drop 2 n))) (nat_le (length i) file_limit)) (Err fault)) (sym (is_true (is_some (v n)) Missing there))
+    (subst (λ (b : Bool). Passes (sizes_by true b (is_short (v (p_file n))) (is_short (v (drop 2 n))) (nat_le (length i) file_limit)) (Err fault)) (sym (is_true (is_short (v n)) TooLong short))
+    (long_one (is_short (v (p_file n))) _ fault long)))
 
-pub all_sized : (o o2 o3 o4 : Option View) (n k g i : List ℕ) (r : Result (Unit {0}) StepFault) → o2 ≡ o → o3 ≡ o → o4 ≡ o → k ≡ sibling 112 n → g ≡ drop 2 n → Passes (script_is_short i) (Ok tt) → IfSome o (λ (v : View). Passes (s_is_there (v n)) (Ok tt)) → IfSome o2 (λ (v : View). Passes (is_short_enough (v n)) (Ok tt))
+pub all_sized : (o o2 o3 o4 : Option View) (n k g i : List ℕ) (r : Result (Unit {0}) StepFault) → o2 ≡ o → o3 ≡ o → o4 ≡ o → k ≡ p_file n → g ≡ drop 2 n → Passes (script_is_short i) (Ok tt) → IfSome o (λ (v : View). Passes (s_is_there (v n)) (Ok tt)) → IfSome o2 (λ (v : View). Passes (is_short_enough (v n)) (Ok tt))
     → IfSome o3 (λ (v : View). Passes (is_short_enough (v k)) (Ok tt)) → IfSome o4 (λ (v : View). Passes (is_short_enough (v g)) r) → IfSome o (λ (v : View). Passes (sizes_checked i (look v n)) r)
 all_sized None o2 o3 o4 n k g i r same same3 same4 named named4 few there s p is = tt
 all_sized (Some v) o2 o3 o4 n k g i r same same3 same4 named named4 few there s p is =
     let short = subst (λ (w : Option View). IfSome w (λ (u : View). Passes (is_short_enough (u n)) (Ok tt))) same s in
-    let short_p = subst (λ (w : Option View). IfSome w (λ (u : View). Passes (is_short_enough (u (sibling 112 n))) (Ok tt))) same3 (subst (λ (m : List ℕ). IfSome o3 (λ (u : View). Passes (is_short_enough (u m)) (Ok tt))) named p) in
+    let short_p = subst (λ (w : Option View). IfSome w (λ (u : View). Passes (is_short_enough (u (p_file n))) (Ok tt))) same3 (subst (λ (m : List ℕ). IfSome o3 (λ (u : View). Passes (is_short_enough (u m)) (Ok tt))) named p) in
     let last = subst (λ (w : Option View). IfSome w (λ (u : View). Passes (is_short_enough (u (drop 2 n))) r)) same4 (subst (λ (m : List ℕ). IfSome o4 (λ (u : View). Passes (is_short_enough (u m)) r)) named4 is) in
     subst (λ (x : Result Bool Refusal). Passes x r) (sym (sizes_are i (look v n)))
-    (subst (λ (a : Bool). Passes (sizes_by a (is_short (v n)) (is_short (v (sibling 112 n))) (is_short (v (drop 2 n))) (nat_le (length i) file_limit)) r) (sym (is_true (is_some (v n)) Missing there))
-    (subst (λ (b : Bool). Passes (sizes_by true b (is_short (v (sibling 112 n))) (is_short (v (drop 2 n))) (nat_le (length i) file_limit)) r) (sym (is_true (is_short (v n)) TooLong short))
-    (subst (λ (c : Bool). Passes (sizes_by true true c (is_short (v (drop 2 n))) (nat_le (length i) file_limit)) r) (sym (is_true (is_short (v (sibling 112 n))) TooLong short_p))
+    (subst (λ (a : Bool). Passes (sizes_by a (is_short (v n)) (is_short (v (p_file n))) (is_short (v (drop 2 n))) (nat_le (length i) file_limit)) r) (sym (is_true (is_some (v n)) Missing there))
+    (subst (λ (b : Bool). Passes (sizes_by true b (is_short (v (p_file n))) (is_short (v (drop 2 n))) (nat_le (length i) file_limit)) r) (sym (is_true (is_short (v n)) TooLong short))
+    (subst (λ (c : Bool). Passes (sizes_by true true c (is_short (v (drop 2 n))) (nat_le (length i) file_limit)) r) (sym (is_true (is_short (v (p_file n))) TooLong short_p))
     (subst (λ (e : Bool). Passes (sizes_by true true true (is_short (v (drop 2 n))) e) r) (sym (is_true (nat_le (length i) file_limit) TooLong few))
     (last_one (is_short (v (drop 2 n))) r last)))))

@@ -14,7 +14,7 @@ use Rattle.sccs_disk.specs.Calls.{IsThere}
 use Rattle.sccs_disk.specs.Images.{IsFirm}
 use Rattle.sccs_moments.proofs.FileNames.{from_g}
 use Rattle.sccs_moments.proofs.Joined.{newest_is}
-use Rattle.sccs_base.specs.Name.{IsSfile}
+use Rattle.sccs_base.specs.Name.{IsSfile, p_file, q_file, x_file, y_file, z_file}
 use Rattle.sccs_store.proofs.Working.{leaves_from}
 use Rattle.sccs_store.specs.Commits.{Becomes, Needs, chosen, replaced}
 use Rattle.sccs_store.specs.Stops.{OnReplace}
@@ -96,9 +96,9 @@ writes_as n h h2 items items2 edits keep report report2 message message2 p a b s
   new_s = writes.new_s;
   report_is = writes.report_is ∙ same_report;
   message_is = writes.message_is ∙ same_message;
-  x_file = subst (λ (i : List Item). IfSome (seen b) (λ (v : View). v (sibling 120 n) ≡ Some (sealed h2 i))) same_items (subst (λ (x : Header). IfSome (seen b) (λ (v : View). v (sibling 120 n) ≡ Some (sealed x items))) same_h writes.x_file);
+  x_state = subst (λ (i : List Item). IfSome (seen b) (λ (v : View). v (x_file n) ≡ Some (sealed h2 i))) same_items (subst (λ (x : Header). IfSome (seen b) (λ (v : View). v (x_file n) ≡ Some (sealed x items))) same_h writes.x_state);
   entries = writes.entries;
-  g_file = writes.g_file;
+  g_state = writes.g_state;
 }
 
 pub delta_made : (words : DeltaWords) (stamp : Stamp) (n : List ℕ) (header : Header) (items : List Item) (edits : List Edit) (e : Entry) (orders : List Order) (lines : ℕ) (keyword : Bool) (s : NewSfile) (report message : List ℕ) (r : Result Prepared StepFault) (a b : Told) → lines ≡ length (base_lines items e.base)
@@ -128,37 +128,37 @@ delta_made words stamp n header items edits e orders lines keyword s report mess
 -- ---- the files
 
 -- what the x-file holds stays while the q-file is written, and what is written is chosen
-g_before : (n : List ℕ) (keep : Bool) (p : Prepared) (o o2 : Option View) → bytes_eq (sibling 120 n) (drop 2 n) ≡ false → Moves (bytes_eq (sibling 120 n)) (λ v. v) o o2 → IfSome o2 (λ (v : View). (y : Option Content) → chosen p.new_g y (v (drop 2 n)) ≡ kept_g keep (v (drop 2 n)))
+g_before : (n : List ℕ) (keep : Bool) (p : Prepared) (o o2 : Option View) → bytes_eq (x_file n) (drop 2 n) ≡ false → Moves (bytes_eq (x_file n)) (λ v. v) o o2 → IfSome o2 (λ (v : View). (y : Option Content) → chosen p.new_g y (v (drop 2 n)) ≡ kept_g keep (v (drop 2 n)))
     → IfSome o (λ (v : View). (y : Option Content) → chosen p.new_g y (v (drop 2 n)) ≡ kept_g keep (v (drop 2 n)))
 g_before n keep p None o2 apart moves g = tt
 g_before n keep p (Some v) None apart moves g = absurd moves
 g_before n keep p (Some v) (Some w) apart moves g = subst (λ (c : Option Content). (y : Option Content) → chosen p.new_g y c ≡ kept_g keep c) (moves (drop 2 n) apart) g
 
-pub files_written : (n : List ℕ) (h : Header) (items : List Item) (edits : List Edit) (keep : Bool) (report message : List ℕ) (p : Prepared) (a b b2 c : Told) → IsSpelled h → b2 ≡ b → bytes_eq (sibling 113 n) (sibling 120 n) ≡ false → bytes_eq (sibling 120 n) (drop 2 n) ≡ false → p.new_s ≡ true → p.report ≡ report → p.message ≡ message → WritesX h items (sibling 120 n) (seen a) (seen b) (Ok tt)
-    → Moves (bytes_eq (sibling 113 n)) (λ v. v) (seen b2) (seen c) → PreparesEntries n edits p.new_p b2 c → Moves (bytes_eq (sibling 120 n)) (λ v. v) (seen a) (seen b) → IfSome (seen b) (λ (v : View). (y : Option Content) → chosen p.new_g y (v (drop 2 n)) ≡ kept_g keep (v (drop 2 n))) → WritesFiles n h items edits keep report message p a c
+pub files_written : (n : List ℕ) (h : Header) (items : List Item) (edits : List Edit) (keep : Bool) (report message : List ℕ) (p : Prepared) (a b b2 c : Told) → IsSpelled h → b2 ≡ b → bytes_eq (q_file n) (x_file n) ≡ false → bytes_eq (x_file n) (drop 2 n) ≡ false → p.new_s ≡ true → p.report ≡ report → p.message ≡ message → WritesX h items (x_file n) (seen a) (seen b) (Ok tt)
+    → Moves (bytes_eq (q_file n)) (λ v. v) (seen b2) (seen c) → PreparesEntries n edits p.new_p b2 c → Moves (bytes_eq (x_file n)) (λ v. v) (seen a) (seen b) → IfSome (seen b) (λ (v : View). (y : Option Content) → chosen p.new_g y (v (drop 2 n)) ≡ kept_g keep (v (drop 2 n))) → WritesFiles n h items edits keep report message p a c
 files_written n h items edits keep report message p a b b2 c spelling same apart apart_g new_s report_is message_is x moves entries before g = record {
   spelled = spelling;
   new_s = new_s;
   report_is = report_is;
   message_is = message_is;
-  x_file = by (seen a) (seen b) (seen c) x (subst (λ t. Moves (bytes_eq (sibling 113 n)) (λ v. v) (seen t) (seen c)) same moves);
+  x_state = by (seen a) (seen b) (seen c) x (subst (λ t. Moves (bytes_eq (q_file n)) (λ v. v) (seen t) (seen c)) same moves);
   entries = entries.chosen_is;
-  g_file = g_before n keep p (seen a) (seen b) apart_g before g;
+  g_state = g_before n keep p (seen a) (seen b) apart_g before g;
 }
   where
-    by : (o o2 o3 : Option View) → Becomes (λ v. put v (sibling 120 n) (Some (sealed h items))) o o2 → Moves (bytes_eq (sibling 113 n)) (λ v. v) o2 o3 → IfSome o3 (λ (v : View). v (sibling 120 n) ≡ Some (sealed h items))
+    by : (o o2 o3 : Option View) → Becomes (λ v. put v (x_file n) (Some (sealed h items))) o o2 → Moves (bytes_eq (q_file n)) (λ v. v) o2 o3 → IfSome o3 (λ (v : View). v (x_file n) ≡ Some (sealed h items))
     by None o2 o3 x moves = none o2 o3 x moves
       where
-        none : (o2 o3 : Option View) → o2 ≡ None → Moves (bytes_eq (sibling 113 n)) (λ v. v) o2 o3 → IfSome o3 (λ (v : View). v (sibling 120 n) ≡ Some (sealed h items))
+        none : (o2 o3 : Option View) → o2 ≡ None → Moves (bytes_eq (q_file n)) (λ v. v) o2 o3 → IfSome o3 (λ (v : View). v (x_file n) ≡ Some (sealed h items))
         none None None is moves = tt
         none None (Some u) is moves = cc
         none (Some w) o3 is moves = absurd cc
     by (Some v) None o3 x moves = absurd cc
     by (Some v) (Some w) None x moves = absurd moves
-    by (Some v) (Some w) (Some u) x moves = moves (sibling 120 n) apart ∙ (ap (λ (o : Option View). at o) x ∙ put_same v (sibling 120 n) (Some (sealed h items)))
+    by (Some v) (Some w) (Some u) x moves = moves (x_file n) apart ∙ (ap (λ (o : Option View). at o) x ∙ put_same v (x_file n) (Some (sealed h items)))
       where
         at : Option View → Option Content
-        at o = elim o as (λ _. Option Content) [ None ↦ None | Some f ↦ f (sibling 120 n) ]
+        at o = elim o as (λ _. Option Content) [ None ↦ None | Some f ↦ f (x_file n) ]
 
 -- ---- what is firm
 
@@ -170,14 +170,14 @@ firm_kept k mine before a b c first next other firm = λ m past is m3 past3 is3.
     subst (IsFirm k) (newest_is (newest_model begun.added m) m3 (earlier begun.added m past) past3 on.added c on.is is3)
     (firm_touched mine (newest_model begun.added m) (newest_model on.added (newest_model begun.added m)) k (each_newest (Touches mine (newest_model begun.added m)) on.added (newest_model begun.added m) on.each) other (firm m past is (newest_model begun.added m) (earlier begun.added m past) begun.is))
 
-pub files_firm : (n : List ℕ) (p : Prepared) (a b b2 c : Told) → b2 ≡ b → p.new_s ≡ true → bytes_eq (sibling 113 n) (sibling 120 n) ≡ false → TouchesOnly (bytes_eq (sibling 120 n)) a b → Leaves (IsFirm (sibling 120 n)) a b → TouchesOnly (bytes_eq (sibling 113 n)) b2 c
-    → OnReplace p.new_p (Leaves (IsFirm (sibling 113 n)) b2 c) → IsFirmPrepared n p a c
+pub files_firm : (n : List ℕ) (p : Prepared) (a b b2 c : Told) → b2 ≡ b → p.new_s ≡ true → bytes_eq (q_file n) (x_file n) ≡ false → TouchesOnly (bytes_eq (x_file n)) a b → Leaves (IsFirm (x_file n)) a b → TouchesOnly (bytes_eq (q_file n)) b2 c
+    → OnReplace p.new_p (Leaves (IsFirm (q_file n)) b2 c) → IsFirmPrepared n p a c
 files_firm n p a b b2 c same new_s apart touches_x x touches_q q = record {
-  x_file = subst (λ (t : Bool). OnReplace (replaced t) (Leaves (IsFirm (sibling 120 n)) a c)) (sym new_s) (firm_kept (sibling 120 n) (bytes_eq (sibling 113 n)) (bytes_eq (sibling 120 n)) a b c touches_x (subst (λ t. TouchesOnly (bytes_eq (sibling 113 n)) t c) same touches_q) apart x);
-  q_file = on_replace p.new_p (leaves_from (IsFirm (sibling 113 n)) (bytes_eq (sibling 120 n)) a b c touches_x) (subst (λ t. OnReplace p.new_p (Leaves (IsFirm (sibling 113 n)) t c)) same q);
+  x_state = subst (λ (t : Bool). OnReplace (replaced t) (Leaves (IsFirm (x_file n)) a c)) (sym new_s) (firm_kept (x_file n) (bytes_eq (q_file n)) (bytes_eq (x_file n)) a b c touches_x (subst (λ t. TouchesOnly (bytes_eq (q_file n)) t c) same touches_q) apart x);
+  q_state = on_replace p.new_p (leaves_from (IsFirm (q_file n)) (bytes_eq (x_file n)) a b c touches_x) (subst (λ t. OnReplace p.new_p (Leaves (IsFirm (q_file n)) t c)) same q);
 }
   where
-    on_replace : (new : NewFile) → (Leaves (IsFirm (sibling 113 n)) b c → Leaves (IsFirm (sibling 113 n)) a c) → OnReplace new (Leaves (IsFirm (sibling 113 n)) b c) → OnReplace new (Leaves (IsFirm (sibling 113 n)) a c)
+    on_replace : (new : NewFile) → (Leaves (IsFirm (q_file n)) b c → Leaves (IsFirm (q_file n)) a c) → OnReplace new (Leaves (IsFirm (q_file n)) b c) → OnReplace new (Leaves (IsFirm (q_file n)) a c)
     on_replace Keep on firm = tt
     on_replace Replace on firm = on firm
     on_replace Remove on firm = tt
@@ -189,19 +189,19 @@ still_there k mine None o2 other moves there = subst (λ (o : Option View). IfSo
 still_there k mine (Some v) None other moves there = absurd moves
 still_there k mine (Some v) (Some u) other moves there = subst IsSome (sym (moves k other)) there
 
-g_needed : (n : List ℕ) (new : NewFile) (mine : List ℕ → Bool) (b c : Told) → mine (drop 2 n) ≡ false → mine (sibling 121 n) ≡ false → Moves mine (λ v. v) (seen b) (seen c) → Needs new (sibling 121 n) (drop 2 n) b → Needs new (sibling 121 n) (drop 2 n) c
+g_needed : (n : List ℕ) (new : NewFile) (mine : List ℕ → Bool) (b c : Told) → mine (drop 2 n) ≡ false → mine (y_file n) ≡ false → Moves mine (λ v. v) (seen b) (seen c) → Needs new (y_file n) (drop 2 n) b → Needs new (y_file n) (drop 2 n) c
 g_needed n Keep mine b c g y moves needs = tt
-g_needed n Replace mine b c g y moves needs = still_there (sibling 121 n) mine (seen b) (seen c) y moves needs
+g_needed n Replace mine b c g y moves needs = still_there (y_file n) mine (seen b) (seen c) y moves needs
 g_needed n Remove mine b c g y moves needs = still_there (drop 2 n) mine (seen b) (seen c) g moves needs
 
-pub files_ready : (n : List ℕ) (edits : List Edit) (keep : Bool) (p : Prepared) (a b b2 c : Told) → IsSfile n → b2 ≡ b → p.new_s ≡ true → Moves (bytes_eq (sibling 120 n)) (λ v. v) (seen a) (seen b) → IsThere (sibling 120 n) b → Moves (bytes_eq (sibling 113 n)) (λ v. v) (seen b2) (seen c)
-    → PreparesEntries n edits p.new_p b2 c → LeavesG n keep p.new_g b → IsThere (sibling 122 n) a → IsThere (sibling 112 n) a → IsReady n p c
+pub files_ready : (n : List ℕ) (edits : List Edit) (keep : Bool) (p : Prepared) (a b b2 c : Told) → IsSfile n → b2 ≡ b → p.new_s ≡ true → Moves (bytes_eq (x_file n)) (λ v. v) (seen a) (seen b) → IsThere (x_file n) b → Moves (bytes_eq (q_file n)) (λ v. v) (seen b2) (seen c)
+    → PreparesEntries n edits p.new_p b2 c → LeavesG n keep p.new_g b → IsThere (z_file n) a → IsThere (p_file n) a → IsReady n p c
 files_ready n edits keep p a b b2 c sfile same new_s moves_x x moves_q2 entries g z p_there =
-    let moves_q = subst (λ t. Moves (bytes_eq (sibling 113 n)) (λ v. v) (seen t) (seen c)) same moves_q2 in record {
-      z = still_there (sibling 122 n) (bytes_eq (sibling 113 n)) (seen b) (seen c) refl moves_q (still_there (sibling 122 n) (bytes_eq (sibling 120 n)) (seen a) (seen b) refl moves_x z);
-      s = subst (λ (t : Bool). Needs (replaced t) (sibling 120 n) n c) (sym new_s) (still_there (sibling 120 n) (bytes_eq (sibling 113 n)) (seen b) (seen c) refl moves_q x);
-      p_file = entries.needs (λ none. subst (IsThere (sibling 112 n)) (sym same) (still_there (sibling 112 n) (bytes_eq (sibling 120 n)) (seen a) (seen b) refl moves_x p_there));
-      g = g_needed n p.new_g (bytes_eq (sibling 113 n)) b c (from_g 113 n sfile) refl moves_q g.needs;
+    let moves_q = subst (λ t. Moves (bytes_eq (q_file n)) (λ v. v) (seen t) (seen c)) same moves_q2 in record {
+      z = still_there (z_file n) (bytes_eq (q_file n)) (seen b) (seen c) refl moves_q (still_there (z_file n) (bytes_eq (x_file n)) (seen a) (seen b) refl moves_x z);
+      s = subst (λ (t : Bool). Needs (replaced t) (x_file n) n c) (sym new_s) (still_there (x_file n) (bytes_eq (q_file n)) (seen b) (seen c) refl moves_q x);
+      p_state = entries.needs (λ none. subst (IsThere (p_file n)) (sym same) (still_there (p_file n) (bytes_eq (x_file n)) (seen a) (seen b) refl moves_x p_there));
+      g = g_needed n p.new_g (bytes_eq (q_file n)) b c (from_g 113 n sfile) refl moves_q g.needs;
     }
 
 -- ---- the entries

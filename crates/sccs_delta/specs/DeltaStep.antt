@@ -10,6 +10,7 @@ use Rattle.sccs_sid.specs.declared.sids.Sid.{Sid}
 use Rattle.sccs_sid.specs.declared.refusals.Refusal.{Refusal}
 use Rattle.sccs_sid.specs.declared.refusals.Refusal.TheVariants as refusals
 use Rattle.sccs_disk.specs.Files.{Content}
+use Rattle.sccs_history.specs.FlagText.{flag_i, flag_n, flag_v}
 use Rattle.sccs_history.specs.Numbers.{front_if}
 use Rattle.sccs_history.specs.Applied.{applied, newest}
 use Rattle.sccs_history.specs.Body.{lines_of}
@@ -60,7 +61,15 @@ use Rattle.sccs_copies.specs.Examining.{first_difference, has_keyword}
 
 -- the numbers of its checks
 abbrev pub delta_checks : List ℕ
-delta_checks = 2 ∷ 3 ∷ 5 ∷ 6 ∷ 7 ∷ 8 ∷ 9 ∷ 10 ∷ 11 ∷ 12 ∷ 13 ∷ 14 ∷ 17 ∷ 18 ∷ 20 ∷ 22 ∷ 23 ∷ 24 ∷ 26 ∷ 28 ∷ 29 ∷ 30 ∷ 33 ∷ 34 ∷ []
+delta_checks =
+    number_of refusals.Locked ∷ number_of refusals.Missing ∷ number_of refusals.TooLong
+    ∷ number_of refusals.NotSccs ∷ number_of (refusals.BadSum 0 0) ∷ number_of (refusals.BadFormat 0)
+    ∷ number_of refusals.Encoded ∷ number_of (refusals.BadPfile 0) ∷ number_of (refusals.Disagree 0)
+    ∷ number_of refusals.NotAllowed ∷ number_of refusals.NoEdit ∷ number_of refusals.ManyEdits
+    ∷ number_of refusals.OutsideRelease ∷ number_of refusals.LockedRelease ∷ number_of (refusals.BadScript 0)
+    ∷ number_of (refusals.ScriptRange 0 0) ∷ number_of (refusals.BadText 0) ∷ number_of refusals.NoKeywords
+    ∷ number_of (refusals.GDiffers 0) ∷ number_of refusals.MrNeeded ∷ number_of refusals.MrNotAllowed
+    ∷ number_of (refusals.Unsupported 0) ∷ number_of refusals.Full ∷ number_of (refusals.Changed 0 0 0 0) ∷ []
 
 -- ---- null deltas (sccsfile(4), Flags, n)
 
@@ -84,7 +93,7 @@ unused_from records reserved release (suc count) = front_if (not (is_used record
 -- of the SID to be made, where both are on the trunk.
 abbrev pub skipped : Header → Sid → Sid → List Sid → List Sid
 skipped header got made reserved =
-    if has_flag header.flags 110 && (got.branch == 0 && made.branch == 0) then unused_from header.records reserved (suc got.release) (made.release - suc got.release) else []
+    if has_flag header.flags flag_n && (got.branch == 0 && made.branch == 0) then unused_from header.records reserved (suc got.release) (made.release - suc got.release) else []
 
 -- ---- the entry, and its base
 
@@ -157,16 +166,16 @@ has_text flags letter = unwrap_or (option_map (λ (f : Flag). not (is_empty f.te
 
 unfoldable pub mrs_checked : List Flag → List (List ℕ) → Result Bool Refusal
 mrs_checked flags mrs = do
-  given ← check (not (has_flag flags 118 && is_empty mrs)) refusals.MrNeeded
-  wanted ← check (has_flag flags 118 || is_empty mrs) refusals.MrNotAllowed
-  program ← check (not (has_text flags 118)) (refusals.Unsupported 118)
-  check (not (has_text flags 105)) (refusals.Unsupported 105)
+  given ← check (not (has_flag flags flag_v && is_empty mrs)) refusals.MrNeeded
+  wanted ← check (has_flag flags flag_v || is_empty mrs) refusals.MrNotAllowed
+  program ← check (not (has_text flags flag_v)) (refusals.Unsupported flag_v)
+  check (not (has_text flags flag_i)) (refusals.Unsupported flag_i)
 
 -- The script fits the base, its result has a keyword where one is wanted, and is the text of the g-file.
 unfoldable pub fitted : List Flag → List Order → List (List ℕ) → Option Content → Result Bool Refusal
 fitted flags orders base g = do
   fits ← or_script_fault (checked orders (length base))
-  keywords ← check (not (has_flag flags 105) || list_any has_keyword (apply orders base)) refusals.NoKeywords
+  keywords ← check (not (has_flag flags flag_i) || list_any has_keyword (apply orders base)) refusals.NoKeywords
   compared g (apply orders base)
 
 -- the SIDs of the null deltas, where numbers are left for them and the new one

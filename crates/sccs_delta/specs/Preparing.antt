@@ -8,6 +8,7 @@ use Rattle.sccs_sid.specs.declared.refusals.Refusal.{Refusal}
 use Rattle.sccs_sid.specs.declared.refusals.Refusal.TheVariants as refusals
 use Rattle.sccs_sid.specs.declared.refusals.StepFault.{StepFault}
 use Rattle.sccs_sid.specs.declared.refusals.StepFault.TheVariants.{Refused, Memory, ReadFault, WriteFault, DiskFault}
+use Rattle.sccs_history.specs.FlagText.{flag_i}
 use Rattle.sccs_history.specs.declared.headers.Flag.{Flag}
 use Rattle.sccs_history.specs.declared.headers.Header.{Header}
 use Rattle.sccs_flags.specs.FlagValues.{has_flag}
@@ -55,7 +56,7 @@ FindsEntry words stamp header edits (Err WriteFault) = ⊥
 unfoldable pub judged : List Flag → List Order → Found → Result Bool Refusal
 judged flags orders found = do
   fits ← or_script_fault (checked orders found.lines)
-  keywords ← check (not (has_flag flags 105) || found.keyword) refusals.NoKeywords
+  keywords ← check (not (has_flag flags flag_i) || found.keyword) refusals.NoKeywords
   or_differs found.differs
 
 -- What a reading found of a base, and, where a script fits it, of the result.

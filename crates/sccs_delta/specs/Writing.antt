@@ -1,6 +1,6 @@
 -- What is written of a delta.
 use Rattle.std.specs.Prelude.{◌≡◌, ◌≢◌, ◌≤◌, ℕ, suc, ◌+◌, ◌-◌, Bool, true, List, length, remove, map, drop, Option, Some, IfSome, Result, Ok, Err}
-use Rattle.sccs_base.specs.Name.{sibling}
+use Rattle.sccs_base.specs.Name.{q_file, x_file}
 use Rattle.sccs_disk.specs.Files.{Content, View, put}
 use Rattle.sccs_disk.specs.Told.{Told, seen}
 use Rattle.sccs_sid.specs.declared.moments.Stamp.{Stamp}
@@ -63,9 +63,9 @@ pub record WritesFiles (n : List ℕ) (h : Header) (items : List Item) (edits : 
   pub new_s : p.new_s ≡ true
   pub report_is : p.report ≡ report
   pub message_is : p.message ≡ message
-  pub x_file : IfSome (seen new) (λ (v : View). v (sibling 120 n) ≡ Some (sealed h items))
-  pub entries : IfSome (seen new) (λ (v : View). (kept : Option Content) → chosen p.new_p (v (sibling 113 n)) kept ≡ pfile_of edits)
-  pub g_file : IfSome (seen old) (λ (v : View). (y : Option Content) → chosen p.new_g y (v (drop 2 n)) ≡ kept_g keep (v (drop 2 n)))
+  pub x_state : IfSome (seen new) (λ (v : View). v (x_file n) ≡ Some (sealed h items))
+  pub entries : IfSome (seen new) (λ (v : View). (kept : Option Content) → chosen p.new_p (v (q_file n)) kept ≡ pfile_of edits)
+  pub g_state : IfSome (seen old) (λ (v : View). (y : Option Content) → chosen p.new_g y (v (drop 2 n)) ≡ kept_g keep (v (drop 2 n)))
 
 -- of a told file no refusal comes
 abbrev pub WritesDelta : List ℕ → Header → List Item → List Edit → Bool → List ℕ → List ℕ → Told → Told → Result Prepared StepFault → Type 0

@@ -2,7 +2,7 @@ ghost use Rattle.std.specs.Prelude.{◌≡◌, ◌<◌, ◌≤◌, ◌-◌, ◌^
 ghost use Rattle.std.specs.List.{AllByRecursion, list_any};
 ghost use Rattle.std.specs.Str.{bytes_eq};
 ghost use Rattle.sccs_base.specs.Constants.{file_limit};
-ghost use Rattle.sccs_base.specs.Name.{IsSfile, sibling};
+ghost use Rattle.sccs_base.specs.Name.{IsSfile, p_file, q_file, x_file, z_file};
 ghost use Rattle.sccs_disk.specs.Calls.{IsThere};
 ghost use Rattle.sccs_disk.specs.Files.{View};
 ghost use Rattle.sccs_disk.specs.Images.{IsFirm};
@@ -90,11 +90,11 @@ fn write_x<D: Disk>(
     requires few { file.lines ≤ file_limit }
     ensures told { (bytes : List ℕ) (told : List (Item × Bool)) → bytes_in (seen (D.told disk.old)) name.now ≡ Some bytes
         → CopyComes bytes file.set file.lines file.copying told
-        → WritesX file.header (owed file.copying.splicer told) (sibling 120 name.now) (seen (D.told disk.old)) (seen (D.told disk.new)) result }
-    ensures moves { Moves (bytes_eq (sibling 120 name.now)) (λ v. v) (seen (D.told disk.old)) (seen (D.told disk.new)) }
-    ensures there { OnOk result (IsThere (sibling 120 name.now) (D.told disk.new)) }
-    ensures touches { TouchesOnly (bytes_eq (sibling 120 name.now)) (D.told disk.old) (D.told disk.new) }
-    ensures firm { OnOk result (Leaves (IsFirm (sibling 120 name.now)) (D.told disk.old) (D.told disk.new)) }
+        → WritesX file.header (owed file.copying.splicer told) (x_file name.now) (seen (D.told disk.old)) (seen (D.told disk.new)) result }
+    ensures moves { Moves (bytes_eq (x_file name.now)) (λ v. v) (seen (D.told disk.old)) (seen (D.told disk.new)) }
+    ensures there { OnOk result (IsThere (x_file name.now) (D.told disk.new)) }
+    ensures touches { TouchesOnly (bytes_eq (x_file name.now)) (D.told disk.old) (D.told disk.new) }
+    ensures firm { OnOk result (Leaves (IsFirm (x_file name.now)) (D.told disk.old) (D.told disk.new)) }
     ensures checks { RefusesWithin delta_checks result }
     ensures causes { ChangesDisk D.faults disk.old disk.new result }
 {
@@ -117,9 +117,9 @@ fn drop_entry<D: Disk>(
     requires some { 0 < number }
     requires there { number ≤ length edits }
     ensures entries { IfOk result (λ new. PreparesEntries name.now (remove edits (number - 1)) new (D.told disk.old) (D.told disk.new)) }
-    ensures moves { Moves (bytes_eq (sibling 113 name.now)) (λ v. v) (seen (D.told disk.old)) (seen (D.told disk.new)) }
-    ensures touches { TouchesOnly (bytes_eq (sibling 113 name.now)) (D.told disk.old) (D.told disk.new) }
-    ensures firm { IfOk result (λ new. OnReplace new (Leaves (IsFirm (sibling 113 name.now)) (D.told disk.old) (D.told disk.new))) }
+    ensures moves { Moves (bytes_eq (q_file name.now)) (λ v. v) (seen (D.told disk.old)) (seen (D.told disk.new)) }
+    ensures touches { TouchesOnly (bytes_eq (q_file name.now)) (D.told disk.old) (D.told disk.new) }
+    ensures firm { IfOk result (λ new. OnReplace new (Leaves (IsFirm (q_file name.now)) (D.told disk.old) (D.told disk.new))) }
     ensures checks { RefusesWithin [] result }
     ensures causes { ChangesDisk D.faults disk.old disk.new result }
 {
@@ -155,7 +155,7 @@ fn write_files<D: Disk>(
         → CopyComes bytes file.set file.lines file.copying told
         → WritesDelta name.now file.header (owed file.copying.splicer told) (remove edits (number - 1)) keep said.report said.message (D.told disk.old) (D.told disk.new) result }
     ensures moves { Moves (is_working name.now) (λ v. v) (seen (D.told disk.old)) (seen (D.told disk.new)) }
-    ensures needs { IsThere (sibling 122 name.now) (D.told disk.old) → IsThere (sibling 112 name.now) (D.told disk.old)
+    ensures needs { IsThere (z_file name.now) (D.told disk.old) → IsThere (p_file name.now) (D.told disk.old)
         → IfOk result (λ p. IsReady name.now p (D.told disk.new)) }
     ensures touches { TouchesOnly (is_working name.now) (D.told disk.old) (D.told disk.new) }
     ensures firm { IfOk result (λ p. IsFirmPrepared name.now p (D.told disk.old) (D.told disk.new)) }
@@ -209,7 +209,7 @@ fn make<D: Disk>(
         → MakesDelta (nulls_of pending.front.header pending.edits e) words.now stamp.now name.now pending.front.header items pending.edits (record { number = chosen.number; edit = e; base = chosen.base })
         script.now found.now.keyword (D.told disk.old) (D.told disk.new) result }
     ensures moves { Moves (is_working name.now) (λ v. v) (seen (D.told disk.old)) (seen (D.told disk.new)) }
-    ensures needs { IsThere (sibling 122 name.now) (D.told disk.old) → IsThere (sibling 112 name.now) (D.told disk.old)
+    ensures needs { IsThere (z_file name.now) (D.told disk.old) → IsThere (p_file name.now) (D.told disk.old)
         → IfOk result (λ p. IsReady name.now p (D.told disk.new)) }
     ensures touches { TouchesOnly (is_working name.now) (D.told disk.old) (D.told disk.new) }
     ensures firm { IfOk result (λ p. IsFirmPrepared name.now p (D.told disk.old) (D.told disk.new)) }
@@ -262,7 +262,7 @@ fn prepare_script<D: Disk>(
         words.now stamp.now name.now pending.front.header items pending.edits (record { number = chosen.number; edit = e; base = chosen.base })
         script.now (list_any has_keyword (apply script.now (base_lines items chosen.base))) (D.told disk.old) (D.told disk.new) result) }
     ensures moves { Moves (is_working name.now) (λ v. v) (seen (D.told disk.old)) (seen (D.told disk.new)) }
-    ensures needs { IsThere (sibling 122 name.now) (D.told disk.old) → IsThere (sibling 112 name.now) (D.told disk.old)
+    ensures needs { IsThere (z_file name.now) (D.told disk.old) → IsThere (p_file name.now) (D.told disk.old)
         → IfOk result (λ p. IsReady name.now p (D.told disk.new)) }
     ensures touches { TouchesOnly (is_working name.now) (D.told disk.old) (D.told disk.new) }
     ensures firm { IfOk result (λ p. IsFirmPrepared name.now p (D.told disk.old) (D.told disk.new)) }
@@ -298,7 +298,7 @@ pub fn prepare_delta<D: Disk>(
     disk: &mut D,
 ) -> Result<Prepared, StepFault>
     requires sfile { IsSfile name.now }
-    requires locked { IsThere (sibling 122 name.now) (D.told disk.old) }
+    requires locked { IsThere (z_file name.now) (D.told disk.old) }
     requires moment { IsMoment stamp.now.moment }
     ensures prepares { (out err : Option (List ℕ)) → IfSome (seen (D.told disk.old)) (λ (v : View).
         Prepares result name.now (delta_outcome words.now stamp.now name.now script.now [] (look (unlocked name.now v) name.now))

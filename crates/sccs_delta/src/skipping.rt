@@ -1,6 +1,7 @@
 ghost use Rattle.std.specs.Prelude.{◌≡◌, ◌++◌, ◌-◌, ◌&&◌, ◌==◌, ◌<◌, not, [], IfOk, OnOk};
 ghost use Rattle.std.specs.List.{list_any};
 ghost use Rattle.sccs_flags.specs.FlagValues.{has_flag};
+ghost use Rattle.sccs_history.specs.FlagText.{flag_n};
 ghost use Rattle.sccs_history.specs.Numbers.{front_if};
 ghost use Rattle.sccs_delta.specs.DeltaStep.{first_of, is_on_trunk, is_used, skipped, unused_from};
 
@@ -86,7 +87,7 @@ fn add_unused(
 
 // whether a delta may pass over releases
 fn passes_over(header: &Header, got: Sid, made: Sid) -> bool
-    ensures { result ≡ (has_flag header.now.flags 110 && (got.branch == 0 && made.branch == 0)) }
+    ensures { result ≡ (has_flag header.now.flags flag_n && (got.branch == 0 && made.branch == 0)) }
 {
     has_flag(header, b'n') && (got.branch == 0 && made.branch == 0)
 }

@@ -8,6 +8,7 @@ use Rattle.sccs_sid.specs.Refusal.{number_of}
 use Rattle.sccs_sid.specs.Sid.{sid_text}
 use Rattle.sccs_sid.specs.declared.refusals.Refusal.{Refusal}
 use Rattle.sccs_sid.specs.declared.refusals.Refusal.TheVariants.{Missing}
+use Rattle.sccs_sid.specs.declared.refusals.Refusal.TheVariants as refusals
 use Rattle.sccs_sid.specs.declared.refusals.StepFault.{StepFault}
 use Rattle.sccs_sid.specs.declared.refusals.StepFault.TheVariants.{Refused, Memory, ReadFault, WriteFault, DiskFault}
 use Rattle.sccs_base.specs.Stream.{GivesOk, GivesSome}
@@ -21,7 +22,8 @@ use Rattle.sccs_pending.specs.Reports.{heading_text}
 
 -- the numbers of its checks
 abbrev pub sact_checks : List ℕ
-sact_checks = 3 ∷ 5 ∷ 10 ∷ []
+sact_checks =
+    number_of refusals.Missing ∷ number_of refusals.TooLong ∷ number_of (refusals.BadPfile 0) ∷ []
 
 -- an entry: the SIDs that were got and are to be made, login, date and time, with one blank between two
 abbrev pub edit_line : Edit → List ℕ

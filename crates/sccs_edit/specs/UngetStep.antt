@@ -1,4 +1,6 @@
 -- What unget does: POSIX, Shell and Utilities, unget.
+use Rattle.sccs_sid.specs.Refusal.{number_of}
+use Rattle.sccs_sid.specs.declared.refusals.Refusal.TheVariants as refusals
 use Rattle.std.specs.Prelude.{ℕ, ◌-◌, Bool, false, List, [], ◌∷◌, ◌++◌, remove, Result, Ok, if◌then◌else◌}
 use Rattle.sccs_sid.specs.Reading.{◌>>=◌}
 use Rattle.sccs_sid.specs.declared.moments.Stamp.{Stamp}
@@ -15,7 +17,11 @@ use Rattle.sccs_pending.specs.Reports.{heading_text}
 
 -- the numbers of its checks
 abbrev pub unget_checks : List ℕ
-unget_checks = 2 ∷ 3 ∷ 5 ∷ 6 ∷ 7 ∷ 8 ∷ 9 ∷ 10 ∷ 11 ∷ 13 ∷ 14 ∷ []
+unget_checks =
+    number_of refusals.Locked ∷ number_of refusals.Missing ∷ number_of refusals.TooLong
+    ∷ number_of refusals.NotSccs ∷ number_of (refusals.BadSum 0 0) ∷ number_of (refusals.BadFormat 0)
+    ∷ number_of refusals.Encoded ∷ number_of (refusals.BadPfile 0) ∷ number_of (refusals.Disagree 0)
+    ∷ number_of refusals.NoEdit ∷ number_of refusals.ManyEdits ∷ []
 
 -- the SID that was to be made, unless nothing is to be said
 abbrev pub unget_report : UngetWords → Bool → List ℕ → List Edit → ℕ → List ℕ

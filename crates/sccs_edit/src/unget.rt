@@ -1,5 +1,5 @@
 ghost use Rattle.std.specs.Prelude.{◌≡◌, ◌<◌, ◌≤◌, ◌≢◌, All, Err, IfOk, length};
-ghost use Rattle.sccs_base.specs.Name.{IsSfile, sibling};
+ghost use Rattle.sccs_base.specs.Name.{IsSfile, q_file};
 ghost use Rattle.sccs_base.specs.Stream.{Rose};
 ghost use Rattle.sccs_disk.specs.Calls.{IsThere};
 ghost use Rattle.sccs_disk.specs.Told.{seen};
@@ -70,7 +70,7 @@ fn drop_entry<D: Disk>(
     requires some { 0 < number }
     requires there { number ≤ length edits }
     ensures drops { PreparesDecided result name.now (without_entry unget.now.words.now unget.now.heading name.now edits number) (D.told disk.old) (D.told disk.new) }
-    ensures touches { TouchesOnly (bytes_eq (sibling 113 name.now)) (D.told disk.old) (D.told disk.new) }
+    ensures touches { TouchesOnly (bytes_eq (q_file name.now)) (D.told disk.old) (D.told disk.new) }
     ensures firm { IfOk result (λ p. IsFirmPrepared name.now p (D.told disk.old) (D.told disk.new)) }
     ensures checks { RefusesWithin unget_checks result }
     ensures later { D.faults disk.old ≤ D.faults disk.new }

@@ -3,6 +3,7 @@ use Rattle.std.specs.Prelude.{ℕ, ◌==◌, List, [], drop, Option, None, Some,
 use Rattle.sccs_sid.specs.declared.moments.Moment.{Moment}
 use Rattle.sccs_sid.specs.declared.moments.Stamp.{Stamp}
 use Rattle.sccs_sid.specs.declared.sids.Sid.{Sid}
+use Rattle.sccs_history.specs.FlagText.{flag_m, flag_q, flag_t}
 use Rattle.sccs_history.specs.Numbers.{has}
 use Rattle.sccs_history.specs.declared.headers.Flag.{Flag}
 use Rattle.sccs_history.specs.declared.headers.Header.{Header}
@@ -17,14 +18,14 @@ flag_text flags letter otherwise = unwrap_or (option_map (λ f. f.text) (flag_of
 
 -- the module's name: the flag m, else the name of the s-file without `s.`
 abbrev pub module_name : List Flag → List ℕ → List ℕ
-module_name flags n = flag_text flags 109 (drop 2 n)
+module_name flags n = flag_text flags flag_m (drop 2 n)
 
 -- the flags t and q
 abbrev pub kind : List Flag → List ℕ
-kind flags = flag_text flags 116 []
+kind flags = flag_text flags flag_t []
 
 abbrev pub user : List Flag → List ℕ
-user flags = flag_text flags 113 []
+user flags = flag_text flags flag_q []
 
 -- the newest delta of a set
 abbrev pub newest_applied : List Record → List ℕ → Option Record

@@ -3,7 +3,7 @@ use Rattle.std.proofs.Common.{◌≡◌, ℕ, cond, List, drop, Option, None, So
 use Rattle.std.proofs.Math.Path.{fun_ext}
 use Rattle.std.specs.FinMap.{get, insert, remove, get-insert, get-remove}
 use Rattle.std.specs.Cmp.Lexicographic.{nat_list_cmp_total}
-use Rattle.sccs_base.specs.Name.{sibling}
+use Rattle.sccs_base.specs.Name.{p_file, z_file}
 use Rattle.sccs_disk.specs.Files.{Content, View, Folder, put, view_in}
 use Rattle.sccs_disk.specs.MemoryFiles.{same_test}
 use Rattle.sccs_files.specs.StepFiles.{Files, moved, moved_in, set_in}
@@ -18,9 +18,9 @@ set_view m n x = fun_ext (set_at m n x)
 pub moved_view : (m : Folder) (n : List ℕ) (new : Option Files) → view_in (moved_in m n new) ≡ moved (view_in m) n new
 moved_view m n None = refl
 moved_view m n (Some f) =
-    let z : Folder = set_in m (sibling 122 n) f.z in
+    let z : Folder = set_in m (z_file n) f.z in
     let g : Folder = set_in z (drop 2 n) f.g in
-    let p : Folder = set_in g (sibling 112 n) f.p in
+    let p : Folder = set_in g (p_file n) f.p in
     set_view p n f.s
-    ∙ ap (λ (v : View). put v n f.s) (set_view g (sibling 112 n) f.p
-    ∙ ap (λ (v : View). put v (sibling 112 n) f.p) (set_view z (drop 2 n) f.g ∙ ap (λ (v : View). put v (drop 2 n) f.g) (set_view m (sibling 122 n) f.z)))
+    ∙ ap (λ (v : View). put v n f.s) (set_view g (p_file n) f.p
+    ∙ ap (λ (v : View). put v (p_file n) f.p) (set_view z (drop 2 n) f.g ∙ ap (λ (v : View). put v (drop 2 n) f.g) (set_view m (z_file n) f.z)))

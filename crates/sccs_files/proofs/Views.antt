@@ -1,7 +1,7 @@
 -- Views that are alike but for working files.
 use Rattle.std.proofs.Common.{◌≡◌, ℕ, Bool, cond, List, drop, Option, None, Some, sym, ap, subst, ◌∙◌}
 use Rattle.std.specs.Str.{bytes_eq}
-use Rattle.sccs_base.specs.Name.{sibling}
+use Rattle.sccs_base.specs.Name.{p_file, z_file}
 use Rattle.sccs_disk.specs.Files.{Content, View, put}
 use Rattle.sccs_files.specs.StepFiles.{Files, look, moved, is_working, Alike, Moves, Shows, Apart}
 
@@ -11,7 +11,7 @@ put_alike w u v n x alike k h = ap (λ r. cond (bytes_eq n k) x r) (alike k h)
 pub moved_alike : (w : List ℕ → Bool) (u v : View) (n : List ℕ) (new : Option Files) → Alike w u v → Alike w (moved u n new) (moved v n new)
 moved_alike w u v n None alike = alike
 moved_alike w u v n (Some f) alike =
-    put_alike w _ _ n f.s (put_alike w _ _ (sibling 112 n) f.p (put_alike w _ _ (drop 2 n) f.g (put_alike w u v (sibling 122 n) f.z alike)))
+    put_alike w _ _ n f.s (put_alike w _ _ (p_file n) f.p (put_alike w _ _ (drop 2 n) f.g (put_alike w u v (z_file n) f.z alike)))
 
 files_of : Option Content → Option Content → Option Content → Option Content → Files
 files_of s p z g = record { s = s; p = p; z = z; g = g }
@@ -20,10 +20,10 @@ files_of s p z g = record { s = s; p = p; z = z; g = g }
 pub look_alike : (w : List ℕ → Bool) (n : List ℕ) (u v : View) → Apart w n → Alike w u v → look u n ≡ look v n
 unfolding files_of
 look_alike w n u v apart alike =
-    ap (λ s. files_of s (u (sibling 112 n)) (u (sibling 122 n)) (u (drop 2 n))) (alike n apart.s)
-    ∙ (ap (λ p. files_of (v n) p (u (sibling 122 n)) (u (drop 2 n))) (alike (sibling 112 n) apart.p)
-    ∙ (ap (λ z. files_of (v n) (v (sibling 112 n)) z (u (drop 2 n))) (alike (sibling 122 n) apart.z)
-    ∙ ap (λ g. files_of (v n) (v (sibling 112 n)) (v (sibling 122 n)) g) (alike (drop 2 n) apart.g)))
+    ap (λ s. files_of s (u (p_file n)) (u (z_file n)) (u (drop 2 n))) (alike n apart.s)
+    ∙ (ap (λ p. files_of (v n) p (u (z_file n)) (u (drop 2 n))) (alike (p_file n) apart.p)
+    ∙ (ap (λ z. files_of (v n) (v (p_file n)) z (u (drop 2 n))) (alike (z_file n) apart.z)
+    ∙ ap (λ g. files_of (v n) (v (p_file n)) (v (z_file n)) g) (alike (drop 2 n) apart.g)))
 
 -- a disk that shows a view shows, after a step, the view after the step
 pub shows_moved : (w : List ℕ → Bool) (n : List ℕ) (new : Option Files) (v : View) (a b : Option View) → Apart w n → Shows w a v → Moves (is_working n) (λ u. moved u n new) a b → Shows w b (moved v n new)

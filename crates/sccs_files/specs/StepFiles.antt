@@ -2,7 +2,7 @@
 use Rattle.std.specs.Prelude.{◌≡◌, ℕ, ◌⊎◌, Bool, true, false, ◌||◌, List, drop, Option, None, Some}
 use Rattle.std.specs.Str.{bytes_eq}
 use Rattle.std.specs.FinMap.{insert, remove}
-use Rattle.sccs_base.specs.Name.{sibling}
+use Rattle.sccs_base.specs.Name.{p_file, q_file, x_file, y_file, z_file}
 use Rattle.sccs_disk.specs.Files.{Content, View, put, Folder}
 
 -- the s-file, p-file, z-file and g-file of one name
@@ -14,11 +14,11 @@ pub record Files : Type 0 where
 
 -- what a step sees of a view
 abbrev pub look : View → List ℕ → Files
-look v n = record { s = v n; p = v (sibling 112 n); z = v (sibling 122 n); g = v (drop 2 n) }
+look v n = record { s = v n; p = v (p_file n); z = v (z_file n); g = v (drop 2 n) }
 
 -- the view with these files in their places
 abbrev pub placed : View → List ℕ → Files → View
-placed v n f = put (put (put (put v (sibling 122 n) f.z) (drop 2 n) f.g) (sibling 112 n) f.p) n f.s
+placed v n f = put (put (put (put v (z_file n) f.z) (drop 2 n) f.g) (p_file n) f.p) n f.s
 
 -- the view after a step: new files, or all as they were
 abbrev pub moved : View → List ℕ → Option Files → View
@@ -32,15 +32,15 @@ set_in m n (Some c) = insert m n c
 
 abbrev pub moved_in : Folder → List ℕ → Option Files → Folder
 moved_in m n None = m
-moved_in m n (Some f) = set_in (set_in (set_in (set_in m (sibling 122 n) f.z) (drop 2 n) f.g) (sibling 112 n) f.p) n f.s
+moved_in m n (Some f) = set_in (set_in (set_in (set_in m (z_file n) f.z) (drop 2 n) f.g) (p_file n) f.p) n f.s
 
 -- the x-, q- and y-file of a name
 abbrev pub is_working : List ℕ → List ℕ → Bool
-is_working n k = bytes_eq (sibling 120 n) k || (bytes_eq (sibling 113 n) k || bytes_eq (sibling 121 n) k)
+is_working n k = bytes_eq (x_file n) k || (bytes_eq (q_file n) k || bytes_eq (y_file n) k)
 
 -- working files, and the z-file
 abbrev pub is_left : List ℕ → List ℕ → Bool
-is_left n k = is_working n k || bytes_eq (sibling 122 n) k
+is_left n k = is_working n k || bytes_eq (z_file n) k
 
 -- two views are one but for working files
 abbrev pub Alike : (List ℕ → Bool) → View → View → Type 0
@@ -71,8 +71,8 @@ nowhere k = false
 pub record Apart (w : List ℕ → Bool) (n : List ℕ) : Type 0 where
   pub own : (k : List ℕ) → w k ≡ false → is_working n k ≡ false
   pub s : w n ≡ false
-  pub p : w (sibling 112 n) ≡ false
-  pub z : w (sibling 122 n) ≡ false
+  pub p : w (p_file n) ≡ false
+  pub z : w (z_file n) ≡ false
   pub g : w (drop 2 n) ≡ false
 
 -- each working file of a name is gone, or as it was

@@ -3,7 +3,7 @@ use Rattle.std.specs.Prelude.{ℕ, ◌==◌, nat_le, Bool, false, ◌&&◌, ◌|
 use Rattle.std.specs.List.{list_any}
 use Rattle.sccs_sid.specs.Reading.{number}
 use Rattle.sccs_sid.specs.Words.{words}
-use Rattle.sccs_history.specs.FlagText.{is_all, pieces}
+use Rattle.sccs_history.specs.FlagText.{is_all, pieces, flag_c, flag_f, flag_l}
 use Rattle.sccs_history.specs.declared.headers.Flag.{Flag}
 
 -- whether the flag of a letter is there
@@ -20,11 +20,11 @@ number_or flags letter otherwise = unwrap_or (option_and_then (λ f. number 4 f.
 
 -- the greatest release that may be got or made: flag c
 abbrev pub ceiling : List Flag → ℕ
-ceiling flags = number_or flags 99 9999
+ceiling flags = number_or flags flag_c 9999
 
 -- the least one: flag f
 abbrev pub floor : List Flag → ℕ
-floor flags = number_or flags 102 1
+floor flags = number_or flags flag_f 1
 
 -- a release from floor to ceiling, both included
 abbrev pub is_within_limits : List Flag → ℕ → Bool
@@ -48,4 +48,4 @@ locked_by (Some f) release = locks f.text release
 
 -- the release is locked against deltas: flag l
 abbrev pub is_locked : List Flag → ℕ → Bool
-is_locked flags release = locked_by (flag_of flags 108) release
+is_locked flags release = locked_by (flag_of flags flag_l) release

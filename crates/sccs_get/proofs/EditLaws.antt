@@ -13,6 +13,7 @@ use Rattle.sccs_sid.specs.declared.refusals.Refusal.TheVariants as refusals
 use Rattle.sccs_flags.specs.FlagValues.{has_flag}
 use Rattle.sccs_flags.specs.Logins.{is_allowed}
 use Rattle.sccs_history.specs.Applied.{live_serials, serials_of}
+use Rattle.sccs_history.specs.FlagText.{flag_b, flag_j}
 use Rattle.sccs_history.specs.History.{IsSpelled, lives, same_sid}
 use Rattle.sccs_history.specs.Numbers.{has}
 use Rattle.sccs_history.specs.declared.headers.Record.{Record}
@@ -88,7 +89,7 @@ made_as header sids sids2 target spec spec2 branch o first second is =
 -- where a SID is free, it is that which is to be made
 free_is : (header : Header) (edits : List Edit) (way : Bool) (got : Sid) (made : Option Sid) (sid : Sid) → free_sid header edits way got made ≡ Ok sid → made ≡ Some sid
 unfolding free_sid
-free_is header edits way got made sid is = by (released header got made) (has_flag header.flags 106 || not (is_got edits got)) (not way) made is
+free_is header edits way got made sid is = by (released header got made) (has_flag header.flags flag_j || not (is_got edits got)) (not way) made is
   where
     by : (r : Result Bool Refusal) (b c : Bool) (m : Option Sid) → (r >>= λ free. check b refusals.BeingEdited >>= λ joint. check c refusals.GExists >>= λ place. there m refusals.Full) ≡ Ok sid → m ≡ Some sid
     by (Ok x) true true (Some s) e = let same : s ≡ sid = cc in ap Some same
@@ -107,9 +108,9 @@ left_no : (a b : Bool) → (a || b) ≡ false → a ≡ false
 left_no true b is = cc
 left_no false b is = refl
 
-unlive_at : (header : Header) (sids : List Sid) (spec : Option Spec) (branch : Bool) (o : Option Sid) (sid : Sid) → option_and_then (λ on. made_on header.records sids on spec (branch && has_flag header.flags 98)) o ≡ Some sid → lives header.records sid ≡ false
+unlive_at : (header : Header) (sids : List Sid) (spec : Option Spec) (branch : Bool) (o : Option Sid) (sid : Sid) → option_and_then (λ on. made_on header.records sids on spec (branch && has_flag header.flags flag_b)) o ≡ Some sid → lives header.records sid ≡ false
 unlive_at header sids spec branch None sid is = absurd cc
-unlive_at header sids spec branch (Some on) sid is = left_no (lives header.records sid) (list_any (λ s. same_sid s sid) sids) (made_is_free header.records sids on sid spec (branch && has_flag header.flags 98) is)
+unlive_at header sids spec branch (Some on) sid is = left_no (lives header.records sid) (list_any (λ s. same_sid s sid) sids) (made_is_free header.records sids on sid spec (branch && has_flag header.flags flag_b) is)
 
 -- the SID to be made isn't live
 pub free_unlive : (words : GetWords) (header : Header) (edits : List Edit) (way : Bool) (target : ℕ) (got : Sid) (made : Option Sid) (sid : Sid) (e : Edit) (stamp : Stamp) (a : Asked) → made ≡ to_be_made header (reserved edits) target (spec_asked words header) words.branch → free_sid header edits way got made ≡ Ok sid

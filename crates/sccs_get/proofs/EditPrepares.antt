@@ -2,7 +2,7 @@
 use Rattle.std.proofs.Common.{◌≡◌, ℕ, Bool, true, false, List, [], drop, Option, None, Some, Result, Ok, Err, refl, sym, ap, subst, ◌∙◌}
 use Rattle.std.specs.Prelude.{IfSome}
 use Rattle.std.specs.Result.{IfOk}
-use Rattle.sccs_base.specs.Name.{IsSfile, sibling}
+use Rattle.sccs_base.specs.Name.{IsSfile, p_file, z_file}
 use Rattle.sccs_base.proofs.Gifts.{some_none}
 use Rattle.sccs_disk.specs.Files.{Content, View}
 use Rattle.sccs_disk.specs.Told.{Told, seen}
@@ -53,9 +53,9 @@ module _ (words : GetWords) (stamp : Stamp) (place : List ℕ) (heading : Bool) 
   unlocked_same : (v : View) → IsSfile n → reserved_of words stamp place n (look (unlocked n v) n) ≡ reserved_of words stamp place n (look v n)
   unlocked_same v sfile =
       reserved_is words stamp place n (look (unlocked n v) n)
-      ∙ (ap (λ (o : Option Content). reserved_from words stamp place n o (unlocked n v (sibling 112 n)) (unlocked n v (drop 2 n))) (put_other v (sibling 122 n) n None (from_s 122 n sfile refl))
-      ∙ (ap (λ (o : Option Content). reserved_from words stamp place n (v n) o (unlocked n v (drop 2 n))) (put_other v (sibling 122 n) (sibling 112 n) None refl)
-      ∙ (ap (λ (o : Option Content). reserved_from words stamp place n (v n) (v (sibling 112 n)) o) (put_other v (sibling 122 n) (drop 2 n) None (from_g 122 n sfile)) ∙ sym (reserved_is words stamp place n (look v n)))))
+      ∙ (ap (λ (o : Option Content). reserved_from words stamp place n o (unlocked n v (p_file n)) (unlocked n v (drop 2 n))) (put_other v (z_file n) n None (from_s 122 n sfile refl))
+      ∙ (ap (λ (o : Option Content). reserved_from words stamp place n (v n) o (unlocked n v (drop 2 n))) (put_other v (z_file n) (p_file n) None refl)
+      ∙ (ap (λ (o : Option Content). reserved_from words stamp place n (v n) (v (p_file n)) o) (put_other v (z_file n) (drop 2 n) None (from_g 122 n sfile)) ∙ sym (reserved_is words stamp place n (look v n)))))
 
   abbrev of_found : View → IsReserved → Outcome
   of_found v x = Ok (edited words heading n x.parsed.header.records (look (unlocked n v) n) x.edits x.edit x.version (lines_in x.version x.parsed.items))

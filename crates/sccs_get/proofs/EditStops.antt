@@ -3,7 +3,7 @@ use Rattle.std.proofs.Common.{◌≡◌, ℕ, Bool, true, false, List, [], ◌�
 use Rattle.std.specs.Prelude.{IfSome, IsSome, if◌then◌else◌}
 use Rattle.std.specs.Str.{bytes_eq}
 use Rattle.std.proofs.lemmas.List.Elements.{recursion_from_All}
-use Rattle.sccs_base.specs.Name.{IsSfile, sibling}
+use Rattle.sccs_base.specs.Name.{IsSfile, p_file, q_file, y_file, z_file}
 use Rattle.sccs_disk.specs.Calls.{IsThere}
 use Rattle.sccs_disk.specs.Files.{Content, View}
 use Rattle.sccs_disk.specs.Images.{IsFirm}
@@ -48,12 +48,12 @@ firm_kept k mine before a b c first next other firm = λ m past is m3 past3 is3.
     subst (IsFirm k) (newest_is (newest_model begun.added m) m3 (earlier begun.added m past) past3 on.added c on.is is3)
     (firm_touched mine (newest_model begun.added m) (newest_model on.added (newest_model begun.added m)) k (each_newest (Touches mine (newest_model begun.added m)) on.added (newest_model begun.added m) on.each) other (firm m past is (newest_model begun.added m) (earlier begun.added m past) begun.is))
 
-pub edit_firm : (n : List ℕ) (new_p g : NewFile) (report message : List ℕ) (a b c : Told) → TouchesOnly (bytes_eq (sibling 113 n)) a b → TouchesOnly (bytes_eq (sibling 121 n)) b c → OnReplace new_p (Leaves (IsFirm (sibling 113 n)) a b) → IsFirmPrepared n (edit_prepared new_p g report message) a c
-edit_firm n new_p g report message a b c q y firm = record { x_file = tt; q_file = by new_p firm }
+pub edit_firm : (n : List ℕ) (new_p g : NewFile) (report message : List ℕ) (a b c : Told) → TouchesOnly (bytes_eq (q_file n)) a b → TouchesOnly (bytes_eq (y_file n)) b c → OnReplace new_p (Leaves (IsFirm (q_file n)) a b) → IsFirmPrepared n (edit_prepared new_p g report message) a c
+edit_firm n new_p g report message a b c q y firm = record { x_state = tt; q_state = by new_p firm }
   where
-    by : (new : NewFile) → OnReplace new (Leaves (IsFirm (sibling 113 n)) a b) → OnReplace new (Leaves (IsFirm (sibling 113 n)) a c)
+    by : (new : NewFile) → OnReplace new (Leaves (IsFirm (q_file n)) a b) → OnReplace new (Leaves (IsFirm (q_file n)) a c)
     by Keep firm = tt
-    by Replace firm = firm_kept (sibling 113 n) (bytes_eq (sibling 121 n)) (bytes_eq (sibling 113 n)) a b c q y refl firm
+    by Replace firm = firm_kept (q_file n) (bytes_eq (y_file n)) (bytes_eq (q_file n)) a b c q y refl firm
     by Remove firm = tt
 
 -- ---- what a commit needs
@@ -63,31 +63,31 @@ there_moved m k None o2 other moves there = subst (λ (o : Option View). IfSome 
 there_moved m k (Some v) None other moves there = absurd moves
 there_moved m k (Some v) (Some u) other moves there = subst IsSome (sym (moves k other)) there
 
-pub edit_ready : (words : GetWords) (n : List ℕ) (edits : List Edit) (edit : Edit) (new_p g : NewFile) (report message : List ℕ) (a b c : Told) → g ≡ new_g words → IsThere (sibling 122 n) a → Moves (bytes_eq (sibling 113 n)) (λ v. v) (seen a) (seen b) → Moves (bytes_eq (sibling 121 n)) (λ v. v) (seen b) (seen c)
-    → PreparesEntries n (edits ++ edit ∷ []) new_p a b → (writes_g words ≡ true → IsThere (sibling 121 n) c) → IsReady n (edit_prepared new_p g report message) c
+pub edit_ready : (words : GetWords) (n : List ℕ) (edits : List Edit) (edit : Edit) (new_p g : NewFile) (report message : List ℕ) (a b c : Told) → g ≡ new_g words → IsThere (z_file n) a → Moves (bytes_eq (q_file n)) (λ v. v) (seen a) (seen b) → Moves (bytes_eq (y_file n)) (λ v. v) (seen b) (seen c)
+    → PreparesEntries n (edits ++ edit ∷ []) new_p a b → (writes_g words ≡ true → IsThere (y_file n) c) → IsReady n (edit_prepared new_p g report message) c
 edit_ready words n edits edit new_p g report message a b c g_is z q y entries there = record {
-  z = there_moved (sibling 121 n) (sibling 122 n) (seen b) (seen c) refl y (there_moved (sibling 113 n) (sibling 122 n) (seen a) (seen b) refl q z);
+  z = there_moved (y_file n) (z_file n) (seen b) (seen c) refl y (there_moved (q_file n) (z_file n) (seen a) (seen b) refl q z);
   s = tt;
-  p_file = p_needs new_p (entries.needs (λ none. absurd (some_edit edits none)));
-  g = subst (λ (x : NewFile). Needs x (sibling 121 n) (drop 2 n) c) (sym g_is) (g_needs (writes_g words) there);
+  p_state = p_needs new_p (entries.needs (λ none. absurd (some_edit edits none)));
+  g = subst (λ (x : NewFile). Needs x (y_file n) (drop 2 n) c) (sym g_is) (g_needs (writes_g words) there);
 }
   where
     some_edit : (edits : List Edit) → edits ++ edit ∷ [] ≡ [] → ⊥
     some_edit [] none = cc
     some_edit (e ∷ edits) none = cc
 
-    p_needs : (new : NewFile) → Needs new (sibling 113 n) (sibling 112 n) b → Needs new (sibling 113 n) (sibling 112 n) c
+    p_needs : (new : NewFile) → Needs new (q_file n) (p_file n) b → Needs new (q_file n) (p_file n) c
     p_needs Keep needs = tt
-    p_needs Replace needs = there_moved (sibling 121 n) (sibling 113 n) (seen b) (seen c) refl y needs
-    p_needs Remove needs = there_moved (sibling 121 n) (sibling 112 n) (seen b) (seen c) refl y needs
+    p_needs Replace needs = there_moved (y_file n) (q_file n) (seen b) (seen c) refl y needs
+    p_needs Remove needs = there_moved (y_file n) (p_file n) (seen b) (seen c) refl y needs
 
-    g_needs : (w : Bool) → (w ≡ true → IsThere (sibling 121 n) c) → Needs (if w then Replace else Keep) (sibling 121 n) (drop 2 n) c
+    g_needs : (w : Bool) → (w ≡ true → IsThere (y_file n) c) → Needs (if w then Replace else Keep) (y_file n) (drop 2 n) c
     g_needs true there = there refl
     g_needs false there = tt
 
 -- ---- what recovery makes of the entries
 
-entries_prepared : (n : List ℕ) (edits : List Edit) (new_p : NewFile) (a b : Told) → Moves (bytes_eq (sibling 113 n)) (λ v. v) (seen a) (seen b) → PreparesEntries n edits new_p a b
+entries_prepared : (n : List ℕ) (edits : List Edit) (new_p : NewFile) (a b : Told) → Moves (bytes_eq (q_file n)) (λ v. v) (seen a) (seen b) → PreparesEntries n edits new_p a b
     → IsDecided n (record { edits = edits; keep = true; report = [] }) (edit_prepared new_p Keep [] []) a b
 entries_prepared n edits new_p a b moves entries = record {
   of = record { s = refl; report_is = refl; message = refl };
@@ -100,26 +100,26 @@ entries_prepared n edits new_p a b moves entries = record {
     g_kept None = tt
     g_kept (Some v) = λ y. refl
 
-settles_on : (n : List ℕ) (new_p g : NewFile) (report message : List ℕ) (b c : Told) → IsSfile n → Moves (bytes_eq (sibling 121 n)) (λ v. v) (seen b) (seen c) → SettlesEntries n (edit_prepared new_p Keep [] []) b → SettlesEntries n (edit_prepared new_p g report message) c
+settles_on : (n : List ℕ) (new_p g : NewFile) (report message : List ℕ) (b c : Told) → IsSfile n → Moves (bytes_eq (y_file n)) (λ v. v) (seen b) (seen c) → SettlesEntries n (edit_prepared new_p Keep [] []) b → SettlesEntries n (edit_prepared new_p g report message) c
 settles_on n new_p g report message b c sfile moves settles = by (seen b) (seen c) moves settles
   where
-    by : (o o2 : Option View) → Moves (bytes_eq (sibling 121 n)) (λ v. v) o o2 → IfSome o (λ v. IsPaired n v → KeepsEntries n (plan_of (edit_prepared new_p Keep [] [])) v × ArePaired (files_after n (plan_of (edit_prepared new_p Keep [] [])) v).s (files_after n (plan_of (edit_prepared new_p Keep [] [])) v).p)
+    by : (o o2 : Option View) → Moves (bytes_eq (y_file n)) (λ v. v) o o2 → IfSome o (λ v. IsPaired n v → KeepsEntries n (plan_of (edit_prepared new_p Keep [] [])) v × ArePaired (files_after n (plan_of (edit_prepared new_p Keep [] [])) v).s (files_after n (plan_of (edit_prepared new_p Keep [] [])) v).p)
         → IfSome o2 (λ v. IsPaired n v → KeepsEntries n (plan_of (edit_prepared new_p g report message)) v × ArePaired (files_after n (plan_of (edit_prepared new_p g report message)) v).s (files_after n (plan_of (edit_prepared new_p g report message)) v).p)
     by None None moves settles = tt
     by None (Some u) moves settles = absurd cc
     by (Some v) None moves settles = tt
     by (Some v) (Some u) moves settles = λ paired.
         let s : u n ≡ v n = moves n (from_s 121 n sfile refl) in
-        let p : u (sibling 112 n) ≡ v (sibling 112 n) = moves (sibling 112 n) refl in
-        let q : u (sibling 113 n) ≡ v (sibling 113 n) = moves (sibling 113 n) refl in
-        let new : chosen new_p (u (sibling 113 n)) (u (sibling 112 n)) ≡ chosen new_p (v (sibling 113 n)) (v (sibling 112 n)) = ap (λ (o : Option Content). chosen new_p o (u (sibling 112 n))) q ∙ ap (λ (o : Option Content). chosen new_p (v (sibling 113 n)) o) p in
-        let old : KeepsEntries n (plan_of (edit_prepared new_p Keep [] [])) v × ArePaired (v n) (chosen new_p (v (sibling 113 n)) (v (sibling 112 n))) = settles (λ none. sym p ∙ paired (s ∙ none)) in (
-          record { leaves = tt; sound = ap (λ (o : Option Content). recovered_pfile o (chosen new_p (u (sibling 113 n)) (u (sibling 112 n)))) s ∙ (ap (recovered_pfile (v n)) new ∙ (old.0.sound ∙ sym new)) },
+        let p : u (p_file n) ≡ v (p_file n) = moves (p_file n) refl in
+        let q : u (q_file n) ≡ v (q_file n) = moves (q_file n) refl in
+        let new : chosen new_p (u (q_file n)) (u (p_file n)) ≡ chosen new_p (v (q_file n)) (v (p_file n)) = ap (λ (o : Option Content). chosen new_p o (u (p_file n))) q ∙ ap (λ (o : Option Content). chosen new_p (v (q_file n)) o) p in
+        let old : KeepsEntries n (plan_of (edit_prepared new_p Keep [] [])) v × ArePaired (v n) (chosen new_p (v (q_file n)) (v (p_file n))) = settles (λ none. sym p ∙ paired (s ∙ none)) in (
+          record { leaves = tt; sound = ap (λ (o : Option Content). recovered_pfile o (chosen new_p (u (q_file n)) (u (p_file n)))) s ∙ (ap (recovered_pfile (v n)) new ∙ (old.0.sound ∙ sym new)) },
           λ none. new ∙ old.1 (sym s ∙ none),
         )
 
 pub edit_settles : (n : List ℕ) (x : Pending) (edit : Edit) (new_p g : NewFile) (report message : List ℕ) (a b c : Told) → IsSfile n → All IsEdit x.edits → IsEdit edit → Agrees x.front.header.records x.edits → lives x.front.header.records edit.made ≡ false
-    → IfSome (seen a) (λ (v : View). AnswersPending (v n) (v (sibling 112 n)) (Ok x)) → Moves (bytes_eq (sibling 113 n)) (λ v. v) (seen a) (seen b) → Moves (bytes_eq (sibling 121 n)) (λ v. v) (seen b) (seen c) → PreparesEntries n (x.edits ++ edit ∷ []) new_p a b
+    → IfSome (seen a) (λ (v : View). AnswersPending (v n) (v (p_file n)) (Ok x)) → Moves (bytes_eq (q_file n)) (λ v. v) (seen a) (seen b) → Moves (bytes_eq (y_file n)) (λ v. v) (seen b) (seen c) → PreparesEntries n (x.edits ++ edit ∷ []) new_p a b
     → SettlesEntries n (edit_prepared new_p g report message) c
 edit_settles n x edit new_p g report message a b c sfile edits valid agrees free read q y entries =
     settles_on n new_p g report message b c sfile y

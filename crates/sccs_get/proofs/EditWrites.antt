@@ -2,7 +2,7 @@
 use Rattle.std.proofs.Common.{◌≡◌, ℕ, Bool, true, false, List, [], ◌∷◌, ◌++◌, length, drop, Option, None, Some, Ok, Err, refl, sym, ap, subst, ◌∙◌}
 use Rattle.std.specs.Prelude.{IfSome, is_some, if◌then◌else◌}
 use Rattle.std.specs.Str.{bytes_eq}
-use Rattle.sccs_base.specs.Name.{IsSfile, sibling}
+use Rattle.sccs_base.specs.Name.{IsSfile, p_file, q_file, y_file, z_file}
 use Rattle.sccs_base.specs.Stream.{GivesSome}
 use Rattle.sccs_base.proofs.Gifts.{some_none, some_of_whole}
 use Rattle.sccs_disk.specs.Files.{Content, View, put}
@@ -53,31 +53,31 @@ abbrev g_chosen : Bool → NewFile
 g_chosen b = if b then Replace else Keep
 
 abbrev y_made : Bool → List ℕ → Content → View → View
-y_made b n c v = if b then put v (sibling 121 n) (Some c) else v
+y_made b n c v = if b then put v (y_file n) (Some c) else v
 
-files_made : (b : Bool) (n : List ℕ) (c : Content) (edits : List Edit) (new_p : NewFile) (v u : View) → IsSfile n → ((k : List ℕ) → bytes_eq (sibling 113 n) k ≡ false → u k ≡ v k) → ((old : Option Content) → chosen new_p (u (sibling 113 n)) old ≡ pfile_of edits)
+files_made : (b : Bool) (n : List ℕ) (c : Content) (edits : List Edit) (new_p : NewFile) (v u : View) → IsSfile n → ((k : List ℕ) → bytes_eq (q_file n) k ≡ false → u k ≡ v k) → ((old : Option Content) → chosen new_p (u (q_file n)) old ≡ pfile_of edits)
     → files_of (unlocked n v n) (pfile_of edits) (if b then Some c else unlocked n v (drop 2 n)) ≡ Some (files_after n (plan false new_p (g_chosen b)) (y_made b n c u))
 files_made true n c edits new_p v u sfile same entries =
-    files_same (put_other v (sibling 122 n) n None (from_s 122 n sfile refl) ∙ (sym (same n (from_s 113 n sfile refl)) ∙ sym (put_other u (sibling 121 n) n (Some c) (from_s 121 n sfile refl))))
-    (sym (entries (put u (sibling 121 n) (Some c) (sibling 112 n))) ∙ ap (λ (o : Option Content). chosen new_p o (put u (sibling 121 n) (Some c) (sibling 112 n))) (sym (put_other u (sibling 121 n) (sibling 113 n) (Some c) refl)))
-    (sym (put_same u (sibling 121 n) (Some c)))
+    files_same (put_other v (z_file n) n None (from_s 122 n sfile refl) ∙ (sym (same n (from_s 113 n sfile refl)) ∙ sym (put_other u (y_file n) n (Some c) (from_s 121 n sfile refl))))
+    (sym (entries (put u (y_file n) (Some c) (p_file n))) ∙ ap (λ (o : Option Content). chosen new_p o (put u (y_file n) (Some c) (p_file n))) (sym (put_other u (y_file n) (q_file n) (Some c) refl)))
+    (sym (put_same u (y_file n) (Some c)))
 files_made false n c edits new_p v u sfile same entries =
-    files_same (put_other v (sibling 122 n) n None (from_s 122 n sfile refl) ∙ sym (same n (from_s 113 n sfile refl))) (sym (entries (u (sibling 112 n))))
-    (put_other v (sibling 122 n) (drop 2 n) None (from_g 122 n sfile) ∙ sym (same (drop 2 n) (from_g 113 n sfile)))
+    files_same (put_other v (z_file n) n None (from_s 122 n sfile refl) ∙ sym (same n (from_s 113 n sfile refl))) (sym (entries (u (p_file n))))
+    (put_other v (z_file n) (drop 2 n) None (from_g 122 n sfile) ∙ sym (same (drop 2 n) (from_g 113 n sfile)))
 
 -- the body stays where it was while another file changes
-pub body_kept : (n : List ℕ) (front : Front) (set file : List ℕ) (items : List Item) (v : View) (o o2 : Option View) → IsSfile n → o ≡ Some v → Moves (bytes_eq (sibling 113 n)) (λ u. u) o o2 → IsBody (bytes_in (Some v) n) front set file items → IsBody (bytes_in o2 n) front set file items
-body_kept n front set file items v o o2 sfile is moves body = by o2 (subst (λ (w : Option View). Moves (bytes_eq (sibling 113 n)) (λ u. u) w o2) is moves)
+pub body_kept : (n : List ℕ) (front : Front) (set file : List ℕ) (items : List Item) (v : View) (o o2 : Option View) → IsSfile n → o ≡ Some v → Moves (bytes_eq (q_file n)) (λ u. u) o o2 → IsBody (bytes_in (Some v) n) front set file items → IsBody (bytes_in o2 n) front set file items
+body_kept n front set file items v o o2 sfile is moves body = by o2 (subst (λ (w : Option View). Moves (bytes_eq (q_file n)) (λ u. u) w o2) is moves)
   where
-    by : (o2 : Option View) → Moves (bytes_eq (sibling 113 n)) (λ u. u) (Some v) o2 → IsBody (bytes_in o2 n) front set file items
+    by : (o2 : Option View) → Moves (bytes_eq (q_file n)) (λ u. u) (Some v) o2 → IsBody (bytes_in o2 n) front set file items
     by None moves = absurd moves
     by (Some u) moves = subst (λ (t : Option (List ℕ)). IsBody t front set file items) (sym (ap bytes_at (moves n (from_s 113 n sfile refl)))) body
 
 -- ---- how it ends
 
 module _ (words : GetWords) (stamp : Stamp) (place : List ℕ) (heading : Bool) (n : List ℕ) where
-  both_moves : (v : View) (o2 o3 : Option View) → Moves (bytes_eq (sibling 113 n)) (λ u. u) (Some v) o2 → Moves (bytes_eq (sibling 121 n)) (λ u. u) o2 o3 → Moves (is_working n) (λ u. u) (Some v) o3
-  both_moves v o2 o3 q y = moves_then (is_working n) (Some v) o2 o3 (moves_wider (bytes_eq (sibling 113 n)) (is_working n) (Some v) o2 (no_q n) q) (moves_wider (bytes_eq (sibling 121 n)) (is_working n) o2 o3 (no_y n) y)
+  both_moves : (v : View) (o2 o3 : Option View) → Moves (bytes_eq (q_file n)) (λ u. u) (Some v) o2 → Moves (bytes_eq (y_file n)) (λ u. u) o2 o3 → Moves (is_working n) (λ u. u) (Some v) o3
+  both_moves v o2 o3 q y = moves_then (is_working n) (Some v) o2 o3 (moves_wider (bytes_eq (q_file n)) (is_working n) (Some v) o2 (no_q n) q) (moves_wider (bytes_eq (y_file n)) (is_working n) o2 o3 (no_y n) y)
 
   unmade : (text : List ℕ) (v : View) (o3 : Option View) (out out2 err : Option (List ℕ)) → Moves (is_working n) (λ u. u) (Some v) o3 → GivesSome out out2 text → IsUnmade n text (world (Some v) out err) (world o3 out2 err)
   unmade text v o3 out out2 err moves gives = record { view = moves; out = gives }
@@ -91,10 +91,10 @@ module _ (words : GetWords) (stamp : Stamp) (place : List ℕ) (heading : Bool) 
   late_ends WriteFault effect v o3 out out2 err never moves gives = unmade effect.text v o3 out out2 err moves gives
   late_ends DiskFault effect v o3 out out2 err never moves gives = unmade effect.text v o3 out out2 err moves gives
 
-  pub entry_ends : {T : Type 0} (fault : StepFault) (effect : StepEffect) (v : View) (o o2 : Option View) (out err : Option (List ℕ)) → o ≡ Some v → RefusesWithin {X = T} [] (Err fault) → Moves (bytes_eq (sibling 113 n)) (λ u. u) o o2 → Prepares (Err fault) n (Ok effect) (world (Some v) out err) (world o2 out err)
+  pub entry_ends : {T : Type 0} (fault : StepFault) (effect : StepEffect) (v : View) (o o2 : Option View) (out err : Option (List ℕ)) → o ≡ Some v → RefusesWithin {X = T} [] (Err fault) → Moves (bytes_eq (q_file n)) (λ u. u) o o2 → Prepares (Err fault) n (Ok effect) (world (Some v) out err) (world o2 out err)
   entry_ends fault effect v o o2 out err is checks moves =
       late_ends fault effect v o2 out out err (λ refusal same. let never : false ≡ true = checks refusal (ap (λ (f : StepFault). Err f) same) in cc)
-      (moves_wider (bytes_eq (sibling 113 n)) (is_working n) (Some v) o2 (no_q n) (subst (λ (w : Option View). Moves (bytes_eq (sibling 113 n)) (λ u. u) w o2) is moves)) (some_none out effect.text)
+      (moves_wider (bytes_eq (q_file n)) (is_working n) (Some v) o2 (no_q n) (subst (λ (w : Option View). Moves (bytes_eq (q_file n)) (λ u. u) w o2) is moves)) (some_none out effect.text)
 
   late_only : (fault : StepFault) → IsLate fault → (refusal : Refusal) → fault ≡ Refused refusal → ⊥
   late_only (Refused refusal) late other same = late
@@ -107,19 +107,19 @@ module _ (words : GetWords) (stamp : Stamp) (place : List ℕ) (heading : Bool) 
     abbrev effect : StepEffect
     effect = edited words heading n records f edits edit version lines
 
-    pub text_ends : (fault : StepFault) (v : View) (o o2 o3 : Option View) (out out2 err : Option (List ℕ)) → o ≡ Some v → Moves (bytes_eq (sibling 113 n)) (λ u. u) o o2 → Moves (bytes_eq (sibling 121 n)) (λ u. u) o2 o3
+    pub text_ends : (fault : StepFault) (v : View) (o o2 o3 : Option View) (out out2 err : Option (List ℕ)) → o ≡ Some v → Moves (bytes_eq (q_file n)) (λ u. u) o o2 → Moves (bytes_eq (y_file n)) (λ u. u) o2 o3
         → GivesVersion words n records version lines (Err fault) (world o2 out err) (world o3 out2 err) → Prepares (Err fault) n (Ok effect) (world (Some v) out err) (world o3 out2 err)
-    text_ends fault v o o2 o3 out out2 err is q y gives = late_ends fault effect v o3 out out2 err (late_only fault gives.0) (both_moves v o2 o3 (subst (λ (w : Option View). Moves (bytes_eq (sibling 113 n)) (λ u. u) w o2) is q) y) gives.1
+    text_ends fault v o o2 o3 out out2 err is q y gives = late_ends fault effect v o3 out out2 err (late_only fault gives.0) (both_moves v o2 o3 (subst (λ (w : Option View). Moves (bytes_eq (q_file n)) (λ u. u) w o2) is q) y) gives.1
 
-    pub memory_ends : (shown : Shown) (v : View) (o o2 o3 : Option View) (out out2 err : Option (List ℕ)) → o ≡ Some v → Moves (bytes_eq (sibling 113 n)) (λ u. u) o o2 → Moves (bytes_eq (sibling 121 n)) (λ u. u) o2 o3
+    pub memory_ends : (shown : Shown) (v : View) (o o2 o3 : Option View) (out out2 err : Option (List ℕ)) → o ≡ Some v → Moves (bytes_eq (q_file n)) (λ u. u) o o2 → Moves (bytes_eq (y_file n)) (λ u. u) o2 o3
         → GivesVersion words n records version lines (Ok shown) (world o2 out err) (world o3 out2 err) → Prepares (Err Memory) n (Ok effect) (world (Some v) out err) (world o3 out2 err)
     memory_ends shown v o o2 o3 out out2 err is q y gives =
-        unmade effect.text v o3 out out2 err (both_moves v o2 o3 (subst (λ (w : Option View). Moves (bytes_eq (sibling 113 n)) (λ u. u) w o2) is q) y) (some_of_whole out out2 effect.text gives.0.out)
+        unmade effect.text v o3 out out2 err (both_moves v o2 o3 (subst (λ (w : Option View). Moves (bytes_eq (q_file n)) (λ u. u) w o2) is q) y) (some_of_whole out out2 effect.text gives.0.out)
 
     abbrev text : List ℕ
     text = text_in words records version lines
 
-    files_at : (new_p g : NewFile) (v : View) (o2 o3 : Option View) → IsSfile n → f ≡ look (unlocked n v) n → g ≡ new_g words → Moves (bytes_eq (sibling 113 n)) (λ u. u) (Some v) o2 → IfSome o2 (λ (u : View). (old : Option Content) → chosen new_p (u (sibling 113 n)) old ≡ pfile_of (edits ++ edit ∷ []))
+    files_at : (new_p g : NewFile) (v : View) (o2 o3 : Option View) → IsSfile n → f ≡ look (unlocked n v) n → g ≡ new_g words → Moves (bytes_eq (q_file n)) (λ u. u) (Some v) o2 → IfSome o2 (λ (u : View). (old : Option Content) → chosen new_p (u (q_file n)) old ≡ pfile_of (edits ++ edit ∷ []))
         → Becomes (with_y words n text) o2 o3 → IfSome o3 (λ u. effect.new ≡ Some (files_after n (plan false new_p g) u))
     files_at new_p g v None o3 sfile is g_is moves entries given = absurd moves
     files_at new_p g v (Some u) o3 sfile is g_is moves entries given =
@@ -129,12 +129,12 @@ module _ (words : GetWords) (stamp : Stamp) (place : List ℕ) (heading : Bool) 
         ∙ ap (λ (x : NewFile). Some (files_after n (plan false new_p x) (with_y words n text u))) (sym g_is)))
 
     pub all_prepared : (shown : Shown) (new_p g : NewFile) (report message : List ℕ) (v : View) (o o2 o3 : Option View) (out out2 err : Option (List ℕ)) → IsSfile n → o ≡ Some v → f ≡ look (unlocked n v) n → g ≡ new_g words → is_some version.facts ≡ replaces words
-        → Moves (bytes_eq (sibling 113 n)) (λ u. u) o o2 → IfSome o2 (λ (u : View). (old : Option Content) → chosen new_p (u (sibling 113 n)) old ≡ pfile_of (edits ++ edit ∷ [])) → Moves (bytes_eq (sibling 121 n)) (λ u. u) o2 o3 → GivesVersion words n records version lines (Ok shown) (world o2 out err) (world o3 out2 err)
+        → Moves (bytes_eq (q_file n)) (λ u. u) o o2 → IfSome o2 (λ (u : View). (old : Option Content) → chosen new_p (u (q_file n)) old ≡ pfile_of (edits ++ edit ∷ [])) → Moves (bytes_eq (y_file n)) (λ u. u) o2 o3 → GivesVersion words n records version lines (Ok shown) (world o2 out err) (world o3 out2 err)
         → report ≡ said_on_out words (get_report words heading n version.include version.exclude version.sid (Some edit.made) shown.lines)
         → message ≡ said_on_err words (get_report words heading n version.include version.exclude version.sid (Some edit.made) shown.lines) (get_warning words n shown.keywords)
         → Prepares (Ok (record { new_s = false; new_p = new_p; new_g = g; report = report; message = message })) n (Ok effect) (world (Some v) out err) (world o3 out2 err)
     all_prepared shown new_p g report message v o o2 o3 out out2 err sfile is f_is g_is replaced q entries y gives report_is message_is =
-        let moves : Moves (bytes_eq (sibling 113 n)) (λ u. u) (Some v) o2 = subst (λ (w : Option View). Moves (bytes_eq (sibling 113 n)) (λ u. u) w o2) is q in
+        let moves : Moves (bytes_eq (q_file n)) (λ u. u) (Some v) o2 = subst (λ (w : Option View). Moves (bytes_eq (q_file n)) (λ u. u) w o2) is q in
         let reported = report_same words stamp place heading n version.include version.exclude version.sid (Some edit.made) shown.lines (length lines) (λ some. ap (λ (s : Shown). s.lines) (gives.1 some)) in
         let warned = warning_same words stamp place heading n version lines shown replaced gives.1 in
         record {

@@ -9,6 +9,7 @@ use Rattle.sccs_sid.specs.declared.sids.Sid.{Sid}
 use Rattle.sccs_sid.specs.declared.sids.Spec.{Spec}
 use Rattle.sccs_sid.specs.declared.sids.Spec.TheVariants.{Release, Branch, Full}
 use Rattle.sccs_flags.specs.FlagValues.{has_flag}
+use Rattle.sccs_history.specs.FlagText.{flag_b}
 use Rattle.sccs_history.specs.History.{HasSpelling}
 use Rattle.sccs_history.specs.declared.headers.Header.{Header}
 use Rattle.sccs_history.specs.declared.headers.Record.{Record}
@@ -76,8 +77,8 @@ made_by false records reserved got sid spec valid asked is = line_by (got.branch
 -- the SID to be made on one that is got is a SID
 pub made_sid : (header : Header) (reserved : List Sid) (target : ℕ) (spec : Option Spec) (branch : Bool) (got sid : Sid) → sid_at header.records target ≡ Some got → IsSid got → IsComponent (release_asked spec) → to_be_made header reserved target spec branch ≡ Some sid → IsSid sid
 made_sid header reserved target spec branch got sid at valid asked is =
-    made_by ((branch && has_flag header.flags 98) || is_taken header.records reserved (comes_after got)) header.records reserved got sid spec valid asked
-    (sym (ap (λ (o : Option Sid). option_and_then (λ on. made_on header.records reserved on spec (branch && has_flag header.flags 98)) o) at) ∙ is)
+    made_by ((branch && has_flag header.flags flag_b) || is_taken header.records reserved (comes_after got)) header.records reserved got sid spec valid asked
+    (sym (ap (λ (o : Option Sid). option_and_then (λ on. made_on header.records reserved on spec (branch && has_flag header.flags flag_b)) o) at) ∙ is)
 
 -- a release that may be asked for is a component
 pub release_of_spec : (o : Option Spec) → IfSome o IsSpec → IsComponent (release_asked o)

@@ -2,7 +2,7 @@
 use Rattle.std.proofs.Common.{◌≡◌, ℕ, Bool, true, false, not, List, drop, Option, None, Some, is_some, Result, Ok, Err, inl, inr, refl, sym, ap, subst, ◌∙◌}
 use Rattle.std.specs.Prelude.{if◌then◌else◌}
 use Rattle.std.specs.Str.{bytes_eq}
-use Rattle.sccs_base.specs.Name.{IsSfile, sibling}
+use Rattle.sccs_base.specs.Name.{IsSfile, p_file, y_file, z_file}
 use Rattle.sccs_sid.specs.declared.moments.Stamp.{Stamp}
 use Rattle.sccs_sid.specs.declared.refusals.Refusal.{Refusal}
 use Rattle.sccs_sid.specs.declared.refusals.StepFault.{StepFault}
@@ -44,24 +44,24 @@ other_at n c v k h = put_other v (drop 2 n) k (Some c) h
 
 g_recovers : (n : List ℕ) (c : Content) (v : View) → is_kept (drop 2 n) ≡ false → RecoversAs (g_put n c v) v
 g_recovers n c v plain =
-    same_recovers (g_put n c v) v (λ k sfile. sym (other_at n c v k (kept_s (drop 2 n) k plain sfile))) (λ k sfile. sym (other_at n c v (sibling 112 k) (kept_p (drop 2 n) k plain sfile)))
-    (λ k sfile. ap is_some (sym (other_at n c v (sibling 122 k) (kept_z (drop 2 n) k plain sfile))))
+    same_recovers (g_put n c v) v (λ k sfile. sym (other_at n c v k (kept_s (drop 2 n) k plain sfile))) (λ k sfile. sym (other_at n c v (p_file k) (kept_p (drop 2 n) k plain sfile)))
+    (λ k sfile. ap is_some (sym (other_at n c v (z_file k) (kept_z (drop 2 n) k plain sfile))))
 
 g_safe : (n : List ℕ) (c : Content) (v : View) → IsSfile n → IsSafe n v → IsSafe n (g_put n c v)
 g_safe n c v sfile safe = record {
   plain = safe.plain;
-  sound = λ none. subst (λ (s : Option Content). recovered_pfile s (g_put n c v (sibling 112 n)) ≡ g_put n c v (sibling 112 n)) (sym s_is) (subst (λ (p : Option Content). recovered_pfile (v n) p ≡ p) (sym p_is) (safe.sound (sym z_is ∙ none)));
+  sound = λ none. subst (λ (s : Option Content). recovered_pfile s (g_put n c v (p_file n)) ≡ g_put n c v (p_file n)) (sym s_is) (subst (λ (p : Option Content). recovered_pfile (v n) p ≡ p) (sym p_is) (safe.sound (sym z_is ∙ none)));
   paired = λ none. p_is ∙ safe.paired (sym s_is ∙ none);
 }
   where
     s_is : g_put n c v n ≡ v n
     s_is = other_at n c v n (kept_s (drop 2 n) n safe.plain sfile)
 
-    p_is : g_put n c v (sibling 112 n) ≡ v (sibling 112 n)
-    p_is = other_at n c v (sibling 112 n) (to_g 112 n sfile)
+    p_is : g_put n c v (p_file n) ≡ v (p_file n)
+    p_is = other_at n c v (p_file n) (to_g 112 n sfile)
 
-    z_is : g_put n c v (sibling 122 n) ≡ v (sibling 122 n)
-    z_is = other_at n c v (sibling 122 n) (to_g 122 n sfile)
+    z_is : g_put n c v (z_file n) ≡ v (z_file n)
+    z_is = other_at n c v (z_file n) (to_g 122 n sfile)
 
 -- behind it, where each image has the old s-files and p-files
 g_after : (n : List ℕ) (c : Content) (v : View) (m : Model) (past : List Model) (t : Told) → is_kept (drop 2 n) ≡ false → EndsBefore v m past t → EndsAfter v (g_put n c v) m past t
@@ -85,8 +85,8 @@ g_after n c v m past t plain ends = by (before_after v m past t ends)
 -- ---- what was made up to the g-file's place
 
 -- the y-file in what is told
-y_leaves : (n : List ℕ) (c : Content) (v : View) (a b : Told) → seen b ≡ Some (put v (sibling 121 n) (Some c)) → Leaves (λ m1. view_of m1 (sibling 121 n) ≡ Some c) a b
-y_leaves n c v a b is = λ m past told m2 past2 now. ap (λ (t : View). t (sibling 121 n)) (view_is (view_of m2) (put v (sibling 121 n) (Some c)) (sym (ap seen now) ∙ is)) ∙ put_same v (sibling 121 n) (Some c)
+y_leaves : (n : List ℕ) (c : Content) (v : View) (a b : Told) → seen b ≡ Some (put v (y_file n) (Some c)) → Leaves (λ m1. view_of m1 (y_file n) ≡ Some c) a b
+y_leaves n c v a b is = λ m past told m2 past2 now. ap (λ (t : View). t (y_file n)) (view_is (view_of m2) (put v (y_file n) (Some c)) (sym (ap seen now) ∙ is)) ∙ put_same v (y_file n) (Some c)
   where
     view_is : (u w : View) → Some u ≡ Some w → u ≡ w
     view_is u w e = cc
@@ -107,12 +107,12 @@ module _ (words : GetWords) (stamp : Stamp) (place : List ℕ) (heading : Bool) 
   new_is text v new writes is =
       ap (λ (f : Option Files). moved v n f) (is ∙ ap (λ (b : Bool). if b then Some (with_g (look v n) text (stays_writable words)) else None) writes) ∙ placed_g n v text (stays_writable words) sfile
 
-  y_is : (text : List ℕ) (v : View) (o : Option View) → writes_g words ≡ true → Becomes (with_y words n text) (Some v) o → o ≡ Some (put v (sibling 121 n) (Some (content text (stays_writable words))))
-  y_is text v o writes is = is ∙ ap (λ (b : Bool). Some (if b then put v (sibling 121 n) (Some (content text (stays_writable words))) else v)) writes
+  y_is : (text : List ℕ) (v : View) (o : Option View) → writes_g words ≡ true → Becomes (with_y words n text) (Some v) o → o ≡ Some (put v (y_file n) (Some (content text (stays_writable words))))
+  y_is text v o writes is = is ∙ ap (λ (b : Bool). Some (if b then put v (y_file n) (Some (content text (stays_writable words))) else v)) writes
 
   -- the disk keeps its s-files and p-files, wherever it ends
   placing : (r : Result (Unit {0}) StepFault) (p : Prepared) (text : List ℕ) (v : View) (ta tb td : Told) (out2 out3 err err2 : Option (List ℕ)) (m : Model) (past : List Model) → writes_g words ≡ true → FinishesGet words n p r (world (seen tb) out2 err) (world (seen td) out3 err2) → PlacesG words n r tb td
-      → ta ≡ Tells m past → IsCalm m → is_kept (drop 2 n) ≡ false → HasMade n ta tb → Leaves (λ m1. view_of m1 (sibling 121 n) ≡ Some (content text (stays_writable words))) ta tb → EndsBefore (view_of m) m past td
+      → ta ≡ Tells m past → IsCalm m → is_kept (drop 2 n) ≡ false → HasMade n ta tb → Leaves (λ m1. view_of m1 (y_file n) ≡ Some (content text (stays_writable words))) ta tb → EndsBefore (view_of m) m past td
   placing (Ok done) p text v ta tb td out2 out3 err err2 m past writes finishes places is calm plain made leaves =
       ends_pairs n (Some (content text (stays_writable words))) 1 m past td (ends_after n (Some (content text (stays_writable words))) ta tb td m past sfile is calm plain made leaves (places writes))
   placing (Err WriteFault) p text v ta tb td out2 out3 err err2 m past writes finishes places is calm plain made leaves =
@@ -150,7 +150,7 @@ module _ (words : GetWords) (stamp : Stamp) (place : List ℕ) (heading : Bool) 
   is_changing false is = absurd cc
 
   pub finished_moments : (r : Result (Unit {0}) StepFault) (p : Prepared) (left : Option (List ℕ)) (ta tb td : Told) (out out2 out3 err err2 : Option (List ℕ)) → writes_g words ≡ true → ReadiesAt words stamp place heading n (seen ta) (seen tb) (Ok p) out out2 err
-      → FinishesGet words n p r (world (seen tb) out2 err) (world (seen td) out3 err2) → PlacesG words n r tb td → TouchesOnly (bytes_eq (sibling 121 n)) ta tb → Leaves (IsFirm (sibling 121 n)) ta tb → StepMoments action r n left (scene ta out err) (scene td out3 err2)
+      → FinishesGet words n p r (world (seen tb) out2 err) (world (seen td) out3 err2) → PlacesG words n r tb td → TouchesOnly (bytes_eq (y_file n)) ta tb → Leaves (IsFirm (y_file n)) ta tb → StepMoments action r n left (scene ta out err) (scene td out3 err2)
   finished_moments r p left ta tb td out out2 out3 err err2 writes readies finishes places touches firm = λ m past i is heard calm safe.
       at_model r ta td out out3 err err2 m past is (by m past is calm (safe (is_changing (writes_g words) writes)) (subst (λ (t : Told). ReadiesAt words stamp place heading n (seen t) (seen tb) (Ok p) out out2 err) is readies))
     where
@@ -165,7 +165,7 @@ module _ (words : GetWords) (stamp : Stamp) (place : List ℕ) (heading : Bool) 
   refused_after : (o : Outcome) (refusal : Refusal) (v : View) (m : Model) (past : List Model) (t : Told) → o ≡ Err refusal → IsSafeFor action n v → EndsBefore v m past t → EndsAfter v (moved v n (effect_of n o).new) m past t × IsSafeFor action n (moved v n (effect_of n o).new)
   refused_after o refusal v m past t is safe ends = subst (λ (q : Outcome). EndsAfter v (moved v n (effect_of n q).new) m past t × IsSafeFor action n (moved v n (effect_of n q).new)) (sym is) (before_after v m past t ends, safe)
 
-  given_so : (fault : StepFault) (o : Outcome) (v : View) (m : Model) (past : List Model) (o4 : Option View) (td : Told) (out out2 err : Option (List ℕ)) → Readies words n o (Err fault) (world (Some v) out err) (world o4 out2 err) → Moves (bytes_eq (sibling 121 n)) (λ u. u) (Some v) o4 → (writes_g words ≡ false → o4 ≡ Some v)
+  given_so : (fault : StepFault) (o : Outcome) (v : View) (m : Model) (past : List Model) (o4 : Option View) (td : Told) (out out2 err : Option (List ℕ)) → Readies words n o (Err fault) (world (Some v) out err) (world o4 out2 err) → Moves (bytes_eq (y_file n)) (λ u. u) (Some v) o4 → (writes_g words ≡ false → o4 ≡ Some v)
       → GivesUpGet words n fault (Err fault) o4 (seen td) → IsSafeFor action n v → EndsBefore v m past td → EndsSo (Err fault) v m past td out err out2 err o
   given_so (Refused refusal) o v m past o4 td out out2 err ready moves same gives safe kept =
       (gives_up words n sfile (Refused refusal) (Err (Refused refusal)) o v o4 (seen td) out out2 err ready moves same gives, refused_after o refusal v m past td ready.0 safe kept)
@@ -176,14 +176,14 @@ module _ (words : GetWords) (stamp : Stamp) (place : List ℕ) (heading : Bool) 
       (gives_up words n sfile DiskFault (Err DiskFault) o v o4 (seen td) out out2 err ready moves same gives, (before_within v (moved v n (effect_of n o).new) m past td kept, inr (recovers_before v m past td kept)))
   given_so ReadFault o v m past o4 td out out2 err ready moves same gives safe kept = absurd ready
 
-  broken_so : (fault : StepFault) (o : Outcome) (v : View) (m : Model) (past : List Model) (o4 : Option View) (td : Told) (out out2 err : Option (List ℕ)) → Readies words n o (Err fault) (world (Some v) out err) (world o4 out2 err) → Moves (bytes_eq (sibling 121 n)) (λ u. u) (Some v) o4
-      → Moves (bytes_eq (sibling 121 n)) (λ u. u) o4 (seen td) → EndsBefore v m past td → EndsSo (Err DiskFault) v m past td out err out2 err o
+  broken_so : (fault : StepFault) (o : Outcome) (v : View) (m : Model) (past : List Model) (o4 : Option View) (td : Told) (out out2 err : Option (List ℕ)) → Readies words n o (Err fault) (world (Some v) out err) (world o4 out2 err) → Moves (bytes_eq (y_file n)) (λ u. u) (Some v) o4
+      → Moves (bytes_eq (y_file n)) (λ u. u) o4 (seen td) → EndsBefore v m past td → EndsSo (Err DiskFault) v m past td out err out2 err o
   broken_so fault o v m past o4 td out out2 err ready moves more kept = (
     record { view = (0, left_y words n sfile v o4 (seen td) moves more); out = written words n sfile fault o (world (Some v) out err) (world o4 out2 err) ready; err = refl },
     (before_within v (moved v n (effect_of n o).new) m past td kept, inr (recovers_before v m past td kept)),
   )
 
-  gives_so : (fault : StepFault) (r : Result (Unit {0}) StepFault) (o : Outcome) (v : View) (m : Model) (past : List Model) (o4 : Option View) (td : Told) (out out2 err : Option (List ℕ)) → Readies words n o (Err fault) (world (Some v) out err) (world o4 out2 err) → Moves (bytes_eq (sibling 121 n)) (λ u. u) (Some v) o4 → (writes_g words ≡ false → o4 ≡ Some v)
+  gives_so : (fault : StepFault) (r : Result (Unit {0}) StepFault) (o : Outcome) (v : View) (m : Model) (past : List Model) (o4 : Option View) (td : Told) (out out2 err : Option (List ℕ)) → Readies words n o (Err fault) (world (Some v) out err) (world o4 out2 err) → Moves (bytes_eq (y_file n)) (λ u. u) (Some v) o4 → (writes_g words ≡ false → o4 ≡ Some v)
       → GivesUpGet words n fault r o4 (seen td) → IsSafeFor action n v → EndsBefore v m past td → EndsSo r v m past td out err out2 err o
   gives_so fault r o v m past o4 td out out2 err ready moves same (inl gone) safe kept =
       subst (λ (s : Result (Unit {0}) StepFault). EndsSo s v m past td out err out2 err o) (sym gone.0) (given_so fault o v m past o4 td out out2 err ready moves same (inl (refl, gone.1)) safe kept)
@@ -191,9 +191,9 @@ module _ (words : GetWords) (stamp : Stamp) (place : List ℕ) (heading : Bool) 
       subst (λ (s : Result (Unit {0}) StepFault). EndsSo s v m past td out err out2 err o) (sym broken.0) (broken_so fault o v m past o4 td out out2 err ready moves broken.1 kept)
 
   pub given_up_moments : (fault : StepFault) (r : Result (Unit {0}) StepFault) (left : Option (List ℕ)) (ta tb td : Told) (out out2 err : Option (List ℕ)) → writes_g words ≡ true → ReadiesAt words stamp place heading n (seen ta) (seen tb) (Err fault) out out2 err
-      → Moves (bytes_eq (sibling 121 n)) (λ u. u) (seen ta) (seen tb) → GivesUpGet words n fault r (seen tb) (seen td) → TouchesOnly (bytes_eq (sibling 121 n)) ta tb → TouchesOnly (bytes_eq (sibling 121 n)) tb td → StepMoments action r n left (scene ta out err) (scene td out2 err)
+      → Moves (bytes_eq (y_file n)) (λ u. u) (seen ta) (seen tb) → GivesUpGet words n fault r (seen tb) (seen td) → TouchesOnly (bytes_eq (y_file n)) ta tb → TouchesOnly (bytes_eq (y_file n)) tb td → StepMoments action r n left (scene ta out err) (scene td out2 err)
   given_up_moments fault r left ta tb td out out2 err writes readies moves gives touches leaving = λ m past i is heard calm safe.
       at_model r ta td out out2 err err m past is
-      (gives_so fault r (outcome_at (view_of m)) (view_of m) m past (seen tb) td out out2 err (subst (λ (t : Told). ReadiesAt words stamp place heading n (seen t) (seen tb) (Err fault) out out2 err) is readies) (subst (λ (t : Told). Moves (bytes_eq (sibling 121 n)) (λ u. u) (seen t) (seen tb)) is moves)
+      (gives_so fault r (outcome_at (view_of m)) (view_of m) m past (seen tb) td out out2 err (subst (λ (t : Told). ReadiesAt words stamp place heading n (seen t) (seen tb) (Err fault) out out2 err) is readies) (subst (λ (t : Told). Moves (bytes_eq (y_file n)) (λ u. u) (seen t) (seen tb)) is moves)
       (λ never. absurd (let e : writes_g words ≡ true = writes in let f : writes_g words ≡ false = never in cc)) gives safe
-      (ends_working n m past td calm (only_wider (bytes_eq (sibling 121 n)) (is_working n) ta td (no_y n) (only_then (bytes_eq (sibling 121 n)) ta tb td touches leaving) m past is)))
+      (ends_working n m past td calm (only_wider (bytes_eq (y_file n)) (is_working n) ta td (no_y n) (only_then (bytes_eq (y_file n)) ta tb td touches leaving) m past is)))

@@ -3,7 +3,7 @@ use Rattle.std.proofs.Common.{◌≡◌, ◌≤◌, ℕ, Bool, true, false, not,
 use Rattle.std.specs.Prelude.{if◌then◌else◌}
 use Rattle.std.specs.Result.{IfOk}
 use Rattle.std.specs.Str.{bytes_eq}
-use Rattle.sccs_base.specs.Name.{sibling}
+use Rattle.sccs_base.specs.Name.{y_file}
 use Rattle.sccs_base.specs.Stream.{GivesOk, GivesSome, Rose}
 use Rattle.sccs_base.proofs.Gifts.{gives_none, some_none}
 use Rattle.sccs_sid.specs.declared.refusals.Refusal.{Refusal}
@@ -59,7 +59,7 @@ some_written false false is no_text = refl
 
 same_view : (words : GetWords) (n text : List ℕ) (o o2 : Option View) → writes_g words ≡ false → o2 ≡ o → Becomes (with_y words n text) o o2
 same_view words n text None o2 none same = same
-same_view words n text (Some v) o2 none same = same ∙ ap (λ (b : Bool). Some (if b then put v (sibling 121 n) (Some (record { bytes = text; writable = stays_writable words })) else v)) (sym none)
+same_view words n text (Some v) o2 none same = same ∙ ap (λ (b : Bool). Some (if b then put v (y_file n) (Some (record { bytes = text; writable = stays_writable words })) else v)) (sym none)
 
 -- with -p
 pub print_gives : (words : GetWords) (n : List ℕ) (records : List Record) (found : Found) (form : LineForm) (lines : List HistoryLine) (r : Result Shown StepFault) (o o2 : Option View) (out out2 err : Option (List ℕ)) → words.no_text ≡ false → words.print ≡ true → form ≡ form_in words found → o2 ≡ o
@@ -80,23 +80,23 @@ print_gives words n records found form lines r o o2 out out2 err text print is s
 
 -- into the y-file
 pub y_gives : (words : GetWords) (n : List ℕ) (records : List Record) (found : Found) (form : LineForm) (mode : Mode) (lines : List HistoryLine) (r : Result Shown StepFault) (o o2 : Option View) (out err : Option (List ℕ)) → words.no_text ≡ false → words.print ≡ false → form ≡ form_in words found → may_write mode ≡ stays_writable words
-    → Makes (sibling 121 n) mode (version_text form records lines) form lines o o2 r → GivesVersion words n records found lines r (world o out err) (world o2 out err)
-y_gives words n records found form mode lines r o o2 out err text print is may makes = by r (subst (λ (f : LineForm). Makes (sibling 121 n) mode (version_text f records lines) f lines o o2 r) is makes)
+    → Makes (y_file n) mode (version_text form records lines) form lines o o2 r → GivesVersion words n records found lines r (world o out err) (world o2 out err)
+y_gives words n records found form mode lines r o o2 out err text print is may makes = by r (subst (λ (f : LineForm). Makes (y_file n) mode (version_text f records lines) f lines o o2 r) is makes)
   where
     nothing : printed words (text_in words records found lines) ≡ []
     nothing = goes_nowhere words.print (text_in words records found lines) print
 
-    content_is : (v : View) → put v (sibling 121 n) (Some (finished_text mode (version_text (form_in words found) records lines))) ≡ with_y words n (text_in words records found lines) v
+    content_is : (v : View) → put v (y_file n) (Some (finished_text mode (version_text (form_in words found) records lines))) ≡ with_y words n (text_in words records found lines) v
     content_is v =
-        ap (λ (b : Bool). put v (sibling 121 n) (Some (record { bytes = version_text (form_in words found) records lines; writable = b }))) may
-        ∙ (ap (λ (t : List ℕ). put v (sibling 121 n) (Some (record { bytes = t; writable = stays_writable words }))) (sym (has_text words.no_text (version_text (form_in words found) records lines) text))
-        ∙ ap (λ (b : Bool). if b then put v (sibling 121 n) (Some (record { bytes = text_in words records found lines; writable = stays_writable words })) else v) (sym (some_written words.print words.no_text print text)))
+        ap (λ (b : Bool). put v (y_file n) (Some (record { bytes = version_text (form_in words found) records lines; writable = b }))) may
+        ∙ (ap (λ (t : List ℕ). put v (y_file n) (Some (record { bytes = t; writable = stays_writable words }))) (sym (has_text words.no_text (version_text (form_in words found) records lines) text))
+        ∙ ap (λ (b : Bool). if b then put v (y_file n) (Some (record { bytes = text_in words records found lines; writable = stays_writable words })) else v) (sym (some_written words.print words.no_text print text)))
 
-    becomes : (o o2 : Option View) → Becomes (λ v. put v (sibling 121 n) (Some (finished_text mode (version_text (form_in words found) records lines)))) o o2 → Becomes (with_y words n (text_in words records found lines)) o o2
+    becomes : (o o2 : Option View) → Becomes (λ v. put v (y_file n) (Some (finished_text mode (version_text (form_in words found) records lines)))) o o2 → Becomes (with_y words n (text_in words records found lines)) o o2
     becomes None o2 is = is
     becomes (Some v) o2 is = is ∙ ap (λ (w : View). Some w) (content_is v)
 
-    by : (r : Result Shown StepFault) → Makes (sibling 121 n) mode (version_text (form_in words found) records lines) (form_in words found) lines o o2 r → GivesVersion words n records found lines r (world o out err) (world o2 out err)
+    by : (r : Result Shown StepFault) → Makes (y_file n) mode (version_text (form_in words found) records lines) (form_in words found) lines o o2 r → GivesVersion words n records found lines r (world o out err) (world o2 out err)
     by (Ok s) made = (record { out = subst (λ t. GivesOk out out t) (sym nothing) (gives_none out); view = becomes o o2 made.0 }, λ some. made.1)
     by (Err Memory) made = (tt, some_none out _)
     by (Err DiskFault) made = (tt, some_none out _)
@@ -159,10 +159,10 @@ kept_up words n fault o none = inl (refl, by o)
   where
     by : (o : Option View) → Becomes (y_cleared words n) o o
     by None = refl
-    by (Some v) = ap (λ (b : Bool). Some (if b then without (sibling 121 n) v else v)) (sym none)
+    by (Some v) = ap (λ (b : Bool). Some (if b then without (y_file n) v else v)) (sym none)
 
 pub fault_so : (fault : StepFault) → unit_fault fault ≡ Err DiskFault → fault ≡ DiskFault
 fault_so fault is = cc
 
 pub broken_up : (words : GetWords) (n : List ℕ) (o : Option View) → GivesUpGet words n DiskFault (Err DiskFault) o o
-broken_up words n o = inr (refl, moves_same (bytes_eq (sibling 121 n)) o)
+broken_up words n o = inr (refl, moves_same (bytes_eq (y_file n)) o)

@@ -6,6 +6,7 @@ use Rattle.sccs_sid.specs.declared.sids.Sid.{Sid}
 use Rattle.sccs_sid.specs.declared.sids.Spec.{Spec}
 use Rattle.sccs_sid.specs.declared.sid_lists.Range.{Range}
 use Rattle.sccs_sid.specs.declared.refusals.Refusal.TheVariants as refusals
+use Rattle.sccs_history.specs.FlagText.{flag_i}
 use Rattle.sccs_history.specs.Numbers.{front_if, is_empty}
 use Rattle.sccs_history.specs.Applied.{applied, newest, version, version_of}
 use Rattle.sccs_history.specs.Body.{HistoryLine, lines_of}
@@ -98,7 +99,7 @@ module _ (words : GetWords) (stamp : Stamp) (place n : List ℕ) (heading : Bool
       ∙ (as_they_are parsed.header.records 1 (lines_in found parsed.items) ∙ ap bytes_of is))))
 
   keywords_stay : (lines : List HistoryLine) → words.keep ≡ true → has_its_keywords words parsed.header.flags lines ≡ Ok true
-  keywords_stay lines keep = ap (λ (b : Bool). check (not (not (b || (words.edit || words.no_text)) && has_flag parsed.header.flags 105) || has_keywords (texts lines)) refusals.NoKeywords) keep
+  keywords_stay lines keep = ap (λ (b : Bool). check (not (not (b || (words.edit || words.no_text)) && has_flag parsed.header.flags flag_i) || has_keywords (texts lines)) refusals.NoKeywords) keep
 
   g_free : is_in_the_way words f.g ≡ false → g_is_free words f.g ≡ Ok true
   g_free free = ap (λ (b : Bool). check (not b) refusals.GExists) free

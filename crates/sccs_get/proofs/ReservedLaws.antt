@@ -1,7 +1,7 @@
 -- What is found for an edit, or the first check that fails.
 use Rattle.std.proofs.Common.{◌≡◌, ℕ, Bool, List, drop, Option, None, Some, Result, Ok, Err, refl, sym, ap, subst, ◌∙◌}
 use Rattle.std.specs.Prelude.{IfSome}
-use Rattle.sccs_base.specs.Name.{sibling}
+use Rattle.sccs_base.specs.Name.{p_file}
 use Rattle.sccs_disk.specs.Files.{Content, View}
 use Rattle.sccs_sid.specs.Reading.{◌>>=◌}
 use Rattle.sccs_sid.specs.declared.moments.Stamp.{Stamp}
@@ -44,20 +44,20 @@ module _ (words : GetWords) (stamp : Stamp) (place n : List ℕ) where
   unfolding reserved_of
   reserved_is f = refl
 
-  unread_at : (v : View) (fault : StepFault) → AnswersPending (v n) (v (sibling 112 n)) (Err fault) → AnswersReserved words stamp place n (look v n) (Err fault)
+  unread_at : (v : View) (fault : StepFault) → AnswersPending (v n) (v (p_file n)) (Err fault) → AnswersReserved words stamp place n (look v n) (Err fault)
   unread_at v (Refused refusal) answers = reserved_is (look v n) ∙ ap (λ (r : Result Found Refusal). r >>= λ found. with_entry (is_in_the_way words (v (drop 2 n))) found) answers
   unread_at v Memory answers = tt
   unread_at v DiskFault answers = tt
   unread_at v ReadFault answers = absurd answers
   unread_at v WriteFault answers = absurd answers
 
-  pub unread : (o : Option View) (fault : StepFault) → IfSome o (λ (v : View). AnswersPending (v n) (v (sibling 112 n)) (Err fault)) → IfSome o (λ (v : View). AnswersReserved words stamp place n (look v n) (Err fault))
+  pub unread : (o : Option View) (fault : StepFault) → IfSome o (λ (v : View). AnswersPending (v n) (v (p_file n)) (Err fault)) → IfSome o (λ (v : View). AnswersReserved words stamp place n (look v n) (Err fault))
   unread None fault answers = tt
   unread (Some v) fault answers = unread_at v fault answers
 
   -- the files are read
   abbrev IsRead : View → Pending → Type 0
-  IsRead v x = AnswersPending (v n) (v (sibling 112 n)) (Ok x)
+  IsRead v x = AnswersPending (v n) (v (p_file n)) (Ok x)
 
   header_of : (v : View) (x : Pending) → (read : IsRead v x) → x.front.header ≡ read.0.header
   header_of v x read = shown_header (bytes_at (v n)) read.0 x.front read.1
@@ -102,4 +102,4 @@ module _ (words : GetWords) (stamp : Stamp) (place n : List ℕ) where
       → found_of words stamp place n x.front.header ≡ Ok version → IfSome o (λ (v : View). AnswersReserved words stamp place n (look v n) (Ok (record { pending = x; edit = e; version = version })))
   all_found None o1 x way e version same read is entry found = tt
   all_found (Some v) o1 x way e version same read is entry found =
-      (read.0, read.1, read_whole (v n) (v (sibling 112 n)) x read.0 read.1 read.2, version_so v x way e (Ok version) read (subst (λ (o : Option View). IfSome o (λ (u : View). way ≡ is_in_the_way words (u (drop 2 n)))) same is) entry found)
+      (read.0, read.1, read_whole (v n) (v (p_file n)) x read.0 read.1 read.2, version_so v x way e (Ok version) read (subst (λ (o : Option View). IfSome o (λ (u : View). way ≡ is_in_the_way words (u (drop 2 n)))) same is) entry found)

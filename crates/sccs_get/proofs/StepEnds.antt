@@ -2,7 +2,7 @@
 use Rattle.std.proofs.Common.{◌≡◌, ◌⊎◌, ℕ, Bool, true, false, List, [], drop, Option, None, Some, option_map, Result, Ok, Err, inl, inr, refl, sym, ap, subst, ◌∙◌, ⊎_elim}
 use Rattle.std.specs.Prelude.{if◌then◌else◌}
 use Rattle.std.specs.Str.{bytes_eq}
-use Rattle.sccs_base.specs.Name.{IsSfile, sibling}
+use Rattle.sccs_base.specs.Name.{IsSfile, p_file, y_file, z_file}
 use Rattle.sccs_base.specs.Stream.{GivesOk, GivesSome}
 use Rattle.sccs_base.proofs.Gifts.{gives_both, gives_then, some_none, some_of_whole}
 use Rattle.sccs_sid.specs.declared.refusals.StepFault.{StepFault}
@@ -38,46 +38,46 @@ g_and_s n sfile = other_bytes (drop 2 n) n (λ e. absurd (let apart : bytes_eq n
 
 pub placed_g : (n : List ℕ) (v : View) (text : List ℕ) (writable : Bool) → IsSfile n → placed v n (with_g (look v n) text writable) ≡ g_put n (record { bytes = text; writable = writable }) v
 placed_g n v text writable sfile =
-    ap (λ (t : View). put (put (put t (drop 2 n) (Some (content text writable))) (sibling 112 n) (v (sibling 112 n))) n (v n)) (put_back v (sibling 122 n))
-    ∙ (ap (λ (t : View). put t n (v n)) (ap (λ x. put (g_put n (content text writable) v) (sibling 112 n) x) (sym (put_other v (drop 2 n) (sibling 112 n) (Some (content text writable)) (to_g 112 n sfile))) ∙ put_back (g_put n (content text writable) v) (sibling 112 n))
+    ap (λ (t : View). put (put (put t (drop 2 n) (Some (content text writable))) (p_file n) (v (p_file n))) n (v n)) (put_back v (z_file n))
+    ∙ (ap (λ (t : View). put t n (v n)) (ap (λ x. put (g_put n (content text writable) v) (p_file n) x) (sym (put_other v (drop 2 n) (p_file n) (Some (content text writable)) (to_g 112 n sfile))) ∙ put_back (g_put n (content text writable) v) (p_file n))
     ∙ (ap (λ x. put (g_put n (content text writable) v) n x) (sym (put_other v (drop 2 n) n (Some (content text writable)) (g_and_s n sfile))) ∙ put_back (g_put n (content text writable) v) n))
 
 -- the y-file in the place of the g-file
-pub placed_y : (n : List ℕ) (c : Content) (v : View) (k : List ℕ) → is_working n k ≡ false → renamed (sibling 121 n) (drop 2 n) (put v (sibling 121 n) (Some c)) k ≡ g_put n c v k
+pub placed_y : (n : List ℕ) (c : Content) (v : View) (k : List ℕ) → is_working n k ≡ false → renamed (y_file n) (drop 2 n) (put v (y_file n) (Some c)) k ≡ g_put n c v k
 placed_y n c v k h = ⊎_elim here there (name_cases (drop 2 n) k)
   where
-    here : drop 2 n ≡ k → renamed (sibling 121 n) (drop 2 n) (put v (sibling 121 n) (Some c)) k ≡ g_put n c v k
-    here e = subst (λ l. renamed (sibling 121 n) (drop 2 n) (put v (sibling 121 n) (Some c)) l ≡ g_put n c v l) e
-        (put_same (put (put v (sibling 121 n) (Some c)) (sibling 121 n) None) (drop 2 n) (put v (sibling 121 n) (Some c) (sibling 121 n)) ∙ (put_same v (sibling 121 n) (Some c) ∙ sym (put_same v (drop 2 n) (Some c))))
+    here : drop 2 n ≡ k → renamed (y_file n) (drop 2 n) (put v (y_file n) (Some c)) k ≡ g_put n c v k
+    here e = subst (λ l. renamed (y_file n) (drop 2 n) (put v (y_file n) (Some c)) l ≡ g_put n c v l) e
+        (put_same (put (put v (y_file n) (Some c)) (y_file n) None) (drop 2 n) (put v (y_file n) (Some c) (y_file n)) ∙ (put_same v (y_file n) (Some c) ∙ sym (put_same v (drop 2 n) (Some c))))
 
-    there : bytes_eq (drop 2 n) k ≡ false → renamed (sibling 121 n) (drop 2 n) (put v (sibling 121 n) (Some c)) k ≡ g_put n c v k
+    there : bytes_eq (drop 2 n) k ≡ false → renamed (y_file n) (drop 2 n) (put v (y_file n) (Some c)) k ≡ g_put n c v k
     there apart =
-        put_other (put (put v (sibling 121 n) (Some c)) (sibling 121 n) None) (drop 2 n) k (put v (sibling 121 n) (Some c) (sibling 121 n)) apart
-        ∙ (put_other (put v (sibling 121 n) (Some c)) (sibling 121 n) k None (no_y n k h) ∙ (put_other v (sibling 121 n) k (Some c) (no_y n k h) ∙ sym (put_other v (drop 2 n) k (Some c) apart)))
+        put_other (put (put v (y_file n) (Some c)) (y_file n) None) (drop 2 n) k (put v (y_file n) (Some c) (y_file n)) apart
+        ∙ (put_other (put v (y_file n) (Some c)) (y_file n) k None (no_y n k h) ∙ (put_other v (y_file n) k (Some c) (no_y n k h) ∙ sym (put_other v (drop 2 n) k (Some c) apart)))
 
 -- by whether a g-file is written
 abbrev new_by : Bool → List ℕ → List ℕ → Bool → View → Option Files
 new_by b n text writable v = if b then Some (with_g (look v n) text writable) else None
 
 abbrev y_by : Bool → List ℕ → Content → View → View
-y_by b n c v = if b then put v (sibling 121 n) (Some c) else v
+y_by b n c v = if b then put v (y_file n) (Some c) else v
 
 abbrev g_by : Bool → List ℕ → View → View
-g_by b n v = if b then renamed (sibling 121 n) (drop 2 n) v else v
+g_by b n v = if b then renamed (y_file n) (drop 2 n) v else v
 
 abbrev gone_by : Bool → List ℕ → View → View
-gone_by b n v = if b then without (sibling 121 n) v else v
+gone_by b n v = if b then without (y_file n) v else v
 
 pub made_by : (b : Bool) (n text : List ℕ) (writable : Bool) (v : View) (k : List ℕ) → IsSfile n → is_working n k ≡ false → g_by b n (y_by b n (content text writable) v) k ≡ moved v n (new_by b n text writable v) k
 made_by true n text writable v k sfile h = placed_y n (content text writable) v k h ∙ sym (ap (λ (t : View). t k) (placed_g n v text writable sfile))
 made_by false n text writable v k sfile h = refl
 
-pub y_other : (b : Bool) (n : List ℕ) (c : Content) (v : View) (k : List ℕ) → bytes_eq (sibling 121 n) k ≡ false → y_by b n c v k ≡ v k
-y_other true n c v k h = put_other v (sibling 121 n) k (Some c) h
+pub y_other : (b : Bool) (n : List ℕ) (c : Content) (v : View) (k : List ℕ) → bytes_eq (y_file n) k ≡ false → y_by b n c v k ≡ v k
+y_other true n c v k h = put_other v (y_file n) k (Some c) h
 y_other false n c v k h = refl
 
-pub gone_other : (b : Bool) (n : List ℕ) (v : View) (k : List ℕ) → bytes_eq (sibling 121 n) k ≡ false → gone_by b n v k ≡ v k
-gone_other true n v k h = put_other v (sibling 121 n) k None h
+pub gone_other : (b : Bool) (n : List ℕ) (v : View) (k : List ℕ) → bytes_eq (y_file n) k ≡ false → gone_by b n v k ≡ v k
+gone_other true n v k h = put_other v (y_file n) k None h
 gone_other false n v k h = refl
 
 -- ---- the view at the end
@@ -103,7 +103,7 @@ module _ (words : GetWords) (n : List ℕ) (sfile : IsSfile n) where
       whole (Some w) moves = λ k h. moves k (no_working n k h)
 
   -- nothing is made, and no y-file is left
-  pub undone : (b : Bool) (text : List ℕ) (v : View) (o4 o5 : Option View) (out out2 err : Option (List ℕ)) → Moves (bytes_eq (sibling 121 n)) (λ u. u) (Some v) o4 → (b ≡ false → o4 ≡ Some v) → Becomes (gone_by b n) o4 o5 → GivesSome out out2 text → Uncommitted n text (world (Some v) out err) (world o5 out2 err)
+  pub undone : (b : Bool) (text : List ℕ) (v : View) (o4 o5 : Option View) (out out2 err : Option (List ℕ)) → Moves (bytes_eq (y_file n)) (λ u. u) (Some v) o4 → (b ≡ false → o4 ≡ Some v) → Becomes (gone_by b n) o4 o5 → GivesSome out out2 text → Uncommitted n text (world (Some v) out err) (world o5 out2 err)
   undone b text v None o5 out out2 err moves same gone gives = absurd moves
   undone b text v (Some u) o5 out out2 err moves same gone gives = record {
     view = subst (λ (o : Option View). Moves (is_working n) (λ w. w) (Some v) o) (sym gone) (λ k h. gone_other b n u k (no_y n k h) ∙ moves k (no_y n k h));
@@ -116,18 +116,18 @@ module _ (words : GetWords) (n : List ℕ) (sfile : IsSfile n) where
       view_is e = cc
 
       cleared_at : (b : Bool) → (b ≡ false → Some u ≡ Some v) → (k : List ℕ) → (gone_by b n u k ≡ None) ⊎ (gone_by b n u k ≡ v k)
-      cleared_at true same k = ⊎_elim (λ e. inl (subst (λ l. without (sibling 121 n) u l ≡ None) e (put_same u (sibling 121 n) None))) (λ apart. inr (put_other u (sibling 121 n) k None apart ∙ moves k apart)) (name_cases (sibling 121 n) k)
+      cleared_at true same k = ⊎_elim (λ e. inl (subst (λ l. without (y_file n) u l ≡ None) e (put_same u (y_file n) None))) (λ apart. inr (put_other u (y_file n) k None apart ∙ moves k apart)) (name_cases (y_file n) k)
       cleared_at false same k = inr (ap (λ (t : View). t k) (view_is (same refl)))
 
   -- the y-file alone is another
-  pub left_y : (v : View) (o4 o5 : Option View) → Moves (bytes_eq (sibling 121 n)) (λ u. u) (Some v) o4 → Moves (bytes_eq (sibling 121 n)) (λ u. u) o4 o5 → Moves (is_left n) (λ u. u) (Some v) o5
+  pub left_y : (v : View) (o4 o5 : Option View) → Moves (bytes_eq (y_file n)) (λ u. u) (Some v) o4 → Moves (bytes_eq (y_file n)) (λ u. u) o4 o5 → Moves (is_left n) (λ u. u) (Some v) o5
   left_y v None o5 moves more = absurd moves
   left_y v (Some u) None moves more = absurd more
   left_y v (Some u) (Some w) moves more = λ k h. more k (no_y n k (no_working n k h)) ∙ moves k (no_y n k (no_working n k h))
 
-  pub cleared_moves : (b : Bool) (o4 o5 : Option View) → Becomes (gone_by b n) o4 o5 → Moves (bytes_eq (sibling 121 n)) (λ u. u) o4 o5
+  pub cleared_moves : (b : Bool) (o4 o5 : Option View) → Becomes (gone_by b n) o4 o5 → Moves (bytes_eq (y_file n)) (λ u. u) o4 o5
   cleared_moves b None o5 gone = gone
-  cleared_moves b (Some u) o5 gone = subst (λ (o : Option View). Moves (bytes_eq (sibling 121 n)) (λ w. w) (Some u) o) (sym gone) (λ k h. gone_other b n u k h)
+  cleared_moves b (Some u) o5 gone = subst (λ (o : Option View). Moves (bytes_eq (y_file n)) (λ w. w) (Some u) o) (sym gone) (λ k h. gone_other b n u k h)
 
   -- ---- how the call ends
 
@@ -167,7 +167,7 @@ module _ (words : GetWords) (n : List ℕ) (sfile : IsSfile n) where
   finished (Err ReadFault) p o v o4 o5 out out2 out3 err err2 ready finishes = absurd finishes
 
   -- get gave up, and the y-file is gone
-  abbrev pub gave_up : (fault : StepFault) (o : Outcome) (v : View) (o4 o5 : Option View) (out out2 err : Option (List ℕ)) → Readies words n o (Err fault) (world (Some v) out err) (world o4 out2 err) → Moves (bytes_eq (sibling 121 n)) (λ u. u) (Some v) o4 → (writes_g words ≡ false → o4 ≡ Some v)
+  abbrev pub gave_up : (fault : StepFault) (o : Outcome) (v : View) (o4 o5 : Option View) (out out2 err : Option (List ℕ)) → Readies words n o (Err fault) (world (Some v) out err) (world o4 out2 err) → Moves (bytes_eq (y_file n)) (λ u. u) (Some v) o4 → (writes_g words ≡ false → o4 ≡ Some v)
       → Becomes (y_cleared words n) o4 o5 → Fails fault n o (world (Some v) out err) (world o5 out2 err)
   gave_up (Refused refusal) o v o4 o5 out out2 err ready moves same gone = (ready.0, undone (writes_g words) [] v o4 o5 out out2 err moves same gone (subst (λ (x : Option (List ℕ)). GivesSome out x []) (sym ready.1) (some_none out [])))
   gave_up Memory o v o4 o5 out out2 err ready moves same gone = undone (writes_g words) (effect_of n o).text v o4 o5 out out2 err moves same gone ready
@@ -183,7 +183,7 @@ module _ (words : GetWords) (n : List ℕ) (sfile : IsSfile n) where
   written DiskFault o w w2 ready = ready
   written ReadFault o w w2 ready = absurd ready
 
-  abbrev pub gives_up : (fault : StepFault) (r : Result (Unit {0}) StepFault) (o : Outcome) (v : View) (o4 o5 : Option View) (out out2 err : Option (List ℕ)) → Readies words n o (Err fault) (world (Some v) out err) (world o4 out2 err) → Moves (bytes_eq (sibling 121 n)) (λ u. u) (Some v) o4 → (writes_g words ≡ false → o4 ≡ Some v)
+  abbrev pub gives_up : (fault : StepFault) (r : Result (Unit {0}) StepFault) (o : Outcome) (v : View) (o4 o5 : Option View) (out out2 err : Option (List ℕ)) → Readies words n o (Err fault) (world (Some v) out err) (world o4 out2 err) → Moves (bytes_eq (y_file n)) (λ u. u) (Some v) o4 → (writes_g words ≡ false → o4 ≡ Some v)
       → GivesUpGet words n fault r o4 o5 → Met r o v o5 out out2 err err
   gives_up fault r o v o4 o5 out out2 err ready moves same (inl gone) =
       subst (λ (s : Result (Unit {0}) StepFault). Met s o v o5 out out2 err err) (sym gone.0) (gave_up fault o v o4 o5 out out2 err ready moves same gone.1)

@@ -2,7 +2,7 @@
 use Rattle.std.proofs.Common.{◌≡◌, ◌||◌, ℕ, Bool, true, false, not, List, drop, Option, None, Some, Result, Ok, Err, inl, refl, ap}
 use Rattle.std.specs.Prelude.{IfSome}
 use Rattle.std.specs.Str.{bytes_eq}
-use Rattle.sccs_base.specs.Name.{IsSfile, sibling}
+use Rattle.sccs_base.specs.Name.{IsSfile, p_file, y_file}
 use Rattle.sccs_sid.specs.declared.moments.Stamp.{Stamp}
 use Rattle.sccs_sid.specs.declared.refusals.StepFault.{StepFault}
 use Rattle.sccs_disk.specs.Files.{View}
@@ -29,24 +29,24 @@ use Rattle.sccs_get.proofs.StepEnds.{finished, gives_up}
 -- ---- the files that change
 
 -- neither the y-file nor the g-file is an s-file or a p-file
-apart_s : (n k : List ℕ) → IsSfile k → is_kept (drop 2 n) ≡ false → is_either (sibling 121 n) (drop 2 n) k ≡ false
-apart_s n k sfile plain = both_false (bytes_eq (sibling 121 n) k) (bytes_eq (drop 2 n) k) (from_sfile 121 n k sfile refl) (kept_s (drop 2 n) k plain sfile)
+apart_s : (n k : List ℕ) → IsSfile k → is_kept (drop 2 n) ≡ false → is_either (y_file n) (drop 2 n) k ≡ false
+apart_s n k sfile plain = both_false (bytes_eq (y_file n) k) (bytes_eq (drop 2 n) k) (from_sfile 121 n k sfile refl) (kept_s (drop 2 n) k plain sfile)
 
-apart_p : (n k : List ℕ) → IsSfile k → is_kept (drop 2 n) ≡ false → is_either (sibling 121 n) (drop 2 n) (sibling 112 k) ≡ false
-apart_p n k sfile plain = both_false (bytes_eq (sibling 121 n) (sibling 112 k)) (bytes_eq (drop 2 n) (sibling 112 k)) refl (kept_p (drop 2 n) k plain sfile)
+apart_p : (n k : List ℕ) → IsSfile k → is_kept (drop 2 n) ≡ false → is_either (y_file n) (drop 2 n) (p_file k) ≡ false
+apart_p n k sfile plain = both_false (bytes_eq (y_file n) (p_file k)) (bytes_eq (drop 2 n) (p_file k)) refl (kept_p (drop 2 n) k plain sfile)
 
-y_within : (n k : List ℕ) → is_either (sibling 121 n) (drop 2 n) k ≡ false → bytes_eq (sibling 121 n) k ≡ false
-y_within n k h = first (bytes_eq (sibling 121 n) k) (bytes_eq (drop 2 n) k) h
+y_within : (n k : List ℕ) → is_either (y_file n) (drop 2 n) k ≡ false → bytes_eq (y_file n) k ≡ false
+y_within n k h = first (bytes_eq (y_file n) k) (bytes_eq (drop 2 n) k) h
   where
     first : (x y : Bool) → (x || y) ≡ false → x ≡ false
     first true y h = cc
     first false y h = refl
 
-y_others : (n : List ℕ) (a b : Told) → TouchesOnly (bytes_eq (sibling 121 n)) a b → KeepsOthers (is_either (sibling 121 n) (drop 2 n)) a b
-y_others n a b touches = others_wider (bytes_eq (sibling 121 n)) (is_either (sibling 121 n) (drop 2 n)) a b (y_within n) (others_touched (bytes_eq (sibling 121 n)) a b touches)
+y_others : (n : List ℕ) (a b : Told) → TouchesOnly (bytes_eq (y_file n)) a b → KeepsOthers (is_either (y_file n) (drop 2 n)) a b
+y_others n a b touches = others_wider (bytes_eq (y_file n)) (is_either (y_file n) (drop 2 n)) a b (y_within n) (others_touched (bytes_eq (y_file n)) a b touches)
 
-pairs_kept : (n : List ℕ) (a b : Told) → is_kept (drop 2 n) ≡ false → KeepsOthers (is_either (sibling 121 n) (drop 2 n)) a b → BeginsUnlocked a b
-pairs_kept n a b plain keeps = unlocked_by (is_either (sibling 121 n) (drop 2 n)) a b (λ m past is k sfile. inl (apart_s n k sfile plain, apart_p n k sfile plain)) keeps
+pairs_kept : (n : List ℕ) (a b : Told) → is_kept (drop 2 n) ≡ false → KeepsOthers (is_either (y_file n) (drop 2 n)) a b → BeginsUnlocked a b
+pairs_kept n a b plain keeps = unlocked_by (is_either (y_file n) (drop 2 n)) a b (λ m past is k sfile. inl (apart_s n k sfile plain, apart_p n k sfile plain)) keeps
 
 module _ (words : GetWords) (stamp : Stamp) (place : List ℕ) (heading : Bool) (n : List ℕ) where
   abbrev action : Action
@@ -63,10 +63,10 @@ module _ (words : GetWords) (stamp : Stamp) (place : List ℕ) (heading : Bool) 
       by (Some v) readies = λ i heard. finished words n sfile r p (get_outcome words stamp place heading n (look v n)) v (seen tb) (seen td) out out2 out3 err err2 readies finishes
 
   pub given_up_steps : (fault : StepFault) (r : Result (Unit {0}) StepFault) (left : Option (List ℕ)) (ta tb td : Told) (out out2 err : Option (List ℕ)) → IsSfile n → ReadiesAt words stamp place heading n (seen ta) (seen tb) (Err fault) out out2 err
-      → Moves (bytes_eq (sibling 121 n)) (λ u. u) (seen ta) (seen tb) → (writes_g words ≡ false → tb ≡ ta) → GivesUpGet words n fault r (seen tb) (seen td) → Stepped action r n left (scene ta out err) (scene td out2 err)
+      → Moves (bytes_eq (y_file n)) (λ u. u) (seen ta) (seen tb) → (writes_g words ≡ false → tb ≡ ta) → GivesUpGet words n fault r (seen tb) (seen td) → Stepped action r n left (scene ta out err) (scene td out2 err)
   given_up_steps fault r left ta tb td out out2 err sfile readies moves same gives = by (seen ta) readies moves (λ none. ap seen (same none))
     where
-      by : (o : Option View) → ReadiesAt words stamp place heading n o (seen tb) (Err fault) out out2 err → Moves (bytes_eq (sibling 121 n)) (λ u. u) o (seen tb) → (writes_g words ≡ false → seen tb ≡ o)
+      by : (o : Option View) → ReadiesAt words stamp place heading n o (seen tb) (Err fault) out out2 err → Moves (bytes_eq (y_file n)) (λ u. u) o (seen tb) → (writes_g words ≡ false → seen tb ≡ o)
           → IfSome o (λ v. (i : List ℕ) → IsHeard false left i → Meets (λ (done : Unit {0}). 0) r n (get_outcome words stamp place heading n (look v n)) (world o out err) (world (seen td) out2 err))
       by None readies moves same = tt
       by (Some v) readies moves same = λ i heard. gives_up words n sfile fault r (get_outcome words stamp place heading n (look v n)) v (seen tb) (seen td) out out2 err readies moves same gives
@@ -82,12 +82,12 @@ module _ (words : GetWords) (stamp : Stamp) (place : List ℕ) (heading : Bool) 
 
   -- ---- the lock
 
-  pub finished_unlocked : (ta tb td : Told) → TouchesOnly (bytes_eq (sibling 121 n)) ta tb → KeepsOthers (is_either (sibling 121 n) (drop 2 n)) tb td → (writes_g words ≡ false → td ≡ ta) → StepUnlocked action n ta td
+  pub finished_unlocked : (ta tb td : Told) → TouchesOnly (bytes_eq (y_file n)) ta tb → KeepsOthers (is_either (y_file n) (drop 2 n)) tb td → (writes_g words ≡ false → td ≡ ta) → StepUnlocked action n ta td
   finished_unlocked ta tb td touches others same = λ locks plain. by (writes_g words) refl plain
     where
       by : (b : Bool) → writes_g words ≡ b → (not (writes_g words) ≡ false → is_kept (drop 2 n) ≡ false) → BeginsUnlocked ta td
-      by true is plain = pairs_kept n ta td (plain (ap not is)) (others_then (is_either (sibling 121 n) (drop 2 n)) ta tb td (y_others n ta tb touches) others)
+      by true is plain = pairs_kept n ta td (plain (ap not is)) (others_then (is_either (y_file n) (drop 2 n)) ta tb td (y_others n ta tb touches) others)
       by false is plain = unlocked_same ta td (same is)
 
-  pub given_up_unlocked : (ta tb td : Told) → TouchesOnly (bytes_eq (sibling 121 n)) ta tb → TouchesOnly (bytes_eq (sibling 121 n)) tb td → (writes_g words ≡ false → td ≡ ta) → StepUnlocked action n ta td
+  pub given_up_unlocked : (ta tb td : Told) → TouchesOnly (bytes_eq (y_file n)) ta tb → TouchesOnly (bytes_eq (y_file n)) tb td → (writes_g words ≡ false → td ≡ ta) → StepUnlocked action n ta td
   given_up_unlocked ta tb td touches leaving same = finished_unlocked ta tb td touches (y_others n tb td leaving) same

@@ -1,7 +1,7 @@
 -- The version of a whole body, as get gives it over any disk.
 use Rattle.std.proofs.Common.{◌≡◌, ℕ, Bool, true, false, List, [], Option, Some, Result, Ok, Err, sym, subst}
 use Rattle.std.specs.Prelude.{IfOk, IfSome}
-use Rattle.sccs_base.specs.Name.{sibling}
+use Rattle.sccs_base.specs.Name.{y_file}
 use Rattle.sccs_base.specs.Stream.{GivesOk}
 use Rattle.sccs_base.proofs.Gifts.{gives_none}
 use Rattle.sccs_disk.specs.Files.{View}
@@ -38,16 +38,16 @@ module _ (words : GetWords) (n : List ℕ) (records : List Record) (found : Foun
       }
 
   -- into the y-file
-  made_whole : (shown : Shown) (mode : Mode) → words.print ≡ false → form ≡ form_in words found → may_write mode ≡ stays_writable words → out2 ≡ out → MakesWhole (sibling 121 n) mode form records found.set shown view → GivesWhole words n records found shown out out2 view
-  made_whole shown mode print is may same whole = by (subst (λ (f : LineForm). MakesWhole (sibling 121 n) mode f records found.set shown view) is whole)
+  made_whole : (shown : Shown) (mode : Mode) → words.print ≡ false → form ≡ form_in words found → may_write mode ≡ stays_writable words → out2 ≡ out → MakesWhole (y_file n) mode form records found.set shown view → GivesWhole words n records found shown out out2 view
+  made_whole shown mode print is may same whole = by (subst (λ (f : LineForm). MakesWhole (y_file n) mode f records found.set shown view) is whole)
     where
-      by : MakesWhole (sibling 121 n) mode (form_in words found) records found.set shown view → GivesWhole words n records found shown out out2 view
+      by : MakesWhole (y_file n) mode (form_in words found) records found.set shown view → GivesWhole words n records found shown out out2 view
       by w = record {
         items = w.items;
         stood = w.stood;
         over = w.over;
         gives = subst (λ t. GivesOk out out2 t) (sym (goes_nowhere words.print (version_text (form_in words found) records (shown_before found.set w.items)) print)) (subst (λ (o : Option (List ℕ)). GivesOk out o []) (sym same) (gives_none out));
-        made = λ writes. subst (λ (b : Bool). IfSome view (λ (v : View). v (sibling 121 n) ≡ Some (record { bytes = version_text (form_in words found) records (shown_before found.set w.items); writable = b }))) may w.made;
+        made = λ writes. subst (λ (b : Bool). IfSome view (λ (v : View). v (y_file n) ≡ Some (record { bytes = version_text (form_in words found) records (shown_before found.set w.items); writable = b }))) may w.made;
         counted = w.counted;
       }
 
@@ -58,7 +58,7 @@ module _ (words : GetWords) (n : List ℕ) (records : List Record) (found : Foun
   prints_whole (Err fault) print is whole = tt
 
   pub makes_whole : (r : Result Shown StepFault) (mode : Mode) → words.print ≡ false → form ≡ form_in words found → may_write mode ≡ stays_writable words → out2 ≡ out
-      → IfOk r (λ s. has found.set 0 ≡ false → MakesWhole (sibling 121 n) mode form records found.set s view)
+      → IfOk r (λ s. has found.set 0 ≡ false → MakesWhole (y_file n) mode form records found.set s view)
       → IfOk r (λ s. words.no_text ≡ false → has found.set 0 ≡ false → GivesWhole words n records found s out out2 view)
   makes_whole (Ok s) mode print is may same whole = λ text no_zero. made_whole s mode print is may same (whole no_zero)
   makes_whole (Err fault) mode print is may same whole = tt

@@ -1,6 +1,7 @@
 -- The version that get's words ask for: POSIX, Shell and Utilities, get.
 use Rattle.std.specs.Prelude.{ℕ, Bool, true, List, [], ◌∷◌, Option, None, Some, option_map, Result, Ok, Err}
 use Rattle.sccs_sid.specs.Reading.{◌>>=◌}
+use Rattle.sccs_sid.specs.Refusal.{number_of, bad_list_number}
 use Rattle.sccs_sid.specs.declared.sids.Sid.{Sid}
 use Rattle.sccs_sid.specs.declared.sids.Spec.{Spec}
 use Rattle.sccs_sid.specs.declared.sid_lists.Range.{Range}
@@ -29,7 +30,8 @@ listed records (Some list) = named_serials records [] list
 
 -- the numbers of these checks
 abbrev pub asked_checks : List ℕ
-asked_checks = 15 ∷ 16 ∷ []
+asked_checks =
+    number_of refusals.NoSid ∷ bad_list_number ∷ []
 
 -- no SID may be both taken in and left out
 abbrev pub apart : Option Sid → Result Bool Refusal

@@ -1,7 +1,7 @@
 -- What giving the text of a version answers, and what is ready behind it: the report, and the new g-file as the y-file.
 use Rattle.std.specs.Prelude.{◌≡◌, ◌⊎◌, ℕ, true, false, List, [], drop, Option, None, Some, IfSome, Result, Ok, Err, if◌then◌else◌}
 use Rattle.std.specs.Str.{bytes_eq}
-use Rattle.sccs_base.specs.Name.{sibling}
+use Rattle.sccs_base.specs.Name.{y_file}
 use Rattle.sccs_base.specs.Stream.{GivesOk, GivesSome}
 use Rattle.sccs_disk.specs.Files.{View, put}
 use Rattle.sccs_disk.specs.Effects.{renamed}
@@ -30,7 +30,7 @@ printed words text = if words.print then text else []
 
 -- the text is the y-file, where it is to be the g-file
 abbrev pub with_y : GetWords → List ℕ → List ℕ → View → View
-with_y words n text v = if writes_g words then put v (sibling 121 n) (Some (record { bytes = text; writable = stays_writable words })) else v
+with_y words n text v = if writes_g words then put v (y_file n) (Some (record { bytes = text; writable = stays_writable words })) else v
 
 -- Where a text was given.
 pub record IsGiven (words : GetWords) (n text : List ℕ) (w w2 : World) : Type 0 where
@@ -76,11 +76,11 @@ Readies words n o (Err DiskFault) w w2 = GivesSome w.out w2.out (effect_of n o).
 
 -- the y-file in the place of the g-file, where there is a text for it
 abbrev pub g_placed : GetWords → List ℕ → View → View
-g_placed words n v = if writes_g words then renamed (sibling 121 n) (drop 2 n) v else v
+g_placed words n v = if writes_g words then renamed (y_file n) (drop 2 n) v else v
 
 -- no y-file, where one may have been made
 abbrev pub y_cleared : GetWords → List ℕ → View → View
-y_cleared words n v = if writes_g words then without (sibling 121 n) v else v
+y_cleared words n v = if writes_g words then without (y_file n) v else v
 
 -- the g-file is placed, and all is said or a prefix of it; or placing it failed, and nothing is said
 abbrev pub FinishesGet : GetWords → List ℕ → Prepared → Result (Unit {0}) StepFault → World → World → Type 0
@@ -98,4 +98,4 @@ PlacesG words n (Err fault) old new = writes_g words ≡ true → PlaceStops n o
 -- the y-file is gone, where one may have been made, and the answer is the fault; or the disk failed
 abbrev pub GivesUpGet : GetWords → List ℕ → StepFault → Result (Unit {0}) StepFault → Option View → Option View → Type 0
 GivesUpGet words n fault r a b =
-    ((r ≡ Err fault) × Becomes (y_cleared words n) a b) ⊎ ((r ≡ Err DiskFault) × Moves (bytes_eq (sibling 121 n)) (λ v. v) a b)
+    ((r ≡ Err fault) × Becomes (y_cleared words n) a b) ⊎ ((r ≡ Err DiskFault) × Moves (bytes_eq (y_file n)) (λ v. v) a b)

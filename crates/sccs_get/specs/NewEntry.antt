@@ -3,6 +3,7 @@ use Rattle.std.specs.Prelude.{ℕ, Bool, not, ◌&&◌, ◌||◌, List, [], ◌�
 use Rattle.std.specs.List.{list_any}
 use Rattle.sccs_sid.specs.Moment.{IsMoment}
 use Rattle.sccs_sid.specs.Reading.{◌>>=◌}
+use Rattle.sccs_sid.specs.Refusal.{number_of, bad_list_number}
 use Rattle.sccs_sid.specs.Sid.{IsComponent}
 use Rattle.sccs_sid.specs.declared.moments.Stamp.{Stamp}
 use Rattle.sccs_sid.specs.declared.sids.Sid.{Sid}
@@ -11,6 +12,7 @@ use Rattle.sccs_sid.specs.declared.sids.Spec.TheVariants.{Release}
 use Rattle.sccs_sid.specs.declared.sid_lists.Range.{Range}
 use Rattle.sccs_sid.specs.declared.refusals.Refusal.{Refusal}
 use Rattle.sccs_sid.specs.declared.refusals.Refusal.TheVariants as refusals
+use Rattle.sccs_history.specs.FlagText.{flag_j}
 use Rattle.sccs_history.specs.History.{same_sid}
 use Rattle.sccs_history.specs.declared.headers.Header.{Header}
 use Rattle.sccs_history.specs.declared.headers.Record.{Record}
@@ -26,7 +28,13 @@ use Rattle.sccs_get.specs.declared.targets.Asked.{Asked}
 
 -- the numbers of the checks of get -e
 abbrev pub edit_checks : List ℕ
-edit_checks = 2 ∷ 3 ∷ 5 ∷ 6 ∷ 7 ∷ 8 ∷ 9 ∷ 10 ∷ 11 ∷ 12 ∷ 15 ∷ 16 ∷ 17 ∷ 18 ∷ 19 ∷ 25 ∷ 33 ∷ 34 ∷ []
+edit_checks =
+    number_of refusals.Locked ∷ number_of refusals.Missing ∷ number_of refusals.TooLong
+    ∷ number_of refusals.NotSccs ∷ number_of (refusals.BadSum 0 0) ∷ number_of (refusals.BadFormat 0)
+    ∷ number_of refusals.Encoded ∷ number_of (refusals.BadPfile 0) ∷ number_of (refusals.Disagree 0)
+    ∷ number_of refusals.NotAllowed ∷ number_of refusals.NoSid ∷ bad_list_number ∷ number_of refusals.OutsideRelease
+    ∷ number_of refusals.LockedRelease ∷ number_of refusals.BeingEdited ∷ number_of refusals.GExists
+    ∷ number_of refusals.Full ∷ number_of (refusals.Changed 0 0 0 0) ∷ []
 
 -- the release of the SID to be made; where no number is left for it, that of the SID got
 abbrev pub release_made : Sid → Option Sid → ℕ
@@ -47,7 +55,7 @@ is_got edits got = list_any (λ e. same_sid e.got got) edits
 unfoldable pub free_sid : Header → List Edit → Bool → Sid → Option Sid → Result Sid Refusal
 free_sid header edits in_the_way got made = do
   free ← released header got made
-  joint ← check (has_flag header.flags 106 || not (is_got edits got)) refusals.BeingEdited
+  joint ← check (has_flag header.flags flag_j || not (is_got edits got)) refusals.BeingEdited
   place ← check (not in_the_way) refusals.GExists
   there made refusals.Full
 

@@ -3,13 +3,14 @@ use Rattle.std.specs.Prelude.{ℕ, Bool, true, false, not, ◌&&◌, ◌||◌, L
 use Rattle.std.specs.Str.{bytes_eq}
 use Rattle.sccs_base.specs.Name.{is_sfile_name}
 use Rattle.sccs_sid.specs.Reading.{◌>>=◌, is_empty}
-use Rattle.sccs_sid.specs.Refusal.{number_of}
+use Rattle.sccs_sid.specs.Refusal.{number_of, bad_list_number}
 use Rattle.sccs_sid.specs.declared.moments.Stamp.{Stamp}
 use Rattle.sccs_sid.specs.declared.sids.Sid.{Sid}
 use Rattle.sccs_sid.specs.declared.refusals.Refusal.{Refusal}
 use Rattle.sccs_sid.specs.declared.refusals.Refusal.TheVariants as refusals
 use Rattle.sccs_disk.specs.Files.{Content}
 use Rattle.sccs_history.specs.Body.{HistoryLine, lines_of}
+use Rattle.sccs_history.specs.FlagText.{flag_i}
 use Rattle.sccs_history.specs.declared.headers.Flag.{Flag}
 use Rattle.sccs_history.specs.declared.headers.Header.{Header}
 use Rattle.sccs_history.specs.declared.headers.Item.{Item}
@@ -84,7 +85,7 @@ text_in words records found lines = if words.no_text then [] else version_text (
 
 -- a file with the flag i must have keywords, where they are replaced
 abbrev pub needs_keywords : GetWords → List Flag → Bool
-needs_keywords words flags = replaces words && has_flag flags 105
+needs_keywords words flags = replaces words && has_flag flags flag_i
 
 -- the files with the version as their g-file
 abbrev pub with_g : Files → List ℕ → Bool → Files
@@ -129,7 +130,11 @@ get_outcome words stamp place heading n f = do
 
 -- the numbers of get's checks
 abbrev pub version_checks : List ℕ
-version_checks = 3 ∷ 5 ∷ 6 ∷ 7 ∷ 8 ∷ 9 ∷ 15 ∷ 16 ∷ 24 ∷ 25 ∷ 34 ∷ []
+version_checks =
+    number_of refusals.Missing ∷ number_of refusals.TooLong ∷ number_of refusals.NotSccs
+    ∷ number_of (refusals.BadSum 0 0) ∷ number_of (refusals.BadFormat 0) ∷ number_of refusals.Encoded
+    ∷ number_of refusals.NoSid ∷ bad_list_number ∷ number_of refusals.NoKeywords ∷ number_of refusals.GExists
+    ∷ number_of (refusals.Changed 0 0 0 0) ∷ []
 
 -- over any disk: on err nothing is said but the warning, unless the report goes there
 abbrev pub says_well : GetWords → List ℕ → Bool

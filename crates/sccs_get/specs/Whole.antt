@@ -1,6 +1,6 @@
 -- What a get gives over any disk: the version of some whole body.
 use Rattle.std.specs.Prelude.{◌≡◌, ℕ, Bool, true, List, Option, None, Some, IfSome, Ok}
-use Rattle.sccs_base.specs.Name.{sibling}
+use Rattle.sccs_base.specs.Name.{y_file}
 use Rattle.sccs_base.specs.Stream.{GivesOk}
 use Rattle.sccs_sid.specs.declared.moments.Stamp.{Stamp}
 use Rattle.sccs_sid.specs.declared.sids.Sid.{Sid}
@@ -24,7 +24,7 @@ use Rattle.sccs_get.specs.declared.found.Found.{Found}
 
 -- the y-file has this text
 abbrev pub IsInY : GetWords → List ℕ → List ℕ → Option View → Type 0
-IsInY words n text view = IfSome view (λ (v : View). v (sibling 121 n) ≡ Some (record { bytes = text; writable = stays_writable words }))
+IsInY words n text view = IfSome view (λ (v : View). v (y_file n) ≡ Some (record { bytes = text; writable = stays_writable words }))
 
 -- Some items are a whole body over live serials, and the text of what the set shows of them went to out with -p, else into the y-file.
 pub record GivesWhole (words : GetWords) (n : List ℕ) (records : List Record) (found : Found) (shown : Shown) (out out2 : Option (List ℕ)) (view : Option View) : Type 0 where

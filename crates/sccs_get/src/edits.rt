@@ -1,6 +1,6 @@
 ghost use Rattle.std.specs.Prelude.{◌≡◌, ◌≢◌, ◌≤◌, ◌∷◌, ◌++◌, [], ℕ, List, Option, Some, All, Ok, Err, IfOk, IfSome, is_some, true, false};
 ghost use Rattle.std.specs.Str.{bytes_eq};
-ghost use Rattle.sccs_base.specs.Name.{IsSfile, sibling};
+ghost use Rattle.sccs_base.specs.Name.{IsSfile, p_file, q_file, z_file};
 ghost use Rattle.sccs_base.specs.Stream.{Rose};
 ghost use Rattle.sccs_disk.specs.Calls.{IsThere};
 ghost use Rattle.sccs_disk.specs.Files.{View};
@@ -82,7 +82,7 @@ fn find_edit<D: Disk>(
 ) -> Result<Reserved, StepFault>
     requires { IsSfile name.now }
     ensures told { IfSome (seen (D.told disk.old)) (λ (v : View). AnswersReserved get.now.words.now get.now.stamp.now get.now.place.now name.now (look v name.now) result) }
-    ensures pending { IfOk result (λ r. IfSome (seen (D.told disk.old)) (λ (v : View). AnswersPending (v name.now) (v (sibling 112 name.now)) (Ok r.pending))) }
+    ensures pending { IfOk result (λ r. IfSome (seen (D.told disk.old)) (λ (v : View). AnswersPending (v name.now) (v (p_file name.now)) (Ok r.pending))) }
     ensures placed { IfOk result (λ r. IsPlaced r.pending.front) }
     ensures table { IfOk result (λ r. Falls 65536 (serials_of r.pending.front.header.records)) }
     ensures edits { IfOk result (λ r. All IsEdit r.pending.edits) }
@@ -138,9 +138,9 @@ fn add_entry<D: Disk>(
     requires edits { All IsEdit edits }
     requires edit { IsEdit edit }
     ensures entries { IfOk result (λ new. PreparesEntries name.now (edits ++ edit ∷ []) new (D.told disk.old) (D.told disk.new)) }
-    ensures moves { Moves (bytes_eq (sibling 113 name.now)) (λ v. v) (seen (D.told disk.old)) (seen (D.told disk.new)) }
-    ensures touches { TouchesOnly (bytes_eq (sibling 113 name.now)) (D.told disk.old) (D.told disk.new) }
-    ensures firm { IfOk result (λ new. OnReplace new (Leaves (IsFirm (sibling 113 name.now)) (D.told disk.old) (D.told disk.new))) }
+    ensures moves { Moves (bytes_eq (q_file name.now)) (λ v. v) (seen (D.told disk.old)) (seen (D.told disk.new)) }
+    ensures touches { TouchesOnly (bytes_eq (q_file name.now)) (D.told disk.old) (D.told disk.new) }
+    ensures firm { IfOk result (λ new. OnReplace new (Leaves (IsFirm (q_file name.now)) (D.told disk.old) (D.told disk.new))) }
     ensures checks { RefusesWithin [] result }
     ensures later { D.faults disk.old ≤ D.faults disk.new }
     ensures cause { result ≡ Err faults.DiskFault → Rose (D.faults disk.old) (D.faults disk.new) }
@@ -188,12 +188,12 @@ fn give_edit<O: Sink, D: Disk>(
         → IsBody (bytes_in (Some v) name.now) reserved.pending.front reserved.version.set file items
         → Prepares result name.now (Ok (edited get.now.words.now get.now.heading name.now reserved.pending.front.header.records (look (unlocked name.now v) name.now) reserved.pending.edits reserved.edit reserved.version (lines_in reserved.version items)))
         (world (Some v) (O.given out.old) err) (world (seen (D.told disk.new)) (O.given out.new) err) }
-    ensures needs { IsThere (sibling 122 name.now) (D.told disk.old) → IfOk result (λ p. IsReady name.now p (D.told disk.new)) }
+    ensures needs { IsThere (z_file name.now) (D.told disk.old) → IfOk result (λ p. IsReady name.now p (D.told disk.new)) }
     ensures touches { TouchesOnly (is_working name.now) (D.told disk.old) (D.told disk.new) }
     ensures firm { IfOk result (λ p. IsFirmPrepared name.now p (D.told disk.old) (D.told disk.new)) }
     ensures entries { Agrees reserved.pending.front.header.records reserved.pending.edits
         → lives reserved.pending.front.header.records reserved.edit.made ≡ false
-        → IfSome (seen (D.told disk.old)) (λ (v : View). AnswersPending (v name.now) (v (sibling 112 name.now)) (Ok reserved.pending))
+        → IfSome (seen (D.told disk.old)) (λ (v : View). AnswersPending (v name.now) (v (p_file name.now)) (Ok reserved.pending))
         → IfOk result (λ p. SettlesEntries name.now p (D.told disk.new)) }
     ensures whole { IfOk result (λ p. get.now.words.now.no_text ≡ false → has reserved.version.set 0 ≡ false
         → GivesFound get.now.words.now get.now.heading name.now reserved.pending.front.header.records reserved.version (Some reserved.edit.made) p (O.given out.old) (O.given out.new) (seen (D.told disk.new))) }

@@ -1,6 +1,6 @@
 ghost use Rattle.std.specs.Prelude.{◌≡◌, ◌≢◌, ◌≤◌, ℕ, true, false, List, Option, Err, IfOk, IfSome, OnOk};
 ghost use Rattle.std.specs.Str.{bytes_eq};
-ghost use Rattle.sccs_base.specs.Name.{IsSfile, sibling};
+ghost use Rattle.sccs_base.specs.Name.{IsSfile, y_file};
 ghost use Rattle.sccs_disk.specs.Calls.{IsThere};
 ghost use Rattle.sccs_disk.specs.Images.{IsFirm};
 ghost use Rattle.sccs_disk.specs.Told.{seen};
@@ -61,10 +61,10 @@ pub fn give_version<O: Sink, D: Disk>(
         → IsBody (bytes_in (seen (D.told disk.old)) name.now) front.now found.now.set file items
         → GivesVersion words.now name.now front.now.header.records found.now (lines_in found.now items) result
         (world (seen (D.told disk.old)) (O.given out.old) err) (world (seen (D.told disk.new)) (O.given out.new) err) }
-    ensures moves { Moves (bytes_eq (sibling 121 name.now)) (λ v. v) (seen (D.told disk.old)) (seen (D.told disk.new)) }
-    ensures there { OnOk result (writes_g words.now ≡ true → IsThere (sibling 121 name.now) (D.told disk.new)) }
-    ensures touches { TouchesOnly (bytes_eq (sibling 121 name.now)) (D.told disk.old) (D.told disk.new) }
-    ensures firm { OnOk result (writes_g words.now ≡ true → Leaves (IsFirm (sibling 121 name.now)) (D.told disk.old) (D.told disk.new)) }
+    ensures moves { Moves (bytes_eq (y_file name.now)) (λ v. v) (seen (D.told disk.old)) (seen (D.told disk.new)) }
+    ensures there { OnOk result (writes_g words.now ≡ true → IsThere (y_file name.now) (D.told disk.new)) }
+    ensures touches { TouchesOnly (bytes_eq (y_file name.now)) (D.told disk.old) (D.told disk.new) }
+    ensures firm { OnOk result (writes_g words.now ≡ true → Leaves (IsFirm (y_file name.now)) (D.told disk.old) (D.told disk.new)) }
     ensures same { writes_g words.now ≡ false → D.told disk.new ≡ D.told disk.old }
     ensures whole { IfOk result (λ s. words.now.no_text ≡ false → has found.now.set 0 ≡ false
         → GivesWhole words.now name.now front.now.header.records found.now s (O.given out.old) (O.given out.new) (seen (D.told disk.new))) }

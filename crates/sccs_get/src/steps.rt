@@ -1,6 +1,6 @@
 ghost use Rattle.std.specs.Prelude.{◌≡◌, ◌≤◌, ◌⊎◌, ◌||◌, ℕ, true, false, List, drop, Option, Err, IfOk, IfSome, OnErr, OnOk};
 ghost use Rattle.std.specs.Str.{bytes_eq};
-ghost use Rattle.sccs_base.specs.Name.{IsSfile, sibling};
+ghost use Rattle.sccs_base.specs.Name.{IsSfile, y_file};
 ghost use Rattle.sccs_base.specs.Stream.{Rose};
 ghost use Rattle.sccs_disk.specs.Calls.{IsThere};
 ghost use Rattle.sccs_disk.specs.Files.{View};
@@ -62,10 +62,10 @@ fn ready<O: Sink, D: Disk>(
     ensures readies { (err : Option (List ℕ)) → IfSome (seen (D.told disk.old)) (λ (v : View).
         Readies get.now.words.now name.now (get_outcome get.now.words.now get.now.stamp.now get.now.place.now get.now.heading name.now (look v name.now)) result
         (world (Some v) (O.given out.old) err) (world (seen (D.told disk.new)) (O.given out.new) err)) }
-    ensures moves { Moves (bytes_eq (sibling 121 name.now)) (λ v. v) (seen (D.told disk.old)) (seen (D.told disk.new)) }
-    ensures there { OnOk result (writes_g get.now.words.now ≡ true → IsThere (sibling 121 name.now) (D.told disk.new)) }
-    ensures touches { TouchesOnly (bytes_eq (sibling 121 name.now)) (D.told disk.old) (D.told disk.new) }
-    ensures firm { OnOk result (writes_g get.now.words.now ≡ true → Leaves (IsFirm (sibling 121 name.now)) (D.told disk.old) (D.told disk.new)) }
+    ensures moves { Moves (bytes_eq (y_file name.now)) (λ v. v) (seen (D.told disk.old)) (seen (D.told disk.new)) }
+    ensures there { OnOk result (writes_g get.now.words.now ≡ true → IsThere (y_file name.now) (D.told disk.new)) }
+    ensures touches { TouchesOnly (bytes_eq (y_file name.now)) (D.told disk.old) (D.told disk.new) }
+    ensures firm { OnOk result (writes_g get.now.words.now ≡ true → Leaves (IsFirm (y_file name.now)) (D.told disk.old) (D.told disk.new)) }
     ensures same { writes_g get.now.words.now ≡ false → D.told disk.new ≡ D.told disk.old }
     ensures whole { IfOk result (λ p. get.now.words.now.no_text ≡ false
         → GivesAsked get.now.words.now get.now.stamp.now get.now.place.now get.now.heading name.now p (O.given out.old) (O.given out.new) (seen (D.told disk.new))) }
@@ -109,12 +109,12 @@ fn ready<O: Sink, D: Disk>(
 // puts the y-file in the place of the g-file, where there is a text for it
 fn place<D: Disk>(words: &GetWords, name: &Name, disk: &mut D) -> Result<(), StepFault>
     requires sfile { IsSfile name.now }
-    requires there { writes_g words.now ≡ true → IsThere (sibling 121 name.now) (D.told disk.old) }
+    requires there { writes_g words.now ≡ true → IsThere (y_file name.now) (D.told disk.old) }
     ensures view { OnOk result (Becomes (g_placed words.now name.now) (seen (D.told disk.old)) (seen (D.told disk.new))) }
     ensures halfway { OnErr result (MayBecome (g_placed words.now name.now) (seen (D.told disk.old)) (seen (D.told disk.new))) }
     ensures stopped { OnErr result (PlaceStops name.now (D.told disk.old) (D.told disk.new)) }
     ensures calm { OnOk result (writes_g words.now ≡ true → PlaceEnds name.now (D.told disk.old) (D.told disk.new)) }
-    ensures others { KeepsOthers (λ k. bytes_eq (sibling 121 name.now) k || bytes_eq (drop 2 name.now) k) (D.told disk.old) (D.told disk.new) }
+    ensures others { KeepsOthers (λ k. bytes_eq (y_file name.now) k || bytes_eq (drop 2 name.now) k) (D.told disk.old) (D.told disk.new) }
     ensures same { writes_g words.now ≡ false → D.told disk.new ≡ D.told disk.old }
     ensures fault { OnErr result (result ≡ Err faults.DiskFault) }
     ensures later { D.faults disk.old ≤ D.faults disk.new }
@@ -139,11 +139,11 @@ fn finish<O: Sink, E: Sink, D: Disk>(
     disk: &mut D,
 ) -> Result<(), StepFault>
     requires sfile { IsSfile name.now }
-    requires there { writes_g words.now ≡ true → IsThere (sibling 121 name.now) (D.told disk.old) }
+    requires there { writes_g words.now ≡ true → IsThere (y_file name.now) (D.told disk.old) }
     ensures finishes { FinishesGet words.now name.now prepared.now result
         (world (seen (D.told disk.old)) (O.given out.old) (E.given err.old)) (world (seen (D.told disk.new)) (O.given out.new) (E.given err.new)) }
     ensures places { PlacesG words.now name.now result (D.told disk.old) (D.told disk.new) }
-    ensures others { KeepsOthers (λ k. bytes_eq (sibling 121 name.now) k || bytes_eq (drop 2 name.now) k) (D.told disk.old) (D.told disk.new) }
+    ensures others { KeepsOthers (λ k. bytes_eq (y_file name.now) k || bytes_eq (drop 2 name.now) k) (D.told disk.old) (D.told disk.new) }
     ensures same { writes_g words.now ≡ false → D.told disk.new ≡ D.told disk.old }
     ensures causes { (input : ℕ) → StepCauses result
         (counts input (O.faults out.old) (E.faults err.old) (D.faults disk.old)) (counts input (O.faults out.new) (E.faults err.new) (D.faults disk.new)) }
@@ -163,7 +163,7 @@ fn give_up<D: Disk>(
 ) -> Result<(), StepFault>
     requires { IsSfile name.now }
     ensures gives_up { GivesUpGet words.now name.now fault result (seen (D.told disk.old)) (seen (D.told disk.new)) }
-    ensures touches { TouchesOnly (bytes_eq (sibling 121 name.now)) (D.told disk.old) (D.told disk.new) }
+    ensures touches { TouchesOnly (bytes_eq (y_file name.now)) (D.told disk.old) (D.told disk.new) }
     ensures same { writes_g words.now ≡ false → D.told disk.new ≡ D.told disk.old }
     ensures later { D.faults disk.old ≤ D.faults disk.new }
     ensures cause { result ≡ Err faults.DiskFault → (fault ≡ faults.DiskFault) × (D.faults disk.new ≡ D.faults disk.old) ⊎ Rose (D.faults disk.old) (D.faults disk.new) }

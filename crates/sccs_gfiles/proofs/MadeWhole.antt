@@ -1,7 +1,7 @@
 -- A g-file that is made whole: its y-file is made and takes its place.
 use Rattle.std.proofs.Common.{◌≡◌, ℕ, false, List, drop, Option, inl, inr, refl, sym, subst, ◌∙◌}
 use Rattle.std.specs.Str.{bytes_eq}
-use Rattle.sccs_base.specs.Name.{IsSfile, sibling}
+use Rattle.sccs_base.specs.Name.{IsSfile, p_file, y_file, z_file}
 use Rattle.sccs_disk.specs.Files.{Content, Model, View, view_of}
 use Rattle.sccs_disk.specs.Images.{Allows, Image, IsFirm, IsOwn}
 use Rattle.sccs_disk.specs.Told.{Told, Tells}
@@ -24,46 +24,46 @@ use Rattle.sccs_gfiles.proofs.Placed.{keeps_same}
 
 -- ---- the y-file
 
-pub made : (n : List ℕ) (a b c d : Told) → TellsSane b → TouchesOnly (bytes_eq (sibling 121 n)) a b → Leaves (IsOwn (sibling 121 n)) a b → OnlyWrites (sibling 121 n) b c → OnlyWrites (sibling 121 n) c d
-    → Leaves (IsFirm (sibling 121 n)) c d → HasMade n a d
+pub made : (n : List ℕ) (a b c d : Told) → TellsSane b → TouchesOnly (bytes_eq (y_file n)) a b → Leaves (IsOwn (y_file n)) a b → OnlyWrites (y_file n) b c → OnlyWrites (y_file n) c d
+    → Leaves (IsFirm (y_file n)) c d → HasMade n a d
 made n a b c d sane touches own written finished firm = record {
-  touches = written_touches (sibling 121 n) (bytes_eq (sibling 121 n)) a b d sane (λ k h. h) touches own (only_both (sibling 121 n) b c d written finished);
-  firm = leaves_from (IsFirm (sibling 121 n)) (bytes_eq (sibling 121 n)) a b d touches (firm_after (sibling 121 n) b c d written firm);
+  touches = written_touches (y_file n) (bytes_eq (y_file n)) a b d sane (λ k h. h) touches own (only_both (y_file n) b c d written finished);
+  firm = leaves_from (IsFirm (y_file n)) (bytes_eq (y_file n)) a b d touches (firm_after (y_file n) b c d written firm);
 }
 
 -- an image of a moment up to then
-touched_image : (n : List ℕ) (new : Option Content) (m m2 : Model) → IsSfile n → IsCalm m → Touches (bytes_eq (sibling 121 n)) m m2 → Allows (IsPlacing n m new 0) m2
+touched_image : (n : List ℕ) (new : Option Content) (m m2 : Model) → IsSfile n → IsCalm m → Touches (bytes_eq (y_file n)) m m2 → Allows (IsPlacing n m new 0) m2
 touched_image n new m m2 sfile calm touches w image =
-    let x : (u : View) × Image m u × ((k : List ℕ) → bytes_eq (sibling 121 n) k ≡ false → u k ≡ w k) = touches.images w image in
+    let x : (u : View) × Image m u × ((k : List ℕ) → bytes_eq (y_file n) k ≡ false → u k ≡ w k) = touches.images w image in
     record {
-      keeps = keeps_same (view_of m) x.0 w (calm x.0 x.1) (λ k other. sym (x.2 k (no_y n k (working_s n k other)))) (λ k other. sym (x.2 (sibling 112 k) refl)) (λ k other. sym (x.2 (sibling 122 k) refl));
-      g_file = inr (refl, (x.0, x.1, sym (x.2 (drop 2 n) (from_g 121 n sfile))));
+      keeps = keeps_same (view_of m) x.0 w (calm x.0 x.1) (λ k other. sym (x.2 k (no_y n k (working_s n k other)))) (λ k other. sym (x.2 (p_file k) refl)) (λ k other. sym (x.2 (z_file k) refl));
+      g_state = inr (refl, (x.0, x.1, sym (x.2 (drop 2 n) (from_g 121 n sfile))));
     }
 
-abbrev touched_run : (n : List ℕ) (new : Option Content) (m : Model) (past : List Model) (t : Told) → IsSfile n → IsCalm m → Touching (bytes_eq (sibling 121 n)) m past t → Went (IsPlacing n m new) m past 0 t
+abbrev touched_run : (n : List ℕ) (new : Option Content) (m : Model) (past : List Model) (t : Told) → IsSfile n → IsCalm m → Touching (bytes_eq (y_file n)) m past t → Went (IsPlacing n m new) m past 0 t
 touched_run n new m past t sfile calm run = record {
   added = run.added;
   is = run.is;
-  numbers = numbered_zero (Touches (bytes_eq (sibling 121 n)) m) (λ i m2. Allows (IsPlacing n m new i) m2) run.added m (λ m2 touches. touched_image n new m m2 sfile calm touches) run.each;
-  guarded = guards_touched (bytes_eq (sibling 121 n)) m run.added (λ k other. no_y n k (working_s n k other)) (λ k other. refl) run.each;
+  numbers = numbered_zero (Touches (bytes_eq (y_file n)) m) (λ i m2. Allows (IsPlacing n m new i) m2) run.added m (λ m2 touches. touched_image n new m m2 sfile calm touches) run.each;
+  guarded = guards_touched (bytes_eq (y_file n)) m run.added (λ k other. no_y n k (working_s n k other)) (λ k other. refl) run.each;
 }
 
 -- where a run ends of which each image is such a one
 ends_calm : (n : List ℕ) (new : Option Content) (m m2 : Model) (j : ℕ) → Allows (IsPlacing n m new j) m2 → IsCalm m2
 ends_calm n new m m2 j placing = calm_kept (view_of m) m2 (λ w image. (placing w image).keeps)
 
-pub ends_before : (n : List ℕ) (new : Option Content) (a b : Told) (m : Model) (past : List Model) → IsSfile n → a ≡ Tells m past → IsCalm m → TouchesOnly (bytes_eq (sibling 121 n)) a b → EndsPlacing n new 0 m past b
+pub ends_before : (n : List ℕ) (new : Option Content) (a b : Told) (m : Model) (past : List Model) → IsSfile n → a ≡ Tells m past → IsCalm m → TouchesOnly (bytes_eq (y_file n)) a b → EndsPlacing n new 0 m past b
 ends_before n new a b m past sfile is calm touches =
-    let run : Touching (bytes_eq (sibling 121 n)) m past b = touches m past is in (
+    let run : Touching (bytes_eq (y_file n)) m past b = touches m past is in (
       touched_run n new m past b sfile calm run,
-      ends_calm n new m (newest run.added m) 0 (touched_image n new m (newest run.added m) sfile calm (each_newest (Touches (bytes_eq (sibling 121 n)) m) run.added m run.each)),
+      ends_calm n new m (newest run.added m) 0 (touched_image n new m (newest run.added m) sfile calm (each_newest (Touches (bytes_eq (y_file n)) m) run.added m run.each)),
     )
 
 -- ---- the whole
 
 g_joined : (n : List ℕ) (new : Option Content) (m m1 : Model) (j : ℕ) (w : View) → Allows (IsPlacing n m new 0) m1 → HasG n m1 new j w → HasG n m new j w
 g_joined n new m m1 j w first (inl is) = inl is
-g_joined n new m m1 j w first (inr (zero, (u, image, same))) = old_or_new zero same (first u image).g_file
+g_joined n new m m1 j w first (inr (zero, (u, image, same))) = old_or_new zero same (first u image).g_state
   where
     old_or_new : j ≡ 0 → w (drop 2 n) ≡ u (drop 2 n) → HasG n m new 0 u → HasG n m new j w
     old_or_new is same (inl made) = inl (same ∙ made)
@@ -78,7 +78,7 @@ pairs_joined u v w first next = record {
 image_joined : (n : List ℕ) (new : Option Content) (m m1 : Model) (j : ℕ) (w : View) → Allows (IsPlacing n m new 0) m1 → IsPlacing n m1 new j w → IsPlacing n m new j w
 image_joined n new m m1 j w first next = record {
   keeps = pairs_joined (view_of m) (view_of m1) w (first (view_of m1) (view_image m1)).keeps next.keeps;
-  g_file = g_joined n new m m1 j w first next.g_file;
+  g_state = g_joined n new m m1 j w first next.g_state;
 }
 
 abbrev as_whole : (n : List ℕ) (new : Option Content) (m m1 : Model) (past1 : List Model) (j : ℕ) (t : Told) → Allows (IsPlacing n m new 0) m1 → Went (IsPlacing n m1 new) m1 past1 j t → Went (IsPlacing n m new) m1 past1 j t
@@ -97,20 +97,20 @@ whole n new m past j b d first next = (
 )
 
 -- the y-file is made, and then the call ends
-from_made : (n : List ℕ) (new : Option Content) (a b d : Told) (m : Model) (past : List Model) (j : ℕ) → a ≡ Tells m past → is_kept (drop 2 n) ≡ false → HasMade n a b → Leaves (λ m1. view_of m1 (sibling 121 n) ≡ new) a b
-    → EndsPlacing n new 0 m past b → ((m1 : Model) (past1 : List Model) → b ≡ Tells m1 past1 → CanPlace n m1 → EndsPlacing n (view_of m1 (sibling 121 n)) j m1 past1 d) → EndsPlacing n new j m past d
+from_made : (n : List ℕ) (new : Option Content) (a b d : Told) (m : Model) (past : List Model) (j : ℕ) → a ≡ Tells m past → is_kept (drop 2 n) ≡ false → HasMade n a b → Leaves (λ m1. view_of m1 (y_file n) ≡ new) a b
+    → EndsPlacing n new 0 m past b → ((m1 : Model) (past1 : List Model) → b ≡ Tells m1 past1 → CanPlace n m1 → EndsPlacing n (view_of m1 (y_file n)) j m1 past1 d) → EndsPlacing n new j m past d
 from_made n new a b d m past j is plain has told first call =
     whole n new m past j b d first
     (subst (λ (o : Option Content). EndsPlacing n o j (newest first.0.added m) (earlier first.0.added m past) d) (told m past is (newest first.0.added m) (earlier first.0.added m past) first.0.is)
     (call (newest first.0.added m) (earlier first.0.added m past) first.0.is
-    (record { calm = first.1; y_file = has.firm m past is (newest first.0.added m) (earlier first.0.added m past) first.0.is; plain = plain })))
+    (record { calm = first.1; y_state = has.firm m past is (newest first.0.added m) (earlier first.0.added m past) first.0.is; plain = plain })))
 
 pub ends_within : (n : List ℕ) (new : Option Content) (a b d : Told) (m : Model) (past : List Model) → IsSfile n → a ≡ Tells m past → IsCalm m → is_kept (drop 2 n) ≡ false → HasMade n a b
-    → Leaves (λ m1. view_of m1 (sibling 121 n) ≡ new) a b → PlaceStops n b d → EndsPlacing n new 0 m past d
+    → Leaves (λ m1. view_of m1 (y_file n) ≡ new) a b → PlaceStops n b d → EndsPlacing n new 0 m past d
 ends_within n new a b d m past sfile is calm plain has told stops = from_made n new a b d m past 0 is plain has told (ends_before n new a b m past sfile is calm has.touches) stops
 
 pub ends_after : (n : List ℕ) (new : Option Content) (a b d : Told) (m : Model) (past : List Model) → IsSfile n → a ≡ Tells m past → IsCalm m → is_kept (drop 2 n) ≡ false → HasMade n a b
-    → Leaves (λ m1. view_of m1 (sibling 121 n) ≡ new) a b → PlaceEnds n b d → EndsPlacing n new 1 m past d
+    → Leaves (λ m1. view_of m1 (y_file n) ≡ new) a b → PlaceEnds n b d → EndsPlacing n new 1 m past d
 ends_after n new a b d m past sfile is calm plain has told ends = from_made n new a b d m past 1 is plain has told (ends_before n new a b m past sfile is calm has.touches) ends
 
 -- s-files and p-files alone

@@ -1,7 +1,7 @@
 -- Putting the y-file in the place of the g-file changes these two files alone.
 use Rattle.std.proofs.Common.{◌≡◌, ℕ, List, drop, inl, inr, subst}
 use Rattle.std.specs.Prelude.{OnErr, OnOk, Result, Ok, Err}
-use Rattle.sccs_base.specs.Name.{sibling}
+use Rattle.sccs_base.specs.Name.{y_file}
 use Rattle.sccs_disk.specs.Effects.{pended, renamed, settled}
 use Rattle.sccs_disk.specs.Files.{Rename}
 use Rattle.sccs_disk.specs.Told.{Told}
@@ -18,9 +18,9 @@ half_placed from to a b (inl half) = others_half (renamed from to) (pended (Rena
 half_placed from to a b (inr (mid, done, half)) =
     others_then (is_either from to) a mid b (others_done (renamed from to) (pended (Rename from to)) (is_either from to) a mid (others_renamed from to) done) (others_half (λ v. v) settled (is_either from to) mid b (others_settled (is_either from to)) half)
 
-of_name : (n from to : List ℕ) (a b : Told) → from ≡ sibling 121 n → to ≡ drop 2 n → KeepsOthers (is_either from to) a b → KeepsOthers (is_either (sibling 121 n) (drop 2 n)) a b
+of_name : (n from to : List ℕ) (a b : Told) → from ≡ y_file n → to ≡ drop 2 n → KeepsOthers (is_either from to) a b → KeepsOthers (is_either (y_file n) (drop 2 n)) a b
 of_name n from to a b is to_is keeps = subst (λ f. KeepsOthers (is_either f (drop 2 n)) a b) is (subst (λ t. KeepsOthers (is_either from t) a b) to_is keeps)
 
-pub place_others : {E : Type 0} (r : Result (Unit {0}) E) (n from to : List ℕ) (a b : Told) → from ≡ sibling 121 n → to ≡ drop 2 n → OnOk r (Places from to a b) → OnErr r (HalfPlaces from to a b) → KeepsOthers (is_either (sibling 121 n) (drop 2 n)) a b
+pub place_others : {E : Type 0} (r : Result (Unit {0}) E) (n from to : List ℕ) (a b : Told) → from ≡ y_file n → to ≡ drop 2 n → OnOk r (Places from to a b) → OnErr r (HalfPlaces from to a b) → KeepsOthers (is_either (y_file n) (drop 2 n)) a b
 place_others (Ok done) n from to a b is to_is places half = of_name n from to a b is to_is (placed from to a b places)
 place_others (Err fault) n from to a b is to_is places half = of_name n from to a b is to_is (half_placed from to a b half)

@@ -1,7 +1,7 @@
 -- A y-file put in the place of a g-file: what a stop leaves.
 use Rattle.std.proofs.Common.{◌≡◌, ℕ, false, List, [], ◌∷◌, drop, Option, None, is_some, inl, inr, refl, sym, ap, subst, ◌∙◌, ⊎_elim, arith}
 use Rattle.std.specs.Str.{bytes_eq}
-use Rattle.sccs_base.specs.Name.{IsSfile, sibling}
+use Rattle.sccs_base.specs.Name.{IsSfile, p_file, y_file, z_file}
 use Rattle.sccs_disk.specs.Calls.{Done, Half}
 use Rattle.sccs_disk.specs.Effects.{pended, renamed, renaming, settled, syncing_names}
 use Rattle.sccs_disk.specs.Files.{Content, Model, Rename, View, put, view_of}
@@ -22,8 +22,8 @@ use Rattle.sccs_gfiles.specs.Placing.{CanPlace, EndsPlacing, HalfPlaces, IsPlaci
 -- ---- views
 
 -- the same s-files, p-files and z-files
-pub keeps_same : (v u w : View) → KeepsPairs v u → ((k : List ℕ) → IsSfile k → w k ≡ u k) → ((k : List ℕ) → IsSfile k → w (sibling 112 k) ≡ u (sibling 112 k))
-    → ((k : List ℕ) → IsSfile k → w (sibling 122 k) ≡ u (sibling 122 k)) → KeepsPairs v w
+pub keeps_same : (v u w : View) → KeepsPairs v u → ((k : List ℕ) → IsSfile k → w k ≡ u k) → ((k : List ℕ) → IsSfile k → w (p_file k) ≡ u (p_file k))
+    → ((k : List ℕ) → IsSfile k → w (z_file k) ≡ u (z_file k)) → KeepsPairs v w
 keeps_same v u w keeps s p z = record {
   pairs = λ k sfile. pair_same _ _ _ _ (s k sfile) (p k sfile) ∙ keeps.pairs k sfile;
   recovers = recovers_then v u w keeps.recovers (same_recovers u w s p (λ k sfile. ap is_some (z k sfile)));
@@ -32,35 +32,35 @@ keeps_same v u w keeps s p z = record {
 renamed_other : (a b : List ℕ) (u : View) (k : List ℕ) → bytes_eq a k ≡ false → bytes_eq b k ≡ false → renamed a b u k ≡ u k
 renamed_other a b u k from to = put_other (put u a None) b k (u a) to ∙ put_other u a k None from
 
-renamed_keeps : (n : List ℕ) (v u : View) → is_kept (drop 2 n) ≡ false → KeepsPairs v u → KeepsPairs v (renamed (sibling 121 n) (drop 2 n) u)
+renamed_keeps : (n : List ℕ) (v u : View) → is_kept (drop 2 n) ≡ false → KeepsPairs v u → KeepsPairs v (renamed (y_file n) (drop 2 n) u)
 renamed_keeps n v u plain keeps =
-    keeps_same v u (renamed (sibling 121 n) (drop 2 n) u) keeps
-    (λ k sfile. renamed_other (sibling 121 n) (drop 2 n) u k (no_y n k (working_s n k sfile)) (kept_s (drop 2 n) k plain sfile))
-    (λ k sfile. renamed_other (sibling 121 n) (drop 2 n) u (sibling 112 k) refl (kept_p (drop 2 n) k plain sfile))
-    (λ k sfile. renamed_other (sibling 121 n) (drop 2 n) u (sibling 122 k) refl (kept_z (drop 2 n) k plain sfile))
+    keeps_same v u (renamed (y_file n) (drop 2 n) u) keeps
+    (λ k sfile. renamed_other (y_file n) (drop 2 n) u k (no_y n k (working_s n k sfile)) (kept_s (drop 2 n) k plain sfile))
+    (λ k sfile. renamed_other (y_file n) (drop 2 n) u (p_file k) refl (kept_p (drop 2 n) k plain sfile))
+    (λ k sfile. renamed_other (y_file n) (drop 2 n) u (z_file k) refl (kept_z (drop 2 n) k plain sfile))
 
 -- ---- images
 
 old_image : (n : List ℕ) (m : Model) → IsCalm m → (new : Option Content) (w : View) → Image m w → IsPlacing n m new 0 w
-old_image n m calm new w image = record { keeps = calm w image; g_file = inr (refl, (w, image, refl)) }
+old_image n m calm new w image = record { keeps = calm w image; g_state = inr (refl, (w, image, refl)) }
 
 -- the model with the y-file over the g-file
 abbrev placed : List ℕ → Model → Model
-placed n m = pended (Rename (sibling 121 n) (drop 2 n)) m
+placed n m = pended (Rename (y_file n) (drop 2 n)) m
 
-new_image : (n : List ℕ) (m : Model) → CanPlace n m → (j : ℕ) (w : View) → Full (placed n m) w → IsPlacing n m (view_of m (sibling 121 n)) j w
+new_image : (n : List ℕ) (m : Model) → CanPlace n m → (j : ℕ) (w : View) → Full (placed n m) w → IsPlacing n m (view_of m (y_file n)) j w
 new_image n m can j w full =
-    let x : (u : View) × Full m u × (w ≡ renamed (sibling 121 n) (drop 2 n) u) = full_renamed (sibling 121 n) (drop 2 n) m w full in
-    subst (λ (v : View). IsPlacing n m (view_of m (sibling 121 n)) j v) (sym x.2) (record {
+    let x : (u : View) × Full m u × (w ≡ renamed (y_file n) (drop 2 n) u) = full_renamed (y_file n) (drop 2 n) m w full in
+    subst (λ (v : View). IsPlacing n m (view_of m (y_file n)) j v) (sym x.2) (record {
       keeps = renamed_keeps n (view_of m) x.0 can.plain (can.calm x.0 (full_image m x.0 x.1));
-      g_file = inl (put_same (put x.0 (sibling 121 n) None) (drop 2 n) (x.0 (sibling 121 n)) ∙ firm_stays (sibling 121 n) m x.0 can.y_file x.1);
+      g_state = inl (put_same (put x.0 (y_file n) None) (drop 2 n) (x.0 (y_file n)) ∙ firm_stays (y_file n) m x.0 can.y_state x.1);
     })
 
-placed_image : (n : List ℕ) (m : Model) → CanPlace n m → Allows (IsPlacing n m (view_of m (sibling 121 n)) 0) (placed n m)
+placed_image : (n : List ℕ) (m : Model) → CanPlace n m → Allows (IsPlacing n m (view_of m (y_file n)) 0) (placed n m)
 placed_image n m can w image =
-    ⊎_elim (λ old. old_image n m can.calm (view_of m (sibling 121 n)) w old) (λ full. new_image n m can 0 w full) (image_pended (Rename (sibling 121 n) (drop 2 n)) m w image)
+    ⊎_elim (λ old. old_image n m can.calm (view_of m (y_file n)) w old) (λ full. new_image n m can 0 w full) (image_pended (Rename (y_file n) (drop 2 n)) m w image)
 
-settled_image : (n : List ℕ) (m : Model) → CanPlace n m → (j : ℕ) → Allows (IsPlacing n m (view_of m (sibling 121 n)) j) (settled (placed n m))
+settled_image : (n : List ℕ) (m : Model) → CanPlace n m → (j : ℕ) → Allows (IsPlacing n m (view_of m (y_file n)) j) (settled (placed n m))
 settled_image n m can j w image = new_image n m can j w (image_settled (placed n m) w image)
 
 placed_guards : (n : List ℕ) (m : Model) → CanPlace n m → Guards (view_of m) (view_of (placed n m))
@@ -68,29 +68,29 @@ placed_guards n m can k sfile = inl ((placed_image n m can (view_of (placed n m)
 
 -- ---- runs
 
-nothing_made : (n : List ℕ) (m : Model) (past : List Model) (t : Told) → CanPlace n m → t ≡ Tells m past → EndsPlacing n (view_of m (sibling 121 n)) 0 m past t
+nothing_made : (n : List ℕ) (m : Model) (past : List Model) (t : Told) → CanPlace n m → t ≡ Tells m past → EndsPlacing n (view_of m (y_file n)) 0 m past t
 nothing_made n m past t can is = (
-  record { added = []; is = is; numbers = (omega arith, λ w image. old_image n m can.calm (view_of m (sibling 121 n)) w image); guarded = tt },
+  record { added = []; is = is; numbers = (omega arith, λ w image. old_image n m can.calm (view_of m (y_file n)) w image); guarded = tt },
   can.calm,
 )
 
-rename_made : (n : List ℕ) (m : Model) (past : List Model) (t : Told) → CanPlace n m → t ≡ Tells (placed n m) (m ∷ past) → EndsPlacing n (view_of m (sibling 121 n)) 0 m past t
+rename_made : (n : List ℕ) (m : Model) (past : List Model) (t : Told) → CanPlace n m → t ≡ Tells (placed n m) (m ∷ past) → EndsPlacing n (view_of m (y_file n)) 0 m past t
 rename_made n m past t can is = (
   record {
     added = placed n m ∷ [];
     is = is;
-    numbers = (placed_image n m can, (0, omega arith, (omega arith, λ w image. old_image n m can.calm (view_of m (sibling 121 n)) w image)));
+    numbers = (placed_image n m can, (0, omega arith, (omega arith, λ w image. old_image n m can.calm (view_of m (y_file n)) w image)));
     guarded = (placed_guards n m can, tt);
   },
   calm_kept (view_of m) (placed n m) (λ w image. (placed_image n m can w image).keeps),
 )
 
-both_made : (n : List ℕ) (m : Model) (past : List Model) (t : Told) (j : ℕ) → CanPlace n m → t ≡ Tells (settled (placed n m)) (placed n m ∷ m ∷ past) → EndsPlacing n (view_of m (sibling 121 n)) j m past t
+both_made : (n : List ℕ) (m : Model) (past : List Model) (t : Told) (j : ℕ) → CanPlace n m → t ≡ Tells (settled (placed n m)) (placed n m ∷ m ∷ past) → EndsPlacing n (view_of m (y_file n)) j m past t
 both_made n m past t j can is = (
   record {
     added = settled (placed n m) ∷ placed n m ∷ [];
     is = is;
-    numbers = (settled_image n m can j, (0, omega arith, (placed_image n m can, (0, omega arith, (omega arith, λ w image. old_image n m can.calm (view_of m (sibling 121 n)) w image)))));
+    numbers = (settled_image n m can j, (0, omega arith, (placed_image n m can, (0, omega arith, (omega arith, λ w image. old_image n m can.calm (view_of m (y_file n)) w image)))));
     guarded = (λ k other. inl refl, (placed_guards n m can, tt));
   },
   calm_kept (view_of m) (settled (placed n m)) (λ w image. (settled_image n m can j w image).keeps),
@@ -98,25 +98,25 @@ both_made n m past t j can is = (
 
 -- ---- the calls, however they end
 
-place_ends : (n : List ℕ) (a b : Told) → Places (sibling 121 n) (drop 2 n) a b → PlaceEnds n a b
+place_ends : (n : List ℕ) (a b : Told) → Places (y_file n) (drop 2 n) a b → PlaceEnds n a b
 place_ends n a b (mid, made, synced) = λ m past is can. both_made n m past b 1 can (synced.model (placed n m) (m ∷ past) (made.model m past is))
 
-half_renamed : (n : List ℕ) (a b : Told) → Half (renaming (sibling 121 n) (drop 2 n)) a b → PlaceStops n a b
+half_renamed : (n : List ℕ) (a b : Told) → Half (renaming (y_file n) (drop 2 n)) a b → PlaceStops n a b
 half_renamed n a b half = λ m past is can.
     ⊎_elim (λ same. nothing_made n m past b can (same ∙ is)) (λ made. rename_made n m past b can (subst (λ (x : Model). b ≡ Tells x (m ∷ past)) made.2 made.1)) (half.model m past is)
 
-half_synced : (n : List ℕ) (a mid b : Told) → Done (renaming (sibling 121 n) (drop 2 n)) a mid → Half syncing_names mid b → PlaceStops n a b
+half_synced : (n : List ℕ) (a mid b : Told) → Done (renaming (y_file n) (drop 2 n)) a mid → Half syncing_names mid b → PlaceStops n a b
 half_synced n a mid b made half = λ m past is can.
     ⊎_elim (λ same. rename_made n m past b can (same ∙ made.model m past is))
     (λ synced. both_made n m past b 0 can (subst (λ (x : Model). b ≡ Tells x (placed n m ∷ m ∷ past)) synced.2 synced.1))
     (half.model (placed n m) (m ∷ past) (made.model m past is))
 
-place_stops : (n : List ℕ) (a b : Told) → HalfPlaces (sibling 121 n) (drop 2 n) a b → PlaceStops n a b
+place_stops : (n : List ℕ) (a b : Told) → HalfPlaces (y_file n) (drop 2 n) a b → PlaceStops n a b
 place_stops n a b (inl half) = half_renamed n a b half
 place_stops n a b (inr (mid, made, half)) = half_synced n a mid b made half
 
-pub placed_ends : (n from to : List ℕ) (a b : Told) → from ≡ sibling 121 n → to ≡ drop 2 n → Places from to a b → PlaceEnds n a b
-placed_ends n from to a b y g done = place_ends n a b (subst (λ k. Places (sibling 121 n) k a b) g (subst (λ k. Places k to a b) y done))
+pub placed_ends : (n from to : List ℕ) (a b : Told) → from ≡ y_file n → to ≡ drop 2 n → Places from to a b → PlaceEnds n a b
+placed_ends n from to a b y g done = place_ends n a b (subst (λ k. Places (y_file n) k a b) g (subst (λ k. Places k to a b) y done))
 
-pub placed_stops : (n from to : List ℕ) (a b : Told) → from ≡ sibling 121 n → to ≡ drop 2 n → HalfPlaces from to a b → PlaceStops n a b
-placed_stops n from to a b y g half = place_stops n a b (subst (λ k. HalfPlaces (sibling 121 n) k a b) g (subst (λ k. HalfPlaces k to a b) y half))
+pub placed_stops : (n from to : List ℕ) (a b : Told) → from ≡ y_file n → to ≡ drop 2 n → HalfPlaces from to a b → PlaceStops n a b
+placed_stops n from to a b y g half = place_stops n a b (subst (λ k. HalfPlaces (y_file n) k a b) g (subst (λ k. HalfPlaces k to a b) y half))

@@ -1,7 +1,7 @@
 -- The y-file put in the place of the g-file: the calls, what they need so that a stop loses nothing, and what a stop leaves.
 use Rattle.std.specs.Prelude.{◌≡◌, ◌⊎◌, ℕ, false, List, drop, Option}
 use Rattle.std.specs.Str.{bytes_eq}
-use Rattle.sccs_base.specs.Name.{sibling}
+use Rattle.sccs_base.specs.Name.{y_file}
 use Rattle.sccs_disk.specs.Calls.{Done, Half}
 use Rattle.sccs_disk.specs.Effects.{renaming, syncing_names}
 use Rattle.sccs_disk.specs.Files.{Content, Model, View, view_of}
@@ -24,15 +24,15 @@ HalfPlaces from to old new = Half (renaming from to) old new ⊎ ((mid : Told) �
 
 -- What the calls that make a y-file have done: no other file is touched, and it is firm.
 pub record HasMade (n : List ℕ) (old new : Told) : Type 0 where
-  pub touches : TouchesOnly (bytes_eq (sibling 121 n)) old new
-  pub firm : Leaves (IsFirm (sibling 121 n)) old new
+  pub touches : TouchesOnly (bytes_eq (y_file n)) old new
+  pub firm : Leaves (IsFirm (y_file n)) old new
 
 -- ---- what they need
 
 -- What is so of a disk, so that a stop loses nothing.
 pub record CanPlace (n : List ℕ) (m : Model) : Type 0 where
   pub calm : IsCalm m
-  pub y_file : IsFirm (sibling 121 n) m
+  pub y_state : IsFirm (y_file n) m
   -- the g-file's name is that of no s-file, p-file or z-file
   pub plain : is_kept (drop 2 n) ≡ false
 
@@ -49,7 +49,7 @@ HasG n m new j w = (w (drop 2 n) ≡ new) ⊎ ((j ≡ 0) × HasOld n m w)
 -- The old s-files and p-files, and a g-file that is whole.
 pub record IsPlacing (n : List ℕ) (m : Model) (new : Option Content) (j : ℕ) (w : View) : Type 0 where
   pub keeps : KeepsPairs (view_of m) w
-  pub g_file : HasG n m new j w
+  pub g_state : HasG n m new j w
 
 -- so is each image of each moment, and the disk is calm
 abbrev pub EndsPlacing : List ℕ → Option Content → ℕ → Model → List Model → Told → Type 0
@@ -57,8 +57,8 @@ EndsPlacing n new j m past t = (went : Went (IsPlacing n m new) m past j t) × I
 
 -- wherever it stops
 abbrev pub PlaceStops : List ℕ → Told → Told → Type 0
-PlaceStops n old new = (m : Model) (past : List Model) → old ≡ Tells m past → CanPlace n m → EndsPlacing n (view_of m (sibling 121 n)) 0 m past new
+PlaceStops n old new = (m : Model) (past : List Model) → old ≡ Tells m past → CanPlace n m → EndsPlacing n (view_of m (y_file n)) 0 m past new
 
 -- at its end, where each image has the new g-file
 abbrev pub PlaceEnds : List ℕ → Told → Told → Type 0
-PlaceEnds n old new = (m : Model) (past : List Model) → old ≡ Tells m past → CanPlace n m → EndsPlacing n (view_of m (sibling 121 n)) 1 m past new
+PlaceEnds n old new = (m : Model) (past : List Model) → old ≡ Tells m past → CanPlace n m → EndsPlacing n (view_of m (y_file n)) 1 m past new

@@ -1,6 +1,6 @@
 ghost use Rattle.std.specs.Prelude.{◌≡◌, ◌≤◌, ◌||◌, drop, IfOk, OnErr, OnOk};
 ghost use Rattle.std.specs.Str.{bytes_eq};
-ghost use Rattle.sccs_base.specs.Name.{IsSfile, sibling};
+ghost use Rattle.sccs_base.specs.Name.{IsSfile, y_file};
 ghost use Rattle.sccs_base.specs.Stream.{Rose};
 ghost use Rattle.sccs_disk.specs.Calls.{IsThere};
 ghost use Rattle.sccs_disk.specs.Effects.{renamed};
@@ -49,12 +49,12 @@ fn place<D: Disk>(disk: &mut D, from: &Name, to: &Name) -> Result<(), Failed>
 /// or as the y-file was; after the call, only the latter.
 pub fn place_g<D: Disk>(disk: &mut D, name: &Name) -> Result<(), Failed>
     requires sfile { IsSfile name.now }
-    requires there { IsThere (sibling 121 name.now) (D.told disk.old) }
-    ensures view { OnOk result (Becomes (renamed (sibling 121 name.now) (drop 2 name.now)) (seen (D.told disk.old)) (seen (D.told disk.new))) }
-    ensures halfway { OnErr result (MayBecome (renamed (sibling 121 name.now) (drop 2 name.now)) (seen (D.told disk.old)) (seen (D.told disk.new))) }
+    requires there { IsThere (y_file name.now) (D.told disk.old) }
+    ensures view { OnOk result (Becomes (renamed (y_file name.now) (drop 2 name.now)) (seen (D.told disk.old)) (seen (D.told disk.new))) }
+    ensures halfway { OnErr result (MayBecome (renamed (y_file name.now) (drop 2 name.now)) (seen (D.told disk.old)) (seen (D.told disk.new))) }
     ensures stopped { OnErr result (PlaceStops name.now (D.told disk.old) (D.told disk.new)) }
     ensures calm { OnOk result (PlaceEnds name.now (D.told disk.old) (D.told disk.new)) }
-    ensures others { KeepsOthers (λ k. bytes_eq (sibling 121 name.now) k || bytes_eq (drop 2 name.now) k) (D.told disk.old) (D.told disk.new) }
+    ensures others { KeepsOthers (λ k. bytes_eq (y_file name.now) k || bytes_eq (drop 2 name.now) k) (D.told disk.old) (D.told disk.new) }
     ensures later { D.faults disk.old ≤ D.faults disk.new }
     ensures cause { OnErr result (Rose (D.faults disk.old) (D.faults disk.new)) }
 {

@@ -1,7 +1,7 @@
 //! Laws: what the definitions of this crate say together. Each is proved of all values.
 ghost use Rattle.std.specs.Prelude.{◌≡◌, ℕ, List, drop, false, Option};
 ghost use Rattle.std.specs.Str.{bytes_eq};
-ghost use Rattle.sccs_base.specs.Name.{IsSfile, sibling};
+ghost use Rattle.sccs_base.specs.Name.{IsSfile, y_file};
 ghost use Rattle.sccs_disk.specs.Files.{Content, Model, view_of};
 ghost use Rattle.sccs_disk.specs.Images.{IsFirm, IsOwn};
 ghost use Rattle.sccs_disk.specs.Told.{Tells, Told};
@@ -14,9 +14,9 @@ ghost use Rattle.sccs_writers.specs.OneFile.{OnlyWrites};
 
 /// A y-file that is begun, written and finished has touched no other file, and is firm.
 pub fn y_files_are_made()
-    ensures { (n : List ℕ) (a b c d : Told) → TellsSane b → TouchesOnly (bytes_eq (sibling 121 n)) a b
-        → Leaves (IsOwn (sibling 121 n)) a b → OnlyWrites (sibling 121 n) b c → OnlyWrites (sibling 121 n) c d
-        → Leaves (IsFirm (sibling 121 n)) c d → HasMade n a d }
+    ensures { (n : List ℕ) (a b c d : Told) → TellsSane b → TouchesOnly (bytes_eq (y_file n)) a b
+        → Leaves (IsOwn (y_file n)) a b → OnlyWrites (y_file n) b c → OnlyWrites (y_file n) c d
+        → Leaves (IsFirm (y_file n)) c d → HasMade n a d }
 {}
 
 /// From a calm disk on, where the g-file's name is that of no s-file, p-file or z-file, making a g-file loses
@@ -24,13 +24,13 @@ pub fn y_files_are_made()
 /// as a stop could leave it at the start, or the new one; at its end, only the latter. The disk is calm.
 pub fn g_files_are_made_whole()
     ensures before { (n : List ℕ) (new : Option Content) (a b : Told) (m : Model) (past : List Model) → IsSfile n
-        → a ≡ Tells m past → IsCalm m → TouchesOnly (bytes_eq (sibling 121 n)) a b → EndsPlacing n new 0 m past b }
+        → a ≡ Tells m past → IsCalm m → TouchesOnly (bytes_eq (y_file n)) a b → EndsPlacing n new 0 m past b }
     ensures within { (n : List ℕ) (new : Option Content) (a b d : Told) (m : Model) (past : List Model) → IsSfile n
         → a ≡ Tells m past → IsCalm m → is_kept (drop 2 n) ≡ false → HasMade n a b
-        → Leaves (λ m1. view_of m1 (sibling 121 n) ≡ new) a b → PlaceStops n b d → EndsPlacing n new 0 m past d }
+        → Leaves (λ m1. view_of m1 (y_file n) ≡ new) a b → PlaceStops n b d → EndsPlacing n new 0 m past d }
     ensures after { (n : List ℕ) (new : Option Content) (a b d : Told) (m : Model) (past : List Model) → IsSfile n
         → a ≡ Tells m past → IsCalm m → is_kept (drop 2 n) ≡ false → HasMade n a b
-        → Leaves (λ m1. view_of m1 (sibling 121 n) ≡ new) a b → PlaceEnds n b d → EndsPlacing n new 1 m past d }
+        → Leaves (λ m1. view_of m1 (y_file n) ≡ new) a b → PlaceEnds n b d → EndsPlacing n new 1 m past d }
     ensures pairs { (n : List ℕ) (new : Option Content) (j : ℕ) (m : Model) (past : List Model) (t : Told)
         → EndsPlacing n new j m past t → EndsBefore (view_of m) m past t }
 {}

@@ -1,5 +1,5 @@
 ghost use Rattle.std.specs.Prelude.{◌≤◌, OnErr, OnOk};
-ghost use Rattle.sccs_base.specs.Name.{IsSfile, sibling};
+ghost use Rattle.sccs_base.specs.Name.{IsSfile, y_file};
 ghost use Rattle.sccs_base.specs.Stream.{Rose};
 ghost use Rattle.sccs_disk.specs.Calls.{IsThere};
 ghost use Rattle.sccs_disk.specs.Effects.{altered};
@@ -34,10 +34,10 @@ fn finish<D: Disk>(disk: &mut D, name: &Name, mode: Mode) -> Result<(), Failed>
 /// file.
 pub fn finish_y<D: Disk>(disk: &mut D, name: &Name, mode: Mode) -> Result<(), Failed>
     requires sfile { IsSfile name.now }
-    requires there { IsThere (sibling 121 name.now) (D.told disk.old) }
-    ensures view { OnOk result (Becomes (altered (sibling 121 name.now) (finished mode)) (seen (D.told disk.old)) (seen (D.told disk.new))) }
-    ensures only { OnlyWrites (sibling 121 name.now) (D.told disk.old) (D.told disk.new) }
-    ensures firm { OnOk result (Leaves (IsFirm (sibling 121 name.now)) (D.told disk.old) (D.told disk.new)) }
+    requires there { IsThere (y_file name.now) (D.told disk.old) }
+    ensures view { OnOk result (Becomes (altered (y_file name.now) (finished mode)) (seen (D.told disk.old)) (seen (D.told disk.new))) }
+    ensures only { OnlyWrites (y_file name.now) (D.told disk.old) (D.told disk.new) }
+    ensures firm { OnOk result (Leaves (IsFirm (y_file name.now)) (D.told disk.old) (D.told disk.new)) }
     ensures later { D.faults disk.old ≤ D.faults disk.new }
     ensures cause { OnErr result (Rose (D.faults disk.old) (D.faults disk.new)) }
 {

@@ -11,7 +11,7 @@ use Rattle.sccs_sid.specs.declared.sids.Sid.{Sid}
 use Rattle.sccs_history.specs.Numbers.{is_empty, has, share, Falls}
 use Rattle.sccs_history.specs.Body.{HistoryLine, IsLine}
 use Rattle.sccs_history.specs.Applied.{serials_of, live_serials}
-use Rattle.sccs_history.specs.FlagText.{fits_letter}
+use Rattle.sccs_history.specs.FlagText.{fits_letter, flag_e}
 use Rattle.sccs_history.specs.declared.headers.Record.{Record}
 use Rattle.sccs_history.specs.declared.headers.Flag.{Flag}
 use Rattle.sccs_history.specs.declared.headers.Header.{Header}
@@ -90,7 +90,7 @@ is_one (b ∷ bytes) = b == 49 && is_empty bytes
 
 -- some flag e has the text `1`, which says that the body is encoded
 abbrev pub is_encoded : List Flag → Bool
-is_encoded flags = list_any (λ f. f.letter == 101 && is_one f.text) flags
+is_encoded flags = list_any (λ f. f.letter == flag_e && is_one f.text) flags
 
 -- A header that keeps the rules on records, flags, users and description, whatever it says of the body.
 pub record KeepsRules (header : Header) : Type 0 where

@@ -4,7 +4,7 @@ use Rattle.std.proofs.lemmas.List.Elements.{All-append}
 use Rattle.std.proofs.lemmas.Option.{get_or_from_slice_get, slice_get_within}
 use Rattle.std.specs.List.{All}
 use Rattle.std.specs.Prelude.{IfSome, IsSome, slice_get}
-use Rattle.sccs_base.specs.Name.{IsSfile, sibling}
+use Rattle.sccs_base.specs.Name.{IsSfile, p_file, z_file}
 use Rattle.sccs_disk.specs.Effects.{settled}
 use Rattle.sccs_disk.specs.Effects as effects
 use Rattle.sccs_disk.specs.Files.{Content, File, Model, Names, Op, View, after, file_at, names, put, view_of}
@@ -67,7 +67,7 @@ firm_from m k only = firm_at m k (file_of m k) refl only
 pub pairs_firm : (m : Model) → ((w : View) → Full m w → (n : List ℕ) → IsSfile n → pair_of w n ≡ pair_of (view_of m) n) → HasFirm m
 pairs_firm m only = record {
   s_files = λ n sfile. firm_from m n (λ w full. ap s_of (only w full n sfile));
-  p_files = λ n sfile. firm_from m (sibling 112 n) (λ w full. ap p_of (only w full n sfile));
+  p_files = λ n sfile. firm_from m (p_file n) (λ w full. ap p_of (only w full n sfile));
 }
 
 -- on a calm disk s-files and p-files are firm
@@ -78,7 +78,7 @@ calm_firm m calm = pairs_firm m (λ w full. (calm w (full_image m w full)).pairs
 
 pub firm_pairs : (m : Model) (w : View) → HasFirm m → Full m w → (n : List ℕ) → IsSfile n → pair_of w n ≡ pair_of (view_of m) n
 firm_pairs m w firm full n sfile =
-    pair_same _ _ _ _ (firm_stays n m w (firm.s_files n sfile) full) (firm_stays (sibling 112 n) m w (firm.p_files n sfile) full)
+    pair_same _ _ _ _ (firm_stays n m w (firm.s_files n sfile) full) (firm_stays (p_file n) m w (firm.p_files n sfile) full)
 
 some_by : (b : Bool) (w : Option Content) (c : Content) → cond b (w ≡ Some c) (IsSome w) → is_some w ≡ true
 some_by true w c e = ap is_some e
@@ -97,7 +97,7 @@ full_keeps m w firm full = record {
   pairs = firm_pairs m w firm full;
   recovers =
       same_recovers (view_of m) w (λ n sfile. ap s_of (firm_pairs m w firm full n sfile)) (λ n sfile. ap p_of (firm_pairs m w firm full n sfile))
-      (λ n sfile. full_there m w full (sibling 122 n));
+      (λ n sfile. full_there m w full (z_file n));
 }
 
 -- where the names are synced the disk is calm
@@ -139,7 +139,7 @@ settled_calm m still = λ w image. full_keeps m w all_firm (image_full m w still
     all_firm : HasFirm m
     all_firm = record {
       s_files = λ n sfile. each_firm m.files (names m n) still.files;
-      p_files = λ n sfile. each_firm m.files (names m (sibling 112 n)) still.files;
+      p_files = λ n sfile. each_firm m.files (names m (p_file n)) still.files;
     }
 
 none_firm : All IsFirmFile []
@@ -156,8 +156,8 @@ pub placed_settled : (n : List ℕ) (c : Content) (m : Model) → IsSettled m �
 placed_settled n c m still = record { files = All-append IsFirmFile m.files (effects.firm c ∷ []) still.files (one_firm c); pending = still.pending }
 
 -- firm files stay so where others are touched
-pub firms_touched : (mine : List ℕ → Bool) (m m2 : Model) → ((n : List ℕ) → IsSfile n → mine n ≡ false) → ((n : List ℕ) → IsSfile n → mine (sibling 112 n) ≡ false) → Touches mine m m2 → HasFirm m → HasFirm m2
+pub firms_touched : (mine : List ℕ → Bool) (m m2 : Model) → ((n : List ℕ) → IsSfile n → mine n ≡ false) → ((n : List ℕ) → IsSfile n → mine (p_file n) ≡ false) → Touches mine m m2 → HasFirm m → HasFirm m2
 firms_touched mine m m2 s p touches firm = record {
   s_files = λ n sfile. firm_touched mine m m2 n touches (s n sfile) (firm.s_files n sfile);
-  p_files = λ n sfile. firm_touched mine m m2 (sibling 112 n) touches (p n sfile) (firm.p_files n sfile);
+  p_files = λ n sfile. firm_touched mine m m2 (p_file n) touches (p n sfile) (firm.p_files n sfile);
 }

@@ -1,7 +1,7 @@
 -- The names of the files of an s-file's name differ.
 use Rattle.std.proofs.Common.{◌≡◌, ℕ, false, ◌||◌, Bool, true, List, [], ◌∷◌, length, drop, take, refl, sym, ap, subst, arith, length-drop, ◌∙◌}
 use Rattle.std.specs.Str.{bytes_eq}
-use Rattle.sccs_base.specs.Name.{IsSfile, sibling}
+use Rattle.sccs_base.specs.Name.{IsSfile, sibling, p_file, q_file, x_file, y_file, z_file}
 use Rattle.sccs_base.proofs.SameBytes.{other_bytes, same_bytes}
 use Rattle.sccs_base.proofs.Siblings.{sfile_long}
 use Rattle.sccs_files.specs.StepFiles.{is_left, is_working}
@@ -60,19 +60,19 @@ right_false false y h = h
 pub both_false : (x y : Bool) → x ≡ false → y ≡ false → (x || y) ≡ false
 both_false x y a b = cc
 
-pub no_x : (n k : List ℕ) → is_working n k ≡ false → bytes_eq (sibling 120 n) k ≡ false
+pub no_x : (n k : List ℕ) → is_working n k ≡ false → bytes_eq (x_file n) k ≡ false
 no_x n k h = left_false _ _ h
 
-pub no_q : (n k : List ℕ) → is_working n k ≡ false → bytes_eq (sibling 113 n) k ≡ false
+pub no_q : (n k : List ℕ) → is_working n k ≡ false → bytes_eq (q_file n) k ≡ false
 no_q n k h = left_false _ _ (right_false _ _ h)
 
-pub no_y : (n k : List ℕ) → is_working n k ≡ false → bytes_eq (sibling 121 n) k ≡ false
+pub no_y : (n k : List ℕ) → is_working n k ≡ false → bytes_eq (y_file n) k ≡ false
 no_y n k h = right_false _ _ (right_false _ _ h)
 
 pub no_working : (n k : List ℕ) → is_left n k ≡ false → is_working n k ≡ false
 no_working n k h = left_false _ _ h
 
-pub no_z : (n k : List ℕ) → is_left n k ≡ false → bytes_eq (sibling 122 n) k ≡ false
+pub no_z : (n k : List ℕ) → is_left n k ≡ false → bytes_eq (z_file n) k ≡ false
 no_z n k h = right_false _ _ h
 
 -- ---- s-files, p-files and z-files
@@ -83,7 +83,7 @@ working_s n k sfile = subst (λ l. is_working n l ≡ false) (sym (sfile_is k sf
 pub left_s : (n k : List ℕ) → IsSfile k → is_left n k ≡ false
 left_s n k sfile = subst (λ l. is_left n l ≡ false) (sym (sfile_is k sfile)) refl
 
-pub left_z : (n k : List ℕ) → IsSfile n → IsSfile k → bytes_eq n k ≡ false → is_left n (sibling 122 k) ≡ false
+pub left_z : (n k : List ℕ) → IsSfile n → IsSfile k → bytes_eq n k ≡ false → is_left n (z_file k) ≡ false
 left_z n k sfile other apart = siblings_differ 122 n k sfile other apart
 
 -- a name that isn't kept is none of them
@@ -101,8 +101,8 @@ sibling_front letter (b ∷ d ∷ rest) sfile = ap (λ x. letter ∷ x ∷ []) (
 pub kept_s : (g k : List ℕ) → is_kept g ≡ false → IsSfile k → bytes_eq g k ≡ false
 kept_s g k h sfile = begins_not 115 g k (left_false _ _ h) sfile.front
 
-pub kept_p : (g k : List ℕ) → is_kept g ≡ false → IsSfile k → bytes_eq g (sibling 112 k) ≡ false
-kept_p g k h sfile = begins_not 112 g (sibling 112 k) (left_false _ _ (right_false _ _ h)) (sibling_front 112 k sfile)
+pub kept_p : (g k : List ℕ) → is_kept g ≡ false → IsSfile k → bytes_eq g (p_file k) ≡ false
+kept_p g k h sfile = begins_not 112 g (p_file k) (left_false _ _ (right_false _ _ h)) (sibling_front 112 k sfile)
 
-pub kept_z : (g k : List ℕ) → is_kept g ≡ false → IsSfile k → bytes_eq g (sibling 122 k) ≡ false
-kept_z g k h sfile = begins_not 122 g (sibling 122 k) (right_false _ _ (right_false _ _ h)) (sibling_front 122 k sfile)
+pub kept_z : (g k : List ℕ) → is_kept g ≡ false → IsSfile k → bytes_eq g (z_file k) ≡ false
+kept_z g k h sfile = begins_not 122 g (z_file k) (right_false _ _ (right_false _ _ h)) (sibling_front 122 k sfile)

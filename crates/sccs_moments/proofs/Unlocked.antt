@@ -2,7 +2,7 @@
 use Rattle.std.proofs.Common.{◌≡◌, ◌⊎◌, ◌||◌, ℕ, Bool, true, false, List, [], ◌∷◌, ◌++◌, drop, Option, None, Some, option_map, is_some, inl, inr, refl, sym, ap, subst, ◌∙◌, ⊎_elim}
 use Rattle.std.specs.Prelude.{IfSome, OnErr, OnOk, Result, Ok, Err}
 use Rattle.std.specs.Str.{bytes_eq}
-use Rattle.sccs_base.specs.Name.{IsSfile, sibling}
+use Rattle.sccs_base.specs.Name.{IsSfile, p_file, z_file}
 use Rattle.sccs_disk.specs.Calls.{Done, Half}
 use Rattle.sccs_disk.specs.Effects.{pended, settled, whole}
 use Rattle.sccs_disk.specs.Files.{Content, File, Model, Names, Remove, Rename, View, file_at, names, put, view_of}
@@ -108,12 +108,12 @@ others_settled mine m k h = refl
 -- ---- the z-file
 
 -- the last of these moments
-unlocked_now : (n : List ℕ) (added : List Model) (m : Model) → view_of (newest added m) (sibling 122 n) ≡ None → WasUnlocked n added m
+unlocked_now : (n : List ℕ) (added : List Model) (m : Model) → view_of (newest added m) (z_file n) ≡ None → WasUnlocked n added m
 unlocked_now n [] m is = is
 unlocked_now n (a ∷ added) m is = inl is
 
 -- the first of them
-unlocked_first : (n : List ℕ) (added : List Model) (m : Model) → view_of m (sibling 122 n) ≡ None → WasUnlocked n added m
+unlocked_first : (n : List ℕ) (added : List Model) (m : Model) → view_of m (z_file n) ≡ None → WasUnlocked n added m
 unlocked_first n [] m is = is
 unlocked_first n (a ∷ added) m is = inr (unlocked_first n added m is)
 
@@ -146,17 +146,17 @@ pub unlocked_same : (a b : Told) → b ≡ a → BeginsUnlocked a b
 unlocked_same a b same m past is = record { added = []; is = same ∙ is; changes = tt }
 
 -- a pair that isn't changed, or whose z-file wasn't there at the first moment
-kept_or_unlocked : (mine : List ℕ → Bool) (m : Model) (added : List Model) → ((k : List ℕ) → IsSfile k → ((mine k ≡ false) × (mine (sibling 112 k) ≡ false)) ⊎ (view_of m (sibling 122 k) ≡ None)) → Each (λ m2. SameOthers mine (view_of m) (view_of m2)) added m → ComeUnlocked added m
+kept_or_unlocked : (mine : List ℕ → Bool) (m : Model) (added : List Model) → ((k : List ℕ) → IsSfile k → ((mine k ≡ false) × (mine (p_file k) ≡ false)) ⊎ (view_of m (z_file k) ≡ None)) → Each (λ m2. SameOthers mine (view_of m) (view_of m2)) added m → ComeUnlocked added m
 kept_or_unlocked mine m [] cases each = tt
 kept_or_unlocked mine m (a ∷ added) cases each = (λ n sfile. ⊎_elim (λ other. inl (same n other)) (λ free. inr (unlocked_first n added m free)) (cases n sfile), kept_or_unlocked mine m added cases each.1)
   where
     before : SameOthers mine (view_of m) (view_of (newest added m))
     before = each_newest (λ m2. SameOthers mine (view_of m) (view_of m2)) added m each.1
 
-    same : (n : List ℕ) → (mine n ≡ false) × (mine (sibling 112 n) ≡ false) → pair_of (view_of a) n ≡ pair_of (view_of (newest added m)) n
-    same n other = pair_same _ _ _ _ (each.0 n other.0 ∙ sym (before n other.0)) (each.0 (sibling 112 n) other.1 ∙ sym (before (sibling 112 n) other.1))
+    same : (n : List ℕ) → (mine n ≡ false) × (mine (p_file n) ≡ false) → pair_of (view_of a) n ≡ pair_of (view_of (newest added m)) n
+    same n other = pair_same _ _ _ _ (each.0 n other.0 ∙ sym (before n other.0)) (each.0 (p_file n) other.1 ∙ sym (before (p_file n) other.1))
 
-pub unlocked_by : (mine : List ℕ → Bool) (a b : Told) → ((m : Model) (past : List Model) → a ≡ Tells m past → (k : List ℕ) → IsSfile k → ((mine k ≡ false) × (mine (sibling 112 k) ≡ false)) ⊎ (view_of m (sibling 122 k) ≡ None)) → KeepsOthers mine a b → BeginsUnlocked a b
+pub unlocked_by : (mine : List ℕ → Bool) (a b : Told) → ((m : Model) (past : List Model) → a ≡ Tells m past → (k : List ℕ) → IsSfile k → ((mine k ≡ false) × (mine (p_file k) ≡ false)) ⊎ (view_of m (z_file k) ≡ None)) → KeepsOthers mine a b → BeginsUnlocked a b
 unlocked_by mine a b cases keeps m past is = by (keeps m past is)
   where
     by : KeptOthers mine m past b → BeganUnlocked m past b
@@ -168,27 +168,27 @@ unlocked_left n a b keeps = unlocked_by (is_left n) a b (λ m past is k sfile. i
 
 -- what is none of a name's files is none that a step leaves behind
 pub own_left : (n k : List ℕ) → is_own n k ≡ false → is_left n k ≡ false
-own_left n k h = right_false (bytes_eq (drop 2 n) k) (is_left n k) (right_false (bytes_eq (sibling 112 n) k) (bytes_eq (drop 2 n) k || is_left n k) (right_false (bytes_eq n k) (bytes_eq (sibling 112 n) k || (bytes_eq (drop 2 n) k || is_left n k)) h))
+own_left n k h = right_false (bytes_eq (drop 2 n) k) (is_left n k) (right_false (bytes_eq (p_file n) k) (bytes_eq (drop 2 n) k || is_left n k) (right_false (bytes_eq n k) (bytes_eq (p_file n) k || (bytes_eq (drop 2 n) k || is_left n k)) h))
 
 -- the s-file and the p-file of another name are none of the name's files, where its g-file is none of such a kind
 own_s : (n k : List ℕ) → IsSfile k → is_kept (drop 2 n) ≡ false → bytes_eq n k ≡ false → is_own n k ≡ false
 own_s n k sfile plain apart =
-    both_false (bytes_eq n k) (bytes_eq (sibling 112 n) k || (bytes_eq (drop 2 n) k || is_left n k)) apart
-    (both_false (bytes_eq (sibling 112 n) k) (bytes_eq (drop 2 n) k || is_left n k) (subst (λ l. bytes_eq (sibling 112 n) l ≡ false) (sym (sfile_is k sfile)) refl)
+    both_false (bytes_eq n k) (bytes_eq (p_file n) k || (bytes_eq (drop 2 n) k || is_left n k)) apart
+    (both_false (bytes_eq (p_file n) k) (bytes_eq (drop 2 n) k || is_left n k) (subst (λ l. bytes_eq (p_file n) l ≡ false) (sym (sfile_is k sfile)) refl)
     (both_false (bytes_eq (drop 2 n) k) (is_left n k) (kept_s (drop 2 n) k plain sfile) (left_s n k sfile)))
 
-own_p : (n k : List ℕ) → IsSfile n → IsSfile k → is_kept (drop 2 n) ≡ false → bytes_eq n k ≡ false → is_own n (sibling 112 k) ≡ false
+own_p : (n k : List ℕ) → IsSfile n → IsSfile k → is_kept (drop 2 n) ≡ false → bytes_eq n k ≡ false → is_own n (p_file k) ≡ false
 own_p n k sfile other plain apart =
-    both_false (bytes_eq n (sibling 112 k)) (bytes_eq (sibling 112 n) (sibling 112 k) || (bytes_eq (drop 2 n) (sibling 112 k) || is_left n (sibling 112 k))) (to_sfile 112 n k sfile refl)
-    (both_false (bytes_eq (sibling 112 n) (sibling 112 k)) (bytes_eq (drop 2 n) (sibling 112 k) || is_left n (sibling 112 k)) (siblings_differ 112 n k sfile other apart)
-    (both_false (bytes_eq (drop 2 n) (sibling 112 k)) (is_left n (sibling 112 k)) (kept_p (drop 2 n) k plain other) refl))
+    both_false (bytes_eq n (p_file k)) (bytes_eq (p_file n) (p_file k) || (bytes_eq (drop 2 n) (p_file k) || is_left n (p_file k))) (to_sfile 112 n k sfile refl)
+    (both_false (bytes_eq (p_file n) (p_file k)) (bytes_eq (drop 2 n) (p_file k) || is_left n (p_file k)) (siblings_differ 112 n k sfile other apart)
+    (both_false (bytes_eq (drop 2 n) (p_file k)) (is_left n (p_file k)) (kept_p (drop 2 n) k plain other) refl))
 
 -- where the view was told the z-file wasn't there
 free_at : (z : List ℕ) (a : Told) (m : Model) (past : List Model) → IfSome (seen a) (λ (v : View). v z ≡ None) → a ≡ Tells m past → view_of m z ≡ None
 free_at z a m past free is = subst (λ (t : Told). IfSome (seen t) (λ (v : View). v z ≡ None)) is free
 
 -- a call that changes the files of a name alone, whose z-file wasn't there
-pub unlocked_own : (n : List ℕ) (a b : Told) → IsSfile n → is_kept (drop 2 n) ≡ false → IfSome (seen a) (λ (v : View). v (sibling 122 n) ≡ None) → KeepsOthers (is_own n) a b → BeginsUnlocked a b
+pub unlocked_own : (n : List ℕ) (a b : Told) → IsSfile n → is_kept (drop 2 n) ≡ false → IfSome (seen a) (λ (v : View). v (z_file n) ≡ None) → KeepsOthers (is_own n) a b → BeginsUnlocked a b
 unlocked_own n a b sfile plain free keeps =
     unlocked_by (is_own n) a b
-    (λ m past is k other. ⊎_elim (λ e. inr (subst (λ l. view_of m (sibling 122 l) ≡ None) e (free_at (sibling 122 n) a m past free is))) (λ apart. inl (own_s n k other plain apart, own_p n k sfile other plain apart)) (name_cases n k)) keeps
+    (λ m past is k other. ⊎_elim (λ e. inr (subst (λ l. view_of m (z_file l) ≡ None) e (free_at (z_file n) a m past free is))) (λ apart. inl (own_s n k other plain apart, own_p n k sfile other plain apart)) (name_cases n k)) keeps

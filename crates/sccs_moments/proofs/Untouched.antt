@@ -1,7 +1,7 @@
 -- Calls that touch the files of a sound name that a step leaves behind lose nothing.
 use Rattle.std.proofs.Common.{◌≡◌, ℕ, Bool, false, List, [], ◌∷◌, option_map, is_some, inl, inr, refl, sym, ap, subst, ◌∙◌, ⊎_elim, arith}
 use Rattle.std.specs.Str.{bytes_eq}
-use Rattle.sccs_base.specs.Name.{IsSfile, sibling}
+use Rattle.sccs_base.specs.Name.{IsSfile, p_file, z_file}
 use Rattle.sccs_disk.specs.Files.{File, Model, View, view_of}
 use Rattle.sccs_disk.specs.Images.{Allows, Image}
 use Rattle.sccs_disk.specs.Told.{Told, Tells}
@@ -22,8 +22,8 @@ use Rattle.sccs_moments.proofs.Recovering.{p_of, pair_same, recovered_at, recove
 -- the same pair, and the name sound
 sound_alike : (n : List ℕ) (v w : View) → IsSound n v → pair_of w n ≡ pair_of v n → recovered_at w n ≡ recovered_at v n
 sound_alike n v w sound same =
-    recovered_same (w n) (v n) (w (sibling 112 n)) (v (sibling 112 n)) (is_some (w (sibling 122 n))) (is_some (w (sibling 122 n))) (ap s_of same) (ap p_of same) refl
-    ∙ (sound_recovered (v n) (v (sibling 112 n)) (is_some (w (sibling 122 n))) sound ∙ sym (sound_recovered (v n) (v (sibling 112 n)) (is_some (v (sibling 122 n))) sound))
+    recovered_same (w n) (v n) (w (p_file n)) (v (p_file n)) (is_some (w (z_file n))) (is_some (w (z_file n))) (ap s_of same) (ap p_of same) refl
+    ∙ (sound_recovered (v n) (v (p_file n)) (is_some (w (z_file n))) sound ∙ sym (sound_recovered (v n) (v (p_file n)) (is_some (v (z_file n))) sound))
 
 -- a view that has the pairs of v, but for what a step leaves behind
 keeps_pairs : (n : List ℕ) (v u w : View) → IsSfile n → IsSound n v → KeepsPairs v u → ((k : List ℕ) → is_left n k ≡ false → u k ≡ w k) → KeepsPairs v w
@@ -33,12 +33,12 @@ keeps_pairs n v u w sfile sound keeps same = record {
 }
   where
     pairs : (k : List ℕ) → IsSfile k → pair_of w k ≡ pair_of v k
-    pairs k other = pair_same _ _ _ _ (sym (same k (left_s n k other)) ∙ ap s_of (keeps.pairs k other)) (sym (same (sibling 112 k) refl) ∙ ap p_of (keeps.pairs k other))
+    pairs k other = pair_same _ _ _ _ (sym (same k (left_s n k other)) ∙ ap s_of (keeps.pairs k other)) (sym (same (p_file k) refl) ∙ ap p_of (keeps.pairs k other))
 
     elsewhere : (k : List ℕ) → IsSfile k → bytes_eq n k ≡ false → recovered_at w k ≡ recovered_at v k
     elsewhere k other apart =
-        recovered_same (w k) (u k) (w (sibling 112 k)) (u (sibling 112 k)) (is_some (w (sibling 122 k))) (is_some (u (sibling 122 k)))
-        (sym (same k (left_s n k other))) (sym (same (sibling 112 k) refl)) (ap is_some (sym (same (sibling 122 k) (left_z n k sfile other apart))))
+        recovered_same (w k) (u k) (w (p_file k)) (u (p_file k)) (is_some (w (z_file k))) (is_some (u (z_file k)))
+        (sym (same k (left_s n k other))) (sym (same (p_file k) refl)) (ap is_some (sym (same (z_file k) (left_z n k sfile other apart))))
         ∙ recovers_to v u keeps.recovers k other
 
 -- ---- moments
@@ -46,11 +46,11 @@ keeps_pairs n v u w sfile sound keeps same = record {
 view_touched : (mine : List ℕ → Bool) (m m2 : Model) (k : List ℕ) → Touches mine m m2 → mine k ≡ false → view_of m2 k ≡ view_of m k
 view_touched mine m m2 k touches h = ap (option_map (λ (f : File). f.content)) (touches.files k h)
 
-pair_touched : (mine : List ℕ → Bool) (m m2 : Model) (k : List ℕ) → Touches mine m m2 → mine k ≡ false → mine (sibling 112 k) ≡ false → pair_of (view_of m2) k ≡ pair_of (view_of m) k
-pair_touched mine m m2 k touches s p = pair_same _ _ _ _ (view_touched mine m m2 k touches s) (view_touched mine m m2 (sibling 112 k) touches p)
+pair_touched : (mine : List ℕ → Bool) (m m2 : Model) (k : List ℕ) → Touches mine m m2 → mine k ≡ false → mine (p_file k) ≡ false → pair_of (view_of m2) k ≡ pair_of (view_of m) k
+pair_touched mine m m2 k touches s p = pair_same _ _ _ _ (view_touched mine m m2 k touches s) (view_touched mine m m2 (p_file k) touches p)
 
 -- no s-file and no p-file changes
-pub guards_touched : (mine : List ℕ → Bool) (m : Model) (added : List Model) → ((k : List ℕ) → IsSfile k → mine k ≡ false) → ((k : List ℕ) → IsSfile k → mine (sibling 112 k) ≡ false) → Each (Touches mine m) added m → Guarded added m
+pub guards_touched : (mine : List ℕ → Bool) (m : Model) (added : List Model) → ((k : List ℕ) → IsSfile k → mine k ≡ false) → ((k : List ℕ) → IsSfile k → mine (p_file k) ≡ false) → Each (Touches mine m) added m → Guarded added m
 guards_touched mine m [] s p each = tt
 guards_touched mine m (a ∷ added) s p each =
     (λ k sfile. inl (pair_touched mine m a k each.0 (s k sfile) (p k sfile) ∙ sym (pair_touched mine m (newest added m) k (each_newest (Touches mine m) added m each.1) (s k sfile) (p k sfile))), guards_touched mine m added s p each.1)
@@ -115,15 +115,15 @@ before_within v w m past b ends = (went_at v w m past b ends.0, calm_firm (newes
 pub from_touched : (n : List ℕ) (m m2 : Model) → Touches (is_working n) m m2 → Allows (IsFrom m) m2
 from_touched n m m2 touches = λ w image.
     let before : (u : View) × Image m u × ((k : List ℕ) → is_working n k ≡ false → u k ≡ w k) = touches.images w image in
-    (before.0, before.1, same_recovers before.0 w (λ k sfile. sym (before.2 k (working_s n k sfile))) (λ k sfile. sym (before.2 (sibling 112 k) refl)) (λ k sfile. ap is_some (sym (before.2 (sibling 122 k) refl))))
+    (before.0, before.1, same_recovers before.0 w (λ k sfile. sym (before.2 k (working_s n k sfile))) (λ k sfile. sym (before.2 (p_file k) refl)) (λ k sfile. ap is_some (sym (before.2 (z_file k) refl))))
 
 -- such a call leaves every pair in each image, whether the name is sound or not
 working_keeps : (n : List ℕ) (m m2 : Model) → IsCalm m → Touches (is_working n) m m2 → Allows (KeepsPairs (view_of m)) m2
 working_keeps n m m2 calm touches = λ w image.
     let before : (u : View) × Image m u × ((k : List ℕ) → is_working n k ≡ false → u k ≡ w k) = touches.images w image in
     record {
-      pairs = λ k sfile. pair_same _ _ _ _ (sym (before.2 k (working_s n k sfile)) ∙ ap s_of ((calm before.0 before.1).pairs k sfile)) (sym (before.2 (sibling 112 k) refl) ∙ ap p_of ((calm before.0 before.1).pairs k sfile));
-      recovers = recovers_then (view_of m) before.0 w (calm before.0 before.1).recovers (same_recovers before.0 w (λ k sfile. sym (before.2 k (working_s n k sfile))) (λ k sfile. sym (before.2 (sibling 112 k) refl)) (λ k sfile. ap is_some (sym (before.2 (sibling 122 k) refl))));
+      pairs = λ k sfile. pair_same _ _ _ _ (sym (before.2 k (working_s n k sfile)) ∙ ap s_of ((calm before.0 before.1).pairs k sfile)) (sym (before.2 (p_file k) refl) ∙ ap p_of ((calm before.0 before.1).pairs k sfile));
+      recovers = recovers_then (view_of m) before.0 w (calm before.0 before.1).recovers (same_recovers before.0 w (λ k sfile. sym (before.2 k (working_s n k sfile))) (λ k sfile. sym (before.2 (p_file k) refl)) (λ k sfile. ap is_some (sym (before.2 (z_file k) refl))));
     }
 
 pub ends_working : (n : List ℕ) (m : Model) (past : List Model) (new : Told) → IsCalm m → Touching (is_working n) m past new → EndsBefore (view_of m) m past new

@@ -1,6 +1,6 @@
 -- Disks on which a stop loses nothing.
 use Rattle.std.specs.Prelude.{◌≡◌, ℕ, List}
-use Rattle.sccs_base.specs.Name.{IsSfile, sibling}
+use Rattle.sccs_base.specs.Name.{IsSfile, p_file}
 use Rattle.sccs_disk.specs.Files.{View, Model, view_of}
 use Rattle.sccs_disk.specs.Images.{Allows, IsFirm}
 use Rattle.sccs_moments.specs.Recovery.{RecoversAs, pair_of}
@@ -17,4 +17,4 @@ IsCalm m = Allows (KeepsPairs (view_of m)) m
 -- s-files and p-files are firm
 pub record HasFirm (m : Model) : Type 0 where
   pub s_files : (n : List ℕ) → IsSfile n → IsFirm n m
-  pub p_files : (n : List ℕ) → IsSfile n → IsFirm (sibling 112 n) m
+  pub p_files : (n : List ℕ) → IsSfile n → IsFirm (p_file n) m

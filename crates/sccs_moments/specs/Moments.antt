@@ -1,7 +1,7 @@
 -- The moments of a call: each has a number, which never falls, and what a stop may leave of it.
 use Rattle.std.specs.Prelude.{◌≡◌, ◌⊎◌, ◌≤◌, ℕ, false, List, [], ◌∷◌, IsSome}
 use Rattle.std.specs.Str.{bytes_eq}
-use Rattle.sccs_base.specs.Name.{IsSfile, sibling}
+use Rattle.sccs_base.specs.Name.{IsSfile, z_file}
 use Rattle.sccs_disk.specs.Files.{View, Model, view_of}
 use Rattle.sccs_disk.specs.Images.{Allows, Image}
 use Rattle.sccs_disk.specs.Told.{Told, Tells}
@@ -16,7 +16,7 @@ Numbered P low (a ∷ added) m j = P j a × ((i : ℕ) × (i ≤ j) × Numbered 
 
 -- where an s-file or its p-file differs, its z-file is in both views
 abbrev pub Guards : View → View → Type 0
-Guards v w = (n : List ℕ) → IsSfile n → (pair_of w n ≡ pair_of v n) ⊎ (IsSome (v (sibling 122 n)) × IsSome (w (sibling 122 n)))
+Guards v w = (n : List ℕ) → IsSfile n → (pair_of w n ≡ pair_of v n) ⊎ (IsSome (v (z_file n)) × IsSome (w (z_file n)))
 
 -- from each moment to the next no s-file or p-file changes whose z-file isn't there
 abbrev pub Guarded : List Model → Model → Type 0
@@ -82,7 +82,7 @@ LeavesFirm old new = (m : Model) (past : List Model) → old ≡ Tells m past �
 
 -- the two views have the same s-file, p-file and z-file of every other name
 abbrev pub SameElsewhere : List ℕ → View → View → Type 0
-SameElsewhere n v w = (k : List ℕ) → IsSfile k → bytes_eq n k ≡ false → (pair_of w k ≡ pair_of v k) × (w (sibling 122 k) ≡ v (sibling 122 k))
+SameElsewhere n v w = (k : List ℕ) → IsSfile k → bytes_eq n k ≡ false → (pair_of w k ≡ pair_of v k) × (w (z_file k) ≡ v (z_file k))
 
 -- The step's name recovers as in w, or as in v while j is 0, and every other name as in v.
 pub record IsAtName (n : List ℕ) (v w : View) (j : ℕ) (u : View) : Type 0 where

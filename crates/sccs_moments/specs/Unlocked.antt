@@ -1,7 +1,7 @@
 -- Which s-files and p-files a call changes: those that weren't locked when it began, or at a later moment before the change.
 use Rattle.std.specs.Prelude.{◌≡◌, ◌⊎◌, ◌||◌, ℕ, Bool, false, List, [], ◌∷◌, drop, None}
 use Rattle.std.specs.Str.{bytes_eq}
-use Rattle.sccs_base.specs.Name.{IsSfile, sibling}
+use Rattle.sccs_base.specs.Name.{IsSfile, p_file, z_file}
 use Rattle.sccs_disk.specs.Files.{Model, View, view_of}
 use Rattle.sccs_disk.specs.Told.{Told, Tells}
 use Rattle.sccs_files.specs.StepFiles.{is_left}
@@ -10,7 +10,7 @@ use Rattle.sccs_moments.specs.Recovery.{pair_of}
 
 -- the files of an s-file's name: itself, its p-file and g-file, and those that a step leaves behind
 abbrev pub is_own : List ℕ → List ℕ → Bool
-is_own n k = bytes_eq n k || (bytes_eq (sibling 112 n) k || (bytes_eq (drop 2 n) k || is_left n k))
+is_own n k = bytes_eq n k || (bytes_eq (p_file n) k || (bytes_eq (drop 2 n) k || is_left n k))
 
 -- a view that has the files of other names as another has them
 abbrev pub SameOthers : (List ℕ → Bool) → View → View → Type 0
@@ -28,8 +28,8 @@ KeepsOthers mine old new = (m : Model) (past : List Model) → old ≡ Tells m p
 
 -- at one of these moments the name's z-file wasn't there
 abbrev pub WasUnlocked : List ℕ → List Model → Model → Type 0
-WasUnlocked n [] m = view_of m (sibling 122 n) ≡ None
-WasUnlocked n (a ∷ added) m = (view_of a (sibling 122 n) ≡ None) ⊎ WasUnlocked n added m
+WasUnlocked n [] m = view_of m (z_file n) ≡ None
+WasUnlocked n (a ∷ added) m = (view_of a (z_file n) ≡ None) ⊎ WasUnlocked n added m
 
 -- where an s-file or its p-file differs from one moment to the next, its z-file wasn't there at an earlier moment
 abbrev pub ComeUnlocked : List Model → Model → Type 0

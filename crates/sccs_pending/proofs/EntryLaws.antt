@@ -2,7 +2,7 @@
 use Rattle.std.proofs.Common.{◌≡◌, ℕ, zero, suc, Bool, true, false, List, [], ◌∷◌, All, arith, drop, insert, remove, length, Option, None, Some, Result, Ok, Err, refl, sym, ap, subst, ◌∙◌}
 use Rattle.std.specs.Prelude.{IfSome, IsSome, option_map}
 use Rattle.std.specs.Str.{bytes_eq}
-use Rattle.sccs_base.specs.Name.{IsSfile, sibling}
+use Rattle.sccs_base.specs.Name.{IsSfile, p_file, q_file, x_file, y_file, z_file}
 use Rattle.sccs_base.specs.Stream.{GivesOk, GivesSome}
 use Rattle.sccs_base.proofs.Gifts.{gives_none, some_none}
 use Rattle.sccs_disk.specs.Calls.{IsThere}
@@ -28,15 +28,15 @@ use Rattle.sccs_pending.specs.NewEntries.{IsOfEntries, PreparesEntries, with_ent
 abbrev files_of : Option Content → Option Content → Option Content → Option Files
 files_of s p g = Some (record { s = s; p = p; z = None; g = g })
 
-files_are : (n : List ℕ) (edits : List Edit) (g : Option Content) (p : Prepared) (v u : View) → IsSfile n → p.new_s ≡ false → ((k : List ℕ) → bytes_eq (sibling 113 n) k ≡ false → u k ≡ v k) → ((old : Option Content) → chosen p.new_p (u (sibling 113 n)) old ≡ pfile_of edits)
+files_are : (n : List ℕ) (edits : List Edit) (g : Option Content) (p : Prepared) (v u : View) → IsSfile n → p.new_s ≡ false → ((k : List ℕ) → bytes_eq (q_file n) k ≡ false → u k ≡ v k) → ((old : Option Content) → chosen p.new_p (u (q_file n)) old ≡ pfile_of edits)
     → ((y : Option Content) → chosen p.new_g y (v (drop 2 n)) ≡ g) → files_of (unlocked n v n) (pfile_of edits) g ≡ Some (files_after n (plan_of p) u)
 files_are n edits g p v u sfile s same entries left =
-    ap (λ (o : Option Content). files_of o (pfile_of edits) g) (put_other v (sibling 122 n) n None (from_s 122 n sfile refl) ∙ (sym (same n (from_s 113 n sfile refl)) ∙ ap (λ b. chosen (replaced b) (u (sibling 120 n)) (u n)) (sym s)))
-    ∙ (ap (λ (o : Option Content). files_of (chosen (replaced p.new_s) (u (sibling 120 n)) (u n)) o g) (sym (entries (u (sibling 112 n))))
-    ∙ ap (λ (o : Option Content). files_of (chosen (replaced p.new_s) (u (sibling 120 n)) (u n)) (chosen p.new_p (u (sibling 113 n)) (u (sibling 112 n))) o) (sym (left (u (sibling 121 n))) ∙ ap (λ (o : Option Content). chosen p.new_g (u (sibling 121 n)) o) (sym (same (drop 2 n) (from_g 113 n sfile)))))
+    ap (λ (o : Option Content). files_of o (pfile_of edits) g) (put_other v (z_file n) n None (from_s 122 n sfile refl) ∙ (sym (same n (from_s 113 n sfile refl)) ∙ ap (λ b. chosen (replaced b) (u (x_file n)) (u n)) (sym s)))
+    ∙ (ap (λ (o : Option Content). files_of (chosen (replaced p.new_s) (u (x_file n)) (u n)) o g) (sym (entries (u (p_file n))))
+    ∙ ap (λ (o : Option Content). files_of (chosen (replaced p.new_s) (u (x_file n)) (u n)) (chosen p.new_p (u (q_file n)) (u (p_file n))) o) (sym (left (u (y_file n))) ∙ ap (λ (o : Option Content). chosen p.new_g (u (y_file n)) o) (sym (same (drop 2 n) (from_g 113 n sfile)))))
 
 pub entries_prepared : (n : List ℕ) (edits : List Edit) (g : Option Content) (report : List ℕ) (p : Prepared) (o : Outcome) (v : View) (o2 : Option View) (out err : Option (List ℕ)) → IsSfile n → o ≡ Ok (with_entries (look (unlocked n v) n) edits g report) → IsOfEntries p report
-    → Moves (bytes_eq (sibling 113 n)) (λ w. w) (Some v) o2 → IfSome o2 (λ (u : View). (old : Option Content) → chosen p.new_p (u (sibling 113 n)) old ≡ pfile_of edits) → ((y : Option Content) → chosen p.new_g y (v (drop 2 n)) ≡ g)
+    → Moves (bytes_eq (q_file n)) (λ w. w) (Some v) o2 → IfSome o2 (λ (u : View). (old : Option Content) → chosen p.new_p (u (q_file n)) old ≡ pfile_of edits) → ((y : Option Content) → chosen p.new_g y (v (drop 2 n)) ≡ g)
     → IsPrepared n p o (world (Some v) out err) (world o2 out err)
 entries_prepared n edits g report p o v None out err sfile is of moves entries left = absurd moves
 entries_prepared n edits g report p o v (Some u) out err sfile is of moves entries left = record {
@@ -45,7 +45,7 @@ entries_prepared n edits g report p o v (Some u) out err sfile is of moves entri
   status = refl;
   report = sym of.report_is;
   message = sym of.message;
-  view = moves_wider (bytes_eq (sibling 113 n)) (is_working n) (Some v) (Some u) (no_q n) moves;
+  view = moves_wider (bytes_eq (q_file n)) (is_working n) (Some v) (Some u) (no_q n) moves;
   files = files_are n edits g p v u sfile of.s moves entries left;
   out = gives_none out;
 }
@@ -57,33 +57,33 @@ there_moved n k None b other moves there = subst (λ (o : Option View). IfSome o
 there_moved n k (Some v) None other moves there = absurd moves
 there_moved n k (Some v) (Some u) other moves there = subst IsSome (sym (moves k other)) there
 
-needs_moved : (n y : List ℕ) (new : NewFile) (a b : Told) → IsSfile n → bytes_eq (sibling 113 n) y ≡ false → Moves (bytes_eq (sibling 113 n)) (λ v. v) (seen a) (seen b) → Needs new y (drop 2 n) a → Needs new y (drop 2 n) b
+needs_moved : (n y : List ℕ) (new : NewFile) (a b : Told) → IsSfile n → bytes_eq (q_file n) y ≡ false → Moves (bytes_eq (q_file n)) (λ v. v) (seen a) (seen b) → Needs new y (drop 2 n) a → Needs new y (drop 2 n) b
 needs_moved n y Keep a b sfile other moves needs = tt
-needs_moved n y Replace a b sfile other moves needs = there_moved (sibling 113 n) y (seen a) (seen b) other moves needs
-needs_moved n y Remove a b sfile other moves needs = there_moved (sibling 113 n) (drop 2 n) (seen a) (seen b) (from_g 113 n sfile) moves needs
+needs_moved n y Replace a b sfile other moves needs = there_moved (q_file n) y (seen a) (seen b) other moves needs
+needs_moved n y Remove a b sfile other moves needs = there_moved (q_file n) (drop 2 n) (seen a) (seen b) (from_g 113 n sfile) moves needs
 
-pub entries_ready : (n : List ℕ) (edits : List Edit) (p : Prepared) (report : List ℕ) (a b : Told) → IsSfile n → IsOfEntries p report → IsThere (sibling 122 n) a → Moves (bytes_eq (sibling 113 n)) (λ v. v) (seen a) (seen b)
-    → PreparesEntries n edits p.new_p a b → (edits ≡ [] → IsThere (sibling 112 n) a) → Needs p.new_g (sibling 121 n) (drop 2 n) a → IsReady n p b
+pub entries_ready : (n : List ℕ) (edits : List Edit) (p : Prepared) (report : List ℕ) (a b : Told) → IsSfile n → IsOfEntries p report → IsThere (z_file n) a → Moves (bytes_eq (q_file n)) (λ v. v) (seen a) (seen b)
+    → PreparesEntries n edits p.new_p a b → (edits ≡ [] → IsThere (p_file n) a) → Needs p.new_g (y_file n) (drop 2 n) a → IsReady n p b
 entries_ready n edits p report a b sfile of z moves entries there g = record {
-  z = there_moved (sibling 113 n) (sibling 122 n) (seen a) (seen b) refl moves z;
-  s = subst (λ t. Needs (replaced t) (sibling 120 n) n b) (sym of.s) tt;
-  p_file = entries.needs there;
-  g = needs_moved n (sibling 121 n) p.new_g a b sfile refl moves g;
+  z = there_moved (q_file n) (z_file n) (seen a) (seen b) refl moves z;
+  s = subst (λ t. Needs (replaced t) (x_file n) n b) (sym of.s) tt;
+  p_state = entries.needs there;
+  g = needs_moved n (y_file n) p.new_g a b sfile refl moves g;
 }
 
 -- ---- the p-file
 
-pub some_chosen : (n : List ℕ) (edits : List Edit) (a b : Told) → (length edits ≡ 0 → ⊥) → Becomes (λ v. put v (sibling 113 n) (Some (written_pfile edits))) (seen a) (seen b) → PreparesEntries n edits Replace a b
+pub some_chosen : (n : List ℕ) (edits : List Edit) (a b : Told) → (length edits ≡ 0 → ⊥) → Becomes (λ v. put v (q_file n) (Some (written_pfile edits))) (seen a) (seen b) → PreparesEntries n edits Replace a b
 some_chosen n [] a b some is = absurd (some refl)
 some_chosen n (e ∷ edits) a b some is = record { chosen_is = chosen_q (seen a) (seen b) is; needs = λ none. there (seen a) (seen b) is }
   where
-    chosen_q : (o o2 : Option View) → Becomes (λ v. put v (sibling 113 n) (Some (written_pfile (e ∷ edits)))) o o2 → IfSome o2 (λ (v : View). (old : Option Content) → v (sibling 113 n) ≡ pfile_of (e ∷ edits))
-    chosen_q None o2 is = subst (λ (x : Option View). IfSome x (λ (v : View). (old : Option Content) → v (sibling 113 n) ≡ pfile_of (e ∷ edits))) (sym is) tt
-    chosen_q (Some v) o2 is = subst (λ (x : Option View). IfSome x (λ (u : View). (old : Option Content) → u (sibling 113 n) ≡ pfile_of (e ∷ edits))) (sym is) (λ old. put_same v (sibling 113 n) (Some (written_pfile (e ∷ edits))))
+    chosen_q : (o o2 : Option View) → Becomes (λ v. put v (q_file n) (Some (written_pfile (e ∷ edits)))) o o2 → IfSome o2 (λ (v : View). (old : Option Content) → v (q_file n) ≡ pfile_of (e ∷ edits))
+    chosen_q None o2 is = subst (λ (x : Option View). IfSome x (λ (v : View). (old : Option Content) → v (q_file n) ≡ pfile_of (e ∷ edits))) (sym is) tt
+    chosen_q (Some v) o2 is = subst (λ (x : Option View). IfSome x (λ (u : View). (old : Option Content) → u (q_file n) ≡ pfile_of (e ∷ edits))) (sym is) (λ old. put_same v (q_file n) (Some (written_pfile (e ∷ edits))))
 
-    there : (o o2 : Option View) → Becomes (λ v. put v (sibling 113 n) (Some (written_pfile (e ∷ edits)))) o o2 → IfSome o2 (λ (v : View). IsSome (v (sibling 113 n)))
-    there None o2 is = subst (λ (x : Option View). IfSome x (λ (v : View). IsSome (v (sibling 113 n)))) (sym is) tt
-    there (Some v) o2 is = subst (λ (x : Option View). IfSome x (λ (u : View). IsSome (u (sibling 113 n)))) (sym is) (subst IsSome (sym (put_same v (sibling 113 n) (Some (written_pfile (e ∷ edits))))) refl)
+    there : (o o2 : Option View) → Becomes (λ v. put v (q_file n) (Some (written_pfile (e ∷ edits)))) o o2 → IfSome o2 (λ (v : View). IsSome (v (q_file n)))
+    there None o2 is = subst (λ (x : Option View). IfSome x (λ (v : View). IsSome (v (q_file n)))) (sym is) tt
+    there (Some v) o2 is = subst (λ (x : Option View). IfSome x (λ (u : View). IsSome (u (q_file n)))) (sym is) (subst IsSome (sym (put_same v (q_file n) (Some (written_pfile (e ∷ edits))))) refl)
 
 -- ---- an entry that is taken out
 

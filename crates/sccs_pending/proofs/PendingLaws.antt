@@ -2,7 +2,7 @@
 use Rattle.std.proofs.Common.{◌≡◌, ℕ, Bool, true, false, ◌&&◌, List, [], length, Option, None, Some, Result, Ok, Err, refl, sym, ap, subst, ◌∙◌}
 use Rattle.std.specs.Prelude.{IfSome, IsSome, is_some}
 use Rattle.sccs_base.specs.Cut.{cut}
-use Rattle.sccs_base.specs.Name.{sibling}
+use Rattle.sccs_base.specs.Name.{p_file}
 use Rattle.sccs_disk.specs.Calls.{IsThere}
 use Rattle.sccs_disk.specs.Files.{Content, View}
 use Rattle.sccs_disk.specs.Told.{Told, seen}
@@ -238,13 +238,13 @@ none_pending s found is = by (sized s) refl
     by (Ok false) e = absurd (never_false s e)
     by (Err refusal) e = absurd (let e2 = sym (size_refused s None refusal e) ∙ is in cc)
 
-pub found_there : (n : List ℕ) (x : Pending) (a : Told) → IfSome (seen a) (λ (v : View). AnswersPending (v n) (v (sibling 112 n)) (Ok x)) → (x.edits ≡ [] → ⊥) → IsThere (sibling 112 n) a
+pub found_there : (n : List ℕ) (x : Pending) (a : Told) → IfSome (seen a) (λ (v : View). AnswersPending (v n) (v (p_file n)) (Ok x)) → (x.edits ≡ [] → ⊥) → IsThere (p_file n) a
 found_there n x a read some = by (seen a) read
   where
-    at : (v : View) (p : Option Content) → v (sibling 112 n) ≡ p → AnswersPending (v n) (v (sibling 112 n)) (Ok x) → IsSome (v (sibling 112 n))
+    at : (v : View) (p : Option Content) → v (p_file n) ≡ p → AnswersPending (v n) (v (p_file n)) (Ok x) → IsSome (v (p_file n))
     at v None e read = absurd (some (none_pending (v n) (record { parsed = read.0; edits = x.edits }) (ap (pending_of (v n)) (sym e) ∙ read.2)))
     at v (Some c) e read = subst IsSome (sym e) refl
 
-    by : (o : Option View) → IfSome o (λ (v : View). AnswersPending (v n) (v (sibling 112 n)) (Ok x)) → IfSome o (λ (v : View). IsSome (v (sibling 112 n)))
+    by : (o : Option View) → IfSome o (λ (v : View). AnswersPending (v n) (v (p_file n)) (Ok x)) → IfSome o (λ (v : View). IsSome (v (p_file n)))
     by None read = tt
-    by (Some v) read = at v (v (sibling 112 n)) refl read
+    by (Some v) read = at v (v (p_file n)) refl read

@@ -4,7 +4,7 @@ use Rattle.std.specs.Prelude.{nat_lt, remove}
 use Rattle.std.specs.List.{AllByRecursion}
 use Rattle.std.specs.Str.{bytes_eq}
 use Rattle.std.proofs.lemmas.Bool.{and_parts}
-use Rattle.sccs_base.specs.Name.{IsSfile, sibling}
+use Rattle.sccs_base.specs.Name.{IsSfile, p_file, q_file, x_file}
 use Rattle.sccs_disk.specs.Files.{Content, View}
 use Rattle.sccs_disk.specs.Images.{IsFirm}
 use Rattle.sccs_disk.specs.Told.{Told, seen}
@@ -125,25 +125,25 @@ read_there : (o p : Option Content) (x : Pending) → AnswersPending o p (Ok x) 
 read_there None p x read none = absurd read.1
 read_there (Some s) p x read none = cc
 
-settled_at : (n : List ℕ) (x : Pending) (d : Decided) (p : Prepared) (v u : View) → p.new_s ≡ false → AnswersPending (v n) (v (sibling 112 n)) (Ok x) → AllByRecursion IsEdit d.edits → AllByRecursion (λ e. is_done x.front.header.records e ≡ false) d.edits → u n ≡ v n
-    → ((old : Option Content) → chosen p.new_p (u (sibling 113 n)) old ≡ pfile_of d.edits) → KeepsEntries n (plan_of p) u × ArePaired (files_after n (plan_of p) u).s (files_after n (plan_of p) u).p
+settled_at : (n : List ℕ) (x : Pending) (d : Decided) (p : Prepared) (v u : View) → p.new_s ≡ false → AnswersPending (v n) (v (p_file n)) (Ok x) → AllByRecursion IsEdit d.edits → AllByRecursion (λ e. is_done x.front.header.records e ≡ false) d.edits → u n ≡ v n
+    → ((old : Option Content) → chosen p.new_p (u (q_file n)) old ≡ pfile_of d.edits) → KeepsEntries n (plan_of p) u × ArePaired (files_after n (plan_of p) u).s (files_after n (plan_of p) u).p
 settled_at n x d p v u new_s read valid undone same is = (
   record {
-    leaves = no_change p.new_s (recovered_pfile (files_after n (plan_of p) u).s (u (sibling 112 n)) ≡ (files_after n (plan_of p) u).p) new_s;
+    leaves = no_change p.new_s (recovered_pfile (files_after n (plan_of p) u).s (u (p_file n)) ≡ (files_after n (plan_of p) u).p) new_s;
     sound =
-        ap (λ (o : Option Content). recovered_pfile o (files_after n (plan_of p) u).p) (ap (λ (b : Bool). chosen (replaced b) (u (sibling 120 n)) (u n)) new_s ∙ same)
-        ∙ (ap (recovered_pfile (v n)) (is (u (sibling 112 n))) ∙ (stays_at (v n) (v (sibling 112 n)) x d.edits read valid undone ∙ sym (is (u (sibling 112 n)))));
+        ap (λ (o : Option Content). recovered_pfile o (files_after n (plan_of p) u).p) (ap (λ (b : Bool). chosen (replaced b) (u (x_file n)) (u n)) new_s ∙ same)
+        ∙ (ap (recovered_pfile (v n)) (is (u (p_file n))) ∙ (stays_at (v n) (v (p_file n)) x d.edits read valid undone ∙ sym (is (u (p_file n)))));
   },
-  λ gone. absurd (read_there (v n) (v (sibling 112 n)) x read (sym (ap (λ (b : Bool). chosen (replaced b) (u (sibling 120 n)) (u n)) new_s ∙ same) ∙ gone)),
+  λ gone. absurd (read_there (v n) (v (p_file n)) x read (sym (ap (λ (b : Bool). chosen (replaced b) (u (x_file n)) (u n)) new_s ∙ same) ∙ gone)),
 )
 
-pub decided_settles : (n : List ℕ) (x : Pending) (d : Decided) (r : Result Prepared StepFault) (o a b : Told) → IsSfile n → a ≡ o → IfSome (seen o) (λ (v : View). AnswersPending (v n) (v (sibling 112 n)) (Ok x))
+pub decided_settles : (n : List ℕ) (x : Pending) (d : Decided) (r : Result Prepared StepFault) (o a b : Told) → IsSfile n → a ≡ o → IfSome (seen o) (λ (v : View). AnswersPending (v n) (v (p_file n)) (Ok x))
     → AllByRecursion IsEdit d.edits → AllByRecursion (λ e. is_done x.front.header.records e ≡ false) d.edits → PreparesDecided r n d a b → IfOk r (λ p. SettlesEntries n p b)
 decided_settles n x d (Err fault) o a b sfile same read valid undone prepares = tt
 decided_settles n x d (Ok p) o a b sfile same read valid undone prepares =
-    by (seen a) (seen b) (subst (λ (t : Told). IfSome (seen t) (λ (v : View). AnswersPending (v n) (v (sibling 112 n)) (Ok x))) (sym same) read) prepares.moves prepares.entries.chosen_is
+    by (seen a) (seen b) (subst (λ (t : Told). IfSome (seen t) (λ (v : View). AnswersPending (v n) (v (p_file n)) (Ok x))) (sym same) read) prepares.moves prepares.entries.chosen_is
   where
-    by : (oa ob : Option View) → IfSome oa (λ (v : View). AnswersPending (v n) (v (sibling 112 n)) (Ok x)) → Moves (bytes_eq (sibling 113 n)) (λ v. v) oa ob → IfSome ob (λ (v : View). (old : Option Content) → chosen p.new_p (v (sibling 113 n)) old ≡ pfile_of d.edits)
+    by : (oa ob : Option View) → IfSome oa (λ (v : View). AnswersPending (v n) (v (p_file n)) (Ok x)) → Moves (bytes_eq (q_file n)) (λ v. v) oa ob → IfSome ob (λ (v : View). (old : Option Content) → chosen p.new_p (v (q_file n)) old ≡ pfile_of d.edits)
         → IfSome ob (λ v. IsPaired n v → KeepsEntries n (plan_of p) v × ArePaired (files_after n (plan_of p) v).s (files_after n (plan_of p) v).p)
     by None None r2 moves is = tt
     by None (Some u) r2 moves is = cc
@@ -151,10 +151,10 @@ decided_settles n x d (Ok p) o a b sfile same read valid undone prepares =
     by (Some v) (Some u) r2 moves is = λ paired. settled_at n x d p v u prepares.of.s r2 valid undone (moves n (from_s 113 n sfile refl)) is
 
 -- no x-file takes a place, and the q-file is firm where it does
-pub entries_firm : (n : List ℕ) (p : Prepared) (a a2 b : Told) → a2 ≡ a → p.new_s ≡ false → OnReplace p.new_p (Leaves (IsFirm (sibling 113 n)) a2 b) → IsFirmPrepared n p a b
+pub entries_firm : (n : List ℕ) (p : Prepared) (a a2 b : Told) → a2 ≡ a → p.new_s ≡ false → OnReplace p.new_p (Leaves (IsFirm (q_file n)) a2 b) → IsFirmPrepared n p a b
 entries_firm n p a a2 b same new_s firm = record {
-  x_file = no_replace p.new_s (Leaves (IsFirm (sibling 120 n)) a b) new_s;
-  q_file = subst (λ (t : Told). OnReplace p.new_p (Leaves (IsFirm (sibling 113 n)) t b)) same firm;
+  x_state = no_replace p.new_s (Leaves (IsFirm (x_file n)) a b) new_s;
+  q_state = subst (λ (t : Told). OnReplace p.new_p (Leaves (IsFirm (q_file n)) t b)) same firm;
 }
 
 pub firm_still : (r : Result Prepared StepFault) (n : List ℕ) (a a2 b : Told) → a2 ≡ a → IfOk r (λ p. IsFirmPrepared n p a2 b) → IfOk r (λ p. IsFirmPrepared n p a b)

@@ -1,6 +1,6 @@
 -- A p-file that is to have these entries, and what else a step makes of the files of its name.
 use Rattle.std.specs.Prelude.{◌≡◌, ℕ, ◌-◌, Bool, false, List, [], drop, slice_get, Option, None, Some, IfSome, option_map, unwrap_or, Result, Ok, Err, if◌then◌else◌}
-use Rattle.sccs_base.specs.Name.{sibling}
+use Rattle.sccs_base.specs.Name.{p_file, q_file, y_file}
 use Rattle.sccs_disk.specs.Files.{Content, View}
 use Rattle.sccs_disk.specs.Told.{Told, seen}
 use Rattle.sccs_disk.specs.Calls.{IsThere}
@@ -43,13 +43,13 @@ kept_g keep g = if keep then g else None
 
 -- What becomes of the p-file is prepared: a commit makes it the p-file of these entries.
 pub record PreparesEntries (n : List ℕ) (edits : List Edit) (new : NewFile) (before told : Told) : Type 0 where
-  pub chosen_is : IfSome (seen told) (λ (v : View). (old : Option Content) → chosen new (v (sibling 113 n)) old ≡ pfile_of edits)
-  pub needs : (edits ≡ [] → IsThere (sibling 112 n) before) → Needs new (sibling 113 n) (sibling 112 n) told
+  pub chosen_is : IfSome (seen told) (λ (v : View). (old : Option Content) → chosen new (v (q_file n)) old ≡ pfile_of edits)
+  pub needs : (edits ≡ [] → IsThere (p_file n) before) → Needs new (q_file n) (p_file n) told
 
 -- A commit leaves the g-file, or removes it.
 pub record LeavesG (n : List ℕ) (keep : Bool) (new : NewFile) (told : Told) : Type 0 where
   pub chosen_is : IfSome (seen told) (λ (v : View). (y : Option Content) → chosen new y (v (drop 2 n)) ≡ kept_g keep (v (drop 2 n)))
-  pub needs : Needs new (sibling 121 n) (drop 2 n) told
+  pub needs : Needs new (y_file n) (drop 2 n) told
 
 -- What a change prepares that has these entries: the s-file stays, and this is reported.
 pub record IsOfEntries (p : Prepared) (report : List ℕ) : Type 0 where
@@ -75,7 +75,7 @@ entries_outcome decide n input named f = do
 -- What was decided is prepared.
 pub record IsDecided (n : List ℕ) (d : Decided) (p : Prepared) (old new : Told) : Type 0 where
   pub of : IsOfEntries p d.report
-  pub moves : Moves (bytes_eq (sibling 113 n)) (λ v. v) (seen old) (seen new)
+  pub moves : Moves (bytes_eq (q_file n)) (λ v. v) (seen old) (seen new)
   pub entries : PreparesEntries n d.edits p.new_p old new
   pub g : LeavesG n d.keep p.new_g old
 
@@ -83,4 +83,4 @@ pub record IsDecided (n : List ℕ) (d : Decided) (p : Prepared) (old new : Told
 abbrev pub PreparesDecided : Result Prepared StepFault → List ℕ → Decided → Told → Told → Type 0
 PreparesDecided (Ok p) n d old new = IsDecided n d p old new
 PreparesDecided (Err (Refused refusal)) n d old new = ⊥
-PreparesDecided (Err fault) n d old new = Moves (bytes_eq (sibling 113 n)) (λ v. v) (seen old) (seen new)
+PreparesDecided (Err fault) n d old new = Moves (bytes_eq (q_file n)) (λ v. v) (seen old) (seen new)

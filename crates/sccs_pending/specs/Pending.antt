@@ -3,8 +3,10 @@
 use Rattle.std.specs.Prelude.{◌≡◌, ℕ, ◌&&◌, List, [], ◌∷◌, Option, None, Some, is_some, option_map, Bool, true, Result, Ok, Err}
 use Rattle.sccs_disk.specs.Files.{Content}
 use Rattle.sccs_sid.specs.Reading.{◌>>=◌}
+use Rattle.sccs_sid.specs.Refusal.{number_of}
 use Rattle.sccs_sid.specs.declared.refusals.Refusal.{Refusal}
 use Rattle.sccs_sid.specs.declared.refusals.Refusal.TheVariants.{Disagree, Missing, TooLong}
+use Rattle.sccs_sid.specs.declared.refusals.Refusal.TheVariants as refusals
 use Rattle.sccs_sid.specs.declared.refusals.StepFault.{StepFault}
 use Rattle.sccs_sid.specs.declared.refusals.StepFault.TheVariants as step
 use Rattle.sccs_grammar.specs.File.{Parsed, answer, file_of}
@@ -31,7 +33,10 @@ agreeing (Some entry) = Err (Disagree entry)
 
 -- the numbers of these checks
 abbrev pub pending_checks : List ℕ
-pending_checks = 3 ∷ 5 ∷ 6 ∷ 7 ∷ 8 ∷ 9 ∷ 10 ∷ 11 ∷ []
+pending_checks =
+    number_of refusals.Missing ∷ number_of refusals.TooLong ∷ number_of refusals.NotSccs
+    ∷ number_of (refusals.BadSum 0 0) ∷ number_of (refusals.BadFormat 0) ∷ number_of refusals.Encoded
+    ∷ number_of (refusals.BadPfile 0) ∷ number_of (refusals.Disagree 0) ∷ []
 
 -- What is found in an s-file and a p-file; or the first check that fails: there is no s-file, one of the two is too long, the
 -- s-file isn't one, a line of the p-file is no entry, or an entry doesn't agree with the table.

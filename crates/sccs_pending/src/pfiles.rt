@@ -1,5 +1,5 @@
 ghost use Rattle.std.specs.Prelude.{◌≢◌, ◌∷◌, [], All, Err, IfOk, IfSome};
-ghost use Rattle.sccs_base.specs.Name.{IsSfile, sibling};
+ghost use Rattle.sccs_base.specs.Name.{IsSfile, p_file};
 ghost use Rattle.sccs_disk.specs.Files.{View};
 ghost use Rattle.sccs_disk.specs.Told.{seen};
 ghost use Rattle.sccs_pfile.specs.Entries.{IsEdit};
@@ -34,7 +34,7 @@ fn read_bytes<D: Disk>(alloc: Global, disk: &mut D, file: &Name) -> Result<Bytes
 /// longer than 1,073,741,824 bytes.
 pub fn read_p<D: Disk>(alloc: Global, disk: &mut D, name: &Name) -> Result<Bytes, StepFault>
     requires { IsSfile name.now }
-    ensures told { IfSome (seen (D.told disk.old)) (λ (v : View). Answers (short_bytes (v (sibling 112 name.now))) result) }
+    ensures told { IfSome (seen (D.told disk.old)) (λ (v : View). Answers (short_bytes (v (p_file name.now))) result) }
     ensures checks { RefusesWithin (5 ∷ []) result }
     ensures frame { OnlyReads D.told D.faults disk.old disk.new result }
 {
@@ -62,7 +62,7 @@ pub fn entries(alloc: Global, bytes: &[u8]) -> Result<Edits, StepFault>
 /// V, p-file.
 pub fn read_pfile<D: Disk>(alloc: Global, disk: &mut D, name: &Name) -> Result<Edits, StepFault>
     requires { IsSfile name.now }
-    ensures told { IfSome (seen (D.told disk.old)) (λ (v : View). Answers (entries_of (v (sibling 112 name.now))) result) }
+    ensures told { IfSome (seen (D.told disk.old)) (λ (v : View). Answers (entries_of (v (p_file name.now))) result) }
     ensures valid { IfOk result (All IsEdit) }
     ensures checks { RefusesWithin (5 ∷ 10 ∷ []) result }
     ensures frame { OnlyReads D.told D.faults disk.old disk.new result }

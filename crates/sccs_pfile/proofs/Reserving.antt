@@ -5,6 +5,7 @@ use Rattle.std.specs.List.{AllByRecursion, list_any}
 use Rattle.std.proofs.lemmas.Bool.{true≢false}
 use Rattle.sccs_sid.specs.declared.sids.Sid.{Sid}
 use Rattle.sccs_sid.specs.declared.sids.Spec.{Spec}
+use Rattle.sccs_history.specs.FlagText.{flag_b}
 use Rattle.sccs_history.specs.History.{lives, same_sid}
 use Rattle.sccs_history.specs.declared.headers.Header.{Header}
 use Rattle.sccs_history.specs.declared.headers.Record.{Record}
@@ -79,4 +80,4 @@ pub reserving_keeps : (header : Header) (edits : List Edit) (e : Edit) (got : �
     → has_lists header.records e ≡ true → to_be_made header (map (λ x. x.made) edits) got spec branch ≡ Some e.made → Agrees header.records (edits ++ e ∷ [])
 reserving_keeps header edits e got spec branch agree live lists made =
     agreement_kept header.records edits e agree live lists
-    (free_by header (map (λ x. x.made) edits) e.made spec (branch && has_flag header.flags 98) (sid_at header.records got) made)
+    (free_by header (map (λ x. x.made) edits) e.made spec (branch && has_flag header.flags flag_b) (sid_at header.records got) made)

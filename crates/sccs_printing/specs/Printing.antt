@@ -1,4 +1,6 @@
 -- What giving a version answers: to a sink, into a file, or into the y-file of a name.
+use Rattle.sccs_sid.specs.Refusal.{number_of}
+use Rattle.sccs_sid.specs.declared.refusals.Refusal.TheVariants as refusals
 use Rattle.std.specs.Prelude.{◌≡◌, ℕ, Bool, true, false, List, [], ◌∷◌, Option, Some, IfSome, Result, Ok, Err}
 use Rattle.sccs_base.specs.Stream.{GivesOk}
 use Rattle.sccs_disk.specs.Files.{Content, View, put}
@@ -22,7 +24,10 @@ version_text form records lines = formed_text form records 1 lines
 
 -- the checks by which a file that is read may be refused, over any disk
 abbrev pub file_checks : List ℕ
-file_checks = 3 ∷ 5 ∷ 6 ∷ 7 ∷ 8 ∷ 9 ∷ 34 ∷ []
+file_checks =
+    number_of refusals.Missing ∷ number_of refusals.TooLong ∷ number_of refusals.NotSccs
+    ∷ number_of (refusals.BadSum 0 0) ∷ number_of (refusals.BadFormat 0) ∷ number_of refusals.Encoded
+    ∷ number_of (refusals.Changed 0 0 0 0) ∷ []
 
 -- no fault of a file that is read: the disk failed, or there was no memory
 abbrev pub IsOuterFault : StepFault → Type 0

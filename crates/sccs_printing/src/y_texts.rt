@@ -1,6 +1,6 @@
 ghost use Rattle.std.specs.Prelude.{◌≡◌, ◌≢◌, ◌≤◌, false, ℕ, List, [], Err, IfOk, IfSome, OnOk, Some};
 ghost use Rattle.std.specs.Str.{bytes_eq};
-ghost use Rattle.sccs_base.specs.Name.{IsSfile, sibling};
+ghost use Rattle.sccs_base.specs.Name.{IsSfile, y_file};
 ghost use Rattle.sccs_base.specs.Stream.{Rose};
 ghost use Rattle.sccs_disk.specs.Calls.{IsThere};
 ghost use Rattle.sccs_disk.specs.Images.{IsFirm};
@@ -93,19 +93,19 @@ fn append_y<D: Disk>(
     requires sfile { IsSfile name.now }
     requires facts { IfSome (form_of form.now).facts HasMoments }
     requires table { Falls 65536 (serials_of front.now.header.records) }
-    requires there { IsThere (sibling 121 name.now) (D.told disk.old) }
-    ensures only { OnlyWrites (sibling 121 name.now) (D.told disk.old) (D.told disk.new) }
-    ensures mark { OnOk result (KeepsMark (Some (sibling 121 name.now)) (D.told disk.old) (D.told disk.new)) }
+    requires there { IsThere (y_file name.now) (D.told disk.old) }
+    ensures only { OnlyWrites (y_file name.now) (D.told disk.old) (D.told disk.new) }
+    ensures mark { OnOk result (KeepsMark (Some (y_file name.now)) (D.told disk.old) (D.told disk.new)) }
     ensures checks { RefusesWithin file_checks result }
     ensures appends { (file : List ℕ) (items : List Item)
         → IsBody (bytes_in (seen (D.told disk.old)) name.now) front.now set.now file items
-        → Prints (Some (sibling 121 name.now)) (version_text (form_of form.now) front.now.header.records (shown set.now (lines_of items))) result
-        (bytes_in (seen (D.told disk.old)) (sibling 121 name.now)) (bytes_in (seen (D.told disk.new)) (sibling 121 name.now)) }
+        → Prints (Some (y_file name.now)) (version_text (form_of form.now) front.now.header.records (shown set.now (lines_of items))) result
+        (bytes_in (seen (D.told disk.old)) (y_file name.now)) (bytes_in (seen (D.told disk.new)) (y_file name.now)) }
     ensures found { (file : List ℕ) (items : List Item)
         → IsBody (bytes_in (seen (D.told disk.old)) name.now) front.now set.now file items
         → IfOk result (λ s. s ≡ shown_of (form_of form.now) (shown set.now (lines_of items))) }
     ensures whole { IfOk result (λ s. has set.now 0 ≡ false → PrintsWhole (form_of form.now) front.now.header.records set.now s
-        (bytes_in (seen (D.told disk.old)) (sibling 121 name.now)) (bytes_in (seen (D.told disk.new)) (sibling 121 name.now))) }
+        (bytes_in (seen (D.told disk.old)) (y_file name.now)) (bytes_in (seen (D.told disk.new)) (y_file name.now))) }
     ensures later { D.faults disk.old ≤ D.faults disk.new }
     ensures cause { result ≡ Err faults.DiskFault → Rose (D.faults disk.old) (D.faults disk.new) }
     ensures read { result ≢ Err faults.ReadFault }
@@ -132,14 +132,14 @@ pub fn make_y<D: Disk>(
     requires table { Falls 65536 (serials_of front.now.header.records) }
     ensures view { (file : List ℕ) (items : List Item)
         → IsBody (bytes_in (seen (D.told disk.old)) name.now) front.now set.now file items
-        → Makes (sibling 121 name.now) mode (version_text (form_of form.now) front.now.header.records (shown set.now (lines_of items))) (form_of form.now) (shown set.now (lines_of items))
+        → Makes (y_file name.now) mode (version_text (form_of form.now) front.now.header.records (shown set.now (lines_of items))) (form_of form.now) (shown set.now (lines_of items))
         (seen (D.told disk.old)) (seen (D.told disk.new)) result }
-    ensures moves { Moves (bytes_eq (sibling 121 name.now)) (λ v. v) (seen (D.told disk.old)) (seen (D.told disk.new)) }
-    ensures there { OnOk result (IsThere (sibling 121 name.now) (D.told disk.new)) }
-    ensures touches { TouchesOnly (bytes_eq (sibling 121 name.now)) (D.told disk.old) (D.told disk.new) }
-    ensures firm { OnOk result (Leaves (IsFirm (sibling 121 name.now)) (D.told disk.old) (D.told disk.new)) }
+    ensures moves { Moves (bytes_eq (y_file name.now)) (λ v. v) (seen (D.told disk.old)) (seen (D.told disk.new)) }
+    ensures there { OnOk result (IsThere (y_file name.now) (D.told disk.new)) }
+    ensures touches { TouchesOnly (bytes_eq (y_file name.now)) (D.told disk.old) (D.told disk.new) }
+    ensures firm { OnOk result (Leaves (IsFirm (y_file name.now)) (D.told disk.old) (D.told disk.new)) }
     ensures checks { RefusesWithin file_checks result }
-    ensures whole { IfOk result (λ s. has set.now 0 ≡ false → MakesWhole (sibling 121 name.now) mode (form_of form.now) front.now.header.records set.now s (seen (D.told disk.new))) }
+    ensures whole { IfOk result (λ s. has set.now 0 ≡ false → MakesWhole (y_file name.now) mode (form_of form.now) front.now.header.records set.now s (seen (D.told disk.new))) }
     ensures later { D.faults disk.old ≤ D.faults disk.new }
     ensures cause { result ≡ Err faults.DiskFault → Rose (D.faults disk.old) (D.faults disk.new) }
     ensures read { result ≢ Err faults.ReadFault }

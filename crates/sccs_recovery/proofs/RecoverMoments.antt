@@ -1,6 +1,6 @@
 -- The moments of the command recover.
 use Rattle.std.proofs.Common.{◌≡◌, ◌≢◌, ◌↔◌, ℕ, Bool, true, false, cond, List, Option, None, Some, IfSome, IsErrOf, is_some, Result, Ok, Err, inl, inr, refl, sym, ap, subst, ◌∙◌, arith}
-use Rattle.sccs_base.specs.Name.{IsSfile, sibling}
+use Rattle.sccs_base.specs.Name.{IsSfile, p_file, z_file}
 use Rattle.sccs_sid.specs.declared.refusals.StepFault.{StepFault}
 use Rattle.sccs_sid.specs.declared.refusals.StepFault.TheVariants.{Refused, Memory, ReadFault, WriteFault, DiskFault}
 use Rattle.sccs_disk.specs.Files.{Content, Model, View, view_of}
@@ -40,7 +40,7 @@ use Rattle.sccs_recovery.proofs.RecoveryEnds.{Faults, cut_ends, fault_steps, is_
 after_recovers : (n : List ℕ) (v : View) → IsSfile n → RecoversAs (moved v n (recovers n (look v n)).new) v
 after_recovers n v sfile =
     recovers_then (moved v n (recovers n (look v n)).new) (recover n v) v
-    (same_recovers (moved v n (recovers n (look v n)).new) (recover n v) (λ k other. recovers_at n v k sfile (working_s n k other)) (λ k other. recovers_at n v (sibling 112 k) sfile refl) (λ k other. ap is_some (recovers_at n v (sibling 122 k) sfile refl)))
+    (same_recovers (moved v n (recovers n (look v n)).new) (recover n v) (λ k other. recovers_at n v k sfile (working_s n k other)) (λ k other. recovers_at n v (p_file k) sfile refl) (λ k other. ap is_some (recovers_at n v (z_file k) sfile refl)))
     (recovers_back v (recover n v) (recovers_recovered n v sfile))
 
 none_left : (s : Option Content) → recovered_pfile s None ≡ None
@@ -48,9 +48,9 @@ none_left None = refl
 none_left (Some s) = refl
 
 -- and the name is safe again
-after_safe : (n : List ℕ) (v : View) (z : Bool) → is_some (v (sibling 122 n)) ≡ z → IsSfile n → IsSafe n v → IsSafe n (moved v n (cond z (Some (unlocked (look v n))) None))
+after_safe : (n : List ℕ) (v : View) (z : Bool) → is_some (v (z_file n)) ≡ z → IsSfile n → IsSafe n v → IsSafe n (moved v n (cond z (Some (unlocked (look v n))) None))
 after_safe n v true is sfile safe =
-    placed_safe n v (unlocked (look v n)) sfile safe.plain (twice_once (v n) (v (sibling 112 n))) (λ gone. ap (recovered_pfile (v n)) (safe.paired gone) ∙ none_left (v n))
+    placed_safe n v (unlocked (look v n)) sfile safe.plain (twice_once (v n) (v (p_file n))) (λ gone. ap (recovered_pfile (v n)) (safe.paired gone) ∙ none_left (v n))
 after_safe n v false is sfile safe = safe
 
 -- ---- moments
@@ -109,17 +109,17 @@ made_at n (Err DiskFault) m past a b out out2 err sfile view says ends safe = ab
 made_at n (Err (Refused refusal)) m past a b out out2 err sfile view says ends safe = absurd says
 
 pub made_moments : (n : List ℕ) (found : Recovered) (r : Result (Unit {0}) StepFault) (a b : Told) (left out out2 err : Option (List ℕ)) → IsSfile n → Becomes (recover n) (seen a) (seen b)
-    → IfSome (seen a) (λ (v : View). (found ≡ ways.Clean) ↔ (v (sibling 122 n) ≡ None)) → IfSome (seen a) (λ (v : View). Passes (checked n v) (Ok found)) → Says r (found_text n (is_locked found)) out out2 → RecoversOn a b → LeavesCalm a b
+    → IfSome (seen a) (λ (v : View). (found ≡ ways.Clean) ↔ (v (z_file n) ≡ None)) → IfSome (seen a) (λ (v : View). Passes (checked n v) (Ok found)) → Says r (found_text n (is_locked found)) out out2 → RecoversOn a b → LeavesCalm a b
     → StepMoments recover_action r n left (scene a out err) (scene b out2 err)
 made_moments n found r a b left out out2 err sfile view clean checks says story leaves = λ m past i is heard calm safe.
     let v : View = view_of m in
     let view_is : seen b ≡ Some (recover n v) = subst (λ (t : Told). Becomes (recover n) (seen t) (seen b)) is view in
-    let clean_is : (found ≡ ways.Clean) ↔ (v (sibling 122 n) ≡ None) = subst (λ (t : Told). IfSome (seen t) (λ (u : View). (found ≡ ways.Clean) ↔ (u (sibling 122 n) ≡ None))) is clean in
+    let clean_is : (found ≡ ways.Clean) ↔ (v (z_file n) ≡ None) = subst (λ (t : Told). IfSome (seen t) (λ (u : View). (found ≡ ways.Clean) ↔ (u (z_file n) ≡ None))) is clean in
     let passed : Passes (checked n v) (Ok found) = subst (λ (t : Told). IfSome (seen t) (λ (u : View). Passes (checked n u) (Ok found))) is checks in
-    let said : Says r (recovers n (look v n)).out out out2 = subst (λ (z : Bool). Says r (found_text n z) out out2) (is_said found (v (sibling 122 n)) clean_is) says in
+    let said : Says r (recovers n (look v n)).out out out2 = subst (λ (z : Bool). Says r (found_text n z) out out2) (is_said found (v (z_file n)) clean_is) says in
     subst (λ (t : Told). MeetsAt recover_action r n (recover_step n (look v n)) v m past (scene t out err) (scene b out2 err)) (sym is)
     (subst (λ (o : Outcome). (met : Meets (λ (done : Unit {0}). 0) r n o (world (Some v) out err) (world (seen b) out2 err)) × Ends (place_of r n o (world (Some v) out err) (world (seen b) out2 err) met) recover_action n v (moved v n (effect_of n o).new) m past b) (sym (step_of n (look v n) (Ok true) passed))
-    (made_at n r m past a b out out2 err sfile view_is said (made_after n a b m past sfile story leaves is calm) (λ changes. after_safe n v (is_some (v (sibling 122 n))) refl sfile (safe changes))))
+    (made_at n r m past a b out out2 err sfile view_is said (made_after n a b m past sfile story leaves is calm) (λ changes. after_safe n v (is_some (v (z_file n))) refl sfile (safe changes))))
 
 -- the call answers a fault
 fault_at : (fault : StepFault) (n : List ℕ) (o : Outcome) (a b : Told) (out err : Option (List ℕ)) (m : Model) (past : List Model) → Faults n fault a b → RecoversOn a b → LeavesFirm a b → (fault ≡ Memory → TouchesOnly (is_working n) a b) → a ≡ Tells m past → IsCalm m → IsSafeFor recover_action n (view_of m)

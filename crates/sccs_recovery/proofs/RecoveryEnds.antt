@@ -1,7 +1,7 @@
 -- How the call of the command recover ends: the files of the name, and what is said.
 use Rattle.std.proofs.Common.{arith, ◌≡◌, ◌≢◌, ◌↔◌, ◌⊎◌, ⊎_elim, ℕ, ◌≤◌, Bool, true, false, cond, ◌||◌, List, [], drop, Option, None, Some, option_map, IfSome, IsErrOf, IsSome, is_some, Result, Ok, Err, inl, inr, refl, sym, ap, subst, ◌∙◌}
 use Rattle.std.specs.Str.{bytes_eq}
-use Rattle.sccs_base.specs.Name.{IsSfile, is_sfile_name, sfile_name_decides, sibling}
+use Rattle.sccs_base.specs.Name.{IsSfile, is_sfile_name, sfile_name_decides, p_file, q_file, x_file, y_file, z_file}
 use Rattle.sccs_base.specs.Stream.{Rose}
 use Rattle.sccs_base.proofs.Gifts.{gives_none, some_none}
 use Rattle.sccs_disk.specs.Files.{Content, View, put}
@@ -75,7 +75,7 @@ pub cleared_gone : (n : List ℕ) (o om od : Option View) → Moves (is_working 
 cleared_gone n None om od moves gone = tt
 cleared_gone n (Some v) None od moves gone = absurd moves
 cleared_gone n (Some v) (Some u) od moves gone =
-    subst (λ (o : Option View). AreCleared n (Some v) o) (sym gone) (λ k h. inl (gone_by (bytes_eq (sibling 120 n) k) (bytes_eq (sibling 113 n) k) (bytes_eq (sibling 121 n) k) (u k) h))
+    subst (λ (o : Option View). AreCleared n (Some v) o) (sym gone) (λ k h. inl (gone_by (bytes_eq (x_file n) k) (bytes_eq (q_file n) k) (bytes_eq (y_file n) k) (u k) h))
 
 -- nothing changed
 pub same_cleared : (n : List ℕ) (a b : Told) → b ≡ a → AreCleared n (seen a) (seen b)
@@ -99,38 +99,38 @@ working_g n sfile = rw (from_g 120 n sfile) rw (from_g 113 n sfile) rw (from_g 1
 
 -- a p-file without the entries whose delta is made, as a q-file in its place
 abbrev with_q : List ℕ → View → View
-with_q n v = put (cleared n v) (sibling 113 n) (recovered_pfile (v n) (v (sibling 112 n)))
+with_q n v = put (cleared n v) (q_file n) (recovered_pfile (v n) (v (p_file n)))
 
 abbrev as_plan : Plan
 as_plan = plan false Replace Keep
 
-as_commit : (n : List ℕ) (v : View) → is_some (v (sibling 122 n)) ≡ true → recover n v ≡ committed n as_plan (with_q n v)
-as_commit n v there = ap (recover_by n v) there ∙ sym (ap (without (sibling 122 n)) (q_placed n (cleared n v) (recovered_pfile (v n) (v (sibling 112 n))) (cleared_q n v)))
+as_commit : (n : List ℕ) (v : View) → is_some (v (z_file n)) ≡ true → recover n v ≡ committed n as_plan (with_q n v)
+as_commit n v there = ap (recover_by n v) there ∙ sym (ap (without (z_file n)) (q_placed n (cleared n v) (recovered_pfile (v n) (v (p_file n))) (cleared_q n v)))
 
 abbrev files : Option Content → Option Content → Option Content → Files
 files s p g = record { s = s; p = p; z = None; g = g }
 
 files_are : (n : List ℕ) (v : View) → IsSfile n → files_after n as_plan (with_q n v) ≡ unlocked (look v n)
 files_are n v sfile =
-    let p : Option Content = recovered_pfile (v n) (v (sibling 112 n)) in
-    let s_is : with_q n v n ≡ v n = put_other (cleared n v) (sibling 113 n) n p (from_sfile 113 n n sfile refl) ∙ cleared_other n v n (working_s n n sfile) in
-    let p_is : with_q n v (sibling 113 n) ≡ p = put_same (cleared n v) (sibling 113 n) p in
-    let g_is : with_q n v (drop 2 n) ≡ v (drop 2 n) = put_other (cleared n v) (sibling 113 n) (drop 2 n) p (from_g 113 n sfile) ∙ cleared_other n v (drop 2 n) (working_g n sfile) in
-    ap (λ (o : Option Content). files o (with_q n v (sibling 113 n)) (with_q n v (drop 2 n))) s_is ∙ (ap (λ (o : Option Content). files (v n) o (with_q n v (drop 2 n))) p_is ∙ ap (λ (o : Option Content). files (v n) p o) g_is)
+    let p : Option Content = recovered_pfile (v n) (v (p_file n)) in
+    let s_is : with_q n v n ≡ v n = put_other (cleared n v) (q_file n) n p (from_sfile 113 n n sfile refl) ∙ cleared_other n v n (working_s n n sfile) in
+    let p_is : with_q n v (q_file n) ≡ p = put_same (cleared n v) (q_file n) p in
+    let g_is : with_q n v (drop 2 n) ≡ v (drop 2 n) = put_other (cleared n v) (q_file n) (drop 2 n) p (from_g 113 n sfile) ∙ cleared_other n v (drop 2 n) (working_g n sfile) in
+    ap (λ (o : Option Content). files o (with_q n v (q_file n)) (with_q n v (drop 2 n))) s_is ∙ (ap (λ (o : Option Content). files (v n) o (with_q n v (drop 2 n))) p_is ∙ ap (λ (o : Option Content). files (v n) p o) g_is)
 
-unlocked_at : (n : List ℕ) (v : View) (k : List ℕ) → IsSfile n → is_some (v (sibling 122 n)) ≡ true → is_working n k ≡ false → recover n v k ≡ placed v n (unlocked (look v n)) k
+unlocked_at : (n : List ℕ) (v : View) (k : List ℕ) → IsSfile n → is_some (v (z_file n)) ≡ true → is_working n k ≡ false → recover n v k ≡ placed v n (unlocked (look v n)) k
 unlocked_at n v k sfile there h =
     ap (λ (u : View). u k) (as_commit n v there)
-    ∙ (committed_at n as_plan (with_q n v) v k sfile h (λ other. put_other (cleared n v) (sibling 113 n) k (recovered_pfile (v n) (v (sibling 112 n))) (no_q n k h) ∙ cleared_other n v k h)
+    ∙ (committed_at n as_plan (with_q n v) v k sfile h (λ other. put_other (cleared n v) (q_file n) k (recovered_pfile (v n) (v (p_file n))) (no_q n k h) ∙ cleared_other n v k h)
     ∙ ap (λ (f : Files). placed v n f k) (files_are n v sfile))
 
 -- what recovery makes of the files is what the step says
-moved_by : (n : List ℕ) (v : View) (k : List ℕ) (z : Bool) → is_some (v (sibling 122 n)) ≡ z → IsSfile n → is_working n k ≡ false → recover n v k ≡ moved v n (cond z (Some (unlocked (look v n))) None) k
+moved_by : (n : List ℕ) (v : View) (k : List ℕ) (z : Bool) → is_some (v (z_file n)) ≡ z → IsSfile n → is_working n k ≡ false → recover n v k ≡ moved v n (cond z (Some (unlocked (look v n))) None) k
 moved_by n v k true is sfile h = unlocked_at n v k sfile is h
-moved_by n v k false is sfile h = ap (λ (u : View). u k) (ap (recover_by n v) is) ∙ put_other v (sibling 121 n) k None (no_y n k h)
+moved_by n v k false is sfile h = ap (λ (u : View). u k) (ap (recover_by n v) is) ∙ put_other v (y_file n) k None (no_y n k h)
 
 pub recovers_at : (n : List ℕ) (v : View) (k : List ℕ) → IsSfile n → is_working n k ≡ false → recover n v k ≡ moved v n (recovers n (look v n)).new k
-recovers_at n v k sfile h = moved_by n v k (is_some (v (sibling 122 n))) refl sfile h
+recovers_at n v k sfile h = moved_by n v k (is_some (v (z_file n))) refl sfile h
 
 -- ---- how the call ends
 
@@ -180,16 +180,16 @@ made_ends n v (Err DiskFault) o2 out out2 err sfile is says = absurd says
 made_ends n v (Err (Refused refusal)) o2 out out2 err sfile is says = absurd says
 
 pub made_steps : (n : List ℕ) (found : Recovered) (r : Result (Unit {0}) StepFault) (a b : Told) (left out out2 err : Option (List ℕ)) → IsSfile n → Becomes (recover n) (seen a) (seen b)
-    → IfSome (seen a) (λ (v : View). (found ≡ ways.Clean) ↔ (v (sibling 122 n) ≡ None)) → IfSome (seen a) (λ (v : View). Passes (checked n v) (Ok found)) → Says r (found_text n (is_locked found)) out out2
+    → IfSome (seen a) (λ (v : View). (found ≡ ways.Clean) ↔ (v (z_file n) ≡ None)) → IfSome (seen a) (λ (v : View). Passes (checked n v) (Ok found)) → Says r (found_text n (is_locked found)) out out2
     → Stepped recover_action r n left (scene a out err) (scene b out2 err)
 made_steps n found r a b left out out2 err sfile view clean checks says = by (seen a) view clean checks
   where
-    by : (o : Option View) → Becomes (recover n) o (seen b) → IfSome o (λ (v : View). (found ≡ ways.Clean) ↔ (v (sibling 122 n) ≡ None)) → IfSome o (λ (v : View). Passes (checked n v) (Ok found))
+    by : (o : Option View) → Becomes (recover n) o (seen b) → IfSome o (λ (v : View). (found ≡ ways.Clean) ↔ (v (z_file n) ≡ None)) → IfSome o (λ (v : View). Passes (checked n v) (Ok found))
         → IfSome o (λ (v : View). (i : List ℕ) → IsHeard false left i → Meets (λ (done : Unit {0}). 0) r n (recover_step n (look v n)) (world o out err) (world (seen b) out2 err))
     by None view clean checks = tt
     by (Some v) view clean checks = λ i heard.
         subst (λ o. Meets (λ (done : Unit {0}). 0) r n o (world (Some v) out err) (world (seen b) out2 err)) (sym (step_of n (look v n) (Ok true) checks))
-        (made_ends n v r (seen b) out out2 err sfile view (subst (λ (z : Bool). Says r (found_text n z) out out2) (is_said found (v (sibling 122 n)) clean) says))
+        (made_ends n v r (seen b) out out2 err sfile view (subst (λ (z : Bool). Says r (found_text n z) out out2) (is_said found (v (z_file n)) clean) says))
 
 -- what is asked of a call that answers a fault
 pub record Faults (n : List ℕ) (fault : StepFault) (a b : Told) : Type 0 where
@@ -207,27 +207,27 @@ partly_by n v None r is parts = absurd parts
 partly_by n v (Some w) r is parts = λ k h. subst (λ (x : Result Bool Refusal). (w k ≡ v k) ⊎ (w k ≡ recovers_if x n v k)) is (parts k h)
 
 -- recovery changes no file but working files, the p-file and the z-file
-recover_other : (n : List ℕ) (v : View) (k : List ℕ) → is_left n k ≡ false → bytes_eq (sibling 112 n) k ≡ false → recover n v k ≡ v k
-recover_other n v k h other = by (is_some (v (sibling 122 n)))
+recover_other : (n : List ℕ) (v : View) (k : List ℕ) → is_left n k ≡ false → bytes_eq (p_file n) k ≡ false → recover n v k ≡ v k
+recover_other n v k h other = by (is_some (v (z_file n)))
   where
-    by : (z : Bool) → cond z (without (sibling 122 n) (cleaned n v)) (without (sibling 121 n) v) k ≡ v k
-    by true = put_other (cleaned n v) (sibling 122 n) k None (no_z n k h) ∙ (put_other (cleared n v) (sibling 112 n) k (recovered_pfile (v n) (v (sibling 112 n))) other ∙ cleared_other n v k (no_working n k h))
-    by false = put_other v (sibling 121 n) k None (no_y n k (no_working n k h))
+    by : (z : Bool) → cond z (without (z_file n) (cleaned n v)) (without (y_file n) v) k ≡ v k
+    by true = put_other (cleaned n v) (z_file n) k None (no_z n k h) ∙ (put_other (cleared n v) (p_file n) k (recovered_pfile (v n) (v (p_file n))) other ∙ cleared_other n v k (no_working n k h))
+    by false = put_other v (y_file n) k None (no_y n k (no_working n k h))
 
 -- with the old p-file all files are as they were, with the new one as the step makes them
 recovered_or_not : (n : List ℕ) (v w f : View) → ((k : List ℕ) → is_left n k ≡ false → recover n v k ≡ f k) → ((k : List ℕ) → is_left n k ≡ false → (w k ≡ v k) ⊎ (w k ≡ recover n v k))
     → ((k : List ℕ) → is_left n k ≡ false → w k ≡ v k) ⊎ ((k : List ℕ) → is_left n k ≡ false → w k ≡ f k)
-recovered_or_not n v w f same parts = ⊎_elim old_one new_one (parts (sibling 112 n) refl)
+recovered_or_not n v w f same parts = ⊎_elim old_one new_one (parts (p_file n) refl)
   where
-    at_other : (k : List ℕ) → is_left n k ≡ false → bytes_eq (sibling 112 n) k ≡ false → w k ≡ v k
+    at_other : (k : List ℕ) → is_left n k ≡ false → bytes_eq (p_file n) k ≡ false → w k ≡ v k
     at_other k h other = ⊎_elim (λ e. e) (λ e. e ∙ recover_other n v k h other) (parts k h)
 
-    old_one : w (sibling 112 n) ≡ v (sibling 112 n) → ((k : List ℕ) → is_left n k ≡ false → w k ≡ v k) ⊎ ((k : List ℕ) → is_left n k ≡ false → w k ≡ f k)
-    old_one e = inl (λ k h. ⊎_elim (λ is. subst (λ m. w m ≡ v m) is e) (at_other k h) (name_cases (sibling 112 n) k))
+    old_one : w (p_file n) ≡ v (p_file n) → ((k : List ℕ) → is_left n k ≡ false → w k ≡ v k) ⊎ ((k : List ℕ) → is_left n k ≡ false → w k ≡ f k)
+    old_one e = inl (λ k h. ⊎_elim (λ is. subst (λ m. w m ≡ v m) is e) (at_other k h) (name_cases (p_file n) k))
 
-    new_one : w (sibling 112 n) ≡ recover n v (sibling 112 n) → ((k : List ℕ) → is_left n k ≡ false → w k ≡ v k) ⊎ ((k : List ℕ) → is_left n k ≡ false → w k ≡ f k)
+    new_one : w (p_file n) ≡ recover n v (p_file n) → ((k : List ℕ) → is_left n k ≡ false → w k ≡ v k) ⊎ ((k : List ℕ) → is_left n k ≡ false → w k ≡ f k)
     new_one e = inr (λ k h.
-        ⊎_elim (λ is. subst (λ m. w m ≡ recover n v m) is e) (λ other. at_other k h other ∙ sym (recover_other n v k h other)) (name_cases (sibling 112 n) k) ∙ same k h)
+        ⊎_elim (λ is. subst (λ m. w m ≡ recover n v m) is e) (λ other. at_other k h other ∙ sym (recover_other n v k h other)) (name_cases (p_file n) k) ∙ same k h)
 
 in_order : (n : List ℕ) (v : View) (o2 : Option View) (new : Option Files) → ((k : List ℕ) → is_left n k ≡ false → recover n v k ≡ moved v n new k) → MovesPartly (is_left n) (recover n) (Some v) o2 → MovesInOrder n new (Some v) o2
 in_order n v None new same parts = absurd parts
@@ -293,11 +293,11 @@ passed_partly n f None o2 passed parts = parts
 passed_partly n f (Some v) None passed parts = absurd parts
 passed_partly n f (Some v) (Some w) passed parts = λ k h. subst (λ (x : Result Bool Refusal). (w k ≡ v k) ⊎ (w k ≡ recovers_if x n v k)) (sym passed) (parts k h)
 
-found_passed : (n : List ℕ) (left : PfileLeft) (o : Option View) → IfSome o (λ (v : View). IsSome (v (sibling 122 n))) → IfSome o (λ (v : View). Finds (v n) (v (sibling 112 n)) (Ok left)) → IfSome o (λ (v : View). checked n v ≡ Ok true)
+found_passed : (n : List ℕ) (left : PfileLeft) (o : Option View) → IfSome o (λ (v : View). IsSome (v (z_file n))) → IfSome o (λ (v : View). Finds (v n) (v (p_file n)) (Ok left)) → IfSome o (λ (v : View). checked n v ≡ Ok true)
 found_passed n left None there finds = tt
-found_passed n left (Some v) there finds = ap (λ (z : Bool). cond z (readable (v n) (v (sibling 112 n))) (Ok true)) there ∙ finds.0
+found_passed n left (Some v) there finds = ap (λ (z : Bool). cond z (readable (v n) (v (p_file n))) (Ok true)) there ∙ finds.0
 
-pub finished_partly : (n : List ℕ) (left : PfileLeft) (a a1 b : Told) → a1 ≡ a → IsThere (sibling 122 n) a → IfSome (seen a) (λ (v : View). Finds (v n) (v (sibling 112 n)) (Ok left)) → MovesPartly (is_left n) (recover n) (seen a1) (seen b)
+pub finished_partly : (n : List ℕ) (left : PfileLeft) (a a1 b : Told) → a1 ≡ a → IsThere (z_file n) a → IfSome (seen a) (λ (v : View). Finds (v n) (v (p_file n)) (Ok left)) → MovesPartly (is_left n) (recover n) (seen a1) (seen b)
     → MovesPartly (is_left n) (λ (v : View). recovers_if (checked n v) n v) (seen a) (seen b)
 finished_partly n left a a1 b same there finds parts =
     passed_partly n (checked n) (seen a) (seen b) (found_passed n left (seen a) there finds) (subst (λ (t : Told). MovesPartly (is_left n) (recover n) (seen t) (seen b)) same parts)
@@ -351,18 +351,18 @@ faults_of n fault a b f f2 checks ends = record {
 
 -- ---- what the parts leave of the files
 
-pub q_moves : (n : List ℕ) (x : Option Content) (o o2 : Option View) → Becomes (λ v. put v (sibling 113 n) x) o o2 → Moves (is_working n) (λ v. v) o o2
-q_moves n x o o2 is = becomes_moves (is_working n) (λ v. put v (sibling 113 n) x) o o2 (λ v k h. put_other v (sibling 113 n) k x (no_q n k h)) is
+pub q_moves : (n : List ℕ) (x : Option Content) (o o2 : Option View) → Becomes (λ v. put v (q_file n) x) o o2 → Moves (is_working n) (λ v. v) o o2
+q_moves n x o o2 is = becomes_moves (is_working n) (λ v. put v (q_file n) x) o o2 (λ v k h. put_other v (q_file n) k x (no_q n k h)) is
 
 half_same : (o o2 : Option View) → (o2 ≡ o) ⊎ ((v w : View) × (o ≡ Some v) × (o2 ≡ Some w) × (w ≡ v)) → o2 ≡ o
 half_same o o2 (inl same) = same
 half_same o o2 (inr (v, w, old, new, is)) = new ∙ (ap (λ (u : View). Some u) is ∙ sym old)
 
 -- the y-file is gone, and the names couldn't be synced
-pub tidied_moves : (n : List ℕ) (a b d : Told) → Becomes (without (sibling 121 n)) (seen a) (seen b) → Half syncing_names b d → Moves (is_working n) (λ v. v) (seen a) (seen d)
+pub tidied_moves : (n : List ℕ) (a b d : Told) → Becomes (without (y_file n)) (seen a) (seen b) → Half syncing_names b d → Moves (is_working n) (λ v. v) (seen a) (seen d)
 tidied_moves n a b d is half =
     subst (λ (o : Option View). Moves (is_working n) (λ v. v) (seen a) o) (sym (half_same (seen b) (seen d) half.view))
-    (becomes_moves (is_working n) (without (sibling 121 n)) (seen a) (seen b) (λ v k h. put_other v (sibling 121 n) k None (no_y n k h)) is)
+    (becomes_moves (is_working n) (without (y_file n)) (seen a) (seen b) (λ v k h. put_other v (y_file n) k None (no_y n k h)) is)
 
 pub retyped : {S T : Type 0} (e fault : StepFault) → IsErrOf {T = S} (Err e) fault → IsErrOf {T = T} (Err e) fault
 retyped e fault is = let same : e ≡ fault = cc in ap Err same

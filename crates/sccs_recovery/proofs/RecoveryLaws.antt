@@ -1,6 +1,6 @@
 -- What recovery makes of a view, and what a stop in it leaves.
 use Rattle.std.proofs.Common.{◌≡◌, ℕ, Bool, false, cond, List, [], ◌∷◌, Option, None, Some, option_map, IfOk, IfSome, IsSome, OnErr, OnOk, Result, Ok, Err, inl, inr, refl, sym, ap, subst, ◌∙◌, ⊎_elim, arith}
-use Rattle.sccs_base.specs.Name.{IsSfile, sibling}
+use Rattle.sccs_base.specs.Name.{IsSfile, p_file, q_file, x_file, z_file}
 use Rattle.sccs_disk.specs.Calls.{Done, Half, IsThere}
 use Rattle.sccs_disk.specs.Effects.{settled, syncing_names}
 use Rattle.sccs_disk.specs.Files.{Content, Model, View, put, view_of}
@@ -36,49 +36,49 @@ use Rattle.sccs_recovery.specs.declared.entries_left.PfileLeft.TheVariants.{Same
 abbrev pub plan_left : NewFile → Plan
 plan_left new = plan false new Keep
 
-cleared_p : (n : List ℕ) (v : View) → cleared n v (sibling 112 n) ≡ v (sibling 112 n)
+cleared_p : (n : List ℕ) (v : View) → cleared n v (p_file n) ≡ v (p_file n)
 cleared_p n v = refl
 
-pub cleared_q : (n : List ℕ) (v : View) → cleared n v (sibling 113 n) ≡ None
-cleared_q n v = put_same (without (sibling 120 n) v) (sibling 113 n) None
+pub cleared_q : (n : List ℕ) (v : View) → cleared n v (q_file n) ≡ None
+cleared_q n v = put_same (without (x_file n) v) (q_file n) None
 
-cleared_z : (n : List ℕ) (v : View) → cleared n v (sibling 122 n) ≡ v (sibling 122 n)
+cleared_z : (n : List ℕ) (v : View) → cleared n v (z_file n) ≡ v (z_file n)
 cleared_z n v = refl
 
 -- the q-file in the place of the p-file, where there was none
-pub q_placed : (n : List ℕ) (u : View) (x : Option Content) → u (sibling 113 n) ≡ None → swapped Replace (sibling 113 n) (sibling 112 n) (put u (sibling 113 n) x) ≡ put u (sibling 112 n) x
+pub q_placed : (n : List ℕ) (u : View) (x : Option Content) → u (q_file n) ≡ None → swapped Replace (q_file n) (p_file n) (put u (q_file n) x) ≡ put u (p_file n) x
 q_placed n u x none =
-    ap (λ (o : Option Content). put (put (put u (sibling 113 n) x) (sibling 113 n) None) (sibling 112 n) o) (put_same u (sibling 113 n) x)
-    ∙ ap (λ (w : View). put w (sibling 112 n) x) (put_again u (sibling 113 n) x None ∙ (ap (λ (o : Option Content). put u (sibling 113 n) o) (sym none) ∙ put_back u (sibling 113 n)))
+    ap (λ (o : Option Content). put (put (put u (q_file n) x) (q_file n) None) (p_file n) o) (put_same u (q_file n) x)
+    ∙ ap (λ (w : View). put w (p_file n) x) (put_again u (q_file n) x None ∙ (ap (λ (o : Option Content). put u (q_file n) o) (sym none) ∙ put_back u (q_file n)))
 
 -- the view after the working files are gone and the q-file is prepared
 abbrev prepared : List ℕ → PfileLeft → View → View
 prepared n Same v = cleared n v
 prepared n Gone v = cleared n v
-prepared n (Others edits) v = put (cleared n v) (sibling 113 n) (Some (written_pfile edits))
+prepared n (Others edits) v = put (cleared n v) (q_file n) (Some (written_pfile edits))
 
-swapped_left : (n : List ℕ) (left : PfileLeft) (v : View) → swapped (new_of left) (sibling 113 n) (sibling 112 n) (prepared n left v) ≡ put (cleared n v) (sibling 112 n) (pfile_left (v (sibling 112 n)) left)
-swapped_left n Same v = sym (put_back (cleared n v) (sibling 112 n))
+swapped_left : (n : List ℕ) (left : PfileLeft) (v : View) → swapped (new_of left) (q_file n) (p_file n) (prepared n left v) ≡ put (cleared n v) (p_file n) (pfile_left (v (p_file n)) left)
+swapped_left n Same v = sym (put_back (cleared n v) (p_file n))
 swapped_left n Gone v = refl
 swapped_left n (Others edits) v = q_placed n (cleared n v) (Some (written_pfile edits)) (cleared_q n v)
 
 -- a commit makes of it what recovery makes of the view
-committed_left : (n : List ℕ) (left : PfileLeft) (v : View) → IsSome (v (sibling 122 n)) → Recovers (v n) (v (sibling 112 n)) left → committed n (plan_left (new_of left)) (prepared n left v) ≡ recover n v
+committed_left : (n : List ℕ) (left : PfileLeft) (v : View) → IsSome (v (z_file n)) → Recovers (v n) (v (p_file n)) left → committed n (plan_left (new_of left)) (prepared n left v) ≡ recover n v
 committed_left n left v there recovers =
-    ap (without (sibling 122 n)) (swapped_left n left v ∙ ap (λ (o : Option Content). put (cleared n v) (sibling 112 n) o) (sym recovers.is))
+    ap (without (z_file n)) (swapped_left n left v ∙ ap (λ (o : Option Content). put (cleared n v) (p_file n) o) (sym recovers.is))
     ∙ sym (ap (recover_by n v) there)
 
 both_by : (n : List ℕ) (left : PfileLeft) (v : View) (o1 o2 : Option View) → o1 ≡ Some (cleared n v) → PreparesLeft n left o1 o2 → o2 ≡ Some (prepared n left v)
 both_by n Same v o1 o2 first second = second ∙ first
 both_by n Gone v o1 o2 first second = second ∙ first
-both_by n (Others edits) v o1 o2 first second = second ∙ ap (option_map (λ (u : View). put u (sibling 113 n) (Some (written_pfile edits)))) first
+both_by n (Others edits) v o1 o2 first second = second ∙ ap (option_map (λ (u : View). put u (q_file n) (Some (written_pfile edits)))) first
 
 none_by : (n : List ℕ) (left : PfileLeft) (o1 o2 : Option View) → o1 ≡ None → PreparesLeft n left o1 o2 → o2 ≡ None
 none_by n Same o1 o2 first second = second ∙ first
 none_by n Gone o1 o2 first second = second ∙ first
-none_by n (Others edits) o1 o2 first second = second ∙ ap (option_map (λ (u : View). put u (sibling 113 n) (Some (written_pfile edits)))) first
+none_by n (Others edits) o1 o2 first second = second ∙ ap (option_map (λ (u : View). put u (q_file n) (Some (written_pfile edits)))) first
 
-pub prepared_view : (n : List ℕ) (left : PfileLeft) (new : NewFile) (o o1 o2 : Option View) → new ≡ new_of left → IfSome o (λ (v : View). IsSome (v (sibling 122 n))) → IfSome o (λ (v : View). Recovers (v n) (v (sibling 112 n)) left)
+pub prepared_view : (n : List ℕ) (left : PfileLeft) (new : NewFile) (o o1 o2 : Option View) → new ≡ new_of left → IfSome o (λ (v : View). IsSome (v (z_file n))) → IfSome o (λ (v : View). Recovers (v n) (v (p_file n)) left)
     → Becomes (cleared n) o o1 → PreparesLeft n left o1 o2 → option_map (committed n (plan_left new)) o2 ≡ option_map (recover n) o
 prepared_view n left new None o1 o2 is there recovers first second = ap (option_map (committed n (plan_left new))) (none_by n left o1 o2 first second)
 prepared_view n left new (Some v) o1 o2 is there recovers first second =
@@ -86,42 +86,42 @@ prepared_view n left new (Some v) o1 o2 is there recovers first second =
     ∙ (ap (λ (x : NewFile). Some (committed n (plan_left x) (prepared n left v))) is ∙ ap (λ (u : View). Some u) (committed_left n left v there recovers))
 
 -- what the commit needs is there
-prepared_z : (n : List ℕ) (left : PfileLeft) (v : View) → IsSome (v (sibling 122 n)) → IsSome (prepared n left v (sibling 122 n))
+prepared_z : (n : List ℕ) (left : PfileLeft) (v : View) → IsSome (v (z_file n)) → IsSome (prepared n left v (z_file n))
 prepared_z n Same v there = there
 prepared_z n Gone v there = there
 prepared_z n (Others edits) v there = there
 
-pub prepared_there : (n : List ℕ) (left : PfileLeft) (o o1 o2 : Option View) → IfSome o (λ (v : View). IsSome (v (sibling 122 n))) → Becomes (cleared n) o o1 → PreparesLeft n left o1 o2 → IfSome o2 (λ (v : View). IsSome (v (sibling 122 n)))
-prepared_there n left None o1 o2 there first second = subst (λ (x : Option View). IfSome x (λ (v : View). IsSome (v (sibling 122 n)))) (sym (none_by n left o1 o2 first second)) tt
+pub prepared_there : (n : List ℕ) (left : PfileLeft) (o o1 o2 : Option View) → IfSome o (λ (v : View). IsSome (v (z_file n))) → Becomes (cleared n) o o1 → PreparesLeft n left o1 o2 → IfSome o2 (λ (v : View). IsSome (v (z_file n)))
+prepared_there n left None o1 o2 there first second = subst (λ (x : Option View). IfSome x (λ (v : View). IsSome (v (z_file n)))) (sym (none_by n left o1 o2 first second)) tt
 prepared_there n left (Some v) o1 o2 there first second =
-    subst (λ (x : Option View). IfSome x (λ (u : View). IsSome (u (sibling 122 n)))) (sym (both_by n left v o1 o2 first second)) (prepared_z n left v there)
+    subst (λ (x : Option View). IfSome x (λ (u : View). IsSome (u (z_file n)))) (sym (both_by n left v o1 o2 first second)) (prepared_z n left v there)
 
 abbrev needs_of : NewFile → List ℕ → Option View → Type 0
 needs_of Keep n o = Unit {0}
-needs_of Replace n o = IfSome o (λ (v : View). IsSome (v (sibling 113 n)))
-needs_of Remove n o = IfSome o (λ (v : View). IsSome (v (sibling 112 n)))
+needs_of Replace n o = IfSome o (λ (v : View). IsSome (v (q_file n)))
+needs_of Remove n o = IfSome o (λ (v : View). IsSome (v (p_file n)))
 
-needs_left : (n : List ℕ) (left : PfileLeft) (v : View) → Recovers (v n) (v (sibling 112 n)) left → needs_of (new_of left) n (Some (prepared n left v))
+needs_left : (n : List ℕ) (left : PfileLeft) (v : View) → Recovers (v n) (v (p_file n)) left → needs_of (new_of left) n (Some (prepared n left v))
 needs_left n Same v recovers = tt
 needs_left n Gone v recovers = recovers.gone
-needs_left n (Others edits) v recovers = subst IsSome (sym (put_same (cleared n v) (sibling 113 n) (Some (written_pfile edits)))) refl
+needs_left n (Others edits) v recovers = subst IsSome (sym (put_same (cleared n v) (q_file n) (Some (written_pfile edits)))) refl
 
 needs_none : (n : List ℕ) (new : NewFile) → needs_of new n None
 needs_none n Keep = tt
 needs_none n Replace = tt
 needs_none n Remove = tt
 
-needs_told : (n : List ℕ) (new : NewFile) (t : Told) → needs_of new n (seen t) → Needs new (sibling 113 n) (sibling 112 n) t
+needs_told : (n : List ℕ) (new : NewFile) (t : Told) → needs_of new n (seen t) → Needs new (q_file n) (p_file n) t
 needs_told n Keep t needs = needs
 needs_told n Replace t needs = needs
 needs_told n Remove t needs = needs
 
-needs_seen : (n : List ℕ) (left : PfileLeft) (o o1 o2 : Option View) → IfSome o (λ (v : View). Recovers (v n) (v (sibling 112 n)) left) → Becomes (cleared n) o o1 → PreparesLeft n left o1 o2 → needs_of (new_of left) n o2
+needs_seen : (n : List ℕ) (left : PfileLeft) (o o1 o2 : Option View) → IfSome o (λ (v : View). Recovers (v n) (v (p_file n)) left) → Becomes (cleared n) o o1 → PreparesLeft n left o1 o2 → needs_of (new_of left) n o2
 needs_seen n left None o1 o2 recovers first second = subst (needs_of (new_of left) n) (sym (none_by n left o1 o2 first second)) (needs_none n (new_of left))
 needs_seen n left (Some v) o1 o2 recovers first second = subst (needs_of (new_of left) n) (sym (both_by n left v o1 o2 first second)) (needs_left n left v recovers)
 
-pub prepared_needs : (n : List ℕ) (left : PfileLeft) (new : NewFile) (a b d : Told) → new ≡ new_of left → IfSome (seen a) (λ (v : View). Recovers (v n) (v (sibling 112 n)) left) → Becomes (cleared n) (seen a) (seen b) → PreparesLeft n left (seen b) (seen d)
-    → Needs new (sibling 113 n) (sibling 112 n) d
+pub prepared_needs : (n : List ℕ) (left : PfileLeft) (new : NewFile) (a b d : Told) → new ≡ new_of left → IfSome (seen a) (λ (v : View). Recovers (v n) (v (p_file n)) left) → Becomes (cleared n) (seen a) (seen b) → PreparesLeft n left (seen b) (seen d)
+    → Needs new (q_file n) (p_file n) d
 prepared_needs n left new a b d is recovers first second = needs_told n new d (subst (λ (x : NewFile). needs_of x n (seen d)) (sym is) (needs_seen n left (seen a) (seen b) (seen d) recovers first second))
 
 -- ---- moments
@@ -169,33 +169,33 @@ view_now n new a b m m1 past past1 is is1 view =
     some_is (committed n (plan_left new) (view_of m1)) (recover n (view_of m))
     (sym (ap (λ (t : Told). option_map (committed n (plan_left new)) (seen t)) is1) ∙ (view ∙ ap (λ (t : Told). option_map (recover n) (seen t)) is))
 
-model_there : (n : List ℕ) (m : Model) (past : List Model) (t : Told) → t ≡ Tells m past → IsThere (sibling 122 n) t → IsSome (view_of m (sibling 122 n))
-model_there n m past t is there = subst (λ (x : Told). IfSome (seen x) (λ (v : View). IsSome (v (sibling 122 n)))) is there
+model_there : (n : List ℕ) (m : Model) (past : List Model) (t : Told) → t ≡ Tells m past → IsThere (z_file n) t → IsSome (view_of m (z_file n))
+model_there n m past t is there = subst (λ (x : Told). IfSome (seen x) (λ (v : View). IsSome (v (z_file n)))) is there
 
-on_firm : (n : List ℕ) (new : NewFile) (a b : Told) (m m1 : Model) (past past1 : List Model) → a ≡ Tells m past → b ≡ Tells m1 past1 → OnReplace new (Leaves (IsFirm (sibling 113 n)) a b) → OnReplace new (IsFirm (sibling 113 n) m1)
+on_firm : (n : List ℕ) (new : NewFile) (a b : Told) (m m1 : Model) (past past1 : List Model) → a ≡ Tells m past → b ≡ Tells m1 past1 → OnReplace new (Leaves (IsFirm (q_file n)) a b) → OnReplace new (IsFirm (q_file n) m1)
 on_firm n Keep a b m m1 past past1 is is1 firm = tt
 on_firm n Replace a b m m1 past past1 is is1 firm = firm m past is m1 past1 is1
 on_firm n Remove a b m m1 past past1 is is1 firm = tt
 
 -- what the commit needs
-can_commit : (n : List ℕ) (new : NewFile) (m m1 : Model) → IsSfile n → HasFirm m1 → OnReplace new (IsFirm (sibling 113 n) m1) → IsSome (view_of m (sibling 122 n)) → committed n (plan_left new) (view_of m1) ≡ recover n (view_of m) → CanCommit n (plan_left new) m1
+can_commit : (n : List ℕ) (new : NewFile) (m m1 : Model) → IsSfile n → HasFirm m1 → OnReplace new (IsFirm (q_file n) m1) → IsSome (view_of m (z_file n)) → committed n (plan_left new) (view_of m1) ≡ recover n (view_of m) → CanCommit n (plan_left new) m1
 can_commit n new m m1 sfile firm q there view = record {
   firm = firm;
-  x_file = tt;
-  q_file = q;
+  x_state = tt;
+  q_state = q;
   plain = tt;
   entries = record { leaves = tt; sound = sound };
 }
   where
-    pairs : pair (files_after n (plan_left new) (view_of m1)).s (files_after n (plan_left new) (view_of m1)).p ≡ pair (view_of m n) (recovered_pfile (view_of m n) (view_of m (sibling 112 n)))
+    pairs : pair (files_after n (plan_left new) (view_of m1)).s (files_after n (plan_left new) (view_of m1)).p ≡ pair (view_of m n) (recovered_pfile (view_of m n) (view_of m (p_file n)))
     pairs =
         sym (committed_pair n (plan_left new) (view_of m1) tt sfile) ∙ (ap (λ (v : View). pair_of v n) view
-        ∙ (recovered_is n (view_of m) sfile ∙ ap (λ (b : Bool). pair (view_of m n) (cond b (recovered_pfile (view_of m n) (view_of m (sibling 112 n))) (view_of m (sibling 112 n)))) there))
+        ∙ (recovered_is n (view_of m) sfile ∙ ap (λ (b : Bool). pair (view_of m n) (cond b (recovered_pfile (view_of m n) (view_of m (p_file n))) (view_of m (p_file n)))) there))
 
     sound : recovered_pfile (files_after n (plan_left new) (view_of m1)).s (files_after n (plan_left new) (view_of m1)).p ≡ (files_after n (plan_left new) (view_of m1)).p
     sound =
         ap (λ (o : Option Content). recovered_pfile o (files_after n (plan_left new) (view_of m1)).p) (ap s_of pairs)
-        ∙ (ap (recovered_pfile (view_of m n)) (ap p_of pairs) ∙ (twice_once (view_of m n) (view_of m (sibling 112 n)) ∙ sym (ap p_of pairs)))
+        ∙ (ap (recovered_pfile (view_of m n)) (ap p_of pairs) ∙ (twice_once (view_of m n) (view_of m (p_file n)) ∙ sym (ap p_of pairs)))
 
 -- an image of the commit recovers as some image from before
 from_new : (n : List ℕ) (new : NewFile) (m m1 : Model) (j : ℕ) (u : View) → IsSfile n → Touches (is_working n) m m1 → committed n (plan_left new) (view_of m1) ≡ recover n (view_of m) → IsNew m1 (committed n (plan_left new) (view_of m1)) j u → IsFrom m u
@@ -219,8 +219,8 @@ record Prepared (n : List ℕ) (new : NewFile) (m : Model) (past : List Model) (
   view : committed n (plan_left new) (view_of (newest run.added m)) ≡ recover n (view_of m)
   can : CanCommit n (plan_left new) (newest run.added m)
 
-is_prepared : (n : List ℕ) (new : NewFile) (a b : Told) (m : Model) (past : List Model) → IsSfile n → IsThere (sibling 122 n) a → option_map (committed n (plan_left new)) (seen b) ≡ option_map (recover n) (seen a)
-    → TouchesOnly (is_working n) a b → OnReplace new (Leaves (IsFirm (sibling 113 n)) a b) → a ≡ Tells m past → HasFirm m → Prepared n new m past b
+is_prepared : (n : List ℕ) (new : NewFile) (a b : Told) (m : Model) (past : List Model) → IsSfile n → IsThere (z_file n) a → option_map (committed n (plan_left new)) (seen b) ≡ option_map (recover n) (seen a)
+    → TouchesOnly (is_working n) a b → OnReplace new (Leaves (IsFirm (q_file n)) a b) → a ≡ Tells m past → HasFirm m → Prepared n new m past b
 is_prepared n new a b m past sfile there view touches firm_q is firm =
     let run : Touching (is_working n) m past b = touches m past is in
     let now : committed n (plan_left new) (view_of (newest run.added m)) ≡ recover n (view_of m) = view_now n new a b m (newest run.added m) past (earlier run.added m past) is run.is view in
@@ -232,23 +232,23 @@ is_prepared n new a b m past sfile there view touches firm_q is firm =
     }
 
 -- the commit was stopped
-pub stopped_story : (n : List ℕ) (new : NewFile) (a b d : Told) → IsSfile n → IsThere (sibling 122 n) a → option_map (committed n (plan_left new)) (seen b) ≡ option_map (recover n) (seen a)
-    → TouchesOnly (is_working n) a b → OnReplace new (Leaves (IsFirm (sibling 113 n)) a b) → CommitStops n (plan_left new) b d → RecoversOn a d
+pub stopped_story : (n : List ℕ) (new : NewFile) (a b d : Told) → IsSfile n → IsThere (z_file n) a → option_map (committed n (plan_left new)) (seen b) ≡ option_map (recover n) (seen a)
+    → TouchesOnly (is_working n) a b → OnReplace new (Leaves (IsFirm (q_file n)) a b) → CommitStops n (plan_left new) b d → RecoversOn a d
 stopped_story n new a b d sfile there view touches firm_q stops = λ m past is firm.
     let p : Prepared n new m past b = is_prepared n new a b m past sfile there view touches firm_q is firm in
     went_then (λ j w. IsFrom m w) m past 0 b d (from_run n m past b p.run)
     (as_recovery n new m (newest p.run.added m) (earlier p.run.added m past) 0 d sfile (touched_now n m past b p.run) p.view (stops (newest p.run.added m) (earlier p.run.added m past) p.run.is p.can).0)
 
 -- the commit was made
-pub ended_story : (n : List ℕ) (new : NewFile) (a b d : Told) → IsSfile n → IsThere (sibling 122 n) a → option_map (committed n (plan_left new)) (seen b) ≡ option_map (recover n) (seen a)
-    → TouchesOnly (is_working n) a b → OnReplace new (Leaves (IsFirm (sibling 113 n)) a b) → CommitEnds n (plan_left new) b d → RecoversOn a d
+pub ended_story : (n : List ℕ) (new : NewFile) (a b d : Told) → IsSfile n → IsThere (z_file n) a → option_map (committed n (plan_left new)) (seen b) ≡ option_map (recover n) (seen a)
+    → TouchesOnly (is_working n) a b → OnReplace new (Leaves (IsFirm (q_file n)) a b) → CommitEnds n (plan_left new) b d → RecoversOn a d
 ended_story n new a b d sfile there view touches firm_q ends = λ m past is firm.
     let p : Prepared n new m past b = is_prepared n new a b m past sfile there view touches firm_q is firm in
     went_then (λ j w. IsFrom m w) m past 0 b d (from_run n m past b p.run)
     (as_recovery n new m (newest p.run.added m) (earlier p.run.added m past) 1 d sfile (touched_now n m past b p.run) p.view (ends (newest p.run.added m) (earlier p.run.added m past) p.run.is p.can).0)
 
-pub ended_calm : (n : List ℕ) (new : NewFile) (a b d : Told) → IsSfile n → IsThere (sibling 122 n) a → option_map (committed n (plan_left new)) (seen b) ≡ option_map (recover n) (seen a)
-    → TouchesOnly (is_working n) a b → OnReplace new (Leaves (IsFirm (sibling 113 n)) a b) → CommitEnds n (plan_left new) b d → LeavesCalm a d
+pub ended_calm : (n : List ℕ) (new : NewFile) (a b d : Told) → IsSfile n → IsThere (z_file n) a → option_map (committed n (plan_left new)) (seen b) ≡ option_map (recover n) (seen a)
+    → TouchesOnly (is_working n) a b → OnReplace new (Leaves (IsFirm (q_file n)) a b) → CommitEnds n (plan_left new) b d → LeavesCalm a d
 ended_calm n new a b d sfile there view touches firm_q ends = λ m past is firm m2 past2 is2.
     let p : Prepared n new m past b = is_prepared n new a b m past sfile there view touches firm_q is firm in
     let e : Went (IsNew (newest p.run.added m) (committed n (plan_left new) (view_of (newest p.run.added m)))) (newest p.run.added m) (earlier p.run.added m past) 1 d = (ends (newest p.run.added m) (earlier p.run.added m past) p.run.is p.can).0 in
@@ -299,8 +299,8 @@ firm_since a b d same firm = subst (λ t. LeavesFirm t d) same firm
 pub calm_leaves : (a b : Told) → LeavesCalm a b → LeavesFirm a b
 calm_leaves a b calm = λ m past is firm m2 past2 is2. calm_firm m2 (calm m past is firm m2 past2 is2)
 
-pub stopped_firm : (n : List ℕ) (new : NewFile) (a b d : Told) → IsSfile n → IsThere (sibling 122 n) a → option_map (committed n (plan_left new)) (seen b) ≡ option_map (recover n) (seen a)
-    → TouchesOnly (is_working n) a b → OnReplace new (Leaves (IsFirm (sibling 113 n)) a b) → CommitStops n (plan_left new) b d → LeavesFirm a d
+pub stopped_firm : (n : List ℕ) (new : NewFile) (a b d : Told) → IsSfile n → IsThere (z_file n) a → option_map (committed n (plan_left new)) (seen b) ≡ option_map (recover n) (seen a)
+    → TouchesOnly (is_working n) a b → OnReplace new (Leaves (IsFirm (q_file n)) a b) → CommitStops n (plan_left new) b d → LeavesFirm a d
 stopped_firm n new a b d sfile there view touches firm_q stops = λ m past is firm m2 past2 is2.
     let p : Prepared n new m past b = is_prepared n new a b m past sfile there view touches firm_q is firm in
     let e : Went (IsNew (newest p.run.added m) (committed n (plan_left new) (view_of (newest p.run.added m)))) (newest p.run.added m) (earlier p.run.added m past) 0 d = (stops (newest p.run.added m) (earlier p.run.added m past) p.run.is p.can).0 in

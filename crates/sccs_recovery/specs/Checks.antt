@@ -1,10 +1,12 @@
 -- The checks that recovery makes where it finds a z-file (own), and their order.
 use Rattle.std.specs.Prelude.{◌≡◌, ◌≢◌, ◌∷◌, ℕ, Bool, true, List, [], length, nat_lt, Option, None, Some, is_some, option_map, Result, Ok, Err, if◌then◌else◌}
-use Rattle.sccs_base.specs.Name.{sibling}
+use Rattle.sccs_base.specs.Name.{p_file, z_file}
 use Rattle.sccs_disk.specs.Files.{Content, View}
 use Rattle.sccs_sid.specs.Reading.{◌>>=◌}
+use Rattle.sccs_sid.specs.Refusal.{number_of}
 use Rattle.sccs_sid.specs.declared.refusals.Refusal.{Refusal}
 use Rattle.sccs_sid.specs.declared.refusals.Refusal.TheVariants.{BadPfile, TooLong}
+use Rattle.sccs_sid.specs.declared.refusals.Refusal.TheVariants as refusals
 use Rattle.sccs_sid.specs.declared.refusals.StepFault.{StepFault}
 use Rattle.sccs_sid.specs.declared.refusals.StepFault.TheVariants.{Refused, ReadFault, WriteFault}
 use Rattle.sccs_history.specs.declared.headers.Record.{Record}
@@ -45,7 +47,7 @@ readable s p = do
 
 -- the same of a view; they are made only where the z-file is there
 abbrev pub checked : List ℕ → View → Result Bool Refusal
-checked n v = if is_some (v (sibling 122 n)) then readable (v n) (v (sibling 112 n)) else Ok true
+checked n v = if is_some (v (z_file n)) then readable (v n) (v (p_file n)) else Ok true
 
 -- what a call returned is what is read, or its refusal; a fault may come in place of either
 abbrev pub Reads : {A : Type 0} → Result A Refusal → Result A StepFault → Type 0
@@ -70,7 +72,10 @@ Passes checks (Err fault) = Unit {0}
 
 -- the numbers of the checks; only where the disk tells nothing an s-file may be missing (3) that was there
 abbrev pub recover_checks : List ℕ
-recover_checks = 3 ∷ 5 ∷ 6 ∷ 7 ∷ 8 ∷ 9 ∷ 10 ∷ []
+recover_checks =
+    number_of refusals.Missing ∷ number_of refusals.TooLong ∷ number_of refusals.NotSccs
+    ∷ number_of (refusals.BadSum 0 0) ∷ number_of (refusals.BadFormat 0) ∷ number_of refusals.Encoded
+    ∷ number_of (refusals.BadPfile 0) ∷ []
 
 -- Only these checks refuse, and no stream fails.
 pub record IsWithin {T : Type 0} (result : Result T StepFault) : Type 0 where

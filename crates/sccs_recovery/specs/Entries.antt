@@ -1,6 +1,6 @@
 -- What recovery makes of a p-file.
 use Rattle.std.specs.Prelude.{◌≡◌, ℕ, true, List, Option, None, Some, All, IsSome, Result, Ok, Err}
-use Rattle.sccs_base.specs.Name.{sibling}
+use Rattle.sccs_base.specs.Name.{q_file}
 use Rattle.sccs_disk.specs.Files.{Content, View, put}
 use Rattle.sccs_history.specs.declared.headers.Record.{Record}
 use Rattle.sccs_pfile.specs.Entries.{IsEdit}
@@ -58,4 +58,4 @@ new_of (Others edits) = Replace
 abbrev pub PreparesLeft : List ℕ → PfileLeft → Option View → Option View → Type 0
 PreparesLeft n Same old new = new ≡ old
 PreparesLeft n Gone old new = new ≡ old
-PreparesLeft n (Others edits) old new = Becomes (λ v. put v (sibling 113 n) (Some (written_pfile edits))) old new
+PreparesLeft n (Others edits) old new = Becomes (λ v. put v (q_file n) (Some (written_pfile edits))) old new

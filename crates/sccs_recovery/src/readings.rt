@@ -1,5 +1,5 @@
 ghost use Rattle.std.specs.Prelude.{◌≡◌, ◌≢◌, ◌≤◌, All, Some, Ok, Err, IfOk, IfSome, IsErrOf, Option, IsSome};
-ghost use Rattle.sccs_base.specs.Name.{IsSfile, sibling};
+ghost use Rattle.sccs_base.specs.Name.{IsSfile, p_file};
 ghost use Rattle.sccs_base.specs.Stream.{Rose};
 ghost use Rattle.sccs_disk.specs.Files.{Content, View};
 ghost use Rattle.sccs_disk.specs.Told.{seen};
@@ -38,7 +38,7 @@ fn read_bytes<D: Disk>(alloc: Global, disk: &mut D, name: &Name) -> Result<Optio
 // the bytes of a p-file, where it is there
 fn read_p<D: Disk>(alloc: Global, disk: &mut D, name: &Name) -> Result<Option<Bytes>, StepFault>
     requires { IsSfile name.now }
-    ensures told { IfSome (seen (D.told disk.old)) (λ (v : View). Reads (bytes_read (v (sibling 112 name.now))) result) }
+    ensures told { IfSome (seen (D.told disk.old)) (λ (v : View). Reads (bytes_read (v (p_file name.now))) result) }
     ensures same { D.told disk.new ≡ D.told disk.old }
     ensures later { D.faults disk.old ≤ D.faults disk.new }
     ensures cause { IsErrOf result StepFault.DiskFault → Rose (D.faults disk.old) (D.faults disk.new) }
@@ -118,8 +118,8 @@ fn left_with<D: Disk>(
     disk: &mut D,
     name: &Name,
 ) -> Result<PfileLeft, StepFault>
-    ensures told { IfSome (seen (D.told disk.old)) (λ (v : View). bytes_read (v (sibling 112 name.now)) ≡ Ok bytes
-        → Finds (v name.now) (v (sibling 112 name.now)) result) }
+    ensures told { IfSome (seen (D.told disk.old)) (λ (v : View). bytes_read (v (p_file name.now)) ≡ Ok bytes
+        → Finds (v name.now) (v (p_file name.now)) result) }
     ensures entries { IfOk result HasEntries }
     ensures same { D.told disk.new ≡ D.told disk.old }
     ensures later { D.faults disk.old ≤ D.faults disk.new }
@@ -136,7 +136,7 @@ fn left_with<D: Disk>(
 /// the p-file. The checks come in the order of their numbers.
 pub fn read_left<D: Disk>(alloc: Global, disk: &mut D, name: &Name) -> Result<PfileLeft, StepFault>
     requires { IsSfile name.now }
-    ensures told { IfSome (seen (D.told disk.old)) (λ (v : View). Finds (v name.now) (v (sibling 112 name.now)) result) }
+    ensures told { IfSome (seen (D.told disk.old)) (λ (v : View). Finds (v name.now) (v (p_file name.now)) result) }
     ensures entries { IfOk result HasEntries }
     ensures same { D.told disk.new ≡ D.told disk.old }
     ensures later { D.faults disk.old ≤ D.faults disk.new }

@@ -1,5 +1,5 @@
 ghost use Rattle.std.specs.Prelude.{◌≡◌, ◌≢◌, ◌↔◌, ◌≤◌, ℕ, false, Err, None, IfOk, IfSome, IsErrOf, OnErr, OnOk, option_map};
-ghost use Rattle.sccs_base.specs.Name.{IsSfile, sibling};
+ghost use Rattle.sccs_base.specs.Name.{IsSfile, p_file, q_file, y_file, z_file};
 ghost use Rattle.sccs_base.specs.Stream.{Rose};
 ghost use Rattle.sccs_disk.specs.Calls.{IsThere};
 ghost use Rattle.sccs_disk.specs.Files.{View};
@@ -47,7 +47,7 @@ fn prepare_left<D: Disk>(
     ensures view { OnOk result (PreparesLeft name.now left.now (seen (D.told disk.old)) (seen (D.told disk.new))) }
     ensures moves { Moves (is_working name.now) (λ v. v) (seen (D.told disk.old)) (seen (D.told disk.new)) }
     ensures touches { TouchesOnly (is_working name.now) (D.told disk.old) (D.told disk.new) }
-    ensures firm { IfOk result (λ new. OnReplace new (Leaves (IsFirm (sibling 113 name.now)) (D.told disk.old) (D.told disk.new))) }
+    ensures firm { IfOk result (λ new. OnReplace new (Leaves (IsFirm (q_file name.now)) (D.told disk.old) (D.told disk.new))) }
     ensures later { D.faults disk.old ≤ D.faults disk.new }
     ensures cause { IsErrOf result DiskRefusal.Failed → Rose (D.faults disk.old) (D.faults disk.new) }
 {
@@ -64,15 +64,15 @@ fn prepare_left<D: Disk>(
 // removes the working files, and prepares what a commit then makes of the p-file
 fn prepare<D: Disk>(left: &PfileLeft, disk: &mut D, name: &Name) -> Result<NewFile, DiskRefusal>
     requires sfile { IsSfile name.now }
-    requires z { IsThere (sibling 122 name.now) (D.told disk.old) }
+    requires z { IsThere (z_file name.now) (D.told disk.old) }
     requires entries { HasEntries left.now }
-    requires left { IfSome (seen (D.told disk.old)) (λ (v : View). Recovers (v name.now) (v (sibling 112 name.now)) left.now) }
+    requires left { IfSome (seen (D.told disk.old)) (λ (v : View). Recovers (v name.now) (v (p_file name.now)) left.now) }
     ensures view { IfOk result (λ new. option_map (committed name.now (plan false new Keep)) (seen (D.told disk.new)) ≡ option_map (recover name.now) (seen (D.told disk.old))) }
-    ensures z { OnOk result (IsThere (sibling 122 name.now) (D.told disk.new)) }
-    ensures needs { IfOk result (λ new. Needs new (sibling 113 name.now) (sibling 112 name.now) (D.told disk.new)) }
+    ensures z { OnOk result (IsThere (z_file name.now) (D.told disk.new)) }
+    ensures needs { IfOk result (λ new. Needs new (q_file name.now) (p_file name.now) (D.told disk.new)) }
     ensures moves { Moves (is_working name.now) (λ v. v) (seen (D.told disk.old)) (seen (D.told disk.new)) }
     ensures touches { TouchesOnly (is_working name.now) (D.told disk.old) (D.told disk.new) }
-    ensures firm { IfOk result (λ new. OnReplace new (Leaves (IsFirm (sibling 113 name.now)) (D.told disk.old) (D.told disk.new))) }
+    ensures firm { IfOk result (λ new. OnReplace new (Leaves (IsFirm (q_file name.now)) (D.told disk.old) (D.told disk.new))) }
     ensures later { D.faults disk.old ≤ D.faults disk.new }
     ensures cause { IsErrOf result DiskRefusal.Failed → Rose (D.faults disk.old) (D.faults disk.new) }
 {
@@ -103,9 +103,9 @@ fn give_up<D: Disk>(disk: &mut D, name: &Name) -> StepFault
 // finishes or undoes what a step had begun
 fn finish<D: Disk>(left: &PfileLeft, disk: &mut D, name: &Name) -> Result<(), StepFault>
     requires sfile { IsSfile name.now }
-    requires z { IsThere (sibling 122 name.now) (D.told disk.old) }
+    requires z { IsThere (z_file name.now) (D.told disk.old) }
     requires entries { HasEntries left.now }
-    requires left { IfSome (seen (D.told disk.old)) (λ (v : View). Recovers (v name.now) (v (sibling 112 name.now)) left.now) }
+    requires left { IfSome (seen (D.told disk.old)) (λ (v : View). Recovers (v name.now) (v (p_file name.now)) left.now) }
     ensures view { OnOk result (Becomes (recover name.now) (seen (D.told disk.old)) (seen (D.told disk.new))) }
     ensures accepts { (refusal : Refusal) → result ≡ Err (step.Refused refusal) → ⊥ }
     ensures memory { IsErrOf result StepFault.Memory → Moves (is_working name.now) (λ v. v) (seen (D.told disk.old)) (seen (D.told disk.new)) }
@@ -132,8 +132,8 @@ fn finish<D: Disk>(left: &PfileLeft, disk: &mut D, name: &Name) -> Result<(), St
 // recovers a name whose z-file is there
 fn unlock<D: Disk>(alloc: Global, disk: &mut D, name: &Name) -> Result<(), StepFault>
     requires sfile { IsSfile name.now }
-    requires z { IsThere (sibling 122 name.now) (D.told disk.old) }
-    ensures checks { IfSome (seen (D.told disk.old)) (λ (v : View). Passes (readable (v name.now) (v (sibling 112 name.now))) result) }
+    requires z { IsThere (z_file name.now) (D.told disk.old) }
+    ensures checks { IfSome (seen (D.told disk.old)) (λ (v : View). Passes (readable (v name.now) (v (p_file name.now))) result) }
     ensures ends { RecoversName name.now (D.told disk.old) (D.told disk.new) (D.faults disk.old) (D.faults disk.new) result }
 {
     match read_left(alloc, disk, name) {
@@ -145,7 +145,7 @@ fn unlock<D: Disk>(alloc: Global, disk: &mut D, name: &Name) -> Result<(), StepF
 // recovers a name whose z-file isn't there: its y-file goes
 fn tidy<D: Disk>(disk: &mut D, name: &Name) -> Result<(), Failed>
     requires { IsSfile name.now }
-    ensures view { OnOk result (Becomes (without (sibling 121 name.now)) (seen (D.told disk.old)) (seen (D.told disk.new))) }
+    ensures view { OnOk result (Becomes (without (y_file name.now)) (seen (D.told disk.old)) (seen (D.told disk.new))) }
     ensures view_err { OnErr result (Moves (is_working name.now) (λ v. v) (seen (D.told disk.old)) (seen (D.told disk.new))) }
     ensures story { RecoversOn (D.told disk.old) (D.told disk.new) }
     ensures calm { OnOk result (LeavesCalm (D.told disk.old) (D.told disk.new)) }
@@ -167,7 +167,7 @@ fn tidy<D: Disk>(disk: &mut D, name: &Name) -> Result<(), Failed>
 /// disk is calm. The checks are made only where the z-file is there, and at a refusal nothing has changed.
 pub fn recover<D: Disk>(alloc: Global, disk: &mut D, name: &Name) -> Result<Recovered, StepFault>
     requires { IsSfile name.now }
-    ensures clean { IfOk result (λ answer. IfSome (seen (D.told disk.old)) (λ (v : View). (answer ≡ Recovered.Clean) ↔ (v (sibling 122 name.now) ≡ None))) }
+    ensures clean { IfOk result (λ answer. IfSome (seen (D.told disk.old)) (λ (v : View). (answer ≡ Recovered.Clean) ↔ (v (z_file name.now) ≡ None))) }
     ensures checks { IfSome (seen (D.told disk.old)) (λ (v : View). Passes (checked name.now v) result) }
     ensures ends { RecoversName name.now (D.told disk.old) (D.told disk.new) (D.faults disk.old) (D.faults disk.new) result }
 {

@@ -2,7 +2,7 @@
 use Rattle.std.proofs.Common.{◌≡◌, ℕ, Bool, true, false, List, drop, Option, None, Some, Result, Ok, Err, refl, ap, subst, ◌∙◌}
 use Rattle.std.specs.Prelude.{if◌then◌else◌, is_none, is_some}
 use Rattle.std.specs.Str.{bytes_eq}
-use Rattle.sccs_base.specs.Name.{IsSfile, sibling}
+use Rattle.sccs_base.specs.Name.{IsSfile, p_file, z_file}
 use Rattle.sccs_disk.specs.Files.{Content, Folder, View, put, view_in}
 use Rattle.sccs_disk.proofs.Puts.{put_other, put_same}
 use Rattle.sccs_sid.specs.Reading.{◌>>=◌}
@@ -95,17 +95,17 @@ pub own_file : (m : Folder) (n : List ℕ) (new : Option Files) → view_in (mov
 own_file m n None = refl
 own_file m n (Some f) =
     ap (λ (v : View). v n) (moved_view m n (Some f))
-    ∙ put_same (put (put (put (view_in m) (sibling 122 n) f.z) (drop 2 n) f.g) (sibling 112 n) f.p) n f.s
+    ∙ put_same (put (put (put (view_in m) (z_file n) f.z) (drop 2 n) f.g) (p_file n) f.p) n f.s
 
 -- that of another name
 pub other_file : (m : Folder) (k n : List ℕ) (new : Option Files) → IsSfile n → is_kept (drop 2 k) ≡ false → bytes_eq k n ≡ false → view_in (moved_in m k new) n ≡ view_in m n
 other_file m k n None sfile plain apart = refl
 other_file m k n (Some f) sfile plain apart =
-    let z : View = put (view_in m) (sibling 122 k) f.z in
+    let z : View = put (view_in m) (z_file k) f.z in
     let g : View = put z (drop 2 k) f.g in
-    let p : View = put g (sibling 112 k) f.p in
+    let p : View = put g (p_file k) f.p in
     ap (λ (v : View). v n) (moved_view m k (Some f))
     ∙ (put_other p k n f.s apart
-    ∙ (put_other g (sibling 112 k) n f.p (from_sfile 112 k n sfile refl)
+    ∙ (put_other g (p_file k) n f.p (from_sfile 112 k n sfile refl)
     ∙ (put_other z (drop 2 k) n f.g (kept_s (drop 2 k) n plain sfile)
-    ∙ put_other (view_in m) (sibling 122 k) n f.z (from_sfile 122 k n sfile refl))))
+    ∙ put_other (view_in m) (z_file k) n f.z (from_sfile 122 k n sfile refl))))

@@ -3,7 +3,7 @@ use Rattle.std.proofs.Common.{◌≡◌, ◌==◌, ◌||◌, ℕ, Bool, true, fa
 use Rattle.std.specs.Prelude.{if◌then◌else◌, is_none, is_some, map}
 use Rattle.std.proofs.lemmas.Bool.{eqb-true}
 use Rattle.sccs_base.specs.Login.{IsLogin}
-use Rattle.sccs_base.specs.Name.{sibling}
+use Rattle.sccs_base.specs.Name.{p_file, z_file}
 use Rattle.sccs_disk.specs.Files.{Content, Folder, view_in}
 use Rattle.sccs_sid.specs.Moment.{IsMoment}
 use Rattle.sccs_sid.specs.declared.refusals.Refusal.TheVariants as refusals
@@ -103,18 +103,18 @@ delta_goes who words i n m texts d moment login values is = by (view_in m n) ref
     call : DeltaCall
     call = call_in who words i m n
 
-    parts : (view_in m (sibling 122 n) ≡ None) × (delta_outcome words who.stamp n i [] (look (view_in m) n) ≡ Ok d)
+    parts : (view_in m (z_file n) ≡ None) × (delta_outcome words who.stamp n i [] (look (view_in m) n) ≡ Ok d)
     parts = unlocked_step (delta_outcome words who.stamp) n i [] (look (view_in m) n) d is
 
     files : (s z : Option Content) → Files
-    files s z = record { s = s; p = view_in m (sibling 112 n); z = z; g = view_in m (drop 2 n) }
+    files s z = record { s = s; p = view_in m (p_file n); z = z; g = view_in m (drop 2 n) }
 
     by : (s : Option Content) → view_in m n ≡ s → Goes (view_in m n) d.new texts (with_delta (view_in m n) call texts)
     by None none = absurd (needs_file words who n i (look (view_in m) n) d parts.1 none)
     by (Some s) there =
         subst (λ (o : Option Content). Goes o d.new texts (with_delta o call texts)) (sym there)
         (delta_made n call s d texts (versions_made words who.stamp moment login values.0 values.1 n i (files_at s call) s d refl
-        (sym (ap (λ (o : Option Content). delta_outcome words who.stamp n i [] (files o (view_in m (sibling 122 n)))) there ∙ ap (λ (o : Option Content). delta_outcome words who.stamp n i [] (files (Some s) o)) parts.0) ∙ parts.1)))
+        (sym (ap (λ (o : Option Content). delta_outcome words who.stamp n i [] (files o (view_in m (z_file n)))) there ∙ ap (λ (o : Option Content). delta_outcome words who.stamp n i [] (files (Some s) o)) parts.0) ∙ parts.1)))
 
 -- ---- admin
 

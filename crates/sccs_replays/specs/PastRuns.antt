@@ -3,7 +3,7 @@ use Rattle.std.specs.Prelude.{◌≡◌, ℕ, true, ◌&&◌, List, [], ◌∷�
 use Rattle.std.specs.Str.{bytes_eq}
 use Rattle.sccs_base.specs.Cut.{text_of}
 use Rattle.sccs_base.specs.Login.{IsLogin}
-use Rattle.sccs_base.specs.Name.{sibling}
+use Rattle.sccs_base.specs.Name.{p_file}
 use Rattle.sccs_disk.specs.Files.{Content, Folder, view_in}
 use Rattle.sccs_sid.specs.Moment.{IsMoment}
 use Rattle.sccs_sid.specs.declared.refusals.Refusal.{Refusal}
@@ -76,7 +76,7 @@ HasVersions s texts = IfSome s (λ (c : Content). IsOfVersions c texts)
 
 -- the call of delta that is made on a name in a folder
 abbrev pub call_in : Caller → DeltaWords → List ℕ → Folder → List ℕ → DeltaCall
-call_in who words i m n = record { words = words; stamp = who.stamp; input = i; p = view_in m (sibling 112 n); g = view_in m (drop 2 n) }
+call_in who words i m n = record { words = words; stamp = who.stamp; input = i; p = view_in m (p_file n); g = view_in m (drop 2 n) }
 
 -- a delta, and null deltas before it, are added; the others stay
 abbrev pub with_read : Result CallRead Refusal → Texts → Texts

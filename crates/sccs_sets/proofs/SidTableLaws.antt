@@ -8,6 +8,7 @@ use Rattle.sccs_sid.specs.declared.sids.Sid.{Sid}
 use Rattle.sccs_sid.specs.declared.sids.Spec.{Spec}
 use Rattle.sccs_sid.specs.declared.sids.Spec.TheVariants.{Release, Branch, Full}
 use Rattle.sccs_history.specs.Applied.{serials_of}
+use Rattle.sccs_history.specs.FlagText.{flag_b}
 use Rattle.sccs_history.specs.History.{same_sid}
 use Rattle.sccs_history.specs.Numbers.{Falls}
 use Rattle.sccs_history.specs.declared.headers.Header.{Header}
@@ -498,8 +499,8 @@ got_of records (Some got) n is = record { got = got; is = refl; serial = is }
 
 -- the SID to be made is that of the row that fits
 pub made_by_row : (header : Header) (spec : Option Spec) (branch : Bool) (n : ℕ) → Falls 65536 (serials_of header.records) → IfSome spec IsSpec → retrieved header.records spec false ≡ Some n
-    → to_be_made header [] n spec branch ≡ made_in (fitting (branch && has_flag header.flags 98) (rows header.records spec))
+    → to_be_made header [] n spec branch ≡ made_in (fitting (branch && has_flag header.flags flag_b) (rows header.records spec))
 made_by_row header spec branch n falls fits is =
-    let asked : Bool = branch && has_flag header.flags 98 in
+    let asked : Bool = branch && has_flag header.flags flag_b in
     let it = got_of header.records (got_in (fitting asked (rows header.records spec))) n (sym (got_by_row header.records spec asked) ∙ is) in
     ap (option_and_then (λ on. made_on header.records [] on spec asked)) (sid_of_serial header.records 65536 it.got n falls it.serial) ∙ made_on_row header.records it.got spec asked fits it.is

@@ -5,6 +5,7 @@ use Rattle.std.specs.List.{list_any, reduce}
 use Rattle.sccs_sid.specs.declared.sids.Sid.{Sid}
 use Rattle.sccs_sid.specs.declared.sids.Spec.{Spec}
 use Rattle.sccs_sid.specs.declared.sids.Spec.TheVariants.{Release}
+use Rattle.sccs_history.specs.FlagText.{flag_b}
 use Rattle.sccs_history.specs.declared.headers.Header.{Header}
 use Rattle.sccs_history.specs.declared.headers.Record.{Record}
 use Rattle.sccs_flags.specs.FlagValues.{has_flag}
@@ -68,4 +69,4 @@ made_on records reserved got spec branch =
 -- the same on a live delta of a table; asking for a branch counts where the flag b is set
 abbrev pub to_be_made : Header → List Sid → ℕ → Option Spec → Bool → Option Sid
 to_be_made header reserved got spec branch =
-    option_and_then (λ on. made_on header.records reserved on spec (branch && has_flag header.flags 98)) (sid_at header.records got)
+    option_and_then (λ on. made_on header.records reserved on spec (branch && has_flag header.flags flag_b)) (sid_at header.records got)

@@ -2,6 +2,7 @@ ghost use Rattle.std.specs.Prelude.{◌≡◌, ◌≢◌, ◌<◌, ◌≤◌, �
 ghost use Rattle.std.specs.List.{AllByRecursion, IsDistinct, flat_map};
 ghost use Rattle.sccs_sid.specs.declared.sids.Sid.{Sid};
 ghost use Rattle.sccs_sid.specs.declared.sid_lists.Range.{Range};
+ghost use Rattle.sccs_history.specs.FlagText.{flag_b};
 ghost use Rattle.sccs_history.specs.declared.headers.Header.{Header};
 ghost use Rattle.sccs_history.specs.declared.headers.Record.{Record};
 ghost use Rattle.sccs_history.specs.Applied.{newest, serials_of};
@@ -74,7 +75,7 @@ pub fn sid_table()
     ensures made { (header : Header) (spec : Option Spec) (branch : Bool) (n : ℕ)
         → Falls 65536 (serials_of header.records) → IfSome spec IsSpec → retrieved header.records spec false ≡ Some n
         → to_be_made header [] n spec branch
-        ≡ made_in (fitting (branch && has_flag header.flags 98) (rows header.records spec)) }
+        ≡ made_in (fitting (branch && has_flag header.flags flag_b) (rows header.records spec)) }
 {}
 
 /// Where nothing is reserved and no branch is asked for: on the newest delta of the trunk the next

@@ -6,6 +6,10 @@ use Rattle.sccs_sid.specs.Sid.{sid_text}
 use Rattle.sccs_sid.specs.declared.refusals.Refusal.{Refusal}
 use Rattle.sccs_sid.specs.declared.refusals.Refusal.TheVariants.{BadName, Locked, Missing, Exists, TooLong, NotSccs, BadSum, BadFormat, Encoded, BadPfile, Disagree, NotAllowed, NoEdit, ManyEdits, NoSid, BadList, OutsideRelease, LockedRelease, BeingEdited, BadScript, ScriptRange, BadText, NoKeywords, GExists, GDiffers, FlagBad, MrNeeded, MrNotAllowed, Unsupported, NotTip, NotOwner, Full, Changed, BadRcs, BadRevision, RcsScript, GroupPending, BadIntent, Unbuilt}
 
+-- that of a list of SIDs, whichever SID it names
+abbrev pub bad_list_number : ℕ
+bad_list_number = 16
+
 -- the number of a refusal; the checks of a step are made in the order of these numbers
 abbrev pub number_of : Refusal → ℕ
 number_of BadName = 1
@@ -23,7 +27,7 @@ number_of NotAllowed = 12
 number_of NoEdit = 13
 number_of ManyEdits = 14
 number_of NoSid = 15
-number_of (BadList sid) = 16
+number_of (BadList sid) = bad_list_number
 number_of OutsideRelease = 17
 number_of LockedRelease = 18
 number_of BeingEdited = 19

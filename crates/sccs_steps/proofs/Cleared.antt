@@ -2,7 +2,7 @@
 use Rattle.std.proofs.Common.{◌≡◌, ◌⊎◌, ℕ, Bool, true, false, ◌||◌, List, [], ◌∷◌, ◌++◌, drop, Option, None, Some, Ok, inl, inr, refl, sym, ap, subst, ◌∙◌, ⊎_elim}
 use Rattle.std.specs.Prelude.{◌==◌, ◌&&◌}
 use Rattle.std.specs.Str.{bytes_eq}
-use Rattle.sccs_base.specs.Name.{sibling}
+use Rattle.sccs_base.specs.Name.{p_file, z_file}
 use Rattle.sccs_disk.specs.Files.{Content, View, put}
 use Rattle.sccs_disk.proofs.Puts.{name_cases, put_other}
 use Rattle.sccs_files.specs.StepFiles.{Apart, AreCleared, Files, Moves, is_working, moved}
@@ -64,11 +64,11 @@ differ w l k spared is = ⊎_elim (λ e. absurd (let same : w l ≡ w k = ap w e
 moved_other : (w : List ℕ → Bool) (n : List ℕ) (new : Option Files) (u : View) (k : List ℕ) → Apart w n → w k ≡ true → moved u n new k ≡ u k
 moved_other w n None u k apart is = refl
 moved_other w n (Some f) u k apart is =
-    let z : View = put u (sibling 122 n) f.z in
+    let z : View = put u (z_file n) f.z in
     let g : View = put z (drop 2 n) f.g in
-    let p : View = put g (sibling 112 n) f.p in
-    put_other p n k f.s (differ w n k apart.s is) ∙ (put_other g (sibling 112 n) k f.p (differ w (sibling 112 n) k apart.p is)
-    ∙ (put_other z (drop 2 n) k f.g (differ w (drop 2 n) k apart.g is) ∙ put_other u (sibling 122 n) k f.z (differ w (sibling 122 n) k apart.z is)))
+    let p : View = put g (p_file n) f.p in
+    put_other p n k f.s (differ w n k apart.s is) ∙ (put_other g (p_file n) k f.p (differ w (p_file n) k apart.p is)
+    ∙ (put_other z (drop 2 n) k f.g (differ w (drop 2 n) k apart.g is) ∙ put_other u (z_file n) k f.z (differ w (z_file n) k apart.z is)))
 
 unused : (status : ℕ) (b : Bool) → status ≡ 0 → ((status == 0 && b) || false) ≡ false → b ≡ false
 unused status b none h = by b (subst (λ s. ((s == 0 && b) || false) ≡ false) none h)

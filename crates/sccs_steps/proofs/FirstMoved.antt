@@ -1,7 +1,7 @@
 -- Views after some first files of a step.
 use Rattle.std.proofs.Common.{◌≡◌, ℕ, zero, suc, Bool, true, false, ◌||◌, cond, List, [], ◌∷◌, ◌++◌, Option, None, Some, refl, ap, ◌∙◌}
 use Rattle.std.specs.Str.{bytes_eq}
-use Rattle.sccs_base.specs.Name.{sibling}
+use Rattle.sccs_base.specs.Name.{p_file, z_file}
 use Rattle.sccs_disk.specs.Files.{Content, View}
 use Rattle.sccs_files.specs.StepFiles.{Alike, Apart, Files, Moves, Shows, is_left, is_working}
 use Rattle.sccs_files.proofs.Views.{moved_alike}
@@ -13,7 +13,7 @@ first_alike zero w u v n new alike = alike
 first_alike (suc zero) w u v n None alike = alike
 first_alike (suc zero) w u v n (Some f) alike = λ k h. ap (λ (o : Option Content). cond (bytes_eq n k) f.s o) (alike k h)
 first_alike (suc (suc zero)) w u v n None alike = alike
-first_alike (suc (suc zero)) w u v n (Some f) alike = λ k h. ap (λ (o : Option Content). cond (bytes_eq (sibling 112 n) k) f.p (cond (bytes_eq n k) f.s o)) (alike k h)
+first_alike (suc (suc zero)) w u v n (Some f) alike = λ k h. ap (λ (o : Option Content). cond (bytes_eq (p_file n) k) f.p (cond (bytes_eq n k) f.s o)) (alike k h)
 first_alike (suc (suc (suc i))) w u v n new alike = moved_alike w u v n new alike
 
 left_false : (x y : Bool) → (x || y) ≡ false → x ≡ false
@@ -29,18 +29,18 @@ both_false x y p q = ap (λ z. z || y) p ∙ q
 
 -- a disk that shows a view shows, where it failed in a step, the view after some first files of the step
 pub shows_in_order : (w : List ℕ → Bool) (i : ℕ) (n : List ℕ) (new : Option Files) (v : View) (a b : Option View) → Apart w n → Shows w a v → Moves (is_left n) (λ u. first_moved i u n new) a b
-    → Shows (λ k. w k || bytes_eq (sibling 122 n) k) b (first_moved i v n new)
+    → Shows (λ k. w k || bytes_eq (z_file n) k) b (first_moved i v n new)
 shows_in_order w i n new v None b apart shows moves = absurd shows
 shows_in_order w i n new v (Some u) None apart shows moves = absurd moves
 shows_in_order w i n new v (Some u) (Some t) apart shows moves = λ k h.
-    let out_w : w k ≡ false = left_false (w k) (bytes_eq (sibling 122 n) k) h in
-    let out_z : bytes_eq (sibling 122 n) k ≡ false = right_false (w k) (bytes_eq (sibling 122 n) k) h in
-    moves k (both_false (is_working n k) (bytes_eq (sibling 122 n) k) (apart.own k out_w) out_z) ∙ first_alike i w u v n new shows k out_w
+    let out_w : w k ≡ false = left_false (w k) (bytes_eq (z_file n) k) h in
+    let out_z : bytes_eq (z_file n) k ≡ false = right_false (w k) (bytes_eq (z_file n) k) h in
+    moves k (both_false (is_working n k) (bytes_eq (z_file n) k) (apart.own k out_w) out_z) ∙ first_alike i w u v n new shows k out_w
 
 -- but for the z-file of a step too
 pub shows_wider : (w : List ℕ → Bool) (told : Option View) (u : View) (t : NamedStep) → Shows w told u → Shows (left_by w (t ∷ [])) told u
 shows_wider w None u t shows = absurd shows
-shows_wider w (Some s) u t shows = λ k h. shows k (left_false (w k) (bytes_eq (sibling 122 t.name) k) h)
+shows_wider w (Some s) u t shows = λ k h. shows k (left_false (w k) (bytes_eq (z_file t.name) k) h)
 
 -- none of the next step's files is new
 pub shows_none : (w : List ℕ → Bool) (told : Option View) (u : View) (t : NamedStep) (ts : List NamedStep) → Shows w told u → ShowsNext w (t ∷ ts) told u

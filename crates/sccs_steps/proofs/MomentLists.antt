@@ -1,7 +1,7 @@
 -- The moments of lists of steps, one behind another.
 use Rattle.std.proofs.Common.{◌≡◌, ◌≢◌, ◌⊎◌, ℕ, suc, ◌+◌, ◌<◌, ◌≤◌, Bool, List, [], ◌∷◌, ◌++◌, length, is_some, Result, Ok, Err, inl, inr, refl, sym, ap, subst, ◌∙◌, ⊎_elim, arith, length-append}
 use Rattle.std.proofs.lemmas.Bool.{cases_lt}
-use Rattle.sccs_base.specs.Name.{sibling}
+use Rattle.sccs_base.specs.Name.{p_file, z_file}
 use Rattle.sccs_base.specs.Stream.{GivesSome}
 use Rattle.sccs_base.proofs.Gifts.{gives_then, some_none}
 use Rattle.sccs_disk.specs.Files.{Folder, Model, View, view_in, view_of}
@@ -27,7 +27,7 @@ use Rattle.sccs_steps.proofs.Fronts.{err_front, err_past, err_rises, more_within
 -- views that are alike but for working files recover alike
 pub alike_recovers : (w : List ℕ → Bool) (u v : View) → Spares w → Alike w u v → RecoversAs v u
 alike_recovers w u v spares alike =
-    same_recovers v u (λ n sfile. alike n (spares.s n sfile)) (λ n sfile. alike (sibling 112 n) (spares.p n sfile)) (λ n sfile. ap is_some (alike (sibling 122 n) (spares.z n sfile)))
+    same_recovers v u (λ n sfile. alike n (spares.s n sfile)) (λ n sfile. alike (p_file n) (spares.p n sfile)) (λ n sfile. ap is_some (alike (z_file n) (spares.z n sfile)))
 
 -- ---- nothing was done
 

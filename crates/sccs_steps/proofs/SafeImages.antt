@@ -1,6 +1,6 @@
 -- Names that are safe in what a stop leaves.
 use Rattle.std.proofs.Common.{◌≡◌, ◌⊎◌, ℕ, Bool, true, false, cond, List, [], ◌∷◌, ◌++◌, Option, None, Some, is_some, inl, inr, refl, sym, ap, subst, ◌∙◌}
-use Rattle.sccs_base.specs.Name.{IsSfile, sibling}
+use Rattle.sccs_base.specs.Name.{IsSfile, p_file, z_file}
 use Rattle.sccs_disk.specs.Files.{Content, Model, View, view_of}
 use Rattle.sccs_disk.specs.Images.{Allows}
 use Rattle.sccs_disk.specs.Told.{Told}
@@ -27,12 +27,12 @@ still_left s None gone = refl
 still_left s (Some p) gone = ap (λ (o : Option Content). recovered_pfile o (Some p)) gone
 
 -- the p-file that recovery leaves stays, and is none where there is none
-left_sound : (n : List ℕ) (v : View) (z : Bool) → is_some (v (sibling 122 n)) ≡ z → IsSafe n v
-    → recovered_pfile (v n) (cond z (recovered_pfile (v n) (v (sibling 112 n))) (v (sibling 112 n))) ≡ cond z (recovered_pfile (v n) (v (sibling 112 n))) (v (sibling 112 n))
-left_sound n v true is safe = twice_once (v n) (v (sibling 112 n))
-left_sound n v false is safe = safe.sound (none_of (v (sibling 122 n)) is)
+left_sound : (n : List ℕ) (v : View) (z : Bool) → is_some (v (z_file n)) ≡ z → IsSafe n v
+    → recovered_pfile (v n) (cond z (recovered_pfile (v n) (v (p_file n))) (v (p_file n))) ≡ cond z (recovered_pfile (v n) (v (p_file n))) (v (p_file n))
+left_sound n v true is safe = twice_once (v n) (v (p_file n))
+left_sound n v false is safe = safe.sound (none_of (v (z_file n)) is)
 
-left_none : (n : List ℕ) (v : View) (z : Bool) → v (sibling 112 n) ≡ None → cond z (recovered_pfile (v n) (v (sibling 112 n))) (v (sibling 112 n)) ≡ None
+left_none : (n : List ℕ) (v : View) (z : Bool) → v (p_file n) ≡ None → cond z (recovered_pfile (v n) (v (p_file n))) (v (p_file n)) ≡ None
 left_none n v true none = ap (recovered_pfile (v n)) none ∙ refl
 left_none n v false none = none
 
@@ -44,14 +44,14 @@ pub recovers_safe : (v u : View) → RecoversAs v u → KeepsSafe v u
 recovers_safe v u recovers = λ n sfile safe.
     let both : recovered_at u n ≡ recovered_at v n = recovers_to v u recovers n sfile in
     let s : u n ≡ v n = ap s_of both in
-    let p : cond (is_some (u (sibling 122 n))) (recovered_pfile (u n) (u (sibling 112 n))) (u (sibling 112 n)) ≡ cond (is_some (v (sibling 122 n))) (recovered_pfile (v n) (v (sibling 112 n))) (v (sibling 112 n)) = ap p_of both in
+    let p : cond (is_some (u (z_file n))) (recovered_pfile (u n) (u (p_file n))) (u (p_file n)) ≡ cond (is_some (v (z_file n))) (recovered_pfile (v n) (v (p_file n))) (v (p_file n)) = ap p_of both in
     record {
       plain = safe.plain;
       sound = λ none.
-          let now : u (sibling 112 n) ≡ cond (is_some (v (sibling 122 n))) (recovered_pfile (v n) (v (sibling 112 n))) (v (sibling 112 n)) =
-          sym (ap (λ (o : Option Content). cond (is_some o) (recovered_pfile (u n) (u (sibling 112 n))) (u (sibling 112 n))) none) ∙ p in
-          ap (λ (o : Option Content). recovered_pfile o (u (sibling 112 n))) s ∙ (ap (recovered_pfile (v n)) now ∙ (left_sound n v (is_some (v (sibling 122 n))) refl safe ∙ sym now));
-      paired = λ gone. none_before (u n) (u (sibling 112 n)) (is_some (u (sibling 122 n))) gone (p ∙ left_none n v (is_some (v (sibling 122 n))) (safe.paired (sym s ∙ gone)));
+          let now : u (p_file n) ≡ cond (is_some (v (z_file n))) (recovered_pfile (v n) (v (p_file n))) (v (p_file n)) =
+          sym (ap (λ (o : Option Content). cond (is_some o) (recovered_pfile (u n) (u (p_file n))) (u (p_file n))) none) ∙ p in
+          ap (λ (o : Option Content). recovered_pfile o (u (p_file n))) s ∙ (ap (recovered_pfile (v n)) now ∙ (left_sound n v (is_some (v (z_file n))) refl safe ∙ sym now));
+      paired = λ gone. none_before (u n) (u (p_file n)) (is_some (u (z_file n))) gone (p ∙ left_none n v (is_some (v (z_file n))) (safe.paired (sym s ∙ gone)));
     }
 
 pub keeps_then : (u v w : View) → KeepsSafe u v → KeepsSafe v w → KeepsSafe u w

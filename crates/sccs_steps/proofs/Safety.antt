@@ -1,7 +1,7 @@
 -- Safe names stay safe from step to step.
 use Rattle.std.proofs.Common.{◌≡◌, ℕ, Bool, true, false, List, drop, Option, None, Some, refl, sym, subst, ◌∙◌, ⊎_elim}
 use Rattle.std.specs.Str.{bytes_eq}
-use Rattle.sccs_base.specs.Name.{IsSfile, sibling}
+use Rattle.sccs_base.specs.Name.{IsSfile, p_file, z_file}
 use Rattle.sccs_disk.specs.Files.{Content, Folder, View, put, view_in}
 use Rattle.sccs_disk.proofs.Puts.{name_cases, put_other, put_same}
 use Rattle.sccs_files.specs.StepFiles.{Alike, Files, moved, moved_in, placed}
@@ -16,38 +16,38 @@ use Rattle.sccs_steps.specs.ListStops.{KeepsSafe, Spares, StaySafe}
 -- ---- views
 
 -- the same s-file, p-file and z-file
-pub same_safe : (n : List ℕ) (u v : View) → u n ≡ v n → u (sibling 112 n) ≡ v (sibling 112 n) → u (sibling 122 n) ≡ v (sibling 122 n) → IsSafe n u → IsSafe n v
+pub same_safe : (n : List ℕ) (u v : View) → u n ≡ v n → u (p_file n) ≡ v (p_file n) → u (z_file n) ≡ v (z_file n) → IsSafe n u → IsSafe n v
 same_safe n u v s p z safe = record {
   plain = safe.plain;
-  sound = λ none. subst (λ (o : Option Content). recovered_pfile o (v (sibling 112 n)) ≡ v (sibling 112 n)) s (subst (λ (o : Option Content). recovered_pfile (u n) o ≡ o) p (safe.sound (z ∙ none)));
+  sound = λ none. subst (λ (o : Option Content). recovered_pfile o (v (p_file n)) ≡ v (p_file n)) s (subst (λ (o : Option Content). recovered_pfile (u n) o ≡ o) p (safe.sound (z ∙ none)));
   paired = λ none. sym p ∙ safe.paired (s ∙ none);
 }
 
 pub alike_safe : (work : List ℕ → Bool) (n : List ℕ) (u v : View) → Spares work → IsSfile n → Alike work u v → IsSafe n u → IsSafe n v
-alike_safe work n u v spares sfile alike safe = same_safe n u v (alike n (spares.s n sfile)) (alike (sibling 112 n) (spares.p n sfile)) (alike (sibling 122 n) (spares.z n sfile)) safe
+alike_safe work n u v spares sfile alike safe = same_safe n u v (alike n (spares.s n sfile)) (alike (p_file n) (spares.p n sfile)) (alike (z_file n) (spares.z n sfile)) safe
 
 -- new files of a name
 pub placed_safe : (n : List ℕ) (v : View) (f : Files) → IsSfile n → is_kept (drop 2 n) ≡ false → recovered_pfile f.s f.p ≡ f.p → ArePaired f.s f.p → IsSafe n (placed v n f)
 placed_safe n v f sfile plain sound paired =
-    let u : View = put (put v (sibling 122 n) f.z) (drop 2 n) f.g in
-    let s : placed v n f n ≡ f.s = put_same (put u (sibling 112 n) f.p) n f.s in
-    let p : placed v n f (sibling 112 n) ≡ f.p = put_other (put u (sibling 112 n) f.p) n (sibling 112 n) f.s (to_s 112 n sfile refl) ∙ put_same u (sibling 112 n) f.p in
+    let u : View = put (put v (z_file n) f.z) (drop 2 n) f.g in
+    let s : placed v n f n ≡ f.s = put_same (put u (p_file n) f.p) n f.s in
+    let p : placed v n f (p_file n) ≡ f.p = put_other (put u (p_file n) f.p) n (p_file n) f.s (to_s 112 n sfile refl) ∙ put_same u (p_file n) f.p in
     record {
       plain = plain;
-      sound = λ none. subst (λ (o : Option Content). recovered_pfile o (placed v n f (sibling 112 n)) ≡ placed v n f (sibling 112 n)) (sym s) (subst (λ (o : Option Content). recovered_pfile f.s o ≡ o) (sym p) sound);
+      sound = λ none. subst (λ (o : Option Content). recovered_pfile o (placed v n f (p_file n)) ≡ placed v n f (p_file n)) (sym s) (subst (λ (o : Option Content). recovered_pfile f.s o ≡ o) (sym p) sound);
       paired = λ none. p ∙ paired (sym s ∙ none);
     }
 
 -- new files of another name
 other_placed : (n k : List ℕ) (v : View) (f : Files) → IsSfile n → IsSfile k → is_kept (drop 2 n) ≡ false → bytes_eq n k ≡ false → IsSafe k v → IsSafe k (placed v n f)
 other_placed n k v f sfile other plain apart safe =
-    let z : View = put v (sibling 122 n) f.z in
+    let z : View = put v (z_file n) f.z in
     let g : View = put z (drop 2 n) f.g in
-    let p : View = put g (sibling 112 n) f.p in
+    let p : View = put g (p_file n) f.p in
     same_safe k v (placed v n f)
-    (sym (put_other p n k f.s apart ∙ (put_other g (sibling 112 n) k f.p (from_sfile 112 n k other refl) ∙ (put_other z (drop 2 n) k f.g (kept_s (drop 2 n) k plain other) ∙ put_other v (sibling 122 n) k f.z (from_sfile 122 n k other refl)))))
-    (sym (put_other p n (sibling 112 k) f.s (to_sfile 112 n k sfile refl) ∙ (put_other g (sibling 112 n) (sibling 112 k) f.p (siblings_differ 112 n k sfile other apart) ∙ (put_other z (drop 2 n) (sibling 112 k) f.g (kept_p (drop 2 n) k plain other) ∙ put_other v (sibling 122 n) (sibling 112 k) f.z refl))))
-    (sym (put_other p n (sibling 122 k) f.s (to_sfile 122 n k sfile refl) ∙ (put_other g (sibling 112 n) (sibling 122 k) f.p refl ∙ (put_other z (drop 2 n) (sibling 122 k) f.g (kept_z (drop 2 n) k plain other) ∙ put_other v (sibling 122 n) (sibling 122 k) f.z (siblings_differ 122 n k sfile other apart)))))
+    (sym (put_other p n k f.s apart ∙ (put_other g (p_file n) k f.p (from_sfile 112 n k other refl) ∙ (put_other z (drop 2 n) k f.g (kept_s (drop 2 n) k plain other) ∙ put_other v (z_file n) k f.z (from_sfile 122 n k other refl)))))
+    (sym (put_other p n (p_file k) f.s (to_sfile 112 n k sfile refl) ∙ (put_other g (p_file n) (p_file k) f.p (siblings_differ 112 n k sfile other apart) ∙ (put_other z (drop 2 n) (p_file k) f.g (kept_p (drop 2 n) k plain other) ∙ put_other v (z_file n) (p_file k) f.z refl))))
+    (sym (put_other p n (z_file k) f.s (to_sfile 122 n k sfile refl) ∙ (put_other g (p_file n) (z_file k) f.p refl ∙ (put_other z (drop 2 n) (z_file k) f.g (kept_z (drop 2 n) k plain other) ∙ put_other v (z_file n) (z_file k) f.z (siblings_differ 122 n k sfile other apart)))))
     safe
 
 other_moved : (n k : List ℕ) (v : View) (new : Option Files) → IsSfile n → IsSfile k → is_kept (drop 2 n) ≡ false → bytes_eq n k ≡ false → IsSafe k v → IsSafe k (moved v n new)

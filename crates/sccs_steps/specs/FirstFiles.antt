@@ -1,6 +1,6 @@
 -- What is left of a step in which the disk failed: the first of its files are new, in the order of a commit.
 use Rattle.std.specs.Prelude.{ℕ, zero, suc, List, Option, None, Some}
-use Rattle.sccs_base.specs.Name.{sibling}
+use Rattle.sccs_base.specs.Name.{p_file}
 use Rattle.sccs_disk.specs.Files.{View, put}
 use Rattle.sccs_files.specs.StepFiles.{Files, Moves, is_left, moved}
 
@@ -10,7 +10,7 @@ first_moved zero v n new = v
 first_moved (suc zero) v n None = v
 first_moved (suc zero) v n (Some f) = put v n f.s
 first_moved (suc (suc zero)) v n None = v
-first_moved (suc (suc zero)) v n (Some f) = put (put v n f.s) (sibling 112 n) f.p
+first_moved (suc (suc zero)) v n (Some f) = put (put v n f.s) (p_file n) f.p
 first_moved (suc (suc (suc i))) v n new = moved v n new
 
 -- what is told is the view after some first of them, but for working files and the z-file

@@ -1,7 +1,7 @@
 -- The moments of a list of steps that began on a calm disk, and which of the steps are acknowledged.
 use Rattle.std.specs.Prelude.{◌≡◌, ◌≢◌, ℕ, suc, ◌+◌, ◌-◌, ◌<◌, ◌≤◌, ◌⊎◌, Bool, true, false, List, ◌++◌, length, take, drop, Option, None, Some, Result, Err, IsOk}
 use Rattle.std.specs.List.{AllByRecursion}
-use Rattle.sccs_base.specs.Name.{IsSfile, sibling}
+use Rattle.sccs_base.specs.Name.{IsSfile, p_file, z_file}
 use Rattle.sccs_base.specs.Stream.{GivesSome}
 use Rattle.sccs_disk.specs.Files.{Folder, Model, View, view_in, view_of}
 use Rattle.sccs_disk.specs.Images.{Allows}
@@ -85,8 +85,8 @@ KeepsSafe u v = (n : List ℕ) → IsSfile n → IsSafe n u → IsSafe n v
 -- no s-file, p-file or z-file is a working file
 pub record Spares (w : List ℕ → Bool) : Type 0 where
   pub s : (n : List ℕ) → IsSfile n → w n ≡ false
-  pub p : (n : List ℕ) → IsSfile n → w (sibling 112 n) ≡ false
-  pub z : (n : List ℕ) → IsSfile n → w (sibling 122 n) ≡ false
+  pub p : (n : List ℕ) → IsSfile n → w (p_file n) ≡ false
+  pub z : (n : List ℕ) → IsSfile n → w (z_file n) ≡ false
 
 -- The moments of steps. The last number is at least that of each step that is acknowledged, and but at a disk fault the names that
 -- were safe are safe again, after so many steps.

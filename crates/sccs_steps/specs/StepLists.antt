@@ -1,7 +1,7 @@
 -- Lists of steps: what they write and leave, and how a call that makes them ends.
 use Rattle.std.specs.Prelude.{◌≡◌, ◌⊎◌, ℕ, ◌<◌, ◌==◌, max, Bool, true, false, ◌&&◌, ◌||◌, List, [], ◌∷◌, ◌++◌, length, flat_map, Option, None, Some, Result, Ok, Err}
 use Rattle.std.specs.Str.{bytes_eq}
-use Rattle.sccs_base.specs.Name.{sibling}
+use Rattle.sccs_base.specs.Name.{z_file}
 use Rattle.sccs_base.specs.Stream.{GivesOk, GivesSome}
 use Rattle.sccs_disk.specs.Files.{Folder, View, view_in}
 use Rattle.sccs_files.specs.StepFiles.{is_working, moved_in, Shows}
@@ -83,7 +83,7 @@ pub record Stopped (w : List ℕ → Bool) (m : Folder) (ts : List NamedStep) (a
 -- working files, and the z-file of the next step
 abbrev pub left_by : (List ℕ → Bool) → List NamedStep → List ℕ → Bool
 left_by w [] k = w k
-left_by w (t ∷ ts) k = w k || bytes_eq (sibling 122 t.name) k
+left_by w (t ∷ ts) k = w k || bytes_eq (z_file t.name) k
 
 -- what is told is a view, or that after some first files of the next step, but for its z-file
 abbrev pub ShowsNext : (List ℕ → Bool) → List NamedStep → Option View → View → Type 0

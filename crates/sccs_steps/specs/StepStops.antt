@@ -1,7 +1,7 @@
 -- Where the call of a step ends that began on a calm disk, and what a stop leaves of it.
 use Rattle.std.specs.Prelude.{◌≡◌, ◌⊎◌, ℕ, false, List, drop, map, Option, None, Result, Ok, Err}
 use Rattle.std.proofs.Common.{inl, inr}
-use Rattle.sccs_base.specs.Name.{sibling}
+use Rattle.sccs_base.specs.Name.{p_file, z_file}
 use Rattle.sccs_sid.specs.declared.refusals.StepFault.{StepFault}
 use Rattle.sccs_sid.specs.declared.refusals.StepFault.TheVariants.{Refused, Memory, ReadFault, WriteFault, DiskFault}
 use Rattle.sccs_disk.specs.Files.{Content, Model, View, view_of}
@@ -21,13 +21,13 @@ abbrev pub ArePaired : Option Content → Option Content → Type 0
 ArePaired s p = s ≡ None → p ≡ None
 
 abbrev pub IsPaired : List ℕ → View → Type 0
-IsPaired n v = ArePaired (v n) (v (sibling 112 n))
+IsPaired n v = ArePaired (v n) (v (p_file n))
 
 -- What the theorem on stops asks of a name: its g-file's name is that of no s-file, p-file or z-file; unless a step was stopped
 -- on it, no entry of its p-file has its delta in the s-file; and there is no p-file without an s-file.
 pub record IsSafe (n : List ℕ) (v : View) : Type 0 where
   pub plain : is_kept (drop 2 n) ≡ false
-  pub sound : v (sibling 122 n) ≡ None → IsSound n v
+  pub sound : v (z_file n) ≡ None → IsSound n v
   pub paired : IsPaired n v
 
 -- nothing is asked where a step only reads

@@ -1,7 +1,7 @@
 -- A commit puts the chosen files in their places, and leaves all others.
 use Rattle.std.proofs.Common.{◌≡◌, ◌⊎◌, ℕ, zero, suc, Bool, true, false, cond, List, drop, Option, None, inl, inr, refl, sym, ap, subst, ◌∙◌}
 use Rattle.std.specs.Str.{bytes_eq}
-use Rattle.sccs_base.specs.Name.{IsSfile, sibling}
+use Rattle.sccs_base.specs.Name.{IsSfile, p_file, q_file, x_file, y_file, z_file}
 use Rattle.sccs_disk.specs.Files.{Content, View}
 use Rattle.sccs_disk.proofs.Puts.{put_back, put_other, same_name}
 use Rattle.sccs_files.specs.StepFiles.{is_working, placed}
@@ -19,38 +19,38 @@ swapped_at Remove from to v k h = refl
 
 -- after the first, the first two and the first three of a commit's changes
 abbrev first_at : List ℕ → Plan → View → List ℕ → Option Content
-first_at n c v k = cond (bytes_eq n k) (chosen c.s (v (sibling 120 n)) (v n)) (v k)
+first_at n c v k = cond (bytes_eq n k) (chosen c.s (v (x_file n)) (v n)) (v k)
 
 abbrev second_at : List ℕ → Plan → View → List ℕ → Option Content
-second_at n c v k = cond (bytes_eq (sibling 112 n) k) (chosen c.p (v (sibling 113 n)) (v (sibling 112 n))) (first_at n c v k)
+second_at n c v k = cond (bytes_eq (p_file n) k) (chosen c.p (v (q_file n)) (v (p_file n))) (first_at n c v k)
 
 abbrev third_at : List ℕ → Plan → View → List ℕ → Option Content
-third_at n c v k = cond (bytes_eq (drop 2 n) k) (chosen c.g (v (sibling 121 n)) (v (drop 2 n))) (second_at n c v k)
+third_at n c v k = cond (bytes_eq (drop 2 n) k) (chosen c.g (v (y_file n)) (v (drop 2 n))) (second_at n c v k)
 
 pub first_is : (n : List ℕ) (c : Plan) (v : View) (k : List ℕ) → is_working n k ≡ false → s_swapped n c v k ≡ first_at n c v k
-first_is n c v k h = swapped_at c.s (sibling 120 n) n v k (no_x n k h)
+first_is n c v k h = swapped_at c.s (x_file n) n v k (no_x n k h)
 
 pub second_is : (n : List ℕ) (c : Plan) (v : View) (k : List ℕ) → IsSfile n → is_working n k ≡ false → p_swapped n c (s_swapped n c v) k ≡ second_at n c v k
 second_is n c v k sfile h =
-    let q : s_swapped n c v (sibling 113 n) ≡ v (sibling 113 n) = swapped_other c.s (sibling 120 n) n v (sibling 113 n) refl (to_s 113 n sfile refl) in
-    let p : s_swapped n c v (sibling 112 n) ≡ v (sibling 112 n) = swapped_other c.s (sibling 120 n) n v (sibling 112 n) refl (to_s 112 n sfile refl) in
-    swapped_at c.p (sibling 113 n) (sibling 112 n) (s_swapped n c v) k (no_q n k h)
-    ∙ (ap (λ (o : Option Content). cond (bytes_eq (sibling 112 n) k) (chosen c.p o (s_swapped n c v (sibling 112 n))) (s_swapped n c v k)) q
-    ∙ (ap (λ (o : Option Content). cond (bytes_eq (sibling 112 n) k) (chosen c.p (v (sibling 113 n)) o) (s_swapped n c v k)) p
-    ∙ ap (λ (o : Option Content). cond (bytes_eq (sibling 112 n) k) (chosen c.p (v (sibling 113 n)) (v (sibling 112 n))) o) (first_is n c v k h)))
+    let q : s_swapped n c v (q_file n) ≡ v (q_file n) = swapped_other c.s (x_file n) n v (q_file n) refl (to_s 113 n sfile refl) in
+    let p : s_swapped n c v (p_file n) ≡ v (p_file n) = swapped_other c.s (x_file n) n v (p_file n) refl (to_s 112 n sfile refl) in
+    swapped_at c.p (q_file n) (p_file n) (s_swapped n c v) k (no_q n k h)
+    ∙ (ap (λ (o : Option Content). cond (bytes_eq (p_file n) k) (chosen c.p o (s_swapped n c v (p_file n))) (s_swapped n c v k)) q
+    ∙ (ap (λ (o : Option Content). cond (bytes_eq (p_file n) k) (chosen c.p (v (q_file n)) o) (s_swapped n c v k)) p
+    ∙ ap (λ (o : Option Content). cond (bytes_eq (p_file n) k) (chosen c.p (v (q_file n)) (v (p_file n))) o) (first_is n c v k h)))
 
-two_other : (n : List ℕ) (c : Plan) (v : View) (k : List ℕ) → bytes_eq (sibling 120 n) k ≡ false → bytes_eq n k ≡ false → bytes_eq (sibling 113 n) k ≡ false → bytes_eq (sibling 112 n) k ≡ false → p_swapped n c (s_swapped n c v) k ≡ v k
-two_other n c v k x s q p = swapped_other c.p (sibling 113 n) (sibling 112 n) (s_swapped n c v) k q p ∙ swapped_other c.s (sibling 120 n) n v k x s
+two_other : (n : List ℕ) (c : Plan) (v : View) (k : List ℕ) → bytes_eq (x_file n) k ≡ false → bytes_eq n k ≡ false → bytes_eq (q_file n) k ≡ false → bytes_eq (p_file n) k ≡ false → p_swapped n c (s_swapped n c v) k ≡ v k
+two_other n c v k x s q p = swapped_other c.p (q_file n) (p_file n) (s_swapped n c v) k q p ∙ swapped_other c.s (x_file n) n v k x s
 
 third_is : (n : List ℕ) (c : Plan) (v : View) (k : List ℕ) → IsSfile n → is_working n k ≡ false → g_swapped n c (p_swapped n c (s_swapped n c v)) k ≡ third_at n c v k
 third_is n c v k sfile h =
     let u : View = p_swapped n c (s_swapped n c v) in
-    let y : u (sibling 121 n) ≡ v (sibling 121 n) = two_other n c v (sibling 121 n) refl (to_s 121 n sfile refl) refl refl in
+    let y : u (y_file n) ≡ v (y_file n) = two_other n c v (y_file n) refl (to_s 121 n sfile refl) refl refl in
     let g : u (drop 2 n) ≡ v (drop 2 n) = two_other n c v (drop 2 n) (from_g 120 n sfile) (s_and_g n sfile) (from_g 113 n sfile) (from_g 112 n sfile) in
-    swapped_at c.g (sibling 121 n) (drop 2 n) u k (no_y n k h)
+    swapped_at c.g (y_file n) (drop 2 n) u k (no_y n k h)
     ∙ (ap (λ (o : Option Content). cond (bytes_eq (drop 2 n) k) (chosen c.g o (u (drop 2 n))) (u k)) y
-    ∙ (ap (λ (o : Option Content). cond (bytes_eq (drop 2 n) k) (chosen c.g (v (sibling 121 n)) o) (u k)) g
-    ∙ ap (λ (o : Option Content). cond (bytes_eq (drop 2 n) k) (chosen c.g (v (sibling 121 n)) (v (drop 2 n))) o) (second_is n c v k sfile h)))
+    ∙ (ap (λ (o : Option Content). cond (bytes_eq (drop 2 n) k) (chosen c.g (v (y_file n)) o) (u k)) g
+    ∙ ap (λ (o : Option Content). cond (bytes_eq (drop 2 n) k) (chosen c.g (v (y_file n)) (v (drop 2 n))) o) (second_is n c v k sfile h)))
 
 -- ---- at most one of these names is a name
 
@@ -66,14 +66,14 @@ record AtMostOne (s p g z : Bool) : Type 0 where
   gs : g ≡ true → s ≡ false
   ps : p ≡ true → s ≡ false
 
-at_most_one : (n k : List ℕ) → IsSfile n → AtMostOne (bytes_eq n k) (bytes_eq (sibling 112 n) k) (bytes_eq (drop 2 n) k) (bytes_eq (sibling 122 n) k)
+at_most_one : (n k : List ℕ) → IsSfile n → AtMostOne (bytes_eq n k) (bytes_eq (p_file n) k) (bytes_eq (drop 2 n) k) (bytes_eq (z_file n) k)
 at_most_one n k sfile = record {
-  zg = only_one (sibling 122 n) (drop 2 n) k (to_g 122 n sfile);
-  zp = only_one (sibling 122 n) (sibling 112 n) k refl;
-  zs = only_one (sibling 122 n) n k (to_s 122 n sfile refl);
-  gp = only_one (drop 2 n) (sibling 112 n) k (from_g 112 n sfile);
+  zg = only_one (z_file n) (drop 2 n) k (to_g 122 n sfile);
+  zp = only_one (z_file n) (p_file n) k refl;
+  zs = only_one (z_file n) n k (to_s 122 n sfile refl);
+  gp = only_one (drop 2 n) (p_file n) k (from_g 112 n sfile);
   gs = only_one (drop 2 n) n k (s_and_g n sfile);
-  ps = only_one (sibling 112 n) n k (to_s 112 n sfile refl);
+  ps = only_one (p_file n) n k (to_s 112 n sfile refl);
 }
 
 -- the order of the tests doesn't matter
@@ -91,11 +91,11 @@ reordered false false false true S P G o o2 one same = refl
 reordered false false false false S P G o o2 one same = same refl
 
 -- what the files of the name are after a commit on u, where v is the view before all
-pub committed_at : (n : List ℕ) (c : Plan) (u v : View) (k : List ℕ) → IsSfile n → is_working n k ≡ false → (bytes_eq (sibling 122 n) k ≡ false → u k ≡ v k) → committed n c u k ≡ placed v n (files_after n c u) k
+pub committed_at : (n : List ℕ) (c : Plan) (u v : View) (k : List ℕ) → IsSfile n → is_working n k ≡ false → (bytes_eq (z_file n) k ≡ false → u k ≡ v k) → committed n c u k ≡ placed v n (files_after n c u) k
 committed_at n c u v k sfile h same =
-    ap (λ (o : Option Content). cond (bytes_eq (sibling 122 n) k) None o) (third_is n c u k sfile h)
-    ∙ reordered (bytes_eq n k) (bytes_eq (sibling 112 n) k) (bytes_eq (drop 2 n) k) (bytes_eq (sibling 122 n) k) (chosen c.s (u (sibling 120 n)) (u n)) (chosen c.p (u (sibling 113 n)) (u (sibling 112 n)))
-    (chosen c.g (u (sibling 121 n)) (u (drop 2 n))) (u k) (v k) (at_most_one n k sfile) same
+    ap (λ (o : Option Content). cond (bytes_eq (z_file n) k) None o) (third_is n c u k sfile h)
+    ∙ reordered (bytes_eq n k) (bytes_eq (p_file n) k) (bytes_eq (drop 2 n) k) (bytes_eq (z_file n) k) (chosen c.s (u (x_file n)) (u n)) (chosen c.p (u (q_file n)) (u (p_file n)))
+    (chosen c.g (u (y_file n)) (u (drop 2 n))) (u k) (v k) (at_most_one n k sfile) same
 
 -- ---- after some of its changes
 
@@ -123,46 +123,46 @@ as_it_is x y a b is (inr e) = inr (is ∙ e)
 
 -- the new files of a commit on u
 abbrev s_of : List ℕ → Plan → View → Option Content
-s_of n c u = chosen c.s (u (sibling 120 n)) (u n)
+s_of n c u = chosen c.s (u (x_file n)) (u n)
 
 abbrev p_of : List ℕ → Plan → View → Option Content
-p_of n c u = chosen c.p (u (sibling 113 n)) (u (sibling 112 n))
+p_of n c u = chosen c.p (u (q_file n)) (u (p_file n))
 
 abbrev g_of : List ℕ → Plan → View → Option Content
-g_of n c u = chosen c.g (u (sibling 121 n)) (u (drop 2 n))
+g_of n c u = chosen c.g (u (y_file n)) (u (drop 2 n))
 
 -- what a commit makes of a file that isn't the z-file
 abbrev placed_of : List ℕ → Plan → View → View → List ℕ → Option Content
-placed_of n c u v k = cond (bytes_eq n k) (s_of n c u) (cond (bytes_eq (sibling 112 n) k) (p_of n c u) (cond (bytes_eq (drop 2 n) k) (g_of n c u) (v k)))
+placed_of n c u v k = cond (bytes_eq n k) (s_of n c u) (cond (bytes_eq (p_file n) k) (p_of n c u) (cond (bytes_eq (drop 2 n) k) (g_of n c u) (v k)))
 
-no_z_file : (n : List ℕ) (k : List ℕ) → IsSfile n → bytes_eq (sibling 122 n) k ≡ false → AtMostOne (bytes_eq n k) (bytes_eq (sibling 112 n) k) (bytes_eq (drop 2 n) k) false
-no_z_file n k sfile other = subst (λ z. AtMostOne (bytes_eq n k) (bytes_eq (sibling 112 n) k) (bytes_eq (drop 2 n) k) z) other (at_most_one n k sfile)
+no_z_file : (n : List ℕ) (k : List ℕ) → IsSfile n → bytes_eq (z_file n) k ≡ false → AtMostOne (bytes_eq n k) (bytes_eq (p_file n) k) (bytes_eq (drop 2 n) k) false
+no_z_file n k sfile other = subst (λ z. AtMostOne (bytes_eq n k) (bytes_eq (p_file n) k) (bytes_eq (drop 2 n) k) z) other (at_most_one n k sfile)
 
-three_made : (n : List ℕ) (c : Plan) (u v : View) (k : List ℕ) → IsSfile n → is_working n k ≡ false → bytes_eq (sibling 122 n) k ≡ false → u k ≡ v k
+three_made : (n : List ℕ) (c : Plan) (u v : View) (k : List ℕ) → IsSfile n → is_working n k ≡ false → bytes_eq (z_file n) k ≡ false → u k ≡ v k
     → Either (g_swapped n c (p_swapped n c (s_swapped n c u)) k) (v k) (placed_of n c u v k)
 three_made n c u v k sfile h other same =
-    as_it_is _ _ _ _ (third_is n c u k sfile h) (third_part (bytes_eq n k) (bytes_eq (sibling 112 n) k) (bytes_eq (drop 2 n) k) (s_of n c u) (p_of n c u) (g_of n c u) (u k) (v k) (no_z_file n k sfile other) same)
+    as_it_is _ _ _ _ (third_is n c u k sfile h) (third_part (bytes_eq n k) (bytes_eq (p_file n) k) (bytes_eq (drop 2 n) k) (s_of n c u) (p_of n c u) (g_of n c u) (u k) (v k) (no_z_file n k sfile other) same)
 
-parts : (n : List ℕ) (c : Plan) (u v : View) (k : List ℕ) (i : ℕ) → IsSfile n → is_working n k ≡ false → bytes_eq (sibling 122 n) k ≡ false → u k ≡ v k
+parts : (n : List ℕ) (c : Plan) (u v : View) (k : List ℕ) (i : ℕ) → IsSfile n → is_working n k ≡ false → bytes_eq (z_file n) k ≡ false → u k ≡ v k
     → Either (part_of n c i u k) (v k) (placed_of n c u v k)
 parts n c u v k zero sfile h other same = inl same
 parts n c u v k (suc zero) sfile h other same =
-    as_it_is _ _ _ _ (first_is n c u k h) (first_part (bytes_eq n k) (bytes_eq (sibling 112 n) k) (bytes_eq (drop 2 n) k) (s_of n c u) (p_of n c u) (g_of n c u) (u k) (v k) (no_z_file n k sfile other) same)
+    as_it_is _ _ _ _ (first_is n c u k h) (first_part (bytes_eq n k) (bytes_eq (p_file n) k) (bytes_eq (drop 2 n) k) (s_of n c u) (p_of n c u) (g_of n c u) (u k) (v k) (no_z_file n k sfile other) same)
 parts n c u v k (suc (suc zero)) sfile h other same =
-    as_it_is _ _ _ _ (second_is n c u k sfile h) (second_part (bytes_eq n k) (bytes_eq (sibling 112 n) k) (bytes_eq (drop 2 n) k) (s_of n c u) (p_of n c u) (g_of n c u) (u k) (v k) (no_z_file n k sfile other) same)
+    as_it_is _ _ _ _ (second_is n c u k sfile h) (second_part (bytes_eq n k) (bytes_eq (p_file n) k) (bytes_eq (drop 2 n) k) (s_of n c u) (p_of n c u) (g_of n c u) (u k) (v k) (no_z_file n k sfile other) same)
 parts n c u v k (suc (suc (suc zero))) sfile h other same = three_made n c u v k sfile h other same
 parts n c u v k (suc (suc (suc (suc i)))) sfile h other same =
-    as_it_is _ _ _ _ (put_other (g_swapped n c (p_swapped n c (s_swapped n c u))) (sibling 122 n) k None other) (three_made n c u v k sfile h other same)
+    as_it_is _ _ _ _ (put_other (g_swapped n c (p_swapped n c (s_swapped n c u))) (z_file n) k None other) (three_made n c u v k sfile h other same)
 
-placed_is : (n : List ℕ) (c : Plan) (u v : View) (k : List ℕ) → bytes_eq (sibling 122 n) k ≡ false → placed_of n c u v k ≡ placed v n (files_after n c u) k
+placed_is : (n : List ℕ) (c : Plan) (u v : View) (k : List ℕ) → bytes_eq (z_file n) k ≡ false → placed_of n c u v k ≡ placed v n (files_after n c u) k
 placed_is n c u v k other =
-    ap (λ z. cond (bytes_eq n k) (s_of n c u) (cond (bytes_eq (sibling 112 n) k) (p_of n c u) (cond (bytes_eq (drop 2 n) k) (g_of n c u) (cond z None (v k))))) (sym other)
+    ap (λ z. cond (bytes_eq n k) (s_of n c u) (cond (bytes_eq (p_file n) k) (p_of n c u) (cond (bytes_eq (drop 2 n) k) (g_of n c u) (cond z None (v k))))) (sym other)
 
 ends_as : (x a b d : Option Content) → b ≡ d → Either x a b → Either x a d
 ends_as x a b d is (inl e) = inl e
 ends_as x a b d is (inr e) = inr (e ∙ is)
 
 -- each file but the z-file is as it was, or as the commit makes it
-pub part_at : (n : List ℕ) (c : Plan) (u v : View) (k : List ℕ) (i : ℕ) → IsSfile n → is_working n k ≡ false → bytes_eq (sibling 122 n) k ≡ false → u k ≡ v k
+pub part_at : (n : List ℕ) (c : Plan) (u v : View) (k : List ℕ) (i : ℕ) → IsSfile n → is_working n k ≡ false → bytes_eq (z_file n) k ≡ false → u k ≡ v k
     → (part_of n c i u k ≡ v k) ⊎ (part_of n c i u k ≡ placed v n (files_after n c u) k)
 part_at n c u v k i sfile h other same = ends_as _ _ _ _ (placed_is n c u v k other) (parts n c u v k i sfile h other same)

@@ -1,7 +1,7 @@
 -- A lock that fails on a name that was locked already loses nothing.
 use Rattle.std.proofs.Common.{◌≡◌, ◌⊎◌, ℕ, true, false, List, [], ◌∷◌, Some, is_some, inl, inr, refl, sym, ap, subst, ◌∙◌, ⊎_elim, arith}
 use Rattle.std.specs.Str.{bytes_eq}
-use Rattle.sccs_base.specs.Name.{IsSfile, sibling}
+use Rattle.sccs_base.specs.Name.{IsSfile, p_file, z_file}
 use Rattle.sccs_disk.specs.Calls.{Half}
 use Rattle.sccs_disk.specs.Effects.{created, creating, empty_file}
 use Rattle.sccs_disk.specs.Files.{Model, View, IsSane, view_of}
@@ -21,31 +21,31 @@ use Rattle.sccs_moments.proofs.Untouched.{same_before}
 use Rattle.sccs_store.specs.Stops.{KeepsHeld}
 
 -- a view that differs from another in the z-file of a name alone, where that is there as before
-held_keeps : (n : List ℕ) (v u w : View) → IsSfile n → is_some (v (sibling 122 n)) ≡ true → is_some (w (sibling 122 n)) ≡ true → KeepsPairs v u → ((k : List ℕ) → bytes_eq (sibling 122 n) k ≡ false → u k ≡ w k) → KeepsPairs v w
+held_keeps : (n : List ℕ) (v u w : View) → IsSfile n → is_some (v (z_file n)) ≡ true → is_some (w (z_file n)) ≡ true → KeepsPairs v u → ((k : List ℕ) → bytes_eq (z_file n) k ≡ false → u k ≡ w k) → KeepsPairs v w
 held_keeps n v u w sfile there still keeps same = record {
   pairs = pairs;
   recovers = recovers_from v w (λ k other. ⊎_elim (λ e. subst (λ l. recovered_at w l ≡ recovered_at v l) e own) (λ apart. elsewhere k other apart) (name_cases n k));
 }
   where
     pairs : (k : List ℕ) → IsSfile k → pair_of w k ≡ pair_of v k
-    pairs k other = pair_same _ _ _ _ (sym (same k (from_sfile 122 n k other refl)) ∙ ap s_of (keeps.pairs k other)) (sym (same (sibling 112 k) refl) ∙ ap p_of (keeps.pairs k other))
+    pairs k other = pair_same _ _ _ _ (sym (same k (from_sfile 122 n k other refl)) ∙ ap s_of (keeps.pairs k other)) (sym (same (p_file k) refl) ∙ ap p_of (keeps.pairs k other))
 
     own : recovered_at w n ≡ recovered_at v n
-    own = recovered_same (w n) (v n) (w (sibling 112 n)) (v (sibling 112 n)) (is_some (w (sibling 122 n))) (is_some (v (sibling 122 n))) (ap s_of (pairs n sfile)) (ap p_of (pairs n sfile)) (still ∙ sym there)
+    own = recovered_same (w n) (v n) (w (p_file n)) (v (p_file n)) (is_some (w (z_file n))) (is_some (v (z_file n))) (ap s_of (pairs n sfile)) (ap p_of (pairs n sfile)) (still ∙ sym there)
 
     elsewhere : (k : List ℕ) → IsSfile k → bytes_eq n k ≡ false → recovered_at w k ≡ recovered_at v k
     elsewhere k other apart =
-        recovered_same (w k) (u k) (w (sibling 112 k)) (u (sibling 112 k)) (is_some (w (sibling 122 k))) (is_some (u (sibling 122 k)))
-        (sym (same k (from_sfile 122 n k other refl))) (sym (same (sibling 112 k) refl)) (ap is_some (sym (same (sibling 122 k) (siblings_differ 122 n k sfile other apart))))
+        recovered_same (w k) (u k) (w (p_file k)) (u (p_file k)) (is_some (w (z_file k))) (is_some (u (z_file k)))
+        (sym (same k (from_sfile 122 n k other refl))) (sym (same (p_file k) refl)) (ap is_some (sym (same (z_file k) (siblings_differ 122 n k sfile other apart))))
         ∙ recovers_to v u keeps.recovers k other
 
-created_keeps : (n : List ℕ) (m : Model) → IsSfile n → IsSane m → IsCalm m → is_some (view_of m (sibling 122 n)) ≡ true → is_some (view_of (created (sibling 122 n) m) (sibling 122 n)) ≡ true → Allows (KeepsPairs (view_of m)) (created (sibling 122 n) m)
-created_keeps n m sfile sane calm there still = λ w image. ⊎_elim (λ old. calm w old) (λ full. whole w image full) (image_created (sibling 122 n) m w sane image)
+created_keeps : (n : List ℕ) (m : Model) → IsSfile n → IsSane m → IsCalm m → is_some (view_of m (z_file n)) ≡ true → is_some (view_of (created (z_file n) m) (z_file n)) ≡ true → Allows (KeepsPairs (view_of m)) (created (z_file n) m)
+created_keeps n m sfile sane calm there still = λ w image. ⊎_elim (λ old. calm w old) (λ full. whole w image full) (image_created (z_file n) m w sane image)
   where
-    whole : (w : View) → Image (created (sibling 122 n) m) w → Full (created (sibling 122 n) m) w → KeepsPairs (view_of m) w
+    whole : (w : View) → Image (created (z_file n) m) w → Full (created (z_file n) m) w → KeepsPairs (view_of m) w
     whole w image full =
-        let before : (u : View) × Image m u × ((k : List ℕ) → bytes_eq (sibling 122 n) k ≡ false → u k ≡ w k) = (touches_created (sibling 122 n) m sane).images w image in
-        held_keeps n (view_of m) before.0 w sfile there (full_there (created (sibling 122 n) m) w full (sibling 122 n) ∙ still) (calm before.0 before.1) before.2
+        let before : (u : View) × Image m u × ((k : List ℕ) → bytes_eq (z_file n) k ≡ false → u k ≡ w k) = (touches_created (z_file n) m sane).images w image in
+        held_keeps n (view_of m) before.0 w sfile there (full_there (created (z_file n) m) w full (z_file n) ∙ still) (calm before.0 before.1) before.2
 
 -- the z-file is there still
 still_there : (z : List ℕ) (m m2 : Model) (old new : Told) (past past2 : List Model) → old ≡ Tells m past → new ≡ Tells m2 past2 → is_some (view_of m z) ≡ true → Half (creating z) old new → is_some (view_of m2 z) ≡ true
@@ -64,7 +64,7 @@ still_there z m m2 old new past past2 is now there half = by half.view
     by (inl same) = ap (λ (v : View). is_some (v z)) (view_is (view_of m2) (view_of m) (sym after ∙ (same ∙ before))) ∙ there
     by (inr (v, w, old_is, new_is, made)) = ap (λ (u : View). is_some (u z)) (view_is (view_of m2) w (sym after ∙ new_is) ∙ made) ∙ ap is_some (put_same v z (Some empty_file))
 
-pub held_ends : (n : List ℕ) (old new : Told) → IsSfile n → TellsSane old → Half (creating (sibling 122 n)) old new → KeepsHeld n old new
+pub held_ends : (n : List ℕ) (old new : Told) → IsSfile n → TellsSane old → Half (creating (z_file n)) old new → KeepsHeld n old new
 held_ends n old new sfile sane half = λ m past is calm there. by m past is calm there (half.model m past is)
   where
     made : (m m2 : Model) (past : List Model) → IsCalm m → new ≡ Tells m2 (m ∷ past) → Allows (KeepsPairs (view_of m)) m2 → EndsBefore (view_of m) m past new
@@ -78,8 +78,8 @@ held_ends n old new sfile sane half = λ m past is calm there. by m past is calm
       calm_kept (view_of m) m2 keeps,
     )
 
-    by : (m : Model) (past : List Model) → old ≡ Tells m past → IsCalm m → is_some (view_of m (sibling 122 n)) ≡ true → (new ≡ old) ⊎ ((m2 : Model) × (new ≡ Tells m2 (m ∷ past)) × (creating (sibling 122 n)).half m m2) → EndsBefore (view_of m) m past new
+    by : (m : Model) (past : List Model) → old ≡ Tells m past → IsCalm m → is_some (view_of m (z_file n)) ≡ true → (new ≡ old) ⊎ ((m2 : Model) × (new ≡ Tells m2 (m ∷ past)) × (creating (z_file n)).half m m2) → EndsBefore (view_of m) m past new
     by m past is calm there (inl same) = same_before m past new calm (same ∙ is)
     by m past is calm there (inr (m2, now, is_made)) =
-        let still : is_some (view_of (created (sibling 122 n) m) (sibling 122 n)) ≡ true = subst (λ (x : Model). is_some (view_of x (sibling 122 n)) ≡ true) is_made (still_there (sibling 122 n) m m2 old new past (m ∷ past) is now there half) in
+        let still : is_some (view_of (created (z_file n) m) (z_file n)) ≡ true = subst (λ (x : Model). is_some (view_of x (z_file n)) ≡ true) is_made (still_there (z_file n) m m2 old new past (m ∷ past) is now there half) in
         made m m2 past calm now (subst (λ (x : Model). Allows (KeepsPairs (view_of m)) x) (sym is_made) (created_keeps n m sfile (sane m past is) calm there still))

@@ -2,7 +2,7 @@
 use Rattle.std.proofs.Common.{◌≡◌, ◌⊎◌, ◌||◌, ℕ, Bool, true, false, List, drop, inl, inr, refl}
 use Rattle.std.specs.Prelude.{None, OnErr, OnOk, Result, Ok, Err}
 use Rattle.std.specs.Str.{bytes_eq}
-use Rattle.sccs_base.specs.Name.{sibling}
+use Rattle.sccs_base.specs.Name.{p_file, q_file, x_file, y_file, z_file}
 use Rattle.sccs_disk.specs.Effects.{pended, renamed, settled}
 use Rattle.sccs_disk.specs.Files.{Rename, put}
 use Rattle.sccs_disk.specs.Files as op
@@ -37,53 +37,53 @@ others_half_swapped n Remove from to a b misses half =
 -- ---- the files of the name
 
 no_s : (n k : List ℕ) → is_own n k ≡ false → bytes_eq n k ≡ false
-no_s n k h = left_false (bytes_eq n k) (bytes_eq (sibling 112 n) k || (bytes_eq (drop 2 n) k || is_left n k)) h
+no_s n k h = left_false (bytes_eq n k) (bytes_eq (p_file n) k || (bytes_eq (drop 2 n) k || is_left n k)) h
 
-no_p : (n k : List ℕ) → is_own n k ≡ false → bytes_eq (sibling 112 n) k ≡ false
-no_p n k h = left_false (bytes_eq (sibling 112 n) k) (bytes_eq (drop 2 n) k || is_left n k) (right_false (bytes_eq n k) (bytes_eq (sibling 112 n) k || (bytes_eq (drop 2 n) k || is_left n k)) h)
+no_p : (n k : List ℕ) → is_own n k ≡ false → bytes_eq (p_file n) k ≡ false
+no_p n k h = left_false (bytes_eq (p_file n) k) (bytes_eq (drop 2 n) k || is_left n k) (right_false (bytes_eq n k) (bytes_eq (p_file n) k || (bytes_eq (drop 2 n) k || is_left n k)) h)
 
 no_g : (n k : List ℕ) → is_own n k ≡ false → bytes_eq (drop 2 n) k ≡ false
-no_g n k h = left_false (bytes_eq (drop 2 n) k) (is_left n k) (right_false (bytes_eq (sibling 112 n) k) (bytes_eq (drop 2 n) k || is_left n k) (right_false (bytes_eq n k) (bytes_eq (sibling 112 n) k || (bytes_eq (drop 2 n) k || is_left n k)) h))
+no_g n k h = left_false (bytes_eq (drop 2 n) k) (is_left n k) (right_false (bytes_eq (p_file n) k) (bytes_eq (drop 2 n) k || is_left n k) (right_false (bytes_eq n k) (bytes_eq (p_file n) k || (bytes_eq (drop 2 n) k || is_left n k)) h))
 
-misses_s : (n : List ℕ) → Misses n (sibling 120 n) n
-misses_s n k h = both_false (bytes_eq (sibling 120 n) k) (bytes_eq n k) (no_x n k (no_working n k (own_left n k h))) (no_s n k h)
+misses_s : (n : List ℕ) → Misses n (x_file n) n
+misses_s n k h = both_false (bytes_eq (x_file n) k) (bytes_eq n k) (no_x n k (no_working n k (own_left n k h))) (no_s n k h)
 
-misses_p : (n : List ℕ) → Misses n (sibling 113 n) (sibling 112 n)
-misses_p n k h = both_false (bytes_eq (sibling 113 n) k) (bytes_eq (sibling 112 n) k) (no_q n k (no_working n k (own_left n k h))) (no_p n k h)
+misses_p : (n : List ℕ) → Misses n (q_file n) (p_file n)
+misses_p n k h = both_false (bytes_eq (q_file n) k) (bytes_eq (p_file n) k) (no_q n k (no_working n k (own_left n k h))) (no_p n k h)
 
-misses_g : (n : List ℕ) → Misses n (sibling 121 n) (drop 2 n)
-misses_g n k h = both_false (bytes_eq (sibling 121 n) k) (bytes_eq (drop 2 n) k) (no_y n k (no_working n k (own_left n k h))) (no_g n k h)
+misses_g : (n : List ℕ) → Misses n (y_file n) (drop 2 n)
+misses_g n k h = both_false (bytes_eq (y_file n) k) (bytes_eq (drop 2 n) k) (no_y n k (no_working n k (own_left n k h))) (no_g n k h)
 
-misses_z : (n : List ℕ) → Misses n (sibling 122 n) (sibling 122 n)
-misses_z n k h = both_false (bytes_eq (sibling 122 n) k) (bytes_eq (sibling 122 n) k) (no_z n k (own_left n k h)) (no_z n k (own_left n k h))
+misses_z : (n : List ℕ) → Misses n (z_file n) (z_file n)
+misses_z n k h = both_false (bytes_eq (z_file n) k) (bytes_eq (z_file n) k) (no_z n k (own_left n k h)) (no_z n k (own_left n k h))
 
 -- ---- the exits of a commit
 
-pub first_others : (n : List ℕ) (c : Plan) (t0 t1 : Told) → HalfSwaps c.s (sibling 120 n) n t0 t1 → KeepsOthers (is_own n) t0 t1
-first_others n c t0 t1 s = others_half_swapped n c.s (sibling 120 n) n t0 t1 (misses_s n) s
+pub first_others : (n : List ℕ) (c : Plan) (t0 t1 : Told) → HalfSwaps c.s (x_file n) n t0 t1 → KeepsOthers (is_own n) t0 t1
+first_others n c t0 t1 s = others_half_swapped n c.s (x_file n) n t0 t1 (misses_s n) s
 
-pub second_others : (n : List ℕ) (c : Plan) (t0 t1 t2 : Told) → Swaps c.s (sibling 120 n) n t0 t1 → HalfSwaps c.p (sibling 113 n) (sibling 112 n) t1 t2 → KeepsOthers (is_own n) t0 t2
-second_others n c t0 t1 t2 s p = others_then (is_own n) t0 t1 t2 (others_swapped n c.s (sibling 120 n) n t0 t1 (misses_s n) s) (others_half_swapped n c.p (sibling 113 n) (sibling 112 n) t1 t2 (misses_p n) p)
+pub second_others : (n : List ℕ) (c : Plan) (t0 t1 t2 : Told) → Swaps c.s (x_file n) n t0 t1 → HalfSwaps c.p (q_file n) (p_file n) t1 t2 → KeepsOthers (is_own n) t0 t2
+second_others n c t0 t1 t2 s p = others_then (is_own n) t0 t1 t2 (others_swapped n c.s (x_file n) n t0 t1 (misses_s n) s) (others_half_swapped n c.p (q_file n) (p_file n) t1 t2 (misses_p n) p)
 
-two_others : (n : List ℕ) (c : Plan) (t0 t1 t2 : Told) → Swaps c.s (sibling 120 n) n t0 t1 → Swaps c.p (sibling 113 n) (sibling 112 n) t1 t2 → KeepsOthers (is_own n) t0 t2
-two_others n c t0 t1 t2 s p = others_then (is_own n) t0 t1 t2 (others_swapped n c.s (sibling 120 n) n t0 t1 (misses_s n) s) (others_swapped n c.p (sibling 113 n) (sibling 112 n) t1 t2 (misses_p n) p)
+two_others : (n : List ℕ) (c : Plan) (t0 t1 t2 : Told) → Swaps c.s (x_file n) n t0 t1 → Swaps c.p (q_file n) (p_file n) t1 t2 → KeepsOthers (is_own n) t0 t2
+two_others n c t0 t1 t2 s p = others_then (is_own n) t0 t1 t2 (others_swapped n c.s (x_file n) n t0 t1 (misses_s n) s) (others_swapped n c.p (q_file n) (p_file n) t1 t2 (misses_p n) p)
 
-pub third_others : (n : List ℕ) (c : Plan) (t0 t1 t2 t3 : Told) → Swaps c.s (sibling 120 n) n t0 t1 → Swaps c.p (sibling 113 n) (sibling 112 n) t1 t2 → HalfSwaps c.g (sibling 121 n) (drop 2 n) t2 t3 → KeepsOthers (is_own n) t0 t3
-third_others n c t0 t1 t2 t3 s p g = others_then (is_own n) t0 t2 t3 (two_others n c t0 t1 t2 s p) (others_half_swapped n c.g (sibling 121 n) (drop 2 n) t2 t3 (misses_g n) g)
+pub third_others : (n : List ℕ) (c : Plan) (t0 t1 t2 t3 : Told) → Swaps c.s (x_file n) n t0 t1 → Swaps c.p (q_file n) (p_file n) t1 t2 → HalfSwaps c.g (y_file n) (drop 2 n) t2 t3 → KeepsOthers (is_own n) t0 t3
+third_others n c t0 t1 t2 t3 s p g = others_then (is_own n) t0 t2 t3 (two_others n c t0 t1 t2 s p) (others_half_swapped n c.g (y_file n) (drop 2 n) t2 t3 (misses_g n) g)
 
-three_others : (n : List ℕ) (c : Plan) (t0 t1 t2 t3 : Told) → Swaps c.s (sibling 120 n) n t0 t1 → Swaps c.p (sibling 113 n) (sibling 112 n) t1 t2 → Swaps c.g (sibling 121 n) (drop 2 n) t2 t3 → KeepsOthers (is_own n) t0 t3
-three_others n c t0 t1 t2 t3 s p g = others_then (is_own n) t0 t2 t3 (two_others n c t0 t1 t2 s p) (others_swapped n c.g (sibling 121 n) (drop 2 n) t2 t3 (misses_g n) g)
+three_others : (n : List ℕ) (c : Plan) (t0 t1 t2 t3 : Told) → Swaps c.s (x_file n) n t0 t1 → Swaps c.p (q_file n) (p_file n) t1 t2 → Swaps c.g (y_file n) (drop 2 n) t2 t3 → KeepsOthers (is_own n) t0 t3
+three_others n c t0 t1 t2 t3 s p g = others_then (is_own n) t0 t2 t3 (two_others n c t0 t1 t2 s p) (others_swapped n c.g (y_file n) (drop 2 n) t2 t3 (misses_g n) g)
 
-unlocks_others : (n : List ℕ) (a b : Told) → Unlocks (sibling 122 n) a b → KeepsOthers (is_own n) a b
+unlocks_others : (n : List ℕ) (a b : Told) → Unlocks (z_file n) a b → KeepsOthers (is_own n) a b
 unlocks_others n a b (mid, z, synced) =
-    others_then (is_own n) a mid b (others_swapped n Remove (sibling 122 n) (sibling 122 n) a mid (misses_z n) z) (others_done (λ v. v) settled (is_own n) mid b (others_settled (is_own n)) synced)
+    others_then (is_own n) a mid b (others_swapped n Remove (z_file n) (z_file n) a mid (misses_z n) z) (others_done (λ v. v) settled (is_own n) mid b (others_settled (is_own n)) synced)
 
-half_unlocks_others : (n : List ℕ) (a b : Told) → HalfUnlocks (sibling 122 n) a b → KeepsOthers (is_own n) a b
-half_unlocks_others n a b (inl half) = others_half_swapped n Remove (sibling 122 n) (sibling 122 n) a b (misses_z n) half
+half_unlocks_others : (n : List ℕ) (a b : Told) → HalfUnlocks (z_file n) a b → KeepsOthers (is_own n) a b
+half_unlocks_others n a b (inl half) = others_half_swapped n Remove (z_file n) (z_file n) a b (misses_z n) half
 half_unlocks_others n a b (inr (mid, z, half)) =
-    others_then (is_own n) a mid b (others_swapped n Remove (sibling 122 n) (sibling 122 n) a mid (misses_z n) z) (others_half (λ v. v) settled (is_own n) mid b (others_settled (is_own n)) half)
+    others_then (is_own n) a mid b (others_swapped n Remove (z_file n) (z_file n) a mid (misses_z n) z) (others_half (λ v. v) settled (is_own n) mid b (others_settled (is_own n)) half)
 
-pub commit_others : {E : Type 0} (r : Result (Unit {0}) E) (n : List ℕ) (c : Plan) (t0 t1 t2 t3 t4 : Told) → Swaps c.s (sibling 120 n) n t0 t1 → Swaps c.p (sibling 113 n) (sibling 112 n) t1 t2
-    → Swaps c.g (sibling 121 n) (drop 2 n) t2 t3 → OnOk r (Unlocks (sibling 122 n) t3 t4) → OnErr r (HalfUnlocks (sibling 122 n) t3 t4) → KeepsOthers (is_own n) t0 t4
+pub commit_others : {E : Type 0} (r : Result (Unit {0}) E) (n : List ℕ) (c : Plan) (t0 t1 t2 t3 t4 : Told) → Swaps c.s (x_file n) n t0 t1 → Swaps c.p (q_file n) (p_file n) t1 t2
+    → Swaps c.g (y_file n) (drop 2 n) t2 t3 → OnOk r (Unlocks (z_file n) t3 t4) → OnErr r (HalfUnlocks (z_file n) t3 t4) → KeepsOthers (is_own n) t0 t4
 commit_others (Ok done) n c t0 t1 t2 t3 t4 s p g unlocks half = others_then (is_own n) t0 t3 t4 (three_others n c t0 t1 t2 t3 s p g) (unlocks_others n t3 t4 unlocks)
 commit_others (Err fault) n c t0 t1 t2 t3 t4 s p g unlocks half = others_then (is_own n) t0 t3 t4 (three_others n c t0 t1 t2 t3 s p g) (half_unlocks_others n t3 t4 half)

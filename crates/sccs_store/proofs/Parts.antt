@@ -2,7 +2,7 @@
 use Rattle.std.proofs.Common.{◌≡◌, ◌≤◌, ℕ, zero, suc, Bool, true, false, cond, List, drop, Option, None, is_some, inl, inr, refl, sym, ap, subst, ◌∙◌, ⊎_elim, arith}
 use Rattle.std.specs.Prelude.{IsSome}
 use Rattle.std.specs.Str.{bytes_eq}
-use Rattle.sccs_base.specs.Name.{IsSfile, sibling}
+use Rattle.sccs_base.specs.Name.{IsSfile, sibling, p_file, q_file, x_file, y_file, z_file}
 use Rattle.sccs_base.proofs.SameBytes.{same_bytes}
 use Rattle.sccs_disk.specs.Files.{Content, Model, View, view_of}
 use Rattle.sccs_disk.specs.Images.{Full, Image}
@@ -46,39 +46,39 @@ IsElse n c k = OnChange c.g (bytes_eq (drop 2 n) k ≡ false)
 else_s : (n : List ℕ) (c : Plan) (k : List ℕ) → OnChange c.g (is_kept (drop 2 n) ≡ false) → IsSfile k → IsElse n c k
 else_s n c k plain sfile = on_change c.g (λ h. kept_s (drop 2 n) k h sfile) plain
 
-else_p : (n : List ℕ) (c : Plan) (k : List ℕ) → OnChange c.g (is_kept (drop 2 n) ≡ false) → IsSfile k → IsElse n c (sibling 112 k)
+else_p : (n : List ℕ) (c : Plan) (k : List ℕ) → OnChange c.g (is_kept (drop 2 n) ≡ false) → IsSfile k → IsElse n c (p_file k)
 else_p n c k plain sfile = on_change c.g (λ h. kept_p (drop 2 n) k h sfile) plain
 
-else_z : (n : List ℕ) (c : Plan) (k : List ℕ) → OnChange c.g (is_kept (drop 2 n) ≡ false) → IsSfile k → IsElse n c (sibling 122 k)
+else_z : (n : List ℕ) (c : Plan) (k : List ℕ) → OnChange c.g (is_kept (drop 2 n) ≡ false) → IsSfile k → IsElse n c (z_file k)
 else_z n c k plain sfile = on_change c.g (λ h. kept_z (drop 2 n) k h sfile) plain
 
 -- ---- names that a commit doesn't change
 
 -- none of the names that a commit changes
 record IsApart (n : List ℕ) (c : Plan) (k : List ℕ) : Type 0 where
-  x : bytes_eq (sibling 120 n) k ≡ false
+  x : bytes_eq (x_file n) k ≡ false
   s : bytes_eq n k ≡ false
-  q : bytes_eq (sibling 113 n) k ≡ false
-  p : bytes_eq (sibling 112 n) k ≡ false
-  y : bytes_eq (sibling 121 n) k ≡ false
+  q : bytes_eq (q_file n) k ≡ false
+  p : bytes_eq (p_file n) k ≡ false
+  y : bytes_eq (y_file n) k ≡ false
   g : IsElse n c k
-  z : bytes_eq (sibling 122 n) k ≡ false
+  z : bytes_eq (z_file n) k ≡ false
 
 apart_first : (n : List ℕ) (c : Plan) (u : View) (k : List ℕ) → IsApart n c k → part_of n c 1 u k ≡ u k
-apart_first n c u k apart = swapped_other c.s (sibling 120 n) n u k apart.x apart.s
+apart_first n c u k apart = swapped_other c.s (x_file n) n u k apart.x apart.s
 
 apart_second : (n : List ℕ) (c : Plan) (u : View) (k : List ℕ) → IsApart n c k → part_of n c 2 u k ≡ u k
-apart_second n c u k apart = swapped_other c.p (sibling 113 n) (sibling 112 n) (s_swapped n c u) k apart.q apart.p ∙ apart_first n c u k apart
+apart_second n c u k apart = swapped_other c.p (q_file n) (p_file n) (s_swapped n c u) k apart.q apart.p ∙ apart_first n c u k apart
 
 apart_third : (n : List ℕ) (c : Plan) (u : View) (k : List ℕ) → IsApart n c k → part_of n c 3 u k ≡ u k
-apart_third n c u k apart = unchanged c.g (sibling 121 n) (drop 2 n) (p_swapped n c (s_swapped n c u)) k apart.y apart.g ∙ apart_second n c u k apart
+apart_third n c u k apart = unchanged c.g (y_file n) (drop 2 n) (p_swapped n c (s_swapped n c u)) k apart.y apart.g ∙ apart_second n c u k apart
 
 part_apart : (n : List ℕ) (c : Plan) (u : View) (k : List ℕ) → IsApart n c k → (i : ℕ) → part_of n c i u k ≡ u k
 part_apart n c u k apart zero = refl
 part_apart n c u k apart (suc zero) = apart_first n c u k apart
 part_apart n c u k apart (suc (suc zero)) = apart_second n c u k apart
 part_apart n c u k apart (suc (suc (suc zero))) = apart_third n c u k apart
-part_apart n c u k apart (suc (suc (suc (suc i)))) = put_other (g_swapped n c (p_swapped n c (s_swapped n c u))) (sibling 122 n) k None apart.z ∙ apart_third n c u k apart
+part_apart n c u k apart (suc (suc (suc (suc i)))) = put_other (g_swapped n c (p_swapped n c (s_swapped n c u))) (z_file n) k None apart.z ∙ apart_third n c u k apart
 
 apart_s : (n : List ℕ) (c : Plan) (k : List ℕ) → OnChange c.g (is_kept (drop 2 n) ≡ false) → IsSfile n → IsSfile k → bytes_eq n k ≡ false → IsApart n c k
 apart_s n c k plain sfile other apart = record {
@@ -91,7 +91,7 @@ apart_s n c k plain sfile other apart = record {
   z = from_sfile 122 n k other refl;
 }
 
-apart_p : (n : List ℕ) (c : Plan) (k : List ℕ) → OnChange c.g (is_kept (drop 2 n) ≡ false) → IsSfile n → IsSfile k → bytes_eq n k ≡ false → IsApart n c (sibling 112 k)
+apart_p : (n : List ℕ) (c : Plan) (k : List ℕ) → OnChange c.g (is_kept (drop 2 n) ≡ false) → IsSfile n → IsSfile k → bytes_eq n k ≡ false → IsApart n c (p_file k)
 apart_p n c k plain sfile other apart = record {
   x = refl;
   s = to_sfile 112 n k sfile refl;
@@ -102,7 +102,7 @@ apart_p n c k plain sfile other apart = record {
   z = refl;
 }
 
-apart_z : (n : List ℕ) (c : Plan) (k : List ℕ) → OnChange c.g (is_kept (drop 2 n) ≡ false) → IsSfile n → IsSfile k → bytes_eq n k ≡ false → IsApart n c (sibling 122 k)
+apart_z : (n : List ℕ) (c : Plan) (k : List ℕ) → OnChange c.g (is_kept (drop 2 n) ≡ false) → IsSfile n → IsSfile k → bytes_eq n k ≡ false → IsApart n c (z_file k)
 apart_z n c k plain sfile other apart = record {
   x = refl;
   s = to_sfile 122 n k sfile refl;
@@ -121,39 +121,39 @@ s_after n c u zero = u n
 s_after n c u (suc i) = (files_after n c u).s
 
 abbrev p_after : List ℕ → Plan → View → ℕ → Option Content
-p_after n c u zero = u (sibling 112 n)
-p_after n c u (suc zero) = u (sibling 112 n)
+p_after n c u zero = u (p_file n)
+p_after n c u (suc zero) = u (p_file n)
 p_after n c u (suc (suc i)) = (files_after n c u).p
 
 s_first : (n : List ℕ) (c : Plan) (u : View) → IsSfile n → part_of n c 1 u n ≡ (files_after n c u).s
-s_first n c u sfile = placed_there c.s (sibling 120 n) n u (from_s 120 n sfile refl)
+s_first n c u sfile = placed_there c.s (x_file n) n u (from_s 120 n sfile refl)
 
 s_second : (n : List ℕ) (c : Plan) (u : View) → IsSfile n → part_of n c 2 u n ≡ (files_after n c u).s
-s_second n c u sfile = swapped_other c.p (sibling 113 n) (sibling 112 n) (s_swapped n c u) n (from_s 113 n sfile refl) (from_s 112 n sfile refl) ∙ s_first n c u sfile
+s_second n c u sfile = swapped_other c.p (q_file n) (p_file n) (s_swapped n c u) n (from_s 113 n sfile refl) (from_s 112 n sfile refl) ∙ s_first n c u sfile
 
 s_third : (n : List ℕ) (c : Plan) (u : View) → OnChange c.g (is_kept (drop 2 n) ≡ false) → IsSfile n → part_of n c 3 u n ≡ (files_after n c u).s
-s_third n c u plain sfile = unchanged c.g (sibling 121 n) (drop 2 n) (p_swapped n c (s_swapped n c u)) n (from_s 121 n sfile refl) (else_s n c n plain sfile) ∙ s_second n c u sfile
+s_third n c u plain sfile = unchanged c.g (y_file n) (drop 2 n) (p_swapped n c (s_swapped n c u)) n (from_s 121 n sfile refl) (else_s n c n plain sfile) ∙ s_second n c u sfile
 
 s_part : (n : List ℕ) (c : Plan) (u : View) → OnChange c.g (is_kept (drop 2 n) ≡ false) → IsSfile n → (i : ℕ) → part_of n c i u n ≡ s_after n c u i
 s_part n c u plain sfile zero = refl
 s_part n c u plain sfile (suc zero) = s_first n c u sfile
 s_part n c u plain sfile (suc (suc zero)) = s_second n c u sfile
 s_part n c u plain sfile (suc (suc (suc zero))) = s_third n c u plain sfile
-s_part n c u plain sfile (suc (suc (suc (suc i)))) = put_other (g_swapped n c (p_swapped n c (s_swapped n c u))) (sibling 122 n) n None (from_s 122 n sfile refl) ∙ s_third n c u plain sfile
+s_part n c u plain sfile (suc (suc (suc (suc i)))) = put_other (g_swapped n c (p_swapped n c (s_swapped n c u))) (z_file n) n None (from_s 122 n sfile refl) ∙ s_third n c u plain sfile
 
-after_s : (n : List ℕ) (c : Plan) (u : View) (letter : ℕ) → IsSfile n → bytes_eq (sibling 120 n) (sibling letter n) ≡ false → bytes_eq (sibling 115 n) (sibling letter n) ≡ false → s_swapped n c u (sibling letter n) ≡ u (sibling letter n)
-after_s n c u letter sfile x s = swapped_other c.s (sibling 120 n) n u (sibling letter n) x (to_s letter n sfile s)
+after_s : (n : List ℕ) (c : Plan) (u : View) (letter : ℕ) → IsSfile n → bytes_eq (x_file n) (sibling letter n) ≡ false → bytes_eq (sibling 115 n) (sibling letter n) ≡ false → s_swapped n c u (sibling letter n) ≡ u (sibling letter n)
+after_s n c u letter sfile x s = swapped_other c.s (x_file n) n u (sibling letter n) x (to_s letter n sfile s)
 
-p_second : (n : List ℕ) (c : Plan) (u : View) → IsSfile n → part_of n c 2 u (sibling 112 n) ≡ (files_after n c u).p
+p_second : (n : List ℕ) (c : Plan) (u : View) → IsSfile n → part_of n c 2 u (p_file n) ≡ (files_after n c u).p
 p_second n c u sfile =
-    placed_there c.p (sibling 113 n) (sibling 112 n) (s_swapped n c u) refl
-    ∙ (ap (λ (o : Option Content). chosen c.p o (s_swapped n c u (sibling 112 n))) (after_s n c u 113 sfile refl refl)
-    ∙ ap (λ (o : Option Content). chosen c.p (u (sibling 113 n)) o) (after_s n c u 112 sfile refl refl))
+    placed_there c.p (q_file n) (p_file n) (s_swapped n c u) refl
+    ∙ (ap (λ (o : Option Content). chosen c.p o (s_swapped n c u (p_file n))) (after_s n c u 113 sfile refl refl)
+    ∙ ap (λ (o : Option Content). chosen c.p (u (q_file n)) o) (after_s n c u 112 sfile refl refl))
 
-p_third : (n : List ℕ) (c : Plan) (u : View) → OnChange c.g (is_kept (drop 2 n) ≡ false) → IsSfile n → part_of n c 3 u (sibling 112 n) ≡ (files_after n c u).p
-p_third n c u plain sfile = unchanged c.g (sibling 121 n) (drop 2 n) (p_swapped n c (s_swapped n c u)) (sibling 112 n) refl (else_p n c n plain sfile) ∙ p_second n c u sfile
+p_third : (n : List ℕ) (c : Plan) (u : View) → OnChange c.g (is_kept (drop 2 n) ≡ false) → IsSfile n → part_of n c 3 u (p_file n) ≡ (files_after n c u).p
+p_third n c u plain sfile = unchanged c.g (y_file n) (drop 2 n) (p_swapped n c (s_swapped n c u)) (p_file n) refl (else_p n c n plain sfile) ∙ p_second n c u sfile
 
-p_part : (n : List ℕ) (c : Plan) (u : View) → OnChange c.g (is_kept (drop 2 n) ≡ false) → IsSfile n → (i : ℕ) → part_of n c i u (sibling 112 n) ≡ p_after n c u i
+p_part : (n : List ℕ) (c : Plan) (u : View) → OnChange c.g (is_kept (drop 2 n) ≡ false) → IsSfile n → (i : ℕ) → part_of n c i u (p_file n) ≡ p_after n c u i
 p_part n c u plain sfile zero = refl
 p_part n c u plain sfile (suc zero) = after_s n c u 112 sfile refl refl
 p_part n c u plain sfile (suc (suc zero)) = p_second n c u sfile
@@ -165,16 +165,16 @@ pub committed_pair : (n : List ℕ) (c : Plan) (u : View) → OnChange c.g (is_k
 committed_pair n c u plain sfile = pair_same _ _ _ _ (s_part n c u plain sfile 4) (p_part n c u plain sfile 4)
 
 -- the z-file is as it was before the last change, and gone after it
-z_first : (n : List ℕ) (c : Plan) (u : View) → IsSfile n → part_of n c 1 u (sibling 122 n) ≡ u (sibling 122 n)
+z_first : (n : List ℕ) (c : Plan) (u : View) → IsSfile n → part_of n c 1 u (z_file n) ≡ u (z_file n)
 z_first n c u sfile = after_s n c u 122 sfile refl refl
 
-z_second : (n : List ℕ) (c : Plan) (u : View) → IsSfile n → part_of n c 2 u (sibling 122 n) ≡ u (sibling 122 n)
-z_second n c u sfile = swapped_other c.p (sibling 113 n) (sibling 112 n) (s_swapped n c u) (sibling 122 n) refl refl ∙ z_first n c u sfile
+z_second : (n : List ℕ) (c : Plan) (u : View) → IsSfile n → part_of n c 2 u (z_file n) ≡ u (z_file n)
+z_second n c u sfile = swapped_other c.p (q_file n) (p_file n) (s_swapped n c u) (z_file n) refl refl ∙ z_first n c u sfile
 
-z_third : (n : List ℕ) (c : Plan) (u : View) → OnChange c.g (is_kept (drop 2 n) ≡ false) → IsSfile n → part_of n c 3 u (sibling 122 n) ≡ u (sibling 122 n)
-z_third n c u plain sfile = unchanged c.g (sibling 121 n) (drop 2 n) (p_swapped n c (s_swapped n c u)) (sibling 122 n) refl (else_z n c n plain sfile) ∙ z_second n c u sfile
+z_third : (n : List ℕ) (c : Plan) (u : View) → OnChange c.g (is_kept (drop 2 n) ≡ false) → IsSfile n → part_of n c 3 u (z_file n) ≡ u (z_file n)
+z_third n c u plain sfile = unchanged c.g (y_file n) (drop 2 n) (p_swapped n c (s_swapped n c u)) (z_file n) refl (else_z n c n plain sfile) ∙ z_second n c u sfile
 
-z_part : (n : List ℕ) (c : Plan) (u : View) → OnChange c.g (is_kept (drop 2 n) ≡ false) → IsSfile n → (i : ℕ) → i ≤ 3 → part_of n c i u (sibling 122 n) ≡ u (sibling 122 n)
+z_part : (n : List ℕ) (c : Plan) (u : View) → OnChange c.g (is_kept (drop 2 n) ≡ false) → IsSfile n → (i : ℕ) → i ≤ 3 → part_of n c i u (z_file n) ≡ u (z_file n)
 z_part n c u plain sfile zero low = refl
 z_part n c u plain sfile (suc zero) low = z_first n c u sfile
 z_part n c u plain sfile (suc (suc zero)) low = z_second n c u sfile
@@ -196,13 +196,13 @@ on_replace Remove f p = tt
 s_files : (n : List ℕ) (c : Plan) (m : Model) (u : View) → IsSfile n → CanCommit n c m → Full m u → (i : ℕ) → s_after n c u i ≡ s_after n c (view_of m) i
 s_files n c m u sfile can full zero = ap s_of (firm_pairs m u can.firm full n sfile)
 s_files n c m u sfile can full (suc i) =
-    chosen_firm c.s _ _ _ _ (on_replace c.s (λ firm. firm_stays (sibling 120 n) m u firm full) can.x_file) (ap s_of (firm_pairs m u can.firm full n sfile))
+    chosen_firm c.s _ _ _ _ (on_replace c.s (λ firm. firm_stays (x_file n) m u firm full) can.x_state) (ap s_of (firm_pairs m u can.firm full n sfile))
 
 p_files : (n : List ℕ) (c : Plan) (m : Model) (u : View) → IsSfile n → CanCommit n c m → Full m u → (i : ℕ) → p_after n c u i ≡ p_after n c (view_of m) i
 p_files n c m u sfile can full zero = ap p_of (firm_pairs m u can.firm full n sfile)
 p_files n c m u sfile can full (suc zero) = ap p_of (firm_pairs m u can.firm full n sfile)
 p_files n c m u sfile can full (suc (suc i)) =
-    chosen_firm c.p _ _ _ _ (on_replace c.p (λ firm. firm_stays (sibling 113 n) m u firm full) can.q_file) (ap p_of (firm_pairs m u can.firm full n sfile))
+    chosen_firm c.p _ _ _ _ (on_replace c.p (λ firm. firm_stays (q_file n) m u firm full) can.q_state) (ap p_of (firm_pairs m u can.firm full n sfile))
 
 -- the pair of the commit's name after so many changes
 own_pair : (n : List ℕ) (c : Plan) (m : Model) (u : View) → IsSfile n → CanCommit n c m → Full m u → (i : ℕ) → pair_of (part_of n c i u) n ≡ pair (s_after n c (view_of m) i) (p_after n c (view_of m) i)
@@ -211,7 +211,7 @@ own_pair n c m u sfile can full i =
 
 other_pair : (n k : List ℕ) (c : Plan) (m : Model) (u : View) → IsSfile n → IsSfile k → bytes_eq n k ≡ false → CanCommit n c m → Full m u → (i : ℕ) → pair_of (part_of n c i u) k ≡ pair_of (view_of m) k
 other_pair n k c m u sfile other apart can full i =
-    pair_same _ _ _ _ (part_apart n c u k (apart_s n c k can.plain sfile other apart) i) (part_apart n c u (sibling 112 k) (apart_p n c k can.plain sfile other apart) i)
+    pair_same _ _ _ _ (part_apart n c u k (apart_s n c k can.plain sfile other apart) i) (part_apart n c u (p_file k) (apart_p n c k can.plain sfile other apart) i)
     ∙ firm_pairs m u can.firm full k other
 
 -- the pairs don't depend on the image
@@ -222,13 +222,13 @@ same_pairs n k c m u u2 sfile other can full full2 i =
 
 -- ---- guards
 
-z_there : (n : List ℕ) (c : Plan) (m : Model) (u : View) → IsSfile n → CanCommit n c m → Full m u → IsSome (view_of m (sibling 122 n)) → (i : ℕ) → i ≤ 3 → IsSome (part_of n c i u (sibling 122 n))
-z_there n c m u sfile can full there i low = ap is_some (z_part n c u can.plain sfile i low) ∙ (full_there m u full (sibling 122 n) ∙ there)
+z_there : (n : List ℕ) (c : Plan) (m : Model) (u : View) → IsSfile n → CanCommit n c m → Full m u → IsSome (view_of m (z_file n)) → (i : ℕ) → i ≤ 3 → IsSome (part_of n c i u (z_file n))
+z_there n c m u sfile can full there i low = ap is_some (z_part n c u can.plain sfile i low) ∙ (full_there m u full (z_file n) ∙ there)
 
 -- up to the third change the z-file is there
-pub guards_change : (n : List ℕ) (c : Plan) (m : Model) → IsSfile n → CanCommit n c m → IsSome (view_of m (sibling 122 n)) → (i : ℕ) → suc i ≤ 3 → (u u2 : View) → Full m u → Full m u2 → Guards (part_of n c i u) (part_of n c (suc i) u2)
+pub guards_change : (n : List ℕ) (c : Plan) (m : Model) → IsSfile n → CanCommit n c m → IsSome (view_of m (z_file n)) → (i : ℕ) → suc i ≤ 3 → (u u2 : View) → Full m u → Full m u2 → Guards (part_of n c i u) (part_of n c (suc i) u2)
 guards_change n c m sfile can there i low u u2 full full2 = λ k other.
-    ⊎_elim (λ e. inr (subst (λ l. IsSome (part_of n c i u (sibling 122 l)) × IsSome (part_of n c (suc i) u2 (sibling 122 l))) e
+    ⊎_elim (λ e. inr (subst (λ l. IsSome (part_of n c i u (z_file l)) × IsSome (part_of n c (suc i) u2 (z_file l))) e
     (z_there n c m u sfile can full there i (omega (arith, low)), z_there n c m u2 sfile can full2 there (suc i) low)))
     (λ apart. inl (other_pair n k c m u2 sfile other apart can full2 (suc i) ∙ sym (other_pair n k c m u sfile other apart can full i)))
     (name_cases n k)
@@ -248,13 +248,13 @@ new_pair n c m = pair (files_after n c (view_of m)).s (files_after n c (view_of 
 
 new_recovered : (n : List ℕ) (c : Plan) (m : Model) → CanCommit n c m → (w : View) → pair_of w n ≡ new_pair n c m → recovered_at w n ≡ new_pair n c m
 new_recovered n c m can w same =
-    recovered_same (w n) (files_after n c (view_of m)).s (w (sibling 112 n)) (files_after n c (view_of m)).p (is_some (w (sibling 122 n))) (is_some (w (sibling 122 n))) (ap s_of same) (ap p_of same) refl
-    ∙ sound_recovered (files_after n c (view_of m)).s (files_after n c (view_of m)).p (is_some (w (sibling 122 n))) can.entries.sound
+    recovered_same (w n) (files_after n c (view_of m)).s (w (p_file n)) (files_after n c (view_of m)).p (is_some (w (z_file n))) (is_some (w (z_file n))) (ap s_of same) (ap p_of same) refl
+    ∙ sound_recovered (files_after n c (view_of m)).s (files_after n c (view_of m)).p (is_some (w (z_file n))) can.entries.sound
 
 other_recovered : (n k : List ℕ) (c : Plan) (m : Model) (u : View) → IsSfile n → IsSfile k → bytes_eq n k ≡ false → CanCommit n c m → Full m u → (i : ℕ) → recovered_at (part_of n c i u) k ≡ recovered_at (view_of m) k
 other_recovered n k c m u sfile other apart can full i =
-    recovered_same _ (view_of m k) _ (view_of m (sibling 112 k)) _ (is_some (view_of m (sibling 122 k))) (ap s_of (other_pair n k c m u sfile other apart can full i)) (ap p_of (other_pair n k c m u sfile other apart can full i))
-    (ap is_some (part_apart n c u (sibling 122 k) (apart_z n c k can.plain sfile other apart) i) ∙ full_there m u full (sibling 122 k))
+    recovered_same _ (view_of m k) _ (view_of m (p_file k)) _ (is_some (view_of m (z_file k))) (ap s_of (other_pair n k c m u sfile other apart can full i)) (ap p_of (other_pair n k c m u sfile other apart can full i))
+    (ap is_some (part_apart n c u (z_file k) (apart_z n c k can.plain sfile other apart) i) ∙ full_there m u full (z_file k))
 
 -- a view whose name recovers to the new pair after so many changes recovers as the new view
 recovers_new : (n : List ℕ) (c : Plan) (m : Model) (u v : View) → IsSfile n → CanCommit n c m → Full m u → Full m v → (i : ℕ) → recovered_at (part_of n c i u) n ≡ new_pair n c m → RecoversAs (committed n c v) (part_of n c i u)
@@ -269,18 +269,18 @@ later_new n c m u v sfile can full full2 i =
     recovers_new n c m u v sfile can full full2 (suc (suc i)) (new_recovered n c m can (part_of n c (suc (suc i)) u) (own_pair n c m u sfile can full (suc (suc i))))
 
 -- after the first: recovery takes the entries away that the new p-file doesn't have
-first_recovered : (n : List ℕ) (c : Plan) (m : Model) (u : View) → IsSfile n → CanCommit n c m → Full m u → IsSome (view_of m (sibling 122 n))
-    → recovered_pfile (files_after n c (view_of m)).s (view_of m (sibling 112 n)) ≡ (files_after n c (view_of m)).p → recovered_at (part_of n c 1 u) n ≡ new_pair n c m
+first_recovered : (n : List ℕ) (c : Plan) (m : Model) (u : View) → IsSfile n → CanCommit n c m → Full m u → IsSome (view_of m (z_file n))
+    → recovered_pfile (files_after n c (view_of m)).s (view_of m (p_file n)) ≡ (files_after n c (view_of m)).p → recovered_at (part_of n c 1 u) n ≡ new_pair n c m
 first_recovered n c m u sfile can full there leaves =
-    recovered_same _ (files_after n c (view_of m)).s _ (view_of m (sibling 112 n)) _ true (ap s_of (own_pair n c m u sfile can full 1)) (ap p_of (own_pair n c m u sfile can full 1)) (z_there n c m u sfile can full there 1 (omega arith))
+    recovered_same _ (files_after n c (view_of m)).s _ (view_of m (p_file n)) _ true (ap s_of (own_pair n c m u sfile can full 1)) (ap p_of (own_pair n c m u sfile can full 1)) (z_there n c m u sfile can full there 1 (omega arith))
     ∙ ap (λ (o : Option Content). pair (files_after n c (view_of m)).s o) leaves
 
-first_by : (n : List ℕ) (c : Plan) (m : Model) (u v : View) → IsSfile n → CanCommit n c m → Full m u → Full m v → IsSome (view_of m (sibling 122 n)) → (new : NewFile) → c.s ≡ new → IsNew m (committed n c v) 0 (part_of n c 1 u)
-first_by n c m u v sfile can full full2 there Keep is = inr (refl, subst (λ (x : NewFile). Image m (swapped x (sibling 120 n) n u)) (sym is) (full_image m u full))
+first_by : (n : List ℕ) (c : Plan) (m : Model) (u v : View) → IsSfile n → CanCommit n c m → Full m u → Full m v → IsSome (view_of m (z_file n)) → (new : NewFile) → c.s ≡ new → IsNew m (committed n c v) 0 (part_of n c 1 u)
+first_by n c m u v sfile can full full2 there Keep is = inr (refl, subst (λ (x : NewFile). Image m (swapped x (x_file n) n u)) (sym is) (full_image m u full))
 first_by n c m u v sfile can full full2 there Replace is =
-    inl (recovers_new n c m u v sfile can full full2 1 (first_recovered n c m u sfile can full there (subst (λ (x : NewFile). OnChange x (recovered_pfile (files_after n c (view_of m)).s (view_of m (sibling 112 n)) ≡ (files_after n c (view_of m)).p)) is can.entries.leaves)))
+    inl (recovers_new n c m u v sfile can full full2 1 (first_recovered n c m u sfile can full there (subst (λ (x : NewFile). OnChange x (recovered_pfile (files_after n c (view_of m)).s (view_of m (p_file n)) ≡ (files_after n c (view_of m)).p)) is can.entries.leaves)))
 first_by n c m u v sfile can full full2 there Remove is =
-    inl (recovers_new n c m u v sfile can full full2 1 (first_recovered n c m u sfile can full there (subst (λ (x : NewFile). OnChange x (recovered_pfile (files_after n c (view_of m)).s (view_of m (sibling 112 n)) ≡ (files_after n c (view_of m)).p)) is can.entries.leaves)))
+    inl (recovers_new n c m u v sfile can full full2 1 (first_recovered n c m u sfile can full there (subst (λ (x : NewFile). OnChange x (recovered_pfile (files_after n c (view_of m)).s (view_of m (p_file n)) ≡ (files_after n c (view_of m)).p)) is can.entries.leaves)))
 
-pub first_new : (n : List ℕ) (c : Plan) (m : Model) (u v : View) → IsSfile n → CanCommit n c m → Full m u → Full m v → IsSome (view_of m (sibling 122 n)) → IsNew m (committed n c v) 0 (part_of n c 1 u)
+pub first_new : (n : List ℕ) (c : Plan) (m : Model) (u v : View) → IsSfile n → CanCommit n c m → Full m u → Full m v → IsSome (view_of m (z_file n)) → IsNew m (committed n c v) 0 (part_of n c 1 u)
 first_new n c m u v sfile can full full2 there = first_by n c m u v sfile can full full2 there c.s refl

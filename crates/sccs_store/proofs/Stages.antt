@@ -1,7 +1,7 @@
 -- How far a commit has come, and what a stop leaves of it.
 use Rattle.std.proofs.Common.{◌≡◌, ℕ, suc, List, [], ◌∷◌, drop, inl, inr, refl, sym, ap, subst, ◌∙◌, ⊎_elim, arith}
 use Rattle.std.specs.Prelude.{IfSome, IsSome}
-use Rattle.sccs_base.specs.Name.{IsSfile, sibling}
+use Rattle.sccs_base.specs.Name.{IsSfile, p_file, q_file, x_file, y_file, z_file}
 use Rattle.sccs_disk.specs.Calls.{Done, Half, IsThere}
 use Rattle.sccs_disk.specs.Effects.{pended, renamed, settled, syncing_names}
 use Rattle.sccs_disk.specs.Files.{Model, Op, Rename, View, view_of}
@@ -124,22 +124,22 @@ swaps_half n c m past i Remove from to t t2 stage further part half =
 -- ---- the stages of one commit
 
 -- the z-file is there in the view of a told model
-model_there : (n : List ℕ) (m : Model) (past : List Model) (t : Told) → t ≡ Tells m past → IsThere (sibling 122 n) t → IsSome (view_of m (sibling 122 n))
-model_there n m past t is there = subst (λ (x : Told). IfSome (seen x) (λ (v : View). IsSome (v (sibling 122 n)))) is there
+model_there : (n : List ℕ) (m : Model) (past : List Model) (t : Told) → t ≡ Tells m past → IsThere (z_file n) t → IsSome (view_of m (z_file n))
+model_there n m past t is there = subst (λ (x : Told). IfSome (seen x) (λ (v : View). IsSome (v (z_file n)))) is there
 
-further_first : (n : List ℕ) (c : Plan) (m : Model) → IsSfile n → CanCommit n c m → IsSome (view_of m (sibling 122 n)) → Further n c m 0
+further_first : (n : List ℕ) (c : Plan) (m : Model) → IsSfile n → CanCommit n c m → IsSome (view_of m (z_file n)) → Further n c m 0
 further_first n c m sfile can there = record {
   new = λ u full. first_new n c m u (view_of m) sfile can full (view_full m) there;
   guards = guards_change n c m sfile can there 0 (omega arith);
 }
 
-further_second : (n : List ℕ) (c : Plan) (m : Model) → IsSfile n → CanCommit n c m → IsSome (view_of m (sibling 122 n)) → Further n c m 1
+further_second : (n : List ℕ) (c : Plan) (m : Model) → IsSfile n → CanCommit n c m → IsSome (view_of m (z_file n)) → Further n c m 1
 further_second n c m sfile can there = record {
   new = λ u full. inl (later_new n c m u (view_of m) sfile can full (view_full m) 0);
   guards = guards_change n c m sfile can there 1 (omega arith);
 }
 
-further_third : (n : List ℕ) (c : Plan) (m : Model) → IsSfile n → CanCommit n c m → IsSome (view_of m (sibling 122 n)) → Further n c m 2
+further_third : (n : List ℕ) (c : Plan) (m : Model) → IsSfile n → CanCommit n c m → IsSome (view_of m (z_file n)) → Further n c m 2
 further_third n c m sfile can there = record {
   new = λ u full. inl (later_new n c m u (view_of m) sfile can full (view_full m) 1);
   guards = guards_change n c m sfile can there 2 (omega arith);
@@ -206,43 +206,43 @@ ended n c m past t t2 sfile can stage done = (
 
 -- ---- the exits of a commit
 
-first_stage : (n : List ℕ) (c : Plan) (m : Model) (past : List Model) (t0 t1 : Told) → IsSfile n → CanCommit n c m → IsThere (sibling 122 n) t0 → t0 ≡ Tells m past → Swaps c.s (sibling 120 n) n t0 t1 → Stage n c m past 1 t1
+first_stage : (n : List ℕ) (c : Plan) (m : Model) (past : List Model) (t0 t1 : Told) → IsSfile n → CanCommit n c m → IsThere (z_file n) t0 → t0 ≡ Tells m past → Swaps c.s (x_file n) n t0 t1 → Stage n c m past 1 t1
 first_stage n c m past t0 t1 sfile can there is s =
-    swaps_next n c m past 0 c.s (sibling 120 n) n t0 t1 (begins n c m past t0 is) (further_first n c m sfile can (model_there n m past t0 is there)) (λ u. refl) s
+    swaps_next n c m past 0 c.s (x_file n) n t0 t1 (begins n c m past t0 is) (further_first n c m sfile can (model_there n m past t0 is there)) (λ u. refl) s
 
-second_stage : (n : List ℕ) (c : Plan) (m : Model) (past : List Model) (t0 t1 t2 : Told) → IsSfile n → CanCommit n c m → IsThere (sibling 122 n) t0 → t0 ≡ Tells m past
-    → Swaps c.s (sibling 120 n) n t0 t1 → Swaps c.p (sibling 113 n) (sibling 112 n) t1 t2 → Stage n c m past 2 t2
+second_stage : (n : List ℕ) (c : Plan) (m : Model) (past : List Model) (t0 t1 t2 : Told) → IsSfile n → CanCommit n c m → IsThere (z_file n) t0 → t0 ≡ Tells m past
+    → Swaps c.s (x_file n) n t0 t1 → Swaps c.p (q_file n) (p_file n) t1 t2 → Stage n c m past 2 t2
 second_stage n c m past t0 t1 t2 sfile can there is s p =
-    swaps_next n c m past 1 c.p (sibling 113 n) (sibling 112 n) t1 t2 (first_stage n c m past t0 t1 sfile can there is s) (further_second n c m sfile can (model_there n m past t0 is there)) (λ u. refl) p
+    swaps_next n c m past 1 c.p (q_file n) (p_file n) t1 t2 (first_stage n c m past t0 t1 sfile can there is s) (further_second n c m sfile can (model_there n m past t0 is there)) (λ u. refl) p
 
-third_stage : (n : List ℕ) (c : Plan) (m : Model) (past : List Model) (t0 t1 t2 t3 : Told) → IsSfile n → CanCommit n c m → IsThere (sibling 122 n) t0 → t0 ≡ Tells m past
-    → Swaps c.s (sibling 120 n) n t0 t1 → Swaps c.p (sibling 113 n) (sibling 112 n) t1 t2 → Swaps c.g (sibling 121 n) (drop 2 n) t2 t3 → Stage n c m past 3 t3
+third_stage : (n : List ℕ) (c : Plan) (m : Model) (past : List Model) (t0 t1 t2 t3 : Told) → IsSfile n → CanCommit n c m → IsThere (z_file n) t0 → t0 ≡ Tells m past
+    → Swaps c.s (x_file n) n t0 t1 → Swaps c.p (q_file n) (p_file n) t1 t2 → Swaps c.g (y_file n) (drop 2 n) t2 t3 → Stage n c m past 3 t3
 third_stage n c m past t0 t1 t2 t3 sfile can there is s p g =
-    swaps_next n c m past 2 c.g (sibling 121 n) (drop 2 n) t2 t3 (second_stage n c m past t0 t1 t2 sfile can there is s p) (further_third n c m sfile can (model_there n m past t0 is there)) (λ u. refl) g
+    swaps_next n c m past 2 c.g (y_file n) (drop 2 n) t2 t3 (second_stage n c m past t0 t1 t2 sfile can there is s p) (further_third n c m sfile can (model_there n m past t0 is there)) (λ u. refl) g
 
-pub first_stop : (n : List ℕ) (c : Plan) (t0 t1 : Told) → IsSfile n → IsThere (sibling 122 n) t0 → HalfSwaps c.s (sibling 120 n) n t0 t1 → CommitStops n c t0 t1
+pub first_stop : (n : List ℕ) (c : Plan) (t0 t1 : Told) → IsSfile n → IsThere (z_file n) t0 → HalfSwaps c.s (x_file n) n t0 t1 → CommitStops n c t0 t1
 first_stop n c t0 t1 sfile there s = λ m past is can.
-    stopped n c m past t1 sfile can (swaps_half n c m past 0 c.s (sibling 120 n) n t0 t1 (begins n c m past t0 is) (further_first n c m sfile can (model_there n m past t0 is there)) (λ u. refl) s)
+    stopped n c m past t1 sfile can (swaps_half n c m past 0 c.s (x_file n) n t0 t1 (begins n c m past t0 is) (further_first n c m sfile can (model_there n m past t0 is there)) (λ u. refl) s)
 
-pub second_stop : (n : List ℕ) (c : Plan) (t0 t1 t2 : Told) → IsSfile n → IsThere (sibling 122 n) t0 → Swaps c.s (sibling 120 n) n t0 t1 → HalfSwaps c.p (sibling 113 n) (sibling 112 n) t1 t2 → CommitStops n c t0 t2
+pub second_stop : (n : List ℕ) (c : Plan) (t0 t1 t2 : Told) → IsSfile n → IsThere (z_file n) t0 → Swaps c.s (x_file n) n t0 t1 → HalfSwaps c.p (q_file n) (p_file n) t1 t2 → CommitStops n c t0 t2
 second_stop n c t0 t1 t2 sfile there s p = λ m past is can.
     stopped n c m past t2 sfile can
-    (swaps_half n c m past 1 c.p (sibling 113 n) (sibling 112 n) t1 t2 (first_stage n c m past t0 t1 sfile can there is s) (further_second n c m sfile can (model_there n m past t0 is there)) (λ u. refl) p)
+    (swaps_half n c m past 1 c.p (q_file n) (p_file n) t1 t2 (first_stage n c m past t0 t1 sfile can there is s) (further_second n c m sfile can (model_there n m past t0 is there)) (λ u. refl) p)
 
-pub third_stop : (n : List ℕ) (c : Plan) (t0 t1 t2 t3 : Told) → IsSfile n → IsThere (sibling 122 n) t0 → Swaps c.s (sibling 120 n) n t0 t1 → Swaps c.p (sibling 113 n) (sibling 112 n) t1 t2
-    → HalfSwaps c.g (sibling 121 n) (drop 2 n) t2 t3 → CommitStops n c t0 t3
+pub third_stop : (n : List ℕ) (c : Plan) (t0 t1 t2 t3 : Told) → IsSfile n → IsThere (z_file n) t0 → Swaps c.s (x_file n) n t0 t1 → Swaps c.p (q_file n) (p_file n) t1 t2
+    → HalfSwaps c.g (y_file n) (drop 2 n) t2 t3 → CommitStops n c t0 t3
 third_stop n c t0 t1 t2 t3 sfile there s p g = λ m past is can.
     stopped n c m past t3 sfile can
-    (swaps_half n c m past 2 c.g (sibling 121 n) (drop 2 n) t2 t3 (second_stage n c m past t0 t1 t2 sfile can there is s p) (further_third n c m sfile can (model_there n m past t0 is there)) (λ u. refl) g)
+    (swaps_half n c m past 2 c.g (y_file n) (drop 2 n) t2 t3 (second_stage n c m past t0 t1 t2 sfile can there is s p) (further_third n c m sfile can (model_there n m past t0 is there)) (λ u. refl) g)
 
-pub last_stop : (n : List ℕ) (c : Plan) (t0 t1 t2 t3 t4 : Told) → IsSfile n → IsThere (sibling 122 n) t0 → Swaps c.s (sibling 120 n) n t0 t1 → Swaps c.p (sibling 113 n) (sibling 112 n) t1 t2
-    → Swaps c.g (sibling 121 n) (drop 2 n) t2 t3 → HalfUnlocks (sibling 122 n) t3 t4 → CommitStops n c t0 t4
+pub last_stop : (n : List ℕ) (c : Plan) (t0 t1 t2 t3 t4 : Told) → IsSfile n → IsThere (z_file n) t0 → Swaps c.s (x_file n) n t0 t1 → Swaps c.p (q_file n) (p_file n) t1 t2
+    → Swaps c.g (y_file n) (drop 2 n) t2 t3 → HalfUnlocks (z_file n) t3 t4 → CommitStops n c t0 t4
 last_stop n c t0 t1 t2 t3 t4 sfile there s p g (inl half) = λ m past is can.
-    stopped n c m past t4 sfile can (swaps_half n c m past 3 Remove (sibling 122 n) (sibling 122 n) t3 t4 (third_stage n c m past t0 t1 t2 t3 sfile can there is s p g) (further_last n c m sfile can) (λ u. refl) half)
+    stopped n c m past t4 sfile can (swaps_half n c m past 3 Remove (z_file n) (z_file n) t3 t4 (third_stage n c m past t0 t1 t2 t3 sfile can there is s p g) (further_last n c m sfile can) (λ u. refl) half)
 last_stop n c t0 t1 t2 t3 t4 sfile there s p g (inr (mid, z, half)) = λ m past is can.
-    synced_half n c m past mid t4 sfile can (swaps_next n c m past 3 Remove (sibling 122 n) (sibling 122 n) t3 mid (third_stage n c m past t0 t1 t2 t3 sfile can there is s p g) (further_last n c m sfile can) (λ u. refl) z) half
+    synced_half n c m past mid t4 sfile can (swaps_next n c m past 3 Remove (z_file n) (z_file n) t3 mid (third_stage n c m past t0 t1 t2 t3 sfile can there is s p g) (further_last n c m sfile can) (λ u. refl) z) half
 
-pub commit_ends : (n : List ℕ) (c : Plan) (t0 t1 t2 t3 t4 : Told) → IsSfile n → IsThere (sibling 122 n) t0 → Swaps c.s (sibling 120 n) n t0 t1 → Swaps c.p (sibling 113 n) (sibling 112 n) t1 t2
-    → Swaps c.g (sibling 121 n) (drop 2 n) t2 t3 → Unlocks (sibling 122 n) t3 t4 → CommitEnds n c t0 t4
+pub commit_ends : (n : List ℕ) (c : Plan) (t0 t1 t2 t3 t4 : Told) → IsSfile n → IsThere (z_file n) t0 → Swaps c.s (x_file n) n t0 t1 → Swaps c.p (q_file n) (p_file n) t1 t2
+    → Swaps c.g (y_file n) (drop 2 n) t2 t3 → Unlocks (z_file n) t3 t4 → CommitEnds n c t0 t4
 commit_ends n c t0 t1 t2 t3 t4 sfile there s p g (mid, z, synced) = λ m past is can.
-    ended n c m past mid t4 sfile can (swaps_next n c m past 3 Remove (sibling 122 n) (sibling 122 n) t3 mid (third_stage n c m past t0 t1 t2 t3 sfile can there is s p g) (further_last n c m sfile can) (λ u. refl) z) synced
+    ended n c m past mid t4 sfile can (swaps_next n c m past 3 Remove (z_file n) (z_file n) t3 mid (third_stage n c m past t0 t1 t2 t3 sfile can there is s p g) (further_last n c m sfile can) (λ u. refl) z) synced

@@ -1,6 +1,6 @@
 -- A whole step: what is prepared under its lock, and the commit.
 use Rattle.std.proofs.Common.{◌≡◌, ℕ, List, inl, inr, refl, sym, subst}
-use Rattle.sccs_base.specs.Name.{IsSfile, sibling}
+use Rattle.sccs_base.specs.Name.{IsSfile, q_file, x_file}
 use Rattle.sccs_disk.specs.Files.{Model, View, view_of}
 use Rattle.sccs_disk.specs.Images.{Allows, IsFirm}
 use Rattle.sccs_disk.specs.Told.{Told, Tells}
@@ -38,8 +38,8 @@ firm_where Remove k a b m m1 past past1 is is1 firm = tt
 can_commit : (n : List ℕ) (c : Plan) (a b : Told) (m : Model) (past : List Model) → IsSfile n → a ≡ Tells m past → IsCalm m → (run : Touching (is_left n) m past b) → IsPlain n c → HasPrepared n c a b → CanCommit n c (newest run.added m)
 can_commit n c a b m past sfile is calm run plain prepared = record {
   firm = firms_touched (is_left n) m (newest run.added m) (λ k other. left_s n k other) (λ k other. refl) (each_newest (Touches (is_left n) m) run.added m run.each) (calm_firm m calm);
-  x_file = firm_where c.s (sibling 120 n) a b m (newest run.added m) past (earlier run.added m past) is run.is prepared.x_file;
-  q_file = firm_where c.p (sibling 113 n) a b m (newest run.added m) past (earlier run.added m past) is run.is prepared.q_file;
+  x_state = firm_where c.s (x_file n) a b m (newest run.added m) past (earlier run.added m past) is run.is prepared.x_state;
+  q_state = firm_where c.p (q_file n) a b m (newest run.added m) past (earlier run.added m past) is run.is prepared.q_state;
   plain = plain;
   entries = prepared.entries m past is (newest run.added m) (earlier run.added m past) run.is;
 }

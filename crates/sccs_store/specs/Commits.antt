@@ -1,6 +1,6 @@
 -- What locks, working files and commits make of the files of a name.
 use Rattle.std.specs.Prelude.{◌≡◌, ◌⊎◌, ℕ, zero, suc, Bool, List, ◌++◌, take, drop, false, Option, None, Some, option_map, if◌then◌else◌}
-use Rattle.sccs_base.specs.Name.{sibling}
+use Rattle.sccs_base.specs.Name.{p_file, q_file, x_file, y_file, z_file}
 use Rattle.sccs_disk.specs.Files.{Content, View, put}
 use Rattle.sccs_disk.specs.Effects.{empty_file, renamed}
 use Rattle.sccs_disk.specs.Calls.{IsThere}
@@ -21,11 +21,11 @@ MayBecome f old new = (new ≡ old) ⊎ Becomes f old new
 
 -- the z-file is there, empty
 abbrev pub locked : List ℕ → View → View
-locked n v = put v (sibling 122 n) (Some empty_file)
+locked n v = put v (z_file n) (Some empty_file)
 
 -- the x-, q-, y- and z-file are gone
 abbrev pub abandoned : List ℕ → View → View
-abandoned n v = without (sibling 122 n) (cleared n v)
+abandoned n v = without (z_file n) (cleared n v)
 
 -- a file that begins with a sum line, with these digits in it, and protected
 abbrev pub summed : ℕ → Content → Content
@@ -66,17 +66,17 @@ plan new_s new_p new_g = record { s = replaced new_s; p = new_p; g = new_g }
 
 -- x over s, q over p, y over g
 abbrev pub s_swapped : List ℕ → Plan → View → View
-s_swapped n c v = swapped c.s (sibling 120 n) n v
+s_swapped n c v = swapped c.s (x_file n) n v
 
 abbrev pub p_swapped : List ℕ → Plan → View → View
-p_swapped n c v = swapped c.p (sibling 113 n) (sibling 112 n) v
+p_swapped n c v = swapped c.p (q_file n) (p_file n) v
 
 abbrev pub g_swapped : List ℕ → Plan → View → View
-g_swapped n c v = swapped c.g (sibling 121 n) (drop 2 n) v
+g_swapped n c v = swapped c.g (y_file n) (drop 2 n) v
 
 -- the view after a commit
 abbrev pub committed : List ℕ → Plan → View → View
-committed n c v = without (sibling 122 n) (g_swapped n c (p_swapped n c (s_swapped n c v)))
+committed n c v = without (z_file n) (g_swapped n c (p_swapped n c (s_swapped n c v)))
 
 -- the view after so many of its four changes
 abbrev pub part_of : List ℕ → Plan → ℕ → View → View
@@ -93,8 +93,8 @@ IsPart n c old new = (i : ℕ) × (new ≡ option_map (part_of n c i) old)
 -- the files of the name after it
 abbrev pub files_after : List ℕ → Plan → View → Files
 files_after n c v = record {
-  s = chosen c.s (v (sibling 120 n)) (v n);
-  p = chosen c.p (v (sibling 113 n)) (v (sibling 112 n));
+  s = chosen c.s (v (x_file n)) (v n);
+  p = chosen c.p (v (q_file n)) (v (p_file n));
   z = None;
-  g = chosen c.g (v (sibling 121 n)) (v (drop 2 n));
+  g = chosen c.g (v (y_file n)) (v (drop 2 n));
 }

@@ -1,6 +1,6 @@
 -- What a commit needs, so that a stop in it loses nothing, and what a stop in it leaves.
 use Rattle.std.specs.Prelude.{◌≡◌, ◌⊎◌, ℕ, false, true, List, drop, is_some}
-use Rattle.sccs_base.specs.Name.{sibling}
+use Rattle.sccs_base.specs.Name.{p_file, q_file, x_file, z_file}
 use Rattle.sccs_disk.specs.Calls.{Done, Half}
 use Rattle.sccs_disk.specs.Effects.{removing, renaming, syncing_names}
 use Rattle.sccs_disk.specs.Files.{Model, View, view_of}
@@ -52,7 +52,7 @@ OnChange Remove P = P
 -- What recovery makes of the entries of a commit's name, in the view before it.
 pub record KeepsEntries (n : List ℕ) (c : Plan) (v : View) : Type 0 where
   -- with a new s-file it makes the new p-file of the old one
-  pub leaves : OnChange c.s (recovered_pfile (files_after n c v).s (v (sibling 112 n)) ≡ (files_after n c v).p)
+  pub leaves : OnChange c.s (recovered_pfile (files_after n c v).s (v (p_file n)) ≡ (files_after n c v).p)
   -- and it leaves the new p-file as it is
   pub sound : recovered_pfile (files_after n c v).s (files_after n c v).p ≡ (files_after n c v).p
 
@@ -64,8 +64,8 @@ IsPlain n c = OnChange c.g (is_kept (drop 2 n) ≡ false)
 pub record CanCommit (n : List ℕ) (c : Plan) (m : Model) : Type 0 where
   -- s-files and p-files are firm, and the prepared files that take their places
   pub firm : HasFirm m
-  pub x_file : OnReplace c.s (IsFirm (sibling 120 n) m)
-  pub q_file : OnReplace c.p (IsFirm (sibling 113 n) m)
+  pub x_state : OnReplace c.s (IsFirm (x_file n) m)
+  pub q_state : OnReplace c.p (IsFirm (q_file n) m)
   pub plain : IsPlain n c
   pub entries : KeepsEntries n c (view_of m)
 
@@ -74,8 +74,8 @@ pub record HasPrepared (n : List ℕ) (c : Plan) (old new : Told) : Type 0 where
   -- at most working files and the z-file are touched
   pub touches : TouchesOnly (is_left n) old new
   -- the prepared files that take the places of others are firm
-  pub x_file : OnReplace c.s (Leaves (IsFirm (sibling 120 n)) old new)
-  pub q_file : OnReplace c.p (Leaves (IsFirm (sibling 113 n)) old new)
+  pub x_state : OnReplace c.s (Leaves (IsFirm (x_file n)) old new)
+  pub q_state : OnReplace c.p (Leaves (IsFirm (q_file n)) old new)
   pub entries : Leaves (λ m. KeepsEntries n c (view_of m)) old new
 
 -- ---- what a stop leaves
@@ -92,4 +92,4 @@ CommitEnds n c old new = (m : Model) (past : List Model) → old ≡ Tells m pas
 
 -- On a name that was locked already each image of each moment has the old s-files and p-files, and the disk is calm.
 abbrev pub KeepsHeld : List ℕ → Told → Told → Type 0
-KeepsHeld n old new = (m : Model) (past : List Model) → old ≡ Tells m past → IsCalm m → is_some (view_of m (sibling 122 n)) ≡ true → EndsBefore (view_of m) m past new
+KeepsHeld n old new = (m : Model) (past : List Model) → old ≡ Tells m past → IsCalm m → is_some (view_of m (z_file n)) ≡ true → EndsBefore (view_of m) m past new

@@ -1,5 +1,5 @@
 ghost use Rattle.std.specs.Prelude.{◌≡◌, ◌≤◌, drop, OnErr, OnOk};
-ghost use Rattle.sccs_base.specs.Name.{IsSfile, sibling};
+ghost use Rattle.sccs_base.specs.Name.{IsSfile, p_file, q_file, x_file, y_file, z_file};
 ghost use Rattle.sccs_base.specs.Stream.{Rose};
 ghost use Rattle.sccs_disk.specs.Calls.{IsThere};
 ghost use Rattle.sccs_disk.specs.Told.{seen};
@@ -43,11 +43,11 @@ fn replaced(new_s: bool) -> NewFile
 // puts the x-file in the place of the s-file, or keeps that
 fn swap_s<D: Disk>(disk: &mut D, new_s: bool, name: &Name) -> Result<(), Failed>
     requires sfile { IsSfile name.now }
-    requires needs { Needs (replaced new_s) (sibling 120 name.now) name.now (D.told disk.old) }
-    ensures ok { OnOk result (Becomes (swapped (replaced new_s) (sibling 120 name.now) name.now) (seen (D.told disk.old)) (seen (D.told disk.new))) }
-    ensures err { OnErr result (MayBecome (swapped (replaced new_s) (sibling 120 name.now) name.now) (seen (D.told disk.old)) (seen (D.told disk.new))) }
-    ensures done { OnOk result (Swaps (replaced new_s) (sibling 120 name.now) name.now (D.told disk.old) (D.told disk.new)) }
-    ensures half { OnErr result (HalfSwaps (replaced new_s) (sibling 120 name.now) name.now (D.told disk.old) (D.told disk.new)) }
+    requires needs { Needs (replaced new_s) (x_file name.now) name.now (D.told disk.old) }
+    ensures ok { OnOk result (Becomes (swapped (replaced new_s) (x_file name.now) name.now) (seen (D.told disk.old)) (seen (D.told disk.new))) }
+    ensures err { OnErr result (MayBecome (swapped (replaced new_s) (x_file name.now) name.now) (seen (D.told disk.old)) (seen (D.told disk.new))) }
+    ensures done { OnOk result (Swaps (replaced new_s) (x_file name.now) name.now (D.told disk.old) (D.told disk.new)) }
+    ensures half { OnErr result (HalfSwaps (replaced new_s) (x_file name.now) name.now (D.told disk.old) (D.told disk.new)) }
     ensures later { D.faults disk.old ≤ D.faults disk.new }
     ensures cause { OnErr result (Rose (D.faults disk.old) (D.faults disk.new)) }
 {
@@ -57,11 +57,11 @@ fn swap_s<D: Disk>(disk: &mut D, new_s: bool, name: &Name) -> Result<(), Failed>
 // puts the q-file in the place of the p-file, or removes that
 fn swap_p<D: Disk>(disk: &mut D, new: NewFile, name: &Name) -> Result<(), Failed>
     requires sfile { IsSfile name.now }
-    requires needs { Needs new (sibling 113 name.now) (sibling 112 name.now) (D.told disk.old) }
-    ensures ok { OnOk result (Becomes (swapped new (sibling 113 name.now) (sibling 112 name.now)) (seen (D.told disk.old)) (seen (D.told disk.new))) }
-    ensures err { OnErr result (MayBecome (swapped new (sibling 113 name.now) (sibling 112 name.now)) (seen (D.told disk.old)) (seen (D.told disk.new))) }
-    ensures done { OnOk result (Swaps new (sibling 113 name.now) (sibling 112 name.now) (D.told disk.old) (D.told disk.new)) }
-    ensures half { OnErr result (HalfSwaps new (sibling 113 name.now) (sibling 112 name.now) (D.told disk.old) (D.told disk.new)) }
+    requires needs { Needs new (q_file name.now) (p_file name.now) (D.told disk.old) }
+    ensures ok { OnOk result (Becomes (swapped new (q_file name.now) (p_file name.now)) (seen (D.told disk.old)) (seen (D.told disk.new))) }
+    ensures err { OnErr result (MayBecome (swapped new (q_file name.now) (p_file name.now)) (seen (D.told disk.old)) (seen (D.told disk.new))) }
+    ensures done { OnOk result (Swaps new (q_file name.now) (p_file name.now) (D.told disk.old) (D.told disk.new)) }
+    ensures half { OnErr result (HalfSwaps new (q_file name.now) (p_file name.now) (D.told disk.old) (D.told disk.new)) }
     ensures later { D.faults disk.old ≤ D.faults disk.new }
     ensures cause { OnErr result (Rose (D.faults disk.old) (D.faults disk.new)) }
 {
@@ -71,11 +71,11 @@ fn swap_p<D: Disk>(disk: &mut D, new: NewFile, name: &Name) -> Result<(), Failed
 // puts the y-file in the place of the g-file, or removes that
 fn swap_g<D: Disk>(disk: &mut D, new: NewFile, name: &Name) -> Result<(), Failed>
     requires sfile { IsSfile name.now }
-    requires needs { Needs new (sibling 121 name.now) (drop 2 name.now) (D.told disk.old) }
-    ensures ok { OnOk result (Becomes (swapped new (sibling 121 name.now) (drop 2 name.now)) (seen (D.told disk.old)) (seen (D.told disk.new))) }
-    ensures err { OnErr result (MayBecome (swapped new (sibling 121 name.now) (drop 2 name.now)) (seen (D.told disk.old)) (seen (D.told disk.new))) }
-    ensures done { OnOk result (Swaps new (sibling 121 name.now) (drop 2 name.now) (D.told disk.old) (D.told disk.new)) }
-    ensures half { OnErr result (HalfSwaps new (sibling 121 name.now) (drop 2 name.now) (D.told disk.old) (D.told disk.new)) }
+    requires needs { Needs new (y_file name.now) (drop 2 name.now) (D.told disk.old) }
+    ensures ok { OnOk result (Becomes (swapped new (y_file name.now) (drop 2 name.now)) (seen (D.told disk.old)) (seen (D.told disk.new))) }
+    ensures err { OnErr result (MayBecome (swapped new (y_file name.now) (drop 2 name.now)) (seen (D.told disk.old)) (seen (D.told disk.new))) }
+    ensures done { OnOk result (Swaps new (y_file name.now) (drop 2 name.now) (D.told disk.old) (D.told disk.new)) }
+    ensures half { OnErr result (HalfSwaps new (y_file name.now) (drop 2 name.now) (D.told disk.old) (D.told disk.new)) }
     ensures later { D.faults disk.old ≤ D.faults disk.new }
     ensures cause { OnErr result (Rose (D.faults disk.old) (D.faults disk.new)) }
 {
@@ -85,11 +85,11 @@ fn swap_g<D: Disk>(disk: &mut D, new: NewFile, name: &Name) -> Result<(), Failed
 // removes the z-file and syncs the names
 fn unlock<D: Disk>(disk: &mut D, name: &Name) -> Result<(), Failed>
     requires sfile { IsSfile name.now }
-    requires there { IsThere (sibling 122 name.now) (D.told disk.old) }
-    ensures ok { OnOk result (Becomes (without (sibling 122 name.now)) (seen (D.told disk.old)) (seen (D.told disk.new))) }
-    ensures err { OnErr result (MayBecome (without (sibling 122 name.now)) (seen (D.told disk.old)) (seen (D.told disk.new))) }
-    ensures done { OnOk result (Unlocks (sibling 122 name.now) (D.told disk.old) (D.told disk.new)) }
-    ensures half { OnErr result (HalfUnlocks (sibling 122 name.now) (D.told disk.old) (D.told disk.new)) }
+    requires there { IsThere (z_file name.now) (D.told disk.old) }
+    ensures ok { OnOk result (Becomes (without (z_file name.now)) (seen (D.told disk.old)) (seen (D.told disk.new))) }
+    ensures err { OnErr result (MayBecome (without (z_file name.now)) (seen (D.told disk.old)) (seen (D.told disk.new))) }
+    ensures done { OnOk result (Unlocks (z_file name.now) (D.told disk.old) (D.told disk.new)) }
+    ensures half { OnErr result (HalfUnlocks (z_file name.now) (D.told disk.old) (D.told disk.new)) }
     ensures later { D.faults disk.old ≤ D.faults disk.new }
     ensures cause { OnErr result (Rose (D.faults disk.old) (D.faults disk.new)) }
 {
@@ -111,10 +111,10 @@ pub fn commit<D: Disk>(
     new_g: NewFile,
 ) -> Result<(), Failed>
     requires sfile { IsSfile name.now }
-    requires z { IsThere (sibling 122 name.now) (D.told disk.old) }
-    requires s { Needs (replaced new_s) (sibling 120 name.now) name.now (D.told disk.old) }
-    requires p { Needs new_p (sibling 113 name.now) (sibling 112 name.now) (D.told disk.old) }
-    requires g { Needs new_g (sibling 121 name.now) (drop 2 name.now) (D.told disk.old) }
+    requires z { IsThere (z_file name.now) (D.told disk.old) }
+    requires s { Needs (replaced new_s) (x_file name.now) name.now (D.told disk.old) }
+    requires p { Needs new_p (q_file name.now) (p_file name.now) (D.told disk.old) }
+    requires g { Needs new_g (y_file name.now) (drop 2 name.now) (D.told disk.old) }
     ensures view { OnOk result (Becomes (committed name.now (plan new_s new_p new_g)) (seen (D.told disk.old)) (seen (D.told disk.new))) }
     ensures halfway { OnErr result (IsPart name.now (plan new_s new_p new_g) (seen (D.told disk.old)) (seen (D.told disk.new))) }
     ensures stopped { OnErr result (CommitStops name.now (plan new_s new_p new_g) (D.told disk.old) (D.told disk.new)) }

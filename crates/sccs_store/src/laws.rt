@@ -1,6 +1,6 @@
 ghost use Rattle.std.specs.Prelude.{◌≡◌, ◌⊎◌, ℕ, List, false};
 ghost use Rattle.std.specs.Str.{bytes_eq};
-ghost use Rattle.sccs_base.specs.Name.{IsSfile, sibling};
+ghost use Rattle.sccs_base.specs.Name.{IsSfile, z_file};
 ghost use Rattle.sccs_disk.specs.Files.{Model, View, view_of};
 ghost use Rattle.sccs_disk.specs.Told.{Tells, Told};
 ghost use Rattle.sccs_files.specs.StepFiles.{is_left, is_working, placed};
@@ -15,9 +15,9 @@ ghost use Rattle.sccs_store.specs.Stops.{CommitEnds, CommitStops, HasPrepared, I
 /// its changes each file but the z-file is as it was, or as the commit makes it.
 pub fn commits_place_their_files()
     ensures whole { (n : List ℕ) (c : Plan) (u v : View) (k : List ℕ) → IsSfile n → is_working n k ≡ false
-        → (bytes_eq (sibling 122 n) k ≡ false → u k ≡ v k) → committed n c u k ≡ placed v n (files_after n c u) k }
+        → (bytes_eq (z_file n) k ≡ false → u k ≡ v k) → committed n c u k ≡ placed v n (files_after n c u) k }
     ensures parts { (n : List ℕ) (c : Plan) (u v : View) (k : List ℕ) (i : ℕ) → IsSfile n → is_working n k ≡ false
-        → bytes_eq (sibling 122 n) k ≡ false → u k ≡ v k
+        → bytes_eq (z_file n) k ≡ false → u k ≡ v k
         → (part_of n c i u k ≡ v k) ⊎ (part_of n c i u k ≡ placed v n (files_after n c u) k) }
 {}
 

@@ -1,6 +1,6 @@
 ghost use Rattle.std.specs.Prelude.{◌≡◌, ◌≤◌, None, IfSome, IsSome, IsErrOf, OnErr, OnOk, option_map};
 ghost use Rattle.std.specs.Str.{bytes_eq};
-ghost use Rattle.sccs_base.specs.Name.{IsSfile, sibling};
+ghost use Rattle.sccs_base.specs.Name.{IsSfile, z_file};
 ghost use Rattle.sccs_base.specs.Stream.{Rose};
 ghost use Rattle.sccs_disk.specs.Files.{View};
 ghost use Rattle.sccs_disk.specs.Told.{seen};
@@ -25,13 +25,13 @@ pub enum LockFault {
 pub fn lock<D: Disk>(disk: &mut D, name: &Name) -> Result<(), LockFault>
     requires { IsSfile name.now }
     ensures view { OnOk result (Becomes (locked name.now) (seen (D.told disk.old)) (seen (D.told disk.new))) }
-    ensures free { OnOk result (IfSome (seen (D.told disk.old)) (λ (v : View). v (sibling 122 name.now) ≡ None)) }
+    ensures free { OnOk result (IfSome (seen (D.told disk.old)) (λ (v : View). v (z_file name.now) ≡ None)) }
     ensures locked { IsErrOf result LockFault.Locked
-        → IfSome (seen (D.told disk.old)) (λ (v : View). IsSome (v (sibling 122 name.now))) }
+        → IfSome (seen (D.told disk.old)) (λ (v : View). IsSome (v (z_file name.now))) }
     ensures same { IsErrOf result LockFault.Locked → D.told disk.new ≡ D.told disk.old }
     ensures memory { IsErrOf result LockFault.Memory → D.told disk.new ≡ D.told disk.old }
-    ensures view_err { OnErr result (Moves (bytes_eq (sibling 122 name.now)) (λ v. v) (seen (D.told disk.old)) (seen (D.told disk.new))) }
-    ensures touches { TouchesOnly (bytes_eq (sibling 122 name.now)) (D.told disk.old) (D.told disk.new) }
+    ensures view_err { OnErr result (Moves (bytes_eq (z_file name.now)) (λ v. v) (seen (D.told disk.old)) (seen (D.told disk.new))) }
+    ensures touches { TouchesOnly (bytes_eq (z_file name.now)) (D.told disk.old) (D.told disk.new) }
     ensures held { IsErrOf result LockFault.Failed → KeepsHeld name.now (D.told disk.old) (D.told disk.new) }
     ensures later { D.faults disk.old ≤ D.faults disk.new }
     ensures cause { IsErrOf result LockFault.Failed → Rose (D.faults disk.old) (D.faults disk.new) }

@@ -1,6 +1,6 @@
 ghost use Rattle.std.specs.Prelude.{◌≡◌, ◌≤◌, All, Some, IsErrOf, OnErr, OnOk};
 ghost use Rattle.std.specs.Str.{bytes_eq};
-ghost use Rattle.sccs_base.specs.Name.{IsSfile, sibling};
+ghost use Rattle.sccs_base.specs.Name.{IsSfile, q_file};
 ghost use Rattle.sccs_base.specs.Stream.{Rose};
 ghost use Rattle.sccs_disk.specs.Calls.{IsThere};
 ghost use Rattle.sccs_disk.specs.Effects.{altered, appended};
@@ -40,11 +40,11 @@ fn append_edits<D: Disk>(edits: &Edits, disk: &mut D, name: &Name) -> Result<(),
 // appends entries to the q-file, and syncs it
 fn append_q<D: Disk>(edits: &Edits, disk: &mut D, name: &Name) -> Result<(), DiskRefusal>
     requires sfile { IsSfile name.now }
-    requires there { IsThere (sibling 113 name.now) (D.told disk.old) }
+    requires there { IsThere (q_file name.now) (D.told disk.old) }
     requires edits { All IsEdit edits.now }
-    ensures view { OnOk result (Becomes (altered (sibling 113 name.now) (appended (edits_text edits.now))) (seen (D.told disk.old)) (seen (D.told disk.new))) }
-    ensures only { OnlyWrites (sibling 113 name.now) (D.told disk.old) (D.told disk.new) }
-    ensures firm { OnOk result (Leaves (IsFirm (sibling 113 name.now)) (D.told disk.old) (D.told disk.new)) }
+    ensures view { OnOk result (Becomes (altered (q_file name.now) (appended (edits_text edits.now))) (seen (D.told disk.old)) (seen (D.told disk.new))) }
+    ensures only { OnlyWrites (q_file name.now) (D.told disk.old) (D.told disk.new) }
+    ensures firm { OnOk result (Leaves (IsFirm (q_file name.now)) (D.told disk.old) (D.told disk.new)) }
     ensures later { D.faults disk.old ≤ D.faults disk.new }
     ensures cause { IsErrOf result DiskRefusal.Failed → Rose (D.faults disk.old) (D.faults disk.new) }
 {
@@ -56,10 +56,10 @@ fn append_q<D: Disk>(edits: &Edits, disk: &mut D, name: &Name) -> Result<(), Dis
 pub fn prepare_p<D: Disk>(edits: &Edits, disk: &mut D, name: &Name) -> Result<(), DiskRefusal>
     requires sfile { IsSfile name.now }
     requires edits { All IsEdit edits.now }
-    ensures view { OnOk result (Becomes (λ v. put v (sibling 113 name.now) (Some (written_pfile edits.now))) (seen (D.told disk.old)) (seen (D.told disk.new))) }
-    ensures view_err { OnErr result (Moves (bytes_eq (sibling 113 name.now)) (λ v. v) (seen (D.told disk.old)) (seen (D.told disk.new))) }
-    ensures touches { TouchesOnly (bytes_eq (sibling 113 name.now)) (D.told disk.old) (D.told disk.new) }
-    ensures firm { OnOk result (Leaves (IsFirm (sibling 113 name.now)) (D.told disk.old) (D.told disk.new)) }
+    ensures view { OnOk result (Becomes (λ v. put v (q_file name.now) (Some (written_pfile edits.now))) (seen (D.told disk.old)) (seen (D.told disk.new))) }
+    ensures view_err { OnErr result (Moves (bytes_eq (q_file name.now)) (λ v. v) (seen (D.told disk.old)) (seen (D.told disk.new))) }
+    ensures touches { TouchesOnly (bytes_eq (q_file name.now)) (D.told disk.old) (D.told disk.new) }
+    ensures firm { OnOk result (Leaves (IsFirm (q_file name.now)) (D.told disk.old) (D.told disk.new)) }
     ensures later { D.faults disk.old ≤ D.faults disk.new }
     ensures cause { IsErrOf result DiskRefusal.Failed → Rose (D.faults disk.old) (D.faults disk.new) }
 {

@@ -1,6 +1,6 @@
 ghost use Rattle.std.specs.Prelude.{◌≡◌, ◌≤◌, Some, IfSome, IsErrOf, OnErr, OnOk, option_map};
 ghost use Rattle.std.specs.Str.{bytes_eq};
-ghost use Rattle.sccs_base.specs.Name.{IsSfile, sibling};
+ghost use Rattle.sccs_base.specs.Name.{IsSfile, sibling, x_file};
 ghost use Rattle.sccs_base.specs.Stream.{Rose};
 ghost use Rattle.sccs_disk.specs.Calls.{HasRange, IsThere};
 ghost use Rattle.sccs_disk.specs.Effects.{altered, empty_file, protected};
@@ -116,10 +116,10 @@ fn write_sum<D: Disk>(disk: &mut D, name: &Name, sum: u16) -> Result<(), DiskRef
 /// Puts the digits of the plain sum into the sum line of the x-file, protects the file and syncs it.
 pub fn finish_x<D: Disk>(disk: &mut D, name: &Name, sum: &Sum) -> Result<(), DiskRefusal>
     requires sfile { IsSfile name.now }
-    requires there { HasRange (sibling 120 name.now) 2 5 (D.told disk.old) }
-    ensures view { OnOk result (Becomes (altered (sibling 120 name.now) (summed sum.now.0)) (seen (D.told disk.old)) (seen (D.told disk.new))) }
-    ensures only { OnlyWrites (sibling 120 name.now) (D.told disk.old) (D.told disk.new) }
-    ensures firm { OnOk result (Leaves (IsFirm (sibling 120 name.now)) (D.told disk.old) (D.told disk.new)) }
+    requires there { HasRange (x_file name.now) 2 5 (D.told disk.old) }
+    ensures view { OnOk result (Becomes (altered (x_file name.now) (summed sum.now.0)) (seen (D.told disk.old)) (seen (D.told disk.new))) }
+    ensures only { OnlyWrites (x_file name.now) (D.told disk.old) (D.told disk.new) }
+    ensures firm { OnOk result (Leaves (IsFirm (x_file name.now)) (D.told disk.old) (D.told disk.new)) }
     ensures later { D.faults disk.old ≤ D.faults disk.new }
     ensures cause { IsErrOf result DiskRefusal.Failed → Rose (D.faults disk.old) (D.faults disk.new) }
 {

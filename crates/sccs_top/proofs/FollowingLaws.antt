@@ -1,7 +1,7 @@
 -- Where a run ended the next one may begin, and so where it was stopped and all names were recovered.
 use Rattle.std.proofs.Common.{◌≡◌, ◌≢◌, ℕ, ◌≤◌, true, Bool, List, [], ◌∷◌, length, Option, is_some, Result, Err, sym, ap, ◌∙◌}
 use Rattle.std.specs.List.{AllByRecursion}
-use Rattle.sccs_base.specs.Name.{IsSfile, sibling}
+use Rattle.sccs_base.specs.Name.{IsSfile, p_file}
 use Rattle.sccs_disk.specs.Files.{Content, Folder, Model, View, view_of}
 use Rattle.sccs_disk.specs.Images.{Allows}
 use Rattle.sccs_images.specs.Touches.{Each, earlier, newest}
@@ -32,7 +32,7 @@ may_follow x w r folder ts a b m past run other = record {
 
 all_recovers : (w u : View) → AllRecovered w u → RecoversAs w u
 all_recovers w u all = λ n sfile.
-    recovered_is n u sfile ∙ (ap (λ (o : Option Content). recovered (u n) (u (sibling 112 n)) (is_some o)) (all.free n sfile) ∙ all.pairs n sfile)
+    recovered_is n u sfile ∙ (ap (λ (o : Option Content). recovered (u n) (u (p_file n)) (is_some o)) (all.free n sfile) ∙ all.pairs n sfile)
 
 each_both : (P Q R : View → Type 0) (added : List Model) (m : Model) → ((w : View) → P w → Q w → R w) → Each (Allows P) added m → Each (Allows Q) added m → Each (Allows R) added m
 each_both P Q R [] m both one two = λ w image. both w (one w image) (two w image)

@@ -1,7 +1,7 @@
 -- How a run ends whose steps end so.
 use Rattle.std.proofs.Common.{◌≡◌, ◌≢◌, ℕ, Bool, true, false, cond, ◌&&◌, ◌||◌, List, [], ◌∷◌, Option, None, Some, IfSome, IsOk, Result, Ok, Err, inl, inr, refl, sym, ap, subst, ◌∙◌}
 use Rattle.std.proofs.lemmas.List.{append-nil}
-use Rattle.sccs_base.specs.Name.{sibling}
+use Rattle.sccs_base.specs.Name.{p_file, z_file}
 use Rattle.sccs_base.specs.Stream.{GivesOk, GivesSome}
 use Rattle.sccs_base.proofs.Gifts.{gives_none, some_none, some_of_whole}
 use Rattle.sccs_disk.specs.Files.{Folder, View, view_in, view_of}
@@ -49,8 +49,8 @@ spares_steps x (t ∷ ts) =
     let rest : Spares (working_of x ts) = spares_steps x ts in
     record {
       s = λ n sfile. neither (x.fits t.name) (is_working t.name n) (working_of x ts n) (working_s t.name n sfile) (rest.s n sfile);
-      p = λ n sfile. neither (x.fits t.name) (is_working t.name (sibling 112 n)) (working_of x ts (sibling 112 n)) refl (rest.p n sfile);
-      z = λ n sfile. neither (x.fits t.name) (is_working t.name (sibling 122 n)) (working_of x ts (sibling 122 n)) refl (rest.z n sfile);
+      p = λ n sfile. neither (x.fits t.name) (is_working t.name (p_file n)) (working_of x ts (p_file n)) refl (rest.p n sfile);
+      z = λ n sfile. neither (x.fits t.name) (is_working t.name (z_file n)) (working_of x ts (z_file n)) refl (rest.z n sfile);
     }
 
 spares_nowhere : Spares nowhere

@@ -1,6 +1,6 @@
 -- Runs one after another: where one ended, and where a stop and the recovery of all names leave it, the next one may begin.
 use Rattle.std.specs.Prelude.{◌≡◌, ℕ, ◌≤◌, List, length, None}
-use Rattle.sccs_base.specs.Name.{IsSfile, sibling}
+use Rattle.sccs_base.specs.Name.{IsSfile, z_file}
 use Rattle.sccs_disk.specs.Files.{Folder, Model, View, view_of}
 use Rattle.sccs_disk.specs.Told.{Told, Tells}
 use Rattle.sccs_moments.specs.Calm.{IsCalm}
@@ -19,7 +19,7 @@ pub record MayFollow (v : View) (told : Told) : Type 0 where
 -- All names are recovered: each has the s-file and the p-file that recovery makes of w, and none is locked.
 pub record AllRecovered (w u : View) : Type 0 where
   pub pairs : (n : List ℕ) → IsSfile n → pair_of u n ≡ pair_of (recover n w) n
-  pub free : (n : List ℕ) → IsSfile n → u (sibling 122 n) ≡ None
+  pub free : (n : List ℕ) → IsSfile n → u (z_file n) ≡ None
 
 -- The s-files and p-files are those to which a folder recovers after one number of steps.
 pub record IsPrefix (folder : Folder) (ts : List NamedStep) (u : View) : Type 0 where

@@ -2,7 +2,7 @@
 use Rattle.std.proofs.Common.{◌≡◌, ◌⊎◌, ℕ, zero, suc, Bool, true, false, ◌||◌, cond, List, [], ◌++◌, map, Option, None, Some, IfSome, IsSome, Result, Ok, Err, inl, inr, refl, sym, ap, subst, ◌∙◌}
 use Rattle.std.specs.Prelude.{is_none}
 use Rattle.std.specs.Str.{bytes_eq}
-use Rattle.sccs_base.specs.Name.{IsSfile, sibling}
+use Rattle.sccs_base.specs.Name.{IsSfile, p_file, q_file, x_file, y_file, z_file}
 use Rattle.sccs_base.specs.Stream.{GivesOk, GivesSome}
 use Rattle.sccs_base.proofs.Gifts.{gives_both, gives_then, some_longer, some_none, some_of_whole}
 use Rattle.sccs_sid.specs.declared.refusals.Refusal.TheVariants as refusals
@@ -27,9 +27,9 @@ use Rattle.sccs_transactions.specs.declared.prepared.Prepared.{Prepared}
 -- ---- the lock
 
 -- the view before the lock
-pub before_lock : (n : List ℕ) (v : View) → v (sibling 122 n) ≡ None → unlocked n (locked n v) ≡ v
+pub before_lock : (n : List ℕ) (v : View) → v (z_file n) ≡ None → unlocked n (locked n v) ≡ v
 before_lock n v free =
-    put_again v (sibling 122 n) (Some empty_file) None ∙ (ap (λ (o : Option Content). put v (sibling 122 n) o) (sym free) ∙ put_back v (sibling 122 n))
+    put_again v (z_file n) (Some empty_file) None ∙ (ap (λ (o : Option Content). put v (z_file n) o) (sym free) ∙ put_back v (z_file n))
 
 pub free_step : (x : Changing) (n i : List ℕ) (named : List (Option Content)) (f : Files) → f.z ≡ None → locking_step x.outcome n i named f ≡ x.outcome n i named f
 unfolding locking_step
@@ -57,7 +57,7 @@ same_unmade n text v od out err is = record {
   err = refl;
 }
 
-pub locked_steps : (x : Changing) (n : List ℕ) (left : Option (List ℕ)) (oa od : Option View) (out err : Option (List ℕ)) → od ≡ oa → IfSome oa (λ (v : View). IsSome (v (sibling 122 n)))
+pub locked_steps : (x : Changing) (n : List ℕ) (left : Option (List ℕ)) (oa od : Option View) (out err : Option (List ℕ)) → od ≡ oa → IfSome oa (λ (v : View). IsSome (v (z_file n)))
     → Steps x (Err (Refused refusals.Locked)) n left (world oa out err) (world od out err)
 locked_steps x n left None od out err same taken = tt
 locked_steps x n left (Some v) od out err same taken = λ i heard.
@@ -67,7 +67,7 @@ pub memory_steps : (x : Changing) (n : List ℕ) (left : Option (List ℕ)) (oa 
 memory_steps x n left None od out err same = tt
 memory_steps x n left (Some v) od out err same = λ i heard. same_unmade n _ v od out err same
 
-pub failed_steps : (x : Changing) (n : List ℕ) (left : Option (List ℕ)) (oa od : Option View) (out err : Option (List ℕ)) → Moves (bytes_eq (sibling 122 n)) (λ v. v) oa od
+pub failed_steps : (x : Changing) (n : List ℕ) (left : Option (List ℕ)) (oa od : Option View) (out err : Option (List ℕ)) → Moves (bytes_eq (z_file n)) (λ v. v) oa od
     → Steps x (Err DiskFault) n left (world oa out err) (world od out err)
 failed_steps x n left None od out err moves = tt
 failed_steps x n left (Some v) None out err moves = absurd moves
@@ -77,17 +77,17 @@ failed_steps x n left (Some v) (Some w) out err moves = λ i heard.
 -- ---- giving up
 
 -- the views before the lock, after preparing and at the end: only working files have changed
-kept_at : (n : List ℕ) (v u : View) → v (sibling 122 n) ≡ None → ((k : List ℕ) → is_working n k ≡ false → u k ≡ locked n v k) → (k : List ℕ) → is_working n k ≡ false → abandoned n u k ≡ v k
-kept_at n v u free prepared k h = by (name_cases (sibling 122 n) k)
+kept_at : (n : List ℕ) (v u : View) → v (z_file n) ≡ None → ((k : List ℕ) → is_working n k ≡ false → u k ≡ locked n v k) → (k : List ℕ) → is_working n k ≡ false → abandoned n u k ≡ v k
+kept_at n v u free prepared k h = by (name_cases (z_file n) k)
   where
     cleared_at : (k : List ℕ) → is_working n k ≡ false → cleared n u k ≡ u k
     cleared_at k h =
-        put_other (without (sibling 113 n) (without (sibling 120 n) u)) (sibling 121 n) k None (no_y n k h)
-        ∙ (put_other (without (sibling 120 n) u) (sibling 113 n) k None (no_q n k h) ∙ put_other u (sibling 120 n) k None (no_x n k h))
+        put_other (without (q_file n) (without (x_file n) u)) (y_file n) k None (no_y n k h)
+        ∙ (put_other (without (x_file n) u) (q_file n) k None (no_q n k h) ∙ put_other u (x_file n) k None (no_x n k h))
 
-    by : (sibling 122 n ≡ k) ⊎ (bytes_eq (sibling 122 n) k ≡ false) → abandoned n u k ≡ v k
-    by (inl is) = subst (λ m. abandoned n u m ≡ v m) is (put_same (cleared n u) (sibling 122 n) None ∙ sym free)
-    by (inr other) = put_other (cleared n u) (sibling 122 n) k None other ∙ (cleared_at k h ∙ (prepared k h ∙ put_other v (sibling 122 n) k (Some empty_file) other))
+    by : (z_file n ≡ k) ⊎ (bytes_eq (z_file n) k ≡ false) → abandoned n u k ≡ v k
+    by (inl is) = subst (λ m. abandoned n u m ≡ v m) is (put_same (cleared n u) (z_file n) None ∙ sym free)
+    by (inr other) = put_other (cleared n u) (z_file n) k None other ∙ (cleared_at k h ∙ (prepared k h ∙ put_other v (z_file n) k (Some empty_file) other))
 
 gone_by : (x q y z : Bool) (o : Option Content) → (x || (q || y)) ≡ true → cond z None (cond y None (cond q None (cond x None o))) ≡ None
 gone_by x q y true o is = refl
@@ -97,10 +97,10 @@ gone_by true false false false o is = refl
 gone_by false false false false o is = cc
 
 gone_at : (n : List ℕ) (u : View) (k : List ℕ) → is_working n k ≡ true → abandoned n u k ≡ None
-gone_at n u k h = gone_by (bytes_eq (sibling 120 n) k) (bytes_eq (sibling 113 n) k) (bytes_eq (sibling 121 n) k) (bytes_eq (sibling 122 n) k) (u k) h
+gone_at n u k h = gone_by (bytes_eq (x_file n) k) (bytes_eq (q_file n) k) (bytes_eq (y_file n) k) (bytes_eq (z_file n) k) (u k) h
 
 -- nothing is committed, and working files are gone
-pub given_up : (n text : List ℕ) (v : View) (ob2 od : Option View) (out out2 err : Option (List ℕ)) → v (sibling 122 n) ≡ None → Moves (is_working n) (λ u. u) (Some (locked n v)) ob2 → Becomes (abandoned n) ob2 od → GivesSome out out2 text
+pub given_up : (n text : List ℕ) (v : View) (ob2 od : Option View) (out out2 err : Option (List ℕ)) → v (z_file n) ≡ None → Moves (is_working n) (λ u. u) (Some (locked n v)) ob2 → Becomes (abandoned n) ob2 od → GivesSome out out2 text
     → Uncommitted n text (world (Some v) out err) (world od out2 err)
 given_up n text v None od out out2 err free moves gone gives = absurd moves
 given_up n text v (Some u) od out out2 err free moves gone gives = record {
@@ -113,7 +113,7 @@ given_up n text v (Some u) od out out2 err free moves gone gives = record {
 left_alone : (n : List ℕ) (v : View) (ob2 od : Option View) → Moves (is_working n) (λ u. u) (Some (locked n v)) ob2 → Moves (is_left n) (λ u. u) ob2 od → Moves (is_left n) (λ u. u) (Some v) od
 left_alone n v None od moves broken = absurd moves
 left_alone n v (Some u) None moves broken = absurd broken
-left_alone n v (Some u) (Some w) moves broken = λ k h. broken k h ∙ (moves k (no_working n k h) ∙ put_other v (sibling 122 n) k (Some empty_file) (no_z n k h))
+left_alone n v (Some u) (Some w) moves broken = λ k h. broken k h ∙ (moves k (no_working n k h) ∙ put_other v (z_file n) k (Some empty_file) (no_z n k h))
 
 pub broken_off : (n : List ℕ) (o : Outcome) (v : View) (ob2 od : Option View) (out out2 err : Option (List ℕ)) → Moves (is_working n) (λ u. u) (Some (locked n v)) ob2 → Moves (is_left n) (λ u. u) ob2 od → GivesSome out out2 (effect_of n o).text
     → Interrupted n o (world (Some v) out err) (world od out2 err)
@@ -122,12 +122,12 @@ broken_off n o v ob2 od out out2 err moves broken gives = record { view = (0, le
 pub gone_left : (n : List ℕ) (ob2 od : Option View) → Becomes (abandoned n) ob2 od → Moves (is_left n) (λ u. u) ob2 od
 gone_left n None od is = is
 gone_left n (Some u) od is = subst (λ (o : Option View). Moves (is_left n) (λ w. w) (Some u) o) (sym is) (λ k h.
-    put_other (cleared n u) (sibling 122 n) k None (no_z n k h)
-    ∙ (put_other (without (sibling 113 n) (without (sibling 120 n) u)) (sibling 121 n) k None (no_y n k (no_working n k h))
-    ∙ (put_other (without (sibling 120 n) u) (sibling 113 n) k None (no_q n k (no_working n k h)) ∙ put_other u (sibling 120 n) k None (no_x n k (no_working n k h)))))
+    put_other (cleared n u) (z_file n) k None (no_z n k h)
+    ∙ (put_other (without (q_file n) (without (x_file n) u)) (y_file n) k None (no_y n k (no_working n k h))
+    ∙ (put_other (without (x_file n) u) (q_file n) k None (no_q n k (no_working n k h)) ∙ put_other u (x_file n) k None (no_x n k (no_working n k h)))))
 
 -- how it ends whose preparing failed so
-gave_up : (fault : StepFault) (n : List ℕ) (o : Outcome) (v : View) (ob2 od : Option View) (out out2 err : Option (List ℕ)) → v (sibling 122 n) ≡ None → Prepares (Err fault) n o (world (Some (locked n v)) out err) (world ob2 out2 err) → Becomes (abandoned n) ob2 od
+gave_up : (fault : StepFault) (n : List ℕ) (o : Outcome) (v : View) (ob2 od : Option View) (out out2 err : Option (List ℕ)) → v (z_file n) ≡ None → Prepares (Err fault) n o (world (Some (locked n v)) out err) (world ob2 out2 err) → Becomes (abandoned n) ob2 od
     → Fails fault n o (world (Some v) out err) (world od out2 err)
 gave_up (Refused refusal) n o v ob2 od out out2 err free prepares gone = (prepares.0, given_up n [] v ob2 od out out2 err free prepares.1.view gone prepares.1.out)
 gave_up Memory n o v ob2 od out out2 err free prepares gone = given_up n _ v ob2 od out out2 err free prepares.view gone prepares.out
@@ -142,7 +142,7 @@ unmade_of ReadFault n o w w2 prepares = prepares
 unmade_of WriteFault n o w w2 prepares = prepares
 unmade_of DiskFault n o w w2 prepares = prepares
 
-ends_given_up : (fault : StepFault) (r : Result (Unit {0}) StepFault) (n : List ℕ) (o : Outcome) (v : View) (ob2 od : Option View) (out out2 err : Option (List ℕ)) → v (sibling 122 n) ≡ None → Prepares (Err fault) n o (world (Some (locked n v)) out err) (world ob2 out2 err)
+ends_given_up : (fault : StepFault) (r : Result (Unit {0}) StepFault) (n : List ℕ) (o : Outcome) (v : View) (ob2 od : Option View) (out out2 err : Option (List ℕ)) → v (z_file n) ≡ None → Prepares (Err fault) n o (world (Some (locked n v)) out err) (world ob2 out2 err)
     → GivesUp r fault n (world ob2 out2 err) (world od out2 err) → Meets (λ (done : Unit {0}). 0) r n o (world (Some v) out err) (world od out2 err)
 ends_given_up fault r n o v ob2 od out out2 err free prepares (inl gone) =
     subst (λ (s : Result (Unit {0}) StepFault). Meets (λ (done : Unit {0}). 0) s n o (world (Some v) out err) (world od out2 err)) (sym gone.0) (gave_up fault n o v ob2 od out out2 err free prepares gone.1)
@@ -156,21 +156,21 @@ moved_as : (v : View) (n : List ℕ) (new : Option Files) (f : Files) → new �
 moved_as v n new f is = ap (λ (o : Option Files). moved v n o) is
 
 -- the views before the lock, at the commit and at the end
-pub committed_moves : (n : List ℕ) (c : Plan) (new : Option Files) (v : View) (ob2 od : Option View) → IsSfile n → v (sibling 122 n) ≡ None → Moves (is_working n) (λ u. u) (Some (locked n v)) ob2 → IfSome ob2 (λ u. new ≡ Some (files_after n c u)) → Becomes (committed n c) ob2 od
+pub committed_moves : (n : List ℕ) (c : Plan) (new : Option Files) (v : View) (ob2 od : Option View) → IsSfile n → v (z_file n) ≡ None → Moves (is_working n) (λ u. u) (Some (locked n v)) ob2 → IfSome ob2 (λ u. new ≡ Some (files_after n c u)) → Becomes (committed n c) ob2 od
     → Moves (is_working n) (λ u. moved u n new) (Some v) od
 committed_moves n c new v None od sfile free moves files done = absurd moves
 committed_moves n c new v (Some u) od sfile free moves files done =
     subst (λ (o : Option View). Moves (is_working n) (λ w. moved w n new) (Some v) o) (sym done) (λ k h.
-    committed_at n c u v k sfile h (λ other. moves k h ∙ put_other v (sibling 122 n) k (Some empty_file) other) ∙ sym (ap (λ (w : View). w k) (moved_as v n new (files_after n c u) files)))
+    committed_at n c u v k sfile h (λ other. moves k h ∙ put_other v (z_file n) k (Some empty_file) other) ∙ sym (ap (λ (w : View). w k) (moved_as v n new (files_after n c u) files)))
 
 -- the view after some of a commit's changes, as that after some first files
 part_first : (i : ℕ) (n : List ℕ) (c : Plan) (u v : View) (k : List ℕ) → IsSfile n → is_left n k ≡ false → u k ≡ v k → part_of n c i u k ≡ first_moved i v n (Some (files_after n c u)) k
 part_first zero n c u v k sfile h same = same
 part_first (suc zero) n c u v k sfile h same = first_is n c u k (no_working n k h) ∙ ap (λ (o : Option Content). cond (bytes_eq n k) (files_after n c u).s o) same
 part_first (suc (suc zero)) n c u v k sfile h same =
-    second_is n c u k sfile (no_working n k h) ∙ ap (λ (o : Option Content). cond (bytes_eq (sibling 112 n) k) (files_after n c u).p (cond (bytes_eq n k) (files_after n c u).s o)) same
+    second_is n c u k sfile (no_working n k h) ∙ ap (λ (o : Option Content). cond (bytes_eq (p_file n) k) (files_after n c u).p (cond (bytes_eq n k) (files_after n c u).s o)) same
 part_first (suc (suc (suc zero))) n c u v k sfile h same =
-    sym (put_other (g_swapped n c (p_swapped n c (s_swapped n c u))) (sibling 122 n) k None (no_z n k h)) ∙ committed_at n c u v k sfile (no_working n k h) (λ other. same)
+    sym (put_other (g_swapped n c (p_swapped n c (s_swapped n c u))) (z_file n) k None (no_z n k h)) ∙ committed_at n c u v k sfile (no_working n k h) (λ other. same)
 part_first (suc (suc (suc (suc i)))) n c u v k sfile h same = committed_at n c u v k sfile (no_working n k h) (λ other. same)
 
 part_moves : (n : List ℕ) (c : Plan) (new : Option Files) (v : View) (ob2 od : Option View) → IsSfile n → Moves (is_working n) (λ u. u) (Some (locked n v)) ob2 → IfSome ob2 (λ u. new ≡ Some (files_after n c u)) → IsPart n c ob2 od
@@ -179,7 +179,7 @@ part_moves n c new v None od sfile moves files part = absurd moves
 part_moves n c new v (Some u) od sfile moves files part = (
   part.0,
   subst (λ (o : Option View). Moves (is_left n) (λ w. first_moved part.0 w n new) (Some v) o) (sym part.1) (λ k h.
-      part_first part.0 n c u v k sfile h (moves k (no_working n k h) ∙ put_other v (sibling 122 n) k (Some empty_file) (no_z n k h))
+      part_first part.0 n c u v k sfile h (moves k (no_working n k h) ∙ put_other v (z_file n) k (Some empty_file) (no_z n k h))
       ∙ sym (ap (λ (f : Option Files). first_moved part.0 v n f k) files)),
 )
 
@@ -190,7 +190,7 @@ text_cut : (a b c : Option (List ℕ)) (text out report : List ℕ) → GivesOk 
 text_cut a b c text out report first second is = subst (λ r. GivesSome a c (text ++ r)) (sym is) (gives_then a b c text report first second)
 
 -- the report of a commit was cut
-pub cut_finished : (n : List ℕ) (p : Prepared) (o : Outcome) (v : View) (ob2 od : Option View) (out out2 out3 err err3 : Option (List ℕ)) → IsSfile n → v (sibling 122 n) ≡ None → IsPrepared n p o (world (Some (locked n v)) out err) (world ob2 out2 err)
+pub cut_finished : (n : List ℕ) (p : Prepared) (o : Outcome) (v : View) (ob2 od : Option View) (out out2 out3 err err3 : Option (List ℕ)) → IsSfile n → v (z_file n) ≡ None → IsPrepared n p o (world (Some (locked n v)) out err) (world ob2 out2 err)
     → Finishes (Err WriteFault) n p (world ob2 out2 err) (world od out3 err3) → (d : StepEffect) × (o ≡ Ok d) × ReportCut n d (world (Some v) out err) (world od out3 err3)
 cut_finished n p o v ob2 od out out2 out3 err err3 sfile free prepared finishes = (
   prepared.effect,
@@ -204,7 +204,7 @@ cut_finished n p o v ob2 od out out2 out3 err err3 sfile free prepared finishes 
 )
 
 -- how it ends whose files were prepared
-pub ends_finished : (r : Result (Unit {0}) StepFault) (n : List ℕ) (p : Prepared) (o : Outcome) (v : View) (ob2 od : Option View) (out out2 out3 err err3 : Option (List ℕ)) → IsSfile n → v (sibling 122 n) ≡ None → IsPrepared n p o (world (Some (locked n v)) out err) (world ob2 out2 err)
+pub ends_finished : (r : Result (Unit {0}) StepFault) (n : List ℕ) (p : Prepared) (o : Outcome) (v : View) (ob2 od : Option View) (out out2 out3 err err3 : Option (List ℕ)) → IsSfile n → v (z_file n) ≡ None → IsPrepared n p o (world (Some (locked n v)) out err) (world ob2 out2 err)
     → Finishes r n p (world ob2 out2 err) (world od out3 err3) → Meets (λ (done : Unit {0}). 0) r n o (world (Some v) out err) (world od out3 err3)
 ends_finished (Ok done) n p o v ob2 od out out2 out3 err err3 sfile free prepared finishes = (
   prepared.effect,
@@ -230,9 +230,9 @@ ends_finished (Err ReadFault) n p o v ob2 od out out2 out3 err err3 sfile free p
 -- ---- the whole call
 
 -- a part of the call behind the lock, as the step sees it
-behind_lock : (x : Changing) (r : Result (Unit {0}) StepFault) (q : Result Prepared StepFault) (n : List ℕ) (left : Option (List ℕ)) (oa ob ob2 od : Option View) (out out2 out3 err err3 : Option (List ℕ)) → Becomes (locked n) oa ob → IfSome oa (λ (v : View). v (sibling 122 n) ≡ None)
+behind_lock : (x : Changing) (r : Result (Unit {0}) StepFault) (q : Result Prepared StepFault) (n : List ℕ) (left : Option (List ℕ)) (oa ob ob2 od : Option View) (out out2 out3 err err3 : Option (List ℕ)) → Becomes (locked n) oa ob → IfSome oa (λ (v : View). v (z_file n) ≡ None)
     → PreparesChange x q n left (world ob out err) (world ob2 out2 err)
-    → ((v : View) (o : Outcome) → v (sibling 122 n) ≡ None → Prepares q n o (world (Some (locked n v)) out err) (world ob2 out2 err) → Meets (λ (done : Unit {0}). 0) r n o (world (Some v) out err) (world od out3 err3))
+    → ((v : View) (o : Outcome) → v (z_file n) ≡ None → Prepares q n o (world (Some (locked n v)) out err) (world ob2 out2 err) → Meets (λ (done : Unit {0}). 0) r n o (world (Some v) out err) (world od out3 err3))
     → Steps x r n left (world oa out err) (world od out3 err3)
 behind_lock x r q n left None ob ob2 od out out2 out3 err err3 lock free prepares ends = tt
 behind_lock x r q n left (Some v) ob ob2 od out out2 out3 err err3 lock free prepares ends = λ i heard.
@@ -241,13 +241,13 @@ behind_lock x r q n left (Some v) ob ob2 od out out2 out3 err err3 lock free pre
     subst (λ (u : View). Prepares q n (x.outcome n i (map u x.named) (look u n)) (world (Some (locked n v)) out err) (world ob2 out2 err)) (before_lock n v free) here in
     subst (λ (o : Outcome). Meets (λ (done : Unit {0}). 0) r n o (world (Some v) out err) (world od out3 err3)) (sym (free_step x n i (map v x.named) (look v n) free)) (ends v (x.outcome n i (map v x.named) (look v n)) free seen_so)
 
-pub given_up_steps : (x : Changing) (fault : StepFault) (r : Result (Unit {0}) StepFault) (q : Result Prepared StepFault) (n : List ℕ) (left : Option (List ℕ)) (oa ob ob2 od : Option View) (out out2 err : Option (List ℕ)) → q ≡ Err fault → Becomes (locked n) oa ob → IfSome oa (λ (v : View). v (sibling 122 n) ≡ None)
+pub given_up_steps : (x : Changing) (fault : StepFault) (r : Result (Unit {0}) StepFault) (q : Result Prepared StepFault) (n : List ℕ) (left : Option (List ℕ)) (oa ob ob2 od : Option View) (out out2 err : Option (List ℕ)) → q ≡ Err fault → Becomes (locked n) oa ob → IfSome oa (λ (v : View). v (z_file n) ≡ None)
     → PreparesChange x q n left (world ob out err) (world ob2 out2 err) → GivesUp r fault n (world ob2 out2 err) (world od out2 err) → Steps x r n left (world oa out err) (world od out2 err)
 given_up_steps x fault r q n left oa ob ob2 od out out2 err is lock free prepares gives_up =
     behind_lock x r (Err fault) n left oa ob ob2 od out out2 out2 err err lock free (subst (λ (p : Result Prepared StepFault). PreparesChange x p n left (world ob out err) (world ob2 out2 err)) is prepares)
     (λ v o unheld prep. ends_given_up fault r n o v ob2 od out out2 err unheld prep gives_up)
 
-pub finished_steps : (x : Changing) (p : Prepared) (r : Result (Unit {0}) StepFault) (q : Result Prepared StepFault) (n : List ℕ) (left : Option (List ℕ)) (oa ob ob2 od : Option View) (out out2 out3 err err3 : Option (List ℕ)) → IsSfile n → q ≡ Ok p → Becomes (locked n) oa ob → IfSome oa (λ (v : View). v (sibling 122 n) ≡ None)
+pub finished_steps : (x : Changing) (p : Prepared) (r : Result (Unit {0}) StepFault) (q : Result Prepared StepFault) (n : List ℕ) (left : Option (List ℕ)) (oa ob ob2 od : Option View) (out out2 out3 err err3 : Option (List ℕ)) → IsSfile n → q ≡ Ok p → Becomes (locked n) oa ob → IfSome oa (λ (v : View). v (z_file n) ≡ None)
     → PreparesChange x q n left (world ob out err) (world ob2 out2 err) → Finishes r n p (world ob2 out2 err) (world od out3 err3) → Steps x r n left (world oa out err) (world od out3 err3)
 finished_steps x p r q n left oa ob ob2 od out out2 out3 err err3 sfile is lock free prepares finishes =
     behind_lock x r (Ok p) n left oa ob ob2 od out out2 out3 err err3 lock free (subst (λ (s : Result Prepared StepFault). PreparesChange x s n left (world ob out err) (world ob2 out2 err)) is prepares)

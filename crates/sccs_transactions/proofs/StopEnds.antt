@@ -1,7 +1,7 @@
 -- What a stop leaves of a change, at each of its ends.
 use Rattle.std.proofs.Common.{◌≡◌, ℕ, Bool, true, false, List, [], map, drop, Option, None, Some, option_map, IfSome, Result, Ok, Err, is_some, inl, inr, refl, sym, ap, subst, ◌∙◌}
 use Rattle.std.specs.Str.{bytes_eq}
-use Rattle.sccs_base.specs.Name.{IsSfile, sibling}
+use Rattle.sccs_base.specs.Name.{IsSfile, p_file, q_file, x_file, z_file}
 use Rattle.sccs_sid.specs.declared.refusals.Refusal.{Refusal}
 use Rattle.sccs_sid.specs.declared.refusals.Refusal.TheVariants as refusals
 use Rattle.sccs_sid.specs.declared.refusals.StepFault.{StepFault}
@@ -53,25 +53,25 @@ at_memory x n left ta td out err m past i same is heard calm =
     subst (λ (t : Told). MeetsAt (locking x) (Err Memory) n (locking_step x.outcome n i (map (view_of m) x.named) (look (view_of m) n)) (view_of m) m past (scene t out err) (scene td out err)) (sym is)
     (memory_steps x n left (Some (view_of m)) (seen td) out err (ap seen (same ∙ is)) i heard, same_before m past td calm (same ∙ is))
 
-pub at_locked : (x : Changing) (n : List ℕ) (left : Option (List ℕ)) (ta td : Told) (out err : Option (List ℕ)) (m : Model) (past : List Model) (i : List ℕ) → td ≡ ta → IfSome (seen ta) (λ (v : View). is_some (v (sibling 122 n)) ≡ true) → ta ≡ Tells m past → IsHeard x.takes left i → IsCalm m → IsSafeFor (locking x) n (view_of m)
+pub at_locked : (x : Changing) (n : List ℕ) (left : Option (List ℕ)) (ta td : Told) (out err : Option (List ℕ)) (m : Model) (past : List Model) (i : List ℕ) → td ≡ ta → IfSome (seen ta) (λ (v : View). is_some (v (z_file n)) ≡ true) → ta ≡ Tells m past → IsHeard x.takes left i → IsCalm m → IsSafeFor (locking x) n (view_of m)
     → MeetsAt (locking x) (Err (Refused refusals.Locked)) n (locking_step x.outcome n i (map (view_of m) x.named) (look (view_of m) n)) (view_of m) m past (scene ta out err) (scene td out err)
 at_locked x n left ta td out err m past i same taken is heard calm safe =
-    let there : is_some (view_of m (sibling 122 n)) ≡ true = subst (λ (t : Told). IfSome (seen t) (λ (v : View). is_some (v (sibling 122 n)) ≡ true)) is taken in
+    let there : is_some (view_of m (z_file n)) ≡ true = subst (λ (t : Told). IfSome (seen t) (λ (v : View). is_some (v (z_file n)) ≡ true)) is taken in
     subst (λ (t : Told). MeetsAt (locking x) (Err (Refused refusals.Locked)) n (locking_step x.outcome n i (map (view_of m) x.named) (look (view_of m) n)) (view_of m) m past (scene t out err) (scene td out err)) (sym is) (
       locked_steps x n left (Some (view_of m)) (seen td) out err (ap seen (same ∙ is)) there i heard,
       refused_after (locking x) n (locking_step x.outcome n i (map (view_of m) x.named) (look (view_of m) n)) refusals.Locked (view_of m) m past td (locked_steps x n left (Some (view_of m)) (seen td) out err (ap seen (same ∙ is)) there i heard).0 safe (same_before m past td calm (same ∙ is)),
     )
 
 -- a lock that failed, whether the name was locked or not
-failed_before : (n : List ℕ) (ta td : Told) (m : Model) (past : List Model) (z : Option Content) → view_of m (sibling 122 n) ≡ z → IsSfile n → TouchesOnly (bytes_eq (sibling 122 n)) ta td → KeepsHeld n ta td → ta ≡ Tells m past → IsCalm m → (view_of m (sibling 122 n) ≡ None → IsSound n (view_of m)) → EndsBefore (view_of m) m past td
-failed_before n ta td m past None z sfile touches held is calm sound = ends_before n ta td m past sfile is calm (sound z) (only_wider (bytes_eq (sibling 122 n)) (is_left n) ta td (no_z n) touches)
+failed_before : (n : List ℕ) (ta td : Told) (m : Model) (past : List Model) (z : Option Content) → view_of m (z_file n) ≡ z → IsSfile n → TouchesOnly (bytes_eq (z_file n)) ta td → KeepsHeld n ta td → ta ≡ Tells m past → IsCalm m → (view_of m (z_file n) ≡ None → IsSound n (view_of m)) → EndsBefore (view_of m) m past td
+failed_before n ta td m past None z sfile touches held is calm sound = ends_before n ta td m past sfile is calm (sound z) (only_wider (bytes_eq (z_file n)) (is_left n) ta td (no_z n) touches)
 failed_before n ta td m past (Some c) z sfile touches held is calm sound = held m past is calm (ap is_some z)
 
-pub at_failed : (x : Changing) (n : List ℕ) (left : Option (List ℕ)) (ta td : Told) (out err : Option (List ℕ)) (m : Model) (past : List Model) (i : List ℕ) → IsSfile n → Moves (bytes_eq (sibling 122 n)) (λ v. v) (seen ta) (seen td) → TouchesOnly (bytes_eq (sibling 122 n)) ta td → KeepsHeld n ta td → ta ≡ Tells m past → IsHeard x.takes left i → IsCalm m → (view_of m (sibling 122 n) ≡ None → IsSound n (view_of m))
+pub at_failed : (x : Changing) (n : List ℕ) (left : Option (List ℕ)) (ta td : Told) (out err : Option (List ℕ)) (m : Model) (past : List Model) (i : List ℕ) → IsSfile n → Moves (bytes_eq (z_file n)) (λ v. v) (seen ta) (seen td) → TouchesOnly (bytes_eq (z_file n)) ta td → KeepsHeld n ta td → ta ≡ Tells m past → IsHeard x.takes left i → IsCalm m → (view_of m (z_file n) ≡ None → IsSound n (view_of m))
     → MeetsAt (locking x) (Err DiskFault) n (locking_step x.outcome n i (map (view_of m) x.named) (look (view_of m) n)) (view_of m) m past (scene ta out err) (scene td out err)
 at_failed x n left ta td out err m past i sfile moves touches held is heard calm sound =
-    let kept : EndsBefore (view_of m) m past td = failed_before n ta td m past (view_of m (sibling 122 n)) refl sfile touches held is calm sound in
-    let here : Moves (bytes_eq (sibling 122 n)) (λ v. v) (Some (view_of m)) (seen td) = subst (λ (t : Told). Moves (bytes_eq (sibling 122 n)) (λ v. v) (seen t) (seen td)) is moves in
+    let kept : EndsBefore (view_of m) m past td = failed_before n ta td m past (view_of m (z_file n)) refl sfile touches held is calm sound in
+    let here : Moves (bytes_eq (z_file n)) (λ v. v) (Some (view_of m)) (seen td) = subst (λ (t : Told). Moves (bytes_eq (z_file n)) (λ v. v) (seen t) (seen td)) is moves in
     subst (λ (t : Told). MeetsAt (locking x) (Err DiskFault) n (locking_step x.outcome n i (map (view_of m) x.named) (look (view_of m) n)) (view_of m) m past (scene t out err) (scene td out err)) (sym is)
     (failed_steps x n left (Some (view_of m)) (seen td) out err here i heard, (before_within (view_of m) (moved (view_of m) n (effect_of n (locking_step x.outcome n i (map (view_of m) x.named) (look (view_of m) n))).new) m past td kept, inr (recovers_before (view_of m) m past td kept)))
 
@@ -82,12 +82,12 @@ abbrev EndsSo : Action → Result (Unit {0}) StepFault → List ℕ → View →
 EndsSo y r n v m past td out err out3 err3 o = (met : Meets (λ (done : Unit {0}). 0) r n o (world (Some v) out err) (world (seen td) out3 err3)) × Ends (place_of r n o (world (Some v) out err) (world (seen td) out3 err3) met) y n v (moved v n (effect_of n o).new) m past td
 
 behind : (x : Changing) (r : Result (Unit {0}) StepFault) (q : Result Prepared StepFault) (n : List ℕ) (left : Option (List ℕ)) (ta tb tb2 td : Told) (out out2 out3 err err3 : Option (List ℕ)) (m : Model) (past : List Model) (i : List ℕ) → ta ≡ Tells m past → IsHeard x.takes left i
-    → Becomes (locked n) (seen ta) (seen tb) → IfSome (seen ta) (λ (v : View). v (sibling 122 n) ≡ None) → PreparesChange x q n left (world (seen tb) out err) (world (seen tb2) out2 err)
-    → ((o : Outcome) → view_of m (sibling 122 n) ≡ None → Prepares q n o (world (Some (locked n (view_of m))) out err) (world (seen tb2) out2 err) → EndsSo (locking x) r n (view_of m) m past td out err out3 err3 o)
+    → Becomes (locked n) (seen ta) (seen tb) → IfSome (seen ta) (λ (v : View). v (z_file n) ≡ None) → PreparesChange x q n left (world (seen tb) out err) (world (seen tb2) out2 err)
+    → ((o : Outcome) → view_of m (z_file n) ≡ None → Prepares q n o (world (Some (locked n (view_of m))) out err) (world (seen tb2) out2 err) → EndsSo (locking x) r n (view_of m) m past td out err out3 err3 o)
     → MeetsAt (locking x) r n (locking_step x.outcome n i (map (view_of m) x.named) (look (view_of m) n)) (view_of m) m past (scene ta out err) (scene td out3 err3)
 behind x r q n left ta tb tb2 td out out2 out3 err err3 m past i is heard lock free prepares ends =
     let v : View = view_of m in
-    let unheld : v (sibling 122 n) ≡ None = subst (λ (t : Told). IfSome (seen t) (λ (u : View). u (sibling 122 n) ≡ None)) is free in
+    let unheld : v (z_file n) ≡ None = subst (λ (t : Told). IfSome (seen t) (λ (u : View). u (z_file n) ≡ None)) is free in
     let told : seen tb ≡ Some (locked n v) = lock ∙ ap (λ (t : Told). option_map (locked n) (seen t)) is in
     let here = subst (λ (o : Option View). PreparesChange x q n left (world o out err) (world (seen tb2) out2 err)) told prepares i heard in
     let seen_so : Prepares q n (x.outcome n i (map v x.named) (look v n)) (world (Some (locked n v)) out err) (world (seen tb2) out2 err) =
@@ -97,7 +97,7 @@ behind x r q n left ta tb tb2 td out out2 out3 err err3 m past i is heard lock f
 
 -- ---- giving up
 
-given_so : (y : Action) (fault : StepFault) (n : List ℕ) (o : Outcome) (v : View) (m : Model) (past : List Model) (ob2 : Option View) (td : Told) (out out2 err : Option (List ℕ)) → v (sibling 122 n) ≡ None → Prepares (Err fault) n o (world (Some (locked n v)) out err) (world ob2 out2 err)
+given_so : (y : Action) (fault : StepFault) (n : List ℕ) (o : Outcome) (v : View) (m : Model) (past : List Model) (ob2 : Option View) (td : Told) (out out2 err : Option (List ℕ)) → v (z_file n) ≡ None → Prepares (Err fault) n o (world (Some (locked n v)) out err) (world ob2 out2 err)
     → Becomes (abandoned n) ob2 (seen td) → IsSafeFor y n v → EndsBefore v m past td → EndsSo y (Err fault) n v m past td out err out2 err o
 given_so y (Refused refusal) n o v m past ob2 td out out2 err free prepares gone safe kept =
     ((prepares.0, given_up n [] v ob2 (seen td) out out2 err free prepares.1.view gone prepares.1.out), refused_after y n o refusal v m past td prepares.0 safe kept)
@@ -107,7 +107,7 @@ given_so y WriteFault n o v m past ob2 td out out2 err free prepares gone safe k
 given_so y DiskFault n o v m past ob2 td out out2 err free prepares gone safe kept =
     (broken_off n o v ob2 (seen td) out out2 err prepares.view (gone_left n ob2 (seen td) gone) prepares.out, (before_within v (moved v n (effect_of n o).new) m past td kept, inr (recovers_before v m past td kept)))
 
-gives_so : (y : Action) (fault : StepFault) (r : Result (Unit {0}) StepFault) (n : List ℕ) (o : Outcome) (v : View) (m : Model) (past : List Model) (ob2 : Option View) (td : Told) (out out2 err : Option (List ℕ)) → v (sibling 122 n) ≡ None → Prepares (Err fault) n o (world (Some (locked n v)) out err) (world ob2 out2 err)
+gives_so : (y : Action) (fault : StepFault) (r : Result (Unit {0}) StepFault) (n : List ℕ) (o : Outcome) (v : View) (m : Model) (past : List Model) (ob2 : Option View) (td : Told) (out out2 err : Option (List ℕ)) → v (z_file n) ≡ None → Prepares (Err fault) n o (world (Some (locked n v)) out err) (world ob2 out2 err)
     → GivesUp r fault n (world ob2 out2 err) (world (seen td) out2 err) → IsSafeFor y n v → EndsBefore v m past td → EndsSo y r n v m past td out err out2 err o
 gives_so y fault r n o v m past ob2 td out out2 err free prepares (inl gone) safe kept =
     subst (λ (s : Result (Unit {0}) StepFault). EndsSo y s n v m past td out err out2 err o) (sym gone.0) (given_so y fault n o v m past ob2 td out out2 err free prepares gone.1 safe kept)
@@ -117,15 +117,15 @@ gives_so y fault r n o v m past ob2 td out out2 err free prepares (inr broken) s
     (broken_off n o v ob2 (seen td) out out2 err unmade.view broken.1 unmade.out, (before_within v (moved v n (effect_of n o).new) m past td kept, inr (recovers_before v m past td kept)))
 
 -- the lock and the working files are all that was touched
-all_left : (n : List ℕ) (ta tb tb2 : Told) → TouchesOnly (bytes_eq (sibling 122 n)) ta tb → TouchesOnly (is_working n) tb tb2 → TouchesOnly (is_left n) ta tb2
-all_left n ta tb tb2 lock working = only_then (is_left n) ta tb tb2 (only_wider (bytes_eq (sibling 122 n)) (is_left n) ta tb (no_z n) lock) (only_wider (is_working n) (is_left n) tb tb2 (no_working n) working)
+all_left : (n : List ℕ) (ta tb tb2 : Told) → TouchesOnly (bytes_eq (z_file n)) ta tb → TouchesOnly (is_working n) tb tb2 → TouchesOnly (is_left n) ta tb2
+all_left n ta tb tb2 lock working = only_then (is_left n) ta tb tb2 (only_wider (bytes_eq (z_file n)) (is_left n) ta tb (no_z n) lock) (only_wider (is_working n) (is_left n) tb tb2 (no_working n) working)
 
 pub at_given_up : (x : Changing) (fault : StepFault) (r : Result (Unit {0}) StepFault) (q : Result Prepared StepFault) (n : List ℕ) (left : Option (List ℕ)) (ta tb tb2 td : Told) (out out2 err : Option (List ℕ)) (m : Model) (past : List Model) (i : List ℕ) → IsSfile n → q ≡ Err fault
-    → Becomes (locked n) (seen ta) (seen tb) → IfSome (seen ta) (λ (v : View). v (sibling 122 n) ≡ None) → PreparesChange x q n left (world (seen tb) out err) (world (seen tb2) out2 err) → GivesUp r fault n (world (seen tb2) out2 err) (world (seen td) out2 err)
-    → TouchesOnly (bytes_eq (sibling 122 n)) ta tb → TouchesOnly (is_working n) tb tb2 → TouchesOnly (is_left n) tb2 td → ta ≡ Tells m past → IsHeard x.takes left i → IsCalm m → IsSafe n (view_of m)
+    → Becomes (locked n) (seen ta) (seen tb) → IfSome (seen ta) (λ (v : View). v (z_file n) ≡ None) → PreparesChange x q n left (world (seen tb) out err) (world (seen tb2) out2 err) → GivesUp r fault n (world (seen tb2) out2 err) (world (seen td) out2 err)
+    → TouchesOnly (bytes_eq (z_file n)) ta tb → TouchesOnly (is_working n) tb tb2 → TouchesOnly (is_left n) tb2 td → ta ≡ Tells m past → IsHeard x.takes left i → IsCalm m → IsSafe n (view_of m)
     → MeetsAt (locking x) r n (locking_step x.outcome n i (map (view_of m) x.named) (look (view_of m) n)) (view_of m) m past (scene ta out err) (scene td out2 err)
 at_given_up x fault r q n left ta tb tb2 td out out2 err m past i sfile failed lock free prepares gives locks working leaving is heard calm safe =
-    let kept : EndsBefore (view_of m) m past td = ends_before n ta td m past sfile is calm (safe.sound (subst (λ (t : Told). IfSome (seen t) (λ (u : View). u (sibling 122 n) ≡ None)) is free)) (only_then (is_left n) ta tb2 td (all_left n ta tb tb2 locks working) leaving) in
+    let kept : EndsBefore (view_of m) m past td = ends_before n ta td m past sfile is calm (safe.sound (subst (λ (t : Told). IfSome (seen t) (λ (u : View). u (z_file n) ≡ None)) is free)) (only_then (is_left n) ta tb2 td (all_left n ta tb tb2 locks working) leaving) in
     behind x r (Err fault) n left ta tb tb2 td out out2 out2 err err m past i is heard lock free (subst (λ (p : Result Prepared StepFault). PreparesChange x p n left (world (seen tb) out err) (world (seen tb2) out2 err)) failed prepares)
     (λ o unheld prep. gives_so (locking x) fault r n o (view_of m) m past (seen tb2) td out out2 err unheld prep gives (λ changes. safe) kept)
 
@@ -133,23 +133,23 @@ at_given_up x fault r q n left ta tb tb2 td out out2 err m past i sfile failed l
 
 -- the view after the commit, and after the step
 view_at : (n : List ℕ) (c : Plan) (v u : View) (k : List ℕ) → IsSfile n → ((k : List ℕ) → is_working n k ≡ false → u k ≡ locked n v k) → is_working n k ≡ false → committed n c u k ≡ placed v n (files_after n c u) k
-view_at n c v u k sfile moves h = committed_at n c u v k sfile h (λ other. moves k h ∙ put_other v (sibling 122 n) k (Some empty_file) other)
+view_at n c v u k sfile moves h = committed_at n c u v k sfile h (λ other. moves k h ∙ put_other v (z_file n) k (Some empty_file) other)
 
 recovers_moved : (n : List ℕ) (c : Plan) (v u : View) (new : Option Files) → IsSfile n → ((k : List ℕ) → is_working n k ≡ false → u k ≡ locked n v k) → new ≡ Some (files_after n c u) → RecoversAs (moved v n new) (committed n c u)
 recovers_moved n c v u new sfile moves is =
     subst (λ (o : Option Files). RecoversAs (moved v n o) (committed n c u)) (sym is)
-    (same_recovers (placed v n (files_after n c u)) (committed n c u) (λ k other. view_at n c v u k sfile moves (working_s n k other)) (λ k other. view_at n c v u (sibling 112 k) sfile moves refl)
-    (λ k other. ap is_some (view_at n c v u (sibling 122 k) sfile moves refl)))
+    (same_recovers (placed v n (files_after n c u)) (committed n c u) (λ k other. view_at n c v u k sfile moves (working_s n k other)) (λ k other. view_at n c v u (p_file k) sfile moves refl)
+    (λ k other. ap is_some (view_at n c v u (z_file k) sfile moves refl)))
 
 moves_now : (n : List ℕ) (v : View) (tb2 : Told) (m1 : Model) (past1 : List Model) → Moves (is_working n) (λ u. u) (Some (locked n v)) (seen tb2) → tb2 ≡ Tells m1 past1 → (k : List ℕ) → is_working n k ≡ false → view_of m1 k ≡ locked n v k
 moves_now n v tb2 m1 past1 moves is = subst (λ (t : Told). Moves (is_working n) (λ u. u) (Some (locked n v)) (seen t)) is moves
 
 -- whether there is a p-file without an s-file doesn't depend on working files
 still_paired : (n : List ℕ) (v u : View) → IsSfile n → IsPaired n v → ((k : List ℕ) → is_working n k ≡ false → u k ≡ locked n v k) → IsPaired n u
-still_paired n v u sfile paired moves = λ none. same (sibling 112 n) refl refl ∙ paired (sym (same n (working_s n n sfile) (from_s 122 n sfile refl)) ∙ none)
+still_paired n v u sfile paired moves = λ none. same (p_file n) refl refl ∙ paired (sym (same n (working_s n n sfile) (from_s 122 n sfile refl)) ∙ none)
   where
-    same : (k : List ℕ) → is_working n k ≡ false → bytes_eq (sibling 122 n) k ≡ false → u k ≡ v k
-    same k h other = moves k h ∙ put_other v (sibling 122 n) k (Some empty_file) other
+    same : (k : List ℕ) → is_working n k ≡ false → bytes_eq (z_file n) k ≡ false → u k ≡ v k
+    same k h other = moves k h ∙ put_other v (z_file n) k (Some empty_file) other
 
 firm_from : (new : NewFile) (k : List ℕ) (mine : List ℕ → Bool) (a b d : Told) → TouchesOnly mine a b → OnReplace new (Leaves (IsFirm k) b d) → OnReplace new (Leaves (IsFirm k) a d)
 firm_from Keep k mine a b d touches firm = tt
@@ -167,18 +167,18 @@ settled_now : (n : List ℕ) (p : Prepared) (v : View) (tb2 : Told) (m1 : Model)
 settled_now n p v tb2 m1 past1 sfile paired moves entries is =
     (subst (λ (t : Told). IfSome (seen t) (λ u. IsPaired n u → KeepsEntries n (plan_of p) u × ArePaired (files_after n (plan_of p) u).s (files_after n (plan_of p) u).p)) is entries) (still_paired n v (view_of m1) sfile paired (moves_now n v tb2 m1 past1 moves is))
 
-has_prepared : (n : List ℕ) (p : Prepared) (v : View) (ta tb tb2 : Told) → IsSfile n → IsPaired n v → Moves (is_working n) (λ u. u) (Some (locked n v)) (seen tb2) → TouchesOnly (bytes_eq (sibling 122 n)) ta tb → TouchesOnly (is_working n) tb tb2 → IsFirmPrepared n p tb tb2 → SettlesEntries n p tb2 → HasPrepared n (plan_of p) ta tb2
+has_prepared : (n : List ℕ) (p : Prepared) (v : View) (ta tb tb2 : Told) → IsSfile n → IsPaired n v → Moves (is_working n) (λ u. u) (Some (locked n v)) (seen tb2) → TouchesOnly (bytes_eq (z_file n)) ta tb → TouchesOnly (is_working n) tb tb2 → IsFirmPrepared n p tb tb2 → SettlesEntries n p tb2 → HasPrepared n (plan_of p) ta tb2
 has_prepared n p v ta tb tb2 sfile paired moves locks working firm entries = record {
   touches = all_left n ta tb tb2 locks working;
-  x_file = firm_from (plan_of p).s (sibling 120 n) (bytes_eq (sibling 122 n)) ta tb tb2 locks firm.x_file;
-  q_file = firm_from (plan_of p).p (sibling 113 n) (bytes_eq (sibling 122 n)) ta tb tb2 locks firm.q_file;
+  x_state = firm_from (plan_of p).s (x_file n) (bytes_eq (z_file n)) ta tb tb2 locks firm.x_state;
+  q_state = firm_from (plan_of p).p (q_file n) (bytes_eq (z_file n)) ta tb tb2 locks firm.q_state;
   entries = λ m past is m1 past1 is1.
       (settled_now n p v tb2 m1 past1 sfile paired moves entries is1).0;
 }
 
-finished_so : (y : Action) (r : Result (Unit {0}) StepFault) (n : List ℕ) (p : Prepared) (o : Outcome) (m : Model) (past : List Model) (ta tb tb2 td : Told) (out out2 out3 err err3 : Option (List ℕ)) → IsSfile n → ta ≡ Tells m past → IsCalm m → IsSafe n (view_of m) → view_of m (sibling 122 n) ≡ None
+finished_so : (y : Action) (r : Result (Unit {0}) StepFault) (n : List ℕ) (p : Prepared) (o : Outcome) (m : Model) (past : List Model) (ta tb tb2 td : Told) (out out2 out3 err err3 : Option (List ℕ)) → IsSfile n → ta ≡ Tells m past → IsCalm m → IsSafe n (view_of m) → view_of m (z_file n) ≡ None
     → IsPrepared n p o (world (Some (locked n (view_of m))) out err) (world (seen tb2) out2 err) → Finishes r n p (world (seen tb2) out2 err) (world (seen td) out3 err3) → Commits r n p tb2 td
-    → TouchesOnly (bytes_eq (sibling 122 n)) ta tb → TouchesOnly (is_working n) tb tb2 → IsFirmPrepared n p tb tb2 → SettlesEntries n p tb2 → EndsSo y r n (view_of m) m past td out err out3 err3 o
+    → TouchesOnly (bytes_eq (z_file n)) ta tb → TouchesOnly (is_working n) tb tb2 → IsFirmPrepared n p tb tb2 → SettlesEntries n p tb2 → EndsSo y r n (view_of m) m past td out err out3 err3 o
 finished_so y r n p o m past ta tb tb2 td out out2 out3 err err3 sfile is calm safe free prepared finishes commits locks working firm entries = by r finishes commits
   where
     has : HasPrepared n (plan_of p) ta tb2
@@ -225,8 +225,8 @@ finished_so y r n p o m past ta tb tb2 td out out2 out3 err err3 sfile is calm s
     by (Err ReadFault) finished committed_so = absurd finished
 
 pub at_finished : (x : Changing) (p : Prepared) (r : Result (Unit {0}) StepFault) (q : Result Prepared StepFault) (n : List ℕ) (left : Option (List ℕ)) (ta tb tb2 td : Told) (out out2 out3 err err3 : Option (List ℕ)) (m : Model) (past : List Model) (i : List ℕ) → IsSfile n → q ≡ Ok p
-    → Becomes (locked n) (seen ta) (seen tb) → IfSome (seen ta) (λ (v : View). v (sibling 122 n) ≡ None) → PreparesChange x q n left (world (seen tb) out err) (world (seen tb2) out2 err) → Finishes r n p (world (seen tb2) out2 err) (world (seen td) out3 err3) → Commits r n p tb2 td
-    → TouchesOnly (bytes_eq (sibling 122 n)) ta tb → TouchesOnly (is_working n) tb tb2 → IsFirmPrepared n p tb tb2 → SettlesEntries n p tb2 → ta ≡ Tells m past → IsHeard x.takes left i → IsCalm m → IsSafe n (view_of m)
+    → Becomes (locked n) (seen ta) (seen tb) → IfSome (seen ta) (λ (v : View). v (z_file n) ≡ None) → PreparesChange x q n left (world (seen tb) out err) (world (seen tb2) out2 err) → Finishes r n p (world (seen tb2) out2 err) (world (seen td) out3 err3) → Commits r n p tb2 td
+    → TouchesOnly (bytes_eq (z_file n)) ta tb → TouchesOnly (is_working n) tb tb2 → IsFirmPrepared n p tb tb2 → SettlesEntries n p tb2 → ta ≡ Tells m past → IsHeard x.takes left i → IsCalm m → IsSafe n (view_of m)
     → MeetsAt (locking x) r n (locking_step x.outcome n i (map (view_of m) x.named) (look (view_of m) n)) (view_of m) m past (scene ta out err) (scene td out3 err3)
 at_finished x p r q n left ta tb tb2 td out out2 out3 err err3 m past i sfile made lock free prepares finishes commits locks working firm entries is heard calm safe =
     behind x r (Ok p) n left ta tb tb2 td out out2 out3 err err3 m past i is heard lock free (subst (λ (s : Result Prepared StepFault). PreparesChange x s n left (world (seen tb) out err) (world (seen tb2) out2 err)) made prepares)

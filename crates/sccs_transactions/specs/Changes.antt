@@ -1,7 +1,7 @@
 -- A change of the files of a name: what it prepares between its lock and its commit, and the action that it is.
 use Rattle.std.specs.Prelude.{◌≡◌, ℕ, Bool, true, false, List, [], map, drop, Option, Some, Result, Ok, Err, IfSome, is_none}
 use Rattle.std.specs.Result.{IfOk}
-use Rattle.sccs_base.specs.Name.{is_sfile_name, sibling}
+use Rattle.sccs_base.specs.Name.{is_sfile_name, p_file, q_file, x_file, y_file, z_file}
 use Rattle.sccs_base.specs.Stream.{GivesOk, GivesSome}
 use Rattle.sccs_sid.specs.Reading.{◌>>=◌}
 use Rattle.sccs_sid.specs.declared.refusals.Refusal.TheVariants.{Locked}
@@ -43,7 +43,7 @@ locking x = record { fits = is_sfile_name; step = locking_step x.outcome; named 
 
 -- the view as it was before the name was locked
 abbrev pub unlocked : List ℕ → View → View
-unlocked n v = without (sibling 122 n) v
+unlocked n v = without (z_file n) v
 
 abbrev pub plan_of : Prepared → Plan
 plan_of p = plan p.new_s p.new_p p.new_g
@@ -77,10 +77,10 @@ PreparesChange x r n left w w2 =
 
 -- what a commit needs is there, where a view is told
 pub record IsReady (n : List ℕ) (p : Prepared) (told : Told) : Type 0 where
-  pub z : IsThere (sibling 122 n) told
-  pub s : Needs (plan_of p).s (sibling 120 n) n told
-  pub p_file : Needs (plan_of p).p (sibling 113 n) (sibling 112 n) told
-  pub g : Needs (plan_of p).g (sibling 121 n) (drop 2 n) told
+  pub z : IsThere (z_file n) told
+  pub s : Needs (plan_of p).s (x_file n) n told
+  pub p_state : Needs (plan_of p).p (q_file n) (p_file n) told
+  pub g : Needs (plan_of p).g (y_file n) (drop 2 n) told
 
 -- over any disk: an outcome that may come explains what is prepared, or why it is refused
 abbrev pub CouldPrepare : (Outcome → Bool) → Result Prepared StepFault → Type 0

@@ -1,6 +1,6 @@
 -- What a stop leaves of the parts of a change.
 use Rattle.std.specs.Prelude.{ℕ, List, IfSome, Result, Ok, Err}
-use Rattle.sccs_base.specs.Name.{sibling}
+use Rattle.sccs_base.specs.Name.{q_file, x_file}
 use Rattle.sccs_sid.specs.declared.refusals.StepFault.{StepFault}
 use Rattle.sccs_sid.specs.declared.refusals.StepFault.TheVariants.{WriteFault, DiskFault}
 use Rattle.sccs_disk.specs.Images.{IsFirm}
@@ -16,8 +16,8 @@ use Rattle.sccs_transactions.specs.declared.prepared.Prepared.{Prepared}
 
 -- the prepared files that take the places of others are firm
 pub record IsFirmPrepared (n : List ℕ) (p : Prepared) (old new : Told) : Type 0 where
-  pub x_file : OnReplace (plan_of p).s (Leaves (IsFirm (sibling 120 n)) old new)
-  pub q_file : OnReplace (plan_of p).p (Leaves (IsFirm (sibling 113 n)) old new)
+  pub x_state : OnReplace (plan_of p).s (Leaves (IsFirm (x_file n)) old new)
+  pub q_state : OnReplace (plan_of p).p (Leaves (IsFirm (q_file n)) old new)
 
 -- where there is no p-file without an s-file, recovery makes the new p-file of the old one, and keeps the new one; and there is
 -- no new one without a new s-file

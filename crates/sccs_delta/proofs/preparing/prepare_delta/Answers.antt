@@ -1,6 +1,6 @@
 use Rattle.std.proofs.Common.{Ok, Err, sym, ap, subst, ◌∙◌}
 use Rattle.std.specs.Prelude.{IfSome}
-use Rattle.sccs_base.specs.Name.{sibling}
+use Rattle.sccs_base.specs.Name.{p_file, z_file}
 use Rattle.sccs_disk.specs.Calls.{IsThere}
 use Rattle.sccs_disk.specs.Told.{seen}
 use Rattle.sccs_files.specs.StepFiles.{is_working}
@@ -19,26 +19,26 @@ returns-in-Err-clause-prepares g c = λ out err.
 pub returns-in-Err-read_pending-clause-prepares : goal.returns-in-Err-read_pending-clause-prepares
 returns-in-Err-read_pending-clause-prepares g c = λ out err.
     pending_end c.args.words.now c.args.stamp.now c.args.name.now c.args.script.now c.in-Err-read_pending.fault (seen (g.D.Disk.told c.args.disk.now)) (seen (g.D.Disk.told c.read_pending.new.disk)) out err c.requires.sfile (ap seen (c.read_pending.ensures.frame.same ∙ c.check_sizes.ensures.frame.same)) c.in-Ok.ensures.told
-    (subst (λ t. IfSome (seen t) (λ v. AnswersPending (v c.args.name.now) (v (sibling 112 c.args.name.now)) (Err c.in-Err-read_pending.fault))) c.check_sizes.ensures.frame.same c.in-Err-read_pending.ensures.told)
+    (subst (λ t. IfSome (seen t) (λ v. AnswersPending (v c.args.name.now) (v (p_file c.args.name.now)) (Err c.in-Err-read_pending.fault))) c.check_sizes.ensures.frame.same c.in-Err-read_pending.ensures.told)
 
 pub returns-in-Err-read_asked-clause-prepares : goal.returns-in-Err-read_asked-clause-prepares
 returns-in-Err-read_asked-clause-prepares g c = λ out err.
     asked_end c.args.words.now c.args.stamp.now c.args.name.now c.args.script.now c.in-Ok-read_pending.pending c.in-Err-read_asked.fault (seen (g.D.Disk.told c.args.disk.now)) (seen (g.D.Disk.told c.read_pending.new.disk)) out err c.requires.sfile (ap seen (c.read_pending.ensures.frame.same ∙ c.check_sizes.ensures.frame.same)) c.in-Ok.ensures.told
-    (subst (λ t. IfSome (seen t) (λ v. AnswersPending (v c.args.name.now) (v (sibling 112 c.args.name.now)) (Ok c.in-Ok-read_pending.pending))) c.check_sizes.ensures.frame.same c.in-Ok-read_pending.ensures.told)
+    (subst (λ t. IfSome (seen t) (λ v. AnswersPending (v c.args.name.now) (v (p_file c.args.name.now)) (Ok c.in-Ok-read_pending.pending))) c.check_sizes.ensures.frame.same c.in-Ok-read_pending.ensures.told)
     c.in-Err-read_asked.ensures.value
 
 pub returns-clause-prepares : goal.returns-clause-prepares
 returns-clause-prepares g c = λ out err.
     delta_written c.args.words.now c.args.stamp.now c.args.name.now c.args.script.now c.in-Ok-read_pending.pending c.in-Ok-read_asked.asked.chosen c.in-Ok-read_asked.asked.script c.prepare_script.result (seen (g.D.Disk.told c.args.disk.now)) (g.D.Disk.told c.read_pending.new.disk) (g.D.Disk.told c.prepare_script.new.disk) out err c.requires.sfile
     (ap seen (c.read_pending.ensures.frame.same ∙ c.check_sizes.ensures.frame.same)) c.in-Ok.ensures.told
-    (subst (λ t. IfSome (seen t) (λ v. AnswersPending (v c.args.name.now) (v (sibling 112 c.args.name.now)) (Ok c.in-Ok-read_pending.pending))) c.check_sizes.ensures.frame.same c.in-Ok-read_pending.ensures.told)
+    (subst (λ t. IfSome (seen t) (λ v. AnswersPending (v c.args.name.now) (v (p_file c.args.name.now)) (Ok c.in-Ok-read_pending.pending))) c.check_sizes.ensures.frame.same c.in-Ok-read_pending.ensures.told)
     c.in-Ok-read_pending.ensures.placed c.in-Ok-read_asked.ensures.no_zero c.in-Ok-read_asked.ensures.value.0 c.in-Ok-read_asked.ensures.value.1 c.prepare_script.ensures.moves c.prepare_script.ensures.told
 
 pub returns-clause-needs : goal.returns-clause-needs
 returns-clause-needs g c =
-    c.prepare_script.ensures.needs (subst (λ t. IsThere (sibling 122 c.args.name.now) t) (sym (c.read_pending.ensures.frame.same ∙ c.check_sizes.ensures.frame.same)) c.requires.locked)
+    c.prepare_script.ensures.needs (subst (λ t. IsThere (z_file c.args.name.now) t) (sym (c.read_pending.ensures.frame.same ∙ c.check_sizes.ensures.frame.same)) c.requires.locked)
     (found_there c.args.name.now c.in-Ok-read_pending.pending (g.D.Disk.told c.read_pending.new.disk)
-    (subst (λ t. IfSome (seen t) (λ v. AnswersPending (v c.args.name.now) (v (sibling 112 c.args.name.now)) (Ok c.in-Ok-read_pending.pending))) (sym c.read_pending.ensures.frame.same) c.in-Ok-read_pending.ensures.told)
+    (subst (λ t. IfSome (seen t) (λ v. AnswersPending (v c.args.name.now) (v (p_file c.args.name.now)) (Ok c.in-Ok-read_pending.pending))) (sym c.read_pending.ensures.frame.same) c.in-Ok-read_pending.ensures.told)
     (some_entries c.in-Ok-read_pending.pending.edits c.in-Ok-read_asked.asked.chosen.number c.in-Ok-read_asked.ensures.some c.in-Ok-read_asked.ensures.there))
 
 pub returns-in-Err-clause-touches : goal.returns-in-Err-clause-touches
@@ -54,5 +54,5 @@ pub returns-clause-entries : goal.returns-clause-entries
 returns-clause-entries g c =
     delta_entries c.args.words.now c.args.stamp.now c.args.name.now c.args.script.now c.in-Ok-read_pending.pending c.in-Ok-read_asked.asked.chosen c.in-Ok-read_asked.asked.script c.prepare_script.result (seen (g.D.Disk.told c.args.disk.now)) (g.D.Disk.told c.read_pending.new.disk) (g.D.Disk.told c.prepare_script.new.disk) c.requires.sfile
     (ap seen (c.read_pending.ensures.frame.same ∙ c.check_sizes.ensures.frame.same)) c.in-Ok.ensures.told
-    (subst (λ t. IfSome (seen t) (λ v. AnswersPending (v c.args.name.now) (v (sibling 112 c.args.name.now)) (Ok c.in-Ok-read_pending.pending))) c.check_sizes.ensures.frame.same c.in-Ok-read_pending.ensures.told)
+    (subst (λ t. IfSome (seen t) (λ v. AnswersPending (v c.args.name.now) (v (p_file c.args.name.now)) (Ok c.in-Ok-read_pending.pending))) c.check_sizes.ensures.frame.same c.in-Ok-read_pending.ensures.told)
     c.in-Ok-read_pending.ensures.placed c.in-Ok-read_asked.ensures.no_zero c.in-Ok-read_pending.ensures.rules c.in-Ok-read_pending.ensures.edits c.in-Ok-read_pending.ensures.agrees c.in-Ok-read_asked.ensures.value.0 c.in-Ok-read_asked.ensures.value.1 c.prepare_script.ensures.moves c.prepare_script.ensures.told

@@ -1,6 +1,6 @@
 use Rattle.std.proofs.Common.{◌≡◌, true, List, ℕ, Some, refl, subst, sym}
 use Rattle.std.specs.Str.{bytes_eq}
-use Rattle.sccs_base.specs.Name.{sibling}
+use Rattle.sccs_base.specs.Name.{q_file, y_file}
 use Rattle.sccs_disk.specs.Told.{seen}
 use Rattle.sccs_files.specs.StepFiles.{is_working, look}
 use Rattle.sccs_images.proofs.Touched.{only_then, only_wider}
@@ -16,7 +16,7 @@ pub returns-in-Err-clause-prepares : goal.returns-in-Err-clause-prepares
 returns-in-Err-clause-prepares g c = λ v file items err is body. entry_ends c.args.get.now.words.now c.args.get.now.stamp.now c.args.get.now.place.now c.args.get.now.heading c.args.name.now c.in-Err.fault _ v (seen (g.D.Disk.told c.args.disk.now)) (seen (g.D.Disk.told c.add_entry.new.disk)) (g.O.Sink.given c.args.out.now) err is c.in-Err.ensures.checks c.in-Err.ensures.moves
 
 pub returns-in-Err-clause-touches : goal.returns-in-Err-clause-touches
-returns-in-Err-clause-touches g c = only_wider (bytes_eq (sibling 113 c.args.name.now)) (is_working c.args.name.now) (g.D.Disk.told c.args.disk.now) (g.D.Disk.told c.add_entry.new.disk) (no_q c.args.name.now) c.add_entry.ensures.touches
+returns-in-Err-clause-touches g c = only_wider (bytes_eq (q_file c.args.name.now)) (is_working c.args.name.now) (g.D.Disk.told c.args.disk.now) (g.D.Disk.told c.add_entry.new.disk) (no_q c.args.name.now) c.add_entry.ensures.touches
 
 pub returns-in-Err-give_version-clause-prepares : goal.returns-in-Err-give_version-clause-prepares
 returns-in-Err-give_version-clause-prepares g c = λ v file items err is body.
@@ -24,7 +24,7 @@ returns-in-Err-give_version-clause-prepares g c = λ v file items err is body.
     (c.in-Err-give_version.ensures.gives file items err (body_kept c.args.name.now c.args.reserved.pending.front c.args.reserved.version.set file items v (seen (g.D.Disk.told c.args.disk.now)) (seen (g.D.Disk.told c.add_entry.new.disk)) c.requires.sfile is c.add_entry.ensures.moves body))
 
 pub returns-in-Err-give_version-clause-touches : goal.returns-in-Err-give_version-clause-touches
-returns-in-Err-give_version-clause-touches g c = only_then (is_working c.args.name.now) (g.D.Disk.told c.args.disk.now) (g.D.Disk.told c.add_entry.new.disk) (g.D.Disk.told c.give_version.new.disk) (only_wider (bytes_eq (sibling 113 c.args.name.now)) (is_working c.args.name.now) (g.D.Disk.told c.args.disk.now) (g.D.Disk.told c.add_entry.new.disk) (no_q c.args.name.now) c.add_entry.ensures.touches) (only_wider (bytes_eq (sibling 121 c.args.name.now)) (is_working c.args.name.now) (g.D.Disk.told c.add_entry.new.disk) (g.D.Disk.told c.give_version.new.disk) (no_y c.args.name.now) c.give_version.ensures.touches)
+returns-in-Err-give_version-clause-touches g c = only_then (is_working c.args.name.now) (g.D.Disk.told c.args.disk.now) (g.D.Disk.told c.add_entry.new.disk) (g.D.Disk.told c.give_version.new.disk) (only_wider (bytes_eq (q_file c.args.name.now)) (is_working c.args.name.now) (g.D.Disk.told c.args.disk.now) (g.D.Disk.told c.add_entry.new.disk) (no_q c.args.name.now) c.add_entry.ensures.touches) (only_wider (bytes_eq (y_file c.args.name.now)) (is_working c.args.name.now) (g.D.Disk.told c.add_entry.new.disk) (g.D.Disk.told c.give_version.new.disk) (no_y c.args.name.now) c.give_version.ensures.touches)
 
 pub returns-clause-prepares : goal.returns-clause-prepares
 returns-clause-prepares g c = λ v file items err is body.
@@ -32,7 +32,7 @@ returns-clause-prepares g c = λ v file items err is body.
     (c.in-Ok-give_version.ensures.gives file items err (body_kept c.args.name.now c.args.reserved.pending.front c.args.reserved.version.set file items v (seen (g.D.Disk.told c.args.disk.now)) (seen (g.D.Disk.told c.add_entry.new.disk)) c.requires.sfile is c.add_entry.ensures.moves body))
 
 pub returns-clause-touches : goal.returns-clause-touches
-returns-clause-touches g c = only_then (is_working c.args.name.now) (g.D.Disk.told c.args.disk.now) (g.D.Disk.told c.add_entry.new.disk) (g.D.Disk.told c.give_version.new.disk) (only_wider (bytes_eq (sibling 113 c.args.name.now)) (is_working c.args.name.now) (g.D.Disk.told c.args.disk.now) (g.D.Disk.told c.add_entry.new.disk) (no_q c.args.name.now) c.add_entry.ensures.touches) (only_wider (bytes_eq (sibling 121 c.args.name.now)) (is_working c.args.name.now) (g.D.Disk.told c.add_entry.new.disk) (g.D.Disk.told c.give_version.new.disk) (no_y c.args.name.now) c.give_version.ensures.touches)
+returns-clause-touches g c = only_then (is_working c.args.name.now) (g.D.Disk.told c.args.disk.now) (g.D.Disk.told c.add_entry.new.disk) (g.D.Disk.told c.give_version.new.disk) (only_wider (bytes_eq (q_file c.args.name.now)) (is_working c.args.name.now) (g.D.Disk.told c.args.disk.now) (g.D.Disk.told c.add_entry.new.disk) (no_q c.args.name.now) c.add_entry.ensures.touches) (only_wider (bytes_eq (y_file c.args.name.now)) (is_working c.args.name.now) (g.D.Disk.told c.add_entry.new.disk) (g.D.Disk.told c.give_version.new.disk) (no_y c.args.name.now) c.give_version.ensures.touches)
 
 pub returns-in-Ok-said-clause-prepares : goal.returns-in-Ok-said-clause-prepares
 returns-in-Ok-said-clause-prepares g c = λ v file items err is body.
@@ -44,7 +44,7 @@ returns-in-Ok-said-clause-needs g c = λ z.
     edit_ready c.args.get.now.words.now c.args.name.now c.args.reserved.pending.edits c.args.reserved.edit c.in-Ok.new_p c.new_g.result c.in-Ok-said.said.out c.in-Ok-said.said.err (g.D.Disk.told c.args.disk.now) (g.D.Disk.told c.add_entry.new.disk) (g.D.Disk.told c.give_version.new.disk) c.new_g.ensures z c.add_entry.ensures.moves c.give_version.ensures.moves c.in-Ok.ensures.entries c.in-Ok-give_version.ensures.there
 
 pub returns-in-Ok-said-clause-touches : goal.returns-in-Ok-said-clause-touches
-returns-in-Ok-said-clause-touches g c = only_then (is_working c.args.name.now) (g.D.Disk.told c.args.disk.now) (g.D.Disk.told c.add_entry.new.disk) (g.D.Disk.told c.give_version.new.disk) (only_wider (bytes_eq (sibling 113 c.args.name.now)) (is_working c.args.name.now) (g.D.Disk.told c.args.disk.now) (g.D.Disk.told c.add_entry.new.disk) (no_q c.args.name.now) c.add_entry.ensures.touches) (only_wider (bytes_eq (sibling 121 c.args.name.now)) (is_working c.args.name.now) (g.D.Disk.told c.add_entry.new.disk) (g.D.Disk.told c.give_version.new.disk) (no_y c.args.name.now) c.give_version.ensures.touches)
+returns-in-Ok-said-clause-touches g c = only_then (is_working c.args.name.now) (g.D.Disk.told c.args.disk.now) (g.D.Disk.told c.add_entry.new.disk) (g.D.Disk.told c.give_version.new.disk) (only_wider (bytes_eq (q_file c.args.name.now)) (is_working c.args.name.now) (g.D.Disk.told c.args.disk.now) (g.D.Disk.told c.add_entry.new.disk) (no_q c.args.name.now) c.add_entry.ensures.touches) (only_wider (bytes_eq (y_file c.args.name.now)) (is_working c.args.name.now) (g.D.Disk.told c.add_entry.new.disk) (g.D.Disk.told c.give_version.new.disk) (no_y c.args.name.now) c.give_version.ensures.touches)
 
 pub returns-in-Ok-said-clause-firm : goal.returns-in-Ok-said-clause-firm
 returns-in-Ok-said-clause-firm g c = edit_firm c.args.name.now c.in-Ok.new_p c.new_g.result c.in-Ok-said.said.out c.in-Ok-said.said.err (g.D.Disk.told c.args.disk.now) (g.D.Disk.told c.add_entry.new.disk) (g.D.Disk.told c.give_version.new.disk) c.add_entry.ensures.touches c.give_version.ensures.touches c.in-Ok.ensures.firm

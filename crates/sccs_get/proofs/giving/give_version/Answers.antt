@@ -1,6 +1,6 @@
 use Rattle.std.proofs.Common.{ap, refl}
 use Rattle.std.specs.Str.{bytes_eq}
-use Rattle.sccs_base.specs.Name.{sibling}
+use Rattle.sccs_base.specs.Name.{y_file}
 use Rattle.sccs_disk.specs.Told.{seen}
 use Rattle.sccs_store.proofs.Working.{same_touches}
 use Rattle.sccs_texts.specs.Forms.{form_of}
@@ -10,7 +10,7 @@ use Rattle.sccs_get.proofs.WholeLaws.{makes_whole, prints_whole}
 use Rattle.sccs_get.proofs.giving.give_version.Goals as goal
 
 pub returns-then-words-clause-touches : goal.returns-then-words-clause-touches
-returns-then-words-clause-touches g c = same_touches (bytes_eq (sibling 121 c.args.name.now)) _ _ refl
+returns-then-words-clause-touches g c = same_touches (bytes_eq (y_file c.args.name.now)) _ _ refl
 
 pub returns-then-words-2-clause-gives : goal.returns-then-words-2-clause-gives
 returns-then-words-2-clause-gives g c = λ file items err body.
@@ -18,7 +18,7 @@ returns-then-words-2-clause-gives g c = λ file items err body.
     (c.print_text.ensures.prints file items body) (c.print_text.ensures.found file items body)
 
 pub returns-then-words-2-clause-touches : goal.returns-then-words-2-clause-touches
-returns-then-words-2-clause-touches g c = same_touches (bytes_eq (sibling 121 c.args.name.now)) _ _ c.print_text.ensures.same
+returns-then-words-2-clause-touches g c = same_touches (bytes_eq (y_file c.args.name.now)) _ _ c.print_text.ensures.same
 
 pub returns-else-words-2-clause-gives : goal.returns-else-words-2-clause-gives
 returns-else-words-2-clause-gives g c = λ file items err body.

@@ -1,6 +1,6 @@
 use Rattle.std.proofs.Common.{◌≡◌, true, false, None, ap, subst, sym, ◌∙◌}
 use Rattle.std.specs.Str.{bytes_eq}
-use Rattle.sccs_base.specs.Name.{sibling}
+use Rattle.sccs_base.specs.Name.{y_file}
 use Rattle.sccs_disk.specs.Images.{IsFirm}
 use Rattle.sccs_disk.specs.Told.{seen}
 use Rattle.sccs_images.specs.Touches.{Leaves}
@@ -41,19 +41,19 @@ returns-clause-readies g c = λ err.
     (λ file items body. c.in-Ok-give_version.ensures.gives file items err body)
 
 pub returns-in-Err-clause-touches : goal.returns-in-Err-clause-touches
-returns-in-Err-clause-touches g c = same_touches (bytes_eq (sibling 121 c.args.name.now)) _ _ c.inspect.ensures.frame.same
+returns-in-Err-clause-touches g c = same_touches (bytes_eq (y_file c.args.name.now)) _ _ c.inspect.ensures.frame.same
 
 pub returns-in-Err-find_version-clause-touches : goal.returns-in-Err-find_version-clause-touches
-returns-in-Err-find_version-clause-touches g c = same_touches (bytes_eq (sibling 121 c.args.name.now)) _ _ c.inspect.ensures.frame.same
+returns-in-Err-find_version-clause-touches g c = same_touches (bytes_eq (y_file c.args.name.now)) _ _ c.inspect.ensures.frame.same
 
 pub returns-in-Err-check_keywords-clause-touches : goal.returns-in-Err-check_keywords-clause-touches
-returns-in-Err-check_keywords-clause-touches g c = same_touches (bytes_eq (sibling 121 c.args.name.now)) _ _ (c.check_keywords.ensures.frame.same ∙ c.inspect.ensures.frame.same)
+returns-in-Err-check_keywords-clause-touches g c = same_touches (bytes_eq (y_file c.args.name.now)) _ _ (c.check_keywords.ensures.frame.same ∙ c.inspect.ensures.frame.same)
 
 pub returns-in-Err-check_g-clause-touches : goal.returns-in-Err-check_g-clause-touches
-returns-in-Err-check_g-clause-touches g c = same_touches (bytes_eq (sibling 121 c.args.name.now)) _ _ (c.check_g.ensures.frame.same ∙ (c.check_keywords.ensures.frame.same ∙ c.inspect.ensures.frame.same))
+returns-in-Err-check_g-clause-touches g c = same_touches (bytes_eq (y_file c.args.name.now)) _ _ (c.check_g.ensures.frame.same ∙ (c.check_keywords.ensures.frame.same ∙ c.inspect.ensures.frame.same))
 
 pub returns-in-Ok-said-clause-firm : goal.returns-in-Ok-said-clause-firm
-returns-in-Ok-said-clause-firm g c = λ writes. subst (λ t. Leaves (IsFirm (sibling 121 c.args.name.now)) t (g.D.Disk.told c.give_version.new.disk)) (c.check_g.ensures.frame.same ∙ (c.check_keywords.ensures.frame.same ∙ c.inspect.ensures.frame.same)) (c.in-Ok-give_version.ensures.firm writes)
+returns-in-Ok-said-clause-firm g c = λ writes. subst (λ t. Leaves (IsFirm (y_file c.args.name.now)) t (g.D.Disk.told c.give_version.new.disk)) (c.check_g.ensures.frame.same ∙ (c.check_keywords.ensures.frame.same ∙ c.inspect.ensures.frame.same)) (c.in-Ok-give_version.ensures.firm writes)
 
 pub returns-in-Ok-said-clause-says : goal.returns-in-Ok-said-clause-says
 returns-in-Ok-said-clause-says g c =

@@ -1,5 +1,5 @@
 use Rattle.std.proofs.Common.{◌∙◌}
-use Rattle.sccs_base.specs.Name.{sibling}
+use Rattle.sccs_base.specs.Name.{q_file}
 use Rattle.sccs_pfile.specs.Recovered.{written_pfile}
 use Rattle.std.proofs.Common.{refl}
 use Rattle.std.specs.Str.{bytes_eq}
@@ -11,7 +11,7 @@ pub returns-in-Ok-clause-entries : goal.returns-in-Ok-clause-entries
 returns-in-Ok-clause-entries g c = some_chosen c.args.name.now c.args.edits.now _ (g.D.Disk.told c.prepare_p.new.disk) (λ none. c.if-len-eq0.false (c.len.ensures ∙ none)) c.in-Ok.ensures.view
 
 pub returns-in-Ok-clause-moves : goal.returns-in-Ok-clause-moves
-returns-in-Ok-clause-moves g c = made_moves (sibling 113 c.args.name.now) (written_pfile c.args.edits.now) _ _ c.in-Ok.ensures.view
+returns-in-Ok-clause-moves g c = made_moves (q_file c.args.name.now) (written_pfile c.args.edits.now) _ _ c.in-Ok.ensures.view
 
 pub returns-then-len-eq0-clause-touches : goal.returns-then-len-eq0-clause-touches
-returns-then-len-eq0-clause-touches g c = same_touches (bytes_eq (sibling 113 c.args.name.now)) _ _ refl
+returns-then-len-eq0-clause-touches g c = same_touches (bytes_eq (q_file c.args.name.now)) _ _ refl

@@ -1,4 +1,4 @@
-use Rattle.sccs_base.specs.Name.{sibling}
+use Rattle.sccs_base.specs.Name.{q_file}
 use Rattle.sccs_disk.specs.Images.{IsFirm}
 use Rattle.sccs_disk.specs.Told.{seen}
 use Rattle.sccs_files.specs.StepFiles.{is_working}
@@ -30,4 +30,4 @@ returns-in-Ok-clause-touches g c = only_then (is_working c.args.name.now) _ (g.D
 
 pub returns-in-Ok-clause-firm : goal.returns-in-Ok-clause-firm
 returns-in-Ok-clause-firm g c =
-    firm_from c.prepare_left.result (IsFirm (sibling 113 c.args.name.now)) (is_working c.args.name.now) _ (g.D.Disk.told c.clear_working.new.disk) _ c.clear_working.ensures.touches c.prepare_left.ensures.firm
+    firm_from c.prepare_left.result (IsFirm (q_file c.args.name.now)) (is_working c.args.name.now) _ (g.D.Disk.told c.clear_working.new.disk) _ c.clear_working.ensures.touches c.prepare_left.ensures.firm

@@ -1,5 +1,5 @@
 use Rattle.std.specs.Str.{bytes_eq}
-use Rattle.sccs_base.specs.Name.{sibling}
+use Rattle.sccs_base.specs.Name.{y_file}
 use Rattle.sccs_files.specs.StepFiles.{is_working}
 use Rattle.sccs_images.proofs.Touched.{only_wider}
 use Rattle.sccs_moments.proofs.FileNames.{no_y}
@@ -11,15 +11,15 @@ use Rattle.sccs_recovery.proofs.recoveries.tidy.Goals as goal
 
 pub returns-in-Ok-clause-story : goal.returns-in-Ok-clause-story
 returns-in-Ok-clause-story g c =
-    synced_story c.args.name.now _ (g.D.Disk.told c.clear_sibling.new.disk) _ c.sync_names.result (only_wider (bytes_eq (sibling 121 c.args.name.now)) (is_working c.args.name.now) _ _ (no_y c.args.name.now) c.clear_sibling.ensures.touches) c.sync_names.ensures.done c.sync_names.ensures.half
+    synced_story c.args.name.now _ (g.D.Disk.told c.clear_sibling.new.disk) _ c.sync_names.result (only_wider (bytes_eq (y_file c.args.name.now)) (is_working c.args.name.now) _ _ (no_y c.args.name.now) c.clear_sibling.ensures.touches) c.sync_names.ensures.done c.sync_names.ensures.half
 
 pub returns-in-Ok-clause-calm : goal.returns-in-Ok-clause-calm
 returns-in-Ok-clause-calm g c =
-    ok_map c.sync_names.result (synced_calm c.args.name.now _ (g.D.Disk.told c.clear_sibling.new.disk) _ (only_wider (bytes_eq (sibling 121 c.args.name.now)) (is_working c.args.name.now) _ _ (no_y c.args.name.now) c.clear_sibling.ensures.touches)) c.sync_names.ensures.done
+    ok_map c.sync_names.result (synced_calm c.args.name.now _ (g.D.Disk.told c.clear_sibling.new.disk) _ (only_wider (bytes_eq (y_file c.args.name.now)) (is_working c.args.name.now) _ _ (no_y c.args.name.now) c.clear_sibling.ensures.touches)) c.sync_names.ensures.done
 
 pub returns-in-Err-clause-story : goal.returns-in-Err-clause-story
 returns-in-Err-clause-story g c =
-    touched_story c.args.name.now _ _ (only_wider (bytes_eq (sibling 121 c.args.name.now)) (is_working c.args.name.now) _ _ (no_y c.args.name.now) c.clear_sibling.ensures.touches)
+    touched_story c.args.name.now _ _ (only_wider (bytes_eq (y_file c.args.name.now)) (is_working c.args.name.now) _ _ (no_y c.args.name.now) c.clear_sibling.ensures.touches)
 
 pub returns-in-Ok-clause-view_err : goal.returns-in-Ok-clause-view_err
 returns-in-Ok-clause-view_err g c =
@@ -27,8 +27,8 @@ returns-in-Ok-clause-view_err g c =
 
 pub returns-in-Ok-clause-firm : goal.returns-in-Ok-clause-firm
 returns-in-Ok-clause-firm g c =
-    synced_firm c.args.name.now _ (g.D.Disk.told c.clear_sibling.new.disk) _ c.sync_names.result (only_wider (bytes_eq (sibling 121 c.args.name.now)) (is_working c.args.name.now) _ _ (no_y c.args.name.now) c.clear_sibling.ensures.touches) c.sync_names.ensures.done c.sync_names.ensures.half
+    synced_firm c.args.name.now _ (g.D.Disk.told c.clear_sibling.new.disk) _ c.sync_names.result (only_wider (bytes_eq (y_file c.args.name.now)) (is_working c.args.name.now) _ _ (no_y c.args.name.now) c.clear_sibling.ensures.touches) c.sync_names.ensures.done c.sync_names.ensures.half
 
 pub returns-in-Err-clause-firm : goal.returns-in-Err-clause-firm
 returns-in-Err-clause-firm g c =
-    touched_firm c.args.name.now _ _ (only_wider (bytes_eq (sibling 121 c.args.name.now)) (is_working c.args.name.now) _ _ (no_y c.args.name.now) c.clear_sibling.ensures.touches)
+    touched_firm c.args.name.now _ _ (only_wider (bytes_eq (y_file c.args.name.now)) (is_working c.args.name.now) _ _ (no_y c.args.name.now) c.clear_sibling.ensures.touches)

@@ -1,5 +1,5 @@
 use Rattle.std.proofs.Common.{drop, refl}
-use Rattle.sccs_base.specs.Name.{sibling}
+use Rattle.sccs_base.specs.Name.{p_file, q_file, x_file, y_file, z_file}
 use Rattle.sccs_store.specs.Commits.{plan, replaced}
 use Rattle.sccs_moments.proofs.FileNames.{from_g, s_and_g, to_g, to_s}
 use Rattle.sccs_store.proofs.OwnFiles.{commit_others, first_others, second_others, third_others}
@@ -16,7 +16,7 @@ returns-in_err-swap_s-clause-stopped g c = err_of c.from_residual.result (first_
 
 pub swap_p-requires-clause-needs : goal.swap_p-requires-clause-needs
 swap_p-requires-clause-needs g c =
-    swapped_needs (replaced c.args.new_s) c.args.new_p (sibling 120 c.args.name.now) c.args.name.now (sibling 113 c.args.name.now) (sibling 112 c.args.name.now) _ _ refl (to_s 113 c.args.name.now c.requires.sfile refl) refl (to_s 112 c.args.name.now c.requires.sfile refl) c.in_ok-swap_s.ensures.ok c.requires.p
+    swapped_needs (replaced c.args.new_s) c.args.new_p (x_file c.args.name.now) c.args.name.now (q_file c.args.name.now) (p_file c.args.name.now) _ _ refl (to_s 113 c.args.name.now c.requires.sfile refl) refl (to_s 112 c.args.name.now c.requires.sfile refl) c.in_ok-swap_s.ensures.ok c.requires.p
 
 pub returns-in_err-swap_p-clause-halfway : goal.returns-in_err-swap_p-clause-halfway
 returns-in_err-swap_p-clause-halfway g c = err_of c.from_residual-in_err-swap_p.result (second_cut c.args.name.now (plan c.args.new_s c.args.new_p c.args.new_g) _ _ _ c.in_ok-swap_s.ensures.ok c.in_err-swap_p.ensures.err)
@@ -27,8 +27,8 @@ returns-in_err-swap_p-clause-stopped g c =
 
 pub swap_g-requires-clause-needs : goal.swap_g-requires-clause-needs
 swap_g-requires-clause-needs g c =
-    swapped_needs c.args.new_p c.args.new_g (sibling 113 c.args.name.now) (sibling 112 c.args.name.now) (sibling 121 c.args.name.now) (drop 2 c.args.name.now) _ _ refl refl (from_g 113 c.args.name.now c.requires.sfile) (from_g 112 c.args.name.now c.requires.sfile) c.in_ok-swap_p.ensures.ok
-    (swapped_needs (replaced c.args.new_s) c.args.new_g (sibling 120 c.args.name.now) c.args.name.now (sibling 121 c.args.name.now) (drop 2 c.args.name.now) _ _ refl (to_s 121 c.args.name.now c.requires.sfile refl) (from_g 120 c.args.name.now c.requires.sfile) (s_and_g c.args.name.now c.requires.sfile) c.in_ok-swap_s.ensures.ok c.requires.g)
+    swapped_needs c.args.new_p c.args.new_g (q_file c.args.name.now) (p_file c.args.name.now) (y_file c.args.name.now) (drop 2 c.args.name.now) _ _ refl refl (from_g 113 c.args.name.now c.requires.sfile) (from_g 112 c.args.name.now c.requires.sfile) c.in_ok-swap_p.ensures.ok
+    (swapped_needs (replaced c.args.new_s) c.args.new_g (x_file c.args.name.now) c.args.name.now (y_file c.args.name.now) (drop 2 c.args.name.now) _ _ refl (to_s 121 c.args.name.now c.requires.sfile refl) (from_g 120 c.args.name.now c.requires.sfile) (s_and_g c.args.name.now c.requires.sfile) c.in_ok-swap_s.ensures.ok c.requires.g)
 
 pub returns-in_err-swap_g-clause-halfway : goal.returns-in_err-swap_g-clause-halfway
 returns-in_err-swap_g-clause-halfway g c = err_of c.from_residual-in_err-swap_g.result (third_cut c.args.name.now (plan c.args.new_s c.args.new_p c.args.new_g) _ _ _ _ c.in_ok-swap_s.ensures.ok c.in_ok-swap_p.ensures.ok c.in_err-swap_g.ensures.err)
@@ -39,9 +39,9 @@ returns-in_err-swap_g-clause-stopped g c =
 
 pub unlock-requires-clause-there : goal.unlock-requires-clause-there
 unlock-requires-clause-there g c =
-    swapped_there c.args.new_g (sibling 121 c.args.name.now) (drop 2 c.args.name.now) (sibling 122 c.args.name.now) _ _ refl (to_g 122 c.args.name.now c.requires.sfile) c.in_ok-swap_g.ensures.ok
-    (swapped_there c.args.new_p (sibling 113 c.args.name.now) (sibling 112 c.args.name.now) (sibling 122 c.args.name.now) _ _ refl refl c.in_ok-swap_p.ensures.ok
-    (swapped_there (replaced c.args.new_s) (sibling 120 c.args.name.now) c.args.name.now (sibling 122 c.args.name.now) _ _ refl (to_s 122 c.args.name.now c.requires.sfile refl) c.in_ok-swap_s.ensures.ok c.requires.z))
+    swapped_there c.args.new_g (y_file c.args.name.now) (drop 2 c.args.name.now) (z_file c.args.name.now) _ _ refl (to_g 122 c.args.name.now c.requires.sfile) c.in_ok-swap_g.ensures.ok
+    (swapped_there c.args.new_p (q_file c.args.name.now) (p_file c.args.name.now) (z_file c.args.name.now) _ _ refl refl c.in_ok-swap_p.ensures.ok
+    (swapped_there (replaced c.args.new_s) (x_file c.args.name.now) c.args.name.now (z_file c.args.name.now) _ _ refl (to_s 122 c.args.name.now c.requires.sfile refl) c.in_ok-swap_s.ensures.ok c.requires.z))
 
 pub returns-clause-view : goal.returns-clause-view
 returns-clause-view g c = ok_map c.unlock.result (all_made c.args.name.now (plan c.args.new_s c.args.new_p c.args.new_g) _ _ _ _ _ c.in_ok-swap_s.ensures.ok c.in_ok-swap_p.ensures.ok c.in_ok-swap_g.ensures.ok) c.unlock.ensures.ok

@@ -1,5 +1,5 @@
 use Rattle.std.proofs.Common.{Err, ap, refl, ◌∙◌}
-use Rattle.sccs_base.specs.Name.{sibling}
+use Rattle.sccs_base.specs.Name.{z_file}
 use Rattle.sccs_disk.specs.Effects.{empty_file}
 use Rattle.sccs_disk.specs.Told.{seen}
 use Rattle.sccs_store.proofs.Working.{made_there}
@@ -48,7 +48,7 @@ returns-in-Err-clause-causes g c =
     given_up_causes c.in-Err.fault c.prepare.result c.give_up.result c.args.name.now (world (seen (g.D.Disk.told c.prepare.new.disk)) (g.O.Sink.given c.prepare.new.out) (g.E.Sink.given c.args.err.now)) (world (seen (g.D.Disk.told c.give_up.new.disk)) (g.O.Sink.given c.prepare.new.out) (g.E.Sink.given c.args.err.now)) _ _ _ _ _ _ _ _ _ c.in-Err.is (c.give_up.ensures.gives_up (g.O.Sink.given c.prepare.new.out) (g.E.Sink.given c.args.err.now)) c.lock.ensures.later c.prepare.ensures.causes c.give_up.ensures.later c.give_up.ensures.cause
 
 pub prepare-requires-clause-locked : goal.prepare-requires-clause-locked
-prepare-requires-clause-locked g c = made_there (sibling 122 c.args.name.now) empty_file (g.D.Disk.told c.args.disk.now) (g.D.Disk.told c.lock.new.disk) c.in-Ok.ensures.view
+prepare-requires-clause-locked g c = made_there (z_file c.args.name.now) empty_file (g.D.Disk.told c.args.disk.now) (g.D.Disk.told c.lock.new.disk) c.in-Ok.ensures.view
 
 pub returns-in-Err-Locked-clause-moments : goal.returns-in-Err-Locked-clause-moments
 returns-in-Err-Locked-clause-moments g c = λ m past i is heard calm safe.

@@ -3,7 +3,7 @@ use Rattle.sccs_disk.specs.Told.{seen}
 use Rattle.sccs_admin.specs.AdminStep.{FindsText}
 use Rattle.sccs_admin.proofs.PrepareLaws.{find_fails, found_prepares, text_quiet, text_ready, text_speaks, there_still}
 use Rattle.std.specs.Str.{bytes_eq}
-use Rattle.sccs_base.specs.Name.{sibling}
+use Rattle.sccs_base.specs.Name.{x_file}
 use Rattle.sccs_files.specs.StepFiles.{is_working}
 use Rattle.sccs_images.proofs.Touched.{only_wider}
 use Rattle.sccs_moments.proofs.FileNames.{no_x}
@@ -31,7 +31,7 @@ returns-in-Err-clause-prepares g c = λ err. find_fails c.args.self.now.words.no
 
 pub returns-in-Ok-clause-touches : goal.returns-in-Ok-clause-touches
 returns-in-Ok-clause-touches g c =
-    touches_from (is_working c.args.name.now) _ (g.D.Disk.told c.find_text.new.disk) _ c.find_text.ensures.same (only_wider (bytes_eq (sibling 120 c.args.name.now)) (is_working c.args.name.now) _ _ (no_x c.args.name.now) c.write_text.ensures.touches)
+    touches_from (is_working c.args.name.now) _ (g.D.Disk.told c.find_text.new.disk) _ c.find_text.ensures.same (only_wider (bytes_eq (x_file c.args.name.now)) (is_working c.args.name.now) _ _ (no_x c.args.name.now) c.write_text.ensures.touches)
 
 pub returns-in-Ok-clause-firm : goal.returns-in-Ok-clause-firm
 returns-in-Ok-clause-firm g c = firm_still c.write_text.result c.args.name.now _ (g.D.Disk.told c.find_text.new.disk) _ c.find_text.ensures.same c.write_text.ensures.firm

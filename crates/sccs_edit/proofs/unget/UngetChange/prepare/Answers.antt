@@ -10,7 +10,7 @@ use Rattle.sccs_edit.proofs.UngetLaws.{none_meant, one_meant, some_edits}
 use Rattle.std.specs.Str.{bytes_eq}
 use Rattle.std.proofs.Common.{◌-◌}
 use Rattle.std.proofs.lemmas.List.Elements.{recursion_from_All}
-use Rattle.sccs_base.specs.Name.{sibling}
+use Rattle.sccs_base.specs.Name.{q_file}
 use Rattle.sccs_files.specs.StepFiles.{is_working}
 use Rattle.sccs_images.proofs.Touched.{only_wider}
 use Rattle.sccs_moments.proofs.FileNames.{no_q}
@@ -53,7 +53,7 @@ returns-in-Err-chosen-clause-touches g c = same_touches (is_working c.args.name.
 
 pub returns-in-Ok-chosen-clause-touches : goal.returns-in-Ok-chosen-clause-touches
 returns-in-Ok-chosen-clause-touches g c =
-    touches_from (is_working c.args.name.now) _ (g.D.Disk.told c.read_pending.new.disk) _ c.read_pending.ensures.frame.same (only_wider (bytes_eq (sibling 113 c.args.name.now)) (is_working c.args.name.now) _ _ (no_q c.args.name.now) c.drop_entry.ensures.touches)
+    touches_from (is_working c.args.name.now) _ (g.D.Disk.told c.read_pending.new.disk) _ c.read_pending.ensures.frame.same (only_wider (bytes_eq (q_file c.args.name.now)) (is_working c.args.name.now) _ _ (no_q c.args.name.now) c.drop_entry.ensures.touches)
 
 pub returns-in-Ok-chosen-clause-firm : goal.returns-in-Ok-chosen-clause-firm
 returns-in-Ok-chosen-clause-firm g c = firm_still c.drop_entry.result c.args.name.now _ (g.D.Disk.told c.read_pending.new.disk) _ c.read_pending.ensures.frame.same c.drop_entry.ensures.firm
