@@ -55,7 +55,7 @@ admin_outcome words stamp n input named f = do
   makes (new_content words stamp count (text_of text)) f
 
 abbrev pub admin_change : AdminWords → Stamp → Changing
-admin_change words stamp = record { outcome = admin_outcome words stamp; named = named_by words.text; takes = takes_input words.text; silent = true; could = quiet_checks admin_checks }
+admin_change words stamp = record { outcome = admin_outcome words stamp; named = λ n. named_by words.text; takes = takes_input words.text; silent = true; could = quiet_checks admin_checks }
 
 -- The release and the moment are valid ones.
 pub record AreAdminValues (words : AdminWords) (stamp : Stamp) : Type 0 where

@@ -252,4 +252,4 @@ could_make (Ok effect) = is_empty effect.err || bytes_eq (codes "WARNING [") (ta
 could_make (Err refusal) = has_number delta_checks (number_of refusal)
 
 abbrev pub delta_change : DeltaWords → Stamp → Changing
-delta_change words stamp = record { outcome = delta_outcome words stamp; named = []; takes = true; silent = false; could = could_make }
+delta_change words stamp = record { outcome = delta_outcome words stamp; named = λ n. []; takes = true; silent = false; could = could_make }

@@ -17,6 +17,7 @@ use Rattle.sccs_tokens.specs.Written.{ended}
 use Rattle.sccs_pfile.specs.declared.entries.Edit.{Edit}
 use Rattle.sccs_steps.specs.StepEffects.{Outcome, StepEffect, check}
 use Rattle.sccs_steps.specs.Actions.{Action, has_number}
+use Rattle.sccs_steps.specs.declared.statuses.StatusRule.TheVariants.{Greatest}
 use Rattle.sccs_pending.specs.PFiles.{entries_of}
 use Rattle.sccs_pending.specs.Reports.{heading_text}
 
@@ -62,7 +63,7 @@ could_show (Ok effect) = is_empty effect.err || bytes_eq none_outstanding (take 
 could_show (Err refusal) = has_number sact_checks (number_of refusal)
 
 abbrev pub sact_action : Bool → Action
-sact_action heading = record { fits = is_sfile_name; step = λ n input named files. sact_step heading n files; named = []; takes = false; reads = true; locks = true; silent = false; could = could_show }
+sact_action heading = record { fits = is_sfile_name; step = λ n input named files. sact_step heading n files; named = λ n. []; takes = false; reads = true; locks = true; silent = false; rule = Greatest; could = could_show }
 
 -- What showing entries answers, and writes on out and err: all, or a prefix of each; without memory nothing.
 abbrev pub ShowsEdits : Result (Unit {0}) StepFault → StepEffect → Option (List ℕ) → Option (List ℕ) → Option (List ℕ) → Option (List ℕ) → Type 0

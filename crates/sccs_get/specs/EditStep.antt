@@ -66,4 +66,4 @@ could_edit words (Ok effect) = says_well words effect.err
 could_edit words (Err refusal) = has_number edit_checks (number_of refusal)
 
 abbrev pub edit_change : GetWords → Stamp → List ℕ → Bool → Changing
-edit_change words stamp place heading = record { outcome = edit_outcome words stamp place heading; named = []; takes = false; silent = false; could = could_edit words }
+edit_change words stamp place heading = record { outcome = edit_outcome words stamp place heading; named = λ n. []; takes = false; silent = false; could = could_edit words }

@@ -30,6 +30,7 @@ use Rattle.sccs_gfiles.specs.Finished.{is_writable}
 use Rattle.sccs_pending.specs.Pending.{bytes_at}
 use Rattle.sccs_steps.specs.Actions.{Action, has_number}
 use Rattle.sccs_steps.specs.StepEffects.{Outcome, StepEffect, check, there}
+use Rattle.sccs_steps.specs.declared.statuses.StatusRule.TheVariants.{Greatest}
 use Rattle.sccs_get.specs.NewEntry.{singles}
 use Rattle.sccs_get.specs.AskedVersion.{asked}
 use Rattle.sccs_get.specs.Reports.{get_report, get_warning, replaces, said_on_err, said_on_out}
@@ -149,10 +150,11 @@ abbrev pub get_action : GetWords → Stamp → List ℕ → Bool → Action
 get_action words stamp place heading = record {
   fits = is_sfile_name;
   step = λ n input named files. get_outcome words stamp place heading n files;
-  named = [];
+  named = λ n. [];
   takes = false;
   reads = not (writes_g words);
   locks = true;
   silent = false;
+  rule = Greatest;
   could = could_get words;
 }

@@ -7,6 +7,7 @@ use Rattle.sccs_files.specs.StepFiles.{Files}
 use Rattle.sccs_pfile.specs.Recovered.{recovered_pfile}
 use Rattle.sccs_steps.specs.StepEffects.{Outcome, StepEffect}
 use Rattle.sccs_steps.specs.Actions.{Action, quiet_checks}
+use Rattle.sccs_steps.specs.declared.statuses.StatusRule.TheVariants.{Greatest}
 use Rattle.sccs_recovery.specs.Checks.{readable, recover_checks}
 
 -- the entries whose delta is made leave the p-file, and the z-file goes
@@ -37,4 +38,4 @@ recover_step n f = do
   Ok (recovers n f)
 
 abbrev pub recover_action : Action
-recover_action = record { fits = is_sfile_name; step = λ n input named files. recover_step n files; named = []; takes = false; reads = false; locks = false; silent = false; could = quiet_checks recover_checks }
+recover_action = record { fits = is_sfile_name; step = λ n input named files. recover_step n files; named = λ n. []; takes = false; reads = false; locks = false; silent = false; rule = Greatest; could = quiet_checks recover_checks }

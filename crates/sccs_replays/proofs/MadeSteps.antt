@@ -14,7 +14,7 @@ use Rattle.sccs_steps.proofs.NameLaws.{fitting, misfit}
 -- What an action makes of the files of a name that it takes.
 pub record IsMadeOf (x : Action) (i : List ℕ) (m : Folder) (t : NamedStep) : Type 0 where
   pub fits : x.fits t.name ≡ true
-  pub made : x.step t.name i (map (view_in m) x.named) (look (view_in m) t.name) ≡ Ok t.effect
+  pub made : x.step t.name i (map (view_in m) (x.named t.name)) (look (view_in m) t.name) ≡ Ok t.effect
 
 abbrev pub IsStepOf : Action → List ℕ → Folder → NamedStep → Type 0
 IsStepOf x i m t = (t.effect.new ≡ None) ⊎ IsMadeOf x i m t
@@ -29,14 +29,14 @@ AreStepsOf x i m (t ∷ ts) = IsStepOf x i m t × AreStepsOf x i (moved_in m t.n
 step_is : (x : Action) (m : Folder) (i name : List ℕ) → IsStepOf x i m (step_at x m i name)
 step_is x m i name = by (x.fits name) refl
   where
-    made : (o : Outcome) → x.fits name ≡ true → x.step name i (map (view_in m) x.named) (look (view_in m) name) ≡ o → IsStepOf x i m (step_at x m i name)
+    made : (o : Outcome) → x.fits name ≡ true → x.step name i (map (view_in m) (x.named name)) (look (view_in m) name) ≡ o → IsStepOf x i m (step_at x m i name)
     made (Ok d) fits is =
         let effect : effect_of name (Ok d) ≡ (step_at x m i name).effect = sym (ap (effect_of name) (fitting x m i name fits ∙ is)) in
         inr (record { fits = fits; made = is ∙ ap Ok effect })
     made (Err refusal) fits is = inl (ap (λ (o : Outcome). (effect_of name o).new) (fitting x m i name fits ∙ is))
 
     by : (fits : Bool) → x.fits name ≡ fits → IsStepOf x i m (step_at x m i name)
-    by true fits = made (x.step name i (map (view_in m) x.named) (look (view_in m) name)) fits refl
+    by true fits = made (x.step name i (map (view_in m) (x.named name)) (look (view_in m) name)) fits refl
     by false unfit = inl (ap (λ (o : Outcome). (effect_of name o).new) (misfit x m i name unfit))
 
 -- ---- lists

@@ -65,7 +65,7 @@ other_stays x i n m t keeps sfile plain apart (inl none) = ap (λ (new : Option 
 other_stays x i n m t keeps sfile plain apart (inr made) = by x.reads refl
   where
     by : (reads : Bool) → x.reads ≡ reads → view_in (moved_in m t.name t.effect.new) n ≡ view_in m n
-    by true is = ap (λ (new : Option Files). view_in (moved_in m t.name new) n) (keeps.quiet is t.name i (map (view_in m) x.named) (look (view_in m) t.name) t.effect made.made)
+    by true is = ap (λ (new : Option Files). view_in (moved_in m t.name new) n) (keeps.quiet is t.name i (map (view_in m) (x.named t.name)) (look (view_in m) t.name) t.effect made.made)
     by false is = other_file m t.name n t.effect.new sfile (plain made.fits is) apart
 
 -- the versions of the step's own name

@@ -140,7 +140,7 @@ admin_goes who words i n named f texts d moment login values is are =
 -- ---- commands
 
 admin_by : (built : Bool) (who : Caller) (words : AdminWords) (i n : List ℕ) (m : Folder) (texts : Texts) (d : StepEffect) → IsMoment who.stamp.moment → IsLogin who.stamp.login → HasMeantValues (c.Admin words (record { words = []; from_input = false }))
-    → (let x : Action = if built then locking (admin_change words who.stamp) else unbuilt false false in x.step n i (map (view_in m) x.named) (look (view_in m) n) ≡ Ok d)
+    → (let x : Action = if built then locking (admin_change words who.stamp) else unbuilt false false in x.step n i (map (view_in m) (x.named n)) (look (view_in m) n) ≡ Ok d)
     → Goes (view_in m n) d.new texts (first_version (found_text words.text i (map (view_in m) (named_by words.text)) (view_in m n)))
 admin_by true who words i n m texts d moment login values is =
     admin_goes who words i n (map (view_in m) (named_by words.text)) (look (view_in m) n) texts d moment login values
@@ -148,7 +148,7 @@ admin_by true who words i n m texts d moment login values is =
 admin_by false who words i n m texts d moment login values is = absurd cc
 
 get_by : (edit : Bool) (who : Caller) (words : GetWords) (heading : Bool) (i n : List ℕ) (m : Folder) (texts : Texts) (d : StepEffect)
-    → (let x : Action = if edit then locking (edit_change words who.stamp who.place heading) else get_action words who.stamp who.place heading in x.step n i (map (view_in m) x.named) (look (view_in m) n) ≡ Ok d)
+    → (let x : Action = if edit then locking (edit_change words who.stamp who.place heading) else get_action words who.stamp who.place heading in x.step n i (map (view_in m) (x.named n)) (look (view_in m) n) ≡ Ok d)
     → Goes (view_in m n) d.new texts texts
 get_by true who words heading i n m texts d is =
     left (view_in m n) _ d texts (locking_leaves (edit_outcome words who.stamp who.place heading) n i [] (look (view_in m) n) (edit_leaves words who.stamp who.place heading n i [] (look (view_in m) n))) is
@@ -158,7 +158,7 @@ refused : (m : Folder) (n : List ℕ) (texts : Texts) (d : StepEffect) → (let 
 refused m n texts d is = left (view_in m n) (Err refusals.Unbuilt) d texts (refused_leaves (view_in m n) refusals.Unbuilt) is
 
 pub command_goes : (who : Caller) (command : Command) (i n : List ℕ) (m : Folder) (texts : Texts) (d : StepEffect) → IsMoment who.stamp.moment → IsLogin who.stamp.login → HasMeantValues command
-    → (action_of who command).step n i (map (view_in m) (action_of who command).named) (look (view_in m) n) ≡ Ok d → Goes (view_in m n) d.new texts (versions_after_command who command i m n texts)
+    → (action_of who command).step n i (map (view_in m) ((action_of who command).named n)) (look (view_in m) n) ≡ Ok d → Goes (view_in m n) d.new texts (versions_after_command who command i m n texts)
 command_goes who (c.Admin words operands) i n m texts d moment login values is = admin_by (is_admin_built words) who words i n m texts d moment login values is
 command_goes who (c.Get words operands) i n m texts d moment login values is = get_by words.edit who words (has_heading operands) i n m texts d is
 command_goes who (c.Delta words name) i n m texts d moment login values is = delta_goes who words i n m texts d moment login values is

@@ -1,7 +1,7 @@
 -- What a disk shows after a step: of a command that only reads all that it showed, else all but working files.
-use Rattle.std.proofs.Common.{◌≡◌, ℕ, Bool, true, false, List, [], ◌∷◌, map, Option, None, Ok, Err, inl, inr, refl, sym, ap, subst, ◌∙◌}
-use Rattle.std.proofs.Math.Path.{fun_ext}
+use Rattle.std.proofs.Common.{◌≡◌, ℕ, Bool, true, false, List, [], ◌∷◌, drop, map, Option, None, Ok, Err, inl, inr, refl, sym, ap, subst, ◌∙◌}
 use Rattle.std.specs.List.{AllByRecursion}
+use Rattle.sccs_base.specs.Name.{p_file, z_file}
 use Rattle.sccs_disk.specs.Files.{Content, Folder, View, view_in}
 use Rattle.sccs_files.specs.StepFiles.{Files, look, moved, moved_in, is_working, Alike, Moves, Shows}
 use Rattle.sccs_files.proofs.Folders.{moved_view}
@@ -22,7 +22,11 @@ kept_effect reads n (Err refusal) kept is = refl
 
 -- a step sees the files that are shown
 pub clear_look : (reads : Bool) (w : List ℕ → Bool) (n : List ℕ) (u v : View) → IsClear reads w n → Alike w u v → look u n ≡ look v n
-clear_look reads w n u v (inl all) alike = ap (λ (view : View). look view n) (fun_ext (λ k. alike k (all.1 k)))
+clear_look reads w n u v (inl (only, seen)) alike =
+    ap (λ (o : Option Content). record { s = o; p = u (p_file n); z = u (z_file n); g = u (drop 2 n) }) (alike n seen.s)
+    ∙ (ap (λ (o : Option Content). record { s = v n; p = o; z = u (z_file n); g = u (drop 2 n) }) (alike (p_file n) seen.p)
+    ∙ (ap (λ (o : Option Content). record { s = v n; p = v (p_file n); z = o; g = u (drop 2 n) }) (alike (z_file n) seen.z)
+    ∙ ap (λ (o : Option Content). record { s = v n; p = v (p_file n); z = v (z_file n); g = o }) (alike (drop 2 n) seen.g)))
 clear_look reads w n u v (inr apart) alike = look_alike w n u v apart alike
 
 -- a step sees the files that its words name

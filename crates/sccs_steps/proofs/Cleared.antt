@@ -84,3 +84,8 @@ cleared_made reads w n d None b (inr apart) same status moves = tt
 cleared_made reads w n d (Some u) None (inr apart) same status moves = absurd moves
 cleared_made reads w n d (Some u) (Some v) (inr apart) same status moves = λ k h used.
     inr (moves k (unused d.status (is_working n k) status used) ∙ moved_other w n d.new u k apart h)
+
+-- what is made with a status, which is 0 unless the step only reads
+pub cleared_status : (reads : Bool) (w : List ℕ → Bool) (n : List ℕ) (d : StepEffect) (status : ℕ) (a b : Option View) → IsClear reads w n → (reads ≡ true → b ≡ a) → (reads ≡ false → status ≡ 0) → d.status ≡ status → Moves (is_working n) (λ u. moved u n d.new) a b → AreAllCleared w (named_step n (Ok d) ∷ []) a b
+cleared_status true w n d status a b clear same none code moves = cleared_same w (named_step n (Ok d) ∷ []) a b (same refl)
+cleared_status false w n d status a b clear same none code moves = cleared_made false w n d a b clear same (code ∙ none refl) moves

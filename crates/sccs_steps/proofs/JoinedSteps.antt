@@ -1,5 +1,5 @@
 -- Lists of steps, one behind another.
-use Rattle.std.proofs.Common.{◌≡◌, ℕ, ◌<◌, max, Bool, List, [], ◌∷◌, ◌++◌, length, Option, Ok, refl, sym, ap, subst, ◌∙◌, arith, append_assoc, length-append}
+use Rattle.std.proofs.Common.{◌≡◌, ℕ, ◌<◌, Bool, List, [], ◌∷◌, ◌++◌, length, Option, Ok, refl, sym, ap, subst, ◌∙◌, arith, append_assoc, length-append}
 use Rattle.std.proofs.lemmas.List.{append-nil}
 use Rattle.std.proofs.lemmas.Grind.{flat_map-append}
 use Rattle.sccs_base.specs.Stream.{GivesOk, GivesSome}
@@ -9,9 +9,12 @@ use Rattle.sccs_files.specs.StepFiles.{Shows}
 use Rattle.sccs_steps.specs.StepLists.{NamedStep, Ran, Stopped, ListInterrupted, Stops, Runs, ShowsNext, SoFar, Parts, folder_after, next_folder, out_of, err_of, status_of, next_text}
 use Rattle.sccs_steps.specs.declared.faults.Fault.{Fault}
 use Rattle.sccs_steps.specs.declared.faults.Fault.TheVariants.{Memory, ReadFault, WriteFault, DiskFault}
+use Rattle.sccs_steps.specs.Statuses.{idle_status, joined_status}
+use Rattle.sccs_steps.specs.declared.statuses.StatusRule.{StatusRule}
 use Rattle.sccs_steps.proofs.Cleared.{cleared_same, cleared_then}
 use Rattle.sccs_base.proofs.Gifts.{gives_none, gives_both, gives_then, some_longer}
 use Rattle.sccs_steps.proofs.FirstMoved.{next_longer}
+use Rattle.sccs_steps.proofs.StatusLaws.{grouped, idle_first}
 
 pub after_more : (m : Folder) (ts us : List NamedStep) → folder_after m (ts ++ us) ≡ folder_after (folder_after m ts) us
 after_more m [] us = refl
@@ -23,9 +26,10 @@ out_more ts us = flat_map-append (λ (t : NamedStep). t.effect.text ++ t.effect.
 pub err_more : (ts us : List NamedStep) → err_of (ts ++ us) ≡ err_of ts ++ err_of us
 err_more ts us = flat_map-append (λ (t : NamedStep). t.effect.err) ts us
 
-pub status_more : (ts us : List NamedStep) → status_of (ts ++ us) ≡ max (status_of ts) (status_of us)
-status_more [] us = omega arith
-status_more (t ∷ ts) us = let rest : status_of (ts ++ us) ≡ max (status_of ts) (status_of us) = status_more ts us in omega arith
+pub status_more : (rule : StatusRule) (ts us : List NamedStep) → status_of rule (ts ++ us) ≡ joined_status rule (status_of rule ts) (status_of rule us)
+status_more rule [] us = sym (idle_first rule (status_of rule us))
+status_more rule (t ∷ ts) us =
+    ap (λ s. joined_status rule t.effect.status s) (status_more rule ts us) ∙ sym (grouped rule t.effect.status (status_of rule ts) (status_of rule us))
 
 pub ran_none : (w : List ℕ → Bool) (m : Folder) (a : World) → Shows w a.view (view_in m) → Ran w m [] a a
 ran_none w m a shows = record { view = shows; cleared = cleared_same w [] a.view a.view refl; out = gives_none a.out; err = gives_none a.err }
@@ -112,33 +116,33 @@ stops_more w WriteFault m ts us a b s = stopped_more w m ts us a b s
 stops_more w DiskFault m ts us a b s = broke_more w m ts us a b s
 
 -- nothing is made yet
-abbrev pub begins : (w : List ℕ → Bool) (m : Folder) (left : Folder → List NamedStep) (a : World) → Shows w a.view (view_in m) → SoFar w m (left m) left 0 a a
-begins w m left a shows = record { made = []; is = refl; code = refl; ran = ran_none w m a shows }
+abbrev pub begins : (rule : StatusRule) (w : List ℕ → Bool) (m : Folder) (left : Folder → List NamedStep) (status : ℕ) (a : World) → status ≡ idle_status rule → Shows w a.view (view_in m) → SoFar rule w m (left m) left status a a
+begins rule w m left status a idle shows = record { made = []; is = refl; code = idle; ran = ran_none w m a shows }
 
 -- the next ones are made
-abbrev pub goes_on : (w : List ℕ → Bool) (m : Folder) (all : List NamedStep) (left first rest : Folder → List NamedStep) (status one : ℕ) (a b c : World) → Parts left first rest → (so : SoFar w m all left status a b)
-    → Runs w (Ok one) (folder_after m so.made) (first (folder_after m so.made)) b c → SoFar w m all rest (max status one) a c
-goes_on w m all left first rest status one a b c parts so next =
+abbrev pub goes_on : (rule : StatusRule) (w : List ℕ → Bool) (m : Folder) (all : List NamedStep) (left first rest : Folder → List NamedStep) (status one : ℕ) (a b c : World) → Parts left first rest → (so : SoFar rule w m all left status a b)
+    → Runs rule w (Ok one) (folder_after m so.made) (first (folder_after m so.made)) b c → SoFar rule w m all rest (joined_status rule status one) a c
+goes_on rule w m all left first rest status one a b c parts so next =
     let u : Folder = folder_after m so.made in
     let more : List NamedStep = first u in
     record {
       made = so.made ++ more;
       is = so.is ∙ (ap (λ ts. so.made ++ ts) (parts u) ∙ (sym (append_assoc so.made more (rest (folder_after u more))) ∙ ap (λ (v : Folder). (so.made ++ more) ++ rest v) (sym (after_more m so.made more))));
-      code = ap (λ s. max s one) so.code ∙ (ap (λ s. max (status_of so.made) s) next.0 ∙ sym (status_more so.made more));
+      code = ap (λ s. joined_status rule s one) so.code ∙ (ap (λ s. joined_status rule (status_of rule so.made) s) next.0 ∙ sym (status_more rule so.made more));
       ran = ran_then w m so.made more a b c so.ran next.1;
     }
 
 -- the next ones aren't made, or not whole
-pub ends_early : (w : List ℕ → Bool) (fault : Fault) (m : Folder) (all : List NamedStep) (left first rest : Folder → List NamedStep) (status : ℕ) (a b c : World) → Parts left first rest → (so : SoFar w m all left status a b)
+pub ends_early : (rule : StatusRule) (w : List ℕ → Bool) (fault : Fault) (m : Folder) (all : List NamedStep) (left first rest : Folder → List NamedStep) (status : ℕ) (a b c : World) → Parts left first rest → (so : SoFar rule w m all left status a b)
     → Stops w fault (folder_after m so.made) (first (folder_after m so.made)) b c → Stops w fault m all a c
-ends_early w fault m all left first rest status a b c parts so next =
+ends_early rule w fault m all left first rest status a b c parts so next =
     let u : Folder = folder_after m so.made in
     let is : so.made ++ (first u ++ rest (folder_after u (first u))) ≡ all = ap (λ ts. so.made ++ ts) (sym (parts u)) ∙ sym so.is in
     subst (λ ts. Stops w fault m ts a c) is
     (stops_then w fault m so.made (first u ++ rest (folder_after u (first u))) a b c so.ran (stops_more w fault u (first u) (rest (folder_after u (first u))) b c next))
 
 -- all are made
-pub ends : (w : List ℕ → Bool) (m : Folder) (all : List NamedStep) (left : Folder → List NamedStep) (status : ℕ) (a b : World) → ((u : Folder) → left u ≡ []) → SoFar w m all left status a b → Runs w (Ok status) m all a b
-ends w m all left status a b none so =
+pub ends : (rule : StatusRule) (w : List ℕ → Bool) (m : Folder) (all : List NamedStep) (left : Folder → List NamedStep) (status : ℕ) (a b : World) → ((u : Folder) → left u ≡ []) → SoFar rule w m all left status a b → Runs rule w (Ok status) m all a b
+ends rule w m all left status a b none so =
     let is : so.made ≡ all = sym (append-nil so.made) ∙ (ap (λ ts. so.made ++ ts) (sym (none (folder_after m so.made))) ∙ sym so.is) in
-    (so.code ∙ ap status_of is, subst (λ ts. Ran w m ts a b) is so.ran)
+    (so.code ∙ ap (status_of rule) is, subst (λ ts. Ran w m ts a b) is so.ran)

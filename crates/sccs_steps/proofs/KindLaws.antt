@@ -24,11 +24,13 @@ use Rattle.sccs_steps.specs.ListStops.{AreSafe, ListMoments, RunMoments, Spares,
 use Rattle.sccs_steps.specs.Messages.{SaysRefusal}
 use Rattle.sccs_steps.specs.Running.{MakesBy, StopsBy}
 use Rattle.sccs_steps.specs.Speaking.{KindBegins, KindMakes, MayStandFor, SpeakNames, SpeaksKind, SpeaksOne}
-use Rattle.sccs_steps.specs.StepLists.{NamedStep, Ran, Runs, Stopped, named_step, next_text}
+use Rattle.sccs_steps.specs.StepLists.{NamedStep, Ran, Runs, Stopped, named_step, next_text, status_of}
 use Rattle.sccs_steps.specs.declared.faults.Fault.{Fault}
 use Rattle.sccs_steps.specs.declared.faults.Fault.TheVariants.{Memory, ReadFault, WriteFault, DiskFault}
 use Rattle.sccs_steps.specs.declared.operands.OperandKind.{OperandKind}
 use Rattle.sccs_steps.specs.declared.operands.OperandKind.TheVariants.{Named, Here, FromInput}
+use Rattle.sccs_steps.specs.Statuses.{idle_status}
+use Rattle.sccs_steps.specs.declared.statuses.StatusRule.{StatusRule}
 use Rattle.sccs_steps.proofs.Cleared.{cleared_same}
 use Rattle.sccs_steps.proofs.FirstMoved.{shows_none}
 use Rattle.sccs_steps.proofs.JoinedSteps.{ran_then, stops_then}
@@ -38,18 +40,19 @@ use Rattle.sccs_steps.proofs.NameLaws.{refusal_runs, speak_refusal, speak_whole}
 use Rattle.sccs_steps.proofs.NameStops.{alike_told, refusal_stops}
 use Rattle.sccs_steps.proofs.SafeImages.{images_now, images_then}
 use Rattle.sccs_steps.proofs.Safety.{stay_same}
+use Rattle.sccs_steps.proofs.StatusLaws.{idle_first}
 
 -- ---- steps that weren't begun
 
 abbrev unbegun : (w : List ℕ → Bool) (m : Folder) (ts : List NamedStep) (a : World) → Shows w a.view (view_in m) → Stopped w m ts a a
 unbegun w m ts a shows = record { made = []; rest = ts; is = refl; view = shows; cleared = cleared_same w [] a.view a.view refl; out = some_none a.out (next_text ts); err = some_none a.err [] }
 
-pub never_runs : (w : List ℕ → Bool) (fault : Fault) (m : Folder) (ts : List NamedStep) (a : World) → 0 < length ts → Shows w a.view (view_in m) → Runs w (Err fault) m ts a a
-never_runs w Memory m ts a some shows = (unbegun w m ts a shows, some)
-never_runs w ReadFault m ts a some shows = (unbegun w m ts a shows, some)
-never_runs w WriteFault m ts a some shows = unbegun w m ts a shows
-never_runs w DiskFault m [] a some shows = absurd (omega (arith, some))
-never_runs w DiskFault m (t ∷ ts) a some shows = record {
+pub never_runs : (rule : StatusRule) (w : List ℕ → Bool) (fault : Fault) (m : Folder) (ts : List NamedStep) (a : World) → 0 < length ts → Shows w a.view (view_in m) → Runs rule w (Err fault) m ts a a
+never_runs rule w Memory m ts a some shows = (unbegun w m ts a shows, some)
+never_runs rule w ReadFault m ts a some shows = (unbegun w m ts a shows, some)
+never_runs rule w WriteFault m ts a some shows = unbegun w m ts a shows
+never_runs rule w DiskFault m [] a some shows = absurd (omega (arith, some))
+never_runs rule w DiskFault m (t ∷ ts) a some shows = record {
   made = [];
   rest = t ∷ ts;
   is = refl;
@@ -60,7 +63,7 @@ never_runs w DiskFault m (t ∷ ts) a some shows = record {
 
 pub never_begun : (x : Action) (steps : Folder → List ℕ → List NamedStep) (given : List ℕ → Type 0) (fault : Fault) (old new : Told) (out err : Option (List ℕ)) → ((m : Folder) (i : List ℕ) → 0 < length (steps m i)) → new ≡ old → MakesBy x steps given (Err fault) (scene old out err) (scene new out err)
 never_begun x steps given fault old new out err some same = λ w m i spares clear shows heard.
-    subst (λ (t : Told). Runs w (Err fault) m (steps m i) (shown (scene old out err)) (shown (scene t out err))) (sym same) (never_runs w fault m (steps m i) (shown (scene old out err)) (some m i) shows)
+    subst (λ (t : Told). Runs x.rule w (Err fault) m (steps m i) (shown (scene old out err)) (shown (scene t out err))) (sym same) (never_runs x.rule w fault m (steps m i) (shown (scene old out err)) (some m i) shows)
 
 pub never_stops : (x : Action) (steps : Folder → List ℕ → List NamedStep) (given : List ℕ → Type 0) (fault : Fault) (old new : Told) (out err : Option (List ℕ)) → new ≡ old → StopsBy x steps given (Err fault) (scene old out err) (scene new out err)
 never_stops x steps given fault old new out err same = λ w folder i m past spares clear shows heard is calm safe.
@@ -70,15 +73,15 @@ never_stops x steps given fault old new out err same = λ w folder i m past spar
 
 -- ---- names that were found, and their steps
 
-found_ran : (w : List ℕ → Bool) (m : Folder) (a : World) → Shows w a.view (view_in m) → Ran w m (names_found ∷ []) a a
-found_ran w m a shows = record { view = shows; cleared = cleared_same w (names_found ∷ []) a.view a.view refl; out = gives_none a.out; err = gives_none a.err }
+found_ran : (rule : StatusRule) (w : List ℕ → Bool) (m : Folder) (a : World) → Shows w a.view (view_in m) → Ran w m (names_found rule ∷ []) a a
+found_ran rule w m a shows = record { view = shows; cleared = cleared_same w (names_found rule ∷ []) a.view a.view refl; out = gives_none a.out; err = gives_none a.err }
 
-pub found_runs : (w : List ℕ → Bool) (r : Result ℕ Fault) (m : Folder) (ts : List NamedStep) (a b : World) → Shows w a.view (view_in m) → Runs w r m ts a b → Runs w r m (names_found ∷ ts) a b
-found_runs w (Ok status) m ts a b shows runs = (runs.0 ∙ omega arith, ran_then w m (names_found ∷ []) ts a a b (found_ran w m a shows) runs.1)
-found_runs w (Err fault) m ts a b shows runs = stops_then w fault m (names_found ∷ []) ts a a b (found_ran w m a shows) runs
+pub found_runs : (rule : StatusRule) (w : List ℕ → Bool) (r : Result ℕ Fault) (m : Folder) (ts : List NamedStep) (a b : World) → Shows w a.view (view_in m) → Runs rule w r m ts a b → Runs rule w r m (names_found rule ∷ ts) a b
+found_runs rule w (Ok status) m ts a b shows runs = (runs.0 ∙ sym (idle_first rule (status_of rule ts)), ran_then w m (names_found rule ∷ []) ts a a b (found_ran rule w m a shows) runs.1)
+found_runs rule w (Err fault) m ts a b shows runs = stops_then w fault m (names_found rule ∷ []) ts a a b (found_ran rule w m a shows) runs
 
-abbrev moments_found : (w : List ℕ → Bool) (folder : Folder) (a : Scene) (m : Model) (past : List Model) → Spares w → a.told ≡ Tells m past → IsCalm m → Alike w (view_of m) (view_in folder) → Shows w (seen a.told) (view_in folder) → ListMoments w (Ok 0) folder (names_found ∷ []) a a m past
-moments_found w folder a m past spares is calm alike shows = record {
+abbrev moments_found : (rule : StatusRule) (w : List ℕ → Bool) (folder : Folder) (a : Scene) (m : Model) (past : List Model) → Spares w → a.told ≡ Tells m past → IsCalm m → Alike w (view_of m) (view_in folder) → Shows w (seen a.told) (view_in folder) → ListMoments w (Ok (idle_status rule)) folder (names_found rule ∷ []) a a m past
+moments_found rule w folder a m past spares is calm alike shows = record {
   number = 1;
   most = omega arith;
   went = record {
@@ -96,11 +99,11 @@ moments_found w folder a m past spares is calm alike shows = record {
 }
 
 pub found_moments : (x : Action) (w : List ℕ → Bool) (r : Result ℕ Fault) (folder : Folder) (ts : List NamedStep) (a b : Scene) (m : Model) (past : List Model) → Spares w → a.told ≡ Tells m past → IsCalm m → Shows w (seen a.told) (view_in folder) → RunMoments x w r folder ts a b m past
-    → RunMoments x w r folder (names_found ∷ ts) a b m past
+    → RunMoments x w r folder (names_found x.rule ∷ ts) a b m past
 found_moments x w r folder ts a b m past spares is calm shows next =
-    run_moments x w r folder (names_found ∷ ts) a b m past
-    (moments_then w 0 r folder (names_found ∷ []) ts a a b m past (found_ran w folder (shown a) shows) (moments_found w folder a m past spares is calm (alike_told w folder a.told m past is shows) shows) next.list)
-    (λ other. subst (λ (v : View). StaySafe x (view_in folder) v) (sym (view_past folder (names_found ∷ []) ts next.list.number)) (next.safe other))
+    run_moments x w r folder (names_found x.rule ∷ ts) a b m past
+    (moments_then w (idle_status x.rule) r folder (names_found x.rule ∷ []) ts a a b m past (found_ran x.rule w folder (shown a) shows) (moments_found x.rule w folder a m past spares is calm (alike_told w folder a.told m past is shows) shows) next.list)
+    (λ other. subst (λ (v : View). StaySafe x (view_in folder) v) (sym (view_past folder (names_found x.rule ∷ []) ts next.list.number)) (next.safe other))
     (images_then next.list.went.added [] m (images_now m calm) next.images)
 
 -- what is said of the names is said of the operand
@@ -117,14 +120,14 @@ name_speaks x operand (Err fault) err err2 says = (says.0, inr (inl (operand ∷
 
 -- the steps of names that are these
 found_by : (x : Action) (names found : List (List ℕ)) (r : Result ℕ Fault) (left : Option (List ℕ)) (a b : Scene) (w : List ℕ → Bool) (m : Folder) (i : List ℕ) → x.takes ≡ false → names ≡ found → MakesBy x (λ m i. steps_of x i m names) (IsHeard x.takes left) r a b
-    → Spares w → AreClear x w (names_found ∷ steps_of x i m found) → Shows w (seen a.told) (view_in m) → Runs w r m (names_found ∷ steps_of x i m found) (shown a) (shown b)
+    → Spares w → AreClear x w (names_found x.rule ∷ steps_of x i m found) → Shows w (seen a.told) (view_in m) → Runs x.rule w r m (names_found x.rule ∷ steps_of x i m found) (shown a) (shown b)
 found_by x names found r left a b w m i never is makes spares clear shows =
-    found_runs w r m (steps_of x i m found) (shown a) (shown b) shows
-    (subst (λ ns. Runs w r m (steps_of x i m ns) (shown a) (shown b)) is (makes w m i spares (subst (λ ns. AreClear x w (steps_of x i m ns)) (sym is) clear.1) shows (inl never)))
+    found_runs x.rule w r m (steps_of x i m found) (shown a) (shown b) shows
+    (subst (λ ns. Runs x.rule w r m (steps_of x i m ns) (shown a) (shown b)) is (makes w m i spares (subst (λ ns. AreClear x w (steps_of x i m ns)) (sym is) clear.1) shows (inl never)))
 
 stops_by : (x : Action) (names found : List (List ℕ)) (r : Result ℕ Fault) (left : Option (List ℕ)) (a b : Scene) (w : List ℕ → Bool) (folder : Folder) (i : List ℕ) (m : Model) (past : List Model) → x.takes ≡ false → names ≡ found → StopsBy x (λ m i. steps_of x i m names) (IsHeard x.takes left) r a b
-    → Spares w → AreClear x w (names_found ∷ steps_of x i folder found) → Shows w (seen a.told) (view_in folder) → a.told ≡ Tells m past → IsCalm m → AreSafe x (names_found ∷ steps_of x i folder found) (view_in folder)
-    → RunMoments x w r folder (names_found ∷ steps_of x i folder found) a b m past
+    → Spares w → AreClear x w (names_found x.rule ∷ steps_of x i folder found) → Shows w (seen a.told) (view_in folder) → a.told ≡ Tells m past → IsCalm m → AreSafe x (names_found x.rule ∷ steps_of x i folder found) (view_in folder)
+    → RunMoments x w r folder (names_found x.rule ∷ steps_of x i folder found) a b m past
 stops_by x names found r left a b w folder i m past never is stops spares clear shows told calm safe =
     found_moments x w r folder (steps_of x i folder found) a b m past spares told calm shows
     (subst (λ ns. RunMoments x w r folder (steps_of x i folder ns) a b m past) is
@@ -202,7 +205,7 @@ pub input_makes : (x : Action) (lines : List (List ℕ)) (r : Result ℕ Fault) 
     → MakesBy x (λ m i. input_steps x i m (Ok (filter x.fits lines))) (IsHeard x.takes left2) r a b → MakesBy x (λ m i. kind_steps x i m [] FromInput) (IsHeard true left) r a b
 input_makes x lines r left left2 a b never told makes = λ w m i spares clear shows heard.
     let is : names_given x i ≡ Ok (filter x.fits lines) = input_names x left i lines heard told in
-    subst (λ (found : Result (List (List ℕ)) Refusal). Runs w r m (input_steps x i m found) (shown a) (shown b)) (sym is)
+    subst (λ (found : Result (List (List ℕ)) Refusal). Runs x.rule w r m (input_steps x i m found) (shown a) (shown b)) (sym is)
     (makes w m i spares (subst (λ (found : Result (List (List ℕ)) Refusal). AreClear x w (input_steps x i m found)) is clear) shows (inl never))
 
 pub input_stops : (x : Action) (lines : List (List ℕ)) (r : Result ℕ Fault) (left left2 : Option (List ℕ)) (a b : Scene) → x.takes ≡ false → IfSome left (λ bytes. GivesLines file_limit bytes (Ok lines))
@@ -221,8 +224,8 @@ long_names x left i heard told =
 pub long_makes : (x : Action) (r : Result ℕ Fault) (left : Option (List ℕ)) (a : Scene) (err : Option (List ℕ)) → IfSome left (λ bytes. GivesLines file_limit bytes (Err take.TooLong)) → SaysRefusal (codes "-") TooLong r a.err err
     → MakesBy x (λ m i. kind_steps x i m [] FromInput) (IsHeard true left) r a (scene a.told a.out err)
 long_makes x r left a err told says = λ w m i spares clear shows heard.
-    subst (λ (found : Result (List (List ℕ)) Refusal). Runs w r m (input_steps x i m found) (shown a) (shown (scene a.told a.out err))) (sym (long_names x left i heard told))
-    (refusal_runs w m (codes "-") TooLong r (seen a.told) a.out a.err err shows says)
+    subst (λ (found : Result (List (List ℕ)) Refusal). Runs x.rule w r m (input_steps x i m found) (shown a) (shown (scene a.told a.out err))) (sym (long_names x left i heard told))
+    (refusal_runs x.rule w m (codes "-") TooLong r (seen a.told) a.out a.err err shows says)
 
 pub long_stops : (x : Action) (r : Result ℕ Fault) (left : Option (List ℕ)) (a : Scene) (err : Option (List ℕ)) → IfSome left (λ bytes. GivesLines file_limit bytes (Err take.TooLong)) → SaysRefusal (codes "-") TooLong r a.err err
     → StopsBy x (λ m i. kind_steps x i m [] FromInput) (IsHeard true left) r a (scene a.told a.out err)
@@ -232,7 +235,7 @@ long_stops x r left a err told says = λ w folder i m past spares clear shows he
 
 pub long_speaks : (x : Action) (r : Result ℕ Fault) (err err2 : Option (List ℕ)) → SaysRefusal (codes "-") TooLong r err err2 → SpeaksKind x FromInput [] r err err2
 long_speaks x r err err2 says =
-    speak_whole (KindMakes x FromInput []) (KindBegins x FromInput []) (named_step (codes "-") (Err TooLong) ∷ []) r err err2 (inr refl) (inr (inr refl)) (speak_refusal (codes "-") TooLong r err err2 says)
+    speak_whole x.rule (KindMakes x FromInput []) (KindBegins x FromInput []) (named_step (codes "-") (Err TooLong) ∷ []) r err err2 (inr refl) (inr (inr refl)) (speak_refusal x.rule (codes "-") TooLong r err err2 says)
 
 -- ---- what is begun at all
 

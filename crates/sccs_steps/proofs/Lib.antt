@@ -12,11 +12,13 @@ pub mod NameLaws
 pub mod NameStops
 pub mod OneMoment
 pub mod OneStep
+pub mod OrdinaryLaws
 pub mod ReadingMoments
 pub mod ReadingSteps
 pub mod RecoveringSteps
 pub mod SafeImages
 pub mod Safety
+pub mod StatusLaws
 pub mod Turns
 pub mod TurnStops
 pub mod UnlockedSteps

@@ -23,14 +23,14 @@ or_false false = refl
 hears_one : (x : Action) (operand : List ℕ) → hears x (operand ∷ []) ≡ kind_hears x.takes (kind_of x.takes operand)
 hears_one x operand = or_false (kind_hears x.takes (kind_of x.takes operand))
 
-speaks_one : (x : Action) (operand : List ℕ) (r : Result ℕ Fault) (err err2 : Option (List ℕ)) → SpeakBy (OperandMakes x operand) (OperandBegins x operand) r err err2 → SpeakAll x (operand ∷ []) r err err2
+speaks_one : (x : Action) (operand : List ℕ) (r : Result ℕ Fault) (err err2 : Option (List ℕ)) → SpeakBy x.rule (OperandMakes x operand) (OperandBegins x operand) r err err2 → SpeakAll x (operand ∷ []) r err err2
 speaks_one x operand (Ok status) err err2 says = (says.0, (says.0, [], sym (append-nil says.0), says.1, refl), says.2)
 speaks_one x operand (Err fault) err err2 says = (says.0, inr ([], operand, [], [], says.0, refl, refl, refl, says.1), says.2)
 
 pub lone_operand : (x : Action) (operand : List ℕ) (r : Result ℕ Fault) (s t : Setting) → RunsOperand x operand r s t → RunsOperands x (operand ∷ []) r s t
 lone_operand x operand r s t runs = record {
   steps = λ w m i spares clear shows given.
-      subst (λ (ts : List NamedStep). Runs w r m ts (shown s.stage) (shown t.stage)) (sym (alone x m i operand))
+      subst (λ (ts : List NamedStep). Runs x.rule w r m ts (shown s.stage) (shown t.stage)) (sym (alone x m i operand))
       (runs.steps w m i spares (subst (λ (ts : List NamedStep). AreClear x w ts) (alone x m i operand) clear) shows (subst (λ hearing. IsHeard hearing s.left i) (hears_one x operand) given.0));
   stops = λ w folder i m past spares clear shows given is calm safe.
       subst (λ (ts : List NamedStep). RunMoments x w r folder ts s.stage t.stage m past) (sym (alone x folder i operand))

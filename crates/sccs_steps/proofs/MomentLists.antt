@@ -31,8 +31,8 @@ alike_recovers w u v spares alike =
 
 -- ---- nothing was done
 
-abbrev pub moments_none : (w : List ℕ → Bool) (folder : Folder) (a : Scene) (m : Model) (past : List Model) → Spares w → a.told ≡ Tells m past → IsCalm m → Alike w (view_of m) (view_in folder) → Shows w (seen a.told) (view_in folder) → ListMoments w (Ok 0) folder [] a a m past
-moments_none w folder a m past spares is calm alike shows = record {
+abbrev pub moments_none : (w : List ℕ → Bool) (status : ℕ) (folder : Folder) (a : Scene) (m : Model) (past : List Model) → Spares w → a.told ≡ Tells m past → IsCalm m → Alike w (view_of m) (view_in folder) → Shows w (seen a.told) (view_in folder) → ListMoments w (Ok status) folder [] a a m past
+moments_none w status folder a m past spares is calm alike shows = record {
   number = 0;
   most = omega arith;
   went = record {

@@ -17,7 +17,7 @@ use Rattle.sccs_steps.specs.Calls.{Scene, scene}
 use Rattle.sccs_steps.specs.Messages.{Concludes, SaysRefusal}
 use Rattle.sccs_steps.specs.Actions.{Action, IsHeard, KeepsFiles, NameIsClear, outcome_at, step_at}
 use Rattle.sccs_steps.specs.StepLists.{named_step}
-use Rattle.sccs_steps.specs.StepStops.{IsSafeFor, MeetsAt, StepMoments}
+use Rattle.sccs_steps.specs.StepStops.{IsSafeFor, MeetsAtAs, StepMomentsAs}
 use Rattle.sccs_steps.specs.ListStops.{RunMoments, Spares}
 use Rattle.sccs_steps.specs.Running.{StopsBy}
 use Rattle.sccs_steps.specs.declared.faults.Fault.{Fault}
@@ -57,10 +57,10 @@ misfit_stops x n given r a e unfit says = λ w folder i m past spares clear show
 -- ---- a name whose step was called
 
 -- what a step sees of the view that is told is what it sees of the folder
-outcome_told : (x : Action) (w : List ℕ → Bool) (folder : Folder) (i n : List ℕ) (v : View) → x.fits n ≡ true → NameIsClear x w n → Alike w v (view_in folder) → x.step n i (map v x.named) (look v n) ≡ outcome_at x folder i n
+outcome_told : (x : Action) (w : List ℕ → Bool) (folder : Folder) (i n : List ℕ) (v : View) → x.fits n ≡ true → NameIsClear x w n → Alike w v (view_in folder) → x.step n i (map v (x.named n)) (look v n) ≡ outcome_at x folder i n
 outcome_told x w folder i n v fits clear alike =
-    ap (λ (f : Files). x.step n i (map v x.named) f) (clear_look x.reads w n v (view_in folder) (clear fits).0 alike)
-    ∙ (ap (λ (named : List (Option Content)). x.step n i named (look (view_in folder) n)) (named_alike w v (view_in folder) x.named alike (clear fits).1) ∙ sym (fitting x folder i n fits))
+    ap (λ (f : Files). x.step n i (map v (x.named n)) f) (clear_look x.reads w n v (view_in folder) (clear fits).0 alike)
+    ∙ (ap (λ (named : List (Option Content)). x.step n i named (look (view_in folder) n)) (named_alike w v (view_in folder) (x.named n) alike (clear fits).1) ∙ sym (fitting x folder i n fits))
 
 -- the same of a view that is like the folder's after the step
 own_folder : (x : Action) (w : List ℕ → Bool) (folder : Folder) (n : List ℕ) (o : Outcome) (v : View) → KeepsFiles x → x.fits n ≡ true → Spares w → Alike w v (view_in folder) → IsSafeFor x n (moved v n (effect_of n o).new) → IsSafeFor x n (view_in (moved_in folder n (effect_of n o).new))
@@ -68,13 +68,13 @@ own_folder x w folder n o v keeps fits spares alike safe =
     subst (λ (u : View). IsSafeFor x n u) (sym (moved_view folder n (effect_of n o).new))
     (told_safe x w n (moved v n (effect_of n o).new) (moved (view_in folder) n (effect_of n o).new) keeps fits spares (moved_alike w v (view_in folder) n (effect_of n o).new alike) safe)
 
-called_stops : (x : Action) (n : List ℕ) (made : Result (Unit {0}) StepFault) (r : Result ℕ Fault) (left : Option (List ℕ)) (a b : Scene) (e : Option (List ℕ)) → KeepsFiles x → x.fits n ≡ true → (x.reads ≡ true → b.told ≡ a.told) → StepMoments x made n left a b → Concludes made n r b.err e
+called_stops : (x : Action) (n : List ℕ) (made : Result ℕ StepFault) (r : Result ℕ Fault) (left : Option (List ℕ)) (a b : Scene) (e : Option (List ℕ)) → KeepsFiles x → x.fits n ≡ true → (x.reads ≡ true → b.told ≡ a.told) → StepMomentsAs (λ (status : ℕ). status) x made n left a b → Concludes made n r b.err e
     → StopsBy x (λ folder i. step_at x folder i n ∷ []) (IsHeard x.takes left) r a (scene b.told b.out e)
 called_stops x n made r left a b e keeps fits same moments says = λ w folder i m past spares clear shows heard is calm safe.
     let alike : Alike w (view_of m) (view_in folder) = alike_told w folder a.told m past is shows in
     let o : Outcome = outcome_at x folder i n in
-    let met : MeetsAt x made n o (view_of m) m past a b =
-    subst (λ (q : Outcome). MeetsAt x made n q (view_of m) m past a b) (outcome_told x w folder i n (view_of m) fits clear.0 alike)
+    let met : MeetsAtAs (λ (status : ℕ). status) x made n o (view_of m) m past a b =
+    subst (λ (q : Outcome). MeetsAtAs (λ (status : ℕ). status) x made n q (view_of m) m past a b) (outcome_told x w folder i n (view_of m) fits clear.0 alike)
     (moments m past i is heard calm (told_safe x w n (view_in folder) (view_of m) keeps fits spares (λ k h. sym (alike k h)) (safe.0 fits))) in
     turned x w folder n o made r m past a b e (record {
       alikes = alikes_of w folder n o (view_of m) spares alike;
@@ -85,7 +85,7 @@ called_stops x n made r left a b e keeps fits same moments says = λ w folder i 
     }) (λ own. stay_folder x folder n (effect_of n o).new keeps fits (safe.0 fits) (own_folder x w folder n o (view_of m) keeps fits spares alike own))
     (λ own. keeps_moved x n (view_of m) (effect_of n o).new keeps fits (λ only. kept_effect x.reads n o (kept x folder i n keeps fits) only) (told_safe x w n (view_in folder) (view_of m) keeps fits spares (λ k h. sym (alike k h)) (safe.0 fits)) own) met says
 
-pub stepped_stops : (x : Action) (operand n : List ℕ) (made : Result (Unit {0}) StepFault) (r : Result ℕ Fault) (left : Option (List ℕ)) (a b : Scene) (e : Option (List ℕ)) → KeepsFiles x → x.fits operand ≡ true → n ≡ operand → (x.reads ≡ true → b.told ≡ a.told)
-    → StepMoments x made n left a b → Concludes made operand r b.err e → StopsBy x (λ folder i. step_at x folder i operand ∷ []) (IsHeard x.takes left) r a (scene b.told b.out e)
+pub stepped_stops : (x : Action) (operand n : List ℕ) (made : Result ℕ StepFault) (r : Result ℕ Fault) (left : Option (List ℕ)) (a b : Scene) (e : Option (List ℕ)) → KeepsFiles x → x.fits operand ≡ true → n ≡ operand → (x.reads ≡ true → b.told ≡ a.told)
+    → StepMomentsAs (λ (status : ℕ). status) x made n left a b → Concludes made operand r b.err e → StopsBy x (λ folder i. step_at x folder i operand ∷ []) (IsHeard x.takes left) r a (scene b.told b.out e)
 stepped_stops x operand n made r left a b e keeps fits is same moments says =
-    called_stops x operand made r left a b e keeps fits same (subst (λ name. StepMoments x made name left a b) is moments) says
+    called_stops x operand made r left a b e keeps fits same (subst (λ name. StepMomentsAs (λ (status : ℕ). status) x made name left a b) is moments) says

@@ -25,7 +25,7 @@ use Rattle.sccs_steps.specs.Calls.{Scene, scene}
 use Rattle.sccs_steps.specs.Messages.{Concludes, SaysRefusal}
 use Rattle.sccs_steps.specs.Actions.{Action, IsClear}
 use Rattle.sccs_steps.specs.StepLists.{NamedStep, named_step}
-use Rattle.sccs_steps.specs.StepStops.{IsSafeFor, MeetsAt}
+use Rattle.sccs_steps.specs.StepStops.{IsSafeFor, MeetsAtAs}
 use Rattle.sccs_steps.specs.ListStops.{IsAtNumber, KeepsSafe, ListMoments, RunMoments, Spares, StaySafe, view_at}
 use Rattle.sccs_steps.specs.declared.faults.Fault.{Fault}
 use Rattle.sccs_steps.specs.declared.faults.Fault.TheVariants.{Memory, ReadFault, WriteFault, DiskFault}
@@ -156,10 +156,10 @@ kept_ends x work fault folder n o m past a b e called out err shows ends =
     (one_before work fault folder (named_step n o) (view_of m) (moved (view_of m) n (effect_of n o).new) a (scene b.told b.out e) m past called.alikes ends out (some_same a.err e [] err) shows) (λ other. stay_same x (view_in folder)) (images_before (view_of m) m past b.told ends)
 
 -- where its name is safe behind the step all are that were
-pub turned : (x : Action) (work : List ℕ → Bool) (folder : Folder) (n : List ℕ) (o : Outcome) (made : Result (Unit {0}) StepFault) (r : Result ℕ Fault) (m : Model) (past : List Model) (a b : Scene) (e : Option (List ℕ)) → IsCalled x.reads work folder n o m a b
+pub turned : (x : Action) (work : List ℕ → Bool) (folder : Folder) (n : List ℕ) (o : Outcome) (made : Result ℕ StepFault) (r : Result ℕ Fault) (m : Model) (past : List Model) (a b : Scene) (e : Option (List ℕ)) → IsCalled x.reads work folder n o m a b
     → (IsSafeFor x n (moved (view_of m) n (effect_of n o).new) → StaySafe x (view_in folder) (view_in (moved_in folder n (effect_of n o).new)))
-    → (IsSafeFor x n (moved (view_of m) n (effect_of n o).new) → KeepsSafe (view_of m) (moved (view_of m) n (effect_of n o).new)) → MeetsAt x made n o (view_of m) m past a b → Concludes made n r b.err e → RunMoments x work r folder (named_step n o ∷ []) a (scene b.told b.out e) m past
-turned x work folder n o (Ok done) r m past a b e called again keeps (met, ends) says =
+    → (IsSafeFor x n (moved (view_of m) n (effect_of n o).new) → KeepsSafe (view_of m) (moved (view_of m) n (effect_of n o).new)) → MeetsAtAs (λ (status : ℕ). status) x made n o (view_of m) m past a b → Concludes made n r b.err e → RunMoments x work r folder (named_step n o ∷ []) a (scene b.told b.out e) m past
+turned x work folder n o (Ok status) r m past a b e called again keeps (met, ends) says =
     made_ends x work r folder n o met.0 m past a b e called met.1 (some_of_whole a.out b.out (met.0.text ++ met.0.out) met.3.out) (some_of_whole a.err e met.0.err (subst (λ t. GivesOk a.err t met.0.err) (sym says.1) met.3.err))
     (clear_moved x.reads work folder n met.0.new (seen a.told) (seen b.told) called.clear called.same (λ only. sym (effect_new n o met.0 met.1) ∙ called.kept only) called.shows met.3.view) ends.0 (again ends.1) (keeps ends.1)
 turned x work folder n o (Err (step.Refused refusal)) r m past a b e called again keeps (met, ends) says =

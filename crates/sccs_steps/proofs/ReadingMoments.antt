@@ -25,6 +25,6 @@ met_at x r n o m past a b reads none calm is met =
 
 pub reading_moments : (x : Action) (r : Result (Unit {0}) StepFault) (n : List ℕ) (left : Option (List ℕ)) (a b : Scene) → KeepsFiles x → x.reads ≡ true → b.told ≡ a.told → Stepped x r n left a b → StepMoments x r n left a b
 reading_moments x r n left a b keeps reads same stepped = λ m past i is heard calm safe.
-    let o : Outcome = x.step n i (map (view_of m) x.named) (look (view_of m) n) in
-    met_at x r n o m past a b reads (kept_effect x.reads n o (λ only. keeps.quiet only n i (map (view_of m) x.named) (look (view_of m) n)) reads) calm (same ∙ is)
-    (subst (λ (t : Told). IfSome (seen t) (λ v. (j : List ℕ) → IsHeard x.takes left j → Meets (λ (done : Unit {0}). 0) r n (x.step n j (map v x.named) (look v n)) (shown a) (shown b))) is stepped i heard)
+    let o : Outcome = x.step n i (map (view_of m) (x.named n)) (look (view_of m) n) in
+    met_at x r n o m past a b reads (kept_effect x.reads n o (λ only. keeps.quiet only n i (map (view_of m) (x.named n)) (look (view_of m) n)) reads) calm (same ∙ is)
+    (subst (λ (t : Told). IfSome (seen t) (λ v. (j : List ℕ) → IsHeard x.takes left j → Meets (λ (done : Unit {0}). 0) r n (x.step n j (map v (x.named n)) (look v n)) (shown a) (shown b))) is stepped i heard)

@@ -1,5 +1,5 @@
 -- Steps on a disk whose s-files and p-files are firm, calm or not.
-use Rattle.std.proofs.Common.{◌≡◌, ◌≢◌, ◌⊎◌, ℕ, ◌+◌, ◌<◌, ◌≤◌, max, Bool, true, false, ◌||◌, List, [], ◌∷◌, ◌++◌, take, drop, get_or, length, Option, IfSome, IsOk, is_ok, Result, Ok, Err, codes, inl, inr, refl, sym, ap, subst, ◌∙◌, ⊎_elim, arith}
+use Rattle.std.proofs.Common.{◌≡◌, ◌≢◌, ◌⊎◌, ℕ, ◌+◌, ◌<◌, ◌≤◌, Bool, true, false, ◌||◌, List, [], ◌∷◌, ◌++◌, take, drop, get_or, length, Option, IfSome, IsOk, is_ok, Result, Ok, Err, codes, inl, inr, refl, sym, ap, subst, ◌∙◌, ⊎_elim, arith}
 use Rattle.std.specs.Prelude.{◌==◌, ◌&&◌}
 use Rattle.std.specs.List.{filter}
 use Rattle.std.proofs.Math.ListN.{drop_of_length-le}
@@ -30,9 +30,12 @@ use Rattle.sccs_steps.specs.StepLists.{NamedStep, Runs, SoFar, folder_after, in_
 use Rattle.sccs_steps.specs.declared.faults.Fault.{Fault}
 use Rattle.sccs_steps.specs.declared.faults.Fault.TheVariants as end
 use Rattle.sccs_steps.specs.declared.operands.OperandKind.TheVariants.{FromInput, Here}
+use Rattle.sccs_steps.specs.Statuses.{idle_status, joined_status}
+use Rattle.sccs_steps.specs.declared.statuses.StatusRule.{StatusRule}
 use Rattle.sccs_steps.proofs.JoinedSteps.{begins, goes_on}
 use Rattle.sccs_steps.proofs.KindLaws.{here_names, input_names, long_names}
 use Rattle.sccs_steps.proofs.NameLaws.{misfit}
+use Rattle.sccs_steps.proofs.StatusLaws.{idle_last}
 use Rattle.sccs_steps.proofs.Turns.{next_all, next_turn}
 
 -- ---- whether a step is made
@@ -63,8 +66,8 @@ no_sfile n true is front = absurd (other_front (sym front ∙ ((sfile_name_decid
 after_other : (t : NamedStep) (ts : List NamedStep) → is_sfile_name t.name ≡ false → has_made (t ∷ ts) ≡ true → has_made ts ≡ true
 after_other t ts other is = subst (λ (b : Bool). ((b && t.effect.status == 0) || has_made ts) ≡ true) other is
 
-after_found : (ts : List NamedStep) → has_made (names_found ∷ ts) ≡ true → has_made ts ≡ true
-after_found ts is = after_other names_found ts (no_sfile names_found.name (is_sfile_name names_found.name) refl refl) is
+after_found : (rule : StatusRule) (ts : List NamedStep) → has_made (names_found rule ∷ ts) ≡ true → has_made ts ≡ true
+after_found rule ts is = after_other (names_found rule) ts (no_sfile (names_found rule).name (is_sfile_name (names_found rule).name) refl refl) is
 
 either : (a b : Bool) → (a || b) ≡ true → (a ≡ true) ⊎ (b ≡ true)
 either true b h = inl refl
@@ -109,28 +112,28 @@ not_ok : (r : Result ℕ Fault) (fault : Fault) → r ≡ Err fault → IsOk r �
 not_ok r fault is ok = let e : false ≡ true = sym (ap is_ok is) ∙ ok in cc
 
 -- a step that is made wasn't refused
-not_refused : (w : List ℕ → Bool) (r : Result ℕ Fault) (m : Folder) (t : NamedStep) (n : List ℕ) (refusal : Refusal) (a b : World) (err e : Option (List ℕ)) → Runs w r m (t ∷ []) a b → SaysRefusal n refusal r err e → IsOk r → has_made (t ∷ []) ≡ true → ⊥
-not_refused w (Ok status) m t n refusal a b err e runs says ok made = (let none = status_by (is_sfile_name t.name) t.effect.status made in let code = runs.0 in let one = says.0 in omega (arith, none, code, one))
-not_refused w (Err fault) m t n refusal a b err e runs says ok made = cc
+not_refused : (rule : StatusRule) (w : List ℕ → Bool) (r : Result ℕ Fault) (m : Folder) (t : NamedStep) (n : List ℕ) (refusal : Refusal) (a b : World) (err e : Option (List ℕ)) → Runs rule w r m (t ∷ []) a b → SaysRefusal n refusal r err e → IsOk r → has_made (t ∷ []) ≡ true → ⊥
+not_refused rule w (Ok status) m t n refusal a b err e runs says ok made = (let none = status_by (is_sfile_name t.name) t.effect.status made in let code : status ≡ t.effect.status = runs.0 ∙ idle_last rule t.effect.status in let one = says.0 in omega (arith, none, code, one))
+not_refused rule w (Err fault) m t n refusal a b err e runs says ok made = cc
 
-made_calm : (made : Result (Unit {0}) StepFault) (w : List ℕ → Bool) (r : Result ℕ Fault) (m : Folder) (t : NamedStep) (n : List ℕ) (a b : Scene) (e : Option (List ℕ)) → RecoversStep made a.told b.told → Concludes made n r b.err e → Runs w r m (t ∷ []) (shown a) (shown (scene b.told b.out e)) → IsOk r → has_made (t ∷ []) ≡ true → LeavesCalm a.told b.told
-made_calm (Ok done) w r m t n a b e recovers says runs ok made = recovers.calm
-made_calm (Err (step.Refused refusal)) w r m t n a b e recovers says runs ok made = absurd (not_refused w r m t n refusal (shown a) (shown (scene b.told b.out e)) b.err e runs says ok made)
-made_calm (Err step.Memory) w r m t n a b e recovers says runs ok made = absurd (not_ok r end.Memory says.0 ok)
-made_calm (Err step.ReadFault) w r m t n a b e recovers says runs ok made = absurd (not_ok r end.ReadFault says.0 ok)
-made_calm (Err step.WriteFault) w r m t n a b e recovers says runs ok made = absurd (not_ok r end.WriteFault says.0 ok)
-made_calm (Err step.DiskFault) w r m t n a b e recovers says runs ok made = absurd (not_ok r end.DiskFault says.0 ok)
+made_calm : (rule : StatusRule) (made : Result ℕ StepFault) (w : List ℕ → Bool) (r : Result ℕ Fault) (m : Folder) (t : NamedStep) (n : List ℕ) (a b : Scene) (e : Option (List ℕ)) → RecoversStep made a.told b.told → Concludes made n r b.err e → Runs rule w r m (t ∷ []) (shown a) (shown (scene b.told b.out e)) → IsOk r → has_made (t ∷ []) ≡ true → LeavesCalm a.told b.told
+made_calm rule (Ok status) w r m t n a b e recovers says runs ok made = recovers.calm
+made_calm rule (Err (step.Refused refusal)) w r m t n a b e recovers says runs ok made = absurd (not_refused rule w r m t n refusal (shown a) (shown (scene b.told b.out e)) b.err e runs says ok made)
+made_calm rule (Err step.Memory) w r m t n a b e recovers says runs ok made = absurd (not_ok r end.Memory says.0 ok)
+made_calm rule (Err step.ReadFault) w r m t n a b e recovers says runs ok made = absurd (not_ok r end.ReadFault says.0 ok)
+made_calm rule (Err step.WriteFault) w r m t n a b e recovers says runs ok made = absurd (not_ok r end.WriteFault says.0 ok)
+made_calm rule (Err step.DiskFault) w r m t n a b e recovers says runs ok made = absurd (not_ok r end.DiskFault says.0 ok)
 
-other_fault : (made : Result (Unit {0}) StepFault) (n : List ℕ) (r : Result ℕ Fault) (err e : Option (List ℕ)) → Concludes made n r err e → r ≢ Err end.DiskFault → made ≢ Err step.DiskFault
-other_fault made n r err e says other is = other (subst (λ (q : Result (Unit {0}) StepFault). Concludes q n r err e) is says).0
+other_fault : (made : Result ℕ StepFault) (n : List ℕ) (r : Result ℕ Fault) (err e : Option (List ℕ)) → Concludes made n r err e → r ≢ Err end.DiskFault → made ≢ Err step.DiskFault
+other_fault made n r err e says other is = other (subst (λ (q : Result ℕ StepFault). Concludes q n r err e) is says).0
 
-pub stepped_recovers : (x : Action) (operand : List ℕ) (made : Result (Unit {0}) StepFault) (r : Result ℕ Fault) (given : List ℕ → Type 0) (a b : Scene) (e : Option (List ℕ)) → (x.locks ≡ false → RecoversStep made a.told b.told) → Concludes made operand r b.err e
+pub stepped_recovers : (x : Action) (operand : List ℕ) (made : Result ℕ StepFault) (r : Result ℕ Fault) (given : List ℕ → Type 0) (a b : Scene) (e : Option (List ℕ)) → (x.locks ≡ false → RecoversStep made a.told b.told) → Concludes made operand r b.err e
     → MakesBy x (λ folder i. step_at x folder i operand ∷ []) given r a (scene b.told b.out e) → RecoversBy x (λ folder i. step_at x folder i operand ∷ []) given r a.told b.told
 stepped_recovers x operand made r given a b e recovers says makes never = record {
   story = (recovers never).story;
   firm = (recovers never).firm;
   calm = λ ok w folder i spares clear shows heard is.
-      made_calm made w r folder (step_at x folder i operand) operand a b e (recovers never) says (makes w folder i spares clear shows heard) ok is;
+      made_calm x.rule made w r folder (step_at x folder i operand) operand a b e (recovers never) says (makes w folder i spares clear shows heard) ok is;
   keeps = λ other. (recovers never).keeps (other_fault made operand r b.err e says other);
 }
 
@@ -161,25 +164,25 @@ recovers_early x all steps given given2 fault a b c first next = record {
 }
 
 -- Where some of the steps so far is made the disk is calm.
-pub record RecoversSoFar (w : List ℕ → Bool) (folder : Folder) (all : List NamedStep) (left : Folder → List NamedStep) (status : ℕ) (a b : Scene) : Type 0 where
-  pub so : SoFar w folder all left status (shown a) (shown b)
+pub record RecoversSoFar (rule : StatusRule) (w : List ℕ → Bool) (folder : Folder) (all : List NamedStep) (left : Folder → List NamedStep) (status : ℕ) (a b : Scene) : Type 0 where
+  pub so : SoFar rule w folder all left status (shown a) (shown b)
   pub calm : has_made so.made ≡ true → LeavesCalm a.told b.told
 
-pub recovers_begin : (w : List ℕ → Bool) (folder : Folder) (left : Folder → List NamedStep) (a : Scene) → Shows w (seen a.told) (view_in folder) → RecoversSoFar w folder (left folder) left 0 a a
-recovers_begin w folder left a shows = record { so = begins w folder left (shown a) shows; calm = λ is. absurd (cc) }
+pub recovers_begin : (rule : StatusRule) (w : List ℕ → Bool) (folder : Folder) (left : Folder → List NamedStep) (status : ℕ) (a : Scene) → status ≡ idle_status rule → Shows w (seen a.told) (view_in folder) → RecoversSoFar rule w folder (left folder) left status a a
+recovers_begin rule w folder left status a idle shows = record { so = begins rule w folder left status (shown a) idle shows; calm = λ is. absurd (cc) }
 
 pub recovers_on : (x : Action) (w : List ℕ → Bool) (folder : Folder) (steps : Folder → List ℕ → List NamedStep) (things : List (List ℕ)) (k status one : ℕ) (item thing : List ℕ) (a b c : Scene) → thing ≡ get_or things k item → k < length things
-    → AreClear x w (in_turn steps folder things) → StaysFirm a.told b.told → KeepsCalm b.told c.told → RecoversSoFar w folder (in_turn steps folder things) (λ u. in_turn steps u (drop k things)) status a b
-    → ((u : Folder) → AreClear x w (steps u thing) → Shows w (seen b.told) (view_in u) → Runs w (Ok one) u (steps u thing) (shown b) (shown c))
+    → AreClear x w (in_turn steps folder things) → StaysFirm a.told b.told → KeepsCalm b.told c.told → RecoversSoFar x.rule w folder (in_turn steps folder things) (λ u. in_turn steps u (drop k things)) status a b
+    → ((u : Folder) → AreClear x w (steps u thing) → Shows w (seen b.told) (view_in u) → Runs x.rule w (Ok one) u (steps u thing) (shown b) (shown c))
     → ((u : Folder) → AreClear x w (steps u thing) → Shows w (seen b.told) (view_in u) → has_made (steps u thing) ≡ true → LeavesCalm b.told c.told)
-    → RecoversSoFar w folder (in_turn steps folder things) (λ u. in_turn steps u (drop (k + 1) things)) (max status one) a c
+    → RecoversSoFar x.rule w folder (in_turn steps folder things) (λ u. in_turn steps u (drop (k + 1) things)) (joined_status x.rule status one) a c
 recovers_on x w folder steps things k status one item thing a b c is below clear stays keeps far runs calms =
     let u : Folder = folder_after folder far.so.made in
-    let clear_now : AreClear x w (steps u thing) = next_all _ w folder steps things k status item thing (shown a) (shown b) is below far.so clear in
+    let clear_now : AreClear x w (steps u thing) = next_all x.rule _ w folder steps things k status item thing (shown a) (shown b) is below far.so clear in
     record {
       so =
-          goes_on w folder (in_turn steps folder things) (λ u. in_turn steps u (drop k things)) (λ u. steps u (get_or things k item)) (λ u. in_turn steps u (drop (k + 1) things)) status one (shown a) (shown b) (shown c) (next_turn steps things k item below) far.so
-          (subst (λ t. Runs w (Ok one) u (steps u t) (shown b) (shown c)) is (runs u clear_now far.so.ran.view));
+          goes_on x.rule w folder (in_turn steps folder things) (λ u. in_turn steps u (drop k things)) (λ u. steps u (get_or things k item)) (λ u. in_turn steps u (drop (k + 1) things)) status one (shown a) (shown b) (shown c) (next_turn steps things k item below) far.so
+          (subst (λ t. Runs x.rule w (Ok one) u (steps u t) (shown b) (shown c)) is (runs u clear_now far.so.ran.view));
       calm = λ made.
           ⊎_elim (λ old. calm_kept_on a.told b.told c.told stays.story (far.calm old) keeps)
           (λ new. calm_later a.told b.told c.told stays.story stays.firm (calms u clear_now far.so.ran.view (subst (λ t. has_made (steps u t) ≡ true) (sym is) new)))
@@ -187,7 +190,7 @@ recovers_on x w folder steps things k status one item thing a b c is below clear
     }
 
 pub recovers_end : (x : Action) (steps : List ℕ → Folder → List ℕ → List NamedStep) (given : List ℕ → Type 0) (things : List (List ℕ)) (k status : ℕ) (a b : Scene) → length things ≤ k → StaysFirm a.told b.told
-    → ((w : List ℕ → Bool) (folder : Folder) (i : List ℕ) → Spares w → AreClear x w (in_turn (steps i) folder things) → Shows w (seen a.told) (view_in folder) → given i → RecoversSoFar w folder (in_turn (steps i) folder things) (λ u. in_turn (steps i) u (drop k things)) status a b)
+    → ((w : List ℕ → Bool) (folder : Folder) (i : List ℕ) → Spares w → AreClear x w (in_turn (steps i) folder things) → Shows w (seen a.told) (view_in folder) → given i → RecoversSoFar x.rule w folder (in_turn (steps i) folder things) (λ u. in_turn (steps i) u (drop k things)) status a b)
     → RecoversSteps x (λ folder i. in_turn (steps i) folder things) given (Ok status) a.told b.told
 recovers_end x steps given things k status a b all stays far = record {
   story = stays.story;
@@ -196,7 +199,7 @@ recovers_end x steps given things k status a b all stays far = record {
   keeps = λ other. stays.keeps;
 }
   where
-    by : (w : List ℕ → Bool) (folder : Folder) (i : List ℕ) → (so_far : RecoversSoFar w folder (in_turn (steps i) folder things) (λ u. in_turn (steps i) u (drop k things)) status a b) → has_made (in_turn (steps i) folder things) ≡ true → LeavesCalm a.told b.told
+    by : (w : List ℕ → Bool) (folder : Folder) (i : List ℕ) → (so_far : RecoversSoFar x.rule w folder (in_turn (steps i) folder things) (λ u. in_turn (steps i) u (drop k things)) status a b) → has_made (in_turn (steps i) folder things) ≡ true → LeavesCalm a.told b.told
     by w folder i so_far made =
         let is : so_far.so.made ≡ in_turn (steps i) folder things =
         sym (append-nil so_far.so.made) ∙ (ap (λ (ts : List NamedStep). so_far.so.made ++ ts) (sym (ap (λ (rest : List (List ℕ)). in_turn (steps i) (folder_after folder so_far.so.made) rest) (drop_of_length-le things all))) ∙ sym so_far.so.is) in
@@ -205,9 +208,9 @@ recovers_end x steps given things k status a b all stays far = record {
 -- ---- names that were found
 
 names_calm : (x : Action) (names found : List (List ℕ)) (r : Result ℕ Fault) (left : Option (List ℕ)) (a b : Told) (w : List ℕ → Bool) (folder : Folder) (i : List ℕ) → x.takes ≡ false → names ≡ found → RecoversSteps x (λ m i. steps_of x i m names) (IsHeard x.takes left) r a b
-    → IsOk r → Spares w → AreClear x w (names_found ∷ steps_of x i folder found) → Shows w (seen a) (view_in folder) → has_made (names_found ∷ steps_of x i folder found) ≡ true → LeavesCalm a b
+    → IsOk r → Spares w → AreClear x w (names_found x.rule ∷ steps_of x i folder found) → Shows w (seen a) (view_in folder) → has_made (names_found x.rule ∷ steps_of x i folder found) ≡ true → LeavesCalm a b
 names_calm x names found r left a b w folder i never is recovers ok spares clear shows made =
-    recovers.calm ok w folder i spares (subst (λ ns. AreClear x w (steps_of x i folder ns)) (sym is) clear.1) shows (inl never) (subst (λ ns. has_made (steps_of x i folder ns) ≡ true) (sym is) (after_found (steps_of x i folder found) made))
+    recovers.calm ok w folder i spares (subst (λ ns. AreClear x w (steps_of x i folder ns)) (sym is) clear.1) shows (inl never) (subst (λ ns. has_made (steps_of x i folder ns) ≡ true) (sym is) (after_found x.rule (steps_of x i folder found) made))
 
 pub here_recovers : (x : Action) (names : List (List ℕ)) (r : Result ℕ Fault) (left left2 : Option (List ℕ)) (old now new : Told) → x.takes ≡ false → now ≡ old → IfSome (seen old) (λ v. (u : Folder) → HasSfilesOf v u → names ≡ sfiles_in u)
     → RecoversBy x (λ m i. steps_of x i m names) (IsHeard x.takes left) r now new → RecoversBy x (λ m i. kind_steps x i m [] Here) (IsHeard false left2) r old new

@@ -1,5 +1,5 @@
 -- What a stop leaves of the steps of things that are done in turn.
-use Rattle.std.proofs.Common.{◌≡◌, ℕ, ◌+◌, ◌<◌, ◌≤◌, max, Bool, List, ◌++◌, drop, get_or, length, Result, Ok, Err, refl, sym, ap, subst, ◌∙◌, append_assoc, arith, length-append}
+use Rattle.std.proofs.Common.{◌≡◌, ℕ, ◌+◌, ◌<◌, ◌≤◌, Bool, List, ◌++◌, drop, get_or, length, Result, Ok, Err, refl, sym, ap, subst, ◌∙◌, append_assoc, arith, length-append}
 use Rattle.std.proofs.Math.ListN.{drop_of_length-le}
 use Rattle.std.proofs.lemmas.List.{append-nil}
 use Rattle.sccs_disk.specs.Files.{Folder, Model, View, view_in, view_of}
@@ -13,6 +13,7 @@ use Rattle.sccs_steps.specs.Calls.{Scene, shown}
 use Rattle.sccs_steps.specs.ListStops.{AreSafe, KeepsSafe, ListMoments, RunMoments, Spares, StaySafe, view_at}
 use Rattle.sccs_steps.specs.StepLists.{NamedStep, Runs, SoFar, folder_after, in_turn}
 use Rattle.sccs_steps.specs.declared.faults.Fault.{Fault}
+use Rattle.sccs_steps.specs.Statuses.{idle_status, joined_status}
 use Rattle.sccs_steps.proofs.JoinedSteps.{after_more, begins, goes_on}
 use Rattle.sccs_steps.proofs.Fronts.{view_all, view_front, view_past}
 use Rattle.sccs_steps.proofs.MomentLists.{moments_more, moments_none, moments_then, run_moments}
@@ -23,15 +24,15 @@ use Rattle.sccs_steps.proofs.Turns.{each_all, next_all, next_turn}
 
 -- The steps of the first things are made: their moments, and the names that are safe still.
 pub record StopsSoFar (x : Action) (w : List ℕ → Bool) (folder : Folder) (all : List NamedStep) (left : Folder → List NamedStep) (status : ℕ) (a b : Scene) (m : Model) (past : List Model) : Type 0 where
-  pub so : SoFar w folder all left status (shown a) (shown b)
+  pub so : SoFar x.rule w folder all left status (shown a) (shown b)
   pub list : ListMoments w (Ok status) folder so.made a b m past
   pub safe : StaySafe x (view_in folder) (view_in (folder_after folder so.made))
   pub images : Each (Allows (KeepsSafe (view_of m))) list.went.added m
 
-pub stops_begin : (x : Action) (w : List ℕ → Bool) (folder : Folder) (left : Folder → List NamedStep) (a : Scene) (m : Model) (past : List Model) → Spares w → Shows w (seen a.told) (view_in folder) → a.told ≡ Tells m past → IsCalm m
-    → StopsSoFar x w folder (left folder) left 0 a a m past
-stops_begin x w folder left a m past spares shows is calm =
-    record { so = begins w folder left (shown a) shows; list = moments_none w folder a m past spares is calm (alike_told w folder a.told m past is shows) shows; safe = stay_same x (view_in folder); images = images_now m calm }
+pub stops_begin : (x : Action) (w : List ℕ → Bool) (folder : Folder) (left : Folder → List NamedStep) (status : ℕ) (a : Scene) (m : Model) (past : List Model) → status ≡ idle_status x.rule → Spares w → Shows w (seen a.told) (view_in folder) → a.told ≡ Tells m past → IsCalm m
+    → StopsSoFar x w folder (left folder) left status a a m past
+stops_begin x w folder left status a m past idle spares shows is calm =
+    record { so = begins x.rule w folder left status (shown a) idle shows; list = moments_none w status folder a m past spares is calm (alike_told w folder a.told m past is shows) shows; safe = stay_same x (view_in folder); images = images_now m calm }
 
 -- another status
 abbrev pub ok_moments : (w : List ℕ → Bool) (s s2 : ℕ) (folder : Folder) (ts : List NamedStep) (a b : Scene) (m : Model) (past : List Model) → ListMoments w (Ok s) folder ts a b m past → ListMoments w (Ok s2) folder ts a b m past
@@ -57,26 +58,26 @@ next_moments : (x : Action) (w : List ℕ → Bool) (folder : Folder) (steps : F
 next_moments x w folder steps things k status r item thing a b c m past is below clear safe far next =
     let u : Folder = folder_after folder far.so.made in
     subst (λ t. RunMoments x w r u (steps u t) b c (newest far.list.went.added m) (earlier far.list.went.added m past)) is
-    (next u (newest far.list.went.added m) (earlier far.list.went.added m past) (next_all _ w folder steps things k status item thing (shown a) (shown b) is below far.so clear) far.so.ran.view far.list.went.is (far.list.calm (λ is. cc))
-    (each_all _ _ (steps u thing) (λ t before fits. far.safe t.name fits (before fits)) (next_all _ w folder steps things k status item thing (shown a) (shown b) is below far.so safe)))
+    (next u (newest far.list.went.added m) (earlier far.list.went.added m past) (next_all x.rule _ w folder steps things k status item thing (shown a) (shown b) is below far.so clear) far.so.ran.view far.list.went.is (far.list.calm (λ is. cc))
+    (each_all _ _ (steps u thing) (λ t before fits. far.safe t.name fits (before fits)) (next_all x.rule _ w folder steps things k status item thing (shown a) (shown b) is below far.so safe)))
 
 pub stops_on : (x : Action) (w : List ℕ → Bool) (folder : Folder) (steps : Folder → List ℕ → List NamedStep) (things : List (List ℕ)) (k status one : ℕ) (item thing : List ℕ) (a b c : Scene) (m : Model) (past : List Model) → thing ≡ get_or things k item → k < length things
     → AreClear x w (in_turn steps folder things) → AreSafe x (in_turn steps folder things) (view_in folder) → StopsSoFar x w folder (in_turn steps folder things) (λ u. in_turn steps u (drop k things)) status a b m past
-    → ((u : Folder) → AreClear x w (steps u thing) → Shows w (seen b.told) (view_in u) → Runs w (Ok one) u (steps u thing) (shown b) (shown c)) → NextMoments x w steps thing (Ok one) b c
-    → StopsSoFar x w folder (in_turn steps folder things) (λ u. in_turn steps u (drop (k + 1) things)) (max status one) a c m past
+    → ((u : Folder) → AreClear x w (steps u thing) → Shows w (seen b.told) (view_in u) → Runs x.rule w (Ok one) u (steps u thing) (shown b) (shown c)) → NextMoments x w steps thing (Ok one) b c
+    → StopsSoFar x w folder (in_turn steps folder things) (λ u. in_turn steps u (drop (k + 1) things)) (joined_status x.rule status one) a c m past
 stops_on x w folder steps things k status one item thing a b c m past is below clear safe far runs stops =
-    by (subst (λ t. Runs w (Ok one) (folder_after folder far.so.made) (steps (folder_after folder far.so.made) t) (shown b) (shown c)) is
-    (runs (folder_after folder far.so.made) (next_all _ w folder steps things k status item thing (shown a) (shown b) is below far.so clear) far.so.ran.view))
+    by (subst (λ t. Runs x.rule w (Ok one) (folder_after folder far.so.made) (steps (folder_after folder far.so.made) t) (shown b) (shown c)) is
+    (runs (folder_after folder far.so.made) (next_all x.rule _ w folder steps things k status item thing (shown a) (shown b) is below far.so clear) far.so.ran.view))
     (next_moments x w folder steps things k status (Ok one) item thing a b c m past is below clear safe far stops)
   where
-    by : Runs w (Ok one) (folder_after folder far.so.made) (steps (folder_after folder far.so.made) (get_or things k item)) (shown b) (shown c)
+    by : Runs x.rule w (Ok one) (folder_after folder far.so.made) (steps (folder_after folder far.so.made) (get_or things k item)) (shown b) (shown c)
         → RunMoments x w (Ok one) (folder_after folder far.so.made) (steps (folder_after folder far.so.made) (get_or things k item)) b c (newest far.list.went.added m) (earlier far.list.went.added m past)
-        → StopsSoFar x w folder (in_turn steps folder things) (λ u. in_turn steps u (drop (k + 1) things)) (max status one) a c m past
+        → StopsSoFar x w folder (in_turn steps folder things) (λ u. in_turn steps u (drop (k + 1) things)) (joined_status x.rule status one) a c m past
     by ran next = record {
       so =
-          goes_on w folder (in_turn steps folder things) (λ u. in_turn steps u (drop k things)) (λ u. steps u (get_or things k item)) (λ u. in_turn steps u (drop (k + 1) things)) status one (shown a) (shown b) (shown c) (next_turn steps things k item below) far.so ran;
+          goes_on x.rule w folder (in_turn steps folder things) (λ u. in_turn steps u (drop k things)) (λ u. steps u (get_or things k item)) (λ u. in_turn steps u (drop (k + 1) things)) status one (shown a) (shown b) (shown c) (next_turn steps things k item below) far.so ran;
       list =
-          ok_moments w one (max status one) folder (far.so.made ++ steps (folder_after folder far.so.made) (get_or things k item)) a c m past
+          ok_moments w one (joined_status x.rule status one) folder (far.so.made ++ steps (folder_after folder far.so.made) (get_or things k item)) a c m past
           (moments_then w status (Ok one) folder far.so.made (steps (folder_after folder far.so.made) (get_or things k item)) a b c m past far.so.ran far.list next.list);
       safe =
           subst (λ (u : Folder). StaySafe x (view_in folder) (view_in u)) (sym (after_more folder far.so.made (steps (folder_after folder far.so.made) (get_or things k item))))

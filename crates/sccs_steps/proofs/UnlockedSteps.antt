@@ -33,15 +33,15 @@ one_unlocked x n name given a b fits is step = λ w folder i spares clear shows 
 
 -- the next one of several
 pub next_unlocked : (x : Action) (w : List ℕ → Bool) (m : Folder) (steps : Folder → List ℕ → List NamedStep) (things : List (List ℕ)) (k status : ℕ) (item thing : List ℕ) (a b : World) (old now new : Told) → thing ≡ get_or things k item → k < length things → b.view ≡ seen now
-    → AreClear x w (in_turn steps m things) → SoFar w m (in_turn steps m things) (λ u. in_turn steps u (drop k things)) status a b → ArePlain x (in_turn steps m things) → BeginsUnlocked old now
+    → AreClear x w (in_turn steps m things) → SoFar x.rule w m (in_turn steps m things) (λ u. in_turn steps u (drop k things)) status a b → ArePlain x (in_turn steps m things) → BeginsUnlocked old now
     → ((u : Folder) → AreClear x w (steps u thing) → Shows w (seen now) (view_in u) → ArePlain x (steps u thing) → BeginsUnlocked now new) → BeginsUnlocked old new
 next_unlocked x w m steps things k status item thing a b old now new is below told clear so plain far next =
     unlocked_then old now new far
-    (next (folder_after m so.made) (next_all _ w m steps things k status item thing a b is below so clear) (subst (λ v. Shows w v (view_in (folder_after m so.made))) told so.ran.view) (next_all _ w m steps things k status item thing a b is below so plain))
+    (next (folder_after m so.made) (next_all x.rule _ w m steps things k status item thing a b is below so clear) (subst (λ v. Shows w v (view_in (folder_after m so.made))) told so.ran.view) (next_all x.rule _ w m steps things k status item thing a b is below so plain))
 
 -- the steps of names that are these
 found_unlocked : (x : Action) (names found : List (List ℕ)) (left : Option (List ℕ)) (a b : Told) (w : List ℕ → Bool) (m : Folder) (i : List ℕ) → x.takes ≡ false → names ≡ found → UnlockedBy x (λ m i. steps_of x i m names) (IsHeard x.takes left) a b
-    → Spares w → AreClear x w (names_found ∷ steps_of x i m found) → Shows w (seen a) (view_in m) → x.locks ≡ true → ArePlain x (names_found ∷ steps_of x i m found) → BeginsUnlocked a b
+    → Spares w → AreClear x w (names_found x.rule ∷ steps_of x i m found) → Shows w (seen a) (view_in m) → x.locks ≡ true → ArePlain x (names_found x.rule ∷ steps_of x i m found) → BeginsUnlocked a b
 found_unlocked x names found left a b w m i never is unlocked spares clear shows locks plain =
     unlocked w m i spares (subst (λ ns. AreClear x w (steps_of x i m ns)) (sym is) clear.1) shows (inl never) locks (subst (λ ns. ArePlain x (steps_of x i m ns)) (sym is) plain.1)
 

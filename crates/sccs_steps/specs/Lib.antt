@@ -4,10 +4,12 @@ pub mod Causes
 pub mod FirstFiles
 pub mod ListStops
 pub mod Messages
+pub mod Ordinaries
 pub mod Recovering
 pub mod Running
 pub mod Settings
 pub mod Speaking
+pub mod Statuses
 pub mod StepEffects
 pub mod StepLists
 pub mod StepStops

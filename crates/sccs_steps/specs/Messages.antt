@@ -18,9 +18,9 @@ SaysRefusal n refusal (Err fault) err err2 = ⊥
 abbrev pub Answers : Result ℕ Fault → Result ℕ Fault → Option (List ℕ) → Option (List ℕ) → Type 0
 Answers answer result err err2 = (result ≡ answer) × (err2 ≡ err)
 
--- a step that is made has the status 0, a refusal is said, and a fault is that fault
-abbrev pub Concludes : Result (Unit {0}) StepFault → List ℕ → Result ℕ Fault → Option (List ℕ) → Option (List ℕ) → Type 0
-Concludes (Ok done) n result err err2 = Answers (Ok 0) result err err2
+-- a step that is made has its status, a refusal is said, and a fault is that fault
+abbrev pub Concludes : Result ℕ StepFault → List ℕ → Result ℕ Fault → Option (List ℕ) → Option (List ℕ) → Type 0
+Concludes (Ok status) n result err err2 = Answers (Ok status) result err err2
 Concludes (Err (step.Refused refusal)) n result err err2 = SaysRefusal n refusal result err err2
 Concludes (Err step.Memory) n result err err2 = Answers (Err Memory) result err err2
 Concludes (Err step.ReadFault) n result err err2 = Answers (Err ReadFault) result err err2

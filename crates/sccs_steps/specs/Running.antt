@@ -27,7 +27,7 @@ Steps = Folder → List ℕ → List NamedStep
 -- where the disk tells a folder and the input is given the steps are made, or the call ends early
 abbrev pub MakesBy : Action → Steps → (List ℕ → Type 0) → Result ℕ Fault → Scene → Scene → Type 0
 MakesBy x steps given r a b = (w : List ℕ → Bool) (folder : Folder) (i : List ℕ)
-    → Spares w → AreClear x w (steps folder i) → Shows w (seen a.told) (view_in folder) → given i → Runs w r folder (steps folder i) (shown a) (shown b)
+    → Spares w → AreClear x w (steps folder i) → Shows w (seen a.told) (view_in folder) → given i → Runs x.rule w r folder (steps folder i) (shown a) (shown b)
 
 -- what a stop leaves of the steps, where they begin on a calm disk and their names are safe
 abbrev pub StopsBy : Action → Steps → (List ℕ → Type 0) → Result ℕ Fault → Scene → Scene → Type 0

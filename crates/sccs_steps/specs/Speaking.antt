@@ -8,18 +8,19 @@ use Rattle.sccs_steps.specs.Actions.{Action, kind_of}
 use Rattle.sccs_steps.specs.StepEffects.{Outcome}
 use Rattle.sccs_steps.specs.StepLists.{NamedStep, named_step, err_of, status_of}
 use Rattle.sccs_steps.specs.declared.faults.Fault.{Fault}
+use Rattle.sccs_steps.specs.declared.statuses.StatusRule.{StatusRule}
 use Rattle.sccs_steps.specs.declared.operands.OperandKind.{OperandKind}
 use Rattle.sccs_steps.specs.declared.operands.OperandKind.TheVariants.{Named, Here, FromInput}
 
 -- what steps answer, and what they write on err
-abbrev pub SpeakAs : List NamedStep → Result ℕ Fault → Option (List ℕ) → Option (List ℕ) → Type 0
-SpeakAs ts (Ok status) err err2 = (status ≡ status_of ts) × GivesOk err err2 (err_of ts)
-SpeakAs ts (Err fault) err err2 = GivesSome err err2 (err_of ts)
+abbrev pub SpeakAs : StatusRule → List NamedStep → Result ℕ Fault → Option (List ℕ) → Option (List ℕ) → Type 0
+SpeakAs rule ts (Ok status) err err2 = (status ≡ status_of rule ts) × GivesOk err err2 (err_of ts)
+SpeakAs rule ts (Err fault) err err2 = GivesSome err err2 (err_of ts)
 
 -- some steps explain it: whole ones at Ok, and else some that were begun
-abbrev pub SpeakBy : (whole begun : List NamedStep → Type 0) → Result ℕ Fault → Option (List ℕ) → Option (List ℕ) → Type 0
-SpeakBy whole begun (Ok status) err err2 = (ts : List NamedStep) × whole ts × SpeakAs ts (Ok status) err err2
-SpeakBy whole begun (Err fault) err err2 = (ts : List NamedStep) × begun ts × SpeakAs ts (Err fault) err err2
+abbrev pub SpeakBy : StatusRule → (whole begun : List NamedStep → Type 0) → Result ℕ Fault → Option (List ℕ) → Option (List ℕ) → Type 0
+SpeakBy rule whole begun (Ok status) err err2 = (ts : List NamedStep) × whole ts × SpeakAs rule ts (Ok status) err err2
+SpeakBy rule whole begun (Err fault) err err2 = (ts : List NamedStep) × begun ts × SpeakAs rule ts (Err fault) err err2
 
 -- steps of each of several things, in their order
 abbrev pub InTurn : (List ℕ → List NamedStep → Type 0) → List (List ℕ) → List NamedStep → Type 0
@@ -65,13 +66,13 @@ OperandBegins x operand = KindBegins x (kind_of x.takes operand) operand
 
 -- what is said of a name, of names, of an operand, and of operands
 abbrev pub SpeaksOne : Action → List ℕ → Result ℕ Fault → Option (List ℕ) → Option (List ℕ) → Type 0
-SpeaksOne x name = SpeakBy (NameMakes x name) (NameMakes x name)
+SpeaksOne x name = SpeakBy x.rule (NameMakes x name) (NameMakes x name)
 
 abbrev pub SpeakNames : Action → List (List ℕ) → Result ℕ Fault → Option (List ℕ) → Option (List ℕ) → Type 0
-SpeakNames x names = SpeakBy (InTurn (NameMakes x) names) (BegunInTurn (NameMakes x) (NameMakes x) names)
+SpeakNames x names = SpeakBy x.rule (InTurn (NameMakes x) names) (BegunInTurn (NameMakes x) (NameMakes x) names)
 
 abbrev pub SpeaksKind : Action → OperandKind → List ℕ → Result ℕ Fault → Option (List ℕ) → Option (List ℕ) → Type 0
-SpeaksKind x kind operand = SpeakBy (KindMakes x kind operand) (KindBegins x kind operand)
+SpeaksKind x kind operand = SpeakBy x.rule (KindMakes x kind operand) (KindBegins x kind operand)
 
 abbrev pub SpeakAll : Action → List (List ℕ) → Result ℕ Fault → Option (List ℕ) → Option (List ℕ) → Type 0
-SpeakAll x operands = SpeakBy (InTurn (OperandMakes x) operands) (BegunInTurn (OperandMakes x) (OperandBegins x) operands)
+SpeakAll x operands = SpeakBy x.rule (InTurn (OperandMakes x) operands) (BegunInTurn (OperandMakes x) (OperandBegins x) operands)

@@ -1,5 +1,5 @@
 -- Lists of steps: what they write and leave, and how a call that makes them ends.
-use Rattle.std.specs.Prelude.{◌≡◌, ◌⊎◌, ℕ, ◌<◌, ◌==◌, max, Bool, true, false, ◌&&◌, ◌||◌, List, [], ◌∷◌, ◌++◌, length, flat_map, Option, None, Some, Result, Ok, Err}
+use Rattle.std.specs.Prelude.{◌≡◌, ◌⊎◌, ℕ, ◌<◌, ◌==◌, Bool, true, false, ◌&&◌, ◌||◌, List, [], ◌∷◌, ◌++◌, length, flat_map, Option, None, Some, Result, Ok, Err}
 use Rattle.std.specs.Str.{bytes_eq}
 use Rattle.sccs_base.specs.Name.{z_file}
 use Rattle.sccs_base.specs.Stream.{GivesOk, GivesSome}
@@ -8,8 +8,10 @@ use Rattle.sccs_files.specs.StepFiles.{is_working, moved_in, Shows}
 use Rattle.sccs_steps.specs.FirstFiles.{first_moved}
 use Rattle.sccs_steps.specs.StepEffects.{StepEffect, Outcome, effect_of}
 use Rattle.sccs_steps.specs.Calls.{World}
+use Rattle.sccs_steps.specs.Statuses.{idle_status, joined_status}
 use Rattle.sccs_steps.specs.declared.faults.Fault.{Fault}
 use Rattle.sccs_steps.specs.declared.faults.Fault.TheVariants.{Memory, ReadFault, WriteFault, DiskFault}
+use Rattle.sccs_steps.specs.declared.statuses.StatusRule.{StatusRule}
 
 -- a step of a name
 pub record NamedStep : Type 0 where
@@ -36,10 +38,10 @@ out_of ts = flat_map (λ (t : NamedStep). t.effect.text ++ t.effect.out) ts
 abbrev pub err_of : List NamedStep → List ℕ
 err_of ts = flat_map (λ (t : NamedStep). t.effect.err) ts
 
--- the greatest status
-abbrev pub status_of : List NamedStep → ℕ
-status_of [] = 0
-status_of (t ∷ ts) = max t.effect.status (status_of ts)
+-- the status of steps, by the rule of their utility
+abbrev pub status_of : StatusRule → List NamedStep → ℕ
+status_of rule [] = idle_status rule
+status_of rule (t ∷ ts) = joined_status rule t.effect.status (status_of rule ts)
 
 -- what the next step prints before its commit
 abbrev pub next_text : List NamedStep → List ℕ
@@ -110,15 +112,15 @@ Stops w WriteFault m ts a b = Stopped w m ts a b
 Stops w DiskFault m ts a b = ListInterrupted w m ts a b
 
 -- what a call that makes these steps answers, and leaves
-abbrev pub Runs : (List ℕ → Bool) → Result ℕ Fault → Folder → List NamedStep → World → World → Type 0
-Runs w (Ok status) m ts a b = (status ≡ status_of ts) × Ran w m ts a b
-Runs w (Err fault) m ts a b = Stops w fault m ts a b
+abbrev pub Runs : StatusRule → (List ℕ → Bool) → Result ℕ Fault → Folder → List NamedStep → World → World → Type 0
+Runs rule w (Ok status) m ts a b = (status ≡ status_of rule ts) × Ran w m ts a b
+Runs rule w (Err fault) m ts a b = Stops w fault m ts a b
 
 -- Some of all the steps are made, and left says which are still to be made on the folder that they left.
-pub record SoFar (w : List ℕ → Bool) (m : Folder) (all : List NamedStep) (left : Folder → List NamedStep) (status : ℕ) (a b : World) : Type 0 where
+pub record SoFar (rule : StatusRule) (w : List ℕ → Bool) (m : Folder) (all : List NamedStep) (left : Folder → List NamedStep) (status : ℕ) (a b : World) : Type 0 where
   pub made : List NamedStep
   pub is : all ≡ made ++ left (folder_after m made)
-  pub code : status ≡ status_of made
+  pub code : status ≡ status_of rule made
   pub ran : Ran w m made a b
 
 -- what is left are some steps and then others

@@ -41,14 +41,17 @@ pub data Place : Type 0 where
   After : Place
 
 -- at Ok and at a refusal after it; at a disk fault within it; else before it, but for a write fault that cut its report
+abbrev pub place_as : {X : Type 0} → (code : X → ℕ) → (r : Result X StepFault) → (n : List ℕ) → (o : Outcome) → (a b : World) → Meets code r n o a b → Place
+place_as code (Ok x) n o a b met = After
+place_as code (Err (Refused refusal)) n o a b met = After
+place_as code (Err Memory) n o a b met = Before
+place_as code (Err ReadFault) n o a b met = Before
+place_as code (Err WriteFault) n o a b (inl kept) = Before
+place_as code (Err WriteFault) n o a b (inr cut) = After
+place_as code (Err DiskFault) n o a b met = Within
+
 abbrev pub place_of : (r : Result (Unit {0}) StepFault) → (n : List ℕ) → (o : Outcome) → (a b : World) → Meets (λ (done : Unit {0}). 0) r n o a b → Place
-place_of (Ok done) n o a b met = After
-place_of (Err (Refused refusal)) n o a b met = After
-place_of (Err Memory) n o a b met = Before
-place_of (Err ReadFault) n o a b met = Before
-place_of (Err WriteFault) n o a b (inl kept) = Before
-place_of (Err WriteFault) n o a b (inr cut) = After
-place_of (Err DiskFault) n o a b met = Within
+place_of r n o a b met = place_as (λ (done : Unit {0}). 0) r n o a b met
 
 -- From v, and to w where it is made; after it the name is safe again. Within it the name is safe in w, or all that a stop leaves
 -- recovers as v.
@@ -58,10 +61,17 @@ Ends Within x n v w m past new = (ends : EndsWithin v w m past new) × (IsSafeFo
 Ends After x n v w m past new = EndsAfter v w m past new × IsSafeFor x n w
 
 -- what the call of a step answers and leaves, and where it ends; v is the view before it, of a model that is told
+abbrev pub MeetsAtAs : {X : Type 0} → (X → ℕ) → Action → Result X StepFault → List ℕ → Outcome → View → Model → List Model → Scene → Scene → Type 0
+MeetsAtAs code x r n o v m past a b =
+    (met : Meets code r n o (shown a) (shown b)) × Ends (place_as code r n o (shown a) (shown b) met) x n v (moved v n (effect_of n o).new) m past b.told
+
 abbrev pub MeetsAt : Action → Result (Unit {0}) StepFault → List ℕ → Outcome → View → Model → List Model → Scene → Scene → Type 0
-MeetsAt x r n o v m past a b = (met : Meets (λ (done : Unit {0}). 0) r n o (shown a) (shown b)) × Ends (place_of r n o (shown a) (shown b) met) x n v (moved v n (effect_of n o).new) m past b.told
+MeetsAt x r n o v m past a b = MeetsAtAs (λ (done : Unit {0}). 0) x r n o v m past a b
 
 -- the moments of a step that begins on a calm disk, where its name is safe
+abbrev pub StepMomentsAs : {X : Type 0} → (X → ℕ) → Action → Result X StepFault → List ℕ → Option (List ℕ) → Scene → Scene → Type 0
+StepMomentsAs code x r n left a b = (m : Model) (past : List Model) (i : List ℕ) → a.told ≡ Tells m past → IsHeard x.takes left i → IsCalm m → IsSafeFor x n (view_of m)
+    → MeetsAtAs code x r n (x.step n i (map (view_of m) (x.named n)) (look (view_of m) n)) (view_of m) m past a b
+
 abbrev pub StepMoments : Action → Result (Unit {0}) StepFault → List ℕ → Option (List ℕ) → Scene → Scene → Type 0
-StepMoments x r n left a b = (m : Model) (past : List Model) (i : List ℕ) → a.told ≡ Tells m past → IsHeard x.takes left i → IsCalm m → IsSafeFor x n (view_of m)
-    → MeetsAt x r n (x.step n i (map (view_of m) x.named) (look (view_of m) n)) (view_of m) m past a b
+StepMoments x r n left a b = StepMomentsAs (λ (done : Unit {0}). 0) x r n left a b

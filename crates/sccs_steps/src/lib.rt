@@ -5,10 +5,14 @@
 mod faults;
 mod names;
 mod operands;
+mod ordinary;
+mod statuses;
 mod streams;
 mod utilities;
 
 pub use faults::Fault;
 pub use operands::{is_several, run_operand, run_operands};
+pub use ordinary::Ordinary;
+pub use statuses::{StatusRule, with_status};
 pub use streams::Streams;
-pub use utilities::Utility;
+pub use utilities::{Utility, UtilityWithStatus};

@@ -1,14 +1,15 @@
-ghost use Rattle.std.specs.Prelude.{◌≡◌, ◌≤◌, ◌⊎◌, ℕ, max, Err, false};
+ghost use Rattle.std.specs.Prelude.{◌≡◌, ◌≤◌, ◌⊎◌, ℕ, Err, false};
 ghost use Rattle.sccs_base.specs.Stream.{Rose};
 ghost use Rattle.sccs_steps.specs.Messages.{Concludes, SaysRefusal};
 ghost use Rattle.sccs_steps.specs.Running.{RunsName, RunsNames};
 ghost use Rattle.sccs_steps.specs.Settings.{SameLoans, setting};
+ghost use Rattle.sccs_steps.specs.Statuses.{idle_status, joined_status};
 ghost use Rattle.sccs_steps.specs.declared.faults.Fault.TheVariants as end;
 ghost use Rattle.sccs_sid.specs.declared.refusals.StepFault.TheVariants as fault;
 
 use crate::faults::Fault;
 use crate::streams::Streams;
-use crate::utilities::Utility;
+use crate::utilities::UtilityWithStatus;
 use sccs_base::{Bytes, Sink, Source};
 use sccs_disk::Disk;
 use sccs_sid::{Refusal, StepFault, write_refusal};
@@ -27,7 +28,7 @@ pub fn refuse<E: Sink>(operand: &[u8], refusal: &Refusal, err: &mut E) -> Result
 }
 
 // how an operand ends whose step ended so
-fn conclude<E: Sink>(operand: &[u8], made: Result<(), StepFault>, err: &mut E) -> Result<u8, Fault>
+fn conclude<E: Sink>(operand: &[u8], made: Result<u8, StepFault>, err: &mut E) -> Result<u8, Fault>
     ensures concludes { Concludes made operand.now result (E.given err.old) (E.given err.new) }
     ensures later { E.faults err.old ≤ E.faults err.new }
     ensures cause { result ≡ Err end.WriteFault → (made ≡ Err fault.WriteFault) × (E.faults err.new ≡ E.faults err.old) ⊎ Rose (E.faults err.old) (E.faults err.new) }
@@ -35,7 +36,7 @@ fn conclude<E: Sink>(operand: &[u8], made: Result<(), StepFault>, err: &mut E) -
     ensures broke { result ≡ Err end.DiskFault → made ≡ Err fault.DiskFault }
 {
     match made {
-        Ok(()) => Ok(0),
+        Ok(status) => Ok(status),
         Err(StepFault::Refused(refusal)) => refuse(operand, &refusal, err),
         Err(StepFault::Memory) => Err(Fault::Memory),
         Err(StepFault::ReadFault) => Err(Fault::ReadFault),
@@ -44,15 +45,22 @@ fn conclude<E: Sink>(operand: &[u8], made: Result<(), StepFault>, err: &mut E) -
     }
 }
 
-/// The greater of two statuses.
-pub fn greater(a: u8, b: u8) -> u8
-    ensures { result ≡ max a b }
+/// The status of no step.
+pub fn idle_status<U: UtilityWithStatus>(utility: &U) -> u8
+    ensures { result ≡ idle_status (U.action utility.now).rule }
 {
-    if a < b { b } else { a }
+    utility.rule().idle()
+}
+
+/// The status of steps and of those behind them.
+pub fn joined_status<U: UtilityWithStatus>(utility: &U, a: u8, b: u8) -> u8
+    ensures { result ≡ joined_status (U.action utility.now).rule a b }
+{
+    utility.rule().joined(a, b)
 }
 
 /// Makes the step of one file, says why it was refused, and answers the status.
-pub fn run_name<U: Utility, I: Source, O: Sink, E: Sink, D: Disk>(
+pub fn run_name<U: UtilityWithStatus, I: Source, O: Sink, E: Sink, D: Disk>(
     alloc: Global,
     utility: &U,
     name: &[u8],
@@ -75,8 +83,8 @@ pub fn run_name<U: Utility, I: Source, O: Sink, E: Sink, D: Disk>(
     conclude(name, made, streams.err)
 }
 
-/// Makes the step of each file in turn, and answers the greatest status.
-pub fn run_names<U: Utility, I: Source, O: Sink, E: Sink, D: Disk>(
+/// Makes the step of each file in turn, and answers their status by the utility's rule.
+pub fn run_names<U: UtilityWithStatus, I: Source, O: Sink, E: Sink, D: Disk>(
     alloc: Global,
     utility: &U,
     names: &[Bytes],
@@ -86,10 +94,10 @@ pub fn run_names<U: Utility, I: Source, O: Sink, E: Sink, D: Disk>(
     ensures loans { SameLoans streams.old streams.new }
     ensures run { RunsNames (U.action utility.now) names.now result (setting I.Source O.Sink E.Sink D.Disk streams.old) (setting I.Source O.Sink E.Sink D.Disk streams.new) }
 {
-    let mut status = 0;
+    let mut status = idle_status(utility);
     for name in names {
         let one = run_name(alloc, utility, name.bytes(), streams)?;
-        status = greater(status, one);
+        status = joined_status(utility, status, one);
     }
     Ok(status)
 }

@@ -6,9 +6,9 @@ ghost use Rattle.sccs_steps.specs.Settings.{SameLoans, setting};
 ghost use Rattle.sccs_steps.specs.declared.operands.OperandKind.TheVariants as kind;
 
 use crate::faults::Fault;
-use crate::names::{greater, refuse, run_name, run_names};
+use crate::names::{idle_status, joined_status, refuse, run_name, run_names};
 use crate::streams::Streams;
-use crate::utilities::Utility;
+use crate::utilities::UtilityWithStatus;
 use sccs_base::{Bytes, FILE_LIMIT, Line, Memory, Sink, Source, TakeFault, Words};
 use sccs_disk::{Disk, DiskRefusal};
 use sccs_operands::{list_sfiles, read_names};
@@ -48,7 +48,7 @@ fn kind_of(operand: &[u8], takes: bool) -> OperandKind
 }
 
 // makes the steps of the s-files that are there
-fn run_here<U: Utility, I: Source, O: Sink, E: Sink, D: Disk>(
+fn run_here<U: UtilityWithStatus, I: Source, O: Sink, E: Sink, D: Disk>(
     alloc: Global,
     utility: &U,
     streams: &mut Streams<I, O, E, D>,
@@ -65,7 +65,7 @@ fn run_here<U: Utility, I: Source, O: Sink, E: Sink, D: Disk>(
 }
 
 // those of lines that the utility takes
-fn names_among<U: Utility>(alloc: Global, utility: &U, lines: &[Line]) -> Result<Words, Memory>
+fn names_among<U: UtilityWithStatus>(alloc: Global, utility: &U, lines: &[Line]) -> Result<Words, Memory>
     ensures { IfOk result (λ names. names ≡ filter (U.action utility.now).fits lines.now) }
 {
     let mut names = Words::new(alloc);
@@ -78,7 +78,7 @@ fn names_among<U: Utility>(alloc: Global, utility: &U, lines: &[Line]) -> Result
 }
 
 // makes the steps of the files that lines name
-fn run_lines<U: Utility, I: Source, O: Sink, E: Sink, D: Disk>(
+fn run_lines<U: UtilityWithStatus, I: Source, O: Sink, E: Sink, D: Disk>(
     alloc: Global,
     utility: &U,
     lines: &[Line],
@@ -95,7 +95,7 @@ fn run_lines<U: Utility, I: Source, O: Sink, E: Sink, D: Disk>(
 }
 
 // makes the steps of the files that the input names
-fn run_input<U: Utility, I: Source, O: Sink, E: Sink, D: Disk>(
+fn run_input<U: UtilityWithStatus, I: Source, O: Sink, E: Sink, D: Disk>(
     alloc: Global,
     utility: &U,
     streams: &mut Streams<I, O, E, D>,
@@ -112,10 +112,10 @@ fn run_input<U: Utility, I: Source, O: Sink, E: Sink, D: Disk>(
     }
 }
 
-/// Makes the steps of one operand, says why each that is refused was, and answers the greatest status. `.`
-/// stands for the s-files that are there, in byte order, and `-` for the files that the input names, a line
-/// each; lines that are no such names are passed over.
-pub fn run_operand<U: Utility, I: Source, O: Sink, E: Sink, D: Disk>(
+/// Makes the steps of one operand, says why each that is refused was, and answers their status by the
+/// utility's rule. `.` stands for the s-files that are there, in byte order, and `-` for the files that the
+/// input names, a line each; lines that are no such names are passed over.
+pub fn run_operand<U: UtilityWithStatus, I: Source, O: Sink, E: Sink, D: Disk>(
     alloc: Global,
     utility: &U,
     operand: &[u8],
@@ -131,10 +131,10 @@ pub fn run_operand<U: Utility, I: Source, O: Sink, E: Sink, D: Disk>(
     }
 }
 
-/// Makes the steps of each operand in turn, and answers the greatest status. Where it begins on a calm disk
+/// Makes the steps of each operand in turn, and answers their status by the utility's rule. Where it begins on a calm disk
 /// and the names are safe, a stop at any moment leaves all names as after the same number of steps, no
 /// fewer than were acknowledged; and it ends on a calm disk, unless the disk failed.
-pub fn run_operands<U: Utility, I: Source, O: Sink, E: Sink, D: Disk>(
+pub fn run_operands<U: UtilityWithStatus, I: Source, O: Sink, E: Sink, D: Disk>(
     alloc: Global,
     utility: &U,
     operands: &[Bytes],
@@ -143,10 +143,10 @@ pub fn run_operands<U: Utility, I: Source, O: Sink, E: Sink, D: Disk>(
     ensures loans { SameLoans streams.old streams.new }
     ensures run { RunsOperands (U.action utility.now) operands.now result (setting I.Source O.Sink E.Sink D.Disk streams.old) (setting I.Source O.Sink E.Sink D.Disk streams.new) }
 {
-    let mut status = 0;
+    let mut status = idle_status(utility);
     for operand in operands {
         let one = run_operand(alloc, utility, operand.bytes(), streams)?;
-        status = greater(status, one);
+        status = joined_status(utility, status, one);
     }
     Ok(status)
 }

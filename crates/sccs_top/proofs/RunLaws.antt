@@ -32,6 +32,7 @@ use Rattle.sccs_steps.proofs.ReadingSteps.{ends_silent}
 use Rattle.sccs_steps.proofs.NameStops.{alike_told}
 use Rattle.sccs_steps.specs.declared.faults.Fault.{Fault}
 use Rattle.sccs_steps.specs.declared.faults.Fault.TheVariants as ends
+use Rattle.sccs_steps.specs.declared.statuses.StatusRule.{StatusRule}
 use Rattle.sccs_top.specs.Messages.{usage_line}
 use Rattle.sccs_top.specs.Runs.{Caller, Ends, MakesSteps, RecoversRun, SpeaksWords, StopsSteps, UnlockedSteps, action_meant, action_of, made_by, operands_of, run_steps, usage_step, working, working_of}
 use Rattle.sccs_top.specs.Unbuilt.{unbuilt, unbuilt_keeps}
@@ -64,20 +65,20 @@ spares_meant : (who : Caller) (meant : Result Command Usage) (m : Folder) (i : L
 spares_meant who (Err usage) m i = spares_nowhere
 spares_meant who (Ok command) m i = spares_by (action_of who command).reads (action_of who command) (run_steps who (Ok command) m i)
 
-answer_ends : (w : List ℕ → Bool) (answer : Answer) (m : Folder) (ts : List NamedStep) (a b : World) → Runs w (made_by answer) m ts a b → Ends w answer m ts a b
-answer_ends w (Finished status) m ts a b runs = runs
-answer_ends w Memory m ts a b runs = (runs.0, inr runs.1)
-answer_ends w ReadFault m ts a b runs = runs
-answer_ends w WriteFault m ts a b runs = runs
-answer_ends w DiskFault m ts a b runs = runs
+answer_ends : (rule : StatusRule) (w : List ℕ → Bool) (answer : Answer) (m : Folder) (ts : List NamedStep) (a b : World) → Runs rule w (made_by answer) m ts a b → Ends rule w answer m ts a b
+answer_ends rule w (Finished status) m ts a b runs = runs
+answer_ends rule w Memory m ts a b runs = (runs.0, inr runs.1)
+answer_ends rule w ReadFault m ts a b runs = runs
+answer_ends rule w WriteFault m ts a b runs = runs
+answer_ends rule w DiskFault m ts a b runs = runs
 
 -- the command is run
 pub command_ends : (who : Caller) (meant : Result Command Usage) (command : Command) (answer : Answer) (made : Result ℕ Fault) (left : Option (List ℕ)) (a b : Scene) → meant ≡ Ok command → made_by answer ≡ made
     → MakesBy (action_of who command) (λ m i. run_steps who (Ok command) m i) (IsInput (action_of who command) (operands_of command) left) made a b → MakesSteps who meant answer left a b
 command_ends who meant command answer made left a b is answered makes =
     subst (λ (r : Result Command Usage). MakesSteps who r answer left a b) (sym is)
-    (λ m i given shows. answer_ends (working who (Ok command) m i) answer m (run_steps who (Ok command) m i) (shown a) (shown b)
-    (subst (λ (r : Result ℕ Fault). Runs (working who (Ok command) m i) r m (run_steps who (Ok command) m i) (shown a) (shown b)) (sym answered)
+    (λ m i given shows. answer_ends (action_of who command).rule (working who (Ok command) m i) answer m (run_steps who (Ok command) m i) (shown a) (shown b)
+    (subst (λ (r : Result ℕ Fault). Runs (action_of who command).rule (working who (Ok command) m i) r m (run_steps who (Ok command) m i) (shown a) (shown b)) (sym answered)
     (makes (working who (Ok command) m i) m i (spares_meant who (Ok command) m i) given.1 shows given.0)))
 
 -- the same of locks

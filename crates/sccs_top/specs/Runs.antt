@@ -23,6 +23,8 @@ use Rattle.sccs_steps.specs.StepLists.{ListInterrupted, NamedStep, Runs, Stopped
 use Rattle.sccs_steps.specs.Unlocked.{ArePlain}
 use Rattle.sccs_steps.specs.declared.faults.Fault.{Fault}
 use Rattle.sccs_steps.specs.declared.faults.Fault.TheVariants as ends
+use Rattle.sccs_steps.specs.declared.statuses.StatusRule.{StatusRule}
+use Rattle.sccs_steps.specs.declared.statuses.StatusRule.TheVariants.{Greatest}
 use Rattle.sccs_transactions.specs.Changes.{locking}
 use Rattle.sccs_admin.specs.AdminStep.{admin_change}
 use Rattle.sccs_delta.specs.DeltaStep.{delta_change}
@@ -110,22 +112,28 @@ IsGiven who (Err usage) left m i = Unit {0}
 IsGiven who (Ok command) left m i =
     IsInput (action_of who command) (operands_of command) left i × AreClear (action_of who command) (working who (Ok command) m i) (run_steps who (Ok command) m i)
 
+-- what is done; a usage fault is said, and nothing is done
+abbrev pub action_meant : Caller → Result Command Usage → Action
+action_meant who (Err usage) = unbuilt false false
+action_meant who (Ok command) = action_of who command
+
 -- no step was made yet, or one is still to be made
 abbrev pub IsUnended : (List ℕ → Bool) → Folder → List NamedStep → World → World → Type 0
 IsUnended w m ts a b = (s : Stopped w m ts a b) × ((s.made ≡ []) ⊎ (0 < length s.rest))
 
 -- how a run ends that makes these steps
-abbrev pub Ends : (List ℕ → Bool) → Answer → Folder → List NamedStep → World → World → Type 0
-Ends w (Finished status) m ts a b = Runs w (Ok status) m ts a b
-Ends w Memory m ts a b = IsUnended w m ts a b
-Ends w ReadFault m ts a b = Waits w m ts a b
-Ends w WriteFault m ts a b = Stopped w m ts a b
-Ends w DiskFault m ts a b = ListInterrupted w m ts a b
+abbrev pub Ends : StatusRule → (List ℕ → Bool) → Answer → Folder → List NamedStep → World → World → Type 0
+Ends rule w (Finished status) m ts a b = Runs rule w (Ok status) m ts a b
+Ends rule w Memory m ts a b = IsUnended w m ts a b
+Ends rule w ReadFault m ts a b = Waits w m ts a b
+Ends rule w WriteFault m ts a b = Stopped w m ts a b
+Ends rule w DiskFault m ts a b = ListInterrupted w m ts a b
 
 -- where the disk tells a folder the steps of these words are made, or the run ends early
 abbrev pub MakesSteps : Caller → Result Command Usage → Answer → Option (List ℕ) → Scene → Scene → Type 0
 MakesSteps who meant answer left a b = (m : Folder) (i : List ℕ)
-    → IsGiven who meant left m i → Shows (working who meant m i) (seen a.told) (view_in m) → Ends (working who meant m i) answer m (run_steps who meant m i) (shown a) (shown b)
+    → IsGiven who meant left m i → Shows (working who meant m i) (seen a.told) (view_in m)
+    → Ends (action_meant who meant).rule (working who meant m i) answer m (run_steps who meant m i) (shown a) (shown b)
 
 -- the answer as that of steps
 abbrev pub made_by : Answer → Result ℕ Fault
@@ -137,7 +145,7 @@ made_by DiskFault = Err ends.DiskFault
 
 -- over any disk: some outcomes of the operands that may come explain the status and what is written on err
 abbrev pub SpeaksWords : Caller → Result Command Usage → Answer → Option (List ℕ) → Option (List ℕ) → Type 0
-SpeaksWords who (Err usage) answer err err2 = SpeakAs (usage_step usage ∷ []) (made_by answer) err err2
+SpeaksWords who (Err usage) answer err err2 = SpeakAs Greatest (usage_step usage ∷ []) (made_by answer) err err2
 SpeaksWords who (Ok command) answer err err2 = SpeakAll (action_of who command) (operands_of command) (made_by answer) err err2
 
 -- whether the words change no file, write nothing on out, and take no input
@@ -152,11 +160,6 @@ is_silent who (Ok command) = (action_of who command).silent
 abbrev pub takes_input : Caller → Result Command Usage → Bool
 takes_input who (Err usage) = false
 takes_input who (Ok command) = hears (action_of who command) (operands_of command)
-
--- what is done; a usage fault is said, and nothing is done
-abbrev pub action_meant : Caller → Result Command Usage → Action
-action_meant who (Err usage) = unbuilt false false
-action_meant who (Ok command) = action_of who command
 
 -- What a stop leaves of a run that begins on a calm disk, where its operands are safe: all names as after one number of steps, no
 -- fewer than those that are acknowledged.

@@ -9,6 +9,7 @@ use Rattle.sccs_words.specs.declared.commands.Given.{Given}
 use Rattle.sccs_words.specs.declared.commands.Given.TheVariants.{No}
 use Rattle.sccs_steps.specs.StepEffects.{Outcome}
 use Rattle.sccs_steps.specs.Actions.{Action, KeepsFiles}
+use Rattle.sccs_steps.specs.declared.statuses.StatusRule.TheVariants.{Greatest}
 
 abbrev pub is_absent : Given → Bool
 is_absent No = true
@@ -30,11 +31,12 @@ abbrev pub unbuilt : Bool → Bool → Action
 unbuilt any takes = record {
   fits = if any then is_name else is_sfile_name;
   step = λ name input named files. Err Unbuilt;
-  named = [];
+  named = λ n. [];
   takes = takes;
   reads = true;
   locks = true;
   silent = true;
+  rule = Greatest;
   could = is_unbuilt;
 }
 

@@ -22,7 +22,7 @@ use sccs_edit::{Sact, Unget};
 use sccs_get::{Get, Reserve};
 use sccs_recovery::Recover;
 use sccs_sid::Stamp;
-use sccs_steps::{Fault, Streams, Utility, is_several, run_operand, run_operands};
+use sccs_steps::{Fault, Ordinary, Streams, UtilityWithStatus, is_several, run_operand, run_operands};
 use sccs_transactions::Locking;
 use sccs_words::{Command, GetWords, Operands, WordsFault, read_words};
 use std::alloc::Global;
@@ -161,7 +161,7 @@ fn list_operands(command: &Command) -> Listed<'_>
 }
 
 // makes the steps of these operands
-fn run_listed<U: Utility, I: Source, O: Sink, E: Sink, D: Disk>(
+fn run_listed<U: UtilityWithStatus, I: Source, O: Sink, E: Sink, D: Disk>(
     alloc: Global,
     utility: &U,
     operands: Listed<'_>,
@@ -197,14 +197,14 @@ fn run_command<I: Source, O: Sink, E: Sink, D: Disk>(
 {
     let operands = list_operands(command);
     match utility_of(command, stamp, place) {
-        Known::Admin(admin) => run_listed(alloc, &admin, operands, streams),
-        Known::Get(get) => run_listed(alloc, &get, operands, streams),
-        Known::Reserve(get) => run_listed(alloc, &get, operands, streams),
-        Known::Delta(delta) => run_listed(alloc, &delta, operands, streams),
-        Known::Sact(sact) => run_listed(alloc, &sact, operands, streams),
-        Known::Unget(unget) => run_listed(alloc, &unget, operands, streams),
-        Known::Recover(recover) => run_listed(alloc, &recover, operands, streams),
-        Known::Unbuilt(unbuilt) => run_listed(alloc, &unbuilt, operands, streams),
+        Known::Admin(utility) => run_listed(alloc, &Ordinary { utility }, operands, streams),
+        Known::Get(utility) => run_listed(alloc, &Ordinary { utility }, operands, streams),
+        Known::Reserve(utility) => run_listed(alloc, &Ordinary { utility }, operands, streams),
+        Known::Delta(utility) => run_listed(alloc, &Ordinary { utility }, operands, streams),
+        Known::Sact(utility) => run_listed(alloc, &Ordinary { utility }, operands, streams),
+        Known::Unget(utility) => run_listed(alloc, &Ordinary { utility }, operands, streams),
+        Known::Recover(utility) => run_listed(alloc, &Ordinary { utility }, operands, streams),
+        Known::Unbuilt(utility) => run_listed(alloc, &Ordinary { utility }, operands, streams),
     }
 }
 

@@ -47,7 +47,7 @@ taken_step x n i named f taken = rw (locked_by f.z taken) refl
 
 -- what the call answers and leaves, where a view is told
 abbrev pub Steps : Changing → Result (Unit {0}) StepFault → List ℕ → Option (List ℕ) → World → World → Type 0
-Steps x r n left a d = IfSome a.view (λ v. (i : List ℕ) → IsHeard x.takes left i → Meets (λ done. 0) r n (locking_step x.outcome n i (map v x.named) (look v n)) a d)
+Steps x r n left a d = IfSome a.view (λ v. (i : List ℕ) → IsHeard x.takes left i → Meets (λ done. 0) r n (locking_step x.outcome n i (map v (x.named n)) (look v n)) a d)
 
 same_unmade : (n text : List ℕ) (v : View) (od : Option View) (out err : Option (List ℕ)) → od ≡ Some v → Uncommitted n text (world (Some v) out err) (world od out err)
 same_unmade n text v od out err is = record {
@@ -61,7 +61,7 @@ pub locked_steps : (x : Changing) (n : List ℕ) (left : Option (List ℕ)) (oa 
     → Steps x (Err (Refused refusals.Locked)) n left (world oa out err) (world od out err)
 locked_steps x n left None od out err same taken = tt
 locked_steps x n left (Some v) od out err same taken = λ i heard.
-    (taken_step x n i (map v x.named) (look v n) taken, same_unmade n [] v od out err same)
+    (taken_step x n i (map v (x.named n)) (look v n) taken, same_unmade n [] v od out err same)
 
 pub memory_steps : (x : Changing) (n : List ℕ) (left : Option (List ℕ)) (oa od : Option View) (out err : Option (List ℕ)) → od ≡ oa → Steps x (Err Memory) n left (world oa out err) (world od out err)
 memory_steps x n left None od out err same = tt
@@ -237,9 +237,9 @@ behind_lock : (x : Changing) (r : Result (Unit {0}) StepFault) (q : Result Prepa
 behind_lock x r q n left None ob ob2 od out out2 out3 err err3 lock free prepares ends = tt
 behind_lock x r q n left (Some v) ob ob2 od out out2 out3 err err3 lock free prepares ends = λ i heard.
     let here = subst (λ (o : Option View). PreparesChange x q n left (world o out err) (world ob2 out2 err)) lock prepares i heard in
-    let seen_so : Prepares q n (x.outcome n i (map v x.named) (look v n)) (world (Some (locked n v)) out err) (world ob2 out2 err) =
-    subst (λ (u : View). Prepares q n (x.outcome n i (map u x.named) (look u n)) (world (Some (locked n v)) out err) (world ob2 out2 err)) (before_lock n v free) here in
-    subst (λ (o : Outcome). Meets (λ (done : Unit {0}). 0) r n o (world (Some v) out err) (world od out3 err3)) (sym (free_step x n i (map v x.named) (look v n) free)) (ends v (x.outcome n i (map v x.named) (look v n)) free seen_so)
+    let seen_so : Prepares q n (x.outcome n i (map v (x.named n)) (look v n)) (world (Some (locked n v)) out err) (world ob2 out2 err) =
+    subst (λ (u : View). Prepares q n (x.outcome n i (map u (x.named n)) (look u n)) (world (Some (locked n v)) out err) (world ob2 out2 err)) (before_lock n v free) here in
+    subst (λ (o : Outcome). Meets (λ (done : Unit {0}). 0) r n o (world (Some v) out err) (world od out3 err3)) (sym (free_step x n i (map v (x.named n)) (look v n) free)) (ends v (x.outcome n i (map v (x.named n)) (look v n)) free seen_so)
 
 pub given_up_steps : (x : Changing) (fault : StepFault) (r : Result (Unit {0}) StepFault) (q : Result Prepared StepFault) (n : List ℕ) (left : Option (List ℕ)) (oa ob ob2 od : Option View) (out out2 err : Option (List ℕ)) → q ≡ Err fault → Becomes (locked n) oa ob → IfSome oa (λ (v : View). v (z_file n) ≡ None)
     → PreparesChange x q n left (world ob out err) (world ob2 out2 err) → GivesUp r fault n (world ob2 out2 err) (world od out2 err) → Steps x r n left (world oa out err) (world od out2 err)

@@ -48,18 +48,18 @@ refused_after x n o refusal v m past t is safe ends = subst (λ (q : Outcome). E
 -- ---- at the lock
 
 pub at_memory : (x : Changing) (n : List ℕ) (left : Option (List ℕ)) (ta td : Told) (out err : Option (List ℕ)) (m : Model) (past : List Model) (i : List ℕ) → td ≡ ta → ta ≡ Tells m past → IsHeard x.takes left i → IsCalm m
-    → MeetsAt (locking x) (Err Memory) n (locking_step x.outcome n i (map (view_of m) x.named) (look (view_of m) n)) (view_of m) m past (scene ta out err) (scene td out err)
+    → MeetsAt (locking x) (Err Memory) n (locking_step x.outcome n i (map (view_of m) (x.named n)) (look (view_of m) n)) (view_of m) m past (scene ta out err) (scene td out err)
 at_memory x n left ta td out err m past i same is heard calm =
-    subst (λ (t : Told). MeetsAt (locking x) (Err Memory) n (locking_step x.outcome n i (map (view_of m) x.named) (look (view_of m) n)) (view_of m) m past (scene t out err) (scene td out err)) (sym is)
+    subst (λ (t : Told). MeetsAt (locking x) (Err Memory) n (locking_step x.outcome n i (map (view_of m) (x.named n)) (look (view_of m) n)) (view_of m) m past (scene t out err) (scene td out err)) (sym is)
     (memory_steps x n left (Some (view_of m)) (seen td) out err (ap seen (same ∙ is)) i heard, same_before m past td calm (same ∙ is))
 
 pub at_locked : (x : Changing) (n : List ℕ) (left : Option (List ℕ)) (ta td : Told) (out err : Option (List ℕ)) (m : Model) (past : List Model) (i : List ℕ) → td ≡ ta → IfSome (seen ta) (λ (v : View). is_some (v (z_file n)) ≡ true) → ta ≡ Tells m past → IsHeard x.takes left i → IsCalm m → IsSafeFor (locking x) n (view_of m)
-    → MeetsAt (locking x) (Err (Refused refusals.Locked)) n (locking_step x.outcome n i (map (view_of m) x.named) (look (view_of m) n)) (view_of m) m past (scene ta out err) (scene td out err)
+    → MeetsAt (locking x) (Err (Refused refusals.Locked)) n (locking_step x.outcome n i (map (view_of m) (x.named n)) (look (view_of m) n)) (view_of m) m past (scene ta out err) (scene td out err)
 at_locked x n left ta td out err m past i same taken is heard calm safe =
     let there : is_some (view_of m (z_file n)) ≡ true = subst (λ (t : Told). IfSome (seen t) (λ (v : View). is_some (v (z_file n)) ≡ true)) is taken in
-    subst (λ (t : Told). MeetsAt (locking x) (Err (Refused refusals.Locked)) n (locking_step x.outcome n i (map (view_of m) x.named) (look (view_of m) n)) (view_of m) m past (scene t out err) (scene td out err)) (sym is) (
+    subst (λ (t : Told). MeetsAt (locking x) (Err (Refused refusals.Locked)) n (locking_step x.outcome n i (map (view_of m) (x.named n)) (look (view_of m) n)) (view_of m) m past (scene t out err) (scene td out err)) (sym is) (
       locked_steps x n left (Some (view_of m)) (seen td) out err (ap seen (same ∙ is)) there i heard,
-      refused_after (locking x) n (locking_step x.outcome n i (map (view_of m) x.named) (look (view_of m) n)) refusals.Locked (view_of m) m past td (locked_steps x n left (Some (view_of m)) (seen td) out err (ap seen (same ∙ is)) there i heard).0 safe (same_before m past td calm (same ∙ is)),
+      refused_after (locking x) n (locking_step x.outcome n i (map (view_of m) (x.named n)) (look (view_of m) n)) refusals.Locked (view_of m) m past td (locked_steps x n left (Some (view_of m)) (seen td) out err (ap seen (same ∙ is)) there i heard).0 safe (same_before m past td calm (same ∙ is)),
     )
 
 -- a lock that failed, whether the name was locked or not
@@ -68,12 +68,12 @@ failed_before n ta td m past None z sfile touches held is calm sound = ends_befo
 failed_before n ta td m past (Some c) z sfile touches held is calm sound = held m past is calm (ap is_some z)
 
 pub at_failed : (x : Changing) (n : List ℕ) (left : Option (List ℕ)) (ta td : Told) (out err : Option (List ℕ)) (m : Model) (past : List Model) (i : List ℕ) → IsSfile n → Moves (bytes_eq (z_file n)) (λ v. v) (seen ta) (seen td) → TouchesOnly (bytes_eq (z_file n)) ta td → KeepsHeld n ta td → ta ≡ Tells m past → IsHeard x.takes left i → IsCalm m → (view_of m (z_file n) ≡ None → IsSound n (view_of m))
-    → MeetsAt (locking x) (Err DiskFault) n (locking_step x.outcome n i (map (view_of m) x.named) (look (view_of m) n)) (view_of m) m past (scene ta out err) (scene td out err)
+    → MeetsAt (locking x) (Err DiskFault) n (locking_step x.outcome n i (map (view_of m) (x.named n)) (look (view_of m) n)) (view_of m) m past (scene ta out err) (scene td out err)
 at_failed x n left ta td out err m past i sfile moves touches held is heard calm sound =
     let kept : EndsBefore (view_of m) m past td = failed_before n ta td m past (view_of m (z_file n)) refl sfile touches held is calm sound in
     let here : Moves (bytes_eq (z_file n)) (λ v. v) (Some (view_of m)) (seen td) = subst (λ (t : Told). Moves (bytes_eq (z_file n)) (λ v. v) (seen t) (seen td)) is moves in
-    subst (λ (t : Told). MeetsAt (locking x) (Err DiskFault) n (locking_step x.outcome n i (map (view_of m) x.named) (look (view_of m) n)) (view_of m) m past (scene t out err) (scene td out err)) (sym is)
-    (failed_steps x n left (Some (view_of m)) (seen td) out err here i heard, (before_within (view_of m) (moved (view_of m) n (effect_of n (locking_step x.outcome n i (map (view_of m) x.named) (look (view_of m) n))).new) m past td kept, inr (recovers_before (view_of m) m past td kept)))
+    subst (λ (t : Told). MeetsAt (locking x) (Err DiskFault) n (locking_step x.outcome n i (map (view_of m) (x.named n)) (look (view_of m) n)) (view_of m) m past (scene t out err) (scene td out err)) (sym is)
+    (failed_steps x n left (Some (view_of m)) (seen td) out err here i heard, (before_within (view_of m) (moved (view_of m) n (effect_of n (locking_step x.outcome n i (map (view_of m) (x.named n)) (look (view_of m) n))).new) m past td kept, inr (recovers_before (view_of m) m past td kept)))
 
 -- ---- behind the lock
 
@@ -84,16 +84,16 @@ EndsSo y r n v m past td out err out3 err3 o = (met : Meets (λ (done : Unit {0}
 behind : (x : Changing) (r : Result (Unit {0}) StepFault) (q : Result Prepared StepFault) (n : List ℕ) (left : Option (List ℕ)) (ta tb tb2 td : Told) (out out2 out3 err err3 : Option (List ℕ)) (m : Model) (past : List Model) (i : List ℕ) → ta ≡ Tells m past → IsHeard x.takes left i
     → Becomes (locked n) (seen ta) (seen tb) → IfSome (seen ta) (λ (v : View). v (z_file n) ≡ None) → PreparesChange x q n left (world (seen tb) out err) (world (seen tb2) out2 err)
     → ((o : Outcome) → view_of m (z_file n) ≡ None → Prepares q n o (world (Some (locked n (view_of m))) out err) (world (seen tb2) out2 err) → EndsSo (locking x) r n (view_of m) m past td out err out3 err3 o)
-    → MeetsAt (locking x) r n (locking_step x.outcome n i (map (view_of m) x.named) (look (view_of m) n)) (view_of m) m past (scene ta out err) (scene td out3 err3)
+    → MeetsAt (locking x) r n (locking_step x.outcome n i (map (view_of m) (x.named n)) (look (view_of m) n)) (view_of m) m past (scene ta out err) (scene td out3 err3)
 behind x r q n left ta tb tb2 td out out2 out3 err err3 m past i is heard lock free prepares ends =
     let v : View = view_of m in
     let unheld : v (z_file n) ≡ None = subst (λ (t : Told). IfSome (seen t) (λ (u : View). u (z_file n) ≡ None)) is free in
     let told : seen tb ≡ Some (locked n v) = lock ∙ ap (λ (t : Told). option_map (locked n) (seen t)) is in
     let here = subst (λ (o : Option View). PreparesChange x q n left (world o out err) (world (seen tb2) out2 err)) told prepares i heard in
-    let seen_so : Prepares q n (x.outcome n i (map v x.named) (look v n)) (world (Some (locked n v)) out err) (world (seen tb2) out2 err) =
-    subst (λ (u : View). Prepares q n (x.outcome n i (map u x.named) (look u n)) (world (Some (locked n v)) out err) (world (seen tb2) out2 err)) (before_lock n v unheld) here in
-    subst (λ (t : Told). MeetsAt (locking x) r n (locking_step x.outcome n i (map v x.named) (look v n)) v m past (scene t out err) (scene td out3 err3)) (sym is)
-    (subst (λ (o : Outcome). EndsSo (locking x) r n v m past td out err out3 err3 o) (sym (free_step x n i (map v x.named) (look v n) unheld)) (ends (x.outcome n i (map v x.named) (look v n)) unheld seen_so))
+    let seen_so : Prepares q n (x.outcome n i (map v (x.named n)) (look v n)) (world (Some (locked n v)) out err) (world (seen tb2) out2 err) =
+    subst (λ (u : View). Prepares q n (x.outcome n i (map u (x.named n)) (look u n)) (world (Some (locked n v)) out err) (world (seen tb2) out2 err)) (before_lock n v unheld) here in
+    subst (λ (t : Told). MeetsAt (locking x) r n (locking_step x.outcome n i (map v (x.named n)) (look v n)) v m past (scene t out err) (scene td out3 err3)) (sym is)
+    (subst (λ (o : Outcome). EndsSo (locking x) r n v m past td out err out3 err3 o) (sym (free_step x n i (map v (x.named n)) (look v n) unheld)) (ends (x.outcome n i (map v (x.named n)) (look v n)) unheld seen_so))
 
 -- ---- giving up
 
@@ -123,7 +123,7 @@ all_left n ta tb tb2 lock working = only_then (is_left n) ta tb tb2 (only_wider 
 pub at_given_up : (x : Changing) (fault : StepFault) (r : Result (Unit {0}) StepFault) (q : Result Prepared StepFault) (n : List ℕ) (left : Option (List ℕ)) (ta tb tb2 td : Told) (out out2 err : Option (List ℕ)) (m : Model) (past : List Model) (i : List ℕ) → IsSfile n → q ≡ Err fault
     → Becomes (locked n) (seen ta) (seen tb) → IfSome (seen ta) (λ (v : View). v (z_file n) ≡ None) → PreparesChange x q n left (world (seen tb) out err) (world (seen tb2) out2 err) → GivesUp r fault n (world (seen tb2) out2 err) (world (seen td) out2 err)
     → TouchesOnly (bytes_eq (z_file n)) ta tb → TouchesOnly (is_working n) tb tb2 → TouchesOnly (is_left n) tb2 td → ta ≡ Tells m past → IsHeard x.takes left i → IsCalm m → IsSafe n (view_of m)
-    → MeetsAt (locking x) r n (locking_step x.outcome n i (map (view_of m) x.named) (look (view_of m) n)) (view_of m) m past (scene ta out err) (scene td out2 err)
+    → MeetsAt (locking x) r n (locking_step x.outcome n i (map (view_of m) (x.named n)) (look (view_of m) n)) (view_of m) m past (scene ta out err) (scene td out2 err)
 at_given_up x fault r q n left ta tb tb2 td out out2 err m past i sfile failed lock free prepares gives locks working leaving is heard calm safe =
     let kept : EndsBefore (view_of m) m past td = ends_before n ta td m past sfile is calm (safe.sound (subst (λ (t : Told). IfSome (seen t) (λ (u : View). u (z_file n) ≡ None)) is free)) (only_then (is_left n) ta tb2 td (all_left n ta tb tb2 locks working) leaving) in
     behind x r (Err fault) n left ta tb tb2 td out out2 out2 err err m past i is heard lock free (subst (λ (p : Result Prepared StepFault). PreparesChange x p n left (world (seen tb) out err) (world (seen tb2) out2 err)) failed prepares)
@@ -227,7 +227,7 @@ finished_so y r n p o m past ta tb tb2 td out out2 out3 err err3 sfile is calm s
 pub at_finished : (x : Changing) (p : Prepared) (r : Result (Unit {0}) StepFault) (q : Result Prepared StepFault) (n : List ℕ) (left : Option (List ℕ)) (ta tb tb2 td : Told) (out out2 out3 err err3 : Option (List ℕ)) (m : Model) (past : List Model) (i : List ℕ) → IsSfile n → q ≡ Ok p
     → Becomes (locked n) (seen ta) (seen tb) → IfSome (seen ta) (λ (v : View). v (z_file n) ≡ None) → PreparesChange x q n left (world (seen tb) out err) (world (seen tb2) out2 err) → Finishes r n p (world (seen tb2) out2 err) (world (seen td) out3 err3) → Commits r n p tb2 td
     → TouchesOnly (bytes_eq (z_file n)) ta tb → TouchesOnly (is_working n) tb tb2 → IsFirmPrepared n p tb tb2 → SettlesEntries n p tb2 → ta ≡ Tells m past → IsHeard x.takes left i → IsCalm m → IsSafe n (view_of m)
-    → MeetsAt (locking x) r n (locking_step x.outcome n i (map (view_of m) x.named) (look (view_of m) n)) (view_of m) m past (scene ta out err) (scene td out3 err3)
+    → MeetsAt (locking x) r n (locking_step x.outcome n i (map (view_of m) (x.named n)) (look (view_of m) n)) (view_of m) m past (scene ta out err) (scene td out3 err3)
 at_finished x p r q n left ta tb tb2 td out out2 out3 err err3 m past i sfile made lock free prepares finishes commits locks working firm entries is heard calm safe =
     behind x r (Ok p) n left ta tb tb2 td out out2 out3 err err3 m past i is heard lock free (subst (λ (s : Result Prepared StepFault). PreparesChange x s n left (world (seen tb) out err) (world (seen tb2) out2 err)) made prepares)
     (λ o unheld prep. finished_so (locking x) r n p o m past ta tb tb2 td out out2 out3 err err3 sfile is calm safe unheld prep finishes commits locks working firm entries)

@@ -13,6 +13,7 @@ use Rattle.sccs_files.specs.StepFiles.{Moves, is_working, look}
 use Rattle.sccs_steps.specs.StepEffects.{Outcome, StepEffect, check, effect_of}
 use Rattle.sccs_steps.specs.Calls.{World}
 use Rattle.sccs_steps.specs.Actions.{Action, IsHeard, Step}
+use Rattle.sccs_steps.specs.declared.statuses.StatusRule.TheVariants.{Greatest}
 use Rattle.sccs_disk.specs.Calls.{IsThere}
 use Rattle.sccs_store.specs.Commits.{Needs, Plan, files_after, plan}
 use Rattle.sccs_moments.specs.Recovery.{without}
@@ -22,8 +23,8 @@ use Rattle.sccs_transactions.specs.declared.prepared.Prepared.{Prepared}
 pub record Changing : Type 0 where
   -- what it makes, or why it is refused
   pub outcome : Step
-  -- the files that its words name
-  pub named : List (List ℕ)
+  -- the files that its words name, for an operand
+  pub named : List ℕ → List (List ℕ)
   -- whether it takes the input
   pub takes : Bool
   -- whether it writes nothing on out
@@ -39,7 +40,7 @@ locking_step outcome n i named f = do
 
 -- the change as an action
 abbrev pub locking : Changing → Action
-locking x = record { fits = is_sfile_name; step = locking_step x.outcome; named = x.named; takes = x.takes; reads = false; locks = true; silent = x.silent; could = x.could }
+locking x = record { fits = is_sfile_name; step = locking_step x.outcome; named = x.named; takes = x.takes; reads = false; locks = true; silent = x.silent; rule = Greatest; could = x.could }
 
 -- the view as it was before the name was locked
 abbrev pub unlocked : List ℕ → View → View
@@ -73,7 +74,7 @@ Prepares (Err fault) n o w w2 = IsUnmade n (effect_of n o).text w w2
 -- the same of a change, on a disk that tells its files, the name being locked
 abbrev pub PreparesChange : Changing → Result Prepared StepFault → List ℕ → Option (List ℕ) → World → World → Type 0
 PreparesChange x r n left w w2 =
-    IfSome w.view (λ v. (i : List ℕ) → IsHeard x.takes left i → Prepares r n (x.outcome n i (map (unlocked n v) x.named) (look (unlocked n v) n)) w w2)
+    IfSome w.view (λ v. (i : List ℕ) → IsHeard x.takes left i → Prepares r n (x.outcome n i (map (unlocked n v) (x.named n)) (look (unlocked n v) n)) w w2)
 
 -- what a commit needs is there, where a view is told
 pub record IsReady (n : List ℕ) (p : Prepared) (told : Told) : Type 0 where
