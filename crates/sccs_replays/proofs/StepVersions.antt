@@ -16,7 +16,7 @@ use Rattle.sccs_words.specs.declared.commands.Command.TheVariants as c
 use Rattle.sccs_words.specs.declared.commands.DeltaWords.{DeltaWords}
 use Rattle.sccs_words.specs.declared.commands.GetWords.{GetWords}
 use Rattle.sccs_files.specs.StepFiles.{Files, look}
-use Rattle.sccs_steps.specs.Actions.{Action, Step}
+use Rattle.sccs_steps.specs.Actions.{Action, KeepsFiles, Step}
 use Rattle.sccs_steps.specs.StepEffects.{Outcome, StepEffect, check}
 use Rattle.sccs_transactions.specs.Changes.{locking, locking_step}
 use Rattle.sccs_admin.specs.AdminStep.{admin_change, admin_outcome, found_text}
@@ -29,6 +29,8 @@ use Rattle.sccs_delta.proofs.Chains.{passed}
 use Rattle.sccs_edit.specs.UngetStep.{unget_decides}
 use Rattle.sccs_get.specs.EditStep.{edit_change, edit_outcome}
 use Rattle.sccs_get.specs.VersionStep.{get_action}
+use Rattle.sccs_what.specs.Checks.{what_keeps}
+use Rattle.sccs_what.specs.WhatStep.{what_action}
 use Rattle.sccs_top.specs.Runs.{Caller, action_of, has_heading}
 use Rattle.sccs_top.specs.Unbuilt.{is_admin_built, unbuilt}
 use Rattle.sccs_top.specs.MadeHistories.{IsReplayed}
@@ -157,6 +159,12 @@ get_by false who words heading i n m texts d is = left (view_in m n) _ d texts (
 refused : (m : Folder) (n : List ℕ) (texts : Texts) (d : StepEffect) → (let o : Outcome = Err refusals.Unbuilt in o) ≡ Ok d → Goes (view_in m n) d.new texts texts
 refused m n texts d is = left (view_in m n) (Err refusals.Unbuilt) d texts (refused_leaves (view_in m n) refusals.Unbuilt) is
 
+-- what only reads leaves the s-file
+reading_goes : (x : Action) (i n : List ℕ) (m : Folder) (texts : Texts) (d : StepEffect) → KeepsFiles x → x.reads ≡ true
+    → x.step n i (map (view_in m) (x.named n)) (look (view_in m) n) ≡ Ok d → Goes (view_in m n) d.new texts texts
+reading_goes x i n m texts d keeps reads is =
+    subst (λ (new : Option Files). Goes (view_in m n) new texts texts) (sym (keeps.quiet reads n i (map (view_in m) (x.named n)) (look (view_in m) n) d is)) (λ are. are)
+
 pub command_goes : (who : Caller) (command : Command) (i n : List ℕ) (m : Folder) (texts : Texts) (d : StepEffect) → IsMoment who.stamp.moment → IsLogin who.stamp.login → HasMeantValues command
     → (action_of who command).step n i (map (view_in m) ((action_of who command).named n)) (look (view_in m) n) ≡ Ok d → Goes (view_in m n) d.new texts (versions_after_command who command i m n texts)
 command_goes who (c.Admin words operands) i n m texts d moment login values is = admin_by (is_admin_built words) who words i n m texts d moment login values is
@@ -168,7 +176,7 @@ command_goes who (c.Sact operands) i n m texts d moment login values is = left (
 command_goes who (c.Rmdel sid operands) i n m texts d moment login values is = refused m n texts d is
 command_goes who (c.Prs words operands) i n m texts d moment login values is = refused m n texts d is
 command_goes who (c.Val words) i n m texts d moment login values is = refused m n texts d is
-command_goes who (c.What first operands) i n m texts d moment login values is = refused m n texts d is
+command_goes who (c.What first operands) i n m texts d moment login values is = reading_goes (what_action first) i n m texts d (what_keeps first) refl is
 command_goes who (c.Recover operands) i n m texts d moment login values is = left (view_in m n) _ d texts (recover_leaves n (look (view_in m) n)) is
 command_goes who c.Batch i n m texts d moment login values is = refused m n texts d is
 command_goes who (c.Soak number) i n m texts d moment login values is = refused m n texts d is

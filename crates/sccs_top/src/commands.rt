@@ -22,8 +22,11 @@ use sccs_edit::{Sact, Unget};
 use sccs_get::{Get, Reserve};
 use sccs_recovery::Recover;
 use sccs_sid::Stamp;
-use sccs_steps::{Fault, Ordinary, Streams, UtilityWithStatus, is_several, run_operand, run_operands};
+use sccs_steps::{
+    Fault, Ordinary, Streams, UtilityWithStatus, is_several, run_operand, run_operands,
+};
 use sccs_transactions::Locking;
+use sccs_what::What;
 use sccs_words::{Command, GetWords, Operands, WordsFault, read_words};
 use std::alloc::Global;
 
@@ -49,6 +52,7 @@ enum Known<'a> {
     Sact(Sact),
     Unget(Locking<Unget<'a>>),
     Recover(Recover),
+    What(What),
     Unbuilt(Unbuilt),
 }
 
@@ -128,7 +132,7 @@ fn utility_of<'a>(command: &'a Command, stamp: &'a Stamp, place: &'a Line) -> Kn
             heading: has_heading(operands),
         }),
         Command::Recover(_) => Known::Recover(Recover),
-        Command::What(_, _) => unbuilt(true, false),
+        Command::What(first, _) => Known::What(What { first: *first }),
         Command::Val(_) | Command::Batch | Command::Soak(_) => unbuilt(true, true),
         _ => unbuilt(false, false),
     }
@@ -204,6 +208,7 @@ fn run_command<I: Source, O: Sink, E: Sink, D: Disk>(
         Known::Sact(utility) => run_listed(alloc, &Ordinary { utility }, operands, streams),
         Known::Unget(utility) => run_listed(alloc, &Ordinary { utility }, operands, streams),
         Known::Recover(utility) => run_listed(alloc, &Ordinary { utility }, operands, streams),
+        Known::What(utility) => run_listed(alloc, &utility, operands, streams),
         Known::Unbuilt(utility) => run_listed(alloc, &Ordinary { utility }, operands, streams),
     }
 }
@@ -236,7 +241,7 @@ fn run_lent<I: Source, O: Sink, E: Sink, D: Disk>(
 /// Does a command. The words are those behind the program's name; `stamp` is its moment, of the years
 /// 1969 to 2068, and its login, `place` the folder's path. Texts go to `out`, messages to `err`.
 ///
-/// Built are admin on new files, with `-n` or `-i`, `-r` and `-y`; get, delta, sact, unget and recover.
+/// Built are admin on new files, with `-n` or `-i`, `-r` and `-y`; get, delta, sact, unget, what and recover.
 ///
 /// A stop at any moment of a run that began on a calm disk, with safe operands, leaves what recovers on all
 /// names as after the same number of steps, no fewer than are acknowledged; and s-files and p-files are firm

@@ -69,24 +69,63 @@ fn operands_come_in_order(rt: HostRuntime) -> Result<(), Fail> {
     Ok(())
 }
 
-const UNBUILT: [Row<'static>; 3] = [
+const MARKED: &[u8] = b"x@(#)one\"y@(#)two\n@(#";
+
+const MARKS: [Row<'static>; 9] = [
+    (b"what s.b", 0, b"s.b:\n\tone\n\ttwo\n", b""),
+    (b"what -s s.b", 0, b"s.b:\n\tone\n", b""),
+    (b"what s.a", 1, b"s.a:\n", b""),
     (
-        b"prs x s.a -",
-        2,
+        b"what s.a s.b s.a",
+        0,
+        b"s.a:\ns.b:\n\tone\n\ttwo\ns.a:\n",
         b"",
-        b"USAGE: options exclude each other (word 4)\n",
     ),
     (
-        b"prs x s.a .",
+        b"what x s.a",
+        1,
+        b"s.a:\n",
+        b"ERROR [x]: no such file (03)\n",
+    ),
+    (
+        b"what s.b x",
+        0,
+        b"s.b:\n\tone\n\ttwo\n",
+        b"ERROR [x]: no such file (03)\n",
+    ),
+    (
+        b"what d/x",
         1,
         b"",
-        b"ERROR [x]: not a name of an s-file (01)\nERROR [s.a]: not built yet (99)\nERROR [s.a]: not built yet (99)\nERROR [s.b]: not built yet (99)\n",
+        b"ERROR [d/x]: not a name of an s-file (01)\n",
     ),
+    (b"what .", 0, b"s.a:\ns.b:\n\tone\n\ttwo\n", b""),
     (
         b"what x -",
         2,
         b"",
         b"USAGE: options exclude each other (word 3)\n",
+    ),
+];
+
+#[test]
+fn what_finds_marks_in_any_of_its_files(rt: HostRuntime) -> Result<(), Fail> {
+    assert_eq!(rt; wrong_row(rt.alloc(), TWO_LINES, MARKED, &MARKS)?, None);
+    Ok(())
+}
+
+const UNBUILT: [Row<'static>; 2] = [
+    (
+        b"rmdel -r1.1 x s.a -",
+        2,
+        b"",
+        b"USAGE: options exclude each other (word 5)\n",
+    ),
+    (
+        b"rmdel -r1.1 x s.a .",
+        1,
+        b"",
+        b"ERROR [x]: not a name of an s-file (01)\nERROR [s.a]: not built yet (99)\nERROR [s.a]: not built yet (99)\nERROR [s.b]: not built yet (99)\n",
     ),
 ];
 
