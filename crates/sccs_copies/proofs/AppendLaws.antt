@@ -13,7 +13,7 @@ use Rattle.sccs_writers.specs.Puts.{Appends, Puts, Writer}
 use Rattle.sccs_writers.specs.Spelled.{spelled}
 use Rattle.sccs_writers.proofs.OneFile.{only_both}
 use Rattle.sccs_writers.proofs.PutLaws.{views_two}
-use Rattle.sccs_copies.specs.Copies.{AppendsSome, AppendsSpliced, AppendsText, AppendsWhole}
+use Rattle.sccs_copies.specs.Copies.{AppendsSome, AppendsItems, AppendsText, AppendsWhole}
 
 -- all that was put is appended, where nothing is held back before and after it
 pub whole_appended : (text n : List ℕ) (sums : ℕ × ℕ) (w w2 : Writer) (a b : Told) → w ≡ record { name = n; held = []; sums = sums } → w2.held ≡ [] → Puts text w w2 a b → AppendsText n text sums w2.sums a b
@@ -26,7 +26,7 @@ whole_appended text n sums w w2 a b named none puts =
     }
 
 -- the answer with the sums is that of the writer
-pub sums_answered : (items : List Item) (n : List ℕ) (sums after : ℕ × ℕ) (w w2 : Writer) (a b : Told) → after ≡ w2.sums → w ≡ record { name = n; held = []; sums = sums } → w2.held ≡ [] → Puts (spelled items) w w2 a b → AppendsSpliced items n sums a b (Ok after)
+pub sums_answered : (items : List Item) (n : List ℕ) (sums after : ℕ × ℕ) (w w2 : Writer) (a b : Told) → after ≡ w2.sums → w ≡ record { name = n; held = []; sums = sums } → w2.held ≡ [] → Puts (spelled items) w w2 a b → AppendsItems items n sums a b (Ok after)
 sums_answered items n sums after w w2 a b is named none puts = subst (λ s. AppendsText n (spelled items) sums s a b) (sym is) (whole_appended (spelled items) n sums w w2 a b named none puts)
 
 ok_of : {T E : Type 0} (P : Type 0) (r : Result T E) (x : T) → r ≡ Ok x → OnOk r P → P
@@ -53,7 +53,7 @@ behind_header h n s s2 a b c f g k q done r is first second = record {
     both (Err e) p = tt
 
 -- behind a header all items are appended
-pub items_behind : {U : Type 0} (h : Header) (items : List Item) (n : List ℕ) (s s2 : ℕ × ℕ) (a b c : Told) (f g : ℕ) (q : Result U DiskRefusal) (done : U) (r : Result (ℕ × ℕ) FileFault) → q ≡ Ok done → IsSumOf s [] → WritesHeader h n s s2 a b f g q → AppendsSpliced items n s2 b c r → AppendsWhole h items n a c r
+pub items_behind : {U : Type 0} (h : Header) (items : List Item) (n : List ℕ) (s s2 : ℕ × ℕ) (a b c : Told) (f g : ℕ) (q : Result U DiskRefusal) (done : U) (r : Result (ℕ × ℕ) FileFault) → q ≡ Ok done → IsSumOf s [] → WritesHeader h n s s2 a b f g q → AppendsItems items n s2 b c r → AppendsWhole h items n a c r
 items_behind h items n s s2 a b c f g q done (Ok after) is zero first second = record {
   file = views_two n (ended (sum_line 0) ++ header_bytes h) (spelled items) (seen a) (seen b) (seen c) (ok_of (Appends n (ended (sum_line 0) ++ header_bytes h) a b) q done is first.ok) second.file;
   sum = second.sums (header_bytes h) (ok_of ((front : List ℕ) → IsSumOf s front → IsSumOf s2 (front ++ header_bytes h)) q done is first.sums [] zero);

@@ -1,5 +1,7 @@
 -- A copy goes from item to item.
-use Rattle.std.proofs.Common.{◌≡◌, ℕ, ◌+◌, ◌≤◌, nat_lt, Bool, false, cond, ◌&&◌, List, [], ◌∷◌, ◌++◌, Some, Result, Ok, Err, OnOk, inl, inr, refl, sym, ap, subst, ◌∙◌, arith, append_assoc}
+use Rattle.std.proofs.Common.{◌≡◌, ℕ, ◌≤◌, Bool, true, false, List, [], ◌∷◌, ◌++◌, Option, None, Some, Result, Ok, Err, OnOk, inl, inr, refl, sym, ap, subst, ◌∙◌, arith, append_assoc}
+use Rattle.std.specs.Result.{IsErrAnd}
+use Rattle.std.proofs.lemmas.Result.{err_from_is_err_and}
 use Rattle.sccs_base.specs.Stream.{Rose}
 use Rattle.sccs_disk.specs.Told.{Told}
 use Rattle.sccs_disk.specs.Calls.{IsThere}
@@ -8,21 +10,24 @@ use Rattle.sccs_disk.specs.declared.disks.DiskRefusal.TheVariants as refusals
 use Rattle.sccs_grammar.specs.declared.faults.FileFault.{FileFault}
 use Rattle.sccs_grammar.specs.declared.faults.FileFault.TheVariants as faults
 use Rattle.sccs_history.specs.declared.headers.Item.{Item}
-use Rattle.sccs_splicer.specs.Splices.{base_count, Goes, IsControl, owed, Splices, State}
-use Rattle.sccs_splicer.proofs.Pushes.{splices_both, splices_end, splices_none}
+use Rattle.sccs_body.specs.Reader.{ItemPlace}
+use Rattle.sccs_body.specs.ToCome.{GivesNext, ToCome}
+use Rattle.sccs_splicer.proofs.Spelling.{spelled_both}
+use Rattle.sccs_versions.proofs.RunLaws.{onto_read}
 use Rattle.sccs_writers.specs.OneFile.{OnlyWrites}
 use Rattle.sccs_writers.specs.Puts.{Puts, PutsText, Writer}
 use Rattle.sccs_writers.specs.Spelled.{spelled}
 use Rattle.sccs_writers.proofs.OneFile.{only_both, only_none, only_same}
 use Rattle.sccs_writers.proofs.PutLaws.{puts_both, puts_none}
-use Rattle.sccs_copies.specs.Copies.{CopiesSome, CopiesWhole, CopyComes, GivesBaseItem, ItemsCome, PutsSome, as_file_fault}
-use Rattle.sccs_copies.specs.declared.copies.BaseItem.{BaseItem}
+use Rattle.sccs_copies.specs.Copies.{CopiesAll, CopiesNext, CopiesSome, CopiesWhole, CopyComes, IsOuterFault, PutsItems, PutsSome, as_file_fault}
+use Rattle.sccs_copies.specs.Filters.{Filter, Finishes, TakesItem}
 use Rattle.sccs_copies.specs.declared.copies.Copying.{Copying}
-use Rattle.sccs_copies.proofs.ComingItems.{count_first, still_counted}
+use Rattle.sccs_copies.proofs.ComingItems.{Given, none_more}
+use Rattle.sccs_copies.proofs.FilterLaws.{ended_output, filtered_one, ok_of, rest_of}
 
 -- ---- over any disk
 
-rose_from : (f g h : ℕ) → f ≤ g → Rose g h → Rose f h
+pub rose_from : (f g h : ℕ) → f ≤ g → Rose g h → Rose f h
 rose_from f g h low (inl more) = inl (omega (arith, low, more))
 rose_from f g h low (inr last) = inr last
 
@@ -45,10 +50,7 @@ some_read w a b f g r same later cause = record {
     on_any P (Ok x) p = p
     on_any P (Err e) p = tt
 
-ok_of : {T E : Type 0} (P : Type 0) (r : Result T E) (x : T) → r ≡ Ok x → OnOk r P → P
-ok_of P r x is on = subst (λ (s : Result _ _). OnOk s P) is on
-
-failed_as : {U : Type 0} (q : Result U DiskRefusal) (refusal : DiskRefusal) → q ≡ Err refusal → as_file_fault refusal ≡ faults.Failed → q ≡ Err refusals.Failed
+pub failed_as : {U : Type 0} (q : Result U DiskRefusal) (refusal : DiskRefusal) → q ≡ Err refusal → as_file_fault refusal ≡ faults.Failed → q ≡ Err refusals.Failed
 failed_as q refusals.Failed is so = is
 failed_as q refusals.Memory is so = absurd cc
 
@@ -77,6 +79,26 @@ some_cut x w w2 a m b f g h q refusal r is so same low puts = record {
     err_same : {T : Type 0} (r : Result T FileFault) (e e2 : FileFault) → r ≡ Err e → r ≡ Err e2 → e ≡ e2
     err_same r e e2 is so = cc
 
+-- the same fault of a call of another type
+pub err_again : {T U : Type 0} (e e2 : FileFault) (r : Result T FileFault) (s : Result U FileFault) → r ≡ Err e → s ≡ Err e → r ≡ Err e2 → s ≡ Err e2
+err_again e e2 r s is was so = cc
+
+abbrev err_of : FileFault → Result (Unit {0}) FileFault
+err_of e = Err e
+
+pub fault_of : (e e2 : FileFault) → err_of e ≡ err_of e2 → e ≡ e2
+fault_of e e2 is = cc
+
+-- a reading that fails
+pub some_unread : {T U : Type 0} (w : Writer) (a b : Told) (f g : ℕ) (q : Result U FileFault) (fault : FileFault) (r : Result T FileFault) → q ≡ Err fault → IsErrAnd r (λ e. e ≡ fault) → b ≡ a → f ≤ g → (q ≡ Err faults.Failed → Rose f g) → PutsSome w w a b f g r
+some_unread w a b f g q fault r is left same low cause =
+    let p = err_from_is_err_and r left in
+    some_read w a b f g r same low (λ failed. cause (err_again fault faults.Failed r q (p.1 ∙ ap (λ (e : FileFault). Err e) p.2) is failed))
+
+-- what is put, and then the body is refused
+pub some_refused : {T U : Type 0} (x : List ℕ) (w w2 : Writer) (a b : Told) (f g : ℕ) (q : Result U DiskRefusal) (done : U) (line : ℕ) → q ≡ Ok done → PutsText x w w2 a b f g q → PutsSome {T = T} w w2 a b f g (Err (faults.BadFormat line))
+some_refused x w w2 a b f g q done line is puts = record { text = x; ok = tt; name = puts.name; only = puts.only; later = puts.later; cause = λ failed. absurd cc }
+
 -- some is put, and then more
 pub some_both : {T U : Type 0} (w w2 w3 : Writer) (a b c : Told) (f g h : ℕ) (q : Result U FileFault) (done : U) (r : Result T FileFault) → q ≡ Ok done → PutsSome w w2 a b f g q → PutsSome w2 w3 b c g h r → PutsSome w w3 a c f h r
 some_both w w2 w3 a b c f g h q done r is first second = record {
@@ -98,81 +120,106 @@ some_there w w2 a b f g r puts there = subst (λ n. IsThere n b) (sym puts.name)
 
 -- ---- of a told file
 
--- items are put behind a reading
-pub splices_from : (xs : List (Item × Bool)) (s s2 : State) (w w2 : Writer) (a m b : Told) (f g h : ℕ) (q : Result (Unit {0}) DiskRefusal) (done : Unit {0}) → q ≡ Ok done → m ≡ a → f ≤ g → Splices xs s s2 w w2 m b g h q → Splices {T = Unit {0}} xs s s2 w w2 a b f h (Ok tt)
-splices_from xs s s2 w w2 a m b f g h q done is same low pushed = record {
-  items = pushed.items;
-  puts = record {
-    ok = subst (λ t. Puts (spelled pushed.items) w w2 t b) same (ok_of (Puts (spelled pushed.items) w w2 m b) q done is pushed.puts.ok);
-    name = pushed.puts.name;
-    only = subst (λ t. OnlyWrites w.name t b) same pushed.puts.only;
-    later = omega (arith, low, pushed.puts.later);
-    cause = λ failed. absurd cc;
-  };
-  goes = ok_of (Goes xs pushed.items s s2) q done is pushed.goes;
-}
+pub copies_none : {F : Type 0} (filter : Filter F) (file : List ℕ) (items : List Item) (c : Copying F) (w : Writer) (t : Told) → CopyComes filter file items c → CopiesSome filter file items c c w w t t
+copies_none filter file items c w t come = record { first = []; rest = items; whole = refl; puts = puts_none w t; on = come }
 
-pub copies_none : (file set : List ℕ) (lines : ℕ) (told : List (Item × Bool)) (c : Copying) (w : Writer) (t : Told) (f : ℕ) → CopyComes file set lines c told → CopiesSome file set lines told c c w w t t f f
-copies_none file set lines told c w t f come = record { pushed = []; rest = told; whole = refl; splices = splices_none c.splicer w t f; on = come }
+pub two_puts : (xs ys : List Item) (w w2 w3 : Writer) (a b c : Told) → Puts (spelled xs) w w2 a b → Puts (spelled ys) w2 w3 b c → Puts (spelled (xs ++ ys)) w w3 a c
+two_puts xs ys w w2 w3 a b c p q = subst (λ text. Puts text w w3 a c) (sym (spelled_both xs ys)) (puts_both (spelled xs) (spelled ys) w w2 w3 a b c p q)
 
-pub copies_both : (file set : List ℕ) (lines : ℕ) (told : List (Item × Bool)) (c c2 c3 : Copying) (w w2 w3 : Writer) (a b z : Told) (f g h : ℕ) → (p : CopiesSome file set lines told c c2 w w2 a b f g) → CopiesSome file set lines p.rest c2 c3 w2 w3 b z g h → CopiesSome file set lines told c c3 w w3 a z f h
-copies_both file set lines told c c2 c3 w w2 w3 a b z f g h p q = record {
-  pushed = p.pushed ++ q.pushed;
+two_wholes : (items first mid second rest : List Item) → items ≡ first ++ mid → mid ≡ second ++ rest → items ≡ (first ++ second) ++ rest
+two_wholes items first mid second rest p q = p ∙ (ap (λ l. first ++ l) q ∙ sym (append_assoc first second rest))
+
+pub copies_both : {F : Type 0} (filter : Filter F) (file : List ℕ) (items : List Item) (c c2 c3 : Copying F) (w w2 w3 : Writer) (a b z : Told) → (p : CopiesSome filter file items c c2 w w2 a b) → CopiesSome filter file p.rest c2 c3 w2 w3 b z
+    → CopiesSome filter file items c c3 w w3 a z
+copies_both filter file items c c2 c3 w w2 w3 a b z p q = record {
+  first = p.first ++ q.first;
   rest = q.rest;
-  whole = p.whole ∙ (ap (λ rest. p.pushed ++ rest) q.whole ∙ sym (append_assoc p.pushed q.pushed q.rest));
-  splices = splices_both p.pushed q.pushed c.splicer c2.splicer c3.splicer w w2 w3 a b z f g h (Ok tt) (Ok tt) tt tt refl refl p.splices q.splices;
+  whole = two_wholes items p.first p.rest q.first q.rest p.whole q.whole;
+  puts = two_puts p.first q.first w w2 w3 a b z p.puts q.puts;
   on = q.on;
 }
 
-pub copies_end : (file set : List ℕ) (lines : ℕ) (told : List (Item × Bool)) (c c2 c3 : Copying) (w w2 w3 : Writer) (a b z : Told) (f g h : ℕ) → (p : CopiesSome file set lines told c c2 w w2 a b f g) → CopiesWhole p.rest lines c2 c3 w2 w3 b z g h → CopiesWhole told lines c c3 w w3 a z f h
-copies_end file set lines told c c2 c3 w w2 w3 a b z f g h p q = record {
-  splices = subst (λ all. Splices {T = Unit {0}} all c.splicer c3.splicer w w3 a z f h (Ok tt)) (sym p.whole)
-      (splices_both p.pushed p.rest c.splicer c2.splicer c3.splicer w w2 w3 a b z f g h (Ok tt) (Ok tt) tt tt refl refl p.splices q.splices);
-  count = q.count;
+pub copies_end : {F : Type 0} (filter : Filter F) (file : List ℕ) (items : List Item) (c c2 : Copying F) (f3 : F) (w w2 w3 : Writer) (a b z : Told) → (p : CopiesSome filter file items c c2 w w2 a b) → CopiesWhole filter p.rest f3 w2 w3 b z
+    → CopiesWhole filter items f3 w w3 a z
+copies_end filter file items c c2 f3 w w2 w3 a b z p q = record {
+  first = p.first ++ q.first;
+  rest = q.rest;
+  after = q.after;
+  whole = two_wholes items p.first p.rest q.first q.rest p.whole q.whole;
+  puts = two_puts p.first q.first w w2 w3 a b z p.puts q.puts;
+  stands = q.stands;
+  output_is = q.output_is;
 }
 
--- the next item is read and put
-pub copies_one : (file set : List ℕ) (lines : ℕ) (told : List (Item × Bool)) (c c1 c2 : Copying) (b : BaseItem) (w w2 : Writer) (a m z : Told) (f g h : ℕ) (q : Result (Unit {0}) DiskRefusal) (done : Unit {0}) → q ≡ Ok done → m ≡ a → f ≤ g
-    → GivesBaseItem file set c1.items c1.weaver told (Ok (Some b)) → (IsControl b.item → b.visible ≡ false) → c1.splicer ≡ c.splicer → c1.seen ≡ c.seen
-    → Splices ((b.item, b.visible && nat_lt c1.seen lines) ∷ []) c1.splicer c2.splicer w w2 m z g h q
-    → (c1.seen ≤ lines → c2.seen ≡ c1.seen + cond b.visible 1 0) → c2.items ≡ c1.items → c2.weaver ≡ c1.weaver
-    → CopyComes file set lines c told → CopiesSome file set lines told c c2 w w2 a z f h
-copies_one file set lines told c c1 c2 b w w2 a m z f g h q done is same low given control spliced seen pushed more items weaver come =
-    let rest : List (Item × Bool) = given.0 in
-    let first : base_count told ≡ cond b.visible 1 0 + base_count rest = ap base_count given.1 ∙ count_first b.item b.visible rest control in
-    let all : c1.seen + (cond b.visible 1 0 + base_count rest) ≡ lines = ap (λ k. c1.seen + k) (sym first) ∙ (ap (λ k. k + base_count told) seen ∙ come.count) in
-    let low_seen : c1.seen ≤ lines = omega (arith, all) in
-    let after : c2.seen ≡ c1.seen + cond b.visible 1 0 = more low_seen in
+-- the next item is read, and the filter takes it
+pub copies_one : {F T : Type 0} (filter : Filter F) (file : List ℕ) (items : List Item) (c c2 : Copying F) (place : ItemPlace) (found : Option Item) (item : Item) (w w2 : Writer) (a m z : Told) (g h : ℕ) (q : Result T DiskRefusal) (done : T)
+    → q ≡ Ok done → m ≡ a → found ≡ Some item → Given file c.items place (Ok found) → c2.items ≡ place → TakesItem filter item c.filter c2.filter w w2 m z g h q → CopyComes filter file items c → CopiesSome filter file items c c2 w w2 a z
+copies_one filter file items c c2 place found item w w2 a m z g h q done is same found_is given placed takes p =
+    let comes = subst (λ f. GivesNext file p.live p.before (Ok p.rest) place (Ok f)) found_is (given p.live p.before (Ok p.rest) p.comes) in
+    let split = onto_read (item ∷ []) comes.rest p.rest (sym comes.first) in
+    let put = filtered_one filter p.before item c.filter c2.filter w w2 a m z g h q done is same takes p.stands in
+    let left = rest_of put.items items (filter.output c2.filter (item ∷ p.before) split.0) (put.filters.goes split.0 ∙ (ap (filter.output c.filter p.before) (sym split.2) ∙ p.output_is)) in
     record {
-      pushed = (b.item, b.visible) ∷ [];
-      rest = rest;
-      whole = given.1;
-      splices = subst (λ s. Splices {T = Unit {0}} ((b.item, b.visible) ∷ []) s c2.splicer w w2 a z f h (Ok tt)) spliced
-          (splices_from ((b.item, b.visible) ∷ []) c1.splicer c2.splicer w w2 a m z f g h q done is same low
-          (subst (λ t. Splices ((b.item, t) ∷ []) c1.splicer c2.splicer w w2 m z g h q) (still_counted b.visible c1.seen (base_count rest) lines all) pushed));
+      first = put.items;
+      rest = left.0;
+      whole = left.2;
+      puts = put.puts;
       on = record {
-        come = subst (λ p. ItemsCome file set p c2.weaver rest) (sym items) (subst (λ r. ItemsCome file set c1.items r rest) (sym weaver) given.2);
-        count = omega (arith, after, all);
+        live = p.live;
+        before = item ∷ p.before;
+        rest = split.0;
+        comes = subst (ToCome file p.live (item ∷ p.before) (Ok split.0)) (sym placed) (subst (λ f. ToCome file p.live (item ∷ p.before) f place) split.1 comes.on);
+        stands = put.filters.behind;
+        output_is = left.1;
       };
     }
 
--- no item is to come, and nothing is put
-pub copies_last : (file set : List ℕ) (lines : ℕ) (told : List (Item × Bool)) (c c1 : Copying) (w : Writer) (a b : Told) (f g : ℕ) → told ≡ [] → c1.splicer ≡ c.splicer → c1.seen ≡ c.seen → b ≡ a → f ≤ g → CopyComes file set lines c told → CopiesWhole told lines c c1 w w a b f g
-copies_last file set lines told c c1 w a b f g none spliced seen same low come = record {
-  splices = subst (λ all. Splices {T = Unit {0}} all c.splicer c1.splicer w w a b f g (Ok tt)) (sym none)
-      (subst (λ s. Splices {T = Unit {0}} [] c.splicer s w w a b f g (Ok tt)) (sym spliced)
-      (splices_from [] c.splicer c.splicer w w a b b f g g (Ok tt) tt refl same low (splices_none c.splicer w b g)));
-  count = seen ∙ (no_more (ap base_count none) ∙ come.count);
-}
-  where
-    no_more : base_count told ≡ 0 → c.seen ≡ c.seen + base_count told
-    no_more is = omega (arith, is)
+-- no item is to come
+pub copies_last : {F : Type 0} (filter : Filter F) (file : List ℕ) (items : List Item) (c : Copying F) (place : ItemPlace) (found : Option Item) (w : Writer) (a b : Told) → b ≡ a → found ≡ None → Given file c.items place (Ok found) → CopyComes filter file items c
+    → CopiesWhole filter items c.filter w w a b
+copies_last filter file items c place found w a b same found_is given p =
+    let none = none_more p.rest (subst (λ f. GivesNext file p.live p.before (Ok p.rest) place (Ok f)) found_is (given p.live p.before (Ok p.rest) p.comes)) in
+    record {
+      first = [];
+      rest = items;
+      after = p.before;
+      whole = refl;
+      puts = subst (λ t. Puts [] w w a t) (sym same) (puts_none w a);
+      stands = p.stands;
+      output_is = ap (filter.output c.filter p.before) (sym none) ∙ p.output_is;
+    }
 
--- all items are put, and what is owed behind them
-pub spliced_put : {T : Type 0} (told : List (Item × Bool)) (lines : ℕ) (c c2 : Copying) (w w2 w3 : Writer) (a b z : Told) (f g h : ℕ) (q : Result T DiskRefusal) (done : T) → q ≡ Ok done → CopiesWhole told lines c c2 w w2 a b f g
-    → PutsText (spelled (owed c2.splicer [])) w2 w3 b z g h q → Puts (spelled (owed c.splicer told)) w w3 a z
-spliced_put told lines c c2 w w2 w3 a b z f g h q done is copied puts =
-    ok_of (Puts (spelled (owed c.splicer told)) w w3 a z) q done is (splices_end told c.splicer c2.splicer w w2 w3 a b z f g h (Ok tt) q tt refl copied.splices puts).ok
+-- all items are taken, and the filter puts what it has left
+pub whole_put : {F : Type 0} (filter : Filter F) (items : List Item) (f2 : F) (w w2 w3 : Writer) (a b z : Told) (g h : ℕ) (q : Result Bool DiskRefusal) (accepts : Bool) → q ≡ Ok accepts → accepts ≡ true → CopiesWhole filter items f2 w w2 a b
+    → Finishes filter f2 w2 w3 b z g h q → Puts (spelled items) w w3 a z
+whole_put filter items f2 w w2 w3 a b z g h q accepts is accepted p end =
+    let said = ended_output filter f2 w2 w3 b z g h q true (is ∙ ap (λ (t : Bool). Ok t) accepted) end p.after p.stands in
+    let same : p.rest ≡ end.items = some_same p.rest end.items (sym p.output_is ∙ said) in
+    subst (λ l. Puts (spelled l) w w3 a z) (sym (p.whole ∙ ap (λ l. p.first ++ l) same))
+    (two_puts p.first end.items w w2 w3 a b z p.puts (ok_of (Puts (spelled end.items) w2 w3 b z) q accepts is end.puts.ok))
+  where
+    some_same : (xs ys : List Item) → Some xs ≡ Some ys → xs ≡ ys
+    some_same xs ys is = cc
+
+-- of a body that a filter has an output for it doesn't say that it refuses it
+pub never_refused : {F : Type 0} (filter : Filter F) (items : List Item) (f2 : F) (w w2 w3 : Writer) (a b z : Told) (g h : ℕ) (q : Result Bool DiskRefusal) (accepts : Bool) → q ≡ Ok accepts → accepts ≡ false → CopiesWhole filter items f2 w w2 a b
+    → Finishes filter f2 w2 w3 b z g h q → ⊥
+never_refused filter items f2 w w2 w3 a b z g h q accepts is refused p end =
+    never p.rest (sym p.output_is ∙ ended_output filter f2 w2 w3 b z g h q false (is ∙ ap (λ (t : Bool). Ok t) refused) end p.after p.stands)
+  where
+    never : (xs : List Item) → Some xs ≡ None → ⊥
+    never xs is = cc
+
+-- the fault of a call that was left by `?`
+pub outer_left : {F : Type 0} (filter : Filter F) (items : List Item) (f2 : F) (w w2 w3 : Writer) (a b z : Told) (fault : FileFault) (r : Result (Unit {0}) FileFault) → IsErrAnd r (λ e. e ≡ fault) → CopiesAll filter items f2 w w2 a b (Err fault) → PutsItems items w w3 a z r
+outer_left filter items f2 w w2 w3 a b z fault r left outer =
+    let p = err_from_is_err_and r left in
+    subst (PutsItems items w w3 a z) (sym (p.1 ∙ ap (λ (e : FileFault). Err e) p.2)) outer
+
+pub next_left : {F : Type 0} (filter : Filter F) (file : List ℕ) (items : List Item) (c c2 : Copying F) (w w2 : Writer) (a b : Told) (fault : FileFault) (r : Result Bool FileFault) → IsErrAnd r (λ e. e ≡ fault) → IsOuterFault fault → CopiesNext filter file items c c2 w w2 a b r
+next_left filter file items c c2 w w2 a b fault r left outer =
+    let p = err_from_is_err_and r left in
+    subst (CopiesNext filter file items c c2 w w2 a b) (sym (p.1 ∙ ap (λ (e : FileFault). Err e) p.2)) outer
 
 -- ---- answers of other types
 

@@ -4,3 +4,5 @@ pub mod BodyLaws
 pub mod CheckLaws
 pub mod ComingItems
 pub mod CopyLaws
+pub mod FilterLaws
+pub mod SplicingLaws

@@ -1,2 +1,4 @@
+pub mod BaseSplicing
 pub mod Copies
 pub mod Examining
+pub mod Filters

@@ -1,5 +1,8 @@
 -- The entry of a delta, check by check.
-use Rattle.std.proofs.Common.{◌≡◌, ℕ, ◌-◌, Bool, true, false, List, Option, Some, Result, Ok, Err, refl, sym, ap, subst, ◌∙◌}
+use Rattle.std.proofs.Common.{◌≡◌, ℕ, ◌-◌, ◌==◌, Bool, true, false, List, [], ◌∷◌, Option, Some, Result, Ok, Err, refl, sym, ap, subst, ◌∙◌, ⊎_elim}
+use Rattle.std.specs.List.{AllByRecursion}
+use Rattle.std.proofs.lemmas.Bool.{eqb-true, false≢true, or_cases}
+use Rattle.sccs_steps.specs.Actions.{has_number}
 use Rattle.std.specs.Prelude.{slice_get}
 use Rattle.sccs_sid.specs.Reading.{◌>>=◌}
 use Rattle.sccs_sid.specs.declared.moments.Stamp.{Stamp}
@@ -106,3 +109,15 @@ has_base words stamp header edits e is =
   where
     the_entry : (a b : Entry) → found_entry a ≡ found_entry b → a ≡ b
     the_entry a b is = cc
+
+-- ---- the numbers of checks
+
+-- a refusal within some checks is within more of them
+pub wider_checks : (checks more : List ℕ) (n : ℕ) → AllByRecursion (λ (check : ℕ). has_number more check ≡ true) checks → has_number checks n ≡ true → has_number more n ≡ true
+wider_checks [] more n all is = absurd (false≢true is)
+wider_checks (check ∷ checks) more n all is =
+    ⊎_elim (λ (same : (check == n) ≡ true). subst (λ m. has_number more m ≡ true) (eqb-true check n same) all.0) (λ (rest : has_number checks n ≡ true). wider_checks checks more n all.1 rest)
+    (or_cases (check == n) (has_number checks n) is)
+
+pub refused_again : {T U : Type 0} (fault : StepFault) (refusal : Refusal) → ◌≡◌ {A = Result T StepFault} (Err fault) (Err (Refused refusal)) → ◌≡◌ {A = Result U StepFault} (Err fault) (Err (Refused refusal))
+refused_again fault refusal is = cc

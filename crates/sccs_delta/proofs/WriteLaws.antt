@@ -1,6 +1,6 @@
 -- What is written of a delta, part by part.
 use Rattle.std.proofs.Common.{◌≡◌, ℕ, zero, suc, ◌+◌, ◌-◌, ◌<◌, ◌≤◌, Bool, true, false, List, [], ◌∷◌, length, map, remove, Option, None, Some, Result, Ok, Err, refl, sym, ap, subst, ◌∙◌, arith}
-use Rattle.std.specs.Prelude.{All, IfSome, IsSome, drop, slice_get}
+use Rattle.std.specs.Prelude.{All, IfOk, IfSome, IsSome, drop, slice_get}
 use Rattle.std.specs.List.{AllByRecursion}
 use Rattle.std.proofs.lemmas.List.Elements.{recursion_from_All}
 use Rattle.sccs_pfile.specs.Entries.{IsEdit}
@@ -33,13 +33,12 @@ use Rattle.sccs_sid.specs.declared.refusals.StepFault.TheVariants.{Refused, Memo
 use Rattle.sccs_edits.specs.Places.{places, spliced, told_behind}
 use Rattle.sccs_edits.specs.Plans.{plan}
 use Rattle.sccs_edits.specs.declared.scripts.Order.{Order}
-use Rattle.sccs_history.specs.Applied.{newest}
+use Rattle.sccs_history.specs.Applied.{live_serials, newest}
 use Rattle.sccs_history.specs.History.{IsSpelled}
 use Rattle.sccs_pfile.specs.declared.entries.Edit.{Edit}
 use Rattle.sccs_records.specs.NewDeltas.{null_delta}
 use Rattle.sccs_records.specs.declared.new_deltas.Counts.{Counts}
 use Rattle.sccs_splicer.specs.Splices.{State, begun, owed}
-use Rattle.sccs_splicer.proofs.Pushes.{shown_lines}
 use Rattle.sccs_splicer.proofs.SpliceLaws.{owed_first}
 use Rattle.sccs_store.specs.SealedFiles.{sealed}
 use Rattle.sccs_transactions.specs.declared.prepared.Prepared.{Prepared}
@@ -54,7 +53,17 @@ use Rattle.sccs_grammar.specs.declared.faults.FileFault.{FileFault}
 use Rattle.sccs_grammar.specs.declared.faults.FileFault.TheVariants as files
 use Rattle.sccs_history.specs.declared.headers.Header.{Header}
 use Rattle.sccs_history.specs.declared.headers.Item.{Item}
-use Rattle.sccs_copies.specs.Copies.{CopyComes, ItemsCome, MakesFile}
+use Rattle.sccs_copies.specs.BaseSplicing.{base_splicing}
+use Rattle.sccs_copies.specs.Copies.{CopyComes, MakesFile}
+use Rattle.sccs_copies.specs.declared.base_splicers.BaseSplicer.{BaseSplicer}
+use Rattle.sccs_copies.proofs.SplicingLaws.{output_made}
+use Rattle.sccs_body.specs.BodyFile.{items_of}
+use Rattle.sccs_body.specs.ToCome.{IsFrontFor, ToCome}
+use Rattle.sccs_history.specs.Body.{lines_of}
+use Rattle.sccs_history.specs.Select.{select}
+use Rattle.sccs_table.specs.declared.fronts.Front.{Front}
+use Rattle.sccs_versions.specs.Coming.{IsBody}
+use Rattle.sccs_weave.specs.Regions.{Holds}
 use Rattle.sccs_delta.specs.Writing.{IsSfileOf, MakesDelta, MakesSfile, WritesDelta, WritesFiles, WritesX}
 
 pub x_written : (h : Header) (items : List Item) (n : List ℕ) (old new : Option View) (done : Unit {0}) → MakesFile h items n old new (Ok done) → WritesX h items n old new (Ok done)
@@ -73,12 +82,28 @@ x_unwritten h items n old new (files.Changed a b c d) ended outer is = absurd ou
 
 -- ---- the copy
 
--- before all items, of which so many are lines of the base
-pub copy_begins : (file set set2 : List ℕ) (items : List Item) (lines : ℕ) (c : Copying) → set2 ≡ set → c.seen ≡ 0 → lines ≡ length (base_lines items (record { got = 0; include = []; exclude = []; set = set })) → ItemsCome file set c.items c.weaver (told_behind set [] items) → CopyComes file set2 lines c (told_behind set [] items)
-copy_begins file set set2 items lines c same none is come = record {
-  come = subst (λ s. ItemsCome file s c.items c.weaver (told_behind set [] items)) (sym same) come;
-  count = omega (arith, none, is, shown_lines set [] items);
+-- before all items, of which as many are lines of the base as were counted
+pub copy_begins : (file : List ℕ) (front : Front) (items : List Item) (lines : ℕ) (c : Copying BaseSplicer) (set : List ℕ) → c.filter.set ≡ set → c.filter.lines ≡ lines → c.filter.splicer.line ≡ 0
+    → lines ≡ length (select set (lines_of items)) → IsBody (Some file) front set file items → Holds c.filter.set [] c.filter.weaver
+    → (IsFrontFor file front → ToCome file (live_serials front.header.records) [] (items_of file front) c.items) → CopyComes base_splicing file (owed c.filter.splicer (told_behind set [] items)) c
+copy_begins file front items lines c set same count start is body holds comes = record {
+  live = live_serials front.header.records;
+  before = [];
+  rest = items;
+  comes = subst (λ found. ToCome file (live_serials front.header.records) [] found c.items) body.items_are (comes body.front_is);
+  stands = holds;
+  output_is = output_made c.filter items start (ap (λ s. length (select s (lines_of items))) same ∙ (sym is ∙ sym count)) ∙ ap (λ s. Some (owed c.filter.splicer (told_behind s [] items))) same;
 }
+
+-- the copy that is made with such a splicer
+pub copy_begun : {E : Type 0} (file : List ℕ) (front : Front) (items : List Item) (lines : ℕ) (r : Result (Copying BaseSplicer) E) (b : BaseSplicer) (set : List ℕ) (s : State) → b.set ≡ set → b.lines ≡ lines → b.splicer ≡ s → s.line ≡ 0
+    → lines ≡ length (select set (lines_of items)) → IsBody (Some file) front set file items → Holds set [] b.weaver → IfOk r (λ c. c.filter ≡ b)
+    → (IsFrontFor file front → IfOk r (λ c. ToCome file (live_serials front.header.records) [] (items_of file front) c.items)) → IfOk r (λ c. CopyComes base_splicing file (owed c.filter.splicer (told_behind set [] items)) c)
+copy_begun file front items lines (Ok c) b set s same count splicer start is body holds filter comes =
+    copy_begins file front items lines c set (ap (λ (f : BaseSplicer). f.set) filter ∙ same) (ap (λ (f : BaseSplicer). f.lines) filter ∙ count)
+    (ap (λ (f : BaseSplicer). f.splicer.line) filter ∙ (ap (λ (t : State). t.line) splicer ∙ start)) is body
+    (subst (λ (f : BaseSplicer). Holds f.set [] f.weaver) (sym filter) (subst (λ x. Holds x [] b.weaver) (sym same) holds)) comes
+copy_begun file front items lines (Err e) b set s same count splicer start is body holds filter comes = tt
 
 -- ---- the s-file
 
@@ -103,11 +128,11 @@ writes_as n h h2 items items2 edits keep report report2 message message2 p a b s
 
 pub delta_made : (words : DeltaWords) (stamp : Stamp) (n : List ℕ) (header : Header) (items : List Item) (edits : List Edit) (e : Entry) (orders : List Order) (lines : ℕ) (keyword : Bool) (s : NewSfile) (report message : List ℕ) (r : Result Prepared StepFault) (a b : Told) → lines ≡ length (base_lines items e.base)
     → (makes : MakesSfile words stamp header edits e.edit e.base orders lines (Ok s)) → report ≡ delta_report words.silent s.sid s.counts → message ≡ warning n keyword
-    → WritesDelta n s.header (owed s.copying.splicer (told_behind e.base.set [] items)) (remove edits (e.number - 1)) words.keep report message a b r → MakesDelta (nulls_of header edits e.edit) words stamp n header items edits e orders keyword a b r
+    → WritesDelta n s.header (owed s.copying.filter.splicer (told_behind e.base.set [] items)) (remove edits (e.number - 1)) words.keep report message a b r → MakesDelta (nulls_of header edits e.edit) words stamp n header items edits e orders keyword a b r
 delta_made words stamp n header items edits e orders lines keyword s report message (Ok p) a b is makes report_is message_is writes = (
   makes.0,
   makes.1,
-  writes_as n s.header _ (owed s.copying.splicer (told_behind e.base.set [] items)) _ (remove edits (e.number - 1)) words.keep report _ message _ p a b
+  writes_as n s.header _ (owed s.copying.filter.splicer (told_behind e.base.set [] items)) _ (remove edits (e.number - 1)) words.keep report _ message _ p a b
       (makes.2.header_is ∙ ap (λ k. header_with header e.base.got (map (null_delta stamp) makes.0) (delta_of words stamp e.edit e.base.include e.base.exclude (counts_of (plan orders k) k))) is)
       (ap (λ (t : State). owed t (told_behind e.base.set [] items)) makes.2.splicer_is
       ∙ (owed_first (suc (newest header.records + length makes.0)) (plan orders lines) (told_behind e.base.set [] items)
@@ -221,8 +246,8 @@ entry_valid edits k e are at = at_place edits k (recursion_from_All IsEdit edits
 -- ---- the new s-file
 
 pub sfile_of : (words : DeltaWords) (stamp : Stamp) (header : Header) (edit : Edit) (base : Base) (orders : List Order) (lines serial : ℕ) (nulls sids : List Sid) (counts : Counts) (s : NewSfile) → sids ≡ nulls
-    → s.header ≡ header_with header base.got (map (null_delta stamp) sids) (delta_of words stamp edit base.include base.exclude counts) → counts ≡ counts_of s.copying.splicer.plan lines → s.copying.splicer ≡ begun serial (plan orders lines) → serial ≡ suc (newest header.records + length nulls)
-    → s.set ≡ base.set → s.sid ≡ edit.made → s.counts ≡ counts → IsSfileOf words stamp header edit base orders lines nulls s
+    → s.header ≡ header_with header base.got (map (null_delta stamp) sids) (delta_of words stamp edit base.include base.exclude counts) → counts ≡ counts_of s.copying.filter.splicer.plan lines → s.copying.filter.splicer ≡ begun serial (plan orders lines) → serial ≡ suc (newest header.records + length nulls)
+    → s.copying.filter.set ≡ base.set → s.sid ≡ edit.made → s.counts ≡ counts → IsSfileOf words stamp header edit base orders lines nulls s
 sfile_of words stamp header edit base orders lines serial nulls sids counts s sids_are header_is counts_are splicer_is serial_is set_is sid_is said =
     let plan_counts : counts ≡ counts_of (plan orders lines) lines = counts_are ∙ ap (λ (t : State). counts_of t.plan lines) splicer_is in
     record {

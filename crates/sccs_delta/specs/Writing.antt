@@ -34,8 +34,8 @@ use Rattle.sccs_delta.specs.declared.new_sfiles.NewSfile.{NewSfile}
 -- The s-file that the delta of an entry makes, with null deltas of these SIDs before it.
 pub record IsSfileOf (words : DeltaWords) (stamp : Stamp) (header : Header) (edit : Edit) (base : Base) (orders : List Order) (lines : ℕ) (nulls : List Sid) (s : NewSfile) : Type 0 where
   pub header_is : s.header ≡ header_with header base.got (map (null_delta stamp) nulls) (delta_of words stamp edit base.include base.exclude (counts_of (plan orders lines) lines))
-  pub splicer_is : s.copying.splicer ≡ begun (suc (newest header.records + length nulls)) (plan orders lines)
-  pub set_is : s.set ≡ base.set
+  pub splicer_is : s.copying.filter.splicer ≡ begun (suc (newest header.records + length nulls)) (plan orders lines)
+  pub set_is : s.copying.filter.set ≡ base.set
   pub sid_is : s.sid ≡ edit.made
   pub counts_is : s.counts ≡ counts_of (plan orders lines) lines
 

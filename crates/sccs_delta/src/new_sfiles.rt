@@ -4,7 +4,9 @@ ghost use Rattle.sccs_base.specs.Constants.{file_limit};
 ghost use Rattle.sccs_edits.specs.Places.{told_behind};
 ghost use Rattle.sccs_edits.specs.Plans.{plan};
 ghost use Rattle.sccs_history.specs.Applied.{newest};
+ghost use Rattle.sccs_history.specs.Body.{lines_of};
 ghost use Rattle.sccs_history.specs.History.{IsSpelled};
+ghost use Rattle.sccs_history.specs.Select.{select};
 ghost use Rattle.sccs_history.specs.declared.headers.Item.{Item};
 ghost use Rattle.sccs_body.specs.Reader.{name_read};
 ghost use Rattle.sccs_pfile.specs.Entries.{IsEdit};
@@ -13,18 +15,19 @@ ghost use Rattle.sccs_script.specs.Checks.{checked};
 ghost use Rattle.sccs_sid.specs.Moment.{IsMoment};
 ghost use Rattle.sccs_sid.specs.Sid.{IsSid};
 ghost use Rattle.sccs_sid.specs.declared.refusals.StepFault.TheVariants as faults;
-ghost use Rattle.sccs_splicer.specs.Splices.{begun};
+ghost use Rattle.sccs_splicer.specs.Splices.{begun, owed};
 ghost use Rattle.sccs_steps.specs.Actions.{RefusesWithin};
 ghost use Rattle.sccs_versions.specs.Coming.{IsBody};
-ghost use Rattle.sccs_copies.specs.Copies.{ItemsCome};
-ghost use Rattle.sccs_delta.specs.DeltaStep.{counts_of, delta_checks};
+ghost use Rattle.sccs_copies.specs.BaseSplicing.{base_splicing};
+ghost use Rattle.sccs_copies.specs.Copies.{CopyComes};
+ghost use Rattle.sccs_delta.specs.DeltaStep.{base_lines, counts_of, delta_checks};
 ghost use Rattle.sccs_delta.specs.Writing.{IsSfileOf, MakesSfile};
 
 use crate::entries::{Base, Chosen};
 use crate::headers::{header_of, nulls_of};
 use crate::skipping::Sids;
 use sccs_base::{Memory, Name};
-use sccs_copies::Copying;
+use sccs_copies::{BaseSplicer, Copying};
 use sccs_history::Header;
 use sccs_pfile::{Edit, Edits};
 use sccs_records::{Counts, newest};
@@ -37,13 +40,11 @@ use sccs_words::DeltaWords;
 use std::alloc::Global;
 
 /// The s-file that a delta makes, as it is to be written: its header, its body as it is copied from the old one,
-/// the set of the base and how many lines that has, and the SID and the counts of the new delta.
+/// and the SID and the counts of the new delta.
 #[derive(Drop)]
 pub struct NewSfile {
     pub header: Header,
-    pub copying: Copying,
-    pub set: Applied,
-    pub lines: u64,
+    pub copying: Copying<BaseSplicer>,
     pub sid: Sid,
     pub counts: Counts,
 }
@@ -66,19 +67,22 @@ fn copying_of(
     name: &Name,
     front: &Front,
     script: &Script,
+    set: Applied,
     lines: u64,
     serial: u16,
-) -> Result<Copying, Memory>
+) -> Result<Copying<BaseSplicer>, Memory>
     requires fits { checked script.now lines ≡ Ok tt }
     requires few { lines ≤ file_limit }
     ensures name { IfOk result (λ c. name_read c.items ≡ name.now) }
-    ensures splicer { IfOk result (λ c. c.splicer ≡ begun serial (plan script.now lines)) }
-    ensures seen { IfOk result (λ c. c.seen ≡ 0) }
-    ensures told { (set file : List ℕ) (items : List Item) → IsBody (Some file) front.now set file items
-        → IfOk result (λ c. ItemsCome file set c.items c.weaver (told_behind set [] items)) }
+    ensures splicer { IfOk result (λ c. c.filter.splicer ≡ begun serial (plan script.now lines)) }
+    ensures set { IfOk result (λ c. c.filter.set ≡ set) }
+    ensures told { (file : List ℕ) (items : List Item) → IsBody (Some file) front.now set file items
+        → lines ≡ length (select set (lines_of items))
+        → IfOk result (λ c. CopyComes base_splicing file (owed c.filter.splicer (told_behind set [] items)) c) }
 {
     let plan = plan(alloc, script, lines)?;
-    Copying::new(alloc, name, front, serial, plan)
+    let splicer = BaseSplicer::new(alloc, serial, plan, set, lines);
+    Copying::new(alloc, name, front, splicer)
 }
 
 // the serial of a delta behind null deltas
@@ -111,17 +115,15 @@ fn sfile_with(
     requires few { lines ≤ file_limit }
     ensures makes { IfOk result (IsSfileOf words.now stamp.now front.header edit.now base script.now lines nulls.now) }
     ensures told { (file : List ℕ) (items : List Item) → IsBody (Some file) front base.set file items
-        → IfOk result (λ s. ItemsCome file base.set s.copying.items s.copying.weaver (told_behind base.set [] items)) }
+        → lines ≡ length (base_lines items base)
+        → IfOk result (λ s. CopyComes base_splicing file (owed s.copying.filter.splicer (told_behind base.set [] items)) s.copying) }
     ensures name { IfOk result (λ s. name_read s.copying.items ≡ name.now) }
-    ensures seen { IfOk result (λ s. s.copying.seen ≡ 0) }
-    ensures start { IfOk result (λ s. s.copying.splicer.line ≡ 0) }
     ensures spelled { IfOk result (λ s. IsSpelled s.header) }
     ensures sid { IfOk result (λ s. IsSid s.sid) }
-    ensures lines { IfOk result (λ s. s.lines ≡ lines) }
 {
     let serial = serial_behind(&front.header, nulls);
-    let copying = copying_of(alloc, name, &front, script, lines, serial)?;
-    let counts = counts_of(&copying.splicer, lines);
+    let copying = copying_of(alloc, name, &front, script, base.set, lines, serial)?;
+    let counts = counts_of(&copying.filter.splicer, lines);
     let header = header_of(
         alloc,
         words,
@@ -137,8 +139,6 @@ fn sfile_with(
     Ok(NewSfile {
         header,
         copying,
-        set: base.set,
-        lines,
         sid: edit.made,
         counts,
     })
@@ -166,13 +166,11 @@ pub fn new_sfile(
     ensures makes { (e : Edit) → slice_get edits.now (chosen.number - 1) ≡ Some e
         → MakesSfile words.now stamp.now front.header edits.now e chosen.base script.now lines result }
     ensures told { (file : List ℕ) (items : List Item) → IsBody (Some file) front chosen.base.set file items
-        → IfOk result (λ s. ItemsCome file chosen.base.set s.copying.items s.copying.weaver (told_behind chosen.base.set [] items)) }
+        → lines ≡ length (base_lines items chosen.base)
+        → IfOk result (λ s. CopyComes base_splicing file (owed s.copying.filter.splicer (told_behind chosen.base.set [] items)) s.copying) }
     ensures name { IfOk result (λ s. name_read s.copying.items ≡ name.now) }
-    ensures seen { IfOk result (λ s. s.copying.seen ≡ 0) }
-    ensures start { IfOk result (λ s. s.copying.splicer.line ≡ 0) }
     ensures spelled { IfOk result (λ s. IsSpelled s.header) }
     ensures sid { IfOk result (λ s. IsSid s.sid) }
-    ensures lines { IfOk result (λ s. s.lines ≡ lines) }
     ensures checks { RefusesWithin delta_checks result }
     ensures broke { result ≢ Err faults.DiskFault }
     ensures read { result ≢ Err faults.ReadFault }

@@ -21,7 +21,6 @@ ghost use Rattle.sccs_script.specs.Checks.{checked};
 ghost use Rattle.sccs_script.specs.Commands.{FitsIn};
 ghost use Rattle.sccs_sid.specs.Moment.{IsMoment};
 ghost use Rattle.sccs_sid.specs.Sid.{IsSid};
-ghost use Rattle.sccs_splicer.specs.Splices.{owed};
 ghost use Rattle.sccs_steps.specs.Actions.{RefusesWithin};
 ghost use Rattle.sccs_steps.specs.Calls.{world};
 ghost use Rattle.sccs_store.specs.Stops.{OnReplace};
@@ -29,6 +28,7 @@ ghost use Rattle.sccs_table.specs.ReaderState.{bytes_in};
 ghost use Rattle.sccs_transactions.specs.Changes.{CouldPrepare, IsReady, Prepares, unlocked};
 ghost use Rattle.sccs_transactions.specs.Stops.{IsFirmPrepared, SettlesEntries};
 ghost use Rattle.sccs_versions.specs.Coming.{IsBody};
+ghost use Rattle.sccs_copies.specs.BaseSplicing.{base_splicing};
 ghost use Rattle.sccs_copies.specs.Copies.{CopyComes};
 ghost use Rattle.sccs_delta.specs.DeltaStep.{base_lines, could_make, delta_checks, delta_outcome, delta_report, nulls_of};
 ghost use Rattle.sccs_pending.specs.Reports.{warning};
@@ -41,7 +41,7 @@ use crate::reports::delta_report;
 use crate::scripts::fit;
 use crate::sizes::check_sizes;
 use sccs_base::{Bytes, Memory, Name};
-use sccs_copies::{Found, write_delta};
+use sccs_copies::{Found, write_sfile};
 use sccs_disk::{Disk, DiskRefusal};
 use sccs_pending::{Pending, prepare_entries, read_pending, remove_g, warning};
 use sccs_pfile::{Edits, release};
@@ -86,11 +86,9 @@ fn write_x<D: Disk>(
     requires sfile { IsSfile name.now }
     requires spelled { IsSpelled file.header }
     requires own { name_read file.copying.items ≡ name.now }
-    requires start { file.copying.splicer.line ≡ 0 }
-    requires few { file.lines ≤ file_limit }
-    ensures told { (bytes : List ℕ) (told : List (Item × Bool)) → bytes_in (seen (D.told disk.old)) name.now ≡ Some bytes
-        → CopyComes bytes file.set file.lines file.copying told
-        → WritesX file.header (owed file.copying.splicer told) (x_file name.now) (seen (D.told disk.old)) (seen (D.told disk.new)) result }
+    ensures told { (bytes : List ℕ) (items : List Item) → bytes_in (seen (D.told disk.old)) name.now ≡ Some bytes
+        → CopyComes base_splicing bytes items file.copying
+        → WritesX file.header items (x_file name.now) (seen (D.told disk.old)) (seen (D.told disk.new)) result }
     ensures moves { Moves (bytes_eq (x_file name.now)) (λ v. v) (seen (D.told disk.old)) (seen (D.told disk.new)) }
     ensures there { OnOk result (IsThere (x_file name.now) (D.told disk.new)) }
     ensures touches { TouchesOnly (bytes_eq (x_file name.now)) (D.told disk.old) (D.told disk.new) }
@@ -98,8 +96,8 @@ fn write_x<D: Disk>(
     ensures checks { RefusesWithin delta_checks result }
     ensures causes { ChangesDisk D.faults disk.old disk.new result }
 {
-    let (copying, lines) = (file.copying, file.lines);
-    match write_delta(alloc, &file.header, copying, &file.set, lines, name, disk) {
+    let copying = file.copying;
+    match write_sfile(alloc, &file.header, copying, name, disk) {
         Ok(()) => Ok(()),
         Err(fault) => Err(StepFault::from(fault)),
     }
@@ -146,14 +144,12 @@ fn write_files<D: Disk>(
     requires sfile { IsSfile name.now }
     requires spelled { IsSpelled file.header }
     requires own { name_read file.copying.items ≡ name.now }
-    requires start { file.copying.splicer.line ≡ 0 }
-    requires few { file.lines ≤ file_limit }
     requires edits { All IsEdit edits }
     requires some { 0 < number }
     requires there { number ≤ length edits }
-    ensures told { (bytes : List ℕ) (told : List (Item × Bool)) → bytes_in (seen (D.told disk.old)) name.now ≡ Some bytes
-        → CopyComes bytes file.set file.lines file.copying told
-        → WritesDelta name.now file.header (owed file.copying.splicer told) (remove edits (number - 1)) keep said.report said.message (D.told disk.old) (D.told disk.new) result }
+    ensures told { (bytes : List ℕ) (items : List Item) → bytes_in (seen (D.told disk.old)) name.now ≡ Some bytes
+        → CopyComes base_splicing bytes items file.copying
+        → WritesDelta name.now file.header items (remove edits (number - 1)) keep said.report said.message (D.told disk.old) (D.told disk.new) result }
     ensures moves { Moves (is_working name.now) (λ v. v) (seen (D.told disk.old)) (seen (D.told disk.new)) }
     ensures needs { IsThere (z_file name.now) (D.told disk.old) → IsThere (p_file name.now) (D.told disk.old)
         → IfOk result (λ p. IsReady name.now p (D.told disk.new)) }

@@ -1,5 +1,7 @@
 -- How giving goes from turn to turn.
-use Rattle.std.proofs.Common.{◌≡◌, ℕ, ◌+◌, Bool, true, false, ◌||◌, List, [], ◌∷◌, ◌++◌, length, length-append, Option, None, Some, Err, refl, sym, ap, subst, ◌∙◌, arith, append_assoc}
+use Rattle.std.proofs.Common.{◌≡◌, ℕ, ◌+◌, Bool, true, false, ◌||◌, List, [], ◌∷◌, ◌++◌, length, length-append, Option, None, Some, Result, Err, refl, sym, ap, subst, ◌∙◌, arith, append_assoc}
+use Rattle.std.specs.Result.{IsErrAnd}
+use Rattle.std.proofs.lemmas.Result.{err_from_is_err_and}
 use Rattle.std.specs.List.{AllByRecursion, list_any}
 use Rattle.std.proofs.lemmas.List.{append-nil, length-map, map-append}
 use Rattle.std.proofs.lemmas.List.Folds.{list_any-append}
@@ -23,7 +25,7 @@ use Rattle.sccs_versions.specs.Place.{IsInserter, VersionPlace}
 use Rattle.sccs_versions.specs.WasRead.{HasRead, ReadsAll, ReadsOn, shown_before}
 use Rattle.sccs_weave.specs.declared.regions.Region.{Region}
 use Rattle.sccs_printing.specs.Counted.{counted}
-use Rattle.sccs_printing.specs.Giving.{CutsLines, Gave, KeepsForm, Moved, ReadSome, ReadWhole, form_in, text_next}
+use Rattle.sccs_printing.specs.Giving.{CutsLines, Gave, GivesRun, KeepsForm, Moved, ReadSome, ReadWhole, form_in, text_next}
 use Rattle.sccs_printing.specs.Printing.{IsOuterFault}
 use Rattle.sccs_printing.specs.Targets.{Cuts, file_of, held_back}
 use Rattle.sccs_printing.specs.declared.givings.Giving.{Giving}
@@ -169,6 +171,12 @@ run_cut r run n lines fault g g2 a b is stand cuts =
     (subst (λ text. Cuts (file_of g.target) text fault (held_back g.target) (held_back g2.target) a b) (sym (put_together (form_in g) g.sids (g.shown.lines + 1) stand.first stand.rest))
     (cuts_longer (file_of g.target) fault (text_next g stand.first) (formed_text (form_in g) g.sids (g.shown.lines + 1 + length stand.first) stand.rest) (held_back g.target) (held_back g2.target) a b
     (subst (λ text. Cuts (file_of g.target) text fault (held_back g.target) (held_back g2.target) a b) (text_formed g n stand.first (cut run).lines (stand.inserted n is) stand.lines_are) cuts)))
+
+-- the fault of a call that was left by `?`
+pub run_left : (file : List ℕ) (r : VersionPlace) (lines : List HistoryLine) (fault : StepFault) (q : Result (Unit {0}) StepFault) (g g2 : Giving) (a b : Option (List ℕ)) → IsErrAnd q (λ e. e ≡ fault) → CutsLines lines fault g g2 a b → GivesRun file r lines q g g2 a b
+run_left file r lines fault q g g2 a b left cuts =
+    let p = err_from_is_err_and q left in
+    subst (λ x. GivesRun file r lines x g g2 a b) (sym (p.1 ∙ ap (λ (e : StepFault). Err e) p.2)) cuts
 
 -- ---- one line
 

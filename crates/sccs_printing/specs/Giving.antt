@@ -1,15 +1,17 @@
 -- How the lines of a version are given, in turns.
-use Rattle.std.specs.Prelude.{◌≡◌, ℕ, ◌+◌, Bool, true, false, List, ◌++◌, Option, Result, Ok, Err}
+use Rattle.std.specs.Prelude.{◌≡◌, ℕ, ◌+◌, Bool, true, false, List, ◌++◌, Option, IfSome, Result, Ok, Err}
 use Rattle.sccs_base.specs.Stream.{Buffers}
 use Rattle.sccs_history.specs.Body.{HistoryLine, is_over}
 use Rattle.sccs_history.specs.declared.headers.Item.{Item}
 use Rattle.sccs_sid.specs.declared.refusals.StepFault.{StepFault}
 use Rattle.sccs_texts.specs.Forms.{LineForm, form_of, formed_text, texts}
 use Rattle.sccs_versions.specs.Coming.{Coming}
-use Rattle.sccs_versions.specs.Place.{VersionPlace}
+use Rattle.sccs_versions.specs.Place.{VersionPlace, name_of}
 use Rattle.sccs_versions.specs.WasRead.{HasRead, Stood, shown_before}
 use Rattle.sccs_printing.specs.Counted.{counted}
-use Rattle.sccs_printing.specs.Targets.{GivesTo, file_of, held_back}
+use Rattle.sccs_disk.specs.Told.{Told}
+use Rattle.sccs_keys.specs.Expansion.{HasMoments}
+use Rattle.sccs_printing.specs.Targets.{CanTake, GivesTo, file_of, held_back}
 use Rattle.sccs_printing.specs.declared.givings.Giving.{Giving}
 
 -- the form in which lines are given
@@ -20,11 +22,28 @@ form_in g = form_of g.form.now
 abbrev pub text_next : Giving → List HistoryLine → List ℕ
 text_next g lines = formed_text (form_in g) g.sids (g.shown.lines + 1) lines
 
+-- Lines can be given: a form with facts has the moments that it expands, and a target file is there.
+pub record CanGive (g : Giving) (told : Told) : Type 0 where
+  pub facts : IfSome (form_in g).facts HasMoments
+  pub there : CanTake (file_of g.target) told
+
+-- The reader is that of the same version.
+pub record KeepsVersion (r r2 : VersionPlace) : Type 0 where
+  pub set : r2.set ≡ r.set
+  pub name : name_of r2 ≡ name_of r
+
 -- What stays from turn to turn.
 pub record KeepsForm (g g2 : Giving) : Type 0 where
   pub form : form_in g2 ≡ form_in g
   pub sids : g2.sids ≡ g.sids
   pub file : file_of g2.target ≡ file_of g.target
+
+-- The same of a call that counts no line.
+pub record KeepsGiving (g g2 : Giving) : Type 0 where
+  pub form : form_in g2 ≡ form_in g
+  pub sids : g2.sids ≡ g.sids
+  pub file : file_of g2.target ≡ file_of g.target
+  pub shown : g2.shown ≡ g.shown
 
 -- These lines were given, and counted.
 pub record Gave (lines : List HistoryLine) (g g2 : Giving) (a b : Option (List ℕ)) : Type 0 where

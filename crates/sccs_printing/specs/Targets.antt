@@ -1,5 +1,5 @@
 -- Where a text goes: to a sink, or into a file, whose name then says where. Some of it may be held back.
-use Rattle.std.specs.Prelude.{◌≡◌, ℕ, ◌≤◌, Bool, false, List, [], ◌++◌, length, take, Option, None, Some, option_map, option_and_then, Result, Ok, Err}
+use Rattle.std.specs.Prelude.{◌≡◌, ℕ, ◌≤◌, Bool, false, List, [], ◌++◌, length, take, Option, None, Some, option_map, option_and_then, Result, Ok, Err, OnOk}
 use Rattle.std.specs.Str.{bytes_eq}
 use Rattle.sccs_base.specs.Stream.{Buffers, GivesOk, GivesSome}
 use Rattle.sccs_disk.specs.Calls.{IsThere}
@@ -11,6 +11,9 @@ use Rattle.sccs_sid.specs.declared.refusals.StepFault.{StepFault}
 use Rattle.sccs_sid.specs.declared.refusals.StepFault.TheVariants.{Refused, Memory, ReadFault, WriteFault, DiskFault}
 use Rattle.sccs_table.specs.ReaderState.{bytes_in}
 use Rattle.sccs_writers.specs.OneFile.{OnlyWrites}
+use Rattle.sccs_steps.specs.Actions.{RefusesWithin}
+use Rattle.sccs_steps.specs.Causes.{PrintCauses}
+use Rattle.sccs_printing.specs.Printing.{file_checks}
 use Rattle.sccs_printing.specs.declared.targets.Target.{Target}
 use Rattle.sccs_printing.specs.declared.targets.Target.TheVariants.{ToSink, ToFile}
 
@@ -90,6 +93,15 @@ SparesSink (Some n) (Refused refusal) = Unit {0}
 abbrev pub Spares : {T : Type 0} → Option (List ℕ) → Result T StepFault → Type 0
 Spares file (Ok x) = Unit {0}
 Spares file (Err fault) = SparesSink file fault
+
+-- What a call leaves that gives text to a target: at most that gets something, no other sink fails, and no check but those of a file
+-- that is read.
+pub record UsesTarget {O D T : Type 0} (file : Option (List ℕ)) (given : O → Option (List ℕ)) (out_faults : O → ℕ) (told : D → Told) (faults : D → ℕ) (out out2 : O) (disk disk2 : D) (result : Result T StepFault) : Type 0 where
+  pub reaches : Reaches file (given out) (given out2) (told disk) (told disk2)
+  pub mark : OnOk result (KeepsMark file (told disk) (told disk2))
+  pub spares : Spares file result
+  pub causes : PrintCauses result (out_faults out) (out_faults out2) (faults disk) (faults disk2)
+  pub checks : RefusesWithin file_checks result
 
 -- ---- the same where nothing is held back before it and behind it
 

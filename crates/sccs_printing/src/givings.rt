@@ -1,13 +1,10 @@
-ghost use Rattle.std.specs.Prelude.{◌≡◌, ◌≢◌, ◌<◌, ◌≤◌, ◌+◌, ◌^◌, ℕ, List, [], ◌∷◌, true, false, Some, length, IfOk, IfSome, OnOk};
+ghost use Rattle.std.specs.Prelude.{◌≡◌, ◌≢◌, ◌<◌, ◌≤◌, ◌+◌, ◌^◌, ℕ, List, [], ◌∷◌, true, false, Some, length, IfOk, OnOk};
 ghost use Rattle.sccs_base.specs.Cut.{cut};
 ghost use Rattle.sccs_disk.specs.Told.{seen};
 ghost use Rattle.sccs_history.specs.Applied.{serials_of};
 ghost use Rattle.sccs_history.specs.Body.{HistoryLine};
 ghost use Rattle.sccs_history.specs.Numbers.{Falls};
 ghost use Rattle.sccs_history.specs.declared.headers.Item.{Item};
-ghost use Rattle.sccs_keys.specs.Expansion.{HasMoments};
-ghost use Rattle.sccs_steps.specs.Actions.{RefusesWithin};
-ghost use Rattle.sccs_steps.specs.Causes.{PrintCauses};
 ghost use Rattle.sccs_table.specs.ReaderState.{bytes_in};
 ghost use Rattle.sccs_table.specs.Runs.{lf_count};
 ghost use Rattle.sccs_texts.specs.Forms.{form_of, formed_lines};
@@ -15,9 +12,8 @@ ghost use Rattle.sccs_versions.specs.Coming.{Coming};
 ghost use Rattle.sccs_versions.specs.Place.{name_of, steps_left};
 ghost use Rattle.sccs_versions.specs.WasRead.{HasRead};
 ghost use Rattle.sccs_printing.specs.Counted.{counted, nothing};
-ghost use Rattle.sccs_printing.specs.Giving.{GivesAll, GivesMore, GivesRun, KeepsForm, ReadSome, ReadWhole, ReadsMore, form_in};
-ghost use Rattle.sccs_printing.specs.Printing.{file_checks};
-ghost use Rattle.sccs_printing.specs.Targets.{CanTake, GivesTo, IsApart, KeepsMark, Reaches, Spares, file_of, got, held_back};
+ghost use Rattle.sccs_printing.specs.Giving.{CanGive, GivesAll, GivesMore, GivesRun, KeepsForm, KeepsGiving, KeepsVersion, ReadSome, ReadWhole, ReadsMore, form_in};
+ghost use Rattle.sccs_printing.specs.Targets.{CanTake, GivesTo, IsApart, UsesTarget, file_of, got, held_back};
 
 use crate::shown::Shown;
 use crate::targets::{Target, put};
@@ -74,19 +70,13 @@ impl<'a> Giving<'a> {
         out: &mut O,
         disk: &mut D,
     ) -> Result<(), StepFault>
-        requires facts { IfSome (form_in self.old).facts HasMoments }
-        requires there { CanTake (file_of self.old.target) (D.told disk.old) }
+        requires can { CanGive self.old (D.told disk.old) }
         requires whole { (cut lines.now).tail ≡ [] }
         requires few { self.old.shown.lines + length (cut lines.now).lines < 2 ^ 64 }
+        ensures frame { UsesTarget (file_of self.old.target) O.given O.faults D.told D.faults out.old out.new disk.old disk.new result }
         ensures gives { GivesTo (file_of self.old.target) (formed_lines (form_in self.old) self.old.sids (self.old.shown.lines + 1) inserter (cut lines.now).lines) result (held_back self.old.target) (held_back self.new.target)
             (got (file_of self.old.target) (O.given out.old) (D.told disk.old)) (got (file_of self.old.target) (O.given out.new) (D.told disk.new)) }
-        ensures shown { self.new.shown ≡ self.old.shown }
-        ensures keeps { KeepsForm self.old self.new }
-        ensures reaches { Reaches (file_of self.old.target) (O.given out.old) (O.given out.new) (D.told disk.old) (D.told disk.new) }
-        ensures mark { OnOk result (KeepsMark (file_of self.old.target) (D.told disk.old) (D.told disk.new)) }
-        ensures spares { Spares (file_of self.old.target) result }
-        ensures causes { PrintCauses result (O.faults out.old) (O.faults out.new) (D.faults disk.old) (D.faults disk.new) }
-        ensures checks { RefusesWithin file_checks result }
+        ensures keeps { KeepsGiving self.old self.new }
     {
         self.formed.clear();
         let before = self.shown.lines;
@@ -112,20 +102,14 @@ impl<'a> Giving<'a> {
         out: &mut O,
         disk: &mut D,
     ) -> Result<(), StepFault>
-        requires facts { IfSome (form_in self.old).facts HasMoments }
-        requires there { CanTake (file_of self.old.target) (D.told disk.old) }
+        requires can { CanGive self.old (D.told disk.old) }
         requires whole { (cut lines.now).tail ≡ [] }
         requires few { self.old.shown.lines + length (cut lines.now).lines < 2 ^ 64 }
         requires same { changes ≡ false → (n : ℕ) → formed_lines (form_in self.old) self.old.sids (self.old.shown.lines + 1) n (cut lines.now).lines ≡ lines.now }
+        ensures frame { UsesTarget (file_of self.old.target) O.given O.faults D.told D.faults out.old out.new disk.old disk.new result }
         ensures gives { GivesTo (file_of self.old.target) (formed_lines (form_in self.old) self.old.sids (self.old.shown.lines + 1) inserter (cut lines.now).lines) result (held_back self.old.target) (held_back self.new.target)
             (got (file_of self.old.target) (O.given out.old) (D.told disk.old)) (got (file_of self.old.target) (O.given out.new) (D.told disk.new)) }
-        ensures shown { self.new.shown ≡ self.old.shown }
-        ensures keeps { KeepsForm self.old self.new }
-        ensures reaches { Reaches (file_of self.old.target) (O.given out.old) (O.given out.new) (D.told disk.old) (D.told disk.new) }
-        ensures mark { OnOk result (KeepsMark (file_of self.old.target) (D.told disk.old) (D.told disk.new)) }
-        ensures spares { Spares (file_of self.old.target) result }
-        ensures causes { PrintCauses result (O.faults out.old) (O.faults out.new) (D.faults disk.old) (D.faults disk.new) }
-        ensures checks { RefusesWithin file_checks result }
+        ensures keeps { KeepsGiving self.old self.new }
     {
         if changes {
             self.form_lines(inserter, lines, out, disk)
@@ -143,28 +127,21 @@ impl<'a> Giving<'a> {
         out: &mut O,
         disk: &mut D,
     ) -> Result<(), StepFault>
-        requires facts { IfSome (form_in self.old).facts HasMoments }
-        requires there { CanTake (file_of self.old.target) (D.told disk.old) }
+        requires can { CanGive self.old (D.told disk.old) }
         requires counted { more ≡ lf_count lines.now }
         requires whole { (cut lines.now).tail ≡ [] }
+        ensures frame { UsesTarget (file_of self.old.target) O.given O.faults D.told D.faults out.old out.new disk.old disk.new result }
         ensures gives { GivesTo (file_of self.old.target) (formed_lines (form_in self.old) self.old.sids (self.old.shown.lines + 1) inserter (cut lines.now).lines) result (held_back self.old.target) (held_back self.new.target)
             (got (file_of self.old.target) (O.given out.old) (D.told disk.old)) (got (file_of self.old.target) (O.given out.new) (D.told disk.new)) }
         ensures shown { OnOk result (self.new.shown ≡ counted (form_in self.old) self.old.shown (cut lines.now).lines) }
         ensures keeps { KeepsForm self.old self.new }
-        ensures reaches { Reaches (file_of self.old.target) (O.given out.old) (O.given out.new) (D.told disk.old) (D.told disk.new) }
-        ensures mark { OnOk result (KeepsMark (file_of self.old.target) (D.told disk.old) (D.told disk.new)) }
-        ensures spares { Spares (file_of self.old.target) result }
-        ensures causes { PrintCauses result (O.faults out.old) (O.faults out.new) (D.faults disk.old) (D.faults disk.new) }
-        ensures checks { RefusesWithin file_checks result }
     {
         let Some(count) = self.shown.lines.checked_add(more) else {
             return Err(StepFault::Memory);
         };
         let replaces = self.form.replaces(lines);
         let changes = replaces | self.form.has_prefix();
-        if let Err(fault) = self.give_formed(changes, inserter, lines, out, disk) {
-            return Err(fault);
-        }
+        self.give_formed(changes, inserter, lines, out, disk)?;
         self.shown = Shown {
             lines: count,
             keywords: self.shown.keywords | replaces,
@@ -181,17 +158,11 @@ impl<'a> Giving<'a> {
         out: &mut O,
         disk: &mut D,
     ) -> Result<(), StepFault>
-        requires facts { IfSome (form_in self.old).facts HasMoments }
-        requires there { CanTake (file_of self.old.target) (D.told disk.old) }
+        requires can { CanGive self.old (D.told disk.old) }
+        ensures frame { UsesTarget (file_of self.old.target) O.given O.faults D.told D.faults out.old out.new disk.old disk.new result }
         ensures gives { GivesTo (file_of self.old.target) (formed_lines (form_in self.old) self.old.sids number inserter (line.now ∷ [])) result (held_back self.old.target) (held_back self.new.target)
             (got (file_of self.old.target) (O.given out.old) (D.told disk.old)) (got (file_of self.old.target) (O.given out.new) (D.told disk.new)) }
-        ensures shown { self.new.shown ≡ self.old.shown }
-        ensures keeps { KeepsForm self.old self.new }
-        ensures reaches { Reaches (file_of self.old.target) (O.given out.old) (O.given out.new) (D.told disk.old) (D.told disk.new) }
-        ensures mark { OnOk result (KeepsMark (file_of self.old.target) (D.told disk.old) (D.told disk.new)) }
-        ensures spares { Spares (file_of self.old.target) result }
-        ensures causes { PrintCauses result (O.faults out.old) (O.faults out.new) (D.faults disk.old) (D.faults disk.new) }
-        ensures checks { RefusesWithin file_checks result }
+        ensures keeps { KeepsGiving self.old self.new }
     {
         self.formed.clear();
         let Ok(()) = give_line(
@@ -215,24 +186,17 @@ impl<'a> Giving<'a> {
         out: &mut O,
         disk: &mut D,
     ) -> Result<(), StepFault>
-        requires facts { IfSome (form_in self.old).facts HasMoments }
-        requires there { CanTake (file_of self.old.target) (D.told disk.old) }
+        requires can { CanGive self.old (D.told disk.old) }
+        ensures frame { UsesTarget (file_of self.old.target) O.given O.faults D.told D.faults out.old out.new disk.old disk.new result }
         ensures gives { GivesTo (file_of self.old.target) (formed_lines (form_in self.old) self.old.sids (self.old.shown.lines + 1) inserter (line.now ∷ [])) result (held_back self.old.target) (held_back self.new.target)
             (got (file_of self.old.target) (O.given out.old) (D.told disk.old)) (got (file_of self.old.target) (O.given out.new) (D.told disk.new)) }
         ensures shown { OnOk result (self.new.shown ≡ counted (form_in self.old) self.old.shown (line.now ∷ [])) }
         ensures keeps { KeepsForm self.old self.new }
-        ensures reaches { Reaches (file_of self.old.target) (O.given out.old) (O.given out.new) (D.told disk.old) (D.told disk.new) }
-        ensures mark { OnOk result (KeepsMark (file_of self.old.target) (D.told disk.old) (D.told disk.new)) }
-        ensures spares { Spares (file_of self.old.target) result }
-        ensures causes { PrintCauses result (O.faults out.old) (O.faults out.new) (D.faults disk.old) (D.faults disk.new) }
-        ensures checks { RefusesWithin file_checks result }
     {
         let Some(number) = self.shown.lines.checked_add(1) else {
             return Err(StepFault::Memory);
         };
-        if let Err(fault) = self.form_line(inserter, number, line, out, disk) {
-            return Err(fault);
-        }
+        self.form_line(inserter, number, line, out, disk)?;
         let replaces = self.form.replaces(line.bytes());
         self.shown = Shown {
             lines: number,
@@ -249,16 +213,10 @@ fn give_run<O: Sink, D: Disk>(
     out: &mut O,
     disk: &mut D,
 ) -> Result<(), StepFault>
-    requires facts { IfSome (form_in giving.old).facts HasMoments }
-    requires there { CanTake (file_of giving.old.target) (D.told disk.old) }
+    requires can { CanGive giving.old (D.told disk.old) }
+    ensures frame { UsesTarget (file_of giving.old.target) O.given O.faults D.told D.faults out.old out.new disk.old disk.new result }
     ensures keeps { KeepsForm giving.old giving.new }
-    ensures reaches { Reaches (file_of giving.old.target) (O.given out.old) (O.given out.new) (D.told disk.old) (D.told disk.new) }
-    ensures mark { OnOk result (KeepsMark (file_of giving.old.target) (D.told disk.old) (D.told disk.new)) }
-    ensures spares { Spares (file_of giving.old.target) result }
-    ensures causes { PrintCauses result (O.faults out.old) (O.faults out.new) (D.faults disk.old) (D.faults disk.new) }
-    ensures checks { RefusesWithin file_checks result }
-    ensures set { version.new.set ≡ version.old.set }
-    ensures name { name_of version.new ≡ name_of version.old }
+    ensures version { KeepsVersion version.old version.new }
     ensures left { steps_left version.new ≤ steps_left version.old }
     ensures gives { (file : List ℕ) (lines : List HistoryLine) → Coming file version.old lines
         → GivesRun file version.new lines result giving.old giving.new (got (file_of giving.old.target) (O.given out.old) (D.told disk.old)) (got (file_of giving.old.target) (O.given out.new) (D.told disk.new)) }
@@ -271,9 +229,7 @@ fn give_run<O: Sink, D: Disk>(
         return Ok(());
     }
     let more = version.lines_held(count);
-    if let Err(fault) = giving.give_lines(version.inserter(), more, texts, out, disk) {
-        return Err(fault);
-    }
+    giving.give_lines(version.inserter(), more, texts, out, disk)?;
     version.pass(count);
     Ok(())
 }
@@ -285,16 +241,10 @@ fn give_next<O: Sink, D: Disk>(
     out: &mut O,
     disk: &mut D,
 ) -> Result<bool, StepFault>
-    requires facts { IfSome (form_in giving.old).facts HasMoments }
-    requires there { CanTake (file_of giving.old.target) (D.told disk.old) }
+    requires can { CanGive giving.old (D.told disk.old) }
+    ensures frame { UsesTarget (file_of giving.old.target) O.given O.faults D.told D.faults out.old out.new disk.old disk.new result }
     ensures keeps { KeepsForm giving.old giving.new }
-    ensures reaches { Reaches (file_of giving.old.target) (O.given out.old) (O.given out.new) (D.told disk.old) (D.told disk.new) }
-    ensures mark { OnOk result (KeepsMark (file_of giving.old.target) (D.told disk.old) (D.told disk.new)) }
-    ensures spares { Spares (file_of giving.old.target) result }
-    ensures causes { PrintCauses result (O.faults out.old) (O.faults out.new) (D.faults disk.old) (D.faults disk.new) }
-    ensures checks { RefusesWithin file_checks result }
-    ensures set { version.new.set ≡ version.old.set }
-    ensures name { name_of version.new ≡ name_of version.old }
+    ensures version { KeepsVersion version.old version.new }
     ensures further { IfOk result (λ more. more ≡ true → steps_left version.new < steps_left version.old) }
     ensures gives { (file : List ℕ) (lines : List HistoryLine) → bytes_in (seen (D.told disk.old)) (name_of version.old) ≡ Some file → Coming file version.old lines
         → GivesMore file version.new lines result giving.old giving.new (got (file_of giving.old.target) (O.given out.old) (D.told disk.old)) (got (file_of giving.old.target) (O.given out.new) (D.told disk.new)) }
@@ -319,15 +269,10 @@ pub fn give_all<O: Sink, D: Disk>(
     out: &mut O,
     disk: &mut D,
 ) -> Result<(), StepFault>
-    requires facts { IfSome (form_in giving.old).facts HasMoments }
-    requires there { CanTake (file_of giving.old.target) (D.told disk.old) }
+    requires can { CanGive giving.old (D.told disk.old) }
     requires apart { IsApart (file_of giving.old.target) (name_of version.old) }
+    ensures frame { UsesTarget (file_of giving.old.target) O.given O.faults D.told D.faults out.old out.new disk.old disk.new result }
     ensures keeps { KeepsForm giving.old giving.new }
-    ensures reaches { Reaches (file_of giving.old.target) (O.given out.old) (O.given out.new) (D.told disk.old) (D.told disk.new) }
-    ensures mark { OnOk result (KeepsMark (file_of giving.old.target) (D.told disk.old) (D.told disk.new)) }
-    ensures spares { Spares (file_of giving.old.target) result }
-    ensures causes { PrintCauses result (O.faults out.old) (O.faults out.new) (D.faults disk.old) (D.faults disk.new) }
-    ensures checks { RefusesWithin file_checks result }
     ensures there { CanTake (file_of giving.new.target) (D.told disk.new) }
     ensures gives { (file : List ℕ) (lines : List HistoryLine) → bytes_in (seen (D.told disk.old)) (name_of version.old) ≡ Some file → Coming file version.old lines
         → GivesAll lines result giving.old giving.new (got (file_of giving.old.target) (O.given out.old) (D.told disk.old)) (got (file_of giving.old.target) (O.given out.new) (D.told disk.new)) }

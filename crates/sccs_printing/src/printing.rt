@@ -14,7 +14,7 @@ ghost use Rattle.sccs_texts.specs.Forms.{form_of};
 ghost use Rattle.sccs_versions.specs.Coming.{IsBody, shown};
 ghost use Rattle.sccs_printing.specs.Counted.{shown_of};
 ghost use Rattle.sccs_printing.specs.Printing.{PrintsWhole, file_checks, version_text};
-ghost use Rattle.sccs_printing.specs.Targets.{CanTake, GivesTo, IsApart, KeepsMark, Prints, Reaches, Spares, file_of, got, held_back};
+ghost use Rattle.sccs_printing.specs.Targets.{CanTake, GivesTo, IsApart, KeepsMark, Prints, Reaches, Spares, UsesTarget, file_of, got, held_back};
 
 use crate::givings::{Giving, give_all};
 use crate::shown::Shown;
@@ -80,11 +80,7 @@ pub fn give_text<O: Sink, D: Disk>(
     requires empty { held_back target ≡ [] }
     requires there { CanTake (file_of target) (D.told disk.old) }
     requires apart { IsApart (file_of target) name.now }
-    ensures reaches { Reaches (file_of target) (O.given out.old) (O.given out.new) (D.told disk.old) (D.told disk.new) }
-    ensures mark { OnOk result (KeepsMark (file_of target) (D.told disk.old) (D.told disk.new)) }
-    ensures spares { Spares (file_of target) result }
-    ensures causes { PrintCauses result (O.faults out.old) (O.faults out.new) (D.faults disk.old) (D.faults disk.new) }
-    ensures checks { RefusesWithin file_checks result }
+    ensures frame { UsesTarget (file_of target) O.given O.faults D.told D.faults out.old out.new disk.old disk.new result }
     ensures prints { (file : List ℕ) (items : List Item)
         → IsBody (bytes_in (seen (D.told disk.old)) name.now) front.now set.now file items
         → Prints (file_of target) (version_text (form_of form.now) front.now.header.records (shown set.now (lines_of items))) result

@@ -1,9 +1,6 @@
 ghost use Rattle.std.specs.Prelude.{◌≡◌, [], OnOk};
 ghost use Rattle.sccs_disk.specs.Calls.{IsThere};
-ghost use Rattle.sccs_steps.specs.Actions.{RefusesWithin};
-ghost use Rattle.sccs_steps.specs.Causes.{PrintCauses};
-ghost use Rattle.sccs_printing.specs.Printing.{file_checks};
-ghost use Rattle.sccs_printing.specs.Targets.{CanTake, GivesTo, KeepsMark, Reaches, Spares, file_of, got, held_back, writing_fault};
+ghost use Rattle.sccs_printing.specs.Targets.{CanTake, GivesTo, UsesTarget, file_of, got, held_back, writing_fault};
 
 use sccs_base::{OutputBuffer, Sink};
 use sccs_disk::{Disk, DiskRefusal};
@@ -36,14 +33,10 @@ pub fn put<O: Sink, D: Disk>(
     disk: &mut D,
 ) -> Result<(), StepFault>
     requires { CanTake (file_of target.old) (D.told disk.old) }
+    ensures frame { UsesTarget (file_of target.old) O.given O.faults D.told D.faults out.old out.new disk.old disk.new result }
     ensures gives { GivesTo (file_of target.old) text.now result (held_back target.old) (held_back target.new)
         (got (file_of target.old) (O.given out.old) (D.told disk.old)) (got (file_of target.old) (O.given out.new) (D.told disk.new)) }
     ensures file { file_of target.new ≡ file_of target.old }
-    ensures reaches { Reaches (file_of target.old) (O.given out.old) (O.given out.new) (D.told disk.old) (D.told disk.new) }
-    ensures mark { OnOk result (KeepsMark (file_of target.old) (D.told disk.old) (D.told disk.new)) }
-    ensures spares { Spares (file_of target.old) result }
-    ensures causes { PrintCauses result (O.faults out.old) (O.faults out.new) (D.faults disk.old) (D.faults disk.new) }
-    ensures checks { RefusesWithin file_checks result }
 {
     match target {
         Target::ToSink(buffer) => match buffer.give(out, text) {
@@ -64,15 +57,11 @@ pub fn flush<O: Sink, D: Disk>(
     disk: &mut D,
 ) -> Result<(), StepFault>
     requires { CanTake (file_of target.old) (D.told disk.old) }
+    ensures frame { UsesTarget (file_of target.old) O.given O.faults D.told D.faults out.old out.new disk.old disk.new result }
     ensures gives { GivesTo (file_of target.old) [] result (held_back target.old) (held_back target.new)
         (got (file_of target.old) (O.given out.old) (D.told disk.old)) (got (file_of target.old) (O.given out.new) (D.told disk.new)) }
     ensures empty { OnOk result (held_back target.new ≡ []) }
     ensures file { file_of target.new ≡ file_of target.old }
-    ensures reaches { Reaches (file_of target.old) (O.given out.old) (O.given out.new) (D.told disk.old) (D.told disk.new) }
-    ensures mark { OnOk result (KeepsMark (file_of target.old) (D.told disk.old) (D.told disk.new)) }
-    ensures spares { Spares (file_of target.old) result }
-    ensures causes { PrintCauses result (O.faults out.old) (O.faults out.new) (D.faults disk.old) (D.faults disk.new) }
-    ensures checks { RefusesWithin file_checks result }
 {
     match target {
         Target::ToSink(buffer) => match buffer.flush(out) {

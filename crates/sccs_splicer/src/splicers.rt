@@ -270,6 +270,13 @@ impl Splicer {
         self.settle(false, out, disk)
     }
 
+    /// How many lines of the base were pushed.
+    pub fn line(&self) -> u64
+        ensures { result ≡ self.now.line }
+    {
+        self.at.line()
+    }
+
     /// How many lines the plan inserts, at most 18,446,744,073,709,551,615.
     pub fn inserted(&self) -> u64
         ensures { result ≡ min (added_count self.now.plan.added) last_count }

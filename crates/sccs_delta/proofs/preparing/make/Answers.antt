@@ -1,9 +1,10 @@
 use Rattle.std.proofs.Common.{[], refl, ◌∙◌}
 use Rattle.sccs_edits.specs.Places.{told_behind}
+use Rattle.sccs_splicer.specs.Splices.{owed}
 use Rattle.sccs_files.specs.StepFiles.{is_working}
 use Rattle.sccs_store.proofs.Working.{same_touches}
 use Rattle.sccs_delta.proofs.ScriptLaws.{made_speaks}
-use Rattle.sccs_delta.proofs.WriteLaws.{copy_begins, delta_made, no_sfile}
+use Rattle.sccs_delta.proofs.WriteLaws.{delta_made, no_sfile}
 use Rattle.sccs_delta.proofs.preparing.make.Goals as goal
 
 pub returns-in-Err-clause-told : goal.returns-in-Err-clause-told
@@ -14,8 +15,7 @@ pub returns-clause-told : goal.returns-clause-told
 returns-clause-told g c = λ bytes items e told is at lines.
     delta_made c.args.words.now c.args.stamp.now c.args.name.now c.args.pending.front.header items c.args.pending.edits (record { number = c.args.chosen.number; edit = e; base = c.args.chosen.base }) c.args.script.now c.args.found.now.lines c.args.found.now.keyword c.in-Ok.file c.in-Ok-said_of.said.report c.in-Ok-said_of.said.message c.write_files.result _ _
     lines (c.in-Ok.ensures.makes e at) c.in-Ok-said_of.ensures.report c.in-Ok-said_of.ensures.message
-    (c.write_files.ensures.told bytes (told_behind c.args.chosen.base.set [] items) told
-    (copy_begins bytes c.args.chosen.base.set c.in-Ok.file.set items c.in-Ok.file.lines c.in-Ok.file.copying (c.in-Ok.ensures.makes e at).2.set_is c.in-Ok.ensures.seen (c.in-Ok.ensures.lines ∙ lines) (c.in-Ok.ensures.told bytes items is)))
+    (c.write_files.ensures.told bytes (owed c.in-Ok.file.copying.filter.splicer (told_behind c.args.chosen.base.set [] items)) told (c.in-Ok.ensures.told bytes items is lines))
 
 pub returns-in-Err-clause-touches : goal.returns-in-Err-clause-touches
 returns-in-Err-clause-touches g c = same_touches (is_working c.args.name.now) _ _ refl

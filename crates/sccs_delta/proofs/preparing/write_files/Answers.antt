@@ -7,7 +7,6 @@ use Rattle.sccs_files.specs.StepFiles.{Moves, is_working}
 use Rattle.sccs_images.specs.Touches.{TouchesOnly}
 use Rattle.sccs_images.proofs.Touched.{only_then, only_wider}
 use Rattle.sccs_moments.proofs.FileNames.{from_g, no_q, no_x}
-use Rattle.sccs_splicer.specs.Splices.{owed}
 use Rattle.sccs_store.proofs.Working.{moves_then, moves_wider}
 use Rattle.sccs_delta.proofs.WriteLaws.{files_firm, files_ready, files_written}
 use Rattle.sccs_delta.proofs.preparing.write_files.Goals as goal
@@ -20,10 +19,10 @@ returns-in-Err-remove_g-clause-touches g c =
     subst (λ t. TouchesOnly (is_working c.args.name.now) (g.D.Disk.told c.args.disk.now) t) (sym c.remove_g.ensures.frame.same) (only_wider (bytes_eq (x_file c.args.name.now)) (is_working c.args.name.now) _ _ (no_x c.args.name.now) c.write_x.ensures.touches)
 
 pub returns-in-Ok-drop_entry-clause-told : goal.returns-in-Ok-drop_entry-clause-told
-returns-in-Ok-drop_entry-clause-told g c = λ bytes told is come.
-    files_written c.args.name.now c.args.file.header (owed c.args.file.copying.splicer told) (remove c.args.edits (c.args.number - 1)) c.args.keep c.args.said.report c.args.said.message _
+returns-in-Ok-drop_entry-clause-told g c = λ bytes items is come.
+    files_written c.args.name.now c.args.file.header items (remove c.args.edits (c.args.number - 1)) c.args.keep c.args.said.report c.args.said.message _
     (g.D.Disk.told c.args.disk.now) (g.D.Disk.told c.write_x.new.disk) (g.D.Disk.told c.remove_g.new.disk) (g.D.Disk.told c.drop_entry.new.disk) c.requires.spelled c.remove_g.ensures.frame.same refl (from_g 120 c.args.name.now c.requires.sfile) refl refl refl
-    (c.in-Ok.ensures.told bytes told is come) c.in-Ok-drop_entry.ensures.moves c.in-Ok-drop_entry.ensures.entries c.write_x.ensures.moves c.in-Ok-remove_g.ensures.leaves.chosen_is
+    (c.in-Ok.ensures.told bytes items is come) c.in-Ok-drop_entry.ensures.moves c.in-Ok-drop_entry.ensures.entries c.write_x.ensures.moves c.in-Ok-remove_g.ensures.leaves.chosen_is
 
 pub returns-in-Ok-drop_entry-clause-moves : goal.returns-in-Ok-drop_entry-clause-moves
 returns-in-Ok-drop_entry-clause-moves g c =

@@ -1,4 +1,4 @@
-use Rattle.std.proofs.Common.{◌∙◌, ap, subst}
+use Rattle.std.proofs.Common.{◌∙◌, ap, rules, subst}
 use Rattle.sccs_disk.specs.Told.{seen}
 use Rattle.sccs_history.specs.Body.{lines_of}
 use Rattle.sccs_table.specs.ReaderState.{bytes_in}
@@ -9,11 +9,17 @@ use Rattle.sccs_printing.proofs.TurnLaws.{reach_on}
 use Rattle.sccs_printing.proofs.WholeLaws.{Begun, found, printed, printed_whole}
 use Rattle.sccs_printing.proofs.printing.give_text.Goals as goal
 
-pub returns-clause-reaches : goal.returns-clause-reaches
-returns-clause-reaches g c =
+pub returns-clause-frame : goal.returns-clause-frame
+returns-clause-frame g c = record {
+  reaches =
     subst (λ target. Reaches (file_of target) (g.O.Sink.given c.args.out.now) (g.O.Sink.given c.finish.new.out) (g.D.Disk.told c.args.disk.now) (g.D.Disk.told c.finish.new.disk)) c.new-giving.ensures.target
     (reach_on c.new-giving.result c.give_all-given.new.giving c.give_all-given.ensures.keeps (g.O.Sink.given c.args.out.now) (g.O.Sink.given c.give_all-given.new.out) (g.O.Sink.given c.finish.new.out) (g.D.Disk.told c.args.disk.now) (g.D.Disk.told c.give_all-given.new.disk) (g.D.Disk.told c.finish.new.disk)
-    c.give_all-given.ensures.reaches c.finish.ensures.reaches)
+    c.give_all-given.ensures.frame.reaches c.finish.ensures.reaches);
+  mark = search rules;
+  spares = search rules;
+  causes = search rules;
+  checks = search rules;
+}
 
 pub returns-clause-prints : goal.returns-clause-prints
 returns-clause-prints g c = λ file items is.

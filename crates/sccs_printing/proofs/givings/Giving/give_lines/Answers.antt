@@ -15,4 +15,4 @@ give_formed-requires-clause-same g c = λ neither n.
     unchanged (form_in c.args.self.now) c.args.self.now.sids (c.args.self.now.shown.lines + 1) n c.args.lines.now c.replaces-replaces.result c.has_prefix.result c.requires.whole c.has_prefix.ensures c.replaces-replaces.ensures neither
 
 pub returns-clause-shown : goal.returns-clause-shown
-returns-clause-shown g c = run_counted (form_in c.args.self.now) c.args.self.now.shown c.give_formed.new.self.shown c.args.lines.now c.args.more c.in-Some.count c.replaces-replaces.result c.in_default-give_formed.ensures.shown c.requires.whole c.requires.counted c.in-Some.ensures.1 c.replaces-replaces.ensures
+returns-clause-shown g c = run_counted (form_in c.args.self.now) c.args.self.now.shown c.give_formed.new.self.shown c.args.lines.now c.args.more c.in-Some.count c.replaces-replaces.result c.in_ok-give_formed.ensures.keeps.shown c.requires.whole c.requires.counted c.in-Some.ensures.1 c.replaces-replaces.ensures
