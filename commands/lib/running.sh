@@ -44,10 +44,14 @@ finish() {
     exit "${interrupted:-$status}"
 }
 
-# the status of several commands is the greatest; that of val has the bits of all
+# the status of several commands is the greatest; that of val has the bits of all; that of what is 0 where one of them found a mark
 join_status() {
     if [ "${joins:-}" = bits ] && [ "$1" -lt 128 ] && [ "$status" -lt 128 ]; then
         status=$((status | $1))
+    elif [ "${joins:-}" = found ] && [ "$1" -lt 2 ] && [ "$status" -lt 2 ]; then
+        [ "$1" = 1 ] || found=yes
+        status=1
+        [ -z "${found:-}" ] || status=0
     elif [ "$1" -gt "$status" ]; then
         status=$1
     fi

@@ -28,6 +28,7 @@ use Rattle.sccs_recovery.specs.Commands.{recover_keeps}
 use Rattle.sccs_transactions.specs.Changes.{locking}
 use Rattle.sccs_transactions.specs.Utilities.{locking_keeps}
 use Rattle.sccs_delta.specs.Replays.{Texts}
+use Rattle.sccs_prs.specs.Keeps.{prs_keeps}
 use Rattle.sccs_what.specs.Checks.{what_keeps}
 use Rattle.sccs_top.specs.Runs.{Caller, action_meant, action_of, has_heading, operands_of, run_steps, usage_step}
 use Rattle.sccs_top.specs.Unbuilt.{is_admin_built, unbuilt, unbuilt_keeps}
@@ -52,7 +53,7 @@ command_keeps who (c.Delta words name) = locking_keeps (delta_change words who.s
 command_keeps who (c.Unget words operands) = locking_keeps (unget_change words who.stamp (has_heading operands))
 command_keeps who (c.Sact operands) = sact_keeps (has_heading operands)
 command_keeps who (c.Rmdel sid operands) = unbuilt_keeps false false
-command_keeps who (c.Prs words operands) = unbuilt_keeps false false
+command_keeps who (c.Prs words operands) = prs_keeps words who.place
 command_keeps who (c.Val words) = unbuilt_keeps true true
 command_keeps who (c.What first operands) = what_keeps first
 command_keeps who (c.Recover operands) = recover_keeps

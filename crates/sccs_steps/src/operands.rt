@@ -65,7 +65,11 @@ fn run_here<U: UtilityWithStatus, I: Source, O: Sink, E: Sink, D: Disk>(
 }
 
 // those of lines that the utility takes
-fn names_among<U: UtilityWithStatus>(alloc: Global, utility: &U, lines: &[Line]) -> Result<Words, Memory>
+fn names_among<U: UtilityWithStatus>(
+    alloc: Global,
+    utility: &U,
+    lines: &[Line],
+) -> Result<Words, Memory>
     ensures { IfOk result (λ names. names ≡ filter (U.action utility.now).fits lines.now) }
 {
     let mut names = Words::new(alloc);

@@ -33,6 +33,7 @@ use Rattle.sccs_edit.specs.UngetStep.{unget_change}
 use Rattle.sccs_get.specs.EditStep.{edit_change}
 use Rattle.sccs_get.specs.VersionStep.{get_action}
 use Rattle.sccs_recovery.specs.RecoverStep.{recover_action}
+use Rattle.sccs_prs.specs.PrsStep.{prs_action}
 use Rattle.sccs_what.specs.WhatStep.{what_action}
 use Rattle.sccs_top.specs.Messages.{usage_line}
 use Rattle.sccs_top.specs.Unbuilt.{is_admin_built, unbuilt}
@@ -82,6 +83,7 @@ action_of who (c.Delta words name) = locking (delta_change words who.stamp)
 action_of who (c.Unget words operands) = locking (unget_change words who.stamp (has_heading operands))
 action_of who (c.Sact operands) = sact_action (has_heading operands)
 action_of who (c.Recover operands) = recover_action
+action_of who (c.Prs words operands) = prs_action words who.place
 action_of who (c.What first operands) = what_action first
 action_of who (c.Val words) = unbuilt true true
 action_of who c.Batch = unbuilt true true

@@ -114,6 +114,29 @@ fn what_finds_marks_in_any_of_its_files(rt: HostRuntime) -> Result<(), Fail> {
     Ok(())
 }
 
+const PRINTED: [Row<'static>; 4] = [
+    (b"prs -d:I: s.b s.a", 0, b"1.1.1.1\n1.1\n", b""),
+    (
+        b"prs -e -r1.2 -d:I:\\t:P: x .",
+        1,
+        b"1.2\tann\n1.1\tann\n",
+        b"ERROR [x]: not a name of an s-file (01)\nERROR [s.a]: no such SID (15)\n",
+    ),
+    (
+        b"prs s.a",
+        0,
+        b"s.a:\n\nD 1.1 21/03/04 05:06:07 ann 1 0\t00002/00000/00000\nMRs:\nCOMMENTS:\ndate and time created 21/03/04 05:06:07 by ann\n\n",
+        b"",
+    ),
+    (b"prs s.c", 1, b"", b"ERROR [s.c]: no such file (03)\n"),
+];
+
+#[test]
+fn prs_prints_deltas_of_each_operand(rt: HostRuntime) -> Result<(), Fail> {
+    assert_eq!(rt; wrong_row(rt.alloc(), TWO_LINES, BRANCHED, &PRINTED)?, None);
+    Ok(())
+}
+
 const UNBUILT: [Row<'static>; 2] = [
     (
         b"rmdel -r1.1 x s.a -",

@@ -12,9 +12,9 @@ use Rattle.sccs_printing.proofs.printing.give_text.Goals as goal
 pub returns-clause-frame : goal.returns-clause-frame
 returns-clause-frame g c = record {
   reaches =
-    subst (λ target. Reaches (file_of target) (g.O.Sink.given c.args.out.now) (g.O.Sink.given c.finish.new.out) (g.D.Disk.told c.args.disk.now) (g.D.Disk.told c.finish.new.disk)) c.new-giving.ensures.target
-    (reach_on c.new-giving.result c.give_all-given.new.giving c.give_all-given.ensures.keeps (g.O.Sink.given c.args.out.now) (g.O.Sink.given c.give_all-given.new.out) (g.O.Sink.given c.finish.new.out) (g.D.Disk.told c.args.disk.now) (g.D.Disk.told c.give_all-given.new.disk) (g.D.Disk.told c.finish.new.disk)
-    c.give_all-given.ensures.frame.reaches c.finish.ensures.reaches);
+      subst (λ target. Reaches (file_of target) (g.O.Sink.given c.args.out.now) (g.O.Sink.given c.finish.new.out) (g.D.Disk.told c.args.disk.now) (g.D.Disk.told c.finish.new.disk)) c.new-giving.ensures.target
+      (reach_on c.new-giving.result c.give_all-given.new.giving c.give_all-given.ensures.keeps (g.O.Sink.given c.args.out.now) (g.O.Sink.given c.give_all-given.new.out) (g.O.Sink.given c.finish.new.out) (g.D.Disk.told c.args.disk.now) (g.D.Disk.told c.give_all-given.new.disk) (g.D.Disk.told c.finish.new.disk)
+      c.give_all-given.ensures.frame.reaches c.finish.ensures.reaches);
   mark = search rules;
   spares = search rules;
   causes = search rules;

@@ -1,0 +1,2 @@
+pub mod GiveLists
+pub mod PartLaws

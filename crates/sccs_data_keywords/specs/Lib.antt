@@ -1,0 +1,2 @@
+pub mod DataKeywords
+pub mod Values

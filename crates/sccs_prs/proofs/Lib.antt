@@ -1,0 +1,4 @@
+pub mod BodyLaws
+pub mod GivesLaws
+pub mod LinesLaws
+pub mod StepLaws

@@ -1,0 +1,5 @@
+//! Tests of prs.
+#![tactic(auto)]
+
+#[cfg(test)]
+mod tests;
