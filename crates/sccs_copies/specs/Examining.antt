@@ -139,3 +139,20 @@ ExaminesNext file r g lines at at2 s s2 (Err fault) = IsOuterFault fault
 abbrev pub ExaminesAll : Option (List ℕ) → List HistoryLine → Passed → Passed → ResultCheck → ResultCheck → Result (Unit {0}) FileFault → Type 0
 ExaminesAll g lines at at2 s s2 (Ok done) = ExaminesWhole g lines at at2 s s2
 ExaminesAll g lines at at2 s s2 (Err fault) = IsOuterFault fault
+
+-- ---- what stays
+
+-- What was found stays, and the g-file is the same.
+pub record KeepsFound (c c2 : ResultCheck) : Type 0 where
+  pub keyword : c2.keyword ≡ c.keyword
+  pub compares : c2.compares ≡ c.compares
+  pub name : c2.lines.name ≡ c.lines.name
+  pub number : c2.number ≡ c.number
+  pub differs : c2.differs ≡ c.differs
+
+-- Nothing is read of the g-file, and no keyword found.
+pub record KeepsLines (c c2 : ResultCheck) : Type 0 where
+  pub keyword : c2.keyword ≡ c.keyword
+  pub compares : c2.compares ≡ c.compares
+  pub lines : c2.lines ≡ c.lines
+  pub over : c2.over ≡ c.over

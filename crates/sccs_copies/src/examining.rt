@@ -67,10 +67,7 @@ fn see_base<D: Disk>(
     ensures line { OnOk result (at.new.line ≡ suc at.old.line) }
     ensures plan { at.new.plan ≡ at.old.plan }
 {
-    match see_kept(alloc, !at.deletes_next(), check, line.bytes(), disk) {
-        Ok(()) => {}
-        Err(fault) => return Err(fault),
-    }
+    see_kept(alloc, !at.deletes_next(), check, line.bytes(), disk)?;
     at.advance();
     see_lines(alloc, check, at.new_lines(), disk)
 }
@@ -152,10 +149,7 @@ fn examine_all<D: Disk>(
         → Coming file version.old (shown set lines) → length (shown set lines) ≤ file_limit → IsBefore g compares check.old
         → Examines (bytes_in (seen (D.told disk.old)) g) at.old.plan (select set lines) compares result }
 {
-    match see_lines(alloc, check, at.new_lines(), disk) {
-        Ok(()) => {}
-        Err(fault) => return Err(fault),
-    }
+    see_lines(alloc, check, at.new_lines(), disk)?;
     match see_all(alloc, version, at, check, disk) {
         Ok(()) => {}
         Err(fault) => return Err(fault),

@@ -4,7 +4,7 @@ ghost use Rattle.sccs_disk.specs.Told.{seen};
 ghost use Rattle.sccs_table.specs.FrontFile.{ReadsDisk};
 ghost use Rattle.sccs_table.specs.ReaderState.{bytes_in};
 ghost use Rattle.sccs_copies.specs.Copies.{IsOuterResult};
-ghost use Rattle.sccs_copies.specs.Examining.{ComparesOn, difference, GComes, GivesGLine, IsBefore, LinesLeft, SeesAll, has_keyword};
+ghost use Rattle.sccs_copies.specs.Examining.{KeepsFound, KeepsLines, ComparesOn, difference, GComes, GivesGLine, IsBefore, LinesLeft, SeesAll, has_keyword};
 
 use sccs_base::{Line, Name};
 use sccs_disk::Disk;
@@ -51,11 +51,7 @@ fn next_line<D: Disk>(
     requires { line.old.items ≡ [] }
     ensures frame { ReadsDisk D.told D.faults disk.old disk.new result }
     ensures outer { IsOuterResult result }
-    ensures keyword { check.new.keyword ≡ check.old.keyword }
-    ensures compares { check.new.compares ≡ check.old.compares }
-    ensures name { check.new.lines.name ≡ check.old.lines.name }
-    ensures number { check.new.number ≡ check.old.number }
-    ensures differs { check.new.differs ≡ check.old.differs }
+    ensures keeps { KeepsFound check.old check.new }
     ensures told { (file : List ℕ) (rest : List (List ℕ)) → bytes_in (seen (D.told disk.old)) check.old.lines.name ≡ Some file
         → LinesLeft file check.old rest check.old.over → IfOk result (GivesGLine file check.new rest line.new.items) }
 {
@@ -75,10 +71,7 @@ fn next_line<D: Disk>(
 // whether a line is that of the g-file, where this has one
 fn note_line(check: &mut ResultCheck, there: bool, other: &[u8], line: &[u8])
     requires { check.old.differs ≡ None }
-    ensures keyword { check.new.keyword ≡ check.old.keyword }
-    ensures compares { check.new.compares ≡ check.old.compares }
-    ensures lines { check.new.lines ≡ check.old.lines }
-    ensures over { check.new.over ≡ check.old.over }
+    ensures keeps { KeepsLines check.old check.new }
     ensures more { check.old.number ≤ 1073741825 → there ≡ true → bytes_eq line.now other.now ≡ true → (check.new.number ≡ suc check.old.number) × (check.new.differs ≡ None) }
     ensures other { check.old.number ≤ 1073741825 → there ≡ true → bytes_eq line.now other.now ≡ false → (check.new.number ≡ check.old.number) × (check.new.differs ≡ Some (suc check.old.number)) }
     ensures none { check.old.number ≤ 1073741825 → there ≡ false → (check.new.number ≡ check.old.number) × (check.new.differs ≡ Some (suc check.old.number)) }
@@ -110,13 +103,9 @@ fn compare<D: Disk>(
         return Ok(());
     }
     let mut other = Vec::new(alloc);
-    match next_line(check, &mut other, disk) {
-        Ok(there) => {
-            note_line(check, there, other.as_slice(), line);
-            Ok(())
-        }
-        Err(fault) => Err(fault),
-    }
+    let there = next_line(check, &mut other, disk)?;
+    note_line(check, there, other.as_slice(), line);
+    Ok(())
 }
 
 // whether a line before has a keyword, or this one
@@ -157,10 +146,7 @@ pub fn see_lines<D: Disk>(
     ensures name { check.new.lines.name ≡ check.old.lines.name }
 {
     for line in lines {
-        match see_line(alloc, check, line.bytes(), disk) {
-            Ok(()) => {}
-            Err(fault) => return Err(fault),
-        }
+        see_line(alloc, check, line.bytes(), disk)?;
     }
     Ok(())
 }

@@ -6,7 +6,9 @@ use Rattle.sccs_base.specs.Stream.{GivesOk}
 use Rattle.sccs_disk.specs.Files.{Content, View, put}
 use Rattle.sccs_gfiles.specs.declared.modes.Mode.{Mode}
 use Rattle.sccs_gfiles.specs.declared.modes.Mode.TheVariants.{Writable, Protected}
-use Rattle.sccs_history.specs.Applied.{live_serials}
+use Rattle.sccs_history.specs.Applied.{live_serials, serials_of}
+use Rattle.sccs_history.specs.Numbers.{Falls}
+use Rattle.sccs_keys.specs.Expansion.{HasMoments}
 use Rattle.sccs_history.specs.Body.{HistoryLine, is_over}
 use Rattle.sccs_history.specs.declared.headers.Item.{Item}
 use Rattle.sccs_history.specs.declared.headers.Record.{Record}
@@ -21,6 +23,11 @@ use Rattle.sccs_printing.specs.declared.shown.Shown.{Shown}
 -- the text of a version
 abbrev pub version_text : LineForm → List Record → List HistoryLine → List ℕ
 version_text form records lines = formed_text form records 1 lines
+
+-- Lines can be given in a form: one with facts has the moments that it expands, and the table's serials fall.
+pub record CanForm (form : LineForm) (records : List Record) : Type 0 where
+  pub facts : IfSome form.facts HasMoments
+  pub table : Falls 65536 (serials_of records)
 
 -- the checks by which a file that is read may be refused, over any disk
 abbrev pub file_checks : List ℕ

@@ -13,8 +13,8 @@ ghost use Rattle.sccs_table.specs.ReaderState.{bytes_in};
 ghost use Rattle.sccs_texts.specs.Forms.{form_of};
 ghost use Rattle.sccs_versions.specs.Coming.{IsBody, shown};
 ghost use Rattle.sccs_printing.specs.Counted.{shown_of};
-ghost use Rattle.sccs_printing.specs.Printing.{PrintsWhole, file_checks, version_text};
-ghost use Rattle.sccs_printing.specs.Targets.{CanTake, GivesTo, IsApart, KeepsMark, Prints, Reaches, Spares, UsesTarget, file_of, got, held_back};
+ghost use Rattle.sccs_printing.specs.Printing.{CanForm, PrintsWhole, file_checks, version_text};
+ghost use Rattle.sccs_printing.specs.Targets.{CanTake, GivesTo, IsFresh, KeepsMark, Prints, Reaches, Spares, UsesTarget, file_of, got, held_back};
 
 use crate::givings::{Giving, give_all};
 use crate::shown::Shown;
@@ -75,11 +75,8 @@ pub fn give_text<O: Sink, D: Disk>(
     out: &mut O,
     disk: &mut D,
 ) -> Result<Shown, StepFault>
-    requires facts { IfSome (form_of form.now).facts HasMoments }
-    requires table { Falls 65536 (serials_of front.now.header.records) }
-    requires empty { held_back target ≡ [] }
-    requires there { CanTake (file_of target) (D.told disk.old) }
-    requires apart { IsApart (file_of target) name.now }
+    requires text { CanForm (form_of form.now) front.now.header.records }
+    requires target { IsFresh target name.now (D.told disk.old) }
     ensures frame { UsesTarget (file_of target) O.given O.faults D.told D.faults out.old out.new disk.old disk.new result }
     ensures prints { (file : List ℕ) (items : List Item)
         → IsBody (bytes_in (seen (D.told disk.old)) name.now) front.now set.now file items

@@ -17,10 +17,9 @@ ghost use Rattle.sccs_steps.specs.Actions.{RefusesWithin};
 ghost use Rattle.sccs_table.specs.ReaderState.{bytes_in};
 ghost use Rattle.sccs_texts.specs.Forms.{form_of};
 ghost use Rattle.sccs_versions.specs.Coming.{IsBody, shown};
-ghost use Rattle.sccs_writers.specs.OneFile.{OnlyWrites};
 ghost use Rattle.sccs_printing.specs.Counted.{shown_of};
-ghost use Rattle.sccs_printing.specs.Printing.{Makes, MakesWhole, PrintsWhole, file_checks, version_text};
-ghost use Rattle.sccs_printing.specs.Targets.{KeepsMark, Prints};
+ghost use Rattle.sccs_printing.specs.Printing.{CanForm, Makes, MakesWhole, PrintsWhole, file_checks, version_text};
+ghost use Rattle.sccs_printing.specs.Targets.{Prints, WritesText};
 
 use crate::printing::give_text;
 use crate::shown::Shown;
@@ -46,13 +45,10 @@ fn append_text<D: Disk>(
     to: &Name,
     disk: &mut D,
 ) -> Result<Shown, StepFault>
-    requires facts { IfSome (form_of form.now).facts HasMoments }
-    requires table { Falls 65536 (serials_of front.now.header.records) }
+    requires text { CanForm (form_of form.now) front.now.header.records }
     requires there { IsThere to.now (D.told disk.old) }
     requires apart { bytes_eq to.now name.now ≡ false }
-    ensures only { OnlyWrites to.now (D.told disk.old) (D.told disk.new) }
-    ensures mark { OnOk result (KeepsMark (Some to.now) (D.told disk.old) (D.told disk.new)) }
-    ensures checks { RefusesWithin file_checks result }
+    ensures frame { WritesText to.now (D.told disk.old) (D.told disk.new) (D.faults disk.old) (D.faults disk.new) result }
     ensures appends { (file : List ℕ) (items : List Item)
         → IsBody (bytes_in (seen (D.told disk.old)) name.now) front.now set.now file items
         → Prints (Some to.now) (version_text (form_of form.now) front.now.header.records (shown set.now (lines_of items))) result
@@ -62,10 +58,6 @@ fn append_text<D: Disk>(
         → IfOk result (λ s. s ≡ shown_of (form_of form.now) (shown set.now (lines_of items))) }
     ensures whole { IfOk result (λ s. has set.now 0 ≡ false → PrintsWhole (form_of form.now) front.now.header.records set.now s
         (bytes_in (seen (D.told disk.old)) to.now) (bytes_in (seen (D.told disk.new)) to.now)) }
-    ensures later { D.faults disk.old ≤ D.faults disk.new }
-    ensures cause { result ≡ Err faults.DiskFault → Rose (D.faults disk.old) (D.faults disk.new) }
-    ensures read { result ≢ Err faults.ReadFault }
-    ensures write { result ≢ Err faults.WriteFault }
 {
     let writer = PieceWriter::new(to, Sum::new());
     let mut nothing = HeldLine::new(alloc);
@@ -91,12 +83,9 @@ fn append_y<D: Disk>(
     disk: &mut D,
 ) -> Result<Shown, StepFault>
     requires sfile { IsSfile name.now }
-    requires facts { IfSome (form_of form.now).facts HasMoments }
-    requires table { Falls 65536 (serials_of front.now.header.records) }
+    requires text { CanForm (form_of form.now) front.now.header.records }
     requires there { IsThere (y_file name.now) (D.told disk.old) }
-    ensures only { OnlyWrites (y_file name.now) (D.told disk.old) (D.told disk.new) }
-    ensures mark { OnOk result (KeepsMark (Some (y_file name.now)) (D.told disk.old) (D.told disk.new)) }
-    ensures checks { RefusesWithin file_checks result }
+    ensures frame { WritesText (y_file name.now) (D.told disk.old) (D.told disk.new) (D.faults disk.old) (D.faults disk.new) result }
     ensures appends { (file : List ℕ) (items : List Item)
         → IsBody (bytes_in (seen (D.told disk.old)) name.now) front.now set.now file items
         → Prints (Some (y_file name.now)) (version_text (form_of form.now) front.now.header.records (shown set.now (lines_of items))) result
@@ -106,10 +95,6 @@ fn append_y<D: Disk>(
         → IfOk result (λ s. s ≡ shown_of (form_of form.now) (shown set.now (lines_of items))) }
     ensures whole { IfOk result (λ s. has set.now 0 ≡ false → PrintsWhole (form_of form.now) front.now.header.records set.now s
         (bytes_in (seen (D.told disk.old)) (y_file name.now)) (bytes_in (seen (D.told disk.new)) (y_file name.now))) }
-    ensures later { D.faults disk.old ≤ D.faults disk.new }
-    ensures cause { result ≡ Err faults.DiskFault → Rose (D.faults disk.old) (D.faults disk.new) }
-    ensures read { result ≢ Err faults.ReadFault }
-    ensures write { result ≢ Err faults.WriteFault }
 {
     append_text(alloc, name, front, set, form, &name.sibling(b'y'), disk)
 }
