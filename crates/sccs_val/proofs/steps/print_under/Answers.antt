@@ -1,0 +1,22 @@
+use Rattle.std.proofs.Common.{◌≡◌, ◌++◌, ◌∙◌, ap, arith}
+use Rattle.sccs_disk.specs.Told.{seen}
+use Rattle.sccs_val.specs.Reports.{line_heading, words_status, words_text}
+use Rattle.sccs_val.specs.ValStep.{PrintsStatus}
+use Rattle.sccs_val.proofs.JudgingLaws.{causes_then, if_told, same_causes, told_at}
+use Rattle.sccs_val.proofs.LineLaws.{under_printed}
+use Rattle.sccs_val.proofs.steps.print_under.Goals as goal
+
+pub returns-in-Ok-clause-told : goal.returns-in-Ok-clause-told
+returns-in-Ok-clause-told g c =
+    let w = c.args.words.now in
+    let n = c.args.line.now in
+    if_told (λ v. PrintsStatus (line_heading n (words_status w v) w.silent ++ words_text w v) (words_status w v) c.give_report.result (g.O.Sink.given c.args.out.now) (g.O.Sink.given c.give_report.new.out)) (seen (g.D.Disk.told c.args.disk.now))
+    (λ v is.
+    let here = told_at (λ v. (c.in-Ok.status ≡ words_status w v) × (c.judge_words.new.report.items ≡ c.new-report.result.items ++ words_text w v)) (seen (g.D.Disk.told c.args.disk.now)) v is c.in-Ok.ensures.told in
+    under_printed v n c.as_slice.result.now w c.in-Ok.status c.give_report.result _ _ here.0 (c.as_slice.ensures.value ∙ (here.1 ∙ ap (λ l. l ++ words_text w v) c.new-report.ensures.items)) c.give_report.ensures.prints)
+
+pub returns-in-Ok-clause-causes : goal.returns-in-Ok-clause-causes
+returns-in-Ok-clause-causes g c = causes_then c.give_report.result _ _ (g.D.Disk.faults c.args.disk.now) (g.D.Disk.faults c.judge_words.new.disk) _ (c.in-Ok.ensures.causes 0).disk_later (c.give_report.ensures.causes (g.D.Disk.faults c.judge_words.new.disk))
+
+pub returns-clause-causes : goal.returns-clause-causes
+returns-clause-causes g c = same_causes c.in-Err.fault (g.O.Sink.faults c.args.out.now) _ _ (g.D.Disk.faults c.args.disk.now) _ (omega arith) (c.in-Err.ensures.causes (g.O.Sink.faults c.args.out.now))
