@@ -26,6 +26,15 @@ use Rattle.sccs_words.specs.declared.commands.GetWords.{GetWords}
 use Rattle.sccs_get.specs.AskedVersion.{asked, spec_asked}
 use Rattle.sccs_get.specs.declared.targets.Asked.{Asked}
 
+-- the numbers of the checks on the releases, and on the SID that is to be made
+abbrev pub release_checks : List ℕ
+release_checks = number_of refusals.OutsideRelease ∷ number_of refusals.LockedRelease ∷ []
+
+abbrev pub sid_checks : List ℕ
+sid_checks =
+    number_of refusals.OutsideRelease ∷ number_of refusals.LockedRelease ∷ number_of refusals.BeingEdited
+    ∷ number_of refusals.GExists ∷ number_of refusals.Full ∷ []
+
 -- the numbers of the checks of get -e
 abbrev pub edit_checks : List ℕ
 edit_checks =

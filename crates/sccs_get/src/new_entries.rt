@@ -1,4 +1,4 @@
-ghost use Rattle.std.specs.Prelude.{◌≡◌, ◌≢◌, ◌∷◌, [], All, Err, IfOk, OnOk, false, true};
+ghost use Rattle.std.specs.Prelude.{◌≡◌, ◌≢◌, All, Err, IfOk, OnOk, false, true};
 ghost use Rattle.std.specs.List.{AllByRecursion};
 ghost use Rattle.sccs_sid.specs.Moment.{IsMoment};
 ghost use Rattle.sccs_sid.specs.Sid.{IsComponent, IsSid};
@@ -11,7 +11,7 @@ ghost use Rattle.sccs_pending.specs.PFiles.{Answers, Passes};
 ghost use Rattle.sccs_pfile.specs.Entries.{IsEdit};
 ghost use Rattle.sccs_sets.specs.Made.{to_be_made};
 ghost use Rattle.sccs_steps.specs.Actions.{RefusesWithin};
-ghost use Rattle.sccs_get.specs.NewEntry.{AreEditValues, edit_checks, free_sid, is_got, new_edit, new_entry, release_asked, release_made, released, reserved, singles};
+ghost use Rattle.sccs_get.specs.NewEntry.{AreEditValues, edit_checks, free_sid, is_got, new_edit, new_entry, release_asked, release_checks, release_made, released, reserved, sid_checks, singles};
 ghost use Rattle.sccs_get.specs.AskedVersion.{spec_asked};
 
 use crate::targets::{Asked, asked_of};
@@ -38,7 +38,7 @@ fn release_made(got: Sid, made: Option<Sid>) -> u16
 #[tactic(auto, unfolding(crate::specs::NewEntry::released))]
 fn check_releases(header: &Header, got: Sid, made: Option<Sid>) -> Result<(), StepFault>
     ensures value { Passes (released header.now got made) result }
-    ensures checks { RefusesWithin (17 ∷ 18 ∷ []) result }
+    ensures checks { RefusesWithin release_checks result }
     ensures memory { result ≢ Err faults.Memory }
     ensures broke { result ≢ Err faults.DiskFault }
 {
@@ -72,7 +72,7 @@ fn free_sid(
     made: Option<Sid>,
 ) -> Result<Sid, StepFault>
     ensures value { Answers (free_sid header.now edits.now in_the_way got made) result }
-    ensures checks { RefusesWithin (17 ∷ 18 ∷ 19 ∷ 25 ∷ 33 ∷ []) result }
+    ensures checks { RefusesWithin sid_checks result }
     ensures memory { result ≢ Err faults.Memory }
     ensures broke { result ≢ Err faults.DiskFault }
 {

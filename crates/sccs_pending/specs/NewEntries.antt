@@ -1,5 +1,5 @@
 -- A p-file that is to have these entries, and what else a step makes of the files of its name.
-use Rattle.std.specs.Prelude.{◌≡◌, ℕ, ◌-◌, Bool, false, List, [], drop, slice_get, Option, None, Some, IfSome, option_map, unwrap_or, Result, Ok, Err, if◌then◌else◌}
+use Rattle.std.specs.Prelude.{◌≡◌, ℕ, ◌-◌, Bool, false, List, [], ◌∷◌, drop, slice_get, Option, None, Some, IfSome, option_map, unwrap_or, Result, Ok, Err, if◌then◌else◌}
 use Rattle.sccs_base.specs.Name.{p_file, q_file, y_file}
 use Rattle.sccs_disk.specs.Files.{Content, View}
 use Rattle.sccs_disk.specs.Told.{Told, seen}
@@ -7,6 +7,7 @@ use Rattle.sccs_disk.specs.Calls.{IsThere}
 use Rattle.std.specs.Str.{bytes_eq}
 use Rattle.sccs_files.specs.StepFiles.{Files, Moves}
 use Rattle.sccs_sid.specs.Reading.{◌>>=◌}
+use Rattle.sccs_sid.specs.Refusal.{number_of}
 use Rattle.sccs_sid.specs.Sid.{sid_text}
 use Rattle.sccs_sid.specs.declared.refusals.StepFault.{StepFault}
 use Rattle.sccs_sid.specs.declared.refusals.StepFault.TheVariants.{Refused}
@@ -26,6 +27,10 @@ use Rattle.sccs_transactions.specs.declared.prepared.Prepared.{Prepared}
 -- the p-file has these entries, the g-file is this, and so much is reported on out
 abbrev pub with_entries : Files → List Edit → Option Content → List ℕ → StepEffect
 with_entries f edits g report = record { new = Some (record { s = f.s; p = pfile_of edits; z = None; g = g }); text = []; out = report; err = []; status = 0 }
+
+-- the numbers of the checks on the entry that is meant
+abbrev pub choice_checks : List ℕ
+choice_checks = number_of refusals.NoEdit ∷ number_of refusals.ManyEdits ∷ []
 
 -- the number of the entry that is meant, from 1; or none is pending, or the SID must be specified
 abbrev pub or_no_edit : Choice → Result ℕ Refusal

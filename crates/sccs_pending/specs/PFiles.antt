@@ -1,10 +1,11 @@
 -- The p-file of a name, read whole. One that isn't there has no entries.
-use Rattle.std.specs.Prelude.{◌≡◌, ◌≢◌, ℕ, ◌≤◌, nat_le, Bool, true, List, [], length, Option, None, Some, Result, Ok, Err}
+use Rattle.std.specs.Prelude.{◌≡◌, ◌≢◌, ℕ, ◌≤◌, nat_le, Bool, true, List, [], ◌∷◌, length, Option, None, Some, Result, Ok, Err}
 use Rattle.sccs_base.specs.Constants.{file_limit}
 use Rattle.sccs_base.specs.Stream.{Rose}
 use Rattle.sccs_disk.specs.Files.{Content}
 use Rattle.sccs_disk.specs.Told.{Told}
 use Rattle.sccs_sid.specs.Reading.{◌>>=◌}
+use Rattle.sccs_sid.specs.Refusal.{number_of}
 use Rattle.sccs_sid.specs.declared.refusals.Refusal.{Refusal}
 use Rattle.sccs_sid.specs.declared.refusals.Refusal.TheVariants.{BadPfile, TooLong}
 use Rattle.sccs_sid.specs.declared.refusals.StepFault.{StepFault}
@@ -61,3 +62,14 @@ pub record OnlyReads {D T : Type 0} (told : D → Told) (faults : D → ℕ) (di
 -- the bytes of the p-file, or that they are too many
 abbrev pub short_bytes : Option Content → Result (List ℕ) Refusal
 short_bytes p = check (is_short p) TooLong >>= λ short. Ok (bytes_or_none p)
+
+-- ---- the numbers of its checks: its size, the entries of its bytes, both
+
+abbrev pub size_checks : List ℕ
+size_checks = number_of TooLong ∷ []
+
+abbrev pub entry_checks : List ℕ
+entry_checks = number_of (BadPfile 0) ∷ []
+
+abbrev pub pfile_checks : List ℕ
+pfile_checks = number_of TooLong ∷ number_of (BadPfile 0) ∷ []

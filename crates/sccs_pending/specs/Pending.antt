@@ -31,12 +31,18 @@ abbrev pub agreeing : Option ℕ → Result Bool Refusal
 agreeing None = Ok true
 agreeing (Some entry) = Err (Disagree entry)
 
--- the numbers of these checks
+-- the numbers of these checks, of those of a size and of those on a table
 abbrev pub pending_checks : List ℕ
 pending_checks =
     number_of refusals.Missing ∷ number_of refusals.TooLong ∷ number_of refusals.NotSccs
     ∷ number_of (refusals.BadSum 0 0) ∷ number_of (refusals.BadFormat 0) ∷ number_of refusals.Encoded
     ∷ number_of (refusals.BadPfile 0) ∷ number_of (refusals.Disagree 0) ∷ []
+
+abbrev pub sfile_size_checks : List ℕ
+sfile_size_checks = number_of refusals.Missing ∷ number_of refusals.TooLong ∷ []
+
+abbrev pub agreement_checks : List ℕ
+agreement_checks = number_of (refusals.Disagree 0) ∷ []
 
 -- What is found in an s-file and a p-file; or the first check that fails: there is no s-file, one of the two is too long, the
 -- s-file isn't one, a line of the p-file is no entry, or an entry doesn't agree with the table.

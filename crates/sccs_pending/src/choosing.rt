@@ -1,9 +1,9 @@
-ghost use Rattle.std.specs.Prelude.{◌≢◌, ◌<◌, ◌≤◌, ◌∷◌, [], Err, IfOk, length};
+ghost use Rattle.std.specs.Prelude.{◌≢◌, ◌<◌, ◌≤◌, Err, IfOk, length};
 ghost use Rattle.std.specs.Option.{option_copied};
 ghost use Rattle.sccs_pfile.specs.Choices.{choice, fits};
 ghost use Rattle.sccs_sid.specs.declared.refusals.StepFault.TheVariants as fault;
 ghost use Rattle.sccs_steps.specs.Actions.{RefusesWithin};
-ghost use Rattle.sccs_pending.specs.NewEntries.{or_no_edit};
+ghost use Rattle.sccs_pending.specs.NewEntries.{choice_checks, or_no_edit};
 ghost use Rattle.sccs_pending.specs.PFiles.{Answers};
 
 use sccs_base::Login;
@@ -22,7 +22,7 @@ pub fn chosen(
     ensures value { Answers (or_no_edit (choice (fits login.now (option_copied sid.entry) by_got) edits.now)) result }
     ensures some { IfOk result (λ number. 0 < number) }
     ensures there { IfOk result (λ number. number ≤ length edits.now) }
-    ensures checks { RefusesWithin (13 ∷ 14 ∷ []) result }
+    ensures checks { RefusesWithin choice_checks result }
     ensures memory { result ≢ Err fault.Memory }
     ensures broke { result ≢ Err fault.DiskFault }
 {

@@ -1,4 +1,4 @@
-ghost use Rattle.std.specs.Prelude.{◌≢◌, ◌∷◌, [], All, Err, IfOk, IfSome};
+ghost use Rattle.std.specs.Prelude.{◌≢◌, All, Err, IfOk, IfSome};
 ghost use Rattle.sccs_base.specs.Name.{IsSfile, p_file};
 ghost use Rattle.sccs_disk.specs.Files.{View};
 ghost use Rattle.sccs_disk.specs.Told.{seen};
@@ -9,7 +9,7 @@ ghost use Rattle.sccs_sid.specs.declared.refusals.StepFault.TheVariants as fault
 ghost use Rattle.sccs_steps.specs.Actions.{RefusesWithin};
 ghost use Rattle.sccs_table.specs.FrontFile.{IsPlaced};
 ghost use Rattle.sccs_pending.specs.PFiles.{OnlyReads, Passes};
-ghost use Rattle.sccs_pending.specs.Pending.{AnswersPending, agreeing, pending_checks, sized};
+ghost use Rattle.sccs_pending.specs.Pending.{AnswersPending, agreeing, agreement_checks, pending_checks, sfile_size_checks, sized};
 
 use crate::pfiles::{entries, read_p};
 use sccs_base::{FILE_LIMIT, Name};
@@ -31,7 +31,7 @@ pub struct Pending {
 // whether the s-file is there, and not too long
 fn check_size<D: Disk>(disk: &mut D, name: &Name) -> Result<(), StepFault>
     ensures told { IfSome (seen (D.told disk.old)) (λ (v : View). Passes (sized (v name.now)) result) }
-    ensures checks { RefusesWithin (3 ∷ 5 ∷ []) result }
+    ensures checks { RefusesWithin sfile_size_checks result }
     ensures frame { OnlyReads D.told D.faults disk.old disk.new result }
 {
     match disk.size(name) {
@@ -51,7 +51,7 @@ fn check_size<D: Disk>(disk: &mut D, name: &Name) -> Result<(), StepFault>
 fn check_agreement(alloc: Global, header: &Header, edits: &Edits) -> Result<(), StepFault>
     ensures value { Passes (agreeing (first_disagreeing header.now.records edits.now)) result }
     ensures agrees { IfOk result (λ _. Agrees header.now.records edits.now) }
-    ensures checks { RefusesWithin (11 ∷ []) result }
+    ensures checks { RefusesWithin agreement_checks result }
     ensures fault { result ≢ Err faults.Memory }
     ensures broke { result ≢ Err faults.DiskFault }
 {

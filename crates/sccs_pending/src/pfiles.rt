@@ -1,4 +1,4 @@
-ghost use Rattle.std.specs.Prelude.{◌≢◌, ◌∷◌, [], All, Err, IfOk, IfSome};
+ghost use Rattle.std.specs.Prelude.{◌≢◌, All, Err, IfOk, IfSome};
 ghost use Rattle.sccs_base.specs.Name.{IsSfile, p_file};
 ghost use Rattle.sccs_disk.specs.Files.{View};
 ghost use Rattle.sccs_disk.specs.Told.{seen};
@@ -6,7 +6,7 @@ ghost use Rattle.sccs_pfile.specs.Entries.{IsEdit};
 ghost use Rattle.sccs_pfile.specs.Reading.{edits_of};
 ghost use Rattle.sccs_sid.specs.declared.refusals.StepFault.TheVariants as fault;
 ghost use Rattle.sccs_steps.specs.Actions.{RefusesWithin};
-ghost use Rattle.sccs_pending.specs.PFiles.{Answers, OnlyReads, entries_of, or_bad_pfile, short_bytes};
+ghost use Rattle.sccs_pending.specs.PFiles.{Answers, OnlyReads, entries_of, entry_checks, or_bad_pfile, pfile_checks, short_bytes, size_checks};
 
 use sccs_base::{Bytes, Name};
 use sccs_disk::Disk;
@@ -18,7 +18,7 @@ use std::alloc::Global;
 // the bytes of a file; none where it isn't there
 fn read_bytes<D: Disk>(alloc: Global, disk: &mut D, file: &Name) -> Result<Bytes, StepFault>
     ensures told { IfSome (seen (D.told disk.old)) (λ (v : View). Answers (short_bytes (v file.now)) result) }
-    ensures checks { RefusesWithin (5 ∷ []) result }
+    ensures checks { RefusesWithin size_checks result }
     ensures frame { OnlyReads D.told D.faults disk.old disk.new result }
 {
     match read_whole(alloc, disk, file) {
@@ -35,7 +35,7 @@ fn read_bytes<D: Disk>(alloc: Global, disk: &mut D, file: &Name) -> Result<Bytes
 pub fn read_p<D: Disk>(alloc: Global, disk: &mut D, name: &Name) -> Result<Bytes, StepFault>
     requires { IsSfile name.now }
     ensures told { IfSome (seen (D.told disk.old)) (λ (v : View). Answers (short_bytes (v (p_file name.now))) result) }
-    ensures checks { RefusesWithin (5 ∷ []) result }
+    ensures checks { RefusesWithin size_checks result }
     ensures frame { OnlyReads D.told D.faults disk.old disk.new result }
 {
     read_bytes(alloc, disk, &name.sibling(b'p'))
@@ -45,7 +45,7 @@ pub fn read_p<D: Disk>(alloc: Global, disk: &mut D, name: &Name) -> Result<Bytes
 pub fn entries(alloc: Global, bytes: &[u8]) -> Result<Edits, StepFault>
     ensures value { Answers (or_bad_pfile (edits_of bytes.now)) result }
     ensures valid { IfOk result (All IsEdit) }
-    ensures checks { RefusesWithin (10 ∷ []) result }
+    ensures checks { RefusesWithin entry_checks result }
     ensures broke { result ≢ Err fault.DiskFault }
     ensures read { result ≢ Err fault.ReadFault }
     ensures write { result ≢ Err fault.WriteFault }
@@ -64,7 +64,7 @@ pub fn read_pfile<D: Disk>(alloc: Global, disk: &mut D, name: &Name) -> Result<E
     requires { IsSfile name.now }
     ensures told { IfSome (seen (D.told disk.old)) (λ (v : View). Answers (entries_of (v (p_file name.now))) result) }
     ensures valid { IfOk result (All IsEdit) }
-    ensures checks { RefusesWithin (5 ∷ 10 ∷ []) result }
+    ensures checks { RefusesWithin pfile_checks result }
     ensures frame { OnlyReads D.told D.faults disk.old disk.new result }
 {
     match read_p(alloc, disk, name) {
