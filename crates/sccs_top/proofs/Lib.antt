@@ -1,4 +1,5 @@
-pub mod FollowingLaws
-pub mod RunLaws
 pub mod AdminValues
+pub mod FollowingLaws
+pub mod ListedRuns
 pub mod MadeHistoryLaws
+pub mod RunLaws
