@@ -78,6 +78,16 @@ impl<T> ListOf<T> {
         self.items.remove(place as usize);
     }
 
+    /// Puts an item in the place of another.
+    pub fn replace(&mut self, place: u64, item: T)
+    where
+        T: Drop,
+        requires { place < length self.old }
+        ensures { self.new ≡ set self.old place item }
+    {
+        self.items[place as usize] = item;
+    }
+
     /// Puts an item at the end. At want of memory nothing changes.
     pub fn push(&mut self, item: T) -> Result<(), Memory>
     where

@@ -26,7 +26,7 @@ fn are_ranges(records: &[Record], ranges: &[Range]) -> bool
 }
 
 // whether some range of a list goes over a SID
-fn is_listed(ranges: &[Range], sid: Sid) -> bool
+pub fn is_listed(ranges: &[Range], sid: Sid) -> bool
     ensures { result ≡ is_listed ranges.now sid }
 {
     ranges.iter().any(|range| in_range(range, sid))

@@ -9,7 +9,7 @@ mod makers;
 mod reading;
 mod writing;
 
-pub use agreement::{Disagree, agree};
+pub use agreement::{Disagree, agree, is_listed};
 pub use choosing::{Choice, choose, release, reserve};
 pub use entries::{Edit, Edits, PfileFault};
 pub use laws::{

@@ -30,7 +30,7 @@ fn next(number: u16) -> Option<u16>
 }
 
 // whether a SID comes after another on its line
-fn comes_after(got: Sid, sid: Sid) -> bool
+pub fn comes_after(got: Sid, sid: Sid) -> bool
     ensures { result ≡ comes_after got sid }
 {
     one_line(got, sid) && !not_after(sid, got)
