@@ -1,5 +1,5 @@
 -- After runs each version is its replay.
-use Rattle.std.proofs.Common.{◌≡◌, ℕ, zero, suc, Bool, true, false, ◌&&◌, List, [], ◌∷◌, take, map, Option, Result, Ok, Err, inl, inr, refl, sym, ap, subst, ⊎_elim}
+use Rattle.std.proofs.Common.{◌≡◌, ℕ, zero, suc, Bool, true, false, ◌&&◌, List, [], ◌∷◌, take, map, Option, None, Some, Result, Ok, Err, inl, inr, refl, sym, ap, subst, ⊎_elim}
 use Rattle.std.specs.Prelude.{if◌then◌else◌, is_some}
 use Rattle.std.specs.List.{AllByRecursion}
 use Rattle.std.specs.Str.{bytes_eq}
@@ -13,6 +13,7 @@ use Rattle.sccs_words.specs.Meaning.{meaning}
 use Rattle.sccs_words.specs.declared.commands.Command.{Command}
 use Rattle.sccs_words.specs.declared.commands.Command.TheVariants as c
 use Rattle.sccs_words.specs.declared.commands.Usage.{Usage}
+use Rattle.sccs_words.specs.declared.commands.ValWords.{ValWords}
 use Rattle.sccs_files.specs.StepFiles.{Files, look, moved_in}
 use Rattle.sccs_steps.specs.Actions.{Action, KeepsFiles}
 use Rattle.sccs_steps.specs.StepLists.{NamedStep, folder_after}
@@ -29,8 +30,9 @@ use Rattle.sccs_transactions.specs.Changes.{locking}
 use Rattle.sccs_transactions.specs.Utilities.{locking_keeps}
 use Rattle.sccs_delta.specs.Replays.{Texts}
 use Rattle.sccs_prs.specs.Keeps.{prs_keeps}
+use Rattle.sccs_val.proofs.RunLaws.{val_keeps, val_leaves}
 use Rattle.sccs_what.specs.Checks.{what_keeps}
-use Rattle.sccs_top.specs.Runs.{Caller, action_meant, action_of, has_heading, operands_of, run_steps, usage_step}
+use Rattle.sccs_top.specs.Runs.{Caller, action_meant, action_of, has_heading, operands_of, run_steps, steps_by, usage_step, val_words_of}
 use Rattle.sccs_top.specs.Unbuilt.{is_admin_built, unbuilt, unbuilt_keeps}
 use Rattle.sccs_replays.specs.PastRuns.{AreInTurn, HasVersions, IsPastRun, PastRun, folder_after_run, replay, s_file_after, steps_of, versions_after_command, versions_after_run, versions_after_step, versions_after_steps}
 use Rattle.sccs_replays.proofs.LeftFiles.{other_file, own_file}
@@ -54,7 +56,7 @@ command_keeps who (c.Unget words operands) = locking_keeps (unget_change words w
 command_keeps who (c.Sact operands) = sact_keeps (has_heading operands)
 command_keeps who (c.Rmdel sid operands) = unbuilt_keeps false false
 command_keeps who (c.Prs words operands) = prs_keeps words who.place
-command_keeps who (c.Val words) = unbuilt_keeps true true
+command_keeps who (c.Val words) = val_keeps words (λ name. None)
 command_keeps who (c.What first operands) = what_keeps first
 command_keeps who (c.Recover operands) = recover_keeps
 command_keeps who c.Batch = unbuilt_keeps true true
@@ -115,11 +117,16 @@ usage_leaves m usage zero = refl
 usage_leaves m usage (suc zero) = refl
 usage_leaves m usage (suc (suc count)) = refl
 
+-- the steps of a command
+are_made : (val : Option ValWords) (x : Action) (m : Folder) (i : List ℕ) (operands : List (List ℕ)) → AreStepsOf x i m (steps_by val x operands m i)
+are_made None x m i operands = are_steps x m i operands
+are_made (Some words) x m i operands = (inl (val_leaves words m i), tt)
+
 run_goes : (n : List ℕ) (r : PastRun) (meant : Result Command Usage) (texts : Texts) → IsSfile n → IsMoment r.who.stamp.moment → IsLogin r.who.stamp.login → AreMeantValues meant → ArePlain (action_meant r.who meant) (steps_of r meant)
     → HasVersions (view_in r.folder n) texts → HasVersions (view_in (folder_after r.folder (steps_of r meant)) n) (versions_after_run n r meant texts)
 run_goes n r (Ok command) texts sfile moment login values plain has =
     steps_go r.who command r.input n r.folder (steps_of r (Ok command)) texts sfile moment login values plain
-    (are_some (action_of r.who command) r.input r.made r.folder (run_steps r.who (Ok command) r.folder r.input) (are_steps (action_of r.who command) r.folder r.input (operands_of command))) has
+    (are_some (action_of r.who command) r.input r.made r.folder (run_steps r.who (Ok command) r.folder r.input) (are_made (val_words_of command) (action_of r.who command) r.folder r.input (operands_of command))) has
 run_goes n r (Err usage) texts sfile moment login values plain has = subst (λ (u : Folder). HasVersions (view_in u n) texts) (sym (usage_leaves r.folder usage r.made)) has
 
 pub runs_replayed : (n : List ℕ) (s : Option Content) (texts : Texts) (runs : List PastRun) → IsSfile n → AllByRecursion IsPastRun runs → AreInTurn n s runs → HasVersions s texts

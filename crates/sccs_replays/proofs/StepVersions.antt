@@ -31,6 +31,8 @@ use Rattle.sccs_get.specs.EditStep.{edit_change, edit_outcome}
 use Rattle.sccs_get.specs.VersionStep.{get_action}
 use Rattle.sccs_prs.specs.Keeps.{prs_keeps}
 use Rattle.sccs_prs.specs.PrsStep.{prs_action}
+use Rattle.sccs_val.proofs.RunLaws.{val_keeps}
+use Rattle.sccs_val.specs.ValStep.{val_action}
 use Rattle.sccs_what.specs.Checks.{what_keeps}
 use Rattle.sccs_what.specs.WhatStep.{what_action}
 use Rattle.sccs_top.specs.Runs.{Caller, action_of, has_heading}
@@ -177,7 +179,7 @@ command_goes who (c.Unget words operands) i n m texts d moment login values is =
 command_goes who (c.Sact operands) i n m texts d moment login values is = left (view_in m n) _ d texts (sact_leaves (has_heading operands) n (look (view_in m) n)) is
 command_goes who (c.Rmdel sid operands) i n m texts d moment login values is = refused m n texts d is
 command_goes who (c.Prs words operands) i n m texts d moment login values is = reading_goes (prs_action words who.place) i n m texts d (prs_keeps words who.place) refl is
-command_goes who (c.Val words) i n m texts d moment login values is = refused m n texts d is
+command_goes who (c.Val words) i n m texts d moment login values is = reading_goes (val_action words) i n m texts d (val_keeps words (λ name. None)) refl is
 command_goes who (c.What first operands) i n m texts d moment login values is = reading_goes (what_action first) i n m texts d (what_keeps first) refl is
 command_goes who (c.Recover operands) i n m texts d moment login values is = left (view_in m n) _ d texts (recover_leaves n (look (view_in m) n)) is
 command_goes who c.Batch i n m texts d moment login values is = refused m n texts d is

@@ -1,6 +1,7 @@
 mod disks;
 mod gets;
 mod hostile;
+mod judged;
 mod long_lines;
 mod new_files;
 mod operands;

@@ -11,6 +11,7 @@ mod streams;
 mod utilities;
 
 pub use faults::Fault;
+pub use names::conclude;
 pub use operands::{is_several, run_operand, run_operands};
 pub use ordinary::Ordinary;
 pub use statuses::{StatusRule, with_status};

@@ -1,5 +1,5 @@
 -- What a run does: the steps that its words mean, one for each operand in their order.
-use Rattle.std.specs.Prelude.{◌≡◌, ◌≢◌, ℕ, ◌<◌, nat_lt, ◌⊎◌, Bool, true, false, ◌&&◌, ◌||◌, List, [], ◌∷◌, length, Option, None, Result, Ok, Err, IsOk, codes, if◌then◌else◌}
+use Rattle.std.specs.Prelude.{◌≡◌, ◌≢◌, ℕ, ◌<◌, nat_lt, ◌⊎◌, Bool, true, false, ◌&&◌, ◌||◌, List, [], ◌∷◌, length, Option, None, Some, Result, Ok, Err, IsOk, codes, if◌then◌else◌}
 use Rattle.std.specs.List.{list_any}
 use Rattle.sccs_disk.specs.Files.{Folder, Model, view_in}
 use Rattle.sccs_disk.specs.Told.{Told, Tells, seen}
@@ -10,6 +10,7 @@ use Rattle.sccs_sid.specs.declared.moments.Stamp.{Stamp}
 use Rattle.sccs_words.specs.declared.commands.Usage.{Usage}
 use Rattle.sccs_words.specs.declared.commands.GetWords.{GetWords}
 use Rattle.sccs_words.specs.declared.commands.Operands.{Operands}
+use Rattle.sccs_words.specs.declared.commands.ValWords.{ValWords}
 use Rattle.sccs_words.specs.declared.commands.Command.{Command}
 use Rattle.sccs_words.specs.declared.commands.Command.TheVariants as c
 use Rattle.sccs_files.specs.StepFiles.{is_working, nowhere, Shows}
@@ -17,8 +18,9 @@ use Rattle.sccs_steps.specs.Actions.{Action, AreClear, hears, is_several, steps_
 use Rattle.sccs_steps.specs.Calls.{Scene, World, shown}
 use Rattle.sccs_steps.specs.ListStops.{AreSafe, RunMoments}
 use Rattle.sccs_steps.specs.Recovering.{has_made}
-use Rattle.sccs_steps.specs.Running.{IsInput}
-use Rattle.sccs_steps.specs.Speaking.{SpeakAll, SpeakAs}
+use Rattle.sccs_steps.specs.Running.{IsInput, RunsSteps}
+use Rattle.sccs_steps.specs.Settings.{Setting}
+use Rattle.sccs_steps.specs.Speaking.{SpeakAll, SpeakAs, SpeaksOne}
 use Rattle.sccs_steps.specs.StepLists.{ListInterrupted, NamedStep, Runs, Stopped, Waits}
 use Rattle.sccs_steps.specs.Unlocked.{ArePlain}
 use Rattle.sccs_steps.specs.declared.faults.Fault.{Fault}
@@ -34,6 +36,7 @@ use Rattle.sccs_get.specs.EditStep.{edit_change}
 use Rattle.sccs_get.specs.VersionStep.{get_action}
 use Rattle.sccs_recovery.specs.RecoverStep.{recover_action}
 use Rattle.sccs_prs.specs.PrsStep.{prs_action}
+use Rattle.sccs_val.specs.ValStep.{val_action, val_operands, val_steps}
 use Rattle.sccs_what.specs.WhatStep.{what_action}
 use Rattle.sccs_top.specs.Messages.{usage_line}
 use Rattle.sccs_top.specs.Unbuilt.{is_admin_built, unbuilt}
@@ -55,7 +58,7 @@ operands_of (c.Rmdel sid operands) = words_in operands
 operands_of (c.Prs words operands) = words_in operands
 operands_of (c.What first operands) = words_in operands
 operands_of (c.Recover operands) = words_in operands
-operands_of (c.Val words) = codes "-" ∷ []
+operands_of (c.Val words) = val_operands words
 operands_of c.Batch = codes "-" ∷ []
 operands_of (c.Soak number) = codes "-" ∷ []
 
@@ -85,10 +88,29 @@ action_of who (c.Sact operands) = sact_action (has_heading operands)
 action_of who (c.Recover operands) = recover_action
 action_of who (c.Prs words operands) = prs_action words who.place
 action_of who (c.What first operands) = what_action first
-action_of who (c.Val words) = unbuilt true true
+action_of who (c.Val words) = val_action words
 action_of who c.Batch = unbuilt true true
 action_of who (c.Soak number) = unbuilt true true
 action_of who command = unbuilt false false
+
+-- the words of val, where the command is that: what it makes is one step, since lines of the input may name the files that it reads
+abbrev pub val_words_of : Command → Option ValWords
+val_words_of (c.Val words) = Some words
+val_words_of command = None
+
+-- the steps of a command in a folder, with an input
+abbrev pub steps_by : Option ValWords → Action → List (List ℕ) → Folder → List ℕ → List NamedStep
+steps_by None x operands m i = steps_at x m i operands
+steps_by (Some words) x operands m i = val_steps words m i
+
+-- what such steps answer and write on err, over any disk
+abbrev pub SpeakSteps : Option ValWords → Action → List (List ℕ) → Result ℕ Fault → Option (List ℕ) → Option (List ℕ) → Type 0
+SpeakSteps None x operands = SpeakAll x operands
+SpeakSteps (Some words) x operands = SpeaksOne x (codes "-")
+
+-- a call that makes the steps of a command
+abbrev pub RunsCommand : Option ValWords → Action → List (List ℕ) → Result ℕ Fault → Setting → Setting → Type 0
+RunsCommand val x operands r s = RunsSteps x (steps_by val x operands) (IsInput x operands s.left) (SpeakSteps val x operands) (hears x operands) r s
 
 -- the message of a usage fault, as a step
 abbrev pub usage_step : Usage → NamedStep
@@ -97,7 +119,7 @@ usage_step usage = record { name = []; effect = record { new = None; text = []; 
 -- the steps of a run in a folder, with an input
 abbrev pub run_steps : Caller → Result Command Usage → Folder → List ℕ → List NamedStep
 run_steps who (Err usage) m i = usage_step usage ∷ []
-run_steps who (Ok command) m i = steps_at (action_of who command) m i (operands_of command)
+run_steps who (Ok command) m i = steps_by (val_words_of command) (action_of who command) (operands_of command) m i
 
 -- the working files of the names of steps
 abbrev pub working_of : Action → List NamedStep → List ℕ → Bool
@@ -149,7 +171,7 @@ made_by DiskFault = Err ends.DiskFault
 -- over any disk: some outcomes of the operands that may come explain the status and what is written on err
 abbrev pub SpeaksWords : Caller → Result Command Usage → Answer → Option (List ℕ) → Option (List ℕ) → Type 0
 SpeaksWords who (Err usage) answer err err2 = SpeakAs Greatest (usage_step usage ∷ []) (made_by answer) err err2
-SpeaksWords who (Ok command) answer err err2 = SpeakAll (action_of who command) (operands_of command) (made_by answer) err err2
+SpeaksWords who (Ok command) answer err err2 = SpeakSteps (val_words_of command) (action_of who command) (operands_of command) (made_by answer) err err2
 
 -- whether the words change no file, write nothing on out, and take no input
 abbrev pub only_reads : Caller → Result Command Usage → Bool

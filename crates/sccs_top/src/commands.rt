@@ -1,4 +1,4 @@
-ghost use Rattle.std.specs.Prelude.{◌≡◌, true, false, OnOk, OnErr};
+ghost use Rattle.std.specs.Prelude.{◌≡◌, true, false, None, option_map, OnOk, OnErr};
 ghost use Rattle.sccs_sid.specs.Moment.{IsMoment};
 ghost use Rattle.sccs_words.specs.Meaning.{meaning};
 ghost use Rattle.sccs_words.specs.ValidValues.{AreGetValues, HasValidValues};
@@ -9,7 +9,7 @@ ghost use Rattle.sccs_steps.specs.Settings.{SameLoans, setting, setting_of};
 ghost use Rattle.sccs_steps.specs.declared.faults.Fault.TheVariants as ends;
 ghost use Rattle.sccs_top.specs.Listing.{action_in, words_of};
 ghost use Rattle.sccs_top.specs.Unbuilt.{unbuilt};
-ghost use Rattle.sccs_top.specs.Runs.{MakesSteps, RecoversRun, SpeaksWords, StopsSteps, UnlockedSteps, action_of, caller, get_in, has_heading, is_silent, made_by, only_reads, operands_of, takes_input};
+ghost use Rattle.sccs_top.specs.Runs.{MakesSteps, RecoversRun, RunsCommand, SpeaksWords, StopsSteps, UnlockedSteps, action_of, caller, get_in, has_heading, is_silent, made_by, only_reads, operands_of, takes_input, val_words_of};
 
 use crate::answers::Answer;
 use crate::messages::write_usage;
@@ -27,8 +27,9 @@ use sccs_steps::{
     Fault, Ordinary, Streams, UtilityWithStatus, is_several, run_operand, run_operands,
 };
 use sccs_transactions::Locking;
+use sccs_val::run_val;
 use sccs_what::What;
-use sccs_words::{Command, GetWords, Operands, WordsFault, read_words};
+use sccs_words::{Command, GetWords, Operands, ValWords, WordsFault, read_words};
 use std::alloc::Global;
 
 // how a command ends whose steps end so
@@ -105,6 +106,7 @@ fn unbuilt<'a>(any: bool, takes: bool) -> Known<'a>
 }
 
 fn utility_of<'a>(command: &'a Command, stamp: &'a Stamp, place: &'a Line) -> Known<'a>
+    requires other { val_words_of command.now ≡ None }
     requires values { HasValidValues command.now }
     requires moment { IsMoment stamp.now.moment }
     ensures { action_in result ≡ action_of (caller stamp.now place.now) command.now }
@@ -136,7 +138,8 @@ fn utility_of<'a>(command: &'a Command, stamp: &'a Stamp, place: &'a Line) -> Kn
         Command::Recover(_) => Known::Recover(Recover),
         Command::Prs(words, _) => Known::Prs(Prs { words, place }),
         Command::What(first, _) => Known::What(What { first: *first }),
-        Command::Val(_) | Command::Batch | Command::Soak(_) => unbuilt(true, true),
+        Command::Val(_) => unreachable!(),
+        Command::Batch | Command::Soak(_) => unbuilt(true, true),
         _ => unbuilt(false, false),
     }
 }
@@ -149,6 +152,7 @@ enum Listed<'a> {
 }
 
 fn list_operands(command: &Command) -> Listed<'_>
+    requires { val_words_of command.now ≡ None }
     ensures { words_of result ≡ operands_of command.now }
 {
     match command {
@@ -161,7 +165,7 @@ fn list_operands(command: &Command) -> Listed<'_>
         Command::What(_, operands) => Listed::Words(operands),
         Command::Recover(operands) => Listed::Words(operands),
         Command::Delta(_, name) => Listed::Word(name.bytes()),
-        Command::Val(_) => Listed::Word(b"-"),
+        Command::Val(_) => unreachable!(),
         Command::Batch => Listed::Word(b"-"),
         Command::Soak(_) => Listed::Word(b"-"),
     }
@@ -189,7 +193,17 @@ fn run_listed<U: UtilityWithStatus, I: Source, O: Sink, E: Sink, D: Disk>(
     }
 }
 
-// makes the steps of a command
+// the words of val, where the command is that
+fn val_words_of(command: &Command) -> Option<&ValWords>
+    ensures { option_map (λ words. words.now) result ≡ val_words_of command.now }
+{
+    match command {
+        Command::Val(words) => Some(words),
+        _ => None,
+    }
+}
+
+// makes the steps of a command's operands
 fn run_command<I: Source, O: Sink, E: Sink, D: Disk>(
     alloc: Global,
     command: &Command,
@@ -197,6 +211,7 @@ fn run_command<I: Source, O: Sink, E: Sink, D: Disk>(
     place: &Line,
     streams: &mut Streams<I, O, E, D>,
 ) -> Result<u8, Fault>
+    requires other { val_words_of command.now ≡ None }
     requires values { HasValidValues command.now }
     requires moment { IsMoment stamp.now.moment }
     ensures loans { SameLoans streams.old streams.new }
@@ -230,7 +245,7 @@ fn run_lent<I: Source, O: Sink, E: Sink, D: Disk>(
 ) -> Result<u8, Fault>
     requires values { HasValidValues command.now }
     requires moment { IsMoment stamp.now.moment }
-    ensures { RunsOperands (action_of (caller stamp.now place.now) command.now) (operands_of command.now) result
+    ensures { RunsCommand (val_words_of command.now) (action_of (caller stamp.now place.now) command.now) (operands_of command.now) result
         (setting_of I.Source O.Sink E.Sink D.Disk input.old out.old err.old disk.old) (setting_of I.Source O.Sink E.Sink D.Disk input.new out.new err.new disk.new) }
 {
     let mut streams = Streams {
@@ -239,13 +254,16 @@ fn run_lent<I: Source, O: Sink, E: Sink, D: Disk>(
         err,
         disk,
     };
-    run_command(alloc, command, stamp, place, &mut streams)
+    match val_words_of(command) {
+        Some(words) => run_val(alloc, words, &mut streams),
+        None => run_command(alloc, command, stamp, place, &mut streams),
+    }
 }
 
 /// Does a command. The words are those behind the program's name; `stamp` is its moment, of the years
 /// 1969 to 2068, and its login, `place` the folder's path. Texts go to `out`, messages to `err`.
 ///
-/// Built are admin on new files, with `-n` or `-i`, `-r` and `-y`; get, delta, sact, unget, prs, what and recover.
+/// Built are admin on new files, with `-n` or `-i`, `-r` and `-y`; get, delta, sact, unget, prs, val, what and recover.
 ///
 /// A stop at any moment of a run that began on a calm disk, with safe operands, leaves what recovers on all
 /// names as after the same number of steps, no fewer than are acknowledged; and s-files and p-files are firm

@@ -1,15 +1,22 @@
 -- The words of a line, and the command that they are.
-use Rattle.std.proofs.Common.{◌≡◌, ℕ, suc, ◌+◌, ◌<◌, ◌≤◌, length, take, drop, flat_map, get_or, add-one, List, [], ◌∷◌, ◌++◌, Bool, true, false, cond, ◌⊎◌, inl, inr, Option, None, Some, Result, Ok, refl, sym, ap, subst, ◌∙◌, append_assoc, append-nil, codes, IfSome}
+use Rattle.std.proofs.Common.{◌≡◌, ℕ, suc, ◌+◌, ◌<◌, ◌≤◌, nat_lt, ◌&&◌, Err, length, take, drop, flat_map, get_or, add-one, List, [], ◌∷◌, ◌++◌, Bool, true, false, cond, ◌⊎◌, inl, inr, Option, None, Some, Result, Ok, refl, sym, ap, subst, ◌∙◌, append_assoc, append-nil, codes, IfSome}
 use Rattle.std.specs.List.{fold}
 use Rattle.std.specs.Int.Bits.{bit_or}
+use Rattle.std.proofs.lemmas.Bool.{le-ltb, lt-ltb}
 use Rattle.std.proofs.lemmas.List.{take_all}
 use Rattle.std.proofs.lemmas.List.Sums.{fold_more}
+use Rattle.sccs_base.specs.Constants.{file_limit}
 use Rattle.sccs_base.specs.Stream.{GivesOk, GivesSome}
-use Rattle.sccs_base.proofs.Gifts.{gives_both, gives_none, gives_then, part_more, some_longer}
+use Rattle.sccs_base.specs.declared.streams.TakeFault.TheVariants as take
+use Rattle.sccs_base.proofs.Gifts.{gives_both, gives_none, gives_then, part_more, some_longer, some_none}
 use Rattle.sccs_base.proofs.Runs.{pieces_at}
 use Rattle.sccs_disk.specs.Files.{View}
 use Rattle.sccs_base.specs.Cut.{text_of}
+use Rattle.sccs_operands.specs.InputNames.{GivesLines}
+use Rattle.sccs_sid.specs.declared.refusals.Refusal.TheVariants as refusals
 use Rattle.sccs_sid.specs.declared.refusals.StepFault.{StepFault}
+use Rattle.sccs_sid.specs.declared.refusals.StepFault.TheVariants.{Refused, Memory, ReadFault, WriteFault, DiskFault}
+use Rattle.sccs_steps.specs.Actions.{RefusesWithin}
 use Rattle.sccs_words.specs.Meaning.{line_meaning, meaning, utility_of}
 use Rattle.sccs_words.specs.Records.{val_words}
 use Rattle.sccs_words.specs.Scan.{scanned}
@@ -20,7 +27,7 @@ use Rattle.sccs_words.specs.declared.commands.Usage.{Usage}
 use Rattle.sccs_words.specs.declared.commands.ValWords.{ValWords}
 use Rattle.sccs_words.specs.declared.tables.Utility.TheVariants.{Val}
 use Rattle.sccs_val.specs.Reports.{line_heading, line_status, line_text, line_words, lines_status, lines_text, takes_lines, val_status, val_text, words_status, words_text}
-use Rattle.sccs_val.specs.ValStep.{PrintsStatus}
+use Rattle.sccs_val.specs.ValStep.{Judges, PrintsStatus, is_long}
 
 pub words_more : (all all2 more ws : List (List ℕ)) (w copy : List ℕ) → all2 ≡ all ++ (copy ∷ []) → copy ≡ w → ws ≡ w ∷ more → all2 ++ more ≡ all ++ ws
 words_more all all2 more ws w copy added same is = ap (λ l. l ++ more) added ∙ (append_assoc all (copy ∷ []) more ∙ (ap (λ x. all ++ (x ∷ more)) same ∙ ap (λ l. all ++ l) (sym is)))
@@ -84,16 +91,67 @@ printed_all f g things count status a b past so =
 
 -- ---- the whole of val
 
+-- what is printed without reading the input is no refusal
+pub judges_printed : (text : List ℕ) (status : ℕ) (r : Result ℕ StepFault) (a b : Option (List ℕ)) → RefusesWithin [] r → PrintsStatus text status r a b → Judges false text status r a b
+judges_printed text status (Ok n) a b within prints = (refl, prints.0, prints.1)
+judges_printed text status (Err (Refused refusal)) a b within prints = absurd (let no : false ≡ true = within refusal refl in cc)
+judges_printed text status (Err Memory) a b within prints = prints
+judges_printed text status (Err ReadFault) a b within prints = prints
+judges_printed text status (Err WriteFault) a b within prints = prints
+judges_printed text status (Err DiskFault) a b within prints = prints
+
+-- the lines of an input within the limit
+pub judges_lines : (o : Option View) (left : Option (List ℕ)) (lines : List (List ℕ)) (r : Result ℕ StepFault) (a b : Option (List ℕ)) → IfSome left (λ i. GivesLines file_limit i (Ok lines)) → RefusesWithin [] r
+    → IfSome o (λ v. PrintsStatus (lines_text v lines) (lines_status v lines) r a b)
+    → IfSome o (λ v. (i : List ℕ) → left ≡ Some i → Judges (nat_lt file_limit (length i)) (lines_text v (text_of i)) (lines_status v (text_of i)) r a b)
+judges_lines None left lines r a b gives within prints = tt
+judges_lines (Some v) left lines r a b gives within prints = λ i is. by i (subst (λ (t : Option (List ℕ)). IfSome t (λ i. GivesLines file_limit i (Ok lines))) is gives)
+  where
+    by : (i : List ℕ) → (length i ≤ file_limit) × (lines ≡ text_of i) → Judges (nat_lt file_limit (length i)) (lines_text v (text_of i)) (lines_status v (text_of i)) r a b
+    by i (within_limit, same) =
+        subst (λ (t : Bool). Judges t (lines_text v (text_of i)) (lines_status v (text_of i)) r a b) (sym (le-ltb file_limit (length i) within_limit))
+        (subst (λ (l : List (List ℕ)). Judges false (lines_text v l) (lines_status v l) r a b) same (judges_printed (lines_text v lines) (lines_status v lines) r a b within prints))
+
+-- one past it
+pub judges_long : (o : Option View) (left : Option (List ℕ)) (a : Option (List ℕ)) → IfSome left (λ i. GivesLines file_limit i (Err take.TooLong))
+    → IfSome o (λ v. (i : List ℕ) → left ≡ Some i → Judges (nat_lt file_limit (length i)) (lines_text v (text_of i)) (lines_status v (text_of i)) (Err (Refused refusals.TooLong)) a a)
+judges_long None left a gives = tt
+judges_long (Some v) left a gives = λ i is. (lt-ltb file_limit (length i) (subst (λ (t : Option (List ℕ)). IfSome t (λ i. GivesLines file_limit i (Err take.TooLong))) is gives), refl, refl)
+
+-- one that wasn't taken
+abbrev pub IsUntaken : StepFault → Type 0
+IsUntaken (Refused refusal) = ⊥
+IsUntaken Memory = Unit {0}
+IsUntaken ReadFault = Unit {0}
+IsUntaken WriteFault = Unit {0}
+IsUntaken DiskFault = Unit {0}
+
+untaken : (long : Bool) (text : List ℕ) (status : ℕ) (fault : StepFault) (a : Option (List ℕ)) → IsUntaken fault → Judges long text status (Err fault) a a
+untaken long text status (Refused refusal) a is = absurd is
+untaken long text status Memory a is = some_none a (cond long [] text)
+untaken long text status ReadFault a is = some_none a (cond long [] text)
+untaken long text status WriteFault a is = some_none a (cond long [] text)
+untaken long text status DiskFault a is = some_none a (cond long [] text)
+
+pub judges_untaken : (o : Option View) (left : Option (List ℕ)) (fault : StepFault) (a : Option (List ℕ)) → IsUntaken fault
+    → IfSome o (λ v. (i : List ℕ) → left ≡ Some i → Judges (nat_lt file_limit (length i)) (lines_text v (text_of i)) (lines_status v (text_of i)) (Err fault) a a)
+judges_untaken None left fault a is = tt
+judges_untaken (Some v) left fault a is = λ i heard. untaken (nat_lt file_limit (length i)) (lines_text v (text_of i)) (lines_status v (text_of i)) fault a is
+
 pub val_by_lines : (o : Option View) (w : ValWords) (left : Option (List ℕ)) (r : Result ℕ StepFault) (a b : Option (List ℕ)) → takes_lines w ≡ true
-    → IfSome o (λ v. (i : List ℕ) → left ≡ Some i → PrintsStatus (lines_text v (text_of i)) (lines_status v (text_of i)) r a b) → IfSome o (λ v. (i : List ℕ) → (takes_lines w ≡ false) ⊎ (left ≡ Some i) → PrintsStatus (val_text w v i) (val_status w v i) r a b)
+    → IfSome o (λ v. (i : List ℕ) → left ≡ Some i → Judges (nat_lt file_limit (length i)) (lines_text v (text_of i)) (lines_status v (text_of i)) r a b)
+    → IfSome o (λ v. (i : List ℕ) → (takes_lines w ≡ false) ⊎ (left ≡ Some i) → Judges (is_long w i) (val_text w v i) (val_status w v i) r a b)
 val_by_lines None w left r a b is prints = tt
 val_by_lines (Some v) w left r a b is prints = λ i heard. by i heard
   where
-    by : (i : List ℕ) → (takes_lines w ≡ false) ⊎ (left ≡ Some i) → PrintsStatus (val_text w v i) (val_status w v i) r a b
+    by : (i : List ℕ) → (takes_lines w ≡ false) ⊎ (left ≡ Some i) → Judges (is_long w i) (val_text w v i) (val_status w v i) r a b
     by i (inl none) = absurd (let no : true ≡ false = sym is ∙ none in cc)
-    by i (inr heard) = subst (λ (t : Bool). PrintsStatus (cond t (lines_text v (text_of i)) (words_text w v)) (cond t (lines_status v (text_of i)) (words_status w v)) r a b) (sym is) (prints i heard)
+    by i (inr heard) =
+        subst (λ (t : Bool). Judges (t && nat_lt file_limit (length i)) (cond t (lines_text v (text_of i)) (words_text w v)) (cond t (lines_status v (text_of i)) (words_status w v)) r a b) (sym is) (prints i heard)
 
-pub val_by_words : (o : Option View) (w : ValWords) (left : Option (List ℕ)) (r : Result ℕ StepFault) (a b : Option (List ℕ)) → takes_lines w ≡ false
-    → IfSome o (λ v. PrintsStatus (words_text w v) (words_status w v) r a b) → IfSome o (λ v. (i : List ℕ) → (takes_lines w ≡ false) ⊎ (left ≡ Some i) → PrintsStatus (val_text w v i) (val_status w v i) r a b)
-val_by_words None w left r a b is prints = tt
-val_by_words (Some v) w left r a b is prints = λ i heard. subst (λ (t : Bool). PrintsStatus (cond t (lines_text v (text_of i)) (words_text w v)) (cond t (lines_status v (text_of i)) (words_status w v)) r a b) (sym is) prints
+pub val_by_words : (o : Option View) (w : ValWords) (left : Option (List ℕ)) (r : Result ℕ StepFault) (a b : Option (List ℕ)) → takes_lines w ≡ false → RefusesWithin [] r
+    → IfSome o (λ v. PrintsStatus (words_text w v) (words_status w v) r a b) → IfSome o (λ v. (i : List ℕ) → (takes_lines w ≡ false) ⊎ (left ≡ Some i) → Judges (is_long w i) (val_text w v i) (val_status w v i) r a b)
+val_by_words None w left r a b is within prints = tt
+val_by_words (Some v) w left r a b is within prints = λ i heard.
+    subst (λ (t : Bool). Judges (t && nat_lt file_limit (length i)) (cond t (lines_text v (text_of i)) (words_text w v)) (cond t (lines_status v (text_of i)) (words_status w v)) r a b) (sym is)
+    (judges_printed (words_text w v) (words_status w v) r a b within prints)

@@ -1,4 +1,4 @@
-ghost use Rattle.std.specs.Prelude.{◌≡◌, ◌<◌, ◌⊎◌, ℕ, false, ◌++◌, [], Err, IfOk, IfSome, OnOk, List, Some, length};
+ghost use Rattle.std.specs.Prelude.{◌≡◌, ◌<◌, ◌⊎◌, ℕ, false, ◌++◌, [], Err, IfOk, IfSome, OnOk, List, Some, length, nat_lt};
 ghost use Rattle.sccs_base.specs.Constants.{file_limit};
 ghost use Rattle.sccs_base.specs.Cut.{text_of};
 ghost use Rattle.sccs_sid.specs.declared.refusals.Refusal.{Refusal};
@@ -7,9 +7,9 @@ ghost use Rattle.sccs_sid.specs.declared.refusals.StepFault.TheVariants as fault
 ghost use Rattle.sccs_disk.specs.Files.{View};
 ghost use Rattle.sccs_disk.specs.Told.{seen};
 ghost use Rattle.sccs_steps.specs.Actions.{RefusesWithin};
-ghost use Rattle.sccs_steps.specs.Causes.{PrintCauses, StepCauses, counts};
+ghost use Rattle.sccs_steps.specs.Causes.{Ignores, PrintCauses, StepCauses, counts};
 ghost use Rattle.sccs_val.specs.Reports.{line_heading, line_status, line_text, lines_status, lines_text, takes_lines, val_status, val_text, words_status, words_text};
-ghost use Rattle.sccs_val.specs.ValStep.{PrintsStatus};
+ghost use Rattle.sccs_val.specs.ValStep.{Judges, PrintsStatus, is_long};
 
 use crate::judging::judge_words;
 use crate::lines::line_words;
@@ -130,7 +130,8 @@ pub fn print_input<I: Source, O: Sink, D: Disk>(
     out: &mut O,
     disk: &mut D,
 ) -> Result<u8, StepFault>
-    ensures told { IfSome (seen (D.told disk.old)) (λ v. (i : List ℕ) → I.left input.old ≡ Some i → PrintsStatus (lines_text v (text_of i)) (lines_status v (text_of i)) result (O.given out.old) (O.given out.new)) }
+    ensures told { IfSome (seen (D.told disk.old)) (λ v. (i : List ℕ) → I.left input.old ≡ Some i
+        → Judges (nat_lt file_limit (length i)) (lines_text v (text_of i)) (lines_status v (text_of i)) result (O.given out.old) (O.given out.new)) }
     ensures long { (refusal : Refusal) → result ≡ Err (faults.Refused refusal) → (refusal ≡ refusals.TooLong) × IfSome (I.left input.old) (λ i. file_limit < length i) }
     ensures same { D.told disk.new ≡ D.told disk.old }
     ensures causes { (err : ℕ) → StepCauses result (counts (I.faults input.old) (O.faults out.old) err (D.faults disk.old)) (counts (I.faults input.new) (O.faults out.new) err (D.faults disk.new)) }
@@ -160,9 +161,11 @@ pub fn val<I: Source, O: Sink, D: Disk>(
     disk: &mut D,
 ) -> Result<u8, StepFault>
     ensures told { IfSome (seen (D.told disk.old)) (λ v. (i : List ℕ) → (takes_lines words.now ≡ false) ⊎ (I.left input.old ≡ Some i)
-        → PrintsStatus (val_text words.now v i) (val_status words.now v i) result (O.given out.old) (O.given out.new)) }
+        → Judges (is_long words.now i) (val_text words.now v i) (val_status words.now v i) result (O.given out.old) (O.given out.new)) }
     ensures long { (refusal : Refusal) → result ≡ Err (faults.Refused refusal) → (refusal ≡ refusals.TooLong) × IfSome (I.left input.old) (λ i. file_limit < length i) }
     ensures same { D.told disk.new ≡ D.told disk.old }
+    ensures ignores { takes_lines words.now ≡ false
+        → Ignores faults.ReadFault (I.left input.old) (I.left input.new) (I.faults input.old) (I.faults input.new) result }
     ensures causes { (err : ℕ) → StepCauses result (counts (I.faults input.old) (O.faults out.old) err (D.faults disk.old)) (counts (I.faults input.new) (O.faults out.new) err (D.faults disk.new)) }
 {
     if takes_lines(words) {

@@ -1,8 +1,7 @@
 use crate::tests::samples::{ADDED, EDITED, Files, MID, SECOND_DELTA, changes, disk_of, is_left};
 use sccs_disk::{FickleDisk, Fill, MemoryDisk};
 use sccs_fixtures::samples::TWO_LINES;
-use sccs_fixtures::{CASE, Case, Given, PLAIN, answer_to, ends, name};
-use sccs_top::Answer;
+use sccs_fixtures::{Answer, CASE, Case, Given, PLAIN, answer_to, ends, name};
 use std::alloc::Global;
 use std::test::Fail;
 

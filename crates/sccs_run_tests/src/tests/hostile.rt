@@ -1,4 +1,4 @@
-use crate::tests::rows::wrong_row;
+use crate::tests::rows::{Row, wrong_row};
 use sccs_fixtures::samples::{BRANCHED, TWO_LINES};
 use sccs_fixtures::{sum_of, summed};
 use std::alloc::Global;
@@ -20,16 +20,32 @@ fn changed(alloc: Global, number: u64, text: &[u8]) -> Result<Vec<u8>, Fail> {
     Ok(bytes)
 }
 
-// whether get prints a file s.b so
+// whether get prints a file s.b so, in which val finds nothing
 fn prints(alloc: Global, file: &[u8], out: &[u8]) -> Result<bool, Fail> {
-    let row: (&[u8], u8, &[u8], &[u8]) = (b"get -k -p -s s.b", 0, out, b"");
-    Ok(wrong_row(alloc, TWO_LINES, file, &[row])? == None)
+    let rows: [Row; 2] = [
+        (b"get -k -p -s s.b", 0, out, b""),
+        (b"val s.b", 0, b"", b""),
+    ];
+    Ok(wrong_row(alloc, TWO_LINES, file, &rows)? == None)
 }
 
-// whether get refuses a file s.b so
+// what val says of a file that get refuses so: it is no s-file that can be read, or it is damaged
+fn judged(err: &[u8]) -> Row<'static> {
+    if err.ends_with(b"(06)\n") || err.ends_with(b"(09)\n") {
+        return (
+            b"val s.b",
+            16,
+            b"s.b: cannot open file or file not SCCS\n",
+            b"",
+        );
+    }
+    (b"val s.b", 32, b"s.b: corrupted SCCS file\n", b"")
+}
+
+// whether get refuses a file s.b so, and val judges it as it should
 fn refuses(alloc: Global, file: &[u8], err: &[u8]) -> Result<bool, Fail> {
-    let row: (&[u8], u8, &[u8], &[u8]) = (b"get -k -p -s s.b", 1, b"", err);
-    Ok(wrong_row(alloc, TWO_LINES, file, &[row])? == None)
+    let rows: [Row; 2] = [(b"get -k -p -s s.b", 1, b"", err), judged(err)];
+    Ok(wrong_row(alloc, TWO_LINES, file, &rows)? == None)
 }
 
 // one line is changed, and the sum line made right

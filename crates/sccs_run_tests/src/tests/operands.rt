@@ -1,7 +1,6 @@
 use crate::tests::rows::{Row, silent, wrong_row};
 use sccs_fixtures::samples::{BRANCHED, SECOND, TWO_LINES};
-use sccs_fixtures::{File, Given, PLAIN};
-use sccs_top::Answer;
+use sccs_fixtures::{Answer, File, Given, PLAIN};
 use std::test::Fail;
 
 const ONE_FILE: [File<'static>; 1] = [File {

@@ -1,9 +1,8 @@
 use sccs_disk::FickleDisk;
 use sccs_fixtures::samples::{SECOND, TWO_LINES};
 use sccs_fixtures::{
-    CASE, Case, File, PLAIN, Seen, answer_to, disk_with, ends, name, sum_of, summed,
+    Answer, CASE, Case, File, PLAIN, Seen, answer_to, disk_with, ends, name, sum_of, summed,
 };
-use sccs_top::Answer;
 use std::alloc::Global;
 use std::test::Fail;
 

@@ -1,6 +1,5 @@
 use sccs_disk::MemoryDisk;
-use sccs_fixtures::{CASE, Case, File, Given, answer_to, disk_with, ends};
-use sccs_top::Answer;
+use sccs_fixtures::{Answer, CASE, Case, File, Given, answer_to, disk_with, ends};
 use std::alloc::Global;
 use std::test::Fail;
 

@@ -1,7 +1,6 @@
 use crate::tests::rows::silent;
 use sccs_fixtures::samples::{BRANCHED, TWO_LINES};
-use sccs_fixtures::{CASE, Case, File, Given, PLAIN, disk_with, first_wrong};
-use sccs_top::Answer;
+use sccs_fixtures::{Answer, CASE, Case, File, Given, PLAIN, disk_with, first_wrong};
 use std::alloc::Global;
 use std::test::Fail;
 

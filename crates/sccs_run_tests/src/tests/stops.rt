@@ -1,9 +1,8 @@
 use sccs_disk::{Fill, MemoryDisk};
 use sccs_fixtures::samples::{SECOND, TWO_LINES};
 use sccs_fixtures::{
-    CASE, Case, File, Given, PLAIN, Seen, answer_to, disk_with, ends, has, has_file,
+    Answer, CASE, Case, File, Given, PLAIN, Seen, answer_to, disk_with, ends, has, has_file,
 };
-use sccs_top::Answer;
 use std::alloc::Global;
 use std::test::Fail;
 
