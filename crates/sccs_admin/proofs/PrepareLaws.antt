@@ -23,6 +23,7 @@ use Rattle.sccs_moments.proofs.FileNames.{from_g, from_s, no_x}
 use Rattle.sccs_store.proofs.Working.{made_moves, made_there, moves_wider}
 use Rattle.sccs_transactions.specs.Changes.{CouldPrepare, IsQuiet, IsReady, IsUnmade, Prepares, PreparesChange, plan_of, unlocked}
 use Rattle.sccs_transactions.specs.declared.prepared.Prepared.{Prepared}
+use Rattle.sccs_transactions.proofs.Taken.{x_alone}
 use Rattle.sccs_words.specs.declared.commands.AdminWords.{AdminWords}
 use Rattle.sccs_admin.specs.AdminStep.{AnswersText, FindsText, IsNew, WritesText, admin_change, admin_checks, admin_outcome, found_text, makes}
 use Rattle.sccs_admin.specs.NewFiles.{new_content}
@@ -106,6 +107,7 @@ text_prepared words stamp (Ok p) text n i v o2 out err sfile found writes =
       report = sym writes.0.report;
       message = sym writes.0.message;
       view = moves_wider (bytes_eq (x_file n)) (is_working n) (Some v) o2 (no_x n) (made_moves (x_file n) c (Some v) o2 writes.1.2);
+      working = x_alone n p (Some v) o2 writes.0.s (made_moves (x_file n) c (Some v) o2 writes.1.2);
       files = subst (λ (o : Option View). IfSome o (λ u. files_of (Some c) f.p f.g ≡ Some (files_after n (plan_of p) u))) (sym writes.1.2) (new_files n c v p sfile writes.0);
       out = gives_none out;
     }

@@ -20,7 +20,7 @@ use Rattle.sccs_steps.specs.Actions.{IsHeard, RefusesWithin, SpeaksBy, Stepped}
 use Rattle.sccs_steps.specs.Causes.{StepCauses, counts}
 use Rattle.sccs_transactions.specs.Ends.{Reports}
 use Rattle.sccs_transactions.specs.declared.prepared.Prepared.{Prepared}
-use Rattle.sccs_steps.proofs.ReadingSteps.{Explains, ends_silent}
+use Rattle.sccs_steps.proofs.ReadingSteps.{Explains, ends_silent, same_cleared}
 use Rattle.sccs_pending.specs.PFiles.{Answers, entries_of}
 use Rattle.sccs_edit.specs.Checks.{step_is}
 use Rattle.sccs_edit.specs.SactStep.{ShowsEdits, could_show, found_edits, none_text, sact_action, sact_checks, sact_step, shows}
@@ -85,6 +85,7 @@ shown_ends heading n edits (Ok done) v o2 out out2 err err2 same gives = (
   refl,
   record {
     view = subst (λ (t : Option View). Moves (is_working n) (λ u. u) (Some v) t) (sym same) (λ k h. refl);
+    cleared = same_cleared v o2 n same;
     out = gives.0;
     err = gives.1;
   },
@@ -95,6 +96,7 @@ shown_ends heading n edits (Err WriteFault) v o2 out out2 err err2 same gives = 
   record {
     status = refl;
     view = subst (λ (t : Option View). Moves (is_working n) (λ u. u) (Some v) t) (sym same) (λ k h. refl);
+    cleared = same_cleared v o2 n same;
     out = gives.0;
     err = gives.1;
   },

@@ -1,6 +1,6 @@
 -- A change of entries, part by part.
-use Rattle.std.proofs.Common.{◌≡◌, ℕ, Bool, true, false, List, [], ◌∷◌, length, drop, Option, None, Some, Result, Ok, Err, refl, sym, ap, subst, ◌∙◌}
-use Rattle.std.specs.Prelude.{IfOk, IfSome, IsSome}
+use Rattle.std.proofs.Common.{◌≡◌, ℕ, Bool, false, List, [], drop, Option, None, Some, Result, Ok, Err, refl, sym, ap, subst, ◌∙◌}
+use Rattle.std.specs.Prelude.{IfOk, IfSome}
 use Rattle.std.specs.Str.{bytes_eq}
 use Rattle.sccs_base.specs.Name.{IsSfile, p_file, q_file, z_file}
 use Rattle.sccs_base.proofs.Gifts.{some_none}
@@ -13,14 +13,13 @@ use Rattle.sccs_sid.specs.declared.refusals.Refusal.{Refusal}
 use Rattle.sccs_sid.specs.declared.refusals.StepFault.{StepFault}
 use Rattle.sccs_sid.specs.declared.refusals.StepFault.TheVariants.{Refused, Memory, ReadFault, WriteFault, DiskFault}
 use Rattle.sccs_files.specs.StepFiles.{Files, Moves, is_working, look}
-use Rattle.sccs_pfile.specs.declared.entries.Edit.{Edit}
-use Rattle.sccs_steps.specs.Actions.{IsHeard, RefusesWithin, Step, quiet_checks}
+use Rattle.sccs_steps.specs.Actions.{RefusesWithin, quiet_checks}
 use Rattle.sccs_steps.specs.Calls.{world}
 use Rattle.sccs_steps.specs.StepEffects.{Outcome}
 use Rattle.sccs_store.specs.Commits.{chosen}
 use Rattle.sccs_moments.proofs.FileNames.{from_g, from_s, no_q}
 use Rattle.sccs_store.proofs.Working.{moves_wider}
-use Rattle.sccs_transactions.specs.Changes.{Changing, CouldPrepare, IsReady, IsUnmade, Prepares, PreparesChange, unlocked}
+use Rattle.sccs_transactions.specs.Changes.{Changing, CouldPrepare, IsReady, IsTakenOrGone, IsUnmade, Prepares, PreparesChange, unlocked}
 use Rattle.sccs_transactions.specs.declared.prepared.Prepared.{Prepared}
 use Rattle.sccs_pending.specs.NewEntries.{Decided, PreparesDecided, entries_outcome, kept_g, with_entries}
 use Rattle.sccs_pending.specs.PFiles.{Answers}
@@ -118,6 +117,7 @@ decided decide n i named v x d (Ok p) a b out err sfile is read means drops =
     entries_prepared n d.edits (kept_g d.keep (unlocked n v (drop 2 n))) d.report p _ v (seen b) out err sfile (decided_step decide n i named v x (Ok d) sfile read means) drops.of
     (subst (λ (o : Option View). Moves (bytes_eq (q_file n)) (λ u. u) o (seen b)) is drops.moves) drops.entries.chosen_is
     (λ y. subst (λ (o : Option View). IfSome o (λ (u : View). (z : Option Content) → chosen p.new_g z (u (drop 2 n)) ≡ kept_g d.keep (u (drop 2 n)))) is drops.g.chosen_is y ∙ ap (kept_g d.keep) (sym (put_other v (z_file n) (drop 2 n) None (from_g 122 n sfile))))
+    (subst (λ (o : Option View). IfSome o (λ (w : View). IfSome (seen b) (λ (u : View). IsTakenOrGone p.new_p (w (q_file n)) (u (q_file n))))) is drops.entries.taken)
 decided decide n i named v x d (Err (Refused refusal)) a b out err sfile is read means drops = absurd drops
 decided decide n i named v x d (Err Memory) a b out err sfile is read means drops = unmade n _ v (seen b) out err (subst (λ (o : Option View). Moves (bytes_eq (q_file n)) (λ u. u) o (seen b)) is drops)
 decided decide n i named v x d (Err ReadFault) a b out err sfile is read means drops = unmade n _ v (seen b) out err (subst (λ (o : Option View). Moves (bytes_eq (q_file n)) (λ u. u) o (seen b)) is drops)

@@ -1,10 +1,9 @@
 -- New entries that are prepared, and what a commit makes of them.
-use Rattle.std.proofs.Common.{◌≡◌, ℕ, zero, suc, Bool, true, false, List, [], ◌∷◌, All, arith, drop, insert, remove, length, Option, None, Some, Result, Ok, Err, refl, sym, ap, subst, ◌∙◌}
-use Rattle.std.specs.Prelude.{IfSome, IsSome, option_map}
+use Rattle.std.proofs.Common.{◌≡◌, ℕ, zero, suc, false, List, [], ◌∷◌, All, arith, drop, insert, remove, length, Option, None, Some, Ok, refl, sym, ap, subst, ◌∙◌}
+use Rattle.std.specs.Prelude.{IfSome, IsSome}
 use Rattle.std.specs.Str.{bytes_eq}
 use Rattle.sccs_base.specs.Name.{IsSfile, p_file, q_file, x_file, y_file, z_file}
-use Rattle.sccs_base.specs.Stream.{GivesOk, GivesSome}
-use Rattle.sccs_base.proofs.Gifts.{gives_none, some_none}
+use Rattle.sccs_base.proofs.Gifts.{gives_none}
 use Rattle.sccs_disk.specs.Calls.{IsThere}
 use Rattle.sccs_disk.specs.Files.{Content, View, put}
 use Rattle.sccs_disk.specs.Told.{Told, seen}
@@ -12,15 +11,16 @@ use Rattle.sccs_disk.proofs.Puts.{put_other, put_same}
 use Rattle.sccs_files.specs.StepFiles.{Files, Moves, is_working, look}
 use Rattle.sccs_pfile.specs.Recovered.{pfile_of, written_pfile}
 use Rattle.sccs_pfile.specs.declared.entries.Edit.{Edit}
-use Rattle.sccs_steps.specs.Calls.{World, world}
-use Rattle.sccs_steps.specs.StepEffects.{Outcome, StepEffect}
-use Rattle.sccs_store.specs.Commits.{Becomes, Needs, Plan, chosen, files_after, replaced}
+use Rattle.sccs_steps.specs.Calls.{world}
+use Rattle.sccs_steps.specs.StepEffects.{Outcome}
+use Rattle.sccs_store.specs.Commits.{Becomes, Needs, chosen, files_after, replaced}
 use Rattle.sccs_store.specs.declared.new_files.NewFile.{NewFile}
 use Rattle.sccs_store.specs.declared.new_files.NewFile.TheVariants.{Keep, Replace, Remove}
 use Rattle.sccs_moments.proofs.FileNames.{from_g, from_s, no_q}
 use Rattle.sccs_store.proofs.Working.{moves_wider}
-use Rattle.sccs_transactions.specs.Changes.{IsPrepared, IsReady, plan_of, unlocked}
+use Rattle.sccs_transactions.specs.Changes.{IsPrepared, IsReady, IsTakenOrGone, plan_of, unlocked}
 use Rattle.sccs_transactions.specs.declared.prepared.Prepared.{Prepared}
+use Rattle.sccs_transactions.proofs.Taken.{untouched}
 use Rattle.sccs_pending.specs.NewEntries.{IsOfEntries, PreparesEntries, with_entries}
 
 -- ---- what is prepared
@@ -37,15 +37,16 @@ files_are n edits g p v u sfile s same entries left =
 
 pub entries_prepared : (n : List ℕ) (edits : List Edit) (g : Option Content) (report : List ℕ) (p : Prepared) (o : Outcome) (v : View) (o2 : Option View) (out err : Option (List ℕ)) → IsSfile n → o ≡ Ok (with_entries (look (unlocked n v) n) edits g report) → IsOfEntries p report
     → Moves (bytes_eq (q_file n)) (λ w. w) (Some v) o2 → IfSome o2 (λ (u : View). (old : Option Content) → chosen p.new_p (u (q_file n)) old ≡ pfile_of edits) → ((y : Option Content) → chosen p.new_g y (v (drop 2 n)) ≡ g)
-    → IsPrepared n p o (world (Some v) out err) (world o2 out err)
-entries_prepared n edits g report p o v None out err sfile is of moves entries left = absurd moves
-entries_prepared n edits g report p o v (Some u) out err sfile is of moves entries left = record {
+    → IfSome o2 (λ (u : View). IsTakenOrGone p.new_p (v (q_file n)) (u (q_file n))) → IsPrepared n p o (world (Some v) out err) (world o2 out err)
+entries_prepared n edits g report p o v None out err sfile is of moves entries left taken = absurd moves
+entries_prepared n edits g report p o v (Some u) out err sfile is of moves entries left taken = record {
   effect = with_entries (look (unlocked n v) n) edits g report;
   is = is;
   status = refl;
   report = sym of.report_is;
   message = sym of.message;
   view = moves_wider (bytes_eq (q_file n)) (is_working n) (Some v) (Some u) (no_q n) moves;
+  working = record { x = untouched (replaced p.new_s) _ _ (moves (x_file n) refl); q = taken; y = untouched p.new_g _ _ (moves (y_file n) refl) };
   files = files_are n edits g p v u sfile of.s moves entries left;
   out = gives_none out;
 }
@@ -75,15 +76,36 @@ entries_ready n edits p report a b sfile of z moves entries there g = record {
 
 pub some_chosen : (n : List ℕ) (edits : List Edit) (a b : Told) → (length edits ≡ 0 → ⊥) → Becomes (λ v. put v (q_file n) (Some (written_pfile edits))) (seen a) (seen b) → PreparesEntries n edits Replace a b
 some_chosen n [] a b some is = absurd (some refl)
-some_chosen n (e ∷ edits) a b some is = record { chosen_is = chosen_q (seen a) (seen b) is; needs = λ none. there (seen a) (seen b) is }
+some_chosen n (e ∷ edits) a b some is = record {
+  chosen_is = chosen_q (seen a) (seen b) is;
+  needs = λ none. there (seen a) (seen b) is;
+  taken = taken_q (seen a) (seen b);
+}
   where
     chosen_q : (o o2 : Option View) → Becomes (λ v. put v (q_file n) (Some (written_pfile (e ∷ edits)))) o o2 → IfSome o2 (λ (v : View). (old : Option Content) → v (q_file n) ≡ pfile_of (e ∷ edits))
     chosen_q None o2 is = subst (λ (x : Option View). IfSome x (λ (v : View). (old : Option Content) → v (q_file n) ≡ pfile_of (e ∷ edits))) (sym is) tt
     chosen_q (Some v) o2 is = subst (λ (x : Option View). IfSome x (λ (u : View). (old : Option Content) → u (q_file n) ≡ pfile_of (e ∷ edits))) (sym is) (λ old. put_same v (q_file n) (Some (written_pfile (e ∷ edits))))
 
+    taken_q : (o o2 : Option View) → IfSome o (λ (u : View). IfSome o2 (λ (v : View). IsTakenOrGone Replace (u (q_file n)) (v (q_file n))))
+    taken_q None o2 = tt
+    taken_q (Some u) None = tt
+    taken_q (Some u) (Some v) = tt
+
     there : (o o2 : Option View) → Becomes (λ v. put v (q_file n) (Some (written_pfile (e ∷ edits)))) o o2 → IfSome o2 (λ (v : View). IsSome (v (q_file n)))
     there None o2 is = subst (λ (x : Option View). IfSome x (λ (v : View). IsSome (v (q_file n)))) (sym is) tt
     there (Some v) o2 is = subst (λ (x : Option View). IfSome x (λ (u : View). IsSome (u (q_file n)))) (sym is) (subst IsSome (sym (put_same v (q_file n) (Some (written_pfile (e ∷ edits))))) refl)
+
+pub none_chosen : (n : List ℕ) (edits : List Edit) (a : Told) → length edits ≡ 0 → PreparesEntries n edits Remove a a
+none_chosen n (e ∷ edits) a none = absurd cc
+none_chosen n [] a none = record { chosen_is = removed (seen a); needs = λ there. there refl; taken = kept (seen a) }
+  where
+    removed : (o : Option View) → IfSome o (λ (v : View). (old : Option Content) → chosen Remove (v (q_file n)) old ≡ pfile_of [])
+    removed None = tt
+    removed (Some v) = λ old. refl
+
+    kept : (o : Option View) → IfSome o (λ (u : View). IfSome o (λ (v : View). IsTakenOrGone Remove (u (q_file n)) (v (q_file n))))
+    kept None = tt
+    kept (Some v) = untouched Remove _ _ refl
 
 -- ---- an entry that is taken out
 

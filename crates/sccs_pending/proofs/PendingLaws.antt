@@ -1,5 +1,5 @@
 -- What is found in an s-file and its p-file, part by part.
-use Rattle.std.proofs.Common.{◌≡◌, ℕ, Bool, true, false, ◌&&◌, List, [], length, Option, None, Some, Result, Ok, Err, refl, sym, ap, subst, ◌∙◌}
+use Rattle.std.proofs.Common.{◌≡◌, ℕ, Bool, true, false, List, [], Option, None, Some, Result, Ok, Err, refl, sym, ap, subst, ◌∙◌}
 use Rattle.std.specs.Prelude.{IfSome, IsSome, is_some}
 use Rattle.sccs_base.specs.Cut.{cut}
 use Rattle.sccs_base.specs.Name.{p_file}

@@ -23,7 +23,7 @@ use Rattle.sccs_grammar.specs.FileRefusals.{or_refusal}
 use Rattle.sccs_grammar.specs.declared.faults.FileFault.{FileFault}
 use Rattle.sccs_grammar.specs.declared.faults.FileFault.TheVariants as faults
 use Rattle.sccs_steps.specs.StepEffects.{check}
-use Rattle.sccs_pfile.specs.Agreement.{Agrees, agrees, first_disagreeing, has_lists, makers}
+use Rattle.sccs_pfile.specs.Agreement.{agrees, first_disagreeing, has_lists, makers}
 use Rattle.sccs_pfile.specs.Entries.{IsEdit}
 use Rattle.sccs_pfile.specs.Reading.{edits_of}
 use Rattle.sccs_pfile.specs.Recovered.{is_done, pfile_of, recovered_pfile, table_of, without_done}
@@ -31,14 +31,13 @@ use Rattle.sccs_pfile.specs.declared.entries.Edit.{Edit}
 use Rattle.sccs_pfile.proofs.Recovering.{left_stays}
 use Rattle.sccs_store.specs.Commits.{chosen, files_after, replaced}
 use Rattle.sccs_store.specs.Stops.{KeepsEntries, OnChange, OnReplace}
-use Rattle.sccs_store.specs.declared.new_files.NewFile.{NewFile}
 use Rattle.sccs_transactions.specs.Changes.{plan_of}
 use Rattle.sccs_steps.specs.StepStops.{ArePaired, IsPaired}
 use Rattle.sccs_transactions.specs.Stops.{IsFirmPrepared, SettlesEntries}
 use Rattle.sccs_transactions.specs.declared.prepared.Prepared.{Prepared}
 use Rattle.sccs_pending.specs.NewEntries.{Decided, PreparesDecided}
 use Rattle.sccs_pending.specs.PFiles.{bytes_or_none, is_short, or_bad_pfile}
-use Rattle.sccs_pending.specs.Pending.{AnswersPending, Found, agreeing, bytes_at, pending_of}
+use Rattle.sccs_pending.specs.Pending.{AnswersPending, Found, agreeing, pending_of}
 use Rattle.sccs_pending.specs.declared.pending.Pending.{Pending}
 
 -- ---- the table that was read

@@ -1,5 +1,5 @@
 -- A warning that is added to a message in three pieces.
-use Rattle.std.proofs.Common.{◌≡◌, ℕ, Bool, true, false, List, ◌++◌, refl, sym, ap, ◌∙◌, append_assoc}
+use Rattle.std.proofs.Common.{◌≡◌, ℕ, Bool, true, false, List, ◌++◌, ap, ◌∙◌, append_assoc}
 use Rattle.std.specs.Prelude.{codes}
 use Rattle.sccs_tokens.specs.Written.{ended}
 use Rattle.sccs_pending.specs.Reports.{warning}

@@ -22,6 +22,7 @@ use Rattle.sccs_steps.specs.StepEffects.{StepEffect}
 use Rattle.sccs_pending.specs.Pending.{Found, pending_of}
 use Rattle.sccs_store.specs.Commits.{Needs, chosen}
 use Rattle.sccs_store.specs.declared.new_files.NewFile.{NewFile}
+use Rattle.sccs_transactions.specs.Changes.{IsTakenOrGone}
 use Rattle.sccs_transactions.specs.declared.prepared.Prepared.{Prepared}
 
 -- the p-file has these entries, the g-file is this, and so much is reported on out
@@ -46,10 +47,12 @@ made_text edits number = unwrap_or (option_map (λ (e : Edit). sid_text e.made) 
 abbrev pub kept_g : Bool → Option Content → Option Content
 kept_g keep g = if keep then g else None
 
--- What becomes of the p-file is prepared: a commit makes it the p-file of these entries.
+-- What becomes of the p-file is prepared: a commit makes it the p-file of these entries, and takes the q-file, unless there is
+-- none, or it is as it was.
 pub record PreparesEntries (n : List ℕ) (edits : List Edit) (new : NewFile) (before told : Told) : Type 0 where
   pub chosen_is : IfSome (seen told) (λ (v : View). (old : Option Content) → chosen new (v (q_file n)) old ≡ pfile_of edits)
   pub needs : (edits ≡ [] → IsThere (p_file n) before) → Needs new (q_file n) (p_file n) told
+  pub taken : IfSome (seen before) (λ u. IfSome (seen told) (λ v. IsTakenOrGone new (u (q_file n)) (v (q_file n))))
 
 -- A commit leaves the g-file, or removes it.
 pub record LeavesG (n : List ℕ) (keep : Bool) (new : NewFile) (told : Told) : Type 0 where

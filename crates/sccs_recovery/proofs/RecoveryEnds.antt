@@ -132,6 +132,22 @@ moved_by n v k false is sfile h = ap (λ (u : View). u k) (ap (recover_by n v) i
 pub recovers_at : (n : List ℕ) (v : View) (k : List ℕ) → IsSfile n → is_working n k ≡ false → recover n v k ≡ moved v n (recovers n (look v n)).new k
 recovers_at n v k sfile h = moved_by n v k (is_some (v (z_file n))) refl sfile h
 
+-- the working files are gone, or but for the y-file as they were
+working_p : (n k : List ℕ) → is_working n k ≡ true → bytes_eq (p_file n) k ≡ false
+working_p n k h = ⊎_elim (λ e. absurd (let never : is_working n (p_file n) ≡ true = subst (λ l. is_working n l ≡ true) (sym e) h in cc)) (λ other. other) (name_cases (p_file n) k)
+
+recovered_clears : (n : List ℕ) (v : View) (k : List ℕ) → is_working n k ≡ true → (recover n v k ≡ None) ⊎ (recover n v k ≡ v k)
+recovered_clears n v k h = by (is_some (v (z_file n)))
+  where
+    without_z : (z : Bool) → cond z None (put (cleared n v) (p_file n) (recovered_pfile (v n) (v (p_file n))) k) ≡ None
+    without_z true = refl
+    without_z false =
+        put_other (cleared n v) (p_file n) k (recovered_pfile (v n) (v (p_file n))) (working_p n k h) ∙ gone_by (bytes_eq (x_file n) k) (bytes_eq (q_file n) k) (bytes_eq (y_file n) k) (v k) h
+
+    by : (z : Bool) → (cond z (without (z_file n) (cleaned n v)) (without (y_file n) v) k ≡ None) ⊎ (cond z (without (z_file n) (cleaned n v)) (without (y_file n) v) k ≡ v k)
+    by true = inl (without_z (bytes_eq (z_file n) k))
+    by false = ⊎_elim (λ e. inl (subst (λ l. without (y_file n) v l ≡ None) e (put_same v (y_file n) None))) (λ other. inr (put_other v (y_file n) k None other)) (name_cases (y_file n) k)
+
 -- ---- how the call ends
 
 pub step_of : (n : List ℕ) (f : Files) (r : Result Bool Refusal) → files_checked f ≡ r → recover_step n f ≡ (r >>= λ done. Ok (recovers n f))
@@ -156,6 +172,7 @@ cut_ends n v o2 out out2 err sfile is says = (
   record {
     status = refl;
     view = subst (λ (t : Option View). Moves (is_working n) (λ u. moved u n (recovers n (look v n)).new) (Some v) t) (sym is) (λ k h. recovers_at n v k sfile h);
+    cleared = subst (λ (t : Option View). AreCleared n (Some v) t) (sym is) (recovered_clears n v);
     out = says;
     err = some_none err [];
   },
@@ -169,6 +186,7 @@ made_ends n v (Ok done) o2 out out2 err sfile is says = (
   refl,
   record {
     view = subst (λ (t : Option View). Moves (is_working n) (λ u. moved u n (recovers n (look v n)).new) (Some v) t) (sym is) (λ k h. recovers_at n v k sfile h);
+    cleared = subst (λ (t : Option View). AreCleared n (Some v) t) (sym is) (recovered_clears n v);
     out = says;
     err = gives_none err;
   },

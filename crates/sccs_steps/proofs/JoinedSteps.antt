@@ -32,12 +32,12 @@ status_more rule (t ∷ ts) us =
     ap (λ s. joined_status rule t.effect.status s) (status_more rule ts us) ∙ sym (grouped rule t.effect.status (status_of rule ts) (status_of rule us))
 
 pub ran_none : (w : List ℕ → Bool) (m : Folder) (a : World) → Shows w a.view (view_in m) → Ran w m [] a a
-ran_none w m a shows = record { view = shows; cleared = cleared_same w [] a.view a.view refl; out = gives_none a.out; err = gives_none a.err }
+ran_none w m a shows = record { view = shows; cleared = cleared_same w a.view a.view refl; out = gives_none a.out; err = gives_none a.err }
 
 pub ran_then : (w : List ℕ → Bool) (m : Folder) (ts us : List NamedStep) (a b c : World) → Ran w m ts a b → Ran w (folder_after m ts) us b c → Ran w m (ts ++ us) a c
 ran_then w m ts us a b c first second = record {
   view = subst (λ (u : Folder). Shows w c.view (view_in u)) (sym (after_more m ts us)) second.view;
-  cleared = cleared_then w ts us a.view b.view c.view first.cleared second.cleared;
+  cleared = cleared_then w a.view b.view c.view first.cleared second.cleared;
   out = subst (λ text. GivesOk a.out c.out text) (sym (out_more ts us)) (gives_both a.out b.out c.out (out_of ts) (out_of us) first.out second.out);
   err = subst (λ text. GivesOk a.err c.err text) (sym (err_more ts us)) (gives_both a.err b.err c.err (err_of ts) (err_of us) first.err second.err);
 }
@@ -58,7 +58,7 @@ stopped_then w m ts us a b c first s = record {
   rest = s.rest;
   is = ap (λ rest. ts ++ rest) s.is ∙ sym (append_assoc ts s.made s.rest);
   view = subst (λ (u : Folder). Shows w c.view (view_in u)) (sym (after_more m ts s.made)) s.view;
-  cleared = cleared_then w ts s.made a.view b.view c.view first.cleared s.cleared;
+  cleared = cleared_then w a.view b.view c.view first.cleared s.cleared;
   out = out_then w m ts s.made s.rest a b c first s.out;
   err = err_then w m ts s.made a b c first s.err;
 }

@@ -45,7 +45,7 @@ use Rattle.sccs_steps.proofs.StatusLaws.{idle_first}
 -- ---- steps that weren't begun
 
 abbrev unbegun : (w : List ℕ → Bool) (m : Folder) (ts : List NamedStep) (a : World) → Shows w a.view (view_in m) → Stopped w m ts a a
-unbegun w m ts a shows = record { made = []; rest = ts; is = refl; view = shows; cleared = cleared_same w [] a.view a.view refl; out = some_none a.out (next_text ts); err = some_none a.err [] }
+unbegun w m ts a shows = record { made = []; rest = ts; is = refl; view = shows; cleared = cleared_same w a.view a.view refl; out = some_none a.out (next_text ts); err = some_none a.err [] }
 
 pub never_runs : (rule : StatusRule) (w : List ℕ → Bool) (fault : Fault) (m : Folder) (ts : List NamedStep) (a : World) → 0 < length ts → Shows w a.view (view_in m) → Runs rule w (Err fault) m ts a a
 never_runs rule w Memory m ts a some shows = (unbegun w m ts a shows, some)
@@ -74,7 +74,7 @@ never_stops x steps given fault old new out err same = λ w folder i m past spar
 -- ---- names that were found, and their steps
 
 found_ran : (rule : StatusRule) (w : List ℕ → Bool) (m : Folder) (a : World) → Shows w a.view (view_in m) → Ran w m (names_found rule ∷ []) a a
-found_ran rule w m a shows = record { view = shows; cleared = cleared_same w (names_found rule ∷ []) a.view a.view refl; out = gives_none a.out; err = gives_none a.err }
+found_ran rule w m a shows = record { view = shows; cleared = cleared_same w a.view a.view refl; out = gives_none a.out; err = gives_none a.err }
 
 pub found_runs : (rule : StatusRule) (w : List ℕ → Bool) (r : Result ℕ Fault) (m : Folder) (ts : List NamedStep) (a b : World) → Shows w a.view (view_in m) → Runs rule w r m ts a b → Runs rule w r m (names_found rule ∷ ts) a b
 found_runs rule w (Ok status) m ts a b shows runs = (runs.0 ∙ sym (idle_first rule (status_of rule ts)), ran_then w m (names_found rule ∷ []) ts a a b (found_ran rule w m a shows) runs.1)

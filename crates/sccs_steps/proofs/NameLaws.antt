@@ -1,5 +1,5 @@
 -- What the step of one name makes of a run.
-use Rattle.std.proofs.Common.{◌≡◌, ℕ, Bool, true, false, List, [], ◌∷◌, map, Option, None, Some, IfOk, IfSome, Result, Ok, Err, inl, inr, refl, sym, ap, subst, ◌∙◌, arith}
+use Rattle.std.proofs.Common.{◌≡◌, ℕ, Bool, true, false, List, [], ◌∷◌, map, Option, None, Some, IfSome, Result, Ok, Err, inl, inr, refl, sym, ap, subst, ◌∙◌}
 use Rattle.std.proofs.lemmas.List.{append-nil}
 use Rattle.sccs_base.specs.Stream.{GivesOk, GivesSome}
 use Rattle.sccs_sid.specs.Refusal.{refusal_line}
@@ -41,7 +41,7 @@ fitting x m i name fits = rw fits refl
 -- a refusal that is said
 pub refusal_runs : (rule : StatusRule) (w : List ℕ → Bool) (m : Folder) (n : List ℕ) (refusal : Refusal) (r : Result ℕ Fault) (v : Option View) (out err err2 : Option (List ℕ)) → Shows w v (view_in m) → SaysRefusal n refusal r err err2
     → Runs rule w r m (named_step n (Err refusal) ∷ []) (world v out err) (world v out err2)
-refusal_runs rule w m n refusal r v out err err2 shows says = refusal_ends rule w m n (Err refusal) refusal r (world v out err) (world v out err2) refl shows (cleared_same w [] v v refl) (some_none out []) says
+refusal_runs rule w m n refusal r v out err err2 shows says = refusal_ends rule w m n (Err refusal) refusal r (world v out err) (world v out err2) refl shows (cleared_same w v v refl) (some_none out []) says
 
 -- a name that isn't taken
 pub misfit_runs : (x : Action) (w : List ℕ → Bool) (m : Folder) (i n : List ℕ) (r : Result ℕ Fault) (v : Option View) (out err err2 : Option (List ℕ)) → x.fits n ≡ false → Shows w v (view_in m) → SaysRefusal n BadName r err err2
@@ -61,11 +61,11 @@ kept x m i operand quiet fits = subst (IsKept x.reads) (sym (fitting x m i opera
 
 -- a name whose step was called
 pub stepped_runs : (x : Action) (w : List ℕ → Bool) (m : Folder) (i operand n : List ℕ) (made : Result ℕ StepFault) (r : Result ℕ Fault) (left : Option (List ℕ)) (a b : Scene) (e : Option (List ℕ)) → KeepsFiles x → x.fits operand ≡ true → n ≡ operand
-    → NameIsClear x w operand → (x.reads ≡ true → b.told ≡ a.told) → (x.reads ≡ false → IfOk made (λ (status : ℕ). status ≡ 0)) → Shows w (seen a.told) (view_in m) → IsHeard x.takes left i → SteppedAs (λ (status : ℕ). status) x made n left a b → Concludes made operand r b.err e
+    → NameIsClear x w operand → (x.reads ≡ true → b.told ≡ a.told) → Shows w (seen a.told) (view_in m) → IsHeard x.takes left i → SteppedAs (λ (status : ℕ). status) x made n left a b → Concludes made operand r b.err e
     → Runs x.rule w r m (step_at x m i operand ∷ []) (shown a) (world (seen b.told) b.out e)
-stepped_runs x w m i operand n made r left a b e quiet fits same clear reads none shows heard steps says =
+stepped_runs x w m i operand n made r left a b e quiet fits same clear reads shows heard steps says =
     let here : SteppedAs (λ (status : ℕ). status) x made operand left a b = subst (λ name. SteppedAs (λ (status : ℕ). status) x made name left a b) same steps in
-    concluded x.rule x.reads w m operand (outcome_at x m i operand) made r (shown a) (shown b) e (clear fits).0 (λ only. ap seen (reads only)) none (kept x m i operand quiet fits) shows
+    concluded x.rule x.reads w m operand (outcome_at x m i operand) made r (shown a) (shown b) e (clear fits).0 (λ only. ap seen (reads only)) (kept x m i operand quiet fits) shows
     (subst (λ (o : Outcome). Meets (λ (status : ℕ). status) made operand o (shown a) (shown b)) (sym (fitting x m i operand fits)) (met x w m i operand made (seen a.told) left (shown a) (shown b) (clear fits).0 (clear fits).1 shows heard here)) says
 
 -- ---- on any disk

@@ -1,7 +1,6 @@
 -- What the call of one step answers and leaves, as a list of one step.
-use Rattle.std.proofs.Common.{◌≡◌, ℕ, zero, suc, Bool, true, false, List, [], ◌∷◌, ◌++◌, take, Option, None, Some, Result, Ok, Err, inl, inr, refl, sym, ap, subst, ◌∙◌, arith}
+use Rattle.std.proofs.Common.{◌≡◌, ℕ, zero, suc, Bool, true, List, [], ◌∷◌, ◌++◌, take, Option, None, Some, Result, Ok, Err, inl, inr, refl, sym, ap, subst, ◌∙◌, arith}
 use Rattle.std.proofs.lemmas.List.{append-nil}
-use Rattle.std.specs.Prelude.{IfOk}
 use Rattle.sccs_base.specs.Stream.{GivesOk, GivesSome}
 use Rattle.sccs_sid.specs.Refusal.{refusal_line}
 use Rattle.sccs_sid.specs.declared.refusals.Refusal.{Refusal}
@@ -18,19 +17,19 @@ use Rattle.sccs_steps.specs.declared.faults.Fault.{Fault}
 use Rattle.sccs_steps.specs.declared.faults.Fault.TheVariants.{Memory, ReadFault, WriteFault, DiskFault}
 use Rattle.sccs_steps.specs.declared.statuses.StatusRule.{StatusRule}
 use Rattle.sccs_steps.proofs.Clear.{IsKept, clear_moved, clear_in_order, clear_same}
-use Rattle.sccs_steps.proofs.Cleared.{cleared_kept, cleared_made, cleared_more, cleared_status}
+use Rattle.sccs_steps.proofs.Cleared.{cleared_step}
 use Rattle.sccs_steps.proofs.Gifts.{some_same}
 use Rattle.sccs_steps.proofs.StatusLaws.{idle_last}
 
 -- the step is made
-made_runs : (rule : StatusRule) (reads : Bool) (w : List ℕ → Bool) (m : Folder) (n : List ℕ) (o : Outcome) (d : StepEffect) (status : ℕ) (a b : World) → IsClear reads w n → (reads ≡ true → b.view ≡ a.view) → (reads ≡ false → status ≡ 0) → IsKept reads o → Shows w a.view (view_in m)
+made_runs : (rule : StatusRule) (reads : Bool) (w : List ℕ → Bool) (m : Folder) (n : List ℕ) (o : Outcome) (d : StepEffect) (status : ℕ) (a b : World) → IsClear reads w n → (reads ≡ true → b.view ≡ a.view) → IsKept reads o → Shows w a.view (view_in m)
     → o ≡ Ok d → d.status ≡ status → Made n d a b → Runs rule w (Ok status) m (named_step n o ∷ []) a b
-made_runs rule reads w m n o d status a b clear same none kept shows is code made =
+made_runs rule reads w m n o d status a b clear same kept shows is code made =
     subst (λ (out : Outcome). Runs rule w (Ok status) m (named_step n out ∷ []) a b) (sym is) (
       sym code ∙ sym (idle_last rule d.status),
       record {
         view = clear_moved reads w m n d.new a.view b.view clear same (λ only. kept only d is) shows made.view;
-        cleared = cleared_status reads w n d status a.view b.view clear same none code made.view;
+        cleared = cleared_step reads w n d.new a.view b.view clear same made.view made.cleared;
         out = subst (λ text. GivesOk a.out b.out text) (sym (append-nil (d.text ++ d.out))) made.out;
         err = subst (λ text. GivesOk a.err b.err text) (sym (append-nil d.err)) made.err;
       },
@@ -45,7 +44,7 @@ kept_waits reads w m n o a b clear same shows kept = (
     rest = named_step n o ∷ [];
     is = refl;
     view = clear_same reads w m n a.view b.view clear same shows kept.view;
-    cleared = cleared_kept w n a.view b.view kept.view kept.cleared;
+    cleared = cleared_step reads w n None a.view b.view clear same kept.view kept.cleared;
     out = kept.out;
     err = some_same a.err b.err [] kept.err;
   },
@@ -62,7 +61,7 @@ cut_stops reads w m n o d a b clear same kept shows is cut =
       rest = [];
       is = refl;
       view = clear_moved reads w m n d.new a.view b.view clear same (λ only. kept only d is) shows cut.view;
-      cleared = cleared_made reads w n d a.view b.view clear same cut.status cut.view;
+      cleared = cleared_step reads w n d.new a.view b.view clear same cut.view cut.cleared;
       out = subst (λ text. GivesSome a.out b.out text) (sym (append-nil (d.text ++ d.out)) ∙ sym (append-nil ((d.text ++ d.out) ++ []))) cut.out;
       err = subst (λ text. GivesSome a.err b.err text) (sym (append-nil d.err)) cut.err;
     })
@@ -94,12 +93,12 @@ some_nothing None b some = some
 some_nothing (Some f) b some = some.2 ∙ ap (λ text. Some (f ++ text)) (take_none some.0)
 
 -- the step is refused, and that is said, or what is said of it is cut
-pub refusal_ends : (rule : StatusRule) (w : List ℕ → Bool) (m : Folder) (n : List ℕ) (o : Outcome) (refusal : Refusal) (r : Result ℕ Fault) (a b : World) → o ≡ Err refusal → Shows w b.view (view_in m) → AreAllCleared w [] a.view b.view → GivesSome a.out b.out []
+pub refusal_ends : (rule : StatusRule) (w : List ℕ → Bool) (m : Folder) (n : List ℕ) (o : Outcome) (refusal : Refusal) (r : Result ℕ Fault) (a b : World) → o ≡ Err refusal → Shows w b.view (view_in m) → AreAllCleared w a.view b.view → GivesSome a.out b.out []
     → SaysRefusal n refusal r a.err b.err → Runs rule w r m (named_step n o ∷ []) a b
 refusal_ends rule w m n o refusal (Ok status) a b is shows cleared out said =
     subst (λ s. Runs rule w (Ok s) m (named_step n o ∷ []) a b) (sym said.0)
     (subst (λ (outcome : Outcome). Runs rule w (Ok 1) m (named_step n outcome ∷ []) a b) (sym is)
-    (sym (idle_last rule 1), record { view = shows; cleared = cleared_more w (named_step n (Err refusal) ∷ []) a.view b.view cleared; out = some_nothing a.out b.out out; err = subst (λ text. GivesOk a.err b.err text) (sym (append-nil (refusal_line n refusal))) said.1 }))
+    (sym (idle_last rule 1), record { view = shows; cleared = cleared; out = some_nothing a.out b.out out; err = subst (λ text. GivesOk a.err b.err text) (sym (append-nil (refusal_line n refusal))) said.1 }))
 refusal_ends rule w m n o refusal (Err WriteFault) a b is shows cleared out said =
     subst (λ (outcome : Outcome). Stopped w m (named_step n outcome ∷ []) a b) (sym is)
     (record {
@@ -107,7 +106,7 @@ refusal_ends rule w m n o refusal (Err WriteFault) a b is shows cleared out said
       rest = [];
       is = refl;
       view = shows;
-      cleared = cleared_more w (named_step n (Err refusal) ∷ []) a.view b.view cleared;
+      cleared = cleared;
       out = out;
       err = subst (λ text. GivesSome a.err b.err text) (sym (append-nil (refusal_line n refusal))) said;
     })
@@ -126,24 +125,24 @@ kept_with n text a b e same kept = record { view = kept.view; cleared = kept.cle
 write_with : (n : List ℕ) (o : Outcome) (a b : World) (e : Option (List ℕ)) → e ≡ b.err → Fails step.WriteFault n o a b → Fails step.WriteFault n o a (world b.view b.out e)
 write_with n o a b e same (inl kept) = inl (kept_with n _ a b e same kept)
 write_with n o a b e same (inr cut) =
-    inr (cut.0, cut.1, record { status = cut.2.status; view = cut.2.view; out = cut.2.out; err = subst (λ t. GivesSome a.err t cut.0.err) (sym same) cut.2.err })
+    inr (cut.0, cut.1, record { status = cut.2.status; view = cut.2.view; cleared = cut.2.cleared; out = cut.2.out; err = subst (λ t. GivesSome a.err t cut.0.err) (sym same) cut.2.err })
 
-pub concluded : (rule : StatusRule) (reads : Bool) (w : List ℕ → Bool) (m : Folder) (n : List ℕ) (o : Outcome) (made : Result ℕ StepFault) (r : Result ℕ Fault) (a b : World) (e : Option (List ℕ)) → IsClear reads w n → (reads ≡ true → b.view ≡ a.view) → (reads ≡ false → IfOk made (λ (status : ℕ). status ≡ 0)) → IsKept reads o → Shows w a.view (view_in m)
+pub concluded : (rule : StatusRule) (reads : Bool) (w : List ℕ → Bool) (m : Folder) (n : List ℕ) (o : Outcome) (made : Result ℕ StepFault) (r : Result ℕ Fault) (a b : World) (e : Option (List ℕ)) → IsClear reads w n → (reads ≡ true → b.view ≡ a.view) → IsKept reads o → Shows w a.view (view_in m)
     → Meets (λ (status : ℕ). status) made n o a b → Concludes made n r b.err e → Runs rule w r m (named_step n o ∷ []) a (world b.view b.out e)
-concluded rule reads w m n o (Ok status) r a b e clear same none kept shows met says =
+concluded rule reads w m n o (Ok status) r a b e clear same kept shows met says =
     subst (λ (res : Result ℕ Fault). Runs rule w res m (named_step n o ∷ []) a (world b.view b.out e)) (sym says.0)
-    (made_runs rule reads w m n o met.0 status a (world b.view b.out e) clear same none kept shows met.1 met.2 (record { view = met.3.view; out = met.3.out; err = subst (λ t. GivesOk a.err t met.0.err) (sym says.1) met.3.err }))
-concluded rule reads w m n o (Err (step.Refused refusal)) r a b e clear same none kept shows met says =
-    refusal_ends rule w m n o refusal r a (world b.view b.out e) met.0 (clear_same reads w m n a.view b.view clear same shows met.1.view) (cleared_kept w n a.view b.view met.1.view met.1.cleared) met.1.out (subst (λ t. SaysRefusal n refusal r t e) met.1.err says)
-concluded rule reads w m n o (Err step.Memory) r a b e clear same none kept shows met says =
-    subst (λ (res : Result ℕ Fault). Runs rule w res m (named_step n o ∷ []) a (world b.view b.out e)) (sym says.0)
-    (kept_waits reads w m n o a (world b.view b.out e) clear same shows (kept_with n _ a b e says.1 met))
-concluded rule reads w m n o (Err step.ReadFault) r a b e clear same none kept shows met says =
+    (made_runs rule reads w m n o met.0 status a (world b.view b.out e) clear same kept shows met.1 met.2 (record { view = met.3.view; cleared = met.3.cleared; out = met.3.out; err = subst (λ t. GivesOk a.err t met.0.err) (sym says.1) met.3.err }))
+concluded rule reads w m n o (Err (step.Refused refusal)) r a b e clear same kept shows met says =
+    refusal_ends rule w m n o refusal r a (world b.view b.out e) met.0 (clear_same reads w m n a.view b.view clear same shows met.1.view) (cleared_step reads w n None a.view b.view clear same met.1.view met.1.cleared) met.1.out (subst (λ t. SaysRefusal n refusal r t e) met.1.err says)
+concluded rule reads w m n o (Err step.Memory) r a b e clear same kept shows met says =
     subst (λ (res : Result ℕ Fault). Runs rule w res m (named_step n o ∷ []) a (world b.view b.out e)) (sym says.0)
     (kept_waits reads w m n o a (world b.view b.out e) clear same shows (kept_with n _ a b e says.1 met))
-concluded rule reads w m n o (Err step.WriteFault) r a b e clear same none kept shows met says =
+concluded rule reads w m n o (Err step.ReadFault) r a b e clear same kept shows met says =
+    subst (λ (res : Result ℕ Fault). Runs rule w res m (named_step n o ∷ []) a (world b.view b.out e)) (sym says.0)
+    (kept_waits reads w m n o a (world b.view b.out e) clear same shows (kept_with n _ a b e says.1 met))
+concluded rule reads w m n o (Err step.WriteFault) r a b e clear same kept shows met says =
     subst (λ (res : Result ℕ Fault). Runs rule w res m (named_step n o ∷ []) a (world b.view b.out e)) (sym says.0)
     (write_stops reads w m n o a (world b.view b.out e) clear same kept shows (write_with n o a b e says.1 met))
-concluded rule reads w m n o (Err step.DiskFault) r a b e clear same none kept shows met says =
+concluded rule reads w m n o (Err step.DiskFault) r a b e clear same kept shows met says =
     subst (λ (res : Result ℕ Fault). Runs rule w res m (named_step n o ∷ []) a (world b.view b.out e)) (sym says.0)
     (disk_stops reads w m n o a (world b.view b.out e) clear same shows (record { view = met.view; out = met.out; err = says.1 ∙ met.err }))

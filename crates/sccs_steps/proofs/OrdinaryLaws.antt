@@ -1,6 +1,6 @@
 -- What the step of an ordinary utility says, said of its answer with a status.
-use Rattle.std.specs.Prelude.{◌≡◌, ◌≢◌, ℕ, false, List, map, Option, None, Some, Result, Ok, Err, IfOk, IfSome, OnOk}
-use Rattle.std.proofs.Common.{inl, inr, refl, sym, ap, ◌∙◌}
+use Rattle.std.specs.Prelude.{◌≡◌, ℕ, List, map, Option, Result, Ok, Err, IfOk, OnOk}
+use Rattle.std.proofs.Common.{inl, inr, refl, ap}
 use Rattle.sccs_disk.specs.Files.{Model, View, view_of}
 use Rattle.sccs_disk.specs.Told.{Told}
 use Rattle.sccs_files.specs.StepFiles.{look}
@@ -11,7 +11,7 @@ use Rattle.sccs_steps.specs.Actions.{Action, SpeaksBy, SpeaksByAs, Stepped, Step
 use Rattle.sccs_steps.specs.Calls.{Scene}
 use Rattle.sccs_steps.specs.Causes.{Counts, Ignores, StepCauses}
 use Rattle.sccs_steps.specs.Ordinaries.{ordinary}
-use Rattle.sccs_steps.specs.Recovering.{RecoversStep, StepRecovers}
+use Rattle.sccs_steps.specs.Recovering.{StepRecovers}
 use Rattle.sccs_steps.specs.StepEffects.{Outcome}
 use Rattle.sccs_steps.specs.StepStops.{MeetsAt, MeetsAtAs, StepMoments, StepMomentsAs}
 use Rattle.sccs_steps.specs.Statuses.{with_status}

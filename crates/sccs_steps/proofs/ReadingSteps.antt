@@ -9,10 +9,13 @@ use Rattle.sccs_files.specs.StepFiles.{is_working, is_left, Moves, AreCleared}
 use Rattle.sccs_steps.specs.StepEffects.{Outcome, effect_of}
 use Rattle.sccs_steps.specs.Calls.{Meets, Uncommitted, Interrupted, world}
 
+pub same_cleared : (view : View) (told : Option View) (name : List ℕ) → told ≡ Some view → AreCleared name (Some view) told
+same_cleared view told name same = subst (λ (t : Option View). AreCleared name (Some view) t) (sym same) (λ k h. inr refl)
+
 pub kept : (view : View) (told : Option View) (name text : List ℕ) (out out2 err : Option (List ℕ)) → told ≡ Some view → GivesSome out out2 text → Uncommitted name text (world (Some view) out err) (world told out2 err)
 kept view told name text out out2 err same gives = record {
   view = subst (λ (t : Option View). Moves (is_working name) (λ v. v) (Some view) t) (sym same) (λ k h. refl);
-  cleared = subst (λ (t : Option View). AreCleared name (Some view) t) (sym same) (λ k h. inr refl);
+  cleared = same_cleared view told name same;
   out = gives;
   err = refl;
 }

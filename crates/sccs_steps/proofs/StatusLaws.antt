@@ -1,5 +1,5 @@
 -- How statuses are joined: laws.
-use Rattle.std.proofs.Common.{◌≡◌, ◌⊎◌, ◌<◌, ◌==◌, ℕ, zero, suc, max, Bool, true, false, eqb-true, inl, inr, refl, sym, ap, ◌∙◌, arith}
+use Rattle.std.proofs.Common.{◌≡◌, ◌⊎◌, ◌<◌, ◌==◌, ℕ, zero, suc, max, true, false, eqb-true, inl, inr, refl, sym, ap, ◌∙◌, arith}
 use Rattle.std.proofs.lemmas.Bool.{cases_Bool}
 use Rattle.sccs_steps.specs.Statuses.{idle_status, joined_status, zero_or_greater}
 use Rattle.sccs_steps.specs.declared.statuses.StatusRule.{StatusRule}

@@ -37,16 +37,18 @@ pub record Uncommitted (n text : List ℕ) (w w2 : World) : Type 0 where
   pub out : GivesSome w.out w2.out text
   pub err : w2.err ≡ w.err
 
--- The step is made.
+-- The step is made, and the working files that it made are gone.
 pub record Made (n : List ℕ) (d : StepEffect) (w w2 : World) : Type 0 where
   pub view : Moves (is_working n) (λ v. moved v n d.new) w.view w2.view
+  pub cleared : AreCleared n w.view w2.view
   pub out : GivesOk w.out w2.out (d.text ++ d.out)
   pub err : GivesOk w.err w2.err d.err
 
--- The step is committed, and a prefix of its report is written.
+-- The step is committed, the working files that it made are gone, and a prefix of its report is written.
 pub record ReportCut (n : List ℕ) (d : StepEffect) (w w2 : World) : Type 0 where
   pub status : d.status ≡ 0
   pub view : Moves (is_working n) (λ v. moved v n d.new) w.view w2.view
+  pub cleared : AreCleared n w.view w2.view
   pub out : GivesSome w.out w2.out (d.text ++ d.out)
   pub err : GivesSome w.err w2.err d.err
 

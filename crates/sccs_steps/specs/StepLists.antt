@@ -1,10 +1,10 @@
 -- Lists of steps: what they write and leave, and how a call that makes them ends.
-use Rattle.std.specs.Prelude.{◌≡◌, ◌⊎◌, ℕ, ◌<◌, ◌==◌, Bool, true, false, ◌&&◌, ◌||◌, List, [], ◌∷◌, ◌++◌, length, flat_map, Option, None, Some, Result, Ok, Err}
+use Rattle.std.specs.Prelude.{◌≡◌, ◌⊎◌, ℕ, ◌<◌, Bool, true, ◌||◌, List, [], ◌∷◌, ◌++◌, length, flat_map, Option, None, Some, Result, Ok, Err}
 use Rattle.std.specs.Str.{bytes_eq}
 use Rattle.sccs_base.specs.Name.{z_file}
 use Rattle.sccs_base.specs.Stream.{GivesOk, GivesSome}
 use Rattle.sccs_disk.specs.Files.{Folder, View, view_in}
-use Rattle.sccs_files.specs.StepFiles.{is_working, moved_in, Shows}
+use Rattle.sccs_files.specs.StepFiles.{moved_in, Shows}
 use Rattle.sccs_steps.specs.FirstFiles.{first_moved}
 use Rattle.sccs_steps.specs.StepEffects.{StepEffect, Outcome, effect_of}
 use Rattle.sccs_steps.specs.Calls.{World}
@@ -53,32 +53,27 @@ abbrev pub next_folder : Folder → List NamedStep → Folder
 next_folder m [] = m
 next_folder m (t ∷ ts) = moved_in m t.name t.effect.new
 
--- a working file of a name of which one of these steps was made, and not refused
-abbrev pub is_used : List NamedStep → List ℕ → Bool
-is_used [] k = false
-is_used (t ∷ ts) k = (t.effect.status == 0 && is_working t.name k) || is_used ts k
+-- each working file is gone, or as it was
+abbrev pub AreAllCleared : (List ℕ → Bool) → Option View → Option View → Type 0
+AreAllCleared w None new = Unit {0}
+AreAllCleared w (Some u) None = ⊥
+AreAllCleared w (Some u) (Some v) = (k : List ℕ) → w k ≡ true → (v k ≡ None) ⊎ (v k ≡ u k)
 
--- each working file is gone, or as it was, but for those of names of which one of these steps was made
-abbrev pub AreAllCleared : (List ℕ → Bool) → List NamedStep → Option View → Option View → Type 0
-AreAllCleared w ts None new = Unit {0}
-AreAllCleared w ts (Some u) None = ⊥
-AreAllCleared w ts (Some u) (Some v) = (k : List ℕ) → w k ≡ true → is_used ts k ≡ false → (v k ≡ None) ⊎ (v k ≡ u k)
-
--- All steps are made: out and err have all that they write, and the disk shows the last folder; working files that a refused step
--- made are gone.
+-- All steps are made: out and err have all that they write, the disk shows the last folder, and the working files that they made
+-- are gone.
 pub record Ran (w : List ℕ → Bool) (m : Folder) (ts : List NamedStep) (a b : World) : Type 0 where
   pub view : Shows w b.view (view_in (folder_after m ts))
-  pub cleared : AreAllCleared w ts a.view b.view
+  pub cleared : AreAllCleared w a.view b.view
   pub out : GivesOk a.out b.out (out_of ts)
   pub err : GivesOk a.err b.err (err_of ts)
 
--- Some steps are made, and no byte of a later report is written; working files that the next step or a refused one made are gone.
+-- Some steps are made, and no byte of a later report is written; the working files that they and the next step made are gone.
 pub record Stopped (w : List ℕ → Bool) (m : Folder) (ts : List NamedStep) (a b : World) : Type 0 where
   pub made : List NamedStep
   pub rest : List NamedStep
   pub is : ts ≡ made ++ rest
   pub view : Shows w b.view (view_in (folder_after m made))
-  pub cleared : AreAllCleared w made a.view b.view
+  pub cleared : AreAllCleared w a.view b.view
   pub out : GivesSome a.out b.out (out_of made ++ next_text rest)
   pub err : GivesSome a.err b.err (err_of made)
 

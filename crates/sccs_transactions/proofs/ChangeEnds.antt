@@ -21,6 +21,7 @@ use Rattle.sccs_moments.specs.Recovery.{cleared, without}
 use Rattle.sccs_store.proofs.Committed.{committed_at, first_is, second_is}
 use Rattle.sccs_moments.proofs.FileNames.{no_q, no_working, no_x, no_y, no_z}
 use Rattle.sccs_transactions.specs.Changes.{Changing, IsPrepared, IsUnmade, Prepares, PreparesChange, locking_step, plan_of, unlocked}
+use Rattle.sccs_transactions.proofs.Taken.{committed_clears}
 use Rattle.sccs_transactions.specs.Ends.{Finishes, GivesUp}
 use Rattle.sccs_transactions.specs.declared.prepared.Prepared.{Prepared}
 
@@ -198,6 +199,7 @@ cut_finished n p o v ob2 od out out2 out3 err err3 sfile free prepared finishes 
   record {
     status = prepared.status;
     view = committed_moves n (plan_of p) prepared.effect.new v ob2 od sfile free prepared.view prepared.files finishes.0;
+    cleared = committed_clears n (plan_of p) v ob2 od sfile prepared.view prepared.working finishes.0;
     out = text_cut out out2 out3 prepared.effect.text prepared.effect.out p.report prepared.out finishes.1.out prepared.report;
     err = subst (λ m. GivesSome err err3 m) (sym prepared.message) finishes.1.err;
   },
@@ -212,6 +214,7 @@ ends_finished (Ok done) n p o v ob2 od out out2 out3 err err3 sfile free prepare
   prepared.status,
   record {
     view = committed_moves n (plan_of p) prepared.effect.new v ob2 od sfile free prepared.view prepared.files finishes.0;
+    cleared = committed_clears n (plan_of p) v ob2 od sfile prepared.view prepared.working finishes.0;
     out = text_gives out out2 out3 prepared.effect.text prepared.effect.out p.report prepared.out finishes.1.out prepared.report;
     err = subst (λ m. GivesOk err err3 m) (sym prepared.message) finishes.1.err;
   },

@@ -1,5 +1,5 @@
 -- A change of the files of a name: what it prepares between its lock and its commit, and the action that it is.
-use Rattle.std.specs.Prelude.{◌≡◌, ℕ, Bool, true, false, List, [], map, drop, Option, Some, Result, Ok, Err, IfSome, is_none}
+use Rattle.std.specs.Prelude.{◌≡◌, ◌⊎◌, ℕ, Bool, true, false, List, [], map, drop, Option, None, Some, Result, Ok, Err, IfSome, is_none}
 use Rattle.std.specs.Result.{IfOk}
 use Rattle.sccs_base.specs.Name.{is_sfile_name, p_file, q_file, x_file, y_file, z_file}
 use Rattle.sccs_base.specs.Stream.{GivesOk, GivesSome}
@@ -7,7 +7,7 @@ use Rattle.sccs_sid.specs.Reading.{◌>>=◌}
 use Rattle.sccs_sid.specs.declared.refusals.Refusal.TheVariants.{Locked}
 use Rattle.sccs_sid.specs.declared.refusals.StepFault.{StepFault}
 use Rattle.sccs_sid.specs.declared.refusals.StepFault.TheVariants.{Refused}
-use Rattle.sccs_disk.specs.Files.{View}
+use Rattle.sccs_disk.specs.Files.{Content, View}
 use Rattle.sccs_disk.specs.Told.{Told}
 use Rattle.sccs_files.specs.StepFiles.{Moves, is_working, look}
 use Rattle.sccs_steps.specs.StepEffects.{Outcome, StepEffect, check, effect_of}
@@ -16,6 +16,8 @@ use Rattle.sccs_steps.specs.Actions.{Action, IsHeard, Step}
 use Rattle.sccs_steps.specs.declared.statuses.StatusRule.TheVariants.{Greatest}
 use Rattle.sccs_disk.specs.Calls.{IsThere}
 use Rattle.sccs_store.specs.Commits.{Needs, Plan, files_after, plan}
+use Rattle.sccs_store.specs.declared.new_files.NewFile.{NewFile}
+use Rattle.sccs_store.specs.declared.new_files.NewFile.TheVariants.{Keep, Replace, Remove}
 use Rattle.sccs_moments.specs.Recovery.{without}
 use Rattle.sccs_transactions.specs.declared.prepared.Prepared.{Prepared}
 
@@ -49,7 +51,20 @@ unlocked n v = without (z_file n) v
 abbrev pub plan_of : Prepared → Plan
 plan_of p = plan p.new_s p.new_p p.new_g
 
--- The new files are prepared, the text before the commit is written, and at most working files have changed.
+-- a working file that a commit takes, or that is gone, or as it was
+abbrev pub IsTakenOrGone : NewFile → Option Content → Option Content → Type 0
+IsTakenOrGone Keep old new = (new ≡ None) ⊎ (new ≡ old)
+IsTakenOrGone Replace old new = Unit {0}
+IsTakenOrGone Remove old new = (new ≡ None) ⊎ (new ≡ old)
+
+-- Each working file is taken by the commit, or gone, or as it was.
+pub record AreTakenOrGone (n : List ℕ) (c : Plan) (u v : View) : Type 0 where
+  pub x : IsTakenOrGone c.s (u (x_file n)) (v (x_file n))
+  pub q : IsTakenOrGone c.p (u (q_file n)) (v (q_file n))
+  pub y : IsTakenOrGone c.g (u (y_file n)) (v (y_file n))
+
+-- The new files are prepared, the text before the commit is written, at most working files have changed, and those that the
+-- commit doesn't take are gone, or as they were.
 pub record IsPrepared (n : List ℕ) (p : Prepared) (o : Outcome) (w w2 : World) : Type 0 where
   pub effect : StepEffect
   pub is : o ≡ Ok effect
@@ -57,6 +72,7 @@ pub record IsPrepared (n : List ℕ) (p : Prepared) (o : Outcome) (w w2 : World)
   pub report : effect.out ≡ p.report
   pub message : effect.err ≡ p.message
   pub view : Moves (is_working n) (λ v. v) w.view w2.view
+  pub working : IfSome w.view (λ u. IfSome w2.view (λ v. AreTakenOrGone n (plan_of p) u v))
   pub files : IfSome w2.view (λ v. effect.new ≡ Some (files_after n (plan_of p) v))
   pub out : GivesOk w.out w2.out effect.text
 

@@ -14,7 +14,7 @@ use Rattle.sccs_sid.specs.declared.refusals.StepFault.{StepFault}
 use Rattle.sccs_sid.specs.declared.refusals.StepFault.TheVariants.{Refused, Memory, ReadFault, WriteFault, DiskFault}
 use Rattle.sccs_steps.specs.Actions.{RefusesWithin}
 use Rattle.sccs_steps.specs.Calls.{Meets, world}
-use Rattle.sccs_steps.proofs.ReadingSteps.{broken, kept}
+use Rattle.sccs_steps.proofs.ReadingSteps.{broken, kept, same_cleared}
 use Rattle.sccs_what.specs.Texts.{what_text}
 use Rattle.sccs_what.specs.SearchedFiles.{PrintsTexts}
 use Rattle.sccs_what.specs.WhatStep.{MeetsWhat, finds_texts, found_status, what_step}
@@ -28,6 +28,7 @@ printed first n bytes v told2 (Ok found) out out2 err same prints = (
   ap found_status (sym prints.1),
   record {
     view = subst (λ (t : Option View). Moves (is_working n) (λ u. u) (Some v) t) (sym same) (λ k h. refl);
+    cleared = same_cleared v told2 n same;
     out = subst (λ (l : List ℕ). GivesOk out out2 l) (sym (append-nil (what_text first n bytes))) prints.0;
     err = gives_none err;
   },

@@ -1,11 +1,14 @@
-use Rattle.std.proofs.Common.{◌∙◌}
+use Rattle.std.proofs.Common.{sym, ◌∙◌}
 use Rattle.sccs_base.specs.Name.{q_file}
 use Rattle.sccs_pfile.specs.Recovered.{written_pfile}
 use Rattle.std.proofs.Common.{refl}
 use Rattle.std.specs.Str.{bytes_eq}
 use Rattle.sccs_store.proofs.Working.{made_moves, same_touches}
-use Rattle.sccs_pending.proofs.EntryLaws.{some_chosen}
+use Rattle.sccs_pending.proofs.EntryLaws.{none_chosen, some_chosen}
 use Rattle.sccs_pending.proofs.new_pfiles.prepare_entries.Goals as goal
+
+pub returns-then-len-eq0-clause-entries : goal.returns-then-len-eq0-clause-entries
+returns-then-len-eq0-clause-entries g c = none_chosen c.args.name.now c.args.edits.now _ (sym c.len.ensures ∙ c.if-len-eq0.true)
 
 pub returns-in-Ok-clause-entries : goal.returns-in-Ok-clause-entries
 returns-in-Ok-clause-entries g c = some_chosen c.args.name.now c.args.edits.now _ (g.D.Disk.told c.prepare_p.new.disk) (λ none. c.if-len-eq0.false (c.len.ensures ∙ none)) c.in-Ok.ensures.view

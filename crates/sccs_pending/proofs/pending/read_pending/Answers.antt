@@ -1,4 +1,4 @@
-use Rattle.std.proofs.Common.{ℕ, List, Ok, Err, refl, subst, sym, ap, ◌∙◌}
+use Rattle.std.proofs.Common.{ℕ, List, Ok, Err, refl, subst, ap, ◌∙◌}
 use Rattle.sccs_base.specs.Name.{p_file}
 use Rattle.sccs_disk.specs.Told.{seen}
 use Rattle.sccs_pfile.specs.Reading.{edits_of}

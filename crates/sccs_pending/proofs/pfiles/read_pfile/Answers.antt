@@ -1,4 +1,4 @@
-use Rattle.std.proofs.Common.{ℕ, List, Ok, subst, sym}
+use Rattle.std.proofs.Common.{ℕ, List, subst}
 use Rattle.sccs_base.specs.Name.{p_file}
 use Rattle.sccs_disk.specs.Told.{seen}
 use Rattle.sccs_pfile.specs.Reading.{edits_of}

@@ -28,7 +28,7 @@ returns-clause-run g c = record {
   steps = λ w m i spares clear shows heard.
       stepped_runs (g.U.UtilityWithStatus.action c.args.utility.now) w m i c.args.name.now c.in-Some.file c.step-made.result _ _
       (setting g.I.Source g.O.Sink g.E.Sink g.D.Disk c.args.streams.now).stage (scene (g.D.Disk.told c.step-made.new.disk) (g.O.Sink.given c.step-made.new.out) (g.E.Sink.given c.step-made.new.err)) _
-      (g.U.UtilityWithStatus.keeps c.args.utility.now) (sym c.in-Some.ensures.exact) c.in-Some.ensures.found clear.0 c.step-made.ensures.reads c.step-made.ensures.status shows heard c.step-made.ensures.step c.conclude-2.ensures.concludes;
+      (g.U.UtilityWithStatus.keeps c.args.utility.now) (sym c.in-Some.ensures.exact) c.in-Some.ensures.found clear.0 c.step-made.ensures.reads shows heard c.step-made.ensures.step c.conclude-2.ensures.concludes;
   stops =
       stepped_stops (g.U.UtilityWithStatus.action c.args.utility.now) c.args.name.now c.in-Some.file c.step-made.result _ (g.I.Source.left c.args.streams.now.input.now)
       (setting g.I.Source g.O.Sink g.E.Sink g.D.Disk c.args.streams.now).stage (scene (g.D.Disk.told c.step-made.new.disk) (g.O.Sink.given c.step-made.new.out) (g.E.Sink.given c.step-made.new.err)) _
@@ -41,7 +41,7 @@ returns-clause-run g c = record {
       (λ w m i spares clear shows heard.
       stepped_runs (g.U.UtilityWithStatus.action c.args.utility.now) w m i c.args.name.now c.in-Some.file c.step-made.result _ _
       (setting g.I.Source g.O.Sink g.E.Sink g.D.Disk c.args.streams.now).stage (scene (g.D.Disk.told c.step-made.new.disk) (g.O.Sink.given c.step-made.new.out) (g.E.Sink.given c.step-made.new.err)) _
-      (g.U.UtilityWithStatus.keeps c.args.utility.now) (sym c.in-Some.ensures.exact) c.in-Some.ensures.found clear.0 c.step-made.ensures.reads c.step-made.ensures.status shows heard c.step-made.ensures.step c.conclude-2.ensures.concludes);
+      (g.U.UtilityWithStatus.keeps c.args.utility.now) (sym c.in-Some.ensures.exact) c.in-Some.ensures.found clear.0 c.step-made.ensures.reads shows heard c.step-made.ensures.step c.conclude-2.ensures.concludes);
   speaks =
       step_speaks (g.U.UtilityWithStatus.action c.args.utility.now) c.args.name.now c.in-Some.file c.step-made.result _ _ _ _ (sym c.in-Some.ensures.exact) c.in-Some.ensures.found c.step-made.ensures.speaks c.conclude-2.ensures.concludes;
   reads = search rules;
