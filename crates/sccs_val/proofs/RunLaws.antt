@@ -1,15 +1,15 @@
 -- The one step of val in a run.
-use Rattle.std.proofs.Common.{◌≡◌, ◌⊎◌, ℕ, ◌<◌, ◌==◌, length, Bool, true, false, cond, List, [], ◌∷◌, ◌++◌, Option, None, Some, option_map, IfSome, IfOk, Result, Ok, Err, inl, inr, refl, sym, ap, subst, ◌∙◌, append-nil, codes, flat_map}
+use Rattle.std.proofs.Common.{◌≡◌, ◌⊎◌, ℕ, ◌<◌, ◌≤◌, ◌==◌, length, Bool, true, false, cond, List, [], ◌∷◌, ◌++◌, Option, None, Some, option_map, IfSome, IfOk, Result, Ok, Err, inl, inr, refl, sym, ap, subst, ◌∙◌, append-nil, codes, flat_map}
 use Rattle.std.specs.List.{fold}
 use Rattle.std.specs.Int.Bits.{bit_or}
 use Rattle.sccs_base.specs.Constants.{file_limit}
 use Rattle.sccs_base.specs.Cut.{text_of}
 use Rattle.sccs_base.specs.Name.{is_sfile_name, sfile_name_decides}
-use Rattle.sccs_base.specs.Stream.{GivesOk, GivesSome}
+use Rattle.sccs_base.specs.Stream.{GivesOk, GivesSome, Rose}
 use Rattle.sccs_base.proofs.Gifts.{gives_none, some_none}
 use Rattle.sccs_disk.specs.Files.{Content, Folder, Model, View, view_in}
 use Rattle.sccs_disk.specs.Told.{Told, seen}
-use Rattle.sccs_files.specs.StepFiles.{Shows, Moves, is_working}
+use Rattle.sccs_files.specs.StepFiles.{AreCleared, Shows, Moves, is_working}
 use Rattle.sccs_sid.specs.Refusal.{number_of}
 use Rattle.sccs_sid.specs.declared.refusals.Refusal.{Refusal}
 use Rattle.sccs_sid.specs.declared.refusals.Refusal.TheVariants as refusals
@@ -17,11 +17,13 @@ use Rattle.sccs_sid.specs.declared.refusals.StepFault.{StepFault}
 use Rattle.sccs_sid.specs.declared.refusals.StepFault.TheVariants.{Refused, Memory, ReadFault, WriteFault, DiskFault}
 use Rattle.sccs_steps.specs.Actions.{IsHeard, KeepsFiles, RefusesWithin, SteppedAs, has_number, step_at}
 use Rattle.sccs_steps.specs.Calls.{Meets, Scene, World, scene, shown, world}
+use Rattle.sccs_steps.specs.Causes.{RunCauses, StepCauses, counts}
 use Rattle.sccs_steps.specs.ListStops.{RunMoments, Spares}
 use Rattle.sccs_steps.specs.Messages.{Concludes}
 use Rattle.sccs_steps.specs.Running.{MakesBy, StopsBy}
 use Rattle.sccs_steps.specs.StepEffects.{Outcome, StepEffect, effect_of}
 use Rattle.sccs_steps.specs.declared.faults.Fault.{Fault}
+use Rattle.sccs_steps.specs.declared.faults.Fault.TheVariants as ends
 use Rattle.sccs_steps.proofs.NameLaws.{fitting, stepped_runs}
 use Rattle.sccs_steps.proofs.NameStops.{stepped_stops}
 use Rattle.sccs_steps.proofs.ReadingMoments.{reading_moments_as}
@@ -107,6 +109,7 @@ judged_meets false text status n (Ok code) v told2 out out2 err same judges = (
   sym judges.1,
   record {
     view = subst (λ (t : Option View). Moves (is_working n) (λ u. u) (Some v) t) (sym same) (λ k h. refl);
+    cleared = subst (λ (t : Option View). AreCleared n (Some v) t) (sym same) (λ k h. inr refl);
     out = subst (λ (l : List ℕ). GivesOk out out2 l) (sym (append-nil text)) judges.2;
     err = gives_none err;
   },
@@ -166,7 +169,7 @@ val_leaves words m i =
 pub val_makes : (words : ValWords) (made : Result ℕ StepFault) (r : Result ℕ Fault) (left : Option (List ℕ)) (a b : Told) (out out2 err err2 : Option (List ℕ)) → b ≡ a → ValTold words (seen a) left made out out2 → Concludes made (codes "-") r err err2
     → MakesBy (val_action words) (val_steps words) (IsHeard (takes_lines words) left) r (scene a out err) (scene b out2 err2)
 val_makes words made r left a b out out2 err err2 same told says = λ w folder i spares clear shows heard.
-    stepped_runs (val_over words (view_in folder)) w folder i (codes "-") (codes "-") made r left (scene a out err) (scene b out2 err) err2 (val_keeps words (view_in folder)) refl refl clear.0 (λ reads. same) (λ changes. absurd cc) shows heard
+    stepped_runs (val_over words (view_in folder)) w folder i (codes "-") (codes "-") made r left (scene a out err) (scene b out2 err) err2 (val_keeps words (view_in folder)) refl refl clear.0 (λ reads. same) shows heard
     (val_stepped words w folder (codes "-") made left a b out out2 err same spares shows told) says
 
 pub val_stops : (words : ValWords) (made : Result ℕ StepFault) (r : Result ℕ Fault) (left : Option (List ℕ)) (a b : Told) (out out2 err err2 : Option (List ℕ)) → b ≡ a → ValTold words (seen a) left made out out2 → Concludes made (codes "-") r err err2
@@ -182,3 +185,21 @@ val_stops words made r left a b out out2 err err2 same told says = λ w folder i
 -- over any disk
 pub val_refuses : (r : Result ℕ StepFault) (left : Option (List ℕ)) → ((refusal : Refusal) → r ≡ Err (Refused refusal) → (refusal ≡ refusals.TooLong) × IfSome left (λ i. file_limit < length i)) → RefusesWithin (number_of refusals.TooLong ∷ []) r
 val_refuses r left long refusal is = subst (λ (q : Refusal). has_number (number_of refusals.TooLong ∷ []) (number_of q) ≡ true) (sym (long refusal is).0) refl
+
+-- why the run ends early
+pub val_causes : (made : Result ℕ StepFault) (r : Result ℕ Fault) (i i2 o o2 e e2 d d2 : ℕ) → StepCauses made (counts i o e d) (counts i2 o2 e d2) → e ≤ e2
+    → (r ≡ Err ends.WriteFault → ((made ≡ Err WriteFault) × (e2 ≡ e)) ⊎ Rose e e2) → (r ≡ Err ends.ReadFault → made ≡ Err ReadFault) → (r ≡ Err ends.DiskFault → made ≡ Err DiskFault)
+    → RunCauses r (counts i o e d) (counts i2 o2 e2 d2)
+val_causes made r i i2 o o2 e e2 d d2 causes later write read broke = record {
+  input_later = causes.input_later;
+  out_later = causes.out_later;
+  err_later = later;
+  disk_later = causes.disk_later;
+  read = λ is. causes.read (read is);
+  write = λ is. written (write is);
+  broke = λ is. causes.broke (broke is);
+}
+  where
+    written : ((made ≡ Err WriteFault) × (e2 ≡ e)) ⊎ Rose e e2 → Rose o o2 ⊎ Rose e e2
+    written (inl (failed, same)) = subst (λ k. Rose o o2 ⊎ Rose e k) (sym same) (causes.write failed)
+    written (inr rose) = inr rose

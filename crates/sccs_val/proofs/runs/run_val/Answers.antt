@@ -7,7 +7,7 @@ use Rattle.sccs_steps.proofs.ReadingMoments.{quiet_speaks}
 use Rattle.sccs_steps.proofs.UnlockedSteps.{none_unlocked}
 use Rattle.sccs_val.specs.Reports.{takes_lines}
 use Rattle.sccs_val.specs.ValStep.{val_action, val_steps}
-use Rattle.sccs_val.proofs.RunLaws.{val_makes, val_refuses, val_stops}
+use Rattle.sccs_val.proofs.RunLaws.{val_causes, val_makes, val_refuses, val_stops}
 use Rattle.sccs_val.proofs.runs.run_val.Goals as goal
 
 pub returns-clause-run : goal.returns-clause-run
@@ -25,5 +25,7 @@ returns-clause-run g c =
       reads = λ is. c.val-made.ensures.same;
       silent = λ is. absurd cc;
       ignores = search rules;
-      causes = search rules;
+      causes =
+          val_causes c.val-made.result c.conclude.result _ _ _ _ _ _ _ _ (c.val-made.ensures.causes (g.E.Sink.faults c.args.streams.now.err.now)) c.conclude.ensures.later c.conclude.ensures.cause
+          c.conclude.ensures.read c.conclude.ensures.broke;
     }
