@@ -32,7 +32,7 @@ use Rattle.sccs_steps.specs.Calls.{world}
 use Rattle.sccs_steps.specs.StepEffects.{Outcome, StepEffect, check}
 use Rattle.sccs_store.specs.Commits.{chosen, files_after, replaced}
 use Rattle.sccs_moments.proofs.FileNames.{from_g, from_s}
-use Rattle.sccs_transactions.specs.Changes.{IsUnmade, Prepares, plan_of, unlocked}
+use Rattle.sccs_transactions.specs.Changes.{AreTakenOrGone, IsUnmade, Prepares, plan_of, unlocked}
 use Rattle.sccs_transactions.specs.declared.prepared.Prepared.{Prepared}
 use Rattle.sccs_pending.specs.NewEntries.{kept_g}
 use Rattle.sccs_pending.specs.PFiles.{Answers, Passes, is_short}
@@ -275,6 +275,7 @@ made words stamp n v found e orders checks (Ok p) a b o out err sfile here moves
   report = sym makes.2.report_is;
   message = sym makes.2.message_is;
   view = moves;
+  working = subst (λ (w : Option View). IfSome w (λ (x : View). IfSome (seen b) (λ (y : View). AreTakenOrGone n (plan_of p) x y))) here makes.2.working;
   files = files_seen n _ _ words.keep p v (seen b) sfile makes.2.new_s moves makes.2.x_state makes.2.entries (subst (λ (w : Option View). IfSome w (λ (x : View). (y : Option Content) → chosen p.new_g y (x (drop 2 n)) ≡ kept_g words.keep (x (drop 2 n)))) here makes.2.g_state);
   out = gives_none out;
 }

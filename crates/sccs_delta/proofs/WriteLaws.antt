@@ -20,7 +20,8 @@ use Rattle.sccs_store.specs.Commits.{Becomes, Needs, chosen, replaced}
 use Rattle.sccs_store.specs.Stops.{OnReplace}
 use Rattle.sccs_store.specs.declared.new_files.NewFile.{NewFile}
 use Rattle.sccs_store.specs.declared.new_files.NewFile.TheVariants.{Keep, Replace, Remove}
-use Rattle.sccs_transactions.specs.Changes.{IsReady}
+use Rattle.sccs_transactions.specs.Changes.{AreTakenOrGone, IsReady, IsTakenOrGone, plan_of}
+use Rattle.sccs_transactions.proofs.Taken.{untouched}
 use Rattle.sccs_transactions.specs.Stops.{IsFirmPrepared}
 use Rattle.sccs_pending.specs.NewEntries.{LeavesG, PreparesEntries, kept_g}
 use Rattle.sccs_base.specs.Name.{sibling}
@@ -124,6 +125,7 @@ writes_as n h h2 items items2 edits keep report report2 message message2 p a b s
   x_state = subst (λ (i : List Item). IfSome (seen b) (λ (v : View). v (x_file n) ≡ Some (sealed h2 i))) same_items (subst (λ (x : Header). IfSome (seen b) (λ (v : View). v (x_file n) ≡ Some (sealed x items))) same_h writes.x_state);
   entries = writes.entries;
   g_state = writes.g_state;
+  working = writes.working;
 }
 
 pub delta_made : (words : DeltaWords) (stamp : Stamp) (n : List ℕ) (header : Header) (items : List Item) (edits : List Edit) (e : Entry) (orders : List Order) (lines : ℕ) (keyword : Bool) (s : NewSfile) (report message : List ℕ) (r : Result Prepared StepFault) (a b : Told) → lines ≡ length (base_lines items e.base)
@@ -159,6 +161,18 @@ g_before n keep p None o2 apart moves g = tt
 g_before n keep p (Some v) None apart moves g = absurd moves
 g_before n keep p (Some v) (Some w) apart moves g = subst (λ (c : Option Content). (y : Option Content) → chosen p.new_g y c ≡ kept_g keep c) (moves (drop 2 n) apart) g
 
+-- the x-file is taken, and no y-file is made
+both_taken : (n : List ℕ) (p : Prepared) (o o2 o3 : Option View) → p.new_s ≡ true → Moves (bytes_eq (x_file n)) (λ v. v) o o2 → Moves (bytes_eq (q_file n)) (λ v. v) o2 o3 → IfSome o2 (λ (u : View). IfSome o3 (λ (v : View). IsTakenOrGone p.new_p (u (q_file n)) (v (q_file n))))
+    → IfSome o (λ u. IfSome o3 (λ v. AreTakenOrGone n (plan_of p) u v))
+both_taken n p None o2 o3 new x q taken = tt
+both_taken n p (Some u) None o3 new x q taken = absurd x
+both_taken n p (Some u) (Some w) None new x q taken = tt
+both_taken n p (Some u) (Some w) (Some v) new x q taken = record {
+  x = subst (λ b. IsTakenOrGone (replaced b) (u (x_file n)) (v (x_file n))) (sym new) tt;
+  q = subst (λ (c : Option Content). IsTakenOrGone p.new_p c (v (q_file n))) (x (q_file n) refl) taken;
+  y = untouched p.new_g _ _ (q (y_file n) refl ∙ x (y_file n) refl);
+}
+
 pub files_written : (n : List ℕ) (h : Header) (items : List Item) (edits : List Edit) (keep : Bool) (report message : List ℕ) (p : Prepared) (a b b2 c : Told) → IsSpelled h → b2 ≡ b → bytes_eq (q_file n) (x_file n) ≡ false → bytes_eq (x_file n) (drop 2 n) ≡ false → p.new_s ≡ true → p.report ≡ report → p.message ≡ message → WritesX h items (x_file n) (seen a) (seen b) (Ok tt)
     → Moves (bytes_eq (q_file n)) (λ v. v) (seen b2) (seen c) → PreparesEntries n edits p.new_p b2 c → Moves (bytes_eq (x_file n)) (λ v. v) (seen a) (seen b) → IfSome (seen b) (λ (v : View). (y : Option Content) → chosen p.new_g y (v (drop 2 n)) ≡ kept_g keep (v (drop 2 n))) → WritesFiles n h items edits keep report message p a c
 files_written n h items edits keep report message p a b b2 c spelling same apart apart_g new_s report_is message_is x moves entries before g = record {
@@ -169,6 +183,8 @@ files_written n h items edits keep report message p a b b2 c spelling same apart
   x_state = by (seen a) (seen b) (seen c) x (subst (λ t. Moves (bytes_eq (q_file n)) (λ v. v) (seen t) (seen c)) same moves);
   entries = entries.chosen_is;
   g_state = g_before n keep p (seen a) (seen b) apart_g before g;
+  working = both_taken n p (seen a) (seen b) (seen c) new_s before (subst (λ t. Moves (bytes_eq (q_file n)) (λ v. v) (seen t) (seen c)) same moves)
+      (subst (λ t. IfSome (seen t) (λ (u : View). IfSome (seen c) (λ (v : View). IsTakenOrGone p.new_p (u (q_file n)) (v (q_file n))))) same entries.taken);
 }
   where
     by : (o o2 o3 : Option View) → Becomes (λ v. put v (x_file n) (Some (sealed h items))) o o2 → Moves (bytes_eq (q_file n)) (λ v. v) o2 o3 → IfSome o3 (λ (v : View). v (x_file n) ≡ Some (sealed h items))

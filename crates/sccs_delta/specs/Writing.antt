@@ -19,6 +19,7 @@ use Rattle.sccs_records.specs.NewDeltas.{null_delta}
 use Rattle.sccs_splicer.specs.Splices.{begun}
 use Rattle.sccs_store.specs.Commits.{Becomes, chosen}
 use Rattle.sccs_store.specs.SealedFiles.{sealed}
+use Rattle.sccs_transactions.specs.Changes.{AreTakenOrGone, plan_of}
 use Rattle.sccs_transactions.specs.declared.prepared.Prepared.{Prepared}
 use Rattle.sccs_pending.specs.NewEntries.{kept_g}
 use Rattle.sccs_words.specs.declared.commands.DeltaWords.{DeltaWords}
@@ -57,7 +58,8 @@ WritesX h items n old new (Err DiskFault) = Unit {0}
 WritesX h items n old new (Err ReadFault) = ⊥
 WritesX h items n old new (Err WriteFault) = ⊥
 
--- The x-file is this s-file, whose header has a spelling, and a commit leaves these entries and the g-file or none.
+-- The x-file is this s-file, whose header has a spelling, a commit leaves these entries and the g-file or none, and each working
+-- file that it doesn't take is gone, or as it was.
 pub record WritesFiles (n : List ℕ) (h : Header) (items : List Item) (edits : List Edit) (keep : Bool) (report message : List ℕ) (p : Prepared) (old new : Told) : Type 0 where
   pub spelled : IsSpelled h
   pub new_s : p.new_s ≡ true
@@ -66,6 +68,7 @@ pub record WritesFiles (n : List ℕ) (h : Header) (items : List Item) (edits : 
   pub x_state : IfSome (seen new) (λ (v : View). v (x_file n) ≡ Some (sealed h items))
   pub entries : IfSome (seen new) (λ (v : View). (kept : Option Content) → chosen p.new_p (v (q_file n)) kept ≡ pfile_of edits)
   pub g_state : IfSome (seen old) (λ (v : View). (y : Option Content) → chosen p.new_g y (v (drop 2 n)) ≡ kept_g keep (v (drop 2 n)))
+  pub working : IfSome (seen old) (λ u. IfSome (seen new) (λ v. AreTakenOrGone n (plan_of p) u v))
 
 -- of a told file no refusal comes
 abbrev pub WritesDelta : List ℕ → Header → List Item → List Edit → Bool → List ℕ → List ℕ → Told → Told → Result Prepared StepFault → Type 0
