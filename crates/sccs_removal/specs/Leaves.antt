@@ -35,7 +35,8 @@ first_made test (r ∷ s ∷ rs) = first_made test (s ∷ rs)
 -- it isn't the first delta of the file, but the newest one of its branch, and no other rests on it
 abbrev pub is_leaf : List Record → Record → Bool
 is_leaf records r =
-    not (first_made (λ a. a.serial == r.serial) records) && (not (has_later records r.sid) && not (is_base records r.serial))
+    not (first_made (λ a. a.serial == r.serial) records)
+    && (not (has_later records r.sid) && not (is_base records r.serial))
 
 -- the login made the delta, or the first one of the file
 abbrev pub is_owner : List Record → Record → List ℕ → Bool

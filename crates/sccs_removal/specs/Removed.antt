@@ -28,8 +28,8 @@ without_delta n header = record header { records = removed_records n header.reco
 abbrev pub history_without : ℕ → History → History
 history_without n h = record { header = without_delta n h.header; lines = dropped_lines n h.lines }
 
--- What the removal of a delta leaves, version by version: each live delta has the set and the text that it had, and so has whatever
--- is asked for whose target doesn't descend from the delta and which doesn't take it in.
+-- What the removal of a delta leaves, version by version: each live delta has the set and the text that it had, and so
+-- has whatever is asked for whose target doesn't descend from the delta and which doesn't take it in.
 pub record KeepsVersions (n : ℕ) (records : List Record) (lines : List HistoryLine) : Type 0 where
   pub versions : (m : ℕ) → has (live_serials (removed_records n records)) m ≡ true
       → version m (removed_records n records) (dropped_lines n lines) ≡ version m records lines

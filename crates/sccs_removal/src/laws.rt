@@ -37,9 +37,11 @@ pub fn removal_keeps_versions()
 pub fn removal_keeps_rules()
     ensures header { (n : ℕ) (header : Header) → IsHeader header → IsHeader (without_delta n header) }
     ensures spelled { (n : ℕ) (header : Header) → IsSpelled header → IsSpelled (without_delta n header) }
-    ensures live { (n : ℕ) (records : List Record) → live_serials (removed_records n records) ≡ without n (live_serials records) }
+    ensures live { (n : ℕ) (records : List Record)
+        → live_serials (removed_records n records) ≡ without n (live_serials records) }
     ensures valid { (n : ℕ) (h : History) → IsValid h → IsValid (history_without n h) }
-    ensures rooted { (n : ℕ) (h : History) → IsRooted h → is_base h.header.records n ≡ false → IsRooted (history_without n h) }
+    ensures rooted { (n : ℕ) (h : History) → IsRooted h → is_base h.header.records n ≡ false
+        → IsRooted (history_without n h) }
 {}
 
 /// Pending edits that agree with a table still do when a delta is removed that none of them got or lists.
