@@ -5,3 +5,4 @@ pub mod FirstMade
 pub mod KeptVersions
 pub mod Places
 pub mod RemovedTables
+pub mod Roots

@@ -1,5 +1,5 @@
 //! Laws: what the definitions of this crate say together. Each is proved of all values.
-ghost use Rattle.std.specs.Prelude.{◌≡◌, ℕ, List, [], Some, true, false};
+ghost use Rattle.std.specs.Prelude.{◌≡◌, ◌∷◌, ℕ, List, [], Some, true, false};
 ghost use Rattle.sccs_sid.specs.declared.sids.Sid.{Sid};
 ghost use Rattle.sccs_history.specs.Applied.{live_serials};
 ghost use Rattle.sccs_history.specs.Body.{GoesOn, HistoryLine, lines_of};
@@ -10,6 +10,8 @@ ghost use Rattle.sccs_history.specs.Select.{select};
 ghost use Rattle.sccs_history.specs.declared.headers.Header.{Header};
 ghost use Rattle.sccs_history.specs.declared.headers.Item.{Item};
 ghost use Rattle.sccs_history.specs.declared.headers.Record.{Record};
+ghost use Rattle.sccs_records.specs.NewDeltas.{with_deltas};
+ghost use Rattle.sccs_records.specs.declared.new_deltas.NewDelta.{NewDelta};
 ghost use Rattle.sccs_pfile.specs.Agreement.{Agrees};
 ghost use Rattle.sccs_pfile.specs.declared.entries.Edit.{Edit};
 ghost use Rattle.sccs_removal.specs.Leaves.{is_base, is_edited, live_delta};
@@ -42,6 +44,12 @@ pub fn removal_keeps_rules()
     ensures valid { (n : ℕ) (h : History) → IsValid h → IsValid (history_without n h) }
     ensures rooted { (n : ℕ) (h : History) → IsRooted h → is_base h.header.records n ≡ false
         → IsRooted (history_without n h) }
+{}
+
+/// A rooted table stays so with new deltas, the first of which is made on a live one.
+pub fn new_deltas_keep_roots()
+    ensures { (header : Header) (on : ℕ) (ds : List NewDelta) → is_rooted header.records ≡ true
+        → has (0 ∷ live_serials header.records) on ≡ true → is_rooted (with_deltas header on ds).records ≡ true }
 {}
 
 /// Pending edits that agree with a table still do when a delta is removed that none of them got or lists.
