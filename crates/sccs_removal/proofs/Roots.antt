@@ -1,0 +1,46 @@
+-- A rooted table stays rooted with new deltas that are made on live ones.
+use Rattle.std.proofs.Common.{◌≡◌, ℕ, suc, ◌==◌, Bool, true, false, ◌&&◌, ◌||◌, List, [], ◌∷◌, refl, ap, ◌∙◌, eq-eqb}
+use Rattle.std.specs.List.{list_all}
+use Rattle.std.proofs.lemmas.Bool.{and_parts, or_left, or_right}
+use Rattle.sccs_history.specs.Applied.{live_serials, newest}
+use Rattle.sccs_history.specs.History.{is_rooted}
+use Rattle.sccs_history.specs.Numbers.{has}
+use Rattle.sccs_history.specs.declared.headers.Header.{Header}
+use Rattle.sccs_history.specs.declared.headers.Record.{Record}
+use Rattle.sccs_records.specs.NewDeltas.{with_deltas, with_delta, with_record}
+use Rattle.sccs_records.specs.declared.new_deltas.NewDelta.{NewDelta}
+
+abbrev rooted_in : List ℕ → Record → Bool
+rooted_in ls r = r.removed || has (0 ∷ ls) r.predecessor
+
+one_wider : (s p : ℕ) (ls : List ℕ) (removed : Bool) → (removed || has (0 ∷ ls) p) ≡ true → (removed || has (0 ∷ s ∷ ls) p) ≡ true
+one_wider s p ls true is = refl
+one_wider s p ls false is = wider (0 == p) (s == p) (has ls p) is
+  where
+    wider : (a b c : Bool) → (a || c) ≡ true → (a || (b || c)) ≡ true
+    wider true b c is = refl
+    wider false b c is = or_right b c is
+
+roots_wider : (s : ℕ) (ls : List ℕ) (records : List Record) → list_all (rooted_in ls) records ≡ true → list_all (rooted_in (s ∷ ls)) records ≡ true
+roots_wider s ls [] is = is
+roots_wider s ls (r ∷ rs) is =
+    let parts = and_parts (rooted_in ls r) (list_all (rooted_in ls) rs) is in
+    both (rooted_in (s ∷ ls) r) (list_all (rooted_in (s ∷ ls)) rs) (one_wider s r.predecessor ls r.removed parts.0) (roots_wider s ls rs parts.1)
+  where
+    both : (x y : Bool) → x ≡ true → y ≡ true → (x && y) ≡ true
+    both true y one two = two
+    both false y one two = one
+
+-- one more delta, on a live one or on 0
+rooted_more : (records : List Record) (on : ℕ) (d : NewDelta) → is_rooted records ≡ true → has (0 ∷ live_serials records) on ≡ true → is_rooted (with_record records on d) ≡ true
+rooted_more records on d rooted live =
+    ap (λ t. t && list_all (rooted_in (suc (newest records) ∷ live_serials records)) records) (one_wider (suc (newest records)) on (live_serials records) false live)
+    ∙ roots_wider (suc (newest records)) (live_serials records) records rooted
+
+-- deltas one after the other
+pub rooted_in_turn : (header : Header) (on : ℕ) (ds : List NewDelta) → is_rooted header.records ≡ true → has (0 ∷ live_serials header.records) on ≡ true → is_rooted (with_deltas header on ds).records ≡ true
+rooted_in_turn header on [] rooted live = rooted
+rooted_in_turn header on (d ∷ ds) rooted live =
+    rooted_in_turn (with_delta header on d) (suc (newest header.records)) ds (rooted_more header.records on d rooted live)
+    (or_right (0 == suc (newest header.records)) (has (live_serials (with_delta header on d).records) (suc (newest header.records)))
+    (or_left (suc (newest header.records) == suc (newest header.records)) (has (live_serials header.records) (suc (newest header.records))) (eq-eqb (suc (newest header.records)) (suc (newest header.records)) refl)))

@@ -1,0 +1,10 @@
+//! The removal of a delta from a history: which delta may go, and by whom; the header without it; and the laws
+//! on what it leaves. POSIX, Shell and Utilities, rmdel.
+#![tactic(auto)]
+
+pub mod laws;
+mod leaves;
+mod removals;
+
+pub use leaves::{is_edited, is_leaf, is_owner, live_delta};
+pub use removals::remove_delta;

@@ -1,0 +1,226 @@
+-- A removal that is prepared, check by check.
+use Rattle.std.proofs.Common.{◌≡◌, ℕ, false, List, [], drop, Option, None, Some, Result, Ok, Err, refl, sym, ap, subst, ◌∙◌}
+use Rattle.std.specs.Prelude.{IfOk, IfSome, IsSome}
+use Rattle.std.specs.Str.{bytes_eq}
+use Rattle.sccs_base.specs.Name.{IsSfile, p_file, q_file, x_file, y_file, z_file}
+use Rattle.sccs_base.proofs.Gifts.{gives_none, some_none}
+use Rattle.sccs_disk.specs.Calls.{IsThere}
+use Rattle.sccs_disk.specs.Files.{Content, View, put}
+use Rattle.sccs_disk.specs.Told.{Told, seen}
+use Rattle.sccs_disk.proofs.Puts.{put_other, put_same}
+use Rattle.sccs_sid.specs.Reading.{◌>>=◌}
+use Rattle.sccs_sid.specs.declared.moments.Stamp.{Stamp}
+use Rattle.sccs_sid.specs.declared.sids.Sid.{Sid}
+use Rattle.sccs_sid.specs.declared.refusals.Refusal.{Refusal}
+use Rattle.sccs_sid.specs.declared.refusals.StepFault.{StepFault}
+use Rattle.sccs_sid.specs.declared.refusals.StepFault.TheVariants.{Refused, Memory, ReadFault, WriteFault, DiskFault}
+use Rattle.sccs_files.specs.StepFiles.{Files, Moves, is_working, look}
+use Rattle.sccs_history.specs.Removal.{dropped}
+use Rattle.sccs_history.specs.declared.headers.Header.{Header}
+use Rattle.sccs_history.specs.declared.headers.Item.{Item}
+use Rattle.sccs_history.specs.declared.headers.Record.{Record}
+use Rattle.sccs_table.specs.FrontFile.{IsPlaced}
+use Rattle.sccs_table.specs.ReaderState.{bytes_in}
+use Rattle.sccs_body.specs.BodyFile.{items_of}
+use Rattle.sccs_body.specs.ToCome.{IsFrontFor}
+use Rattle.sccs_pfile.specs.declared.entries.Edit.{Edit}
+use Rattle.sccs_steps.specs.Actions.{RefusesWithin, quiet_checks}
+use Rattle.sccs_steps.specs.Calls.{world}
+use Rattle.sccs_steps.specs.StepEffects.{Outcome, StepEffect}
+use Rattle.sccs_store.specs.Commits.{Needs, chosen, files_after, replaced}
+use Rattle.sccs_store.specs.SealedFiles.{sealed}
+use Rattle.sccs_store.specs.declared.new_files.NewFile.{NewFile}
+use Rattle.sccs_store.proofs.Working.{moves_wider}
+use Rattle.sccs_moments.proofs.FileNames.{from_g, from_s, no_x}
+use Rattle.sccs_transactions.specs.Changes.{CouldPrepare, IsQuiet, IsReady, IsUnmade, Prepares, PreparesChange, plan_of, unlocked}
+use Rattle.sccs_transactions.specs.declared.prepared.Prepared.{Prepared}
+use Rattle.sccs_pending.specs.PFiles.{Answers}
+use Rattle.sccs_pending.specs.Pending.{AnswersPending, Found, bytes_at, pending_of}
+use Rattle.sccs_pending.specs.declared.pending.Pending.{Pending}
+use Rattle.sccs_pending.proofs.PendingLaws.{shown_header}
+use Rattle.sccs_rmdel.proofs.PendingReads.{ends}
+use Rattle.sccs_rmdel.proofs.PendingReads.{body_there}
+use Rattle.sccs_removal.specs.Removed.{without_delta}
+use Rattle.sccs_rmdel.specs.RmdelStep.{removable, removes, rmdel_change, rmdel_checks, rmdel_outcome}
+use Rattle.sccs_rmdel.specs.Writing.{FindsRemovable, IsRewrite, WritesRemoval}
+
+-- ---- what follows each check
+
+abbrev with_delta : Files → Found → Record → Outcome
+with_delta f found delta = Ok (removes f found delta)
+
+abbrev with_found : Sid → Stamp → Files → Found → Outcome
+with_found sid stamp f found = removable sid stamp found.parsed.header found.edits >>= with_delta f found
+
+abbrev by_files : Sid → Stamp → Files → Result Found Refusal → Outcome
+by_files sid stamp f r = r >>= with_found sid stamp f
+
+pub outcome_is : (sid : Sid) (stamp : Stamp) (n i : List ℕ) (named : List (Option Content)) (f : Files) → rmdel_outcome sid stamp n i named f ≡ (pending_of f.s f.p >>= λ found. removable sid stamp found.parsed.header found.edits >>= λ delta. Ok (removes f found delta))
+unfolding rmdel_outcome
+outcome_is sid stamp n i named f = refl
+
+-- ---- the files as they were before the lock
+
+abbrev files_at : List ℕ → View → Files
+files_at n v = look (unlocked n v) n
+
+pending_seen : (n : List ℕ) (v : View) → IsSfile n → pending_of (files_at n v).s (files_at n v).p ≡ pending_of (v n) (v (p_file n))
+pending_seen n v sfile =
+    ap (λ (o : Option Content). pending_of o (unlocked n v (p_file n))) (put_other v (z_file n) n None (from_s 122 n sfile refl))
+    ∙ ap (λ (o : Option Content). pending_of (v n) o) (put_other v (z_file n) (p_file n) None refl)
+
+outcome_seen : (sid : Sid) (stamp : Stamp) (n i : List ℕ) (named : List (Option Content)) (v : View) (r : Result Found Refusal) → IsSfile n → pending_of (v n) (v (p_file n)) ≡ r → rmdel_outcome sid stamp n i named (files_at n v) ≡ by_files sid stamp (files_at n v) r
+outcome_seen sid stamp n i named v r sfile is = outcome_is sid stamp n i named (files_at n v) ∙ ap (by_files sid stamp (files_at n v)) (pending_seen n v sfile ∙ is)
+
+-- ---- an end before the file is written
+
+abbrev OnlyX : List ℕ → Option View → Option View → Type 0
+OnlyX n o o2 = Moves (bytes_eq (x_file n)) (λ u. u) o o2
+
+unmade : (n text : List ℕ) (v : View) (o2 : Option View) (out err : Option (List ℕ)) → OnlyX n (Some v) o2 → IsUnmade n text (world (Some v) out err) (world o2 out err)
+unmade n text v o2 out err moves = record { view = moves_wider (bytes_eq (x_file n)) (is_working n) (Some v) o2 (no_x n) moves; out = some_none out text }
+
+ended : (n : List ℕ) (o : Outcome) (fault : StepFault) (v : View) (out err : Option (List ℕ)) → Answers {A = StepEffect} o (Err fault) → Prepares (Err fault) n o (world (Some v) out err) (world (Some v) out err)
+ended n o (Refused refusal) v out err answers = (answers, unmade n [] v (Some v) out err (λ k h. refl))
+ended n o Memory v out err answers = unmade n _ v (Some v) out err (λ k h. refl)
+ended n o ReadFault v out err answers = absurd answers
+ended n o WriteFault v out err answers = absurd answers
+ended n o DiskFault v out err answers = unmade n _ v (Some v) out err (λ k h. refl)
+
+ended_as : (n : List ℕ) (o rest : Outcome) (fault : StepFault) (v : View) (w : Option View) (out err : Option (List ℕ)) → w ≡ Some v → o ≡ rest → Answers {A = StepEffect} rest (Err fault) → Prepares (Err fault) n o (world (Some v) out err) (world w out err)
+ended_as n o rest fault v w out err same is answers =
+    subst (λ (x : Option View). Prepares (Err fault) n o (world (Some v) out err) (world x out err)) (sym same)
+    (ended n o fault v out err (subst (λ (r : Outcome). Answers {A = StepEffect} r (Err fault)) (sym is) answers))
+
+pending_answers : (s p : Option Content) (fault : StepFault) → AnswersPending s p (Err fault) → Answers {A = Found} (pending_of s p) (Err fault)
+pending_answers s p (Refused refusal) answers = answers
+pending_answers s p Memory answers = tt
+pending_answers s p ReadFault answers = answers
+pending_answers s p WriteFault answers = answers
+pending_answers s p DiskFault answers = tt
+
+-- the files aren't read
+pub unread : (sid : Sid) (stamp : Stamp) (fault : StepFault) (n : List ℕ) (left : Option (List ℕ)) (o o2 : Option View) (out err : Option (List ℕ)) → IsSfile n → o2 ≡ o → IfSome o (λ (v : View). AnswersPending (v n) (v (p_file n)) (Err fault))
+    → PreparesChange (rmdel_change sid stamp) (Err fault) n left (world o out err) (world o2 out err)
+unread sid stamp fault n left None o2 out err sfile same answers = tt
+unread sid stamp fault n left (Some v) o2 out err sfile same answers = λ i heard.
+    ended_as n _ _ fault v o2 out err same (outcome_seen sid stamp n i [] v _ sfile refl) (ends (pending_of (v n) (v (p_file n))) (with_found sid stamp (files_at n v)) fault (pending_answers (v n) (v (p_file n)) fault answers))
+
+-- ---- what was read
+
+abbrev pub IsRead : List ℕ → View → Pending → Type 0
+IsRead n v x = AnswersPending (v n) (v (p_file n)) (Ok x)
+
+abbrev found_of : (n : List ℕ) (v : View) (x : Pending) → IsRead n v x → Found
+found_of n v x read = record { parsed = read.0; edits = x.edits }
+
+header_of : (n : List ℕ) (v : View) (x : Pending) (read : IsRead n v x) → x.front.header ≡ read.0.header
+header_of n v x read = shown_header (bytes_at (v n)) read.0 x.front read.1
+
+removable_at : (sid : Sid) (stamp : Stamp) (n i : List ℕ) (v : View) (x : Pending) (r : Result Record Refusal) (read : IsRead n v x) → IsSfile n → removable sid stamp x.front.header x.edits ≡ r
+    → rmdel_outcome sid stamp n i [] (files_at n v) ≡ (r >>= with_delta (files_at n v) (found_of n v x read))
+removable_at sid stamp n i v x r read sfile is =
+    outcome_seen sid stamp n i [] v _ sfile read.2
+    ∙ ap (λ (s : Result Record Refusal). s >>= with_delta (files_at n v) (found_of n v x read)) (ap (λ (h : Header). removable sid stamp h x.edits) (sym (header_of n v x read)) ∙ is)
+
+finds_answers : (sid : Sid) (stamp : Stamp) (header : Header) (edits : List Edit) (fault : StepFault) → FindsRemovable sid stamp header edits (Err fault) → Answers {A = Record} (removable sid stamp header edits) (Err fault)
+finds_answers sid stamp header edits (Refused refusal) finds = finds
+finds_answers sid stamp header edits Memory finds = absurd finds
+finds_answers sid stamp header edits ReadFault finds = finds
+finds_answers sid stamp header edits WriteFault finds = finds
+finds_answers sid stamp header edits DiskFault finds = absurd finds
+
+-- no delta may be removed
+pub unremovable : (sid : Sid) (stamp : Stamp) (fault : StepFault) (n : List ℕ) (x : Pending) (left : Option (List ℕ)) (o o2 : Option View) (out err : Option (List ℕ)) → IsSfile n → o2 ≡ o → IfSome o (λ (v : View). IsRead n v x) → FindsRemovable sid stamp x.front.header x.edits (Err fault)
+    → PreparesChange (rmdel_change sid stamp) (Err fault) n left (world o out err) (world o2 out err)
+unremovable sid stamp fault n x left None o2 out err sfile same read finds = tt
+unremovable sid stamp fault n x left (Some v) o2 out err sfile same read finds = λ i heard.
+    ended_as n _ _ fault v o2 out err same (removable_at sid stamp n i v x _ read sfile refl)
+    (ends (removable sid stamp x.front.header x.edits) (with_delta (files_at n v) (found_of n v x read)) fault (finds_answers sid stamp x.front.header x.edits fault finds))
+
+-- ---- the x-file is written
+
+abbrev files_of : Option Content → Option Content → Option Content → Option Files
+files_of s p g = Some (record { s = s; p = p; z = None; g = g })
+
+new_files : (n : List ℕ) (c : Content) (v : View) (p : Prepared) → IsSfile n → IsRewrite p → files_of (Some c) (unlocked n v (p_file n)) (unlocked n v (drop 2 n)) ≡ Some (files_after n (plan_of p) (put v (x_file n) (Some c)))
+new_files n c v p sfile new =
+    ap (λ (o : Option Content). files_of (Some c) o (unlocked n v (drop 2 n))) (put_other v (z_file n) (p_file n) None refl ∙ sym (put_other v (x_file n) (p_file n) (Some c) refl))
+    ∙ (ap (λ (o : Option Content). files_of (Some c) (u (p_file n)) o) (put_other v (z_file n) (drop 2 n) None (from_g 122 n sfile) ∙ sym (put_other v (x_file n) (drop 2 n) (Some c) (from_g 120 n sfile)))
+    ∙ (ap (λ (o : Option Content). files_of o (u (p_file n)) (u (drop 2 n))) (sym (put_same v (x_file n) (Some c)) ∙ ap (λ b. chosen (replaced b) (u (x_file n)) (u n)) (sym new.new_s))
+    ∙ (ap (λ (f : NewFile). files_of (chosen (replaced p.new_s) (u (x_file n)) (u n)) (chosen f (u (q_file n)) (u (p_file n))) (u (drop 2 n))) (sym new.new_p)
+    ∙ ap (λ (f : NewFile). files_of (chosen (replaced p.new_s) (u (x_file n)) (u n)) (chosen p.new_p (u (q_file n)) (u (p_file n))) (chosen f (u (y_file n)) (u (drop 2 n)))) (sym new.new_g))))
+  where
+    u : View
+    u = put v (x_file n) (Some c)
+
+removed_at : (sid : Sid) (stamp : Stamp) (n i : List ℕ) (x : Pending) (serial : ℕ) (r : Result Prepared StepFault) (v : View) (o2 : Option View) (out err : Option (List ℕ)) → IsSfile n → (read : IsRead n v x) → FindsRemovable sid stamp x.front.header x.edits (Ok serial)
+    → OnlyX n (Some v) o2 → IfOk r IsRewrite → WritesRemoval n (without_delta serial x.front.header) (dropped serial read.0.items) (Some v) o2 r → Prepares r n (rmdel_outcome sid stamp n i [] (files_at n v)) (world (Some v) out err) (world o2 out err)
+removed_at sid stamp n i x serial (Ok p) v o2 out err sfile read finds moves new writes =
+    let f : Files = files_at n v in
+    let c : Content = sealed (without_delta serial x.front.header) (dropped serial read.0.items) in
+    let same : sealed (without_delta finds.0.serial read.0.header) (dropped finds.0.serial read.0.items) ≡ c =
+    ap (λ (h : Header). sealed (without_delta finds.0.serial h) (dropped finds.0.serial read.0.items)) (sym (header_of n v x read)) ∙ ap (λ m. sealed (without_delta m x.front.header) (dropped m read.0.items)) finds.2 in
+    record {
+      effect = removes f (found_of n v x read) finds.0;
+      is = removable_at sid stamp n i v x (Ok finds.0) read sfile finds.1;
+      status = refl;
+      report = sym new.report_is;
+      message = sym new.message_is;
+      view = moves_wider (bytes_eq (x_file n)) (is_working n) (Some v) o2 (no_x n) moves;
+      files = subst (λ (o : Option View). IfSome o (λ u. files_of (Some (sealed (without_delta finds.0.serial read.0.header) (dropped finds.0.serial read.0.items))) f.p f.g ≡ Some (files_after n (plan_of p) u))) (sym writes)
+          (ap (λ (d : Content). files_of (Some d) f.p f.g) same ∙ new_files n c v p sfile new);
+      out = gives_none out;
+    }
+removed_at sid stamp n i x serial (Err (Refused refusal)) v o2 out err sfile read finds moves new writes = absurd writes
+removed_at sid stamp n i x serial (Err Memory) v o2 out err sfile read finds moves new writes = unmade n _ v o2 out err moves
+removed_at sid stamp n i x serial (Err ReadFault) v o2 out err sfile read finds moves new writes = absurd writes
+removed_at sid stamp n i x serial (Err WriteFault) v o2 out err sfile read finds moves new writes = absurd writes
+removed_at sid stamp n i x serial (Err DiskFault) v o2 out err sfile read finds moves new writes = unmade n _ v o2 out err moves
+
+-- what writing the file says of a told body
+abbrev pub Writes : List ℕ → Pending → ℕ → Result Prepared StepFault → Told → Told → Type 0
+Writes n x serial r a b =
+    (file : List ℕ) (items : List Item) → bytes_in (seen a) n ≡ Some file → IsFrontFor file x.front → items_of file x.front ≡ Ok items
+    → WritesRemoval n (without_delta serial x.front.header) (dropped serial items) (seen a) (seen b) r
+
+-- the same of the body that was read
+pub written : (n : List ℕ) (x : Pending) (serial : ℕ) (r : Result Prepared StepFault) (a b : Told) (v : View) → seen a ≡ Some v → (read : IsRead n v x) → IsPlaced x.front → Writes n x serial r a b
+    → WritesRemoval n (without_delta serial x.front.header) (dropped serial read.0.items) (Some v) (seen b) r
+written n x serial r a b v here read placed writes =
+    let body = body_there (v n) (v (p_file n)) x (bytes_in (seen a) n) read placed (ap (λ (o : Option View). bytes_in o n) here) in
+    subst (λ (o : Option View). WritesRemoval n (without_delta serial x.front.header) (dropped serial read.0.items) o (seen b) r) here (writes body.0 read.0.items body.1 body.2.front_is body.2.items_are)
+
+pub removed : (sid : Sid) (stamp : Stamp) (n : List ℕ) (x : Pending) (serial : ℕ) (r : Result Prepared StepFault) (left : Option (List ℕ)) (o : Option View) (a b : Told) (out err : Option (List ℕ)) → IsSfile n → seen a ≡ o → IfSome o (λ (v : View). IsRead n v x) → IsPlaced x.front
+    → FindsRemovable sid stamp x.front.header x.edits (Ok serial) → OnlyX n (seen a) (seen b) → IfOk r IsRewrite → Writes n x serial r a b → PreparesChange (rmdel_change sid stamp) r n left (world o out err) (world (seen b) out err)
+removed sid stamp n x serial r left None a b out err sfile same read placed finds moves new writes = tt
+removed sid stamp n x serial r left (Some v) a b out err sfile same read placed finds moves new writes = λ i heard.
+    removed_at sid stamp n i x serial r v (seen b) out err sfile read finds (subst (λ (w : Option View). OnlyX n w (seen b)) same moves) new (written n x serial r a b v same read placed writes)
+
+-- ---- what a commit needs, and what may come
+
+there_moved : (m k : List ℕ) (o o2 : Option View) → bytes_eq m k ≡ false → Moves (bytes_eq m) (λ v. v) o o2 → IfSome o (λ (v : View). IsSome (v k)) → IfSome o2 (λ (v : View). IsSome (v k))
+there_moved m k None o2 other moves there = subst (λ (o : Option View). IfSome o (λ (v : View). IsSome (v k))) (sym moves) tt
+there_moved m k (Some v) None other moves there = absurd moves
+there_moved m k (Some v) (Some u) other moves there = subst IsSome (sym (moves k other)) there
+
+pub removal_ready : (n : List ℕ) (r : Result Prepared StepFault) (a2 a b : Told) → a ≡ a2 → IsThere (z_file n) a2 → OnlyX n (seen a) (seen b) → IfOk r (λ p. IsThere (x_file n) b) → IfOk r IsRewrite → IfOk r (λ p. IsReady n p b)
+removal_ready n (Ok p) a2 a b same z moves x new = record {
+  z = there_moved (x_file n) (z_file n) (seen a) (seen b) refl moves (subst (λ t. IsThere (z_file n) t) (sym same) z);
+  s = subst (λ t. Needs (replaced t) (x_file n) n b) (sym new.new_s) x;
+  p_state = subst (λ f. Needs f (q_file n) (p_file n) b) (sym new.new_p) tt;
+  g = subst (λ f. Needs f (y_file n) (drop 2 n) b) (sym new.new_g) tt;
+}
+removal_ready n (Err fault) a2 a b same z moves x new = tt
+
+pub removal_speaks : (r : Result Prepared StepFault) → IfOk r IsRewrite → RefusesWithin rmdel_checks r → CouldPrepare (quiet_checks rmdel_checks) r
+removal_speaks (Ok p) new within = (record { new = None; text = []; out = []; err = []; status = 0 }, refl, refl, sym new.message_is)
+removal_speaks (Err (Refused refusal)) new within = within refusal refl
+removal_speaks (Err Memory) new within = tt
+removal_speaks (Err ReadFault) new within = tt
+removal_speaks (Err WriteFault) new within = tt
+removal_speaks (Err DiskFault) new within = tt
+
+pub removal_quiet : (r : Result Prepared StepFault) → IfOk r IsRewrite → IsQuiet r
+removal_quiet (Ok p) new = new.report_is
+removal_quiet (Err fault) new = tt
