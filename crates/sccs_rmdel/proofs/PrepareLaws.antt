@@ -34,6 +34,7 @@ use Rattle.sccs_store.proofs.Working.{moves_wider}
 use Rattle.sccs_moments.proofs.FileNames.{from_g, from_s, no_x}
 use Rattle.sccs_transactions.specs.Changes.{CouldPrepare, IsQuiet, IsReady, IsUnmade, Prepares, PreparesChange, plan_of, unlocked}
 use Rattle.sccs_transactions.specs.declared.prepared.Prepared.{Prepared}
+use Rattle.sccs_transactions.proofs.Taken.{x_alone}
 use Rattle.sccs_pending.specs.PFiles.{Answers}
 use Rattle.sccs_pending.specs.Pending.{AnswersPending, Found, bytes_at, pending_of}
 use Rattle.sccs_pending.specs.declared.pending.Pending.{Pending}
@@ -168,6 +169,7 @@ removed_at sid stamp n i x serial (Ok p) v o2 out err sfile read finds moves new
       report = sym new.report_is;
       message = sym new.message_is;
       view = moves_wider (bytes_eq (x_file n)) (is_working n) (Some v) o2 (no_x n) moves;
+      working = x_alone n p (Some v) o2 new.new_s moves;
       files = subst (λ (o : Option View). IfSome o (λ u. files_of (Some (sealed (without_delta finds.0.serial read.0.header) (dropped finds.0.serial read.0.items))) f.p f.g ≡ Some (files_after n (plan_of p) u))) (sym writes)
           (ap (λ (d : Content). files_of (Some d) f.p f.g) same ∙ new_files n c v p sfile new);
       out = gives_none out;

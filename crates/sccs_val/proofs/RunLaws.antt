@@ -9,7 +9,7 @@ use Rattle.sccs_base.specs.Stream.{GivesOk, GivesSome, Rose}
 use Rattle.sccs_base.proofs.Gifts.{gives_none, some_none}
 use Rattle.sccs_disk.specs.Files.{Content, Folder, Model, View, view_in}
 use Rattle.sccs_disk.specs.Told.{Told, seen}
-use Rattle.sccs_files.specs.StepFiles.{AreCleared, Shows, Moves, is_working}
+use Rattle.sccs_files.specs.StepFiles.{Shows, Moves, is_working}
 use Rattle.sccs_sid.specs.Refusal.{number_of}
 use Rattle.sccs_sid.specs.declared.refusals.Refusal.{Refusal}
 use Rattle.sccs_sid.specs.declared.refusals.Refusal.TheVariants as refusals
@@ -27,7 +27,7 @@ use Rattle.sccs_steps.specs.declared.faults.Fault.TheVariants as ends
 use Rattle.sccs_steps.proofs.NameLaws.{fitting, stepped_runs}
 use Rattle.sccs_steps.proofs.NameStops.{stepped_stops}
 use Rattle.sccs_steps.proofs.ReadingMoments.{reading_moments_as}
-use Rattle.sccs_steps.proofs.ReadingSteps.{broken, kept}
+use Rattle.sccs_steps.proofs.ReadingSteps.{broken, kept, same_cleared}
 use Rattle.sccs_words.specs.declared.commands.ValWords.{ValWords}
 use Rattle.sccs_table.specs.ReaderState.{file_in}
 use Rattle.sccs_val.specs.Findings.{bits, findings}
@@ -109,7 +109,7 @@ judged_meets false text status n (Ok code) v told2 out out2 err same judges = (
   sym judges.1,
   record {
     view = subst (λ (t : Option View). Moves (is_working n) (λ u. u) (Some v) t) (sym same) (λ k h. refl);
-    cleared = subst (λ (t : Option View). AreCleared n (Some v) t) (sym same) (λ k h. inr refl);
+    cleared = same_cleared v told2 n same;
     out = subst (λ (l : List ℕ). GivesOk out out2 l) (sym (append-nil text)) judges.2;
     err = gives_none err;
   },
