@@ -1,8 +1,8 @@
 -- What is prepared of an edit behind its checks.
-use Rattle.std.proofs.Common.{◌≡◌, ℕ, Bool, true, false, List, [], ◌∷◌, ◌++◌, length, drop, Option, None, Some, Ok, Err, refl, sym, ap, subst, ◌∙◌}
+use Rattle.std.proofs.Common.{◌≡◌, ℕ, Bool, true, false, List, [], ◌∷◌, ◌++◌, length, drop, Option, None, Some, Ok, Err, inr, refl, sym, ap, subst, ◌∙◌}
 use Rattle.std.specs.Prelude.{IfSome, is_some, if◌then◌else◌}
 use Rattle.std.specs.Str.{bytes_eq}
-use Rattle.sccs_base.specs.Name.{IsSfile, p_file, q_file, y_file, z_file}
+use Rattle.sccs_base.specs.Name.{IsSfile, p_file, q_file, x_file, y_file, z_file}
 use Rattle.sccs_base.specs.Stream.{GivesSome}
 use Rattle.sccs_base.proofs.Gifts.{some_none, some_of_whole}
 use Rattle.sccs_disk.specs.Files.{Content, View, put}
@@ -30,7 +30,8 @@ use Rattle.sccs_store.specs.Commits.{Becomes, chosen, files_after, plan}
 use Rattle.sccs_store.specs.declared.new_files.NewFile.{NewFile}
 use Rattle.sccs_store.specs.declared.new_files.NewFile.TheVariants.{Keep, Replace}
 use Rattle.sccs_store.proofs.Working.{moves_then, moves_wider}
-use Rattle.sccs_transactions.specs.Changes.{IsUnmade, Prepares, unlocked}
+use Rattle.sccs_transactions.specs.Changes.{AreTakenOrGone, IsTakenOrGone, IsUnmade, Prepares, unlocked}
+use Rattle.sccs_transactions.proofs.Taken.{untouched}
 use Rattle.sccs_words.specs.declared.commands.GetWords.{GetWords}
 use Rattle.sccs_get.specs.EditGiving.{new_g}
 use Rattle.sccs_get.specs.EditStep.{edited}
@@ -64,6 +65,14 @@ files_made true n c edits new_p v u sfile same entries =
 files_made false n c edits new_p v u sfile same entries =
     files_same (put_other v (z_file n) n None (from_s 122 n sfile refl) ∙ sym (same n (from_s 113 n sfile refl))) (sym (entries (u (p_file n))))
     (put_other v (z_file n) (drop 2 n) None (from_g 122 n sfile) ∙ sym (same (drop 2 n) (from_g 113 n sfile)))
+
+-- the y-file is taken where it was made
+y_taken : (b : Bool) (n : List ℕ) (c : Content) (v x u : View) → x (y_file n) ≡ v (y_file n) → u (y_file n) ≡ y_made b n c x (y_file n) → IsTakenOrGone (g_chosen b) (v (y_file n)) (u (y_file n))
+y_taken true n c v x u same is = tt
+y_taken false n c v x u same is = inr (is ∙ same)
+
+unsome : (u w : View) → Some u ≡ Some w → u ≡ w
+unsome u w is = cc
 
 -- the body stays where it was while another file changes
 pub body_kept : (n : List ℕ) (front : Front) (set file : List ℕ) (items : List Item) (v : View) (o o2 : Option View) → IsSfile n → o ≡ Some v → Moves (bytes_eq (q_file n)) (λ u. u) o o2 → IsBody (bytes_in (Some v) n) front set file items → IsBody (bytes_in o2 n) front set file items
@@ -128,12 +137,23 @@ module _ (words : GetWords) (stamp : Stamp) (place : List ℕ) (heading : Bool) 
         ∙ (files_made (writes_g words) n (record { bytes = text; writable = stays_writable words }) (edits ++ edit ∷ []) new_p v u sfile moves entries
         ∙ ap (λ (x : NewFile). Some (files_after n (plan false new_p x) (with_y words n text u))) (sym g_is)))
 
+    -- the s-file stays, and the y-file is made where it is to be the g-file
+    both_taken : (new_p g : NewFile) (v : View) (o2 o3 : Option View) → g ≡ new_g words → Moves (bytes_eq (q_file n)) (λ u. u) (Some v) o2 → Moves (bytes_eq (y_file n)) (λ u. u) o2 o3 → IfSome o2 (λ (x : View). IsTakenOrGone new_p (v (q_file n)) (x (q_file n)))
+        → Becomes (with_y words n text) o2 o3 → IfSome o3 (λ (u : View). AreTakenOrGone n (plan false new_p g) v u)
+    both_taken new_p g v None o3 g_is q y taken given = absurd q
+    both_taken new_p g v (Some x) None g_is q y taken given = absurd y
+    both_taken new_p g v (Some x) (Some u) g_is q y taken given = record {
+      x = untouched Keep _ _ (y (x_file n) refl ∙ q (x_file n) refl);
+      q = subst (λ (c : Option Content). IsTakenOrGone new_p (v (q_file n)) c) (sym (y (q_file n) refl)) taken;
+      y = subst (λ (f : NewFile). IsTakenOrGone f (v (y_file n)) (u (y_file n))) (sym g_is) (y_taken (writes_g words) n (record { bytes = text; writable = stays_writable words }) v x u (q (y_file n) refl) (ap (λ (w : View). w (y_file n)) (unsome u _ given)));
+    }
+
     pub all_prepared : (shown : Shown) (new_p g : NewFile) (report message : List ℕ) (v : View) (o o2 o3 : Option View) (out out2 err : Option (List ℕ)) → IsSfile n → o ≡ Some v → f ≡ look (unlocked n v) n → g ≡ new_g words → is_some version.facts ≡ replaces words
-        → Moves (bytes_eq (q_file n)) (λ u. u) o o2 → IfSome o2 (λ (u : View). (old : Option Content) → chosen new_p (u (q_file n)) old ≡ pfile_of (edits ++ edit ∷ [])) → Moves (bytes_eq (y_file n)) (λ u. u) o2 o3 → GivesVersion words n records version lines (Ok shown) (world o2 out err) (world o3 out2 err)
+        → Moves (bytes_eq (q_file n)) (λ u. u) o o2 → IfSome o2 (λ (u : View). (old : Option Content) → chosen new_p (u (q_file n)) old ≡ pfile_of (edits ++ edit ∷ [])) → IfSome o (λ (u : View). IfSome o2 (λ (x : View). IsTakenOrGone new_p (u (q_file n)) (x (q_file n)))) → Moves (bytes_eq (y_file n)) (λ u. u) o2 o3 → GivesVersion words n records version lines (Ok shown) (world o2 out err) (world o3 out2 err)
         → report ≡ said_on_out words (get_report words heading n version.include version.exclude version.sid (Some edit.made) shown.lines)
         → message ≡ said_on_err words (get_report words heading n version.include version.exclude version.sid (Some edit.made) shown.lines) (get_warning words n shown.keywords)
         → Prepares (Ok (record { new_s = false; new_p = new_p; new_g = g; report = report; message = message })) n (Ok effect) (world (Some v) out err) (world o3 out2 err)
-    all_prepared shown new_p g report message v o o2 o3 out out2 err sfile is f_is g_is replaced q entries y gives report_is message_is =
+    all_prepared shown new_p g report message v o o2 o3 out out2 err sfile is f_is g_is replaced q entries taken y gives report_is message_is =
         let moves : Moves (bytes_eq (q_file n)) (λ u. u) (Some v) o2 = subst (λ (w : Option View). Moves (bytes_eq (q_file n)) (λ u. u) w o2) is q in
         let reported = report_same words stamp place heading n version.include version.exclude version.sid (Some edit.made) shown.lines (length lines) (λ some. ap (λ (s : Shown). s.lines) (gives.1 some)) in
         let warned = warning_same words stamp place heading n version lines shown replaced gives.1 in
@@ -144,6 +164,7 @@ module _ (words : GetWords) (stamp : Stamp) (place : List ℕ) (heading : Bool) 
           report = sym (report_is ∙ ap (said_on_out words) reported);
           message = sym (message_is ∙ (ap (λ r. said_on_err words r (get_warning words n shown.keywords)) reported ∙ ap (λ m. said_on_err words (get_report words heading n version.include version.exclude version.sid (Some edit.made) (length lines)) m) warned));
           view = both_moves v o2 o3 moves y;
+          working = both_taken new_p g v o2 o3 g_is moves y (subst (λ (w : Option View). IfSome w (λ (u : View). IfSome o2 (λ (x : View). IsTakenOrGone new_p (u (q_file n)) (x (q_file n))))) is taken) gives.0.view;
           files = files_at new_p g v o2 o3 sfile f_is g_is moves entries gives.0.view;
           out = gives.0.out;
         }

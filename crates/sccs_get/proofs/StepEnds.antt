@@ -13,7 +13,7 @@ use Rattle.sccs_disk.proofs.Puts.{name_cases, put_back, put_other, put_same}
 use Rattle.sccs_files.specs.StepFiles.{AreCleared, Files, Moves, is_left, is_working, look, moved, placed}
 use Rattle.sccs_moments.specs.Recovery.{without}
 use Rattle.sccs_base.proofs.SameBytes.{other_bytes, same_bytes}
-use Rattle.sccs_moments.proofs.FileNames.{no_working, no_y, s_and_g, to_g}
+use Rattle.sccs_moments.proofs.FileNames.{from_g, no_working, no_y, s_and_g, to_g}
 use Rattle.sccs_steps.specs.Calls.{Fails, Meets, Uncommitted, World, world}
 use Rattle.sccs_steps.specs.StepEffects.{Outcome, effect_of}
 use Rattle.sccs_steps.specs.FirstFiles.{MovesInOrder}
@@ -80,6 +80,26 @@ pub gone_other : (b : Bool) (n : List ℕ) (v : View) (k : List ℕ) → bytes_e
 gone_other true n v k h = put_other v (y_file n) k None h
 gone_other false n v k h = refl
 
+-- the y-file is gone, and other working files are as they were
+working_g : (n k : List ℕ) → IsSfile n → is_working n k ≡ true → bytes_eq (drop 2 n) k ≡ false
+working_g n k sfile h =
+    ⊎_elim (λ e. absurd (let some : is_working n (drop 2 n) ≡ true = subst (λ l. is_working n l ≡ true) (sym e) h in let none : is_working n (drop 2 n) ≡ false = apart in cc)) (λ other. other) (name_cases (drop 2 n) k)
+  where
+    apart : is_working n (drop 2 n) ≡ false
+    apart = rw (from_g 120 n sfile) (rw (from_g 113 n sfile) (from_g 121 n sfile))
+
+cleared_by : (b : Bool) (n : List ℕ) (c : Content) (v : View) (k : List ℕ) → IsSfile n → is_working n k ≡ true → (g_by b n (y_by b n c v) k ≡ None) ⊎ (g_by b n (y_by b n c v) k ≡ v k)
+cleared_by false n c v k sfile h = inr refl
+cleared_by true n c v k sfile h =
+    ⊎_elim (λ e. inl (subst (λ l. placed l ≡ None) e (put_other (put y (y_file n) None) (drop 2 n) (y_file n) (y (y_file n)) (to_g 121 n sfile) ∙ put_same y (y_file n) None)))
+    (λ apart. inr (put_other (put y (y_file n) None) (drop 2 n) k (y (y_file n)) (working_g n k sfile h) ∙ (put_other y (y_file n) k None apart ∙ put_other v (y_file n) k (Some c) apart))) (name_cases (y_file n) k)
+  where
+    y : View
+    y = put v (y_file n) (Some c)
+
+    placed : View
+    placed = renamed (y_file n) (drop 2 n) y
+
 -- ---- the view at the end
 
 module _ (words : GetWords) (n : List ℕ) (sfile : IsSfile n) where
@@ -91,6 +111,11 @@ module _ (words : GetWords) (n : List ℕ) (sfile : IsSfile n) where
   made_view text v o4 o5 new is given placed =
       subst (λ (o : Option View). Moves (is_working n) (λ u. moved u n new) (Some v) o) (sym (placed ∙ ap (option_map (g_placed words n)) given))
       (λ k h. made_by (writes_g words) n text (stays_writable words) v k sfile h ∙ ap (λ (f : Option Files). moved v n f k) (sym is))
+
+  -- and no y-file is left
+  pub made_clears : (text : List ℕ) (v : View) (o4 o5 : Option View) → Becomes (with_y words n text) (Some v) o4 → Becomes (g_placed words n) o4 o5 → AreCleared n (Some v) o5
+  made_clears text v o4 o5 given placed =
+      subst (λ (o : Option View). AreCleared n (Some v) o) (sym (placed ∙ ap (option_map (g_placed words n)) given)) (λ k h. cleared_by (writes_g words) n (content text (stays_writable words)) v k sfile h)
 
   -- the g-file is placed or not
   pub placed_partly : (text : List ℕ) (v : View) (o4 o5 : Option View) (new : Option Files) → new ≡ files_new text v → Becomes (with_y words n text) (Some v) o4 → MayBecome (g_placed words n) o4 o5 → MovesInOrder n new (Some v) o5
@@ -142,6 +167,7 @@ module _ (words : GetWords) (n : List ℕ) (sfile : IsSfile n) where
     ready.status,
     record {
       view = made_view ready.text v o4 o5 ready.effect.new ready.new ready.given.view finishes.0;
+      cleared = made_clears ready.text v o4 o5 ready.given.view finishes.0;
       out = gives_both out out2 out3 ready.effect.text ready.effect.out (subst (λ t. GivesOk out out2 t) (sym ready.text_is) ready.given.out) (subst (λ t. GivesOk out2 out3 t) (sym ready.report) finishes.1.out);
       err = subst (λ t. GivesOk err err2 t) (sym ready.message) finishes.1.err;
     },
@@ -152,6 +178,7 @@ module _ (words : GetWords) (n : List ℕ) (sfile : IsSfile n) where
     record {
       status = ready.status;
       view = made_view ready.text v o4 o5 ready.effect.new ready.new ready.given.view finishes.0;
+      cleared = made_clears ready.text v o4 o5 ready.given.view finishes.0;
       out = gives_then out out2 out3 ready.effect.text ready.effect.out (subst (λ t. GivesOk out out2 t) (sym ready.text_is) ready.given.out) (subst (λ t. GivesSome out2 out3 t) (sym ready.report) finishes.1.out);
       err = subst (λ t. GivesSome err err2 t) (sym ready.message) finishes.1.err;
     },

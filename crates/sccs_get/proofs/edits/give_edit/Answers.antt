@@ -36,7 +36,7 @@ returns-clause-touches g c = only_then (is_working c.args.name.now) (g.D.Disk.to
 
 pub returns-in-Ok-said-clause-prepares : goal.returns-in-Ok-said-clause-prepares
 returns-in-Ok-said-clause-prepares g c = λ v file items err is body.
-    all_prepared c.args.get.now.words.now c.args.get.now.stamp.now c.args.get.now.place.now c.args.get.now.heading c.args.name.now c.args.reserved.pending.front.header.records (look (unlocked c.args.name.now v) c.args.name.now) c.args.reserved.pending.edits c.args.reserved.edit c.args.reserved.version (lines_in c.args.reserved.version items) c.in-Ok-give_version.shown c.in-Ok.new_p c.new_g.result c.in-Ok-said.said.out c.in-Ok-said.said.err v (seen (g.D.Disk.told c.args.disk.now)) (seen (g.D.Disk.told c.add_entry.new.disk)) (seen (g.D.Disk.told c.give_version.new.disk)) (g.O.Sink.given c.args.out.now) (g.O.Sink.given c.give_version.new.out) err c.requires.sfile is refl c.new_g.ensures c.requires.replaced c.add_entry.ensures.moves c.in-Ok.ensures.entries.chosen_is c.give_version.ensures.moves
+    all_prepared c.args.get.now.words.now c.args.get.now.stamp.now c.args.get.now.place.now c.args.get.now.heading c.args.name.now c.args.reserved.pending.front.header.records (look (unlocked c.args.name.now v) c.args.name.now) c.args.reserved.pending.edits c.args.reserved.edit c.args.reserved.version (lines_in c.args.reserved.version items) c.in-Ok-give_version.shown c.in-Ok.new_p c.new_g.result c.in-Ok-said.said.out c.in-Ok-said.said.err v (seen (g.D.Disk.told c.args.disk.now)) (seen (g.D.Disk.told c.add_entry.new.disk)) (seen (g.D.Disk.told c.give_version.new.disk)) (g.O.Sink.given c.args.out.now) (g.O.Sink.given c.give_version.new.out) err c.requires.sfile is refl c.new_g.ensures c.requires.replaced c.add_entry.ensures.moves c.in-Ok.ensures.entries.chosen_is c.in-Ok.ensures.entries.taken c.give_version.ensures.moves
     (c.in-Ok-give_version.ensures.gives file items err (body_kept c.args.name.now c.args.reserved.pending.front c.args.reserved.version.set file items v (seen (g.D.Disk.told c.args.disk.now)) (seen (g.D.Disk.told c.add_entry.new.disk)) c.requires.sfile is c.add_entry.ensures.moves body)) c.in-Ok-said.ensures.out c.in-Ok-said.ensures.err
 
 pub returns-in-Ok-said-clause-needs : goal.returns-in-Ok-said-clause-needs
