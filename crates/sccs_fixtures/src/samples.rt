@@ -10,7 +10,11 @@ pub const TWO_LINES: &[u8] =
 pub const SECOND: &[u8] =
     b"\x01h12386\n\x01s 00001/00000/00002\n\x01d D 1.2 21/03/04 05:08:00 ann 2 1\n\x01c second\n\x01e\n\x01s 00002/00000/00000\n\x01d D 1.1 21/03/04 05:06:07 ann 1 0\n\x01c date and time created 21/03/04 05:06:07 by ann\n\x01e\n\x01u\n\x01U\n\x01t\n\x01T\n\x01I 1\none\n\x01I 2\nmid\n\x01E 2\ntwo %I%\n\x01E 1\n";
 
-/// The same with the flag d, which names 1.1.
+/// The same without the second delta.
+pub const REMOVED: &[u8] =
+    b"\x01h11748\n\x01s 00001/00000/00002\n\x01d R 1.2 21/03/04 05:08:00 ann 2 1\n\x01c second\n\x01e\n\x01s 00002/00000/00000\n\x01d D 1.1 21/03/04 05:06:07 ann 1 0\n\x01c date and time created 21/03/04 05:06:07 by ann\n\x01e\n\x01u\n\x01U\n\x01t\n\x01T\n\x01I 1\none\ntwo %I%\n\x01E 1\n";
+
+/// SECOND with the flag d, which names 1.1.
 pub const DEFAULT: &[u8] =
     b"\x01h12807\n\x01s 00001/00000/00002\n\x01d D 1.2 21/03/04 05:08:00 ann 2 1\n\x01c second\n\x01e\n\x01s 00002/00000/00000\n\x01d D 1.1 21/03/04 05:06:07 ann 1 0\n\x01c date and time created 21/03/04 05:06:07 by ann\n\x01e\n\x01u\n\x01U\n\x01f d 1.1\n\x01t\n\x01T\n\x01I 1\none\n\x01I 2\nmid\n\x01E 2\ntwo %I%\n\x01E 1\n";
 

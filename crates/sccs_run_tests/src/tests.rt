@@ -8,6 +8,7 @@ mod operands;
 mod pending;
 mod readings;
 mod releases;
+mod removals;
 mod rows;
 mod several_files;
 mod stops;

@@ -9,6 +9,7 @@ use Rattle.sccs_edit.specs.UngetStep.{unget_change}
 use Rattle.sccs_get.specs.EditStep.{edit_change}
 use Rattle.sccs_get.specs.VersionStep.{get_action}
 use Rattle.sccs_recovery.specs.RecoverStep.{recover_action}
+use Rattle.sccs_rmdel.specs.RmdelStep.{rmdel_change}
 use Rattle.sccs_prs.specs.PrsStep.{prs_action}
 use Rattle.sccs_what.specs.WhatStep.{what_action}
 use Rattle.sccs_top.specs.Runs.{words_in}
@@ -29,6 +30,7 @@ action_in (known.Reserve r) = locking (edit_change r.change.words.now r.change.s
 action_in (known.Sact s) = sact_action s.heading
 action_in (known.Delta d) = locking (delta_change d.change.words.now d.change.stamp.now)
 action_in (known.Unget u) = locking (unget_change u.change.words.now u.change.stamp.now u.change.heading)
+action_in (known.Rmdel r) = locking (rmdel_change r.change.sid.now r.change.stamp.now)
 action_in (known.Recover r) = recover_action
 action_in (known.Prs p) = prs_action p.words.now p.place.now
 action_in (known.What w) = what_action w.first

@@ -35,6 +35,7 @@ use Rattle.sccs_edit.specs.UngetStep.{unget_change}
 use Rattle.sccs_get.specs.EditStep.{edit_change}
 use Rattle.sccs_get.specs.VersionStep.{get_action}
 use Rattle.sccs_recovery.specs.RecoverStep.{recover_action}
+use Rattle.sccs_rmdel.specs.RmdelStep.{rmdel_change}
 use Rattle.sccs_prs.specs.PrsStep.{prs_action}
 use Rattle.sccs_val.specs.ValStep.{val_action, val_operands, val_steps}
 use Rattle.sccs_what.specs.WhatStep.{what_action}
@@ -85,13 +86,13 @@ action_of who (c.Get words operands) = get_in words who (has_heading operands)
 action_of who (c.Delta words name) = locking (delta_change words who.stamp)
 action_of who (c.Unget words operands) = locking (unget_change words who.stamp (has_heading operands))
 action_of who (c.Sact operands) = sact_action (has_heading operands)
+action_of who (c.Rmdel sid operands) = locking (rmdel_change sid who.stamp)
 action_of who (c.Recover operands) = recover_action
 action_of who (c.Prs words operands) = prs_action words who.place
 action_of who (c.What first operands) = what_action first
 action_of who (c.Val words) = val_action words
 action_of who c.Batch = unbuilt true true
 action_of who (c.Soak number) = unbuilt true true
-action_of who command = unbuilt false false
 
 -- the words of val, where the command is that: what it makes is one step, since lines of the input may name the files that it reads
 abbrev pub val_words_of : Command → Option ValWords

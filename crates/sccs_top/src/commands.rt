@@ -22,6 +22,7 @@ use sccs_edit::{Sact, Unget};
 use sccs_get::{Get, Reserve};
 use sccs_prs::Prs;
 use sccs_recovery::Recover;
+use sccs_rmdel::Rmdel;
 use sccs_sid::Stamp;
 use sccs_steps::{
     Fault, Ordinary, Streams, UtilityWithStatus, is_several, run_operand, run_operands,
@@ -53,6 +54,7 @@ enum Known<'a> {
     Delta(Locking<Delta<'a>>),
     Sact(Sact),
     Unget(Locking<Unget<'a>>),
+    Rmdel(Locking<Rmdel<'a>>),
     Recover(Recover),
     Prs(Prs<'a>),
     What(What),
@@ -135,12 +137,14 @@ fn utility_of<'a>(command: &'a Command, stamp: &'a Stamp, place: &'a Line) -> Kn
         Command::Sact(operands) => Known::Sact(Sact {
             heading: has_heading(operands),
         }),
+        Command::Rmdel(sid, _) => Known::Rmdel(Locking {
+            change: Rmdel { sid, stamp },
+        }),
         Command::Recover(_) => Known::Recover(Recover),
         Command::Prs(words, _) => Known::Prs(Prs { words, place }),
         Command::What(first, _) => Known::What(What { first: *first }),
         Command::Val(_) => unreachable!(),
         Command::Batch | Command::Soak(_) => unbuilt(true, true),
-        _ => unbuilt(false, false),
     }
 }
 
@@ -225,6 +229,7 @@ fn run_command<I: Source, O: Sink, E: Sink, D: Disk>(
         Known::Delta(utility) => run_listed(alloc, &Ordinary { utility }, operands, streams),
         Known::Sact(utility) => run_listed(alloc, &Ordinary { utility }, operands, streams),
         Known::Unget(utility) => run_listed(alloc, &Ordinary { utility }, operands, streams),
+        Known::Rmdel(utility) => run_listed(alloc, &Ordinary { utility }, operands, streams),
         Known::Recover(utility) => run_listed(alloc, &Ordinary { utility }, operands, streams),
         Known::Prs(utility) => run_listed(alloc, &Ordinary { utility }, operands, streams),
         Known::What(utility) => run_listed(alloc, &utility, operands, streams),
@@ -263,7 +268,7 @@ fn run_lent<I: Source, O: Sink, E: Sink, D: Disk>(
 /// Does a command. The words are those behind the program's name; `stamp` is its moment, of the years
 /// 1969 to 2068, and its login, `place` the folder's path. Texts go to `out`, messages to `err`.
 ///
-/// Built are admin on new files, with `-n` or `-i`, `-r` and `-y`; get, delta, sact, unget, prs, val, what and recover.
+/// Built are admin on new files, with `-n` or `-i`, `-r` and `-y`; get, delta, sact, unget, rmdel, prs, val, what and recover.
 ///
 /// A stop at any moment of a run that began on a calm disk, with safe operands, leaves what recovers on all
 /// names as after the same number of steps, no fewer than are acknowledged; and s-files and p-files are firm

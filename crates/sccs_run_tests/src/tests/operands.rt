@@ -136,7 +136,7 @@ fn prs_prints_deltas_of_each_operand(rt: HostRuntime) -> Result<(), Fail> {
     Ok(())
 }
 
-const UNBUILT: [Row<'static>; 2] = [
+const REFUSED: [Row<'static>; 2] = [
     (
         b"rmdel -r1.1 x s.a -",
         2,
@@ -147,12 +147,12 @@ const UNBUILT: [Row<'static>; 2] = [
         b"rmdel -r1.1 x s.a .",
         1,
         b"",
-        b"ERROR [x]: not a name of an s-file (01)\nERROR [s.a]: not built yet (99)\nERROR [s.a]: not built yet (99)\nERROR [s.b]: not built yet (99)\n",
+        b"ERROR [x]: not a name of an s-file (01)\nERROR [s.a]: not the newest delta of its branch (31)\nERROR [s.a]: not the newest delta of its branch (31)\nERROR [s.b]: not the newest delta of its branch (31)\n",
     ),
 ];
 
 #[test]
-fn unbuilt_commands_refuse_each_operand(rt: HostRuntime) -> Result<(), Fail> {
-    assert_eq!(rt; wrong_row(rt.alloc(), TWO_LINES, BRANCHED, &UNBUILT)?, None);
+fn refused_removals_keep_no_operand_back(rt: HostRuntime) -> Result<(), Fail> {
+    assert_eq!(rt; wrong_row(rt.alloc(), TWO_LINES, BRANCHED, &REFUSED)?, None);
     Ok(())
 }

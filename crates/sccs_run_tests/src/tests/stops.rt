@@ -1,5 +1,5 @@
 use sccs_disk::{Fill, MemoryDisk};
-use sccs_fixtures::samples::{SECOND, TWO_LINES};
+use sccs_fixtures::samples::{REMOVED, SECOND, TWO_LINES};
 use sccs_fixtures::{
     Answer, CASE, Case, File, Given, PLAIN, Seen, answer_to, disk_with, ends, has, has_file,
 };
@@ -35,7 +35,10 @@ struct Stop<'a> {
 // two entries, of which the first has its delta
 const DONE: &[u8] = b"1.1 1.2 ann 21/03/04 05:07:08\n1.2 1.3 ann 21/03/04 05:09:00\n";
 
-const STOPS: [Stop<'static>; 6] = [
+// an entry that a removal leaves
+const LEFT: &[u8] = b"1.1 1.1.1.1 ann 21/03/04 05:09:00\n";
+
+const STOPS: [Stop<'static>; 7] = [
     Stop {
         line: b"admin -i s.a",
         time: b"05:06:07",
@@ -107,6 +110,21 @@ const STOPS: [Stop<'static>; 6] = [
         new: Pair {
             s_file: Some(SECOND),
             p_file: None,
+        },
+        g_file: None,
+        locked: false,
+    },
+    Stop {
+        line: b"rmdel -r1.2 s.a",
+        time: b"05:09:00",
+        input: b"",
+        old: Pair {
+            s_file: Some(SECOND),
+            p_file: Some(LEFT),
+        },
+        new: Pair {
+            s_file: Some(REMOVED),
+            p_file: Some(LEFT),
         },
         g_file: None,
         locked: false,

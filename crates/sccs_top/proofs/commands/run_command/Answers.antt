@@ -41,6 +41,12 @@ returns-in-Unget-clause-run g c =
     (setting g.I.Source g.O.Sink g.E.Sink g.D.Disk c.args.streams.now) (setting g.I.Source g.O.Sink g.E.Sink g.D.Disk c.run_listed-in-Unget.new.streams)
     c.in-Unget.ensures c.list_operands-operands.ensures c.run_listed-in-Unget.ensures.run
 
+pub returns-in-Rmdel-clause-run : goal.returns-in-Rmdel-clause-run
+returns-in-Rmdel-clause-run g c =
+    runs_as (action_in (known.Rmdel c.in-Rmdel.utility)) (action_of (caller c.args.stamp.now c.args.place.now) c.args.command.now) (words_of c.list_operands-operands.result) (operands_of c.args.command.now) c.run_listed-in-Rmdel.result
+    (setting g.I.Source g.O.Sink g.E.Sink g.D.Disk c.args.streams.now) (setting g.I.Source g.O.Sink g.E.Sink g.D.Disk c.run_listed-in-Rmdel.new.streams)
+    c.in-Rmdel.ensures c.list_operands-operands.ensures c.run_listed-in-Rmdel.ensures.run
+
 pub returns-in-Recover-clause-run : goal.returns-in-Recover-clause-run
 returns-in-Recover-clause-run g c =
     runs_as (action_in (known.Recover c.in-Recover.utility)) (action_of (caller c.args.stamp.now c.args.place.now) c.args.command.now) (words_of c.list_operands-operands.result) (operands_of c.args.command.now) c.run_listed-in-Recover.result
