@@ -1,0 +1,7 @@
+pub mod Digits
+pub mod FlagPlaces
+pub mod FlagRules
+pub mod InTurn
+pub mod Parts
+pub mod Spaced
+pub mod UserRules
