@@ -39,7 +39,7 @@ explain_number() {
     01) explain_name ;;
     02) explain_lock ;;
     03) explain_missing ;;
-    04) helps "$beside$name is stored already; admin makes new files alone" ;;
+    04) helps "$beside$name is stored already; without -i and -n admin changes its users, flags and description" ;;
     05) helps "files and input may have 1 GiB at most" ;;
     06) helps "the file doesn't begin as an s-file does" ;;
     07) helps "the file was changed by something else than these commands, or damaged: compare it with a copy; admin -z takes it as it is" ;;
@@ -60,6 +60,7 @@ explain_number() {
     24) helps "the flag i asks for a keyword such as %I% or %W% in the text" ;;
     25) helps "$of may hold changes: move it away, or compare it by: sccs diffs $of" ;;
     26) helps "$of isn't what the script makes of the version: it was changed meanwhile, or the script is another's" ;;
+    27) helps "no flag has that letter, or not with that text: sccsfile(5) lists them" ;;
     28) helps "the flag v asks for MR numbers: give them by -m" ;;
     29) helps "without the flag v a file takes no MR numbers: leave -m away" ;;
     33) helps "no further number is left in this release; begin another by get -e -r" ;;

@@ -5,4 +5,4 @@ pub mod StepLaws
 pub mod TextLaws
 pub mod WritingLaws
 pub mod NewFileLaws
-mod StopLaws
+pub mod StopLaws

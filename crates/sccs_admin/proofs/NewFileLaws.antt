@@ -144,7 +144,7 @@ lines_are_items k (line ∷ lines) is =
     let both = not_bad line k lines (begins 1 line) refl is in
     (both.0, lines_are_items (suc k) lines both.1)
 
-none_bad : (lines : List (List ℕ)) (o : Option ℕ) (count : ℕ) → counted lines o ≡ Ok count → o ≡ None
+pub none_bad : (lines : List (List ℕ)) (o : Option ℕ) (count : ℕ) → counted lines o ≡ Ok count → o ≡ None
 none_bad lines None count is = refl
 none_bad lines (Some line) count is = absurd (cc)
 

@@ -30,7 +30,7 @@ use Rattle.sccs_admin.specs.NewFiles.{new_content}
 use Rattle.sccs_admin.specs.Texts.{count_lines, named_by, or_bad_text}
 
 -- the s-file as it was before the lock
-s_unlocked : (n : List ℕ) (v : View) → IsSfile n → unlocked n v n ≡ v n
+pub s_unlocked : (n : List ℕ) (v : View) → IsSfile n → unlocked n v n ≡ v n
 s_unlocked n v sfile = put_other v (z_file n) n None (from_s_z n sfile)
   where
     from_s_z : (n : List ℕ) → IsSfile n → bytes_eq (z_file n) n ≡ false
@@ -52,7 +52,7 @@ refused_outcome words stamp n i named f refusal is = rw is refl
 as_seen : (words : AdminWords) (i n : List ℕ) (v : View) (r : Result (List ℕ) Refusal) → IsSfile n → found_text words.text i (map (unlocked n v) (named_by words.text)) (v n) ≡ r → found_text words.text i (map (unlocked n v) (named_by words.text)) (look (unlocked n v) n).s ≡ r
 as_seen words i n v r sfile is = ap (λ (o : Option Content). found_text words.text i (map (unlocked n v) (named_by words.text)) o) (s_unlocked n v sfile) ∙ is
 
-unmade : (n text : List ℕ) (v : View) (o2 : Option View) (out err : Option (List ℕ)) → Moves (bytes_eq (x_file n)) (λ u. u) (Some v) o2 → IsUnmade n text (world (Some v) out err) (world o2 out err)
+pub unmade : (n text : List ℕ) (v : View) (o2 : Option View) (out err : Option (List ℕ)) → Moves (bytes_eq (x_file n)) (λ u. u) (Some v) o2 → IsUnmade n text (world (Some v) out err) (world o2 out err)
 unmade n text v o2 out err moves = record { view = moves_wider (bytes_eq (x_file n)) (is_working n) (Some v) o2 (no_x n) moves; out = some_none out text }
 
 -- no text was found
@@ -74,10 +74,10 @@ find_fails words stamp fault n left (Some v) o2 out err sfile same finds = λ i 
 
 -- ---- the x-file is written
 
-abbrev files_of : Option Content → Option Content → Option Content → Option Files
+abbrev pub files_of : Option Content → Option Content → Option Content → Option Files
 files_of s p g = Some (record { s = s; p = p; z = None; g = g })
 
-new_files : (n : List ℕ) (c : Content) (v : View) (p : Prepared) → IsSfile n → IsNew p
+pub new_files : (n : List ℕ) (c : Content) (v : View) (p : Prepared) → IsSfile n → IsNew p
     → files_of (Some c) (unlocked n v (p_file n)) (unlocked n v (drop 2 n)) ≡ Some (files_after n (plan_of p) (put v (x_file n) (Some c)))
 new_files n c v p sfile new =
     ap (λ (o : Option Content). files_of (Some c) o (unlocked n v (drop 2 n))) (put_other v (z_file n) (p_file n) None refl ∙ sym (put_other v (x_file n) (p_file n) (Some c) refl))
@@ -128,7 +128,7 @@ found_prepares words stamp r text n left (Some v) o1 o2 out err sfile same finds
 
 -- ---- what a commit needs, and what may come
 
-there_after : (n : List ℕ) (k : List ℕ) (x : Content) (a b : Option View) → bytes_eq n k ≡ false → Becomes (λ v. put v n (Some x)) a b → IfSome a (λ (v : View). IsSome (v k)) → IfSome b (λ (v : View). IsSome (v k))
+pub there_after : (n : List ℕ) (k : List ℕ) (x : Content) (a b : Option View) → bytes_eq n k ≡ false → Becomes (λ v. put v n (Some x)) a b → IfSome a (λ (v : View). IsSome (v k)) → IfSome b (λ (v : View). IsSome (v k))
 there_after n k x None b other is there = subst (λ (o : Option View). IfSome o (λ (v : View). IsSome (v k))) (sym is) tt
 there_after n k x (Some v) b other is there = subst (λ (o : Option View). IfSome o (λ (u : View). IsSome (u k))) (sym is) (subst IsSome (sym (put_other v n k (Some x) other)) there)
 

@@ -82,10 +82,10 @@ unfolding found_text
 long_found i None is long = rw long refl
 long_found i (Some c) is long = absurd (cc)
 
-within : (n m : ℕ) → n ≤ m → nat_le n m ≡ true
+pub within : (n m : ℕ) → n ≤ m → nat_le n m ≡ true
 within n m low = le-leb n m low
 
-beyond : (n m : ℕ) → m < n → nat_le n m ≡ false
+pub beyond : (n m : ℕ) → m < n → nat_le n m ≡ false
 beyond n m high = by (leb_tells n m)
   where
     by : ((nat_le n m ≡ true) × (n ≤ m)) ⊎ ((nat_le n m ≡ false) × (m < n)) → nat_le n m ≡ false

@@ -8,6 +8,7 @@ use Rattle.sccs_disk.specs.Told.{Told, seen}
 use Rattle.sccs_disk.proofs.Puts.{put_other}
 use Rattle.sccs_images.specs.Touches.{Leaves}
 use Rattle.sccs_moments.proofs.FileNames.{from_s}
+use Rattle.sccs_moments.specs.Recovery.{IsSound}
 use Rattle.sccs_pfile.specs.Recovered.{recovered_pfile}
 use Rattle.sccs_sid.specs.declared.moments.Stamp.{Stamp}
 use Rattle.sccs_sid.specs.declared.refusals.StepFault.{StepFault}
@@ -59,11 +60,11 @@ settled_at n p u new fresh paired =
       λ gone. same ∙ none,
     )
 
-settled_seen : (n : List ℕ) (p : Prepared) (x : Content) (a b : Option View) → IsSfile n → IsNew p → IfSome a (λ v. v n ≡ None) → Becomes (λ v. put v (x_file n) (Some x)) a b → IfSome b (λ v. IsPaired n v → KeepsEntries n (plan_of p) v × ArePaired (files_after n (plan_of p) v).s (files_after n (plan_of p) v).p)
-settled_seen n p x None b sfile new fresh is = subst (λ (o : Option View). IfSome o (λ v. IsPaired n v → KeepsEntries n (plan_of p) v × ArePaired (files_after n (plan_of p) v).s (files_after n (plan_of p) v).p)) (sym is) tt
+settled_seen : (n : List ℕ) (p : Prepared) (x : Content) (a b : Option View) → IsSfile n → IsNew p → IfSome a (λ v. v n ≡ None) → Becomes (λ v. put v (x_file n) (Some x)) a b → IfSome b (λ v. IsPaired n v → IsSound n v → KeepsEntries n (plan_of p) v × ArePaired (files_after n (plan_of p) v).s (files_after n (plan_of p) v).p)
+settled_seen n p x None b sfile new fresh is = subst (λ (o : Option View). IfSome o (λ v. IsPaired n v → IsSound n v → KeepsEntries n (plan_of p) v × ArePaired (files_after n (plan_of p) v).s (files_after n (plan_of p) v).p)) (sym is) tt
 settled_seen n p x (Some v) b sfile new fresh is =
-    subst (λ (o : Option View). IfSome o (λ v. IsPaired n v → KeepsEntries n (plan_of p) v × ArePaired (files_after n (plan_of p) v).s (files_after n (plan_of p) v).p)) (sym is)
-    (λ paired. settled_at n p (put v (x_file n) (Some x)) new (put_other v (x_file n) n (Some x) (from_s 120 n sfile refl) ∙ fresh) paired)
+    subst (λ (o : Option View). IfSome o (λ v. IsPaired n v → IsSound n v → KeepsEntries n (plan_of p) v × ArePaired (files_after n (plan_of p) v).s (files_after n (plan_of p) v).p)) (sym is)
+    (λ paired sound. settled_at n p (put v (x_file n) (Some x)) new (put_other v (x_file n) n (Some x) (from_s 120 n sfile refl) ∙ fresh) paired)
 
 pub text_settles : (words : AdminWords) (stamp : Stamp) (r : Result Prepared StepFault) (text n : List ℕ) (o : Option View) (a b : Told) → IsSfile n → seen a ≡ o → IfSome o (λ v. v n ≡ None) → WritesText r words stamp text n (seen a) (seen b) → IfOk r (λ p. SettlesEntries n p b)
 text_settles words stamp (Ok p) text n o a b sfile same fresh writes =

@@ -79,8 +79,8 @@ fn is_lock(file: &Name, name: &Name) -> bool
     name.sibling(b'z').is(file)
 }
 
-// the bytes of a file that an option names; before the lock its own z-file wasn't there
-fn read_named<D: Disk>(
+/// The bytes of a file that an option names; before the lock its own z-file wasn't there.
+pub fn read_named<D: Disk>(
     alloc: Global,
     file: &Name,
     name: &Name,
@@ -167,8 +167,8 @@ fn find_text<I: Source, D: Disk>(
     }
 }
 
-// what is prepared where the x-file is a new s-file
-fn prepared(alloc: Global) -> Prepared
+/// What is prepared where the x-file is a new s-file: all else stays, and nothing is said.
+pub fn prepared(alloc: Global) -> Prepared
     ensures { IsNew result }
 {
     Prepared {

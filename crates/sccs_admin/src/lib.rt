@@ -7,4 +7,5 @@ pub mod laws;
 mod new_files;
 mod texts;
 
-pub use admins::Admin;
+pub use admins::{Admin, prepared, read_named};
+pub use texts::count_lines;

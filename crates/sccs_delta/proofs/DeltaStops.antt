@@ -19,6 +19,7 @@ use Rattle.sccs_history.specs.declared.headers.Record.{Record}
 use Rattle.sccs_pfile.specs.Agreement.{Agrees}
 use Rattle.sccs_pfile.specs.Entries.{IsEdit}
 use Rattle.sccs_pfile.specs.Reading.{edits_of}
+use Rattle.sccs_moments.specs.Recovery.{IsSound}
 use Rattle.sccs_pfile.specs.Recovered.{pfile_of, recovered_pfile, table_of}
 use Rattle.sccs_pfile.specs.declared.entries.Edit.{Edit}
 use Rattle.sccs_pending.specs.PFiles.{bytes_or_none}
@@ -123,7 +124,7 @@ pub settles_told : (n : List ℕ) (p : Prepared) (working : List ℕ → Bool) (
 settles_told n p working a b moves keeps = by (seen a) (seen b) refl refl moves
   where
     by : (before after : Option View) → seen a ≡ before → seen b ≡ after → Moves working (λ v. v) before after
-        → IfSome after (λ (u : View). IsPaired n u → KeepsEntries n (plan_of p) u × ArePaired (files_after n (plan_of p) u).s (files_after n (plan_of p) u).p)
-    by None after is_before is_after moved = subst (λ (o : Option View). IfSome o (λ (u : View). IsPaired n u → KeepsEntries n (plan_of p) u × ArePaired (files_after n (plan_of p) u).s (files_after n (plan_of p) u).p)) (sym moved) tt
+        → IfSome after (λ (u : View). IsPaired n u → IsSound n u → KeepsEntries n (plan_of p) u × ArePaired (files_after n (plan_of p) u).s (files_after n (plan_of p) u).p)
+    by None after is_before is_after moved = subst (λ (o : Option View). IfSome o (λ (u : View). IsPaired n u → IsSound n u → KeepsEntries n (plan_of p) u × ArePaired (files_after n (plan_of p) u).s (files_after n (plan_of p) u).p)) (sym moved) tt
     by (Some v) None is_before is_after moved = absurd moved
-    by (Some v) (Some u) is_before is_after moved = λ paired. keeps v u is_before is_after moved
+    by (Some v) (Some u) is_before is_after moved = λ paired sound. keeps v u is_before is_after moved

@@ -16,6 +16,7 @@ use Rattle.sccs_moments.proofs.FileNames.{from_s}
 use Rattle.sccs_moments.proofs.Joined.{newest_is}
 use Rattle.sccs_pfile.specs.Agreement.{Agrees}
 use Rattle.sccs_pfile.specs.Entries.{IsEdit}
+use Rattle.sccs_moments.specs.Recovery.{IsSound}
 use Rattle.sccs_pfile.specs.Recovered.{is_done, recovered_pfile}
 use Rattle.sccs_pfile.specs.declared.entries.Edit.{Edit}
 use Rattle.sccs_pending.specs.NewEntries.{IsDecided, PreparesEntries, kept_g}
@@ -103,17 +104,17 @@ entries_prepared n edits new_p a b moves entries = record {
 settles_on : (n : List ℕ) (new_p g : NewFile) (report message : List ℕ) (b c : Told) → IsSfile n → Moves (bytes_eq (y_file n)) (λ v. v) (seen b) (seen c) → SettlesEntries n (edit_prepared new_p Keep [] []) b → SettlesEntries n (edit_prepared new_p g report message) c
 settles_on n new_p g report message b c sfile moves settles = by (seen b) (seen c) moves settles
   where
-    by : (o o2 : Option View) → Moves (bytes_eq (y_file n)) (λ v. v) o o2 → IfSome o (λ v. IsPaired n v → KeepsEntries n (plan_of (edit_prepared new_p Keep [] [])) v × ArePaired (files_after n (plan_of (edit_prepared new_p Keep [] [])) v).s (files_after n (plan_of (edit_prepared new_p Keep [] [])) v).p)
-        → IfSome o2 (λ v. IsPaired n v → KeepsEntries n (plan_of (edit_prepared new_p g report message)) v × ArePaired (files_after n (plan_of (edit_prepared new_p g report message)) v).s (files_after n (plan_of (edit_prepared new_p g report message)) v).p)
+    by : (o o2 : Option View) → Moves (bytes_eq (y_file n)) (λ v. v) o o2 → IfSome o (λ v. IsPaired n v → IsSound n v → KeepsEntries n (plan_of (edit_prepared new_p Keep [] [])) v × ArePaired (files_after n (plan_of (edit_prepared new_p Keep [] [])) v).s (files_after n (plan_of (edit_prepared new_p Keep [] [])) v).p)
+        → IfSome o2 (λ v. IsPaired n v → IsSound n v → KeepsEntries n (plan_of (edit_prepared new_p g report message)) v × ArePaired (files_after n (plan_of (edit_prepared new_p g report message)) v).s (files_after n (plan_of (edit_prepared new_p g report message)) v).p)
     by None None moves settles = tt
     by None (Some u) moves settles = absurd cc
     by (Some v) None moves settles = tt
-    by (Some v) (Some u) moves settles = λ paired.
+    by (Some v) (Some u) moves settles = λ paired sound.
         let s : u n ≡ v n = moves n (from_s 121 n sfile refl) in
         let p : u (p_file n) ≡ v (p_file n) = moves (p_file n) refl in
         let q : u (q_file n) ≡ v (q_file n) = moves (q_file n) refl in
         let new : chosen new_p (u (q_file n)) (u (p_file n)) ≡ chosen new_p (v (q_file n)) (v (p_file n)) = ap (λ (o : Option Content). chosen new_p o (u (p_file n))) q ∙ ap (λ (o : Option Content). chosen new_p (v (q_file n)) o) p in
-        let old : KeepsEntries n (plan_of (edit_prepared new_p Keep [] [])) v × ArePaired (v n) (chosen new_p (v (q_file n)) (v (p_file n))) = settles (λ none. sym p ∙ paired (s ∙ none)) in (
+        let old : KeepsEntries n (plan_of (edit_prepared new_p Keep [] [])) v × ArePaired (v n) (chosen new_p (v (q_file n)) (v (p_file n))) = settles (λ none. sym p ∙ paired (s ∙ none)) (sym (ap (λ (o : Option Content). recovered_pfile o (v (p_file n))) s) ∙ (sym (ap (recovered_pfile (u n)) p) ∙ (sound ∙ p))) in (
           record { leaves = tt; sound = ap (λ (o : Option Content). recovered_pfile o (chosen new_p (u (q_file n)) (u (p_file n)))) s ∙ (ap (recovered_pfile (v n)) new ∙ (old.0.sound ∙ sym new)) },
           λ none. new ∙ old.1 (sym s ∙ none),
         )

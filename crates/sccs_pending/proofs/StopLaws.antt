@@ -26,6 +26,7 @@ use Rattle.sccs_steps.specs.StepEffects.{check}
 use Rattle.sccs_pfile.specs.Agreement.{agrees, first_disagreeing, has_lists, makers}
 use Rattle.sccs_pfile.specs.Entries.{IsEdit}
 use Rattle.sccs_pfile.specs.Reading.{edits_of}
+use Rattle.sccs_moments.specs.Recovery.{IsSound}
 use Rattle.sccs_pfile.specs.Recovered.{is_done, pfile_of, recovered_pfile, table_of, without_done}
 use Rattle.sccs_pfile.specs.declared.entries.Edit.{Edit}
 use Rattle.sccs_pfile.proofs.Recovering.{left_stays}
@@ -143,11 +144,11 @@ decided_settles n x d (Ok p) o a b sfile same read valid undone prepares =
     by (seen a) (seen b) (subst (λ (t : Told). IfSome (seen t) (λ (v : View). AnswersPending (v n) (v (p_file n)) (Ok x))) (sym same) read) prepares.moves prepares.entries.chosen_is
   where
     by : (oa ob : Option View) → IfSome oa (λ (v : View). AnswersPending (v n) (v (p_file n)) (Ok x)) → Moves (bytes_eq (q_file n)) (λ v. v) oa ob → IfSome ob (λ (v : View). (old : Option Content) → chosen p.new_p (v (q_file n)) old ≡ pfile_of d.edits)
-        → IfSome ob (λ v. IsPaired n v → KeepsEntries n (plan_of p) v × ArePaired (files_after n (plan_of p) v).s (files_after n (plan_of p) v).p)
+        → IfSome ob (λ v. IsPaired n v → IsSound n v → KeepsEntries n (plan_of p) v × ArePaired (files_after n (plan_of p) v).s (files_after n (plan_of p) v).p)
     by None None r2 moves is = tt
     by None (Some u) r2 moves is = cc
     by (Some v) None r2 moves is = tt
-    by (Some v) (Some u) r2 moves is = λ paired. settled_at n x d p v u prepares.of.s r2 valid undone (moves n (from_s 113 n sfile refl)) is
+    by (Some v) (Some u) r2 moves is = λ paired sound. settled_at n x d p v u prepares.of.s r2 valid undone (moves n (from_s 113 n sfile refl)) is
 
 -- no x-file takes a place, and the q-file is firm where it does
 pub entries_firm : (n : List ℕ) (p : Prepared) (a a2 b : Told) → a2 ≡ a → p.new_s ≡ false → OnReplace p.new_p (Leaves (IsFirm (q_file n)) a2 b) → IsFirmPrepared n p a b

@@ -1,3 +1,4 @@
+pub mod AlteredVersions
 pub mod LeftFiles
 pub mod LiveVersions
 pub mod MadeSteps

@@ -19,6 +19,7 @@ use Rattle.sccs_steps.specs.Actions.{Action, KeepsFiles}
 use Rattle.sccs_steps.specs.StepLists.{NamedStep, folder_after}
 use Rattle.sccs_steps.specs.Unlocked.{ArePlain, IsPlainFor}
 use Rattle.sccs_admin.specs.AdminStep.{admin_change}
+use Rattle.sccs_alter.specs.AlterStep.{alter_change}
 use Rattle.sccs_delta.specs.DeltaStep.{delta_change}
 use Rattle.sccs_edit.specs.Checks.{sact_keeps}
 use Rattle.sccs_edit.specs.UngetStep.{unget_change}
@@ -33,7 +34,7 @@ use Rattle.sccs_prs.specs.Keeps.{prs_keeps}
 use Rattle.sccs_val.proofs.RunLaws.{val_keeps, val_leaves}
 use Rattle.sccs_what.specs.Checks.{what_keeps}
 use Rattle.sccs_top.specs.Runs.{Caller, action_meant, action_of, has_heading, operands_of, run_steps, steps_by, usage_step, val_words_of}
-use Rattle.sccs_top.specs.Unbuilt.{is_admin_built, unbuilt, unbuilt_keeps}
+use Rattle.sccs_top.specs.Unbuilt.{is_new_built, is_old_built, unbuilt, unbuilt_keeps}
 use Rattle.sccs_replays.specs.PastRuns.{AreInTurn, HasVersions, IsPastRun, PastRun, folder_after_run, replay, s_file_after, steps_of, versions_after_command, versions_after_run, versions_after_step, versions_after_steps}
 use Rattle.sccs_replays.proofs.LeftFiles.{other_file, own_file}
 use Rattle.sccs_replays.proofs.MadeSteps.{AreStepsOf, IsStepOf, are_some, are_steps}
@@ -47,7 +48,9 @@ either_keeps true x y first second = first
 either_keeps false x y first second = second
 
 command_keeps : (who : Caller) (command : Command) → KeepsFiles (action_of who command)
-command_keeps who (c.Admin words operands) = either_keeps (is_admin_built words) (locking (admin_change words who.stamp)) (unbuilt false false) (locking_keeps (admin_change words who.stamp)) (unbuilt_keeps false false)
+command_keeps who (c.Admin words operands) =
+    either_keeps (is_new_built words) (locking (admin_change words who.stamp)) (if is_old_built words then locking (alter_change words) else unbuilt false false) (locking_keeps (admin_change words who.stamp))
+    (either_keeps (is_old_built words) (locking (alter_change words)) (unbuilt false false) (locking_keeps (alter_change words)) (unbuilt_keeps false false))
 command_keeps who (c.Get words operands) =
     either_keeps words.edit (locking (edit_change words who.stamp who.place (has_heading operands))) (get_action words who.stamp who.place (has_heading operands))
     (locking_keeps (edit_change words who.stamp who.place (has_heading operands))) (get_keeps words who.stamp who.place (has_heading operands))

@@ -1,5 +1,5 @@
 -- What the step of each command makes of the versions of an s-file.
-use Rattle.std.proofs.Common.{◌≡◌, ◌==◌, ◌||◌, ℕ, Bool, true, false, List, [], ◌∷◌, drop, Option, None, Some, Ok, Err, refl, sym, ap, subst, ◌∙◌}
+use Rattle.std.proofs.Common.{◌≡◌, ◌==◌, ◌&&◌, ◌||◌, ℕ, Bool, true, false, not, List, [], ◌∷◌, drop, Option, None, Some, Ok, Err, refl, sym, ap, subst, ◌∙◌}
 use Rattle.std.specs.Prelude.{if◌then◌else◌, is_none, is_some, map}
 use Rattle.std.proofs.lemmas.Bool.{eqb-true}
 use Rattle.sccs_base.specs.Login.{IsLogin}
@@ -21,6 +21,7 @@ use Rattle.sccs_steps.specs.StepEffects.{Outcome, StepEffect, check}
 use Rattle.sccs_transactions.specs.Changes.{locking, locking_step}
 use Rattle.sccs_admin.specs.AdminStep.{admin_change, admin_outcome, found_text}
 use Rattle.sccs_admin.specs.Texts.{named_by}
+use Rattle.sccs_alter.specs.AlterStep.{alter_change, alter_outcome}
 use Rattle.sccs_delta.specs.DeltaStep.{delta_outcome, sizes_checked}
 use Rattle.sccs_delta.specs.NewVersions.{MakesVersions, text_in}
 use Rattle.sccs_delta.specs.Replays.{CallRead, DeltaCall, Texts, call_read, files_at}
@@ -36,11 +37,12 @@ use Rattle.sccs_val.specs.ValStep.{val_action}
 use Rattle.sccs_what.specs.Checks.{what_keeps}
 use Rattle.sccs_what.specs.WhatStep.{what_action}
 use Rattle.sccs_top.specs.Runs.{Caller, action_of, has_heading}
-use Rattle.sccs_top.specs.Unbuilt.{is_admin_built, unbuilt}
+use Rattle.sccs_top.specs.Unbuilt.{is_new_built, is_old_built, unbuilt}
 use Rattle.sccs_top.specs.MadeHistories.{IsReplayed}
 use Rattle.sccs_top.proofs.AdminValues.{admin_values}
 use Rattle.sccs_top.proofs.MadeHistoryLaws.{made_replayed}
 use Rattle.sccs_replays.specs.PastRuns.{HasVersions, call_in, first_version, versions_after_command, with_delta, with_read}
+use Rattle.sccs_replays.proofs.AlteredVersions.{altered_goes}
 use Rattle.sccs_replays.proofs.LeftFiles.{Leaves, edit_leaves, entries_leave, get_leaves, locking_leaves, recover_leaves, refused_leaves, s_of, sact_leaves}
 use Rattle.sccs_replays.proofs.LiveVersions.{follows_on, read_is}
 use Rattle.sccs_replays.proofs.MeantValues.{HasMeantValues}
@@ -145,13 +147,43 @@ admin_goes who words i n named f texts d moment login values is are =
 
 -- ---- commands
 
-admin_by : (built : Bool) (who : Caller) (words : AdminWords) (i n : List ℕ) (m : Folder) (texts : Texts) (d : StepEffect) → IsMoment who.stamp.moment → IsLogin who.stamp.login → HasMeantValues (c.Admin words (record { words = []; from_input = false }))
-    → (let x : Action = if built then locking (admin_change words who.stamp) else unbuilt false false in x.step n i (map (view_in m) (x.named n)) (look (view_in m) n) ≡ Ok d)
-    → Goes (view_in m n) d.new texts (first_version (found_text words.text i (map (view_in m) (named_by words.text)) (view_in m n)))
-admin_by true who words i n m texts d moment login values is =
-    admin_goes who words i n (map (view_in m) (named_by words.text)) (look (view_in m) n) texts d moment login values
-    (unlocked_step (admin_outcome words who.stamp) n i (map (view_in m) (named_by words.text)) (look (view_in m) n) d is).1
-admin_by false who words i n m texts d moment login values is = absurd cc
+-- what is built of admin makes new files, or is on s-files that are there
+fresh_new : (words : AdminWords) → is_new_built words ≡ true → words.fresh ≡ true
+unfolding is_new_built
+fresh_new words is = and_parts_first words.fresh _ is
+  where
+    and_parts_first : (a b : Bool) → (a && b) ≡ true → a ≡ true
+    and_parts_first true b is = refl
+    and_parts_first false b is = absurd cc
+
+old_there : (words : AdminWords) → is_old_built words ≡ true → words.fresh ≡ false
+unfolding is_old_built
+old_there words is = by words.fresh (words.check || words.fix) is
+  where
+    by : (a b : Bool) → not (a || b) ≡ true → a ≡ false
+    by true b is = absurd cc
+    by false b is = refl
+
+-- the action of admin, and the versions after it
+abbrev admin_at : Bool → Bool → Caller → AdminWords → Action
+admin_at new old who words = if new then locking (admin_change words who.stamp) else (if old then locking (alter_change words) else unbuilt false false)
+
+abbrev after_admin : Bool → Caller → AdminWords → List ℕ → Folder → List ℕ → Texts → Texts
+after_admin fresh who words i m n texts = if fresh then first_version (found_text words.text i (map (view_in m) (named_by words.text)) (view_in m n)) else texts
+
+admin_by : (new old : Bool) (who : Caller) (words : AdminWords) (i n : List ℕ) (m : Folder) (texts : Texts) (d : StepEffect) → IsMoment who.stamp.moment → IsLogin who.stamp.login → HasMeantValues (c.Admin words (record { words = []; from_input = false }))
+    → (new ≡ true → words.fresh ≡ true) → (old ≡ true → words.fresh ≡ false)
+    → (let x : Action = admin_at new old who words in x.step n i (map (view_in m) (x.named n)) (look (view_in m) n) ≡ Ok d)
+    → Goes (view_in m n) d.new texts (after_admin words.fresh who words i m n texts)
+admin_by true old who words i n m texts d moment login values fresh there is =
+    subst (λ (b : Bool). Goes (view_in m n) d.new texts (after_admin b who words i m n texts)) (sym (fresh refl))
+    (admin_goes who words i n (map (view_in m) (named_by words.text)) (look (view_in m) n) texts d moment login values
+    (unlocked_step (admin_outcome words who.stamp) n i (map (view_in m) (named_by words.text)) (look (view_in m) n) d is).1)
+admin_by false true who words i n m texts d moment login values fresh there is =
+    subst (λ (b : Bool). Goes (view_in m n) d.new texts (after_admin b who words i m n texts)) (sym (there refl))
+    (altered_goes words n i (map (view_in m) (named_by words.description)) (look (view_in m) n) texts d
+    (unlocked_step (alter_outcome words) n i (map (view_in m) (named_by words.description)) (look (view_in m) n) d is).1)
+admin_by false false who words i n m texts d moment login values fresh there is = absurd cc
 
 get_by : (edit : Bool) (who : Caller) (words : GetWords) (heading : Bool) (i n : List ℕ) (m : Folder) (texts : Texts) (d : StepEffect)
     → (let x : Action = if edit then locking (edit_change words who.stamp who.place heading) else get_action words who.stamp who.place heading in x.step n i (map (view_in m) (x.named n)) (look (view_in m) n) ≡ Ok d)
@@ -171,7 +203,7 @@ reading_goes x i n m texts d keeps reads is =
 
 pub command_goes : (who : Caller) (command : Command) (i n : List ℕ) (m : Folder) (texts : Texts) (d : StepEffect) → IsMoment who.stamp.moment → IsLogin who.stamp.login → HasMeantValues command
     → (action_of who command).step n i (map (view_in m) ((action_of who command).named n)) (look (view_in m) n) ≡ Ok d → Goes (view_in m n) d.new texts (versions_after_command who command i m n texts)
-command_goes who (c.Admin words operands) i n m texts d moment login values is = admin_by (is_admin_built words) who words i n m texts d moment login values is
+command_goes who (c.Admin words operands) i n m texts d moment login values is = admin_by (is_new_built words) (is_old_built words) who words i n m texts d moment login values (fresh_new words) (old_there words) is
 command_goes who (c.Get words operands) i n m texts d moment login values is = get_by words.edit who words (has_heading operands) i n m texts d is
 command_goes who (c.Delta words name) i n m texts d moment login values is = delta_goes who words i n m texts d moment login values is
 command_goes who (c.Unget words operands) i n m texts d moment login values is =

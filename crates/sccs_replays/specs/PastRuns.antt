@@ -92,10 +92,11 @@ abbrev pub first_version : Result (List ℕ) Refusal → Texts
 first_version (Ok text) = λ m. text_of text
 first_version (Err refusal) = λ m. []
 
--- the versions after an accepted step on a name in a folder: delta adds some, admin makes the first one, and all else leaves them
+-- the versions after an accepted step on a name in a folder: delta adds some, admin on a new file makes the first one, and all
+-- else leaves them
 abbrev pub versions_after_command : Caller → Command → List ℕ → Folder → List ℕ → Texts → Texts
 versions_after_command who (c.Delta words name) i m n texts = with_delta (view_in m n) (call_in who words i m n) texts
-versions_after_command who (c.Admin words operands) i m n texts = first_version (found_text words.text i (map (view_in m) (named_by words.text)) (view_in m n))
+versions_after_command who (c.Admin words operands) i m n texts = if words.fresh then first_version (found_text words.text i (map (view_in m) (named_by words.text)) (view_in m n)) else texts
 versions_after_command who command i m n texts = texts
 
 -- those of a name after a step: one that is refused, or on another name, leaves them

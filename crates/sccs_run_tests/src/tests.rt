@@ -1,3 +1,4 @@
+mod altered_files;
 mod disks;
 mod gets;
 mod hostile;

@@ -8,6 +8,7 @@ use Rattle.sccs_moments.specs.Moments.{KeepsCalm, LeavesCalm, LeavesFirm, Recove
 use Rattle.sccs_moments.specs.Unlocked.{BeginsUnlocked}
 use Rattle.sccs_sid.specs.declared.moments.Stamp.{Stamp}
 use Rattle.sccs_words.specs.declared.commands.Usage.{Usage}
+use Rattle.sccs_words.specs.declared.commands.AdminWords.{AdminWords}
 use Rattle.sccs_words.specs.declared.commands.GetWords.{GetWords}
 use Rattle.sccs_words.specs.declared.commands.Operands.{Operands}
 use Rattle.sccs_words.specs.declared.commands.ValWords.{ValWords}
@@ -29,6 +30,7 @@ use Rattle.sccs_steps.specs.declared.statuses.StatusRule.{StatusRule}
 use Rattle.sccs_steps.specs.declared.statuses.StatusRule.TheVariants.{Greatest}
 use Rattle.sccs_transactions.specs.Changes.{locking}
 use Rattle.sccs_admin.specs.AdminStep.{admin_change}
+use Rattle.sccs_alter.specs.AlterStep.{alter_change}
 use Rattle.sccs_delta.specs.DeltaStep.{delta_change}
 use Rattle.sccs_edit.specs.SactStep.{sact_action}
 use Rattle.sccs_edit.specs.UngetStep.{unget_change}
@@ -40,7 +42,7 @@ use Rattle.sccs_prs.specs.PrsStep.{prs_action}
 use Rattle.sccs_val.specs.ValStep.{val_action, val_operands, val_steps}
 use Rattle.sccs_what.specs.WhatStep.{what_action}
 use Rattle.sccs_top.specs.Messages.{usage_line}
-use Rattle.sccs_top.specs.Unbuilt.{is_admin_built, unbuilt}
+use Rattle.sccs_top.specs.Unbuilt.{is_new_built, is_old_built, unbuilt}
 use Rattle.sccs_top.specs.declared.answers.Answer.{Answer}
 use Rattle.sccs_top.specs.declared.answers.Answer.TheVariants.{Finished, Memory, ReadFault, WriteFault, DiskFault}
 
@@ -79,9 +81,13 @@ caller stamp place = record { stamp = stamp; place = place }
 abbrev pub get_in : GetWords → Caller → Bool → Action
 get_in words who heading = if words.edit then locking (edit_change words who.stamp who.place heading) else get_action words who.stamp who.place heading
 
+-- admin: a new file, an s-file that is there, or what isn't built yet
+abbrev pub admin_in : AdminWords → Stamp → Action
+admin_in words stamp = if is_new_built words then locking (admin_change words stamp) else (if is_old_built words then locking (alter_change words) else unbuilt false false)
+
 -- what is done with each of them, where this is the moment and the login
 abbrev pub action_of : Caller → Command → Action
-action_of who (c.Admin words operands) = if is_admin_built words then locking (admin_change words who.stamp) else unbuilt false false
+action_of who (c.Admin words operands) = admin_in words who.stamp
 action_of who (c.Get words operands) = get_in words who (has_heading operands)
 action_of who (c.Delta words name) = locking (delta_change words who.stamp)
 action_of who (c.Unget words operands) = locking (unget_change words who.stamp (has_heading operands))

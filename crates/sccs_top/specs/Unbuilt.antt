@@ -16,11 +16,15 @@ is_absent No = true
 is_absent given = false
 
 -- admin makes new files: it has `-n` or `-i`, and of the other options only `-r` and `-y`
-unfoldable pub is_admin_built : AdminWords → Bool
-is_admin_built words =
+unfoldable pub is_new_built : AdminWords → Bool
+is_new_built words =
     words.fresh
     && (is_empty words.add && (is_empty words.erase && (is_empty words.set && (is_empty words.unset && is_empty words.mrs))))
     && (not (words.check || words.fix) && is_absent words.description)
+
+-- admin on an s-file that is there, without `-h` and `-z`
+unfoldable pub is_old_built : AdminWords → Bool
+is_old_built words = not (words.fresh || (words.check || words.fix))
 
 abbrev pub is_unbuilt : Outcome → Bool
 is_unbuilt (Ok effect) = false

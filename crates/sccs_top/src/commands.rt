@@ -1,5 +1,6 @@
-ghost use Rattle.std.specs.Prelude.{◌≡◌, true, false, None, option_map, OnOk, OnErr};
+ghost use Rattle.std.specs.Prelude.{◌≡◌, true, false, None, option_map, IfSome, OnOk, OnErr};
 ghost use Rattle.sccs_sid.specs.Moment.{IsMoment};
+ghost use Rattle.sccs_sid.specs.Sid.{IsComponent};
 ghost use Rattle.sccs_words.specs.Meaning.{meaning};
 ghost use Rattle.sccs_words.specs.ValidValues.{AreGetValues, HasValidValues};
 ghost use Rattle.sccs_steps.specs.Calls.{scene};
@@ -9,12 +10,13 @@ ghost use Rattle.sccs_steps.specs.Settings.{SameLoans, setting, setting_of};
 ghost use Rattle.sccs_steps.specs.declared.faults.Fault.TheVariants as ends;
 ghost use Rattle.sccs_top.specs.Listing.{action_in, words_of};
 ghost use Rattle.sccs_top.specs.Unbuilt.{unbuilt};
-ghost use Rattle.sccs_top.specs.Runs.{MakesSteps, RecoversRun, RunsCommand, SpeaksWords, StopsSteps, UnlockedSteps, action_of, caller, get_in, has_heading, is_silent, made_by, only_reads, operands_of, takes_input, val_words_of};
+ghost use Rattle.sccs_top.specs.Runs.{MakesSteps, RecoversRun, RunsCommand, SpeaksWords, StopsSteps, UnlockedSteps, action_of, admin_in, caller, get_in, has_heading, is_silent, made_by, only_reads, operands_of, takes_input, val_words_of};
 
 use crate::answers::Answer;
 use crate::messages::write_usage;
-use crate::unbuilt::{Unbuilt, is_admin_built};
+use crate::unbuilt::{Unbuilt, is_new_built, is_old_built};
 use sccs_admin::Admin;
+use sccs_alter::Alter;
 use sccs_base::{Line, Sink, Source, Words};
 use sccs_delta::Delta;
 use sccs_disk::Disk;
@@ -30,7 +32,7 @@ use sccs_steps::{
 use sccs_transactions::Locking;
 use sccs_val::run_val;
 use sccs_what::What;
-use sccs_words::{Command, GetWords, Operands, ValWords, WordsFault, read_words};
+use sccs_words::{AdminWords, Command, GetWords, Operands, ValWords, WordsFault, read_words};
 use std::alloc::Global;
 
 // how a command ends whose steps end so
@@ -49,6 +51,7 @@ fn ended(made: Result<u8, Fault>) -> Answer
 // what is done with the operands of a command
 enum Known<'a> {
     Admin(Locking<Admin<'a>>),
+    Alter(Locking<Alter<'a>>),
     Get(Get<'a>),
     Reserve(Locking<Reserve<'a>>),
     Delta(Locking<Delta<'a>>),
@@ -107,6 +110,25 @@ fn unbuilt<'a>(any: bool, takes: bool) -> Known<'a>
     Known::Unbuilt(Unbuilt { any, takes })
 }
 
+// admin: a new file, an s-file that is there, or what isn't built yet
+fn admin_of<'a>(words: &'a AdminWords, stamp: &'a Stamp) -> Known<'a>
+    requires values { IfSome words.now.release IsComponent }
+    requires moment { IsMoment stamp.now.moment }
+    ensures { action_in result ≡ admin_in words.now stamp.now }
+{
+    if is_new_built(words) {
+        return Known::Admin(Locking {
+            change: Admin { words, stamp },
+        });
+    }
+    if is_old_built(words) {
+        return Known::Alter(Locking {
+            change: Alter { words },
+        });
+    }
+    unbuilt(false, false)
+}
+
 fn utility_of<'a>(command: &'a Command, stamp: &'a Stamp, place: &'a Line) -> Known<'a>
     requires other { val_words_of command.now ≡ None }
     requires values { HasValidValues command.now }
@@ -114,15 +136,7 @@ fn utility_of<'a>(command: &'a Command, stamp: &'a Stamp, place: &'a Line) -> Kn
     ensures { action_in result ≡ action_of (caller stamp.now place.now) command.now }
 {
     match command {
-        Command::Admin(words, _) => {
-            if is_admin_built(words) {
-                Known::Admin(Locking {
-                    change: Admin { words, stamp },
-                })
-            } else {
-                unbuilt(false, false)
-            }
-        }
+        Command::Admin(words, _) => admin_of(words, stamp),
         Command::Get(words, operands) => get_of(words, operands, stamp, place),
         Command::Delta(words, _) => Known::Delta(Locking {
             change: Delta { words, stamp },
@@ -224,6 +238,7 @@ fn run_command<I: Source, O: Sink, E: Sink, D: Disk>(
     let operands = list_operands(command);
     match utility_of(command, stamp, place) {
         Known::Admin(utility) => run_listed(alloc, &Ordinary { utility }, operands, streams),
+        Known::Alter(utility) => run_listed(alloc, &Ordinary { utility }, operands, streams),
         Known::Get(utility) => run_listed(alloc, &Ordinary { utility }, operands, streams),
         Known::Reserve(utility) => run_listed(alloc, &Ordinary { utility }, operands, streams),
         Known::Delta(utility) => run_listed(alloc, &Ordinary { utility }, operands, streams),
@@ -268,7 +283,8 @@ fn run_lent<I: Source, O: Sink, E: Sink, D: Disk>(
 /// Does a command. The words are those behind the program's name; `stamp` is its moment, of the years
 /// 1969 to 2068, and its login, `place` the folder's path. Texts go to `out`, messages to `err`.
 ///
-/// Built are admin on new files, with `-n` or `-i`, `-r` and `-y`; get, delta, sact, unget, rmdel, prs, val, what and recover.
+/// Built are admin on new files with `-n` or `-i`, `-r` and `-y`, and on s-files that are there with `-a`, `-e`,
+/// `-f`, `-d` and `-t`; get, delta, sact, unget, rmdel, prs, val, what and recover.
 ///
 /// A stop at any moment of a run that began on a calm disk, with safe operands, leaves what recovers on all
 /// names as after the same number of steps, no fewer than are acknowledged; and s-files and p-files are firm

@@ -16,6 +16,7 @@ use Rattle.sccs_images.specs.Touches.{Leaves, TouchesOnly, Touching, earlier, ne
 use Rattle.sccs_images.proofs.Touched.{only_then, only_wider}
 use Rattle.sccs_moments.specs.Calm.{IsCalm}
 use Rattle.sccs_moments.specs.Moments.{EndsAfter, EndsBefore}
+use Rattle.sccs_pfile.specs.Recovered.{recovered_pfile}
 use Rattle.sccs_moments.specs.Recovery.{IsSound, RecoversAs, is_kept}
 use Rattle.sccs_moments.proofs.FileNames.{from_s, no_working, no_z, working_s}
 use Rattle.sccs_moments.proofs.Recovering.{same_recovers}
@@ -151,6 +152,13 @@ still_paired n v u sfile paired moves = λ none. same (p_file n) refl refl ∙ p
     same : (k : List ℕ) → is_working n k ≡ false → bytes_eq (z_file n) k ≡ false → u k ≡ v k
     same k h other = moves k h ∙ put_other v (z_file n) k (Some empty_file) other
 
+-- nor does whether an entry of the p-file has its delta in the s-file
+still_sound : (n : List ℕ) (v u : View) → IsSfile n → IsSound n v → ((k : List ℕ) → is_working n k ≡ false → u k ≡ locked n v k) → IsSound n u
+still_sound n v u sfile sound moves =
+    let s : u n ≡ v n = moves n (working_s n n sfile) ∙ put_other v (z_file n) n (Some empty_file) (from_s 122 n sfile refl) in
+    let p : u (p_file n) ≡ v (p_file n) = moves (p_file n) refl ∙ put_other v (z_file n) (p_file n) (Some empty_file) refl in
+    ap (λ (o : Option Content). recovered_pfile o (u (p_file n))) s ∙ (ap (recovered_pfile (v n)) p ∙ (sound ∙ sym p))
+
 firm_from : (new : NewFile) (k : List ℕ) (mine : List ℕ → Bool) (a b d : Told) → TouchesOnly mine a b → OnReplace new (Leaves (IsFirm k) b d) → OnReplace new (Leaves (IsFirm k) a d)
 firm_from Keep k mine a b d touches firm = tt
 firm_from Replace k mine a b d touches firm = leaves_from (IsFirm k) mine a b d touches firm
@@ -162,18 +170,19 @@ plain_where Replace P plain = plain
 plain_where Remove P plain = plain
 
 -- what becomes of the entries, where the model is told
-settled_now : (n : List ℕ) (p : Prepared) (v : View) (tb2 : Told) (m1 : Model) (past1 : List Model) → IsSfile n → IsPaired n v → Moves (is_working n) (λ u. u) (Some (locked n v)) (seen tb2) → SettlesEntries n p tb2 → tb2 ≡ Tells m1 past1
+settled_now : (n : List ℕ) (p : Prepared) (v : View) (tb2 : Told) (m1 : Model) (past1 : List Model) → IsSfile n → IsPaired n v → IsSound n v → Moves (is_working n) (λ u. u) (Some (locked n v)) (seen tb2) → SettlesEntries n p tb2 → tb2 ≡ Tells m1 past1
     → KeepsEntries n (plan_of p) (view_of m1) × ArePaired (files_after n (plan_of p) (view_of m1)).s (files_after n (plan_of p) (view_of m1)).p
-settled_now n p v tb2 m1 past1 sfile paired moves entries is =
-    (subst (λ (t : Told). IfSome (seen t) (λ u. IsPaired n u → KeepsEntries n (plan_of p) u × ArePaired (files_after n (plan_of p) u).s (files_after n (plan_of p) u).p)) is entries) (still_paired n v (view_of m1) sfile paired (moves_now n v tb2 m1 past1 moves is))
+settled_now n p v tb2 m1 past1 sfile paired sound moves entries is =
+    (subst (λ (t : Told). IfSome (seen t) (λ u. IsPaired n u → IsSound n u → KeepsEntries n (plan_of p) u × ArePaired (files_after n (plan_of p) u).s (files_after n (plan_of p) u).p)) is entries) (still_paired n v (view_of m1) sfile paired (moves_now n v tb2 m1 past1 moves is))
+    (still_sound n v (view_of m1) sfile sound (moves_now n v tb2 m1 past1 moves is))
 
-has_prepared : (n : List ℕ) (p : Prepared) (v : View) (ta tb tb2 : Told) → IsSfile n → IsPaired n v → Moves (is_working n) (λ u. u) (Some (locked n v)) (seen tb2) → TouchesOnly (bytes_eq (z_file n)) ta tb → TouchesOnly (is_working n) tb tb2 → IsFirmPrepared n p tb tb2 → SettlesEntries n p tb2 → HasPrepared n (plan_of p) ta tb2
-has_prepared n p v ta tb tb2 sfile paired moves locks working firm entries = record {
+has_prepared : (n : List ℕ) (p : Prepared) (v : View) (ta tb tb2 : Told) → IsSfile n → IsPaired n v → IsSound n v → Moves (is_working n) (λ u. u) (Some (locked n v)) (seen tb2) → TouchesOnly (bytes_eq (z_file n)) ta tb → TouchesOnly (is_working n) tb tb2 → IsFirmPrepared n p tb tb2 → SettlesEntries n p tb2 → HasPrepared n (plan_of p) ta tb2
+has_prepared n p v ta tb tb2 sfile paired sound moves locks working firm entries = record {
   touches = all_left n ta tb tb2 locks working;
   x_state = firm_from (plan_of p).s (x_file n) (bytes_eq (z_file n)) ta tb tb2 locks firm.x_state;
   q_state = firm_from (plan_of p).p (q_file n) (bytes_eq (z_file n)) ta tb tb2 locks firm.q_state;
   entries = λ m past is m1 past1 is1.
-      (settled_now n p v tb2 m1 past1 sfile paired moves entries is1).0;
+      (settled_now n p v tb2 m1 past1 sfile paired sound moves entries is1).0;
 }
 
 finished_so : (y : Action) (r : Result (Unit {0}) StepFault) (n : List ℕ) (p : Prepared) (o : Outcome) (m : Model) (past : List Model) (ta tb tb2 td : Told) (out out2 out3 err err3 : Option (List ℕ)) → IsSfile n → ta ≡ Tells m past → IsCalm m → IsSafe n (view_of m) → view_of m (z_file n) ≡ None
@@ -182,7 +191,7 @@ finished_so : (y : Action) (r : Result (Unit {0}) StepFault) (n : List ℕ) (p :
 finished_so y r n p o m past ta tb tb2 td out out2 out3 err err3 sfile is calm safe free prepared finishes commits locks working firm entries = by r finishes commits
   where
     has : HasPrepared n (plan_of p) ta tb2
-    has = has_prepared n p (view_of m) ta tb tb2 sfile safe.paired prepared.view locks working firm entries
+    has = has_prepared n p (view_of m) ta tb tb2 sfile safe.paired (safe.sound free) prepared.view locks working firm entries
 
     plain : IsPlain n (plan_of p)
     plain = plain_where (plan_of p).g (is_kept (drop 2 n) ≡ false) safe.plain
@@ -198,7 +207,7 @@ finished_so y r n p o m past ta tb tb2 td out out2 out3 err err3 sfile is calm s
     -- the files that the commit placed are safe
     again : (m1 : Model) (past1 : List Model) → tb2 ≡ Tells m1 past1 → IsSafe n (moved (view_of m) n (effect_of n o).new)
     again m1 past1 is1 =
-        let settled = settled_now n p (view_of m) tb2 m1 past1 sfile safe.paired prepared.view entries is1 in
+        let settled = settled_now n p (view_of m) tb2 m1 past1 sfile safe.paired (safe.sound free) prepared.view entries is1 in
         subst (λ (f : Option Files). IsSafe n (moved (view_of m) n f)) (sym (new ∙ subst (λ (t : Told). IfSome (seen t) (λ u. prepared.effect.new ≡ Some (files_after n (plan_of p) u))) is1 prepared.files))
         (placed_safe n (view_of m) (files_after n (plan_of p) (view_of m1)) sfile safe.plain settled.0.sound settled.1)
 

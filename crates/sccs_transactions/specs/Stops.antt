@@ -6,6 +6,7 @@ use Rattle.sccs_sid.specs.declared.refusals.StepFault.TheVariants.{WriteFault, D
 use Rattle.sccs_disk.specs.Images.{IsFirm}
 use Rattle.sccs_disk.specs.Told.{Told, seen}
 use Rattle.sccs_images.specs.Touches.{Leaves}
+use Rattle.sccs_moments.specs.Recovery.{IsSound}
 use Rattle.sccs_steps.specs.StepStops.{ArePaired, IsPaired}
 use Rattle.sccs_store.specs.Commits.{files_after}
 use Rattle.sccs_store.specs.Stops.{CommitEnds, CommitStops, KeepsEntries, OnReplace}
@@ -19,10 +20,10 @@ pub record IsFirmPrepared (n : List ℕ) (p : Prepared) (old new : Told) : Type 
   pub x_state : OnReplace (plan_of p).s (Leaves (IsFirm (x_file n)) old new)
   pub q_state : OnReplace (plan_of p).p (Leaves (IsFirm (q_file n)) old new)
 
--- where there is no p-file without an s-file, recovery makes the new p-file of the old one, and keeps the new one; and there is
--- no new one without a new s-file
+-- where there is no p-file without an s-file, and no entry of it has its delta in the s-file, recovery makes the new p-file of
+-- the old one, and keeps the new one; and there is no new one without a new s-file
 abbrev pub SettlesEntries : List ℕ → Prepared → Told → Type 0
-SettlesEntries n p told = IfSome (seen told) (λ v. IsPaired n v → KeepsEntries n (plan_of p) v × ArePaired (files_after n (plan_of p) v).s (files_after n (plan_of p) v).p)
+SettlesEntries n p told = IfSome (seen told) (λ v. IsPaired n v → IsSound n v → KeepsEntries n (plan_of p) v × ArePaired (files_after n (plan_of p) v).s (files_after n (plan_of p) v).p)
 
 -- ---- the commit
 

@@ -38,7 +38,11 @@ const DONE: &[u8] = b"1.1 1.2 ann 21/03/04 05:07:08\n1.2 1.3 ann 21/03/04 05:09:
 // an entry that a removal leaves
 const LEFT: &[u8] = b"1.1 1.1.1.1 ann 21/03/04 05:09:00\n";
 
-const STOPS: [Stop<'static>; 7] = [
+// the two deltas with a user and a flag
+const WITH_USER: &[u8] =
+    b"\x01h12946\n\x01s 00001/00000/00002\n\x01d D 1.2 21/03/04 05:08:00 ann 2 1\n\x01c second\n\x01e\n\x01s 00002/00000/00000\n\x01d D 1.1 21/03/04 05:06:07 ann 1 0\n\x01c date and time created 21/03/04 05:06:07 by ann\n\x01e\n\x01u\nbob\n\x01U\n\x01f b\n\x01t\n\x01T\n\x01I 1\none\n\x01I 2\nmid\n\x01E 2\ntwo %I%\n\x01E 1\n";
+
+const STOPS: [Stop<'static>; 8] = [
     Stop {
         line: b"admin -i s.a",
         time: b"05:06:07",
@@ -125,6 +129,21 @@ const STOPS: [Stop<'static>; 7] = [
         new: Pair {
             s_file: Some(REMOVED),
             p_file: Some(LEFT),
+        },
+        g_file: None,
+        locked: false,
+    },
+    Stop {
+        line: b"admin -abob -fb s.a",
+        time: b"05:09:00",
+        input: b"",
+        old: Pair {
+            s_file: Some(SECOND),
+            p_file: Some(ENTRY),
+        },
+        new: Pair {
+            s_file: Some(WITH_USER),
+            p_file: Some(ENTRY),
         },
         g_file: None,
         locked: false,

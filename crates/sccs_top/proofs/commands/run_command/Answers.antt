@@ -17,6 +17,12 @@ returns-in-Get-clause-run g c =
     (setting g.I.Source g.O.Sink g.E.Sink g.D.Disk c.args.streams.now) (setting g.I.Source g.O.Sink g.E.Sink g.D.Disk c.run_listed-in-Get.new.streams)
     c.in-Get.ensures c.list_operands-operands.ensures c.run_listed-in-Get.ensures.run
 
+pub returns-in-Alter-clause-run : goal.returns-in-Alter-clause-run
+returns-in-Alter-clause-run g c =
+    runs_as (action_in (known.Alter c.in-Alter.utility)) (action_of (caller c.args.stamp.now c.args.place.now) c.args.command.now) (words_of c.list_operands-operands.result) (operands_of c.args.command.now) c.run_listed-in-Alter.result
+    (setting g.I.Source g.O.Sink g.E.Sink g.D.Disk c.args.streams.now) (setting g.I.Source g.O.Sink g.E.Sink g.D.Disk c.run_listed-in-Alter.new.streams)
+    c.in-Alter.ensures c.list_operands-operands.ensures c.run_listed-in-Alter.ensures.run
+
 pub returns-in-Reserve-clause-run : goal.returns-in-Reserve-clause-run
 returns-in-Reserve-clause-run g c =
     runs_as (action_in (known.Reserve c.in-Reserve.utility)) (action_of (caller c.args.stamp.now c.args.place.now) c.args.command.now) (words_of c.list_operands-operands.result) (operands_of c.args.command.now) c.run_listed-in-Reserve.result

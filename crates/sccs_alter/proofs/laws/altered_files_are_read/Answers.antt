@@ -1,0 +1,6 @@
+use Rattle.sccs_alter.proofs.HeaderLaws.{altered_records}
+use Rattle.sccs_alter.proofs.StopLaws.{altered_reads}
+use Rattle.sccs_alter.proofs.laws.altered_files_are_read.Goals as goal
+
+pub returns : goal.returns
+returns c = record { reads = altered_reads; records = altered_records }

@@ -1,0 +1,3 @@
+pub mod AlterStep
+pub mod Locks
+pub mod Parts

@@ -1,0 +1,9 @@
+//! admin: s-files that are there, with other users, flags and description. POSIX, Shell and Utilities, admin.
+#![tactic(auto)]
+
+mod alters;
+mod headers;
+pub mod laws;
+mod reading;
+
+pub use alters::Alter;
