@@ -27,7 +27,7 @@ use Rattle.sccs_steps.specs.Actions.{IsHeard, RefusesWithin, SpeaksBy, Stepped, 
 use Rattle.sccs_steps.specs.Calls.{Meets, scene, world}
 use Rattle.sccs_steps.specs.Causes.{PrintCauses, StepCauses, counts}
 use Rattle.sccs_steps.specs.StepEffects.{Outcome, StepEffect, effect_of}
-use Rattle.sccs_steps.proofs.ReadingSteps.{broken, kept}
+use Rattle.sccs_steps.proofs.ReadingSteps.{broken, kept, same_cleared}
 use Rattle.sccs_words.specs.declared.commands.PrsWords.{PrsWords}
 use Rattle.sccs_prs.specs.Chosen.{chosen_of}
 use Rattle.sccs_prs.specs.Gives.{IsRead, Prints, shown_by}
@@ -123,6 +123,7 @@ module _ (words : PrsWords) (place n : List ℕ) where
         ap (λ (d : StepEffect). d.status) shows.2,
         record {
           view = subst (λ (new : Option Files). Moves (is_working n) (λ u. moved u n new) (Some v) o2) (sym (ap (λ (d : StepEffect). d.new) shows.2)) (subst (λ (t : Option View). Moves (is_working n) (λ u. u) (Some v) t) (sym is) (λ k h. refl));
+          cleared = same_cleared v o2 n is;
           out = subst (λ t. GivesOk out out2 t) (sym (ap (λ t. shows.0.text ++ t) (ap (λ (d : StepEffect). d.out) shows.2) ∙ append-nil shows.0.text)) shows.3;
           err = subst (λ t. GivesOk err err t) (sym (ap (λ (d : StepEffect). d.err) shows.2)) (gives_none err);
         },
