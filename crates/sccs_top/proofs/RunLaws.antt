@@ -131,7 +131,7 @@ never_begun who meant left a = λ m i given shows. (
     rest = run_steps who meant m i;
     is = refl;
     view = shows;
-    cleared = cleared_same (working who meant m i) [] (seen a.told) (seen a.told) refl;
+    cleared = cleared_same (working who meant m i) (seen a.told) (seen a.told) refl;
     out = some_none a.out (next_text (run_steps who meant m i));
     err = some_none a.err [];
   },
@@ -147,7 +147,7 @@ usage_cut who meant usage left a err is some =
       rest = [];
       is = refl;
       view = shows;
-      cleared = cleared_same nowhere (usage_step usage ∷ []) (seen a.told) (seen a.told) refl;
+      cleared = cleared_same nowhere (seen a.told) (seen a.told) refl;
       out = some_none a.out [];
       err = subst (λ text. GivesSome a.err err text) (sym (append-nil (usage_line usage))) some;
     })
@@ -160,7 +160,7 @@ usage_made who meant usage left a err is whole =
       refl,
       record {
         view = shows;
-        cleared = cleared_same nowhere (usage_step usage ∷ []) (seen a.told) (seen a.told) refl;
+        cleared = cleared_same nowhere (seen a.told) (seen a.told) refl;
         out = gives_none a.out;
         err = subst (λ text. GivesOk a.err err text) (sym (append-nil (usage_line usage))) whole;
       },
