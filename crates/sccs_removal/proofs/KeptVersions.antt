@@ -176,7 +176,7 @@ path_avoids n wanted ls (r ∷ rs) each live other =
 -- ---- what is left
 
 -- a live serial of the table without the serial is another, and was live
-left_live : (n m : ℕ) (records : List Record) → has (live_serials (removed_records n records)) m ≡ true → ((m == n) ≡ false) × (has (live_serials records) m ≡ true)
+pub left_live : (n m : ℕ) (records : List Record) → has (live_serials (removed_records n records)) m ≡ true → ((m == n) ≡ false) × (has (live_serials records) m ≡ true)
 left_live n m records live =
     let there : has (without n (live_serials records)) m ≡ true = ap (λ l. has l m) (sym (live_removed n records)) ∙ live in
     let other : m ≢ n = λ same. false≢true (sym (has-without_own n (live_serials records)) ∙ (ap (has (without n (live_serials records))) (sym same) ∙ there)) in
