@@ -125,14 +125,14 @@ live_falls [] b falls = tt
 live_falls (r ∷ rs) b falls = falls_front (not r.removed) r.serial (live_serials rs) b falls.0 (live_falls rs r.serial falls.1)
 
 -- a record of the table is live where its serial is
-abbrev LiveIn : List ℕ → Record → Type 0
+abbrev pub LiveIn : List ℕ → Record → Type 0
 LiveIn ls r = has ls r.serial ≡ not r.removed
 
 live_more : (t : Bool) (n : ℕ) (tail : List ℕ) (rs : List Record) (b : ℕ) → b ≤ n → Falls b (serials_of rs) → AllByRecursion (LiveIn tail) rs → AllByRecursion (LiveIn (front_if t n tail)) rs
 live_more t n tail [] b le falls each = tt
 live_more t n tail (r ∷ rs) b le falls each = (has_other t n r.serial tail (omega (arith, falls.0)) ∙ each.0, live_more t n tail rs r.serial (omega (arith, falls.0)) falls.1 each.1)
 
-live_self : (rs : List Record) (b : ℕ) → Falls b (serials_of rs) → AllByRecursion (LiveIn (live_serials rs)) rs
+pub live_self : (rs : List Record) (b : ℕ) → Falls b (serials_of rs) → AllByRecursion (LiveIn (live_serials rs)) rs
 live_self [] b falls = tt
 live_self (r ∷ rs) b falls = (
   has_head (not r.removed) r.serial (live_serials rs) (live_falls rs r.serial falls.1),
@@ -176,7 +176,7 @@ path_avoids n wanted ls (r ∷ rs) each live other =
 -- ---- what is left
 
 -- a live serial of the table without the serial is another, and was live
-left_live : (n m : ℕ) (records : List Record) → has (live_serials (removed_records n records)) m ≡ true → ((m == n) ≡ false) × (has (live_serials records) m ≡ true)
+pub left_live : (n m : ℕ) (records : List Record) → has (live_serials (removed_records n records)) m ≡ true → ((m == n) ≡ false) × (has (live_serials records) m ≡ true)
 left_live n m records live =
     let there : has (without n (live_serials records)) m ≡ true = ap (λ l. has l m) (sym (live_removed n records)) ∙ live in
     let other : m ≢ n = λ same. false≢true (sym (has-without_own n (live_serials records)) ∙ (ap (has (without n (live_serials records))) (sym same) ∙ there)) in

@@ -1,14 +1,15 @@
 -- A rooted table stays rooted with new deltas that are made on live ones.
-use Rattle.std.proofs.Common.{◌≡◌, ℕ, suc, ◌==◌, Bool, true, false, ◌&&◌, ◌||◌, List, [], ◌∷◌, refl, ap, ◌∙◌, eq-eqb}
-use Rattle.std.specs.List.{list_all}
-use Rattle.std.proofs.lemmas.Bool.{and_parts, or_left, or_right}
+use Rattle.std.proofs.Common.{◌≡◌, ℕ, suc, ◌==◌, ◌<◌, Bool, true, false, not, ◌&&◌, ◌||◌, List, [], ◌∷◌, refl, sym, subst, ap, ◌∙◌, arith, eq-eqb}
+use Rattle.std.specs.List.{AllByRecursion, list_all}
+use Rattle.std.proofs.lemmas.Bool.{and_parts, eqb-true, or_left, or_right}
 use Rattle.sccs_history.specs.Applied.{live_serials, newest}
-use Rattle.sccs_history.specs.History.{is_rooted}
+use Rattle.sccs_history.specs.History.{IsRecord, IsTable, is_rooted}
 use Rattle.sccs_history.specs.Numbers.{has}
 use Rattle.sccs_history.specs.declared.headers.Header.{Header}
 use Rattle.sccs_history.specs.declared.headers.Record.{Record}
-use Rattle.sccs_records.specs.NewDeltas.{with_deltas, with_delta, with_record}
+use Rattle.sccs_records.specs.NewDeltas.{last_of, with_deltas, with_delta, with_record}
 use Rattle.sccs_records.specs.declared.new_deltas.NewDelta.{NewDelta}
+use Rattle.sccs_removal.proofs.KeptVersions.{LiveIn, live_self}
 
 abbrev rooted_in : List ℕ → Record → Bool
 rooted_in ls r = r.removed || has (0 ∷ ls) r.predecessor
@@ -37,10 +38,42 @@ rooted_more records on d rooted live =
     ap (λ t. t && list_all (rooted_in (suc (newest records) ∷ live_serials records)) records) (one_wider (suc (newest records)) on (live_serials records) false live)
     ∙ roots_wider (suc (newest records)) (live_serials records) records rooted
 
+own_live : (header : Header) (on : ℕ) (d : NewDelta) → has (0 ∷ live_serials (with_delta header on d).records) (suc (newest header.records)) ≡ true
+own_live header on d =
+    or_right (0 == suc (newest header.records)) (has (live_serials (with_delta header on d).records) (suc (newest header.records)))
+    (or_left (suc (newest header.records) == suc (newest header.records)) (has (live_serials header.records) (suc (newest header.records))) (eq-eqb (suc (newest header.records)) (suc (newest header.records)) refl))
+
 -- deltas one after the other
 pub rooted_in_turn : (header : Header) (on : ℕ) (ds : List NewDelta) → is_rooted header.records ≡ true → has (0 ∷ live_serials header.records) on ≡ true → is_rooted (with_deltas header on ds).records ≡ true
 rooted_in_turn header on [] rooted live = rooted
 rooted_in_turn header on (d ∷ ds) rooted live =
-    rooted_in_turn (with_delta header on d) (suc (newest header.records)) ds (rooted_more header.records on d rooted live)
-    (or_right (0 == suc (newest header.records)) (has (live_serials (with_delta header on d).records) (suc (newest header.records)))
-    (or_left (suc (newest header.records) == suc (newest header.records)) (has (live_serials header.records) (suc (newest header.records))) (eq-eqb (suc (newest header.records)) (suc (newest header.records)) refl)))
+    rooted_in_turn (with_delta header on d) (suc (newest header.records)) ds (rooted_more header.records on d rooted live) (own_live header on d)
+
+-- the last one is live
+pub last_live : (header : Header) (on : ℕ) (ds : List NewDelta) → has (0 ∷ live_serials header.records) on ≡ true → has (0 ∷ live_serials (with_deltas header on ds).records) (last_of on (newest header.records) ds) ≡ true
+last_live header on [] live = live
+last_live header on (d ∷ ds) live = last_live (with_delta header on d) (suc (newest header.records)) ds (own_live header on d)
+
+-- ---- a table whose one live delta is the first
+
+zero_base : (n p : ℕ) (b : Bool) → (1 == n || false) ≡ true → p < n → ((0 == p) || b) ≡ true
+zero_base n p b one below = or_left (0 == p) b (eq-eqb 0 p (none (eqb-true 1 n (only (1 == n) one))))
+  where
+    only : (t : Bool) → (t || false) ≡ true → t ≡ true
+    only true is = refl
+    only false is = is
+
+    none : 1 ≡ n → 0 ≡ p
+    none same = omega (arith, same, below)
+
+one_each : (all records : List Record) → AllByRecursion (IsRecord all) records → AllByRecursion (LiveIn (1 ∷ [])) records → list_all (rooted_in (1 ∷ [])) records ≡ true
+one_each all [] each live = refl
+one_each all (r ∷ rs) each live = ap (λ t. t && list_all (rooted_in (1 ∷ [])) rs) (by r.removed refl) ∙ one_each all rs each.1 live.1
+  where
+    by : (t : Bool) → r.removed ≡ t → (t || has (0 ∷ 1 ∷ []) r.predecessor) ≡ true
+    by true is = refl
+    by false is = zero_base r.serial r.predecessor (has (1 ∷ []) r.predecessor) (live.0 ∙ ap not is) each.0.older
+
+pub first_rooted : (records : List Record) → IsTable records → live_serials records ≡ 1 ∷ [] → is_rooted records ≡ true
+first_rooted records table only =
+    subst (λ ls. list_all (rooted_in ls) records ≡ true) (sym only) (one_each records records table.each (subst (λ ls. AllByRecursion (LiveIn ls) records) only (live_self records 65536 table.falls)))

@@ -1,7 +1,7 @@
 //! Laws: what the definitions of this crate say together. Each is proved of all values.
 ghost use Rattle.std.specs.Prelude.{◌≡◌, ◌∷◌, ℕ, List, [], Some, true, false};
 ghost use Rattle.sccs_sid.specs.declared.sids.Sid.{Sid};
-ghost use Rattle.sccs_history.specs.Applied.{live_serials};
+ghost use Rattle.sccs_history.specs.Applied.{live_serials, newest};
 ghost use Rattle.sccs_history.specs.Body.{GoesOn, HistoryLine, lines_of};
 ghost use Rattle.sccs_history.specs.History.{History, IsHeader, IsRooted, IsSpelled, IsTable, IsValid, is_rooted};
 ghost use Rattle.sccs_history.specs.Numbers.{has, without};
@@ -10,7 +10,7 @@ ghost use Rattle.sccs_history.specs.Select.{select};
 ghost use Rattle.sccs_history.specs.declared.headers.Header.{Header};
 ghost use Rattle.sccs_history.specs.declared.headers.Item.{Item};
 ghost use Rattle.sccs_history.specs.declared.headers.Record.{Record};
-ghost use Rattle.sccs_records.specs.NewDeltas.{with_deltas};
+ghost use Rattle.sccs_records.specs.NewDeltas.{last_of, with_deltas};
 ghost use Rattle.sccs_records.specs.declared.new_deltas.NewDelta.{NewDelta};
 ghost use Rattle.sccs_pfile.specs.Agreement.{Agrees};
 ghost use Rattle.sccs_pfile.specs.declared.entries.Edit.{Edit};
@@ -46,10 +46,14 @@ pub fn removal_keeps_rules()
         → IsRooted (history_without n h) }
 {}
 
-/// A rooted table stays so with new deltas, the first of which is made on a live one.
+/// A table whose one live delta is its first is rooted. A rooted table stays so with new deltas, the first of which is made on a live one; and so is the one on
+/// which the next is made.
 pub fn new_deltas_keep_roots()
-    ensures { (header : Header) (on : ℕ) (ds : List NewDelta) → is_rooted header.records ≡ true
+    ensures first { (records : List Record) → IsTable records → live_serials records ≡ 1 ∷ [] → is_rooted records ≡ true }
+    ensures rooted { (header : Header) (on : ℕ) (ds : List NewDelta) → is_rooted header.records ≡ true
         → has (0 ∷ live_serials header.records) on ≡ true → is_rooted (with_deltas header on ds).records ≡ true }
+    ensures last { (header : Header) (on : ℕ) (ds : List NewDelta) → has (0 ∷ live_serials header.records) on ≡ true
+        → has (0 ∷ live_serials (with_deltas header on ds).records) (last_of on (newest header.records) ds) ≡ true }
 {}
 
 /// Pending edits that agree with a table still do when a delta is removed that none of them got or lists.
