@@ -1,9 +1,8 @@
 -- What admin prepares of an s-file that is there, from its two parts.
-use Rattle.std.proofs.Common.{◌≡◌, ℕ, List, [], map, drop, Option, None, Some, IfOk, IfSome, IsSome, Result, Ok, Err, refl, sym, ap, subst, ◌∙◌}
+use Rattle.std.proofs.Common.{◌≡◌, ℕ, List, [], map, Option, None, Some, IfOk, IfSome, Result, Ok, Err, refl, sym, ap, subst, ◌∙◌}
 use Rattle.std.specs.Str.{bytes_eq}
-use Rattle.sccs_base.specs.Name.{IsSfile, p_file, q_file, x_file, y_file, z_file}
+use Rattle.sccs_base.specs.Name.{IsSfile, x_file}
 use Rattle.sccs_base.proofs.Gifts.{gives_none}
-use Rattle.sccs_disk.specs.Calls.{IsThere}
 use Rattle.sccs_disk.specs.Files.{Content, View}
 use Rattle.sccs_disk.specs.Told.{Told, seen}
 use Rattle.sccs_files.specs.StepFiles.{Files, Moves, is_working, look}
@@ -27,13 +26,13 @@ use Rattle.sccs_pending.specs.Pending.{bytes_at}
 use Rattle.sccs_steps.specs.Actions.{RefusesWithin, quiet_checks}
 use Rattle.sccs_steps.specs.Calls.{world}
 use Rattle.sccs_steps.specs.StepEffects.{Outcome}
-use Rattle.sccs_store.specs.Commits.{Needs, files_after, replaced}
+use Rattle.sccs_store.specs.Commits.{files_after}
 use Rattle.sccs_store.specs.Stops.{KeepsEntries}
 use Rattle.sccs_steps.specs.StepStops.{ArePaired, IsPaired}
 use Rattle.sccs_moments.specs.Recovery.{IsSound}
 use Rattle.sccs_store.specs.SealedFiles.{sealed}
 use Rattle.sccs_store.proofs.Working.{moves_wider}
-use Rattle.sccs_transactions.specs.Changes.{CouldPrepare, IsQuiet, IsReady, Prepares, PreparesChange, plan_of, unlocked}
+use Rattle.sccs_transactions.specs.Changes.{CouldPrepare, Prepares, PreparesChange, plan_of, unlocked}
 use Rattle.sccs_transactions.specs.Stops.{SettlesEntries}
 use Rattle.sccs_transactions.specs.declared.prepared.Prepared.{Prepared}
 use Rattle.sccs_transactions.proofs.Taken.{x_alone}

@@ -148,13 +148,16 @@ admin_goes who words i n named f texts d moment login values is are =
 -- ---- commands
 
 -- what is built of admin makes new files, or is on s-files that are there
-fresh_new : (words : AdminWords) → is_new_built words ≡ true → words.fresh ≡ true
+not_fresh : (words : AdminWords) → words.fresh ≡ false → is_new_built words ≡ false
 unfolding is_new_built
-fresh_new words is = and_parts_first words.fresh _ is
-  where
-    and_parts_first : (a b : Bool) → (a && b) ≡ true → a ≡ true
-    and_parts_first true b is = refl
-    and_parts_first false b is = absurd cc
+not_fresh words fresh = rw fresh refl
+
+fresh_by : (words : AdminWords) (b : Bool) → words.fresh ≡ b → is_new_built words ≡ true → words.fresh ≡ true
+fresh_by words true fresh is = fresh
+fresh_by words false fresh is = absurd (let e2 = sym is ∙ not_fresh words fresh in cc)
+
+fresh_new : (words : AdminWords) → is_new_built words ≡ true → words.fresh ≡ true
+fresh_new words is = fresh_by words words.fresh refl is
 
 old_there : (words : AdminWords) → is_old_built words ≡ true → words.fresh ≡ false
 unfolding is_old_built
