@@ -4,6 +4,7 @@ use Rattle.std.specs.Prelude.{if◌then◌else◌, is_some}
 use Rattle.sccs_disk.specs.Files.{Content}
 use Rattle.sccs_sid.specs.Reading.{◌>>=◌}
 use Rattle.sccs_history.specs.Applied.{live_serials}
+use Rattle.sccs_history.specs.History.{is_rooted}
 use Rattle.sccs_history.specs.Numbers.{has}
 use Rattle.sccs_history.specs.declared.headers.Header.{Header}
 use Rattle.sccs_grammar.specs.File.{Parsed, answer, file_of}
@@ -36,6 +37,7 @@ altered_versions words bytes text parsed new texts old same reads is are =
     record {
       file = record { header = new; items = parsed.items };
       reads = altered_reads words bytes text parsed.header new parsed.items keeps.header keeps.spelled reads is;
+      rooted = ap is_rooted records ∙ (ap (λ (f : Parsed). is_rooted f.header.records) (sym one) ∙ are.rooted);
       versions = λ m live.
           ap (λ rs. text_in (record { header = record new { records = rs }; items = parsed.items }) m) records
           ∙ (ap (λ (f : Parsed). text_in f m) (sym one)

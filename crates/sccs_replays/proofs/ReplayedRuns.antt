@@ -27,6 +27,7 @@ use Rattle.sccs_get.specs.EditStep.{edit_change}
 use Rattle.sccs_get.specs.Keeps.{get_keeps}
 use Rattle.sccs_get.specs.VersionStep.{get_action}
 use Rattle.sccs_recovery.specs.Commands.{recover_keeps}
+use Rattle.sccs_rmdel.specs.RmdelStep.{rmdel_change}
 use Rattle.sccs_transactions.specs.Changes.{locking}
 use Rattle.sccs_transactions.specs.Utilities.{locking_keeps}
 use Rattle.sccs_delta.specs.Replays.{Texts}
@@ -57,7 +58,7 @@ command_keeps who (c.Get words operands) =
 command_keeps who (c.Delta words name) = locking_keeps (delta_change words who.stamp)
 command_keeps who (c.Unget words operands) = locking_keeps (unget_change words who.stamp (has_heading operands))
 command_keeps who (c.Sact operands) = sact_keeps (has_heading operands)
-command_keeps who (c.Rmdel sid operands) = unbuilt_keeps false false
+command_keeps who (c.Rmdel sid operands) = locking_keeps (rmdel_change sid who.stamp)
 command_keeps who (c.Prs words operands) = prs_keeps words who.place
 command_keeps who (c.Val words) = val_keeps words (λ name. None)
 command_keeps who (c.What first operands) = what_keeps first

@@ -1,14 +1,30 @@
 -- What the step of each command makes of the versions of an s-file.
 use Rattle.std.proofs.Common.{◌≡◌, ◌==◌, ◌&&◌, ◌||◌, ℕ, Bool, true, false, not, List, [], ◌∷◌, drop, Option, None, Some, Ok, Err, refl, sym, ap, subst, ◌∙◌}
 use Rattle.std.specs.Prelude.{if◌then◌else◌, is_none, is_some, map}
-use Rattle.std.proofs.lemmas.Bool.{eqb-true}
+use Rattle.std.proofs.lemmas.Bool.{eqb-true, or_right}
 use Rattle.sccs_base.specs.Login.{IsLogin}
 use Rattle.sccs_base.specs.Name.{p_file, z_file}
 use Rattle.sccs_disk.specs.Files.{Content, Folder, view_in}
 use Rattle.sccs_sid.specs.Moment.{IsMoment}
 use Rattle.sccs_sid.specs.declared.refusals.Refusal.TheVariants as refusals
-use Rattle.sccs_history.specs.Applied.{live_serials}
+use Rattle.sccs_sid.specs.declared.moments.Stamp.{Stamp}
+use Rattle.sccs_sid.specs.declared.sids.Sid.{Sid}
+use Rattle.sccs_history.specs.Applied.{live_serials, newest, version}
+use Rattle.sccs_history.specs.Body.{lines_of}
+use Rattle.sccs_history.specs.History.{is_rooted, same_sid}
 use Rattle.sccs_history.specs.Numbers.{has}
+use Rattle.sccs_history.specs.declared.headers.Header.{Header}
+use Rattle.sccs_records.specs.NewDeltas.{last_of, with_deltas}
+use Rattle.sccs_sets.proofs.Living.{newest_live}
+use Rattle.sccs_pending.specs.Pending.{Found, pending_of}
+use Rattle.sccs_delta.specs.NullDeltas.{null_deltas, skipped_by}
+use Rattle.sccs_delta.proofs.FileRules.{file_keeps}
+use Rattle.sccs_removal.specs.Removed.{removed_records}
+use Rattle.sccs_removal.proofs.KeptVersions.{left_live}
+use Rattle.sccs_removal.proofs.Roots.{first_rooted, last_live, rooted_in_turn}
+use Rattle.sccs_rmdel.specs.NewVersions.{RemovesDelta}
+use Rattle.sccs_rmdel.specs.RmdelStep.{rmdel_outcome}
+use Rattle.sccs_rmdel.proofs.RemovedVersions.{removal_made}
 use Rattle.sccs_grammar.specs.File.{Parsed, file_of}
 use Rattle.sccs_words.specs.declared.commands.AdminWords.{AdminWords}
 use Rattle.sccs_words.specs.declared.commands.Command.{Command}
@@ -23,7 +39,7 @@ use Rattle.sccs_admin.specs.AdminStep.{admin_change, admin_outcome, found_text}
 use Rattle.sccs_admin.specs.Texts.{named_by}
 use Rattle.sccs_alter.specs.AlterStep.{alter_change, alter_outcome}
 use Rattle.sccs_delta.specs.DeltaStep.{delta_outcome, sizes_checked}
-use Rattle.sccs_delta.specs.NewVersions.{MakesVersions, text_in}
+use Rattle.sccs_delta.specs.NewVersions.{MakesVersions, delta_on, text_in}
 use Rattle.sccs_delta.specs.Replays.{CallRead, DeltaCall, Texts, call_read, files_at}
 use Rattle.sccs_delta.proofs.AddedVersions.{versions_made}
 use Rattle.sccs_delta.proofs.Chains.{passed}
@@ -91,6 +107,16 @@ needs_file words who n i f d is none = let sized = passed (sizes_checked i f) _ 
 same_file : (bytes : List ℕ) (a b : Parsed) → file_of bytes ≡ Ok a → file_of bytes ≡ Ok b → a ≡ b
 same_file bytes a b one two = let same : Ok a ≡ Ok b = sym one ∙ two in cc
 
+-- a new delta and the null deltas before it are made on live ones
+rooted_behind : (call : DeltaCall) (s : Content) (d : StepEffect) (made : MakesVersions call.words call.stamp call.input (files_at s call) s d) → is_rooted made.before.header.records ≡ true → is_rooted made.after.header.records ≡ true
+rooted_behind call s d made rooted =
+    let got = made.entry.base.got in
+    let nulls = null_deltas call.stamp (skipped_by made.before.header made.edits made.entry.edit) in
+    let live : has (0 ∷ live_serials made.before.header.records) got ≡ true = or_right (0 == got) (has (live_serials made.before.header.records) got) (newest_live (λ sid. same_sid sid made.entry.edit.got) made.before.header.records got made.base.got) in
+    subst (λ (h : Header). is_rooted h.records ≡ true) (sym made.header)
+    (rooted_in_turn (with_deltas made.before.header got nulls) (last_of got (newest made.before.header.records) nulls) (delta_on call.words call.stamp made.before made.entry made.orders ∷ [])
+    (rooted_in_turn made.before.header got nulls rooted live) (last_live made.before.header got nulls live))
+
 -- the new s-file has the versions with those of the call
 delta_made : (n : List ℕ) (call : DeltaCall) (s : Content) (d : StepEffect) (texts : Texts) → MakesVersions call.words call.stamp call.input (files_at s call) s d → Goes (Some s) d.new texts (with_read (call_read s call) texts)
 delta_made n call s d texts made are =
@@ -101,6 +127,7 @@ delta_made n call s d texts made are =
     (record {
       file = made.after;
       reads = made.reads;
+      rooted = rooted_behind call s d made (subst (λ (file : Parsed). is_rooted file.header.records ≡ true) same are.rooted);
       versions = λ m live. follows m live ∙ ap (λ r. with_read r texts m) (sym (read_is s call d made));
     })
 
@@ -124,6 +151,46 @@ delta_goes who words i n m texts d moment login values is = by (view_in m n) ref
         (delta_made n call s d texts (versions_made words who.stamp moment login values.0 values.1 n i (files_at s call) s d refl
         (sym (ap (λ (o : Option Content). delta_outcome words who.stamp n i [] (files o (view_in m (z_file n)))) there ∙ ap (λ (o : Option Content). delta_outcome words who.stamp n i [] (files (Some s) o)) parts.0) ∙ parts.1)))
 
+-- ---- rmdel
+
+-- without an s-file it is refused
+found_is : (s p : Option Content) (found : Found) → pending_of s p ≡ Ok found → s ≡ None → ⊥
+unfolding pending_of
+found_is s p found is none = let there = passed (check (is_some s) refusals.Missing) _ found is in missing s there.0 none there.1
+
+needs_removed : (sid : Sid) (stamp : Stamp) (n i : List ℕ) (f : Files) (d : StepEffect) → rmdel_outcome sid stamp n i [] f ≡ Ok d → f.s ≡ None → ⊥
+unfolding rmdel_outcome
+needs_removed sid stamp n i f d is none = let found = passed (pending_of f.s f.p) _ d is in found_is f.s f.p found.0 found.1 none
+
+-- each delta that lives on has its version
+rmdel_made : (sid : Sid) (stamp : Stamp) (f : Files) (s : Content) (d : StepEffect) (texts : Texts) → RemovesDelta sid stamp f s d → Goes (Some s) d.new texts texts
+rmdel_made sid stamp f s d texts made are =
+    let same : are.file ≡ made.before = same_file s.bytes are.file made.before are.reads made.was in
+    let rooted : is_rooted made.before.header.records ≡ true = subst (λ (file : Parsed). is_rooted file.header.records ≡ true) same are.rooted in
+    let was = subst (λ (file : Parsed). (m : ℕ) → has (live_serials file.header.records) m ≡ true → text_in file m ≡ texts m) same are.versions in
+    subst (λ (new : Option Files). HasVersions (s_of (Some s) new) (if is_some new then texts else texts)) (sym made.files)
+    (record {
+      file = made.after;
+      reads = made.reads;
+      rooted = made.out.rooted rooted;
+      versions = λ m live.
+          let left : has (live_serials (removed_records made.delta.serial made.before.header.records)) m ≡ true = ap (λ (h : Header). has (live_serials h.records) m) (sym made.out.header) ∙ live in
+          ap (λ (h : Header). version m h.records (lines_of made.after.items)) made.out.header
+          ∙ (ap (version m (removed_records made.delta.serial made.before.header.records)) made.out.lines
+          ∙ ((made.out.versions rooted).versions m left ∙ was m (left_live made.delta.serial m made.before.header.records left).1));
+    })
+
+rmdel_goes : (who : Caller) (sid : Sid) (i n : List ℕ) (m : Folder) (texts : Texts) (d : StepEffect) → locking_step (rmdel_outcome sid who.stamp) n i [] (look (view_in m) n) ≡ Ok d → Goes (view_in m n) d.new texts texts
+rmdel_goes who sid i n m texts d is = by (view_in m n) refl
+  where
+    parts : (view_in m (z_file n) ≡ None) × (rmdel_outcome sid who.stamp n i [] (look (view_in m) n) ≡ Ok d)
+    parts = unlocked_step (rmdel_outcome sid who.stamp) n i [] (look (view_in m) n) d is
+
+    by : (s : Option Content) → view_in m n ≡ s → Goes (view_in m n) d.new texts texts
+    by None none = absurd (needs_removed sid who.stamp n i (look (view_in m) n) d parts.1 none)
+    by (Some s) there =
+        subst (λ (o : Option Content). Goes o d.new texts texts) (sym there) (rmdel_made sid who.stamp (look (view_in m) n) s d texts (removal_made sid who.stamp n i [] (look (view_in m) n) s d there parts.1))
+
 -- ---- admin
 
 only_first : (m : ℕ) → has (1 ∷ []) m ≡ true → m ≡ 1
@@ -141,6 +208,7 @@ admin_goes who words i n named f texts d moment login values is are =
     (record {
       file = made.file;
       reads = made.reads;
+      rooted = first_rooted made.file.header.records (file_keeps made.s.bytes made.file made.reads).header.rules.table made.only;
       versions = λ m live. ap (text_in made.file) (only_first m (subst (λ (live_ones : List ℕ). has live_ones m ≡ true) made.only live))
           ∙ (made.first ∙ ap (λ r. first_version r m) (sym made.found));
     })
@@ -212,7 +280,7 @@ command_goes who (c.Delta words name) i n m texts d moment login values is = del
 command_goes who (c.Unget words operands) i n m texts d moment login values is =
     left (view_in m n) _ d texts (locking_leaves _ n i [] (look (view_in m) n) (entries_leave (unget_decides words who.stamp (has_heading operands)) n i [] (look (view_in m) n))) is
 command_goes who (c.Sact operands) i n m texts d moment login values is = left (view_in m n) _ d texts (sact_leaves (has_heading operands) n (look (view_in m) n)) is
-command_goes who (c.Rmdel sid operands) i n m texts d moment login values is = refused m n texts d is
+command_goes who (c.Rmdel sid operands) i n m texts d moment login values is = rmdel_goes who sid i n m texts d is
 command_goes who (c.Prs words operands) i n m texts d moment login values is = reading_goes (prs_action words who.place) i n m texts d (prs_keeps words who.place) refl is
 command_goes who (c.Val words) i n m texts d moment login values is = reading_goes (val_action words) i n m texts d (val_keeps words (λ name. None)) refl is
 command_goes who (c.What first operands) i n m texts d moment login values is = reading_goes (what_action first) i n m texts d (what_keeps first) refl is

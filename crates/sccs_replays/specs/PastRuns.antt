@@ -8,6 +8,7 @@ use Rattle.sccs_disk.specs.Files.{Content, Folder, view_in}
 use Rattle.sccs_sid.specs.Moment.{IsMoment}
 use Rattle.sccs_sid.specs.declared.refusals.Refusal.{Refusal}
 use Rattle.sccs_history.specs.Applied.{live_serials}
+use Rattle.sccs_history.specs.History.{is_rooted}
 use Rattle.sccs_history.specs.Numbers.{has}
 use Rattle.sccs_grammar.specs.File.{IsSFile, Parsed}
 use Rattle.sccs_files.specs.StepFiles.{moved_in}
@@ -62,10 +63,11 @@ s_file_after n s (r ∷ runs) = s_file_after n (view_in (folder_after_run r) n) 
 
 -- ---- versions
 
--- The s-file can be read, and these are the versions of its live serials.
+-- The s-file can be read, the predecessor of each live delta is 0 or live, and these are the versions of its live serials.
 pub record IsOfVersions (s : Content) (texts : Texts) : Type 0 where
   pub file : Parsed
   pub reads : IsSFile s.bytes file.header file.items
+  pub rooted : is_rooted file.header.records ≡ true
   pub versions : (m : ℕ) → has (live_serials file.header.records) m ≡ true → text_in file m ≡ texts m
 
 -- so it is where the s-file is there
@@ -93,7 +95,7 @@ first_version (Ok text) = λ m. text_of text
 first_version (Err refusal) = λ m. []
 
 -- the versions after an accepted step on a name in a folder: delta adds some, admin on a new file makes the first one, and all
--- else leaves them
+-- else leaves them; rmdel leaves those of the deltas that live on
 abbrev pub versions_after_command : Caller → Command → List ℕ → Folder → List ℕ → Texts → Texts
 versions_after_command who (c.Delta words name) i m n texts = with_delta (view_in m n) (call_in who words i m n) texts
 versions_after_command who (c.Admin words operands) i m n texts = if words.fresh then first_version (found_text words.text i (map (view_in m) (named_by words.text)) (view_in m n)) else texts

@@ -5,7 +5,7 @@ ghost use Rattle.sccs_disk.specs.Files.{Content};
 ghost use Rattle.sccs_delta.specs.Replays.{Texts};
 ghost use Rattle.sccs_replays.specs.PastRuns.{AreInTurn, HasVersions, IsPastRun, PastRun, replay, s_file_after};
 
-/// After runs that follow one another, each made to its end or in part, an s-file that was there with these versions,
+/// After runs that follow one another, each made to its end or in part, a rooted s-file that was there with these versions,
 /// or wasn't there, can be read, and the version of each live serial is its replay over the steps that were accepted.
 /// Between two runs other files may change. POSIX, Shell and Utilities, admin and delta.
 pub fn runs_replay()

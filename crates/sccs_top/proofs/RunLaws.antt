@@ -1,5 +1,5 @@
 -- How a run ends whose steps end so.
-use Rattle.std.proofs.Common.{◌≡◌, ◌≢◌, ℕ, Bool, true, false, cond, ◌&&◌, ◌||◌, List, [], ◌∷◌, Option, None, Some, IfSome, IsOk, Result, Ok, Err, inl, inr, refl, sym, ap, subst, ◌∙◌}
+use Rattle.std.proofs.Common.{◌≡◌, ◌≢◌, ℕ, Bool, true, false, cond, ◌&&◌, ◌||◌, List, [], ◌∷◌, codes, Option, None, Some, IfSome, IsOk, Result, Ok, Err, inl, inr, refl, sym, ap, subst, ◌∙◌}
 use Rattle.std.proofs.lemmas.List.{append-nil}
 use Rattle.sccs_base.specs.Name.{p_file, z_file}
 use Rattle.sccs_base.specs.Stream.{GivesOk, GivesSome}
@@ -10,12 +10,13 @@ use Rattle.sccs_sid.specs.declared.refusals.Refusal.TheVariants as refusals
 use Rattle.sccs_sid.specs.declared.refusals.StepFault.TheVariants as step
 use Rattle.sccs_words.specs.declared.commands.Usage.{Usage}
 use Rattle.sccs_words.specs.declared.commands.Command.{Command}
+use Rattle.sccs_words.specs.declared.commands.ValWords.{ValWords}
 use Rattle.sccs_files.specs.StepFiles.{is_working, nowhere}
 use Rattle.sccs_moments.proofs.FileNames.{working_s}
 use Rattle.sccs_moments.proofs.Untouched.{before_after, same_before}
 use Rattle.sccs_steps.specs.Actions.{Action, IsHeard, Stepped}
 use Rattle.sccs_steps.specs.Calls.{Meets, Scene, World, scene, shown, world}
-use Rattle.sccs_steps.specs.StepLists.{NamedStep, Runs, err_of, next_text}
+use Rattle.sccs_steps.specs.StepLists.{NamedStep, Runs, err_of, named_step, next_text}
 use Rattle.sccs_steps.specs.StepStops.{StepMoments}
 use Rattle.sccs_steps.specs.ListStops.{RunMoments, Spares}
 use Rattle.sccs_moments.proofs.Unlocked.{unlocked_same}
@@ -33,8 +34,10 @@ use Rattle.sccs_steps.proofs.NameStops.{alike_told}
 use Rattle.sccs_steps.specs.declared.faults.Fault.{Fault}
 use Rattle.sccs_steps.specs.declared.faults.Fault.TheVariants as ends
 use Rattle.sccs_steps.specs.declared.statuses.StatusRule.{StatusRule}
+use Rattle.sccs_val.specs.ValStep.{printed}
+use Rattle.sccs_top.proofs.ListedRuns.{is_val}
 use Rattle.sccs_top.specs.Messages.{usage_line}
-use Rattle.sccs_top.specs.Runs.{Caller, Ends, MakesSteps, RecoversRun, SpeaksWords, StopsSteps, UnlockedSteps, action_meant, action_of, made_by, operands_of, run_steps, usage_step, working, working_of}
+use Rattle.sccs_top.specs.Runs.{Caller, Ends, MakesSteps, RecoversRun, SpeakSteps, SpeaksWords, StopsSteps, UnlockedSteps, action_meant, action_of, made_by, operands_of, run_steps, usage_step, val_words_of, working, working_of}
 use Rattle.sccs_top.specs.Unbuilt.{unbuilt, unbuilt_keeps}
 use Rattle.sccs_top.specs.declared.answers.Answer.{Answer}
 use Rattle.sccs_top.specs.declared.answers.Answer.TheVariants.{Finished, Memory, ReadFault, WriteFault, DiskFault}
@@ -119,9 +122,15 @@ pub usage_recovers : (who : Caller) (meant : Result Command Usage) (usage : Usag
 usage_recovers who meant usage answer left a b is = subst (λ (r : Result Command Usage). RecoversRun who r answer left a b) (sym is) (λ never. absurd (cc))
 
 -- nothing was said
+never_said : (who : Caller) (command : Command) (val : Option ValWords) (err : Option (List ℕ)) → val_words_of command ≡ val → SpeakSteps val (action_of who command) (operands_of command) (Err ends.Memory) err err
+never_said who command None err is = ([], inl refl, some_none err [])
+never_said who command (Some words) err is =
+    subst (λ (it : Command). SpeakSteps (Some words) (action_of who it) (operands_of it) (Err ends.Memory) err err) (sym (is_val command words is))
+    (named_step (codes "-") (Ok (printed [] 0)) ∷ [], (Ok (printed [] 0), inr (refl, refl), refl), some_none err [])
+
 pub never_speaks : (who : Caller) (meant : Result Command Usage) (err : Option (List ℕ)) → SpeaksWords who meant Memory err err
 never_speaks who (Err usage) err = some_none err (err_of (usage_step usage ∷ []))
-never_speaks who (Ok command) err = ([], inl refl, some_none err [])
+never_speaks who (Ok command) err = never_said who command (val_words_of command) err refl
 
 -- nothing was done
 pub never_begun : (who : Caller) (meant : Result Command Usage) (left : Option (List ℕ)) (a : Scene) → MakesSteps who meant Memory left a a
