@@ -28,7 +28,11 @@ pub fn refuse<E: Sink>(operand: &[u8], refusal: &Refusal, err: &mut E) -> Result
 }
 
 /// How an operand ends whose step ended so: a refusal is said.
-pub fn conclude<E: Sink>(operand: &[u8], made: Result<u8, StepFault>, err: &mut E) -> Result<u8, Fault>
+pub fn conclude<E: Sink>(
+    operand: &[u8],
+    made: Result<u8, StepFault>,
+    err: &mut E,
+) -> Result<u8, Fault>
     ensures concludes { Concludes made operand.now result (E.given err.old) (E.given err.new) }
     ensures later { E.faults err.old ≤ E.faults err.new }
     ensures cause { result ≡ Err end.WriteFault → (made ≡ Err fault.WriteFault) × (E.faults err.new ≡ E.faults err.old) ⊎ Rose (E.faults err.old) (E.faults err.new) }

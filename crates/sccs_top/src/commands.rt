@@ -252,6 +252,26 @@ fn run_command<I: Source, O: Sink, E: Sink, D: Disk>(
     }
 }
 
+// makes the steps of a command: those of its operands, or the one step of val
+fn make_steps<I: Source, O: Sink, E: Sink, D: Disk>(
+    alloc: Global,
+    command: &Command,
+    stamp: &Stamp,
+    place: &Line,
+    streams: &mut Streams<I, O, E, D>,
+) -> Result<u8, Fault>
+    requires values { HasValidValues command.now }
+    requires moment { IsMoment stamp.now.moment }
+    ensures loans { SameLoans streams.old streams.new }
+    ensures run { RunsCommand (val_words_of command.now) (action_of (caller stamp.now place.now) command.now) (operands_of command.now) result
+        (setting I.Source O.Sink E.Sink D.Disk streams.old) (setting I.Source O.Sink E.Sink D.Disk streams.new) }
+{
+    match val_words_of(command) {
+        Some(words) => run_val(alloc, words, streams),
+        None => run_command(alloc, command, stamp, place, streams),
+    }
+}
+
 // the same over streams that are lent one by one
 fn run_lent<I: Source, O: Sink, E: Sink, D: Disk>(
     alloc: Global,
@@ -274,10 +294,7 @@ fn run_lent<I: Source, O: Sink, E: Sink, D: Disk>(
         err,
         disk,
     };
-    match val_words_of(command) {
-        Some(words) => run_val(alloc, words, &mut streams),
-        None => run_command(alloc, command, stamp, place, &mut streams),
-    }
+    make_steps(alloc, command, stamp, place, &mut streams)
 }
 
 /// Does a command. The words are those behind the program's name; `stamp` is its moment, of the years

@@ -177,9 +177,9 @@ pub val_stops : (words : ValWords) (made : Result ℕ StepFault) (r : Result ℕ
 val_stops words made r left a b out out2 err err2 same told says = λ w folder i m past spares clear shows heard is calm safe.
     let y = val_over words (view_in folder) in
     let ran : RunMoments y w r folder (val_steps words folder i) (scene a out err) (scene b out2 err2) m past =
-        stepped_stops y (codes "-") (codes "-") made r left (scene a out err) (scene b out2 err) err2 (val_keeps words (view_in folder)) refl refl (λ reads. same)
-        (reading_moments_as (λ (code : ℕ). code) y made (codes "-") left (scene a out err) (scene b out2 err) (val_keeps words (view_in folder)) refl same (val_stepped words w folder (codes "-") made left a b out out2 err same spares shows told))
-        says w folder i m past spares clear shows heard is calm safe in
+    stepped_stops y (codes "-") (codes "-") made r left (scene a out err) (scene b out2 err) err2 (val_keeps words (view_in folder)) refl refl (λ reads. same)
+    (reading_moments_as (λ (code : ℕ). code) y made (codes "-") left (scene a out err) (scene b out2 err) (val_keeps words (view_in folder)) refl same (val_stepped words w folder (codes "-") made left a b out out2 err same spares shows told))
+    says w folder i m past spares clear shows heard is calm safe in
     record { list = ran.list; acknowledged = ran.acknowledged; safe = ran.safe; images = ran.images }
 
 -- over any disk

@@ -64,11 +64,7 @@ fn is_right(alloc: Global, disk: &mut MemoryDisk, row: &Row) -> Result<bool, Fai
 }
 
 // the place of the first row that doesn't, each over the disk that those before it left
-fn wrong_on(
-    alloc: Global,
-    disk: &mut MemoryDisk,
-    rows: &[Row],
-) -> Result<Option<usize>, Fail> {
+fn wrong_on(alloc: Global, disk: &mut MemoryDisk, rows: &[Row]) -> Result<Option<usize>, Fail> {
     for (at, row) in rows.iter().enumerate() {
         if !is_right(alloc, disk, row)? {
             return Ok(Some(at));
@@ -294,9 +290,7 @@ fn are_joined(alloc: Global) -> Result<bool, Fail> {
         },
         File {
             name: b"p.a",
-            bytes: Some(
-                b"1.2 1.3 ann 21/03/04 05:09:00\n1.2 1.2.1.1 ann 21/03/04 05:10:00\n",
-            ),
+            bytes: Some(b"1.2 1.3 ann 21/03/04 05:09:00\n1.2 1.2.1.1 ann 21/03/04 05:10:00\n"),
         },
     ];
     Ok(wrong.is_none() && has(&disk, &files)?)
