@@ -332,21 +332,49 @@ fn fault_recovers(alloc: Global, stop: &Stop, call: u64) -> Result<bool, Fail> {
     fault_recovers_on(alloc, stop, &mut disk)
 }
 
-#[test]
-fn stopped_commands_recover(rt: HostRuntime) -> Result<(), Fail> {
-    for stop in &STOPS {
-        assert!(rt; stops_recover(rt.alloc(), stop)?);
+// stopped behind each of its calls each of these commands recovers
+fn all_stops_recover(alloc: Global, stops: &[Stop]) -> Result<bool, Fail> {
+    for stop in stops {
+        if !stops_recover(alloc, stop)? {
+            return Ok(false);
+        }
     }
+    Ok(true)
+}
+
+#[test]
+fn stopped_edits_recover(rt: HostRuntime) -> Result<(), Fail> {
+    assert!(rt; all_stops_recover(rt.alloc(), &STOPS[..4])?);
     Ok(())
 }
 
 #[test]
-fn failed_commands_recover(rt: HostRuntime) -> Result<(), Fail> {
-    for stop in &STOPS {
+fn stopped_changes_recover(rt: HostRuntime) -> Result<(), Fail> {
+    assert!(rt; all_stops_recover(rt.alloc(), &STOPS[4..])?);
+    Ok(())
+}
+
+// each of its calls failing each of these commands recovers
+fn all_faults_recover(alloc: Global, stops: &[Stop]) -> Result<bool, Fail> {
+    for stop in stops {
         for call in 1..CALLS {
-            assert!(rt; fault_recovers(rt.alloc(), stop, call)?);
+            if !fault_recovers(alloc, stop, call)? {
+                return Ok(false);
+            }
         }
     }
+    Ok(true)
+}
+
+#[test]
+fn failed_edits_recover(rt: HostRuntime) -> Result<(), Fail> {
+    assert!(rt; all_faults_recover(rt.alloc(), &STOPS[..4])?);
+    Ok(())
+}
+
+#[test]
+fn failed_changes_recover(rt: HostRuntime) -> Result<(), Fail> {
+    assert!(rt; all_faults_recover(rt.alloc(), &STOPS[4..])?);
     Ok(())
 }
 
