@@ -1,29 +1,40 @@
 use sccs_disk::FickleDisk;
 use sccs_fixtures::samples::{SECOND, TWO_LINES};
-use sccs_fixtures::{
-    Answer, CASE, Case, File, PLAIN, Seen, answer_to, disk_with, ends, name, sum_of, summed,
-};
+use sccs_fixtures::{Answer, File, PLAIN, Seen, answer_to, disk_with, name, sum_of, summed};
 use std::alloc::Global;
 use std::test::Fail;
 
-// the line that the second delta inserted is another when the file is read for its text
-#[test]
-fn a_file_changes_between_two_readings(rt: HostRuntime) -> Result<(), Fail> {
+const CHANGED: &[u8] = b"ERROR [s.a]: file changed while read (34)\n";
+
+// what a line of words answers where the line that the second delta inserted is another at the second reading
+fn seen_changed(alloc: Global, line: &[u8]) -> Result<Seen, Fail> {
     let file = File {
         name: b"s.a",
         bytes: Some(SECOND),
     };
-    let disk = disk_with(rt.alloc(), &[], &[file])?;
+    let disk = disk_with(alloc, &[], &[file])?;
     let mid = SECOND.len() - b"mid\n\x01E 2\ntwo %I%\n\x01E 1\n".len();
     let mut disk = FickleDisk::new(disk, name(b"s.a")?, mid as u64);
-    let case = Case {
-        line: b"get -k -p -s s.a",
-        status: 1,
-        out: b"one\nnid\ntwo %I%\n",
-        err: b"ERROR [s.a]: file changed while read (34)\n",
-        ..CASE
-    };
-    assert!(rt; ends(rt.alloc(), &mut disk, &case)?);
+    answer_to(alloc, line, &PLAIN, &mut disk)
+}
+
+#[test]
+fn a_file_changes_between_two_readings(rt: HostRuntime) -> Result<(), Fail> {
+    let seen = seen_changed(rt.alloc(), b"get -k -p -s s.a")?;
+    assert!(rt; seen.is(1, b"one\nnid\ntwo %I%\n", CHANGED));
+    Ok(())
+}
+
+// whether prs refuses it: it reads the body again
+fn prs_sees(alloc: Global, line: &[u8]) -> Result<bool, Fail> {
+    let seen = seen_changed(alloc, line)?;
+    Ok(seen.answer == Answer::Finished { status: 1 } && seen.err.bytes() == CHANGED)
+}
+
+#[test]
+fn a_body_changes_before_it_is_printed(rt: HostRuntime) -> Result<(), Fail> {
+    assert!(rt; prs_sees(rt.alloc(), b"prs -r1.2 -d:BD: s.a")?);
+    assert!(rt; prs_sees(rt.alloc(), b"prs -r1.2 -d:GB: s.a")?);
     Ok(())
 }
 
