@@ -42,7 +42,7 @@ explain_number() {
     04) helps "$beside$name is stored already; without -i and -n admin changes its users, flags and description" ;;
     05) helps "files and input may have 1 GiB at most" ;;
     06) helps "the file doesn't begin as an s-file does" ;;
-    07) helps "the file was changed by something else than these commands, or damaged: compare it with a copy; admin -z takes it as it is" ;;
+    07) helps "the file was changed by something else than these commands, or damaged: compare it with a copy" ;;
     08) helps "the file is damaged or was edited by hand, from that line on; get a copy back" ;;
     09) helps "the body is encoded (flag e), which other programs do to files that aren't text" ;;
     10) helps "${beside}p.$of, which holds the pending edits, isn't of its form at that line" ;;
@@ -63,6 +63,8 @@ explain_number() {
     27) helps "no flag has that letter, or not with that text: sccsfile(5) lists them" ;;
     28) helps "the flag v asks for MR numbers: give them by -m" ;;
     29) helps "without the flag v a file takes no MR numbers: leave -m away" ;;
+    31) helps "other versions rest on that one, or it is the first: take back the newer ones first" ;;
+    32) helps "only who made that version, or who made the file, may take it back" ;;
     33) helps "no further number is left in this release; begin another by get -e -r" ;;
     34) helps "another program changed the file meanwhile: try again" ;;
     99) helps "the program doesn't have this yet" ;;
