@@ -34,7 +34,7 @@ unfolding file_of
 file_from file p is = rw is refl
 
 -- the body of the front is what comes behind the header
-same_items : (file : List ℕ) (p : ParsedFront) (front : Front) → IsFrontOf file p front → items_of file front ≡ items_from (live_serials p.header.records) p.line [] p.rest (cut file).tail
+pub same_items : (file : List ℕ) (p : ParsedFront) (front : Front) → IsFrontOf file p front → items_of file front ≡ items_from (live_serials p.header.records) p.line [] p.rest (cut file).tail
 same_items file p front of =
     ap (λ (h : Header). items_from (live_serials h.records) front.body_line [] (cut (drop front.body_from file)).lines (cut (drop front.body_from file)).tail) of.header
     ∙ (ap (λ n. items_from (live_serials p.header.records) n [] (cut (drop front.body_from file)).lines (cut (drop front.body_from file)).tail) of.line

@@ -1,3 +1,4 @@
+pub mod AnySumLaws
 pub mod BodyLaws
 pub mod ComingLaws
 pub mod FileLaws

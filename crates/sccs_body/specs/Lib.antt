@@ -1,3 +1,4 @@
+pub mod AnySum
 pub mod Behind
 pub mod BodyFile
 pub mod HeldBody

@@ -3,6 +3,10 @@ ghost use Rattle.sccs_disk.specs.Told.{seen};
 ghost use Rattle.sccs_history.specs.History.{IsHeader, IsSpelled, KeepsRules};
 ghost use Rattle.sccs_table.specs.FrontFile.{IsFirst, IsPlaced, ReadsDisk, ReadsOn};
 ghost use Rattle.sccs_table.specs.ReaderState.{StandsIn, Stays, bytes_in, file_in};
+ghost use Rattle.sccs_table.specs.FrontFile.{IsOuter};
+ghost use Rattle.sccs_table.specs.ReaderState.{behind_sum};
+ghost use Rattle.sccs_table.specs.SumOf.{IsPlainSumOf};
+ghost use Rattle.sccs_body.specs.AnySum.{AnswersUnsummed};
 ghost use Rattle.sccs_body.specs.Behind.{ReadsBehind};
 ghost use Rattle.sccs_body.specs.BodyFile.{AnswersFile, ChecksRest};
 ghost use Rattle.sccs_body.specs.ItemsRead.{HasBehind};
@@ -100,6 +104,49 @@ pub fn inspect<D: Disk>(alloc: Global, disk: &mut D, name: &Name) -> Result<Fron
     let stored = read_sum(alloc, disk, &mut lines)?;
     let (read, mut lines) = read_front(alloc, disk, lines, size);
     let sum = check_sum(disk, &mut lines, stored)?;
+    let mut front = read?;
+    front.sum = sum;
+    if is_encoded(front.header.flags.items()) {
+        Err(FileFault::Encoded)
+    } else {
+        Ok(front)
+    }
+}
+
+// reads on to the end of a file, and answers the plain sum of all bytes after the sum line, whatever
+// the stored one is
+fn plain_sum<D: Disk>(disk: &mut D, lines: &mut LineReader, stored: u32) -> Result<u16, FileFault>
+    requires { 8 ≤ lines.old.limit }
+    ensures frame { ReadsDisk D.told D.faults disk.old disk.new result }
+    ensures first { IsFirst result }
+    ensures told { (file : List ℕ) → bytes_in (seen (D.told disk.old)) lines.old.name ≡ Some file → 8 ≤ length file → StandsIn lines.old file
+        → IsOuter result × IfOk result (λ sum. IsPlainSumOf sum (behind_sum file)) }
+{
+    match check_sum(disk, lines, stored) {
+        Ok(sum) | Err(FileFault::BadSum(_, sum)) => Ok(sum),
+        Err(fault) => Err(fault),
+    }
+}
+
+/// Reads a whole s-file as `inspect` does, but for its stored sum, which it passes over: the front has the
+/// sum that is right. sccsfile(4); POSIX, Shell and Utilities, admin, -z.
+pub fn inspect_any_sum<D: Disk>(
+    alloc: Global,
+    disk: &mut D,
+    name: &Name,
+) -> Result<Front, FileFault>
+    ensures frame { ReadsDisk D.told D.faults disk.old disk.new result }
+    ensures first { IsFirst result }
+    ensures placed { IfOk result IsPlaced }
+    ensures rules { IfOk result (λ front. IsHeader front.header) }
+    ensures spelled { IfOk result (λ front. IsSpelled front.header) }
+    ensures told { IfSome (seen (D.told disk.old)) (λ view. AnswersUnsummed (file_in view name.now) result) }
+{
+    let size = open_file(disk, name)?;
+    let mut lines = LineReader::new(name, 0, size, LineEnds::Unasked);
+    let stored = read_sum(alloc, disk, &mut lines)?;
+    let (read, mut lines) = read_front(alloc, disk, lines, size);
+    let sum = plain_sum(disk, &mut lines, stored)?;
     let mut front = read?;
     front.sum = sum;
     if is_encoded(front.header.flags.items()) {

@@ -5,4 +5,5 @@ pub mod Joined
 pub mod Recoveries
 pub mod Recovering
 pub mod Unlocked
+pub mod UnlockedBut
 pub mod Untouched

@@ -20,7 +20,7 @@ use Rattle.sccs_moments.proofs.Recovering.{pair_same}
 -- ---- runs of a story
 
 -- two runs told as one
-joined_is : (m : Model) (past first next : List Model) (c : Told) → c ≡ Tells (newest next (newest first m)) (earlier next (newest first m) (earlier first m past)) → c ≡ Tells (newest (next ++ first) m) (earlier (next ++ first) m past)
+pub joined_is : (m : Model) (past first next : List Model) (c : Told) → c ≡ Tells (newest next (newest first m)) (earlier next (newest first m) (earlier first m past)) → c ≡ Tells (newest (next ++ first) m) (earlier (next ++ first) m past)
 joined_is m past first next c is =
     is
     ∙ (ap (λ (x : Model). Tells x (earlier next (newest first m) (earlier first m past))) (sym (newest_more next first m))
@@ -117,7 +117,7 @@ unlocked_first : (n : List ℕ) (added : List Model) (m : Model) → view_of m (
 unlocked_first n [] m is = is
 unlocked_first n (a ∷ added) m is = inr (unlocked_first n added m is)
 
-unlocked_more : (n : List ℕ) (later added : List Model) (m : Model) → WasUnlocked n later (newest added m) → WasUnlocked n (later ++ added) m
+pub unlocked_more : (n : List ℕ) (later added : List Model) (m : Model) → WasUnlocked n later (newest added m) → WasUnlocked n (later ++ added) m
 unlocked_more n [] added m was = unlocked_now n added m was
 unlocked_more n (a ∷ later) added m (inl now) = inl now
 unlocked_more n (a ∷ later) added m (inr was) = inr (unlocked_more n later added m was)
@@ -171,13 +171,13 @@ pub own_left : (n k : List ℕ) → is_own n k ≡ false → is_left n k ≡ fal
 own_left n k h = right_false (bytes_eq (drop 2 n) k) (is_left n k) (right_false (bytes_eq (p_file n) k) (bytes_eq (drop 2 n) k || is_left n k) (right_false (bytes_eq n k) (bytes_eq (p_file n) k || (bytes_eq (drop 2 n) k || is_left n k)) h))
 
 -- the s-file and the p-file of another name are none of the name's files, where its g-file is none of such a kind
-own_s : (n k : List ℕ) → IsSfile k → is_kept (drop 2 n) ≡ false → bytes_eq n k ≡ false → is_own n k ≡ false
+pub own_s : (n k : List ℕ) → IsSfile k → is_kept (drop 2 n) ≡ false → bytes_eq n k ≡ false → is_own n k ≡ false
 own_s n k sfile plain apart =
     both_false (bytes_eq n k) (bytes_eq (p_file n) k || (bytes_eq (drop 2 n) k || is_left n k)) apart
     (both_false (bytes_eq (p_file n) k) (bytes_eq (drop 2 n) k || is_left n k) (subst (λ l. bytes_eq (p_file n) l ≡ false) (sym (sfile_is k sfile)) refl)
     (both_false (bytes_eq (drop 2 n) k) (is_left n k) (kept_s (drop 2 n) k plain sfile) (left_s n k sfile)))
 
-own_p : (n k : List ℕ) → IsSfile n → IsSfile k → is_kept (drop 2 n) ≡ false → bytes_eq n k ≡ false → is_own n (p_file k) ≡ false
+pub own_p : (n k : List ℕ) → IsSfile n → IsSfile k → is_kept (drop 2 n) ≡ false → bytes_eq n k ≡ false → is_own n (p_file k) ≡ false
 own_p n k sfile other plain apart =
     both_false (bytes_eq n (p_file k)) (bytes_eq (p_file n) (p_file k) || (bytes_eq (drop 2 n) (p_file k) || is_left n (p_file k))) (to_sfile 112 n k sfile refl)
     (both_false (bytes_eq (p_file n) (p_file k)) (bytes_eq (drop 2 n) (p_file k) || is_left n (p_file k)) (siblings_differ 112 n k sfile other apart)

@@ -46,3 +46,18 @@ pub record BeganUnlocked (m : Model) (past : List Model) (new : Told) : Type 0 w
 -- so it is of a call
 abbrev pub BeginsUnlocked : Told → Told → Type 0
 BeginsUnlocked old new = (m : Model) (past : List Model) → old ≡ Tells m past → BeganUnlocked m past new
+
+-- the same of all names but those that are exempt, as the names that are recovered are
+abbrev pub ComeUnlockedBut : (List ℕ → Bool) → List Model → Model → Type 0
+ComeUnlockedBut exempt [] m = Unit {0}
+ComeUnlockedBut exempt (a ∷ added) m =
+    ((n : List ℕ) → IsSfile n → exempt n ≡ false → (pair_of (view_of a) n ≡ pair_of (view_of (newest added m)) n) ⊎ WasUnlocked n added m)
+    × ComeUnlockedBut exempt added m
+
+pub record BeganUnlockedBut (exempt : List ℕ → Bool) (m : Model) (past : List Model) (new : Told) : Type 0 where
+  pub added : List Model
+  pub is : new ≡ Tells (newest added m) (earlier added m past)
+  pub changes : ComeUnlockedBut exempt added m
+
+abbrev pub BeginsUnlockedBut : (List ℕ → Bool) → Told → Told → Type 0
+BeginsUnlockedBut exempt old new = (m : Model) (past : List Model) → old ≡ Tells m past → BeganUnlockedBut exempt m past new

@@ -1,4 +1,5 @@
 mod EntryLists
+mod OtherNames
 mod ReadingLaws
 mod RecoverMoments
 mod RecoveryLaws

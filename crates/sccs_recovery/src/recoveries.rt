@@ -9,6 +9,7 @@ ghost use Rattle.sccs_files.specs.StepFiles.{AreCleared, Moves, MovesPartly, is_
 ghost use Rattle.sccs_images.specs.Touches.{Leaves, TouchesOnly};
 ghost use Rattle.sccs_moments.specs.Moments.{LeavesCalm, LeavesFirm, RecoversOn};
 ghost use Rattle.sccs_moments.specs.Recovery.{cleared, recover, without};
+ghost use Rattle.sccs_moments.specs.Unlocked.{KeepsOthers, is_own};
 ghost use Rattle.sccs_sid.specs.declared.refusals.Refusal.{Refusal};
 ghost use Rattle.sccs_sid.specs.declared.refusals.StepFault.TheVariants as step;
 ghost use Rattle.sccs_store.specs.Commits.{Becomes, Needs, committed, plan};
@@ -111,6 +112,7 @@ fn finish<D: Disk>(left: &PfileLeft, disk: &mut D, name: &Name) -> Result<(), St
     ensures memory { IsErrOf result StepFault.Memory → Moves (is_working name.now) (λ v. v) (seen (D.told disk.old)) (seen (D.told disk.new)) }
     ensures cleared { IsErrOf result StepFault.Memory → AreCleared name.now (seen (D.told disk.old)) (seen (D.told disk.new)) }
     ensures touches { IsErrOf result StepFault.Memory → TouchesOnly (is_working name.now) (D.told disk.old) (D.told disk.new) }
+    ensures others { KeepsOthers (is_own name.now) (D.told disk.old) (D.told disk.new) }
     ensures partly { IsErrOf result StepFault.DiskFault → MovesPartly (is_left name.now) (recover name.now) (seen (D.told disk.old)) (seen (D.told disk.new)) }
     ensures story { RecoversOn (D.told disk.old) (D.told disk.new) }
     ensures calm { OnOk result (LeavesCalm (D.told disk.old) (D.told disk.new)) }
@@ -147,6 +149,7 @@ fn tidy<D: Disk>(disk: &mut D, name: &Name) -> Result<(), Failed>
     requires { IsSfile name.now }
     ensures view { OnOk result (Becomes (without (y_file name.now)) (seen (D.told disk.old)) (seen (D.told disk.new))) }
     ensures view_err { OnErr result (Moves (is_working name.now) (λ v. v) (seen (D.told disk.old)) (seen (D.told disk.new))) }
+    ensures others { KeepsOthers (is_own name.now) (D.told disk.old) (D.told disk.new) }
     ensures story { RecoversOn (D.told disk.old) (D.told disk.new) }
     ensures calm { OnOk result (LeavesCalm (D.told disk.old) (D.told disk.new)) }
     ensures firm { LeavesFirm (D.told disk.old) (D.told disk.new) }

@@ -10,7 +10,7 @@ use Rattle.sccs_steps.specs.Recovering.{has_made}
 use Rattle.sccs_steps.specs.Settings.{Setting}
 use Rattle.sccs_steps.specs.Speaking.{OperandBegins, OperandMakes, SpeakAll, SpeakBy}
 use Rattle.sccs_steps.specs.StepLists.{NamedStep, Runs}
-use Rattle.sccs_steps.specs.Unlocked.{ArePlain}
+use Rattle.sccs_steps.specs.Unlocked.{AreExempt, ArePlain}
 use Rattle.sccs_steps.specs.declared.faults.Fault.{Fault}
 
 alone : (x : Action) (m : Folder) (i operand : List ℕ) → steps_at x m i (operand ∷ []) ≡ operand_steps x i m operand
@@ -36,9 +36,9 @@ lone_operand x operand r s t runs = record {
       subst (λ (ts : List NamedStep). RunMoments x w r folder ts s.stage t.stage m past) (sym (alone x folder i operand))
       (runs.stops w folder i m past spares (subst (λ (ts : List NamedStep). AreClear x w ts) (alone x folder i operand) clear) shows (subst (λ hearing. IsHeard hearing s.left i) (hears_one x operand) given.0) is calm
       (subst (λ (ts : List NamedStep). AreSafe x ts (view_in folder)) (alone x folder i operand) safe));
-  unlocked = λ w folder i spares clear shows given locks plain.
-      runs.unlocked w folder i spares (subst (λ (ts : List NamedStep). AreClear x w ts) (alone x folder i operand) clear) shows (subst (λ hearing. IsHeard hearing s.left i) (hears_one x operand) given.0) locks
-      (subst (λ (ts : List NamedStep). ArePlain x ts) (alone x folder i operand) plain);
+  unlocked = λ w folder i spares clear shows given exempt plain are.
+      runs.unlocked w folder i spares (subst (λ (ts : List NamedStep). AreClear x w ts) (alone x folder i operand) clear) shows (subst (λ hearing. IsHeard hearing s.left i) (hears_one x operand) given.0) exempt
+      (subst (λ (ts : List NamedStep). ArePlain x ts) (alone x folder i operand) plain) (subst (λ (ts : List NamedStep). AreExempt x exempt ts) (alone x folder i operand) are);
   recovers = λ never. record {
     story = (runs.recovers never).story;
     firm = (runs.recovers never).firm;

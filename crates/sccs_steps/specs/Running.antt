@@ -5,7 +5,7 @@ use Rattle.sccs_disk.specs.Files.{Folder, Model, view_in}
 use Rattle.sccs_disk.specs.Told.{Told, Tells, seen}
 use Rattle.sccs_files.specs.StepFiles.{Shows}
 use Rattle.sccs_moments.specs.Calm.{IsCalm}
-use Rattle.sccs_moments.specs.Unlocked.{BeginsUnlocked}
+use Rattle.sccs_moments.specs.Unlocked.{BeginsUnlockedBut}
 use Rattle.sccs_steps.specs.Actions.{Action, AreClear, IsHeard, IsLone, hears, input_steps, kind_hears, kind_of, kind_steps, step_at, steps_at, steps_of}
 use Rattle.sccs_steps.specs.Calls.{Scene, shown}
 use Rattle.sccs_steps.specs.Causes.{Ignores, RunCauses}
@@ -14,7 +14,7 @@ use Rattle.sccs_steps.specs.Recovering.{RecoversBy}
 use Rattle.sccs_steps.specs.Settings.{Setting}
 use Rattle.sccs_steps.specs.Speaking.{SpeakAll, SpeakNames, SpeaksKind, SpeaksOne}
 use Rattle.sccs_steps.specs.StepLists.{NamedStep, Runs}
-use Rattle.sccs_steps.specs.Unlocked.{ArePlain}
+use Rattle.sccs_steps.specs.Unlocked.{AreExempt, ArePlain}
 use Rattle.sccs_steps.specs.declared.faults.Fault.{Fault}
 use Rattle.sccs_steps.specs.declared.faults.Fault.TheVariants as end
 use Rattle.sccs_steps.specs.declared.operands.OperandKind.{OperandKind}
@@ -35,10 +35,11 @@ StopsBy x steps given r a b = (w : List ℕ → Bool) (folder : Folder) (i : Lis
     → Spares w → AreClear x w (steps folder i) → Shows w (seen a.told) (view_in folder) → given i
     → a.told ≡ Tells m past → IsCalm m → AreSafe x (steps folder i) (view_in folder) → RunMoments x w r folder (steps folder i) a b m past
 
--- where the steps lock their names, before each change of an s-file or p-file its z-file wasn't there at a moment of the call
+-- before each change of an s-file or p-file its z-file wasn't there at a moment of the call, but of the names of steps that don't lock them
 abbrev pub UnlockedBy : Action → Steps → (List ℕ → Type 0) → Told → Told → Type 0
 UnlockedBy x steps given old new = (w : List ℕ → Bool) (folder : Folder) (i : List ℕ)
-    → Spares w → AreClear x w (steps folder i) → Shows w (seen old) (view_in folder) → given i → x.locks ≡ true → ArePlain x (steps folder i) → BeginsUnlocked old new
+    → Spares w → AreClear x w (steps folder i) → Shows w (seen old) (view_in folder) → given i
+    → (exempt : List ℕ → Bool) → ArePlain x (steps folder i) → AreExempt x exempt (steps folder i) → BeginsUnlockedBut exempt old new
 
 -- The steps are made, where the disk tells its files; what a stop leaves of them; that names are changed that weren't locked; what those leave that lock no name, on a disk that isn't
 -- calm too; what the call answers and writes on err, over any disk; and what an action that only reads, that is silent, or that takes no input leaves as it was.

@@ -1,9 +1,9 @@
--- Steps that change no s-file or p-file but one whose z-file wasn't there at an earlier moment.
-use Rattle.std.specs.Prelude.{◌≡◌, ℕ, true, false, List, drop}
+-- Steps that change no s-file or p-file but one whose z-file wasn't there at an earlier moment, or that of their own name.
+use Rattle.std.specs.Prelude.{◌≡◌, ℕ, Bool, true, false, List, drop}
 use Rattle.std.specs.List.{AllByRecursion}
 use Rattle.sccs_disk.specs.Told.{Told}
 use Rattle.sccs_moments.specs.Recovery.{is_kept}
-use Rattle.sccs_moments.specs.Unlocked.{BeginsUnlocked}
+use Rattle.sccs_moments.specs.Unlocked.{BeginsUnlocked, KeepsOthers, is_own}
 use Rattle.sccs_steps.specs.Actions.{Action}
 use Rattle.sccs_steps.specs.StepLists.{NamedStep}
 
@@ -18,3 +18,11 @@ ArePlain x ts = AllByRecursion (λ (t : NamedStep). x.fits t.name ≡ true → I
 -- a step that locks its name: before each change of an s-file or p-file its z-file wasn't there at a moment of the call
 abbrev pub StepUnlocked : Action → List ℕ → Told → Told → Type 0
 StepUnlocked x n old new = x.locks ≡ true → IsPlainFor x n → BeginsUnlocked old new
+
+-- a step that doesn't lock its name leaves the files of all other names
+abbrev pub StepOthers : Action → List ℕ → Told → Told → Type 0
+StepOthers x n old new = x.locks ≡ false → KeepsOthers (is_own n) old new
+
+-- the names of steps that don't lock them are exempt
+abbrev pub AreExempt : Action → (List ℕ → Bool) → List NamedStep → Type 0
+AreExempt x exempt ts = AllByRecursion (λ (t : NamedStep). x.fits t.name ≡ true → x.locks ≡ false → exempt t.name ≡ true) ts

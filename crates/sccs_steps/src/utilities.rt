@@ -6,7 +6,7 @@ ghost use Rattle.sccs_steps.specs.Calls.{scene};
 ghost use Rattle.sccs_steps.specs.Causes.{Ignores, StepCauses, counts};
 ghost use Rattle.sccs_steps.specs.Recovering.{StepRecovers};
 ghost use Rattle.sccs_steps.specs.StepStops.{StepMoments, StepMomentsAs};
-ghost use Rattle.sccs_steps.specs.Unlocked.{StepUnlocked};
+ghost use Rattle.sccs_steps.specs.Unlocked.{StepOthers, StepUnlocked};
 
 use crate::statuses::StatusRule;
 use sccs_base::{Name, Sink, Source};
@@ -54,6 +54,7 @@ pub trait Utility {
             (scene (D.told disk.old) (O.given out.old) (E.given err.old))
             (scene (D.told disk.new) (O.given out.new) (E.given err.new)) }
         ensures unlocked { StepUnlocked (action self.now) name.now (D.told disk.old) (D.told disk.new) }
+        ensures others { StepOthers (action self.now) name.now (D.told disk.old) (D.told disk.new) }
         ensures recovers { StepRecovers (action self.now) result (D.told disk.old) (D.told disk.new) }
         ensures speaks { SpeaksBy (action self.now).could result name.now (E.given err.old) (E.given err.new) }
         ensures reads { (action self.now).reads ≡ true → D.told disk.new ≡ D.told disk.old }
@@ -108,6 +109,7 @@ pub trait UtilityWithStatus {
             (scene (D.told disk.old) (O.given out.old) (E.given err.old))
             (scene (D.told disk.new) (O.given out.new) (E.given err.new)) }
         ensures unlocked { StepUnlocked (action self.now) name.now (D.told disk.old) (D.told disk.new) }
+        ensures others { StepOthers (action self.now) name.now (D.told disk.old) (D.told disk.new) }
         ensures recovers { StepRecovers (action self.now) result (D.told disk.old) (D.told disk.new) }
         ensures speaks { SpeaksByAs (λ (status : ℕ). status) (action self.now).could result name.now (E.given err.old) (E.given err.new) }
         ensures status { (action self.now).reads ≡ false → IfOk result (λ (status : ℕ). status ≡ 0) }

@@ -38,7 +38,7 @@ val_command : (who : Caller) (words : ValWords) (r : Result ℕ Fault) (s s2 : S
 val_command who words r s s2 runs = record {
   steps = λ w folder i spares clear shows given. runs.steps w folder i spares clear shows (heard words s.left i given);
   stops = λ w folder i m past spares clear shows given is calm safe. runs.stops w folder i m past spares clear shows (heard words s.left i given) is calm safe;
-  unlocked = λ w folder i spares clear shows given locks plain. runs.unlocked w folder i spares clear shows (heard words s.left i given) locks plain;
+  unlocked = λ w folder i spares clear shows given exempt plain are. runs.unlocked w folder i spares clear shows (heard words s.left i given) exempt plain are;
   recovers = λ never. absurd cc;
   speaks = runs.speaks;
   reads = runs.reads;

@@ -18,8 +18,10 @@ use Rattle.sccs_steps.specs.Actions.{Action, IsHeard, Stepped}
 use Rattle.sccs_steps.specs.Calls.{Meets, Scene, World, scene, shown, world}
 use Rattle.sccs_steps.specs.StepLists.{NamedStep, Runs, err_of, named_step, next_text}
 use Rattle.sccs_steps.specs.StepStops.{StepMoments}
+use Rattle.sccs_steps.specs.Unlocked.{AreExempt}
 use Rattle.sccs_steps.specs.ListStops.{RunMoments, Spares}
 use Rattle.sccs_moments.proofs.Unlocked.{unlocked_same}
+use Rattle.sccs_moments.proofs.UnlockedBut.{all_of}
 use Rattle.sccs_moments.proofs.Recoveries.{calm_same, firm_same, story_same}
 use Rattle.sccs_steps.specs.Recovering.{RecoversBy}
 use Rattle.sccs_steps.specs.Running.{IsInput, MakesBy, StopsBy, UnlockedBy}
@@ -85,11 +87,16 @@ command_ends who meant command answer made left a b is answered makes =
     (makes (working who (Ok command) m i) m i (spares_meant who (Ok command) m i) given.1 shows given.0)))
 
 -- the same of locks
+none_exempt : (x : Action) (ts : List NamedStep) → x.locks ≡ true → AreExempt x (λ n. false) ts
+none_exempt x [] locks = tt
+none_exempt x (t ∷ ts) locks = ((λ fits free. absurd (let both : true ≡ false = sym locks ∙ free in cc)), none_exempt x ts locks)
+
 pub command_unlocked : (who : Caller) (meant : Result Command Usage) (command : Command) (left : Option (List ℕ)) (a b : Told) → meant ≡ Ok command
     → UnlockedBy (action_of who command) (λ m i. run_steps who (Ok command) m i) (IsInput (action_of who command) (operands_of command) left) a b → UnlockedSteps who meant left a b
 command_unlocked who meant command left a b is unlocked =
     subst (λ (r : Result Command Usage). UnlockedSteps who r left a b) (sym is)
-    (λ folder i given shows locks plain. unlocked (working who (Ok command) folder i) folder i (spares_meant who (Ok command) folder i) given.1 shows given.0 locks plain)
+    (λ folder i given shows locks plain. all_of (λ n. false) a b (λ n. refl) (unlocked (working who (Ok command) folder i) folder i (spares_meant who (Ok command) folder i) given.1 shows given.0
+    (λ n. false) plain (none_exempt (action_of who command) (run_steps who (Ok command) folder i) locks)))
 
 pub same_unlocked : (who : Caller) (meant : Result Command Usage) (left : Option (List ℕ)) (a : Told) → UnlockedSteps who meant left a a
 same_unlocked who meant left a = λ folder i given shows locks plain. unlocked_same a a refl

@@ -9,6 +9,9 @@ use Rattle.sccs_store.specs.declared.new_files.NewFile.TheVariants.{Keep}
 use Rattle.sccs_store.proofs.Working.{moves_then}
 use Rattle.sccs_recovery.proofs.RecoveryEnds.{cleared_gone, err_is, part_partly, partly}
 use Rattle.sccs_recovery.proofs.RecoveryLaws.{calm_leaves, ended_calm, ended_story, stopped_firm, stopped_story, touched_firm, touched_story}
+use Rattle.sccs_moments.specs.Unlocked.{is_own}
+use Rattle.sccs_moments.proofs.Unlocked.{others_then}
+use Rattle.sccs_recovery.proofs.OtherNames.{touched_others}
 use Rattle.sccs_recovery.proofs.recoveries.finish.Goals as goal
 
 pub returns-in-Ok-commit-clause-story : goal.returns-in-Ok-commit-clause-story
@@ -64,3 +67,18 @@ returns-in-Err-Memory-clause-firm g c =
 
 pub returns-in-Err-Memory-clause-touches : goal.returns-in-Err-Memory-clause-touches
 returns-in-Err-Memory-clause-touches g c = λ fault. only_then (is_working c.args.name.now) _ (g.D.Disk.told c.prepare.new.disk) _ c.prepare.ensures.touches c.give_up.ensures.touches
+
+pub returns-in-Ok-commit-clause-others : goal.returns-in-Ok-commit-clause-others
+returns-in-Ok-commit-clause-others g c =
+    others_then (is_own c.args.name.now) _ (g.D.Disk.told c.prepare.new.disk) _ (touched_others c.args.name.now _ _ c.prepare.ensures.touches) c.commit.ensures.others
+
+pub returns-in-Err-clause-others : goal.returns-in-Err-clause-others
+returns-in-Err-clause-others g c =
+    others_then (is_own c.args.name.now) _ (g.D.Disk.told c.prepare.new.disk) _ (touched_others c.args.name.now _ _ c.prepare.ensures.touches) c.commit.ensures.others
+
+pub returns-in-Err-Failed-clause-others : goal.returns-in-Err-Failed-clause-others
+returns-in-Err-Failed-clause-others g c = touched_others c.args.name.now _ _ c.prepare.ensures.touches
+
+pub returns-in-Err-Memory-clause-others : goal.returns-in-Err-Memory-clause-others
+returns-in-Err-Memory-clause-others g c =
+    touched_others c.args.name.now _ _ (only_then (is_working c.args.name.now) _ (g.D.Disk.told c.prepare.new.disk) _ c.prepare.ensures.touches c.give_up.ensures.touches)

@@ -1,6 +1,9 @@
 use Rattle.std.proofs.Common.{rules}
 use Rattle.sccs_recovery.proofs.RecoveryLaws.{calm_from, firm_since, same_firm, same_story, story_from}
 use Rattle.sccs_recovery.proofs.RecoveryEnds.{ended, failed, partly, partly_from, same_partly}
+use Rattle.sccs_moments.specs.Unlocked.{is_own}
+use Rattle.sccs_moments.proofs.Unlocked.{others_same}
+use Rattle.sccs_recovery.proofs.OtherNames.{others_since}
 use Rattle.sccs_recovery.proofs.recoveries.recover.Goals as goal
 
 pub returns-in-Ok-clause-ends : goal.returns-in-Ok-clause-ends
@@ -16,6 +19,7 @@ returns-in-Ok-tidy-clause-ends g c = record {
   memory = search rules;
   cleared = search rules;
   touches = search rules;
+  others = others_since c.args.name.now _ (g.D.Disk.told c.size.new.self) _ c.size.ensures.same c.tidy.ensures.others;
   partly = search rules;
   story = story_from _ (g.D.Disk.told c.size.new.self) _ c.size.ensures.same c.tidy.ensures.story;
   calm = calm_from _ (g.D.Disk.told c.size.new.self) _ c.size.ensures.same c.in-Ok-tidy.ensures.calm;
@@ -32,6 +36,7 @@ returns-in-Err-tidy-clause-ends g c = record {
   memory = search rules;
   cleared = search rules;
   touches = search rules;
+  others = others_since c.args.name.now _ (g.D.Disk.told c.size.new.self) _ c.size.ensures.same c.tidy.ensures.others;
   partly = λ fault. partly_from c.args.name.now _ (g.D.Disk.told c.args.disk.now) (g.D.Disk.told c.size.new.self) _ c.size.ensures.same (partly c.args.name.now _ _ _ c.in-Err-tidy.ensures.view_err);
   story = story_from _ (g.D.Disk.told c.size.new.self) _ c.size.ensures.same c.tidy.ensures.story;
   calm = search rules;
@@ -48,6 +53,7 @@ returns-in-Err-clause-ends g c = record {
   memory = search rules;
   cleared = search rules;
   touches = search rules;
+  others = others_same (is_own c.args.name.now) _ _ c.size.ensures.same;
   partly = λ fault. same_partly c.args.name.now _ (g.D.Disk.told c.args.disk.now) (g.D.Disk.told c.size.new.self) c.size.ensures.same;
   story = same_story _ _ c.size.ensures.same;
   calm = search rules;

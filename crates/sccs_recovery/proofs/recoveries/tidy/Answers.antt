@@ -7,6 +7,7 @@ use Rattle.sccs_store.proofs.Working.{ok_map}
 use Rattle.sccs_recovery.proofs.RecoveryLaws.{synced_calm, synced_firm, synced_story, touched_firm, touched_story}
 use Rattle.sccs_store.proofs.Working.{err_map}
 use Rattle.sccs_recovery.proofs.RecoveryEnds.{tidied_moves}
+use Rattle.sccs_recovery.proofs.OtherNames.{synced_others, y_others}
 use Rattle.sccs_recovery.proofs.recoveries.tidy.Goals as goal
 
 pub returns-in-Ok-clause-story : goal.returns-in-Ok-clause-story
@@ -32,3 +33,10 @@ returns-in-Ok-clause-firm g c =
 pub returns-in-Err-clause-firm : goal.returns-in-Err-clause-firm
 returns-in-Err-clause-firm g c =
     touched_firm c.args.name.now _ _ (only_wider (bytes_eq (y_file c.args.name.now)) (is_working c.args.name.now) _ _ (no_y c.args.name.now) c.clear_sibling.ensures.touches)
+
+pub returns-in-Ok-clause-others : goal.returns-in-Ok-clause-others
+returns-in-Ok-clause-others g c =
+    synced_others c.args.name.now _ (g.D.Disk.told c.clear_sibling.new.disk) _ c.sync_names.result (y_others c.args.name.now _ _ c.clear_sibling.ensures.touches) c.sync_names.ensures.done c.sync_names.ensures.half
+
+pub returns-in-Err-clause-others : goal.returns-in-Err-clause-others
+returns-in-Err-clause-others g c = y_others c.args.name.now _ _ c.clear_sibling.ensures.touches

@@ -3,6 +3,9 @@ use Rattle.sccs_files.specs.StepFiles.{is_working}
 use Rattle.sccs_store.proofs.Working.{ok_map, same_touches, touches_from}
 use Rattle.sccs_recovery.proofs.RecoveryLaws.{calm_from, firm_since, same_firm, same_story}
 use Rattle.sccs_recovery.proofs.RecoveryEnds.{finished_partly, same_cleared, same_partly}
+use Rattle.sccs_moments.specs.Unlocked.{is_own}
+use Rattle.sccs_moments.proofs.Unlocked.{others_same}
+use Rattle.sccs_recovery.proofs.OtherNames.{others_since}
 use Rattle.sccs_recovery.proofs.recoveries.unlock.Goals as goal
 
 pub returns-in-Ok-clause-ends : goal.returns-in-Ok-clause-ends
@@ -12,6 +15,7 @@ returns-in-Ok-clause-ends g c = record {
   memory = search rules;
   cleared = search rules;
   touches = λ fault. touches_from (is_working c.args.name.now) _ (g.D.Disk.told c.read_left.new.disk) _ c.read_left.ensures.same (c.finish.ensures.touches fault);
+  others = others_since c.args.name.now _ (g.D.Disk.told c.read_left.new.disk) _ c.read_left.ensures.same c.finish.ensures.others;
   partly = λ fault. finished_partly c.args.name.now c.in-Ok.left (g.D.Disk.told c.args.disk.now) (g.D.Disk.told c.read_left.new.disk) (g.D.Disk.told c.finish.new.disk) c.read_left.ensures.same c.requires.z c.in-Ok.ensures.told (c.finish.ensures.partly fault);
   story = search rules;
   calm = ok_map c.finish.result (calm_from _ (g.D.Disk.told c.read_left.new.disk) _ c.read_left.ensures.same) c.finish.ensures.calm;
@@ -28,6 +32,7 @@ returns-in-Err-clause-ends g c = record {
   memory = search rules;
   cleared = λ fault. same_cleared c.args.name.now (g.D.Disk.told c.args.disk.now) (g.D.Disk.told c.read_left.new.disk) c.read_left.ensures.same;
   touches = λ fault. same_touches (is_working c.args.name.now) _ _ c.read_left.ensures.same;
+  others = others_same (is_own c.args.name.now) _ _ c.read_left.ensures.same;
   partly = λ fault. same_partly c.args.name.now _ (g.D.Disk.told c.args.disk.now) (g.D.Disk.told c.read_left.new.disk) c.read_left.ensures.same;
   story = same_story _ _ c.read_left.ensures.same;
   calm = search rules;

@@ -3,14 +3,14 @@ use Rattle.sccs_disk.specs.Files.{Folder, Model, view_in}
 use Rattle.sccs_disk.specs.Told.{Tells, seen}
 use Rattle.sccs_files.specs.StepFiles.{Shows}
 use Rattle.sccs_moments.specs.Calm.{IsCalm}
-use Rattle.sccs_moments.specs.Unlocked.{BeginsUnlocked}
+use Rattle.sccs_moments.specs.Unlocked.{BeginsUnlockedBut}
 use Rattle.sccs_steps.specs.Actions.{AreClear, step_at, steps_of}
 use Rattle.sccs_steps.specs.Calls.{shown}
 use Rattle.sccs_steps.specs.ListStops.{AreSafe, Spares}
 use Rattle.sccs_steps.specs.Settings.{SameLoans, setting}
 use Rattle.sccs_steps.specs.Speaking.{NameMakes}
 use Rattle.sccs_steps.specs.StepLists.{SoFar, in_turn}
-use Rattle.sccs_steps.specs.Unlocked.{ArePlain}
+use Rattle.sccs_steps.specs.Unlocked.{AreExempt, ArePlain}
 use Rattle.sccs_steps.proofs.RecoveringSteps.{RecoversSoFar, StaysFirm}
 use Rattle.sccs_steps.proofs.Turns.{SpokeSoFar}
 use Rattle.sccs_steps.proofs.TurnStops.{StopsSoFar}
@@ -28,7 +28,7 @@ invariant-loop-name g l = record {
       → StopsSoFar (g.U.UtilityWithStatus.action l.utility) w folder (steps_of (g.U.UtilityWithStatus.action l.utility) i folder l.names) (λ u. steps_of (g.U.UtilityWithStatus.action l.utility) i u (drop l.name-index l.names)) l.status
       (setting g.I.Source g.O.Sink g.E.Sink g.D.Disk l.fn.streams).stage (setting g.I.Source g.O.Sink g.E.Sink g.D.Disk l.streams).stage m past;
   unlocked : (w : List ℕ → Bool) (m : Folder) (i : List ℕ) → Spares w → AreClear (g.U.UtilityWithStatus.action l.utility) w (steps_of (g.U.UtilityWithStatus.action l.utility) i m l.names) → Shows w (seen (g.D.Disk.told l.fn.streams.disk.now)) (view_in m)
-      → (g.U.UtilityWithStatus.action l.utility).locks ≡ true → ArePlain (g.U.UtilityWithStatus.action l.utility) (steps_of (g.U.UtilityWithStatus.action l.utility) i m l.names) → BeginsUnlocked (g.D.Disk.told l.fn.streams.disk.now) (g.D.Disk.told l.streams.disk.now);
+      → (exempt : List ℕ → Bool) → ArePlain (g.U.UtilityWithStatus.action l.utility) (steps_of (g.U.UtilityWithStatus.action l.utility) i m l.names) → AreExempt (g.U.UtilityWithStatus.action l.utility) exempt (steps_of (g.U.UtilityWithStatus.action l.utility) i m l.names) → BeginsUnlockedBut exempt (g.D.Disk.told l.fn.streams.disk.now) (g.D.Disk.told l.streams.disk.now);
   firm : (g.U.UtilityWithStatus.action l.utility).locks ≡ false → StaysFirm (g.D.Disk.told l.fn.streams.disk.now) (g.D.Disk.told l.streams.disk.now);
   recovered : (w : List ℕ → Bool) (m : Folder) (i : List ℕ) → Spares w → AreClear (g.U.UtilityWithStatus.action l.utility) w (steps_of (g.U.UtilityWithStatus.action l.utility) i m l.names) → Shows w (seen (g.D.Disk.told l.fn.streams.disk.now)) (view_in m) → (g.U.UtilityWithStatus.action l.utility).locks ≡ false
       → RecoversSoFar (g.U.UtilityWithStatus.action l.utility).rule w m (in_turn (λ u n. step_at (g.U.UtilityWithStatus.action l.utility) u i n ∷ []) m l.names) (λ u. in_turn (λ u n. step_at (g.U.UtilityWithStatus.action l.utility) u i n ∷ []) u (drop l.name-index l.names)) l.status

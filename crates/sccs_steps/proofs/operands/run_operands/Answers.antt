@@ -10,7 +10,7 @@ use Rattle.sccs_steps.proofs.Exits.{exit_is}
 use Rattle.sccs_steps.proofs.JoinedSteps.{begins}
 use Rattle.sccs_steps.proofs.KindLaws.{deaf_at, heard_at, still_left}
 use Rattle.sccs_steps.proofs.Turns.{SpokeSoFar, spoke_begins, spoke_cut, spoke_ends, spoke_on, turn_on, turn_stops, turns_end}
-use Rattle.sccs_moments.proofs.Unlocked.{unlocked_same}
+use Rattle.sccs_moments.proofs.UnlockedBut.{but_same}
 use Rattle.sccs_steps.proofs.RecoveringSteps.{RecoversSoFar, firm_begins, firm_on, recovers_begin, recovers_early, recovers_end, recovers_on}
 use Rattle.sccs_steps.proofs.UnlockedSteps.{next_unlocked}
 use Rattle.sccs_steps.proofs.TurnStops.{StopsSoFar, stops_begin, stops_early, stops_end, stops_on}
@@ -21,7 +21,7 @@ loop-operand-init g c = record {
   loans = search rules;
   so_far = λ w m i spares clear shows given. begins (g.U.UtilityWithStatus.action c.args.utility.now).rule w m (λ u. steps_at (g.U.UtilityWithStatus.action c.args.utility.now) u i c.args.operands.now) _ (shown (setting g.I.Source g.O.Sink g.E.Sink g.D.Disk c.args.streams.now).stage) c.idle_status-status.ensures shows;
   stops = λ w folder i m past spares clear shows given is calm safe. stops_begin (g.U.UtilityWithStatus.action c.args.utility.now) w folder (λ u. steps_at (g.U.UtilityWithStatus.action c.args.utility.now) u i c.args.operands.now) _ (setting g.I.Source g.O.Sink g.E.Sink g.D.Disk c.args.streams.now).stage m past c.idle_status-status.ensures spares shows is calm;
-  unlocked = λ w m i spares clear shows given locks plain. unlocked_same _ _ refl;
+  unlocked = λ w m i spares clear shows given exempt plain are. but_same exempt _ _ refl;
   firm = λ never. firm_begins (g.D.Disk.told c.args.streams.now.disk.now);
   recovered = λ w m i spares clear shows given never.
       recovers_begin (g.U.UtilityWithStatus.action c.args.utility.now).rule w m (λ u. in_turn (operand_steps (g.U.UtilityWithStatus.action c.args.utility.now) i) u c.args.operands.now) _ (setting g.I.Source g.O.Sink g.E.Sink g.D.Disk c.args.streams.now).stage c.idle_status-status.ensures shows;
@@ -49,10 +49,10 @@ returns-in_err-one-clause-run g c =
           (setting g.I.Source g.O.Sink g.E.Sink g.D.Disk c.args.streams.now).stage (setting g.I.Source g.O.Sink g.E.Sink g.D.Disk c.loop-operand.streams).stage (setting g.I.Source g.O.Sink g.E.Sink g.D.Disk c.run_operand.new.streams).stage m past
           (c.bytes.ensures ∙ c.operand-item.is) c.loop-operand-test.true clear safe (c.loop-operand.invariant.stops w folder i m past spares clear shows given is calm safe)
           (λ u m past clear shows is calm safe. c.in_err-one.ensures.run.stops w u i m past spares clear shows (heard_at (g.U.UtilityWithStatus.action c.args.utility.now) c.args.operands.now c.loop-operand.operand-index c.operand-item.result c.bytes.result.now (g.I.Source.left c.args.streams.now.input.now) (g.I.Source.left c.loop-operand.streams.input.now) i (c.bytes.ensures ∙ c.operand-item.is) c.loop-operand-test.true given.0 (c.loop-operand.invariant.left given.1 c.loop-operand-test.true)) is calm safe);
-      unlocked = λ w m i spares clear shows given locks plain.
-          next_unlocked (g.U.UtilityWithStatus.action c.args.utility.now) w m (operand_steps (g.U.UtilityWithStatus.action c.args.utility.now) i) c.args.operands.now c.loop-operand.operand-index c.loop-operand.status c.operand-item.result c.bytes.result.now _ (shown (setting g.I.Source g.O.Sink g.E.Sink g.D.Disk c.loop-operand.streams).stage) _ _ _
-          (c.bytes.ensures ∙ c.operand-item.is) c.loop-operand-test.true refl clear (c.loop-operand.invariant.so_far w m i spares clear shows given) plain (c.loop-operand.invariant.unlocked w m i spares clear shows given locks plain)
-          (λ u clear shows plain. c.in_err-one.ensures.run.unlocked w u i spares clear shows (heard_at (g.U.UtilityWithStatus.action c.args.utility.now) c.args.operands.now c.loop-operand.operand-index c.operand-item.result c.bytes.result.now (g.I.Source.left c.args.streams.now.input.now) (g.I.Source.left c.loop-operand.streams.input.now) i (c.bytes.ensures ∙ c.operand-item.is) c.loop-operand-test.true given.0 (c.loop-operand.invariant.left given.1 c.loop-operand-test.true)) locks plain);
+      unlocked = λ w m i spares clear shows given exempt plain are.
+          next_unlocked (g.U.UtilityWithStatus.action c.args.utility.now) w m (operand_steps (g.U.UtilityWithStatus.action c.args.utility.now) i) c.args.operands.now c.loop-operand.operand-index c.loop-operand.status c.operand-item.result c.bytes.result.now _ (shown (setting g.I.Source g.O.Sink g.E.Sink g.D.Disk c.loop-operand.streams).stage) _ _ _ exempt
+          (c.bytes.ensures ∙ c.operand-item.is) c.loop-operand-test.true refl clear (c.loop-operand.invariant.so_far w m i spares clear shows given) plain are (c.loop-operand.invariant.unlocked w m i spares clear shows given exempt plain are)
+          (λ u clear shows plain are. c.in_err-one.ensures.run.unlocked w u i spares clear shows (heard_at (g.U.UtilityWithStatus.action c.args.utility.now) c.args.operands.now c.loop-operand.operand-index c.operand-item.result c.bytes.result.now (g.I.Source.left c.args.streams.now.input.now) (g.I.Source.left c.loop-operand.streams.input.now) i (c.bytes.ensures ∙ c.operand-item.is) c.loop-operand-test.true given.0 (c.loop-operand.invariant.left given.1 c.loop-operand-test.true)) exempt plain are);
       recovers = λ never.
           recovers_early (g.U.UtilityWithStatus.action c.args.utility.now) (λ m i. steps_at (g.U.UtilityWithStatus.action c.args.utility.now) m i c.args.operands.now) (λ m i. operand_steps (g.U.UtilityWithStatus.action c.args.utility.now) i m c.bytes.result.now) (IsInput (g.U.UtilityWithStatus.action c.args.utility.now) c.args.operands.now (g.I.Source.left c.args.streams.now.input.now)) (IsHeard (kind_hears (g.U.UtilityWithStatus.action c.args.utility.now).takes (kind_of (g.U.UtilityWithStatus.action c.args.utility.now).takes c.bytes.result.now)) (g.I.Source.left c.loop-operand.streams.input.now)) c.in_err-one.field-0.0 (setting g.I.Source g.O.Sink g.E.Sink g.D.Disk c.args.streams.now).stage.told (setting g.I.Source g.O.Sink g.E.Sink g.D.Disk c.loop-operand.streams).stage.told (setting g.I.Source g.O.Sink g.E.Sink g.D.Disk c.run_operand.new.streams).stage.told (c.loop-operand.invariant.firm never) (c.in_err-one.ensures.run.recovers never);
       speaks =
@@ -83,10 +83,10 @@ loop-operand-preserved g c = record {
       (setting g.I.Source g.O.Sink g.E.Sink g.D.Disk c.args.streams.now).stage (setting g.I.Source g.O.Sink g.E.Sink g.D.Disk c.loop-operand.streams).stage (setting g.I.Source g.O.Sink g.E.Sink g.D.Disk c.run_operand.new.streams).stage m past
       (c.bytes.ensures ∙ c.operand-item.is) c.loop-operand-test.true clear safe (c.loop-operand.invariant.stops w folder i m past spares clear shows given is calm safe) (λ u clear shows. c.in_ok-one.ensures.run.steps w u i spares clear shows (heard_at (g.U.UtilityWithStatus.action c.args.utility.now) c.args.operands.now c.loop-operand.operand-index c.operand-item.result c.bytes.result.now (g.I.Source.left c.args.streams.now.input.now) (g.I.Source.left c.loop-operand.streams.input.now) i (c.bytes.ensures ∙ c.operand-item.is) c.loop-operand-test.true given.0 (c.loop-operand.invariant.left given.1 c.loop-operand-test.true)))
       (λ u m past clear shows is calm safe. c.in_ok-one.ensures.run.stops w u i m past spares clear shows (heard_at (g.U.UtilityWithStatus.action c.args.utility.now) c.args.operands.now c.loop-operand.operand-index c.operand-item.result c.bytes.result.now (g.I.Source.left c.args.streams.now.input.now) (g.I.Source.left c.loop-operand.streams.input.now) i (c.bytes.ensures ∙ c.operand-item.is) c.loop-operand-test.true given.0 (c.loop-operand.invariant.left given.1 c.loop-operand-test.true)) is calm safe));
-  unlocked = λ w m i spares clear shows given locks plain.
-      next_unlocked (g.U.UtilityWithStatus.action c.args.utility.now) w m (operand_steps (g.U.UtilityWithStatus.action c.args.utility.now) i) c.args.operands.now c.loop-operand.operand-index c.loop-operand.status c.operand-item.result c.bytes.result.now _ (shown (setting g.I.Source g.O.Sink g.E.Sink g.D.Disk c.loop-operand.streams).stage) _ _ _
-      (c.bytes.ensures ∙ c.operand-item.is) c.loop-operand-test.true refl clear (c.loop-operand.invariant.so_far w m i spares clear shows given) plain (c.loop-operand.invariant.unlocked w m i spares clear shows given locks plain)
-      (λ u clear shows plain. c.in_ok-one.ensures.run.unlocked w u i spares clear shows (heard_at (g.U.UtilityWithStatus.action c.args.utility.now) c.args.operands.now c.loop-operand.operand-index c.operand-item.result c.bytes.result.now (g.I.Source.left c.args.streams.now.input.now) (g.I.Source.left c.loop-operand.streams.input.now) i (c.bytes.ensures ∙ c.operand-item.is) c.loop-operand-test.true given.0 (c.loop-operand.invariant.left given.1 c.loop-operand-test.true)) locks plain);
+  unlocked = λ w m i spares clear shows given exempt plain are.
+      next_unlocked (g.U.UtilityWithStatus.action c.args.utility.now) w m (operand_steps (g.U.UtilityWithStatus.action c.args.utility.now) i) c.args.operands.now c.loop-operand.operand-index c.loop-operand.status c.operand-item.result c.bytes.result.now _ (shown (setting g.I.Source g.O.Sink g.E.Sink g.D.Disk c.loop-operand.streams).stage) _ _ _ exempt
+      (c.bytes.ensures ∙ c.operand-item.is) c.loop-operand-test.true refl clear (c.loop-operand.invariant.so_far w m i spares clear shows given) plain are (c.loop-operand.invariant.unlocked w m i spares clear shows given exempt plain are)
+      (λ u clear shows plain are. c.in_ok-one.ensures.run.unlocked w u i spares clear shows (heard_at (g.U.UtilityWithStatus.action c.args.utility.now) c.args.operands.now c.loop-operand.operand-index c.operand-item.result c.bytes.result.now (g.I.Source.left c.args.streams.now.input.now) (g.I.Source.left c.loop-operand.streams.input.now) i (c.bytes.ensures ∙ c.operand-item.is) c.loop-operand-test.true given.0 (c.loop-operand.invariant.left given.1 c.loop-operand-test.true)) exempt plain are);
   firm = λ never. firm_on (g.U.UtilityWithStatus.action c.args.utility.now) (λ m i. operand_steps (g.U.UtilityWithStatus.action c.args.utility.now) i m c.bytes.result.now) (IsHeard (kind_hears (g.U.UtilityWithStatus.action c.args.utility.now).takes (kind_of (g.U.UtilityWithStatus.action c.args.utility.now).takes c.bytes.result.now)) (g.I.Source.left c.loop-operand.streams.input.now)) c.in_ok-one.one (setting g.I.Source g.O.Sink g.E.Sink g.D.Disk c.args.streams.now).stage.told (setting g.I.Source g.O.Sink g.E.Sink g.D.Disk c.loop-operand.streams).stage.told (setting g.I.Source g.O.Sink g.E.Sink g.D.Disk c.run_operand.new.streams).stage.told (c.loop-operand.invariant.firm never) (c.in_ok-one.ensures.run.recovers never);
   recovered = λ w m i spares clear shows given never.
       subst (λ status. RecoversSoFar (g.U.UtilityWithStatus.action c.args.utility.now).rule w m (in_turn (operand_steps (g.U.UtilityWithStatus.action c.args.utility.now) i) m c.args.operands.now) (λ u. in_turn (operand_steps (g.U.UtilityWithStatus.action c.args.utility.now) i) u (drop (c.loop-operand.operand-index + 1) c.args.operands.now)) status (setting g.I.Source g.O.Sink g.E.Sink g.D.Disk c.args.streams.now).stage (setting g.I.Source g.O.Sink g.E.Sink g.D.Disk c.run_operand.new.streams).stage) (sym c.joined_status-status.ensures)
@@ -116,7 +116,7 @@ returns-clause-run g c = record {
   stops = λ w folder i m past spares clear shows given is calm safe.
       stops_end (g.U.UtilityWithStatus.action c.args.utility.now) w folder (operand_steps (g.U.UtilityWithStatus.action c.args.utility.now) i) c.args.operands.now c.loop-operand.operand-index c.loop-operand.status (setting g.I.Source g.O.Sink g.E.Sink g.D.Disk c.args.streams.now).stage (setting g.I.Source g.O.Sink g.E.Sink g.D.Disk c.loop-operand.streams).stage m past
       c.loop-operand-test.false (c.loop-operand.invariant.stops w folder i m past spares clear shows given is calm safe);
-  unlocked = λ w m i spares clear shows given locks plain. c.loop-operand.invariant.unlocked w m i spares clear shows given locks plain;
+  unlocked = λ w m i spares clear shows given exempt plain are. c.loop-operand.invariant.unlocked w m i spares clear shows given exempt plain are;
   recovers = λ never.
       recovers_end (g.U.UtilityWithStatus.action c.args.utility.now) (operand_steps (g.U.UtilityWithStatus.action c.args.utility.now)) (IsInput (g.U.UtilityWithStatus.action c.args.utility.now) c.args.operands.now (g.I.Source.left c.args.streams.now.input.now)) c.args.operands.now c.loop-operand.operand-index c.loop-operand.status (setting g.I.Source g.O.Sink g.E.Sink g.D.Disk c.args.streams.now).stage (setting g.I.Source g.O.Sink g.E.Sink g.D.Disk c.loop-operand.streams).stage c.loop-operand-test.false (c.loop-operand.invariant.firm never) (λ w m i spares clear shows given. c.loop-operand.invariant.recovered w m i spares clear shows given never);
   speaks = spoke_ends (g.U.UtilityWithStatus.action c.args.utility.now).rule (OperandMakes (g.U.UtilityWithStatus.action c.args.utility.now)) (OperandBegins (g.U.UtilityWithStatus.action c.args.utility.now)) c.args.operands.now c.loop-operand.operand-index c.loop-operand.status _ _ c.loop-operand-test.false c.loop-operand.invariant.said;

@@ -3,7 +3,7 @@ use Rattle.sccs_disk.specs.Files.{Folder, Model, view_in}
 use Rattle.sccs_disk.specs.Told.{Tells, seen}
 use Rattle.sccs_files.specs.StepFiles.{Shows}
 use Rattle.sccs_moments.specs.Calm.{IsCalm}
-use Rattle.sccs_moments.specs.Unlocked.{BeginsUnlocked}
+use Rattle.sccs_moments.specs.Unlocked.{BeginsUnlockedBut}
 use Rattle.sccs_steps.specs.Actions.{AreClear, IsLone, hears, operand_steps, steps_at}
 use Rattle.sccs_steps.specs.Calls.{shown}
 use Rattle.sccs_steps.specs.ListStops.{AreSafe, Spares}
@@ -11,7 +11,7 @@ use Rattle.sccs_steps.specs.Running.{IsInput}
 use Rattle.sccs_steps.specs.Settings.{SameLoans, setting}
 use Rattle.sccs_steps.specs.Speaking.{OperandMakes}
 use Rattle.sccs_steps.specs.StepLists.{SoFar, in_turn}
-use Rattle.sccs_steps.specs.Unlocked.{ArePlain}
+use Rattle.sccs_steps.specs.Unlocked.{AreExempt, ArePlain}
 use Rattle.sccs_steps.proofs.RecoveringSteps.{RecoversSoFar, StaysFirm}
 use Rattle.sccs_steps.proofs.Turns.{SpokeSoFar}
 use Rattle.sccs_steps.proofs.TurnStops.{StopsSoFar}
@@ -30,7 +30,7 @@ invariant-loop-operand g l = record {
       → StopsSoFar (g.U.UtilityWithStatus.action l.utility) w folder (steps_at (g.U.UtilityWithStatus.action l.utility) folder i l.operands) (λ u. steps_at (g.U.UtilityWithStatus.action l.utility) u i (drop l.operand-index l.operands)) l.status
       (setting g.I.Source g.O.Sink g.E.Sink g.D.Disk l.fn.streams).stage (setting g.I.Source g.O.Sink g.E.Sink g.D.Disk l.streams).stage m past;
   unlocked : (w : List ℕ → Bool) (m : Folder) (i : List ℕ) → Spares w → AreClear (g.U.UtilityWithStatus.action l.utility) w (steps_at (g.U.UtilityWithStatus.action l.utility) m i l.operands) → Shows w (seen (g.D.Disk.told l.fn.streams.disk.now)) (view_in m)
-      → IsInput (g.U.UtilityWithStatus.action l.utility) l.operands (g.I.Source.left l.fn.streams.input.now) i → (g.U.UtilityWithStatus.action l.utility).locks ≡ true → ArePlain (g.U.UtilityWithStatus.action l.utility) (steps_at (g.U.UtilityWithStatus.action l.utility) m i l.operands) → BeginsUnlocked (g.D.Disk.told l.fn.streams.disk.now) (g.D.Disk.told l.streams.disk.now);
+      → IsInput (g.U.UtilityWithStatus.action l.utility) l.operands (g.I.Source.left l.fn.streams.input.now) i → (exempt : List ℕ → Bool) → ArePlain (g.U.UtilityWithStatus.action l.utility) (steps_at (g.U.UtilityWithStatus.action l.utility) m i l.operands) → AreExempt (g.U.UtilityWithStatus.action l.utility) exempt (steps_at (g.U.UtilityWithStatus.action l.utility) m i l.operands) → BeginsUnlockedBut exempt (g.D.Disk.told l.fn.streams.disk.now) (g.D.Disk.told l.streams.disk.now);
   firm : (g.U.UtilityWithStatus.action l.utility).locks ≡ false → StaysFirm (g.D.Disk.told l.fn.streams.disk.now) (g.D.Disk.told l.streams.disk.now);
   recovered : (w : List ℕ → Bool) (m : Folder) (i : List ℕ) → Spares w → AreClear (g.U.UtilityWithStatus.action l.utility) w (steps_at (g.U.UtilityWithStatus.action l.utility) m i l.operands) → Shows w (seen (g.D.Disk.told l.fn.streams.disk.now)) (view_in m)
       → IsInput (g.U.UtilityWithStatus.action l.utility) l.operands (g.I.Source.left l.fn.streams.input.now) i → (g.U.UtilityWithStatus.action l.utility).locks ≡ false

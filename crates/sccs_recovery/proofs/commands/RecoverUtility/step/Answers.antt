@@ -47,3 +47,9 @@ returns-in-Err-clause-recovers g c = λ never.
     fault_recovers c.in-Err.fault c.args.name.now (g.D.Disk.told c.args.disk.now) (g.D.Disk.told c.recover.new.disk)
     (faults_of c.args.name.now c.in-Err.fault (g.D.Disk.told c.args.disk.now) (g.D.Disk.told c.recover.new.disk) _ _ c.in-Err.ensures.checks c.in-Err.ensures.ends)
     c.recover.ensures.ends.story c.recover.ensures.ends.firm c.in-Err.ensures.ends.touches
+
+pub returns-in-Ok-clause-others : goal.returns-in-Ok-clause-others
+returns-in-Ok-clause-others g c = λ never. c.recover.ensures.ends.others
+
+pub returns-in-Err-clause-others : goal.returns-in-Err-clause-others
+returns-in-Err-clause-others g c = λ never. c.recover.ensures.ends.others
