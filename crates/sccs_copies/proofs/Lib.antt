@@ -6,3 +6,4 @@ pub mod ComingItems
 pub mod CopyLaws
 pub mod FilterLaws
 pub mod SplicingLaws
+pub mod TextRuns

@@ -139,6 +139,11 @@ pub record CopiesWhole {F : Type 0} (filter : Filter F) (items : List Item) (f2 
   pub stands : filter.stands f2 after
   pub output_is : filter.output f2 after [] ≡ Some rest
 
+-- some of the output was put; of a told file only the disk or memory can keep it from that
+abbrev pub CopiesTexts : {F : Type 0} → Filter F → List ℕ → List Item → Copying F → Copying F → Writer → Writer → Told → Told → Result (Unit {0}) FileFault → Type 0
+CopiesTexts filter file items c c2 w w2 old new (Ok done) = CopiesSome filter file items c c2 w w2 old new
+CopiesTexts filter file items c c2 w w2 old new (Err fault) = IsOuterFault fault
+
 -- the next item, or the end
 abbrev pub CopiesNext : {F : Type 0} → Filter F → List ℕ → List Item → Copying F → Copying F → Writer → Writer → Told → Told → Result Bool FileFault → Type 0
 CopiesNext filter file items c c2 w w2 old new (Ok true) = CopiesSome filter file items c c2 w w2 old new

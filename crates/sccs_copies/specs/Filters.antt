@@ -1,8 +1,10 @@
 -- What a filter makes of the items of a body, on their way from a reader to a writer.
-use Rattle.std.specs.Prelude.{◌≡◌, ℕ, Bool, List, [], ◌∷◌, ◌++◌, Option, None, Some, option_map, Result, IfOk, OnOk, if◌then◌else◌}
+use Rattle.std.specs.Prelude.{◌≡◌, ℕ, Bool, List, [], ◌∷◌, ◌++◌, map, Option, None, Some, option_map, Result, IfOk, OnOk, if◌then◌else◌}
 use Rattle.sccs_disk.specs.Told.{Told}
 use Rattle.sccs_disk.specs.declared.disks.DiskRefusal.{DiskRefusal}
 use Rattle.sccs_history.specs.declared.headers.Item.{Item}
+use Rattle.sccs_history.specs.declared.headers.Item.TheVariants.{Text}
+use Rattle.sccs_body.specs.ItemsRead.{texts_behind}
 use Rattle.sccs_writers.specs.Puts.{PutsText, Writer}
 use Rattle.sccs_writers.specs.Spelled.{spelled}
 
@@ -26,6 +28,11 @@ pub record TakesItem {F T : Type 0} (filter : Filter F) (item : Item) (f f2 : F)
   pub items : List Item
   pub puts : PutsText (spelled items) w w2 old new faults faults_after result
   pub filters : OnOk result ((before : List Item) → filter.stands f before → Filters filter before (item ∷ before) (item ∷ []) items f f2)
+
+-- Text lines that stand together come next, and the filter stays as it is: all of them are put, or none.
+abbrev pub PassesTexts : {F : Type 0} → Filter F → F → Bool → Type 0
+PassesTexts filter f puts = (before : List Item) (lines : List (List ℕ)) → filter.stands f before
+    → Filters filter before (texts_behind lines before) (map Text lines) (if puts then map Text lines else []) f f
 
 -- A call behind the last item: what is left is put; false where the filter refuses the body.
 pub record Finishes {F : Type 0} (filter : Filter F) (f : F) (w w2 : Writer) (old new : Told) (faults faults_after : ℕ) (result : Result Bool DiskRefusal) : Type 0 where

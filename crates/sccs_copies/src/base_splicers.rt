@@ -76,6 +76,10 @@ impl BodyFilter for BaseSplicer {
         self.splicer.push(item, visible, out, disk)
     }
 
+    fn passes_texts(&self) -> Option<bool> {
+        None
+    }
+
     fn finish<D: Disk>(&mut self, out: &mut ItemWriter, disk: &mut D) -> Result<bool, DiskRefusal> {
         if self.splicer.line() != self.lines {
             return Ok(false);

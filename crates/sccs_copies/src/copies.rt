@@ -1,4 +1,4 @@
-ghost use Rattle.std.specs.Prelude.{◌≡◌, ◌<◌, ℕ, List, [], true, Some, Ok, IfOk, IfSome, OnOk};
+ghost use Rattle.std.specs.Prelude.{◌≡◌, ◌<◌, ◌≤◌, ℕ, List, [], true, Some, Ok, IfOk, IfSome, OnOk, if◌then◌else◌};
 ghost use Rattle.sccs_disk.specs.Calls.{IsThere};
 ghost use Rattle.sccs_disk.specs.Told.{seen};
 ghost use Rattle.sccs_history.specs.Applied.{live_serials};
@@ -8,9 +8,9 @@ ghost use Rattle.sccs_body.specs.BodyFile.{items_of};
 ghost use Rattle.sccs_body.specs.ItemsRead.{IsBehind};
 ghost use Rattle.sccs_body.specs.Reader.{bytes_left, name_read};
 ghost use Rattle.sccs_body.specs.ToCome.{IsFrontFor, ToCome};
-ghost use Rattle.sccs_writers.specs.Puts.{Puts};
+ghost use Rattle.sccs_writers.specs.Puts.{Puts, PutsText};
 ghost use Rattle.sccs_writers.specs.Spelled.{spelled};
-ghost use Rattle.sccs_copies.specs.Copies.{CanCopy, CopiesAll, CopiesBody, CopiesItem, CopiesNext, CopyComes, IsBegun, OfSomeBody, PutsItems, PutsSome, as_file_fault};
+ghost use Rattle.sccs_copies.specs.Copies.{CanCopy, CopiesAll, CopiesBody, CopiesItem, CopiesNext, CopiesOn, CopiesTexts, CopyComes, IsBegun, OfSomeBody, PutsItems, PutsSome, as_file_fault};
 ghost use Rattle.sccs_copies.specs.Filters.{Finishes};
 
 use crate::filters::BodyFilter;
@@ -58,8 +58,56 @@ pub(crate) fn file_fault(refusal: DiskRefusal) -> FileFault
     }
 }
 
+// puts text lines that stand together, where they are wanted
+fn put_texts<D: Disk>(
+    wanted: bool,
+    texts: &[u8],
+    out: &mut ItemWriter,
+    disk: &mut D,
+) -> Result<(), DiskRefusal>
+    requires { IsThere out.old.name (D.told disk.old) }
+    ensures { PutsText (if wanted then texts.now else []) out.old out.new (D.told disk.old) (D.told disk.new)
+        (D.faults disk.old) (D.faults disk.new) result }
+{
+    if wanted {
+        out.put_text(disk, texts)
+    } else {
+        Ok(())
+    }
+}
+
+// copies the text lines that are held whole, where the filter takes them together
+fn copy_texts<F: BodyFilter, D: Disk>(
+    copying: &mut Copying<F>,
+    out: &mut ItemWriter,
+    disk: &mut D,
+) -> Result<(), FileFault>
+    requires { IsThere out.old.name (D.told disk.old) }
+    ensures puts { PutsSome out.old out.new (D.told disk.old) (D.told disk.new) (D.faults disk.old) (D.faults disk.new) result }
+    ensures read { name_read copying.new.items ≡ name_read copying.old.items }
+    ensures left { bytes_left copying.new.items ≤ bytes_left copying.old.items }
+    ensures goes { (live : List ℕ) (before : List Item) → IsBehind live before copying.old.items → F.filter.stands copying.old.filter before
+        → OnOk result (CopiesOn F.filter live before copying.old copying.new out.old out.new (D.told disk.old) (D.told disk.new)) }
+    ensures told { (file : List ℕ) (items : List Item) → CopyComes F.filter file items copying.old
+        → CopiesTexts F.filter file items copying.old copying.new out.old out.new (D.told disk.old) (D.told disk.new) result }
+{
+    let Some(wanted) = copying.filter.passes_texts() else {
+        return Ok(());
+    };
+    let texts = copying.items.texts();
+    let count = texts.len();
+    match put_texts(wanted, texts, out, disk) {
+        Ok(()) => {}
+        Err(refusal) => return Err(file_fault(refusal)),
+    }
+    let lines = copying.items.lines_held(count);
+    copying.items.pass(count);
+    copying.line = copying.line.saturating_add(lines);
+    Ok(())
+}
+
 // copies the next item; false at the end of the body
-fn copy_next<F: BodyFilter, D: Disk>(
+fn copy_item<F: BodyFilter, D: Disk>(
     copying: &mut Copying<F>,
     out: &mut ItemWriter,
     disk: &mut D,
@@ -81,6 +129,28 @@ fn copy_next<F: BodyFilter, D: Disk>(
     match copying.filter.push(&item, out, disk) {
         Ok(()) => Ok(true),
         Err(refusal) => Err(file_fault(refusal)),
+    }
+}
+
+// copies the text lines that are held whole, and then the next item; false at the end of the body
+fn copy_next<F: BodyFilter, D: Disk>(
+    copying: &mut Copying<F>,
+    out: &mut ItemWriter,
+    disk: &mut D,
+) -> Result<bool, FileFault>
+    requires { CanCopy copying.old out.old.name (D.told disk.old) }
+    ensures puts { PutsSome out.old out.new (D.told disk.old) (D.told disk.new) (D.faults disk.old) (D.faults disk.new) result }
+    ensures read { name_read copying.new.items ≡ name_read copying.old.items }
+    ensures further { IfOk result (λ more. more ≡ true → bytes_left copying.new.items < bytes_left copying.old.items) }
+    ensures goes { (live : List ℕ) (before : List Item) → IsBehind live before copying.old.items → F.filter.stands copying.old.filter before
+        → CopiesItem F.filter live before copying.old copying.new out.old out.new (D.told disk.old) (D.told disk.new) result }
+    ensures told { (file : List ℕ) (items : List Item) → bytes_in (seen (D.told disk.old)) (name_read copying.old.items) ≡ Some file
+        → CopyComes F.filter file items copying.old
+        → CopiesNext F.filter file items copying.old copying.new out.old out.new (D.told disk.old) (D.told disk.new) result }
+{
+    match copy_texts(copying, out, disk) {
+        Ok(()) => copy_item(copying, out, disk),
+        Err(fault) => Err(fault),
     }
 }
 

@@ -1,6 +1,6 @@
-ghost use Rattle.std.specs.Prelude.{Some};
+ghost use Rattle.std.specs.Prelude.{Some, IfSome};
 ghost use Rattle.sccs_disk.specs.Calls.{IsThere};
-ghost use Rattle.sccs_copies.specs.Filters.{Filter, Finishes, TakesItem};
+ghost use Rattle.sccs_copies.specs.Filters.{Filter, Finishes, PassesTexts, TakesItem};
 
 use sccs_disk::{Disk, DiskRefusal};
 use sccs_history::Item;
@@ -22,6 +22,11 @@ pub trait BodyFilter {
         requires { IsThere out.old.name (D.told disk.old) }
         ensures { TakesItem filter item.now self.old self.new out.old out.new (D.told disk.old) (D.told disk.new)
             (D.faults disk.old) (D.faults disk.new) result };
+
+    /// What becomes of text lines that stand together and come next: all are put, or none; None where each is
+    /// asked about by itself.
+    fn passes_texts(&self) -> Option<bool>
+        ensures { IfSome result (PassesTexts filter self.now) };
 
     /// Puts what is left behind the last item; false where the body isn't the one that was asked for.
     fn finish<D: Disk>(&mut self, out: &mut ItemWriter, disk: &mut D) -> Result<bool, DiskRefusal>
@@ -46,6 +51,10 @@ impl BodyFilter for Identity {
         disk: &mut D,
     ) -> Result<(), DiskRefusal> {
         out.put(disk, item)
+    }
+
+    fn passes_texts(&self) -> Option<bool> {
+        Some(true)
     }
 
     fn finish<D: Disk>(

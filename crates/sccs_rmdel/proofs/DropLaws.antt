@@ -1,16 +1,19 @@
 -- The dropper as a filter.
-use Rattle.std.proofs.Common.{◌≡◌, ℕ, Bool, true, false, List, [], ◌∷◌, ◌++◌, Some, Result, Ok, Err, OnOk, refl, sym, ap, subst, ◌∙◌}
+use Rattle.std.specs.Prelude.{◌==◌, if◌then◌else◌, not}
+use Rattle.std.proofs.Common.{◌≡◌, ℕ, Bool, true, false, List, [], ◌∷◌, ◌++◌, map, Some, Result, Ok, Err, OnOk, refl, sym, ap, subst, ◌∙◌}
 use Rattle.sccs_disk.specs.Told.{Told}
 use Rattle.sccs_disk.specs.declared.disks.DiskRefusal.{DiskRefusal}
 use Rattle.sccs_history.specs.Numbers.{front_if}
+use Rattle.sccs_history.specs.Body.{inserter}
 use Rattle.sccs_history.specs.Removal.{dropped_behind}
 use Rattle.sccs_history.specs.declared.headers.Item.{Item}
 use Rattle.sccs_history.specs.declared.headers.Item.TheVariants.{Text, Insert, Delete, End}
+use Rattle.sccs_body.specs.ItemsRead.{texts_behind}
 use Rattle.sccs_weave.specs.Regions.{Opens}
 use Rattle.sccs_weave.specs.declared.regions.Region.{Region}
 use Rattle.sccs_writers.specs.Puts.{PutsText, Writer}
 use Rattle.sccs_writers.specs.Spelled.{spelled}
-use Rattle.sccs_copies.specs.Filters.{Finishes, TakesItem}
+use Rattle.sccs_copies.specs.Filters.{Finishes, PassesTexts, TakesItem}
 use Rattle.sccs_copies.proofs.SplicingLaws.{nothing_put}
 use Rattle.sccs_rmdel.specs.Dropping.{dropping, stays}
 use Rattle.sccs_rmdel.specs.declared.droppers.Dropper.{Dropper}
@@ -43,6 +46,28 @@ drop_takes d regions2 item wanted w w2 a c f g r take same puts = record {
         (alone wanted item (dropped_behind d.serial (item ∷ before) rest)
         ∙ (ap (λ t. front_if t item (dropped_behind d.serial (item ∷ before) rest)) (same before opens) ∙ sym (first_item d.serial before item rest)));
   });
+}
+
+-- lines that stand together stay, or none does
+dropped_texts : (n : ℕ) (wanted : Bool) (before : List Item) (lines : List (List ℕ)) (rest : List Item) → wanted ≡ not (inserter before == n)
+    → (if wanted then map Text lines else []) ++ dropped_behind n (texts_behind lines before) rest ≡ dropped_behind n before (map Text lines ++ rest)
+dropped_texts n true before [] rest is = refl
+dropped_texts n false before [] rest is = refl
+dropped_texts n true before (line ∷ lines) rest is =
+    ap (λ (l : List Item). Text line ∷ l) (dropped_texts n true (Text line ∷ before) lines rest is)
+    ∙ ap (λ t. front_if t (Text line) (dropped_behind n (Text line ∷ before) (map Text lines ++ rest))) is
+dropped_texts n false before (line ∷ lines) rest is =
+    dropped_texts n false (Text line ∷ before) lines rest is
+    ∙ ap (λ t. front_if t (Text line) (dropped_behind n (Text line ∷ before) (map Text lines ++ rest))) is
+
+opens_texts : (lines : List (List ℕ)) (before : List Item) (w : List Region) → Opens before w → Opens (texts_behind lines before) w
+opens_texts [] before w opens = opens
+opens_texts (line ∷ lines) before w opens = opens_texts lines (Text line ∷ before) w opens
+
+pub drop_texts : (d : Dropper) (wanted : Bool) → ((before : List Item) → Opens before d.weaver → wanted ≡ not (inserter before == d.serial)) → PassesTexts dropping d wanted
+drop_texts d wanted same before lines opens = record {
+  behind = opens_texts lines before d.weaver opens;
+  goes = λ rest. ap (λ (l : List Item). Some l) (dropped_texts d.serial wanted before lines rest (same before opens));
 }
 
 -- nothing is left behind the last item

@@ -70,6 +70,10 @@ impl BodyFilter for Dropper {
         put_if(wanted, item, out, disk)
     }
 
+    fn passes_texts(&self) -> Option<bool> {
+        Some(self.weaver.inserter() != self.serial)
+    }
+
     fn finish<D: Disk>(
         &mut self,
         _out: &mut ItemWriter,
