@@ -63,6 +63,7 @@ explain_number() {
     27) helps "no flag has that letter, or not with that text: sccsfile(5) lists them" ;;
     28) helps "the flag v asks for MR numbers: give them by -m" ;;
     29) helps "without the flag v a file takes no MR numbers: leave -m away" ;;
+    30) helps "the flag's text names a program or a keyword, which isn't looked at here: set the flag without a text" ;;
     31) helps "other versions rest on that one, or it is the first: take back the newer ones first" ;;
     32) helps "only who made that version, or who made the file, may take it back" ;;
     33) helps "no further number is left in this release; begin another by get -e -r" ;;

@@ -1,6 +1,7 @@
 pub mod BodyLaws
 pub mod HeaderRules
 pub mod PrepareLaws
+pub mod RuleLaws
 pub mod StepLaws
 pub mod TextLaws
 pub mod WritingLaws

@@ -1,5 +1,5 @@
 -- A new s-file is read as it was made, and its version is its text.
-use Rattle.std.proofs.Common.{◌≡◌, ◌≢◌, ℕ, suc, ◌+◌, ◌/◌, ◌%◌, ◌==◌, Bool, true, false, cond, List, [], ◌∷◌, ◌++◌, map, Option, None, Some, IfSome, Ok, refl, ap, ◌∙◌, arith}
+use Rattle.std.proofs.Common.{◌≡◌, ◌≢◌, ℕ, suc, ◌+◌, ◌/◌, ◌%◌, ◌==◌, Bool, true, false, cond, List, [], ◌∷◌, ◌++◌, map, Option, None, Some, IfSome, Ok, refl, sym, subst, ap, ◌∙◌, arith}
 use Rattle.std.specs.Prelude.{not, ◌&&◌, ◌||◌, codes, unwrap_or}
 use Rattle.std.specs.List.{All, AllByRecursion}
 use Rattle.std.proofs.lemmas.List.Elements.{All-append, All-cons, All-nil}
@@ -22,15 +22,24 @@ use Rattle.sccs_tokens.specs.Written.{HasLines, IsItem, canonical}
 use Rattle.sccs_grammar.proofs.CanonicalLaws.{canonical_again}
 use Rattle.sccs_script.specs.Checks.{bad_line}
 use Rattle.sccs_words.specs.declared.commands.AdminWords.{AdminWords}
-use Rattle.sccs_admin.specs.NewFiles.{comment_lines, made_by, new_header, new_items}
+use Rattle.sccs_history.specs.declared.headers.Header.{Header}
+use Rattle.sccs_rules.specs.Flags.{changed_flags}
+use Rattle.sccs_rules.specs.Rules.{with_rules}
+use Rattle.sccs_rules.specs.Users.{changed_users}
+use Rattle.sccs_rules.proofs.FlagRules.{header_kept, spelled_kept}
+use Rattle.sccs_admin.specs.NewFiles.{comment_lines, first_header, made_by, new_header, new_items}
 use Rattle.sccs_admin.specs.AdminStep.{AreAdminValues}
 use Rattle.sccs_admin.proofs.HeaderRules.{first_sid_is}
-use Rattle.sccs_admin.specs.Texts.{count_lines, counted}
+use Rattle.sccs_admin.specs.Parts.{AreRules}
+use Rattle.sccs_admin.specs.Rules.{new_rules}
+use Rattle.sccs_admin.specs.declared.finding.NewTexts.{NewTexts}
+use Rattle.sccs_admin.specs.declared.rules.NewRules.{NewRules}
+use Rattle.sccs_admin.proofs.RuleLaws.{HasRules, described_bare, none_bad, rules_are, rules_hold}
 
 -- ---- the header
 
-header_rules : (words : AdminWords) (stamp : Stamp) (count : ℕ) → IsHeader (new_header words stamp count)
-header_rules words stamp count = record {
+first_rules : (words : AdminWords) (stamp : Stamp) (count : ℕ) → IsHeader (first_header words stamp count)
+first_rules words stamp count = record {
   rules = record {
     table = record {
       some = refl;
@@ -104,9 +113,9 @@ comments_are_lines None stamp login lines = (made_line stamp login, tt)
 comments_are_lines (Some []) stamp login lines = (All-nil NoLf, tt)
 comments_are_lines (Some (line ∷ rest)) stamp login lines = lines
 
-header_spelled : (words : AdminWords) (stamp : Stamp) (count : ℕ) → AreAdminValues words stamp → IsLogin stamp.login → IfSome words.comment AreLines → IsSpelled (new_header words stamp count)
-header_spelled words stamp count valid login lines = record {
-  records = (record { sid = first_sid_is words.release (unwrap_or words.release 1) refl valid.release; moment = valid.moment; login = login; mrs = tt; comments = comments_are_lines words.comment stamp login lines }, tt);
+first_spelled : (words : AdminWords) (stamp : Stamp) (count : ℕ) → AreAdminValues words stamp → IsLogin stamp.login → IfSome words.comment AreLines → AreLines words.mrs → IsSpelled (first_header words stamp count)
+first_spelled words stamp count valid login lines mrs = record {
+  records = (record { sid = first_sid_is words.release (unwrap_or words.release 1) refl valid.release; moment = valid.moment; login = login; mrs = mrs; comments = comments_are_lines words.comment stamp login lines }, tt);
   users = tt;
   flags = tt;
   description = tt;
@@ -144,22 +153,37 @@ lines_are_items k (line ∷ lines) is =
     let both = not_bad line k lines (begins 1 line) refl is in
     (both.0, lines_are_items (suc k) lines both.1)
 
-pub none_bad : (lines : List (List ℕ)) (o : Option ℕ) (count : ℕ) → counted lines o ≡ Ok count → o ≡ None
-none_bad lines None count is = refl
-none_bad lines (Some line) count is = absurd (cc)
-
 texts_have_lines : (lines : List (List ℕ)) → All HasNoLf lines → AllByRecursion HasLines (map Text lines ++ End 1 ∷ [])
 texts_have_lines [] all = (tt, tt)
 texts_have_lines (line ∷ lines) all = (all 0 line (omega arith), texts_have_lines lines (λ k d low. all (suc k) d (omega (arith, low))))
 
 -- ---- the laws
 
-pub new_file_again : (words : AdminWords) (stamp : Stamp) (text : List ℕ) (count : ℕ) → AreAdminValues words stamp → IsLogin stamp.login → IfSome words.comment AreLines → count_lines (text_of text) ≡ Ok count → IsSFile (canonical (new_header words stamp count) (new_items (text_of text))) (new_header words stamp count) (new_items (text_of text))
-new_file_again words stamp text count valid login lines is =
-    canonical_again (new_header words stamp count) (new_items (text_of text)) (header_rules words stamp count) (header_spelled words stamp count valid login lines)
-    ((omega arith, omega arith), lines_are_items 0 (text_of text) (none_bad (text_of text) (bad_line 0 (text_of text)) count is))
-    (tt, texts_have_lines (text_of text) (text_fit text))
-    (items_go_on (text_of text))
+-- the first header with users, flags and description keeps the rules and has a spelling
+header_rules : (words : AdminWords) (stamp : Stamp) (texts : NewTexts) (rules : NewRules) → HasRules words texts rules → IsHeader (new_header words stamp rules)
+header_rules words stamp texts rules has =
+    header_kept (first_header words stamp rules.count) words.add words.erase words.set words.unset rules.flags rules.description (first_rules words stamp rules.count) has.flags
+    (described_bare words.description [] rules.description texts.description tt has.description)
+
+pub rules_spelled : (words : AdminWords) (stamp : Stamp) (rules : NewRules) → IsSpelled (first_header words stamp rules.count) → AreRules words rules → IsSpelled (new_header words stamp rules)
+rules_spelled words stamp rules spelled are = spelled_kept (first_header words stamp rules.count) words.add words.erase words.set words.unset rules.flags rules.description spelled are.flags are.description
+
+-- the same of its parts
+pub spelled_as : (words : AdminWords) (stamp : Stamp) (rules : NewRules) (first : Header) (users : List (List ℕ)) → first ≡ first_header words stamp rules.count → IsSpelled first → AreRules words rules → users ≡ changed_users first.users words.add words.erase
+    → IsSpelled (with_rules first users rules.flags rules.description)
+spelled_as words stamp rules first users is spelled are same =
+    subst (λ (us : List (List ℕ)). IsSpelled (with_rules first us rules.flags rules.description)) (sym same)
+    (spelled_kept first words.add words.erase words.set words.unset rules.flags rules.description spelled (subst (λ (h : Header). changed_flags h.flags words.set words.unset ≡ Ok rules.flags) (sym is) are.flags) are.description)
+
+pub new_file_again : (words : AdminWords) (stamp : Stamp) (texts : NewTexts) (rules : NewRules) → AreAdminValues words stamp → IsLogin stamp.login → IfSome words.comment AreLines → AreLines words.mrs → new_rules words texts ≡ Ok rules
+    → IsSFile (canonical (new_header words stamp rules) (new_items (text_of texts.text))) (new_header words stamp rules) (new_items (text_of texts.text))
+new_file_again words stamp texts rules valid login lines mrs is =
+    let has = rules_are words texts rules is in
+    canonical_again (new_header words stamp rules) (new_items (text_of texts.text)) (header_rules words stamp texts rules has)
+    (rules_spelled words stamp rules (first_spelled words stamp rules.count valid login lines mrs) (rules_hold words texts rules is))
+    ((omega arith, omega arith), lines_are_items 0 (text_of texts.text) (none_bad (text_of texts.text) (bad_line 0 (text_of texts.text)) rules.count has.count))
+    (tt, texts_have_lines (text_of texts.text) (text_fit texts.text))
+    (items_go_on (text_of texts.text))
 
 shown_line : (line : List ℕ) (before : List Item) (rest shown : List (List ℕ)) → IsOpen before → rest ≡ shown → front_if (has (1 ∷ []) (inserter before) && not (share (deleters before) (1 ∷ []))) line rest ≡ line ∷ shown
 shown_line line before rest shown is same =

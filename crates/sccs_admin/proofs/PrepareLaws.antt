@@ -25,9 +25,12 @@ use Rattle.sccs_transactions.specs.Changes.{CouldPrepare, IsQuiet, IsReady, IsUn
 use Rattle.sccs_transactions.specs.declared.prepared.Prepared.{Prepared}
 use Rattle.sccs_transactions.proofs.Taken.{x_alone}
 use Rattle.sccs_words.specs.declared.commands.AdminWords.{AdminWords}
-use Rattle.sccs_admin.specs.AdminStep.{AnswersText, FindsText, IsNew, WritesText, admin_change, admin_checks, admin_outcome, found_text, makes}
+use Rattle.sccs_admin.specs.AdminStep.{admin_change, admin_checks, admin_outcome, found_texts, makes, named_in}
 use Rattle.sccs_admin.specs.NewFiles.{new_content}
-use Rattle.sccs_admin.specs.Texts.{count_lines, named_by, or_bad_text}
+use Rattle.sccs_admin.specs.Parts.{AnswersTexts, FindsTexts, IsNew, WritesTexts}
+use Rattle.sccs_admin.specs.Rules.{new_rules}
+use Rattle.sccs_admin.specs.declared.finding.NewTexts.{NewTexts}
+use Rattle.sccs_admin.specs.declared.rules.NewRules.{NewRules}
 
 -- the s-file as it was before the lock
 pub s_unlocked : (n : List ℕ) (v : View) → IsSfile n → unlocked n v n ≡ v n
@@ -36,28 +39,28 @@ s_unlocked n v sfile = put_other v (z_file n) n None (from_s_z n sfile)
     from_s_z : (n : List ℕ) → IsSfile n → bytes_eq (z_file n) n ≡ false
     from_s_z n sfile = from_s 122 n sfile refl
 
--- the step, from the text that was found
-abbrev from_text : AdminWords → Stamp → Files → List ℕ → Outcome
-from_text words stamp f text = or_bad_text (count_lines (text_of text)) >>= λ count. makes (new_content words stamp count (text_of text)) f
+-- the step, from the texts that were found
+abbrev from_texts : AdminWords → Stamp → Files → NewTexts → Outcome
+from_texts words stamp f texts = new_rules words texts >>= λ rules. makes (new_content words stamp rules (text_of texts.text)) f
 
-found_outcome : (words : AdminWords) (stamp : Stamp) (n i : List ℕ) (named : List (Option Content)) (f : Files) (text : List ℕ) → found_text words.text i named f.s ≡ Ok text → admin_outcome words stamp n i named f ≡ from_text words stamp f text
+found_outcome : (words : AdminWords) (stamp : Stamp) (n i : List ℕ) (named : List (Option Content)) (f : Files) (texts : NewTexts) → found_texts words i named f.s ≡ Ok texts → admin_outcome words stamp n i named f ≡ from_texts words stamp f texts
 unfolding admin_outcome
-found_outcome words stamp n i named f text is = rw is refl
+found_outcome words stamp n i named f texts is = rw is refl
 
-refused_outcome : (words : AdminWords) (stamp : Stamp) (n i : List ℕ) (named : List (Option Content)) (f : Files) (refusal : Refusal) → found_text words.text i named f.s ≡ Err refusal → admin_outcome words stamp n i named f ≡ Err refusal
+refused_outcome : (words : AdminWords) (stamp : Stamp) (n i : List ℕ) (named : List (Option Content)) (f : Files) (refusal : Refusal) → found_texts words i named f.s ≡ Err refusal → admin_outcome words stamp n i named f ≡ Err refusal
 unfolding admin_outcome
 refused_outcome words stamp n i named f refusal is = rw is refl
 
 -- what was found, as the step sees it
-as_seen : (words : AdminWords) (i n : List ℕ) (v : View) (r : Result (List ℕ) Refusal) → IsSfile n → found_text words.text i (map (unlocked n v) (named_by words.text)) (v n) ≡ r → found_text words.text i (map (unlocked n v) (named_by words.text)) (look (unlocked n v) n).s ≡ r
-as_seen words i n v r sfile is = ap (λ (o : Option Content). found_text words.text i (map (unlocked n v) (named_by words.text)) o) (s_unlocked n v sfile) ∙ is
+as_seen : (words : AdminWords) (i n : List ℕ) (v : View) (r : Result NewTexts Refusal) → IsSfile n → found_texts words i (map (unlocked n v) (named_in words)) (v n) ≡ r → found_texts words i (map (unlocked n v) (named_in words)) (look (unlocked n v) n).s ≡ r
+as_seen words i n v r sfile is = ap (λ (o : Option Content). found_texts words i (map (unlocked n v) (named_in words)) o) (s_unlocked n v sfile) ∙ is
 
 pub unmade : (n text : List ℕ) (v : View) (o2 : Option View) (out err : Option (List ℕ)) → Moves (bytes_eq (x_file n)) (λ u. u) (Some v) o2 → IsUnmade n text (world (Some v) out err) (world o2 out err)
 unmade n text v o2 out err moves = record { view = moves_wider (bytes_eq (x_file n)) (is_working n) (Some v) o2 (no_x n) moves; out = some_none out text }
 
--- no text was found
-not_found : (words : AdminWords) (stamp : Stamp) (fault : StepFault) (n i : List ℕ) (v : View) (out err : Option (List ℕ)) → IsSfile n → AnswersText (found_text words.text i (map (unlocked n v) (named_by words.text)) (v n)) (Err fault)
-    → Prepares (Err fault) n (admin_outcome words stamp n i (map (unlocked n v) (named_by words.text)) (look (unlocked n v) n)) (world (Some v) out err) (world (Some v) out err)
+-- the texts weren't found
+not_found : (words : AdminWords) (stamp : Stamp) (fault : StepFault) (n i : List ℕ) (v : View) (out err : Option (List ℕ)) → IsSfile n → AnswersTexts (found_texts words i (map (unlocked n v) (named_in words)) (v n)) (Err fault)
+    → Prepares (Err fault) n (admin_outcome words stamp n i (map (unlocked n v) (named_in words)) (look (unlocked n v) n)) (world (Some v) out err) (world (Some v) out err)
 not_found words stamp (Refused refusal) n i v out err sfile answers =
     (refused_outcome words stamp n i _ (look (unlocked n v) n) refusal (as_seen words i n v (Err refusal) sfile answers), unmade n [] v (Some v) out err (λ k h. refl))
 not_found words stamp Memory n i v out err sfile answers = unmade n _ v (Some v) out err (λ k h. refl)
@@ -65,11 +68,11 @@ not_found words stamp ReadFault n i v out err sfile answers = unmade n _ v (Some
 not_found words stamp WriteFault n i v out err sfile answers = unmade n _ v (Some v) out err (λ k h. refl)
 not_found words stamp DiskFault n i v out err sfile answers = unmade n _ v (Some v) out err (λ k h. refl)
 
-pub find_fails : (words : AdminWords) (stamp : Stamp) (fault : StepFault) (n : List ℕ) (left : Option (List ℕ)) (o o2 : Option View) (out err : Option (List ℕ)) → IsSfile n → o2 ≡ o → FindsText words.text (Err fault) n left o
+pub find_fails : (words : AdminWords) (stamp : Stamp) (fault : StepFault) (n : List ℕ) (left : Option (List ℕ)) (o o2 : Option View) (out err : Option (List ℕ)) → IsSfile n → o2 ≡ o → FindsTexts words (Err fault) n left o
     → PreparesChange (admin_change words stamp) (Err fault) n left (world o out err) (world o2 out err)
 find_fails words stamp fault n left None o2 out err sfile same finds = tt
 find_fails words stamp fault n left (Some v) o2 out err sfile same finds = λ i heard.
-    subst (λ (w : Option View). Prepares (Err fault) n (admin_outcome words stamp n i (map (unlocked n v) (named_by words.text)) (look (unlocked n v) n)) (world (Some v) out err) (world w out err)) (sym same)
+    subst (λ (w : Option View). Prepares (Err fault) n (admin_outcome words stamp n i (map (unlocked n v) (named_in words)) (look (unlocked n v) n)) (world (Some v) out err) (world w out err)) (sym same)
     (not_found words stamp fault n i v out err sfile (finds i heard))
 
 -- ---- the x-file is written
@@ -89,20 +92,20 @@ new_files n c v p sfile new =
     u : View
     u = put v (x_file n) (Some c)
 
-made_outcome : (words : AdminWords) (stamp : Stamp) (f : Files) (text : List ℕ) (count : ℕ) → count_lines (text_of text) ≡ Ok count → from_text words stamp f text ≡ makes (new_content words stamp count (text_of text)) f
-made_outcome words stamp f text count is = ap (λ (r : Result ℕ ℕ). or_bad_text r >>= λ count. makes (new_content words stamp count (text_of text)) f) is
+made_outcome : (words : AdminWords) (stamp : Stamp) (f : Files) (texts : NewTexts) (rules : NewRules) → new_rules words texts ≡ Ok rules → from_texts words stamp f texts ≡ makes (new_content words stamp rules (text_of texts.text)) f
+made_outcome words stamp f texts rules is = ap (λ (r : Result NewRules Refusal). r >>= λ rules. makes (new_content words stamp rules (text_of texts.text)) f) is
 
-bad_outcome : (words : AdminWords) (stamp : Stamp) (f : Files) (text : List ℕ) (refusal : Refusal) → or_bad_text (count_lines (text_of text)) ≡ Err refusal → from_text words stamp f text ≡ Err refusal
-bad_outcome words stamp f text refusal is = ap (λ (r : Result ℕ Refusal). r >>= λ count. makes (new_content words stamp count (text_of text)) f) is
+bad_outcome : (words : AdminWords) (stamp : Stamp) (f : Files) (texts : NewTexts) (refusal : Refusal) → new_rules words texts ≡ Err refusal → from_texts words stamp f texts ≡ Err refusal
+bad_outcome words stamp f texts refusal is = ap (λ (r : Result NewRules Refusal). r >>= λ rules. makes (new_content words stamp rules (text_of texts.text)) f) is
 
-text_prepared : (words : AdminWords) (stamp : Stamp) (r : Result Prepared StepFault) (text n i : List ℕ) (v : View) (o2 : Option View) (out err : Option (List ℕ)) → IsSfile n → found_text words.text i (map (unlocked n v) (named_by words.text)) (v n) ≡ Ok text → WritesText r words stamp text n (Some v) o2
-    → Prepares r n (admin_outcome words stamp n i (map (unlocked n v) (named_by words.text)) (look (unlocked n v) n)) (world (Some v) out err) (world o2 out err)
-text_prepared words stamp (Ok p) text n i v o2 out err sfile found writes =
+text_prepared : (words : AdminWords) (stamp : Stamp) (r : Result Prepared StepFault) (texts : NewTexts) (n i : List ℕ) (v : View) (o2 : Option View) (out err : Option (List ℕ)) → IsSfile n → found_texts words i (map (unlocked n v) (named_in words)) (v n) ≡ Ok texts → WritesTexts r words stamp texts n (Some v) o2
+    → Prepares r n (admin_outcome words stamp n i (map (unlocked n v) (named_in words)) (look (unlocked n v) n)) (world (Some v) out err) (world o2 out err)
+text_prepared words stamp (Ok p) texts n i v o2 out err sfile found writes =
     let f : Files = look (unlocked n v) n in
-    let c : Content = new_content words stamp writes.1.0 (text_of text) in
+    let c : Content = new_content words stamp writes.1.0 (text_of texts.text) in
     record {
       effect = record { new = files_of (Some c) f.p f.g; text = []; out = []; err = []; status = 0 };
-      is = found_outcome words stamp n i _ f text (as_seen words i n v (Ok text) sfile found) ∙ made_outcome words stamp f text writes.1.0 writes.1.1;
+      is = found_outcome words stamp n i _ f texts (as_seen words i n v (Ok texts) sfile found) ∙ made_outcome words stamp f texts writes.1.0 writes.1.1;
       status = refl;
       report = sym writes.0.report;
       message = sym writes.0.message;
@@ -111,20 +114,20 @@ text_prepared words stamp (Ok p) text n i v o2 out err sfile found writes =
       files = subst (λ (o : Option View). IfSome o (λ u. files_of (Some c) f.p f.g ≡ Some (files_after n (plan_of p) u))) (sym writes.1.2) (new_files n c v p sfile writes.0);
       out = gives_none out;
     }
-text_prepared words stamp (Err (Refused refusal)) text n i v o2 out err sfile found writes = (
-  found_outcome words stamp n i _ (look (unlocked n v) n) text (as_seen words i n v (Ok text) sfile found) ∙ bad_outcome words stamp (look (unlocked n v) n) text refusal writes.0,
+text_prepared words stamp (Err (Refused refusal)) texts n i v o2 out err sfile found writes = (
+  found_outcome words stamp n i _ (look (unlocked n v) n) texts (as_seen words i n v (Ok texts) sfile found) ∙ bad_outcome words stamp (look (unlocked n v) n) texts refusal writes.0,
   unmade n [] v o2 out err (subst (λ (o : Option View). Moves (bytes_eq (x_file n)) (λ u. u) (Some v) o) (sym writes.1) (λ k h. refl)),
 )
-text_prepared words stamp (Err Memory) text n i v o2 out err sfile found writes = unmade n _ v o2 out err writes
-text_prepared words stamp (Err ReadFault) text n i v o2 out err sfile found writes = unmade n _ v o2 out err writes
-text_prepared words stamp (Err WriteFault) text n i v o2 out err sfile found writes = unmade n _ v o2 out err writes
-text_prepared words stamp (Err DiskFault) text n i v o2 out err sfile found writes = unmade n _ v o2 out err writes
+text_prepared words stamp (Err Memory) texts n i v o2 out err sfile found writes = unmade n _ v o2 out err writes
+text_prepared words stamp (Err ReadFault) texts n i v o2 out err sfile found writes = unmade n _ v o2 out err writes
+text_prepared words stamp (Err WriteFault) texts n i v o2 out err sfile found writes = unmade n _ v o2 out err writes
+text_prepared words stamp (Err DiskFault) texts n i v o2 out err sfile found writes = unmade n _ v o2 out err writes
 
-pub found_prepares : (words : AdminWords) (stamp : Stamp) (r : Result Prepared StepFault) (text n : List ℕ) (left : Option (List ℕ)) (o o1 o2 : Option View) (out err : Option (List ℕ)) → IsSfile n → o1 ≡ o → FindsText words.text (Ok text) n left o → WritesText r words stamp text n o1 o2
+pub found_prepares : (words : AdminWords) (stamp : Stamp) (r : Result Prepared StepFault) (texts : NewTexts) (n : List ℕ) (left : Option (List ℕ)) (o o1 o2 : Option View) (out err : Option (List ℕ)) → IsSfile n → o1 ≡ o → FindsTexts words (Ok texts) n left o → WritesTexts r words stamp texts n o1 o2
     → PreparesChange (admin_change words stamp) r n left (world o out err) (world o2 out err)
-found_prepares words stamp r text n left None o1 o2 out err sfile same finds writes = tt
-found_prepares words stamp r text n left (Some v) o1 o2 out err sfile same finds writes = λ i heard.
-    text_prepared words stamp r text n i v o2 out err sfile (finds i heard) (subst (λ (w : Option View). WritesText r words stamp text n w o2) same writes)
+found_prepares words stamp r texts n left None o1 o2 out err sfile same finds writes = tt
+found_prepares words stamp r texts n left (Some v) o1 o2 out err sfile same finds writes = λ i heard.
+    text_prepared words stamp r texts n i v o2 out err sfile (finds i heard) (subst (λ (w : Option View). WritesTexts r words stamp texts n w o2) same writes)
 
 -- ---- what a commit needs, and what may come
 
@@ -132,29 +135,29 @@ pub there_after : (n : List ℕ) (k : List ℕ) (x : Content) (a b : Option View
 there_after n k x None b other is there = subst (λ (o : Option View). IfSome o (λ (v : View). IsSome (v k))) (sym is) tt
 there_after n k x (Some v) b other is there = subst (λ (o : Option View). IfSome o (λ (u : View). IsSome (u k))) (sym is) (subst IsSome (sym (put_other v n k (Some x) other)) there)
 
-pub text_ready : (words : AdminWords) (stamp : Stamp) (r : Result Prepared StepFault) (text n : List ℕ) (a b : Told) → IsThere (z_file n) a → WritesText r words stamp text n (seen a) (seen b) → IfOk r (λ p. IsReady n p b)
-text_ready words stamp (Ok p) text n a b there writes =
-    let c : Content = new_content words stamp writes.1.0 (text_of text) in
+pub text_ready : (words : AdminWords) (stamp : Stamp) (r : Result Prepared StepFault) (texts : NewTexts) (n : List ℕ) (a b : Told) → IsThere (z_file n) a → WritesTexts r words stamp texts n (seen a) (seen b) → IfOk r (λ p. IsReady n p b)
+text_ready words stamp (Ok p) texts n a b there writes =
+    let c : Content = new_content words stamp writes.1.0 (text_of texts.text) in
     record {
       z = there_after (x_file n) (z_file n) c (seen a) (seen b) refl writes.1.2 there;
       s = subst (λ t. Needs (replaced t) (x_file n) n b) (sym writes.0.s) (made_there (x_file n) c a b writes.1.2);
       p_state = subst (λ f. Needs f (q_file n) (p_file n) b) (sym writes.0.p_state) tt;
       g = subst (λ f. Needs f (y_file n) (drop 2 n) b) (sym writes.0.g) tt;
     }
-text_ready words stamp (Err fault) text n a b there writes = tt
+text_ready words stamp (Err fault) texts n a b there writes = tt
 
-pub text_speaks : (words : AdminWords) (stamp : Stamp) (r : Result Prepared StepFault) (text n : List ℕ) (a b : Option View) → WritesText r words stamp text n a b → RefusesWithin admin_checks r → CouldPrepare (quiet_checks admin_checks) r
-text_speaks words stamp (Ok p) text n a b writes within =
+pub text_speaks : (words : AdminWords) (stamp : Stamp) (r : Result Prepared StepFault) (texts : NewTexts) (n : List ℕ) (a b : Option View) → WritesTexts r words stamp texts n a b → RefusesWithin admin_checks r → CouldPrepare (quiet_checks admin_checks) r
+text_speaks words stamp (Ok p) texts n a b writes within =
     (record { new = None; text = []; out = []; err = []; status = 0 }, refl, refl, sym writes.0.message)
-text_speaks words stamp (Err (Refused refusal)) text n a b writes within = within refusal refl
-text_speaks words stamp (Err Memory) text n a b writes within = tt
-text_speaks words stamp (Err ReadFault) text n a b writes within = tt
-text_speaks words stamp (Err WriteFault) text n a b writes within = tt
-text_speaks words stamp (Err DiskFault) text n a b writes within = tt
+text_speaks words stamp (Err (Refused refusal)) texts n a b writes within = within refusal refl
+text_speaks words stamp (Err Memory) texts n a b writes within = tt
+text_speaks words stamp (Err ReadFault) texts n a b writes within = tt
+text_speaks words stamp (Err WriteFault) texts n a b writes within = tt
+text_speaks words stamp (Err DiskFault) texts n a b writes within = tt
 
-pub text_quiet : (words : AdminWords) (stamp : Stamp) (r : Result Prepared StepFault) (text n : List ℕ) (a b : Option View) → WritesText r words stamp text n a b → IsQuiet r
-text_quiet words stamp (Ok p) text n a b writes = writes.0.report
-text_quiet words stamp (Err fault) text n a b writes = tt
+pub text_quiet : (words : AdminWords) (stamp : Stamp) (r : Result Prepared StepFault) (texts : NewTexts) (n : List ℕ) (a b : Option View) → WritesTexts r words stamp texts n a b → IsQuiet r
+text_quiet words stamp (Ok p) texts n a b writes = writes.0.report
+text_quiet words stamp (Err fault) texts n a b writes = tt
 
 pub there_still : (k : List ℕ) (a b : Told) → b ≡ a → IsThere k a → IsThere k b
 there_still k a b same there = subst (λ t. IsThere k t) (sym same) there

@@ -22,8 +22,9 @@ use Rattle.sccs_transactions.specs.Stops.{IsFirmPrepared, SettlesEntries}
 use Rattle.sccs_transactions.specs.declared.prepared.Prepared.{Prepared}
 use Rattle.sccs_transactions.proofs.StopEnds.{plain_where}
 use Rattle.sccs_words.specs.declared.commands.AdminWords.{AdminWords}
-use Rattle.sccs_admin.specs.AdminStep.{IsNew, WritesText}
 use Rattle.sccs_admin.specs.NewFiles.{new_content}
+use Rattle.sccs_admin.specs.Parts.{IsNew, WritesTexts}
+use Rattle.sccs_admin.specs.declared.finding.NewTexts.{NewTexts}
 
 where_replaced : (new : NewFile) (P : Type 0) → P → OnReplace new P
 where_replaced Keep P holds = tt
@@ -66,7 +67,7 @@ settled_seen n p x (Some v) b sfile new fresh is =
     subst (λ (o : Option View). IfSome o (λ v. IsPaired n v → IsSound n v → KeepsEntries n (plan_of p) v × ArePaired (files_after n (plan_of p) v).s (files_after n (plan_of p) v).p)) (sym is)
     (λ paired sound. settled_at n p (put v (x_file n) (Some x)) new (put_other v (x_file n) n (Some x) (from_s 120 n sfile refl) ∙ fresh) paired)
 
-pub text_settles : (words : AdminWords) (stamp : Stamp) (r : Result Prepared StepFault) (text n : List ℕ) (o : Option View) (a b : Told) → IsSfile n → seen a ≡ o → IfSome o (λ v. v n ≡ None) → WritesText r words stamp text n (seen a) (seen b) → IfOk r (λ p. SettlesEntries n p b)
-text_settles words stamp (Ok p) text n o a b sfile same fresh writes =
-    settled_seen n p (new_content words stamp writes.1.0 (text_of text)) (seen a) (seen b) sfile writes.0 (subst (λ (x : Option View). IfSome x (λ v. v n ≡ None)) (sym same) fresh) writes.1.2
-text_settles words stamp (Err fault) text n o a b sfile same fresh writes = tt
+pub text_settles : (words : AdminWords) (stamp : Stamp) (r : Result Prepared StepFault) (texts : NewTexts) (n : List ℕ) (o : Option View) (a b : Told) → IsSfile n → seen a ≡ o → IfSome o (λ v. v n ≡ None) → WritesTexts r words stamp texts n (seen a) (seen b) → IfOk r (λ p. SettlesEntries n p b)
+text_settles words stamp (Ok p) texts n o a b sfile same fresh writes =
+    settled_seen n p (new_content words stamp writes.1.0 (text_of texts.text)) (seen a) (seen b) sfile writes.0 (subst (λ (x : Option View). IfSome x (λ v. v n ≡ None)) (sym same) fresh) writes.1.2
+text_settles words stamp (Err fault) texts n o a b sfile same fresh writes = tt

@@ -1,5 +1,5 @@
 -- A new file that is written: header, body and sum.
-use Rattle.std.proofs.Common.{◌≡◌, ℕ, false, ◌≤◌, List, [], ◌∷◌, ◌++◌, map, Option, None, Some, option_map, IfSome, IfOk, OnOk, Result, Ok, Err, refl, sym, ap, subst, ◌∙◌, arith, append-nil, inl, inr}
+use Rattle.std.proofs.Common.{◌≡◌, ℕ, ◌≤◌, List, [], ◌++◌, IfOk, OnOk, Result, Ok, Err, sym, ap, subst, ◌∙◌, arith, append-nil, inl, inr}
 use Rattle.std.specs.Result.{IsErrAnd}
 use Rattle.std.proofs.lemmas.Result.{err_from_is_err_and}
 use Rattle.sccs_base.specs.Stream.{Rose}
@@ -12,9 +12,9 @@ use Rattle.sccs_table.specs.SumOf.{IsSumOf}
 use Rattle.sccs_writers.specs.HeaderBytes.{WritesHeader, header_bytes}
 use Rattle.sccs_writers.specs.OneFile.{OnlyWrites}
 use Rattle.sccs_writers.specs.Puts.{Appends, Puts, PutsText, Writer}
-use Rattle.sccs_writers.proofs.OneFile.{only_both, only_none}
+use Rattle.sccs_writers.proofs.OneFile.{only_none}
 use Rattle.sccs_writers.proofs.PutLaws.{views_two}
-use Rattle.sccs_admin.specs.Writing.{AppendsSum, body_bytes}
+use Rattle.sccs_admin.specs.Writing.{AppendsSum}
 
 rose_on : (f g h : ℕ) → f ≤ g → Rose g h → Rose f h
 rose_on f g h low (inl more) = inl (omega (arith, low, more))

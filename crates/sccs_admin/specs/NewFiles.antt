@@ -1,4 +1,4 @@
--- A new s-file: one delta, its lines, and no user, flag or description. sccsfile(4); POSIX, admin.
+-- A new s-file: one delta and its lines, with users, flags and description. sccsfile(4); POSIX, admin.
 use Rattle.std.specs.Prelude.{ℕ, min, false, List, [], ◌∷◌, ◌++◌, map, codes, Option, None, Some, unwrap_or}
 use Rattle.sccs_sid.specs.Moment.{moment_text}
 use Rattle.sccs_sid.specs.declared.moments.Stamp.{Stamp}
@@ -10,7 +10,10 @@ use Rattle.sccs_history.specs.declared.headers.Item.TheVariants.{Text, Insert, E
 use Rattle.sccs_disk.specs.Files.{Content}
 use Rattle.sccs_records.specs.Texts.{some_lines}
 use Rattle.sccs_store.specs.SealedFiles.{sealed}
+use Rattle.sccs_rules.specs.Rules.{with_rules}
+use Rattle.sccs_rules.specs.Users.{changed_users}
 use Rattle.sccs_words.specs.declared.commands.AdminWords.{AdminWords}
+use Rattle.sccs_admin.specs.declared.rules.NewRules.{NewRules}
 
 -- who made the file, and when
 abbrev pub made_by : Stamp → List ℕ
@@ -37,19 +40,23 @@ first_record words stamp count = record {
   include = [];
   exclude = [];
   ignore = [];
-  mrs = [];
+  mrs = words.mrs;
   comments = comment_lines words.comment stamp;
   inserted = min count 99999;
   deleted = 0;
   unchanged = 0;
 }
 
-abbrev pub new_header : AdminWords → Stamp → ℕ → Header
-new_header words stamp count = record { records = first_record words stamp count ∷ []; users = []; flags = []; description = [] }
+-- the first delta, and neither user, flag nor description
+abbrev pub first_header : AdminWords → Stamp → ℕ → Header
+first_header words stamp count = record { records = first_record words stamp count ∷ []; users = []; flags = []; description = [] }
+
+abbrev pub new_header : AdminWords → Stamp → NewRules → Header
+new_header words stamp rules = with_rules (first_header words stamp rules.count) (changed_users [] words.add words.erase) rules.flags rules.description
 
 -- the lines, inserted by the first delta
 abbrev pub new_items : List (List ℕ) → List Item
 new_items lines = Insert 1 ∷ map Text lines ++ End 1 ∷ []
 
-abbrev pub new_content : AdminWords → Stamp → ℕ → List (List ℕ) → Content
-new_content words stamp count lines = sealed (new_header words stamp count) (new_items lines)
+abbrev pub new_content : AdminWords → Stamp → NewRules → List (List ℕ) → Content
+new_content words stamp rules lines = sealed (new_header words stamp rules) (new_items lines)

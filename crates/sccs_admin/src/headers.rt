@@ -1,12 +1,15 @@
 ghost use Rattle.std.specs.Prelude.{◌≡◌, [], ◌∷◌, IfOk};
 ghost use Rattle.sccs_admin.specs.AdminStep.{AreAdminValues};
-ghost use Rattle.sccs_admin.specs.NewFiles.{comment_lines, first_record, made_by, new_header};
+ghost use Rattle.sccs_admin.specs.NewFiles.{comment_lines, first_header, first_record, made_by, new_header};
+ghost use Rattle.sccs_admin.specs.Parts.{AreRules};
 ghost use Rattle.sccs_history.specs.History.{AreLines, HasSpelling, IsSpelled};
 ghost use Rattle.sccs_sid.specs.Moment.{IsMoment};
 
+use crate::rules::NewRules;
 use sccs_base::{Bytes, Line, Memory, Text};
 use sccs_history::{Flags, Header, Record, Records, Serials};
 use sccs_records::some_lines;
+use sccs_rules::change_users;
 use sccs_sid::{Sid, Stamp};
 use sccs_words::AdminWords;
 use std::alloc::Global;
@@ -53,6 +56,21 @@ fn comment_of(alloc: Global, words: &AdminWords, stamp: &Stamp) -> Result<Text, 
     }
 }
 
+// MRs, each a line
+fn mr_lines(alloc: Global, mrs: &[Bytes]) -> Result<Text, Memory>
+    ensures value { IfOk result (λ text. text ≡ mrs.now) }
+    ensures lines { IfOk result AreLines }
+{
+    let mut text = Text::empty(alloc);
+    for mr in mrs {
+        let Ok(line) = Line::new(alloc, mr.bytes()) else {
+            return Err(Memory);
+        };
+        text.push(line)?;
+    }
+    Ok(text)
+}
+
 // the record of the first delta
 fn first_record(
     alloc: Global,
@@ -65,6 +83,7 @@ fn first_record(
     ensures spelled { IfOk result HasSpelling }
 {
     let comments = comment_of(alloc, words, stamp)?;
+    let mrs = mr_lines(alloc, words.mrs.items())?;
     let login = stamp.login;
     let _bytes = login.bytes();
     Ok(Record {
@@ -82,7 +101,7 @@ fn first_record(
         include: Serials::empty(alloc),
         exclude: Serials::empty(alloc),
         ignore: Serials::empty(alloc),
-        mrs: Text::empty(alloc),
+        mrs,
         comments,
         inserted: count.min(COUNT_LIMIT) as u32,
         deleted: 0,
@@ -90,15 +109,15 @@ fn first_record(
     })
 }
 
-/// The header of a new s-file with so many lines: one delta, and no user, flag or description.
-pub fn new_header(
+// the header of one delta, and neither user, flag nor description
+fn first_header(
     alloc: Global,
     words: &AdminWords,
     stamp: &Stamp,
     count: u64,
 ) -> Result<Header, Memory>
     requires { AreAdminValues words.now stamp.now }
-    ensures value { IfOk result (λ header. header ≡ new_header words.now stamp.now count) }
+    ensures value { IfOk result (λ header. header ≡ first_header words.now stamp.now count) }
     ensures spelled { IfOk result IsSpelled }
 {
     let mut records = Records::empty(alloc);
@@ -108,5 +127,27 @@ pub fn new_header(
         users: Text::empty(alloc),
         flags: Flags::empty(alloc),
         description: Text::empty(alloc),
+    })
+}
+
+/// The header of a new s-file: one delta, with users, flags and description.
+pub fn new_header(
+    alloc: Global,
+    words: &AdminWords,
+    stamp: &Stamp,
+    rules: NewRules,
+) -> Result<Header, Memory>
+    requires valid { AreAdminValues words.now stamp.now }
+    requires rules { AreRules words.now rules }
+    ensures value { IfOk result (λ header. header ≡ new_header words.now stamp.now rules) }
+    ensures spelled { IfOk result IsSpelled }
+{
+    let header = first_header(alloc, words, stamp, rules.count)?;
+    let users = change_users(alloc, header.users, &words.add, &words.erase)?;
+    Ok(Header {
+        records: header.records,
+        users,
+        flags: rules.flags,
+        description: rules.description,
     })
 }

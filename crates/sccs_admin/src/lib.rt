@@ -2,10 +2,13 @@
 #![tactic(auto)]
 
 mod admins;
+mod finding;
 mod headers;
 pub mod laws;
 mod new_files;
+mod rules;
 mod texts;
 
-pub use admins::{Admin, prepared, read_named};
-pub use texts::count_lines;
+pub use admins::{Admin, prepared};
+pub use finding::read_named;
+pub use rules::{described, flags_of};

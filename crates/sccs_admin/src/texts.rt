@@ -2,10 +2,13 @@ ghost use Rattle.std.specs.Prelude.{◌≡◌, ◌≤◌, length};
 ghost use Rattle.sccs_base.specs.Constants.{file_limit};
 ghost use Rattle.sccs_base.specs.Cut.{text_of, without_lf};
 ghost use Rattle.sccs_sid.specs.SidLists.{begins};
+ghost use Rattle.std.specs.List.{list_any};
+ghost use Rattle.sccs_admin.specs.Rules.{has_keyword};
 ghost use Rattle.sccs_admin.specs.Texts.{count_lines, lacking};
 
 use bstr::ByteSlice;
 use sccs_base::{LF, SOH};
+use sccs_keys::has_keyword;
 
 // whether a line begins as a control line does
 fn is_control(line: &[u8]) -> bool
@@ -30,6 +33,28 @@ pub fn count_lines(text: &[u8]) -> Result<u64, u64>
         count += 1;
     }
     Ok(count)
+}
+
+// a line without its LF
+fn without_lf(line: &[u8]) -> &[u8]
+    ensures { result.now ≡ without_lf line.now }
+{
+    match line {
+        [front @ .., last] if *last == LF => front,
+        _ => line,
+    }
+}
+
+/// Whether some line of a text has a keyword.
+pub fn has_keywords(text: &[u8]) -> bool
+    ensures { result ≡ list_any has_keyword (text_of text.now) }
+{
+    'lines: for line in text.lines_with_terminator() {
+        if has_keyword(without_lf(line)) {
+            return true;
+        }
+    }
+    false
 }
 
 /// The LF that a text lacks whose last line has none.

@@ -1,3 +1,4 @@
+pub mod CheckLaws
 pub mod FileReads
 pub mod HeaderLaws
 pub mod PrepareLaws

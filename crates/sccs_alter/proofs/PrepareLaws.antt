@@ -38,13 +38,14 @@ use Rattle.sccs_transactions.specs.declared.prepared.Prepared.{Prepared}
 use Rattle.sccs_transactions.proofs.Taken.{x_alone}
 use Rattle.sccs_words.specs.declared.commands.AdminWords.{AdminWords}
 use Rattle.sccs_words.specs.declared.commands.Given.{Given}
-use Rattle.sccs_admin.specs.AdminStep.{IsNew, makes}
+use Rattle.sccs_admin.specs.AdminStep.{makes}
+use Rattle.sccs_admin.specs.Parts.{IsNew}
 use Rattle.sccs_admin.specs.Texts.{named_by}
 use Rattle.sccs_admin.proofs.PrepareLaws.{files_of, new_files, s_unlocked, unmade}
 use Rattle.sccs_alter.specs.AlterStep.{WasRead, alter_change, alter_checks, alter_outcome, altered_header, given_text, read_file}
 use Rattle.sccs_alter.specs.Parts.{Alters, ReadsAt}
 use Rattle.sccs_alter.specs.declared.reading.Read.{Read}
-use Rattle.sccs_alter.proofs.HeaderLaws.{passed}
+use Rattle.sccs_admin.proofs.RuleLaws.{passed}
 use Rattle.sccs_alter.proofs.ReadLaws.{is_there}
 use Rattle.sccs_alter.proofs.StopLaws.{altered_settles, answer_file}
 

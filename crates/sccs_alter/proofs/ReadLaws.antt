@@ -18,14 +18,14 @@ use Rattle.sccs_table.specs.FrontFile.{Refuses}
 use Rattle.sccs_table.specs.ReaderState.{file_in}
 use Rattle.sccs_table.specs.declared.fronts.Front.{Front}
 use Rattle.sccs_body.specs.BodyFile.{AnswersFile, ShowsFile}
-use Rattle.sccs_pending.specs.PFiles.{Answers, Passes}
+use Rattle.sccs_pending.specs.PFiles.{Answers, PassesCheck}
 use Rattle.sccs_pending.specs.Pending.{bytes_at}
 use Rattle.sccs_steps.specs.StepEffects.{check}
 use Rattle.sccs_transactions.specs.Changes.{unlocked}
 use Rattle.sccs_words.specs.declared.commands.AdminWords.{AdminWords}
 use Rattle.sccs_words.specs.declared.commands.Given.{Given}
 use Rattle.sccs_words.specs.declared.commands.Given.TheVariants.{No, Bare, From}
-use Rattle.sccs_admin.specs.AdminStep.{ReadsNamed}
+use Rattle.sccs_admin.specs.Parts.{ReadsNamed}
 use Rattle.sccs_admin.specs.Texts.{named_by}
 use Rattle.sccs_admin.proofs.StepLaws.{beyond, within}
 use Rattle.sccs_alter.specs.AlterStep.{WasRead, given_text, read_file}
@@ -107,7 +107,7 @@ there_refused : (given : Given) (named : List (Option Content)) (s : Option Cont
 unfolding read_file
 there_refused given named s refusal is = rw is refl
 
-pub there_ends : (words : AdminWords) (n : List ℕ) (o : Option View) (fault : StepFault) → IfSome o (λ (v : View). Passes (is_there (v n)) (Err fault)) → IfSome o (λ v. ReadsAt words n v (Err fault))
+pub there_ends : (words : AdminWords) (n : List ℕ) (o : Option View) (fault : StepFault) → IfSome o (λ (v : View). PassesCheck (is_there (v n)) (Err fault)) → IfSome o (λ v. ReadsAt words n v (Err fault))
 there_ends words n None fault passes = tt
 there_ends words n (Some v) (step.Refused refusal) passes = there_refused words.description (map (unlocked n v) (named_by words.description)) (v n) refusal passes
 there_ends words n (Some v) step.Memory passes = tt
@@ -123,10 +123,10 @@ text_at_end words n v step.DiskFault is answers = tt
 text_at_end words n v step.ReadFault is answers = answers
 text_at_end words n v step.WriteFault is answers = answers
 
-pub text_ends : (words : AdminWords) (n : List ℕ) (o o2 : Option View) (fault : StepFault) → o2 ≡ o → IfSome o (λ (v : View). Passes (is_there (v n)) (Ok tt)) → TextIs words.description n o2 (Err fault) → IfSome o (λ v. ReadsAt words n v (Err fault))
+pub text_ends : (words : AdminWords) (n : List ℕ) (o o2 : Option View) (fault : StepFault) → o2 ≡ o → IfSome o (λ (v : View). PassesCheck (is_there (v n)) (Ok tt)) → TextIs words.description n o2 (Err fault) → IfSome o (λ v. ReadsAt words n v (Err fault))
 text_ends words n o o2 fault same passes answers = by o passes (subst (λ (x : Option View). TextIs words.description n x (Err fault)) same answers)
   where
-    by : (x : Option View) → IfSome x (λ (v : View). Passes (is_there (v n)) (Ok tt)) → TextIs words.description n x (Err fault) → IfSome x (λ v. ReadsAt words n v (Err fault))
+    by : (x : Option View) → IfSome x (λ (v : View). PassesCheck (is_there (v n)) (Ok tt)) → TextIs words.description n x (Err fault) → IfSome x (λ v. ReadsAt words n v (Err fault))
     by None passes answers = tt
     by (Some v) passes answers = text_at_end words n v fault passes answers
 
@@ -134,10 +134,10 @@ text_ends words n o o2 fault same passes answers = by o passes (subst (λ (x : O
 abbrev pub HasText : AdminWords → List ℕ → List ℕ → Option View → Type 0
 HasText words n text o = IfSome o (λ (v : View). (is_there (v n) ≡ Ok true) × (given_text words.description (map (unlocked n v) (named_by words.description)) ≡ Ok text))
 
-pub has_text : (words : AdminWords) (n text : List ℕ) (o o2 : Option View) → o2 ≡ o → IfSome o (λ (v : View). Passes (is_there (v n)) (Ok tt)) → TextIs words.description n o2 (Ok text) → HasText words n text o
+pub has_text : (words : AdminWords) (n text : List ℕ) (o o2 : Option View) → o2 ≡ o → IfSome o (λ (v : View). PassesCheck (is_there (v n)) (Ok tt)) → TextIs words.description n o2 (Ok text) → HasText words n text o
 has_text words n text o o2 same passes answers = by o passes (subst (λ (x : Option View). TextIs words.description n x (Ok text)) same answers)
   where
-    by : (x : Option View) → IfSome x (λ (v : View). Passes (is_there (v n)) (Ok tt)) → TextIs words.description n x (Ok text) → HasText words n text x
+    by : (x : Option View) → IfSome x (λ (v : View). PassesCheck (is_there (v n)) (Ok tt)) → TextIs words.description n x (Ok text) → HasText words n text x
     by None passes answers = tt
     by (Some v) passes answers = (passes, answers)
 

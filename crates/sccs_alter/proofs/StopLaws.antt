@@ -27,7 +27,7 @@ use Rattle.sccs_transactions.specs.Stops.{SettlesEntries}
 use Rattle.sccs_transactions.specs.declared.prepared.Prepared.{Prepared}
 use Rattle.sccs_transactions.proofs.StopEnds.{plain_where}
 use Rattle.sccs_words.specs.declared.commands.AdminWords.{AdminWords}
-use Rattle.sccs_admin.specs.AdminStep.{IsNew}
+use Rattle.sccs_admin.specs.Parts.{IsNew}
 use Rattle.sccs_alter.specs.AlterStep.{altered_header}
 use Rattle.sccs_alter.proofs.FileReads.{header_reads}
 use Rattle.sccs_alter.proofs.HeaderLaws.{altered_records, altered_rules, altered_spelled}

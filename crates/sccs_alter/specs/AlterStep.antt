@@ -1,16 +1,14 @@
 -- What admin does with an s-file that is there: POSIX, Shell and Utilities, admin, -a, -e, -f, -d and -t.
-use Rattle.std.specs.Prelude.{ℕ, nat_le, true, false, List, [], ◌∷◌, length, Option, is_some, Result, Ok, Err}
+use Rattle.std.specs.Prelude.{ℕ, nat_le, true, false, List, [], ◌∷◌, length, Option, is_some, Result, Ok}
 use Rattle.sccs_base.specs.Constants.{file_limit}
-use Rattle.sccs_base.specs.Cut.{text_of}
 use Rattle.sccs_disk.specs.Files.{Content}
 use Rattle.sccs_sid.specs.Reading.{◌>>=◌}
 use Rattle.sccs_sid.specs.Refusal.{number_of}
 use Rattle.sccs_sid.specs.declared.refusals.Refusal.{Refusal}
-use Rattle.sccs_sid.specs.declared.refusals.Refusal.TheVariants.{FlagBad, Missing, TooLong}
+use Rattle.sccs_sid.specs.declared.refusals.Refusal.TheVariants.{Missing, TooLong}
 use Rattle.sccs_sid.specs.declared.refusals.Refusal.TheVariants as refusals
 use Rattle.sccs_grammar.specs.File.{Parsed, answer, file_of}
 use Rattle.sccs_grammar.specs.FileRefusals.{or_refusal}
-use Rattle.sccs_history.specs.declared.headers.Flag.{Flag}
 use Rattle.sccs_history.specs.declared.headers.Header.{Header}
 use Rattle.sccs_rules.specs.Flags.{changed_flags}
 use Rattle.sccs_rules.specs.Rules.{with_rules}
@@ -22,9 +20,9 @@ use Rattle.sccs_store.specs.SealedFiles.{sealed}
 use Rattle.sccs_transactions.specs.Changes.{Changing}
 use Rattle.sccs_words.specs.declared.commands.AdminWords.{AdminWords}
 use Rattle.sccs_words.specs.declared.commands.Given.{Given}
-use Rattle.sccs_words.specs.declared.commands.Given.TheVariants.{No, Bare, From}
 use Rattle.sccs_admin.specs.AdminStep.{makes}
-use Rattle.sccs_admin.specs.Texts.{count_lines, named_by, or_bad_text, source}
+use Rattle.sccs_admin.specs.Rules.{described, or_bad_flag}
+use Rattle.sccs_admin.specs.Texts.{named_by, source}
 
 -- the refusals of admin on an s-file that is there, by their numbers
 abbrev pub alter_checks : List ℕ
@@ -53,20 +51,6 @@ read_file given named s = do
   text ← given_text given named
   parsed ← or_refusal (answer file_of (bytes_at s))
   Ok (record { parsed = parsed; text = text })
-
--- lines of which none begins with SOH
-abbrev pub bare_lines : List (List ℕ) → Result (List (List ℕ)) Refusal
-bare_lines lines = or_bad_text (count_lines lines) >>= λ count. Ok lines
-
--- the description: as it was, none, or the lines of a text
-abbrev pub described : Given → List (List ℕ) → List ℕ → Result (List (List ℕ)) Refusal
-described No old text = Ok old
-described Bare old text = Ok []
-described (From name) old text = bare_lines (text_of text)
-
-abbrev pub or_bad_flag : Result (List Flag) ℕ → Result (List Flag) Refusal
-or_bad_flag (Ok flags) = Ok flags
-or_bad_flag (Err letter) = Err (FlagBad letter)
 
 -- the header with other users, flags and description
 unfoldable pub altered_header : AdminWords → Header → List ℕ → Result Header Refusal

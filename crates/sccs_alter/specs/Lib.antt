@@ -1,3 +1,4 @@
 pub mod AlterStep
+pub mod CheckStep
 pub mod Locks
 pub mod Parts

@@ -18,7 +18,7 @@ ghost use Rattle.sccs_sid.specs.declared.refusals.StepFault.TheVariants as fault
 ghost use Rattle.sccs_steps.specs.Actions.{RefusesWithin};
 ghost use Rattle.sccs_table.specs.ReaderState.{bytes_in};
 ghost use Rattle.sccs_transactions.specs.Stops.{IsFirmPrepared};
-ghost use Rattle.sccs_admin.specs.AdminStep.{IsNew};
+ghost use Rattle.sccs_admin.specs.Parts.{IsNew};
 ghost use Rattle.sccs_alter.specs.AlterStep.{alter_change, alter_checks, altered_header};
 ghost use Rattle.sccs_alter.specs.Locks.{alter_locked};
 ghost use Rattle.sccs_alter.specs.Parts.{Alters};

@@ -2,8 +2,10 @@
 #![tactic(auto)]
 
 mod alters;
+mod checks;
 mod headers;
 pub mod laws;
 mod reading;
 
 pub use alters::Alter;
+pub use checks::Check;

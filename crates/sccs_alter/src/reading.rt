@@ -10,7 +10,7 @@ ghost use Rattle.sccs_steps.specs.StepEffects.{check};
 ghost use Rattle.sccs_table.specs.FrontFile.{IsPlaced};
 ghost use Rattle.sccs_transactions.specs.Changes.{unlocked};
 ghost use Rattle.sccs_words.specs.declared.commands.Given.TheVariants as given;
-ghost use Rattle.sccs_pending.specs.PFiles.{Answers, OnlyReads, Passes};
+ghost use Rattle.sccs_pending.specs.PFiles.{Answers, OnlyReads, PassesCheck};
 ghost use Rattle.sccs_admin.specs.Texts.{named_by};
 ghost use Rattle.sccs_alter.specs.AlterStep.{alter_checks, given_text};
 ghost use Rattle.sccs_alter.specs.Parts.{ReadsAt};
@@ -34,7 +34,7 @@ pub struct Read {
 
 // whether the s-file is there
 fn check_there<D: Disk>(disk: &mut D, name: &Name) -> Result<(), StepFault>
-    ensures told { IfSome (seen (D.told disk.old)) (λ (v : View). Passes (check (is_some (v name.now)) Missing) result) }
+    ensures told { IfSome (seen (D.told disk.old)) (λ (v : View). PassesCheck (check (is_some (v name.now)) Missing) result) }
     ensures checks { RefusesWithin alter_checks result }
     ensures frame { OnlyReads D.told D.faults disk.old disk.new result }
 {

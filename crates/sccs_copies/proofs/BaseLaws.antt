@@ -17,24 +17,24 @@ use Rattle.sccs_splicer.specs.PlanPlaces.{Passed}
 use Rattle.sccs_table.proofs.RunLaws.{lines_bound}
 use Rattle.sccs_versions.specs.Coming.{Coming, ComesNext, GivesNext, IsBody, shown}
 use Rattle.sccs_versions.specs.Place.{VersionPlace}
-use Rattle.sccs_copies.specs.Copies.{IsOuterFault}
+use Rattle.sccs_copies.specs.Copies.{IsFaultAroundCopy}
 use Rattle.sccs_edits.specs.Plans.{added_after}
-use Rattle.sccs_copies.specs.Examining.{ExaminesSome, ExaminesWhole, FindsResult, GComes, IsBefore, LinesLeft, Sees, difference, first_difference, has_keyword, line_result, result_from, result_of, texts}
+use Rattle.sccs_copies.specs.Examining.{ExaminesSome, ExaminesWhole, FindsResult, GComes, IsBefore, LinesLeft, Sees, difference, first_difference, has_keyword, line_result, result_from, result_of, line_texts}
 use Rattle.sccs_copies.specs.declared.examining.Found.{Found}
 use Rattle.sccs_copies.specs.declared.result_checks.ResultCheck.{ResultCheck}
 use Rattle.sccs_copies.proofs.CheckLaws.{sees_both, sees_none}
 
 -- ---- the result, part by part
 
-result_both : (p : Plan) (k : ℕ) (xs ys : List HistoryLine) → result_from p k (texts (xs ++ ys)) ≡ result_from p k (texts xs) ++ result_from p (k + length xs) (texts ys)
-result_both p k [] ys = ap (λ n. result_from p n (texts ys)) (add_none k)
+result_both : (p : Plan) (k : ℕ) (xs ys : List HistoryLine) → result_from p k (line_texts (xs ++ ys)) ≡ result_from p k (line_texts xs) ++ result_from p (k + length xs) (line_texts ys)
+result_both p k [] ys = ap (λ n. result_from p n (line_texts ys)) (add_none k)
   where
     add_none : (n : ℕ) → n ≡ n + 0
     add_none n = omega arith
 result_both p k (x ∷ xs) ys =
     ap (λ l. line_result p (suc k) x.text ++ l) (result_both p (suc k) xs ys)
-    ∙ (sym (append_assoc (line_result p (suc k) x.text) (result_from p (suc k) (texts xs)) (result_from p (suc k + length xs) (texts ys)))
-    ∙ ap (λ n. (line_result p (suc k) x.text ++ result_from p (suc k) (texts xs)) ++ result_from p n (texts ys)) (one_on k (length xs)))
+    ∙ (sym (append_assoc (line_result p (suc k) x.text) (result_from p (suc k) (line_texts xs)) (result_from p (suc k + length xs) (line_texts ys)))
+    ∙ ap (λ n. (line_result p (suc k) x.text ++ result_from p (suc k) (line_texts xs)) ++ result_from p n (line_texts ys)) (one_on k (length xs)))
   where
     one_on : (n m : ℕ) → suc n + m ≡ n + suc m
     one_on n m = omega arith
@@ -50,8 +50,8 @@ examines_both file r r2 g lines at at1 at2 s s1 s2 plan p q = record {
   rest = q.rest;
   whole = p.whole ∙ (ap (λ rest. p.first ++ rest) q.whole ∙ sym (append_assoc p.first q.first q.rest));
   sees = subst (λ l. Sees g l s s2) (sym (result_both at.plan at.line p.first q.first))
-      (sees_both g (result_from at.plan at.line (texts p.first)) (result_from at.plan (at.line + length p.first) (texts q.first)) s s1 s2 p.sees
-      (subst (λ n. Sees g (result_from at.plan n (texts q.first)) s1 s2) p.line (subst (λ (o : Plan). Sees g (result_from o at1.line (texts q.first)) s1 s2) plan q.sees)));
+      (sees_both g (result_from at.plan at.line (line_texts p.first)) (result_from at.plan (at.line + length p.first) (line_texts q.first)) s s1 s2 p.sees
+      (subst (λ n. Sees g (result_from at.plan n (line_texts q.first)) s1 s2) p.line (subst (λ (o : Plan). Sees g (result_from o at1.line (line_texts q.first)) s1 s2) plan q.sees)));
   line = omega (arith, p.line, q.line, both_long p.first q.first);
   on = q.on;
 }
@@ -62,10 +62,10 @@ examines_both file r r2 g lines at at1 at2 s s1 s2 plan p q = record {
 
 pub examines_end : (file : List ℕ) (r : VersionPlace) (g : Option (List ℕ)) (lines : List HistoryLine) (at at1 at2 : Passed) (s s1 s2 : ResultCheck) → at1.plan ≡ at.plan → (p : ExaminesSome file r g lines at at1 s s1) → ExaminesWhole g p.rest at1 at2 s1 s2 → ExaminesWhole g lines at at2 s s2
 examines_end file r g lines at at1 at2 s s1 s2 plan p q = record {
-  sees = subst (λ (l : List HistoryLine). Sees g (result_from at.plan at.line (texts l)) s s2) (sym p.whole)
+  sees = subst (λ (l : List HistoryLine). Sees g (result_from at.plan at.line (line_texts l)) s s2) (sym p.whole)
       (subst (λ l. Sees g l s s2) (sym (result_both at.plan at.line p.first p.rest))
-      (sees_both g (result_from at.plan at.line (texts p.first)) (result_from at.plan (at.line + length p.first) (texts p.rest)) s s1 s2 p.sees
-      (subst (λ n. Sees g (result_from at.plan n (texts p.rest)) s1 s2) p.line (subst (λ (o : Plan). Sees g (result_from o at1.line (texts p.rest)) s1 s2) plan q.sees))));
+      (sees_both g (result_from at.plan at.line (line_texts p.first)) (result_from at.plan (at.line + length p.first) (line_texts p.rest)) s s1 s2 p.sees
+      (subst (λ n. Sees g (result_from at.plan n (line_texts p.rest)) s1 s2) p.line (subst (λ (o : Plan). Sees g (result_from o at1.line (line_texts p.rest)) s1 s2) plan q.sees))));
   line = let long : length lines ≡ length p.first + length p.rest = ap length p.whole ∙ both_long p.first p.rest in omega (arith, p.line, q.line, long);
 }
   where
@@ -90,11 +90,11 @@ not_past file r text lines line limit next is few = let long : length lines ≡ 
 
 pub all_examined : (g : Option (List ℕ)) (lines : List HistoryLine) (at : Passed) (s : ResultCheck) → lines ≡ [] → ExaminesWhole g lines at at s s
 all_examined g lines at s none = record {
-  sees = subst (λ (l : List HistoryLine). Sees g (result_from at.plan at.line (texts l)) s s) (sym none) (sees_none g s);
+  sees = subst (λ (l : List HistoryLine). Sees g (result_from at.plan at.line (line_texts l)) s s) (sym none) (sees_none g s);
   line = let long : length lines ≡ 0 = ap length none in omega (arith, long);
 }
 
-pub next_outer : (file : List ℕ) (r : VersionPlace) (lines : List HistoryLine) (fault : FileFault) → GivesNext file r lines (Err fault) → IsOuterFault fault
+pub next_outer : (file : List ℕ) (r : VersionPlace) (lines : List HistoryLine) (fault : FileFault) → GivesNext file r lines (Err fault) → IsFaultAroundCopy fault
 next_outer file r lines faults.Failed given = tt
 next_outer file r lines faults.Memory given = tt
 next_outer file r lines (faults.BadFormat line) given = given
@@ -107,15 +107,15 @@ next_outer file r lines (faults.Changed a b c d) given = given
 
 -- ---- how many lines there are
 
-pub shown_texts : (set : List ℕ) (lines : List HistoryLine) → texts (shown set lines) ≡ select set lines
+pub shown_texts : (set : List ℕ) (lines : List HistoryLine) → line_texts (shown set lines) ≡ select set lines
 shown_texts set [] = refl
 shown_texts set (line ∷ lines) = one (shows set line) (shown_texts set lines)
   where
-    one : (t : Bool) → texts (shown set lines) ≡ select set lines → texts (front_if t line (shown set lines)) ≡ front_if t line.text (select set lines)
+    one : (t : Bool) → line_texts (shown set lines) ≡ select set lines → line_texts (front_if t line (shown set lines)) ≡ front_if t line.text (select set lines)
     one true same = ap (λ l. line.text ∷ l) same
     one false same = same
 
-pub texts_long : (lines : List HistoryLine) → length (texts lines) ≡ length lines
+pub texts_long : (lines : List HistoryLine) → length (line_texts lines) ≡ length lines
 texts_long [] = refl
 texts_long (line ∷ lines) = ap suc (texts_long lines)
 
@@ -204,13 +204,13 @@ pub found_result : (g : Option (List ℕ)) (set name : List ℕ) (all : List His
     → ((file : List ℕ) (rest : List (List ℕ)) → g ≡ Some file → compares ≡ true → GComes file s2 rest → found.differs ≡ difference s2.differs s2.number [] rest)
     → FindsResult g at.plan (select set all) compares found
 found_result g set name all compares at at2 s s1 s2 new found begins new_is before first whole lines_is keyword_is differs_is =
-    let base : texts (shown set all) ≡ select set all = shown_texts set all in
-    let result_is : new ++ result_from at.plan at.line (texts (shown set all)) ≡ result_of at.plan (select set all) =
-    ap (λ l. l ++ result_from at.plan at.line (texts (shown set all))) new_is
-    ∙ (ap (λ n. added_after n at.plan.added ++ result_from at.plan n (texts (shown set all))) begins
+    let base : line_texts (shown set all) ≡ select set all = shown_texts set all in
+    let result_is : new ++ result_from at.plan at.line (line_texts (shown set all)) ≡ result_of at.plan (select set all) =
+    ap (λ l. l ++ result_from at.plan at.line (line_texts (shown set all))) new_is
+    ∙ (ap (λ n. added_after n at.plan.added ++ result_from at.plan n (line_texts (shown set all))) begins
     ∙ ap (λ l. added_after 0 at.plan.added ++ result_from at.plan 0 l) base) in
     let all_seen : Sees g (result_of at.plan (select set all)) s s2 =
-    subst (λ l. Sees g l s s2) result_is (sees_both g new (result_from at.plan at.line (texts (shown set all))) s s1 s2 first whole.sees) in
+    subst (λ l. Sees g l s s2) result_is (sees_both g new (result_from at.plan at.line (line_texts (shown set all))) s s1 s2 first whole.sees) in
     let long : length (select set all) ≡ length (shown set all) = ap length (sym base) ∙ texts_long (shown set all) in
     record {
       lines = omega (arith, lines_is, whole.line, begins, long);

@@ -17,7 +17,7 @@ use Rattle.sccs_writers.specs.HeaderBytes.{WritesHeader}
 use Rattle.sccs_writers.specs.Puts.{Puts, Writer}
 use Rattle.sccs_writers.specs.Spelled.{spelled}
 use Rattle.sccs_copies.specs.Copies.{AppendsFile, AppendsText, CopiesBody, CopiesItems, CopiesOn, CopyComes, OfSomeBody, PutsFiltered}
-use Rattle.sccs_copies.specs.Filters.{Filter, Finishes, TakesItem, identity, with_front}
+use Rattle.sccs_copies.specs.Filters.{Filter, Finishes, TakesItem, identity, items_before}
 use Rattle.sccs_copies.specs.declared.copies.Copying.{Copying}
 use Rattle.sccs_copies.proofs.AppendLaws.{items_behind, sums_answered}
 use Rattle.sccs_copies.proofs.CopyLaws.{two_puts}
@@ -90,7 +90,7 @@ body_put filter live c c2 w w2 w3 a b z g h q accepts is accepted body end =
       body = p.taken;
       items = p.put.items ++ end.items;
       goes = subst (GoesOn live []) (append-nil p.taken) (p.goes [] body.over);
-      output_is = ap (filter.output c.filter []) (sym (append-nil p.taken)) ∙ (sym (p.put.filters.goes []) ∙ ap (with_front p.put.items) said);
+      output_is = ap (filter.output c.filter []) (sym (append-nil p.taken)) ∙ (sym (p.put.filters.goes []) ∙ ap (items_before p.put.items) said);
       so = two_puts p.put.items end.items w w2 w3 a b z p.put.puts (ok_of (Puts (spelled end.items) w2 w3 b z) q accepts is end.puts.ok);
     }
 

@@ -9,7 +9,7 @@ use Rattle.sccs_grammar.specs.declared.faults.FileFault.{FileFault}
 use Rattle.sccs_grammar.specs.declared.faults.FileFault.TheVariants as faults
 use Rattle.sccs_body.specs.Reader.{ItemPlace}
 use Rattle.sccs_body.specs.ToCome.{GivesNext, ToCome}
-use Rattle.sccs_copies.specs.Copies.{CopyComes, IsOuterFault}
+use Rattle.sccs_copies.specs.Copies.{CopyComes, IsFaultAroundCopy}
 use Rattle.sccs_copies.specs.Filters.{Filter}
 use Rattle.sccs_copies.specs.declared.copies.Copying.{Copying}
 
@@ -32,7 +32,7 @@ none_more rest is = cc
 never : (rest : List Item) (k : ℕ) → ok_items rest ≡ Err k → ⊥
 never rest k is = cc
 
-fault_given : (file live : List ℕ) (before rest : List Item) (place2 : ItemPlace) (fault : FileFault) → GivesNext file live before (Ok rest) place2 (Err fault) → IsOuterFault fault
+fault_given : (file live : List ℕ) (before rest : List Item) (place2 : ItemPlace) (fault : FileFault) → GivesNext file live before (Ok rest) place2 (Err fault) → IsFaultAroundCopy fault
 fault_given file live before rest place2 faults.Failed given = tt
 fault_given file live before rest place2 faults.Memory given = tt
 fault_given file live before rest place2 (faults.BadFormat line) given = never rest line given
@@ -44,5 +44,5 @@ fault_given file live before rest place2 faults.Encoded given = given
 fault_given file live before rest place2 (faults.Changed a b c d) given = given
 
 -- over a told body that is whole only the disk or memory can end it
-pub item_fault : {F : Type 0} (filter : Filter F) (file : List ℕ) (items : List Item) (c : Copying F) (place : ItemPlace) (fault : FileFault) → Given file c.items place (Err fault) → CopyComes filter file items c → IsOuterFault fault
+pub item_fault : {F : Type 0} (filter : Filter F) (file : List ℕ) (items : List Item) (c : Copying F) (place : ItemPlace) (fault : FileFault) → Given file c.items place (Err fault) → CopyComes filter file items c → IsFaultAroundCopy fault
 item_fault filter file items c place fault given p = fault_given file p.live p.before p.rest place fault (given p.live p.before (Ok p.rest) p.comes)

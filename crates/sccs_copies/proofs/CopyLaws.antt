@@ -19,7 +19,7 @@ use Rattle.sccs_writers.specs.Puts.{Puts, PutsText, Writer}
 use Rattle.sccs_writers.specs.Spelled.{spelled}
 use Rattle.sccs_writers.proofs.OneFile.{only_both, only_none, only_same}
 use Rattle.sccs_writers.proofs.PutLaws.{puts_both, puts_none}
-use Rattle.sccs_copies.specs.Copies.{CopiesAll, CopiesNext, CopiesSome, CopiesWhole, CopyComes, IsOuterFault, PutsItems, PutsSome, as_file_fault}
+use Rattle.sccs_copies.specs.Copies.{CopiesAll, CopiesNext, CopiesSome, CopiesWhole, CopyComes, IsFaultAroundCopy, PutsItems, PutsSome, as_file_fault}
 use Rattle.sccs_copies.specs.Filters.{Filter, Finishes, TakesItem}
 use Rattle.sccs_copies.specs.declared.copies.Copying.{Copying}
 use Rattle.sccs_copies.proofs.ComingItems.{Given, none_more}
@@ -216,7 +216,7 @@ outer_left filter items f2 w w2 w3 a b z fault r left outer =
     let p = err_from_is_err_and r left in
     subst (PutsItems items w w3 a z) (sym (p.1 ∙ ap (λ (e : FileFault). Err e) p.2)) outer
 
-pub next_left : {F : Type 0} (filter : Filter F) (file : List ℕ) (items : List Item) (c c2 : Copying F) (w w2 : Writer) (a b : Told) (fault : FileFault) (r : Result Bool FileFault) → IsErrAnd r (λ e. e ≡ fault) → IsOuterFault fault → CopiesNext filter file items c c2 w w2 a b r
+pub next_left : {F : Type 0} (filter : Filter F) (file : List ℕ) (items : List Item) (c c2 : Copying F) (w w2 : Writer) (a b : Told) (fault : FileFault) (r : Result Bool FileFault) → IsErrAnd r (λ e. e ≡ fault) → IsFaultAroundCopy fault → CopiesNext filter file items c c2 w w2 a b r
 next_left filter file items c c2 w w2 a b fault r left outer =
     let p = err_from_is_err_and r left in
     subst (CopiesNext filter file items c c2 w w2 a b) (sym (p.1 ∙ ap (λ (e : FileFault). Err e) p.2)) outer

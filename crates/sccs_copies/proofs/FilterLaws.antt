@@ -11,20 +11,20 @@ use Rattle.sccs_writers.specs.Puts.{Puts, PutsText, Writer}
 use Rattle.sccs_writers.specs.Spelled.{spelled}
 use Rattle.sccs_writers.proofs.PutLaws.{puts_both, puts_left, puts_none, text_both}
 use Rattle.sccs_copies.specs.Copies.{PutsFiltered}
-use Rattle.sccs_copies.specs.Filters.{Filter, Filters, Finishes, TakesItem, with_front}
+use Rattle.sccs_copies.specs.Filters.{Filter, Filters, Finishes, TakesItem, items_before}
 
 -- ---- outputs
 
-pub front_none : (o : Option (List Item)) → with_front [] o ≡ o
+pub front_none : (o : Option (List Item)) → items_before [] o ≡ o
 front_none None = refl
 front_none (Some items) = refl
 
-pub front_both : (xs ys : List Item) (o : Option (List Item)) → with_front (xs ++ ys) o ≡ with_front xs (with_front ys o)
+pub front_both : (xs ys : List Item) (o : Option (List Item)) → items_before (xs ++ ys) o ≡ items_before xs (items_before ys o)
 front_both xs ys None = refl
 front_both xs ys (Some items) = ap (λ (l : List Item). Some l) (append_assoc xs ys items)
 
 -- what is left of an output whose first items are known
-pub rest_of : (xs items : List Item) (o : Option (List Item)) → with_front xs o ≡ Some items → (rest : List Item) × (o ≡ Some rest) × (items ≡ xs ++ rest)
+pub rest_of : (xs items : List Item) (o : Option (List Item)) → items_before xs o ≡ Some items → (rest : List Item) × (o ≡ Some rest) × (items ≡ xs ++ rest)
 rest_of xs items None is = absurd cc
 rest_of xs items (Some rest) is = (rest, refl, cc)
 
@@ -38,7 +38,7 @@ filters_both filter before mid after xs ys one two f f2 f3 p q = record {
   behind = q.behind;
   goes = λ rest.
       front_both one two (filter.output f3 after rest)
-      ∙ (ap (with_front one) (q.goes rest) ∙ (p.goes (ys ++ rest) ∙ ap (filter.output f before) (sym (append_assoc xs ys rest))));
+      ∙ (ap (items_before one) (q.goes rest) ∙ (p.goes (ys ++ rest) ∙ ap (filter.output f before) (sym (append_assoc xs ys rest))));
 }
 
 pub filtered_none : {F : Type 0} (filter : Filter F) (before : List Item) (f : F) (w : Writer) (t : Told) → filter.stands f before → PutsFiltered filter before before [] f f w w t t

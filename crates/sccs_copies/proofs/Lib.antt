@@ -4,6 +4,7 @@ pub mod BodyLaws
 pub mod CheckLaws
 pub mod ComingItems
 pub mod CopyLaws
+pub mod FileReads
 pub mod FilterLaws
 pub mod SplicingLaws
 pub mod TextRuns

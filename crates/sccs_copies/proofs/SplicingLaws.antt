@@ -20,20 +20,20 @@ use Rattle.sccs_writers.proofs.PutLaws.{puts_none, same_text}
 use Rattle.sccs_splicer.proofs.Spelling.{spelled_one}
 use Rattle.sccs_tokens.specs.Written.{ended, item_line}
 use Rattle.sccs_copies.specs.BaseSplicing.{base_splicing, counted_output}
-use Rattle.sccs_copies.specs.Filters.{Filter, Filters, Finishes, TakesItem, identity, with_front}
+use Rattle.sccs_copies.specs.Filters.{Filter, Filters, Finishes, TakesItem, identity, items_before}
 use Rattle.sccs_copies.specs.declared.base_splicers.BaseSplicer.{BaseSplicer}
 use Rattle.sccs_copies.proofs.FilterLaws.{text_as}
 
 -- ---- what is owed, where the lines are as many as were counted
 
-counted_on : (s s2 : State) (lines : ℕ) (pushed rest : List (Item × Bool)) (items : List Item) → Goes pushed items s s2 → with_front items (counted_output s2 lines rest) ≡ counted_output s lines (pushed ++ rest)
+counted_on : (s s2 : State) (lines : ℕ) (pushed rest : List (Item × Bool)) (items : List Item) → Goes pushed items s s2 → items_before items (counted_output s2 lines rest) ≡ counted_output s lines (pushed ++ rest)
 counted_on s s2 lines pushed rest items goes =
-    subst (λ n. with_front items (if n == lines then Some (owed s2 rest) else None) ≡ counted_output s lines (pushed ++ rest)) (sym count) (by_test (s.line + base_count (pushed ++ rest) == lines))
+    subst (λ n. items_before items (if n == lines then Some (owed s2 rest) else None) ≡ counted_output s lines (pushed ++ rest)) (sym count) (by_test (s.line + base_count (pushed ++ rest) == lines))
   where
     count : s2.line + base_count rest ≡ s.line + base_count (pushed ++ rest)
     count = omega (arith, goes.line, count_both pushed rest)
 
-    by_test : (t : Bool) → with_front items (if t then Some (owed s2 rest) else None) ≡ (if t then Some (owed s (pushed ++ rest)) else None)
+    by_test : (t : Bool) → items_before items (if t then Some (owed s2 rest) else None) ≡ (if t then Some (owed s (pushed ++ rest)) else None)
     by_test true = ap (λ (l : List Item). Some l) (goes.owes rest)
     by_test false = refl
 

@@ -42,14 +42,14 @@ as_file_fault refusals.Failed = Failed
 as_file_fault refusals.Memory = Memory
 
 -- no fault of the file that is read: the disk failed, or there was no memory
-abbrev pub IsOuterFault : FileFault → Type 0
-IsOuterFault Failed = Unit {0}
-IsOuterFault Memory = Unit {0}
-IsOuterFault _ = ⊥
+abbrev pub IsFaultAroundCopy : FileFault → Type 0
+IsFaultAroundCopy Failed = Unit {0}
+IsFaultAroundCopy Memory = Unit {0}
+IsFaultAroundCopy _ = ⊥
 
 abbrev pub IsOuterResult : {T : Type 0} → Result T FileFault → Type 0
 IsOuterResult (Ok x) = Unit {0}
-IsOuterResult (Err fault) = IsOuterFault fault
+IsOuterResult (Err fault) = IsFaultAroundCopy fault
 
 -- A call that puts some text while another file is read: at every exit at most the writer's file is another, and a failing disk
 -- is counted.
@@ -142,22 +142,22 @@ pub record CopiesWhole {F : Type 0} (filter : Filter F) (items : List Item) (f2 
 -- some of the output was put; of a told file only the disk or memory can keep it from that
 abbrev pub CopiesTexts : {F : Type 0} → Filter F → List ℕ → List Item → Copying F → Copying F → Writer → Writer → Told → Told → Result (Unit {0}) FileFault → Type 0
 CopiesTexts filter file items c c2 w w2 old new (Ok done) = CopiesSome filter file items c c2 w w2 old new
-CopiesTexts filter file items c c2 w w2 old new (Err fault) = IsOuterFault fault
+CopiesTexts filter file items c c2 w w2 old new (Err fault) = IsFaultAroundCopy fault
 
 -- the next item, or the end
 abbrev pub CopiesNext : {F : Type 0} → Filter F → List ℕ → List Item → Copying F → Copying F → Writer → Writer → Told → Told → Result Bool FileFault → Type 0
 CopiesNext filter file items c c2 w w2 old new (Ok true) = CopiesSome filter file items c c2 w w2 old new
 CopiesNext filter file items c c2 w w2 old new (Ok false) = CopiesWhole filter items c2.filter w w2 old new
-CopiesNext filter file items c c2 w w2 old new (Err fault) = IsOuterFault fault
+CopiesNext filter file items c c2 w w2 old new (Err fault) = IsFaultAroundCopy fault
 
 abbrev pub CopiesAll : {F : Type 0} → Filter F → List Item → F → Writer → Writer → Told → Told → Result (Unit {0}) FileFault → Type 0
 CopiesAll filter items f2 w w2 old new (Ok done) = CopiesWhole filter items f2 w w2 old new
-CopiesAll filter items f2 w w2 old new (Err fault) = IsOuterFault fault
+CopiesAll filter items f2 w w2 old new (Err fault) = IsFaultAroundCopy fault
 
 -- the items were put; of a told file only the disk or memory can keep them from that
 abbrev pub PutsItems : List Item → Writer → Writer → Told → Told → Result (Unit {0}) FileFault → Type 0
 PutsItems items w w2 old new (Ok done) = Puts (spelled items) w w2 old new
-PutsItems items w w2 old new (Err fault) = IsOuterFault fault
+PutsItems items w w2 old new (Err fault) = IsFaultAroundCopy fault
 
 -- They were appended, and the sums go on with them.
 pub record AppendsText (n text : List ℕ) (before after : ℕ × ℕ) (old new : Told) : Type 0 where
@@ -166,7 +166,7 @@ pub record AppendsText (n text : List ℕ) (before after : ℕ × ℕ) (old new 
 
 abbrev pub AppendsItems : List Item → List ℕ → ℕ × ℕ → Told → Told → Result (ℕ × ℕ) FileFault → Type 0
 AppendsItems items n sums old new (Ok after) = AppendsText n (spelled items) sums after old new
-AppendsItems items n sums old new (Err fault) = IsOuterFault fault
+AppendsItems items n sums old new (Err fault) = IsFaultAroundCopy fault
 
 -- the same behind a header, from the sum line on, whose digits are zeros
 pub record AppendsFile (h : Header) (items : List Item) (n : List ℕ) (sums : ℕ × ℕ) (old new : Told) : Type 0 where
@@ -175,12 +175,12 @@ pub record AppendsFile (h : Header) (items : List Item) (n : List ℕ) (sums : �
 
 abbrev pub AppendsWhole : Header → List Item → List ℕ → Told → Told → Result (ℕ × ℕ) FileFault → Type 0
 AppendsWhole h items n old new (Ok after) = AppendsFile h items n after old new
-AppendsWhole h items n old new (Err fault) = IsOuterFault fault
+AppendsWhole h items n old new (Err fault) = IsFaultAroundCopy fault
 
 -- the x-file is the s-file of these
 abbrev pub MakesFile : Header → List Item → List ℕ → Option View → Option View → Result (Unit {0}) FileFault → Type 0
 MakesFile h items n old new (Ok done) = Becomes (λ v. put v n (Some (sealed h items))) old new
-MakesFile h items n old new (Err fault) = IsOuterFault fault
+MakesFile h items n old new (Err fault) = IsFaultAroundCopy fault
 
 -- A call that makes the file of a name and writes it: at most that file is another, at Ok it is there and firm, and a failing disk is
 -- counted.

@@ -13,7 +13,7 @@ use Rattle.sccs_table.specs.ReaderState.{StandsIn}
 use Rattle.sccs_splicer.specs.PlanPlaces.{Passed}
 use Rattle.sccs_versions.specs.Coming.{Coming}
 use Rattle.sccs_versions.specs.Place.{VersionPlace}
-use Rattle.sccs_copies.specs.Copies.{IsOuterFault}
+use Rattle.sccs_copies.specs.Copies.{IsFaultAroundCopy}
 use Rattle.sccs_copies.specs.declared.result_checks.ResultCheck.{ResultCheck}
 use Rattle.sccs_copies.specs.declared.examining.Found.{Found}
 
@@ -87,7 +87,7 @@ pub record Sees (told : Option (List ℕ)) (lines : List (List ℕ)) (s s2 : Res
 -- lines went by; or it was no fault of a file that was read
 abbrev pub SeesAll : Option (List ℕ) → List (List ℕ) → ResultCheck → ResultCheck → {T : Type 0} → Result T FileFault → Type 0
 SeesAll told lines s s2 (Ok done) = Sees told lines s s2
-SeesAll told lines s s2 (Err fault) = IsOuterFault fault
+SeesAll told lines s s2 (Err fault) = IsFaultAroundCopy fault
 
 -- the next line of a told g-file, and others are to come; or none is left
 pub record ComesFirst (file line : List ℕ) (s : ResultCheck) (rest : List (List ℕ)) : Type 0 where
@@ -100,9 +100,9 @@ GivesGLine file s rest line true = ComesFirst file line s rest
 GivesGLine file s rest line false = (rest ≡ []) × (s.over ≡ true)
 
 -- their texts
-abbrev pub texts : List HistoryLine → List (List ℕ)
-texts [] = []
-texts (line ∷ lines) = line.text ∷ texts lines
+abbrev pub line_texts : List HistoryLine → List (List ℕ)
+line_texts [] = []
+line_texts (line ∷ lines) = line.text ∷ line_texts lines
 
 -- ---- what is found
 
@@ -115,30 +115,30 @@ pub record FindsResult (g : Option (List ℕ)) (p : Plan) (base : List (List ℕ
 
 abbrev pub Examines : Option (List ℕ) → Plan → List (List ℕ) → Bool → Result Found FileFault → Type 0
 Examines g p base compares (Ok found) = FindsResult g p base compares found
-Examines g p base compares (Err fault) = IsOuterFault fault
+Examines g p base compares (Err fault) = IsFaultAroundCopy fault
 
 -- Some lines of the base went by, and others are to come.
 pub record ExaminesSome (file : List ℕ) (r : VersionPlace) (g : Option (List ℕ)) (lines : List HistoryLine) (at at2 : Passed) (s s2 : ResultCheck) : Type 0 where
   pub first : List HistoryLine
   pub rest : List HistoryLine
   pub whole : lines ≡ first ++ rest
-  pub sees : Sees g (result_from at.plan at.line (texts first)) s s2
+  pub sees : Sees g (result_from at.plan at.line (line_texts first)) s s2
   pub line : at2.line ≡ at.line + length first
   pub on : Coming file r rest
 
 -- All of them went by.
 pub record ExaminesWhole (g : Option (List ℕ)) (lines : List HistoryLine) (at at2 : Passed) (s s2 : ResultCheck) : Type 0 where
-  pub sees : Sees g (result_from at.plan at.line (texts lines)) s s2
+  pub sees : Sees g (result_from at.plan at.line (line_texts lines)) s s2
   pub line : at2.line ≡ at.line + length lines
 
 abbrev pub ExaminesNext : List ℕ → VersionPlace → Option (List ℕ) → List HistoryLine → Passed → Passed → ResultCheck → ResultCheck → Result Bool FileFault → Type 0
 ExaminesNext file r g lines at at2 s s2 (Ok true) = ExaminesSome file r g lines at at2 s s2
 ExaminesNext file r g lines at at2 s s2 (Ok false) = ExaminesWhole g lines at at2 s s2
-ExaminesNext file r g lines at at2 s s2 (Err fault) = IsOuterFault fault
+ExaminesNext file r g lines at at2 s s2 (Err fault) = IsFaultAroundCopy fault
 
 abbrev pub ExaminesAll : Option (List ℕ) → List HistoryLine → Passed → Passed → ResultCheck → ResultCheck → Result (Unit {0}) FileFault → Type 0
 ExaminesAll g lines at at2 s s2 (Ok done) = ExaminesWhole g lines at at2 s s2
-ExaminesAll g lines at at2 s s2 (Err fault) = IsOuterFault fault
+ExaminesAll g lines at at2 s s2 (Err fault) = IsFaultAroundCopy fault
 
 -- ---- what stays
 

@@ -15,13 +15,14 @@ pub record Filter (F : Type 0) : Type 1 where
   pub output : F → List Item → List Item → Option (List Item)
 
 -- an output with items before it
-abbrev pub with_front : List Item → Option (List Item) → Option (List Item)
-with_front items output = option_map (λ rest. items ++ rest) output
+abbrev pub items_before : List Item → Option (List Item) → Option (List Item)
+items_before items output = option_map (λ rest. items ++ rest) output
 
 -- Items were taken behind others: what was put for them and the output then are the output that was.
 pub record Filters {F : Type 0} (filter : Filter F) (before after taken put : List Item) (f f2 : F) : Type 0 where
   pub behind : filter.stands f2 after
-  pub goes : (rest : List Item) → with_front put (filter.output f2 after rest) ≡ filter.output f before (taken ++ rest)
+  pub goes : (rest : List Item) → items_before put (filter.output f2 after rest)
+      ≡ filter.output f before (taken ++ rest)
 
 -- A call that takes the next item.
 pub record TakesItem {F T : Type 0} (filter : Filter F) (item : Item) (f f2 : F) (w w2 : Writer) (old new : Told) (faults faults_after : ℕ) (result : Result T DiskRefusal) : Type 0 where

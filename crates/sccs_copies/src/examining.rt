@@ -150,18 +150,13 @@ fn examine_all<D: Disk>(
         → Examines (bytes_in (seen (D.told disk.old)) g) at.old.plan (select set lines) compares result }
 {
     see_lines(alloc, check, at.new_lines(), disk)?;
-    match see_all(alloc, version, at, check, disk) {
-        Ok(()) => {}
-        Err(fault) => return Err(fault),
-    }
-    match first_difference(alloc, compares, check, disk) {
-        Ok(differs) => Ok(Found {
-            lines: at.line(),
-            keyword: check.keyword,
-            differs,
-        }),
-        Err(fault) => Err(fault),
-    }
+    see_all(alloc, version, at, check, disk)?;
+    let differs = first_difference(alloc, compares, check, disk)?;
+    Ok(Found {
+        lines: at.line(),
+        keyword: check.keyword,
+        differs,
+    })
 }
 
 /// Reads the base of a plan once, that is the lines that a set shows of a body: counts them, looks for a

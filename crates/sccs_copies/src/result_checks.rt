@@ -58,14 +58,11 @@ fn next_line<D: Disk>(
     if check.over {
         return Ok(false);
     }
-    match check.lines.next_line(disk, line) {
-        Ok(true) => Ok(true),
-        Ok(false) => {
-            check.over = true;
-            Ok(!line.is_empty())
-        }
-        Err(fault) => Err(fault),
+    if check.lines.next_line(disk, line)? {
+        return Ok(true);
     }
+    check.over = true;
+    Ok(!line.is_empty())
 }
 
 // whether a line is that of the g-file, where this has one

@@ -48,10 +48,8 @@ fn append_body<F: BodyFilter + Drop, D: Disk>(
         return Err(FileFault::Memory);
     };
     let mut copying = copying;
-    match put_body(&mut copying, &mut out, disk) {
-        Ok(()) => Ok(out.sum()),
-        Err(fault) => Err(fault),
-    }
+    put_body(&mut copying, &mut out, disk)?;
+    Ok(out.sum())
 }
 
 // appends header and body
@@ -124,10 +122,7 @@ pub fn write_sfile<F: BodyFilter + Drop, D: Disk>(
     if let Err(refusal) = start(disk, name, b'x') {
         return Err(file_fault(refusal));
     }
-    let sum = match append_x(alloc, header, copying, name, disk) {
-        Ok(sum) => sum,
-        Err(fault) => return Err(fault),
-    };
+    let sum = append_x(alloc, header, copying, name, disk)?;
     match finish_x(disk, name, &sum) {
         Ok(()) => Ok(()),
         Err(refusal) => Err(file_fault(refusal)),

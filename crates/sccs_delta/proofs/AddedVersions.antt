@@ -38,22 +38,22 @@ use Rattle.sccs_sets.specs.Naming.{named_serials}
 use Rattle.sccs_steps.specs.StepEffects.{StepEffect}
 use Rattle.sccs_store.specs.SealedFiles.{sealed}
 use Rattle.sccs_words.specs.declared.commands.DeltaWords.{DeltaWords}
-use Rattle.sccs_delta.specs.DeltaStep.{Entry, base_lines, base_of, counts_of, delta_of, delta_outcome}
-use Rattle.sccs_delta.specs.NewVersions.{AddsVersions, MakesVersions, base_text, text_in}
+use Rattle.sccs_delta.specs.DeltaStep.{ChosenEntry, base_lines, entry_base, counts_of, entry_delta, delta_outcome}
+use Rattle.sccs_delta.specs.NewVersions.{AddsVersions, MakesVersions, base_text, version_text}
 use Rattle.sccs_delta.specs.NullDeltas.{null_deltas, serial_behind, skipped_by, with_nulls}
 use Rattle.sccs_delta.specs.declared.entries.Base.{Base}
 use Rattle.sccs_delta.proofs.AgreeLaws.{others_agree}
 use Rattle.sccs_delta.proofs.DeltaReads.{delta_reads}
 use Rattle.sccs_delta.proofs.EntryChains.{has_base}
 use Rattle.sccs_delta.proofs.EntryLaws.{HasBase, base_found}
-use Rattle.sccs_delta.proofs.FileRules.{IsFileOfRules, file_keeps}
+use Rattle.sccs_copies.proofs.FileReads.{IsFileOfRules, file_keeps}
 use Rattle.sccs_delta.proofs.NullFits.{rules_kept, same_base, spelling_kept}
 use Rattle.sccs_delta.proofs.NullLaws.{newest_deltas, newest_nulls}
 use Rattle.sccs_delta.proofs.NullTables.{live_in_turn}
 use Rattle.sccs_delta.proofs.NullVersions.{null_version, others_nulls, own_behind}
 use Rattle.sccs_delta.proofs.SettleLaws.{room_of}
-use Rattle.sccs_delta.proofs.StepParts.{StepParts, base_set_is, entry_numbered, pending_agrees, step_parts}
-use Rattle.sccs_delta.proofs.PendingReads.{pending_entries}
+use Rattle.sccs_delta.proofs.StepParts.{StepParts, base_set_is, entry_numbered, step_parts}
+use Rattle.sccs_pending.proofs.PendingReads.{pending_agrees, pending_entries}
 
 -- ---- which serials are live
 
@@ -82,7 +82,7 @@ no_list : (records : List Record) (ns : List ℕ) → named_serials records [] [
 no_list records ns is = cc
 
 -- of an entry without lists
-alone_is : (file : Parsed) (edit : Edit) (base : Base) → HasBase file.header.records edit base → edit.include ≡ [] → edit.exclude ≡ [] → base_text file base ≡ text_in file base.got
+alone_is : (file : Parsed) (edit : Edit) (base : Base) → HasBase file.header.records edit base → edit.include ≡ [] → edit.exclude ≡ [] → base_text file base ≡ version_text file base.got
 alone_is file edit base is none_in none_out =
     ap (λ (l : List ℕ). select (applied (record { target = base.got; include = l; exclude = base.exclude; cutoff = None }) file.header.records) (lines_of file.items))
     (no_list file.header.records base.include (ap (λ l. named_serials file.header.records [] l) (sym none_in) ∙ is.include))
@@ -91,7 +91,7 @@ alone_is file edit base is none_in none_out =
 
 module _ (file : Parsed) (keeps : IsFileOfRules file) (words : DeltaWords) (stamp : Stamp) (edit : Edit) (base : Base) (is : HasBase file.header.records edit base) (sids : List Sid) (few : newest file.header.records + length sids < 65535) (counts : Counts) (orders : List Order) where
   abbrev new_delta : NewDelta
-  new_delta = delta_of words stamp edit base.include base.exclude counts
+  new_delta = entry_delta words stamp edit base.include base.exclude counts
 
   abbrev nulls : List NewDelta
   nulls = null_deltas stamp sids
@@ -143,11 +143,11 @@ module _ (words : DeltaWords) (stamp : Stamp) (moment : IsMoment stamp.moment) (
       let at = entry_numbered words stamp file.header edits e parts.meant in
       let based = has_base words stamp file.header edits e parts.meant in
       let found = base_found file.header.records edits (e.number - 1) e.edit keeps.header.rules.table.falls agree at in
-      let base : HasBase file.header.records e.edit e.base = subst (HasBase file.header.records e.edit) (same_base (base_of file.header.records e.number e.edit) found.0 e.base (found.1.is e.number) based) found.1 in
+      let base : HasBase file.header.records e.edit e.base = subst (HasBase file.header.records e.edit) (same_base (entry_base file.header.records e.number e.edit) found.0 e.base (found.1.is e.number) based) found.1 in
       let room = room_of file.header edits e.edit parts.nulls parts.skipped in
       let lines = length (base_lines file.items e.base) in
       let counts = counts_of (plan parts.orders lines) lines in
-      let d = delta_of words stamp e.edit e.base.include e.base.exclude counts in
+      let d = entry_delta words stamp e.edit e.base.include e.base.exclude counts in
       let sids = skipped_by file.header edits e.edit in
       let made = after file keeps words stamp e.edit e.base base sids room.0 counts parts.orders in
       record {
@@ -162,7 +162,7 @@ module _ (words : DeltaWords) (stamp : Stamp) (moment : IsMoment stamp.moment) (
         numbered = at;
         base = record { got = base.got; include = base.include; exclude = base.exclude; alone = alone_is file e.edit e.base base };
         script = parts.script;
-        header = ap (λ (set : List ℕ). with_nulls file.header e.base.got (null_deltas stamp sids) (delta_of words stamp e.edit e.base.include e.base.exclude (counts_of (plan parts.orders (length (select set (lines_of file.items)))) (length (select set (lines_of file.items)))))) (base_set_is file.header.records e.number e.edit e.base based);
+        header = ap (λ (set : List ℕ). with_nulls file.header e.base.got (null_deltas stamp sids) (entry_delta words stamp e.edit e.base.include e.base.exclude (counts_of (plan parts.orders (length (select set (lines_of file.items)))) (length (select set (lines_of file.items)))))) (base_set_is file.header.records e.number e.edit e.base based);
         serial = ap suc (newest_nulls file.header e.base.got stamp sids);
         files = ap (λ (x : StepEffect). x.new) (sym parts.made)
             ∙ (ap (λ (l : List Sid). files_with file d e l (places file.items e.base.set parts.orders (suc (newest file.header.records + length l)))) room.1
@@ -176,7 +176,7 @@ module _ (words : DeltaWords) (stamp : Stamp) (moment : IsMoment stamp.moment) (
         versions = added file keeps words stamp e.edit e.base base sids room.0 counts parts.orders;
       }
     where
-      files_with : Parsed → NewDelta → Entry → List Sid → List Item → Option Files
+      files_with : Parsed → NewDelta → ChosenEntry → List Sid → List Item → Option Files
       files_with file d e sids items = Some (record { s = Some (sealed (with_nulls file.header e.base.got (null_deltas stamp sids) d) items); p = pfile_of (remove parts.found.edits (e.number - 1)); z = None; g = kept_g words.keep f.g })
 
       edit_at : (P : Edit → Type 0) (edits : List Edit) (place : ℕ) (edit : Edit) → AllByRecursion P edits → slice_get edits place ≡ Some edit → P edit

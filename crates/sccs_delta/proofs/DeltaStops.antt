@@ -40,7 +40,7 @@ use Rattle.sccs_delta.proofs.DeltaReads.{delta_reads}
 use Rattle.sccs_delta.proofs.MadeEntries.{HasMade, entry_goes, rest_stays}
 use Rattle.sccs_delta.proofs.NullTables.{lives_nulls, nulls_apart}
 use Rattle.sccs_pending.proofs.StopLaws.{pending_file, table_is}
-use Rattle.sccs_delta.proofs.PendingReads.{no_entry, pending_entries}
+use Rattle.sccs_pending.proofs.PendingReads.{no_entry, pending_entries}
 
 -- ---- null deltas make no entry's SID
 

@@ -20,7 +20,7 @@ use Rattle.sccs_sets.specs.Sets.{both_listed, first_shared, sid_at}
 use Rattle.sccs_sets.proofs.Living.{newest_live, serials_live}
 use Rattle.sccs_sets.proofs.OnceNamed.{places_all, serials_once}
 use Rattle.sccs_sets.proofs.Ranges.{ranges_named}
-use Rattle.sccs_delta.specs.DeltaStep.{base_of}
+use Rattle.sccs_delta.specs.DeltaStep.{entry_base}
 use Rattle.sccs_delta.specs.declared.entries.Base.{Base}
 use Rattle.sccs_delta.proofs.EntryBases.{base_made}
 
@@ -169,7 +169,7 @@ true_not false is = refl
 
 -- What an entry says by serials: each is live, and its lists share none.
 pub record HasBase (records : List Record) (edit : Edit) (base : Base) : Type 0 where
-  pub is : (number : ℕ) → base_of records number edit ≡ Ok base
+  pub is : (number : ℕ) → entry_base records number edit ≡ Ok base
   pub got : serial_of records edit.got ≡ Some base.got
   pub include : named_serials records [] edit.include ≡ Ok base.include
   pub exclude : named_serials records [] edit.exclude ≡ Ok base.exclude

@@ -32,10 +32,10 @@ use Rattle.sccs_script.specs.Commands.{FitsIn}
 use Rattle.sccs_script.specs.declared.faults.ScriptFault.{ScriptFault}
 use Rattle.sccs_script.specs.declared.faults.ScriptFault.TheVariants as faults
 use Rattle.sccs_steps.specs.StepEffects.{check}
-use Rattle.sccs_pending.specs.PFiles.{Passes, is_short}
+use Rattle.sccs_pending.specs.PFiles.{PassesCheck, is_short}
 use Rattle.sccs_delta.specs.DeltaStep.{compared, fitted, or_differs, or_script_fault}
 use Rattle.sccs_copies.specs.Examining.{Examines, FindsResult, first_difference, has_keyword, result_of}
-use Rattle.sccs_delta.specs.Preparing.{FindsBase, Fits, ReadsBase, judged}
+use Rattle.sccs_delta.specs.Preparing.{FindsBase, FitsScript, ReadsBase, judged_script}
 use Rattle.sccs_delta.specs.Versions.{IsOrdered}
 use Rattle.sccs_copies.specs.declared.examining.Found.{Found}
 use Rattle.sccs_delta.proofs.LongerBases.{fits_longer, plan_longer}
@@ -46,8 +46,8 @@ use Rattle.sccs_delta.proofs.PlanResults.{plan_applied}
 abbrev judged_by : List Flag → Result (Unit {0}) ScriptFault → Bool → Result Bool Refusal → Result Bool Refusal
 judged_by flags r keyword last = or_script_fault r >>= λ x. check (not (has_flag flags flag_i) || keyword) refusals.NoKeywords >>= λ y. last
 
-judged_is : (flags : List Flag) (orders : List Order) (found : Found) → judged flags orders found ≡ judged_by flags (checked orders found.lines) found.keyword (or_differs found.differs)
-unfolding judged
+judged_is : (flags : List Flag) (orders : List Order) (found : Found) → judged_script flags orders found ≡ judged_by flags (checked orders found.lines) found.keyword (or_differs found.differs)
+unfolding judged_script
 judged_is flags orders found = refl
 
 fitted_is : (flags : List Flag) (orders : List Order) (base : List (List ℕ)) (g : Option Content) → fitted flags orders base g ≡ judged_by flags (checked orders (length base)) (list_any has_keyword (apply orders base)) (compared g (apply orders base))
@@ -61,25 +61,25 @@ same_judged flags (Err (faults.ScriptRange line lines)) a b x y keyword last = r
 same_judged flags (Err (faults.BadText line)) a b x y keyword last = refl
 same_judged flags (Err faults.Memory) a b x y keyword last = refl
 
-judged_fits : (flags : List Flag) (orders : List Order) (base : List (List ℕ)) (g : Option Content) (found : Found) → is_short g ≡ true → FindsBase orders base g found → judged flags orders found ≡ fitted flags orders base g
+judged_fits : (flags : List Flag) (orders : List Order) (base : List (List ℕ)) (g : Option Content) (found : Found) → is_short g ≡ true → FindsBase orders base g found → judged_script flags orders found ≡ fitted flags orders base g
 judged_fits flags orders base g found short finds =
     judged_is flags orders found
     ∙ (ap (λ n. judged_by flags (checked orders n) found.keyword (or_differs found.differs)) finds.lines
     ∙ (same_judged flags (checked orders (length base)) found.keyword (list_any has_keyword (apply orders base)) (or_differs found.differs) (compared g (apply orders base)) finds.keyword (λ fits. finds.differs fits short)
     ∙ sym (fitted_is flags orders base g)))
 
-pub fit_judged : (flags : List Flag) (orders : List Order) (base : List (List ℕ)) (g : Option Content) (found : Found) → is_short g ≡ true → FindsBase orders base g found → checked orders found.lines ≡ Ok tt → Passes (judged flags orders found) (Ok tt) → Fits flags orders base g (Ok found)
+pub fit_judged : (flags : List Flag) (orders : List Order) (base : List (List ℕ)) (g : Option Content) (found : Found) → is_short g ≡ true → FindsBase orders base g found → checked orders found.lines ≡ Ok tt → PassesCheck (judged_script flags orders found) (Ok tt) → FitsScript flags orders base g (Ok found)
 fit_judged flags orders base g found short finds fits passes =
     (sym (judged_fits flags orders base g found short finds) ∙ passes, record { lines = finds.lines; keyword = finds.keyword (ap (checked orders) (sym finds.lines) ∙ fits) })
 
-pub unfit_judged : (flags : List Flag) (orders : List Order) (base : List (List ℕ)) (g : Option Content) (found : Found) (fault : StepFault) → is_short g ≡ true → FindsBase orders base g found → Passes (judged flags orders found) (Err fault) → Fits flags orders base g (Err fault)
+pub unfit_judged : (flags : List Flag) (orders : List Order) (base : List (List ℕ)) (g : Option Content) (found : Found) (fault : StepFault) → is_short g ≡ true → FindsBase orders base g found → PassesCheck (judged_script flags orders found) (Err fault) → FitsScript flags orders base g (Err fault)
 unfit_judged flags orders base g found (Refused refusal) short finds passes = sym (judged_fits flags orders base g found short finds) ∙ passes
 unfit_judged flags orders base g found Memory short finds passes = tt
 unfit_judged flags orders base g found ReadFault short finds passes = passes
 unfit_judged flags orders base g found WriteFault short finds passes = passes
 unfit_judged flags orders base g found DiskFault short finds passes = tt
 
-pub unread_fits : (flags : List Flag) (orders : List Order) (base : List (List ℕ)) (g : Option Content) (fault : StepFault) → ReadsBase orders base g (Err fault) → Fits flags orders base g (Err fault)
+pub unread_fits : (flags : List Flag) (orders : List Order) (base : List (List ℕ)) (g : Option Content) (fault : StepFault) → ReadsBase orders base g (Err fault) → FitsScript flags orders base g (Err fault)
 unread_fits flags orders base g (Refused refusal) reads = absurd reads
 unread_fits flags orders base g Memory reads = tt
 unread_fits flags orders base g ReadFault reads = reads
@@ -135,17 +135,17 @@ base_unread told orders base g p compares (files.Changed a b c d) ended outer is
 
 -- ---- over a view that may be told
 
-pub fits_unread : (o : Option View) (n : List ℕ) (flags : List Flag) (orders : List Order) (base : List (List ℕ)) (fault : StepFault) → IfSome o (λ (v : View). ReadsBase orders base (v (drop 2 n)) (Err fault)) → IfSome o (λ (v : View). is_short (v (drop 2 n)) ≡ true → Fits flags orders base (v (drop 2 n)) (Err fault))
+pub fits_unread : (o : Option View) (n : List ℕ) (flags : List Flag) (orders : List Order) (base : List (List ℕ)) (fault : StepFault) → IfSome o (λ (v : View). ReadsBase orders base (v (drop 2 n)) (Err fault)) → IfSome o (λ (v : View). is_short (v (drop 2 n)) ≡ true → FitsScript flags orders base (v (drop 2 n)) (Err fault))
 fits_unread None n flags orders base fault reads = tt
 fits_unread (Some v) n flags orders base fault reads = λ short. unread_fits flags orders base (v (drop 2 n)) fault reads
 
-pub fits_judged : (o : Option View) (n : List ℕ) (flags : List Flag) (orders : List Order) (base : List (List ℕ)) (found : Found) → checked orders found.lines ≡ Ok tt → Passes (judged flags orders found) (Ok tt) → IfSome o (λ (v : View). ReadsBase orders base (v (drop 2 n)) (Ok found))
-    → IfSome o (λ (v : View). is_short (v (drop 2 n)) ≡ true → Fits flags orders base (v (drop 2 n)) (Ok found))
+pub fits_judged : (o : Option View) (n : List ℕ) (flags : List Flag) (orders : List Order) (base : List (List ℕ)) (found : Found) → checked orders found.lines ≡ Ok tt → PassesCheck (judged_script flags orders found) (Ok tt) → IfSome o (λ (v : View). ReadsBase orders base (v (drop 2 n)) (Ok found))
+    → IfSome o (λ (v : View). is_short (v (drop 2 n)) ≡ true → FitsScript flags orders base (v (drop 2 n)) (Ok found))
 fits_judged None n flags orders base found fits passes reads = tt
 fits_judged (Some v) n flags orders base found fits passes reads = λ short. fit_judged flags orders base (v (drop 2 n)) found short reads fits passes
 
-pub fits_unjudged : (o : Option View) (n : List ℕ) (flags : List Flag) (orders : List Order) (base : List (List ℕ)) (found : Found) (fault : StepFault) → Passes (judged flags orders found) (Err fault) → IfSome o (λ (v : View). ReadsBase orders base (v (drop 2 n)) (Ok found))
-    → IfSome o (λ (v : View). is_short (v (drop 2 n)) ≡ true → Fits flags orders base (v (drop 2 n)) (Err fault))
+pub fits_unjudged : (o : Option View) (n : List ℕ) (flags : List Flag) (orders : List Order) (base : List (List ℕ)) (found : Found) (fault : StepFault) → PassesCheck (judged_script flags orders found) (Err fault) → IfSome o (λ (v : View). ReadsBase orders base (v (drop 2 n)) (Ok found))
+    → IfSome o (λ (v : View). is_short (v (drop 2 n)) ≡ true → FitsScript flags orders base (v (drop 2 n)) (Err fault))
 fits_unjudged None n flags orders base found fault passes reads = tt
 fits_unjudged (Some v) n flags orders base found fault passes reads = λ short. unfit_judged flags orders base (v (drop 2 n)) found fault short reads passes
 

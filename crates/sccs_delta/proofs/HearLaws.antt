@@ -17,7 +17,7 @@ use Rattle.sccs_steps.specs.Calls.{world}
 use Rattle.sccs_steps.specs.StepEffects.{check}
 use Rattle.sccs_transactions.specs.Changes.{Prepares, PreparesChange, unlocked}
 use Rattle.sccs_transactions.specs.declared.prepared.Prepared.{Prepared}
-use Rattle.sccs_pending.specs.PFiles.{Passes, is_short}
+use Rattle.sccs_pending.specs.PFiles.{PassesCheck, is_short}
 use Rattle.sccs_words.specs.declared.commands.DeltaWords.{DeltaWords}
 use Rattle.sccs_delta.specs.DeltaStep.{delta_change, delta_outcome, sizes_checked}
 use Rattle.sccs_delta.specs.Sizes.{HearsScript, heard, s_is_there}
@@ -29,7 +29,7 @@ heard_by : (i : List ℕ) (s : Option Content) → heard i s ≡ (s_is_there s >
 unfolding heard
 heard_by i s = refl
 
-pub not_there : (i : List ℕ) (s : Option Content) (fault : StepFault) → Passes (s_is_there s) (Err fault) → HearsScript i s (Err fault)
+pub not_there : (i : List ℕ) (s : Option Content) (fault : StepFault) → PassesCheck (s_is_there s) (Err fault) → HearsScript i s (Err fault)
 not_there i s (Refused refusal) passes = heard_by i s ∙ ap (λ (r : Result Bool Refusal). r >>= λ there. check (nat_le (length i) file_limit) refusals.TooLong) passes
 not_there i s Memory passes = tt
 not_there i s ReadFault passes = tt
@@ -47,11 +47,11 @@ too_long i s there long =
     le_false k more = lt-leb k file_limit more
 
 -- over a view that may be told
-pub unheard : (o : Option View) (n i : List ℕ) (fault : StepFault) → IfSome o (λ (v : View). Passes (s_is_there (v n)) (Err fault)) → IfSome o (λ (v : View). HearsScript i (v n) (Err fault))
+pub unheard : (o : Option View) (n i : List ℕ) (fault : StepFault) → IfSome o (λ (v : View). PassesCheck (s_is_there (v n)) (Err fault)) → IfSome o (λ (v : View). HearsScript i (v n) (Err fault))
 unheard None n i fault passes = tt
 unheard (Some v) n i fault passes = not_there i (v n) fault passes
 
-pub heard_long : (o : Option View) (n i : List ℕ) → IfSome o (λ (v : View). Passes (s_is_there (v n)) (Ok tt)) → file_limit < length i → IfSome o (λ (v : View). HearsScript i (v n) (Err (Refused refusals.TooLong)))
+pub heard_long : (o : Option View) (n i : List ℕ) → IfSome o (λ (v : View). PassesCheck (s_is_there (v n)) (Ok tt)) → file_limit < length i → IfSome o (λ (v : View). HearsScript i (v n) (Err (Refused refusals.TooLong)))
 heard_long None n i there long = tt
 heard_long (Some v) n i there long = too_long i (v n) there long
 
@@ -70,7 +70,7 @@ unfolding sizes_checked
 unheard_sizes i f refusal is = sizes_by (is_some f.s) (is_short f.s) (is_short f.p) (is_short f.g) (nat_le (length i) file_limit) refusal (sym (heard_by i f.s) ∙ is)
 
 -- a refusal by the input, as one by the sizes; another end is that
-unheard_passes : (i : List ℕ) (n : List ℕ) (v : View) (fault : StepFault) → HearsScript i (v n) (Err fault) → (fault ≡ ReadFault → ⊥) → Passes (sizes_checked i (look v n)) (Err fault)
+unheard_passes : (i : List ℕ) (n : List ℕ) (v : View) (fault : StepFault) → HearsScript i (v n) (Err fault) → (fault ≡ ReadFault → ⊥) → PassesCheck (sizes_checked i (look v n)) (Err fault)
 unheard_passes i n v (Refused refusal) hears read = unheard_sizes i (look v n) refusal hears
 unheard_passes i n v Memory hears read = tt
 unheard_passes i n v ReadFault hears read = read refl

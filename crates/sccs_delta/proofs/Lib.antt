@@ -1,12 +1,10 @@
 pub mod AddedVersions
 pub mod AgreeLaws
-pub mod Chains
 pub mod DeltaReads
 pub mod DeltaStops
 pub mod EntryBases
 pub mod EntryChains
 pub mod EntryLaws
-pub mod FileRules
 pub mod FitLaws
 pub mod HearLaws
 pub mod LongerBases
@@ -16,7 +14,6 @@ pub mod NullLaws
 pub mod NullSids
 pub mod NullTables
 pub mod NullVersions
-pub mod PendingReads
 pub mod PlanResults
 pub mod PrepareLaws
 pub mod Replaying

@@ -23,7 +23,7 @@ use Rattle.sccs_pfile.specs.declared.entries.Edit.{Edit}
 use Rattle.sccs_records.specs.NewDeltas.{FitsTable, HasSpellings, last_of, with_deltas}
 use Rattle.sccs_records.proofs.TableLaws.{header_kept, live_is_there, spelled_kept}
 use Rattle.sccs_words.specs.declared.commands.DeltaWords.{DeltaWords}
-use Rattle.sccs_delta.specs.DeltaStep.{base_of, delta_of}
+use Rattle.sccs_delta.specs.DeltaStep.{entry_base, entry_delta}
 use Rattle.sccs_delta.specs.declared.entries.Base.{Base}
 use Rattle.sccs_delta.specs.NullDeltas.{made_sids, null_deltas, skipped_by, with_nulls}
 use Rattle.sccs_delta.proofs.EntryLaws.{HasBase, base_found, entry_agrees}
@@ -55,7 +55,7 @@ same_base r one two is_one is_two = let same : Ok one ≡ Ok two = sym is_one �
 
 pub delta_fits : (header : Header) (edits : List Edit) (place number : ℕ) (edit : Edit) (base : Base) (words : DeltaWords) (stamp : Stamp) (counts : Counts) → Agrees header.records edits → slice_get edits place ≡ Some edit → HasBase header.records edit base
     → newest header.records + length (skipped_by header edits edit) < 65535
-    → FitsTable (with_deltas header base.got (null_deltas stamp (skipped_by header edits edit))).records (last_of base.got (newest header.records) (null_deltas stamp (skipped_by header edits edit))) (delta_of words stamp edit base.include base.exclude counts)
+    → FitsTable (with_deltas header base.got (null_deltas stamp (skipped_by header edits edit))).records (last_of base.got (newest header.records) (null_deltas stamp (skipped_by header edits edit))) (entry_delta words stamp edit base.include base.exclude counts)
 delta_fits header edits place number edit base words stamp counts agree at has_base few = record {
   serial = omega (arith, few, newest_nulls header base.got stamp (skipped_by header edits edit));
   base = last_there header base.got (null_deltas stamp (skipped_by header edits edit)) (or_right (0 == base.got) (has (serials_of header.records) base.got) (live_is_there header.records base.got has_base.got_lives));
@@ -69,13 +69,13 @@ delta_fits header edits place number edit base words stamp counts agree at has_b
 }
 
 pub rules_kept : (header : Header) (edits : List Edit) (place number : ℕ) (edit : Edit) (base : Base) (words : DeltaWords) (stamp : Stamp) (counts : Counts) → IsHeader header → Agrees header.records edits → slice_get edits place ≡ Some edit
-    → base_of header.records number edit ≡ Ok base → newest header.records + length (skipped_by header edits edit) < 65535
-    → IsHeader (with_nulls header base.got (null_deltas stamp (skipped_by header edits edit)) (delta_of words stamp edit base.include base.exclude counts))
+    → entry_base header.records number edit ≡ Ok base → newest header.records + length (skipped_by header edits edit) < 65535
+    → IsHeader (with_nulls header base.got (null_deltas stamp (skipped_by header edits edit)) (entry_delta words stamp edit base.include base.exclude counts))
 rules_kept header edits place number edit base words stamp counts is agree at base_is few =
     let found = base_found header.records edits place edit is.rules.table.falls agree at in
-    let has_base : HasBase header.records edit base = subst (HasBase header.records edit) (same_base (base_of header.records number edit) found.0 base (found.1.is number) base_is) found.1 in
+    let has_base : HasBase header.records edit base = subst (HasBase header.records edit) (same_base (entry_base header.records number edit) found.0 base (found.1.is number) base_is) found.1 in
     let base_there : has (0 ∷ serials_of header.records) base.got ≡ true = or_right (0 == base.got) (has (serials_of header.records) base.got) (live_is_there header.records base.got has_base.got_lives) in
-    header_kept (with_deltas header base.got (null_deltas stamp (skipped_by header edits edit))) (last_of base.got (newest header.records) (null_deltas stamp (skipped_by header edits edit))) (delta_of words stamp edit base.include base.exclude counts)
+    header_kept (with_deltas header base.got (null_deltas stamp (skipped_by header edits edit))) (last_of base.got (newest header.records) (null_deltas stamp (skipped_by header edits edit))) (entry_delta words stamp edit base.include base.exclude counts)
     (kept_in_turn header base.got (null_deltas stamp (skipped_by header edits edit)) is
     (nulls_fit stamp header base.got (skipped_by header edits edit) base_there (omega (arith, few)) (skipped_free header edit.got edit.made (made_sids edits))))
     (delta_fits header edits place number edit base words stamp counts agree at has_base few)
@@ -94,9 +94,9 @@ nulls_spelled stamp (sid ∷ sids) moment login are = (
 )
 
 pub spelling_kept : (header : Header) (edits : List Edit) (edit : Edit) (base : Base) (words : DeltaWords) (stamp : Stamp) (counts : Counts) → IsSpelled header → IsEdit edit → IsMoment stamp.moment → IsLogin stamp.login → AreLines words.mrs → AreLines words.comment
-    → IsSpelled (with_nulls header base.got (null_deltas stamp (skipped_by header edits edit)) (delta_of words stamp edit base.include base.exclude counts))
+    → IsSpelled (with_nulls header base.got (null_deltas stamp (skipped_by header edits edit)) (entry_delta words stamp edit base.include base.exclude counts))
 spelling_kept header edits edit base words stamp counts is is_edit moment login mrs comment =
-    spelled_kept (with_deltas header base.got (null_deltas stamp (skipped_by header edits edit))) (last_of base.got (newest header.records) (null_deltas stamp (skipped_by header edits edit))) (delta_of words stamp edit base.include base.exclude counts)
+    spelled_kept (with_deltas header base.got (null_deltas stamp (skipped_by header edits edit))) (last_of base.got (newest header.records) (null_deltas stamp (skipped_by header edits edit))) (entry_delta words stamp edit base.include base.exclude counts)
     (spelled_in_turn header base.got (null_deltas stamp (skipped_by header edits edit)) is
     (nulls_spelled stamp (skipped_by header edits edit) moment login (skipped_sids header edit.got edit.made (made_sids edits) is_edit.got is_edit.made)))
     (delta_spelled words stamp edit base counts is_edit moment login mrs comment)

@@ -15,7 +15,7 @@ use Rattle.sccs_records.specs.Texts.{some_lines}
 use Rattle.sccs_records.specs.declared.new_deltas.NewDelta.{NewDelta}
 use Rattle.sccs_words.specs.declared.commands.DeltaWords.{DeltaWords}
 use Rattle.sccs_delta.specs.declared.entries.Base.{Base}
-use Rattle.sccs_delta.specs.DeltaStep.{delta_of}
+use Rattle.sccs_delta.specs.DeltaStep.{entry_delta}
 
 -- ---- the new delta
 
@@ -24,7 +24,7 @@ comment_lines [] are = ((λ k d low. absurd (omega (arith, low))), tt)
 comment_lines (line ∷ lines) are = are
 
 pub delta_spelled : (words : DeltaWords) (stamp : Stamp) (edit : Edit) (base : Base) (counts : Counts) → IsEdit edit → IsMoment stamp.moment → IsLogin stamp.login → AreLines words.mrs → AreLines words.comment
-    → HasSpellings (delta_of words stamp edit base.include base.exclude counts)
+    → HasSpellings (entry_delta words stamp edit base.include base.exclude counts)
 delta_spelled words stamp edit base counts is moment login mrs comment =
     record { sid = is.made; moment = moment; login = login; mrs = mrs; comments = comment_lines words.comment comment }
 

@@ -9,9 +9,9 @@ use Rattle.sccs_history.specs.FlagText.{flag_n}
 use Rattle.sccs_history.specs.Numbers.{front_if}
 use Rattle.sccs_history.specs.declared.headers.Header.{Header}
 use Rattle.sccs_history.specs.declared.headers.Record.{Record}
-use Rattle.sccs_delta.specs.DeltaStep.{first_of, is_used, skipped, unused_from}
+use Rattle.sccs_delta.specs.DeltaStep.{first_in_release, is_used, skipped, unused_from}
 
-first_sid : (release : ℕ) → 0 < release → release < 10000 → IsSid (first_of release)
+first_sid : (release : ℕ) → 0 < release → release < 10000 → IsSid (first_in_release release)
 first_sid release low high = record { release = (low, high); level = (omega arith, omega arith); branch = refl }
 
 unused_sids : (records : List Record) (reserved : List Sid) (release count : ℕ) → 0 < release → release + count ≤ 10000 → AllByRecursion IsSid (unused_from records reserved release count)
@@ -19,7 +19,7 @@ unused_sids records reserved release zero low high = tt
 unused_sids records reserved release (suc count) low high =
     put (not (is_used records reserved release)) (first_sid release low (omega (arith, high))) (unused_sids records reserved (suc release) count (omega arith) (omega (arith, high)))
   where
-    put : (t : Bool) → IsSid (first_of release) → AllByRecursion IsSid (unused_from records reserved (suc release) count) → AllByRecursion IsSid (front_if t (first_of release) (unused_from records reserved (suc release) count))
+    put : (t : Bool) → IsSid (first_in_release release) → AllByRecursion IsSid (unused_from records reserved (suc release) count) → AllByRecursion IsSid (front_if t (first_in_release release) (unused_from records reserved (suc release) count))
     put true here rest = (here, rest)
     put false here rest = rest
 

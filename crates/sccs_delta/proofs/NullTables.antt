@@ -17,7 +17,7 @@ use Rattle.sccs_pfile.specs.declared.entries.Edit.{Edit}
 use Rattle.sccs_records.specs.NewDeltas.{FitsTable, HasSpellings, last_of, null_delta, with_delta, with_deltas, with_record}
 use Rattle.sccs_records.specs.declared.new_deltas.NewDelta.{NewDelta}
 use Rattle.sccs_records.proofs.TableLaws.{header_kept, spelled_kept}
-use Rattle.sccs_delta.specs.DeltaStep.{first_of, is_on_trunk, is_used, skipped, unused_from}
+use Rattle.sccs_delta.specs.DeltaStep.{first_in_release, is_on_trunk, is_used, skipped, unused_from}
 use Rattle.sccs_delta.specs.NullDeltas.{made_sids, null_deltas}
 
 -- ---- deltas one after the other
@@ -97,33 +97,33 @@ off true true false d is = refl
 off true true true d is = absurd (false≢true (sym is))
 
 -- a SID that isn't of a release of the trunk isn't its first one
-not_first : (release : ℕ) (sid : Sid) → is_on_trunk release sid ≡ false → same_sid sid (first_of release) ≡ false
+not_first : (release : ℕ) (sid : Sid) → is_on_trunk release sid ≡ false → same_sid sid (first_in_release release) ≡ false
 not_first release sid is = off (sid.release == release) (sid.level == 1) (sid.branch == 0) (sid.sequence == 0) is
 
-none_live : (release : ℕ) (records : List Record) → list_any (λ r. not r.removed && is_on_trunk release r.sid) records ≡ false → lives records (first_of release) ≡ false
+none_live : (release : ℕ) (records : List Record) → list_any (λ r. not r.removed && is_on_trunk release r.sid) records ≡ false → lives records (first_in_release release) ≡ false
 none_live release [] none = refl
 none_live release (r ∷ records) none =
     let both = neither (not r.removed && is_on_trunk release r.sid) (list_any (λ a. not a.removed && is_on_trunk release a.sid) records) none in
-    both_false (not r.removed && same_sid r.sid (first_of release)) (lives records (first_of release)) (kept (not r.removed) both.0) (none_live release records both.1)
+    both_false (not r.removed && same_sid r.sid (first_in_release release)) (lives records (first_in_release release)) (kept (not r.removed) both.0) (none_live release records both.1)
   where
     both_false : (a b : Bool) → a ≡ false → b ≡ false → (a || b) ≡ false
     both_false true b one two = one
     both_false false b one two = two
 
-    kept : (live : Bool) → (live && is_on_trunk release r.sid) ≡ false → (live && same_sid r.sid (first_of release)) ≡ false
+    kept : (live : Bool) → (live && is_on_trunk release r.sid) ≡ false → (live && same_sid r.sid (first_in_release release)) ≡ false
     kept true is = not_first release r.sid is
     kept false is = refl
 
-other_release : (release later : ℕ) → release < later → same_sid (first_of release) (first_of later) ≡ false
+other_release : (release later : ℕ) → release < later → same_sid (first_in_release release) (first_in_release later) ≡ false
 other_release release later low = ap (λ b. b && ((1 == 1) && ((0 == 0) && (0 == 0)))) (ne_eqb release later (λ e. omega (arith, e, low)))
 
-later_sids : (records : List Record) (reserved : List Sid) (release from count : ℕ) → release < from → AllByRecursion (λ t. same_sid (first_of release) t ≡ false) (unused_from records reserved from count)
+later_sids : (records : List Record) (reserved : List Sid) (release from count : ℕ) → release < from → AllByRecursion (λ t. same_sid (first_in_release release) t ≡ false) (unused_from records reserved from count)
 later_sids records reserved release from zero low = tt
 later_sids records reserved release from (suc count) low =
     put (not (is_used records reserved from)) (other_release release from low) (later_sids records reserved release (suc from) count (omega (arith, low)))
   where
-    put : (t : Bool) → same_sid (first_of release) (first_of from) ≡ false → AllByRecursion (λ s. same_sid (first_of release) s ≡ false) (unused_from records reserved (suc from) count)
-        → AllByRecursion (λ s. same_sid (first_of release) s ≡ false) (front_if t (first_of from) (unused_from records reserved (suc from) count))
+    put : (t : Bool) → same_sid (first_in_release release) (first_in_release from) ≡ false → AllByRecursion (λ s. same_sid (first_in_release release) s ≡ false) (unused_from records reserved (suc from) count)
+        → AllByRecursion (λ s. same_sid (first_in_release release) s ≡ false) (front_if t (first_in_release from) (unused_from records reserved (suc from) count))
     put true here rest = (here, rest)
     put false here rest = rest
 
@@ -132,8 +132,8 @@ unused_free records reserved release zero = tt
 unused_free records reserved release (suc count) =
     put (is_used records reserved release) refl (later_sids records reserved release (suc release) count (omega arith)) (unused_free records reserved (suc release) count)
   where
-    put : (t : Bool) → is_used records reserved release ≡ t → AllByRecursion (λ s. same_sid (first_of release) s ≡ false) (unused_from records reserved (suc release) count) → AreFree records (unused_from records reserved (suc release) count)
-        → AreFree records (front_if (not t) (first_of release) (unused_from records reserved (suc release) count))
+    put : (t : Bool) → is_used records reserved release ≡ t → AllByRecursion (λ s. same_sid (first_in_release release) s ≡ false) (unused_from records reserved (suc release) count) → AreFree records (unused_from records reserved (suc release) count)
+        → AreFree records (front_if (not t) (first_in_release release) (unused_from records reserved (suc release) count))
     put true is later rest = rest
     put false is later rest =
         (none_live release records (neither (list_any (λ r. not r.removed && is_on_trunk release r.sid) records) (list_any (is_on_trunk release) reserved) is).0, later, rest)
@@ -156,11 +156,11 @@ unused_apart records reserved release zero t away = refl
 unused_apart records reserved release (suc count) t away = put (is_used records reserved release) refl (unused_apart records reserved (suc release) count t away)
   where
     put : (b : Bool) → is_used records reserved release ≡ b → list_any (λ s. same_sid s t) (unused_from records reserved (suc release) count) ≡ false
-        → list_any (λ s. same_sid s t) (front_if (not b) (first_of release) (unused_from records reserved (suc release) count)) ≡ false
+        → list_any (λ s. same_sid s t) (front_if (not b) (first_in_release release) (unused_from records reserved (suc release) count)) ≡ false
     put true is rest = rest
     put false is rest =
         ap (λ b. b || list_any (λ s. same_sid s t) (unused_from records reserved (suc release) count))
-        (flip_sids (first_of release) t ∙ not_first release t (away release (neither (list_any (λ r. not r.removed && is_on_trunk release r.sid) records) (list_any (is_on_trunk release) reserved) is).1))
+        (flip_sids (first_in_release release) t ∙ not_first release t (away release (neither (list_any (λ r. not r.removed && is_on_trunk release r.sid) records) (list_any (is_on_trunk release) reserved) is).1))
         ∙ rest
 
 skipped_apart : (header : Header) (got made : Sid) (reserved : List Sid) (t : Sid) → ((n : ℕ) → list_any (is_on_trunk n) reserved ≡ false → is_on_trunk n t ≡ false)

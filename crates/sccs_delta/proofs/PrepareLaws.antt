@@ -35,35 +35,35 @@ use Rattle.sccs_moments.proofs.FileNames.{from_g, from_s}
 use Rattle.sccs_transactions.specs.Changes.{AreTakenOrGone, IsUnmade, Prepares, plan_of, unlocked}
 use Rattle.sccs_transactions.specs.declared.prepared.Prepared.{Prepared}
 use Rattle.sccs_pending.specs.NewEntries.{kept_g}
-use Rattle.sccs_pending.specs.PFiles.{Answers, Passes, is_short}
+use Rattle.sccs_pending.specs.PFiles.{Answers, PassesCheck, is_short}
 use Rattle.sccs_pending.specs.Pending.{AnswersPending, Found, bytes_at, pending_of}
 use Rattle.sccs_pending.specs.declared.pending.Pending.{Pending}
 use Rattle.sccs_pending.proofs.PendingLaws.{shown_header}
 use Rattle.sccs_pending.proofs.StopLaws.{pending_answer}
 use Rattle.sccs_words.specs.declared.commands.DeltaWords.{DeltaWords}
-use Rattle.sccs_delta.specs.DeltaStep.{Entry, base_lines, delta_outcome, entry_of, fitted, makes_delta, mrs_checked, nulls_of, or_script_fault, sizes_checked}
+use Rattle.sccs_delta.specs.DeltaStep.{ChosenEntry, base_lines, delta_outcome, chosen_entry, fitted, makes_delta, mrs_checked, nulls_of, or_script_fault, sizes_checked}
 use Rattle.sccs_copies.specs.Examining.{has_keyword}
 use Rattle.sccs_delta.specs.Preparing.{FindsAsked, FindsEntry}
 use Rattle.sccs_delta.specs.Writing.{MakesDelta, script_checked}
 use Rattle.sccs_delta.specs.declared.entries.Chosen.{Chosen}
-use Rattle.sccs_delta.proofs.Chains.{answers_as, assoc, both_end, ends, goes}
+use Rattle.sccs_pending.proofs.Chains.{answers_as, assoc, both_end, ends, goes}
 
 -- ---- what follows each check
 
-abbrev with_nulls : DeltaWords → Stamp → List ℕ → Files → Found → Entry → List Order → List Sid → Outcome
+abbrev with_nulls : DeltaWords → Stamp → List ℕ → Files → Found → ChosenEntry → List Order → List Sid → Outcome
 with_nulls words stamp n f found e orders nulls = Ok (makes_delta words stamp n f found e orders nulls)
 
-abbrev with_orders : DeltaWords → Stamp → List ℕ → Files → Found → Entry → List Order → Outcome
+abbrev with_orders : DeltaWords → Stamp → List ℕ → Files → Found → ChosenEntry → List Order → Outcome
 with_orders words stamp n f found e orders =
     fitted found.parsed.header.flags orders (base_lines found.parsed.items e.base) f.g >>= λ fits.
     mrs_checked found.parsed.header.flags words.mrs >>= λ mrs.
     nulls_of found.parsed.header found.edits e.edit >>= with_nulls words stamp n f found e orders
 
-abbrev with_entry : DeltaWords → Stamp → List ℕ → List ℕ → Files → Found → Entry → Outcome
+abbrev with_entry : DeltaWords → Stamp → List ℕ → List ℕ → Files → Found → ChosenEntry → Outcome
 with_entry words stamp n i f found e = or_script_fault (orders_of i) >>= with_orders words stamp n f found e
 
 abbrev with_found : DeltaWords → Stamp → List ℕ → List ℕ → Files → Found → Outcome
-with_found words stamp n i f found = entry_of words stamp found.parsed.header found.edits >>= with_entry words stamp n i f found
+with_found words stamp n i f found = chosen_entry words stamp found.parsed.header found.edits >>= with_entry words stamp n i f found
 
 abbrev by_files : DeltaWords → Stamp → List ℕ → List ℕ → Files → Result Bool Refusal → Result Found Refusal → Outcome
 by_files words stamp n i f sizes found = sizes >>= λ x. found >>= with_found words stamp n i f
@@ -127,7 +127,7 @@ ended_as n o rest fault v w out err same is answers =
     subst (λ (x : Option View). Prepares (Err fault) n o (world (Some v) out err) (world x out err)) (sym same)
     (ended n o fault v out err (subst (λ (r : Outcome). Answers {A = StepEffect} r (Err fault)) (sym is) answers))
 
-passes_answers : (found : Result Bool Refusal) (fault : StepFault) → Passes found (Err fault) → Answers {A = Bool} found (Err fault)
+passes_answers : (found : Result Bool Refusal) (fault : StepFault) → PassesCheck found (Err fault) → Answers {A = Bool} found (Err fault)
 passes_answers found (Refused refusal) passes = passes
 passes_answers found Memory passes = tt
 passes_answers found ReadFault passes = passes
@@ -141,7 +141,7 @@ pending_answers s p ReadFault answers = answers
 pending_answers s p WriteFault answers = answers
 pending_answers s p DiskFault answers = tt
 
-finds_answers : (words : DeltaWords) (stamp : Stamp) (header : Header) (edits : List Edit) (fault : StepFault) → FindsEntry words stamp header edits (Err fault) → Answers {A = Entry} (entry_of words stamp header edits) (Err fault)
+finds_answers : (words : DeltaWords) (stamp : Stamp) (header : Header) (edits : List Edit) (fault : StepFault) → FindsEntry words stamp header edits (Err fault) → Answers {A = ChosenEntry} (chosen_entry words stamp header edits) (Err fault)
 finds_answers words stamp header edits (Refused refusal) finds = finds
 finds_answers words stamp header edits Memory finds = tt
 finds_answers words stamp header edits ReadFault finds = finds
@@ -158,12 +158,12 @@ IsRead n v x = AnswersPending (v n) (v (p_file n)) (Ok x)
 abbrev PreparesAt : Result Prepared StepFault → DeltaWords → Stamp → List ℕ → List ℕ → View → Option View → Option (List ℕ) → Option (List ℕ) → Type 0
 PreparesAt r words stamp n i v w out err = Prepares r n (delta_outcome words stamp n i [] (look (unlocked n v) n)) (world (Some v) out err) (world w out err)
 
-pub sizes_end : (words : DeltaWords) (stamp : Stamp) (n i : List ℕ) (fault : StepFault) (o o2 : Option View) (out err : Option (List ℕ)) → IsSfile n → o2 ≡ o → IfSome o (λ (v : View). Passes (sizes_checked i (look v n)) (Err fault)) → IfSome o (λ (v : View). PreparesAt (Err fault) words stamp n i v o2 out err)
+pub sizes_end : (words : DeltaWords) (stamp : Stamp) (n i : List ℕ) (fault : StepFault) (o o2 : Option View) (out err : Option (List ℕ)) → IsSfile n → o2 ≡ o → IfSome o (λ (v : View). PassesCheck (sizes_checked i (look v n)) (Err fault)) → IfSome o (λ (v : View). PreparesAt (Err fault) words stamp n i v o2 out err)
 sizes_end words stamp n i fault None o2 out err sfile same passes = tt
 sizes_end words stamp n i fault (Some v) o2 out err sfile same passes =
     ended_as n _ _ fault v o2 out err same (outcome_seen words stamp n i v sfile) (ends (sizes_checked i (look v n)) (λ x. pending_of (v n) (v (p_file n)) >>= with_found words stamp n i (files_at n v)) fault (passes_answers _ fault passes))
 
-pub pending_end : (words : DeltaWords) (stamp : Stamp) (n i : List ℕ) (fault : StepFault) (o o2 : Option View) (out err : Option (List ℕ)) → IsSfile n → o2 ≡ o → IfSome o (λ (v : View). Passes (sizes_checked i (look v n)) (Ok tt)) → IfSome o (λ (v : View). AnswersPending (v n) (v (p_file n)) (Err fault))
+pub pending_end : (words : DeltaWords) (stamp : Stamp) (n i : List ℕ) (fault : StepFault) (o o2 : Option View) (out err : Option (List ℕ)) → IsSfile n → o2 ≡ o → IfSome o (λ (v : View). PassesCheck (sizes_checked i (look v n)) (Ok tt)) → IfSome o (λ (v : View). AnswersPending (v n) (v (p_file n)) (Err fault))
     → IfSome o (λ (v : View). PreparesAt (Err fault) words stamp n i v o2 out err)
 pending_end words stamp n i fault None o2 out err sfile same sizes answers = tt
 pending_end words stamp n i fault (Some v) o2 out err sfile same sizes answers =
@@ -178,23 +178,23 @@ found_of n v x read = record { parsed = read.0; edits = x.edits }
 header_of : (n : List ℕ) (v : View) (x : Pending) (read : IsRead n v x) → x.front.header ≡ read.0.header
 header_of n v x read = shown_header (bytes_at (v n)) read.0 x.front read.1
 
-entry_as : (words : DeltaWords) (stamp : Stamp) (n i : List ℕ) (v : View) (x : Pending) (r : Result Entry Refusal) (read : IsRead n v x) → IsSfile n → Whole n i v → entry_of words stamp x.front.header x.edits ≡ r
+entry_as : (words : DeltaWords) (stamp : Stamp) (n i : List ℕ) (v : View) (x : Pending) (r : Result ChosenEntry Refusal) (read : IsRead n v x) → IsSfile n → Whole n i v → chosen_entry words stamp x.front.header x.edits ≡ r
     → delta_outcome words stamp n i [] (files_at n v) ≡ (r >>= with_entry words stamp n i (files_at n v) (found_of n v x read))
 entry_as words stamp n i v x r read sfile sizes is =
     read_as words stamp n i v (found_of n v x read) sfile sizes read.2
-    ∙ ap (λ (s : Result Entry Refusal). s >>= with_entry words stamp n i (files_at n v) (found_of n v x read)) (ap (λ header. entry_of words stamp header x.edits) (sym (header_of n v x read)) ∙ is)
+    ∙ ap (λ (s : Result ChosenEntry Refusal). s >>= with_entry words stamp n i (files_at n v) (found_of n v x read)) (ap (λ header. chosen_entry words stamp header x.edits) (sym (header_of n v x read)) ∙ is)
 
-abbrev pub entry_at : Chosen → Edit → Entry
+abbrev pub entry_at : Chosen → Edit → ChosenEntry
 entry_at c edit = record { number = c.number; edit = edit; base = c.base }
 
-asked_answers : (words : DeltaWords) (stamp : Stamp) (header : Header) (edits : List Edit) (i : List ℕ) (fault : StepFault) → FindsAsked words stamp header edits i (Err fault) → Answers {A = List Order} (entry_of words stamp header edits >>= λ e. or_script_fault (orders_of i)) (Err fault)
+asked_answers : (words : DeltaWords) (stamp : Stamp) (header : Header) (edits : List Edit) (i : List ℕ) (fault : StepFault) → FindsAsked words stamp header edits i (Err fault) → Answers {A = List Order} (chosen_entry words stamp header edits >>= λ e. or_script_fault (orders_of i)) (Err fault)
 asked_answers words stamp header edits i (Refused refusal) finds = finds
 asked_answers words stamp header edits i Memory finds = tt
 asked_answers words stamp header edits i ReadFault finds = finds
 asked_answers words stamp header edits i WriteFault finds = finds
 asked_answers words stamp header edits i DiskFault finds = tt
 
-answers_asked : (words : DeltaWords) (stamp : Stamp) (header : Header) (edits : List Edit) (i : List ℕ) (fault : StepFault) → Answers {A = List Order} (entry_of words stamp header edits >>= λ e. or_script_fault (orders_of i)) (Err fault) → FindsAsked words stamp header edits i (Err fault)
+answers_asked : (words : DeltaWords) (stamp : Stamp) (header : Header) (edits : List Edit) (i : List ℕ) (fault : StepFault) → Answers {A = List Order} (chosen_entry words stamp header edits >>= λ e. or_script_fault (orders_of i)) (Err fault) → FindsAsked words stamp header edits i (Err fault)
 answers_asked words stamp header edits i (Refused refusal) answers = answers
 answers_asked words stamp header edits i Memory answers = tt
 answers_asked words stamp header edits i ReadFault answers = answers
@@ -203,29 +203,29 @@ answers_asked words stamp header edits i DiskFault answers = tt
 
 -- no entry is found, or the script is none
 pub no_entry : (words : DeltaWords) (stamp : Stamp) (header : Header) (edits : List Edit) (i : List ℕ) (fault : StepFault) → FindsEntry words stamp header edits (Err fault) → FindsAsked words stamp header edits i (Err fault)
-no_entry words stamp header edits i fault finds = answers_asked words stamp header edits i fault (ends (entry_of words stamp header edits) (λ e. or_script_fault (orders_of i)) fault (finds_answers words stamp header edits fault finds))
+no_entry words stamp header edits i fault finds = answers_asked words stamp header edits i fault (ends (chosen_entry words stamp header edits) (λ e. or_script_fault (orders_of i)) fault (finds_answers words stamp header edits fault finds))
 
 pub no_orders : (words : DeltaWords) (stamp : Stamp) (header : Header) (edits : List Edit) (i : List ℕ) (c : Chosen) (fault : StepFault) → FindsEntry words stamp header edits (Ok c) → Answers {A = List Order} (or_script_fault (orders_of i)) (Err fault) → FindsAsked words stamp header edits i (Err fault)
 no_orders words stamp header edits i c fault finds answers =
-    answers_asked words stamp header edits i fault (answers_as _ _ fault (goes (entry_of words stamp header edits) (λ e. or_script_fault (orders_of i)) (entry_at c finds.0) finds.2) answers)
+    answers_asked words stamp header edits i fault (answers_as _ _ fault (goes (chosen_entry words stamp header edits) (λ e. or_script_fault (orders_of i)) (entry_at c finds.0) finds.2) answers)
 
-pub asked_end : (words : DeltaWords) (stamp : Stamp) (n i : List ℕ) (x : Pending) (fault : StepFault) (o o2 : Option View) (out err : Option (List ℕ)) → IsSfile n → o2 ≡ o → IfSome o (λ (v : View). Passes (sizes_checked i (look v n)) (Ok tt)) → IfSome o (λ (v : View). IsRead n v x)
+pub asked_end : (words : DeltaWords) (stamp : Stamp) (n i : List ℕ) (x : Pending) (fault : StepFault) (o o2 : Option View) (out err : Option (List ℕ)) → IsSfile n → o2 ≡ o → IfSome o (λ (v : View). PassesCheck (sizes_checked i (look v n)) (Ok tt)) → IfSome o (λ (v : View). IsRead n v x)
     → FindsAsked words stamp x.front.header x.edits i (Err fault) → IfSome o (λ (v : View). PreparesAt (Err fault) words stamp n i v o2 out err)
 asked_end words stamp n i x fault None o2 out err sfile same sizes read finds = tt
 asked_end words stamp n i x fault (Some v) o2 out err sfile same sizes read finds =
     ended_as n _ _ fault v o2 out err same (entry_as words stamp n i v x _ read sfile sizes refl)
-    (both_end (entry_of words stamp x.front.header x.edits) (or_script_fault (orders_of i)) (with_orders words stamp n (files_at n v) (found_of n v x read)) fault (asked_answers words stamp x.front.header x.edits i fault finds))
+    (both_end (chosen_entry words stamp x.front.header x.edits) (or_script_fault (orders_of i)) (with_orders words stamp n (files_at n v) (found_of n v x read)) fault (asked_answers words stamp x.front.header x.edits i fault finds))
 
 -- ---- the files are written, or a check of the script fails
 
 abbrev checks_by : Result Bool Refusal → Result Bool Refusal → Result (List Sid) Refusal → Result (List Sid) Refusal
 checks_by fits mrs nulls = fits >>= λ x. mrs >>= λ y. nulls
 
-checks_are : (words : DeltaWords) (header : Header) (items : List Item) (edits : List Edit) (e : Entry) (orders : List Order) (g : Option Content) → script_checked words header items edits e orders g ≡ checks_by (fitted header.flags orders (base_lines items e.base) g) (mrs_checked header.flags words.mrs) (nulls_of header edits e.edit)
+checks_are : (words : DeltaWords) (header : Header) (items : List Item) (edits : List Edit) (e : ChosenEntry) (orders : List Order) (g : Option Content) → script_checked words header items edits e orders g ≡ checks_by (fitted header.flags orders (base_lines items e.base) g) (mrs_checked header.flags words.mrs) (nulls_of header edits e.edit)
 unfolding script_checked
 checks_are words header items edits e orders g = refl
 
-orders_as : (words : DeltaWords) (stamp : Stamp) (n : List ℕ) (f : Files) (found : Found) (e : Entry) (orders : List Order) → with_orders words stamp n f found e orders ≡ (script_checked words found.parsed.header found.parsed.items found.edits e orders f.g >>= with_nulls words stamp n f found e orders)
+orders_as : (words : DeltaWords) (stamp : Stamp) (n : List ℕ) (f : Files) (found : Found) (e : ChosenEntry) (orders : List Order) → with_orders words stamp n f found e orders ≡ (script_checked words found.parsed.header found.parsed.items found.edits e orders f.g >>= with_nulls words stamp n f found e orders)
 orders_as words stamp n f found e orders =
     let fits = fitted found.parsed.header.flags orders (base_lines found.parsed.items e.base) f.g in
     let mrs = mrs_checked found.parsed.header.flags words.mrs in
@@ -254,7 +254,7 @@ g_kept n keep p v u sfile same g =
     g_no_working n sfile = rw (from_g 120 n sfile) (rw (from_g 113 n sfile) (from_g 121 n sfile))
 
 -- the delta of an entry, as it was found
-abbrev pub MakesAt : Result (List Sid) Refusal → DeltaWords → Stamp → List ℕ → Header → List Item → List Edit → Entry → List Order → Told → Told → Result Prepared StepFault → Type 0
+abbrev pub MakesAt : Result (List Sid) Refusal → DeltaWords → Stamp → List ℕ → Header → List Item → List Edit → ChosenEntry → List Order → Told → Told → Result Prepared StepFault → Type 0
 MakesAt checks words stamp n header items edits e orders a b r = MakesDelta checks words stamp n header items edits e orders (list_any has_keyword (apply orders (base_lines items e.base))) a b r
 
 files_seen : (n : List ℕ) (s p_state : Option Content) (keep : Bool) (p : Prepared) (v : View) (w : Option View) → IsSfile n → p.new_s ≡ true → Moves (is_working n) (λ x. x) (Some v) w → IfSome w (λ (u : View). u (x_file n) ≡ s)
@@ -266,7 +266,7 @@ files_seen n s p_state keep p v (Some u) sfile new_s moved x entries g = files_w
 unwritten : (n text : List ℕ) (v : View) (w : Option View) (out err : Option (List ℕ)) → Moves (is_working n) (λ x. x) (Some v) w → IsUnmade n text (world (Some v) out err) (world w out err)
 unwritten n text v w out err moved = record { view = moved; out = some_none out text }
 
-made : (words : DeltaWords) (stamp : Stamp) (n : List ℕ) (v : View) (found : Found) (e : Entry) (orders : List Order) (checks : Result (List Sid) Refusal) (r : Result Prepared StepFault) (a b : Told) (o : Outcome) (out err : Option (List ℕ)) → IsSfile n → seen a ≡ Some v → Moves (is_working n) (λ w. w) (Some v) (seen b)
+made : (words : DeltaWords) (stamp : Stamp) (n : List ℕ) (v : View) (found : Found) (e : ChosenEntry) (orders : List Order) (checks : Result (List Sid) Refusal) (r : Result Prepared StepFault) (a b : Told) (o : Outcome) (out err : Option (List ℕ)) → IsSfile n → seen a ≡ Some v → Moves (is_working n) (λ w. w) (Some v) (seen b)
     → o ≡ (checks >>= with_nulls words stamp n (files_at n v) found e orders) → MakesAt checks words stamp n found.parsed.header found.parsed.items found.edits e orders a b r → Prepares r n o (world (Some v) out err) (world (seen b) out err)
 made words stamp n v found e orders checks (Ok p) a b o out err sfile here moves is makes = record {
   effect = makes_delta words stamp n (files_at n v) found e orders makes.0;
@@ -332,7 +332,7 @@ written_at words stamp n i x c orders r a b v out err sfile here sizes read plac
     ∙ ap (λ (g : Option Content). script_checked words read.0.header read.0.items x.edits e orders g >>= with_nulls words stamp n (files_at n v) found e orders) (put_other v (z_file n) (drop 2 n) None (from_g 122 n sfile)))))
     (subst (λ (h : Header). MakesAt (script_checked words h read.0.items x.edits e orders (v (drop 2 n))) words stamp n h read.0.items x.edits e orders a b r) (header_of n v x read) told)
 
-pub delta_written : (words : DeltaWords) (stamp : Stamp) (n i : List ℕ) (x : Pending) (c : Chosen) (orders : List Order) (r : Result Prepared StepFault) (o : Option View) (a b : Told) (out err : Option (List ℕ)) → IsSfile n → seen a ≡ o → IfSome o (λ (v : View). Passes (sizes_checked i (look v n)) (Ok tt)) → IfSome o (λ (v : View). IsRead n v x)
+pub delta_written : (words : DeltaWords) (stamp : Stamp) (n i : List ℕ) (x : Pending) (c : Chosen) (orders : List Order) (r : Result Prepared StepFault) (o : Option View) (a b : Told) (out err : Option (List ℕ)) → IsSfile n → seen a ≡ o → IfSome o (λ (v : View). PassesCheck (sizes_checked i (look v n)) (Ok tt)) → IfSome o (λ (v : View). IsRead n v x)
     → IsPlaced x.front → has c.base.set 0 ≡ false → FindsEntry words stamp x.front.header x.edits (Ok c) → or_script_fault (orders_of i) ≡ Ok orders → Moves (is_working n) (λ w. w) (seen a) (seen b) → Writes words stamp n x c orders r a b
     → IfSome o (λ (v : View). PreparesAt r words stamp n i v (seen b) out err)
 delta_written words stamp n i x c orders r None a b out err sfile here sizes read placed zero finds is moves writes = tt

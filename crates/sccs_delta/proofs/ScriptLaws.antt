@@ -21,15 +21,15 @@ use Rattle.sccs_transactions.specs.Changes.{CouldPrepare}
 use Rattle.sccs_transactions.specs.declared.prepared.Prepared.{Prepared}
 use Rattle.sccs_table.specs.declared.fronts.Front.{Front}
 use Rattle.sccs_versions.specs.Coming.{IsBody}
-use Rattle.sccs_pending.specs.PFiles.{Answers, Passes, is_short}
+use Rattle.sccs_pending.specs.PFiles.{Answers, PassesCheck, is_short}
 use Rattle.sccs_words.specs.declared.commands.DeltaWords.{DeltaWords}
-use Rattle.sccs_delta.specs.DeltaStep.{Entry, base_lines, could_make, delta_checks, fitted, mrs_checked, nulls_of}
+use Rattle.sccs_delta.specs.DeltaStep.{ChosenEntry, base_lines, could_make, delta_checks, fitted, mrs_checked, nulls_of}
 use Rattle.sccs_pending.specs.Reports.{warning}
 use Rattle.sccs_copies.specs.Examining.{has_keyword}
-use Rattle.sccs_delta.specs.Preparing.{Fits, FitsBy, script_fits}
+use Rattle.sccs_delta.specs.Preparing.{FitsScript, FitsBy, script_fits}
 use Rattle.sccs_delta.specs.Writing.{MakesDelta, script_checked}
 use Rattle.sccs_copies.specs.declared.examining.Found.{Found}
-use Rattle.sccs_delta.proofs.Chains.{answers_as, assoc, ends, goes}
+use Rattle.sccs_pending.proofs.Chains.{answers_as, assoc, ends, goes}
 
 -- ---- over any disk
 
@@ -67,7 +67,7 @@ answers_fits checks orders base ReadFault answers = answers
 answers_fits checks orders base WriteFault answers = answers
 answers_fits checks orders base DiskFault answers = tt
 
-passes_answers : (found : Result Bool Refusal) (fault : StepFault) → Passes found (Err fault) → Answers {A = Bool} found (Err fault)
+passes_answers : (found : Result Bool Refusal) (fault : StepFault) → PassesCheck found (Err fault) → Answers {A = Bool} found (Err fault)
 passes_answers found (Refused refusal) passes = passes
 passes_answers found Memory passes = tt
 passes_answers found ReadFault passes = passes
@@ -76,27 +76,27 @@ passes_answers found DiskFault passes = tt
 
 -- ---- the checks of a script
 
-pub unfit : (o : Option View) (n : List ℕ) (flags : List Flag) (mrs : List (List ℕ)) (orders : List Order) (base : List (List ℕ)) (fault : StepFault) → IfSome o (λ (v : View). is_short (v (drop 2 n)) ≡ true → Fits flags orders base (v (drop 2 n)) (Err fault))
+pub unfit : (o : Option View) (n : List ℕ) (flags : List Flag) (mrs : List (List ℕ)) (orders : List Order) (base : List (List ℕ)) (fault : StepFault) → IfSome o (λ (v : View). is_short (v (drop 2 n)) ≡ true → FitsScript flags orders base (v (drop 2 n)) (Err fault))
     → IfSome o (λ (v : View). is_short (v (drop 2 n)) ≡ true → FitsBy (script_fits flags mrs orders base (v (drop 2 n))) orders base (Err fault))
 unfit None n flags mrs orders base fault fits = tt
 unfit (Some v) n flags mrs orders base fault fits = λ short.
     answers_fits (script_fits flags mrs orders base (v (drop 2 n))) orders base fault (ends (fitted flags orders base (v (drop 2 n))) (λ x. mrs_checked flags mrs) fault (fits_answers (fitted flags orders base (v (drop 2 n))) orders base fault (fits short)))
 
-pub mrs_unfit : (o : Option View) (n : List ℕ) (flags : List Flag) (mrs : List (List ℕ)) (orders : List Order) (base : List (List ℕ)) (found : Found) (fault : StepFault) → Passes (mrs_checked flags mrs) (Err fault) → IfSome o (λ (v : View). is_short (v (drop 2 n)) ≡ true → Fits flags orders base (v (drop 2 n)) (Ok found))
+pub mrs_unfit : (o : Option View) (n : List ℕ) (flags : List Flag) (mrs : List (List ℕ)) (orders : List Order) (base : List (List ℕ)) (found : Found) (fault : StepFault) → PassesCheck (mrs_checked flags mrs) (Err fault) → IfSome o (λ (v : View). is_short (v (drop 2 n)) ≡ true → FitsScript flags orders base (v (drop 2 n)) (Ok found))
     → IfSome o (λ (v : View). is_short (v (drop 2 n)) ≡ true → FitsBy (script_fits flags mrs orders base (v (drop 2 n))) orders base (Err fault))
 mrs_unfit None n flags mrs orders base found fault passes fits = tt
 mrs_unfit (Some v) n flags mrs orders base found fault passes fits = λ short.
     answers_fits (script_fits flags mrs orders base (v (drop 2 n))) orders base fault
     (answers_as _ _ fault (goes (fitted flags orders base (v (drop 2 n))) (λ x. mrs_checked flags mrs) true (fits short).0) (passes_answers (mrs_checked flags mrs) fault passes))
 
-pub mrs_fit : (o : Option View) (n : List ℕ) (flags : List Flag) (mrs : List (List ℕ)) (orders : List Order) (base : List (List ℕ)) (found : Found) → Passes (mrs_checked flags mrs) (Ok tt) → IfSome o (λ (v : View). is_short (v (drop 2 n)) ≡ true → Fits flags orders base (v (drop 2 n)) (Ok found))
+pub mrs_fit : (o : Option View) (n : List ℕ) (flags : List Flag) (mrs : List (List ℕ)) (orders : List Order) (base : List (List ℕ)) (found : Found) → PassesCheck (mrs_checked flags mrs) (Ok tt) → IfSome o (λ (v : View). is_short (v (drop 2 n)) ≡ true → FitsScript flags orders base (v (drop 2 n)) (Ok found))
     → IfSome o (λ (v : View). is_short (v (drop 2 n)) ≡ true → FitsBy (script_fits flags mrs orders base (v (drop 2 n))) orders base (Ok found))
 mrs_fit None n flags mrs orders base found passes fits = tt
 mrs_fit (Some v) n flags mrs orders base found passes fits = λ short. (goes (fitted flags orders base (v (drop 2 n))) (λ x. mrs_checked flags mrs) true (fits short).0 ∙ passes, (fits short).1)
 
 -- ---- what is written behind them
 
-makes_end : (checks : Result (List Sid) Refusal) (words : DeltaWords) (stamp : Stamp) (n : List ℕ) (header : Header) (items : List Item) (edits : List Edit) (e : Entry) (orders : List Order) (keyword : Bool) (a b : Told) (fault : StepFault) → Answers {A = List Sid} checks (Err fault)
+makes_end : (checks : Result (List Sid) Refusal) (words : DeltaWords) (stamp : Stamp) (n : List ℕ) (header : Header) (items : List Item) (edits : List Edit) (e : ChosenEntry) (orders : List Order) (keyword : Bool) (a b : Told) (fault : StepFault) → Answers {A = List Sid} checks (Err fault)
     → MakesDelta checks words stamp n header items edits e orders keyword a b (Err fault)
 makes_end checks words stamp n header items edits e orders keyword a b (Refused refusal) answers = answers
 makes_end checks words stamp n header items edits e orders keyword a b Memory answers = tt
@@ -104,17 +104,17 @@ makes_end checks words stamp n header items edits e orders keyword a b ReadFault
 makes_end checks words stamp n header items edits e orders keyword a b WriteFault answers = answers
 makes_end checks words stamp n header items edits e orders keyword a b DiskFault answers = tt
 
-checks_are : (words : DeltaWords) (header : Header) (items : List Item) (edits : List Edit) (e : Entry) (orders : List Order) (g : Option Content)
+checks_are : (words : DeltaWords) (header : Header) (items : List Item) (edits : List Edit) (e : ChosenEntry) (orders : List Order) (g : Option Content)
     → script_checked words header items edits e orders g ≡ (fitted header.flags orders (base_lines items e.base) g >>= λ x. mrs_checked header.flags words.mrs >>= λ y. nulls_of header edits e.edit)
 unfolding script_checked
 checks_are words header items edits e orders g = refl
 
-checks_fit : (words : DeltaWords) (header : Header) (items : List Item) (edits : List Edit) (e : Entry) (orders : List Order) (g : Option Content)
+checks_fit : (words : DeltaWords) (header : Header) (items : List Item) (edits : List Edit) (e : ChosenEntry) (orders : List Order) (g : Option Content)
     → script_checked words header items edits e orders g ≡ (script_fits header.flags words.mrs orders (base_lines items e.base) g >>= λ y. nulls_of header edits e.edit)
 checks_fit words header items edits e orders g =
     checks_are words header items edits e orders g ∙ assoc (fitted header.flags orders (base_lines items e.base) g) (λ x. mrs_checked header.flags words.mrs) (λ y. nulls_of header edits e.edit)
 
-pub unfit_makes : (o : Option View) (words : DeltaWords) (stamp : Stamp) (n : List ℕ) (header : Header) (items : List Item) (edits : List Edit) (e : Entry) (orders : List Order) (a b : Told) (fault : StepFault)
+pub unfit_makes : (o : Option View) (words : DeltaWords) (stamp : Stamp) (n : List ℕ) (header : Header) (items : List Item) (edits : List Edit) (e : ChosenEntry) (orders : List Order) (a b : Told) (fault : StepFault)
     → IfSome o (λ (v : View). is_short (v (drop 2 n)) ≡ true → FitsBy (script_fits header.flags words.mrs orders (base_lines items e.base) (v (drop 2 n))) orders (base_lines items e.base) (Err fault))
     → IfSome o (λ (v : View). is_short (v (drop 2 n)) ≡ true → MakesDelta (script_checked words header items edits e orders (v (drop 2 n))) words stamp n header items edits e orders (list_any has_keyword (apply orders (base_lines items e.base))) a b (Err fault))
 unfit_makes None words stamp n header items edits e orders a b fault fits = tt
@@ -123,13 +123,13 @@ unfit_makes (Some v) words stamp n header items edits e orders a b fault fits = 
     (answers_as _ _ fault (checks_fit words header items edits e orders (v (drop 2 n)))
     (ends (script_fits header.flags words.mrs orders (base_lines items e.base) (v (drop 2 n))) (λ y. nulls_of header edits e.edit) fault (fits_answers (script_fits header.flags words.mrs orders (base_lines items e.base) (v (drop 2 n))) orders (base_lines items e.base) fault (fits short))))
 
-makes_as : (checks checks2 : Result (List Sid) Refusal) (words : DeltaWords) (stamp : Stamp) (n : List ℕ) (header : Header) (items : List Item) (edits : List Edit) (e : Entry) (orders : List Order) (keyword keyword2 : Bool) (a a2 b : Told) (r : Result Prepared StepFault)
+makes_as : (checks checks2 : Result (List Sid) Refusal) (words : DeltaWords) (stamp : Stamp) (n : List ℕ) (header : Header) (items : List Item) (edits : List Edit) (e : ChosenEntry) (orders : List Order) (keyword keyword2 : Bool) (a a2 b : Told) (r : Result Prepared StepFault)
     → checks2 ≡ checks → keyword2 ≡ keyword → a2 ≡ a → MakesDelta checks words stamp n header items edits e orders keyword a b r → MakesDelta checks2 words stamp n header items edits e orders keyword2 a2 b r
 makes_as checks checks2 words stamp n header items edits e orders keyword keyword2 a a2 b r same same_keyword same_told makes =
     subst (λ t. MakesDelta checks2 words stamp n header items edits e orders keyword2 t b r) (sym same_told)
     (subst (λ k. MakesDelta checks2 words stamp n header items edits e orders k a b r) (sym same_keyword) (subst (λ (c : Result (List Sid) Refusal). MakesDelta c words stamp n header items edits e orders keyword a b r) (sym same) makes))
 
-pub script_made : (o : Option View) (words : DeltaWords) (stamp : Stamp) (n : List ℕ) (header : Header) (items : List Item) (edits : List Edit) (e : Entry) (orders : List Order) (found : Found) (a a2 b : Told) (r : Result Prepared StepFault)
+pub script_made : (o : Option View) (words : DeltaWords) (stamp : Stamp) (n : List ℕ) (header : Header) (items : List Item) (edits : List Edit) (e : ChosenEntry) (orders : List Order) (found : Found) (a a2 b : Told) (r : Result Prepared StepFault)
     → IfSome o (λ (v : View). is_short (v (drop 2 n)) ≡ true → FitsBy (script_fits header.flags words.mrs orders (base_lines items e.base) (v (drop 2 n))) orders (base_lines items e.base) (Ok found)) → a2 ≡ a
     → (found.lines ≡ length (base_lines items e.base) → MakesDelta (nulls_of header edits e.edit) words stamp n header items edits e orders found.keyword a2 b r)
     → IfSome o (λ (v : View). is_short (v (drop 2 n)) ≡ true → MakesDelta (script_checked words header items edits e orders (v (drop 2 n))) words stamp n header items edits e orders (list_any has_keyword (apply orders (base_lines items e.base))) a b r)

@@ -41,15 +41,15 @@ use Rattle.sccs_store.specs.Stops.{KeepsEntries}
 use Rattle.sccs_transactions.specs.Changes.{plan_of}
 use Rattle.sccs_transactions.specs.Stops.{SettlesEntries}
 use Rattle.sccs_transactions.specs.declared.prepared.Prepared.{Prepared}
-use Rattle.sccs_pending.specs.PFiles.{Passes, is_short}
+use Rattle.sccs_pending.specs.PFiles.{PassesCheck, is_short}
 use Rattle.sccs_pending.specs.declared.pending.Pending.{Pending}
 use Rattle.sccs_words.specs.declared.commands.DeltaWords.{DeltaWords}
-use Rattle.sccs_delta.specs.DeltaStep.{Entry, base_lines, counts_of, delta_of, fitted, header_with, mrs_checked, nulls_of, or_script_fault, sizes_checked}
+use Rattle.sccs_delta.specs.DeltaStep.{ChosenEntry, base_lines, counts_of, entry_delta, fitted, header_with, mrs_checked, nulls_of, or_script_fault, sizes_checked}
 use Rattle.sccs_delta.specs.NullDeltas.{null_deltas, skipped_by, with_nulls}
 use Rattle.sccs_delta.specs.Preparing.{FindsEntry}
 use Rattle.sccs_delta.specs.Writing.{script_checked}
 use Rattle.sccs_delta.specs.declared.entries.Chosen.{Chosen}
-use Rattle.sccs_delta.proofs.Chains.{passed}
+use Rattle.sccs_pending.proofs.Chains.{passed}
 use Rattle.sccs_delta.proofs.DeltaStops.{delta_settles_read, settles_told}
 use Rattle.sccs_delta.proofs.EntryChains.{has_base}
 use Rattle.sccs_delta.proofs.NullFits.{rules_kept}
@@ -92,7 +92,7 @@ pub fitted_ok : (flags : List Flag) (orders : List Order) (base : List (List ℕ
 unfolding fitted
 fitted_ok flags orders base g t is = let first = passed (or_script_fault (checked orders (length base))) _ t is in script_ok (checked orders (length base)) first.0 first.1
 
-script_passed : (words : DeltaWords) (header : Header) (items : List Item) (edits : List Edit) (e : Entry) (orders : List Order) (g : Option Content) (nulls : List Sid) → script_checked words header items edits e orders g ≡ Ok nulls → (checked orders (length (base_lines items e.base)) ≡ Ok tt) × (nulls_of header edits e.edit ≡ Ok nulls)
+script_passed : (words : DeltaWords) (header : Header) (items : List Item) (edits : List Edit) (e : ChosenEntry) (orders : List Order) (g : Option Content) (nulls : List Sid) → script_checked words header items edits e orders g ≡ Ok nulls → (checked orders (length (base_lines items e.base)) ≡ Ok tt) × (nulls_of header edits e.edit ≡ Ok nulls)
 unfolding script_checked
 script_passed words header items edits e orders g nulls is =
     let fits = passed (fitted header.flags orders (base_lines items e.base) g) (λ x. mrs_checked header.flags words.mrs >>= λ mrs. nulls_of header edits e.edit) nulls is in
@@ -124,7 +124,7 @@ settled words stamp n i x c orders p a b v u sfile here there alike sizes read p
     let passes = script_passed words x.front.header read.0.items x.edits e orders (v (drop 2 n)) told.0 told.1 in
     let room = room_of x.front.header x.edits e.edit told.0 passes.1 in
     let counts = counts_of (plan orders (length (base_lines read.0.items e.base))) (length (base_lines read.0.items e.base)) in
-    let d = delta_of words stamp e.edit e.base.include e.base.exclude counts in
+    let d = entry_delta words stamp e.edit e.base.include e.base.exclude counts in
     let x_is = subst (λ (o : Option View). IfSome o (λ (w : View). w (x_file n) ≡ Some (sealed (header_with x.front.header e.base.got (map (null_delta stamp) told.0) d) (places read.0.items e.base.set orders (suc (newest x.front.header.records + length told.0)))))) there told.2.x_state in (
       delta_settles_read n x stamp c.number e.base.got e.edit d e.base.set orders p v u read rules valid agree finds.1 refl
           (rules_kept x.front.header x.edits (c.number - 1) c.number e.edit e.base words stamp counts rules agree finds.1 (has_base words stamp x.front.header x.edits e finds.2) room.0)
@@ -138,12 +138,12 @@ settled words stamp n i x c orders p a b v u sfile here there alike sizes read p
       paired_there n p u _ told.2.new_s x_is,
     )
 
-pub delta_entries : (words : DeltaWords) (stamp : Stamp) (n i : List ℕ) (x : Pending) (c : Chosen) (orders : List Order) (r : Result Prepared StepFault) (o : Option View) (a b : Told) → IsSfile n → seen a ≡ o → IfSome o (λ (v : View). Passes (sizes_checked i (look v n)) (Ok tt)) → IfSome o (λ (v : View). IsRead n v x)
+pub delta_entries : (words : DeltaWords) (stamp : Stamp) (n i : List ℕ) (x : Pending) (c : Chosen) (orders : List Order) (r : Result Prepared StepFault) (o : Option View) (a b : Told) → IsSfile n → seen a ≡ o → IfSome o (λ (v : View). PassesCheck (sizes_checked i (look v n)) (Ok tt)) → IfSome o (λ (v : View). IsRead n v x)
     → IsPlaced x.front → has c.base.set 0 ≡ false → IsHeader x.front.header → All IsEdit x.edits → Agrees x.front.header.records x.edits → FindsEntry words stamp x.front.header x.edits (Ok c) → or_script_fault (orders_of i) ≡ Ok orders
     → Moves (is_working n) (λ w. w) (seen a) (seen b) → Writes words stamp n x c orders r a b → IfOk r (λ p. SettlesEntries n p b)
 delta_entries words stamp n i x c orders (Err fault) o a b sfile here sizes read placed zero rules valid agree finds is moves writes = tt
 delta_entries words stamp n i x c orders (Ok p) o a b sfile here sizes read placed zero rules valid agree finds is moves writes =
     settles_told n p (is_working n) a b moves (λ v u is_a is_b alike.
     settled words stamp n i x c orders p a b v u sfile is_a is_b alike
-    (subst (λ (w : Option View). IfSome w (λ (y : View). Passes (sizes_checked i (look y n)) (Ok tt))) (sym here ∙ is_a) sizes)
+    (subst (λ (w : Option View). IfSome w (λ (y : View). PassesCheck (sizes_checked i (look y n)) (Ok tt))) (sym here ∙ is_a) sizes)
     (subst (λ (w : Option View). IfSome w (λ (y : View). IsRead n y x)) (sym here ∙ is_a) read) placed zero rules valid agree finds is writes)

@@ -44,7 +44,7 @@ use Rattle.sccs_splicer.proofs.SpliceLaws.{owed_first}
 use Rattle.sccs_store.specs.SealedFiles.{sealed}
 use Rattle.sccs_transactions.specs.declared.prepared.Prepared.{Prepared}
 use Rattle.sccs_words.specs.declared.commands.DeltaWords.{DeltaWords}
-use Rattle.sccs_delta.specs.DeltaStep.{Entry, base_lines, counts_of, delta_of, delta_report, header_with, nulls_of}
+use Rattle.sccs_delta.specs.DeltaStep.{ChosenEntry, base_lines, counts_of, entry_delta, delta_report, header_with, nulls_of}
 use Rattle.sccs_pending.specs.Reports.{warning}
 use Rattle.sccs_delta.specs.declared.entries.Base.{Base}
 use Rattle.sccs_copies.specs.declared.copies.Copying.{Copying}
@@ -108,7 +108,7 @@ copy_begun file front items lines (Err e) b set s same count splicer start is bo
 
 -- ---- the s-file
 
-pub no_sfile : (words : DeltaWords) (stamp : Stamp) (n : List ℕ) (header : Header) (items : List Item) (edits : List Edit) (e : Entry) (orders : List Order) (lines : ℕ) (keyword : Bool) (a b : Told) (fault : StepFault) → MakesSfile words stamp header edits e.edit e.base orders lines (Err fault)
+pub no_sfile : (words : DeltaWords) (stamp : Stamp) (n : List ℕ) (header : Header) (items : List Item) (edits : List Edit) (e : ChosenEntry) (orders : List Order) (lines : ℕ) (keyword : Bool) (a b : Told) (fault : StepFault) → MakesSfile words stamp header edits e.edit e.base orders lines (Err fault)
     → MakesDelta (nulls_of header edits e.edit) words stamp n header items edits e orders keyword a b (Err fault)
 no_sfile words stamp n header items edits e orders lines keyword a b (Refused refusal) makes = makes
 no_sfile words stamp n header items edits e orders lines keyword a b Memory makes = tt
@@ -128,14 +128,14 @@ writes_as n h h2 items items2 edits keep report report2 message message2 p a b s
   working = writes.working;
 }
 
-pub delta_made : (words : DeltaWords) (stamp : Stamp) (n : List ℕ) (header : Header) (items : List Item) (edits : List Edit) (e : Entry) (orders : List Order) (lines : ℕ) (keyword : Bool) (s : NewSfile) (report message : List ℕ) (r : Result Prepared StepFault) (a b : Told) → lines ≡ length (base_lines items e.base)
+pub delta_made : (words : DeltaWords) (stamp : Stamp) (n : List ℕ) (header : Header) (items : List Item) (edits : List Edit) (e : ChosenEntry) (orders : List Order) (lines : ℕ) (keyword : Bool) (s : NewSfile) (report message : List ℕ) (r : Result Prepared StepFault) (a b : Told) → lines ≡ length (base_lines items e.base)
     → (makes : MakesSfile words stamp header edits e.edit e.base orders lines (Ok s)) → report ≡ delta_report words.silent s.sid s.counts → message ≡ warning n keyword
     → WritesDelta n s.header (owed s.copying.filter.splicer (told_behind e.base.set [] items)) (remove edits (e.number - 1)) words.keep report message a b r → MakesDelta (nulls_of header edits e.edit) words stamp n header items edits e orders keyword a b r
 delta_made words stamp n header items edits e orders lines keyword s report message (Ok p) a b is makes report_is message_is writes = (
   makes.0,
   makes.1,
   writes_as n s.header _ (owed s.copying.filter.splicer (told_behind e.base.set [] items)) _ (remove edits (e.number - 1)) words.keep report _ message _ p a b
-      (makes.2.header_is ∙ ap (λ k. header_with header e.base.got (map (null_delta stamp) makes.0) (delta_of words stamp e.edit e.base.include e.base.exclude (counts_of (plan orders k) k))) is)
+      (makes.2.header_is ∙ ap (λ k. header_with header e.base.got (map (null_delta stamp) makes.0) (entry_delta words stamp e.edit e.base.include e.base.exclude (counts_of (plan orders k) k))) is)
       (ap (λ (t : State). owed t (told_behind e.base.set [] items)) makes.2.splicer_is
       ∙ (owed_first (suc (newest header.records + length makes.0)) (plan orders lines) (told_behind e.base.set [] items)
       ∙ placed_for lines is))
@@ -172,6 +172,14 @@ both_taken n p (Some u) (Some w) (Some v) new x q taken = record {
   q = subst (λ (c : Option Content). IsTakenOrGone p.new_p c (v (q_file n))) (x (q_file n) refl) taken;
   y = untouched p.new_g _ _ (q (y_file n) refl ∙ x (y_file n) refl);
 }
+
+-- where the x-file wasn't written no file is
+pub unwritten : (n x : List ℕ) (h : Header) (items : List Item) (edits : List Edit) (keep : Bool) (report message : List ℕ) (old new : Told) (a b : Option View) (fault : StepFault) → WritesX h items x a b (Err fault) → WritesDelta n h items edits keep report message old new (Err fault)
+unwritten n x h items edits keep report message old new a b (Refused refusal) writes = writes
+unwritten n x h items edits keep report message old new a b Memory writes = tt
+unwritten n x h items edits keep report message old new a b DiskFault writes = tt
+unwritten n x h items edits keep report message old new a b ReadFault writes = writes
+unwritten n x h items edits keep report message old new a b WriteFault writes = writes
 
 pub files_written : (n : List ℕ) (h : Header) (items : List Item) (edits : List Edit) (keep : Bool) (report message : List ℕ) (p : Prepared) (a b b2 c : Told) → IsSpelled h → b2 ≡ b → bytes_eq (q_file n) (x_file n) ≡ false → bytes_eq (x_file n) (drop 2 n) ≡ false → p.new_s ≡ true → p.report ≡ report → p.message ≡ message → WritesX h items (x_file n) (seen a) (seen b) (Ok tt)
     → Moves (bytes_eq (q_file n)) (λ v. v) (seen b2) (seen c) → PreparesEntries n edits p.new_p b2 c → Moves (bytes_eq (x_file n)) (λ v. v) (seen a) (seen b) → IfSome (seen b) (λ (v : View). (y : Option Content) → chosen p.new_g y (v (drop 2 n)) ≡ kept_g keep (v (drop 2 n))) → WritesFiles n h items edits keep report message p a c
@@ -262,13 +270,13 @@ entry_valid edits k e are at = at_place edits k (recursion_from_All IsEdit edits
 -- ---- the new s-file
 
 pub sfile_of : (words : DeltaWords) (stamp : Stamp) (header : Header) (edit : Edit) (base : Base) (orders : List Order) (lines serial : ℕ) (nulls sids : List Sid) (counts : Counts) (s : NewSfile) → sids ≡ nulls
-    → s.header ≡ header_with header base.got (map (null_delta stamp) sids) (delta_of words stamp edit base.include base.exclude counts) → counts ≡ counts_of s.copying.filter.splicer.plan lines → s.copying.filter.splicer ≡ begun serial (plan orders lines) → serial ≡ suc (newest header.records + length nulls)
+    → s.header ≡ header_with header base.got (map (null_delta stamp) sids) (entry_delta words stamp edit base.include base.exclude counts) → counts ≡ counts_of s.copying.filter.splicer.plan lines → s.copying.filter.splicer ≡ begun serial (plan orders lines) → serial ≡ suc (newest header.records + length nulls)
     → s.copying.filter.set ≡ base.set → s.sid ≡ edit.made → s.counts ≡ counts → IsSfileOf words stamp header edit base orders lines nulls s
 sfile_of words stamp header edit base orders lines serial nulls sids counts s sids_are header_is counts_are splicer_is serial_is set_is sid_is said =
     let plan_counts : counts ≡ counts_of (plan orders lines) lines = counts_are ∙ ap (λ (t : State). counts_of t.plan lines) splicer_is in
     record {
-      header_is = header_is ∙ (ap (λ (l : List Sid). header_with header base.got (map (null_delta stamp) l) (delta_of words stamp edit base.include base.exclude counts)) sids_are
-          ∙ ap (λ (k : Counts). header_with header base.got (map (null_delta stamp) nulls) (delta_of words stamp edit base.include base.exclude k)) plan_counts);
+      header_is = header_is ∙ (ap (λ (l : List Sid). header_with header base.got (map (null_delta stamp) l) (entry_delta words stamp edit base.include base.exclude counts)) sids_are
+          ∙ ap (λ (k : Counts). header_with header base.got (map (null_delta stamp) nulls) (entry_delta words stamp edit base.include base.exclude k)) plan_counts);
       splicer_is = splicer_is ∙ ap (λ k. begun k (plan orders lines)) serial_is;
       set_is = set_is;
       sid_is = sid_is;

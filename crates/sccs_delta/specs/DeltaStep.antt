@@ -74,8 +74,8 @@ delta_checks =
 -- ---- null deltas (sccsfile(4), Flags, n)
 
 -- the first delta of a release of the trunk
-abbrev pub first_of : ℕ → Sid
-first_of release = record { release = release; level = 1; branch = 0; sequence = 0 }
+abbrev pub first_in_release : ℕ → Sid
+first_in_release release = record { release = release; level = 1; branch = 0; sequence = 0 }
 
 abbrev pub is_on_trunk : ℕ → Sid → Bool
 is_on_trunk release sid = sid.branch == 0 && sid.release == release
@@ -87,7 +87,7 @@ is_used records reserved release = list_any (λ r. not r.removed && is_on_trunk 
 -- of so many releases, from one on, those without a delta
 abbrev pub unused_from : List Record → List Sid → ℕ → ℕ → List Sid
 unused_from records reserved release zero = []
-unused_from records reserved release (suc count) = front_if (not (is_used records reserved release)) (first_of release) (unused_from records reserved (suc release) count)
+unused_from records reserved release (suc count) = front_if (not (is_used records reserved release)) (first_in_release release) (unused_from records reserved (suc release) count)
 
 -- The SIDs of the null deltas: with the flag n, the first ones of the releases without a delta between those of the SID got and
 -- of the SID to be made, where both are on the trunk.
@@ -103,8 +103,8 @@ or_disagrees number (Err sid) = Err (refusals.Disagree number)
 
 -- What an entry says by serials: the delta got, those of its lists, and the set whose version is the base. An entry of
 -- which the table has no live deltas disagrees.
-unfoldable pub base_of : List Record → ℕ → Edit → Result Base Refusal
-base_of records number edit = do
+unfoldable pub entry_base : List Record → ℕ → Edit → Result Base Refusal
+entry_base records number edit = do
   got ← there (serial_of records edit.got) (refusals.Disagree number)
   include ← or_disagrees number (named_serials records [] edit.include)
   exclude ← or_disagrees number (named_serials records [] edit.exclude)
@@ -117,25 +117,25 @@ base_of records number edit = do
   })
 
 -- an entry, by its number from 1, and its base
-pub record Entry : Type 0 where
+pub record ChosenEntry : Type 0 where
   pub number : ℕ
   pub edit : Edit
   pub base : Base
 
 -- the releases got and to be made lie from floor to ceiling, and the latter isn't locked
-unfoldable pub released : List Flag → Edit → Result Bool Refusal
-released flags edit = do
+unfoldable pub delta_releases : List Flag → Edit → Result Bool Refusal
+delta_releases flags edit = do
   within ← check (is_within_limits flags edit.got.release && is_within_limits flags edit.made.release) refusals.OutsideRelease
   check (not (is_locked flags edit.made.release)) refusals.LockedRelease
 
 -- the one entry of a login that is let in, whose releases may be used
-unfoldable pub entry_of : DeltaWords → Stamp → Header → List Edit → Result Entry Refusal
-entry_of words stamp header edits = do
+unfoldable pub chosen_entry : DeltaWords → Stamp → Header → List Edit → Result ChosenEntry Refusal
+chosen_entry words stamp header edits = do
   allowed ← check (is_allowed header.users stamp.login) refusals.NotAllowed
   number ← or_no_edit (choice (fits stamp.login words.sid true) edits)
   edit ← there (slice_get edits (number - 1)) refusals.NoEdit
-  base ← base_of header.records number edit
-  free ← released header.flags edit
+  base ← entry_base header.records number edit
+  free ← delta_releases header.flags edit
   Ok (record { number = number; edit = edit; base = base })
 
 -- the lines of the base
@@ -190,8 +190,8 @@ nulls_of header edits edit = do
 abbrev pub counts_of : Plan → ℕ → Counts
 counts_of p lines = record { inserted = min (added_count p.added) last_count; deleted = length p.deleted; unchanged = lines - length p.deleted }
 
-abbrev pub delta_of : DeltaWords → Stamp → Edit → List ℕ → List ℕ → Counts → NewDelta
-delta_of words stamp edit include exclude counts =
+abbrev pub entry_delta : DeltaWords → Stamp → Edit → List ℕ → List ℕ → Counts → NewDelta
+entry_delta words stamp edit include exclude counts =
     record { sid = edit.made; stamp = stamp; include = include; exclude = exclude; mrs = words.mrs; comments = some_lines words.comment; counts = counts }
 
 -- the null deltas and the new one are put on the table, each on the one before
@@ -211,11 +211,11 @@ delta_report silent sid counts =
     else ended (sid_text sid) ++ (count_line counts.inserted (codes "inserted") ++ (count_line counts.deleted (codes "deleted") ++ count_line counts.unchanged (codes "unchanged")))
 
 -- The s-file has the null deltas and the new one, the entry leaves the p-file, and the g-file goes unless it is kept.
-abbrev pub makes_delta : DeltaWords → Stamp → List ℕ → Files → Found → Entry → List Order → List Sid → StepEffect
+abbrev pub makes_delta : DeltaWords → Stamp → List ℕ → Files → Found → ChosenEntry → List Order → List Sid → StepEffect
 makes_delta words stamp n f found e orders nulls =
     let header = found.parsed.header in
     let lines = base_lines found.parsed.items e.base in
-    let d = delta_of words stamp e.edit e.base.include e.base.exclude (counts_of (plan orders (length lines)) (length lines)) in
+    let d = entry_delta words stamp e.edit e.base.include e.base.exclude (counts_of (plan orders (length lines)) (length lines)) in
     record {
       new = Some (record {
         s = Some (sealed (header_with header e.base.got (map (null_delta stamp) nulls) d) (places found.parsed.items e.base.set orders (suc (newest header.records + length nulls))));
@@ -239,7 +239,7 @@ unfoldable pub delta_outcome : DeltaWords → Stamp → Step
 delta_outcome words stamp n input named f = do
   sizes ← sizes_checked input f
   found ← pending_of f.s f.p
-  e ← entry_of words stamp found.parsed.header found.edits
+  e ← chosen_entry words stamp found.parsed.header found.edits
   orders ← or_script_fault (orders_of input)
   fits ← fitted found.parsed.header.flags orders (base_lines found.parsed.items e.base) f.g
   mrs ← mrs_checked found.parsed.header.flags words.mrs

@@ -24,23 +24,23 @@ use Rattle.sccs_store.specs.SealedFiles.{sealed}
 use Rattle.sccs_pending.specs.NewEntries.{kept_g}
 use Rattle.sccs_pending.specs.PFiles.{bytes_or_none}
 use Rattle.sccs_words.specs.declared.commands.DeltaWords.{DeltaWords}
-use Rattle.sccs_delta.specs.DeltaStep.{Entry, counts_of, delta_of, entry_of}
+use Rattle.sccs_delta.specs.DeltaStep.{ChosenEntry, counts_of, entry_delta, chosen_entry}
 use Rattle.sccs_delta.specs.NullDeltas.{null_deltas, skipped_by, with_nulls}
 use Rattle.sccs_delta.specs.declared.entries.Base.{Base}
 
 -- the text of a serial's version in a file
-abbrev pub text_in : Parsed → ℕ → List (List ℕ)
-text_in file n = version n file.header.records (lines_of file.items)
+abbrev pub version_text : Parsed → ℕ → List (List ℕ)
+version_text file n = version n file.header.records (lines_of file.items)
 
 -- the text on which a delta is made: what the set of the delta got, with the lists, shows of the file
 abbrev pub base_text : Parsed → Base → List (List ℕ)
 base_text file base = select (applied (record { target = base.got; include = base.include; exclude = base.exclude; cutoff = None }) file.header.records) (lines_of file.items)
 
 -- the new delta of an entry, with the counts of its script
-abbrev pub delta_on : DeltaWords → Stamp → Parsed → Entry → List Order → NewDelta
+abbrev pub delta_on : DeltaWords → Stamp → Parsed → ChosenEntry → List Order → NewDelta
 delta_on words stamp file e orders =
     let lines = length (base_text file e.base) in
-    delta_of words stamp e.edit e.base.include e.base.exclude (counts_of (plan orders lines) lines)
+    entry_delta words stamp e.edit e.base.include e.base.exclude (counts_of (plan orders lines) lines)
 
 -- A base is what an entry says by serials.
 pub record IsBaseOf (file : Parsed) (edit : Edit) (base : Base) : Type 0 where
@@ -48,7 +48,7 @@ pub record IsBaseOf (file : Parsed) (edit : Edit) (base : Base) : Type 0 where
   pub include : named_serials file.header.records [] edit.include ≡ Ok base.include
   pub exclude : named_serials file.header.records [] edit.exclude ≡ Ok base.exclude
   -- without lists it is the version got
-  pub alone : edit.include ≡ [] → edit.exclude ≡ [] → base_text file base ≡ text_in file base.got
+  pub alone : edit.include ≡ [] → edit.exclude ≡ [] → base_text file base ≡ version_text file base.got
 
 -- A delta, with null deltas before it, is put on a file: it is the newest one, live, with the SID to be made, and its version is what
 -- the script makes of the base; a null delta's version is that of the delta got; all older versions stay.
@@ -57,20 +57,20 @@ pub record AddsVersions (before after : Parsed) (edit : Edit) (base : Base) (ord
   pub sid : serial_of after.header.records edit.made ≡ Some (newest after.header.records)
   pub added_live : (k : ℕ) → newest before.header.records < k → k ≤ newest after.header.records → has (live_serials after.header.records) k ≡ true
   pub live : (m : ℕ) → m ≤ newest before.header.records → has (live_serials after.header.records) m ≡ has (live_serials before.header.records) m
-  pub own : text_in after (newest after.header.records) ≡ apply orders (base_text before base)
-  pub nulls : (k : ℕ) → newest before.header.records < k → k < newest after.header.records → text_in after k ≡ text_in before base.got
-  pub others : (m : ℕ) → m ≤ newest before.header.records → text_in after m ≡ text_in before m
+  pub own : version_text after (newest after.header.records) ≡ apply orders (base_text before base)
+  pub nulls : (k : ℕ) → newest before.header.records < k → k < newest after.header.records → version_text after k ≡ version_text before base.got
+  pub others : (m : ℕ) → m ≤ newest before.header.records → version_text after m ≡ version_text before m
 
 -- What a delta's step did: the file and the entries that were there, the entry and the script, and the file that is there then.
 pub record MakesVersions (words : DeltaWords) (stamp : Stamp) (input : List ℕ) (f : Files) (old : Content) (effect : StepEffect) : Type 0 where
   pub before : Parsed
   pub edits : List Edit
-  pub entry : Entry
+  pub entry : ChosenEntry
   pub orders : List Order
   pub after : Parsed
   pub was : IsSFile old.bytes before.header before.items
   pub pending : IsPFile (bytes_or_none f.p) edits
-  pub meant : entry_of words stamp before.header edits ≡ Ok entry
+  pub meant : chosen_entry words stamp before.header edits ≡ Ok entry
   pub numbered : slice_get edits (entry.number - 1) ≡ Some entry.edit
   pub base : IsBaseOf before entry.edit entry.base
   pub script : orders_of input ≡ Ok orders

@@ -24,7 +24,7 @@ use Rattle.sccs_steps.specs.StepEffects.{check}
 use Rattle.sccs_pfile.specs.declared.entries.Edit.{Edit}
 use Rattle.sccs_words.specs.declared.commands.DeltaWords.{DeltaWords}
 use Rattle.sccs_pending.specs.PFiles.{is_short}
-use Rattle.sccs_delta.specs.DeltaStep.{compared, entry_of, fitted, mrs_checked, or_differs, or_script_fault}
+use Rattle.sccs_delta.specs.DeltaStep.{compared, chosen_entry, fitted, mrs_checked, or_differs, or_script_fault}
 use Rattle.sccs_copies.specs.Examining.{has_keyword}
 use Rattle.sccs_delta.specs.declared.entries.Asked.{Asked}
 use Rattle.sccs_delta.specs.declared.entries.Chosen.{Chosen}
@@ -45,16 +45,16 @@ script_refusal faults.Memory = Memory
 -- the entry that is found, with its base; of want of memory nothing is said
 abbrev pub FindsEntry : DeltaWords → Stamp → Header → List Edit → Result Chosen StepFault → Type 0
 FindsEntry words stamp header edits (Ok c) =
-    (edit : Edit) × (slice_get edits (c.number - 1) ≡ Some edit) × (entry_of words stamp header edits ≡ Ok (record { number = c.number; edit = edit; base = c.base }))
-FindsEntry words stamp header edits (Err (Refused refusal)) = entry_of words stamp header edits ≡ Err refusal
+    (edit : Edit) × (slice_get edits (c.number - 1) ≡ Some edit) × (chosen_entry words stamp header edits ≡ Ok (record { number = c.number; edit = edit; base = c.base }))
+FindsEntry words stamp header edits (Err (Refused refusal)) = chosen_entry words stamp header edits ≡ Err refusal
 FindsEntry words stamp header edits (Err Memory) = Unit {0}
 FindsEntry words stamp header edits (Err DiskFault) = Unit {0}
 FindsEntry words stamp header edits (Err ReadFault) = ⊥
 FindsEntry words stamp header edits (Err WriteFault) = ⊥
 
 -- what is judged of what a reading found
-unfoldable pub judged : List Flag → List Order → Found → Result Bool Refusal
-judged flags orders found = do
+unfoldable pub judged_script : List Flag → List Order → Found → Result Bool Refusal
+judged_script flags orders found = do
   fits ← or_script_fault (checked orders found.lines)
   keywords ← check (not (has_flag flags flag_i) || found.keyword) refusals.NoKeywords
   or_differs found.differs
@@ -89,8 +89,8 @@ FitsBy checks orders base (Err ReadFault) = ⊥
 FitsBy checks orders base (Err WriteFault) = ⊥
 
 -- the script fits, or a check fails
-abbrev pub Fits : List Flag → List Order → List (List ℕ) → Option Content → Result Found StepFault → Type 0
-Fits flags orders base g result = FitsBy (fitted flags orders base g) orders base result
+abbrev pub FitsScript : List Flag → List Order → List (List ℕ) → Option Content → Result Found StepFault → Type 0
+FitsScript flags orders base g result = FitsBy (fitted flags orders base g) orders base result
 
 -- the script fits, and the MRs are as the flag v asks
 abbrev pub script_fits : List Flag → List (List ℕ) → List Order → List (List ℕ) → Option Content → Result Bool Refusal
@@ -99,7 +99,7 @@ script_fits flags mrs orders base g = fitted flags orders base g >>= λ fits. mr
 -- the entry that is found and the orders of the script; of want of memory nothing is said
 abbrev pub FindsAsked : DeltaWords → Stamp → Header → List Edit → List ℕ → Result Asked StepFault → Type 0
 FindsAsked words stamp header edits i (Ok a) = FindsEntry words stamp header edits (Ok a.chosen) × (or_script_fault (orders_of i) ≡ Ok a.script)
-FindsAsked words stamp header edits i (Err (Refused refusal)) = (entry_of words stamp header edits >>= λ e. or_script_fault (orders_of i)) ≡ Err refusal
+FindsAsked words stamp header edits i (Err (Refused refusal)) = (chosen_entry words stamp header edits >>= λ e. or_script_fault (orders_of i)) ≡ Err refusal
 FindsAsked words stamp header edits i (Err Memory) = Unit {0}
 FindsAsked words stamp header edits i (Err DiskFault) = Unit {0}
 FindsAsked words stamp header edits i (Err ReadFault) = ⊥

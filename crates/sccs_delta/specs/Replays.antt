@@ -20,8 +20,8 @@ use Rattle.sccs_pfile.specs.declared.entries.Edit.{Edit}
 use Rattle.sccs_steps.specs.StepEffects.{Outcome}
 use Rattle.sccs_pending.specs.PFiles.{bytes_or_none, or_bad_pfile}
 use Rattle.sccs_words.specs.declared.commands.DeltaWords.{DeltaWords}
-use Rattle.sccs_delta.specs.DeltaStep.{Entry, delta_outcome, entry_of, or_script_fault}
-use Rattle.sccs_delta.specs.NewVersions.{base_text, text_in}
+use Rattle.sccs_delta.specs.DeltaStep.{ChosenEntry, delta_outcome, chosen_entry, or_script_fault}
+use Rattle.sccs_delta.specs.NewVersions.{base_text, version_text}
 use Rattle.sccs_delta.specs.NullDeltas.{skipped_by}
 
 -- ---- calls
@@ -44,8 +44,8 @@ pub record IsDeltaCall (c : DeltaCall) : Type 0 where
 abbrev pub files_at : Content → DeltaCall → Files
 files_at s c = record { s = Some s; p = c.p; z = None; g = c.g }
 
-abbrev pub outcome_at : List ℕ → Content → DeltaCall → Outcome
-outcome_at n s c = delta_outcome c.words c.stamp n c.input [] (files_at s c)
+abbrev pub call_outcome : List ℕ → Content → DeltaCall → Outcome
+call_outcome n s c = delta_outcome c.words c.stamp n c.input [] (files_at s c)
 
 -- the s-file behind a step; one that is refused changes nothing
 abbrev pub s_behind : Content → Outcome → Content
@@ -55,7 +55,7 @@ s_behind s (Err refusal) = s
 -- the s-file behind calls on a name
 abbrev pub s_after : List ℕ → Content → List DeltaCall → Content
 s_after n s [] = s
-s_after n s (c ∷ calls) = s_after n (s_behind s (outcome_at n s c)) calls
+s_after n s (c ∷ calls) = s_after n (s_behind s (call_outcome n s c)) calls
 
 -- ---- texts by scripts
 
@@ -67,14 +67,14 @@ Texts = ℕ → List (List ℕ)
 pub record CallRead : Type 0 where
   pub file : Parsed
   pub edits : List Edit
-  pub entry : Entry
+  pub entry : ChosenEntry
   pub orders : List Order
 
 unfoldable pub call_read : Content → DeltaCall → Result CallRead Refusal
 call_read s c = do
   file ← or_refusal (file_of s.bytes)
   edits ← or_bad_pfile (edits_of (bytes_or_none c.p))
-  entry ← entry_of c.words c.stamp file.header edits
+  entry ← chosen_entry c.words c.stamp file.header edits
   orders ← or_script_fault (orders_of c.input)
   Ok (record { file = file; edits = edits; entry = entry; orders = orders })
 
@@ -95,20 +95,20 @@ with_texts texts r n =
     else apply r.orders (replayed_base texts r)
 
 -- the texts behind a step
-abbrev pub texts_behind : Texts → Outcome → Result CallRead Refusal → Texts
-texts_behind texts (Err refusal) read = texts
-texts_behind texts (Ok effect) (Err refusal) = texts
-texts_behind texts (Ok effect) (Ok r) = with_texts texts r
+abbrev pub texts_after : Texts → Outcome → Result CallRead Refusal → Texts
+texts_after texts (Err refusal) read = texts
+texts_after texts (Ok effect) (Err refusal) = texts
+texts_after texts (Ok effect) (Ok r) = with_texts texts r
 
 -- the texts behind calls on a name, by those before them
-abbrev pub replay : List ℕ → Content → Texts → List DeltaCall → Texts
-replay n s texts [] = texts
-replay n s texts (c ∷ calls) = replay n (s_behind s (outcome_at n s c)) (texts_behind texts (outcome_at n s c) (call_read s c)) calls
+abbrev pub replayed_calls : List ℕ → Content → Texts → List DeltaCall → Texts
+replayed_calls n s texts [] = texts
+replayed_calls n s texts (c ∷ calls) = replayed_calls n (s_behind s (call_outcome n s c)) (texts_after texts (call_outcome n s c) (call_read s c)) calls
 
 -- The s-file behind calls on a file can be read, the version of each live serial is its replay from the versions at the start, and
 -- each serial that was there keeps its version.
 pub record ReplaysVersions (n : List ℕ) (s : Content) (file : Parsed) (calls : List DeltaCall) : Type 0 where
   pub last : Parsed
   pub reads : IsSFile (s_after n s calls).bytes last.header last.items
-  pub versions : (m : ℕ) → has (live_serials last.header.records) m ≡ true → text_in last m ≡ replay n s (text_in file) calls m
-  pub stay : (m : ℕ) → m ≤ newest file.header.records → text_in last m ≡ text_in file m
+  pub versions : (m : ℕ) → has (live_serials last.header.records) m ≡ true → version_text last m ≡ replayed_calls n s (version_text file) calls m
+  pub stay : (m : ℕ) → m ≤ newest file.header.records → version_text last m ≡ version_text file m

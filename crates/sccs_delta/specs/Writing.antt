@@ -1,5 +1,5 @@
 -- What is written of a delta.
-use Rattle.std.specs.Prelude.{◌≡◌, ◌≢◌, ◌≤◌, ℕ, suc, ◌+◌, ◌-◌, Bool, true, List, length, remove, map, drop, Option, Some, IfSome, Result, Ok, Err}
+use Rattle.std.specs.Prelude.{◌≡◌, ℕ, suc, ◌+◌, ◌-◌, Bool, true, List, length, remove, map, drop, Option, Some, IfSome, Result, Ok, Err}
 use Rattle.sccs_base.specs.Name.{q_file, x_file}
 use Rattle.sccs_disk.specs.Files.{Content, View, put}
 use Rattle.sccs_disk.specs.Told.{Told, seen}
@@ -24,18 +24,18 @@ use Rattle.sccs_transactions.specs.declared.prepared.Prepared.{Prepared}
 use Rattle.sccs_pending.specs.NewEntries.{kept_g}
 use Rattle.sccs_words.specs.declared.commands.DeltaWords.{DeltaWords}
 use Rattle.sccs_edits.specs.Places.{places}
-use Rattle.sccs_base.specs.Stream.{Rose}
 use Rattle.sccs_sid.specs.Reading.{◌>>=◌}
 use Rattle.sccs_sid.specs.declared.refusals.Refusal.{Refusal}
-use Rattle.sccs_delta.specs.DeltaStep.{Entry, base_lines, counts_of, delta_of, delta_report, fitted, header_with, mrs_checked, nulls_of}
+use Rattle.sccs_delta.specs.DeltaStep.{ChosenEntry, base_lines, counts_of, entry_delta, delta_report, fitted, header_with, mrs_checked, nulls_of}
 use Rattle.sccs_pending.specs.Reports.{warning}
 use Rattle.sccs_delta.specs.declared.entries.Base.{Base}
 use Rattle.sccs_delta.specs.declared.new_sfiles.NewSfile.{NewSfile}
 
 -- The s-file that the delta of an entry makes, with null deltas of these SIDs before it.
 pub record IsSfileOf (words : DeltaWords) (stamp : Stamp) (header : Header) (edit : Edit) (base : Base) (orders : List Order) (lines : ℕ) (nulls : List Sid) (s : NewSfile) : Type 0 where
-  pub header_is : s.header ≡ header_with header base.got (map (null_delta stamp) nulls) (delta_of words stamp edit base.include base.exclude (counts_of (plan orders lines) lines))
-  pub splicer_is : s.copying.filter.splicer ≡ begun (suc (newest header.records + length nulls)) (plan orders lines)
+  pub header_is : s.header ≡ header_with header base.got (map (null_delta stamp) nulls) (entry_delta words stamp edit base.include base.exclude (counts_of (plan orders lines) lines))
+  pub splicer_is : s.copying.filter.splicer
+      ≡ begun (suc (newest header.records + length nulls)) (plan orders lines)
   pub set_is : s.copying.filter.set ≡ base.set
   pub sid_is : s.sid ≡ edit.made
   pub counts_is : s.counts ≡ counts_of (plan orders lines) lines
@@ -80,29 +80,22 @@ WritesDelta n h items edits keep report message old new (Err ReadFault) = ⊥
 WritesDelta n h items edits keep report message old new (Err WriteFault) = ⊥
 
 -- the checks of a script and of the new record; what passes them are the SIDs of the null deltas
-unfoldable pub script_checked : DeltaWords → Header → List Item → List Edit → Entry → List Order → Option Content → Result (List Sid) Refusal
+unfoldable pub script_checked : DeltaWords → Header → List Item → List Edit → ChosenEntry → List Order → Option Content → Result (List Sid) Refusal
 script_checked words header items edits e orders g = do
   fits ← fitted header.flags orders (base_lines items e.base) g
   mrs ← mrs_checked header.flags words.mrs
   nulls_of header edits e.edit
 
 -- The delta of an entry, with null deltas before it, is written; or a check fails.
-abbrev pub MakesDelta : Result (List Sid) Refusal → DeltaWords → Stamp → List ℕ → Header → List Item → List Edit → Entry → List Order → Bool → Told → Told → Result Prepared StepFault → Type 0
+abbrev pub MakesDelta : Result (List Sid) Refusal → DeltaWords → Stamp → List ℕ → Header → List Item → List Edit → ChosenEntry → List Order → Bool → Told → Told → Result Prepared StepFault → Type 0
 MakesDelta checks words stamp n header items edits e orders keyword old new (Ok p) =
     let lines = base_lines items e.base in
     let counts = counts_of (plan orders (length lines)) (length lines) in
     (nulls : List Sid) × (checks ≡ Ok nulls)
-    × WritesFiles n (header_with header e.base.got (map (null_delta stamp) nulls) (delta_of words stamp e.edit e.base.include e.base.exclude counts))
+    × WritesFiles n (header_with header e.base.got (map (null_delta stamp) nulls) (entry_delta words stamp e.edit e.base.include e.base.exclude counts))
     (places items e.base.set orders (suc (newest header.records + length nulls))) (remove edits (e.number - 1)) words.keep (delta_report words.silent e.edit.made counts) (warning n keyword) p old new
 MakesDelta checks words stamp n header items edits e orders keyword old new (Err (Refused refusal)) = checks ≡ Err refusal
 MakesDelta checks words stamp n header items edits e orders keyword old new (Err Memory) = Unit {0}
 MakesDelta checks words stamp n header items edits e orders keyword old new (Err DiskFault) = Unit {0}
 MakesDelta checks words stamp n header items edits e orders keyword old new (Err ReadFault) = ⊥
 MakesDelta checks words stamp n header items edits e orders keyword old new (Err WriteFault) = ⊥
-
--- A call of a step that changes a disk: it fails only where that did.
-pub record ChangesDisk {D T : Type 0} (faults : D → ℕ) (disk disk2 : D) (result : Result T StepFault) : Type 0 where
-  pub later : faults disk ≤ faults disk2
-  pub cause : result ≡ Err DiskFault → Rose (faults disk) (faults disk2)
-  pub read : result ≢ Err ReadFault
-  pub write : result ≢ Err WriteFault

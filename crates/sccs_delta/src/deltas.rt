@@ -43,10 +43,7 @@ fn hear<I: Source, D: Disk>(
     ensures write { result ≢ Err faults.WriteFault }
     ensures broke { result ≡ Err faults.DiskFault → Rose (D.faults disk.old) (D.faults disk.new) }
 {
-    match check_there(disk, name) {
-        Ok(()) => {}
-        Err(fault) => return Err(fault),
-    }
+    check_there(disk, name)?;
     match take_all(alloc, input, FILE_LIMIT) {
         Ok(script) => Ok(script),
         Err(TakeFault::TooLong) => Err(StepFault::Refused(Refusal::TooLong)),
@@ -72,9 +69,7 @@ impl Change for Delta<'_> {
         _out: &mut O,
         disk: &mut D,
     ) -> Result<Prepared, StepFault> {
-        match hear(alloc, name, input, disk) {
-            Ok(script) => prepare_delta(alloc, self.words, name, self.stamp, script.bytes(), disk),
-            Err(fault) => Err(fault),
-        }
+        let script = hear(alloc, name, input, disk)?;
+        prepare_delta(alloc, self.words, name, self.stamp, script.bytes(), disk)
     }
 }

@@ -2,11 +2,11 @@ ghost use Rattle.std.specs.Prelude.{◌≡◌, ◌≢◌, ◌<◌, ◌≤◌, �
 ghost use Rattle.std.specs.List.{AllByRecursion};
 ghost use Rattle.sccs_history.specs.History.{IsTable};
 ghost use Rattle.sccs_history.specs.Numbers.{has};
-ghost use Rattle.sccs_pending.specs.PFiles.{Answers, Passes};
+ghost use Rattle.sccs_pending.specs.PFiles.{Answers, PassesCheck};
 ghost use Rattle.sccs_script.specs.Commands.{FitsIn};
 ghost use Rattle.sccs_sid.specs.declared.refusals.StepFault.TheVariants as faults;
 ghost use Rattle.sccs_steps.specs.Actions.{RefusesWithin};
-ghost use Rattle.sccs_delta.specs.DeltaStep.{base_of, delta_checks, released};
+ghost use Rattle.sccs_delta.specs.DeltaStep.{entry_base, delta_checks, delta_releases};
 ghost use Rattle.sccs_delta.specs.Preparing.{FindsAsked, FindsEntry, list_fault};
 
 use crate::scripts::orders_of;
@@ -57,7 +57,7 @@ fn list_fault(fault: SetFault, number: u64) -> StepFault
 /// list names a SID that is none or is in both lists; of entries that agree with the table it never comes.
 pub fn base_of(alloc: Global, header: &Header, number: u64, edit: &Edit) -> Result<Base, StepFault>
     requires { IsTable header.now.records }
-    ensures value { Answers (base_of header.now.records number edit.now) result }
+    ensures value { Answers (entry_base header.now.records number edit.now) result }
     ensures no_zero { IfOk result (λ b. has b.set 0 ≡ false) }
     ensures checks { RefusesWithin delta_checks result }
     ensures broke { result ≢ Err faults.DiskFault }
@@ -87,9 +87,9 @@ pub fn base_of(alloc: Global, header: &Header, number: u64, edit: &Edit) -> Resu
 }
 
 // whether the releases of an entry may be used
-#[tactic(auto, unfolding(crate::specs::DeltaStep::released))]
+#[tactic(auto, unfolding(crate::specs::DeltaStep::delta_releases))]
 fn check_releases(header: &Header, edit: &Edit) -> Result<(), StepFault>
-    ensures value { Passes (released header.now.flags edit.now) result }
+    ensures value { PassesCheck (delta_releases header.now.flags edit.now) result }
     ensures checks { RefusesWithin delta_checks result }
     ensures memory { result ≢ Err faults.Memory }
     ensures broke { result ≢ Err faults.DiskFault }
@@ -127,19 +127,11 @@ pub fn chosen_entry(
     if !is_allowed(header, &stamp.login) {
         return Err(StepFault::Refused(Refusal::NotAllowed));
     }
-    let number = match chosen(&pending.edits, &stamp.login, words.sid.as_ref(), true) {
-        Ok(number) => number,
-        Err(fault) => return Err(fault),
-    };
+    let number = chosen(&pending.edits, &stamp.login, words.sid.as_ref(), true)?;
     let edit = pending.edits.at(number - 1);
-    let base = match base_of(alloc, header, number, edit) {
-        Ok(base) => base,
-        Err(fault) => return Err(fault),
-    };
-    match check_releases(header, edit) {
-        Ok(()) => Ok(Chosen { number, base }),
-        Err(fault) => Err(fault),
-    }
+    let base = base_of(alloc, header, number, edit)?;
+    check_releases(header, edit)?;
+    Ok(Chosen { number, base })
 }
 
 /// The entry that is asked for, as `chosen_entry` finds it, and the orders of the script, in this order.
@@ -159,12 +151,7 @@ pub fn read_asked(
     ensures checks { RefusesWithin delta_checks result }
     ensures broke { result ≢ Err faults.DiskFault }
 {
-    let chosen = match chosen_entry(alloc, words, stamp, pending) {
-        Ok(chosen) => chosen,
-        Err(fault) => return Err(fault),
-    };
-    match orders_of(alloc, script) {
-        Ok(script) => Ok(Asked { chosen, script }),
-        Err(fault) => Err(fault),
-    }
+    let chosen = chosen_entry(alloc, words, stamp, pending)?;
+    let script = orders_of(alloc, script)?;
+    Ok(Asked { chosen, script })
 }

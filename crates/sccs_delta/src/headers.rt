@@ -9,7 +9,7 @@ ghost use Rattle.sccs_sid.specs.Moment.{IsMoment};
 ghost use Rattle.sccs_sid.specs.Sid.{IsSid};
 ghost use Rattle.sccs_sid.specs.declared.refusals.StepFault.TheVariants as faults;
 ghost use Rattle.sccs_steps.specs.Actions.{RefusesWithin};
-ghost use Rattle.sccs_delta.specs.DeltaStep.{delta_checks, delta_of, header_with, nulls_of};
+ghost use Rattle.sccs_delta.specs.DeltaStep.{delta_checks, entry_delta, header_with, nulls_of};
 
 use crate::skipping::{Sids, skipped};
 use sccs_base::{Bytes, Line, ListOf, Memory, Text};
@@ -89,7 +89,7 @@ fn new_delta(
 ) -> Result<NewDelta, Memory>
     requires moment { IsMoment stamp.now.moment }
     requires edit { IsEdit edit.now }
-    ensures value { IfOk result (λ d. d ≡ delta_of words.now stamp.now edit.now include exclude counts) }
+    ensures value { IfOk result (λ d. d ≡ entry_delta words.now stamp.now edit.now include exclude counts) }
     ensures spelled { IfOk result HasSpellings }
 {
     let mrs = mr_lines(alloc, words.mrs.items())?;
@@ -148,7 +148,7 @@ pub fn header_of(
     requires moment { IsMoment stamp.now.moment }
     requires sids { AllByRecursion IsSid nulls.now }
     requires edit { IsEdit edit.now }
-    ensures value { IfOk result (λ h. h ≡ header_with header on (map (null_delta stamp.now) nulls.now) (delta_of words.now stamp.now edit.now include exclude counts)) }
+    ensures value { IfOk result (λ h. h ≡ header_with header on (map (null_delta stamp.now) nulls.now) (entry_delta words.now stamp.now edit.now include exclude counts)) }
     ensures spelled { IfOk result IsSpelled }
 {
     let delta = new_delta(alloc, words, stamp, edit, include, exclude, counts)?;

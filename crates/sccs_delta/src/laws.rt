@@ -28,7 +28,7 @@ ghost use Rattle.sccs_records.specs.declared.new_deltas.NewDelta.{NewDelta};
 ghost use Rattle.sccs_script.specs.Checks.{ranged};
 ghost use Rattle.sccs_steps.specs.StepEffects.{StepEffect};
 ghost use Rattle.sccs_words.specs.declared.commands.DeltaWords.{DeltaWords};
-ghost use Rattle.sccs_delta.specs.DeltaStep.{base_of, delta_of, delta_outcome};
+ghost use Rattle.sccs_delta.specs.DeltaStep.{entry_base, entry_delta, delta_outcome};
 ghost use Rattle.sccs_delta.specs.declared.entries.Base.{Base};
 ghost use Rattle.sccs_copies.specs.Examining.{result_of};
 ghost use Rattle.sccs_delta.specs.NewVersions.{MakesVersions};
@@ -62,12 +62,12 @@ pub fn versions_through_deltas()
 /// sccsfile(4), "Flags", n.
 pub fn null_deltas_fit()
     ensures rules { (header : Header) (edits : List Edit) (place number : ℕ) (edit : Edit) (base : Base) (words : DeltaWords) (stamp : Stamp) (counts : Counts)
-        → IsHeader header → Agrees header.records edits → slice_get edits place ≡ Some edit → base_of header.records number edit ≡ Ok base
+        → IsHeader header → Agrees header.records edits → slice_get edits place ≡ Some edit → entry_base header.records number edit ≡ Ok base
         → newest header.records + length (skipped_by header edits edit) < 65535
-        → IsHeader (with_nulls header base.got (null_deltas stamp (skipped_by header edits edit)) (delta_of words stamp edit base.include base.exclude counts)) }
+        → IsHeader (with_nulls header base.got (null_deltas stamp (skipped_by header edits edit)) (entry_delta words stamp edit base.include base.exclude counts)) }
     ensures spelled { (header : Header) (edits : List Edit) (edit : Edit) (base : Base) (words : DeltaWords) (stamp : Stamp) (counts : Counts)
         → IsSpelled header → IsEdit edit → IsMoment stamp.moment → IsLogin stamp.login → AreLines words.mrs → AreLines words.comment
-        → IsSpelled (with_nulls header base.got (null_deltas stamp (skipped_by header edits edit)) (delta_of words stamp edit base.include base.exclude counts)) }
+        → IsSpelled (with_nulls header base.got (null_deltas stamp (skipped_by header edits edit)) (entry_delta words stamp edit base.include base.exclude counts)) }
 {}
 
 /// The entries that a delta leaves agree with the table that has its null deltas and the delta: no null delta has

@@ -177,10 +177,7 @@ pub fn new_sfile(
     ensures write { result ≢ Err faults.WriteFault }
 {
     let edit = edits.at(chosen.number - 1);
-    let nulls = match nulls_of(alloc, &front.header, edits.items(), edit) {
-        Ok(nulls) => nulls,
-        Err(fault) => return Err(fault),
-    };
+    let nulls = nulls_of(alloc, &front.header, edits.items(), edit)?;
     match sfile_with(
         alloc,
         words,

@@ -14,7 +14,7 @@ ghost use Rattle.sccs_history.specs.declared.headers.Item.{Item};
 ghost use Rattle.sccs_images.specs.Touches.{Leaves, TouchesOnly};
 ghost use Rattle.sccs_body.specs.Reader.{name_read};
 ghost use Rattle.sccs_pending.specs.NewEntries.{PreparesEntries};
-ghost use Rattle.sccs_pending.specs.PFiles.{is_short};
+ghost use Rattle.sccs_pending.specs.PFiles.{ChangesDisk, is_short};
 ghost use Rattle.sccs_pfile.specs.Entries.{IsEdit};
 ghost use Rattle.sccs_pfile.specs.declared.entries.Edit.{Edit};
 ghost use Rattle.sccs_script.specs.Checks.{checked};
@@ -33,7 +33,7 @@ ghost use Rattle.sccs_copies.specs.Copies.{CopyComes};
 ghost use Rattle.sccs_delta.specs.DeltaStep.{base_lines, could_make, delta_checks, delta_outcome, delta_report, nulls_of};
 ghost use Rattle.sccs_pending.specs.Reports.{warning};
 ghost use Rattle.sccs_copies.specs.Examining.{has_keyword};
-ghost use Rattle.sccs_delta.specs.Writing.{ChangesDisk, MakesDelta, WritesDelta, WritesX, script_checked};
+ghost use Rattle.sccs_delta.specs.Writing.{MakesDelta, WritesDelta, WritesX, script_checked};
 
 use crate::entries::{Chosen, read_asked};
 use crate::new_sfiles::{NewSfile, new_sfile};
@@ -159,24 +159,16 @@ fn write_files<D: Disk>(
     ensures checks { RefusesWithin delta_checks result }
     ensures causes { ChangesDisk D.faults disk.old disk.new result }
 {
-    match write_x(alloc, name, file, disk) {
-        Ok(()) => {}
-        Err(fault) => return Err(fault),
-    }
-    let new_g = match remove_g(keep, disk, name) {
-        Ok(new_g) => new_g,
-        Err(fault) => return Err(fault),
-    };
-    match drop_entry(edits, number, name, disk) {
-        Ok(new_p) => Ok(Prepared {
-            new_s: true,
-            new_p,
-            new_g,
-            report: said.report,
-            message: said.message,
-        }),
-        Err(fault) => Err(fault),
-    }
+    write_x(alloc, name, file, disk)?;
+    let new_g = remove_g(keep, disk, name)?;
+    let new_p = drop_entry(edits, number, name, disk)?;
+    Ok(Prepared {
+        new_s: true,
+        new_p,
+        new_g,
+        report: said.report,
+        message: said.message,
+    })
 }
 
 // writes the files of a delta whose checks are made but for its serial
@@ -213,7 +205,7 @@ fn make<D: Disk>(
     ensures causes { ChangesDisk D.faults disk.old disk.new result }
 {
     let (number, edits) = (chosen.number, pending.edits);
-    let file = match new_sfile(
+    let file = new_sfile(
         alloc,
         words,
         stamp,
@@ -223,10 +215,7 @@ fn make<D: Disk>(
         chosen,
         script,
         found.lines,
-    ) {
-        Ok(file) => file,
-        Err(fault) => return Err(fault),
-    };
+    )?;
     let Ok(said) = said_of(alloc, words, name, &file, found.keyword) else {
         return Err(StepFault::Memory);
     };
@@ -265,7 +254,7 @@ fn prepare_script<D: Disk>(
     ensures speaks { CouldPrepare could_make result }
     ensures causes { ChangesDisk D.faults disk.old disk.new result }
 {
-    let found = match fit(
+    let found = fit(
         alloc,
         name,
         &pending.front,
@@ -273,10 +262,7 @@ fn prepare_script<D: Disk>(
         &words.mrs,
         script,
         disk,
-    ) {
-        Ok(found) => found,
-        Err(fault) => return Err(fault),
-    };
+    )?;
     make(
         alloc, words, stamp, name, pending, chosen, script, &found, disk,
     )
@@ -306,18 +292,9 @@ pub fn prepare_delta<D: Disk>(
     ensures speaks { CouldPrepare could_make result }
     ensures causes { ChangesDisk D.faults disk.old disk.new result }
 {
-    match check_sizes(disk, name, script) {
-        Ok(()) => {}
-        Err(fault) => return Err(fault),
-    }
-    let pending = match read_pending(alloc, disk, name) {
-        Ok(pending) => pending,
-        Err(fault) => return Err(fault),
-    };
-    let asked = match read_asked(alloc, words, stamp, &pending, script) {
-        Ok(asked) => asked,
-        Err(fault) => return Err(fault),
-    };
+    check_sizes(disk, name, script)?;
+    let pending = read_pending(alloc, disk, name)?;
+    let asked = read_asked(alloc, words, stamp, &pending, script)?;
     let (chosen, script) = (asked.chosen, asked.script);
     prepare_script(alloc, words, stamp, name, pending, chosen, &script, disk)
 }

@@ -9,7 +9,7 @@ ghost use Rattle.sccs_edits.specs.Plans.{IsInOrder, plan};
 ghost use Rattle.sccs_history.specs.Body.{lines_of};
 ghost use Rattle.sccs_history.specs.Select.{select};
 ghost use Rattle.sccs_history.specs.declared.headers.Item.{Item};
-ghost use Rattle.sccs_pending.specs.PFiles.{Answers, OnlyReads, Passes, is_short};
+ghost use Rattle.sccs_pending.specs.PFiles.{Answers, OnlyReads, PassesCheck, is_short};
 ghost use Rattle.sccs_script.specs.Checks.{checked};
 ghost use Rattle.sccs_script.specs.Commands.{FitsIn, orders_of};
 ghost use Rattle.sccs_sid.specs.declared.refusals.StepFault.TheVariants as faults;
@@ -17,7 +17,7 @@ ghost use Rattle.sccs_steps.specs.Actions.{RefusesWithin};
 ghost use Rattle.sccs_table.specs.ReaderState.{bytes_in};
 ghost use Rattle.sccs_versions.specs.Coming.{IsBody};
 ghost use Rattle.sccs_delta.specs.DeltaStep.{delta_checks, has_text, mrs_checked, or_script_fault};
-ghost use Rattle.sccs_delta.specs.Preparing.{FitsBy, ReadsBase, judged, script_fits, script_refusal};
+ghost use Rattle.sccs_delta.specs.Preparing.{FitsBy, ReadsBase, judged_script, script_fits, script_refusal};
 
 use sccs_base::{FILE_LIMIT, Failed, Memory, Name, Words};
 use sccs_copies::{Found, examine};
@@ -78,18 +78,14 @@ fn is_there<D: Disk>(disk: &mut D, file: &Name) -> Result<bool, Failed>
     ensures later { D.faults disk.old ≤ D.faults disk.new }
     ensures cause { OnErr result (Rose (D.faults disk.old) (D.faults disk.new)) }
 {
-    match disk.size(file) {
-        Ok(Some(_)) => Ok(true),
-        Ok(None) => Ok(false),
-        Err(fault) => Err(fault),
-    }
+    Ok(disk.size(file)?.is_some())
 }
 
 // whether a script fits the base that a reading found, and its result is as it should be
-#[tactic(auto, unfolding(crate::specs::Preparing::judged))]
+#[tactic(auto, unfolding(crate::specs::Preparing::judged_script))]
 fn judge(header: &Header, script: &Script, found: &Found) -> Result<(), StepFault>
     requires { found.now.lines ≤ file_limit }
-    ensures value { Passes (judged header.now.flags script.now found.now) result }
+    ensures value { PassesCheck (judged_script header.now.flags script.now found.now) result }
     ensures fits { OnOk result (checked script.now found.now.lines ≡ Ok tt) }
     ensures checks { RefusesWithin delta_checks result }
     ensures broke { result ≢ Err faults.DiskFault }
@@ -153,7 +149,7 @@ fn has_text(flags: &[Flag], letter: u8) -> bool
 // program or a keyword, in this order. sccsfile(4), "Flags".
 #[tactic(auto, unfolding(crate::specs::DeltaStep::mrs_checked))]
 fn check_mrs(header: &Header, mrs: &Words) -> Result<(), StepFault>
-    ensures value { Passes (mrs_checked header.now.flags mrs.now) result }
+    ensures value { PassesCheck (mrs_checked header.now.flags mrs.now) result }
     ensures checks { RefusesWithin delta_checks result }
     ensures memory { result ≢ Err faults.Memory }
     ensures broke { result ≢ Err faults.DiskFault }
@@ -196,16 +192,8 @@ pub fn fit<D: Disk>(
     ensures checks { RefusesWithin delta_checks result }
     ensures frame { OnlyReads D.told D.faults disk.old disk.new result }
 {
-    let found = match read_base(alloc, name, front, set, script, disk) {
-        Ok(found) => found,
-        Err(fault) => return Err(fault),
-    };
-    match judge(&front.header, script, &found) {
-        Ok(()) => {}
-        Err(fault) => return Err(fault),
-    }
-    match check_mrs(&front.header, mrs) {
-        Ok(()) => Ok(found),
-        Err(fault) => Err(fault),
-    }
+    let found = read_base(alloc, name, front, set, script, disk)?;
+    judge(&front.header, script, &found)?;
+    check_mrs(&front.header, mrs)?;
+    Ok(found)
 }

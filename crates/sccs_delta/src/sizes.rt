@@ -3,7 +3,7 @@ ghost use Rattle.sccs_base.specs.Name.{IsSfile};
 ghost use Rattle.sccs_disk.specs.Files.{View};
 ghost use Rattle.sccs_disk.specs.Told.{seen};
 ghost use Rattle.sccs_files.specs.StepFiles.{look};
-ghost use Rattle.sccs_pending.specs.PFiles.{OnlyReads, Passes};
+ghost use Rattle.sccs_pending.specs.PFiles.{OnlyReads, PassesCheck};
 ghost use Rattle.sccs_sid.specs.declared.refusals.StepFault.TheVariants as faults;
 ghost use Rattle.sccs_steps.specs.Actions.{RefusesWithin};
 ghost use Rattle.sccs_delta.specs.DeltaStep.{delta_checks, sizes_checked};
@@ -15,7 +15,7 @@ use sccs_sid::{Refusal, StepFault};
 
 /// Whether an s-file is there: Missing comes exactly where it isn't.
 pub fn check_there<D: Disk>(disk: &mut D, name: &Name) -> Result<(), StepFault>
-    ensures told { IfSome (seen (D.told disk.old)) (λ (v : View). Passes (s_is_there (v name.now)) result) }
+    ensures told { IfSome (seen (D.told disk.old)) (λ (v : View). PassesCheck (s_is_there (v name.now)) result) }
     ensures checks { RefusesWithin delta_checks result }
     ensures frame { OnlyReads D.told D.faults disk.old disk.new result }
 {
@@ -28,7 +28,7 @@ pub fn check_there<D: Disk>(disk: &mut D, name: &Name) -> Result<(), StepFault>
 
 // whether a file isn't longer than it may be
 fn check_short<D: Disk>(disk: &mut D, file: &Name) -> Result<(), StepFault>
-    ensures told { IfSome (seen (D.told disk.old)) (λ (v : View). Passes (is_short_enough (v file.now)) result) }
+    ensures told { IfSome (seen (D.told disk.old)) (λ (v : View). PassesCheck (is_short_enough (v file.now)) result) }
     ensures checks { RefusesWithin delta_checks result }
     ensures frame { OnlyReads D.told D.faults disk.old disk.new result }
 {
@@ -47,7 +47,7 @@ fn check_short<D: Disk>(disk: &mut D, file: &Name) -> Result<(), StepFault>
 
 // whether a script isn't longer than a file may be
 fn check_script(script: &[u8]) -> Result<(), StepFault>
-    ensures told { Passes (script_is_short script.now) result }
+    ensures told { PassesCheck (script_is_short script.now) result }
     ensures checks { RefusesWithin delta_checks result }
     ensures broke { result ≢ Err faults.DiskFault }
     ensures read { result ≢ Err faults.ReadFault }
@@ -63,25 +63,13 @@ fn check_script(script: &[u8]) -> Result<(), StepFault>
 /// Whether the s-file is there, and it, the p-file, the g-file and the script aren't longer than files may be.
 pub fn check_sizes<D: Disk>(disk: &mut D, name: &Name, script: &[u8]) -> Result<(), StepFault>
     requires sfile { IsSfile name.now }
-    ensures told { IfSome (seen (D.told disk.old)) (λ (v : View). Passes (sizes_checked script.now (look v name.now)) result) }
+    ensures told { IfSome (seen (D.told disk.old)) (λ (v : View). PassesCheck (sizes_checked script.now (look v name.now)) result) }
     ensures checks { RefusesWithin delta_checks result }
     ensures frame { OnlyReads D.told D.faults disk.old disk.new result }
 {
-    match check_there(disk, name) {
-        Ok(()) => {}
-        Err(fault) => return Err(fault),
-    }
-    match check_script(script) {
-        Ok(()) => {}
-        Err(fault) => return Err(fault),
-    }
-    match check_short(disk, name) {
-        Ok(()) => {}
-        Err(fault) => return Err(fault),
-    }
-    match check_short(disk, &name.sibling(b'p')) {
-        Ok(()) => {}
-        Err(fault) => return Err(fault),
-    }
+    check_there(disk, name)?;
+    check_script(script)?;
+    check_short(disk, name)?;
+    check_short(disk, &name.sibling(b'p'))?;
     check_short(disk, &name.module())
 }

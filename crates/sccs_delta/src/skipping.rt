@@ -3,7 +3,7 @@ ghost use Rattle.std.specs.List.{list_any};
 ghost use Rattle.sccs_flags.specs.FlagValues.{has_flag};
 ghost use Rattle.sccs_history.specs.FlagText.{flag_n};
 ghost use Rattle.sccs_history.specs.Numbers.{front_if};
-ghost use Rattle.sccs_delta.specs.DeltaStep.{first_of, is_on_trunk, is_used, skipped, unused_from};
+ghost use Rattle.sccs_delta.specs.DeltaStep.{first_in_release, is_on_trunk, is_used, skipped, unused_from};
 
 use sccs_base::{ListOf, Memory};
 use sccs_flags::has_flag;
@@ -16,7 +16,7 @@ pub type Sids = ListOf<Sid>;
 
 // the first delta of a release of the trunk
 fn first_of(release: u16) -> Sid
-    ensures { result ≡ first_of release }
+    ensures { result ≡ first_in_release release }
 {
     Sid {
         release,
@@ -61,7 +61,7 @@ fn push_unused(
     reserved: &[Sid],
     release: u16,
 ) -> Result<(), Memory>
-    ensures { OnOk result (sids.new ≡ sids.old ++ front_if (not (is_used records.now reserved.now release)) (first_of release) []) }
+    ensures { OnOk result (sids.new ≡ sids.old ++ front_if (not (is_used records.now reserved.now release)) (first_in_release release) []) }
 {
     if is_used(records, reserved, release) {
         return Ok(());

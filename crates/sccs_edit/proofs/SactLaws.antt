@@ -23,7 +23,7 @@ use Rattle.sccs_transactions.specs.declared.prepared.Prepared.{Prepared}
 use Rattle.sccs_steps.proofs.ReadingSteps.{Explains, ends_silent, same_cleared}
 use Rattle.sccs_pending.specs.PFiles.{Answers, entries_of}
 use Rattle.sccs_edit.specs.Checks.{step_is}
-use Rattle.sccs_edit.specs.SactStep.{ShowsEdits, could_show, found_edits, none_text, sact_action, sact_checks, sact_step, shows}
+use Rattle.sccs_edit.specs.SactStep.{ShowsEdits, could_show, found_edits, none_text, sact_action, sact_checks, sact_step, shows_entries}
 
 -- ---- the s-file is there, or it isn't
 
@@ -57,10 +57,10 @@ edits_found o o2 n size r same is answers = by o is (subst (λ (x : Option View)
 -- ---- how its call ends
 
 refused_step : (heading : Bool) (n : List ℕ) (f : Files) (refusal : Refusal) → found_edits f ≡ Err refusal → sact_step heading n f ≡ Err refusal
-refused_step heading n f refusal is = step_is heading n f ∙ ap (λ (r : Result (List Edit) Refusal). r >>= λ edits. Ok (shows heading n edits)) is
+refused_step heading n f refusal is = step_is heading n f ∙ ap (λ (r : Result (List Edit) Refusal). r >>= λ edits. Ok (shows_entries heading n edits)) is
 
-made_step : (heading : Bool) (n : List ℕ) (f : Files) (edits : List Edit) → found_edits f ≡ Ok edits → sact_step heading n f ≡ Ok (shows heading n edits)
-made_step heading n f edits is = step_is heading n f ∙ ap (λ (r : Result (List Edit) Refusal). r >>= λ edits. Ok (shows heading n edits)) is
+made_step : (heading : Bool) (n : List ℕ) (f : Files) (edits : List Edit) → found_edits f ≡ Ok edits → sact_step heading n f ≡ Ok (shows_entries heading n edits)
+made_step heading n f edits is = step_is heading n f ∙ ap (λ (r : Result (List Edit) Refusal). r >>= λ edits. Ok (shows_entries heading n edits)) is
 
 why : (heading : Bool) (n : List ℕ) (f : Files) (fault : StepFault) → Answers {A = List Edit} (found_edits f) (Err fault) → Explains (sact_step heading n f) fault
 why heading n f (Refused refusal) answers = refused_step heading n f refusal answers
@@ -77,10 +77,10 @@ unread_steps heading n fault a b left out err same answers = by (seen a) (ap see
     by None is answers = tt
     by (Some v) is answers = λ i heard. ends_silent v (seen b) n (sact_step heading n (look v n)) fault out err is (why heading n (look v n) fault answers)
 
-shown_ends : (heading : Bool) (n : List ℕ) (edits : List Edit) (r : Result (Unit {0}) StepFault) (v : View) (o2 : Option View) (out out2 err err2 : Option (List ℕ)) → o2 ≡ Some v → ShowsEdits r (shows heading n edits) out out2 err err2
-    → Meets (λ (done : Unit {0}). 0) r n (Ok (shows heading n edits)) (world (Some v) out err) (world o2 out2 err2)
+shown_ends : (heading : Bool) (n : List ℕ) (edits : List Edit) (r : Result (Unit {0}) StepFault) (v : View) (o2 : Option View) (out out2 err err2 : Option (List ℕ)) → o2 ≡ Some v → ShowsEdits r (shows_entries heading n edits) out out2 err err2
+    → Meets (λ (done : Unit {0}). 0) r n (Ok (shows_entries heading n edits)) (world (Some v) out err) (world o2 out2 err2)
 shown_ends heading n edits (Ok done) v o2 out out2 err err2 same gives = (
-  shows heading n edits,
+  shows_entries heading n edits,
   refl,
   refl,
   record {
@@ -91,7 +91,7 @@ shown_ends heading n edits (Ok done) v o2 out out2 err err2 same gives = (
   },
 )
 shown_ends heading n edits (Err WriteFault) v o2 out out2 err err2 same gives = inr (
-  shows heading n edits,
+  shows_entries heading n edits,
   refl,
   record {
     status = refl;
@@ -102,13 +102,13 @@ shown_ends heading n edits (Err WriteFault) v o2 out out2 err err2 same gives = 
   },
 )
 shown_ends heading n edits (Err Memory) v o2 out out2 err err2 same gives =
-    subst (λ (e : Option (List ℕ)). Meets (λ (done : Unit {0}). 0) (Err Memory) n (Ok (shows heading n edits)) (world (Some v) out err) (world o2 out2 e)) (sym gives.1)
-    (subst (λ (x : Option (List ℕ)). Meets (λ (done : Unit {0}). 0) (Err Memory) n (Ok (shows heading n edits)) (world (Some v) out err) (world o2 x err)) (sym gives.0) (ends_silent v o2 n (Ok (shows heading n edits)) Memory out err same tt))
+    subst (λ (e : Option (List ℕ)). Meets (λ (done : Unit {0}). 0) (Err Memory) n (Ok (shows_entries heading n edits)) (world (Some v) out err) (world o2 out2 e)) (sym gives.1)
+    (subst (λ (x : Option (List ℕ)). Meets (λ (done : Unit {0}). 0) (Err Memory) n (Ok (shows_entries heading n edits)) (world (Some v) out err) (world o2 x err)) (sym gives.0) (ends_silent v o2 n (Ok (shows_entries heading n edits)) Memory out err same tt))
 shown_ends heading n edits (Err DiskFault) v o2 out out2 err err2 same gives = absurd gives
 shown_ends heading n edits (Err ReadFault) v o2 out out2 err err2 same gives = absurd gives
 shown_ends heading n edits (Err (Refused refusal)) v o2 out out2 err err2 same gives = absurd gives
 
-pub shown_steps : (heading : Bool) (n : List ℕ) (edits : List Edit) (r : Result (Unit {0}) StepFault) (a b : Told) (left out out2 err err2 : Option (List ℕ)) → b ≡ a → IfSome (seen a) (λ (v : View). Answers (found_edits (look v n)) (Ok edits)) → ShowsEdits r (shows heading n edits) out out2 err err2
+pub shown_steps : (heading : Bool) (n : List ℕ) (edits : List Edit) (r : Result (Unit {0}) StepFault) (a b : Told) (left out out2 err err2 : Option (List ℕ)) → b ≡ a → IfSome (seen a) (λ (v : View). Answers (found_edits (look v n)) (Ok edits)) → ShowsEdits r (shows_entries heading n edits) out out2 err err2
     → Stepped (sact_action heading) r n left (scene a out err) (scene b out2 err2)
 shown_steps heading n edits r a b left out out2 err err2 same answers gives = by (seen a) (ap seen same) answers
   where
@@ -120,20 +120,20 @@ shown_steps heading n edits r a b left out out2 err err2 same answers gives = by
 
 pub unread_speaks : (fault : StepFault) (n : List ℕ) (err : Option (List ℕ)) → RefusesWithin {X = Unit {0}} sact_checks (Err fault) → SpeaksBy could_show (Err fault) n err err
 unread_speaks (Refused refusal) n err within = (Err refusal, within refusal refl, (refl, refl))
-unread_speaks Memory n err within = (Ok (shows false [] []), refl, some_none err _)
-unread_speaks ReadFault n err within = (Ok (shows false [] []), refl, some_none err _)
-unread_speaks WriteFault n err within = (Ok (shows false [] []), refl, some_none err _)
-unread_speaks DiskFault n err within = (Ok (shows false [] []), refl, some_none err _)
+unread_speaks Memory n err within = (Ok (shows_entries false [] []), refl, some_none err _)
+unread_speaks ReadFault n err within = (Ok (shows_entries false [] []), refl, some_none err _)
+unread_speaks WriteFault n err within = (Ok (shows_entries false [] []), refl, some_none err _)
+unread_speaks DiskFault n err within = (Ok (shows_entries false [] []), refl, some_none err _)
 
-could_so : (heading : Bool) (n : List ℕ) (edits : List Edit) → could_show (Ok (shows heading n edits)) ≡ true
+could_so : (heading : Bool) (n : List ℕ) (edits : List Edit) → could_show (Ok (shows_entries heading n edits)) ≡ true
 could_so heading n [] = refl
 could_so heading n (e ∷ edits) = refl
 
-pub shown_speaks : (heading : Bool) (n : List ℕ) (edits : List Edit) (r : Result (Unit {0}) StepFault) (out out2 err err2 : Option (List ℕ)) → ShowsEdits r (shows heading n edits) out out2 err err2 → SpeaksBy could_show r n err err2
-shown_speaks heading n edits (Ok done) out out2 err err2 gives = (Ok (shows heading n edits), could_so heading n edits, (shows heading n edits, refl, refl, gives.1))
-shown_speaks heading n edits (Err WriteFault) out out2 err err2 gives = (Ok (shows heading n edits), could_so heading n edits, gives.1)
+pub shown_speaks : (heading : Bool) (n : List ℕ) (edits : List Edit) (r : Result (Unit {0}) StepFault) (out out2 err err2 : Option (List ℕ)) → ShowsEdits r (shows_entries heading n edits) out out2 err err2 → SpeaksBy could_show r n err err2
+shown_speaks heading n edits (Ok done) out out2 err err2 gives = (Ok (shows_entries heading n edits), could_so heading n edits, (shows_entries heading n edits, refl, refl, gives.1))
+shown_speaks heading n edits (Err WriteFault) out out2 err err2 gives = (Ok (shows_entries heading n edits), could_so heading n edits, gives.1)
 shown_speaks heading n edits (Err Memory) out out2 err err2 gives =
-    (Ok (shows heading n edits), could_so heading n edits, subst (λ (x : Option (List ℕ)). GivesSome err x (none_text n edits)) (sym gives.1) (some_none err (none_text n edits)))
+    (Ok (shows_entries heading n edits), could_so heading n edits, subst (λ (x : Option (List ℕ)). GivesSome err x (none_text n edits)) (sym gives.1) (some_none err (none_text n edits)))
 shown_speaks heading n edits (Err DiskFault) out out2 err err2 gives = absurd gives
 shown_speaks heading n edits (Err ReadFault) out out2 err err2 gives = absurd gives
 shown_speaks heading n edits (Err (Refused refusal)) out out2 err err2 gives = absurd gives

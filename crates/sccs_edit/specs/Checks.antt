@@ -9,14 +9,14 @@ use Rattle.sccs_pfile.specs.declared.entries.Edit.{Edit}
 use Rattle.sccs_steps.specs.StepEffects.{StepEffect}
 use Rattle.sccs_steps.specs.Actions.{KeepsFiles}
 use Rattle.sccs_words.specs.declared.commands.UngetWords.{UngetWords}
-use Rattle.sccs_edit.specs.SactStep.{found_edits, sact_action, sact_step, shows}
+use Rattle.sccs_edit.specs.SactStep.{found_edits, sact_action, sact_step, shows_entries}
 use Rattle.sccs_edit.specs.UngetStep.{unget_change}
 
-kept_by : (heading : Bool) (n : List ℕ) (r : Result (List Edit) Refusal) (d : StepEffect) → (r >>= λ edits. Ok (shows heading n edits)) ≡ Ok d → d.new ≡ None
-kept_by heading n (Ok edits) d is = ap (λ (e : StepEffect). e.new) (let same : shows heading n edits ≡ d = cc in sym same)
+kept_by : (heading : Bool) (n : List ℕ) (r : Result (List Edit) Refusal) (d : StepEffect) → (r >>= λ edits. Ok (shows_entries heading n edits)) ≡ Ok d → d.new ≡ None
+kept_by heading n (Ok edits) d is = ap (λ (e : StepEffect). e.new) (let same : shows_entries heading n edits ≡ d = cc in sym same)
 kept_by heading n (Err refusal) d is = absurd cc
 
-pub step_is : (heading : Bool) (n : List ℕ) (f : Files) → sact_step heading n f ≡ (found_edits f >>= λ edits. Ok (shows heading n edits))
+pub step_is : (heading : Bool) (n : List ℕ) (f : Files) → sact_step heading n f ≡ (found_edits f >>= λ edits. Ok (shows_entries heading n edits))
 unfolding sact_step
 step_is heading n f = refl
 

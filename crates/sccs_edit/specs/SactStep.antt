@@ -42,8 +42,8 @@ none_text n [] = none_outstanding ++ ended n
 none_text n (e ∷ edits) = []
 
 -- the entries are printed, and no file changes
-abbrev pub shows : Bool → List ℕ → List Edit → StepEffect
-shows heading n edits = record { new = None; text = []; out = heading_text heading n ++ edit_lines edits; err = none_text n edits; status = 0 }
+abbrev pub shows_entries : Bool → List ℕ → List Edit → StepEffect
+shows_entries heading n edits = record { new = None; text = []; out = heading_text heading n ++ edit_lines edits; err = none_text n edits; status = 0 }
 
 -- the entries of a name whose s-file is there
 unfoldable pub found_edits : Files → Result (List Edit) Refusal
@@ -55,7 +55,7 @@ found_edits f = do
 unfoldable pub sact_step : Bool → List ℕ → Files → Outcome
 sact_step heading n f = do
   edits ← found_edits f
-  Ok (shows heading n edits)
+  Ok (shows_entries heading n edits)
 
 -- over any disk: what is said on err is nothing, or that no deltas are outstanding
 abbrev pub could_show : Outcome → Bool

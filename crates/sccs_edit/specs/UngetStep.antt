@@ -28,8 +28,8 @@ abbrev pub unget_report : UngetWords → Bool → List ℕ → List Edit → ℕ
 unget_report words heading n edits number = if words.silent then [] else heading_text heading n ++ ended (made_text edits number)
 
 -- the number of the entry that the login means: the one that is to make the SID, where one is given
-abbrev pub meant : UngetWords → Stamp → List Edit → Result ℕ Refusal
-meant words stamp edits = or_no_edit (choice (fits stamp.login words.sid false) edits)
+abbrev pub login_entry : UngetWords → Stamp → List Edit → Result ℕ Refusal
+login_entry words stamp edits = or_no_edit (choice (fits stamp.login words.sid false) edits)
 
 -- the p-file without the entry of a number
 abbrev pub without_entry : UngetWords → Bool → List ℕ → List Edit → ℕ → Decided
@@ -38,7 +38,7 @@ without_entry words heading n edits number = record { edits = remove edits (numb
 -- the entry leaves the p-file, and the g-file is removed unless it is kept
 unfoldable pub unget_decides : UngetWords → Stamp → Bool → List ℕ → Found → Result Decided Refusal
 unget_decides words stamp heading n found = do
-  number ← meant words stamp found.edits
+  number ← login_entry words stamp found.edits
   Ok (without_entry words heading n found.edits number)
 
 abbrev pub unget_change : UngetWords → Stamp → Bool → Changing

@@ -8,7 +8,7 @@ ghost use Rattle.sccs_steps.specs.Actions.{RefusesWithin};
 ghost use Rattle.sccs_steps.specs.Causes.{StepCauses, counts};
 ghost use Rattle.sccs_pending.specs.PFiles.{Answers, OnlyReads};
 ghost use Rattle.sccs_edit.specs.Checks.{sact_keeps};
-ghost use Rattle.sccs_edit.specs.SactStep.{ShowsEdits, found_edits, sact_action, sact_checks, shows};
+ghost use Rattle.sccs_edit.specs.SactStep.{ShowsEdits, found_edits, sact_action, sact_checks, shows_entries};
 
 use crate::sact_reports::{message_of, report_of};
 use sccs_base::{Name, Sink, Source};
@@ -54,7 +54,7 @@ fn show<O: Sink, E: Sink>(
     err: &mut E,
 ) -> Result<(), StepFault>
     requires { All IsEdit edits.now }
-    ensures shows { ShowsEdits result (shows heading name.now edits.now) (O.given out.old) (O.given out.new) (E.given err.old) (E.given err.new) }
+    ensures shows { ShowsEdits result (shows_entries heading name.now edits.now) (O.given out.old) (O.given out.new) (E.given err.old) (E.given err.new) }
     ensures causes { (input disk : ℕ) → StepCauses result
         (counts input (O.faults out.old) (E.faults err.old) disk) (counts input (O.faults out.new) (E.faults err.new) disk) }
 {
@@ -88,10 +88,8 @@ impl Utility for Sact {
         err: &mut E,
         disk: &mut D,
     ) -> Result<(), StepFault> {
-        match find_edits(alloc, disk, name) {
-            Ok(edits) => show(alloc, self.heading, name, &edits, out, err),
-            Err(fault) => Err(fault),
-        }
+        let edits = find_edits(alloc, disk, name)?;
+        show(alloc, self.heading, name, &edits, out, err)
     }
 
     fn name(&self, operand: &[u8]) -> Option<Name> {

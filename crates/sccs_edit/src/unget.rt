@@ -1,10 +1,8 @@
-ghost use Rattle.std.specs.Prelude.{◌≡◌, ◌<◌, ◌≤◌, ◌≢◌, All, Err, IfOk, length};
+ghost use Rattle.std.specs.Prelude.{◌≡◌, ◌<◌, ◌≤◌, All, Err, IfOk, length};
 ghost use Rattle.sccs_base.specs.Name.{IsSfile, q_file};
-ghost use Rattle.sccs_base.specs.Stream.{Rose};
 ghost use Rattle.sccs_disk.specs.Calls.{IsThere};
 ghost use Rattle.sccs_disk.specs.Told.{seen};
 ghost use Rattle.sccs_pfile.specs.Entries.{IsEdit};
-ghost use Rattle.sccs_sid.specs.declared.refusals.StepFault.TheVariants as fault;
 ghost use Rattle.sccs_steps.specs.Actions.{RefusesWithin};
 ghost use Rattle.std.specs.Str.{bytes_eq};
 ghost use Rattle.sccs_images.specs.Touches.{TouchesOnly};
@@ -12,6 +10,7 @@ ghost use Rattle.sccs_transactions.specs.Stops.{IsFirmPrepared};
 ghost use Rattle.sccs_edit.specs.Checks.{unget_locked};
 ghost use Rattle.sccs_edit.specs.UngetStep.{unget_change, unget_checks, unget_report, without_entry};
 ghost use Rattle.sccs_pending.specs.NewEntries.{PreparesDecided};
+ghost use Rattle.sccs_pending.specs.PFiles.{ChangesDisk};
 
 use sccs_base::{Bytes, Memory, Name, Sink, Source};
 use sccs_disk::{Disk, DiskRefusal};
@@ -73,18 +72,12 @@ fn drop_entry<D: Disk>(
     ensures touches { TouchesOnly (bytes_eq (q_file name.now)) (D.told disk.old) (D.told disk.new) }
     ensures firm { IfOk result (λ p. IsFirmPrepared name.now p (D.told disk.old) (D.told disk.new)) }
     ensures checks { RefusesWithin unget_checks result }
-    ensures later { D.faults disk.old ≤ D.faults disk.new }
-    ensures cause { result ≡ Err fault.DiskFault → Rose (D.faults disk.old) (D.faults disk.new) }
-    ensures read { result ≢ Err fault.ReadFault }
-    ensures write { result ≢ Err fault.WriteFault }
+    ensures causes { ChangesDisk D.faults disk.old disk.new result }
 {
     let Ok(report) = report_of(alloc, unget, name, &edits, number) else {
         return Err(StepFault::Memory);
     };
-    let new_g = match remove_g(unget.words.keep, disk, name) {
-        Ok(new_g) => new_g,
-        Err(fault) => return Err(fault),
-    };
+    let new_g = remove_g(unget.words.keep, disk, name)?;
     let mut edits = edits;
     release(&mut edits, number);
     match prepare_entries(&edits, disk, name) {
@@ -117,18 +110,13 @@ impl Change for Unget<'_> {
         _out: &mut O,
         disk: &mut D,
     ) -> Result<Prepared, StepFault> {
-        let found = match read_pending(alloc, disk, name) {
-            Ok(found) => found,
-            Err(fault) => return Err(fault),
-        };
-        match chosen(
+        let found = read_pending(alloc, disk, name)?;
+        let number = chosen(
             &found.edits,
             &self.stamp.login,
             self.words.sid.as_ref(),
             false,
-        ) {
-            Ok(number) => drop_entry(alloc, self, name, found.edits, number, disk),
-            Err(fault) => Err(fault),
-        }
+        )?;
+        drop_entry(alloc, self, name, found.edits, number, disk)
     }
 }

@@ -31,7 +31,7 @@ use Rattle.sccs_history.specs.declared.headers.Header.{Header}
 use Rattle.sccs_pfile.specs.declared.entries.Edit.{Edit}
 use Rattle.sccs_words.specs.declared.commands.GetWords.{GetWords}
 use Rattle.sccs_pending.specs.PFiles.{Answers}
-use Rattle.sccs_get.specs.NewEntry.{free_sid, is_got, new_edit, new_entry, release_asked, released, reserved, single, singles}
+use Rattle.sccs_get.specs.NewEntry.{free_sid, is_got, new_edit, new_entry, release_asked, edit_releases, reserved, single_ranges, singles}
 use Rattle.sccs_get.specs.AskedVersion.{asked, spec_asked}
 use Rattle.sccs_get.specs.declared.targets.Asked.{Asked}
 use Rattle.sccs_get.proofs.EntrySids.{made_sid, sid_there}
@@ -89,7 +89,7 @@ made_as header sids sids2 target spec spec2 branch o first second is =
 -- where a SID is free, it is that which is to be made
 free_is : (header : Header) (edits : List Edit) (way : Bool) (got : Sid) (made : Option Sid) (sid : Sid) → free_sid header edits way got made ≡ Ok sid → made ≡ Some sid
 unfolding free_sid
-free_is header edits way got made sid is = by (released header got made) (has_flag header.flags flag_j || not (is_got edits got)) (not way) made is
+free_is header edits way got made sid is = by (edit_releases header got made) (has_flag header.flags flag_j || not (is_got edits got)) (not way) made is
   where
     by : (r : Result Bool Refusal) (b c : Bool) (m : Option Sid) → (r >>= λ free. check b refusals.BeingEdited >>= λ joint. check c refusals.GExists >>= λ place. there m refusals.Full) ≡ Ok sid → m ≡ Some sid
     by (Ok x) true true (Some s) e = let same : s ≡ sid = cc in ap Some same
@@ -133,8 +133,8 @@ single_added records serials list list2 i d sid low is at put =
     put
     ∙ (at_end list (record { first = sid; last = sid })
     ∙ (ap (λ (l : List Range). l ++ record { first = sid; last = sid } ∷ []) is
-    ∙ (ap (λ (o : Option Sid). singles records (take i serials) ++ single o) (sym at)
-    ∙ sym (ap (λ k. singles records (take k serials)) (add-one i) ∙ (ap (singles records) (take-suc serials i d low) ∙ (flat_map-append (λ n. single (sid_at records n)) (take i serials) (get_or serials i d ∷ []) ∙ ap (λ (l : List Range). singles records (take i serials) ++ l) (append-nil (single (sid_at records (get_or serials i d))))))))))
+    ∙ (ap (λ (o : Option Sid). singles records (take i serials) ++ single_ranges o) (sym at)
+    ∙ sym (ap (λ k. singles records (take k serials)) (add-one i) ∙ (ap (singles records) (take-suc serials i d low) ∙ (flat_map-append (λ n. single_ranges (sid_at records n)) (take i serials) (get_or serials i d ∷ []) ∙ ap (λ (l : List Range). singles records (take i serials) ++ l) (append-nil (single_ranges (sid_at records (get_or serials i d))))))))))
   where
     at_end : {X : Type 0} (xs : List X) (x : X) → insert xs (length xs) x ≡ xs ++ x ∷ []
     at_end [] x = refl

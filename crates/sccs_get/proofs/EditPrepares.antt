@@ -29,9 +29,9 @@ use Rattle.sccs_transactions.specs.Changes.{CouldPrepare, IsUnmade, Prepares, Pr
 use Rattle.sccs_transactions.specs.declared.prepared.Prepared.{Prepared}
 use Rattle.sccs_words.specs.declared.commands.GetWords.{GetWords}
 use Rattle.sccs_get.specs.EditGiving.{AnswersReserved}
-use Rattle.sccs_get.specs.EditStep.{Reserved as IsReserved, could_edit, edit_change, edit_outcome, edited, reserved_of}
+use Rattle.sccs_get.specs.EditStep.{Reserved as IsReserved, could_edit, edit_change, edit_outcome, edit_effect, reserved_of}
 use Rattle.sccs_get.specs.NewEntry.{edit_checks}
-use Rattle.sccs_get.specs.VersionStep.{lines_in, says_well}
+use Rattle.sccs_get.specs.VersionStep.{lines_got, says_well}
 use Rattle.sccs_get.specs.declared.edits.Reserved.{Reserved}
 use Rattle.sccs_get.proofs.ReadyLaws.{body_there}
 use Rattle.sccs_get.proofs.ReservedLaws.{reserved_from, reserved_is}
@@ -58,7 +58,7 @@ module _ (words : GetWords) (stamp : Stamp) (place : List ℕ) (heading : Bool) 
       ∙ (ap (λ (o : Option Content). reserved_from words stamp place n (v n) (v (p_file n)) o) (put_other v (z_file n) (drop 2 n) None (from_g 122 n sfile)) ∙ sym (reserved_is words stamp place n (look v n)))))
 
   abbrev of_found : View → IsReserved → Outcome
-  of_found v x = Ok (edited words heading n x.parsed.header.records (look (unlocked n v) n) x.edits x.edit x.version (lines_in x.version x.parsed.items))
+  of_found v x = Ok (edit_effect words heading n x.parsed.header.records (look (unlocked n v) n) x.edits x.edit x.version (lines_got x.version x.parsed.items))
 
   outcome_is : (i : List ℕ) (named : List (Option Content)) (v : View) → edit_outcome words stamp place heading n i named (look (unlocked n v) n) ≡ (reserved_of words stamp place n (look (unlocked n v) n) >>= λ x. of_found v x)
   unfolding edit_outcome
@@ -89,7 +89,7 @@ module _ (words : GetWords) (stamp : Stamp) (place : List ℕ) (heading : Bool) 
   -- ---- all is found
 
   abbrev pub as_found : Reserved → View → List Item → Outcome
-  as_found r v items = Ok (edited words heading n r.pending.front.header.records (look (unlocked n v) n) r.pending.edits r.edit r.version (lines_in r.version items))
+  as_found r v items = Ok (edit_effect words heading n r.pending.front.header.records (look (unlocked n v) n) r.pending.edits r.edit r.version (lines_got r.version items))
 
   found_at : (r : Reserved) (result : Result Prepared StepFault) (i : List ℕ) (named : List (Option Content)) (v : View) (b : Option View) (out out2 err : Option (List ℕ)) → IsSfile n → IsPlaced r.pending.front → has r.version.set 0 ≡ false → AnswersReserved words stamp place n (look v n) (Ok r)
       → ((file : List ℕ) (items : List Item) → IsBody (bytes_in (Some v) n) r.pending.front r.version.set file items → Prepares result n (as_found r v items) (world (Some v) out err) (world b out2 err))
@@ -97,7 +97,7 @@ module _ (words : GetWords) (stamp : Stamp) (place : List ℕ) (heading : Bool) 
   found_at r result i named v b out out2 err sfile placed zero answers prepares =
       let body : (file : List ℕ) × IsBody (bytes_in (Some v) n) r.pending.front r.version.set file answers.0.items = body_there words stamp place heading n (bytes_at (v n)) (bytes_in (Some v) n) answers.0 r.pending.front r.version.set placed refl zero answers.2 answers.1 in
       subst (λ (o : Outcome). Prepares result n o (world (Some v) out err) (world b out2 err))
-      (ap (λ (h : Header). Ok (edited words heading n h.records (look (unlocked n v) n) r.pending.edits r.edit r.version (lines_in r.version answers.0.items))) (shown_header (bytes_at (v n)) answers.0 r.pending.front answers.1)
+      (ap (λ (h : Header). Ok (edit_effect words heading n h.records (look (unlocked n v) n) r.pending.edits r.edit r.version (lines_got r.version answers.0.items))) (shown_header (bytes_at (v n)) answers.0 r.pending.front answers.1)
       ∙ sym (outcome_as i named v (Ok (record { parsed = answers.0; edits = r.pending.edits; edit = r.edit; version = r.version })) sfile answers.3)) (prepares body.0 answers.0.items body.1)
 
   pub found_prepares : (r : Reserved) (result : Result Prepared StepFault) (left : Option (List ℕ)) (o a b : Told) (out out2 err : Option (List ℕ)) → IsSfile n → a ≡ o → IsPlaced r.pending.front → has r.version.set 0 ≡ false → IfSome (seen o) (λ (v : View). AnswersReserved words stamp place n (look v n) (Ok r))

@@ -34,10 +34,10 @@ use Rattle.sccs_transactions.specs.Changes.{AreTakenOrGone, IsTakenOrGone, IsUnm
 use Rattle.sccs_transactions.proofs.Taken.{untouched}
 use Rattle.sccs_words.specs.declared.commands.GetWords.{GetWords}
 use Rattle.sccs_get.specs.EditGiving.{new_g}
-use Rattle.sccs_get.specs.EditStep.{edited}
+use Rattle.sccs_get.specs.EditStep.{edit_effect}
 use Rattle.sccs_get.specs.Giving.{GivesVersion, IsLate, with_y}
-use Rattle.sccs_get.specs.Reports.{get_report, get_warning, replaces, said_on_err, said_on_out}
-use Rattle.sccs_get.specs.VersionStep.{stays_writable, text_in, writes_g}
+use Rattle.sccs_get.specs.Reports.{get_report, get_warning, replaces_keywords, said_on_err, said_on_out}
+use Rattle.sccs_get.specs.VersionStep.{stays_writable, given_text, writes_g}
 use Rattle.sccs_get.specs.declared.found.Found.{Found}
 use Rattle.sccs_get.proofs.ReadyLaws.{report_same, warning_same}
 
@@ -114,7 +114,7 @@ module _ (words : GetWords) (stamp : Stamp) (place : List ℕ) (heading : Bool) 
 
   module _ (records : List Record) (f : Files) (edits : List Edit) (edit : Edit) (version : Found) (lines : List HistoryLine) where
     abbrev effect : StepEffect
-    effect = edited words heading n records f edits edit version lines
+    effect = edit_effect words heading n records f edits edit version lines
 
     pub text_ends : (fault : StepFault) (v : View) (o o2 o3 : Option View) (out out2 err : Option (List ℕ)) → o ≡ Some v → Moves (bytes_eq (q_file n)) (λ u. u) o o2 → Moves (bytes_eq (y_file n)) (λ u. u) o2 o3
         → GivesVersion words n records version lines (Err fault) (world o2 out err) (world o3 out2 err) → Prepares (Err fault) n (Ok effect) (world (Some v) out err) (world o3 out2 err)
@@ -126,7 +126,7 @@ module _ (words : GetWords) (stamp : Stamp) (place : List ℕ) (heading : Bool) 
         unmade effect.text v o3 out out2 err (both_moves v o2 o3 (subst (λ (w : Option View). Moves (bytes_eq (q_file n)) (λ u. u) w o2) is q) y) (some_of_whole out out2 effect.text gives.0.out)
 
     abbrev text : List ℕ
-    text = text_in words records version lines
+    text = given_text words records version lines
 
     files_at : (new_p g : NewFile) (v : View) (o2 o3 : Option View) → IsSfile n → f ≡ look (unlocked n v) n → g ≡ new_g words → Moves (bytes_eq (q_file n)) (λ u. u) (Some v) o2 → IfSome o2 (λ (u : View). (old : Option Content) → chosen new_p (u (q_file n)) old ≡ pfile_of (edits ++ edit ∷ []))
         → Becomes (with_y words n text) o2 o3 → IfSome o3 (λ u. effect.new ≡ Some (files_after n (plan false new_p g) u))
@@ -148,7 +148,7 @@ module _ (words : GetWords) (stamp : Stamp) (place : List ℕ) (heading : Bool) 
       y = subst (λ (f : NewFile). IsTakenOrGone f (v (y_file n)) (u (y_file n))) (sym g_is) (y_taken (writes_g words) n (record { bytes = text; writable = stays_writable words }) v x u (q (y_file n) refl) (ap (λ (w : View). w (y_file n)) (unsome u _ given)));
     }
 
-    pub all_prepared : (shown : Shown) (new_p g : NewFile) (report message : List ℕ) (v : View) (o o2 o3 : Option View) (out out2 err : Option (List ℕ)) → IsSfile n → o ≡ Some v → f ≡ look (unlocked n v) n → g ≡ new_g words → is_some version.facts ≡ replaces words
+    pub all_prepared : (shown : Shown) (new_p g : NewFile) (report message : List ℕ) (v : View) (o o2 o3 : Option View) (out out2 err : Option (List ℕ)) → IsSfile n → o ≡ Some v → f ≡ look (unlocked n v) n → g ≡ new_g words → is_some version.facts ≡ replaces_keywords words
         → Moves (bytes_eq (q_file n)) (λ u. u) o o2 → IfSome o2 (λ (u : View). (old : Option Content) → chosen new_p (u (q_file n)) old ≡ pfile_of (edits ++ edit ∷ [])) → IfSome o (λ (u : View). IfSome o2 (λ (x : View). IsTakenOrGone new_p (u (q_file n)) (x (q_file n)))) → Moves (bytes_eq (y_file n)) (λ u. u) o2 o3 → GivesVersion words n records version lines (Ok shown) (world o2 out err) (world o3 out2 err)
         → report ≡ said_on_out words (get_report words heading n version.include version.exclude version.sid (Some edit.made) shown.lines)
         → message ≡ said_on_err words (get_report words heading n version.include version.exclude version.sid (Some edit.made) shown.lines) (get_warning words n shown.keywords)

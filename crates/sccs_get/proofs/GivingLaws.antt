@@ -29,8 +29,8 @@ use Rattle.sccs_store.proofs.Working.{moves_same}
 use Rattle.sccs_transactions.specs.Ends.{Reports}
 use Rattle.sccs_transactions.specs.declared.prepared.Prepared.{Prepared}
 use Rattle.sccs_words.specs.declared.commands.GetWords.{GetWords}
-use Rattle.sccs_get.specs.Giving.{FinishesGet, GivesUpGet, GivesVersion, PlacesG, g_placed, printed, with_y, y_cleared}
-use Rattle.sccs_get.specs.VersionStep.{form_in, stays_writable, text_in, writes_g}
+use Rattle.sccs_get.specs.Giving.{FinishesGet, GivesUpGet, GivesVersion, PlacesG, g_placed, printed_text, with_y, y_cleared}
+use Rattle.sccs_get.specs.VersionStep.{form_got, stays_writable, given_text, writes_g}
 use Rattle.sccs_get.specs.declared.found.Found.{Found}
 
 -- ---- a text
@@ -62,16 +62,16 @@ same_view words n text None o2 none same = same
 same_view words n text (Some v) o2 none same = same ∙ ap (λ (b : Bool). Some (if b then put v (y_file n) (Some (record { bytes = text; writable = stays_writable words })) else v)) (sym none)
 
 -- with -p
-pub print_gives : (words : GetWords) (n : List ℕ) (records : List Record) (found : Found) (form : LineForm) (lines : List HistoryLine) (r : Result Shown StepFault) (o o2 : Option View) (out out2 err : Option (List ℕ)) → words.no_text ≡ false → words.print ≡ true → form ≡ form_in words found → o2 ≡ o
+pub print_gives : (words : GetWords) (n : List ℕ) (records : List Record) (found : Found) (form : LineForm) (lines : List HistoryLine) (r : Result Shown StepFault) (o o2 : Option View) (out out2 err : Option (List ℕ)) → words.no_text ≡ false → words.print ≡ true → form ≡ form_got words found → o2 ≡ o
     → Prints None (version_text form records lines) r out out2 → IfOk r (λ s. s ≡ shown_of form lines) → GivesVersion words n records found lines r (world o out err) (world o2 out2 err)
 print_gives words n records found form lines r o o2 out out2 err text print is same prints shown =
     by r (subst (λ (f : LineForm). Prints None (version_text f records lines) r out out2) is prints) (subst (λ (f : LineForm). IfOk r (λ s. s ≡ shown_of f lines)) is shown)
   where
-    whole : printed words (text_in words records found lines) ≡ version_text (form_in words found) records lines
-    whole = goes_out words.print (text_in words records found lines) print ∙ has_text words.no_text (version_text (form_in words found) records lines) text
+    whole : printed_text words (given_text words records found lines) ≡ version_text (form_got words found) records lines
+    whole = goes_out words.print (given_text words records found lines) print ∙ has_text words.no_text (version_text (form_got words found) records lines) text
 
-    by : (r : Result Shown StepFault) → Prints None (version_text (form_in words found) records lines) r out out2 → IfOk r (λ s. s ≡ shown_of (form_in words found) lines) → GivesVersion words n records found lines r (world o out err) (world o2 out2 err)
-    by (Ok s) prints shown = (record { out = subst (λ t. GivesOk out out2 t) (sym whole) prints; view = same_view words n (text_in words records found lines) o o2 (none_written words.print words.no_text print) same }, λ some. shown)
+    by : (r : Result Shown StepFault) → Prints None (version_text (form_got words found) records lines) r out out2 → IfOk r (λ s. s ≡ shown_of (form_got words found) lines) → GivesVersion words n records found lines r (world o out err) (world o2 out2 err)
+    by (Ok s) prints shown = (record { out = subst (λ t. GivesOk out out2 t) (sym whole) prints; view = same_view words n (given_text words records found lines) o o2 (none_written words.print words.no_text print) same }, λ some. shown)
     by (Err Memory) prints shown = (tt, subst (λ t. GivesSome out out2 t) (sym whole) prints)
     by (Err DiskFault) prints shown = (tt, subst (λ t. GivesSome out out2 t) (sym whole) prints)
     by (Err WriteFault) prints shown = (tt, subst (λ t. GivesSome out out2 t) (sym whole) prints)
@@ -79,24 +79,24 @@ print_gives words n records found form lines r o o2 out out2 err text print is s
     by (Err (Refused refusal)) prints shown = absurd prints
 
 -- into the y-file
-pub y_gives : (words : GetWords) (n : List ℕ) (records : List Record) (found : Found) (form : LineForm) (mode : Mode) (lines : List HistoryLine) (r : Result Shown StepFault) (o o2 : Option View) (out err : Option (List ℕ)) → words.no_text ≡ false → words.print ≡ false → form ≡ form_in words found → may_write mode ≡ stays_writable words
+pub y_gives : (words : GetWords) (n : List ℕ) (records : List Record) (found : Found) (form : LineForm) (mode : Mode) (lines : List HistoryLine) (r : Result Shown StepFault) (o o2 : Option View) (out err : Option (List ℕ)) → words.no_text ≡ false → words.print ≡ false → form ≡ form_got words found → may_write mode ≡ stays_writable words
     → Makes (y_file n) mode (version_text form records lines) form lines o o2 r → GivesVersion words n records found lines r (world o out err) (world o2 out err)
 y_gives words n records found form mode lines r o o2 out err text print is may makes = by r (subst (λ (f : LineForm). Makes (y_file n) mode (version_text f records lines) f lines o o2 r) is makes)
   where
-    nothing : printed words (text_in words records found lines) ≡ []
-    nothing = goes_nowhere words.print (text_in words records found lines) print
+    nothing : printed_text words (given_text words records found lines) ≡ []
+    nothing = goes_nowhere words.print (given_text words records found lines) print
 
-    content_is : (v : View) → put v (y_file n) (Some (finished_text mode (version_text (form_in words found) records lines))) ≡ with_y words n (text_in words records found lines) v
+    content_is : (v : View) → put v (y_file n) (Some (finished_text mode (version_text (form_got words found) records lines))) ≡ with_y words n (given_text words records found lines) v
     content_is v =
-        ap (λ (b : Bool). put v (y_file n) (Some (record { bytes = version_text (form_in words found) records lines; writable = b }))) may
-        ∙ (ap (λ (t : List ℕ). put v (y_file n) (Some (record { bytes = t; writable = stays_writable words }))) (sym (has_text words.no_text (version_text (form_in words found) records lines) text))
-        ∙ ap (λ (b : Bool). if b then put v (y_file n) (Some (record { bytes = text_in words records found lines; writable = stays_writable words })) else v) (sym (some_written words.print words.no_text print text)))
+        ap (λ (b : Bool). put v (y_file n) (Some (record { bytes = version_text (form_got words found) records lines; writable = b }))) may
+        ∙ (ap (λ (t : List ℕ). put v (y_file n) (Some (record { bytes = t; writable = stays_writable words }))) (sym (has_text words.no_text (version_text (form_got words found) records lines) text))
+        ∙ ap (λ (b : Bool). if b then put v (y_file n) (Some (record { bytes = given_text words records found lines; writable = stays_writable words })) else v) (sym (some_written words.print words.no_text print text)))
 
-    becomes : (o o2 : Option View) → Becomes (λ v. put v (y_file n) (Some (finished_text mode (version_text (form_in words found) records lines)))) o o2 → Becomes (with_y words n (text_in words records found lines)) o o2
+    becomes : (o o2 : Option View) → Becomes (λ v. put v (y_file n) (Some (finished_text mode (version_text (form_got words found) records lines)))) o o2 → Becomes (with_y words n (given_text words records found lines)) o o2
     becomes None o2 is = is
     becomes (Some v) o2 is = is ∙ ap (λ (w : View). Some w) (content_is v)
 
-    by : (r : Result Shown StepFault) → Makes (y_file n) mode (version_text (form_in words found) records lines) (form_in words found) lines o o2 r → GivesVersion words n records found lines r (world o out err) (world o2 out err)
+    by : (r : Result Shown StepFault) → Makes (y_file n) mode (version_text (form_got words found) records lines) (form_got words found) lines o o2 r → GivesVersion words n records found lines r (world o out err) (world o2 out err)
     by (Ok s) made = (record { out = subst (λ t. GivesOk out out t) (sym nothing) (gives_none out); view = becomes o o2 made.0 }, λ some. made.1)
     by (Err Memory) made = (tt, some_none out _)
     by (Err DiskFault) made = (tt, some_none out _)

@@ -37,7 +37,7 @@ use Rattle.sccs_words.specs.declared.commands.GetWords.{GetWords}
 use Rattle.sccs_get.specs.NewEntry.{singles}
 use Rattle.sccs_get.specs.AskedVersion.{asked, listed, spec_asked}
 use Rattle.sccs_get.specs.Linear.{AsksNewest, GivesLinesPlain, GivesTexts, IsLinearFile, StepGives}
-use Rattle.sccs_get.specs.VersionStep.{facts_in, form_in, found_of, g_is_free, got, has_its_keywords, is_in_the_way, lines_in, module_in, stays_writable, text_in, with_g}
+use Rattle.sccs_get.specs.VersionStep.{version_facts, form_got, found_version, g_is_free, get_effect, has_its_keywords, is_in_the_way, lines_got, module_in, stays_writable, given_text, with_g}
 use Rattle.sccs_get.specs.declared.found.Found.{Found}
 use Rattle.sccs_get.proofs.FoundLaws.{found_so, found_with}
 use Rattle.sccs_get.proofs.ReadyLaws.{is_got}
@@ -84,19 +84,19 @@ shown_texts set (line ∷ lines) = texts_by (shows set line) line (shown set lin
 found_module : (words : GetWords) (header : Header) (n : List ℕ) → words.«module» ≡ false → module_in words header n ≡ None
 found_module words header n none = ap (λ (b : Bool). if b then Some (module_name header.flags n) else None) none
 
-found_facts : (words : GetWords) (stamp : Stamp) (place n : List ℕ) (header : Header) (set : List ℕ) (target : ℕ) (sid : Sid) → words.keep ≡ true → facts_in words stamp place n header set target sid ≡ None
+found_facts : (words : GetWords) (stamp : Stamp) (place n : List ℕ) (header : Header) (set : List ℕ) (target : ℕ) (sid : Sid) → words.keep ≡ true → version_facts words stamp place n header set target sid ≡ None
 found_facts words stamp place n header set target sid keep = ap (λ (b : Bool). if not (b || (words.edit || words.no_text)) then Some (facts_of header set target sid n place stamp) else None) keep
 
 module _ (words : GetWords) (stamp : Stamp) (place n : List ℕ) (heading : Bool) (f : Files) (parsed : Parsed) where
   -- a version whose lines are given as they are
-  plain_text : (found : Found) (lines : List (List ℕ)) → GivesLinesPlain words → found.«module» ≡ None → found.facts ≡ None → texts (lines_in found parsed.items) ≡ lines
-      → text_in words parsed.header.records found (lines_in found parsed.items) ≡ bytes_of lines
+  plain_text : (found : Found) (lines : List (List ℕ)) → GivesLinesPlain words → found.«module» ≡ None → found.facts ≡ None → texts (lines_got found parsed.items) ≡ lines
+      → given_text words parsed.header.records found (lines_got found parsed.items) ≡ bytes_of lines
   plain_text found lines plain no_module no_facts is =
-      ap (λ (b : Bool). if b then [] else version_text (form_in words found) parsed.header.records (lines_in found parsed.items)) plain.text
-      ∙ (ap (λ (m : Option (List ℕ)). version_text (record { module_name = m; has_sids = words.sids; facts = found.facts }) parsed.header.records (lines_in found parsed.items)) no_module
-      ∙ (ap (λ (b : Bool). version_text (record { module_name = None; has_sids = b; facts = found.facts }) parsed.header.records (lines_in found parsed.items)) plain.sids
-      ∙ (ap (λ (x : Option Facts). version_text (record { module_name = None; has_sids = false; facts = x }) parsed.header.records (lines_in found parsed.items)) no_facts
-      ∙ (as_they_are parsed.header.records 1 (lines_in found parsed.items) ∙ ap bytes_of is))))
+      ap (λ (b : Bool). if b then [] else version_text (form_got words found) parsed.header.records (lines_got found parsed.items)) plain.text
+      ∙ (ap (λ (m : Option (List ℕ)). version_text (record { module_name = m; has_sids = words.sids; facts = found.facts }) parsed.header.records (lines_got found parsed.items)) no_module
+      ∙ (ap (λ (b : Bool). version_text (record { module_name = None; has_sids = b; facts = found.facts }) parsed.header.records (lines_got found parsed.items)) plain.sids
+      ∙ (ap (λ (x : Option Facts). version_text (record { module_name = None; has_sids = false; facts = x }) parsed.header.records (lines_got found parsed.items)) no_facts
+      ∙ (as_they_are parsed.header.records 1 (lines_got found parsed.items) ∙ ap bytes_of is))))
 
   keywords_stay : (lines : List HistoryLine) → words.keep ≡ true → has_its_keywords words parsed.header.flags lines ≡ Ok true
   keywords_stay lines keep = ap (λ (b : Bool). check (not (not (b || (words.edit || words.no_text)) && has_flag parsed.header.flags flag_i) || has_keywords (texts lines)) refusals.NoKeywords) keep
@@ -107,16 +107,16 @@ module _ (words : GetWords) (stamp : Stamp) (place n : List ℕ) (heading : Bool
   may_be_written : words.keep ≡ true → stays_writable words ≡ true
   may_be_written keep = ap (λ (b : Bool). b || words.edit) keep
 
-  step_gives : (found : Found) (lines : List (List ℕ)) → answer file_of (bytes_at f.s) ≡ Ok parsed → found_of words stamp place n parsed.header ≡ Ok found → found.«module» ≡ None → found.facts ≡ None
-      → texts (lines_in found parsed.items) ≡ lines → GivesLinesPlain words → is_in_the_way words f.g ≡ false → StepGives words stamp place heading n f (bytes_of lines)
+  step_gives : (found : Found) (lines : List (List ℕ)) → answer file_of (bytes_at f.s) ≡ Ok parsed → found_version words stamp place n parsed.header ≡ Ok found → found.«module» ≡ None → found.facts ≡ None
+      → texts (lines_got found parsed.items) ≡ lines → GivesLinesPlain words → is_in_the_way words f.g ≡ false → StepGives words stamp place heading n f (bytes_of lines)
   step_gives found lines is found_is no_module no_facts texts_are plain free =
-      let text : text_in words parsed.header.records found (lines_in found parsed.items) ≡ bytes_of lines = plain_text found lines plain no_module no_facts texts_are in
+      let text : given_text words parsed.header.records found (lines_got found parsed.items) ≡ bytes_of lines = plain_text found lines plain no_module no_facts texts_are in
       record {
-        effect = got words heading n parsed.header.records f found (lines_in found parsed.items);
-        is = is_got words stamp place heading n f parsed found is found_is (keywords_stay (lines_in found parsed.items) plain.keep) (g_free free);
+        effect = get_effect words heading n parsed.header.records f found (lines_got found parsed.items);
+        is = is_got words stamp place heading n f parsed found is found_is (keywords_stay (lines_got found parsed.items) plain.keep) (g_free free);
         printed = ap (λ t. if words.print then t else []) text;
         made = λ writes.
-            ap (λ (b : Bool). if b then Some (with_g f (text_in words parsed.header.records found (lines_in found parsed.items)) (stays_writable words)) else None) writes
+            ap (λ (b : Bool). if b then Some (with_g f (given_text words parsed.header.records found (lines_got found parsed.items)) (stays_writable words)) else None) writes
             ∙ (ap (λ t. Some (with_g f t (stays_writable words))) text ∙ ap (λ (b : Bool). Some (with_g f (bytes_of lines) b)) (may_be_written plain.keep));
       }
 
@@ -126,11 +126,11 @@ module _ (words : GetWords) (stamp : Stamp) (place n : List ℕ) (heading : Bool
       let records : List Record = header.records in
       let set : List ℕ = newest_set records in
       let sid : (sid : Sid) × (sid_at records (newest records) ≡ Some sid) = head_sid records linear.some in
-      let found : Found = found_with set (singles records []) (singles records []) sid.0 (module_in words header n) (facts_in words stamp place n header set (newest records) sid.0) in
-      let found_is : found_of words stamp place n header ≡ Ok found =
-      found_so words stamp place n header (asked_at (newest records) [] [] set) sid.0 (singles records []) (singles records []) (module_in words header n) (facts_in words stamp place n header set (newest records) sid.0)
+      let found : Found = found_with set (singles records []) (singles records []) sid.0 (module_in words header n) (version_facts words stamp place n header set (newest records) sid.0) in
+      let found_is : found_version words stamp place n header ≡ Ok found =
+      found_so words stamp place n header (asked_at (newest records) [] [] set) sid.0 (singles records []) (singles records []) (module_in words header n) (version_facts words stamp place n header set (newest records) sid.0)
       (newest_asked words header asks linear.default (newest_got records words.top linear.some linear.trunk)) sid.1 refl refl refl refl in
-      let texts_are : texts (lines_in found parsed.items) ≡ version (newest records) records (lines_of parsed.items) = shown_texts set (lines_of parsed.items) in
+      let texts_are : texts (lines_got found parsed.items) ≡ version (newest records) records (lines_of parsed.items) = shown_texts set (lines_of parsed.items) in
       record {
         found = found;
         is = found_is;

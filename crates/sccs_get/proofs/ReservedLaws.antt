@@ -22,7 +22,7 @@ use Rattle.sccs_words.specs.declared.commands.GetWords.{GetWords}
 use Rattle.sccs_get.specs.EditGiving.{AnswersReserved}
 use Rattle.sccs_get.specs.EditStep.{Reserved, reserved_of}
 use Rattle.sccs_get.specs.NewEntry.{new_entry}
-use Rattle.sccs_get.specs.VersionStep.{found_of, is_in_the_way}
+use Rattle.sccs_get.specs.VersionStep.{found_version, is_in_the_way}
 use Rattle.sccs_get.specs.declared.found.Found.{Found as Version}
 
 -- a whole s-file was read where its front is shown
@@ -32,7 +32,7 @@ read_whole (Some s) p x parsed shows is = pending_answer s p (record { parsed = 
 
 module _ (words : GetWords) (stamp : Stamp) (place n : List ℕ) where
   abbrev with_version : Parsed → List Edit → Edit → Result Reserved Refusal
-  with_version parsed edits e = found_of words stamp place n parsed.header >>= λ version. Ok (record { parsed = parsed; edits = edits; edit = e; version = version })
+  with_version parsed edits e = found_version words stamp place n parsed.header >>= λ version. Ok (record { parsed = parsed; edits = edits; edit = e; version = version })
 
   abbrev with_entry : Bool → Found → Result Reserved Refusal
   with_entry way found = new_entry words stamp found.parsed.header found.edits way >>= λ e. with_version found.parsed found.edits e
@@ -80,13 +80,13 @@ module _ (words : GetWords) (stamp : Stamp) (place n : List ℕ) where
   no_entry None o1 x way fault same read is answers = tt
   no_entry (Some v) o1 x way fault same read is answers = no_entry_at v x way fault read (subst (λ (o : Option View). IfSome o (λ (u : View). way ≡ is_in_the_way words (u (drop 2 n)))) same is) answers
 
-  version_so : (v : View) (x : Pending) (way : Bool) (e : Edit) (r : Result Version Refusal) → (read : IsRead v x) → way ≡ is_in_the_way words (v (drop 2 n)) → new_entry words stamp x.front.header x.edits way ≡ Ok e → found_of words stamp place n x.front.header ≡ r
+  version_so : (v : View) (x : Pending) (way : Bool) (e : Edit) (r : Result Version Refusal) → (read : IsRead v x) → way ≡ is_in_the_way words (v (drop 2 n)) → new_entry words stamp x.front.header x.edits way ≡ Ok e → found_version words stamp place n x.front.header ≡ r
       → reserved_of words stamp place n (look v n) ≡ (r >>= λ version. Ok (record { parsed = read.0; edits = x.edits; edit = e; version = version }))
   version_so v x way e r read is entry found =
-      read_so v x way (Ok e) read is entry ∙ (ap (λ (h : Header). found_of words stamp place n h >>= λ version. Ok (record { parsed = read.0; edits = x.edits; edit = e; version = version })) (sym (header_of v x read))
+      read_so v x way (Ok e) read is entry ∙ (ap (λ (h : Header). found_version words stamp place n h >>= λ version. Ok (record { parsed = read.0; edits = x.edits; edit = e; version = version })) (sym (header_of v x read))
       ∙ ap (λ (r : Result Version Refusal). r >>= λ version. Ok (record { parsed = read.0; edits = x.edits; edit = e; version = version })) found)
 
-  no_version_at : (v : View) (x : Pending) (way : Bool) (e : Edit) (fault : StepFault) → IsRead v x → way ≡ is_in_the_way words (v (drop 2 n)) → new_entry words stamp x.front.header x.edits way ≡ Ok e → Answers {A = Version} (found_of words stamp place n x.front.header) (Err fault) → AnswersReserved words stamp place n (look v n) (Err fault)
+  no_version_at : (v : View) (x : Pending) (way : Bool) (e : Edit) (fault : StepFault) → IsRead v x → way ≡ is_in_the_way words (v (drop 2 n)) → new_entry words stamp x.front.header x.edits way ≡ Ok e → Answers {A = Version} (found_version words stamp place n x.front.header) (Err fault) → AnswersReserved words stamp place n (look v n) (Err fault)
   no_version_at v x way e (Refused refusal) read is entry answers = version_so v x way e (Err refusal) read is entry answers
   no_version_at v x way e Memory read is entry answers = tt
   no_version_at v x way e DiskFault read is entry answers = tt
@@ -94,12 +94,12 @@ module _ (words : GetWords) (stamp : Stamp) (place n : List ℕ) where
   no_version_at v x way e WriteFault read is entry answers = absurd answers
 
   pub no_version : (o o1 : Option View) (x : Pending) (way : Bool) (e : Edit) (fault : StepFault) → o1 ≡ o → IfSome o (λ (v : View). IsRead v x) → IfSome o1 (λ (v : View). way ≡ is_in_the_way words (v (drop 2 n))) → new_entry words stamp x.front.header x.edits way ≡ Ok e
-      → Answers {A = Version} (found_of words stamp place n x.front.header) (Err fault) → IfSome o (λ (v : View). AnswersReserved words stamp place n (look v n) (Err fault))
+      → Answers {A = Version} (found_version words stamp place n x.front.header) (Err fault) → IfSome o (λ (v : View). AnswersReserved words stamp place n (look v n) (Err fault))
   no_version None o1 x way e fault same read is entry answers = tt
   no_version (Some v) o1 x way e fault same read is entry answers = no_version_at v x way e fault read (subst (λ (o : Option View). IfSome o (λ (u : View). way ≡ is_in_the_way words (u (drop 2 n)))) same is) entry answers
 
   pub all_found : (o o1 : Option View) (x : Pending) (way : Bool) (e : Edit) (version : Version) → o1 ≡ o → IfSome o (λ (v : View). IsRead v x) → IfSome o1 (λ (v : View). way ≡ is_in_the_way words (v (drop 2 n))) → new_entry words stamp x.front.header x.edits way ≡ Ok e
-      → found_of words stamp place n x.front.header ≡ Ok version → IfSome o (λ (v : View). AnswersReserved words stamp place n (look v n) (Ok (record { pending = x; edit = e; version = version })))
+      → found_version words stamp place n x.front.header ≡ Ok version → IfSome o (λ (v : View). AnswersReserved words stamp place n (look v n) (Ok (record { pending = x; edit = e; version = version })))
   all_found None o1 x way e version same read is entry found = tt
   all_found (Some v) o1 x way e version same read is entry found =
       (read.0, read.1, read_whole (v n) (v (p_file n)) x read.0 read.1 read.2, version_so v x way e (Ok version) read (subst (λ (o : Option View). IfSome o (λ (u : View). way ≡ is_in_the_way words (u (drop 2 n)))) same is) entry found)

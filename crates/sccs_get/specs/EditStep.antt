@@ -19,7 +19,7 @@ use Rattle.sccs_steps.specs.StepEffects.{Outcome, StepEffect}
 use Rattle.sccs_transactions.specs.Changes.{Changing}
 use Rattle.sccs_get.specs.NewEntry.{edit_checks, new_entry}
 use Rattle.sccs_get.specs.Reports.{get_warning, said_on_err, said_on_out}
-use Rattle.sccs_get.specs.VersionStep.{found_of, is_in_the_way, lines_in, report_on, says_well, stays_writable, text_in, writes_g}
+use Rattle.sccs_get.specs.VersionStep.{found_version, is_in_the_way, lines_got, report_on, says_well, stays_writable, given_text, writes_g}
 use Rattle.sccs_get.specs.declared.found.Found.{Found as Version}
 
 -- What is found: the header and items, the entries, the new one, and the version that is got.
@@ -34,7 +34,7 @@ unfoldable pub reserved_of : GetWords → Stamp → List ℕ → List ℕ → Fi
 reserved_of words stamp place n f = do
   found ← pending_of f.s f.p
   edit ← new_entry words stamp found.parsed.header found.edits (is_in_the_way words f.g)
-  version ← found_of words stamp place n found.parsed.header
+  version ← found_version words stamp place n found.parsed.header
   Ok (record { parsed = found.parsed; edits = found.edits; edit = edit; version = version })
 
 -- what becomes of the g-file
@@ -43,9 +43,9 @@ g_after words text g = if writes_g words then Some (record { bytes = text; writa
 
 -- The entries are one more, last; the text goes to out before that with -p, becomes the g-file, or is none with -g; and the report
 -- goes to err with -p.
-abbrev pub edited : GetWords → Bool → List ℕ → List Record → Files → List Edit → Edit → Version → List HistoryLine → StepEffect
-edited words heading n records f edits edit version lines =
-    let text : List ℕ = text_in words records version lines in
+abbrev pub edit_effect : GetWords → Bool → List ℕ → List Record → Files → List Edit → Edit → Version → List HistoryLine → StepEffect
+edit_effect words heading n records f edits edit version lines =
+    let text : List ℕ = given_text words records version lines in
     let report : List ℕ = report_on words heading n version (Some edit.made) (length lines) in
     record {
       new = Some (record { s = f.s; p = pfile_of (edits ++ edit ∷ []); z = None; g = g_after words text f.g });
@@ -58,7 +58,8 @@ edited words heading n records f edits edit version lines =
 unfoldable pub edit_outcome : GetWords → Stamp → List ℕ → Bool → Step
 edit_outcome words stamp place heading n input named f = do
   x ← reserved_of words stamp place n f
-  Ok (edited words heading n x.parsed.header.records f x.edits x.edit x.version (lines_in x.version x.parsed.items))
+  Ok (edit_effect words heading n x.parsed.header.records f x.edits x.edit x.version
+      (lines_got x.version x.parsed.items))
 
 -- the outcomes that may come over any disk
 abbrev pub could_edit : GetWords → Outcome → Bool

@@ -21,12 +21,12 @@ use Rattle.sccs_store.specs.Commits.{Becomes, MayBecome}
 use Rattle.sccs_transactions.specs.Ends.{IsCut, IsReported}
 use Rattle.sccs_transactions.specs.declared.prepared.Prepared.{Prepared}
 use Rattle.sccs_words.specs.declared.commands.GetWords.{GetWords}
-use Rattle.sccs_get.specs.VersionStep.{form_in, stays_writable, text_in, with_g, writes_g}
+use Rattle.sccs_get.specs.VersionStep.{form_got, stays_writable, given_text, with_g, writes_g}
 use Rattle.sccs_get.specs.declared.found.Found.{Found}
 
 -- the text goes to out with -p
-abbrev pub printed : GetWords → List ℕ → List ℕ
-printed words text = if words.print then text else []
+abbrev pub printed_text : GetWords → List ℕ → List ℕ
+printed_text words text = if words.print then text else []
 
 -- the text is the y-file, where it is to be the g-file
 abbrev pub with_y : GetWords → List ℕ → List ℕ → View → View
@@ -34,7 +34,7 @@ with_y words n text v = if writes_g words then put v (y_file n) (Some (record { 
 
 -- Where a text was given.
 pub record IsGiven (words : GetWords) (n text : List ℕ) (w w2 : World) : Type 0 where
-  pub out : GivesOk w.out w2.out (printed words text)
+  pub out : GivesOk w.out w2.out (printed_text words text)
   pub view : Becomes (with_y words n text) w.view w2.view
 
 -- no check fails any more
@@ -48,8 +48,8 @@ IsLate (Refused refusal) = ⊥
 -- The text of lines was given, and how many they are, and whether a keyword of one was replaced; or a prefix of what goes to out.
 abbrev pub GivesVersion : GetWords → List ℕ → List Record → Found → List HistoryLine → Result Shown StepFault → World → World → Type 0
 GivesVersion words n records found lines (Ok shown) w w2 =
-    IsGiven words n (text_in words records found lines) w w2 × (words.no_text ≡ false → shown ≡ shown_of (form_in words found) lines)
-GivesVersion words n records found lines (Err fault) w w2 = IsLate fault × GivesSome w.out w2.out (printed words (text_in words records found lines))
+    IsGiven words n (given_text words records found lines) w w2 × (words.no_text ≡ false → shown ≡ shown_of (form_got words found) lines)
+GivesVersion words n records found lines (Err fault) w w2 = IsLate fault × GivesSome w.out w2.out (printed_text words (given_text words records found lines))
 
 -- All is ready that a get gives behind its text: what it says, and the y-file where a g-file is to be made.
 pub record IsReadied (words : GetWords) (n : List ℕ) (p : Prepared) (o : Outcome) (w w2 : World) : Type 0 where
@@ -59,7 +59,7 @@ pub record IsReadied (words : GetWords) (n : List ℕ) (p : Prepared) (o : Outco
   pub status : effect.status ≡ 0
   pub report : effect.out ≡ p.report
   pub message : effect.err ≡ p.message
-  pub text_is : effect.text ≡ printed words text
+  pub text_is : effect.text ≡ printed_text words text
   pub new : IfSome w.view (λ v. effect.new ≡ (if writes_g words then Some (with_g (look v n) text (stays_writable words)) else None))
   pub given : IsGiven words n text w w2
 

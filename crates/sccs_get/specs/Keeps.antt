@@ -12,7 +12,7 @@ use Rattle.sccs_files.specs.StepFiles.{Files}
 use Rattle.sccs_pending.specs.Pending.{bytes_at}
 use Rattle.sccs_steps.specs.Actions.{KeepsFiles}
 use Rattle.sccs_steps.specs.StepEffects.{Outcome, StepEffect}
-use Rattle.sccs_get.specs.VersionStep.{found_of, g_is_free, get_action, get_outcome, got, has_its_keywords, lines_in, writes_g}
+use Rattle.sccs_get.specs.VersionStep.{found_version, g_is_free, get_action, get_outcome, get_effect, has_its_keywords, lines_got, writes_g}
 
 -- what is accepted changes no file
 LeavesFiles : Outcome → Type 0
@@ -35,10 +35,10 @@ outcome_leaves : (words : GetWords) (stamp : Stamp) (place : List ℕ) (heading 
 unfolding get_outcome
 outcome_leaves words stamp place heading n f reads =
     passed_leaves (or_refusal (answer file_of (bytes_at f.s))) _ (λ parsed.
-    passed_leaves (found_of words stamp place n parsed.header) _ (λ found.
-    passed_leaves (has_its_keywords words parsed.header.flags (lines_in found parsed.items)) _ (λ keywords.
+    passed_leaves (found_version words stamp place n parsed.header) _ (λ found.
+    passed_leaves (has_its_keywords words parsed.header.flags (lines_got found parsed.items)) _ (λ keywords.
     passed_leaves (g_is_free words f.g) _ (λ free.
-    got_leaves words (got words heading n parsed.header.records f found (lines_in found parsed.items)) (none_new (writes_g words) _ reads)))))
+    got_leaves words (get_effect words heading n parsed.header.records f found (lines_got found parsed.items)) (none_new (writes_g words) _ reads)))))
 
 quiet : (words : GetWords) (stamp : Stamp) (place : List ℕ) (heading : Bool) (n : List ℕ) (f : Files) (d : StepEffect) → not (writes_g words) ≡ true → get_outcome words stamp place heading n f ≡ Ok d → d.new ≡ None
 unfolding LeavesFiles

@@ -6,12 +6,12 @@ use Rattle.sccs_grammar.specs.File.{Parsed}
 use Rattle.sccs_tokens.specs.Written.{bytes_of}
 use Rattle.sccs_files.specs.StepFiles.{Files}
 use Rattle.sccs_steps.specs.StepEffects.{StepEffect}
-use Rattle.sccs_get.specs.Giving.{printed}
+use Rattle.sccs_get.specs.Giving.{printed_text}
 use Rattle.sccs_sets.specs.Trunks.{IsTrunk}
 use Rattle.sccs_sid.specs.declared.moments.Stamp.{Stamp}
 use Rattle.sccs_texts.specs.Forms.{texts}
 use Rattle.sccs_words.specs.declared.commands.GetWords.{GetWords}
-use Rattle.sccs_get.specs.VersionStep.{found_of, get_outcome, is_in_the_way, lines_in, with_g, writes_g}
+use Rattle.sccs_get.specs.VersionStep.{found_version, get_outcome, is_in_the_way, lines_got, with_g, writes_g}
 use Rattle.sccs_get.specs.declared.found.Found.{Found}
 use Rattle.sccs_sets.specs.Flags.{default_of}
 
@@ -41,12 +41,12 @@ pub record GivesLinesPlain (words : GetWords) : Type 0 where
 pub record StepGives (words : GetWords) (stamp : Stamp) (place : List ℕ) (heading : Bool) (n : List ℕ) (f : Files) (text : List ℕ) : Type 0 where
   pub effect : StepEffect
   pub is : get_outcome words stamp place heading n f ≡ Ok effect
-  pub printed : effect.text ≡ printed words text
+  pub printed : effect.text ≡ printed_text words text
   pub made : writes_g words ≡ true → effect.new ≡ Some (with_g f text true)
 
 -- A version is found, and its lines have these texts; a get that gives lines as they are gives these, each with LF.
 pub record GivesTexts (words : GetWords) (stamp : Stamp) (place : List ℕ) (heading : Bool) (n : List ℕ) (f : Files) (parsed : Parsed) (lines : List (List ℕ)) : Type 0 where
   pub found : Found
-  pub is : found_of words stamp place n parsed.header ≡ Ok found
-  pub texts_are : texts (lines_in found parsed.items) ≡ lines
+  pub is : found_version words stamp place n parsed.header ≡ Ok found
+  pub texts_are : texts (lines_got found parsed.items) ≡ lines
   pub step : GivesLinesPlain words → is_in_the_way words f.g ≡ false → StepGives words stamp place heading n f (bytes_of lines)

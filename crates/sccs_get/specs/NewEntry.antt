@@ -51,8 +51,8 @@ release_made got None = got.release
 release_made got (Some made) = made.release
 
 -- the releases got and to be made lie from floor to ceiling, and the latter isn't locked
-unfoldable pub released : Header → Sid → Option Sid → Result Bool Refusal
-released header got made = do
+unfoldable pub edit_releases : Header → Sid → Option Sid → Result Bool Refusal
+edit_releases header got made = do
   within ← check (is_within_limits header.flags got.release && is_within_limits header.flags (release_made got made)) refusals.OutsideRelease
   check (not (is_locked header.flags (release_made got made))) refusals.LockedRelease
 
@@ -63,7 +63,7 @@ is_got edits got = list_any (λ e. same_sid e.got got) edits
 -- the SID to be made, where it may be: several edits of one SID need the flag j, and no g-file that may be written is in the way
 unfoldable pub free_sid : Header → List Edit → Bool → Sid → Option Sid → Result Sid Refusal
 free_sid header edits in_the_way got made = do
-  free ← released header got made
+  free ← edit_releases header got made
   joint ← check (has_flag header.flags flag_j || not (is_got edits got)) refusals.BeingEdited
   place ← check (not in_the_way) refusals.GExists
   there made refusals.Full
@@ -73,12 +73,12 @@ abbrev pub reserved : List Edit → List Sid
 reserved edits = map (λ e. e.made) edits
 
 -- the SIDs of serials, each as a range of its own
-abbrev pub single : Option Sid → List Range
-single None = []
-single (Some sid) = record { first = sid; last = sid } ∷ []
+abbrev pub single_ranges : Option Sid → List Range
+single_ranges None = []
+single_ranges (Some sid) = record { first = sid; last = sid } ∷ []
 
 abbrev pub singles : List Record → List ℕ → List Range
-singles records serials = flat_map (λ n. single (sid_at records n)) serials
+singles records serials = flat_map (λ n. single_ranges (sid_at records n)) serials
 
 abbrev pub new_edit : Stamp → List Record → Asked → Sid → Sid → Edit
 new_edit stamp records a got made =

@@ -8,8 +8,8 @@ use Rattle.sccs_pending.specs.Reports.{heading_text, warning}
 use Rattle.sccs_words.specs.declared.commands.GetWords.{GetWords}
 
 -- keywords are replaced without -k, -e and -g
-abbrev pub replaces : GetWords → Bool
-replaces words = not (words.keep || (words.edit || words.no_text))
+abbrev pub replaces_keywords : GetWords → Bool
+replaces_keywords words = not (words.keep || (words.edit || words.no_text))
 
 -- the first SIDs of ranges, each on a line
 abbrev pub sid_lines : List Range → List ℕ
@@ -21,13 +21,13 @@ listed_text None title ranges = []
 listed_text (Some list) title ranges = ended title ++ sid_lines ranges
 
 -- the SID that is to be made, where there is one
-abbrev pub made_text : Option Sid → List ℕ
-made_text None = []
-made_text (Some made) = codes "new delta " ++ ended (sid_text made)
+abbrev pub new_sid_text : Option Sid → List ℕ
+new_sid_text None = []
+new_sid_text (Some made) = codes "new delta " ++ ended (sid_text made)
 
 -- the number of the text's lines, but with -g
-abbrev pub lines_text : Bool → ℕ → List ℕ
-lines_text no_text lines = if no_text then [] else decimal lines ++ ended (codes " lines")
+abbrev pub line_count_text : Bool → ℕ → List ℕ
+line_count_text no_text lines = if no_text then [] else decimal lines ++ ended (codes " lines")
 
 -- the heading, the SIDs of the lists that were given, the SID that is got, the one that is to be made, and the number of lines;
 -- nothing with -s
@@ -37,11 +37,11 @@ get_report words heading n include exclude got made lines =
     else heading_text heading n
     ++ (listed_text words.include (codes "Included:") include
     ++ (listed_text words.exclude (codes "Excluded:") exclude
-    ++ (ended (sid_text got) ++ (made_text made ++ lines_text words.no_text lines))))
+    ++ (ended (sid_text got) ++ (new_sid_text made ++ line_count_text words.no_text lines))))
 
 -- that there is no keyword, where keywords are replaced
 abbrev pub get_warning : GetWords → List ℕ → Bool → List ℕ
-get_warning words n keyword = warning n (not (replaces words) || keyword)
+get_warning words n keyword = warning n (not (replaces_keywords words) || keyword)
 
 -- on out: the report, but with -p
 abbrev pub said_on_out : GetWords → List ℕ → List ℕ

@@ -33,7 +33,7 @@ use Rattle.sccs_steps.specs.StepEffects.{Outcome, StepEffect, check, there}
 use Rattle.sccs_steps.specs.declared.statuses.StatusRule.TheVariants.{Greatest}
 use Rattle.sccs_get.specs.NewEntry.{singles}
 use Rattle.sccs_get.specs.AskedVersion.{asked}
-use Rattle.sccs_get.specs.Reports.{get_report, get_warning, replaces, said_on_err, said_on_out}
+use Rattle.sccs_get.specs.Reports.{get_report, get_warning, replaces_keywords, said_on_err, said_on_out}
 use Rattle.sccs_get.specs.declared.found.Found.{Found}
 
 -- ---- what the words say
@@ -53,12 +53,12 @@ abbrev pub module_in : GetWords → Header → List ℕ → Option (List ℕ)
 module_in words header n = if words.«module» then Some (module_name header.flags n) else None
 
 -- what keywords are replaced by, where they are
-abbrev pub facts_in : GetWords → Stamp → List ℕ → List ℕ → Header → List ℕ → ℕ → Sid → Option Facts
-facts_in words stamp place n header set target sid = if replaces words then Some (facts_of header set target sid n place stamp) else None
+abbrev pub version_facts : GetWords → Stamp → List ℕ → List ℕ → Header → List ℕ → ℕ → Sid → Option Facts
+version_facts words stamp place n header set target sid = if replaces_keywords words then Some (facts_of header set target sid n place stamp) else None
 
 -- the version that is asked for of the file of a name in a folder, got at a moment; or the first check that fails
-unfoldable pub found_of : GetWords → Stamp → List ℕ → List ℕ → Header → Result Found Refusal
-found_of words stamp place n header = do
+unfoldable pub found_version : GetWords → Stamp → List ℕ → List ℕ → Header → Result Found Refusal
+found_version words stamp place n header = do
   a ← asked words header
   sid ← there (sid_at header.records a.target) refusals.NoSid
   Ok (record {
@@ -67,26 +67,26 @@ found_of words stamp place n header = do
     exclude = singles header.records a.exclude;
     sid = sid;
     «module» = module_in words header n;
-    facts = facts_in words stamp place n header a.set a.target sid;
+    facts = version_facts words stamp place n header a.set a.target sid;
   })
 
 -- how its lines are given
-abbrev pub form_in : GetWords → Found → LineForm
-form_in words found = record { module_name = found.«module»; has_sids = words.sids; facts = found.facts }
+abbrev pub form_got : GetWords → Found → LineForm
+form_got words found = record { module_name = found.«module»; has_sids = words.sids; facts = found.facts }
 
 -- its lines
-abbrev pub lines_in : Found → List Item → List HistoryLine
-lines_in found items = shown found.set (lines_of items)
+abbrev pub lines_got : Found → List Item → List HistoryLine
+lines_got found items = shown found.set (lines_of items)
 
 -- the text; none with -g
-abbrev pub text_in : GetWords → List Record → Found → List HistoryLine → List ℕ
-text_in words records found lines = if words.no_text then [] else version_text (form_in words found) records lines
+abbrev pub given_text : GetWords → List Record → Found → List HistoryLine → List ℕ
+given_text words records found lines = if words.no_text then [] else version_text (form_got words found) records lines
 
 -- ---- the step
 
 -- a file with the flag i must have keywords, where they are replaced
 abbrev pub needs_keywords : GetWords → List Flag → Bool
-needs_keywords words flags = replaces words && has_flag flags flag_i
+needs_keywords words flags = replaces_keywords words && has_flag flags flag_i
 
 -- the files with the version as their g-file
 abbrev pub with_g : Files → List ℕ → Bool → Files
@@ -97,9 +97,9 @@ abbrev pub report_on : GetWords → Bool → List ℕ → Found → Option Sid �
 report_on words heading n found made lines = get_report words heading n found.include found.exclude found.sid made lines
 
 -- With -p the text goes to out and the report to err; with -g there is no text; else the text is the new g-file. A warning comes last.
-abbrev pub got : GetWords → Bool → List ℕ → List Record → Files → Found → List HistoryLine → StepEffect
-got words heading n records f found lines =
-    let text : List ℕ = text_in words records found lines in
+abbrev pub get_effect : GetWords → Bool → List ℕ → List Record → Files → Found → List HistoryLine → StepEffect
+get_effect words heading n records f found lines =
+    let text : List ℕ = given_text words records found lines in
     let report : List ℕ = report_on words heading n found None (length lines) in
     record {
       new = if writes_g words then Some (with_g f text (stays_writable words)) else None;
@@ -124,10 +124,10 @@ g_is_free words g = check (not (is_in_the_way words g)) refusals.GExists
 unfoldable pub get_outcome : GetWords → Stamp → List ℕ → Bool → List ℕ → Files → Outcome
 get_outcome words stamp place heading n f = do
   parsed ← or_refusal (answer file_of (bytes_at f.s))
-  found ← found_of words stamp place n parsed.header
-  keywords ← has_its_keywords words parsed.header.flags (lines_in found parsed.items)
+  found ← found_version words stamp place n parsed.header
+  keywords ← has_its_keywords words parsed.header.flags (lines_got found parsed.items)
   free ← g_is_free words f.g
-  Ok (got words heading n parsed.header.records f found (lines_in found parsed.items))
+  Ok (get_effect words heading n parsed.header.records f found (lines_got found parsed.items))
 
 -- the numbers of get's checks
 abbrev pub version_checks : List ℕ

@@ -17,9 +17,9 @@ use Rattle.sccs_printing.specs.Printing.{version_text}
 use Rattle.sccs_printing.specs.declared.shown.Shown.{Shown}
 use Rattle.sccs_transactions.specs.declared.prepared.Prepared.{Prepared}
 use Rattle.sccs_words.specs.declared.commands.GetWords.{GetWords}
-use Rattle.sccs_get.specs.Giving.{printed}
+use Rattle.sccs_get.specs.Giving.{printed_text}
 use Rattle.sccs_get.specs.Reports.{get_warning, said_on_err, said_on_out}
-use Rattle.sccs_get.specs.VersionStep.{form_in, found_of, report_on, stays_writable, writes_g}
+use Rattle.sccs_get.specs.VersionStep.{form_got, found_version, report_on, stays_writable, writes_g}
 use Rattle.sccs_get.specs.declared.found.Found.{Found}
 
 -- the y-file has this text
@@ -31,9 +31,9 @@ pub record GivesWhole (words : GetWords) (n : List ℕ) (records : List Record) 
   pub items : List Item
   pub stood : Stood (live_serials records) items
   pub over : is_over items ≡ true
-  pub gives : GivesOk out out2 (printed words (version_text (form_in words found) records (shown_before found.set items)))
-  pub made : writes_g words ≡ true → IsInY words n (version_text (form_in words found) records (shown_before found.set items)) view
-  pub counted : shown ≡ shown_of (form_in words found) (shown_before found.set items)
+  pub gives : GivesOk out out2 (printed_text words (version_text (form_got words found) records (shown_before found.set items)))
+  pub made : writes_g words ≡ true → IsInY words n (version_text (form_got words found) records (shown_before found.set items)) view
+  pub counted : shown ≡ shown_of (form_got words found) (shown_before found.set items)
 
 -- The text of what the found set shows of a whole body was given, and is reported, with the SID that is to be made on it.
 pub record GivesFound (words : GetWords) (heading : Bool) (n : List ℕ) (records : List Record) (found : Found) (made : Option Sid) (p : Prepared) (out out2 : Option (List ℕ)) (view : Option View) : Type 0 where
@@ -47,5 +47,5 @@ pub record GivesAsked (words : GetWords) (stamp : Stamp) (place : List ℕ) (hea
   pub header : Header
   pub rules : IsHeader header
   pub found : Found
-  pub is : found_of words stamp place n header ≡ Ok found
+  pub is : found_version words stamp place n header ≡ Ok found
   pub gives : GivesFound words heading n header.records found None p out out2 view

@@ -4,12 +4,12 @@ ghost use Rattle.sccs_disk.specs.Files.{View};
 ghost use Rattle.sccs_disk.specs.Told.{seen};
 ghost use Rattle.sccs_files.specs.StepFiles.{look};
 ghost use Rattle.sccs_history.specs.declared.headers.Item.{Item};
-ghost use Rattle.sccs_pending.specs.PFiles.{OnlyReads, Passes};
+ghost use Rattle.sccs_pending.specs.PFiles.{OnlyReads, PassesCheck};
 ghost use Rattle.sccs_sid.specs.declared.refusals.StepFault.TheVariants as faults;
 ghost use Rattle.sccs_steps.specs.Actions.{RefusesWithin};
 ghost use Rattle.sccs_table.specs.ReaderState.{bytes_in};
 ghost use Rattle.sccs_versions.specs.Coming.{IsBody};
-ghost use Rattle.sccs_get.specs.VersionStep.{g_is_free, has_its_keywords, is_in_the_way, lines_in, needs_keywords, version_checks, writes_g};
+ghost use Rattle.sccs_get.specs.VersionStep.{g_is_free, has_its_keywords, is_in_the_way, lines_got, needs_keywords, version_checks, writes_g};
 
 use crate::found::Found;
 use crate::reports::replaces;
@@ -49,7 +49,7 @@ pub fn check_keywords<D: Disk>(
 ) -> Result<(), StepFault>
     ensures told { (file : List ℕ) (items : List Item)
         → IsBody (bytes_in (seen (D.told disk.old)) name.now) front.now found.now.set file items
-        → Passes (has_its_keywords words.now front.now.header.flags (lines_in found.now items)) result }
+        → PassesCheck (has_its_keywords words.now front.now.header.flags (lines_got found.now items)) result }
     ensures checks { RefusesWithin version_checks result }
     ensures frame { OnlyReads D.told D.faults disk.old disk.new result }
 {
@@ -86,13 +86,13 @@ pub fn is_in_the_way<D: Disk>(
 /// Refuses a g-file that is there and may be written, where the text is to take its place. POSIX get.
 pub fn check_g<D: Disk>(words: &GetWords, name: &Name, disk: &mut D) -> Result<(), StepFault>
     requires { IsSfile name.now }
-    ensures told { IfSome (seen (D.told disk.old)) (λ (v : View). Passes (g_is_free words.now (look v name.now).g) result) }
+    ensures told { IfSome (seen (D.told disk.old)) (λ (v : View). PassesCheck (g_is_free words.now (look v name.now).g) result) }
     ensures checks { RefusesWithin version_checks result }
     ensures frame { OnlyReads D.told D.faults disk.old disk.new result }
 {
-    match is_in_the_way(words, name, disk) {
-        Ok(false) => Ok(()),
-        Ok(true) => Err(StepFault::Refused(Refusal::GExists)),
-        Err(fault) => Err(fault),
+    if is_in_the_way(words, name, disk)? {
+        Err(StepFault::Refused(Refusal::GExists))
+    } else {
+        Ok(())
     }
 }

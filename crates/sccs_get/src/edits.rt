@@ -1,7 +1,6 @@
-ghost use Rattle.std.specs.Prelude.{◌≡◌, ◌≢◌, ◌≤◌, ◌∷◌, ◌++◌, [], ℕ, List, Option, Some, All, Ok, Err, IfOk, IfSome, is_some, true, false};
+ghost use Rattle.std.specs.Prelude.{◌≡◌, ◌∷◌, ◌++◌, [], ℕ, List, Option, Some, All, Ok, Err, IfOk, IfSome, is_some, true, false};
 ghost use Rattle.std.specs.Str.{bytes_eq};
 ghost use Rattle.sccs_base.specs.Name.{IsSfile, p_file, q_file, z_file};
-ghost use Rattle.sccs_base.specs.Stream.{Rose};
 ghost use Rattle.sccs_disk.specs.Calls.{IsThere};
 ghost use Rattle.sccs_disk.specs.Files.{View};
 ghost use Rattle.sccs_disk.specs.Images.{IsFirm};
@@ -14,7 +13,7 @@ ghost use Rattle.sccs_history.specs.declared.headers.Item.{Item};
 ghost use Rattle.sccs_images.specs.Touches.{Leaves, TouchesOnly};
 ghost use Rattle.sccs_keys.specs.Expansion.{HasMoments};
 ghost use Rattle.sccs_pending.specs.NewEntries.{PreparesEntries};
-ghost use Rattle.sccs_pending.specs.PFiles.{OnlyReads};
+ghost use Rattle.sccs_pending.specs.PFiles.{ChangesDisk, OnlyReads};
 ghost use Rattle.sccs_pending.specs.Pending.{AnswersPending};
 ghost use Rattle.sccs_pfile.specs.Agreement.{Agrees};
 ghost use Rattle.sccs_pfile.specs.Entries.{IsEdit};
@@ -30,10 +29,10 @@ ghost use Rattle.sccs_transactions.specs.Stops.{IsFirmPrepared, SettlesEntries};
 ghost use Rattle.sccs_versions.specs.Coming.{IsBody};
 ghost use Rattle.sccs_get.specs.Edits.{edit_locked};
 ghost use Rattle.sccs_get.specs.EditGiving.{AnswersReserved, new_g};
-ghost use Rattle.sccs_get.specs.EditStep.{edit_change, edited};
+ghost use Rattle.sccs_get.specs.EditStep.{edit_change, edit_effect};
 ghost use Rattle.sccs_get.specs.NewEntry.{AreEditValues, edit_checks};
-ghost use Rattle.sccs_get.specs.VersionStep.{found_of, lines_in, says_well};
-ghost use Rattle.sccs_get.specs.Reports.{replaces};
+ghost use Rattle.sccs_get.specs.VersionStep.{found_version, lines_got, says_well};
+ghost use Rattle.sccs_get.specs.Reports.{replaces_keywords};
 ghost use Rattle.sccs_get.specs.Whole.{GivesFound};
 
 use crate::checks::{is_in_the_way, writes_g};
@@ -91,40 +90,29 @@ fn find_edit<D: Disk>(
     ensures free { IfOk result (λ r. lives r.pending.front.header.records r.edit.made ≡ false) }
     ensures no_zero { IfOk result (λ r. has r.version.set 0 ≡ false) }
     ensures facts { IfOk result (λ r. IfSome r.version.facts HasMoments) }
-    ensures replaced { IfOk result (λ r. is_some r.version.facts ≡ replaces get.now.words.now) }
+    ensures replaced { IfOk result (λ r. is_some r.version.facts ≡ replaces_keywords get.now.words.now) }
     ensures rules { IfOk result (λ r. IsHeader r.pending.front.header) }
-    ensures found { IfOk result (λ r. found_of get.now.words.now get.now.stamp.now get.now.place.now name.now r.pending.front.header ≡ Ok r.version) }
+    ensures found { IfOk result (λ r. found_version get.now.words.now get.now.stamp.now get.now.place.now name.now r.pending.front.header ≡ Ok r.version) }
     ensures checks { RefusesWithin edit_checks result }
     ensures frame { OnlyReads D.told D.faults disk.old disk.new result }
 {
-    let pending = match read_pending(alloc, disk, name) {
-        Ok(pending) => pending,
-        Err(fault) => return Err(fault),
-    };
-    let in_the_way = match is_in_the_way(get.words, name, disk) {
-        Ok(in_the_way) => in_the_way,
-        Err(fault) => return Err(fault),
-    };
+    let pending = read_pending(alloc, disk, name)?;
+    let in_the_way = is_in_the_way(get.words, name, disk)?;
     let header = &pending.front.header;
-    let edit = match new_entry(
+    let edit = new_entry(
         alloc,
         header,
         &pending.edits,
         get.words,
         get.stamp,
         in_the_way,
-    ) {
-        Ok(edit) => edit,
-        Err(fault) => return Err(fault),
-    };
-    match find_version(alloc, get.words, get.stamp, get.place, name, header) {
-        Ok(version) => Ok(Reserved {
-            pending,
-            edit,
-            version,
-        }),
-        Err(fault) => Err(fault),
-    }
+    )?;
+    let version = find_version(alloc, get.words, get.stamp, get.place, name, header)?;
+    Ok(Reserved {
+        pending,
+        edit,
+        version,
+    })
 }
 
 // prepares the p-file with an entry more
@@ -142,10 +130,7 @@ fn add_entry<D: Disk>(
     ensures touches { TouchesOnly (bytes_eq (q_file name.now)) (D.told disk.old) (D.told disk.new) }
     ensures firm { IfOk result (λ new. OnReplace new (Leaves (IsFirm (q_file name.now)) (D.told disk.old) (D.told disk.new))) }
     ensures checks { RefusesWithin [] result }
-    ensures later { D.faults disk.old ≤ D.faults disk.new }
-    ensures cause { result ≡ Err faults.DiskFault → Rose (D.faults disk.old) (D.faults disk.new) }
-    ensures read { result ≢ Err faults.ReadFault }
-    ensures write { result ≢ Err faults.WriteFault }
+    ensures causes { ChangesDisk D.faults disk.old disk.new result }
 {
     let mut edits = edits;
     let Ok(()) = reserve(&mut edits, edit) else {
@@ -182,11 +167,11 @@ fn give_edit<O: Sink, D: Disk>(
     requires edits { All IsEdit reserved.pending.edits }
     requires edit { IsEdit reserved.edit }
     requires facts { IfSome reserved.version.facts HasMoments }
-    requires replaced { is_some reserved.version.facts ≡ replaces get.now.words.now }
+    requires replaced { is_some reserved.version.facts ≡ replaces_keywords get.now.words.now }
     requires table { Falls 65536 (serials_of reserved.pending.front.header.records) }
     ensures prepares { (v : View) (file : List ℕ) (items : List Item) (err : Option (List ℕ)) → seen (D.told disk.old) ≡ Some v
         → IsBody (bytes_in (Some v) name.now) reserved.pending.front reserved.version.set file items
-        → Prepares result name.now (Ok (edited get.now.words.now get.now.heading name.now reserved.pending.front.header.records (look (unlocked name.now v) name.now) reserved.pending.edits reserved.edit reserved.version (lines_in reserved.version items)))
+        → Prepares result name.now (Ok (edit_effect get.now.words.now get.now.heading name.now reserved.pending.front.header.records (look (unlocked name.now v) name.now) reserved.pending.edits reserved.edit reserved.version (lines_got reserved.version items)))
         (world (Some v) (O.given out.old) err) (world (seen (D.told disk.new)) (O.given out.new) err) }
     ensures needs { IsThere (z_file name.now) (D.told disk.old) → IfOk result (λ p. IsReady name.now p (D.told disk.new)) }
     ensures touches { TouchesOnly (is_working name.now) (D.told disk.old) (D.told disk.new) }
@@ -208,14 +193,8 @@ fn give_edit<O: Sink, D: Disk>(
     } = reserved;
     let Pending { front, edits } = pending;
     let made = edit.made;
-    let new_p = match add_entry(name, edits, edit, disk) {
-        Ok(new_p) => new_p,
-        Err(fault) => return Err(fault),
-    };
-    let shown = match give_version(alloc, get.words, name, &front, &version, out, disk) {
-        Ok(shown) => shown,
-        Err(fault) => return Err(fault),
-    };
+    let new_p = add_entry(name, edits, edit, disk)?;
+    let shown = give_version(alloc, get.words, name, &front, &version, out, disk)?;
     match said(
         alloc,
         get.words,
@@ -249,10 +228,8 @@ impl Change for Reserve<'_> {
         out: &mut O,
         disk: &mut D,
     ) -> Result<Prepared, StepFault> {
-        match find_edit(alloc, self, name, disk) {
-            Ok(reserved) => give_edit(alloc, self, name, reserved, out, disk),
-            Err(fault) => Err(fault),
-        }
+        let reserved = find_edit(alloc, self, name, disk)?;
+        give_edit(alloc, self, name, reserved, out, disk)
     }
 
     fn takes_input(&self) -> bool {

@@ -10,8 +10,8 @@ ghost use Rattle.sccs_sid.specs.Moment.{IsMoment};
 ghost use Rattle.sccs_sid.specs.declared.refusals.StepFault.TheVariants as faults;
 ghost use Rattle.sccs_steps.specs.Actions.{RefusesWithin};
 ghost use Rattle.sccs_get.specs.AskedVersion.{asked_checks};
-ghost use Rattle.sccs_get.specs.Reports.{replaces};
-ghost use Rattle.sccs_get.specs.VersionStep.{facts_in, form_in, found_of, module_in};
+ghost use Rattle.sccs_get.specs.Reports.{replaces_keywords};
+ghost use Rattle.sccs_get.specs.VersionStep.{version_facts, form_got, found_version, module_in};
 ghost use Rattle.sccs_texts.specs.Forms as forms;
 
 use crate::new_entries::singles;
@@ -44,7 +44,7 @@ pub struct Found {
 impl Found {
     /// How the lines are given.
     pub fn form(&self, words: &GetWords) -> LineForm<'_>
-        ensures { forms.form_of result ≡ form_in words.now self.now }
+        ensures { forms.form_of result ≡ form_got words.now self.now }
     {
         LineForm {
             module_name: self.module.as_ref(),
@@ -88,17 +88,15 @@ fn facts_in(
     requires sfile { IsSfile name.now }
     requires spelled { IsSpelled header.now }
     requires moment { IsMoment stamp.now.moment }
-    ensures value { IfOk result (λ facts. facts ≡ facts_in words.now stamp.now place.now name.now header.now set.now target sid) }
+    ensures value { IfOk result (λ facts. facts ≡ version_facts words.now stamp.now place.now name.now header.now set.now target sid) }
     ensures valid { IfOk result (λ facts. IfSome facts HasMoments) }
-    ensures replaced { IfOk result (λ facts. is_some facts ≡ replaces words.now) }
+    ensures replaced { IfOk result (λ facts. is_some facts ≡ replaces_keywords words.now) }
 {
     if !replaces(words) {
         return Ok(None);
     }
-    match facts_of(alloc, header, set, target, sid, name, place, stamp) {
-        Ok(facts) => Ok(Some(facts)),
-        Err(_) => Err(Memory),
-    }
+    let facts = facts_of(alloc, header, set, target, sid, name, place, stamp)?;
+    Ok(Some(facts))
 }
 
 /// Finds the version that get's words ask for in a header. NoSid comes where its SID names no live delta,
@@ -115,17 +113,14 @@ pub fn find_version(
     requires table { IsTable header.now.records }
     requires spelled { IsSpelled header.now }
     requires moment { IsMoment stamp.now.moment }
-    ensures value { Answers (found_of words.now stamp.now place.now name.now header.now) result }
+    ensures value { Answers (found_version words.now stamp.now place.now name.now header.now) result }
     ensures no_zero { IfOk result (λ f. has f.set 0 ≡ false) }
     ensures facts { IfOk result (λ f. IfSome f.facts HasMoments) }
-    ensures replaced { IfOk result (λ f. is_some f.facts ≡ replaces words.now) }
+    ensures replaced { IfOk result (λ f. is_some f.facts ≡ replaces_keywords words.now) }
     ensures checks { RefusesWithin asked_checks result }
     ensures broke { result ≢ Err faults.DiskFault }
 {
-    let asked = match asked_of(alloc, header, words) {
-        Ok(asked) => asked,
-        Err(fault) => return Err(fault),
-    };
+    let asked = asked_of(alloc, header, words)?;
     let records = header.records.items();
     let sid = sid_at(records, asked.target);
     let Ok(include) = singles(alloc, records, asked.include.items()) else {

@@ -17,7 +17,7 @@ ghost use Rattle.sccs_table.specs.ReaderState.{bytes_in};
 ghost use Rattle.sccs_versions.specs.Coming.{IsBody};
 ghost use Rattle.sccs_printing.specs.Printing.{file_checks, may_write};
 ghost use Rattle.sccs_get.specs.Giving.{GivesVersion};
-ghost use Rattle.sccs_get.specs.VersionStep.{lines_in, stays_writable, writes_g};
+ghost use Rattle.sccs_get.specs.VersionStep.{lines_got, stays_writable, writes_g};
 ghost use Rattle.sccs_get.specs.Whole.{GivesWhole};
 
 use crate::checks::writes_g;
@@ -59,7 +59,7 @@ pub fn give_version<O: Sink, D: Disk>(
     requires table { Falls 65536 (serials_of front.now.header.records) }
     ensures gives { (file : List ℕ) (items : List Item) (err : Option (List ℕ))
         → IsBody (bytes_in (seen (D.told disk.old)) name.now) front.now found.now.set file items
-        → GivesVersion words.now name.now front.now.header.records found.now (lines_in found.now items) result
+        → GivesVersion words.now name.now front.now.header.records found.now (lines_got found.now items) result
         (world (seen (D.told disk.old)) (O.given out.old) err) (world (seen (D.told disk.new)) (O.given out.new) err) }
     ensures moves { Moves (bytes_eq (y_file name.now)) (λ v. v) (seen (D.told disk.old)) (seen (D.told disk.new)) }
     ensures there { OnOk result (writes_g words.now ≡ true → IsThere (y_file name.now) (D.told disk.new)) }

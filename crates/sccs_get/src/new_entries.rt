@@ -7,11 +7,11 @@ ghost use Rattle.sccs_sid.specs.declared.refusals.StepFault.TheVariants as fault
 ghost use Rattle.sccs_history.specs.Applied.{live_serials};
 ghost use Rattle.sccs_history.specs.History.{HasSpelling, IsSpelled, IsTable, lives};
 ghost use Rattle.sccs_history.specs.Numbers.{has};
-ghost use Rattle.sccs_pending.specs.PFiles.{Answers, Passes};
+ghost use Rattle.sccs_pending.specs.PFiles.{Answers, PassesCheck};
 ghost use Rattle.sccs_pfile.specs.Entries.{IsEdit};
 ghost use Rattle.sccs_sets.specs.Made.{to_be_made};
 ghost use Rattle.sccs_steps.specs.Actions.{RefusesWithin};
-ghost use Rattle.sccs_get.specs.NewEntry.{AreEditValues, edit_checks, free_sid, is_got, new_edit, new_entry, release_asked, release_checks, release_made, released, reserved, sid_checks, singles};
+ghost use Rattle.sccs_get.specs.NewEntry.{AreEditValues, edit_checks, free_sid, is_got, new_edit, new_entry, release_asked, release_checks, release_made, edit_releases, reserved, sid_checks, singles};
 ghost use Rattle.sccs_get.specs.AskedVersion.{spec_asked};
 
 use crate::targets::{Asked, asked_of};
@@ -35,9 +35,9 @@ fn release_made(got: Sid, made: Option<Sid>) -> u16
 }
 
 // whether the releases may be got and made
-#[tactic(auto, unfolding(crate::specs::NewEntry::released))]
+#[tactic(auto, unfolding(crate::specs::NewEntry::edit_releases))]
 fn check_releases(header: &Header, got: Sid, made: Option<Sid>) -> Result<(), StepFault>
-    ensures value { Passes (released header.now got made) result }
+    ensures value { PassesCheck (edit_releases header.now got made) result }
     ensures checks { RefusesWithin release_checks result }
     ensures memory { result ≢ Err faults.Memory }
     ensures broke { result ≢ Err faults.DiskFault }
@@ -76,10 +76,7 @@ fn free_sid(
     ensures memory { result ≢ Err faults.Memory }
     ensures broke { result ≢ Err faults.DiskFault }
 {
-    match check_releases(header, got, made) {
-        Ok(()) => {}
-        Err(fault) => return Err(fault),
-    }
+    check_releases(header, got, made)?;
     if !has_flag(header, b'j') {
         if is_got(edits.items(), got) {
             return Err(StepFault::Refused(Refusal::BeingEdited));
@@ -217,18 +214,12 @@ pub fn new_entry(
     if !is_allowed(header, &stamp.login) {
         return Err(StepFault::Refused(Refusal::NotAllowed));
     }
-    let asked = match asked_of(alloc, header, words) {
-        Ok(asked) => asked,
-        Err(fault) => return Err(fault),
-    };
+    let asked = asked_of(alloc, header, words)?;
     let got = sid_at(header.records.items(), asked.target);
     let Ok(made) = made_of(alloc, header, edits, words, asked.target) else {
         return Err(StepFault::Memory);
     };
-    let made = match free_sid(header, edits, in_the_way, got, made) {
-        Ok(made) => made,
-        Err(fault) => return Err(fault),
-    };
+    let made = free_sid(header, edits, in_the_way, got, made)?;
     match entry(alloc, header, &asked, stamp, got, made) {
         Ok(edit) => Ok(edit),
         Err(_) => Err(StepFault::Memory),

@@ -3,7 +3,7 @@ ghost use Rattle.std.specs.Option.{option_copied};
 ghost use Rattle.sccs_tokens.specs.Written.{ended};
 ghost use Rattle.sccs_sid.specs.Sid.{sid_text};
 ghost use Rattle.sccs_get.specs.VersionStep.{report_on};
-ghost use Rattle.sccs_get.specs.Reports.{get_report, get_warning, lines_text, listed_text, made_text, replaces, said_on_err, said_on_out, sid_lines};
+ghost use Rattle.sccs_get.specs.Reports.{get_report, get_warning, line_count_text, listed_text, new_sid_text, replaces_keywords, said_on_err, said_on_out, sid_lines};
 
 use crate::found::Found;
 use itoa::Buffer;
@@ -69,7 +69,7 @@ fn add_lists(
 
 // adds the SID that is to be made, where there is one
 fn add_made(made: Option<Sid>, report: &mut Vec<u8>) -> Result<(), Memory>
-    ensures { OnOk result (report.new.items ≡ report.old.items ++ made_text made) }
+    ensures { OnOk result (report.new.items ≡ report.old.items ++ new_sid_text made) }
 {
     match made {
         Some(made) => {
@@ -82,7 +82,7 @@ fn add_made(made: Option<Sid>, report: &mut Vec<u8>) -> Result<(), Memory>
 
 // adds the number of lines, where there is a text
 fn add_lines(no_text: bool, lines: u64, report: &mut Vec<u8>) -> Result<(), Memory>
-    ensures { OnOk result (report.new.items ≡ report.old.items ++ lines_text no_text lines) }
+    ensures { OnOk result (report.new.items ≡ report.old.items ++ line_count_text no_text lines) }
 {
     if !no_text {
         let mut digits = Buffer::new();
@@ -120,7 +120,7 @@ pub fn get_report(
 
 /// Whether keywords are replaced: without -k, -e and -g.
 pub fn replaces(words: &GetWords) -> bool
-    ensures { result ≡ replaces words.now }
+    ensures { result ≡ replaces_keywords words.now }
 {
     !(words.keep || words.edit || words.no_text)
 }

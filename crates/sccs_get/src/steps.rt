@@ -78,22 +78,10 @@ fn ready<O: Sink, D: Disk>(
         Err(fault) => return Err(StepFault::from(fault)),
     };
     let header = &front.header;
-    let found = match find_version(alloc, get.words, get.stamp, get.place, name, header) {
-        Ok(found) => found,
-        Err(fault) => return Err(fault),
-    };
-    match check_keywords(alloc, get.words, name, &front, &found, disk) {
-        Ok(()) => {}
-        Err(fault) => return Err(fault),
-    }
-    match check_g(get.words, name, disk) {
-        Ok(()) => {}
-        Err(fault) => return Err(fault),
-    }
-    let shown = match give_version(alloc, get.words, name, &front, &found, out, disk) {
-        Ok(shown) => shown,
-        Err(fault) => return Err(fault),
-    };
+    let found = find_version(alloc, get.words, get.stamp, get.place, name, header)?;
+    check_keywords(alloc, get.words, name, &front, &found, disk)?;
+    check_g(get.words, name, disk)?;
+    let shown = give_version(alloc, get.words, name, &front, &found, out, disk)?;
     match said(alloc, get.words, get.heading, name, &found, None, shown) {
         Ok(said) => Ok(Prepared {
             new_s: false,
@@ -148,10 +136,8 @@ fn finish<O: Sink, E: Sink, D: Disk>(
     ensures causes { (input : ℕ) → StepCauses result
         (counts input (O.faults out.old) (E.faults err.old) (D.faults disk.old)) (counts input (O.faults out.new) (E.faults err.new) (D.faults disk.new)) }
 {
-    match place(words, name, disk) {
-        Ok(()) => report(prepared, out, err),
-        Err(fault) => Err(fault),
-    }
+    place(words, name, disk)?;
+    report(prepared, out, err)
 }
 
 // takes away the y-file, where one was made, and answers why get gave up; after a disk fault recovery does that

@@ -1,5 +1,7 @@
+pub mod Chains
 pub mod EntryChanges
 pub mod EntryLaws
 pub mod PendingLaws
+pub mod PendingReads
 pub mod StopLaws
 pub mod Warnings

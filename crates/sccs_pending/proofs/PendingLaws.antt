@@ -23,7 +23,7 @@ use Rattle.sccs_steps.specs.StepEffects.{check}
 use Rattle.sccs_pfile.specs.Agreement.{first_disagreeing}
 use Rattle.sccs_pfile.specs.Reading.{edits_of}
 use Rattle.sccs_pfile.specs.declared.entries.Edit.{Edit}
-use Rattle.sccs_pending.specs.PFiles.{Answers, Passes, bytes_or_none, entries_of, is_short, or_bad_pfile, short_bytes}
+use Rattle.sccs_pending.specs.PFiles.{Answers, PassesCheck, bytes_or_none, entries_of, is_short, or_bad_pfile, short_bytes}
 use Rattle.sccs_pending.specs.Pending.{AnswersPending, Found, agreeing, bytes_at, pending_of, sized}
 use Rattle.sccs_pending.specs.declared.pending.Pending.{Pending}
 
@@ -101,7 +101,7 @@ sizes_pass s p bytes is short =
 
 -- ---- as the code goes
 
-pub size_ends : (o : Option View) (n k : List ℕ) (fault : StepFault) → IfSome o (λ (v : View). Passes (sized (v n)) (Err fault)) → IfSome o (λ (v : View). AnswersPending (v n) (v k) (Err fault))
+pub size_ends : (o : Option View) (n k : List ℕ) (fault : StepFault) → IfSome o (λ (v : View). PassesCheck (sized (v n)) (Err fault)) → IfSome o (λ (v : View). AnswersPending (v n) (v k) (Err fault))
 size_ends None n k fault passes = tt
 size_ends (Some v) n k (step.Refused refusal) passes = size_refused (v n) (v k) refusal passes
 size_ends (Some v) n k step.Memory passes = tt
@@ -109,7 +109,7 @@ size_ends (Some v) n k step.DiskFault passes = tt
 size_ends (Some v) n k step.ReadFault passes = passes
 size_ends (Some v) n k step.WriteFault passes = passes
 
-pub p_ends : (o o2 : Option View) (n k : List ℕ) (fault : StepFault) → o2 ≡ o → IfSome o (λ (v : View). Passes (sized (v n)) (Ok tt)) → IfSome o2 (λ (v : View). Answers {A = List ℕ} (short_bytes (v k)) (Err fault)) → IfSome o (λ (v : View). AnswersPending (v n) (v k) (Err fault))
+pub p_ends : (o o2 : Option View) (n k : List ℕ) (fault : StepFault) → o2 ≡ o → IfSome o (λ (v : View). PassesCheck (sized (v n)) (Ok tt)) → IfSome o2 (λ (v : View). Answers {A = List ℕ} (short_bytes (v k)) (Err fault)) → IfSome o (λ (v : View). AnswersPending (v n) (v k) (Err fault))
 p_ends o o2 n k fault same passes answers = by o passes (subst (λ (x : Option View). IfSome x (λ (v : View). Answers {A = List ℕ} (short_bytes (v k)) (Err fault))) same answers)
   where
     at : (v : View) (f : StepFault) → sized (v n) ≡ Ok true → Answers {A = List ℕ} (short_bytes (v k)) (Err f) → AnswersPending (v n) (v k) (Err f)
@@ -119,7 +119,7 @@ p_ends o o2 n k fault same passes answers = by o passes (subst (λ (x : Option V
     at v step.ReadFault is answers = answers
     at v step.WriteFault is answers = answers
 
-    by : (x : Option View) → IfSome x (λ (v : View). Passes (sized (v n)) (Ok tt)) → IfSome x (λ (v : View). Answers {A = List ℕ} (short_bytes (v k)) (Err fault)) → IfSome x (λ (v : View). AnswersPending (v n) (v k) (Err fault))
+    by : (x : Option View) → IfSome x (λ (v : View). PassesCheck (sized (v n)) (Ok tt)) → IfSome x (λ (v : View). Answers {A = List ℕ} (short_bytes (v k)) (Err fault)) → IfSome x (λ (v : View). AnswersPending (v n) (v k) (Err fault))
     by None passes answers = tt
     by (Some v) passes answers = at v fault passes answers
 
@@ -127,10 +127,10 @@ p_ends o o2 n k fault same passes answers = by o passes (subst (λ (x : Option V
 abbrev pub HasSizes : Option View → List ℕ → List ℕ → List ℕ → Type 0
 HasSizes o n k bytes = IfSome o (λ (v : View). (sized (v n) ≡ Ok true) × (short_bytes (v k) ≡ Ok bytes))
 
-pub both_sized : (o o2 : Option View) (n k bytes : List ℕ) → o2 ≡ o → IfSome o (λ (v : View). Passes (sized (v n)) (Ok tt)) → IfSome o2 (λ (v : View). Answers (short_bytes (v k)) (Ok bytes)) → HasSizes o n k bytes
+pub both_sized : (o o2 : Option View) (n k bytes : List ℕ) → o2 ≡ o → IfSome o (λ (v : View). PassesCheck (sized (v n)) (Ok tt)) → IfSome o2 (λ (v : View). Answers (short_bytes (v k)) (Ok bytes)) → HasSizes o n k bytes
 both_sized o o2 n k bytes same passes answers = by o passes (subst (λ (x : Option View). IfSome x (λ (v : View). Answers (short_bytes (v k)) (Ok bytes))) same answers)
   where
-    by : (x : Option View) → IfSome x (λ (v : View). Passes (sized (v n)) (Ok tt)) → IfSome x (λ (v : View). Answers (short_bytes (v k)) (Ok bytes)) → HasSizes x n k bytes
+    by : (x : Option View) → IfSome x (λ (v : View). PassesCheck (sized (v n)) (Ok tt)) → IfSome x (λ (v : View). Answers (short_bytes (v k)) (Ok bytes)) → HasSizes x n k bytes
     by None passes answers = tt
     by (Some v) passes answers = (passes, answers)
 
@@ -193,7 +193,7 @@ edits_found : (v : View) (n k bytes : List ℕ) (front : Front) (edits : List Ed
 edits_found v n k bytes front edits r file read agrees =
     file.2 ∙ (ap (from_edits file.0) read ∙ ap (from_agreeing file.0 edits) (ap (λ h. agreeing (first_disagreeing h.records edits)) (sym (shown_header (bytes_at (v n)) file.0 front file.1)) ∙ agrees))
 
-pub agreement_ends : (o : Option View) (n k bytes : List ℕ) (front : Front) (edits : List Edit) (fault : StepFault) → HasFile o n k bytes front → Answers (or_bad_pfile (edits_of bytes)) (Ok edits) → Passes (agreeing (first_disagreeing front.header.records edits)) (Err fault)
+pub agreement_ends : (o : Option View) (n k bytes : List ℕ) (front : Front) (edits : List Edit) (fault : StepFault) → HasFile o n k bytes front → Answers (or_bad_pfile (edits_of bytes)) (Ok edits) → PassesCheck (agreeing (first_disagreeing front.header.records edits)) (Err fault)
     → IfSome o (λ (v : View). AnswersPending (v n) (v k) (Err fault))
 agreement_ends None n k bytes front edits fault file answers passes = tt
 agreement_ends (Some v) n k bytes front edits (step.Refused refusal) file answers passes = edits_found v n k bytes front edits (Err refusal) file answers passes

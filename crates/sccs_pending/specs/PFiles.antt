@@ -43,17 +43,24 @@ Answers found (Err ReadFault) = ⊥
 Answers found (Err WriteFault) = ⊥
 
 -- the same of a check
-abbrev pub Passes : Result Bool Refusal → Result (Unit {0}) StepFault → Type 0
-Passes found (Ok done) = found ≡ Ok true
-Passes found (Err (Refused refusal)) = found ≡ Err refusal
-Passes found (Err Memory) = Unit {0}
-Passes found (Err DiskFault) = Unit {0}
-Passes found (Err ReadFault) = ⊥
-Passes found (Err WriteFault) = ⊥
+abbrev pub PassesCheck : Result Bool Refusal → Result (Unit {0}) StepFault → Type 0
+PassesCheck found (Ok done) = found ≡ Ok true
+PassesCheck found (Err (Refused refusal)) = found ≡ Err refusal
+PassesCheck found (Err Memory) = Unit {0}
+PassesCheck found (Err DiskFault) = Unit {0}
+PassesCheck found (Err ReadFault) = ⊥
+PassesCheck found (Err WriteFault) = ⊥
 
 -- A call of a step that only reads a disk.
 pub record OnlyReads {D T : Type 0} (told : D → Told) (faults : D → ℕ) (disk disk2 : D) (result : Result T StepFault) : Type 0 where
   pub same : told disk2 ≡ told disk
+  pub later : faults disk ≤ faults disk2
+  pub cause : result ≡ Err DiskFault → Rose (faults disk) (faults disk2)
+  pub read : result ≢ Err ReadFault
+  pub write : result ≢ Err WriteFault
+
+-- A call of a step that changes a disk: it fails only where that did.
+pub record ChangesDisk {D T : Type 0} (faults : D → ℕ) (disk disk2 : D) (result : Result T StepFault) : Type 0 where
   pub later : faults disk ≤ faults disk2
   pub cause : result ≡ Err DiskFault → Rose (faults disk) (faults disk2)
   pub read : result ≢ Err ReadFault

@@ -34,8 +34,6 @@ pub fn prepare_entries<D: Disk>(
     if edits.len() == 0 {
         return Ok(NewP::Remove);
     }
-    match prepare_p(edits, disk, name) {
-        Ok(()) => Ok(NewP::Replace),
-        Err(fault) => Err(fault),
-    }
+    prepare_p(edits, disk, name)?;
+    Ok(NewP::Replace)
 }

@@ -8,7 +8,7 @@ ghost use Rattle.sccs_pfile.specs.Entries.{IsEdit};
 ghost use Rattle.sccs_sid.specs.declared.refusals.StepFault.TheVariants as faults;
 ghost use Rattle.sccs_steps.specs.Actions.{RefusesWithin};
 ghost use Rattle.sccs_table.specs.FrontFile.{IsPlaced};
-ghost use Rattle.sccs_pending.specs.PFiles.{OnlyReads, Passes};
+ghost use Rattle.sccs_pending.specs.PFiles.{OnlyReads, PassesCheck};
 ghost use Rattle.sccs_pending.specs.Pending.{AnswersPending, agreeing, agreement_checks, pending_checks, sfile_size_checks, sized};
 
 use crate::pfiles::{entries, read_p};
@@ -30,7 +30,7 @@ pub struct Pending {
 
 // whether the s-file is there, and not too long
 fn check_size<D: Disk>(disk: &mut D, name: &Name) -> Result<(), StepFault>
-    ensures told { IfSome (seen (D.told disk.old)) (λ (v : View). Passes (sized (v name.now)) result) }
+    ensures told { IfSome (seen (D.told disk.old)) (λ (v : View). PassesCheck (sized (v name.now)) result) }
     ensures checks { RefusesWithin sfile_size_checks result }
     ensures frame { OnlyReads D.told D.faults disk.old disk.new result }
 {
@@ -49,7 +49,7 @@ fn check_size<D: Disk>(disk: &mut D, name: &Name) -> Result<(), StepFault>
 
 // whether the entries agree with the table
 fn check_agreement(alloc: Global, header: &Header, edits: &Edits) -> Result<(), StepFault>
-    ensures value { Passes (agreeing (first_disagreeing header.now.records edits.now)) result }
+    ensures value { PassesCheck (agreeing (first_disagreeing header.now.records edits.now)) result }
     ensures agrees { IfOk result (λ _. Agrees header.now.records edits.now) }
     ensures checks { RefusesWithin agreement_checks result }
     ensures fault { result ≢ Err faults.Memory }
@@ -75,24 +75,13 @@ pub fn read_pending<D: Disk>(alloc: Global, disk: &mut D, name: &Name) -> Result
     ensures checks { RefusesWithin pending_checks result }
     ensures frame { OnlyReads D.told D.faults disk.old disk.new result }
 {
-    match check_size(disk, name) {
-        Ok(()) => {}
-        Err(fault) => return Err(fault),
-    }
-    let bytes = match read_p(alloc, disk, name) {
-        Ok(bytes) => bytes,
-        Err(fault) => return Err(fault),
-    };
+    check_size(disk, name)?;
+    let bytes = read_p(alloc, disk, name)?;
     let front = match inspect(alloc, disk, name) {
         Ok(front) => front,
         Err(fault) => return Err(StepFault::from(fault)),
     };
-    let edits = match entries(alloc, bytes.bytes()) {
-        Ok(edits) => edits,
-        Err(fault) => return Err(fault),
-    };
-    match check_agreement(alloc, &front.header, &edits) {
-        Ok(()) => Ok(Pending { front, edits }),
-        Err(fault) => Err(fault),
-    }
+    let edits = entries(alloc, bytes.bytes())?;
+    check_agreement(alloc, &front.header, &edits)?;
+    Ok(Pending { front, edits })
 }

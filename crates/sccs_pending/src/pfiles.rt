@@ -67,8 +67,6 @@ pub fn read_pfile<D: Disk>(alloc: Global, disk: &mut D, name: &Name) -> Result<E
     ensures checks { RefusesWithin pfile_checks result }
     ensures frame { OnlyReads D.told D.faults disk.old disk.new result }
 {
-    match read_p(alloc, disk, name) {
-        Ok(bytes) => entries(alloc, bytes.bytes()),
-        Err(fault) => Err(fault),
-    }
+    let bytes = read_p(alloc, disk, name)?;
+    entries(alloc, bytes.bytes())
 }

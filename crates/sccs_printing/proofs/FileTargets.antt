@@ -13,7 +13,7 @@ use Rattle.sccs_sid.specs.declared.refusals.StepFault.TheVariants.{Refused}
 use Rattle.sccs_steps.specs.Causes.{PrintCauses}
 use Rattle.sccs_table.specs.ReaderState.{bytes_in}
 use Rattle.sccs_writers.specs.Puts.{Puts, Writer}
-use Rattle.sccs_printing.specs.Targets.{Cuts, KeepsMark, SparesSink, file_of, got, held_back, mark_in, writing_fault}
+use Rattle.sccs_printing.specs.Targets.{Cuts, KeepsTargetMark, SparesSink, file_of, target_bytes, held_back, mark_in, writing_fault}
 use Rattle.sccs_printing.specs.declared.targets.Target.{Target}
 use Rattle.sccs_printing.specs.declared.targets.Target.TheVariants.{ToFile}
 
@@ -44,11 +44,11 @@ puts_buffers text w w2 a b puts = record {
 
 -- ---- as a target
 
-pub file_given : (t : Target) (text : List ℕ) (w w2 : Writer) (out : Option (List ℕ)) (a b : Told) → t ≡ ToFile w → Puts text w w2 a b → Buffers (held_back t) text w2.held (got (file_of t) out a) (got (file_of t) out b)
-file_given t text w w2 out a b is puts = subst (λ t. Buffers (held_back t) text w2.held (got (file_of t) out a) (got (file_of t) out b)) (sym is) (puts_buffers text w w2 a b puts)
+pub file_given : (t : Target) (text : List ℕ) (w w2 : Writer) (out : Option (List ℕ)) (a b : Told) → t ≡ ToFile w → Puts text w w2 a b → Buffers (held_back t) text w2.held (target_bytes (file_of t) out a) (target_bytes (file_of t) out b)
+file_given t text w w2 out a b is puts = subst (λ t. Buffers (held_back t) text w2.held (target_bytes (file_of t) out a) (target_bytes (file_of t) out b)) (sym is) (puts_buffers text w w2 a b puts)
 
-pub mark_kept : (t : Target) (text : List ℕ) (w w2 : Writer) (a b : Told) → t ≡ ToFile w → Puts text w w2 a b → KeepsMark (file_of t) a b
-mark_kept t text w w2 a b is puts = subst (λ t. KeepsMark (file_of t) a b) (sym is) (ap (λ o. mark_in o w.name) puts.file ∙ mark_appended w.name puts.added (seen a))
+pub mark_kept : (t : Target) (text : List ℕ) (w w2 : Writer) (a b : Told) → t ≡ ToFile w → Puts text w w2 a b → KeepsTargetMark (file_of t) a b
+mark_kept t text w w2 a b is puts = subst (λ t. KeepsTargetMark (file_of t) a b) (sym is) (ap (λ o. mark_in o w.name) puts.file ∙ mark_appended w.name puts.added (seen a))
 
 pub file_cut : (t : Target) (text held held2 : List ℕ) (w : Writer) (refusal : DiskRefusal) (fault : StepFault) (a b : Option (List ℕ)) → t ≡ ToFile w → fault ≡ writing_fault refusal → Cuts (file_of t) text fault held held2 a b
 file_cut t text held held2 w refusal fault a b is so = subst (λ t. Cuts (file_of t) text fault held held2 a b) (sym is) (subst (λ f. Cuts (Some w.name) text f held held2 a b) (sym so) (no_claim refusal))

@@ -24,9 +24,9 @@ use Rattle.sccs_versions.specs.Coming.{ComeFirst, ComesNext, Coming, GivesNext, 
 use Rattle.sccs_versions.specs.Place.{IsInserter, VersionPlace}
 use Rattle.sccs_versions.specs.WasRead.{HasRead, ReadsAll, ReadsOn, shown_before}
 use Rattle.sccs_weave.specs.declared.regions.Region.{Region}
-use Rattle.sccs_printing.specs.Counted.{counted}
-use Rattle.sccs_printing.specs.Giving.{CutsLines, Gave, GivesRun, KeepsForm, Moved, ReadSome, ReadWhole, form_in, text_next}
-use Rattle.sccs_printing.specs.Printing.{IsOuterFault}
+use Rattle.sccs_printing.specs.Counted.{with_lines}
+use Rattle.sccs_printing.specs.Giving.{CutsLines, Gave, GivesRun, KeepsForm, Moved, ReadSome, ReadWhole, giving_form, text_next}
+use Rattle.sccs_printing.specs.Printing.{IsFaultAroundPrint}
 use Rattle.sccs_printing.specs.Targets.{Cuts, file_of, held_back}
 use Rattle.sccs_printing.specs.declared.givings.Giving.{Giving}
 use Rattle.sccs_printing.specs.declared.shown.Shown.{Shown}
@@ -50,12 +50,12 @@ either_replaced (Some facts) xs ys = list_any-append (λ line. list_any is_keywo
 pub same_shown : (lines lines2 : ℕ) (keywords keywords2 : Bool) → lines ≡ lines2 → keywords ≡ keywords2 → ◌≡◌ {A = Shown} (record { lines = lines; keywords = keywords }) (record { lines = lines2; keywords = keywords2 })
 same_shown lines lines2 keywords keywords2 few some = cc
 
-counted_both : (form : LineForm) (s : Shown) (xs ys : List (List ℕ)) → counted form (counted form s xs) ys ≡ counted form s (xs ++ ys)
+counted_both : (form : LineForm) (s : Shown) (xs ys : List (List ℕ)) → with_lines form (with_lines form s xs) ys ≡ with_lines form s (xs ++ ys)
 counted_both form s xs ys =
     same_shown (s.lines + length xs + length ys) (s.lines + length (xs ++ ys)) ((s.keywords || replaces form xs) || replaces form ys) (s.keywords || replaces form (xs ++ ys))
     (omega (arith, length-append xs ys)) (sym (or_assoc s.keywords (replaces form xs) (replaces form ys)) ∙ ap (λ b. s.keywords || b) (sym (either_replaced form.facts xs ys)))
 
-counted_none : (form : LineForm) (s : Shown) → s ≡ counted form s []
+counted_none : (form : LineForm) (s : Shown) → s ≡ with_lines form s []
 counted_none form s = same_shown s.lines (s.lines + 0) s.keywords (s.keywords || replaces form []) (omega arith) (or_none s.keywords ∙ ap (λ b. s.keywords || b) (none form.facts))
   where
     none : (facts : Option Facts) → false ≡ if_replaced facts (has_keywords [])
@@ -63,14 +63,14 @@ counted_none form s = same_shown s.lines (s.lines + 0) s.keywords (s.keywords ||
     none (Some facts) = refl
 
 pub run_counted : (form : LineForm) (s s2 : Shown) (run : List ℕ) (many count : ℕ) (some : Bool) → s2 ≡ s → (cut run).tail ≡ [] → many ≡ lf_count run → count ≡ s.lines + many → some ≡ if_replaced form.facts (list_any is_keyword (parts run))
-    → ◌≡◌ {A = Shown} (record { lines = count; keywords = s2.keywords || some }) (counted form s (cut run).lines)
+    → ◌≡◌ {A = Shown} (record { lines = count; keywords = s2.keywords || some }) (with_lines form s (cut run).lines)
 run_counted form s s2 run many count some same whole many_is count_is some_is =
     same_shown count (s.lines + length (cut run).lines) (s2.keywords || some) (s.keywords || replaces form (cut run).lines)
     (count_is ∙ ap (λ n. s.lines + n) (many_is ∙ lines_are run))
     (ap (λ (o : Shown). o.keywords || some) same ∙ ap (λ b. s.keywords || b) (some_is ∙ ap (if_replaced form.facts) (run_keywords run whole)))
 
 pub line_counted : (form : LineForm) (s s2 : Shown) (line : List ℕ) (count : ℕ) (some : Bool) → s2 ≡ s → count ≡ s.lines + 1 → some ≡ if_replaced form.facts (list_any is_keyword (parts line))
-    → ◌≡◌ {A = Shown} (record { lines = count; keywords = s2.keywords || some }) (counted form s (line ∷ []))
+    → ◌≡◌ {A = Shown} (record { lines = count; keywords = s2.keywords || some }) (with_lines form s (line ∷ []))
 line_counted form s s2 line count some same count_is some_is =
     same_shown count (s.lines + 1) (s2.keywords || some) (s.keywords || replaces form (line ∷ [])) count_is
     (ap (λ (o : Shown). o.keywords || some) same ∙ ap (λ b. s.keywords || b) (some_is ∙ ap (if_replaced form.facts) (or_none (list_any is_keyword (parts line)))))
@@ -84,31 +84,31 @@ pub keeps_both : (g g2 g3 : Giving) → KeepsForm g g2 → KeepsForm g2 g3 → K
 keeps_both g g2 g3 one two = record { form = two.form ∙ one.form; sids = two.sids ∙ one.sids; file = two.file ∙ one.file }
 
 pub gave_none : (g : Giving) (a : Option (List ℕ)) → Gave [] g g a a
-gave_none g a = record { text = buffers_none (held_back g.target) a; shown = counted_none (form_in g) g.shown }
+gave_none g a = record { text = buffers_none (held_back g.target) a; shown = counted_none (giving_form g) g.shown }
 
 long : (lines : List HistoryLine) → length (texts lines) ≡ length lines
 long lines = length-map lines (λ (line : HistoryLine). line.text)
 
 -- the text of lines behind those that were given
-next_text : (g g2 : Giving) (xs ys : List HistoryLine) → KeepsForm g g2 → g2.shown ≡ counted (form_in g) g.shown (texts xs)
-    → text_next g2 ys ≡ formed_text (form_in g) g.sids (g.shown.lines + 1 + length xs) ys
+next_text : (g g2 : Giving) (xs ys : List HistoryLine) → KeepsForm g g2 → g2.shown ≡ with_lines (giving_form g) g.shown (texts xs)
+    → text_next g2 ys ≡ formed_text (giving_form g) g.sids (g.shown.lines + 1 + length xs) ys
 next_text g g2 xs ys keeps shown =
     ap (λ form. formed_text form g2.sids (g2.shown.lines + 1) ys) keeps.form
-    ∙ (ap (λ records. formed_text (form_in g) records (g2.shown.lines + 1) ys) keeps.sids
-    ∙ ap (λ n. formed_text (form_in g) g.sids n ys) further)
+    ∙ (ap (λ records. formed_text (giving_form g) records (g2.shown.lines + 1) ys) keeps.sids
+    ∙ ap (λ n. formed_text (giving_form g) g.sids n ys) further)
   where
     further : g2.shown.lines + 1 ≡ g.shown.lines + 1 + length xs
     further = let many = ap (λ (s : Shown). s.lines) shown in omega (arith, many, long xs)
 
 -- the text of lines, in two parts
-pub text_parts : (g g2 : Giving) (xs ys : List HistoryLine) → KeepsForm g g2 → g2.shown ≡ counted (form_in g) g.shown (texts xs) → text_next g (xs ++ ys) ≡ text_next g xs ++ text_next g2 ys
+pub text_parts : (g g2 : Giving) (xs ys : List HistoryLine) → KeepsForm g g2 → g2.shown ≡ with_lines (giving_form g) g.shown (texts xs) → text_next g (xs ++ ys) ≡ text_next g xs ++ text_next g2 ys
 text_parts g g2 xs ys keeps shown =
-    put_together (form_in g) g.sids (g.shown.lines + 1) xs ys ∙ ap (λ more. text_next g xs ++ more) (sym (next_text g g2 xs ys keeps shown))
+    put_together (giving_form g) g.sids (g.shown.lines + 1) xs ys ∙ ap (λ more. text_next g xs ++ more) (sym (next_text g g2 xs ys keeps shown))
 
-shown_parts : (g g2 g3 : Giving) (xs ys : List HistoryLine) → KeepsForm g g2 → g2.shown ≡ counted (form_in g) g.shown (texts xs) → g3.shown ≡ counted (form_in g2) g2.shown (texts ys) → g3.shown ≡ counted (form_in g) g.shown (texts (xs ++ ys))
+shown_parts : (g g2 g3 : Giving) (xs ys : List HistoryLine) → KeepsForm g g2 → g2.shown ≡ with_lines (giving_form g) g.shown (texts xs) → g3.shown ≡ with_lines (giving_form g2) g2.shown (texts ys) → g3.shown ≡ with_lines (giving_form g) g.shown (texts (xs ++ ys))
 shown_parts g g2 g3 xs ys keeps one two =
-    two ∙ (ap (λ form. counted form g2.shown (texts ys)) keeps.form ∙ (ap (λ s. counted (form_in g) s (texts ys)) one
-    ∙ (counted_both (form_in g) g.shown (texts xs) (texts ys) ∙ ap (λ all. counted (form_in g) g.shown all) (sym (map-append (λ (line : HistoryLine). line.text) xs ys)))))
+    two ∙ (ap (λ form. with_lines form g2.shown (texts ys)) keeps.form ∙ (ap (λ s. with_lines (giving_form g) s (texts ys)) one
+    ∙ (counted_both (giving_form g) g.shown (texts xs) (texts ys) ∙ ap (λ all. with_lines (giving_form g) g.shown all) (sym (map-append (λ (line : HistoryLine). line.text) xs ys)))))
 
 pub gave_both : (xs ys : List HistoryLine) (g g2 g3 : Giving) (a b c : Option (List ℕ)) → KeepsForm g g2 → Gave xs g g2 a b → Gave ys g2 g3 b c → Gave (xs ++ ys) g g3 a c
 gave_both xs ys g g2 g3 a b c keeps one two = record {
@@ -144,18 +144,18 @@ moved_cut file r lines fault g g2 g3 a b c keeps m cuts =
 -- ---- lines that one delta inserted
 
 -- their text, as it is formed
-pub text_formed : (g : Giving) (n : ℕ) (lines : List HistoryLine) (all : List (List ℕ)) → AllByRecursion (λ (line : HistoryLine). line.inserter ≡ n) lines → texts lines ≡ all → formed_lines (form_in g) g.sids (g.shown.lines + 1) n all ≡ text_next g lines
-text_formed g n lines all inserted are = ap (λ t. formed_lines (form_in g) g.sids (g.shown.lines + 1) n t) (sym are) ∙ sym (one_delta (form_in g) g.sids (g.shown.lines + 1) n lines inserted)
+pub text_formed : (g : Giving) (n : ℕ) (lines : List HistoryLine) (all : List (List ℕ)) → AllByRecursion (λ (line : HistoryLine). line.inserter ≡ n) lines → texts lines ≡ all → formed_lines (giving_form g) g.sids (g.shown.lines + 1) n all ≡ text_next g lines
+text_formed g n lines all inserted are = ap (λ t. formed_lines (giving_form g) g.sids (g.shown.lines + 1) n t) (sym are) ∙ sym (one_delta (giving_form g) g.sids (g.shown.lines + 1) n lines inserted)
 
 pub gave_formed : (g g2 : Giving) (n : ℕ) (lines : List HistoryLine) (all : List (List ℕ)) (a b : Option (List ℕ)) → AllByRecursion (λ (line : HistoryLine). line.inserter ≡ n) lines → texts lines ≡ all
-    → Buffers (held_back g.target) (formed_lines (form_in g) g.sids (g.shown.lines + 1) n all) (held_back g2.target) a b → g2.shown ≡ counted (form_in g) g.shown all → Gave lines g g2 a b
+    → Buffers (held_back g.target) (formed_lines (giving_form g) g.sids (g.shown.lines + 1) n all) (held_back g2.target) a b → g2.shown ≡ with_lines (giving_form g) g.shown all → Gave lines g g2 a b
 gave_formed g g2 n lines all a b inserted are gives shown = record {
   text = subst (λ text. Buffers (held_back g.target) text (held_back g2.target) a b) (text_formed g n lines all inserted are) gives;
-  shown = shown ∙ ap (λ t. counted (form_in g) g.shown t) (sym are);
+  shown = shown ∙ ap (λ t. with_lines (giving_form g) g.shown t) (sym are);
 }
 
 pub run_given : (file : List ℕ) (r r2 : VersionPlace) (run : List ℕ) (n : ℕ) (lines : List HistoryLine) (g g2 : Giving) (a b : Option (List ℕ)) → IsInserter r.regions n → ComeFirst file r r2 run lines
-    → Buffers (held_back g.target) (formed_lines (form_in g) g.sids (g.shown.lines + 1) n (cut run).lines) (held_back g2.target) a b → g2.shown ≡ counted (form_in g) g.shown (cut run).lines → Moved file r2 lines g g2 a b
+    → Buffers (held_back g.target) (formed_lines (giving_form g) g.sids (g.shown.lines + 1) n (cut run).lines) (held_back g2.target) a b → g2.shown ≡ with_lines (giving_form g) g.shown (cut run).lines → Moved file r2 lines g g2 a b
 run_given file r r2 run n lines g g2 a b is come gives shown = record {
   gone = come.stand.first;
   rest = come.stand.rest;
@@ -165,11 +165,11 @@ run_given file r r2 run n lines g g2 a b is come gives shown = record {
 }
 
 pub run_cut : (r : VersionPlace) (run : List ℕ) (n : ℕ) (lines : List HistoryLine) (fault : StepFault) (g g2 : Giving) (a b : Option (List ℕ)) → IsInserter r.regions n → StandFirst r run lines
-    → Cuts (file_of g.target) (formed_lines (form_in g) g.sids (g.shown.lines + 1) n (cut run).lines) fault (held_back g.target) (held_back g2.target) a b → CutsLines lines fault g g2 a b
+    → Cuts (file_of g.target) (formed_lines (giving_form g) g.sids (g.shown.lines + 1) n (cut run).lines) fault (held_back g.target) (held_back g2.target) a b → CutsLines lines fault g g2 a b
 run_cut r run n lines fault g g2 a b is stand cuts =
     subst (λ all. CutsLines all fault g g2 a b) (sym stand.whole)
-    (subst (λ text. Cuts (file_of g.target) text fault (held_back g.target) (held_back g2.target) a b) (sym (put_together (form_in g) g.sids (g.shown.lines + 1) stand.first stand.rest))
-    (cuts_longer (file_of g.target) fault (text_next g stand.first) (formed_text (form_in g) g.sids (g.shown.lines + 1 + length stand.first) stand.rest) (held_back g.target) (held_back g2.target) a b
+    (subst (λ text. Cuts (file_of g.target) text fault (held_back g.target) (held_back g2.target) a b) (sym (put_together (giving_form g) g.sids (g.shown.lines + 1) stand.first stand.rest))
+    (cuts_longer (file_of g.target) fault (text_next g stand.first) (formed_text (giving_form g) g.sids (g.shown.lines + 1 + length stand.first) stand.rest) (held_back g.target) (held_back g2.target) a b
     (subst (λ text. Cuts (file_of g.target) text fault (held_back g.target) (held_back g2.target) a b) (text_formed g n stand.first (cut run).lines (stand.inserted n is) stand.lines_are) cuts)))
 
 -- the fault of a call that was left by `?`
@@ -181,7 +181,7 @@ run_left file r lines fault q g g2 a b left cuts =
 -- ---- one line
 
 pub next_given : (file : List ℕ) (r : VersionPlace) (text : List ℕ) (n : ℕ) (lines : List HistoryLine) (g g2 : Giving) (a b : Option (List ℕ)) → IsInserter r.regions n → ComesNext file r text lines
-    → Buffers (held_back g.target) (formed_lines (form_in g) g.sids (g.shown.lines + 1) n (text ∷ [])) (held_back g2.target) a b → g2.shown ≡ counted (form_in g) g.shown (text ∷ []) → Moved file r lines g g2 a b
+    → Buffers (held_back g.target) (formed_lines (giving_form g) g.sids (g.shown.lines + 1) n (text ∷ [])) (held_back g2.target) a b → g2.shown ≡ with_lines (giving_form g) g.shown (text ∷ []) → Moved file r lines g g2 a b
 next_given file r text n lines g g2 a b is come gives shown = record {
   gone = come.line ∷ [];
   rest = come.rest;
@@ -191,18 +191,18 @@ next_given file r text n lines g g2 a b is come gives shown = record {
 }
 
 pub next_cut : (file : List ℕ) (r : VersionPlace) (text : List ℕ) (n : ℕ) (lines : List HistoryLine) (fault : StepFault) (g g2 : Giving) (a b : Option (List ℕ)) → IsInserter r.regions n → ComesNext file r text lines
-    → Cuts (file_of g.target) (formed_lines (form_in g) g.sids (g.shown.lines + 1) n (text ∷ [])) fault (held_back g.target) (held_back g2.target) a b → CutsLines lines fault g g2 a b
+    → Cuts (file_of g.target) (formed_lines (giving_form g) g.sids (g.shown.lines + 1) n (text ∷ [])) fault (held_back g.target) (held_back g2.target) a b → CutsLines lines fault g g2 a b
 next_cut file r text n lines fault g g2 a b is come cuts =
     subst (λ all. CutsLines all fault g g2 a b) (sym come.whole)
-    (subst (λ t. Cuts (file_of g.target) t fault (held_back g.target) (held_back g2.target) a b) (sym (put_together (form_in g) g.sids (g.shown.lines + 1) (come.line ∷ []) come.rest))
-    (cuts_longer (file_of g.target) fault (text_next g (come.line ∷ [])) (formed_text (form_in g) g.sids (g.shown.lines + 1 + 1) come.rest) (held_back g.target) (held_back g2.target) a b
+    (subst (λ t. Cuts (file_of g.target) t fault (held_back g.target) (held_back g2.target) a b) (sym (put_together (giving_form g) g.sids (g.shown.lines + 1) (come.line ∷ []) come.rest))
+    (cuts_longer (file_of g.target) fault (text_next g (come.line ∷ [])) (formed_text (giving_form g) g.sids (g.shown.lines + 1 + 1) come.rest) (held_back g.target) (held_back g2.target) a b
     (subst (λ t. Cuts (file_of g.target) t fault (held_back g.target) (held_back g2.target) a b) (text_formed g n (come.line ∷ []) (text ∷ []) (come.inserted n is, tt) (ap (λ t. t ∷ []) come.text_is)) cuts)))
 
 pub none_next : (lines : List HistoryLine) (g : Giving) (a : Option (List ℕ)) → lines ≡ [] → Gave lines g g a a
 none_next lines g a none = subst (λ (ls : List HistoryLine). Gave ls g g a a) (sym none) (gave_none g a)
 
 -- over a told body only the disk or memory can end it
-pub next_fault : (file : List ℕ) (r : VersionPlace) (lines : List HistoryLine) (fault : FileFault) → GivesNext file r lines (Err fault) → IsOuterFault (file_fault fault)
+pub next_fault : (file : List ℕ) (r : VersionPlace) (lines : List HistoryLine) (fault : FileFault) → GivesNext file r lines (Err fault) → IsFaultAroundPrint (file_fault fault)
 next_fault file r lines faults.Failed given = tt
 next_fault file r lines faults.Memory given = tt
 next_fault file r lines (faults.BadFormat line) given = absurd given
@@ -215,7 +215,7 @@ next_fault file r lines (faults.Changed a b c d) given = absurd given
 
 pub fault_cut : (file : List ℕ) (r : VersionPlace) (lines : List HistoryLine) (fault : FileFault) (ended : StepFault) (g : Giving) (a : Option (List ℕ)) → ended ≡ file_fault fault → GivesNext file r lines (Err fault) → CutsLines lines ended g g a a
 fault_cut file r lines fault ended g a is given =
-    uncut (file_of g.target) ended (text_next g lines) (held_back g.target) a (subst IsOuterFault (sym is) (next_fault file r lines fault given))
+    uncut (file_of g.target) ended (text_next g lines) (held_back g.target) a (subst IsFaultAroundPrint (sym is) (next_fault file r lines fault given))
 
 -- ---- over any disk
 
@@ -223,7 +223,7 @@ pub some_none : (live : List ℕ) (r : VersionPlace) (before : List Item) (g : G
 some_none live r before g a h = record { items = before; read = h; gone = []; whole = sym (append-nil (shown_before r.set before)); gave = gave_none g a }
 
 pub some_read : (live : List ℕ) (r : VersionPlace) (regions : List Region) (before : List Item) (n : ℕ) (all : List (List ℕ)) (g g2 : Giving) (a b : Option (List ℕ)) → IsInserter regions n → ReadsOn live r regions before all
-    → Buffers (held_back g.target) (formed_lines (form_in g) g.sids (g.shown.lines + 1) n all) (held_back g2.target) a b → g2.shown ≡ counted (form_in g) g.shown all → ReadSome live r before g g2 a b
+    → Buffers (held_back g.target) (formed_lines (giving_form g) g.sids (g.shown.lines + 1) n all) (held_back g2.target) a b → g2.shown ≡ with_lines (giving_form g) g.shown all → ReadSome live r before g g2 a b
 some_read live r regions before n all g g2 a b is on gives shown = record {
   items = on.items;
   read = on.read;

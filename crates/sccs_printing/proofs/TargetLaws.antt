@@ -6,7 +6,7 @@ use Rattle.sccs_base.specs.Stream.{Buffers, GivesOk, GivesSome}
 use Rattle.sccs_base.proofs.Gifts.{buffers_both, buffers_cut, buffers_flushed, buffers_none, buffers_then, some_longer, some_none, some_of_whole}
 use Rattle.sccs_sid.specs.declared.refusals.StepFault.{StepFault}
 use Rattle.sccs_sid.specs.declared.refusals.StepFault.TheVariants.{Refused, Memory, ReadFault, WriteFault, DiskFault}
-use Rattle.sccs_printing.specs.Printing.{IsOuterFault}
+use Rattle.sccs_printing.specs.Printing.{IsFaultAroundPrint}
 use Rattle.sccs_printing.specs.Targets.{Cuts, GivesTo, IsCut, PartGiven}
 
 -- ---- a text that is cut
@@ -26,7 +26,7 @@ part_then gone rest held mid held2 a b c first part = (
 )
 
 -- nothing was given yet where the disk failed, or there was no memory
-pub uncut : (file : Option (List ℕ)) (fault : StepFault) (text held : List ℕ) (a : Option (List ℕ)) → IsOuterFault fault → Cuts file text fault held held a a
+pub uncut : (file : Option (List ℕ)) (fault : StepFault) (text held : List ℕ) (a : Option (List ℕ)) → IsFaultAroundPrint fault → Cuts file text fault held held a a
 uncut None Memory text held a outer = nothing_given text held a
 uncut None DiskFault text held a outer = nothing_given text held a
 uncut (Some n) Memory text held a outer = tt
@@ -108,7 +108,7 @@ cut_before_flush file q text mid left ReadFault a b c cuts flush = absurd cuts
 cut_before_flush file q text mid left (Refused refusal) a b c cuts flush = absurd cuts
 
 -- nothing was given
-pub silent : (file : Option (List ℕ)) (text : List ℕ) (fault : StepFault) (a : Option (List ℕ)) → IsOuterFault fault → IsCut file text fault a a
+pub silent : (file : Option (List ℕ)) (text : List ℕ) (fault : StepFault) (a : Option (List ℕ)) → IsFaultAroundPrint fault → IsCut file text fault a a
 silent None text Memory a outer = some_none a text
 silent None text DiskFault a outer = some_none a text
 silent (Some n) text Memory a outer = tt

@@ -14,8 +14,8 @@ use Rattle.sccs_table.specs.declared.fronts.Front.{Front}
 use Rattle.sccs_versions.specs.Coming.{IsBody}
 use Rattle.sccs_versions.specs.Place.{VersionPlace}
 use Rattle.sccs_writers.proofs.OneFile.{only_both, only_none}
-use Rattle.sccs_printing.specs.Giving.{CutsLines, Gave, KeepsForm, Moved, ReadSome, ReadWhole, form_in}
-use Rattle.sccs_printing.specs.Targets.{CanTake, IsApart, KeepsMark, Reaches, file_of, got}
+use Rattle.sccs_printing.specs.Giving.{CutsLines, Gave, KeepsForm, Moved, ReadSome, ReadWhole, giving_form}
+use Rattle.sccs_printing.specs.Targets.{CanTake, IsApart, KeepsTargetMark, Reaches, file_of, target_bytes}
 use Rattle.sccs_printing.specs.declared.givings.Giving.{Giving}
 use Rattle.sccs_printing.proofs.GivingLaws.{moved_both, moved_cut, moved_end, read_both, read_end}
 
@@ -29,11 +29,11 @@ pub reaches_both : (file : Option (List ℕ)) (o o2 o3 : Option (List ℕ)) (t t
 reaches_both None o o2 o3 t t2 t3 one two = two ∙ one
 reaches_both (Some n) o o2 o3 t t2 t3 one two = (two.0 ∙ one.0, only_both n t t2 t3 one.1 two.1)
 
-pub mark_none : (file : Option (List ℕ)) (t : Told) → KeepsMark file t t
+pub mark_none : (file : Option (List ℕ)) (t : Told) → KeepsTargetMark file t t
 mark_none None t = tt
 mark_none (Some n) t = refl
 
-pub mark_both : (file : Option (List ℕ)) (t t2 t3 : Told) → KeepsMark file t t2 → KeepsMark file t2 t3 → KeepsMark file t t3
+pub mark_both : (file : Option (List ℕ)) (t t2 t3 : Told) → KeepsTargetMark file t t2 → KeepsTargetMark file t2 t3 → KeepsTargetMark file t t3
 mark_both None t t2 t3 one two = tt
 mark_both (Some n) t t2 t3 one two = two ∙ one
 
@@ -61,31 +61,31 @@ module _ (g g2 : Giving) (keeps : KeepsForm g g2) where
   pub reach_on : (o o2 o3 : Option (List ℕ)) (t t2 t3 : Told) → Reaches (file_of g.target) o o2 t t2 → Reaches (file_of g2.target) o2 o3 t2 t3 → Reaches (file_of g.target) o o3 t t3
   reach_on o o2 o3 t t2 t3 one two = reaches_both (file_of g.target) o o2 o3 t t2 t3 one (subst (λ f. Reaches f o2 o3 t2 t3) keeps.file two)
 
-  pub mark_on : (t t2 t3 : Told) → KeepsMark (file_of g.target) t t2 → KeepsMark (file_of g2.target) t2 t3 → KeepsMark (file_of g.target) t t3
-  mark_on t t2 t3 one two = mark_both (file_of g.target) t t2 t3 one (subst (λ f. KeepsMark f t2 t3) keeps.file two)
+  pub mark_on : (t t2 t3 : Told) → KeepsTargetMark (file_of g.target) t t2 → KeepsTargetMark (file_of g2.target) t2 t3 → KeepsTargetMark (file_of g.target) t t3
+  mark_on t t2 t3 one two = mark_both (file_of g.target) t t2 t3 one (subst (λ f. KeepsTargetMark f t2 t3) keeps.file two)
 
   pub can_take : (t : Told) → CanTake (file_of g.target) t → CanTake (file_of g2.target) t
   can_take t there = subst (λ f. CanTake f t) (sym keeps.file) there
 
-  pub facts_stay : IfSome (form_in g).facts HasMoments → IfSome (form_in g2).facts HasMoments
+  pub facts_stay : IfSome (giving_form g).facts HasMoments → IfSome (giving_form g2).facts HasMoments
   facts_stay facts = subst (λ form. IfSome form.facts HasMoments) (sym keeps.form) facts
 
-  pub turn_moved : (file : List ℕ) (r r2 : VersionPlace) (lines : List HistoryLine) (g3 : Giving) (o o2 o3 : Option (List ℕ)) (t t2 t3 : Told) → (m : Moved file r lines g g2 (got (file_of g.target) o t) (got (file_of g.target) o2 t2))
-      → Moved file r2 m.rest g2 g3 (got (file_of g2.target) o2 t2) (got (file_of g2.target) o3 t3) → Moved file r2 lines g g3 (got (file_of g.target) o t) (got (file_of g.target) o3 t3)
-  turn_moved file r r2 lines g3 o o2 o3 t t2 t3 m next = moved_both file r r2 lines g g2 g3 _ _ _ keeps m (subst (λ f. Moved file r2 m.rest g2 g3 (got f o2 t2) (got f o3 t3)) keeps.file next)
+  pub turn_moved : (file : List ℕ) (r r2 : VersionPlace) (lines : List HistoryLine) (g3 : Giving) (o o2 o3 : Option (List ℕ)) (t t2 t3 : Told) → (m : Moved file r lines g g2 (target_bytes (file_of g.target) o t) (target_bytes (file_of g.target) o2 t2))
+      → Moved file r2 m.rest g2 g3 (target_bytes (file_of g2.target) o2 t2) (target_bytes (file_of g2.target) o3 t3) → Moved file r2 lines g g3 (target_bytes (file_of g.target) o t) (target_bytes (file_of g.target) o3 t3)
+  turn_moved file r r2 lines g3 o o2 o3 t t2 t3 m next = moved_both file r r2 lines g g2 g3 _ _ _ keeps m (subst (λ f. Moved file r2 m.rest g2 g3 (target_bytes f o2 t2) (target_bytes f o3 t3)) keeps.file next)
 
-  pub turn_end : (file : List ℕ) (r : VersionPlace) (lines : List HistoryLine) (g3 : Giving) (o o2 o3 : Option (List ℕ)) (t t2 t3 : Told) → (m : Moved file r lines g g2 (got (file_of g.target) o t) (got (file_of g.target) o2 t2))
-      → Gave m.rest g2 g3 (got (file_of g2.target) o2 t2) (got (file_of g2.target) o3 t3) → Gave lines g g3 (got (file_of g.target) o t) (got (file_of g.target) o3 t3)
-  turn_end file r lines g3 o o2 o3 t t2 t3 m next = moved_end file r lines g g2 g3 _ _ _ keeps m (subst (λ f. Gave m.rest g2 g3 (got f o2 t2) (got f o3 t3)) keeps.file next)
+  pub turn_end : (file : List ℕ) (r : VersionPlace) (lines : List HistoryLine) (g3 : Giving) (o o2 o3 : Option (List ℕ)) (t t2 t3 : Told) → (m : Moved file r lines g g2 (target_bytes (file_of g.target) o t) (target_bytes (file_of g.target) o2 t2))
+      → Gave m.rest g2 g3 (target_bytes (file_of g2.target) o2 t2) (target_bytes (file_of g2.target) o3 t3) → Gave lines g g3 (target_bytes (file_of g.target) o t) (target_bytes (file_of g.target) o3 t3)
+  turn_end file r lines g3 o o2 o3 t t2 t3 m next = moved_end file r lines g g2 g3 _ _ _ keeps m (subst (λ f. Gave m.rest g2 g3 (target_bytes f o2 t2) (target_bytes f o3 t3)) keeps.file next)
 
-  pub turn_cut : (file : List ℕ) (r : VersionPlace) (lines : List HistoryLine) (fault : StepFault) (g3 : Giving) (o o2 o3 : Option (List ℕ)) (t t2 t3 : Told) → (m : Moved file r lines g g2 (got (file_of g.target) o t) (got (file_of g.target) o2 t2))
-      → CutsLines m.rest fault g2 g3 (got (file_of g2.target) o2 t2) (got (file_of g2.target) o3 t3) → CutsLines lines fault g g3 (got (file_of g.target) o t) (got (file_of g.target) o3 t3)
-  turn_cut file r lines fault g3 o o2 o3 t t2 t3 m cuts = moved_cut file r lines fault g g2 g3 _ _ _ keeps m (subst (λ f. CutsLines m.rest fault g2 g3 (got f o2 t2) (got f o3 t3)) keeps.file cuts)
+  pub turn_cut : (file : List ℕ) (r : VersionPlace) (lines : List HistoryLine) (fault : StepFault) (g3 : Giving) (o o2 o3 : Option (List ℕ)) (t t2 t3 : Told) → (m : Moved file r lines g g2 (target_bytes (file_of g.target) o t) (target_bytes (file_of g.target) o2 t2))
+      → CutsLines m.rest fault g2 g3 (target_bytes (file_of g2.target) o2 t2) (target_bytes (file_of g2.target) o3 t3) → CutsLines lines fault g g3 (target_bytes (file_of g.target) o t) (target_bytes (file_of g.target) o3 t3)
+  turn_cut file r lines fault g3 o o2 o3 t t2 t3 m cuts = moved_cut file r lines fault g g2 g3 _ _ _ keeps m (subst (λ f. CutsLines m.rest fault g2 g3 (target_bytes f o2 t2) (target_bytes f o3 t3)) keeps.file cuts)
 
-  pub turn_read : (live : List ℕ) (r r2 : VersionPlace) (before : List Item) (g3 : Giving) (o o2 o3 : Option (List ℕ)) (t t2 t3 : Told) → r2.set ≡ r.set → (some : ReadSome live r before g g2 (got (file_of g.target) o t) (got (file_of g.target) o2 t2))
-      → ReadSome live r2 some.items g2 g3 (got (file_of g2.target) o2 t2) (got (file_of g2.target) o3 t3) → ReadSome live r2 before g g3 (got (file_of g.target) o t) (got (file_of g.target) o3 t3)
-  turn_read live r r2 before g3 o o2 o3 t t2 t3 same some next = read_both live r r2 before g g2 g3 _ _ _ same keeps some (subst (λ f. ReadSome live r2 some.items g2 g3 (got f o2 t2) (got f o3 t3)) keeps.file next)
+  pub turn_read : (live : List ℕ) (r r2 : VersionPlace) (before : List Item) (g3 : Giving) (o o2 o3 : Option (List ℕ)) (t t2 t3 : Told) → r2.set ≡ r.set → (some : ReadSome live r before g g2 (target_bytes (file_of g.target) o t) (target_bytes (file_of g.target) o2 t2))
+      → ReadSome live r2 some.items g2 g3 (target_bytes (file_of g2.target) o2 t2) (target_bytes (file_of g2.target) o3 t3) → ReadSome live r2 before g g3 (target_bytes (file_of g.target) o t) (target_bytes (file_of g.target) o3 t3)
+  turn_read live r r2 before g3 o o2 o3 t t2 t3 same some next = read_both live r r2 before g g2 g3 _ _ _ same keeps some (subst (λ f. ReadSome live r2 some.items g2 g3 (target_bytes f o2 t2) (target_bytes f o3 t3)) keeps.file next)
 
-  pub turn_whole : (live set : List ℕ) (r r2 : VersionPlace) (before : List Item) (g3 : Giving) (o o2 o3 : Option (List ℕ)) (t t2 t3 : Told) → r2.set ≡ set → r2.set ≡ r.set → (some : ReadSome live r before g g2 (got (file_of g.target) o t) (got (file_of g.target) o2 t2))
-      → ReadWhole live r2.set some.items g2 g3 (got (file_of g2.target) o2 t2) (got (file_of g2.target) o3 t3) → ReadWhole live set before g g3 (got (file_of g.target) o t) (got (file_of g.target) o3 t3)
-  turn_whole live set r r2 before g3 o o2 o3 t t2 t3 is same some next = read_end live set r r2 before g g2 g3 _ _ _ is same keeps some (subst (λ f. ReadWhole live r2.set some.items g2 g3 (got f o2 t2) (got f o3 t3)) keeps.file next)
+  pub turn_whole : (live set : List ℕ) (r r2 : VersionPlace) (before : List Item) (g3 : Giving) (o o2 o3 : Option (List ℕ)) (t t2 t3 : Told) → r2.set ≡ set → r2.set ≡ r.set → (some : ReadSome live r before g g2 (target_bytes (file_of g.target) o t) (target_bytes (file_of g.target) o2 t2))
+      → ReadWhole live r2.set some.items g2 g3 (target_bytes (file_of g2.target) o2 t2) (target_bytes (file_of g2.target) o3 t3) → ReadWhole live set before g g3 (target_bytes (file_of g.target) o t) (target_bytes (file_of g.target) o3 t3)
+  turn_whole live set r r2 before g3 o o2 o3 t t2 t3 is same some next = read_end live set r r2 before g g2 g3 _ _ _ is same keeps some (subst (λ f. ReadWhole live r2.set some.items g2 g3 (target_bytes f o2 t2) (target_bytes f o3 t3)) keeps.file next)

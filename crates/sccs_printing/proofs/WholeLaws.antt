@@ -15,10 +15,10 @@ use Rattle.sccs_steps.specs.Causes.{PrintCauses}
 use Rattle.sccs_texts.specs.Forms.{LineForm, formed_text, replaces, texts}
 use Rattle.sccs_versions.specs.Place.{VersionPlace}
 use Rattle.sccs_versions.specs.WasRead.{HasRead, shown_before}
-use Rattle.sccs_printing.specs.Counted.{counted, nothing, shown_of}
-use Rattle.sccs_printing.specs.Giving.{GivesAll, KeepsForm, ReadWhole, form_in, text_next}
-use Rattle.sccs_printing.specs.Printing.{IsOuterFault, PrintsWhole, version_text}
-use Rattle.sccs_printing.specs.Targets.{GivesTo, IsCut, Prints, file_of, got, held_back}
+use Rattle.sccs_printing.specs.Counted.{with_lines, no_lines, shown_of}
+use Rattle.sccs_printing.specs.Giving.{GivesAll, KeepsForm, ReadWhole, giving_form, text_next}
+use Rattle.sccs_printing.specs.Printing.{IsFaultAroundPrint, PrintsWhole, version_text}
+use Rattle.sccs_printing.specs.Targets.{GivesTo, IsCut, Prints, file_of, target_bytes, held_back}
 use Rattle.sccs_printing.specs.declared.givings.Giving.{Giving}
 use Rattle.sccs_printing.specs.declared.shown.Shown.{Shown}
 use Rattle.sccs_printing.specs.declared.targets.Target.{Target}
@@ -30,9 +30,9 @@ all_given lines (Err fault) g g2 a b gives = gives
 
 -- how giving begins
 pub record Begun (form : LineForm) (records : List Record) (target : Target) (g : Giving) : Type 0 where
-  pub form_is : form_in g ≡ form
+  pub form_is : giving_form g ≡ form
   pub records_are : g.sids ≡ records
-  pub shown_is : g.shown ≡ nothing
+  pub shown_is : g.shown ≡ no_lines
   pub target_is : g.target ≡ target
   pub empty : held_back target ≡ []
 
@@ -46,18 +46,18 @@ abbrev pub Finishes : Option (List ℕ) → Result (Unit {0}) StepFault → Resu
 Finishes file given result held b c = (text : List ℕ) (before : Option (List ℕ)) → GivesTo file text given [] held before b → Prints file text result before c
 
 pub printed : (form : LineForm) (records : List Record) (lines : List HistoryLine) (given : Result (Unit {0}) StepFault) (result : Result Shown StepFault) (target : Target) (g g2 : Giving) (o o2 o3 : Option (List ℕ)) (t t2 t3 : Told) → Begun form records target g → KeepsForm g g2
-    → GivesAll lines given g g2 (got (file_of g.target) o t) (got (file_of g.target) o2 t2) → Finishes (file_of g2.target) given result (held_back g2.target) (got (file_of g2.target) o2 t2) (got (file_of g2.target) o3 t3)
-    → Prints (file_of target) (version_text form records lines) result (got (file_of target) o t) (got (file_of target) o3 t3)
+    → GivesAll lines given g g2 (target_bytes (file_of g.target) o t) (target_bytes (file_of g.target) o2 t2) → Finishes (file_of g2.target) given result (held_back g2.target) (target_bytes (file_of g2.target) o2 t2) (target_bytes (file_of g2.target) o3 t3)
+    → Prints (file_of target) (version_text form records lines) result (target_bytes (file_of target) o t) (target_bytes (file_of target) o3 t3)
 printed form records lines given result target g g2 o o2 o3 t t2 t3 begun keeps gives finish =
-    subst (λ f. Finishes f given result (held_back g2.target) (got f o2 t2) (got f o3 t3)) (keeps.file ∙ ap file_of begun.target_is) finish (version_text form records lines) (got (file_of target) o t)
-    (subst (λ text. GivesTo (file_of target) text given [] (held_back g2.target) (got (file_of target) o t) (got (file_of target) o2 t2)) (text_is form records target g lines begun)
-    (subst (λ held. GivesTo (file_of target) (text_next g lines) given held (held_back g2.target) (got (file_of target) o t) (got (file_of target) o2 t2)) begun.empty
-    (subst (λ (u : Target). GivesTo (file_of u) (text_next g lines) given (held_back u) (held_back g2.target) (got (file_of u) o t) (got (file_of u) o2 t2)) begun.target_is
-    (all_given lines given g g2 (got (file_of g.target) o t) (got (file_of g.target) o2 t2) gives))))
+    subst (λ f. Finishes f given result (held_back g2.target) (target_bytes f o2 t2) (target_bytes f o3 t3)) (keeps.file ∙ ap file_of begun.target_is) finish (version_text form records lines) (target_bytes (file_of target) o t)
+    (subst (λ text. GivesTo (file_of target) text given [] (held_back g2.target) (target_bytes (file_of target) o t) (target_bytes (file_of target) o2 t2)) (text_is form records target g lines begun)
+    (subst (λ held. GivesTo (file_of target) (text_next g lines) given held (held_back g2.target) (target_bytes (file_of target) o t) (target_bytes (file_of target) o2 t2)) begun.empty
+    (subst (λ (u : Target). GivesTo (file_of u) (text_next g lines) given (held_back u) (held_back g2.target) (target_bytes (file_of u) o t) (target_bytes (file_of u) o2 t2)) begun.target_is
+    (all_given lines given g g2 (target_bytes (file_of g.target) o t) (target_bytes (file_of g.target) o2 t2) gives))))
 
-shown_all : (form : LineForm) (records : List Record) (target : Target) (g : Giving) (lines : List HistoryLine) (s : Shown) → Begun form records target g → s ≡ counted (form_in g) g.shown (texts lines) → s ≡ shown_of form lines
+shown_all : (form : LineForm) (records : List Record) (target : Target) (g : Giving) (lines : List HistoryLine) (s : Shown) → Begun form records target g → s ≡ with_lines (giving_form g) g.shown (texts lines) → s ≡ shown_of form lines
 shown_all form records target g lines s begun is =
-    is ∙ (ap (λ f. counted f g.shown (texts lines)) begun.form_is ∙ (ap (λ (o : Shown). counted form o (texts lines)) begun.shown_is
+    is ∙ (ap (λ f. with_lines f g.shown (texts lines)) begun.form_is ∙ (ap (λ (o : Shown). with_lines form o (texts lines)) begun.shown_is
     ∙ same_shown (0 + length (texts lines)) (length lines) (replaces form (texts lines)) (replaces form (texts lines)) (omega (arith, length-map lines (λ (line : HistoryLine). line.text))) refl))
 
 pub found : (form : LineForm) (records : List Record) (lines : List HistoryLine) (given : Result (Unit {0}) StepFault) (result : Result Shown StepFault) (target : Target) (g g2 : Giving) (a b : Option (List ℕ)) → Begun form records target g → GivesAll lines given g g2 a b
@@ -68,9 +68,9 @@ found form records lines given (Err fault) target g g2 a b begun gives ok is = t
 
 pub printed_whole : (form : LineForm) (records : List Record) (set : List ℕ) (r : VersionPlace) (given : Result (Unit {0}) StepFault) (result : Result Shown StepFault) (target : Target) (g g2 : Giving) (o o2 o3 : Option (List ℕ)) (t t2 t3 : Told) → Begun form records target g → KeepsForm g g2
     → r.set ≡ set → (has set 0 ≡ false → HasRead (live_serials records) r [])
-    → OnOk given ((live : List ℕ) (before : List Item) → HasRead live r before → ReadWhole live r.set before g g2 (got (file_of g.target) o t) (got (file_of g.target) o2 t2))
-    → OnOk result (IsOk given) → IfOk result (λ s. s ≡ g2.shown) → Finishes (file_of g2.target) given result (held_back g2.target) (got (file_of g2.target) o2 t2) (got (file_of g2.target) o3 t3)
-    → IfOk result (λ s. has set 0 ≡ false → PrintsWhole form records set s (got (file_of target) o t) (got (file_of target) o3 t3))
+    → OnOk given ((live : List ℕ) (before : List Item) → HasRead live r before → ReadWhole live r.set before g g2 (target_bytes (file_of g.target) o t) (target_bytes (file_of g.target) o2 t2))
+    → OnOk result (IsOk given) → IfOk result (λ s. s ≡ g2.shown) → Finishes (file_of g2.target) given result (held_back g2.target) (target_bytes (file_of g2.target) o2 t2) (target_bytes (file_of g2.target) o3 t3)
+    → IfOk result (λ s. has set 0 ≡ false → PrintsWhole form records set s (target_bytes (file_of target) o t) (target_bytes (file_of target) o3 t3))
 printed_whole form records set r (Ok done) (Ok s) target g g2 o o2 o3 t t2 t3 begun keeps set_is start read ok is finish = λ zero.
     let w = read (live_serials records) [] (start zero) in
     let lines : shown_before set w.items ≡ w.gone = subst (λ one. shown_before one w.items ≡ shown_before one [] ++ w.gone) set_is w.whole in
@@ -78,7 +78,7 @@ printed_whole form records set r (Ok done) (Ok s) target g g2 o o2 o3 t t2 t3 be
       items = w.items;
       stood = w.stood;
       over = w.over;
-      gives = subst (λ all. Prints (file_of target) (version_text form records all) (Ok s) (got (file_of target) o t) (got (file_of target) o3 t3)) (sym lines)
+      gives = subst (λ all. Prints (file_of target) (version_text form records all) (Ok s) (target_bytes (file_of target) o t) (target_bytes (file_of target) o3 t3)) (sym lines)
           (printed form records w.gone (Ok done) (Ok s) target g g2 o o2 o3 t t2 t3 begun keeps w.gave finish);
       counted = subst (λ all. s ≡ shown_of form all) (sym lines) (shown_all form records target g w.gone s begun (is ∙ w.gave.shown));
     }
@@ -86,7 +86,7 @@ printed_whole form records set r (Err fault) (Ok s) target g g2 o o2 o3 t t2 t3 
 printed_whole form records set r given (Err fault) target g g2 o o2 o3 t t2 t3 begun keeps set_is start read ok is finish = tt
 
 -- where a file is written only the disk or memory can end it
-pub outer_cut : (n text : List ℕ) (fault : StepFault) (a b : Option (List ℕ)) → IsCut (Some n) text fault a b → IsOuterFault fault
+pub outer_cut : (n text : List ℕ) (fault : StepFault) (a b : Option (List ℕ)) → IsCut (Some n) text fault a b → IsFaultAroundPrint fault
 outer_cut n text Memory a b cut = tt
 outer_cut n text DiskFault a b cut = tt
 outer_cut n text WriteFault a b cut = cut

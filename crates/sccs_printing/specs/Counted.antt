@@ -5,12 +5,12 @@ use Rattle.sccs_texts.specs.Forms.{LineForm, replaces, texts}
 use Rattle.sccs_printing.specs.declared.shown.Shown.{Shown}
 
 -- no line was given yet
-abbrev pub nothing : Shown
-nothing = record { lines = 0; keywords = false }
+abbrev pub no_lines : Shown
+no_lines = record { lines = 0; keywords = false }
 
 -- lines with these texts more
-abbrev pub counted : LineForm → Shown → List (List ℕ) → Shown
-counted form s lines = record { lines = s.lines + length lines; keywords = s.keywords || replaces form lines }
+abbrev pub with_lines : LineForm → Shown → List (List ℕ) → Shown
+with_lines form s lines = record { lines = s.lines + length lines; keywords = s.keywords || replaces form lines }
 
 -- how many lines there are, and whether a keyword of them is replaced
 abbrev pub shown_of : LineForm → List HistoryLine → Shown

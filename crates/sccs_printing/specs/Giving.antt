@@ -8,23 +8,23 @@ use Rattle.sccs_texts.specs.Forms.{LineForm, form_of, formed_text, texts}
 use Rattle.sccs_versions.specs.Coming.{Coming}
 use Rattle.sccs_versions.specs.Place.{VersionPlace, name_of}
 use Rattle.sccs_versions.specs.WasRead.{HasRead, Stood, shown_before}
-use Rattle.sccs_printing.specs.Counted.{counted}
+use Rattle.sccs_printing.specs.Counted.{with_lines}
 use Rattle.sccs_disk.specs.Told.{Told}
 use Rattle.sccs_keys.specs.Expansion.{HasMoments}
 use Rattle.sccs_printing.specs.Targets.{CanTake, GivesTo, file_of, held_back}
 use Rattle.sccs_printing.specs.declared.givings.Giving.{Giving}
 
 -- the form in which lines are given
-abbrev pub form_in : Giving → LineForm
-form_in g = form_of g.form.now
+abbrev pub giving_form : Giving → LineForm
+giving_form g = form_of g.form.now
 
 -- the text of lines that come next
 abbrev pub text_next : Giving → List HistoryLine → List ℕ
-text_next g lines = formed_text (form_in g) g.sids (g.shown.lines + 1) lines
+text_next g lines = formed_text (giving_form g) g.sids (g.shown.lines + 1) lines
 
 -- Lines can be given: a form with facts has the moments that it expands, and a target file is there.
 pub record CanGive (g : Giving) (told : Told) : Type 0 where
-  pub facts : IfSome (form_in g).facts HasMoments
+  pub facts : IfSome (giving_form g).facts HasMoments
   pub there : CanTake (file_of g.target) told
 
 -- The reader is that of the same version.
@@ -34,13 +34,13 @@ pub record KeepsVersion (r r2 : VersionPlace) : Type 0 where
 
 -- What stays from turn to turn.
 pub record KeepsForm (g g2 : Giving) : Type 0 where
-  pub form : form_in g2 ≡ form_in g
+  pub form : giving_form g2 ≡ giving_form g
   pub sids : g2.sids ≡ g.sids
   pub file : file_of g2.target ≡ file_of g.target
 
 -- The same of a call that counts no line.
 pub record KeepsGiving (g g2 : Giving) : Type 0 where
-  pub form : form_in g2 ≡ form_in g
+  pub form : giving_form g2 ≡ giving_form g
   pub sids : g2.sids ≡ g.sids
   pub file : file_of g2.target ≡ file_of g.target
   pub shown : g2.shown ≡ g.shown
@@ -48,7 +48,7 @@ pub record KeepsGiving (g g2 : Giving) : Type 0 where
 -- These lines were given, and counted.
 pub record Gave (lines : List HistoryLine) (g g2 : Giving) (a b : Option (List ℕ)) : Type 0 where
   pub text : Buffers (held_back g.target) (text_next g lines) (held_back g2.target) a b
-  pub shown : g2.shown ≡ counted (form_in g) g.shown (texts lines)
+  pub shown : g2.shown ≡ with_lines (giving_form g) g.shown (texts lines)
 
 -- ---- of a file that is told
 

@@ -37,12 +37,12 @@ file_checks =
     ∷ number_of (refusals.Changed 0 0 0 0) ∷ []
 
 -- no fault of a file that is read: the disk failed, or there was no memory
-abbrev pub IsOuterFault : StepFault → Type 0
-IsOuterFault Memory = Unit {0}
-IsOuterFault DiskFault = Unit {0}
-IsOuterFault ReadFault = ⊥
-IsOuterFault WriteFault = ⊥
-IsOuterFault (Refused refusal) = ⊥
+abbrev pub IsFaultAroundPrint : StepFault → Type 0
+IsFaultAroundPrint Memory = Unit {0}
+IsFaultAroundPrint DiskFault = Unit {0}
+IsFaultAroundPrint ReadFault = ⊥
+IsFaultAroundPrint WriteFault = ⊥
+IsFaultAroundPrint (Refused refusal) = ⊥
 
 -- Over any disk: some items are a whole body over live serials, and the text of what the set shows of them was given.
 pub record PrintsWhole (form : LineForm) (records : List Record) (set : List ℕ) (shown : Shown) (a b : Option (List ℕ)) : Type 0 where
@@ -66,7 +66,7 @@ finished_text mode text = record { bytes = text; writable = may_write mode }
 -- it was made, with this text; of a told file only the disk or memory can keep it from that
 abbrev pub Makes : List ℕ → Mode → List ℕ → LineForm → List HistoryLine → Option View → Option View → Result Shown StepFault → Type 0
 Makes n mode text form lines old new (Ok shown) = Becomes (λ v. put v n (Some (finished_text mode text))) old new × (shown ≡ shown_of form lines)
-Makes n mode text form lines old new (Err fault) = IsOuterFault fault
+Makes n mode text form lines old new (Err fault) = IsFaultAroundPrint fault
 
 -- Over any disk: some items are a whole body over live serials, and the y-file has the text of what the set shows of them.
 pub record MakesWhole (n : List ℕ) (mode : Mode) (form : LineForm) (records : List Record) (set : List ℕ) (shown : Shown) (new : Option View) : Type 0 where

@@ -5,7 +5,7 @@ use Rattle.sccs_sid.specs.declared.refusals.StepFault.{StepFault}
 use Rattle.sccs_texts.specs.Forms.{has_keywords, texts}
 use Rattle.sccs_versions.specs.Coming.{Coming}
 use Rattle.sccs_versions.specs.Place.{VersionPlace}
-use Rattle.sccs_printing.specs.Printing.{IsOuterFault}
+use Rattle.sccs_printing.specs.Printing.{IsFaultAroundPrint}
 
 -- Some of the lines were searched, and the reader stands before the others.
 pub record Searched (file : List ℕ) (r : VersionPlace) (lines : List HistoryLine) (some : Bool) : Type 0 where
@@ -16,12 +16,12 @@ pub record Searched (file : List ℕ) (r : VersionPlace) (lines : List HistoryLi
   pub on : Coming file r rest
 
 -- the same of the next line, or of the end
-abbrev pub SearchesNext : List ℕ → VersionPlace → List HistoryLine → Result (Option Bool) StepFault → Type 0
-SearchesNext file r lines (Ok (Some some)) = Searched file r lines some
-SearchesNext file r lines (Ok None) = lines ≡ []
-SearchesNext file r lines (Err fault) = IsOuterFault fault
+abbrev pub SearchesNextLine : List ℕ → VersionPlace → List HistoryLine → Result (Option Bool) StepFault → Type 0
+SearchesNextLine file r lines (Ok (Some some)) = Searched file r lines some
+SearchesNextLine file r lines (Ok None) = lines ≡ []
+SearchesNextLine file r lines (Err fault) = IsFaultAroundPrint fault
 
 -- exactly where a line has one; of a told file only the disk or memory can keep it from an answer
 abbrev pub Searches : List HistoryLine → Result Bool StepFault → Type 0
 Searches lines (Ok some) = some ≡ has_keywords (texts lines)
-Searches lines (Err fault) = IsOuterFault fault
+Searches lines (Err fault) = IsFaultAroundPrint fault

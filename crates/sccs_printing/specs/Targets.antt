@@ -26,9 +26,9 @@ file_of (ToSink held) = None
 file_of (ToFile writer) = Some writer.name
 
 -- what the sink was given, or the bytes of the file
-abbrev pub got : Option (List ℕ) → Option (List ℕ) → Told → Option (List ℕ)
-got None out told = out
-got (Some n) out told = bytes_in (seen told) n
+abbrev pub target_bytes : Option (List ℕ) → Option (List ℕ) → Told → Option (List ℕ)
+target_bytes None out told = out
+target_bytes (Some n) out told = bytes_in (seen told) n
 
 -- the file is there
 abbrev pub CanTake : Option (List ℕ) → Told → Type 0
@@ -50,9 +50,9 @@ abbrev pub mark_in : Option View → List ℕ → Option Bool
 mark_in view n = option_and_then (λ (v : View). option_map (λ (c : Content). c.writable) (v n)) view
 
 -- the file may be written exactly where it might before
-abbrev pub KeepsMark : Option (List ℕ) → Told → Told → Type 0
-KeepsMark None old new = Unit {0}
-KeepsMark (Some n) old new = mark_in (seen new) n ≡ mark_in (seen old) n
+abbrev pub KeepsTargetMark : Option (List ℕ) → Told → Told → Type 0
+KeepsTargetMark None old new = Unit {0}
+KeepsTargetMark (Some n) old new = mark_in (seen new) n ≡ mark_in (seen old) n
 
 -- why a file isn't written
 abbrev pub writing_fault : DiskRefusal → StepFault
@@ -105,7 +105,7 @@ pub record IsFresh (target : Target) (read : List ℕ) (told : Told) : Type 0 wh
 -- that is read.
 pub record UsesTarget {O D T : Type 0} (file : Option (List ℕ)) (given : O → Option (List ℕ)) (out_faults : O → ℕ) (told : D → Told) (faults : D → ℕ) (out out2 : O) (disk disk2 : D) (result : Result T StepFault) : Type 0 where
   pub reaches : Reaches file (given out) (given out2) (told disk) (told disk2)
-  pub mark : OnOk result (KeepsMark file (told disk) (told disk2))
+  pub mark : OnOk result (KeepsTargetMark file (told disk) (told disk2))
   pub spares : Spares file result
   pub causes : PrintCauses result (out_faults out) (out_faults out2) (faults disk) (faults disk2)
   pub checks : RefusesWithin file_checks result
@@ -130,7 +130,7 @@ Prints file text (Err fault) a b = IsCut file text fault a b
 -- is read.
 pub record WritesText {T : Type 0} (n : List ℕ) (old new : Told) (faults faults_after : ℕ) (result : Result T StepFault) : Type 0 where
   pub only : OnlyWrites n old new
-  pub mark : OnOk result (KeepsMark (Some n) old new)
+  pub mark : OnOk result (KeepsTargetMark (Some n) old new)
   pub checks : RefusesWithin file_checks result
   pub later : faults ≤ faults_after
   pub cause : result ≡ Err DiskFault → Rose faults faults_after

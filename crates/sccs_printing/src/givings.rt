@@ -11,9 +11,9 @@ ghost use Rattle.sccs_texts.specs.Forms.{form_of, formed_lines};
 ghost use Rattle.sccs_versions.specs.Coming.{Coming};
 ghost use Rattle.sccs_versions.specs.Place.{name_of, steps_left};
 ghost use Rattle.sccs_versions.specs.WasRead.{HasRead};
-ghost use Rattle.sccs_printing.specs.Counted.{counted, nothing};
-ghost use Rattle.sccs_printing.specs.Giving.{CanGive, GivesAll, GivesMore, GivesRun, KeepsForm, KeepsGiving, KeepsVersion, ReadSome, ReadWhole, ReadsMore, form_in};
-ghost use Rattle.sccs_printing.specs.Targets.{CanTake, GivesTo, IsApart, UsesTarget, file_of, got, held_back};
+ghost use Rattle.sccs_printing.specs.Counted.{with_lines, no_lines};
+ghost use Rattle.sccs_printing.specs.Giving.{CanGive, GivesAll, GivesMore, GivesRun, KeepsForm, KeepsGiving, KeepsVersion, ReadSome, ReadWhole, ReadsMore, giving_form};
+ghost use Rattle.sccs_printing.specs.Targets.{CanTake, GivesTo, IsApart, UsesTarget, file_of, target_bytes, held_back};
 
 use crate::shown::Shown;
 use crate::targets::{Target, put};
@@ -45,9 +45,9 @@ impl<'a> Giving<'a> {
         target: Target,
     ) -> Giving<'a>
         requires { Falls 65536 (serials_of records.now) }
-        ensures form { form_in result ≡ form_of form.now }
+        ensures form { giving_form result ≡ form_of form.now }
         ensures sids { result.sids ≡ records.now }
-        ensures shown { result.shown ≡ nothing }
+        ensures shown { result.shown ≡ no_lines }
         ensures target { result.target ≡ target }
     {
         Giving {
@@ -74,8 +74,8 @@ impl<'a> Giving<'a> {
         requires whole { (cut lines.now).tail ≡ [] }
         requires few { self.old.shown.lines + length (cut lines.now).lines < 2 ^ 64 }
         ensures frame { UsesTarget (file_of self.old.target) O.given O.faults D.told D.faults out.old out.new disk.old disk.new result }
-        ensures gives { GivesTo (file_of self.old.target) (formed_lines (form_in self.old) self.old.sids (self.old.shown.lines + 1) inserter (cut lines.now).lines) result (held_back self.old.target) (held_back self.new.target)
-            (got (file_of self.old.target) (O.given out.old) (D.told disk.old)) (got (file_of self.old.target) (O.given out.new) (D.told disk.new)) }
+        ensures gives { GivesTo (file_of self.old.target) (formed_lines (giving_form self.old) self.old.sids (self.old.shown.lines + 1) inserter (cut lines.now).lines) result (held_back self.old.target) (held_back self.new.target)
+            (target_bytes (file_of self.old.target) (O.given out.old) (D.told disk.old)) (target_bytes (file_of self.old.target) (O.given out.new) (D.told disk.new)) }
         ensures keeps { KeepsGiving self.old self.new }
     {
         self.formed.clear();
@@ -105,10 +105,10 @@ impl<'a> Giving<'a> {
         requires can { CanGive self.old (D.told disk.old) }
         requires whole { (cut lines.now).tail ≡ [] }
         requires few { self.old.shown.lines + length (cut lines.now).lines < 2 ^ 64 }
-        requires same { changes ≡ false → (n : ℕ) → formed_lines (form_in self.old) self.old.sids (self.old.shown.lines + 1) n (cut lines.now).lines ≡ lines.now }
+        requires same { changes ≡ false → (n : ℕ) → formed_lines (giving_form self.old) self.old.sids (self.old.shown.lines + 1) n (cut lines.now).lines ≡ lines.now }
         ensures frame { UsesTarget (file_of self.old.target) O.given O.faults D.told D.faults out.old out.new disk.old disk.new result }
-        ensures gives { GivesTo (file_of self.old.target) (formed_lines (form_in self.old) self.old.sids (self.old.shown.lines + 1) inserter (cut lines.now).lines) result (held_back self.old.target) (held_back self.new.target)
-            (got (file_of self.old.target) (O.given out.old) (D.told disk.old)) (got (file_of self.old.target) (O.given out.new) (D.told disk.new)) }
+        ensures gives { GivesTo (file_of self.old.target) (formed_lines (giving_form self.old) self.old.sids (self.old.shown.lines + 1) inserter (cut lines.now).lines) result (held_back self.old.target) (held_back self.new.target)
+            (target_bytes (file_of self.old.target) (O.given out.old) (D.told disk.old)) (target_bytes (file_of self.old.target) (O.given out.new) (D.told disk.new)) }
         ensures keeps { KeepsGiving self.old self.new }
     {
         if changes {
@@ -131,9 +131,10 @@ impl<'a> Giving<'a> {
         requires counted { more ≡ lf_count lines.now }
         requires whole { (cut lines.now).tail ≡ [] }
         ensures frame { UsesTarget (file_of self.old.target) O.given O.faults D.told D.faults out.old out.new disk.old disk.new result }
-        ensures gives { GivesTo (file_of self.old.target) (formed_lines (form_in self.old) self.old.sids (self.old.shown.lines + 1) inserter (cut lines.now).lines) result (held_back self.old.target) (held_back self.new.target)
-            (got (file_of self.old.target) (O.given out.old) (D.told disk.old)) (got (file_of self.old.target) (O.given out.new) (D.told disk.new)) }
-        ensures shown { OnOk result (self.new.shown ≡ counted (form_in self.old) self.old.shown (cut lines.now).lines) }
+        ensures gives { GivesTo (file_of self.old.target) (formed_lines (giving_form self.old) self.old.sids (self.old.shown.lines + 1) inserter (cut lines.now).lines) result (held_back self.old.target) (held_back self.new.target)
+            (target_bytes (file_of self.old.target) (O.given out.old) (D.told disk.old)) (target_bytes (file_of self.old.target) (O.given out.new) (D.told disk.new)) }
+        ensures shown { OnOk result (self.new.shown
+            ≡ with_lines (giving_form self.old) self.old.shown (cut lines.now).lines) }
         ensures keeps { KeepsForm self.old self.new }
     {
         let Some(count) = self.shown.lines.checked_add(more) else {
@@ -160,8 +161,8 @@ impl<'a> Giving<'a> {
     ) -> Result<(), StepFault>
         requires can { CanGive self.old (D.told disk.old) }
         ensures frame { UsesTarget (file_of self.old.target) O.given O.faults D.told D.faults out.old out.new disk.old disk.new result }
-        ensures gives { GivesTo (file_of self.old.target) (formed_lines (form_in self.old) self.old.sids number inserter (line.now ∷ [])) result (held_back self.old.target) (held_back self.new.target)
-            (got (file_of self.old.target) (O.given out.old) (D.told disk.old)) (got (file_of self.old.target) (O.given out.new) (D.told disk.new)) }
+        ensures gives { GivesTo (file_of self.old.target) (formed_lines (giving_form self.old) self.old.sids number inserter (line.now ∷ [])) result (held_back self.old.target) (held_back self.new.target)
+            (target_bytes (file_of self.old.target) (O.given out.old) (D.told disk.old)) (target_bytes (file_of self.old.target) (O.given out.new) (D.told disk.new)) }
         ensures keeps { KeepsGiving self.old self.new }
     {
         self.formed.clear();
@@ -188,9 +189,10 @@ impl<'a> Giving<'a> {
     ) -> Result<(), StepFault>
         requires can { CanGive self.old (D.told disk.old) }
         ensures frame { UsesTarget (file_of self.old.target) O.given O.faults D.told D.faults out.old out.new disk.old disk.new result }
-        ensures gives { GivesTo (file_of self.old.target) (formed_lines (form_in self.old) self.old.sids (self.old.shown.lines + 1) inserter (line.now ∷ [])) result (held_back self.old.target) (held_back self.new.target)
-            (got (file_of self.old.target) (O.given out.old) (D.told disk.old)) (got (file_of self.old.target) (O.given out.new) (D.told disk.new)) }
-        ensures shown { OnOk result (self.new.shown ≡ counted (form_in self.old) self.old.shown (line.now ∷ [])) }
+        ensures gives { GivesTo (file_of self.old.target) (formed_lines (giving_form self.old) self.old.sids (self.old.shown.lines + 1) inserter (line.now ∷ [])) result (held_back self.old.target) (held_back self.new.target)
+            (target_bytes (file_of self.old.target) (O.given out.old) (D.told disk.old)) (target_bytes (file_of self.old.target) (O.given out.new) (D.told disk.new)) }
+        ensures shown { OnOk result (self.new.shown
+            ≡ with_lines (giving_form self.old) self.old.shown (line.now ∷ [])) }
         ensures keeps { KeepsForm self.old self.new }
     {
         let Some(number) = self.shown.lines.checked_add(1) else {
@@ -219,9 +221,9 @@ fn give_run<O: Sink, D: Disk>(
     ensures version { KeepsVersion version.old version.new }
     ensures left { steps_left version.new ≤ steps_left version.old }
     ensures gives { (file : List ℕ) (lines : List HistoryLine) → Coming file version.old lines
-        → GivesRun file version.new lines result giving.old giving.new (got (file_of giving.old.target) (O.given out.old) (D.told disk.old)) (got (file_of giving.old.target) (O.given out.new) (D.told disk.new)) }
+        → GivesRun file version.new lines result giving.old giving.new (target_bytes (file_of giving.old.target) (O.given out.old) (D.told disk.old)) (target_bytes (file_of giving.old.target) (O.given out.new) (D.told disk.new)) }
     ensures read { OnOk result ((live : List ℕ) (before : List Item) → HasRead live version.old before
-        → ReadSome live version.new before giving.old giving.new (got (file_of giving.old.target) (O.given out.old) (D.told disk.old)) (got (file_of giving.old.target) (O.given out.new) (D.told disk.new))) }
+        → ReadSome live version.new before giving.old giving.new (target_bytes (file_of giving.old.target) (O.given out.old) (D.told disk.old)) (target_bytes (file_of giving.old.target) (O.given out.new) (D.told disk.new))) }
 {
     let texts = version.texts();
     let count = texts.len();
@@ -247,9 +249,9 @@ fn give_next<O: Sink, D: Disk>(
     ensures version { KeepsVersion version.old version.new }
     ensures further { IfOk result (λ more. more ≡ true → steps_left version.new < steps_left version.old) }
     ensures gives { (file : List ℕ) (lines : List HistoryLine) → bytes_in (seen (D.told disk.old)) (name_of version.old) ≡ Some file → Coming file version.old lines
-        → GivesMore file version.new lines result giving.old giving.new (got (file_of giving.old.target) (O.given out.old) (D.told disk.old)) (got (file_of giving.old.target) (O.given out.new) (D.told disk.new)) }
+        → GivesMore file version.new lines result giving.old giving.new (target_bytes (file_of giving.old.target) (O.given out.old) (D.told disk.old)) (target_bytes (file_of giving.old.target) (O.given out.new) (D.told disk.new)) }
     ensures read { (live : List ℕ) (before : List Item) → HasRead live version.old before
-        → ReadsMore live version.new before result giving.old giving.new (got (file_of giving.old.target) (O.given out.old) (D.told disk.old)) (got (file_of giving.old.target) (O.given out.new) (D.told disk.new)) }
+        → ReadsMore live version.new before result giving.old giving.new (target_bytes (file_of giving.old.target) (O.given out.old) (D.told disk.old)) (target_bytes (file_of giving.old.target) (O.given out.new) (D.told disk.new)) }
 {
     match version.next(disk) {
         Ok(Next::Line(line)) => match giving.give_line(version.inserter(), &line, out, disk) {
@@ -275,9 +277,9 @@ pub fn give_all<O: Sink, D: Disk>(
     ensures keeps { KeepsForm giving.old giving.new }
     ensures there { CanTake (file_of giving.new.target) (D.told disk.new) }
     ensures gives { (file : List ℕ) (lines : List HistoryLine) → bytes_in (seen (D.told disk.old)) (name_of version.old) ≡ Some file → Coming file version.old lines
-        → GivesAll lines result giving.old giving.new (got (file_of giving.old.target) (O.given out.old) (D.told disk.old)) (got (file_of giving.old.target) (O.given out.new) (D.told disk.new)) }
+        → GivesAll lines result giving.old giving.new (target_bytes (file_of giving.old.target) (O.given out.old) (D.told disk.old)) (target_bytes (file_of giving.old.target) (O.given out.new) (D.told disk.new)) }
     ensures read { OnOk result ((live : List ℕ) (before : List Item) → HasRead live version.old before
-        → ReadWhole live version.old.set before giving.old giving.new (got (file_of giving.old.target) (O.given out.old) (D.told disk.old)) (got (file_of giving.old.target) (O.given out.new) (D.told disk.new))) }
+        → ReadWhole live version.old.set before giving.old giving.new (target_bytes (file_of giving.old.target) (O.given out.old) (D.told disk.old)) (target_bytes (file_of giving.old.target) (O.given out.new) (D.told disk.new))) }
 {
     'lines: loop {
         match give_run(giving, version, out, disk) {

@@ -8,7 +8,7 @@ ghost use Rattle.sccs_table.specs.ReaderState.{bytes_in};
 ghost use Rattle.sccs_versions.specs.Coming.{Coming, IsBody, shown};
 ghost use Rattle.sccs_versions.specs.Place.{name_of, steps_left};
 ghost use Rattle.sccs_printing.specs.Printing.{file_checks};
-ghost use Rattle.sccs_printing.specs.Searching.{Searched, Searches, SearchesNext};
+ghost use Rattle.sccs_printing.specs.Searching.{Searched, Searches, SearchesNextLine};
 
 use sccs_base::Name;
 use sccs_disk::Disk;
@@ -43,7 +43,7 @@ fn search_next<D: Disk>(
     ensures name { name_of version.new ≡ name_of version.old }
     ensures further { IfOk result (λ more. IfSome more (λ _. steps_left version.new < steps_left version.old)) }
     ensures told { (file : List ℕ) (lines : List HistoryLine) → bytes_in (seen (D.told disk.old)) (name_of version.old) ≡ Some file → Coming file version.old lines
-        → SearchesNext file version.new lines result }
+        → SearchesNextLine file version.new lines result }
 {
     match version.next(disk) {
         Ok(Next::Line(line)) => Ok(Some(has_keyword(line.bytes()))),

@@ -14,7 +14,7 @@ ghost use Rattle.sccs_texts.specs.Forms.{form_of};
 ghost use Rattle.sccs_versions.specs.Coming.{IsBody, shown};
 ghost use Rattle.sccs_printing.specs.Counted.{shown_of};
 ghost use Rattle.sccs_printing.specs.Printing.{CanForm, PrintsWhole, file_checks, version_text};
-ghost use Rattle.sccs_printing.specs.Targets.{CanTake, GivesTo, IsFresh, KeepsMark, Prints, Reaches, Spares, UsesTarget, file_of, got, held_back};
+ghost use Rattle.sccs_printing.specs.Targets.{CanTake, GivesTo, IsFresh, KeepsTargetMark, Prints, Reaches, Spares, UsesTarget, file_of, target_bytes, held_back};
 
 use crate::givings::{Giving, give_all};
 use crate::shown::Shown;
@@ -37,7 +37,7 @@ fn finish<O: Sink, D: Disk>(
 ) -> Result<Shown, StepFault>
     requires there { CanTake (file_of giving.old.target) (D.told disk.old) }
     ensures reaches { Reaches (file_of giving.old.target) (O.given out.old) (O.given out.new) (D.told disk.old) (D.told disk.new) }
-    ensures mark { OnOk result (KeepsMark (file_of giving.old.target) (D.told disk.old) (D.told disk.new)) }
+    ensures mark { OnOk result (KeepsTargetMark (file_of giving.old.target) (D.told disk.old) (D.told disk.new)) }
     ensures spares { Spares (file_of giving.old.target) given → Spares (file_of giving.old.target) result }
     ensures later { O.faults out.old ≤ O.faults out.new }
     ensures disk_later { D.faults disk.old ≤ D.faults disk.new }
@@ -46,8 +46,8 @@ fn finish<O: Sink, D: Disk>(
     ensures read { given ≢ Err faults.ReadFault → result ≢ Err faults.ReadFault }
     ensures checks { RefusesWithin file_checks given → RefusesWithin file_checks result }
     ensures prints { (text : List ℕ) (before : Option (List ℕ))
-        → GivesTo (file_of giving.old.target) text given [] (held_back giving.old.target) before (got (file_of giving.old.target) (O.given out.old) (D.told disk.old))
-        → Prints (file_of giving.old.target) text result before (got (file_of giving.old.target) (O.given out.new) (D.told disk.new)) }
+        → GivesTo (file_of giving.old.target) text given [] (held_back giving.old.target) before (target_bytes (file_of giving.old.target) (O.given out.old) (D.told disk.old))
+        → Prints (file_of giving.old.target) text result before (target_bytes (file_of giving.old.target) (O.given out.new) (D.told disk.new)) }
     ensures given { OnOk result (IsOk given) }
     ensures shown { IfOk result (λ s. s ≡ giving.old.shown) }
 {
@@ -81,12 +81,12 @@ pub fn give_text<O: Sink, D: Disk>(
     ensures prints { (file : List ℕ) (items : List Item)
         → IsBody (bytes_in (seen (D.told disk.old)) name.now) front.now set.now file items
         → Prints (file_of target) (version_text (form_of form.now) front.now.header.records (shown set.now (lines_of items))) result
-        (got (file_of target) (O.given out.old) (D.told disk.old)) (got (file_of target) (O.given out.new) (D.told disk.new)) }
+        (target_bytes (file_of target) (O.given out.old) (D.told disk.old)) (target_bytes (file_of target) (O.given out.new) (D.told disk.new)) }
     ensures found { (file : List ℕ) (items : List Item)
         → IsBody (bytes_in (seen (D.told disk.old)) name.now) front.now set.now file items
         → IfOk result (λ s. s ≡ shown_of (form_of form.now) (shown set.now (lines_of items))) }
     ensures whole { IfOk result (λ s. has set.now 0 ≡ false → PrintsWhole (form_of form.now) front.now.header.records set.now s
-        (got (file_of target) (O.given out.old) (D.told disk.old)) (got (file_of target) (O.given out.new) (D.told disk.new))) }
+        (target_bytes (file_of target) (O.given out.old) (D.told disk.old)) (target_bytes (file_of target) (O.given out.new) (D.told disk.new))) }
 {
     let Ok(mut version) = VersionReader::new(alloc, name, front, set) else {
         return Err(StepFault::Memory);

@@ -133,10 +133,7 @@ pub fn make_y<D: Disk>(
     if let Err(refusal) = start(disk, name, b'y') {
         return Err(step_fault(refusal));
     }
-    let shown = match append_y(alloc, name, front, set, form, disk) {
-        Ok(shown) => shown,
-        Err(fault) => return Err(fault),
-    };
+    let shown = append_y(alloc, name, front, set, form, disk)?;
     match finish_y(disk, name, mode) {
         Ok(()) => Ok(shown),
         Err(_) => Err(StepFault::DiskFault),

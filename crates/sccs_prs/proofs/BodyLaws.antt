@@ -14,7 +14,7 @@ use Rattle.sccs_body.specs.Reader.{ItemPlace}
 use Rattle.sccs_body.specs.ToCome.{GivesNext, ItemComes, ToCome}
 use Rattle.sccs_versions.proofs.RunLaws.{onto_read}
 use Rattle.sccs_prs.specs.Bodies.{IsToCome}
-use Rattle.sccs_prs.specs.Gives.{Gives}
+use Rattle.sccs_prs.specs.Gives.{GivesHeld}
 use Rattle.sccs_prs.specs.PrsText.{body_text}
 use Rattle.sccs_prs.proofs.GivesLaws.{gives_less, gives_no_more, gives_then_gives}
 
@@ -62,11 +62,11 @@ item_put file items r r2 item held mid left a b c put next gave =
     }
 
 pub item_cut : (file : List ℕ) (items : List Item) (r r2 : ItemPlace) (item : Item) (fault : StepFault) (held mid left left2 : List ℕ) (a b c : Option (List ℕ)) (put : HasPut file items r held mid a b) → ItemComes file put.live put.before (Ok put.rest) item r2
-    → Gives {T = Unit {0}} (ended (item_line item)) (Err fault) mid left b c → Gives {T = Unit {0}} (body_text items) (Err fault) held left2 a c
+    → GivesHeld {T = Unit {0}} (ended (item_line item)) (Err fault) mid left b c → GivesHeld {T = Unit {0}} (body_text items) (Err fault) held left2 a c
 item_cut file items r r2 item fault held mid left left2 a b c put next gives =
     let first : ComesFirst file put.live put.before put.rest item r2 = comes_first file put.live put.before put.rest item r2 next in
     let whole : body_text put.gone ++ (ended (item_line item) ++ body_text first.more) ≡ body_text items = sym (ap body_text (put.whole ∙ ap (λ (t : List Item). put.gone ++ t) first.whole) ∙ body_both put.gone (item ∷ first.more)) in
-    subst (λ t. Gives {T = Unit {0}} t (Err fault) held left2 a c) whole
+    subst (λ t. GivesHeld {T = Unit {0}} t (Err fault) held left2 a c) whole
     (gives_then_gives {T = Unit {0}} (body_text put.gone) (ended (item_line item) ++ body_text first.more) (Err fault) held mid left2 a b c put.gave (gives_less (ended (item_line item)) (body_text first.more) fault mid left left2 b c gives))
 
 abbrev as_read : List Item → Result (List Item) ℕ
@@ -79,13 +79,13 @@ all_put file items r r2 held mid a b put ends = subst (λ t. Buffers held t mid 
     none rest is = cc
 
 pub fault_put : (file : List ℕ) (items : List Item) (r r2 : ItemPlace) (fault : FileFault) (ended_by : StepFault) (held mid left : List ℕ) (a b : Option (List ℕ)) (put : HasPut file items r held mid a b) → ended_by ≡ file_fault fault → GivesNext file put.live put.before (Ok put.rest) r2 (Err fault)
-    → Gives {T = Unit {0}} (body_text items) (Err ended_by) held left a b
-fault_put file items r r2 fault ended_by held mid left a b put is next = subst (λ f. Gives {T = Unit {0}} (body_text items) (Err f) held left a b) (sym is) (by fault next)
+    → GivesHeld {T = Unit {0}} (body_text items) (Err ended_by) held left a b
+fault_put file items r r2 fault ended_by held mid left a b put is next = subst (λ f. GivesHeld {T = Unit {0}} (body_text items) (Err f) held left a b) (sym is) (by fault next)
   where
     some : GivesSome a b (held ++ body_text items)
     some = subst (λ t. GivesSome a b (held ++ t)) (sym (ap body_text put.whole ∙ body_both put.gone put.rest)) (gives_no_more (body_text put.gone) (body_text put.rest) held mid a b put.gave)
 
-    by : (fault : FileFault) → GivesNext file put.live put.before (Ok put.rest) r2 (Err fault) → Gives {T = Unit {0}} (body_text items) (Err (file_fault fault)) held left a b
+    by : (fault : FileFault) → GivesNext file put.live put.before (Ok put.rest) r2 (Err fault) → GivesHeld {T = Unit {0}} (body_text items) (Err (file_fault fault)) held left a b
     by faults.Failed next = some
     by faults.Memory next = some
     by (faults.BadFormat line) next = absurd cc

@@ -5,11 +5,11 @@ use Rattle.sccs_base.proofs.Gifts.{buffers_both, buffers_cut, buffers_flushed, b
 use Rattle.sccs_sid.specs.declared.refusals.StepFault.{StepFault}
 use Rattle.sccs_sid.specs.declared.refusals.StepFault.TheVariants.{Refused, Memory, ReadFault, WriteFault, DiskFault}
 use Rattle.sccs_steps.specs.Causes.{PrintCauses}
-use Rattle.sccs_prs.specs.Gives.{Gives, Prints}
+use Rattle.sccs_prs.specs.Gives.{GivesHeld, PrintsAll}
 
 -- ---- one text behind another
 
-pub gives_then_gives : {T : Type 0} (x y : List ℕ) (r : Result T StepFault) (held mid left : List ℕ) (a b c : Option (List ℕ)) → Buffers held x mid a b → Gives y r mid left b c → Gives (x ++ y) r held left a c
+pub gives_then_gives : {T : Type 0} (x y : List ℕ) (r : Result T StepFault) (held mid left : List ℕ) (a b c : Option (List ℕ)) → Buffers held x mid a b → GivesHeld y r mid left b c → GivesHeld (x ++ y) r held left a c
 gives_then_gives x y (Ok done) held mid left a b c first second = buffers_both held x mid y left a b c first second
 gives_then_gives x y (Err Memory) held mid left a b c first second = buffers_then held x mid y a b c first second
 gives_then_gives x y (Err DiskFault) held mid left a b c first second = buffers_then held x mid y a b c first second
@@ -21,7 +21,7 @@ longer : (x y held : List ℕ) (a b : Option (List ℕ)) → GivesSome a b (held
 longer x y held a b some = subst (λ t. GivesSome a b t) (append_assoc held x y) (some_longer a b (held ++ x) y some)
 
 -- a text of which a prefix was given is longer
-pub gives_less : (x y : List ℕ) (fault : StepFault) (held left left2 : List ℕ) (a b : Option (List ℕ)) → Gives {T = Unit {0}} x (Err fault) held left a b → Gives {T = Unit {0}} (x ++ y) (Err fault) held left2 a b
+pub gives_less : (x y : List ℕ) (fault : StepFault) (held left left2 : List ℕ) (a b : Option (List ℕ)) → GivesHeld {T = Unit {0}} x (Err fault) held left a b → GivesHeld {T = Unit {0}} (x ++ y) (Err fault) held left2 a b
 gives_less x y Memory held left left2 a b some = longer x y held a b some
 gives_less x y DiskFault held left left2 a b some = longer x y held a b some
 gives_less x y WriteFault held left left2 a b some = longer x y held a b some
@@ -37,7 +37,7 @@ gives_no_more x y held mid a b first = buffers_then held x mid y a b b first (so
 pub part_gives : {X : Type 0} (f : X → List ℕ) (xs : List X) (i : ℕ) (d : X) (held mid left : List ℕ) (a b c : Option (List ℕ)) → i < length xs → Buffers held (flat_map f (take i xs)) mid a b → Buffers mid (f (get_or xs i d)) left b c → Buffers held (flat_map f (take (i + 1) xs)) left a c
 part_gives f xs i d held mid left a b c below first second = buffers_part f xs i d held mid left a b c below first second
 
-pub part_fails : {X : Type 0} (f : X → List ℕ) (xs : List X) (i : ℕ) (d : X) (fault : StepFault) (held mid left left2 : List ℕ) (a b c : Option (List ℕ)) → i < length xs → Buffers held (flat_map f (take i xs)) mid a b → Gives {T = Unit {0}} (f (get_or xs i d)) (Err fault) mid left b c → Gives {T = Unit {0}} (flat_map f xs) (Err fault) held left2 a c
+pub part_fails : {X : Type 0} (f : X → List ℕ) (xs : List X) (i : ℕ) (d : X) (fault : StepFault) (held mid left left2 : List ℕ) (a b c : Option (List ℕ)) → i < length xs → Buffers held (flat_map f (take i xs)) mid a b → GivesHeld {T = Unit {0}} (f (get_or xs i d)) (Err fault) mid left b c → GivesHeld {T = Unit {0}} (flat_map f xs) (Err fault) held left2 a c
 part_fails f xs i d Memory held mid left left2 a b c below first some = buffers_part_cut f xs i d held mid a b c below first some
 part_fails f xs i d DiskFault held mid left left2 a b c below first some = buffers_part_cut f xs i d held mid a b c below first some
 part_fails f xs i d WriteFault held mid left left2 a b c below first some = buffers_part_cut f xs i d held mid a b c below first some
@@ -49,13 +49,13 @@ pub item_gives : {X : Type 0} (f : X → List ℕ) (xs items : List X) → items
 item_gives {X} f xs items same i x d held mid left a b c below is first second =
     part_gives f xs i d held mid left a b c (subst (λ (l : List X). i < length l) same below) first (subst (λ (y : X). Buffers mid (f y) left b c) (is ∙ ap (λ (l : List X). get_or l i d) same) second)
 
-pub item_fails : {X : Type 0} (f : X → List ℕ) (xs items : List X) → items ≡ xs → (i : ℕ) (x d : X) (fault : StepFault) (held mid left left2 : List ℕ) (a b c : Option (List ℕ)) → i < length items → x ≡ get_or items i d → Buffers held (flat_map f (take i xs)) mid a b → Gives {T = Unit {0}} (f x) (Err fault) mid left b c → Gives {T = Unit {0}} (flat_map f xs) (Err fault) held left2 a c
+pub item_fails : {X : Type 0} (f : X → List ℕ) (xs items : List X) → items ≡ xs → (i : ℕ) (x d : X) (fault : StepFault) (held mid left left2 : List ℕ) (a b c : Option (List ℕ)) → i < length items → x ≡ get_or items i d → Buffers held (flat_map f (take i xs)) mid a b → GivesHeld {T = Unit {0}} (f x) (Err fault) mid left b c → GivesHeld {T = Unit {0}} (flat_map f xs) (Err fault) held left2 a c
 item_fails {X} f xs items same i x d fault held mid left left2 a b c below is first some =
-    part_fails f xs i d fault held mid left left2 a b c (subst (λ (l : List X). i < length l) same below) first (subst (λ (y : X). Gives {T = Unit {0}} (f y) (Err fault) mid left b c) (is ∙ ap (λ (l : List X). get_or l i d) same) some)
+    part_fails f xs i d fault held mid left left2 a b c (subst (λ (l : List X). i < length l) same below) first (subst (λ (y : X). GivesHeld {T = Unit {0}} (f y) (Err fault) mid left b c) (is ∙ ap (λ (l : List X). get_or l i d) same) some)
 
 -- ---- what was held back is given first, and then a text
 
-pub flushed_gives : {T : Type 0} (text : List ℕ) (r : Result T StepFault) (held left : List ℕ) (a b c : Option (List ℕ)) → left ≡ [] → GivesOk a b held → Prints text r b c → Gives text r held left a c
+pub flushed_gives : {T : Type 0} (text : List ℕ) (r : Result T StepFault) (held left : List ℕ) (a b c : Option (List ℕ)) → left ≡ [] → GivesOk a b held → PrintsAll text r b c → GivesHeld text r held left a c
 flushed_gives text (Ok done) held left a b c none first rest = record {
   gone = held ++ text;
   gives = gives_both a b c held text first rest;
@@ -69,7 +69,7 @@ flushed_gives text (Err (Refused refusal)) held left a b c none first rest = abs
 
 -- ---- all of it
 
-pub gives_prints : (text : List ℕ) (fault : StepFault) (held left : List ℕ) (a b : Option (List ℕ)) → held ≡ [] → Gives {T = Unit {0}} text (Err fault) held left a b → Prints {T = Unit {0}} text (Err fault) a b
+pub gives_prints : (text : List ℕ) (fault : StepFault) (held left : List ℕ) (a b : Option (List ℕ)) → held ≡ [] → GivesHeld {T = Unit {0}} text (Err fault) held left a b → PrintsAll {T = Unit {0}} text (Err fault) a b
 gives_prints text Memory held left a b none some = subst (λ h. GivesSome a b (h ++ text)) none some
 gives_prints text DiskFault held left a b none some = subst (λ h. GivesSome a b (h ++ text)) none some
 gives_prints text WriteFault held left a b none some = subst (λ h. GivesSome a b (h ++ text)) none some

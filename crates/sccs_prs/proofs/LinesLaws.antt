@@ -21,7 +21,7 @@ use Rattle.sccs_printing.specs.declared.shown.Shown.{Shown}
 use Rattle.sccs_disk.specs.Told.{Told, seen}
 use Rattle.sccs_table.specs.ReaderState.{bytes_in}
 use Rattle.sccs_table.specs.declared.fronts.Front.{Front}
-use Rattle.sccs_prs.specs.Gives.{IsRead, Prints}
+use Rattle.sccs_prs.specs.Gives.{IsListedFile, PrintsAll}
 use Rattle.sccs_prs.specs.PrsText.{ShownFile, delta_lines}
 use Rattle.sccs_prs.specs.Shown.{IsShown}
 
@@ -48,7 +48,7 @@ live_text s r set lives is =
 pub no_text : (s : ShownFile) (r : Record) (a : Option (List ℕ)) → r.removed ≡ true → GivesOk a a [] → GivesOk a a (delta_lines s r)
 no_text s r a removed none = subst (λ t. GivesOk a a t) (ap (λ (b : Bool). cond b [] (bytes_of (version r.serial s.header.records (lines_of s.items)))) (sym removed)) none
 
-pub prints_so : (x y : List ℕ) (fault : StepFault) (a b : Option (List ℕ)) → x ≡ y → PrintsTo {T = Shown} None x (Err fault) a b → Prints {T = Unit {0}} y (Err fault) a b
+pub prints_so : (x y : List ℕ) (fault : StepFault) (a b : Option (List ℕ)) → x ≡ y → PrintsTo {T = Shown} None x (Err fault) a b → PrintsAll {T = Unit {0}} y (Err fault) a b
 prints_so x y Memory a b same some = subst (λ t. GivesSome a b t) same some
 prints_so x y DiskFault a b same some = subst (λ t. GivesSome a b t) same some
 prints_so x y WriteFault a b same some = subst (λ t. GivesSome a b t) same some
@@ -56,7 +56,7 @@ prints_so x y ReadFault a b same some = absurd some
 prints_so x y (Refused refusal) a b same some = absurd some
 
 -- the same body, by a set without 0
-pub with_set : (told : Option (List ℕ)) (front : Front) (file : List ℕ) (items : List Item) (set : List ℕ) → has set 0 ≡ false → IsRead told front file items → IsBody told front set file items
+pub with_set : (told : Option (List ℕ)) (front : Front) (file : List ℕ) (items : List Item) (set : List ℕ) → has set 0 ≡ false → IsListedFile told front file items → IsBody told front set file items
 with_set told front file items set none is = record { told_is = is.told_is; front_is = is.front_is; items_are = is.items_are; no_zero = none }
 
 -- ---- the deltas of a table
@@ -84,8 +84,8 @@ shown_in records items same i x d each below is =
     subst (λ (r : Record). IsShown records r) (ap (λ (l : List Record). get_or l i d) (sym same) ∙ sym is) (shown_at records i d each (subst (λ (l : List Record). i < length l) same below))
 
 -- the same file, over a disk that tells the same
-pub read_still : (t t2 : Told) (n : List ℕ) (front : Front) (file : List ℕ) (items : List Item) → t2 ≡ t → IsRead (bytes_in (seen t) n) front file items → IsRead (bytes_in (seen t2) n) front file items
-read_still t t2 n front file items same is = subst (λ (u : Told). IsRead (bytes_in (seen u) n) front file items) (sym same) is
+pub read_still : (t t2 : Told) (n : List ℕ) (front : Front) (file : List ℕ) (items : List Item) → t2 ≡ t → IsListedFile (bytes_in (seen t) n) front file items → IsListedFile (bytes_in (seen t2) n) front file items
+read_still t t2 n front file items same is = subst (λ (u : Told). IsListedFile (bytes_in (seen u) n) front file items) (sym same) is
 
 pub take_all : {X : Type 0} (xs : List X) (i : ℕ) → length xs ≤ i → take i xs ≡ xs
 take_all [] zero le = refl

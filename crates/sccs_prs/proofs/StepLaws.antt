@@ -30,9 +30,9 @@ use Rattle.sccs_steps.specs.StepEffects.{Outcome, StepEffect, effect_of}
 use Rattle.sccs_steps.proofs.ReadingSteps.{broken, kept, same_cleared}
 use Rattle.sccs_words.specs.declared.commands.PrsWords.{PrsWords}
 use Rattle.sccs_prs.specs.Chosen.{chosen_of}
-use Rattle.sccs_prs.specs.Gives.{IsRead, Prints, shown_by}
+use Rattle.sccs_prs.specs.Gives.{IsListedFile, PrintsAll, shown_by}
 use Rattle.sccs_prs.specs.Keeps.{from_file, outcome_is}
-use Rattle.sccs_prs.specs.PrsStep.{Shows, prints, prs_action, prs_checks, prs_outcome, shown_file}
+use Rattle.sccs_prs.specs.PrsStep.{ShowsOutcome, prints, prs_action, prs_checks, prs_outcome, shown_file}
 use Rattle.sccs_prs.specs.PrsText.{report_text}
 use Rattle.sccs_prs.specs.declared.choices.Chosen.{Chosen}
 
@@ -56,7 +56,7 @@ module _ (words : PrsWords) (place n : List ℕ) where
 
   -- ---- how showing ends
 
-  unread : (f : Files) (fault : FileFault) (a : Option (List ℕ)) → Refuses fault (answer file_of (bytes_at f.s)) → Shows n (outcome f) (Err (file_fault fault)) a a
+  unread : (f : Files) (fault : FileFault) (a : Option (List ℕ)) → Refuses fault (answer file_of (bytes_at f.s)) → ShowsOutcome n (outcome f) (Err (file_fault fault)) a a
   unread f faults.Missing a is = (isnt_read f faults.Missing is, refl)
   unread f faults.TooLong a is = (isnt_read f faults.TooLong is, refl)
   unread f faults.NotSccs a is = (isnt_read f faults.NotSccs is, refl)
@@ -67,21 +67,21 @@ module _ (words : PrsWords) (place n : List ℕ) where
   unread f faults.Failed a is = some_none a (effect_of n (outcome f)).text
   unread f faults.Memory a is = some_none a (effect_of n (outcome f)).text
 
-  pub file_ends : (o : Option View) (fault : FileFault) (ended : StepFault) (a : Option (List ℕ)) → ended ≡ file_fault fault → IfSome o (λ view. AnswersFile (file_in view n) (Err fault)) → IfSome o (λ (v : View). Shows n (outcome (look v n)) (Err ended) a a)
+  pub file_ends : (o : Option View) (fault : FileFault) (ended : StepFault) (a : Option (List ℕ)) → ended ≡ file_fault fault → IfSome o (λ view. AnswersFile (file_in view n) (Err fault)) → IfSome o (λ (v : View). ShowsOutcome n (outcome (look v n)) (Err ended) a a)
   file_ends None fault ended a is answers = tt
-  file_ends (Some v) fault ended a is answers = subst (λ f. Shows n (outcome (look v n)) (Err f) a a) (sym is) (unread (look v n) fault a answers)
+  file_ends (Some v) fault ended a is answers = subst (λ f. ShowsOutcome n (outcome (look v n)) (Err f) a a) (sym is) (unread (look v n) fault a answers)
 
   shown_header : (o : Option (List ℕ)) (parsed : Parsed) (front : Front) → ShowsFile o parsed front → front.header ≡ parsed.header
   shown_header None parsed front shows = absurd shows
   shown_header (Some file) parsed front shows = shows.0
 
-  pub unchosen_ends : (o : Option View) (front : Front) (a : Option (List ℕ)) → IfSome o (λ view. AnswersFile (file_in view n) (Ok front)) → chosen_of words front.header.records ≡ Err refusals.NoSid → IfSome o (λ (v : View). Shows n (outcome (look v n)) (Err (Refused refusals.NoSid)) a a)
+  pub unchosen_ends : (o : Option View) (front : Front) (a : Option (List ℕ)) → IfSome o (λ view. AnswersFile (file_in view n) (Ok front)) → chosen_of words front.header.records ≡ Err refusals.NoSid → IfSome o (λ (v : View). ShowsOutcome n (outcome (look v n)) (Err (Refused refusals.NoSid)) a a)
   unchosen_ends None front a answers is = tt
   unchosen_ends (Some v) front a answers is =
       let header : front.header ≡ answers.0.header = shown_header (file_in v n) answers.0 front answers.2 in
       (chosen_is (look v n) answers.0 (Err refusals.NoSid) answers.1 (ap (λ (h : Header). chosen_of words h.records) (sym header) ∙ is), refl)
 
-  body_there : (o told : Option (List ℕ)) (parsed : Parsed) (front : Front) → IsPlaced front → told ≡ o → answer file_of o ≡ Ok parsed → ShowsFile o parsed front → (file : List ℕ) × IsRead told front file parsed.items
+  body_there : (o told : Option (List ℕ)) (parsed : Parsed) (front : Front) → IsPlaced front → told ≡ o → answer file_of o ≡ Ok parsed → ShowsFile o parsed front → (file : List ℕ) × IsListedFile told front file parsed.items
   body_there None told parsed front placed same is shows = absurd shows
   body_there (Some file) told parsed front placed same is shows = (
     file,
@@ -93,7 +93,7 @@ module _ (words : PrsWords) (place n : List ℕ) where
     },
   )
 
-  given_shows : (o : Outcome) (text : List ℕ) (r : Result (Unit {0}) StepFault) (a b : Option (List ℕ)) → o ≡ Ok (prints text) → Prints text r a b → Shows n o r a b
+  given_shows : (o : Outcome) (text : List ℕ) (r : Result (Unit {0}) StepFault) (a b : Option (List ℕ)) → o ≡ Ok (prints text) → PrintsAll text r a b → ShowsOutcome n o r a b
   given_shows o text (Ok done) a b is gives = (prints text, is, refl, gives)
   given_shows o text (Err Memory) a b is gives = subst (λ (x : Outcome). GivesSome a b (effect_of n x).text) (sym is) gives
   given_shows o text (Err DiskFault) a b is gives = subst (λ (x : Outcome). GivesSome a b (effect_of n x).text) (sym is) gives
@@ -102,21 +102,21 @@ module _ (words : PrsWords) (place n : List ℕ) where
   given_shows o text (Err (Refused refusal)) a b is gives = absurd gives
 
   pub report_ends : (o o1 : Option View) (front : Front) (chosen : Chosen) (r : Result (Unit {0}) StepFault) (a b : Option (List ℕ)) → o1 ≡ o → IsPlaced front → IfSome o (λ view. AnswersFile (file_in view n) (Ok front)) → chosen_of words front.header.records ≡ Ok chosen
-      → ((bytes : List ℕ) (items : List Item) → IsRead (bytes_in o1 n) front bytes items → Prints (report_text words chosen (shown_by front items n place)) r a b) → IfSome o (λ (v : View). Shows n (outcome (look v n)) r a b)
+      → ((bytes : List ℕ) (items : List Item) → IsListedFile (bytes_in o1 n) front bytes items → PrintsAll (report_text words chosen (shown_by front items n place)) r a b) → IfSome o (λ (v : View). ShowsOutcome n (outcome (look v n)) r a b)
   report_ends None o1 front chosen r a b same placed answers is gives = tt
   report_ends (Some v) o1 front chosen r a b same placed answers is gives =
       let parsed : Parsed = answers.0 in
       let header : front.header ≡ parsed.header = shown_header (file_in v n) parsed front answers.2 in
-      let there : (file : List ℕ) × IsRead (bytes_in o1 n) front file parsed.items = body_there (file_in v n) (bytes_in o1 n) parsed front placed (ap (λ (t : Option View). bytes_in t n) same) answers.1 answers.2 in
+      let there : (file : List ℕ) × IsListedFile (bytes_in o1 n) front file parsed.items = body_there (file_in v n) (bytes_in o1 n) parsed front placed (ap (λ (t : Option View). bytes_in t n) same) answers.1 answers.2 in
       given_shows (outcome (look v n)) (report_text words chosen (shown_file parsed n place)) r a b (chosen_is (look v n) parsed (Ok chosen) answers.1 (ap (λ (h : Header). chosen_of words h.records) (sym header) ∙ is))
-      (subst (λ (h : Header). Prints (report_text words chosen (record { header = h; items = parsed.items; name = n; place = place })) r a b) header (gives there.0 parsed.items there.1))
+      (subst (λ (h : Header). PrintsAll (report_text words chosen (record { header = h; items = parsed.items; name = n; place = place })) r a b) header (gives there.0 parsed.items there.1))
 
   -- ---- the step
 
-  pub shown_steps : (r : Result (Unit {0}) StepFault) (ta tb : Told) (left out out2 err : Option (List ℕ)) → tb ≡ ta → IfSome (seen ta) (λ (v : View). Shows n (outcome (look v n)) r out out2) → Stepped (prs_action words place) r n left (scene ta out err) (scene tb out2 err)
+  pub shown_steps : (r : Result (Unit {0}) StepFault) (ta tb : Told) (left out out2 err : Option (List ℕ)) → tb ≡ ta → IfSome (seen ta) (λ (v : View). ShowsOutcome n (outcome (look v n)) r out out2) → Stepped (prs_action words place) r n left (scene ta out err) (scene tb out2 err)
   shown_steps r ta tb left out out2 err same shows = by (seen ta) (ap seen same) shows
     where
-      ends : (v : View) (o2 : Option View) (o : Outcome) (r : Result (Unit {0}) StepFault) → o2 ≡ Some v → Shows n o r out out2 → Meets (λ (done : Unit {0}). 0) r n o (world (Some v) out err) (world o2 out2 err)
+      ends : (v : View) (o2 : Option View) (o : Outcome) (r : Result (Unit {0}) StepFault) → o2 ≡ Some v → ShowsOutcome n o r out out2 → Meets (λ (done : Unit {0}). 0) r n o (world (Some v) out err) (world o2 out2 err)
       ends v o2 o (Ok done) is shows = (
         shows.0,
         shows.1,
@@ -134,7 +134,7 @@ module _ (words : PrsWords) (place n : List ℕ) where
       ends v o2 o (Err DiskFault) is shows = broken v o2 n o out out2 err is shows
       ends v o2 o (Err ReadFault) is shows = absurd shows
 
-      by : (o : Option View) → seen tb ≡ o → IfSome o (λ (v : View). Shows n (outcome (look v n)) r out out2) → IfSome o (λ (v : View). (i : List ℕ) → IsHeard false left i → Meets (λ (done : Unit {0}). 0) r n (outcome (look v n)) (world o out err) (world (seen tb) out2 err))
+      by : (o : Option View) → seen tb ≡ o → IfSome o (λ (v : View). ShowsOutcome n (outcome (look v n)) r out out2) → IfSome o (λ (v : View). (i : List ℕ) → IsHeard false left i → Meets (λ (done : Unit {0}). 0) r n (outcome (look v n)) (world o out err) (world (seen tb) out2 err))
       by None is shows = tt
       by (Some v) is shows = λ i heard. ends v (seen tb) (outcome (look v n)) r is shows
 

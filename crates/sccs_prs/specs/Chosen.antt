@@ -40,8 +40,8 @@ abbrev pub meant_by : Option Sid → Bool → List Record → Option ℕ
 meant_by None all records = newest_live records
 meant_by (Some sid) all records = named_serial all records sid
 
-abbrev pub meant : PrsWords → List Record → Option ℕ
-meant words records = meant_by words.sid words.all records
+abbrev pub chosen_serial : PrsWords → List Record → Option ℕ
+chosen_serial words records = meant_by words.sid words.all records
 
 -- one delta is meant with -r, -e, -l and -d
 abbrev pub means_one : PrsWords → Bool
@@ -56,7 +56,7 @@ abbrev pub by_cutoff : PrsWords → Moment → Chosen
 by_cutoff words moment = if words.earlier then NotLater moment else NotEarlier moment
 
 abbrev pub by_serial : PrsWords → List Record → Result Chosen Refusal
-by_serial words records = there (meant words records) refusals.NoSid >>= λ serial. Ok (beside words serial)
+by_serial words records = there (chosen_serial words records) refusals.NoSid >>= λ serial. Ok (beside words serial)
 
 abbrev pub chosen_by : Option Moment → PrsWords → List Record → Result Chosen Refusal
 chosen_by (Some moment) words records = Ok (by_cutoff words moment)

@@ -34,13 +34,13 @@ prs_outcome words place n f = do
   Ok (prints (report_text words chosen (shown_file file n place)))
 
 -- What a call that prints an outcome's text answers: all of it was given, a check fails and nothing was given, or a prefix of it.
-abbrev pub Shows : List ℕ → Outcome → Result (Unit {0}) StepFault → Option (List ℕ) → Option (List ℕ) → Type 0
-Shows n o (Ok done) a b = (d : StepEffect) × (o ≡ Ok d) × (d ≡ prints d.text) × GivesOk a b d.text
-Shows n o (Err (Refused refusal)) a b = (o ≡ Err refusal) × (b ≡ a)
-Shows n o (Err Memory) a b = GivesSome a b (effect_of n o).text
-Shows n o (Err DiskFault) a b = GivesSome a b (effect_of n o).text
-Shows n o (Err WriteFault) a b = GivesSome a b (effect_of n o).text
-Shows n o (Err ReadFault) a b = ⊥
+abbrev pub ShowsOutcome : List ℕ → Outcome → Result (Unit {0}) StepFault → Option (List ℕ) → Option (List ℕ) → Type 0
+ShowsOutcome n o (Ok done) a b = (d : StepEffect) × (o ≡ Ok d) × (d ≡ prints d.text) × GivesOk a b d.text
+ShowsOutcome n o (Err (Refused refusal)) a b = (o ≡ Err refusal) × (b ≡ a)
+ShowsOutcome n o (Err Memory) a b = GivesSome a b (effect_of n o).text
+ShowsOutcome n o (Err DiskFault) a b = GivesSome a b (effect_of n o).text
+ShowsOutcome n o (Err WriteFault) a b = GivesSome a b (effect_of n o).text
+ShowsOutcome n o (Err ReadFault) a b = ⊥
 
 -- the numbers of its checks
 abbrev pub prs_checks : List ℕ

@@ -31,15 +31,15 @@ abbrev pub delta_lines : ShownFile → Record → List ℕ
 delta_lines s r = if r.removed then [] else bytes_of (version r.serial s.header.records (lines_of s.items))
 
 -- what a part of a specification stands for where a delta is shown
-abbrev pub part_text : ShownFile → Record → Part → List ℕ
-part_text s r (Plain byte) = byte ∷ []
-part_text s r (part.Item item) = item_text s.header (facts_in s.header s.name s.place r) r item
-part_text s r Body = body_text s.items
-part_text s r Text = delta_lines s r
+abbrev pub data_text : ShownFile → Record → Part → List ℕ
+data_text s r (Plain byte) = byte ∷ []
+data_text s r (part.Item item) = item_text s.header (facts_in s.header s.name s.place r) r item
+data_text s r Body = body_text s.items
+data_text s r Text = delta_lines s r
 
 -- what parts stand for
 abbrev pub parts_text : List Part → ShownFile → Record → List ℕ
-parts_text ps s r = flat_map (part_text s r) ps
+parts_text ps s r = flat_map (data_text s r) ps
 
 -- the text of a specification for a delta
 abbrev pub prs_text : List ℕ → ShownFile → Record → List ℕ
@@ -56,9 +56,9 @@ deltas_text all chosen ps s records = flat_map (shown_text all chosen ps s) reco
 abbrev pub default_spec : List ℕ
 default_spec = codes ":Dt:\\t:DL:\\nMRs:\\n:MR:COMMENTS:\\n:C:"
 
-abbrev pub spec_of : Option (List ℕ) → List ℕ
-spec_of None = default_spec
-spec_of (Some spec) = spec
+abbrev pub data_spec : Option (List ℕ) → List ℕ
+data_spec None = default_spec
+data_spec (Some spec) = spec
 
 -- without -d the name comes first, and an empty line
 abbrev pub name_text : PrsWords → List ℕ → List ℕ
@@ -66,4 +66,4 @@ name_text words n = if is_some words.spec then [] else n ++ (58 ∷ 10 ∷ 10 �
 
 -- all that prs prints of an s-file
 abbrev pub report_text : PrsWords → Chosen → ShownFile → List ℕ
-report_text words chosen s = name_text words s.name ++ deltas_text words.all chosen (parts (spec_of words.spec)) s s.header.records
+report_text words chosen s = name_text words s.name ++ deltas_text words.all chosen (parts (data_spec words.spec)) s s.header.records

@@ -10,8 +10,8 @@ use Rattle.sccs_prs.specs.PrsText.{ShownFile}
 use Rattle.sccs_prs.specs.declared.deltas.Shown.{Shown}
 
 -- the file, with the items of its body
-abbrev pub shown_of : Shown → List Item → ShownFile
-shown_of s items = shown_by s.front.now items s.name.now s.place.now
+abbrev pub shown_file : Shown → List Item → ShownFile
+shown_file s items = shown_by s.front.now items s.name.now s.place.now
 
 -- A record of a table has a spelling, and one that isn't removed is live.
 pub record IsShown (records : List Record) (r : Record) : Type 0 where

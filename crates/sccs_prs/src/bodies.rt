@@ -9,7 +9,7 @@ ghost use Rattle.sccs_table.specs.ReaderState.{bytes_in};
 ghost use Rattle.sccs_tokens.specs.Written.{ended, item_line};
 ghost use Rattle.sccs_body.specs.Reader.{name_read};
 ghost use Rattle.sccs_prs.specs.Bodies.{IsToCome};
-ghost use Rattle.sccs_prs.specs.Gives.{Gives, IsRead};
+ghost use Rattle.sccs_prs.specs.Gives.{GivesHeld, IsListedFile};
 ghost use Rattle.sccs_prs.specs.PrsText.{body_text};
 
 use crate::listings::{Listing, put};
@@ -44,7 +44,7 @@ fn give_line<S: Sink>(item: &Item, out: &mut S) -> Result<(), Failed>
 
 // prints the line of an item
 fn put_line<O: Sink>(item: &Item, listing: &mut Listing, out: &mut O) -> Result<(), StepFault>
-    ensures gives { Gives (ended (item_line item.now)) result listing.old.buffer listing.new.buffer (O.given out.old) (O.given out.new) }
+    ensures gives { GivesHeld (ended (item_line item.now)) result listing.old.buffer listing.new.buffer (O.given out.old) (O.given out.new) }
     ensures causes { (disk : ℕ) → PrintCauses result (O.faults out.old) (O.faults out.new) disk disk }
     ensures checks { RefusesWithin file_checks result }
 {
@@ -66,7 +66,7 @@ fn put_items<O: Sink, D: Disk>(
     ensures causes { PrintCauses result (O.faults out.old) (O.faults out.new) (D.faults disk.old) (D.faults disk.new) }
     ensures checks { RefusesWithin file_checks result }
     ensures gives { (file : List ℕ) (rest : List Item) → IsToCome (bytes_in (seen (D.told disk.old)) (name_read items.old)) file rest items.old
-        → Gives (body_text rest) result listing.old.buffer listing.new.buffer (O.given out.old) (O.given out.new) }
+        → GivesHeld (body_text rest) result listing.old.buffer listing.new.buffer (O.given out.old) (O.given out.new) }
 {
     'items: loop {
         match items.next(disk) {
@@ -94,8 +94,8 @@ pub fn put_body<O: Sink, D: Disk>(
     ensures same { D.told disk.new ≡ D.told disk.old }
     ensures causes { PrintCauses result (O.faults out.old) (O.faults out.new) (D.faults disk.old) (D.faults disk.new) }
     ensures checks { RefusesWithin file_checks result }
-    ensures gives { (file : List ℕ) (items : List Item) → IsRead (bytes_in (seen (D.told disk.old)) name.now) front.now file items
-        → Gives (body_text items) result listing.old.buffer listing.new.buffer (O.given out.old) (O.given out.new) }
+    ensures gives { (file : List ℕ) (items : List Item) → IsListedFile (bytes_in (seen (D.told disk.old)) name.now) front.now file items
+        → GivesHeld (body_text items) result listing.old.buffer listing.new.buffer (O.given out.old) (O.given out.new) }
 {
     let Ok(mut items) = ItemReader::new(alloc, name, front) else {
         return Err(StepFault::Memory);

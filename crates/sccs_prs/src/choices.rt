@@ -2,7 +2,7 @@ ghost use Rattle.std.specs.Prelude.{◌≡◌, ◌||◌, ◌&&◌, MatchResult, 
 ghost use Rattle.std.specs.Option.{option_copied};
 ghost use Rattle.sccs_history.specs.History.{same_sid};
 ghost use Rattle.sccs_sid.specs.declared.refusals.Refusal.TheVariants as refusals;
-ghost use Rattle.sccs_prs.specs.Chosen.{beside, by_cutoff, chosen_of, comes, by_serial, any_serial, is_chosen, live_serial, means_one, meant, named_serial, newest_live};
+ghost use Rattle.sccs_prs.specs.Chosen.{beside, by_cutoff, chosen_of, comes, by_serial, any_serial, is_chosen, live_serial, means_one, chosen_serial, named_serial, newest_live};
 
 use sccs_history::Record;
 use sccs_sets::NoSid;
@@ -63,7 +63,7 @@ fn named_serial(all: bool, records: &[Record], sid: Sid) -> Option<u16>
 
 // the serial of the delta that -r names, or of the newest one that lives
 fn meant(words: &PrsWords, records: &[Record]) -> Option<u16>
-    ensures { result ≡ meant words.now records.now }
+    ensures { result ≡ chosen_serial words.now records.now }
 {
     match words.sid {
         Some(sid) => named_serial(words.all, records, sid),

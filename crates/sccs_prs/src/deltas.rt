@@ -12,9 +12,9 @@ ghost use Rattle.sccs_steps.specs.Causes.{PrintCauses};
 ghost use Rattle.sccs_table.specs.ReaderState.{bytes_in};
 ghost use Rattle.sccs_data_keywords.specs.Values.{facts_in};
 ghost use Rattle.sccs_tokens.specs.Written.{ended};
-ghost use Rattle.sccs_prs.specs.Gives.{Gives, IsRead, Prints};
-ghost use Rattle.sccs_prs.specs.Shown.{IsShown, shown_of};
-ghost use Rattle.sccs_prs.specs.PrsText.{delta_lines, part_text, parts_text};
+ghost use Rattle.sccs_prs.specs.Gives.{GivesHeld, IsListedFile, PrintsAll};
+ghost use Rattle.sccs_prs.specs.Shown.{IsShown, shown_file};
+ghost use Rattle.sccs_prs.specs.PrsText.{delta_lines, data_text, parts_text};
 
 use crate::bodies::put_body;
 use crate::listings::{Listing, put, put_item};
@@ -51,8 +51,8 @@ fn print_lines<O: Sink, D: Disk>(
     ensures same { D.told disk.new ≡ D.told disk.old }
     ensures causes { PrintCauses result (O.faults out.old) (O.faults out.new) (D.faults disk.old) (D.faults disk.new) }
     ensures checks { RefusesWithin file_checks result }
-    ensures prints { (bytes : List ℕ) (items : List Item) → IsRead (bytes_in (seen (D.told disk.old)) file.entry.name.now) file.entry.front.now bytes items
-        → Prints (delta_lines (shown_of file.entry items) delta.now) result (O.given out.old) (O.given out.new) }
+    ensures prints { (bytes : List ℕ) (items : List Item) → IsListedFile (bytes_in (seen (D.told disk.old)) file.entry.name.now) file.entry.front.now bytes items
+        → PrintsAll (delta_lines (shown_file file.entry items) delta.now) result (O.given out.old) (O.given out.new) }
 {
     if delta.removed {
         return Ok(());
@@ -66,10 +66,8 @@ fn print_lines<O: Sink, D: Disk>(
         has_sids: false,
         facts: None,
     };
-    match print_text(alloc, file.name, file.front, &set, &form, out, disk) {
-        Ok(_) => Ok(()),
-        Err(fault) => Err(fault),
-    }
+    print_text(alloc, file.name, file.front, &set, &form, out, disk)?;
+    Ok(())
 }
 
 // prints the text of a delta behind what is held back
@@ -86,8 +84,8 @@ fn put_lines<O: Sink, D: Disk>(
     ensures same { D.told disk.new ≡ D.told disk.old }
     ensures causes { PrintCauses result (O.faults out.old) (O.faults out.new) (D.faults disk.old) (D.faults disk.new) }
     ensures checks { RefusesWithin file_checks result }
-    ensures gives { (bytes : List ℕ) (items : List Item) → IsRead (bytes_in (seen (D.told disk.old)) file.entry.name.now) file.entry.front.now bytes items
-        → Gives (delta_lines (shown_of file.entry items) delta.now) result listing.old.buffer listing.new.buffer (O.given out.old) (O.given out.new) }
+    ensures gives { (bytes : List ℕ) (items : List Item) → IsListedFile (bytes_in (seen (D.told disk.old)) file.entry.name.now) file.entry.front.now bytes items
+        → GivesHeld (delta_lines (shown_file file.entry items) delta.now) result listing.old.buffer listing.new.buffer (O.given out.old) (O.given out.new) }
 {
     if let Err(_) = listing.buffer.flush(out) {
         return Err(StepFault::WriteFault);
@@ -113,8 +111,8 @@ fn put_part<O: Sink, D: Disk>(
     ensures same { D.told disk.new ≡ D.told disk.old }
     ensures causes { PrintCauses result (O.faults out.old) (O.faults out.new) (D.faults disk.old) (D.faults disk.new) }
     ensures checks { RefusesWithin file_checks result }
-    ensures gives { (bytes : List ℕ) (items : List Item) → IsRead (bytes_in (seen (D.told disk.old)) file.entry.name.now) file.entry.front.now bytes items
-        → Gives (part_text (shown_of file.entry items) delta.now part) result listing.old.buffer listing.new.buffer (O.given out.old) (O.given out.new) }
+    ensures gives { (bytes : List ℕ) (items : List Item) → IsListedFile (bytes_in (seen (D.told disk.old)) file.entry.name.now) file.entry.front.now bytes items
+        → GivesHeld (data_text (shown_file file.entry items) delta.now part) result listing.old.buffer listing.new.buffer (O.given out.old) (O.given out.new) }
 {
     match part {
         Part::Plain(byte) => put(&mut listing.buffer, &[byte], out),
@@ -142,8 +140,8 @@ fn put_parts<O: Sink, D: Disk>(
     ensures same { D.told disk.new ≡ D.told disk.old }
     ensures causes { PrintCauses result (O.faults out.old) (O.faults out.new) (D.faults disk.old) (D.faults disk.new) }
     ensures checks { RefusesWithin file_checks result }
-    ensures gives { (bytes : List ℕ) (items : List Item) → IsRead (bytes_in (seen (D.told disk.old)) file.entry.name.now) file.entry.front.now bytes items
-        → Gives (parts_text parts.now (shown_of file.entry items) delta.now) result listing.old.buffer listing.new.buffer (O.given out.old) (O.given out.new) }
+    ensures gives { (bytes : List ℕ) (items : List Item) → IsListedFile (bytes_in (seen (D.told disk.old)) file.entry.name.now) file.entry.front.now bytes items
+        → GivesHeld (parts_text parts.now (shown_file file.entry items) delta.now) result listing.old.buffer listing.new.buffer (O.given out.old) (O.given out.new) }
 {
     for part in parts {
         if let Err(fault) = put_part(alloc, *part, file, facts, delta, listing, out, disk) {
@@ -169,8 +167,8 @@ pub fn put_delta<O: Sink, D: Disk>(
     ensures same { D.told disk.new ≡ D.told disk.old }
     ensures causes { PrintCauses result (O.faults out.old) (O.faults out.new) (D.faults disk.old) (D.faults disk.new) }
     ensures checks { RefusesWithin file_checks result }
-    ensures gives { (bytes : List ℕ) (items : List Item) → IsRead (bytes_in (seen (D.told disk.old)) file.entry.name.now) file.entry.front.now bytes items
-        → Gives (ended (parts_text parts.now (shown_of file.entry items) delta.now)) result listing.old.buffer listing.new.buffer (O.given out.old) (O.given out.new) }
+    ensures gives { (bytes : List ℕ) (items : List Item) → IsListedFile (bytes_in (seen (D.told disk.old)) file.entry.name.now) file.entry.front.now bytes items
+        → GivesHeld (ended (parts_text parts.now (shown_file file.entry items) delta.now)) result listing.old.buffer listing.new.buffer (O.given out.old) (O.given out.new) }
 {
     let header = &file.front.header;
     let Ok(facts) = identification_facts(alloc, header, file.name, file.place, delta) else {

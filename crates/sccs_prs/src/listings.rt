@@ -5,7 +5,7 @@ ghost use Rattle.sccs_printing.specs.Printing.{file_checks};
 ghost use Rattle.sccs_steps.specs.Actions.{RefusesWithin};
 ghost use Rattle.sccs_steps.specs.Causes.{PrintCauses};
 ghost use Rattle.sccs_data_keywords.specs.Values.{item_text};
-ghost use Rattle.sccs_prs.specs.Gives.{Gives};
+ghost use Rattle.sccs_prs.specs.Gives.{GivesHeld};
 
 use sccs_base::{Memory, OutputBuffer, Sink};
 use sccs_data_keywords::{DataItem, give_item};
@@ -37,7 +37,7 @@ impl Listing {
 
 /// Prints bytes.
 pub fn put<O: Sink>(buffer: &mut OutputBuffer, bytes: &[u8], out: &mut O) -> Result<(), StepFault>
-    ensures gives { Gives bytes.now result buffer.old buffer.new (O.given out.old) (O.given out.new) }
+    ensures gives { GivesHeld bytes.now result buffer.old buffer.new (O.given out.old) (O.given out.new) }
     ensures causes { (disk : ℕ) → PrintCauses result (O.faults out.old) (O.faults out.new) disk disk }
     ensures checks { RefusesWithin file_checks result }
 {
@@ -58,7 +58,7 @@ pub fn put_item<O: Sink>(
 ) -> Result<(), StepFault>
     requires spelled { HasSpelling delta.now }
     requires moments { HasMoments facts.now }
-    ensures gives { Gives (item_text header.now facts.now delta.now item) result listing.old.buffer listing.new.buffer (O.given out.old) (O.given out.new) }
+    ensures gives { GivesHeld (item_text header.now facts.now delta.now item) result listing.old.buffer listing.new.buffer (O.given out.old) (O.given out.new) }
     ensures causes { (disk : ℕ) → PrintCauses result (O.faults out.old) (O.faults out.new) disk disk }
     ensures checks { RefusesWithin file_checks result }
 {

@@ -9,9 +9,9 @@ ghost use Rattle.sccs_steps.specs.Actions.{RefusesWithin};
 ghost use Rattle.sccs_steps.specs.Causes.{PrintCauses};
 ghost use Rattle.sccs_table.specs.ReaderState.{bytes_in};
 ghost use Rattle.sccs_data_keywords.specs.DataKeywords.{parts};
-ghost use Rattle.sccs_prs.specs.Gives.{Gives, IsRead, Prints};
-ghost use Rattle.sccs_prs.specs.PrsText.{deltas_text, name_text, report_text, shown_text, spec_of};
-ghost use Rattle.sccs_prs.specs.Shown.{IsShown, shown_of};
+ghost use Rattle.sccs_prs.specs.Gives.{GivesHeld, IsListedFile, PrintsAll};
+ghost use Rattle.sccs_prs.specs.PrsText.{deltas_text, name_text, report_text, shown_text, data_spec};
+ghost use Rattle.sccs_prs.specs.Shown.{IsShown, shown_file};
 
 use crate::choices::{Chosen, comes};
 use crate::deltas::{Shown, put_delta};
@@ -29,7 +29,7 @@ const DEFAULT_SPEC: &[u8] = b":Dt:\\t:DL:\\nMRs:\\n:MR:COMMENTS:\\n:C:";
 
 // the specification
 fn spec_of(words: &PrsWords) -> &[u8]
-    ensures { result.now ≡ spec_of words.now.spec }
+    ensures { result.now ≡ data_spec words.now.spec }
 {
     match &words.spec {
         Some(spec) => spec.bytes(),
@@ -55,8 +55,8 @@ fn put_shown<O: Sink, D: Disk>(
     ensures same { D.told disk.new ≡ D.told disk.old }
     ensures causes { PrintCauses result (O.faults out.old) (O.faults out.new) (D.faults disk.old) (D.faults disk.new) }
     ensures checks { RefusesWithin file_checks result }
-    ensures gives { (bytes : List ℕ) (items : List Item) → IsRead (bytes_in (seen (D.told disk.old)) file.entry.name.now) file.entry.front.now bytes items
-        → Gives (shown_text all chosen parts.now (shown_of file.entry items) delta.now) result listing.old.buffer listing.new.buffer (O.given out.old) (O.given out.new) }
+    ensures gives { (bytes : List ℕ) (items : List Item) → IsListedFile (bytes_in (seen (D.told disk.old)) file.entry.name.now) file.entry.front.now bytes items
+        → GivesHeld (shown_text all chosen parts.now (shown_file file.entry items) delta.now) result listing.old.buffer listing.new.buffer (O.given out.old) (O.given out.new) }
 {
     if comes(all, chosen, delta) {
         put_delta(alloc, parts, file, delta, listing, out, disk)
@@ -82,8 +82,8 @@ fn put_deltas<O: Sink, D: Disk>(
     ensures same { D.told disk.new ≡ D.told disk.old }
     ensures causes { PrintCauses result (O.faults out.old) (O.faults out.new) (D.faults disk.old) (D.faults disk.new) }
     ensures checks { RefusesWithin file_checks result }
-    ensures gives { (bytes : List ℕ) (items : List Item) → IsRead (bytes_in (seen (D.told disk.old)) file.entry.name.now) file.entry.front.now bytes items
-        → Gives (deltas_text all chosen parts.now (shown_of file.entry items) file.entry.front.now.header.records) result listing.old.buffer listing.new.buffer (O.given out.old) (O.given out.new) }
+    ensures gives { (bytes : List ℕ) (items : List Item) → IsListedFile (bytes_in (seen (D.told disk.old)) file.entry.name.now) file.entry.front.now bytes items
+        → GivesHeld (deltas_text all chosen parts.now (shown_file file.entry items) file.entry.front.now.header.records) result listing.old.buffer listing.new.buffer (O.given out.old) (O.given out.new) }
 {
     for delta in file.front.header.records.items() {
         if let Err(fault) = put_shown(alloc, all, chosen, parts, file, delta, listing, out, disk) {
@@ -100,7 +100,7 @@ fn put_name<O: Sink>(
     listing: &mut Listing,
     out: &mut O,
 ) -> Result<(), StepFault>
-    ensures gives { Gives (name_text words.now name.now) result listing.old.buffer listing.new.buffer (O.given out.old) (O.given out.new) }
+    ensures gives { GivesHeld (name_text words.now name.now) result listing.old.buffer listing.new.buffer (O.given out.old) (O.given out.new) }
     ensures causes { (disk : ℕ) → PrintCauses result (O.faults out.old) (O.faults out.new) disk disk }
     ensures checks { RefusesWithin file_checks result }
 {
@@ -129,8 +129,8 @@ fn put_report<O: Sink, D: Disk>(
     ensures same { D.told disk.new ≡ D.told disk.old }
     ensures causes { PrintCauses result (O.faults out.old) (O.faults out.new) (D.faults disk.old) (D.faults disk.new) }
     ensures checks { RefusesWithin file_checks result }
-    ensures gives { (bytes : List ℕ) (items : List Item) → IsRead (bytes_in (seen (D.told disk.old)) file.entry.name.now) file.entry.front.now bytes items
-        → Gives (report_text words.now chosen (shown_of file.entry items)) result listing.old.buffer listing.new.buffer (O.given out.old) (O.given out.new) }
+    ensures gives { (bytes : List ℕ) (items : List Item) → IsListedFile (bytes_in (seen (D.told disk.old)) file.entry.name.now) file.entry.front.now bytes items
+        → GivesHeld (report_text words.now chosen (shown_file file.entry items)) result listing.old.buffer listing.new.buffer (O.given out.old) (O.given out.new) }
 {
     let Ok(parts) = read_parts(alloc, spec_of(words)) else {
         return Err(StepFault::Memory);
@@ -167,8 +167,9 @@ pub fn print_report<O: Sink, D: Disk>(
     ensures same { D.told disk.new ≡ D.told disk.old }
     ensures causes { PrintCauses result (O.faults out.old) (O.faults out.new) (D.faults disk.old) (D.faults disk.new) }
     ensures checks { RefusesWithin file_checks result }
-    ensures prints { (bytes : List ℕ) (items : List Item) → IsRead (bytes_in (seen (D.told disk.old)) file.entry.name.now) file.entry.front.now bytes items
-        → Prints (report_text words.now chosen (shown_of file.entry items)) result (O.given out.old) (O.given out.new) }
+    ensures prints { (bytes : List ℕ) (items : List Item) → IsListedFile (bytes_in (seen (D.told disk.old)) file.entry.name.now) file.entry.front.now bytes items
+        → PrintsAll (report_text words.now chosen (shown_file file.entry items)) result
+        (O.given out.old) (O.given out.new) }
 {
     let Ok(mut listing) = Listing::new(alloc) else {
         return Err(StepFault::Memory);

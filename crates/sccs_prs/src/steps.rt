@@ -6,7 +6,7 @@ ghost use Rattle.sccs_files.specs.StepFiles.{look};
 ghost use Rattle.sccs_steps.specs.Actions.{RefusesWithin};
 ghost use Rattle.sccs_steps.specs.Causes.{PrintCauses};
 ghost use Rattle.sccs_prs.specs.Keeps.{prs_keeps};
-ghost use Rattle.sccs_prs.specs.PrsStep.{Shows, prs_action, prs_checks, prs_outcome};
+ghost use Rattle.sccs_prs.specs.PrsStep.{ShowsOutcome, prs_action, prs_checks, prs_outcome};
 
 use crate::choices::chosen_of;
 use crate::deltas::Shown;
@@ -38,7 +38,7 @@ fn show<O: Sink, D: Disk>(
     disk: &mut D,
 ) -> Result<(), StepFault>
     requires { IsSfile name.now }
-    ensures shows { IfSome (seen (D.told disk.old)) (λ (v : View). Shows name.now (prs_outcome words.now place.now name.now (look v name.now)) result (O.given out.old) (O.given out.new)) }
+    ensures shows { IfSome (seen (D.told disk.old)) (λ (v : View). ShowsOutcome name.now (prs_outcome words.now place.now name.now (look v name.now)) result (O.given out.old) (O.given out.new)) }
     ensures same { D.told disk.new ≡ D.told disk.old }
     ensures causes { PrintCauses result (O.faults out.old) (O.faults out.new) (D.faults disk.old) (D.faults disk.new) }
     ensures checks { RefusesWithin prs_checks result }

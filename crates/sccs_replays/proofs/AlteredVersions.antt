@@ -14,11 +14,12 @@ use Rattle.sccs_steps.specs.StepEffects.{Outcome, StepEffect}
 use Rattle.sccs_store.specs.SealedFiles.{sealed}
 use Rattle.sccs_words.specs.declared.commands.AdminWords.{AdminWords}
 use Rattle.sccs_admin.specs.AdminStep.{makes}
-use Rattle.sccs_delta.specs.NewVersions.{text_in}
+use Rattle.sccs_delta.specs.NewVersions.{version_text}
 use Rattle.sccs_delta.specs.Replays.{Texts}
-use Rattle.sccs_delta.proofs.FileRules.{file_keeps}
+use Rattle.sccs_copies.proofs.FileReads.{file_keeps}
 use Rattle.sccs_alter.specs.AlterStep.{WasRead, alter_outcome, altered_header, read_file}
-use Rattle.sccs_alter.proofs.HeaderLaws.{altered_records, passed}
+use Rattle.sccs_admin.proofs.RuleLaws.{passed}
+use Rattle.sccs_alter.proofs.HeaderLaws.{altered_records}
 use Rattle.sccs_alter.proofs.PrepareLaws.{parsed_of}
 use Rattle.sccs_alter.proofs.StopLaws.{altered_reads, answer_file}
 use Rattle.sccs_replays.specs.PastRuns.{HasVersions, IsOfVersions}
@@ -39,8 +40,8 @@ altered_versions words bytes text parsed new texts old same reads is are =
       reads = altered_reads words bytes text parsed.header new parsed.items keeps.header keeps.spelled reads is;
       rooted = ap is_rooted records ∙ (ap (λ (f : Parsed). is_rooted f.header.records) (sym one) ∙ are.rooted);
       versions = λ m live.
-          ap (λ rs. text_in (record { header = record new { records = rs }; items = parsed.items }) m) records
-          ∙ (ap (λ (f : Parsed). text_in f m) (sym one)
+          ap (λ rs. version_text (record { header = record new { records = rs }; items = parsed.items }) m) records
+          ∙ (ap (λ (f : Parsed). version_text f m) (sym one)
           ∙ are.versions m (subst (λ (f : Parsed). has (live_serials f.header.records) m ≡ true) (sym one) (subst (λ rs. has (live_serials rs) m ≡ true) records live)));
     }
 

@@ -21,9 +21,9 @@ use Rattle.sccs_pending.specs.Pending.{Found, bytes_at, pending_of}
 use Rattle.sccs_steps.specs.Actions.{Step}
 use Rattle.sccs_steps.specs.StepEffects.{Outcome, StepEffect, check}
 use Rattle.sccs_transactions.specs.Changes.{locking_step}
-use Rattle.sccs_edit.specs.SactStep.{found_edits, sact_step, shows}
-use Rattle.sccs_get.specs.EditStep.{edit_outcome, edited, reserved_of}
-use Rattle.sccs_get.specs.VersionStep.{found_of, g_is_free, get_outcome, got, has_its_keywords, lines_in, stays_writable, text_in, with_g, writes_g}
+use Rattle.sccs_edit.specs.SactStep.{found_edits, sact_step, shows_entries}
+use Rattle.sccs_get.specs.EditStep.{edit_outcome, edit_effect, reserved_of}
+use Rattle.sccs_get.specs.VersionStep.{found_version, g_is_free, get_outcome, get_effect, has_its_keywords, lines_got, stays_writable, given_text, with_g, writes_g}
 use Rattle.sccs_recovery.specs.RecoverStep.{files_checked, recover_step, recovers, unlocked}
 
 -- the s-file behind a step that makes these files
@@ -58,17 +58,17 @@ pub get_leaves : (words : GetWords) (stamp : Stamp) (place : List ℕ) (heading 
 unfolding get_outcome
 get_leaves words stamp place heading n f =
     passed_leaves f.s (or_refusal (answer file_of (bytes_at f.s))) _ (λ parsed.
-    passed_leaves f.s (found_of words stamp place n parsed.header) _ (λ found.
-    passed_leaves f.s (has_its_keywords words parsed.header.flags (lines_in found parsed.items)) _ (λ keywords.
+    passed_leaves f.s (found_version words stamp place n parsed.header) _ (λ found.
+    passed_leaves f.s (has_its_keywords words parsed.header.flags (lines_got found parsed.items)) _ (λ keywords.
     passed_leaves f.s (g_is_free words f.g) _ (λ free.
-    done_leaves f.s (got words heading n parsed.header.records f found (lines_in found parsed.items))
-    (either_leaves (writes_g words) f.s (with_g f (text_in words parsed.header.records found (lines_in found parsed.items)) (stays_writable words)) refl)))))
+    done_leaves f.s (get_effect words heading n parsed.header.records f found (lines_got found parsed.items))
+    (either_leaves (writes_g words) f.s (with_g f (given_text words parsed.header.records found (lines_got found parsed.items)) (stays_writable words)) refl)))))
 
 pub edit_leaves : (words : GetWords) (stamp : Stamp) (place : List ℕ) (heading : Bool) (n input : List ℕ) (named : List (Option Content)) (f : Files) → Leaves f.s (edit_outcome words stamp place heading n input named f)
 unfolding edit_outcome
 edit_leaves words stamp place heading n input named f =
     passed_leaves f.s (reserved_of words stamp place n f) _ (λ x.
-    done_leaves f.s (edited words heading n x.parsed.header.records f x.edits x.edit x.version (lines_in x.version x.parsed.items)) refl)
+    done_leaves f.s (edit_effect words heading n x.parsed.header.records f x.edits x.edit x.version (lines_got x.version x.parsed.items)) refl)
 
 pub entries_leave : (decide : List ℕ → Found → Result Decided Refusal) (n input : List ℕ) (named : List (Option Content)) (f : Files) → Leaves f.s (entries_outcome decide n input named f)
 unfolding entries_outcome
@@ -78,7 +78,7 @@ entries_leave decide n input named f =
 
 pub sact_leaves : (heading : Bool) (n : List ℕ) (f : Files) → Leaves f.s (sact_step heading n f)
 unfolding sact_step
-sact_leaves heading n f = passed_leaves f.s (found_edits f) _ (λ edits. done_leaves f.s (shows heading n edits) refl)
+sact_leaves heading n f = passed_leaves f.s (found_edits f) _ (λ edits. done_leaves f.s (shows_entries heading n edits) refl)
 
 pub recover_leaves : (n : List ℕ) (f : Files) → Leaves f.s (recover_step n f)
 unfolding recover_step

@@ -30,7 +30,7 @@ use Rattle.sccs_words.proofs.MrWordLaws.{words_found}
 
 abbrev pub HasMeantValues : Command → Type 0
 HasMeantValues (c.Delta words name) = AreLines words.mrs × AreLines words.comment
-HasMeantValues (c.Admin words operands) = IfSome words.release IsComponent × IfSome words.comment AreLines
+HasMeantValues (c.Admin words operands) = IfSome words.release IsComponent × IfSome words.comment AreLines × AreLines words.mrs
 HasMeantValues command = Unit {0}
 
 abbrev pub AreMeantValues : Result Command Usage → Type 0
@@ -98,7 +98,7 @@ given_number n None = tt
 given_number n (Some number) = tt
 
 command_values : (utility : Utility) (l : CommandLine) (n : ℕ) → AreMeantValues (command_of utility l n)
-command_values u.Admin l n = (release_is_valid (value_of opt.r l.uses), asked_comment (has opt.y l.uses) (value_of opt.y l.uses))
+command_values u.Admin l n = (release_is_valid (value_of opt.r l.uses), asked_comment (has opt.y l.uses) (value_of opt.y l.uses), mrs_are_lines (value_of opt.m l.uses))
 command_values u.Get l n = tt
 command_values u.Delta l n = named_delta l.uses n (option_and_then name_value (first_of l.operands))
 command_values u.Unget l n = tt

@@ -1,14 +1,18 @@
 -- After runs each version is its replay.
-use Rattle.std.proofs.Common.{◌≡◌, ℕ, zero, suc, Bool, true, false, ◌&&◌, List, [], ◌∷◌, take, map, Option, None, Some, Result, Ok, Err, inl, inr, refl, sym, ap, subst, ⊎_elim}
-use Rattle.std.specs.Prelude.{if◌then◌else◌, is_some}
+use Rattle.std.proofs.Common.{◌≡◌, ℕ, zero, suc, ◌-◌, Bool, true, false, ◌&&◌, List, [], ◌∷◌, ◌++◌, codes, length, take, map, Option, None, Some, Result, Ok, Err, inl, inr, refl, sym, ap, subst, ◌∙◌, ⊎_elim, arith}
+use Rattle.std.specs.Prelude.{if◌then◌else◌, is_some, nat_lt}
 use Rattle.std.specs.List.{AllByRecursion}
 use Rattle.std.specs.Str.{bytes_eq}
 use Rattle.std.proofs.lemmas.Slice.Eq.{bytes_eq-Decides}
+use Rattle.sccs_base.specs.Constants.{file_limit}
+use Rattle.sccs_base.specs.Cut.{text_of}
 use Rattle.sccs_base.specs.Login.{IsLogin}
 use Rattle.sccs_base.specs.Name.{IsSfile}
 use Rattle.sccs_disk.specs.Files.{Content, Folder, view_in}
 use Rattle.sccs_disk.proofs.Puts.{name_cases}
 use Rattle.sccs_sid.specs.Moment.{IsMoment}
+use Rattle.sccs_sid.specs.Refusal.{refusal_line}
+use Rattle.sccs_sid.specs.declared.refusals.Refusal.TheVariants.{TooLong}
 use Rattle.sccs_words.specs.Meaning.{meaning}
 use Rattle.sccs_words.specs.declared.commands.Command.{Command}
 use Rattle.sccs_words.specs.declared.commands.Command.TheVariants as c
@@ -20,6 +24,7 @@ use Rattle.sccs_steps.specs.StepLists.{NamedStep, folder_after}
 use Rattle.sccs_steps.specs.Unlocked.{ArePlain, IsPlainFor}
 use Rattle.sccs_admin.specs.AdminStep.{admin_change}
 use Rattle.sccs_alter.specs.AlterStep.{alter_change}
+use Rattle.sccs_alter.specs.CheckStep.{check_action, check_keeps}
 use Rattle.sccs_delta.specs.DeltaStep.{delta_change}
 use Rattle.sccs_edit.specs.Checks.{sact_keeps}
 use Rattle.sccs_edit.specs.UngetStep.{unget_change}
@@ -34,9 +39,17 @@ use Rattle.sccs_delta.specs.Replays.{Texts}
 use Rattle.sccs_prs.specs.Keeps.{prs_keeps}
 use Rattle.sccs_val.proofs.RunLaws.{val_keeps, val_leaves}
 use Rattle.sccs_what.specs.Checks.{what_keeps}
-use Rattle.sccs_top.specs.Runs.{Caller, action_meant, action_of, has_heading, operands_of, run_steps, steps_by, usage_step, val_words_of}
-use Rattle.sccs_top.specs.Unbuilt.{is_new_built, is_old_built, unbuilt, unbuilt_keeps}
-use Rattle.sccs_replays.specs.PastRuns.{AreInTurn, HasVersions, IsPastRun, PastRun, folder_after_run, replay, s_file_after, steps_of, versions_after_command, versions_after_run, versions_after_step, versions_after_steps}
+use Rattle.sccs_steps.proofs.JoinedSteps.{after_more}
+use Rattle.sccs_courses.specs.Courses.{Courses, follow, no_action, one_by_one, portion, said, saying, steps_along, steps_in}
+use Rattle.sccs_courses.proofs.Portions.{steps_more}
+use Rattle.sccs_batch.specs.BatchLines.{bad_line, status_line}
+use Rattle.sccs_batch.specs.BatchText.{batch_of}
+use Rattle.sccs_batch.specs.Batches.{batch_course, batch_end, entries_course, entry_course}
+use Rattle.sccs_batch.specs.declared.entries.Entry.{Entry}
+use Rattle.sccs_top.specs.Messages.{usage_line}
+use Rattle.sccs_top.specs.Runs.{Caller, action_of, admin_there, caller, command_course, command_steps, course_by, entry_command, has_heading, is_list, operands_of, run_steps, steps_by, val_words_of}
+use Rattle.sccs_top.specs.Unbuilt.{unbuilt, unbuilt_keeps}
+use Rattle.sccs_replays.specs.PastRuns.{AreInTurn, HasVersions, IsPastCommand, IsPastRun, IsPlainBy, PastRun, commands_by, entry_run, entry_runs, folder_after_run, is_batch, replay, s_file_after, steps_made, steps_of, steps_of_entry, versions_after_command, versions_after_commands, versions_after_run, versions_after_step, versions_after_steps}
 use Rattle.sccs_replays.proofs.LeftFiles.{other_file, own_file}
 use Rattle.sccs_replays.proofs.MadeSteps.{AreStepsOf, IsStepOf, are_some, are_steps}
 use Rattle.sccs_replays.proofs.MeantValues.{AreMeantValues, HasMeantValues, meant_values}
@@ -50,8 +63,9 @@ either_keeps false x y first second = second
 
 command_keeps : (who : Caller) (command : Command) → KeepsFiles (action_of who command)
 command_keeps who (c.Admin words operands) =
-    either_keeps (is_new_built words) (locking (admin_change words who.stamp)) (if is_old_built words then locking (alter_change words) else unbuilt false false) (locking_keeps (admin_change words who.stamp))
-    (either_keeps (is_old_built words) (locking (alter_change words)) (unbuilt false false) (locking_keeps (alter_change words)) (unbuilt_keeps false false))
+    either_keeps words.fresh (locking (admin_change words who.stamp)) (admin_there words) (locking_keeps (admin_change words who.stamp))
+    (either_keeps words.check check_action (if words.fix then unbuilt false false else locking (alter_change words)) check_keeps
+    (either_keeps words.fix (unbuilt false false) (locking (alter_change words)) (unbuilt_keeps false false) (locking_keeps (alter_change words))))
 command_keeps who (c.Get words operands) =
     either_keeps words.edit (locking (edit_change words who.stamp who.place (has_heading operands))) (get_action words who.stamp who.place (has_heading operands))
     (locking_keeps (edit_change words who.stamp who.place (has_heading operands))) (get_keeps words who.stamp who.place (has_heading operands))
@@ -116,7 +130,7 @@ steps_go who command i n m (t ∷ ts) texts sfile moment login values plain are 
     (step_goes who command i n m t texts sfile moment login values plain.0 are.0 has)
 
 -- a usage fault changes no file
-usage_leaves : (m : Folder) (usage : Usage) (count : ℕ) → folder_after m (take count (usage_step usage ∷ [])) ≡ m
+usage_leaves : (m : Folder) (usage : Usage) (count : ℕ) → folder_after m (take count (said [] (usage_line usage) ∷ [])) ≡ m
 usage_leaves m usage zero = refl
 usage_leaves m usage (suc zero) = refl
 usage_leaves m usage (suc (suc count)) = refl
@@ -126,16 +140,134 @@ are_made : (val : Option ValWords) (x : Action) (m : Folder) (i : List ℕ) (ope
 are_made None x m i operands = are_steps x m i operands
 are_made (Some words) x m i operands = (inl (val_leaves words m i), tt)
 
-run_goes : (n : List ℕ) (r : PastRun) (meant : Result Command Usage) (texts : Texts) → IsSfile n → IsMoment r.who.stamp.moment → IsLogin r.who.stamp.login → AreMeantValues meant → ArePlain (action_meant r.who meant) (steps_of r meant)
+command_run_goes : (n : List ℕ) (r : PastRun) (meant : Result Command Usage) (texts : Texts) → IsSfile n → IsMoment r.who.stamp.moment → IsLogin r.who.stamp.login → AreMeantValues meant → IsPlainBy r.who meant (steps_of r meant)
     → HasVersions (view_in r.folder n) texts → HasVersions (view_in (folder_after r.folder (steps_of r meant)) n) (versions_after_run n r meant texts)
-run_goes n r (Ok command) texts sfile moment login values plain has =
+command_run_goes n r (Ok command) texts sfile moment login values plain has =
     steps_go r.who command r.input n r.folder (steps_of r (Ok command)) texts sfile moment login values plain
-    (are_some (action_of r.who command) r.input r.made r.folder (run_steps r.who (Ok command) r.folder r.input) (are_made (val_words_of command) (action_of r.who command) r.folder r.input (operands_of command))) has
-run_goes n r (Err usage) texts sfile moment login values plain has = subst (λ (u : Folder). HasVersions (view_in u n) texts) (sym (usage_leaves r.folder usage r.made)) has
+    (are_some (action_of r.who command) r.input r.made r.folder (command_steps r.who (Ok command) r.folder r.input) (are_made (val_words_of command) (action_of r.who command) r.folder r.input (operands_of command))) has
+command_run_goes n r (Err usage) texts sfile moment login values plain has = subst (λ (u : Folder). HasVersions (view_in u n) texts) (sym (usage_leaves r.folder usage r.made)) has
+
+single_goes : (n : List ℕ) (r : PastRun) (meant : Result Command Usage) (texts : Texts) → meaning r.words ≡ meant → IsSfile n → AllByRecursion IsPastCommand (r ∷ [])
+    → HasVersions (view_in r.folder n) texts → HasVersions (view_in (folder_after r.folder (take r.made (command_steps r.who meant r.folder r.input))) n) (versions_after_commands n texts (r ∷ []))
+single_goes n r meant texts words sfile are has =
+    subst (λ (w : Result Command Usage). HasVersions (view_in (folder_after r.folder (take r.made (command_steps r.who w r.folder r.input))) n) (versions_after_run n r (meaning r.words) texts)) words
+    (command_run_goes n r (meaning r.words) texts sfile are.0.moment are.0.login (meant_values r.words) are.0.plain has)
+
+-- ---- the entries of a batch
+
+-- the folder that entries leave of which so many steps are made
+abbrev folder_after_entries : List ℕ → Folder → ℕ → List Entry → Folder
+folder_after_entries place m made [] = m
+folder_after_entries place m made (e ∷ es) =
+    let r = entry_run place m made e in folder_after_entries place (folder_after m (steps_of r (meaning e.words))) (made - suc (length (steps_of_entry r))) es
+
+entries_go : (n place : List ℕ) (m : Folder) (made : ℕ) (es : List Entry) (texts : Texts) → IsSfile n → AllByRecursion IsPastCommand (entry_runs place m made es)
+    → HasVersions (view_in m n) texts → HasVersions (view_in (folder_after_entries place m made es) n) (versions_after_commands n texts (entry_runs place m made es))
+entries_go n place m made [] texts sfile are has = has
+entries_go n place m made (e ∷ es) texts sfile are has =
+    let r = entry_run place m made e in
+    entries_go n place (folder_after m (steps_of r (meaning e.words))) (made - suc (length (steps_of_entry r))) es (versions_after_run n r (meaning e.words) texts) sfile are.1
+    (command_run_goes n r (meaning e.words) texts sfile are.0.moment are.0.login (meant_values e.words) are.0.plain has)
+
+-- the first steps of some, and then of what goes on in the folder that all of them left
+after_both : (m : Folder) (made : ℕ) (xs : List NamedStep) (more : Folder → List NamedStep)
+    → folder_after m (take made (xs ++ more (folder_after m xs))) ≡ folder_after (folder_after m (take made xs)) (take (made - length xs) (more (folder_after m (take made xs))))
+after_both m zero xs more = let none : 0 - length xs ≡ 0 = omega arith in ap (λ k. folder_after m (take k (more m))) (sym none)
+after_both m (suc made) [] more = let all : suc made ≡ suc made - 0 = omega arith in ap (λ k. folder_after m (take k (more m))) all
+after_both m (suc made) (x ∷ xs) more =
+    let left = moved_in m x.name x.effect.new in
+    let less : made - length xs ≡ suc made - length (x ∷ xs) = omega arith in
+    after_both left made xs more ∙ ap (λ k. folder_after (folder_after left (take made xs)) (take k (more (folder_after left (take made xs))))) less
+
+-- a text that is written leaves the folder
+said_leaves : (m : Folder) (out err : List ℕ) (made : ℕ) → folder_after m (take made (said out err ∷ [])) ≡ m
+said_leaves m out err zero = refl
+said_leaves m out err (suc zero) = refl
+said_leaves m out err (suc (suc made)) = refl
+
+said_after : (m : Folder) (made : ℕ) (xs : List NamedStep) (out err : List ℕ) → folder_after m (take made (xs ++ said out err ∷ [])) ≡ folder_after m (take made xs)
+said_after m made xs out err = after_both m made xs (λ u. said out err ∷ []) ∙ said_leaves (folder_after m (take made xs)) out err (made - length xs)
+
+one_more : (xs : List NamedStep) (t : NamedStep) → length (xs ++ t ∷ []) ≡ suc (length xs)
+one_more [] t = refl
+one_more (x ∷ xs) t = ap suc (one_more xs t)
+
+ending_leaves : (m : Folder) (i : List ℕ) (made : ℕ) (bad : Option ℕ) → folder_after m (take made (steps_along (batch_end bad) m i)) ≡ m
+ending_leaves m i zero bad = refl
+ending_leaves m i (suc made) None = refl
+ending_leaves m i (suc made) (Some number) = said_leaves m [] (bad_line number) (suc made)
+
+-- the steps of an entry, and then those of the others
+entry_steps : (place : List ℕ) (m : Folder) (i : List ℕ) (e : Entry) (rest : Courses) → (status : ℕ) × (steps_along (follow (entry_course (entry_command place e)) (λ code. rest)) m i
+    ≡ (command_steps (caller e.stamp place) (meaning e.words) m e.input ++ said (status_line status) [] ∷ [])
+    ++ steps_along rest (folder_after m (command_steps (caller e.stamp place) (meaning e.words) m e.input ++ said (status_line status) [] ∷ [])) i)
+entry_steps place m i e rest =
+    let course = command_course (caller e.stamp place) (meaning e.words) m e.input in
+    let text = portion no_action (said (status_line course.status) [] ∷ []) ∷ [] in
+    let own : steps_in (course.portions ++ text) ≡ steps_in course.portions ++ said (status_line course.status) [] ∷ [] = steps_more course.portions text in (
+      course.status,
+      steps_more (course.portions ++ text) (rest (folder_after m (steps_in (course.portions ++ text))) i).portions
+          ∙ ap (λ (ts : List NamedStep). ts ++ steps_in (rest (folder_after m ts) i).portions) own,
+    )
+
+entries_after : (place : List ℕ) (m : Folder) (i : List ℕ) (made : ℕ) (es : List Entry) (bad : Option ℕ)
+    → folder_after m (take made (steps_along (one_by_one (λ (e : Entry). entry_course (entry_command place e)) (batch_end bad) es) m i)) ≡ folder_after_entries place m made es
+entries_after place m i made [] bad = ending_leaves m i made bad
+entries_after place m i made (e ∷ es) bad =
+    let rest = one_by_one (λ (e : Entry). entry_course (entry_command place e)) (batch_end bad) es in
+    let split = entry_steps place m i e rest in
+    let steps = command_steps (caller e.stamp place) (meaning e.words) m e.input in
+    let text = said (status_line split.0) [] in
+    let left : folder_after m (take made (steps ++ text ∷ [])) ≡ folder_after m (take made steps) = said_after m made steps (status_line split.0) [] in
+    ap (λ (ts : List NamedStep). folder_after m (take made ts)) split.1
+    ∙ (after_both m made (steps ++ text ∷ []) (λ u. steps_along rest u i)
+    ∙ (ap (λ u. folder_after u (take (made - length (steps ++ text ∷ [])) (steps_along rest u i))) left
+    ∙ (ap (λ k. folder_after (folder_after m (take made steps)) (take (made - k) (steps_along rest (folder_after m (take made steps)) i))) (one_more steps text)
+    ∙ entries_after place (folder_after m (take made steps)) i (made - suc (length steps)) es bad)))
+
+-- what a batch leaves of which so many steps are made, is what its entries leave
+batch_after : (place : List ℕ) (m : Folder) (i : List ℕ) (made : ℕ) (long : Bool) → nat_lt file_limit (length i) ≡ long
+    → folder_after m (take made (steps_along (batch_course (entry_command place)) m i)) ≡ (if long then m else folder_after_entries place m (made - 1) (batch_of (text_of i)).entries)
+batch_after place m i made true is =
+    ap (λ (t : Bool). folder_after m (take made (steps_in ((if t then saying [] (refusal_line (codes "-") TooLong) 1 else follow (saying [] [] 0) (λ code. entries_course (entry_command place) (batch_of (text_of i)))) m i).portions))) is
+    ∙ said_leaves m [] (refusal_line (codes "-") TooLong) made
+batch_after place m i made false is =
+    let rest = entries_course (entry_command place) (batch_of (text_of i)) in
+    ap (λ (t : Bool). folder_after m (take made (steps_in ((if t then saying [] (refusal_line (codes "-") TooLong) 1 else follow (saying [] [] 0) (λ code. rest)) m i).portions))) is
+    ∙ (ap (λ (ts : List NamedStep). folder_after m (take made ts)) (steps_more (portion no_action (said [] [] ∷ []) ∷ []) (rest m i).portions)
+    ∙ (after_both m made (said [] [] ∷ []) (λ u. steps_along rest u i)
+    ∙ (ap (λ u. folder_after u (take (made - 1) (steps_along rest u i))) (said_leaves m [] [] made) ∙ entries_after place m i (made - 1) (batch_of (text_of i)).entries (batch_of (text_of i)).bad)))
+
+-- ---- runs
+
+-- a run that is a list of commands, or one that is none
+list_goes : (n : List ℕ) (r : PastRun) (meant : Result Command Usage) (texts : Texts) (list : Bool) → meaning r.words ≡ meant → is_batch meant ≡ list → IsSfile n → AllByRecursion IsPastCommand (commands_by list r)
+    → HasVersions (view_in r.folder n) texts → HasVersions (view_in (folder_after r.folder (take r.made (run_steps r.who meant r.folder r.input))) n) (versions_after_commands n texts (commands_by list r))
+list_goes n r (Err usage) texts false words is sfile are has = single_goes n r (Err usage) texts words sfile are has
+list_goes n r (Err usage) texts true words is sfile are has = absurd cc
+list_goes n r (Ok command) texts false words is sfile are has =
+    subst (λ (b : Bool). HasVersions (view_in (folder_after r.folder (take r.made (steps_along (course_by b r.who command) r.folder r.input))) n) (versions_after_commands n texts (r ∷ []))) (sym is) (single_goes n r (Ok command) texts words sfile are has)
+list_goes n r (Ok command) texts true words is sfile are has =
+    subst (λ (b : Bool). HasVersions (view_in (folder_after r.folder (take r.made (steps_along (course_by b r.who command) r.folder r.input))) n) (versions_after_commands n texts (commands_by true r))) (sym is)
+    (batch_goes (nat_lt file_limit (length r.input)) refl)
+  where
+    batch_goes : (long : Bool) → nat_lt file_limit (length r.input) ≡ long
+        → HasVersions (view_in (folder_after r.folder (take r.made (steps_along (batch_course (entry_command r.who.place)) r.folder r.input))) n) (versions_after_commands n texts (commands_by true r))
+    batch_goes true long =
+        subst (λ (u : Folder). HasVersions (view_in u n) (versions_after_commands n texts (commands_by true r))) (sym (batch_after r.who.place r.folder r.input r.made true long))
+        (subst (λ (t : Bool). HasVersions (view_in r.folder n) (versions_after_commands n texts (if t then [] else entry_runs r.who.place r.folder (r.made - 1) (batch_of (text_of r.input)).entries))) (sym long) has)
+    batch_goes false long =
+        subst (λ (u : Folder). HasVersions (view_in u n) (versions_after_commands n texts (commands_by true r))) (sym (batch_after r.who.place r.folder r.input r.made false long))
+        (subst (λ (t : Bool). HasVersions (view_in (folder_after_entries r.who.place r.folder (r.made - 1) (batch_of (text_of r.input)).entries) n) (versions_after_commands n texts (if t then [] else entry_runs r.who.place r.folder (r.made - 1) (batch_of (text_of r.input)).entries))) (sym long)
+        (entries_go n r.who.place r.folder (r.made - 1) (batch_of (text_of r.input)).entries texts sfile
+        (subst (λ (t : Bool). AllByRecursion IsPastCommand (if t then [] else entry_runs r.who.place r.folder (r.made - 1) (batch_of (text_of r.input)).entries)) long are) has))
+
+run_goes : (n : List ℕ) (r : PastRun) (texts : Texts) → IsSfile n → IsPastRun r → HasVersions (view_in r.folder n) texts → HasVersions (view_in (folder_after_run r) n) (versions_after_commands n texts (commands_by (is_batch (meaning r.words)) r))
+run_goes n r texts sfile are has = list_goes n r (meaning r.words) texts (is_batch (meaning r.words)) refl refl sfile are has
 
 pub runs_replayed : (n : List ℕ) (s : Option Content) (texts : Texts) (runs : List PastRun) → IsSfile n → AllByRecursion IsPastRun runs → AreInTurn n s runs → HasVersions s texts
     → HasVersions (s_file_after n s runs) (replay n texts runs)
 runs_replayed n s texts [] sfile are turn has = has
 runs_replayed n s texts (r ∷ runs) sfile are turn has =
-    runs_replayed n (view_in (folder_after_run r) n) (versions_after_run n r (meaning r.words) texts) runs sfile are.1 turn.1
-    (run_goes n r (meaning r.words) texts sfile are.0.moment are.0.login (meant_values r.words) are.0.plain (subst (λ (o : Option Content). HasVersions o texts) (sym turn.0) has))
+    runs_replayed n (view_in (folder_after_run r) n) (versions_after_commands n texts (commands_by (is_batch (meaning r.words)) r)) runs sfile are.1 turn.1
+    (run_goes n r texts sfile are.0 (subst (λ (o : Option Content). HasVersions o texts) (sym turn.0) has))

@@ -18,7 +18,7 @@ use Rattle.sccs_records.specs.NewDeltas.{last_of, with_deltas}
 use Rattle.sccs_sets.proofs.Living.{newest_live}
 use Rattle.sccs_pending.specs.Pending.{Found, pending_of}
 use Rattle.sccs_delta.specs.NullDeltas.{null_deltas, skipped_by}
-use Rattle.sccs_delta.proofs.FileRules.{file_keeps}
+use Rattle.sccs_copies.proofs.FileReads.{file_keeps}
 use Rattle.sccs_removal.specs.Removed.{removed_records}
 use Rattle.sccs_removal.proofs.KeptVersions.{left_live}
 use Rattle.sccs_removal.proofs.Roots.{first_rooted, last_live, rooted_in_turn}
@@ -35,14 +35,15 @@ use Rattle.sccs_files.specs.StepFiles.{Files, look}
 use Rattle.sccs_steps.specs.Actions.{Action, KeepsFiles, Step}
 use Rattle.sccs_steps.specs.StepEffects.{Outcome, StepEffect, check}
 use Rattle.sccs_transactions.specs.Changes.{locking, locking_step}
-use Rattle.sccs_admin.specs.AdminStep.{admin_change, admin_outcome, found_text}
+use Rattle.sccs_admin.specs.AdminStep.{admin_change, admin_outcome, found_texts, named_in}
 use Rattle.sccs_admin.specs.Texts.{named_by}
 use Rattle.sccs_alter.specs.AlterStep.{alter_change, alter_outcome}
+use Rattle.sccs_alter.specs.CheckStep.{check_action, check_keeps}
 use Rattle.sccs_delta.specs.DeltaStep.{delta_outcome, sizes_checked}
-use Rattle.sccs_delta.specs.NewVersions.{MakesVersions, delta_on, text_in}
+use Rattle.sccs_delta.specs.NewVersions.{MakesVersions, delta_on, version_text}
 use Rattle.sccs_delta.specs.Replays.{CallRead, DeltaCall, Texts, call_read, files_at}
 use Rattle.sccs_delta.proofs.AddedVersions.{versions_made}
-use Rattle.sccs_delta.proofs.Chains.{passed}
+use Rattle.sccs_pending.proofs.Chains.{passed}
 use Rattle.sccs_edit.specs.UngetStep.{unget_decides}
 use Rattle.sccs_get.specs.EditStep.{edit_change, edit_outcome}
 use Rattle.sccs_get.specs.VersionStep.{get_action}
@@ -52,15 +53,16 @@ use Rattle.sccs_val.proofs.RunLaws.{val_keeps}
 use Rattle.sccs_val.specs.ValStep.{val_action}
 use Rattle.sccs_what.specs.Checks.{what_keeps}
 use Rattle.sccs_what.specs.WhatStep.{what_action}
-use Rattle.sccs_top.specs.Runs.{Caller, action_of, has_heading}
-use Rattle.sccs_top.specs.Unbuilt.{is_new_built, is_old_built, unbuilt}
+use Rattle.sccs_top.specs.Runs.{Caller, action_of, admin_there, has_heading}
+use Rattle.sccs_top.specs.Unbuilt.{unbuilt}
 use Rattle.sccs_top.specs.MadeHistories.{IsReplayed}
 use Rattle.sccs_top.proofs.AdminValues.{admin_values}
 use Rattle.sccs_top.proofs.MadeHistoryLaws.{made_replayed}
 use Rattle.sccs_replays.specs.PastRuns.{HasVersions, call_in, first_version, versions_after_command, with_delta, with_read}
 use Rattle.sccs_replays.proofs.AlteredVersions.{altered_goes}
 use Rattle.sccs_replays.proofs.LeftFiles.{Leaves, edit_leaves, entries_leave, get_leaves, locking_leaves, recover_leaves, refused_leaves, s_of, sact_leaves}
-use Rattle.sccs_replays.proofs.LiveVersions.{follows_on, read_is}
+use Rattle.sccs_replays.proofs.LiveVersions.{follows_on}
+use Rattle.sccs_delta.proofs.Replaying.{read_is}
 use Rattle.sccs_replays.proofs.MeantValues.{HasMeantValues}
 
 -- where files are made, an s-file of these versions becomes one of those
@@ -122,7 +124,7 @@ delta_made : (n : List ℕ) (call : DeltaCall) (s : Content) (d : StepEffect) (t
 delta_made n call s d texts made are =
     let read : CallRead = record { file = made.before; edits = made.edits; entry = made.entry; orders = made.orders } in
     let same : are.file ≡ made.before = same_file s.bytes are.file made.before are.reads made.was in
-    let follows = follows_on call s d texts made (subst (λ (file : Parsed). (m : ℕ) → has (live_serials file.header.records) m ≡ true → text_in file m ≡ texts m) same are.versions) in
+    let follows = follows_on call s d texts made (subst (λ (file : Parsed). (m : ℕ) → has (live_serials file.header.records) m ≡ true → version_text file m ≡ texts m) same are.versions) in
     subst (λ (new : Option Files). HasVersions (s_of (Some s) new) (if is_some new then with_read (call_read s call) texts else texts)) (sym made.files)
     (record {
       file = made.after;
@@ -167,7 +169,7 @@ rmdel_made : (sid : Sid) (stamp : Stamp) (f : Files) (s : Content) (d : StepEffe
 rmdel_made sid stamp f s d texts made are =
     let same : are.file ≡ made.before = same_file s.bytes are.file made.before are.reads made.was in
     let rooted : is_rooted made.before.header.records ≡ true = subst (λ (file : Parsed). is_rooted file.header.records ≡ true) same are.rooted in
-    let was = subst (λ (file : Parsed). (m : ℕ) → has (live_serials file.header.records) m ≡ true → text_in file m ≡ texts m) same are.versions in
+    let was = subst (λ (file : Parsed). (m : ℕ) → has (live_serials file.header.records) m ≡ true → version_text file m ≡ texts m) same are.versions in
     subst (λ (new : Option Files). HasVersions (s_of (Some s) new) (if is_some new then texts else texts)) (sym made.files)
     (record {
       file = made.after;
@@ -201,67 +203,19 @@ only_first m live = sym (eqb-true 1 m (without_false (1 == m) live))
     without_false false is = is
 
 admin_goes : (who : Caller) (words : AdminWords) (i n : List ℕ) (named : List (Option Content)) (f : Files) (texts : Texts) (d : StepEffect) → IsMoment who.stamp.moment → IsLogin who.stamp.login → HasMeantValues (c.Admin words (record { words = []; from_input = false }))
-    → admin_outcome words who.stamp n i named f ≡ Ok d → Goes f.s d.new texts (first_version (found_text words.text i named f.s))
+    → admin_outcome words who.stamp n i named f ≡ Ok d → Goes f.s d.new texts (first_version (found_texts words i named f.s))
 admin_goes who words i n named f texts d moment login values is are =
-    let made : IsReplayed words n i named f d [] = made_replayed words who.stamp n i named f d [] (admin_values words who.stamp values.0 moment) login values.1 is tt in
-    subst (λ (new : Option Files). HasVersions (s_of f.s new) (if is_some new then first_version (found_text words.text i named f.s) else texts)) (sym made.made)
+    let made : IsReplayed words n i named f d [] = made_replayed words who.stamp n i named f d [] (admin_values words who.stamp values.0 moment) login values.1 values.2 is tt in
+    subst (λ (new : Option Files). HasVersions (s_of f.s new) (if is_some new then first_version (found_texts words i named f.s) else texts)) (sym made.made)
     (record {
       file = made.file;
       reads = made.reads;
       rooted = first_rooted made.file.header.records (file_keeps made.s.bytes made.file made.reads).header.rules.table made.only;
-      versions = λ m live. ap (text_in made.file) (only_first m (subst (λ (live_ones : List ℕ). has live_ones m ≡ true) made.only live))
+      versions = λ m live. ap (version_text made.file) (only_first m (subst (λ (live_ones : List ℕ). has live_ones m ≡ true) made.only live))
           ∙ (made.first ∙ ap (λ r. first_version r m) (sym made.found));
     })
 
 -- ---- commands
-
--- what is built of admin makes new files, or is on s-files that are there
-not_fresh : (words : AdminWords) → words.fresh ≡ false → is_new_built words ≡ false
-unfolding is_new_built
-not_fresh words fresh = rw fresh refl
-
-fresh_by : (words : AdminWords) (b : Bool) → words.fresh ≡ b → is_new_built words ≡ true → words.fresh ≡ true
-fresh_by words true fresh is = fresh
-fresh_by words false fresh is = absurd (let e2 = sym is ∙ not_fresh words fresh in cc)
-
-fresh_new : (words : AdminWords) → is_new_built words ≡ true → words.fresh ≡ true
-fresh_new words is = fresh_by words words.fresh refl is
-
-old_there : (words : AdminWords) → is_old_built words ≡ true → words.fresh ≡ false
-unfolding is_old_built
-old_there words is = by words.fresh (words.check || words.fix) is
-  where
-    by : (a b : Bool) → not (a || b) ≡ true → a ≡ false
-    by true b is = absurd cc
-    by false b is = refl
-
--- the action of admin, and the versions after it
-abbrev admin_at : Bool → Bool → Caller → AdminWords → Action
-admin_at new old who words = if new then locking (admin_change words who.stamp) else (if old then locking (alter_change words) else unbuilt false false)
-
-abbrev after_admin : Bool → Caller → AdminWords → List ℕ → Folder → List ℕ → Texts → Texts
-after_admin fresh who words i m n texts = if fresh then first_version (found_text words.text i (map (view_in m) (named_by words.text)) (view_in m n)) else texts
-
-admin_by : (new old : Bool) (who : Caller) (words : AdminWords) (i n : List ℕ) (m : Folder) (texts : Texts) (d : StepEffect) → IsMoment who.stamp.moment → IsLogin who.stamp.login → HasMeantValues (c.Admin words (record { words = []; from_input = false }))
-    → (new ≡ true → words.fresh ≡ true) → (old ≡ true → words.fresh ≡ false)
-    → (let x : Action = admin_at new old who words in x.step n i (map (view_in m) (x.named n)) (look (view_in m) n) ≡ Ok d)
-    → Goes (view_in m n) d.new texts (after_admin words.fresh who words i m n texts)
-admin_by true old who words i n m texts d moment login values fresh there is =
-    subst (λ (b : Bool). Goes (view_in m n) d.new texts (after_admin b who words i m n texts)) (sym (fresh refl))
-    (admin_goes who words i n (map (view_in m) (named_by words.text)) (look (view_in m) n) texts d moment login values
-    (unlocked_step (admin_outcome words who.stamp) n i (map (view_in m) (named_by words.text)) (look (view_in m) n) d is).1)
-admin_by false true who words i n m texts d moment login values fresh there is =
-    subst (λ (b : Bool). Goes (view_in m n) d.new texts (after_admin b who words i m n texts)) (sym (there refl))
-    (altered_goes words n i (map (view_in m) (named_by words.description)) (look (view_in m) n) texts d
-    (unlocked_step (alter_outcome words) n i (map (view_in m) (named_by words.description)) (look (view_in m) n) d is).1)
-admin_by false false who words i n m texts d moment login values fresh there is = absurd cc
-
-get_by : (edit : Bool) (who : Caller) (words : GetWords) (heading : Bool) (i n : List ℕ) (m : Folder) (texts : Texts) (d : StepEffect)
-    → (let x : Action = if edit then locking (edit_change words who.stamp who.place heading) else get_action words who.stamp who.place heading in x.step n i (map (view_in m) (x.named n)) (look (view_in m) n) ≡ Ok d)
-    → Goes (view_in m n) d.new texts texts
-get_by true who words heading i n m texts d is =
-    left (view_in m n) _ d texts (locking_leaves (edit_outcome words who.stamp who.place heading) n i [] (look (view_in m) n) (edit_leaves words who.stamp who.place heading n i [] (look (view_in m) n))) is
-get_by false who words heading i n m texts d is = left (view_in m n) _ d texts (get_leaves words who.stamp who.place heading n (look (view_in m) n)) is
 
 refused : (m : Folder) (n : List ℕ) (texts : Texts) (d : StepEffect) → (let o : Outcome = Err refusals.Unbuilt in o) ≡ Ok d → Goes (view_in m n) d.new texts texts
 refused m n texts d is = left (view_in m n) (Err refusals.Unbuilt) d texts (refused_leaves (view_in m n) refusals.Unbuilt) is
@@ -272,9 +226,34 @@ reading_goes : (x : Action) (i n : List ℕ) (m : Folder) (texts : Texts) (d : S
 reading_goes x i n m texts d keeps reads is =
     subst (λ (new : Option Files). Goes (view_in m n) new texts texts) (sym (keeps.quiet reads n i (map (view_in m) (x.named n)) (look (view_in m) n) d is)) (λ are. are)
 
+-- admin on an s-file that is there leaves its versions
+there_goes : (check fix : Bool) (words : AdminWords) (i n : List ℕ) (m : Folder) (texts : Texts) (d : StepEffect)
+    → (let x : Action = if check then check_action else (if fix then unbuilt false false else locking (alter_change words)) in x.step n i (map (view_in m) (x.named n)) (look (view_in m) n) ≡ Ok d) → Goes (view_in m n) d.new texts texts
+there_goes true fix words i n m texts d is = reading_goes check_action i n m texts d check_keeps refl is
+there_goes false true words i n m texts d is = refused m n texts d is
+there_goes false false words i n m texts d is =
+    altered_goes words n i (map (view_in m) (named_by words.description)) (look (view_in m) n) texts d
+    (unlocked_step (alter_outcome words) n i (map (view_in m) (named_by words.description)) (look (view_in m) n) d is).1
+
+-- the action of admin, and the versions after it
+admin_by : (fresh : Bool) (who : Caller) (words : AdminWords) (i n : List ℕ) (m : Folder) (texts : Texts) (d : StepEffect) → IsMoment who.stamp.moment → IsLogin who.stamp.login → HasMeantValues (c.Admin words (record { words = []; from_input = false }))
+    → (let x : Action = if fresh then locking (admin_change words who.stamp) else admin_there words in x.step n i (map (view_in m) (x.named n)) (look (view_in m) n) ≡ Ok d)
+    → Goes (view_in m n) d.new texts (if fresh then first_version (found_texts words i (map (view_in m) (named_in words)) (view_in m n)) else texts)
+admin_by true who words i n m texts d moment login values is =
+    admin_goes who words i n (map (view_in m) (named_in words)) (look (view_in m) n) texts d moment login values
+    (unlocked_step (admin_outcome words who.stamp) n i (map (view_in m) (named_in words)) (look (view_in m) n) d is).1
+admin_by false who words i n m texts d moment login values is = there_goes words.check words.fix words i n m texts d is
+
+get_by : (edit : Bool) (who : Caller) (words : GetWords) (heading : Bool) (i n : List ℕ) (m : Folder) (texts : Texts) (d : StepEffect)
+    → (let x : Action = if edit then locking (edit_change words who.stamp who.place heading) else get_action words who.stamp who.place heading in x.step n i (map (view_in m) (x.named n)) (look (view_in m) n) ≡ Ok d)
+    → Goes (view_in m n) d.new texts texts
+get_by true who words heading i n m texts d is =
+    left (view_in m n) _ d texts (locking_leaves (edit_outcome words who.stamp who.place heading) n i [] (look (view_in m) n) (edit_leaves words who.stamp who.place heading n i [] (look (view_in m) n))) is
+get_by false who words heading i n m texts d is = left (view_in m n) _ d texts (get_leaves words who.stamp who.place heading n (look (view_in m) n)) is
+
 pub command_goes : (who : Caller) (command : Command) (i n : List ℕ) (m : Folder) (texts : Texts) (d : StepEffect) → IsMoment who.stamp.moment → IsLogin who.stamp.login → HasMeantValues command
     → (action_of who command).step n i (map (view_in m) ((action_of who command).named n)) (look (view_in m) n) ≡ Ok d → Goes (view_in m n) d.new texts (versions_after_command who command i m n texts)
-command_goes who (c.Admin words operands) i n m texts d moment login values is = admin_by (is_new_built words) (is_old_built words) who words i n m texts d moment login values (fresh_new words) (old_there words) is
+command_goes who (c.Admin words operands) i n m texts d moment login values is = admin_by words.fresh who words i n m texts d moment login values is
 command_goes who (c.Get words operands) i n m texts d moment login values is = get_by words.edit who words (has_heading operands) i n m texts d is
 command_goes who (c.Delta words name) i n m texts d moment login values is = delta_goes who words i n m texts d moment login values is
 command_goes who (c.Unget words operands) i n m texts d moment login values is =

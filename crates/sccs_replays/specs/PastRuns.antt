@@ -1,6 +1,8 @@
 -- Runs that follow one another, and what their scripts make of the versions of an s-file: POSIX, Shell and Utilities, admin and delta.
-use Rattle.std.specs.Prelude.{◌≡◌, ℕ, true, ◌&&◌, List, [], ◌∷◌, map, take, drop, Option, None, Some, IfSome, is_some, Result, Ok, Err, if◌then◌else◌}
+use Rattle.std.specs.Prelude.{◌≡◌, ℕ, suc, ◌-◌, nat_lt, length, Bool, true, false, ◌&&◌, List, [], ◌∷◌, map, take, drop, Option, None, Some, IfSome, is_some, Result, Ok, Err, if◌then◌else◌}
+use Rattle.std.specs.List.{AllByRecursion}
 use Rattle.std.specs.Str.{bytes_eq}
+use Rattle.sccs_base.specs.Constants.{file_limit}
 use Rattle.sccs_base.specs.Cut.{text_of}
 use Rattle.sccs_base.specs.Login.{IsLogin}
 use Rattle.sccs_base.specs.Name.{p_file}
@@ -14,16 +16,18 @@ use Rattle.sccs_grammar.specs.File.{IsSFile, Parsed}
 use Rattle.sccs_files.specs.StepFiles.{moved_in}
 use Rattle.sccs_steps.specs.StepLists.{NamedStep, folder_after}
 use Rattle.sccs_steps.specs.Unlocked.{ArePlain}
+use Rattle.sccs_batch.specs.BatchText.{batch_of}
+use Rattle.sccs_batch.specs.declared.entries.Entry.{Entry}
 use Rattle.sccs_words.specs.Meaning.{meaning}
 use Rattle.sccs_words.specs.declared.commands.Command.{Command}
 use Rattle.sccs_words.specs.declared.commands.Command.TheVariants as c
 use Rattle.sccs_words.specs.declared.commands.DeltaWords.{DeltaWords}
 use Rattle.sccs_words.specs.declared.commands.Usage.{Usage}
-use Rattle.sccs_admin.specs.AdminStep.{found_text}
-use Rattle.sccs_admin.specs.Texts.{named_by}
-use Rattle.sccs_delta.specs.NewVersions.{text_in}
+use Rattle.sccs_admin.specs.AdminStep.{found_texts, named_in}
+use Rattle.sccs_admin.specs.declared.finding.NewTexts.{NewTexts}
+use Rattle.sccs_delta.specs.NewVersions.{version_text}
 use Rattle.sccs_delta.specs.Replays.{CallRead, DeltaCall, Texts, call_read, with_texts}
-use Rattle.sccs_top.specs.Runs.{Caller, action_meant, run_steps}
+use Rattle.sccs_top.specs.Runs.{Caller, action_of, caller, command_steps, is_list, run_steps}
 
 -- ---- runs
 
@@ -35,21 +39,61 @@ pub record PastRun : Type 0 where
   pub input : List ℕ
   pub made : ℕ
 
-abbrev pub steps_of : PastRun → Result Command Usage → List NamedStep
-steps_of r meant = take r.made (run_steps r.who meant r.folder r.input)
-
 abbrev pub steps_made : PastRun → List NamedStep
-steps_made r = steps_of r (meaning r.words)
+steps_made r = take r.made (run_steps r.who (meaning r.words) r.folder r.input)
 
 -- the folder that it leaves
 abbrev pub folder_after_run : PastRun → Folder
 folder_after_run r = folder_after r.folder (steps_made r)
 
--- Its moment and login are such, and where it changes files no g-file has the name of an s-file, p-file or z-file.
-pub record IsPastRun (r : PastRun) : Type 0 where
+-- ---- the commands of a run
+
+-- the steps of a run that is a single command
+abbrev pub steps_of : PastRun → Result Command Usage → List NamedStep
+steps_of r meant = take r.made (command_steps r.who meant r.folder r.input)
+
+-- an entry of a batch as a run of its own, in the folder at a path
+abbrev pub entry_run : List ℕ → Folder → ℕ → Entry → PastRun
+entry_run place m made e = record { folder = m; who = caller e.stamp place; words = e.words; input = e.input; made = made }
+
+abbrev pub steps_of_entry : PastRun → List NamedStep
+steps_of_entry r = command_steps r.who (meaning r.words) r.folder r.input
+
+-- entries as runs, one after the other, of which so many steps are made in all; that the status of each is written is a step too
+abbrev pub entry_runs : List ℕ → Folder → ℕ → List Entry → List PastRun
+entry_runs place m made [] = []
+entry_runs place m made (e ∷ es) =
+    let r = entry_run place m made e in
+    r ∷ entry_runs place (folder_after m (steps_of r (meaning e.words))) (made - suc (length (steps_of_entry r))) es
+
+-- the commands of a run: the entries of a batch, after the step that reads them, or the one command
+abbrev pub commands_by : Bool → PastRun → List PastRun
+commands_by true r = if nat_lt file_limit (length r.input) then [] else entry_runs r.who.place r.folder (r.made - 1) (batch_of (text_of r.input)).entries
+commands_by false r = r ∷ []
+
+abbrev pub is_batch : Result Command Usage → Bool
+is_batch (Ok command) = is_list command
+is_batch (Err usage) = false
+
+abbrev pub commands_of : PastRun → List PastRun
+commands_of r = commands_by (is_batch (meaning r.words)) r
+
+-- where a command changes files no g-file has the name of an s-file, p-file or z-file
+abbrev pub IsPlainBy : Caller → Result Command Usage → List NamedStep → Type 0
+IsPlainBy who (Ok command) ts = ArePlain (action_of who command) ts
+IsPlainBy who (Err usage) ts = Unit {0}
+
+-- The moment and the login of a command are such, and its g-files have plain names.
+pub record IsPastCommand (r : PastRun) : Type 0 where
   pub moment : IsMoment r.who.stamp.moment
   pub login : IsLogin r.who.stamp.login
-  pub plain : ArePlain (action_meant r.who (meaning r.words)) (steps_made r)
+  pub plain : IsPlainBy r.who (meaning r.words) (steps_of r (meaning r.words))
+
+-- so it is of each command of a run
+abbrev pub IsPastRun : PastRun → Type 0
+IsPastRun r = AllByRecursion IsPastCommand (commands_of r)
+
+-- ---- runs in turn
 
 -- each run begins with the s-file of a name that the one before has left; other files may have changed in between
 abbrev pub AreInTurn : List ℕ → Option Content → List PastRun → Type 0
@@ -68,7 +112,7 @@ pub record IsOfVersions (s : Content) (texts : Texts) : Type 0 where
   pub file : Parsed
   pub reads : IsSFile s.bytes file.header file.items
   pub rooted : is_rooted file.header.records ≡ true
-  pub versions : (m : ℕ) → has (live_serials file.header.records) m ≡ true → text_in file m ≡ texts m
+  pub versions : (m : ℕ) → has (live_serials file.header.records) m ≡ true → version_text file m ≡ texts m
 
 -- so it is where the s-file is there
 abbrev pub HasVersions : Option Content → Texts → Type 0
@@ -90,15 +134,15 @@ with_delta None call texts = texts
 with_delta (Some s) call texts = with_read (call_read s call) texts
 
 -- the one version of a new file is the lines of the text
-abbrev pub first_version : Result (List ℕ) Refusal → Texts
-first_version (Ok text) = λ m. text_of text
+abbrev pub first_version : Result NewTexts Refusal → Texts
+first_version (Ok texts) = λ m. text_of texts.text
 first_version (Err refusal) = λ m. []
 
 -- the versions after an accepted step on a name in a folder: delta adds some, admin on a new file makes the first one, and all
 -- else leaves them; rmdel leaves those of the deltas that live on
 abbrev pub versions_after_command : Caller → Command → List ℕ → Folder → List ℕ → Texts → Texts
 versions_after_command who (c.Delta words name) i m n texts = with_delta (view_in m n) (call_in who words i m n) texts
-versions_after_command who (c.Admin words operands) i m n texts = if words.fresh then first_version (found_text words.text i (map (view_in m) (named_by words.text)) (view_in m n)) else texts
+versions_after_command who (c.Admin words operands) i m n texts = if words.fresh then first_version (found_texts words i (map (view_in m) (named_in words)) (view_in m n)) else texts
 versions_after_command who command i m n texts = texts
 
 -- those of a name after a step: one that is refused, or on another name, leaves them
@@ -110,12 +154,17 @@ abbrev pub versions_after_steps : Caller → Command → List ℕ → List ℕ �
 versions_after_steps who command i n m [] texts = texts
 versions_after_steps who command i n m (t ∷ ts) texts = versions_after_steps who command i n (moved_in m t.name t.effect.new) ts (versions_after_step who command i n m t texts)
 
--- the same after a run; a usage fault leaves them
+-- the same after a command that is made to its end or in part; a usage fault leaves them
 abbrev pub versions_after_run : List ℕ → PastRun → Result Command Usage → Texts → Texts
 versions_after_run n r (Ok command) texts = versions_after_steps r.who command r.input n r.folder (steps_of r (Ok command)) texts
 versions_after_run n r (Err usage) texts = texts
 
--- The replay of runs on the versions at the start.
+-- the same after several commands
+abbrev pub versions_after_commands : List ℕ → Texts → List PastRun → Texts
+versions_after_commands n texts [] = texts
+versions_after_commands n texts (r ∷ rs) = versions_after_commands n (versions_after_run n r (meaning r.words) texts) rs
+
+-- The replay of runs, command by command, on the versions at the start.
 abbrev pub replay : List ℕ → Texts → List PastRun → Texts
 replay n texts [] = texts
-replay n texts (r ∷ runs) = replay n (versions_after_run n r (meaning r.words) texts) runs
+replay n texts (r ∷ runs) = replay n (versions_after_commands n texts (commands_of r)) runs

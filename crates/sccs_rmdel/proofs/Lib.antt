@@ -1,6 +1,5 @@
 pub mod CheckLaws
 pub mod DropLaws
-pub mod FileReads
 pub mod PendingReads
 pub mod PrepareLaws
 pub mod RemovalReads

@@ -39,7 +39,7 @@ use Rattle.sccs_pending.specs.PFiles.{Answers}
 use Rattle.sccs_pending.specs.Pending.{AnswersPending, Found, bytes_at, pending_of}
 use Rattle.sccs_pending.specs.declared.pending.Pending.{Pending}
 use Rattle.sccs_pending.proofs.PendingLaws.{shown_header}
-use Rattle.sccs_rmdel.proofs.PendingReads.{ends}
+use Rattle.sccs_pending.proofs.Chains.{ends}
 use Rattle.sccs_rmdel.proofs.PendingReads.{body_there}
 use Rattle.sccs_removal.specs.Removed.{without_delta}
 use Rattle.sccs_rmdel.specs.RmdelStep.{removable, removes, rmdel_change, rmdel_checks, rmdel_outcome}

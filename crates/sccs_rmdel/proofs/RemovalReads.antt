@@ -9,10 +9,10 @@ use Rattle.sccs_history.specs.Removal.{dropped, dropped_behind}
 use Rattle.sccs_history.specs.declared.headers.Header.{Header}
 use Rattle.sccs_history.specs.declared.headers.Item.{Item}
 use Rattle.sccs_history.specs.declared.headers.Item.TheVariants.{Text, Insert, Delete, End}
-use Rattle.sccs_tokens.specs.Written.{HasLines, IsItem, canonical}
+use Rattle.sccs_tokens.specs.Written.{canonical}
 use Rattle.sccs_grammar.specs.File.{IsSFile, Parsed}
 use Rattle.sccs_grammar.proofs.CanonicalLaws.{canonical_again}
-use Rattle.sccs_rmdel.proofs.FileReads.{HasItems, IsLegal, file_fits}
+use Rattle.sccs_copies.proofs.FileReads.{HasItems, IsLegal, file_fits, legal_items, legal_lines}
 use Rattle.sccs_removal.specs.Removed.{without_delta}
 use Rattle.sccs_removal.proofs.DroppedItems.{by_test, rules_dropped}
 use Rattle.sccs_removal.proofs.RemovedTables.{header_removed, live_removed, spelled_removed}
@@ -28,14 +28,6 @@ left_all P n before (Text text ∷ items) are = front_all P (not (inserter befor
 left_all P n before (Insert m ∷ items) are = front_all P (not (m == n)) (Insert m) (dropped_behind n (Insert m ∷ before) items) are.0 (left_all P n (Insert m ∷ before) items are.1)
 left_all P n before (Delete m ∷ items) are = front_all P (not (m == n)) (Delete m) (dropped_behind n (Delete m ∷ before) items) are.0 (left_all P n (Delete m ∷ before) items are.1)
 left_all P n before (End m ∷ items) are = front_all P (not (m == n)) (End m) (dropped_behind n (End m ∷ before) items) are.0 (left_all P n (End m ∷ before) items are.1)
-
-legal_items : (items : List Item) → AllByRecursion IsLegal items → AllByRecursion IsItem items
-legal_items [] are = tt
-legal_items (item ∷ items) are = (are.0.0, legal_items items are.1)
-
-legal_lines : (items : List Item) → AllByRecursion IsLegal items → AllByRecursion HasLines items
-legal_lines [] are = tt
-legal_lines (item ∷ items) are = (are.0.1, legal_lines items are.1)
 
 -- ---- the file
 

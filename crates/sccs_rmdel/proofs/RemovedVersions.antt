@@ -11,10 +11,10 @@ use Rattle.sccs_files.specs.StepFiles.{Files}
 use Rattle.sccs_steps.specs.StepEffects.{Outcome, StepEffect}
 use Rattle.sccs_pending.specs.Pending.{Found, pending_of}
 use Rattle.sccs_pending.proofs.StopLaws.{pending_file}
-use Rattle.sccs_rmdel.proofs.PendingReads.{passed}
-use Rattle.sccs_rmdel.proofs.FileReads.{file_keeps}
-use Rattle.sccs_rmdel.proofs.PendingReads.{pending_entries}
-use Rattle.sccs_rmdel.proofs.PendingReads.{pending_agrees}
+use Rattle.sccs_pending.proofs.Chains.{passed}
+use Rattle.sccs_copies.proofs.FileReads.{file_keeps}
+use Rattle.sccs_pending.proofs.PendingReads.{pending_entries}
+use Rattle.sccs_pending.proofs.PendingReads.{pending_agrees}
 use Rattle.sccs_removal.specs.Removed.{without_delta}
 use Rattle.sccs_removal.proofs.DroppedItems.{lines_dropped}
 use Rattle.sccs_removal.proofs.Edits.{agreement_kept}

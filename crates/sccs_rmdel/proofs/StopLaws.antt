@@ -34,7 +34,7 @@ use Rattle.sccs_pending.specs.PFiles.{bytes_or_none}
 use Rattle.sccs_pending.specs.declared.pending.Pending.{Pending}
 use Rattle.sccs_pending.proofs.StopLaws.{table_is}
 use Rattle.sccs_rmdel.proofs.PendingReads.{settles_told, was_read}
-use Rattle.sccs_rmdel.proofs.PendingReads.{pending_entries}
+use Rattle.sccs_pending.proofs.PendingReads.{pending_entries}
 use Rattle.sccs_removal.specs.Removed.{removed_records, without_delta}
 use Rattle.sccs_removal.proofs.Edits.{agreement_kept}
 use Rattle.sccs_rmdel.specs.Writing.{FindsRemovable, IsRewrite}

@@ -1,7 +1,6 @@
 -- What the parts of rmdel answer and write.
-use Rattle.std.specs.Prelude.{◌≡◌, ◌≢◌, ◌≤◌, ℕ, true, List, [], Option, Some, Result, Ok, Err}
+use Rattle.std.specs.Prelude.{◌≡◌, ℕ, true, List, [], Option, Some, Result, Ok, Err}
 use Rattle.sccs_base.specs.Name.{x_file}
-use Rattle.sccs_base.specs.Stream.{Rose}
 use Rattle.sccs_disk.specs.Files.{View, put}
 use Rattle.sccs_sid.specs.declared.moments.Stamp.{Stamp}
 use Rattle.sccs_sid.specs.declared.sids.Sid.{Sid}
@@ -41,10 +40,3 @@ pub record IsRewrite (p : Prepared) : Type 0 where
   pub new_g : p.new_g ≡ Keep
   pub report_is : p.report ≡ []
   pub message_is : p.message ≡ []
-
--- A call of a step that changes a disk: it fails only where that did.
-pub record ChangesDisk {D T : Type 0} (faults : D → ℕ) (disk disk2 : D) (result : Result T StepFault) : Type 0 where
-  pub later : faults disk ≤ faults disk2
-  pub cause : result ≡ Err DiskFault → Rose (faults disk) (faults disk2)
-  pub read : result ≢ Err ReadFault
-  pub write : result ≢ Err WriteFault

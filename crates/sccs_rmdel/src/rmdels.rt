@@ -38,13 +38,8 @@ impl Change for Rmdel<'_> {
         _out: &mut O,
         disk: &mut D,
     ) -> Result<Prepared, StepFault> {
-        let found = match read_pending(alloc, disk, name) {
-            Ok(found) => found,
-            Err(fault) => return Err(fault),
-        };
-        match removable(&found.front.header, &found.edits, *self.sid, self.stamp) {
-            Ok(serial) => write_without(alloc, name, found.front, serial, disk),
-            Err(fault) => Err(fault),
-        }
+        let found = read_pending(alloc, disk, name)?;
+        let serial = removable(&found.front.header, &found.edits, *self.sid, self.stamp)?;
+        write_without(alloc, name, found.front, serial, disk)
     }
 }

@@ -21,7 +21,8 @@ ghost use Rattle.sccs_copies.specs.Copies.{CopyComes};
 ghost use Rattle.sccs_removal.specs.Removed.{without_delta};
 ghost use Rattle.sccs_rmdel.specs.Dropping.{dropping};
 ghost use Rattle.sccs_rmdel.specs.RmdelStep.{rmdel_checks};
-ghost use Rattle.sccs_rmdel.specs.Writing.{ChangesDisk, IsRewrite, WritesRemoval};
+ghost use Rattle.sccs_pending.specs.PFiles.{ChangesDisk};
+ghost use Rattle.sccs_rmdel.specs.Writing.{IsRewrite, WritesRemoval};
 
 use crate::droppers::Dropper;
 use sccs_base::{Bytes, Memory, Name};
@@ -142,8 +143,6 @@ pub fn write_without<D: Disk>(
     let Ok(header) = remove_delta(alloc, front.header, serial) else {
         return Err(StepFault::Memory);
     };
-    match write_x(alloc, name, &header, copying, disk) {
-        Ok(()) => Ok(prepared(alloc)),
-        Err(fault) => Err(fault),
-    }
+    write_x(alloc, name, &header, copying, disk)?;
+    Ok(prepared(alloc))
 }

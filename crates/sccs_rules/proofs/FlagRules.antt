@@ -13,10 +13,10 @@ use Rattle.sccs_history.specs.History.{AreBare, AreLines, IsFlag, IsHeader, IsSp
 use Rattle.sccs_history.specs.declared.headers.Flag.{Flag}
 use Rattle.sccs_history.specs.declared.headers.Header.{Header}
 use Rattle.sccs_flags.specs.FlagValues.{flag_of}
-use Rattle.sccs_rules.specs.Flags.{changed_flags, flag, in_turn, locks_all, may_remove, remove_word, set_word, unlock_in, with_flag, without_flag, without_word}
-use Rattle.sccs_rules.specs.Forms.{are_joined, fits_form, fits_row, is_flag, letter_of, may_set, rows, text_in}
+use Rattle.sccs_rules.specs.Flags.{changed_flags, flag_with, by_words, locks_all, may_remove, remove_word, set_word, unlock_in, with_flag, without_flag, without_word}
+use Rattle.sccs_rules.specs.Forms.{are_joined, fits_form, fits_row, is_flag, word_letter, may_set, flag_rows, word_text}
 use Rattle.sccs_rules.specs.Rules.{with_rules}
-use Rattle.sccs_rules.specs.Unlocked.{is_among, joined, left_of, releases_of, unlocked}
+use Rattle.sccs_rules.specs.Unlocked.{is_among, with_commas, left_of, releases_of, without_releases}
 use Rattle.sccs_rules.specs.Users.{changed_users, has_lf}
 use Rattle.sccs_rules.specs.declared.forms.FlagRow.{FlagRow}
 use Rattle.sccs_rules.specs.declared.forms.Form.{Form}
@@ -128,15 +128,15 @@ own_out letter (g ∷ flags) own =
 
 -- the text of flag l behind an unlocking
 abbrev IsUnlocked : (List ℕ → Type 0) → Type 0
-IsUnlocked P = (others text : List ℕ) → is_all text ≡ false → P text → is_empty (unlocked others text) ≡ false → P (unlocked others text)
+IsUnlocked P = (others text : List ℕ) → is_all text ≡ false → P text → is_empty (without_releases others text) ≡ false → P (without_releases others text)
 
 -- What holds of flags, and what holds of a flag that is put among them.
 record Kept (Inv : List Flag → Type 0) (P : Flag → Type 0) : Type 0 where
   put : (f : Flag) (flags : List Flag) → P f → Inv flags → Inv (with_flag f flags)
   out : (letter : ℕ) (flags : List Flag) → Inv flags → Inv (without_flag letter flags)
-  found : (flags : List Flag) (f : Flag) → Inv flags → flag_of flags flag_l ≡ Some f → P (flag flag_l f.text)
-  set : (word : List ℕ) → may_set (letter_of word) (text_in word) ≡ true → P (flag (letter_of word) (text_in word))
-  unlock : IsUnlocked (λ text. P (flag flag_l text))
+  found : (flags : List Flag) (f : Flag) → Inv flags → flag_of flags flag_l ≡ Some f → P (flag_with flag_l f.text)
+  set : (word : List ℕ) → may_set (word_letter word) (word_text word) ≡ true → P (flag_with (word_letter word) (word_text word))
+  unlock : IsUnlocked (λ text. P (flag_with flag_l text))
 
 same_made : (r : Result (List Flag) ℕ) (a b : List Flag) → r ≡ Ok a → r ≡ Ok b → a ≡ b
 same_made r a b first second = cc
@@ -147,18 +147,18 @@ done_by P false letter made after holds is = absurd cc
 
 word_set : (Inv : List Flag → Type 0) (P : Flag → Type 0) → Kept Inv P → (flags after : List Flag) (word : List ℕ) → Inv flags → set_word flags word ≡ Ok after → Inv after
 word_set Inv P kept flags after word inv is =
-    done_by Inv (may_set (letter_of word) (text_in word)) (letter_of word) (with_flag (flag (letter_of word) (text_in word)) flags) after
-    (λ fits. kept.put (flag (letter_of word) (text_in word)) flags (kept.set word fits) inv) is
+    done_by Inv (may_set (word_letter word) (word_text word)) (word_letter word) (with_flag (flag_with (word_letter word) (word_text word)) flags) after
+    (λ fits. kept.put (flag_with (word_letter word) (word_text word)) flags (kept.set word fits) inv) is
 
-put_left : (Inv : List Flag → Type 0) (P : Flag → Type 0) → Kept Inv P → (flags : List Flag) (text : List ℕ) → Inv flags → (is_empty text ≡ false → P (flag flag_l text)) → (t : Bool) → is_empty text ≡ t
-    → Inv (cond t (without_flag flag_l flags) (with_flag (flag flag_l text) flags))
+put_left : (Inv : List Flag → Type 0) (P : Flag → Type 0) → Kept Inv P → (flags : List Flag) (text : List ℕ) → Inv flags → (is_empty text ≡ false → P (flag_with flag_l text)) → (t : Bool) → is_empty text ≡ t
+    → Inv (cond t (without_flag flag_l flags) (with_flag (flag_with flag_l text) flags))
 put_left Inv P kept flags text inv fits true is = kept.out flag_l flags inv
-put_left Inv P kept flags text inv fits false is = kept.put (flag flag_l text) flags (fits is) inv
+put_left Inv P kept flags text inv fits false is = kept.put (flag_with flag_l text) flags (fits is) inv
 
 unlocked_in : (Inv : List Flag → Type 0) (P : Flag → Type 0) → Kept Inv P → (flags : List Flag) (others : List ℕ) (o : Option Flag) → Inv flags → flag_of flags flag_l ≡ o → locks_all o ≡ false → Inv (unlock_in flags others o)
 unlocked_in Inv P kept flags others None inv is free = inv
 unlocked_in Inv P kept flags others (Some f) inv is free =
-    put_left Inv P kept flags (unlocked others f.text) inv (kept.unlock others f.text free (kept.found flags f inv is)) (is_empty (unlocked others f.text)) refl
+    put_left Inv P kept flags (without_releases others f.text) inv (kept.unlock others f.text free (kept.found flags f inv is)) (is_empty (without_releases others f.text)) refl
 
 -- a word with a text that isn't `a` is one of releases, and flag l isn't `a`
 word_free : (a b c d e f : Bool) → c ≡ false → e ≡ false → (a && (c || (d && (e || b && not f)))) ≡ true → f ≡ false
@@ -180,8 +180,8 @@ word_left Inv P kept flags letter text inv may false false first second =
 
 word_removed : (Inv : List Flag → Type 0) (P : Flag → Type 0) → Kept Inv P → (flags after : List Flag) (word : List ℕ) → Inv flags → remove_word flags word ≡ Ok after → Inv after
 word_removed Inv P kept flags after word inv is =
-    done_by Inv (may_remove flags (letter_of word) (text_in word)) (letter_of word) (without_word flags (letter_of word) (text_in word)) after
-    (λ may. word_left Inv P kept flags (letter_of word) (text_in word) inv may (is_empty (text_in word)) (is_all (text_in word)) refl refl) is
+    done_by Inv (may_remove flags (word_letter word) (word_text word)) (word_letter word) (without_word flags (word_letter word) (word_text word)) after
+    (λ may. word_left Inv P kept flags (word_letter word) (word_text word) inv may (is_empty (word_text word)) (is_all (word_text word)) refl refl) is
 
 abbrev Change : Type 0
 Change = List Flag → List ℕ → Result (List Flag) ℕ
@@ -192,14 +192,14 @@ turn_by Inv (Ok middle) next after first rest is = rest middle (first middle ref
 turn_by Inv (Err letter) next after first rest is = absurd cc
 
 turns : (Inv : List Flag → Type 0) (change : List Flag → List ℕ → Result (List Flag) ℕ) → ((flags after : List Flag) (word : List ℕ) → Inv flags → change flags word ≡ Ok after → Inv after)
-    → (flags after : List Flag) (words : List (List ℕ)) → Inv flags → in_turn change flags words ≡ Ok after → Inv after
+    → (flags after : List Flag) (words : List (List ℕ)) → Inv flags → by_words change flags words ≡ Ok after → Inv after
 turns Inv change step flags after [] inv is = subst Inv (same_made (Ok flags) flags after refl is) inv
 turns Inv change step flags after (word ∷ words) inv is =
-    turn_by Inv (change flags word) (λ next. in_turn change next words) after (λ middle one. step flags middle word inv one) (λ middle holds rest. turns Inv change step middle after words holds rest) is
+    turn_by Inv (change flags word) (λ next. by_words change next words) after (λ middle one. step flags middle word inv one) (λ middle holds rest. turns Inv change step middle after words holds rest) is
 
 flags_kept : (Inv : List Flag → Type 0) (P : Flag → Type 0) → Kept Inv P → (flags after : List Flag) (set removed : List (List ℕ)) → Inv flags → changed_flags flags set removed ≡ Ok after → Inv after
 flags_kept Inv P kept flags after set removed inv is =
-    turn_by Inv (in_turn set_word flags set) (λ next. in_turn remove_word next removed) after
+    turn_by Inv (by_words set_word flags set) (λ next. by_words remove_word next removed) after
     (λ middle one. turns Inv set_word (word_set Inv P kept) flags middle set inv one)
     (λ middle holds rest. turns Inv remove_word (word_removed Inv P kept) middle after removed holds rest) is
 
@@ -209,12 +209,12 @@ unlocked_by : (P : List ℕ → Type 0) (t : Bool) (new text : List ℕ) → P t
 unlocked_by P true new text old fits some = fits refl some
 unlocked_by P false new text old fits some = old
 
-line_by : (P : List ℕ → Type 0) (others text : List ℕ) → P text → (is_empty (joined (left_of (releases_of others) (releases_of text))) ≡ false → P (joined (left_of (releases_of others) (releases_of text))))
-    → is_empty (unlocked others text) ≡ false → P (unlocked others text)
+line_by : (P : List ℕ → Type 0) (others text : List ℕ) → P text → (is_empty (with_commas (left_of (releases_of others) (releases_of text))) ≡ false → P (with_commas (left_of (releases_of others) (releases_of text))))
+    → is_empty (without_releases others text) ≡ false → P (without_releases others text)
 line_by P others text old fits some =
-    unlocked_by P (list_any (is_among (releases_of others)) (releases_of text)) (joined (left_of (releases_of others) (releases_of text))) text old (λ changed. fits) some
+    unlocked_by P (list_any (is_among (releases_of others)) (releases_of text)) (with_commas (left_of (releases_of others) (releases_of text))) text old (λ changed. fits) some
 
-left_visible : (others text : List ℕ) → AreVisible (joined (left_of (releases_of others) (releases_of text)))
+left_visible : (others text : List ℕ) → AreVisible (with_commas (left_of (releases_of others) (releases_of text)))
 left_visible others text =
     joined_visible (left_of (releases_of others) (releases_of text)) (all_filtered (λ r. r < 10000) (λ r. not (is_among (releases_of others) r)) (releases_of text) (releases_low text))
 
@@ -222,13 +222,13 @@ visible_line : (bytes : List ℕ) → AreVisible bytes → HasNoLf bytes
 visible_line bytes are = All-from_recursion (λ b. b ≢ 10) bytes (each (λ b. 40 < b) (λ b. b ≢ 10) (λ b high is. absurd (omega (arith, high, is))) bytes are)
 
 pub line_unlocked : IsUnlocked HasNoLf
-line_unlocked others text free old some = line_by HasNoLf others text old (λ more. visible_line (joined (left_of (releases_of others) (releases_of text))) (left_visible others text)) some
+line_unlocked others text free old some = line_by HasNoLf others text old (λ more. visible_line (with_commas (left_of (releases_of others) (releases_of text))) (left_visible others text)) some
 
 either_false : (a b : Bool) → (a || b) ≡ true → a ≡ false → b ≡ true
 either_false true b is free = absurd cc
 either_false false b is free = is
 
-left_fits : (others text : List ℕ) → are_releases text ≡ true → is_empty (joined (left_of (releases_of others) (releases_of text))) ≡ false → are_releases (joined (left_of (releases_of others) (releases_of text))) ≡ true
+left_fits : (others text : List ℕ) → are_releases text ≡ true → is_empty (with_commas (left_of (releases_of others) (releases_of text))) ≡ false → are_releases (with_commas (left_of (releases_of others) (releases_of text))) ≡ true
 left_fits others text are some =
     joined_fits (left_of (releases_of others) (releases_of text)) (all_filtered (λ r. (r < 10000) × (0 < r)) (λ r. not (is_among (releases_of others) r)) (releases_of text) (releases_some text are)) some
 
@@ -236,21 +236,21 @@ right_true : (a b : Bool) → b ≡ true → (a || b) ≡ true
 right_true true b is = refl
 right_true false b is = is
 
-l_flag : (text : List ℕ) → AreVisible text → are_releases text ≡ true → IsFlag (flag flag_l text)
+l_flag : (text : List ℕ) → AreVisible text → are_releases text ≡ true → IsFlag (flag_with flag_l text)
 l_flag text visible are = record { letter = refl; front = visible_begins text visible; back = visible_ends text visible; text = right_true (is_all text) (are_releases text) are }
 
-flag_unlocked : IsUnlocked (λ text. IsFlag (flag flag_l text))
+flag_unlocked : IsUnlocked (λ text. IsFlag (flag_with flag_l text))
 flag_unlocked others text free old some =
     let are : are_releases text ≡ true = either_false (is_all text) (are_releases text) old.text free in
-    line_by (λ t. IsFlag (flag flag_l t)) others text old (λ more. l_flag (joined (left_of (releases_of others) (releases_of text))) (left_visible others text) (left_fits others text are more)) some
+    line_by (λ t. IsFlag (flag_with flag_l t)) others text old (λ more. l_flag (with_commas (left_of (releases_of others) (releases_of text))) (left_visible others text) (left_fits others text are more)) some
 
 -- ---- the flag that a word says
 
-word_begins : (word : List ℕ) → begins_blank (text_in word) ≡ false
+word_begins : (word : List ℕ) → begins_blank (word_text word) ≡ false
 word_begins [] = refl
 word_begins (b ∷ text) = skipped_begins (drop_blanks text)
 
-word_ends : (word : List ℕ) → ends_blank (text_in word) ≡ false
+word_ends : (word : List ℕ) → ends_blank (word_text word) ≡ false
 unfolding ends_blank
 word_ends [] = refl
 word_ends (b ∷ text) = skipped_ends (drop_blanks text) (dropped_ends text)
@@ -270,7 +270,7 @@ locked_text : (a b c : Bool) → (b ≡ true → c ≡ true) → (a || b) ≡ tr
 locked_text true b c more is = refl
 locked_text false b c more is = more is
 
-all_sound : AllByRecursion (λ (r : FlagRow). IsSound r.0 r.1) rows
+all_sound : AllByRecursion (λ (r : FlagRow). IsSound r.0 r.1) flag_rows
 all_sound =
     ((λ text is. (refl, refl, refl)), ((λ text is. (refl, release_number text is, refl)), ((λ text is. (refl, is, refl)), ((λ text is. (refl, release_number text is, refl)), ((λ text is. (refl, refl, refl)), ((λ text is. (refl, refl, refl)), ((λ text is. (refl, locked_text (is_all text) (are_joined text) (are_releases text) (joined_releases text) is, refl)), ((λ text is. (refl, refl, refl)), ((λ text is. (refl, refl, refl)), ((λ text is. (refl, refl, refl)), ((λ text is. (refl, refl, refl)), ((λ text is. (refl, refl, refl)), tt))))))))))))
 
@@ -308,11 +308,11 @@ settable_by letter text (Some r) sound is =
     record { letter_is = fits.0; fits = fits.1; plain = fits.2; line = rest_false (fits_form r.1 text) (has_lf text) is }
 
 settable : (letter : ℕ) (text : List ℕ) → may_set letter text ≡ true → IsSettable letter text
-settable letter text is = settable_by letter text (find (λ (r : FlagRow). r.0 == letter) rows) (λ r found. row_sound letter rows r all_sound found) is
+settable letter text is = settable_by letter text (find (λ (r : FlagRow). r.0 == letter) flag_rows) (λ r found. row_sound letter flag_rows r all_sound found) is
 
-word_flag : (word : List ℕ) → may_set (letter_of word) (text_in word) ≡ true → IsFlag (flag (letter_of word) (text_in word))
+word_flag : (word : List ℕ) → may_set (word_letter word) (word_text word) ≡ true → IsFlag (flag_with (word_letter word) (word_text word))
 word_flag word is =
-    let s = settable (letter_of word) (text_in word) is in
+    let s = settable (word_letter word) (word_text word) is in
     record { letter = s.letter_is; front = word_begins word; back = word_ends word; text = s.fits }
 
 -- ---- the rules of all flags
@@ -337,8 +337,8 @@ record AreFlags (flags : List Flag) : Type 0 where
 abbrev IsPut : Flag → Type 0
 IsPut f = IsFlag f × (is_plain f ≡ false)
 
-relettered : (f : Flag) → f.letter ≡ flag_l → IsFlag f → IsFlag (flag flag_l f.text)
-relettered f same is = subst (λ letter. IsFlag (flag letter f.text)) same (record { letter = is.letter; front = is.front; back = is.back; text = is.text })
+relettered : (f : Flag) → f.letter ≡ flag_l → IsFlag f → IsFlag (flag_with flag_l f.text)
+relettered f same is = subst (λ letter. IsFlag (flag_with letter f.text)) same (record { letter = is.letter; front = is.front; back = is.back; text = is.text })
 
 plain_by : (a b : Bool) → a ≡ false → (a && b) ≡ false
 plain_by true b is = absurd cc
@@ -349,7 +349,7 @@ rules_kept = record {
   put = λ f flags new are. record { each_is = each_put IsFlag f flags new.0 are.each_is; own = own_put f flags are.own; plain = each_put (λ g. is_plain g ≡ false) f flags new.1 are.plain };
   out = λ letter flags are. record { each_is = each_out IsFlag letter flags are.each_is; own = own_out letter flags are.own; plain = each_out (λ g. is_plain g ≡ false) letter flags are.plain };
   found = λ flags f are is. (relettered f (is_found flag_l flags f is) (each_found IsFlag flag_l flags f are.each_is is), refl);
-  set = λ word fits. (word_flag word fits, plain_by (letter_of word == flag_e) (is_one (text_in word)) (settable (letter_of word) (text_in word) fits).plain);
+  set = λ word fits. (word_flag word fits, plain_by (word_letter word == flag_e) (is_one (word_text word)) (settable (word_letter word) (word_text word) fits).plain);
   unlock = λ others text free old some. (flag_unlocked others text free old.0 some, refl);
 }
 
@@ -361,7 +361,7 @@ lines_kept = record {
   put = each_put IsLineFlag;
   out = each_out IsLineFlag;
   found = λ flags f are is. each_found IsLineFlag flag_l flags f are is;
-  set = λ word fits. line_of (text_in word) (settable (letter_of word) (text_in word) fits).line;
+  set = λ word fits. line_of (word_text word) (settable (word_letter word) (word_text word) fits).line;
   unlock = line_unlocked;
 }
 

@@ -7,7 +7,7 @@ use Rattle.sccs_sid.specs.Reading.{is_empty, number, number_at}
 use Rattle.sccs_sid.specs.Words.{begins_blank, drop_blanks, ends_blank, kept, skip_blanks, words}
 use Rattle.sccs_history.specs.FlagText.{are_releases, are_spaced, is_release, pieces, with_front}
 use Rattle.sccs_rules.specs.Forms.{are_joined}
-use Rattle.sccs_rules.specs.Unlocked.{behind_comma, joined, release_in, releases_in, releases_of}
+use Rattle.sccs_rules.specs.Unlocked.{behind_comma, with_commas, release_in, releases_in, releases_of}
 use Rattle.sccs_rules.proofs.Digits.{AreDigits, IsDigit, decimal_digits, decimal_release, release_digits, release_low}
 
 -- ---- lists
@@ -123,10 +123,10 @@ without_first : {A : Type 0} (P : A → Type 0) (xs : List A) → AllByRecursion
 without_first P [] all = tt
 without_first P (x ∷ xs) all = all.1
 
-pub joined_visible : (rs : List ℕ) → AreLow rs → AreVisible (joined rs)
+pub joined_visible : (rs : List ℕ) → AreLow rs → AreVisible (with_commas rs)
 joined_visible rs are = without_first (λ b. 40 < b) (flat_map behind_comma rs) (commas_visible rs are)
 
-pub joined_fits : (rs : List ℕ) → AreReleases rs → is_empty (joined rs) ≡ false → are_releases (joined rs) ≡ true
+pub joined_fits : (rs : List ℕ) → AreReleases rs → is_empty (with_commas rs) ≡ false → are_releases (with_commas rs) ≡ true
 joined_fits [] are some = absurd cc
 joined_fits (r ∷ rs) are some = written_releases r rs are
 

@@ -1,16 +1,17 @@
 -- The flags of a file, with some set and others removed: POSIX, admin -f and -d.
 use Rattle.std.specs.Prelude.{◌≡◌, ℕ, ◌==◌, Bool, false, not, ◌&&◌, ◌||◌, List, [], ◌∷◌, Option, None, Some, Result, Ok, Err, if◌then◌else◌}
+use Rattle.std.specs.List.{list_any}
 use Rattle.sccs_sid.specs.Reading.{◌>>=◌, is_empty}
 use Rattle.sccs_history.specs.FlagText.{flag_l, is_all}
 use Rattle.sccs_history.specs.declared.headers.Flag.{Flag}
 use Rattle.sccs_flags.specs.FlagValues.{flag_of}
-use Rattle.sccs_rules.specs.Forms.{are_joined, is_flag, letter_of, may_set, text_in}
-use Rattle.sccs_rules.specs.Unlocked.{unlocked}
+use Rattle.sccs_rules.specs.Forms.{are_joined, is_flag, word_letter, may_set, word_text}
+use Rattle.sccs_rules.specs.Unlocked.{without_releases}
 use Rattle.sccs_rules.specs.declared.flag_changes.FlagFault.{FlagFault}
 use Rattle.sccs_rules.specs.declared.flag_changes.FlagFault.TheVariants.{Bad, Memory}
 
-abbrev pub flag : ℕ → List ℕ → Flag
-flag letter text = record { letter = letter; text = text }
+abbrev pub flag_with : ℕ → List ℕ → Flag
+flag_with letter text = record { letter = letter; text = text }
 
 -- a flag in the place of the one of its letter, or last
 abbrev pub with_flag : Flag → List Flag → List Flag
@@ -27,9 +28,16 @@ without_flag letter (g ∷ flags) = if g.letter == letter then flags else g ∷ 
 -- the flag that a word says, or the letter of a bad word
 abbrev pub set_word : List Flag → List ℕ → Result (List Flag) ℕ
 set_word flags word =
-    if may_set (letter_of word) (text_in word)
-    then Ok (with_flag (flag (letter_of word) (text_in word)) flags)
-    else Err (letter_of word)
+    if may_set (word_letter word) (word_text word)
+    then Ok (with_flag (flag_with (word_letter word) (word_text word)) flags)
+    else Err (word_letter word)
+
+-- a word that isn't bad sets the flag of a letter
+abbrev pub sets_letter : ℕ → List ℕ → Bool
+sets_letter letter word = word_letter word == letter && may_set letter (word_text word)
+
+abbrev pub sets_flag : List (List ℕ) → ℕ → Bool
+sets_flag words letter = list_any (sets_letter letter) words
 
 -- ---- -d
 
@@ -48,11 +56,11 @@ may_remove flags letter text = is_flag letter && (is_empty text || (letter == fl
 
 -- flag l with this text; without one it goes
 abbrev pub put_unlocked : List Flag → List ℕ → List Flag
-put_unlocked flags text = if is_empty text then without_flag flag_l flags else with_flag (flag flag_l text) flags
+put_unlocked flags text = if is_empty text then without_flag flag_l flags else with_flag (flag_with flag_l text) flags
 
 abbrev pub unlock_in : List Flag → List ℕ → Option Flag → List Flag
 unlock_in flags others None = flags
-unlock_in flags others (Some f) = put_unlocked flags (unlocked others f.text)
+unlock_in flags others (Some f) = put_unlocked flags (without_releases others f.text)
 
 -- the flag goes, or releases go from the list of flag l
 abbrev pub without_word : List Flag → ℕ → List ℕ → List Flag
@@ -62,22 +70,22 @@ without_word flags letter text =
 -- the flags without what a word says, or the letter of a bad word
 abbrev pub remove_word : List Flag → List ℕ → Result (List Flag) ℕ
 remove_word flags word =
-    if may_remove flags (letter_of word) (text_in word)
-    then Ok (without_word flags (letter_of word) (text_in word))
-    else Err (letter_of word)
+    if may_remove flags (word_letter word) (word_text word)
+    then Ok (without_word flags (word_letter word) (word_text word))
+    else Err (word_letter word)
 
 -- ---- all words in their order
 
-abbrev pub in_turn : (List Flag → List ℕ → Result (List Flag) ℕ) → List Flag → List (List ℕ) → Result (List Flag) ℕ
-in_turn change flags [] = Ok flags
-in_turn change flags (word ∷ words) = change flags word >>= λ next. in_turn change next words
+abbrev pub by_words : (List Flag → List ℕ → Result (List Flag) ℕ) → List Flag → List (List ℕ) → Result (List Flag) ℕ
+by_words change flags [] = Ok flags
+by_words change flags (word ∷ words) = change flags word >>= λ next. by_words change next words
 
 -- the flags after the words of -f and then those of -d, or the letter of the first bad word
 abbrev pub changed_flags : List Flag → List (List ℕ) → List (List ℕ) → Result (List Flag) ℕ
-changed_flags flags set removed = in_turn set_word flags set >>= λ next. in_turn remove_word next removed
+changed_flags flags set removed = by_words set_word flags set >>= λ next. by_words remove_word next removed
 
 -- what a call that may run out of memory answers
-abbrev pub Changes : Result (List Flag) ℕ → Result (List Flag) FlagFault → Type 0
-Changes made (Ok flags) = made ≡ Ok flags
-Changes made (Err (Bad letter)) = made ≡ Err letter
-Changes made (Err Memory) = Unit {0}
+abbrev pub ChangesFlags : Result (List Flag) ℕ → Result (List Flag) FlagFault → Type 0
+ChangesFlags made (Ok flags) = made ≡ Ok flags
+ChangesFlags made (Err (Bad letter)) = made ≡ Err letter
+ChangesFlags made (Err Memory) = Unit {0}

@@ -9,33 +9,33 @@ use Rattle.sccs_rules.specs.declared.forms.FlagRow.{FlagRow}
 use Rattle.sccs_rules.specs.declared.forms.Form.{Form}
 use Rattle.sccs_rules.specs.declared.forms.Form.TheVariants.{Bare, Release, AnySid, Releases, Needed, Free}
 
-abbrev pub row : ℕ → Form → FlagRow
-row letter form = record { 0 = letter; 1 = form }
+abbrev pub flag_row : ℕ → Form → FlagRow
+flag_row letter form = record { 0 = letter; 1 = form }
 
 -- the flags that may be set
-abbrev pub rows : List FlagRow
-rows =
-    row flag_b Bare ∷
-    row flag_c Release ∷
-    row flag_d AnySid ∷
-    row flag_f Release ∷
-    row flag_i Free ∷
-    row flag_j Bare ∷
-    row flag_l Releases ∷
-    row flag_m Needed ∷
-    row flag_n Bare ∷
-    row flag_q Needed ∷
-    row flag_t Needed ∷
-    row flag_v Free ∷
+abbrev pub flag_rows : List FlagRow
+flag_rows =
+    flag_row flag_b Bare ∷
+    flag_row flag_c Release ∷
+    flag_row flag_d AnySid ∷
+    flag_row flag_f Release ∷
+    flag_row flag_i Free ∷
+    flag_row flag_j Bare ∷
+    flag_row flag_l Releases ∷
+    flag_row flag_m Needed ∷
+    flag_row flag_n Bare ∷
+    flag_row flag_q Needed ∷
+    flag_row flag_t Needed ∷
+    flag_row flag_v Free ∷
     []
 
 -- what the text of the flag of a letter may be
-abbrev pub form_of : ℕ → Option Form
-form_of letter = option_map (λ (r : FlagRow). r.1) (find (λ (r : FlagRow). r.0 == letter) rows)
+abbrev pub flag_form : ℕ → Option Form
+flag_form letter = option_map (λ (r : FlagRow). r.1) (find (λ (r : FlagRow). r.0 == letter) flag_rows)
 
 -- a letter of these flags
 abbrev pub is_flag : ℕ → Bool
-is_flag letter = is_some (form_of letter)
+is_flag letter = is_some (flag_form letter)
 
 -- releases 1 to 9999 with a comma between two
 abbrev pub are_joined : List ℕ → Bool
@@ -56,14 +56,14 @@ fits_row (Some form) text = fits_form form text && not (has_lf text)
 
 -- the flag of a letter may be set with a text
 abbrev pub may_set : ℕ → List ℕ → Bool
-may_set letter text = fits_row (form_of letter) text
+may_set letter text = fits_row (flag_form letter) text
 
 -- ---- the words of -f and -d: a letter, and a text, taken without blanks at its ends
 
-abbrev pub letter_of : List ℕ → ℕ
-letter_of [] = 0
-letter_of (b ∷ text) = b
+abbrev pub word_letter : List ℕ → ℕ
+word_letter [] = 0
+word_letter (b ∷ text) = b
 
-abbrev pub text_in : List ℕ → List ℕ
-text_in [] = []
-text_in (b ∷ text) = skip_blanks (drop_blanks text)
+abbrev pub word_text : List ℕ → List ℕ
+word_text [] = []
+word_text (b ∷ text) = skip_blanks (drop_blanks text)

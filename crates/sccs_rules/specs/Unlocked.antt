@@ -24,15 +24,15 @@ abbrev pub behind_comma : ℕ → List ℕ
 behind_comma release = 44 ∷ decimal release
 
 -- releases with a comma between two: each behind one, without the first
-abbrev pub joined : List ℕ → List ℕ
-joined releases = drop 1 (flat_map behind_comma releases)
+abbrev pub with_commas : List ℕ → List ℕ
+with_commas releases = drop 1 (flat_map behind_comma releases)
 
 abbrev pub left_of : List ℕ → List ℕ → List ℕ
 left_of others releases = filter (λ r. not (is_among others r)) releases
 
 -- A text without the releases of another one. Where it has none of them it stays as it is.
-abbrev pub unlocked : List ℕ → List ℕ → List ℕ
-unlocked others text =
+abbrev pub without_releases : List ℕ → List ℕ → List ℕ
+without_releases others text =
     if list_any (is_among (releases_of others)) (releases_of text)
-    then joined (left_of (releases_of others) (releases_of text))
+    then with_commas (left_of (releases_of others) (releases_of text))
     else text

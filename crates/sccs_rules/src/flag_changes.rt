@@ -1,7 +1,7 @@
 ghost use Rattle.std.specs.Prelude.{◌≡◌, ◌==◌, IfOk, position};
 ghost use Rattle.std.specs.Option.{option_copied};
 ghost use Rattle.sccs_flags.specs.FlagValues.{flag_of};
-ghost use Rattle.sccs_rules.specs.Flags.{Changes, changed_flags, flag, in_turn, locks_all, may_remove, may_unlock, put_unlocked, remove_word, set_word, unlock_in, with_flag, without_flag, without_word};
+ghost use Rattle.sccs_rules.specs.Flags.{ChangesFlags, changed_flags, flag_with, by_words, locks_all, may_remove, may_unlock, put_unlocked, remove_word, set_word, sets_flag, sets_letter, unlock_in, with_flag, without_flag, without_word};
 
 use crate::forms::{are_joined, is_all, is_flag, letter_of, may_set, text_in};
 use crate::releases::unlocked;
@@ -60,7 +60,7 @@ fn without_flag(flags: Flags, letter: u8) -> Flags
 
 // sets the flag that a word says
 fn set_word(alloc: Global, flags: Flags, word: &[u8]) -> Result<Flags, FlagFault>
-    ensures { Changes (set_word flags word.now) result }
+    ensures { ChangesFlags (set_word flags word.now) result }
 {
     let (letter, text) = (letter_of(word), text_in(word));
     if !may_set(letter, text) {
@@ -73,6 +73,23 @@ fn set_word(alloc: Global, flags: Flags, word: &[u8]) -> Result<Flags, FlagFault
         Ok(flags) => Ok(flags),
         Err(Memory) => Err(FlagFault::Memory),
     }
+}
+
+// whether a word that isn't bad sets the flag of a letter
+fn sets_letter(word: &[u8], letter: u8) -> bool
+    ensures { result ≡ sets_letter letter word.now }
+{
+    letter_of(word) == letter && may_set(letter, text_in(word))
+}
+
+/// Whether some word of -f that isn't bad sets the flag of a letter.
+pub fn sets_flag(words: &Words, letter: u8) -> bool
+    ensures { result ≡ sets_flag words.now letter }
+{
+    words
+        .items()
+        .iter()
+        .any(|word| sets_letter(word.bytes(), letter))
 }
 
 // whether the flag l stands for all releases
@@ -132,7 +149,7 @@ fn without_word(alloc: Global, flags: Flags, letter: u8, text: &[u8]) -> Result<
 
 // removes what a word says
 fn remove_word(alloc: Global, flags: Flags, word: &[u8]) -> Result<Flags, FlagFault>
-    ensures { Changes (remove_word flags word.now) result }
+    ensures { ChangesFlags (remove_word flags word.now) result }
 {
     let (letter, text) = (letter_of(word), text_in(word));
     if !may_remove(flags.items(), letter, text) {
@@ -146,28 +163,22 @@ fn remove_word(alloc: Global, flags: Flags, word: &[u8]) -> Result<Flags, FlagFa
 
 // sets the flags that words say, in their order
 fn set_words(alloc: Global, flags: Flags, words: &[Bytes]) -> Result<Flags, FlagFault>
-    ensures { Changes (in_turn set_word flags words.now) result }
+    ensures { ChangesFlags (by_words set_word flags words.now) result }
 {
     let mut flags = flags;
     for word in words {
-        match set_word(alloc, flags, word.bytes()) {
-            Ok(next) => flags = next,
-            Err(fault) => return Err(fault),
-        }
+        flags = set_word(alloc, flags, word.bytes())?;
     }
     Ok(flags)
 }
 
 // removes what words say, in their order
 fn remove_words(alloc: Global, flags: Flags, words: &[Bytes]) -> Result<Flags, FlagFault>
-    ensures { Changes (in_turn remove_word flags words.now) result }
+    ensures { ChangesFlags (by_words remove_word flags words.now) result }
 {
     let mut flags = flags;
     for word in words {
-        match remove_word(alloc, flags, word.bytes()) {
-            Ok(next) => flags = next,
-            Err(fault) => return Err(fault),
-        }
+        flags = remove_word(alloc, flags, word.bytes())?;
     }
     Ok(flags)
 }
@@ -182,10 +193,8 @@ pub fn change_flags(
     set: &Words,
     removed: &Words,
 ) -> Result<Flags, FlagFault>
-    ensures { Changes (changed_flags flags set.now removed.now) result }
+    ensures { ChangesFlags (changed_flags flags set.now removed.now) result }
 {
-    match set_words(alloc, flags, set.items()) {
-        Ok(flags) => remove_words(alloc, flags, removed.items()),
-        Err(fault) => Err(fault),
-    }
+    let flags = set_words(alloc, flags, set.items())?;
+    remove_words(alloc, flags, removed.items())
 }

@@ -2,7 +2,7 @@ ghost use Rattle.std.specs.Prelude.{◌≡◌};
 ghost use Rattle.sccs_sid.specs.Reading.{is_empty};
 ghost use Rattle.sccs_sid.specs.Words.{drop_blanks, skip_blanks};
 ghost use Rattle.sccs_history.specs.FlagText.{is_all, is_any_sid, is_release};
-ghost use Rattle.sccs_rules.specs.Forms.{are_joined, fits_form, form_of, is_flag, letter_of, may_set, rows, text_in};
+ghost use Rattle.sccs_rules.specs.Forms.{are_joined, fits_form, flag_form, is_flag, word_letter, may_set, flag_rows, word_text};
 ghost use Rattle.sccs_rules.specs.Users.{has_lf};
 
 use crate::users::has_lf;
@@ -48,14 +48,14 @@ const ROWS: [FlagRow; 12] = [
 
 // the flags that may be set
 fn rows() -> &'static [FlagRow]
-    ensures { result.now ≡ rows }
+    ensures { result.now ≡ flag_rows }
 {
     &ROWS
 }
 
 // what the text of the flag of a letter may be
 fn form_of(letter: u8) -> Option<Form>
-    ensures { result ≡ form_of letter }
+    ensures { result ≡ flag_form letter }
 {
     let found = rows().iter().find(|row| row.0 == letter)?;
     Some(found.1)
@@ -135,7 +135,7 @@ pub fn may_set(letter: u8, text: &[u8]) -> bool
 
 /// The letter of a word of -f or -d; of an empty word it is none of a flag.
 pub fn letter_of(word: &[u8]) -> u8
-    ensures { result ≡ letter_of word.now }
+    ensures { result ≡ word_letter word.now }
 {
     match word.first() {
         Some(letter) => *letter,
@@ -145,7 +145,7 @@ pub fn letter_of(word: &[u8]) -> u8
 
 /// The text behind the letter, without blanks at its ends.
 pub fn text_in(word: &[u8]) -> &[u8]
-    ensures { result.now ≡ text_in word.now }
+    ensures { result.now ≡ word_text word.now }
 {
     match word {
         [] => word,

@@ -8,5 +8,5 @@ pub mod laws;
 mod releases;
 mod users;
 
-pub use flag_changes::{FlagFault, change_flags};
+pub use flag_changes::{FlagFault, change_flags, sets_flag};
 pub use users::change_users;

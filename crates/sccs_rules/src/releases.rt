@@ -1,6 +1,6 @@
 ghost use Rattle.std.specs.Prelude.{◌≡◌, [], ◌∷◌, ◌++◌, IfOk, OnOk, drop, flat_map};
 ghost use Rattle.std.specs.List.{list_any};
-ghost use Rattle.sccs_rules.specs.Unlocked.{behind_comma, is_among, left_of, release_in, releases_in, releases_of, unlocked};
+ghost use Rattle.sccs_rules.specs.Unlocked.{behind_comma, is_among, left_of, release_in, releases_in, releases_of, without_releases};
 
 use itoa::Buffer;
 use sccs_base::{Line, Memory};
@@ -114,7 +114,7 @@ fn line_of(alloc: Global, bytes: &[u8]) -> Result<Line, Memory>
 /// The text of flag l without the releases of another text: where it has none of them as it is, else the
 /// others with a comma between two.
 pub fn unlocked(alloc: Global, others: &[u8], text: &[u8]) -> Result<Line, Memory>
-    ensures { IfOk result (λ line. line ≡ unlocked others.now text.now) }
+    ensures { IfOk result (λ line. line ≡ without_releases others.now text.now) }
 {
     let releases = releases_of(alloc, text)?;
     let others = releases_of(alloc, others)?;

@@ -1,10 +1,12 @@
 mod altered_files;
+mod checked_files;
 mod disks;
 mod gets;
 mod hostile;
 mod judged;
 mod long_lines;
 mod new_files;
+mod new_rules;
 mod operands;
 mod pending;
 mod readings;

@@ -1,6 +1,5 @@
 -- Where a run ended the next one may begin, and so where it was stopped and all names were recovered.
 use Rattle.std.proofs.Common.{◌≡◌, ◌≢◌, ℕ, ◌≤◌, true, Bool, List, [], ◌∷◌, length, Option, is_some, Result, Err, sym, ap, ◌∙◌}
-use Rattle.std.specs.List.{AllByRecursion}
 use Rattle.sccs_base.specs.Name.{IsSfile, p_file}
 use Rattle.sccs_disk.specs.Files.{Content, Folder, Model, View, view_of}
 use Rattle.sccs_disk.specs.Images.{Allows}
@@ -9,18 +8,17 @@ use Rattle.sccs_images.proofs.Images.{view_image}
 use Rattle.sccs_images.proofs.Touched.{each_newest}
 use Rattle.sccs_moments.specs.Recovery.{RecoversAs}
 use Rattle.sccs_moments.proofs.Recovering.{recovered, recovered_is, recovers_then}
-use Rattle.sccs_steps.specs.Actions.{Action, KeepsFiles}
 use Rattle.sccs_steps.specs.Calls.{Scene}
-use Rattle.sccs_steps.specs.ListStops.{AreSafe, IsAtNumber, KeepsSafe, RunMoments, view_at}
+use Rattle.sccs_steps.specs.ListStops.{IsAtNumber, KeepsSafe, view_at}
+use Rattle.sccs_courses.specs.Following.{CourseMoments}
 use Rattle.sccs_steps.specs.StepLists.{NamedStep}
 use Rattle.sccs_steps.specs.declared.faults.Fault.{Fault}
 use Rattle.sccs_steps.specs.declared.faults.Fault.TheVariants as ends
 use Rattle.sccs_steps.proofs.SafeImages.{keeps_then, numbered_each, recovers_safe}
-use Rattle.sccs_steps.proofs.Turns.{each_all}
 use Rattle.sccs_top.specs.Following.{AllRecovered, FollowsStop, IsPrefix, MayFollow}
 
-pub may_follow : (x : Action) (w : List ℕ → Bool) (r : Result ℕ Fault) (folder : Folder) (ts : List NamedStep) (a b : Scene) (m : Model) (past : List Model) → RunMoments x w r folder ts a b m past → r ≢ Err ends.DiskFault → MayFollow (view_of m) b.told
-may_follow x w r folder ts a b m past run other = record {
+pub may_follow : (w : List ℕ → Bool) (r : Result ℕ Fault) (folder : Folder) (ts : List NamedStep) (a b : Scene) (m : Model) (past : List Model) → CourseMoments w r folder ts a b m past → r ≢ Err ends.DiskFault → MayFollow (view_of m) b.told
+may_follow w r folder ts a b m past run other = record {
   model = newest run.list.went.added m;
   past = earlier run.list.went.added m past;
   is = run.list.went.is;
@@ -47,13 +45,8 @@ follows v folder ts w at keeps = record {
   safe = λ u all. keeps_then v w u keeps (recovers_safe w u (all_recovers w u all));
 }
 
-pub stops_followed : (x : Action) (w : List ℕ → Bool) (r : Result ℕ Fault) (folder : Folder) (ts : List NamedStep) (a b : Scene) (m : Model) (past : List Model) → (run : RunMoments x w r folder ts a b m past)
+pub stops_followed : (w : List ℕ → Bool) (r : Result ℕ Fault) (folder : Folder) (ts : List NamedStep) (a b : Scene) (m : Model) (past : List Model) → (run : CourseMoments w r folder ts a b m past)
     → Each (Allows (FollowsStop (view_of m) folder ts)) run.list.went.added m
-stops_followed x w r folder ts a b m past run =
+stops_followed w r folder ts a b m past run =
     each_both (AtSome folder ts) (KeepsSafe (view_of m)) (FollowsStop (view_of m) folder ts) run.list.went.added m (λ u at keeps. follows (view_of m) folder ts u at keeps)
     (numbered_each (IsAtNumber (view_at folder ts) (length ts)) (AtSome folder ts) 0 run.list.went.added m run.list.number (λ i u at. (at.0, at.2, at.3)) run.list.went.numbers) run.images
-
--- ---- the premise of the next run
-
-pub still_safe : (x : Action) (ts : List NamedStep) (u v : View) → KeepsFiles x → KeepsSafe u v → AreSafe x ts u → AreSafe x ts v
-still_safe x ts u v keeps safe all = each_all _ _ ts (λ t before fits changes. safe t.name (keeps.names changes t.name fits) (before fits changes)) all

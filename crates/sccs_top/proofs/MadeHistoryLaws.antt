@@ -10,18 +10,14 @@ use Rattle.sccs_grammar.specs.File.{Parsed}
 use Rattle.sccs_files.specs.StepFiles.{Files}
 use Rattle.sccs_steps.specs.StepEffects.{Outcome, StepEffect}
 use Rattle.sccs_words.specs.declared.commands.AdminWords.{AdminWords}
-use Rattle.sccs_admin.specs.AdminStep.{AreAdminValues, admin_outcome, found_text, makes}
+use Rattle.sccs_admin.specs.AdminStep.{AreAdminValues, admin_outcome, found_texts, makes}
 use Rattle.sccs_admin.specs.NewFiles.{new_content, new_header, new_items}
-use Rattle.sccs_admin.specs.Texts.{count_lines, or_bad_text}
+use Rattle.sccs_admin.specs.Rules.{new_rules}
 use Rattle.sccs_admin.proofs.NewFileLaws.{new_file_again, new_version}
 use Rattle.sccs_delta.specs.Replays.{DeltaCall, IsDeltaCall}
-use Rattle.sccs_delta.proofs.Chains.{passed}
+use Rattle.sccs_pending.proofs.Chains.{passed}
 use Rattle.sccs_delta.proofs.Replaying.{calls_replayed}
 use Rattle.sccs_top.specs.MadeHistories.{IsReplayed}
-
-counted_is : (r : Result ℕ ℕ) (count : ℕ) → or_bad_text r ≡ Ok count → r ≡ Ok count
-counted_is (Ok some) count is = let same : some ≡ count = cc in ap Ok same
-counted_is (Err line) count is = absurd cc
 
 -- what is made is new
 effect_is : (a b : StepEffect) → (let r : Outcome = Ok a in r) ≡ Ok b → a ≡ b
@@ -31,22 +27,22 @@ new_is : (s : Content) (f : Files) (effect : StepEffect) → makes s f ≡ Ok ef
 new_is s f effect is = ap (λ (e : StepEffect). e.new) (effect_is (record { new = Some (record { s = Some s; p = f.p; z = None; g = f.g }); text = []; out = []; err = []; status = 0 }) effect is)
 
 pub made_replayed : (words : AdminWords) (stamp : Stamp) (n input : List ℕ) (named : List (Option Content)) (f : Files) (effect : StepEffect) (calls : List DeltaCall)
-    → AreAdminValues words stamp → IsLogin stamp.login → IfSome words.comment AreLines
+    → AreAdminValues words stamp → IsLogin stamp.login → IfSome words.comment AreLines → AreLines words.mrs
     → admin_outcome words stamp n input named f ≡ Ok effect → AllByRecursion IsDeltaCall calls → IsReplayed words n input named f effect calls
 unfolding admin_outcome
-made_replayed words stamp n input named f effect calls values login comment is are =
-    let text = passed (found_text words.text input named f.s) _ effect is in
-    let count = passed (or_bad_text (count_lines (text_of text.0))) _ effect text.2 in
-    let file : Parsed = record { header = new_header words stamp count.0; items = new_items (text_of text.0) } in
-    let reads = new_file_again words stamp text.0 count.0 values login comment (counted_is (count_lines (text_of text.0)) count.0 count.1) in
+made_replayed words stamp n input named f effect calls values login comment mrs is are =
+    let texts = passed (found_texts words input named f.s) _ effect is in
+    let rules = passed (new_rules words texts.0) _ effect texts.2 in
+    let file : Parsed = record { header = new_header words stamp rules.0; items = new_items (text_of texts.0.text) } in
+    let reads = new_file_again words stamp texts.0 rules.0 values login comment mrs rules.1 in
     record {
-      text = text.0;
-      s = new_content words stamp count.0 (text_of text.0);
+      texts = texts.0;
+      s = new_content words stamp rules.0 (text_of texts.0.text);
       file = file;
-      found = text.1;
-      made = sym (new_is (new_content words stamp count.0 (text_of text.0)) f effect count.2);
+      found = texts.1;
+      made = sym (new_is (new_content words stamp rules.0 (text_of texts.0.text)) f effect rules.2);
       reads = reads;
       only = refl;
-      first = new_version (text_of text.0);
-      replays = calls_replayed n (new_content words stamp count.0 (text_of text.0)) file calls reads are;
+      first = new_version (text_of texts.0.text);
+      replays = calls_replayed n (new_content words stamp rules.0 (text_of texts.0.text)) file calls reads are;
     }

@@ -1,107 +1,190 @@
 -- How a run ends whose steps end so.
-use Rattle.std.proofs.Common.{◌≡◌, ◌≢◌, ℕ, Bool, true, false, cond, ◌&&◌, ◌||◌, List, [], ◌∷◌, codes, Option, None, Some, IfSome, IsOk, Result, Ok, Err, inl, inr, refl, sym, ap, subst, ◌∙◌}
-use Rattle.std.proofs.lemmas.List.{append-nil}
-use Rattle.sccs_base.specs.Name.{p_file, z_file}
-use Rattle.sccs_base.specs.Stream.{GivesOk, GivesSome}
-use Rattle.sccs_base.proofs.Gifts.{gives_none, some_none, some_of_whole}
-use Rattle.sccs_disk.specs.Files.{Folder, View, view_in, view_of}
+use Rattle.std.proofs.Common.{◌≡◌, ◌≢◌, ◌⊎◌, ℕ, ◌≤◌, Bool, true, false, cond, List, [], ◌∷◌, Option, None, Some, IfSome, IsOk, Result, Ok, Err, inl, inr, refl, sym, ap, subst, arith}
+use Rattle.sccs_base.specs.Stream.{Rose}
+use Rattle.sccs_base.proofs.Gifts.{some_none}
+use Rattle.sccs_disk.specs.Files.{Folder, View, view_in}
 use Rattle.sccs_disk.specs.Told.{Told, seen}
 use Rattle.sccs_sid.specs.declared.refusals.Refusal.TheVariants as refusals
 use Rattle.sccs_sid.specs.declared.refusals.StepFault.TheVariants as step
+use Rattle.sccs_words.specs.Meaning.{meaning}
 use Rattle.sccs_words.specs.declared.commands.Usage.{Usage}
 use Rattle.sccs_words.specs.declared.commands.Command.{Command}
 use Rattle.sccs_words.specs.declared.commands.ValWords.{ValWords}
-use Rattle.sccs_files.specs.StepFiles.{is_working, nowhere}
-use Rattle.sccs_moments.proofs.FileNames.{working_s}
-use Rattle.sccs_moments.proofs.Untouched.{before_after, same_before}
-use Rattle.sccs_steps.specs.Actions.{Action, IsHeard, Stepped}
-use Rattle.sccs_steps.specs.Calls.{Meets, Scene, World, scene, shown, world}
-use Rattle.sccs_steps.specs.StepLists.{NamedStep, Runs, err_of, named_step, next_text}
-use Rattle.sccs_steps.specs.StepStops.{StepMoments}
-use Rattle.sccs_steps.specs.Unlocked.{AreExempt}
-use Rattle.sccs_steps.specs.ListStops.{RunMoments, Spares}
-use Rattle.sccs_moments.proofs.Unlocked.{unlocked_same}
-use Rattle.sccs_moments.proofs.UnlockedBut.{all_of}
+use Rattle.sccs_files.specs.StepFiles.{Shows}
+use Rattle.sccs_moments.specs.Moments.{LeavesCalm}
 use Rattle.sccs_moments.proofs.Recoveries.{calm_same, firm_same, story_same}
-use Rattle.sccs_steps.specs.Recovering.{RecoversBy}
-use Rattle.sccs_steps.specs.Running.{IsInput, MakesBy, StopsBy, UnlockedBy}
+use Rattle.sccs_moments.proofs.UnlockedBut.{but_same}
+use Rattle.sccs_steps.specs.Actions.{Action, IsHeard, Stepped, hears}
+use Rattle.sccs_steps.specs.Calls.{Meets, Scene, World, scene, shown, world}
+use Rattle.sccs_steps.specs.Causes.{Ignores, RunCauses, counts}
+use Rattle.sccs_steps.specs.Recovering.{has_made}
+use Rattle.sccs_steps.specs.Running.{IsInput}
+use Rattle.sccs_steps.specs.Settings.{Setting}
+use Rattle.sccs_steps.specs.StepLists.{NamedStep, err_of, next_text}
+use Rattle.sccs_steps.specs.StepStops.{StepMoments}
 use Rattle.sccs_steps.proofs.Cleared.{cleared_same}
-use Rattle.sccs_steps.proofs.SafeImages.{images_after, images_now}
-use Rattle.sccs_steps.proofs.Safety.{stay_same}
-use Rattle.sccs_steps.proofs.MomentLists.{alike_recovers, moments_never, run_moments}
-use Rattle.sccs_steps.proofs.OneMoment.{one_after}
+use Rattle.sccs_steps.proofs.MomentLists.{moments_never}
+use Rattle.sccs_steps.proofs.NameStops.{alike_told}
 use Rattle.sccs_steps.proofs.ReadingMoments.{reading_moments}
 use Rattle.sccs_steps.proofs.ReadingSteps.{ends_silent}
-use Rattle.sccs_steps.proofs.NameStops.{alike_told}
+use Rattle.sccs_steps.proofs.SafeImages.{images_now}
 use Rattle.sccs_steps.specs.declared.faults.Fault.{Fault}
 use Rattle.sccs_steps.specs.declared.faults.Fault.TheVariants as ends
-use Rattle.sccs_steps.specs.declared.statuses.StatusRule.{StatusRule}
-use Rattle.sccs_val.specs.ValStep.{printed}
-use Rattle.sccs_top.proofs.ListedRuns.{is_val}
+use Rattle.sccs_courses.specs.Courses.{TakesSfiles, portion_of, portions_of, said, steps_along}
+use Rattle.sccs_courses.specs.Following.{CourseMoments, RunsCourse, RunsTo, SpeaksTo, WholeBy}
+use Rattle.sccs_courses.specs.OwnFiles.{IsGivenTo, working_along}
+use Rattle.sccs_courses.specs.Sayings.{IsSaid}
+use Rattle.sccs_courses.proofs.CourseMomentLaws.{course_moments}
+use Rattle.sccs_courses.proofs.OneAction.{steps_course}
+use Rattle.sccs_courses.proofs.OwnFiles.{own_makes, own_stops, own_unlocked, spares_in}
+use Rattle.sccs_courses.proofs.QuietCourses.{course_heard, course_with}
+use Rattle.sccs_courses.proofs.SaidCourses.{said_course}
+use Rattle.sccs_batch.specs.Batches.{RunsOwn}
+use Rattle.sccs_batch.specs.declared.entries.Entry.{Entry}
+use Rattle.sccs_top.specs.CommandLaws.{action_takes, command_might}
 use Rattle.sccs_top.specs.Messages.{usage_line}
-use Rattle.sccs_top.specs.Runs.{Caller, Ends, MakesSteps, RecoversRun, SpeakSteps, SpeaksWords, StopsSteps, UnlockedSteps, action_meant, action_of, made_by, operands_of, run_steps, usage_step, val_words_of, working, working_of}
+use Rattle.sccs_top.specs.Runs.{AsksBy, AsksInput, AsksMeant, BegunBy, BegunCommand, BegunMeant, BegunOf, BegunRun, Caller, Ends, FitsEntry, IsGiven, LeavesSingle, MadeBy, MakesSteps, RecoversRun, RunsCommand, RunsMeant, RunsWords, SpeaksWords, StopsSteps, UnlockedSteps, WholeCommand, WholeMeant, WholeOf, WholeRun, action_of, caller, command_course, course_by, entry_command, is_list, is_silent, locks_names, made_by, only_reads, operands_of, run_course, run_portions, run_steps, steps_by, takes_input, val_words_of, working}
 use Rattle.sccs_top.specs.Unbuilt.{unbuilt, unbuilt_keeps}
 use Rattle.sccs_top.specs.declared.answers.Answer.{Answer}
 use Rattle.sccs_top.specs.declared.answers.Answer.TheVariants.{Finished, Memory, ReadFault, WriteFault, DiskFault}
 
--- working files are no s-files, p-files or z-files
-neither : (a b c : Bool) → b ≡ false → c ≡ false → (a && b || c) ≡ false
-neither true b c e f = ap (λ x. x || c) e ∙ f
-neither false b c e f = f
+-- ---- single commands
 
-spares_steps : (x : Action) (ts : List NamedStep) → Spares (working_of x ts)
-spares_steps x [] = record { s = λ n sfile. refl; p = λ n sfile. refl; z = λ n sfile. refl }
-spares_steps x (t ∷ ts) =
-    let rest : Spares (working_of x ts) = spares_steps x ts in
-    record {
-      s = λ n sfile. neither (x.fits t.name) (is_working t.name n) (working_of x ts n) (working_s t.name n sfile) (rest.s n sfile);
-      p = λ n sfile. neither (x.fits t.name) (is_working t.name (p_file n)) (working_of x ts (p_file n)) refl (rest.p n sfile);
-      z = λ n sfile. neither (x.fits t.name) (is_working t.name (z_file n)) (working_of x ts (z_file n)) refl (rest.z n sfile);
-    }
+-- the steps of a command are a course of one portion
+single_course : (val : Option ValWords) (x : Action) (operands : List (List ℕ)) (r : Result ℕ Fault) (s t : Setting) → TakesSfiles x → RunsCommand val x operands r s t
+    → RunsCourse (portion_of x (steps_by val x operands)) (IsInput x operands s.left) (WholeBy x.rule (MadeBy val x operands)) (BegunBy val x operands) r s t
+single_course None x operands r s t takes runs = steps_course x (steps_by None x operands) (IsInput x operands s.left) (MadeBy None x operands) (BegunBy None x operands) (hears x operands) r s t takes runs
+single_course (Some words) x operands r s t takes runs = steps_course x (steps_by (Some words) x operands) (IsInput x operands s.left) (MadeBy (Some words) x operands) (BegunBy (Some words) x operands) (hears x operands) r s t takes runs
 
-spares_nowhere : Spares nowhere
-spares_nowhere = record { s = λ n sfile. refl; p = λ n sfile. refl; z = λ n sfile. refl }
+pub command_runs : (who : Caller) (command : Command) (r : Result ℕ Fault) (s t : Setting) → RunsCommand (val_words_of command) (action_of who command) (operands_of command) r s t
+    → RunsCourse (command_course who (Ok command)) (AsksInput who (Ok command) s.left) (WholeCommand who (Ok command)) (BegunCommand who (Ok command)) r s t
+command_runs who command r s t runs = single_course (val_words_of command) (action_of who command) (operands_of command) r s t (action_takes who command) runs
 
-spares_by : (reads : Bool) (x : Action) (ts : List NamedStep) → Spares (cond reads nowhere (working_of x ts))
-spares_by true x ts = spares_nowhere
-spares_by false x ts = spares_steps x ts
+pub words_run : (who : Caller) (meant : Result Command Usage) (command : Command) (r : Result ℕ Fault) (s t : Setting) → meant ≡ Ok command → RunsCommand (val_words_of command) (action_of who command) (operands_of command) r s t → RunsWords who meant r s t
+words_run who meant command r s t is runs = subst (λ (m : Result Command Usage). RunsWords who m r s t) (sym is) (inl (command_runs who command r s t runs))
 
-spares_meant : (who : Caller) (meant : Result Command Usage) (m : Folder) (i : List ℕ) → Spares (working who meant m i)
-spares_meant who (Err usage) m i = spares_nowhere
-spares_meant who (Ok command) m i = spares_by (action_of who command).reads (action_of who command) (run_steps who (Ok command) m i)
+-- a usage fault was said, or a prefix of it
+usage_runs : (who : Caller) (usage : Usage) (given : List ℕ → Type 0) (r : Result ℕ Fault) (s t : Setting) → t.stage.told ≡ s.stage.told → IsSaid [] (usage_line usage) 2 r s.stage t.stage → RunCauses r s.faults t.faults
+    → RunsCourse (command_course who (Err usage)) given (WholeCommand who (Err usage)) (BegunCommand who (Err usage)) r s t
+usage_runs who usage given r s t same is causes = said_course [] (usage_line usage) 2 given r s t same is causes
 
-answer_ends : (rule : StatusRule) (w : List ℕ → Bool) (answer : Answer) (m : Folder) (ts : List NamedStep) (a b : World) → Runs rule w (made_by answer) m ts a b → Ends rule w answer m ts a b
-answer_ends rule w (Finished status) m ts a b runs = runs
-answer_ends rule w Memory m ts a b runs = (runs.0, inr runs.1)
-answer_ends rule w ReadFault m ts a b runs = runs
-answer_ends rule w WriteFault m ts a b runs = runs
-answer_ends rule w DiskFault m ts a b runs = runs
+pub words_said : (who : Caller) (meant : Result Command Usage) (usage : Usage) (r : Result ℕ Fault) (s t : Setting) → meant ≡ Err usage → t.stage.told ≡ s.stage.told → IsSaid [] (usage_line usage) 2 r s.stage t.stage → RunCauses r s.faults t.faults → RunsWords who meant r s t
+words_said who meant usage r s t is same says causes = subst (λ (m : Result Command Usage). RunsWords who m r s t) (sym is) (inl (usage_runs who usage (λ i. Unit {0}) r s t same says causes))
 
--- the command is run
-pub command_ends : (who : Caller) (meant : Result Command Usage) (command : Command) (answer : Answer) (made : Result ℕ Fault) (left : Option (List ℕ)) (a b : Scene) → meant ≡ Ok command → made_by answer ≡ made
-    → MakesBy (action_of who command) (λ m i. run_steps who (Ok command) m i) (IsInput (action_of who command) (operands_of command) left) made a b → MakesSteps who meant answer left a b
-command_ends who meant command answer made left a b is answered makes =
-    subst (λ (r : Result Command Usage). MakesSteps who r answer left a b) (sym is)
-    (λ m i given shows. answer_ends (action_of who command).rule (working who (Ok command) m i) answer m (run_steps who (Ok command) m i) (shown a) (shown b)
-    (subst (λ (r : Result ℕ Fault). Runs (action_of who command).rule (working who (Ok command) m i) r m (run_steps who (Ok command) m i) (shown a) (shown b)) (sym answered)
-    (makes (working who (Ok command) m i) m i (spares_meant who (Ok command) m i) given.1 shows given.0)))
+pub said_causes : (code i o e e2 d : ℕ) → e ≤ e2 → RunCauses (Ok code) (counts i o e d) (counts i o e2 d)
+said_causes code i o e e2 d later = record {
+  input_later = omega arith;
+  out_later = omega arith;
+  err_later = later;
+  disk_later = omega arith;
+  read = λ is. absurd (cc);
+  write = λ is. absurd (cc);
+  broke = λ is. absurd (cc);
+}
 
--- the same of locks
-none_exempt : (x : Action) (ts : List NamedStep) → x.locks ≡ true → AreExempt x (λ n. false) ts
-none_exempt x [] locks = tt
-none_exempt x (t ∷ ts) locks = ((λ fits free. absurd (let both : true ≡ false = sym locks ∙ free in cc)), none_exempt x ts locks)
+pub unsaid_causes : (i o e e2 d : ℕ) → e ≤ e2 → Rose e e2 → RunCauses (Err ends.WriteFault) (counts i o e d) (counts i o e2 d)
+unsaid_causes i o e e2 d later rose = record {
+  input_later = omega arith;
+  out_later = omega arith;
+  err_later = later;
+  disk_later = omega arith;
+  read = λ is. absurd (cc);
+  write = λ is. inr rose;
+  broke = λ is. absurd (cc);
+}
 
-pub command_unlocked : (who : Caller) (meant : Result Command Usage) (command : Command) (left : Option (List ℕ)) (a b : Told) → meant ≡ Ok command
-    → UnlockedBy (action_of who command) (λ m i. run_steps who (Ok command) m i) (IsInput (action_of who command) (operands_of command) left) a b → UnlockedSteps who meant left a b
-command_unlocked who meant command left a b is unlocked =
-    subst (λ (r : Result Command Usage). UnlockedSteps who r left a b) (sym is)
-    (λ folder i given shows locks plain. all_of (λ n. false) a b (λ n. refl) (unlocked (working who (Ok command) folder i) folder i (spares_meant who (Ok command) folder i) given.1 shows given.0
-    (λ n. false) plain (none_exempt (action_of who command) (run_steps who (Ok command) folder i) locks)))
+-- ---- an entry of a batch
 
-pub same_unlocked : (who : Caller) (meant : Result Command Usage) (left : Option (List ℕ)) (a : Told) → UnlockedSteps who meant left a a
-same_unlocked who meant left a = λ folder i given shows locks plain. unlocked_same a a refl
+-- with the input of its own
+pub entry_runs : (place : List ℕ) (e : Entry) (r : Result ℕ Fault) (left left2 : Option (List ℕ)) (a b : Scene) (o o2 x x2 d d2 : ℕ) → left ≡ Some e.input
+    → RunsWords (caller e.stamp place) (meaning e.words) r (record { left = left; stage = a; faults = counts 0 o x d }) (record { left = left2; stage = b; faults = counts 0 o2 x2 d2 })
+    → RunsOwn (entry_command place e) (FitsEntry place e) (WholeOf place e) (BegunOf place e) r (record { left = Some []; stage = a; faults = counts 0 o x d }) (record { left = Some []; stage = b; faults = counts 0 o2 x2 d2 })
+entry_runs place e r left left2 a b o o2 x x2 d d2 is (inl runs) =
+    let who : Caller = caller e.stamp place in
+    let s : Setting = record { left = left; stage = a; faults = counts 0 o x d } in
+    let t : Setting = record { left = left2; stage = b; faults = counts 0 o2 x2 d2 } in
+    inl
+    (course_heard (entry_command place e) (λ i. FitsEntry place e) (WholeOf place e) (BegunOf place e) r s t (Some []) (Some []) 0 refl refl
+    (course_with (command_course who (meaning e.words)) e.input (AsksInput who (meaning e.words) (Some e.input)) (WholeOf place e) (BegunOf place e) r s t
+    (subst (λ (l : Option (List ℕ)). RunsCourse (command_course who (meaning e.words)) (AsksInput who (meaning e.words) l) (WholeOf place e) (BegunOf place e) r s t) is runs)))
+entry_runs place e r left left2 a b o o2 x x2 d d2 is (inr never) =
+    inr (never.0, ap (λ (u : Setting). record { left = Some []; stage = u.stage; faults = u.faults }) never.1)
 
--- the same on a disk that isn't calm
+-- ---- lists, and single commands
+
+abbrev pub RunsBy : Bool → Caller → Command → Result ℕ Fault → Setting → Setting → Type 0
+RunsBy list who command r s t = RunsCourse (course_by list who command) (AsksBy list who command s.left) (WholeRun list who command) (BegunRun list who command) r s t
+
+pub run_by : (list : Bool) (who : Caller) (command : Command) (r : Result ℕ Fault) (s t : Setting) → is_list command ≡ list → RunsBy list who command r s t → RunsMeant who (Ok command) r s t
+run_by list who command r s t is runs = subst (λ (b : Bool). RunsBy b who command r s t) (sym is) runs
+
+pub listed_alone : (who : Caller) (command : Command) (r : Result ℕ Fault) (s t : Setting) → is_list command ≡ true → LeavesSingle who command r s t
+listed_alone who command r s t is other = absurd (cc)
+
+pub single_alone : (who : Caller) (command : Command) (r : Result ℕ Fault) (s t : Setting) → RunsCommand (val_words_of command) (action_of who command) (operands_of command) r s t → LeavesSingle who command r s t
+single_alone who command r s t runs other = record { recovers = runs.recovers; reads = runs.reads; silent = runs.silent; ignores = runs.ignores }
+
+-- ---- how a run ends
+
+given_to : (who : Caller) (meant : Result Command Usage) (left : Option (List ℕ)) (m : Folder) (i : List ℕ) → IsGiven who meant left m i → IsGivenTo (run_course who meant) (AsksMeant who meant left) m i
+given_to who (Err usage) left m i given = (tt, (((λ fits. absurd (cc)), tt), tt))
+given_to who (Ok command) left m i given = given
+
+answer_ends : (code : ℕ) (w : List ℕ → Bool) (answer : Answer) (m : Folder) (ts : List NamedStep) (a b : World) → RunsTo code w (made_by answer) m ts a b → Ends code w answer m ts a b
+answer_ends code w (Finished status) m ts a b runs = runs
+answer_ends code w Memory m ts a b runs = (runs.0, inr runs.1)
+answer_ends code w ReadFault m ts a b runs = runs
+answer_ends code w WriteFault m ts a b runs = runs
+answer_ends code w DiskFault m ts a b runs = runs
+
+pub meant_ends : (who : Caller) (meant : Result Command Usage) (answer : Answer) (made : Result ℕ Fault) (s t : Setting) → made_by answer ≡ made → RunsMeant who meant made s t → MakesSteps who meant answer s.left s.stage t.stage
+meant_ends who meant answer made s t answered runs = λ m i given shows.
+    answer_ends (run_course who meant m i).status (working who meant m i) answer m (run_steps who meant m i) (shown s.stage) (shown t.stage)
+    (subst (λ (r : Result ℕ Fault). RunsTo (run_course who meant m i).status (working who meant m i) r m (run_steps who meant m i) (shown s.stage) (shown t.stage)) (sym answered)
+    (own_makes (run_course who meant) (AsksMeant who meant s.left) made s.stage t.stage runs.steps m i (given_to who meant s.left m i given) shows))
+
+pub meant_stops : (who : Caller) (meant : Result Command Usage) (answer : Answer) (made : Result ℕ Fault) (s t : Setting) → made_by answer ≡ made → RunsMeant who meant made s t → StopsSteps who meant answer s.left s.stage t.stage
+meant_stops who meant answer made s t answered runs = λ folder i m past given shows told calm safe.
+    subst (λ (r : Result ℕ Fault). CourseMoments (working who meant folder i) r folder (run_steps who meant folder i) s.stage t.stage m past) (sym answered)
+    (own_stops (run_course who meant) (AsksMeant who meant s.left) made s.stage t.stage runs.stops folder i m past (given_to who meant s.left folder i given) shows told calm safe)
+
+pub meant_unlocked : (who : Caller) (meant : Result Command Usage) (made : Result ℕ Fault) (s t : Setting) → RunsMeant who meant made s t → UnlockedSteps who meant s.left s.stage.told t.stage.told
+meant_unlocked who meant made s t runs = λ folder i given shows exempt plain freed.
+    own_unlocked (run_course who meant) (AsksMeant who meant s.left) s.stage.told t.stage.told runs.unlocked folder i (given_to who meant s.left folder i given) shows exempt plain freed
+
+pub meant_speaks : (who : Caller) (meant : Result Command Usage) (answer : Answer) (made : Result ℕ Fault) (s t : Setting) → made_by answer ≡ made → RunsMeant who meant made s t → SpeaksWords who meant answer s.stage.err t.stage.err
+meant_speaks who meant answer made s t answered runs = subst (λ (r : Result ℕ Fault). SpeaksTo (WholeMeant who meant) (BegunMeant who meant) r s.stage.err t.stage.err) (sym answered) runs.speaks
+
+-- the words as they are meant
+pub meant_runs : (who : Caller) (meant : Result Command Usage) (command : Command) (r : Result ℕ Fault) (s t : Setting) → meant ≡ Ok command → RunsMeant who (Ok command) r s t → RunsMeant who meant r s t
+meant_runs who meant command r s t is runs = subst (λ (m : Result Command Usage). RunsMeant who m r s t) (sym is) runs
+
+pub meant_said : (who : Caller) (meant : Result Command Usage) (usage : Usage) (r : Result ℕ Fault) (s t : Setting) → meant ≡ Err usage → t.stage.told ≡ s.stage.told → IsSaid [] (usage_line usage) 2 r s.stage t.stage → RunCauses r s.faults t.faults → RunsMeant who meant r s t
+meant_said who meant usage r s t is same says causes = subst (λ (m : Result Command Usage). RunsMeant who m r s t) (sym is) (usage_runs who usage (λ i. Unit {0}) r s t same says causes)
+
+-- ---- what a single command leaves
+
+no_list : (list other : Bool) → cond list true other ≡ false → (list ≡ false) × (other ≡ false)
+no_list true other is = absurd (cc)
+no_list false other is = (refl, is)
+
+only_single : (list other : Bool) → cond list false other ≡ true → (list ≡ false) × (other ≡ true)
+only_single true other is = absurd (cc)
+only_single false other is = (refl, is)
+
+pub single_reads : (who : Caller) (meant : Result Command Usage) (command : Command) (r : Result ℕ Fault) (s t : Setting) → meant ≡ Ok command → LeavesSingle who command r s t → only_reads who meant ≡ true → t.stage.told ≡ s.stage.told
+single_reads who meant command r s t is leaves only =
+    let one = only_single (is_list command) (action_of who command).reads (subst (λ (m : Result Command Usage). only_reads who m ≡ true) is only) in (leaves one.0).reads one.1
+
+pub single_silent : (who : Caller) (meant : Result Command Usage) (command : Command) (r : Result ℕ Fault) (s t : Setting) → meant ≡ Ok command → LeavesSingle who command r s t → is_silent who meant ≡ true → t.stage.out ≡ s.stage.out
+single_silent who meant command r s t is leaves only =
+    let one = only_single (is_list command) (action_of who command).silent (subst (λ (m : Result Command Usage). is_silent who m ≡ true) is only) in (leaves one.0).silent one.1
+
+pub single_ignores : (who : Caller) (meant : Result Command Usage) (command : Command) (r : Result ℕ Fault) (s t : Setting) → meant ≡ Ok command → LeavesSingle who command r s t → takes_input who meant ≡ false
+    → Ignores ends.ReadFault s.left t.left s.faults.input t.faults.input r
+single_ignores who meant command r s t is leaves only =
+    let one = no_list (is_list command) (hears (action_of who command) (operands_of command)) (subst (λ (m : Result Command Usage). takes_input who m ≡ false) is only) in (leaves one.0).ignores one.1
+
 ended_faults : (answer : Answer) (made : Result ℕ Fault) → made_by answer ≡ made → answer ≢ DiskFault → made ≢ Err ends.DiskFault
 ended_faults (Finished status) made is other so = cc
 ended_faults Memory made is other so = cc
@@ -109,16 +192,26 @@ ended_faults ReadFault made is other so = cc
 ended_faults WriteFault made is other so = cc
 ended_faults DiskFault made is other so = other refl
 
-pub command_recovers : (who : Caller) (meant : Result Command Usage) (command : Command) (answer : Answer) (made : Result ℕ Fault) (left : Option (List ℕ)) (a b : Told) → meant ≡ Ok command → made_by answer ≡ made
-    → RecoversBy (action_of who command) (λ m i. run_steps who (Ok command) m i) (IsInput (action_of who command) (operands_of command) left) made a b → RecoversRun who meant answer left a b
-command_recovers who meant command answer made left a b is answered recovers =
-    subst (λ (r : Result Command Usage). RecoversRun who r answer left a b) (sym is)
-    (λ never. record {
-      story = (recovers never).story;
-      firm = (recovers never).firm;
-      calm = λ ok folder i given shows is_made.
-          (recovers never).calm (subst (λ (r : Result ℕ Fault). IsOk r) answered ok) (working who (Ok command) folder i) folder i (spares_meant who (Ok command) folder i) given.1 shows given.0 is_made;
-      keeps = λ other. (recovers never).keeps (ended_faults answer made answered other);
+-- where some step is made
+abbrev CalmBy : Bool → Caller → Command → Option (List ℕ) → Told → Told → Type 0
+CalmBy list who command left a b = (folder : Folder) (i : List ℕ) → IsGivenTo (course_by list who command) (AsksBy list who command left) folder i → Shows (working_along (course_by list who command) folder i) (seen a) (view_in folder)
+    → has_made (steps_along (course_by list who command) folder i) ≡ true → LeavesCalm a b
+
+pub single_recovers : (who : Caller) (meant : Result Command Usage) (command : Command) (answer : Answer) (made : Result ℕ Fault) (s t : Setting) → meant ≡ Ok command → made_by answer ≡ made → LeavesSingle who command made s t
+    → RecoversRun who meant answer s.left s.stage.told t.stage.told
+single_recovers who meant command answer made s t is answered leaves =
+    subst (λ (m : Result Command Usage). RecoversRun who m answer s.left s.stage.told t.stage.told) (sym is)
+    (λ never.
+    let one = no_list (is_list command) (action_of who command).locks never in
+    let rec = (leaves one.0).recovers one.1 in
+    record {
+      story = rec.story;
+      firm = rec.firm;
+      calm = λ ok.
+          subst (λ (list : Bool). CalmBy list who command s.left s.stage.told t.stage.told) (sym one.0)
+          (λ folder i given shows is_made.
+          rec.calm (subst (λ (r : Result ℕ Fault). IsOk r) answered ok) (working_along (command_course who (Ok command)) folder i) folder i (spares_in (portions_of (command_course who (Ok command)) folder i)) given.1.0 shows given.0 is_made);
+      keeps = λ other. rec.keeps (ended_faults answer made answered other);
     })
 
 pub never_recovers : (who : Caller) (meant : Result Command Usage) (left : Option (List ℕ)) (a : Told) → RecoversRun who meant Memory left a a
@@ -128,18 +221,22 @@ never_recovers who meant left a = λ never. record { story = story_same a a refl
 pub usage_recovers : (who : Caller) (meant : Result Command Usage) (usage : Usage) (answer : Answer) (left : Option (List ℕ)) (a b : Told) → meant ≡ Err usage → RecoversRun who meant answer left a b
 usage_recovers who meant usage answer left a b is = subst (λ (r : Result Command Usage). RecoversRun who r answer left a b) (sym is) (λ never. absurd (cc))
 
--- nothing was said
-never_said : (who : Caller) (command : Command) (val : Option ValWords) (err : Option (List ℕ)) → val_words_of command ≡ val → SpeakSteps val (action_of who command) (operands_of command) (Err ends.Memory) err err
-never_said who command None err is = ([], inl refl, some_none err [])
-never_said who command (Some words) err is =
-    subst (λ (it : Command). SpeakSteps (Some words) (action_of who it) (operands_of it) (Err ends.Memory) err err) (sym (is_val command words is))
-    (named_step (codes "-") (Ok (printed [] 0)) ∷ [], (Ok (printed [] 0), inr (refl, refl), refl), some_none err [])
+-- ---- nothing was done
+
+might_run : (list : Bool) (who : Caller) (command : Command) → (ts : List NamedStep) × BegunRun list who command ts
+might_run true who command = (said [] [] ∷ [], inl ([], inl refl))
+might_run false who command = command_might who (Ok command)
+
+might_meant : (who : Caller) (meant : Result Command Usage) → (ts : List NamedStep) × BegunMeant who meant ts
+might_meant who (Err usage) = command_might who (Err usage)
+might_meant who (Ok command) = might_run (is_list command) who command
 
 pub never_speaks : (who : Caller) (meant : Result Command Usage) (err : Option (List ℕ)) → SpeaksWords who meant Memory err err
-never_speaks who (Err usage) err = some_none err (err_of (usage_step usage ∷ []))
-never_speaks who (Ok command) err = never_said who command (val_words_of command) err refl
+never_speaks who meant err = ((might_meant who meant).0, (might_meant who meant).1, some_none err (err_of (might_meant who meant).0))
 
--- nothing was done
+pub same_unlocked : (who : Caller) (meant : Result Command Usage) (left : Option (List ℕ)) (a : Told) → UnlockedSteps who meant left a a
+same_unlocked who meant left a = λ folder i given shows exempt plain freed. but_same exempt a a refl
+
 pub never_begun : (who : Caller) (meant : Result Command Usage) (left : Option (List ℕ)) (a : Scene) → MakesSteps who meant Memory left a a
 never_begun who meant left a = λ m i given shows. (
   record {
@@ -154,33 +251,10 @@ never_begun who meant left a = λ m i given shows. (
   inl refl,
 )
 
--- a usage fault was said, or a prefix of it
-pub usage_cut : (who : Caller) (meant : Result Command Usage) (usage : Usage) (left : Option (List ℕ)) (a : Scene) (err : Option (List ℕ)) → meant ≡ Err usage → GivesSome a.err err (usage_line usage) → MakesSteps who meant WriteFault left a (scene a.told a.out err)
-usage_cut who meant usage left a err is some =
-    subst (λ (r : Result Command Usage). MakesSteps who r WriteFault left a (scene a.told a.out err)) (sym is)
-    (λ m i given shows. record {
-      made = usage_step usage ∷ [];
-      rest = [];
-      is = refl;
-      view = shows;
-      cleared = cleared_same nowhere (seen a.told) (seen a.told) refl;
-      out = some_none a.out [];
-      err = subst (λ text. GivesSome a.err err text) (sym (append-nil (usage_line usage))) some;
-    })
-
--- a usage fault was said
-pub usage_made : (who : Caller) (meant : Result Command Usage) (usage : Usage) (left : Option (List ℕ)) (a : Scene) (err : Option (List ℕ)) → meant ≡ Err usage → GivesOk a.err err (usage_line usage) → MakesSteps who meant (Finished 2) left a (scene a.told a.out err)
-usage_made who meant usage left a err is whole =
-    subst (λ (r : Result Command Usage). MakesSteps who r (Finished 2) left a (scene a.told a.out err)) (sym is)
-    (λ m i given shows. (
-      refl,
-      record {
-        view = shows;
-        cleared = cleared_same nowhere (seen a.told) (seen a.told) refl;
-        out = gives_none a.out;
-        err = subst (λ text. GivesOk a.err err text) (sym (append-nil (usage_line usage))) whole;
-      },
-    ))
+pub never_stops : (who : Caller) (meant : Result Command Usage) (left : Option (List ℕ)) (a : Scene) → StopsSteps who meant Memory left a a
+never_stops who meant left a = λ folder i m past given shows told calm safe.
+    course_moments (working who meant folder i) (made_by Memory) folder (run_steps who meant folder i) a a m past (spares_in (run_portions who meant folder i)) shows told
+    (moments_never (working who meant folder i) ends.Memory folder (run_steps who meant folder i) a m past (spares_in (run_portions who meant folder i)) told calm (alike_told (working who meant folder i) folder a.told m past told shows) shows) (images_now m calm)
 
 -- ---- what isn't built
 
@@ -193,35 +267,3 @@ unbuilt_steps any takes n left a = by (seen a.told)
 
 pub unbuilt_moments : (any takes : Bool) (n : List ℕ) (left : Option (List ℕ)) (a : Scene) → StepMoments (unbuilt any takes) (Err (step.Refused refusals.Unbuilt)) n left a a
 unbuilt_moments any takes n left a = reading_moments (unbuilt any takes) (Err (step.Refused refusals.Unbuilt)) n left a a (unbuilt_keeps any takes) refl refl (unbuilt_steps any takes n left a)
-
--- ---- moments
-
--- the command is run
-pub command_stops : (who : Caller) (meant : Result Command Usage) (command : Command) (answer : Answer) (made : Result ℕ Fault) (left : Option (List ℕ)) (a b : Scene) → meant ≡ Ok command → made_by answer ≡ made
-    → StopsBy (action_of who command) (λ m i. run_steps who (Ok command) m i) (IsInput (action_of who command) (operands_of command) left) made a b → StopsSteps who meant answer left a b
-command_stops who meant command answer made left a b is answered stops =
-    subst (λ (r : Result Command Usage). StopsSteps who r answer left a b) (sym is)
-    (λ folder i m past given shows told calm safe.
-    subst (λ (r : Result ℕ Fault). RunMoments (action_of who command) (working who (Ok command) folder i) r folder (run_steps who (Ok command) folder i) a b m past) (sym answered)
-    (stops (working who (Ok command) folder i) folder i m past (spares_meant who (Ok command) folder i) given.1 shows given.0 told calm safe))
-
--- nothing was done
-pub never_stops : (who : Caller) (meant : Result Command Usage) (left : Option (List ℕ)) (a : Scene) → StopsSteps who meant Memory left a a
-never_stops who meant left a = λ folder i m past given shows told calm safe.
-    run_moments (action_meant who meant) (working who meant folder i) (made_by Memory) folder (run_steps who meant folder i) a a m past
-    (moments_never (working who meant folder i) ends.Memory folder (run_steps who meant folder i) a m past (spares_meant who meant folder i) told calm (alike_told (working who meant folder i) folder a.told m past told shows) shows) (λ other. stay_same (action_meant who meant) (view_in folder)) (images_now m calm)
-
--- a usage fault was said, or a prefix of it
-usage_moments : (who : Caller) (usage : Usage) (answer : Answer) (left : Option (List ℕ)) (a : Scene) (err : Option (List ℕ)) → GivesSome a.err err (usage_line usage) → StopsSteps who (Err usage) answer left a (scene a.told a.out err)
-usage_moments who usage answer left a err some = λ folder i m past given shows told calm safe.
-    let recovers = alike_recovers nowhere (view_of m) (view_in folder) spares_nowhere (alike_told nowhere folder a.told m past told shows) in
-    run_moments (unbuilt false false) nowhere (made_by answer) folder (usage_step usage ∷ []) a (scene a.told a.out err) m past
-    (one_after nowhere (made_by answer) folder (usage_step usage) (view_of m) (view_of m) a (scene a.told a.out err) m past (record { old = recovers; new = recovers }) (before_after (view_of m) m past a.told (same_before m past a.told calm told)) (some_none a.out []) some shows) (λ other. stay_same (unbuilt false false) (view_in folder))
-    (images_after (view_of m) (view_of m) m past a.told (before_after (view_of m) m past a.told (same_before m past a.told calm told)) (λ k sfile safe. safe))
-
-pub usage_stops : (who : Caller) (meant : Result Command Usage) (usage : Usage) (answer : Answer) (left : Option (List ℕ)) (a : Scene) (err : Option (List ℕ)) → meant ≡ Err usage → GivesSome a.err err (usage_line usage) → StopsSteps who meant answer left a (scene a.told a.out err)
-usage_stops who meant usage answer left a err is some =
-    subst (λ (r : Result Command Usage). StopsSteps who r answer left a (scene a.told a.out err)) (sym is) (usage_moments who usage answer left a err some)
-
-pub usage_said : (who : Caller) (meant : Result Command Usage) (usage : Usage) (answer : Answer) (left : Option (List ℕ)) (a : Scene) (err : Option (List ℕ)) → meant ≡ Err usage → GivesOk a.err err (usage_line usage) → StopsSteps who meant answer left a (scene a.told a.out err)
-usage_said who meant usage answer left a err is whole = usage_stops who meant usage answer left a err is (some_of_whole a.err err (usage_line usage) whole)

@@ -1,3 +1,4 @@
+pub mod CommandLaws
 pub mod Following
 pub mod Listing
 pub mod MadeHistories

@@ -4,6 +4,7 @@ use Rattle.sccs_steps.specs.Actions.{Action}
 use Rattle.sccs_transactions.specs.Changes.{locking}
 use Rattle.sccs_admin.specs.AdminStep.{admin_change}
 use Rattle.sccs_alter.specs.AlterStep.{alter_change}
+use Rattle.sccs_alter.specs.CheckStep.{check_action}
 use Rattle.sccs_delta.specs.DeltaStep.{delta_change}
 use Rattle.sccs_edit.specs.SactStep.{sact_action}
 use Rattle.sccs_edit.specs.UngetStep.{unget_change}
@@ -27,6 +28,7 @@ words_of (Word word) = word.now ∷ []
 abbrev pub action_in : Known → Action
 action_in (known.Admin a) = locking (admin_change a.change.words.now a.change.stamp.now)
 action_in (known.Alter a) = locking (alter_change a.change.words.now)
+action_in (known.Check c) = check_action
 action_in (known.Get get) = get_action get.words.now get.stamp.now get.place.now get.heading
 action_in (known.Reserve r) = locking (edit_change r.change.words.now r.change.stamp.now r.change.place.now r.change.heading)
 action_in (known.Sact s) = sact_action s.heading

@@ -7,18 +7,19 @@ use Rattle.sccs_grammar.specs.File.{IsSFile, Parsed}
 use Rattle.sccs_files.specs.StepFiles.{Files}
 use Rattle.sccs_steps.specs.StepEffects.{StepEffect}
 use Rattle.sccs_words.specs.declared.commands.AdminWords.{AdminWords}
-use Rattle.sccs_admin.specs.AdminStep.{found_text}
-use Rattle.sccs_delta.specs.NewVersions.{text_in}
+use Rattle.sccs_admin.specs.AdminStep.{found_texts}
+use Rattle.sccs_admin.specs.declared.finding.NewTexts.{NewTexts}
+use Rattle.sccs_delta.specs.NewVersions.{version_text}
 use Rattle.sccs_delta.specs.Replays.{DeltaCall, ReplaysVersions}
 
 -- The new s-file has one delta, whose version is the lines of the text; behind the calls each version is its replay from there.
 pub record IsReplayed (words : AdminWords) (n input : List ℕ) (named : List (Option Content)) (f : Files) (effect : StepEffect) (calls : List DeltaCall) : Type 0 where
-  pub text : List ℕ
+  pub texts : NewTexts
   pub s : Content
   pub file : Parsed
-  pub found : found_text words.text input named f.s ≡ Ok text
+  pub found : found_texts words input named f.s ≡ Ok texts
   pub made : effect.new ≡ Some (record { s = Some s; p = f.p; z = None; g = f.g })
   pub reads : IsSFile s.bytes file.header file.items
   pub only : live_serials file.header.records ≡ 1 ∷ []
-  pub first : text_in file 1 ≡ text_of text
+  pub first : version_text file 1 ≡ text_of texts.text
   pub replays : ReplaysVersions n s file calls

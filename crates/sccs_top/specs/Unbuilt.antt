@@ -1,30 +1,11 @@
 -- What isn't built yet: each operand of such a command is refused. This goes away when all is built.
-use Rattle.std.specs.Prelude.{◌==◌, Bool, true, false, [], not, ◌&&◌, ◌||◌, Ok, Err, if◌then◌else◌}
+use Rattle.std.specs.Prelude.{◌==◌, Bool, true, false, [], Ok, Err, if◌then◌else◌}
 use Rattle.sccs_base.specs.Name.{is_name, is_sfile_name}
 use Rattle.sccs_sid.specs.Refusal.{number_of}
 use Rattle.sccs_sid.specs.declared.refusals.Refusal.TheVariants.{Unbuilt}
-use Rattle.sccs_sid.specs.Reading.{is_empty}
-use Rattle.sccs_words.specs.declared.commands.AdminWords.{AdminWords}
-use Rattle.sccs_words.specs.declared.commands.Given.{Given}
-use Rattle.sccs_words.specs.declared.commands.Given.TheVariants.{No}
 use Rattle.sccs_steps.specs.StepEffects.{Outcome}
 use Rattle.sccs_steps.specs.Actions.{Action, KeepsFiles}
 use Rattle.sccs_steps.specs.declared.statuses.StatusRule.TheVariants.{Greatest}
-
-abbrev pub is_absent : Given → Bool
-is_absent No = true
-is_absent given = false
-
--- admin makes new files: it has `-n` or `-i`, and of the other options only `-r` and `-y`
-unfoldable pub is_new_built : AdminWords → Bool
-is_new_built words =
-    words.fresh
-    && (is_empty words.add && (is_empty words.erase && (is_empty words.set && (is_empty words.unset && is_empty words.mrs))))
-    && (not (words.check || words.fix) && is_absent words.description)
-
--- admin on an s-file that is there, without `-h` and `-z`
-unfoldable pub is_old_built : AdminWords → Bool
-is_old_built words = not (words.fresh || (words.check || words.fix))
 
 abbrev pub is_unbuilt : Outcome → Bool
 is_unbuilt (Ok effect) = false

@@ -1,4 +1,4 @@
-ghost use Rattle.std.specs.Prelude.{◌≡◌, true, false, None, option_map, IfSome, OnOk, OnErr};
+ghost use Rattle.std.specs.Prelude.{◌≡◌, true, false, Ok, None, option_map, IfSome, OnOk, OnErr};
 ghost use Rattle.sccs_sid.specs.Moment.{IsMoment};
 ghost use Rattle.sccs_sid.specs.Sid.{IsComponent};
 ghost use Rattle.sccs_words.specs.Meaning.{meaning};
@@ -10,14 +10,16 @@ ghost use Rattle.sccs_steps.specs.Settings.{SameLoans, setting, setting_of};
 ghost use Rattle.sccs_steps.specs.declared.faults.Fault.TheVariants as ends;
 ghost use Rattle.sccs_top.specs.Listing.{action_in, words_of};
 ghost use Rattle.sccs_top.specs.Unbuilt.{unbuilt};
-ghost use Rattle.sccs_top.specs.Runs.{MakesSteps, RecoversRun, RunsCommand, SpeaksWords, StopsSteps, UnlockedSteps, action_of, admin_in, caller, get_in, has_heading, is_silent, made_by, only_reads, operands_of, takes_input, val_words_of};
+ghost use Rattle.sccs_top.specs.Runs.{LeavesSingle, MakesSteps, RecoversRun, RunsCommand, RunsMeant, SpeaksWords, StopsSteps, UnlockedSteps, action_of, admin_in, admin_there, caller, get_in, has_heading, is_list, is_silent, made_by, only_reads, operands_of, takes_input, val_words_of};
 
 use crate::answers::Answer;
 use crate::messages::write_usage;
-use crate::unbuilt::{Unbuilt, is_new_built, is_old_built};
+use crate::singles::Singles;
+use crate::unbuilt::Unbuilt;
 use sccs_admin::Admin;
-use sccs_alter::Alter;
+use sccs_alter::{Alter, Check};
 use sccs_base::{Line, Sink, Source, Words};
+use sccs_batch::run_batch;
 use sccs_delta::Delta;
 use sccs_disk::Disk;
 use sccs_edit::{Sact, Unget};
@@ -52,6 +54,7 @@ fn ended(made: Result<u8, Fault>) -> Answer
 enum Known<'a> {
     Admin(Locking<Admin<'a>>),
     Alter(Locking<Alter<'a>>),
+    Check(Check),
     Get(Get<'a>),
     Reserve(Locking<Reserve<'a>>),
     Delta(Locking<Delta<'a>>),
@@ -110,23 +113,34 @@ fn unbuilt<'a>(any: bool, takes: bool) -> Known<'a>
     Known::Unbuilt(Unbuilt { any, takes })
 }
 
-// admin: a new file, an s-file that is there, or what isn't built yet
+// admin on an s-file that is there: with -h it is checked alone; -z isn't built yet
+fn admin_there<'a>(words: &'a AdminWords) -> Known<'a>
+    ensures { action_in result ≡ admin_there words.now }
+{
+    if words.check {
+        return Known::Check(Check);
+    }
+    if words.fix {
+        return unbuilt(false, false);
+    }
+    Known::Alter(Locking {
+        change: Alter { words },
+    })
+}
+
+// admin: a new file, or an s-file that is there
 fn admin_of<'a>(words: &'a AdminWords, stamp: &'a Stamp) -> Known<'a>
     requires values { IfSome words.now.release IsComponent }
     requires moment { IsMoment stamp.now.moment }
     ensures { action_in result ≡ admin_in words.now stamp.now }
 {
-    if is_new_built(words) {
-        return Known::Admin(Locking {
+    if words.fresh {
+        Known::Admin(Locking {
             change: Admin { words, stamp },
-        });
+        })
+    } else {
+        admin_there(words)
     }
-    if is_old_built(words) {
-        return Known::Alter(Locking {
-            change: Alter { words },
-        });
-    }
-    unbuilt(false, false)
 }
 
 fn utility_of<'a>(command: &'a Command, stamp: &'a Stamp, place: &'a Line) -> Known<'a>
@@ -239,6 +253,7 @@ fn run_command<I: Source, O: Sink, E: Sink, D: Disk>(
     match utility_of(command, stamp, place) {
         Known::Admin(utility) => run_listed(alloc, &Ordinary { utility }, operands, streams),
         Known::Alter(utility) => run_listed(alloc, &Ordinary { utility }, operands, streams),
+        Known::Check(utility) => run_listed(alloc, &Ordinary { utility }, operands, streams),
         Known::Get(utility) => run_listed(alloc, &Ordinary { utility }, operands, streams),
         Known::Reserve(utility) => run_listed(alloc, &Ordinary { utility }, operands, streams),
         Known::Delta(utility) => run_listed(alloc, &Ordinary { utility }, operands, streams),
@@ -273,7 +288,7 @@ fn make_steps<I: Source, O: Sink, E: Sink, D: Disk>(
 }
 
 // the same over streams that are lent one by one
-fn run_lent<I: Source, O: Sink, E: Sink, D: Disk>(
+pub fn run_lent<I: Source, O: Sink, E: Sink, D: Disk>(
     alloc: Global,
     command: &Command,
     stamp: &Stamp,
@@ -297,11 +312,41 @@ fn run_lent<I: Source, O: Sink, E: Sink, D: Disk>(
     make_steps(alloc, command, stamp, place, &mut streams)
 }
 
+// whether a command is a list of commands
+fn is_list(command: &Command) -> bool
+    ensures { result ≡ is_list command.now }
+{
+    matches!(command, Command::Batch)
+}
+
+// does a command: a list of commands, or a single one
+fn run_meant<I: Source, O: Sink, E: Sink, D: Disk>(
+    alloc: Global,
+    command: &Command,
+    stamp: &Stamp,
+    place: &Line,
+    input: &mut I,
+    out: &mut O,
+    err: &mut E,
+    disk: &mut D,
+) -> Result<u8, Fault>
+    requires values { HasValidValues command.now }
+    requires moment { IsMoment stamp.now.moment }
+    ensures run { RunsMeant (caller stamp.now place.now) (Ok command.now) result
+        (setting_of I.Source O.Sink E.Sink D.Disk input.old out.old err.old disk.old) (setting_of I.Source O.Sink E.Sink D.Disk input.new out.new err.new disk.new) }
+    ensures single { LeavesSingle (caller stamp.now place.now) command.now result
+        (setting_of I.Source O.Sink E.Sink D.Disk input.old out.old err.old disk.old) (setting_of I.Source O.Sink E.Sink D.Disk input.new out.new err.new disk.new) }
+{
+    if is_list(command) {
+        return run_batch(alloc, &Singles { place }, input, out, err, disk);
+    }
+    run_lent(alloc, command, stamp, place, input, out, err, disk)
+}
+
 /// Does a command. The words are those behind the program's name; `stamp` is its moment, of the years
 /// 1969 to 2068, and its login, `place` the folder's path. Texts go to `out`, messages to `err`.
 ///
-/// Built are admin on new files with `-n` or `-i`, `-r` and `-y`, and on s-files that are there with `-a`, `-e`,
-/// `-f`, `-d` and `-t`; get, delta, sact, unget, rmdel, prs, val, what and recover.
+/// Built are admin, but for `-z`; get, delta, sact, unget, rmdel, prs, val, what, recover and batch.
 ///
 /// A stop at any moment of a run that began on a calm disk, with safe operands, leaves what recovers on all
 /// names as after the same number of steps, no fewer than are acknowledged; and s-files and p-files are firm
@@ -337,7 +382,7 @@ pub fn run<I: Source, O: Sink, E: Sink, D: Disk>(
         (counts (I.faults input.new) (O.faults out.new) (E.faults err.new) (D.faults disk.new)) }
 {
     match read_words(alloc, words) {
-        Ok(command) => ended(run_lent(alloc, &command, stamp, place, input, out, err, disk)),
+        Ok(command) => ended(run_meant(alloc, &command, stamp, place, input, out, err, disk)),
         Err(WordsFault::Usage(usage)) => match write_usage(&usage, err) {
             Ok(()) => Answer::Finished { status: 2 },
             Err(_) => Answer::WriteFault,

@@ -5,6 +5,7 @@ mod answers;
 mod commands;
 pub mod laws;
 mod messages;
+mod singles;
 mod unbuilt;
 
 pub use answers::Answer;

@@ -26,7 +26,7 @@ use Rattle.sccs_words.specs.declared.commands.Command.TheVariants as commands
 use Rattle.sccs_words.specs.declared.commands.Usage.{Usage}
 use Rattle.sccs_words.specs.declared.commands.ValWords.{ValWords}
 use Rattle.sccs_words.specs.declared.tables.Utility.TheVariants.{Val}
-use Rattle.sccs_val.specs.Reports.{line_heading, line_status, line_text, line_words, lines_status, lines_text, takes_lines, val_status, val_text, words_status, words_text}
+use Rattle.sccs_val.specs.Reports.{line_heading, line_status, line_text, line_words, lines_status, val_lines_text, takes_lines, val_status, val_text, words_status, words_text}
 use Rattle.sccs_val.specs.ValStep.{Judges, PrintsStatus, is_long}
 
 pub words_more : (all all2 more ws : List (List ℕ)) (w copy : List ℕ) → all2 ≡ all ++ (copy ∷ []) → copy ≡ w → ws ≡ w ∷ more → all2 ++ more ≡ all ++ ws
@@ -102,19 +102,19 @@ judges_printed text status (Err DiskFault) a b within prints = prints
 
 -- the lines of an input within the limit
 pub judges_lines : (o : Option View) (left : Option (List ℕ)) (lines : List (List ℕ)) (r : Result ℕ StepFault) (a b : Option (List ℕ)) → IfSome left (λ i. GivesLines file_limit i (Ok lines)) → RefusesWithin [] r
-    → IfSome o (λ v. PrintsStatus (lines_text v lines) (lines_status v lines) r a b)
-    → IfSome o (λ v. (i : List ℕ) → left ≡ Some i → Judges (nat_lt file_limit (length i)) (lines_text v (text_of i)) (lines_status v (text_of i)) r a b)
+    → IfSome o (λ v. PrintsStatus (val_lines_text v lines) (lines_status v lines) r a b)
+    → IfSome o (λ v. (i : List ℕ) → left ≡ Some i → Judges (nat_lt file_limit (length i)) (val_lines_text v (text_of i)) (lines_status v (text_of i)) r a b)
 judges_lines None left lines r a b gives within prints = tt
 judges_lines (Some v) left lines r a b gives within prints = λ i is. by i (subst (λ (t : Option (List ℕ)). IfSome t (λ i. GivesLines file_limit i (Ok lines))) is gives)
   where
-    by : (i : List ℕ) → (length i ≤ file_limit) × (lines ≡ text_of i) → Judges (nat_lt file_limit (length i)) (lines_text v (text_of i)) (lines_status v (text_of i)) r a b
+    by : (i : List ℕ) → (length i ≤ file_limit) × (lines ≡ text_of i) → Judges (nat_lt file_limit (length i)) (val_lines_text v (text_of i)) (lines_status v (text_of i)) r a b
     by i (within_limit, same) =
-        subst (λ (t : Bool). Judges t (lines_text v (text_of i)) (lines_status v (text_of i)) r a b) (sym (le-ltb file_limit (length i) within_limit))
-        (subst (λ (l : List (List ℕ)). Judges false (lines_text v l) (lines_status v l) r a b) same (judges_printed (lines_text v lines) (lines_status v lines) r a b within prints))
+        subst (λ (t : Bool). Judges t (val_lines_text v (text_of i)) (lines_status v (text_of i)) r a b) (sym (le-ltb file_limit (length i) within_limit))
+        (subst (λ (l : List (List ℕ)). Judges false (val_lines_text v l) (lines_status v l) r a b) same (judges_printed (val_lines_text v lines) (lines_status v lines) r a b within prints))
 
 -- one past it
 pub judges_long : (o : Option View) (left : Option (List ℕ)) (a : Option (List ℕ)) → IfSome left (λ i. GivesLines file_limit i (Err take.TooLong))
-    → IfSome o (λ v. (i : List ℕ) → left ≡ Some i → Judges (nat_lt file_limit (length i)) (lines_text v (text_of i)) (lines_status v (text_of i)) (Err (Refused refusals.TooLong)) a a)
+    → IfSome o (λ v. (i : List ℕ) → left ≡ Some i → Judges (nat_lt file_limit (length i)) (val_lines_text v (text_of i)) (lines_status v (text_of i)) (Err (Refused refusals.TooLong)) a a)
 judges_long None left a gives = tt
 judges_long (Some v) left a gives = λ i is. (lt-ltb file_limit (length i) (subst (λ (t : Option (List ℕ)). IfSome t (λ i. GivesLines file_limit i (Err take.TooLong))) is gives), refl, refl)
 
@@ -134,12 +134,12 @@ untaken long text status WriteFault a is = some_none a (cond long [] text)
 untaken long text status DiskFault a is = some_none a (cond long [] text)
 
 pub judges_untaken : (o : Option View) (left : Option (List ℕ)) (fault : StepFault) (a : Option (List ℕ)) → IsUntaken fault
-    → IfSome o (λ v. (i : List ℕ) → left ≡ Some i → Judges (nat_lt file_limit (length i)) (lines_text v (text_of i)) (lines_status v (text_of i)) (Err fault) a a)
+    → IfSome o (λ v. (i : List ℕ) → left ≡ Some i → Judges (nat_lt file_limit (length i)) (val_lines_text v (text_of i)) (lines_status v (text_of i)) (Err fault) a a)
 judges_untaken None left fault a is = tt
-judges_untaken (Some v) left fault a is = λ i heard. untaken (nat_lt file_limit (length i)) (lines_text v (text_of i)) (lines_status v (text_of i)) fault a is
+judges_untaken (Some v) left fault a is = λ i heard. untaken (nat_lt file_limit (length i)) (val_lines_text v (text_of i)) (lines_status v (text_of i)) fault a is
 
 pub val_by_lines : (o : Option View) (w : ValWords) (left : Option (List ℕ)) (r : Result ℕ StepFault) (a b : Option (List ℕ)) → takes_lines w ≡ true
-    → IfSome o (λ v. (i : List ℕ) → left ≡ Some i → Judges (nat_lt file_limit (length i)) (lines_text v (text_of i)) (lines_status v (text_of i)) r a b)
+    → IfSome o (λ v. (i : List ℕ) → left ≡ Some i → Judges (nat_lt file_limit (length i)) (val_lines_text v (text_of i)) (lines_status v (text_of i)) r a b)
     → IfSome o (λ v. (i : List ℕ) → (takes_lines w ≡ false) ⊎ (left ≡ Some i) → Judges (is_long w i) (val_text w v i) (val_status w v i) r a b)
 val_by_lines None w left r a b is prints = tt
 val_by_lines (Some v) w left r a b is prints = λ i heard. by i heard
@@ -147,11 +147,11 @@ val_by_lines (Some v) w left r a b is prints = λ i heard. by i heard
     by : (i : List ℕ) → (takes_lines w ≡ false) ⊎ (left ≡ Some i) → Judges (is_long w i) (val_text w v i) (val_status w v i) r a b
     by i (inl none) = absurd (let no : true ≡ false = sym is ∙ none in cc)
     by i (inr heard) =
-        subst (λ (t : Bool). Judges (t && nat_lt file_limit (length i)) (cond t (lines_text v (text_of i)) (words_text w v)) (cond t (lines_status v (text_of i)) (words_status w v)) r a b) (sym is) (prints i heard)
+        subst (λ (t : Bool). Judges (t && nat_lt file_limit (length i)) (cond t (val_lines_text v (text_of i)) (words_text w v)) (cond t (lines_status v (text_of i)) (words_status w v)) r a b) (sym is) (prints i heard)
 
 pub val_by_words : (o : Option View) (w : ValWords) (left : Option (List ℕ)) (r : Result ℕ StepFault) (a b : Option (List ℕ)) → takes_lines w ≡ false → RefusesWithin [] r
     → IfSome o (λ v. PrintsStatus (words_text w v) (words_status w v) r a b) → IfSome o (λ v. (i : List ℕ) → (takes_lines w ≡ false) ⊎ (left ≡ Some i) → Judges (is_long w i) (val_text w v i) (val_status w v i) r a b)
 val_by_words None w left r a b is within prints = tt
 val_by_words (Some v) w left r a b is within prints = λ i heard.
-    subst (λ (t : Bool). Judges (t && nat_lt file_limit (length i)) (cond t (lines_text v (text_of i)) (words_text w v)) (cond t (lines_status v (text_of i)) (words_status w v)) r a b) (sym is)
+    subst (λ (t : Bool). Judges (t && nat_lt file_limit (length i)) (cond t (val_lines_text v (text_of i)) (words_text w v)) (cond t (lines_status v (text_of i)) (words_status w v)) r a b) (sym is)
     (judges_printed (words_text w v) (words_status w v) r a b within prints)

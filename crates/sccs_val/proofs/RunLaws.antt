@@ -31,8 +31,8 @@ use Rattle.sccs_steps.proofs.ReadingSteps.{broken, kept, same_cleared}
 use Rattle.sccs_words.specs.declared.commands.ValWords.{ValWords}
 use Rattle.sccs_table.specs.ReaderState.{file_in}
 use Rattle.sccs_val.specs.Findings.{bits, findings}
-use Rattle.sccs_val.specs.Reports.{fault_lines, line_heading, line_status, line_text, line_words, lines, lines_status, lines_text, operand_status, operand_text, operands_in, operands_status, operands_text, takes_lines, val_status, val_text, words_status, words_text}
-use Rattle.sccs_val.specs.ValStep.{Judges, is_long, judged, printed, val_action, val_outcome, val_over, val_steps}
+use Rattle.sccs_val.specs.Reports.{fault_lines, line_heading, line_status, line_text, line_words, bit_lines, lines_status, val_lines_text, operand_status, operand_text, operands_in, operands_status, operands_text, takes_lines, val_status, val_text, words_status, words_text}
+use Rattle.sccs_val.specs.ValStep.{Judges, is_long, val_judged, val_effect, val_action, val_outcome, val_over, val_steps}
 
 -- ---- only s-files are looked at
 
@@ -63,7 +63,7 @@ same_status f g [] status same = refl
 same_status f g (n ∷ ns) status same = ap (λ b. fold (λ s n. bit_or s (f n)) (bit_or status b) ns) (same n) ∙ same_status f g ns (bit_or status (g n)) same
 
 same_operand : (words : ValWords) (u v : View) → SameSfiles u v → (n : List ℕ) → operand_text words u n ≡ operand_text words v n
-same_operand words u v same n = ap (λ f. cond words.silent [] (lines n f)) (same_found words u v n same)
+same_operand words u v same n = ap (λ f. cond words.silent [] (bit_lines n f)) (same_found words u v n same)
 
 same_bits : (words : ValWords) (u v : View) → SameSfiles u v → (n : List ℕ) → operand_status words u n ≡ operand_status words v n
 same_bits words u v same n = ap bits (same_found words u v n same)
@@ -87,7 +87,7 @@ same_line u v same line =
 same_val_text : (words : ValWords) (u v : View) (i : List ℕ) → SameSfiles u v → val_text words u i ≡ val_text words v i
 same_val_text words u v i same =
     ap (λ t. cond (takes_lines words) t (words_text words u)) (same_text (line_text u) (line_text v) (text_of i) (same_line u v same))
-    ∙ ap (λ t. cond (takes_lines words) (lines_text v (text_of i)) t) (same_words words u v same)
+    ∙ ap (λ t. cond (takes_lines words) (val_lines_text v (text_of i)) t) (same_words words u v same)
 
 same_val_status : (words : ValWords) (u v : View) (i : List ℕ) → SameSfiles u v → val_status words u i ≡ val_status words v i
 same_val_status words u v i same =
@@ -96,15 +96,15 @@ same_val_status words u v i same =
 
 pub same_outcome : (words : ValWords) (u v : View) (i : List ℕ) → SameSfiles u v → val_outcome words u i ≡ val_outcome words v i
 same_outcome words u v i same =
-    ap (λ t. judged (is_long words i) t (val_status words u i)) (same_val_text words u v i same) ∙ ap (λ s. judged (is_long words i) (val_text words v i) s) (same_val_status words u v i same)
+    ap (λ t. val_judged (is_long words i) t (val_status words u i)) (same_val_text words u v i same) ∙ ap (λ s. val_judged (is_long words i) (val_text words v i) s) (same_val_status words u v i same)
 
 -- ---- the call of the step
 
 -- what is printed meets what is judged
 judged_meets : (long : Bool) (text : List ℕ) (status : ℕ) (n : List ℕ) (r : Result ℕ StepFault) (v : View) (told2 : Option View) (out out2 err : Option (List ℕ)) → told2 ≡ Some v → Judges long text status r out out2
-    → Meets (λ (code : ℕ). code) r n (judged long text status) (world (Some v) out err) (world told2 out2 err)
+    → Meets (λ (code : ℕ). code) r n (val_judged long text status) (world (Some v) out err) (world told2 out2 err)
 judged_meets false text status n (Ok code) v told2 out out2 err same judges = (
-  printed text status,
+  val_effect text status,
   refl,
   sym judges.1,
   record {
@@ -124,8 +124,8 @@ judged_meets true text status n (Err ReadFault) v told2 out out2 err same judges
 judged_meets false text status n (Err ReadFault) v told2 out out2 err same judges = kept v told2 n text out out2 err same judges
 judged_meets true text status n (Err WriteFault) v told2 out out2 err same judges = inl (kept v told2 n [] out out2 err same judges)
 judged_meets false text status n (Err WriteFault) v told2 out out2 err same judges = inl (kept v told2 n text out out2 err same judges)
-judged_meets true text status n (Err DiskFault) v told2 out out2 err same judges = broken v told2 n (judged true text status) out out2 err same judges
-judged_meets false text status n (Err DiskFault) v told2 out out2 err same judges = broken v told2 n (judged false text status) out out2 err same judges
+judged_meets true text status n (Err DiskFault) v told2 out out2 err same judges = broken v told2 n (val_judged true text status) out out2 err same judges
+judged_meets false text status n (Err DiskFault) v told2 out out2 err same judges = broken v told2 n (val_judged false text status) out out2 err same judges
 
 -- what the call of val says
 abbrev pub ValTold : ValWords → Option View → Option (List ℕ) → Result ℕ StepFault → Option (List ℕ) → Option (List ℕ) → Type 0
@@ -145,7 +145,7 @@ val_stepped words w folder n r left a b out out2 err same spares shows told = by
         (judged_meets (is_long words i) (val_text words u i) (val_status words u i) n r u (seen b) out out2 err (ap seen same ∙ is) (told i heard)))
 
 -- no file changes
-kept_judged : (long : Bool) (text : List ℕ) (status : ℕ) (d : StepEffect) → judged long text status ≡ Ok d → d.new ≡ None
+kept_judged : (long : Bool) (text : List ℕ) (status : ℕ) (d : StepEffect) → val_judged long text status ≡ Ok d → d.new ≡ None
 kept_judged true text status d is = absurd cc
 kept_judged false text status d is = subst (λ (r : Outcome). IfOk r (λ (e : StepEffect). e.new ≡ None)) is refl
 
@@ -155,7 +155,7 @@ val_keeps words v = record {
   names = λ changes n fits. absurd cc;
 }
 
-judged_leaves : (n : List ℕ) (long : Bool) (text : List ℕ) (status : ℕ) → (effect_of n (judged long text status)).new ≡ None
+judged_leaves : (n : List ℕ) (long : Bool) (text : List ℕ) (status : ℕ) → (effect_of n (val_judged long text status)).new ≡ None
 judged_leaves n true text status = refl
 judged_leaves n false text status = refl
 

@@ -62,19 +62,19 @@ found_in words n header = record {
   other_module = if_asked words.«module» (λ asked. not (bytes_eq asked (module_name header.flags n)));
 }
 
-abbrev pub found_of : ValWords → List ℕ → Result Parsed FileFault → Findings
-found_of words n (Ok parsed) = found_in words n parsed.header
-found_of words n (Err fault) = unread fault
+abbrev pub findings_of : ValWords → List ℕ → Result Parsed FileFault → Findings
+findings_of words n (Ok parsed) = found_in words n parsed.header
+findings_of words n (Err fault) = unread fault
 
 -- what is found of an operand whose file has these bytes
 abbrev pub findings : ValWords → List ℕ → Option (List ℕ) → Findings
-findings words operand bytes = if is_sfile_name operand then found_of words operand (answer file_of bytes) else is_unopened
+findings words operand bytes = if is_sfile_name operand then findings_of words operand (answer file_of bytes) else is_unopened
 
 -- ---- bits
 
-abbrev pub bit : Bool → ℕ → ℕ
-bit said value = if said then value else 0
+abbrev pub finding_bit : Bool → ℕ → ℕ
+finding_bit said value = if said then value else 0
 
 -- the bits of POSIX, added up
 abbrev pub bits : Findings → ℕ
-bits f = bit f.corrupted 32 + (bit f.unopened 16 + (bit f.invalid_sid 8 + (bit f.missing_sid 4 + (bit f.other_kind 2 + bit f.other_module 1))))
+bits f = finding_bit f.corrupted 32 + (finding_bit f.unopened 16 + (finding_bit f.invalid_sid 8 + (finding_bit f.missing_sid 4 + (finding_bit f.other_kind 2 + finding_bit f.other_module 1))))

@@ -17,24 +17,24 @@ use Rattle.sccs_val.specs.Findings.{bits, findings}
 use Rattle.sccs_val.specs.declared.findings.Findings.{Findings}
 
 -- a line for an operand
-abbrev pub line : List ℕ → Bool → List ℕ → List ℕ
-line operand said text = if said then operand ++ (58 ∷ 32 ∷ text ++ lf ∷ []) else []
+abbrev pub bit_line : List ℕ → Bool → List ℕ → List ℕ
+bit_line operand said text = if said then operand ++ (58 ∷ 32 ∷ text ++ lf ∷ []) else []
 
 -- a line for each finding, from the greatest bit
-abbrev pub lines : List ℕ → Findings → List ℕ
-lines operand f =
-    line operand f.corrupted (codes "corrupted SCCS file")
-    ++ (line operand f.unopened (codes "cannot open file or file not SCCS")
-    ++ (line operand f.invalid_sid (codes "SID is invalid or ambiguous")
-    ++ (line operand f.missing_sid (codes "SID does not exist")
-    ++ (line operand f.other_kind (codes "%Y%, -y mismatch") ++ line operand f.other_module (codes "%M%, -m mismatch")))))
+abbrev pub bit_lines : List ℕ → Findings → List ℕ
+bit_lines operand f =
+    bit_line operand f.corrupted (codes "corrupted SCCS file")
+    ++ (bit_line operand f.unopened (codes "cannot open file or file not SCCS")
+    ++ (bit_line operand f.invalid_sid (codes "SID is invalid or ambiguous")
+    ++ (bit_line operand f.missing_sid (codes "SID does not exist")
+    ++ (bit_line operand f.other_kind (codes "%Y%, -y mismatch") ++ bit_line operand f.other_module (codes "%M%, -m mismatch")))))
 
 -- the faults of the words, which are judged once: no operand, and an option that is at fault
 abbrev pub has_bit : ℕ → ℕ → Bool
 has_bit status value = not (bit_and status value == 0)
 
 abbrev pub fault_lines : ℕ → List ℕ
-fault_lines fault = line (codes "val") (has_bit fault 128) (codes "missing file argument") ++ line (codes "val") (has_bit fault 64) (codes "unknown or duplicate option")
+fault_lines fault = bit_line (codes "val") (has_bit fault 128) (codes "missing file argument") ++ bit_line (codes "val") (has_bit fault 64) (codes "unknown or duplicate option")
 
 -- the operands; `-` alone stands for itself, in a line of the input
 abbrev pub operands_in : Operands → List (List ℕ)
@@ -42,7 +42,8 @@ operands_in operands = if operands.from_input then codes "-" ∷ [] else operand
 
 -- of an operand in a folder: what is printed, and its bits
 abbrev pub operand_text : ValWords → View → List ℕ → List ℕ
-operand_text words v operand = if words.silent then [] else lines operand (findings words operand (file_in v operand))
+operand_text words v operand =
+    if words.silent then [] else bit_lines operand (findings words operand (file_in v operand))
 
 abbrev pub operand_status : ValWords → View → List ℕ → ℕ
 operand_status words v operand = bits (findings words operand (file_in v operand))
@@ -81,15 +82,15 @@ line_text v line = line_heading line (line_status v line) (line_words line).sile
 abbrev pub takes_lines : ValWords → Bool
 takes_lines words = words.fault == 0 && words.operands.from_input
 
-abbrev pub lines_text : View → List (List ℕ) → List ℕ
-lines_text v lines = flat_map (line_text v) lines
+abbrev pub val_lines_text : View → List (List ℕ) → List ℕ
+val_lines_text v lines = flat_map (line_text v) lines
 
 abbrev pub lines_status : View → List (List ℕ) → ℕ
 lines_status v lines = fold (λ status line. bit_or status (line_status v line)) 0 lines
 
 -- what val prints, and its status
 abbrev pub val_text : ValWords → View → List ℕ → List ℕ
-val_text words v input = if takes_lines words then lines_text v (text_of input) else words_text words v
+val_text words v input = if takes_lines words then val_lines_text v (text_of input) else words_text words v
 
 abbrev pub val_status : ValWords → View → List ℕ → ℕ
 val_status words v input = if takes_lines words then lines_status v (text_of input) else words_status words v

@@ -43,12 +43,12 @@ PrintsStatus text status (Err fault) a b = GivesSome a b text
 -- ---- val as one step
 
 -- a text is printed, with a status
-abbrev pub printed : List ℕ → ℕ → StepEffect
-printed text status = record { new = None; text = text; out = []; err = []; status = status }
+abbrev pub val_effect : List ℕ → ℕ → StepEffect
+val_effect text status = record { new = None; text = text; out = []; err = []; status = status }
 
 -- the same, unless an input past the limit is refused
-abbrev pub judged : Bool → List ℕ → ℕ → Outcome
-judged long text status = if long then Err refusals.TooLong else Ok (printed text status)
+abbrev pub val_judged : Bool → List ℕ → ℕ → Outcome
+val_judged long text status = if long then Err refusals.TooLong else Ok (val_effect text status)
 
 -- what a call answers and prints that does this
 abbrev pub Judges : Bool → List ℕ → ℕ → Result ℕ StepFault → Option (List ℕ) → Option (List ℕ) → Type 0
@@ -64,7 +64,7 @@ is_long words input = takes_lines words && nat_lt file_limit (length input)
 
 -- what val does over the files of a folder, with an input
 abbrev pub val_outcome : ValWords → View → List ℕ → Outcome
-val_outcome words v input = judged (is_long words input) (val_text words v input) (val_status words v input)
+val_outcome words v input = val_judged (is_long words input) (val_text words v input) (val_status words v input)
 
 -- the same as an action on `-`, which stands for all that its words name
 abbrev pub val_over : ValWords → View → Action

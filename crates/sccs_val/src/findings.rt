@@ -6,7 +6,7 @@ ghost use Rattle.sccs_sid.specs.Sid.{sid_of};
 ghost use Rattle.sccs_steps.specs.Actions.{RefusesWithin};
 ghost use Rattle.sccs_steps.specs.Causes.{PrintCauses};
 ghost use Rattle.sccs_table.specs.ReaderState.{file_in};
-ghost use Rattle.sccs_val.specs.Findings.{bit, bits, findings, found_in, if_asked, is_invalid, is_missing, is_unopened};
+ghost use Rattle.sccs_val.specs.Findings.{finding_bit, bits, findings, found_in, if_asked, is_invalid, is_missing, is_unopened};
 ghost use Rattle.sccs_val.specs.ValStep.{Unreads};
 
 use sccs_base::{Bytes, Name};
@@ -52,7 +52,7 @@ const UNOPENED: Findings = Findings {
 };
 
 fn bit(said: bool, value: u8) -> u8
-    ensures value { result ≡ bit said value }
+    ensures value { result ≡ finding_bit said value }
     ensures most { result ≤ value }
 {
     if said { value } else { 0 }

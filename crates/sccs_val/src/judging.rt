@@ -29,10 +29,7 @@ fn judge_operand<D: Disk>(
     ensures checks { RefusesWithin [] result }
     ensures causes { (out : ℕ) → PrintCauses result out out (D.faults disk.old) (D.faults disk.new) }
 {
-    let found = match find(alloc, words, operand, disk) {
-        Ok(found) => found,
-        Err(fault) => return Err(fault),
-    };
+    let found = find(alloc, words, operand, disk)?;
     if !words.silent {
         let Ok(()) = add_lines(operand, &found, report) else {
             return Err(StepFault::Memory);

@@ -1,12 +1,12 @@
 ghost use Rattle.std.specs.Prelude.{◌≡◌, ◌++◌, OnOk};
-ghost use Rattle.sccs_val.specs.Reports.{fault_lines, has_bit, line, lines};
+ghost use Rattle.sccs_val.specs.Reports.{fault_lines, has_bit, bit_line, bit_lines};
 
 use crate::findings::Findings;
 use sccs_base::Memory;
 
 // adds a line for an operand
 fn add_line(operand: &[u8], said: bool, text: &[u8], report: &mut Vec<u8>) -> Result<(), Memory>
-    ensures { OnOk result (report.new.items ≡ report.old.items ++ line operand.now said text.now) }
+    ensures { OnOk result (report.new.items ≡ report.old.items ++ bit_line operand.now said text.now) }
 {
     if said {
         report.extend_from_slice(operand)?;
@@ -19,7 +19,7 @@ fn add_line(operand: &[u8], said: bool, text: &[u8], report: &mut Vec<u8>) -> Re
 
 /// Adds a line for each finding of an operand, from the greatest bit.
 pub fn add_lines(operand: &[u8], found: &Findings, report: &mut Vec<u8>) -> Result<(), Memory>
-    ensures { OnOk result (report.new.items ≡ report.old.items ++ lines operand.now found.now) }
+    ensures { OnOk result (report.new.items ≡ report.old.items ++ bit_lines operand.now found.now) }
 {
     let f = found;
     add_line(operand, f.corrupted, b"corrupted SCCS file", report)?;

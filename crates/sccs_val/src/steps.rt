@@ -8,7 +8,7 @@ ghost use Rattle.sccs_disk.specs.Files.{View};
 ghost use Rattle.sccs_disk.specs.Told.{seen};
 ghost use Rattle.sccs_steps.specs.Actions.{RefusesWithin};
 ghost use Rattle.sccs_steps.specs.Causes.{Ignores, PrintCauses, StepCauses, counts};
-ghost use Rattle.sccs_val.specs.Reports.{line_heading, line_status, line_text, lines_status, lines_text, takes_lines, val_status, val_text, words_status, words_text};
+ghost use Rattle.sccs_val.specs.Reports.{line_heading, line_status, line_text, lines_status, val_lines_text, takes_lines, val_status, val_text, words_status, words_text};
 ghost use Rattle.sccs_val.specs.ValStep.{Judges, PrintsStatus, is_long};
 
 use crate::judging::judge_words;
@@ -34,12 +34,10 @@ pub fn print_words<O: Sink, D: Disk>(
     ensures causes { PrintCauses result (O.faults out.old) (O.faults out.new) (D.faults disk.old) (D.faults disk.new) }
 {
     let mut report = Vec::new(alloc);
-    match judge_words(alloc, words, &mut report, disk) {
-        Ok(status) => match out.give(report.as_slice()) {
-            Ok(()) => Ok(status),
-            Err(_) => Err(StepFault::WriteFault),
-        },
-        Err(fault) => Err(fault),
+    let status = judge_words(alloc, words, &mut report, disk)?;
+    match out.give(report.as_slice()) {
+        Ok(()) => Ok(status),
+        Err(_) => Err(StepFault::WriteFault),
     }
 }
 
@@ -77,10 +75,8 @@ fn print_under<O: Sink, D: Disk>(
     ensures causes { PrintCauses result (O.faults out.old) (O.faults out.new) (D.faults disk.old) (D.faults disk.new) }
 {
     let mut report = Vec::new(alloc);
-    match judge_words(alloc, words, &mut report, disk) {
-        Ok(status) => give_report(line, status, words.silent, report.as_slice(), out),
-        Err(fault) => Err(fault),
-    }
+    let status = judge_words(alloc, words, &mut report, disk)?;
+    give_report(line, status, words.silent, report.as_slice(), out)
 }
 
 /// The same of a line of the input, whose words are those of val.
@@ -108,7 +104,7 @@ pub fn print_lines<O: Sink, D: Disk>(
     out: &mut O,
     disk: &mut D,
 ) -> Result<u8, StepFault>
-    ensures told { IfSome (seen (D.told disk.old)) (λ v. PrintsStatus (lines_text v lines.now) (lines_status v lines.now) result (O.given out.old) (O.given out.new)) }
+    ensures told { IfSome (seen (D.told disk.old)) (λ v. PrintsStatus (val_lines_text v lines.now) (lines_status v lines.now) result (O.given out.old) (O.given out.new)) }
     ensures same { D.told disk.new ≡ D.told disk.old }
     ensures checks { RefusesWithin [] result }
     ensures causes { PrintCauses result (O.faults out.old) (O.faults out.new) (D.faults disk.old) (D.faults disk.new) }
@@ -131,7 +127,7 @@ pub fn print_input<I: Source, O: Sink, D: Disk>(
     disk: &mut D,
 ) -> Result<u8, StepFault>
     ensures told { IfSome (seen (D.told disk.old)) (λ v. (i : List ℕ) → I.left input.old ≡ Some i
-        → Judges (nat_lt file_limit (length i)) (lines_text v (text_of i)) (lines_status v (text_of i)) result (O.given out.old) (O.given out.new)) }
+        → Judges (nat_lt file_limit (length i)) (val_lines_text v (text_of i)) (lines_status v (text_of i)) result (O.given out.old) (O.given out.new)) }
     ensures long { (refusal : Refusal) → result ≡ Err (faults.Refused refusal) → (refusal ≡ refusals.TooLong) × IfSome (I.left input.old) (λ i. file_limit < length i) }
     ensures same { D.told disk.new ≡ D.told disk.old }
     ensures causes { (err : ℕ) → StepCauses result (counts (I.faults input.old) (O.faults out.old) err (D.faults disk.old)) (counts (I.faults input.new) (O.faults out.new) err (D.faults disk.new)) }

@@ -5,7 +5,7 @@ use Rattle.std.specs.List.{position, position_or_len}
 use Rattle.std.proofs.lemmas.Bool.{cases_lt, le-ltb, lt-ltb, ne_eqb}
 use Rattle.std.proofs.lemmas.List.{drop-drop}
 use Rattle.std.proofs.lemmas.List.Recursion.{is_position_or_len}
-use Rattle.sccs_what.specs.Texts.{ends_text, is_marked, texts, texts_behind, until_end}
+use Rattle.sccs_what.specs.Texts.{ends_text, is_marked, texts_behind_marks, texts_behind_marks_after, until_end}
 use Rattle.sccs_what.specs.Owed.{behind_text}
 
 -- ---- a text up to its end
@@ -67,24 +67,24 @@ not_marked b (x ∷ []) other = refl
 not_marked b (x ∷ y ∷ []) other = refl
 not_marked b (x ∷ y ∷ z ∷ bytes) other = ap (λ t. t && ((x == 40) && ((y == 35) && (z == 41)))) (ne_eqb b 64 other)
 
-skipped : (n : ℕ) (bytes : List ℕ) → texts_behind n bytes ≡ texts (drop n bytes)
+skipped : (n : ℕ) (bytes : List ℕ) → texts_behind_marks_after n bytes ≡ texts_behind_marks (drop n bytes)
 skipped zero bytes = refl
 skipped (suc n) [] = refl
 skipped (suc n) (b ∷ bytes) = skipped n bytes
 
 -- a byte with which no mark begins is passed over
-pass_one : (b : ℕ) (bytes : List ℕ) → is_marked (b ∷ bytes) ≡ false → texts (b ∷ bytes) ≡ texts bytes
-pass_one b bytes none = ap (λ m. cond m (until_end (drop 3 bytes) ∷ texts_behind (3 + length (until_end (drop 3 bytes))) bytes) (texts bytes)) none
+pass_one : (b : ℕ) (bytes : List ℕ) → is_marked (b ∷ bytes) ≡ false → texts_behind_marks (b ∷ bytes) ≡ texts_behind_marks bytes
+pass_one b bytes none = ap (λ m. cond m (until_end (drop 3 bytes) ∷ texts_behind_marks_after (3 + length (until_end (drop 3 bytes))) bytes) (texts_behind_marks bytes)) none
 
 -- so are all up to the first @
-pub texts_past : (k : ℕ) (t rest : List ℕ) → ((j : ℕ) → j < k → get_or t j 0 ≢ 64) → texts (drop k t ++ rest) ≡ texts (t ++ rest)
+pub texts_past : (k : ℕ) (t rest : List ℕ) → ((j : ℕ) → j < k → get_or t j 0 ≢ 64) → texts_behind_marks (drop k t ++ rest) ≡ texts_behind_marks (t ++ rest)
 texts_past zero t rest before = refl
 texts_past (suc k) [] rest before = refl
 texts_past (suc k) (b ∷ t) rest before =
     texts_past k t rest (λ j below. before (suc j) (omega arith)) ∙ sym (pass_one b (t ++ rest) (not_marked b (t ++ rest) (before 0 (omega arith))))
 
 -- fewer than four bytes have none
-pub texts_short : (t : List ℕ) → length t < 4 → texts t ≡ []
+pub texts_short : (t : List ℕ) → length t < 4 → texts_behind_marks t ≡ []
 texts_short [] short = refl
 texts_short (a ∷ []) short = refl
 texts_short (a ∷ b ∷ []) short = refl
@@ -92,7 +92,7 @@ texts_short (a ∷ b ∷ c ∷ []) short = refl
 texts_short (a ∷ b ∷ c ∷ d ∷ t) short = absurd (omega (arith, short))
 
 -- four that are no mark
-pub texts_unmarked : (t rest : List ℕ) → 4 ≤ length t → is_marked t ≡ false → texts (drop 1 t ++ rest) ≡ texts (t ++ rest)
+pub texts_unmarked : (t rest : List ℕ) → 4 ≤ length t → is_marked t ≡ false → texts_behind_marks (drop 1 t ++ rest) ≡ texts_behind_marks (t ++ rest)
 texts_unmarked [] rest some none = absurd (omega (arith, some))
 texts_unmarked (a ∷ []) rest some none = absurd (omega (arith, some))
 texts_unmarked (a ∷ b ∷ []) rest some none = absurd (omega (arith, some))
@@ -100,7 +100,7 @@ texts_unmarked (a ∷ b ∷ c ∷ []) rest some none = absurd (omega (arith, som
 texts_unmarked (a ∷ b ∷ c ∷ d ∷ t) rest some none = sym (pass_one a (b ∷ c ∷ d ∷ (t ++ rest)) none)
 
 -- the text behind a mark, and those behind it
-pub texts_marked : (t rest : List ℕ) → 4 ≤ length t → is_marked t ≡ true → texts (t ++ rest) ≡ until_end (drop 4 t ++ rest) ∷ texts (behind_text (drop 4 t ++ rest))
+pub texts_marked : (t rest : List ℕ) → 4 ≤ length t → is_marked t ≡ true → texts_behind_marks (t ++ rest) ≡ until_end (drop 4 t ++ rest) ∷ texts_behind_marks (behind_text (drop 4 t ++ rest))
 texts_marked [] rest some marked = absurd (omega (arith, some))
 texts_marked (a ∷ []) rest some marked = absurd (omega (arith, some))
 texts_marked (a ∷ b ∷ []) rest some marked = absurd (omega (arith, some))
@@ -108,8 +108,8 @@ texts_marked (a ∷ b ∷ c ∷ []) rest some marked = absurd (omega (arith, som
 texts_marked (a ∷ b ∷ c ∷ d ∷ t) rest some marked =
     let bytes : List ℕ = b ∷ c ∷ d ∷ (t ++ rest) in
     let text : List ℕ = until_end (t ++ rest) in
-    ap (λ m. cond m (text ∷ texts_behind (3 + length text) bytes) (texts bytes)) marked
-    ∙ ap (λ (later : List (List ℕ)). text ∷ later) (skipped (3 + length text) bytes ∙ ap texts (sym (drop-drop (length text) 3 bytes)))
+    ap (λ m. cond m (text ∷ texts_behind_marks_after (3 + length text) bytes) (texts_behind_marks bytes)) marked
+    ∙ ap (λ (later : List (List ℕ)). text ∷ later) (skipped (3 + length text) bytes ∙ ap texts_behind_marks (sym (drop-drop (length text) 3 bytes)))
 
 -- ---- how long a text is
 

@@ -4,8 +4,8 @@ use Rattle.sccs_base.specs.Constants.{lf}
 use Rattle.sccs_base.specs.Stream.{Buffers, GivesOk, GivesSome}
 use Rattle.sccs_sid.specs.declared.refusals.StepFault.{StepFault}
 use Rattle.sccs_sid.specs.declared.refusals.StepFault.TheVariants.{Memory, WriteFault, DiskFault}
-use Rattle.sccs_what.specs.Texts.{is_found, lines, what_text}
-use Rattle.sccs_what.specs.Owed.{Searches, finds, last_end, owed, was_found}
+use Rattle.sccs_what.specs.Texts.{is_found, marked_lines, what_text}
+use Rattle.sccs_what.specs.Owed.{Searches, finds, last_end, what_owed, was_found}
 use Rattle.sccs_what.specs.declared.searches.Search.{Search}
 
 -- The bytes that are left of a file were searched at their front, and the search goes on at a later place.
@@ -18,7 +18,7 @@ pub record GoesOn (first : Bool) (left : List ℕ) (from next : ℕ) (s s2 : Sea
 pub record ComesToEnd (first : Bool) (left : List ℕ) (s s2 : Search) (held held2 : List ℕ) (a b : Option (List ℕ)) : Type 0 where
   pub used : ℕ
   pub searches : Searches first left used s s2 held held2 a b
-  pub owes : owed first s2 (drop used left) ≡ last_end s2
+  pub owes : what_owed first s2 (drop used left) ≡ last_end s2
   pub found : finds s2 (drop used left) ≡ was_found s2
 
 -- Nothing was searched or given.
@@ -28,12 +28,12 @@ pub record Rests (s s2 : Search) (held held2 : List ℕ) (a b : Option (List ℕ
   pub same_given : b ≡ a
 
 -- what the search of a piece leaves of the bytes that are left
-abbrev pub SearchesNext : Bool → List ℕ → ℕ → Search → Search → List ℕ → List ℕ → Option (List ℕ) → Option (List ℕ) → Result (Option ℕ) StepFault → Type 0
-SearchesNext first left from s s2 held held2 a b (Ok (Some next)) = GoesOn first left from next s s2 held held2 a b
-SearchesNext first left from s s2 held held2 a b (Ok None) = ComesToEnd first left s s2 held held2 a b
-SearchesNext first left from s s2 held held2 a b (Err WriteFault) = GivesSome a b (held ++ owed first s left) × (held2 ≡ [])
-SearchesNext first left from s s2 held held2 a b (Err DiskFault) = Rests s s2 held held2 a b
-SearchesNext first left from s s2 held held2 a b (Err _) = ⊥
+abbrev pub SearchesPiece : Bool → List ℕ → ℕ → Search → Search → List ℕ → List ℕ → Option (List ℕ) → Option (List ℕ) → Result (Option ℕ) StepFault → Type 0
+SearchesPiece first left from s s2 held held2 a b (Ok (Some next)) = GoesOn first left from next s s2 held held2 a b
+SearchesPiece first left from s s2 held held2 a b (Ok None) = ComesToEnd first left s s2 held held2 a b
+SearchesPiece first left from s s2 held held2 a b (Err WriteFault) = GivesSome a b (held ++ what_owed first s left) × (held2 ≡ [])
+SearchesPiece first left from s s2 held held2 a b (Err DiskFault) = Rests s s2 held held2 a b
+SearchesPiece first left from s s2 held held2 a b (Err _) = ⊥
 
 -- the end of a text that was being given is given, and whether something was found is answered
 abbrev pub FinishesSearch : Search → List ℕ → List ℕ → Option (List ℕ) → Option (List ℕ) → Result Bool StepFault → Type 0
@@ -50,9 +50,10 @@ pub record GivesPart (text held held2 : List ℕ) (a b : Option (List ℕ)) : Ty
 
 -- what the search of a file answers and gives
 abbrev pub SearchesFile : Bool → List ℕ → List ℕ → List ℕ → Option (List ℕ) → Option (List ℕ) → Result Bool StepFault → Type 0
-SearchesFile first bytes held held2 a b (Ok found) = Buffers held (lines first bytes) held2 a b × (found ≡ is_found bytes)
-SearchesFile first bytes held held2 a b (Err WriteFault) = GivesSome a b (held ++ lines first bytes) × (held2 ≡ [])
-SearchesFile first bytes held held2 a b (Err DiskFault) = GivesPart (lines first bytes) held held2 a b
+SearchesFile first bytes held held2 a b (Ok found) = Buffers held (marked_lines first bytes) held2 a b × (found ≡ is_found bytes)
+SearchesFile first bytes held held2 a b (Err WriteFault) =
+    GivesSome a b (held ++ marked_lines first bytes) × (held2 ≡ [])
+SearchesFile first bytes held held2 a b (Err DiskFault) = GivesPart (marked_lines first bytes) held held2 a b
 SearchesFile first bytes held held2 a b (Err _) = ⊥
 
 -- the line before the texts

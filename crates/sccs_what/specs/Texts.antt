@@ -19,15 +19,15 @@ until_end (b ∷ bytes) = if ends_text b then [] else b ∷ until_end bytes
 
 -- The texts behind the marks of bytes of which so many at the front belong to what was found already. The search goes on at the
 -- byte that ended the text before.
-abbrev pub texts_behind : ℕ → List ℕ → List (List ℕ)
-texts_behind skip [] = []
-texts_behind (suc skip) (b ∷ bytes) = texts_behind skip bytes
-texts_behind zero (b ∷ bytes) =
-    if is_marked (b ∷ bytes) then until_end (drop 3 bytes) ∷ texts_behind (3 + length (until_end (drop 3 bytes))) bytes else texts_behind zero bytes
+abbrev pub texts_behind_marks_after : ℕ → List ℕ → List (List ℕ)
+texts_behind_marks_after skip [] = []
+texts_behind_marks_after (suc skip) (b ∷ bytes) = texts_behind_marks_after skip bytes
+texts_behind_marks_after zero (b ∷ bytes) =
+    if is_marked (b ∷ bytes) then until_end (drop 3 bytes) ∷ texts_behind_marks_after (3 + length (until_end (drop 3 bytes))) bytes else texts_behind_marks_after zero bytes
 
 -- the texts behind the marks of bytes
-abbrev pub texts : List ℕ → List (List ℕ)
-texts bytes = texts_behind 0 bytes
+abbrev pub texts_behind_marks : List ℕ → List (List ℕ)
+texts_behind_marks bytes = texts_behind_marks_after 0 bytes
 
 -- with -s the first alone
 abbrev pub only_first : Bool → List (List ℕ) → List (List ℕ)
@@ -38,13 +38,13 @@ abbrev pub text_line : List ℕ → List ℕ
 text_line text = 9 ∷ text ++ lf ∷ []
 
 -- the lines of the texts of bytes
-abbrev pub lines : Bool → List ℕ → List ℕ
-lines first bytes = flat_map text_line (only_first first (texts bytes))
+abbrev pub marked_lines : Bool → List ℕ → List ℕ
+marked_lines first bytes = flat_map text_line (only_first first (texts_behind_marks bytes))
 
 -- what is printed of a file: its name and a colon, and a line for each text
 abbrev pub what_text : Bool → List ℕ → List ℕ → List ℕ
-what_text first n bytes = n ++ (58 ∷ lf ∷ lines first bytes)
+what_text first n bytes = n ++ (58 ∷ lf ∷ marked_lines first bytes)
 
 -- something is found
 abbrev pub is_found : List ℕ → Bool
-is_found bytes = not (is_empty (texts bytes))
+is_found bytes = not (is_empty (texts_behind_marks bytes))

@@ -6,7 +6,7 @@ ghost use Rattle.sccs_files.specs.WholeFiles.{file_bytes};
 ghost use Rattle.sccs_sid.specs.declared.refusals.Refusal.{Refusal};
 ghost use Rattle.sccs_sid.specs.declared.refusals.StepFault.TheVariants as faults;
 ghost use Rattle.sccs_steps.specs.Causes.{PrintCauses};
-ghost use Rattle.sccs_what.specs.SearchedFiles.{FinishesSearch, PrintsTexts, SearchesFile, SearchesNext, heading};
+ghost use Rattle.sccs_what.specs.SearchedFiles.{FinishesSearch, PrintsTexts, SearchesFile, SearchesPiece, heading};
 
 use crate::searches::{Search, end_search, search_piece};
 use sccs_base::{Name, OutputBuffer, Sink};
@@ -32,7 +32,7 @@ fn search_next<O: Sink, D: Disk>(
     requires room { 4 ≤ length piece.old }
     requires small { length piece.old ≤ 4096 }
     ensures told { (bytes : List ℕ) → file_bytes (seen (D.told disk.old)) name.now ≡ Some bytes
-        → SearchesNext first (drop from bytes) from search.old search.new held.old held.new (O.given out.old) (O.given out.new) result }
+        → SearchesPiece first (drop from bytes) from search.old search.new held.old held.new (O.given out.old) (O.given out.new) result }
     ensures further { IfOk result (λ o. IfSome o (λ next. from < next)) }
     ensures checks { (refusal : Refusal) → result ≢ Err (faults.Refused refusal) }
     ensures same { D.told disk.new ≡ D.told disk.old }

@@ -1,6 +1,6 @@
 ghost use Rattle.std.specs.Prelude.{◌≡◌, ◌≢◌, ◌<◌, ◌≤◌, ◌+◌, ◌++◌, true, false, [], length, drop, IfOk, OnErr, OnOk};
 ghost use Rattle.sccs_base.specs.Stream.{Buffers, GivesSome, Rose};
-ghost use Rattle.sccs_what.specs.Owed.{SearchesPiece, is_done, is_over, last_end, was_found, work_left};
+ghost use Rattle.sccs_what.specs.Owed.{SearchesPiece, search_is_done, search_is_over, last_end, was_found, work_left};
 ghost use Rattle.sccs_what.specs.declared.searches.Search.TheVariants as searches;
 
 use crate::marks::{MARK_LENGTH, find_at_sign, is_marked, text_length};
@@ -17,14 +17,14 @@ pub enum Search {
 impl Search {
     /// Whether nothing more is wanted of the file.
     pub fn is_done(self, first: bool) -> bool
-        ensures { result ≡ is_done first self }
+        ensures { result ≡ search_is_done first self }
     {
         first && matches!(self, Search::Found)
     }
 
     // whether nothing more is to be found without the bytes that come behind these
     fn is_over(self, first: bool, bytes: &[u8]) -> bool
-        ensures { result ≡ is_over first self bytes.now }
+        ensures { result ≡ search_is_over first self bytes.now }
     {
         match self {
             Search::Unfound => bytes.len() < MARK_LENGTH,
@@ -68,7 +68,7 @@ fn find_mark<O: Sink>(
     held: &mut OutputBuffer,
     out: &mut O,
 ) -> Result<usize, Failed>
-    requires seeking { is_over first search.old bytes.now ≡ false }
+    requires seeking { search_is_over first search.old bytes.now ≡ false }
     requires other { search.old ≢ searches.Giving }
     ensures piece { SearchesPiece first bytes.now search.old search.new held.old held.new (O.given out.old) (O.given out.new) result }
     ensures less { IfOk result (λ used. work_left search.new (drop used bytes.now) < work_left search.old bytes.now) }
@@ -95,7 +95,7 @@ fn step<O: Sink>(
     held: &mut OutputBuffer,
     out: &mut O,
 ) -> Result<usize, Failed>
-    requires { is_over first search.old bytes.now ≡ false }
+    requires { search_is_over first search.old bytes.now ≡ false }
     ensures piece { SearchesPiece first bytes.now search.old search.new held.old held.new (O.given out.old) (O.given out.new) result }
     ensures less { IfOk result (λ used. work_left search.new (drop used bytes.now) < work_left search.old bytes.now) }
     ensures later { O.faults out.old ≤ O.faults out.new }
@@ -141,7 +141,7 @@ pub fn search_piece<O: Sink>(
     out: &mut O,
 ) -> Result<usize, Failed>
     ensures piece { SearchesPiece first piece.now search.old search.new held.old held.new (O.given out.old) (O.given out.new) result }
-    ensures over { IfOk result (λ used. is_over first search.new (drop used piece.now) ≡ true) }
+    ensures over { IfOk result (λ used. search_is_over first search.new (drop used piece.now) ≡ true) }
     ensures later { O.faults out.old ≤ O.faults out.new }
     ensures cause { OnErr result (Rose (O.faults out.old) (O.faults out.new)) }
 {

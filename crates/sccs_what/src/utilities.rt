@@ -49,9 +49,7 @@ impl UtilityWithStatus for What {
         _err: &mut E,
         disk: &mut D,
     ) -> Result<u8, StepFault> {
-        match what(alloc, self.first, name, out, disk) {
-            Ok(found) => Ok(found_status(found)),
-            Err(fault) => Err(fault),
-        }
+        let found = what(alloc, self.first, name, out, disk)?;
+        Ok(found_status(found))
     }
 }

@@ -1,7 +1,7 @@
 use crate::tests::samples::{ADDED, Files, disk_of, holds};
 use sccs_disk::MemoryDisk;
 use sccs_fixtures::samples::SECOND;
-use sccs_fixtures::{CASE, Case, first_wrong, flagged};
+use sccs_fixtures::{CASE, Case, first_wrong};
 use std::alloc::Global;
 use std::test::Fail;
 
@@ -20,6 +20,12 @@ const PASSING: [Case<'static>; 2] = [
         ..CASE
     },
 ];
+
+// the flag n is set
+const FLAGGED: [Case<'static>; 1] = [Case {
+    line: b"admin -fn s.a",
+    ..CASE
+}];
 
 // one of them, where null deltas stand for them
 const PASSED_OVER: [Case<'static>; 2] = [
@@ -45,41 +51,46 @@ const LEFT_OUT: [Case<'static>; 1] = [Case {
     ..CASE
 }];
 
-// whether a delta that passes over releases on a disk leaves these texts in the s-file, and these cases end as they
-// should
+// whether a delta that passes over releases on a disk, behind some cases, leaves these texts in the s-file, and other cases
+// end as they should
 fn passes_on(
     alloc: Global,
     disk: &mut MemoryDisk,
+    before: &[Case],
     texts: &[&[u8]],
     cases: &[Case],
 ) -> Result<bool, Fail> {
-    let is_made = first_wrong(alloc, disk, &PASSING)? == None;
+    let is_begun = first_wrong(alloc, disk, before)? == None;
+    let is_made = is_begun && first_wrong(alloc, disk, &PASSING)? == None;
     let is_then = first_wrong(alloc, disk, cases)? == None;
     let is_there = holds(disk, texts)?;
     Ok(is_made && (is_then && is_there))
 }
 
-// whether it does on a disk with this s-file
-fn passes(alloc: Global, s_file: &[u8], texts: &[&[u8]], cases: &[Case]) -> Result<bool, Fail> {
-    let mut disk = disk_of(alloc, &Files { s_file, ..ADDED })?;
-    passes_on(alloc, &mut disk, texts, cases)
+// whether it does on a disk with two deltas
+fn passes(alloc: Global, before: &[Case], texts: &[&[u8]], cases: &[Case]) -> Result<bool, Fail> {
+    let files = Files {
+        s_file: SECOND,
+        ..ADDED
+    };
+    let mut disk = disk_of(alloc, &files)?;
+    passes_on(alloc, &mut disk, before, texts, cases)
 }
 
 #[test]
 fn releases_are_passed_over(rt: HostRuntime) -> Result<(), Fail> {
-    let file = flagged(rt.alloc(), SECOND, b"\x01f n\n")?;
     let texts: [&[u8]; 3] = [
         b"\x01s 00000/00000/00000\n\x01d D 3.1 21/03/04 05:10:00 ann 4 3\n\x01c AUTO NULL DELTA\n\x01e\n",
         b"\x01d D 4.1 21/03/04 05:10:00 ann 5 4\n",
         b"\x01d D 2.1 21/03/04 05:10:00 ann 3 2\n",
     ];
-    assert!(rt; passes(rt.alloc(), &file, &texts, &PASSED_OVER)?);
+    assert!(rt; passes(rt.alloc(), &FLAGGED, &texts, &PASSED_OVER)?);
     Ok(())
 }
 
 #[test]
 fn releases_are_left_out(rt: HostRuntime) -> Result<(), Fail> {
     let texts: [&[u8]; 1] = [b"\x01d D 4.1 21/03/04 05:10:00 ann 3 2\n"];
-    assert!(rt; passes(rt.alloc(), SECOND, &texts, &LEFT_OUT)?);
+    assert!(rt; passes(rt.alloc(), &[], &texts, &LEFT_OUT)?);
     Ok(())
 }

@@ -136,7 +136,7 @@ fn refuses_on(alloc: Global, disk: &mut MemoryDisk, case: &Case) -> Result<bool,
 
 #[test]
 fn refused_files_are_not_made(rt: HostRuntime) -> Result<(), Fail> {
-    let rows: [(&[u8], &[u8]); 5] = [
+    let rows: [(&[u8], &[u8]); 4] = [
         (
             b"admin -i s.a",
             b"ERROR [s.a]: line 2 begins with SOH (23)\n",
@@ -144,7 +144,6 @@ fn refused_files_are_not_made(rt: HostRuntime) -> Result<(), Fail> {
         (b"admin -i s.b", b"ERROR [s.b]: locked by z-file (02)\n"),
         (b"admin -iname s.a", b"ERROR [s.a]: no such file (03)\n"),
         (b"admin -iz.a s.a", b"ERROR [s.a]: no such file (03)\n"),
-        (b"admin -n -fb s.a", b"ERROR [s.a]: not built yet (99)\n"),
     ];
     for (line, err) in rows {
         assert!(rt; refuses(rt.alloc(), line, err)?);

@@ -42,7 +42,11 @@ const LEFT: &[u8] = b"1.1 1.1.1.1 ann 21/03/04 05:09:00\n";
 const WITH_USER: &[u8] =
     b"\x01h12946\n\x01s 00001/00000/00002\n\x01d D 1.2 21/03/04 05:08:00 ann 2 1\n\x01c second\n\x01e\n\x01s 00002/00000/00000\n\x01d D 1.1 21/03/04 05:06:07 ann 1 0\n\x01c date and time created 21/03/04 05:06:07 by ann\n\x01e\n\x01u\nbob\n\x01U\n\x01f b\n\x01t\n\x01T\n\x01I 1\none\n\x01I 2\nmid\n\x01E 2\ntwo %I%\n\x01E 1\n";
 
-const STOPS: [Stop<'static>; 8] = [
+// a new file with a user, two flags and an MR
+const WITH_ALL: &[u8] =
+    b"\x01h09126\n\x01s 00002/00000/00000\n\x01d D 1.1 21/03/04 05:06:07 ann 1 0\n\x01m 7\n\x01c date and time created 21/03/04 05:06:07 by ann\n\x01e\n\x01u\nbob\n\x01U\n\x01f b\n\x01f v\n\x01t\n\x01T\n\x01I 1\none\ntwo %I%\n\x01E 1\n";
+
+const STOPS: [Stop<'static>; 9] = [
     Stop {
         line: b"admin -i s.a",
         time: b"05:06:07",
@@ -53,6 +57,21 @@ const STOPS: [Stop<'static>; 8] = [
         },
         new: Pair {
             s_file: Some(TWO_LINES),
+            p_file: None,
+        },
+        g_file: None,
+        locked: false,
+    },
+    Stop {
+        line: b"admin -i -abob -fb -fv -m7 s.a",
+        time: b"05:06:07",
+        input: b"one\ntwo %I%",
+        old: Pair {
+            s_file: None,
+            p_file: None,
+        },
+        new: Pair {
+            s_file: Some(WITH_ALL),
             p_file: None,
         },
         g_file: None,

@@ -1,4 +1,4 @@
-use Rattle.std.proofs.Common.{◌++◌, append_assoc, refl, subst}
+use Rattle.std.proofs.Common.{◌++◌, refl}
 use Rattle.sccs_base.specs.Cut.{text_of}
 use Rattle.std.specs.Str.{bytes_eq}
 use Rattle.sccs_base.specs.Name.{x_file}

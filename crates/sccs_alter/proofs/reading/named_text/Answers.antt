@@ -1,6 +1,6 @@
 use Rattle.std.proofs.Common.{Err, subst}
 use Rattle.sccs_disk.specs.Told.{seen}
-use Rattle.sccs_admin.specs.AdminStep.{ReadsNamed}
+use Rattle.sccs_admin.specs.Parts.{ReadsNamed}
 use Rattle.sccs_alter.proofs.ReadLaws.{named_found, named_missing, named_too_long}
 use Rattle.sccs_alter.proofs.reading.named_text.Goals as goal
 

@@ -1,11 +1,16 @@
+use Rattle.std.proofs.lemmas.Result.{err_from_is_err_and}
 use Rattle.sccs_delta.proofs.PrepareLaws.{no_entry, no_orders}
 use Rattle.sccs_delta.proofs.entries.read_asked.Goals as goal
 
-pub returns-in-Err-clause-value : goal.returns-in-Err-clause-value
-returns-in-Err-clause-value c = no_entry c.args.words.now c.args.stamp.now c.args.pending.now.front.header c.args.pending.now.edits c.args.script.now c.in-Err.fault c.in-Err.ensures.value
+pub returns-in_err-chosen-clause-value : goal.returns-in_err-chosen-clause-value
+returns-in_err-chosen-clause-value c =
+    let p = err_from_is_err_and c.from_residual.result c.from_residual.ensures.1 in
+    rw (p.1, p.2) (no_entry c.args.words.now c.args.stamp.now c.args.pending.now.front.header c.args.pending.now.edits c.args.script.now c.in_err-chosen.field-0.0 c.in_err-chosen.ensures.value)
 
-pub returns-in-Ok-orders_of-clause-value : goal.returns-in-Ok-orders_of-clause-value
-returns-in-Ok-orders_of-clause-value c = (c.in-Ok.ensures.value, c.in-Ok-orders_of.ensures.value)
+pub returns-clause-value : goal.returns-clause-value
+returns-clause-value c = (c.in_ok-chosen.ensures.value, c.in_ok-script.ensures.value)
 
-pub returns-in-Err-orders_of-clause-value : goal.returns-in-Err-orders_of-clause-value
-returns-in-Err-orders_of-clause-value c = no_orders c.args.words.now c.args.stamp.now c.args.pending.now.front.header c.args.pending.now.edits c.args.script.now c.in-Ok.chosen c.in-Err-orders_of.fault c.in-Ok.ensures.value c.in-Err-orders_of.ensures.value
+pub returns-in_err-script-clause-value : goal.returns-in_err-script-clause-value
+returns-in_err-script-clause-value c =
+    let p = err_from_is_err_and c.from_residual-in_err-script.result c.from_residual-in_err-script.ensures.1 in
+    rw (p.1, p.2) (no_orders c.args.words.now c.args.stamp.now c.args.pending.now.front.header c.args.pending.now.edits c.args.script.now c.in_ok-chosen.chosen c.in_err-script.field-0.0 c.in_ok-chosen.ensures.value c.in_err-script.ensures.value)

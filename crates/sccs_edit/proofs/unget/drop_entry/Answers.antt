@@ -15,8 +15,8 @@ prepare_entries-requires-clause-edits g c = subst (λ (edits : List Edit). All I
 pub returns-in_default-clause-touches : goal.returns-in_default-clause-touches
 returns-in_default-clause-touches g c = same_touches (bytes_eq (q_file c.args.name.now)) _ _ refl
 
-pub returns-in-Err-clause-touches : goal.returns-in-Err-clause-touches
-returns-in-Err-clause-touches g c = same_touches (bytes_eq (q_file c.args.name.now)) _ _ c.remove_g.ensures.frame.same
+pub returns-in_err-new_g-clause-touches : goal.returns-in_err-new_g-clause-touches
+returns-in_err-new_g-clause-touches g c = same_touches (bytes_eq (q_file c.args.name.now)) _ _ c.remove_g.ensures.frame.same
 
 pub returns-in-Ok-prepare_entries-clause-firm : goal.returns-in-Ok-prepare_entries-clause-firm
 returns-in-Ok-prepare_entries-clause-firm g c = entries_firm c.args.name.now _ _ (g.D.Disk.told c.remove_g.new.disk) _ c.remove_g.ensures.frame.same refl c.in-Ok-prepare_entries.ensures.firm

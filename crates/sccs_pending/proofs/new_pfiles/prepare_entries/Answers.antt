@@ -10,11 +10,11 @@ use Rattle.sccs_pending.proofs.new_pfiles.prepare_entries.Goals as goal
 pub returns-then-len-eq0-clause-entries : goal.returns-then-len-eq0-clause-entries
 returns-then-len-eq0-clause-entries g c = none_chosen c.args.name.now c.args.edits.now _ (sym c.len.ensures ∙ c.if-len-eq0.true)
 
-pub returns-in-Ok-clause-entries : goal.returns-in-Ok-clause-entries
-returns-in-Ok-clause-entries g c = some_chosen c.args.name.now c.args.edits.now _ (g.D.Disk.told c.prepare_p.new.disk) (λ none. c.if-len-eq0.false (c.len.ensures ∙ none)) c.in-Ok.ensures.view
+pub returns-clause-entries : goal.returns-clause-entries
+returns-clause-entries g c = some_chosen c.args.name.now c.args.edits.now _ (g.D.Disk.told c.prepare_p.new.disk) (λ none. c.if-len-eq0.false (c.len.ensures ∙ none)) c.in_ok-prepare_p.ensures.view
 
-pub returns-in-Ok-clause-moves : goal.returns-in-Ok-clause-moves
-returns-in-Ok-clause-moves g c = made_moves (q_file c.args.name.now) (written_pfile c.args.edits.now) _ _ c.in-Ok.ensures.view
+pub returns-clause-moves : goal.returns-clause-moves
+returns-clause-moves g c = made_moves (q_file c.args.name.now) (written_pfile c.args.edits.now) _ _ c.in_ok-prepare_p.ensures.view
 
 pub returns-then-len-eq0-clause-touches : goal.returns-then-len-eq0-clause-touches
 returns-then-len-eq0-clause-touches g c = same_touches (bytes_eq (q_file c.args.name.now)) _ _ refl

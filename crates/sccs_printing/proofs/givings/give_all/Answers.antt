@@ -3,7 +3,7 @@ use Rattle.sccs_disk.specs.Told.{seen}
 use Rattle.sccs_table.specs.ReaderState.{bytes_in}
 use Rattle.sccs_versions.specs.Place.{name_of}
 use Rattle.sccs_printing.specs.Giving.{GivesMore, ReadsMore}
-use Rattle.sccs_printing.specs.Targets.{file_of, got}
+use Rattle.sccs_printing.specs.Targets.{file_of, target_bytes}
 use Rattle.sccs_printing.proofs.GivingLaws.{keeps_both, keeps_same, moved_none, some_none}
 use Rattle.sccs_printing.proofs.TurnLaws.{mark_none, mark_on, reach_on, reaches_none, still_read, turn_cut, turn_end, turn_moved, turn_read, turn_whole}
 use Rattle.sccs_printing.proofs.givings.give_all.Goals as goal
@@ -17,8 +17,8 @@ lines-init g c = record {
   out_later = search rules;
   name = refl;
   set = refl;
-  read = λ live before h. some_none live c.args.version.now before c.args.giving.now (got (file_of c.args.giving.now.target) (g.O.Sink.given c.args.out.now) (g.D.Disk.told c.args.disk.now)) h;
-  moved = λ file lines told p. moved_none file c.args.version.now lines c.args.giving.now (got (file_of c.args.giving.now.target) (g.O.Sink.given c.args.out.now) (g.D.Disk.told c.args.disk.now)) p;
+  read = λ live before h. some_none live c.args.version.now before c.args.giving.now (target_bytes (file_of c.args.giving.now.target) (g.O.Sink.given c.args.out.now) (g.D.Disk.told c.args.disk.now)) h;
+  moved = λ file lines told p. moved_none file c.args.version.now lines c.args.giving.now (target_bytes (file_of c.args.giving.now.target) (g.O.Sink.given c.args.out.now) (g.D.Disk.told c.args.disk.now)) p;
 }
 
 pub returns-in-Err-clause-frame : goal.returns-in-Err-clause-frame
@@ -52,13 +52,13 @@ lines-preserved g c =
           let some = c.lines.invariant.read live before h in
           let run = turn_read c.args.giving.now c.lines.giving c.lines.invariant.keeps live c.lines.version c.give_run.new.version before c.give_run.new.giving (g.O.Sink.given c.args.out.now) (g.O.Sink.given c.lines.out) (g.O.Sink.given c.give_run.new.out) (g.D.Disk.told c.args.disk.now) (g.D.Disk.told c.lines.disk) (g.D.Disk.told c.give_run.new.disk) c.in-Ok.ensures.version.set some (c.in-Ok.ensures.read live some.items some.read) in
           turn_read c.args.giving.now c.give_run.new.giving keeps live c.give_run.new.version c.give_next.new.version before c.give_next.new.giving (g.O.Sink.given c.args.out.now) (g.O.Sink.given c.give_run.new.out) (g.O.Sink.given c.give_next.new.out) (g.D.Disk.told c.args.disk.now) (g.D.Disk.told c.give_run.new.disk) (g.D.Disk.told c.give_next.new.disk) c.in-Ok-true.ensures.version.set run
-          (subst (λ more. ReadsMore live c.give_next.new.version run.items (Ok more) c.give_run.new.giving c.give_next.new.giving (got (file_of c.give_run.new.giving.target) (g.O.Sink.given c.give_run.new.out) (g.D.Disk.told c.give_run.new.disk)) (got (file_of c.give_run.new.giving.target) (g.O.Sink.given c.give_next.new.out) (g.D.Disk.told c.give_next.new.disk))) c.in-Ok-true.field-0-test (c.in-Ok-true.ensures.read live run.items run.read));
+          (subst (λ more. ReadsMore live c.give_next.new.version run.items (Ok more) c.give_run.new.giving c.give_next.new.giving (target_bytes (file_of c.give_run.new.giving.target) (g.O.Sink.given c.give_run.new.out) (g.D.Disk.told c.give_run.new.disk)) (target_bytes (file_of c.give_run.new.giving.target) (g.O.Sink.given c.give_next.new.out) (g.D.Disk.told c.give_next.new.disk))) c.in-Ok-true.field-0-test (c.in-Ok-true.ensures.read live run.items run.read));
       moved = λ file lines told p.
           let here = ap (bytes_in (seen (g.D.Disk.told c.give_run.new.disk))) (c.in-Ok.ensures.version.name ∙ c.lines.invariant.name) ∙ still_read (file_of c.args.giving.now.target) (name_of c.args.version.now) file (g.O.Sink.given c.args.out.now) (g.O.Sink.given c.give_run.new.out) (g.D.Disk.told c.args.disk.now) (g.D.Disk.told c.give_run.new.disk) c.requires.apart reach told in
           let m = c.lines.invariant.moved file lines told p in
           let run = turn_moved c.args.giving.now c.lines.giving c.lines.invariant.keeps file c.lines.version c.give_run.new.version lines c.give_run.new.giving (g.O.Sink.given c.args.out.now) (g.O.Sink.given c.lines.out) (g.O.Sink.given c.give_run.new.out) (g.D.Disk.told c.args.disk.now) (g.D.Disk.told c.lines.disk) (g.D.Disk.told c.give_run.new.disk) m (c.in-Ok.ensures.gives file m.rest m.on) in
           turn_moved c.args.giving.now c.give_run.new.giving keeps file c.give_run.new.version c.give_next.new.version lines c.give_next.new.giving (g.O.Sink.given c.args.out.now) (g.O.Sink.given c.give_run.new.out) (g.O.Sink.given c.give_next.new.out) (g.D.Disk.told c.args.disk.now) (g.D.Disk.told c.give_run.new.disk) (g.D.Disk.told c.give_next.new.disk) run
-          (subst (λ more. GivesMore file c.give_next.new.version run.rest (Ok more) c.give_run.new.giving c.give_next.new.giving (got (file_of c.give_run.new.giving.target) (g.O.Sink.given c.give_run.new.out) (g.D.Disk.told c.give_run.new.disk)) (got (file_of c.give_run.new.giving.target) (g.O.Sink.given c.give_next.new.out) (g.D.Disk.told c.give_next.new.disk))) c.in-Ok-true.field-0-test (c.in-Ok-true.ensures.gives file run.rest here run.on));
+          (subst (λ more. GivesMore file c.give_next.new.version run.rest (Ok more) c.give_run.new.giving c.give_next.new.giving (target_bytes (file_of c.give_run.new.giving.target) (g.O.Sink.given c.give_run.new.out) (g.D.Disk.told c.give_run.new.disk)) (target_bytes (file_of c.give_run.new.giving.target) (g.O.Sink.given c.give_next.new.out) (g.D.Disk.told c.give_next.new.disk))) c.in-Ok-true.field-0-test (c.in-Ok-true.ensures.gives file run.rest here run.on));
     }
 
 pub returns-in-Ok-false-clause-frame : goal.returns-in-Ok-false-clause-frame
@@ -81,7 +81,7 @@ returns-in-Ok-false-clause-gives g c = λ file lines told p.
     let m = c.lines.invariant.moved file lines told p in
     let run = turn_moved c.args.giving.now c.lines.giving c.lines.invariant.keeps file c.lines.version c.give_run.new.version lines c.give_run.new.giving (g.O.Sink.given c.args.out.now) (g.O.Sink.given c.lines.out) (g.O.Sink.given c.give_run.new.out) (g.D.Disk.told c.args.disk.now) (g.D.Disk.told c.lines.disk) (g.D.Disk.told c.give_run.new.disk) m (c.in-Ok.ensures.gives file m.rest m.on) in
     turn_end c.args.giving.now c.give_run.new.giving keeps file c.give_run.new.version lines c.give_next.new.giving (g.O.Sink.given c.args.out.now) (g.O.Sink.given c.give_run.new.out) (g.O.Sink.given c.give_next.new.out) (g.D.Disk.told c.args.disk.now) (g.D.Disk.told c.give_run.new.disk) (g.D.Disk.told c.give_next.new.disk) run
-    (subst (λ more. GivesMore file c.give_next.new.version run.rest (Ok more) c.give_run.new.giving c.give_next.new.giving (got (file_of c.give_run.new.giving.target) (g.O.Sink.given c.give_run.new.out) (g.D.Disk.told c.give_run.new.disk)) (got (file_of c.give_run.new.giving.target) (g.O.Sink.given c.give_next.new.out) (g.D.Disk.told c.give_next.new.disk))) c.in-Ok-false.field-0-test (c.in-Ok-false.ensures.gives file run.rest here run.on))
+    (subst (λ more. GivesMore file c.give_next.new.version run.rest (Ok more) c.give_run.new.giving c.give_next.new.giving (target_bytes (file_of c.give_run.new.giving.target) (g.O.Sink.given c.give_run.new.out) (g.D.Disk.told c.give_run.new.disk)) (target_bytes (file_of c.give_run.new.giving.target) (g.O.Sink.given c.give_next.new.out) (g.D.Disk.told c.give_next.new.disk))) c.in-Ok-false.field-0-test (c.in-Ok-false.ensures.gives file run.rest here run.on))
 
 pub returns-in-Ok-false-clause-read : goal.returns-in-Ok-false-clause-read
 returns-in-Ok-false-clause-read g c = λ live before h.
@@ -89,7 +89,7 @@ returns-in-Ok-false-clause-read g c = λ live before h.
     let some = c.lines.invariant.read live before h in
     let run = turn_read c.args.giving.now c.lines.giving c.lines.invariant.keeps live c.lines.version c.give_run.new.version before c.give_run.new.giving (g.O.Sink.given c.args.out.now) (g.O.Sink.given c.lines.out) (g.O.Sink.given c.give_run.new.out) (g.D.Disk.told c.args.disk.now) (g.D.Disk.told c.lines.disk) (g.D.Disk.told c.give_run.new.disk) c.in-Ok.ensures.version.set some (c.in-Ok.ensures.read live some.items some.read) in
     turn_whole c.args.giving.now c.give_run.new.giving keeps live c.args.version.now.set c.give_run.new.version c.give_next.new.version before c.give_next.new.giving (g.O.Sink.given c.args.out.now) (g.O.Sink.given c.give_run.new.out) (g.O.Sink.given c.give_next.new.out) (g.D.Disk.told c.args.disk.now) (g.D.Disk.told c.give_run.new.disk) (g.D.Disk.told c.give_next.new.disk) (c.in-Ok-false.ensures.version.set ∙ (c.in-Ok.ensures.version.set ∙ c.lines.invariant.set)) c.in-Ok-false.ensures.version.set run
-    (subst (λ more. ReadsMore live c.give_next.new.version run.items (Ok more) c.give_run.new.giving c.give_next.new.giving (got (file_of c.give_run.new.giving.target) (g.O.Sink.given c.give_run.new.out) (g.D.Disk.told c.give_run.new.disk)) (got (file_of c.give_run.new.giving.target) (g.O.Sink.given c.give_next.new.out) (g.D.Disk.told c.give_next.new.disk))) c.in-Ok-false.field-0-test (c.in-Ok-false.ensures.read live run.items run.read))
+    (subst (λ more. ReadsMore live c.give_next.new.version run.items (Ok more) c.give_run.new.giving c.give_next.new.giving (target_bytes (file_of c.give_run.new.giving.target) (g.O.Sink.given c.give_run.new.out) (g.D.Disk.told c.give_run.new.disk)) (target_bytes (file_of c.give_run.new.giving.target) (g.O.Sink.given c.give_next.new.out) (g.D.Disk.told c.give_next.new.disk))) c.in-Ok-false.field-0-test (c.in-Ok-false.ensures.read live run.items run.read))
 
 pub returns-in-Err-give_next-clause-frame : goal.returns-in-Err-give_next-clause-frame
 returns-in-Err-give_next-clause-frame g c = record {

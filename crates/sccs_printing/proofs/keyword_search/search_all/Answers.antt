@@ -2,7 +2,7 @@ use Rattle.std.proofs.Common.{Ok, ◌||◌, ap, arith, subst, ◌∙◌}
 use Rattle.sccs_disk.specs.Told.{seen}
 use Rattle.sccs_table.specs.ReaderState.{bytes_in}
 use Rattle.sccs_versions.specs.Place.{name_of}
-use Rattle.sccs_printing.specs.Searching.{SearchesNext}
+use Rattle.sccs_printing.specs.Searching.{SearchesNextLine}
 use Rattle.sccs_printing.proofs.SearchLaws.{all_searched, searched_both}
 use Rattle.sccs_printing.proofs.WholeLaws.{fault_causes, quiet_causes}
 use Rattle.sccs_printing.proofs.keyword_search.search_all.Goals as goal
@@ -17,7 +17,7 @@ lines-preserved g c = record {
       let run = searched_both file c.lines.version c.search_run-run.new.version lines c.lines.found c.search_run-run.result s (c.search_run-run.ensures.told file s.rest s.on) in
       let here = ap (λ t. bytes_in (seen t) (name_of c.search_run-run.new.version)) c.lines.invariant.same ∙ (ap (bytes_in (seen (g.D.Disk.told c.args.disk.now))) (c.search_run-run.ensures.name ∙ c.lines.invariant.name) ∙ told) in
       searched_both file c.search_run-run.new.version c.search_next.new.version lines (c.lines.found || c.search_run-run.result) c.in-Ok-Some.some run
-      (subst (λ o. SearchesNext file c.search_next.new.version run.rest (Ok o)) c.in-Ok-Some.field-0-is (c.in-Ok-Some.ensures.told file run.rest here run.on));
+      (subst (λ o. SearchesNextLine file c.search_next.new.version run.rest (Ok o)) c.in-Ok-Some.field-0-is (c.in-Ok-Some.ensures.told file run.rest here run.on));
 }
 
 pub returns-in-Ok-None-clause-causes : goal.returns-in-Ok-None-clause-causes
@@ -29,7 +29,7 @@ returns-in-Ok-None-clause-told g c = λ file lines told p.
     let run = searched_both file c.lines.version c.search_run-run.new.version lines c.lines.found c.search_run-run.result s (c.search_run-run.ensures.told file s.rest s.on) in
     let here = ap (λ t. bytes_in (seen t) (name_of c.search_run-run.new.version)) c.lines.invariant.same ∙ (ap (bytes_in (seen (g.D.Disk.told c.args.disk.now))) (c.search_run-run.ensures.name ∙ c.lines.invariant.name) ∙ told) in
     all_searched file c.search_run-run.new.version lines (c.lines.found || c.search_run-run.result) run
-    (subst (λ o. SearchesNext file c.search_next.new.version run.rest (Ok o)) c.in-Ok-None.field-0-is (c.in-Ok-None.ensures.told file run.rest here run.on))
+    (subst (λ o. SearchesNextLine file c.search_next.new.version run.rest (Ok o)) c.in-Ok-None.field-0-is (c.in-Ok-None.ensures.told file run.rest here run.on))
 
 pub returns-in-Err-clause-causes : goal.returns-in-Err-clause-causes
 returns-in-Err-clause-causes g c = λ out. fault_causes c.in-Err.fault out _ _ _ c.lines.invariant.later (c.in-Err.ensures.causes out)

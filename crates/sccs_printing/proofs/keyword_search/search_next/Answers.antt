@@ -3,7 +3,7 @@ use Rattle.std.specs.List.{list_any}
 use Rattle.sccs_keys.specs.Keywords.{is_keyword, parts}
 use Rattle.sccs_versions.specs.Coming.{GivesNext}
 use Rattle.sccs_versions.specs.declared.readers.Next.{Next}
-use Rattle.sccs_printing.specs.Printing.{IsOuterFault}
+use Rattle.sccs_printing.specs.Printing.{IsFaultAroundPrint}
 use Rattle.std.proofs.Common.{sym}
 use Rattle.sccs_printing.proofs.GivingLaws.{next_fault}
 use Rattle.sccs_printing.proofs.SearchLaws.{line_searched, searched_none}
@@ -22,4 +22,4 @@ pub returns-in-Ok-End-clause-told : goal.returns-in-Ok-End-clause-told
 returns-in-Ok-End-clause-told g c = λ file lines told p. subst (λ (n : Next). GivesNext file c.next.new.self lines (Ok n)) c.in-Ok-End.field-0-is (c.in-Ok-End.ensures.told file lines told p)
 
 pub returns-in-Err-clause-told : goal.returns-in-Err-clause-told
-returns-in-Err-clause-told g c = λ file lines told p. subst IsOuterFault (sym c.from.ensures) (next_fault file c.next.new.self lines c.in-Err.fault (c.in-Err.ensures.told file lines told p))
+returns-in-Err-clause-told g c = λ file lines told p. subst IsFaultAroundPrint (sym c.from.ensures) (next_fault file c.next.new.self lines c.in-Err.fault (c.in-Err.ensures.told file lines told p))

@@ -1,7 +1,7 @@
 use Rattle.std.proofs.Common.{◌≡◌, drop}
-use Rattle.sccs_rules.specs.Flags.{in_turn, set_word}
+use Rattle.sccs_rules.specs.Flags.{by_words, set_word}
 use Rattle.sccs_rules.proofs.flag_changes.set_words.Given as goal
 
 -- the words that are left make all of what is there
 abbrev pub invariant-loop-word : goal.invariant-loop-word
-invariant-loop-word l = in_turn set_word l.flags (drop l.word-index l.words) ≡ in_turn set_word l.fn.flags l.words
+invariant-loop-word l = by_words set_word l.flags (drop l.word-index l.words) ≡ by_words set_word l.fn.flags l.words

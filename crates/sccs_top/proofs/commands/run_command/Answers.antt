@@ -23,6 +23,12 @@ returns-in-Alter-clause-run g c =
     (setting g.I.Source g.O.Sink g.E.Sink g.D.Disk c.args.streams.now) (setting g.I.Source g.O.Sink g.E.Sink g.D.Disk c.run_listed-in-Alter.new.streams)
     c.in-Alter.ensures c.list_operands-operands.ensures c.run_listed-in-Alter.ensures.run
 
+pub returns-in-Check-clause-run : goal.returns-in-Check-clause-run
+returns-in-Check-clause-run g c =
+    runs_as (action_in (known.Check c.in-Check.utility)) (action_of (caller c.args.stamp.now c.args.place.now) c.args.command.now) (words_of c.list_operands-operands.result) (operands_of c.args.command.now) c.run_listed-in-Check.result
+    (setting g.I.Source g.O.Sink g.E.Sink g.D.Disk c.args.streams.now) (setting g.I.Source g.O.Sink g.E.Sink g.D.Disk c.run_listed-in-Check.new.streams)
+    c.in-Check.ensures c.list_operands-operands.ensures c.run_listed-in-Check.ensures.run
+
 pub returns-in-Reserve-clause-run : goal.returns-in-Reserve-clause-run
 returns-in-Reserve-clause-run g c =
     runs_as (action_in (known.Reserve c.in-Reserve.utility)) (action_of (caller c.args.stamp.now c.args.place.now) c.args.command.now) (words_of c.list_operands-operands.result) (operands_of c.args.command.now) c.run_listed-in-Reserve.result

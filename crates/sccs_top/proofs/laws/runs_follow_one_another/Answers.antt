@@ -1,4 +1,5 @@
-use Rattle.sccs_top.proofs.FollowingLaws.{may_follow, still_safe, stops_followed}
+use Rattle.sccs_courses.proofs.Portions.{safe_later}
+use Rattle.sccs_top.proofs.FollowingLaws.{may_follow, stops_followed}
 use Rattle.sccs_top.proofs.laws.runs_follow_one_another.Goals as goal
 
 pub returns-clause-ended : goal.returns-clause-ended
@@ -8,4 +9,4 @@ pub returns-clause-stopped : goal.returns-clause-stopped
 returns-clause-stopped c = stops_followed
 
 pub returns-clause-safe : goal.returns-clause-safe
-returns-clause-safe c = still_safe
+returns-clause-safe c = safe_later

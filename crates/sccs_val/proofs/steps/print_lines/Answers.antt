@@ -1,7 +1,7 @@
 use Rattle.std.proofs.Common.{◌∙◌, Ok, Err, ap, arith, refl, subst}
 use Rattle.sccs_base.specs.Stream.{GivesOk, GivesSome}
 use Rattle.sccs_disk.specs.Told.{seen}
-use Rattle.sccs_val.specs.Reports.{line_status, line_text, lines_status, lines_text}
+use Rattle.sccs_val.specs.Reports.{line_status, line_text, lines_status, val_lines_text}
 use Rattle.sccs_val.specs.ValStep.{PrintsStatus}
 use Rattle.sccs_val.proofs.JudgingLaws.{causes_both, given_causes, if_told, told_at}
 use Rattle.sccs_val.proofs.LineLaws.{printed_all, printed_cut, printed_more, printed_none}
@@ -26,7 +26,7 @@ loop-line-preserved g c =
 pub returns-in-Err-clause-told : goal.returns-in-Err-clause-told
 returns-in-Err-clause-told g c =
     let n = c.bytes.result.now in
-    if_told (λ v. PrintsStatus (lines_text v c.args.lines.now) (lines_status v c.args.lines.now) (Err c.in-Err.fault) (g.O.Sink.given c.args.out.now) (g.O.Sink.given c.print_line.new.out)) (seen (g.D.Disk.told c.args.disk.now))
+    if_told (λ v. PrintsStatus (val_lines_text v c.args.lines.now) (lines_status v c.args.lines.now) (Err c.in-Err.fault) (g.O.Sink.given c.args.out.now) (g.O.Sink.given c.print_line.new.out)) (seen (g.D.Disk.told c.args.disk.now))
     (λ v is.
     let here = told_at (λ v. PrintsStatus (line_text v n) (line_status v n) (Err c.in-Err.fault) (g.O.Sink.given c.loop-line.out) (g.O.Sink.given c.print_line.new.out)) (seen (g.D.Disk.told c.loop-line.disk)) v (ap seen c.loop-line.invariant.same ∙ is) c.in-Err.ensures.told in
     printed_cut (line_text v) (line_status v) c.args.lines.now c.loop-line.line-index c.loop-line.status c.line-item.result (g.O.Sink.given c.args.out.now) (g.O.Sink.given c.loop-line.out) (g.O.Sink.given c.print_line.new.out)
@@ -40,7 +40,7 @@ returns-in-Err-clause-causes g c = causes_both c.in-Err.fault _ (g.O.Sink.faults
 
 pub returns-clause-told : goal.returns-clause-told
 returns-clause-told g c =
-    if_told (λ v. PrintsStatus (lines_text v c.args.lines.now) (lines_status v c.args.lines.now) (Ok c.loop-line.status) (g.O.Sink.given c.args.out.now) (g.O.Sink.given c.loop-line.out)) (seen (g.D.Disk.told c.args.disk.now))
+    if_told (λ v. PrintsStatus (val_lines_text v c.args.lines.now) (lines_status v c.args.lines.now) (Ok c.loop-line.status) (g.O.Sink.given c.args.out.now) (g.O.Sink.given c.loop-line.out)) (seen (g.D.Disk.told c.args.disk.now))
     (λ v is. printed_all (line_text v) (line_status v) c.args.lines.now c.loop-line.line-index c.loop-line.status _ _ c.loop-line-test.false (c.loop-line.invariant.so_far v is))
 
 pub returns-clause-causes : goal.returns-clause-causes

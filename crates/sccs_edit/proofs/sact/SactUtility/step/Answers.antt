@@ -1,3 +1,4 @@
+use Rattle.std.proofs.lemmas.Result.{err_from_is_err_and}
 use Rattle.std.proofs.Common.{Err, refl}
 use Rattle.sccs_steps.specs.Calls.{scene}
 use Rattle.sccs_steps.proofs.ReadingMoments.{reading_moments}
@@ -11,34 +12,39 @@ use Rattle.sccs_edit.proofs.sact.SactUtility.step.Goals as goal
 pub find_edits-requires : goal.find_edits-requires
 find_edits-requires g c = is_sfile c.args.name.now c.requires
 
-pub returns-in-Ok-clause-step : goal.returns-in-Ok-clause-step
-returns-in-Ok-clause-step g c =
-    shown_steps c.args.self.now.heading c.args.name.now c.in-Ok.edits c.show.result (g.D.Disk.told c.args.disk.now) (g.D.Disk.told c.find_edits.new.disk) _ _ _ _ _ c.find_edits.ensures.frame.same c.in-Ok.ensures.told c.show.ensures.shows
+pub returns-clause-step : goal.returns-clause-step
+returns-clause-step g c =
+    shown_steps c.args.self.now.heading c.args.name.now c.in_ok-edits.edits c.show.result (g.D.Disk.told c.args.disk.now) (g.D.Disk.told c.find_edits.new.disk) _ _ _ _ _ c.find_edits.ensures.frame.same c.in_ok-edits.ensures.told c.show.ensures.shows
 
-pub returns-in-Ok-clause-speaks : goal.returns-in-Ok-clause-speaks
-returns-in-Ok-clause-speaks g c = shown_speaks c.args.self.now.heading c.args.name.now c.in-Ok.edits c.show.result _ _ _ _ c.show.ensures.shows
+pub returns-clause-speaks : goal.returns-clause-speaks
+returns-clause-speaks g c = shown_speaks c.args.self.now.heading c.args.name.now c.in_ok-edits.edits c.show.result _ _ _ _ c.show.ensures.shows
 
-pub returns-in-Ok-clause-causes : goal.returns-in-Ok-clause-causes
-returns-in-Ok-clause-causes g c = shown_causes c.show.result _ _ _ _ _ _ _ c.find_edits.ensures.frame.later c.show.ensures.causes
+pub returns-clause-causes : goal.returns-clause-causes
+returns-clause-causes g c = shown_causes c.show.result _ _ _ _ _ _ _ c.find_edits.ensures.frame.later c.show.ensures.causes
 
-pub returns-in-Err-clause-step : goal.returns-in-Err-clause-step
-returns-in-Err-clause-step g c = unread_steps c.args.self.now.heading c.args.name.now c.in-Err.fault (g.D.Disk.told c.args.disk.now) (g.D.Disk.told c.find_edits.new.disk) _ _ _ c.find_edits.ensures.frame.same c.in-Err.ensures.told
+pub returns-in_err-edits-clause-step : goal.returns-in_err-edits-clause-step
+returns-in_err-edits-clause-step g c =
+    let p = err_from_is_err_and c.from_residual.result c.from_residual.ensures.1 in
+    rw (p.1, p.2) (unread_steps c.args.self.now.heading c.args.name.now c.in_err-edits.field-0.0 (g.D.Disk.told c.args.disk.now) (g.D.Disk.told c.find_edits.new.disk) _ _ _ c.find_edits.ensures.frame.same c.in_err-edits.ensures.told)
 
-pub returns-in-Err-clause-speaks : goal.returns-in-Err-clause-speaks
-returns-in-Err-clause-speaks g c = unread_speaks c.in-Err.fault c.args.name.now _ (within_err sact_checks c.in-Err.fault c.in-Err.ensures.checks)
+pub returns-in_err-edits-clause-speaks : goal.returns-in_err-edits-clause-speaks
+returns-in_err-edits-clause-speaks g c =
+    let p = err_from_is_err_and c.from_residual.result c.from_residual.ensures.1 in
+    rw (p.1, p.2) (unread_speaks c.in_err-edits.field-0.0 c.args.name.now _ (within_err sact_checks c.in_err-edits.field-0.0 c.in_err-edits.ensures.checks))
 
-pub returns-in-Ok-clause-moments : goal.returns-in-Ok-clause-moments
-returns-in-Ok-clause-moments g c =
+pub returns-clause-moments : goal.returns-clause-moments
+returns-clause-moments g c =
     reading_moments (sact_action c.args.self.now.heading) c.show.result c.args.name.now (g.I.Source.left c.args._input.now) (scene (g.D.Disk.told c.args.disk.now) (g.O.Sink.given c.args.out.now) (g.E.Sink.given c.args.err.now)) (scene (g.D.Disk.told c.find_edits.new.disk) (g.O.Sink.given c.show.new.out) (g.E.Sink.given c.show.new.err))
-    (sact_keeps c.args.self.now.heading) refl c.find_edits.ensures.frame.same (returns-in-Ok-clause-step g c)
+    (sact_keeps c.args.self.now.heading) refl c.find_edits.ensures.frame.same (returns-clause-step g c)
 
-pub returns-in-Err-clause-moments : goal.returns-in-Err-clause-moments
-returns-in-Err-clause-moments g c =
-    reading_moments (sact_action c.args.self.now.heading) (Err c.in-Err.fault) c.args.name.now (g.I.Source.left c.args._input.now) (scene (g.D.Disk.told c.args.disk.now) (g.O.Sink.given c.args.out.now) (g.E.Sink.given c.args.err.now)) (scene (g.D.Disk.told c.find_edits.new.disk) (g.O.Sink.given c.args.out.now) (g.E.Sink.given c.args.err.now))
-    (sact_keeps c.args.self.now.heading) refl c.find_edits.ensures.frame.same (returns-in-Err-clause-step g c)
+pub returns-in_err-edits-clause-moments : goal.returns-in_err-edits-clause-moments
+returns-in_err-edits-clause-moments g c =
+    reading_moments (sact_action c.args.self.now.heading) c.from_residual.result c.args.name.now (g.I.Source.left c.args._input.now) (scene (g.D.Disk.told c.args.disk.now) (g.O.Sink.given c.args.out.now) (g.E.Sink.given c.args.err.now)) (scene (g.D.Disk.told c.find_edits.new.disk) (g.O.Sink.given c.args.out.now) (g.E.Sink.given c.args.err.now))
+    (sact_keeps c.args.self.now.heading) refl c.find_edits.ensures.frame.same (returns-in_err-edits-clause-step g c)
 
-pub returns-in-Ok-clause-unlocked : goal.returns-in-Ok-clause-unlocked
-returns-in-Ok-clause-unlocked g c = unlocked_reading (sact_action c.args.self.now.heading) c.args.name.now _ _ c.find_edits.ensures.frame.same
+pub returns-clause-unlocked : goal.returns-clause-unlocked
+returns-clause-unlocked g c = unlocked_reading (sact_action c.args.self.now.heading) c.args.name.now _ _ c.find_edits.ensures.frame.same
 
-pub returns-in-Err-clause-unlocked : goal.returns-in-Err-clause-unlocked
-returns-in-Err-clause-unlocked g c = unlocked_reading (sact_action c.args.self.now.heading) c.args.name.now _ _ c.find_edits.ensures.frame.same
+pub returns-in_err-edits-clause-unlocked : goal.returns-in_err-edits-clause-unlocked
+returns-in_err-edits-clause-unlocked g c =
+    unlocked_reading (sact_action c.args.self.now.heading) c.args.name.now _ _ c.find_edits.ensures.frame.same

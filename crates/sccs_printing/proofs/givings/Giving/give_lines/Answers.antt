@@ -1,6 +1,6 @@
 use Rattle.std.proofs.Common.{◌≡◌, ◌+◌, length, ◌∙◌, arith}
 use Rattle.sccs_base.specs.Cut.{cut}
-use Rattle.sccs_printing.specs.Giving.{form_in}
+use Rattle.sccs_printing.specs.Giving.{giving_form}
 use Rattle.sccs_table.proofs.RunLaws.{lines_are}
 use Rattle.sccs_printing.proofs.GivingLaws.{run_counted}
 use Rattle.sccs_printing.proofs.RunTexts.{unchanged}
@@ -12,7 +12,7 @@ give_formed-requires-clause-few g c =
 
 pub give_formed-requires-clause-same : goal.give_formed-requires-clause-same
 give_formed-requires-clause-same g c = λ neither n.
-    unchanged (form_in c.args.self.now) c.args.self.now.sids (c.args.self.now.shown.lines + 1) n c.args.lines.now c.replaces-replaces.result c.has_prefix.result c.requires.whole c.has_prefix.ensures c.replaces-replaces.ensures neither
+    unchanged (giving_form c.args.self.now) c.args.self.now.sids (c.args.self.now.shown.lines + 1) n c.args.lines.now c.replaces-replaces.result c.has_prefix.result c.requires.whole c.has_prefix.ensures c.replaces-replaces.ensures neither
 
 pub returns-clause-shown : goal.returns-clause-shown
-returns-clause-shown g c = run_counted (form_in c.args.self.now) c.args.self.now.shown c.give_formed.new.self.shown c.args.lines.now c.args.more c.in-Some.count c.replaces-replaces.result c.in_ok-give_formed.ensures.keeps.shown c.requires.whole c.requires.counted c.in-Some.ensures.1 c.replaces-replaces.ensures
+returns-clause-shown g c = run_counted (giving_form c.args.self.now) c.args.self.now.shown c.give_formed.new.self.shown c.args.lines.now c.args.more c.in-Some.count c.replaces-replaces.result c.in_ok-give_formed.ensures.keeps.shown c.requires.whole c.requires.counted c.in-Some.ensures.1 c.replaces-replaces.ensures

@@ -1,0 +1,3 @@
+pub mod BatchCourses
+pub mod BatchTexts
+pub mod EntryCourses

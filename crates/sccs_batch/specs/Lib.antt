@@ -1,0 +1,3 @@
+pub mod BatchLines
+pub mod BatchText
+pub mod Batches

@@ -1,0 +1,48 @@
+ghost use Rattle.std.specs.Prelude.{ℕ, List, Result};
+ghost use Rattle.sccs_disk.specs.Files.{Folder};
+ghost use Rattle.sccs_sid.specs.Moment.{IsMoment};
+ghost use Rattle.sccs_steps.specs.StepLists.{NamedStep};
+ghost use Rattle.sccs_courses.specs.Courses.{AllTake, Courses, portions_of};
+ghost use Rattle.sccs_courses.specs.QuietSettings.{quiet};
+ghost use Rattle.sccs_batch.specs.Batches.{RunsOwn};
+ghost use Rattle.sccs_batch.specs.declared.entries.Entry.{Entry};
+
+use crate::entries::Entry;
+use sccs_base::Sink;
+use sccs_disk::Disk;
+use sccs_steps::Fault;
+use std::alloc::Global;
+
+/// What does single commands.
+pub trait Commands {
+    /// What the command of an entry does, with the entry's input.
+    ghost command: { Self → Entry → Courses };
+
+    /// What is asked of an entry's words.
+    ghost fits: { Self → Entry → Type 0 };
+
+    /// Over any disk: the steps that may come of an entry's command, whole ones with the status.
+    ghost whole: { Self → Entry → ℕ → List NamedStep → Type 0 };
+
+    /// The same of a command that was begun.
+    ghost begun: { Self → Entry → List NamedStep → Type 0 };
+
+    /// What changes files takes the names of s-files alone.
+    ghost takes: { (commands : Self) (entry : Entry) (folder : Folder) (i : List ℕ) → AllTake (portions_of (command commands entry) folder i) };
+
+    /// Some steps may have been begun.
+    ghost might: { (commands : Self) (entry : Entry) → (ts : List NamedStep) × begun commands entry ts };
+
+    /// Does the command of an entry, with the entry's stamp, words and input.
+    fn run<O: Sink, E: Sink, D: Disk>(
+        &self,
+        alloc: Global,
+        entry: &Entry,
+        out: &mut O,
+        err: &mut E,
+        disk: &mut D,
+    ) -> Result<u8, Fault>
+        requires moment { IsMoment entry.now.stamp.moment }
+        ensures { RunsOwn (command self.now entry.now) (fits self.now entry.now) (whole self.now entry.now) (begun self.now entry.now) result
+            (quiet O.Sink E.Sink D.Disk out.old err.old disk.old) (quiet O.Sink E.Sink D.Disk out.new err.new disk.new) };
+}

@@ -1,0 +1,5 @@
+//! Tests of batches.
+#![tactic(auto)]
+
+#[cfg(test)]
+mod tests;

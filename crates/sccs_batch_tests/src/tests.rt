@@ -1,0 +1,3 @@
+mod entries;
+mod faults;
+mod stops;

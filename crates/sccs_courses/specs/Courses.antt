@@ -1,0 +1,126 @@
+-- Courses: the steps of several actions, one after another, and the status that a call answers that makes them all.
+use Rattle.std.specs.Prelude.{◌≡◌, ℕ, zero, suc, Bool, true, false, List, [], ◌∷◌, ◌++◌, None, Err}
+use Rattle.std.specs.List.{AllByRecursion}
+use Rattle.sccs_base.specs.Name.{IsSfile}
+use Rattle.sccs_disk.specs.Files.{Folder, View}
+use Rattle.sccs_sid.specs.declared.refusals.Refusal.TheVariants.{BadName}
+use Rattle.sccs_steps.specs.Actions.{Action, AreClear, steps_at}
+use Rattle.sccs_steps.specs.ListStops.{AreSafe}
+use Rattle.sccs_steps.specs.Running.{Steps}
+use Rattle.sccs_steps.specs.StepLists.{NamedStep, folder_after, status_of}
+use Rattle.sccs_steps.specs.Unlocked.{AreExempt, ArePlain}
+use Rattle.sccs_steps.specs.declared.statuses.StatusRule.TheVariants.{Greatest}
+
+-- The steps of one action.
+pub record Portion : Type 0 where
+  pub by : Action
+  pub steps : List NamedStep
+
+abbrev pub portion : Action → List NamedStep → Portion
+portion x ts = record { by = x; steps = ts }
+
+-- The steps of several actions, each in the folder that those before left, and the status that a call answers that makes them all.
+pub record Course : Type 0 where
+  pub portions : List Portion
+  pub status : ℕ
+
+abbrev pub course_of : List Portion → ℕ → Course
+course_of ps status = record { portions = ps; status = status }
+
+-- those of one action are its own
+abbrev pub steps_in : List Portion → List NamedStep
+steps_in [] = []
+steps_in (p ∷ []) = p.steps
+steps_in (p ∷ q ∷ ps) = p.steps ++ steps_in (q ∷ ps)
+
+-- what is done in a folder, with an input
+abbrev pub Courses : Type 0
+Courses = Folder → List ℕ → Course
+
+abbrev pub portions_of : Courses → Folder → List ℕ → List Portion
+portions_of course folder i = (course folder i).portions
+
+-- the steps of a course in a folder
+abbrev pub steps_along : Courses → Folder → List ℕ → List NamedStep
+steps_along course folder i = steps_in (course folder i).portions
+
+-- ---- courses
+
+-- nothing, with this status
+abbrev pub nothing : ℕ → Courses
+nothing status = λ folder i. course_of [] status
+
+-- in a folder a course is followed by one that its status decides, which goes on in the folder that it left
+abbrev pub and_then : Course → (ℕ → Courses) → Folder → List ℕ → Course
+and_then c rest folder i =
+    let d = rest c.status (folder_after folder (steps_in c.portions)) i in course_of (c.portions ++ d.portions) d.status
+
+abbrev pub follow : Courses → (ℕ → Courses) → Courses
+follow first rest = λ folder i. and_then (first folder i) rest folder i
+
+-- the steps of one action, with the status that its rule gives
+abbrev pub portion_of : Action → Steps → Courses
+portion_of x made = λ folder i. course_of (portion x (made folder i) ∷ []) (status_of x.rule (made folder i))
+
+-- the operands of one action
+abbrev pub command_of : Action → List (List ℕ) → Courses
+command_of x operands = portion_of x (λ folder i. steps_at x folder i operands)
+
+-- a text on out and one on err, as a step that does nothing else
+abbrev pub said : List ℕ → List ℕ → NamedStep
+said out err = record { name = []; effect = record { new = None; text = []; out = out; err = err; status = 0 } }
+
+-- no operand is taken
+abbrev pub no_action : Action
+no_action = record {
+  fits = λ n. false;
+  step = λ n i named files. Err BadName;
+  named = λ n. [];
+  takes = false;
+  reads = true;
+  locks = true;
+  silent = false;
+  rule = Greatest;
+  could = λ o. false;
+}
+
+-- a text is written
+abbrev pub saying : List ℕ → List ℕ → ℕ → Courses
+saying out err status = λ folder i. course_of (portion no_action (said out err ∷ []) ∷ []) status
+
+-- each of several things, whatever the statuses, and then the last course
+abbrev pub one_by_one : {X : Type 0} → (X → Courses) → Courses → List X → Courses
+one_by_one each last [] = last
+one_by_one each last (x ∷ xs) = follow (each x) (λ code. one_by_one each last xs)
+
+-- a course that is followed only where the status was 0; another status stands
+abbrev pub if_fine : Courses → ℕ → Courses
+if_fine rest zero = rest
+if_fine rest (suc code) = nothing (suc code)
+
+-- each of several things as long as the status is 0, and then the last course
+abbrev pub while_fine : {X : Type 0} → (X → Courses) → Courses → List X → Courses
+while_fine each last [] = last
+while_fine each last (x ∷ xs) = follow (each x) (if_fine (while_fine each last xs))
+
+-- ---- premises, of each portion by its own action
+
+abbrev pub AllClear : (List ℕ → Bool) → List Portion → Type 0
+AllClear w ps = AllByRecursion (λ (p : Portion). AreClear p.by w p.steps) ps
+
+abbrev pub AllSafe : View → List Portion → Type 0
+AllSafe v ps = AllByRecursion (λ (p : Portion). AreSafe p.by p.steps v) ps
+
+abbrev pub AllPlain : List Portion → Type 0
+AllPlain ps = AllByRecursion (λ (p : Portion). ArePlain p.by p.steps) ps
+
+-- what changes files takes the names of s-files alone
+abbrev pub TakesSfiles : Action → Type 0
+TakesSfiles x = x.reads ≡ false → (n : List ℕ) → x.fits n ≡ true → IsSfile n
+
+abbrev pub AllTake : List Portion → Type 0
+AllTake ps = AllByRecursion (λ (p : Portion). TakesSfiles p.by) ps
+
+-- the names of steps that don't lock them are exempt
+abbrev pub AllExempt : (List ℕ → Bool) → List Portion → Type 0
+AllExempt exempt ps = AllByRecursion (λ (p : Portion). AreExempt p.by exempt p.steps) ps

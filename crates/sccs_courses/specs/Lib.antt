@@ -1,0 +1,6 @@
+pub mod Courses
+pub mod Following
+pub mod OwnFiles
+pub mod QuietSettings
+pub mod Sayings
+pub mod Tests

@@ -1,0 +1,48 @@
+-- What a call says that follows a course, where the working files are those of the names of its steps.
+use Rattle.std.specs.Prelude.{◌≡◌, ℕ, Bool, true, false, ◌&&◌, ◌||◌, List, [], ◌∷◌, if◌then◌else◌, Result}
+use Rattle.sccs_disk.specs.Files.{Folder, Model, view_in}
+use Rattle.sccs_disk.specs.Told.{Told, Tells, seen}
+use Rattle.sccs_files.specs.StepFiles.{Shows, is_working, nowhere}
+use Rattle.sccs_moments.specs.Calm.{IsCalm}
+use Rattle.sccs_moments.specs.Unlocked.{BeginsUnlockedBut}
+use Rattle.sccs_steps.specs.Actions.{Action}
+use Rattle.sccs_steps.specs.Calls.{Scene, shown}
+use Rattle.sccs_steps.specs.StepLists.{NamedStep}
+use Rattle.sccs_steps.specs.declared.faults.Fault.{Fault}
+use Rattle.sccs_courses.specs.Courses.{AllClear, AllExempt, AllPlain, AllSafe, Courses, Portion, portions_of, steps_along}
+use Rattle.sccs_courses.specs.Following.{CourseMoments, RunsTo}
+
+-- the working files of the names of steps
+abbrev pub working_of : Action → List NamedStep → List ℕ → Bool
+working_of x [] k = false
+working_of x (t ∷ ts) k = (x.fits t.name && is_working t.name k) || working_of x ts k
+
+-- those of the steps of an action; one that only reads has none
+abbrev pub working_by : Portion → List ℕ → Bool
+working_by p = if p.by.reads then nowhere else working_of p.by p.steps
+
+-- those of several actions
+abbrev pub working_in : List Portion → List ℕ → Bool
+working_in [] = nowhere
+working_in (p ∷ []) = working_by p
+working_in (p ∷ q ∷ ps) = λ k. working_by p k || working_in (q ∷ ps) k
+
+abbrev pub working_along : Courses → Folder → List ℕ → List ℕ → Bool
+working_along course folder i = working_in (portions_of course folder i)
+
+-- the input is as it is asked, and the files of the names of steps are apart from the working files of others
+abbrev pub IsGivenTo : Courses → (List ℕ → Type 0) → Folder → List ℕ → Type 0
+IsGivenTo course given folder i = given i × AllClear (working_along course folder i) (portions_of course folder i)
+
+abbrev pub MakesOwn : Courses → (List ℕ → Type 0) → Result ℕ Fault → Scene → Scene → Type 0
+MakesOwn course given r a b = (folder : Folder) (i : List ℕ) → IsGivenTo course given folder i → Shows (working_along course folder i) (seen a.told) (view_in folder)
+    → RunsTo (course folder i).status (working_along course folder i) r folder (steps_along course folder i) (shown a) (shown b)
+
+abbrev pub StopsOwn : Courses → (List ℕ → Type 0) → Result ℕ Fault → Scene → Scene → Type 0
+StopsOwn course given r a b = (folder : Folder) (i : List ℕ) (m : Model) (past : List Model) → IsGivenTo course given folder i → Shows (working_along course folder i) (seen a.told) (view_in folder)
+    → a.told ≡ Tells m past → IsCalm m → AllSafe (view_in folder) (portions_of course folder i)
+    → CourseMoments (working_along course folder i) r folder (steps_along course folder i) a b m past
+
+abbrev pub UnlockedOwn : Courses → (List ℕ → Type 0) → Told → Told → Type 0
+UnlockedOwn course given old new = (folder : Folder) (i : List ℕ) → IsGivenTo course given folder i → Shows (working_along course folder i) (seen old) (view_in folder)
+    → (exempt : List ℕ → Bool) → AllPlain (portions_of course folder i) → AllExempt exempt (portions_of course folder i) → BeginsUnlockedBut exempt old new

@@ -1,0 +1,84 @@
+ghost use Rattle.std.specs.Prelude.{Ok};
+ghost use Rattle.sccs_sid.specs.Moment.{IsMoment};
+ghost use Rattle.sccs_steps.specs.Settings.{setting_of};
+ghost use Rattle.sccs_words.specs.Meaning.{meaning};
+ghost use Rattle.sccs_top.specs.CommandLaws.{command_might, command_takes};
+ghost use Rattle.sccs_top.specs.Runs.{BegunOf, FitsEntry, RunsWords, WholeOf, caller, entry_command};
+
+use crate::commands::run_lent;
+use crate::messages::write_usage;
+use sccs_base::{Line, Sink, Source, SteadySource, Words};
+use sccs_batch::{Commands, Entry};
+use sccs_disk::Disk;
+use sccs_sid::Stamp;
+use sccs_steps::Fault;
+use sccs_words::{WordsFault, read_words};
+use std::alloc::Global;
+
+// does the single command that words mean; a usage fault is said
+fn run_words<I: Source, O: Sink, E: Sink, D: Disk>(
+    alloc: Global,
+    words: &Words,
+    stamp: &Stamp,
+    place: &Line,
+    input: &mut I,
+    out: &mut O,
+    err: &mut E,
+    disk: &mut D,
+) -> Result<u8, Fault>
+    requires moment { IsMoment stamp.now.moment }
+    ensures { RunsWords (caller stamp.now place.now) (meaning words.now) result
+        (setting_of I.Source O.Sink E.Sink D.Disk input.old out.old err.old disk.old) (setting_of I.Source O.Sink E.Sink D.Disk input.new out.new err.new disk.new) }
+{
+    match read_words(alloc, words) {
+        Ok(command) => run_lent(alloc, &command, stamp, place, input, out, err, disk),
+        Err(WordsFault::Usage(usage)) => match write_usage(&usage, err) {
+            Ok(()) => Ok(2),
+            Err(_) => Err(Fault::WriteFault),
+        },
+        Err(WordsFault::Memory) => Err(Fault::Memory),
+    }
+}
+
+/// Does the single commands of a batch, in the folder at a path.
+#[derive(Clone, Copy)]
+pub struct Singles<'a> {
+    pub place: &'a Line,
+}
+
+impl<'a> Commands for Singles<'a> {
+    ghost command = { λ s e. entry_command s.place.now e };
+
+    ghost fits = { λ s e. FitsEntry s.place.now e };
+
+    ghost whole = { λ s e. WholeOf s.place.now e };
+
+    ghost begun = { λ s e. BegunOf s.place.now e };
+
+    ghost takes = { λ s e folder i. command_takes (caller e.stamp s.place.now) (meaning e.words) folder e.input };
+
+    ghost might = { λ s e. command_might (caller e.stamp s.place.now) (meaning e.words) };
+
+    fn run<O: Sink, E: Sink, D: Disk>(
+        &self,
+        alloc: Global,
+        entry: &Entry,
+        out: &mut O,
+        err: &mut E,
+        disk: &mut D,
+    ) -> Result<u8, Fault> {
+        let Ok(mut input) = SteadySource::new(alloc, entry.input.bytes()) else {
+            return Err(Fault::Memory);
+        };
+        run_words(
+            alloc,
+            &entry.words,
+            &entry.stamp,
+            self.place,
+            &mut input,
+            out,
+            err,
+            disk,
+        )
+    }
+}
