@@ -68,7 +68,6 @@ explain_number() {
     32) helps "only who made that version, or who made the file, may take it back" ;;
     33) helps "no further number is left in this release; begin another by get -e -r" ;;
     34) helps "another program changed the file meanwhile: try again" ;;
-    99) helps "the program doesn't have this yet" ;;
     *) return 0 ;;
     esac
 }

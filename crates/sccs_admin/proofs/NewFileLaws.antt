@@ -27,7 +27,7 @@ use Rattle.sccs_rules.specs.Flags.{changed_flags}
 use Rattle.sccs_rules.specs.Rules.{with_rules}
 use Rattle.sccs_rules.specs.Users.{changed_users}
 use Rattle.sccs_rules.proofs.FlagRules.{header_kept, spelled_kept}
-use Rattle.sccs_admin.specs.NewFiles.{comment_lines, first_header, made_by, new_header, new_items}
+use Rattle.sccs_admin.specs.NewFiles.{comment_lines, first_header, maker_text, new_header, new_items}
 use Rattle.sccs_admin.specs.AdminStep.{AreAdminValues}
 use Rattle.sccs_admin.proofs.HeaderRules.{first_sid_is}
 use Rattle.sccs_admin.specs.Parts.{AreRules}
@@ -102,7 +102,7 @@ without (x ∷ xs) is = let both = neither (x == 10) (has xs 10) is in All-cons 
 login_line : (login : List ℕ) → IsLogin login → All NoLf login
 login_line login is = λ k d low e. omega (arith, is.visible k d low, e)
 
-made_line : (stamp : Stamp) → IsLogin stamp.login → All NoLf (made_by stamp)
+made_line : (stamp : Stamp) → IsLogin stamp.login → All NoLf (maker_text stamp)
 made_line stamp login =
     All-append NoLf (codes "date and time created ") (moment_text stamp.moment ++ (codes " by " ++ stamp.login)) (without (codes "date and time created ") refl)
     (All-append NoLf (moment_text stamp.moment) (codes " by " ++ stamp.login) (moment_line stamp.moment)

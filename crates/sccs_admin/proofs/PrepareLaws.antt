@@ -27,7 +27,7 @@ use Rattle.sccs_transactions.proofs.Taken.{x_alone}
 use Rattle.sccs_words.specs.declared.commands.AdminWords.{AdminWords}
 use Rattle.sccs_admin.specs.AdminStep.{admin_change, admin_checks, admin_outcome, found_texts, makes, named_in}
 use Rattle.sccs_admin.specs.NewFiles.{new_content}
-use Rattle.sccs_admin.specs.Parts.{AnswersTexts, FindsTexts, IsNew, WritesTexts}
+use Rattle.sccs_admin.specs.Parts.{AnswersTexts, FindsTexts, IsNewSfile, WritesTexts}
 use Rattle.sccs_admin.specs.Rules.{new_rules}
 use Rattle.sccs_admin.specs.declared.finding.NewTexts.{NewTexts}
 use Rattle.sccs_admin.specs.declared.rules.NewRules.{NewRules}
@@ -80,7 +80,7 @@ find_fails words stamp fault n left (Some v) o2 out err sfile same finds = λ i 
 abbrev pub files_of : Option Content → Option Content → Option Content → Option Files
 files_of s p g = Some (record { s = s; p = p; z = None; g = g })
 
-pub new_files : (n : List ℕ) (c : Content) (v : View) (p : Prepared) → IsSfile n → IsNew p
+pub new_files : (n : List ℕ) (c : Content) (v : View) (p : Prepared) → IsSfile n → IsNewSfile p
     → files_of (Some c) (unlocked n v (p_file n)) (unlocked n v (drop 2 n)) ≡ Some (files_after n (plan_of p) (put v (x_file n) (Some c)))
 new_files n c v p sfile new =
     ap (λ (o : Option Content). files_of (Some c) o (unlocked n v (drop 2 n))) (put_other v (z_file n) (p_file n) None refl ∙ sym (put_other v (x_file n) (p_file n) (Some c) refl))

@@ -23,7 +23,7 @@ use Rattle.sccs_transactions.specs.declared.prepared.Prepared.{Prepared}
 use Rattle.sccs_transactions.proofs.StopEnds.{plain_where}
 use Rattle.sccs_words.specs.declared.commands.AdminWords.{AdminWords}
 use Rattle.sccs_admin.specs.NewFiles.{new_content}
-use Rattle.sccs_admin.specs.Parts.{IsNew, WritesTexts}
+use Rattle.sccs_admin.specs.Parts.{IsNewSfile, WritesTexts}
 use Rattle.sccs_admin.specs.declared.finding.NewTexts.{NewTexts}
 
 where_replaced : (new : NewFile) (P : Type 0) → P → OnReplace new P
@@ -32,7 +32,7 @@ where_replaced Replace P holds = holds
 where_replaced Remove P holds = tt
 
 -- the x-file is firm, and no q-file takes a place
-pub new_firm : (n : List ℕ) (p : Prepared) (a b : Told) → IsNew p → Leaves (IsFirm (x_file n)) a b → IsFirmPrepared n p a b
+pub new_firm : (n : List ℕ) (p : Prepared) (a b : Told) → IsNewSfile p → Leaves (IsFirm (x_file n)) a b → IsFirmPrepared n p a b
 new_firm n p a b new firm = record {
   x_state = where_replaced (plan_of p).s (Leaves (IsFirm (x_file n)) a b) firm;
   q_state = subst (λ f. OnReplace f (Leaves (IsFirm (q_file n)) a b)) (sym new.p_state) tt;
@@ -49,7 +49,7 @@ none_made (Some s) = refl
 none_kept : (s p : Option Content) → p ≡ None → recovered_pfile s p ≡ p
 none_kept s p none = subst (λ (o : Option Content). recovered_pfile s o ≡ o) (sym none) (none_made s)
 
-settled_at : (n : List ℕ) (p : Prepared) (u : View) → IsNew p → u n ≡ None → IsPaired n u → KeepsEntries n (plan_of p) u × ArePaired (files_after n (plan_of p) u).s (files_after n (plan_of p) u).p
+settled_at : (n : List ℕ) (p : Prepared) (u : View) → IsNewSfile p → u n ≡ None → IsPaired n u → KeepsEntries n (plan_of p) u × ArePaired (files_after n (plan_of p) u).s (files_after n (plan_of p) u).p
 settled_at n p u new fresh paired =
     let same : (files_after n (plan_of p) u).p ≡ u (p_file n) = ap (λ (f : NewFile). chosen f (u (q_file n)) (u (p_file n))) new.p_state in
     let none : u (p_file n) ≡ None = paired fresh in (
@@ -61,7 +61,7 @@ settled_at n p u new fresh paired =
       λ gone. same ∙ none,
     )
 
-settled_seen : (n : List ℕ) (p : Prepared) (x : Content) (a b : Option View) → IsSfile n → IsNew p → IfSome a (λ v. v n ≡ None) → Becomes (λ v. put v (x_file n) (Some x)) a b → IfSome b (λ v. IsPaired n v → IsSound n v → KeepsEntries n (plan_of p) v × ArePaired (files_after n (plan_of p) v).s (files_after n (plan_of p) v).p)
+settled_seen : (n : List ℕ) (p : Prepared) (x : Content) (a b : Option View) → IsSfile n → IsNewSfile p → IfSome a (λ v. v n ≡ None) → Becomes (λ v. put v (x_file n) (Some x)) a b → IfSome b (λ v. IsPaired n v → IsSound n v → KeepsEntries n (plan_of p) v × ArePaired (files_after n (plan_of p) v).s (files_after n (plan_of p) v).p)
 settled_seen n p x None b sfile new fresh is = subst (λ (o : Option View). IfSome o (λ v. IsPaired n v → IsSound n v → KeepsEntries n (plan_of p) v × ArePaired (files_after n (plan_of p) v).s (files_after n (plan_of p) v).p)) (sym is) tt
 settled_seen n p x (Some v) b sfile new fresh is =
     subst (λ (o : Option View). IfSome o (λ v. IsPaired n v → IsSound n v → KeepsEntries n (plan_of p) v × ArePaired (files_after n (plan_of p) v).s (files_after n (plan_of p) v).p)) (sym is)

@@ -16,12 +16,12 @@ use Rattle.sccs_words.specs.declared.commands.AdminWords.{AdminWords}
 use Rattle.sccs_admin.specs.declared.rules.NewRules.{NewRules}
 
 -- who made the file, and when
-abbrev pub made_by : Stamp → List ℕ
-made_by stamp = codes "date and time created " ++ (moment_text stamp.moment ++ (codes " by " ++ stamp.login))
+abbrev pub maker_text : Stamp → List ℕ
+maker_text stamp = codes "date and time created " ++ (moment_text stamp.moment ++ (codes " by " ++ stamp.login))
 
 -- the comment of -y, else who made the file, and when
 abbrev pub comment_lines : Option (List (List ℕ)) → Stamp → List (List ℕ)
-comment_lines None stamp = made_by stamp ∷ []
+comment_lines None stamp = maker_text stamp ∷ []
 comment_lines (Some lines) stamp = some_lines lines
 
 -- the first SID: 1.1, or the first level of the release that -r gives

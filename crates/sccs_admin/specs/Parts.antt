@@ -105,7 +105,7 @@ pub record AreRules (words : AdminWords) (rules : NewRules) : Type 0 where
   pub description : AreLines rules.description
 
 -- the s-file is replaced, all else kept, and nothing is written
-pub record IsNew (p : Prepared) : Type 0 where
+pub record IsNewSfile (p : Prepared) : Type 0 where
   pub s : p.new_s ≡ true
   pub p_state : p.new_p ≡ Keep
   pub g : p.new_g ≡ Keep
@@ -115,6 +115,6 @@ pub record IsNew (p : Prepared) : Type 0 where
 -- the x-file is that of a new file; or a check on its texts and words fails; or at most the x-file has changed
 abbrev pub WritesTexts : Result Prepared StepFault → AdminWords → Stamp → NewTexts → List ℕ → Option View → Option View → Type 0
 WritesTexts (Ok p) words stamp texts n old new =
-    IsNew p × ((rules : NewRules) × (new_rules words texts ≡ Ok rules) × Becomes (λ v. put v (x_file n) (Some (new_content words stamp rules (text_of texts.text)))) old new)
+    IsNewSfile p × ((rules : NewRules) × (new_rules words texts ≡ Ok rules) × Becomes (λ v. put v (x_file n) (Some (new_content words stamp rules (text_of texts.text)))) old new)
 WritesTexts (Err (Refused refusal)) words stamp texts n old new = (new_rules words texts ≡ Err refusal) × (new ≡ old)
 WritesTexts (Err fault) words stamp texts n old new = Moves (bytes_eq (x_file n)) (λ v. v) old new

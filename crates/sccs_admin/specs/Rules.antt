@@ -39,8 +39,8 @@ rule_checks = number_of (BadText 0) ∷ number_of (FlagBad 0) ∷ []
 
 -- ---- a new file
 
-abbrev pub has_keyword : List ℕ → Bool
-has_keyword line = list_any is_keyword (parts line)
+abbrev pub text_has_keyword : List ℕ → Bool
+text_has_keyword line = list_any is_keyword (parts line)
 
 -- an option is given
 abbrev pub is_given : Given → Bool
@@ -49,7 +49,7 @@ is_given given = true
 
 -- with -i, where the flag i is set, some line has a keyword
 abbrev pub has_wanted_keyword : AdminWords → List (List ℕ) → Bool
-has_wanted_keyword words lines = not (is_given words.text && sets_flag words.set flag_i) || list_any has_keyword lines
+has_wanted_keyword words lines = not (is_given words.text && sets_flag words.set flag_i) || list_any text_has_keyword lines
 
 -- the flag has a text
 abbrev pub has_text : List Flag → ℕ → Bool

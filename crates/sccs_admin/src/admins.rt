@@ -5,7 +5,7 @@ ghost use Rattle.sccs_base.specs.Stream.{Rose};
 ghost use Rattle.sccs_disk.specs.Told.{seen};
 ghost use Rattle.sccs_sid.specs.declared.refusals.StepFault.TheVariants as fault;
 ghost use Rattle.sccs_admin.specs.AdminStep.{AreAdminValues, admin_change, admin_checks};
-ghost use Rattle.sccs_admin.specs.Parts.{AreShort, IsNew, WritesTexts};
+ghost use Rattle.sccs_admin.specs.Parts.{AreShort, IsNewSfile, WritesTexts};
 ghost use Rattle.sccs_steps.specs.Actions.{RefusesWithin};
 ghost use Rattle.sccs_images.specs.Touches.{TouchesOnly};
 ghost use Rattle.sccs_transactions.specs.Stops.{IsFirmPrepared};
@@ -36,7 +36,7 @@ pub struct Admin<'a> {
 
 /// What is prepared where the x-file is a new s-file: all else stays, and nothing is said.
 pub fn prepared(alloc: Global) -> Prepared
-    ensures { IsNew result }
+    ensures { IsNewSfile result }
 {
     Prepared {
         new_s: true,

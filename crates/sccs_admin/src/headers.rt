@@ -1,6 +1,6 @@
 ghost use Rattle.std.specs.Prelude.{◌≡◌, [], ◌∷◌, IfOk};
 ghost use Rattle.sccs_admin.specs.AdminStep.{AreAdminValues};
-ghost use Rattle.sccs_admin.specs.NewFiles.{comment_lines, first_header, first_record, made_by, new_header};
+ghost use Rattle.sccs_admin.specs.NewFiles.{comment_lines, first_header, first_record, maker_text, new_header};
 ghost use Rattle.sccs_admin.specs.Parts.{AreRules};
 ghost use Rattle.sccs_history.specs.History.{AreLines, HasSpelling, IsSpelled};
 ghost use Rattle.sccs_sid.specs.Moment.{IsMoment};
@@ -20,7 +20,7 @@ const COUNT_LIMIT: u64 = 99_999;
 // who made the file, and when
 fn made_by(alloc: Global, stamp: &Stamp) -> Result<Line, Memory>
     requires { IsMoment stamp.now.moment }
-    ensures { IfOk result (λ line. line ≡ made_by stamp.now) }
+    ensures { IfOk result (λ line. line ≡ maker_text stamp.now) }
 {
     let mut text = Vec::new(alloc);
     text.extend_from_slice(b"date and time created ")?;

@@ -8,7 +8,7 @@ ghost use Rattle.sccs_rules.specs.Flags.{changed_flags};
 ghost use Rattle.sccs_pending.specs.PFiles.{Answers, PassesCheck};
 ghost use Rattle.sccs_admin.specs.AdminStep.{admin_checks};
 ghost use Rattle.sccs_admin.specs.Parts.{AreRules, AreShort};
-ghost use Rattle.sccs_admin.specs.Rules.{bare_lines, described, has_keyword, has_text, has_wanted_keyword, is_given, mrs_fit, new_description, new_flags, new_rules, or_bad_flag, rule_checks};
+ghost use Rattle.sccs_admin.specs.Rules.{bare_lines, described, text_has_keyword, has_text, has_wanted_keyword, is_given, mrs_fit, new_description, new_flags, new_rules, or_bad_flag, rule_checks};
 ghost use Rattle.sccs_admin.specs.Texts.{count_lines, or_bad_text};
 
 use crate::finding::NewTexts;

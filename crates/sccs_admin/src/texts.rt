@@ -3,7 +3,7 @@ ghost use Rattle.sccs_base.specs.Constants.{file_limit};
 ghost use Rattle.sccs_base.specs.Cut.{text_of, without_lf};
 ghost use Rattle.sccs_sid.specs.SidLists.{begins};
 ghost use Rattle.std.specs.List.{list_any};
-ghost use Rattle.sccs_admin.specs.Rules.{has_keyword};
+ghost use Rattle.sccs_admin.specs.Rules.{text_has_keyword};
 ghost use Rattle.sccs_admin.specs.Texts.{count_lines, lacking};
 
 use bstr::ByteSlice;
@@ -47,7 +47,7 @@ fn without_lf(line: &[u8]) -> &[u8]
 
 /// Whether some line of a text has a keyword.
 pub fn has_keywords(text: &[u8]) -> bool
-    ensures { result ≡ list_any has_keyword (text_of text.now) }
+    ensures { result ≡ list_any text_has_keyword (text_of text.now) }
 {
     'lines: for line in text.lines_with_terminator() {
         if has_keyword(without_lf(line)) {

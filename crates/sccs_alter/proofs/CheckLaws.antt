@@ -20,7 +20,7 @@ use Rattle.sccs_pending.specs.Pending.{bytes_at}
 use Rattle.sccs_steps.specs.Calls.{Meets, scene, world}
 use Rattle.sccs_steps.specs.Actions.{IsHeard, RefusesWithin, SpeaksBy, Stepped}
 use Rattle.sccs_steps.proofs.ReadingSteps.{Explains, ends_silent, same_cleared}
-use Rattle.sccs_alter.specs.CheckStep.{Checks, check_action, check_checks, check_outcome, checked_file, nothing}
+use Rattle.sccs_alter.specs.CheckStep.{Checks, check_action, check_checks, check_outcome, checked_file, no_effect}
 
 -- ---- the file
 
@@ -57,7 +57,7 @@ why file WriteFault checks = checks
 
 made : (file : Result Parsed Refusal) (n : List ℕ) (v : View) (o2 : Option View) (out err : Option (List ℕ)) → o2 ≡ Some v → Checks file (Ok tt) → Meets (λ (done : Unit {0}). 0) (Ok tt) n (check_outcome file) (world (Some v) out err) (world o2 out err)
 made file n v o2 out err same checks = (
-  nothing,
+  no_effect,
   ap check_outcome checks.1,
   refl,
   record {
@@ -82,9 +82,9 @@ checked_steps r n a b left out err same checks = by (seen a) (ap seen same) chec
 -- ---- over any disk
 
 pub checked_speaks : (r : Result (Unit {0}) StepFault) (n : List ℕ) (err : Option (List ℕ)) → RefusesWithin check_checks r → SpeaksBy check_action.could r n err err
-checked_speaks (Ok done) n err within = (Ok nothing, refl, (nothing, refl, refl, gives_none err))
+checked_speaks (Ok done) n err within = (Ok no_effect, refl, (no_effect, refl, refl, gives_none err))
 checked_speaks (Err (Refused refusal)) n err within = (Err refusal, within refusal refl, (refl, refl))
-checked_speaks (Err Memory) n err within = (Ok nothing, refl, some_none err _)
-checked_speaks (Err ReadFault) n err within = (Ok nothing, refl, some_none err _)
-checked_speaks (Err WriteFault) n err within = (Ok nothing, refl, some_none err _)
-checked_speaks (Err DiskFault) n err within = (Ok nothing, refl, some_none err _)
+checked_speaks (Err Memory) n err within = (Ok no_effect, refl, some_none err _)
+checked_speaks (Err ReadFault) n err within = (Ok no_effect, refl, some_none err _)
+checked_speaks (Err WriteFault) n err within = (Ok no_effect, refl, some_none err _)
+checked_speaks (Err DiskFault) n err within = (Ok no_effect, refl, some_none err _)

@@ -1,5 +1,5 @@
 -- What admin prepares of an s-file that is there, from its two parts.
-use Rattle.std.proofs.Common.{◌≡◌, ℕ, List, [], map, Option, None, Some, IfOk, IfSome, Result, Ok, Err, refl, sym, ap, subst, ◌∙◌}
+use Rattle.std.proofs.Common.{◌≡◌, ℕ, Bool, List, [], map, Option, None, Some, IfOk, IfSome, Result, Ok, Err, refl, sym, ap, subst, ◌∙◌}
 use Rattle.std.specs.Str.{bytes_eq}
 use Rattle.sccs_base.specs.Name.{IsSfile, x_file}
 use Rattle.sccs_base.proofs.Gifts.{gives_none}
@@ -18,9 +18,9 @@ use Rattle.sccs_history.specs.declared.headers.Header.{Header}
 use Rattle.sccs_history.specs.declared.headers.Item.{Item}
 use Rattle.sccs_table.specs.FrontFile.{IsPlaced}
 use Rattle.sccs_table.specs.ReaderState.{bytes_in}
-use Rattle.sccs_body.specs.BodyFile.{ShowsFile, items_of}
+use Rattle.sccs_body.specs.AnySum.{ShowsUnsummed}
+use Rattle.sccs_body.specs.BodyFile.{items_of}
 use Rattle.sccs_body.specs.ToCome.{IsFrontFor}
-use Rattle.sccs_body.proofs.FileLaws.{file_items}
 use Rattle.sccs_moments.proofs.FileNames.{no_x}
 use Rattle.sccs_pending.specs.Pending.{bytes_at}
 use Rattle.sccs_steps.specs.Actions.{RefusesWithin, quiet_checks}
@@ -37,17 +37,16 @@ use Rattle.sccs_transactions.specs.Stops.{SettlesEntries}
 use Rattle.sccs_transactions.specs.declared.prepared.Prepared.{Prepared}
 use Rattle.sccs_transactions.proofs.Taken.{x_alone}
 use Rattle.sccs_words.specs.declared.commands.AdminWords.{AdminWords}
-use Rattle.sccs_words.specs.declared.commands.Given.{Given}
 use Rattle.sccs_admin.specs.AdminStep.{makes}
-use Rattle.sccs_admin.specs.Parts.{IsNew}
+use Rattle.sccs_admin.specs.Parts.{IsNewSfile}
 use Rattle.sccs_admin.specs.Texts.{named_by}
 use Rattle.sccs_admin.proofs.PrepareLaws.{files_of, new_files, s_unlocked, unmade}
-use Rattle.sccs_alter.specs.AlterStep.{WasRead, alter_change, alter_checks, alter_outcome, altered_header, given_text, read_file}
+use Rattle.sccs_alter.specs.AlterStep.{WasRead, alter_change, alter_checks, alter_outcome, altered_header, file_read, description_text, read_file}
 use Rattle.sccs_alter.specs.Parts.{Alters, ReadsAt}
 use Rattle.sccs_alter.specs.declared.reading.Read.{Read}
 use Rattle.sccs_admin.proofs.RuleLaws.{passed}
 use Rattle.sccs_alter.proofs.ReadLaws.{is_there}
-use Rattle.sccs_alter.proofs.StopLaws.{altered_settles, answer_file}
+use Rattle.sccs_alter.proofs.StopLaws.{altered_settles, answer_read}
 
 -- ---- the step, part by part
 
@@ -62,17 +61,17 @@ from_read words f r = altered_header words r.parsed.header r.text >>= λ header.
 abbrev from_header : WasRead → Files → Result Header Refusal → Outcome
 from_header r f made = made >>= λ header. makes (sealed header r.parsed.items) f
 
-read_outcome : (words : AdminWords) (n i : List ℕ) (named : List (Option Content)) (f : Files) (r : WasRead) → read_file words.description named f.s ≡ Ok r → alter_outcome words n i named f ≡ from_read words f r
+read_outcome : (words : AdminWords) (n i : List ℕ) (named : List (Option Content)) (f : Files) (r : WasRead) → read_file words named f.s ≡ Ok r → alter_outcome words n i named f ≡ from_read words f r
 unfolding alter_outcome
 read_outcome words n i named f r is = rw is refl
 
-refused_outcome : (words : AdminWords) (n i : List ℕ) (named : List (Option Content)) (f : Files) (refusal : Refusal) → read_file words.description named f.s ≡ Err refusal → alter_outcome words n i named f ≡ Err refusal
+refused_outcome : (words : AdminWords) (n i : List ℕ) (named : List (Option Content)) (f : Files) (refusal : Refusal) → read_file words named f.s ≡ Err refusal → alter_outcome words n i named f ≡ Err refusal
 unfolding alter_outcome
 refused_outcome words n i named f refusal is = rw is refl
 
 -- what was read, as the step sees it
-as_seen : (words : AdminWords) (n : List ℕ) (v : View) (r : Result WasRead Refusal) → IsSfile n → read_file words.description (named_at words n v) (v n) ≡ r → read_file words.description (named_at words n v) (look (unlocked n v) n).s ≡ r
-as_seen words n v r sfile is = ap (λ (o : Option Content). read_file words.description (named_at words n v) o) (s_unlocked n v sfile) ∙ is
+as_seen : (words : AdminWords) (n : List ℕ) (v : View) (r : Result WasRead Refusal) → IsSfile n → read_file words (named_at words n v) (v n) ≡ r → read_file words (named_at words n v) (look (unlocked n v) n).s ≡ r
+as_seen words n v r sfile is = ap (λ (o : Option Content). read_file words (named_at words n v) o) (s_unlocked n v sfile) ∙ is
 
 -- ---- nothing was read
 
@@ -100,35 +99,35 @@ file_by : (text : List ℕ) (r : WasRead) (read : Result Parsed FileFault) → (
 file_by text r (Ok parsed) is = ap (λ (x : WasRead). Ok x.parsed) (same_read (Ok (record { parsed = parsed; text = text })) (record { parsed = parsed; text = text }) r refl is)
 file_by text r (Err fault) is = absurd cc
 
-pub parsed_of : (given : Given) (named : List (Option Content)) (s : Option Content) (r : WasRead) → read_file given named s ≡ Ok r → answer file_of (bytes_at s) ≡ Ok r.parsed
+pub parsed_of : (words : AdminWords) (named : List (Option Content)) (s : Option Content) (r : WasRead) → read_file words named s ≡ Ok r → answer (file_read words.fix) (bytes_at s) ≡ Ok r.parsed
 unfolding read_file
-parsed_of given named s r is =
+parsed_of words named s r is =
     let there = passed (is_there s) _ r is in
-    let text = passed (given_text given named) _ r there.2 in
-    file_by text.0 r (answer file_of (bytes_at s)) text.2
+    let text = passed (description_text words.description named) _ r there.2 in
+    file_by text.0 r (answer (file_read words.fix) (bytes_at s)) text.2
 
 -- What is known of an s-file that was read.
-record HasFile (n : List ℕ) (v : View) (x : Read) (parsed : Parsed) : Type 0 where
+record HasFile (fix : Bool) (n : List ℕ) (v : View) (x : Read) (parsed : Parsed) : Type 0 where
   old : Content
   s : v n ≡ Some old
   header : x.front.header ≡ parsed.header
   front : IsFrontFor old.bytes x.front
   items : items_of old.bytes x.front ≡ Ok parsed.items
-  whole : file_of old.bytes ≡ Ok parsed
+  whole : file_read fix old.bytes ≡ Ok parsed
 
-has_file_at : (n : List ℕ) (v : View) (x : Read) (parsed : Parsed) (o : Option Content) → v n ≡ o → IsPlaced x.front → ShowsFile (bytes_at o) parsed x.front → answer file_of (bytes_at o) ≡ Ok parsed → HasFile n v x parsed
-has_file_at n v x parsed None s placed shows read = absurd shows
-has_file_at n v x parsed (Some c) s placed shows read = record {
+has_file_at : (fix : Bool) (n : List ℕ) (v : View) (x : Read) (parsed : Parsed) (o : Option Content) → v n ≡ o → ShowsUnsummed (bytes_at o) parsed x.front → answer (file_read fix) (bytes_at o) ≡ Ok parsed → HasFile fix n v x parsed
+has_file_at fix n v x parsed None s shows read = absurd shows
+has_file_at fix n v x parsed (Some c) s shows read = record {
   old = c;
   s = s;
   header = shows.0;
-  front = record { placed = placed; size = shows.1.2.size; sum = shows.1.2.sum };
-  items = file_items c.bytes parsed shows.1.0 x.front read shows.1.1 shows.1.2;
-  whole = answer_file c.bytes parsed read;
+  front = shows.2;
+  items = shows.1;
+  whole = answer_read fix c.bytes parsed read;
 }
 
-has_file : (words : AdminWords) (n : List ℕ) (v : View) (x : Read) → IsPlaced x.front → (reads : ReadsAt words n v (Ok x)) → HasFile n v x reads.0
-has_file words n v x placed reads = has_file_at n v x reads.0 (v n) refl placed reads.1 (parsed_of words.description (named_at words n v) (v n) (record { parsed = reads.0; text = x.text }) reads.2)
+has_file : (words : AdminWords) (n : List ℕ) (v : View) (x : Read) → (reads : ReadsAt words n v (Ok x)) → HasFile words.fix n v x reads.0
+has_file words n v x reads = has_file_at words.fix n v x reads.0 (v n) refl reads.1 (parsed_of words (named_at words n v) (v n) (record { parsed = reads.0; text = x.text }) reads.2)
 
 -- what writing says of a told file
 abbrev pub Writes : AdminWords → List ℕ → Read → Result Prepared StepFault → Told → Option View → Type 0
@@ -142,13 +141,13 @@ bytes_seen n v o c is at = ap (λ (w : Option View). bytes_in w n) is ∙ ap byt
 made_at : (words : AdminWords) (n : List ℕ) (v : View) (x : Read) (r : Result Prepared StepFault) (a : Told) (new : Option View) → seen a ≡ Some v → IsPlaced x.front → (reads : ReadsAt words n v (Ok x)) → Writes words n x r a new
     → Alters r (altered_header words reads.0.header x.text) reads.0.items n (Some v) new
 made_at words n v x r a new here placed reads writes =
-    let f = has_file words n v x placed reads in
+    let f = has_file words n v x reads in
     subst (λ (o : Option View). Alters r (altered_header words reads.0.header x.text) reads.0.items n o new) here
     (subst (λ (h : Header). Alters r (altered_header words h x.text) reads.0.items n (seen a) new) f.header (writes f.old.bytes reads.0.items (bytes_seen n v (seen a) f.old here f.s) f.front f.items))
 
 -- ---- the x-file is written
 
-prepared_at : (words : AdminWords) (r : Result Prepared StepFault) (n i : List ℕ) (v : View) (x : Read) (o2 : Option View) (out err : Option (List ℕ)) → IsSfile n → (reads : ReadsAt words n v (Ok x)) → IfOk r IsNew → Moves (bytes_eq (x_file n)) (λ u. u) (Some v) o2
+prepared_at : (words : AdminWords) (r : Result Prepared StepFault) (n i : List ℕ) (v : View) (x : Read) (o2 : Option View) (out err : Option (List ℕ)) → IsSfile n → (reads : ReadsAt words n v (Ok x)) → IfOk r IsNewSfile → Moves (bytes_eq (x_file n)) (λ u. u) (Some v) o2
     → Alters r (altered_header words reads.0.header x.text) reads.0.items n (Some v) o2
     → Prepares r n (alter_outcome words n i (named_at words n v) (look (unlocked n v) n)) (world (Some v) out err) (world o2 out err)
 prepared_at words (Ok p) n i v x o2 out err sfile reads is_new moves alters =
@@ -174,7 +173,7 @@ prepared_at words (Err ReadFault) n i v x o2 out err sfile reads is_new moves al
 prepared_at words (Err WriteFault) n i v x o2 out err sfile reads is_new moves alters = absurd alters
 prepared_at words (Err DiskFault) n i v x o2 out err sfile reads is_new moves alters = unmade n _ v o2 out err moves
 
-pub read_prepares : (words : AdminWords) (r : Result Prepared StepFault) (n : List ℕ) (left : Option (List ℕ)) (x : Read) (o : Option View) (a b : Told) (out err : Option (List ℕ)) → IsSfile n → seen a ≡ o → IsPlaced x.front → IfSome o (λ v. ReadsAt words n v (Ok x)) → IfOk r IsNew
+pub read_prepares : (words : AdminWords) (r : Result Prepared StepFault) (n : List ℕ) (left : Option (List ℕ)) (x : Read) (o : Option View) (a b : Told) (out err : Option (List ℕ)) → IsSfile n → seen a ≡ o → IsPlaced x.front → IfSome o (λ v. ReadsAt words n v (Ok x)) → IfOk r IsNewSfile
     → Moves (bytes_eq (x_file n)) (λ u. u) (seen a) (seen b) → Writes words n x r a (seen b) → PreparesChange (alter_change words) r n left (world o out err) (world (seen b) out err)
 read_prepares words r n left x None a b out err sfile here placed reads is_new moves writes = tt
 read_prepares words r n left x (Some v) a b out err sfile here placed reads is_new moves writes = λ i heard.
@@ -182,7 +181,7 @@ read_prepares words r n left x (Some v) a b out err sfile here placed reads is_n
 
 -- ---- what may come
 
-pub read_speaks : (r : Result Prepared StepFault) → IfOk r IsNew → RefusesWithin alter_checks r → CouldPrepare (quiet_checks alter_checks) r
+pub read_speaks : (r : Result Prepared StepFault) → IfOk r IsNewSfile → RefusesWithin alter_checks r → CouldPrepare (quiet_checks alter_checks) r
 read_speaks (Ok p) is_new within = (record { new = None; text = []; out = []; err = []; status = 0 }, refl, refl, sym is_new.message)
 read_speaks (Err (Refused refusal)) is_new within = within refusal refl
 read_speaks (Err Memory) is_new within = tt
@@ -200,11 +199,11 @@ settles_none n p a b here moves = by (seen a) (seen b) here moves
     by None (Some u) is moved = absurd cc
     by (Some v) o2 is moved = absurd cc
 
-pub read_settles : (words : AdminWords) (r : Result Prepared StepFault) (n : List ℕ) (x : Read) (o : Option View) (a b : Told) → IsSfile n → seen a ≡ o → IsPlaced x.front → IsHeader x.front.header → IsSpelled x.front.header → IfSome o (λ v. ReadsAt words n v (Ok x)) → IfOk r IsNew
+pub read_settles : (words : AdminWords) (r : Result Prepared StepFault) (n : List ℕ) (x : Read) (o : Option View) (a b : Told) → IsSfile n → seen a ≡ o → IsPlaced x.front → IsHeader x.front.header → IsSpelled x.front.header → IfSome o (λ v. ReadsAt words n v (Ok x)) → IfOk r IsNewSfile
     → Moves (bytes_eq (x_file n)) (λ u. u) (seen a) (seen b) → Writes words n x r a (seen b) → IfOk r (λ p. SettlesEntries n p b)
 read_settles words (Err fault) n x o a b sfile here placed rules spelled reads is_new moves writes = tt
 read_settles words (Ok p) n x None a b sfile here placed rules spelled reads is_new moves writes = settles_none n p a b here moves
 read_settles words (Ok p) n x (Some v) a b sfile here placed rules spelled reads is_new moves writes =
-    let f = has_file words n v x placed reads in
+    let f = has_file words n v x reads in
     let made = made_at words n v x (Ok p) a (seen b) here placed reads writes in
-    altered_settles words n x.text reads.0.header made.0 reads.0.items p v f.old b sfile is_new f.s (subst IsHeader f.header rules) (subst IsSpelled f.header spelled) f.whole made.1 made.2
+    altered_settles words.fix words n x.text reads.0.header made.0 reads.0.items p v f.old b sfile is_new f.s (subst IsHeader f.header rules) (subst IsSpelled f.header spelled) f.whole made.1 made.2

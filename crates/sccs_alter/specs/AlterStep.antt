@@ -1,5 +1,5 @@
--- What admin does with an s-file that is there: POSIX, Shell and Utilities, admin, -a, -e, -f, -d and -t.
-use Rattle.std.specs.Prelude.{ℕ, nat_le, true, false, List, [], ◌∷◌, length, Option, is_some, Result, Ok}
+-- What admin does with an s-file that is there: POSIX, Shell and Utilities, admin, -a, -e, -f, -d, -t and -z.
+use Rattle.std.specs.Prelude.{ℕ, nat_le, Bool, true, false, List, [], ◌∷◌, length, Option, is_some, Result, Ok}
 use Rattle.sccs_base.specs.Constants.{file_limit}
 use Rattle.sccs_disk.specs.Files.{Content}
 use Rattle.sccs_sid.specs.Reading.{◌>>=◌}
@@ -7,7 +7,9 @@ use Rattle.sccs_sid.specs.Refusal.{number_of}
 use Rattle.sccs_sid.specs.declared.refusals.Refusal.{Refusal}
 use Rattle.sccs_sid.specs.declared.refusals.Refusal.TheVariants.{Missing, TooLong}
 use Rattle.sccs_sid.specs.declared.refusals.Refusal.TheVariants as refusals
+use Rattle.sccs_grammar.specs.AnySum.{unsummed_file}
 use Rattle.sccs_grammar.specs.File.{Parsed, answer, file_of}
+use Rattle.sccs_grammar.specs.declared.faults.FileFault.{FileFault}
 use Rattle.sccs_grammar.specs.FileRefusals.{or_refusal}
 use Rattle.sccs_history.specs.declared.headers.Header.{Header}
 use Rattle.sccs_rules.specs.Flags.{changed_flags}
@@ -33,8 +35,8 @@ alter_checks =
     ∷ number_of (refusals.Changed 0 0 0 0) ∷ []
 
 -- the bytes of the file that -t names, or that it isn't there or is too long
-unfoldable pub given_text : Given → List (Option Content) → Result (List ℕ) Refusal
-given_text given named = do
+unfoldable pub description_text : Given → List (Option Content) → Result (List ℕ) Refusal
+description_text given named = do
   text ← source given [] named
   short ← check (nat_le (length text) file_limit) TooLong
   Ok text
@@ -44,12 +46,17 @@ pub record WasRead : Type 0 where
   pub parsed : Parsed
   pub text : List ℕ
 
+-- how the s-file is read: with -z its stored sum is passed over
+abbrev pub file_read : Bool → List ℕ → Result Parsed FileFault
+file_read true bytes = unsummed_file bytes
+file_read false bytes = file_of bytes
+
 -- what is read, or the first check that fails: a file isn't there, one is too long, or the s-file isn't one
-unfoldable pub read_file : Given → List (Option Content) → Option Content → Result WasRead Refusal
-read_file given named s = do
+unfoldable pub read_file : AdminWords → List (Option Content) → Option Content → Result WasRead Refusal
+read_file words named s = do
   there ← check (is_some s) Missing
-  text ← given_text given named
-  parsed ← or_refusal (answer file_of (bytes_at s))
+  text ← description_text words.description named
+  parsed ← or_refusal (answer (file_read words.fix) (bytes_at s))
   Ok (record { parsed = parsed; text = text })
 
 -- the header with other users, flags and description
@@ -62,7 +69,7 @@ altered_header words h text = do
 -- the s-file with that header, and its body as it was
 unfoldable pub alter_outcome : AdminWords → Step
 alter_outcome words n input named f = do
-  read ← read_file words.description named f.s
+  read ← read_file words named f.s
   header ← altered_header words read.parsed.header read.text
   makes (sealed header read.parsed.items) f
 

@@ -28,11 +28,11 @@ abbrev pub checked_file : Option Content → Result Parsed Refusal
 checked_file s = or_refusal (answer file_of (bytes_at s))
 
 -- nothing changes, and nothing is said
-abbrev pub nothing : StepEffect
-nothing = record { new = None; text = []; out = []; err = []; status = 0 }
+abbrev pub no_effect : StepEffect
+no_effect = record { new = None; text = []; out = []; err = []; status = 0 }
 
 abbrev pub check_outcome : Result Parsed Refusal → Outcome
-check_outcome file = file >>= λ parsed. Ok nothing
+check_outcome file = file >>= λ parsed. Ok no_effect
 
 abbrev pub check_action : Action
 check_action = record {
@@ -57,7 +57,7 @@ Checks file (Err ReadFault) = ⊥
 Checks file (Err WriteFault) = ⊥
 
 changes_none : (file : Result Parsed Refusal) (d : StepEffect) → check_outcome file ≡ Ok d → d.new ≡ None
-changes_none (Ok parsed) d is = ap (λ (e : StepEffect). e.new) (let same : nothing ≡ d = cc in sym same)
+changes_none (Ok parsed) d is = ap (λ (e : StepEffect). e.new) (let same : no_effect ≡ d = cc in sym same)
 changes_none (Err refusal) d is = absurd cc
 
 pub check_keeps : KeepsFiles check_action

@@ -18,7 +18,7 @@ ghost use Rattle.sccs_sid.specs.declared.refusals.StepFault.TheVariants as fault
 ghost use Rattle.sccs_steps.specs.Actions.{RefusesWithin};
 ghost use Rattle.sccs_table.specs.ReaderState.{bytes_in};
 ghost use Rattle.sccs_transactions.specs.Stops.{IsFirmPrepared};
-ghost use Rattle.sccs_admin.specs.Parts.{IsNew};
+ghost use Rattle.sccs_admin.specs.Parts.{IsNewSfile};
 ghost use Rattle.sccs_alter.specs.AlterStep.{alter_change, alter_checks, altered_header};
 ghost use Rattle.sccs_alter.specs.Locks.{alter_locked};
 ghost use Rattle.sccs_alter.specs.Parts.{Alters};
@@ -36,7 +36,7 @@ use sccs_words::AdminWords;
 use std::alloc::Global;
 
 /// admin on an s-file that is there: other users, flags and description over the same body. POSIX, Shell and
-/// Utilities, admin, -a, -e, -f, -d and -t.
+/// Utilities, admin, -a, -e, -f, -d, -t and -z.
 #[derive(Clone, Copy)]
 pub struct Alter<'a> {
     pub words: &'a AdminWords,
@@ -55,7 +55,7 @@ fn write_header<D: Disk>(
     requires own { name_read copying.items ≡ name.now }
     ensures told { (file : List ℕ) (items : List Item) → bytes_in (seen (D.told disk.old)) name.now ≡ Some file
         → CopyComes identity file items copying → Alters result (Ok header.now) items name.now (seen (D.told disk.old)) (seen (D.told disk.new)) }
-    ensures new { IfOk result IsNew }
+    ensures new { IfOk result IsNewSfile }
     ensures firm { IfOk result (λ p. IsFirmPrepared name.now p (D.told disk.old) (D.told disk.new)) }
     ensures frame { MakesOneFile (x_file name.now) faults.DiskFault (D.told disk.old) (D.told disk.new) (D.faults disk.old) (D.faults disk.new) result }
     ensures checks { RefusesWithin alter_checks result }
@@ -82,7 +82,7 @@ fn write_read<D: Disk>(
     ensures told { (file : List ℕ) (items : List Item) → bytes_in (seen (D.told disk.old)) name.now ≡ Some file
         → IsFrontFor file x.front → items_of file x.front ≡ Ok items
         → Alters result (altered_header words.now x.front.header x.text) items name.now (seen (D.told disk.old)) (seen (D.told disk.new)) }
-    ensures new { IfOk result IsNew }
+    ensures new { IfOk result IsNewSfile }
     ensures firm { IfOk result (λ p. IsFirmPrepared name.now p (D.told disk.old) (D.told disk.new)) }
     ensures frame { MakesOneFile (x_file name.now) faults.DiskFault (D.told disk.old) (D.told disk.new) (D.faults disk.old) (D.faults disk.new) result }
     ensures checks { RefusesWithin alter_checks result }

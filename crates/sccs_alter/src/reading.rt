@@ -7,19 +7,21 @@ ghost use Rattle.sccs_history.specs.History.{IsHeader, IsSpelled};
 ghost use Rattle.sccs_sid.specs.declared.refusals.Refusal.TheVariants.{Missing};
 ghost use Rattle.sccs_steps.specs.Actions.{RefusesWithin};
 ghost use Rattle.sccs_steps.specs.StepEffects.{check};
-ghost use Rattle.sccs_table.specs.FrontFile.{IsPlaced};
 ghost use Rattle.sccs_transactions.specs.Changes.{unlocked};
 ghost use Rattle.sccs_words.specs.declared.commands.Given.TheVariants as given;
 ghost use Rattle.sccs_pending.specs.PFiles.{Answers, OnlyReads, PassesCheck};
 ghost use Rattle.sccs_admin.specs.Texts.{named_by};
-ghost use Rattle.sccs_alter.specs.AlterStep.{alter_checks, given_text};
-ghost use Rattle.sccs_alter.specs.Parts.{ReadsAt};
+ghost use Rattle.sccs_alter.specs.AlterStep.{alter_checks, description_text};
+ghost use Rattle.sccs_table.specs.FrontFile.{IsFirst, IsPlaced, ReadsDisk};
+ghost use Rattle.sccs_table.specs.ReaderState.{file_in};
+ghost use Rattle.sccs_alter.specs.Parts.{AnswersRead, ReadsAt};
 
 use sccs_admin::read_named;
 use sccs_base::{Bytes, Name};
-use sccs_body::inspect;
+use sccs_body::{inspect, inspect_any_sum};
 use sccs_disk::Disk;
 use sccs_files::WholeFault;
+use sccs_grammar::FileFault;
 use sccs_sid::{Refusal, StepFault};
 use sccs_table::Front;
 use sccs_words::{AdminWords, Given};
@@ -53,7 +55,7 @@ fn named_text<D: Disk>(
     disk: &mut D,
 ) -> Result<Bytes, StepFault>
     requires { IsSfile name.now }
-    ensures told { IfSome (seen (D.told disk.old)) (λ v. Answers (given_text (given.From file.now) (map (unlocked name.now v) (named_by (given.From file.now)))) result) }
+    ensures told { IfSome (seen (D.told disk.old)) (λ v. Answers (description_text (given.From file.now) (map (unlocked name.now v) (named_by (given.From file.now)))) result) }
     ensures bound { IfOk result (λ text. length text ≤ file_limit) }
     ensures checks { RefusesWithin alter_checks result }
     ensures frame { OnlyReads D.told D.faults disk.old disk.new result }
@@ -75,7 +77,7 @@ fn read_text<D: Disk>(
     disk: &mut D,
 ) -> Result<Bytes, StepFault>
     requires { IsSfile name.now }
-    ensures told { IfSome (seen (D.told disk.old)) (λ v. Answers (given_text given (map (unlocked name.now v) (named_by given))) result) }
+    ensures told { IfSome (seen (D.told disk.old)) (λ v. Answers (description_text given (map (unlocked name.now v) (named_by given))) result) }
     ensures bound { IfOk result (λ text. length text ≤ file_limit) }
     ensures checks { RefusesWithin alter_checks result }
     ensures frame { OnlyReads D.told D.faults disk.old disk.new result }
@@ -87,8 +89,29 @@ fn read_text<D: Disk>(
     }
 }
 
+// reads an s-file to its end; with -z its stored sum is passed over
+fn read_sfile<D: Disk>(
+    alloc: Global,
+    fix: bool,
+    disk: &mut D,
+    name: &Name,
+) -> Result<Front, FileFault>
+    ensures frame { ReadsDisk D.told D.faults disk.old disk.new result }
+    ensures first { IsFirst result }
+    ensures placed { IfOk result IsPlaced }
+    ensures rules { IfOk result (λ front. IsHeader front.header) }
+    ensures spelled { IfOk result (λ front. IsSpelled front.header) }
+    ensures told { IfSome (seen (D.told disk.old)) (λ view. AnswersRead fix (file_in view name.now) result) }
+{
+    if fix {
+        inspect_any_sum(alloc, disk, name)
+    } else {
+        inspect(alloc, disk, name)
+    }
+}
+
 /// Reads an s-file to its end and the text of the file that -t names, and makes these checks in their order:
-/// both are there, neither is longer than 1,073,741,824 bytes, and the s-file is one, with its sum.
+/// both are there, neither is longer than 1,073,741,824 bytes, and the s-file is one, with its sum unless -z is given.
 pub fn read_both<D: Disk>(
     alloc: Global,
     words: &AdminWords,
@@ -112,7 +135,7 @@ pub fn read_both<D: Disk>(
         Ok(text) => text,
         Err(fault) => return Err(fault),
     };
-    match inspect(alloc, disk, name) {
+    match read_sfile(alloc, words.fix, disk, name) {
         Ok(front) => Ok(Read { front, text }),
         Err(fault) => Err(StepFault::from(fault)),
     }

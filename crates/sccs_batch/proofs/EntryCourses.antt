@@ -14,9 +14,9 @@ use Rattle.sccs_courses.specs.Sayings.{BegunSaid, IsSaid, WholeSaid}
 use Rattle.sccs_courses.proofs.JoinedCourses.{course_cut, course_then}
 use Rattle.sccs_courses.proofs.Portions.{both_all, steps_more}
 use Rattle.sccs_courses.proofs.SaidCourses.{never_course, nothing_course, said_course}
-use Rattle.sccs_batch.specs.BatchLines.{bad_line, status_line}
-use Rattle.sccs_batch.specs.BatchText.{Batch, entries_from, entry_of, with_entry}
-use Rattle.sccs_batch.specs.Batches.{BegunEntries, BegunEntry, Reaches, RunsEntries, RunsEntry, RunsNext, RunsOwn, WholeEntries, WholeEntry, batch_end, entries_course, entry_course}
+use Rattle.sccs_batch.specs.BatchLines.{bad_entry_line, status_line}
+use Rattle.sccs_batch.specs.BatchText.{Batch, batch_from, batch_entry, batch_with}
+use Rattle.sccs_batch.specs.Batches.{BegunEntries, BegunEntry, ReachesLines, RunsEntries, RunsEntry, RunsNext, RunsOwn, WholeEntries, WholeEntry, batch_end, entries_course, entry_course}
 use Rattle.sccs_batch.specs.declared.entries.Entry.{Entry}
 use Rattle.sccs_batch.specs.declared.entries.FoundEntry.{FoundEntry}
 use Rattle.sccs_batch.proofs.BatchTexts.{from_skip}
@@ -32,7 +32,7 @@ entry_takes command takes folder i =
 
 end_takes : (bad : Option ℕ) (folder : Folder) (i : List ℕ) → AllTake (portions_of (batch_end bad) folder i)
 end_takes None folder i = tt
-end_takes (Some number) folder i = said_takes [] (bad_line number) 1 folder i
+end_takes (Some number) folder i = said_takes [] (bad_entry_line number) 1 folder i
 
 pub entries_take : (command : Entry → Courses) → ((e : Entry) (folder : Folder) (i : List ℕ) → AllTake (portions_of (command e) folder i)) → (entries : List Entry) (bad : Option ℕ) (folder : Folder) (i : List ℕ)
     → AllTake (portions_of (entries_course command (record { entries = entries; bad = bad })) folder i)
@@ -138,16 +138,16 @@ entry_said command fits whole begun status r s t u (inr never) same is causes = 
 -- ---- the next entry
 
 -- the batch of a line and those behind it
-batch_next : (number : ℕ) (line : List ℕ) (tail : List (List ℕ)) (found : Option FoundEntry) → entry_of line tail ≡ found → entries_from 0 number (line ∷ tail) ≡ with_entry number found (λ own. entries_from own (number + 1) tail)
-batch_next number line tail found is = ap (λ (o : Option FoundEntry). with_entry number o (λ own. entries_from own (number + 1) tail)) is
+batch_next : (number : ℕ) (line : List ℕ) (tail : List (List ℕ)) (found : Option FoundEntry) → batch_entry line tail ≡ found → batch_from 0 number (line ∷ tail) ≡ batch_with number found (λ own. batch_from own (number + 1) tail)
+batch_next number line tail found is = ap (λ (o : Option FoundEntry). batch_with number o (λ own. batch_from own (number + 1) tail)) is
 
 -- want of memory before it
 begun_next : (whole : Entry → ℕ → List NamedStep → Type 0) (begun : Entry → List NamedStep → Type 0) (number : ℕ) (rest : ℕ → Batch) (found : Option FoundEntry) → ((e : Entry) → (ts : List NamedStep) × begun e ts)
-    → (ts : List NamedStep) × BegunEntries whole begun (with_entry number found rest) ts
-begun_next whole begun number rest None might = (said [] (bad_line number) ∷ [], refl)
+    → (ts : List NamedStep) × BegunEntries whole begun (batch_with number found rest) ts
+begun_next whole begun number rest None might = (said [] (bad_entry_line number) ∷ [], refl)
 begun_next whole begun number rest (Some found) might = ((might found.entry).0, inl (inl (might found.entry).1))
 
-some_next : (command : Entry → Courses) (number : ℕ) (rest : ℕ → Batch) (found : Option FoundEntry) (folder : Folder) (i : List ℕ) → 0 < length (steps_along (entries_course command (with_entry number found rest)) folder i)
+some_next : (command : Entry → Courses) (number : ℕ) (rest : ℕ → Batch) (found : Option FoundEntry) (folder : Folder) (i : List ℕ) → 0 < length (steps_along (entries_course command (batch_with number found rest)) folder i)
 some_next command number rest None folder i = omega arith
 some_next command number rest (Some found) folder i =
     subst (λ (ts : List NamedStep). 0 < length ts) (sym (steps_more (portions_of (entry_course (command found.entry)) folder i) _))
@@ -157,10 +157,10 @@ pub next_never : (command : Entry → Courses) (fits : Entry → Type 0) (whole 
     → ((e : Entry) (folder : Folder) (i : List ℕ) → AllTake (portions_of (command e) folder i)) → ((e : Entry) → (ts : List NamedStep) × begun e ts) → RunsNext command fits whole begun number line tail (Err ends.Memory) s s
 next_never command fits whole begun number line tail s takes might = λ all a reaches.
     reaches (Err ends.Memory) s
-    (never_course (entries_course command (entries_from 0 number (line ∷ tail))) (λ i. AllByRecursion fits (entries_from 0 number (line ∷ tail)).entries) (WholeEntries whole (entries_from 0 number (line ∷ tail))) (BegunEntries whole begun (entries_from 0 number (line ∷ tail)))
-    (begun_next whole begun number (λ own. entries_from own (number + 1) tail) (entry_of line tail) might).0 ends.Memory s s
-    (entries_take command takes (entries_from 0 number (line ∷ tail)).entries (entries_from 0 number (line ∷ tail)).bad)
-    (some_next command number (λ own. entries_from own (number + 1) tail) (entry_of line tail)) (begun_next whole begun number (λ own. entries_from own (number + 1) tail) (entry_of line tail) might).1 refl
+    (never_course (entries_course command (batch_from 0 number (line ∷ tail))) (λ i. AllByRecursion fits (batch_from 0 number (line ∷ tail)).entries) (WholeEntries whole (batch_from 0 number (line ∷ tail))) (BegunEntries whole begun (batch_from 0 number (line ∷ tail)))
+    (begun_next whole begun number (λ own. batch_from own (number + 1) tail) (batch_entry line tail) might).0 ends.Memory s s
+    (entries_take command takes (batch_from 0 number (line ∷ tail)).entries (batch_from 0 number (line ∷ tail)).bad)
+    (some_next command number (λ own. batch_from own (number + 1) tail) (batch_entry line tail)) (begun_next whole begun number (λ own. batch_from own (number + 1) tail) (batch_entry line tail) might).1 refl
     (record {
       input_later = omega arith;
       out_later = omega arith;
@@ -172,37 +172,37 @@ next_never command fits whole begun number line tail s takes might = λ all a re
     }))
 
 -- it is none, which was said, or a prefix of that
-bad_said : (command : Entry → Courses) (fits : Entry → Type 0) (whole : Entry → ℕ → List NamedStep → Type 0) (begun : Entry → List NamedStep → Type 0) (number : ℕ) (line : List ℕ) (tail : List (List ℕ)) (r : Result ℕ Fault) (s t : Setting) → entry_of line tail ≡ None
-    → t.stage.told ≡ s.stage.told → IsSaid [] (bad_line number) 1 r s.stage t.stage → RunCauses r s.faults t.faults → RunsEntries command fits whole begun (entries_from 0 number (line ∷ tail)) r s t
+bad_said : (command : Entry → Courses) (fits : Entry → Type 0) (whole : Entry → ℕ → List NamedStep → Type 0) (begun : Entry → List NamedStep → Type 0) (number : ℕ) (line : List ℕ) (tail : List (List ℕ)) (r : Result ℕ Fault) (s t : Setting) → batch_entry line tail ≡ None
+    → t.stage.told ≡ s.stage.told → IsSaid [] (bad_entry_line number) 1 r s.stage t.stage → RunCauses r s.faults t.faults → RunsEntries command fits whole begun (batch_from 0 number (line ∷ tail)) r s t
 bad_said command fits whole begun number line tail r s t is same says causes =
     subst (λ (b : Batch). RunsEntries command fits whole begun b r s t) (sym (batch_next number line tail None is))
-    (said_course [] (bad_line number) 1 (λ i. Unit {0}) r s t same says causes)
+    (said_course [] (bad_entry_line number) 1 (λ i. Unit {0}) r s t same says causes)
 
-pub next_bad : (command : Entry → Courses) (fits : Entry → Type 0) (whole : Entry → ℕ → List NamedStep → Type 0) (begun : Entry → List NamedStep → Type 0) (number : ℕ) (line : List ℕ) (tail : List (List ℕ)) (s t : Setting) → entry_of line tail ≡ None
-    → t.stage.told ≡ s.stage.told → IsSaid [] (bad_line number) 1 (Ok 1) s.stage t.stage → RunCauses (Ok 1) s.faults t.faults → RunsNext command fits whole begun number line tail (Ok None) s t
+pub next_bad : (command : Entry → Courses) (fits : Entry → Type 0) (whole : Entry → ℕ → List NamedStep → Type 0) (begun : Entry → List NamedStep → Type 0) (number : ℕ) (line : List ℕ) (tail : List (List ℕ)) (s t : Setting) → batch_entry line tail ≡ None
+    → t.stage.told ≡ s.stage.told → IsSaid [] (bad_entry_line number) 1 (Ok 1) s.stage t.stage → RunCauses (Ok 1) s.faults t.faults → RunsNext command fits whole begun number line tail (Ok None) s t
 next_bad command fits whole begun number line tail s t is same says causes = λ all a reaches. reaches (Ok 1) t (bad_said command fits whole begun number line tail (Ok 1) s t is same says causes)
 
-pub next_unsaid : (command : Entry → Courses) (fits : Entry → Type 0) (whole : Entry → ℕ → List NamedStep → Type 0) (begun : Entry → List NamedStep → Type 0) (number : ℕ) (line : List ℕ) (tail : List (List ℕ)) (s t : Setting) → entry_of line tail ≡ None
-    → t.stage.told ≡ s.stage.told → IsSaid [] (bad_line number) 1 (Err ends.WriteFault) s.stage t.stage → RunCauses (Err ends.WriteFault) s.faults t.faults → RunsNext command fits whole begun number line tail (Err ends.WriteFault) s t
+pub next_unsaid : (command : Entry → Courses) (fits : Entry → Type 0) (whole : Entry → ℕ → List NamedStep → Type 0) (begun : Entry → List NamedStep → Type 0) (number : ℕ) (line : List ℕ) (tail : List (List ℕ)) (s t : Setting) → batch_entry line tail ≡ None
+    → t.stage.told ≡ s.stage.told → IsSaid [] (bad_entry_line number) 1 (Err ends.WriteFault) s.stage t.stage → RunCauses (Err ends.WriteFault) s.faults t.faults → RunsNext command fits whole begun number line tail (Err ends.WriteFault) s t
 next_unsaid command fits whole begun number line tail s t is same says causes = λ all a reaches. reaches (Err ends.WriteFault) t (bad_said command fits whole begun number line tail (Err ends.WriteFault) s t is same says causes)
 
 -- it ended early
-pub next_cut : (command : Entry → Courses) (fits : Entry → Type 0) (whole : Entry → ℕ → List NamedStep → Type 0) (begun : Entry → List NamedStep → Type 0) (number : ℕ) (line : List ℕ) (tail : List (List ℕ)) (found : FoundEntry) (fault : Fault) (s t : Setting) → entry_of line tail ≡ Some found
+pub next_cut : (command : Entry → Courses) (fits : Entry → Type 0) (whole : Entry → ℕ → List NamedStep → Type 0) (begun : Entry → List NamedStep → Type 0) (number : ℕ) (line : List ℕ) (tail : List (List ℕ)) (found : FoundEntry) (fault : Fault) (s t : Setting) → batch_entry line tail ≡ Some found
     → ((e : Entry) (folder : Folder) (i : List ℕ) → AllTake (portions_of (command e) folder i)) → RunsEntry (command found.entry) (fits found.entry) (whole found.entry) (begun found.entry) (Err fault) s t
     → RunsNext command fits whole begun number line tail (Err fault) s t
 next_cut command fits whole begun number line tail found fault s t is takes cut = λ all a reaches.
-    let more : Batch = entries_from found.lines (number + 1) tail in
+    let more : Batch = batch_from found.lines (number + 1) tail in
     reaches (Err fault) t
     (subst (λ (b : Batch). RunsEntries command fits whole begun b (Err fault) s t) (sym (batch_next number line tail (Some found) is))
     (course_cut (entry_course (command found.entry)) (λ code. entries_course command more) (λ i. AllByRecursion fits (found.entry ∷ more.entries)) (λ i. fits found.entry)
     (WholeEntry (whole found.entry)) (BegunEntry (whole found.entry) (begun found.entry)) (λ code. WholeEntries whole more) (λ code. BegunEntries whole begun more) fault s t (λ i given. given.0) (λ code. entries_take command takes more.entries more.bad) cut))
 
 -- it was run
-pub next_run : (command : Entry → Courses) (fits : Entry → Type 0) (whole : Entry → ℕ → List NamedStep → Type 0) (begun : Entry → List NamedStep → Type 0) (number : ℕ) (line : List ℕ) (tail : List (List ℕ)) (found : FoundEntry) (status : ℕ) (s t : Setting) → entry_of line tail ≡ Some found → found.lines ≤ length tail
+pub next_run : (command : Entry → Courses) (fits : Entry → Type 0) (whole : Entry → ℕ → List NamedStep → Type 0) (begun : Entry → List NamedStep → Type 0) (number : ℕ) (line : List ℕ) (tail : List (List ℕ)) (found : FoundEntry) (status : ℕ) (s t : Setting) → batch_entry line tail ≡ Some found → found.lines ≤ length tail
     → ((e : Entry) (folder : Folder) (i : List ℕ) → AllTake (portions_of (command e) folder i)) → RunsEntry (command found.entry) (fits found.entry) (whole found.entry) (begun found.entry) (Ok status) s t
     → RunsNext command fits whole begun number line tail (Ok (Some found.lines)) s t
 next_run command fits whole begun number line tail found status s t is within takes done = λ all a reaches.
-    let more : Batch = entries_from found.lines (number + 1) tail in
+    let more : Batch = batch_from found.lines (number + 1) tail in
     λ r u next. reaches r u
     (subst (λ (b : Batch). RunsEntries command fits whole begun b r s u) (sym (batch_next number line tail (Some found) is))
     (course_then (entry_course (command found.entry)) (λ code. entries_course command more) (λ i. AllByRecursion fits (found.entry ∷ more.entries)) (λ i. fits found.entry) (λ i. AllByRecursion fits more.entries)
@@ -211,28 +211,28 @@ next_run command fits whole begun number line tail found status s t is within ta
 
 -- ---- no more lines
 
-pub reaches_end : (command : Entry → Courses) (fits : Entry → Type 0) (whole : Entry → ℕ → List NamedStep → Type 0) (begun : Entry → List NamedStep → Type 0) (all : Batch) (number : ℕ) (rest : List (List ℕ)) (s t : Setting) → rest ≡ [] → Reaches command fits whole begun all number rest s t
+pub reaches_end : (command : Entry → Courses) (fits : Entry → Type 0) (whole : Entry → ℕ → List NamedStep → Type 0) (begun : Entry → List NamedStep → Type 0) (all : Batch) (number : ℕ) (rest : List (List ℕ)) (s t : Setting) → rest ≡ [] → ReachesLines command fits whole begun all number rest s t
     → RunsEntries command fits whole begun all (Ok 0) s t
 reaches_end command fits whole begun all number rest s t none reaches =
-    reaches (Ok 0) t (subst (λ (lines : List (List ℕ)). RunsEntries command fits whole begun (entries_from 0 number lines) (Ok 0) t t) (sym none) (nothing_course 0 (λ i. Unit {0}) (λ ts. ts ≡ []) t))
+    reaches (Ok 0) t (subst (λ (lines : List (List ℕ)). RunsEntries command fits whole begun (batch_from 0 number lines) (Ok 0) t t) (sym none) (nothing_course 0 (λ i. Unit {0}) (λ ts. ts ≡ []) t))
 
 -- ---- a place among the lines
 
 -- before the line of a place
 pub reaches_line : (command : Entry → Courses) (fits : Entry → Type 0) (whole : Entry → ℕ → List NamedStep → Type 0) (begun : Entry → List NamedStep → Type 0) (all : Batch) (lines : List (List ℕ)) (at : ℕ) (line item : List ℕ) (tail : List (List ℕ)) (s t : Setting)
-    → line ≡ get_or lines at item → at < length lines → tail ≡ drop (at + 1) lines → Reaches command fits whole begun all (at + 1) (drop at lines) s t → Reaches command fits whole begun all (at + 1) (line ∷ tail) s t
+    → line ≡ get_or lines at item → at < length lines → tail ≡ drop (at + 1) lines → ReachesLines command fits whole begun all (at + 1) (drop at lines) s t → ReachesLines command fits whole begun all (at + 1) (line ∷ tail) s t
 reaches_line command fits whole begun all lines at line item tail s t is below rest reaches =
-    subst (λ (ls : List (List ℕ)). Reaches command fits whole begun all (at + 1) ls s t)
+    subst (λ (ls : List (List ℕ)). ReachesLines command fits whole begun all (at + 1) ls s t)
     (drop_more lines at item below ∙ (ap (λ (l : List ℕ). l ∷ drop (at + 1) lines) (sym is) ∙ ap (λ (ls : List (List ℕ)). line ∷ ls) (sym rest))) reaches
 
 -- behind the lines of an entry
 pub reaches_on : (command : Entry → Courses) (fits : Entry → Type 0) (whole : Entry → ℕ → List NamedStep → Type 0) (begun : Entry → List NamedStep → Type 0) (all : Batch) (lines : List (List ℕ)) (at own : ℕ) (tail : List (List ℕ)) (s u : Setting)
-    → tail ≡ drop (at + 1) lines → Reaches command fits whole begun all (at + 1 + 1 + own) (drop own tail) s u → Reaches command fits whole begun all (at + (1 + own) + 1) (drop (at + (1 + own)) lines) s u
+    → tail ≡ drop (at + 1) lines → ReachesLines command fits whole begun all (at + 1 + 1 + own) (drop own tail) s u → ReachesLines command fits whole begun all (at + (1 + own) + 1) (drop (at + (1 + own)) lines) s u
 reaches_on command fits whole begun all lines at own tail s u rest reaches =
     let number : at + 1 + 1 + own ≡ at + (1 + own) + 1 = omega arith in
     let place : at + 1 + own ≡ at + (1 + own) = omega arith in
-    subst (λ n. Reaches command fits whole begun all n (drop (at + (1 + own)) lines) s u) number
-    (subst (λ (ls : List (List ℕ)). Reaches command fits whole begun all (at + 1 + 1 + own) ls s u)
+    subst (λ n. ReachesLines command fits whole begun all n (drop (at + (1 + own)) lines) s u) number
+    (subst (λ (ls : List (List ℕ)). ReachesLines command fits whole begun all (at + 1 + 1 + own) ls s u)
     (ap (λ (ls : List (List ℕ)). drop own ls) rest ∙ (drop-drop own (at + 1) lines ∙ ap (λ n. drop n lines) place)) reaches)
 
 -- they are within the lines

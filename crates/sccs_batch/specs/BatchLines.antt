@@ -6,5 +6,5 @@ abbrev pub status_line : ℕ → List ℕ
 status_line status = codes "= " ++ (decimal status ++ codes "\n")
 
 -- the number of the line that is no entry
-abbrev pub bad_line : ℕ → List ℕ
-bad_line number = codes "BATCH: line " ++ (decimal number ++ codes "\n")
+abbrev pub bad_entry_line : ℕ → List ℕ
+bad_entry_line number = codes "BATCH: line " ++ (decimal number ++ codes "\n")

@@ -56,8 +56,8 @@ entry_by head rest =
     only (not (nat_lt (length rest) (head.words + head.lines)) && is_single (take head.words rest)) (record { entry = entry_with head rest; lines = head.words + head.lines })
 
 -- the entry of a line and those behind it
-abbrev pub entry_of : List ℕ → List (List ℕ) → Option FoundEntry
-entry_of line rest = head_of line >>= (λ head. entry_by head rest)
+abbrev pub batch_entry : List ℕ → List (List ℕ) → Option FoundEntry
+batch_entry line rest = head_of line >>= (λ head. entry_by head rest)
 
 -- The entries of a batch up to the first that is none, and the number of its line, from 1.
 pub record Batch : Type 0 where
@@ -68,15 +68,15 @@ abbrev pub no_more : Option ℕ → Batch
 no_more bad = record { entries = []; bad = bad }
 
 -- an entry and those behind its lines, or none
-abbrev pub with_entry : ℕ → Option FoundEntry → (ℕ → Batch) → Batch
-with_entry number None rest = no_more (Some number)
-with_entry number (Some found) rest = let more = rest found.lines in record { entries = found.entry ∷ more.entries; bad = more.bad }
+abbrev pub batch_with : ℕ → Option FoundEntry → (ℕ → Batch) → Batch
+batch_with number None rest = no_more (Some number)
+batch_with number (Some found) rest = let more = rest found.lines in record { entries = found.entry ∷ more.entries; bad = more.bad }
 
 -- the entries of lines from this number on, behind so many that are passed over
-abbrev pub entries_from : ℕ → ℕ → List (List ℕ) → Batch
-entries_from skip number [] = no_more None
-entries_from zero number (line ∷ lines) = with_entry number (entry_of line lines) (λ own. entries_from own (number + 1) lines)
-entries_from (suc skip) number (line ∷ lines) = entries_from skip (number + 1) lines
+abbrev pub batch_from : ℕ → ℕ → List (List ℕ) → Batch
+batch_from skip number [] = no_more None
+batch_from zero number (line ∷ lines) = batch_with number (batch_entry line lines) (λ own. batch_from own (number + 1) lines)
+batch_from (suc skip) number (line ∷ lines) = batch_from skip (number + 1) lines
 
 abbrev pub batch_of : List (List ℕ) → Batch
-batch_of lines = entries_from 0 1 lines
+batch_of lines = batch_from 0 1 lines

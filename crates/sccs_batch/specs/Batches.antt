@@ -15,8 +15,8 @@ use Rattle.sccs_steps.specs.declared.faults.Fault.TheVariants as ends
 use Rattle.sccs_courses.specs.Courses.{Courses, follow, nothing, one_by_one, saying}
 use Rattle.sccs_courses.specs.Following.{BegunList, BegunThen, RunsCourse, WholeList, WholeThen}
 use Rattle.sccs_courses.specs.Sayings.{BegunSaid, WholeNothing, WholeSaid}
-use Rattle.sccs_batch.specs.BatchLines.{bad_line, status_line}
-use Rattle.sccs_batch.specs.BatchText.{Batch, batch_of, entries_from}
+use Rattle.sccs_batch.specs.BatchLines.{bad_entry_line, status_line}
+use Rattle.sccs_batch.specs.BatchText.{Batch, batch_of, batch_from}
 use Rattle.sccs_batch.specs.declared.entries.Entry.{Entry}
 
 -- the command of an entry, and then its status is written
@@ -26,7 +26,7 @@ entry_course command = follow command (λ status. saying (status_line status) []
 -- where a batch ends: at a line that is no entry, which is said, or where its lines do
 abbrev pub batch_end : Option ℕ → Courses
 batch_end None = nothing 0
-batch_end (Some number) = saying [] (bad_line number) 1
+batch_end (Some number) = saying [] (bad_entry_line number) 1
 
 -- the entries in their order
 abbrev pub entries_course : (Entry → Courses) → Batch → Courses
@@ -51,11 +51,11 @@ BegunEntry whole begun = BegunThen whole begun (λ status. BegunSaid (status_lin
 
 abbrev pub WholeEnd : Option ℕ → ℕ → List NamedStep → Type 0
 WholeEnd None = WholeNothing 0
-WholeEnd (Some number) = WholeSaid [] (bad_line number) 1
+WholeEnd (Some number) = WholeSaid [] (bad_entry_line number) 1
 
 abbrev pub BegunEnd : Option ℕ → List NamedStep → Type 0
 BegunEnd None ts = ts ≡ []
-BegunEnd (Some number) ts = BegunSaid [] (bad_line number) ts
+BegunEnd (Some number) ts = BegunSaid [] (bad_entry_line number) ts
 
 abbrev pub WholeEntries : (Entry → ℕ → List NamedStep → Type 0) → Batch → ℕ → List NamedStep → Type 0
 WholeEntries whole batch = WholeList (λ (e : Entry). WholeEntry (whole e)) (WholeEnd batch.bad) batch.entries
@@ -88,20 +88,20 @@ RunsEntries command fits whole begun batch r s t =
     RunsCourse (entries_course command batch) (λ i. AllByRecursion fits batch.entries) (WholeEntries whole batch) (BegunEntries whole begun batch) r s t
 
 -- where a call stands that runs all entries, before these lines, the first of which has this number
-abbrev pub Reaches : (Entry → Courses) → (Entry → Type 0) → (Entry → ℕ → List NamedStep → Type 0) → (Entry → List NamedStep → Type 0) → Batch → ℕ → List (List ℕ) → Setting → Setting → Type 0
-Reaches command fits whole begun all number rest s t =
-    (r : Result ℕ Fault) (u : Setting) → RunsEntries command fits whole begun (entries_from 0 number rest) r t u → RunsEntries command fits whole begun all r s u
+abbrev pub ReachesLines : (Entry → Courses) → (Entry → Type 0) → (Entry → ℕ → List NamedStep → Type 0) → (Entry → List NamedStep → Type 0) → Batch → ℕ → List (List ℕ) → Setting → Setting → Type 0
+ReachesLines command fits whole begun all number rest s t =
+    (r : Result ℕ Fault) (u : Setting) → RunsEntries command fits whole begun (batch_from 0 number rest) r t u → RunsEntries command fits whole begun all r s u
 
 -- where it stands behind the next entry, or how it ends: at a line that is none with the status 1
 abbrev pub NextEnds : (Entry → Courses) → (Entry → Type 0) → (Entry → ℕ → List NamedStep → Type 0) → (Entry → List NamedStep → Type 0) → Batch → ℕ → List (List ℕ) → Result (Option ℕ) Fault → Setting → Setting → Type 0
-NextEnds command fits whole begun all number tail (Ok (Some own)) s u = Reaches command fits whole begun all (number + 1 + own) (drop own tail) s u
+NextEnds command fits whole begun all number tail (Ok (Some own)) s u = ReachesLines command fits whole begun all (number + 1 + own) (drop own tail) s u
 NextEnds command fits whole begun all number tail (Ok None) s u = RunsEntries command fits whole begun all (Ok 1) s u
 NextEnds command fits whole begun all number tail (Err fault) s u = RunsEntries command fits whole begun all (Err fault) s u
 
 -- a call that runs the entry of a line, with the lines behind it
 abbrev pub RunsNext : (Entry → Courses) → (Entry → Type 0) → (Entry → ℕ → List NamedStep → Type 0) → (Entry → List NamedStep → Type 0) → ℕ → List ℕ → List (List ℕ) → Result (Option ℕ) Fault → Setting → Setting → Type 0
 RunsNext command fits whole begun number line tail r t u =
-    (all : Batch) (s : Setting) → Reaches command fits whole begun all number (line ∷ tail) s t → NextEnds command fits whole begun all number tail r s u
+    (all : Batch) (s : Setting) → ReachesLines command fits whole begun all number (line ∷ tail) s t → NextEnds command fits whole begun all number tail r s u
 
 -- a call that runs a batch
 abbrev pub RunsBatch : (Entry → Courses) → (Entry → Type 0) → (Entry → ℕ → List NamedStep → Type 0) → (Entry → List NamedStep → Type 0) → Result ℕ Fault → Setting → Setting → Type 0

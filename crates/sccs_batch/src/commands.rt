@@ -1,10 +1,11 @@
-ghost use Rattle.std.specs.Prelude.{ℕ, List, Result};
+ghost use Rattle.std.specs.Prelude.{◌≡◌, ℕ, true, List, Result};
 ghost use Rattle.sccs_disk.specs.Files.{Folder};
 ghost use Rattle.sccs_sid.specs.Moment.{IsMoment};
 ghost use Rattle.sccs_steps.specs.StepLists.{NamedStep};
 ghost use Rattle.sccs_courses.specs.Courses.{AllTake, Courses, portions_of};
 ghost use Rattle.sccs_courses.specs.QuietSettings.{quiet};
 ghost use Rattle.sccs_batch.specs.Batches.{RunsOwn};
+ghost use Rattle.sccs_batch.specs.BatchText.{is_single};
 ghost use Rattle.sccs_batch.specs.declared.entries.Entry.{Entry};
 
 use crate::entries::Entry;
@@ -33,7 +34,7 @@ pub trait Commands {
     /// Some steps may have been begun.
     ghost might: { (commands : Self) (entry : Entry) → (ts : List NamedStep) × begun commands entry ts };
 
-    /// Does the command of an entry, with the entry's stamp, words and input.
+    /// Does the command of an entry, with the entry's stamp, words and input. It is no list of commands.
     fn run<O: Sink, E: Sink, D: Disk>(
         &self,
         alloc: Global,
@@ -43,6 +44,7 @@ pub trait Commands {
         disk: &mut D,
     ) -> Result<u8, Fault>
         requires moment { IsMoment entry.now.stamp.moment }
+        requires single { is_single entry.now.words ≡ true }
         ensures { RunsOwn (command self.now entry.now) (fits self.now entry.now) (whole self.now entry.now) (begun self.now entry.now) result
             (quiet O.Sink E.Sink D.Disk out.old err.old disk.old) (quiet O.Sink E.Sink D.Disk out.new err.new disk.new) };
 }

@@ -1,6 +1,6 @@
-ghost use Rattle.std.specs.Prelude.{◌≡◌, ◌≤◌, length, option_map, IfOk, IfSome};
+ghost use Rattle.std.specs.Prelude.{◌≡◌, ◌≤◌, length, option_map, true, IfOk, IfSome};
 ghost use Rattle.sccs_sid.specs.Moment.{IsMoment};
-ghost use Rattle.sccs_batch.specs.BatchText.{are_counts, entry_of, entry_with, field_of, head_of, is_single, with_lfs};
+ghost use Rattle.sccs_batch.specs.BatchText.{are_counts, batch_entry, entry_with, field_of, head_of, is_single, with_lfs};
 
 use crate::entries::{Entry, EntryHead, FoundEntry};
 use sccs_base::{Bytes, LF, Line, ListOf, Login, Memory, Words};
@@ -113,8 +113,9 @@ fn entry_with(
 
 /// The entry that a line begins, with the lines behind it; None exactly where it is none.
 pub fn read_entry(alloc: Global, line: &[u8], rest: &[Line]) -> Result<Option<FoundEntry>, Memory>
-    ensures value { IfOk result (λ found. found ≡ entry_of line.now rest.now) }
+    ensures value { IfOk result (λ found. found ≡ batch_entry line.now rest.now) }
     ensures valid { IfOk result (λ found. IfSome found (λ it. IsMoment it.entry.stamp.moment)) }
+    ensures single { IfOk result (λ found. IfSome found (λ it. is_single it.entry.words ≡ true)) }
     ensures within { IfOk result (λ found. IfSome found (λ it. it.lines ≤ length rest.now)) }
 {
     let Some(head) = read_head(line) else {

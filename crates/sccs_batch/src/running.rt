@@ -1,8 +1,8 @@
-ghost use Rattle.std.specs.Prelude.{◌≤◌, length, IfOk, IfSome};
+ghost use Rattle.std.specs.Prelude.{◌≡◌, ◌≤◌, true, length, IfOk, IfSome};
 ghost use Rattle.sccs_sid.specs.Moment.{IsMoment};
 ghost use Rattle.sccs_steps.specs.Settings.{setting_of};
 ghost use Rattle.sccs_courses.specs.QuietSettings.{quiet};
-ghost use Rattle.sccs_batch.specs.BatchText.{batch_of};
+ghost use Rattle.sccs_batch.specs.BatchText.{batch_of, is_single};
 ghost use Rattle.sccs_batch.specs.Batches.{RunsBatch, RunsEntries, RunsEntry, RunsNext, RefusesInput};
 
 use crate::commands::Commands;
@@ -26,6 +26,7 @@ fn run_entry<C: Commands, O: Sink, E: Sink, D: Disk>(
     disk: &mut D,
 ) -> Result<u8, Fault>
     requires moment { IsMoment entry.now.stamp.moment }
+    requires single { is_single entry.now.words ≡ true }
     ensures { RunsEntry (C.command commands.now entry.now) (C.fits commands.now entry.now) (C.whole commands.now entry.now) (C.begun commands.now entry.now) result
         (quiet O.Sink E.Sink D.Disk out.old err.old disk.old) (quiet O.Sink E.Sink D.Disk out.new err.new disk.new) }
 {

@@ -21,7 +21,8 @@ use Rattle.sccs_table.specs.ReaderState.{ReaderState, StandsIn, Stays, behind_su
 use Rattle.sccs_table.proofs.FileLaws.{sum_taken}
 use Rattle.sccs_table.proofs.ReaderLaws.{holding}
 use Rattle.sccs_table.specs.SumOf.{IsPlainSumOf}
-use Rattle.sccs_body.specs.AnySum.{AnswersUnsummed, unsummed_file, unsummed_front}
+use Rattle.sccs_grammar.specs.AnySum.{unsummed_file, unsummed_front}
+use Rattle.sccs_body.specs.AnySum.{AnswersUnsummed}
 use Rattle.sccs_body.specs.Behind.{IsRead, ReadsBehind}
 use Rattle.sccs_body.specs.BodyFile.{ChecksFile, items_of}
 use Rattle.sccs_body.specs.ToCome.{IsFrontFor}
@@ -157,23 +158,3 @@ any_judged o p q file name size begun now last n Holds o_is p_is q_is fresh long
 -- the front that was read is placed
 pub placed_is : (r : Result Front FileFault) (front : Front) → r ≡ Ok front → IfOk r IsPlaced → IsPlaced front
 placed_is r front is placed = subst (λ q. IfOk q IsPlaced) is placed
-
--- ---- beside reading that checks the sum
-
-judged_by : (file : List ℕ) (o : Opened) (holds : Bool) → opened file ≡ Ok o → sum_holds o ≡ holds
-    → (file_of file ≡ unsummed_file file) ⊎ ((stored plain : ℕ) × (file_of file ≡ Err (BadSum stored plain)))
-unfolding file_of checked_front unsummed_file unsummed_front
-judged_by file o true is sums = inl (rw (is, sums) refl)
-judged_by file o false is sums = inr (o.sum_of, plain_sum o.bytes, rw (is, sums) refl)
-
-unopened_by : (file : List ℕ) (e : FileFault) → opened file ≡ Err e → file_of file ≡ unsummed_file file
-unfolding file_of checked_front unsummed_file unsummed_front
-unopened_by file e is = rw is refl
-
-opened_by_case : (file : List ℕ) (r : Result Opened FileFault) → opened file ≡ r
-    → (file_of file ≡ unsummed_file file) ⊎ ((stored plain : ℕ) × (file_of file ≡ Err (BadSum stored plain)))
-opened_by_case file (Ok o) is = judged_by file o (sum_holds o) is refl
-opened_by_case file (Err e) is = inl (unopened_by file e is)
-
-pub passed_over : (file : List ℕ) → (file_of file ≡ unsummed_file file) ⊎ ((stored plain : ℕ) × (file_of file ≡ Err (BadSum stored plain)))
-passed_over file = opened_by_case file (opened file) refl

@@ -21,9 +21,9 @@ use Rattle.sccs_table.specs.declared.fronts.Front.{Front}
 use Rattle.sccs_table.proofs.ReaderLaws.{holding}
 use Rattle.sccs_table.proofs.FileLaws.{fresh_stands, sum_of_all}
 use Rattle.sccs_body.specs.BodyFile.{items_of}
-use Rattle.sccs_body.specs.ItemsRead.{Gives, GivesItem, GoesBehind, IsBehind, texts_behind}
-use Rattle.sccs_body.specs.Reader.{BodyPlace, ItemPlace, at_hand, bytes_left, number_at}
-use Rattle.sccs_body.specs.ToCome.{Agrees, BeginsIn, ComesOrStays, GivesNext, IsFrontFor, KeepsFile, MayPass, TextsCome, ToCome, onto, rest_of}
+use Rattle.sccs_body.specs.ItemsRead.{GivesBodyItem, GivesItem, GoesBehind, IsBehind, texts_behind}
+use Rattle.sccs_body.specs.Reader.{BodyPlace, ItemPlace, at_hand, bytes_left, next_line_number}
+use Rattle.sccs_body.specs.ToCome.{AgreesAtEnd, BeginsIn, ComesOrStays, GivesNext, IsFrontFor, KeepsFile, MayPass, TextsCome, ToCome, onto, rest_of}
 use Rattle.sccs_body.proofs.BodyLaws.{items_on, onto_none}
 use Rattle.sccs_body.proofs.NumberLaws.{number_kept, number_low, number_on}
 use Rattle.sccs_body.proofs.TextLaws.{behind_texts, items_from_texts, some_bytes}
@@ -54,7 +54,7 @@ fresh_comes file name front state first from of knows first_is from_is =
       within = omega (arith, of.size, of.placed.limit, of.placed.within);
       size = of.size;
       sum = of.sum;
-      items = items_at file (live_serials front.header.records) front.body_line (number_at (before_all name state first from front.size front.sum).body file) front.body_from (max from 0) (line_is ∙ sym (number_low file (before_all name state first from front.size front.sum).body (omega arith))) (omega (arith, from_is, of.placed.within, of.placed.limit));
+      items = items_at file (live_serials front.header.records) front.body_line (next_line_number (before_all name state first from front.size front.sum).body file) front.body_from (max from 0) (line_is ∙ sym (number_low file (before_all name state first from front.size front.sum).body (omega arith))) (omega (arith, from_is, of.placed.within, of.placed.limit));
     }
 
 -- ---- the header
@@ -66,7 +66,7 @@ header_read file live before found old new kept state stands held low past bound
     let none = ap length (p.begins low) in
     let from_is : new.body.lines.place ≡ old.body.from = omega (arith, none, low, past, bound, p.within) in
     let place_is : max old.body.from old.body.lines.place ≡ max new.body.from new.body.lines.place = omega (arith, kept.body.from, from_is, low) in
-    let number : number_at new.body file ≡ number_at old.body file = number_low file new.body (omega (arith, kept.body.from, from_is)) ∙ (kept.body.first ∙ sym (number_low file old.body (omega (arith, low)))) in
+    let number : next_line_number new.body file ≡ next_line_number old.body file = number_low file new.body (omega (arith, kept.body.from, from_is)) ∙ (kept.body.first ∙ sym (number_low file old.body (omega (arith, low)))) in
     record {
       behind = subst (λ s. Knows live before s) (sym state) p.behind;
       stands = stands;
@@ -76,24 +76,24 @@ header_read file live before found old new kept state stands held low past bound
       sum = kept.sum ∙ p.sum;
       items = p.items
           ∙ (ap (λ n. items_from live n before (rest_of old file).lines (rest_of old file).tail) (sym number)
-          ∙ ap (λ n. items_from live (number_at new.body file) before (cut (drop n file)).lines (cut (drop n file)).tail) place_is);
+          ∙ ap (λ n. items_from live (next_line_number new.body file) before (cut (drop n file)).lines (cut (drop n file)).tail) place_is);
     }
 
 -- ---- the next item
 
 module _ (file live : List ℕ) (before : List Item) (found : Result (List Item) ℕ) (old new : ItemPlace) (kept : KeepsFile old new) (begun : old.body.from ≤ old.body.lines.place) (onward : old.body.lines.place ≤ new.body.lines.place) (p : ToCome file live before found old) where
   -- the body goes on where the reader stands
-  from_here : found ≡ items_from live (number_at old.body file) before (left old.body.lines file).lines (left old.body.lines file).tail
+  from_here : found ≡ items_from live (next_line_number old.body file) before (left old.body.lines file).lines (left old.body.lines file).tail
   from_here =
       let here : max old.body.from old.body.lines.place ≡ old.body.lines.place = omega arith in
-      p.items ∙ ap (λ n. items_from live (number_at old.body file) before (cut (drop n file)).lines (cut (drop n file)).tail) here
+      p.items ∙ ap (λ n. items_from live (next_line_number old.body file) before (cut (drop n file)).lines (cut (drop n file)).tail) here
 
-  from_there : (items : List Item) → items_from live (number_at new.body file) items (left new.body.lines file).lines (left new.body.lines file).tail ≡ items_from live (number_at new.body file) items (rest_of new file).lines (rest_of new file).tail
+  from_there : (items : List Item) → items_from live (next_line_number new.body file) items (left new.body.lines file).lines (left new.body.lines file).tail ≡ items_from live (next_line_number new.body file) items (rest_of new file).lines (rest_of new file).tail
   from_there items =
       let there : new.body.lines.place ≡ max new.body.from new.body.lines.place = omega (arith, kept.body.from) in
-      ap (λ n. items_from live (number_at new.body file) items (cut (drop n file)).lines (cut (drop n file)).tail) there
+      ap (λ n. items_from live (next_line_number new.body file) items (cut (drop n file)).lines (cut (drop n file)).tail) there
 
-  comes_behind : (items : List Item) → IsBehind live items new → StandsIn new.body.lines file → ToCome file live items (items_from live (number_at new.body file) items (left new.body.lines file).lines (left new.body.lines file).tail) new
+  comes_behind : (items : List Item) → IsBehind live items new → StandsIn new.body.lines file → ToCome file live items (items_from live (next_line_number new.body file) items (left new.body.lines file).lines (left new.body.lines file).tail) new
   comes_behind items behind stands = record {
     behind = behind;
     stands = stands;
@@ -106,12 +106,12 @@ module _ (file live : List ℕ) (before : List Item) (found : Result (List Item)
 
   pub gives_next : (result : Result (Option Item) FileFault) → GivesItem live before file old.body new.body result → GoesBehind live before new.body result → GivesNext file live before found new result
   gives_next (Ok (Some item)) gives goes =
-      let one : suc (number_at old.body file) ≡ number_at new.body file = omega (arith, number_on file old.body new.body (gives.1.0 ∷ []) kept.body begun onward (ap (λ (c : Cut). c.lines) gives.1.1)) in
+      let one : suc (next_line_number old.body file) ≡ next_line_number new.body file = omega (arith, number_on file old.body new.body (gives.1.0 ∷ []) kept.body begun onward (ap (λ (c : Cut). c.lines) gives.1.1)) in
       record {
-        rest = items_from live (number_at new.body file) (item ∷ before) (left new.body.lines file).lines (left new.body.lines file).tail;
+        rest = items_from live (next_line_number new.body file) (item ∷ before) (left new.body.lines file).lines (left new.body.lines file).tail;
         first = from_here
-            ∙ (ap (λ (c : Cut). items_from live (number_at old.body file) before c.lines c.tail) gives.1.1
-            ∙ (items_on live (number_at old.body file) before item gives.1.0 (left new.body.lines file).lines (left new.body.lines file).tail gives.1.2
+            ∙ (ap (λ (c : Cut). items_from live (next_line_number old.body file) before c.lines c.tail) gives.1.1
+            ∙ (items_on live (next_line_number old.body file) before item gives.1.0 (left new.body.lines file).lines (left new.body.lines file).tail gives.1.2
             ∙ ap (λ k. onto (item ∷ []) (items_from live k (item ∷ before) (left new.body.lines file).lines (left new.body.lines file).tail)) one));
         on = comes_behind (item ∷ before) goes.1 gives.0;
       }
@@ -127,8 +127,8 @@ module _ (file live : List ℕ) (before : List Item) (found : Result (List Item)
   gives_next (Err (Changed a b c d)) gives goes = absurd gives
 
   -- the same, where the view tells the file
-  pub next_gives : (o : Option (List ℕ)) (result : Result (Option Item) FileFault) → o ≡ Some file → Gives o live before old.body new.body result → GoesBehind live before new.body result → GivesNext file live before found new result
-  next_gives o result is gives goes = gives_next result (subst (λ q. Gives q live before old.body new.body result) is gives p.stands) goes
+  pub next_gives : (o : Option (List ℕ)) (result : Result (Option Item) FileFault) → o ≡ Some file → GivesBodyItem o live before old.body new.body result → GoesBehind live before new.body result → GivesNext file live before found new result
+  next_gives o result is gives goes = gives_next result (subst (λ q. GivesBodyItem q live before old.body new.body result) is gives p.stands) goes
 
   -- lines that stand together
   texts_behind_comes : (run : List ℕ) → IsRun run → ((0 < length run) → (text : List ℕ) → may_stand live before (Text text) ≡ true) → IsBehind live (texts_behind (cut run).lines before) new
@@ -138,10 +138,10 @@ module _ (file live : List ℕ) (before : List Item) (found : Result (List Item)
       let lines = (cut run).lines in
       let number = number_on file old.body new.body lines kept.body begun onward (ap (λ (c : Cut). c.lines) passed.1) in
       record {
-        rest = items_from live (number_at new.body file) (texts_behind lines before) (left new.body.lines file).lines (left new.body.lines file).tail;
+        rest = items_from live (next_line_number new.body file) (texts_behind lines before) (left new.body.lines file).lines (left new.body.lines file).tail;
         first = from_here
-            ∙ (ap (λ (c : Cut). items_from live (number_at old.body file) before c.lines c.tail) passed.1
-            ∙ (items_from_texts live (number_at old.body file) before lines (left new.body.lines file).lines (left new.body.lines file).tail is.1 (λ some. stand (some_bytes run some))
+            ∙ (ap (λ (c : Cut). items_from live (next_line_number old.body file) before c.lines c.tail) passed.1
+            ∙ (items_from_texts live (next_line_number old.body file) before lines (left new.body.lines file).lines (left new.body.lines file).tail is.1 (λ some. stand (some_bytes run some))
             ∙ ap (λ k. onto (map Text lines) (items_from live k (texts_behind lines before) (left new.body.lines file).lines (left new.body.lines file).tail)) (sym number)));
         on = comes_behind (texts_behind lines before) behind passed.0;
       }
@@ -152,7 +152,7 @@ nothing_comes : (file live : List ℕ) (before : List Item) (found : Result (Lis
     → new.body.lines.held ≡ [] → new.body.lines.place ≡ old.body.lines.place → ToCome file live before found old → TextsCome file live before found [] new
 unfolding cut
 nothing_comes file live before found old new kept behind stands held place p =
-    let same : number_at old.body file ≡ number_at new.body file = sym (number_kept file old.body new.body kept.body place) in
+    let same : next_line_number old.body file ≡ next_line_number new.body file = sym (number_kept file old.body new.body kept.body place) in
     let there : max old.body.from old.body.lines.place ≡ max new.body.from new.body.lines.place = omega (arith, kept.body.from, place) in
     record {
       rest = found;
@@ -166,7 +166,7 @@ nothing_comes file live before found old new kept behind stands held place p =
         sum = kept.sum ∙ p.sum;
         items = p.items
             ∙ (ap (λ n. items_from live n before (rest_of old file).lines (rest_of old file).tail) same
-            ∙ ap (λ n. items_from live (number_at new.body file) before (cut (drop n file)).lines (cut (drop n file)).tail) there);
+            ∙ ap (λ n. items_from live (next_line_number new.body file) before (cut (drop n file)).lines (cut (drop n file)).tail) there);
       };
     }
 
@@ -277,12 +277,12 @@ kept_comes file live before found old new kept begun place behind stands p =
       sum = kept.sum ∙ p.sum;
       items = p.items
           ∙ (ap (λ n. items_from live n before (rest_of old file).lines (rest_of old file).tail) (sym number)
-          ∙ ap (λ n. items_from live (number_at new.body file) before (cut (drop n file)).lines (cut (drop n file)).tail) there);
+          ∙ ap (λ n. items_from live (next_line_number new.body file) before (cut (drop n file)).lines (cut (drop n file)).tail) there);
     }
 
 pub control_comes : (file live : List ℕ) (before : List Item) (found : Result (List Item) ℕ) (old new : ItemPlace) (taken : Option Item) → KeepsFile old new → old.body.from ≤ old.body.lines.place → Stays (Some file) old.body.lines new.body.lines → IfSome taken (λ _. old.body.lines.place < new.body.lines.place)
     → (taken ≡ None → new.body.lines ≡ old.body.lines) → (taken ≡ None → IsBehind live before new) → IfSome taken (λ item. GoesBehind live before new.body (Ok (Some item)))
-    → IfSome taken (λ item. Gives (Some file) live before old.body new.body (Ok (Some item))) → ToCome file live before found old → ComesOrStays file live before found new taken
+    → IfSome taken (λ item. GivesBodyItem (Some file) live before old.body new.body (Ok (Some item))) → ToCome file live before found old → ComesOrStays file live before found new taken
 control_comes file live before found old new (Some item) kept begun stays further same behind goes gives p =
     next_gives file live before found old new kept begun (omega (arith, further)) p (Some file) (Ok (Some item)) refl gives goes
 control_comes file live before found old new None kept begun stays further same behind goes gives p =
@@ -294,13 +294,13 @@ kept_on old now new first behind = record { name = behind.name ∙ first.name; l
 abbrev pub fault_of : FileFault → Result (Unit {0}) FileFault
 fault_of fault = Err fault
 
-pub agrees_fault : (r : ItemPlace) (fault : FileFault) (result : Result (Option Item) FileFault) → result ≡ Err fault → ((line : ℕ) → fault_of fault ≢ fault_of (BadFormat line)) → Agrees r result
+pub agrees_fault : (r : ItemPlace) (fault : FileFault) (result : Result (Option Item) FileFault) → result ≡ Err fault → ((line : ℕ) → fault_of fault ≢ fault_of (BadFormat line)) → AgreesAtEnd r result
 agrees_fault r (BadFormat k) result is never = absurd (never k refl)
-agrees_fault r Failed result is never = subst (λ x. Agrees r x) (sym is) tt
-agrees_fault r Memory result is never = subst (λ x. Agrees r x) (sym is) tt
-agrees_fault r Missing result is never = subst (λ x. Agrees r x) (sym is) tt
-agrees_fault r TooLong result is never = subst (λ x. Agrees r x) (sym is) tt
-agrees_fault r NotSccs result is never = subst (λ x. Agrees r x) (sym is) tt
-agrees_fault r (BadSum s c) result is never = subst (λ x. Agrees r x) (sym is) tt
-agrees_fault r Encoded result is never = subst (λ x. Agrees r x) (sym is) tt
-agrees_fault r (Changed a b c d) result is never = subst (λ x. Agrees r x) (sym is) tt
+agrees_fault r Failed result is never = subst (λ x. AgreesAtEnd r x) (sym is) tt
+agrees_fault r Memory result is never = subst (λ x. AgreesAtEnd r x) (sym is) tt
+agrees_fault r Missing result is never = subst (λ x. AgreesAtEnd r x) (sym is) tt
+agrees_fault r TooLong result is never = subst (λ x. AgreesAtEnd r x) (sym is) tt
+agrees_fault r NotSccs result is never = subst (λ x. AgreesAtEnd r x) (sym is) tt
+agrees_fault r (BadSum s c) result is never = subst (λ x. AgreesAtEnd r x) (sym is) tt
+agrees_fault r Encoded result is never = subst (λ x. AgreesAtEnd r x) (sym is) tt
+agrees_fault r (Changed a b c d) result is never = subst (λ x. AgreesAtEnd r x) (sym is) tt

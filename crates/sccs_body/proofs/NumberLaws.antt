@@ -7,7 +7,7 @@ use Rattle.sccs_base.specs.Cut.{cut}
 use Rattle.sccs_table.specs.ReaderState.{left}
 use Rattle.sccs_table.specs.Runs.{lf_count}
 use Rattle.sccs_table.proofs.RunLaws.{lines_are}
-use Rattle.sccs_body.specs.Reader.{BodyPlace, KeepsBody, line_at, number_at}
+use Rattle.sccs_body.specs.Reader.{BodyPlace, KeepsBody, number_of_line, next_line_number}
 
 -- the lines between two places, and those behind the second
 lines_left : (file : List ℕ) (from place : ℕ) → from ≤ place → lf_count (take (place - from) (drop from file)) + length (cut (drop place file)).lines ≡ lf_count (drop from file)
@@ -17,20 +17,20 @@ lines_left file from place low =
 
 -- behind so many lines the number is greater by so many
 pub number_on : (file : List ℕ) (old new : BodyPlace) (lines : List (List ℕ)) → KeepsBody old new → old.from ≤ old.lines.place → old.lines.place ≤ new.lines.place → (left old.lines file).lines ≡ lines ++ (left new.lines file).lines
-    → number_at new file ≡ number_at old file + length lines
+    → next_line_number new file ≡ next_line_number old file + length lines
 number_on file old new lines kept low onward is =
     let here = lines_left file old.from old.lines.place low in
     let there = lines_left file old.from new.lines.place (omega (arith, low, onward)) in
     let long : length (left old.lines file).lines ≡ length lines + length (left new.lines file).lines = ap length is ∙ length-append lines (left new.lines file).lines in
-    let same : number_at new file ≡ line_at old.first old.from file new.lines.place = ap (λ n. line_at n new.from file new.lines.place) kept.first ∙ ap (λ n. line_at old.first n file new.lines.place) kept.from in
+    let same : next_line_number new file ≡ number_of_line old.first old.from file new.lines.place = ap (λ n. number_of_line n new.from file new.lines.place) kept.first ∙ ap (λ n. number_of_line old.first n file new.lines.place) kept.from in
     omega (arith, same, here, there, long)
 
-pub number_kept : (file : List ℕ) (old new : BodyPlace) → KeepsBody old new → new.lines.place ≡ old.lines.place → number_at new file ≡ number_at old file
+pub number_kept : (file : List ℕ) (old new : BodyPlace) → KeepsBody old new → new.lines.place ≡ old.lines.place → next_line_number new file ≡ next_line_number old file
 number_kept file old new kept place =
-    ap (λ n. line_at n new.from file new.lines.place) kept.first ∙ (ap (λ n. line_at old.first n file new.lines.place) kept.from ∙ ap (line_at old.first old.from file) place)
+    ap (λ n. number_of_line n new.from file new.lines.place) kept.first ∙ (ap (λ n. number_of_line old.first n file new.lines.place) kept.from ∙ ap (number_of_line old.first old.from file) place)
 
 -- before its body a file has no line that counts
-pub number_low : (file : List ℕ) (r : BodyPlace) → r.lines.place ≤ r.from → number_at r file ≡ r.first
+pub number_low : (file : List ℕ) (r : BodyPlace) → r.lines.place ≤ r.from → next_line_number r file ≡ r.first
 number_low file r low =
     let none : r.lines.place - r.from ≡ 0 = omega arith in
     ap (λ n. r.first + lf_count (take n (drop r.from file))) none ∙ omega arith

@@ -15,7 +15,7 @@ use Rattle.sccs_marks.specs.declared.body_states.BodyState.{BodyState}
 use Rattle.sccs_table.specs.Runs.{IsRun, PassesRun}
 use Rattle.sccs_table.specs.ReaderState.{left}
 use Rattle.sccs_table.proofs.RunLaws.{lines_bound}
-use Rattle.sccs_body.specs.Reader.{BodyPlace, KeepsBody, number_at}
+use Rattle.sccs_body.specs.Reader.{BodyPlace, KeepsBody, next_line_number}
 use Rattle.sccs_body.specs.ItemsRead.{HasBehind, texts_behind}
 use Rattle.sccs_body.proofs.ItemLaws.{behind_text, line_item}
 use Rattle.sccs_body.specs.ToCome.{onto}
@@ -66,9 +66,9 @@ reached_texts (Some file) live begun before now new run is stand kept low onward
     let passed = passes file here.0 in
     let lines = (cut run).lines in
     let number = number_on file now new lines kept low onward (ap (λ (c : Cut). c.lines) passed.1) in
-    let next : items_from live (number_at now file) before (left now.lines file).lines (left now.lines file).tail ≡ onto (map Text lines) (items_from live (number_at new file) (texts_behind lines before) (left new.lines file).lines (left new.lines file).tail) =
-    ap (λ (c : Cut). items_from live (number_at now file) before c.lines c.tail) passed.1
-    ∙ (items_from_texts live (number_at now file) before lines (left new.lines file).lines (left new.lines file).tail is.1 (λ some. stand (some_bytes run some))
+    let next : items_from live (next_line_number now file) before (left now.lines file).lines (left now.lines file).tail ≡ onto (map Text lines) (items_from live (next_line_number new file) (texts_behind lines before) (left new.lines file).lines (left new.lines file).tail) =
+    ap (λ (c : Cut). items_from live (next_line_number now file) before c.lines c.tail) passed.1
+    ∙ (items_from_texts live (next_line_number now file) before lines (left new.lines file).lines (left new.lines file).tail is.1 (λ some. stand (some_bytes run some))
     ∙ ap (λ k. onto (map Text lines) (items_from live k (texts_behind lines before) (left new.lines file).lines (left new.lines file).tail)) (sym number)) in
     (passed.0, (here.1.0 ++ map Text lines, here.1.1 ∙ (ap (onto here.1.0) next ∙ onto_both here.1.0 (map Text lines) _)))
 

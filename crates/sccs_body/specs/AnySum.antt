@@ -1,32 +1,14 @@
 -- What inspecting a whole s-file answers that passes over its stored sum: POSIX, Shell and Utilities, admin, -z.
 use Rattle.std.specs.Prelude.{◌≡◌, ℕ, List, [], Option, None, Some, Result, Ok, Err}
-use Rattle.sccs_base.specs.Cut.{cut}
-use Rattle.sccs_sid.specs.Reading.{◌>>=◌}
-use Rattle.sccs_history.specs.Applied.{live_serials}
-use Rattle.sccs_tokens.specs.Items.{items_from}
-use Rattle.sccs_grammar.specs.Front.{ParsedFront, front_from, start}
-use Rattle.sccs_grammar.specs.File.{Parsed, answer, as_format, not_encoded, opened}
+use Rattle.sccs_grammar.specs.AnySum.{unsummed_file}
+use Rattle.sccs_grammar.specs.File.{Parsed, answer}
 use Rattle.sccs_grammar.specs.declared.faults.FileFault.{FileFault}
-use Rattle.sccs_table.specs.FrontFile.{Answers}
+use Rattle.sccs_table.specs.FrontFile.{ShowsOrRefuses}
 use Rattle.sccs_table.specs.ReaderState.{behind_sum}
 use Rattle.sccs_table.specs.SumOf.{IsPlainSumOf}
 use Rattle.sccs_table.specs.declared.fronts.Front.{Front}
 use Rattle.sccs_body.specs.BodyFile.{items_of}
 use Rattle.sccs_body.specs.ToCome.{IsFrontFor}
-
--- the header with what comes after it, whatever the stored sum is
-unfoldable pub unsummed_front : List ℕ → Result ParsedFront FileFault
-unsummed_front bytes = do
-  o ← opened bytes
-  as_format (front_from 2 start o.lines)
-
--- The header and the items, whatever the stored sum is; the first fault in the order: no sum line, a line at which
--- nothing goes on, an encoded body.
-unfoldable pub unsummed_file : List ℕ → Result Parsed FileFault
-unsummed_file bytes = do
-  f ← unsummed_front bytes
-  items ← as_format (items_from (live_serials f.header.records) f.line [] f.rest (cut bytes).tail)
-  not_encoded f.header (record { header = f.header; items = items })
 
 -- the front is that of the file, with the sum that is right
 abbrev pub ShowsUnsummed : Option (List ℕ) → Parsed → Front → Type 0
@@ -35,4 +17,4 @@ ShowsUnsummed (Some file) parsed front = (front.header ≡ parsed.header) × (it
 
 -- the front of a whole file, or its refusal; no file and too long a file come first
 abbrev pub AnswersUnsummed : Option (List ℕ) → Result Front FileFault → Type 0
-AnswersUnsummed o result = Answers (λ parsed front. ShowsUnsummed o parsed front) result (answer unsummed_file o)
+AnswersUnsummed o result = ShowsOrRefuses (λ parsed front. ShowsUnsummed o parsed front) result (answer unsummed_file o)

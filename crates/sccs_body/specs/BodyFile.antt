@@ -8,9 +8,9 @@ use Rattle.sccs_tokens.specs.Items.{items_from}
 use Rattle.sccs_grammar.specs.File.{Parsed, answer, checked_front, file_of}
 use Rattle.sccs_grammar.specs.declared.faults.FileFault.{FileFault}
 use Rattle.sccs_grammar.specs.declared.faults.FileFault.TheVariants.{BadFormat, Failed, Memory}
-use Rattle.sccs_table.specs.FrontFile.{Answers, IsFrontOf}
+use Rattle.sccs_table.specs.FrontFile.{ShowsOrRefuses, IsFrontOf}
 use Rattle.sccs_table.specs.ReaderState.{StandsIn, left}
-use Rattle.sccs_body.specs.Reader.{BodyPlace, number_at}
+use Rattle.sccs_body.specs.Reader.{BodyPlace, next_line_number}
 use Rattle.sccs_table.specs.declared.fronts.Front.{Front}
 
 -- what the body of a front's file has, from its first line on
@@ -30,7 +30,7 @@ ChecksFile file front result = ChecksFound (items_of file front) result
 
 -- the lines from where a reader stands in a told file
 abbrev pub items_left : List ℕ → List ℕ → BodyPlace → Result (List Item) ℕ
-items_left file live r = items_from live (number_at r file) [] (left r.lines file).lines (left r.lines file).tail
+items_left file live r = items_from live (next_line_number r file) [] (left r.lines file).lines (left r.lines file).tail
 
 abbrev pub ChecksRest : Option (List ℕ) → List ℕ → BodyPlace → Result (Unit {0}) FileFault → Type 0
 ChecksRest None live old result = Unit {0}
@@ -48,4 +48,4 @@ ShowsFile (Some file) parsed front = (front.header ≡ parsed.header) × ((read 
 
 -- the front of a whole file, or its refusal; no file and too long a file come first
 abbrev pub AnswersFile : Option (List ℕ) → Result Front FileFault → Type 0
-AnswersFile o result = Answers (λ parsed front. ShowsFile o parsed front) result (answer file_of o)
+AnswersFile o result = ShowsOrRefuses (λ parsed front. ShowsFile o parsed front) result (answer file_of o)

@@ -7,6 +7,6 @@ abbrev pub item_place : Inside → ItemPlace
 item_place r = record { body = r.body; size = r.size; sum = r.sum }
 
 -- The body begins where a file may be read.
-pub record IsWithin (r : Inside) : Type 0 where
+pub record IsWithinFile (r : Inside) : Type 0 where
   pub from : r.body.from ≤ r.body.lines.limit
   pub limit : r.body.lines.limit ≡ 1073741825

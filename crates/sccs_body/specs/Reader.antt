@@ -12,12 +12,12 @@ pub record BodyPlace : Type 0 where
   pub from : ℕ
 
 -- the number of the line that begins at a place of a file, where a line of that number begins at another before it
-abbrev pub line_at : ℕ → ℕ → List ℕ → ℕ → ℕ
-line_at first from file place = first + lf_count (take (place - from) (drop from file))
+abbrev pub number_of_line : ℕ → ℕ → List ℕ → ℕ → ℕ
+number_of_line first from file place = first + lf_count (take (place - from) (drop from file))
 
 -- the number of the next line in a file
-abbrev pub number_at : BodyPlace → List ℕ → ℕ
-number_at r file = line_at r.first r.from file r.lines.place
+abbrev pub next_line_number : BodyPlace → List ℕ → ℕ
+next_line_number r file = number_of_line r.first r.from file r.lines.place
 
 -- The body whose items are given stays.
 pub record KeepsBody (old new : BodyPlace) : Type 0 where

@@ -14,8 +14,8 @@ use Rattle.sccs_table.specs.Runs.{IsRun}
 use Rattle.sccs_table.specs.ReaderState.{StandsIn, behind_sum, bytes_in}
 use Rattle.sccs_table.specs.SumOf.{IsPlainSumOf}
 use Rattle.sccs_table.specs.declared.fronts.Front.{Front}
-use Rattle.sccs_body.specs.Reader.{ItemPlace, KeepsBody, at_hand, bytes_left, name_read, number_at}
-use Rattle.sccs_body.specs.ItemsRead.{Goes, IsBehind, texts_behind}
+use Rattle.sccs_body.specs.Reader.{ItemPlace, KeepsBody, at_hand, bytes_left, name_read, next_line_number}
+use Rattle.sccs_body.specs.ItemsRead.{MovesToItem, IsBehind, texts_behind}
 
 -- A front that was read from a file: its places are within the file, whose size and plain sum it has.
 pub record IsFrontFor (file : List ℕ) (front : Front) : Type 0 where
@@ -36,7 +36,7 @@ pub record ToCome (file live : List ℕ) (before : List Item) (found : Result (L
   pub within : r.body.from ≤ length file
   pub size : r.size ≡ length file
   pub sum : IsPlainSumOf r.sum (behind_sum file)
-  pub items : found ≡ items_from live (number_at r.body file) before (rest_of r file).lines (rest_of r file).tail
+  pub items : found ≡ items_from live (next_line_number r.body file) before (rest_of r file).lines (rest_of r file).tail
 
 -- some items, and those that are read behind them
 abbrev pub onto : List Item → Result (List Item) ℕ → Result (List Item) ℕ
@@ -73,9 +73,9 @@ abbrev pub IsChange : ℕ → ℕ → FileFault → Type 0
 IsChange size sum (Changed first_size first_sum size_now sum_now) = (first_size ≡ size) × (first_sum ≡ sum) × ((first_size ≢ size_now) ⊎ (first_sum ≢ sum_now))
 IsChange size sum _ = Unit {0}
 
-abbrev pub Changes : ItemPlace → {T : Type 0} → Result T FileFault → Type 0
-Changes r (Ok x) = Unit {0}
-Changes r (Err fault) = IsChange r.size r.sum fault
+abbrev pub HasChanged : ItemPlace → {T : Type 0} → Result T FileFault → Type 0
+HasChanged r (Ok x) = Unit {0}
+HasChanged r (Err fault) = IsChange r.size r.sum fault
 
 -- All that this reading read has the size and the sum of the first.
 pub record AgreesWithFirst (r : ItemPlace) : Type 0 where
@@ -83,11 +83,11 @@ pub record AgreesWithFirst (r : ItemPlace) : Type 0 where
   pub sum : r.body.lines.sum ≡ r.sum
 
 -- over any disk: a reading that ended without a change agrees with the first
-abbrev pub Agrees : ItemPlace → Result (Option Item) FileFault → Type 0
-Agrees r (Ok (Some item)) = Unit {0}
-Agrees r (Ok None) = AgreesWithFirst r
-Agrees r (Err (BadFormat line)) = AgreesWithFirst r
-Agrees r (Err _) = Unit {0}
+abbrev pub AgreesAtEnd : ItemPlace → Result (Option Item) FileFault → Type 0
+AgreesAtEnd r (Ok (Some item)) = Unit {0}
+AgreesAtEnd r (Ok None) = AgreesWithFirst r
+AgreesAtEnd r (Err (BadFormat line)) = AgreesWithFirst r
+AgreesAtEnd r (Err _) = Unit {0}
 
 -- So many bytes that were read are whole text lines that may stand.
 pub record MayPass (r : ItemPlace) (count : ℕ) : Type 0 where
@@ -109,7 +109,7 @@ BeginsIn file live before found new (Ok done) = ToCome file live before found ne
 BeginsIn file live before found new (Err Failed) = StandsIn new.body.lines file
 BeginsIn file live before found new (Err _) = ⊥
 
-pub record Begins {D : Type 0} (told : D → Told) (faults : D → ℕ) (disk disk2 : D) (old new : ItemPlace) (result : Result (Unit {0}) FileFault) : Type 0 where
+pub record BeginsReading {D : Type 0} (told : D → Told) (faults : D → ℕ) (disk disk2 : D) (old new : ItemPlace) (result : Result (Unit {0}) FileFault) : Type 0 where
   pub frame : ReadsDisk told faults disk disk2 result
   pub first : IsFirst result
   pub kept : KeepsFile old new
@@ -119,20 +119,20 @@ pub record Begins {D : Type 0} (told : D → Told) (faults : D → ℕ) (disk di
   pub begins : (file live : List ℕ) (before : List Item) (found : Result (List Item) ℕ) → bytes_in (seen (told disk)) (name_read old) ≡ Some file → ToCome file live before found old → BeginsIn file live before found new result
 
 -- The next item was read, whatever the file was before; the reader stays in a told file.
-pub record ReadsNext {D : Type 0} (told : D → Told) (faults : D → ℕ) (disk disk2 : D) (old new : ItemPlace) (result : Result (Option Item) FileFault) : Type 0 where
+pub record ReadsNextItem {D : Type 0} (told : D → Told) (faults : D → ℕ) (disk disk2 : D) (old new : ItemPlace) (result : Result (Option Item) FileFault) : Type 0 where
   pub frame : ReadsDisk told faults disk disk2 result
   pub first : IsFirst result
   pub kept : KeepsFile old new
   pub further : IfOk result (λ o. IfSome o (λ _. bytes_left new < bytes_left old))
-  pub goes : (live : List ℕ) (before : List Item) → IsBehind live before old → Goes live before new result
+  pub goes : (live : List ℕ) (before : List Item) → IsBehind live before old → MovesToItem live before new result
   pub gives : (file live : List ℕ) (before : List Item) (found : Result (List Item) ℕ) → bytes_in (seen (told disk)) (name_read old) ≡ Some file → ToCome file live before found old → GivesNext file live before found new result
   pub stays : (file live : List ℕ) (before : List Item) (found : Result (List Item) ℕ) → bytes_in (seen (told disk)) (name_read old) ≡ Some file → ToCome file live before found old → StandsIn new.body.lines file
 
 -- The file was read to its end, and is compared with what the first reading found.
-pub record Ends {D : Type 0} (told : D → Told) (faults : D → ℕ) (disk disk2 : D) (old new : ItemPlace) (result : Result (Unit {0}) FileFault) : Type 0 where
+pub record EndsReading {D : Type 0} (told : D → Told) (faults : D → ℕ) (disk disk2 : D) (old new : ItemPlace) (result : Result (Unit {0}) FileFault) : Type 0 where
   pub frame : ReadsDisk told faults disk disk2 result
   pub kept : KeepsFile old new
-  pub changed : Changes old result
+  pub changed : HasChanged old result
   pub agrees : OnOk result (AgreesWithFirst new)
   pub never : (line : ℕ) → result ≢ Err (BadFormat line)
   pub same : (file : List ℕ) → bytes_in (seen (told disk)) (name_read old) ≡ Some file → StandsIn old.body.lines file → old.size ≡ length file → IsPlainSumOf old.sum (behind_sum file) → IsOuter result

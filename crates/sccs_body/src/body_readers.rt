@@ -10,8 +10,8 @@ ghost use Rattle.sccs_table.specs.FrontFile.{IsFirst, ReadsBytes, ReadsOn};
 ghost use Rattle.sccs_table.specs.Runs.{HasNoRun, IsRun, PassesRun, lf_count};
 ghost use Rattle.sccs_table.specs.ReaderState.{StandsIn, Stays, bytes_in};
 ghost use Rattle.sccs_base.specs.Stream.{Rose};
-ghost use Rattle.sccs_body.specs.ItemsRead.{Gives, GoesBehind, HasBehind, IsFormat, IsFormatAt, TakesItem, texts_behind};
-ghost use Rattle.sccs_body.specs.Reader.{KeepsBody, line_at};
+ghost use Rattle.sccs_body.specs.ItemsRead.{GivesBodyItem, GoesBehind, HasBehind, IsFormat, IsFormatAt, ReadsItemLine, texts_behind};
+ghost use Rattle.sccs_body.specs.Reader.{KeepsBody, number_of_line};
 
 use sccs_base::{Failed, Memory};
 use sccs_disk::Disk;
@@ -86,7 +86,7 @@ fn goes_on(state: &mut BodyState, item: &Item) -> Result<bool, Memory>
 #[inline(never)]
 fn next_item(alloc: Global, state: &mut BodyState, line: &[u8]) -> Result<Option<Item>, Memory>
     requires { HasNoLf line.now }
-    ensures { (live : List ℕ) (before : List Item) → Knows live before state.old → TakesItem live before state.new line.now result }
+    ensures { (live : List ℕ) (before : List Item) → Knows live before state.old → ReadsItemLine live before state.new line.now result }
 {
     let Some(item) = read_item(alloc, line)? else {
         return Ok(None);
@@ -208,7 +208,7 @@ impl BodyReader {
         ensures later { D.faults disk.old ≤ D.faults disk.new }
         ensures cause { result ≡ FileFault.Failed → Rose (D.faults disk.old) (D.faults disk.new) }
         ensures kind { IsFormat result }
-        ensures told { IfSome (bytes_in (seen (D.told disk.old)) self.now.lines.name) (λ file. IsFormatAt (line_at self.now.first self.now.from file place) result) }
+        ensures told { IfSome (bytes_in (seen (D.told disk.old)) self.now.lines.name) (λ file. IsFormatAt (number_of_line self.now.first self.now.from file place) result) }
     {
         match self.lines.lines_between(disk, self.from, place) {
             Ok(count) => FileFault::BadFormat(self.first + count),
@@ -263,7 +263,7 @@ impl BodyReader {
         ensures further { IfOk result (λ o. IfSome o (λ _. self.old.lines.place < self.new.lines.place)) }
         ensures goes { (live : List ℕ) (before : List Item) → HasBehind live before self.old → GoesBehind live before self.new result }
         ensures told { (live : List ℕ) (before : List Item) → HasBehind live before self.old
-            → Gives (bytes_in (seen (D.told disk.old)) self.old.lines.name) live before self.old self.new result }
+            → GivesBodyItem (bytes_in (seen (D.told disk.old)) self.old.lines.name) live before self.old self.new result }
     {
         let place = self.lines.place();
         self.line.clear();
@@ -301,7 +301,7 @@ impl BodyReader {
         ensures further { self.old.lines.place < self.new.lines.place }
         ensures goes { (live : List ℕ) (before : List Item) → HasBehind live before self.old → GoesBehind live before self.new result }
         ensures told { (live : List ℕ) (before : List Item) → HasBehind live before self.old
-            → Gives (bytes_in (seen (D.told disk.old)) self.old.lines.name) live before self.old self.new result }
+            → GivesBodyItem (bytes_in (seen (D.told disk.old)) self.old.lines.name) live before self.old self.new result }
     {
         let place = self.lines.place();
         let stands = goes_on(&mut self.state, &item);
@@ -328,7 +328,7 @@ impl BodyReader {
         ensures goes { (live : List ℕ) (before : List Item) → HasBehind live before self.old
             → IfSome result (λ item. GoesBehind live before self.new (Ok (Some item))) }
         ensures told { (o : Option (List ℕ)) (live : List ℕ) (before : List Item) → HasBehind live before self.old
-            → IfSome result (λ item. Gives o live before self.old self.new (Ok (Some item))) }
+            → IfSome result (λ item. GivesBodyItem o live before self.old self.new (Ok (Some item))) }
     {
         let Some((item, count)) = written_item(self.lines.held()) else {
             return None;
@@ -377,7 +377,7 @@ impl BodyReader {
         ensures further { IfOk result (λ o. IfSome o (λ _. self.old.lines.place < self.new.lines.place)) }
         ensures goes { (live : List ℕ) (before : List Item) → HasBehind live before self.old → GoesBehind live before self.new result }
         ensures told { (live : List ℕ) (before : List Item) → HasBehind live before self.old
-            → Gives (bytes_in (seen (D.told disk.old)) self.old.lines.name) live before self.old self.new result }
+            → GivesBodyItem (bytes_in (seen (D.told disk.old)) self.old.lines.name) live before self.old self.new result }
     {
         match written_item(self.lines.held()) {
             Some((item, count)) => self.pass_item(disk, item, count),

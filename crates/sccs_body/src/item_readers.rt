@@ -8,9 +8,9 @@ ghost use Rattle.sccs_table.specs.FrontFile.{IsFirst, IsOuter, ReadsDisk};
 ghost use Rattle.sccs_table.specs.Runs.{HasNoRun, lf_count};
 ghost use Rattle.sccs_table.specs.ReaderState.{bytes_in};
 ghost use Rattle.sccs_body.specs.BodyFile.{items_of};
-ghost use Rattle.sccs_body.specs.ItemsRead.{Goes, GoesOrStays, IsBehind, texts_behind};
+ghost use Rattle.sccs_body.specs.ItemsRead.{MovesToItem, GoesOrStays, IsBehind, texts_behind};
 ghost use Rattle.sccs_body.specs.Reader.{at_hand, behind_hand, bytes_left, name_read, steps_left};
-ghost use Rattle.sccs_body.specs.ToCome.{Agrees, Begins, Changes, ComesOrStays, Ends, GivesNext, IsFrontFor, MayPass, ReadsNext, TextsCome, ToCome, onto};
+ghost use Rattle.sccs_body.specs.ToCome.{AgreesAtEnd, BeginsReading, HasChanged, ComesOrStays, EndsReading, GivesNext, IsFrontFor, MayPass, ReadsNextItem, TextsCome, ToCome, onto};
 
 use crate::body_readers::BodyReader;
 use sccs_base::{Memory, Name};
@@ -35,13 +35,13 @@ pub struct ItemReader {
 
 impl Model for ItemReader {
     ghost use Rattle.sccs_body.specs.Reader.{ItemPlace};
-    ghost use Rattle.sccs_body.specs.HeldItems.{item_place, IsWithin};
+    ghost use Rattle.sccs_body.specs.HeldItems.{item_place, IsWithinFile};
 
     ghost Value = { ItemPlace };
 
     ghost view = { item_place };
 
-    ghost invariant = { IsWithin };
+    ghost invariant = { IsWithinFile };
 }
 
 impl ItemReader {
@@ -149,7 +149,7 @@ impl ItemReader {
     // reads the header again; BadFormat where the file ends within it
     fn begin<D: Disk>(&mut self, disk: &mut D) -> Result<(), FileFault>
         requires { self.old.body.lines.place < self.old.body.from }
-        ensures { Begins D.told D.faults disk.old disk.new self.old self.new result }
+        ensures { BeginsReading D.told D.faults disk.old disk.new self.old self.new result }
     {
         self.body.skip_to(disk, self.body.body_from())?;
         if self.body.place() < self.body.body_from() {
@@ -162,7 +162,7 @@ impl ItemReader {
     #[inline(always)]
     fn next_behind<D: Disk>(&mut self, disk: &mut D) -> Result<Option<Item>, FileFault>
         requires { self.old.body.from ≤ self.old.body.lines.place }
-        ensures { ReadsNext D.told D.faults disk.old disk.new self.old self.new result }
+        ensures { ReadsNextItem D.told D.faults disk.old disk.new self.old self.new result }
     {
         self.body.next(disk)
     }
@@ -171,7 +171,7 @@ impl ItemReader {
     #[inline(never)]
     fn first_item<D: Disk>(&mut self, disk: &mut D) -> Result<Option<Item>, FileFault>
         requires { self.old.body.lines.place < self.old.body.from }
-        ensures { ReadsNext D.told D.faults disk.old disk.new self.old self.new result }
+        ensures { ReadsNextItem D.told D.faults disk.old disk.new self.old self.new result }
     {
         self.begin(disk)?;
         self.next_behind(disk)
@@ -180,7 +180,7 @@ impl ItemReader {
     // the next item, whatever the file was before
     #[inline(always)]
     fn next_read<D: Disk>(&mut self, disk: &mut D) -> Result<Option<Item>, FileFault>
-        ensures { ReadsNext D.told D.faults disk.old disk.new self.old self.new result }
+        ensures { ReadsNextItem D.told D.faults disk.old disk.new self.old self.new result }
     {
         if self.body.place() < self.body.body_from() {
             self.first_item(disk)
@@ -192,7 +192,7 @@ impl ItemReader {
     // reads on to the end of the file; Changed where its size or its sum is another than before
     #[inline(never)]
     fn check_end<D: Disk>(&mut self, disk: &mut D) -> Result<(), FileFault>
-        ensures { Ends D.told D.faults disk.old disk.new self.old self.new result }
+        ensures { EndsReading D.told D.faults disk.old disk.new self.old self.new result }
     {
         self.body.skip_to(disk, READ_LIMIT)?;
         let size = self.body.place();
@@ -218,9 +218,9 @@ impl ItemReader {
         ensures size { self.new.size ≡ self.old.size }
         ensures sum { self.new.sum ≡ self.old.sum }
         ensures further { IfOk result (λ o. IfSome o (λ _. bytes_left self.new < bytes_left self.old)) }
-        ensures changed { Changes self.old result }
-        ensures agrees { Agrees self.new result }
-        ensures goes { (live : List ℕ) (before : List Item) → IsBehind live before self.old → Goes live before self.new result }
+        ensures changed { HasChanged self.old result }
+        ensures agrees { AgreesAtEnd self.new result }
+        ensures goes { (live : List ℕ) (before : List Item) → IsBehind live before self.old → MovesToItem live before self.new result }
         ensures told { (file live : List ℕ) (before : List Item) (found : Result (List Item) ℕ) → bytes_in (seen (D.told disk.old)) (name_read self.old) ≡ Some file
             → ToCome file live before found self.old → GivesNext file live before found self.new result }
     {

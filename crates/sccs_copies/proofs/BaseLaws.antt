@@ -15,11 +15,11 @@ use Rattle.sccs_history.specs.declared.headers.Item.TheVariants as items
 use Rattle.sccs_edits.specs.declared.scripts.Plan.{Plan}
 use Rattle.sccs_splicer.specs.PlanPlaces.{Passed}
 use Rattle.sccs_table.proofs.RunLaws.{lines_bound}
-use Rattle.sccs_versions.specs.Coming.{Coming, ComesNext, GivesNext, IsBody, shown}
+use Rattle.sccs_versions.specs.Coming.{Coming, ComesNext, GivesNextLine, IsBody, shown}
 use Rattle.sccs_versions.specs.Place.{VersionPlace}
 use Rattle.sccs_copies.specs.Copies.{IsFaultAroundCopy}
 use Rattle.sccs_edits.specs.Plans.{added_after}
-use Rattle.sccs_copies.specs.Examining.{ExaminesSome, ExaminesWhole, FindsResult, GComes, IsBefore, LinesLeft, Sees, difference, first_difference, has_keyword, line_result, result_from, result_of, line_texts}
+use Rattle.sccs_copies.specs.Examining.{ExaminesSome, ExaminesWhole, FindsResult, GComes, IsBefore, LinesLeft, SeesLines, difference, first_difference, has_keyword, line_result, result_from, result_of, line_texts}
 use Rattle.sccs_copies.specs.declared.examining.Found.{Found}
 use Rattle.sccs_copies.specs.declared.result_checks.ResultCheck.{ResultCheck}
 use Rattle.sccs_copies.proofs.CheckLaws.{sees_both, sees_none}
@@ -49,9 +49,9 @@ examines_both file r r2 g lines at at1 at2 s s1 s2 plan p q = record {
   first = p.first ++ q.first;
   rest = q.rest;
   whole = p.whole ∙ (ap (λ rest. p.first ++ rest) q.whole ∙ sym (append_assoc p.first q.first q.rest));
-  sees = subst (λ l. Sees g l s s2) (sym (result_both at.plan at.line p.first q.first))
+  sees = subst (λ l. SeesLines g l s s2) (sym (result_both at.plan at.line p.first q.first))
       (sees_both g (result_from at.plan at.line (line_texts p.first)) (result_from at.plan (at.line + length p.first) (line_texts q.first)) s s1 s2 p.sees
-      (subst (λ n. Sees g (result_from at.plan n (line_texts q.first)) s1 s2) p.line (subst (λ (o : Plan). Sees g (result_from o at1.line (line_texts q.first)) s1 s2) plan q.sees)));
+      (subst (λ n. SeesLines g (result_from at.plan n (line_texts q.first)) s1 s2) p.line (subst (λ (o : Plan). SeesLines g (result_from o at1.line (line_texts q.first)) s1 s2) plan q.sees)));
   line = omega (arith, p.line, q.line, both_long p.first q.first);
   on = q.on;
 }
@@ -62,10 +62,10 @@ examines_both file r r2 g lines at at1 at2 s s1 s2 plan p q = record {
 
 pub examines_end : (file : List ℕ) (r : VersionPlace) (g : Option (List ℕ)) (lines : List HistoryLine) (at at1 at2 : Passed) (s s1 s2 : ResultCheck) → at1.plan ≡ at.plan → (p : ExaminesSome file r g lines at at1 s s1) → ExaminesWhole g p.rest at1 at2 s1 s2 → ExaminesWhole g lines at at2 s s2
 examines_end file r g lines at at1 at2 s s1 s2 plan p q = record {
-  sees = subst (λ (l : List HistoryLine). Sees g (result_from at.plan at.line (line_texts l)) s s2) (sym p.whole)
-      (subst (λ l. Sees g l s s2) (sym (result_both at.plan at.line p.first p.rest))
+  sees = subst (λ (l : List HistoryLine). SeesLines g (result_from at.plan at.line (line_texts l)) s s2) (sym p.whole)
+      (subst (λ l. SeesLines g l s s2) (sym (result_both at.plan at.line p.first p.rest))
       (sees_both g (result_from at.plan at.line (line_texts p.first)) (result_from at.plan (at.line + length p.first) (line_texts p.rest)) s s1 s2 p.sees
-      (subst (λ n. Sees g (result_from at.plan n (line_texts p.rest)) s1 s2) p.line (subst (λ (o : Plan). Sees g (result_from o at1.line (line_texts p.rest)) s1 s2) plan q.sees))));
+      (subst (λ n. SeesLines g (result_from at.plan n (line_texts p.rest)) s1 s2) p.line (subst (λ (o : Plan). SeesLines g (result_from o at1.line (line_texts p.rest)) s1 s2) plan q.sees))));
   line = let long : length lines ≡ length p.first + length p.rest = ap length p.whole ∙ both_long p.first p.rest in omega (arith, p.line, q.line, long);
 }
   where
@@ -74,12 +74,12 @@ examines_end file r g lines at at1 at2 s s1 s2 plan p q = record {
     both_long (x ∷ xs) ys = omega (arith, both_long xs ys)
 
 -- the next line
-pub line_examined : (file : List ℕ) (r : VersionPlace) (g : Option (List ℕ)) (text : List ℕ) (lines : List HistoryLine) (at at2 : Passed) (s s2 : ResultCheck) → ComesNext file r text lines → at2.line ≡ suc at.line → Sees g (line_result at.plan (suc at.line) text) s s2 → ExaminesSome file r g lines at at2 s s2
+pub line_examined : (file : List ℕ) (r : VersionPlace) (g : Option (List ℕ)) (text : List ℕ) (lines : List HistoryLine) (at at2 : Passed) (s s2 : ResultCheck) → ComesNext file r text lines → at2.line ≡ suc at.line → SeesLines g (line_result at.plan (suc at.line) text) s s2 → ExaminesSome file r g lines at at2 s s2
 line_examined file r g text lines at at2 s s2 next line sees = record {
   first = next.line ∷ [];
   rest = next.rest;
   whole = next.whole;
-  sees = subst (λ l. Sees g l s s2) (ap (line_result at.plan (suc at.line)) (sym next.text_is) ∙ sym (append-nil (line_result at.plan (suc at.line) next.line.text))) sees;
+  sees = subst (λ l. SeesLines g l s s2) (ap (line_result at.plan (suc at.line)) (sym next.text_is) ∙ sym (append-nil (line_result at.plan (suc at.line) next.line.text))) sees;
   line = omega (arith, line);
   on = next.on;
 }
@@ -90,11 +90,11 @@ not_past file r text lines line limit next is few = let long : length lines ≡ 
 
 pub all_examined : (g : Option (List ℕ)) (lines : List HistoryLine) (at : Passed) (s : ResultCheck) → lines ≡ [] → ExaminesWhole g lines at at s s
 all_examined g lines at s none = record {
-  sees = subst (λ (l : List HistoryLine). Sees g (result_from at.plan at.line (line_texts l)) s s) (sym none) (sees_none g s);
+  sees = subst (λ (l : List HistoryLine). SeesLines g (result_from at.plan at.line (line_texts l)) s s) (sym none) (sees_none g s);
   line = let long : length lines ≡ 0 = ap length none in omega (arith, long);
 }
 
-pub next_outer : (file : List ℕ) (r : VersionPlace) (lines : List HistoryLine) (fault : FileFault) → GivesNext file r lines (Err fault) → IsFaultAroundCopy fault
+pub next_outer : (file : List ℕ) (r : VersionPlace) (lines : List HistoryLine) (fault : FileFault) → GivesNextLine file r lines (Err fault) → IsFaultAroundCopy fault
 next_outer file r lines faults.Failed given = tt
 next_outer file r lines faults.Memory given = tt
 next_outer file r lines (faults.BadFormat line) given = given
@@ -200,7 +200,7 @@ g_begins file name s lines over number few = record {
 
 pub found_result : (g : Option (List ℕ)) (set name : List ℕ) (all : List HistoryLine) (compares : Bool) (at at2 : Passed) (s s1 s2 : ResultCheck) (new : List (List ℕ)) (found : Found)
     → at.line ≡ 0 → new ≡ added_after at.line at.plan.added → IsBefore name compares s
-    → Sees g new s s1 → ExaminesWhole g (shown set all) at at2 s1 s2 → found.lines ≡ at2.line → found.keyword ≡ s2.keyword
+    → SeesLines g new s s1 → ExaminesWhole g (shown set all) at at2 s1 s2 → found.lines ≡ at2.line → found.keyword ≡ s2.keyword
     → ((file : List ℕ) (rest : List (List ℕ)) → g ≡ Some file → compares ≡ true → GComes file s2 rest → found.differs ≡ difference s2.differs s2.number [] rest)
     → FindsResult g at.plan (select set all) compares found
 found_result g set name all compares at at2 s s1 s2 new found begins new_is before first whole lines_is keyword_is differs_is =
@@ -209,8 +209,8 @@ found_result g set name all compares at at2 s s1 s2 new found begins new_is befo
     ap (λ l. l ++ result_from at.plan at.line (line_texts (shown set all))) new_is
     ∙ (ap (λ n. added_after n at.plan.added ++ result_from at.plan n (line_texts (shown set all))) begins
     ∙ ap (λ l. added_after 0 at.plan.added ++ result_from at.plan 0 l) base) in
-    let all_seen : Sees g (result_of at.plan (select set all)) s s2 =
-    subst (λ l. Sees g l s s2) result_is (sees_both g new (result_from at.plan at.line (line_texts (shown set all))) s s1 s2 first whole.sees) in
+    let all_seen : SeesLines g (result_of at.plan (select set all)) s s2 =
+    subst (λ l. SeesLines g l s s2) result_is (sees_both g new (result_from at.plan at.line (line_texts (shown set all))) s s1 s2 first whole.sees) in
     let long : length (select set all) ≡ length (shown set all) = ap length (sym base) ∙ texts_long (shown set all) in
     record {
       lines = omega (arith, lines_is, whole.line, begins, long);

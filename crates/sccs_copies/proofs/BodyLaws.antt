@@ -6,7 +6,7 @@ use Rattle.sccs_grammar.specs.declared.faults.FileFault.{FileFault}
 use Rattle.sccs_history.specs.Body.{GoesOn}
 use Rattle.sccs_history.specs.declared.headers.Header.{Header}
 use Rattle.sccs_history.specs.declared.headers.Item.{Item}
-use Rattle.sccs_body.specs.ItemsRead.{Goes, IsBehind}
+use Rattle.sccs_body.specs.ItemsRead.{MovesToItem, IsBehind}
 use Rattle.sccs_body.specs.BodyFile.{items_of}
 use Rattle.sccs_body.specs.Reader.{ItemPlace}
 use Rattle.sccs_body.specs.ToCome.{IsFrontFor, ToCome}
@@ -52,9 +52,9 @@ body_both filter live before c c2 c3 w w2 w3 a b z p q = record { some = items_b
 
 -- the next item is read, and the filter takes it
 pub on_one : {F T : Type 0} (filter : Filter F) (live : List ℕ) (before : List Item) (c c2 : Copying F) (place : ItemPlace) (found : Option Item) (item : Item) (w w2 : Writer) (a m z : Told) (g h : ℕ) (q : Result T DiskRefusal) (done : T)
-    → q ≡ Ok done → m ≡ a → found ≡ Some item → Goes live before place (Ok found) → c2.items ≡ place → TakesItem filter item c.filter c2.filter w w2 m z g h q → filter.stands c.filter before → CopiesOn filter live before c c2 w w2 a z
+    → q ≡ Ok done → m ≡ a → found ≡ Some item → MovesToItem live before place (Ok found) → c2.items ≡ place → TakesItem filter item c.filter c2.filter w w2 m z g h q → filter.stands c.filter before → CopiesOn filter live before c c2 w w2 a z
 on_one filter live before c c2 place found item w w2 a m z g h q done is same found_is read placed takes stands =
-    let went = subst (λ o. Goes live before place (Ok o)) found_is read in
+    let went = subst (λ o. MovesToItem live before place (Ok o)) found_is read in
     record {
       some = record {
         taken = item ∷ [];
@@ -66,7 +66,7 @@ on_one filter live before c c2 place found item w w2 a m z g h q done is same fo
     }
 
 -- no item is left
-pub on_last : {F : Type 0} (filter : Filter F) (live : List ℕ) (before : List Item) (c c2 : Copying F) (place : ItemPlace) (found : Option Item) (w : Writer) (a b : Told) → b ≡ a → found ≡ None → Goes live before place (Ok found) → c2.filter ≡ c.filter
+pub on_last : {F : Type 0} (filter : Filter F) (live : List ℕ) (before : List Item) (c c2 : Copying F) (place : ItemPlace) (found : Option Item) (w : Writer) (a b : Told) → b ≡ a → found ≡ None → MovesToItem live before place (Ok found) → c2.filter ≡ c.filter
     → filter.stands c.filter before → CopiesBody filter live before c c2 w w a b
 on_last filter live before c c2 place found w a b same found_is read kept stands = record {
   some = record {
@@ -75,7 +75,7 @@ on_last filter live before c c2 place found w a b same found_is read kept stands
     goes = λ rest goes. goes;
     put = subst (λ f. PutsFiltered filter before before [] c.filter f w w a b) (sym kept) (subst (λ t. PutsFiltered filter before before [] c.filter c.filter w w a t) (sym same) (filtered_none filter before c.filter w a stands));
   };
-  over = subst (λ o. Goes live before place (Ok o)) found_is read;
+  over = subst (λ o. MovesToItem live before place (Ok o)) found_is read;
 }
 
 -- ---- at the end

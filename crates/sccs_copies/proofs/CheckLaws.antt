@@ -9,7 +9,7 @@ use Rattle.sccs_history.specs.Numbers.{front_if, has}
 use Rattle.sccs_edits.specs.Plans.{added_after}
 use Rattle.sccs_edits.specs.declared.scripts.Plan.{Plan}
 use Rattle.sccs_copies.specs.Copies.{IsOuterResult}
-use Rattle.sccs_copies.specs.Examining.{ComparesOn, GComes, GivesGLine, LinesLeft, Sees, SeesAll, difference, first_difference, has_keyword, line_result}
+use Rattle.sccs_copies.specs.Examining.{ComparesOn, GComes, GivesGLine, LinesLeft, SeesLines, SeesAll, difference, first_difference, has_keyword, line_result}
 use Rattle.sccs_copies.specs.declared.result_checks.ResultCheck.{ResultCheck}
 
 -- ---- one line beside one of the g-file
@@ -92,7 +92,7 @@ or_none : (a : Bool) → a ≡ (a || false)
 or_none true = refl
 or_none false = refl
 
-pub sees_none : (told : Option (List ℕ)) (s : ResultCheck) → Sees told [] s s
+pub sees_none : (told : Option (List ℕ)) (s : ResultCheck) → SeesLines told [] s s
 sees_none told s = record {
   keyword = or_none s.keyword;
   compares = refl;
@@ -100,7 +100,7 @@ sees_none told s = record {
   compared = λ file rest is compares comes. record { left = rest; comes = comes; same = λ more. refl };
 }
 
-pub sees_both : (told : Option (List ℕ)) (xs ys : List (List ℕ)) (s s1 s2 : ResultCheck) → Sees told xs s s1 → Sees told ys s1 s2 → Sees told (xs ++ ys) s s2
+pub sees_both : (told : Option (List ℕ)) (xs ys : List (List ℕ)) (s s1 s2 : ResultCheck) → SeesLines told xs s s1 → SeesLines told ys s1 s2 → SeesLines told (xs ++ ys) s s2
 sees_both told xs ys s s1 s2 first second = record {
   keyword =
       second.keyword
@@ -118,8 +118,8 @@ sees_both told xs ys s s1 s2 first second = record {
       };
 }
 
-pub sees_then : (told told2 : Option (List ℕ)) (xs ys : List (List ℕ)) (s s1 s2 : ResultCheck) (r : Result (Unit {0}) FileFault) → told2 ≡ told → Sees told xs s s1 → SeesAll told2 ys s1 s2 r → SeesAll told (xs ++ ys) s s2 r
-sees_then told told2 xs ys s s1 s2 (Ok done) same first second = sees_both told xs ys s s1 s2 first (subst (λ t. Sees t ys s1 s2) same second)
+pub sees_then : (told told2 : Option (List ℕ)) (xs ys : List (List ℕ)) (s s1 s2 : ResultCheck) (r : Result (Unit {0}) FileFault) → told2 ≡ told → SeesLines told xs s s1 → SeesAll told2 ys s1 s2 r → SeesAll told (xs ++ ys) s s2 r
+sees_then told told2 xs ys s s1 s2 (Ok done) same first second = sees_both told xs ys s s1 s2 first (subst (λ t. SeesLines t ys s1 s2) same second)
 sees_then told told2 xs ys s s1 s2 (Err fault) same first second = second
 
 -- one line, where it is compared
@@ -151,9 +151,9 @@ front_then true line lines = refl
 front_then false line lines = refl
 
 -- one line more of several
-pub line_more : (told : Option (List ℕ)) (lines : List (List ℕ)) (i : ℕ) (x y : List ℕ) (s s1 s2 : ResultCheck) → i < length lines → y ≡ x → x ≡ get_or lines i x → Sees told (take i lines) s s1 → Sees told (y ∷ []) s1 s2 → Sees told (take (i + 1) lines) s s2
+pub line_more : (told : Option (List ℕ)) (lines : List (List ℕ)) (i : ℕ) (x y : List ℕ) (s s1 s2 : ResultCheck) → i < length lines → y ≡ x → x ≡ get_or lines i x → SeesLines told (take i lines) s s1 → SeesLines told (y ∷ []) s1 s2 → SeesLines told (take (i + 1) lines) s s2
 line_more told lines i x y s s1 s2 low is so first second =
-    subst (λ l. Sees told l s s2) (ap (λ z. take i lines ++ z ∷ []) (is ∙ so) ∙ sym (take_at_read lines i x low).1) (sees_both told (take i lines) (y ∷ []) s s1 s2 first second)
+    subst (λ l. SeesLines told l s s2) (ap (λ z. take i lines ++ z ∷ []) (is ∙ so) ∙ sym (take_at_read lines i x low).1) (sees_both told (take i lines) (y ∷ []) s s1 s2 first second)
 
 -- a line of the base with what follows it
 pub base_line_is : (p : Plan) (k : ℕ) (kept : Bool) (line text : List ℕ) (new : List (List ℕ)) → kept ≡ not (has p.deleted (suc k)) → line ≡ text → new ≡ added_after (suc k) p.added → front_if kept line [] ++ new ≡ line_result p (suc k) text

@@ -10,6 +10,7 @@ use Rattle.sccs_base.proofs.Lines.{text_fit}
 use Rattle.sccs_sid.specs.Reading.{◌>>=◌, is_empty, only}
 use Rattle.sccs_sid.specs.SidLists.{begins}
 use Rattle.sccs_body.proofs.ReadBodies.{body_read}
+use Rattle.sccs_grammar.specs.AnySum.{unsummed_file, unsummed_front}
 use Rattle.sccs_grammar.specs.File.{Opened, Parsed, as_format, checked_front, file_of, opened, opened_by, opened_cut, stored, sum_holds, summed}
 use Rattle.sccs_grammar.specs.Front.{ParsedFront, front_from, header_of, is_whole, line_after, start}
 use Rattle.sccs_tokens.specs.Items.{go_on, item_at, item_of, item_read, item_standing, items_from}
@@ -28,6 +29,7 @@ use Rattle.sccs_history.specs.declared.headers.Item.TheVariants.{Text, Insert, D
 use Rattle.sccs_history.specs.declared.headers.Record.{Record}
 use Rattle.sccs_records.proofs.TableLaws.{below_bound, live_is_there}
 use Rattle.sccs_grammar.specs.declared.faults.FileFault.{FileFault}
+use Rattle.sccs_grammar.proofs.AnySumLaws.{unsummed_ok}
 use Rattle.sccs_grammar.proofs.ParserRules.{lines_keep_rules}
 use Rattle.sccs_grammar.proofs.SpelledParsers.{lines_spelled}
 use Rattle.sccs_tokens.specs.declared.line_tokens.LineToken.TheVariants as tokens
@@ -87,12 +89,11 @@ format_fit : {A : Type 0} (P : A → Type 0) (r : Result A ℕ) → IfOk r P →
 format_fit P (Ok x) here = here
 format_fit P (Err line) here = tt
 
-front_fit : (bytes : List ℕ) → IfOk (checked_front bytes) (λ (p : ParsedFront). AllByRecursion HasNoLf p.rest)
-unfolding checked_front
+front_fit : (bytes : List ℕ) → IfOk (unsummed_front bytes) (λ (p : ParsedFront). AllByRecursion HasNoLf p.rest)
+unfolding unsummed_front
 front_fit bytes =
     then_ok (λ (o : Opened). AllByRecursion HasNoLf o.lines) (λ (p : ParsedFront). AllByRecursion HasNoLf p.rest) (opened bytes) _ (opened_fit bytes) λ o fit.
-    then_ok (λ (q : Opened). AllByRecursion HasNoLf q.lines) (λ (p : ParsedFront). AllByRecursion HasNoLf p.rest) (summed o) _ (if_ok (λ (q : Opened). AllByRecursion HasNoLf q.lines) (sum_holds o) (Ok o) _ fit tt) λ q fit2.
-    format_fit (λ (p : ParsedFront). AllByRecursion HasNoLf p.rest) (front_from 2 start q.lines) (rest_fit HasNoLf 2 start q.lines fit2)
+    format_fit (λ (p : ParsedFront). AllByRecursion HasNoLf p.rest) (front_from 2 start o.lines) (rest_fit HasNoLf 2 start o.lines fit)
 
 -- ---- items
 
@@ -233,10 +234,11 @@ under : {A E : Type 0} (H : Type 0) (P : A → Type 0) (r : Result A E) → (H �
 under H P (Ok x) are = are
 under H P (Err e) are = tt
 
-pub file_fits : (bytes : List ℕ) → IfOk (file_of bytes) (λ (f : Parsed). HasItems f.header f.items)
-unfolding file_of
-file_fits bytes =
-    then_ok (λ (p : ParsedFront). AllByRecursion HasNoLf p.rest) (λ (f : Parsed). HasItems f.header f.items) (checked_front bytes) _ (front_fit bytes) λ p fit.
+-- whatever its stored sum is
+pub unsummed_fits : (bytes : List ℕ) → IfOk (unsummed_file bytes) (λ (f : Parsed). HasItems f.header f.items)
+unfolding unsummed_file
+unsummed_fits bytes =
+    then_ok (λ (p : ParsedFront). AllByRecursion HasNoLf p.rest) (λ (f : Parsed). HasItems f.header f.items) (unsummed_front bytes) _ (front_fit bytes) λ p fit.
     then_ok (λ items. (IsTable p.header.records → AllByRecursion IsLegal items) × GoesOn (live_serials p.header.records) [] items) (λ (f : Parsed). HasItems f.header f.items)
     (as_format (items_from (live_serials p.header.records) p.line [] p.rest (cut bytes).tail)) _
     (format_fit (λ items. (IsTable p.header.records → AllByRecursion IsLegal items) × GoesOn (live_serials p.header.records) [] items) (items_from (live_serials p.header.records) p.line [] p.rest (cut bytes).tail)
@@ -245,6 +247,13 @@ file_fits bytes =
     (items_ok (live_serials p.header.records) p.line p.rest (cut bytes).tail (items_from (live_serials p.header.records) p.line [] p.rest (cut bytes).tail) refl)))
     λ items both.
     if_ok (λ (f : Parsed). HasItems f.header f.items) (is_encoded p.header.flags) (Err _) (Ok (record { header = p.header; items = items })) tt (record { legal = both.0; goes = both.1 })
+
+pub file_fits : (bytes : List ℕ) → IfOk (file_of bytes) (λ (f : Parsed). HasItems f.header f.items)
+file_fits bytes = by (file_of bytes) refl
+  where
+    by : (r : Result Parsed FileFault) → file_of bytes ≡ r → IfOk r (λ (f : Parsed). HasItems f.header f.items)
+    by (Ok f) is = subst (λ s. IfOk s (λ (g : Parsed). HasItems g.header g.items)) (unsummed_ok bytes f is) (unsummed_fits bytes)
+    by (Err fault) is = tt
 
 -- ---- what is legal is an item of lines
 

@@ -2,14 +2,14 @@
 use Rattle.std.specs.Prelude.{ℕ, ◌+◌, ◌==◌, Bool, List, Option, None, Some, if◌then◌else◌}
 use Rattle.sccs_history.specs.declared.headers.Item.{Item}
 use Rattle.sccs_edits.specs.Places.{told_behind}
-use Rattle.sccs_splicer.specs.Splices.{State, base_count, owed}
+use Rattle.sccs_splicer.specs.Splices.{SplicerState, base_count, items_owed}
 use Rattle.sccs_weave.specs.Regions.{Holds}
 use Rattle.sccs_copies.specs.Filters.{Filter}
 use Rattle.sccs_copies.specs.declared.base_splicers.BaseSplicer.{BaseSplicer}
 
 -- what a splicer owes for items to come, where with those of them that are lines of the base it took so many
-abbrev pub counted_output : State → ℕ → List (Item × Bool) → Option (List Item)
-counted_output s lines told = if s.line + base_count told == lines then Some (owed s told) else None
+abbrev pub counted_output : SplicerState → ℕ → List (Item × Bool) → Option (List Item)
+counted_output s lines told = if s.line + base_count told == lines then Some (items_owed s told) else None
 
 -- It stands behind items in whose open regions its weaver is; its output are the items that are to come with those of the new delta,
 -- where the set shows as many lines as were counted.

@@ -78,7 +78,7 @@ pub record ComparesOn (file : List ℕ) (lines : List (List ℕ)) (s s2 : Result
   pub same : (more : List (List ℕ)) → difference s2.differs s2.number more left ≡ difference s.differs s.number (lines ++ more) rest
 
 -- Lines of the result went by.
-pub record Sees (told : Option (List ℕ)) (lines : List (List ℕ)) (s s2 : ResultCheck) : Type 0 where
+pub record SeesLines (told : Option (List ℕ)) (lines : List (List ℕ)) (s s2 : ResultCheck) : Type 0 where
   pub keyword : s2.keyword ≡ (s.keyword || list_any has_keyword lines)
   pub compares : s2.compares ≡ s.compares
   pub name : s2.lines.name ≡ s.lines.name
@@ -86,7 +86,7 @@ pub record Sees (told : Option (List ℕ)) (lines : List (List ℕ)) (s s2 : Res
 
 -- lines went by; or it was no fault of a file that was read
 abbrev pub SeesAll : Option (List ℕ) → List (List ℕ) → ResultCheck → ResultCheck → {T : Type 0} → Result T FileFault → Type 0
-SeesAll told lines s s2 (Ok done) = Sees told lines s s2
+SeesAll told lines s s2 (Ok done) = SeesLines told lines s s2
 SeesAll told lines s s2 (Err fault) = IsFaultAroundCopy fault
 
 -- the next line of a told g-file, and others are to come; or none is left
@@ -122,13 +122,13 @@ pub record ExaminesSome (file : List ℕ) (r : VersionPlace) (g : Option (List �
   pub first : List HistoryLine
   pub rest : List HistoryLine
   pub whole : lines ≡ first ++ rest
-  pub sees : Sees g (result_from at.plan at.line (line_texts first)) s s2
+  pub sees : SeesLines g (result_from at.plan at.line (line_texts first)) s s2
   pub line : at2.line ≡ at.line + length first
   pub on : Coming file r rest
 
 -- All of them went by.
 pub record ExaminesWhole (g : Option (List ℕ)) (lines : List HistoryLine) (at at2 : Passed) (s s2 : ResultCheck) : Type 0 where
-  pub sees : Sees g (result_from at.plan at.line (line_texts lines)) s s2
+  pub sees : SeesLines g (result_from at.plan at.line (line_texts lines)) s s2
   pub line : at2.line ≡ at.line + length lines
 
 abbrev pub ExaminesNext : List ℕ → VersionPlace → Option (List ℕ) → List HistoryLine → Passed → Passed → ResultCheck → ResultCheck → Result Bool FileFault → Type 0

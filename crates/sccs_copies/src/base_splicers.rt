@@ -3,7 +3,7 @@ ghost use Rattle.sccs_edits.specs.Places.{told_behind};
 ghost use Rattle.sccs_edits.specs.Plans.{IsInOrder};
 ghost use Rattle.sccs_history.specs.Numbers.{has};
 ghost use Rattle.sccs_history.specs.declared.headers.Item.{Item};
-ghost use Rattle.sccs_splicer.specs.Splices.{begun};
+ghost use Rattle.sccs_splicer.specs.Splices.{new_splice};
 ghost use Rattle.sccs_weave.specs.Regions.{Holds};
 
 use crate::filters::BodyFilter;
@@ -31,7 +31,7 @@ impl BaseSplicer {
     /// set shows, so many.
     pub fn new(alloc: Global, serial: u16, plan: Plan, set: Applied, lines: u64) -> BaseSplicer
         requires { IsInOrder plan }
-        ensures splicer { result.splicer ≡ begun serial plan }
+        ensures splicer { result.splicer ≡ new_splice serial plan }
         ensures set { result.set ≡ set }
         ensures lines { result.lines ≡ lines }
         ensures begins { has set 0 ≡ false → Holds set [] result.weaver }

@@ -10,7 +10,7 @@ ghost use Rattle.sccs_history.specs.declared.headers.Item.{Item};
 ghost use Rattle.sccs_table.specs.FrontFile.{ReadsDisk};
 ghost use Rattle.sccs_table.specs.ReaderState.{bytes_in};
 ghost use Rattle.sccs_versions.specs.Coming.{Coming, IsBody, shown};
-ghost use Rattle.sccs_versions.specs.Place.{name_of, steps_left};
+ghost use Rattle.sccs_versions.specs.Place.{name_of, steps_to_end};
 ghost use Rattle.sccs_copies.specs.Examining.{Examines, ExaminesAll, ExaminesNext, IsBefore, SeesAll, line_result};
 
 use crate::result_checks::{ResultCheck, first_difference, see_line, see_lines};
@@ -86,7 +86,7 @@ fn see_next<D: Disk>(
     ensures read { name_of version.new ≡ name_of version.old }
     ensures plan { at.new.plan ≡ at.old.plan }
     ensures few { OnOk result (at.new.line ≤ file_limit) }
-    ensures further { IfOk result (λ more. more ≡ true → steps_left version.new < steps_left version.old) }
+    ensures further { IfOk result (λ more. more ≡ true → steps_to_end version.new < steps_to_end version.old) }
     ensures told { (file : List ℕ) (lines : List HistoryLine) → bytes_in (seen (D.told disk.old)) (name_of version.old) ≡ Some file
         → Coming file version.old lines → at.old.line + length lines ≤ file_limit
         → ExaminesNext file version.new (bytes_in (seen (D.told disk.old)) check.old.lines.name) lines at.old at.new check.old check.new result }

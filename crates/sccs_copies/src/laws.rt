@@ -3,7 +3,7 @@ ghost use Rattle.sccs_edits.specs.Places.{told_behind};
 ghost use Rattle.sccs_history.specs.Body.{lines_of};
 ghost use Rattle.sccs_history.specs.Select.{select};
 ghost use Rattle.sccs_history.specs.declared.headers.Item.{Item};
-ghost use Rattle.sccs_splicer.specs.Splices.{owed};
+ghost use Rattle.sccs_splicer.specs.Splices.{items_owed};
 ghost use Rattle.sccs_copies.specs.BaseSplicing.{base_splicing};
 ghost use Rattle.sccs_copies.specs.declared.base_splicers.BaseSplicer.{BaseSplicer};
 
@@ -12,7 +12,7 @@ ghost use Rattle.sccs_copies.specs.declared.base_splicers.BaseSplicer.{BaseSplic
 pub fn spliced_outputs()
     ensures told { (b : BaseSplicer) (body items : List Item) → b.splicer.line ≡ 0 → base_splicing.output b [] body ≡ Some items
         → (length (select b.set (lines_of body)) ≡ b.lines)
-        × (items ≡ owed b.splicer (told_behind b.set [] body)) }
+        × (items ≡ items_owed b.splicer (told_behind b.set [] body)) }
     ensures made { (b : BaseSplicer) (body : List Item) → b.splicer.line ≡ 0 → length (select b.set (lines_of body)) ≡ b.lines
-        → base_splicing.output b [] body ≡ Some (owed b.splicer (told_behind b.set [] body)) }
+        → base_splicing.output b [] body ≡ Some (items_owed b.splicer (told_behind b.set [] body)) }
 {}

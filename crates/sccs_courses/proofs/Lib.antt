@@ -1,4 +1,5 @@
 pub mod CourseMomentLaws
+pub mod FineLoops
 pub mod JoinedCourses
 pub mod Loops
 pub mod OneAction

@@ -4,3 +4,4 @@ pub mod OwnFiles
 pub mod QuietSettings
 pub mod Sayings
 pub mod Tests
+pub mod WhileFine

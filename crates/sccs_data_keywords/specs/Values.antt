@@ -9,18 +9,18 @@ use Rattle.sccs_tokens.specs.Written.{behind_blank, bytes_of, ended, five, kind_
 use Rattle.sccs_flags.specs.FlagValues.{has_flag}
 use Rattle.sccs_keys.specs.Expansion.{expanded}
 use Rattle.sccs_keys.specs.declared.facts.Facts.{Facts}
-use Rattle.sccs_facts.specs.VersionFacts.{flag_text, kind, module_name, user}
+use Rattle.sccs_facts.specs.VersionFacts.{flag_text, kind_flags, module_name, user}
 use Rattle.sccs_data_keywords.specs.declared.keywords.DataItem.{DataItem}
 use Rattle.sccs_data_keywords.specs.declared.keywords.DataItem.TheVariants as i
 
 -- what identification keywords stand for where a delta of a file of this name in a folder is shown
-abbrev pub facts_in : Header → List ℕ → List ℕ → Record → Facts
-facts_in header n place r = record {
+abbrev pub delta_facts : Header → List ℕ → List ℕ → Record → Facts
+delta_facts header n place r = record {
   «module» = module_name header.flags n;
   sid = r.sid;
   moment = r.moment;
   newest = r.moment;
-  kind = kind header.flags;
+  kind = kind_flags header.flags;
   user = user header.flags;
   file = n;
   place = place;
@@ -49,8 +49,8 @@ abbrev pub lists_text : Record → List ℕ
 lists_text r = serials_text r.include ++ (47 ∷ serials_text r.exclude ++ (47 ∷ serials_text r.ignore))
 
 -- a flag: its letter, and its text where it has one
-abbrev pub flag_line : Flag → List ℕ
-flag_line f = f.letter ∷ behind_blank f.text
+abbrev pub printed_flag : Flag → List ℕ
+printed_flag f = f.letter ∷ behind_blank f.text
 
 abbrev pub yes_or_no : Bool → List ℕ
 yes_or_no true = codes "yes"
@@ -82,6 +82,6 @@ item_text header facts r i.Mrs = bytes_of r.mrs
 item_text header facts r i.Comments = bytes_of r.comments
 item_text header facts r i.Users = bytes_of header.users
 item_text header facts r i.Description = bytes_of header.description
-item_text header facts r i.Flags = flat_map (λ f. ended (flag_line f)) header.flags
+item_text header facts r i.Flags = flat_map (λ f. ended (printed_flag f)) header.flags
 item_text header facts r (i.FlagText letter) = flag_text header.flags letter []
 item_text header facts r (i.HasFlag letter) = yes_or_no (has_flag header.flags letter)

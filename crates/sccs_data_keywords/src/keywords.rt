@@ -1,5 +1,5 @@
 ghost use Rattle.std.specs.Prelude.{◌≡◌};
-ghost use Rattle.sccs_data_keywords.specs.DataKeywords.{keyword_of, keywords};
+ghost use Rattle.sccs_data_keywords.specs.DataKeywords.{data_keyword_of, keywords};
 
 /// What a data keyword stands for that the header of an s-file answers: POSIX, prs, "SCCS Files Data
 /// Keywords".
@@ -129,7 +129,7 @@ fn keywords() -> &'static [DataKeyword]
 
 /// What the keyword of a name stands for.
 pub fn keyword_of(first: u8, second: u8) -> Option<Part>
-    ensures { result ≡ keyword_of first second }
+    ensures { result ≡ data_keyword_of first second }
 {
     let found = keywords()
         .iter()

@@ -1,6 +1,6 @@
 ghost use Rattle.std.specs.Prelude.{◌≡◌, ◌++◌, ◌∷◌, [], decimal, flat_map};
 ghost use Rattle.sccs_base.specs.Causes.{GivesText};
-ghost use Rattle.sccs_data_keywords.specs.Values.{flag_line, lists_text, serials_text};
+ghost use Rattle.sccs_data_keywords.specs.Values.{printed_flag, lists_text, serials_text};
 ghost use Rattle.sccs_tokens.specs.Written.{bytes_of, ended};
 
 use itoa::Buffer;
@@ -21,7 +21,7 @@ pub fn give_lines<S: Sink>(lines: &Text, out: &mut S) -> Result<(), Failed>
 
 // gives a flag: its letter, and behind a blank its text where it has one, and LF
 fn give_flag<S: Sink>(flag: &Flag, out: &mut S) -> Result<(), Failed>
-    ensures { GivesText (ended (flag_line flag.now)) (S.given out.old) (S.given out.new) (S.faults out.old) (S.faults out.new) result }
+    ensures { GivesText (ended (printed_flag flag.now)) (S.given out.old) (S.given out.new) (S.faults out.old) (S.faults out.new) result }
 {
     let text = flag.text.bytes();
     if text.is_empty() {
@@ -32,7 +32,7 @@ fn give_flag<S: Sink>(flag: &Flag, out: &mut S) -> Result<(), Failed>
 
 /// Gives flags, each on a line.
 pub fn give_flags<S: Sink>(flags: &[Flag], out: &mut S) -> Result<(), Failed>
-    ensures { GivesText (flat_map (λ f. ended (flag_line f)) flags.now) (S.given out.old) (S.given out.new) (S.faults out.old) (S.faults out.new) result }
+    ensures { GivesText (flat_map (λ f. ended (printed_flag f)) flags.now) (S.given out.old) (S.given out.new) (S.faults out.old) (S.faults out.new) result }
 {
     for flag in flags {
         if let Err(fault) = give_flag(flag, out) {

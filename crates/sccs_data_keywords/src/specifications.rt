@@ -1,5 +1,5 @@
 ghost use Rattle.std.specs.Prelude.{◌≡◌, ◌≤◌, ◌<◌, ◌+◌, ◌∷◌, length, IfOk};
-ghost use Rattle.sccs_data_keywords.specs.DataKeywords.{behind_backslash, behind_colon, found_part, keyed, of_two, parts, plain};
+ghost use Rattle.sccs_data_keywords.specs.DataKeywords.{behind_backslash, behind_colon, found_part, keyed, of_two, data_parts, plain_byte};
 
 use crate::keywords::{Part, keyword_of};
 use sccs_base::{ListOf, Memory};
@@ -17,7 +17,7 @@ pub struct FoundPart {
 
 // a byte that stands for itself
 fn plain(byte: u8) -> FoundPart
-    ensures { result ≡ plain byte }
+    ensures { result ≡ plain_byte byte }
 {
     FoundPart {
         part: Part::Plain(byte),
@@ -94,7 +94,7 @@ fn found_part(byte: u8, bytes: &[u8]) -> FoundPart
 /// The parts of a data specification: POSIX prs, -d. What is no keyword stands for itself, but for `\t` and
 /// `\n`, which are tab and LF.
 pub fn read_parts(alloc: Global, spec: &[u8]) -> Result<Parts, Memory>
-    ensures { IfOk result (λ read. read ≡ parts spec.now) }
+    ensures { IfOk result (λ read. read ≡ data_parts spec.now) }
 {
     let mut read = Vec::new(alloc);
     let mut from = 0;

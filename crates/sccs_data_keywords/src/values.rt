@@ -6,7 +6,7 @@ ghost use Rattle.sccs_history.specs.History.{HasSpelling};
 ghost use Rattle.sccs_keys.specs.Expansion.{HasMoments};
 ghost use Rattle.sccs_sid.specs.Moment.{IsMoment, moment_text};
 ghost use Rattle.sccs_tokens.specs.Written.{kind_of};
-ghost use Rattle.sccs_data_keywords.specs.Values.{counts_text, delta_text, facts_in, identified, item_text, yes_or_no};
+ghost use Rattle.sccs_data_keywords.specs.Values.{counts_text, delta_text, delta_facts, identified, item_text, yes_or_no};
 
 use crate::keywords::DataItem;
 use crate::lists::{give_flags, give_lines, give_lists, give_serials};
@@ -41,7 +41,7 @@ pub fn identification_facts(
 ) -> Result<Facts, Memory>
     requires sfile { IsSfile name.now }
     requires spelled { HasSpelling delta.now }
-    ensures value { IfOk result (λ f. f ≡ facts_in header.now name.now place.now delta.now) }
+    ensures value { IfOk result (λ f. f ≡ delta_facts header.now name.now place.now delta.now) }
     ensures valid { IfOk result HasMoments }
 {
     let flags = header.flags.items();

@@ -7,7 +7,7 @@ use Rattle.sccs_sid.specs.declared.refusals.Refusal.{Refusal}
 use Rattle.sccs_sid.specs.declared.refusals.Refusal.TheVariants as refusals
 use Rattle.sccs_history.specs.Applied.{applied}
 use Rattle.sccs_history.specs.declared.headers.Record.{Record}
-use Rattle.sccs_sets.specs.Naming.{Answers as AnswersList, named_serials}
+use Rattle.sccs_sets.specs.Naming.{AnswersSerials as AnswersList, named_serials}
 use Rattle.sccs_sets.specs.Retrieved.{serial_of}
 use Rattle.sccs_sets.specs.Sets.{Explains, both_listed}
 use Rattle.sccs_sets.specs.declared.faults.SetFault.{SetFault}

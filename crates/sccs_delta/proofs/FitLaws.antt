@@ -27,7 +27,7 @@ use Rattle.sccs_edits.specs.Plans.{plan}
 use Rattle.sccs_edits.specs.Scripts.{apply}
 use Rattle.sccs_edits.specs.declared.scripts.Order.{Order}
 use Rattle.sccs_edits.specs.declared.scripts.Plan.{Plan}
-use Rattle.sccs_script.specs.Checks.{bare, both_ok, checked, ranged}
+use Rattle.sccs_script.specs.Checks.{bare_soh, both_ok, checked_script, ranged}
 use Rattle.sccs_script.specs.Commands.{FitsIn}
 use Rattle.sccs_script.specs.declared.faults.ScriptFault.{ScriptFault}
 use Rattle.sccs_script.specs.declared.faults.ScriptFault.TheVariants as faults
@@ -46,11 +46,11 @@ use Rattle.sccs_delta.proofs.PlanResults.{plan_applied}
 abbrev judged_by : List Flag → Result (Unit {0}) ScriptFault → Bool → Result Bool Refusal → Result Bool Refusal
 judged_by flags r keyword last = or_script_fault r >>= λ x. check (not (has_flag flags flag_i) || keyword) refusals.NoKeywords >>= λ y. last
 
-judged_is : (flags : List Flag) (orders : List Order) (found : Found) → judged_script flags orders found ≡ judged_by flags (checked orders found.lines) found.keyword (or_differs found.differs)
+judged_is : (flags : List Flag) (orders : List Order) (found : Found) → judged_script flags orders found ≡ judged_by flags (checked_script orders found.lines) found.keyword (or_differs found.differs)
 unfolding judged_script
 judged_is flags orders found = refl
 
-fitted_is : (flags : List Flag) (orders : List Order) (base : List (List ℕ)) (g : Option Content) → fitted flags orders base g ≡ judged_by flags (checked orders (length base)) (list_any has_keyword (apply orders base)) (compared g (apply orders base))
+fitted_is : (flags : List Flag) (orders : List Order) (base : List (List ℕ)) (g : Option Content) → fitted flags orders base g ≡ judged_by flags (checked_script orders (length base)) (list_any has_keyword (apply orders base)) (compared g (apply orders base))
 unfolding fitted
 fitted_is flags orders base g = refl
 
@@ -64,13 +64,13 @@ same_judged flags (Err faults.Memory) a b x y keyword last = refl
 judged_fits : (flags : List Flag) (orders : List Order) (base : List (List ℕ)) (g : Option Content) (found : Found) → is_short g ≡ true → FindsBase orders base g found → judged_script flags orders found ≡ fitted flags orders base g
 judged_fits flags orders base g found short finds =
     judged_is flags orders found
-    ∙ (ap (λ n. judged_by flags (checked orders n) found.keyword (or_differs found.differs)) finds.lines
-    ∙ (same_judged flags (checked orders (length base)) found.keyword (list_any has_keyword (apply orders base)) (or_differs found.differs) (compared g (apply orders base)) finds.keyword (λ fits. finds.differs fits short)
+    ∙ (ap (λ n. judged_by flags (checked_script orders n) found.keyword (or_differs found.differs)) finds.lines
+    ∙ (same_judged flags (checked_script orders (length base)) found.keyword (list_any has_keyword (apply orders base)) (or_differs found.differs) (compared g (apply orders base)) finds.keyword (λ fits. finds.differs fits short)
     ∙ sym (fitted_is flags orders base g)))
 
-pub fit_judged : (flags : List Flag) (orders : List Order) (base : List (List ℕ)) (g : Option Content) (found : Found) → is_short g ≡ true → FindsBase orders base g found → checked orders found.lines ≡ Ok tt → PassesCheck (judged_script flags orders found) (Ok tt) → FitsScript flags orders base g (Ok found)
+pub fit_judged : (flags : List Flag) (orders : List Order) (base : List (List ℕ)) (g : Option Content) (found : Found) → is_short g ≡ true → FindsBase orders base g found → checked_script orders found.lines ≡ Ok tt → PassesCheck (judged_script flags orders found) (Ok tt) → FitsScript flags orders base g (Ok found)
 fit_judged flags orders base g found short finds fits passes =
-    (sym (judged_fits flags orders base g found short finds) ∙ passes, record { lines = finds.lines; keyword = finds.keyword (ap (checked orders) (sym finds.lines) ∙ fits) })
+    (sym (judged_fits flags orders base g found short finds) ∙ passes, record { lines = finds.lines; keyword = finds.keyword (ap (checked_script orders) (sym finds.lines) ∙ fits) })
 
 pub unfit_judged : (flags : List Flag) (orders : List Order) (base : List (List ℕ)) (g : Option Content) (found : Found) (fault : StepFault) → is_short g ≡ true → FindsBase orders base g found → PassesCheck (judged_script flags orders found) (Err fault) → FitsScript flags orders base g (Err fault)
 unfit_judged flags orders base g found (Refused refusal) short finds passes = sym (judged_fits flags orders base g found short finds) ∙ passes
@@ -96,13 +96,13 @@ ranged_ok : (orders : List Order) (r s : Result (Unit {0}) ScriptFault) → both
 ranged_ok orders (Ok tt) s is = (refl, is)
 ranged_ok orders (Err fault) s is = absurd cc
 
-pub longest_plan_is : (orders : List Order) (count limit : ℕ) (p : Plan) → AllByRecursion (FitsIn 18446744073709551616) orders → count ≤ limit → checked orders count ≡ Ok tt → (checked orders limit ≡ Ok tt → p ≡ plan orders limit) → p ≡ plan orders count
+pub longest_plan_is : (orders : List Order) (count limit : ℕ) (p : Plan) → AllByRecursion (FitsIn 18446744073709551616) orders → count ≤ limit → checked_script orders count ≡ Ok tt → (checked_script orders limit ≡ Ok tt → p ≡ plan orders limit) → p ≡ plan orders count
 longest_plan_is orders count limit p ordered few fits is =
-    let parts = ranged_ok orders (ranged orders count) (bare orders) fits in
+    let parts = ranged_ok orders (ranged orders count) (bare_soh orders) fits in
     let long : count + (limit - count) ≡ limit = omega (arith, few) in
     let each = ordered_of 18446744073709551616 orders ordered in
     let ranges : ranged orders limit ≡ Ok tt = subst (λ n. ranged orders n ≡ Ok tt) long (fits_longer orders count (limit - count) each parts.0) in
-    let whole : checked orders limit ≡ Ok tt = ap (λ (r : Result (Unit {0}) ScriptFault). both_ok r (bare orders)) ranges ∙ parts.1 in
+    let whole : checked_script orders limit ≡ Ok tt = ap (λ (r : Result (Unit {0}) ScriptFault). both_ok r (bare_soh orders)) ranges ∙ parts.1 in
     is whole ∙ (ap (plan orders) (sym long) ∙ plan_longer orders count (limit - count) each parts.0)
 
 same_difference : (o : Option Content) (compares : Bool) (base result : List (List ℕ)) (found : Found) → result ≡ base → is_short o ≡ true → compares ≡ is_some o → (compares ≡ false → found.differs ≡ None)
@@ -112,14 +112,14 @@ same_difference (Some c) compares base result found is short there alone finds =
     ap or_differs (finds c.bytes refl (leb-true (length c.bytes) 1073741824 short) there ∙ ap (λ r. first_difference 0 r (text_of c.bytes)) is)
 
 pub base_found : (orders : List Order) (base : List (List ℕ)) (o : Option Content) (compares : Bool) (p : Plan) (found : Found)
-    → (checked orders (length base) ≡ Ok tt → p ≡ plan orders (length base)) → compares ≡ is_some o → (compares ≡ false → found.differs ≡ None) → FindsResult (option_map (λ (c : Content). c.bytes) o) p base compares found → FindsBase orders base o found
+    → (checked_script orders (length base) ≡ Ok tt → p ≡ plan orders (length base)) → compares ≡ is_some o → (compares ≡ false → found.differs ≡ None) → FindsResult (option_map (λ (c : Content). c.bytes) o) p base compares found → FindsBase orders base o found
 base_found orders base o compares p found plans there alone finds = record {
   lines = finds.lines;
   keyword = λ fits. finds.keyword ∙ ap (list_any has_keyword) (made fits);
   differs = λ fits short. same_difference o compares (apply orders base) (result_of p base) found (made fits) short there alone finds.differs;
 }
   where
-    made : checked orders (length base) ≡ Ok tt → result_of p base ≡ apply orders base
+    made : checked_script orders (length base) ≡ Ok tt → result_of p base ≡ apply orders base
     made fits = ap (λ q. result_of q base) (plans fits) ∙ plan_applied orders base
 
 pub base_unread : (told : Option (List ℕ)) (orders : List Order) (base : List (List ℕ)) (g : Option Content) (p : Plan) (compares : Bool) (fault : FileFault) (ended : StepFault) → Examines told p base compares (Err fault) → ended ≡ file_fault fault → ReadsBase orders base g (Err ended)
@@ -139,7 +139,7 @@ pub fits_unread : (o : Option View) (n : List ℕ) (flags : List Flag) (orders :
 fits_unread None n flags orders base fault reads = tt
 fits_unread (Some v) n flags orders base fault reads = λ short. unread_fits flags orders base (v (drop 2 n)) fault reads
 
-pub fits_judged : (o : Option View) (n : List ℕ) (flags : List Flag) (orders : List Order) (base : List (List ℕ)) (found : Found) → checked orders found.lines ≡ Ok tt → PassesCheck (judged_script flags orders found) (Ok tt) → IfSome o (λ (v : View). ReadsBase orders base (v (drop 2 n)) (Ok found))
+pub fits_judged : (o : Option View) (n : List ℕ) (flags : List Flag) (orders : List Order) (base : List (List ℕ)) (found : Found) → checked_script orders found.lines ≡ Ok tt → PassesCheck (judged_script flags orders found) (Ok tt) → IfSome o (λ (v : View). ReadsBase orders base (v (drop 2 n)) (Ok found))
     → IfSome o (λ (v : View). is_short (v (drop 2 n)) ≡ true → FitsScript flags orders base (v (drop 2 n)) (Ok found))
 fits_judged None n flags orders base found fits passes reads = tt
 fits_judged (Some v) n flags orders base found fits passes reads = λ short. fit_judged flags orders base (v (drop 2 n)) found short reads fits passes
@@ -157,7 +157,7 @@ body_in : (o o2 : Option View) (n : List ℕ) (front : Front) (set file : List �
 body_in o o2 n front set file items same is = subst (λ (w : Option View). IsBody (bytes_in w n) front set file items) (sym same) is
 
 pub base_read : (o o2 : Option View) (n k : List ℕ) (orders : List Order) (front : Front) (set file : List ℕ) (items : List Item) (compares : Bool) (p : Plan) (found : Found) → o2 ≡ o → k ≡ drop 2 n → IsBody (bytes_in o n) front set file items → AllByRecursion (FitsIn 18446744073709551616) orders
-    → IfSome o (λ (v : View). compares ≡ is_some (v k)) → (checked orders 1073741824 ≡ Ok tt → p ≡ plan orders 1073741824) → (compares ≡ false → found.differs ≡ None)
+    → IfSome o (λ (v : View). compares ≡ is_some (v k)) → (checked_script orders 1073741824 ≡ Ok tt → p ≡ plan orders 1073741824) → (compares ≡ false → found.differs ≡ None)
     → ((f : List ℕ) (list : List Item) → IsBody (bytes_in o2 n) front set f list → Examines (bytes_in o2 (drop 2 n)) p (select set (lines_of list)) compares (Ok found))
     → IfSome o (λ (v : View). ReadsBase orders (select set (lines_of items)) (v (drop 2 n)) (Ok found))
 base_read None o2 n k orders front set file items compares p found same named is ordered there plans alone told = tt

@@ -14,7 +14,7 @@ use Rattle.sccs_sid.specs.Reading.{◌>>=◌}
 use Rattle.sccs_edits.specs.Places.{places}
 use Rattle.sccs_edits.specs.Plans.{plan}
 use Rattle.sccs_edits.specs.declared.scripts.Order.{Order}
-use Rattle.sccs_script.specs.Checks.{checked}
+use Rattle.sccs_script.specs.Checks.{checked_script}
 use Rattle.sccs_script.specs.Commands.{orders_of}
 use Rattle.sccs_script.specs.declared.faults.ScriptFault.{ScriptFault}
 use Rattle.sccs_script.specs.declared.faults.ScriptFault.TheVariants as faults
@@ -88,11 +88,11 @@ orders_ok (Err (faults.ScriptRange line lines)) orders is = absurd cc
 orders_ok (Err (faults.BadText line)) orders is = absurd cc
 orders_ok (Err faults.Memory) orders is = absurd cc
 
-pub fitted_ok : (flags : List Flag) (orders : List Order) (base : List (List ℕ)) (g : Option Content) (t : Bool) → fitted flags orders base g ≡ Ok t → checked orders (length base) ≡ Ok tt
+pub fitted_ok : (flags : List Flag) (orders : List Order) (base : List (List ℕ)) (g : Option Content) (t : Bool) → fitted flags orders base g ≡ Ok t → checked_script orders (length base) ≡ Ok tt
 unfolding fitted
-fitted_ok flags orders base g t is = let first = passed (or_script_fault (checked orders (length base))) _ t is in script_ok (checked orders (length base)) first.0 first.1
+fitted_ok flags orders base g t is = let first = passed (or_script_fault (checked_script orders (length base))) _ t is in script_ok (checked_script orders (length base)) first.0 first.1
 
-script_passed : (words : DeltaWords) (header : Header) (items : List Item) (edits : List Edit) (e : ChosenEntry) (orders : List Order) (g : Option Content) (nulls : List Sid) → script_checked words header items edits e orders g ≡ Ok nulls → (checked orders (length (base_lines items e.base)) ≡ Ok tt) × (nulls_of header edits e.edit ≡ Ok nulls)
+script_passed : (words : DeltaWords) (header : Header) (items : List Item) (edits : List Edit) (e : ChosenEntry) (orders : List Order) (g : Option Content) (nulls : List Sid) → script_checked words header items edits e orders g ≡ Ok nulls → (checked_script orders (length (base_lines items e.base)) ≡ Ok tt) × (nulls_of header edits e.edit ≡ Ok nulls)
 unfolding script_checked
 script_passed words header items edits e orders g nulls is =
     let fits = passed (fitted header.flags orders (base_lines items e.base) g) (λ x. mrs_checked header.flags words.mrs >>= λ mrs. nulls_of header edits e.edit) nulls is in

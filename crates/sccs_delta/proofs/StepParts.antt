@@ -12,7 +12,7 @@ use Rattle.sccs_history.specs.declared.headers.Header.{Header}
 use Rattle.sccs_history.specs.declared.headers.Record.{Record}
 use Rattle.sccs_edits.specs.declared.scripts.Order.{Order}
 use Rattle.sccs_script.specs.Commands.{orders_of}
-use Rattle.sccs_script.specs.Checks.{checked}
+use Rattle.sccs_script.specs.Checks.{checked_script}
 use Rattle.sccs_sets.specs.Naming.{named_serials}
 use Rattle.sccs_sets.specs.Retrieved.{serial_of}
 use Rattle.sccs_files.specs.StepFiles.{Files}
@@ -38,7 +38,7 @@ pub record StepParts (words : DeltaWords) (stamp : Stamp) (n i : List ℕ) (f : 
   pub pending : pending_of f.s f.p ≡ Ok found
   pub meant : chosen_entry words stamp found.parsed.header found.edits ≡ Ok entry
   pub script : orders_of i ≡ Ok orders
-  pub fits : checked orders (length (base_lines found.parsed.items entry.base)) ≡ Ok tt
+  pub fits : checked_script orders (length (base_lines found.parsed.items entry.base)) ≡ Ok tt
   pub skipped : nulls_of found.parsed.header found.edits entry.edit ≡ Ok nulls
   pub made : makes_delta words stamp n f found entry orders nulls ≡ effect
 

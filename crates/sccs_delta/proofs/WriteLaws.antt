@@ -39,7 +39,7 @@ use Rattle.sccs_history.specs.History.{IsSpelled}
 use Rattle.sccs_pfile.specs.declared.entries.Edit.{Edit}
 use Rattle.sccs_records.specs.NewDeltas.{null_delta}
 use Rattle.sccs_records.specs.declared.new_deltas.Counts.{Counts}
-use Rattle.sccs_splicer.specs.Splices.{State, begun, owed}
+use Rattle.sccs_splicer.specs.Splices.{SplicerState, new_splice, items_owed}
 use Rattle.sccs_splicer.proofs.SpliceLaws.{owed_first}
 use Rattle.sccs_store.specs.SealedFiles.{sealed}
 use Rattle.sccs_transactions.specs.declared.prepared.Prepared.{Prepared}
@@ -86,23 +86,23 @@ x_unwritten h items n old new (files.Changed a b c d) ended outer is = absurd ou
 -- before all items, of which as many are lines of the base as were counted
 pub copy_begins : (file : List ℕ) (front : Front) (items : List Item) (lines : ℕ) (c : Copying BaseSplicer) (set : List ℕ) → c.filter.set ≡ set → c.filter.lines ≡ lines → c.filter.splicer.line ≡ 0
     → lines ≡ length (select set (lines_of items)) → IsBody (Some file) front set file items → Holds c.filter.set [] c.filter.weaver
-    → (IsFrontFor file front → ToCome file (live_serials front.header.records) [] (items_of file front) c.items) → CopyComes base_splicing file (owed c.filter.splicer (told_behind set [] items)) c
+    → (IsFrontFor file front → ToCome file (live_serials front.header.records) [] (items_of file front) c.items) → CopyComes base_splicing file (items_owed c.filter.splicer (told_behind set [] items)) c
 copy_begins file front items lines c set same count start is body holds comes = record {
   live = live_serials front.header.records;
   before = [];
   rest = items;
   comes = subst (λ found. ToCome file (live_serials front.header.records) [] found c.items) body.items_are (comes body.front_is);
   stands = holds;
-  output_is = output_made c.filter items start (ap (λ s. length (select s (lines_of items))) same ∙ (sym is ∙ sym count)) ∙ ap (λ s. Some (owed c.filter.splicer (told_behind s [] items))) same;
+  output_is = output_made c.filter items start (ap (λ s. length (select s (lines_of items))) same ∙ (sym is ∙ sym count)) ∙ ap (λ s. Some (items_owed c.filter.splicer (told_behind s [] items))) same;
 }
 
 -- the copy that is made with such a splicer
-pub copy_begun : {E : Type 0} (file : List ℕ) (front : Front) (items : List Item) (lines : ℕ) (r : Result (Copying BaseSplicer) E) (b : BaseSplicer) (set : List ℕ) (s : State) → b.set ≡ set → b.lines ≡ lines → b.splicer ≡ s → s.line ≡ 0
+pub copy_begun : {E : Type 0} (file : List ℕ) (front : Front) (items : List Item) (lines : ℕ) (r : Result (Copying BaseSplicer) E) (b : BaseSplicer) (set : List ℕ) (s : SplicerState) → b.set ≡ set → b.lines ≡ lines → b.splicer ≡ s → s.line ≡ 0
     → lines ≡ length (select set (lines_of items)) → IsBody (Some file) front set file items → Holds set [] b.weaver → IfOk r (λ c. c.filter ≡ b)
-    → (IsFrontFor file front → IfOk r (λ c. ToCome file (live_serials front.header.records) [] (items_of file front) c.items)) → IfOk r (λ c. CopyComes base_splicing file (owed c.filter.splicer (told_behind set [] items)) c)
+    → (IsFrontFor file front → IfOk r (λ c. ToCome file (live_serials front.header.records) [] (items_of file front) c.items)) → IfOk r (λ c. CopyComes base_splicing file (items_owed c.filter.splicer (told_behind set [] items)) c)
 copy_begun file front items lines (Ok c) b set s same count splicer start is body holds filter comes =
     copy_begins file front items lines c set (ap (λ (f : BaseSplicer). f.set) filter ∙ same) (ap (λ (f : BaseSplicer). f.lines) filter ∙ count)
-    (ap (λ (f : BaseSplicer). f.splicer.line) filter ∙ (ap (λ (t : State). t.line) splicer ∙ start)) is body
+    (ap (λ (f : BaseSplicer). f.splicer.line) filter ∙ (ap (λ (t : SplicerState). t.line) splicer ∙ start)) is body
     (subst (λ (f : BaseSplicer). Holds f.set [] f.weaver) (sym filter) (subst (λ x. Holds x [] b.weaver) (sym same) holds)) comes
 copy_begun file front items lines (Err e) b set s same count splicer start is body holds filter comes = tt
 
@@ -130,13 +130,13 @@ writes_as n h h2 items items2 edits keep report report2 message message2 p a b s
 
 pub delta_made : (words : DeltaWords) (stamp : Stamp) (n : List ℕ) (header : Header) (items : List Item) (edits : List Edit) (e : ChosenEntry) (orders : List Order) (lines : ℕ) (keyword : Bool) (s : NewSfile) (report message : List ℕ) (r : Result Prepared StepFault) (a b : Told) → lines ≡ length (base_lines items e.base)
     → (makes : MakesSfile words stamp header edits e.edit e.base orders lines (Ok s)) → report ≡ delta_report words.silent s.sid s.counts → message ≡ warning n keyword
-    → WritesDelta n s.header (owed s.copying.filter.splicer (told_behind e.base.set [] items)) (remove edits (e.number - 1)) words.keep report message a b r → MakesDelta (nulls_of header edits e.edit) words stamp n header items edits e orders keyword a b r
+    → WritesDelta n s.header (items_owed s.copying.filter.splicer (told_behind e.base.set [] items)) (remove edits (e.number - 1)) words.keep report message a b r → MakesDelta (nulls_of header edits e.edit) words stamp n header items edits e orders keyword a b r
 delta_made words stamp n header items edits e orders lines keyword s report message (Ok p) a b is makes report_is message_is writes = (
   makes.0,
   makes.1,
-  writes_as n s.header _ (owed s.copying.filter.splicer (told_behind e.base.set [] items)) _ (remove edits (e.number - 1)) words.keep report _ message _ p a b
+  writes_as n s.header _ (items_owed s.copying.filter.splicer (told_behind e.base.set [] items)) _ (remove edits (e.number - 1)) words.keep report _ message _ p a b
       (makes.2.header_is ∙ ap (λ k. header_with header e.base.got (map (null_delta stamp) makes.0) (entry_delta words stamp e.edit e.base.include e.base.exclude (counts_of (plan orders k) k))) is)
-      (ap (λ (t : State). owed t (told_behind e.base.set [] items)) makes.2.splicer_is
+      (ap (λ (t : SplicerState). items_owed t (told_behind e.base.set [] items)) makes.2.splicer_is
       ∙ (owed_first (suc (newest header.records + length makes.0)) (plan orders lines) (told_behind e.base.set [] items)
       ∙ placed_for lines is))
       (report_is ∙ (ap (λ sid. delta_report words.silent sid s.counts) makes.2.sid_is ∙ ap (delta_report words.silent e.edit.made) (makes.2.counts_is ∙ ap (λ k. counts_of (plan orders k) k) is)))
@@ -270,14 +270,14 @@ entry_valid edits k e are at = at_place edits k (recursion_from_All IsEdit edits
 -- ---- the new s-file
 
 pub sfile_of : (words : DeltaWords) (stamp : Stamp) (header : Header) (edit : Edit) (base : Base) (orders : List Order) (lines serial : ℕ) (nulls sids : List Sid) (counts : Counts) (s : NewSfile) → sids ≡ nulls
-    → s.header ≡ header_with header base.got (map (null_delta stamp) sids) (entry_delta words stamp edit base.include base.exclude counts) → counts ≡ counts_of s.copying.filter.splicer.plan lines → s.copying.filter.splicer ≡ begun serial (plan orders lines) → serial ≡ suc (newest header.records + length nulls)
+    → s.header ≡ header_with header base.got (map (null_delta stamp) sids) (entry_delta words stamp edit base.include base.exclude counts) → counts ≡ counts_of s.copying.filter.splicer.plan lines → s.copying.filter.splicer ≡ new_splice serial (plan orders lines) → serial ≡ suc (newest header.records + length nulls)
     → s.copying.filter.set ≡ base.set → s.sid ≡ edit.made → s.counts ≡ counts → IsSfileOf words stamp header edit base orders lines nulls s
 sfile_of words stamp header edit base orders lines serial nulls sids counts s sids_are header_is counts_are splicer_is serial_is set_is sid_is said =
-    let plan_counts : counts ≡ counts_of (plan orders lines) lines = counts_are ∙ ap (λ (t : State). counts_of t.plan lines) splicer_is in
+    let plan_counts : counts ≡ counts_of (plan orders lines) lines = counts_are ∙ ap (λ (t : SplicerState). counts_of t.plan lines) splicer_is in
     record {
       header_is = header_is ∙ (ap (λ (l : List Sid). header_with header base.got (map (null_delta stamp) l) (entry_delta words stamp edit base.include base.exclude counts)) sids_are
           ∙ ap (λ (k : Counts). header_with header base.got (map (null_delta stamp) nulls) (entry_delta words stamp edit base.include base.exclude k)) plan_counts);
-      splicer_is = splicer_is ∙ ap (λ k. begun k (plan orders lines)) serial_is;
+      splicer_is = splicer_is ∙ ap (λ k. new_splice k (plan orders lines)) serial_is;
       set_is = set_is;
       sid_is = sid_is;
       counts_is = said ∙ plan_counts;

@@ -19,7 +19,7 @@ use Rattle.sccs_history.specs.declared.headers.Flag.{Flag}
 use Rattle.sccs_history.specs.declared.headers.Header.{Header}
 use Rattle.sccs_history.specs.declared.headers.Item.{Item}
 use Rattle.sccs_history.specs.declared.headers.Record.{Record}
-use Rattle.sccs_flags.specs.FlagValues.{flag_of, has_flag, is_locked, is_within_limits}
+use Rattle.sccs_flags.specs.FlagValues.{flag_of, has_flag, is_locked_release, is_within_limits}
 use Rattle.sccs_flags.specs.Logins.{is_allowed}
 use Rattle.sccs_tokens.specs.Written.{ended}
 use Rattle.sccs_edits.specs.Places.{places}
@@ -27,7 +27,7 @@ use Rattle.sccs_edits.specs.Plans.{added_count, plan}
 use Rattle.sccs_edits.specs.Scripts.{apply}
 use Rattle.sccs_edits.specs.declared.scripts.Order.{Order}
 use Rattle.sccs_edits.specs.declared.scripts.Plan.{Plan}
-use Rattle.sccs_script.specs.Checks.{checked}
+use Rattle.sccs_script.specs.Checks.{checked_script}
 use Rattle.sccs_script.specs.Commands.{orders_of}
 use Rattle.sccs_script.specs.declared.faults.ScriptFault.{ScriptFault}
 use Rattle.sccs_script.specs.declared.faults.ScriptFault.TheVariants as faults
@@ -126,7 +126,7 @@ pub record ChosenEntry : Type 0 where
 unfoldable pub delta_releases : List Flag → Edit → Result Bool Refusal
 delta_releases flags edit = do
   within ← check (is_within_limits flags edit.got.release && is_within_limits flags edit.made.release) refusals.OutsideRelease
-  check (not (is_locked flags edit.made.release)) refusals.LockedRelease
+  check (not (is_locked_release flags edit.made.release)) refusals.LockedRelease
 
 -- the one entry of a login that is let in, whose releases may be used
 unfoldable pub chosen_entry : DeltaWords → Stamp → Header → List Edit → Result ChosenEntry Refusal
@@ -161,20 +161,20 @@ compared None result = Ok true
 compared (Some c) result = or_differs (first_difference 0 result (text_of c.bytes))
 
 -- a flag v or i has a text, which would name a program or a keyword
-abbrev pub has_text : List Flag → ℕ → Bool
-has_text flags letter = unwrap_or (option_map (λ (f : Flag). not (is_empty f.text)) (flag_of flags letter)) false
+abbrev pub flag_has_text : List Flag → ℕ → Bool
+flag_has_text flags letter = unwrap_or (option_map (λ (f : Flag). not (is_empty f.text)) (flag_of flags letter)) false
 
 unfoldable pub mrs_checked : List Flag → List (List ℕ) → Result Bool Refusal
 mrs_checked flags mrs = do
   given ← check (not (has_flag flags flag_v && is_empty mrs)) refusals.MrNeeded
   wanted ← check (has_flag flags flag_v || is_empty mrs) refusals.MrNotAllowed
-  program ← check (not (has_text flags flag_v)) (refusals.Unsupported flag_v)
-  check (not (has_text flags flag_i)) (refusals.Unsupported flag_i)
+  program ← check (not (flag_has_text flags flag_v)) (refusals.Unsupported flag_v)
+  check (not (flag_has_text flags flag_i)) (refusals.Unsupported flag_i)
 
 -- The script fits the base, its result has a keyword where one is wanted, and is the text of the g-file.
 unfoldable pub fitted : List Flag → List Order → List (List ℕ) → Option Content → Result Bool Refusal
 fitted flags orders base g = do
-  fits ← or_script_fault (checked orders (length base))
+  fits ← or_script_fault (checked_script orders (length base))
   keywords ← check (not (has_flag flags flag_i) || list_any has_keyword (apply orders base)) refusals.NoKeywords
   compared g (apply orders base)
 

@@ -14,7 +14,7 @@ use Rattle.sccs_history.specs.declared.headers.Header.{Header}
 use Rattle.sccs_flags.specs.FlagValues.{has_flag}
 use Rattle.sccs_edits.specs.Scripts.{apply}
 use Rattle.sccs_edits.specs.declared.scripts.Order.{Order}
-use Rattle.sccs_script.specs.Checks.{checked}
+use Rattle.sccs_script.specs.Checks.{checked_script}
 use Rattle.sccs_script.specs.Commands.{orders_of}
 use Rattle.sccs_script.specs.declared.faults.ScriptFault.{ScriptFault}
 use Rattle.sccs_script.specs.declared.faults.ScriptFault.TheVariants as faults
@@ -55,15 +55,15 @@ FindsEntry words stamp header edits (Err WriteFault) = ⊥
 -- what is judged of what a reading found
 unfoldable pub judged_script : List Flag → List Order → Found → Result Bool Refusal
 judged_script flags orders found = do
-  fits ← or_script_fault (checked orders found.lines)
+  fits ← or_script_fault (checked_script orders found.lines)
   keywords ← check (not (has_flag flags flag_i) || found.keyword) refusals.NoKeywords
   or_differs found.differs
 
 -- What a reading found of a base, and, where a script fits it, of the result.
 pub record FindsBase (orders : List Order) (base : List (List ℕ)) (g : Option Content) (found : Found) : Type 0 where
   pub lines : found.lines ≡ length base
-  pub keyword : checked orders (length base) ≡ Ok tt → found.keyword ≡ list_any has_keyword (apply orders base)
-  pub differs : checked orders (length base) ≡ Ok tt → is_short g ≡ true → or_differs found.differs ≡ compared g (apply orders base)
+  pub keyword : checked_script orders (length base) ≡ Ok tt → found.keyword ≡ list_any has_keyword (apply orders base)
+  pub differs : checked_script orders (length base) ≡ Ok tt → is_short g ≡ true → or_differs found.differs ≡ compared g (apply orders base)
 
 -- the same, or no fault of the file
 abbrev pub ReadsBase : List Order → List (List ℕ) → Option Content → Result Found StepFault → Type 0

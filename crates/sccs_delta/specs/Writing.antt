@@ -16,7 +16,7 @@ use Rattle.sccs_edits.specs.declared.scripts.Order.{Order}
 use Rattle.sccs_pfile.specs.Recovered.{pfile_of}
 use Rattle.sccs_pfile.specs.declared.entries.Edit.{Edit}
 use Rattle.sccs_records.specs.NewDeltas.{null_delta}
-use Rattle.sccs_splicer.specs.Splices.{begun}
+use Rattle.sccs_splicer.specs.Splices.{new_splice}
 use Rattle.sccs_store.specs.Commits.{Becomes, chosen}
 use Rattle.sccs_store.specs.SealedFiles.{sealed}
 use Rattle.sccs_transactions.specs.Changes.{AreTakenOrGone, plan_of}
@@ -35,7 +35,7 @@ use Rattle.sccs_delta.specs.declared.new_sfiles.NewSfile.{NewSfile}
 pub record IsSfileOf (words : DeltaWords) (stamp : Stamp) (header : Header) (edit : Edit) (base : Base) (orders : List Order) (lines : ℕ) (nulls : List Sid) (s : NewSfile) : Type 0 where
   pub header_is : s.header ≡ header_with header base.got (map (null_delta stamp) nulls) (entry_delta words stamp edit base.include base.exclude (counts_of (plan orders lines) lines))
   pub splicer_is : s.copying.filter.splicer
-      ≡ begun (suc (newest header.records + length nulls)) (plan orders lines)
+      ≡ new_splice (suc (newest header.records + length nulls)) (plan orders lines)
   pub set_is : s.copying.filter.set ≡ base.set
   pub sid_is : s.sid ≡ edit.made
   pub counts_is : s.counts ≡ counts_of (plan orders lines) lines

@@ -11,11 +11,11 @@ ghost use Rattle.sccs_history.specs.declared.headers.Item.{Item};
 ghost use Rattle.sccs_body.specs.Reader.{name_read};
 ghost use Rattle.sccs_pfile.specs.Entries.{IsEdit};
 ghost use Rattle.sccs_pfile.specs.declared.entries.Edit.{Edit};
-ghost use Rattle.sccs_script.specs.Checks.{checked};
+ghost use Rattle.sccs_script.specs.Checks.{checked_script};
 ghost use Rattle.sccs_sid.specs.Moment.{IsMoment};
 ghost use Rattle.sccs_sid.specs.Sid.{IsSid};
 ghost use Rattle.sccs_sid.specs.declared.refusals.StepFault.TheVariants as faults;
-ghost use Rattle.sccs_splicer.specs.Splices.{begun, owed};
+ghost use Rattle.sccs_splicer.specs.Splices.{new_splice, items_owed};
 ghost use Rattle.sccs_steps.specs.Actions.{RefusesWithin};
 ghost use Rattle.sccs_versions.specs.Coming.{IsBody};
 ghost use Rattle.sccs_copies.specs.BaseSplicing.{base_splicing};
@@ -71,14 +71,14 @@ fn copying_of(
     lines: u64,
     serial: u16,
 ) -> Result<Copying<BaseSplicer>, Memory>
-    requires fits { checked script.now lines ≡ Ok tt }
+    requires fits { checked_script script.now lines ≡ Ok tt }
     requires few { lines ≤ file_limit }
     ensures name { IfOk result (λ c. name_read c.items ≡ name.now) }
-    ensures splicer { IfOk result (λ c. c.filter.splicer ≡ begun serial (plan script.now lines)) }
+    ensures splicer { IfOk result (λ c. c.filter.splicer ≡ new_splice serial (plan script.now lines)) }
     ensures set { IfOk result (λ c. c.filter.set ≡ set) }
     ensures told { (file : List ℕ) (items : List Item) → IsBody (Some file) front.now set file items
         → lines ≡ length (select set (lines_of items))
-        → IfOk result (λ c. CopyComes base_splicing file (owed c.filter.splicer (told_behind set [] items)) c) }
+        → IfOk result (λ c. CopyComes base_splicing file (items_owed c.filter.splicer (told_behind set [] items)) c) }
 {
     let plan = plan(alloc, script, lines)?;
     let splicer = BaseSplicer::new(alloc, serial, plan, set, lines);
@@ -111,12 +111,12 @@ fn sfile_with(
     requires edit { IsEdit edit.now }
     requires sids { AllByRecursion IsSid nulls.now }
     requires room { newest front.header.records + length nulls.now < 65535 }
-    requires fits { checked script.now lines ≡ Ok tt }
+    requires fits { checked_script script.now lines ≡ Ok tt }
     requires few { lines ≤ file_limit }
     ensures makes { IfOk result (IsSfileOf words.now stamp.now front.header edit.now base script.now lines nulls.now) }
     ensures told { (file : List ℕ) (items : List Item) → IsBody (Some file) front base.set file items
         → lines ≡ length (base_lines items base)
-        → IfOk result (λ s. CopyComes base_splicing file (owed s.copying.filter.splicer (told_behind base.set [] items)) s.copying) }
+        → IfOk result (λ s. CopyComes base_splicing file (items_owed s.copying.filter.splicer (told_behind base.set [] items)) s.copying) }
     ensures name { IfOk result (λ s. name_read s.copying.items ≡ name.now) }
     ensures spelled { IfOk result (λ s. IsSpelled s.header) }
     ensures sid { IfOk result (λ s. IsSid s.sid) }
@@ -161,13 +161,13 @@ pub fn new_sfile(
     requires edits { All IsEdit edits.now }
     requires some { 0 < chosen.number }
     requires there { chosen.number ≤ length edits.now }
-    requires fits { checked script.now lines ≡ Ok tt }
+    requires fits { checked_script script.now lines ≡ Ok tt }
     requires few { lines ≤ file_limit }
     ensures makes { (e : Edit) → slice_get edits.now (chosen.number - 1) ≡ Some e
         → MakesSfile words.now stamp.now front.header edits.now e chosen.base script.now lines result }
     ensures told { (file : List ℕ) (items : List Item) → IsBody (Some file) front chosen.base.set file items
         → lines ≡ length (base_lines items chosen.base)
-        → IfOk result (λ s. CopyComes base_splicing file (owed s.copying.filter.splicer (told_behind chosen.base.set [] items)) s.copying) }
+        → IfOk result (λ s. CopyComes base_splicing file (items_owed s.copying.filter.splicer (told_behind chosen.base.set [] items)) s.copying) }
     ensures name { IfOk result (λ s. name_read s.copying.items ≡ name.now) }
     ensures spelled { IfOk result (λ s. IsSpelled s.header) }
     ensures sid { IfOk result (λ s. IsSid s.sid) }

@@ -17,7 +17,7 @@ ghost use Rattle.sccs_pending.specs.NewEntries.{PreparesEntries};
 ghost use Rattle.sccs_pending.specs.PFiles.{ChangesDisk, is_short};
 ghost use Rattle.sccs_pfile.specs.Entries.{IsEdit};
 ghost use Rattle.sccs_pfile.specs.declared.entries.Edit.{Edit};
-ghost use Rattle.sccs_script.specs.Checks.{checked};
+ghost use Rattle.sccs_script.specs.Checks.{checked_script};
 ghost use Rattle.sccs_script.specs.Commands.{FitsIn};
 ghost use Rattle.sccs_sid.specs.Moment.{IsMoment};
 ghost use Rattle.sccs_sid.specs.Sid.{IsSid};
@@ -189,7 +189,7 @@ fn make<D: Disk>(
     requires edits { All IsEdit pending.edits }
     requires some { 0 < chosen.number }
     requires there { chosen.number ≤ length pending.edits }
-    requires fits { checked script.now found.now.lines ≡ Ok tt }
+    requires fits { checked_script script.now found.now.lines ≡ Ok tt }
     requires few { found.now.lines ≤ file_limit }
     ensures told { (bytes : List ℕ) (items : List Item) (e : Edit) → bytes_in (seen (D.told disk.old)) name.now ≡ Some bytes
         → IsBody (Some bytes) pending.front chosen.base.set bytes items → slice_get pending.edits (chosen.number - 1) ≡ Some e

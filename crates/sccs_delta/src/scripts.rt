@@ -10,13 +10,13 @@ ghost use Rattle.sccs_history.specs.Body.{lines_of};
 ghost use Rattle.sccs_history.specs.Select.{select};
 ghost use Rattle.sccs_history.specs.declared.headers.Item.{Item};
 ghost use Rattle.sccs_pending.specs.PFiles.{Answers, OnlyReads, PassesCheck, is_short};
-ghost use Rattle.sccs_script.specs.Checks.{checked};
+ghost use Rattle.sccs_script.specs.Checks.{checked_script};
 ghost use Rattle.sccs_script.specs.Commands.{FitsIn, orders_of};
 ghost use Rattle.sccs_sid.specs.declared.refusals.StepFault.TheVariants as faults;
 ghost use Rattle.sccs_steps.specs.Actions.{RefusesWithin};
 ghost use Rattle.sccs_table.specs.ReaderState.{bytes_in};
 ghost use Rattle.sccs_versions.specs.Coming.{IsBody};
-ghost use Rattle.sccs_delta.specs.DeltaStep.{delta_checks, has_text, mrs_checked, or_script_fault};
+ghost use Rattle.sccs_delta.specs.DeltaStep.{delta_checks, flag_has_text, mrs_checked, or_script_fault};
 ghost use Rattle.sccs_delta.specs.Preparing.{FitsBy, ReadsBase, judged_script, script_fits, script_refusal};
 
 use sccs_base::{FILE_LIMIT, Failed, Memory, Name, Words};
@@ -59,7 +59,7 @@ pub fn orders_of(alloc: Global, bytes: &[u8]) -> Result<Script, StepFault>
 
 // the plan of a script that fits the longest base; one that doesn't fit it fits none
 fn longest_plan(alloc: Global, script: &Script) -> Result<Plan, Memory>
-    ensures value { checked script.now file_limit ≡ Ok tt → IfOk result (λ p. p ≡ plan script.now file_limit) }
+    ensures value { checked_script script.now file_limit ≡ Ok tt → IfOk result (λ p. p ≡ plan script.now file_limit) }
     ensures order { IfOk result IsInOrder }
 {
     if let Ok(()) = check(script, FILE_LIMIT) {
@@ -86,7 +86,7 @@ fn is_there<D: Disk>(disk: &mut D, file: &Name) -> Result<bool, Failed>
 fn judge(header: &Header, script: &Script, found: &Found) -> Result<(), StepFault>
     requires { found.now.lines ≤ file_limit }
     ensures value { PassesCheck (judged_script header.now.flags script.now found.now) result }
-    ensures fits { OnOk result (checked script.now found.now.lines ≡ Ok tt) }
+    ensures fits { OnOk result (checked_script script.now found.now.lines ≡ Ok tt) }
     ensures checks { RefusesWithin delta_checks result }
     ensures broke { result ≢ Err faults.DiskFault }
 {
@@ -136,7 +136,7 @@ fn read_base<D: Disk>(
 
 // whether the flag of a letter is there and has a text
 fn has_text(flags: &[Flag], letter: u8) -> bool
-    ensures { result ≡ has_text flags.now letter }
+    ensures { result ≡ flag_has_text flags.now letter }
 {
     match flags.iter().find(|flag| flag.letter == letter) {
         Some(flag) => !flag.text.bytes().is_empty(),
@@ -187,7 +187,7 @@ pub fn fit<D: Disk>(
     ensures told { (file : List ℕ) (items : List Item) → IsBody (bytes_in (seen (D.told disk.old)) name.now) front.now set.now file items
         → IfSome (seen (D.told disk.old)) (λ (v : View). is_short (v (drop 2 name.now)) ≡ true
         → FitsBy (script_fits front.now.header.flags mrs.now script.now (select set.now (lines_of items)) (v (drop 2 name.now))) script.now (select set.now (lines_of items)) result) }
-    ensures fits { IfOk result (λ found. checked script.now found.lines ≡ Ok tt) }
+    ensures fits { IfOk result (λ found. checked_script script.now found.lines ≡ Ok tt) }
     ensures few { IfOk result (λ found. found.lines ≤ file_limit) }
     ensures checks { RefusesWithin delta_checks result }
     ensures frame { OnlyReads D.told D.faults disk.old disk.new result }

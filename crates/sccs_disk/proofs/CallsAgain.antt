@@ -1,9 +1,9 @@
 -- Calls that are made again, and the names that a stop leaves after them.
 use Rattle.std.proofs.Common.{◌≡◌, ℕ, zero, suc, ◌+◌, ◌<◌, ◌≤◌, List, [], ◌∷◌, ◌++◌, length, take, get_or, Option, None, Some, ◌⊎◌, inl, inr, refl, sym, ap, subst, ◌∙◌, add-one, length-append, true, false, arith}
 use Rattle.std.proofs.lemmas.List.{take-append-le}
-use Rattle.sccs_disk.specs.Files.{File, Op, Model, names, names_at, after}
+use Rattle.sccs_disk.specs.Files.{File, Op, Model, names, names_at, names_after}
 use Rattle.sccs_disk.specs.MemoryFiles.{model_of, model_after, entry_model, entry_state, pending_after}
-use Rattle.sccs_disk.specs.States.{State, state, made, effect_of, file_effect}
+use Rattle.sccs_disk.specs.States.{State, state, made, change_effect, file_effect}
 use Rattle.sccs_disk.specs.declared.changes.Change.{Change}
 use Rattle.sccs_disk.specs.declared.changes.Change.TheVariants as call
 use Rattle.sccs_disk.specs.declared.changes.FileChange.{FileChange}
@@ -17,7 +17,7 @@ model_step m [] i e low is = absurd (omega arith)
 model_step m (None ∷ log) zero e low is = ap (λ x. entry_model x m) is
 model_step m (Some c ∷ log) zero e low is = ap (λ x. entry_model x m) is
 model_step m (None ∷ log) (suc i) e low is = model_step m log i e (omega arith) is
-model_step m (Some c ∷ log) (suc i) e low is = model_step ((effect_of c).model m) log i e (omega arith) is
+model_step m (Some c ∷ log) (suc i) e low is = model_step ((change_effect c).model m) log i e (omega arith) is
 
 pub model_next : (m : Model) (log : List (Option Change)) (i : ℕ) (e : Option Change) → i < length log → get_or log i e ≡ e → model_after m (take (i + 1) log) ≡ entry_model e (model_after m (take i log))
 model_next m log i e low is = ap (λ n. model_after m (take n log)) (add-one i) ∙ model_step m log i e low is
@@ -42,8 +42,8 @@ pending_next (Some (call.Rename a b)) m = length-append m.pending _
 pending_next (Some (call.Remove n)) m = length-append m.pending _
 pending_next (Some call.SyncNames) m = refl
 
-same_front : (m : Model) (op : Op) (j : ℕ) → j < length m.pending + 1 → after (take j (m.pending ++ op ∷ [])) m.base ≡ names_at m j
-same_front m op j low = ap (λ ops. after ops m.base) (take-append-le j m.pending (op ∷ []) (omega arith))
+same_front : (m : Model) (op : Op) (j : ℕ) → j < length m.pending + 1 → names_after (take j (m.pending ++ op ∷ [])) m.base ≡ names_at m j
+same_front m op j low = ap (λ ops. names_after ops m.base) (take-append-le j m.pending (op ∷ []) (omega arith))
 
 -- where more operations are pending than are made, the call changed nothing of the names that a stop leaves
 pub names_same : (e : Option Change) (m : Model) (j : ℕ) → j < pending_after e (length m.pending) → names_at (entry_model e m) j ≡ names_at m j
@@ -90,7 +90,7 @@ file_count n (file.WriteAt from bytes) m = change_length m.files (names m n) _
 file_count n file.Protect m = change_length m.files (names m n) _
 file_count n file.Sync m = change_length m.files (names m n) _
 
-grows_by : (c : Change) (m : Model) → length m.files ≤ length ((effect_of c).model m).files
+grows_by : (c : Change) (m : Model) → length m.files ≤ length ((change_effect c).model m).files
 grows_by (call.Create n) m = omega (arith, length-append m.files (new ∷ []))
   where
     new : File
@@ -104,12 +104,12 @@ pub grows : (m : Model) (log : List (Option Change)) → length m.files ≤ leng
 grows m [] = omega arith
 grows m (None ∷ log) = grows m log
 grows m (Some c ∷ log) =
-    let one : length m.files ≤ length ((effect_of c).model m).files = grows_by c m in
-    let more : length ((effect_of c).model m).files ≤ length (model_after ((effect_of c).model m) log).files = grows ((effect_of c).model m) log in
+    let one : length m.files ≤ length ((change_effect c).model m).files = grows_by c m in
+    let more : length ((change_effect c).model m).files ≤ length (model_after ((change_effect c).model m) log).files = grows ((change_effect c).model m) log in
     omega arith
 
 pub fewer : (m : Model) (log : List (Option Change)) (n : ℕ) → length (model_after m (take n log)).files ≤ length (model_after m log).files
 fewer m log zero = grows m log
 fewer m [] (suc n) = omega arith
 fewer m (None ∷ log) (suc n) = fewer m log n
-fewer m (Some c ∷ log) (suc n) = fewer ((effect_of c).model m) log n
+fewer m (Some c ∷ log) (suc n) = fewer ((change_effect c).model m) log n

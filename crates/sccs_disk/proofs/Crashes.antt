@@ -3,8 +3,8 @@ use Rattle.std.proofs.Common.{◌≡◌, ℕ, ◌<◌, ◌≤◌, min, List, [],
 use Rattle.std.proofs.lemmas.Bool.{cases_lt}
 use Rattle.std.proofs.lemmas.List.{take_all, length-map}
 use Rattle.sccs_disk.specs.Files.{Model, names, names_at, view_of}
-use Rattle.sccs_disk.specs.MemoryFiles.{model_of, model_after, left, left_files}
-use Rattle.sccs_disk.specs.States.{State, IsPlaced, state, stored}
+use Rattle.sccs_disk.specs.MemoryFiles.{model_of, model_after, left_by_stop, left_files}
+use Rattle.sccs_disk.specs.States.{State, AreNamesPlaced, state, stored}
 use Rattle.sccs_disk.specs.declared.changes.Change.{Change}
 use Rattle.sccs_disk.specs.declared.changes.StoredFile.{StoredFile}
 use Rattle.sccs_disk.specs.declared.fills.Fill.{Fill}
@@ -32,11 +32,11 @@ names_fewer s log kept files named t u all part =
 pub crash_view : (s : State) (items log : List (Option Change)) (calls count kept made many : ℕ) (fill : Fill) (files named start : State) → count ≡ min (length items) calls
     → files ≡ state (model_after (model_of s) (take count items)) → named ≡ state (model_after (model_of s) (take kept (take count items)))
     → names (model_after (model_of s) (take kept (take count items))) ≡ names_at (model_after (model_of s) (take count items)) made
-    → start.files ≡ left_files fill many files.files → start.names ≡ named.names → many ≡ length named.files → IsPlaced named → log ≡ []
-    → view_of (model_after (model_of start) log) ≡ left (model_after (model_of s) (take calls items)) made fill
+    → start.files ≡ left_files fill many files.files → start.names ≡ named.names → many ≡ length named.files → AreNamesPlaced named → log ≡ []
+    → view_of (model_after (model_of start) log) ≡ left_by_stop (model_after (model_of s) (take calls items)) made fill
 crash_view s items log calls count kept made many fill files named start least files_are named_is names_are left_are named_too many_are placed none =
     let m : Model = model_after (model_of s) (take count items) in
     ap (λ l. view_of (model_after (model_of start) l)) none
     ∙ (left_shown m made fill many start (left_are ∙ ap (λ (x : State). left_files fill many x.files) files_are) (named_too ∙ (ap (λ (x : State). x.names) named_is ∙ names_are))
     (λ n p at. subst (λ count. p < count) (sym many_are) (placed.within n p (sym (ap (λ (t : List ℕ → Option ℕ). t n) named_too) ∙ at)))
-    ∙ ap (λ l. left (model_after (model_of s) l) made fill) (take_least calls count items least))
+    ∙ ap (λ l. left_by_stop (model_after (model_of s) l) made fill) (take_least calls count items least))

@@ -6,8 +6,8 @@ use Rattle.std.proofs.lemmas.List.{append-nil, drop_all}
 use Rattle.sccs_disk.specs.Files.{Content, File, View, Names, Model, names_at, file_at, IsSane}
 use Rattle.sccs_disk.specs.Effects.{firm}
 use Rattle.sccs_disk.specs.Images.{Image, Fits}
-use Rattle.sccs_disk.specs.MemoryFiles.{model_of, filled, left, left_files, IsFirmFile}
-use Rattle.sccs_disk.specs.States.{State, IsPlaced, stored, shown}
+use Rattle.sccs_disk.specs.MemoryFiles.{model_of, filled, left_by_stop, left_files, IsFirmFile}
+use Rattle.sccs_disk.specs.States.{State, AreNamesPlaced, stored, shown}
 use Rattle.sccs_disk.specs.declared.changes.StoredFile.{StoredFile}
 use Rattle.sccs_disk.specs.declared.fills.Fill.{Fill}
 use Rattle.sccs_disk.proofs.Sanity.{AreWithin, HasPlaces, sane_from}
@@ -28,7 +28,7 @@ left_at fill files count None within = refl
 left_at fill files count (Some p) within = ap (option_map (λ (f : File). f.content)) (front_file fill files count p (within p refl)) ∙ content_of fill (slice_get files p)
 
 -- the files of one state with the names of another are what a stop leaves
-pub left_shown : (m : Model) (j : ℕ) (fill : Fill) (count : ℕ) (s : State) → s.files ≡ left_files fill count m.files → s.names ≡ names_at m j → AreWithin count s.names → shown s ≡ left m j fill
+pub left_shown : (m : Model) (j : ℕ) (fill : Fill) (count : ℕ) (s : State) → s.files ≡ left_files fill count m.files → s.names ≡ names_at m j → AreWithin count s.names → shown s ≡ left_by_stop m j fill
 left_shown m j fill count s files_are names_are within = fun_ext (λ n.
     ap (λ files. option_map (λ (f : File). f.content) (file_at files (s.names n))) files_are
     ∙ (left_at fill m.files count (s.names n) (within n) ∙ ap (λ (t : Names). option_map (filled fill) (file_at m.files (t n))) names_are))
@@ -42,7 +42,7 @@ fits fill None = refl
 fits fill (Some f) = fits_at fill f.content f.firm
 
 -- which is an image
-pub left_image : (m : Model) (j : ℕ) (fill : Fill) (w : View) → w ≡ left m j fill → Image m w
+pub left_image : (m : Model) (j : ℕ) (fill : Fill) (w : View) → w ≡ left_by_stop m j fill → Image m w
 left_image m j fill w is = subst (Image m) (sym is) (j, λ n. fits fill (file_at m.files (names_at m j n)))
 
 pub left_firm : (fill : Fill) (count : ℕ) (files : List File) → All IsFirmFile (left_files fill count files)
@@ -53,11 +53,11 @@ left_firm fill count files = all (take count files)
     all (f ∷ files) zero d low = refl
     all (f ∷ files) (suc k) d low = all files k d (omega arith)
 
-start_places : (s : State) → IsPlaced s → HasPlaces (model_of s)
+start_places : (s : State) → AreNamesPlaced s → HasPlaces (model_of s)
 start_places s placed zero = placed.within
 start_places s placed (suc j) = placed.within
 
-pub start_sane : (s : State) → IsPlaced s → IsSane (model_of s)
+pub start_sane : (s : State) → AreNamesPlaced s → IsSane (model_of s)
 start_sane s placed = sane_from (model_of s) s refl placed (start_places s placed)
 
 map_front : (fill : Fill) (count : ℕ) (items : List StoredFile) → map (λ f. firm (filled fill (stored f))) (take count items) ≡ left_files fill count (map stored items)

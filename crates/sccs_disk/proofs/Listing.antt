@@ -7,9 +7,9 @@ use Rattle.sccs_base.proofs.SameBytes.{same_bytes, bytes_eq_sym}
 use Rattle.sccs_disk.proofs.Places.{next, none_has, none_later}
 use Rattle.sccs_disk.proofs.Puts.{same_name}
 use Rattle.sccs_disk.specs.Files.{File, file_at}
-use Rattle.sccs_disk.specs.Places.{place_of, AreOnce, listed}
+use Rattle.sccs_disk.specs.Places.{place_of, AreOnce, names_placed}
 use Rattle.sccs_disk.specs.Reads.{IsListing}
-use Rattle.sccs_disk.specs.States.{State, IsPlaced, shown}
+use Rattle.sccs_disk.specs.States.{State, AreNamesPlaced, shown}
 
 later_in : {X : Type 0} (x y : X) (xs : List X) → Contains xs y → Contains (x ∷ xs) y
 later_in x y xs there = (suc there.0, omega (arith, there.1), there.2)
@@ -30,27 +30,27 @@ some_later : (b : Bool) (t : Option ℕ) → is_some t ≡ true → is_some (con
 some_later true t e = refl
 some_later false t e = sym (some_next t) ∙ e
 
-leads : (names : List (Option (List ℕ))) (n : List ℕ) → Contains (listed names) n → is_some (place_of names n) ≡ true
+leads : (names : List (Option (List ℕ))) (n : List ℕ) → Contains (names_placed names) n → is_some (place_of names n) ≡ true
 leads [] n there = absurd (omega (arith, there.1))
 leads (None ∷ names) n there = sym (some_next (place_of names n)) ∙ leads names n there
 leads (Some k ∷ names) n there =
-    ⊎_elim (λ is. some_first (bytes_eq k n) (place_of names n) (ap (bytes_eq k) (sym is) ∙ same_bytes k)) (λ later. some_later (bytes_eq k n) (place_of names n) (leads names n later)) (in_cases k n (listed names) there)
+    ⊎_elim (λ is. some_first (bytes_eq k n) (place_of names n) (ap (bytes_eq k) (sym is) ∙ same_bytes k)) (λ later. some_later (bytes_eq k n) (place_of names n) (leads names n later)) (in_cases k n (names_placed names) there)
 
-from_test : (k n : List ℕ) (names : List (Option (List ℕ))) (b : Bool) → bytes_eq k n ≡ b → is_some (cond b (Some 0) (next (place_of names n))) ≡ true → (is_some (place_of names n) ≡ true → Contains (listed names) n) → Contains (k ∷ listed names) n
+from_test : (k n : List ℕ) (names : List (Option (List ℕ))) (b : Bool) → bytes_eq k n ≡ b → is_some (cond b (Some 0) (next (place_of names n))) ≡ true → (is_some (place_of names n) ≡ true → Contains (names_placed names) n) → Contains (k ∷ names_placed names) n
 from_test k n names true e some later = (0, omega arith, same_name k n e)
-from_test k n names false e some later = later_in k n (listed names) (later (some_next (place_of names n) ∙ some))
+from_test k n names false e some later = later_in k n (names_placed names) (later (some_next (place_of names n) ∙ some))
 
-is_listed : (names : List (Option (List ℕ))) (n : List ℕ) → is_some (place_of names n) ≡ true → Contains (listed names) n
+is_listed : (names : List (Option (List ℕ))) (n : List ℕ) → is_some (place_of names n) ≡ true → Contains (names_placed names) n
 is_listed [] n some = cc
 is_listed (None ∷ names) n some = is_listed names n (some_next (place_of names n) ∙ some)
 is_listed (Some k ∷ names) n some = from_test k n names (bytes_eq k n) refl some (is_listed names n)
 
-others : (names : List (Option (List ℕ))) (k : List ℕ) → place_of names k ≡ None → AllByRecursion (λ y. bytes_eq k y ≡ false) (listed names)
+others : (names : List (Option (List ℕ))) (k : List ℕ) → place_of names k ≡ None → AllByRecursion (λ y. bytes_eq k y ≡ false) (names_placed names)
 others [] k none = tt
 others (None ∷ names) k none = others names k (none_later false (place_of names k) none)
 others (Some y ∷ names) k none = (bytes_eq_sym k y ∙ none_has (bytes_eq y k) (place_of names k) none, others names k (none_later (bytes_eq y k) (place_of names k) none))
 
-distinct : (names : List (Option (List ℕ))) → AreOnce names → IsDistinct bytes_eq (listed names)
+distinct : (names : List (Option (List ℕ))) → AreOnce names → IsDistinct bytes_eq (names_placed names)
 unfolding IsDistinct
 distinct [] once = tt
 distinct (None ∷ names) once = distinct names once.1
@@ -69,7 +69,7 @@ file_there files (Some p) within = at (slice_get files p) (found files p (within
     found (f ∷ files) zero low = refl
     found (f ∷ files) (suc p) low = found files p (omega arith)
 
-pub listing : (s : State) (names : List (Option (List ℕ))) → IsPlaced s → s.names ≡ place_of names → AreOnce names → IsListing (shown s) (listed names)
+pub listing : (s : State) (names : List (Option (List ℕ))) → AreNamesPlaced s → s.names ≡ place_of names → AreOnce names → IsListing (shown s) (names_placed names)
 listing s names placed is once = record {
   once = distinct names once;
   each = λ n.

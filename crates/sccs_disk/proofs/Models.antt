@@ -2,15 +2,15 @@
 use Rattle.std.proofs.Common.{◌≡◌, ℕ, zero, suc, ◌<◌, ◌≤◌, ◌⊎◌, List, [], ◌∷◌, ◌++◌, length, take, slice_get, Option, None, Some, option_map, inl, inr, refl, ap, ◌∙◌, ⊎_elim, length-append, arith}
 use Rattle.std.proofs.lemmas.Bool.{cases_lt}
 use Rattle.std.proofs.lemmas.List.{take-append-le, take_all}
-use Rattle.sccs_disk.specs.Files.{File, Names, Op, Create, Model, names, names_at, put, apply, after}
+use Rattle.sccs_disk.specs.Files.{File, Names, Op, Create, Model, names, names_at, put, apply_operation, names_after}
 use Rattle.sccs_disk.specs.Effects.{change, change_at, pended, created}
 
-after_more : (ops : List Op) (op : Op) (t : Names) → after (ops ++ op ∷ []) t ≡ apply op (after ops t)
+after_more : (ops : List Op) (op : Op) (t : Names) → names_after (ops ++ op ∷ []) t ≡ apply_operation op (names_after ops t)
 after_more [] op t = refl
-after_more (x ∷ ops) op t = after_more ops op (apply x t)
+after_more (x ∷ ops) op t = after_more ops op (apply_operation x t)
 
 -- the names after one operation more
-pub names_pended : (op : Op) (m : Model) → names (pended op m) ≡ apply op (names m)
+pub names_pended : (op : Op) (m : Model) → names (pended op m) ≡ apply_operation op (names m)
 names_pended op m = after_more m.pending op m.base
 
 pub names_created : (n : List ℕ) (m : Model) → names (created n m) ≡ put (names m) n (Some (length m.files))
@@ -18,10 +18,10 @@ names_created n m = after_more m.pending (Create n (length m.files)) m.base
 
 -- the names after all operations, as those after a number of them
 pub names_all : (m : Model) → names_at m (length m.pending) ≡ names m
-names_all m = ap (λ ops. after ops m.base) (take_all (length m.pending) m.pending (omega arith))
+names_all m = ap (λ ops. names_after ops m.base) (take_all (length m.pending) m.pending (omega arith))
 
 pub names_past : (m : Model) (j : ℕ) → length m.pending ≤ j → names_at m j ≡ names m
-names_past m j low = ap (λ ops. after ops m.base) (take_all j m.pending low)
+names_past m j low = ap (λ ops. names_after ops m.base) (take_all j m.pending low)
 
 front_or_all : (ops : List Op) (op : Op) (j : ℕ) → (take j (ops ++ op ∷ []) ≡ take j ops) ⊎ (take j (ops ++ op ∷ []) ≡ ops ++ op ∷ [])
 front_or_all ops op j =
@@ -29,9 +29,9 @@ front_or_all ops op j =
     (cases_lt (length ops) j)
 
 -- one operation more: some of those before it are made, or all with it
-pub names_at_pended : (op : Op) (m : Model) (j : ℕ) → (names_at (pended op m) j ≡ names_at m j) ⊎ (names_at (pended op m) j ≡ apply op (names m))
+pub names_at_pended : (op : Op) (m : Model) (j : ℕ) → (names_at (pended op m) j ≡ names_at m j) ⊎ (names_at (pended op m) j ≡ apply_operation op (names m))
 names_at_pended op m j =
-    ⊎_elim (λ e. inl (ap (λ ops. after ops m.base) e)) (λ e. inr (ap (λ ops. after ops m.base) e ∙ after_more m.pending op m.base)) (front_or_all m.pending op j)
+    ⊎_elim (λ e. inl (ap (λ ops. names_after ops m.base) e)) (λ e. inr (ap (λ ops. names_after ops m.base) e ∙ after_more m.pending op m.base)) (front_or_all m.pending op j)
 
 pub names_at_created : (n : List ℕ) (m : Model) (j : ℕ) → (names_at (created n m) j ≡ names_at m j) ⊎ (names_at (created n m) j ≡ put (names m) n (Some (length m.files)))
 names_at_created n m j = names_at_pended (Create n (length m.files)) m j

@@ -5,7 +5,7 @@ use Rattle.std.proofs.lemmas.List.Elements.{All-append}
 use Rattle.sccs_disk.specs.Effects.{firm}
 use Rattle.sccs_disk.specs.Files.{Content, File, IsSane, put, view_of}
 use Rattle.sccs_disk.specs.MemoryFiles.{model_of, model_after, IsFirmFile}
-use Rattle.sccs_disk.specs.States.{State, IsPlaced, state, state_put, shown}
+use Rattle.sccs_disk.specs.States.{State, AreNamesPlaced, state, state_put, shown}
 use Rattle.sccs_disk.specs.declared.changes.Change.{Change}
 use Rattle.sccs_disk.proofs.Left.{start_sane}
 use Rattle.sccs_disk.proofs.Views.{shown_put}
@@ -19,7 +19,7 @@ pub placed_state : (log : List (Option Change)) (n : List ℕ) (f : File) (s d s
 placed_state log n f s d s2 d2 none same start now =
     now ∙ (ap (state_put n f) (same ∙ ap (λ l. state (model_after (model_of s) l)) none) ∙ (sym start ∙ ap (λ l. state (model_after (model_of s2) l)) (sym none)))
 
-pub placed_sane : (log : List (Option Change)) (s2 : State) → log ≡ [] → IsPlaced s2 → IsSane (model_after (model_of s2) log)
+pub placed_sane : (log : List (Option Change)) (s2 : State) → log ≡ [] → AreNamesPlaced s2 → IsSane (model_after (model_of s2) log)
 placed_sane log s2 none placed = subst (λ l. IsSane (model_after (model_of s2) l)) (sym none) (start_sane s2 placed)
 
 one_firm : (c : Content) → All IsFirmFile (firm c ∷ [])
@@ -29,7 +29,7 @@ one_firm c (suc k) d low = absurd (omega arith)
 pub placed_firm : (n : List ℕ) (c : Content) (s s2 : State) → s2 ≡ state_put n (firm c) s → All IsFirmFile s.files → All IsFirmFile s2.files
 placed_firm n c s s2 is each = subst (λ (t : State). All IsFirmFile t.files) (sym is) (All-append IsFirmFile s.files (firm c ∷ []) each (one_firm c))
 
-pub placed_view : (log : List (Option Change)) (n : List ℕ) (c : Content) (s s2 : State) → log ≡ [] → s2 ≡ state_put n (firm c) s → IsPlaced s
+pub placed_view : (log : List (Option Change)) (n : List ℕ) (c : Content) (s s2 : State) → log ≡ [] → s2 ≡ state_put n (firm c) s → AreNamesPlaced s
     → view_of (model_after (model_of s2) log) ≡ put (view_of (model_after (model_of s) log)) n (Some c)
 placed_view log n c s s2 none is placed =
     ap (λ l. view_of (model_after (model_of s2) l)) none

@@ -3,7 +3,7 @@ use Rattle.std.proofs.Common.{◌≡◌, ℕ, zero, suc, Bool, true, false, cond
 use Rattle.std.specs.Str.{bytes_eq}
 use Rattle.std.proofs.Math.Path.{fun_ext}
 use Rattle.std.specs.List.{remove}
-use Rattle.sccs_disk.specs.Files.{File, Names, put, apply, Rename, file_at}
+use Rattle.sccs_disk.specs.Files.{File, Names, put, apply_operation, Rename, file_at}
 use Rattle.sccs_disk.specs.Places.{has_name, place_of, AreOnce}
 use Rattle.sccs_disk.proofs.Puts.{same_name, put_same, put_other, put_back, put_again}
 
@@ -153,9 +153,9 @@ pub once_renamed : (names : List (Option (List ℕ))) (p : ℕ) (a b : List ℕ)
 once_renamed names p a b once at none = once_set names p (Some b) a once at (new_name names b none)
 
 -- Renaming in two parts: the new name is removed, then the old one led elsewhere.
-pub rename_self : (t : Names) (a b : List ℕ) → bytes_eq a b ≡ true → t ≡ apply (Rename a b) t
+pub rename_self : (t : Names) (a b : List ℕ) → bytes_eq a b ≡ true → t ≡ apply_operation (Rename a b) t
 rename_self t a b same =
-    subst (λ c. t ≡ apply (Rename a c) t) (same_name a b same) (sym (put_again t a None (t a) ∙ put_back t a))
+    subst (λ c. t ≡ apply_operation (Rename a c) t) (same_name a b same) (sym (put_again t a None (t a) ∙ put_back t a))
 
 gone : (ba bb : Bool) (x ta : Option ℕ) → ta ≡ None → (ba ≡ true → x ≡ ta) → cond bb None x ≡ cond bb ta (cond ba None x)
 gone true true x ta none at = sym none
@@ -163,7 +163,7 @@ gone false true x ta none at = sym none
 gone true false x ta none at = at refl ∙ none
 gone false false x ta none at = refl
 
-pub rename_gone : (t u : Names) (a b : List ℕ) → bytes_eq b a ≡ false → u ≡ put t b None → u a ≡ None → u ≡ apply (Rename a b) t
+pub rename_gone : (t u : Names) (a b : List ℕ) → bytes_eq b a ≡ false → u ≡ put t b None → u a ≡ None → u ≡ apply_operation (Rename a b) t
 rename_gone t u a b apart is none =
     let old : t a ≡ None = sym (put_other t b a None apart) ∙ (ap (λ (w : Names). w a) (sym is) ∙ none) in
     is ∙ fun_ext (λ k. gone (bytes_eq a k) (bytes_eq b k) (t k) (t a) old (λ e. ap t (sym (same_name a k e))))
@@ -172,7 +172,7 @@ pub moved : {X : Type 0} (ba bb : Bool) (x ta : Option X) → cond bb ta (cond b
 moved ba true x ta = refl
 moved ba false x ta = refl
 
-pub rename_moved : (t u w : Names) (a b : List ℕ) (p : ℕ) → bytes_eq b a ≡ false → u ≡ put t b None → u a ≡ Some p → w ≡ put (put u a None) b (Some p) → w ≡ apply (Rename a b) t
+pub rename_moved : (t u w : Names) (a b : List ℕ) (p : ℕ) → bytes_eq b a ≡ false → u ≡ put t b None → u a ≡ Some p → w ≡ put (put u a None) b (Some p) → w ≡ apply_operation (Rename a b) t
 rename_moved t u w a b p apart is at new =
     let old : t a ≡ Some p = sym (put_other t b a None apart) ∙ (ap (λ (v : Names). v a) (sym is) ∙ at) in
     new

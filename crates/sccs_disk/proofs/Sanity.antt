@@ -2,10 +2,10 @@
 use Rattle.std.proofs.Common.{◌≡◌, ℕ, zero, suc, ◌+◌, ◌<◌, ◌⊎◌, Bool, true, false, cond, List, [], ◌∷◌, ◌++◌, length, map, Option, None, Some, inl, inr, refl, sym, ap, subst, ◌∙◌, ⊎_elim, length-append, arith}
 use Rattle.std.proofs.lemmas.List.{length-map}
 use Rattle.std.specs.Str.{bytes_eq}
-use Rattle.sccs_disk.specs.Files.{File, Names, Op, Rename, Remove, Model, names, names_at, put, apply, IsSane}
+use Rattle.sccs_disk.specs.Files.{File, Names, Op, Rename, Remove, Model, names, names_at, put, apply_operation, IsSane}
 use Rattle.sccs_disk.specs.Effects.{changed, pended, created, settled}
 use Rattle.sccs_disk.specs.Places.{has_name, place_of}
-use Rattle.sccs_disk.specs.States.{State, IsPlaced, state, stored, effect_of, file_effect}
+use Rattle.sccs_disk.specs.States.{State, AreNamesPlaced, state, stored, change_effect, file_effect}
 use Rattle.sccs_disk.specs.declared.changes.StoredFile.{StoredFile}
 use Rattle.sccs_disk.specs.declared.changes.Change.{Change}
 use Rattle.sccs_disk.specs.declared.changes.Change.TheVariants as made
@@ -34,7 +34,7 @@ no_place : (count p : ℕ) → None ≡ Some p → p < count
 no_place count p e = cc
 
 abbrev IsNoCreate : Op → Type 0
-IsNoCreate op = (count : ℕ) (t : Names) → AreWithin count t → AreWithin count (apply op t)
+IsNoCreate op = (count : ℕ) (t : Names) → AreWithin count t → AreWithin count (apply_operation op t)
 
 renames : (a b : List ℕ) → IsNoCreate (Rename a b)
 renames a b count t old = put_within count (put t a None) b (t a) (λ p e. old a p e) (put_within count t a None (no_place count) old)
@@ -79,7 +79,7 @@ file_places n (file.WriteAt from bytes) m has = places_changed n _ m has
 file_places n file.Protect m has = places_changed n _ m has
 file_places n file.Sync m has = places_changed n _ m has
 
-pub places_kept : (c : Change) (m : Model) → HasPlaces m → HasPlaces ((effect_of c).model m)
+pub places_kept : (c : Change) (m : Model) → HasPlaces m → HasPlaces ((change_effect c).model m)
 places_kept (made.Create n) m has = places_created n m has
 places_kept (made.File n c) m has = file_places n c m has
 places_kept (made.Rename a b) m has = places_pended (Rename a b) m (renames a b) has
@@ -110,17 +110,17 @@ place_apart (x ∷ names) a b p at too =
     (found (has_name x b) (place_of names b) p too))
     (found (has_name x a) (place_of names a) p at)
 
-pub placed : (files : List StoredFile) (names : List (Option (List ℕ))) → length names ≡ length files → IsPlaced (record { files = map stored files; names = place_of names })
+pub placed : (files : List StoredFile) (names : List (Option (List ℕ))) → length names ≡ length files → AreNamesPlaced (record { files = map stored files; names = place_of names })
 placed files names paired = record {
   within = λ n p at. let low : p < length names = place_within names n p at in omega (arith, length-map files stored, paired);
   apart = place_apart names;
 }
 
 -- A model whose state is that of files in memory is sane.
-pub sane_from : (m : Model) (s : State) → s ≡ state m → IsPlaced s → HasPlaces m → IsSane m
+pub sane_from : (m : Model) (s : State) → s ≡ state m → AreNamesPlaced s → HasPlaces m → IsSane m
 sane_from m s same is has =
-    let now : IsPlaced (state m) = subst IsPlaced same is in
+    let now : AreNamesPlaced (state m) = subst AreNamesPlaced same is in
     record { within = has; whole = now.within; apart = now.apart }
 
-pub placed_from : (m : Model) → IsSane m → IsPlaced (state m)
+pub placed_from : (m : Model) → IsSane m → AreNamesPlaced (state m)
 placed_from m sane = record { within = sane.whole; apart = sane.apart }

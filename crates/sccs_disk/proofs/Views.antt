@@ -4,7 +4,7 @@ use Rattle.std.specs.Str.{bytes_eq}
 use Rattle.std.proofs.Math.Path.{fun_ext}
 use Rattle.sccs_disk.specs.Files.{View, Content, File, Model, file_at, put}
 use Rattle.sccs_disk.specs.Effects.{change, loose, empty_file, appended, overwritten, protected, altered, renamed}
-use Rattle.sccs_disk.specs.States.{State, IsPlaced, state, stored, shown, state_put, made, effect_of, file_effect, file_changed}
+use Rattle.sccs_disk.specs.States.{State, AreNamesPlaced, state, stored, shown, state_put, made, change_effect, file_effect, file_changed}
 use Rattle.sccs_disk.specs.Calls.{Done}
 use Rattle.sccs_disk.specs.Told.{Shows}
 use Rattle.sccs_disk.specs.declared.changes.Change.{Change}
@@ -18,7 +18,7 @@ use Rattle.sccs_disk.proofs.Places.{moved as moved_twice}
 use Rattle.sccs_disk.proofs.Puts.{same_name, put_again, put_back, put_other}
 use Rattle.sccs_disk.proofs.Sanity.{placed}
 use Rattle.sccs_disk.specs.Files as op
-use Rattle.sccs_disk.specs.Files.{apply}
+use Rattle.sccs_disk.specs.Files.{apply_operation}
 use Rattle.sccs_disk.specs.Places.{AreOnce, place_of}
 use Rattle.sccs_disk.specs.declared.changes.StoredFile.{StoredFile}
 use Rattle.std.specs.List.{remove}
@@ -37,7 +37,7 @@ added_at files f true t within = ap (option_map content) (get_end files f)
 added_at files f false None within = refl
 added_at files f false (Some p) within = ap (option_map content) (get_front files f p (within p refl))
 
-pub shown_put : (n : List ℕ) (f : File) (s : State) → IsPlaced s → shown (state_put n f s) ≡ put (shown s) n (Some f.content)
+pub shown_put : (n : List ℕ) (f : File) (s : State) → AreNamesPlaced s → shown (state_put n f s) ≡ put (shown s) n (Some f.content)
 shown_put n f s placed = fun_ext (λ k. added_at s.files f (bytes_eq n k) (s.names k) (placed.within k))
 
 content_of : (g : File → File) (h : Content → Content) (o : Option File) → ((f : File) → (g f).content ≡ h f.content) → option_map content (option_map g o) ≡ option_map h (option_map content o)
@@ -59,7 +59,7 @@ other_at files g None tk apart = refl
 other_at files g (Some p) None apart = refl
 other_at files g (Some p) (Some q) apart = ap (option_map content) (get_kept files p q g (λ e. apart p refl (ap (λ r. Some r) (sym e))))
 
-changed_at : (s : State) (n k : List ℕ) (g : File → File) (h : Content → Content) → IsPlaced s → ((f : File) → (g f).content ≡ h f.content) → (b : Bool) → bytes_eq n k ≡ b
+changed_at : (s : State) (n k : List ℕ) (g : File → File) (h : Content → Content) → AreNamesPlaced s → ((f : File) → (g f).content ≡ h f.content) → (b : Bool) → bytes_eq n k ≡ b
     → shown_at (change s.files (s.names n) g) (s.names k) ≡ cond b (option_map h (shown s n)) (shown s k)
 changed_at s n k g h placed same true e = here_at s.files g h (s.names n) (s.names k) same (ap s.names (sym (same_name n k e)))
 changed_at s n k g h placed same false e = other_at s.files g (s.names n) (s.names k) (λ p at too. differ n k e (placed.apart n k p at too))
@@ -67,7 +67,7 @@ changed_at s n k g h placed same false e = other_at s.files g (s.names n) (s.nam
     differ : (n k : List ℕ) → bytes_eq n k ≡ false → n ≡ k → ⊥
     differ n k e is = cc (same_bytes k)
 
-pub shown_changed : (s : State) (n : List ℕ) (g : File → File) (h : Content → Content) → IsPlaced s → ((f : File) → (g f).content ≡ h f.content)
+pub shown_changed : (s : State) (n : List ℕ) (g : File → File) (h : Content → Content) → AreNamesPlaced s → ((f : File) → (g f).content ≡ h f.content)
     → shown (record { files = change s.files (s.names n) g; names = s.names }) ≡ altered n h (shown s)
 shown_changed s n g h placed same = fun_ext (λ k. changed_at s n k g h placed same (bytes_eq n k) refl)
 
@@ -75,7 +75,7 @@ map_same : {X : Type 0} (o : Option X) → option_map (λ x. x) o ≡ o
 map_same None = refl
 map_same (Some x) = refl
 
-shown_file : (n : List ℕ) (c : FileChange) (s : State) → IsPlaced s → shown (made (call.File n c) s) ≡ (file_effect n c).view (shown s)
+shown_file : (n : List ℕ) (c : FileChange) (s : State) → AreNamesPlaced s → shown (made (call.File n c) s) ≡ (file_effect n c).view (shown s)
 shown_file n (file.Append bytes) s placed = shown_changed s n (file_changed (file.Append bytes)) (appended bytes.items) placed (λ f. refl)
 shown_file n (file.WriteAt from bytes) s placed = shown_changed s n (file_changed (file.WriteAt from bytes)) (overwritten from bytes.items) placed (λ f. refl)
 shown_file n file.Protect s placed = shown_changed s n (file_changed file.Protect) protected placed (λ f. refl)
@@ -88,7 +88,7 @@ moved files true false ta tk = refl
 moved files false false ta tk = refl
 
 -- a change makes of the view what its effect says
-pub shown_made : (c : Change) (s : State) → IsPlaced s → shown (made c s) ≡ (effect_of c).view (shown s)
+pub shown_made : (c : Change) (s : State) → AreNamesPlaced s → shown (made c s) ≡ (change_effect c).view (shown s)
 shown_made (call.Create n) s placed = shown_put n (loose empty_file) s placed
 shown_made (call.File n c) s placed = shown_file n c s placed
 shown_made (call.Rename a b) s placed = fun_ext (λ k. moved s.files (bytes_eq a k) (bytes_eq b k) (s.names a) (s.names k))
@@ -105,7 +105,7 @@ file_state n file.Protect m = refl
 file_state n file.Sync m = refl
 
 -- and of files in memory what it makes of the model
-pub made_state : (c : Change) (m : Model) → made c (state m) ≡ state ((effect_of c).model m)
+pub made_state : (c : Change) (m : Model) → made c (state m) ≡ state ((change_effect c).model m)
 made_state (call.Create n) m = ap (with_names (m.files ++ loose empty_file ∷ [])) (sym (names_created n m))
 made_state (call.File n c) m = file_state n c m
 made_state (call.Rename a b) m = ap (with_names m.files) (sym (names_pended _ m))
@@ -113,7 +113,7 @@ made_state (call.Remove n) m = ap (with_names m.files) (sym (names_pended _ m))
 made_state call.SyncNames m = refl
 
 -- a disk that shows its view alone has made a change
-pub shown_done : (c : Change) (s t : State) → IsPlaced s → t ≡ made c s → Done (effect_of c) (Shows (shown s)) (Shows (shown t))
+pub shown_done : (c : Change) (s t : State) → AreNamesPlaced s → t ≡ made c s → Done (change_effect c) (Shows (shown s)) (Shows (shown t))
 shown_done c s t placed now = record { view = ap (λ v. Some v) (ap shown now ∙ shown_made c s placed); model = λ m past is. cc }
 
 map_without : (files : List StoredFile) (p : ℕ) → map stored (remove files p) ≡ remove (map stored files) p
@@ -153,7 +153,7 @@ renamed_self v a b same = subst (λ c. v ≡ renamed a c v) (same_name a b same)
 
 -- a name is given to another file, with the file that had it gone
 pub renamed_after : (files : List StoredFile) (names names2 : List (Option (List ℕ))) (v : View) (a b : List ℕ) → length names ≡ length files → bytes_eq b a ≡ false
-    → place_of names2 ≡ apply (op.Rename a b) (place_of names) → shown (with_names (map stored files) (place_of names)) ≡ put v b None
+    → place_of names2 ≡ apply_operation (op.Rename a b) (place_of names) → shown (with_names (map stored files) (place_of names)) ≡ put v b None
     → shown (with_names (map stored files) (place_of names2)) ≡ renamed a b v
 renamed_after files names names2 v a b paired apart now gone =
     ap (λ t. shown (with_names (map stored files) t)) now

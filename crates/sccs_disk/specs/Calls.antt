@@ -54,6 +54,6 @@ abbrev pub HasRange : List ℕ → ℕ → ℕ → Told → Type 0
 HasRange n from count told = IfSome (seen told) (λ (v : View). HasBytes (v n) from count)
 
 -- where the view is told, the call found the name exactly where it is there
-abbrev pub Finds : Option View → List ℕ → Creation → Type 0
-Finds None n answer = Unit {0}
-Finds (Some v) n answer = (answer ≡ Exists) ↔ IsSome (v n)
+abbrev pub FindsName : Option View → List ℕ → Creation → Type 0
+FindsName None n answer = Unit {0}
+FindsName (Some v) n answer = (answer ≡ Exists) ↔ IsSome (v n)

@@ -10,8 +10,8 @@ pub record Effect : Type 1 where
   pub half : Model → Model → Type 0
 
 -- a call that is made whole or not at all
-abbrev pub whole : (View → View) → (Model → Model) → Effect
-whole f g = record { view = f; model = g; half_view = λ v w. w ≡ f v; half = λ m m2. m2 ≡ g m }
+abbrev pub whole_effect : (View → View) → (Model → Model) → Effect
+whole_effect f g = record { view = f; model = g; half_view = λ v w. w ≡ f v; half = λ m m2. m2 ≡ g m }
 
 -- changes the file at a place
 abbrev pub change_at : List File → ℕ → (File → File) → List File
@@ -77,7 +77,7 @@ abbrev pub synced : List ℕ → Model → Model
 synced n m = changed n (λ f. firm f.content) m
 
 abbrev pub syncing : List ℕ → Effect
-syncing n = whole (λ v. v) (synced n)
+syncing n = whole_effect (λ v. v) (synced n)
 
 abbrev pub empty_file : Content
 empty_file = record { bytes = []; writable = true }
@@ -91,21 +91,21 @@ abbrev pub created : List ℕ → Model → Model
 created n m = record { files = m.files ++ loose empty_file ∷ []; base = m.base; pending = m.pending ++ Create n (length m.files) ∷ [] }
 
 abbrev pub creating : List ℕ → Effect
-creating n = whole (λ v. put v n (Some empty_file)) (created n)
+creating n = whole_effect (λ v. put v n (Some empty_file)) (created n)
 
 -- the file of the first name under the second one; right also where the two are one
 abbrev pub renamed : List ℕ → List ℕ → View → View
 renamed a b v = put (put v a None) b (v a)
 
 abbrev pub renaming : List ℕ → List ℕ → Effect
-renaming a b = whole (renamed a b) (pended (Rename a b))
+renaming a b = whole_effect (renamed a b) (pended (Rename a b))
 
 abbrev pub removing : List ℕ → Effect
-removing n = whole (λ v. put v n None) (pended (Remove n))
+removing n = whole_effect (λ v. put v n None) (pended (Remove n))
 
 -- the base has the names of the view, and nothing is pending
 abbrev pub settled : Model → Model
 settled m = record { files = m.files; base = names m; pending = [] }
 
 abbrev pub syncing_names : Effect
-syncing_names = whole (λ v. v) settled
+syncing_names = whole_effect (λ v. v) settled

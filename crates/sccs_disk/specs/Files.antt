@@ -34,15 +34,15 @@ pub data Op : Type 0 where
   Rename : (from to : List ℕ) → Op
   Remove : (name : List ℕ) → Op
 
-abbrev pub apply : Op → Names → Names
-apply (Create n p) t = put t n (Some p)
-apply (Rename a b) t = put (put t a None) b (t a)
-apply (Remove n) t = put t n None
+abbrev pub apply_operation : Op → Names → Names
+apply_operation (Create n p) t = put t n (Some p)
+apply_operation (Rename a b) t = put (put t a None) b (t a)
+apply_operation (Remove n) t = put t n None
 
 -- the names after these operations, the first of them first
-abbrev pub after : List Op → Names → Names
-after [] t = t
-after (op ∷ ops) t = after ops (apply op t)
+abbrev pub names_after : List Op → Names → Names
+names_after [] t = t
+names_after (op ∷ ops) t = names_after ops (apply_operation op t)
 
 -- all that a disk has: its files, the names that a stop leaves, and the name operations since
 pub record Model : Type 0 where
@@ -52,10 +52,10 @@ pub record Model : Type 0 where
 
 -- the names after the first j pending operations, and after all
 abbrev pub names_at : Model → ℕ → Names
-names_at m j = after (take j m.pending) m.base
+names_at m j = names_after (take j m.pending) m.base
 
 abbrev pub names : Model → Names
-names m = after m.pending m.base
+names m = names_after m.pending m.base
 
 abbrev pub file_at : List File → Option ℕ → Option File
 file_at files None = None

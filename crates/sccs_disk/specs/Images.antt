@@ -3,8 +3,8 @@ use Rattle.std.specs.Prelude.{◌≡◌, ℕ, List, Option, None, Some, IsSome, 
 use Rattle.sccs_disk.specs.Files.{Content, File, View, Model, names, names_at, file_at}
 
 -- the file under a name, all pending operations made
-abbrev pub file_of : Model → List ℕ → Option File
-file_of m n = file_at m.files (names m n)
+abbrev pub file_under : Model → List ℕ → Option File
+file_under m n = file_at m.files (names m n)
 
 -- what a stop may leave of a file: a firm one as it is, another with any bytes and any mark
 abbrev pub Fits : Option File → Option Content → Type 0
@@ -17,7 +17,7 @@ Image m w = (j : ℕ) × ((n : List ℕ) → Fits (file_at m.files (names_at m j
 
 -- an image in which all pending operations are made
 abbrev pub Full : Model → View → Type 0
-Full m w = (n : List ℕ) → Fits (file_of m n) (w n)
+Full m w = (n : List ℕ) → Fits (file_under m n) (w n)
 
 -- each image has P
 abbrev pub Allows : (View → Type 0) → Model → Type 0
@@ -29,4 +29,4 @@ pub record IsOwn (n : List ℕ) (m : Model) : Type 0 where
 
 -- the file under a name, if there is one, is firm
 abbrev pub IsFirm : List ℕ → Model → Type 0
-IsFirm n m = IfSome (file_of m n) (λ (f : File). f.firm ≡ true)
+IsFirm n m = IfSome (file_under m n) (λ (f : File). f.firm ≡ true)

@@ -10,7 +10,7 @@ use Rattle.sccs_base.proofs.SameBytes.{bytes_eq_sym}
 use Rattle.sccs_disk.specs.Effects.{firm}
 use Rattle.sccs_disk.specs.Files.{Content, View, Model, names_at, file_at, put}
 use Rattle.sccs_disk.specs.Files as op
-use Rattle.sccs_disk.specs.States.{State, effect_of, made}
+use Rattle.sccs_disk.specs.States.{State, change_effect, made}
 use Rattle.sccs_disk.specs.Told.{Told, Tells}
 use Rattle.sccs_disk.specs.declared.changes.Change.{Change}
 use Rattle.sccs_disk.specs.declared.changes.Change.TheVariants.{Create, File, Rename, Remove, SyncNames}
@@ -21,13 +21,13 @@ use Rattle.sccs_disk.specs.declared.fills.Fill.TheVariants.{Empty, Written, Junk
 abbrev pub model_after : Model → List (Option Change) → Model
 model_after m [] = m
 model_after m (None ∷ log) = model_after m log
-model_after m (Some c ∷ log) = model_after ((effect_of c).model m) log
+model_after m (Some c ∷ log) = model_after ((change_effect c).model m) log
 
 -- those before it, the newest first
 abbrev pub past_after : Model → List Model → List (Option Change) → List Model
 past_after m past [] = past
 past_after m past (None ∷ log) = past_after m past log
-past_after m past (Some c ∷ log) = past_after ((effect_of c).model m) (m ∷ past) log
+past_after m past (Some c ∷ log) = past_after ((change_effect c).model m) (m ∷ past) log
 
 -- a record of calls with one more, within the room
 abbrev pub noted : ℕ → ℕ → List (Option Change) → List (Option Change)
@@ -50,8 +50,8 @@ abbrev pub filled : Fill → op.File → Content
 filled fill f = record { bytes = cond f.firm f.content.bytes (filling fill f.content.bytes); writable = f.content.writable }
 
 -- What a stop leaves that makes the first j pending operations.
-abbrev pub left : Model → ℕ → Fill → View
-left m j fill n = option_map (filled fill) (file_at m.files (names_at m j n))
+abbrev pub left_by_stop : Model → ℕ → Fill → View
+left_by_stop m j fill n = option_map (filled fill) (file_at m.files (names_at m j n))
 
 -- so many files, as it leaves them
 abbrev pub left_files : Fill → ℕ → List op.File → List op.File
@@ -66,13 +66,13 @@ pub record IsSettled (m : Model) : Type 0 where
   pub pending : m.pending ≡ []
 
 -- a firm file more, under a name of the base
-abbrev pub placed : List ℕ → Content → Model → Model
-placed n c m = record { files = m.files ++ firm c ∷ []; base = put m.base n (Some (length m.files)); pending = m.pending }
+abbrev pub with_placed : List ℕ → Content → Model → Model
+with_placed n c m = record { files = m.files ++ firm c ∷ []; base = put m.base n (Some (length m.files)); pending = m.pending }
 
 -- what a call makes of the model
 abbrev pub entry_model : Option Change → Model → Model
 entry_model None m = m
-entry_model (Some c) m = (effect_of c).model m
+entry_model (Some c) m = (change_effect c).model m
 
 abbrev pub entry_state : Option Change → State → State
 entry_state None s = s

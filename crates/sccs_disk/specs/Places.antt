@@ -19,10 +19,10 @@ AreOnce [] = ⊤
 AreOnce (k ∷ names) = ((n : List ℕ) → has_name k n ≡ true → place_of names n ≡ None) × AreOnce names
 
 -- the names that lead somewhere
-abbrev pub listed : List (Option (List ℕ)) → List (List ℕ)
-listed [] = []
-listed (None ∷ names) = listed names
-listed (Some k ∷ names) = k ∷ listed names
+abbrev pub names_placed : List (Option (List ℕ)) → List (List ℕ)
+names_placed [] = []
+names_placed (None ∷ names) = names_placed names
+names_placed (Some k ∷ names) = k ∷ names_placed names
 
 pub once_prop : (names : List (Option (List ℕ))) → IsProp (AreOnce names)
 once_prop [] = Unit-prop

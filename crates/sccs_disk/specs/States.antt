@@ -1,6 +1,6 @@
 -- Files in memory as they are now, and what a change makes of them.
 use Rattle.std.specs.Prelude.{◌≡◌, ℕ, ◌<◌, Bool, true, false, List, [], ◌∷◌, ◌++◌, length, None, Some, option_map}
-use Rattle.sccs_disk.specs.Files.{View, Names, Model, names, file_at, put, apply}
+use Rattle.sccs_disk.specs.Files.{View, Names, Model, names, file_at, put, apply_operation}
 use Rattle.sccs_disk.specs.Files as op
 use Rattle.sccs_disk.specs.Effects.{Effect, change, loose, firm, appended, overwritten, protected, empty_file, creating, appending, overwriting, protecting, syncing, renaming, removing, syncing_names}
 use Rattle.sccs_disk.specs.declared.changes.StoredFile.{StoredFile}
@@ -33,7 +33,7 @@ abbrev pub shown : State → View
 shown s n = option_map (λ (f : op.File). f.content) (file_at s.files (s.names n))
 
 -- Every name leads to a file, and no two names to one.
-pub record IsPlaced (s : State) : Type 0 where
+pub record AreNamesPlaced (s : State) : Type 0 where
   pub within : (n : List ℕ) (p : ℕ) → s.names n ≡ Some p → p < length s.files
   pub apart : (a b : List ℕ) (p : ℕ) → s.names a ≡ Some p → s.names b ≡ Some p → a ≡ b
 
@@ -46,8 +46,8 @@ file_changed file.Sync f = firm f.content
 abbrev pub made : Change → State → State
 made (Create n) s = state_put n (loose empty_file) s
 made (File n c) s = record { files = change s.files (s.names n) (file_changed c); names = s.names }
-made (Rename a b) s = record { files = s.files; names = apply (op.Rename a b) s.names }
-made (Remove n) s = record { files = s.files; names = apply (op.Remove n) s.names }
+made (Rename a b) s = record { files = s.files; names = apply_operation (op.Rename a b) s.names }
+made (Remove n) s = record { files = s.files; names = apply_operation (op.Remove n) s.names }
 made SyncNames s = s
 
 abbrev pub file_effect : List ℕ → FileChange → Effect
@@ -56,12 +56,12 @@ file_effect n (file.WriteAt from bytes) = overwriting n from bytes.items
 file_effect n file.Protect = protecting n
 file_effect n file.Sync = syncing n
 
-abbrev pub effect_of : Change → Effect
-effect_of (Create n) = creating n
-effect_of (File n c) = file_effect n c
-effect_of (Rename a b) = renaming a b
-effect_of (Remove n) = removing n
-effect_of SyncNames = syncing_names
+abbrev pub change_effect : Change → Effect
+change_effect (Create n) = creating n
+change_effect (File n c) = file_effect n c
+change_effect (Rename a b) = renaming a b
+change_effect (Remove n) = removing n
+change_effect SyncNames = syncing_names
 
 -- whether a change may want memory
 abbrev pub takes_memory : Change → Bool

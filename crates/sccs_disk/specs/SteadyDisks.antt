@@ -8,8 +8,8 @@ use Rattle.sccs_disk.specs.States.{shown}
 use Rattle.sccs_disk.specs.Told.{Shows, Tells, seen}
 use Rattle.sccs_disk.specs.declared.steady_disk.SteadyDisk.{SteadyDisk}
 
-abbrev pub nothing : View
-nothing name = None
+abbrev pub empty_view : View
+empty_view name = None
 
 abbrev pub steady_view : SteadyDisk → View
 steady_view d = shown (state_of d.directory)

@@ -1,6 +1,6 @@
 ghost use Rattle.std.specs.Prelude.{◌≡◌, ℕ, ◌≤◌, List, Some, length, IfOk, IfSome, OnErr, IsErrOf};
 ghost use Rattle.sccs_base.specs.Stream.{Rose};
-ghost use Rattle.sccs_disk.specs.Calls.{Changes, Writes, Half, Creates, Finds, IsThere, HasRange};
+ghost use Rattle.sccs_disk.specs.Calls.{Changes, Writes, Half, Creates, FindsName, IsThere, HasRange};
 ghost use Rattle.sccs_disk.specs.Effects.{creating, appending, overwriting, protecting, syncing, renaming, removing, syncing_names};
 ghost use Rattle.sccs_disk.specs.Files.{View, Model, IsSane, IsFinite};
 ghost use Rattle.sccs_disk.specs.Told.{Told, Tells, seen};
@@ -91,7 +91,7 @@ pub trait Disk {
     /// with any bytes, or without its name.
     fn create(&mut self, name: &Name) -> Result<Creation, DiskRefusal>
         ensures ok { IfOk result (Creates name.now (told self.old) (told self.new)) }
-        ensures exact { IfOk result (Finds (seen (told self.old)) name.now) }
+        ensures exact { IfOk result (FindsName (seen (told self.old)) name.now) }
         ensures half { IsErrOf result DiskRefusal.Failed
             → Half (creating name.now) (told self.old) (told self.new) }
         ensures memory { IsErrOf result DiskRefusal.Memory → told self.new ≡ told self.old }

@@ -5,7 +5,7 @@ ghost use Rattle.sccs_disk.specs.Files.{Content, View, File, IsSane, put};
 ghost use Rattle.sccs_disk.specs.MemoryFiles.{model_of, model_after, noted, IsFirmFile};
 ghost use Rattle.sccs_disk.specs.Effects.{firm, appending, overwriting};
 ghost use Rattle.sccs_disk.specs.Calls.{Done};
-ghost use Rattle.sccs_disk.specs.States.{state, stored, effect_of};
+ghost use Rattle.sccs_disk.specs.States.{state, stored, change_effect};
 ghost use Rattle.sccs_disk.specs.Told.{Told};
 
 use crate::changes::{Change, FileChange, StoredFile};
@@ -74,7 +74,7 @@ fn note_call(log: &mut Vec<Option<Change>>, call: u64, room: u64)
 
 // the change that adds bytes at the end of a file
 fn append_of(alloc: Global, name: &Name, bytes: &[u8]) -> Result<Change, Memory>
-    ensures { IfOk result (λ c. (old new : Told) → Done (effect_of c) old new → Done (appending name.now bytes.now) old new) }
+    ensures { IfOk result (λ c. (old new : Told) → Done (change_effect c) old new → Done (appending name.now bytes.now) old new) }
 {
     let bytes = bytes.to_vec(alloc)?;
     Ok(Change::File(*name, FileChange::Append(bytes)))
@@ -82,7 +82,7 @@ fn append_of(alloc: Global, name: &Name, bytes: &[u8]) -> Result<Change, Memory>
 
 // the change that writes bytes over as many
 fn write_of(alloc: Global, name: &Name, from: u64, bytes: &[u8]) -> Result<Change, Memory>
-    ensures { IfOk result (λ c. (old new : Told) → Done (effect_of c) old new → Done (overwriting name.now from bytes.now) old new) }
+    ensures { IfOk result (λ c. (old new : Told) → Done (change_effect c) old new → Done (overwriting name.now from bytes.now) old new) }
 {
     let bytes = bytes.to_vec(alloc)?;
     Ok(Change::File(*name, FileChange::WriteAt(from, bytes)))
@@ -92,7 +92,7 @@ impl MemoryDisk {
     ghost use Rattle.sccs_disk.specs.Calls.{Changes, HasBytes};
     ghost use Rattle.sccs_disk.specs.Images.{Image};
     ghost use Rattle.sccs_disk.specs.MemoryDisks.{GoesByPlan, KeepsPlan, disk_told, disk_model, disk_view, disk_after, disk_call, disk_room, disk_stop, disk_failing};
-    ghost use Rattle.sccs_disk.specs.MemoryFiles.{left, placed, IsSettled};
+    ghost use Rattle.sccs_disk.specs.MemoryFiles.{left_by_stop, with_placed, IsSettled};
     ghost use Rattle.sccs_disk.specs.States.{shown, empty_state, takes_memory};
     ghost use Rattle.sccs_disk.specs.Told.{Tells};
 
@@ -140,7 +140,7 @@ impl MemoryDisk {
     // makes a change, for a call that was counted
     fn make(&mut self, change: Change) -> Result<(), Memory>
         requires { (log : List (Option Change)) × (self.old.log.items ≡ log ++ None ∷ []) }
-        ensures done { OnOk result (Done (effect_of change) (disk_told self.old) (disk_told self.new)) }
+        ensures done { OnOk result (Done (change_effect change) (disk_told self.old) (disk_told self.new)) }
         ensures err { OnErr result (disk_told self.new ≡ disk_told self.old) }
         ensures sure { takes_memory change ≡ false → IsOk result }
         ensures before { (calls : ℕ) → calls < length self.old.log.items → disk_after self.new calls ≡ disk_after self.old calls }
@@ -156,7 +156,7 @@ impl MemoryDisk {
     // a call that changes files, unless there is no memory for it
     fn call(&mut self, change: Result<Change, Memory>) -> Result<(), DiskRefusal>
         ensures plan { GoesByPlan (IsErrOf result DiskRefusal.Failed) self.old self.new }
-        ensures done { OnOk result (IfOk change (λ c. Done (effect_of c) (disk_told self.old) (disk_told self.new))) }
+        ensures done { OnOk result (IfOk change (λ c. Done (change_effect c) (disk_told self.old) (disk_told self.new))) }
         ensures err { OnErr result (disk_told self.new ≡ disk_told self.old) }
         ensures made { OnOk result (IsOk change) }
         ensures sure { IfOk change (λ c. takes_memory c ≡ false → IsErrOf result DiskRefusal.Memory → ⊥) }
@@ -179,7 +179,7 @@ impl MemoryDisk {
     fn call_surely(&mut self, change: Change) -> Result<(), Failed>
         requires { takes_memory change ≡ false }
         ensures plan { GoesByPlan (IsErr result) self.old self.new }
-        ensures changes { Changes (effect_of change) (disk_told self.old) (disk_told self.new) self.old.faults self.new.faults result }
+        ensures changes { Changes (change_effect change) (disk_told self.old) (disk_told self.new) self.old.faults self.new.faults result }
     {
         match self.call(Ok(change)) {
             Ok(()) => Ok(()),
@@ -193,7 +193,7 @@ impl MemoryDisk {
         requires { disk_call self.old ≡ 0 }
         ensures ok { OnOk result (disk_view self.new ≡ put (disk_view self.old) name.now
             (Some (record { bytes = bytes.now; writable = writable }))) }
-        ensures told { OnOk result (disk_told self.new ≡ Tells (placed name.now
+        ensures told { OnOk result (disk_told self.new ≡ Tells (with_placed name.now
             (record { bytes = bytes.now; writable = writable }) (disk_model self.old)) []) }
         ensures err { OnErr result (disk_told self.new ≡ disk_told self.old) }
         ensures plan { KeepsPlan self.old self.new }
@@ -252,7 +252,7 @@ impl MemoryDisk {
         names: u64,
         fill: Fill,
     ) -> Result<MemoryDisk, Memory>
-        ensures left { IfOk result (λ d. disk_view d ≡ left (disk_after self.now calls) names fill) }
+        ensures left { IfOk result (λ d. disk_view d ≡ left_by_stop (disk_after self.now calls) names fill) }
         ensures image { IfOk result (λ d. Image (disk_after self.now calls) (disk_view d)) }
         ensures settled { IfOk result (λ d. IsSettled (disk_model d)) }
         ensures told { IfOk result (λ d. disk_told d ≡ Tells (disk_model d) []) }
@@ -284,7 +284,7 @@ impl MemoryDisk {
 }
 
 impl Disk for MemoryDisk {
-    ghost use Rattle.sccs_disk.specs.Calls.{Half, Creates, Finds, Changes, Writes, IsThere, HasRange};
+    ghost use Rattle.sccs_disk.specs.Calls.{Half, Creates, FindsName, Changes, Writes, IsThere, HasRange};
     ghost use Rattle.sccs_disk.specs.Effects.{creating, appending, overwriting, protecting, syncing, renaming, removing, syncing_names};
     ghost use Rattle.sccs_disk.specs.MemoryDisks.{GoesByPlan, disk_told, disk_view};
     ghost use Rattle.sccs_disk.specs.MemoryTold.{disk_sane, disk_finite};
@@ -336,7 +336,7 @@ impl Disk for MemoryDisk {
 
     fn create(&mut self, name: &Name) -> Result<Creation, DiskRefusal>
         ensures ok { IfOk result (Creates name.now (disk_told self.old) (disk_told self.new)) }
-        ensures exact { IfOk result (Finds (Some (disk_view self.old)) name.now) }
+        ensures exact { IfOk result (FindsName (Some (disk_view self.old)) name.now) }
         ensures half { IsErrOf result DiskRefusal.Failed
             → Half (creating name.now) (disk_told self.old) (disk_told self.new) }
         ensures memory { IsErrOf result DiskRefusal.Memory → disk_told self.new ≡ disk_told self.old }

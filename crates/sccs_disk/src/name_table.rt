@@ -1,7 +1,7 @@
 ghost use Rattle.std.specs.Prelude.{◌≡◌, ◌+◌, ◌<◌, ◌≤◌, List, [], None, Some, length, vec_len, vec_capacity, IfOk, IfSome, OnOk, OnErr};
 ghost use Rattle.std.specs.List.{remove};
-ghost use Rattle.sccs_disk.specs.Files.{put, apply, Rename};
-ghost use Rattle.sccs_disk.specs.Places.{AreOnce, once_prop, place_of, listed};
+ghost use Rattle.sccs_disk.specs.Files.{put, apply_operation, Rename};
+ghost use Rattle.sccs_disk.specs.Places.{AreOnce, once_prop, place_of, names_placed};
 
 use sccs_base::{Memory, Name, Names};
 use std::alloc::Global;
@@ -69,7 +69,7 @@ impl NameTable {
     /// Gives a place another name, which leads to no other place any more.
     #[tactic(auto, using(crate::proofs::Places::names_renamed, crate::proofs::Places::once_renamed, crate::proofs::Places::rename_self))]
     pub fn rename(&mut self, from: &Name, to: &Name)
-        ensures names { place_of self.new.names.items ≡ apply (Rename from.now to.now) (place_of self.old.names.items) }
+        ensures names { place_of self.new.names.items ≡ apply_operation (Rename from.now to.now) (place_of self.old.names.items) }
         ensures count { length self.new.names.items ≡ length self.old.names.items }
     {
         if from.is(to) {
@@ -105,7 +105,7 @@ impl NameTable {
 
     /// The names that lead somewhere.
     pub fn list(&self, alloc: Global) -> Result<Names, Memory>
-        ensures { IfOk result (λ names. names ≡ listed self.now.names.items) }
+        ensures { IfOk result (λ names. names ≡ names_placed self.now.names.items) }
     {
         let mut names = Names::empty(alloc);
         for place in 0..self.names.len() {

@@ -17,12 +17,12 @@ pub struct SteadyDisk {
 
 impl SteadyDisk {
     ghost use Rattle.sccs_disk.specs.Calls.{Done};
-    ghost use Rattle.sccs_disk.specs.SteadyDisks.{steady_view, nothing};
-    ghost use Rattle.sccs_disk.specs.States.{effect_of, takes_memory};
+    ghost use Rattle.sccs_disk.specs.SteadyDisks.{steady_view, empty_view};
+    ghost use Rattle.sccs_disk.specs.States.{change_effect, takes_memory};
 
     /// A disk without files.
     pub fn new(alloc: Global) -> SteadyDisk
-        ensures { steady_view result ≡ nothing }
+        ensures { steady_view result ≡ empty_view }
     {
         SteadyDisk {
             directory: Directory::new(alloc),
@@ -52,7 +52,7 @@ impl SteadyDisk {
 
     // makes a change
     fn make(&mut self, change: &Change) -> Result<(), DiskRefusal>
-        ensures done { OnOk result (Done (effect_of change.now) (Shows (steady_view self.old)) (Shows (steady_view self.new))) }
+        ensures done { OnOk result (Done (change_effect change.now) (Shows (steady_view self.old)) (Shows (steady_view self.new))) }
         ensures err { OnErr result (steady_view self.new ≡ steady_view self.old) }
         ensures memory { IfErr result (λ e. e ≡ DiskRefusal.Memory) }
         ensures sure { takes_memory change.now ≡ false → IsOk result }
@@ -66,7 +66,7 @@ impl SteadyDisk {
     // makes a change that takes no memory
     fn make_surely(&mut self, change: &Change)
         requires { takes_memory change.now ≡ false }
-        ensures { Done (effect_of change.now) (Shows (steady_view self.old)) (Shows (steady_view self.new)) }
+        ensures { Done (change_effect change.now) (Shows (steady_view self.old)) (Shows (steady_view self.new)) }
     {
         match self.make(change) {
             Ok(()) => (),

@@ -21,8 +21,8 @@ abbrev pub module_name : List Flag → List ℕ → List ℕ
 module_name flags n = flag_text flags flag_m (drop 2 n)
 
 -- the flags t and q
-abbrev pub kind : List Flag → List ℕ
-kind flags = flag_text flags flag_t []
+abbrev pub kind_flags : List Flag → List ℕ
+kind_flags flags = flag_text flags flag_t []
 
 abbrev pub user : List Flag → List ℕ
 user flags = flag_text flags flag_q []
@@ -43,7 +43,7 @@ facts_of header set target sid n place stamp = record {
   sid = sid;
   moment = stamp.moment;
   newest = newest_moment header.records set target stamp.moment;
-  kind = kind header.flags;
+  kind = kind_flags header.flags;
   user = user header.flags;
   file = n;
   place = place;

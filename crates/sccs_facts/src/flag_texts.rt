@@ -2,7 +2,7 @@ ghost use Rattle.std.specs.Prelude.{◌≡◌, drop, option_map, unwrap_or};
 ghost use Rattle.std.specs.Option.{option_copied};
 ghost use Rattle.sccs_base.specs.Name.{IsSfile};
 ghost use Rattle.sccs_flags.specs.FlagValues.{flag_of};
-ghost use Rattle.sccs_facts.specs.VersionFacts.{flag_text, kind, module_name, user};
+ghost use Rattle.sccs_facts.specs.VersionFacts.{flag_text, kind_flags, module_name, user};
 
 use sccs_base::Name;
 use sccs_history::Flag;
@@ -27,7 +27,7 @@ pub fn module_name<'a>(flags: &'a [Flag], name: &'a Name) -> &'a [u8]
 
 /// The text of the flag t. POSIX get, %Y%.
 pub fn kind(flags: &[Flag]) -> &[u8]
-    ensures { result.now ≡ kind flags.now }
+    ensures { result.now ≡ kind_flags flags.now }
 {
     flag_text(flags, b't', b"")
 }

@@ -5,7 +5,7 @@ use Rattle.std.proofs.lemmas.List.{take-append-drop, take_min}
 use Rattle.sccs_base.specs.Constants.{file_limit}
 use Rattle.sccs_disk.specs.Files.{Content, View}
 use Rattle.sccs_disk.specs.Reads.{Measures, Reads, ReadsFile}
-use Rattle.sccs_files.specs.WholeFiles.{AnswersWhole, ReadsOn, file_bytes}
+use Rattle.sccs_files.specs.WholeFiles.{AnswersWhole, ReadsToEnd, file_bytes}
 use Rattle.sccs_files.specs.declared.whole_files.WholeFault.{WholeFault}
 use Rattle.sccs_files.specs.declared.whole_files.WholeFault.TheVariants.{Missing, TooLong, Failed, Memory}
 
@@ -73,13 +73,13 @@ pub whole_answer : (told : Option View) (name all : List ℕ) (size : ℕ) → M
 whole_answer None name all size is short whole = tt
 whole_answer (Some v) name all size is short whole = file_answer (v name) all size is short whole
 
-file_fault : (o : Option Content) (all more : List ℕ) (fault : WholeFault) (size : ℕ) → Some size ≡ option_map (λ (c : Content). length c.bytes) o → fault ≢ Missing → ((bytes : List ℕ) → option_map (λ (c : Content). c.bytes) o ≡ Some bytes → ReadsOn bytes all more (Err fault)) → AnswersWhole o (Err fault)
+file_fault : (o : Option Content) (all more : List ℕ) (fault : WholeFault) (size : ℕ) → Some size ≡ option_map (λ (c : Content). length c.bytes) o → fault ≢ Missing → ((bytes : List ℕ) → option_map (λ (c : Content). c.bytes) o ≡ Some bytes → ReadsToEnd bytes all more (Err fault)) → AnswersWhole o (Err fault)
 file_fault None all more fault size is there reads = absurd (cc)
 file_fault (Some c) all more Missing size is there reads = absurd (there refl)
 file_fault (Some c) all more TooLong size is there reads = reads c.bytes refl
 file_fault (Some c) all more Failed size is there reads = tt
 file_fault (Some c) all more Memory size is there reads = tt
 
-pub whole_fault : (told : Option View) (name all more : List ℕ) (fault : WholeFault) (size : ℕ) → Measures told name (Some size) → fault ≢ Missing → ((bytes : List ℕ) → file_bytes told name ≡ Some bytes → ReadsOn bytes all more (Err fault)) → IfSome told (λ (v : View). AnswersWhole (v name) (Err fault))
+pub whole_fault : (told : Option View) (name all more : List ℕ) (fault : WholeFault) (size : ℕ) → Measures told name (Some size) → fault ≢ Missing → ((bytes : List ℕ) → file_bytes told name ≡ Some bytes → ReadsToEnd bytes all more (Err fault)) → IfSome told (λ (v : View). AnswersWhole (v name) (Err fault))
 whole_fault None name all more fault size is there reads = tt
 whole_fault (Some v) name all more fault size is there reads = file_fault (v name) all more fault size is there reads

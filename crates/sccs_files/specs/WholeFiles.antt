@@ -10,11 +10,11 @@ abbrev pub file_bytes : Option View → List ℕ → Option (List ℕ)
 file_bytes told name = option_and_then (λ (v : View). option_map (λ (c : Content). c.bytes) (v name)) told
 
 -- what is read of a file goes on to its end
-abbrev pub ReadsOn : List ℕ → List ℕ → List ℕ → Result Bool WholeFault → Type 0
-ReadsOn bytes old new (Ok true) = old ≡ take (length old) bytes → new ≡ take (length new) bytes
-ReadsOn bytes old new (Ok false) = old ≡ take (length old) bytes → new ≡ bytes
-ReadsOn bytes old new (Err TooLong) = file_limit < length bytes
-ReadsOn bytes old new (Err fault) = Unit {0}
+abbrev pub ReadsToEnd : List ℕ → List ℕ → List ℕ → Result Bool WholeFault → Type 0
+ReadsToEnd bytes old new (Ok true) = old ≡ take (length old) bytes → new ≡ take (length new) bytes
+ReadsToEnd bytes old new (Ok false) = old ≡ take (length old) bytes → new ≡ bytes
+ReadsToEnd bytes old new (Err TooLong) = file_limit < length bytes
+ReadsToEnd bytes old new (Err fault) = Unit {0}
 
 -- all its bytes; or it isn't there, or is too long; or reading failed
 abbrev pub AnswersWhole : Option Content → Result (List ℕ) WholeFault → Type 0

@@ -3,7 +3,7 @@ ghost use Rattle.sccs_base.specs.Constants.{file_limit};
 ghost use Rattle.sccs_base.specs.Stream.{Rose};
 ghost use Rattle.sccs_disk.specs.Files.{View};
 ghost use Rattle.sccs_disk.specs.Told.{seen};
-ghost use Rattle.sccs_files.specs.WholeFiles.{AnswersWhole, ReadsOn, file_bytes};
+ghost use Rattle.sccs_files.specs.WholeFiles.{AnswersWhole, ReadsToEnd, file_bytes};
 
 use sccs_base::{Bytes, FILE_LIMIT, Name};
 use sccs_disk::Disk;
@@ -32,7 +32,7 @@ fn read_more<D: Disk>(
     requires short { length all.old.items ≤ file_limit }
     requires room { 0 < length piece.old }
     ensures bound { length all.new.items ≤ file_limit }
-    ensures told { (bytes : List ℕ) → file_bytes (seen (D.told disk.old)) name.now ≡ Some bytes → ReadsOn bytes all.old.items all.new.items result }
+    ensures told { (bytes : List ℕ) → file_bytes (seen (D.told disk.old)) name.now ≡ Some bytes → ReadsToEnd bytes all.old.items all.new.items result }
     ensures further { result ≡ Ok true → length all.old.items + 1 ≤ length all.new.items }
     ensures same { D.told disk.new ≡ D.told disk.old }
     ensures later { D.faults disk.old ≤ D.faults disk.new }

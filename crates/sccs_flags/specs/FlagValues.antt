@@ -47,5 +47,5 @@ locked_by None release = false
 locked_by (Some f) release = locks f.text release
 
 -- the release is locked against deltas: flag l
-abbrev pub is_locked : List Flag → ℕ → Bool
-is_locked flags release = locked_by (flag_of flags flag_l) release
+abbrev pub is_locked_release : List Flag → ℕ → Bool
+is_locked_release flags release = locked_by (flag_of flags flag_l) release

@@ -2,7 +2,7 @@ ghost use Rattle.std.specs.Prelude.{◌≡◌, ◌==◌, unwrap_or};
 ghost use Rattle.std.specs.Option.{option_copied};
 ghost use Rattle.sccs_sid.specs.Reading.{number};
 ghost use Rattle.sccs_sid.specs.Words.{words};
-ghost use Rattle.sccs_flags.specs.FlagValues.{ceiling, flag_of, floor, has_flag, has_release, is_locked, is_within_limits, lists_release, locks, number_or};
+ghost use Rattle.sccs_flags.specs.FlagValues.{ceiling, flag_of, floor, has_flag, has_release, is_locked_release, is_within_limits, lists_release, locks, number_or};
 
 use sccs_history::{Flag, Header};
 use sccs_sid::reading::{cut_at, number};
@@ -124,7 +124,7 @@ fn locks(text: &[u8], release: u16) -> bool
 /// Whether a release is locked against deltas: the text of flag l is `a`, or lists it. sccsfile(4),
 /// "Flags"; POSIX, admin -f.
 pub fn is_locked(header: &Header, release: u16) -> bool
-    ensures { result ≡ is_locked header.now.flags release }
+    ensures { result ≡ is_locked_release header.now.flags release }
 {
     match flag_of(header.flags.items(), b'l') {
         Some(flag) => locks(flag.text.bytes(), release),

@@ -27,7 +27,7 @@ use Rattle.sccs_moments.proofs.Untouched.{before_after, before_within, ends_work
 use Rattle.sccs_steps.specs.Actions.{Action}
 use Rattle.sccs_steps.specs.Calls.{Meets, scene, world}
 use Rattle.sccs_steps.specs.StepEffects.{Outcome, effect_of}
-use Rattle.sccs_steps.specs.StepStops.{Ends, IsSafe, IsSafeFor, MeetsAt, StepMoments, place_of}
+use Rattle.sccs_steps.specs.StepStops.{Ends, IsSafe, IsSafeFor, MeetsAt, StepMoments, meeting_place}
 use Rattle.sccs_steps.proofs.SafeImages.{recovers_before}
 use Rattle.sccs_store.specs.Commits.{Becomes}
 use Rattle.sccs_transactions.specs.declared.prepared.Prepared.{Prepared}
@@ -99,7 +99,7 @@ module _ (words : GetWords) (stamp : Stamp) (place : List ℕ) (heading : Bool) 
   outcome_at v = get_outcome words stamp place heading n (look v n)
 
   abbrev EndsSo : Result (Unit {0}) StepFault → View → Model → List Model → Told → Option (List ℕ) → Option (List ℕ) → Option (List ℕ) → Option (List ℕ) → Outcome → Type 0
-  EndsSo r v m past td out err out3 err3 o = (met : Meets (λ (done : Unit {0}). 0) r n o (world (Some v) out err) (world (seen td) out3 err3)) × Ends (place_of r n o (world (Some v) out err) (world (seen td) out3 err3) met) action n v (moved v n (effect_of n o).new) m past td
+  EndsSo r v m past td out err out3 err3 o = (met : Meets (λ (done : Unit {0}). 0) r n o (world (Some v) out err) (world (seen td) out3 err3)) × Ends (meeting_place r n o (world (Some v) out err) (world (seen td) out3 err3) met) action n v (moved v n (effect_of n o).new) m past td
 
   -- ---- the g-file is placed, or not
 

@@ -20,7 +20,7 @@ use Rattle.sccs_printing.specs.Counted.{shown_of}
 use Rattle.sccs_printing.specs.Printing.{Makes, finished_text, may_write, version_text}
 use Rattle.sccs_printing.specs.Targets.{Prints}
 use Rattle.sccs_printing.specs.declared.shown.Shown.{Shown}
-use Rattle.sccs_moments.specs.Recovery.{without}
+use Rattle.sccs_moments.specs.Recovery.{without_name}
 use Rattle.sccs_pending.specs.PFiles.{OnlyReads}
 use Rattle.sccs_steps.specs.Calls.{world}
 use Rattle.sccs_steps.specs.Causes.{PrintCauses}
@@ -159,7 +159,7 @@ kept_up words n fault o none = inl (refl, by o)
   where
     by : (o : Option View) → Becomes (y_cleared words n) o o
     by None = refl
-    by (Some v) = ap (λ (b : Bool). Some (if b then without (y_file n) v else v)) (sym none)
+    by (Some v) = ap (λ (b : Bool). Some (if b then without_name (y_file n) v else v)) (sym none)
 
 pub fault_so : (fault : StepFault) → unit_fault fault ≡ Err DiskFault → fault ≡ DiskFault
 fault_so fault is = cc

@@ -35,7 +35,7 @@ use Rattle.sccs_steps.specs.StepEffects.{check}
 use Rattle.sccs_versions.specs.Coming.{shown}
 use Rattle.sccs_words.specs.declared.commands.GetWords.{GetWords}
 use Rattle.sccs_get.specs.NewEntry.{singles}
-use Rattle.sccs_get.specs.AskedVersion.{asked, listed, spec_asked}
+use Rattle.sccs_get.specs.AskedVersion.{asked, listed_serials, spec_asked}
 use Rattle.sccs_get.specs.Linear.{AsksNewest, GivesLinesPlain, GivesTexts, IsLinearFile, StepGives}
 use Rattle.sccs_get.specs.VersionStep.{version_facts, form_got, found_version, g_is_free, get_effect, has_its_keywords, is_in_the_way, lines_got, module_in, stays_writable, given_text, with_g}
 use Rattle.sccs_get.specs.declared.found.Found.{Found}
@@ -55,10 +55,10 @@ newest_asked : (words : GetWords) (header : Header) → AsksNewest words → def
     → asked words header ≡ Ok (asked_at (newest header.records) [] [] (newest_set header.records))
 newest_asked words header asks default found =
     asked_by words header
-    ∙ (ap (λ (spec : Option Spec). set_by (retrieved header.records spec words.top) (listed header.records words.include) (listed header.records words.exclude) (option_map (λ m. m.seconds) words.cutoff) header.records) (spec_none words header asks.spec default)
-    ∙ (ap (λ (n : Option ℕ). set_by n (listed header.records words.include) (listed header.records words.exclude) (option_map (λ m. m.seconds) words.cutoff) header.records) found
-    ∙ (ap (λ (list : Option (List Range)). set_by (Some (newest header.records)) (listed header.records list) (listed header.records words.exclude) (option_map (λ m. m.seconds) words.cutoff) header.records) asks.include
-    ∙ (ap (λ (list : Option (List Range)). set_by (Some (newest header.records)) (Ok []) (listed header.records list) (option_map (λ m. m.seconds) words.cutoff) header.records) asks.exclude
+    ∙ (ap (λ (spec : Option Spec). set_by (retrieved header.records spec words.top) (listed_serials header.records words.include) (listed_serials header.records words.exclude) (option_map (λ m. m.seconds) words.cutoff) header.records) (spec_none words header asks.spec default)
+    ∙ (ap (λ (n : Option ℕ). set_by n (listed_serials header.records words.include) (listed_serials header.records words.exclude) (option_map (λ m. m.seconds) words.cutoff) header.records) found
+    ∙ (ap (λ (list : Option (List Range)). set_by (Some (newest header.records)) (listed_serials header.records list) (listed_serials header.records words.exclude) (option_map (λ m. m.seconds) words.cutoff) header.records) asks.include
+    ∙ (ap (λ (list : Option (List Range)). set_by (Some (newest header.records)) (Ok []) (listed_serials header.records list) (option_map (λ m. m.seconds) words.cutoff) header.records) asks.exclude
     ∙ ap (λ last. set_by (Some (newest header.records)) (Ok []) (Ok []) (option_map (λ m. m.seconds) last) header.records) asks.cutoff))))
 
 newest_got : (records : List Record) (top : Bool) → is_empty records ≡ false → IsTrunk records → retrieved records None top ≡ Some (newest records)

@@ -39,7 +39,7 @@ use Rattle.sccs_steps.specs.Calls.{World, world}
 use Rattle.sccs_steps.specs.StepEffects.{Outcome, StepEffect, effect_of}
 use Rattle.sccs_steps.proofs.ReadingSteps.{Explains}
 use Rattle.sccs_transactions.specs.declared.prepared.Prepared.{Prepared}
-use Rattle.sccs_get.specs.Giving.{GivesVersion, IsGiven, IsLate, Readies, printed_text}
+use Rattle.sccs_get.specs.Giving.{GivesVersion, IsTextGiven, IsLate, Readies, printed_text}
 use Rattle.sccs_pending.specs.Reports.{heading_text, warning}
 use Rattle.sccs_get.specs.Reports.{get_report, get_warning, line_count_text, listed_text, new_sid_text, replaces_keywords, said_on_err, said_on_out}
 use Rattle.sccs_get.specs.VersionStep.{form_got, found_version, g_is_free, get_outcome, get_effect, has_its_keywords, lines_got, given_text}
@@ -318,7 +318,7 @@ module _ (words : GetWords) (stamp : Stamp) (place : List ℕ) (heading : Bool) 
             message = sym (message ∙ (ap (λ r. said_on_err words r (get_warning words n shown.keywords)) reported ∙ ap (λ m. said_on_err words (get_report words heading n found.include found.exclude found.sid None (length (lines_got found at.parsed.items))) m) warned));
             text_is = refl;
             new = refl;
-            given = subst (λ (t : Option View). IsGiven words n (given_text words at.parsed.header.records found (lines_got found at.parsed.items)) (world t out err) (world o4 out2 err)) same given.0;
+            given = subst (λ (t : Option View). IsTextGiven words n (given_text words at.parsed.header.records found (lines_got found at.parsed.items)) (world t out err) (world o4 out2 err)) same given.0;
           }
 
   -- behind the check of the g-file, over a view that may be told

@@ -11,7 +11,7 @@ use Rattle.sccs_disk.specs.Effects.{renamed}
 use Rattle.sccs_disk.specs.Files.{Content, View, put}
 use Rattle.sccs_disk.proofs.Puts.{name_cases, put_back, put_other, put_same}
 use Rattle.sccs_files.specs.StepFiles.{AreCleared, Files, Moves, is_left, is_working, look, moved, placed}
-use Rattle.sccs_moments.specs.Recovery.{without}
+use Rattle.sccs_moments.specs.Recovery.{without_name}
 use Rattle.sccs_base.proofs.SameBytes.{other_bytes, same_bytes}
 use Rattle.sccs_moments.proofs.FileNames.{from_g, no_working, no_y, s_and_g, to_g}
 use Rattle.sccs_steps.specs.Calls.{Fails, Meets, Uncommitted, World, world}
@@ -66,7 +66,7 @@ abbrev g_by : Bool → List ℕ → View → View
 g_by b n v = if b then renamed (y_file n) (drop 2 n) v else v
 
 abbrev gone_by : Bool → List ℕ → View → View
-gone_by b n v = if b then without (y_file n) v else v
+gone_by b n v = if b then without_name (y_file n) v else v
 
 pub made_by : (b : Bool) (n text : List ℕ) (writable : Bool) (v : View) (k : List ℕ) → IsSfile n → is_working n k ≡ false → g_by b n (y_by b n (content text writable) v) k ≡ moved v n (new_by b n text writable v) k
 made_by true n text writable v k sfile h = placed_y n (content text writable) v k h ∙ sym (ap (λ (t : View). t k) (placed_g n v text writable sfile))
@@ -141,7 +141,7 @@ module _ (words : GetWords) (n : List ℕ) (sfile : IsSfile n) where
       view_is e = cc
 
       cleared_at : (b : Bool) → (b ≡ false → Some u ≡ Some v) → (k : List ℕ) → (gone_by b n u k ≡ None) ⊎ (gone_by b n u k ≡ v k)
-      cleared_at true same k = ⊎_elim (λ e. inl (subst (λ l. without (y_file n) u l ≡ None) e (put_same u (y_file n) None))) (λ apart. inr (put_other u (y_file n) k None apart ∙ moves k apart)) (name_cases (y_file n) k)
+      cleared_at true same k = ⊎_elim (λ e. inl (subst (λ l. without_name (y_file n) u l ≡ None) e (put_same u (y_file n) None))) (λ apart. inr (put_other u (y_file n) k None apart ∙ moves k apart)) (name_cases (y_file n) k)
       cleared_at false same k = inr (ap (λ (t : View). t k) (view_is (same refl)))
 
   -- the y-file alone is another

@@ -24,9 +24,9 @@ abbrev pub spec_asked : GetWords → Header → Option Spec
 spec_asked words header = elim words.spec as (λ _. Option Spec) [ None ↦ default_of header.flags | Some spec ↦ Some spec ]
 
 -- the serials of a list; none where no list is given
-abbrev pub listed : List Record → Option (List Range) → Result (List ℕ) Sid
-listed records None = Ok []
-listed records (Some list) = named_serials records [] list
+abbrev pub listed_serials : List Record → Option (List Range) → Result (List ℕ) Sid
+listed_serials records None = Ok []
+listed_serials records (Some list) = named_serials records [] list
 
 -- the numbers of these checks
 abbrev pub asked_checks : List ℕ
@@ -42,8 +42,8 @@ apart (Some sid) = Err (refusals.BadList sid)
 unfoldable pub asked : GetWords → Header → Result Asked Refusal
 asked words header = do
   target ← there (retrieved header.records (spec_asked words header) words.top) refusals.NoSid
-  include ← or_bad_list (listed header.records words.include)
-  exclude ← or_bad_list (listed header.records words.exclude)
+  include ← or_bad_list (listed_serials header.records words.include)
+  exclude ← or_bad_list (listed_serials header.records words.exclude)
   checked ← apart (both_listed header.records include exclude)
   Ok (record {
     target = target;

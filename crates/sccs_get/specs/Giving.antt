@@ -16,9 +16,9 @@ use Rattle.sccs_printing.specs.Counted.{shown_of}
 use Rattle.sccs_printing.specs.declared.shown.Shown.{Shown}
 use Rattle.sccs_steps.specs.Calls.{World}
 use Rattle.sccs_steps.specs.StepEffects.{Outcome, StepEffect, effect_of}
-use Rattle.sccs_moments.specs.Recovery.{without}
+use Rattle.sccs_moments.specs.Recovery.{without_name}
 use Rattle.sccs_store.specs.Commits.{Becomes, MayBecome}
-use Rattle.sccs_transactions.specs.Ends.{IsCut, IsReported}
+use Rattle.sccs_transactions.specs.Ends.{IsReportCut, IsReported}
 use Rattle.sccs_transactions.specs.declared.prepared.Prepared.{Prepared}
 use Rattle.sccs_words.specs.declared.commands.GetWords.{GetWords}
 use Rattle.sccs_get.specs.VersionStep.{form_got, stays_writable, given_text, with_g, writes_g}
@@ -33,7 +33,7 @@ abbrev pub with_y : GetWords → List ℕ → List ℕ → View → View
 with_y words n text v = if writes_g words then put v (y_file n) (Some (record { bytes = text; writable = stays_writable words })) else v
 
 -- Where a text was given.
-pub record IsGiven (words : GetWords) (n text : List ℕ) (w w2 : World) : Type 0 where
+pub record IsTextGiven (words : GetWords) (n text : List ℕ) (w w2 : World) : Type 0 where
   pub out : GivesOk w.out w2.out (printed_text words text)
   pub view : Becomes (with_y words n text) w.view w2.view
 
@@ -48,7 +48,7 @@ IsLate (Refused refusal) = ⊥
 -- The text of lines was given, and how many they are, and whether a keyword of one was replaced; or a prefix of what goes to out.
 abbrev pub GivesVersion : GetWords → List ℕ → List Record → Found → List HistoryLine → Result Shown StepFault → World → World → Type 0
 GivesVersion words n records found lines (Ok shown) w w2 =
-    IsGiven words n (given_text words records found lines) w w2 × (words.no_text ≡ false → shown ≡ shown_of (form_got words found) lines)
+    IsTextGiven words n (given_text words records found lines) w w2 × (words.no_text ≡ false → shown ≡ shown_of (form_got words found) lines)
 GivesVersion words n records found lines (Err fault) w w2 = IsLate fault × GivesSome w.out w2.out (printed_text words (given_text words records found lines))
 
 -- All is ready that a get gives behind its text: what it says, and the y-file where a g-file is to be made.
@@ -61,7 +61,7 @@ pub record IsReadied (words : GetWords) (n : List ℕ) (p : Prepared) (o : Outco
   pub message : effect.err ≡ p.message
   pub text_is : effect.text ≡ printed_text words text
   pub new : IfSome w.view (λ v. effect.new ≡ (if writes_g words then Some (with_g (look v n) text (stays_writable words)) else None))
-  pub given : IsGiven words n text w w2
+  pub given : IsTextGiven words n text w w2
 
 -- it is ready; or a check fails, and nothing is given; or something failed behind a prefix of the text
 abbrev pub Readies : GetWords → List ℕ → Outcome → Result Prepared StepFault → World → World → Type 0
@@ -80,12 +80,12 @@ g_placed words n v = if writes_g words then renamed (y_file n) (drop 2 n) v else
 
 -- no y-file, where one may have been made
 abbrev pub y_cleared : GetWords → List ℕ → View → View
-y_cleared words n v = if writes_g words then without (y_file n) v else v
+y_cleared words n v = if writes_g words then without_name (y_file n) v else v
 
 -- the g-file is placed, and all is said or a prefix of it; or placing it failed, and nothing is said
 abbrev pub FinishesGet : GetWords → List ℕ → Prepared → Result (Unit {0}) StepFault → World → World → Type 0
 FinishesGet words n p (Ok done) w w2 = Becomes (g_placed words n) w.view w2.view × IsReported p w w2
-FinishesGet words n p (Err WriteFault) w w2 = Becomes (g_placed words n) w.view w2.view × IsCut p w w2
+FinishesGet words n p (Err WriteFault) w w2 = Becomes (g_placed words n) w.view w2.view × IsReportCut p w w2
 FinishesGet words n p (Err DiskFault) w w2 = MayBecome (g_placed words n) w.view w2.view × (w2.out ≡ w.out) × (w2.err ≡ w.err)
 FinishesGet words n p (Err fault) w w2 = ⊥
 

@@ -16,7 +16,7 @@ use Rattle.sccs_history.specs.FlagText.{flag_j}
 use Rattle.sccs_history.specs.History.{same_sid}
 use Rattle.sccs_history.specs.declared.headers.Header.{Header}
 use Rattle.sccs_history.specs.declared.headers.Record.{Record}
-use Rattle.sccs_flags.specs.FlagValues.{has_flag, is_locked, is_within_limits}
+use Rattle.sccs_flags.specs.FlagValues.{has_flag, is_locked_release, is_within_limits}
 use Rattle.sccs_flags.specs.Logins.{is_allowed}
 use Rattle.sccs_sets.specs.Made.{to_be_made}
 use Rattle.sccs_sets.specs.Sets.{sid_at}
@@ -54,7 +54,7 @@ release_made got (Some made) = made.release
 unfoldable pub edit_releases : Header → Sid → Option Sid → Result Bool Refusal
 edit_releases header got made = do
   within ← check (is_within_limits header.flags got.release && is_within_limits header.flags (release_made got made)) refusals.OutsideRelease
-  check (not (is_locked header.flags (release_made got made))) refusals.LockedRelease
+  check (not (is_locked_release header.flags (release_made got made))) refusals.LockedRelease
 
 -- an entry got the SID
 abbrev pub is_got : List Edit → Sid → Bool

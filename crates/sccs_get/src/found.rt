@@ -12,7 +12,7 @@ ghost use Rattle.sccs_steps.specs.Actions.{RefusesWithin};
 ghost use Rattle.sccs_get.specs.AskedVersion.{asked_checks};
 ghost use Rattle.sccs_get.specs.Reports.{replaces_keywords};
 ghost use Rattle.sccs_get.specs.VersionStep.{version_facts, form_got, found_version, module_in};
-ghost use Rattle.sccs_texts.specs.Forms as forms;
+ghost use Rattle.sccs_texts.specs.Forms.{line_form};
 
 use crate::new_entries::singles;
 use crate::reports::replaces;
@@ -44,7 +44,7 @@ pub struct Found {
 impl Found {
     /// How the lines are given.
     pub fn form(&self, words: &GetWords) -> LineForm<'_>
-        ensures { forms.form_of result ≡ form_got words.now self.now }
+        ensures { line_form result ≡ form_got words.now self.now }
     {
         LineForm {
             module_name: self.module.as_ref(),

@@ -4,11 +4,11 @@ ghost use Rattle.std.specs.Option.{option_copied};
 ghost use Rattle.sccs_history.specs.Applied.{live_serials};
 ghost use Rattle.sccs_history.specs.History.{IsTable};
 ghost use Rattle.sccs_history.specs.Numbers.{has};
-ghost use Rattle.sccs_sets.specs.Naming.{Answers as AnswersList};
+ghost use Rattle.sccs_sets.specs.Naming.{AnswersSerials as AnswersList};
 ghost use Rattle.sccs_sets.specs.Retrieved.{retrieved};
 ghost use Rattle.sccs_sid.specs.declared.refusals.StepFault.TheVariants as faults;
 ghost use Rattle.sccs_steps.specs.Actions.{RefusesWithin};
-ghost use Rattle.sccs_get.specs.AskedVersion.{asked, asked_checks, listed, spec_asked};
+ghost use Rattle.sccs_get.specs.AskedVersion.{asked, asked_checks, listed_serials, spec_asked};
 ghost use Rattle.sccs_pending.specs.PFiles.{Answers};
 
 use sccs_history::{Header, Serials};
@@ -32,7 +32,7 @@ fn target(header: &Header, words: &GetWords) -> Result<u16, NoSid>
 
 // the serials of a list that may not be given
 fn listed(alloc: Global, header: &Header, list: Option<&SidList>) -> Result<Serials, SetFault>
-    ensures value { AnswersList (listed header.now.records (option_copied list.entry)) result }
+    ensures value { AnswersList (listed_serials header.now.records (option_copied list.entry)) result }
     ensures live { IfOk result
         (AllByRecursion (λ n. has (live_serials header.now.records) n ≡ true)) }
 {

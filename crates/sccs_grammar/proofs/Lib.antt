@@ -1,5 +1,6 @@
 mod Rows
 mod Samples
+pub mod AnySumLaws
 pub mod CanonicalLaws
 pub mod EntryLaws
 pub mod FaultLaws

@@ -15,7 +15,7 @@ use Rattle.sccs_history.specs.declared.headers.Record.{Record}
 use Rattle.sccs_history.specs.declared.headers.Item.{Item}
 use Rattle.sccs_history.specs.declared.headers.Item.TheVariants as item
 use Rattle.sccs_sid.specs.Words.{ends_blank, skip_blanks, drop_blanks, words, three}
-use Rattle.sccs_tokens.specs.Tokens.{serial, predecessor, delta_of, counts, serials, listed, serial_field, control, token}
+use Rattle.sccs_tokens.specs.Tokens.{serial, predecessor, delta_of, count_token, serials, listed, serial_field, control, token}
 use Rattle.sccs_grammar.specs.Front.{ParsedFront, dangling_predecessor, line_after, front_from}
 use Rattle.sccs_tokens.specs.Items.{item_at, items_from}
 use Rattle.sccs_grammar.specs.File.{Parsed, stored, opened, checked_front, front_of, file_of}
@@ -55,7 +55,7 @@ record Whole : Type 0 where
   branched : items_with 13003 branched ≡ Ok (item.Insert 1 ∷ item.Text (codes "a") ∷ item.Delete 2 ∷ item.Text (codes "b") ∷ item.End 2 ∷ item.Insert 2 ∷ item.Text (codes "B") ∷ item.End 2 ∷ item.Insert 3 ∷ item.Text (codes "c") ∷ item.End 3 ∷ item.End 1 ∷ [])
 
 whole : Whole
-unfolding days_from_civil day_count days_of_years days_of_months cut is_login digits_after number_at byte_at numbers_after sid_of ends_blank skip skip_blanks drop_blanks words pieces spec_of number three until behind date_of time_of moment_of serial predecessor delta_of counts serials listed serial_field control token dangling_predecessor line_after front_from item_at items_from stored opened checked_front front_of file_of
+unfolding days_from_civil day_count days_of_years days_of_months cut is_login digits_after number_at byte_at numbers_after sid_of ends_blank skip skip_blanks drop_blanks words pieces spec_of number three until behind date_of time_of moment_of serial predecessor delta_of count_token serials listed serial_field control token dangling_predecessor line_after front_from item_at items_from stored opened checked_front front_of file_of
 whole = record { empty_delta = refl; two_lines = refl; second_delta = refl; branched = refl }
 
 -- Damaged files, and the answer of each.
@@ -79,7 +79,7 @@ record Damaged : Type 0 where
   empty : items_in (file_of []) ≡ Err NotSccs
 
 damaged : Damaged
-unfolding days_from_civil day_count days_of_years days_of_months cut is_login digits_after number_at byte_at numbers_after sid_of ends_blank skip skip_blanks drop_blanks words pieces spec_of number three until behind date_of time_of moment_of serial predecessor delta_of counts serials listed serial_field control token dangling_predecessor line_after front_from item_at items_from stored opened checked_front front_of file_of
+unfolding days_from_civil day_count days_of_years days_of_months cut is_login digits_after number_at byte_at numbers_after sid_of ends_blank skip skip_blanks drop_blanks words pieces spec_of number three until behind date_of time_of moment_of serial predecessor delta_of count_token serials listed serial_field control token dangling_predecessor line_after front_from item_at items_from stored opened checked_front front_of file_of
 damaged = record { own_predecessor = refl; no_such_day = refl; users_without_end = refl; flag_twice = refl; encoded = refl; text_outside = refl; no_such_serial = refl; end_of_closed = refl; last_lf_removed = refl; plain_sum = refl; signed_sum = refl; wrong_sum = refl; one_lf = refl; sum_line_without_lf = refl; last_line_gone = refl; never_ended = refl; empty = refl }
 
 -- a delta of the samples, with one line of comments
@@ -96,7 +96,7 @@ record Headers : Type 0 where
   branched : header_in (front_of (bytes_of (sum_line 13003 ∷ branched))) ≡ Ok (record { records = row_of 3 (sid_of_four 1 1 1 1) (pos 946684799) (codes "bob") 1 ([] ∷ []) 1 0 2 ∷ row_of 2 (sid_of_four 1 2 0 0) (pos 162864000) (codes "ann") 1 (codes "two" ∷ []) 1 1 1 ∷ row_of 1 (sid_of_four 1 1 0 0) (pos 162863999) (codes "ann") 0 (codes "one" ∷ []) 2 0 0 ∷ []; users = codes "ann" ∷ codes "bob" ∷ []; flags = record { letter = 101; text = codes "0" } ∷ []; description = [] })
 
 headers : Headers
-unfolding days_from_civil day_count days_of_years days_of_months cut is_login digits_after number_at byte_at numbers_after sid_of ends_blank skip skip_blanks drop_blanks words pieces spec_of number three until behind date_of time_of moment_of serial predecessor delta_of counts serials listed serial_field control token dangling_predecessor line_after front_from item_at items_from stored opened checked_front front_of file_of
+unfolding days_from_civil day_count days_of_years days_of_months cut is_login digits_after number_at byte_at numbers_after sid_of ends_blank skip skip_blanks drop_blanks words pieces spec_of number three until behind date_of time_of moment_of serial predecessor delta_of count_token serials listed serial_field control token dangling_predecessor line_after front_from item_at items_from stored opened checked_front front_of file_of
 headers = record { two_lines = refl; branched = refl }
 
 abbrev soh : List ℕ → Option LineToken
@@ -133,7 +133,7 @@ record Lines : Type 0 where
   empty : token [] ≡ Some (Plain [])
 
 lines : Lines
-unfolding days_from_civil day_count days_of_years days_of_months cut is_login digits_after number_at byte_at numbers_after sid_of ends_blank skip skip_blanks drop_blanks words pieces spec_of number three until behind date_of time_of moment_of serial predecessor delta_of counts serials listed serial_field control token dangling_predecessor line_after front_from item_at items_from stored opened checked_front front_of file_of
+unfolding days_from_civil day_count days_of_years days_of_months cut is_login digits_after number_at byte_at numbers_after sid_of ends_blank skip skip_blanks drop_blanks words pieces spec_of number three until behind date_of time_of moment_of serial predecessor delta_of count_token serials listed serial_field control token dangling_predecessor line_after front_from item_at items_from stored opened checked_front front_of file_of
 lines = record { short_counts = refl; blank_behind_counts = refl; tab_before_counts = refl; loose_delta = refl; last_second = refl; serial_past = refl; serial_zero = refl; six_digits = refl; eight_words = refl; list = refl; list_of_none = refl; bare_list = refl; zero_before = refl; blank_behind_list = refl; list_without_blank = refl; empty_mr = refl; bare_mr = refl; mr_without_blank = refl; comment = refl; loose_flag = refl; flag_without_blank = refl; insert = refl; blank_behind_insert = refl; end_of_none = refl; unknown = refl; plain = refl; empty = refl }
 
 -- ListKind texts a flag may have.
@@ -154,5 +154,5 @@ record FlagTexts : Type 0 where
   other : fits_letter 109 [] ≡ true
 
 flag_texts : FlagTexts
-unfolding days_from_civil day_count days_of_years days_of_months cut is_login digits_after number_at byte_at numbers_after sid_of ends_blank skip skip_blanks drop_blanks words pieces spec_of number three until behind date_of time_of moment_of serial predecessor delta_of counts serials listed serial_field control token dangling_predecessor line_after front_from item_at items_from stored opened checked_front front_of file_of
+unfolding days_from_civil day_count days_of_years days_of_months cut is_login digits_after number_at byte_at numbers_after sid_of ends_blank skip skip_blanks drop_blanks words pieces spec_of number three until behind date_of time_of moment_of serial predecessor delta_of count_token serials listed serial_field control token dangling_predecessor line_after front_from item_at items_from stored opened checked_front front_of file_of
 flag_texts = record { floor = refl; bare_floor = refl; long_ceiling = refl; default_branch = refl; default_release = refl; bare_default = refl; zero_default = refl; all_locked = refl; locked = refl; nothing_locked = refl; two_commas = refl; comma_and_blank = refl; release_zero = refl; other = refl }

@@ -16,7 +16,7 @@ use Rattle.sccs_history.specs.Numbers.{is_empty}
 use Rattle.sccs_history.specs.History.{AreLines, HasSpelling, IsSpelled}
 use Rattle.sccs_history.specs.declared.headers.Record.{Record}
 use Rattle.sccs_history.specs.declared.headers.Flag.{Flag}
-use Rattle.sccs_tokens.specs.Tokens.{serial, predecessor, is_removed, delta_of, delta, counts, listed, text, flag, behind_soh, token}
+use Rattle.sccs_tokens.specs.Tokens.{serial, predecessor, is_removed, delta_of, delta_token, count_token, listed, text, flag, behind_soh, token}
 use Rattle.sccs_grammar.specs.Front.{ParsedFront, header_of, start, if_fits, in_texts, in_lists, ends_table, at_entry, at_delta, in_users, in_flags, in_description, after, accepted, line_after, front_from}
 use Rattle.sccs_grammar.specs.declared.header_parsers.Entry.{Entry}
 use Rattle.sccs_grammar.specs.declared.header_parsers.ListsSeen.{ListsSeen}
@@ -61,12 +61,12 @@ delta_of_spells kind sid date time login own before =
     then_any Spells (serial own) _ λ n.
     then_any Spells (predecessor before) _ λ p. (is_sid, is_moment, is_who, tt, tt)
 
-delta_spells : (ws : List (List ℕ)) → IfSome (delta ws) Spells
+delta_spells : (ws : List (List ℕ)) → IfSome (delta_token ws) Spells
 delta_spells (kind ∷ sid ∷ date ∷ time ∷ login ∷ own ∷ before ∷ []) = delta_of_spells kind sid date time login own before
 delta_spells _ = tt
 
-counts_spell : (ws : List (List ℕ)) → IfSome (counts ws) Spells
-unfolding counts
+counts_spell : (ws : List (List ℕ)) → IfSome (count_token ws) Spells
+unfolding count_token
 counts_spell ws = then_any Spells (one ws) _ λ word. then_any Spells (three 5 47 word) _ λ n. tt
 
 list_spells : (which : ListKind) (o : Option (List ℕ)) → IfSome (option_map (Listed which) o) Spells

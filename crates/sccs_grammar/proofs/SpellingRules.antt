@@ -6,7 +6,7 @@ use Rattle.std.specs.Result.{IfOk}
 use Rattle.std.proofs.lemmas.Bool.{and_parts, cases_Bool, leb-true, ltb-true, ltb-false}
 use Rattle.jiff_core.specs.Calendar.{days_in_month}
 use Rattle.sccs_sid.specs.Reading.{◌>>=◌, until, behind, digits_after, number_at, byte_at, number}
-use Rattle.sccs_sid.specs.Sid.{IsSid, ended, numbers_after, numbers, sid_of_numbers, sid_by, sid_of}
+use Rattle.sccs_sid.specs.Sid.{IsSid, ended_sid, numbers_after, numbers, sid_of_numbers, sid_by, sid_of}
 use Rattle.sccs_sid.specs.Moment.{IsMoment, full_year, within, unit, date_of, time_of, moment_of}
 use Rattle.sccs_sid.proofs.Hundred.{second_in}
 use Rattle.sccs_grammar.proofs.ParserRules.{all_push}
@@ -41,7 +41,7 @@ dot_low : (test : Bool) (bytes : List ℕ) (left : ℕ) (more : List ℕ → Res
 dot_low true bytes left more h = h bytes
 dot_low false bytes left more h = tt
 
-ended_low : (more : List ℕ → List ℕ → Result (List ℕ) ℕ) (found bytes : List ℕ) → AreLow found → ((rest : List ℕ) → IfOk (more found rest) AreLow) → IfOk (ended more found bytes) AreLow
+ended_low : (more : List ℕ → List ℕ → Result (List ℕ) ℕ) (found bytes : List ℕ) → AreLow found → ((rest : List ℕ) → IfOk (more found rest) AreLow) → IfOk (ended_sid more found bytes) AreLow
 unfolding byte_at
 ended_low more found [] are h = are
 ended_low more found (b ∷ bytes) are h = dot_low (b == 46) bytes _ (more found) h

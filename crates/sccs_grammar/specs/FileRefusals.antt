@@ -10,9 +10,9 @@ use Rattle.sccs_grammar.specs.declared.header_parsers.FrontFault.{FrontFault}
 use Rattle.sccs_grammar.specs.declared.header_parsers.FrontFault.TheVariants as fronts
 
 -- the fault of a file whose header isn't read on
-abbrev pub line_fault : FrontFault → FileFault
-line_fault (fronts.Format line) = faults.BadFormat line
-line_fault fronts.Memory = faults.Memory
+abbrev pub unread_front : FrontFault → FileFault
+unread_front (fronts.Format line) = faults.BadFormat line
+unread_front fronts.Memory = faults.Memory
 
 -- the refusal for a file that isn't read; a disk that failed and want of memory are none
 abbrev pub refusal_of : FileFault → Option Refusal

@@ -1,3 +1,4 @@
+pub mod AnySum
 pub mod Entries
 pub mod File
 pub mod FileRefusals

@@ -1,5 +1,5 @@
 ghost use Rattle.std.specs.Prelude.{◌≡◌};
-ghost use Rattle.sccs_grammar.specs.FileRefusals.{line_fault};
+ghost use Rattle.sccs_grammar.specs.FileRefusals.{unread_front};
 ghost use Rattle.sccs_grammar.specs.declared.faults.FileFault.TheVariants as faults;
 
 use crate::header_parsers::FrontFault;
@@ -45,7 +45,7 @@ impl From<Memory> for FileFault {
 }
 
 impl From<FrontFault> for FileFault {
-    ghost from_gives = { λ fault ended. ended ≡ line_fault fault };
+    ghost from_gives = { λ fault ended. ended ≡ unread_front fault };
 
     fn from(fault: FrontFault) -> FileFault {
         match fault {

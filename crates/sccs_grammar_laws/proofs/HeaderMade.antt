@@ -22,7 +22,7 @@ use Rattle.sccs_tokens.specs.declared.line_tokens.ListKind.{ListKind}
 use Rattle.sccs_tokens.specs.declared.line_tokens.ListKind.TheVariants.{Included, Excluded, Ignored}
 use Rattle.sccs_grammar.proofs.EntryLaws.{AreOwn, all_own, each_differs, follows_by, least-push, none_lost, own_push, share-nil, share_flip, smaller_below}
 use Rattle.sccs_grammar.proofs.SectionLaws.{AreNew, all_new, still_new}
-use Rattle.sccs_grammar_laws.specs.HeaderLines.{AreHeaderLines, BeginWithHeader, EntryText, MrText, CommentText, EntryLines, IsEntry, list_of, same_list, mrs_in, comments_in, list_says, text_says, entry_says, users_say, description_says, header_says}
+use Rattle.sccs_grammar_laws.specs.HeaderLines.{AreHeaderLines, BeginWithHeader, EntryText, MrText, CommentText, EntryLines, IsEntry, serials_listed, same_list, mrs_in, comments_in, list_says, text_says, entry_says, users_say, description_says, header_says}
 use Rattle.sccs_grammar_laws.proofs.MoreRead.{more, no_texts, push_more, regroup, text_row}
 use Rattle.sccs_grammar_laws.proofs.TokenLists.{completes, run}
 
@@ -171,7 +171,7 @@ rowed r include exclude ignore mrs comments = record r { include = include; excl
 
 same_row : (e : EntryLines) (last : List ListKind) → IsEntry e → ((w : ListKind) → stands last w ≡ (stands e.lists w || false)) → text_row (row_with e.row last) e.texts ≡ e.row
 same_row e last is same =
-    let kept : (w : ListKind) → cond (stands last w) (list_of e.row w) [] ≡ list_of e.row w = λ w. list_kept (stands last w) (list_of e.row w) (λ gone. is.others w (sym (same w ∙ or_none (stands e.lists w)) ∙ gone)) in
+    let kept : (w : ListKind) → cond (stands last w) (serials_listed e.row w) [] ≡ serials_listed e.row w = λ w. list_kept (stands last w) (serials_listed e.row w) (λ gone. is.others w (sym (same w ∙ or_none (stands e.lists w)) ∙ gone)) in
     let r : Record = e.row in
     ap (λ (ns : List ℕ). rowed r ns (cond (stands last Excluded) r.exclude []) (cond (stands last Ignored) r.ignore []) (mrs_in e.texts) (comments_in e.texts)) (kept Included)
     ∙ (ap (λ (ns : List ℕ). rowed r r.include ns (cond (stands last Ignored) r.ignore []) (mrs_in e.texts) (comments_in e.texts)) (kept Excluded)

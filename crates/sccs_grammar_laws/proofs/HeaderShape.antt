@@ -24,7 +24,7 @@ use Rattle.sccs_tokens.specs.declared.line_tokens.LineToken.{LineToken}
 use Rattle.sccs_tokens.specs.declared.line_tokens.LineToken.TheVariants.{Counts, Delta, Listed, Mr, Comment, EndEntry, Users, EndUsers, FlagIs, Description, EndDescription, Plain}
 use Rattle.sccs_tokens.specs.declared.line_tokens.ListKind.{ListKind}
 use Rattle.sccs_tokens.specs.declared.line_tokens.ListKind.TheVariants.{Included, Excluded, Ignored}
-use Rattle.sccs_grammar_laws.specs.HeaderLines.{BeginWithHeader, EntryText, MrText, CommentText, EntryLines, IsEntry, list_of, same_list, mrs_in, comments_in, list_says, text_says, entry_says, users_say, description_says, header_says}
+use Rattle.sccs_grammar_laws.specs.HeaderLines.{BeginWithHeader, EntryText, MrText, CommentText, EntryLines, IsEntry, serials_listed, same_list, mrs_in, comments_in, list_says, text_says, entry_says, users_say, description_says, header_says}
 use Rattle.sccs_grammar_laws.proofs.MoreRead.{more, no_texts, push_more, regroup, text_row}
 use Rattle.sccs_grammar_laws.proofs.TokenLists.{Found, found as found_sayings, run, same_first}
 
@@ -84,7 +84,7 @@ record ListsShape (parts : PartialHeader) (e : Entry) (seen : ListsSeen) (ss : L
   rest : List LineToken
   once : IsDistinct same_list lists
   free : (which : ListKind) → stood_has seen which ≡ true → list_any (same_list which) lists ≡ false
-  others : (which : ListKind) → list_any (same_list which) lists ≡ false → list_of row which ≡ list_of e.row which
+  others : (which : ListKind) → list_any (same_list which) lists ≡ false → serials_listed row which ≡ serials_listed e.row which
   same : without_lists row ≡ without_lists (text_row e.row texts)
   say : ss ≡ map (list_says row) lists ++ (map text_says texts ++ (EndEntry ∷ rest))
   table : TableShape (more parts e.line row) rest h
@@ -228,7 +228,7 @@ texts_line n parts e EndEntry q ss h is shape =
     }
 texts_line n parts e _ q ss h is shape = no_error n q is
 
-same_lists : (r : Record) (texts : List EntryText) (which : ListKind) → list_of (text_row r texts) which ≡ list_of r which
+same_lists : (r : Record) (texts : List EntryText) (which : ListKind) → serials_listed (text_row r texts) which ≡ serials_listed r which
 same_lists r texts Included = refl
 same_lists r texts Excluded = refl
 same_lists r texts Ignored = refl
@@ -273,12 +273,12 @@ list_read Ignored ns n parts e seen q is =
     let fits = fits_ok (not seen.ignored && all_below e.row.serial ns) n _ q is in
     (not-true seen.ignored (and_parts (not seen.ignored) (all_below e.row.serial ns) fits.0).0, fits.1)
 
-set_same : (e : Entry) (which : ListKind) (ns : List ℕ) → list_of (set_list e which ns).row which ≡ ns
+set_same : (e : Entry) (which : ListKind) (ns : List ℕ) → serials_listed (set_list e which ns).row which ≡ ns
 set_same e Included ns = refl
 set_same e Excluded ns = refl
 set_same e Ignored ns = refl
 
-set_other : (e : Entry) (w which : ListKind) (ns : List ℕ) → same_list w which ≡ false → list_of (set_list e which ns).row w ≡ list_of e.row w
+set_other : (e : Entry) (w which : ListKind) (ns : List ℕ) → same_list w which ≡ false → serials_listed (set_list e which ns).row w ≡ serials_listed e.row w
 set_other e Included Included ns other = absurd cc
 set_other e Included Excluded ns other = refl
 set_other e Included Ignored ns other = refl
@@ -345,7 +345,7 @@ list_line n parts e seen which ns q ss h is shape =
     let read = list_read which ns n parts e seen q is in
     let later : ListsShape parts (set_list e which ns) (seen_with seen which) ss h = at_read q (parser_at (InLists (set_list e which ns) (seen_with seen which)) parts) ss h read.1 shape in
     let none : list_any (same_list which) later.lists ≡ false = later.free which (stands_now seen which) in
-    let numbers : list_of later.row which ≡ ns = later.others which none ∙ set_same e which ns in
+    let numbers : serials_listed later.row which ≡ ns = later.others which none ∙ set_same e which ns in
     record {
       row = later.row;
       lists = which ∷ later.lists;
@@ -366,12 +366,12 @@ lists_line : (n : ℕ) (parts : PartialHeader) (e : Entry) (seen : ListsSeen) (s
 lists_line n parts e seen (Listed which ns) q ss h is shape = list_line n parts e seen which ns q ss h is shape
 lists_line n parts e seen s q ss h is shape = no_lists parts e seen (s ∷ ss) h (texts_line n parts e s q ss h is shape)
 
-bare_list : (r : Record) (which : ListKind) → delta_part r ≡ r → list_of r which ≡ []
+bare_list : (r : Record) (which : ListKind) → delta_part r ≡ r → serials_listed r which ≡ []
 bare_list r Included bare = sym (ap (λ (x : Record). x.include) bare)
 bare_list r Excluded bare = sym (ap (λ (x : Record). x.exclude) bare)
 bare_list r Ignored bare = sym (ap (λ (x : Record). x.ignore) bare)
 
-counted_list : (n i d u : ℕ) (r : Record) (which : ListKind) → list_of (entry n i d u r).row which ≡ list_of r which
+counted_list : (n i d u : ℕ) (r : Record) (which : ListKind) → serials_listed (entry n i d u r).row which ≡ serials_listed r which
 counted_list n i d u r Included = refl
 counted_list n i d u r Excluded = refl
 counted_list n i d u r Ignored = refl

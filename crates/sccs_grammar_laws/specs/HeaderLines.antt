@@ -26,10 +26,10 @@ pub record EntryLines : Type 0 where
   pub lists : List ListKind
   pub texts : List EntryText
 
-abbrev pub list_of : Record → ListKind → List ℕ
-list_of r Included = r.include
-list_of r Excluded = r.exclude
-list_of r Ignored = r.ignore
+abbrev pub serials_listed : Record → ListKind → List ℕ
+serials_listed r Included = r.include
+serials_listed r Excluded = r.exclude
+serials_listed r Ignored = r.ignore
 
 abbrev pub same_list : ListKind → ListKind → Bool
 same_list Included Included = true
@@ -50,14 +50,14 @@ comments_in (CommentText t ∷ texts) = t ∷ comments_in texts
 -- No list stands twice, one that doesn't stand is empty, and the MRs and comments are those of the record.
 pub record IsEntry (e : EntryLines) : Type 0 where
   pub once : IsDistinct same_list e.lists
-  pub others : (which : ListKind) → list_any (same_list which) e.lists ≡ false → list_of e.row which ≡ []
+  pub others : (which : ListKind) → list_any (same_list which) e.lists ≡ false → serials_listed e.row which ≡ []
   pub mrs : mrs_in e.texts ≡ e.row.mrs
   pub comments : comments_in e.texts ≡ e.row.comments
 
 -- ---- what the lines say
 
 abbrev pub list_says : Record → ListKind → LineToken
-list_says r which = Listed which (list_of r which)
+list_says r which = Listed which (serials_listed r which)
 
 abbrev pub text_says : EntryText → LineToken
 text_says (MrText t) = Mr t

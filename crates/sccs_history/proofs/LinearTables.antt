@@ -6,7 +6,7 @@ use Rattle.sccs_history.specs.Numbers.{is_empty, front_if, falling, has, share}
 use Rattle.sccs_history.specs.Body.{Mark, Closed, ByInsert, is_delete, mark, above, inserter, lines_behind, lines_of, GoesOn, IsLine, HistoryLine}
 use Rattle.sccs_history.specs.Select.{shows, select}
 use Rattle.sccs_history.specs.Applied.{path, listed, named, says, applied_below, applied, version_of, version, serials_of, live_serials, newest}
-use Rattle.sccs_history.specs.Linear.{IsPlain, IsLinear, undeleted, has_no_delete, texts_of}
+use Rattle.sccs_history.specs.Linear.{IsPlainRecord, IsLinear, undeleted, has_no_delete, texts_of}
 use Rattle.sccs_history.specs.declared.headers.Record.{Record}
 use Rattle.sccs_history.specs.declared.headers.Item.{Item}
 use Rattle.sccs_history.specs.declared.headers.Item.TheVariants.{Text, Insert, Delete, End}
@@ -23,19 +23,19 @@ listed_none : (include exclude : List ℕ) (n : ℕ) (o : Option Bool) → inclu
 listed_none include exclude n o none none2 = ap (λ i. listed i exclude n o) none ∙ ap (λ x. listed [] x n o) none2
 
 -- plain records name no serial
-named_none : (rs : List Record) (n : ℕ) → AllByRecursion IsPlain rs → named rs n ≡ None
+named_none : (rs : List Record) (n : ℕ) → AllByRecursion IsPlainRecord rs → named rs n ≡ None
 named_none [] n plain = refl
 named_none (r ∷ rs) n plain = listed_none r.include r.exclude n (named rs n) plain.0.include plain.0.exclude ∙ named_none rs n plain.1
 
-plain_more : (rs : List Record) (r : Record) → AllByRecursion IsPlain rs → IsPlain r → AllByRecursion IsPlain (rs ++ r ∷ [])
+plain_more : (rs : List Record) (r : Record) → AllByRecursion IsPlainRecord rs → IsPlainRecord r → AllByRecursion IsPlainRecord (rs ++ r ∷ [])
 plain_more [] r plain here = (here, tt)
 plain_more (a ∷ rs) r plain here = (plain.0, plain_more rs r plain.1 here)
 
-says_plain : (n : ℕ) (way : List ℕ) (above : List Record) (r : Record) → AllByRecursion IsPlain above → IsPlain r → has way r.serial ≡ true → says (version_of n) way above r ≡ true
+says_plain : (n : ℕ) (way : List ℕ) (above : List Record) (r : Record) → AllByRecursion IsPlainRecord above → IsPlainRecord r → has way r.serial ≡ true → says (version_of n) way above r ≡ true
 says_plain n way above r plain here there =
     ap (λ b. not b && unwrap_or (named above r.serial) (has way r.serial)) here.live ∙ (ap (λ o. unwrap_or o (has way r.serial)) (named_none above r.serial plain) ∙ there)
 
-applied_plain : (n : ℕ) (way : List ℕ) (above rs : List Record) → AllByRecursion IsPlain above → AllByRecursion (λ r. IsPlain r × (has way r.serial ≡ true)) rs
+applied_plain : (n : ℕ) (way : List ℕ) (above rs : List Record) → AllByRecursion IsPlainRecord above → AllByRecursion (λ r. IsPlainRecord r × (has way r.serial ≡ true)) rs
     → applied_below (version_of n) way above rs ≡ serials_of rs
 applied_plain n way above [] plain each = refl
 applied_plain n way above (r ∷ rs) plain each =
@@ -43,7 +43,7 @@ applied_plain n way above (r ∷ rs) plain each =
     ∙ ap (λ l. r.serial ∷ l) (applied_plain n way (above ++ r ∷ []) rs (plain_more above r plain each.0.0) each.1)
 
 -- each record of a linear table is plain, and its serial is among those of any list that has them all
-linear_each : (rs : List Record) (way : List ℕ) → IsLinear rs → ((m : ℕ) → has (serials_of rs) m ≡ true → has way m ≡ true) → AllByRecursion (λ r. IsPlain r × (has way r.serial ≡ true)) rs
+linear_each : (rs : List Record) (way : List ℕ) → IsLinear rs → ((m : ℕ) → has (serials_of rs) m ≡ true → has way m ≡ true) → AllByRecursion (λ r. IsPlainRecord r × (has way r.serial ≡ true)) rs
 linear_each [] way linear all = tt
 linear_each (r ∷ rs) way linear all = (
   (linear.0, all r.serial (or_left (r.serial == r.serial) (has (serials_of rs) r.serial) (eq-eqb r.serial r.serial refl))),

@@ -8,7 +8,7 @@ use Rattle.sccs_history.specs.declared.headers.Item.{Item}
 use Rattle.sccs_history.specs.declared.headers.Item.TheVariants.{Text, Insert, Delete, End}
 
 -- a live record that takes in and leaves out nothing
-pub record IsPlain (r : Record) : Type 0 where
+pub record IsPlainRecord (r : Record) : Type 0 where
   pub live : r.removed ≡ false
   pub include : r.include ≡ []
   pub exclude : r.exclude ≡ []
@@ -16,7 +16,7 @@ pub record IsPlain (r : Record) : Type 0 where
 -- each record is plain, and its predecessor is the next one, 0 for the last
 abbrev pub IsLinear : List Record → Type 0
 IsLinear [] = Unit {0}
-IsLinear (r ∷ rs) = IsPlain r × ((r.predecessor ≡ newest rs) × IsLinear rs)
+IsLinear (r ∷ rs) = IsPlainRecord r × ((r.predecessor ≡ newest rs) × IsLinear rs)
 
 -- the texts of the lines that no delta deleted
 abbrev pub undeleted : List HistoryLine → List (List ℕ)

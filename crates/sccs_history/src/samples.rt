@@ -5,20 +5,20 @@ ghost use Rattle.sccs_history.specs.Body.{Begins, GoesOn, lines_of};
 ghost use Rattle.sccs_history.specs.FlagText.{fits_letter};
 ghost use Rattle.sccs_history.specs.History.{IsValid, IsRooted};
 ghost use Rattle.sccs_history.specs.Removal.{dropped, dropped_lines};
-ghost use Rattle.sccs_history.specs.Samples.{asked, branched, branched_body, branched_table, crossing_body, first_body, listing_table, one, second_body, shown};
+ghost use Rattle.sccs_history.specs.Samples.{sample_asked, branched, branched_body, branched_table, crossing_body, first_body, listing_table, text_of_one, second_body, shown_when_asked};
 ghost use Rattle.sccs_history.specs.Select.{select};
 
 /// Versions of a file with a branch, lists of a call, and a cutoff at a delta's very second.
 pub fn branch_lists_and_cutoff()
-    ensures first { version 1 branched_table (lines_of branched_body) ≡ one 97 ∷ one 98 ∷ [] }
-    ensures second { version 2 branched_table (lines_of branched_body) ≡ one 97 ∷ one 66 ∷ [] }
-    ensures branch { version 3 branched_table (lines_of branched_body) ≡ one 97 ∷ one 98 ∷ one 99 ∷ [] }
-    ensures included { shown (asked 2 (3 ∷ []) [] None) branched_table branched_body
-        ≡ one 97 ∷ one 66 ∷ one 99 ∷ [] }
-    ensures excluded { shown (asked 2 [] (2 ∷ []) None) branched_table branched_body
-        ≡ one 97 ∷ one 98 ∷ [] }
-    ensures cutoff { shown (asked 2 [] [] (Some (pos 162863999))) branched_table branched_body
-        ≡ one 97 ∷ one 98 ∷ [] }
+    ensures first { version 1 branched_table (lines_of branched_body) ≡ text_of_one 97 ∷ text_of_one 98 ∷ [] }
+    ensures second { version 2 branched_table (lines_of branched_body) ≡ text_of_one 97 ∷ text_of_one 66 ∷ [] }
+    ensures branch { version 3 branched_table (lines_of branched_body) ≡ text_of_one 97 ∷ text_of_one 98 ∷ text_of_one 99 ∷ [] }
+    ensures included { shown_when_asked (sample_asked 2 (3 ∷ []) [] None) branched_table branched_body
+        ≡ text_of_one 97 ∷ text_of_one 66 ∷ text_of_one 99 ∷ [] }
+    ensures excluded { shown_when_asked (sample_asked 2 [] (2 ∷ []) None) branched_table branched_body
+        ≡ text_of_one 97 ∷ text_of_one 98 ∷ [] }
+    ensures cutoff { shown_when_asked (sample_asked 2 [] [] (Some (pos 162863999))) branched_table branched_body
+        ≡ text_of_one 97 ∷ text_of_one 98 ∷ [] }
     ensures rooted { IsRooted branched }
     ensures whole { GoesOn (live_serials branched_table) [] branched_body }
 {}
@@ -32,18 +32,18 @@ pub fn branched_is_valid()
 /// The list of a newer applied delta decides over an older one's, and an included delta brings its
 /// lists and not its ancestors.
 pub fn newer_list_decides()
-    ensures older { applied (asked 4 (3 ∷ []) [] None) (listing_table []) ≡ 4 ∷ 3 ∷ 1 ∷ [] }
-    ensures newer { applied (asked 4 (3 ∷ []) [] None) (listing_table (2 ∷ [])) ≡ 4 ∷ 3 ∷ 2 ∷ 1 ∷ [] }
+    ensures older { applied (sample_asked 4 (3 ∷ []) [] None) (listing_table []) ≡ 4 ∷ 3 ∷ 1 ∷ [] }
+    ensures newer { applied (sample_asked 4 (3 ∷ []) [] None) (listing_table (2 ∷ [])) ≡ 4 ∷ 3 ∷ 2 ∷ 1 ∷ [] }
 {}
 
 /// Regions that cross, to four sets.
 pub fn crossing_regions()
-    ensures first { select (1 ∷ []) (lines_of crossing_body) ≡ one 112 ∷ one 113 ∷ one 116 ∷ [] }
-    ensures deleted { select (3 ∷ 1 ∷ []) (lines_of crossing_body) ≡ one 112 ∷ one 116 ∷ [] }
+    ensures first { select (1 ∷ []) (lines_of crossing_body) ≡ text_of_one 112 ∷ text_of_one 113 ∷ text_of_one 116 ∷ [] }
+    ensures deleted { select (3 ∷ 1 ∷ []) (lines_of crossing_body) ≡ text_of_one 112 ∷ text_of_one 116 ∷ [] }
     ensures inserted { select (5 ∷ 1 ∷ []) (lines_of crossing_body)
-        ≡ one 112 ∷ one 113 ∷ one 114 ∷ one 115 ∷ one 116 ∷ [] }
+        ≡ text_of_one 112 ∷ text_of_one 113 ∷ text_of_one 114 ∷ text_of_one 115 ∷ text_of_one 116 ∷ [] }
     ensures both { select (5 ∷ 3 ∷ 1 ∷ []) (lines_of crossing_body)
-        ≡ one 112 ∷ one 114 ∷ one 115 ∷ one 116 ∷ [] }
+        ≡ text_of_one 112 ∷ text_of_one 114 ∷ text_of_one 115 ∷ text_of_one 116 ∷ [] }
     ensures whole { GoesOn (5 ∷ 3 ∷ 1 ∷ []) [] crossing_body }
 {}
 

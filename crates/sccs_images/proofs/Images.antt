@@ -3,8 +3,8 @@ use Rattle.std.proofs.Common.{◌≡◌, ℕ, zero, suc, ◌<◌, ◌⊎◌, Boo
 use Rattle.std.specs.Str.{bytes_eq}
 use Rattle.sccs_base.proofs.SameBytes.{same_bytes}
 use Rattle.sccs_disk.specs.Effects.{change, changed, created, pended, settled, loose, empty_file}
-use Rattle.sccs_disk.specs.Files.{Content, File, View, Names, Op, Model, names, names_at, after, file_at, put, view_of, IsSane}
-use Rattle.sccs_disk.specs.Images.{Image, Full, Fits, IsOwn, file_of}
+use Rattle.sccs_disk.specs.Files.{Content, File, View, Names, Op, Model, names, names_at, names_after, file_at, put, view_of, IsSane}
+use Rattle.sccs_disk.specs.Images.{Image, Full, Fits, IsOwn, file_under}
 use Rattle.sccs_disk.proofs.Models.{names_all, names_at_pended, names_at_created, names_created, names_pended, change_length, get_front, get_kept}
 use Rattle.sccs_disk.proofs.Puts.{same_name, put_other}
 use Rattle.sccs_images.specs.Touches.{IsBut}
@@ -23,7 +23,7 @@ fits_itself (Some f) = fits_as f.firm f.content
 
 -- the view is one of the images
 pub view_full : (m : Model) → Full m (view_of m)
-view_full m n = fits_itself (file_of m n)
+view_full m n = fits_itself (file_under m n)
 
 pub full_image : (m : Model) (w : View) → Full m w → Image m w
 full_image m w full = (length m.pending, λ n. subst (λ (t : Names). Fits (file_at m.files (t n)) (w n)) (sym (names_all m)) (full n))
@@ -88,17 +88,17 @@ but_changed n g m = record {
     others files (Some q) p apart = get_kept files q p g (λ e. apart (ap (λ r. Some r) e))
 
 but_names_at : (n : List ℕ) (m m2 : Model) → IsBut n m m2 → (j : ℕ) → names_at m2 j ≡ names_at m j
-but_names_at n m m2 but j = ap (λ ops. after (take j ops) m2.base) but.pending ∙ ap (after (take j m.pending)) but.base
+but_names_at n m m2 but j = ap (λ ops. names_after (take j ops) m2.base) but.pending ∙ ap (names_after (take j m.pending)) but.base
 
 but_file : (n : List ℕ) (m m2 : Model) → IsBut n m m2 → (t : Option ℕ) → ((p : ℕ) → names m n ≡ Some p → t ≡ Some p → ⊥) → file_at m2.files t ≡ file_at m.files t
 but_file n m m2 but None apart = refl
 but_file n m m2 but (Some q) apart = but.others q (λ here. apart q here refl)
 
 but_names : (n : List ℕ) (m m2 : Model) → IsBut n m m2 → names m2 ≡ names m
-but_names n m m2 but = ap (λ ops. after ops m2.base) but.pending ∙ ap (after m.pending) but.base
+but_names n m m2 but = ap (λ ops. names_after ops m2.base) but.pending ∙ ap (names_after m.pending) but.base
 
 -- the file under another name is as it was
-pub but_other : (n k : List ℕ) (m m2 : Model) → IsSane m → IsBut n m m2 → bytes_eq n k ≡ false → file_of m2 k ≡ file_of m k
+pub but_other : (n k : List ℕ) (m m2 : Model) → IsSane m → IsBut n m m2 → bytes_eq n k ≡ false → file_under m2 k ≡ file_under m k
 but_other n k m m2 sane but apart =
     ap (λ (t : Names). file_at m2.files (t k)) (but_names n m m2 but) ∙ but_file n m m2 but (names m k) (λ p here there. differ n k apart (sane.apart k n p there here))
 

@@ -4,7 +4,7 @@ use Rattle.std.specs.Prelude.{IfSome, is_some}
 use Rattle.std.specs.Str.{bytes_eq}
 use Rattle.sccs_disk.specs.Effects.{change, changed, created, pended, settled, firm, synced}
 use Rattle.sccs_disk.specs.Files.{Content, File, View, Names, Rename, Remove, Model, names, names_at, file_at, put, view_of, IsSane}
-use Rattle.sccs_disk.specs.Images.{Full, Fits, IsOwn, IsFirm, file_of}
+use Rattle.sccs_disk.specs.Images.{Full, Fits, IsOwn, IsFirm, file_under}
 use Rattle.sccs_disk.proofs.Models.{names_all, names_at_pended, names_at_created, names_created, names_pended, get_changed}
 use Rattle.sccs_disk.proofs.Puts.{name_cases, put_same, put_other}
 
@@ -80,7 +80,7 @@ firm_fits None w is fits = fits
 firm_fits (Some f) w is fits = subst (λ b. cond b (w ≡ Some f.content) (is_some w ≡ true)) is fits
 
 pub firm_stays : (n : List ℕ) (m : Model) (w : View) → IsFirm n m → Full m w → w n ≡ view_of m n
-firm_stays n m w firm full = firm_fits (file_of m n) (w n) firm (full n)
+firm_stays n m w firm full = firm_fits (file_under m n) (w n) firm (full n)
 
 here_file : (files : List File) (g : File → File) (t : Option ℕ) → file_at (change files t g) t ≡ option_map g (file_at files t)
 here_file files g None = refl
@@ -92,7 +92,7 @@ all_firm (Some f) = refl
 
 -- a file that was synced is firm
 pub firm_synced : (n : List ℕ) (m : Model) → IsFirm n (synced n m)
-firm_synced n m = subst (λ o. IfSome o (λ (f : File). f.firm ≡ true)) (sym (here_file m.files (λ f. firm f.content) (names m n))) (all_firm (file_of m n))
+firm_synced n m = subst (λ o. IfSome o (λ (f : File). f.firm ≡ true)) (sym (here_file m.files (λ f. firm f.content) (names m n))) (all_firm (file_under m n))
 
 -- and stays so under its new name, and where the names are synced
 pub firm_renamed : (a b : List ℕ) (m : Model) → IsFirm a m → IsFirm b (pended (Rename a b) m)

@@ -6,7 +6,7 @@ use Rattle.std.specs.Str.{bytes_eq}
 use Rattle.sccs_disk.specs.Calls.{Done, Half}
 use Rattle.sccs_disk.specs.Effects.{Effect, changed, created, pended, loose, empty_file}
 use Rattle.sccs_disk.specs.Files.{File, View, Names, Remove, Model, names, file_at, put, view_of, IsSane}
-use Rattle.sccs_disk.specs.Images.{Image, Full, Fits, IsOwn, IsFirm, file_of}
+use Rattle.sccs_disk.specs.Images.{Image, Full, Fits, IsOwn, IsFirm, file_under}
 use Rattle.sccs_disk.specs.Told.{Told, Tells}
 use Rattle.sccs_disk.proofs.Models.{names_created, names_pended}
 use Rattle.sccs_disk.proofs.Puts.{put_other}
@@ -33,17 +33,17 @@ touches_wider mine more m m2 within a = record {
 }
 
 -- a view in which all operations are made, with what stood under the name before
-full_before : (n : List ℕ) (m m2 : Model) (w : View) → ((k : List ℕ) → bytes_eq n k ≡ false → file_of m2 k ≡ file_of m k) → Full m2 w → (u : View) × Image m u × ((k : List ℕ) → bytes_eq n k ≡ false → u k ≡ w k)
+full_before : (n : List ℕ) (m m2 : Model) (w : View) → ((k : List ℕ) → bytes_eq n k ≡ false → file_under m2 k ≡ file_under m k) → Full m2 w → (u : View) × Image m u × ((k : List ℕ) → bytes_eq n k ≡ false → u k ≡ w k)
 full_before n m m2 w same full =
     let u : View = put w n (view_of m n) in
     (u, full_image m u (fits_put m.files (names m) w n (λ k apart. subst (λ o. Fits o (w k)) (same k apart) (full k))), λ k apart. put_other w n k (view_of m n) apart)
 
-file_created : (n k : List ℕ) (m : Model) → IsSane m → bytes_eq n k ≡ false → file_of (created n m) k ≡ file_of m k
+file_created : (n k : List ℕ) (m : Model) → IsSane m → bytes_eq n k ≡ false → file_under (created n m) k ≡ file_under m k
 file_created n k m sane apart =
     ap (λ (t : Names). file_at (m.files ++ loose empty_file ∷ []) (t k)) (names_created n m)
     ∙ (ap (file_at (m.files ++ loose empty_file ∷ [])) (put_other (names m) n k _ apart) ∙ front_file m.files (loose empty_file) (names m k) (sane.whole k))
 
-file_removed : (n k : List ℕ) (m : Model) → bytes_eq n k ≡ false → file_of (pended (Remove n) m) k ≡ file_of m k
+file_removed : (n k : List ℕ) (m : Model) → bytes_eq n k ≡ false → file_under (pended (Remove n) m) k ≡ file_under m k
 file_removed n k m apart = ap (λ (t : Names). file_at m.files (t k)) (names_pended (Remove n) m) ∙ ap (file_at m.files) (put_other (names m) n k None apart)
 
 unchanged : (n : List ℕ) (m : Model) (w : View) → Image m w → (u : View) × Image m u × ((k : List ℕ) → bytes_eq n k ≡ false → u k ≡ w k)

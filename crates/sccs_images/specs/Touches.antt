@@ -2,7 +2,7 @@
 use Rattle.std.specs.Prelude.{◌≡◌, ℕ, Bool, false, List, [], ◌∷◌, ◌++◌, length, slice_get, Some}
 use Rattle.std.specs.Str.{bytes_eq}
 use Rattle.sccs_disk.specs.Files.{View, Model, names, IsSane}
-use Rattle.sccs_disk.specs.Images.{Image, IsOwn, file_of}
+use Rattle.sccs_disk.specs.Images.{Image, IsOwn, file_under}
 use Rattle.sccs_disk.specs.Told.{Told, Tells}
 
 -- The models of a call are the one at its start and those that it adds, the newest first.
@@ -35,7 +35,7 @@ pub record Grew (n : List ℕ) (m : Model) (past : List Model) (new : Told) : Ty
 -- From m to m2 the files of other names are as they were, now and in what a stop leaves.
 pub record Touches (mine : List ℕ → Bool) (m m2 : Model) : Type 0 where
   pub images : (w : View) → Image m2 w → (u : View) × Image m u × ((k : List ℕ) → mine k ≡ false → u k ≡ w k)
-  pub files : (k : List ℕ) → mine k ≡ false → file_of m2 k ≡ file_of m k
+  pub files : (k : List ℕ) → mine k ≡ false → file_under m2 k ≡ file_under m k
   pub own : (k : List ℕ) → IsOwn k m → IsOwn k m2
 
 -- the story went on from a model, and each moment touches those files alone

@@ -3,7 +3,7 @@ use Rattle.std.proofs.Common.{◌≡◌, ℕ, ◌≤◌, List, [], ◌∷◌, �
 use Rattle.std.specs.Result.{OnOk, OnErr}
 use Rattle.sccs_base.specs.Causes.{GivesText}
 use Rattle.sccs_base.specs.Stream.{GivesOk, GivesSome, Rose}
-use Rattle.sccs_keys.specs.Expansion.{mark}
+use Rattle.sccs_keys.specs.Expansion.{what_mark}
 use Rattle.sccs_base.proofs.Gifts.{gives_both, gives_then, some_longer}
 
 rose_later : (f g h : ℕ) → f ≤ g → Rose g h → Rose f h
@@ -43,19 +43,19 @@ after_given x y a b c f g h (Err fault) gave low second = record { ok = tt; err 
 pub given_ok : {T E : Type 0} (x : List ℕ) (a b : Option (List ℕ)) (f g : ℕ) (r : Result T E) (done : T) → r ≡ Ok done → GivesText x a b f g r → GivesOk a b x
 given_ok x a b f g r done is text = ok_of (GivesOk a b x) r done is text.ok
 
-pub what_text : (m m2 s : List ℕ) → m2 ≡ m → (mark ++ (m2 ++ 9 ∷ [])) ++ s ≡ mark ++ (m ++ (9 ∷ s))
-what_text m m2 s same = ap (λ l. mark ++ l) (append_assoc m2 (9 ∷ []) s ∙ ap (λ l. l ++ (9 ∷ s)) same)
+pub what_text : (m m2 s : List ℕ) → m2 ≡ m → (what_mark ++ (m2 ++ 9 ∷ [])) ++ s ≡ what_mark ++ (m ++ (9 ∷ s))
+what_text m m2 s same = ap (λ l. what_mark ++ l) (append_assoc m2 (9 ∷ []) s ∙ ap (λ l. l ++ (9 ∷ s)) same)
 
-pub assembly_text : (k k2 m m2 s t : List ℕ) → k2 ≡ k → m2 ≡ m → ((mark ++ (k2 ++ (32 ∷ (m2 ++ 32 ∷ [])))) ++ s) ++ t ≡ mark ++ (k ++ (32 ∷ (m ++ (32 ∷ (s ++ t)))))
+pub assembly_text : (k k2 m m2 s t : List ℕ) → k2 ≡ k → m2 ≡ m → ((what_mark ++ (k2 ++ (32 ∷ (m2 ++ 32 ∷ [])))) ++ s) ++ t ≡ what_mark ++ (k ++ (32 ∷ (m ++ (32 ∷ (s ++ t)))))
 assembly_text k k2 m m2 s t kind_is module_is =
-    ap (λ l. mark ++ l)
+    ap (λ l. what_mark ++ l)
     (ap (λ l. l ++ t) (append_assoc k2 (32 ∷ (m2 ++ 32 ∷ [])) s)
     ∙ (append_assoc k2 (32 ∷ ((m2 ++ 32 ∷ []) ++ s)) t
     ∙ (ap (λ l. k2 ++ (32 ∷ l)) (ap (λ l. l ++ t) (append_assoc m2 (32 ∷ []) s) ∙ append_assoc m2 (32 ∷ s) t)
     ∙ (ap (λ l. l ++ (32 ∷ (m2 ++ (32 ∷ (s ++ t))))) kind_is ∙ ap (λ l. k ++ (32 ∷ (l ++ (32 ∷ (s ++ t))))) module_is))))
 
-pub assembly_rest : (k k2 m m2 s t : List ℕ) → k2 ≡ k → m2 ≡ m → (mark ++ (k2 ++ (32 ∷ (m2 ++ 32 ∷ [])))) ++ (s ++ t) ≡ mark ++ (k ++ (32 ∷ (m ++ (32 ∷ (s ++ t)))))
-assembly_rest k k2 m m2 s t kind_is module_is = sym (append_assoc (mark ++ (k2 ++ (32 ∷ (m2 ++ 32 ∷ [])))) s t) ∙ assembly_text k k2 m m2 s t kind_is module_is
+pub assembly_rest : (k k2 m m2 s t : List ℕ) → k2 ≡ k → m2 ≡ m → (what_mark ++ (k2 ++ (32 ∷ (m2 ++ 32 ∷ [])))) ++ (s ++ t) ≡ what_mark ++ (k ++ (32 ∷ (m ++ (32 ∷ (s ++ t)))))
+assembly_rest k k2 m m2 s t kind_is module_is = sym (append_assoc (what_mark ++ (k2 ++ (32 ∷ (m2 ++ 32 ∷ [])))) s t) ∙ assembly_text k k2 m m2 s t kind_is module_is
 
 pub text_whole : {T E : Type 0} (x z : List ℕ) (a b : Option (List ℕ)) (f g : ℕ) (r : Result T E) → x ≡ z → GivesText x a b f g r → GivesText z a b f g r
 text_whole x z a b f g r same text = subst (λ l. GivesText l a b f g r) same text

@@ -8,8 +8,8 @@ use Rattle.sccs_keys.specs.declared.keywords.Keyword.{Keyword}
 use Rattle.sccs_keys.specs.declared.keywords.Keyword.TheVariants as words
 
 -- the mark that what looks for: @(#)
-abbrev pub mark : List ℕ
-mark = 64 ∷ 40 ∷ 35 ∷ 41 ∷ []
+abbrev pub what_mark : List ℕ
+what_mark = 64 ∷ 40 ∷ 35 ∷ 41 ∷ []
 
 -- a component of a SID, nothing where it has none
 abbrev pub component_text : ℕ → List ℕ
@@ -39,17 +39,17 @@ keyword_text f number words.User = f.user
 keyword_text f number words.FileName = f.file
 keyword_text f number words.Path = f.place ++ (47 ∷ f.file)
 keyword_text f number words.LineNumber = decimal number
-keyword_text f number words.Mark = mark
-keyword_text f number words.What = mark ++ (f.module ++ (9 ∷ sid_text f.sid))
-keyword_text f number words.Assembly = mark ++ (f.kind ++ (32 ∷ f.module ++ (32 ∷ sid_text f.sid ++ mark)))
+keyword_text f number words.Mark = what_mark
+keyword_text f number words.What = what_mark ++ (f.module ++ (9 ∷ sid_text f.sid))
+keyword_text f number words.Assembly = what_mark ++ (f.kind ++ (32 ∷ f.module ++ (32 ∷ sid_text f.sid ++ what_mark)))
 
-abbrev pub part_text : Facts → ℕ → Part → List ℕ
-part_text f number (Plain byte) = byte ∷ []
-part_text f number (Key keyword) = keyword_text f number keyword
+abbrev pub expanded_part : Facts → ℕ → Part → List ℕ
+expanded_part f number (Plain byte) = byte ∷ []
+expanded_part f number (Key keyword) = keyword_text f number keyword
 
 -- the line with a number, where its keywords are replaced
 abbrev pub expanded : Facts → ℕ → List ℕ → List ℕ
-expanded f number line = flat_map (part_text f number) (parts line)
+expanded f number line = flat_map (expanded_part f number) (parts line)
 
 -- both moments are such
 pub record HasMoments (f : Facts) : Type 0 where

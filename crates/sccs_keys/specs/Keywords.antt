@@ -29,9 +29,9 @@ keyword_of letter =
     else None
 
 -- the keyword that bytes begin with
-abbrev pub found : List ℕ → Option Keyword
-found (a ∷ letter ∷ b ∷ bytes) = if a == 37 && b == 37 then keyword_of letter else None
-found _ = None
+abbrev pub found_keyword : List ℕ → Option Keyword
+found_keyword (a ∷ letter ∷ b ∷ bytes) = if a == 37 && b == 37 then keyword_of letter else None
+found_keyword _ = None
 
 -- a byte that is given as it is, or a keyword
 pub data Part : Type 0 where
@@ -42,20 +42,20 @@ abbrev pub is_keyword : Part → Bool
 is_keyword (Plain byte) = false
 is_keyword (Key keyword) = true
 
-abbrev pub part_of : ℕ → Option Keyword → Part
-part_of byte None = Plain byte
-part_of byte (Some keyword) = Key keyword
+abbrev pub keyword_part : ℕ → Option Keyword → Part
+keyword_part byte None = Plain byte
+keyword_part byte (Some keyword) = Key keyword
 
 -- how many bytes of a keyword stand behind its first
-abbrev pub bytes_behind : Option Keyword → ℕ
-bytes_behind None = 0
-bytes_behind (Some keyword) = 2
+abbrev pub keyword_rest : Option Keyword → ℕ
+keyword_rest None = 0
+keyword_rest (Some keyword) = 2
 
 -- the parts of bytes, where so many at their front belong to a keyword already
 abbrev pub parts_behind : ℕ → List ℕ → List Part
 parts_behind skip [] = []
 parts_behind (suc skip) (byte ∷ bytes) = parts_behind skip bytes
-parts_behind zero (byte ∷ bytes) = part_of byte (found (byte ∷ bytes)) ∷ parts_behind (bytes_behind (found (byte ∷ bytes))) bytes
+parts_behind zero (byte ∷ bytes) = keyword_part byte (found_keyword (byte ∷ bytes)) ∷ parts_behind (keyword_rest (found_keyword (byte ∷ bytes))) bytes
 
 -- the parts of a line, from left to right: bytes of a keyword that was found belong to no other
 abbrev pub parts : List ℕ → List Part
@@ -63,4 +63,4 @@ parts line = parts_behind 0 line
 
 -- no keyword begins before a place
 abbrev pub HasNone : List ℕ → ℕ → Type 0
-HasNone line n = (k : ℕ) → k < n → found (drop k line) ≡ None
+HasNone line n = (k : ℕ) → k < n → found_keyword (drop k line) ≡ None

@@ -1,6 +1,6 @@
 ghost use Rattle.std.specs.Prelude.{◌≡◌, ◌+◌, ◌<◌, ◌≤◌, ℕ, None, Some, drop, length, IfSome, MatchOption};
 ghost use Rattle.std.specs.List.{list_any};
-ghost use Rattle.sccs_keys.specs.Keywords.{found, HasNone, is_keyword, keyword_of, parts};
+ghost use Rattle.sccs_keys.specs.Keywords.{found_keyword, HasNone, is_keyword, keyword_of, parts};
 
 use memchr::memchr;
 
@@ -81,7 +81,7 @@ fn keyword_of(letter: u8) -> Option<Keyword>
 
 // the keyword that bytes begin with
 fn keyword_at(bytes: &[u8]) -> Option<Keyword>
-    ensures { result ≡ found bytes.now }
+    ensures { result ≡ found_keyword bytes.now }
 {
     if bytes.len() < 3 {
         return None;
@@ -98,7 +98,7 @@ fn keyword_at(bytes: &[u8]) -> Option<Keyword>
 /// The place of the first keyword, and which it is.
 pub fn find_keyword(line: &[u8]) -> Option<(usize, Keyword)>
     ensures first { MatchOption result (HasNone line.now (length line.now))
-        (λ r. HasNone line.now r.0 × (found (drop r.0 line.now) ≡ Some r.1)) }
+        (λ r. HasNone line.now r.0 × (found_keyword (drop r.0 line.now) ≡ Some r.1)) }
     ensures fits { IfSome result (λ r. r.0 + 3 ≤ length line.now) }
 {
     let mut from = 0;

@@ -8,7 +8,7 @@ use Rattle.sccs_history.specs.Numbers.{falling, front_if, has, is_empty}
 use Rattle.sccs_history.proofs.Falling.{has-falling}
 use Rattle.sccs_history.specs.declared.headers.Item.{Item}
 use Rattle.sccs_history.specs.declared.headers.Item.TheVariants.{Text, Insert, Delete, End}
-use Rattle.sccs_marks.specs.Kinds.{kind, is_insert, is_open}
+use Rattle.sccs_marks.specs.Kinds.{kind, is_insert_mark, is_open}
 use Rattle.sccs_marks.specs.States.{Knows}
 use Rattle.sccs_marks.specs.declared.body_states.BodyState.{BodyState}
 use Rattle.sccs_marks.specs.declared.marks.Mark.{Mark}
@@ -81,8 +81,8 @@ not_shut body.Closed h = cc
 not_shut body.ByInsert h = refl
 not_shut body.ByDelete h = refl
 
-pub some_insert : (live : List ℕ) (before : List Item) (text : List ℕ) (s : BodyState) → Knows live before s → list_any is_insert s.marks ≡ may_stand live before (Text text)
-some_insert live before text s knows = any_marked (list_any is_insert s.marks) inserting before s.marks refl insert_open knows.marks refl
+pub some_insert : (live : List ℕ) (before : List Item) (text : List ℕ) (s : BodyState) → Knows live before s → list_any is_insert_mark s.marks ≡ may_stand live before (Text text)
+some_insert live before text s knows = any_marked (list_any is_insert_mark s.marks) inserting before s.marks refl insert_open knows.marks refl
 
 twice : (b : Bool) → not (not b) ≡ b
 twice true = refl

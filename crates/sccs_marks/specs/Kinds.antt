@@ -11,8 +11,8 @@ kind Inserts = body.ByInsert
 kind Deletes = body.ByDelete
 
 -- it is open by Insert
-abbrev pub is_insert : Mark → Bool
-is_insert m = body.is_insert (kind m)
+abbrev pub is_insert_mark : Mark → Bool
+is_insert_mark m = body.is_insert (kind m)
 
 -- it is open
 abbrev pub is_open : Mark → Bool

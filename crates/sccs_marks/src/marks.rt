@@ -1,6 +1,6 @@
 ghost use Rattle.std.specs.Prelude.{◌≡◌, ◌==◌, ℕ, replicate, slice_index_or, IfOk, if◌then◌else◌};
 ghost use Rattle.std.specs.List.{list_any};
-ghost use Rattle.sccs_marks.specs.Kinds.{is_insert, is_open};
+ghost use Rattle.sccs_marks.specs.Kinds.{is_insert_mark, is_open};
 ghost use Rattle.sccs_marks.specs.declared.marks.Mark.TheVariants as stands;
 
 use sccs_base::Memory;
@@ -19,7 +19,7 @@ pub enum Mark {
 impl Mark {
     /// Whether it is open by Insert.
     pub fn inserts(self) -> bool
-        ensures { result ≡ is_insert self }
+        ensures { result ≡ is_insert_mark self }
     {
         matches!(self, Mark::Inserts)
     }
@@ -43,13 +43,13 @@ pub struct Marks {
 impl Model for Marks {
     ghost use Rattle.std.specs.Prelude.{List};
     ghost use Rattle.sccs_marks.specs.declared.marks.Mark.{Mark};
-    ghost use Rattle.sccs_marks.specs.Counts.{IsCounted};
+    ghost use Rattle.sccs_marks.specs.Counts.{AreMarksCounted};
 
     ghost Value = { List Mark };
 
     ghost view = { λ m. m.marks.items };
 
-    ghost invariant = { λ m. IsCounted m.marks.items m.inserts m.opens };
+    ghost invariant = { λ m. AreMarksCounted m.marks.items m.inserts m.opens };
 }
 
 // so many serials are closed
@@ -93,7 +93,7 @@ impl Marks {
     /// Whether some serial is open by Insert.
     #[tactic(auto, using(crate::proofs::CountLaws::counted_any))]
     pub fn some_inserts(&self) -> bool
-        ensures { result ≡ list_any is_insert self.now }
+        ensures { result ≡ list_any is_insert_mark self.now }
     {
         self.inserts > 0
     }

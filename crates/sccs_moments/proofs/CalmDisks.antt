@@ -7,10 +7,10 @@ use Rattle.std.specs.Prelude.{IfSome, IsSome, slice_get}
 use Rattle.sccs_base.specs.Name.{IsSfile, p_file, z_file}
 use Rattle.sccs_disk.specs.Effects.{settled}
 use Rattle.sccs_disk.specs.Effects as effects
-use Rattle.sccs_disk.specs.Files.{Content, File, Model, Names, Op, View, after, file_at, names, put, view_of}
-use Rattle.sccs_disk.specs.MemoryFiles.{IsFirmFile, IsSettled, model_of, placed}
+use Rattle.sccs_disk.specs.Files.{Content, File, Model, Names, Op, View, names_after, file_at, names, put, view_of}
+use Rattle.sccs_disk.specs.MemoryFiles.{IsFirmFile, IsSettled, model_of, with_placed}
 use Rattle.sccs_disk.specs.States.{empty_state}
-use Rattle.sccs_disk.specs.Images.{Allows, Fits, Full, Image, IsFirm, file_of}
+use Rattle.sccs_disk.specs.Images.{Allows, Fits, Full, Image, IsFirm, file_under}
 use Rattle.sccs_disk.proofs.Puts.{name_cases, put_other, put_same}
 use Rattle.sccs_images.specs.Touches.{Touches}
 use Rattle.sccs_images.proofs.Images.{full_image, image_settled, view_full, view_image}
@@ -25,13 +25,13 @@ use Rattle.sccs_moments.proofs.Recovering.{p_of, pair_same, recovers_back, recov
 loose_fits : (f : File) (c : Content) → f.firm ≡ false → Fits (Some f) (Some c)
 loose_fits f c loose = subst (λ b. cond b (Some c ≡ Some f.content) (IsSome (Some c))) (sym loose) refl
 
-full_put : (m : Model) (k : List ℕ) (c : Content) (f : File) → file_of m k ≡ Some f → f.firm ≡ false → Full m (put (view_of m) k (Some c))
+full_put : (m : Model) (k : List ℕ) (c : Content) (f : File) → file_under m k ≡ Some f → f.firm ≡ false → Full m (put (view_of m) k (Some c))
 full_put m k c f is loose l =
-    ⊎_elim (λ e. subst (λ x. Fits (file_of m x) (put (view_of m) k (Some c) x)) e here)
-    (λ apart. subst (λ o. Fits (file_of m l) o) (sym (put_other (view_of m) k l (Some c) apart)) (view_full m l))
+    ⊎_elim (λ e. subst (λ x. Fits (file_under m x) (put (view_of m) k (Some c) x)) e here)
+    (λ apart. subst (λ o. Fits (file_under m l) o) (sym (put_other (view_of m) k l (Some c) apart)) (view_full m l))
     (name_cases k l)
   where
-    here : Fits (file_of m k) (put (view_of m) k (Some c) k)
+    here : Fits (file_under m k) (put (view_of m) k (Some c) k)
     here = subst (λ o. Fits o (put (view_of m) k (Some c) k)) (sym is) (subst (λ o. Fits (Some f) o) (sym (put_same (view_of m) k (Some c))) (loose_fits f c loose))
 
 abbrev other : Content → Content
@@ -45,24 +45,24 @@ never : (b : Bool) → not b ≡ b → ⊥
 never true e = cc
 never false e = cc
 
-loose_not : (m : Model) (k : List ℕ) (f : File) → file_of m k ≡ Some f → ((w : View) → Full m w → w k ≡ view_of m k) → f.firm ≡ false → ⊥
+loose_not : (m : Model) (k : List ℕ) (f : File) → file_under m k ≡ Some f → ((w : View) → Full m w → w k ≡ view_of m k) → f.firm ≡ false → ⊥
 loose_not m k f is only loose =
     let w : View = put (view_of m) k (Some (other f.content)) in
     let e : Some (other f.content) ≡ Some f.content =
     sym (put_same (view_of m) k (Some (other f.content))) ∙ (only w (full_put m k (other f.content) f is loose) ∙ ap (option_map (λ (g : File). g.content)) is) in
     never f.content.writable (ap mark e)
 
-firm_by : (m : Model) (k : List ℕ) (f : File) → file_of m k ≡ Some f → ((w : View) → Full m w → w k ≡ view_of m k) → (b : Bool) → f.firm ≡ b → f.firm ≡ true
+firm_by : (m : Model) (k : List ℕ) (f : File) → file_under m k ≡ Some f → ((w : View) → Full m w → w k ≡ view_of m k) → (b : Bool) → f.firm ≡ b → f.firm ≡ true
 firm_by m k f is only true e = e
 firm_by m k f is only false e = absurd (loose_not m k f is only e)
 
-firm_at : (m : Model) (k : List ℕ) (o : Option File) → file_of m k ≡ o → ((w : View) → Full m w → w k ≡ view_of m k) → IfSome o (λ (f : File). f.firm ≡ true)
+firm_at : (m : Model) (k : List ℕ) (o : Option File) → file_under m k ≡ o → ((w : View) → Full m w → w k ≡ view_of m k) → IfSome o (λ (f : File). f.firm ≡ true)
 firm_at m k None is only = tt
 firm_at m k (Some f) is only = firm_by m k f is only f.firm refl
 
 -- what is the same in each image with all operations made is firm
 pub firm_from : (m : Model) (k : List ℕ) → ((w : View) → Full m w → w k ≡ view_of m k) → IsFirm k m
-firm_from m k only = firm_at m k (file_of m k) refl only
+firm_from m k only = firm_at m k (file_under m k) refl only
 
 pub pairs_firm : (m : Model) → ((w : View) → Full m w → (n : List ℕ) → IsSfile n → pair_of w n ≡ pair_of (view_of m) n) → HasFirm m
 pairs_firm m only = record {
@@ -90,7 +90,7 @@ fits_there (Some f) w e = some_by f.firm w f.content e
 
 -- each image with all operations made has the files of the view, whatever is in them
 pub full_there : (m : Model) (w : View) → Full m w → (k : List ℕ) → is_some (w k) ≡ is_some (view_of m k)
-full_there m w full k = fits_there (file_of m k) (w k) (full k)
+full_there m w full k = fits_there (file_under m k) (w k) (full k)
 
 pub full_keeps : (m : Model) (w : View) → HasFirm m → Full m w → KeepsPairs (view_of m) w
 full_keeps m w firm full = record {
@@ -116,14 +116,14 @@ calm_kept v m keeps = λ w image.
 
 -- ---- disks on which every file is firm and nothing is pending
 
-none_pending : (base : Names) (j : ℕ) → after (take j []) base ≡ base
+none_pending : (base : Names) (j : ℕ) → names_after (take j []) base ≡ base
 none_pending base zero = refl
 none_pending base (suc j) = refl
 
 image_full : (m : Model) (w : View) → m.pending ≡ [] → Image m w → Full m w
 image_full m w none (j, fits) n =
     subst (λ (t : Names). Fits (file_at m.files (t n)) (w n))
-    (ap (λ (ops : List Op). after (take j ops) m.base) none ∙ (none_pending m.base j ∙ sym (ap (λ (ops : List Op). after ops m.base) none))) (fits n)
+    (ap (λ (ops : List Op). names_after (take j ops) m.base) none ∙ (none_pending m.base j ∙ sym (ap (λ (ops : List Op). names_after ops m.base) none))) (fits n)
 
 each_firm : (files : List File) (o : Option ℕ) → All IsFirmFile files → IfSome (file_at files o) (λ (f : File). f.firm ≡ true)
 each_firm files None each = tt
@@ -152,7 +152,7 @@ one_firm c (suc k) d low = absurd (omega (arith, low))
 pub empty_settled : IsSettled (model_of empty_state)
 empty_settled = record { files = none_firm; pending = refl }
 
-pub placed_settled : (n : List ℕ) (c : Content) (m : Model) → IsSettled m → IsSettled (placed n c m)
+pub placed_settled : (n : List ℕ) (c : Content) (m : Model) → IsSettled m → IsSettled (with_placed n c m)
 placed_settled n c m still = record { files = All-append IsFirmFile m.files (effects.firm c ∷ []) still.files (one_firm c); pending = still.pending }
 
 -- firm files stay so where others are touched

@@ -5,7 +5,7 @@ use Rattle.sccs_base.specs.Name.{IsSfile, sibling, p_file, q_file, x_file, y_fil
 use Rattle.sccs_base.proofs.SameBytes.{other_bytes, same_bytes}
 use Rattle.sccs_base.proofs.Siblings.{sfile_long}
 use Rattle.sccs_files.specs.StepFiles.{is_left, is_working}
-use Rattle.sccs_moments.specs.Recovery.{begins, is_kept}
+use Rattle.sccs_moments.specs.Recovery.{begins_by_letter, is_kept}
 
 -- the name of an s-file begins with s
 pub sfile_is : (n : List ℕ) → IsSfile n → n ≡ sibling 115 n
@@ -87,7 +87,7 @@ pub left_z : (n k : List ℕ) → IsSfile n → IsSfile k → bytes_eq n k ≡ f
 left_z n k sfile other apart = siblings_differ 122 n k sfile other apart
 
 -- a name that isn't kept is none of them
-begins_not : (letter : ℕ) (k l : List ℕ) → begins letter k ≡ false → take 2 l ≡ letter ∷ 46 ∷ [] → bytes_eq k l ≡ false
+begins_not : (letter : ℕ) (k l : List ℕ) → begins_by_letter letter k ≡ false → take 2 l ≡ letter ∷ 46 ∷ [] → bytes_eq k l ≡ false
 begins_not letter k l not_so front =
     other_bytes k l
     (λ e. let test : bytes_eq (take 2 k) (letter ∷ 46 ∷ []) ≡ true = subst (λ f. bytes_eq f (letter ∷ 46 ∷ []) ≡ true) (sym (ap (take 2) e ∙ front)) (same_bytes (letter ∷ 46 ∷ [])) in

@@ -4,20 +4,20 @@ use Rattle.std.specs.Str.{bytes_eq}
 use Rattle.std.proofs.Math.Path.{fun_ext}
 use Rattle.sccs_disk.specs.Effects.{pended, renamed}
 use Rattle.sccs_disk.specs.Files.{Content, File, Model, Names, Op, Remove, Rename, View, file_at, names, put, view_of}
-use Rattle.sccs_disk.specs.Images.{Fits, Full, file_of}
+use Rattle.sccs_disk.specs.Images.{Fits, Full, file_under}
 use Rattle.sccs_disk.proofs.Models.{names_pended}
 use Rattle.sccs_disk.proofs.Puts.{name_cases, put_other, put_same}
 use Rattle.sccs_images.proofs.Images.{fits_itself}
-use Rattle.sccs_moments.specs.Recovery.{without}
+use Rattle.sccs_moments.specs.Recovery.{without_name}
 
-file_pended : (op : Op) (m : Model) (t : Names) → names (pended op m) ≡ t → (k : List ℕ) → file_of (pended op m) k ≡ file_at m.files (t k)
+file_pended : (op : Op) (m : Model) (t : Names) → names (pended op m) ≡ t → (k : List ℕ) → file_under (pended op m) k ≡ file_at m.files (t k)
 file_pended op m t is k = ap (λ (names_now : Names). file_at m.files (names_now k)) is
 
 -- a view that fits a model everywhere but under a name, where it has what stands there
-fits_with : (m : Model) (w : View) (n : List ℕ) (x : Option Content) → Fits (file_of m n) x → ((k : List ℕ) → bytes_eq n k ≡ false → Fits (file_of m k) (w k)) → Full m (put w n x)
+fits_with : (m : Model) (w : View) (n : List ℕ) (x : Option Content) → Fits (file_under m n) x → ((k : List ℕ) → bytes_eq n k ≡ false → Fits (file_under m k) (w k)) → Full m (put w n x)
 fits_with m w n x here others k =
-    ⊎_elim (λ e. subst (λ l. Fits (file_of m l) (put w n x l)) e (subst (λ o. Fits (file_of m n) o) (sym (put_same w n x)) here))
-    (λ apart. subst (λ o. Fits (file_of m k) o) (sym (put_other w n k x apart)) (others k apart))
+    ⊎_elim (λ e. subst (λ l. Fits (file_under m l) (put w n x l)) e (subst (λ o. Fits (file_under m n) o) (sym (put_same w n x)) here))
+    (λ apart. subst (λ o. Fits (file_under m k) o) (sym (put_other w n k x apart)) (others k apart))
     (name_cases n k)
 
 none_fits : (o : Option File) (w : Option Content) → o ≡ None → Fits o w → w ≡ None
@@ -25,18 +25,18 @@ none_fits o w is fits = subst (λ f. Fits f w) is fits
 
 -- ---- removed
 
-removed_back : (n : List ℕ) (w : View) (x : Option Content) → w n ≡ None → w ≡ without n (put w n x)
-removed_back n w x none = fun_ext (λ k. ⊎_elim (λ e. subst (λ l. w l ≡ without n (put w n x) l) e (none ∙ sym (put_same (put w n x) n None)))
+removed_back : (n : List ℕ) (w : View) (x : Option Content) → w n ≡ None → w ≡ without_name n (put w n x)
+removed_back n w x none = fun_ext (λ k. ⊎_elim (λ e. subst (λ l. w l ≡ without_name n (put w n x) l) e (none ∙ sym (put_same (put w n x) n None)))
     (λ apart. sym (put_other (put w n x) n k None apart ∙ put_other w n k x apart)) (name_cases n k))
 
-pub full_removed : (n : List ℕ) (m : Model) (w : View) → Full (pended (Remove n) m) w → (u : View) × Full m u × (w ≡ without n u)
+pub full_removed : (n : List ℕ) (m : Model) (w : View) → Full (pended (Remove n) m) w → (u : View) × Full m u × (w ≡ without_name n u)
 full_removed n m w full = (
   put w n (view_of m n),
-  fits_with m w n (view_of m n) (fits_itself (file_of m n)) (λ k apart. subst (λ o. Fits o (w k)) (file k ∙ ap (file_at m.files) (put_other (names m) n k None apart)) (full k)),
-  removed_back n w (view_of m n) (none_fits (file_of (pended (Remove n) m) n) (w n) (file n ∙ ap (file_at m.files) (put_same (names m) n None)) (full n)),
+  fits_with m w n (view_of m n) (fits_itself (file_under m n)) (λ k apart. subst (λ o. Fits o (w k)) (file k ∙ ap (file_at m.files) (put_other (names m) n k None apart)) (full k)),
+  removed_back n w (view_of m n) (none_fits (file_under (pended (Remove n) m) n) (w n) (file n ∙ ap (file_at m.files) (put_same (names m) n None)) (full n)),
 )
   where
-    file : (k : List ℕ) → file_of (pended (Remove n) m) k ≡ file_at m.files (put (names m) n None k)
+    file : (k : List ℕ) → file_under (pended (Remove n) m) k ≡ file_at m.files (put (names m) n None k)
     file k = file_pended (Remove n) m (put (names m) n None) (names_pended (Remove n) m) k
 
 -- ---- renamed
@@ -64,13 +64,13 @@ full_renamed a b m w full = (
   unrenamed a b w (view_of m b),
   fits_with m (put w b (view_of m b)) a (w b)
       (subst (λ o. Fits o (w b)) (file b ∙ ap (file_at m.files) (put_same (put (names m) a None) b (names m a))) (full b))
-      (λ k from. ⊎_elim (λ e. subst (λ l. Fits (file_of m l) (put w b (view_of m b) l)) e (subst (λ o. Fits (file_of m b) o) (sym (put_same w b (view_of m b))) (fits_itself (file_of m b))))
-      (λ to. subst (λ o. Fits (file_of m k) o) (sym (put_other w b k (view_of m b) to))
+      (λ k from. ⊎_elim (λ e. subst (λ l. Fits (file_under m l) (put w b (view_of m b) l)) e (subst (λ o. Fits (file_under m b) o) (sym (put_same w b (view_of m b))) (fits_itself (file_under m b))))
+      (λ to. subst (λ o. Fits (file_under m k) o) (sym (put_other w b k (view_of m b) to))
       (subst (λ o. Fits o (w k)) (file k ∙ ap (file_at m.files) (put_other (put (names m) a None) b k (names m a) to ∙ put_other (names m) a k None from)) (full k)))
       (name_cases b k)),
   fun_ext (λ k. renamed_at a b w (view_of m b) k
-      (λ to. none_fits (file_of (pended (Rename a b) m) a) (w a) (file a ∙ ap (file_at m.files) (put_other (put (names m) a None) b a (names m a) to ∙ put_same (names m) a None)) (full a))),
+      (λ to. none_fits (file_under (pended (Rename a b) m) a) (w a) (file a ∙ ap (file_at m.files) (put_other (put (names m) a None) b a (names m a) to ∙ put_same (names m) a None)) (full a))),
 )
   where
-    file : (k : List ℕ) → file_of (pended (Rename a b) m) k ≡ file_at m.files (put (put (names m) a None) b (names m a) k)
+    file : (k : List ℕ) → file_under (pended (Rename a b) m) k ≡ file_at m.files (put (put (names m) a None) b (names m a) k)
     file k = file_pended (Rename a b) m (put (put (names m) a None) b (names m a)) (names_pended (Rename a b) m) k

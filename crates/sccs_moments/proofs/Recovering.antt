@@ -7,7 +7,7 @@ use Rattle.sccs_disk.proofs.Puts.{name_cases, put_back, put_other, put_same}
 use Rattle.sccs_files.specs.StepFiles.{is_working}
 use Rattle.sccs_pfile.specs.Recovered.{recovered_pfile}
 use Rattle.sccs_moments.specs.Moments.{IsAt, IsAtName, SameElsewhere}
-use Rattle.sccs_moments.specs.Recovery.{IsSound, Pair, RecoversAs, cleaned, cleared, pair_of, recover, without}
+use Rattle.sccs_moments.specs.Recovery.{IsSound, Pair, RecoversAs, cleaned, cleared, pair_of, recover, without_name}
 use Rattle.sccs_moments.proofs.FileNames.{from_sfile, no_q, no_x, no_y, siblings_differ, working_s}
 
 abbrev pub pair : Option Content → Option Content → Pair
@@ -35,12 +35,12 @@ recovered_same s s2 p p2 z z2 e f g =
 
 pub cleared_other : (n : List ℕ) (v : View) (k : List ℕ) → is_working n k ≡ false → cleared n v k ≡ v k
 cleared_other n v k h =
-    put_other (without (q_file n) (without (x_file n) v)) (y_file n) k None (no_y n k h)
-    ∙ (put_other (without (x_file n) v) (q_file n) k None (no_q n k h) ∙ put_other v (x_file n) k None (no_x n k h))
+    put_other (without_name (q_file n) (without_name (x_file n) v)) (y_file n) k None (no_y n k h)
+    ∙ (put_other (without_name (x_file n) v) (q_file n) k None (no_q n k h) ∙ put_other v (x_file n) k None (no_x n k h))
 
 -- recovery, by whether the z-file is there
 abbrev pub recover_by : List ℕ → View → Bool → View
-recover_by n v z = cond z (without (z_file n) (cleaned n v)) (without (y_file n) v)
+recover_by n v z = cond z (without_name (z_file n) (cleaned n v)) (without_name (y_file n) v)
 
 by_lock : (n : List ℕ) (v : View) (z : Bool) → IsSfile n → pair_of (recover_by n v z) n ≡ recovered (v n) (v (p_file n)) z
 by_lock n v true sfile =
@@ -85,7 +85,7 @@ sound_pair n v sfile sound = recovered_is n v sfile ∙ sound_recovered (v n) (v
 
 -- ---- recovering twice
 
-gone : (v : View) (k : List ℕ) → v k ≡ None → without k v ≡ v
+gone : (v : View) (k : List ℕ) → v k ≡ None → without_name k v ≡ v
 gone v k none = ap (λ (o : Option Content). put v k o) (sym none) ∙ put_back v k
 
 nothing_to_do : (n : List ℕ) (v : View) → is_some (v (z_file n)) ≡ false → v (y_file n) ≡ None → recover n v ≡ v
@@ -93,9 +93,9 @@ nothing_to_do n v free none = ap (recover_by n v) free ∙ gone v (y_file n) non
 
 once_by : (n : List ℕ) (v : View) (z : Bool) → is_some (v (z_file n)) ≡ z → recover n (recover_by n v z) ≡ recover_by n v z
 once_by n v true is =
-    nothing_to_do n (without (z_file n) (cleaned n v)) (ap is_some (put_same (cleaned n v) (z_file n) None))
-    (put_same (without (q_file n) (without (x_file n) v)) (y_file n) None)
-once_by n v false is = nothing_to_do n (without (y_file n) v) is (put_same v (y_file n) None)
+    nothing_to_do n (without_name (z_file n) (cleaned n v)) (ap is_some (put_same (cleaned n v) (z_file n) None))
+    (put_same (without_name (q_file n) (without_name (x_file n) v)) (y_file n) None)
+once_by n v false is = nothing_to_do n (without_name (y_file n) v) is (put_same v (y_file n) None)
 
 pub recovered_once : (n : List ℕ) (v : View) → recover n (recover n v) ≡ recover n v
 recovered_once n v = once_by n v (is_some (v (z_file n))) refl

@@ -4,7 +4,7 @@ use Rattle.std.specs.Prelude.{IfSome, OnErr, OnOk, Result, Ok, Err}
 use Rattle.std.specs.Str.{bytes_eq}
 use Rattle.sccs_base.specs.Name.{IsSfile, p_file, z_file}
 use Rattle.sccs_disk.specs.Calls.{Done, Half}
-use Rattle.sccs_disk.specs.Effects.{pended, settled, whole}
+use Rattle.sccs_disk.specs.Effects.{pended, settled, whole_effect}
 use Rattle.sccs_disk.specs.Files.{Content, File, Model, Names, Remove, Rename, View, file_at, names, put, view_of}
 use Rattle.sccs_disk.specs.Told.{Told, Tells, seen}
 use Rattle.sccs_disk.proofs.Models.{names_pended}
@@ -76,10 +76,10 @@ others_touched mine a b touches m past is = by (touches m past is)
 one_kept : (mine : List ℕ → Bool) (m m2 : Model) (past : List Model) (new : Told) → new ≡ Tells m2 (m ∷ past) → SameOthers mine (view_of m) (view_of m2) → KeptOthers mine m past new
 one_kept mine m m2 past new is same = record { added = m2 ∷ []; is = is; each = (same, λ k h. refl) }
 
-pub others_done : (f : View → View) (g : Model → Model) (mine : List ℕ → Bool) (a b : Told) → ((m : Model) → SameOthers mine (view_of m) (view_of (g m))) → Done (whole f g) a b → KeepsOthers mine a b
+pub others_done : (f : View → View) (g : Model → Model) (mine : List ℕ → Bool) (a b : Told) → ((m : Model) → SameOthers mine (view_of m) (view_of (g m))) → Done (whole_effect f g) a b → KeepsOthers mine a b
 others_done f g mine a b same done m past is = one_kept mine m (g m) past b (done.model m past is) (same m)
 
-pub others_half : (f : View → View) (g : Model → Model) (mine : List ℕ → Bool) (a b : Told) → ((m : Model) → SameOthers mine (view_of m) (view_of (g m))) → Half (whole f g) a b → KeepsOthers mine a b
+pub others_half : (f : View → View) (g : Model → Model) (mine : List ℕ → Bool) (a b : Told) → ((m : Model) → SameOthers mine (view_of m) (view_of (g m))) → Half (whole_effect f g) a b → KeepsOthers mine a b
 others_half f g mine a b same half m past is =
     ⊎_elim (λ kept. others_same mine a b kept m past is)
     (λ made. one_kept mine m made.0 past b made.1 (subst (λ (x : Model). SameOthers mine (view_of m) (view_of x)) (sym made.2) (same m)))

@@ -6,12 +6,12 @@ use Rattle.sccs_disk.specs.Files.{Content, View, put}
 use Rattle.sccs_pfile.specs.Recovered.{recovered_pfile}
 
 -- no file under a name
-abbrev pub without : List ℕ → View → View
-without k v = put v k None
+abbrev pub without_name : List ℕ → View → View
+without_name k v = put v k None
 
 -- the x-, q- and y-file are gone
 abbrev pub cleared : List ℕ → View → View
-cleared n v = without (y_file n) (without (q_file n) (without (x_file n) v))
+cleared n v = without_name (y_file n) (without_name (q_file n) (without_name (x_file n) v))
 
 -- the working files are gone, and the entries whose delta is made
 abbrev pub cleaned : List ℕ → View → View
@@ -20,7 +20,7 @@ cleaned n v = put (cleared n v) (p_file n) (recovered_pfile (v n) (v (p_file n))
 -- The view after recovery (own). Where the z-file is there, x, q and y go, entries whose delta is made leave the p-file, and z
 -- goes; where it isn't, y goes alone.
 abbrev pub recover : List ℕ → View → View
-recover n v = if is_some (v (z_file n)) then without (z_file n) (cleaned n v) else without (y_file n) v
+recover n v = if is_some (v (z_file n)) then without_name (z_file n) (cleaned n v) else without_name (y_file n) v
 
 -- an s-file and its p-file
 pub record Pair : Type 0 where
@@ -39,9 +39,9 @@ abbrev pub IsSound : List ℕ → View → Type 0
 IsSound n v = recovered_pfile (v n) (v (p_file n)) ≡ v (p_file n)
 
 -- a name begins with this letter and a dot
-abbrev pub begins : ℕ → List ℕ → Bool
-begins letter k = bytes_eq (take 2 k) (letter ∷ 46 ∷ [])
+abbrev pub begins_by_letter : ℕ → List ℕ → Bool
+begins_by_letter letter k = bytes_eq (take 2 k) (letter ∷ 46 ∷ [])
 
 -- the names that s-files, p-files and z-files have begin so
 abbrev pub is_kept : List ℕ → Bool
-is_kept k = begins 115 k || (begins 112 k || begins 122 k)
+is_kept k = begins_by_letter 115 k || (begins_by_letter 112 k || begins_by_letter 122 k)

@@ -3,7 +3,7 @@ ghost use Rattle.std.specs.Prelude.{◌≡◌, ℕ, List};
 ghost use Rattle.sccs_base.specs.Name.{IsSfile, sibling};
 ghost use Rattle.sccs_disk.specs.Effects.{settled};
 ghost use Rattle.sccs_disk.specs.Files.{Content, Model, View, view_of};
-ghost use Rattle.sccs_disk.specs.MemoryFiles.{IsSettled, model_of, placed};
+ghost use Rattle.sccs_disk.specs.MemoryFiles.{IsSettled, model_of, with_placed};
 ghost use Rattle.sccs_disk.specs.States.{empty_state};
 ghost use Rattle.sccs_disk.specs.Told.{Told};
 ghost use Rattle.sccs_files.specs.StepFiles.{is_left};
@@ -31,7 +31,7 @@ pub fn calm_disks_are_firm()
 pub fn settled_disks_are_calm()
     ensures calm { (m : Model) → IsSettled m → IsCalm m }
     ensures empty { IsSettled (model_of empty_state) }
-    ensures put { (n : List ℕ) (c : Content) (m : Model) → IsSettled m → IsSettled (placed n c m) }
+    ensures put { (n : List ℕ) (c : Content) (m : Model) → IsSettled m → IsSettled (with_placed n c m) }
 {}
 
 /// From a calm disk on, a call that touches at most the working files and the z-file of a sound name

@@ -23,7 +23,7 @@ use Rattle.sccs_base.specs.Name.{is_sfile_name}
 use Rattle.sccs_disk.specs.Files.{Folder, View, view_in}
 use Rattle.sccs_disk.specs.Reads.{IsListing, Lists}
 use Rattle.sccs_disk.proofs.Puts.{same_name}
-use Rattle.sccs_operands.specs.FolderNames.{AreSfiles, HasSfilesOf, IsInOrder, names_in, sfiles_in}
+use Rattle.sccs_operands.specs.FolderNames.{AreSfiles, HasSfilesOf, AreInOrder, names_in, sfiles_in}
 
 -- ---- two lists in order with the same names are one
 
@@ -41,7 +41,7 @@ below : (n : List ℕ) (names : List (List ℕ)) → AllByRecursion (λ k. slice
 below n [] h = refl
 below n (k ∷ names) h = ap (λ r. is_lt r && entry.below_all (slice_cmp nat_cmp) n (paired names)) h.0 ∙ below n names h.1
 
-rises : (names : List (List ℕ)) → IsInOrder names → entry.is_sorted (slice_cmp nat_cmp) (paired names) ≡ true
+rises : (names : List (List ℕ)) → AreInOrder names → entry.is_sorted (slice_cmp nat_cmp) (paired names) ≡ true
 unfolding IsStrictlySortedBy
 rises [] h = refl
 rises (n ∷ names) h = ap (λ b. b && entry.is_sorted (slice_cmp nat_cmp) (paired names)) (below n names h.0) ∙ rises names h.1
@@ -56,7 +56,7 @@ found q (n ∷ names) =
     ap (λ b. cond b (Some tt) (entry.find (slice_cmp nat_cmp) q (paired names))) (is_eq-slice_cmp q n)
     ∙ (ap (λ (f : Option (Unit {0})). cond (bytes_eq q n) (Some tt) f) (found q names) ∙ either_way (bytes_eq q n) (list_any (bytes_eq q) names) (Some tt) None)
 
-pub same_names : (names others : List (List ℕ)) → IsInOrder names → IsInOrder others → ((q : List ℕ) → list_any (bytes_eq q) names ≡ list_any (bytes_eq q) others) → names ≡ others
+pub same_names : (names others : List (List ℕ)) → AreInOrder names → AreInOrder others → ((q : List ℕ) → list_any (bytes_eq q) names ≡ list_any (bytes_eq q) others) → names ≡ others
 same_names names others first second same =
     sym (firsts_paired names)
     ∙ (ap (λ (es : List (List ℕ × Unit {0})). firsts es)
@@ -83,12 +83,12 @@ all_above : {X : Type 0} (n : List ℕ) (es : List (List ℕ × X)) → T (entry
 all_above n [] h = tt
 all_above n (e ∷ es) h = (less (slice_cmp nat_cmp n e.0) (first_so _ _ h), all_above n es (second_so _ _ h))
 
-in_order : {X : Type 0} (es : List (List ℕ × X)) → T (entry.is_sorted (slice_cmp nat_cmp) es) → IsInOrder (firsts es)
+in_order : {X : Type 0} (es : List (List ℕ × X)) → T (entry.is_sorted (slice_cmp nat_cmp) es) → AreInOrder (firsts es)
 unfolding IsStrictlySortedBy
 in_order [] h = tt
 in_order (e ∷ es) h = (all_above e.0 es (first_so _ _ h), in_order es (second_so _ _ h))
 
-sfiles_order : (m : Folder) → IsInOrder (sfiles_in m)
+sfiles_order : (m : Folder) → AreInOrder (sfiles_in m)
 sfiles_order m = IsStrictlySortedBy-filter (slice_cmp nat_cmp) is_sfile_name (keys m) (in_order (entries m) (entries_sorted m))
 
 pub there_in : (m : Folder) (n : List ℕ) → list_any (bytes_eq n) (sfiles_in m) ≡ (is_sfile_name n && is_some (view_in m n))
@@ -111,7 +111,7 @@ where_sfile true b c h = h refl
 where_sfile false b c h = refl
 
 -- the s-files' names among those that are listed are the folder's
-pub listed_names : (v : View) (m : Folder) (listed names : List (List ℕ)) → IsListing v listed → HasSfilesOf v m → IsInOrder names → ((n : List ℕ) → list_any (bytes_eq n) names ≡ (is_sfile_name n && list_any (bytes_eq n) listed)) → names ≡ sfiles_in m
+pub listed_names : (v : View) (m : Folder) (listed names : List (List ℕ)) → IsListing v listed → HasSfilesOf v m → AreInOrder names → ((n : List ℕ) → list_any (bytes_eq n) names ≡ (is_sfile_name n && list_any (bytes_eq n) listed)) → names ≡ sfiles_in m
 listed_names v m listed names listing has order each =
     same_names names (sfiles_in m) order (sfiles_order m)
     (λ n. each n
@@ -139,7 +139,7 @@ each_named p (n ∷ names) h = (h n (first n names), each_named p names (λ k is
     later : (k n : List ℕ) (names : List (List ℕ)) → list_any (bytes_eq k) names ≡ true → list_any (bytes_eq k) (n ∷ names) ≡ true
     later k n names is = ap (λ b. bytes_eq k n || b) is ∙ or_true (bytes_eq k n)
 
-pub are_sfiles : (listed names : List (List ℕ)) → IsInOrder names → ((n : List ℕ) → list_any (bytes_eq n) names ≡ (is_sfile_name n && list_any (bytes_eq n) listed)) → AreSfiles names
+pub are_sfiles : (listed names : List (List ℕ)) → AreInOrder names → ((n : List ℕ) → list_any (bytes_eq n) names ≡ (is_sfile_name n && list_any (bytes_eq n) listed)) → AreSfiles names
 are_sfiles listed names order each = record {
   order = order;
   fit = each_named is_sfile_name names (λ n is. both (is_sfile_name n) (list_any (bytes_eq n) listed) (sym (each n) ∙ is));
@@ -213,23 +213,23 @@ all_less : (k : Vec ℕ) (ks : List (Vec ℕ)) → AllByRecursion (λ (x : Vec �
 all_less k [] h = tt
 all_less k (x ∷ ks) h = (h.0, all_less k ks h.1)
 
-set_order : (ks : List (Vec ℕ)) → IsStrictlySortedBy (λ (a b : Vec ℕ). slice_cmp nat_cmp a.items b.items) ks → IsInOrder (map (λ (v : Vec ℕ). v.items) ks)
+set_order : (ks : List (Vec ℕ)) → IsStrictlySortedBy (λ (a b : Vec ℕ). slice_cmp nat_cmp a.items b.items) ks → AreInOrder (map (λ (v : Vec ℕ). v.items) ks)
 unfolding IsStrictlySortedBy
 set_order [] h = tt
 set_order (k ∷ ks) h = (all_less k ks h.0, set_order ks h.1)
 
 -- names that are those of a set are in order
-pub order_of : (names : List (List ℕ)) (kept : BTreeSet (Vec ℕ)) → names ≡ names_in kept → IsStrictlySortedBy (λ (a b : Vec ℕ). slice_cmp nat_cmp a.items b.items) kept.keys → IsInOrder names
-order_of names kept same order = subst IsInOrder (sym same) (set_order kept.keys order)
+pub order_of : (names : List (List ℕ)) (kept : BTreeSet (Vec ℕ)) → names ≡ names_in kept → IsStrictlySortedBy (λ (a b : Vec ℕ). slice_cmp nat_cmp a.items b.items) kept.keys → AreInOrder names
+order_of names kept same order = subst AreInOrder (sym same) (set_order kept.keys order)
 
 each_kept : (listed among names : List (List ℕ)) (kept : BTreeSet (Vec ℕ)) → among ≡ listed → names ≡ names_in kept → ((n : List ℕ) → list_any (bytes_eq n) (names_in kept) ≡ (is_sfile_name n && list_any (bytes_eq n) among)) → (n : List ℕ)
     → list_any (bytes_eq n) names ≡ (is_sfile_name n && list_any (bytes_eq n) listed)
 each_kept listed among names kept all same each n = ap (λ ns. list_any (bytes_eq n) ns) same ∙ (each n ∙ ap (λ ns. is_sfile_name n && list_any (bytes_eq n) ns) all)
 
-pub told_names : (o : Option View) (listed among names : List (List ℕ)) (kept : BTreeSet (Vec ℕ)) → Lists o listed → among ≡ listed → names ≡ names_in kept → IsInOrder names → ((n : List ℕ) → list_any (bytes_eq n) (names_in kept) ≡ (is_sfile_name n && list_any (bytes_eq n) among))
+pub told_names : (o : Option View) (listed among names : List (List ℕ)) (kept : BTreeSet (Vec ℕ)) → Lists o listed → among ≡ listed → names ≡ names_in kept → AreInOrder names → ((n : List ℕ) → list_any (bytes_eq n) (names_in kept) ≡ (is_sfile_name n && list_any (bytes_eq n) among))
     → IfSome o (λ v. (m : Folder) → HasSfilesOf v m → names ≡ sfiles_in m)
 told_names None listed among names kept lists all same order each = tt
 told_names (Some v) listed among names kept lists all same order each = λ m has. listed_names v m listed names lists has order (each_kept listed among names kept all same each)
 
-pub any_names : (among names : List (List ℕ)) (kept : BTreeSet (Vec ℕ)) → names ≡ names_in kept → IsInOrder names → ((n : List ℕ) → list_any (bytes_eq n) (names_in kept) ≡ (is_sfile_name n && list_any (bytes_eq n) among)) → AreSfiles names
+pub any_names : (among names : List (List ℕ)) (kept : BTreeSet (Vec ℕ)) → names ≡ names_in kept → AreInOrder names → ((n : List ℕ) → list_any (bytes_eq n) (names_in kept) ≡ (is_sfile_name n && list_any (bytes_eq n) among)) → AreSfiles names
 any_names among names kept same order each = are_sfiles among names order (each_kept among among names kept refl same each)

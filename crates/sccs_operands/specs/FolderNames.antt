@@ -11,8 +11,8 @@ use Rattle.sccs_base.specs.Name.{is_sfile_name}
 use Rattle.sccs_disk.specs.Files.{Folder, View, view_in}
 
 -- each name is below those after it, byte for byte
-abbrev pub IsInOrder : List (List ℕ) → Type 0
-IsInOrder names = IsStrictlySortedBy (slice_cmp nat_cmp) names
+abbrev pub AreInOrder : List (List ℕ) → Type 0
+AreInOrder names = IsStrictlySortedBy (slice_cmp nat_cmp) names
 
 -- the names of the s-files
 abbrev pub sfiles_in : Folder → List (List ℕ)
@@ -20,7 +20,7 @@ sfiles_in m = filter is_sfile_name (keys m)
 
 -- Names of s-files, each once, in byte order.
 pub record AreSfiles (names : List (List ℕ)) : Type 0 where
-  pub order : IsInOrder names
+  pub order : AreInOrder names
   pub fit : AllByRecursion (λ n. is_sfile_name n ≡ true) names
 
 -- the folder has the view's s-files

@@ -5,7 +5,7 @@ ghost use Rattle.sccs_base.specs.Name.{is_sfile_name};
 ghost use Rattle.sccs_base.specs.Stream.{Rose};
 ghost use Rattle.sccs_disk.specs.Files.{Folder, View};
 ghost use Rattle.sccs_disk.specs.Told.{seen};
-ghost use Rattle.sccs_operands.specs.FolderNames.{AreSfiles, HasSfilesOf, IsInOrder, names_in, sfiles_in};
+ghost use Rattle.sccs_operands.specs.FolderNames.{AreSfiles, HasSfilesOf, AreInOrder, names_in, sfiles_in};
 
 use sccs_base::{Bytes, ListOf, Memory, Name, Words};
 use sccs_disk::{Disk, DiskRefusal};
@@ -40,7 +40,7 @@ fn sfiles_among(alloc: Global, names: &[Name]) -> Result<BTreeSet<Vec<u8>, Globa
 // names in their order
 fn in_order(alloc: Global, kept: BTreeSet<Vec<u8>, Global>) -> Result<Words, Memory>
     ensures same { IfOk result (λ names. names ≡ names_in kept) }
-    ensures order { IfOk result IsInOrder }
+    ensures order { IfOk result AreInOrder }
 {
     let mut names = Words::new(alloc);
     'names: for name in kept {

@@ -27,6 +27,8 @@ use Rattle.sccs_pfile.specs.Agreement.{agrees, first_disagreeing, has_lists, mak
 use Rattle.sccs_pfile.specs.Entries.{IsEdit}
 use Rattle.sccs_pfile.specs.Reading.{edits_of}
 use Rattle.sccs_moments.specs.Recovery.{IsSound}
+use Rattle.sccs_grammar.specs.AnySum.{unsummed_file}
+use Rattle.sccs_grammar.proofs.AnySumLaws.{unsummed_ok}
 use Rattle.sccs_pfile.specs.Recovered.{is_done, pfile_of, recovered_pfile, table_of, without_done}
 use Rattle.sccs_pfile.specs.declared.entries.Edit.{Edit}
 use Rattle.sccs_pfile.proofs.Recovering.{left_stays}
@@ -74,12 +76,15 @@ pending_answer s p f e = short_by s (bytes_or_none p) f (is_short (Some s) && is
 pub pending_file : (s : Content) (p : Option Content) (f : Found) → pending_of (Some s) p ≡ Ok f → file_of s.bytes ≡ Ok f.parsed
 pending_file s p f e = limit_by s f.parsed (nat_lt 1073741824 (length s.bytes)) (pending_answer s p f e)
 
-pub table_is : (s : Content) (parsed : Parsed) → file_of s.bytes ≡ Ok parsed → table_of s.bytes ≡ Some parsed.header.records
+pub unsummed_table : (s : Content) (parsed : Parsed) → unsummed_file s.bytes ≡ Ok parsed → table_of s.bytes ≡ Some parsed.header.records
 unfolding table_of
-table_is s parsed e = ap (λ (r : Result Parsed FileFault). option_records (found r)) e
+unsummed_table s parsed e = ap (λ (r : Result Parsed FileFault). option_records (found r)) e
   where
     option_records : Option Parsed → Option (List Record)
     option_records o = elim o as (λ _. Option (List Record)) [ None ↦ None | Some f ↦ Some f.header.records ]
+
+pub table_is : (s : Content) (parsed : Parsed) → file_of s.bytes ≡ Ok parsed → table_of s.bytes ≡ Some parsed.header.records
+table_is s parsed e = unsummed_table s parsed (unsummed_ok s.bytes parsed e)
 
 -- ---- entries that stay
 

@@ -4,7 +4,7 @@ use Rattle.std.proofs.lemmas.Bool.{cases_Bool}
 use Rattle.sccs_base.specs.Cut.{Cut, cut, longer}
 use Rattle.sccs_base.proofs.Cuts.{cut-cons}
 use Rattle.sccs_sid.specs.Reading.{until, behind}
-use Rattle.sccs_pfile.specs.Reading.{entries_at, entries_from, entry_of, with_entry}
+use Rattle.sccs_pfile.specs.Reading.{entries_at, entries_from, entry_of, edits_with_entry}
 
 -- a line before what is cut
 abbrev with_line : List ℕ → Cut → Cut
@@ -43,7 +43,7 @@ cut_none [] none = refl
 cut_none (b ∷ bytes) none = tail_by b bytes (cases_Bool (b == 10)) none (cut_none bytes)
 
 -- the entries by the first line
-pub first_line : (number : ℕ) (bytes more : List ℕ) → Some more ≡ behind 10 bytes → entries_at number bytes ≡ with_entry number (entry_of (until 10 bytes)) (entries_at (number + 1) more)
+pub first_line : (number : ℕ) (bytes more : List ℕ) → Some more ≡ behind 10 bytes → entries_at number bytes ≡ edits_with_entry number (entry_of (until 10 bytes)) (entries_at (number + 1) more)
 first_line number bytes more found = ap (λ (c : Cut). entries_from number c.lines c.tail) (cut_first bytes more (sym found))
 
 tail_fault : (number : ℕ) (bytes : List ℕ) → 0 < length bytes → entries_from number [] bytes ≡ Err number

@@ -16,7 +16,7 @@ use Rattle.sccs_sid.specs.declared.sid_lists.Range.{Range}
 use Rattle.sccs_tokens.proofs.TokenRules.{then_some, only_so, either, found_so}
 use Rattle.sccs_grammar.proofs.SpellingRules.{sid_is, moment_is}
 use Rattle.sccs_pfile.specs.Entries.{IsEdit}
-use Rattle.sccs_pfile.specs.Reading.{without_lists, with_list, with_option, with_last, with_options, entry_of_words, entry_of, with_entry, entries_from, edits_of}
+use Rattle.sccs_pfile.specs.Reading.{without_lists, edit_with_list, with_option, with_last, with_options, entry_of_words, entry_of, edits_with_entry, entries_from, edits_of}
 use Rattle.sccs_pfile.specs.declared.entries.Edit.{Edit}
 use Rattle.sccs_pfile.proofs.ListsValid.{list_is}
 
@@ -35,7 +35,7 @@ first_well got made login date time =
     then_some IsMoment IsEdit (found (moment_of date time)) _ (found_so IsMoment (moment_of date time) (moment_is date time)) λ at at-is.
     record { got = g-is; made = m-is; login = who-is; moment = at-is; include = none_are; exclude = none_are }
 
-list_well : (e : Edit) (letter : ℕ) (ranges : List Range) → IsEdit e → AllByRecursion IsRange ranges → Well (with_list e letter ranges)
+list_well : (e : Edit) (letter : ℕ) (ranges : List Range) → IsEdit e → AllByRecursion IsRange ranges → Well (edit_with_list e letter ranges)
 unfolding Well
 list_well e letter ranges is are =
     let all : All IsRange ranges = All-from_recursion IsRange ranges are in
@@ -49,8 +49,8 @@ unfolding with_option Well
 option_well e [] is = tt
 option_well e (dash ∷ []) is = tt
 option_well e (dash ∷ letter ∷ list) is =
-    either IsEdit (dash == 45) (found (list_of list) >>= with_list e letter) None
-    (then_some (AllByRecursion IsRange) IsEdit (found (list_of list)) (with_list e letter) (found_so (AllByRecursion IsRange) (list_of list) (list_is list)) λ ranges are. list_well e letter ranges is are) tt
+    either IsEdit (dash == 45) (found (list_of list) >>= edit_with_list e letter) None
+    (then_some (AllByRecursion IsRange) IsEdit (found (list_of list)) (edit_with_list e letter) (found_so (AllByRecursion IsRange) (list_of list) (list_is list)) λ ranges are. list_well e letter ranges is are) tt
 
 last_well : (ws : List (List ℕ)) (e : Edit) → IsEdit e → Well (with_last ws e)
 unfolding Well
@@ -80,7 +80,7 @@ line_well line = either IsEdit (begins_blank line) None (entry_of_words (words l
 AreEdits : List Edit → Type 0
 AreEdits edits = AllByRecursion IsEdit edits
 
-with_well : (number : ℕ) (o : Option Edit) (r : Result (List Edit) ℕ) → Well o → IfOk r AreEdits → IfOk (with_entry number o r) AreEdits
+with_well : (number : ℕ) (o : Option Edit) (r : Result (List Edit) ℕ) → Well o → IfOk r AreEdits → IfOk (edits_with_entry number o r) AreEdits
 unfolding Well AreEdits
 with_well number None r is are = tt
 with_well number (Some e) (Ok edits) is are = (is, are)

@@ -8,7 +8,7 @@ use Rattle.std.proofs.lemmas.List.Elements.{recursion_from_All, All-from_recursi
 use Rattle.sccs_base.specs.Cut.{Cut, HasNoLf, cut}
 use Rattle.sccs_base.specs.Login.{login_decides}
 use Rattle.sccs_sid.specs.Sid.{sid_text}
-use Rattle.sccs_sid.specs.SidLists.{IsRange, list_text, range_text, same_sid}
+use Rattle.sccs_sid.specs.SidLists.{IsRange, list_text, range_text, is_same_sid}
 use Rattle.sccs_sid.specs.Moment.{civil_of, date_text, moment_text, time_text}
 use Rattle.sccs_sid.specs.Words.{begins_blank, words}
 use Rattle.sccs_sid.specs.declared.sid_lists.Range.{Range}
@@ -57,7 +57,7 @@ text_spaced e =
 range_seen : (range : Range) → IsRange range → Visible (range_text range)
 unfolding range_text
 range_seen range is =
-    both (sid_text range.first) (if same_sid range.first range.last then [] else 45 ∷ sid_text range.last) (sid_seen range.first is.0) (last_seen (same_sid range.first range.last))
+    both (sid_text range.first) (if is_same_sid range.first range.last then [] else 45 ∷ sid_text range.last) (sid_seen range.first is.0) (last_seen (is_same_sid range.first range.last))
   where
     last_seen : (t : Bool) → Visible (if t then [] else 45 ∷ sid_text range.last)
     last_seen true = tt

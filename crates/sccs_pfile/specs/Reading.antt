@@ -25,15 +25,15 @@ without_lists got made login date time = do
   Some (record { got = g; made = m; login = who; moment = at; include = []; exclude = [] })
 
 -- with the list of an option, i or x, that didn't stand yet
-abbrev pub with_list : Edit → ℕ → List Range → Option Edit
-with_list e letter ranges =
+abbrev pub edit_with_list : Edit → ℕ → List Range → Option Edit
+edit_with_list e letter ranges =
     if letter == 105 then only (is_empty e.include) (record e { include = ranges })
     else if letter == 120 then only (is_empty e.exclude) (record e { exclude = ranges })
     else None
 
 -- with the list of a word `-iLIST` or `-xLIST`
 unfoldable pub with_option : Edit → List ℕ → Option Edit
-with_option e (dash ∷ letter ∷ list) = if dash == 45 then found (list_of list) >>= with_list e letter else None
+with_option e (dash ∷ letter ∷ list) = if dash == 45 then found (list_of list) >>= edit_with_list e letter else None
 with_option e _ = None
 
 -- with the list of the last word, where there is one more
@@ -56,16 +56,16 @@ entry_of_words _ = None
 unfoldable pub entry_of : List ℕ → Option Edit
 entry_of line = if begins_blank line then None else entry_of_words (words line)
 
-abbrev pub with_entry : ℕ → Option Edit → Result (List Edit) ℕ → Result (List Edit) ℕ
-with_entry number None rest = Err number
-with_entry number (Some e) (Ok edits) = Ok (e ∷ edits)
-with_entry number (Some e) (Err line) = Err line
+abbrev pub edits_with_entry : ℕ → Option Edit → Result (List Edit) ℕ → Result (List Edit) ℕ
+edits_with_entry number None rest = Err number
+edits_with_entry number (Some e) (Ok edits) = Ok (e ∷ edits)
+edits_with_entry number (Some e) (Err line) = Err line
 
 -- the entries of lines, of which the first has a number, with the bytes behind the last LF; or the first line at fault
 abbrev pub entries_from : ℕ → List (List ℕ) → List ℕ → Result (List Edit) ℕ
 entries_from number [] [] = Ok []
 entries_from number [] (b ∷ tail) = Err number
-entries_from number (line ∷ lines) tail = with_entry number (entry_of line) (entries_from (number + 1) lines tail)
+entries_from number (line ∷ lines) tail = edits_with_entry number (entry_of line) (entries_from (number + 1) lines tail)
 
 abbrev pub entries_at : ℕ → List ℕ → Result (List Edit) ℕ
 entries_at number bytes = entries_from number (cut bytes).lines (cut bytes).tail
@@ -79,7 +79,7 @@ abbrev pub IsPFile : List ℕ → List Edit → Type 0
 IsPFile bytes edits = edits_of bytes ≡ Ok edits
 
 -- What is read is this, or there was no memory.
-abbrev pub Reads : Result (List Edit) PfileFault → Result (List Edit) ℕ → Type 0
-Reads (Ok edits) read = read ≡ Ok edits
-Reads (Err (BadPfile line)) read = read ≡ Err line
-Reads (Err Memory) read = Unit {0}
+abbrev pub ReadsEdits : Result (List Edit) PfileFault → Result (List Edit) ℕ → Type 0
+ReadsEdits (Ok edits) read = read ≡ Ok edits
+ReadsEdits (Err (BadPfile line)) read = read ≡ Err line
+ReadsEdits (Err Memory) read = Unit {0}

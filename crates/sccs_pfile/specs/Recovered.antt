@@ -6,7 +6,7 @@ use Rattle.sccs_disk.specs.Files.{Content}
 use Rattle.sccs_sid.specs.Words.{found}
 use Rattle.sccs_history.specs.History.{lives}
 use Rattle.sccs_history.specs.declared.headers.Record.{Record}
-use Rattle.sccs_grammar.specs.File.{file_of}
+use Rattle.sccs_grammar.specs.AnySum.{unsummed_file}
 use Rattle.sccs_pfile.specs.Reading.{edits_of}
 use Rattle.sccs_pfile.specs.Written.{edits_text}
 use Rattle.sccs_pfile.specs.declared.entries.Edit.{Edit}
@@ -28,18 +28,18 @@ abbrev pub pfile_of : List Edit → Option Content
 pfile_of [] = None
 pfile_of (e ∷ edits) = Some (written_pfile (e ∷ edits))
 
--- the delta table of an s-file that can be read
+-- the delta table of an s-file that can be read, whatever its stored sum is: what is in it doesn't hang on that
 unfoldable pub table_of : List ℕ → Option (List Record)
-table_of bytes = option_map (λ f. f.header.records) (found (file_of bytes))
+table_of bytes = option_map (λ f. f.header.records) (found (unsummed_file bytes))
 
 -- the same file where no entry leaves it, else the p-file of the others
-abbrev pub dropped : List Record → List Edit → Content → Option Content
-dropped records edits p = if list_any (is_done records) edits then pfile_of (without_done records edits) else Some p
+abbrev pub entries_dropped : List Record → List Edit → Content → Option Content
+entries_dropped records edits p = if list_any (is_done records) edits then pfile_of (without_done records edits) else Some p
 
 abbrev pub recovered_by : Option (List Record) → Result (List Edit) ℕ → Content → Option Content
 recovered_by None read p = Some p
 recovered_by (Some records) (Err line) p = Some p
-recovered_by (Some records) (Ok edits) p = dropped records edits p
+recovered_by (Some records) (Ok edits) p = entries_dropped records edits p
 
 -- The p-file that recovery leaves of an s-file and a p-file: without the entries whose delta is made. Where one of the two
 -- isn't there or can't be read it is as it was.

@@ -2,7 +2,7 @@ ghost use Rattle.std.specs.Prelude.{◌≡◌, ◌<◌, ◌+◌, ◌∷◌, [], 
 ghost use Rattle.sccs_sid.specs.SidLists.{IsRange};
 ghost use Rattle.sccs_sid.specs.Words.{words};
 ghost use Rattle.sccs_pfile.specs.Entries.{IsEdit};
-ghost use Rattle.sccs_pfile.specs.Reading.{Reads, edits_of, entries_at, entry_of, entry_of_words, with_entry, with_last, with_list, with_option, with_options, without_lists};
+ghost use Rattle.sccs_pfile.specs.Reading.{ReadsEdits, edits_of, entries_at, entry_of, entry_of_words, edits_with_entry, with_last, edit_with_list, with_option, with_options, without_lists};
 
 use crate::entries::{Edit, Edits, PfileFault};
 use sccs_base::{LF, Login, Memory};
@@ -74,7 +74,7 @@ fn without_lists(alloc: Global, words: &EntryWords<'_>) -> Option<Edit>
 fn with_list(edit: Edit, letter: u8, list: SidList) -> Option<Edit>
     requires edit { IsEdit edit }
     requires list { All IsRange list }
-    ensures value { result ≡ with_list edit letter list }
+    ensures value { result ≡ edit_with_list edit letter list }
     ensures valid { IfSome result IsEdit }
 {
     let mut edit = edit;
@@ -166,8 +166,8 @@ fn read_entry(alloc: Global, line: &[u8]) -> Result<Option<Edit>, Memory>
 fn next_entry(alloc: Global, number: u64, bytes: &[u8]) -> Result<(Edit, &[u8]), PfileFault>
     requires { 0 < length bytes.now }
     ensures value { MatchResult result
-        (λ x. with_entry number (Some x.0) (entries_at (number + 1) x.1.now) ≡ entries_at number bytes.now)
-        (λ fault. Reads (Err fault) (entries_at number bytes.now)) }
+        (λ x. edits_with_entry number (Some x.0) (entries_at (number + 1) x.1.now) ≡ entries_at number bytes.now)
+        (λ fault. ReadsEdits (Err fault) (entries_at number bytes.now)) }
     ensures valid { IfOk result (λ x. IsEdit x.0) }
     ensures shorter { IfOk result (λ x. length x.1.now < length bytes.now) }
 {
@@ -185,7 +185,7 @@ fn next_entry(alloc: Global, number: u64, bytes: &[u8]) -> Result<(Edit, &[u8]),
 /// The entries of a p-file, in their order. BadPfile names the first line, from 1, that is none,
 /// exactly where there is one. A file without bytes has no entries. POSIX, get -e; System V, p-file.
 pub fn read_edits(alloc: Global, bytes: &[u8]) -> Result<Edits, PfileFault>
-    ensures value { Reads result (edits_of bytes.now) }
+    ensures value { ReadsEdits result (edits_of bytes.now) }
     ensures valid { IfOk result (All IsEdit) }
 {
     let mut edits = Edits::empty(alloc);

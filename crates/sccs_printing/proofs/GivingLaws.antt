@@ -18,9 +18,9 @@ use Rattle.sccs_keys.specs.declared.facts.Facts.{Facts}
 use Rattle.sccs_sid.specs.declared.refusals.StepFault.{StepFault}
 use Rattle.sccs_table.proofs.RunLaws.{lines_are}
 use Rattle.sccs_table.specs.Runs.{lf_count}
-use Rattle.sccs_texts.specs.Forms.{LineForm, formed_lines, formed_text, has_keywords, if_replaced, replaces, texts}
+use Rattle.sccs_texts.specs.Forms.{LineForm, formed_lines, formed_text, has_keywords, if_replaced, replaces_in, texts}
 use Rattle.sccs_texts.proofs.TextLaws.{put_together}
-use Rattle.sccs_versions.specs.Coming.{ComeFirst, ComesNext, Coming, GivesNext, StandFirst}
+use Rattle.sccs_versions.specs.Coming.{ComeFirst, ComesNext, Coming, GivesNextLine, StandFirst}
 use Rattle.sccs_versions.specs.Place.{IsInserter, VersionPlace}
 use Rattle.sccs_versions.specs.WasRead.{HasRead, ReadsAll, ReadsOn, shown_before}
 use Rattle.sccs_weave.specs.declared.regions.Region.{Region}
@@ -52,11 +52,11 @@ same_shown lines lines2 keywords keywords2 few some = cc
 
 counted_both : (form : LineForm) (s : Shown) (xs ys : List (List ℕ)) → with_lines form (with_lines form s xs) ys ≡ with_lines form s (xs ++ ys)
 counted_both form s xs ys =
-    same_shown (s.lines + length xs + length ys) (s.lines + length (xs ++ ys)) ((s.keywords || replaces form xs) || replaces form ys) (s.keywords || replaces form (xs ++ ys))
-    (omega (arith, length-append xs ys)) (sym (or_assoc s.keywords (replaces form xs) (replaces form ys)) ∙ ap (λ b. s.keywords || b) (sym (either_replaced form.facts xs ys)))
+    same_shown (s.lines + length xs + length ys) (s.lines + length (xs ++ ys)) ((s.keywords || replaces_in form xs) || replaces_in form ys) (s.keywords || replaces_in form (xs ++ ys))
+    (omega (arith, length-append xs ys)) (sym (or_assoc s.keywords (replaces_in form xs) (replaces_in form ys)) ∙ ap (λ b. s.keywords || b) (sym (either_replaced form.facts xs ys)))
 
 counted_none : (form : LineForm) (s : Shown) → s ≡ with_lines form s []
-counted_none form s = same_shown s.lines (s.lines + 0) s.keywords (s.keywords || replaces form []) (omega arith) (or_none s.keywords ∙ ap (λ b. s.keywords || b) (none form.facts))
+counted_none form s = same_shown s.lines (s.lines + 0) s.keywords (s.keywords || replaces_in form []) (omega arith) (or_none s.keywords ∙ ap (λ b. s.keywords || b) (none form.facts))
   where
     none : (facts : Option Facts) → false ≡ if_replaced facts (has_keywords [])
     none None = refl
@@ -65,14 +65,14 @@ counted_none form s = same_shown s.lines (s.lines + 0) s.keywords (s.keywords ||
 pub run_counted : (form : LineForm) (s s2 : Shown) (run : List ℕ) (many count : ℕ) (some : Bool) → s2 ≡ s → (cut run).tail ≡ [] → many ≡ lf_count run → count ≡ s.lines + many → some ≡ if_replaced form.facts (list_any is_keyword (parts run))
     → ◌≡◌ {A = Shown} (record { lines = count; keywords = s2.keywords || some }) (with_lines form s (cut run).lines)
 run_counted form s s2 run many count some same whole many_is count_is some_is =
-    same_shown count (s.lines + length (cut run).lines) (s2.keywords || some) (s.keywords || replaces form (cut run).lines)
+    same_shown count (s.lines + length (cut run).lines) (s2.keywords || some) (s.keywords || replaces_in form (cut run).lines)
     (count_is ∙ ap (λ n. s.lines + n) (many_is ∙ lines_are run))
     (ap (λ (o : Shown). o.keywords || some) same ∙ ap (λ b. s.keywords || b) (some_is ∙ ap (if_replaced form.facts) (run_keywords run whole)))
 
 pub line_counted : (form : LineForm) (s s2 : Shown) (line : List ℕ) (count : ℕ) (some : Bool) → s2 ≡ s → count ≡ s.lines + 1 → some ≡ if_replaced form.facts (list_any is_keyword (parts line))
     → ◌≡◌ {A = Shown} (record { lines = count; keywords = s2.keywords || some }) (with_lines form s (line ∷ []))
 line_counted form s s2 line count some same count_is some_is =
-    same_shown count (s.lines + 1) (s2.keywords || some) (s.keywords || replaces form (line ∷ [])) count_is
+    same_shown count (s.lines + 1) (s2.keywords || some) (s.keywords || replaces_in form (line ∷ [])) count_is
     (ap (λ (o : Shown). o.keywords || some) same ∙ ap (λ b. s.keywords || b) (some_is ∙ ap (if_replaced form.facts) (or_none (list_any is_keyword (parts line)))))
 
 -- ---- lines that were given
@@ -202,7 +202,7 @@ pub none_next : (lines : List HistoryLine) (g : Giving) (a : Option (List ℕ)) 
 none_next lines g a none = subst (λ (ls : List HistoryLine). Gave ls g g a a) (sym none) (gave_none g a)
 
 -- over a told body only the disk or memory can end it
-pub next_fault : (file : List ℕ) (r : VersionPlace) (lines : List HistoryLine) (fault : FileFault) → GivesNext file r lines (Err fault) → IsFaultAroundPrint (file_fault fault)
+pub next_fault : (file : List ℕ) (r : VersionPlace) (lines : List HistoryLine) (fault : FileFault) → GivesNextLine file r lines (Err fault) → IsFaultAroundPrint (file_fault fault)
 next_fault file r lines faults.Failed given = tt
 next_fault file r lines faults.Memory given = tt
 next_fault file r lines (faults.BadFormat line) given = absurd given
@@ -213,7 +213,7 @@ next_fault file r lines (faults.BadSum stored sum) given = absurd given
 next_fault file r lines faults.Encoded given = absurd given
 next_fault file r lines (faults.Changed a b c d) given = absurd given
 
-pub fault_cut : (file : List ℕ) (r : VersionPlace) (lines : List HistoryLine) (fault : FileFault) (ended : StepFault) (g : Giving) (a : Option (List ℕ)) → ended ≡ file_fault fault → GivesNext file r lines (Err fault) → CutsLines lines ended g g a a
+pub fault_cut : (file : List ℕ) (r : VersionPlace) (lines : List HistoryLine) (fault : FileFault) (ended : StepFault) (g : Giving) (a : Option (List ℕ)) → ended ≡ file_fault fault → GivesNextLine file r lines (Err fault) → CutsLines lines ended g g a a
 fault_cut file r lines fault ended g a is given =
     uncut (file_of g.target) ended (text_next g lines) (held_back g.target) a (subst IsFaultAroundPrint (sym is) (next_fault file r lines fault given))
 

@@ -6,12 +6,12 @@ use Rattle.sccs_base.specs.Cut.{cut}
 use Rattle.sccs_history.specs.Body.{HistoryLine}
 use Rattle.sccs_history.specs.declared.headers.Record.{Record}
 use Rattle.sccs_tokens.specs.Written.{bytes_of, ended}
-use Rattle.sccs_keys.specs.Keywords.{Plain, bytes_behind, found, is_keyword, keyword_of, part_of, parts, parts_behind}
+use Rattle.sccs_keys.specs.Keywords.{Plain, keyword_rest, found_keyword, is_keyword, keyword_of, keyword_part, parts, parts_behind}
 use Rattle.sccs_keys.specs.declared.facts.Facts.{Facts}
 use Rattle.sccs_keys.specs.declared.keywords.Keyword.{Keyword}
 use Rattle.sccs_keys.proofs.KeywordLaws.{found_length, plain_stays}
 use Rattle.sccs_table.proofs.RunLaws.{run_bytes}
-use Rattle.sccs_texts.specs.Forms.{LineForm, formed, formed_lines, formed_text, has_keywords, has_prefix, if_replaced, replaced, replaces, texts}
+use Rattle.sccs_texts.specs.Forms.{LineForm, formed, formed_lines, formed_text, has_keywords, has_prefix, if_replaced, replaced_line, replaces_in, texts}
 
 -- ---- no keyword goes over LF
 
@@ -26,7 +26,7 @@ never : (test : Bool) (keyword : Option Keyword) → cond (test && false) keywor
 never true keyword = refl
 never false keyword = refl
 
-found_lf : (line rest : List ℕ) → found (line ++ 10 ∷ rest) ≡ found line
+found_lf : (line rest : List ℕ) → found_keyword (line ++ 10 ∷ rest) ≡ found_keyword line
 found_lf [] [] = refl
 found_lf [] (a ∷ []) = refl
 found_lf [] (a ∷ b ∷ rest) = refl
@@ -35,17 +35,17 @@ found_lf (a ∷ []) (b ∷ rest) = neither ((a == 37) && (b == 37))
 found_lf (a ∷ b ∷ []) rest = never (a == 37) (keyword_of b)
 found_lf (a ∷ b ∷ c ∷ line) rest = refl
 
-behind_fits : (b : ℕ) (line : List ℕ) (o : Option Keyword) → found (b ∷ line) ≡ o → bytes_behind o ≤ length line
+behind_fits : (b : ℕ) (line : List ℕ) (o : Option Keyword) → found_keyword (b ∷ line) ≡ o → keyword_rest o ≤ length line
 behind_fits b line None is = omega arith
 behind_fits b line (Some keyword) is = omega (arith, found_length (b ∷ line) keyword is)
 
 parts_lf : (skip : ℕ) (line rest : List ℕ) → skip ≤ length line → parts_behind skip (line ++ 10 ∷ rest) ≡ parts_behind skip line ++ Plain 10 ∷ parts rest
-parts_lf zero [] rest fits = ap (λ o. part_of 10 o ∷ parts_behind (bytes_behind o) rest) (found_lf [] rest)
+parts_lf zero [] rest fits = ap (λ o. keyword_part 10 o ∷ parts_behind (keyword_rest o) rest) (found_lf [] rest)
 parts_lf (suc skip) [] rest fits = absurd (omega (arith, fits))
 parts_lf (suc skip) (b ∷ line) rest fits = parts_lf skip line rest (omega (arith, fits))
 parts_lf zero (b ∷ line) rest fits =
-    ap (λ o. part_of b o ∷ parts_behind (bytes_behind o) (line ++ 10 ∷ rest)) (found_lf (b ∷ line) rest)
-    ∙ ap (λ more. part_of b (found (b ∷ line)) ∷ more) (parts_lf (bytes_behind (found (b ∷ line))) line rest (behind_fits b line (found (b ∷ line)) refl))
+    ap (λ o. keyword_part b o ∷ parts_behind (keyword_rest o) (line ++ 10 ∷ rest)) (found_lf (b ∷ line) rest)
+    ∙ ap (λ more. keyword_part b (found_keyword (b ∷ line)) ∷ more) (parts_lf (keyword_rest (found_keyword (b ∷ line))) line rest (behind_fits b line (found_keyword (b ∷ line)) refl))
 
 any_lf : (line rest : List ℕ) → list_any is_keyword (parts (line ++ 10 ∷ rest)) ≡ (list_any is_keyword (parts line) || list_any is_keyword (parts rest))
 any_lf line rest = ap (list_any is_keyword) (parts_lf 0 line rest (omega arith)) ∙ list_any-append is_keyword (parts line) (Plain 10 ∷ parts rest)
@@ -79,7 +79,7 @@ rest_none : (a b : Bool) → (a || b) ≡ false → b ≡ false
 rest_none true b e = cc
 rest_none false b e = e
 
-stays : (facts : Option Facts) (number : ℕ) (line : List ℕ) (more : List (List ℕ)) → if_replaced facts (has_keywords (line ∷ more)) ≡ false → replaced facts number line ≡ line
+stays : (facts : Option Facts) (number : ℕ) (line : List ℕ) (more : List (List ℕ)) → if_replaced facts (has_keywords (line ∷ more)) ≡ false → replaced_line facts number line ≡ line
 stays None number line more none = refl
 stays (Some facts) number line more none = plain_stays facts number line (first_none (list_any is_keyword (parts line)) (has_keywords more) none)
 
@@ -96,7 +96,7 @@ unprefixed None false facts records number n (line ∷ lines) bare none =
     ap (λ text. ended text ++ formed_lines (record { module_name = None; has_sids = false; facts = facts }) records (suc number) n lines) (stays facts number line lines none)
     ∙ ap (λ more. ended line ++ more) (unprefixed None false facts records (suc number) n lines bare (others facts line lines none))
 
-pub run_stands : (form : LineForm) (records : List Record) (number n : ℕ) (run : List ℕ) → (cut run).tail ≡ [] → has_prefix form ≡ false → replaces form (cut run).lines ≡ false
+pub run_stands : (form : LineForm) (records : List Record) (number n : ℕ) (run : List ℕ) → (cut run).tail ≡ [] → has_prefix form ≡ false → replaces_in form (cut run).lines ≡ false
     → formed_lines form records number n (cut run).lines ≡ run
 run_stands form records number n run whole bare none = unprefixed form.module_name form.has_sids form.facts records number n (cut run).lines bare none ∙ sym (run_bytes run whole)
 

@@ -12,7 +12,7 @@ use Rattle.sccs_history.specs.declared.headers.Record.{Record}
 use Rattle.sccs_sid.specs.declared.refusals.StepFault.{StepFault}
 use Rattle.sccs_sid.specs.declared.refusals.StepFault.TheVariants.{Refused, Memory, WriteFault, ReadFault, DiskFault}
 use Rattle.sccs_steps.specs.Causes.{PrintCauses}
-use Rattle.sccs_texts.specs.Forms.{LineForm, formed_text, replaces, texts}
+use Rattle.sccs_texts.specs.Forms.{LineForm, formed_text, replaces_in, texts}
 use Rattle.sccs_versions.specs.Place.{VersionPlace}
 use Rattle.sccs_versions.specs.WasRead.{HasRead, shown_before}
 use Rattle.sccs_printing.specs.Counted.{with_lines, no_lines, shown_of}
@@ -58,7 +58,7 @@ printed form records lines given result target g g2 o o2 o3 t t2 t3 begun keeps 
 shown_all : (form : LineForm) (records : List Record) (target : Target) (g : Giving) (lines : List HistoryLine) (s : Shown) → Begun form records target g → s ≡ with_lines (giving_form g) g.shown (texts lines) → s ≡ shown_of form lines
 shown_all form records target g lines s begun is =
     is ∙ (ap (λ f. with_lines f g.shown (texts lines)) begun.form_is ∙ (ap (λ (o : Shown). with_lines form o (texts lines)) begun.shown_is
-    ∙ same_shown (0 + length (texts lines)) (length lines) (replaces form (texts lines)) (replaces form (texts lines)) (omega (arith, length-map lines (λ (line : HistoryLine). line.text))) refl))
+    ∙ same_shown (0 + length (texts lines)) (length lines) (replaces_in form (texts lines)) (replaces_in form (texts lines)) (omega (arith, length-map lines (λ (line : HistoryLine). line.text))) refl))
 
 pub found : (form : LineForm) (records : List Record) (lines : List HistoryLine) (given : Result (Unit {0}) StepFault) (result : Result Shown StepFault) (target : Target) (g g2 : Giving) (a b : Option (List ℕ)) → Begun form records target g → GivesAll lines given g g2 a b
     → OnOk result (IsOk given) → IfOk result (λ s. s ≡ g2.shown) → IfOk result (λ s. s ≡ shown_of form lines)

@@ -4,7 +4,7 @@ use Rattle.sccs_base.specs.Stream.{Buffers}
 use Rattle.sccs_history.specs.Body.{HistoryLine, is_over}
 use Rattle.sccs_history.specs.declared.headers.Item.{Item}
 use Rattle.sccs_sid.specs.declared.refusals.StepFault.{StepFault}
-use Rattle.sccs_texts.specs.Forms.{LineForm, form_of, formed_text, texts}
+use Rattle.sccs_texts.specs.Forms.{LineForm, line_form, formed_text, texts}
 use Rattle.sccs_versions.specs.Coming.{Coming}
 use Rattle.sccs_versions.specs.Place.{VersionPlace, name_of}
 use Rattle.sccs_versions.specs.WasRead.{HasRead, Stood, shown_before}
@@ -16,7 +16,7 @@ use Rattle.sccs_printing.specs.declared.givings.Giving.{Giving}
 
 -- the form in which lines are given
 abbrev pub giving_form : Giving → LineForm
-giving_form g = form_of g.form.now
+giving_form g = line_form g.form.now
 
 -- the text of lines that come next
 abbrev pub text_next : Giving → List HistoryLine → List ℕ

@@ -22,6 +22,6 @@ SearchesNextLine file r lines (Ok None) = lines ≡ []
 SearchesNextLine file r lines (Err fault) = IsFaultAroundPrint fault
 
 -- exactly where a line has one; of a told file only the disk or memory can keep it from an answer
-abbrev pub Searches : List HistoryLine → Result Bool StepFault → Type 0
-Searches lines (Ok some) = some ≡ has_keywords (texts lines)
-Searches lines (Err fault) = IsFaultAroundPrint fault
+abbrev pub SearchesKeywords : List HistoryLine → Result Bool StepFault → Type 0
+SearchesKeywords lines (Ok some) = some ≡ has_keywords (texts lines)
+SearchesKeywords lines (Err fault) = IsFaultAroundPrint fault

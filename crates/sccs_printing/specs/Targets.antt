@@ -96,7 +96,7 @@ Spares file (Err fault) = SparesSink file fault
 
 -- A target that a text may be given to from its start: it holds nothing back, and a target file is there and another than the one
 -- that is read.
-pub record IsFresh (target : Target) (read : List ℕ) (told : Told) : Type 0 where
+pub record IsFreshTarget (target : Target) (read : List ℕ) (told : Told) : Type 0 where
   pub empty : held_back target ≡ []
   pub there : CanTake (file_of target) told
   pub apart : IsApart (file_of target) read

@@ -7,9 +7,9 @@ ghost use Rattle.sccs_history.specs.Numbers.{Falls};
 ghost use Rattle.sccs_history.specs.declared.headers.Item.{Item};
 ghost use Rattle.sccs_table.specs.ReaderState.{bytes_in};
 ghost use Rattle.sccs_table.specs.Runs.{lf_count};
-ghost use Rattle.sccs_texts.specs.Forms.{form_of, formed_lines};
+ghost use Rattle.sccs_texts.specs.Forms.{line_form, formed_lines};
 ghost use Rattle.sccs_versions.specs.Coming.{Coming};
-ghost use Rattle.sccs_versions.specs.Place.{name_of, steps_left};
+ghost use Rattle.sccs_versions.specs.Place.{name_of, steps_to_end};
 ghost use Rattle.sccs_versions.specs.WasRead.{HasRead};
 ghost use Rattle.sccs_printing.specs.Counted.{with_lines, no_lines};
 ghost use Rattle.sccs_printing.specs.Giving.{CanGive, GivesAll, GivesMore, GivesRun, KeepsForm, KeepsGiving, KeepsVersion, ReadSome, ReadWhole, ReadsMore, giving_form};
@@ -45,7 +45,7 @@ impl<'a> Giving<'a> {
         target: Target,
     ) -> Giving<'a>
         requires { Falls 65536 (serials_of records.now) }
-        ensures form { giving_form result ≡ form_of form.now }
+        ensures form { giving_form result ≡ line_form form.now }
         ensures sids { result.sids ≡ records.now }
         ensures shown { result.shown ≡ no_lines }
         ensures target { result.target ≡ target }
@@ -219,7 +219,7 @@ fn give_run<O: Sink, D: Disk>(
     ensures frame { UsesTarget (file_of giving.old.target) O.given O.faults D.told D.faults out.old out.new disk.old disk.new result }
     ensures keeps { KeepsForm giving.old giving.new }
     ensures version { KeepsVersion version.old version.new }
-    ensures left { steps_left version.new ≤ steps_left version.old }
+    ensures left { steps_to_end version.new ≤ steps_to_end version.old }
     ensures gives { (file : List ℕ) (lines : List HistoryLine) → Coming file version.old lines
         → GivesRun file version.new lines result giving.old giving.new (target_bytes (file_of giving.old.target) (O.given out.old) (D.told disk.old)) (target_bytes (file_of giving.old.target) (O.given out.new) (D.told disk.new)) }
     ensures read { OnOk result ((live : List ℕ) (before : List Item) → HasRead live version.old before
@@ -247,7 +247,7 @@ fn give_next<O: Sink, D: Disk>(
     ensures frame { UsesTarget (file_of giving.old.target) O.given O.faults D.told D.faults out.old out.new disk.old disk.new result }
     ensures keeps { KeepsForm giving.old giving.new }
     ensures version { KeepsVersion version.old version.new }
-    ensures further { IfOk result (λ more. more ≡ true → steps_left version.new < steps_left version.old) }
+    ensures further { IfOk result (λ more. more ≡ true → steps_to_end version.new < steps_to_end version.old) }
     ensures gives { (file : List ℕ) (lines : List HistoryLine) → bytes_in (seen (D.told disk.old)) (name_of version.old) ≡ Some file → Coming file version.old lines
         → GivesMore file version.new lines result giving.old giving.new (target_bytes (file_of giving.old.target) (O.given out.old) (D.told disk.old)) (target_bytes (file_of giving.old.target) (O.given out.new) (D.told disk.new)) }
     ensures read { (live : List ℕ) (before : List Item) → HasRead live version.old before

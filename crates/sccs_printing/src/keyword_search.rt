@@ -6,9 +6,9 @@ ghost use Rattle.sccs_steps.specs.Actions.{RefusesWithin};
 ghost use Rattle.sccs_steps.specs.Causes.{PrintCauses};
 ghost use Rattle.sccs_table.specs.ReaderState.{bytes_in};
 ghost use Rattle.sccs_versions.specs.Coming.{Coming, IsBody, shown};
-ghost use Rattle.sccs_versions.specs.Place.{name_of, steps_left};
+ghost use Rattle.sccs_versions.specs.Place.{name_of, steps_to_end};
 ghost use Rattle.sccs_printing.specs.Printing.{file_checks};
-ghost use Rattle.sccs_printing.specs.Searching.{Searched, Searches, SearchesNextLine};
+ghost use Rattle.sccs_printing.specs.Searching.{Searched, SearchesKeywords, SearchesNextLine};
 
 use sccs_base::Name;
 use sccs_disk::Disk;
@@ -22,7 +22,7 @@ use std::alloc::Global;
 // whether the lines that are held whole have a keyword; they are passed over
 fn search_run(version: &mut VersionReader<'_>) -> bool
     ensures name { name_of version.new ≡ name_of version.old }
-    ensures left { steps_left version.new ≤ steps_left version.old }
+    ensures left { steps_to_end version.new ≤ steps_to_end version.old }
     ensures told { (file : List ℕ) (lines : List HistoryLine) → Coming file version.old lines → Searched file version.new lines result }
 {
     let texts = version.texts();
@@ -41,7 +41,7 @@ fn search_next<D: Disk>(
     ensures causes { (out : ℕ) → PrintCauses result out out (D.faults disk.old) (D.faults disk.new) }
     ensures checks { RefusesWithin file_checks result }
     ensures name { name_of version.new ≡ name_of version.old }
-    ensures further { IfOk result (λ more. IfSome more (λ _. steps_left version.new < steps_left version.old)) }
+    ensures further { IfOk result (λ more. IfSome more (λ _. steps_to_end version.new < steps_to_end version.old)) }
     ensures told { (file : List ℕ) (lines : List HistoryLine) → bytes_in (seen (D.told disk.old)) (name_of version.old) ≡ Some file → Coming file version.old lines
         → SearchesNextLine file version.new lines result }
 {
@@ -59,7 +59,7 @@ fn search_all<D: Disk>(version: &mut VersionReader<'_>, disk: &mut D) -> Result<
     ensures causes { (out : ℕ) → PrintCauses result out out (D.faults disk.old) (D.faults disk.new) }
     ensures checks { RefusesWithin file_checks result }
     ensures told { (file : List ℕ) (lines : List HistoryLine) → bytes_in (seen (D.told disk.old)) (name_of version.old) ≡ Some file → Coming file version.old lines
-        → Searches lines result }
+        → SearchesKeywords lines result }
 {
     let mut found = false;
     'lines: loop {
@@ -86,7 +86,7 @@ pub fn has_keywords<D: Disk>(
     ensures checks { RefusesWithin file_checks result }
     ensures told { (file : List ℕ) (items : List Item)
         → IsBody (bytes_in (seen (D.told disk.old)) name.now) front.now set.now file items
-        → Searches (shown set.now (lines_of items)) result }
+        → SearchesKeywords (shown set.now (lines_of items)) result }
 {
     let Ok(mut version) = VersionReader::new(alloc, name, front, set) else {
         return Err(StepFault::Memory);

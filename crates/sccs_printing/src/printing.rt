@@ -10,11 +10,11 @@ ghost use Rattle.sccs_sid.specs.declared.refusals.StepFault.TheVariants as fault
 ghost use Rattle.sccs_steps.specs.Actions.{RefusesWithin};
 ghost use Rattle.sccs_steps.specs.Causes.{PrintCauses};
 ghost use Rattle.sccs_table.specs.ReaderState.{bytes_in};
-ghost use Rattle.sccs_texts.specs.Forms.{form_of};
+ghost use Rattle.sccs_texts.specs.Forms.{line_form};
 ghost use Rattle.sccs_versions.specs.Coming.{IsBody, shown};
 ghost use Rattle.sccs_printing.specs.Counted.{shown_of};
 ghost use Rattle.sccs_printing.specs.Printing.{CanForm, PrintsWhole, file_checks, version_text};
-ghost use Rattle.sccs_printing.specs.Targets.{CanTake, GivesTo, IsFresh, KeepsTargetMark, Prints, Reaches, Spares, UsesTarget, file_of, target_bytes, held_back};
+ghost use Rattle.sccs_printing.specs.Targets.{CanTake, GivesTo, IsFreshTarget, KeepsTargetMark, Prints, Reaches, Spares, UsesTarget, file_of, target_bytes, held_back};
 
 use crate::givings::{Giving, give_all};
 use crate::shown::Shown;
@@ -75,17 +75,17 @@ pub fn give_text<O: Sink, D: Disk>(
     out: &mut O,
     disk: &mut D,
 ) -> Result<Shown, StepFault>
-    requires text { CanForm (form_of form.now) front.now.header.records }
-    requires target { IsFresh target name.now (D.told disk.old) }
+    requires text { CanForm (line_form form.now) front.now.header.records }
+    requires target { IsFreshTarget target name.now (D.told disk.old) }
     ensures frame { UsesTarget (file_of target) O.given O.faults D.told D.faults out.old out.new disk.old disk.new result }
     ensures prints { (file : List ℕ) (items : List Item)
         → IsBody (bytes_in (seen (D.told disk.old)) name.now) front.now set.now file items
-        → Prints (file_of target) (version_text (form_of form.now) front.now.header.records (shown set.now (lines_of items))) result
+        → Prints (file_of target) (version_text (line_form form.now) front.now.header.records (shown set.now (lines_of items))) result
         (target_bytes (file_of target) (O.given out.old) (D.told disk.old)) (target_bytes (file_of target) (O.given out.new) (D.told disk.new)) }
     ensures found { (file : List ℕ) (items : List Item)
         → IsBody (bytes_in (seen (D.told disk.old)) name.now) front.now set.now file items
-        → IfOk result (λ s. s ≡ shown_of (form_of form.now) (shown set.now (lines_of items))) }
-    ensures whole { IfOk result (λ s. has set.now 0 ≡ false → PrintsWhole (form_of form.now) front.now.header.records set.now s
+        → IfOk result (λ s. s ≡ shown_of (line_form form.now) (shown set.now (lines_of items))) }
+    ensures whole { IfOk result (λ s. has set.now 0 ≡ false → PrintsWhole (line_form form.now) front.now.header.records set.now s
         (target_bytes (file_of target) (O.given out.old) (D.told disk.old)) (target_bytes (file_of target) (O.given out.new) (D.told disk.new))) }
 {
     let Ok(mut version) = VersionReader::new(alloc, name, front, set) else {
@@ -108,18 +108,18 @@ pub fn print_text<O: Sink, D: Disk>(
     out: &mut O,
     disk: &mut D,
 ) -> Result<Shown, StepFault>
-    requires facts { IfSome (form_of form.now).facts HasMoments }
+    requires facts { IfSome (line_form form.now).facts HasMoments }
     requires table { Falls 65536 (serials_of front.now.header.records) }
     ensures same { D.told disk.new ≡ D.told disk.old }
     ensures causes { PrintCauses result (O.faults out.old) (O.faults out.new) (D.faults disk.old) (D.faults disk.new) }
     ensures checks { RefusesWithin file_checks result }
     ensures prints { (file : List ℕ) (items : List Item)
         → IsBody (bytes_in (seen (D.told disk.old)) name.now) front.now set.now file items
-        → Prints None (version_text (form_of form.now) front.now.header.records (shown set.now (lines_of items))) result (O.given out.old) (O.given out.new) }
+        → Prints None (version_text (line_form form.now) front.now.header.records (shown set.now (lines_of items))) result (O.given out.old) (O.given out.new) }
     ensures found { (file : List ℕ) (items : List Item)
         → IsBody (bytes_in (seen (D.told disk.old)) name.now) front.now set.now file items
-        → IfOk result (λ s. s ≡ shown_of (form_of form.now) (shown set.now (lines_of items))) }
-    ensures whole { IfOk result (λ s. has set.now 0 ≡ false → PrintsWhole (form_of form.now) front.now.header.records set.now s (O.given out.old) (O.given out.new)) }
+        → IfOk result (λ s. s ≡ shown_of (line_form form.now) (shown set.now (lines_of items))) }
+    ensures whole { IfOk result (λ s. has set.now 0 ≡ false → PrintsWhole (line_form form.now) front.now.header.records set.now s (O.given out.old) (O.given out.new)) }
 {
     let Ok(buffer) = OutputBuffer::new(alloc) else {
         return Err(StepFault::Memory);

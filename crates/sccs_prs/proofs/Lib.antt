@@ -1,4 +1,5 @@
 pub mod BodyLaws
 pub mod GivesLaws
 pub mod LinesLaws
+pub mod ReportLaws
 pub mod StepLaws

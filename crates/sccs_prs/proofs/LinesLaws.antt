@@ -12,7 +12,7 @@ use Rattle.sccs_history.specs.declared.headers.Record.{Record}
 use Rattle.sccs_tokens.specs.Written.{bytes_of}
 use Rattle.sccs_sid.specs.declared.refusals.StepFault.{StepFault}
 use Rattle.sccs_sid.specs.declared.refusals.StepFault.TheVariants.{Refused, Memory, ReadFault, WriteFault, DiskFault}
-use Rattle.sccs_texts.specs.Forms.{bare, texts}
+use Rattle.sccs_texts.specs.Forms.{bare_form, texts}
 use Rattle.sccs_texts.proofs.TextLaws.{as_they_are}
 use Rattle.sccs_versions.specs.Coming.{IsBody, shown}
 use Rattle.sccs_printing.specs.Printing.{version_text}
@@ -35,11 +35,11 @@ texts_shown set (line ∷ lines) = by (shows set line) (texts_shown set lines)
     by true rest = ap (λ (t : List (List ℕ)). line.text ∷ t) rest
     by false rest = rest
 
-pub bare_text : (records : List Record) (set : List ℕ) (lines : List HistoryLine) → version_text bare records (shown set lines) ≡ bytes_of (select set lines)
+pub bare_text : (records : List Record) (set : List ℕ) (lines : List HistoryLine) → version_text bare_form records (shown set lines) ≡ bytes_of (select set lines)
 bare_text records set lines = as_they_are records 1 (shown set lines) ∙ ap bytes_of (texts_shown set lines)
 
 -- that of a delta that lives
-pub live_text : (s : ShownFile) (r : Record) (set : List ℕ) → r.removed ≡ false → set ≡ applied (version_of r.serial) s.header.records → version_text bare s.header.records (shown set (lines_of s.items)) ≡ delta_lines s r
+pub live_text : (s : ShownFile) (r : Record) (set : List ℕ) → r.removed ≡ false → set ≡ applied (version_of r.serial) s.header.records → version_text bare_form s.header.records (shown set (lines_of s.items)) ≡ delta_lines s r
 live_text s r set lives is =
     bare_text s.header.records set (lines_of s.items)
     ∙ (ap (λ (t : List ℕ). bytes_of (select t (lines_of s.items))) is
@@ -61,7 +61,7 @@ with_set told front file items set none is = record { told_is = is.told_is; fron
 
 -- ---- the deltas of a table
 
-has_more : (b : Bool) (m n : ℕ) (ms : List ℕ) → has ms n ≡ true → has (front_if b m ms) n ≡ true
+pub has_more : (b : Bool) (m n : ℕ) (ms : List ℕ) → has ms n ≡ true → has (front_if b m ms) n ≡ true
 has_more true m n ms is = by (m == n) is
   where
     by : (t : Bool) → has ms n ≡ true → (t || has ms n) ≡ true
@@ -69,7 +69,7 @@ has_more true m n ms is = by (m == n) is
     by false is = is
 has_more false m n ms is = is
 
-has_first : (r : Record) (ms : List ℕ) → r.removed ≡ false → has (front_if (not r.removed) r.serial ms) r.serial ≡ true
+pub has_first : (r : Record) (ms : List ℕ) → r.removed ≡ false → has (front_if (not r.removed) r.serial ms) r.serial ≡ true
 has_first r ms lives = subst (λ (b : Bool). has (front_if (not b) r.serial ms) r.serial ≡ true) (sym lives) (ap (λ (t : Bool). t || has ms r.serial) (eq-eqb r.serial r.serial refl))
 
 pub shown_at : (records : List Record) (i : ℕ) (d : Record) → AllByRecursion HasSpelling records → i < length records → IsShown records (get_or records i d)

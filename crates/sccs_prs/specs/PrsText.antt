@@ -6,8 +6,8 @@ use Rattle.sccs_history.specs.declared.headers.Header.{Header}
 use Rattle.sccs_history.specs.declared.headers.Item.{Item}
 use Rattle.sccs_history.specs.declared.headers.Record.{Record}
 use Rattle.sccs_tokens.specs.Written.{bytes_of, ended, item_line}
-use Rattle.sccs_data_keywords.specs.DataKeywords.{parts}
-use Rattle.sccs_data_keywords.specs.Values.{facts_in, item_text}
+use Rattle.sccs_data_keywords.specs.DataKeywords.{data_parts}
+use Rattle.sccs_data_keywords.specs.Values.{delta_facts, item_text}
 use Rattle.sccs_data_keywords.specs.declared.keywords.Part.{Part}
 use Rattle.sccs_data_keywords.specs.declared.keywords.Part.TheVariants.{Plain, Body, Text}
 use Rattle.sccs_data_keywords.specs.declared.keywords.Part.TheVariants as part
@@ -33,7 +33,7 @@ delta_lines s r = if r.removed then [] else bytes_of (version r.serial s.header.
 -- what a part of a specification stands for where a delta is shown
 abbrev pub data_text : ShownFile → Record → Part → List ℕ
 data_text s r (Plain byte) = byte ∷ []
-data_text s r (part.Item item) = item_text s.header (facts_in s.header s.name s.place r) r item
+data_text s r (part.Item item) = item_text s.header (delta_facts s.header s.name s.place r) r item
 data_text s r Body = body_text s.items
 data_text s r Text = delta_lines s r
 
@@ -43,7 +43,7 @@ parts_text ps s r = flat_map (data_text s r) ps
 
 -- the text of a specification for a delta
 abbrev pub prs_text : List ℕ → ShownFile → Record → List ℕ
-prs_text spec s r = parts_text (parts spec) s r
+prs_text spec s r = parts_text (data_parts spec) s r
 
 -- the texts of the deltas that come, each with an LF behind it
 abbrev pub shown_text : Bool → Chosen → List Part → ShownFile → Record → List ℕ
@@ -66,4 +66,4 @@ name_text words n = if is_some words.spec then [] else n ++ (58 ∷ 10 ∷ 10 �
 
 -- all that prs prints of an s-file
 abbrev pub report_text : PrsWords → Chosen → ShownFile → List ℕ
-report_text words chosen s = name_text words s.name ++ deltas_text words.all chosen (parts (data_spec words.spec)) s s.header.records
+report_text words chosen s = name_text words s.name ++ deltas_text words.all chosen (data_parts (data_spec words.spec)) s s.header.records

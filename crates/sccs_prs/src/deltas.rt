@@ -10,7 +10,7 @@ ghost use Rattle.sccs_printing.specs.Printing.{file_checks};
 ghost use Rattle.sccs_steps.specs.Actions.{RefusesWithin};
 ghost use Rattle.sccs_steps.specs.Causes.{PrintCauses};
 ghost use Rattle.sccs_table.specs.ReaderState.{bytes_in};
-ghost use Rattle.sccs_data_keywords.specs.Values.{facts_in};
+ghost use Rattle.sccs_data_keywords.specs.Values.{delta_facts};
 ghost use Rattle.sccs_tokens.specs.Written.{ended};
 ghost use Rattle.sccs_prs.specs.Gives.{GivesHeld, IsListedFile, PrintsAll};
 ghost use Rattle.sccs_prs.specs.Shown.{IsShown, shown_file};
@@ -106,7 +106,7 @@ fn put_part<O: Sink, D: Disk>(
 ) -> Result<(), StepFault>
     requires table { IsTable file.front.now.header.records }
     requires shown { IsShown file.front.now.header.records delta.now }
-    requires facts { facts.now ≡ facts_in file.front.now.header file.name.now file.place.now delta.now }
+    requires facts { facts.now ≡ delta_facts file.front.now.header file.name.now file.place.now delta.now }
     requires moments { HasMoments facts.now }
     ensures same { D.told disk.new ≡ D.told disk.old }
     ensures causes { PrintCauses result (O.faults out.old) (O.faults out.new) (D.faults disk.old) (D.faults disk.new) }
@@ -135,7 +135,7 @@ fn put_parts<O: Sink, D: Disk>(
 ) -> Result<(), StepFault>
     requires table { IsTable file.front.now.header.records }
     requires shown { IsShown file.front.now.header.records delta.now }
-    requires facts { facts.now ≡ facts_in file.front.now.header file.name.now file.place.now delta.now }
+    requires facts { facts.now ≡ delta_facts file.front.now.header file.name.now file.place.now delta.now }
     requires moments { HasMoments facts.now }
     ensures same { D.told disk.new ≡ D.told disk.old }
     ensures causes { PrintCauses result (O.faults out.old) (O.faults out.new) (D.faults disk.old) (D.faults disk.new) }

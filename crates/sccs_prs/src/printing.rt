@@ -8,7 +8,7 @@ ghost use Rattle.sccs_printing.specs.Printing.{file_checks};
 ghost use Rattle.sccs_steps.specs.Actions.{RefusesWithin};
 ghost use Rattle.sccs_steps.specs.Causes.{PrintCauses};
 ghost use Rattle.sccs_table.specs.ReaderState.{bytes_in};
-ghost use Rattle.sccs_data_keywords.specs.DataKeywords.{parts};
+ghost use Rattle.sccs_data_keywords.specs.DataKeywords.{data_parts};
 ghost use Rattle.sccs_prs.specs.Gives.{GivesHeld, IsListedFile, PrintsAll};
 ghost use Rattle.sccs_prs.specs.PrsText.{deltas_text, name_text, report_text, shown_text, data_spec};
 ghost use Rattle.sccs_prs.specs.Shown.{IsShown, shown_file};

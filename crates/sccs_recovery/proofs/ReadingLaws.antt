@@ -22,9 +22,10 @@ use Rattle.sccs_table.specs.ReaderState.{file_in}
 use Rattle.sccs_table.specs.declared.fronts.Front.{Front}
 use Rattle.sccs_body.specs.BodyFile.{AnswersFile}
 use Rattle.sccs_pfile.specs.Reading.{edits_of}
+use Rattle.sccs_grammar.proofs.AnySumLaws.{unsummed_ok}
 use Rattle.sccs_pfile.specs.Recovered.{recovered_by, recovered_pfile, table_of}
 use Rattle.sccs_pfile.specs.declared.entries.Edit.{Edit}
-use Rattle.sccs_recovery.specs.Checks.{Reads, ReadsTable, as_pfile, bytes_read, entries_read, readable, table_in, table_read}
+use Rattle.sccs_recovery.specs.Checks.{ReadsOrRefuses, ReadsTable, as_pfile, bytes_read, entries_read, readable, table_in, table_read}
 use Rattle.sccs_recovery.specs.Entries.{Finds, IsGone, LeavesEntries, Recovers, pfile_left}
 use Rattle.sccs_recovery.specs.declared.entries_left.PfileLeft.{PfileLeft}
 use Rattle.sccs_recovery.specs.declared.entries_left.PfileLeft.TheVariants.{Same, Gone, Others}
@@ -107,9 +108,13 @@ table_found c records is = by_limit (nat_lt 1073741824 (length c.bytes)) is
     by_file (Ok f) e = cc
     by_file (Err fault) e = absurd (cc)
 
+    by_table : (r : Result Parsed FileFault) → file_of c.bytes ≡ r → (or_refusal r >>= λ f. Ok (Some f.header.records)) ≡ Ok (Some records) → table_of c.bytes ≡ Some records
+    by_table (Ok f) same e = ap (λ (r : Result Parsed FileFault). option_map (λ g. g.header.records) (found r)) (unsummed_ok c.bytes f same) ∙ by_file (Ok f) e
+    by_table (Err fault) same e = absurd cc
+
     by_limit : (b : Bool) → (or_refusal ((cond b (Err faults.TooLong) (Ok c.bytes)) >>= file_of) >>= λ f. Ok (Some f.header.records)) ≡ Ok (Some records) → table_of c.bytes ≡ Some records
     by_limit true e = absurd (cc)
-    by_limit false e = by_file (file_of c.bytes) e
+    by_limit false e = by_table (file_of c.bytes) refl e
 
 pub recovers_edits : (s : Option Content) (c : Content) (records : List Record) (edits : List Edit) (left : PfileLeft) → table_read s ≡ Ok (Some records) → edits_of c.bytes ≡ Ok edits → LeavesEntries records edits left
     → recovered_pfile s (Some c) ≡ pfile_left (Some c) left
@@ -140,7 +145,7 @@ unfolding readable
 readable_second s p bytes refusal first second =
     ap (λ (r : Result (Option (List ℕ)) Refusal). r >>= λ b. table_read s >>= λ t. entries_read b >>= λ e. Ok true) first ∙ ap (λ (r : Result (Option (List Record)) Refusal). r >>= λ t. entries_read bytes >>= λ e. Ok true) second
 
-pub first_fails : (s p : Option Content) (fault : StepFault) → Reads (bytes_read p) (Err fault) → Finds s p (Err fault)
+pub first_fails : (s p : Option Content) (fault : StepFault) → ReadsOrRefuses (bytes_read p) (Err fault) → Finds s p (Err fault)
 first_fails s p (step.Refused refusal) reads = readable_first s p refusal reads
 first_fails s p step.Memory reads = tt
 first_fails s p step.ReadFault reads = tt
@@ -205,7 +210,7 @@ finds_line s p bytes table line first second read = readable_by s p (Some bytes)
 
 -- ---- of a view
 
-pub none_first : (told : Option View) (n k : List ℕ) (fault : StepFault) → IfSome told (λ (v : View). Reads (bytes_read (v k)) (Err fault)) → IfSome told (λ (v : View). Finds (v n) (v k) (Err fault))
+pub none_first : (told : Option View) (n k : List ℕ) (fault : StepFault) → IfSome told (λ (v : View). ReadsOrRefuses (bytes_read (v k)) (Err fault)) → IfSome told (λ (v : View). Finds (v n) (v k) (Err fault))
 none_first told n k fault reads = some_map told (λ v r. first_fails (v n) (v k) fault r) reads
 
 pub both_some : (P Q : View → Type 0) (told told2 : Option View) → told2 ≡ told → IfSome told P → IfSome told2 (λ v. P v → Q v) → IfSome told Q

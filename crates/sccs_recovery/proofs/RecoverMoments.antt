@@ -23,13 +23,13 @@ use Rattle.sccs_steps.specs.StepEffects.{Outcome, effect_of}
 use Rattle.sccs_steps.specs.Calls.{Meets, scene, world}
 use Rattle.sccs_steps.specs.Actions.{IsHeard}
 use Rattle.sccs_steps.specs.Recovering.{RecoversStep}
-use Rattle.sccs_steps.specs.StepStops.{Ends, IsSafe, IsSafeFor, MeetsAt, StepMoments, place_of}
+use Rattle.sccs_steps.specs.StepStops.{Ends, IsSafe, IsSafeFor, MeetsAt, StepMoments, meeting_place}
 use Rattle.sccs_steps.proofs.SafeImages.{numbered_each}
 use Rattle.sccs_steps.proofs.Safety.{placed_safe}
 use Rattle.sccs_store.specs.Commits.{Becomes}
-use Rattle.sccs_recovery.specs.Checks.{Passes, checked}
+use Rattle.sccs_recovery.specs.Checks.{PassesChecks, checked}
 use Rattle.sccs_recovery.specs.Commands.{Says, is_locked}
-use Rattle.sccs_recovery.specs.RecoverStep.{found_text, recover_action, recover_step, recovers, unlocked}
+use Rattle.sccs_recovery.specs.RecoverStep.{found_text, recover_action, recover_step, recovers, recovered_files}
 use Rattle.sccs_recovery.specs.declared.recoveries.Recovered.{Recovered}
 use Rattle.sccs_recovery.specs.declared.recoveries.Recovered.TheVariants as ways
 use Rattle.sccs_recovery.proofs.RecoveryEnds.{Faults, cut_ends, fault_steps, is_said, made_ends, recovers_at, step_of}
@@ -48,9 +48,9 @@ none_left None = refl
 none_left (Some s) = refl
 
 -- and the name is safe again
-after_safe : (n : List ℕ) (v : View) (z : Bool) → is_some (v (z_file n)) ≡ z → IsSfile n → IsSafe n v → IsSafe n (moved v n (cond z (Some (unlocked (look v n))) None))
+after_safe : (n : List ℕ) (v : View) (z : Bool) → is_some (v (z_file n)) ≡ z → IsSfile n → IsSafe n v → IsSafe n (moved v n (cond z (Some (recovered_files (look v n))) None))
 after_safe n v true is sfile safe =
-    placed_safe n v (unlocked (look v n)) sfile safe.plain (twice_once (v n) (v (p_file n))) (λ gone. ap (recovered_pfile (v n)) (safe.paired gone) ∙ none_left (v n))
+    placed_safe n v (recovered_files (look v n)) sfile safe.plain (twice_once (v n) (v (p_file n))) (λ gone. ap (recovered_pfile (v n)) (safe.paired gone) ∙ none_left (v n))
 after_safe n v false is sfile safe = safe
 
 -- ---- moments
@@ -100,7 +100,7 @@ stopped_same w a b m past story leaves is calm =
 made_at : (n : List ℕ) (r : Result (Unit {0}) StepFault) (m : Model) (past : List Model) (a b : Told) (out out2 err : Option (List ℕ)) → IsSfile n → seen b ≡ Some (recover n (view_of m)) → Says r (recovers n (look (view_of m) n)).out out out2
     → EndsAfter (view_of m) (moved (view_of m) n (recovers n (look (view_of m) n)).new) m past b → IsSafeFor recover_action n (moved (view_of m) n (recovers n (look (view_of m) n)).new)
     → (met : Meets (λ (done : Unit {0}). 0) r n (Ok (recovers n (look (view_of m) n))) (world (Some (view_of m)) out err) (world (seen b) out2 err))
-    × Ends (place_of r n (Ok (recovers n (look (view_of m) n))) (world (Some (view_of m)) out err) (world (seen b) out2 err) met) recover_action n (view_of m) (moved (view_of m) n (recovers n (look (view_of m) n)).new) m past b
+    × Ends (meeting_place r n (Ok (recovers n (look (view_of m) n))) (world (Some (view_of m)) out err) (world (seen b) out2 err) met) recover_action n (view_of m) (moved (view_of m) n (recovers n (look (view_of m) n)).new) m past b
 made_at n (Ok done) m past a b out out2 err sfile view says ends safe = (made_ends n (view_of m) (Ok done) (seen b) out out2 err sfile view says, (ends, safe))
 made_at n (Err WriteFault) m past a b out out2 err sfile view says ends safe = (inr (cut_ends n (view_of m) (seen b) out out2 err sfile view says), (ends, safe))
 made_at n (Err Memory) m past a b out out2 err sfile view says ends safe = absurd says
@@ -109,21 +109,21 @@ made_at n (Err DiskFault) m past a b out out2 err sfile view says ends safe = ab
 made_at n (Err (Refused refusal)) m past a b out out2 err sfile view says ends safe = absurd says
 
 pub made_moments : (n : List ℕ) (found : Recovered) (r : Result (Unit {0}) StepFault) (a b : Told) (left out out2 err : Option (List ℕ)) → IsSfile n → Becomes (recover n) (seen a) (seen b)
-    → IfSome (seen a) (λ (v : View). (found ≡ ways.Clean) ↔ (v (z_file n) ≡ None)) → IfSome (seen a) (λ (v : View). Passes (checked n v) (Ok found)) → Says r (found_text n (is_locked found)) out out2 → RecoversOn a b → LeavesCalm a b
+    → IfSome (seen a) (λ (v : View). (found ≡ ways.Clean) ↔ (v (z_file n) ≡ None)) → IfSome (seen a) (λ (v : View). PassesChecks (checked n v) (Ok found)) → Says r (found_text n (is_locked found)) out out2 → RecoversOn a b → LeavesCalm a b
     → StepMoments recover_action r n left (scene a out err) (scene b out2 err)
 made_moments n found r a b left out out2 err sfile view clean checks says story leaves = λ m past i is heard calm safe.
     let v : View = view_of m in
     let view_is : seen b ≡ Some (recover n v) = subst (λ (t : Told). Becomes (recover n) (seen t) (seen b)) is view in
     let clean_is : (found ≡ ways.Clean) ↔ (v (z_file n) ≡ None) = subst (λ (t : Told). IfSome (seen t) (λ (u : View). (found ≡ ways.Clean) ↔ (u (z_file n) ≡ None))) is clean in
-    let passed : Passes (checked n v) (Ok found) = subst (λ (t : Told). IfSome (seen t) (λ (u : View). Passes (checked n u) (Ok found))) is checks in
+    let passed : PassesChecks (checked n v) (Ok found) = subst (λ (t : Told). IfSome (seen t) (λ (u : View). PassesChecks (checked n u) (Ok found))) is checks in
     let said : Says r (recovers n (look v n)).out out out2 = subst (λ (z : Bool). Says r (found_text n z) out out2) (is_said found (v (z_file n)) clean_is) says in
     subst (λ (t : Told). MeetsAt recover_action r n (recover_step n (look v n)) v m past (scene t out err) (scene b out2 err)) (sym is)
-    (subst (λ (o : Outcome). (met : Meets (λ (done : Unit {0}). 0) r n o (world (Some v) out err) (world (seen b) out2 err)) × Ends (place_of r n o (world (Some v) out err) (world (seen b) out2 err) met) recover_action n v (moved v n (effect_of n o).new) m past b) (sym (step_of n (look v n) (Ok true) passed))
+    (subst (λ (o : Outcome). (met : Meets (λ (done : Unit {0}). 0) r n o (world (Some v) out err) (world (seen b) out2 err)) × Ends (meeting_place r n o (world (Some v) out err) (world (seen b) out2 err) met) recover_action n v (moved v n (effect_of n o).new) m past b) (sym (step_of n (look v n) (Ok true) passed))
     (made_at n r m past a b out out2 err sfile view_is said (made_after n a b m past sfile story leaves is calm) (λ changes. after_safe n v (is_some (v (z_file n))) refl sfile (safe changes))))
 
 -- the call answers a fault
 fault_at : (fault : StepFault) (n : List ℕ) (o : Outcome) (a b : Told) (out err : Option (List ℕ)) (m : Model) (past : List Model) → Faults n fault a b → RecoversOn a b → LeavesFirm a b → (fault ≡ Memory → TouchesOnly (is_working n) a b) → a ≡ Tells m past → IsCalm m → IsSafeFor recover_action n (view_of m)
-    → (met : Meets (λ (done : Unit {0}). 0) (Err fault) n o (world (Some (view_of m)) out err) (world (seen b) out err)) → Ends (place_of (Err fault) n o (world (Some (view_of m)) out err) (world (seen b) out err) met) recover_action n (view_of m) (moved (view_of m) n (effect_of n o).new) m past b
+    → (met : Meets (λ (done : Unit {0}). 0) (Err fault) n o (world (Some (view_of m)) out err) (world (seen b) out err)) → Ends (meeting_place (Err fault) n o (world (Some (view_of m)) out err) (world (seen b) out err) met) recover_action n (view_of m) (moved (view_of m) n (effect_of n o).new) m past b
 fault_at (Refused refusal) n o a b out err m past faults story leaves touches is calm safe met =
     subst (λ (q : Outcome). EndsAfter (view_of m) (moved (view_of m) n (effect_of n q).new) m past b × IsSafeFor recover_action n (moved (view_of m) n (effect_of n q).new)) (sym met.0)
     (before_after (view_of m) m past b (same_before m past b calm (faults.refused refusal refl ∙ is)), safe)

@@ -15,7 +15,7 @@ use Rattle.sccs_sid.specs.declared.refusals.StepFault.{StepFault}
 use Rattle.sccs_sid.specs.declared.refusals.StepFault.TheVariants.{Refused, Memory, ReadFault, WriteFault, DiskFault}
 use Rattle.sccs_pfile.specs.Recovered.{recovered_pfile}
 use Rattle.sccs_files.specs.StepFiles.{AreCleared, Files, Moves, MovesPartly, is_left, is_working, look, moved, placed}
-use Rattle.sccs_moments.specs.Recovery.{cleaned, cleared, recover, without}
+use Rattle.sccs_moments.specs.Recovery.{cleaned, cleared, recover, without_name}
 use Rattle.sccs_moments.proofs.FileNames.{from_g, from_sfile, no_q, no_working, no_y, no_z, working_s}
 use Rattle.sccs_moments.proofs.Recovering.{cleared_other, recover_by}
 use Rattle.sccs_steps.specs.StepEffects.{Outcome, StepEffect}
@@ -28,11 +28,11 @@ use Rattle.sccs_store.specs.Commits.{Becomes, IsPart, Plan, committed, files_aft
 use Rattle.sccs_store.specs.declared.new_files.NewFile.TheVariants.{Keep, Replace}
 use Rattle.sccs_store.proofs.Committed.{committed_at, part_at}
 use Rattle.sccs_store.proofs.Working.{becomes_moves}
-use Rattle.sccs_recovery.specs.Checks.{IsWithin, Passes, checked, readable, recover_checks, recovers_if}
+use Rattle.sccs_recovery.specs.Checks.{IsWithin, PassesChecks, checked, readable, recover_checks, recovers_if}
 use Rattle.sccs_recovery.specs.Ends.{RecoversName}
 use Rattle.sccs_recovery.specs.Entries.{Finds}
 use Rattle.sccs_recovery.specs.Commands.{Says, is_locked}
-use Rattle.sccs_recovery.specs.RecoverStep.{files_checked, found_text, recover_action, recover_step, recovers, unlocked}
+use Rattle.sccs_recovery.specs.RecoverStep.{files_checked, found_text, recover_action, recover_step, recovers, recovered_files}
 use Rattle.sccs_recovery.specs.declared.recoveries.Recovered.{Recovered}
 use Rattle.sccs_recovery.specs.declared.recoveries.Recovered.TheVariants as ways
 use Rattle.sccs_recovery.specs.declared.entries_left.PfileLeft.{PfileLeft}
@@ -105,12 +105,12 @@ abbrev as_plan : Plan
 as_plan = plan false Replace Keep
 
 as_commit : (n : List ℕ) (v : View) → is_some (v (z_file n)) ≡ true → recover n v ≡ committed n as_plan (with_q n v)
-as_commit n v there = ap (recover_by n v) there ∙ sym (ap (without (z_file n)) (q_placed n (cleared n v) (recovered_pfile (v n) (v (p_file n))) (cleared_q n v)))
+as_commit n v there = ap (recover_by n v) there ∙ sym (ap (without_name (z_file n)) (q_placed n (cleared n v) (recovered_pfile (v n) (v (p_file n))) (cleared_q n v)))
 
 abbrev files : Option Content → Option Content → Option Content → Files
 files s p g = record { s = s; p = p; z = None; g = g }
 
-files_are : (n : List ℕ) (v : View) → IsSfile n → files_after n as_plan (with_q n v) ≡ unlocked (look v n)
+files_are : (n : List ℕ) (v : View) → IsSfile n → files_after n as_plan (with_q n v) ≡ recovered_files (look v n)
 files_are n v sfile =
     let p : Option Content = recovered_pfile (v n) (v (p_file n)) in
     let s_is : with_q n v n ≡ v n = put_other (cleared n v) (q_file n) n p (from_sfile 113 n n sfile refl) ∙ cleared_other n v n (working_s n n sfile) in
@@ -118,14 +118,14 @@ files_are n v sfile =
     let g_is : with_q n v (drop 2 n) ≡ v (drop 2 n) = put_other (cleared n v) (q_file n) (drop 2 n) p (from_g 113 n sfile) ∙ cleared_other n v (drop 2 n) (working_g n sfile) in
     ap (λ (o : Option Content). files o (with_q n v (q_file n)) (with_q n v (drop 2 n))) s_is ∙ (ap (λ (o : Option Content). files (v n) o (with_q n v (drop 2 n))) p_is ∙ ap (λ (o : Option Content). files (v n) p o) g_is)
 
-unlocked_at : (n : List ℕ) (v : View) (k : List ℕ) → IsSfile n → is_some (v (z_file n)) ≡ true → is_working n k ≡ false → recover n v k ≡ placed v n (unlocked (look v n)) k
+unlocked_at : (n : List ℕ) (v : View) (k : List ℕ) → IsSfile n → is_some (v (z_file n)) ≡ true → is_working n k ≡ false → recover n v k ≡ placed v n (recovered_files (look v n)) k
 unlocked_at n v k sfile there h =
     ap (λ (u : View). u k) (as_commit n v there)
     ∙ (committed_at n as_plan (with_q n v) v k sfile h (λ other. put_other (cleared n v) (q_file n) k (recovered_pfile (v n) (v (p_file n))) (no_q n k h) ∙ cleared_other n v k h)
     ∙ ap (λ (f : Files). placed v n f k) (files_are n v sfile))
 
 -- what recovery makes of the files is what the step says
-moved_by : (n : List ℕ) (v : View) (k : List ℕ) (z : Bool) → is_some (v (z_file n)) ≡ z → IsSfile n → is_working n k ≡ false → recover n v k ≡ moved v n (cond z (Some (unlocked (look v n))) None) k
+moved_by : (n : List ℕ) (v : View) (k : List ℕ) (z : Bool) → is_some (v (z_file n)) ≡ z → IsSfile n → is_working n k ≡ false → recover n v k ≡ moved v n (cond z (Some (recovered_files (look v n))) None) k
 moved_by n v k true is sfile h = unlocked_at n v k sfile is h
 moved_by n v k false is sfile h = ap (λ (u : View). u k) (ap (recover_by n v) is) ∙ put_other v (y_file n) k None (no_y n k h)
 
@@ -144,9 +144,9 @@ recovered_clears n v k h = by (is_some (v (z_file n)))
     without_z false =
         put_other (cleared n v) (p_file n) k (recovered_pfile (v n) (v (p_file n))) (working_p n k h) ∙ gone_by (bytes_eq (x_file n) k) (bytes_eq (q_file n) k) (bytes_eq (y_file n) k) (v k) h
 
-    by : (z : Bool) → (cond z (without (z_file n) (cleaned n v)) (without (y_file n) v) k ≡ None) ⊎ (cond z (without (z_file n) (cleaned n v)) (without (y_file n) v) k ≡ v k)
+    by : (z : Bool) → (cond z (without_name (z_file n) (cleaned n v)) (without_name (y_file n) v) k ≡ None) ⊎ (cond z (without_name (z_file n) (cleaned n v)) (without_name (y_file n) v) k ≡ v k)
     by true = inl (without_z (bytes_eq (z_file n) k))
-    by false = ⊎_elim (λ e. inl (subst (λ l. without (y_file n) v l ≡ None) e (put_same v (y_file n) None))) (λ other. inr (put_other v (y_file n) k None other)) (name_cases (y_file n) k)
+    by false = ⊎_elim (λ e. inl (subst (λ l. without_name (y_file n) v l ≡ None) e (put_same v (y_file n) None))) (λ other. inr (put_other v (y_file n) k None other)) (name_cases (y_file n) k)
 
 -- ---- how the call ends
 
@@ -198,11 +198,11 @@ made_ends n v (Err DiskFault) o2 out out2 err sfile is says = absurd says
 made_ends n v (Err (Refused refusal)) o2 out out2 err sfile is says = absurd says
 
 pub made_steps : (n : List ℕ) (found : Recovered) (r : Result (Unit {0}) StepFault) (a b : Told) (left out out2 err : Option (List ℕ)) → IsSfile n → Becomes (recover n) (seen a) (seen b)
-    → IfSome (seen a) (λ (v : View). (found ≡ ways.Clean) ↔ (v (z_file n) ≡ None)) → IfSome (seen a) (λ (v : View). Passes (checked n v) (Ok found)) → Says r (found_text n (is_locked found)) out out2
+    → IfSome (seen a) (λ (v : View). (found ≡ ways.Clean) ↔ (v (z_file n) ≡ None)) → IfSome (seen a) (λ (v : View). PassesChecks (checked n v) (Ok found)) → Says r (found_text n (is_locked found)) out out2
     → Stepped recover_action r n left (scene a out err) (scene b out2 err)
 made_steps n found r a b left out out2 err sfile view clean checks says = by (seen a) view clean checks
   where
-    by : (o : Option View) → Becomes (recover n) o (seen b) → IfSome o (λ (v : View). (found ≡ ways.Clean) ↔ (v (z_file n) ≡ None)) → IfSome o (λ (v : View). Passes (checked n v) (Ok found))
+    by : (o : Option View) → Becomes (recover n) o (seen b) → IfSome o (λ (v : View). (found ≡ ways.Clean) ↔ (v (z_file n) ≡ None)) → IfSome o (λ (v : View). PassesChecks (checked n v) (Ok found))
         → IfSome o (λ (v : View). (i : List ℕ) → IsHeard false left i → Meets (λ (done : Unit {0}). 0) r n (recover_step n (look v n)) (world o out err) (world (seen b) out2 err))
     by None view clean checks = tt
     by (Some v) view clean checks = λ i heard.
@@ -211,7 +211,7 @@ made_steps n found r a b left out out2 err sfile view clean checks says = by (se
 
 -- what is asked of a call that answers a fault
 pub record Faults (n : List ℕ) (fault : StepFault) (a b : Told) : Type 0 where
-  pub checks : IfSome (seen a) (λ (v : View). Passes {A = Recovered} (checked n v) (Err fault))
+  pub checks : IfSome (seen a) (λ (v : View). PassesChecks {A = Recovered} (checked n v) (Err fault))
   pub refused : (refusal : Refusal) → fault ≡ Refused refusal → b ≡ a
   pub memory : fault ≡ Memory → Moves (is_working n) (λ v. v) (seen a) (seen b)
   pub cleared : fault ≡ Memory → AreCleared n (seen a) (seen b)
@@ -228,7 +228,7 @@ partly_by n v (Some w) r is parts = λ k h. subst (λ (x : Result Bool Refusal).
 recover_other : (n : List ℕ) (v : View) (k : List ℕ) → is_left n k ≡ false → bytes_eq (p_file n) k ≡ false → recover n v k ≡ v k
 recover_other n v k h other = by (is_some (v (z_file n)))
   where
-    by : (z : Bool) → cond z (without (z_file n) (cleaned n v)) (without (y_file n) v) k ≡ v k
+    by : (z : Bool) → cond z (without_name (z_file n) (cleaned n v)) (without_name (y_file n) v) k ≡ v k
     by true = put_other (cleaned n v) (z_file n) k None (no_z n k h) ∙ (put_other (cleared n v) (p_file n) k (recovered_pfile (v n) (v (p_file n))) other ∙ cleared_other n v k (no_working n k h))
     by false = put_other v (y_file n) k None (no_y n k (no_working n k h))
 
@@ -264,7 +264,7 @@ fault_ends : (n : List ℕ) (v : View) (fault : StepFault) (r : Result Bool Refu
     → Meets (λ (done : Unit {0}). 0) (Err fault) n (r >>= λ done. Ok (recovers n (look v n))) (world (Some v) out err) (world (seen b) out err)
 fault_ends n v (Refused refusal) r a b out err sfile told is faults =
     ends_silent v (seen b) n (r >>= λ done. Ok (recovers n (look v n))) (Refused refusal) out err (ap seen (faults.refused refusal refl) ∙ told)
-    (ap (λ (x : Result Bool Refusal). x >>= λ done. Ok (recovers n (look v n))) (sym is ∙ subst (λ (o : Option View). IfSome o (λ (u : View). Passes {A = Recovered} (checked n u) (Err (Refused refusal)))) told faults.checks))
+    (ap (λ (x : Result Bool Refusal). x >>= λ done. Ok (recovers n (look v n))) (sym is ∙ subst (λ (o : Option View). IfSome o (λ (u : View). PassesChecks {A = Recovered} (checked n u) (Err (Refused refusal)))) told faults.checks))
 fault_ends n v Memory r a b out err sfile told is faults = record {
   view = subst (λ (o : Option View). Moves (is_working n) (λ u. u) o (seen b)) told (faults.memory refl);
   cleared = subst (λ (o : Option View). AreCleared n o (seen b)) told (faults.cleared refl);
@@ -356,7 +356,7 @@ fault_causes fault i o e d d2 later within cause = record {
 }
 
 -- what the call says where it answers a fault
-pub faults_of : (n : List ℕ) (fault : StepFault) (a b : Told) (f f2 : ℕ) → IfSome (seen a) (λ (v : View). Passes {A = Recovered} (checked n v) (Err fault)) → RecoversName {T = Recovered} n a b f f2 (Err fault) → Faults n fault a b
+pub faults_of : (n : List ℕ) (fault : StepFault) (a b : Told) (f f2 : ℕ) → IfSome (seen a) (λ (v : View). PassesChecks {A = Recovered} (checked n v) (Err fault)) → RecoversName {T = Recovered} n a b f f2 (Err fault) → Faults n fault a b
 faults_of n fault a b f f2 checks ends = record {
   checks = checks;
   refused = λ refusal is. ends.refused refusal (ap Err is);
@@ -377,10 +377,10 @@ half_same o o2 (inl same) = same
 half_same o o2 (inr (v, w, old, new, is)) = new ∙ (ap (λ (u : View). Some u) is ∙ sym old)
 
 -- the y-file is gone, and the names couldn't be synced
-pub tidied_moves : (n : List ℕ) (a b d : Told) → Becomes (without (y_file n)) (seen a) (seen b) → Half syncing_names b d → Moves (is_working n) (λ v. v) (seen a) (seen d)
+pub tidied_moves : (n : List ℕ) (a b d : Told) → Becomes (without_name (y_file n)) (seen a) (seen b) → Half syncing_names b d → Moves (is_working n) (λ v. v) (seen a) (seen d)
 tidied_moves n a b d is half =
     subst (λ (o : Option View). Moves (is_working n) (λ v. v) (seen a) o) (sym (half_same (seen b) (seen d) half.view))
-    (becomes_moves (is_working n) (without (y_file n)) (seen a) (seen b) (λ v k h. put_other v (y_file n) k None (no_y n k h)) is)
+    (becomes_moves (is_working n) (without_name (y_file n)) (seen a) (seen b) (λ v k h. put_other v (y_file n) k None (no_y n k h)) is)
 
 pub retyped : {S T : Type 0} (e fault : StepFault) → IsErrOf {T = S} (Err e) fault → IsErrOf {T = T} (Err e) fault
 retyped e fault is = let same : e ≡ fault = cc in ap Err same

@@ -15,7 +15,7 @@ use Rattle.sccs_pfile.specs.Recovered.{recovered_pfile, written_pfile}
 use Rattle.sccs_pfile.proofs.Recovering.{twice_once}
 use Rattle.sccs_moments.specs.Calm.{HasFirm, IsCalm}
 use Rattle.sccs_moments.specs.Moments.{IsFrom, IsNew, LeavesCalm, LeavesFirm, RecoversOn, Went}
-use Rattle.sccs_moments.specs.Recovery.{RecoversAs, cleared, pair_of, recover, without}
+use Rattle.sccs_moments.specs.Recovery.{RecoversAs, cleared, pair_of, recover, without_name}
 use Rattle.sccs_moments.proofs.CalmDisks.{calm_firm, calm_settled, firms_touched}
 use Rattle.sccs_moments.proofs.FileNames.{working_s}
 use Rattle.sccs_moments.proofs.Joined.{newest_is, numbered_plain, numbered_zero, went_then}
@@ -40,7 +40,7 @@ cleared_p : (n : List ℕ) (v : View) → cleared n v (p_file n) ≡ v (p_file n
 cleared_p n v = refl
 
 pub cleared_q : (n : List ℕ) (v : View) → cleared n v (q_file n) ≡ None
-cleared_q n v = put_same (without (x_file n) v) (q_file n) None
+cleared_q n v = put_same (without_name (x_file n) v) (q_file n) None
 
 cleared_z : (n : List ℕ) (v : View) → cleared n v (z_file n) ≡ v (z_file n)
 cleared_z n v = refl
@@ -65,7 +65,7 @@ swapped_left n (Others edits) v = q_placed n (cleared n v) (Some (written_pfile 
 -- a commit makes of it what recovery makes of the view
 committed_left : (n : List ℕ) (left : PfileLeft) (v : View) → IsSome (v (z_file n)) → Recovers (v n) (v (p_file n)) left → committed n (plan_left (new_of left)) (prepared n left v) ≡ recover n v
 committed_left n left v there recovers =
-    ap (without (z_file n)) (swapped_left n left v ∙ ap (λ (o : Option Content). put (cleared n v) (p_file n) o) (sym recovers.is))
+    ap (without_name (z_file n)) (swapped_left n left v ∙ ap (λ (o : Option Content). put (cleared n v) (p_file n) o) (sym recovers.is))
     ∙ sym (ap (recover_by n v) there)
 
 both_by : (n : List ℕ) (left : PfileLeft) (v : View) (o1 o2 : Option View) → o1 ≡ Some (cleared n v) → PreparesLeft n left o1 o2 → o2 ≡ Some (prepared n left v)

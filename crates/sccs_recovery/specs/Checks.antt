@@ -50,10 +50,10 @@ abbrev pub checked : List ℕ → View → Result Bool Refusal
 checked n v = if is_some (v (z_file n)) then readable (v n) (v (p_file n)) else Ok true
 
 -- what a call returned is what is read, or its refusal; a fault may come in place of either
-abbrev pub Reads : {A : Type 0} → Result A Refusal → Result A StepFault → Type 0
-Reads read (Ok x) = read ≡ Ok x
-Reads read (Err (Refused refusal)) = read ≡ Err refusal
-Reads read (Err fault) = Unit {0}
+abbrev pub ReadsOrRefuses : {A : Type 0} → Result A Refusal → Result A StepFault → Type 0
+ReadsOrRefuses read (Ok x) = read ≡ Ok x
+ReadsOrRefuses read (Err (Refused refusal)) = read ≡ Err refusal
+ReadsOrRefuses read (Err fault) = Unit {0}
 
 -- the table of a front that was read
 abbrev pub table_in : Option Front → Option (List Record)
@@ -65,10 +65,10 @@ ReadsTable read (Err (Refused refusal)) = read ≡ Err refusal
 ReadsTable read (Err fault) = Unit {0}
 
 -- the checks pass, or the first that fails is answered
-abbrev pub Passes : {A : Type 0} → Result Bool Refusal → Result A StepFault → Type 0
-Passes checks (Ok x) = checks ≡ Ok true
-Passes checks (Err (Refused refusal)) = checks ≡ Err refusal
-Passes checks (Err fault) = Unit {0}
+abbrev pub PassesChecks : {A : Type 0} → Result Bool Refusal → Result A StepFault → Type 0
+PassesChecks checks (Ok x) = checks ≡ Ok true
+PassesChecks checks (Err (Refused refusal)) = checks ≡ Err refusal
+PassesChecks checks (Err fault) = Unit {0}
 
 -- the numbers of the checks; only where the disk tells nothing an s-file may be missing (3) that was there
 abbrev pub recover_checks : List ℕ

@@ -4,7 +4,7 @@ use Rattle.sccs_base.specs.Name.{q_file}
 use Rattle.sccs_disk.specs.Files.{Content, View, put}
 use Rattle.sccs_history.specs.declared.headers.Record.{Record}
 use Rattle.sccs_pfile.specs.Entries.{IsEdit}
-use Rattle.sccs_pfile.specs.Recovered.{dropped, recovered_pfile, written_pfile}
+use Rattle.sccs_pfile.specs.Recovered.{entries_dropped, recovered_pfile, written_pfile}
 use Rattle.sccs_pfile.specs.declared.entries.Edit.{Edit}
 use Rattle.sccs_sid.specs.declared.refusals.StepFault.{StepFault}
 use Rattle.sccs_sid.specs.declared.refusals.StepFault.TheVariants.{Refused}
@@ -23,7 +23,7 @@ pfile_left p (Others edits) = Some (written_pfile edits)
 
 -- so much is left of a p-file with these entries
 abbrev pub LeavesEntries : List Record → List Edit → PfileLeft → Type 0
-LeavesEntries records edits left = (c : Content) → dropped records edits c ≡ pfile_left (Some c) left
+LeavesEntries records edits left = (c : Content) → entries_dropped records edits c ≡ pfile_left (Some c) left
 
 -- a p-file that is to be removed is there
 abbrev pub IsGone : Option Content → PfileLeft → Type 0

@@ -11,8 +11,8 @@ use Rattle.sccs_steps.specs.declared.statuses.StatusRule.TheVariants.{Greatest}
 use Rattle.sccs_recovery.specs.Checks.{readable, recover_checks}
 
 -- the entries whose delta is made leave the p-file, and the z-file goes
-abbrev pub unlocked : Files → Files
-unlocked f = record { s = f.s; p = recovered_pfile f.s f.p; z = None; g = f.g }
+abbrev pub recovered_files : Files → Files
+recovered_files f = record { s = f.s; p = recovered_pfile f.s f.p; z = None; g = f.g }
 
 -- a name, and how it was found
 abbrev pub found_text : List ℕ → Bool → List ℕ
@@ -21,7 +21,7 @@ found_text n locked = n ++ (if locked then codes ": recovered\n" else codes ": c
 -- where the z-file is there, the name is unlocked; else its files stay
 abbrev pub recovers : List ℕ → Files → StepEffect
 recovers n f = record {
-  new = if is_some f.z then Some (unlocked f) else None;
+  new = if is_some f.z then Some (recovered_files f) else None;
   text = [];
   out = found_text n (is_some f.z);
   err = [];

@@ -5,7 +5,7 @@ ghost use Rattle.sccs_disk.specs.Files.{Content, View};
 ghost use Rattle.sccs_disk.specs.Told.{seen};
 ghost use Rattle.sccs_pfile.specs.Entries.{IsEdit};
 ghost use Rattle.sccs_pfile.specs.Reading.{edits_of};
-ghost use Rattle.sccs_recovery.specs.Checks.{IsWithin, Reads, ReadsTable, bytes_read, table_in, table_read};
+ghost use Rattle.sccs_recovery.specs.Checks.{IsWithin, ReadsOrRefuses, ReadsTable, bytes_read, table_in, table_read};
 ghost use Rattle.sccs_recovery.specs.Entries.{Finds, HasEntries, Recovers};
 
 use crate::entries_left::{PfileLeft, entries_left};
@@ -20,7 +20,7 @@ use std::alloc::Global;
 
 // the bytes of a file, where it is there
 fn read_bytes<D: Disk>(alloc: Global, disk: &mut D, name: &Name) -> Result<Option<Bytes>, StepFault>
-    ensures told { IfSome (seen (D.told disk.old)) (λ (v : View). Reads (bytes_read (v name.now)) result) }
+    ensures told { IfSome (seen (D.told disk.old)) (λ (v : View). ReadsOrRefuses (bytes_read (v name.now)) result) }
     ensures same { D.told disk.new ≡ D.told disk.old }
     ensures later { D.faults disk.old ≤ D.faults disk.new }
     ensures cause { IsErrOf result StepFault.DiskFault → Rose (D.faults disk.old) (D.faults disk.new) }
@@ -38,7 +38,7 @@ fn read_bytes<D: Disk>(alloc: Global, disk: &mut D, name: &Name) -> Result<Optio
 // the bytes of a p-file, where it is there
 fn read_p<D: Disk>(alloc: Global, disk: &mut D, name: &Name) -> Result<Option<Bytes>, StepFault>
     requires { IsSfile name.now }
-    ensures told { IfSome (seen (D.told disk.old)) (λ (v : View). Reads (bytes_read (v (p_file name.now))) result) }
+    ensures told { IfSome (seen (D.told disk.old)) (λ (v : View). ReadsOrRefuses (bytes_read (v (p_file name.now))) result) }
     ensures same { D.told disk.new ≡ D.told disk.old }
     ensures later { D.faults disk.old ≤ D.faults disk.new }
     ensures cause { IsErrOf result StepFault.DiskFault → Rose (D.faults disk.old) (D.faults disk.new) }

@@ -8,14 +8,14 @@ ghost use Rattle.sccs_disk.specs.Told.{seen};
 ghost use Rattle.sccs_files.specs.StepFiles.{AreCleared, Moves, MovesPartly, is_left, is_working};
 ghost use Rattle.sccs_images.specs.Touches.{Leaves, TouchesOnly};
 ghost use Rattle.sccs_moments.specs.Moments.{LeavesCalm, LeavesFirm, RecoversOn};
-ghost use Rattle.sccs_moments.specs.Recovery.{cleared, recover, without};
+ghost use Rattle.sccs_moments.specs.Recovery.{cleared, recover, without_name};
 ghost use Rattle.sccs_moments.specs.Unlocked.{KeepsOthers, is_own};
 ghost use Rattle.sccs_sid.specs.declared.refusals.Refusal.{Refusal};
 ghost use Rattle.sccs_sid.specs.declared.refusals.StepFault.TheVariants as step;
 ghost use Rattle.sccs_store.specs.Commits.{Becomes, Needs, committed, plan};
 ghost use Rattle.sccs_store.specs.Stops.{OnReplace};
 ghost use Rattle.sccs_store.specs.declared.new_files.NewFile.TheVariants.{Keep};
-ghost use Rattle.sccs_recovery.specs.Checks.{IsWithin, Passes, checked, readable};
+ghost use Rattle.sccs_recovery.specs.Checks.{IsWithin, PassesChecks, checked, readable};
 ghost use Rattle.sccs_recovery.specs.Ends.{RecoversName};
 ghost use Rattle.sccs_recovery.specs.Entries.{HasEntries, PreparesLeft, Recovers, new_of};
 
@@ -135,7 +135,7 @@ fn finish<D: Disk>(left: &PfileLeft, disk: &mut D, name: &Name) -> Result<(), St
 fn unlock<D: Disk>(alloc: Global, disk: &mut D, name: &Name) -> Result<(), StepFault>
     requires sfile { IsSfile name.now }
     requires z { IsThere (z_file name.now) (D.told disk.old) }
-    ensures checks { IfSome (seen (D.told disk.old)) (λ (v : View). Passes (readable (v name.now) (v (p_file name.now))) result) }
+    ensures checks { IfSome (seen (D.told disk.old)) (λ (v : View). PassesChecks (readable (v name.now) (v (p_file name.now))) result) }
     ensures ends { RecoversName name.now (D.told disk.old) (D.told disk.new) (D.faults disk.old) (D.faults disk.new) result }
 {
     match read_left(alloc, disk, name) {
@@ -147,7 +147,7 @@ fn unlock<D: Disk>(alloc: Global, disk: &mut D, name: &Name) -> Result<(), StepF
 // recovers a name whose z-file isn't there: its y-file goes
 fn tidy<D: Disk>(disk: &mut D, name: &Name) -> Result<(), Failed>
     requires { IsSfile name.now }
-    ensures view { OnOk result (Becomes (without (y_file name.now)) (seen (D.told disk.old)) (seen (D.told disk.new))) }
+    ensures view { OnOk result (Becomes (without_name (y_file name.now)) (seen (D.told disk.old)) (seen (D.told disk.new))) }
     ensures view_err { OnErr result (Moves (is_working name.now) (λ v. v) (seen (D.told disk.old)) (seen (D.told disk.new))) }
     ensures others { KeepsOthers (is_own name.now) (D.told disk.old) (D.told disk.new) }
     ensures story { RecoversOn (D.told disk.old) (D.told disk.new) }
@@ -171,7 +171,7 @@ fn tidy<D: Disk>(disk: &mut D, name: &Name) -> Result<(), Failed>
 pub fn recover<D: Disk>(alloc: Global, disk: &mut D, name: &Name) -> Result<Recovered, StepFault>
     requires { IsSfile name.now }
     ensures clean { IfOk result (λ answer. IfSome (seen (D.told disk.old)) (λ (v : View). (answer ≡ Recovered.Clean) ↔ (v (z_file name.now) ≡ None))) }
-    ensures checks { IfSome (seen (D.told disk.old)) (λ (v : View). Passes (checked name.now v) result) }
+    ensures checks { IfSome (seen (D.told disk.old)) (λ (v : View). PassesChecks (checked name.now v) result) }
     ensures ends { RecoversName name.now (D.told disk.old) (D.told disk.new) (D.faults disk.old) (D.faults disk.new) result }
 {
     match disk.size(&name.sibling(b'z')) {

@@ -24,7 +24,7 @@ use Rattle.sccs_transactions.specs.Changes.{locking_step}
 use Rattle.sccs_edit.specs.SactStep.{found_edits, sact_step, shows_entries}
 use Rattle.sccs_get.specs.EditStep.{edit_outcome, edit_effect, reserved_of}
 use Rattle.sccs_get.specs.VersionStep.{found_version, g_is_free, get_outcome, get_effect, has_its_keywords, lines_got, stays_writable, given_text, with_g, writes_g}
-use Rattle.sccs_recovery.specs.RecoverStep.{files_checked, recover_step, recovers, unlocked}
+use Rattle.sccs_recovery.specs.RecoverStep.{files_checked, recover_step, recovers, recovered_files}
 
 -- the s-file behind a step that makes these files
 abbrev pub s_of : Option Content → Option Files → Option Content
@@ -82,7 +82,7 @@ sact_leaves heading n f = passed_leaves f.s (found_edits f) _ (λ edits. done_le
 
 pub recover_leaves : (n : List ℕ) (f : Files) → Leaves f.s (recover_step n f)
 unfolding recover_step
-recover_leaves n f = passed_leaves f.s (files_checked f) _ (λ done. done_leaves f.s (recovers n f) (either_leaves (is_some f.z) f.s (unlocked f) refl))
+recover_leaves n f = passed_leaves f.s (files_checked f) _ (λ done. done_leaves f.s (recovers n f) (either_leaves (is_some f.z) f.s (recovered_files f) refl))
 
 pub locking_leaves : (outcome : Step) (n input : List ℕ) (named : List (Option Content)) (f : Files) → Leaves f.s (outcome n input named f) → Leaves f.s (locking_step outcome n input named f)
 unfolding locking_step

@@ -12,11 +12,11 @@ use Rattle.sccs_sid.specs.declared.sids.Sid.{Sid}
 use Rattle.sccs_history.specs.History.{AreLines}
 use Rattle.sccs_steps.proofs.Turns.{each_all}
 use Rattle.sccs_words.specs.BetweenGaps.{AreWordsOf}
-use Rattle.sccs_words.specs.Judge.{has}
+use Rattle.sccs_words.specs.Judge.{has_use}
 use Rattle.sccs_words.specs.Letters as opt
-use Rattle.sccs_words.specs.Meaning.{command_of, first_of, line_meaning, meaning, meaning_by, refusal_of, unless, utility_of, with_name, with_number, with_sid}
+use Rattle.sccs_words.specs.Meaning.{line_command, first_text, line_meaning, meaning, meaning_by, words_fault, unless_fault, utility_of, with_name, with_number, with_sid}
 use Rattle.sccs_words.specs.MrWords.{is_gap, mr_words}
-use Rattle.sccs_words.specs.Records.{lines_in, mrs_of, value_of}
+use Rattle.sccs_words.specs.Records.{option_lines, mrs_of, value_of}
 use Rattle.sccs_words.specs.Scan.{CommandLine, scanned}
 use Rattle.sccs_words.specs.Synopsis.{options_of}
 use Rattle.sccs_words.specs.Values.{name_value, release_value, sid_value, soak_number, up_to}
@@ -51,11 +51,11 @@ mrs_are_lines : (value : Option (List ℕ)) → AreLines (mrs_of value)
 mrs_are_lines None = tt
 mrs_are_lines (Some bytes) = words_are_lines (mr_words bytes) bytes (words_found bytes)
 
-comment_is_lines : (value : Option (List ℕ)) → AreLines (lines_in value)
+comment_is_lines : (value : Option (List ℕ)) → AreLines (option_lines value)
 comment_is_lines None = tt
 comment_is_lines (Some bytes) = recursion_from_All HasNoLf (text_of bytes) (text_fit bytes)
 
-asked_comment : (asked : Bool) (value : Option (List ℕ)) → IfSome (if asked then Some (lines_in value) else None) AreLines
+asked_comment : (asked : Bool) (value : Option (List ℕ)) → IfSome (if asked then Some (option_lines value) else None) AreLines
 asked_comment true value = comment_is_lines value
 asked_comment false value = tt
 
@@ -97,10 +97,10 @@ given_number : (n : ℕ) (number : Option ℕ) → AreMeantValues (with_number n
 given_number n None = tt
 given_number n (Some number) = tt
 
-command_values : (utility : Utility) (l : CommandLine) (n : ℕ) → AreMeantValues (command_of utility l n)
-command_values u.Admin l n = (release_is_valid (value_of opt.r l.uses), asked_comment (has opt.y l.uses) (value_of opt.y l.uses), mrs_are_lines (value_of opt.m l.uses))
+command_values : (utility : Utility) (l : CommandLine) (n : ℕ) → AreMeantValues (line_command utility l n)
+command_values u.Admin l n = (release_is_valid (value_of opt.r l.uses), asked_comment (has_use opt.y l.uses) (value_of opt.y l.uses), mrs_are_lines (value_of opt.m l.uses))
 command_values u.Get l n = tt
-command_values u.Delta l n = named_delta l.uses n (option_and_then name_value (first_of l.operands))
+command_values u.Delta l n = named_delta l.uses n (option_and_then name_value (first_text l.operands))
 command_values u.Unget l n = tt
 command_values u.Sact l n = tt
 command_values u.Rmdel l n = given_sid l.operands n (option_and_then sid_value (value_of opt.r l.uses))
@@ -109,15 +109,15 @@ command_values u.Val l n = tt
 command_values u.What l n = tt
 command_values u.Recover l n = tt
 command_values u.Batch l n = tt
-command_values u.Soak l n = given_number n (option_and_then soak_number (first_of l.operands))
+command_values u.Soak l n = given_number n (option_and_then soak_number (first_text l.operands))
 
-unless_refused : (refusal : Option Usage) (meant : Result Command Usage) → AreMeantValues meant → AreMeantValues (unless refusal meant)
+unless_refused : (refusal : Option Usage) (meant : Result Command Usage) → AreMeantValues meant → AreMeantValues (unless_fault refusal meant)
 unless_refused None meant values = values
 unless_refused (Some usage) meant values = tt
 
 line_values : (utility : Utility) (l : CommandLine) (n : ℕ) → AreMeantValues (line_meaning utility l n)
 unfolding line_meaning
-line_values utility l n = unless_refused (refusal_of utility l n) (command_of utility l n) (command_values utility l n)
+line_values utility l n = unless_refused (words_fault utility l n) (line_command utility l n) (command_values utility l n)
 
 utility_values : (utility : Option Utility) (words : List (List ℕ)) → AreMeantValues (meaning_by utility words)
 utility_values None words = tt

@@ -1,5 +1,6 @@
 -- After runs each version is its replay.
-use Rattle.std.proofs.Common.{◌≡◌, ℕ, zero, suc, ◌-◌, Bool, true, false, ◌&&◌, List, [], ◌∷◌, ◌++◌, codes, length, take, map, Option, None, Some, Result, Ok, Err, inl, inr, refl, sym, ap, subst, ◌∙◌, ⊎_elim, arith}
+use Rattle.std.proofs.lemmas.Bool.{ne_eqb}
+use Rattle.std.proofs.Common.{◌≡◌, ℕ, zero, suc, ◌-◌, ◌==◌, Bool, true, false, ◌&&◌, List, [], ◌∷◌, ◌++◌, codes, length, take, map, Option, None, Some, Result, Ok, Err, inl, inr, refl, sym, ap, subst, ◌∙◌, ⊎_elim, arith}
 use Rattle.std.specs.Prelude.{if◌then◌else◌, is_some, nat_lt}
 use Rattle.std.specs.List.{AllByRecursion}
 use Rattle.std.specs.Str.{bytes_eq}
@@ -40,16 +41,22 @@ use Rattle.sccs_prs.specs.Keeps.{prs_keeps}
 use Rattle.sccs_val.proofs.RunLaws.{val_keeps, val_leaves}
 use Rattle.sccs_what.specs.Checks.{what_keeps}
 use Rattle.sccs_steps.proofs.JoinedSteps.{after_more}
-use Rattle.sccs_courses.specs.Courses.{Courses, follow, no_action, one_by_one, portion, said, saying, steps_along, steps_in}
+use Rattle.sccs_courses.specs.Courses.{Courses, follow, if_fine, no_action, one_by_one, portion, said, saying, steps_along, steps_in, while_fine}
 use Rattle.sccs_courses.proofs.Portions.{steps_more}
-use Rattle.sccs_batch.specs.BatchLines.{bad_line, status_line}
+use Rattle.sccs_batch.specs.BatchLines.{bad_entry_line, status_line}
 use Rattle.sccs_batch.specs.BatchText.{batch_of}
 use Rattle.sccs_batch.specs.Batches.{batch_course, batch_end, entries_course, entry_course}
 use Rattle.sccs_batch.specs.declared.entries.Entry.{Entry}
 use Rattle.sccs_top.specs.Messages.{usage_line}
-use Rattle.sccs_top.specs.Runs.{Caller, action_of, admin_there, caller, command_course, command_steps, course_by, entry_command, has_heading, is_list, operands_of, run_steps, steps_by, val_words_of}
-use Rattle.sccs_top.specs.Unbuilt.{unbuilt, unbuilt_keeps}
-use Rattle.sccs_replays.specs.PastRuns.{AreInTurn, HasVersions, IsPastCommand, IsPastRun, IsPlainBy, PastRun, commands_by, entry_run, entry_runs, folder_after_run, is_batch, replay, s_file_after, steps_made, steps_of, steps_of_entry, versions_after_command, versions_after_commands, versions_after_run, versions_after_step, versions_after_steps}
+use Rattle.sccs_soak.specs.Commands.{soak_commands, soak_file}
+use Rattle.sccs_soak.specs.Dropping.{dropping_keeps}
+use Rattle.sccs_soak.specs.Keeps.{summary_keeps}
+use Rattle.sccs_soak.specs.Soak.{soaked}
+use Rattle.sccs_soak.specs.Summaries.{summary_action, summary_course}
+use Rattle.sccs_top.specs.Runs.{Caller, action_of, admin_there, caller_by, command_course, command_steps, course_by, entry_command, has_heading, hushed, list_in, operands_of, run_steps, single_of, steps_by, val_words_of}
+use Rattle.sccs_top.specs.declared.commands.CommandList.{CommandList}
+use Rattle.sccs_top.specs.declared.commands.CommandList.TheVariants as list
+use Rattle.sccs_replays.specs.PastRuns.{AreInTurn, HasVersions, IsPastCommand, IsPastRun, IsPlainBy, PastRun, commands_by, entry_run, entry_runs, folder_after_run, list_meant, replay, soak_runs, s_file_after, steps_made, single_steps, steps_of_entry, versions_after_command, versions_after_commands, versions_after_run, versions_after_step, versions_after_steps}
 use Rattle.sccs_replays.proofs.LeftFiles.{other_file, own_file}
 use Rattle.sccs_replays.proofs.MadeSteps.{AreStepsOf, IsStepOf, are_some, are_steps}
 use Rattle.sccs_replays.proofs.MeantValues.{AreMeantValues, HasMeantValues, meant_values}
@@ -61,24 +68,34 @@ either_keeps : (edit : Bool) (x y : Action) → KeepsFiles x → KeepsFiles y �
 either_keeps true x y first second = first
 either_keeps false x y first second = second
 
-command_keeps : (who : Caller) (command : Command) → KeepsFiles (action_of who command)
-command_keeps who (c.Admin words operands) =
+nothing_keeps : KeepsFiles no_action
+nothing_keeps = record { quiet = λ reads n i named f d is. absurd cc; names = λ changes n fits. absurd cc }
+
+by_keeps : (who : Caller) (command : Command) → KeepsFiles ((single_of command).by who)
+by_keeps who (c.Admin words operands) =
     either_keeps words.fresh (locking (admin_change words who.stamp)) (admin_there words) (locking_keeps (admin_change words who.stamp))
-    (either_keeps words.check check_action (if words.fix then unbuilt false false else locking (alter_change words)) check_keeps
-    (either_keeps words.fix (unbuilt false false) (locking (alter_change words)) (unbuilt_keeps false false) (locking_keeps (alter_change words))))
-command_keeps who (c.Get words operands) =
+    (either_keeps words.check check_action (locking (alter_change words)) check_keeps (locking_keeps (alter_change words)))
+by_keeps who (c.Get words operands) =
     either_keeps words.edit (locking (edit_change words who.stamp who.place (has_heading operands))) (get_action words who.stamp who.place (has_heading operands))
     (locking_keeps (edit_change words who.stamp who.place (has_heading operands))) (get_keeps words who.stamp who.place (has_heading operands))
-command_keeps who (c.Delta words name) = locking_keeps (delta_change words who.stamp)
-command_keeps who (c.Unget words operands) = locking_keeps (unget_change words who.stamp (has_heading operands))
-command_keeps who (c.Sact operands) = sact_keeps (has_heading operands)
-command_keeps who (c.Rmdel sid operands) = locking_keeps (rmdel_change sid who.stamp)
-command_keeps who (c.Prs words operands) = prs_keeps words who.place
-command_keeps who (c.Val words) = val_keeps words (λ name. None)
-command_keeps who (c.What first operands) = what_keeps first
-command_keeps who (c.Recover operands) = recover_keeps
-command_keeps who c.Batch = unbuilt_keeps true true
-command_keeps who (c.Soak number) = unbuilt_keeps true true
+by_keeps who (c.Delta words name) = locking_keeps (delta_change words who.stamp)
+by_keeps who (c.Unget words operands) = locking_keeps (unget_change words who.stamp (has_heading operands))
+by_keeps who (c.Sact operands) = sact_keeps (has_heading operands)
+by_keeps who (c.Rmdel sid operands) = locking_keeps (rmdel_change sid who.stamp)
+by_keeps who (c.Prs words operands) = prs_keeps words who.place
+by_keeps who (c.Val words) = val_keeps words (λ name. None)
+by_keeps who (c.What first operands) = what_keeps first
+by_keeps who (c.Recover operands) = recover_keeps
+by_keeps who c.Batch = nothing_keeps
+by_keeps who (c.Soak number) = nothing_keeps
+
+hushed_keeps : (val : Option ValWords) (quiet : Bool) (x : Action) → KeepsFiles x → KeepsFiles (hushed val quiet x)
+hushed_keeps (Some words) quiet x keeps = keeps
+hushed_keeps None true x keeps = dropping_keeps x keeps
+hushed_keeps None false x keeps = keeps
+
+command_keeps : (who : Caller) (command : Command) → KeepsFiles (action_of who command)
+command_keeps who command = hushed_keeps (val_words_of command) who.quiet ((single_of command).by who) (by_keeps who command)
 
 -- the s-file of another name stays
 other_stays : (x : Action) (i n : List ℕ) (m : Folder) (t : NamedStep) → KeepsFiles x → IsSfile n → (x.fits t.name ≡ true → IsPlainFor x t.name) → bytes_eq t.name n ≡ false → IsStepOf x i m t
@@ -140,10 +157,10 @@ are_made : (val : Option ValWords) (x : Action) (m : Folder) (i : List ℕ) (ope
 are_made None x m i operands = are_steps x m i operands
 are_made (Some words) x m i operands = (inl (val_leaves words m i), tt)
 
-command_run_goes : (n : List ℕ) (r : PastRun) (meant : Result Command Usage) (texts : Texts) → IsSfile n → IsMoment r.who.stamp.moment → IsLogin r.who.stamp.login → AreMeantValues meant → IsPlainBy r.who meant (steps_of r meant)
-    → HasVersions (view_in r.folder n) texts → HasVersions (view_in (folder_after r.folder (steps_of r meant)) n) (versions_after_run n r meant texts)
+command_run_goes : (n : List ℕ) (r : PastRun) (meant : Result Command Usage) (texts : Texts) → IsSfile n → IsMoment r.who.stamp.moment → IsLogin r.who.stamp.login → AreMeantValues meant → IsPlainBy r.who meant (single_steps r meant)
+    → HasVersions (view_in r.folder n) texts → HasVersions (view_in (folder_after r.folder (single_steps r meant)) n) (versions_after_run n r meant texts)
 command_run_goes n r (Ok command) texts sfile moment login values plain has =
-    steps_go r.who command r.input n r.folder (steps_of r (Ok command)) texts sfile moment login values plain
+    steps_go r.who command r.input n r.folder (single_steps r (Ok command)) texts sfile moment login values plain
     (are_some (action_of r.who command) r.input r.made r.folder (command_steps r.who (Ok command) r.folder r.input) (are_made (val_words_of command) (action_of r.who command) r.folder r.input (operands_of command))) has
 command_run_goes n r (Err usage) texts sfile moment login values plain has = subst (λ (u : Folder). HasVersions (view_in u n) texts) (sym (usage_leaves r.folder usage r.made)) has
 
@@ -159,14 +176,14 @@ single_goes n r meant texts words sfile are has =
 abbrev folder_after_entries : List ℕ → Folder → ℕ → List Entry → Folder
 folder_after_entries place m made [] = m
 folder_after_entries place m made (e ∷ es) =
-    let r = entry_run place m made e in folder_after_entries place (folder_after m (steps_of r (meaning e.words))) (made - suc (length (steps_of_entry r))) es
+    let r = entry_run false place m made e in folder_after_entries place (folder_after m (single_steps r (meaning e.words))) (made - suc (length (steps_of_entry r))) es
 
 entries_go : (n place : List ℕ) (m : Folder) (made : ℕ) (es : List Entry) (texts : Texts) → IsSfile n → AllByRecursion IsPastCommand (entry_runs place m made es)
     → HasVersions (view_in m n) texts → HasVersions (view_in (folder_after_entries place m made es) n) (versions_after_commands n texts (entry_runs place m made es))
 entries_go n place m made [] texts sfile are has = has
 entries_go n place m made (e ∷ es) texts sfile are has =
-    let r = entry_run place m made e in
-    entries_go n place (folder_after m (steps_of r (meaning e.words))) (made - suc (length (steps_of_entry r))) es (versions_after_run n r (meaning e.words) texts) sfile are.1
+    let r = entry_run false place m made e in
+    entries_go n place (folder_after m (single_steps r (meaning e.words))) (made - suc (length (steps_of_entry r))) es (versions_after_run n r (meaning e.words) texts) sfile are.1
     (command_run_goes n r (meaning e.words) texts sfile are.0.moment are.0.login (meant_values e.words) are.0.plain has)
 
 -- the first steps of some, and then of what goes on in the folder that all of them left
@@ -195,14 +212,14 @@ one_more (x ∷ xs) t = ap suc (one_more xs t)
 ending_leaves : (m : Folder) (i : List ℕ) (made : ℕ) (bad : Option ℕ) → folder_after m (take made (steps_along (batch_end bad) m i)) ≡ m
 ending_leaves m i zero bad = refl
 ending_leaves m i (suc made) None = refl
-ending_leaves m i (suc made) (Some number) = said_leaves m [] (bad_line number) (suc made)
+ending_leaves m i (suc made) (Some number) = said_leaves m [] (bad_entry_line number) (suc made)
 
 -- the steps of an entry, and then those of the others
-entry_steps : (place : List ℕ) (m : Folder) (i : List ℕ) (e : Entry) (rest : Courses) → (status : ℕ) × (steps_along (follow (entry_course (entry_command place e)) (λ code. rest)) m i
-    ≡ (command_steps (caller e.stamp place) (meaning e.words) m e.input ++ said (status_line status) [] ∷ [])
-    ++ steps_along rest (folder_after m (command_steps (caller e.stamp place) (meaning e.words) m e.input ++ said (status_line status) [] ∷ [])) i)
+entry_steps : (place : List ℕ) (m : Folder) (i : List ℕ) (e : Entry) (rest : Courses) → (status : ℕ) × (steps_along (follow (entry_course (entry_command false place e)) (λ code. rest)) m i
+    ≡ (command_steps (caller_by false e.stamp place) (meaning e.words) m e.input ++ said (status_line status) [] ∷ [])
+    ++ steps_along rest (folder_after m (command_steps (caller_by false e.stamp place) (meaning e.words) m e.input ++ said (status_line status) [] ∷ [])) i)
 entry_steps place m i e rest =
-    let course = command_course (caller e.stamp place) (meaning e.words) m e.input in
+    let course = command_course (caller_by false e.stamp place) (meaning e.words) m e.input in
     let text = portion no_action (said (status_line course.status) [] ∷ []) ∷ [] in
     let own : steps_in (course.portions ++ text) ≡ steps_in course.portions ++ said (status_line course.status) [] ∷ [] = steps_more course.portions text in (
       course.status,
@@ -211,12 +228,12 @@ entry_steps place m i e rest =
     )
 
 entries_after : (place : List ℕ) (m : Folder) (i : List ℕ) (made : ℕ) (es : List Entry) (bad : Option ℕ)
-    → folder_after m (take made (steps_along (one_by_one (λ (e : Entry). entry_course (entry_command place e)) (batch_end bad) es) m i)) ≡ folder_after_entries place m made es
+    → folder_after m (take made (steps_along (one_by_one (λ (e : Entry). entry_course (entry_command false place e)) (batch_end bad) es) m i)) ≡ folder_after_entries place m made es
 entries_after place m i made [] bad = ending_leaves m i made bad
 entries_after place m i made (e ∷ es) bad =
-    let rest = one_by_one (λ (e : Entry). entry_course (entry_command place e)) (batch_end bad) es in
+    let rest = one_by_one (λ (e : Entry). entry_course (entry_command false place e)) (batch_end bad) es in
     let split = entry_steps place m i e rest in
-    let steps = command_steps (caller e.stamp place) (meaning e.words) m e.input in
+    let steps = command_steps (caller_by false e.stamp place) (meaning e.words) m e.input in
     let text = said (status_line split.0) [] in
     let left : folder_after m (take made (steps ++ text ∷ [])) ≡ folder_after m (take made steps) = said_after m made steps (status_line split.0) [] in
     ap (λ (ts : List NamedStep). folder_after m (take made ts)) split.1
@@ -227,47 +244,129 @@ entries_after place m i made (e ∷ es) bad =
 
 -- what a batch leaves of which so many steps are made, is what its entries leave
 batch_after : (place : List ℕ) (m : Folder) (i : List ℕ) (made : ℕ) (long : Bool) → nat_lt file_limit (length i) ≡ long
-    → folder_after m (take made (steps_along (batch_course (entry_command place)) m i)) ≡ (if long then m else folder_after_entries place m (made - 1) (batch_of (text_of i)).entries)
+    → folder_after m (take made (steps_along (batch_course (entry_command false place)) m i)) ≡ (if long then m else folder_after_entries place m (made - 1) (batch_of (text_of i)).entries)
 batch_after place m i made true is =
-    ap (λ (t : Bool). folder_after m (take made (steps_in ((if t then saying [] (refusal_line (codes "-") TooLong) 1 else follow (saying [] [] 0) (λ code. entries_course (entry_command place) (batch_of (text_of i)))) m i).portions))) is
+    ap (λ (t : Bool). folder_after m (take made (steps_in ((if t then saying [] (refusal_line (codes "-") TooLong) 1 else follow (saying [] [] 0) (λ code. entries_course (entry_command false place) (batch_of (text_of i)))) m i).portions))) is
     ∙ said_leaves m [] (refusal_line (codes "-") TooLong) made
 batch_after place m i made false is =
-    let rest = entries_course (entry_command place) (batch_of (text_of i)) in
+    let rest = entries_course (entry_command false place) (batch_of (text_of i)) in
     ap (λ (t : Bool). folder_after m (take made (steps_in ((if t then saying [] (refusal_line (codes "-") TooLong) 1 else follow (saying [] [] 0) (λ code. rest)) m i).portions))) is
     ∙ (ap (λ (ts : List NamedStep). folder_after m (take made ts)) (steps_more (portion no_action (said [] [] ∷ []) ∷ []) (rest m i).portions)
     ∙ (after_both m made (said [] [] ∷ []) (λ u. steps_along rest u i)
     ∙ (ap (λ u. folder_after u (take (made - 1) (steps_along rest u i))) (said_leaves m [] [] made) ∙ entries_after place m i (made - 1) (batch_of (text_of i)).entries (batch_of (text_of i)).bad)))
 
+-- ---- the commands of a soak
+
+-- the folder that they leave of which so many steps are made
+abbrev folder_after_soak : List ℕ → Folder → ℕ → List Entry → Folder
+folder_after_soak place m made [] = m
+folder_after_soak place m made (e ∷ es) =
+    let r = entry_run true place m (made - 1) e in
+    let left = folder_after m (single_steps r (meaning e.words)) in
+    if (entry_command true place e m []).status == 0 then folder_after_soak place left (made - suc (length (steps_of_entry r))) es else left
+
+soak_goes : (n place : List ℕ) (m : Folder) (made : ℕ) (es : List Entry) (texts : Texts) → IsSfile n → AllByRecursion IsPastCommand (soak_runs place m made es)
+    → HasVersions (view_in m n) texts → HasVersions (view_in (folder_after_soak place m made es) n) (versions_after_commands n texts (soak_runs place m made es))
+soak_goes n place m made [] texts sfile are has = has
+soak_goes n place m made (e ∷ es) texts sfile are has =
+    let r = entry_run true place m (made - 1) e in
+    let left = folder_after m (single_steps r (meaning e.words)) in
+    let first = command_run_goes n r (meaning e.words) texts sfile are.0.moment are.0.login (meant_values e.words) are.0.plain has in
+    fine_goes n place left (made - suc (length (steps_of_entry r))) es (versions_after_run n r (meaning e.words) texts) ((entry_command true place e m []).status == 0) sfile are.1 first
+    (λ others. soak_goes n place left (made - suc (length (steps_of_entry r))) es (versions_after_run n r (meaning e.words) texts) sfile others first)
+  where
+    fine_goes : (n place : List ℕ) (left : Folder) (more : ℕ) (es : List Entry) (texts : Texts) (fine : Bool) → IsSfile n → AllByRecursion IsPastCommand (if fine then soak_runs place left more es else [])
+        → HasVersions (view_in left n) texts
+        → (AllByRecursion IsPastCommand (soak_runs place left more es) → HasVersions (view_in (folder_after_soak place left more es) n) (versions_after_commands n texts (soak_runs place left more es)))
+        → HasVersions (view_in (if fine then folder_after_soak place left more es else left) n) (versions_after_commands n texts (if fine then soak_runs place left more es else []))
+    fine_goes n place left more es texts true sfile are first others = others are
+    fine_goes n place left more es texts false sfile are first others = first
+
+-- what only reads leaves the folder
+reads_leave : (x : Action) (i : List ℕ) (m : Folder) (made : ℕ) (ts : List NamedStep) → KeepsFiles x → x.reads ≡ true → AreStepsOf x i m ts → folder_after m (take made ts) ≡ m
+reads_leave x i m zero ts keeps reads are = refl
+reads_leave x i m (suc made) [] keeps reads are = refl
+reads_leave x i m (suc made) (t ∷ ts) keeps reads are =
+    let none : t.effect.new ≡ None = no_new are.0 in
+    reads_leave x i (moved_in m t.name t.effect.new) made ts keeps reads are.1 ∙ ap (λ (new : Option Files). moved_in m t.name new) none
+  where
+    no_new : IsStepOf x i m t → t.effect.new ≡ None
+    no_new (inl none) = none
+    no_new (inr of) = keeps.quiet reads t.name i (map (view_in m) (x.named t.name)) (look (view_in m) t.name) t.effect of.made
+
+-- a step in front that does nothing
+said_before : (m : Folder) (made : ℕ) (ts : List NamedStep) → folder_after m (take made (said [] [] ∷ ts)) ≡ folder_after m (take (made - 1) ts)
+said_before m zero ts = let none : 0 - 1 ≡ 0 = omega arith in ap (λ k. folder_after m (take k ts)) (sym none)
+said_before m (suc made) ts = let one : suc made - 1 ≡ made = omega arith in ap (λ k. folder_after m (take k ts)) (sym one)
+
+-- the steps of a command, and then of the others where its status is 0
+soaked_steps : (place : List ℕ) (m : Folder) (i : List ℕ) (e : Entry) (rest : Courses)
+    → steps_along (follow (soaked (entry_command true place e)) (if_fine rest)) m i
+    ≡ (said [] [] ∷ command_steps (caller_by true e.stamp place) (meaning e.words) m e.input)
+    ++ steps_along (if_fine rest (entry_command true place e m []).status) (folder_after m (command_steps (caller_by true e.stamp place) (meaning e.words) m e.input)) i
+soaked_steps place m i e rest =
+    let course = command_course (caller_by true e.stamp place) (meaning e.words) m e.input in
+    let own : steps_in (portion no_action (said [] [] ∷ []) ∷ course.portions) ≡ said [] [] ∷ steps_in course.portions = steps_more (portion no_action (said [] [] ∷ []) ∷ []) course.portions in
+    steps_more (portion no_action (said [] [] ∷ []) ∷ course.portions) (if_fine rest course.status (folder_after m (steps_in (portion no_action (said [] [] ∷ []) ∷ course.portions))) i).portions
+    ∙ ap (λ (ts : List NamedStep). ts ++ steps_in (if_fine rest course.status (folder_after m ts) i).portions) own
+
+fine_after : (rest : Courses) (m left : Folder) (i : List ℕ) (made status : ℕ) → folder_after m (take made (steps_along rest m i)) ≡ left
+    → folder_after m (take made (steps_along (if_fine rest status) m i)) ≡ (if status == 0 then left else m)
+fine_after rest m left i made zero is = is
+fine_after rest m left i made (suc code) is = no_more made ∙ ap (λ (b : Bool). if b then left else m) (sym (ne_eqb (suc code) 0 (λ e. omega (arith, e))))
+  where
+    no_more : (made : ℕ) → folder_after m (take made (steps_along (if_fine rest (suc code)) m i)) ≡ m
+    no_more zero = refl
+    no_more (suc made) = refl
+
+soak_after : (place : List ℕ) (m : Folder) (i : List ℕ) (made number : ℕ) (es : List Entry)
+    → folder_after m (take made (steps_along (while_fine (λ (e : Entry). soaked (entry_command true place e)) (summary_course number) es) m i)) ≡ folder_after_soak place m made es
+soak_after place m i made number [] =
+    reads_leave (summary_action number) i m made (steps_along (summary_course number) m i) (summary_keeps number) refl (are_steps (summary_action number) m i (soak_file ∷ []))
+soak_after place m i made number (e ∷ es) =
+    let rest = while_fine (λ (e : Entry). soaked (entry_command true place e)) (summary_course number) es in
+    let steps = command_steps (caller_by true e.stamp place) (meaning e.words) m e.input in
+    let status = (entry_command true place e m []).status in
+    let first : folder_after m (take made (said [] [] ∷ steps)) ≡ folder_after m (take (made - 1) steps) = said_before m made steps in
+    ap (λ (ts : List NamedStep). folder_after m (take made ts)) (soaked_steps place m i e rest)
+    ∙ (after_both m made (said [] [] ∷ steps) (λ u. steps_along (if_fine rest status) u i)
+    ∙ (ap (λ u. folder_after u (take (made - suc (length steps)) (steps_along (if_fine rest status) u i))) first
+    ∙ fine_after rest (folder_after m (take (made - 1) steps)) _ i (made - suc (length steps)) status (soak_after place (folder_after m (take (made - 1) steps)) i (made - suc (length steps)) number es)))
+
 -- ---- runs
 
 -- a run that is a list of commands, or one that is none
-list_goes : (n : List ℕ) (r : PastRun) (meant : Result Command Usage) (texts : Texts) (list : Bool) → meaning r.words ≡ meant → is_batch meant ≡ list → IsSfile n → AllByRecursion IsPastCommand (commands_by list r)
-    → HasVersions (view_in r.folder n) texts → HasVersions (view_in (folder_after r.folder (take r.made (run_steps r.who meant r.folder r.input))) n) (versions_after_commands n texts (commands_by list r))
-list_goes n r (Err usage) texts false words is sfile are has = single_goes n r (Err usage) texts words sfile are has
-list_goes n r (Err usage) texts true words is sfile are has = absurd cc
-list_goes n r (Ok command) texts false words is sfile are has =
-    subst (λ (b : Bool). HasVersions (view_in (folder_after r.folder (take r.made (steps_along (course_by b r.who command) r.folder r.input))) n) (versions_after_commands n texts (r ∷ []))) (sym is) (single_goes n r (Ok command) texts words sfile are has)
-list_goes n r (Ok command) texts true words is sfile are has =
-    subst (λ (b : Bool). HasVersions (view_in (folder_after r.folder (take r.made (steps_along (course_by b r.who command) r.folder r.input))) n) (versions_after_commands n texts (commands_by true r))) (sym is)
+list_goes : (n : List ℕ) (r : PastRun) (meant : Result Command Usage) (texts : Texts) (some : Option CommandList) → meaning r.words ≡ meant → list_meant meant ≡ some → IsSfile n → AllByRecursion IsPastCommand (commands_by some r)
+    → HasVersions (view_in r.folder n) texts → HasVersions (view_in (folder_after r.folder (take r.made (run_steps r.who meant r.folder r.input))) n) (versions_after_commands n texts (commands_by some r))
+list_goes n r (Err usage) texts None words is sfile are has = single_goes n r (Err usage) texts words sfile are has
+list_goes n r (Err usage) texts (Some some) words is sfile are has = absurd cc
+list_goes n r (Ok command) texts None words is sfile are has =
+    subst (λ (o : Option CommandList). HasVersions (view_in (folder_after r.folder (take r.made (steps_along (course_by o r.who command) r.folder r.input))) n) (versions_after_commands n texts (r ∷ []))) (sym is) (single_goes n r (Ok command) texts words sfile are has)
+list_goes n r (Ok command) texts (Some (list.Soak number)) words is sfile are has =
+    subst (λ (o : Option CommandList). HasVersions (view_in (folder_after r.folder (take r.made (steps_along (course_by o r.who command) r.folder r.input))) n) (versions_after_commands n texts (commands_by (Some (list.Soak number)) r))) (sym is)
+    (subst (λ (u : Folder). HasVersions (view_in u n) (versions_after_commands n texts (commands_by (Some (list.Soak number)) r))) (sym (soak_after r.who.place r.folder r.input r.made number (soak_commands number)))
+    (soak_goes n r.who.place r.folder r.made (soak_commands number) texts sfile are has))
+list_goes n r (Ok command) texts (Some list.Batch) words is sfile are has =
+    subst (λ (o : Option CommandList). HasVersions (view_in (folder_after r.folder (take r.made (steps_along (course_by o r.who command) r.folder r.input))) n) (versions_after_commands n texts (commands_by (Some list.Batch) r))) (sym is)
     (batch_goes (nat_lt file_limit (length r.input)) refl)
   where
     batch_goes : (long : Bool) → nat_lt file_limit (length r.input) ≡ long
-        → HasVersions (view_in (folder_after r.folder (take r.made (steps_along (batch_course (entry_command r.who.place)) r.folder r.input))) n) (versions_after_commands n texts (commands_by true r))
+        → HasVersions (view_in (folder_after r.folder (take r.made (steps_along (batch_course (entry_command false r.who.place)) r.folder r.input))) n) (versions_after_commands n texts (commands_by (Some list.Batch) r))
     batch_goes true long =
-        subst (λ (u : Folder). HasVersions (view_in u n) (versions_after_commands n texts (commands_by true r))) (sym (batch_after r.who.place r.folder r.input r.made true long))
+        subst (λ (u : Folder). HasVersions (view_in u n) (versions_after_commands n texts (commands_by (Some list.Batch) r))) (sym (batch_after r.who.place r.folder r.input r.made true long))
         (subst (λ (t : Bool). HasVersions (view_in r.folder n) (versions_after_commands n texts (if t then [] else entry_runs r.who.place r.folder (r.made - 1) (batch_of (text_of r.input)).entries))) (sym long) has)
     batch_goes false long =
-        subst (λ (u : Folder). HasVersions (view_in u n) (versions_after_commands n texts (commands_by true r))) (sym (batch_after r.who.place r.folder r.input r.made false long))
+        subst (λ (u : Folder). HasVersions (view_in u n) (versions_after_commands n texts (commands_by (Some list.Batch) r))) (sym (batch_after r.who.place r.folder r.input r.made false long))
         (subst (λ (t : Bool). HasVersions (view_in (folder_after_entries r.who.place r.folder (r.made - 1) (batch_of (text_of r.input)).entries) n) (versions_after_commands n texts (if t then [] else entry_runs r.who.place r.folder (r.made - 1) (batch_of (text_of r.input)).entries))) (sym long)
         (entries_go n r.who.place r.folder (r.made - 1) (batch_of (text_of r.input)).entries texts sfile
         (subst (λ (t : Bool). AllByRecursion IsPastCommand (if t then [] else entry_runs r.who.place r.folder (r.made - 1) (batch_of (text_of r.input)).entries)) long are) has))
 
-run_goes : (n : List ℕ) (r : PastRun) (texts : Texts) → IsSfile n → IsPastRun r → HasVersions (view_in r.folder n) texts → HasVersions (view_in (folder_after_run r) n) (versions_after_commands n texts (commands_by (is_batch (meaning r.words)) r))
-run_goes n r texts sfile are has = list_goes n r (meaning r.words) texts (is_batch (meaning r.words)) refl refl sfile are has
+run_goes : (n : List ℕ) (r : PastRun) (texts : Texts) → IsSfile n → IsPastRun r → HasVersions (view_in r.folder n) texts → HasVersions (view_in (folder_after_run r) n) (versions_after_commands n texts (commands_by (list_meant (meaning r.words)) r))
+run_goes n r texts sfile are has = list_goes n r (meaning r.words) texts (list_meant (meaning r.words)) refl refl sfile are has
 
 pub runs_replayed : (n : List ℕ) (s : Option Content) (texts : Texts) (runs : List PastRun) → IsSfile n → AllByRecursion IsPastRun runs → AreInTurn n s runs → HasVersions s texts
     → HasVersions (s_file_after n s runs) (replay n texts runs)
 runs_replayed n s texts [] sfile are turn has = has
 runs_replayed n s texts (r ∷ runs) sfile are turn has =
-    runs_replayed n (view_in (folder_after_run r) n) (versions_after_commands n texts (commands_by (is_batch (meaning r.words)) r)) runs sfile are.1 turn.1
+    runs_replayed n (view_in (folder_after_run r) n) (versions_after_commands n texts (commands_by (list_meant (meaning r.words)) r)) runs sfile are.1 turn.1
     (run_goes n r texts sfile are.0 (subst (λ (o : Option Content). HasVersions o texts) (sym turn.0) has))

@@ -31,6 +31,7 @@ use Rattle.sccs_words.specs.declared.commands.Command.{Command}
 use Rattle.sccs_words.specs.declared.commands.Command.TheVariants as c
 use Rattle.sccs_words.specs.declared.commands.DeltaWords.{DeltaWords}
 use Rattle.sccs_words.specs.declared.commands.GetWords.{GetWords}
+use Rattle.sccs_words.specs.declared.commands.ValWords.{ValWords}
 use Rattle.sccs_files.specs.StepFiles.{Files, look}
 use Rattle.sccs_steps.specs.Actions.{Action, KeepsFiles, Step}
 use Rattle.sccs_steps.specs.StepEffects.{Outcome, StepEffect, check}
@@ -53,12 +54,12 @@ use Rattle.sccs_val.proofs.RunLaws.{val_keeps}
 use Rattle.sccs_val.specs.ValStep.{val_action}
 use Rattle.sccs_what.specs.Checks.{what_keeps}
 use Rattle.sccs_what.specs.WhatStep.{what_action}
-use Rattle.sccs_top.specs.Runs.{Caller, action_of, admin_there, has_heading}
-use Rattle.sccs_top.specs.Unbuilt.{unbuilt}
+use Rattle.sccs_soak.specs.Dropping.{dropped, dropped_effect}
+use Rattle.sccs_top.specs.Runs.{Caller, action_of, admin_there, has_heading, hushed, single_of, val_words_of}
 use Rattle.sccs_top.specs.MadeHistories.{IsReplayed}
 use Rattle.sccs_top.proofs.AdminValues.{admin_values}
 use Rattle.sccs_top.proofs.MadeHistoryLaws.{made_replayed}
-use Rattle.sccs_replays.specs.PastRuns.{HasVersions, call_in, first_version, versions_after_command, with_delta, with_read}
+use Rattle.sccs_replays.specs.PastRuns.{HasVersions, call_in, first_version, versions_after_command, texts_with_delta, with_read}
 use Rattle.sccs_replays.proofs.AlteredVersions.{altered_goes}
 use Rattle.sccs_replays.proofs.LeftFiles.{Leaves, edit_leaves, entries_leave, get_leaves, locking_leaves, recover_leaves, refused_leaves, s_of, sact_leaves}
 use Rattle.sccs_replays.proofs.LiveVersions.{follows_on}
@@ -134,7 +135,7 @@ delta_made n call s d texts made are =
     })
 
 delta_goes : (who : Caller) (words : DeltaWords) (i n : List ℕ) (m : Folder) (texts : Texts) (d : StepEffect) → IsMoment who.stamp.moment → IsLogin who.stamp.login → HasMeantValues (c.Delta words n)
-    → locking_step (delta_outcome words who.stamp) n i [] (look (view_in m) n) ≡ Ok d → Goes (view_in m n) d.new texts (with_delta (view_in m n) (call_in who words i m n) texts)
+    → locking_step (delta_outcome words who.stamp) n i [] (look (view_in m) n) ≡ Ok d → Goes (view_in m n) d.new texts (texts_with_delta (view_in m n) (call_in who words i m n) texts)
 delta_goes who words i n m texts d moment login values is = by (view_in m n) refl
   where
     call : DeltaCall
@@ -146,10 +147,10 @@ delta_goes who words i n m texts d moment login values is = by (view_in m n) ref
     files : (s z : Option Content) → Files
     files s z = record { s = s; p = view_in m (p_file n); z = z; g = view_in m (drop 2 n) }
 
-    by : (s : Option Content) → view_in m n ≡ s → Goes (view_in m n) d.new texts (with_delta (view_in m n) call texts)
+    by : (s : Option Content) → view_in m n ≡ s → Goes (view_in m n) d.new texts (texts_with_delta (view_in m n) call texts)
     by None none = absurd (needs_file words who n i (look (view_in m) n) d parts.1 none)
     by (Some s) there =
-        subst (λ (o : Option Content). Goes o d.new texts (with_delta o call texts)) (sym there)
+        subst (λ (o : Option Content). Goes o d.new texts (texts_with_delta o call texts)) (sym there)
         (delta_made n call s d texts (versions_made words who.stamp moment login values.0 values.1 n i (files_at s call) s d refl
         (sym (ap (λ (o : Option Content). delta_outcome words who.stamp n i [] (files o (view_in m (z_file n)))) there ∙ ap (λ (o : Option Content). delta_outcome words who.stamp n i [] (files (Some s) o)) parts.0) ∙ parts.1)))
 
@@ -217,8 +218,8 @@ admin_goes who words i n named f texts d moment login values is are =
 
 -- ---- commands
 
-refused : (m : Folder) (n : List ℕ) (texts : Texts) (d : StepEffect) → (let o : Outcome = Err refusals.Unbuilt in o) ≡ Ok d → Goes (view_in m n) d.new texts texts
-refused m n texts d is = left (view_in m n) (Err refusals.Unbuilt) d texts (refused_leaves (view_in m n) refusals.Unbuilt) is
+refused : (m : Folder) (n : List ℕ) (texts : Texts) (d : StepEffect) → (let o : Outcome = Err refusals.BadName in o) ≡ Ok d → Goes (view_in m n) d.new texts texts
+refused m n texts d is = left (view_in m n) (Err refusals.BadName) d texts (refused_leaves (view_in m n) refusals.BadName) is
 
 -- what only reads leaves the s-file
 reading_goes : (x : Action) (i n : List ℕ) (m : Folder) (texts : Texts) (d : StepEffect) → KeepsFiles x → x.reads ≡ true
@@ -227,11 +228,10 @@ reading_goes x i n m texts d keeps reads is =
     subst (λ (new : Option Files). Goes (view_in m n) new texts texts) (sym (keeps.quiet reads n i (map (view_in m) (x.named n)) (look (view_in m) n) d is)) (λ are. are)
 
 -- admin on an s-file that is there leaves its versions
-there_goes : (check fix : Bool) (words : AdminWords) (i n : List ℕ) (m : Folder) (texts : Texts) (d : StepEffect)
-    → (let x : Action = if check then check_action else (if fix then unbuilt false false else locking (alter_change words)) in x.step n i (map (view_in m) (x.named n)) (look (view_in m) n) ≡ Ok d) → Goes (view_in m n) d.new texts texts
-there_goes true fix words i n m texts d is = reading_goes check_action i n m texts d check_keeps refl is
-there_goes false true words i n m texts d is = refused m n texts d is
-there_goes false false words i n m texts d is =
+there_goes : (check : Bool) (words : AdminWords) (i n : List ℕ) (m : Folder) (texts : Texts) (d : StepEffect)
+    → (let x : Action = if check then check_action else locking (alter_change words) in x.step n i (map (view_in m) (x.named n)) (look (view_in m) n) ≡ Ok d) → Goes (view_in m n) d.new texts texts
+there_goes true words i n m texts d is = reading_goes check_action i n m texts d check_keeps refl is
+there_goes false words i n m texts d is =
     altered_goes words n i (map (view_in m) (named_by words.description)) (look (view_in m) n) texts d
     (unlocked_step (alter_outcome words) n i (map (view_in m) (named_by words.description)) (look (view_in m) n) d is).1
 
@@ -242,7 +242,7 @@ admin_by : (fresh : Bool) (who : Caller) (words : AdminWords) (i n : List ℕ) (
 admin_by true who words i n m texts d moment login values is =
     admin_goes who words i n (map (view_in m) (named_in words)) (look (view_in m) n) texts d moment login values
     (unlocked_step (admin_outcome words who.stamp) n i (map (view_in m) (named_in words)) (look (view_in m) n) d is).1
-admin_by false who words i n m texts d moment login values is = there_goes words.check words.fix words i n m texts d is
+admin_by false who words i n m texts d moment login values is = there_goes words.check words i n m texts d is
 
 get_by : (edit : Bool) (who : Caller) (words : GetWords) (heading : Bool) (i n : List ℕ) (m : Folder) (texts : Texts) (d : StepEffect)
     → (let x : Action = if edit then locking (edit_change words who.stamp who.place heading) else get_action words who.stamp who.place heading in x.step n i (map (view_in m) (x.named n)) (look (view_in m) n) ≡ Ok d)
@@ -251,18 +251,34 @@ get_by true who words heading i n m texts d is =
     left (view_in m n) _ d texts (locking_leaves (edit_outcome words who.stamp who.place heading) n i [] (look (view_in m) n) (edit_leaves words who.stamp who.place heading n i [] (look (view_in m) n))) is
 get_by false who words heading i n m texts d is = left (view_in m n) _ d texts (get_leaves words who.stamp who.place heading n (look (view_in m) n)) is
 
+by_goes : (who : Caller) (command : Command) (i n : List ℕ) (m : Folder) (texts : Texts) (d : StepEffect) → IsMoment who.stamp.moment → IsLogin who.stamp.login → HasMeantValues command
+    → ((single_of command).by who).step n i (map (view_in m) (((single_of command).by who).named n)) (look (view_in m) n) ≡ Ok d → Goes (view_in m n) d.new texts (versions_after_command who command i m n texts)
+by_goes who (c.Admin words operands) i n m texts d moment login values is = admin_by words.fresh who words i n m texts d moment login values is
+by_goes who (c.Get words operands) i n m texts d moment login values is = get_by words.edit who words (has_heading operands) i n m texts d is
+by_goes who (c.Delta words name) i n m texts d moment login values is = delta_goes who words i n m texts d moment login values is
+by_goes who (c.Unget words operands) i n m texts d moment login values is =
+    left (view_in m n) _ d texts (locking_leaves _ n i [] (look (view_in m) n) (entries_leave (unget_decides words who.stamp (has_heading operands)) n i [] (look (view_in m) n))) is
+by_goes who (c.Sact operands) i n m texts d moment login values is = left (view_in m n) _ d texts (sact_leaves (has_heading operands) n (look (view_in m) n)) is
+by_goes who (c.Rmdel sid operands) i n m texts d moment login values is = rmdel_goes who sid i n m texts d is
+by_goes who (c.Prs words operands) i n m texts d moment login values is = reading_goes (prs_action words who.place) i n m texts d (prs_keeps words who.place) refl is
+by_goes who (c.Val words) i n m texts d moment login values is = reading_goes (val_action words) i n m texts d (val_keeps words (λ name. None)) refl is
+by_goes who (c.What first operands) i n m texts d moment login values is = reading_goes (what_action first) i n m texts d (what_keeps first) refl is
+by_goes who (c.Recover operands) i n m texts d moment login values is = left (view_in m n) _ d texts (recover_leaves n (look (view_in m) n)) is
+by_goes who c.Batch i n m texts d moment login values is = refused m n texts d is
+by_goes who (c.Soak number) i n m texts d moment login values is = refused m n texts d is
+
+-- the same where the output is dropped
+dropped_goes : (s : Option Content) (texts after : Texts) (o : Outcome) (d : StepEffect) → ((e : StepEffect) → o ≡ Ok e → Goes s e.new texts after) → dropped o ≡ Ok d → Goes s d.new texts after
+dropped_goes s texts after (Ok e) d goes is = subst (λ (new : Option Files). Goes s new texts after) (let same : dropped_effect e ≡ d = cc in ap (λ (x : StepEffect). x.new) same) (goes e refl)
+dropped_goes s texts after (Err refusal) d goes is = absurd cc
+
+hushed_goes : (val : Option ValWords) (quiet : Bool) (x : Action) (i n : List ℕ) (m : Folder) (texts after : Texts) (d : StepEffect) → ((e : StepEffect) → x.step n i (map (view_in m) (x.named n)) (look (view_in m) n) ≡ Ok e → Goes (view_in m n) e.new texts after)
+    → (hushed val quiet x).step n i (map (view_in m) ((hushed val quiet x).named n)) (look (view_in m) n) ≡ Ok d → Goes (view_in m n) d.new texts after
+hushed_goes (Some words) quiet x i n m texts after d goes is = goes d is
+hushed_goes None true x i n m texts after d goes is = dropped_goes (view_in m n) texts after (x.step n i (map (view_in m) (x.named n)) (look (view_in m) n)) d goes is
+hushed_goes None false x i n m texts after d goes is = goes d is
+
 pub command_goes : (who : Caller) (command : Command) (i n : List ℕ) (m : Folder) (texts : Texts) (d : StepEffect) → IsMoment who.stamp.moment → IsLogin who.stamp.login → HasMeantValues command
     → (action_of who command).step n i (map (view_in m) ((action_of who command).named n)) (look (view_in m) n) ≡ Ok d → Goes (view_in m n) d.new texts (versions_after_command who command i m n texts)
-command_goes who (c.Admin words operands) i n m texts d moment login values is = admin_by words.fresh who words i n m texts d moment login values is
-command_goes who (c.Get words operands) i n m texts d moment login values is = get_by words.edit who words (has_heading operands) i n m texts d is
-command_goes who (c.Delta words name) i n m texts d moment login values is = delta_goes who words i n m texts d moment login values is
-command_goes who (c.Unget words operands) i n m texts d moment login values is =
-    left (view_in m n) _ d texts (locking_leaves _ n i [] (look (view_in m) n) (entries_leave (unget_decides words who.stamp (has_heading operands)) n i [] (look (view_in m) n))) is
-command_goes who (c.Sact operands) i n m texts d moment login values is = left (view_in m n) _ d texts (sact_leaves (has_heading operands) n (look (view_in m) n)) is
-command_goes who (c.Rmdel sid operands) i n m texts d moment login values is = rmdel_goes who sid i n m texts d is
-command_goes who (c.Prs words operands) i n m texts d moment login values is = reading_goes (prs_action words who.place) i n m texts d (prs_keeps words who.place) refl is
-command_goes who (c.Val words) i n m texts d moment login values is = reading_goes (val_action words) i n m texts d (val_keeps words (λ name. None)) refl is
-command_goes who (c.What first operands) i n m texts d moment login values is = reading_goes (what_action first) i n m texts d (what_keeps first) refl is
-command_goes who (c.Recover operands) i n m texts d moment login values is = left (view_in m n) _ d texts (recover_leaves n (look (view_in m) n)) is
-command_goes who c.Batch i n m texts d moment login values is = refused m n texts d is
-command_goes who (c.Soak number) i n m texts d moment login values is = refused m n texts d is
+command_goes who command i n m texts d moment login values is =
+    hushed_goes (val_words_of command) who.quiet ((single_of command).by who) i n m texts (versions_after_command who command i m n texts) d (λ e made. by_goes who command i n m texts e moment login values made) is

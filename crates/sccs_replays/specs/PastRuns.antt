@@ -1,5 +1,5 @@
 -- Runs that follow one another, and what their scripts make of the versions of an s-file: POSIX, Shell and Utilities, admin and delta.
-use Rattle.std.specs.Prelude.{◌≡◌, ℕ, suc, ◌-◌, nat_lt, length, Bool, true, false, ◌&&◌, List, [], ◌∷◌, map, take, drop, Option, None, Some, IfSome, is_some, Result, Ok, Err, if◌then◌else◌}
+use Rattle.std.specs.Prelude.{◌≡◌, ℕ, suc, ◌-◌, ◌==◌, nat_lt, length, Bool, true, false, ◌&&◌, List, [], ◌∷◌, map, take, drop, Option, None, Some, IfSome, is_some, Result, Ok, Err, if◌then◌else◌}
 use Rattle.std.specs.List.{AllByRecursion}
 use Rattle.std.specs.Str.{bytes_eq}
 use Rattle.sccs_base.specs.Constants.{file_limit}
@@ -27,7 +27,10 @@ use Rattle.sccs_admin.specs.AdminStep.{found_texts, named_in}
 use Rattle.sccs_admin.specs.declared.finding.NewTexts.{NewTexts}
 use Rattle.sccs_delta.specs.NewVersions.{version_text}
 use Rattle.sccs_delta.specs.Replays.{CallRead, DeltaCall, Texts, call_read, with_texts}
-use Rattle.sccs_top.specs.Runs.{Caller, action_of, caller, command_steps, is_list, run_steps}
+use Rattle.sccs_soak.specs.Commands.{soak_commands}
+use Rattle.sccs_top.specs.Runs.{Caller, action_of, caller_by, command_steps, entry_command, list_in, run_steps}
+use Rattle.sccs_top.specs.declared.commands.CommandList.{CommandList}
+use Rattle.sccs_top.specs.declared.commands.CommandList.TheVariants as list
 
 -- ---- runs
 
@@ -49,34 +52,44 @@ folder_after_run r = folder_after r.folder (steps_made r)
 -- ---- the commands of a run
 
 -- the steps of a run that is a single command
-abbrev pub steps_of : PastRun → Result Command Usage → List NamedStep
-steps_of r meant = take r.made (command_steps r.who meant r.folder r.input)
+abbrev pub single_steps : PastRun → Result Command Usage → List NamedStep
+single_steps r meant = take r.made (command_steps r.who meant r.folder r.input)
 
--- an entry of a batch as a run of its own, in the folder at a path
-abbrev pub entry_run : List ℕ → Folder → ℕ → Entry → PastRun
-entry_run place m made e = record { folder = m; who = caller e.stamp place; words = e.words; input = e.input; made = made }
+-- a command of a list as a run of its own, in the folder at a path
+abbrev pub entry_run : Bool → List ℕ → Folder → ℕ → Entry → PastRun
+entry_run quiet place m made e = record { folder = m; who = caller_by quiet e.stamp place; words = e.words; input = e.input; made = made }
 
 abbrev pub steps_of_entry : PastRun → List NamedStep
 steps_of_entry r = command_steps r.who (meaning r.words) r.folder r.input
 
--- entries as runs, one after the other, of which so many steps are made in all; that the status of each is written is a step too
+-- the entries of a batch as runs, one after the other, of which so many steps are made in all; that the status of each is written
+-- is a step too
 abbrev pub entry_runs : List ℕ → Folder → ℕ → List Entry → List PastRun
 entry_runs place m made [] = []
 entry_runs place m made (e ∷ es) =
-    let r = entry_run place m made e in
-    r ∷ entry_runs place (folder_after m (steps_of r (meaning e.words))) (made - suc (length (steps_of_entry r))) es
+    let r = entry_run false place m made e in
+    r ∷ entry_runs place (folder_after m (single_steps r (meaning e.words))) (made - suc (length (steps_of_entry r))) es
 
--- the commands of a run: the entries of a batch, after the step that reads them, or the one command
-abbrev pub commands_by : Bool → PastRun → List PastRun
-commands_by true r = if nat_lt file_limit (length r.input) then [] else entry_runs r.who.place r.folder (r.made - 1) (batch_of (text_of r.input)).entries
-commands_by false r = r ∷ []
+-- the commands of a soak as runs, up to the first whose status isn't 0; that the words of each are made is a step too
+abbrev pub soak_runs : List ℕ → Folder → ℕ → List Entry → List PastRun
+soak_runs place m made [] = []
+soak_runs place m made (e ∷ es) =
+    let r = entry_run true place m (made - 1) e in
+    r ∷ (if (entry_command true place e m []).status == 0
+    then soak_runs place (folder_after m (single_steps r (meaning e.words))) (made - suc (length (steps_of_entry r))) es else [])
 
-abbrev pub is_batch : Result Command Usage → Bool
-is_batch (Ok command) = is_list command
-is_batch (Err usage) = false
+-- the commands of a run: those of a list, or the one command
+abbrev pub commands_by : Option CommandList → PastRun → List PastRun
+commands_by (Some list.Batch) r = if nat_lt file_limit (length r.input) then [] else entry_runs r.who.place r.folder (r.made - 1) (batch_of (text_of r.input)).entries
+commands_by (Some (list.Soak number)) r = soak_runs r.who.place r.folder r.made (soak_commands number)
+commands_by None r = r ∷ []
+
+abbrev pub list_meant : Result Command Usage → Option CommandList
+list_meant (Ok command) = list_in command
+list_meant (Err usage) = None
 
 abbrev pub commands_of : PastRun → List PastRun
-commands_of r = commands_by (is_batch (meaning r.words)) r
+commands_of r = commands_by (list_meant (meaning r.words)) r
 
 -- where a command changes files no g-file has the name of an s-file, p-file or z-file
 abbrev pub IsPlainBy : Caller → Result Command Usage → List NamedStep → Type 0
@@ -87,7 +100,7 @@ IsPlainBy who (Err usage) ts = Unit {0}
 pub record IsPastCommand (r : PastRun) : Type 0 where
   pub moment : IsMoment r.who.stamp.moment
   pub login : IsLogin r.who.stamp.login
-  pub plain : IsPlainBy r.who (meaning r.words) (steps_of r (meaning r.words))
+  pub plain : IsPlainBy r.who (meaning r.words) (single_steps r (meaning r.words))
 
 -- so it is of each command of a run
 abbrev pub IsPastRun : PastRun → Type 0
@@ -129,9 +142,9 @@ abbrev pub with_read : Result CallRead Refusal → Texts → Texts
 with_read (Ok read) texts = with_texts texts read
 with_read (Err refusal) texts = texts
 
-abbrev pub with_delta : Option Content → DeltaCall → Texts → Texts
-with_delta None call texts = texts
-with_delta (Some s) call texts = with_read (call_read s call) texts
+abbrev pub texts_with_delta : Option Content → DeltaCall → Texts → Texts
+texts_with_delta None call texts = texts
+texts_with_delta (Some s) call texts = with_read (call_read s call) texts
 
 -- the one version of a new file is the lines of the text
 abbrev pub first_version : Result NewTexts Refusal → Texts
@@ -141,7 +154,7 @@ first_version (Err refusal) = λ m. []
 -- the versions after an accepted step on a name in a folder: delta adds some, admin on a new file makes the first one, and all
 -- else leaves them; rmdel leaves those of the deltas that live on
 abbrev pub versions_after_command : Caller → Command → List ℕ → Folder → List ℕ → Texts → Texts
-versions_after_command who (c.Delta words name) i m n texts = with_delta (view_in m n) (call_in who words i m n) texts
+versions_after_command who (c.Delta words name) i m n texts = texts_with_delta (view_in m n) (call_in who words i m n) texts
 versions_after_command who (c.Admin words operands) i m n texts = if words.fresh then first_version (found_texts words i (map (view_in m) (named_in words)) (view_in m n)) else texts
 versions_after_command who command i m n texts = texts
 
@@ -156,7 +169,7 @@ versions_after_steps who command i n m (t ∷ ts) texts = versions_after_steps w
 
 -- the same after a command that is made to its end or in part; a usage fault leaves them
 abbrev pub versions_after_run : List ℕ → PastRun → Result Command Usage → Texts → Texts
-versions_after_run n r (Ok command) texts = versions_after_steps r.who command r.input n r.folder (steps_of r (Ok command)) texts
+versions_after_run n r (Ok command) texts = versions_after_steps r.who command r.input n r.folder (single_steps r (Ok command)) texts
 versions_after_run n r (Err usage) texts = texts
 
 -- the same after several commands

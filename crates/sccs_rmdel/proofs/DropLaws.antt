@@ -9,7 +9,7 @@ use Rattle.sccs_history.specs.Removal.{dropped_behind}
 use Rattle.sccs_history.specs.declared.headers.Item.{Item}
 use Rattle.sccs_history.specs.declared.headers.Item.TheVariants.{Text, Insert, Delete, End}
 use Rattle.sccs_body.specs.ItemsRead.{texts_behind}
-use Rattle.sccs_weave.specs.Regions.{Opens}
+use Rattle.sccs_weave.specs.Regions.{OpensRegions}
 use Rattle.sccs_weave.specs.declared.regions.Region.{Region}
 use Rattle.sccs_writers.specs.Puts.{PutsText, Writer}
 use Rattle.sccs_writers.specs.Spelled.{spelled}
@@ -34,8 +34,8 @@ on_any (Ok done) p = p
 on_any (Err refusal) p = tt
 
 -- an item is put where it stays
-pub drop_takes : {T : Type 0} (d : Dropper) (regions2 : List Region) (item : Item) (wanted : Bool) (w w2 : Writer) (a c : Told) (f g : ℕ) (r : Result T DiskRefusal) → ((before : List Item) → Opens before d.weaver → Opens (item ∷ before) regions2)
-    → ((before : List Item) → Opens before d.weaver → wanted ≡ stays d.serial before item) → PutsText (spelled (front_if wanted item [])) w w2 a c f g r → TakesItem dropping item d (record { serial = d.serial; weaver = regions2; set = d.set }) w w2 a c f g r
+pub drop_takes : {T : Type 0} (d : Dropper) (regions2 : List Region) (item : Item) (wanted : Bool) (w w2 : Writer) (a c : Told) (f g : ℕ) (r : Result T DiskRefusal) → ((before : List Item) → OpensRegions before d.weaver → OpensRegions (item ∷ before) regions2)
+    → ((before : List Item) → OpensRegions before d.weaver → wanted ≡ stays d.serial before item) → PutsText (spelled (front_if wanted item [])) w w2 a c f g r → TakesItem dropping item d (record { serial = d.serial; weaver = regions2; set = d.set }) w w2 a c f g r
 drop_takes d regions2 item wanted w w2 a c f g r take same puts = record {
   items = front_if wanted item [];
   puts = puts;
@@ -60,11 +60,11 @@ dropped_texts n false before (line ∷ lines) rest is =
     dropped_texts n false (Text line ∷ before) lines rest is
     ∙ ap (λ t. front_if t (Text line) (dropped_behind n (Text line ∷ before) (map Text lines ++ rest))) is
 
-opens_texts : (lines : List (List ℕ)) (before : List Item) (w : List Region) → Opens before w → Opens (texts_behind lines before) w
+opens_texts : (lines : List (List ℕ)) (before : List Item) (w : List Region) → OpensRegions before w → OpensRegions (texts_behind lines before) w
 opens_texts [] before w opens = opens
 opens_texts (line ∷ lines) before w opens = opens_texts lines (Text line ∷ before) w opens
 
-pub drop_texts : (d : Dropper) (wanted : Bool) → ((before : List Item) → Opens before d.weaver → wanted ≡ not (inserter before == d.serial)) → PassesTexts dropping d wanted
+pub drop_texts : (d : Dropper) (wanted : Bool) → ((before : List Item) → OpensRegions before d.weaver → wanted ≡ not (inserter before == d.serial)) → PassesTexts dropping d wanted
 drop_texts d wanted same before lines opens = record {
   behind = opens_texts lines before d.weaver opens;
   goes = λ rest. ap (λ (l : List Item). Some l) (dropped_texts d.serial wanted before lines rest (same before opens));

@@ -17,7 +17,7 @@ use Rattle.sccs_images.specs.Touches.{Leaves}
 use Rattle.sccs_table.specs.declared.fronts.Front.{Front}
 use Rattle.sccs_body.specs.BodyFile.{items_of}
 use Rattle.sccs_body.specs.ToCome.{ToCome}
-use Rattle.sccs_weave.specs.Regions.{Opens}
+use Rattle.sccs_weave.specs.Regions.{OpensRegions}
 use Rattle.sccs_store.specs.Commits.{Becomes}
 use Rattle.sccs_store.specs.SealedFiles.{sealed}
 use Rattle.sccs_store.specs.Stops.{OnReplace}
@@ -42,7 +42,7 @@ copy_begins file front items n d c serial begins filter are comes = record {
   before = [];
   rest = items;
   comes = subst (λ found. ToCome file (live_serials front.header.records) [] found c.items) are comes;
-  stands = subst (λ (f : Dropper). Opens [] f.weaver) (sym filter) (subst (Opens []) (sym begins) (λ m. refl));
+  stands = subst (λ (f : Dropper). OpensRegions [] f.weaver) (sym filter) (subst (OpensRegions []) (sym begins) (λ m. refl));
   output_is = subst (λ (f : Dropper). Some (dropped f.serial items) ≡ Some (dropped n items)) (sym filter) (ap (λ m. Some (dropped m items)) serial);
 }
 

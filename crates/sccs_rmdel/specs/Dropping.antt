@@ -4,7 +4,7 @@ use Rattle.sccs_history.specs.Body.{inserter}
 use Rattle.sccs_history.specs.Removal.{dropped_behind}
 use Rattle.sccs_history.specs.declared.headers.Item.{Item}
 use Rattle.sccs_history.specs.declared.headers.Item.TheVariants.{Text, Insert, Delete, End}
-use Rattle.sccs_weave.specs.Regions.{Opens}
+use Rattle.sccs_weave.specs.Regions.{OpensRegions}
 use Rattle.sccs_copies.specs.Filters.{Filter}
 use Rattle.sccs_rmdel.specs.declared.droppers.Dropper.{Dropper}
 
@@ -19,6 +19,6 @@ stays n before (End m) = not (m == n)
 -- body.
 abbrev pub dropping : Filter Dropper
 dropping = record {
-  stands = λ d before. Opens before d.weaver;
+  stands = λ d before. OpensRegions before d.weaver;
   output = λ d before rest. Some (dropped_behind d.serial before rest);
 }

@@ -2,7 +2,7 @@ ghost use Rattle.std.specs.Prelude.{◌≡◌, ◌==◌, not, List, [], IfOk};
 ghost use Rattle.sccs_disk.specs.Calls.{IsThere};
 ghost use Rattle.sccs_history.specs.Numbers.{front_if};
 ghost use Rattle.sccs_history.specs.declared.headers.Item.{Item};
-ghost use Rattle.sccs_weave.specs.Regions.{Opens};
+ghost use Rattle.sccs_weave.specs.Regions.{OpensRegions};
 ghost use Rattle.sccs_writers.specs.Puts.{PutsText};
 ghost use Rattle.sccs_writers.specs.Spelled.{spelled};
 ghost use Rattle.sccs_rmdel.specs.Dropping.{stays};
@@ -27,7 +27,7 @@ pub struct Dropper {
 
 // whether an item stays
 fn stays(dropper: &Dropper, item: &Item) -> bool
-    ensures { (before : List Item) → Opens before dropper.now.weaver
+    ensures { (before : List Item) → OpensRegions before dropper.now.weaver
         → result ≡ stays dropper.now.serial before item.now }
 {
     match item {

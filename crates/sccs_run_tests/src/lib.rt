@@ -1,4 +1,4 @@
-//! Tests of the whole program, but for delta.
+//! Tests of the whole program, but for delta, and for admin and rmdel.
 #![tactic(auto)]
 
 #[cfg(test)]

@@ -6,7 +6,7 @@ use Rattle.std.proofs.lemmas.Bool.{ltb-true, ltb-false}
 use Rattle.std.proofs.lemmas.List.{drop_more}
 use Rattle.sccs_sid.specs.SidLists.{begins}
 use Rattle.sccs_edits.specs.declared.scripts.Order.{Order}
-use Rattle.sccs_script.specs.Checks.{bad_line, bare, or_bad}
+use Rattle.sccs_script.specs.Checks.{bad_line, bare_soh, or_bad}
 
 abbrev pub numbered : ℕ → Option ℕ → Option ℕ
 numbered before place = option_map (λ i. before + 1 + i) place
@@ -35,10 +35,10 @@ bad_line_placed before (line ∷ lines) = line_step before line lines (begins 1 
 
 -- the orders from one on
 pub bare_at : (orders : List Order) (i : ℕ) (order : Order) (place : Option ℕ) → i < length orders → order ≡ get_or orders i order → place ≡ position (begins 1) order.lines
-    → bare (drop i orders) ≡ or_bad (numbered order.line place) (bare (drop (i + 1) orders))
+    → bare_soh (drop i orders) ≡ or_bad (numbered order.line place) (bare_soh (drop (i + 1) orders))
 bare_at orders i order place low at is =
-    ap bare (drop_more orders i order low ∙ ap (λ o. o ∷ drop (i + 1) orders) (sym at))
-    ∙ ap (λ p. or_bad p (bare (drop (i + 1) orders))) (bad_line_placed order.line order.lines ∙ ap (numbered order.line) (sym is))
+    ap bare_soh (drop_more orders i order low ∙ ap (λ o. o ∷ drop (i + 1) orders) (sym at))
+    ∙ ap (λ p. or_bad p (bare_soh (drop (i + 1) orders))) (bad_line_placed order.line order.lines ∙ ap (numbered order.line) (sym is))
 
 -- the rest of orders that fit
 pub fit_rest : (P : Order → Type 0) (orders : List Order) (i : ℕ) (order : Order) → i < length orders → order ≡ get_or orders i order → AllByRecursion P (drop i orders) → P order × AllByRecursion P (drop (i + 1) orders)

@@ -1,6 +1,6 @@
 -- The base line that new lines follow.
 use Rattle.std.proofs.Common.{◌≡◌, ℕ, zero, suc, ◌+◌, ◌-◌, List, [], ◌∷◌, ◌++◌, Result, Ok, Err, IfOk, map, refl, ap, ◌∙◌, arith}
-use Rattle.sccs_script.specs.Drafts.{anchor_from, Entry, expand, Fresh, IsPiece, Kept, span}
+use Rattle.sccs_script.specs.Drafts.{anchor_from, DraftLine, expand, Fresh, IsPiece, Kept, span}
 use Rattle.sccs_script.specs.declared.pieces.Piece.{Piece}
 use Rattle.sccs_script.specs.declared.pieces.Piece.TheVariants as pieces
 
@@ -9,7 +9,7 @@ abbrev pub piece_end : Piece → ℕ
 piece_end (pieces.Kept first last) = last
 piece_end (pieces.Fresh after line) = after
 
-pub anchor_append : (k : ℕ) (xs ys : List Entry) → anchor_from k (xs ++ ys) ≡ anchor_from (anchor_from k xs) ys
+pub anchor_append : (k : ℕ) (xs ys : List DraftLine) → anchor_from k (xs ++ ys) ≡ anchor_from (anchor_from k xs) ys
 anchor_append k [] ys = refl
 anchor_append k (Kept n ∷ xs) ys = anchor_append n xs ys
 anchor_append k (Fresh n text ∷ xs) ys = anchor_append n xs ys

@@ -13,24 +13,24 @@ use Rattle.sccs_edits.specs.declared.scripts.Plan.{Plan}
 use Rattle.sccs_edits.proofs.Runs.{flat, kept-run}
 use Rattle.sccs_script.specs.Checks.{length_after, length_by, ranged}
 use Rattle.sccs_script.specs.Commands.{FitsIn}
-use Rattle.sccs_script.specs.Drafts.{anchor, anchor_from, base_of, cut_entries, edit, edited, Entry, Fresh, grouped, Kept, missing, Names, plan_of, put_entries, span}
+use Rattle.sccs_script.specs.Drafts.{anchor, anchor_from, draft_base, cut_entries, edit, edited_draft, DraftLine, Fresh, grouped, Kept, missing, NamesLines, draft_plan, put_entries, span}
 use Rattle.sccs_script.specs.declared.faults.ScriptFault.{ScriptFault}
 use Rattle.sccs_script.specs.declared.faults.ScriptFault.TheVariants.{ScriptRange}
 
 -- what is seen of cells behind base line k
-abbrev seen_from : ℕ → List Cell → List Entry
+abbrev seen_from : ℕ → List Cell → List DraftLine
 seen_from k [] = []
 seen_from k (Base true ∷ cells) = seen_from (suc k) cells
 seen_from k (Base false ∷ cells) = Kept (suc k) ∷ seen_from (suc k) cells
 seen_from k (New text ∷ cells) = Fresh k text ∷ seen_from k cells
 
 -- where an entry stands in front, the anchor is its own
-anchor_some : (k m j : ℕ) (entries : List Entry) → suc j ≤ length entries → anchor_from k (take (suc j) entries) ≡ anchor_from m (take (suc j) entries)
+anchor_some : (k m j : ℕ) (entries : List DraftLine) → suc j ≤ length entries → anchor_from k (take (suc j) entries) ≡ anchor_from m (take (suc j) entries)
 anchor_some k m j [] le = absurd (omega arith)
 anchor_some k m j (Kept n ∷ entries) le = refl
 anchor_some k m j (Fresh n text ∷ entries) le = refl
 
-abbrev put_seen : ℕ → ℕ → List (List ℕ) → List Entry → List Entry
+abbrev put_seen : ℕ → ℕ → List (List ℕ) → List DraftLine → List DraftLine
 put_seen k j new entries = take j entries ++ (map (Fresh (anchor_from k (take j entries))) new ++ drop j entries)
 
 seen_new : (k : ℕ) (new : List (List ℕ)) (cells : List Cell) → seen_from k (map New new ++ cells) ≡ map (Fresh k) new ++ seen_from k cells
@@ -61,14 +61,14 @@ seen-take k (suc j) (suc count) (Base true ∷ cells) = seen-take (suc k) (suc j
 seen-take k (suc j) (suc count) (Base false ∷ cells) = ap (λ l. Kept (suc k) ∷ l) (seen-take (suc k) j (suc count) cells)
 seen-take k (suc j) (suc count) (New text ∷ cells) = ap (λ l. Fresh k text ∷ l) (seen-take k j (suc count) cells)
 
-pub cut_length : (first last : ℕ) (entries : List Entry) → 0 < first → first ≤ last → last ≤ length entries → length (cut_entries first last entries) ≡ length entries - (suc last - first)
+pub cut_length : (first last : ℕ) (entries : List DraftLine) → 0 < first → first ≤ last → last ≤ length entries → length (cut_entries first last entries) ≡ length entries - (suc last - first)
 cut_length first last entries some le there =
     length-append (take (first - 1) entries) (drop (last - (first - 1)) (drop (first - 1) entries))
     ∙ (ap (λ n. n + length (drop (last - (first - 1)) (drop (first - 1) entries))) (length-take-le (first - 1) entries (omega arith))
     ∙ (ap (λ n. first - 1 + n) (length-drop (last - (first - 1)) (drop (first - 1) entries))
     ∙ (ap (λ n. first - 1 + (n - (last - (first - 1)))) (length-drop (first - 1) entries) ∙ omega arith)))
 
-put_length : (k : ℕ) (new : List (List ℕ)) (entries : List Entry) → k ≤ length entries → length (put_entries k new entries) ≡ length entries + length new
+put_length : (k : ℕ) (new : List (List ℕ)) (entries : List DraftLine) → k ≤ length entries → length (put_entries k new entries) ≡ length entries + length new
 put_length k new entries le =
     length-append (take k entries) (map (Fresh (anchor (take k entries))) new ++ drop k entries)
     ∙ (ap (λ n. n + length (map (Fresh (anchor (take k entries))) new ++ drop k entries)) (length-take-le k entries le)
@@ -76,11 +76,11 @@ put_length k new entries le =
     ∙ (ap (λ n. k + (n + length (drop k entries))) (map_length (Fresh (anchor (take k entries))) new)
     ∙ (ap (λ n. k + (length new + n)) (length-drop k entries) ∙ omega arith))))
   where
-    map_length : (f : List ℕ → Entry) (l : List (List ℕ)) → length (map f l) ≡ length l
+    map_length : (f : List ℕ → DraftLine) (l : List (List ℕ)) → length (map f l) ≡ length l
     map_length f [] = refl
     map_length f (x ∷ l) = ap suc (map_length f l)
 
-pub edit_length : (kind : OrderKind) (first last : ℕ) (new : List (List ℕ)) (entries : List Entry) → Names kind first last (length entries)
+pub edit_length : (kind : OrderKind) (first last : ℕ) (new : List (List ℕ)) (entries : List DraftLine) → NamesLines kind first last (length entries)
     → length (edit kind first last new entries) ≡ length_by kind first last (length new) (length entries)
 edit_length Append first last new entries names = put_length first new entries (omega (arith, names.rising, names.there))
 edit_length Delete first last new entries names = cut_length first last entries (names.some refl) names.rising names.there
@@ -89,7 +89,7 @@ edit_length Change first last new entries names =
     let cut = cut_length first last entries some names.rising names.there in
     put_length (first - 1) new (cut_entries first last entries) (omega (arith, some, cut, names.rising, names.there)) ∙ ap (λ n. n + length new) cut
 
-seen-step : (kind : OrderKind) (first last : ℕ) (new : List (List ℕ)) (cells : List Cell) → Names kind first last (length (seen_from 0 cells))
+seen-step : (kind : OrderKind) (first last : ℕ) (new : List (List ℕ)) (cells : List Cell) → NamesLines kind first last (length (seen_from 0 cells))
     → seen_from 0 (step is_there struck New kind first last new cells) ≡ edit kind first last new (seen_from 0 cells)
 seen-step Append first last new cells names = seen-put 0 first new cells (omega (arith, names.rising, names.there))
 seen-step Delete first last new cells names = seen-take 0 (first - 1) (last - (first - 1)) cells
@@ -101,7 +101,7 @@ seen-step Change first last new cells names =
     ∙ ap (put_entries (first - 1) new) cut
 
 -- orders that fit a text of so many lines name lines that are there
-pub names_of : (order : Order) (next lines : ℕ) → FitsIn next order → nat_lt lines order.last ≡ false → Names order.kind order.first order.last lines
+pub names_of : (order : Order) (next lines : ℕ) → FitsIn next order → nat_lt lines order.last ≡ false → NamesLines order.kind order.first order.last lines
 names_of order next lines fits in_range = record {
   some = λ other. ltb-true 0 order.first (ap (λ t. t || nat_lt 0 order.first) (sym other) ∙ fits.numbers.low);
   rising = fits.numbers.rising;
@@ -113,7 +113,7 @@ in_range true order lines rest e = cc
 in_range false order lines rest e = (refl, e)
 
 seen-run : (next : ℕ) (orders : List Order) (cells : List Cell) → AllByRecursion (FitsIn next) orders → ranged orders (length (seen_from 0 cells)) ≡ Ok tt
-    → seen_from 0 (run is_there struck New orders cells) ≡ edited orders (seen_from 0 cells)
+    → seen_from 0 (run is_there struck New orders cells) ≡ edited_draft orders (seen_from 0 cells)
 seen-run next [] cells fit ok = refl
 seen-run next (order ∷ orders) cells fit ok =
     let lines : ℕ = length (seen_from 0 cells) in
@@ -122,15 +122,15 @@ seen-run next (order ∷ orders) cells fit ok =
     let done = seen-step order.kind order.first order.last order.lines cells names in
     let size : length (seen_from 0 (step is_there struck New order.kind order.first order.last order.lines cells)) ≡ length_after order lines =
     ap length done ∙ edit_length order.kind order.first order.last order.lines (seen_from 0 cells) names in
-    seen-run next orders (step is_there struck New order.kind order.first order.last order.lines cells) fit.1 (ap (ranged orders) size ∙ parts.1) ∙ ap (edited orders) done
+    seen-run next orders (step is_there struck New order.kind order.first order.last order.lines cells) fit.1 (ap (ranged orders) size ∙ parts.1) ∙ ap (edited_draft orders) done
 
 -- the entries are numbered from a number on
-abbrev From : ℕ → List Entry → Type 0
+abbrev From : ℕ → List DraftLine → Type 0
 From n [] = Unit {0}
 From n (Kept m ∷ entries) = (n ≤ m) × From (suc m) entries
 From n (Fresh m text ∷ entries) = (n ≤ suc m) × From n entries
 
-from_lower : (n m : ℕ) (entries : List Entry) → n ≤ m → From m entries → From n entries
+from_lower : (n m : ℕ) (entries : List DraftLine) → n ≤ m → From m entries → From n entries
 from_lower n m [] le from = tt
 from_lower n m (Kept k ∷ entries) le from = (omega (arith, from.0), from.1)
 from_lower n m (Fresh k text ∷ entries) le from = (omega (arith, from.0), from_lower n m entries le from.1)
@@ -153,7 +153,7 @@ span_more : (n count : ℕ) → n < count → span n (count - n) ≡ n ∷ span 
 span_more n count lt = let one : count - n ≡ suc (count - suc n) = omega arith in ap (span n) one
 
 -- a number that isn't there is missing
-missing_more : (n bound : ℕ) (entries : List Entry) → n < bound → From (suc n) entries → missing n entries bound ≡ n ∷ missing (suc n) entries bound
+missing_more : (n bound : ℕ) (entries : List DraftLine) → n < bound → From (suc n) entries → missing n entries bound ≡ n ∷ missing (suc n) entries bound
 missing_more n bound [] lt from = span_more n bound lt
 missing_more n bound (Kept m ∷ entries) lt from = ap (λ l. l ++ missing (suc m) entries bound) (span_more n m (omega (arith, from.0)))
 missing_more n bound (Fresh m text ∷ entries) lt from = missing_more n bound entries lt from.1
@@ -173,7 +173,7 @@ deleted_seen k (Base false ∷ cells) =
 deleted_seen k (New text ∷ cells) = deleted_seen k cells
 
 -- where the entries are numbered from a greater number on, the lines so far are whole
-grouped_next : (k : ℕ) (texts : List (List ℕ)) (entries : List Entry) → From (suc (suc k)) entries → with_added k texts (grouped (suc k) [] entries) ≡ grouped k texts entries
+grouped_next : (k : ℕ) (texts : List (List ℕ)) (entries : List DraftLine) → From (suc (suc k)) entries → with_added k texts (grouped (suc k) [] entries) ≡ grouped k texts entries
 grouped_next k texts [] from = refl
 grouped_next k texts (Kept n ∷ entries) from = refl
 grouped_next k texts (Fresh n text ∷ entries) from =
@@ -213,14 +213,14 @@ span_length n zero = refl
 span_length n (suc count) = ap suc (span_length (suc n) count)
 
 -- the plan is that of what stands in the text at the end
-pub plan_edited : (next : ℕ) (orders : List Order) (count : ℕ) → AllByRecursion (FitsIn next) orders → ranged orders count ≡ Ok tt → plan orders count ≡ plan_of (edited orders (base_of count)) count
+pub plan_edited : (next : ℕ) (orders : List Order) (count : ℕ) → AllByRecursion (FitsIn next) orders → ranged orders count ≡ Ok tt → plan orders count ≡ draft_plan (edited_draft orders (draft_base count)) count
 plan_edited next orders count fit ok =
-    let base : seen_from 0 (replicate count (Base false)) ≡ base_of count = seen_base 0 count in
-    let seen : seen_from 0 (cells_of orders count) ≡ edited orders (base_of count) =
-    seen-run next orders (replicate count (Base false)) fit (ap (ranged orders) (ap length base ∙ span_length 1 count) ∙ ok) ∙ ap (edited orders) base in
+    let base : seen_from 0 (replicate count (Base false)) ≡ draft_base count = seen_base 0 count in
+    let seen : seen_from 0 (cells_of orders count) ≡ edited_draft orders (draft_base count) =
+    seen-run next orders (replicate count (Base false)) fit (ap (ranged orders) (ap length base ∙ span_length 1 count) ∙ ok) ∙ ap (edited_draft orders) base in
     ap (λ l. the_plan l (added_from 0 [] (cells_of orders count)))
-    (deleted_seen 0 (cells_of orders count) ∙ (ap (λ l. missing 1 l (1 + bases (cells_of orders count))) seen ∙ (let bound : 1 + bases (cells_of orders count) ≡ suc count = omega (arith, bases_run orders count) in ap (missing 1 (edited orders (base_of count))) bound)))
-    ∙ ap (the_plan (missing 1 (edited orders (base_of count)) (suc count))) (added_seen 0 [] (cells_of orders count) ∙ ap (grouped 0 []) seen)
+    (deleted_seen 0 (cells_of orders count) ∙ (ap (λ l. missing 1 l (1 + bases (cells_of orders count))) seen ∙ (let bound : 1 + bases (cells_of orders count) ≡ suc count = omega (arith, bases_run orders count) in ap (missing 1 (edited_draft orders (draft_base count))) bound)))
+    ∙ ap (the_plan (missing 1 (edited_draft orders (draft_base count)) (suc count))) (added_seen 0 [] (cells_of orders count) ∙ ap (grouped 0 []) seen)
   where
     the_plan : List ℕ → List Added → Plan
     the_plan deleted added = record { deleted = deleted; added = added }

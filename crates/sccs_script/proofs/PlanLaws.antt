@@ -6,16 +6,16 @@ use Rattle.sccs_edits.specs.declared.scripts.Added.{Added}
 use Rattle.sccs_edits.specs.declared.scripts.Order.{Order}
 use Rattle.sccs_edits.specs.declared.scripts.OrderKind.{OrderKind}
 use Rattle.sccs_edits.specs.declared.scripts.OrderKind.TheVariants.{Append, Change, Delete}
-use Rattle.sccs_script.specs.Checks.{bare, both_ok, checked, ranged}
-use Rattle.sccs_script.specs.Drafts.{anchor, anchor_from, base_of, content, cut_entries, edit, edited, Entry, expand, first_line, Fresh, grouped, InBase, IsPiece, IsWithin, Kept, missing, put_entries, span, unstacked}
+use Rattle.sccs_script.specs.Checks.{bare_soh, both_ok, checked_script, ranged}
+use Rattle.sccs_script.specs.Drafts.{anchor, anchor_from, draft_base, content, cut_entries, edit, edited_draft, DraftLine, expand, first_line, Fresh, grouped, InBase, IsPiece, IsWithinBase, Kept, missing, put_entries, span, unstacked}
 use Rattle.sccs_script.specs.declared.faults.ScriptFault.{ScriptFault}
 use Rattle.sccs_script.specs.declared.pieces.Piece.{Piece}
 use Rattle.sccs_script.specs.declared.pieces.Piece.TheVariants as pieces
 use Rattle.sccs_script.proofs.OneTurn.{drop_at_place}
 
 -- a script that fits names lines that are there
-pub range_of : (orders : List Order) (lines : ℕ) → checked orders lines ≡ Ok tt → ranged orders lines ≡ Ok tt
-range_of orders lines ok = first_ok (ranged orders lines) (bare orders) ok
+pub range_of : (orders : List Order) (lines : ℕ) → checked_script orders lines ≡ Ok tt → ranged orders lines ≡ Ok tt
+range_of orders lines ok = first_ok (ranged orders lines) (bare_soh orders) ok
   where
     first_ok : (one two : Result (Unit {0}) ScriptFault) → both_ok one two ≡ Ok tt → one ≡ Ok tt
     first_ok (Ok x) two e = refl
@@ -43,14 +43,14 @@ module _ {A : Type 0} (P : A → Type 0) where
 
 -- what stands behind orders is of the base
 module _ (count : ℕ) where
-  abbrev Within : List Entry → Type 0
+  abbrev Within : List DraftLine → Type 0
   Within entries = AllByRecursion (InBase count) entries
 
   within_span : (n some : ℕ) → 0 < n → n + some ≤ suc count → Within (map Kept (span n some))
   within_span n zero low high = tt
   within_span n (suc some) low high = ((low, omega arith), within_span (suc n) some (omega arith) (omega arith))
 
-  within_anchor : (n : ℕ) (entries : List Entry) → n ≤ count → Within entries → anchor_from n entries ≤ count
+  within_anchor : (n : ℕ) (entries : List DraftLine) → n ≤ count → Within entries → anchor_from n entries ≤ count
   within_anchor n [] low each = low
   within_anchor n (Kept m ∷ entries) low each = within_anchor m entries each.0.1 each.1
   within_anchor n (Fresh m text ∷ entries) low each = within_anchor m entries each.0 each.1
@@ -59,22 +59,22 @@ module _ (count : ℕ) where
   within_fresh n [] low = tt
   within_fresh n (text ∷ new) low = (low, within_fresh n new low)
 
-  within_put : (k : ℕ) (new : List (List ℕ)) (entries : List Entry) → Within entries → Within (put_entries k new entries)
+  within_put : (k : ℕ) (new : List (List ℕ)) (entries : List DraftLine) → Within entries → Within (put_entries k new entries)
   within_put k new entries each =
       all_append (InBase count) (take k entries) (map (Fresh (anchor (take k entries))) new ++ drop k entries) (all_take (InBase count) k entries each)
       (all_append (InBase count) (map (Fresh (anchor (take k entries))) new) (drop k entries) (within_fresh (anchor (take k entries)) new (within_anchor 0 (take k entries) (omega arith) (all_take (InBase count) k entries each))) (all_drop (InBase count) k entries each))
 
-  within_cut : (first last : ℕ) (entries : List Entry) → Within entries → Within (cut_entries first last entries)
+  within_cut : (first last : ℕ) (entries : List DraftLine) → Within entries → Within (cut_entries first last entries)
   within_cut first last entries each =
       all_append (InBase count) (take (first - 1) entries) (drop (last - (first - 1)) (drop (first - 1) entries)) (all_take (InBase count) (first - 1) entries each)
       (all_drop (InBase count) (last - (first - 1)) (drop (first - 1) entries) (all_drop (InBase count) (first - 1) entries each))
 
-  within_edit : (kind : OrderKind) (first last : ℕ) (new : List (List ℕ)) (entries : List Entry) → Within entries → Within (edit kind first last new entries)
+  within_edit : (kind : OrderKind) (first last : ℕ) (new : List (List ℕ)) (entries : List DraftLine) → Within entries → Within (edit kind first last new entries)
   within_edit Append first last new entries each = within_put first new entries each
   within_edit Delete first last new entries each = within_cut first last entries each
   within_edit Change first last new entries each = within_put (first - 1) new (cut_entries first last entries) (within_cut first last entries each)
 
-  within_edited : (orders : List Order) (entries : List Entry) → Within entries → Within (edited orders entries)
+  within_edited : (orders : List Order) (entries : List DraftLine) → Within entries → Within (edited_draft orders entries)
   within_edited [] entries each = each
   within_edited (order ∷ orders) entries each =
       within_edited orders (edit order.kind order.first order.last order.lines entries) (within_edit order.kind order.first order.last order.lines entries each)
@@ -83,23 +83,23 @@ module _ (count : ℕ) where
   span_last n zero each = omega (arith, each.0.1)
   span_last n (suc some) each = let later = span_last (suc n) some each.1 in omega (arith, later)
 
-  within_piece : (p : Piece) → IsPiece p → Within (expand p) → IsWithin count p
+  within_piece : (p : Piece) → IsPiece p → Within (expand p) → IsWithinBase count p
   within_piece (pieces.Kept first last) fits each =
       let more : suc last - first ≡ suc (last - first) = omega (arith, fits.1) in
       let end = span_last first (last - first) (subst (λ n. Within (map Kept (span first n))) more each) in
       omega (arith, end, fits.1)
   within_piece (pieces.Fresh after line) fits each = tt
 
-  within_stack : (ps : List Piece) → AllByRecursion IsPiece ps → Within (unstacked ps) → AllByRecursion (IsWithin count) ps
+  within_stack : (ps : List Piece) → AllByRecursion IsPiece ps → Within (unstacked ps) → AllByRecursion (IsWithinBase count) ps
   within_stack [] fits each = tt
   within_stack (p ∷ ps) fits each =
       let parts = all_parts (InBase count) (unstacked ps) (expand p) each in
       (within_piece p fits.0 parts.1, within_stack ps fits.1 parts.0)
 
   -- the base lines of the pieces are among those of the base
-  pub pieces_within : (orders : List Order) (ps : List Piece) → AllByRecursion IsPiece ps → unstacked ps ≡ edited orders (base_of count) → AllByRecursion (IsWithin count) ps
+  pub pieces_within : (orders : List Order) (ps : List Piece) → AllByRecursion IsPiece ps → unstacked ps ≡ edited_draft orders (draft_base count) → AllByRecursion (IsWithinBase count) ps
   pieces_within orders ps fits is =
-      within_stack ps fits (subst Within (sym is) (within_edited orders (base_of count) (within_span 1 count (omega arith) (omega arith))))
+      within_stack ps fits (subst Within (sym is) (within_edited orders (draft_base count) (within_span 1 count (omega arith) (omega arith))))
 
 -- numbers one after another
 pub span_next : (n to : ℕ) → n < to → span n (to - n) ≡ n ∷ span (n + 1) (to - (n + 1))
@@ -111,14 +111,14 @@ pub span_done : (n to : ℕ) → to ≤ n → span n (to - n) ≡ []
 span_done n to le = let none : to - n ≡ 0 = omega arith in ap (span n) none
 
 -- what is missing before a run of base lines
-missing_run : (n some : ℕ) (rest : List Entry) (bound : ℕ) → missing n (map Kept (span n some) ++ rest) bound ≡ missing (n + some) rest bound
+missing_run : (n some : ℕ) (rest : List DraftLine) (bound : ℕ) → missing n (map Kept (span n some) ++ rest) bound ≡ missing (n + some) rest bound
 missing_run n zero rest bound = let same : n ≡ n + 0 = omega arith in ap (λ m. missing m rest bound) same
 missing_run n (suc some) rest bound =
     let none : n - n ≡ 0 = omega arith in
     let on : suc n + some ≡ n + suc some = omega arith in
     ap (λ k. span n k ++ missing (suc n) (map Kept (span (suc n) some) ++ rest) bound) none ∙ (missing_run (suc n) some rest bound ∙ ap (λ m. missing m rest bound) on)
 
-pub missing_kept : (next first last : ℕ) (rest : List Entry) (bound : ℕ) → first ≤ last → missing next (expand (pieces.Kept first last) ++ rest) bound ≡ span next (first - next) ++ missing (last + 1) rest bound
+pub missing_kept : (next first last : ℕ) (rest : List DraftLine) (bound : ℕ) → first ≤ last → missing next (expand (pieces.Kept first last) ++ rest) bound ≡ span next (first - next) ++ missing (last + 1) rest bound
 missing_kept next first last rest bound le =
     let more : suc last - first ≡ suc (last - first) = omega arith in
     let on : suc first + (last - first) ≡ last + 1 = omega arith in
@@ -130,12 +130,12 @@ with_append : (k : ℕ) (texts : List (List ℕ)) (rest : List Added) → with_a
 with_append k [] rest = refl
 with_append k (text ∷ texts) rest = refl
 
-grouped_run : (n some : ℕ) (rest : List Entry) → grouped n [] (map Kept (span (suc n) some) ++ rest) ≡ grouped (n + some) [] rest
+grouped_run : (n some : ℕ) (rest : List DraftLine) → grouped n [] (map Kept (span (suc n) some) ++ rest) ≡ grouped (n + some) [] rest
 grouped_run n zero rest = let same : n ≡ n + 0 = omega arith in ap (λ m. grouped m [] rest) same
 grouped_run n (suc some) rest =
     let on : suc n + some ≡ n + suc some = omega arith in grouped_run (suc n) some rest ∙ ap (λ m. grouped m [] rest) on
 
-grouped_kept : (k : ℕ) (texts : List (List ℕ)) (first last : ℕ) (rest : List Entry) → first ≤ last → grouped k texts (expand (pieces.Kept first last) ++ rest) ≡ with_added k texts [] ++ grouped last [] rest
+grouped_kept : (k : ℕ) (texts : List (List ℕ)) (first last : ℕ) (rest : List DraftLine) → first ≤ last → grouped k texts (expand (pieces.Kept first last) ++ rest) ≡ with_added k texts [] ++ grouped last [] rest
 grouped_kept k texts first last rest le =
     let more : suc last - first ≡ suc (last - first) = omega arith in
     let on : first + (last - first) ≡ last = omega arith in
@@ -143,7 +143,7 @@ grouped_kept k texts first last rest le =
     ∙ (ap (with_added k texts) (grouped_run first (last - first) rest ∙ ap (λ m. grouped m [] rest) on) ∙ with_append k texts (grouped last [] rest))
 
 -- a group that ended, and a run of base lines
-pub ended_group : (done done2 : List Added) (k : ℕ) (texts lines2 : List (List ℕ)) (first last after2 : ℕ) (rest : List Entry) → first ≤ last → done2 ≡ done ++ with_added k texts [] → after2 ≡ last → lines2 ≡ []
+pub ended_group : (done done2 : List Added) (k : ℕ) (texts lines2 : List (List ℕ)) (first last after2 : ℕ) (rest : List DraftLine) → first ≤ last → done2 ≡ done ++ with_added k texts [] → after2 ≡ last → lines2 ≡ []
     → done2 ++ grouped after2 lines2 rest ≡ done ++ grouped k texts (expand (pieces.Kept first last) ++ rest)
 ended_group done done2 k texts lines2 first last after2 rest le is after lines =
     ap (λ l. l ++ grouped after2 lines2 rest) is

@@ -6,8 +6,8 @@ use Rattle.sccs_base.specs.Cut.{HasNoLf, text_of}
 use Rattle.sccs_base.proofs.Lines.{text_fit}
 use Rattle.sccs_sid.specs.SidLists.{begins}
 use Rattle.sccs_edits.specs.declared.scripts.Order.{Order}
-use Rattle.sccs_script.specs.Checks.{bad_line, bare, both_ok, checked, HaveLines, or_bad, ranged}
-use Rattle.sccs_script.specs.Commands.{begun, command_of, is_delete, is_dot, open_in, opened, order_of, orders_from, orders_of, turn_at, unless_bad, whole_in, with_line}
+use Rattle.sccs_script.specs.Checks.{bad_line, bare_soh, both_ok, checked_script, HaveLines, or_bad, ranged}
+use Rattle.sccs_script.specs.Commands.{begun_order, script_command, is_deletion, is_end_of_text, open_in, opened_order, order_of, orders_from, orders_of, turn_at, unless_bad, whole_in, with_line}
 use Rattle.sccs_script.specs.declared.commands.Command.{Command}
 use Rattle.sccs_script.specs.declared.faults.ScriptFault.{ScriptFault}
 use Rattle.sccs_script.specs.declared.turns.Turn.{Turn}
@@ -24,21 +24,21 @@ TurnEnds (Whole order) = Ends order
 TurnEnds (Open order) = Ends order
 TurnEnds (Bad line) = Unit {0}
 
-opened_ends : (whole : Bool) (order : Order) → Ends order → TurnEnds (opened whole order)
+opened_ends : (whole : Bool) (order : Order) → Ends order → TurnEnds (opened_order whole order)
 opened_ends true order ends = ends
 opened_ends false order ends = ends
 
-begun_ends : (at : ℕ) (command : Option Command) → TurnEnds (begun at command)
+begun_ends : (at : ℕ) (command : Option Command) → TurnEnds (begun_order at command)
 begun_ends at None = tt
-begun_ends at (Some c) = opened_ends (is_delete c.kind) (order_of at c) tt
+begun_ends at (Some c) = opened_ends (is_deletion c.kind) (order_of at c) tt
 
 with_line_ends : (dot : Bool) (order : Order) (line : List ℕ) → Ends order → HasNoLf line → TurnEnds (with_line dot order line)
 with_line_ends true order line ends one = ends
 with_line_ends false order line ends one = all_push HasNoLf order.lines line ends one
 
 turn_ends : (text : Option Order) (at : ℕ) (line : List ℕ) → IfSome text Ends → HasNoLf line → TurnEnds (turn_at text at line)
-turn_ends None at line ends one = begun_ends at (command_of line)
-turn_ends (Some order) at line ends one = with_line_ends (is_dot line) order line ends one
+turn_ends None at line ends one = begun_ends at (script_command line)
+turn_ends (Some order) at line ends one = with_line_ends (is_end_of_text line) order line ends one
 
 lines_end : (lines : List (List ℕ)) (orders : List Order) (text : Option Order) (count : ℕ) (read : List Order) → AllByRecursion HasNoLf lines → AllByRecursion Ends orders → IfSome text Ends
     → orders_from orders text count lines ≡ Ok read → AllByRecursion Ends read
@@ -75,10 +75,10 @@ no_bad : (line : Option ℕ) (rest : Result (Unit {0}) ScriptFault) → or_bad l
 no_bad (Some line) rest is = cc
 no_bad None rest is = (refl, is)
 
-texts_plain : (orders : List Order) → bare orders ≡ Ok tt → AllByRecursion Plain orders
+texts_plain : (orders : List Order) → bare_soh orders ≡ Ok tt → AllByRecursion Plain orders
 texts_plain [] is = tt
 texts_plain (order ∷ orders) is =
-    let parts = no_bad (bad_line order.line order.lines) (bare orders) is in
+    let parts = no_bad (bad_line order.line order.lines) (bare_soh orders) is in
     (lines_plain order.line order.lines parts.0, texts_plain orders parts.1)
 
 second_ok : (one two : Result (Unit {0}) ScriptFault) → both_ok one two ≡ Ok tt → two ≡ Ok tt
@@ -95,7 +95,7 @@ both_orders : (orders : List Order) → AllByRecursion Plain orders → AllByRec
 both_orders [] plain ends = tt
 both_orders (order ∷ orders) plain ends = (both_lines order.lines plain.0 ends.0, both_orders orders plain.1 ends.1)
 
-pub have_lines : (bytes : List ℕ) (orders : List Order) (lines : ℕ) → orders_of bytes ≡ Ok orders → checked orders lines ≡ Ok tt → HaveLines orders
+pub have_lines : (bytes : List ℕ) (orders : List Order) (lines : ℕ) → orders_of bytes ≡ Ok orders → checked_script orders lines ≡ Ok tt → HaveLines orders
 have_lines bytes orders lines read ok =
-    both_orders orders (texts_plain orders (second_ok (ranged orders lines) (bare orders) ok))
+    both_orders orders (texts_plain orders (second_ok (ranged orders lines) (bare_soh orders) ok))
     (lines_end (text_of bytes) [] None 0 orders (recursion_from_All HasNoLf (text_of bytes) (text_fit bytes)) tt tt read)

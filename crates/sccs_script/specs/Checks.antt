@@ -33,17 +33,17 @@ or_bad (Some line) rest = Err (BadText line)
 or_bad None rest = rest
 
 -- the first line of a text that begins with SOH
-abbrev pub bare : List Order → Result (Unit {0}) ScriptFault
-bare [] = Ok tt
-bare (order ∷ orders) = or_bad (bad_line order.line order.lines) (bare orders)
+abbrev pub bare_soh : List Order → Result (Unit {0}) ScriptFault
+bare_soh [] = Ok tt
+bare_soh (order ∷ orders) = or_bad (bad_line order.line order.lines) (bare_soh orders)
 
 abbrev pub both_ok : Result (Unit {0}) ScriptFault → Result (Unit {0}) ScriptFault → Result (Unit {0}) ScriptFault
 both_ok (Ok x) rest = rest
 both_ok (Err fault) rest = Err fault
 
 -- a script for a text of so many lines: first its numbers are judged, then its texts
-abbrev pub checked : List Order → ℕ → Result (Unit {0}) ScriptFault
-checked orders lines = both_ok (ranged orders lines) (bare orders)
+abbrev pub checked_script : List Order → ℕ → Result (Unit {0}) ScriptFault
+checked_script orders lines = both_ok (ranged orders lines) (bare_soh orders)
 
 -- the lines of a script's texts have no LF, and none begins with SOH
 abbrev pub HaveLines : List Order → Type 0

@@ -26,23 +26,23 @@ unfoldable pub line_number_at : List ℕ → Option (ℕ × List ℕ)
 line_number_at bytes = small (number_at 10 bytes)
 
 -- the letter of a command
-abbrev pub kind_of : ℕ → Option OrderKind
-kind_of b = if b == 97 then Some Append else if b == 99 then Some Change else if b == 100 then Some Delete else None
+abbrev pub order_kind : ℕ → Option OrderKind
+order_kind b = if b == 97 then Some Append else if b == 99 then Some Change else if b == 100 then Some Delete else None
 
 -- the letter that all the bytes are
-abbrev pub letter_of : List ℕ → Option OrderKind
-letter_of [] = None
-letter_of (b ∷ bytes) = if is_empty bytes then kind_of b else None
+abbrev pub command_letter : List ℕ → Option OrderKind
+command_letter [] = None
+command_letter (b ∷ bytes) = if is_empty bytes then order_kind b else None
 
 abbrev pub is_append : OrderKind → Bool
 is_append Append = true
 is_append Change = false
 is_append Delete = false
 
-abbrev pub is_delete : OrderKind → Bool
-is_delete Append = false
-is_delete Change = false
-is_delete Delete = true
+abbrev pub is_deletion : OrderKind → Bool
+is_deletion Append = false
+is_deletion Change = false
+is_deletion Delete = true
 
 -- one line is named: from 1 on, where it is replaced or taken away
 abbrev pub at_line : ℕ → OrderKind → Option Command
@@ -53,33 +53,33 @@ abbrev pub at_lines : ℕ → ℕ → OrderKind → Option Command
 at_lines first last kind = only (not (is_append kind) && (nat_lt 0 first && nat_le first last)) (record { kind = kind; first = first; last = last })
 
 unfoldable pub to_last : ℕ → List ℕ → Option Command
-to_last first bytes = then_read (line_number_at bytes) (λ last. then_read (letter_of last.1) (λ kind. at_lines first last.0 kind))
+to_last first bytes = then_read (line_number_at bytes) (λ last. then_read (command_letter last.1) (λ kind. at_lines first last.0 kind))
 
 -- behind the first number: a letter, or a comma, a second number and a letter
-unfoldable pub behind_first : ℕ → List ℕ → Option Command
-behind_first first bytes = if begins 44 bytes then to_last first (drop 1 bytes) else then_read (letter_of bytes) (λ kind. at_line first kind)
+unfoldable pub after_first_number : ℕ → List ℕ → Option Command
+after_first_number first bytes = if begins 44 bytes then to_last first (drop 1 bytes) else then_read (command_letter bytes) (λ kind. at_line first kind)
 
 -- what a command line says
-unfoldable pub command_of : List ℕ → Option Command
-command_of line = then_read (line_number_at line) (λ first. behind_first first.0 first.1)
+unfoldable pub script_command : List ℕ → Option Command
+script_command line = then_read (line_number_at line) (λ first. after_first_number first.0 first.1)
 
 -- the single dot that ends a text
-abbrev pub is_dot : List ℕ → Bool
-is_dot [] = false
-is_dot (b ∷ bytes) = b == 46 && is_empty bytes
+abbrev pub is_end_of_text : List ℕ → Bool
+is_end_of_text [] = false
+is_end_of_text (b ∷ bytes) = b == 46 && is_empty bytes
 
 -- the order of a command on a line with this number
 abbrev pub order_of : ℕ → Command → Order
 order_of at c = record { kind = c.kind; line = at; first = c.first; last = c.last; lines = [] }
 
 -- a deletion is whole, and the others have a text
-abbrev pub opened : Bool → Order → Turn
-opened true order = Whole order
-opened false order = Open order
+abbrev pub opened_order : Bool → Order → Turn
+opened_order true order = Whole order
+opened_order false order = Open order
 
-abbrev pub begun : ℕ → Option Command → Turn
-begun at None = Bad at
-begun at (Some c) = opened (is_delete c.kind) (order_of at c)
+abbrev pub begun_order : ℕ → Option Command → Turn
+begun_order at None = Bad at
+begun_order at (Some c) = opened_order (is_deletion c.kind) (order_of at c)
 
 -- the order with one more line of text, or whole at the dot
 abbrev pub with_line : Bool → Order → List ℕ → Turn
@@ -88,8 +88,8 @@ with_line false order line = Open (record order { lines = order.lines ++ line �
 
 -- where reading goes on behind the next line: a text goes on, or a command comes
 abbrev pub turn_at : Option Order → ℕ → List ℕ → Turn
-turn_at None at line = begun at (command_of line)
-turn_at (Some order) at line = with_line (is_dot line) order line
+turn_at None at line = begun_order at (script_command line)
+turn_at (Some order) at line = with_line (is_end_of_text line) order line
 
 -- behind a line: the text that is open, and the orders that are whole
 abbrev pub open_in : Turn → Option Order
@@ -123,10 +123,10 @@ abbrev pub orders_of : List ℕ → Result (List Order) ScriptFault
 orders_of bytes = orders_from [] None 0 (text_of bytes)
 
 -- what was read, or want of memory
-abbrev pub Reads : Result (List Order) ScriptFault → Result (List Order) ScriptFault → Type 0
-Reads (Ok orders) read = read ≡ Ok orders
-Reads (Err Memory) read = Unit {0}
-Reads (Err fault) read = read ≡ Err fault
+abbrev pub ReadsScript : Result (List Order) ScriptFault → Result (List Order) ScriptFault → Type 0
+ReadsScript (Ok orders) read = read ≡ Ok orders
+ReadsScript (Err Memory) read = Unit {0}
+ReadsScript (Err fault) read = read ≡ Err fault
 
 -- A command whose lines are named in order, from 1 on where they are to be there.
 pub record HasNumbers (kind : OrderKind) (first last : ℕ) : Type 0 where

@@ -1,7 +1,7 @@
 ghost use Rattle.std.specs.Prelude.{◌≡◌, ◌<◌, ◌≤◌, ◌++◌, Ok, length, map, IfOk, OnOk};
 ghost use Rattle.sccs_edits.specs.Scripts.{apply};
-ghost use Rattle.sccs_script.specs.Checks.{checked};
-ghost use Rattle.sccs_script.specs.Drafts.{content, expand, IsPiece, IsWithin};
+ghost use Rattle.sccs_script.specs.Checks.{checked_script};
+ghost use Rattle.sccs_script.specs.Drafts.{content, expand, IsPiece, IsWithinBase};
 ghost use Rattle.sccs_script.specs.declared.pieces.Piece.TheVariants as pieces;
 
 use crate::copies::copy_line;
@@ -34,7 +34,7 @@ fn copy_lines(
 // the lines of a piece
 fn add_piece(alloc: Global, lines: &mut Text, text: &Text, piece: Piece) -> Result<(), Memory>
     requires piece { IsPiece piece }
-    requires within { IsWithin (length text.now) piece }
+    requires within { IsWithinBase (length text.now) piece }
     ensures { OnOk result (lines.new ≡ lines.old ++ map (content text.now) (expand piece)) }
 {
     match piece {
@@ -46,7 +46,7 @@ fn add_piece(alloc: Global, lines: &mut Text, text: &Text, piece: Piece) -> Resu
 /// What a script that `check` accepts makes of a text: its commands are made in the order written,
 /// each on the text that the one before left (POSIX ed).
 pub fn apply(alloc: Global, script: &Script, text: &Text) -> Result<Text, Memory>
-    requires { checked script.now (length text.now) ≡ Ok tt }
+    requires { checked_script script.now (length text.now) ≡ Ok tt }
     ensures { IfOk result (λ t. t ≡ apply script.now text.now) }
 {
     let mut pieces = edited(alloc, script.orders(), text.len())?;

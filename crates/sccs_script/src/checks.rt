@@ -1,7 +1,7 @@
 ghost use Rattle.std.specs.Prelude.{◌≡◌, suc, ◌+◌, ◌-◌, ◌^◌, ◌<◌, ◌≤◌, length, position};
 ghost use Rattle.std.specs.List.{AllByRecursion};
 ghost use Rattle.sccs_sid.specs.SidLists.{begins};
-ghost use Rattle.sccs_script.specs.Checks.{bare, checked, length_after, ranged};
+ghost use Rattle.sccs_script.specs.Checks.{bare_soh, checked_script, length_after, ranged};
 ghost use Rattle.sccs_script.specs.Commands.{FitsIn};
 
 use crate::faults::ScriptFault;
@@ -65,7 +65,7 @@ fn bad_place(lines: &[Line]) -> Option<usize>
 // the first line of a text that begins with SOH
 fn check_texts(orders: &[Order]) -> Result<(), ScriptFault>
     requires { AllByRecursion (FitsIn (2 ^ 64)) orders.now }
-    ensures { result ≡ bare orders.now }
+    ensures { result ≡ bare_soh orders.now }
 {
     for order in orders {
         if let Some(place) = bad_place(order.lines.items()) {
@@ -81,7 +81,7 @@ fn check_texts(orders: &[Order]) -> Result<(), ScriptFault>
 /// memory.
 pub fn check(script: &Script, lines: u64) -> Result<(), ScriptFault>
     requires { lines ≤ 1073741824 }
-    ensures { result ≡ checked script.now lines }
+    ensures { result ≡ checked_script script.now lines }
 {
     check_numbers(script.orders(), lines)?;
     check_texts(script.orders())

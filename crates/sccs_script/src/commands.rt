@@ -1,5 +1,5 @@
 ghost use Rattle.std.specs.Prelude.{◌≡◌, ◌≤◌, length, option_map, IfSome};
-ghost use Rattle.sccs_script.specs.Commands.{at_line, at_lines, behind_first, command_of, HasNumbers, is_append, is_dot, letter_of, line_number_at, to_last};
+ghost use Rattle.sccs_script.specs.Commands.{at_line, at_lines, after_first_number, script_command, HasNumbers, is_append, is_end_of_text, command_letter, line_number_at, to_last};
 
 use sccs_edits::OrderKind;
 use sccs_sid::reading::wide_number_at;
@@ -34,7 +34,7 @@ fn line_number_at(bytes: &[u8]) -> Option<(u32, &[u8])>
 
 // the letter that all the bytes are
 fn letter_of(bytes: &[u8]) -> Option<OrderKind>
-    ensures { result ≡ letter_of bytes.now }
+    ensures { result ≡ command_letter bytes.now }
 {
     match bytes {
         [letter] => {
@@ -103,9 +103,9 @@ fn to_last(first: u32, bytes: &[u8]) -> Option<Command>
 }
 
 // what stands behind the first number
-#[tactic(auto, unfolding(crate::specs::Commands::behind_first))]
+#[tactic(auto, unfolding(crate::specs::Commands::after_first_number))]
 fn behind_first(first: u32, bytes: &[u8]) -> Option<Command>
-    ensures value { result ≡ behind_first first bytes.now }
+    ensures value { result ≡ after_first_number first bytes.now }
     ensures numbers { IfSome result (λ c. HasNumbers c.kind c.first c.last) }
 {
     if let [b',', rest @ ..] = bytes {
@@ -116,9 +116,9 @@ fn behind_first(first: u32, bytes: &[u8]) -> Option<Command>
 }
 
 /// What a command line says: `Na`, `Nc`, `N,Mc`, `Nd` or `N,Md`.
-#[tactic(auto, unfolding(crate::specs::Commands::command_of))]
+#[tactic(auto, unfolding(crate::specs::Commands::script_command))]
 pub fn command_of(line: &[u8]) -> Option<Command>
-    ensures value { result ≡ command_of line.now }
+    ensures value { result ≡ script_command line.now }
     ensures numbers { IfSome result (λ c. HasNumbers c.kind c.first c.last) }
 {
     let (first, rest) = line_number_at(line)?;
@@ -127,7 +127,7 @@ pub fn command_of(line: &[u8]) -> Option<Command>
 
 /// Whether the line is the single dot that ends a text.
 pub fn is_dot(line: &[u8]) -> bool
-    ensures { result ≡ is_dot line.now }
+    ensures { result ≡ is_end_of_text line.now }
 {
     match line {
         [byte] => *byte == b'.',

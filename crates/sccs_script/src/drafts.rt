@@ -1,6 +1,6 @@
 ghost use Rattle.std.specs.Prelude.{◌≡◌, ◌-◌, ◌∷◌, ◌++◌, drop, map, take, IfOk};
 ghost use Rattle.std.specs.List.{AllByRecursion};
-ghost use Rattle.sccs_script.specs.Drafts.{anchor, base_of, edit, edited, Fresh, IsPiece, IsWithin, unstacked};
+ghost use Rattle.sccs_script.specs.Drafts.{anchor, draft_base, edit, edited_draft, Fresh, IsPiece, IsWithinBase, unstacked};
 
 use crate::copies::copy_line;
 use crate::pieces::Piece;
@@ -11,7 +11,7 @@ use std::alloc::Global;
 
 // a base of so many lines
 fn base(alloc: Global, lines: u64) -> Result<Tree, Memory>
-    ensures { IfOk result (λ t. t ≡ base_of lines) }
+    ensures { IfOk result (λ t. t ≡ draft_base lines) }
 {
     if lines == 0 {
         return Ok(Tree::empty());
@@ -93,8 +93,8 @@ fn edit(alloc: Global, tree: Tree, order: &Order) -> Result<Tree, Memory>
 /// What stands in a base of so many lines behind orders: a stack of pieces, whose last comes first.
 pub fn edited(alloc: Global, orders: &[Order], lines: u64) -> Result<Vec<Piece>, Memory>
     ensures pieces { IfOk result (λ p. AllByRecursion IsPiece p.items) }
-    ensures within { IfOk result (λ p. AllByRecursion (IsWithin lines) p.items) }
-    ensures edited { IfOk result (λ p. unstacked p.items ≡ edited orders.now (base_of lines)) }
+    ensures within { IfOk result (λ p. AllByRecursion (IsWithinBase lines) p.items) }
+    ensures edited { IfOk result (λ p. unstacked p.items ≡ edited_draft orders.now (draft_base lines)) }
 {
     let mut tree = base(alloc, lines)?;
     for order in orders {

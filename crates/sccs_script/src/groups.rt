@@ -1,6 +1,6 @@
 ghost use Rattle.std.specs.Prelude.{◌≡◌, ◌++◌, List, [], ◌∷◌, IfOk};
 ghost use Rattle.sccs_edits.specs.Plans.{with_added};
-ghost use Rattle.sccs_script.specs.Drafts.{Entry, expand, Fresh, grouped, IsPiece};
+ghost use Rattle.sccs_script.specs.Drafts.{DraftLine, expand, Fresh, grouped, IsPiece};
 
 use crate::pieces::Piece;
 use sccs_base::{Line, Memory, Text};
@@ -52,7 +52,7 @@ impl Groups {
 
     // one more line behind a base line
     fn add_line(self, alloc: Global, after: u64, line: Line) -> Result<Groups, Memory>
-        ensures { IfOk result (λ g. (rest : List Entry)
+        ensures { IfOk result (λ g. (rest : List DraftLine)
             → g.done ++ grouped g.after g.lines rest ≡ self.done ++ grouped self.after self.lines (Fresh after line ∷ rest)) }
     {
         let mut groups = if after == self.after {
@@ -67,7 +67,7 @@ impl Groups {
     /// One more piece.
     pub fn add(self, alloc: Global, piece: Piece) -> Result<Groups, Memory>
         requires { IsPiece piece }
-        ensures { IfOk result (λ g. (rest : List Entry)
+        ensures { IfOk result (λ g. (rest : List DraftLine)
             → g.done ++ grouped g.after g.lines rest ≡ self.done ++ grouped self.after self.lines (expand piece ++ rest)) }
     {
         match piece {

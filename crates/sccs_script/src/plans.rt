@@ -1,8 +1,8 @@
 ghost use Rattle.std.specs.Prelude.{◌≡◌, ◌≤◌, ◌++◌, ◌-◌, suc, ℕ, List, Ok, IfOk, OnOk};
 ghost use Rattle.std.specs.List.{AllByRecursion};
 ghost use Rattle.sccs_edits.specs.Plans.{IsInOrder, plan};
-ghost use Rattle.sccs_script.specs.Checks.{checked};
-ghost use Rattle.sccs_script.specs.Drafts.{Entry, expand, IsPiece, IsWithin, missing, plan_of, span, unstacked};
+ghost use Rattle.sccs_script.specs.Checks.{checked_script};
+ghost use Rattle.sccs_script.specs.Drafts.{DraftLine, expand, IsPiece, IsWithinBase, missing, draft_plan, span, unstacked};
 
 use crate::drafts::edited;
 use crate::groups::Groups;
@@ -26,9 +26,9 @@ fn add_numbers(numbers: &mut Numbers, from: u64, to: u64) -> Result<(), Memory>
 // one behind the piece.
 fn add_missing(numbers: &mut Numbers, next: u64, piece: &Piece, lines: u64) -> Result<u64, Memory>
     requires piece { IsPiece piece.now }
-    requires within { IsWithin lines piece.now }
+    requires within { IsWithinBase lines piece.now }
     requires few { lines ≤ 1073741824 }
-    ensures { IfOk result (λ n. (rest : List Entry) (bound : ℕ)
+    ensures { IfOk result (λ n. (rest : List DraftLine) (bound : ℕ)
         → numbers.new ++ missing n rest bound ≡ numbers.old ++ missing next (expand piece.now ++ rest) bound) }
 {
     match piece {
@@ -43,9 +43,9 @@ fn add_missing(numbers: &mut Numbers, next: u64, piece: &Piece, lines: u64) -> R
 // the plan of what stands in a text at the end
 fn plan_of(alloc: Global, pieces: Vec<Piece>, lines: u64) -> Result<Plan, Memory>
     requires pieces { AllByRecursion IsPiece pieces.items }
-    requires within { AllByRecursion (IsWithin lines) pieces.items }
+    requires within { AllByRecursion (IsWithinBase lines) pieces.items }
     requires few { lines ≤ 1073741824 }
-    ensures { IfOk result (λ p. p ≡ plan_of (unstacked pieces.items) lines) }
+    ensures { IfOk result (λ p. p ≡ draft_plan (unstacked pieces.items) lines) }
 {
     let mut pieces = pieces;
     let mut deleted = Numbers::empty(alloc);
@@ -68,7 +68,7 @@ fn plan_of(alloc: Global, pieces: Vec<Piece>, lines: u64) -> Result<Plan, Memory
 /// new lines that stay, by the base line that they follow. It costs the base's lines, and for each
 /// command and each line that is added the height of a balanced tree of the pieces so far.
 pub fn plan(alloc: Global, script: &Script, lines: u64) -> Result<Plan, Memory>
-    requires fits { checked script.now lines ≡ Ok tt }
+    requires fits { checked_script script.now lines ≡ Ok tt }
     requires few { lines ≤ 1073741824 }
     ensures value { IfOk result (λ p. p ≡ plan script.now lines) }
     ensures order { IfOk result IsInOrder }

@@ -1,6 +1,6 @@
 ghost use Rattle.std.specs.Prelude.{◌≡◌, ◌<◌, ◌⊎◌, ◌^◌, List, [], None, Some, Ok, Err, length, slice_get, IfOk, IfErr};
 ghost use Rattle.std.specs.List.{AllByRecursion};
-ghost use Rattle.sccs_script.specs.Commands.{FitsIn, orders_from, orders_of, Reads};
+ghost use Rattle.sccs_script.specs.Commands.{FitsIn, orders_from, orders_of, ReadsScript};
 ghost use Rattle.sccs_script.specs.declared.faults.ScriptFault.TheVariants.{Memory};
 
 use crate::faults::ScriptFault;
@@ -87,7 +87,7 @@ fn read_lines(alloc: Global, lines: &Text) -> Result<Vec<Order>, ScriptFault>
 /// one to ten digits up to 4,294,967,295 (POSIX ed). Behind a and c stand text lines up to a single
 /// dot. BadScript has the line of the first command that isn't one or whose text isn't ended.
 pub fn read_script(alloc: Global, bytes: &[u8]) -> Result<Script, ScriptFault>
-    ensures value { Reads result (orders_of bytes.now) }
+    ensures value { ReadsScript result (orders_of bytes.now) }
     ensures fits { IfOk result (AllByRecursion (FitsIn (2 ^ 64))) }
 {
     let Ok(lines) = Text::read(alloc, bytes) else {

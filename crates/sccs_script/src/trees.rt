@@ -37,13 +37,13 @@ struct Fork {
 
 impl Model for Tree {
     ghost use Rattle.std.specs.Prelude.{List, length};
-    ghost use Rattle.sccs_script.specs.Drafts.{Entry};
+    ghost use Rattle.sccs_script.specs.Drafts.{DraftLine};
 
-    ghost Value = { List Entry };
+    ghost Value = { List DraftLine };
 
-    ghost use Rattle.sccs_script.specs.Trees.{entries, IsTree};
+    ghost use Rattle.sccs_script.specs.Trees.{tree_lines, IsTree};
 
-    ghost view = { λ t. entries t.node };
+    ghost view = { λ t. tree_lines t.node };
 
     ghost invariant = { λ t. IsTree t.node };
 

@@ -1,5 +1,5 @@
 ghost use Rattle.std.specs.Prelude.{◌≡◌, ◌+◌, IfOk, IfSome};
-ghost use Rattle.sccs_script.specs.Commands.{begun, command_of, FitsIn, HasNumbers, is_dot, order_of, turn_at, TurnFits, with_line};
+ghost use Rattle.sccs_script.specs.Commands.{begun_order, script_command, FitsIn, HasNumbers, is_end_of_text, order_of, turn_at, TurnFits, with_line};
 
 use crate::commands::{Command, command_of, is_dot};
 use crate::copies::push_copy;
@@ -35,7 +35,7 @@ fn order_of(alloc: Global, number: u64, command: Command) -> Order
 
 // a command line
 fn begin(alloc: Global, number: u64, line: &[u8]) -> Turn
-    ensures value { result ≡ begun number (command_of line.now) }
+    ensures value { result ≡ begun_order number (script_command line.now) }
     ensures fits { TurnFits (number + 1) result }
 {
     let Some(command) = command_of(line) else {
@@ -52,7 +52,7 @@ fn begin(alloc: Global, number: u64, line: &[u8]) -> Turn
 // a line of a text, or the dot that ends it
 fn go_on(alloc: Global, mut order: Order, number: u64, line: &Line) -> Result<Turn, Memory>
     requires { FitsIn number order }
-    ensures value { IfOk result (λ t. t ≡ with_line (is_dot line.now) order line.now) }
+    ensures value { IfOk result (λ t. t ≡ with_line (is_end_of_text line.now) order line.now) }
     ensures fits { IfOk result (TurnFits (number + 1)) }
 {
     if is_dot(line.bytes()) {

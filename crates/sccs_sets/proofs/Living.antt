@@ -13,7 +13,7 @@ use Rattle.sccs_history.specs.History.{IsRecord, IsTable, same_sid}
 use Rattle.sccs_history.specs.declared.headers.Record.{Record}
 use Rattle.sccs_history.proofs.AppliedSets.{applied_live}
 use Rattle.sccs_history.proofs.Falling.{has_front, has_front_self}
-use Rattle.sccs_sets.specs.Naming.{not_after, in_range, named, put, range_named, range_fault, add_new, add_range, unless, named_serials}
+use Rattle.sccs_sets.specs.Naming.{not_after, in_range, sid_named, put_named, range_named, range_fault, add_new, add_range, unless, named_serials}
 use Rattle.sccs_sets.specs.Retrieved.{live_where, newest_where, serial_of, trunk_release, trunk_level, branch_sequence, trunk_sid, branch_sid, trunk_tip, top_of, top_at, retrieved}
 use Rattle.sccs_sets.specs.declared.naming.Named.{Named}
 use Rattle.sccs_sets.proofs.Lookups.{live_there}
@@ -66,12 +66,12 @@ retrieved_live records (Some (Full sid)) false n found = serial_live records sid
 retrieved_live records (Some (Full sid)) true n found = top_at_live records sid n found
 
 module _ (live : List ℕ) where
-  named_step : (test : Sid → Bool) (r : Record) (rest : List Record) (t : Bool) → (not r.removed && test r.sid) ≡ t → (not r.removed ≡ true → has live r.serial ≡ true) → AllByRecursion (λ q. has live q.serial ≡ true) (map named rest)
-      → AllByRecursion (λ q. has live q.serial ≡ true) (map named (cond t (r ∷ rest) rest))
+  named_step : (test : Sid → Bool) (r : Record) (rest : List Record) (t : Bool) → (not r.removed && test r.sid) ≡ t → (not r.removed ≡ true → has live r.serial ≡ true) → AllByRecursion (λ q. has live q.serial ≡ true) (map sid_named rest)
+      → AllByRecursion (λ q. has live q.serial ≡ true) (map sid_named (cond t (r ∷ rest) rest))
   named_step test r rest true is here each = (here (and_parts (not r.removed) (test r.sid) is).0, each)
   named_step test r rest false is here each = each
 
-  named_live : (test : Sid → Bool) (rs : List Record) → ((m : ℕ) → has (live_serials rs) m ≡ true → has live m ≡ true) → AllByRecursion (λ q. has live q.serial ≡ true) (map named (live_where test rs))
+  named_live : (test : Sid → Bool) (rs : List Record) → ((m : ℕ) → has (live_serials rs) m ≡ true → has live m ≡ true) → AllByRecursion (λ q. has live q.serial ≡ true) (map sid_named (live_where test rs))
   named_live test [] within = tt
   named_live test (r ∷ rs) within =
       named_step test r (live_where test rs) (not r.removed && test r.sid) refl (λ e. within r.serial (has_front_self (not r.removed) r.serial (live_serials rs) e))
@@ -82,13 +82,13 @@ module _ (live : List ℕ) where
   put_step a q rest over true one two each each2 = (one, each2)
   put_step a q rest over false one two each each2 = (two, (one, each))
 
-  put_live : (found : List Named) (q : Named) → AllByRecursion (λ x. has live x.serial ≡ true) found → has live q.serial ≡ true → AllByRecursion (λ x. has live x.serial ≡ true) (put found q)
+  put_live : (found : List Named) (q : Named) → AllByRecursion (λ x. has live x.serial ≡ true) found → has live q.serial ≡ true → AllByRecursion (λ x. has live x.serial ≡ true) (put_named found q)
   put_live [] q each here = (here, tt)
-  put_live (a ∷ rest) q each here = put_step a q rest (put rest q) (not_after a.sid q.sid) each.0 here each.1 (put_live rest q each.1 here)
+  put_live (a ∷ rest) q each here = put_step a q rest (put_named rest q) (not_after a.sid q.sid) each.0 here each.1 (put_live rest q each.1 here)
 
-  sorted_live : (found qs : List Named) → AllByRecursion (λ x. has live x.serial ≡ true) found → AllByRecursion (λ x. has live x.serial ≡ true) qs → AllByRecursion (λ x. has live x.serial ≡ true) (fold put found qs)
+  sorted_live : (found qs : List Named) → AllByRecursion (λ x. has live x.serial ≡ true) found → AllByRecursion (λ x. has live x.serial ≡ true) qs → AllByRecursion (λ x. has live x.serial ≡ true) (fold put_named found qs)
   sorted_live found [] each more = each
-  sorted_live found (q ∷ qs) each more = sorted_live (put found q) qs (put_live found q each more.0) more.1
+  sorted_live found (q ∷ qs) each more = sorted_live (put_named found q) qs (put_live found q each more.0) more.1
 
   pushed_live : (ns : List ℕ) (n : ℕ) → AllByRecursion (λ m. has live m ≡ true) ns → has live n ≡ true → AllByRecursion (λ m. has live m ≡ true) (ns ++ n ∷ [])
   pushed_live [] n each here = (here, tt)
@@ -109,7 +109,7 @@ unless_ok (Some sid) rest ns is = cc
 range_live : (records : List Record) (seen : List ℕ) (range : Range) → AllByRecursion (Lives records) seen → AllByRecursion (Lives records) (add_range records seen range)
 range_live records seen range each =
     added_live (live_serials records) seen (range_named records range) each
-    (sorted_live (live_serials records) [] (map named (live_where (in_range range) records)) tt (named_live (live_serials records) (in_range range) records (λ m there. there)))
+    (sorted_live (live_serials records) [] (map sid_named (live_where (in_range range) records)) tt (named_live (live_serials records) (in_range range) records (λ m there. there)))
 
 -- the serials that a list names are live
 pub serials_live : (records : List Record) (seen : List ℕ) (ranges : List Range) (ns : List ℕ) → AllByRecursion (Lives records) seen → named_serials records seen ranges ≡ Ok ns → AllByRecursion (Lives records) ns

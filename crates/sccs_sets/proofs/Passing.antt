@@ -9,7 +9,7 @@ use Rattle.sccs_history.specs.declared.headers.Record.{Record}
 use Rattle.sccs_history.proofs.AppliedSets.{applied_falls, has_head, has_other}
 use Rattle.sccs_history.proofs.Falling.{falling-alike, falling-has, has-falling, falling_has}
 use Rattle.sccs_history.proofs.Paths.{path_falls}
-use Rattle.sccs_sets.specs.Marks.{marked, or_else, said_by}
+use Rattle.sccs_sets.specs.Marks.{marked_places, or_else, said_by}
 
 or_else_cond : (t h value : Bool) → or_else (cond (t || false) (Some value) None) (cond h (Some value) None) ≡ cond (t || h) (Some value) None
 or_else_cond true h value = refl
@@ -125,7 +125,7 @@ taken asked all rs r wanted marks marks2 places places2 at is long noted put =
     }
 
 -- where nothing is left the places are the applied set
-pub at_end : (asked : Asked) (all : List Record) (wanted : ℕ) (marks : List (Option Bool)) (places : List Bool) → Falls 65536 (serials_of all) → length places ≡ 65536 → IsAt asked all [] wanted marks places → marked places ≡ applied asked all
+pub at_end : (asked : Asked) (all : List Record) (wanted : ℕ) (marks : List (Option Bool)) (places : List Bool) → Falls 65536 (serials_of all) → length places ≡ 65536 → IsAt asked all [] wanted marks places → marked_places places ≡ applied asked all
 at_end asked all wanted marks places falls long at =
     ap (λ b. falling b (λ n. slice_index_or places n false)) long
     ∙ (falling-alike 65536 (λ n. slice_index_or places n false) (has (applied asked all)) (λ m lt. sym (at.so_far m ∙ or-false (slice_index_or places m false)))
@@ -136,14 +136,14 @@ pub else_none : (o : Option Bool) (value : Bool) (n : ℕ) → or_else o (said_b
 else_none None value n = refl
 else_none (Some said) value n = refl
 
-marked_cases : (places : List Bool) (n : ℕ) (t : Bool) → slice_index_or places n false ≡ t → t ≡ has (marked places) n
+marked_cases : (places : List Bool) (n : ℕ) (t : Bool) → slice_index_or places n false ≡ t → t ≡ has (marked_places places) n
 marked_cases places n true is =
     sym (has-falling (length places) (λ m. slice_index_or places m false) n (⊎_elim (λ lt. lt) (λ le. absurd (false≢true (sym (get_or_past places n false le) ∙ is))) (cases_lt n (length places))) is)
 marked_cases places n false is =
-    sym (false_from_ne_true (has (marked places) n) (λ there. false≢true (sym is ∙ (falling_has (length places) (λ m. slice_index_or places m false) n there).1)))
+    sym (false_from_ne_true (has (marked_places places) n) (λ there. false≢true (sym is ∙ (falling_has (length places) (λ m. slice_index_or places m false) n there).1)))
 
 -- a place is among the marked ones exactly where it is set
-pub has-marked : (places : List Bool) (n : ℕ) → slice_index_or places n false ≡ has (marked places) n
+pub has-marked : (places : List Bool) (n : ℕ) → slice_index_or places n false ≡ has (marked_places places) n
 has-marked places n = marked_cases places n (slice_index_or places n false) refl
 
 -- What one turn did with the marks and the places: the record was taken, or nothing changed.

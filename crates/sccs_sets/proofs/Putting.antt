@@ -8,7 +8,7 @@ use Rattle.std.proofs.lemmas.Option.{slice_get-get_or}
 use Rattle.sccs_sid.specs.declared.sids.Sid.{Sid}
 use Rattle.sccs_sid.specs.declared.sid_lists.Range.{Range}
 use Rattle.sccs_history.specs.declared.headers.Record.{Record}
-use Rattle.sccs_sets.specs.Naming.{not_after, in_range, named, put, range_fault, add_range, unless, named_serials}
+use Rattle.sccs_sets.specs.Naming.{not_after, in_range, sid_named, put_named, range_fault, add_range, unless, named_serials}
 use Rattle.sccs_sets.specs.Retrieved.{live_where}
 use Rattle.sccs_sets.specs.declared.naming.Named.{Named}
 
@@ -16,14 +16,14 @@ use Rattle.sccs_sets.specs.declared.naming.Named.{Named}
 abbrev comes_after : Named → Named → Bool
 comes_after q a = not (not_after a.sid q.sid)
 
-put-insert : (q : Named) (xs : List Named) (i : ℕ) → i < length xs → comes_after q (get_or xs i q) ≡ true → ((k : ℕ) → k < i → comes_after q (get_or xs k q) ≡ false) → put xs q ≡ insert xs i q
+put-insert : (q : Named) (xs : List Named) (i : ℕ) → i < length xs → comes_after q (get_or xs i q) ≡ true → ((k : ℕ) → k < i → comes_after q (get_or xs k q) ≡ false) → put_named xs q ≡ insert xs i q
 put-insert q [] i low here none = absurd (omega arith)
-put-insert q (a ∷ rest) zero low here none = ap (λ t. cond t (a ∷ put rest q) (q ∷ a ∷ rest)) (not-true (not_after a.sid q.sid) here)
+put-insert q (a ∷ rest) zero low here none = ap (λ t. cond t (a ∷ put_named rest q) (q ∷ a ∷ rest)) (not-true (not_after a.sid q.sid) here)
 put-insert q (a ∷ rest) (suc i) low here none =
-    ap (λ t. cond t (a ∷ put rest q) (q ∷ a ∷ rest)) (not-false (not_after a.sid q.sid) (none 0 (omega arith)))
+    ap (λ t. cond t (a ∷ put_named rest q) (q ∷ a ∷ rest)) (not-false (not_after a.sid q.sid) (none 0 (omega arith)))
     ∙ ap (λ l. a ∷ l) (put-insert q rest i (omega arith) here (λ k lt. none (suc k) (omega arith)))
 
-pub put_at : (q : Named) (xs : List Named) (i : ℕ) → position (comes_after q) xs ≡ Some i → put xs q ≡ insert xs i q
+pub put_at : (q : Named) (xs : List Named) (i : ℕ) → position (comes_after q) xs ≡ Some i → put_named xs q ≡ insert xs i q
 put_at q xs i at = let there = position-Some (comes_after q) xs i q at in put-insert q xs i there.0 there.1 there.2
 
 none_passes : (t : Bool) (n : ℕ) → cond t (Some n) None ≡ None → t ≡ false
@@ -34,23 +34,23 @@ pushed_cons : (q a : Named) (rest over : List Named) (t : Bool) (n : ℕ) → su
 pushed_cons q a rest over true n past more = ap (λ l. a ∷ l) (more (omega arith))
 pushed_cons q a rest over false n past more = absurd (omega arith)
 
-put-push : (q : Named) (xs : List Named) → length xs ≤ position_or_len (comes_after q) xs → put xs q ≡ xs ++ q ∷ []
+put-push : (q : Named) (xs : List Named) → length xs ≤ position_or_len (comes_after q) xs → put_named xs q ≡ xs ++ q ∷ []
 put-push q [] past = refl
-put-push q (a ∷ rest) past = pushed_cons q a rest (put rest q) (not_after a.sid q.sid) (position_or_len (comes_after q) rest) past (put-push q rest)
+put-push q (a ∷ rest) past = pushed_cons q a rest (put_named rest q) (not_after a.sid q.sid) (position_or_len (comes_after q) rest) past (put-push q rest)
 
-pub put_end : (q : Named) (xs : List Named) → position (comes_after q) xs ≡ None → put xs q ≡ xs ++ q ∷ []
+pub put_end : (q : Named) (xs : List Named) → position (comes_after q) xs ≡ None → put_named xs q ≡ xs ++ q ∷ []
 put_end q xs none =
     put-push q xs (ltb-false (position_or_len (comes_after q) xs) (length xs) (none_passes (nat_lt (position_or_len (comes_after q) xs) (length xs)) (position_or_len (comes_after q) xs) none))
 
-fold_if : (t : Bool) (r : Record) (rest : List Record) (found : List Named) → fold put found (map named (cond t (r ∷ rest) rest)) ≡ fold put (cond t (put found (named r)) found) (map named rest)
+fold_if : (t : Bool) (r : Record) (rest : List Record) (found : List Named) → fold put_named found (map sid_named (cond t (r ∷ rest) rest)) ≡ fold put_named (cond t (put_named found (sid_named r)) found) (map sid_named rest)
 fold_if true r rest found = refl
 fold_if false r rest found = refl
 
 -- one record more
-pub put_record : (range : Range) (r : Record) (rs : List Record) (found found2 : List Named) → found2 ≡ cond (not r.removed && in_range range r.sid) (put found (named r)) found
-    → fold put found2 (map named (live_where (in_range range) rs)) ≡ fold put found (map named (live_where (in_range range) (r ∷ rs)))
+pub put_record : (range : Range) (r : Record) (rs : List Record) (found found2 : List Named) → found2 ≡ cond (not r.removed && in_range range r.sid) (put_named found (sid_named r)) found
+    → fold put_named found2 (map sid_named (live_where (in_range range) rs)) ≡ fold put_named found (map sid_named (live_where (in_range range) (r ∷ rs)))
 put_record range r rs found found2 is =
-    ap (λ l. fold put l (map named (live_where (in_range range) rs))) is
+    ap (λ l. fold put_named l (map sid_named (live_where (in_range range) rs))) is
     ∙ sym (fold_if (not r.removed && in_range range r.sid) r (live_where (in_range range) rs) found)
 
 -- the item at a place, and the rest

@@ -8,7 +8,7 @@ use Rattle.sccs_sid.specs.declared.sid_lists.Range.{Range}
 use Rattle.sccs_history.specs.Numbers.{has, Falls}
 use Rattle.sccs_history.specs.Applied.{serials_of}
 use Rattle.sccs_history.specs.declared.headers.Record.{Record}
-use Rattle.sccs_sets.specs.Naming.{one_line, not_after, in_range, named, put, range_named, IsRising, IsBefore}
+use Rattle.sccs_sets.specs.Naming.{one_line, not_after, in_range, sid_named, put_named, range_named, IsRising, IsSidBefore}
 use Rattle.sccs_sets.specs.Retrieved.{live_where, newest_where}
 use Rattle.sccs_sets.specs.declared.naming.Named.{Named}
 
@@ -26,15 +26,15 @@ put_step : (a q : Named) (rest over : List Named) (n : ℕ) (t : Bool) → has (
 put_step a q rest over n true ih = ap (λ b. a.serial == n || b) ih ∙ swap_or (a.serial == n) (q.serial == n) (has (numbers rest) n)
 put_step a q rest over n false ih = refl
 
-has-put : (found : List Named) (q : Named) (n : ℕ) → has (numbers (put found q)) n ≡ (q.serial == n || has (numbers found) n)
+has-put : (found : List Named) (q : Named) (n : ℕ) → has (numbers (put_named found q)) n ≡ (q.serial == n || has (numbers found) n)
 has-put [] q n = refl
-has-put (a ∷ rest) q n = put_step a q rest (put rest q) n (not_after a.sid q.sid) (has-put rest q n)
+has-put (a ∷ rest) q n = put_step a q rest (put_named rest q) n (not_after a.sid q.sid) (has-put rest q n)
 
-has-sorted : (found : List Named) (rs : List Record) (n : ℕ) → has (numbers (fold put found (map named rs))) n ≡ (has (serials_of rs) n || has (numbers found) n)
+has-sorted : (found : List Named) (rs : List Record) (n : ℕ) → has (numbers (fold put_named found (map sid_named rs))) n ≡ (has (serials_of rs) n || has (numbers found) n)
 has-sorted found [] n = refl
 has-sorted found (r ∷ rs) n =
-    has-sorted (put found (named r)) rs n
-    ∙ (ap (λ b. has (serials_of rs) n || b) (has-put found (named r) n)
+    has-sorted (put_named found (sid_named r)) rs n
+    ∙ (ap (λ b. has (serials_of rs) n || b) (has-put found (sid_named r) n)
     ∙ (swap_or (has (serials_of rs) n) (r.serial == n) (has (numbers found) n) ∙ assoc (r.serial == n) (has (serials_of rs) n) (has (numbers found) n)))
   where
     assoc : (a b c : Bool) → (a || (b || c)) ≡ ((a || b) || c)
@@ -68,30 +68,30 @@ abbrev AllOn : Bool → List Named → Type 0
 AllOn t qs = AllByRecursion (λ q. (q.sid.branch == 0) ≡ t) qs
 
 -- what stands first behind a put
-before_put : (a : Named) (rest : List Named) (q : Named) → not_after a.sid q.sid ≡ true → IsBefore a rest → IsBefore a (put rest q)
+before_put : (a : Named) (rest : List Named) (q : Named) → not_after a.sid q.sid ≡ true → IsSidBefore a rest → IsSidBefore a (put_named rest q)
 before_put a [] q le before = le
 before_put a (b ∷ rest) q le before =
-    cond_both (not_after b.sid q.sid) (b ∷ put rest q) (q ∷ b ∷ rest) (λ l. IsBefore a l) (λ _. before) (λ _. le)
+    cond_both (not_after b.sid q.sid) (b ∷ put_named rest q) (q ∷ b ∷ rest) (λ l. IsSidBefore a l) (λ _. before) (λ _. le)
 
-put_rises : (a q : Named) (rest over : List Named) (on t : Bool) → not_after a.sid q.sid ≡ t → (a.sid.branch == 0) ≡ on → (q.sid.branch == 0) ≡ on → IsRising (a ∷ rest) → IsRising over → (not_after a.sid q.sid ≡ true → IsBefore a over)
+put_rises : (a q : Named) (rest over : List Named) (on t : Bool) → not_after a.sid q.sid ≡ t → (a.sid.branch == 0) ≡ on → (q.sid.branch == 0) ≡ on → IsRising (a ∷ rest) → IsRising over → (not_after a.sid q.sid ≡ true → IsSidBefore a over)
     → IsRising (cond t (a ∷ over) (q ∷ a ∷ rest))
 put_rises a q rest over on true is one two rises over_rises before = (before is, over_rises)
 put_rises a q rest over on false is one two rises over_rises before = (total a.sid q.sid on one two is, rises)
 
-rising-put : (on : Bool) (found : List Named) (q : Named) → AllOn on found → (q.sid.branch == 0) ≡ on → IsRising found → IsRising (put found q)
+rising-put : (on : Bool) (found : List Named) (q : Named) → AllOn on found → (q.sid.branch == 0) ≡ on → IsRising found → IsRising (put_named found q)
 rising-put on [] q each here rises = (tt, tt)
 rising-put on (a ∷ rest) q each here rises =
-    put_rises a q rest (put rest q) on (not_after a.sid q.sid) refl each.0 here rises (rising-put on rest q each.1 here rises.1) (λ le. before_put a rest q le rises.0)
+    put_rises a q rest (put_named rest q) on (not_after a.sid q.sid) refl each.0 here rises (rising-put on rest q each.1 here rises.1) (λ le. before_put a rest q le rises.0)
 
-on-put : (on : Bool) (found : List Named) (q : Named) → AllOn on found → (q.sid.branch == 0) ≡ on → AllOn on (put found q)
+on-put : (on : Bool) (found : List Named) (q : Named) → AllOn on found → (q.sid.branch == 0) ≡ on → AllOn on (put_named found q)
 on-put on [] q each here = (here, tt)
 on-put on (a ∷ rest) q each here =
-    cond_both (not_after a.sid q.sid) (a ∷ put rest q) (q ∷ a ∷ rest) (λ l. AllOn on l) (λ _. (each.0, on-put on rest q each.1 here)) (λ _. (here, each))
+    cond_both (not_after a.sid q.sid) (a ∷ put_named rest q) (q ∷ a ∷ rest) (λ l. AllOn on l) (λ _. (each.0, on-put on rest q each.1 here)) (λ _. (here, each))
 
-rising_sorted : (on : Bool) (found : List Named) (rs : List Record) → AllOn on found → AllByRecursion (λ r. (r.sid.branch == 0) ≡ on) rs → IsRising found → IsRising (fold put found (map named rs))
+rising_sorted : (on : Bool) (found : List Named) (rs : List Record) → AllOn on found → AllByRecursion (λ r. (r.sid.branch == 0) ≡ on) rs → IsRising found → IsRising (fold put_named found (map sid_named rs))
 rising_sorted on found [] each more rises = rises
 rising_sorted on found (r ∷ rs) each more rises =
-    rising_sorted on (put found (named r)) rs (on-put on found (named r) each more.0) more.1 (rising-put on found (named r) each more.0 rises)
+    rising_sorted on (put_named found (sid_named r)) rs (on-put on found (sid_named r) each more.0) more.1 (rising-put on found (sid_named r) each more.0 rises)
 
 line_on : (a b : Sid) (t : Bool) → (a.branch == 0) ≡ t → cond t (b.branch == 0) (a.release == b.release && (a.level == b.level && a.branch == b.branch)) ≡ true → (b.branch == 0) ≡ t
 line_on a b true is line = line

@@ -17,7 +17,7 @@ use Rattle.sccs_flags.specs.FlagValues.{has_flag}
 use Rattle.sccs_sets.specs.Made.{live_branch, made_on, next, next_on_line, on_new_branch, to_be_made}
 use Rattle.sccs_sets.specs.Retrieved.{branch_sequence, branch_sid, retrieved, serial_of, trunk_level, trunk_release, trunk_sid}
 use Rattle.sccs_sets.specs.Sets.{sid_at}
-use Rattle.sccs_sets.specs.SidTable.{branch_up, fitting, got_in, has_successor, is_release, last_level, last_sequence, level_up, made_in, newest_sid, passes, release_below, Row, rows, rows_alone, rows_of_branch, rows_of_level, rows_of_release, rows_of_sequence, sequence_up}
+use Rattle.sccs_sets.specs.SidTable.{branch_up, fitting_rows, got_in, has_successor, is_trunk_release, last_level, last_sequence, level_up, made_in, newest_sid, passes, release_below, Row, rows, rows_alone, rows_of_branch, rows_of_level, rows_of_release, rows_of_sequence, sequence_up}
 use Rattle.sccs_sets.proofs.Greatest.{each, each_from, none_passes, none_top, same_top, top, top_below, top_is}
 use Rattle.sccs_sets.proofs.MadeCases.{in_later_release, on_branch, on_earlier, on_newest, top_of_all}
 use Rattle.sccs_sets.proofs.NewSids.{same_is}
@@ -69,7 +69,7 @@ with_last false false same low on is = on
 with_last false true same low on is = is
 
 -- a release that is there is the greatest that isn't past it
-there_within : (records : List Record) (release : ℕ) → is_release records release ≡ true → trunk_release records (Some release) ≡ Some release
+there_within : (records : List Record) (release : ℕ) → is_trunk_release records release ≡ true → trunk_release records (Some release) ≡ Some release
 there_within records release there =
     top_is release_of (λ r. not r.removed && (r.sid.branch == 0 && nat_le r.sid.release release)) (λ r. not r.removed && (r.sid.branch == 0 && r.sid.release == release)) release records
     (each (λ r. (not r.removed && (r.sid.branch == 0 && nat_le r.sid.release release)) ≡ true → r.sid.release ≤ release) records (λ r on. le_from r.sid.release release (last_of r.removed (r.sid.branch == 0) (nat_le r.sid.release release) on)))
@@ -87,7 +87,7 @@ le_lt : (a b : ℕ) → (a == b) ≡ false → nat_le a b ≡ nat_lt a b
 le_lt a b other = search (rules, arith)
 
 -- where a release isn't there, the greatest that isn't past it is below it
-below_within : (records : List Record) (release : ℕ) → is_release records release ≡ false → trunk_release records (Some release) ≡ release_below records release
+below_within : (records : List Record) (release : ℕ) → is_trunk_release records release ≡ false → trunk_release records (Some release) ≡ release_below records release
 below_within records release none =
     ap (λ rs. reduce max (map release_of rs))
     (same_top release_of (λ r. not r.removed && (r.sid.branch == 0 && nat_le r.sid.release release)) (λ r. not r.removed && (r.sid.branch == 0 && nat_lt r.sid.release release)) records
@@ -121,7 +121,7 @@ sequence_serial records release level number (Some sequence) = refl
 -- ---- the rows that fit
 
 abbrev alone : List Record → Bool → List Row
-alone records branch = fitting branch (rows_alone records)
+alone records branch = fitting_rows branch (rows_alone records)
 
 got_alone : (records : List Record) (branch : Bool) → got_in (alone records branch) ≡ newest_sid records
 got_alone records true = refl
@@ -132,7 +132,7 @@ one_alone records true = omega arith
 one_alone records false = omega arith
 
 abbrev for_release : List Record → ℕ → Bool → Bool → Bool → Bool → Bool → List Row
-for_release records release branch above newest below there = fitting branch (rows_of_release records release above newest below there)
+for_release records release branch above newest below there = fitting_rows branch (rows_of_release records release above newest below there)
 
 got_above : (records : List Record) (release : ℕ) (branch there : Bool) → got_in (for_release records release branch true false false there) ≡ newest_sid records
 got_above records release true there = refl
@@ -188,7 +188,7 @@ one_of_release : (records : List Record) (release newest : ℕ) (branch there : 
 one_of_release records release newest branch there = one_at records release branch there (place_of newest release)
 
 abbrev for_level : List Record → Sid → Bool → Bool → List Row
-for_level records sid branch followed = fitting branch (rows_of_level records sid followed)
+for_level records sid branch followed = fitting_rows branch (rows_of_level records sid followed)
 
 got_level : (records : List Record) (sid : Sid) (branch followed : Bool) → got_in (for_level records sid branch followed) ≡ Some sid
 got_level records sid true true = refl
@@ -203,7 +203,7 @@ one_of_level records sid false true = omega arith
 one_of_level records sid false false = omega arith
 
 abbrev for_branch : List Record → ℕ → ℕ → ℕ → Bool → List Row
-for_branch records release level number branch = fitting branch (rows_of_branch records release level number)
+for_branch records release level number branch = fitting_rows branch (rows_of_branch records release level number)
 
 got_branch : (records : List Record) (release level number : ℕ) (branch : Bool) → got_in (for_branch records release level number branch) ≡ last_sequence records release level number
 got_branch records release level number true = refl
@@ -214,7 +214,7 @@ one_of_branch records release level number true = omega arith
 one_of_branch records release level number false = omega arith
 
 abbrev for_sequence : List Record → Sid → Bool → Bool → List Row
-for_sequence records sid branch followed = fitting branch (rows_of_sequence records sid followed)
+for_sequence records sid branch followed = fitting_rows branch (rows_of_sequence records sid followed)
 
 got_sequence : (records : List Record) (sid : Sid) (branch followed : Bool) → got_in (for_sequence records sid branch followed) ≡ Some sid
 got_sequence records sid true true = refl
@@ -234,17 +234,17 @@ one_nowhere records release true there = omega arith
 one_nowhere records release false there = omega arith
 
 -- at most one row fits
-pub one_row : (records : List Record) (spec : Option Spec) (branch : Bool) → length (fitting branch (rows records spec)) ≤ 1
+pub one_row : (records : List Record) (spec : Option Spec) (branch : Bool) → length (fitting_rows branch (rows records spec)) ≤ 1
 one_row records None branch = one_alone records branch
 one_row records (Some (Release release)) branch = by (trunk_release records None)
   where
-    by : (o : Option ℕ) → length (for_release records release branch (passes o (λ newest. nat_lt newest release)) (passes o (λ newest. newest == release)) (passes o (λ newest. nat_lt release newest)) (is_release records release)) ≤ 1
-    by None = one_nowhere records release branch (is_release records release)
-    by (Some newest) = one_of_release records release newest branch (is_release records release)
+    by : (o : Option ℕ) → length (for_release records release branch (passes o (λ newest. nat_lt newest release)) (passes o (λ newest. newest == release)) (passes o (λ newest. nat_lt release newest)) (is_trunk_release records release)) ≤ 1
+    by None = one_nowhere records release branch (is_trunk_release records release)
+    by (Some newest) = one_of_release records release newest branch (is_trunk_release records release)
 one_row records (Some (Branch release level number)) branch = one_of_branch records release level number branch
 one_row records (Some (Full sid)) branch = by (sid.branch == 0)
   where
-    by : (t : Bool) → length (fitting branch (cond t (rows_of_level records sid (has_successor records sid)) (rows_of_sequence records sid (has_successor records sid)))) ≤ 1
+    by : (t : Bool) → length (fitting_rows branch (cond t (rows_of_level records sid (has_successor records sid)) (rows_of_sequence records sid (has_successor records sid)))) ≤ 1
     by true = one_of_level records sid branch (has_successor records sid)
     by false = one_of_sequence records sid branch (has_successor records sid)
 
@@ -253,40 +253,40 @@ one_row records (Some (Full sid)) branch = by (sid.branch == 0)
 -- what is got where a release is given, by the newest one
 got_by_newest : (records : List Record) (release : ℕ) (branch : Bool) (o : Option ℕ) → trunk_release records None ≡ o
     → option_and_then (last_level records) (trunk_release records (Some release))
-    ≡ got_in (for_release records release branch (passes o (λ newest. nat_lt newest release)) (passes o (λ newest. newest == release)) (passes o (λ newest. nat_lt release newest)) (is_release records release))
+    ≡ got_in (for_release records release branch (passes o (λ newest. nat_lt newest release)) (passes o (λ newest. newest == release)) (passes o (λ newest. nat_lt release newest)) (is_trunk_release records release))
 got_by_newest records release branch None is =
-    ap (option_and_then (last_level records)) (none_within records release is) ∙ sym (got_nowhere records release branch (is_release records release))
+    ap (option_and_then (last_level records)) (none_within records release is) ∙ sym (got_nowhere records release branch (is_trunk_release records release))
 got_by_newest records release branch (Some newest) is =
     elim (cases_eq newest release) [
       | inl same ↦
           ap (option_and_then (last_level records)) (within_limit records newest release is (omega (arith, same)) ∙ sym is)
-          ∙ (sym (got_newest records release branch (is_release records release))
+          ∙ (sym (got_newest records release branch (is_trunk_release records release))
           ∙ by_tests (le-ltb newest release (omega (arith, same))) (eq-eqb newest release same) (le-ltb release newest (omega (arith, same))))
       | inr other ↦ elim (cases_lt newest release) [
         | inl low ↦
             ap (option_and_then (last_level records)) (within_limit records newest release is (omega (arith, low)) ∙ sym is)
-            ∙ (sym (got_above records release branch (is_release records release))
+            ∙ (sym (got_above records release branch (is_trunk_release records release))
             ∙ by_tests (lt-ltb newest release low) (ne_eqb newest release other) (le-ltb release newest (omega (arith, low))))
         | inr high ↦
-            below_by (is_release records release) refl
-            ∙ (sym (got_below records release branch (is_release records release))
+            below_by (is_trunk_release records release) refl
+            ∙ (sym (got_below records release branch (is_trunk_release records release))
             ∙ by_tests (le-ltb newest release high) (ne_eqb newest release other) (lt-ltb release newest (omega (arith, high, other))))
       ]
     ]
   where
     by_tests : {a n b : Bool} → nat_lt newest release ≡ a → (newest == release) ≡ n → nat_lt release newest ≡ b
-        → got_in (for_release records release branch a n b (is_release records release)) ≡ got_in (for_release records release branch (nat_lt newest release) (newest == release) (nat_lt release newest) (is_release records release))
+        → got_in (for_release records release branch a n b (is_trunk_release records release)) ≡ got_in (for_release records release branch (nat_lt newest release) (newest == release) (nat_lt release newest) (is_trunk_release records release))
     by_tests {a} {n} {b} above same below =
-        ap (λ x. got_in (for_release records release branch x n b (is_release records release))) (sym above)
-        ∙ (ap (λ x. got_in (for_release records release branch (nat_lt newest release) x b (is_release records release))) (sym same)
-        ∙ ap (λ x. got_in (for_release records release branch (nat_lt newest release) (newest == release) x (is_release records release))) (sym below))
+        ap (λ x. got_in (for_release records release branch x n b (is_trunk_release records release))) (sym above)
+        ∙ (ap (λ x. got_in (for_release records release branch (nat_lt newest release) x b (is_trunk_release records release))) (sym same)
+        ∙ ap (λ x. got_in (for_release records release branch (nat_lt newest release) (newest == release) x (is_trunk_release records release))) (sym below))
 
-    below_by : (t : Bool) → is_release records release ≡ t → option_and_then (last_level records) (trunk_release records (Some release)) ≡ below_sid records release t
+    below_by : (t : Bool) → is_trunk_release records release ≡ t → option_and_then (last_level records) (trunk_release records (Some release)) ≡ below_sid records release t
     below_by true there = ap (option_and_then (last_level records)) (there_within records release there)
     below_by false none = ap (option_and_then (last_level records)) (below_within records release none)
 
 -- the serial got is that of the SID of the row that fits
-pub got_by_row : (records : List Record) (spec : Option Spec) (branch : Bool) → retrieved records spec false ≡ option_and_then (serial_of records) (got_in (fitting branch (rows records spec)))
+pub got_by_row : (records : List Record) (spec : Option Spec) (branch : Bool) → retrieved records spec false ≡ option_and_then (serial_of records) (got_in (fitting_rows branch (rows records spec)))
 got_by_row records None branch = tip_serial records (trunk_release records None) ∙ ap (option_and_then (serial_of records)) (sym (got_alone records branch))
 got_by_row records (Some (Release release)) branch =
     tip_serial records (trunk_release records (Some release)) ∙ ap (option_and_then (serial_of records)) (got_by_newest records release branch (trunk_release records None) refl)
@@ -294,7 +294,7 @@ got_by_row records (Some (Branch release level number)) branch =
     sequence_serial records release level number (branch_sequence records release level number) ∙ ap (option_and_then (serial_of records)) (sym (got_branch records release level number branch))
 got_by_row records (Some (Full sid)) branch = by (sid.branch == 0)
   where
-    by : (t : Bool) → serial_of records sid ≡ option_and_then (serial_of records) (got_in (fitting branch (cond t (rows_of_level records sid (has_successor records sid)) (rows_of_sequence records sid (has_successor records sid)))))
+    by : (t : Bool) → serial_of records sid ≡ option_and_then (serial_of records) (got_in (fitting_rows branch (cond t (rows_of_level records sid (has_successor records sid)) (rows_of_sequence records sid (has_successor records sid)))))
     by true = ap (option_and_then (serial_of records)) (sym (got_level records sid branch (has_successor records sid)))
     by false = ap (option_and_then (serial_of records)) (sym (got_sequence records sid branch (has_successor records sid)))
 
@@ -330,7 +330,7 @@ made_sequence records sid false true is side = by_successor records sid (Some (F
 made_sequence records sid false false is side = by_successor records sid (Some (Full sid)) false is ∙ ap (λ t. cond t (level_up sid) (sequence_up sid)) side
 
 made_full : (records : List Record) (sid : Sid) (branch trunk : Bool) → (sid.branch == 0) ≡ trunk
-    → made_on records [] sid (Some (Full sid)) branch ≡ made_in (fitting branch (cond trunk (rows_of_level records sid (has_successor records sid)) (rows_of_sequence records sid (has_successor records sid))))
+    → made_on records [] sid (Some (Full sid)) branch ≡ made_in (fitting_rows branch (cond trunk (rows_of_level records sid (has_successor records sid)) (rows_of_sequence records sid (has_successor records sid))))
 made_full records sid branch true is = made_level records sid branch (has_successor records sid) refl is
 made_full records sid branch false is = made_sequence records sid branch (has_successor records sid) refl is
 
@@ -412,31 +412,31 @@ made_below records got release newest false false top low is =
     on_below records got release newest (Some (Release release)) false (release_below records release) refl top low is ∙ sym (ap (option_and_then (branch_up records)) is)
 
 made_by_newest : (records : List Record) (got : Sid) (release : ℕ) (branch : Bool) (o : Option ℕ) → trunk_release records None ≡ o
-    → got_in (for_release records release branch (passes o (λ newest. nat_lt newest release)) (passes o (λ newest. newest == release)) (passes o (λ newest. nat_lt release newest)) (is_release records release)) ≡ Some got
+    → got_in (for_release records release branch (passes o (λ newest. nat_lt newest release)) (passes o (λ newest. newest == release)) (passes o (λ newest. nat_lt release newest)) (is_trunk_release records release)) ≡ Some got
     → made_on records [] got (Some (Release release)) branch
-    ≡ made_in (for_release records release branch (passes o (λ newest. nat_lt newest release)) (passes o (λ newest. newest == release)) (passes o (λ newest. nat_lt release newest)) (is_release records release))
-made_by_newest records got release branch None top is = let none : got_in (for_release records release branch false false false (is_release records release)) ≡ None = got_nowhere records release branch (is_release records release) in cc
+    ≡ made_in (for_release records release branch (passes o (λ newest. nat_lt newest release)) (passes o (λ newest. newest == release)) (passes o (λ newest. nat_lt release newest)) (is_trunk_release records release))
+made_by_newest records got release branch None top is = let none : got_in (for_release records release branch false false false (is_trunk_release records release)) ≡ None = got_nowhere records release branch (is_trunk_release records release) in cc
 made_by_newest records got release branch (Some newest) top is =
     elim (cases_eq newest release) [
       | inl same ↦
           let rows_are = by_tests (le-ltb newest release (omega (arith, same))) (eq-eqb newest release same) (le-ltb release newest (omega (arith, same))) in
-          made_newest records got release branch (is_release records release) (top ∙ ap Some same) (sym (got_newest records release branch (is_release records release)) ∙ (ap got_in rows_are ∙ is)) ∙ ap made_in rows_are
+          made_newest records got release branch (is_trunk_release records release) (top ∙ ap Some same) (sym (got_newest records release branch (is_trunk_release records release)) ∙ (ap got_in rows_are ∙ is)) ∙ ap made_in rows_are
       | inr other ↦ elim (cases_lt newest release) [
         | inl low ↦
             let rows_are = by_tests (lt-ltb newest release low) (ne_eqb newest release other) (le-ltb release newest (omega (arith, low))) in
-            made_above records got release newest branch (is_release records release) top low (sym (got_above records release branch (is_release records release)) ∙ (ap got_in rows_are ∙ is)) ∙ ap made_in rows_are
+            made_above records got release newest branch (is_trunk_release records release) top low (sym (got_above records release branch (is_trunk_release records release)) ∙ (ap got_in rows_are ∙ is)) ∙ ap made_in rows_are
         | inr high ↦
             let rows_are = by_tests (le-ltb newest release high) (ne_eqb newest release other) (lt-ltb release newest (omega (arith, high, other))) in
-            made_below records got release newest branch (is_release records release) top (omega (arith, high, other)) (sym (got_below records release branch (is_release records release)) ∙ (ap got_in rows_are ∙ is)) ∙ ap made_in rows_are
+            made_below records got release newest branch (is_trunk_release records release) top (omega (arith, high, other)) (sym (got_below records release branch (is_trunk_release records release)) ∙ (ap got_in rows_are ∙ is)) ∙ ap made_in rows_are
       ]
     ]
   where
     by_tests : {a n b : Bool} → nat_lt newest release ≡ a → (newest == release) ≡ n → nat_lt release newest ≡ b
-        → for_release records release branch a n b (is_release records release) ≡ for_release records release branch (nat_lt newest release) (newest == release) (nat_lt release newest) (is_release records release)
+        → for_release records release branch a n b (is_trunk_release records release) ≡ for_release records release branch (nat_lt newest release) (newest == release) (nat_lt release newest) (is_trunk_release records release)
     by_tests {a} {n} {b} above same below =
-        ap (λ x. for_release records release branch x n b (is_release records release)) (sym above)
-        ∙ (ap (λ x. for_release records release branch (nat_lt newest release) x b (is_release records release)) (sym same)
-        ∙ ap (λ x. for_release records release branch (nat_lt newest release) (newest == release) x (is_release records release)) (sym below))
+        ap (λ x. for_release records release branch x n b (is_trunk_release records release)) (sym above)
+        ∙ (ap (λ x. for_release records release branch (nat_lt newest release) x b (is_trunk_release records release)) (sym same)
+        ∙ ap (λ x. for_release records release branch (nat_lt newest release) (newest == release) x (is_trunk_release records release)) (sym below))
 
 -- R.L.B is given
 made_branch : (records : List Record) (got : Sid) (release level number : ℕ) (branch : Bool) → 0 < number → last_sequence records release level number ≡ Some got
@@ -450,16 +450,16 @@ made_branch records got release level number false some is =
     ∙ ap (λ t. cond t (level_up (branch_sid release level number it.number)) (sequence_up (branch_sid release level number it.number))) (ne_eqb number 0 side))
     ∙ sym (ap (option_and_then sequence_up) is)
 
-made_on_row : (records : List Record) (got : Sid) (spec : Option Spec) (branch : Bool) → IfSome spec IsSpec → got_in (fitting branch (rows records spec)) ≡ Some got
-    → made_on records [] got spec branch ≡ made_in (fitting branch (rows records spec))
+made_on_row : (records : List Record) (got : Sid) (spec : Option Spec) (branch : Bool) → IfSome spec IsSpec → got_in (fitting_rows branch (rows records spec)) ≡ Some got
+    → made_on records [] got spec branch ≡ made_in (fitting_rows branch (rows records spec))
 made_on_row records got None branch fits is = made_alone records got branch (sym (got_alone records branch) ∙ is)
 made_on_row records got (Some (Release release)) branch fits is = made_by_newest records got release branch (trunk_release records None) refl is
 made_on_row records got (Some (Branch release level number)) branch fits is = made_branch records got release level number branch fits.2.0 (sym (got_branch records release level number branch) ∙ is)
 made_on_row records got (Some (Full sid)) branch fits is =
     let same : sid ≡ got = by (sid.branch == 0) is in
-    subst (λ s. made_on records [] s (Some (Full sid)) branch ≡ made_in (fitting branch (rows records (Some (Full sid))))) same (made_full records sid branch (sid.branch == 0) refl)
+    subst (λ s. made_on records [] s (Some (Full sid)) branch ≡ made_in (fitting_rows branch (rows records (Some (Full sid))))) same (made_full records sid branch (sid.branch == 0) refl)
   where
-    by : (t : Bool) → got_in (fitting branch (cond t (rows_of_level records sid (has_successor records sid)) (rows_of_sequence records sid (has_successor records sid)))) ≡ Some got → sid ≡ got
+    by : (t : Bool) → got_in (fitting_rows branch (cond t (rows_of_level records sid (has_successor records sid)) (rows_of_sequence records sid (has_successor records sid)))) ≡ Some got → sid ≡ got
     by true some = cc (sym (got_level records sid branch (has_successor records sid)) ∙ some)
     by false some = cc (sym (got_sequence records sid branch (has_successor records sid)) ∙ some)
 
@@ -499,8 +499,8 @@ got_of records (Some got) n is = record { got = got; is = refl; serial = is }
 
 -- the SID to be made is that of the row that fits
 pub made_by_row : (header : Header) (spec : Option Spec) (branch : Bool) (n : ℕ) → Falls 65536 (serials_of header.records) → IfSome spec IsSpec → retrieved header.records spec false ≡ Some n
-    → to_be_made header [] n spec branch ≡ made_in (fitting (branch && has_flag header.flags flag_b) (rows header.records spec))
+    → to_be_made header [] n spec branch ≡ made_in (fitting_rows (branch && has_flag header.flags flag_b) (rows header.records spec))
 made_by_row header spec branch n falls fits is =
     let asked : Bool = branch && has_flag header.flags flag_b in
-    let it = got_of header.records (got_in (fitting asked (rows header.records spec))) n (sym (got_by_row header.records spec asked) ∙ is) in
+    let it = got_of header.records (got_in (fitting_rows asked (rows header.records spec))) n (sym (got_by_row header.records spec asked) ∙ is) in
     ap (option_and_then (λ on. made_on header.records [] on spec asked)) (sid_of_serial header.records 65536 it.got n falls it.serial) ∙ made_on_row header.records it.got spec asked fits it.is

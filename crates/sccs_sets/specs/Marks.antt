@@ -3,8 +3,8 @@ use Rattle.std.specs.Prelude.{ℕ, Bool, false, List, Option, None, Some, length
 use Rattle.sccs_history.specs.Numbers.{falling, has}
 
 -- the places of a row of marks that are set, greatest first
-abbrev pub marked : List Bool → List ℕ
-marked marks = falling (length marks) (λ n. slice_index_or marks n false)
+abbrev pub marked_places : List Bool → List ℕ
+marked_places marks = falling (length marks) (λ n. slice_index_or marks n false)
 
 -- what is said first, or else
 abbrev pub or_else : Option Bool → Option Bool → Option Bool

@@ -31,17 +31,17 @@ range_fault records range =
     if not (lives records range.first) then Some range.first
     else (if lives records range.last && (one_line range.first range.last && not_after range.first range.last) then None else Some range.last)
 
-abbrev pub named : Record → Named
-named r = record { sid = r.sid; serial = r.serial }
+abbrev pub sid_named : Record → Named
+sid_named r = record { sid = r.sid; serial = r.serial }
 
 -- one more, before the first of those that come after it
-abbrev pub put : List Named → Named → List Named
-put [] q = q ∷ []
-put (a ∷ rest) q = if not_after a.sid q.sid then a ∷ put rest q else q ∷ a ∷ rest
+abbrev pub put_named : List Named → Named → List Named
+put_named [] q = q ∷ []
+put_named (a ∷ rest) q = if not_after a.sid q.sid then a ∷ put_named rest q else q ∷ a ∷ rest
 
 -- the live deltas of a range, in rising order of their SIDs
 abbrev pub range_named : List Record → Range → List Named
-range_named records range = fold put [] (map named (live_where (in_range range) records))
+range_named records range = fold put_named [] (map sid_named (live_where (in_range range) records))
 
 -- a number, where it isn't there yet
 abbrev pub add_new : List ℕ → ℕ → List ℕ
@@ -63,17 +63,17 @@ named_serials records seen (range ∷ ranges) =
     unless (range_fault records range) (named_serials records (add_range records seen range) ranges)
 
 -- The answer is the serials, or the SID at fault; of want of memory nothing is said.
-abbrev pub Answers : Result (List ℕ) Sid → Result (List ℕ) SetFault → Type 0
-Answers said (Ok serials) = said ≡ Ok serials
-Answers said (Err (BadList sid)) = said ≡ Err sid
-Answers said (Err Memory) = Unit {0}
+abbrev pub AnswersSerials : Result (List ℕ) Sid → Result (List ℕ) SetFault → Type 0
+AnswersSerials said (Ok serials) = said ≡ Ok serials
+AnswersSerials said (Err (BadList sid)) = said ≡ Err sid
+AnswersSerials said (Err Memory) = Unit {0}
 
 -- a delta's SID doesn't come after the first of others
-abbrev pub IsBefore : Named → List Named → Type 0
-IsBefore a [] = Unit {0}
-IsBefore a (b ∷ rest) = not_after a.sid b.sid ≡ true
+abbrev pub IsSidBefore : Named → List Named → Type 0
+IsSidBefore a [] = Unit {0}
+IsSidBefore a (b ∷ rest) = not_after a.sid b.sid ≡ true
 
 -- each delta's SID doesn't come after the next one's
 abbrev pub IsRising : List Named → Type 0
 IsRising [] = Unit {0}
-IsRising (a ∷ rest) = IsBefore a rest × IsRising rest
+IsRising (a ∷ rest) = IsSidBefore a rest × IsRising rest

@@ -30,8 +30,8 @@ passes None test = false
 passes (Some newest) test = test newest
 
 -- a live delta of the trunk has the release
-abbrev pub is_release : List Record → ℕ → Bool
-is_release records release = list_any (λ r. not r.removed && (r.sid.branch == 0 && r.sid.release == release)) records
+abbrev pub is_trunk_release : List Record → ℕ → Bool
+is_trunk_release records release = list_any (λ r. not r.removed && (r.sid.branch == 0 && r.sid.release == release)) records
 
 -- the greatest live release of the trunk below another
 abbrev pub release_below : List Record → ℕ → Option ℕ
@@ -116,7 +116,7 @@ abbrev pub rows : List Record → Option Spec → List Row
 rows records None = rows_alone records
 rows records (Some (Release release)) =
     rows_of_release records release (passes (trunk_release records None) (λ newest. nat_lt newest release))
-    (passes (trunk_release records None) (λ newest. newest == release)) (passes (trunk_release records None) (λ newest. nat_lt release newest)) (is_release records release)
+    (passes (trunk_release records None) (λ newest. newest == release)) (passes (trunk_release records None) (λ newest. nat_lt release newest)) (is_trunk_release records release)
 rows records (Some (Branch release level number)) = rows_of_branch records release level number
 rows records (Some (Full sid)) =
     if sid.branch == 0 then rows_of_level records sid (has_successor records sid) else rows_of_sequence records sid (has_successor records sid)
@@ -128,8 +128,8 @@ is_for (Some true) branch = branch
 is_for (Some false) branch = not branch
 
 -- the rows that fit; a branch is asked for by -b where the flag b is set
-abbrev pub fitting : Bool → List Row → List Row
-fitting branch rows = filter (λ (r : Row). is_for r.branch branch && r.condition) rows
+abbrev pub fitting_rows : Bool → List Row → List Row
+fitting_rows branch rows = filter (λ (r : Row). is_for r.branch branch && r.condition) rows
 
 -- the SIDs of the row that fits
 abbrev pub got_in : List Row → Option Sid

@@ -3,7 +3,7 @@ ghost use Rattle.std.specs.List.{AllByRecursion};
 ghost use Rattle.sccs_history.specs.Applied.{applied, live_serials, serials_of};
 ghost use Rattle.sccs_history.specs.History.{IsTable};
 ghost use Rattle.sccs_history.specs.Numbers.{Falls, has};
-ghost use Rattle.sccs_sets.specs.Marks.{marked};
+ghost use Rattle.sccs_sets.specs.Marks.{marked_places};
 ghost use Rattle.sccs_sets.specs.Sets.{Explains, both_listed};
 
 use crate::faults::SetFault;
@@ -23,11 +23,11 @@ pub struct Applied {
 
 impl Model for Applied {
     ghost use Rattle.std.specs.Prelude.{List, ℕ};
-    ghost use Rattle.sccs_sets.specs.Marks.{marked};
+    ghost use Rattle.sccs_sets.specs.Marks.{marked_places};
 
     ghost Value = { List ℕ };
 
-    ghost view = { λ a. marked a.marks.items };
+    ghost view = { λ a. marked_places a.marks.items };
 }
 
 impl Applied {
@@ -54,7 +54,7 @@ fn pass(
     requires unmarked { (n : ℕ) → slice_index_or marks.old n None ≡ None }
     requires set { length set.old ≡ SERIALS }
     requires unset { (n : ℕ) → slice_index_or set.old n false ≡ false }
-    ensures { marked set.new ≡ applied (record {
+    ensures { marked_places set.new ≡ applied (record {
       target = target;
       include = include.now;
       exclude = exclude.now;

@@ -16,7 +16,7 @@ ghost use Rattle.sccs_sets.specs.Made.{is_taken, made_on, next_level, next_on_li
 ghost use Rattle.sccs_sets.specs.Naming.{IsRising, in_range, named_serials, range_named, unless};
 ghost use Rattle.sccs_sets.specs.OnceNamed.{first_fault, first_places, range_serials};
 ghost use Rattle.sccs_sets.specs.Retrieved.{branch_sequence, branch_sid, live_where, newest_where, retrieved, serial_of, trunk_level, trunk_release, trunk_sid};
-ghost use Rattle.sccs_sets.specs.SidTable.{fitting, got_in, made_in, rows};
+ghost use Rattle.sccs_sets.specs.SidTable.{fitting_rows, got_in, made_in, rows};
 ghost use Rattle.sccs_sets.specs.Trunks.{IsTrunk};
 
 /// The first live record that passes a test has the greatest serial of those that do, and where none
@@ -69,13 +69,13 @@ pub fn made_sids()
 /// of POSIX get that fits; where none fits, or its SID isn't live, none is got.
 pub fn sid_table()
     ensures one { (records : List Record) (spec : Option Spec) (branch : Bool)
-        → length (fitting branch (rows records spec)) ≤ 1 }
+        → length (fitting_rows branch (rows records spec)) ≤ 1 }
     ensures got { (records : List Record) (spec : Option Spec) (branch : Bool)
-        → retrieved records spec false ≡ option_and_then (serial_of records) (got_in (fitting branch (rows records spec))) }
+        → retrieved records spec false ≡ option_and_then (serial_of records) (got_in (fitting_rows branch (rows records spec))) }
     ensures made { (header : Header) (spec : Option Spec) (branch : Bool) (n : ℕ)
         → Falls 65536 (serials_of header.records) → IfSome spec IsSpec → retrieved header.records spec false ≡ Some n
         → to_be_made header [] n spec branch
-        ≡ made_in (fitting (branch && has_flag header.flags flag_b) (rows header.records spec)) }
+        ≡ made_in (fitting_rows (branch && has_flag header.flags flag_b) (rows header.records spec)) }
 {}
 
 /// Where nothing is reserved and no branch is asked for: on the newest delta of the trunk the next

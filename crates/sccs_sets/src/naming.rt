@@ -3,7 +3,7 @@ ghost use Rattle.std.specs.List.{AllByRecursion};
 ghost use Rattle.sccs_history.specs.Applied.{live_serials};
 ghost use Rattle.sccs_history.specs.History.{lives};
 ghost use Rattle.sccs_history.specs.Numbers.{has};
-ghost use Rattle.sccs_sets.specs.Naming.{Answers, add_new, add_range, in_range, named, named_serials, not_after, one_line, put, range_fault, range_named};
+ghost use Rattle.sccs_sets.specs.Naming.{AnswersSerials, add_new, add_range, in_range, sid_named, named_serials, not_after, one_line, put_named, range_fault, range_named};
 ghost use Rattle.sccs_sets.specs.Retrieved.{live_where};
 
 use crate::faults::SetFault;
@@ -84,7 +84,7 @@ fn place_after(found: &[Named], sid: Sid) -> Option<usize>
 
 // puts a delta before the first of those that come after it
 fn put(found: &mut Vec<Named>, named: Named) -> Result<(), Memory>
-    ensures { OnOk result (found.new.items ≡ put found.old.items named) }
+    ensures { OnOk result (found.new.items ≡ put_named found.old.items named) }
 {
     match place_after(found, named.sid) {
         Some(place) => found.insert(place, named)?,
@@ -96,7 +96,7 @@ fn put(found: &mut Vec<Named>, named: Named) -> Result<(), Memory>
 // puts a record, where it is live and in the range
 fn put_record(found: &mut Vec<Named>, delta: &Record, range: &Range) -> Result<(), Memory>
     ensures { OnOk result (found.new.items ≡ (if not delta.now.removed && in_range range.now delta.now.sid
-        then put found.old.items (named delta.now) else found.old.items)) }
+        then put_named found.old.items (sid_named delta.now) else found.old.items)) }
 {
     if !delta.removed && in_range(range, delta.sid) {
         let named = Named {
@@ -151,7 +151,7 @@ fn add_range(
 /// names the first SID that isn't live, or the last SID of a range whose ends aren't on one line in
 /// order, exactly where there is one.
 pub fn serials(alloc: Global, header: &Header, list: &SidList) -> Result<Serials, SetFault>
-    ensures value { Answers (named_serials header.now.records [] list.now) result }
+    ensures value { AnswersSerials (named_serials header.now.records [] list.now) result }
     ensures live { IfOk result
         (AllByRecursion (λ n. has (live_serials header.now.records) n ≡ true)) }
 {

@@ -7,7 +7,7 @@ ghost use Rattle.sccs_sets.specs.Naming.{named_serials};
 ghost use Rattle.sccs_sets.specs.Retrieved.{branch_sid, retrieved, trunk_sid};
 ghost use Rattle.sccs_sets.specs.Samples.{from_to, numbers_of, single, sixteen_table};
 ghost use Rattle.sccs_sets.specs.Sets.{both_listed};
-ghost use Rattle.sccs_sets.specs.SidTable.{fitting, rows};
+ghost use Rattle.sccs_sets.specs.SidTable.{fitting_rows, rows};
 
 /// The SIDs that are got, in each case of what is given, and where none is.
 pub fn sids_got()
@@ -61,23 +61,23 @@ pub fn sids_made()
 
 /// The one row that fits, in the sixteen cases of what is given and whether a branch is asked for.
 pub fn rows_that_fit()
-    ensures case_1 { numbers_of (fitting false (rows sixteen_table None)) ≡ 1 ∷ [] }
-    ensures case_2 { numbers_of (fitting true (rows sixteen_table None)) ≡ 2 ∷ [] }
-    ensures case_3 { numbers_of (fitting false (rows sixteen_table (Some (Release 4)))) ≡ 3 ∷ [] }
-    ensures case_4 { numbers_of (fitting false (rows sixteen_table (Some (Release 3)))) ≡ 4 ∷ [] }
-    ensures case_5 { numbers_of (fitting true (rows sixteen_table (Some (Release 4)))) ≡ 5 ∷ [] }
-    ensures case_6 { numbers_of (fitting true (rows sixteen_table (Some (Release 3)))) ≡ 6 ∷ [] }
-    ensures case_7 { numbers_of (fitting false (rows sixteen_table (Some (Release 2)))) ≡ 7 ∷ [] }
-    ensures case_8 { numbers_of (fitting true (rows sixteen_table (Some (Release 1)))) ≡ 8 ∷ [] }
-    ensures case_9 { numbers_of (fitting false (rows sixteen_table (Some (Full (trunk_sid 3 2))))) ≡ 9 ∷ [] }
-    ensures case_10 { numbers_of (fitting true (rows sixteen_table (Some (Full (trunk_sid 3 2))))) ≡ 10 ∷ [] }
-    ensures case_11 { numbers_of (fitting false (rows sixteen_table (Some (Full (trunk_sid 1 1))))) ≡ 11 ∷ [] }
-    ensures case_12 { numbers_of (fitting false (rows sixteen_table (Some (Branch 1 2 1)))) ≡ 12 ∷ [] }
-    ensures case_13 { numbers_of (fitting true (rows sixteen_table (Some (Branch 1 2 1)))) ≡ 13 ∷ [] }
-    ensures case_14 { numbers_of (fitting false (rows sixteen_table (Some (Full (branch_sid 1 2 1 2))))) ≡ 14 ∷ [] }
-    ensures case_15 { numbers_of (fitting true (rows sixteen_table (Some (Full (branch_sid 1 2 1 2))))) ≡ 15 ∷ [] }
-    ensures case_16 { numbers_of (fitting true (rows sixteen_table (Some (Full (branch_sid 1 2 1 1))))) ≡ 16 ∷ [] }
-    ensures nowhere { numbers_of (fitting false (rows [] (Some (Release 1)))) ≡ [] }
+    ensures case_1 { numbers_of (fitting_rows false (rows sixteen_table None)) ≡ 1 ∷ [] }
+    ensures case_2 { numbers_of (fitting_rows true (rows sixteen_table None)) ≡ 2 ∷ [] }
+    ensures case_3 { numbers_of (fitting_rows false (rows sixteen_table (Some (Release 4)))) ≡ 3 ∷ [] }
+    ensures case_4 { numbers_of (fitting_rows false (rows sixteen_table (Some (Release 3)))) ≡ 4 ∷ [] }
+    ensures case_5 { numbers_of (fitting_rows true (rows sixteen_table (Some (Release 4)))) ≡ 5 ∷ [] }
+    ensures case_6 { numbers_of (fitting_rows true (rows sixteen_table (Some (Release 3)))) ≡ 6 ∷ [] }
+    ensures case_7 { numbers_of (fitting_rows false (rows sixteen_table (Some (Release 2)))) ≡ 7 ∷ [] }
+    ensures case_8 { numbers_of (fitting_rows true (rows sixteen_table (Some (Release 1)))) ≡ 8 ∷ [] }
+    ensures case_9 { numbers_of (fitting_rows false (rows sixteen_table (Some (Full (trunk_sid 3 2))))) ≡ 9 ∷ [] }
+    ensures case_10 { numbers_of (fitting_rows true (rows sixteen_table (Some (Full (trunk_sid 3 2))))) ≡ 10 ∷ [] }
+    ensures case_11 { numbers_of (fitting_rows false (rows sixteen_table (Some (Full (trunk_sid 1 1))))) ≡ 11 ∷ [] }
+    ensures case_12 { numbers_of (fitting_rows false (rows sixteen_table (Some (Branch 1 2 1)))) ≡ 12 ∷ [] }
+    ensures case_13 { numbers_of (fitting_rows true (rows sixteen_table (Some (Branch 1 2 1)))) ≡ 13 ∷ [] }
+    ensures case_14 { numbers_of (fitting_rows false (rows sixteen_table (Some (Full (branch_sid 1 2 1 2))))) ≡ 14 ∷ [] }
+    ensures case_15 { numbers_of (fitting_rows true (rows sixteen_table (Some (Full (branch_sid 1 2 1 2))))) ≡ 15 ∷ [] }
+    ensures case_16 { numbers_of (fitting_rows true (rows sixteen_table (Some (Full (branch_sid 1 2 1 1))))) ≡ 16 ∷ [] }
+    ensures nowhere { numbers_of (fitting_rows false (rows [] (Some (Release 1)))) ≡ [] }
 {}
 
 /// The SIDs that are made beside reserved ones, and where no number is left.

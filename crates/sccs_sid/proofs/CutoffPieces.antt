@@ -3,13 +3,13 @@ use Rattle.std.proofs.Common.{◌≡◌, ℕ, ◌+◌, ◌-◌, ◌*◌, ◌||�
 use Rattle.std.proofs.lemmas.Bool.{cases_Bool}
 use Rattle.sccs_sid.specs.Reading.{◌>>=◌, digits_after, number_at, skip, is_no_digit}
 use Rattle.sccs_sid.specs.Moment.{within}
-use Rattle.sccs_sid.specs.Cutoff.{piece_at, year_by, unit_by, ended_by, cutoff_of, pieces, year_piece, unit_piece, no_piece, of_pieces}
+use Rattle.sccs_sid.specs.Cutoff.{piece_at, year_by, unit_by, ended_by, cutoff_of, digit_pieces, year_piece, unit_piece, no_piece, of_pieces}
 use Rattle.sccs_sid.specs.declared.moments.Moment.{Moment}
 use Rattle.sccs_sid.specs.declared.moments.MomentFault.{MomentFault}
 
 -- what reading one piece leaves: a number and the other pieces, or none
 abbrev Steps : List ℕ → Result (ℕ × List ℕ) ℕ → Type 0
-Steps numbers (Ok piece) = numbers ≡ piece.0 ∷ pieces piece.1
+Steps numbers (Ok piece) = numbers ≡ piece.0 ∷ digit_pieces piece.1
 Steps numbers (Err left) = numbers ≡ []
 
 both_false : (x y : Bool) → (x || y) ≡ false → (x ≡ false) × (y ≡ false)
@@ -40,25 +40,25 @@ unfolding digits_after
 second_digit n c bytes digit =
     let tests = both_false (nat_lt c 48) (nat_lt 57 c) digit in rw (tests.0, tests.1) refl
 
-other_piece : (c : ℕ) (bytes : List ℕ) → is_no_digit c ≡ true → pieces (c ∷ bytes) ≡ pieces bytes
-unfolding pieces
+other_piece : (c : ℕ) (bytes : List ℕ) → is_no_digit c ≡ true → digit_pieces (c ∷ bytes) ≡ digit_pieces bytes
+unfolding digit_pieces
 other_piece c [] other = rw other refl
 other_piece c (d ∷ bytes) other = rw other refl
 
-two_digits : (b c : ℕ) (bytes : List ℕ) → is_no_digit b ≡ false → is_no_digit c ≡ false → pieces (b ∷ c ∷ bytes) ≡ ((b - 48) * 10 + (c - 48)) ∷ pieces bytes
-unfolding pieces
+two_digits : (b c : ℕ) (bytes : List ℕ) → is_no_digit b ≡ false → is_no_digit c ≡ false → digit_pieces (b ∷ c ∷ bytes) ≡ ((b - 48) * 10 + (c - 48)) ∷ digit_pieces bytes
+unfolding digit_pieces
 two_digits b c bytes first second = rw (first, second) refl
 
-one_digit : (b c : ℕ) (bytes : List ℕ) → is_no_digit b ≡ false → is_no_digit c ≡ true → pieces (b ∷ c ∷ bytes) ≡ (b - 48) ∷ pieces bytes
-unfolding pieces
+one_digit : (b c : ℕ) (bytes : List ℕ) → is_no_digit b ≡ false → is_no_digit c ≡ true → digit_pieces (b ∷ c ∷ bytes) ≡ (b - 48) ∷ digit_pieces bytes
+unfolding digit_pieces
 one_digit b c bytes first second = rw (first, second) refl
 
-last_digit : (b : ℕ) → is_no_digit b ≡ false → pieces (b ∷ []) ≡ (b - 48) ∷ []
-unfolding pieces
+last_digit : (b : ℕ) → is_no_digit b ≡ false → digit_pieces (b ∷ []) ≡ (b - 48) ∷ []
+unfolding digit_pieces
 last_digit b digit = rw digit refl
 
-no_pieces : pieces [] ≡ []
-unfolding pieces
+no_pieces : digit_pieces [] ≡ []
+unfolding digit_pieces
 no_pieces = refl
 
 none_left : piece_at [] ≡ Err 0
@@ -69,38 +69,38 @@ at_end : (n : ℕ) → digits_after 1 n [] ≡ (n, [])
 unfolding digits_after
 at_end n = refl
 
-digit_steps : (b : ℕ) (bytes : List ℕ) → is_no_digit b ≡ false → Steps (pieces (b ∷ bytes)) (Ok (digits_after 1 (b - 48) bytes))
+digit_steps : (b : ℕ) (bytes : List ℕ) → is_no_digit b ≡ false → Steps (digit_pieces (b ∷ bytes)) (Ok (digits_after 1 (b - 48) bytes))
 digit_steps b [] digit =
-    last_digit b digit ∙ (ap (λ (rest : List ℕ). (b - 48) ∷ rest) (sym no_pieces) ∙ ap (λ (x : ℕ × List ℕ). x.0 ∷ pieces x.1) (sym (at_end (b - 48))))
+    last_digit b digit ∙ (ap (λ (rest : List ℕ). (b - 48) ∷ rest) (sym no_pieces) ∙ ap (λ (x : ℕ × List ℕ). x.0 ∷ digit_pieces x.1) (sym (at_end (b - 48))))
 digit_steps b (c ∷ bytes) digit =
     elim (cases_Bool (is_no_digit c)) [
       | inl other ↦ one_digit b c bytes digit other
-          ∙ (ap (λ (rest : List ℕ). (b - 48) ∷ rest) (sym (other_piece c bytes other)) ∙ ap (λ (x : ℕ × List ℕ). x.0 ∷ pieces x.1) (sym (one_alone (b - 48) c bytes other)))
-      | inr second ↦ two_digits b c bytes digit second ∙ ap (λ (x : ℕ × List ℕ). x.0 ∷ pieces x.1) (sym (second_digit (b - 48) c bytes second))
+          ∙ (ap (λ (rest : List ℕ). (b - 48) ∷ rest) (sym (other_piece c bytes other)) ∙ ap (λ (x : ℕ × List ℕ). x.0 ∷ digit_pieces x.1) (sym (one_alone (b - 48) c bytes other)))
+      | inr second ↦ two_digits b c bytes digit second ∙ ap (λ (x : ℕ × List ℕ). x.0 ∷ digit_pieces x.1) (sym (second_digit (b - 48) c bytes second))
     ]
 
-pub steps : (bytes : List ℕ) → Steps (pieces bytes) (piece_at bytes)
-steps [] = subst (Steps (pieces [])) (sym none_left) no_pieces
+pub steps : (bytes : List ℕ) → Steps (digit_pieces bytes) (piece_at bytes)
+steps [] = subst (Steps (digit_pieces [])) (sym none_left) no_pieces
 steps (b ∷ bytes) =
     elim (cases_Bool (is_no_digit b)) [
       | inl other ↦ subst (λ numbers. Steps numbers (piece_at (b ∷ bytes))) (sym (other_piece b bytes other))
-          (subst (Steps (pieces bytes)) (sym (passed_over b bytes other)) (steps bytes))
-      | inr digit ↦ subst (Steps (pieces (b ∷ bytes))) (sym (first_digit b bytes digit)) (digit_steps b bytes digit)
+          (subst (Steps (digit_pieces bytes)) (sym (passed_over b bytes other)) (steps bytes))
+      | inr digit ↦ subst (Steps (digit_pieces (b ∷ bytes))) (sym (first_digit b bytes digit)) (digit_steps b bytes digit)
     ]
 
-fit_same : {A : Type 0} (found : Result ℕ MomentFault) (rest : List ℕ) (k more : ℕ × List ℕ → Result A MomentFault) → ((n : ℕ) (rest : List ℕ) → k (n, rest) ≡ more (n, pieces rest))
-    → ((found >>= λ n. Ok (n, rest)) >>= k) ≡ ((found >>= λ n. Ok (n, pieces rest)) >>= more)
+fit_same : {A : Type 0} (found : Result ℕ MomentFault) (rest : List ℕ) (k more : ℕ × List ℕ → Result A MomentFault) → ((n : ℕ) (rest : List ℕ) → k (n, rest) ≡ more (n, digit_pieces rest))
+    → ((found >>= λ n. Ok (n, rest)) >>= k) ≡ ((found >>= λ n. Ok (n, digit_pieces rest)) >>= more)
 fit_same (Ok n) rest k more same = same n rest
 fit_same (Err fault) rest k more same = refl
 
-unit_step : {A : Type 0} (place low high : ℕ) (read : Result (ℕ × List ℕ) ℕ) (numbers : List ℕ) (k more : ℕ × List ℕ → Result A MomentFault) → ((n : ℕ) (rest : List ℕ) → k (n, rest) ≡ more (n, pieces rest)) → Steps numbers read
+unit_step : {A : Type 0} (place low high : ℕ) (read : Result (ℕ × List ℕ) ℕ) (numbers : List ℕ) (k more : ℕ × List ℕ → Result A MomentFault) → ((n : ℕ) (rest : List ℕ) → k (n, rest) ≡ more (n, digit_pieces rest)) → Steps numbers read
     → (unit_by place low high read >>= k) ≡ (unit_piece place low high numbers >>= more)
 unit_step place low high (Ok piece) numbers k more same is =
     fit_same (within place low high (Some piece.0)) piece.1 k more same ∙ ap (λ (ns : List ℕ). unit_piece place low high ns >>= more) (sym is)
 unit_step place low high (Err left) numbers k more same is =
     same high [] ∙ (ap (λ (ns : List ℕ). more (high, ns)) no_pieces ∙ ap (λ (ns : List ℕ). unit_piece place low high ns >>= more) (sym is))
 
-year_step : {A : Type 0} (read : Result (ℕ × List ℕ) ℕ) (numbers : List ℕ) (k more : ℕ × List ℕ → Result A MomentFault) → ((n : ℕ) (rest : List ℕ) → k (n, rest) ≡ more (n, pieces rest)) → Steps numbers read
+year_step : {A : Type 0} (read : Result (ℕ × List ℕ) ℕ) (numbers : List ℕ) (k more : ℕ × List ℕ → Result A MomentFault) → ((n : ℕ) (rest : List ℕ) → k (n, rest) ≡ more (n, digit_pieces rest)) → Steps numbers read
     → (year_by read >>= k) ≡ (year_piece numbers >>= more)
 year_step (Ok piece) numbers k more same is =
     fit_same (within 1 0 99 (Some piece.0)) piece.1 k more same ∙ ap (λ (ns : List ℕ). year_piece ns >>= more) (sym is)
@@ -110,12 +110,12 @@ last_step : (moment : Moment) (read : Result (ℕ × List ℕ) ℕ) (numbers : L
 last_step moment (Ok piece) numbers is = ap (no_piece moment) (sym is)
 last_step moment (Err left) numbers is = ap (no_piece moment) (sym is)
 
-pub cutoff_by_pieces : (bytes : List ℕ) → cutoff_of bytes ≡ of_pieces (pieces bytes)
+pub cutoff_by_pieces : (bytes : List ℕ) → cutoff_of bytes ≡ of_pieces (digit_pieces bytes)
 unfolding cutoff_of of_pieces
 cutoff_by_pieces bytes =
-    year_step (piece_at bytes) (pieces bytes) _ _ (λ year rest.
-    unit_step 2 1 12 (piece_at rest) (pieces rest) _ _ (λ month rest.
-    unit_step 3 1 _ (piece_at rest) (pieces rest) _ _ (λ day rest.
-    unit_step 4 0 23 (piece_at rest) (pieces rest) _ _ (λ hour rest.
-    unit_step 5 0 59 (piece_at rest) (pieces rest) _ _ (λ minute rest.
-    unit_step 6 0 59 (piece_at rest) (pieces rest) _ _ (λ second rest. last_step _ (piece_at rest) (pieces rest) (steps rest)) (steps rest)) (steps rest)) (steps rest)) (steps rest)) (steps rest)) (steps bytes)
+    year_step (piece_at bytes) (digit_pieces bytes) _ _ (λ year rest.
+    unit_step 2 1 12 (piece_at rest) (digit_pieces rest) _ _ (λ month rest.
+    unit_step 3 1 _ (piece_at rest) (digit_pieces rest) _ _ (λ day rest.
+    unit_step 4 0 23 (piece_at rest) (digit_pieces rest) _ _ (λ hour rest.
+    unit_step 5 0 59 (piece_at rest) (digit_pieces rest) _ _ (λ minute rest.
+    unit_step 6 0 59 (piece_at rest) (digit_pieces rest) _ _ (λ second rest. last_step _ (piece_at rest) (digit_pieces rest) (steps rest)) (steps rest)) (steps rest)) (steps rest)) (steps rest)) (steps rest)) (steps bytes)

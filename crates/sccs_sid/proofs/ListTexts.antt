@@ -6,7 +6,7 @@ use Rattle.std.proofs.lemmas.List.{append-nil}
 use Rattle.std.specs.Char.{IsNotAsciiDigit}
 use Rattle.sccs_sid.specs.Reading.{byte_at}
 use Rattle.sccs_sid.specs.Sid.{IsComponent, IsBranch, IsSid, branch_text, sid_text}
-use Rattle.sccs_sid.specs.SidLists.{IsRange, component_at, begins, branch_at, sid_at, last_at, range_at, piece_at, ranges_of, placed, list_of, same_sid, range_text, list_text}
+use Rattle.sccs_sid.specs.SidLists.{IsRange, component_at, begins, branch_at, sid_at, last_at, range_at, piece_at, ranges_of, placed, list_of, is_same_sid, range_text, list_text}
 use Rattle.sccs_sid.specs.declared.sids.Sid.{Sid}
 use Rattle.sccs_sid.specs.declared.sid_lists.Range.{Range}
 use Rattle.sccs_sid.proofs.Decimals.{NoDigit}
@@ -94,7 +94,7 @@ and_right false y both = cc
 abbrev of_four : ℕ → ℕ → ℕ → ℕ → Sid
 of_four r l b s = record { release = r; level = l; branch = b; sequence = s }
 
-same_true : (a b : Sid) → same_sid a b ≡ true → a ≡ b
+same_true : (a b : Sid) → is_same_sid a b ≡ true → a ≡ b
 same_true a b same =
     let three = and_left ((a.release == b.release) && (a.level == b.level) && (a.branch == b.branch)) (a.sequence == b.sequence) same in
     let two = and_left ((a.release == b.release) && (a.level == b.level)) (a.branch == b.branch) three in
@@ -118,7 +118,7 @@ two_read first last rest first_is last_is ends =
 range_read : (range : Range) (rest : List ℕ) → IsRange range → EndsRange rest → range_at (range_text range ++ rest) ≡ Ok (range, rest)
 unfolding range_text
 range_read range rest is ends =
-    elim (cases_Bool (same_sid range.first range.last)) [
+    elim (cases_Bool (is_same_sid range.first range.last)) [
       | inl same ↦ rw same
           (ap (λ (front : List ℕ). range_at (front ++ rest)) (append-nil (sid_text range.first))
           ∙ (one_read range.first rest is.0 ends ∙ ap (λ last. Ok (record { first = range.first; last = last }, rest)) (same_true range.first range.last same)))

@@ -41,11 +41,11 @@ cutoff_of bytes = do
   ended_by (record { seconds = second_at (record { year = full_year year.0; month = month.0; day = day.0; hour = hour.0; minute = minute.0; second = second.0 }) }) (piece_at second.1)
 
 -- the pieces in plain words: a digit with the digit after it, where one follows, else alone; other bytes are passed over
-unfoldable pub pieces : List ℕ → List ℕ
-pieces [] = []
-pieces (b ∷ []) = if is_no_digit b then [] else (b - 48) ∷ []
-pieces (b ∷ c ∷ bytes) =
-    if is_no_digit b then pieces (c ∷ bytes) else if is_no_digit c then (b - 48) ∷ pieces bytes else ((b - 48) * 10 + (c - 48)) ∷ pieces bytes
+unfoldable pub digit_pieces : List ℕ → List ℕ
+digit_pieces [] = []
+digit_pieces (b ∷ []) = if is_no_digit b then [] else (b - 48) ∷ []
+digit_pieces (b ∷ c ∷ bytes) =
+    if is_no_digit b then digit_pieces (c ∷ bytes) else if is_no_digit c then (b - 48) ∷ digit_pieces bytes else ((b - 48) * 10 + (c - 48)) ∷ digit_pieces bytes
 
 -- the year, the first piece, and the others
 abbrev pub year_piece : List ℕ → Result (ℕ × List ℕ) MomentFault

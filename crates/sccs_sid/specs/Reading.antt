@@ -8,9 +8,9 @@ abbrev pub ◌>>=◌ : {A B E : Type 0} → Result A E → (A → Result B E) �
 (Err e) >>= f = Err e
 
 -- what a function returned, seen by view, is what reading gives
-abbrev pub Gives : {X Y E : Type 0} → (X → Y) → Result X E → Result Y E → Type 0
-Gives view (Ok x) read = read ≡ Ok (view x)
-Gives view (Err e) read = read ≡ Err e
+abbrev pub GivesRead : {X Y E : Type 0} → (X → Y) → Result X E → Result Y E → Type 0
+GivesRead view (Ok x) read = read ≡ Ok (view x)
+GivesRead view (Err e) read = read ≡ Err e
 
 -- up to `most` more digits after those of a number, and the bytes after them
 unfoldable pub digits_after : ℕ → ℕ → List ℕ → ℕ × List ℕ

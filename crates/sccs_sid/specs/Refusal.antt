@@ -4,7 +4,7 @@ use Rattle.std.specs.Fmt.{decimal}
 use Rattle.sccs_sid.specs.Moment.{two}
 use Rattle.sccs_sid.specs.Sid.{sid_text}
 use Rattle.sccs_sid.specs.declared.refusals.Refusal.{Refusal}
-use Rattle.sccs_sid.specs.declared.refusals.Refusal.TheVariants.{BadName, Locked, Missing, Exists, TooLong, NotSccs, BadSum, BadFormat, Encoded, BadPfile, Disagree, NotAllowed, NoEdit, ManyEdits, NoSid, BadList, OutsideRelease, LockedRelease, BeingEdited, BadScript, ScriptRange, BadText, NoKeywords, GExists, GDiffers, FlagBad, MrNeeded, MrNotAllowed, Unsupported, NotTip, NotOwner, Full, Changed, BadRcs, BadRevision, RcsScript, GroupPending, BadIntent, Unbuilt}
+use Rattle.sccs_sid.specs.declared.refusals.Refusal.TheVariants.{BadName, Locked, Missing, Exists, TooLong, NotSccs, BadSum, BadFormat, Encoded, BadPfile, Disagree, NotAllowed, NoEdit, ManyEdits, NoSid, BadList, OutsideRelease, LockedRelease, BeingEdited, BadScript, ScriptRange, BadText, NoKeywords, GExists, GDiffers, FlagBad, MrNeeded, MrNotAllowed, Unsupported, NotTip, NotOwner, Full, Changed, BadRcs, BadRevision, RcsScript, GroupPending, BadIntent}
 
 -- that of a list of SIDs, whichever SID it names
 abbrev pub bad_list_number : ℕ
@@ -50,15 +50,14 @@ number_of (BadRevision revision) = 36
 number_of (RcsScript revision line) = 37
 number_of GroupPending = 38
 number_of (BadIntent line) = 39
-number_of Unbuilt = 99
 
 -- the last five digits
-unfoldable pub five : ℕ → List ℕ
-five n = (48 + n / 10000 % 10) ∷ (48 + n / 1000 % 10) ∷ (48 + n / 100 % 10) ∷ (48 + n / 10 % 10) ∷ (48 + n % 10) ∷ []
+unfoldable pub last_five : ℕ → List ℕ
+last_five n = (48 + n / 10000 % 10) ∷ (48 + n / 1000 % 10) ∷ (48 + n / 100 % 10) ∷ (48 + n / 10 % 10) ∷ (48 + n % 10) ∷ []
 
 -- the stored sum and the computed one
 abbrev pub sums_text : ℕ → ℕ → List ℕ
-sums_text stored computed = five stored ++ (codes ", computed " ++ five computed)
+sums_text stored computed = last_five stored ++ (codes ", computed " ++ last_five computed)
 
 -- a line of a script, and how many lines the text has
 abbrev pub script_range : ℕ → ℕ → List ℕ
@@ -108,7 +107,6 @@ reason (BadRevision revision) = codes "revision " ++ (decimal revision ++ codes 
 reason (RcsScript revision line) = codes "revision " ++ script_fault revision line
 reason GroupPending = codes "a group is pending"
 reason (BadIntent line) = codes "format error in intent at line " ++ decimal line
-reason Unbuilt = codes "not built yet"
 
 -- the line of a file: what is wrong, and the digits of a number in parentheses
 abbrev pub line_of : List ℕ → List ℕ → List ℕ → List ℕ

@@ -22,16 +22,16 @@ pub record IsSid (sid : Sid) : Type 0 where
   pub branch : IsBranch sid.branch sid.sequence
 
 -- the end, or a dot and more numbers
-abbrev pub ended : (List ℕ → List ℕ → Result (List ℕ) ℕ) → List ℕ → List ℕ → Result (List ℕ) ℕ
-ended more found [] = Ok found
-ended more found (b ∷ bytes) = byte_at 46 (b ∷ bytes) >>= more found
+abbrev pub ended_sid : (List ℕ → List ℕ → Result (List ℕ) ℕ) → List ℕ → List ℕ → Result (List ℕ) ℕ
+ended_sid more found [] = Ok found
+ended_sid more found (b ∷ bytes) = byte_at 46 (b ∷ bytes) >>= more found
 
 -- after the numbers that were found, one to `most` more of one to four digits with a dot between two
 unfoldable pub numbers_after : ℕ → List ℕ → List ℕ → Result (List ℕ) ℕ
 numbers_after zero found bytes = Err 0
 numbers_after (suc most) found bytes = do
   n ← number_at 4 bytes
-  ended (numbers_after most) (found ++ n.0 ∷ []) n.1
+  ended_sid (numbers_after most) (found ++ n.0 ∷ []) n.1
 
 -- one to four numbers of one to four digits with a dot between two
 abbrev pub numbers : List ℕ → Result (List ℕ) ℕ

@@ -87,18 +87,18 @@ unfoldable pub list_of : List ℕ → Result (List Range) ℕ
 list_of bytes = placed bytes (ranges_of (length bytes + 1) bytes)
 
 -- what is read, unless there was no memory
-abbrev pub Reads : Result (List Range) ListFault → Result (List Range) ℕ → Type 0
-Reads (Ok ranges) read = read ≡ Ok ranges
-Reads (Err (Malformed place)) read = read ≡ Err place
-Reads (Err Memory) read = Unit {0}
+abbrev pub ReadsRanges : Result (List Range) ListFault → Result (List Range) ℕ → Type 0
+ReadsRanges (Ok ranges) read = read ≡ Ok ranges
+ReadsRanges (Err (Malformed place)) read = read ≡ Err place
+ReadsRanges (Err Memory) read = Unit {0}
 
 -- whether two SIDs are one
-abbrev pub same_sid : Sid → Sid → Bool
-same_sid a b = (a.release == b.release) && (a.level == b.level) && (a.branch == b.branch) && (a.sequence == b.sequence)
+abbrev pub is_same_sid : Sid → Sid → Bool
+is_same_sid a b = (a.release == b.release) && (a.level == b.level) && (a.branch == b.branch) && (a.sequence == b.sequence)
 
 -- the written spelling of a range: one SID where the ends are equal, else both with a dash between them
 unfoldable pub range_text : Range → List ℕ
-range_text range = sid_text range.first ++ (if same_sid range.first range.last then [] else 45 ∷ sid_text range.last)
+range_text range = sid_text range.first ++ (if is_same_sid range.first range.last then [] else 45 ∷ sid_text range.last)
 
 -- the written spelling of a list: the ranges with a comma between two
 unfoldable pub list_text : List Range → List ℕ

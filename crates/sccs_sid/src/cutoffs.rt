@@ -2,7 +2,7 @@ ghost use Rattle.std.specs.Prelude.{◌≡◌, ◌<◌, ◌≤◌, IfOk, IfSome,
 ghost use Rattle.jiff_core.specs.Calendar.{days_in_month};
 ghost use Rattle.sccs_sid.specs.Cutoff.{piece_at, year_by, unit_by, cutoff_of};
 ghost use Rattle.sccs_sid.specs.Moment.{IsMoment};
-ghost use Rattle.sccs_sid.specs.Reading.{Gives};
+ghost use Rattle.sccs_sid.specs.Reading.{GivesRead};
 
 use crate::dates::{full_year, last_day, second_of, within};
 use crate::moments::{Moment, MomentFault};
@@ -13,7 +13,7 @@ pub struct Cutoff;
 
 // the next one or two digits, and the bytes after them
 fn piece_at(bytes: &[u8]) -> Result<(u32, &[u8]), usize>
-    ensures value { Gives (λ x. (x.0, x.1.now)) result (piece_at bytes.now) }
+    ensures value { GivesRead (λ x. (x.0, x.1.now)) result (piece_at bytes.now) }
     ensures small { IfOk result (λ x. x.0 < 100) }
 {
     number_at(2, from_digit(bytes))
@@ -21,7 +21,7 @@ fn piece_at(bytes: &[u8]) -> Result<(u32, &[u8]), usize>
 
 // the year, and the bytes after it
 fn year_at(bytes: &[u8]) -> Result<(u32, &[u8]), MomentFault>
-    ensures value { Gives (λ x. (x.0, x.1.now)) result (year_by (piece_at bytes.now)) }
+    ensures value { GivesRead (λ x. (x.0, x.1.now)) result (year_by (piece_at bytes.now)) }
     ensures small { IfOk result (λ x. x.0 < 100) }
 {
     let Ok((number, rest)) = piece_at(bytes) else {
@@ -33,7 +33,7 @@ fn year_at(bytes: &[u8]) -> Result<(u32, &[u8]), MomentFault>
 // another unit, and the bytes after it: where no piece is left it has its greatest value
 fn unit_at(place: u64, low: u32, high: u32, bytes: &[u8]) -> Result<(u32, &[u8]), MomentFault>
     requires { low ≤ high }
-    ensures value { Gives (λ x. (x.0, x.1.now)) result (unit_by place low high (piece_at bytes.now)) }
+    ensures value { GivesRead (λ x. (x.0, x.1.now)) result (unit_by place low high (piece_at bytes.now)) }
     ensures low { IfOk result (λ x. low ≤ x.0) }
     ensures high { IfOk result (λ x. x.0 ≤ high) }
 {

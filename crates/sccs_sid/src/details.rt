@@ -1,6 +1,6 @@
 ghost use Rattle.std.specs.Prelude.{◌≡◌, ◌+◌, ◌≤◌, ◌++◌, length, take, decimal};
 ghost use Rattle.sccs_sid.specs.Detail.{detail_text};
-ghost use Rattle.sccs_sid.specs.Refusal.{five};
+ghost use Rattle.sccs_sid.specs.Refusal.{last_five};
 ghost use Rattle.sccs_sid.specs.Sid.{sid_text};
 
 use crate::sids::Sid;
@@ -22,9 +22,9 @@ pub enum Detail {
 }
 
 // the last five digits
-#[tactic(auto, unfolding(crate::specs::Refusal::five))]
+#[tactic(auto, unfolding(crate::specs::Refusal::last_five))]
 fn five(number: u32) -> [u8; 5]
-    ensures { result ≡ five number }
+    ensures { result ≡ last_five number }
 {
     [
         b'0' + (number / 10000 % 10) as u8,

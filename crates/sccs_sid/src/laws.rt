@@ -2,7 +2,7 @@
 ghost use Rattle.std.specs.Prelude.{◌≡◌, ◌<◌, ◌≤◌, ◌+◌, ◌-◌, List, ℕ, ◌∷◌, ◌++◌, length, take, Ok, Err, All};
 ghost use Rattle.sccs_sid.specs.declared.sid_lists.Range.{Range};
 ghost use Rattle.sccs_sid.specs.declared.sids.Spec.{Spec};
-ghost use Rattle.sccs_sid.specs.Cutoff.{cutoff_of, pieces, of_pieces};
+ghost use Rattle.sccs_sid.specs.Cutoff.{cutoff_of, digit_pieces, of_pieces};
 ghost use Rattle.sccs_sid.specs.SidLists.{IsRange, list_of, list_text};
 ghost use Rattle.sccs_sid.specs.Spec.{IsSpec, spec_of, spec_text};
 
@@ -38,5 +38,5 @@ pub fn list_fault_stays()
 
 /// A cutoff is read by its pieces: the numbers of one or two digits that stand in the bytes.
 pub fn cutoff_by_pieces()
-    ensures { (bytes : List ℕ) → cutoff_of bytes ≡ of_pieces (pieces bytes) }
+    ensures { (bytes : List ℕ) → cutoff_of bytes ≡ of_pieces (digit_pieces bytes) }
 {}

@@ -1,7 +1,7 @@
 //! Reading from left to right: a field and the bytes after it, or how many bytes were left where
 //! nothing goes on.
 ghost use Rattle.std.specs.Prelude.{◌≡◌, ◌+◌, ◌*◌, ◌^◌, ◌<◌, ◌≤◌, length, option_map, IfOk, IfErr, IfSome};
-ghost use Rattle.sccs_sid.specs.Reading.{Gives, digits_after, number_at, byte_at, number, until, behind, is_no_digit, from_digit};
+ghost use Rattle.sccs_sid.specs.Reading.{GivesRead, digits_after, number_at, byte_at, number, until, behind, is_no_digit, from_digit};
 
 // up to `most` more digits after those of a number, and the bytes after them
 fn digits_after(most: u32, high: u64, bytes: &[u8]) -> (u64, &[u8])
@@ -29,7 +29,7 @@ fn digits_after(most: u32, high: u64, bytes: &[u8]) -> (u64, &[u8])
 pub fn wide_number_at(most: u32, bytes: &[u8]) -> Result<(u64, &[u8]), usize>
     requires low { 0 < most }
     requires high { most ≤ 19 }
-    ensures value { Gives (λ x. (x.0, x.1.now)) result (number_at most bytes.now) }
+    ensures value { GivesRead (λ x. (x.0, x.1.now)) result (number_at most bytes.now) }
     ensures small { IfOk result (λ x. x.0 < 10 ^ most) }
     ensures shorter { IfOk result (λ x. length x.1.now < length bytes.now) }
     ensures left { IfErr result (λ left. left ≤ length bytes.now) }
@@ -47,7 +47,7 @@ pub fn wide_number_at(most: u32, bytes: &[u8]) -> Result<(u64, &[u8]), usize>
 pub fn number_at(most: u32, bytes: &[u8]) -> Result<(u32, &[u8]), usize>
     requires low { 0 < most }
     requires high { most ≤ 9 }
-    ensures value { Gives (λ x. (x.0, x.1.now)) result (number_at most bytes.now) }
+    ensures value { GivesRead (λ x. (x.0, x.1.now)) result (number_at most bytes.now) }
     ensures small { IfOk result (λ x. x.0 < 10 ^ most) }
     ensures shorter { IfOk result (λ x. length x.1.now < length bytes.now) }
     ensures left { IfErr result (λ left. left ≤ length bytes.now) }
@@ -61,7 +61,7 @@ pub fn number_at(most: u32, bytes: &[u8]) -> Result<(u32, &[u8]), usize>
 /// This one byte.
 #[tactic(auto, unfolding(crate::specs::Reading::byte_at))]
 pub fn byte_at(wanted: u8, bytes: &[u8]) -> Result<&[u8], usize>
-    ensures value { Gives (λ x. x.now) result (byte_at wanted bytes.now) }
+    ensures value { GivesRead (λ x. x.now) result (byte_at wanted bytes.now) }
     ensures shorter { IfOk result (λ x. length x.now < length bytes.now) }
     ensures left { IfErr result (λ left. left ≤ length bytes.now) }
 {

@@ -87,8 +87,6 @@ pub enum Refusal {
     GroupPending,
     /// The first line at which no spelling of such a change goes on.
     BadIntent(u64),
-    /// This isn't built yet.
-    Unbuilt,
 }
 
 /// Why a step ended early: it was refused, there was no memory, or an outside object failed.
@@ -146,7 +144,6 @@ impl Refusal {
             Refusal::RcsScript(_, _) => 37,
             Refusal::GroupPending => 38,
             Refusal::BadIntent(_) => 39,
-            Refusal::Unbuilt => 99,
         }
     }
 }
@@ -210,7 +207,6 @@ fn wording(refusal: &Refusal) -> (&'static [u8], Detail, &'static [u8])
             Detail::Number(line),
             b"",
         ),
-        Refusal::Unbuilt => (b"not built yet", Detail::Nothing, b""),
     }
 }
 

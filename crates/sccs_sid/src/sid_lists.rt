@@ -1,7 +1,7 @@
 ghost use Rattle.std.specs.Prelude.{◌≡◌, ◌+◌, ◌<◌, ◌≤◌, List, [], Some, length, insert, remove, slice_get, option_map, All, IfOk, IfErr, IfSome, OnOk, OnErr};
-ghost use Rattle.sccs_sid.specs.Reading.{Gives};
+ghost use Rattle.sccs_sid.specs.Reading.{GivesRead};
 ghost use Rattle.sccs_sid.specs.Sid.{IsComponent, IsSid};
-ghost use Rattle.sccs_sid.specs.SidLists.{IsRange, zero_fault, component_at, begins, branch_at, sid_at, last_at, range_at, after_range, piece_at, list_of, Reads};
+ghost use Rattle.sccs_sid.specs.SidLists.{IsRange, zero_fault, component_at, begins, branch_at, sid_at, last_at, range_at, after_range, piece_at, list_of, ReadsRanges};
 
 use crate::reading::{byte_at, number_at};
 use crate::sids::Sid;
@@ -67,7 +67,7 @@ fn begins(wanted: u8, bytes: &[u8]) -> bool
 // one to four digits, of a number from 1 on
 #[tactic(auto, unfolding(crate::specs::SidLists::component_at))]
 fn component_at(bytes: &[u8]) -> Result<(u16, &[u8]), usize>
-    ensures value { Gives (λ x. (x.0, x.1.now)) result (component_at bytes.now) }
+    ensures value { GivesRead (λ x. (x.0, x.1.now)) result (component_at bytes.now) }
     ensures valid { IfOk result (λ x. IsComponent x.0) }
     ensures shorter { IfOk result (λ x. length x.1.now < length bytes.now) }
     ensures left { IfErr result (λ left. left ≤ length bytes.now) }
@@ -84,7 +84,7 @@ fn component_at(bytes: &[u8]) -> Result<(u16, &[u8]), usize>
 fn branch_at(release: u16, level: u16, bytes: &[u8]) -> Result<(Sid, &[u8]), usize>
     requires release { IsComponent release }
     requires level { IsComponent level }
-    ensures value { Gives (λ x. (x.0, x.1.now)) result (branch_at release level bytes.now) }
+    ensures value { GivesRead (λ x. (x.0, x.1.now)) result (branch_at release level bytes.now) }
     ensures valid { IfOk result (λ x. IsSid x.0) }
     ensures shorter { IfOk result (λ x. length x.1.now < length bytes.now) }
     ensures left { IfErr result (λ left. left ≤ length bytes.now) }
@@ -105,7 +105,7 @@ fn branch_at(release: u16, level: u16, bytes: &[u8]) -> Result<(Sid, &[u8]), usi
 // R.L, or R.L.B.S where a dot follows
 #[tactic(auto, unfolding(crate::specs::SidLists::sid_at))]
 fn sid_at(bytes: &[u8]) -> Result<(Sid, &[u8]), usize>
-    ensures value { Gives (λ x. (x.0, x.1.now)) result (sid_at bytes.now) }
+    ensures value { GivesRead (λ x. (x.0, x.1.now)) result (sid_at bytes.now) }
     ensures valid { IfOk result (λ x. IsSid x.0) }
     ensures shorter { IfOk result (λ x. length x.1.now < length bytes.now) }
     ensures left { IfErr result (λ left. left ≤ length bytes.now) }
@@ -129,7 +129,7 @@ fn sid_at(bytes: &[u8]) -> Result<(Sid, &[u8]), usize>
 #[tactic(auto, unfolding(crate::specs::SidLists::last_at))]
 fn last_at(first: Sid, bytes: &[u8]) -> Result<(Range, &[u8]), usize>
     requires { IsSid first }
-    ensures value { Gives (λ x. (x.0, x.1.now)) result (last_at first bytes.now) }
+    ensures value { GivesRead (λ x. (x.0, x.1.now)) result (last_at first bytes.now) }
     ensures valid { IfOk result (λ x. IsRange x.0) }
     ensures shorter { IfOk result (λ x. length x.1.now < length bytes.now) }
     ensures left { IfErr result (λ left. left ≤ length bytes.now) }
@@ -142,7 +142,7 @@ fn last_at(first: Sid, bytes: &[u8]) -> Result<(Range, &[u8]), usize>
 // one SID, or two where a dash follows
 #[tactic(auto, unfolding(crate::specs::SidLists::range_at))]
 fn range_at(bytes: &[u8]) -> Result<(Range, &[u8]), usize>
-    ensures value { Gives (λ x. (x.0, x.1.now)) result (range_at bytes.now) }
+    ensures value { GivesRead (λ x. (x.0, x.1.now)) result (range_at bytes.now) }
     ensures valid { IfOk result (λ x. IsRange x.0) }
     ensures shorter { IfOk result (λ x. length x.1.now < length bytes.now) }
     ensures left { IfErr result (λ left. left ≤ length bytes.now) }
@@ -157,7 +157,7 @@ fn range_at(bytes: &[u8]) -> Result<(Range, &[u8]), usize>
 // a range, and the bytes after its comma, where one follows
 #[tactic(auto, unfolding(crate::specs::SidLists::piece_at))]
 fn piece_at(bytes: &[u8]) -> Result<(Range, Option<&[u8]>), usize>
-    ensures value { Gives (λ x. (x.0, option_map (λ rest. rest.now) x.1)) result (piece_at bytes.now) }
+    ensures value { GivesRead (λ x. (x.0, option_map (λ rest. rest.now) x.1)) result (piece_at bytes.now) }
     ensures valid { IfOk result (λ x. IsRange x.0) }
     ensures shorter { IfOk result (λ x. IfSome x.1 (λ rest. length rest.now < length bytes.now)) }
     ensures left { IfErr result (λ left. left ≤ length bytes.now) }
@@ -222,7 +222,7 @@ impl SidList {
     /// with a dash between them. Malformed exactly for other bytes, with the place, from 1, of
     /// the first byte at which no list goes on.
     pub fn read(alloc: Global, bytes: &[u8]) -> Result<SidList, ListFault>
-        ensures value { Reads result (list_of bytes.now) }
+        ensures value { ReadsRanges result (list_of bytes.now) }
         ensures valid { IfOk result (All IsRange) }
     {
         let mut ranges = ListOf::empty(alloc);

@@ -2,7 +2,7 @@ ghost use Rattle.std.specs.Prelude.{◌≡◌, ◌<◌, ◌≤◌, Ok, [], ◌�
 ghost use Rattle.sccs_base.specs.Causes.{GivesText};
 ghost use Rattle.sccs_sid.specs.declared.sids.Sid.{Sid};
 ghost use Rattle.sccs_sid.specs.Numbers.{number_list, AreLow};
-ghost use Rattle.sccs_sid.specs.Reading.{Gives};
+ghost use Rattle.sccs_sid.specs.Reading.{GivesRead};
 ghost use Rattle.sccs_sid.specs.Sid.{IsSid, numbers_after, numbers, sid_of_numbers, sid_of, sid_text};
 ghost use Rattle.sccs_sid.specs.Spec.{IsSpec, spec_of_numbers, spec_of};
 
@@ -52,7 +52,7 @@ fn fourth_number(first: u32, second: u32, third: u32, bytes: &[u8]) -> Result<Nu
     requires first { first < 10000 }
     requires second { second < 10000 }
     requires third { third < 10000 }
-    ensures value { Gives number_list result
+    ensures value { GivesRead number_list result
         (numbers_after 1 (first ∷ second ∷ third ∷ []) bytes.now) }
     ensures low { IfOk result AreLow }
 {
@@ -68,7 +68,7 @@ fn fourth_number(first: u32, second: u32, third: u32, bytes: &[u8]) -> Result<Nu
 fn third_number(first: u32, second: u32, bytes: &[u8]) -> Result<Numbers, usize>
     requires first { first < 10000 }
     requires second { second < 10000 }
-    ensures value { Gives number_list result (numbers_after 2 (first ∷ second ∷ []) bytes.now) }
+    ensures value { GivesRead number_list result (numbers_after 2 (first ∷ second ∷ []) bytes.now) }
     ensures low { IfOk result AreLow }
 {
     let (third, rest) = number_at(4, bytes)?;
@@ -82,7 +82,7 @@ fn third_number(first: u32, second: u32, bytes: &[u8]) -> Result<Numbers, usize>
 #[tactic(auto, unfolding(crate::specs::Sid::numbers_after))]
 fn second_number(first: u32, bytes: &[u8]) -> Result<Numbers, usize>
     requires { first < 10000 }
-    ensures value { Gives number_list result (numbers_after 3 (first ∷ []) bytes.now) }
+    ensures value { GivesRead number_list result (numbers_after 3 (first ∷ []) bytes.now) }
     ensures low { IfOk result AreLow }
 {
     let (second, rest) = number_at(4, bytes)?;
@@ -96,7 +96,7 @@ fn second_number(first: u32, bytes: &[u8]) -> Result<Numbers, usize>
 // one to four numbers with a dot between two
 #[tactic(auto, unfolding(crate::specs::Sid::numbers_after))]
 fn read_numbers(bytes: &[u8]) -> Result<Numbers, usize>
-    ensures value { Gives number_list result (numbers bytes.now) }
+    ensures value { GivesRead number_list result (numbers bytes.now) }
     ensures low { IfOk result AreLow }
 {
     let (first, rest) = number_at(4, bytes)?;

@@ -1,0 +1,3 @@
+pub mod DropLaws
+pub mod SoakCourses
+pub mod SummaryLaws

@@ -1,2 +1,9 @@
+pub mod Commands
+pub mod Counting
 pub mod Draws
+pub mod Dropping
+pub mod Keeps
+pub mod Runs
+pub mod Soak
+pub mod Summaries
 pub mod Turns

@@ -19,15 +19,15 @@ lines_after lines (Delete place) = lines - 1
 lines_after lines Branch = lines
 
 -- the line of a round, as the text of a command of ed
-abbrev pub new_line : ℕ → List ℕ
-new_line round = codes "line " ++ (decimal round ++ codes "\n.\n")
+abbrev pub round_line : ℕ → List ℕ
+round_line round = codes "line " ++ (decimal round ++ codes "\n.\n")
 
 -- the script of a round's delta, in the language of ed
 abbrev pub script_of : ℕ → Turn → List ℕ
-script_of round (Add place) = decimal place ++ (codes "a\n" ++ new_line round)
-script_of round (Change place) = decimal place ++ (codes "c\n" ++ new_line round)
+script_of round (Add place) = decimal place ++ (codes "a\n" ++ round_line round)
+script_of round (Change place) = decimal place ++ (codes "c\n" ++ round_line round)
 script_of round (Delete place) = decimal place ++ codes "d\n"
-script_of round Branch = decimal 0 ++ (codes "a\n" ++ new_line round)
+script_of round Branch = decimal 0 ++ (codes "a\n" ++ round_line round)
 
 -- whether the round's edit begins a branch
 abbrev pub begins_branch : Turn → Bool

@@ -1,5 +1,5 @@
 ghost use Rattle.std.specs.Prelude.{◌≡◌, ◌<◌, ◌++◌, IfOk, OnOk, codes, decimal};
-ghost use Rattle.sccs_soak.specs.Turns.{begins_branch, lines_after, new_line, script_of, turn_of};
+ghost use Rattle.sccs_soak.specs.Turns.{begins_branch, lines_after, round_line, script_of, turn_of};
 
 use itoa::Buffer;
 use sccs_base::{Bytes, Memory};
@@ -59,7 +59,7 @@ impl Turn {
 
 // puts a number and a word, and behind them the line of a round
 fn line_command(text: &mut Vec<u8>, place: u64, word: &[u8], round: u64) -> Result<(), Memory>
-    ensures { OnOk result (text.new.items ≡ text.old.items ++ (decimal place ++ (word.now ++ new_line round))) }
+    ensures { OnOk result (text.new.items ≡ text.old.items ++ (decimal place ++ (word.now ++ round_line round))) }
 {
     text.extend_from_slice(Buffer::new().format(place).as_bytes())?;
     text.extend_from_slice(word)?;

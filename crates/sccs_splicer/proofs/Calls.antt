@@ -12,7 +12,7 @@ use Rattle.sccs_writers.specs.Puts.{PutsText, Writer}
 use Rattle.sccs_writers.specs.Spelled.{spelled}
 use Rattle.sccs_writers.proofs.OneFile.{only_none}
 use Rattle.sccs_writers.proofs.PutLaws.{puts_nothing, text_both, text_cut}
-use Rattle.sccs_splicer.specs.Splices.{due_lines, Goes, marked_items, may_join, settled, settled_items, Splices, State}
+use Rattle.sccs_splicer.specs.Splices.{due_lines, SplicesOn, marked_items, may_join, settled_splice, settled_items, Splices, SplicerState}
 use Rattle.sccs_edits.specs.Plans.{added_after}
 use Rattle.sccs_splicer.proofs.Spelling.{spelled_block, spelled_both, spelled_one}
 
@@ -20,7 +20,7 @@ use Rattle.sccs_splicer.proofs.Spelling.{spelled_block, spelled_both, spelled_on
 pub nothing_put : (items : List Item) → items ≡ [] → (w : Writer) (t : Told) (f : ℕ) → PutsText {T = Unit {0}} (spelled items) w w t t f f (Ok tt)
 nothing_put items none w t f = subst (λ l. PutsText {T = Unit {0}} (spelled l) w w t t f f (Ok tt)) (sym none) (puts_nothing w t f)
 
-pub due_none : (s : State) → s.due ≡ false → due_lines s ≡ []
+pub due_none : (s : SplicerState) → s.due ≡ false → due_lines s ≡ []
 due_none s is = ap (λ b. cond b (block s.serial (added_after s.line s.plan.added)) []) is
 
 pub front_none : (t : Bool) (item : Item) → t ≡ false → front_if t item [] ≡ []
@@ -35,7 +35,7 @@ front_both true x xs ys = refl
 front_both false x xs ys = refl
 
 -- what is put before the next text item, part by part
-pub settled_text : (s : State) (goes : Bool) → (spelled (front_if (s.opened && not goes) (End s.serial) []) ++ spelled (due_lines s)) ++ spelled s.held ≡ spelled (settled_items s goes)
+pub settled_text : (s : SplicerState) (goes : Bool) → (spelled (front_if (s.opened && not goes) (End s.serial) []) ++ spelled (due_lines s)) ++ spelled s.held ≡ spelled (settled_items s goes)
 settled_text s goes =
     let front : List Item = front_if (s.opened && not goes) (End s.serial) [] in
     ap (λ l. l ++ spelled s.held) (sym (spelled_both front (due_lines s)))
@@ -51,10 +51,10 @@ pub more_text : (items : List Item) (item : Item) → spelled items ++ ended (it
 more_text items item = ap (λ l. spelled items ++ l) (sym (spelled_one item)) ∙ sym (spelled_both items (item ∷ []))
 
 -- the parts of a line of the base
-pub line_text : (s s2 : State) (goes : Bool) (text : List ℕ) → goes ≡ may_join s → s2 ≡ settled s
+pub line_text : (s s2 : SplicerState) (goes : Bool) (text : List ℕ) → goes ≡ may_join s → s2 ≡ settled_splice s
     → spelled (settled_items s goes) ++ spelled (marked_items s2 goes text) ≡ spelled (settled_items s (may_join s) ++ marked_items s (may_join s) text)
 line_text s s2 goes text is same =
-    ap (λ (t : State). spelled (settled_items s goes) ++ spelled (marked_items t goes text)) same
+    ap (λ (t : SplicerState). spelled (settled_items s goes) ++ spelled (marked_items t goes text)) same
     ∙ (sym (spelled_both (settled_items s goes) (marked_items s goes text)) ∙ ap (λ t. spelled (settled_items s t ++ marked_items s t text)) is)
 
 pub block_text : (n : ℕ) (lines : List (List ℕ)) → (length lines ≡ 0 → ⊥) → (ended (item_line (Insert n)) ++ bytes_of lines) ++ ended (item_line (End n)) ≡ spelled (block n lines)
@@ -92,15 +92,15 @@ on_any P (Err refusal) p = tt
 on_err : {T : Type 0} (P : Type 0) (refusal : DiskRefusal) (r : Result T DiskRefusal) → r ≡ Err refusal → OnOk r P
 on_err P refusal r is = subst (λ (s : Result _ DiskRefusal). OnOk s P) (sym is) tt
 
-pub splices_cut : {T : Type 0} (pushed : List (Item × Bool)) (s s2 : State) (w w2 : Writer) (a b : Told) (f g : ℕ) (r : Result T DiskRefusal) (refusal : DiskRefusal)
+pub splices_cut : {T : Type 0} (pushed : List (Item × Bool)) (s s2 : SplicerState) (w w2 : Writer) (a b : Told) (f g : ℕ) (r : Result T DiskRefusal) (refusal : DiskRefusal)
     → r ≡ Err refusal → PutsText (spelled []) w w2 a b f g r → Splices pushed s s2 w w2 a b f g r
-splices_cut pushed s s2 w w2 a b f g r refusal is puts = record { items = []; puts = puts; goes = on_err (Goes pushed [] s s2) refusal r is }
+splices_cut pushed s s2 w w2 a b f g r refusal is puts = record { items = []; puts = puts; goes = on_err (SplicesOn pushed [] s s2) refusal r is }
 
 -- items are put, and the splicer goes on behind what was pushed
-pub splices_done : {T : Type 0} (pushed : List (Item × Bool)) (items : List Item) (s s2 s3 : State) (w w2 : Writer) (a b : Told) (f g : ℕ) (r : Result T DiskRefusal)
-    → Goes pushed items s s2 → OnOk r (s3 ≡ s2) → PutsText (spelled items) w w2 a b f g r → Splices pushed s s3 w w2 a b f g r
+pub splices_done : {T : Type 0} (pushed : List (Item × Bool)) (items : List Item) (s s2 s3 : SplicerState) (w w2 : Writer) (a b : Told) (f g : ℕ) (r : Result T DiskRefusal)
+    → SplicesOn pushed items s s2 → OnOk r (s3 ≡ s2) → PutsText (spelled items) w w2 a b f g r → Splices pushed s s3 w w2 a b f g r
 splices_done pushed items s s2 s3 w w2 a b f g r goes same puts = record { items = items; puts = puts; goes = on_ok r same }
   where
-    on_ok : {T : Type 0} (r : Result T DiskRefusal) → OnOk r (s3 ≡ s2) → OnOk r (Goes pushed items s s3)
-    on_ok (Ok done) same = subst (Goes pushed items s) (sym same) goes
+    on_ok : {T : Type 0} (r : Result T DiskRefusal) → OnOk r (s3 ≡ s2) → OnOk r (SplicesOn pushed items s s3)
+    on_ok (Ok done) same = subst (SplicesOn pushed items s) (sym same) goes
     on_ok (Err refusal) same = tt

@@ -7,7 +7,7 @@ use Rattle.sccs_history.specs.Numbers.{has}
 use Rattle.sccs_edits.specs.Plans.{added_after, IsInOrder, places_of, RisesFrom}
 use Rattle.sccs_edits.specs.declared.scripts.Added.{Added}
 use Rattle.sccs_edits.specs.declared.scripts.Plan.{Plan}
-use Rattle.sccs_splicer.specs.PlanPlaces.{is_next, next_place, Stands, StandsAt}
+use Rattle.sccs_splicer.specs.PlanPlaces.{is_next, next_place, Stands, StandsInPlan}
 
 rises_not : (b low : ℕ) (ns : List ℕ) → b < low → RisesFrom low ns → has ns b ≡ false
 rises_not b low [] lt rises = refl
@@ -88,12 +88,12 @@ added_other b j added a stands is apart =
 pub added_past : (b j : ℕ) (added : List Added) → Stands b j (places_of added) → length added ≤ j → [] ≡ added_after b added
 added_past b j added stands past = sym (added_next b j added stands ∙ ap (λ o. next_lines o b) (slice_get_past added j past))
 
-pub begins_at : (p : Plan) → IsInOrder p → StandsAt p 0 0 0
+pub begins_at : (p : Plan) → IsInOrder p → StandsInPlan p 0 0 0
 begins_at p order = record { deleted = record { before = tt; behind = order.deleted }; added = record { before = tt; behind = order.added } }
 
 -- both places, behind the next line
-pub stood_at : (p : Plan) (line i j i2 j2 : ℕ) (deleted added : Option ℕ) → StandsAt p line i j → deleted ≡ slice_get p.deleted i → added ≡ slice_get (places_of p.added) j
-    → i2 ≡ next_place deleted i (line + 1) → j2 ≡ next_place added j line → StandsAt p (line + 1) i2 j2
+pub stood_at : (p : Plan) (line i j i2 j2 : ℕ) (deleted added : Option ℕ) → StandsInPlan p line i j → deleted ≡ slice_get p.deleted i → added ≡ slice_get (places_of p.added) j
+    → i2 ≡ next_place deleted i (line + 1) → j2 ≡ next_place added j line → StandsInPlan p (line + 1) i2 j2
 stood_at p line i j i2 j2 deleted added stands deleted_is added_is i2_is j2_is =
     let more : suc line ≡ line + 1 = omega arith in
     record {

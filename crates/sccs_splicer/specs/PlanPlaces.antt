@@ -15,7 +15,7 @@ pub record Stands (bound place : ℕ) (numbers : List ℕ) : Type 0 where
   pub behind : RisesFrom bound (drop place numbers)
 
 -- the places in both lists of a plan
-pub record StandsAt (p : Plan) (line deleted_at added_at : ℕ) : Type 0 where
+pub record StandsInPlan (p : Plan) (line deleted_at added_at : ℕ) : Type 0 where
   pub deleted : Stands (suc line) deleted_at p.deleted
   pub added : Stands line added_at (places_of p.added)
 

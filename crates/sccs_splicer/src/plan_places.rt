@@ -21,13 +21,13 @@ pub struct PlanPlace {
 }
 
 impl Model for PlanPlace {
-    ghost use Rattle.sccs_splicer.specs.PlanPlaces.{Passed, StandsAt};
+    ghost use Rattle.sccs_splicer.specs.PlanPlaces.{Passed, StandsInPlan};
 
     ghost Value = { Passed };
 
     ghost view = { λ p. record { plan = p.plan; line = p.line } };
 
-    ghost invariant = { λ p. StandsAt p.plan p.line p.deleted_at p.added_at };
+    ghost invariant = { λ p. StandsInPlan p.plan p.line p.deleted_at p.added_at };
 }
 
 // the number at a place, where there is one

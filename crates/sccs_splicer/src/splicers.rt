@@ -5,7 +5,7 @@ ghost use Rattle.sccs_edits.specs.Plans.{added_count, IsInOrder};
 ghost use Rattle.sccs_history.specs.declared.headers.Item.TheVariants as items;
 ghost use Rattle.sccs_writers.specs.Puts.{PutsText};
 ghost use Rattle.sccs_writers.specs.Spelled.{spelled};
-ghost use Rattle.sccs_splicer.specs.Splices.{begun, due_lines, holding, IsControl, marked_items, may_join, owed, passed, settled, settled_items, Splices};
+ghost use Rattle.sccs_splicer.specs.Splices.{new_splice, due_lines, holding, IsControl, marked_items, may_join, items_owed, passed, settled_splice, settled_items, Splices};
 
 use crate::parts::{put_block, put_if};
 use crate::plan_places::PlanPlace;
@@ -29,9 +29,9 @@ pub struct Splicer {
 }
 
 impl Model for Splicer {
-    ghost use Rattle.sccs_splicer.specs.Splices.{State};
+    ghost use Rattle.sccs_splicer.specs.Splices.{SplicerState};
 
-    ghost Value = { State };
+    ghost Value = { SplicerState };
 
     ghost view = { λ s. record { serial = s.serial; plan = s.at.plan; line = s.at.line; opened = s.opened; due = s.due; held = s.held.items } };
 }
@@ -54,7 +54,7 @@ impl Splicer {
     /// Before all items, with the serial of the new delta and the plan of its script.
     pub fn new(alloc: Global, serial: u16, plan: Plan) -> Splicer
         requires { IsInOrder plan }
-        ensures { result ≡ begun serial plan }
+        ensures { result ≡ new_splice serial plan }
     {
         Splicer {
             serial,
@@ -116,7 +116,7 @@ impl Splicer {
         requires { IsThere out.old.name (D.told disk.old) }
         ensures puts { PutsText (spelled (settled_items self.old goes)) out.old out.new (D.told disk.old) (D.told disk.new)
             (D.faults disk.old) (D.faults disk.new) result }
-        ensures ok { OnOk result (self.new ≡ settled self.old) }
+        ensures ok { OnOk result (self.new ≡ settled_splice self.old) }
     {
         if let Err(fault) = self.put_owed(goes, out, disk) {
             return Err(fault);
@@ -263,9 +263,9 @@ impl Splicer {
     /// were pushed as visible, else some of its lines are left out.
     pub fn finish<D: Disk>(&mut self, out: &mut ItemWriter, disk: &mut D) -> Result<(), DiskRefusal>
         requires { IsThere out.old.name (D.told disk.old) }
-        ensures puts { PutsText (spelled (owed self.old [])) out.old out.new (D.told disk.old) (D.told disk.new)
+        ensures puts { PutsText (spelled (items_owed self.old [])) out.old out.new (D.told disk.old) (D.told disk.new)
             (D.faults disk.old) (D.faults disk.new) result }
-        ensures same { OnOk result (self.new ≡ settled self.old) }
+        ensures same { OnOk result (self.new ≡ settled_splice self.old) }
     {
         self.settle(false, out, disk)
     }

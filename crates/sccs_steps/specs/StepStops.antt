@@ -50,8 +50,8 @@ place_as code (Err WriteFault) n o a b (inl kept) = Before
 place_as code (Err WriteFault) n o a b (inr cut) = After
 place_as code (Err DiskFault) n o a b met = Within
 
-abbrev pub place_of : (r : Result (Unit {0}) StepFault) → (n : List ℕ) → (o : Outcome) → (a b : World) → Meets (λ (done : Unit {0}). 0) r n o a b → Place
-place_of r n o a b met = place_as (λ (done : Unit {0}). 0) r n o a b met
+abbrev pub meeting_place : (r : Result (Unit {0}) StepFault) → (n : List ℕ) → (o : Outcome) → (a b : World) → Meets (λ (done : Unit {0}). 0) r n o a b → Place
+meeting_place r n o a b met = place_as (λ (done : Unit {0}). 0) r n o a b met
 
 -- From v, and to w where it is made; after it the name is safe again. Within it the name is safe in w, or all that a stop leaves
 -- recovers as v.

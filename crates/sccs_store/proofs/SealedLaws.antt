@@ -14,7 +14,7 @@ use Rattle.sccs_writers.specs.HeaderBytes.{header_bytes}
 use Rattle.sccs_writers.specs.Puts.{Appends}
 use Rattle.sccs_writers.specs.Spelled.{spelled}
 use Rattle.sccs_writers.proofs.HeaderLaws.{header_and}
-use Rattle.sccs_store.specs.Commits.{Becomes, summed}
+use Rattle.sccs_store.specs.Commits.{Becomes, with_sum_line}
 use Rattle.sccs_store.specs.SealedFiles.{sealed}
 use Rattle.sccs_store.proofs.Working.{altered_put, becomes_as, becomes_both}
 
@@ -24,7 +24,7 @@ abbrev content_of : List ℕ → Content
 content_of bytes = record { bytes = bytes; writable = false }
 
 sealed_bytes : (h : Header) (items : List Item) (body : List ℕ) (sum : ℕ) → body ≡ bytes_of (map item_line items) → sum ≡ plain_sum (header_bytes h ++ body)
-    → summed sum (appended (ended (sum_line 0) ++ header_bytes h ++ body) empty_file) ≡ sealed h items
+    → with_sum_line sum (appended (ended (sum_line 0) ++ header_bytes h ++ body) empty_file) ≡ sealed h items
 unfolding canonical
 sealed_bytes h items body sum is of =
     let behind : header_bytes h ++ body ≡ bytes_behind h items = ap (λ b. header_bytes h ++ b) is ∙ sym (header_and h (map item_line items)) in
@@ -32,15 +32,15 @@ sealed_bytes h items body sum is of =
     ∙ ap (λ b. content_of (1 ∷ 104 ∷ five (plain_sum b) ++ (10 ∷ b))) behind
 
 pub sealed_made : (n : List ℕ) (h : Header) (items : List Item) (body : List ℕ) (sums : ℕ × ℕ) (a b c d : Option View) → body ≡ bytes_of (map item_line items) → Becomes (λ v. put v n (Some empty_file)) a b
-    → Becomes (altered n (appended (ended (sum_line 0) ++ header_bytes h ++ body))) b c → IsSumOf sums (header_bytes h ++ body) → Becomes (altered n (summed sums.0)) c d
+    → Becomes (altered n (appended (ended (sum_line 0) ++ header_bytes h ++ body))) b c → IsSumOf sums (header_bytes h ++ body) → Becomes (altered n (with_sum_line sums.0)) c d
     → Becomes (λ v. put v n (Some (sealed h items))) a d
 sealed_made n h items body sums a b c d is start append sum finish =
     becomes_as _ (λ v. put v n (Some (sealed h items))) a d
     (λ v.
-    ap (altered n (summed sums.0)) (altered_put n (appended (ended (sum_line 0) ++ header_bytes h ++ body)) empty_file v)
-    ∙ (altered_put n (summed sums.0) (appended (ended (sum_line 0) ++ header_bytes h ++ body) empty_file) v
+    ap (altered n (with_sum_line sums.0)) (altered_put n (appended (ended (sum_line 0) ++ header_bytes h ++ body)) empty_file v)
+    ∙ (altered_put n (with_sum_line sums.0) (appended (ended (sum_line 0) ++ header_bytes h ++ body) empty_file) v
     ∙ ap (λ (x : Content). put v n (Some x)) (sealed_bytes h items body sums.0 is sum.0)))
-    (becomes_both (λ v. altered n (appended (ended (sum_line 0) ++ header_bytes h ++ body)) (put v n (Some empty_file))) (altered n (summed sums.0)) a c d
+    (becomes_both (λ v. altered n (appended (ended (sum_line 0) ++ header_bytes h ++ body)) (put v n (Some empty_file))) (altered n (with_sum_line sums.0)) a c d
     (becomes_both (λ v. put v n (Some empty_file)) (altered n (appended (ended (sum_line 0) ++ header_bytes h ++ body))) a b c start append) finish)
 
 -- the lines of items as a writer spells them

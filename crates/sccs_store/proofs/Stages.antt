@@ -12,7 +12,7 @@ use Rattle.sccs_images.specs.Touches.{earlier, newest}
 use Rattle.sccs_images.proofs.Images.{image_pended, image_settled, view_full}
 use Rattle.sccs_moments.specs.Calm.{HasFirm, IsCalm}
 use Rattle.sccs_moments.specs.Moments.{Guards, IsNew, Went}
-use Rattle.sccs_moments.specs.Recovery.{RecoversAs, pair_of, without}
+use Rattle.sccs_moments.specs.Recovery.{RecoversAs, pair_of, without_name}
 use Rattle.sccs_moments.proofs.CalmDisks.{calm_settled, pairs_firm}
 use Rattle.sccs_moments.proofs.Full.{full_removed, full_renamed}
 use Rattle.sccs_moments.proofs.Joined.{numbered_now, story_of}
@@ -90,13 +90,13 @@ renamed_next n c m past i from to t t2 stage further part is =
     further.new further.guards
 
 removed_next : (n : List ℕ) (c : Plan) (m : Model) (past : List Model) (i : ℕ) (k : List ℕ) (t t2 : Told) → (stage : Stage n c m past i t) → Further n c m i
-    → ((u : View) → part_of n c (suc i) u ≡ without k (part_of n c i u))
+    → ((u : View) → part_of n c (suc i) u ≡ without_name k (part_of n c i u))
     → t2 ≡ Tells (pended (op.Remove k) (newest stage.went.added m)) (newest stage.went.added m ∷ earlier stage.went.added m past) → Stage n c m past (suc i) t2
 removed_next n c m past i k t t2 stage further part is =
     next n c m past i t t2 (op.Remove k) stage is
-    (λ w full. let a : (u : View) × Full (newest stage.went.added m) u × (w ≡ without k u) = full_removed k (newest stage.went.added m) w full in
+    (λ w full. let a : (u : View) × Full (newest stage.went.added m) u × (w ≡ without_name k u) = full_removed k (newest stage.went.added m) w full in
     let b : (u : View) × Full m u × (a.0 ≡ part_of n c i u) = stage.full a.0 a.1 in
-    (b.0, b.1, a.2 ∙ (ap (without k) b.2 ∙ sym (part b.0))))
+    (b.0, b.1, a.2 ∙ (ap (without_name k) b.2 ∙ sym (part b.0))))
     further.new further.guards
 
 -- a swap is made

@@ -7,7 +7,7 @@ use Rattle.sccs_disk.specs.Files.{View, put}
 use Rattle.sccs_disk.specs.Told.{Told, seen}
 use Rattle.sccs_disk.proofs.Puts.{put_other}
 use Rattle.sccs_store.specs.Commits.{Becomes, IsPart, MayBecome, Needs, Plan, committed, g_swapped, p_swapped, part_of, s_swapped, swapped}
-use Rattle.sccs_moments.specs.Recovery.{without}
+use Rattle.sccs_moments.specs.Recovery.{without_name}
 use Rattle.sccs_store.specs.declared.new_files.NewFile.{NewFile}
 use Rattle.sccs_store.specs.declared.new_files.NewFile.TheVariants.{Keep, Replace, Remove}
 use Rattle.sccs_store.proofs.Working.{becomes_both}
@@ -55,10 +55,10 @@ third_cut n c o o1 o2 o3 first second (inr done) =
 three : (n : List ℕ) (c : Plan) (o o1 o2 o3 : Option View) → Becomes (s_swapped n c) o o1 → Becomes (p_swapped n c) o1 o2 → Becomes (g_swapped n c) o2 o3 → Becomes (λ v. g_swapped n c (p_swapped n c (s_swapped n c v))) o o3
 three n c o o1 o2 o3 first second third = becomes_both (λ v. p_swapped n c (s_swapped n c v)) (g_swapped n c) o o2 o3 (becomes_both (s_swapped n c) (p_swapped n c) o o1 o2 first second) third
 
-pub all_made : (n : List ℕ) (c : Plan) (o o1 o2 o3 o4 : Option View) → Becomes (s_swapped n c) o o1 → Becomes (p_swapped n c) o1 o2 → Becomes (g_swapped n c) o2 o3 → Becomes (without (z_file n)) o3 o4 → Becomes (committed n c) o o4
+pub all_made : (n : List ℕ) (c : Plan) (o o1 o2 o3 o4 : Option View) → Becomes (s_swapped n c) o o1 → Becomes (p_swapped n c) o1 o2 → Becomes (g_swapped n c) o2 o3 → Becomes (without_name (z_file n)) o3 o4 → Becomes (committed n c) o o4
 all_made n c o o1 o2 o3 o4 first second third last =
-    becomes_both (λ v. g_swapped n c (p_swapped n c (s_swapped n c v))) (without (z_file n)) o o3 o4 (three n c o o1 o2 o3 first second third) last
+    becomes_both (λ v. g_swapped n c (p_swapped n c (s_swapped n c v))) (without_name (z_file n)) o o3 o4 (three n c o o1 o2 o3 first second third) last
 
-pub last_cut : (n : List ℕ) (c : Plan) (o o1 o2 o3 o4 : Option View) → Becomes (s_swapped n c) o o1 → Becomes (p_swapped n c) o1 o2 → Becomes (g_swapped n c) o2 o3 → MayBecome (without (z_file n)) o3 o4 → IsPart n c o o4
+pub last_cut : (n : List ℕ) (c : Plan) (o o1 o2 o3 o4 : Option View) → Becomes (s_swapped n c) o o1 → Becomes (p_swapped n c) o1 o2 → Becomes (g_swapped n c) o2 o3 → MayBecome (without_name (z_file n)) o3 o4 → IsPart n c o o4
 last_cut n c o o1 o2 o3 o4 first second third (inl same) = (3, same ∙ three n c o o1 o2 o3 first second third)
 last_cut n c o o1 o2 o3 o4 first second third (inr done) = (4, all_made n c o o1 o2 o3 o4 first second third done)

@@ -16,7 +16,7 @@ use Rattle.sccs_moments.proofs.Joined.{numbered_as, numbered_now, went_then}
 use Rattle.sccs_moments.proofs.Recovering.{recovers_then}
 use Rattle.sccs_moments.proofs.Untouched.{calm_stayed, stays_touched, went_at}
 use Rattle.sccs_store.specs.Commits.{Plan, committed}
-use Rattle.sccs_store.specs.Stops.{CanCommit, CommitEnds, CommitStops, HasPrepared, IsPlain, OnReplace}
+use Rattle.sccs_store.specs.Stops.{CanCommit, CommitEnds, CommitStops, HasPrepared, IsPlainPlan, OnReplace}
 use Rattle.sccs_store.specs.declared.new_files.NewFile.{NewFile}
 use Rattle.sccs_store.specs.declared.new_files.NewFile.TheVariants.{Keep, Replace, Remove}
 
@@ -35,7 +35,7 @@ firm_where Replace k a b m m1 past past1 is is1 firm = firm m past is m1 past1 i
 firm_where Remove k a b m m1 past past1 is is1 firm = tt
 
 -- what the commit needs
-can_commit : (n : List ℕ) (c : Plan) (a b : Told) (m : Model) (past : List Model) → IsSfile n → a ≡ Tells m past → IsCalm m → (run : Touching (is_left n) m past b) → IsPlain n c → HasPrepared n c a b → CanCommit n c (newest run.added m)
+can_commit : (n : List ℕ) (c : Plan) (a b : Told) (m : Model) (past : List Model) → IsSfile n → a ≡ Tells m past → IsCalm m → (run : Touching (is_left n) m past b) → IsPlainPlan n c → HasPrepared n c a b → CanCommit n c (newest run.added m)
 can_commit n c a b m past sfile is calm run plain prepared = record {
   firm = firms_touched (is_left n) m (newest run.added m) (λ k other. left_s n k other) (λ k other. refl) (each_newest (Touches (is_left n) m) run.added m run.each) (calm_firm m calm);
   x_state = firm_where c.s (x_file n) a b m (newest run.added m) past (earlier run.added m past) is run.is prepared.x_state;
@@ -63,7 +63,7 @@ whole_run v w m past j b d w1 stays same went =
     (as_step v w (newest stays.added m) w1 (earlier stays.added m past) j d (numbered_now (λ i m2. Allows (KeepsPairs v) m2) 0 stays.added m 0 stays.numbers) same went)
 
 -- the commit was made
-pub ends_after : (n : List ℕ) (c : Plan) (a b d : Told) (m : Model) (past : List Model) (w : View) → IsSfile n → a ≡ Tells m past → IsCalm m → IsSound n (view_of m) → IsPlain n c → HasPrepared n c a b
+pub ends_after : (n : List ℕ) (c : Plan) (a b d : Told) (m : Model) (past : List Model) (w : View) → IsSfile n → a ≡ Tells m past → IsCalm m → IsSound n (view_of m) → IsPlainPlan n c → HasPrepared n c a b
     → ((m1 : Model) (past1 : List Model) → b ≡ Tells m1 past1 → RecoversAs w (committed n c (view_of m1))) → CommitEnds n c b d → EndsAfter (view_of m) w m past d
 ends_after n c a b d m past w sfile is calm sound plain prepared same commit =
     let stays : Stays (view_of m) m past b = stays_touched n m past b sfile calm sound (prepared.touches m past is) in
@@ -76,7 +76,7 @@ ends_after n c a b d m past w sfile is calm sound plain prepared same commit =
         (whole_run (view_of m) w m past 1 b d (committed n c (view_of (newest stays.added m))) stays (same (newest stays.added m) (earlier stays.added m past) stays.is) end.0, subst IsCalm (sym (newest_more end.0.added stays.added m)) end.1)
 
 -- the commit was stopped, or failed
-pub ends_within : (n : List ℕ) (c : Plan) (a b d : Told) (m : Model) (past : List Model) (w : View) → IsSfile n → a ≡ Tells m past → IsCalm m → IsSound n (view_of m) → IsPlain n c → HasPrepared n c a b
+pub ends_within : (n : List ℕ) (c : Plan) (a b d : Told) (m : Model) (past : List Model) (w : View) → IsSfile n → a ≡ Tells m past → IsCalm m → IsSound n (view_of m) → IsPlainPlan n c → HasPrepared n c a b
     → ((m1 : Model) (past1 : List Model) → b ≡ Tells m1 past1 → RecoversAs w (committed n c (view_of m1))) → CommitStops n c b d → EndsWithin (view_of m) w m past d
 ends_within n c a b d m past w sfile is calm sound plain prepared same commit =
     let stays : Stays (view_of m) m past b = stays_touched n m past b sfile calm sound (prepared.touches m past is) in

@@ -17,8 +17,8 @@ use Rattle.sccs_images.specs.Touches.{Grew, Leaves, TellsSane, Touching, Touches
 use Rattle.sccs_images.proofs.Touched.{grew_touching, only_then, only_wider, same_touching}
 use Rattle.sccs_tokens.specs.Written.{five}
 use Rattle.sccs_moments.proofs.Recovering.{cleared_other}
-use Rattle.sccs_store.specs.Commits.{Becomes, summed}
-use Rattle.sccs_moments.specs.Recovery.{cleared, without}
+use Rattle.sccs_store.specs.Commits.{Becomes, with_sum_line}
+use Rattle.sccs_moments.specs.Recovery.{cleared, without_name}
 
 -- ---- results
 
@@ -77,8 +77,8 @@ pub becomes_moves : (mine : List ℕ → Bool) (f : View → View) (o o2 : Optio
 becomes_moves mine f None o2 own is = is
 becomes_moves mine f (Some v) o2 own is = subst (λ (o : Option View). Moves mine (λ u. u) (Some v) o) (sym is) (λ k h. own v k h)
 
-pub without_moves : (n : List ℕ) (o o2 : Option View) → Becomes (without n) o o2 → Moves (bytes_eq n) (λ v. v) o o2
-without_moves n o o2 is = becomes_moves (bytes_eq n) (without n) o o2 (λ v k h. put_other v n k None h) is
+pub without_moves : (n : List ℕ) (o o2 : Option View) → Becomes (without_name n) o o2 → Moves (bytes_eq n) (λ v. v) o o2
+without_moves n o o2 is = becomes_moves (bytes_eq n) (without_name n) o o2 (λ v k h. put_other v n k None h) is
 
 pub cleared_moves : (n : List ℕ) (o o2 : Option View) → Becomes (cleared n) o o2 → Moves (is_working n) (λ v. v) o o2
 cleared_moves n o o2 is = becomes_moves (is_working n) (cleared n) o o2 (cleared_other n) is
@@ -93,9 +93,9 @@ becomes_as f g None o2 same is = is
 becomes_as f g (Some v) o2 same is = is ∙ ap (λ (u : View). Some u) (same v)
 
 -- a file that is removed and made again
-pub made_again : (n : List ℕ) (o o2 o3 : Option View) → Becomes (without n) o o2 → Becomes (λ v. put v n (Some empty_file)) o2 o3 → Becomes (λ v. put v n (Some empty_file)) o o3
+pub made_again : (n : List ℕ) (o o2 o3 : Option View) → Becomes (without_name n) o o2 → Becomes (λ v. put v n (Some empty_file)) o2 o3 → Becomes (λ v. put v n (Some empty_file)) o o3
 made_again n o o2 o3 first second =
-    becomes_as (λ v. put (without n v) n (Some empty_file)) (λ v. put v n (Some empty_file)) o o3 (λ v. put_again v n None (Some empty_file)) (becomes_both (without n) (λ v. put v n (Some empty_file)) o o2 o3 first second)
+    becomes_as (λ v. put (without_name n v) n (Some empty_file)) (λ v. put v n (Some empty_file)) o o3 (λ v. put_again v n None (Some empty_file)) (becomes_both (without_name n) (λ v. put v n (Some empty_file)) o o2 o3 first second)
 
 -- ---- a file that is made
 
@@ -133,7 +133,7 @@ made_and_changed n g c o o2 o3 first second =
     becomes_as (λ v. altered n g (put v n (Some c))) (λ v. put v n (Some (g c))) o o3 (altered_put n g c) (becomes_both (λ v. put v n (Some c)) (altered n g) o o2 o3 first second)
 
 -- the digits of a sum are written, and the file is protected
-pub sum_written : (n digits : List ℕ) (sum : ℕ) (o o2 o3 : Option View) → digits ≡ five sum → Becomes (altered n (overwritten 2 digits)) o o2 → Becomes (altered n protected) o2 o3 → Becomes (altered n (summed sum)) o o3
+pub sum_written : (n digits : List ℕ) (sum : ℕ) (o o2 o3 : Option View) → digits ≡ five sum → Becomes (altered n (overwritten 2 digits)) o o2 → Becomes (altered n protected) o2 o3 → Becomes (altered n (with_sum_line sum)) o o3
 sum_written n digits sum o o2 o3 is first second =
     altered_both n (overwritten 2 (five sum)) protected o o2 o3 (subst (λ d. Becomes (altered n (overwritten 2 d)) o o2) is first) second
 

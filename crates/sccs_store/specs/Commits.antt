@@ -7,7 +7,7 @@ use Rattle.sccs_disk.specs.Calls.{IsThere}
 use Rattle.sccs_disk.specs.Told.{Told}
 use Rattle.sccs_files.specs.StepFiles.{Files}
 use Rattle.sccs_tokens.specs.Written.{five}
-use Rattle.sccs_moments.specs.Recovery.{cleared, without}
+use Rattle.sccs_moments.specs.Recovery.{cleared, without_name}
 use Rattle.sccs_store.specs.declared.new_files.NewFile.{NewFile}
 use Rattle.sccs_store.specs.declared.new_files.NewFile.TheVariants.{Keep, Replace, Remove}
 
@@ -25,11 +25,11 @@ locked n v = put v (z_file n) (Some empty_file)
 
 -- the x-, q-, y- and z-file are gone
 abbrev pub abandoned : List ℕ → View → View
-abandoned n v = without (z_file n) (cleared n v)
+abandoned n v = without_name (z_file n) (cleared n v)
 
 -- a file that begins with a sum line, with these digits in it, and protected
-abbrev pub summed : ℕ → Content → Content
-summed sum c = record { bytes = take 2 c.bytes ++ five sum ++ drop 7 c.bytes; writable = false }
+abbrev pub with_sum_line : ℕ → Content → Content
+with_sum_line sum c = record { bytes = take 2 c.bytes ++ five sum ++ drop 7 c.bytes; writable = false }
 
 -- ---- a commit
 
@@ -37,7 +37,7 @@ summed sum c = record { bytes = take 2 c.bytes ++ five sum ++ drop 7 c.bytes; wr
 abbrev pub swapped : NewFile → List ℕ → List ℕ → View → View
 swapped Keep from to v = v
 swapped Replace from to v = renamed from to v
-swapped Remove from to v = without to v
+swapped Remove from to v = without_name to v
 
 -- what it needs, where a view is told
 abbrev pub Needs : NewFile → List ℕ → List ℕ → Told → Type 0
@@ -76,7 +76,7 @@ g_swapped n c v = swapped c.g (y_file n) (drop 2 n) v
 
 -- the view after a commit
 abbrev pub committed : List ℕ → Plan → View → View
-committed n c v = without (z_file n) (g_swapped n c (p_swapped n c (s_swapped n c v)))
+committed n c v = without_name (z_file n) (g_swapped n c (p_swapped n c (s_swapped n c v)))
 
 -- the view after so many of its four changes
 abbrev pub part_of : List ℕ → Plan → ℕ → View → View

@@ -57,8 +57,8 @@ pub record KeepsEntries (n : List ℕ) (c : Plan) (v : View) : Type 0 where
   pub sound : recovered_pfile (files_after n c v).s (files_after n c v).p ≡ (files_after n c v).p
 
 -- the g-file's name, where it changes, is that of no s-file, p-file or z-file
-abbrev pub IsPlain : List ℕ → Plan → Type 0
-IsPlain n c = OnChange c.g (is_kept (drop 2 n) ≡ false)
+abbrev pub IsPlainPlan : List ℕ → Plan → Type 0
+IsPlainPlan n c = OnChange c.g (is_kept (drop 2 n) ≡ false)
 
 -- What a commit needs of the files of a disk that tells its model.
 pub record CanCommit (n : List ℕ) (c : Plan) (m : Model) : Type 0 where
@@ -66,7 +66,7 @@ pub record CanCommit (n : List ℕ) (c : Plan) (m : Model) : Type 0 where
   pub firm : HasFirm m
   pub x_state : OnReplace c.s (IsFirm (x_file n) m)
   pub q_state : OnReplace c.p (IsFirm (q_file n) m)
-  pub plain : IsPlain n c
+  pub plain : IsPlainPlan n c
   pub entries : KeepsEntries n c (view_of m)
 
 -- What the calls from the start of a step up to its commit have done.

@@ -3,7 +3,7 @@ ghost use Rattle.sccs_base.specs.Name.{IsSfile, p_file, q_file, x_file, y_file, 
 ghost use Rattle.sccs_base.specs.Stream.{Rose};
 ghost use Rattle.sccs_disk.specs.Calls.{IsThere};
 ghost use Rattle.sccs_disk.specs.Told.{seen};
-ghost use Rattle.sccs_moments.specs.Recovery.{without};
+ghost use Rattle.sccs_moments.specs.Recovery.{without_name};
 ghost use Rattle.sccs_moments.specs.Unlocked.{KeepsOthers, is_own};
 ghost use Rattle.sccs_store.specs.Commits.{Becomes, IsPart, MayBecome, Needs, committed, plan, replaced, swapped};
 ghost use Rattle.sccs_store.specs.Stops.{CommitEnds, CommitStops, HalfSwaps, HalfUnlocks, Swaps, Unlocks};
@@ -86,8 +86,8 @@ fn swap_g<D: Disk>(disk: &mut D, new: NewFile, name: &Name) -> Result<(), Failed
 fn unlock<D: Disk>(disk: &mut D, name: &Name) -> Result<(), Failed>
     requires sfile { IsSfile name.now }
     requires there { IsThere (z_file name.now) (D.told disk.old) }
-    ensures ok { OnOk result (Becomes (without (z_file name.now)) (seen (D.told disk.old)) (seen (D.told disk.new))) }
-    ensures err { OnErr result (MayBecome (without (z_file name.now)) (seen (D.told disk.old)) (seen (D.told disk.new))) }
+    ensures ok { OnOk result (Becomes (without_name (z_file name.now)) (seen (D.told disk.old)) (seen (D.told disk.new))) }
+    ensures err { OnErr result (MayBecome (without_name (z_file name.now)) (seen (D.told disk.old)) (seen (D.told disk.new))) }
     ensures done { OnOk result (Unlocks (z_file name.now) (D.told disk.old) (D.told disk.new)) }
     ensures half { OnErr result (HalfUnlocks (z_file name.now) (D.told disk.old) (D.told disk.new)) }
     ensures later { D.faults disk.old ≤ D.faults disk.new }

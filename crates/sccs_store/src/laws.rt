@@ -9,7 +9,7 @@ ghost use Rattle.sccs_moments.specs.Calm.{IsCalm};
 ghost use Rattle.sccs_moments.specs.Moments.{EndsAfter, EndsBefore, EndsWithin};
 ghost use Rattle.sccs_moments.specs.Recovery.{IsSound, RecoversAs};
 ghost use Rattle.sccs_store.specs.Commits.{Plan, committed, files_after, part_of};
-ghost use Rattle.sccs_store.specs.Stops.{CommitEnds, CommitStops, HasPrepared, IsPlain};
+ghost use Rattle.sccs_store.specs.Stops.{CommitEnds, CommitStops, HasPrepared, IsPlainPlan};
 
 /// A commit puts the chosen files in their places and leaves all others but working files; after some of
 /// its changes each file but the z-file is as it was, or as the commit makes it.
@@ -29,11 +29,11 @@ pub fn steps_are_made_whole()
     ensures before { (n : List ℕ) (a b : Told) (m : Model) (past : List Model) → IsSfile n → a ≡ Tells m past → IsCalm m
         → IsSound n (view_of m) → TouchesOnly (is_left n) a b → EndsBefore (view_of m) m past b }
     ensures within { (n : List ℕ) (c : Plan) (a b d : Told) (m : Model) (past : List Model) (w : View) → IsSfile n
-        → a ≡ Tells m past → IsCalm m → IsSound n (view_of m) → IsPlain n c → HasPrepared n c a b
+        → a ≡ Tells m past → IsCalm m → IsSound n (view_of m) → IsPlainPlan n c → HasPrepared n c a b
         → ((m1 : Model) (past1 : List Model) → b ≡ Tells m1 past1 → RecoversAs w (committed n c (view_of m1)))
         → CommitStops n c b d → EndsWithin (view_of m) w m past d }
     ensures after { (n : List ℕ) (c : Plan) (a b d : Told) (m : Model) (past : List Model) (w : View) → IsSfile n
-        → a ≡ Tells m past → IsCalm m → IsSound n (view_of m) → IsPlain n c → HasPrepared n c a b
+        → a ≡ Tells m past → IsCalm m → IsSound n (view_of m) → IsPlainPlan n c → HasPrepared n c a b
         → ((m1 : Model) (past1 : List Model) → b ≡ Tells m1 past1 → RecoversAs w (committed n c (view_of m1)))
         → CommitEnds n c b d → EndsAfter (view_of m) w m past d }
 {}

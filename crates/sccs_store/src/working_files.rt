@@ -9,8 +9,8 @@ ghost use Rattle.sccs_disk.specs.Images.{IsFirm, IsOwn};
 ghost use Rattle.sccs_disk.specs.Told.{seen};
 ghost use Rattle.sccs_files.specs.StepFiles.{Moves, is_left, is_working};
 ghost use Rattle.sccs_images.specs.Touches.{Leaves, TouchesOnly};
-ghost use Rattle.sccs_store.specs.Commits.{Becomes, abandoned, summed};
-ghost use Rattle.sccs_moments.specs.Recovery.{cleared, without};
+ghost use Rattle.sccs_store.specs.Commits.{Becomes, abandoned, with_sum_line};
+ghost use Rattle.sccs_moments.specs.Recovery.{cleared, without_name};
 ghost use Rattle.sccs_writers.specs.OneFile.{OnlyWrites};
 
 use sccs_base::{Failed, Name};
@@ -20,7 +20,7 @@ use sccs_writers::five_digits;
 
 // removes a file where it is there
 fn clear<D: Disk>(disk: &mut D, name: &Name) -> Result<(), Failed>
-    ensures view { OnOk result (Becomes (without name.now) (seen (D.told disk.old)) (seen (D.told disk.new))) }
+    ensures view { OnOk result (Becomes (without_name name.now) (seen (D.told disk.old)) (seen (D.told disk.new))) }
     ensures view_err { OnErr result (Moves (bytes_eq name.now) (λ v. v) (seen (D.told disk.old)) (seen (D.told disk.new))) }
     ensures touches { TouchesOnly (bytes_eq name.now) (D.told disk.old) (D.told disk.new) }
     ensures later { D.faults disk.old ≤ D.faults disk.new }
@@ -98,7 +98,7 @@ pub fn seal<D: Disk>(disk: &mut D, name: &Name) -> Result<(), Failed>
 // puts the digits of a sum into the sum line of a file, protects the file and syncs it
 fn write_sum<D: Disk>(disk: &mut D, name: &Name, sum: u16) -> Result<(), DiskRefusal>
     requires { HasRange name.now 2 5 (D.told disk.old) }
-    ensures view { OnOk result (Becomes (altered name.now (summed sum)) (seen (D.told disk.old)) (seen (D.told disk.new))) }
+    ensures view { OnOk result (Becomes (altered name.now (with_sum_line sum)) (seen (D.told disk.old)) (seen (D.told disk.new))) }
     ensures only { OnlyWrites name.now (D.told disk.old) (D.told disk.new) }
     ensures firm { OnOk result (Leaves (IsFirm name.now) (D.told disk.old) (D.told disk.new)) }
     ensures later { D.faults disk.old ≤ D.faults disk.new }
@@ -117,7 +117,7 @@ fn write_sum<D: Disk>(disk: &mut D, name: &Name, sum: u16) -> Result<(), DiskRef
 pub fn finish_x<D: Disk>(disk: &mut D, name: &Name, sum: &Sum) -> Result<(), DiskRefusal>
     requires sfile { IsSfile name.now }
     requires there { HasRange (x_file name.now) 2 5 (D.told disk.old) }
-    ensures view { OnOk result (Becomes (altered (x_file name.now) (summed sum.now.0)) (seen (D.told disk.old)) (seen (D.told disk.new))) }
+    ensures view { OnOk result (Becomes (altered (x_file name.now) (with_sum_line sum.now.0)) (seen (D.told disk.old)) (seen (D.told disk.new))) }
     ensures only { OnlyWrites (x_file name.now) (D.told disk.old) (D.told disk.new) }
     ensures firm { OnOk result (Leaves (IsFirm (x_file name.now)) (D.told disk.old) (D.told disk.new)) }
     ensures later { D.faults disk.old ≤ D.faults disk.new }
@@ -131,7 +131,7 @@ pub fn clear_sibling<D: Disk>(disk: &mut D, name: &Name, letter: u8) -> Result<(
     requires sfile { IsSfile name.now }
     requires low { 97 ≤ letter }
     requires high { letter ≤ 122 }
-    ensures view { OnOk result (Becomes (without (sibling letter name.now)) (seen (D.told disk.old)) (seen (D.told disk.new))) }
+    ensures view { OnOk result (Becomes (without_name (sibling letter name.now)) (seen (D.told disk.old)) (seen (D.told disk.new))) }
     ensures view_err { OnErr result (Moves (bytes_eq (sibling letter name.now)) (λ v. v) (seen (D.told disk.old)) (seen (D.told disk.new))) }
     ensures touches { TouchesOnly (bytes_eq (sibling letter name.now)) (D.told disk.old) (D.told disk.new) }
     ensures later { D.faults disk.old ≤ D.faults disk.new }

@@ -16,7 +16,7 @@ use Rattle.sccs_grammar.specs.declared.faults.FileFault.TheVariants.{Missing, To
 use Rattle.sccs_table.specs.declared.fronts.Front.{Front}
 use Rattle.sccs_table.specs.SumOf.{IsPlainSumOf, IsSumOf, is_sum_of}
 use Rattle.sccs_table.specs.ReaderState.{ReaderState, StandsIn, Stays, TakesLine, behind_sum, bytes_in, file_in, left}
-use Rattle.sccs_table.specs.FrontFile.{Refuses, Answers, ChecksSum, IsFrontOf, AnswersFront, ShowsFront, Opens, TakesSum, SumLine, ReadsLines, Reads}
+use Rattle.sccs_table.specs.FrontFile.{Refuses, ShowsOrRefuses, ChecksSum, IsFrontOf, AnswersFront, ShowsFront, Opens, TakesSum, SumLine, ReadsLines, Reads}
 use Rattle.sccs_table.proofs.ReaderLaws.{holding}
 
 -- ---- the sum line
@@ -125,7 +125,7 @@ abbrev pub front_with : Header → ℕ → ℕ → ℕ → ℕ → Front
 front_with header place line size sum = record { header = header; body_from = place; body_line = line; size = size; sum = sum }
 
 pub front_found : (file : List ℕ) (new last : ReaderState) (n size place plain : ℕ) (header : Header) (line : ℕ) → TakesSum file new (Ok n) → ChecksSum n (behind_sum file) (Ok plain) → size ≡ length file → ReadsLines file new last start 2 (Ok (header, line)) → place ≡ last.place
-    → Answers (λ p front. IsFrontOf file p front) (Ok (front_with header place line size plain)) (checked_front file)
+    → ShowsOrRefuses (λ p front. IsFrontOf file p front) (Ok (front_with header place line size plain)) (checked_front file)
 front_found file new last n size place plain header line takes checks long reads place_is =
     let read : ParsedFront = record { header = header; line = line; rest = (left last file).lines } in (
       read,
@@ -144,8 +144,8 @@ front_found file new last n size place plain header line takes checks long reads
 within_at : (file : List ℕ) (read : List ℕ → Result ParsedFront FileFault) → length file ≤ 1073741824 → answer read (Some file) ≡ read file
 within_at file read limit = rw (le-ltb 1073741824 (length file) limit) refl
 
-pub at_file : (file : List ℕ) (result : Result Front FileFault) (read : List ℕ → Result ParsedFront FileFault) → length file ≤ 1073741824 → Answers (λ p front. IsFrontOf file p front) result (read file) → AnswersFront (Some file) read result
-at_file file result read limit answers = subst (λ a. Answers (λ p front. IsFrontOf file p front) result a) (sym (within_at file read limit)) answers
+pub at_file : (file : List ℕ) (result : Result Front FileFault) (read : List ℕ → Result ParsedFront FileFault) → length file ≤ 1073741824 → ShowsOrRefuses (λ p front. IsFrontOf file p front) result (read file) → AnswersFront (Some file) read result
+at_file file result read limit answers = subst (λ a. ShowsOrRefuses (λ p front. IsFrontOf file p front) result a) (sym (within_at file read limit)) answers
 
 -- a new reader stands in its file
 pub fresh_stands : (name file : List ℕ) (limit : ℕ) → length file ≤ limit → StandsIn (holding name [] 0 limit 0) file
@@ -161,7 +161,7 @@ again_stands name file limit low long = record {
 }
 
 pub front_answer : (view : Option View) (name : List ℕ) (size : ℕ) (result : Result Front FileFault) → size ≤ 1073741824 → Opens view name (Ok size)
-    → ((file : List ℕ) → bytes_in view name ≡ Some file → size ≡ length file → Answers (λ p front. IsFrontOf file p front) result (checked_front file))
+    → ((file : List ℕ) → bytes_in view name ≡ Some file → size ≡ length file → ShowsOrRefuses (λ p front. IsFrontOf file p front) result (checked_front file))
     → IfSome view (λ v. AnswersFront (file_in v name) checked_front result)
 front_answer None name size result limit opens answers = tt
 front_answer (Some view) name size result limit opens answers =

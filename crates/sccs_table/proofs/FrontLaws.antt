@@ -4,7 +4,7 @@ use Rattle.sccs_base.specs.Cut.{Cut}
 use Rattle.sccs_tokens.specs.Tokens.{token}
 use Rattle.std.specs.Result.{IsErrAnd}
 use Rattle.std.proofs.lemmas.Result.{err_from_is_err_and}
-use Rattle.sccs_grammar.specs.FileRefusals.{line_fault}
+use Rattle.sccs_grammar.specs.FileRefusals.{unread_front}
 use Rattle.sccs_grammar.specs.declared.header_parsers.FrontFault.{FrontFault}
 use Rattle.sccs_grammar.specs.declared.header_parsers.FrontFault.TheVariants as fronts
 use Rattle.sccs_grammar.specs.Front.{AcceptsIn, ParsedFront, after, accepted, header_of, is_whole, line_after, front_from}
@@ -79,7 +79,7 @@ line_answered o old new n r line (Err Encoded) takes is = absurd is
 line_answered o old new n r line (Err (Changed a b c d)) takes is = absurd is
 
 -- what the parts of a line's reading answer
-pub line_refused : (n : ℕ) (r s : HeaderParser) (line : List ℕ) (what : LineToken) (fault : FrontFault) (result : Result (Unit {0}) FileFault) → token line ≡ Some what → AcceptsIn s (Err fault) (after n r.parts r.state what) → result ≡ Err (line_fault fault) → AnswersLine (line_after n r line) (read_as s result)
+pub line_refused : (n : ℕ) (r s : HeaderParser) (line : List ℕ) (what : LineToken) (fault : FrontFault) (result : Result (Unit {0}) FileFault) → token line ≡ Some what → AcceptsIn s (Err fault) (after n r.parts r.state what) → result ≡ Err (unread_front fault) → AnswersLine (line_after n r line) (read_as s result)
 line_refused n r s line what (fronts.Format k) result is hears exit = subst (λ q. AnswersLine (line_after n r line) (read_as s q)) (sym exit) (token_fault n k r line what is hears)
 line_refused n r s line what fronts.Memory result is hears exit = subst (λ q. AnswersLine (line_after n r line) (read_as s q)) (sym exit) tt
 

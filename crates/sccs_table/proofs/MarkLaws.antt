@@ -18,7 +18,7 @@ use Rattle.sccs_table.specs.Runs.{lf_count}
 use Rattle.sccs_table.specs.declared.piece_marks.PieceMarks.{PieceMarks}
 use Rattle.sccs_base.specs.Cut.{HasNoLf}
 use Rattle.sccs_table.proofs.CountLaws.{no_lines}
-use Rattle.sccs_table.specs.Marks.{AreMarked, AreSohs, Describes, HasNoSoh, MarksOf, bit, bits_of, block}
+use Rattle.sccs_table.specs.Marks.{AreMarked, AreSohs, Describes, HasNoSoh, MarksOf, bit, bits_of, byte_block}
 
 -- ---- SOH
 
@@ -26,14 +26,14 @@ no_both : {b : Bool} → b ≡ true → b ≡ false → ⊥
 no_both is isnt = absurd (cc)
 
 -- a block without bits has none
-pub none_in_block : (piece : List ℕ) (n : ℕ) → 64 * n + 64 ≤ length piece → bits_of 1 (block n piece) ≡ 0 → HasNoSoh piece (64 * n) (64 * n + 64)
+pub none_in_block : (piece : List ℕ) (n : ℕ) → 64 * n + 64 ≤ length piece → bits_of 1 (byte_block n piece) ≡ 0 → HasNoSoh piece (64 * n) (64 * n + 64)
 none_in_block piece n fits none k low high is = no_both (eq-eqb (get_or piece k 0) 1 is) (none_from_empty_mask (λ b. b == 1) piece (64 * n) 64 0 fits none k low high)
 
 pub no_soh_both : (piece : List ℕ) (a b c : ℕ) → HasNoSoh piece a b → HasNoSoh piece b c → HasNoSoh piece a c
 no_soh_both piece a b c first second k low high is = ⊎_elim (λ l. first k low l is) (λ g. second k g high is) (cases_lt k b)
 
 -- nor have several
-pub none_in_blocks : (piece : List ℕ) (low high : ℕ) → 64 * high ≤ length piece → ((m : ℕ) → low ≤ m → m < high → bits_of 1 (block m piece) ≡ 0) → HasNoSoh piece (64 * low) (64 * high)
+pub none_in_blocks : (piece : List ℕ) (low high : ℕ) → 64 * high ≤ length piece → ((m : ℕ) → low ≤ m → m < high → bits_of 1 (byte_block m piece) ≡ 0) → HasNoSoh piece (64 * low) (64 * high)
 none_in_blocks piece low high fits none k above below is = none_in_block piece (k / 64) (omega arith) (none (k / 64) (omega arith) (omega arith)) k (omega arith) (omega arith) is
 
 empty_by : (test : Bool) (x : ℕ) → (x == 0) ≡ test → bit (not test) ≡ 0 → x ≡ 0
@@ -44,8 +44,8 @@ full_by : (test : Bool) (x : ℕ) → (x == 0) ≡ test → bit (not test) ≡ 1
 full_by true x is some = absurd (omega (arith, some))
 full_by false x is some = λ empty. no_both (eq-eqb x 0 empty) is
 
-pub unmarked : (marks : PieceMarks) (piece : List ℕ) (m : ℕ) → MarksOf marks piece → m < 64 → bit_at marks.marked m ≡ 0 → bits_of 1 (block m piece) ≡ 0
-unmarked marks piece m are low none = empty_by (bits_of 1 (block m piece) == 0) _ refl (sym (are.marked_are m low) ∙ none)
+pub unmarked : (marks : PieceMarks) (piece : List ℕ) (m : ℕ) → MarksOf marks piece → m < 64 → bit_at marks.marked m ≡ 0 → bits_of 1 (byte_block m piece) ≡ 0
+unmarked marks piece m are low none = empty_by (bits_of 1 (byte_block m piece) == 0) _ refl (sym (are.marked_are m low) ∙ none)
 
 -- where no block is marked there is none at all
 pub none_marked : (marks : PieceMarks) (piece : List ℕ) (from : ℕ) → MarksOf marks piece → marks.marked ≡ 0 → HasNoSoh piece from 4096
@@ -56,13 +56,13 @@ none_marked marks piece from are none k low high =
 pub some_bit : (bits k : ℕ) → bit_at bits k ≡ 1 → bits ≢ 0
 some_bit bits k set none = absurd (omega (arith, set, ap (λ b. bit_at b k) none ∙ bit_at-zero k))
 
-pub marked_block : (marks : PieceMarks) (piece : List ℕ) (m : ℕ) → MarksOf marks piece → m < 64 → bit_at marks.marked m ≡ 1 → bits_of 1 (block m piece) ≢ 0
-marked_block marks piece m are low some = full_by (bits_of 1 (block m piece) == 0) _ refl (sym (are.marked_are m low) ∙ some)
+pub marked_block : (marks : PieceMarks) (piece : List ℕ) (m : ℕ) → MarksOf marks piece → m < 64 → bit_at marks.marked m ≡ 1 → bits_of 1 (byte_block m piece) ≢ 0
+marked_block marks piece m are low some = full_by (bits_of 1 (byte_block m piece) == 0) _ refl (sym (are.marked_are m low) ∙ some)
 
-soh_bit : (piece : List ℕ) (n k : ℕ) → 64 * n + 64 ≤ length piece → k < 64 → bit_at (bits_of 1 (block n piece)) k ≡ bit (get_or piece (64 * n + k) 0 == 1)
+soh_bit : (piece : List ℕ) (n k : ℕ) → 64 * n + 64 ≤ length piece → k < 64 → bit_at (bits_of 1 (byte_block n piece)) k ≡ bit (get_or piece (64 * n + k) 0 == 1)
 soh_bit piece n k fits low =
     let long = length-chunk (64 * n) 64 piece fits in
-    bit_mask_l (map (λ b. b == 1) (block n piece)) k ∙ ap bit (get_or-map (λ b. b == 1) (block n piece) k 0 false (omega (arith, long)) ∙ ap (λ b. b == 1) (get_or-chunk (64 * n) 64 piece k 0 low))
+    bit_mask_l (map (λ b. b == 1) (byte_block n piece)) k ∙ ap bit (get_or-map (λ b. b == 1) (byte_block n piece) k 0 false (omega (arith, long)) ∙ ap (λ b. b == 1) (get_or-chunk (64 * n) 64 piece k 0 low))
 
 is_by : (test : Bool) (x : ℕ) → (x == 1) ≡ test → bit test ≡ 1 → x ≡ 1
 is_by true x is some = eqb-true x 1 is
@@ -73,14 +73,14 @@ not_by true x is none = absurd (omega (arith, none))
 not_by false x is none = λ one. no_both (eq-eqb x 1 one) is
 
 -- a bit that is set is an SOH, one that isn't is none
-pub soh_at : (piece : List ℕ) (n k : ℕ) → 64 * n + 64 ≤ length piece → k < 64 → bit_at (bits_of 1 (block n piece)) k ≡ 1 → get_or piece (64 * n + k) 0 ≡ 1
+pub soh_at : (piece : List ℕ) (n k : ℕ) → 64 * n + 64 ≤ length piece → k < 64 → bit_at (bits_of 1 (byte_block n piece)) k ≡ 1 → get_or piece (64 * n + k) 0 ≡ 1
 soh_at piece n k fits low set = is_by (get_or piece (64 * n + k) 0 == 1) _ refl (sym (soh_bit piece n k fits low) ∙ set)
 
-pub no_soh_at : (piece : List ℕ) (n k : ℕ) → 64 * n + 64 ≤ length piece → k < 64 → bit_at (bits_of 1 (block n piece)) k ≡ 0 → get_or piece (64 * n + k) 0 ≢ 1
+pub no_soh_at : (piece : List ℕ) (n k : ℕ) → 64 * n + 64 ≤ length piece → k < 64 → bit_at (bits_of 1 (byte_block n piece)) k ≡ 0 → get_or piece (64 * n + k) 0 ≢ 1
 no_soh_at piece n k fits low clear = not_by (get_or piece (64 * n + k) 0 == 1) _ refl (sym (soh_bit piece n k fits low) ∙ clear)
 
 -- the bits from a place on to another are clear
-pub none_between : (piece : List ℕ) (n a b : ℕ) → 64 * n + 64 ≤ length piece → b ≤ 64 → ((k : ℕ) → a ≤ k → k < b → bit_at (bits_of 1 (block n piece)) k ≡ 0) → HasNoSoh piece (64 * n + a) (64 * n + b)
+pub none_between : (piece : List ℕ) (n a b : ℕ) → 64 * n + 64 ≤ length piece → b ≤ 64 → ((k : ℕ) → a ≤ k → k < b → bit_at (bits_of 1 (byte_block n piece)) k ≡ 0) → HasNoSoh piece (64 * n + a) (64 * n + b)
 none_between piece n a b fits high clear k low below is =
     let at : k ≡ 64 * n + (k - 64 * n) = omega arith in
     no_soh_at piece n (k - 64 * n) fits (omega arith) (clear (k - 64 * n) (omega arith) (omega arith)) (sym (ap (λ j. get_or piece j 0) at) ∙ is)
@@ -100,17 +100,17 @@ clear_behind marked behind n r shifted clear m low high =
     ap (bit_at marked) at ∙ (sym (shifted (m - (n + 1))) ∙ clear (m - (n + 1)) (omega arith))
 
 -- the first SOH of a block and those behind
-pub first_in : (piece : List ℕ) (n from r : ℕ) → 64 * n + 64 ≤ length piece → from + r ≤ 64 → ((k : ℕ) → k < r → bit_at (bits_of 1 (block n piece)) (from + k) ≡ 0) → HasNoSoh piece (64 * n + from) (64 * n + (from + r))
+pub first_in : (piece : List ℕ) (n from r : ℕ) → 64 * n + 64 ≤ length piece → from + r ≤ 64 → ((k : ℕ) → k < r → bit_at (bits_of 1 (byte_block n piece)) (from + k) ≡ 0) → HasNoSoh piece (64 * n + from) (64 * n + (from + r))
 first_in piece n from r fits low clear =
     none_between piece n from (from + r) fits (omega arith) (λ k above below.
     let at : k ≡ from + (k - from) = omega arith in
-    ap (bit_at (bits_of 1 (block n piece))) at ∙ clear (k - from) (omega arith))
+    ap (bit_at (bits_of 1 (byte_block n piece))) at ∙ clear (k - from) (omega arith))
 
-pub first_here : (piece : List ℕ) (n r : ℕ) → 64 * n + 64 ≤ length piece → r ≤ 64 → ((k : ℕ) → k < r → bit_at (bits_of 1 (block n piece)) k ≡ 0) → HasNoSoh piece (64 * n) (64 * n + r)
+pub first_here : (piece : List ℕ) (n r : ℕ) → 64 * n + 64 ≤ length piece → r ≤ 64 → ((k : ℕ) → k < r → bit_at (bits_of 1 (byte_block n piece)) k ≡ 0) → HasNoSoh piece (64 * n) (64 * n + r)
 first_here piece n r fits low clear = λ k above below. none_between piece n 0 r fits low (λ j from to. clear j to) k (omega arith) (omega arith)
 
-pub bits_small : (piece : List ℕ) (n : ℕ) → 64 * n + 64 ≤ length piece → bits_of 1 (block n piece) < 2 ^ 64
-bits_small piece n fits = subst (λ k. bits_of 1 (block n piece) < 2 ^ k) (length-map (block n piece) (λ b. b == 1) ∙ length-chunk (64 * n) 64 piece fits) (mask_l-lt (map (λ b. b == 1) (block n piece)))
+pub bits_small : (piece : List ℕ) (n : ℕ) → 64 * n + 64 ≤ length piece → bits_of 1 (byte_block n piece) < 2 ^ 64
+bits_small piece n fits = subst (λ k. bits_of 1 (byte_block n piece) < 2 ^ k) (length-map (byte_block n piece) (λ b. b == 1) ∙ length-chunk (64 * n) 64 piece fits) (mask_l-lt (map (λ b. b == 1) (byte_block n piece)))
 
 -- ---- LF
 
@@ -143,17 +143,17 @@ count_on : (piece : List ℕ) (start count : ℕ) → lf_count (take (start + co
 count_on piece start count = ap lf_count (take-add start count piece) ∙ sum_by-append (λ b. bit (b == 10)) (take start piece) (take count (drop start piece))
 
 -- one block more
-pub count_block : (piece : List ℕ) (n : ℕ) → lf_count (take (64 * (n + 1)) piece) ≡ lf_count (take (64 * n) piece) + count_ones (bits_of 10 (block n piece))
+pub count_block : (piece : List ℕ) (n : ℕ) → lf_count (take (64 * (n + 1)) piece) ≡ lf_count (take (64 * n) piece) + count_ones (bits_of 10 (byte_block n piece))
 count_block piece n =
     let at : 64 * (n + 1) ≡ 64 * n + 64 = omega arith in
-    ap (λ k. lf_count (take k piece)) at ∙ (count_on piece (64 * n) 64 ∙ ap (λ k. lf_count (take (64 * n) piece) + k) (sym (ends_all (block n piece))))
+    ap (λ k. lf_count (take k piece)) at ∙ (count_on piece (64 * n) 64 ∙ ap (λ k. lf_count (take (64 * n) piece) + k) (sym (ends_all (byte_block n piece))))
 
 -- the LFs before a place, by those before its block
-pub count_to : (piece : List ℕ) (at : ℕ) → lf_count (take (64 * (at / 64)) piece) + count_ones (bits_of 10 (block (at / 64) piece) % 2 ^ (at % 64)) ≡ lf_count (take at piece)
+pub count_to : (piece : List ℕ) (at : ℕ) → lf_count (take (64 * (at / 64)) piece) + count_ones (bits_of 10 (byte_block (at / 64) piece) % 2 ^ (at % 64)) ≡ lf_count (take at piece)
 count_to piece at =
     let is : 64 * (at / 64) + at % 64 ≡ at = omega arith in
-    let part : take (at % 64) (block (at / 64) piece) ≡ take (at % 64) (drop (64 * (at / 64)) piece) = take-take (at % 64) 64 (drop (64 * (at / 64)) piece) (omega arith) in
-    ap (λ k. lf_count (take (64 * (at / 64)) piece) + k) (ends_in (block (at / 64) piece) (at % 64) ∙ ap lf_count part)
+    let part : take (at % 64) (byte_block (at / 64) piece) ≡ take (at % 64) (drop (64 * (at / 64)) piece) = take-take (at % 64) 64 (drop (64 * (at / 64)) piece) (omega arith) in
+    ap (λ k. lf_count (take (64 * (at / 64)) piece) + k) (ends_in (byte_block (at / 64) piece) (at % 64) ∙ ap lf_count part)
     ∙ (sym (count_on piece (64 * (at / 64)) (at % 64)) ∙ ap (λ k. lf_count (take k piece)) is)
 
 pub count_bound : (piece : List ℕ) (n : ℕ) → lf_count (take n piece) ≤ n
@@ -165,19 +165,19 @@ pub on_to : (P : ℕ → Type 0) (n : ℕ) → ((m : ℕ) → m < n → P m) →
 on_to P n below here m low = ⊎_elim (λ l. below m l) (λ ge. let is : n ≡ m = omega arith in subst P is here) (cases_lt m n)
 
 pub marked_on : (piece : List ℕ) (marked marked2 n : ℕ) → AreMarked marked piece n
-    → ((m : ℕ) → m < n → bit_at marked2 m ≡ bit_at marked m) → bit_at marked2 n ≡ bit (not (bits_of 1 (block n piece) == 0)) → AreMarked marked2 piece (n + 1)
-marked_on piece marked marked2 n are stay mark = on_to (λ m. bit_at marked2 m ≡ bit (not (bits_of 1 (block m piece) == 0))) n (λ m low. stay m low ∙ are m low) mark
+    → ((m : ℕ) → m < n → bit_at marked2 m ≡ bit_at marked m) → bit_at marked2 n ≡ bit (not (bits_of 1 (byte_block n piece) == 0)) → AreMarked marked2 piece (n + 1)
+marked_on piece marked marked2 n are stay mark = on_to (λ m. bit_at marked2 m ≡ bit (not (bits_of 1 (byte_block m piece) == 0))) n (λ m low. stay m low ∙ are m low) mark
 
 pub sohs_on : (piece sohs sohs2 : List ℕ) (n : ℕ) → AreSohs sohs piece n
-    → ((m : ℕ) → m < n → get_or sohs2 m 0 ≡ get_or sohs m 0) → get_or sohs2 n 0 ≡ bits_of 1 (block n piece) → AreSohs sohs2 piece (n + 1)
-sohs_on piece sohs sohs2 n are stay here = on_to (λ m. get_or sohs2 m 0 ≡ bits_of 1 (block m piece)) n (λ m low. stay m low ∙ are m low) here
+    → ((m : ℕ) → m < n → get_or sohs2 m 0 ≡ get_or sohs m 0) → get_or sohs2 n 0 ≡ bits_of 1 (byte_block n piece) → AreSohs sohs2 piece (n + 1)
+sohs_on piece sohs sohs2 n are stay here = on_to (λ m. get_or sohs2 m 0 ≡ bits_of 1 (byte_block m piece)) n (λ m low. stay m low ∙ are m low) here
 
 pub described_on : (ends before ends2 before2 piece : List ℕ) (n : ℕ) → Describes ends before piece n
-    → ((m : ℕ) → m < n → get_or ends2 m 0 ≡ get_or ends m 0) → get_or ends2 n 0 ≡ bits_of 10 (block n piece)
+    → ((m : ℕ) → m < n → get_or ends2 m 0 ≡ get_or ends m 0) → get_or ends2 n 0 ≡ bits_of 10 (byte_block n piece)
     → ((m : ℕ) → m < n → get_or before2 m 0 ≡ get_or before m 0) → get_or before2 n 0 ≡ lf_count (take (64 * n) piece)
     → Describes ends2 before2 piece (n + 1)
 described_on ends before ends2 before2 piece n are ends_stay end before_stay here = record {
-  ends_are = on_to (λ m. get_or ends2 m 0 ≡ bits_of 10 (block m piece)) n (λ m low. ends_stay m low ∙ are.ends_are m low) end;
+  ends_are = on_to (λ m. get_or ends2 m 0 ≡ bits_of 10 (byte_block m piece)) n (λ m low. ends_stay m low ∙ are.ends_are m low) end;
   before_are = on_to (λ m. get_or before2 m 0 ≡ lf_count (take (64 * m) piece)) n (λ m low. before_stay m low ∙ are.before_are m low) here;
 }
 
@@ -226,21 +226,21 @@ remainder : (total part more : ℕ) → more ≡ (total % 65536 + part) % 65536 
 remainder total part more is = omega (arith, is)
 
 -- one block more
-pub sum_block : (piece : List ℕ) (n total more : ℕ) → total ≡ sum (take (64 * n) piece) % 65536 → more ≡ (total + sum (block n piece)) % 65536 → more ≡ sum (take (64 * (n + 1)) piece) % 65536
+pub sum_block : (piece : List ℕ) (n total more : ℕ) → total ≡ sum (take (64 * n) piece) % 65536 → more ≡ (total + sum (byte_block n piece)) % 65536 → more ≡ sum (take (64 * (n + 1)) piece) % 65536
 sum_block piece n total more so is =
     let at : 64 * (n + 1) ≡ 64 * n + 64 = omega arith in
-    let parts : sum (take (64 * (n + 1)) piece) ≡ sum (take (64 * n) piece) + sum (block n piece) = ap (λ k. sum (take k piece)) at ∙ (ap sum (take-add (64 * n) 64 piece) ∙ sum_by-append (λ b. b) (take (64 * n) piece) (block n piece)) in
-    remainder (sum (take (64 * n) piece)) (sum (block n piece)) more (is ∙ ap (λ t. (t + sum (block n piece)) % 65536) so) ∙ ap (λ s. s % 65536) (sym parts)
+    let parts : sum (take (64 * (n + 1)) piece) ≡ sum (take (64 * n) piece) + sum (byte_block n piece) = ap (λ k. sum (take k piece)) at ∙ (ap sum (take-add (64 * n) 64 piece) ∙ sum_by-append (λ b. b) (take (64 * n) piece) (byte_block n piece)) in
+    remainder (sum (take (64 * n) piece)) (sum (byte_block n piece)) more (is ∙ ap (λ t. (t + sum (byte_block n piece)) % 65536) so) ∙ ap (λ s. s % 65536) (sym parts)
 
 -- one block more of LFs
-pub lines_block : (piece : List ℕ) (n : ℕ) → lf_count (take (64 * (n + 1)) piece) ≡ lf_count (take (64 * n) piece) + lf_count (block n piece)
-lines_block piece n = count_block piece n ∙ ap (λ k. lf_count (take (64 * n) piece) + k) (ends_all (block n piece))
+pub lines_block : (piece : List ℕ) (n : ℕ) → lf_count (take (64 * (n + 1)) piece) ≡ lf_count (take (64 * n) piece) + lf_count (byte_block n piece)
+lines_block piece n = count_block piece n ∙ ap (λ k. lf_count (take (64 * n) piece) + k) (ends_all (byte_block n piece))
 
 -- no byte of a block below its lane, which isn't as low as SOH
-pub none_below : (least piece : List ℕ) (n : ℕ) → length piece ≡ 4096 → n < 64 → ((k : ℕ) → k < 64 → get_or least k 0 ≤ get_or (block n piece) k 0) → ((k : ℕ) → k < 64 → 1 < get_or least k 0) → bits_of 1 (block n piece) ≡ 0
+pub none_below : (least piece : List ℕ) (n : ℕ) → length piece ≡ 4096 → n < 64 → ((k : ℕ) → k < 64 → get_or least k 0 ≤ get_or (byte_block n piece) k 0) → ((k : ℕ) → k < 64 → 1 < get_or least k 0) → bits_of 1 (byte_block n piece) ≡ 0
 none_below least piece n long low below high =
     let size = length-chunk (64 * n) 64 piece (omega (arith, long)) in
-    no_bits (block n piece) (λ k within is. absurd (omega (arith, is, below k (omega (arith, within, size)), high k (omega (arith, within, size)))))
+    no_bits (byte_block n piece) (λ k within is. absurd (omega (arith, is, below k (omega (arith, within, size)), high k (omega (arith, within, size)))))
 
 pub whole : (piece : List ℕ) → length piece ≡ 4096 → take (64 * 64) piece ≡ piece
 whole piece long = take_all 4096 piece (omega (arith, long))

@@ -27,9 +27,9 @@ Refuses Failed read = Unit {0}
 Refuses Memory read = Unit {0}
 
 -- what a call returned shows the value that is read, or is its refusal
-abbrev pub Answers : {A B : Type 0} → (A → B → Type 0) → Result B FileFault → Result A FileFault → Type 0
-Answers {A} {B} Shows (Ok x) read = (y : A) × (read ≡ Ok y) × Shows y x
-Answers Shows (Err fault) read = Refuses fault read
+abbrev pub ShowsOrRefuses : {A B : Type 0} → (A → B → Type 0) → Result B FileFault → Result A FileFault → Type 0
+ShowsOrRefuses {A} {B} Shows (Ok x) read = (y : A) × (read ≡ Ok y) × Shows y x
+ShowsOrRefuses Shows (Err fault) read = Refuses fault read
 
 -- The body begins within the file, and the file is within the limit; each line before the body has a byte at least.
 pub record IsPlaced (front : Front) : Type 0 where
@@ -52,7 +52,7 @@ ShowsFront None front read = ⊥
 ShowsFront (Some file) front read = IsFrontOf file read front
 
 abbrev pub AnswersFront : Option (List ℕ) → (List ℕ → Result ParsedFront FileFault) → Result Front FileFault → Type 0
-AnswersFront o read result = Answers (λ p front. ShowsFront o front p) result (answer read o)
+AnswersFront o read result = ShowsOrRefuses (λ p front. ShowsFront o front p) result (answer read o)
 
 -- a file of that size is there, within the limit, or the refusal holds
 abbrev pub OpensAt : Option (List ℕ) → Result ℕ FileFault → Type 0

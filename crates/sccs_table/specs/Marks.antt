@@ -9,8 +9,8 @@ use Rattle.sccs_table.specs.declared.piece_marks.Known.TheVariants.{Nothing, Num
 use Rattle.sccs_table.specs.declared.piece_marks.PieceMarks.{PieceMarks}
 
 -- the 64 bytes of that number, from 0
-abbrev pub block : ℕ → List ℕ → List ℕ
-block n piece = take 64 (drop (64 * n) piece)
+abbrev pub byte_block : ℕ → List ℕ → List ℕ
+byte_block n piece = take 64 (drop (64 * n) piece)
 
 -- bit k is whether a byte stands at place k
 abbrev pub bits_of : ℕ → List ℕ → ℕ
@@ -22,33 +22,33 @@ bit set = if set then 1 else 0
 
 -- of the first blocks those are marked that have an SOH
 abbrev pub AreMarked : ℕ → List ℕ → ℕ → Type 0
-AreMarked marked piece blocks = (n : ℕ) → n < blocks → bit_at marked n ≡ bit (not (bits_of 1 (block n piece) == 0))
+AreMarked marked piece blocks = (n : ℕ) → n < blocks → bit_at marked n ≡ bit (not (bits_of 1 (byte_block n piece) == 0))
 
 -- of the first blocks it is known where SOH stands
 abbrev pub AreSohs : List ℕ → List ℕ → ℕ → Type 0
-AreSohs sohs piece blocks = (n : ℕ) → n < blocks → get_or sohs n 0 ≡ bits_of 1 (block n piece)
+AreSohs sohs piece blocks = (n : ℕ) → n < blocks → get_or sohs n 0 ≡ bits_of 1 (byte_block n piece)
 
 -- of the first blocks it is known where LF stands, and how many stand before each
 pub record Describes (ends before : List ℕ) (piece : List ℕ) (blocks : ℕ) : Type 0 where
-  pub ends_are : (n : ℕ) → n < blocks → get_or ends n 0 ≡ bits_of 10 (block n piece)
+  pub ends_are : (n : ℕ) → n < blocks → get_or ends n 0 ≡ bits_of 10 (byte_block n piece)
   pub before_are : (n : ℕ) → n < blocks → get_or before n 0 ≡ lf_count (take (64 * n) piece)
 
 -- the first blocks have no SOH
 abbrev pub HasNoMarked : List ℕ → ℕ → Type 0
-HasNoMarked piece blocks = (n : ℕ) → n < blocks → bits_of 1 (block n piece) ≡ 0
+HasNoMarked piece blocks = (n : ℕ) → n < blocks → bits_of 1 (byte_block n piece) ≡ 0
 
 -- nothing is known of the LFs of a piece; or how many there are, and a place behind which none stands; or each one's place
-abbrev pub Knows : Known → PieceMarks → List ℕ → Type 0
-Knows Nothing marks piece = Unit {0}
-Knows Number marks piece = (marks.count ≡ lf_count piece) × HasNoLf (drop marks.last piece)
-Knows Places marks piece = Describes marks.ends marks.before piece 64 × (get_or marks.before 64 0 ≡ lf_count piece)
+abbrev pub KnowsLfs : Known → PieceMarks → List ℕ → Type 0
+KnowsLfs Nothing marks piece = Unit {0}
+KnowsLfs Number marks piece = (marks.count ≡ lf_count piece) × HasNoLf (drop marks.last piece)
+KnowsLfs Places marks piece = Describes marks.ends marks.before piece 64 × (get_or marks.before 64 0 ≡ lf_count piece)
 
 -- The marks are those of a piece of 4,096 bytes.
 pub record MarksOf (marks : PieceMarks) (piece : List ℕ) : Type 0 where
   pub long : length piece ≡ 4096
   pub marked_are : AreMarked marks.marked piece 64
   pub sohs_are : marks.marked ≢ 0 → AreSohs marks.sohs piece 64
-  pub ends_known : Knows marks.known marks piece
+  pub ends_known : KnowsLfs marks.known marks piece
 
 -- no byte from one place to another is SOH
 abbrev pub HasNoSoh : List ℕ → ℕ → ℕ → Type 0

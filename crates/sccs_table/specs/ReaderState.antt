@@ -51,9 +51,9 @@ TakesLine None old new line ended = Unit {0}
 TakesLine (Some file) old new line ended = StandsIn old file → StandsIn new file × LineOf (left old file) line ended (left new file)
 
 -- the front of the held bytes went to the line: all before LF, and LF is gone too, or all
-abbrev pub TakesFront : ReaderState → ReaderState → List ℕ → List ℕ → Bool → List ℕ → Type 0
-TakesFront old new line longer true front = (longer ≡ line ++ front) × HasNoLf front × (old.held ≡ front ++ 10 ∷ new.held) × (new.place ≡ old.place + length front + 1)
-TakesFront old new line longer false front = (longer ≡ line ++ front) × HasNoLf front × (old.held ≡ front) × (new.held ≡ []) × (new.place ≡ old.place + length front)
+abbrev pub TakesHeldFront : ReaderState → ReaderState → List ℕ → List ℕ → Bool → List ℕ → Type 0
+TakesHeldFront old new line longer true front = (longer ≡ line ++ front) × HasNoLf front × (old.held ≡ front ++ 10 ∷ new.held) × (new.place ≡ old.place + length front + 1)
+TakesHeldFront old new line longer false front = (longer ≡ line ++ front) × HasNoLf front × (old.held ≡ front) × (new.held ≡ []) × (new.place ≡ old.place + length front)
 
 abbrev pub Takes : ReaderState → ReaderState → List ℕ → List ℕ → Bool → Type 0
-Takes old new line longer ended = (front : List ℕ) × TakesFront old new line longer ended front
+Takes old new line longer ended = (front : List ℕ) × TakesHeldFront old new line longer ended front

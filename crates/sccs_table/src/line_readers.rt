@@ -44,13 +44,13 @@ pub struct LineReader {
 
 impl Model for LineReader {
     ghost use Rattle.sccs_table.specs.ReaderState.{ReaderState};
-    ghost use Rattle.sccs_table.specs.HeldPiece.{reader_state, IsKept};
+    ghost use Rattle.sccs_table.specs.HeldPiece.{reader_state, IsPieceKept};
 
     ghost Value = { ReaderState };
 
     ghost view = { reader_state };
 
-    ghost invariant = { IsKept };
+    ghost invariant = { IsPieceKept };
 }
 
 // makes all bytes behind a front 0

@@ -3,7 +3,7 @@ ghost use Rattle.std.specs.Prelude.{◌≡◌, ◌<◌, ◌≤◌, ◌+◌, ◌*
 ghost use Rattle.std.specs.Simd.Lanes.{Each1, sum_l};
 ghost use Rattle.sccs_table.specs.Runs.{lf_count};
 ghost use Rattle.sccs_table.specs.BlockCounts.{CountedTo};
-ghost use Rattle.sccs_table.specs.Marks.{HasNoMarked, block};
+ghost use Rattle.sccs_table.specs.Marks.{HasNoMarked, byte_block};
 
 use sccs_base::{LF, SOH};
 use std::simd::prelude::*;
@@ -26,7 +26,7 @@ pub struct BlockCount {
 #[inline(always)]
 pub fn lanes_of(piece: &[u8], n: usize) -> u8x64
     requires { 64 * n + 64 ≤ length piece.now }
-    ensures { result ≡ block n piece.now }
+    ensures { result ≡ byte_block n piece.now }
 {
     u8x64::from_slice(&piece[64 * n..])
 }

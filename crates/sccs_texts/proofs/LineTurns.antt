@@ -9,7 +9,7 @@ use Rattle.sccs_tokens.specs.Written.{ended}
 use Rattle.sccs_tokens.proofs.CutLaws.{cut_line, cut_tail}
 use Rattle.sccs_history.specs.declared.headers.Record.{Record}
 use Rattle.sccs_keys.proofs.KeywordLaws.{rest_is}
-use Rattle.sccs_texts.specs.Forms.{LineForm, formed, formed_lines, replaced, sid_before, tabbed}
+use Rattle.sccs_texts.specs.Forms.{LineForm, formed, formed_lines, replaced_line, sid_before, tabbed}
 
 -- the bytes from a place on, as they are searched
 abbrev pub searched : List ℕ → ℕ → List ℕ
@@ -73,8 +73,8 @@ count_fits lines from place before first next is = let long = ap length next.lin
 
 -- a line behind the SID that was found for its inserter
 pub behind_sid : {T E : Type 0} (form : LineForm) (records : List Record) (number inserter : ℕ) (line : List ℕ) (sid : Option (List ℕ)) (a b : Option (List ℕ)) (f g : ℕ) (r : Result T E) → sid ≡ sid_before form.has_sids records inserter
-    → GivesText (tabbed form.module_name ++ (tabbed sid ++ ended (replaced form.facts number line))) a b f g r → GivesText (formed form records number inserter line) a b f g r
-behind_sid form records number inserter line sid a b f g r is text = subst (λ (s : Option (List ℕ)). GivesText (tabbed form.module_name ++ (tabbed s ++ ended (replaced form.facts number line))) a b f g r) is text
+    → GivesText (tabbed form.module_name ++ (tabbed sid ++ ended (replaced_line form.facts number line))) a b f g r → GivesText (formed form records number inserter line) a b f g r
+behind_sid form records number inserter line sid a b f g r is text = subst (λ (s : Option (List ℕ)). GivesText (tabbed form.module_name ++ (tabbed s ++ ended (replaced_line form.facts number line))) a b f g r) is text
 
 pub tabbed_as : {T E : Type 0} (s t : Option (List ℕ)) (a b : Option (List ℕ)) (f g : ℕ) (r : Result T E) → s ≡ t → GivesText (tabbed s) a b f g r → GivesText (tabbed t) a b f g r
 tabbed_as s t a b f g r is text = subst (λ (o : Option (List ℕ)). GivesText (tabbed o) a b f g r) is text

@@ -7,9 +7,9 @@ use Rattle.sccs_tokens.specs.Written.{bytes_of, ended}
 use Rattle.sccs_keys.specs.Keywords.{is_keyword, parts}
 use Rattle.sccs_keys.specs.declared.facts.Facts.{Facts}
 use Rattle.sccs_keys.proofs.KeywordLaws.{plain_stays}
-use Rattle.sccs_texts.specs.Forms.{bare, formed_line, formed_text, has_keywords, LineForm, replaced, sid_before, tabbed, texts, unreplaced}
+use Rattle.sccs_texts.specs.Forms.{bare_form, formed_line, formed_text, has_keywords, LineForm, replaced_line, sid_before, tabbed, texts, unreplaced}
 
-pub as_they_are : (records : List Record) (number : ℕ) (lines : List HistoryLine) → formed_text bare records number lines ≡ bytes_of (texts lines)
+pub as_they_are : (records : List Record) (number : ℕ) (lines : List HistoryLine) → formed_text bare_form records number lines ≡ bytes_of (texts lines)
 as_they_are records number [] = refl
 as_they_are records number (line ∷ lines) = ap (λ rest. ended line.text ++ rest) (as_they_are records (suc number) lines)
 
@@ -35,7 +35,7 @@ rest_false : (a b : Bool) → a || b ≡ false → b ≡ false
 rest_false true b e = cc
 rest_false false b e = e
 
-stays : (facts : Option Facts) (number : ℕ) (line : List ℕ) → list_any is_keyword (parts line) ≡ false → replaced facts number line ≡ line
+stays : (facts : Option Facts) (number : ℕ) (line : List ℕ) → list_any is_keyword (parts line) ≡ false → replaced_line facts number line ≡ line
 stays None number line none = refl
 stays (Some facts) number line none = plain_stays facts number line none
 

@@ -19,8 +19,8 @@ pub record LineForm : Type 0 where
   pub facts : Option Facts
 
 -- a form, without where its parts lie
-abbrev pub form_of : held.LineForm → LineForm
-form_of form = record {
+abbrev pub line_form : held.LineForm → LineForm
+line_form form = record {
   module_name = option_map (λ name. name.now) form.module_name;
   has_sids = form.has_sids;
   facts = option_map (λ facts. facts.now) form.facts;
@@ -42,14 +42,14 @@ sid_before false records inserter = None
 sid_before true records inserter = option_map sid_text (sid_of_serial records inserter)
 
 -- the line with a number, its keywords replaced where they are
-abbrev pub replaced : Option Facts → ℕ → List ℕ → List ℕ
-replaced None number line = line
-replaced (Some facts) number line = expanded facts number line
+abbrev pub replaced_line : Option Facts → ℕ → List ℕ → List ℕ
+replaced_line None number line = line
+replaced_line (Some facts) number line = expanded facts number line
 
 -- what is given for bytes that a delta inserted as a line, which is the one with this number in its text
 abbrev pub formed : LineForm → List Record → ℕ → ℕ → List ℕ → List ℕ
 formed form records number inserter line =
-    tabbed form.module_name ++ (tabbed (sid_before form.has_sids records inserter) ++ ended (replaced form.facts number line))
+    tabbed form.module_name ++ (tabbed (sid_before form.has_sids records inserter) ++ ended (replaced_line form.facts number line))
 
 abbrev pub formed_line : LineForm → List Record → ℕ → HistoryLine → List ℕ
 formed_line form records number line = formed form records number line.inserter line.text
@@ -82,12 +82,12 @@ if_replaced None some = false
 if_replaced (Some facts) some = some
 
 -- the same of these lines
-abbrev pub replaces : LineForm → List (List ℕ) → Bool
-replaces form lines = if_replaced form.facts (has_keywords lines)
+abbrev pub replaces_in : LineForm → List (List ℕ) → Bool
+replaces_in form lines = if_replaced form.facts (has_keywords lines)
 
 -- the form of a line that is given as it is
-abbrev pub bare : LineForm
-bare = record { module_name = None; has_sids = false; facts = None }
+abbrev pub bare_form : LineForm
+bare_form = record { module_name = None; has_sids = false; facts = None }
 
 -- the form in which keywords stay
 abbrev pub unreplaced : LineForm → LineForm

@@ -5,7 +5,7 @@ ghost use Rattle.sccs_base.specs.Cut.{cut};
 ghost use Rattle.sccs_tokens.specs.Written.{ended};
 ghost use Rattle.sccs_keys.specs.Expansion.{expanded, HasMoments};
 ghost use Rattle.sccs_keys.specs.Keywords.{is_keyword, parts};
-ghost use Rattle.sccs_texts.specs.Forms.{form_of, formed, formed_lines, has_prefix, if_replaced, replaced, sid_before, tabbed};
+ghost use Rattle.sccs_texts.specs.Forms.{line_form, formed, formed_lines, has_prefix, if_replaced, replaced_line, sid_before, tabbed};
 
 use crate::finders::SidFinder;
 use memchr::memchr;
@@ -27,21 +27,21 @@ pub struct LineForm<'a> {
 impl<'a> LineForm<'a> {
     // the module name, where it stands before lines
     fn module_text(&self) -> Option<&[u8]>
-        ensures { option_map (λ (b : _). b.now) result ≡ (form_of self.now).module_name }
+        ensures { option_map (λ (b : _). b.now) result ≡ (line_form self.now).module_name }
     {
         self.module_name.map(Line::bytes)
     }
 
     /// Whether something stands before each line.
     pub fn has_prefix(&self) -> bool
-        ensures { result ≡ has_prefix (form_of self.now) }
+        ensures { result ≡ has_prefix (line_form self.now) }
     {
         self.module_name.is_some() || self.has_sids
     }
 
     /// Whether a keyword of a line, or of whole lines, is replaced.
     pub fn replaces(&self, lines: &[u8]) -> bool
-        ensures { result ≡ if_replaced (form_of self.now).facts (list_any is_keyword (parts lines.now)) }
+        ensures { result ≡ if_replaced (line_form self.now).facts (list_any is_keyword (parts lines.now)) }
     {
         self.facts.is_some() && has_keyword(lines)
     }
@@ -98,7 +98,7 @@ fn give_replaced<S: Sink>(
     out: &mut S,
 ) -> Result<(), Failed>
     requires { IfSome facts (λ f. HasMoments f.now) }
-    ensures { GivesText (ended (replaced (option_map (λ f. f.now) facts.entry) number line.now)) (S.given out.old) (S.given out.new) (S.faults out.old) (S.faults out.new) result }
+    ensures { GivesText (ended (replaced_line (option_map (λ f. f.now) facts.entry) number line.now)) (S.given out.old) (S.given out.new) (S.faults out.old) (S.faults out.new) result }
 {
     match facts {
         Some(facts) => give_expanded(facts, number, line, out),
@@ -114,8 +114,8 @@ fn give_behind<S: Sink>(
     line: &[u8],
     out: &mut S,
 ) -> Result<(), Failed>
-    requires { IfSome (form_of form.now).facts HasMoments }
-    ensures { GivesText (tabbed (form_of form.now).module_name ++ (tabbed (option_map (λ t. t.now) sid.entry) ++ ended (replaced (form_of form.now).facts number line.now)))
+    requires { IfSome (line_form form.now).facts HasMoments }
+    ensures { GivesText (tabbed (line_form form.now).module_name ++ (tabbed (option_map (λ t. t.now) sid.entry) ++ ended (replaced_line (line_form form.now).facts number line.now)))
         (S.given out.old) (S.given out.new) (S.faults out.old) (S.faults out.new) result }
 {
     if let Err(fault) = give_tabbed(form.module_text(), out) {
@@ -137,8 +137,8 @@ pub fn give_line<S: Sink>(
     line: &[u8],
     out: &mut S,
 ) -> Result<(), Failed>
-    requires { IfSome (form_of form.now).facts HasMoments }
-    ensures text { GivesText (formed (form_of form.now) sids.old number inserter line.now) (S.given out.old) (S.given out.new) (S.faults out.old) (S.faults out.new) result }
+    requires { IfSome (line_form form.now).facts HasMoments }
+    ensures text { GivesText (formed (line_form form.now) sids.old number inserter line.now) (S.given out.old) (S.given out.new) (S.faults out.old) (S.faults out.new) result }
     ensures table { sids.new ≡ sids.old }
 {
     let mut row = [0; DETAIL_ROOM];
@@ -156,10 +156,10 @@ pub fn give_lines<S: Sink>(
     lines: &[u8],
     out: &mut S,
 ) -> Result<(), Failed>
-    requires facts { IfSome (form_of form.now).facts HasMoments }
+    requires facts { IfSome (line_form form.now).facts HasMoments }
     requires whole { (cut lines.now).tail ≡ [] }
     requires few { before + length (cut lines.now).lines < 2 ^ 64 }
-    ensures text { GivesText (formed_lines (form_of form.now) sids.old (before + 1) inserter (cut lines.now).lines) (S.given out.old) (S.given out.new) (S.faults out.old) (S.faults out.new) result }
+    ensures text { GivesText (formed_lines (line_form form.now) sids.old (before + 1) inserter (cut lines.now).lines) (S.given out.old) (S.given out.new) (S.faults out.old) (S.faults out.new) result }
     ensures table { sids.new ≡ sids.old }
 {
     let mut row = [0; DETAIL_ROOM];

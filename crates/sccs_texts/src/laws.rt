@@ -2,12 +2,12 @@ ghost use Rattle.std.specs.Prelude.{◌≡◌, ◌+◌, ◌++◌, ℕ, false, Li
 ghost use Rattle.sccs_tokens.specs.Written.{bytes_of};
 ghost use Rattle.sccs_history.specs.Body.{HistoryLine};
 ghost use Rattle.sccs_history.specs.declared.headers.Record.{Record};
-ghost use Rattle.sccs_texts.specs.Forms.{LineForm, bare, formed_text, has_keywords, texts, unreplaced};
+ghost use Rattle.sccs_texts.specs.Forms.{LineForm, bare_form, formed_text, has_keywords, texts, unreplaced};
 
 /// In a form without module name, SIDs and keywords lines are given as they are, each with LF.
 pub fn lines_as_they_are()
     ensures { (records : List Record) (number : ℕ) (lines : List HistoryLine)
-        → formed_text bare records number lines ≡ bytes_of (texts lines) }
+        → formed_text bare_form records number lines ≡ bytes_of (texts lines) }
 {}
 
 /// A text without keywords is the same with and without what they are replaced by.

@@ -2,7 +2,7 @@
 use Rattle.std.proofs.Common.{◌≡◌, ℕ, List, [], ◌∷◌, None, Some, refl}
 use Rattle.std.specs.Prelude.{option_map}
 use Rattle.sccs_sid.specs.Words.{one}
-use Rattle.sccs_tokens.specs.Tokens.{delta, exactly_seven}
+use Rattle.sccs_tokens.specs.Tokens.{delta_token, exactly_seven}
 
 pub seven_last : (a b c d e f : List ℕ) (ws : List (List ℕ)) → exactly_seven (a ∷ b ∷ c ∷ d ∷ e ∷ f ∷ ws) ≡ option_map (λ g. a ∷ b ∷ c ∷ d ∷ e ∷ f ∷ g ∷ []) (one ws)
 seven_last a b c d e f [] = refl
@@ -20,7 +20,7 @@ seven_is (a ∷ b ∷ c ∷ d ∷ e ∷ f ∷ []) vs is = cc
 seven_is (a ∷ b ∷ c ∷ d ∷ e ∷ f ∷ g ∷ []) vs is = cc
 seven_is (a ∷ b ∷ c ∷ d ∷ e ∷ f ∷ g ∷ h ∷ ws) vs is = cc
 
-pub no_delta : (ws : List (List ℕ)) → exactly_seven ws ≡ None → None ≡ delta ws
+pub no_delta : (ws : List (List ℕ)) → exactly_seven ws ≡ None → None ≡ delta_token ws
 no_delta [] is = refl
 no_delta (a ∷ []) is = refl
 no_delta (a ∷ b ∷ []) is = refl

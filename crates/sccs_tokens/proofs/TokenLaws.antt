@@ -16,7 +16,7 @@ use Rattle.sccs_history.specs.declared.headers.Flag.{Flag}
 use Rattle.sccs_sid.specs.Reading.{number_at, byte_at, number, skip}
 use Rattle.sccs_history.specs.Numbers.{is_empty}
 use Rattle.sccs_sid.specs.Words.{begins_blank, ends_blank, skip_blanks, drop_blanks, three}
-use Rattle.sccs_tokens.specs.Tokens.{drop_zeros, serial, counts, serials, plain_serial, listed, is_set_off, text, flag, serial_field, control, token}
+use Rattle.sccs_tokens.specs.Tokens.{drop_zeros, serial, count_token, serials, plain_serial, listed, is_set_off, text, flag, serial_field, control, token}
 use Rattle.sccs_tokens.specs.Written.{IsSerial, spaced, five, behind_blank, counts_line, mr_line, comment_line, flag_line, item_line}
 use Rattle.sccs_tokens.specs.declared.line_tokens.LineToken.TheVariants.{Counts, Listed, Mr, Comment, FlagIs, Insert, Delete, End, Plain}
 use Rattle.sccs_tokens.specs.declared.line_tokens.ListKind.TheVariants.{Included, Excluded, Ignored}
@@ -186,8 +186,8 @@ counts_word : (i d u : ℕ) → IsWord (five i ++ (47 ∷ five d ++ (47 ∷ five
 counts_word i d u =
     five_blanks i (47 ∷ five d ++ (47 ∷ five u)) ((λ e. absurd (omega arith)), five_blanks d (47 ∷ five u) ((λ e. absurd (omega arith)), five_blanks u [] tt))
 
-counts_again : (i d u : ℕ) → i < 100000 → d < 100000 → u < 100000 → counts ((five i ++ (47 ∷ five d ++ (47 ∷ five u))) ∷ []) ≡ Some (Counts i d u)
-unfolding counts
+counts_again : (i d u : ℕ) → i < 100000 → d < 100000 → u < 100000 → count_token ((five i ++ (47 ∷ five d ++ (47 ∷ five u))) ∷ []) ≡ Some (Counts i d u)
+unfolding count_token
 counts_again i d u si sd su = rw (three_again i d u si sd su) refl
 
 pub token_counts : (i d u : ℕ) → i < 100000 → d < 100000 → u < 100000 → token (counts_line i d u) ≡ Some (Counts i d u)

@@ -15,7 +15,7 @@ use Rattle.sccs_history.specs.Numbers.{is_empty, share}
 use Rattle.sccs_sid.specs.SidLists.{begins}
 use Rattle.sccs_history.specs.History.{NamesSmaller}
 use Rattle.sccs_sid.specs.Words.{◌>>=◌, one, found, begins_blank, ends_blank, skip_blanks, kept, drop_blanks, words, three}
-use Rattle.sccs_tokens.specs.Tokens.{serial, predecessor, is_removed, delta_of, delta, counts, plain_serial, serials, is_set_off, listed, text, flag, serial_field, control, behind_soh, token}
+use Rattle.sccs_tokens.specs.Tokens.{serial, predecessor, is_removed, delta_of, delta_token, count_token, plain_serial, serials, is_set_off, listed, text, flag, serial_field, control, behind_soh, token}
 use Rattle.sccs_history.specs.declared.headers.Record.{Record}
 use Rattle.sccs_history.specs.declared.headers.Flag.{Flag}
 use Rattle.sccs_tokens.specs.Written.{delta_part}
@@ -117,8 +117,8 @@ three_small word =
     then_any AreSmall (found (byte_at 47 b.1)) _ λ after_b.
     then_some (λ n. n ≤ 99999) AreSmall (number 5 after_b) _ (whole_small (number_at 5 after_b) (number_small after_b)) λ c small_c. (small_a, small_b, small_c)
 
-counts_well : (ws : List (List ℕ)) → Well (counts ws)
-unfolding counts AreSmall
+counts_well : (ws : List (List ℕ)) → Well (count_token ws)
+unfolding count_token AreSmall
 counts_well ws = then_any IsValidToken (one ws) _ λ word. then_some AreSmall IsValidToken (three 5 47 word) _ (three_small word) λ n small. small
 
 -- ---- serials
@@ -164,7 +164,7 @@ delta_of_well kind sid date time login own before =
     then_some (λ n. 0 < n) IsValidToken (serial own) _ (serial_some own) λ n some.
     then_any IsValidToken (predecessor before) _ λ p. (some, tt, tt, tt, refl)
 
-delta_well : (ws : List (List ℕ)) → Well (delta ws)
+delta_well : (ws : List (List ℕ)) → Well (delta_token ws)
 delta_well (kind ∷ sid ∷ date ∷ time ∷ login ∷ own ∷ before ∷ []) = delta_of_well kind sid date time login own before
 delta_well _ = tt
 
@@ -209,8 +209,8 @@ flag_well (letter ∷ bytes) =
 
 -- what each kind of line that has a letter behind SOH says keeps P
 pub record EachKeeps (P : LineToken → Type 0) (letter : ℕ) (bytes : List ℕ) : Type 0 where
-  pub on_counts : IfSome (counts (words bytes)) P
-  pub on_delta : IfSome (delta (words bytes)) P
+  pub on_counts : IfSome (count_token (words bytes)) P
+  pub on_delta : IfSome (delta_token (words bytes)) P
   pub on_list : (which : ListKind) → IfSome (option_map (Listed which) (listed bytes)) P
   pub on_mr : IfSome (option_map Mr (text bytes)) P
   pub on_comment : IfSome (option_map Comment (text bytes)) P
@@ -267,8 +267,8 @@ made : {A : Type 0} (P : LineToken → Type 0) (f : A → LineToken) (o : Option
 made P f None each = tt
 made P f (Some x) each = each x
 
-counts_keep : (P : LineToken → Type 0) (ws : List (List ℕ)) → KindsKeep P → IfSome (counts ws) P
-unfolding counts
+counts_keep : (P : LineToken → Type 0) (ws : List (List ℕ)) → KindsKeep P → IfSome (count_token ws) P
+unfolding count_token
 counts_keep P ws kinds = then_any P (one ws) _ λ word. then_any P (three 5 47 word) _ λ n. kinds.counts n.0 n.1 n.2
 
 delta_of_keeps : (P : LineToken → Type 0) (kind sid date time login own before : List ℕ) → KindsKeep P → IfSome (delta_of kind sid date time login own before) P
@@ -281,7 +281,7 @@ delta_of_keeps P kind sid date time login own before kinds =
     then_any P (serial own) _ λ n.
     then_any P (predecessor before) _ λ p. kinds.delta _ refl
 
-delta_keeps : (P : LineToken → Type 0) (ws : List (List ℕ)) → KindsKeep P → IfSome (delta ws) P
+delta_keeps : (P : LineToken → Type 0) (ws : List (List ℕ)) → KindsKeep P → IfSome (delta_token ws) P
 delta_keeps P (kind ∷ sid ∷ date ∷ time ∷ login ∷ own ∷ before ∷ []) kinds = delta_of_keeps P kind sid date time login own before kinds
 delta_keeps P _ kinds = tt
 

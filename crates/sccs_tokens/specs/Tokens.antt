@@ -44,13 +44,13 @@ abbrev pub exactly_seven : List (List ℕ) → Option (List (List ℕ))
 exactly_seven (a ∷ b ∷ c ∷ d ∷ e ∷ f ∷ g ∷ []) = Some (a ∷ b ∷ c ∷ d ∷ e ∷ f ∷ g ∷ [])
 exactly_seven _ = None
 
-abbrev pub delta : List (List ℕ) → Option LineToken
-delta (kind ∷ sid ∷ date ∷ time ∷ login ∷ own ∷ before ∷ []) = delta_of kind sid date time login own before
-delta _ = None
+abbrev pub delta_token : List (List ℕ) → Option LineToken
+delta_token (kind ∷ sid ∷ date ∷ time ∷ login ∷ own ∷ before ∷ []) = delta_of kind sid date time login own before
+delta_token _ = None
 
 -- a word of lines inserted, deleted and unchanged
-unfoldable pub counts : List (List ℕ) → Option LineToken
-counts ws = do
+unfoldable pub count_token : List (List ℕ) → Option LineToken
+count_token ws = do
   word ← one ws
   n ← three 5 47 word
   Some (Counts n.0 n.1 n.2)
@@ -120,8 +120,8 @@ part_control letter bytes =
 -- the same in a delta table, or behind it
 unfoldable pub control : ℕ → List ℕ → Option LineToken
 control letter bytes =
-    if letter == 115 then (if is_set_off bytes then counts (words bytes) else None)
-    else if letter == 100 then (if begins_blank bytes then delta (words bytes) else None)
+    if letter == 115 then (if is_set_off bytes then count_token (words bytes) else None)
+    else if letter == 100 then (if begins_blank bytes then delta_token (words bytes) else None)
     else if letter == 105 then option_map (Listed Included) (listed bytes)
     else if letter == 120 then option_map (Listed Excluded) (listed bytes)
     else if letter == 103 then option_map (Listed Ignored) (listed bytes)

@@ -5,7 +5,7 @@ ghost use Rattle.sccs_history.specs.Numbers.{is_empty};
 ghost use Rattle.sccs_sid.specs.Reading.{only};
 ghost use Rattle.sccs_sid.specs.Words.{begins_blank, drop_blanks, skip_blanks, words};
 ghost use Rattle.sccs_tokens.specs.Written.{five};
-ghost use Rattle.sccs_tokens.specs.Tokens.{behind_soh, body_control, control, counts, delta, delta_of, exactly_seven, flag, listed, part_control, token, text};
+ghost use Rattle.sccs_tokens.specs.Tokens.{behind_soh, body_control, control, count_token, delta_token, delta_of, exactly_seven, flag, listed, part_control, token, text};
 
 use crate::boxed_records::BoxedRecord;
 use crate::fields::{
@@ -127,7 +127,7 @@ fn record_of(alloc: Global, words: &DeltaWords<'_>) -> Option<Record>
 
 // what a delta line says behind its letter
 fn delta(alloc: Global, bytes: &[u8]) -> Result<Option<LineToken>, Memory>
-    ensures { IfOk result (λ o. o ≡ delta (words bytes.now)) }
+    ensures { IfOk result (λ o. o ≡ delta_token (words bytes.now)) }
 {
     let Some(words) = delta_words(bytes) else {
         return Ok(None);
@@ -141,9 +141,9 @@ fn delta(alloc: Global, bytes: &[u8]) -> Result<Option<LineToken>, Memory>
 
 // lines inserted, deleted and unchanged
 
-#[tactic(auto, unfolding(crate::specs::Tokens::counts))]
+#[tactic(auto, unfolding(crate::specs::Tokens::count_token))]
 fn counts(bytes: &[u8]) -> Option<LineToken>
-    ensures { result ≡ counts (words bytes.now) }
+    ensures { result ≡ count_token (words bytes.now) }
 {
     let word = one_word(bytes)?;
     let (inserted, deleted, unchanged) = three(5, b'/', word)?;

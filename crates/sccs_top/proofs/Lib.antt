@@ -3,3 +3,5 @@ pub mod FollowingLaws
 pub mod ListedRuns
 pub mod MadeHistoryLaws
 pub mod RunLaws
+pub mod SingleWords
+pub mod SoakFits

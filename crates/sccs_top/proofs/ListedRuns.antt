@@ -51,21 +51,3 @@ pub val_runs : (who : Caller) (command : Command) (words : ValWords) (r : Result
     → RunsCommand (val_words_of command) (action_of who command) (operands_of command) r s s2
 val_runs who command words r s s2 is runs =
     subst (λ (it : Command). RunsCommand (val_words_of it) (action_of who it) (operands_of it) r s s2) (sym is) (val_command who words r s s2 runs)
-
--- the command is val, where it has the words of val
-pub is_val : (command : Command) (words : ValWords) → val_words_of command ≡ Some words → command ≡ c.Val words
-is_val (c.Val other) words is = ap c.Val (some_same other words is)
-  where
-    some_same : (a b : ValWords) → Some a ≡ Some b → a ≡ b
-    some_same a b e = cc
-is_val (c.Admin words operands) val is = absurd cc
-is_val (c.Get words operands) val is = absurd cc
-is_val (c.Delta words name) val is = absurd cc
-is_val (c.Unget words operands) val is = absurd cc
-is_val (c.Sact operands) val is = absurd cc
-is_val (c.Rmdel sid operands) val is = absurd cc
-is_val (c.Prs words operands) val is = absurd cc
-is_val (c.What first operands) val is = absurd cc
-is_val (c.Recover operands) val is = absurd cc
-is_val c.Batch val is = absurd cc
-is_val (c.Soak number) val is = absurd cc

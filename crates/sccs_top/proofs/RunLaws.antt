@@ -1,11 +1,10 @@
 -- How a run ends whose steps end so.
-use Rattle.std.proofs.Common.{◌≡◌, ◌≢◌, ◌⊎◌, ℕ, ◌≤◌, Bool, true, false, cond, List, [], ◌∷◌, Option, None, Some, IfSome, IsOk, Result, Ok, Err, inl, inr, refl, sym, ap, subst, arith}
+use Rattle.std.proofs.Common.{◌≡◌, ◌≢◌, ℕ, ◌≤◌, Bool, true, false, cond, List, [], ◌∷◌, Option, None, Some, is_some, IsOk, Result, Ok, Err, inl, inr, refl, sym, ap, subst, ◌∙◌, arith}
+use Rattle.std.specs.List.{AllByRecursion}
 use Rattle.sccs_base.specs.Stream.{Rose}
 use Rattle.sccs_base.proofs.Gifts.{some_none}
-use Rattle.sccs_disk.specs.Files.{Folder, View, view_in}
+use Rattle.sccs_disk.specs.Files.{Folder, view_in}
 use Rattle.sccs_disk.specs.Told.{Told, seen}
-use Rattle.sccs_sid.specs.declared.refusals.Refusal.TheVariants as refusals
-use Rattle.sccs_sid.specs.declared.refusals.StepFault.TheVariants as step
 use Rattle.sccs_words.specs.Meaning.{meaning}
 use Rattle.sccs_words.specs.declared.commands.Usage.{Usage}
 use Rattle.sccs_words.specs.declared.commands.Command.{Command}
@@ -14,19 +13,16 @@ use Rattle.sccs_files.specs.StepFiles.{Shows}
 use Rattle.sccs_moments.specs.Moments.{LeavesCalm}
 use Rattle.sccs_moments.proofs.Recoveries.{calm_same, firm_same, story_same}
 use Rattle.sccs_moments.proofs.UnlockedBut.{but_same}
-use Rattle.sccs_steps.specs.Actions.{Action, IsHeard, Stepped, hears}
-use Rattle.sccs_steps.specs.Calls.{Meets, Scene, World, scene, shown, world}
-use Rattle.sccs_steps.specs.Causes.{Ignores, RunCauses, counts}
+use Rattle.sccs_steps.specs.Actions.{Action, hears}
+use Rattle.sccs_steps.specs.Calls.{Scene, World, shown}
+use Rattle.sccs_steps.specs.Causes.{Counts, Ignores, RunCauses, counts}
 use Rattle.sccs_steps.specs.Recovering.{has_made}
 use Rattle.sccs_steps.specs.Running.{IsInput}
 use Rattle.sccs_steps.specs.Settings.{Setting}
 use Rattle.sccs_steps.specs.StepLists.{NamedStep, err_of, next_text}
-use Rattle.sccs_steps.specs.StepStops.{StepMoments}
 use Rattle.sccs_steps.proofs.Cleared.{cleared_same}
 use Rattle.sccs_steps.proofs.MomentLists.{moments_never}
 use Rattle.sccs_steps.proofs.NameStops.{alike_told}
-use Rattle.sccs_steps.proofs.ReadingMoments.{reading_moments}
-use Rattle.sccs_steps.proofs.ReadingSteps.{ends_silent}
 use Rattle.sccs_steps.proofs.SafeImages.{images_now}
 use Rattle.sccs_steps.specs.declared.faults.Fault.{Fault}
 use Rattle.sccs_steps.specs.declared.faults.Fault.TheVariants as ends
@@ -37,14 +33,20 @@ use Rattle.sccs_courses.specs.Sayings.{IsSaid}
 use Rattle.sccs_courses.proofs.CourseMomentLaws.{course_moments}
 use Rattle.sccs_courses.proofs.OneAction.{steps_course}
 use Rattle.sccs_courses.proofs.OwnFiles.{own_makes, own_stops, own_unlocked, spares_in}
-use Rattle.sccs_courses.proofs.QuietCourses.{course_heard, course_with}
+use Rattle.sccs_courses.specs.QuietSettings.{with_input}
+use Rattle.sccs_courses.proofs.QuietCourses.{course_chosen, course_heard, course_with}
 use Rattle.sccs_courses.proofs.SaidCourses.{said_course}
 use Rattle.sccs_batch.specs.Batches.{RunsOwn}
 use Rattle.sccs_batch.specs.declared.entries.Entry.{Entry}
-use Rattle.sccs_top.specs.CommandLaws.{action_takes, command_might}
+use Rattle.sccs_soak.specs.Commands.{soak_commands}
+use Rattle.sccs_soak.specs.Runs.{RunsSoak}
+use Rattle.sccs_soak.specs.Soak.{BegunSoak, WholeSoak, soak_course}
+use Rattle.sccs_top.specs.CommandLaws.{command_might}
 use Rattle.sccs_top.specs.Messages.{usage_line}
-use Rattle.sccs_top.specs.Runs.{AsksBy, AsksInput, AsksMeant, BegunBy, BegunCommand, BegunMeant, BegunOf, BegunRun, Caller, Ends, FitsEntry, IsGiven, LeavesSingle, MadeBy, MakesSteps, RecoversRun, RunsCommand, RunsMeant, RunsWords, SpeaksWords, StopsSteps, UnlockedSteps, WholeCommand, WholeMeant, WholeOf, WholeRun, action_of, caller, command_course, course_by, entry_command, is_list, is_silent, locks_names, made_by, only_reads, operands_of, run_course, run_portions, run_steps, steps_by, takes_input, val_words_of, working}
-use Rattle.sccs_top.specs.Unbuilt.{unbuilt, unbuilt_keeps}
+use Rattle.sccs_top.specs.Runs.{AsksBy, AsksInput, AsksMeant, BegunBy, BegunCommand, BegunMeant, BegunOf, BegunRun, Caller, EndsRun, FitsEntry, IsGiven, LeavesInput, LeavesSingle, MadeBy, MakesSteps, RecoversRun, RunsCommand, RunsMeant, RunsWords, SpeaksWords, StopsSteps, UnlockedSteps, WholeCommand, WholeMeant, WholeOf, WholeRun, action_of, action_takes, caller_by, command_course, course_by, entry_command, is_list, is_silent, list_in, list_takes_input, steps_answer, only_reads, operands_of, run_course, run_portions, run_steps, steps_by, words_take_input, val_words_of, working}
+use Rattle.sccs_top.proofs.SoakFits.{soak_fits}
+use Rattle.sccs_top.specs.declared.commands.CommandList.{CommandList}
+use Rattle.sccs_top.specs.declared.commands.CommandList.TheVariants as list
 use Rattle.sccs_top.specs.declared.answers.Answer.{Answer}
 use Rattle.sccs_top.specs.declared.answers.Answer.TheVariants.{Finished, Memory, ReadFault, WriteFault, DiskFault}
 
@@ -96,33 +98,61 @@ unsaid_causes i o e e2 d later rose = record {
 -- ---- an entry of a batch
 
 -- with the input of its own
-pub entry_runs : (place : List ℕ) (e : Entry) (r : Result ℕ Fault) (left left2 : Option (List ℕ)) (a b : Scene) (o o2 x x2 d d2 : ℕ) → left ≡ Some e.input
-    → RunsWords (caller e.stamp place) (meaning e.words) r (record { left = left; stage = a; faults = counts 0 o x d }) (record { left = left2; stage = b; faults = counts 0 o2 x2 d2 })
-    → RunsOwn (entry_command place e) (FitsEntry place e) (WholeOf place e) (BegunOf place e) r (record { left = Some []; stage = a; faults = counts 0 o x d }) (record { left = Some []; stage = b; faults = counts 0 o2 x2 d2 })
-entry_runs place e r left left2 a b o o2 x x2 d d2 is (inl runs) =
-    let who : Caller = caller e.stamp place in
+pub entry_runs : (quiet : Bool) (place : List ℕ) (e : Entry) (r : Result ℕ Fault) (left left2 : Option (List ℕ)) (a b : Scene) (o o2 x x2 d d2 : ℕ) → left ≡ Some e.input
+    → RunsWords (caller_by quiet e.stamp place) (meaning e.words) r (record { left = left; stage = a; faults = counts 0 o x d }) (record { left = left2; stage = b; faults = counts 0 o2 x2 d2 })
+    → RunsOwn (entry_command quiet place e) (FitsEntry quiet place e) (WholeOf quiet place e) (BegunOf quiet place e) r (record { left = Some []; stage = a; faults = counts 0 o x d }) (record { left = Some []; stage = b; faults = counts 0 o2 x2 d2 })
+entry_runs quiet place e r left left2 a b o o2 x x2 d d2 is (inl runs) =
+    let who : Caller = caller_by quiet e.stamp place in
     let s : Setting = record { left = left; stage = a; faults = counts 0 o x d } in
     let t : Setting = record { left = left2; stage = b; faults = counts 0 o2 x2 d2 } in
     inl
-    (course_heard (entry_command place e) (λ i. FitsEntry place e) (WholeOf place e) (BegunOf place e) r s t (Some []) (Some []) 0 refl refl
-    (course_with (command_course who (meaning e.words)) e.input (AsksInput who (meaning e.words) (Some e.input)) (WholeOf place e) (BegunOf place e) r s t
-    (subst (λ (l : Option (List ℕ)). RunsCourse (command_course who (meaning e.words)) (AsksInput who (meaning e.words) l) (WholeOf place e) (BegunOf place e) r s t) is runs)))
-entry_runs place e r left left2 a b o o2 x x2 d d2 is (inr never) =
+    (course_heard (entry_command quiet place e) (λ i. FitsEntry quiet place e) (WholeOf quiet place e) (BegunOf quiet place e) r s t (Some []) (Some []) 0 refl refl
+    (course_with (command_course who (meaning e.words)) e.input (AsksInput who (meaning e.words) (Some e.input)) (WholeOf quiet place e) (BegunOf quiet place e) r s t
+    (subst (λ (l : Option (List ℕ)). RunsCourse (command_course who (meaning e.words)) (AsksInput who (meaning e.words) l) (WholeOf quiet place e) (BegunOf quiet place e) r s t) is runs)))
+entry_runs quiet place e r left left2 a b o o2 x x2 d d2 is (inr never) =
     inr (never.0, ap (λ (u : Setting). record { left = Some []; stage = u.stage; faults = u.faults }) never.1)
 
 -- ---- lists, and single commands
 
-abbrev pub RunsBy : Bool → Caller → Command → Result ℕ Fault → Setting → Setting → Type 0
+abbrev pub RunsBy : Option CommandList → Caller → Command → Result ℕ Fault → Setting → Setting → Type 0
 RunsBy list who command r s t = RunsCourse (course_by list who command) (AsksBy list who command s.left) (WholeRun list who command) (BegunRun list who command) r s t
 
-pub run_by : (list : Bool) (who : Caller) (command : Command) (r : Result ℕ Fault) (s t : Setting) → is_list command ≡ list → RunsBy list who command r s t → RunsMeant who (Ok command) r s t
-run_by list who command r s t is runs = subst (λ (b : Bool). RunsBy b who command r s t) (sym is) runs
+pub run_by : (list : Option CommandList) (who : Caller) (command : Command) (r : Result ℕ Fault) (s t : Setting) → list_in command ≡ list → RunsBy list who command r s t → RunsMeant who (Ok command) r s t
+run_by list who command r s t is runs = subst (λ (o : Option CommandList). RunsBy o who command r s t) (sym is) runs
 
-pub listed_alone : (who : Caller) (command : Command) (r : Result ℕ Fault) (s t : Setting) → is_list command ≡ true → LeavesSingle who command r s t
-listed_alone who command r s t is other = absurd (cc)
+-- a soak has an input of its own, and what is asked of its commands holds
+pub soak_runs : (number : ℕ) (who : Caller) (command : Command) (r : Result ℕ Fault) (s t : Setting) (left left2 : Option (List ℕ)) (count : ℕ) → s.faults.input ≡ 0 → t.faults.input ≡ 0
+    → RunsSoak (entry_command true who.place) (FitsEntry true who.place) (WholeOf true who.place) (BegunOf true who.place) number r s t → RunsBy (Some (list.Soak number)) who command r (with_input left count s) (with_input left2 count t)
+soak_runs number who command r s t left left2 count none none2 runs =
+    course_heard (soak_course (entry_command true who.place) number) (λ i. Unit {0}) (WholeSoak (WholeOf true who.place) number) (BegunSoak (WholeOf true who.place) (BegunOf true who.place) number) r s t left left2 count none none2
+    (course_chosen (λ i. soak_course (entry_command true who.place) number) (soak_course (entry_command true who.place) number) (λ i. Unit {0}) (λ i. AllByRecursion (FitsEntry true who.place) (soak_commands number))
+    (WholeSoak (WholeOf true who.place) number) (BegunSoak (WholeOf true who.place) (BegunOf true who.place) number) r s t runs.takes (λ i any. refl) (λ i any. soak_fits true who.place number) runs)
+
+is_listed : (command : Command) (o : Option CommandList) → list_in command ≡ o → is_list command ≡ is_some o
+is_listed command o is = ap (λ (x : Option CommandList). is_some x) is
+
+pub listed_alone : (who : Caller) (command : Command) (some : CommandList) (r : Result ℕ Fault) (s t : Setting) → list_in command ≡ Some some → LeavesSingle who command r s t
+listed_alone who command some r s t is other = absurd (let no : true ≡ false = sym (is_listed command (Some some) is) ∙ other in cc)
 
 pub single_alone : (who : Caller) (command : Command) (r : Result ℕ Fault) (s t : Setting) → RunsCommand (val_words_of command) (action_of who command) (operands_of command) r s t → LeavesSingle who command r s t
 single_alone who command r s t runs other = record { recovers = runs.recovers; reads = runs.reads; silent = runs.silent; ignores = runs.ignores }
+
+-- ---- the input
+
+pub batch_input : (who : Caller) (command : Command) (r : Result ℕ Fault) (s t : Setting) → list_in command ≡ Some list.Batch → LeavesInput who command r s t
+batch_input who command r s t is none =
+    absurd (let no : true ≡ false = sym (ap (λ (o : Option CommandList). list_takes_input o (hears (action_of who command) (operands_of command))) is) ∙ none in cc)
+
+no_rose : Rose 0 0 → ⊥
+no_rose (inl above) = absurd (omega (arith, above))
+no_rose (inr full) = absurd (let no : 0 ≡ 18446744073709551615 = full in omega (arith, no))
+
+pub soak_input : (who : Caller) (command : Command) (r : Result ℕ Fault) (s t : Setting) (c c2 : Counts) → t.left ≡ s.left → t.faults.input ≡ s.faults.input → c.input ≡ 0 → c2.input ≡ 0 → RunCauses r c c2 → LeavesInput who command r s t
+soak_input who command r s t c c2 left same none none2 causes is =
+    record { same = left; quiet = same; cause = λ fault. no_rose (subst (λ k. Rose 0 k) none2 (subst (λ k. Rose k c2.input) none (causes.read fault))) }
+
+pub single_input : (who : Caller) (command : Command) (r : Result ℕ Fault) (s t : Setting) → list_in command ≡ None → RunsCommand (val_words_of command) (action_of who command) (operands_of command) r s t → LeavesInput who command r s t
+single_input who command r s t is runs none = runs.ignores (sym (ap (λ (o : Option CommandList). list_takes_input o (hears (action_of who command) (operands_of command))) is) ∙ none)
 
 -- ---- how a run ends
 
@@ -130,20 +160,20 @@ given_to : (who : Caller) (meant : Result Command Usage) (left : Option (List �
 given_to who (Err usage) left m i given = (tt, (((λ fits. absurd (cc)), tt), tt))
 given_to who (Ok command) left m i given = given
 
-answer_ends : (code : ℕ) (w : List ℕ → Bool) (answer : Answer) (m : Folder) (ts : List NamedStep) (a b : World) → RunsTo code w (made_by answer) m ts a b → Ends code w answer m ts a b
+answer_ends : (code : ℕ) (w : List ℕ → Bool) (answer : Answer) (m : Folder) (ts : List NamedStep) (a b : World) → RunsTo code w (steps_answer answer) m ts a b → EndsRun code w answer m ts a b
 answer_ends code w (Finished status) m ts a b runs = runs
 answer_ends code w Memory m ts a b runs = (runs.0, inr runs.1)
 answer_ends code w ReadFault m ts a b runs = runs
 answer_ends code w WriteFault m ts a b runs = runs
 answer_ends code w DiskFault m ts a b runs = runs
 
-pub meant_ends : (who : Caller) (meant : Result Command Usage) (answer : Answer) (made : Result ℕ Fault) (s t : Setting) → made_by answer ≡ made → RunsMeant who meant made s t → MakesSteps who meant answer s.left s.stage t.stage
+pub meant_ends : (who : Caller) (meant : Result Command Usage) (answer : Answer) (made : Result ℕ Fault) (s t : Setting) → steps_answer answer ≡ made → RunsMeant who meant made s t → MakesSteps who meant answer s.left s.stage t.stage
 meant_ends who meant answer made s t answered runs = λ m i given shows.
     answer_ends (run_course who meant m i).status (working who meant m i) answer m (run_steps who meant m i) (shown s.stage) (shown t.stage)
     (subst (λ (r : Result ℕ Fault). RunsTo (run_course who meant m i).status (working who meant m i) r m (run_steps who meant m i) (shown s.stage) (shown t.stage)) (sym answered)
     (own_makes (run_course who meant) (AsksMeant who meant s.left) made s.stage t.stage runs.steps m i (given_to who meant s.left m i given) shows))
 
-pub meant_stops : (who : Caller) (meant : Result Command Usage) (answer : Answer) (made : Result ℕ Fault) (s t : Setting) → made_by answer ≡ made → RunsMeant who meant made s t → StopsSteps who meant answer s.left s.stage t.stage
+pub meant_stops : (who : Caller) (meant : Result Command Usage) (answer : Answer) (made : Result ℕ Fault) (s t : Setting) → steps_answer answer ≡ made → RunsMeant who meant made s t → StopsSteps who meant answer s.left s.stage t.stage
 meant_stops who meant answer made s t answered runs = λ folder i m past given shows told calm safe.
     subst (λ (r : Result ℕ Fault). CourseMoments (working who meant folder i) r folder (run_steps who meant folder i) s.stage t.stage m past) (sym answered)
     (own_stops (run_course who meant) (AsksMeant who meant s.left) made s.stage t.stage runs.stops folder i m past (given_to who meant s.left folder i given) shows told calm safe)
@@ -152,7 +182,7 @@ pub meant_unlocked : (who : Caller) (meant : Result Command Usage) (made : Resul
 meant_unlocked who meant made s t runs = λ folder i given shows exempt plain freed.
     own_unlocked (run_course who meant) (AsksMeant who meant s.left) s.stage.told t.stage.told runs.unlocked folder i (given_to who meant s.left folder i given) shows exempt plain freed
 
-pub meant_speaks : (who : Caller) (meant : Result Command Usage) (answer : Answer) (made : Result ℕ Fault) (s t : Setting) → made_by answer ≡ made → RunsMeant who meant made s t → SpeaksWords who meant answer s.stage.err t.stage.err
+pub meant_speaks : (who : Caller) (meant : Result Command Usage) (answer : Answer) (made : Result ℕ Fault) (s t : Setting) → steps_answer answer ≡ made → RunsMeant who meant made s t → SpeaksWords who meant answer s.stage.err t.stage.err
 meant_speaks who meant answer made s t answered runs = subst (λ (r : Result ℕ Fault). SpeaksTo (WholeMeant who meant) (BegunMeant who meant) r s.stage.err t.stage.err) (sym answered) runs.speaks
 
 -- the words as they are meant
@@ -180,12 +210,16 @@ pub single_silent : (who : Caller) (meant : Result Command Usage) (command : Com
 single_silent who meant command r s t is leaves only =
     let one = only_single (is_list command) (action_of who command).silent (subst (λ (m : Result Command Usage). is_silent who m ≡ true) is only) in (leaves one.0).silent one.1
 
-pub single_ignores : (who : Caller) (meant : Result Command Usage) (command : Command) (r : Result ℕ Fault) (s t : Setting) → meant ≡ Ok command → LeavesSingle who command r s t → takes_input who meant ≡ false
+pub input_left : (who : Caller) (meant : Result Command Usage) (command : Command) (r : Result ℕ Fault) (s t : Setting) → meant ≡ Ok command → LeavesInput who command r s t → words_take_input who meant ≡ false
     → Ignores ends.ReadFault s.left t.left s.faults.input t.faults.input r
-single_ignores who meant command r s t is leaves only =
-    let one = no_list (is_list command) (hears (action_of who command) (operands_of command)) (subst (λ (m : Result Command Usage). takes_input who m ≡ false) is only) in (leaves one.0).ignores one.1
+input_left who meant command r s t is leaves none = leaves (subst (λ (m : Result Command Usage). words_take_input who m ≡ false) is none)
 
-ended_faults : (answer : Answer) (made : Result ℕ Fault) → made_by answer ≡ made → answer ≢ DiskFault → made ≢ Err ends.DiskFault
+-- no list
+not_listed : (o : Option CommandList) → is_some o ≡ false → o ≡ None
+not_listed None is = refl
+not_listed (Some some) is = absurd (cc)
+
+ended_faults : (answer : Answer) (made : Result ℕ Fault) → steps_answer answer ≡ made → answer ≢ DiskFault → made ≢ Err ends.DiskFault
 ended_faults (Finished status) made is other so = cc
 ended_faults Memory made is other so = cc
 ended_faults ReadFault made is other so = cc
@@ -193,11 +227,11 @@ ended_faults WriteFault made is other so = cc
 ended_faults DiskFault made is other so = other refl
 
 -- where some step is made
-abbrev CalmBy : Bool → Caller → Command → Option (List ℕ) → Told → Told → Type 0
+abbrev CalmBy : Option CommandList → Caller → Command → Option (List ℕ) → Told → Told → Type 0
 CalmBy list who command left a b = (folder : Folder) (i : List ℕ) → IsGivenTo (course_by list who command) (AsksBy list who command left) folder i → Shows (working_along (course_by list who command) folder i) (seen a) (view_in folder)
     → has_made (steps_along (course_by list who command) folder i) ≡ true → LeavesCalm a b
 
-pub single_recovers : (who : Caller) (meant : Result Command Usage) (command : Command) (answer : Answer) (made : Result ℕ Fault) (s t : Setting) → meant ≡ Ok command → made_by answer ≡ made → LeavesSingle who command made s t
+pub single_recovers : (who : Caller) (meant : Result Command Usage) (command : Command) (answer : Answer) (made : Result ℕ Fault) (s t : Setting) → meant ≡ Ok command → steps_answer answer ≡ made → LeavesSingle who command made s t
     → RecoversRun who meant answer s.left s.stage.told t.stage.told
 single_recovers who meant command answer made s t is answered leaves =
     subst (λ (m : Result Command Usage). RecoversRun who m answer s.left s.stage.told t.stage.told) (sym is)
@@ -208,7 +242,7 @@ single_recovers who meant command answer made s t is answered leaves =
       story = rec.story;
       firm = rec.firm;
       calm = λ ok.
-          subst (λ (list : Bool). CalmBy list who command s.left s.stage.told t.stage.told) (sym one.0)
+          subst (λ (o : Option CommandList). CalmBy o who command s.left s.stage.told t.stage.told) (sym (not_listed (list_in command) one.0))
           (λ folder i given shows is_made.
           rec.calm (subst (λ (r : Result ℕ Fault). IsOk r) answered ok) (working_along (command_course who (Ok command)) folder i) folder i (spares_in (portions_of (command_course who (Ok command)) folder i)) given.1.0 shows given.0 is_made);
       keeps = λ other. rec.keeps (ended_faults answer made answered other);
@@ -223,13 +257,14 @@ usage_recovers who meant usage answer left a b is = subst (λ (r : Result Comman
 
 -- ---- nothing was done
 
-might_run : (list : Bool) (who : Caller) (command : Command) → (ts : List NamedStep) × BegunRun list who command ts
-might_run true who command = (said [] [] ∷ [], inl ([], inl refl))
-might_run false who command = command_might who (Ok command)
+might_run : (o : Option CommandList) (who : Caller) (command : Command) → (ts : List NamedStep) × BegunRun o who command ts
+might_run (Some list.Batch) who command = (said [] [] ∷ [], inl ([], inl refl))
+might_run (Some (list.Soak number)) who command = (said [] [] ∷ [], inl (inl refl))
+might_run None who command = command_might who (Ok command)
 
 might_meant : (who : Caller) (meant : Result Command Usage) → (ts : List NamedStep) × BegunMeant who meant ts
 might_meant who (Err usage) = command_might who (Err usage)
-might_meant who (Ok command) = might_run (is_list command) who command
+might_meant who (Ok command) = might_run (list_in command) who command
 
 pub never_speaks : (who : Caller) (meant : Result Command Usage) (err : Option (List ℕ)) → SpeaksWords who meant Memory err err
 never_speaks who meant err = ((might_meant who meant).0, (might_meant who meant).1, some_none err (err_of (might_meant who meant).0))
@@ -253,17 +288,5 @@ never_begun who meant left a = λ m i given shows. (
 
 pub never_stops : (who : Caller) (meant : Result Command Usage) (left : Option (List ℕ)) (a : Scene) → StopsSteps who meant Memory left a a
 never_stops who meant left a = λ folder i m past given shows told calm safe.
-    course_moments (working who meant folder i) (made_by Memory) folder (run_steps who meant folder i) a a m past (spares_in (run_portions who meant folder i)) shows told
+    course_moments (working who meant folder i) (steps_answer Memory) folder (run_steps who meant folder i) a a m past (spares_in (run_portions who meant folder i)) shows told
     (moments_never (working who meant folder i) ends.Memory folder (run_steps who meant folder i) a m past (spares_in (run_portions who meant folder i)) told calm (alike_told (working who meant folder i) folder a.told m past told shows) shows) (images_now m calm)
-
--- ---- what isn't built
-
-unbuilt_steps : (any takes : Bool) (n : List ℕ) (left : Option (List ℕ)) (a : Scene) → Stepped (unbuilt any takes) (Err (step.Refused refusals.Unbuilt)) n left a a
-unbuilt_steps any takes n left a = by (seen a.told)
-  where
-    by : (o : Option View) → IfSome o (λ v. (i : List ℕ) → IsHeard takes left i → Meets (λ (done : Unit {0}). 0) (Err (step.Refused refusals.Unbuilt)) n (Err refusals.Unbuilt) (world o a.out a.err) (world o a.out a.err))
-    by None = tt
-    by (Some v) = λ i heard. ends_silent v (Some v) n (Err refusals.Unbuilt) (step.Refused refusals.Unbuilt) a.out a.err refl refl
-
-pub unbuilt_moments : (any takes : Bool) (n : List ℕ) (left : Option (List ℕ)) (a : Scene) → StepMoments (unbuilt any takes) (Err (step.Refused refusals.Unbuilt)) n left a a
-unbuilt_moments any takes n left a = reading_moments (unbuilt any takes) (Err (step.Refused refusals.Unbuilt)) n left a a (unbuilt_keeps any takes) refl refl (unbuilt_steps any takes n left a)

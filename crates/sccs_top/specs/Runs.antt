@@ -1,5 +1,5 @@
 -- What a run does: the steps that its words mean, one for each operand in their order.
-use Rattle.std.specs.Prelude.{◌≡◌, ◌≢◌, ℕ, ◌<◌, nat_lt, ◌⊎◌, Bool, true, false, ◌&&◌, ◌||◌, List, [], ◌∷◌, length, Option, None, Some, Result, Ok, Err, IsOk, codes, if◌then◌else◌}
+use Rattle.std.specs.Prelude.{◌≡◌, ◌≢◌, ℕ, ◌<◌, nat_lt, ◌⊎◌, Bool, true, false, ◌&&◌, ◌||◌, List, [], ◌∷◌, length, Option, None, Some, is_some, Result, Ok, Err, IsOk, codes, if◌then◌else◌}
 use Rattle.std.specs.List.{AllByRecursion, list_any}
 use Rattle.sccs_disk.specs.Files.{Folder, Model, view_in}
 use Rattle.sccs_disk.specs.Told.{Told, Tells, seen}
@@ -25,20 +25,26 @@ use Rattle.sccs_steps.specs.StepLists.{ListInterrupted, NamedStep, Stopped, Wait
 use Rattle.sccs_steps.specs.declared.faults.Fault.{Fault}
 use Rattle.sccs_steps.specs.declared.faults.Fault.TheVariants as ends
 use Rattle.sccs_transactions.specs.Changes.{locking}
+use Rattle.sccs_transactions.specs.Utilities.{locking_keeps}
 use Rattle.sccs_admin.specs.AdminStep.{admin_change}
 use Rattle.sccs_alter.specs.AlterStep.{alter_change}
-use Rattle.sccs_alter.specs.CheckStep.{check_action}
+use Rattle.sccs_alter.specs.CheckStep.{check_action, check_keeps}
 use Rattle.sccs_delta.specs.DeltaStep.{delta_change}
+use Rattle.sccs_edit.specs.Checks.{sact_keeps}
 use Rattle.sccs_edit.specs.SactStep.{sact_action}
 use Rattle.sccs_edit.specs.UngetStep.{unget_change}
 use Rattle.sccs_get.specs.EditStep.{edit_change}
+use Rattle.sccs_get.specs.Keeps.{get_keeps}
 use Rattle.sccs_get.specs.VersionStep.{get_action}
+use Rattle.sccs_recovery.specs.Commands.{recover_keeps}
 use Rattle.sccs_recovery.specs.RecoverStep.{recover_action}
 use Rattle.sccs_rmdel.specs.RmdelStep.{rmdel_change}
+use Rattle.sccs_prs.specs.Keeps.{prs_keeps}
 use Rattle.sccs_prs.specs.PrsStep.{prs_action}
 use Rattle.sccs_val.specs.ValStep.{val_action, val_operands, val_steps}
+use Rattle.sccs_what.specs.Checks.{what_keeps}
 use Rattle.sccs_what.specs.WhatStep.{what_action}
-use Rattle.sccs_courses.specs.Courses.{AllExempt, AllPlain, AllSafe, Courses, Portion, no_action, portion_of, portions_of, saying, steps_along}
+use Rattle.sccs_courses.specs.Courses.{AllExempt, AllPlain, AllSafe, Courses, Portion, TakesSfiles, no_action, portion_of, portions_of, saying, steps_along}
 use Rattle.sccs_courses.specs.Following.{CourseMoments, RunsCourse, RunsTo, SpeaksTo, WholeBy}
 use Rattle.sccs_courses.specs.OwnFiles.{IsGivenTo, working_along}
 use Rattle.sccs_courses.specs.Sayings.{BegunSaid, WholeSaid}
@@ -49,7 +55,10 @@ use Rattle.sccs_words.specs.Meaning.{meaning}
 use Rattle.sccs_base.specs.Cut.{text_of}
 use Rattle.sccs_steps.specs.Causes.{Ignores}
 use Rattle.sccs_top.specs.Messages.{usage_line}
-use Rattle.sccs_top.specs.Unbuilt.{unbuilt}
+use Rattle.sccs_soak.specs.Dropping.{dropping}
+use Rattle.sccs_soak.specs.Soak.{BegunSoak, WholeSoak, soak_course}
+use Rattle.sccs_top.specs.declared.commands.CommandList.{CommandList}
+use Rattle.sccs_top.specs.declared.commands.CommandList.TheVariants as list
 use Rattle.sccs_top.specs.declared.answers.Answer.{Answer}
 use Rattle.sccs_top.specs.declared.answers.Answer.TheVariants.{Finished, Memory, ReadFault, WriteFault, DiskFault}
 
@@ -57,64 +66,99 @@ use Rattle.sccs_top.specs.declared.answers.Answer.TheVariants.{Finished, Memory,
 abbrev pub words_in : Operands → List (List ℕ)
 words_in operands = if operands.from_input then codes "-" ∷ [] else operands.words
 
--- the operands of a command; one without a list of them is refused as a whole
-abbrev pub operands_of : Command → List (List ℕ)
-operands_of (c.Admin words operands) = words_in operands
-operands_of (c.Get words operands) = words_in operands
-operands_of (c.Delta words name) = name ∷ []
-operands_of (c.Unget words operands) = words_in operands
-operands_of (c.Sact operands) = words_in operands
-operands_of (c.Rmdel sid operands) = words_in operands
-operands_of (c.Prs words operands) = words_in operands
-operands_of (c.What first operands) = words_in operands
-operands_of (c.Recover operands) = words_in operands
-operands_of (c.Val words) = val_operands words
-operands_of c.Batch = codes "-" ∷ []
-operands_of (c.Soak number) = codes "-" ∷ []
-
 -- a heading stands before each report where there are several operands, or one that stands for several files
 abbrev pub has_heading : Operands → Bool
 has_heading operands = operands.from_input || (nat_lt 1 (length operands.words) || list_any is_several operands.words)
 
--- who makes a run and when, and the path of the folder
+-- who makes a run and when, the path of the folder, and whether the output is dropped, as that of a soak's commands
 pub record Caller : Type 0 where
   pub stamp : Stamp
   pub place : List ℕ
+  pub quiet : Bool
+
+abbrev pub caller_by : Bool → Stamp → List ℕ → Caller
+caller_by quiet stamp place = record { stamp = stamp; place = place; quiet = quiet }
 
 abbrev pub caller : Stamp → List ℕ → Caller
-caller stamp place = record { stamp = stamp; place = place }
+caller stamp place = caller_by false stamp place
 
 -- get: with -e an edit is reserved
 abbrev pub get_in : GetWords → Caller → Bool → Action
 get_in words who heading = if words.edit then locking (edit_change words who.stamp who.place heading) else get_action words who.stamp who.place heading
 
--- admin on an s-file that is there: with -h it is checked alone; -z isn't built yet
+-- admin on an s-file that is there: with -h it is checked alone
 abbrev pub admin_there : AdminWords → Action
-admin_there words = if words.check then check_action else (if words.fix then unbuilt false false else locking (alter_change words))
+admin_there words = if words.check then check_action else locking (alter_change words)
 
 -- admin: a new file, or an s-file that is there
 abbrev pub admin_in : AdminWords → Stamp → Action
 admin_in words stamp = if words.fresh then locking (admin_change words stamp) else admin_there words
 
--- what is done with each of them, where this is the moment and the login
-abbrev pub action_of : Caller → Command → Action
-action_of who (c.Admin words operands) = admin_in words who.stamp
-action_of who (c.Get words operands) = get_in words who (has_heading operands)
-action_of who (c.Delta words name) = locking (delta_change words who.stamp)
-action_of who (c.Unget words operands) = locking (unget_change words who.stamp (has_heading operands))
-action_of who (c.Sact operands) = sact_action (has_heading operands)
-action_of who (c.Rmdel sid operands) = locking (rmdel_change sid who.stamp)
-action_of who (c.Recover operands) = recover_action
-action_of who (c.Prs words operands) = prs_action words who.place
-action_of who (c.What first operands) = what_action first
-action_of who (c.Val words) = val_action words
-action_of who c.Batch = unbuilt true true
-action_of who (c.Soak number) = unbuilt true true
+pub either_takes : (test : Bool) (x y : Action) → TakesSfiles x → TakesSfiles y → TakesSfiles (if test then x else y)
+either_takes true x y first second = first
+either_takes false x y first second = second
 
--- the words of val, where the command is that: what it makes is one step, since lines of the input may name the files that it reads
+-- What a single command does, with which operands. What changes files takes the names of s-files alone.
+pub record Single : Type 0 where
+  pub by : Caller → Action
+  pub operands : List (List ℕ)
+  -- the words of val: what it makes is one step, since lines of the input may name the files that it reads
+  pub val : Option ValWords
+  pub takes : (who : Caller) → TakesSfiles (by who)
+
+abbrev pub single : (by : Caller → Action) → List (List ℕ) → ((who : Caller) → TakesSfiles (by who)) → Single
+single by operands takes = record { by = by; operands = operands; val = None; takes = takes }
+
+-- a list of commands isn't one
+abbrev pub no_single : Single
+no_single = single (λ who. no_action) [] (λ who changes n fits. absurd (cc))
+
+-- each utility
+abbrev pub single_of : Command → Single
+single_of (c.Admin words operands) =
+    single (λ who. admin_in words who.stamp) (words_in operands) (λ who.
+    either_takes words.fresh (locking (admin_change words who.stamp)) (admin_there words) (locking_keeps (admin_change words who.stamp)).names
+    (either_takes words.check check_action (locking (alter_change words)) check_keeps.names (locking_keeps (alter_change words)).names))
+single_of (c.Get words operands) =
+    single (λ who. get_in words who (has_heading operands)) (words_in operands) (λ who.
+    either_takes words.edit (locking (edit_change words who.stamp who.place (has_heading operands))) (get_action words who.stamp who.place (has_heading operands))
+    (locking_keeps (edit_change words who.stamp who.place (has_heading operands))).names (get_keeps words who.stamp who.place (has_heading operands)).names)
+single_of (c.Delta words name) = single (λ who. locking (delta_change words who.stamp)) (name ∷ []) (λ who. (locking_keeps (delta_change words who.stamp)).names)
+single_of (c.Unget words operands) =
+    single (λ who. locking (unget_change words who.stamp (has_heading operands))) (words_in operands) (λ who. (locking_keeps (unget_change words who.stamp (has_heading operands))).names)
+single_of (c.Sact operands) = single (λ who. sact_action (has_heading operands)) (words_in operands) (λ who. (sact_keeps (has_heading operands)).names)
+single_of (c.Rmdel sid operands) = single (λ who. locking (rmdel_change sid who.stamp)) (words_in operands) (λ who. (locking_keeps (rmdel_change sid who.stamp)).names)
+single_of (c.Prs words operands) = single (λ who. prs_action words who.place) (words_in operands) (λ who. (prs_keeps words who.place).names)
+single_of (c.What first operands) = single (λ who. what_action first) (words_in operands) (λ who. (what_keeps first).names)
+single_of (c.Recover operands) = single (λ who. recover_action) (words_in operands) (λ who. recover_keeps.names)
+single_of (c.Val words) = record { by = λ who. val_action words; operands = val_operands words; val = Some words; takes = λ who changes n fits. absurd (cc) }
+single_of c.Batch = no_single
+single_of (c.Soak number) = no_single
+
+abbrev pub operands_of : Command → List (List ℕ)
+operands_of command = (single_of command).operands
+
+-- the words of val, where the command is that
 abbrev pub val_words_of : Command → Option ValWords
-val_words_of (c.Val words) = Some words
-val_words_of command = None
+val_words_of command = (single_of command).val
+
+-- the output is dropped where the caller is quiet; val's isn't
+abbrev pub hushed : Option ValWords → Bool → Action → Action
+hushed (Some words) quiet x = x
+hushed None true x = dropping x
+hushed None false x = x
+
+-- what is done with each operand of a command
+abbrev pub action_of : Caller → Command → Action
+action_of who command = hushed (val_words_of command) who.quiet ((single_of command).by who)
+
+pub hushed_takes : (val : Option ValWords) (quiet : Bool) (x : Action) → TakesSfiles x → TakesSfiles (hushed val quiet x)
+hushed_takes (Some words) quiet x takes = takes
+hushed_takes None true x takes = takes
+hushed_takes None false x takes = takes
+
+pub action_takes : (who : Caller) (command : Command) → TakesSfiles (action_of who command)
+action_takes who command = hushed_takes (val_words_of command) who.quiet ((single_of command).by who) ((single_of command).takes who)
 
 -- the steps of a command in a folder, with an input
 abbrev pub steps_by : Option ValWords → Action → List (List ℕ) → Folder → List ℕ → List NamedStep
@@ -132,28 +176,33 @@ RunsCommand val x operands r s = RunsSteps x (steps_by val x operands) (IsInput 
 
 -- ---- lists of commands
 
--- whether a command is a list of commands
+-- the list of commands that a command is
+abbrev pub list_in : Command → Option CommandList
+list_in c.Batch = Some list.Batch
+list_in (c.Soak number) = Some (list.Soak number)
+list_in command = None
+
 abbrev pub is_list : Command → Bool
-is_list c.Batch = true
-is_list command = false
+is_list command = is_some (list_in command)
 
 -- what a single command does; a usage fault is said
 abbrev pub command_course : Caller → Result Command Usage → Courses
 command_course who (Err usage) = saying [] (usage_line usage) 2
 command_course who (Ok command) = portion_of (action_of who command) (steps_by (val_words_of command) (action_of who command) (operands_of command))
 
--- an entry of a batch does what its words mean, with its own stamp and input
-abbrev pub entry_command : List ℕ → Entry → Courses
-entry_command place e = λ folder i. command_course (caller e.stamp place) (meaning e.words) folder e.input
+-- a command of a list does what its words mean, with its own stamp and input
+abbrev pub entry_command : Bool → List ℕ → Entry → Courses
+entry_command quiet place e = λ folder i. command_course (caller_by quiet e.stamp place) (meaning e.words) folder e.input
 
-abbrev pub course_by : Bool → Caller → Command → Courses
-course_by true who command = batch_course (entry_command who.place)
-course_by false who command = command_course who (Ok command)
+abbrev pub course_by : Option CommandList → Caller → Command → Courses
+course_by (Some list.Batch) who command = batch_course (entry_command false who.place)
+course_by (Some (list.Soak number)) who command = soak_course (entry_command true who.place) number
+course_by None who command = command_course who (Ok command)
 
 -- what a run does
 abbrev pub run_course : Caller → Result Command Usage → Courses
 run_course who (Err usage) = command_course who (Err usage)
-run_course who (Ok command) = course_by (is_list command) who command
+run_course who (Ok command) = course_by (list_in command) who command
 
 -- the steps of a run in a folder, with an input; and those of a single command
 abbrev pub run_steps : Caller → Result Command Usage → Folder → List ℕ → List NamedStep
@@ -177,22 +226,24 @@ abbrev pub AsksInput : Caller → Result Command Usage → Option (List ℕ) →
 AsksInput who (Err usage) left i = Unit {0}
 AsksInput who (Ok command) left i = IsInput (action_of who command) (operands_of command) left i
 
--- each entry of a batch has an input of its own
-abbrev pub FitsEntry : List ℕ → Entry → Type 0
-FitsEntry place e = AsksInput (caller e.stamp place) (meaning e.words) (Some e.input) e.input
+-- each command of a list has an input of its own
+abbrev pub FitsEntry : Bool → List ℕ → Entry → Type 0
+FitsEntry quiet place e = AsksInput (caller_by quiet e.stamp place) (meaning e.words) (Some e.input) e.input
 
-abbrev pub AsksBy : Bool → Caller → Command → Option (List ℕ) → List ℕ → Type 0
-AsksBy true who command left i = IsHeard true left i × AllByRecursion (FitsEntry who.place) (batch_of (text_of i)).entries
-AsksBy false who command left i = AsksInput who (Ok command) left i
+-- of a soak nothing is asked
+abbrev pub AsksBy : Option CommandList → Caller → Command → Option (List ℕ) → List ℕ → Type 0
+AsksBy (Some list.Batch) who command left i = IsHeard true left i × AllByRecursion (FitsEntry false who.place) (batch_of (text_of i)).entries
+AsksBy (Some (list.Soak number)) who command left i = Unit {0}
+AsksBy None who command left i = AsksInput who (Ok command) left i
 
 abbrev pub AsksMeant : Caller → Result Command Usage → Option (List ℕ) → List ℕ → Type 0
 AsksMeant who (Err usage) left i = Unit {0}
-AsksMeant who (Ok command) left i = AsksBy (is_list command) who command left i
+AsksMeant who (Ok command) left i = AsksBy (list_in command) who command left i
 
 -- the same, and the files of the names of steps are apart from working files
 abbrev pub IsGiven : Caller → Result Command Usage → Option (List ℕ) → Folder → List ℕ → Type 0
 IsGiven who (Err usage) left m i = Unit {0}
-IsGiven who (Ok command) left m i = IsGivenTo (course_by (is_list command) who command) (AsksBy (is_list command) who command left) m i
+IsGiven who (Ok command) left m i = IsGivenTo (course_by (list_in command) who command) (AsksBy (list_in command) who command left) m i
 
 -- ---- over any disk
 
@@ -213,29 +264,31 @@ abbrev pub BegunCommand : Caller → Result Command Usage → List NamedStep →
 BegunCommand who (Err usage) = BegunSaid [] (usage_line usage)
 BegunCommand who (Ok command) = BegunBy (val_words_of command) (action_of who command) (operands_of command)
 
--- those of an entry
-abbrev pub WholeOf : List ℕ → Entry → ℕ → List NamedStep → Type 0
-WholeOf place e = WholeCommand (caller e.stamp place) (meaning e.words)
+-- those of a command of a list
+abbrev pub WholeOf : Bool → List ℕ → Entry → ℕ → List NamedStep → Type 0
+WholeOf quiet place e = WholeCommand (caller_by quiet e.stamp place) (meaning e.words)
 
-abbrev pub BegunOf : List ℕ → Entry → List NamedStep → Type 0
-BegunOf place e = BegunCommand (caller e.stamp place) (meaning e.words)
+abbrev pub BegunOf : Bool → List ℕ → Entry → List NamedStep → Type 0
+BegunOf quiet place e = BegunCommand (caller_by quiet e.stamp place) (meaning e.words)
 
 -- those of a run
-abbrev pub WholeRun : Bool → Caller → Command → ℕ → List NamedStep → Type 0
-WholeRun true who command = WholeBatch (WholeOf who.place)
-WholeRun false who command = WholeCommand who (Ok command)
+abbrev pub WholeRun : Option CommandList → Caller → Command → ℕ → List NamedStep → Type 0
+WholeRun (Some list.Batch) who command = WholeBatch (WholeOf false who.place)
+WholeRun (Some (list.Soak number)) who command = WholeSoak (WholeOf true who.place) number
+WholeRun None who command = WholeCommand who (Ok command)
 
-abbrev pub BegunRun : Bool → Caller → Command → List NamedStep → Type 0
-BegunRun true who command = BegunBatch (WholeOf who.place) (BegunOf who.place)
-BegunRun false who command = BegunCommand who (Ok command)
+abbrev pub BegunRun : Option CommandList → Caller → Command → List NamedStep → Type 0
+BegunRun (Some list.Batch) who command = BegunBatch (WholeOf false who.place) (BegunOf false who.place)
+BegunRun (Some (list.Soak number)) who command = BegunSoak (WholeOf true who.place) (BegunOf true who.place) number
+BegunRun None who command = BegunCommand who (Ok command)
 
 abbrev pub WholeMeant : Caller → Result Command Usage → ℕ → List NamedStep → Type 0
 WholeMeant who (Err usage) = WholeCommand who (Err usage)
-WholeMeant who (Ok command) = WholeRun (is_list command) who command
+WholeMeant who (Ok command) = WholeRun (list_in command) who command
 
 abbrev pub BegunMeant : Caller → Result Command Usage → List NamedStep → Type 0
 BegunMeant who (Err usage) = BegunCommand who (Err usage)
-BegunMeant who (Ok command) = BegunRun (is_list command) who command
+BegunMeant who (Ok command) = BegunRun (list_in command) who command
 
 -- ---- calls
 
@@ -271,30 +324,30 @@ abbrev pub IsUnended : (List ℕ → Bool) → Folder → List NamedStep → Wor
 IsUnended w m ts a b = (s : Stopped w m ts a b) × ((s.made ≡ []) ⊎ (0 < length s.rest))
 
 -- how a run ends that makes these steps and then has this status
-abbrev pub Ends : ℕ → (List ℕ → Bool) → Answer → Folder → List NamedStep → World → World → Type 0
-Ends code w (Finished status) m ts a b = RunsTo code w (Ok status) m ts a b
-Ends code w Memory m ts a b = IsUnended w m ts a b
-Ends code w ReadFault m ts a b = Waits w m ts a b
-Ends code w WriteFault m ts a b = Stopped w m ts a b
-Ends code w DiskFault m ts a b = ListInterrupted w m ts a b
+abbrev pub EndsRun : ℕ → (List ℕ → Bool) → Answer → Folder → List NamedStep → World → World → Type 0
+EndsRun code w (Finished status) m ts a b = RunsTo code w (Ok status) m ts a b
+EndsRun code w Memory m ts a b = IsUnended w m ts a b
+EndsRun code w ReadFault m ts a b = Waits w m ts a b
+EndsRun code w WriteFault m ts a b = Stopped w m ts a b
+EndsRun code w DiskFault m ts a b = ListInterrupted w m ts a b
 
 -- where the disk tells a folder the steps of these words are made, or the run ends early
 abbrev pub MakesSteps : Caller → Result Command Usage → Answer → Option (List ℕ) → Scene → Scene → Type 0
 MakesSteps who meant answer left a b = (m : Folder) (i : List ℕ)
     → IsGiven who meant left m i → Shows (working who meant m i) (seen a.told) (view_in m)
-    → Ends (run_course who meant m i).status (working who meant m i) answer m (run_steps who meant m i) (shown a) (shown b)
+    → EndsRun (run_course who meant m i).status (working who meant m i) answer m (run_steps who meant m i) (shown a) (shown b)
 
 -- the answer as that of steps
-abbrev pub made_by : Answer → Result ℕ Fault
-made_by (Finished status) = Ok status
-made_by Memory = Err ends.Memory
-made_by ReadFault = Err ends.ReadFault
-made_by WriteFault = Err ends.WriteFault
-made_by DiskFault = Err ends.DiskFault
+abbrev pub steps_answer : Answer → Result ℕ Fault
+steps_answer (Finished status) = Ok status
+steps_answer Memory = Err ends.Memory
+steps_answer ReadFault = Err ends.ReadFault
+steps_answer WriteFault = Err ends.WriteFault
+steps_answer DiskFault = Err ends.DiskFault
 
 -- over any disk: some steps that may come explain the status and what is written on err
 abbrev pub SpeaksWords : Caller → Result Command Usage → Answer → Option (List ℕ) → Option (List ℕ) → Type 0
-SpeaksWords who meant answer err err2 = SpeaksTo (WholeMeant who meant) (BegunMeant who meant) (made_by answer) err err2
+SpeaksWords who meant answer err err2 = SpeaksTo (WholeMeant who meant) (BegunMeant who meant) (steps_answer answer) err err2
 
 -- whether the words change no file, write nothing on out, and take no input
 abbrev pub only_reads : Caller → Result Command Usage → Bool
@@ -305,9 +358,19 @@ abbrev pub is_silent : Caller → Result Command Usage → Bool
 is_silent who (Err usage) = true
 is_silent who (Ok command) = if is_list command then false else (action_of who command).silent
 
-abbrev pub takes_input : Caller → Result Command Usage → Bool
-takes_input who (Err usage) = false
-takes_input who (Ok command) = if is_list command then true else hears (action_of who command) (operands_of command)
+-- a batch takes it, a soak doesn't
+abbrev pub list_takes_input : Option CommandList → Bool → Bool
+list_takes_input (Some list.Batch) single = true
+list_takes_input (Some (list.Soak number)) single = false
+list_takes_input None single = single
+
+abbrev pub words_take_input : Caller → Result Command Usage → Bool
+words_take_input who (Err usage) = false
+words_take_input who (Ok command) = list_takes_input (list_in command) (hears (action_of who command) (operands_of command))
+
+-- a command that doesn't take the input leaves it
+abbrev pub LeavesInput : Caller → Command → Result ℕ Fault → Setting → Setting → Type 0
+LeavesInput who command r s t = words_take_input who (Ok command) ≡ false → Ignores ends.ReadFault s.left t.left s.faults.input t.faults.input r
 
 -- What a stop leaves of a run that begins on a calm disk, where the names of its steps are safe: all names as after one number of
 -- steps, no fewer than those that are acknowledged.
@@ -315,7 +378,7 @@ abbrev pub StopsSteps : Caller → Result Command Usage → Answer → Option (L
 StopsSteps who meant answer left a b = (folder : Folder) (i : List ℕ) (m : Model) (past : List Model)
     → IsGiven who meant left folder i → Shows (working who meant folder i) (seen a.told) (view_in folder)
     → a.told ≡ Tells m past → IsCalm m → AllSafe (view_in folder) (run_portions who meant folder i)
-    → CourseMoments (working who meant folder i) (made_by answer) folder (run_steps who meant folder i) a b m past
+    → CourseMoments (working who meant folder i) (steps_answer answer) folder (run_steps who meant folder i) a b m past
 
 -- Before each change of an s-file or p-file its z-file wasn't there at a moment of the run, but of names that are recovered.
 abbrev pub UnlockedSteps : Caller → Result Command Usage → Option (List ℕ) → Told → Told → Type 0
@@ -335,7 +398,7 @@ pub record RecoversDisk (who : Caller) (meant : Result Command Usage) (answer : 
   -- s-files and p-files are firm still, so that recovery may run again
   pub firm : LeavesFirm old new
   -- where it is finished the disk is calm, if some step was made and not refused
-  pub calm : IsOk (made_by answer) → (folder : Folder) (i : List ℕ) → IsGiven who meant left folder i → Shows (working who meant folder i) (seen old) (view_in folder)
+  pub calm : IsOk (steps_answer answer) → (folder : Folder) (i : List ℕ) → IsGiven who meant left folder i → Shows (working who meant folder i) (seen old) (view_in folder)
       → has_made (run_steps who meant folder i) ≡ true → LeavesCalm old new
   -- but at a disk fault a calm disk stays calm
   pub keeps : answer ≢ DiskFault → KeepsCalm old new

@@ -6,7 +6,6 @@ mod commands;
 pub mod laws;
 mod messages;
 mod singles;
-mod unbuilt;
 
 pub use answers::Answer;
-pub use commands::run;
+pub use commands::{CommandList, run};

@@ -1,9 +1,10 @@
-ghost use Rattle.std.specs.Prelude.{Ok};
+ghost use Rattle.std.specs.Prelude.{◌≡◌, true, Ok};
 ghost use Rattle.sccs_sid.specs.Moment.{IsMoment};
 ghost use Rattle.sccs_steps.specs.Settings.{setting_of};
 ghost use Rattle.sccs_words.specs.Meaning.{meaning};
+ghost use Rattle.sccs_batch.specs.BatchText.{is_single};
 ghost use Rattle.sccs_top.specs.CommandLaws.{command_might, command_takes};
-ghost use Rattle.sccs_top.specs.Runs.{BegunOf, FitsEntry, RunsWords, WholeOf, caller, entry_command};
+ghost use Rattle.sccs_top.specs.Runs.{BegunOf, FitsEntry, RunsWords, WholeOf, caller_by, entry_command};
 
 use crate::commands::run_lent;
 use crate::messages::write_usage;
@@ -15,23 +16,25 @@ use sccs_steps::Fault;
 use sccs_words::{WordsFault, read_words};
 use std::alloc::Global;
 
-// does the single command that words mean; a usage fault is said
+// does the single command that words mean, where it is quiet without its output; a usage fault is said
 fn run_words<I: Source, O: Sink, E: Sink, D: Disk>(
     alloc: Global,
     words: &Words,
     stamp: &Stamp,
     place: &Line,
+    quiet: bool,
     input: &mut I,
     out: &mut O,
     err: &mut E,
     disk: &mut D,
 ) -> Result<u8, Fault>
     requires moment { IsMoment stamp.now.moment }
-    ensures { RunsWords (caller stamp.now place.now) (meaning words.now) result
+    requires single { is_single words.now ≡ true }
+    ensures { RunsWords (caller_by quiet stamp.now place.now) (meaning words.now) result
         (setting_of I.Source O.Sink E.Sink D.Disk input.old out.old err.old disk.old) (setting_of I.Source O.Sink E.Sink D.Disk input.new out.new err.new disk.new) }
 {
     match read_words(alloc, words) {
-        Ok(command) => run_lent(alloc, &command, stamp, place, input, out, err, disk),
+        Ok(command) => run_lent(alloc, &command, stamp, place, quiet, input, out, err, disk),
         Err(WordsFault::Usage(usage)) => match write_usage(&usage, err) {
             Ok(()) => Ok(2),
             Err(_) => Err(Fault::WriteFault),
@@ -40,24 +43,26 @@ fn run_words<I: Source, O: Sink, E: Sink, D: Disk>(
     }
 }
 
-/// Does the single commands of a batch, in the folder at a path.
+/// Does the single commands of a list, in the folder at a path.
 #[derive(Clone, Copy)]
 pub struct Singles<'a> {
     pub place: &'a Line,
+    /// Whether their output is dropped.
+    pub quiet: bool,
 }
 
 impl<'a> Commands for Singles<'a> {
-    ghost command = { λ s e. entry_command s.place.now e };
+    ghost command = { λ s e. entry_command s.quiet s.place.now e };
 
-    ghost fits = { λ s e. FitsEntry s.place.now e };
+    ghost fits = { λ s e. FitsEntry s.quiet s.place.now e };
 
-    ghost whole = { λ s e. WholeOf s.place.now e };
+    ghost whole = { λ s e. WholeOf s.quiet s.place.now e };
 
-    ghost begun = { λ s e. BegunOf s.place.now e };
+    ghost begun = { λ s e. BegunOf s.quiet s.place.now e };
 
-    ghost takes = { λ s e folder i. command_takes (caller e.stamp s.place.now) (meaning e.words) folder e.input };
+    ghost takes = { λ s e folder i. command_takes (caller_by s.quiet e.stamp s.place.now) (meaning e.words) folder e.input };
 
-    ghost might = { λ s e. command_might (caller e.stamp s.place.now) (meaning e.words) };
+    ghost might = { λ s e. command_might (caller_by s.quiet e.stamp s.place.now) (meaning e.words) };
 
     fn run<O: Sink, E: Sink, D: Disk>(
         &self,
@@ -75,6 +80,7 @@ impl<'a> Commands for Singles<'a> {
             &entry.words,
             &entry.stamp,
             self.place,
+            self.quiet,
             &mut input,
             out,
             err,

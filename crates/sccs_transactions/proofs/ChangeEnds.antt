@@ -17,12 +17,12 @@ use Rattle.sccs_steps.specs.Calls.{Fails, Interrupted, Meets, ReportCut, Uncommi
 use Rattle.sccs_steps.specs.Actions.{IsHeard}
 use Rattle.sccs_steps.specs.FirstFiles.{MovesInOrder, first_moved}
 use Rattle.sccs_store.specs.Commits.{Becomes, IsPart, Plan, abandoned, committed, files_after, g_swapped, locked, p_swapped, part_of, s_swapped}
-use Rattle.sccs_moments.specs.Recovery.{cleared, without}
+use Rattle.sccs_moments.specs.Recovery.{cleared, without_name}
 use Rattle.sccs_store.proofs.Committed.{committed_at, first_is, second_is}
 use Rattle.sccs_moments.proofs.FileNames.{no_q, no_working, no_x, no_y, no_z}
 use Rattle.sccs_transactions.specs.Changes.{Changing, IsPrepared, IsUnmade, Prepares, PreparesChange, locking_step, plan_of, unlocked}
 use Rattle.sccs_transactions.proofs.Taken.{committed_clears}
-use Rattle.sccs_transactions.specs.Ends.{Finishes, GivesUp}
+use Rattle.sccs_transactions.specs.Ends.{FinishesCommit, GivesUp}
 use Rattle.sccs_transactions.specs.declared.prepared.Prepared.{Prepared}
 
 -- ---- the lock
@@ -83,8 +83,8 @@ kept_at n v u free prepared k h = by (name_cases (z_file n) k)
   where
     cleared_at : (k : List ℕ) → is_working n k ≡ false → cleared n u k ≡ u k
     cleared_at k h =
-        put_other (without (q_file n) (without (x_file n) u)) (y_file n) k None (no_y n k h)
-        ∙ (put_other (without (x_file n) u) (q_file n) k None (no_q n k h) ∙ put_other u (x_file n) k None (no_x n k h))
+        put_other (without_name (q_file n) (without_name (x_file n) u)) (y_file n) k None (no_y n k h)
+        ∙ (put_other (without_name (x_file n) u) (q_file n) k None (no_q n k h) ∙ put_other u (x_file n) k None (no_x n k h))
 
     by : (z_file n ≡ k) ⊎ (bytes_eq (z_file n) k ≡ false) → abandoned n u k ≡ v k
     by (inl is) = subst (λ m. abandoned n u m ≡ v m) is (put_same (cleared n u) (z_file n) None ∙ sym free)
@@ -124,8 +124,8 @@ pub gone_left : (n : List ℕ) (ob2 od : Option View) → Becomes (abandoned n) 
 gone_left n None od is = is
 gone_left n (Some u) od is = subst (λ (o : Option View). Moves (is_left n) (λ w. w) (Some u) o) (sym is) (λ k h.
     put_other (cleared n u) (z_file n) k None (no_z n k h)
-    ∙ (put_other (without (q_file n) (without (x_file n) u)) (y_file n) k None (no_y n k (no_working n k h))
-    ∙ (put_other (without (x_file n) u) (q_file n) k None (no_q n k (no_working n k h)) ∙ put_other u (x_file n) k None (no_x n k (no_working n k h)))))
+    ∙ (put_other (without_name (q_file n) (without_name (x_file n) u)) (y_file n) k None (no_y n k (no_working n k h))
+    ∙ (put_other (without_name (x_file n) u) (q_file n) k None (no_q n k (no_working n k h)) ∙ put_other u (x_file n) k None (no_x n k (no_working n k h)))))
 
 -- how it ends whose preparing failed so
 gave_up : (fault : StepFault) (n : List ℕ) (o : Outcome) (v : View) (ob2 od : Option View) (out out2 err : Option (List ℕ)) → v (z_file n) ≡ None → Prepares (Err fault) n o (world (Some (locked n v)) out err) (world ob2 out2 err) → Becomes (abandoned n) ob2 od
@@ -192,7 +192,7 @@ text_cut a b c text out report first second is = subst (λ r. GivesSome a c (tex
 
 -- the report of a commit was cut
 pub cut_finished : (n : List ℕ) (p : Prepared) (o : Outcome) (v : View) (ob2 od : Option View) (out out2 out3 err err3 : Option (List ℕ)) → IsSfile n → v (z_file n) ≡ None → IsPrepared n p o (world (Some (locked n v)) out err) (world ob2 out2 err)
-    → Finishes (Err WriteFault) n p (world ob2 out2 err) (world od out3 err3) → (d : StepEffect) × (o ≡ Ok d) × ReportCut n d (world (Some v) out err) (world od out3 err3)
+    → FinishesCommit (Err WriteFault) n p (world ob2 out2 err) (world od out3 err3) → (d : StepEffect) × (o ≡ Ok d) × ReportCut n d (world (Some v) out err) (world od out3 err3)
 cut_finished n p o v ob2 od out out2 out3 err err3 sfile free prepared finishes = (
   prepared.effect,
   prepared.is,
@@ -207,7 +207,7 @@ cut_finished n p o v ob2 od out out2 out3 err err3 sfile free prepared finishes 
 
 -- how it ends whose files were prepared
 pub ends_finished : (r : Result (Unit {0}) StepFault) (n : List ℕ) (p : Prepared) (o : Outcome) (v : View) (ob2 od : Option View) (out out2 out3 err err3 : Option (List ℕ)) → IsSfile n → v (z_file n) ≡ None → IsPrepared n p o (world (Some (locked n v)) out err) (world ob2 out2 err)
-    → Finishes r n p (world ob2 out2 err) (world od out3 err3) → Meets (λ (done : Unit {0}). 0) r n o (world (Some v) out err) (world od out3 err3)
+    → FinishesCommit r n p (world ob2 out2 err) (world od out3 err3) → Meets (λ (done : Unit {0}). 0) r n o (world (Some v) out err) (world od out3 err3)
 ends_finished (Ok done) n p o v ob2 od out out2 out3 err err3 sfile free prepared finishes = (
   prepared.effect,
   prepared.is,
@@ -251,7 +251,7 @@ given_up_steps x fault r q n left oa ob ob2 od out out2 err is lock free prepare
     (λ v o unheld prep. ends_given_up fault r n o v ob2 od out out2 err unheld prep gives_up)
 
 pub finished_steps : (x : Changing) (p : Prepared) (r : Result (Unit {0}) StepFault) (q : Result Prepared StepFault) (n : List ℕ) (left : Option (List ℕ)) (oa ob ob2 od : Option View) (out out2 out3 err err3 : Option (List ℕ)) → IsSfile n → q ≡ Ok p → Becomes (locked n) oa ob → IfSome oa (λ (v : View). v (z_file n) ≡ None)
-    → PreparesChange x q n left (world ob out err) (world ob2 out2 err) → Finishes r n p (world ob2 out2 err) (world od out3 err3) → Steps x r n left (world oa out err) (world od out3 err3)
+    → PreparesChange x q n left (world ob out err) (world ob2 out2 err) → FinishesCommit r n p (world ob2 out2 err) (world od out3 err3) → Steps x r n left (world oa out err) (world od out3 err3)
 finished_steps x p r q n left oa ob ob2 od out out2 out3 err err3 sfile is lock free prepares finishes =
     behind_lock x r (Ok p) n left oa ob ob2 od out out2 out3 err err3 lock free (subst (λ (s : Result Prepared StepFault). PreparesChange x s n left (world ob out err) (world ob2 out2 err)) is prepares)
     (λ v o unheld prep. ends_finished r n p o v ob2 od out out2 out3 err err3 sfile unheld prep finishes)

@@ -6,11 +6,11 @@ use Rattle.sccs_disk.specs.Files.{View}
 use Rattle.sccs_steps.specs.Calls.{world}
 use Rattle.sccs_store.specs.Commits.{Becomes, committed}
 use Rattle.sccs_transactions.specs.Changes.{plan_of}
-use Rattle.sccs_transactions.specs.Ends.{Finishes, Reports}
+use Rattle.sccs_transactions.specs.Ends.{FinishesCommit, Reports}
 use Rattle.sccs_transactions.specs.declared.prepared.Prepared.{Prepared}
 
 pub reported : (r : Result (Unit {0}) StepFault) (n : List ℕ) (p : Prepared) (a b : Option View) (out out2 err err2 : Option (List ℕ)) → Becomes (committed n (plan_of p)) a b → Reports r p (world b out err) (world b out2 err2)
-    → Finishes r n p (world a out err) (world b out2 err2)
+    → FinishesCommit r n p (world a out err) (world b out2 err2)
 reported (Ok done) n p a b out out2 err err2 done_so reports = (done_so, record { out = reports.out; err = reports.err })
 reported (Err WriteFault) n p a b out out2 err err2 done_so reports = (done_so, record { out = reports.out; err = reports.err })
 reported (Err (Refused refusal)) n p a b out out2 err err2 done_so reports = absurd reports

@@ -24,18 +24,18 @@ use Rattle.sccs_moments.proofs.Untouched.{before_after, before_within, same_befo
 use Rattle.sccs_steps.specs.StepEffects.{Outcome, effect_of}
 use Rattle.sccs_steps.specs.Calls.{Meets, World, scene, world}
 use Rattle.sccs_steps.specs.Actions.{Action, IsHeard}
-use Rattle.sccs_steps.specs.StepStops.{ArePaired, Ends, IsPaired, IsSafe, IsSafeFor, MeetsAt, place_of}
+use Rattle.sccs_steps.specs.StepStops.{ArePaired, Ends, IsPaired, IsSafe, IsSafeFor, MeetsAt, meeting_place}
 use Rattle.sccs_steps.proofs.SafeImages.{recovers_before}
 use Rattle.sccs_steps.proofs.Safety.{placed_safe}
 use Rattle.sccs_store.specs.Commits.{Becomes, Plan, abandoned, committed, files_after, locked}
-use Rattle.sccs_store.specs.Stops.{CommitEnds, HasPrepared, IsPlain, KeepsEntries, KeepsHeld, OnChange, OnReplace}
+use Rattle.sccs_store.specs.Stops.{CommitEnds, HasPrepared, IsPlainPlan, KeepsEntries, KeepsHeld, OnChange, OnReplace}
 use Rattle.sccs_store.specs.declared.new_files.NewFile.{NewFile}
 use Rattle.sccs_store.specs.declared.new_files.NewFile.TheVariants.{Keep, Replace, Remove}
 use Rattle.sccs_store.proofs.Committed.{committed_at}
 use Rattle.sccs_store.proofs.WholeSteps.{ends_after, ends_before, ends_within}
 use Rattle.sccs_store.proofs.Working.{leaves_from}
 use Rattle.sccs_transactions.specs.Changes.{Changing, IsPrepared, Prepares, PreparesChange, locking, locking_step, plan_of}
-use Rattle.sccs_transactions.specs.Ends.{Finishes, GivesUp, Reports}
+use Rattle.sccs_transactions.specs.Ends.{FinishesCommit, GivesUp, Reports}
 use Rattle.sccs_transactions.specs.Stops.{Commits, IsFirmPrepared, SettlesEntries}
 use Rattle.sccs_transactions.specs.declared.prepared.Prepared.{Prepared}
 use Rattle.sccs_transactions.proofs.ChangeEnds.{before_lock, broken_off, cut_finished, ends_finished, failed_steps, free_step, given_up, gone_left, locked_steps, memory_steps, unmade_of}
@@ -80,7 +80,7 @@ at_failed x n left ta td out err m past i sfile moves touches held is heard calm
 
 -- what an end behind the lock says of the outcome, where the view is told
 abbrev EndsSo : Action → Result (Unit {0}) StepFault → List ℕ → View → Model → List Model → Told → Option (List ℕ) → Option (List ℕ) → Option (List ℕ) → Option (List ℕ) → Outcome → Type 0
-EndsSo y r n v m past td out err out3 err3 o = (met : Meets (λ (done : Unit {0}). 0) r n o (world (Some v) out err) (world (seen td) out3 err3)) × Ends (place_of r n o (world (Some v) out err) (world (seen td) out3 err3) met) y n v (moved v n (effect_of n o).new) m past td
+EndsSo y r n v m past td out err out3 err3 o = (met : Meets (λ (done : Unit {0}). 0) r n o (world (Some v) out err) (world (seen td) out3 err3)) × Ends (meeting_place r n o (world (Some v) out err) (world (seen td) out3 err3) met) y n v (moved v n (effect_of n o).new) m past td
 
 behind : (x : Changing) (r : Result (Unit {0}) StepFault) (q : Result Prepared StepFault) (n : List ℕ) (left : Option (List ℕ)) (ta tb tb2 td : Told) (out out2 out3 err err3 : Option (List ℕ)) (m : Model) (past : List Model) (i : List ℕ) → ta ≡ Tells m past → IsHeard x.takes left i
     → Becomes (locked n) (seen ta) (seen tb) → IfSome (seen ta) (λ (v : View). v (z_file n) ≡ None) → PreparesChange x q n left (world (seen tb) out err) (world (seen tb2) out2 err)
@@ -186,14 +186,14 @@ has_prepared n p v ta tb tb2 sfile paired sound moves locks working firm entries
 }
 
 finished_so : (y : Action) (r : Result (Unit {0}) StepFault) (n : List ℕ) (p : Prepared) (o : Outcome) (m : Model) (past : List Model) (ta tb tb2 td : Told) (out out2 out3 err err3 : Option (List ℕ)) → IsSfile n → ta ≡ Tells m past → IsCalm m → IsSafe n (view_of m) → view_of m (z_file n) ≡ None
-    → IsPrepared n p o (world (Some (locked n (view_of m))) out err) (world (seen tb2) out2 err) → Finishes r n p (world (seen tb2) out2 err) (world (seen td) out3 err3) → Commits r n p tb2 td
+    → IsPrepared n p o (world (Some (locked n (view_of m))) out err) (world (seen tb2) out2 err) → FinishesCommit r n p (world (seen tb2) out2 err) (world (seen td) out3 err3) → Commits r n p tb2 td
     → TouchesOnly (bytes_eq (z_file n)) ta tb → TouchesOnly (is_working n) tb tb2 → IsFirmPrepared n p tb tb2 → SettlesEntries n p tb2 → EndsSo y r n (view_of m) m past td out err out3 err3 o
 finished_so y r n p o m past ta tb tb2 td out out2 out3 err err3 sfile is calm safe free prepared finishes commits locks working firm entries = by r finishes commits
   where
     has : HasPrepared n (plan_of p) ta tb2
     has = has_prepared n p (view_of m) ta tb tb2 sfile safe.paired (safe.sound free) prepared.view locks working firm entries
 
-    plain : IsPlain n (plan_of p)
+    plain : IsPlainPlan n (plan_of p)
     plain = plain_where (plan_of p).g (is_kept (drop 2 n) ≡ false) safe.plain
 
     new : (effect_of n o).new ≡ prepared.effect.new
@@ -216,7 +216,7 @@ finished_so y r n p o m past ta tb tb2 td out out2 out3 err err3 sfile is calm s
         let run : Touching (is_left n) m past tb2 = all_left n ta tb tb2 locks working m past is in
         λ changes. again (newest run.added m) (earlier run.added m past) run.is
 
-    by : (s : Result (Unit {0}) StepFault) → Finishes s n p (world (seen tb2) out2 err) (world (seen td) out3 err3) → Commits s n p tb2 td → EndsSo y s n (view_of m) m past td out err out3 err3 o
+    by : (s : Result (Unit {0}) StepFault) → FinishesCommit s n p (world (seen tb2) out2 err) (world (seen td) out3 err3) → Commits s n p tb2 td → EndsSo y s n (view_of m) m past td out err out3 err3 o
     by (Ok done) finished committed_so = (
       ends_finished (Ok done) n p o (view_of m) (seen tb2) (seen td) out out2 out3 err err3 sfile free prepared finished,
       (ends_after n (plan_of p) ta tb2 td m past (moved (view_of m) n (effect_of n o).new) sfile is calm (safe.sound free) plain has same committed_so, safe_again),
@@ -234,7 +234,7 @@ finished_so y r n p o m past ta tb tb2 td out out2 out3 err err3 sfile is calm s
     by (Err ReadFault) finished committed_so = absurd finished
 
 pub at_finished : (x : Changing) (p : Prepared) (r : Result (Unit {0}) StepFault) (q : Result Prepared StepFault) (n : List ℕ) (left : Option (List ℕ)) (ta tb tb2 td : Told) (out out2 out3 err err3 : Option (List ℕ)) (m : Model) (past : List Model) (i : List ℕ) → IsSfile n → q ≡ Ok p
-    → Becomes (locked n) (seen ta) (seen tb) → IfSome (seen ta) (λ (v : View). v (z_file n) ≡ None) → PreparesChange x q n left (world (seen tb) out err) (world (seen tb2) out2 err) → Finishes r n p (world (seen tb2) out2 err) (world (seen td) out3 err3) → Commits r n p tb2 td
+    → Becomes (locked n) (seen ta) (seen tb) → IfSome (seen ta) (λ (v : View). v (z_file n) ≡ None) → PreparesChange x q n left (world (seen tb) out err) (world (seen tb2) out2 err) → FinishesCommit r n p (world (seen tb2) out2 err) (world (seen td) out3 err3) → Commits r n p tb2 td
     → TouchesOnly (bytes_eq (z_file n)) ta tb → TouchesOnly (is_working n) tb tb2 → IsFirmPrepared n p tb tb2 → SettlesEntries n p tb2 → ta ≡ Tells m past → IsHeard x.takes left i → IsCalm m → IsSafe n (view_of m)
     → MeetsAt (locking x) r n (locking_step x.outcome n i (map (view_of m) (x.named n)) (look (view_of m) n)) (view_of m) m past (scene ta out err) (scene td out3 err3)
 at_finished x p r q n left ta tb tb2 td out out2 out3 err err3 m past i sfile made lock free prepares finishes commits locks working firm entries is heard calm safe =

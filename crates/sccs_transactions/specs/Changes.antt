@@ -18,7 +18,7 @@ use Rattle.sccs_disk.specs.Calls.{IsThere}
 use Rattle.sccs_store.specs.Commits.{Needs, Plan, files_after, plan}
 use Rattle.sccs_store.specs.declared.new_files.NewFile.{NewFile}
 use Rattle.sccs_store.specs.declared.new_files.NewFile.TheVariants.{Keep, Replace, Remove}
-use Rattle.sccs_moments.specs.Recovery.{without}
+use Rattle.sccs_moments.specs.Recovery.{without_name}
 use Rattle.sccs_transactions.specs.declared.prepared.Prepared.{Prepared}
 
 -- What a utility makes of the files of a name that no other program has locked.
@@ -46,7 +46,7 @@ locking x = record { fits = is_sfile_name; step = locking_step x.outcome; named 
 
 -- the view as it was before the name was locked
 abbrev pub unlocked : List ℕ → View → View
-unlocked n v = without (z_file n) v
+unlocked n v = without_name (z_file n) v
 
 abbrev pub plan_of : Prepared → Plan
 plan_of p = plan p.new_s p.new_p p.new_g

@@ -15,21 +15,21 @@ pub record IsReported (p : Prepared) (w w2 : World) : Type 0 where
   pub err : GivesOk w.err w2.err p.message
 
 -- prefixes of them are
-pub record IsCut (p : Prepared) (w w2 : World) : Type 0 where
+pub record IsReportCut (p : Prepared) (w w2 : World) : Type 0 where
   pub out : GivesSome w.out w2.out p.report
   pub err : GivesSome w.err w2.err p.message
 
 abbrev pub Reports : Result (Unit {0}) StepFault → Prepared → World → World → Type 0
 Reports (Ok done) p w w2 = IsReported p w w2
-Reports (Err WriteFault) p w w2 = IsCut p w w2
+Reports (Err WriteFault) p w w2 = IsReportCut p w w2
 Reports (Err fault) p w w2 = ⊥
 
 -- the commit is made and reported; or its report is cut; or it failed after some of its changes
-abbrev pub Finishes : Result (Unit {0}) StepFault → List ℕ → Prepared → World → World → Type 0
-Finishes (Ok done) n p w w2 = Becomes (committed n (plan_of p)) w.view w2.view × IsReported p w w2
-Finishes (Err WriteFault) n p w w2 = Becomes (committed n (plan_of p)) w.view w2.view × IsCut p w w2
-Finishes (Err DiskFault) n p w w2 = IsPart n (plan_of p) w.view w2.view × (w2.out ≡ w.out) × (w2.err ≡ w.err)
-Finishes (Err fault) n p w w2 = ⊥
+abbrev pub FinishesCommit : Result (Unit {0}) StepFault → List ℕ → Prepared → World → World → Type 0
+FinishesCommit (Ok done) n p w w2 = Becomes (committed n (plan_of p)) w.view w2.view × IsReported p w w2
+FinishesCommit (Err WriteFault) n p w w2 = Becomes (committed n (plan_of p)) w.view w2.view × IsReportCut p w w2
+FinishesCommit (Err DiskFault) n p w w2 = IsPart n (plan_of p) w.view w2.view × (w2.out ≡ w.out) × (w2.err ≡ w.err)
+FinishesCommit (Err fault) n p w w2 = ⊥
 
 -- the working files and the z-file are gone, and the answer is the fault; or the disk failed
 abbrev pub GivesUp : Result (Unit {0}) StepFault → StepFault → List ℕ → World → World → Type 0

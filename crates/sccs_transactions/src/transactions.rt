@@ -12,7 +12,7 @@ ghost use Rattle.sccs_steps.specs.Unlocked.{StepUnlocked};
 ghost use Rattle.sccs_transactions.specs.Changes.{IsReady, locking};
 ghost use Rattle.sccs_files.specs.StepFiles.{is_left};
 ghost use Rattle.sccs_images.specs.Touches.{TouchesOnly};
-ghost use Rattle.sccs_transactions.specs.Ends.{Finishes, GivesUp};
+ghost use Rattle.sccs_transactions.specs.Ends.{FinishesCommit, GivesUp};
 ghost use Rattle.sccs_transactions.specs.Stops.{Commits};
 
 use crate::changes::Change;
@@ -34,7 +34,7 @@ fn finish<O: Sink, E: Sink, D: Disk>(
 ) -> Result<(), StepFault>
     requires sfile { IsSfile name.now }
     requires ready { IsReady name.now prepared.now (D.told disk.old) }
-    ensures finishes { Finishes result name.now prepared.now
+    ensures finishes { FinishesCommit result name.now prepared.now
         (world (seen (D.told disk.old)) (O.given out.old) (E.given err.old)) (world (seen (D.told disk.new)) (O.given out.new) (E.given err.new)) }
     ensures commits { Commits result name.now prepared.now (D.told disk.old) (D.told disk.new) }
     ensures others { KeepsOthers (is_own name.now) (D.told disk.old) (D.told disk.new) }

@@ -12,7 +12,7 @@ use Rattle.sccs_history.specs.declared.headers.Record.{Record}
 use Rattle.sccs_grammar.specs.File.{Parsed, answer, file_of}
 use Rattle.sccs_grammar.specs.declared.faults.FileFault.{FileFault}
 use Rattle.sccs_grammar.specs.declared.faults.FileFault.TheVariants as file
-use Rattle.sccs_facts.specs.VersionFacts.{kind, module_name}
+use Rattle.sccs_facts.specs.VersionFacts.{kind_flags, module_name}
 use Rattle.sccs_words.specs.declared.commands.ValWords.{ValWords}
 use Rattle.sccs_val.specs.declared.findings.Findings.{Findings}
 
@@ -58,7 +58,7 @@ found_in words n header = record {
   unopened = false;
   invalid_sid = if_asked words.sid (λ asked. is_invalid (sid_of asked));
   missing_sid = if_asked words.sid (λ asked. is_missing header.records (sid_of asked));
-  other_kind = if_asked words.kind (λ asked. not (bytes_eq asked (kind header.flags)));
+  other_kind = if_asked words.kind (λ asked. not (bytes_eq asked (kind_flags header.flags)));
   other_module = if_asked words.«module» (λ asked. not (bytes_eq asked (module_name header.flags n)));
 }
 

@@ -18,7 +18,7 @@ use Rattle.sccs_body.specs.ToCome as items
 use Rattle.sccs_versions.proofs.RunLaws.{onto_read}
 use Rattle.sccs_weave.specs.Regions.{Holds}
 use Rattle.sccs_weave.specs.declared.regions.Region.{Region}
-use Rattle.sccs_versions.specs.Coming.{Coming, GivesNext, IsBody, ShowsItem, shown}
+use Rattle.sccs_versions.specs.Coming.{Coming, GivesNextLine, IsBody, ShowsItem, shown}
 use Rattle.sccs_versions.specs.Place.{VersionPlace}
 use Rattle.sccs_versions.specs.WasRead.{HasRead}
 use Rattle.sccs_versions.specs.declared.readers.Next.{Next}
@@ -76,7 +76,7 @@ shown_one true line is = refl
 shown_one false line is = absurd cc
 
 item_shown : (file : List ℕ) (r r2 : VersionPlace) (lines : List HistoryLine) (item : Item) (result : Result Next FileFault) → (p : Coming file r lines) → r2.set ≡ r.set → ItemComes file p.live p.before (Ok p.rest) item r2.items
-    → ShowsItem r.set p.before item r2.regions result → GivesNext file r2 lines result
+    → ShowsItem r.set p.before item r2.regions result → GivesNextLine file r2 lines result
 item_shown file r r2 lines item (Ok (Line text)) p same comes shows_it =
     let on = behind_item file r r2 lines item p same comes shows_it.0 in
     let first : shown r.set (lines_behind p.before (item ∷ [])) ≡ line_at p.before text ∷ [] =
@@ -110,7 +110,7 @@ abbrev pub Given : List ℕ → ItemPlace → ItemPlace → Result (Option Item)
 Given file old new result = (live : List ℕ) (before : List Item) (found : Result (List Item) ℕ) → ToCome file live before found old → items.GivesNext file live before found new result
 
 pub next_shown : (file : List ℕ) (r r2 : VersionPlace) (lines : List HistoryLine) (found : Option Item) (item : Item) (result : Result Next FileFault) → found ≡ Some item → r2.set ≡ r.set → Given file r.items r2.items (Ok found)
-    → ((before : List Item) → Holds r.set before r.regions → ShowsItem r.set before item r2.regions result) → Coming file r lines → GivesNext file r2 lines result
+    → ((before : List Item) → Holds r.set before r.regions → ShowsItem r.set before item r2.regions result) → Coming file r lines → GivesNextLine file r2 lines result
 next_shown file r r2 lines found item result is same given shows_it p =
     item_shown file r r2 lines item result p same (subst (λ f. items.GivesNext file p.live p.before (Ok p.rest) r2.items (Ok f)) is (given p.live p.before (Ok p.rest) p.comes)) (shows_it p.before p.holds)
 
@@ -126,7 +126,7 @@ never : (rest : List Item) (k : ℕ) → ok_items rest ≡ Err k → ⊥
 never rest k is = cc
 
 -- over a told body that is whole only the disk or memory can end it
-fault_given : (file : List ℕ) (r r2 : VersionPlace) (lines : List HistoryLine) (fault : FileFault) → (p : Coming file r lines) → items.GivesNext file p.live p.before (Ok p.rest) r2.items (Err fault) → GivesNext file r2 lines (Err fault)
+fault_given : (file : List ℕ) (r r2 : VersionPlace) (lines : List HistoryLine) (fault : FileFault) → (p : Coming file r lines) → items.GivesNext file p.live p.before (Ok p.rest) r2.items (Err fault) → GivesNextLine file r2 lines (Err fault)
 fault_given file r r2 lines faults.Failed p given = tt
 fault_given file r r2 lines faults.Memory p given = tt
 fault_given file r r2 lines (faults.BadFormat line) p given = never p.rest line given
@@ -137,8 +137,8 @@ fault_given file r r2 lines (faults.BadSum stored sum) p given = given
 fault_given file r r2 lines faults.Encoded p given = given
 fault_given file r r2 lines (faults.Changed a b c d) p given = given
 
-pub next_fails : (file : List ℕ) (r r2 : VersionPlace) (lines : List HistoryLine) (fault : FileFault) (result : Result Next FileFault) → result ≡ Err fault → Given file r.items r2.items (Err fault) → Coming file r lines → GivesNext file r2 lines result
-next_fails file r r2 lines fault result is given p = subst (λ x. GivesNext file r2 lines x) (sym is) (fault_given file r r2 lines fault p (given p.live p.before (Ok p.rest) p.comes))
+pub next_fails : (file : List ℕ) (r r2 : VersionPlace) (lines : List HistoryLine) (fault : FileFault) (result : Result Next FileFault) → result ≡ Err fault → Given file r.items r2.items (Err fault) → Coming file r lines → GivesNextLine file r2 lines result
+next_fails file r r2 lines fault result is given p = subst (λ x. GivesNextLine file r2 lines x) (sym is) (fault_given file r r2 lines fault p (given p.live p.before (Ok p.rest) p.comes))
 
 -- a reader that took nothing: at None nothing was taken, and then more was read on
 pub coming_still : (file : List ℕ) (r r2 : VersionPlace) (mid : ItemPlace) (lines : List HistoryLine) (taken : Option Item) → taken ≡ None → r2.set ≡ r.set → r2.regions ≡ r.regions → ((live : List ℕ) (before : List Item) (found : Result (List Item) ℕ) → ToCome file live before found r.items → ComesOrStays file live before found mid taken)

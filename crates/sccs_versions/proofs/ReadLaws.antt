@@ -13,11 +13,11 @@ use Rattle.sccs_grammar.specs.declared.faults.FileFault.{FileFault}
 use Rattle.sccs_body.specs.Reader.{ItemPlace}
 use Rattle.sccs_body.proofs.TextLaws.{some_bytes}
 use Rattle.sccs_body.proofs.ComingLaws.{hand_long}
-use Rattle.sccs_body.specs.ItemsRead.{Goes, IsBehind, texts_behind}
+use Rattle.sccs_body.specs.ItemsRead.{MovesToItem, IsBehind, texts_behind}
 use Rattle.sccs_weave.specs.Regions.{Holds}
 use Rattle.sccs_weave.specs.declared.regions.Region.{Region}
 use Rattle.sccs_versions.specs.Coming.{ShowsItem, shown, text_of_lines}
-use Rattle.sccs_versions.specs.Place.{AreShown, VersionPlace, at_hand}
+use Rattle.sccs_versions.specs.Place.{AreShown, VersionPlace, bytes_held}
 use Rattle.sccs_versions.specs.WasRead.{HasRead, ReadsAll, ReadsNext, ReadsOn, Stood, lines_before, shown_before, text_before}
 use Rattle.sccs_versions.specs.declared.readers.Next.{Next}
 use Rattle.sccs_versions.specs.declared.readers.Next.TheVariants.{Line, Hidden, End}
@@ -71,9 +71,9 @@ shown_first : (set : List ℕ) (before : List Item) (run : List ℕ) → (shows 
 shown_first set before run (inl is) = run_all set before (cut run).lines is
 shown_first set before run (inr none) = subst (λ bytes. shown set (run_lines before (cut bytes).lines) ≡ run_lines before (cut bytes).lines) (sym none) (nothing_shown set before)
 
-pub shown_on : (live : List ℕ) (r r2 : VersionPlace) (count : ℕ) (before : List Item) → AreShown r count → Passed (at_hand r count) r r2 → HasRead live r before → ReadsOn live r2 r.regions before (cut (at_hand r count)).lines
+pub shown_on : (live : List ℕ) (r r2 : VersionPlace) (count : ℕ) (before : List Item) → AreShown r count → Passed (bytes_held r count) r r2 → HasRead live r before → ReadsOn live r2 r.regions before (cut (bytes_held r count)).lines
 shown_on live r r2 count before are passed h =
-    let run = at_hand r count in
+    let run = bytes_held r count in
     record {
       items = texts_behind (cut run).lines before;
       read = read_run live r r2 run before h passed (λ live before text behind some. are.may.stand live before text behind (subst (λ n. 0 < n) (hand_long r.items count are.may) some));
@@ -99,7 +99,7 @@ hidden_on live r r2 run before kept passed stand keep none h = record {
 }
 
 -- the same, as the code goes over lines that aren't shown
-pub hidden_read : (live : List ℕ) (r r2 : VersionPlace) (text : List ℕ) (before : List Item) (kept : Bool) → at_hand r (length text) ≡ text → Passed (at_hand r (length text)) r r2
+pub hidden_read : (live : List ℕ) (r r2 : VersionPlace) (text : List ℕ) (before : List Item) (kept : Bool) → bytes_held r (length text) ≡ text → Passed (bytes_held r (length text)) r r2
     → ((live : List ℕ) (before : List Item) (line : List ℕ) → IsBehind live before r.items → 0 < length text → may_stand live before (Text line) ≡ true)
     → ((set : List ℕ) (before : List Item) (line : List ℕ) → Holds set before r.regions → kept ≡ shows set (line_at before line)) → kept ≡ false → HasRead live r before → ReadsOn live r2 r.regions before []
 hidden_read live r r2 text before kept front passed stand keep none h = hidden_on live r r2 text before kept (subst (λ run. Passed run r r2) front passed) stand keep none h
@@ -127,7 +127,7 @@ item_shows set before (Insert n) = sym (append-nil (shown_before set before))
 item_shows set before (Delete n) = sym (append-nil (shown_before set before))
 item_shows set before (items.End n) = sym (append-nil (shown_before set before))
 
-item_read : (live : List ℕ) (r r2 : VersionPlace) (before : List Item) (item : Item) → HasRead live r before → r2.set ≡ r.set → Goes live before r2.items (Ok (Some item)) → Holds r.set (item ∷ before) r2.regions → HasRead live r2 (item ∷ before)
+item_read : (live : List ℕ) (r r2 : VersionPlace) (before : List Item) (item : Item) → HasRead live r before → r2.set ≡ r.set → MovesToItem live before r2.items (Ok (Some item)) → Holds r.set (item ∷ before) r2.regions → HasRead live r2 (item ∷ before)
 item_read live r r2 before item h same goes holds = record {
   stood = (goes.0, h.stood);
   behind = goes.1;
@@ -140,7 +140,7 @@ one_more : (live : List ℕ) (r : VersionPlace) (regions : List Region) (before 
 one_more live r regions before on item lines is =
     item_shows r.set on.items item ∙ (ap (λ front. front ++ shown r.set (lines_behind on.items (item ∷ []))) (nothing_more live r regions before on) ∙ ap (λ more. shown_before r.set before ++ more) is)
 
-shown_item : (live : List ℕ) (r r2 : VersionPlace) (regions : List Region) (before : List Item) (on : ReadsOn live r regions before []) (item : Item) (result : Result Next FileFault) → r2.set ≡ r.set → Goes live on.items r2.items (Ok (Some item)) → ShowsItem r.set on.items item r2.regions result → ReadsNext live r2 before result
+shown_item : (live : List ℕ) (r r2 : VersionPlace) (regions : List Region) (before : List Item) (on : ReadsOn live r regions before []) (item : Item) (result : Result Next FileFault) → r2.set ≡ r.set → MovesToItem live on.items r2.items (Ok (Some item)) → ShowsItem r.set on.items item r2.regions result → ReadsNext live r2 before result
 shown_item live r r2 regions before on item (Ok (Line text)) same goes it = record {
   items = item ∷ on.items;
   read = item_read live r r2 on.items item on.read same goes it.0;
@@ -162,16 +162,16 @@ shown_item live r r2 regions before on item (Ok Hidden) same goes it = record {
 shown_item live r r2 regions before on item (Ok End) same goes it = absurd it
 shown_item live r r2 regions before on item (Err fault) same goes it = tt
 
-pub next_read : (live : List ℕ) (r r2 : VersionPlace) (regions : List Region) (before : List Item) (found : Option Item) (item : Item) (result : Result Next FileFault) → found ≡ Some item → r2.set ≡ r.set → ((live : List ℕ) (before : List Item) → IsBehind live before r.items → Goes live before r2.items (Ok found))
+pub next_read : (live : List ℕ) (r r2 : VersionPlace) (regions : List Region) (before : List Item) (found : Option Item) (item : Item) (result : Result Next FileFault) → found ≡ Some item → r2.set ≡ r.set → ((live : List ℕ) (before : List Item) → IsBehind live before r.items → MovesToItem live before r2.items (Ok found))
     → ((before : List Item) → Holds r.set before r.regions → ShowsItem r.set before item r2.regions result) → ReadsOn live r regions before [] → ReadsNext live r2 before result
 next_read live r r2 regions before found item result is same goes it on =
-    shown_item live r r2 regions before on item result same (subst (λ f. Goes live on.items r2.items (Ok f)) is (goes live on.items on.read.behind)) (it on.items on.read.holds)
+    shown_item live r r2 regions before on item result same (subst (λ f. MovesToItem live on.items r2.items (Ok f)) is (goes live on.items on.read.behind)) (it on.items on.read.holds)
 
-pub end_read : (live : List ℕ) (r : VersionPlace) (regions : List Region) (new : ItemPlace) (set : List ℕ) (before : List Item) (found : Option Item) → found ≡ None → set ≡ r.set → ((live : List ℕ) (before : List Item) → IsBehind live before r.items → Goes live before new (Ok found)) → ReadsOn live r regions before [] → ReadsAll live set before
+pub end_read : (live : List ℕ) (r : VersionPlace) (regions : List Region) (new : ItemPlace) (set : List ℕ) (before : List Item) (found : Option Item) → found ≡ None → set ≡ r.set → ((live : List ℕ) (before : List Item) → IsBehind live before r.items → MovesToItem live before new (Ok found)) → ReadsOn live r regions before [] → ReadsAll live set before
 end_read live r regions new set before found is same goes on = record {
   items = on.items;
   stood = on.read.stood;
-  over = subst (λ f. Goes live on.items new (Ok f)) is (goes live on.items on.read.behind);
+  over = subst (λ f. MovesToItem live on.items new (Ok f)) is (goes live on.items on.read.behind);
   whole = subst (λ s. shown_before s on.items ≡ shown_before s before) (sym same) (nothing_more live r regions before on);
 }
 

@@ -16,7 +16,7 @@ use Rattle.sccs_body.proofs.ComingLaws.{nothing_at_hand, nothing_may_pass}
 use Rattle.sccs_weave.specs.Regions.{Holds}
 use Rattle.sccs_weave.specs.declared.regions.Region.{Region}
 use Rattle.sccs_versions.specs.Coming.{ComeFirst, Coming, StandFirst, shown, text_of_lines}
-use Rattle.sccs_versions.specs.Place.{AreShown, VersionPlace, at_hand}
+use Rattle.sccs_versions.specs.Place.{AreShown, VersionPlace, bytes_held}
 
 -- ---- lines that stand together behind some items
 
@@ -108,7 +108,7 @@ first_shown set before run items (inr none) =
     subst (λ bytes. shown set (lines_behind before (map Text (cut bytes).lines ++ items)) ≡ run_lines before (cut bytes).lines ++ shown set (lines_behind (texts_behind (cut bytes).lines before) items)) (sym none) (no_lines set before items)
 
 pub kept_or_none : (r : VersionPlace) (count : ℕ) (before : List Item) → ((set : List ℕ) (before : List Item) (text : List ℕ) → Holds set before r.regions → shows set (line_at before text) ≡ true) ⊎ (count ≡ 0) → Holds r.set before r.regions
-    → (shows r.set (line_at before []) ≡ true) ⊎ (at_hand r count ≡ [])
+    → (shows r.set (line_at before []) ≡ true) ⊎ (bytes_held r count ≡ [])
 kept_or_none r count before (inl kept) holds = inl (kept r.set before [] holds)
 kept_or_none r count before (inr none) holds = inr (nothing_at_hand r.items count none)
 
@@ -124,15 +124,15 @@ stand_first file r run lines p items is kept whole = record {
   inserted = λ n at. run_inserted p.before (cut run).lines n (sym (at p.before p.holds.opens));
 }
 
-pub lines_passed : (file : List ℕ) (r r2 : VersionPlace) (count : ℕ) (lines : List HistoryLine) → AreShown r count → Passed (at_hand r count) r r2 → Coming file r lines → ComeFirst file r r2 (at_hand r count) lines
+pub lines_passed : (file : List ℕ) (r r2 : VersionPlace) (count : ℕ) (lines : List HistoryLine) → AreShown r count → Passed (bytes_held r count) r r2 → Coming file r lines → ComeFirst file r r2 (bytes_held r count) lines
 unfolding stand_first passed_on
 lines_passed file r r2 count lines are passed p =
-    let run = at_hand r count in
+    let run = bytes_held r count in
     let on = passed_on file r r2 run lines p passed in
     record { stand = stand_first file r run lines p on.0 on.1 (kept_or_none r count p.before are.kept p.holds) are.may.run.0; on = on.2 }
 
 -- the same, as the code goes over lines that aren't shown
-pub hidden_run : (file : List ℕ) (r r2 : VersionPlace) (text : List ℕ) (lines : List HistoryLine) (kept : Bool) → at_hand r (length text) ≡ text → Passed (at_hand r (length text)) r r2
+pub hidden_run : (file : List ℕ) (r r2 : VersionPlace) (text : List ℕ) (lines : List HistoryLine) (kept : Bool) → bytes_held r (length text) ≡ text → Passed (bytes_held r (length text)) r r2
     → ((set : List ℕ) (before : List Item) (line : List ℕ) → Holds set before r.regions → kept ≡ shows set (line_at before line)) → kept ≡ false → Coming file r lines → Coming file r2 lines
 hidden_run file r r2 text lines kept front passed keep none p =
     hidden_passed file r r2 text lines kept (subst (λ run. Passed run r r2) front passed) keep none p
@@ -150,7 +150,7 @@ text_append (line ∷ xs) ys = ap (λ more. ended line.text ++ more) (text_appen
 abbrev pub ComeAtHand : List ℕ → ItemPlace → List ℕ → Type 0
 ComeAtHand file r text = (live : List ℕ) (before : List Item) (found : Result (List Item) ℕ) → ToCome file live before found r → (rest : Result (List Item) ℕ) × (found ≡ onto (map Text (cut text).lines) rest)
 
-pub comes_first : (file : List ℕ) (r : VersionPlace) (text : List ℕ) (lines : List HistoryLine) → AreShown r (length text) → at_hand r (length text) ≡ text → ComeAtHand file r.items text → Coming file r lines → StandFirst r text lines
+pub comes_first : (file : List ℕ) (r : VersionPlace) (text : List ℕ) (lines : List HistoryLine) → AreShown r (length text) → bytes_held r (length text) ≡ text → ComeAtHand file r.items text → Coming file r lines → StandFirst r text lines
 comes_first file r text lines are is first p =
     let come = first p.live p.before (Ok p.rest) p.comes in
     let split = onto_read (map Text (cut text).lines) come.0 p.rest (sym come.1) in

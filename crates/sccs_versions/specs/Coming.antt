@@ -62,13 +62,13 @@ pub record ComesNext (file : List ℕ) (r : VersionPlace) (text : List ℕ) (lin
   pub on : Coming file r rest
 
 -- the next line comes; or an item of which nothing is shown; or no line is to come
-abbrev pub GivesNext : List ℕ → VersionPlace → List HistoryLine → Result Next FileFault → Type 0
-GivesNext file r lines (Ok (Line text)) = ComesNext file r text lines
-GivesNext file r lines (Ok Hidden) = Coming file r lines
-GivesNext file r lines (Ok End) = lines ≡ []
-GivesNext file r lines (Err Failed) = Unit {0}
-GivesNext file r lines (Err Memory) = Unit {0}
-GivesNext file r lines (Err _) = ⊥
+abbrev pub GivesNextLine : List ℕ → VersionPlace → List HistoryLine → Result Next FileFault → Type 0
+GivesNextLine file r lines (Ok (Line text)) = ComesNext file r text lines
+GivesNextLine file r lines (Ok Hidden) = Coming file r lines
+GivesNextLine file r lines (Ok End) = lines ≡ []
+GivesNextLine file r lines (Err Failed) = Unit {0}
+GivesNextLine file r lines (Err Memory) = Unit {0}
+GivesNextLine file r lines (Err _) = ⊥
 
 -- what the next item shows of itself, where the regions were those behind other items
 abbrev pub ShowsItem : List ℕ → List Item → Item → List Region → Result Next FileFault → Type 0

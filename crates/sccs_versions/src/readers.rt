@@ -10,10 +10,10 @@ ghost use Rattle.sccs_table.specs.FrontFile.{IsFirst, ReadsDisk};
 ghost use Rattle.sccs_table.specs.ReaderState.{bytes_in};
 ghost use Rattle.sccs_table.specs.Runs.{lf_count};
 ghost use Rattle.sccs_body.specs.Reader.{bytes_left};
-ghost use Rattle.sccs_body.specs.ToCome.{Changes};
+ghost use Rattle.sccs_body.specs.ToCome.{HasChanged};
 ghost use Rattle.sccs_weave.specs.Regions.{Holds};
-ghost use Rattle.sccs_versions.specs.Coming.{ComeFirst, Coming, GivesNext, IsBody, ShowsItem, StandFirst, shown};
-ghost use Rattle.sccs_versions.specs.Place.{AreShown, IsInserter, KeepsFirst, at_hand, name_of, steps_left};
+ghost use Rattle.sccs_versions.specs.Coming.{ComeFirst, Coming, GivesNextLine, IsBody, ShowsItem, StandFirst, shown};
+ghost use Rattle.sccs_versions.specs.Place.{AreShown, IsInserter, KeepsFirst, bytes_held, name_of, steps_to_end};
 ghost use Rattle.sccs_versions.specs.WasRead.{HasRead, ReadsNext, ReadsOn};
 ghost use Rattle.sccs_versions.specs.declared.readers.Next.TheVariants as next;
 
@@ -109,7 +109,7 @@ impl<'a> VersionReader<'a> {
     #[inline(always)]
     pub fn texts(&self) -> &[u8]
         ensures shown { AreShown self.now (length result.now) }
-        ensures value { result.now ≡ at_hand self.now (length result.now) }
+        ensures value { result.now ≡ bytes_held self.now (length result.now) }
         ensures whole { (cut result.now).tail ≡ [] }
         ensures first { (file : List ℕ) (lines : List HistoryLine) → Coming file self.now lines
             → StandFirst self.now result.now lines }
@@ -135,11 +135,11 @@ impl<'a> VersionReader<'a> {
         ensures set { self.new.set ≡ self.old.set }
         ensures first { KeepsFirst self.old self.new }
         ensures name { name_of self.new ≡ name_of self.old }
-        ensures left { steps_left self.new ≤ steps_left self.old }
+        ensures left { steps_to_end self.new ≤ steps_to_end self.old }
         ensures coming { (file : List ℕ) (lines : List HistoryLine) → Coming file self.old lines
-            → ComeFirst file self.old self.new (at_hand self.old count) lines }
+            → ComeFirst file self.old self.new (bytes_held self.old count) lines }
         ensures read { (live : List ℕ) (before : List Item) → HasRead live self.old before
-            → ReadsOn live self.new self.old.regions before (cut (at_hand self.old count)).lines }
+            → ReadsOn live self.new self.old.regions before (cut (bytes_held self.old count)).lines }
     {
         self.items.pass(count);
     }
@@ -150,7 +150,7 @@ impl<'a> VersionReader<'a> {
         ensures set { self.new.set ≡ self.old.set }
         ensures first { KeepsFirst self.old self.new }
         ensures name { name_of self.new ≡ name_of self.old }
-        ensures left { steps_left self.new ≤ steps_left self.old }
+        ensures left { steps_to_end self.new ≤ steps_to_end self.old }
         ensures coming { (file : List ℕ) (lines : List HistoryLine) → Coming file self.old lines → Coming file self.new lines }
         ensures read { (live : List ℕ) (before : List Item) → HasRead live self.old before → ReadsOn live self.new self.old.regions before [] }
     {
@@ -164,7 +164,7 @@ impl<'a> VersionReader<'a> {
     #[inline(always)]
     pub fn lines_held(&self, count: usize) -> u64
         requires { AreShown self.now count }
-        ensures { result ≡ lf_count (at_hand self.now count) }
+        ensures { result ≡ lf_count (bytes_held self.now count) }
     {
         self.items.lines_held(count)
     }
@@ -173,13 +173,13 @@ impl<'a> VersionReader<'a> {
     #[inline(never)]
     fn next_item<D: Disk>(&mut self, disk: &mut D) -> Result<Next, FileFault>
         ensures frame { ReadsDisk D.told D.faults disk.old disk.new result }
-        ensures changed { Changes self.old.items result }
+        ensures changed { HasChanged self.old.items result }
         ensures set { self.new.set ≡ self.old.set }
         ensures first { KeepsFirst self.old self.new }
         ensures name { name_of self.new ≡ name_of self.old }
         ensures further { IfOk result (λ n. n ≢ next.End → bytes_left self.new.items < bytes_left self.old.items) }
         ensures told { (file : List ℕ) (lines : List HistoryLine) → bytes_in (seen (D.told disk.old)) (name_of self.old) ≡ Some file
-            → Coming file self.old lines → GivesNext file self.new lines result }
+            → Coming file self.old lines → GivesNextLine file self.new lines result }
         ensures read { (live : List ℕ) (before : List Item) → HasRead live self.old before → ReadsNext live self.new before result }
     {
         match self.items.next(disk)? {
@@ -193,13 +193,13 @@ impl<'a> VersionReader<'a> {
     #[inline(always)]
     fn next_behind<D: Disk>(&mut self, disk: &mut D) -> Result<Next, FileFault>
         ensures frame { ReadsDisk D.told D.faults disk.old disk.new result }
-        ensures changed { Changes self.old.items result }
+        ensures changed { HasChanged self.old.items result }
         ensures set { self.new.set ≡ self.old.set }
         ensures first { KeepsFirst self.old self.new }
         ensures name { name_of self.new ≡ name_of self.old }
-        ensures further { IfOk result (λ n. n ≢ next.End → steps_left self.new < steps_left self.old) }
+        ensures further { IfOk result (λ n. n ≢ next.End → steps_to_end self.new < steps_to_end self.old) }
         ensures told { (file : List ℕ) (lines : List HistoryLine) → bytes_in (seen (D.told disk.old)) (name_of self.old) ≡ Some file
-            → Coming file self.old lines → GivesNext file self.new lines result }
+            → Coming file self.old lines → GivesNextLine file self.new lines result }
         ensures read { (live : List ℕ) (before : List Item) → HasRead live self.old before → ReadsNext live self.new before result }
     {
         if let Some(item) = self.items.next_control() {
@@ -217,13 +217,13 @@ impl<'a> VersionReader<'a> {
     #[inline(always)]
     pub fn next<D: Disk>(&mut self, disk: &mut D) -> Result<Next, FileFault>
         ensures frame { ReadsDisk D.told D.faults disk.old disk.new result }
-        ensures changed { Changes self.old.items result }
+        ensures changed { HasChanged self.old.items result }
         ensures set { self.new.set ≡ self.old.set }
         ensures first { KeepsFirst self.old self.new }
         ensures name { name_of self.new ≡ name_of self.old }
-        ensures further { IfOk result (λ n. n ≢ next.End → steps_left self.new < steps_left self.old) }
+        ensures further { IfOk result (λ n. n ≢ next.End → steps_to_end self.new < steps_to_end self.old) }
         ensures told { (file : List ℕ) (lines : List HistoryLine) → bytes_in (seen (D.told disk.old)) (name_of self.old) ≡ Some file
-            → Coming file self.old lines → GivesNext file self.new lines result }
+            → Coming file self.old lines → GivesNextLine file self.new lines result }
         ensures read { (live : List ℕ) (before : List Item) → HasRead live self.old before → ReadsNext live self.new before result }
     {
         self.pass_hidden();

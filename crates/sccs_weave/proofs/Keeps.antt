@@ -9,7 +9,7 @@ use Rattle.sccs_history.specs.Select.{shows}
 use Rattle.sccs_history.specs.declared.headers.Item.{Item}
 use Rattle.sccs_history.proofs.Falling.{falling-alike, falling-has, Falls-wider}
 use Rattle.sccs_history.proofs.OpenMarks.{mark_below}
-use Rattle.sccs_weave.specs.Regions.{AreSorted, first_insert, found, Holds, keeps, kind, Opens, serials}
+use Rattle.sccs_weave.specs.Regions.{AreSorted, first_insert, serial_mark, Holds, keeps, region_mark, OpensRegions, region_serials}
 use Rattle.sccs_weave.specs.declared.regions.Region.{Region}
 use Rattle.sccs_weave.proofs.Steps.{found_past}
 
@@ -18,10 +18,10 @@ kind_open true = refl
 kind_open false = refl
 
 -- the open regions are below the bound of the items
-falls_above : (before : List Item) (rs : List Region) → AreSorted rs → Opens before rs → Falls (above before) (serials rs)
+falls_above : (before : List Item) (rs : List Region) → AreSorted rs → OpensRegions before rs → Falls (above before) (region_serials rs)
 falls_above before [] sorted opens = tt
 falls_above before (r ∷ rs) sorted opens =
-    let stands : kind r ≡ mark r.serial before = ap (λ t. cond t (kind r) (found r.serial rs)) (sym (eq-eqb r.serial r.serial refl)) ∙ opens r.serial in
+    let stands : region_mark r ≡ mark r.serial before = ap (λ t. cond t (region_mark r) (serial_mark r.serial rs)) (sym (eq-eqb r.serial r.serial refl)) ∙ opens r.serial in
     (mark_below r.serial before (ap is_closed (sym stands) ∙ kind_open r.inserts), sorted)
 
 -- the serials of the regions by Insert
@@ -46,7 +46,7 @@ falls_front : (t : Bool) (b n : ℕ) (ns : List ℕ) → n < b → Falls n ns �
 falls_front true b n ns lt falls = (lt, falls)
 falls_front false b n ns lt falls = Falls-wider n b ns (omega arith) falls
 
-falls_inserting : (b : ℕ) (rs : List Region) → Falls b (serials rs) → Falls b (inserting rs)
+falls_inserting : (b : ℕ) (rs : List Region) → Falls b (region_serials rs) → Falls b (inserting rs)
 falls_inserting b [] falls = tt
 falls_inserting b (r ∷ rs) falls = falls_front r.inserts b r.serial (inserting rs) falls.0 (falls_inserting r.serial rs falls.1)
 
@@ -58,17 +58,17 @@ insert_past : (s : Bool) (k : Mark) → (s ≡ true → is_insert k ≡ false) �
 insert_past true k none = none refl
 insert_past false k none = refl
 
-insert_step : (t : Bool) (b n m : ℕ) (rs : List Region) → Falls m (serials rs) → has (inserting rs) n ≡ is_insert (found n rs) → has (front_if t m (inserting rs)) n ≡ is_insert (cond (m == n) (cond t ByInsert ByDelete) (found n rs))
-insert_step true b n m rs falls ih = ap (λ x. (m == n) || x) ih ∙ insert_or (m == n) (found n rs)
+insert_step : (t : Bool) (b n m : ℕ) (rs : List Region) → Falls m (region_serials rs) → has (inserting rs) n ≡ is_insert (serial_mark n rs) → has (front_if t m (inserting rs)) n ≡ is_insert (cond (m == n) (cond t ByInsert ByDelete) (serial_mark n rs))
+insert_step true b n m rs falls ih = ap (λ x. (m == n) || x) ih ∙ insert_or (m == n) (serial_mark n rs)
 insert_step false b n m rs falls ih =
-    ih ∙ insert_past (m == n) (found n rs) (λ e. let same : m ≡ n = eqb-true m n e in ap is_insert (found_past m n rs falls (omega arith)))
+    ih ∙ insert_past (m == n) (serial_mark n rs) (λ e. let same : m ≡ n = eqb-true m n e in ap is_insert (found_past m n rs falls (omega arith)))
 
-has_inserting : (b n : ℕ) (rs : List Region) → Falls b (serials rs) → has (inserting rs) n ≡ is_insert (found n rs)
+has_inserting : (b n : ℕ) (rs : List Region) → Falls b (region_serials rs) → has (inserting rs) n ≡ is_insert (serial_mark n rs)
 has_inserting b n [] falls = refl
 has_inserting b n (r ∷ rs) falls = insert_step r.inserts b n r.serial rs falls.1 (has_inserting r.serial n rs falls.1)
 
 -- what the regions say of the inserter
-pub inserter_regions : (before : List Item) (rs : List Region) → AreSorted rs → Opens before rs → first_insert rs ≡ inserter before
+pub inserter_regions : (before : List Item) (rs : List Region) → AreSorted rs → OpensRegions before rs → first_insert rs ≡ inserter before
 inserter_regions before rs sorted opens =
     let falls = falls_above before rs sorted opens in
     let same : inserters before ≡ inserting rs =
@@ -80,7 +80,7 @@ first_step : (t : Bool) (b n rest : ℕ) → n < b → 0 < cond t n rest → (0 
 first_step true b n rest lt some below = lt
 first_step false b n rest lt some below = let low = below some in omega (arith, low)
 
-first_below : (b : ℕ) (rs : List Region) → Falls b (serials rs) → 0 < first_insert rs → first_insert rs < b
+first_below : (b : ℕ) (rs : List Region) → Falls b (region_serials rs) → 0 < first_insert rs → first_insert rs < b
 first_below b [] falls some = absurd (omega arith)
 first_below b (r ∷ rs) falls some = first_step r.inserts b r.serial (first_insert rs) falls.0 some (first_below r.serial rs falls.1)
 
@@ -88,7 +88,7 @@ falls_cond : (t : Bool) (b n : ℕ) (ns : List ℕ) → n < b → Falls n ns →
 falls_cond true b n ns lt falls = tt
 falls_cond false b n ns lt falls = (lt, falls)
 
-falls_deleting : (b : ℕ) (rs : List Region) → Falls b (serials rs) → Falls b (deleting rs)
+falls_deleting : (b : ℕ) (rs : List Region) → Falls b (region_serials rs) → Falls b (deleting rs)
 falls_deleting b [] falls = tt
 falls_deleting b (r ∷ rs) falls = falls_cond r.inserts b r.serial (deleting rs) falls.0 (falls_deleting r.serial rs falls.1)
 
@@ -104,24 +104,24 @@ deleted_or : (s : Bool) (k : Mark) (low : Bool) → (s ≡ true → low ≡ true
 deleted_or true k low here = sym (here refl)
 deleted_or false k low here = refl
 
-delete_step : (t : Bool) (n m : ℕ) (rs : List Region) → Falls m (serials rs) → 0 < cond t m (first_insert rs) → (0 < first_insert rs → has (deleting rs) n ≡ is_delete (found n rs) && nat_lt (first_insert rs) n)
-    → has (cond t [] (m ∷ deleting rs)) n ≡ is_delete (cond (m == n) (cond t ByInsert ByDelete) (found n rs)) && nat_lt (cond t m (first_insert rs)) n
-delete_step true n m rs falls some ih = not_deleted m n (found n rs) (λ lt. found_past m n rs falls (omega arith))
+delete_step : (t : Bool) (n m : ℕ) (rs : List Region) → Falls m (region_serials rs) → 0 < cond t m (first_insert rs) → (0 < first_insert rs → has (deleting rs) n ≡ is_delete (serial_mark n rs) && nat_lt (first_insert rs) n)
+    → has (cond t [] (m ∷ deleting rs)) n ≡ is_delete (cond (m == n) (cond t ByInsert ByDelete) (serial_mark n rs)) && nat_lt (cond t m (first_insert rs)) n
+delete_step true n m rs falls some ih = not_deleted m n (serial_mark n rs) (λ lt. found_past m n rs falls (omega arith))
 delete_step false n m rs falls some ih =
     ap (λ x. (m == n) || x) (ih some)
-    ∙ deleted_or (m == n) (found n rs) (nat_lt (first_insert rs) n) (λ e. let same : m ≡ n = eqb-true m n e in let low = first_below m rs falls some in lt-ltb (first_insert rs) n (omega (arith, low)))
+    ∙ deleted_or (m == n) (serial_mark n rs) (nat_lt (first_insert rs) n) (λ e. let same : m ≡ n = eqb-true m n e in let low = first_below m rs falls some in lt-ltb (first_insert rs) n (omega (arith, low)))
 
-has_deleting : (b n : ℕ) (rs : List Region) → Falls b (serials rs) → 0 < first_insert rs → has (deleting rs) n ≡ is_delete (found n rs) && nat_lt (first_insert rs) n
+has_deleting : (b n : ℕ) (rs : List Region) → Falls b (region_serials rs) → 0 < first_insert rs → has (deleting rs) n ≡ is_delete (serial_mark n rs) && nat_lt (first_insert rs) n
 has_deleting b n [] falls some = absurd (omega arith)
 has_deleting b n (r ∷ rs) falls some = delete_step r.inserts n r.serial rs falls.1 some (has_deleting r.serial n rs falls.1)
 
 -- what they say of the deleters, where a serial is open by Insert
-deleters_regions : (before : List Item) (rs : List Region) → AreSorted rs → Opens before rs → 0 < first_insert rs → deleters before ≡ deleting rs
+deleters_regions : (before : List Item) (rs : List Region) → AreSorted rs → OpensRegions before rs → 0 < first_insert rs → deleters before ≡ deleting rs
 deleters_regions before rs sorted opens some =
     let falls = falls_above before rs sorted opens in
     falling-alike (above before) (λ n. is_delete (mark n before) && nat_lt (inserter before) n) (has (deleting rs))
     (λ n lt. ap (λ k. is_delete k && nat_lt (inserter before) n) (sym (opens n))
-    ∙ (ap (λ i. is_delete (found n rs) && nat_lt i n) (sym (inserter_regions before rs sorted opens)) ∙ sym (has_deleting (above before) n rs falls some)))
+    ∙ (ap (λ i. is_delete (serial_mark n rs) && nat_lt i n) (sym (inserter_regions before rs sorted opens)) ∙ sym (has_deleting (above before) n rs falls some)))
     ∙ falling-has (above before) (deleting rs) (falls_deleting (above before) rs falls)
 
 and_true : (a : Bool) → a ≡ a && true

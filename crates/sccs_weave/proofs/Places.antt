@@ -10,8 +10,8 @@ use Rattle.std.proofs.lemmas.Option.{slice_get-get_or}
 use Rattle.sccs_history.specs.Numbers.{Falls}
 use Rattle.sccs_history.proofs.Falling.{IsFalling-from_Falls}
 use Rattle.std.specs.Prelude.{Bool, true, false, not, ◌&&◌, ◌||◌, if◌then◌else◌}
-use Rattle.sccs_weave.specs.Stacks.{behind_first, AreAbove, first_serial, FitsAt, IsLow, IsPlace, stacked, StandsAt}
-use Rattle.sccs_weave.specs.Regions.{AreSorted, behind_one, closed, first_insert, keeps, opened, replaced, serials}
+use Rattle.sccs_weave.specs.Stacks.{after_first_region, AreAbove, first_serial, FitsAt, IsLow, IsPlace, stacked, StandsAt}
+use Rattle.sccs_weave.specs.Regions.{AreSorted, behind_one, without_region, first_insert, keeps, with_region, replaced_region, region_serials}
 use Rattle.sccs_weave.specs.declared.regions.Region.{Region}
 
 -- the bound is at most the first serial, and each serial is below the next
@@ -24,13 +24,13 @@ abbrev bound : List Region → ℕ
 bound [] = 0
 bound (r ∷ rs) = suc r.serial
 
-bound_fits : (n : ℕ) (rs : List Region) → Falls n (serials rs) → bound rs ≤ n
+bound_fits : (n : ℕ) (rs : List Region) → Falls n (region_serials rs) → bound rs ≤ n
 bound_fits n [] falls = omega arith
 bound_fits n (r ∷ rs) falls = omega (arith, falls.0)
 
 sorted_below : (rs : List Region) (es : List Region) → AreSorted (stacked rs es) → AreSorted rs
 sorted_below rs [] sorted = sorted
-sorted_below rs (e ∷ es) sorted = IsFalling-from_Falls e.serial (serials rs) (sorted_below (e ∷ rs) es sorted)
+sorted_below rs (e ∷ es) sorted = IsFalling-from_Falls e.serial (region_serials rs) (sorted_below (e ∷ rs) es sorted)
 
 rises : (rs : List Region) (es : List Region) → AreSorted (stacked rs es) → Rises (bound rs) es
 rises rs [] sorted = tt
@@ -89,67 +89,67 @@ searched n es (Err i) sorted bound at =
     fits_at n es i bound (λ k d lt. less_from_cmp (get_or es k d).serial n (parted.0 k d (omega arith) lt)) (λ k d ge lt. greater_from_cmp (get_or es k d).serial n (parted.1 k d ge lt))
 
 module _ (n : ℕ) (new : Option Region) where
-  replaced_past : (r : Region) (rs : List Region) → n < r.serial → replaced n new (r ∷ rs) ≡ r ∷ replaced n new rs
-  replaced_past r rs lt = ap (λ t. cond t (r ∷ replaced n new rs) (behind_one new (cond (r.serial == n) rs (r ∷ rs)))) (lt-ltb n r.serial lt)
+  replaced_past : (r : Region) (rs : List Region) → n < r.serial → replaced_region n new (r ∷ rs) ≡ r ∷ replaced_region n new rs
+  replaced_past r rs lt = ap (λ t. cond t (r ∷ replaced_region n new rs) (behind_one new (cond (r.serial == n) rs (r ∷ rs)))) (lt-ltb n r.serial lt)
 
-  replaced_here : (r : Region) (rs : List Region) → r.serial ≡ n → replaced n new (r ∷ rs) ≡ behind_one new rs
+  replaced_here : (r : Region) (rs : List Region) → r.serial ≡ n → replaced_region n new (r ∷ rs) ≡ behind_one new rs
   replaced_here r rs same =
-      ap (λ t. cond t (r ∷ replaced n new rs) (behind_one new (cond (r.serial == n) rs (r ∷ rs)))) (le-ltb n r.serial (omega arith))
+      ap (λ t. cond t (r ∷ replaced_region n new rs) (behind_one new (cond (r.serial == n) rs (r ∷ rs)))) (le-ltb n r.serial (omega arith))
       ∙ ap (λ t. behind_one new (cond t rs (r ∷ rs))) (eq-eqb r.serial n same)
 
-  replaced_low : (rs : List Region) → IsLow n rs → replaced n new rs ≡ behind_one new rs
+  replaced_low : (rs : List Region) → IsLow n rs → replaced_region n new rs ≡ behind_one new rs
   replaced_low [] low = refl
   replaced_low (r ∷ rs) low =
-      ap (λ t. cond t (r ∷ replaced n new rs) (behind_one new (cond (r.serial == n) rs (r ∷ rs)))) (le-ltb n r.serial (omega (arith, low)))
+      ap (λ t. cond t (r ∷ replaced_region n new rs) (behind_one new (cond (r.serial == n) rs (r ∷ rs)))) (le-ltb n r.serial (omega (arith, low)))
       ∙ ap (λ t. behind_one new (cond t rs (r ∷ rs))) (ne_eqb r.serial n (λ e. omega (arith, low)))
 
   -- what stands above a serial stays
-  replaced_above : (rs : List Region) (es : List Region) → AreAbove n es → replaced n new (stacked rs es) ≡ stacked (replaced n new rs) es
+  replaced_above : (rs : List Region) (es : List Region) → AreAbove n es → replaced_region n new (stacked rs es) ≡ stacked (replaced_region n new rs) es
   replaced_above rs [] above = refl
   replaced_above rs (e ∷ es) above = replaced_above (e ∷ rs) es above.1 ∙ ap (λ l. stacked l es) (replaced_past e rs above.0)
 
-  at_place : (rs : List Region) (e : Region) (es : List Region) → StandsAt n 0 (e ∷ es) → stacked (behind_one new rs) es ≡ replaced n new (stacked rs (e ∷ es))
+  at_place : (rs : List Region) (e : Region) (es : List Region) → StandsAt n 0 (e ∷ es) → stacked (behind_one new rs) es ≡ replaced_region n new (stacked rs (e ∷ es))
   at_place rs e es stands =
       sym (replaced_above (e ∷ rs) es stands.1 ∙ ap (λ l. stacked l es) (replaced_here e rs stands.0))
 
-  on_low : (rs : List Region) (es : List Region) → IsLow n rs → AreAbove n es → stacked (behind_one new rs) es ≡ replaced n new (stacked rs es)
+  on_low : (rs : List Region) (es : List Region) → IsLow n rs → AreAbove n es → stacked (behind_one new rs) es ≡ replaced_region n new (stacked rs es)
   on_low rs es low above = sym (replaced_above rs es above ∙ ap (λ l. stacked l es) (replaced_low rs low))
 
 module _ (n : ℕ) where
   -- an entry in the place of one of its serial
-  set_stands : (v : Region) (rs : List Region) (es : List Region) (i : ℕ) → StandsAt n i es → stacked rs (set es i v) ≡ replaced n (Some v) (stacked rs es)
+  set_stands : (v : Region) (rs : List Region) (es : List Region) (i : ℕ) → StandsAt n i es → stacked rs (set es i v) ≡ replaced_region n (Some v) (stacked rs es)
   set_stands v rs [] i stands = absurd stands
   set_stands v rs (e ∷ es) zero stands = at_place n (Some v) rs e es stands
   set_stands v rs (e ∷ es) (suc i) stands = set_stands v (e ∷ rs) es i stands
 
   -- none in the place of one of that serial
-  remove_stands : (rs : List Region) (es : List Region) (i : ℕ) → StandsAt n i es → stacked rs (remove es i) ≡ replaced n None (stacked rs es)
+  remove_stands : (rs : List Region) (es : List Region) (i : ℕ) → StandsAt n i es → stacked rs (remove es i) ≡ replaced_region n None (stacked rs es)
   remove_stands rs [] i stands = absurd stands
   remove_stands rs (e ∷ es) zero stands = at_place n None rs e es stands
   remove_stands rs (e ∷ es) (suc i) stands = remove_stands (e ∷ rs) es i stands
 
   -- an entry of a new serial
-  insert_fits : (v : Region) (rs : List Region) (es : List Region) (i : ℕ) → IsLow n rs → FitsAt n i es → stacked rs (insert es i v) ≡ replaced n (Some v) (stacked rs es)
+  insert_fits : (v : Region) (rs : List Region) (es : List Region) (i : ℕ) → IsLow n rs → FitsAt n i es → stacked rs (insert es i v) ≡ replaced_region n (Some v) (stacked rs es)
   insert_fits v rs es zero low fits = on_low n (Some v) rs es low fits
   insert_fits v rs [] (suc i) low fits = sym (replaced_low n (Some v) rs low)
   insert_fits v rs (e ∷ es) (suc i) low fits = insert_fits v (e ∷ rs) es i fits.0 fits.1
 
   -- none where none stands
-  none_fits : (rs : List Region) (es : List Region) (i : ℕ) → IsLow n rs → FitsAt n i es → stacked rs es ≡ replaced n None (stacked rs es)
+  none_fits : (rs : List Region) (es : List Region) (i : ℕ) → IsLow n rs → FitsAt n i es → stacked rs es ≡ replaced_region n None (stacked rs es)
   none_fits rs es zero low fits = on_low n None rs es low fits
   none_fits rs [] (suc i) low fits = sym (replaced_low n None rs low)
   none_fits rs (e ∷ es) (suc i) low fits = none_fits (e ∷ rs) es i fits.0 fits.1
 
-pub opened_set : (v : Region) (es : List Region) (i : ℕ) → StandsAt v.serial i es → stacked [] (set es i v) ≡ opened v (stacked [] es)
+pub opened_set : (v : Region) (es : List Region) (i : ℕ) → StandsAt v.serial i es → stacked [] (set es i v) ≡ with_region v (stacked [] es)
 opened_set v es i stands = set_stands v.serial v [] es i stands
 
-pub opened_insert : (v : Region) (es : List Region) (i : ℕ) → FitsAt v.serial i es → stacked [] (insert es i v) ≡ opened v (stacked [] es)
+pub opened_insert : (v : Region) (es : List Region) (i : ℕ) → FitsAt v.serial i es → stacked [] (insert es i v) ≡ with_region v (stacked [] es)
 opened_insert v es i fits = insert_fits v.serial v [] es i tt fits
 
-pub closed_remove : (n : ℕ) (es : List Region) (i : ℕ) → StandsAt n i es → stacked [] (remove es i) ≡ closed n (stacked [] es)
+pub closed_remove : (n : ℕ) (es : List Region) (i : ℕ) → StandsAt n i es → stacked [] (remove es i) ≡ without_region n (stacked [] es)
 closed_remove n es i stands = remove_stands n [] es i stands
 
-pub closed_same : (n : ℕ) (es : List Region) (i : ℕ) → FitsAt n i es → stacked [] es ≡ closed n (stacked [] es)
+pub closed_same : (n : ℕ) (es : List Region) (i : ℕ) → FitsAt n i es → stacked [] es ≡ without_region n (stacked [] es)
 closed_same n es i fits = none_fits n [] es i tt fits
 
 -- the last entry has the greatest serial
@@ -185,8 +185,8 @@ last_left es n d some fits =
     let same : n ≡ n - 1 + 1 = omega arith in
     ap (λ k. stacked [] (take k es)) same ∙ stacked_take es (n - 1) d (omega arith)
 
-pub popped_stack : (es left : List Region) (e : Region) → es ≡ left ++ e ∷ [] → stacked [] left ≡ behind_first (stacked [] es)
-popped_stack es left e is = sym (ap (λ l. behind_first (stacked [] l)) is ∙ ap behind_first (stacked_end [] left e))
+pub popped_stack : (es left : List Region) (e : Region) → es ≡ left ++ e ∷ [] → stacked [] left ≡ after_first_region (stacked [] es)
+popped_stack es left e is = sym (ap (λ l. after_first_region (stacked [] l)) is ∙ ap after_first_region (stacked_end [] left e))
 
 -- ---- the first that decides
 

@@ -7,11 +7,11 @@ use Rattle.sccs_history.specs.Body.{Mark, Closed, ByInsert, ByDelete}
 use Rattle.sccs_history.specs.declared.headers.Item.{Item}
 use Rattle.sccs_history.specs.declared.headers.Item.TheVariants.{Text, Insert, Delete, End}
 use Rattle.sccs_history.proofs.Falling.{Falls-wider, IsFalling-from_Falls}
-use Rattle.sccs_weave.specs.Regions.{AreSorted, behind, behind_one, found, Holds, kind, Opens, replaced, serials}
+use Rattle.sccs_weave.specs.Regions.{AreSorted, regions_after, behind_one, serial_mark, Holds, region_mark, OpensRegions, replaced_region, region_serials}
 use Rattle.sccs_weave.specs.declared.regions.Region.{Region}
 
 -- a bound of a sorted list
-sorted_falls : (rs : List Region) → AreSorted rs → (b : ℕ) × Falls b (serials rs)
+sorted_falls : (rs : List Region) → AreSorted rs → (b : ℕ) × Falls b (region_serials rs)
 sorted_falls [] sorted = (0, tt)
 sorted_falls (r ∷ rs) sorted = (suc r.serial, (omega arith, sorted))
 
@@ -30,18 +30,18 @@ closed_or true m e = e refl
 closed_or false m e = refl
 
 -- a serial at the bound or above it isn't open
-pub found_past : (b n : ℕ) (rs : List Region) → Falls b (serials rs) → b ≤ n → found n rs ≡ Closed
+pub found_past : (b n : ℕ) (rs : List Region) → Falls b (region_serials rs) → b ≤ n → serial_mark n rs ≡ Closed
 found_past b n [] falls le = refl
 found_past b n (r ∷ rs) falls le =
-    ap (λ t. cond t (kind r) (found n rs)) (ne_eqb r.serial n (λ e. omega (arith, falls.0)))
+    ap (λ t. cond t (region_mark r) (serial_mark n rs)) (ne_eqb r.serial n (λ e. omega (arith, falls.0)))
     ∙ found_past r.serial n rs falls.1 (omega (arith, falls.0))
 
 -- What is put in the place of a serial's region: the serial then stands so.
 record Fits (n : ℕ) (new : Option Region) (k : Mark) : Type 0 where
-  stands : (m : ℕ) (xs : List Region) → Falls n (serials xs) → found m (behind_one new xs) ≡ cond (n == m) k (found m xs)
-  low : (b : ℕ) (xs : List Region) → n < b → Falls n (serials xs) → Falls b (serials (behind_one new xs))
+  stands : (m : ℕ) (xs : List Region) → Falls n (region_serials xs) → serial_mark m (behind_one new xs) ≡ cond (n == m) k (serial_mark m xs)
+  low : (b : ℕ) (xs : List Region) → n < b → Falls n (region_serials xs) → Falls b (region_serials (behind_one new xs))
 
-fits_one : (q : Region) → Fits q.serial (Some q) (kind q)
+fits_one : (q : Region) → Fits q.serial (Some q) (region_mark q)
 fits_one q = record {
   stands = λ m xs falls. refl;
   low = λ b xs lt falls. (lt, falls);
@@ -49,65 +49,65 @@ fits_one q = record {
 
 fits_none : (n : ℕ) → Fits n None Closed
 fits_none n = record {
-  stands = λ m xs falls. closed_or (n == m) (found m xs) (λ e. let same : n ≡ m = eqb-true n m e in found_past n m xs falls (omega arith));
-  low = λ b xs lt falls. Falls-wider n b (serials xs) (omega arith) falls;
+  stands = λ m xs falls. closed_or (n == m) (serial_mark m xs) (λ e. let same : n ≡ m = eqb-true n m e in found_past n m xs falls (omega arith));
+  low = λ b xs lt falls. Falls-wider n b (region_serials xs) (omega arith) falls;
 }
 
 module _ (n : ℕ) (new : Option Region) (k : Mark) (fits : Fits n new k) where
-  found_step : (m b : ℕ) (r : Region) (rs : List Region) (t s : Bool) → nat_lt n r.serial ≡ t → (r.serial == n) ≡ s → Falls b (serials (r ∷ rs))
-      → found m (replaced n new rs) ≡ cond (n == m) k (found m rs)
-      → found m (cond t (r ∷ replaced n new rs) (behind_one new (cond s rs (r ∷ rs)))) ≡ cond (n == m) k (found m (r ∷ rs))
+  found_step : (m b : ℕ) (r : Region) (rs : List Region) (t s : Bool) → nat_lt n r.serial ≡ t → (r.serial == n) ≡ s → Falls b (region_serials (r ∷ rs))
+      → serial_mark m (replaced_region n new rs) ≡ cond (n == m) k (serial_mark m rs)
+      → serial_mark m (cond t (r ∷ replaced_region n new rs) (behind_one new (cond s rs (r ∷ rs)))) ≡ cond (n == m) k (serial_mark m (r ∷ rs))
   found_step m b r rs true s greater same falls ih =
       let above : n < r.serial = ltb-true n r.serial greater in
-      ap (λ rest. cond (r.serial == m) (kind r) rest) ih
-      ∙ swapped (r.serial == m) (n == m) k (kind r) (found m rs) (λ one two. omega (arith, eqb-true r.serial m one, eqb-true n m two))
+      ap (λ rest. cond (r.serial == m) (region_mark r) rest) ih
+      ∙ swapped (r.serial == m) (n == m) k (region_mark r) (serial_mark m rs) (λ one two. omega (arith, eqb-true r.serial m one, eqb-true n m two))
   found_step m b r rs false true greater same falls ih =
       let here : r.serial ≡ n = eqb-true r.serial n same in
-      fits.stands m rs (subst (λ i. Falls i (serials rs)) here falls.1)
-      ∙ (same_twice (n == m) k (kind r) (found m rs) ∙ ap (λ i. cond (n == m) k (cond (i == m) (kind r) (found m rs))) (sym here))
+      fits.stands m rs (subst (λ i. Falls i (region_serials rs)) here falls.1)
+      ∙ (same_twice (n == m) k (region_mark r) (serial_mark m rs) ∙ ap (λ i. cond (n == m) k (cond (i == m) (region_mark r) (serial_mark m rs))) (sym here))
   found_step m b r rs false false greater same falls ih =
       let other : r.serial ≡ n → ⊥ = eqb-false r.serial n same in
       let le : r.serial ≤ n = ltb-false n r.serial greater in
       fits.stands m (r ∷ rs) (omega arith, falls.1)
 
-  found_replaced : (m b : ℕ) (rs : List Region) → Falls b (serials rs) → found m (replaced n new rs) ≡ cond (n == m) k (found m rs)
+  found_replaced : (m b : ℕ) (rs : List Region) → Falls b (region_serials rs) → serial_mark m (replaced_region n new rs) ≡ cond (n == m) k (serial_mark m rs)
   found_replaced m b [] falls = fits.stands m [] tt
   found_replaced m b (r ∷ rs) falls =
       found_step m b r rs (nat_lt n r.serial) (r.serial == n) refl refl falls (found_replaced m r.serial rs falls.1)
 
-  falls_step : (b : ℕ) (r : Region) (rs : List Region) (t s : Bool) → nat_lt n r.serial ≡ t → (r.serial == n) ≡ s → n < b → Falls b (serials (r ∷ rs))
-      → (n < r.serial → Falls r.serial (serials (replaced n new rs)))
-      → Falls b (serials (cond t (r ∷ replaced n new rs) (behind_one new (cond s rs (r ∷ rs)))))
+  falls_step : (b : ℕ) (r : Region) (rs : List Region) (t s : Bool) → nat_lt n r.serial ≡ t → (r.serial == n) ≡ s → n < b → Falls b (region_serials (r ∷ rs))
+      → (n < r.serial → Falls r.serial (region_serials (replaced_region n new rs)))
+      → Falls b (region_serials (cond t (r ∷ replaced_region n new rs) (behind_one new (cond s rs (r ∷ rs)))))
   falls_step b r rs true s greater same lt falls ih = (falls.0, ih (ltb-true n r.serial greater))
   falls_step b r rs false true greater same lt falls ih =
-      fits.low b rs lt (subst (λ i. Falls i (serials rs)) (eqb-true r.serial n same) falls.1)
+      fits.low b rs lt (subst (λ i. Falls i (region_serials rs)) (eqb-true r.serial n same) falls.1)
   falls_step b r rs false false greater same lt falls ih =
       let other : r.serial ≡ n → ⊥ = eqb-false r.serial n same in
       let le : r.serial ≤ n = ltb-false n r.serial greater in
       fits.low b (r ∷ rs) lt (omega arith, falls.1)
 
-  falls_replaced : (b : ℕ) (rs : List Region) → n < b → Falls b (serials rs) → Falls b (serials (replaced n new rs))
+  falls_replaced : (b : ℕ) (rs : List Region) → n < b → Falls b (region_serials rs) → Falls b (region_serials (replaced_region n new rs))
   falls_replaced b [] lt falls = fits.low b [] lt tt
   falls_replaced b (r ∷ rs) lt falls =
       falls_step b r rs (nat_lt n r.serial) (r.serial == n) refl refl lt falls (λ above. falls_replaced r.serial rs above falls.1)
 
-  stands_replaced : (m : ℕ) (rs : List Region) → AreSorted rs → found m (replaced n new rs) ≡ cond (n == m) k (found m rs)
+  stands_replaced : (m : ℕ) (rs : List Region) → AreSorted rs → serial_mark m (replaced_region n new rs) ≡ cond (n == m) k (serial_mark m rs)
   stands_replaced m rs sorted = let falls = sorted_falls rs sorted in found_replaced m falls.0 rs falls.1
 
-  sorted_replaced : (rs : List Region) → AreSorted rs → AreSorted (replaced n new rs)
+  sorted_replaced : (rs : List Region) → AreSorted rs → AreSorted (replaced_region n new rs)
   sorted_replaced rs sorted =
       let falls = sorted_falls rs sorted in
-      IsFalling-from_Falls (suc n + falls.0) (serials (replaced n new rs))
-      (falls_replaced (suc n + falls.0) rs (omega arith) (Falls-wider falls.0 (suc n + falls.0) (serials rs) (omega arith) falls.1))
+      IsFalling-from_Falls (suc n + falls.0) (region_serials (replaced_region n new rs))
+      (falls_replaced (suc n + falls.0) rs (omega arith) (Falls-wider falls.0 (suc n + falls.0) (region_serials rs) (omega arith) falls.1))
 
 module _ (P : Region → Type 0) (n : ℕ) (new : Option Region) (fits : (xs : List Region) → AllByRecursion P xs → AllByRecursion P (behind_one new xs)) where
-  all_step : (r : Region) (rs : List Region) (t s : Bool) → P r → AllByRecursion P rs → AllByRecursion P (replaced n new rs)
-      → AllByRecursion P (cond t (r ∷ replaced n new rs) (behind_one new (cond s rs (r ∷ rs))))
+  all_step : (r : Region) (rs : List Region) (t s : Bool) → P r → AllByRecursion P rs → AllByRecursion P (replaced_region n new rs)
+      → AllByRecursion P (cond t (r ∷ replaced_region n new rs) (behind_one new (cond s rs (r ∷ rs))))
   all_step r rs true s here each ih = (here, ih)
   all_step r rs false true here each ih = fits rs each
   all_step r rs false false here each ih = fits (r ∷ rs) (here, each)
 
-  all_replaced : (rs : List Region) → AllByRecursion P rs → AllByRecursion P (replaced n new rs)
+  all_replaced : (rs : List Region) → AllByRecursion P rs → AllByRecursion P (replaced_region n new rs)
   all_replaced [] each = fits [] tt
   all_replaced (r ∷ rs) each = all_step r rs (nat_lt n r.serial) (r.serial == n) each.0 each.1 (all_replaced rs each.1)
 
@@ -116,13 +116,13 @@ module _ (set : List ℕ) where
   abbrev region : ℕ → Bool → Region
   region n inserts = record { serial = n; inserts = inserts; applied = has set n }
 
-  pub sorted-behind : (item : Item) (rs : List Region) → AreSorted rs → AreSorted (behind set item rs)
+  pub sorted-behind : (item : Item) (rs : List Region) → AreSorted rs → AreSorted (regions_after set item rs)
   sorted-behind (Text text) rs sorted = sorted
   sorted-behind (Insert n) rs sorted = sorted_replaced n (Some (region n true)) ByInsert (fits_one (region n true)) rs sorted
   sorted-behind (Delete n) rs sorted = sorted_replaced n (Some (region n false)) ByDelete (fits_one (region n false)) rs sorted
   sorted-behind (End n) rs sorted = sorted_replaced n None Closed (fits_none n) rs sorted
 
-  pub opens-behind : (item : Item) (before : List Item) (rs : List Region) → AreSorted rs → Opens before rs → Opens (item ∷ before) (behind set item rs)
+  pub opens-behind : (item : Item) (before : List Item) (rs : List Region) → AreSorted rs → OpensRegions before rs → OpensRegions (item ∷ before) (regions_after set item rs)
   opens-behind (Text text) before rs sorted opens = opens
   opens-behind (Insert m) before rs sorted opens = λ n.
       stands_replaced m (Some (region m true)) ByInsert (fits_one (region m true)) n rs sorted ∙ ap (λ k. cond (m == n) ByInsert k) (opens n)
@@ -135,7 +135,7 @@ module _ (set : List ℕ) where
   abbrev Tell : List Region → Type 0
   Tell rs = AllByRecursion (λ r. r.applied ≡ has set r.serial) rs
 
-  tell-behind : (item : Item) (rs : List Region) → Tell rs → Tell (behind set item rs)
+  tell-behind : (item : Item) (rs : List Region) → Tell rs → Tell (regions_after set item rs)
   tell-behind (Text text) rs each = each
   tell-behind (Insert n) rs each =
       all_replaced (λ r. r.applied ≡ has set r.serial) n (Some (region n true)) (λ xs all. (refl, all)) rs each
@@ -143,7 +143,7 @@ module _ (set : List ℕ) where
       all_replaced (λ r. r.applied ≡ has set r.serial) n (Some (region n false)) (λ xs all. (refl, all)) rs each
   tell-behind (End n) rs each = all_replaced (λ r. r.applied ≡ has set r.serial) n None (λ xs all. all) rs each
 
-  pub holds-behind : (item : Item) (before : List Item) (rs : List Region) → AreSorted rs → Holds set before rs → Holds set (item ∷ before) (behind set item rs)
+  pub holds-behind : (item : Item) (before : List Item) (rs : List Region) → AreSorted rs → Holds set before rs → Holds set (item ∷ before) (regions_after set item rs)
   holds-behind item before rs sorted holds =
       record {
         opens = opens-behind item before rs sorted holds.opens;

@@ -19,9 +19,9 @@ IsLow n [] = ⊤
 IsLow n (r ∷ rs) = r.serial < n
 
 -- the regions behind the first
-abbrev pub behind_first : List Region → List Region
-behind_first [] = []
-behind_first (r ∷ rs) = rs
+abbrev pub after_first_region : List Region → List Region
+after_first_region [] = []
+after_first_region (r ∷ rs) = rs
 
 -- The regions are in order, and this is whether lines are kept in them.
 pub record AreAnswered (regions : List Region) (keep : Bool) : Type 0 where

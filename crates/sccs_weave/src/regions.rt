@@ -1,7 +1,7 @@
 ghost use Rattle.std.specs.Prelude.{◌≡◌, ◌≤◌, ◌↔◌, [], ◌∷◌, Some, not, ◌&&◌, length, if◌then◌else◌, IfOk, IsTrue, OnOk, OnErr};
 ghost use Rattle.std.specs.List.Sorted.{IsSearchInRange};
-ghost use Rattle.sccs_weave.specs.Regions.{AreSorted, behind, closed, first_insert, keeps, opened};
-ghost use Rattle.sccs_weave.specs.Stacks.{AreAnswered, behind_first, first_serial, IsLow, IsPlace, stacked};
+ghost use Rattle.sccs_weave.specs.Regions.{AreSorted, regions_after, without_region, first_insert, keeps, with_region};
+ghost use Rattle.sccs_weave.specs.Stacks.{AreAnswered, after_first_region, first_serial, IsLow, IsPlace, stacked};
 
 use sccs_history::Item;
 use sccs_sets::Applied;
@@ -105,7 +105,7 @@ fn place_of(regions: &[Region], serial: u16) -> Result<usize, usize>
 #[inline(never)]
 fn open_within(regions: &mut Vec<Region>, region: Region) -> Result<(), AllocError>
     requires { AreSorted (stacked [] regions.old.items) }
-    ensures ok { OnOk result (stacked [] regions.new.items ≡ opened region (stacked [] regions.old.items)) }
+    ensures ok { OnOk result (stacked [] regions.new.items ≡ with_region region (stacked [] regions.old.items)) }
     ensures err { OnErr result (regions.new.items ≡ regions.old.items) }
 {
     match place_of(regions, region.serial) {
@@ -124,7 +124,7 @@ fn open_within(regions: &mut Vec<Region>, region: Region) -> Result<(), AllocErr
 #[inline(never)]
 fn close_within(regions: &mut Vec<Region>, serial: u16)
     requires { AreSorted (stacked [] regions.old.items) }
-    ensures { stacked [] regions.new.items ≡ closed serial (stacked [] regions.old.items) }
+    ensures { stacked [] regions.new.items ≡ without_region serial (stacked [] regions.old.items) }
 {
     match place_of(regions, serial) {
         Ok(at) => {
@@ -149,7 +149,7 @@ fn open_last(regions: &mut Vec<Region>, keep: bool, region: Region) -> Result<bo
 // closes the greatest region
 #[inline(always)]
 fn close_last(regions: &mut Vec<Region>)
-    ensures { stacked [] regions.new.items ≡ behind_first (stacked [] regions.old.items) }
+    ensures { stacked [] regions.new.items ≡ after_first_region (stacked [] regions.old.items) }
 {
     match regions.pop() {
         Some(_) => {}
@@ -161,7 +161,7 @@ fn close_last(regions: &mut Vec<Region>)
 #[inline(always)]
 fn open(regions: &mut Vec<Region>, keep: bool, region: Region) -> Result<bool, AllocError>
     requires { AreAnswered regions.old.items keep }
-    ensures ok { OnOk result (stacked [] regions.new.items ≡ opened region (stacked [] regions.old.items)) }
+    ensures ok { OnOk result (stacked [] regions.new.items ≡ with_region region (stacked [] regions.old.items)) }
     ensures keep { IfOk result (λ k. k ≡ keeps (stacked [] regions.new.items)) }
     ensures err { OnErr result (regions.new.items ≡ regions.old.items) }
 {
@@ -176,7 +176,7 @@ fn open(regions: &mut Vec<Region>, keep: bool, region: Region) -> Result<bool, A
 #[inline(always)]
 fn close(regions: &mut Vec<Region>, serial: u16)
     requires { AreSorted (stacked [] regions.old.items) }
-    ensures { stacked [] regions.new.items ≡ closed serial (stacked [] regions.old.items) }
+    ensures { stacked [] regions.new.items ≡ without_region serial (stacked [] regions.old.items) }
 {
     if is_last(regions, serial) {
         close_last(regions);
@@ -195,7 +195,7 @@ pub fn take_item(
     applied: &Applied,
 ) -> Result<bool, AllocError>
     requires { AreAnswered regions.old.items keep }
-    ensures ok { OnOk result (stacked [] regions.new.items ≡ behind applied.now item.now (stacked [] regions.old.items)) }
+    ensures ok { OnOk result (stacked [] regions.new.items ≡ regions_after applied.now item.now (stacked [] regions.old.items)) }
     ensures keep { IfOk result (λ k. k ≡ keeps (stacked [] regions.new.items)) }
     ensures err { OnErr result (regions.new.items ≡ regions.old.items) }
 {

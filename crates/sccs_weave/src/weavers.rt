@@ -2,7 +2,7 @@ ghost use Rattle.std.specs.Prelude.{◌≡◌, ℕ, false, List, [], ◌∷◌, 
 ghost use Rattle.sccs_history.specs.Body.{inserter, line_at};
 ghost use Rattle.sccs_history.specs.Numbers.{has};
 ghost use Rattle.sccs_history.specs.Select.{shows};
-ghost use Rattle.sccs_weave.specs.Regions.{AreSorted, Holds, Opens};
+ghost use Rattle.sccs_weave.specs.Regions.{AreSorted, Holds, OpensRegions};
 
 use crate::regions::{Region, inserter as inserter_of, take_item};
 use sccs_base::Memory;
@@ -51,8 +51,8 @@ impl Weaver {
     pub fn push_item(&mut self, item: &Item, applied: &Applied) -> Result<(), Memory>
         ensures ok { OnOk result ((before : List Item) → Holds applied.now before self.old
             → Holds applied.now (item.now ∷ before) self.new) }
-        ensures opens { OnOk result ((before : List Item) → Opens before self.old
-            → Opens (item.now ∷ before) self.new) }
+        ensures opens { OnOk result ((before : List Item) → OpensRegions before self.old
+            → OpensRegions (item.now ∷ before) self.new) }
         ensures err { OnErr result (self.new ≡ self.old) }
         ensures sorted { AreSorted self.new }
     {
@@ -70,7 +70,7 @@ impl Weaver {
 
     /// The serial that inserted a line here, 0 where none is open by Insert.
     pub fn inserter(&self) -> u16
-        ensures { (before : List Item) → Opens before self.now → result ≡ inserter before }
+        ensures { (before : List Item) → OpensRegions before self.now → result ≡ inserter before }
     {
         inserter_of(&self.regions)
     }

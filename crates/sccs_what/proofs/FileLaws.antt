@@ -12,7 +12,7 @@ use Rattle.sccs_sid.specs.declared.refusals.StepFault.TheVariants.{Refused, Memo
 use Rattle.sccs_what.specs.Texts.{marked_lines, what_text}
 use Rattle.sccs_what.specs.Owed.{Searches, finds, search_is_done, search_is_over, last_end, what_owed, was_found}
 use Rattle.sccs_steps.specs.Causes.{PrintCauses}
-use Rattle.sccs_what.specs.SearchedFiles.{ComesToEnd, FinishesSearch, GoesOn, PrintsTexts, SearchesFile, SearchesPiece, heading}
+use Rattle.sccs_what.specs.SearchedFiles.{ComesToEnd, FinishesSearch, SearchGoesOn, PrintsTexts, SearchesFile, SearchesPiece, heading}
 use Rattle.sccs_what.specs.declared.searches.Search.{Search}
 use Rattle.sccs_what.specs.declared.searches.Search.TheVariants.{Unfound, Giving, Found}
 use Rattle.sccs_what.proofs.TextLaws.{drop_within}
@@ -137,7 +137,7 @@ finished_past first bytes from s h h2 h3 a b c r past one ends =
     (ap (λ (l : List ℕ). what_owed first s l) none ∙ owed_at_end first s [] (over_empty first s))
     (ap (λ (l : List ℕ). finds s l) none ∙ found_at_end first s [] (over_empty first s)) ends
 
-pub went_on : (first : Bool) (bytes : List ℕ) (from next : ℕ) (s s2 : Search) (h h1 h2 : List ℕ) (a m b : Option (List ℕ)) → Searches first bytes from Unfound s h h1 a m → GoesOn first (drop from bytes) from next s s2 h1 h2 m b → Searches first bytes next Unfound s2 h h2 a b
+pub went_on : (first : Bool) (bytes : List ℕ) (from next : ℕ) (s s2 : Search) (h h1 h2 : List ℕ) (a m b : Option (List ℕ)) → Searches first bytes from Unfound s h h1 a m → SearchGoesOn first (drop from bytes) from next s s2 h1 h2 m b → Searches first bytes next Unfound s2 h h2 a b
 went_on first bytes from next s s2 h h1 h2 a m b one on =
     subst (λ n. Searches first bytes n Unfound s2 h h2 a b) (sym on.place) (both first bytes from on.used Unfound s s2 h h1 h2 a m b one on.searches)
 

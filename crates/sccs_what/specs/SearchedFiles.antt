@@ -9,7 +9,7 @@ use Rattle.sccs_what.specs.Owed.{Searches, finds, last_end, what_owed, was_found
 use Rattle.sccs_what.specs.declared.searches.Search.{Search}
 
 -- The bytes that are left of a file were searched at their front, and the search goes on at a later place.
-pub record GoesOn (first : Bool) (left : List ℕ) (from next : ℕ) (s s2 : Search) (held held2 : List ℕ) (a b : Option (List ℕ)) : Type 0 where
+pub record SearchGoesOn (first : Bool) (left : List ℕ) (from next : ℕ) (s s2 : Search) (held held2 : List ℕ) (a b : Option (List ℕ)) : Type 0 where
   pub used : ℕ
   pub place : next ≡ from + used
   pub searches : Searches first left used s s2 held held2 a b
@@ -29,7 +29,7 @@ pub record Rests (s s2 : Search) (held held2 : List ℕ) (a b : Option (List ℕ
 
 -- what the search of a piece leaves of the bytes that are left
 abbrev pub SearchesPiece : Bool → List ℕ → ℕ → Search → Search → List ℕ → List ℕ → Option (List ℕ) → Option (List ℕ) → Result (Option ℕ) StepFault → Type 0
-SearchesPiece first left from s s2 held held2 a b (Ok (Some next)) = GoesOn first left from next s s2 held held2 a b
+SearchesPiece first left from s s2 held held2 a b (Ok (Some next)) = SearchGoesOn first left from next s s2 held held2 a b
 SearchesPiece first left from s s2 held held2 a b (Ok None) = ComesToEnd first left s s2 held held2 a b
 SearchesPiece first left from s s2 held held2 a b (Err WriteFault) = GivesSome a b (held ++ what_owed first s left) × (held2 ≡ [])
 SearchesPiece first left from s s2 held held2 a b (Err DiskFault) = Rests s s2 held held2 a b

@@ -10,7 +10,7 @@ use Rattle.sccs_sid.specs.Cutoff.{cutoff_of}
 use Rattle.sccs_words.specs.Meaning.{meaning, utility_of, line_meaning}
 use Rattle.sccs_words.specs.Synopsis.{find_option}
 use Rattle.sccs_words.specs.Scan.{scanned, letters, turn}
-use Rattle.sccs_words.specs.Judge.{first_fault, use_fault, first_from, operand_fault, end_fault}
+use Rattle.sccs_words.specs.Judge.{usage_fault, use_fault, first_from, operand_fault, end_fault}
 use Rattle.sccs_words.specs.Records.{value_of, values_of}
 use Rattle.sccs_words.specs.MrWords.{split_from}
 use Rattle.sccs_words.proofs.Outcomes.{Says}
@@ -43,7 +43,7 @@ commands :
     × Says (codes "batch" ∷ []) 0 0
     × Says (codes "soak" ∷ codes "1" ∷ []) 0 0
     × Says (codes "soak" ∷ codes "2000" ∷ []) 0 0
-unfolding meaning utility_of line_meaning find_option scanned letters turn first_fault use_fault first_from operand_fault end_fault value_of values_of split_from is_login number number_at digits_after byte_at sid_of numbers_after spec_of list_of ranges_of piece_at range_at last_at sid_at branch_at component_at cutoff_of skip
+unfolding meaning utility_of line_meaning find_option scanned letters turn usage_fault use_fault first_from operand_fault end_fault value_of values_of split_from is_login number number_at digits_after byte_at sid_of numbers_after spec_of list_of ranges_of piece_at range_at last_at sid_at branch_at component_at cutoff_of skip
 commands = (refl, refl, refl, refl, refl, refl, refl, refl, refl, refl, refl, refl, refl, refl, refl, refl, refl, refl, refl, refl, refl, refl, refl, refl, refl, refl)
 
 -- the bits of val: 64 for a fault of an option, 128 for no operand
@@ -57,5 +57,5 @@ bits :
     × Says (codes "val" ∷ codes "-ma" ∷ codes "-mb" ∷ codes "s.a" ∷ []) 0 64
     × Says (codes "val" ∷ codes "-" ∷ codes "s.a" ∷ []) 0 64
     × Says (codes "val" ∷ codes "-s" ∷ codes "-q" ∷ codes "-ma" ∷ codes "s.a" ∷ []) 0 64
-unfolding meaning utility_of line_meaning find_option scanned letters turn first_fault use_fault first_from operand_fault end_fault value_of values_of split_from is_login number number_at digits_after byte_at sid_of numbers_after spec_of list_of ranges_of piece_at range_at last_at sid_at branch_at component_at cutoff_of skip
+unfolding meaning utility_of line_meaning find_option scanned letters turn usage_fault use_fault first_from operand_fault end_fault value_of values_of split_from is_login number number_at digits_after byte_at sid_of numbers_after spec_of list_of ranges_of piece_at range_at last_at sid_at branch_at component_at cutoff_of skip
 bits = (refl, refl, refl, refl, refl, refl, refl, refl, refl)

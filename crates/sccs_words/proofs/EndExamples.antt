@@ -10,7 +10,7 @@ use Rattle.sccs_sid.specs.Cutoff.{cutoff_of}
 use Rattle.sccs_words.specs.Meaning.{meaning, utility_of, line_meaning}
 use Rattle.sccs_words.specs.Synopsis.{find_option}
 use Rattle.sccs_words.specs.Scan.{scanned, letters, turn}
-use Rattle.sccs_words.specs.Judge.{first_fault, use_fault, first_from, operand_fault, end_fault}
+use Rattle.sccs_words.specs.Judge.{usage_fault, use_fault, first_from, operand_fault, end_fault}
 use Rattle.sccs_words.specs.Records.{value_of, values_of}
 use Rattle.sccs_words.specs.MrWords.{split_from}
 use Rattle.sccs_words.proofs.Outcomes.{Says}
@@ -36,7 +36,7 @@ malformed_value :
     × Says (codes "soak" ∷ codes "0" ∷ []) 6 2
     × Says (codes "soak" ∷ codes "2001" ∷ []) 6 2
     × Says (codes "soak" ∷ codes "--" ∷ codes "x" ∷ []) 6 3
-unfolding meaning utility_of line_meaning find_option scanned letters turn first_fault use_fault first_from operand_fault end_fault value_of values_of split_from is_login number number_at digits_after byte_at sid_of numbers_after spec_of list_of ranges_of piece_at range_at last_at sid_at branch_at component_at cutoff_of skip
+unfolding meaning utility_of line_meaning find_option scanned letters turn usage_fault use_fault first_from operand_fault end_fault value_of values_of split_from is_login number number_at digits_after byte_at sid_of numbers_after spec_of list_of ranges_of piece_at range_at last_at sid_at branch_at component_at cutoff_of skip
 malformed_value = (refl, refl, refl, refl, refl, refl, refl, refl, refl, refl, refl, refl, refl, refl, refl, refl, refl, refl, refl)
 
 -- an empty value; it can only be the next word
@@ -46,7 +46,7 @@ malformed_empty :
     × Says (codes "admin" ∷ codes "-n" ∷ codes "-m" ∷ [] ∷ codes "s.a" ∷ []) 6 4
     × Says (codes "get" ∷ codes "-s" ∷ codes "-r" ∷ [] ∷ []) 6 4
     × Says (codes "soak" ∷ [] ∷ []) 6 2
-unfolding meaning utility_of line_meaning find_option scanned letters turn first_fault use_fault first_from operand_fault end_fault value_of values_of split_from is_login number number_at digits_after byte_at sid_of numbers_after spec_of list_of ranges_of piece_at range_at last_at sid_at branch_at component_at cutoff_of skip
+unfolding meaning utility_of line_meaning find_option scanned letters turn usage_fault use_fault first_from operand_fault end_fault value_of values_of split_from is_login number number_at digits_after byte_at sid_of numbers_after spec_of list_of ranges_of piece_at range_at last_at sid_at branch_at component_at cutoff_of skip
 malformed_empty = (refl, refl, refl, refl, refl)
 
 -- no operand, at the number of words and one more
@@ -61,7 +61,7 @@ no_operand :
     × Says (codes "what" ∷ codes "-s" ∷ []) 7 3
     × Says (codes "recover" ∷ []) 7 2
     × Says (codes "soak" ∷ []) 7 2
-unfolding meaning utility_of line_meaning find_option scanned letters turn first_fault use_fault first_from operand_fault end_fault value_of values_of split_from is_login number number_at digits_after byte_at sid_of numbers_after spec_of list_of ranges_of piece_at range_at last_at sid_at branch_at component_at cutoff_of skip
+unfolding meaning utility_of line_meaning find_option scanned letters turn usage_fault use_fault first_from operand_fault end_fault value_of values_of split_from is_login number number_at digits_after byte_at sid_of numbers_after spec_of list_of ranges_of piece_at range_at last_at sid_at branch_at component_at cutoff_of skip
 no_operand = (refl, refl, refl, refl, refl, refl, refl, refl, refl, refl)
 
 -- an option that is needed
@@ -72,7 +72,7 @@ option_needed :
     × Says (codes "admin" ∷ codes "-r2" ∷ codes "-n" ∷ codes "s.a" ∷ []) 8 5
     × Says (codes "admin" ∷ codes "-mm1" ∷ codes "s.a" ∷ []) 8 4
     × Says (codes "admin" ∷ codes "-y" ∷ codes "s.a" ∷ []) 8 4
-unfolding meaning utility_of line_meaning find_option scanned letters turn first_fault use_fault first_from operand_fault end_fault value_of values_of split_from is_login number number_at digits_after byte_at sid_of numbers_after spec_of list_of ranges_of piece_at range_at last_at sid_at branch_at component_at cutoff_of skip
+unfolding meaning utility_of line_meaning find_option scanned letters turn usage_fault use_fault first_from operand_fault end_fault value_of values_of split_from is_login number number_at digits_after byte_at sid_of numbers_after spec_of list_of ranges_of piece_at range_at last_at sid_at branch_at component_at cutoff_of skip
 option_needed = (refl, refl, refl, refl, refl, refl)
 
 -- too many operands
@@ -82,5 +82,5 @@ too_many :
     × Says (codes "soak" ∷ codes "1" ∷ codes "2" ∷ []) 9 4
     × Says (codes "admin" ∷ codes "-i" ∷ codes "s.a" ∷ codes "s.b" ∷ []) 9 5
     × Says (codes "admin" ∷ codes "-i" ∷ codes "-r2" ∷ codes "s.a" ∷ codes "s.b" ∷ []) 9 6
-unfolding meaning utility_of line_meaning find_option scanned letters turn first_fault use_fault first_from operand_fault end_fault value_of values_of split_from is_login number number_at digits_after byte_at sid_of numbers_after spec_of list_of ranges_of piece_at range_at last_at sid_at branch_at component_at cutoff_of skip
+unfolding meaning utility_of line_meaning find_option scanned letters turn usage_fault use_fault first_from operand_fault end_fault value_of values_of split_from is_login number number_at digits_after byte_at sid_of numbers_after spec_of list_of ranges_of piece_at range_at last_at sid_at branch_at component_at cutoff_of skip
 too_many = (refl, refl, refl, refl, refl)

@@ -10,7 +10,7 @@ use Rattle.sccs_sid.specs.Cutoff.{cutoff_of}
 use Rattle.sccs_words.specs.Meaning.{meaning, utility_of, line_meaning}
 use Rattle.sccs_words.specs.Synopsis.{find_option}
 use Rattle.sccs_words.specs.Scan.{scanned, letters, turn}
-use Rattle.sccs_words.specs.Judge.{first_fault, use_fault, first_from, operand_fault, end_fault}
+use Rattle.sccs_words.specs.Judge.{usage_fault, use_fault, first_from, operand_fault, end_fault}
 use Rattle.sccs_words.specs.Records.{value_of, values_of}
 use Rattle.sccs_words.specs.MrWords.{split_from}
 use Rattle.sccs_words.proofs.Outcomes.{Says}
@@ -21,7 +21,7 @@ unknown_utility :
     × Says (codes "vc" ∷ []) 1 1
     × Says (codes "GET" ∷ codes "s.a" ∷ []) 1 1
     × Says (codes "getx" ∷ codes "-q" ∷ codes "s.a" ∷ []) 1 1
-unfolding meaning utility_of line_meaning find_option scanned letters turn first_fault use_fault first_from operand_fault end_fault value_of values_of split_from is_login number number_at digits_after byte_at sid_of numbers_after spec_of list_of ranges_of piece_at range_at last_at sid_at branch_at component_at cutoff_of skip
+unfolding meaning utility_of line_meaning find_option scanned letters turn usage_fault use_fault first_from operand_fault end_fault value_of values_of split_from is_login number number_at digits_after byte_at sid_of numbers_after spec_of list_of ranges_of piece_at range_at last_at sid_at branch_at component_at cutoff_of skip
 unknown_utility = (refl, refl, refl, refl)
 
 -- an unknown option in the first word after the utility, in a middle one, in the last
@@ -36,7 +36,7 @@ unknown_option :
     × Says (codes "recover" ∷ codes "-z" ∷ codes "s.a" ∷ []) 2 2
     × Says (codes "batch" ∷ codes "-a" ∷ []) 2 2
     × Says (codes "soak" ∷ codes "-n" ∷ codes "5" ∷ []) 2 2
-unfolding meaning utility_of line_meaning find_option scanned letters turn first_fault use_fault first_from operand_fault end_fault value_of values_of split_from is_login number number_at digits_after byte_at sid_of numbers_after spec_of list_of ranges_of piece_at range_at last_at sid_at branch_at component_at cutoff_of skip
+unfolding meaning utility_of line_meaning find_option scanned letters turn usage_fault use_fault first_from operand_fault end_fault value_of values_of split_from is_login number number_at digits_after byte_at sid_of numbers_after spec_of list_of ranges_of piece_at range_at last_at sid_at branch_at component_at cutoff_of skip
 unknown_option = (refl, refl, refl, refl, refl, refl, refl, refl, refl, refl)
 
 -- a missing argument stands always in the last word
@@ -49,7 +49,7 @@ missing_argument :
     × Says (codes "rmdel" ∷ codes "-r" ∷ []) 3 2
     × Says (codes "admin" ∷ codes "-a" ∷ codes "u" ∷ codes "-a" ∷ []) 3 4
     × Says (codes "delta" ∷ codes "-m" ∷ []) 3 2
-unfolding meaning utility_of line_meaning find_option scanned letters turn first_fault use_fault first_from operand_fault end_fault value_of values_of split_from is_login number number_at digits_after byte_at sid_of numbers_after spec_of list_of ranges_of piece_at range_at last_at sid_at branch_at component_at cutoff_of skip
+unfolding meaning utility_of line_meaning find_option scanned letters turn usage_fault use_fault first_from operand_fault end_fault value_of values_of split_from is_login number number_at digits_after byte_at sid_of numbers_after spec_of list_of ranges_of piece_at range_at last_at sid_at branch_at component_at cutoff_of skip
 missing_argument = (refl, refl, refl, refl, refl, refl, refl, refl)
 
 -- an option given twice
@@ -61,7 +61,7 @@ given_twice :
     × Says (codes "what" ∷ codes "-s" ∷ codes "-s" ∷ codes "f" ∷ []) 4 3
     × Says (codes "admin" ∷ codes "-h" ∷ codes "-h" ∷ codes "s.a" ∷ []) 4 3
     × Says (codes "rmdel" ∷ codes "-r1.2" ∷ codes "-r" ∷ codes "1.3" ∷ codes "s.a" ∷ []) 4 3
-unfolding meaning utility_of line_meaning find_option scanned letters turn first_fault use_fault first_from operand_fault end_fault value_of values_of split_from is_login number number_at digits_after byte_at sid_of numbers_after spec_of list_of ranges_of piece_at range_at last_at sid_at branch_at component_at cutoff_of skip
+unfolding meaning utility_of line_meaning find_option scanned letters turn usage_fault use_fault first_from operand_fault end_fault value_of values_of split_from is_login number number_at digits_after byte_at sid_of numbers_after spec_of list_of ranges_of piece_at range_at last_at sid_at branch_at component_at cutoff_of skip
 given_twice = (refl, refl, refl, refl, refl, refl, refl)
 
 -- options that exclude each other, at the later word; then `-` with another operand
@@ -85,5 +85,5 @@ exclude_each_other :
     × Says (codes "admin" ∷ codes "-i" ∷ codes "s.a" ∷ codes "-" ∷ []) 5 4
     × Says (codes "get" ∷ codes "-k" ∷ codes "s.a" ∷ codes "s.b" ∷ codes "-" ∷ codes "s.c" ∷ []) 5 5
     × Says (codes "batch" ∷ codes "-" ∷ codes "x" ∷ []) 5 3
-unfolding meaning utility_of line_meaning find_option scanned letters turn first_fault use_fault first_from operand_fault end_fault value_of values_of split_from is_login number number_at digits_after byte_at sid_of numbers_after spec_of list_of ranges_of piece_at range_at last_at sid_at branch_at component_at cutoff_of skip
+unfolding meaning utility_of line_meaning find_option scanned letters turn usage_fault use_fault first_from operand_fault end_fault value_of values_of split_from is_login number number_at digits_after byte_at sid_of numbers_after spec_of list_of ranges_of piece_at range_at last_at sid_at branch_at component_at cutoff_of skip
 exclude_each_other = (refl, refl, refl, refl, refl, refl, refl, refl, refl, refl, refl, refl, refl, refl, refl, refl, refl, refl, refl)

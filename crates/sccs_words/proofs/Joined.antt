@@ -3,7 +3,7 @@ use Rattle.std.proofs.Common.{◌≡◌, ◌≢◌, ℕ, ◌+◌, ◌-◌, ◌==
 use Rattle.std.proofs.lemmas.List.{map_push}
 use Rattle.std.proofs.lemmas.Bool.Decides.{Decides-eqb}
 use Rattle.sccs_words.specs.Synopsis.{options_of, find_option}
-use Rattle.sccs_words.specs.Scan.{Uses, Kind, Letters, Ends, Operand, CommandLine, used, turn, turn_by, after_turn, letters, kind_of, by_kind, scanned}
+use Rattle.sccs_words.specs.Scan.{Uses, Kind, Letters, Ends, Operand, CommandLine, used, turn, turn_by, after_turn, letters, word_kind, by_kind, scanned}
 use Rattle.sccs_words.specs.Unplaced.{unplaced, SameUses}
 use Rattle.sccs_words.specs.declared.tables.OptionSpec.{OptionSpec}
 use Rattle.sccs_words.specs.declared.tables.OptionSpec.TheVariants.{Plain, Joined, Valued, Repeated}
@@ -52,7 +52,7 @@ scan_same options n m (Some letter) (word ∷ words) xs ys same =
     scan_same options (n + 1) (m + 1) None words _ _ (push_same xs ys (used letter (n - 1) (Value word n)) (used letter (m - 1) (Value word m)) same refl)
 scan_same options n m None [] xs ys same = record { uses = same; operands = refl }
 scan_same options n m None (word ∷ words) xs ys same =
-    kind_same n m xs ys word words (kind_of word) _ _ same
+    kind_same n m xs ys word words (word_kind word) _ _ same
     (λ bytes. subst (λ (waits : Option ℕ). SameUses (scanned options (n + 1) (letters options n xs bytes).0 (letters options n xs bytes).1 words) (scanned options (m + 1) (letters options m ys bytes).0 waits words))
     (letters_same options n m bytes xs ys same).1
     (scan_same options (n + 1) (m + 1) (letters options n xs bytes).1 words (letters options n xs bytes).0 (letters options m ys bytes).0 (letters_same options n m bytes xs ys same).0))
@@ -62,7 +62,7 @@ scan_same options n m None (word ∷ words) xs ys same =
 abbrev scan_on : List OptionSpec → ℕ → List (List ℕ) → Uses → CommandLine
 scan_on options n words so_far = scanned options n so_far.0 so_far.1 words
 
-scan_letters : (options : List OptionSpec) (n : ℕ) (uses : List Use) (word bytes : List ℕ) (words : List (List ℕ)) → kind_of word ≡ Letters bytes
+scan_letters : (options : List OptionSpec) (n : ℕ) (uses : List Use) (word bytes : List ℕ) (words : List (List ℕ)) → word_kind word ≡ Letters bytes
     → scanned options n uses None (word ∷ words) ≡ scan_on options (n + 1) words (letters options n uses bytes)
 unfolding scanned
 scan_letters options n uses word bytes words is = ap (λ (kind : Kind). by_kind n uses word words kind (λ bytes. scan_on options (n + 1) words (letters options n uses bytes))) is
@@ -79,7 +79,7 @@ no_end : (b : ℕ) (test : Bool) → (test ≡ true → b ≡ 45) → b ≢ 45 �
 no_end b true is other = absurd (other (is refl))
 no_end b false is other = refl
 
-kind_letters : (b : ℕ) (rest : List ℕ) → b ≢ 45 → kind_of (45 ∷ b ∷ rest) ≡ Letters (b ∷ rest)
+kind_letters : (b : ℕ) (rest : List ℕ) → b ≢ 45 → word_kind (45 ∷ b ∷ rest) ≡ Letters (b ∷ rest)
 kind_letters b [] other = no_end b (b == 45) (Decides-eqb b 45).0 other
 kind_letters b (c ∷ rest) other = refl
 

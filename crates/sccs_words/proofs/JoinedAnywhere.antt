@@ -1,7 +1,7 @@
 -- Options may be joined after any options.
 use Rattle.std.proofs.Common.{◌≡◌, ◌≢◌, ℕ, ◌+◌, ◌-◌, List, [], ◌∷◌, ◌++◌, length, Option, None, Some, sym, ap, ◌∙◌, arith}
 use Rattle.sccs_words.specs.Synopsis.{options_of, find_option}
-use Rattle.sccs_words.specs.Scan.{Uses, Kind, Letters, Ends, Operand, used, letters, kind_of, by_kind, scanned}
+use Rattle.sccs_words.specs.Scan.{Uses, Kind, Letters, Ends, Operand, used, letters, word_kind, by_kind, scanned}
 use Rattle.sccs_words.specs.OptionsRead.{if_letters, options_read}
 use Rattle.sccs_words.specs.Unplaced.{SameUses, kinds}
 use Rattle.sccs_words.specs.Meaning.{meaning_by, utility_of, meaning}
@@ -48,7 +48,7 @@ prefix_read options n uses (Some letter) (word ∷ words) after argument is =
     prefix_read options (n + 1) (uses ++ used letter (n - 1) (Value word n) ∷ []) None words after argument is ∙ one_more options n word words after argument
 prefix_read options n uses None [] after argument is = none_after options n after argument (uses, None) is
 prefix_read options n uses None (word ∷ words) after argument is =
-    by_letters options n uses word words after argument (kind_of word)
+    by_letters options n uses word words after argument (word_kind word)
     (λ bytes. prefix_read options (n + 1) (letters options n uses bytes).0 (letters options n uses bytes).1 words after argument) is
     ∙ one_more options n word words after argument
 

@@ -6,11 +6,11 @@ use Rattle.std.proofs.lemmas.List.{length_push}
 use Rattle.sccs_sid.specs.declared.sids.Sid.{Sid}
 use Rattle.sccs_words.specs.Letters as opt
 use Rattle.sccs_words.specs.Synopsis.{options_of, exclusions_of, needs_of, operand_rule_of, find_option}
-use Rattle.sccs_words.specs.Values.{fits, sid_value, name_value, soak_number}
-use Rattle.sccs_words.specs.Scan.{Uses, Kind, Letters, Ends, Operand, CommandLine, used, turn, turn_by, after_turn, letters, kind_of, by_kind, scanned}
-use Rattle.sccs_words.specs.Judge.{or_else, usage, form_of, value_fault, is_given_twice, is_excluded, known_fault, fault_by, use_fault, first_from, uses_fault, dash_with_other, operand_fits, operand_fault, operands_fault, none_though_wanted, met, too_many, end_fault, first_fault}
+use Rattle.sccs_words.specs.Values.{value_fits, sid_value, name_value, soak_number}
+use Rattle.sccs_words.specs.Scan.{Uses, Kind, Letters, Ends, Operand, CommandLine, used, turn, turn_by, after_turn, letters, word_kind, by_kind, scanned}
+use Rattle.sccs_words.specs.Judge.{first_usage, usage, option_form, value_fault, is_given_twice, is_excluded, known_fault, fault_by, use_fault, first_from, uses_fault, dash_with_other, operand_fits, operand_fault, operands_fault, none_though_wanted, met, too_many, end_fault, usage_fault}
 use Rattle.sccs_words.specs.Records.{value_of}
-use Rattle.sccs_words.specs.Meaning.{first_of, with_name, with_sid, with_number, command_of, refusal_of, unless, line_meaning, meaning_by, utility_of, meaning}
+use Rattle.sccs_words.specs.Meaning.{first_text, with_name, with_sid, with_number, line_command, words_fault, unless_fault, line_meaning, meaning_by, utility_of, meaning}
 use Rattle.sccs_words.specs.declared.tables.OptionSpec.{OptionSpec}
 use Rattle.sccs_words.specs.declared.tables.OptionSpec.TheVariants.{Plain, Joined, Valued, Repeated}
 use Rattle.sccs_words.specs.declared.tables.OperandRule.{OperandRule}
@@ -86,12 +86,12 @@ line_in last n options uses (Some letter) (word ∷ words) low high all =
     (push (UseIn last) uses (used letter (n - 1) (Value word n)) all ((omega arith, omega arith), (omega arith, omega arith)))
 line_in last n options uses None [] low high all = record { uses = all; first = omega arith; operands = high }
 line_in last n options uses None (word ∷ words) low high all =
-    kind_in last n uses word words (kind_of word) (λ bytes. scanned options (n + 1) (letters options n uses bytes).0 (letters options n uses bytes).1 words) low high all
+    kind_in last n uses word words (word_kind word) (λ bytes. scanned options (n + 1) (letters options n uses bytes).0 (letters options n uses bytes).1 words) low high all
     (λ bytes. line_in last (n + 1) options (letters options n uses bytes).0 (letters options n uses bytes).1 words (omega arith) (omega arith) (letters_in last n options bytes uses (omega arith, omega arith) all))
 
 -- ---- the faults
 
-or_in : (last : ℕ) (a b : Option Usage) → FaultIn last a → FaultIn last b → FaultIn last (or_else a b)
+or_in : (last : ℕ) (a b : Option Usage) → FaultIn last a → FaultIn last b → FaultIn last (first_usage a b)
 or_in last None b a-in b-in = b-in
 or_in last (Some fault) b a-in b-in = a-in
 
@@ -103,7 +103,7 @@ value_in : (last : ℕ) (option : Option OptionSpec) (argument : OptionArgument)
 value_in last option Unknown is = tt
 value_in last option Bare is = tt
 value_in last option Missing is = tt
-value_in last option (Value bytes n) is = if_in last (fits (form_of option) bytes) None (usage 6 n) tt is
+value_in last option (Value bytes n) is = if_in last (value_fits (option_form option) bytes) None (usage 6 n) tt is
 
 known_in : (last : ℕ) (utility : Utility) (before : List Use) (one : Use) (option : Option OptionSpec) → UseIn last one → FaultIn last (known_fault utility before one option)
 known_in last utility before one option is =
@@ -155,8 +155,8 @@ end_in last utility uses operands low =
     (if_in last (not (list_all (λ need. met uses need) (needs_of utility))) (usage 8 last) _ (low, omega arith)
     (if_in last (too_many (operand_rule_of utility) uses operands) (usage 9 last) None (low, omega arith) tt))
 
-first_fault_in : (last : ℕ) (utility : Utility) (l : CommandLine) → LineIn last l → FaultIn last (first_fault utility l last)
-unfolding first_fault
+first_fault_in : (last : ℕ) (utility : Utility) (l : CommandLine) → LineIn last l → FaultIn last (usage_fault utility l last)
+unfolding usage_fault
 first_fault_in last utility l is =
     let low : 1 ≤ l.first = is.first in
     let high : l.first + length l.operands ≤ last = is.operands in
@@ -164,7 +164,7 @@ first_fault_in last utility l is =
     (or_in last (operands_fault (operand_rule_of utility) l.uses l.first l.operands) (end_fault utility l.uses l.operands last) (operands_in last l.first (operand_rule_of utility) l.uses l.operands low high)
     (end_in last utility l.uses l.operands (omega arith)))
 
-refusal_in : (last : ℕ) (utility : Utility) (l : CommandLine) → LineIn last l → FaultIn last (refusal_of utility l last)
+refusal_in : (last : ℕ) (utility : Utility) (l : CommandLine) → LineIn last l → FaultIn last (words_fault utility l last)
 refusal_in last u.Admin l is = first_fault_in last u.Admin l is
 refusal_in last u.Get l is = first_fault_in last u.Get l is
 refusal_in last u.Delta l is = first_fault_in last u.Delta l is
@@ -192,10 +192,10 @@ number_in : (last : ℕ) (number : Option ℕ) → 1 ≤ last → MeantIn last (
 number_in last None low = (low, omega arith)
 number_in last (Some number) low = tt
 
-command_in : (last : ℕ) (utility : Utility) (l : CommandLine) → 1 ≤ last → MeantIn last (command_of utility l last)
+command_in : (last : ℕ) (utility : Utility) (l : CommandLine) → 1 ≤ last → MeantIn last (line_command utility l last)
 command_in last u.Admin l low = tt
 command_in last u.Get l low = tt
-command_in last u.Delta l low = name_in last l.uses (option_and_then name_value (first_of l.operands)) low
+command_in last u.Delta l low = name_in last l.uses (option_and_then name_value (first_text l.operands)) low
 command_in last u.Unget l low = tt
 command_in last u.Sact l low = tt
 command_in last u.Rmdel l low = sid_in last l.operands (option_and_then sid_value (value_of opt.r l.uses)) low
@@ -204,9 +204,9 @@ command_in last u.Val l low = tt
 command_in last u.What l low = tt
 command_in last u.Recover l low = tt
 command_in last u.Batch l low = tt
-command_in last u.Soak l low = number_in last (option_and_then soak_number (first_of l.operands)) low
+command_in last u.Soak l low = number_in last (option_and_then soak_number (first_text l.operands)) low
 
-unless_in : (last : ℕ) (refusal : Option Usage) (meant : Result Command Usage) → FaultIn last refusal → MeantIn last meant → MeantIn last (unless refusal meant)
+unless_in : (last : ℕ) (refusal : Option Usage) (meant : Result Command Usage) → FaultIn last refusal → MeantIn last meant → MeantIn last (unless_fault refusal meant)
 unless_in last None meant refusal-in meant-in = meant-in
 unless_in last (Some fault) meant refusal-in meant-in = refusal-in
 
@@ -216,7 +216,7 @@ by_utility_in None words = (omega arith, omega arith)
 by_utility_in (Some utility) words =
     let last : ℕ = length words + 2 in
     let l : CommandLine = scanned (options_of utility) 2 [] None words in
-    unless_in last (refusal_of utility l last) (command_of utility l last) (refusal_in last utility l (line_in last 2 (options_of utility) [] None words (omega arith) (omega arith) tt))
+    unless_in last (words_fault utility l last) (line_command utility l last) (refusal_in last utility l (line_in last 2 (options_of utility) [] None words (omega arith) (omega arith) tt))
     (command_in last utility l (omega arith))
 
 meaning_in : (words : List (List ℕ)) → MeantIn (length words + 1) (meaning words)

@@ -6,12 +6,12 @@ use Rattle.std.proofs.lemmas.List.{map_push}
 use Rattle.sccs_sid.specs.Reading.{is_empty}
 use Rattle.sccs_words.specs.Letters as opt
 use Rattle.sccs_words.specs.Synopsis.{options_of, exclusions_of, needs_of, operand_rule_of, find_option}
-use Rattle.sccs_words.specs.Values.{fits, sid_value, name_value, soak_number}
-use Rattle.sccs_words.specs.Scan.{CommandLine, line}
-use Rattle.sccs_words.specs.Judge.{has, or_else, usage, is_bare, excludes_by, is_excluded, form_of, value_fault, repeats, is_given_twice, known_fault, fault_by, use_fault, first_from, uses_fault, is_named, dash_with_other, wants, operand_fits, operand_fault, operands_fault, none_though_wanted, met, takes_one, too_many, end_fault, first_fault}
-use Rattle.sccs_words.specs.Records.{bit, value_in, value_of, with_value, values_of, get_words, delta_words, unget_words, prs_words, admin_words, val_words, operands_of, is_option_fault}
+use Rattle.sccs_words.specs.Values.{value_fits, sid_value, name_value, soak_number}
+use Rattle.sccs_words.specs.Scan.{CommandLine, scanned_line}
+use Rattle.sccs_words.specs.Judge.{has_use, first_usage, usage, is_bare, excludes_by, is_excluded, option_form, value_fault, repeats, is_given_twice, known_fault, fault_by, use_fault, first_from, uses_fault, is_named, dash_with_other, wants, operand_fits, operand_fault, operands_fault, none_though_wanted, met, takes_one, too_many, end_fault, usage_fault}
+use Rattle.sccs_words.specs.Records.{usage_bit, value_in, value_of, with_value, values_of, get_words, delta_line_words, unget_words, prs_words, admin_words, val_words, operand_words, is_option_fault}
 use Rattle.sccs_words.specs.Unplaced.{argument_only, unplaced, SameUses, kinds}
-use Rattle.sccs_words.specs.Meaning.{first_of, with_name, with_sid, with_number, command_of, refusal_of, unless, line_meaning}
+use Rattle.sccs_words.specs.Meaning.{first_text, with_name, with_sid, with_number, line_command, words_fault, unless_fault, line_meaning}
 use Rattle.sccs_sid.specs.declared.sids.Sid.{Sid}
 use Rattle.sccs_words.specs.declared.commands.ValWords.{ValWords}
 use Rattle.sccs_words.specs.declared.tables.OptionSpec.{OptionSpec}
@@ -37,7 +37,7 @@ use Rattle.sccs_words.specs.declared.commands.PrsWords.{PrsWords}
 
 -- ---- what is looked up
 
-has_same : (letter : ℕ) (uses : List Use) → has letter uses ≡ has letter (map unplaced uses)
+has_same : (letter : ℕ) (uses : List Use) → has_use letter uses ≡ has_use letter (map unplaced uses)
 has_same letter [] = refl
 has_same letter (one ∷ uses) = ap (λ (more : Bool). one.letter == letter || more) (has_same letter uses)
 
@@ -66,7 +66,7 @@ values_same letter (one ∷ uses) =
 abbrev kind : Option Usage → Option ℕ
 kind fault = option_map (λ (one : Usage). one.kind) fault
 
-or_same : (a b c d : Option Usage) → kind a ≡ kind c → kind b ≡ kind d → kind (or_else a b) ≡ kind (or_else c d)
+or_same : (a b c d : Option Usage) → kind a ≡ kind c → kind b ≡ kind d → kind (first_usage a b) ≡ kind (first_usage c d)
 or_same None b None d first later = later
 or_same None b (Some fault) d first later = cc
 or_same (Some fault) b None d first later = cc
@@ -120,7 +120,7 @@ value_fault_same : (option : Option OptionSpec) (argument : OptionArgument) → 
 value_fault_same option Unknown = refl
 value_fault_same option Bare = refl
 value_fault_same option Missing = refl
-value_fault_same option (Value bytes n) = if_same (fits (form_of option) bytes) (fits (form_of option) bytes) None (usage 6 n) None (usage 6 0) refl refl refl
+value_fault_same option (Value bytes n) = if_same (value_fits (option_form option) bytes) (value_fits (option_form option) bytes) None (usage 6 n) None (usage 6 0) refl refl refl
 
 known_same : (utility : Utility) (before : List Use) (one : Use) (option : Option OptionSpec) → kind (known_fault utility before one option) ≡ kind (known_fault utility (map unplaced before) (unplaced one) option)
 known_same utility before one option =
@@ -165,9 +165,9 @@ operands_same rule uses first words = here_same (operand_fault rule uses first) 
 met_same : (uses : List Use) (need : Need) → met uses need ≡ met (map unplaced uses) need
 met_same uses (needs.Always x) = has_same x uses
 met_same uses (needs.With letter x y) =
-    let a : has letter uses ≡ has letter (map unplaced uses) = has_same letter uses in
-    let b : has x uses ≡ has x (map unplaced uses) = has_same x uses in
-    let c : has y uses ≡ has y (map unplaced uses) = has_same y uses in cc
+    let a : has_use letter uses ≡ has_use letter (map unplaced uses) = has_same letter uses in
+    let b : has_use x uses ≡ has_use x (map unplaced uses) = has_same x uses in
+    let c : has_use y uses ≡ has_use y (map unplaced uses) = has_same y uses in cc
 
 needs_same : (needs : List Need) (uses : List Use) → list_all (λ need. met uses need) needs ≡ list_all (λ need. met (map unplaced uses) need) needs
 needs_same [] uses = refl
@@ -196,17 +196,17 @@ end_same utility uses operands n =
 
 -- a command line without numbers
 abbrev blank : CommandLine → CommandLine
-blank l = line (map unplaced l.uses) 0 l.operands
+blank l = scanned_line (map unplaced l.uses) 0 l.operands
 
-first_fault_same : (utility : Utility) (l : CommandLine) (n : ℕ) → kind (first_fault utility l n) ≡ kind (first_fault utility (blank l) 0)
-unfolding first_fault
+first_fault_same : (utility : Utility) (l : CommandLine) (n : ℕ) → kind (usage_fault utility l n) ≡ kind (usage_fault utility (blank l) 0)
+unfolding usage_fault
 first_fault_same utility l n =
     or_same (uses_fault utility l.uses) _ (uses_fault utility (map unplaced l.uses)) _ (uses_same utility l.uses)
     (or_same (operands_fault (operand_rule_of utility) l.uses l.first l.operands) (end_fault utility l.uses l.operands n)
     (operands_fault (operand_rule_of utility) (map unplaced l.uses) 0 l.operands) (end_fault utility (map unplaced l.uses) l.operands 0) (operands_same (operand_rule_of utility) l.uses l.first l.operands)
     (end_same utility l.uses l.operands n))
 
-refusal_same : (utility : Utility) (l : CommandLine) (n : ℕ) → kind (refusal_of utility l n) ≡ kind (refusal_of utility (blank l) 0)
+refusal_same : (utility : Utility) (l : CommandLine) (n : ℕ) → kind (words_fault utility l n) ≡ kind (words_fault utility (blank l) 0)
 refusal_same u.Admin l n = first_fault_same u.Admin l n
 refusal_same u.Get l n = first_fault_same u.Get l n
 refusal_same u.Delta l n = first_fault_same u.Delta l n
@@ -227,7 +227,7 @@ get_same uses =
     rw (has_same opt.b uses) (rw (value_same opt.c uses) (rw (has_same opt.e uses) (rw (has_same opt.g uses) (rw (value_same opt.i uses) (rw (value_same opt.x uses)
     (rw (has_same opt.k uses) (rw (has_same opt.m uses) (rw (has_same opt.n uses) (rw (has_same opt.p uses) (rw (has_same opt.s uses) (rw (value_same opt.r uses) (rw (has_same opt.t uses) refl))))))))))))
 
-delta_same : (uses : List Use) → delta_words uses ≡ delta_words (map unplaced uses)
+delta_same : (uses : List Use) → delta_line_words uses ≡ delta_line_words (map unplaced uses)
 delta_same uses = rw (value_same opt.m uses) (rw (has_same opt.n uses) (rw (value_same opt.r uses) (rw (has_same opt.s uses) (rw (value_same opt.y uses) refl))))
 
 unget_same : (uses : List Use) → unget_words uses ≡ unget_words (map unplaced uses)
@@ -242,10 +242,10 @@ admin_same uses =
     rw (values_same opt.a uses) (rw (values_same opt.e uses) (rw (values_same opt.f uses) (rw (values_same opt.d uses) (rw (has_same opt.h uses) (rw (has_same opt.z uses) (rw (has_same opt.n uses) (rw (has_same opt.i uses)
     (rw (value_same opt.i uses) (rw (value_same opt.r uses) (rw (value_same opt.m uses) (rw (has_same opt.y uses) (rw (value_same opt.y uses) (rw (has_same opt.t uses) (rw (value_same opt.t uses) refl))))))))))))))
 
-val_with : (a b : Bool) (uses others : List Use) (operands : List (List ℕ)) → a ≡ b → has opt.s uses ≡ has opt.s others → value_of opt.r uses ≡ value_of opt.r others → value_of opt.y uses ≡ value_of opt.y others
+val_with : (a b : Bool) (uses others : List Use) (operands : List (List ℕ)) → a ≡ b → has_use opt.s uses ≡ has_use opt.s others → value_of opt.r uses ≡ value_of opt.r others → value_of opt.y uses ≡ value_of opt.y others
     → value_of opt.m uses ≡ value_of opt.m others
-    → ◌≡◌ {A = ValWords} (record { fault = bit a 64 + bit (is_empty operands) 128; silent = has opt.s uses; sid = value_of opt.r uses; kind = value_of opt.y uses; «module» = value_of opt.m uses; operands = operands_of operands })
-    (record { fault = bit b 64 + bit (is_empty operands) 128; silent = has opt.s others; sid = value_of opt.r others; kind = value_of opt.y others; «module» = value_of opt.m others; operands = operands_of operands })
+    → ◌≡◌ {A = ValWords} (record { fault = usage_bit a 64 + usage_bit (is_empty operands) 128; silent = has_use opt.s uses; sid = value_of opt.r uses; kind = value_of opt.y uses; «module» = value_of opt.m uses; operands = operand_words operands })
+    (record { fault = usage_bit b 64 + usage_bit (is_empty operands) 128; silent = has_use opt.s others; sid = value_of opt.r others; kind = value_of opt.y others; «module» = value_of opt.m others; operands = operand_words operands })
 val_with a b uses others operands fault s r y m = cc
 
 option_fault_same : (l : CommandLine) → is_option_fault l ≡ is_option_fault (blank l)
@@ -272,21 +272,21 @@ number_same : (n : ℕ) (number : Option ℕ) → kinds (with_number n number) �
 number_same n None = refl
 number_same n (Some number) = refl
 
-command_same : (utility : Utility) (l : CommandLine) (n : ℕ) → kinds (command_of utility l n) ≡ kinds (command_of utility (blank l) 0)
-command_same u.Admin l n = ap (λ (words : AdminWords). Ok (c.Admin words (operands_of l.operands))) (admin_same l.uses)
-command_same u.Get l n = ap (λ (words : GetWords). Ok (c.Get words (operands_of l.operands))) (get_same l.uses)
-command_same u.Delta l n = name_same l.uses n (option_and_then name_value (first_of l.operands))
-command_same u.Unget l n = ap (λ (words : UngetWords). Ok (c.Unget words (operands_of l.operands))) (unget_same l.uses)
+command_same : (utility : Utility) (l : CommandLine) (n : ℕ) → kinds (line_command utility l n) ≡ kinds (line_command utility (blank l) 0)
+command_same u.Admin l n = ap (λ (words : AdminWords). Ok (c.Admin words (operand_words l.operands))) (admin_same l.uses)
+command_same u.Get l n = ap (λ (words : GetWords). Ok (c.Get words (operand_words l.operands))) (get_same l.uses)
+command_same u.Delta l n = name_same l.uses n (option_and_then name_value (first_text l.operands))
+command_same u.Unget l n = ap (λ (words : UngetWords). Ok (c.Unget words (operand_words l.operands))) (unget_same l.uses)
 command_same u.Sact l n = refl
 command_same u.Rmdel l n = sid_same l.operands n _ _ (ap (option_and_then sid_value) (value_same opt.r l.uses))
-command_same u.Prs l n = ap (λ (words : PrsWords). Ok (c.Prs words (operands_of l.operands))) (prs_same l.uses)
+command_same u.Prs l n = ap (λ (words : PrsWords). Ok (c.Prs words (operand_words l.operands))) (prs_same l.uses)
 command_same u.Val l n = ap (λ (words : ValWords). Ok (c.Val words)) (val_same l)
-command_same u.What l n = ap (λ (silent : Bool). Ok (c.What silent (operands_of l.operands))) (has_same opt.s l.uses)
+command_same u.What l n = ap (λ (silent : Bool). Ok (c.What silent (operand_words l.operands))) (has_same opt.s l.uses)
 command_same u.Recover l n = refl
 command_same u.Batch l n = refl
-command_same u.Soak l n = number_same n (option_and_then soak_number (first_of l.operands))
+command_same u.Soak l n = number_same n (option_and_then soak_number (first_text l.operands))
 
-unless_same : (a b : Option Usage) (x y : Result Command Usage) → kind a ≡ kind b → kinds x ≡ kinds y → kinds (unless a x) ≡ kinds (unless b y)
+unless_same : (a b : Option Usage) (x y : Result Command Usage) → kind a ≡ kind b → kinds x ≡ kinds y → kinds (unless_fault a x) ≡ kinds (unless_fault b y)
 unless_same None None x y refusal meant = meant
 unless_same (Some fault) (Some other) x y refusal meant = cc
 unless_same None (Some other) x y refusal meant = cc
@@ -295,9 +295,9 @@ unless_same (Some fault) None x y refusal meant = cc
 blank_same : (utility : Utility) (l : CommandLine) (n : ℕ) → kinds (line_meaning utility l n) ≡ kinds (line_meaning utility (blank l) 0)
 unfolding line_meaning
 blank_same utility l n =
-    unless_same (refusal_of utility l n) (refusal_of utility (blank l) 0) (command_of utility l n) (command_of utility (blank l) 0) (refusal_same utility l n) (command_same utility l n)
+    unless_same (words_fault utility l n) (words_fault utility (blank l) 0) (line_command utility l n) (line_command utility (blank l) 0) (refusal_same utility l n) (command_same utility l n)
 
 pub same_meaning : (utility : Utility) (a b : CommandLine) (n m : ℕ) → SameUses a b → kinds (line_meaning utility a n) ≡ kinds (line_meaning utility b m)
 same_meaning utility a b n m same =
-    let is : blank a ≡ blank b = ap (λ (uses : List Use). line uses 0 a.operands) same.uses ∙ ap (line (map unplaced b.uses) 0) same.operands in
+    let is : blank a ≡ blank b = ap (λ (uses : List Use). scanned_line uses 0 a.operands) same.uses ∙ ap (scanned_line (map unplaced b.uses) 0) same.operands in
     blank_same utility a n ∙ (ap (λ (l : CommandLine). kinds (line_meaning utility l 0)) is ∙ sym (blank_same utility b m))

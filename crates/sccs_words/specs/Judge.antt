@@ -7,7 +7,7 @@ use Rattle.sccs_sid.specs.Reading.{is_empty}
 use Rattle.sccs_words.specs.Scan.{CommandLine}
 use Rattle.sccs_words.specs.Synopsis.{options_of, exclusions_of, needs_of, operand_rule_of, find_option}
 use Rattle.sccs_words.specs.UsageKinds as kinds
-use Rattle.sccs_words.specs.Values.{fits, soak_number}
+use Rattle.sccs_words.specs.Values.{value_fits, soak_number}
 use Rattle.sccs_words.specs.declared.commands.Usage.{Usage}
 use Rattle.sccs_words.specs.declared.tables.OptionSpec.{OptionSpec}
 use Rattle.sccs_words.specs.declared.tables.OptionSpec.TheVariants.{Joined, Valued, Repeated}
@@ -28,13 +28,13 @@ abbrev pub usage : ℕ → ℕ → Option Usage
 usage kind word = Some (record { kind = kind; word = word })
 
 -- the first of two that is there
-abbrev pub or_else : Option Usage → Option Usage → Option Usage
-or_else None later = later
-or_else (Some fault) later = Some fault
+abbrev pub first_usage : Option Usage → Option Usage → Option Usage
+first_usage None later = later
+first_usage (Some fault) later = Some fault
 
 -- an option of that letter is used
-abbrev pub has : ℕ → List Use → Bool
-has letter uses = list_any (λ one. one.letter == letter) uses
+abbrev pub has_use : ℕ → List Use → Bool
+has_use letter uses = list_any (λ one. one.letter == letter) uses
 
 abbrev pub is_bare : OptionArgument → Bool
 is_bare Bare = true
@@ -53,18 +53,18 @@ abbrev pub repeats : Option OptionSpec → Bool
 repeats (Some (Repeated b form)) = true
 repeats _ = false
 
-abbrev pub form_of : Option OptionSpec → Form
-form_of (Some (Joined b form)) = form
-form_of (Some (Valued b form)) = form
-form_of (Some (Repeated b form)) = form
-form_of _ = Any
+abbrev pub option_form : Option OptionSpec → Form
+option_form (Some (Joined b form)) = form
+option_form (Some (Valued b form)) = form
+option_form (Some (Repeated b form)) = form
+option_form _ = Any
 
 abbrev pub value_fault : Option OptionSpec → OptionArgument → Option Usage
-value_fault option (Value bytes n) = if fits (form_of option) bytes then None else usage kinds.malformed n
+value_fault option (Value bytes n) = if value_fits (option_form option) bytes then None else usage kinds.malformed n
 value_fault option _ = None
 
 abbrev pub is_given_twice : Option OptionSpec → List Use → ℕ → Bool
-is_given_twice option before letter = not (repeats option) && has letter before
+is_given_twice option before letter = not (repeats option) && has_use letter before
 
 -- a use of a letter of the utility, after those before it
 abbrev pub known_fault : Utility → List Use → Use → Option OptionSpec → Option Usage
@@ -84,7 +84,7 @@ use_fault utility before one = fault_by utility before one one.argument
 -- the first fault of these, each judged after those before it
 unfoldable pub first_from : {A : Type 0} → (List A → A → Option Usage) → List A → List A → Option Usage
 first_from fault before [] = None
-first_from fault before (x ∷ xs) = or_else (fault before x) (first_from fault (before ++ x ∷ []) xs)
+first_from fault before (x ∷ xs) = first_usage (fault before x) (first_from fault (before ++ x ∷ []) xs)
 
 abbrev pub uses_fault : Utility → List Use → Option Usage
 uses_fault utility uses = first_from (use_fault utility) [] uses
@@ -94,18 +94,18 @@ uses_fault utility uses = first_from (use_fault utility) [] uses
 abbrev pub is_dash : List ℕ → Bool
 is_dash word = bytes_eq word (45 ∷ [])
 
-abbrev pub is_dot : List ℕ → Bool
-is_dot word = bytes_eq word (46 ∷ [])
+abbrev pub is_single_dot : List ℕ → Bool
+is_single_dot word = bytes_eq word (46 ∷ [])
 
 -- neither `.` nor `-`
 abbrev pub is_named : List ℕ → Bool
-is_named word = not (is_dash word) && not (is_dot word)
+is_named word = not (is_dash word) && not (is_single_dot word)
 
 -- what may stand as an operand
 abbrev pub operand_fits : OperandRule → List Use → List ℕ → Bool
 operand_fits Sfile uses word = is_sfile_name word
 operand_fits Number uses word = is_some (soak_number word)
-operand_fits (OneWith letter) uses word = not (has letter uses) || is_named word
+operand_fits (OneWith letter) uses word = not (has_use letter uses) || is_named word
 operand_fits _ uses word = true
 
 -- an operand is `-`, and others stand before it
@@ -132,13 +132,13 @@ wants Nothing = false
 wants _ = true
 
 abbrev pub met : List Use → Need → Bool
-met uses (needs.Always x) = has x uses
-met uses (needs.With letter x y) = not (has letter uses) || (has x uses || has y uses)
+met uses (needs.Always x) = has_use x uses
+met uses (needs.With letter x y) = not (has_use letter uses) || (has_use x uses || has_use y uses)
 
 abbrev pub takes_one : OperandRule → List Use → Bool
 takes_one Sfile uses = true
 takes_one Number uses = true
-takes_one (OneWith letter) uses = has letter uses
+takes_one (OneWith letter) uses = has_use letter uses
 takes_one _ uses = false
 
 abbrev pub too_many : OperandRule → List Use → List (List ℕ) → Bool
@@ -157,8 +157,8 @@ end_fault utility uses operands n =
     else None
 
 -- the words end before number n
-unfoldable pub first_fault : Utility → CommandLine → ℕ → Option Usage
-first_fault utility line n =
-    or_else (uses_fault utility line.uses)
-    (or_else (operands_fault (operand_rule_of utility) line.uses line.first line.operands)
+unfoldable pub usage_fault : Utility → CommandLine → ℕ → Option Usage
+usage_fault utility line n =
+    first_usage (uses_fault utility line.uses)
+    (first_usage (operands_fault (operand_rule_of utility) line.uses line.first line.operands)
     (end_fault utility line.uses line.operands n))

@@ -7,8 +7,8 @@ use Rattle.sccs_words.specs.Synopsis.{options_of}
 use Rattle.sccs_words.specs.UsageKinds as kinds
 use Rattle.sccs_words.specs.Values.{sid_value, name_value, soak_number}
 use Rattle.sccs_words.specs.Scan.{CommandLine, scanned}
-use Rattle.sccs_words.specs.Judge.{has, first_fault}
-use Rattle.sccs_words.specs.Records.{value_of, admin_words, get_words, delta_words, unget_words, prs_words, val_words, operands_of}
+use Rattle.sccs_words.specs.Judge.{has_use, usage_fault}
+use Rattle.sccs_words.specs.Records.{value_of, admin_words, get_words, delta_line_words, unget_words, prs_words, val_words, operand_words}
 use Rattle.sccs_words.specs.declared.scanning.Use.{Use}
 use Rattle.sccs_words.specs.declared.tables.Utility.{Utility}
 use Rattle.sccs_words.specs.declared.tables.Utility.TheVariants as u
@@ -19,10 +19,10 @@ use Rattle.sccs_words.specs.declared.commands.WordsFault.{WordsFault}
 use Rattle.sccs_words.specs.declared.commands.WordsFault.TheVariants as faults
 
 -- what a call that may run out of memory returned, against the meaning
-abbrev pub Gives : Result Command WordsFault → Result Command Usage → Type 0
-Gives (Ok command) meant = meant ≡ Ok command
-Gives (Err (faults.Usage usage)) meant = meant ≡ Err usage
-Gives (Err faults.Memory) meant = Unit {0}
+abbrev pub GivesCommand : Result Command WordsFault → Result Command Usage → Type 0
+GivesCommand (Ok command) meant = meant ≡ Ok command
+GivesCommand (Err (faults.Usage usage)) meant = meant ≡ Err usage
+GivesCommand (Err faults.Memory) meant = Unit {0}
 
 abbrev pub bad : ℕ → ℕ → Result Command Usage
 bad kind word = Err (record { kind = kind; word = word })
@@ -47,48 +47,48 @@ utility_of word =
     else if bytes_eq word (codes "what") then Some u.What
     else own_utility word
 
-abbrev pub first_of : List (List ℕ) → Option (List ℕ)
-first_of [] = None
-first_of (word ∷ words) = Some word
+abbrev pub first_text : List (List ℕ) → Option (List ℕ)
+first_text [] = None
+first_text (word ∷ words) = Some word
 
 abbrev pub with_name : List Use → ℕ → Option (List ℕ) → Result Command Usage
 with_name uses n None = bad kinds.no_operand n
-with_name uses n (Some name) = Ok (c.Delta (delta_words uses) name)
+with_name uses n (Some name) = Ok (c.Delta (delta_line_words uses) name)
 
 abbrev pub with_sid : List (List ℕ) → ℕ → Option Sid → Result Command Usage
 with_sid operands n None = bad kinds.option_needed n
-with_sid operands n (Some sid) = Ok (c.Rmdel sid (operands_of operands))
+with_sid operands n (Some sid) = Ok (c.Rmdel sid (operand_words operands))
 
 abbrev pub with_number : ℕ → Option ℕ → Result Command Usage
 with_number n None = bad kinds.no_operand n
 with_number n (Some number) = Ok (c.Soak number)
 
 -- the command of a line without a fault; n is the number of words plus one
-abbrev pub command_of : Utility → CommandLine → ℕ → Result Command Usage
-command_of u.Admin l n = Ok (c.Admin (admin_words l.uses) (operands_of l.operands))
-command_of u.Get l n = Ok (c.Get (get_words l.uses) (operands_of l.operands))
-command_of u.Delta l n = with_name l.uses n (option_and_then name_value (first_of l.operands))
-command_of u.Unget l n = Ok (c.Unget (unget_words l.uses) (operands_of l.operands))
-command_of u.Sact l n = Ok (c.Sact (operands_of l.operands))
-command_of u.Rmdel l n = with_sid l.operands n (option_and_then sid_value (value_of opt.r l.uses))
-command_of u.Prs l n = Ok (c.Prs (prs_words l.uses) (operands_of l.operands))
-command_of u.Val l n = Ok (c.Val (val_words l))
-command_of u.What l n = Ok (c.What (has opt.s l.uses) (operands_of l.operands))
-command_of u.Recover l n = Ok (c.Recover (operands_of l.operands))
-command_of u.Batch l n = Ok c.Batch
-command_of u.Soak l n = with_number n (option_and_then soak_number (first_of l.operands))
+abbrev pub line_command : Utility → CommandLine → ℕ → Result Command Usage
+line_command u.Admin l n = Ok (c.Admin (admin_words l.uses) (operand_words l.operands))
+line_command u.Get l n = Ok (c.Get (get_words l.uses) (operand_words l.operands))
+line_command u.Delta l n = with_name l.uses n (option_and_then name_value (first_text l.operands))
+line_command u.Unget l n = Ok (c.Unget (unget_words l.uses) (operand_words l.operands))
+line_command u.Sact l n = Ok (c.Sact (operand_words l.operands))
+line_command u.Rmdel l n = with_sid l.operands n (option_and_then sid_value (value_of opt.r l.uses))
+line_command u.Prs l n = Ok (c.Prs (prs_words l.uses) (operand_words l.operands))
+line_command u.Val l n = Ok (c.Val (val_words l))
+line_command u.What l n = Ok (c.What (has_use opt.s l.uses) (operand_words l.operands))
+line_command u.Recover l n = Ok (c.Recover (operand_words l.operands))
+line_command u.Batch l n = Ok c.Batch
+line_command u.Soak l n = with_number n (option_and_then soak_number (first_text l.operands))
 
 -- val's faults are bits of its command
-abbrev pub refusal_of : Utility → CommandLine → ℕ → Option Usage
-refusal_of u.Val l n = None
-refusal_of utility l n = first_fault utility l n
+abbrev pub words_fault : Utility → CommandLine → ℕ → Option Usage
+words_fault u.Val l n = None
+words_fault utility l n = usage_fault utility l n
 
-abbrev pub unless : Option Usage → Result Command Usage → Result Command Usage
-unless (Some usage) meant = Err usage
-unless None meant = meant
+abbrev pub unless_fault : Option Usage → Result Command Usage → Result Command Usage
+unless_fault (Some usage) meant = Err usage
+unless_fault None meant = meant
 
 unfoldable pub line_meaning : Utility → CommandLine → ℕ → Result Command Usage
-line_meaning utility l n = unless (refusal_of utility l n) (command_of utility l n)
+line_meaning utility l n = unless_fault (words_fault utility l n) (line_command utility l n)
 
 abbrev pub meaning_by : Option Utility → List (List ℕ) → Result Command Usage
 meaning_by None words = bad kinds.unknown_utility 1

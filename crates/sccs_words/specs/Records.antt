@@ -6,7 +6,7 @@ use Rattle.sccs_words.specs.Letters as opt
 use Rattle.sccs_words.specs.MrWords.{mr_words}
 use Rattle.sccs_words.specs.Values.{sid_value, spec_value, moment_value, list_value, release_value, name_value}
 use Rattle.sccs_words.specs.Scan.{CommandLine}
-use Rattle.sccs_words.specs.Judge.{has, is_dash, uses_fault, operands_fault}
+use Rattle.sccs_words.specs.Judge.{has_use, is_dash, uses_fault, operands_fault}
 use Rattle.sccs_words.specs.declared.scanning.OptionArgument.{OptionArgument}
 use Rattle.sccs_words.specs.declared.scanning.OptionArgument.TheVariants.{Value}
 use Rattle.sccs_words.specs.declared.scanning.Use.{Use}
@@ -45,56 +45,56 @@ abbrev pub mrs_of : Option (List ℕ) → List (List ℕ)
 mrs_of None = []
 mrs_of (Some bytes) = mr_words bytes
 
-abbrev pub lines_in : Option (List ℕ) → List (List ℕ)
-lines_in None = []
-lines_in (Some bytes) = text_of bytes
+abbrev pub option_lines : Option (List ℕ) → List (List ℕ)
+option_lines None = []
+option_lines (Some bytes) = text_of bytes
 
 abbrev pub given_by : Option (List ℕ) → Given
 given_by None = Bare
 given_by (Some name) = From name
 
 abbrev pub given_of : ℕ → List Use → Given
-given_of letter uses = if has letter uses then given_by (option_and_then name_value (value_of letter uses)) else No
+given_of letter uses = if has_use letter uses then given_by (option_and_then name_value (value_of letter uses)) else No
 
 abbrev pub comment_of : List Use → Option (List (List ℕ))
-comment_of uses = if has opt.y uses then Some (lines_in (value_of opt.y uses)) else None
+comment_of uses = if has_use opt.y uses then Some (option_lines (value_of opt.y uses)) else None
 
 abbrev pub get_words : List Use → GetWords
 get_words uses = record {
-  branch = has opt.b uses;
+  branch = has_use opt.b uses;
   cutoff = option_and_then moment_value (value_of opt.c uses);
-  edit = has opt.e uses;
-  no_text = has opt.g uses;
+  edit = has_use opt.e uses;
+  no_text = has_use opt.g uses;
   include = option_and_then list_value (value_of opt.i uses);
   exclude = option_and_then list_value (value_of opt.x uses);
-  keep = has opt.k uses;
-  sids = has opt.m uses;
-  «module» = has opt.n uses;
-  print = has opt.p uses;
-  silent = has opt.s uses;
+  keep = has_use opt.k uses;
+  sids = has_use opt.m uses;
+  «module» = has_use opt.n uses;
+  print = has_use opt.p uses;
+  silent = has_use opt.s uses;
   spec = option_and_then spec_value (value_of opt.r uses);
-  top = has opt.t uses;
+  top = has_use opt.t uses;
 }
 
-abbrev pub delta_words : List Use → DeltaWords
-delta_words uses = record {
+abbrev pub delta_line_words : List Use → DeltaWords
+delta_line_words uses = record {
   mrs = mrs_of (value_of opt.m uses);
-  keep = has opt.n uses;
+  keep = has_use opt.n uses;
   sid = option_and_then sid_value (value_of opt.r uses);
-  silent = has opt.s uses;
-  comment = lines_in (value_of opt.y uses);
+  silent = has_use opt.s uses;
+  comment = option_lines (value_of opt.y uses);
 }
 
 abbrev pub unget_words : List Use → UngetWords
-unget_words uses = record { keep = has opt.n uses; sid = option_and_then sid_value (value_of opt.r uses); silent = has opt.s uses }
+unget_words uses = record { keep = has_use opt.n uses; sid = option_and_then sid_value (value_of opt.r uses); silent = has_use opt.s uses }
 
 abbrev pub prs_words : List Use → PrsWords
 prs_words uses = record {
-  all = has opt.a uses;
-  earlier = has opt.e uses;
-  later = has opt.l uses;
+  all = has_use opt.a uses;
+  earlier = has_use opt.e uses;
+  later = has_use opt.l uses;
   cutoff = option_and_then moment_value (value_of opt.c uses);
-  chosen = has opt.r uses;
+  chosen = has_use opt.r uses;
   sid = option_and_then sid_value (value_of opt.r uses);
   spec = value_of opt.d uses;
 }
@@ -105,9 +105,9 @@ admin_words uses = record {
   erase = values_of opt.e uses;
   set = values_of opt.f uses;
   unset = values_of opt.d uses;
-  check = has opt.h uses;
-  fix = has opt.z uses;
-  fresh = has opt.n uses || has opt.i uses;
+  check = has_use opt.h uses;
+  fix = has_use opt.z uses;
+  fresh = has_use opt.n uses || has_use opt.i uses;
   text = given_of opt.i uses;
   release = option_and_then release_value (value_of opt.r uses);
   mrs = mrs_of (value_of opt.m uses);
@@ -120,23 +120,23 @@ is_from_input [] = false
 is_from_input (word ∷ []) = is_dash word
 is_from_input (word ∷ more ∷ words) = false
 
-abbrev pub operands_of : List (List ℕ) → Operands
-operands_of words = if is_from_input words then record { words = []; from_input = true } else record { words = words; from_input = false }
+abbrev pub operand_words : List (List ℕ) → Operands
+operand_words words = if is_from_input words then record { words = []; from_input = true } else record { words = words; from_input = false }
 
 -- the bits 0x40, an option is at fault or `-` stands with another operand, and 0x80, there is no operand
-abbrev pub bit : Bool → ℕ → ℕ
-bit true n = n
-bit false n = 0
+abbrev pub usage_bit : Bool → ℕ → ℕ
+usage_bit true n = n
+usage_bit false n = 0
 
 abbrev pub is_option_fault : CommandLine → Bool
 is_option_fault l = is_some (uses_fault Val l.uses) || is_some (operands_fault Many l.uses l.first l.operands)
 
 abbrev pub val_words : CommandLine → ValWords
 val_words l = record {
-  fault = bit (is_option_fault l) 64 + bit (is_empty l.operands) 128;
-  silent = has opt.s l.uses;
+  fault = usage_bit (is_option_fault l) 64 + usage_bit (is_empty l.operands) 128;
+  silent = has_use opt.s l.uses;
   sid = value_of opt.r l.uses;
   kind = value_of opt.y l.uses;
   «module» = value_of opt.m l.uses;
-  operands = operands_of l.operands;
+  operands = operand_words l.operands;
 }

@@ -59,9 +59,9 @@ after_dash [] = Operand
 after_dash (b ∷ []) = if b == 45 then Ends else Letters (b ∷ [])
 after_dash (b ∷ c ∷ rest) = Letters (b ∷ c ∷ rest)
 
-abbrev pub kind_of : List ℕ → Kind
-kind_of [] = Operand
-kind_of (b ∷ rest) = if b == 45 then after_dash rest else Operand
+abbrev pub word_kind : List ℕ → Kind
+word_kind [] = Operand
+word_kind (b ∷ rest) = if b == 45 then after_dash rest else Operand
 
 -- The uses of options, the number of the first operand's word, and the operands.
 pub record CommandLine : Type 0 where
@@ -69,8 +69,8 @@ pub record CommandLine : Type 0 where
   pub first : ℕ
   pub operands : List (List ℕ)
 
-abbrev pub line : List Use → ℕ → List (List ℕ) → CommandLine
-line uses first operands = record { uses = uses; first = first; operands = operands }
+abbrev pub scanned_line : List Use → ℕ → List (List ℕ) → CommandLine
+scanned_line uses first operands = record { uses = uses; first = first; operands = operands }
 
 -- the number of words plus one
 abbrev pub end_of : CommandLine → ℕ
@@ -78,13 +78,13 @@ end_of l = l.first + length l.operands
 
 abbrev pub by_kind : ℕ → List Use → List ℕ → List (List ℕ) → Kind → (List ℕ → CommandLine) → CommandLine
 by_kind n uses word words (Letters bytes) more = more bytes
-by_kind n uses word words Ends more = line uses (n + 1) words
-by_kind n uses word words Operand more = line uses n (word ∷ words)
+by_kind n uses word words Ends more = scanned_line uses (n + 1) words
+by_kind n uses word words Operand more = scanned_line uses n (word ∷ words)
 
 -- the words from number n on, after these uses; a letter of the word before may wait for its value
 unfoldable pub scanned : List OptionSpec → ℕ → List Use → Option ℕ → List (List ℕ) → CommandLine
-scanned options n uses (Some letter) [] = line (uses ++ used letter (n - 1) Missing ∷ []) n []
+scanned options n uses (Some letter) [] = scanned_line (uses ++ used letter (n - 1) Missing ∷ []) n []
 scanned options n uses (Some letter) (word ∷ words) = scanned options (n + 1) (uses ++ used letter (n - 1) (Value word n) ∷ []) None words
-scanned options n uses None [] = line uses n []
+scanned options n uses None [] = scanned_line uses n []
 scanned options n uses None (word ∷ words) =
-    by_kind n uses word words (kind_of word) (λ bytes. scanned options (n + 1) (letters options n uses bytes).0 (letters options n uses bytes).1 words)
+    by_kind n uses word words (word_kind word) (λ bytes. scanned options (n + 1) (letters options n uses bytes).0 (letters options n uses bytes).1 words)

@@ -1,6 +1,6 @@
 -- What the code's types of scanning stand for.
 use Rattle.std.specs.Prelude.{ℕ, ◌+◌, List, drop}
-use Rattle.sccs_words.specs.Scan.{Kind, Letters, Ends, Operand, CommandLine, line}
+use Rattle.sccs_words.specs.Scan.{Kind, Letters, Ends, Operand, CommandLine, scanned_line}
 use Rattle.sccs_words.specs.declared.scanning.WordKind.{WordKind}
 use Rattle.sccs_words.specs.declared.scanning.WordKind.TheVariants as kinds
 use Rattle.sccs_words.specs.declared.scanning.Scanned.{Scanned}
@@ -13,8 +13,8 @@ kind_view kinds.Operand = Operand
 
 -- the command line, the first of these words having that number
 abbrev pub line_view : ℕ → List (List ℕ) → Scanned → CommandLine
-line_view number words s = line s.uses.items (number + s.before) (drop s.before words)
+line_view number words s = scanned_line s.uses.items (number + s.before) (drop s.before words)
 
 -- a command line, without where it lies
-abbrev pub line_of : held.CommandLine → CommandLine
-line_of l = line l.uses.now l.first l.operands.now
+abbrev pub command_line : held.CommandLine → CommandLine
+command_line l = scanned_line l.uses.now l.first l.operands.now

@@ -126,13 +126,13 @@ operand_rule_of Batch = Nothing
 operand_rule_of Soak = Number
 operand_rule_of _ = Many
 
-abbrev pub letter_of : OptionSpec → ℕ
-letter_of (Plain b) = b
-letter_of (Joined b form) = b
-letter_of (Valued b form) = b
-letter_of (Repeated b form) = b
+abbrev pub option_letter : OptionSpec → ℕ
+option_letter (Plain b) = b
+option_letter (Joined b form) = b
+option_letter (Valued b form) = b
+option_letter (Repeated b form) = b
 
 -- the option of a letter
 unfoldable pub find_option : List OptionSpec → ℕ → Option OptionSpec
 find_option [] b = None
-find_option (option ∷ options) b = if letter_of option == b then Some option else find_option options b
+find_option (option ∷ options) b = if option_letter option == b then Some option else find_option options b

@@ -1,5 +1,5 @@
 -- SIDs, moments, releases and lists in a command are valid ones.
-use Rattle.std.specs.Prelude.{All, IfSome}
+use Rattle.std.specs.Prelude.{◌≤◌, All, IfSome}
 use Rattle.sccs_sid.specs.Sid.{IsComponent, IsSid}
 use Rattle.sccs_sid.specs.Spec.{IsSpec}
 use Rattle.sccs_sid.specs.SidLists.{IsRange}
@@ -20,7 +20,7 @@ pub record ArePrsValues (words : PrsWords) : Type 0 where
   pub cutoff : IfSome words.cutoff IsMoment
   pub sid : IfSome words.sid IsSid
 
--- the values of a command are valid; a release is 1 to 9999, as each number of a SID
+-- the values of a command are valid; a release is 1 to 9999, as each number of a SID, and a soak makes at most 2,000 rounds
 abbrev pub HasValidValues : Command → Type 0
 HasValidValues (c.Admin words operands) = IfSome words.release IsComponent
 HasValidValues (c.Get words operands) = AreGetValues words
@@ -28,4 +28,5 @@ HasValidValues (c.Delta words name) = IfSome words.sid IsSid
 HasValidValues (c.Unget words operands) = IfSome words.sid IsSid
 HasValidValues (c.Rmdel sid operands) = IsSid sid
 HasValidValues (c.Prs words operands) = ArePrsValues words
+HasValidValues (c.Soak number) = number ≤ 2000
 HasValidValues _ = Unit {0}

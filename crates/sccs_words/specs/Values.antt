@@ -50,14 +50,14 @@ is_user [] = is_login []
 is_user (b ∷ bytes) = is_login (b ∷ bytes) || (b == 33 && is_login bytes)
 
 -- whether a value is one of its form
-abbrev pub fits : Form → List ℕ → Bool
-fits forms.Any bytes = true
-fits forms.User bytes = is_user bytes
-fits forms.Flag bytes = not (is_empty bytes)
-fits forms.File bytes = is_name bytes
-fits forms.Mrs bytes = not (is_empty (mr_words bytes))
-fits forms.Release bytes = is_some (release_value bytes)
-fits forms.Cutoff bytes = is_some (moment_value bytes)
-fits forms.List bytes = is_some (list_value bytes)
-fits forms.Spec bytes = is_some (spec_value bytes)
-fits forms.Sid bytes = is_some (sid_value bytes)
+abbrev pub value_fits : Form → List ℕ → Bool
+value_fits forms.Any bytes = true
+value_fits forms.User bytes = is_user bytes
+value_fits forms.Flag bytes = not (is_empty bytes)
+value_fits forms.File bytes = is_name bytes
+value_fits forms.Mrs bytes = not (is_empty (mr_words bytes))
+value_fits forms.Release bytes = is_some (release_value bytes)
+value_fits forms.Cutoff bytes = is_some (moment_value bytes)
+value_fits forms.List bytes = is_some (list_value bytes)
+value_fits forms.Spec bytes = is_some (spec_value bytes)
+value_fits forms.Sid bytes = is_some (sid_value bytes)

@@ -1,8 +1,8 @@
 ghost use Rattle.std.specs.Prelude.{◌≡◌, ℕ, ◌+◌, ◌^◌, ◌<◌, length, IfOk};
-ghost use Rattle.sccs_words.specs.Judge.{has as has_spec, excludes_by as excludes_by_spec, is_excluded as is_excluded_spec, is_bare as is_bare_spec, repeats as repeats_spec, form_of as form_spec, is_given_twice as is_given_twice_spec, known_fault as known_spec, use_fault as use_spec, uses_fault as uses_spec, is_dash as is_dash_spec, is_named as is_named_spec, operand_fits as operand_fits_spec, is_late_dash as is_late_dash_spec, dash_with_other as dash_with_other_spec, operand_fault as operand_spec, operands_fault as operands_spec, wants as wants_spec, met as met_spec, takes_one as takes_one_spec, too_many as too_many_spec, none_though_wanted as none_though_wanted_spec, end_fault as end_spec, first_fault as first_spec};
+ghost use Rattle.sccs_words.specs.Judge.{has_use as has_spec, excludes_by as excludes_by_spec, is_excluded as is_excluded_spec, is_bare as is_bare_spec, repeats as repeats_spec, option_form as form_spec, is_given_twice as is_given_twice_spec, known_fault as known_spec, use_fault as use_spec, uses_fault as uses_spec, is_dash as is_dash_spec, is_named as is_named_spec, operand_fits as operand_fits_spec, is_late_dash as is_late_dash_spec, dash_with_other as dash_with_other_spec, operand_fault as operand_spec, operands_fault as operands_spec, wants as wants_spec, met as met_spec, takes_one as takes_one_spec, too_many as too_many_spec, none_though_wanted as none_though_wanted_spec, end_fault as end_spec, usage_fault as first_spec};
 ghost use Rattle.std.specs.List.{list_any, list_all};
 ghost use Rattle.sccs_words.specs.Scan.{end_of};
-ghost use Rattle.sccs_words.specs.Scanned.{line_of};
+ghost use Rattle.sccs_words.specs.Scanned.{command_line};
 ghost use Rattle.sccs_words.specs.Synopsis.{exclusions_of, needs_of};
 
 use crate::command_lines::CommandLine;
@@ -321,7 +321,7 @@ fn none_though_wanted(rule: OperandRule, words: &[Bytes]) -> bool
 
 #[tactic(auto, unfolding(crate::specs::Judge::end_fault))]
 fn end_fault(utility: Utility, line: &CommandLine<'_>) -> Option<Usage>
-    ensures { result ≡ end_spec utility line.now.uses.now line.now.operands.now (end_of (line_of line.now)) }
+    ensures { result ≡ end_spec utility line.now.uses.now line.now.operands.now (end_of (command_line line.now)) }
 {
     let rule = utility.operand_rule();
     let word = line.end();
@@ -347,13 +347,13 @@ fn end_fault(utility: Utility, line: &CommandLine<'_>) -> Option<Usage>
 }
 
 /// The first fault of a command line.
-#[tactic(auto, unfolding(crate::specs::Judge::first_fault))]
+#[tactic(auto, unfolding(crate::specs::Judge::usage_fault))]
 pub fn first_fault(
     alloc: Global,
     utility: Utility,
     line: &CommandLine<'_>,
 ) -> Result<Option<Usage>, Memory>
-    ensures { IfOk result (λ r. r ≡ first_spec utility (line_of line.now) (end_of (line_of line.now))) }
+    ensures { IfOk result (λ r. r ≡ first_spec utility (command_line line.now) (end_of (command_line line.now))) }
 {
     let of_uses = uses_fault(alloc, utility, line.uses)?;
     match of_uses {

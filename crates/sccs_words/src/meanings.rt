@@ -1,10 +1,10 @@
-ghost use Rattle.std.specs.Prelude.{◌≡◌, ◌+◌, ◌^◌, ◌<◌, length, option_and_then, IfOk, Ok};
+ghost use Rattle.std.specs.Prelude.{◌≡◌, ◌+◌, ◌^◌, ◌<◌, ◌≤◌, length, option_and_then, IfOk, IfSome, Ok};
 ghost use Rattle.sccs_words.specs.Letters as opt;
 ghost use Rattle.sccs_words.specs.declared.commands.Command.TheVariants as commands;
-ghost use Rattle.sccs_words.specs.Meaning.{Gives, meaning, first_of, with_name, with_sid, with_number, own_utility, utility_of as utility_spec, command_of as command_spec, refusal_of as refusal_spec, line_meaning as line_spec};
-ghost use Rattle.sccs_words.specs.Records.{value_of as value_spec, admin_words as admin_spec, get_words as get_spec, prs_words as prs_spec, operands_of as operands_spec};
+ghost use Rattle.sccs_words.specs.Meaning.{GivesCommand, meaning, first_text, with_name, with_sid, with_number, own_utility, utility_of as utility_spec, line_command as command_spec, words_fault as refusal_spec, line_meaning as line_spec};
+ghost use Rattle.sccs_words.specs.Records.{value_of as value_spec, admin_words as admin_spec, get_words as get_spec, prs_words as prs_spec, operand_words as operands_spec};
 ghost use Rattle.sccs_words.specs.Scan.{end_of};
-ghost use Rattle.sccs_words.specs.Scanned.{line_of};
+ghost use Rattle.sccs_words.specs.Scanned.{command_line};
 ghost use Rattle.sccs_words.specs.ValidValues.{HasValidValues};
 ghost use Rattle.sccs_words.specs.Values.{name_value, sid_value as sid_spec, soak_number as soak_spec};
 
@@ -66,7 +66,7 @@ fn utility_of(word: &[u8]) -> Option<Utility>
 
 // the name of the first operand
 fn first_name(operands: &[Bytes]) -> Option<Name>
-    ensures { result ≡ option_and_then name_value (first_of operands.now) }
+    ensures { result ≡ option_and_then name_value (first_text operands.now) }
 {
     match operands {
         [] => None,
@@ -76,7 +76,8 @@ fn first_name(operands: &[Bytes]) -> Option<Name>
 
 // the number of the first operand
 fn first_number(operands: &[Bytes]) -> Option<u64>
-    ensures { result ≡ option_and_then soak_spec (first_of operands.now) }
+    ensures value { result ≡ option_and_then soak_spec (first_text operands.now) }
+    ensures most { IfSome result (λ n. n ≤ 2000) }
 {
     match operands {
         [] => None,
@@ -85,7 +86,7 @@ fn first_number(operands: &[Bytes]) -> Option<u64>
 }
 
 fn admin_of(alloc: Global, line: &CommandLine<'_>) -> Result<Command, WordsFault>
-    ensures value { Gives result (Ok (commands.Admin (admin_spec line.now.uses.now) (operands_spec line.now.operands.now))) }
+    ensures value { GivesCommand result (Ok (commands.Admin (admin_spec line.now.uses.now) (operands_spec line.now.operands.now))) }
     ensures valid { IfOk result HasValidValues }
 {
     let operands = operands_of(alloc, line.operands)?;
@@ -94,7 +95,7 @@ fn admin_of(alloc: Global, line: &CommandLine<'_>) -> Result<Command, WordsFault
 }
 
 fn get_of(alloc: Global, line: &CommandLine<'_>) -> Result<Command, WordsFault>
-    ensures value { Gives result (Ok (commands.Get (get_spec line.now.uses.now) (operands_spec line.now.operands.now))) }
+    ensures value { GivesCommand result (Ok (commands.Get (get_spec line.now.uses.now) (operands_spec line.now.operands.now))) }
     ensures valid { IfOk result HasValidValues }
 {
     let operands = operands_of(alloc, line.operands)?;
@@ -103,7 +104,7 @@ fn get_of(alloc: Global, line: &CommandLine<'_>) -> Result<Command, WordsFault>
 }
 
 fn prs_of(alloc: Global, line: &CommandLine<'_>) -> Result<Command, WordsFault>
-    ensures value { Gives result (Ok (commands.Prs (prs_spec line.now.uses.now) (operands_spec line.now.operands.now))) }
+    ensures value { GivesCommand result (Ok (commands.Prs (prs_spec line.now.uses.now) (operands_spec line.now.operands.now))) }
     ensures valid { IfOk result HasValidValues }
 {
     let operands = operands_of(alloc, line.operands)?;
@@ -112,7 +113,7 @@ fn prs_of(alloc: Global, line: &CommandLine<'_>) -> Result<Command, WordsFault>
 }
 
 fn delta_of(alloc: Global, line: &CommandLine<'_>) -> Result<Command, WordsFault>
-    ensures value { Gives result (with_name line.now.uses.now (end_of (line_of line.now)) (option_and_then name_value (first_of line.now.operands.now))) }
+    ensures value { GivesCommand result (with_name line.now.uses.now (end_of (command_line line.now)) (option_and_then name_value (first_text line.now.operands.now))) }
     ensures valid { IfOk result HasValidValues }
 {
     match first_name(line.operands) {
@@ -128,7 +129,7 @@ fn delta_of(alloc: Global, line: &CommandLine<'_>) -> Result<Command, WordsFault
 }
 
 fn rmdel_of(alloc: Global, line: &CommandLine<'_>) -> Result<Command, WordsFault>
-    ensures value { Gives result (with_sid line.now.operands.now (end_of (line_of line.now)) (option_and_then sid_spec (value_spec opt.r line.now.uses.now))) }
+    ensures value { GivesCommand result (with_sid line.now.operands.now (end_of (command_line line.now)) (option_and_then sid_spec (value_spec opt.r line.now.uses.now))) }
     ensures valid { IfOk result HasValidValues }
 {
     match sid_at(line.uses, b'r') {
@@ -144,7 +145,7 @@ fn rmdel_of(alloc: Global, line: &CommandLine<'_>) -> Result<Command, WordsFault
 }
 
 fn soak_of(line: &CommandLine<'_>) -> Result<Command, WordsFault>
-    ensures value { Gives result (with_number (end_of (line_of line.now)) (option_and_then soak_spec (first_of line.now.operands.now))) }
+    ensures value { GivesCommand result (with_number (end_of (command_line line.now)) (option_and_then soak_spec (first_text line.now.operands.now))) }
     ensures valid { IfOk result HasValidValues }
 {
     match first_number(line.operands) {
@@ -162,7 +163,7 @@ fn command_of(
     utility: Utility,
     line: &CommandLine<'_>,
 ) -> Result<Command, WordsFault>
-    ensures value { Gives result (command_spec utility (line_of line.now) (end_of (line_of line.now))) }
+    ensures value { GivesCommand result (command_spec utility (command_line line.now) (end_of (command_line line.now))) }
     ensures valid { IfOk result HasValidValues }
 {
     let uses = line.uses;
@@ -189,7 +190,7 @@ fn refusal_of(
     utility: Utility,
     line: &CommandLine<'_>,
 ) -> Result<Option<Usage>, Memory>
-    ensures { IfOk result (λ r. r ≡ refusal_spec utility (line_of line.now) (end_of (line_of line.now))) }
+    ensures { IfOk result (λ r. r ≡ refusal_spec utility (command_line line.now) (end_of (command_line line.now))) }
 {
     match utility {
         Utility::Val => Ok(None),
@@ -203,7 +204,7 @@ fn line_meaning(
     utility: Utility,
     line: &CommandLine<'_>,
 ) -> Result<Command, WordsFault>
-    ensures value { Gives result (line_spec utility (line_of line.now) (end_of (line_of line.now))) }
+    ensures value { GivesCommand result (line_spec utility (command_line line.now) (end_of (command_line line.now))) }
     ensures valid { IfOk result HasValidValues }
 {
     let fault = refusal_of(alloc, utility, line)?;
@@ -218,7 +219,7 @@ fn line_meaning(
 /// is a valid one.
 #[tactic(auto, unfolding(crate::specs::Meaning::meaning))]
 pub fn read_words(alloc: Global, words: &Words) -> Result<Command, WordsFault>
-    ensures value { Gives result (meaning words.now) }
+    ensures value { GivesCommand result (meaning words.now) }
     ensures valid { IfOk result HasValidValues }
 {
     let (utility, rest) = match words.items() {

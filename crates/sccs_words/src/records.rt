@@ -5,9 +5,9 @@ ghost use Rattle.sccs_sid.specs.Spec.{IsSpec};
 ghost use Rattle.sccs_sid.specs.SidLists.{IsRange};
 ghost use Rattle.sccs_sid.specs.Moment.{IsMoment};
 ghost use Rattle.sccs_words.specs.ValidValues.{AreGetValues, ArePrsValues};
-ghost use Rattle.sccs_words.specs.Records.{value_in as value_in_spec, value_of as value_spec, values_of as values_spec, mrs_of, lines_in, given_of as given_spec, comment_of as comment_spec, get_words as get_spec, delta_words as delta_spec, unget_words as unget_spec, prs_words as prs_spec, admin_words as admin_spec, val_words as val_spec, operands_of as operands_spec, is_from_input as is_from_input_spec, is_option_fault, bit as bit_spec};
+ghost use Rattle.sccs_words.specs.Records.{value_in as value_in_spec, value_of as value_spec, values_of as values_spec, mrs_of, option_lines, given_of as given_spec, comment_of as comment_spec, get_words as get_spec, delta_line_words as delta_spec, unget_words as unget_spec, prs_words as prs_spec, admin_words as admin_spec, val_words as val_spec, operand_words as operands_spec, is_from_input as is_from_input_spec, is_option_fault, usage_bit as bit_spec};
 ghost use Rattle.sccs_words.specs.Values.{sid_value as sid_spec, spec_value as spec_spec, moment_value as moment_spec, list_value as list_spec, release_value as release_spec, name_value};
-ghost use Rattle.sccs_words.specs.Scanned.{line_of};
+ghost use Rattle.sccs_words.specs.Scanned.{command_line};
 
 use crate::command_lines::CommandLine;
 use crate::commands::{
@@ -159,7 +159,7 @@ fn mrs_at(alloc: Global, uses: &[Use], letter: u8) -> Result<Words, Memory>
 }
 
 fn lines_at(alloc: Global, uses: &[Use], letter: u8) -> Result<Text, Memory>
-    ensures { IfOk result (λ r. r ≡ lines_in (value_spec letter uses.now)) }
+    ensures { IfOk result (λ r. r ≡ option_lines (value_spec letter uses.now)) }
 {
     match value_of(uses, letter) {
         Some(bytes) => Text::read(alloc, bytes),
@@ -314,7 +314,7 @@ pub fn operands_of(alloc: Global, words: &[Bytes]) -> Result<Operands, Memory>
 
 // whether an option of val is at fault, or `-` stands with another operand
 fn has_option_fault(alloc: Global, line: &CommandLine<'_>) -> Result<bool, Memory>
-    ensures { IfOk result (λ r. r ≡ is_option_fault (line_of line.now)) }
+    ensures { IfOk result (λ r. r ≡ is_option_fault (command_line line.now)) }
 {
     let of_uses = uses_fault(alloc, Utility::Val, line.uses)?;
     let of_operands = operands_fault(OperandRule::Many, line);
@@ -330,7 +330,7 @@ fn bit(holds: bool, value: u8) -> u8
 
 // the bits of the faults of val's words
 fn val_fault(alloc: Global, line: &CommandLine<'_>) -> Result<u8, Memory>
-    ensures { IfOk result (λ r. r ≡ bit_spec (is_option_fault (line_of line.now)) 64 + bit_spec (is_empty line.now.operands.now) 128) }
+    ensures { IfOk result (λ r. r ≡ bit_spec (is_option_fault (command_line line.now)) 64 + bit_spec (is_empty line.now.operands.now) 128) }
 {
     let option = bit(has_option_fault(alloc, line)?, OPTION_FAULT);
     let none = bit(line.operands.is_empty(), NO_OPERAND_BIT);
@@ -338,7 +338,7 @@ fn val_fault(alloc: Global, line: &CommandLine<'_>) -> Result<u8, Memory>
 }
 
 pub fn val_words(alloc: Global, line: &CommandLine<'_>) -> Result<ValWords, Memory>
-    ensures { IfOk result (λ r. r ≡ val_spec (line_of line.now)) }
+    ensures { IfOk result (λ r. r ≡ val_spec (command_line line.now)) }
 {
     let fault = val_fault(alloc, line)?;
     let operands = operands_of(alloc, line.operands)?;

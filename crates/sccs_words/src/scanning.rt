@@ -1,6 +1,6 @@
 ghost use Rattle.std.specs.Prelude.{◌≡◌, ℕ, ◌+◌, ◌^◌, ◌<◌, ◌≤◌, List, [], None, length, drop, IfOk};
 ghost use Rattle.sccs_words.specs.Synopsis.{find_option as find_option_spec};
-ghost use Rattle.sccs_words.specs.Scan.{turn as turn_spec, letters as letters_spec, scanned, kind_of, in_word as in_word_spec, in_next as in_next_spec};
+ghost use Rattle.sccs_words.specs.Scan.{turn as turn_spec, letters as letters_spec, scanned, word_kind, in_word as in_word_spec, in_next as in_next_spec};
 ghost use Rattle.sccs_words.specs.Scanned.{kind_view, line_view};
 
 use crate::tables::OptionSpec;
@@ -157,7 +157,7 @@ fn letters(
 
 // what a word is, where an option may stand
 fn word_kind(word: &[u8]) -> WordKind<'_>
-    ensures { kind_view result ≡ kind_of word.now }
+    ensures { kind_view result ≡ word_kind word.now }
 {
     match word {
         [b'-'] => WordKind::Operand,

@@ -3,8 +3,8 @@ ghost use Rattle.sccs_sid.specs.Sid.{IsComponent, IsSid};
 ghost use Rattle.sccs_sid.specs.Spec.{IsSpec};
 ghost use Rattle.sccs_sid.specs.SidLists.{IsRange};
 ghost use Rattle.sccs_sid.specs.Moment.{IsMoment};
-ghost use Rattle.sccs_words.specs.MrWords.{is_gap as is_gap_spec, ended, split_from, mr_words as mr_words_spec};
-ghost use Rattle.sccs_words.specs.Values.{sid_value as sid_spec, spec_value as spec_spec, moment_value as moment_spec, list_value as list_spec, release_value as release_spec, soak_number as soak_spec, number_value as number_spec, is_user as is_user_spec, fits};
+ghost use Rattle.sccs_words.specs.MrWords.{is_gap as is_gap_spec, ended_word, split_from, mr_words as mr_words_spec};
+ghost use Rattle.sccs_words.specs.Values.{sid_value as sid_spec, spec_value as spec_spec, moment_value as moment_spec, list_value as list_spec, release_value as release_spec, soak_number as soak_spec, number_value as number_spec, is_user as is_user_spec, value_fits};
 
 use crate::tables::Form;
 use sccs_base::{Bytes, Login, Memory, Name, Words};
@@ -83,7 +83,8 @@ pub fn release_value(bytes: &[u8]) -> Option<u16>
 }
 
 pub fn soak_number(bytes: &[u8]) -> Option<u64>
-    ensures { result ≡ soak_spec bytes.now }
+    ensures value { result ≡ soak_spec bytes.now }
+    ensures most { IfSome result (λ n. n ≤ 2000) }
 {
     match number_value(MOST_STEPS, bytes) {
         Some(steps) => Some(u64::from(steps)),
@@ -118,7 +119,7 @@ pub fn push_copy(alloc: Global, words: &mut Words, bytes: &[u8]) -> Result<(), M
 
 // puts a word after others, unless it is empty
 fn end_word(alloc: Global, words: &mut Words, word: &mut Vec<u8>) -> Result<(), Memory>
-    ensures { OnOk result ((words.new ≡ ended words.old word.old.items) × (word.new.items ≡ [])) }
+    ensures { OnOk result ((words.new ≡ ended_word words.old word.old.items) × (word.new.items ≡ [])) }
 {
     if word.is_empty() {
         return Ok(());
@@ -148,7 +149,7 @@ pub fn mr_words(alloc: Global, bytes: &[u8]) -> Result<Words, Memory>
 
 /// Whether a value is one of its form.
 pub fn form_fits(alloc: Global, form: Form, bytes: &[u8]) -> Result<bool, Memory>
-    ensures { IfOk result (λ r. r ≡ fits form bytes.now) }
+    ensures { IfOk result (λ r. r ≡ value_fits form bytes.now) }
 {
     match form {
         Form::Any => Ok(true),

@@ -2,7 +2,7 @@
 use Rattle.std.proofs.Common.{◌≡◌, ℕ, ◌⊎◌, cond, List, [], ◌∷◌, ◌++◌, Option, None, Some, option_map, IfSome, IsSome, inl, inr, refl, sym, ap, subst, ◌∙◌, append_assoc}
 use Rattle.std.specs.Str.{bytes_eq}
 use Rattle.sccs_base.proofs.SameBytes.{same_bytes}
-use Rattle.sccs_disk.specs.Files.{Content, File, View, Model, Op, Names, names, after}
+use Rattle.sccs_disk.specs.Files.{Content, File, View, Model, Op, Names, names, names_after}
 use Rattle.sccs_disk.specs.Told.{Told, Tells, seen}
 use Rattle.sccs_disk.specs.Effects.{altered, changed, firm, loose, syncing, synced, writing}
 use Rattle.sccs_disk.specs.Calls.{Done, Half}
@@ -18,7 +18,7 @@ but_itself : (n : List ℕ) (m : Model) → IsBut n m m
 but_itself n m = record { base = refl; pending = refl; count = refl; others = λ p other. refl }
 
 names_of : (m m2 : Model) (n : List ℕ) → m2.base ≡ m.base → m2.pending ≡ m.pending → names m2 n ≡ names m n
-names_of m m2 n base pending = ap (λ (b : Names). after m2.pending b n) base ∙ ap (λ (ops : List Op). after ops m.base n) pending
+names_of m m2 n base pending = ap (λ (b : Names). names_after m2.pending b n) base ∙ ap (λ (ops : List Op). names_after ops m.base n) pending
 
 but_both : (n : List ℕ) (m m2 m3 : Model) → IsBut n m m2 → IsBut n m2 m3 → IsBut n m m3
 but_both n m m2 m3 a b = record {

@@ -7,5 +7,5 @@ abbrev pub writer_of : Inside → Writer
 writer_of w = record { name = w.name; held = take w.len w.piece; sums = w.sum }
 
 -- they stand at the start of a piece
-abbrev pub IsWithin : Inside → Type 0
-IsWithin w = w.len ≤ 4096
+abbrev pub IsWithinPiece : Inside → Type 0
+IsWithinPiece w = w.len ≤ 4096

@@ -27,11 +27,11 @@ impl Model for PieceWriter {
 
     ghost Value = { Writer };
 
-    ghost use Rattle.sccs_writers.specs.HeldBytes.{writer_of, IsWithin};
+    ghost use Rattle.sccs_writers.specs.HeldBytes.{writer_of, IsWithinPiece};
 
     ghost view = { writer_of };
 
-    ghost invariant = { IsWithin };
+    ghost invariant = { IsWithinPiece };
 }
 
 // appends bytes to the file of a name, and adds them to the sums

@@ -2,7 +2,7 @@ ghost use Rattle.std.specs.Prelude.{◌≡◌, ◌∷◌, [], true, IfOk};
 ghost use Rattle.std.specs.List.{AllByRecursion};
 ghost use Rattle.sccs_history.specs.Applied.{live_serials};
 ghost use Rattle.sccs_history.specs.Numbers.{has};
-ghost use Rattle.sccs_weave.specs.Samples.{crossing_table, plain};
+ghost use Rattle.sccs_weave.specs.Samples.{crossing_table, plain_record};
 
 use sccs_base::{Line, ListOf, Login, Memory, Text};
 use sccs_history::{Flags, Header, Item, Moment, Record, Records, Serials, Sid};
@@ -12,7 +12,7 @@ use std::alloc::Global;
 use std::test::Fail;
 
 fn plain(alloc: Global, serial: u16, predecessor: u16) -> Record
-    ensures { result ≡ plain serial predecessor }
+    ensures { result ≡ plain_record serial predecessor }
 {
     let sid = Sid {
         release: 1,

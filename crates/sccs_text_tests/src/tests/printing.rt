@@ -3,7 +3,7 @@ ghost use Rattle.sccs_base.specs.Name.{IsSfile};
 ghost use Rattle.sccs_disk.specs.MemoryDisks.{disk_call};
 ghost use Rattle.sccs_history.specs.History.{IsHeader};
 ghost use Rattle.sccs_keys.specs.Expansion.{HasMoments};
-ghost use Rattle.sccs_texts.specs.Forms.{form_of};
+ghost use Rattle.sccs_texts.specs.Forms.{line_form};
 
 use crate::tests::samples::{facts, trunk};
 use sccs_base::{Line, MemorySink, Name};
@@ -83,7 +83,7 @@ fn printed_on(
     form: &LineForm,
     out: &mut MemorySink,
 ) -> Result<Result<Shown, StepFault>, Fail>
-    requires { IfSome (form_of form.now).facts HasMoments }
+    requires { IfSome (line_form form.now).facts HasMoments }
 {
     let s_file = name(b"s.a")?;
     let version = version_of(alloc, disk, level)?;
@@ -105,7 +105,7 @@ fn printed(
     form: &LineForm,
     out: &mut MemorySink,
 ) -> Result<Result<Shown, StepFault>, Fail>
-    requires { IfSome (form_of form.now).facts HasMoments }
+    requires { IfSome (line_form form.now).facts HasMoments }
 {
     let mut disk = folder(alloc, &[])?;
     printed_on(alloc, &mut disk, level, form, out)
@@ -119,7 +119,7 @@ fn prints(
     wanted: &[u8],
     found: Shown,
 ) -> Result<bool, Fail>
-    requires { IfSome (form_of form.now).facts HasMoments }
+    requires { IfSome (line_form form.now).facts HasMoments }
 {
     let mut out = MemorySink::new(alloc, 200, &[])?;
     let shown = printed(alloc, level, form, &mut out)?;
@@ -178,7 +178,7 @@ fn made_on(
     mode: Mode,
 ) -> Result<Result<Shown, StepFault>, Fail>
     requires sfile { IsSfile s_file.now }
-    requires facts { IfSome (form_of form.now).facts HasMoments }
+    requires facts { IfSome (line_form form.now).facts HasMoments }
 {
     let version = version_of(alloc, disk, 2)?;
     Ok(make_y(
@@ -201,7 +201,7 @@ fn makes_on(
     wanted: &[u8],
     writable: bool,
 ) -> Result<bool, Fail>
-    requires facts { IfSome (form_of form.now).facts HasMoments }
+    requires facts { IfSome (line_form form.now).facts HasMoments }
     requires first { disk_call disk.old ≡ 0 }
 {
     let Some(s_file) = Name::read_sfile(b"s.a") else {
@@ -225,7 +225,7 @@ fn makes(
     wanted: &[u8],
     writable: bool,
 ) -> Result<bool, Fail>
-    requires { IfSome (form_of form.now).facts HasMoments }
+    requires { IfSome (line_form form.now).facts HasMoments }
 {
     let mut disk = folder(alloc, &[])?;
     makes_on(alloc, &mut disk, form, mode, wanted, writable)

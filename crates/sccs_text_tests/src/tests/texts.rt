@@ -2,7 +2,7 @@ ghost use Rattle.std.specs.Prelude.{◌≡◌, IfOk, IfSome};
 ghost use Rattle.sccs_history.specs.Applied.{serials_of};
 ghost use Rattle.sccs_history.specs.Numbers.{Falls};
 ghost use Rattle.sccs_keys.specs.Expansion.{HasMoments};
-ghost use Rattle.sccs_texts.specs.Forms.{form_of};
+ghost use Rattle.sccs_texts.specs.Forms.{line_form};
 
 use crate::tests::samples::{facts, trunk};
 use sccs_base::{Line, Login, Memory, MemorySink, Sink, Text};
@@ -46,7 +46,7 @@ fn table(alloc: Global) -> Result<Vec<Record>, Memory>
 
 // whether four lines are given so
 fn gives(alloc: Global, form: &LineForm, wanted: &[u8]) -> Result<bool, Fail>
-    requires { IfSome (form_of form.now).facts HasMoments }
+    requires { IfSome (line_form form.now).facts HasMoments }
 {
     let records = table(alloc)?;
     let mut sids = SidFinder::new(&records);

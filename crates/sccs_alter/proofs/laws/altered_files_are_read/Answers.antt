@@ -3,4 +3,4 @@ use Rattle.sccs_alter.proofs.StopLaws.{altered_reads}
 use Rattle.sccs_alter.proofs.laws.altered_files_are_read.Goals as goal
 
 pub returns : goal.returns
-returns c = record { reads = altered_reads; records = altered_records }
+returns c = record { reads = λ words. altered_reads words.fix words; records = altered_records }

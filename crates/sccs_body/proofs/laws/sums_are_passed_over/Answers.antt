@@ -1,4 +1,4 @@
-use Rattle.sccs_body.proofs.AnySumLaws.{passed_over}
+use Rattle.sccs_grammar.proofs.AnySumLaws.{passed_over}
 use Rattle.sccs_body.proofs.laws.sums_are_passed_over.Goals as goal
 
 pub returns : goal.returns

@@ -4,7 +4,7 @@ use Rattle.sccs_disk.specs.Told.{seen}
 use Rattle.sccs_history.specs.Body.{HistoryLine}
 use Rattle.sccs_table.specs.ReaderState.{bytes_in}
 use Rattle.sccs_versions.specs.Coming.{Coming}
-use Rattle.sccs_versions.specs.Place.{name_of, steps_left}
+use Rattle.sccs_versions.specs.Place.{name_of, steps_to_end}
 use Rattle.sccs_copies.specs.Examining.{ExaminesSome}
 use Rattle.sccs_copies.proofs.examining.see_all.Given as goal
 
@@ -24,4 +24,4 @@ invariant-lines g l = record {
 
 -- what is left of the file
 abbrev pub decreases-lines : goal.decreases-lines
-decreases-lines g l = steps_left l.version
+decreases-lines g l = steps_to_end l.version

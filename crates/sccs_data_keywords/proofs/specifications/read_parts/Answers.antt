@@ -1,5 +1,5 @@
 use Rattle.std.proofs.Common.{◌≡◌, ◌+◌, ◌-◌, ◌++◌, List, drop, length, length-take, length-drop, ap, arith, ◌∙◌}
-use Rattle.sccs_data_keywords.specs.DataKeywords.{parts}
+use Rattle.sccs_data_keywords.specs.DataKeywords.{data_parts}
 use Rattle.sccs_data_keywords.specs.declared.keywords.Part.{Part}
 use Rattle.sccs_data_keywords.proofs.PartLaws.{all_read, turn_read}
 use Rattle.sccs_data_keywords.proofs.specifications.read_parts.Goals as goal
@@ -9,7 +9,7 @@ parts-preserved c =
     let spec = c.args.spec.now in
     record {
       fits = omega (arith, c.found_part-found.ensures.fits, length-take (length spec - (c.parts.from + 1)) (drop (c.parts.from + 1) spec), length-drop (c.parts.from + 1) spec, c.parts-test.true);
-      read = ap (λ (r : List Part). r ++ parts (drop (c.parts.from + (1 + c.found_part-found.result.behind)) spec)) c.in_ok-push.ensures.items
+      read = ap (λ (r : List Part). r ++ data_parts (drop (c.parts.from + (1 + c.found_part-found.result.behind)) spec)) c.in_ok-push.ensures.items
           ∙ turn_read spec c.parts.read.items c.parts.from c.found_part-found.result c.parts-test.true c.found_part-found.ensures.value c.parts.invariant.read;
     }
 

@@ -1,7 +1,7 @@
 use Rattle.std.proofs.lemmas.Result.{err_from_is_err_and}
 use Rattle.std.proofs.Common.{[], refl, ◌∙◌}
 use Rattle.sccs_edits.specs.Places.{told_behind}
-use Rattle.sccs_splicer.specs.Splices.{owed}
+use Rattle.sccs_splicer.specs.Splices.{items_owed}
 use Rattle.sccs_files.specs.StepFiles.{is_working}
 use Rattle.sccs_store.proofs.Working.{same_touches}
 use Rattle.sccs_delta.proofs.ScriptLaws.{made_speaks}
@@ -18,7 +18,7 @@ pub returns-clause-told : goal.returns-clause-told
 returns-clause-told g c = λ bytes items e told is at lines.
     delta_made c.args.words.now c.args.stamp.now c.args.name.now c.args.pending.front.header items c.args.pending.edits (record { number = c.args.chosen.number; edit = e; base = c.args.chosen.base }) c.args.script.now c.args.found.now.lines c.args.found.now.keyword c.in_ok-file.file c.in-Ok.said.report c.in-Ok.said.message c.write_files.result _ _
     lines (c.in_ok-file.ensures.makes e at) c.in-Ok.ensures.report c.in-Ok.ensures.message
-    (c.write_files.ensures.told bytes (owed c.in_ok-file.file.copying.filter.splicer (told_behind c.args.chosen.base.set [] items)) told (c.in_ok-file.ensures.told bytes items is lines))
+    (c.write_files.ensures.told bytes (items_owed c.in_ok-file.file.copying.filter.splicer (told_behind c.args.chosen.base.set [] items)) told (c.in_ok-file.ensures.told bytes items is lines))
 
 pub returns-in_err-file-clause-touches : goal.returns-in_err-file-clause-touches
 returns-in_err-file-clause-touches g c = same_touches (is_working c.args.name.now) _ _ refl

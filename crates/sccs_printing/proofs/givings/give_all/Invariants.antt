@@ -4,7 +4,7 @@ use Rattle.sccs_history.specs.Body.{HistoryLine}
 use Rattle.sccs_history.specs.declared.headers.Item.{Item}
 use Rattle.sccs_table.specs.ReaderState.{bytes_in}
 use Rattle.sccs_versions.specs.Coming.{Coming}
-use Rattle.sccs_versions.specs.Place.{name_of, steps_left}
+use Rattle.sccs_versions.specs.Place.{name_of, steps_to_end}
 use Rattle.sccs_versions.specs.WasRead.{HasRead}
 use Rattle.sccs_printing.specs.Giving.{KeepsForm, Moved, ReadSome}
 use Rattle.sccs_printing.specs.Targets.{KeepsTargetMark, Reaches, file_of, target_bytes}
@@ -28,4 +28,4 @@ invariant-lines g l = record {
 
 -- what is left of the file
 abbrev pub decreases-lines : goal.decreases-lines
-decreases-lines g l = steps_left l.version
+decreases-lines g l = steps_to_end l.version

@@ -2,7 +2,7 @@ use Rattle.std.proofs.Common.{Ok, [], ◌∷◌, ◌+◌, sym, subst}
 use Rattle.sccs_base.specs.Stream.{Buffers}
 use Rattle.sccs_disk.specs.Told.{Told}
 use Rattle.sccs_texts.specs.Forms.{formed_lines}
-use Rattle.sccs_versions.specs.Coming.{GivesNext}
+use Rattle.sccs_versions.specs.Coming.{GivesNextLine}
 use Rattle.sccs_versions.specs.declared.readers.Next.{Next}
 use Rattle.sccs_versions.specs.WasRead.{ReadsNext}
 use Rattle.sccs_printing.specs.Giving.{CutsLines, Gave, Moved, ReadSome, ReadWhole, giving_form}
@@ -15,7 +15,7 @@ returns-in-Ok-clause-gives g c = λ file lines told p.
     let target = c.args.giving.now.target in
     let b = target_bytes (file_of target) (g.O.Sink.given c.give_line.new.out) (g.D.Disk.told c.give_line.new.disk) in
     next_given file c.next.new.self c.in-Ok-Line.line c.inserter.result lines c.args.giving.now c.give_line.new.self _ b c.inserter.ensures
-    (subst (λ (n : Next). GivesNext file c.next.new.self lines (Ok n)) c.in-Ok-Line.field-0-is (c.in-Ok-Line.ensures.told file lines told p))
+    (subst (λ (n : Next). GivesNextLine file c.next.new.self lines (Ok n)) c.in-Ok-Line.field-0-is (c.in-Ok-Line.ensures.told file lines told p))
     (subst (λ (t : Told). Buffers (held_back target) (formed_lines (giving_form c.args.giving.now) c.args.giving.now.sids (c.args.giving.now.shown.lines + 1) c.inserter.result (c.in-Ok-Line.line ∷ [])) (held_back c.give_line.new.self.target) (target_bytes (file_of target) (g.O.Sink.given c.args.out.now) t) b) c.in-Ok-Line.ensures.frame.same c.in-Ok.ensures.gives) c.in-Ok.ensures.shown
 
 pub returns-in-Ok-clause-read : goal.returns-in-Ok-clause-read
@@ -31,14 +31,14 @@ returns-in-Ok-Line-clause-gives g c = λ file lines told p.
     let target = c.args.giving.now.target in
     let b = target_bytes (file_of target) (g.O.Sink.given c.give_line.new.out) (g.D.Disk.told c.give_line.new.disk) in
     next_cut file c.next.new.self c.in-Ok-Line.line c.inserter.result lines c.in-Err-give_line.fault c.args.giving.now c.give_line.new.self _ b c.inserter.ensures
-    (subst (λ (n : Next). GivesNext file c.next.new.self lines (Ok n)) c.in-Ok-Line.field-0-is (c.in-Ok-Line.ensures.told file lines told p))
+    (subst (λ (n : Next). GivesNextLine file c.next.new.self lines (Ok n)) c.in-Ok-Line.field-0-is (c.in-Ok-Line.ensures.told file lines told p))
     (subst (λ (t : Told). Cuts (file_of target) (formed_lines (giving_form c.args.giving.now) c.args.giving.now.sids (c.args.giving.now.shown.lines + 1) c.inserter.result (c.in-Ok-Line.line ∷ [])) c.in-Err-give_line.fault (held_back target) (held_back c.give_line.new.self.target) (target_bytes (file_of target) (g.O.Sink.given c.args.out.now) t) b) c.in-Ok-Line.ensures.frame.same c.in-Err-give_line.ensures.gives)
 
 pub returns-in-Ok-Hidden-clause-gives : goal.returns-in-Ok-Hidden-clause-gives
 returns-in-Ok-Hidden-clause-gives g c = λ file lines told p.
     let to = target_bytes (file_of c.args.giving.now.target) (g.O.Sink.given c.args.out.now) in
     subst (λ (t : Told). Moved file c.next.new.self lines c.args.giving.now c.args.giving.now (to (g.D.Disk.told c.args.disk.now)) (to t)) (sym c.in-Ok-Hidden.ensures.frame.same)
-    (moved_none file c.next.new.self lines c.args.giving.now (to (g.D.Disk.told c.args.disk.now)) (subst (λ (n : Next). GivesNext file c.next.new.self lines (Ok n)) c.in-Ok-Hidden.field-0-is (c.in-Ok-Hidden.ensures.told file lines told p)))
+    (moved_none file c.next.new.self lines c.args.giving.now (to (g.D.Disk.told c.args.disk.now)) (subst (λ (n : Next). GivesNextLine file c.next.new.self lines (Ok n)) c.in-Ok-Hidden.field-0-is (c.in-Ok-Hidden.ensures.told file lines told p)))
 
 pub returns-in-Ok-Hidden-clause-read : goal.returns-in-Ok-Hidden-clause-read
 returns-in-Ok-Hidden-clause-read g c = λ live before h.
@@ -50,7 +50,7 @@ pub returns-in-Ok-End-clause-gives : goal.returns-in-Ok-End-clause-gives
 returns-in-Ok-End-clause-gives g c = λ file lines told p.
     let to = target_bytes (file_of c.args.giving.now.target) (g.O.Sink.given c.args.out.now) in
     subst (λ (t : Told). Gave lines c.args.giving.now c.args.giving.now (to (g.D.Disk.told c.args.disk.now)) (to t)) (sym c.in-Ok-End.ensures.frame.same)
-    (none_next lines c.args.giving.now (to (g.D.Disk.told c.args.disk.now)) (subst (λ (n : Next). GivesNext file c.next.new.self lines (Ok n)) c.in-Ok-End.field-0-is (c.in-Ok-End.ensures.told file lines told p)))
+    (none_next lines c.args.giving.now (to (g.D.Disk.told c.args.disk.now)) (subst (λ (n : Next). GivesNextLine file c.next.new.self lines (Ok n)) c.in-Ok-End.field-0-is (c.in-Ok-End.ensures.told file lines told p)))
 
 pub returns-in-Ok-End-clause-read : goal.returns-in-Ok-End-clause-read
 returns-in-Ok-End-clause-read g c = λ live before h.

@@ -3,7 +3,7 @@ use Rattle.sccs_disk.specs.Told.{seen}
 use Rattle.sccs_history.specs.Body.{HistoryLine}
 use Rattle.sccs_table.specs.ReaderState.{bytes_in}
 use Rattle.sccs_versions.specs.Coming.{Coming}
-use Rattle.sccs_versions.specs.Place.{name_of, steps_left}
+use Rattle.sccs_versions.specs.Place.{name_of, steps_to_end}
 use Rattle.sccs_printing.specs.Searching.{Searched}
 use Rattle.sccs_printing.proofs.keyword_search.search_all.Given as goal
 
@@ -18,4 +18,4 @@ invariant-lines g l = record {
 
 -- what is left of the file
 abbrev pub decreases-lines : goal.decreases-lines
-decreases-lines g l = steps_left l.version
+decreases-lines g l = steps_to_end l.version

@@ -2,7 +2,7 @@ use Rattle.std.proofs.Common.{◌∙◌, ap, rules, subst}
 use Rattle.sccs_disk.specs.Told.{seen}
 use Rattle.sccs_history.specs.Body.{lines_of}
 use Rattle.sccs_table.specs.ReaderState.{bytes_in}
-use Rattle.sccs_texts.specs.Forms.{form_of}
+use Rattle.sccs_texts.specs.Forms.{line_form}
 use Rattle.sccs_versions.specs.Coming.{shown}
 use Rattle.sccs_printing.specs.Targets.{Reaches, file_of}
 use Rattle.sccs_printing.proofs.TurnLaws.{reach_on}
@@ -23,23 +23,23 @@ returns-clause-frame g c = record {
 
 pub returns-clause-prints : goal.returns-clause-prints
 returns-clause-prints g c = λ file items is.
-    let begun : Begun (form_of c.args.form.now) c.args.front.now.header.records c.args.target c.new-giving.result =
+    let begun : Begun (line_form c.args.form.now) c.args.front.now.header.records c.args.target c.new-giving.result =
     record { form_is = c.new-giving.ensures.form; records_are = c.new-giving.ensures.sids ∙ c.items.ensures; shown_is = c.new-giving.ensures.shown; target_is = c.new-giving.ensures.target; empty = c.requires.target.empty } in
     let lines = shown c.args.set.now (lines_of items) in
     let gives = c.give_all-given.ensures.gives file lines (ap (λ name. bytes_in (seen (g.D.Disk.told c.args.disk.now)) name) c.in-Ok.ensures.name ∙ is.told_is) (c.in-Ok.ensures.coming _ file items is) in
-    printed (form_of c.args.form.now) c.args.front.now.header.records lines c.give_all-given.result c.finish.result c.args.target c.new-giving.result c.give_all-given.new.giving (g.O.Sink.given c.args.out.now) (g.O.Sink.given c.give_all-given.new.out) (g.O.Sink.given c.finish.new.out) (g.D.Disk.told c.args.disk.now) (g.D.Disk.told c.give_all-given.new.disk) (g.D.Disk.told c.finish.new.disk) begun c.give_all-given.ensures.keeps gives c.finish.ensures.prints
+    printed (line_form c.args.form.now) c.args.front.now.header.records lines c.give_all-given.result c.finish.result c.args.target c.new-giving.result c.give_all-given.new.giving (g.O.Sink.given c.args.out.now) (g.O.Sink.given c.give_all-given.new.out) (g.O.Sink.given c.finish.new.out) (g.D.Disk.told c.args.disk.now) (g.D.Disk.told c.give_all-given.new.disk) (g.D.Disk.told c.finish.new.disk) begun c.give_all-given.ensures.keeps gives c.finish.ensures.prints
 
 pub returns-clause-found : goal.returns-clause-found
 returns-clause-found g c = λ file items is.
-    let begun : Begun (form_of c.args.form.now) c.args.front.now.header.records c.args.target c.new-giving.result =
+    let begun : Begun (line_form c.args.form.now) c.args.front.now.header.records c.args.target c.new-giving.result =
     record { form_is = c.new-giving.ensures.form; records_are = c.new-giving.ensures.sids ∙ c.items.ensures; shown_is = c.new-giving.ensures.shown; target_is = c.new-giving.ensures.target; empty = c.requires.target.empty } in
     let lines = shown c.args.set.now (lines_of items) in
     let gives = c.give_all-given.ensures.gives file lines (ap (λ name. bytes_in (seen (g.D.Disk.told c.args.disk.now)) name) c.in-Ok.ensures.name ∙ is.told_is) (c.in-Ok.ensures.coming _ file items is) in
-    found (form_of c.args.form.now) c.args.front.now.header.records lines c.give_all-given.result c.finish.result c.args.target c.new-giving.result c.give_all-given.new.giving _ _ begun gives c.finish.ensures.given c.finish.ensures.shown
+    found (line_form c.args.form.now) c.args.front.now.header.records lines c.give_all-given.result c.finish.result c.args.target c.new-giving.result c.give_all-given.new.giving _ _ begun gives c.finish.ensures.given c.finish.ensures.shown
 
 pub returns-clause-whole : goal.returns-clause-whole
 returns-clause-whole g c =
-    let begun : Begun (form_of c.args.form.now) c.args.front.now.header.records c.args.target c.new-giving.result =
+    let begun : Begun (line_form c.args.form.now) c.args.front.now.header.records c.args.target c.new-giving.result =
     record { form_is = c.new-giving.ensures.form; records_are = c.new-giving.ensures.sids ∙ c.items.ensures; shown_is = c.new-giving.ensures.shown; target_is = c.new-giving.ensures.target; empty = c.requires.target.empty } in
-    printed_whole (form_of c.args.form.now) c.args.front.now.header.records c.args.set.now c.in-Ok.version c.give_all-given.result c.finish.result c.args.target c.new-giving.result c.give_all-given.new.giving (g.O.Sink.given c.args.out.now) (g.O.Sink.given c.give_all-given.new.out) (g.O.Sink.given c.finish.new.out) (g.D.Disk.told c.args.disk.now) (g.D.Disk.told c.give_all-given.new.disk) (g.D.Disk.told c.finish.new.disk) begun c.give_all-given.ensures.keeps
+    printed_whole (line_form c.args.form.now) c.args.front.now.header.records c.args.set.now c.in-Ok.version c.give_all-given.result c.finish.result c.args.target c.new-giving.result c.give_all-given.new.giving (g.O.Sink.given c.args.out.now) (g.O.Sink.given c.give_all-given.new.out) (g.O.Sink.given c.finish.new.out) (g.D.Disk.told c.args.disk.now) (g.D.Disk.told c.give_all-given.new.disk) (g.D.Disk.told c.finish.new.disk) begun c.give_all-given.ensures.keeps
     c.in-Ok.ensures.set c.in-Ok.ensures.read c.give_all-given.ensures.read c.finish.ensures.given c.finish.ensures.shown c.finish.ensures.prints

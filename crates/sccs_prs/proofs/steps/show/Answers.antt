@@ -10,7 +10,7 @@ returns-in-Err-clause-shows g c = file_ends c.args.words.now c.args.place.now c.
 
 pub returns-in-Err-chosen_of-clause-shows : goal.returns-in-Err-chosen_of-clause-shows
 returns-in-Err-chosen_of-clause-shows g c =
-    unchosen_ends c.args.words.now c.args.place.now c.args.name.now (seen (g.D.Disk.told c.args.disk.now)) c.in-Ok.front (g.O.Sink.given c.args.out.now) c.in-Ok.ensures.told
+    unchosen_ends c.args.words.now c.args.place.now c.args.name.now (seen (g.D.Disk.told c.args.disk.now)) c.in-Ok.front (g.O.Sink.given c.args.out.now) c.in-Ok.ensures.placed c.in-Ok.ensures.told
     (ap (λ (l : List Record). chosen_of c.args.words.now l) (sym c.items.ensures) ∙ c.in-Err-chosen_of.ensures)
 
 pub returns-clause-shows : goal.returns-clause-shows

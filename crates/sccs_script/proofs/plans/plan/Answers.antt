@@ -2,16 +2,16 @@ use Rattle.std.proofs.Common.{◌≡◌, Result, Ok, Err, IfOk, sym, subst, ap, 
 use Rattle.sccs_edits.specs.declared.scripts.Plan.{Plan}
 use Rattle.sccs_edits.specs.Plans.{IsInOrder, plan}
 use Rattle.sccs_edits.proofs.PlanOrder.{plan_in_order}
-use Rattle.sccs_script.specs.Drafts.{base_of, edited, plan_of}
+use Rattle.sccs_script.specs.Drafts.{draft_base, edited_draft, draft_plan}
 use Rattle.sccs_script.proofs.Entries.{plan_edited}
 use Rattle.sccs_script.proofs.PlanLaws.{range_of}
 use Rattle.sccs_script.proofs.plans.plan.Goals as goal
 
 pub returns-clause-value : goal.returns-clause-value
 returns-clause-value c =
-    let same = ap (λ orders. plan_of (edited orders (base_of c.args.lines)) c.args.lines) c.orders.ensures.value in
+    let same = ap (λ orders. draft_plan (edited_draft orders (draft_base c.args.lines)) c.args.lines) c.orders.ensures.value in
     subst (λ (q : Plan). IfOk c.plan_of.result (λ p. p ≡ q))
-    (ap (λ entries. plan_of entries c.args.lines) c.in_ok-pieces.ensures.edited
+    (ap (λ entries. draft_plan entries c.args.lines) c.in_ok-pieces.ensures.edited
     ∙ (same ∙ sym (plan_edited 18446744073709551616 c.args.script.now c.args.lines c.orders.ensures.fit (range_of c.args.script.now c.args.lines c.requires.fits))))
     c.plan_of.ensures
 

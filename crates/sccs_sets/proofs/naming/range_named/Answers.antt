@@ -1,6 +1,6 @@
 use Rattle.std.proofs.Common.{◌+◌, ℕ, List, drop, fold, map, sym, ap, ◌∙◌}
 use Rattle.sccs_history.specs.declared.headers.Record.{Record}
-use Rattle.sccs_sets.specs.Naming.{in_range, named, put}
+use Rattle.sccs_sets.specs.Naming.{in_range, sid_named, put_named}
 use Rattle.sccs_sets.specs.Retrieved.{live_where}
 use Rattle.sccs_sets.proofs.Passing.{drop-record}
 use Rattle.sccs_sets.proofs.Putting.{put_record}
@@ -12,5 +12,5 @@ loop-record-preserved c =
     let all : List Record = c.args.records.now in
     let r : Record = c.record-item.result in
     put_record c.args.range.now r (drop (i + 1) all) c.loop-record.found.items c.put_record.new.found.items c.in_ok-put_record.ensures
-    ∙ (ap (λ l. fold put c.loop-record.found.items (map named (live_where (in_range c.args.range.now) l))) (sym (drop-record all i r c.loop-record-test.true c.record-item.is))
+    ∙ (ap (λ l. fold put_named c.loop-record.found.items (map sid_named (live_where (in_range c.args.range.now) l))) (sym (drop-record all i r c.loop-record-test.true c.record-item.is))
     ∙ c.loop-record.invariant)

@@ -8,7 +8,7 @@ use Rattle.sccs_history.specs.Select.{select}
 use Rattle.sccs_edits.specs.Places.{places, told_behind}
 use Rattle.sccs_edits.specs.Plans.{plan}
 use Rattle.sccs_edits.proofs.Rules.{rules_spliced}
-use Rattle.sccs_splicer.specs.Splices.{begun}
+use Rattle.sccs_splicer.specs.Splices.{new_splice}
 use Rattle.sccs_splicer.proofs.PlacedLines.{placed_all}
 use Rattle.sccs_splicer.proofs.Pushes.{shown_lines, splices_end}
 use Rattle.sccs_splicer.proofs.laws.spliced_bodies.Goals as goal
@@ -16,7 +16,7 @@ use Rattle.sccs_splicer.proofs.laws.spliced_bodies.Goals as goal
 pub returns : goal.returns
 returns c = record {
   whole = λ items set orders n s w w2 w3 a b c f g h pushed last.
-      splices_end (told_behind set [] items) (begun n (plan orders (length (select set (lines_of items))))) s w w2 w3 a b c f g h (Ok tt) (Ok tt) tt refl pushed last;
+      splices_end (told_behind set [] items) (new_splice n (plan orders (length (select set (lines_of items))))) s w w2 w3 a b c f g h (Ok tt) (Ok tt) tt refl pushed last;
   line = λ items set orders n s w w2 a b f g pushed. omega (arith, pushed.goes.line, shown_lines set [] items);
   reads = λ header live items set orders n keeps spelled lives some few high each lines new goes.
       canonical_again header (places items set orders n) keeps spelled

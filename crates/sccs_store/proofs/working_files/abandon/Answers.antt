@@ -2,7 +2,7 @@ use Rattle.std.specs.Str.{bytes_eq}
 use Rattle.sccs_base.specs.Name.{z_file}
 use Rattle.sccs_files.specs.StepFiles.{is_left, is_working}
 use Rattle.sccs_images.proofs.Touched.{only_then, only_wider}
-use Rattle.sccs_moments.specs.Recovery.{cleared, without}
+use Rattle.sccs_moments.specs.Recovery.{cleared, without_name}
 use Rattle.sccs_moments.proofs.FileNames.{no_working, no_z}
 use Rattle.sccs_store.proofs.Working.{becomes_both, cleared_moves, err_map, moves_then, moves_wider, ok_map}
 use Rattle.sccs_store.proofs.working_files.abandon.Goals as goal
@@ -11,7 +11,7 @@ pub returns-in_err-clear_working-clause-touches : goal.returns-in_err-clear_work
 returns-in_err-clear_working-clause-touches g c = only_wider (is_working c.args.name.now) (is_left c.args.name.now) _ _ (no_working c.args.name.now) c.clear_working.ensures.touches
 
 pub returns-clause-view : goal.returns-clause-view
-returns-clause-view g c = ok_map c.clear_sibling.result (becomes_both (cleared c.args.name.now) (without (z_file c.args.name.now)) _ _ _ c.in_ok-clear_working.ensures.view) c.clear_sibling.ensures.view
+returns-clause-view g c = ok_map c.clear_sibling.result (becomes_both (cleared c.args.name.now) (without_name (z_file c.args.name.now)) _ _ _ c.in_ok-clear_working.ensures.view) c.clear_sibling.ensures.view
 
 pub returns-clause-view_err : goal.returns-clause-view_err
 returns-clause-view_err g c =

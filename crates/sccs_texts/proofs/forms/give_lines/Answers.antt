@@ -2,7 +2,7 @@ use Rattle.std.proofs.Common.{◌+◌, ◌-◌, ◌++◌, take, drop, arith, sym
 use Rattle.sccs_base.specs.Cut.{cut}
 use Rattle.sccs_base.specs.Stream.{GivesOk}
 use Rattle.sccs_keys.proofs.GiveLaws.{after_given, given_ok, text_fails}
-use Rattle.sccs_texts.specs.Forms.{form_of, formed, formed_lines}
+use Rattle.sccs_texts.specs.Forms.{line_form, formed, formed_lines}
 use Rattle.sccs_texts.proofs.LineTurns.{behind_sid, count_fits, count_on, last_text, next_line, no_line, turn_text}
 use Rattle.sccs_texts.proofs.forms.give_lines.Goals as goal
 
@@ -21,7 +21,7 @@ returns-in-Err-clause-text g c =
     let lines = c.args.lines.now in
     let from = c.lines.from in
     let place = c.in-Some.place in
-    let form = form_of c.args.form.now in
+    let form = line_form c.args.form.now in
     let line = formed form c.args.sids.now (c.lines.before + 1) c.args.inserter (take (from + place - from) (drop from lines)) in
     let whole = formed_lines form c.args.sids.now (c.args.before + 1) c.args.inserter (cut lines).lines in
     let next = next_line lines from place c.lines.invariant.4 c.in-Some.ensures.0.high c.in-Some.ensures.1 c.in-Some.ensures.0.before in
@@ -35,7 +35,7 @@ lines-preserved g c =
     let lines = c.args.lines.now in
     let from = c.lines.from in
     let place = c.in-Some.place in
-    let form = form_of c.args.form.now in
+    let form = line_form c.args.form.now in
     let line = formed form c.args.sids.now (c.lines.before + 1) c.args.inserter (take (from + place - from) (drop from lines)) in
     let whole = formed_lines form c.args.sids.now (c.args.before + 1) c.args.inserter (cut lines).lines in
     let next = next_line lines from place c.lines.invariant.4 c.in-Some.ensures.0.high c.in-Some.ensures.1 c.in-Some.ensures.0.before in
@@ -52,7 +52,7 @@ lines-preserved g c =
 pub returns-clause-text : goal.returns-clause-text
 returns-clause-text g c = record {
   ok = subst (λ text. GivesOk (g.S.Sink.given c.args.out.now) (g.S.Sink.given c.lines.out) text)
-      (last_text (form_of c.args.form.now) c.args.sids.now (c.lines.before + 1) c.args.inserter c.args.lines.now c.lines.from c.lines.invariant.0 _ (no_line c.args.lines.now c.lines.from c.in_default.ensures) c.lines.invariant.2) c.lines.invariant.1;
+      (last_text (line_form c.args.form.now) c.args.sids.now (c.lines.before + 1) c.args.inserter c.args.lines.now c.lines.from c.lines.invariant.0 _ (no_line c.args.lines.now c.lines.from c.in_default.ensures) c.lines.invariant.2) c.lines.invariant.1;
   err = tt;
   later = c.lines.invariant.5;
   cause = tt;

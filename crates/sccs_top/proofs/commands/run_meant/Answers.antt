@@ -1,13 +1,24 @@
-use Rattle.std.proofs.Common.{true, false, sym, ◌∙◌}
+use Rattle.std.proofs.Common.{None, Some, ap, refl, sym, ◌∙◌}
 use Rattle.sccs_steps.specs.Settings.{setting_of}
+use Rattle.sccs_courses.specs.QuietSettings.{quiet}
 use Rattle.sccs_top.specs.Runs.{caller}
-use Rattle.sccs_top.proofs.RunLaws.{command_runs, listed_alone, run_by, single_alone}
+use Rattle.sccs_top.specs.declared.commands.CommandList.{CommandList}
+use Rattle.sccs_top.specs.declared.commands.CommandList.TheVariants as list
+use Rattle.sccs_top.proofs.RunLaws.{command_runs, run_by, soak_runs}
 use Rattle.sccs_top.proofs.commands.run_meant.Goals as goal
 
-pub returns-then-is_list-clause-run : goal.returns-then-is_list-clause-run
-returns-then-is_list-clause-run g c =
-    run_by true (caller c.args.stamp.now c.args.place.now) c.args.command.now c.run_batch.result (setting_of g.I.Source g.O.Sink g.E.Sink g.D.Disk c.args.input.now c.args.out.now c.args.err.now c.args.disk.now) (setting_of g.I.Source g.O.Sink g.E.Sink g.D.Disk c.run_batch.new.input c.run_batch.new.out c.run_batch.new.err c.run_batch.new.disk) (sym c.is_list.ensures ∙ c.if-is_list.true) c.run_batch.ensures
+pub returns-in-Some-Batch-clause-run : goal.returns-in-Some-Batch-clause-run
+returns-in-Some-Batch-clause-run g c =
+    run_by (Some list.Batch) (caller c.args.stamp.now c.args.place.now) c.args.command.now c.run_batch.result (setting_of g.I.Source g.O.Sink g.E.Sink g.D.Disk c.args.input.now c.args.out.now c.args.err.now c.args.disk.now) (setting_of g.I.Source g.O.Sink g.E.Sink g.D.Disk c.run_batch.new.input c.run_batch.new.out c.run_batch.new.err c.run_batch.new.disk)
+    (sym c.list_in.ensures ∙ (c.in-Some-Batch.is ∙ ap (λ (x : CommandList). Some x) c.in-Some-Batch.field-0-is)) c.run_batch.ensures
 
-pub returns-clause-run : goal.returns-clause-run
-returns-clause-run g c =
-    run_by false (caller c.args.stamp.now c.args.place.now) c.args.command.now c.run_lent.result (setting_of g.I.Source g.O.Sink g.E.Sink g.D.Disk c.args.input.now c.args.out.now c.args.err.now c.args.disk.now) (setting_of g.I.Source g.O.Sink g.E.Sink g.D.Disk c.run_lent.new.input c.run_lent.new.out c.run_lent.new.err c.run_lent.new.disk) (sym c.is_list.ensures ∙ c.if-is_list.false) (command_runs (caller c.args.stamp.now c.args.place.now) c.args.command.now c.run_lent.result (setting_of g.I.Source g.O.Sink g.E.Sink g.D.Disk c.args.input.now c.args.out.now c.args.err.now c.args.disk.now) (setting_of g.I.Source g.O.Sink g.E.Sink g.D.Disk c.run_lent.new.input c.run_lent.new.out c.run_lent.new.err c.run_lent.new.disk) c.run_lent.ensures)
+pub returns-in-Some-Soak-clause-run : goal.returns-in-Some-Soak-clause-run
+returns-in-Some-Soak-clause-run g c =
+    run_by (Some (list.Soak c.in-Some-Soak.number)) (caller c.args.stamp.now c.args.place.now) c.args.command.now c.run_soak.result (setting_of g.I.Source g.O.Sink g.E.Sink g.D.Disk c.args.input.now c.args.out.now c.args.err.now c.args.disk.now) (setting_of g.I.Source g.O.Sink g.E.Sink g.D.Disk c.args.input.now c.run_soak.new.out c.run_soak.new.err c.run_soak.new.disk)
+    (sym c.list_in.ensures ∙ (c.in-Some-Soak.is ∙ ap (λ (x : CommandList). Some x) c.in-Some-Soak.field-0-is))
+    (soak_runs c.in-Some-Soak.number (caller c.args.stamp.now c.args.place.now) c.args.command.now c.run_soak.result (quiet g.O.Sink g.E.Sink g.D.Disk c.args.out.now c.args.err.now c.args.disk.now) (quiet g.O.Sink g.E.Sink g.D.Disk c.run_soak.new.out c.run_soak.new.err c.run_soak.new.disk) (g.I.Source.left c.args.input.now) (g.I.Source.left c.args.input.now) (g.I.Source.faults c.args.input.now) refl refl c.run_soak.ensures)
+
+pub returns-in-None-clause-run : goal.returns-in-None-clause-run
+returns-in-None-clause-run g c =
+    run_by None (caller c.args.stamp.now c.args.place.now) c.args.command.now c.run_lent.result (setting_of g.I.Source g.O.Sink g.E.Sink g.D.Disk c.args.input.now c.args.out.now c.args.err.now c.args.disk.now) (setting_of g.I.Source g.O.Sink g.E.Sink g.D.Disk c.run_lent.new.input c.run_lent.new.out c.run_lent.new.err c.run_lent.new.disk) (sym c.list_in.ensures ∙ c.in-None.is)
+    (command_runs (caller c.args.stamp.now c.args.place.now) c.args.command.now c.run_lent.result (setting_of g.I.Source g.O.Sink g.E.Sink g.D.Disk c.args.input.now c.args.out.now c.args.err.now c.args.disk.now) (setting_of g.I.Source g.O.Sink g.E.Sink g.D.Disk c.run_lent.new.input c.run_lent.new.out c.run_lent.new.err c.run_lent.new.disk) c.run_lent.ensures)

@@ -3,7 +3,7 @@ use Rattle.std.specs.Prelude.{IfSome}
 use Rattle.sccs_disk.specs.Told.{seen}
 use Rattle.sccs_table.specs.ReaderState.{bytes_in}
 use Rattle.sccs_body.specs.ItemsRead.{IsFormatAt}
-use Rattle.sccs_body.specs.Reader.{BodyPlace, line_at}
+use Rattle.sccs_body.specs.Reader.{BodyPlace, number_of_line}
 use Rattle.sccs_body.proofs.ItemLaws.{seen_behind, held_gives, held_fault}
 use Rattle.sccs_body.proofs.body_readers.BodyReader.pass_item.Goals as goal
 
@@ -27,5 +27,5 @@ returns-in-Ok-false-clause-told g c = λ live before behind.
     let stood = c.in-Ok-false.ensures.goes live before (seen_behind live before here c.args.self.now c.self.view_is behind) in
     let told = bytes_in (seen (g.D.Disk.told c.args.disk.now)) in
     let same = ap told (c.pass_line.ensures.name ∙ ap (λ (p : BodyPlace). p.lines.name) c.self.view_is) in
-    let fault = subst (λ n. IfSome (told gone.lines.name) (λ f. IsFormatAt (line_at here.first here.from f n) c.fault_at.result)) c.place-place.ensures.value c.fault_at.ensures.told in
+    let fault = subst (λ n. IfSome (told gone.lines.name) (λ f. IsFormatAt (number_of_line here.first here.from f n) c.fault_at.result)) c.place-place.ensures.value c.fault_at.ensures.told in
     held_fault (told c.args.self.now.lines.name) (told gone.lines.name) live before here c.args.self.now gone gone c.args.item c.args.count c.fault_at.result c.self.view_is same c.requires c.pass_line.ensures.told (stood.0 ∙ c.in-Ok-false.field-0-test) fault

@@ -7,7 +7,7 @@ use Rattle.sccs_tokens.specs.Items.{item_at}
 use Rattle.sccs_table.specs.ReaderState.{bytes_in}
 use Rattle.sccs_table.proofs.ReaderLaws.{same_file}
 use Rattle.sccs_body.specs.ItemsRead.{IsFormatAt}
-use Rattle.sccs_body.specs.Reader.{BodyPlace, line_at}
+use Rattle.sccs_body.specs.Reader.{BodyPlace, number_of_line}
 use Rattle.sccs_body.proofs.ItemLaws.{seen_gives, seen_behind, takes_line_at, end_fault, end_gives, item_gives, fault_gives, over_from, some_taken, none_taken}
 use Rattle.sccs_body.proofs.body_readers.BodyReader.read_next.Goals as goal
 
@@ -42,7 +42,7 @@ returns-then-not-branch-clause-told g c = λ live before behind.
     let gone : BodyPlace = record { lines = c.next_line.new.self; state = c.self.inside.state; first = c.self.inside.first; from = c.self.inside.from } in
     let knows = seen_behind live before here c.args.self.now c.self.view_is behind in
     let file_is = same_file _ _ _ _ (ap seen c.in_ok-next_line.ensures.frame.same) c.in_ok-next_line.ensures.frame.name in
-    let fault = subst (λ n. IfSome (bytes_in (seen (g.D.Disk.told c.next_line.new.disk)) gone.lines.name) (λ f. IsFormatAt (line_at here.first here.from f n) c.fault_at.result)) c.place-place.ensures.value c.fault_at.ensures.told in
+    let fault = subst (λ n. IfSome (bytes_in (seen (g.D.Disk.told c.next_line.new.disk)) gone.lines.name) (λ f. IsFormatAt (number_of_line here.first here.from f n) c.fault_at.result)) c.place-place.ensures.value c.fault_at.ensures.told in
     let over = ap (λ bytes. is_over before && is_empty bytes) (sym c.as_slice.ensures.value) ∙ (sym (c.ends_with.ensures live before knows) ∙ c.if-ends_with.false) in
     seen_gives (seen (g.D.Disk.told c.args.disk.now)) live before here c.args.self.now gone (Err c.fault_at.result) c.self.view_is
     (end_fault _ _ live before c.next_line.new.line.items here gone gone c.fault_at.result file_is (takes_line_at _ c.self.inside.lines c.next_line.new.self c.next_line.new.line.items c.in_ok-next_line.field-0 false c.if-not-branch.true c.in_ok-next_line.ensures.told) over fault)
@@ -53,7 +53,7 @@ returns-in-Ok-None-clause-told g c = λ live before behind.
     let gone : BodyPlace = record { lines = c.next_line.new.self; state = c.next_item.new.state; first = c.self.inside.first; from = c.self.inside.from } in
     let knows = seen_behind live before here c.args.self.now c.self.view_is behind in
     let file_is = same_file _ _ _ _ (ap seen c.in_ok-next_line.ensures.frame.same) c.in_ok-next_line.ensures.frame.name in
-    let fault = subst (λ n. IfSome (bytes_in (seen (g.D.Disk.told c.next_line.new.disk)) gone.lines.name) (λ f. IsFormatAt (line_at here.first here.from f n) c.fault_at-in-Ok-None.result)) c.place-place.ensures.value c.fault_at-in-Ok-None.ensures.told in
+    let fault = subst (λ n. IfSome (bytes_in (seen (g.D.Disk.told c.next_line.new.disk)) gone.lines.name) (λ f. IsFormatAt (number_of_line here.first here.from f n) c.fault_at-in-Ok-None.result)) c.place-place.ensures.value c.fault_at-in-Ok-None.ensures.told in
     let none = none_taken live before c.next_item.new.state c.as_slice-2.result.now c.in-Ok-None.field-0 c.in-Ok-None.field-0-is (c.in-Ok-None.ensures live before knows) in
     seen_gives (seen (g.D.Disk.told c.args.disk.now)) live before here c.args.self.now gone (Err c.fault_at-in-Ok-None.result) c.self.view_is
     (fault_gives _ _ live before c.next_line.new.line.items here gone gone c.fault_at-in-Ok-None.result file_is (takes_line_at _ c.self.inside.lines c.next_line.new.self c.next_line.new.line.items c.in_ok-next_line.field-0 true c.if-not-branch.false c.in_ok-next_line.ensures.told) (ap (item_at live before) (sym c.as_slice-2.ensures.value) ∙ none) fault)

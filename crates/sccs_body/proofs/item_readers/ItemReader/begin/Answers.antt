@@ -1,6 +1,6 @@
 use Rattle.std.proofs.Common.{◌<◌, arith, refl, subst, sym}
 use Rattle.sccs_body.specs.Reader.{ItemPlace}
-use Rattle.sccs_body.specs.ToCome.{Begins, KeepsFile}
+use Rattle.sccs_body.specs.ToCome.{BeginsReading, KeepsFile}
 use Rattle.sccs_body.proofs.ComingLaws.{header_read}
 use Rattle.sccs_body.proofs.item_readers.ItemReader.begin.Goals as goal
 
@@ -10,7 +10,7 @@ returns g c =
     let gone : ItemPlace = record { body = c.skip_to.new.self; size = c.self.inside.size; sum = c.self.inside.sum } in
     let kept : KeepsFile here gone = record { name = c.in_ok-skip_to.ensures.frame.name; limit = c.in_ok-skip_to.ensures.frame.limit; body = c.in_ok-skip_to.ensures.body; size = refl; sum = refl } in
     let low = subst (λ (r : ItemPlace). r.body.lines.place < r.body.from) (sym c.self.view_is) c.requires in
-    subst (λ r. Begins g.D.Disk.told g.D.Disk.faults c.args.disk.now c.skip_to.new.disk r gone _) c.self.view_is
+    subst (λ r. BeginsReading g.D.Disk.told g.D.Disk.faults c.args.disk.now c.skip_to.new.disk r gone _) c.self.view_is
     (record {
       frame = record { same = c.in_ok-skip_to.ensures.frame.same; later = c.in_ok-skip_to.ensures.frame.later; cause = λ is. cc };
       first = λ size sum again sum_again is. cc;

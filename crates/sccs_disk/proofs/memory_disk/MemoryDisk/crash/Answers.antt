@@ -1,7 +1,7 @@
 use Rattle.std.specs.List.{All}
 use Rattle.std.proofs.Common.{◌≡◌, length, min, take, sym, ap, subst, ◌∙◌, arith}
 use Rattle.sccs_disk.specs.DirectoryStates.{state_of}
-use Rattle.sccs_disk.specs.MemoryFiles.{model_of, model_after, left, IsFirmFile}
+use Rattle.sccs_disk.specs.MemoryFiles.{model_of, model_after, left_by_stop, IsFirmFile}
 use Rattle.sccs_disk.specs.MemoryDisks.{disk_after}
 use Rattle.sccs_disk.specs.States.{stored}
 use Rattle.std.proofs.lemmas.List.{length-map}
@@ -42,7 +42,7 @@ returns-clause-left c =
     crash_view (state_of self.start) items c.in_ok-log.log.items c.args.calls c.min-count.result c.count_kept.result c.args.names (length part.files.items) c.args.fill (state_of all) (state_of part) (state_of start)
     count c.in_ok-files.ensures c.in_ok-named.ensures (c.count_kept.ensures.names (state_of self.start)) c.in_ok-start.ensures.files c.in_ok-start.ensures.names (sym (length-map part.files.items stored))
     (placed part.files.items part.names.names.items part.paired) c.in_ok-log.ensures.items
-    ∙ ap (λ l. left (model_after (model_of (state_of self.start)) (take c.args.calls l)) c.args.names c.args.fill) c.deref.ensures.value
+    ∙ ap (λ l. left_by_stop (model_after (model_of (state_of self.start)) (take c.args.calls l)) c.args.names c.args.fill) c.deref.ensures.value
 
 pub returns-clause-image : goal.returns-clause-image
 returns-clause-image c = left_image (disk_after c.args.self.now c.args.calls) c.args.names c.args.fill _ (returns-clause-left c)

@@ -2,7 +2,7 @@ use Rattle.std.proofs.Common.{ap, refl, sym, subst, ◌∙◌}
 use Rattle.sccs_disk.specs.Told.{seen}
 use Rattle.sccs_table.specs.ReaderState.{bytes_in}
 use Rattle.sccs_table.proofs.FrontLaws.{exit_is}
-use Rattle.sccs_body.specs.ToCome.{Changes, IsChange}
+use Rattle.sccs_body.specs.ToCome.{HasChanged, IsChange}
 use Rattle.sccs_versions.specs.Coming.{Coming}
 use Rattle.sccs_versions.specs.Place.{VersionPlace, name_of}
 use Rattle.sccs_versions.specs.WasRead.{HasRead}
@@ -42,7 +42,7 @@ returns-in_err-item-clause-changed g c =
     let exit = exit_is c.from_residual.result c.in_err-item.field-0.0 c.from_residual.ensures.1 in
     let size_is = ap (λ (r : VersionPlace). r.items.size) c.self.view_is in
     let sum_is = ap (λ (r : VersionPlace). r.items.sum) c.self.view_is in
-    subst (λ r. Changes c.args.self.now.items r) (sym exit)
+    subst (λ r. HasChanged c.args.self.now.items r) (sym exit)
     (subst (λ n. IsChange n c.args.self.now.items.sum c.in_err-item.field-0.0) size_is (subst (λ n. IsChange c.self.inside.items.size n c.in_err-item.field-0.0) sum_is c.in_err-item.ensures.changed))
 
 pub returns-in-None-clause-read : goal.returns-in-None-clause-read

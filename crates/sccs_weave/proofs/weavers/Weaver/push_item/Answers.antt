@@ -1,6 +1,6 @@
 use Rattle.std.proofs.Common.{[], ◌∷◌, sym, subst}
 use Rattle.sccs_weave.specs.Stacks.{stacked}
-use Rattle.sccs_weave.specs.Regions.{AreSorted, Holds, Opens}
+use Rattle.sccs_weave.specs.Regions.{AreSorted, Holds, OpensRegions}
 use Rattle.sccs_weave.proofs.Steps.{holds-behind, opens-behind, sorted-behind}
 use Rattle.sccs_weave.proofs.weavers.Weaver.push_item.Goals as goal
 
@@ -22,5 +22,5 @@ returns-clause-ok c = λ before holds.
 
 pub returns-clause-opens : goal.returns-clause-opens
 returns-clause-opens c = λ before opens.
-    subst (Opens (c.args.item.now ∷ before)) (sym c.in_ok-self-inside.ensures.ok)
-    (opens-behind c.args.applied.now c.args.item.now before (stacked [] c.self.inside.regions.items) c.self.invariant.sorted (subst (Opens before) (sym c.self.view_is) opens))
+    subst (OpensRegions (c.args.item.now ∷ before)) (sym c.in_ok-self-inside.ensures.ok)
+    (opens-behind c.args.applied.now c.args.item.now before (stacked [] c.self.inside.regions.items) c.self.invariant.sorted (subst (OpensRegions before) (sym c.self.view_is) opens))

@@ -1,0 +1,7 @@
+mod altered_files;
+mod checked_files;
+mod disks;
+mod new_files;
+mod new_rules;
+mod removals;
+mod stops;
