@@ -1,5 +1,6 @@
+use crate::batches::ends_as_batch;
 use crate::runs::{Given, PLAIN, answer_to};
-use sccs_disk::Disk;
+use sccs_disk::{Disk, Fill, MemoryDisk};
 use std::alloc::Global;
 use std::test::Fail;
 
@@ -38,16 +39,22 @@ pub fn ends<D: Disk>(alloc: Global, disk: &mut D, case: &Case) -> Result<bool, F
     Ok(seen.is(case.status, case.out, case.err))
 }
 
-/// The place of the first case that doesn't end as it should, each one over the disk that those before it left.
-pub fn first_wrong<D: Disk>(
+/// The place of the first case that doesn't end as it should, each one over the disk that those before it left; their
+/// number where each ends so, and one batch of all that have words doesn't.
+pub fn first_wrong(
     alloc: Global,
-    disk: &mut D,
+    disk: &mut MemoryDisk,
     cases: &[Case],
 ) -> Result<Option<usize>, Fail> {
+    let mut before = disk.crash(alloc, u64::MAX, u64::MAX, Fill::Written)?;
     for (at, case) in cases.iter().enumerate() {
         if !ends(alloc, disk, case)? {
             return Ok(Some(at));
         }
     }
-    Ok(None)
+    Ok(if ends_as_batch(alloc, &mut before, cases)? {
+        None
+    } else {
+        Some(cases.len())
+    })
 }

@@ -1,6 +1,7 @@
 //! What the tests of the whole program share: s-files, disks in memory, and lines of words with what they answer.
 #![tactic(auto)]
 
+mod batches;
 mod cases;
 mod disks;
 mod runs;

@@ -72,7 +72,7 @@ pub fn answer_to<D: Disk>(
     let place = Line::new(alloc, b"/")?;
     let mut input = MemorySource::new(alloc, given.input, given.failing_input)?;
     let mut out = MemorySink::new(alloc, 100_000, given.failing_out)?;
-    let mut err = MemorySink::new(alloc, 1000, given.failing_err)?;
+    let mut err = MemorySink::new(alloc, 10_000, given.failing_err)?;
     let answer = run(
         alloc, &words, &stamp, &place, &mut input, &mut out, &mut err, disk,
     );

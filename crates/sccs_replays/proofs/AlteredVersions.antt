@@ -1,8 +1,7 @@
 -- What admin on an s-file that is there makes of its versions: it leaves them.
-use Rattle.std.proofs.Common.{◌≡◌, ℕ, Bool, true, false, List, Option, None, Some, Result, Ok, Err, refl, sym, ap, subst, ◌∙◌}
+use Rattle.std.proofs.Common.{◌≡◌, ℕ, Bool, true, false, List, Option, None, Some, Ok, Err, refl, sym, ap, subst, ◌∙◌}
 use Rattle.std.specs.Prelude.{if◌then◌else◌, is_some}
 use Rattle.sccs_disk.specs.Files.{Content}
-use Rattle.sccs_sid.specs.Reading.{◌>>=◌}
 use Rattle.sccs_history.specs.Applied.{live_serials}
 use Rattle.sccs_history.specs.History.{is_rooted}
 use Rattle.sccs_history.specs.Numbers.{has}
@@ -17,7 +16,7 @@ use Rattle.sccs_admin.specs.AdminStep.{makes}
 use Rattle.sccs_delta.specs.NewVersions.{version_text}
 use Rattle.sccs_delta.specs.Replays.{Texts}
 use Rattle.sccs_copies.proofs.FileReads.{file_keeps}
-use Rattle.sccs_alter.specs.AlterStep.{WasRead, alter_outcome, altered_header, file_read, read_file}
+use Rattle.sccs_alter.specs.AlterStep.{alter_outcome, altered_header, file_read, read_file}
 use Rattle.sccs_grammar.proofs.AnySumLaws.{unsummed_ok}
 use Rattle.sccs_admin.proofs.RuleLaws.{passed}
 use Rattle.sccs_alter.proofs.HeaderLaws.{altered_records}

@@ -40,7 +40,6 @@ use Rattle.sccs_delta.specs.Replays.{Texts}
 use Rattle.sccs_prs.specs.Keeps.{prs_keeps}
 use Rattle.sccs_val.proofs.RunLaws.{val_keeps, val_leaves}
 use Rattle.sccs_what.specs.Checks.{what_keeps}
-use Rattle.sccs_steps.proofs.JoinedSteps.{after_more}
 use Rattle.sccs_courses.specs.Courses.{Courses, follow, if_fine, no_action, one_by_one, portion, said, saying, steps_along, steps_in, while_fine}
 use Rattle.sccs_courses.proofs.Portions.{steps_more}
 use Rattle.sccs_batch.specs.BatchLines.{bad_entry_line, status_line}
@@ -53,10 +52,10 @@ use Rattle.sccs_soak.specs.Dropping.{dropping_keeps}
 use Rattle.sccs_soak.specs.Keeps.{summary_keeps}
 use Rattle.sccs_soak.specs.Soak.{soaked}
 use Rattle.sccs_soak.specs.Summaries.{summary_action, summary_course}
-use Rattle.sccs_top.specs.Runs.{Caller, action_of, admin_there, caller_by, command_course, command_steps, course_by, entry_command, has_heading, hushed, list_in, operands_of, run_steps, single_of, steps_by, val_words_of}
+use Rattle.sccs_top.specs.Runs.{Caller, action_of, admin_there, caller_by, command_course, command_steps, course_by, entry_command, has_heading, hushed, operands_of, run_steps, single_of, steps_by, val_words_of}
 use Rattle.sccs_top.specs.declared.commands.CommandList.{CommandList}
 use Rattle.sccs_top.specs.declared.commands.CommandList.TheVariants as list
-use Rattle.sccs_replays.specs.PastRuns.{AreInTurn, HasVersions, IsPastCommand, IsPastRun, IsPlainBy, PastRun, commands_by, entry_run, entry_runs, folder_after_run, list_meant, replay, soak_runs, s_file_after, steps_made, single_steps, steps_of_entry, versions_after_command, versions_after_commands, versions_after_run, versions_after_step, versions_after_steps}
+use Rattle.sccs_replays.specs.PastRuns.{AreInTurn, HasVersions, IsPastCommand, IsPastRun, IsPlainBy, PastRun, commands_by, entry_run, entry_runs, folder_after_run, list_meant, replay, soak_runs, s_file_after, single_steps, steps_of_entry, versions_after_command, versions_after_commands, versions_after_run, versions_after_step, versions_after_steps}
 use Rattle.sccs_replays.proofs.LeftFiles.{other_file, own_file}
 use Rattle.sccs_replays.proofs.MadeSteps.{AreStepsOf, IsStepOf, are_some, are_steps}
 use Rattle.sccs_replays.proofs.MeantValues.{AreMeantValues, HasMeantValues, meant_values}

@@ -1,13 +1,13 @@
 -- Where a run ended the next one may begin, and so where it was stopped and all names were recovered.
-use Rattle.std.proofs.Common.{◌≡◌, ◌≢◌, ℕ, ◌≤◌, true, Bool, List, [], ◌∷◌, length, Option, is_some, Result, Err, sym, ap, ◌∙◌}
-use Rattle.sccs_base.specs.Name.{IsSfile, p_file}
+use Rattle.std.proofs.Common.{◌≢◌, ℕ, ◌≤◌, Bool, List, [], ◌∷◌, length, Option, is_some, Result, Err, ap, ◌∙◌}
+use Rattle.sccs_base.specs.Name.{p_file}
 use Rattle.sccs_disk.specs.Files.{Content, Folder, Model, View, view_of}
 use Rattle.sccs_disk.specs.Images.{Allows}
 use Rattle.sccs_images.specs.Touches.{Each, earlier, newest}
 use Rattle.sccs_images.proofs.Images.{view_image}
 use Rattle.sccs_images.proofs.Touched.{each_newest}
 use Rattle.sccs_moments.specs.Recovery.{RecoversAs}
-use Rattle.sccs_moments.proofs.Recovering.{recovered, recovered_is, recovers_then}
+use Rattle.sccs_moments.proofs.Recovering.{recovered, recovered_is}
 use Rattle.sccs_steps.specs.Calls.{Scene}
 use Rattle.sccs_steps.specs.ListStops.{IsAtNumber, KeepsSafe, view_at}
 use Rattle.sccs_courses.specs.Following.{CourseMoments}
@@ -15,7 +15,7 @@ use Rattle.sccs_steps.specs.StepLists.{NamedStep}
 use Rattle.sccs_steps.specs.declared.faults.Fault.{Fault}
 use Rattle.sccs_steps.specs.declared.faults.Fault.TheVariants as ends
 use Rattle.sccs_steps.proofs.SafeImages.{keeps_then, numbered_each, recovers_safe}
-use Rattle.sccs_top.specs.Following.{AllRecovered, FollowsStop, IsPrefix, MayFollow}
+use Rattle.sccs_top.specs.Following.{AllRecovered, FollowsStop, MayFollow}
 
 pub may_follow : (w : List ℕ → Bool) (r : Result ℕ Fault) (folder : Folder) (ts : List NamedStep) (a b : Scene) (m : Model) (past : List Model) → CourseMoments w r folder ts a b m past → r ≢ Err ends.DiskFault → MayFollow (view_of m) b.told
 may_follow w r folder ts a b m past run other = record {

@@ -1,5 +1,5 @@
 -- A history that admin makes and that calls of delta go on with is replayed.
-use Rattle.std.proofs.Common.{◌≡◌, ℕ, List, [], Option, None, Some, IfSome, Result, Ok, Err, refl, sym, ap}
+use Rattle.std.proofs.Common.{◌≡◌, ℕ, List, [], Option, None, Some, IfSome, Ok, refl, sym, ap}
 use Rattle.std.specs.List.{AllByRecursion}
 use Rattle.sccs_base.specs.Cut.{text_of}
 use Rattle.sccs_base.specs.Login.{IsLogin}

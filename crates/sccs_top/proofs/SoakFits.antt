@@ -1,5 +1,5 @@
 -- The commands of a soak have one operand each, so that their input is what is given to them.
-use Rattle.std.proofs.Common.{◌≡◌, ℕ, zero, suc, ◌+◌, ◌≤◌, Bool, true, false, List, [], ◌∷◌, length, Option, None, Some, IfOk, Result, Ok, Err, codes, inr, refl, arith}
+use Rattle.std.proofs.Common.{ℕ, zero, suc, ◌+◌, ◌≤◌, Bool, true, false, List, [], ◌∷◌, length, Option, None, Some, IfOk, Result, Ok, Err, codes, inr, refl, arith}
 use Rattle.std.specs.List.{AllByRecursion}
 use Rattle.std.specs.Prelude.{option_and_then}
 use Rattle.sccs_words.specs.Judge.{end_fault, first_from, operand_fault, usage_fault, use_fault}
@@ -16,7 +16,6 @@ use Rattle.sccs_words.specs.declared.tables.Utility.TheVariants as u
 use Rattle.sccs_soak.specs.Commands.{delta_command, edit_command, edit_words, first_command, rounds_from, soak_commands}
 use Rattle.sccs_soak.specs.Draws.{draw_of, next_state}
 use Rattle.sccs_soak.specs.Turns.{begins_branch, lines_after, turn_of}
-use Rattle.sccs_soak.specs.declared.turns.Turn.{Turn}
 use Rattle.sccs_top.specs.Runs.{AsksInput, Caller, FitsEntry, caller_by, operands_of}
 
 -- the words have at most one operand

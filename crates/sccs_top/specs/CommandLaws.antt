@@ -1,5 +1,5 @@
 -- What the commands of a list owe: what changes files takes the names of s-files alone, and some steps may have been begun.
-use Rattle.std.specs.Prelude.{◌≡◌, ℕ, List, [], ◌∷◌, codes, Result, Ok, Err}
+use Rattle.std.specs.Prelude.{ℕ, List, [], ◌∷◌, codes, Result, Ok, Err}
 use Rattle.std.proofs.Common.{inl, inr, refl}
 use Rattle.sccs_disk.specs.Files.{Folder}
 use Rattle.sccs_steps.specs.StepLists.{NamedStep, named_step}

@@ -1,5 +1,5 @@
 -- What a run does: the steps that its words mean, one for each operand in their order.
-use Rattle.std.specs.Prelude.{◌≡◌, ◌≢◌, ℕ, ◌<◌, nat_lt, ◌⊎◌, Bool, true, false, ◌&&◌, ◌||◌, List, [], ◌∷◌, length, Option, None, Some, is_some, Result, Ok, Err, IsOk, codes, if◌then◌else◌}
+use Rattle.std.specs.Prelude.{◌≡◌, ◌≢◌, ℕ, ◌<◌, nat_lt, ◌⊎◌, Bool, true, false, ◌||◌, List, [], ◌∷◌, length, Option, None, Some, is_some, Result, Ok, Err, IsOk, codes, if◌then◌else◌}
 use Rattle.std.specs.List.{AllByRecursion, list_any}
 use Rattle.sccs_disk.specs.Files.{Folder, Model, view_in}
 use Rattle.sccs_disk.specs.Told.{Told, Tells, seen}
@@ -110,8 +110,14 @@ abbrev pub single : (by : Caller → Action) → List (List ℕ) → ((who : Cal
 single by operands takes = record { by = by; operands = operands; val = None; takes = takes }
 
 -- a list of commands isn't one
+pub nothing_takes : TakesSfiles no_action
+nothing_takes = λ changes n fits. absurd (cc)
+
 abbrev pub no_single : Single
-no_single = single (λ who. no_action) [] (λ who changes n fits. absurd (cc))
+no_single = single (λ who. no_action) [] (λ who. nothing_takes)
+
+pub val_takes : (words : ValWords) → TakesSfiles (val_action words)
+val_takes words = λ changes n fits. absurd (cc)
 
 -- each utility
 abbrev pub single_of : Command → Single
@@ -131,7 +137,7 @@ single_of (c.Rmdel sid operands) = single (λ who. locking (rmdel_change sid who
 single_of (c.Prs words operands) = single (λ who. prs_action words who.place) (words_in operands) (λ who. (prs_keeps words who.place).names)
 single_of (c.What first operands) = single (λ who. what_action first) (words_in operands) (λ who. (what_keeps first).names)
 single_of (c.Recover operands) = single (λ who. recover_action) (words_in operands) (λ who. recover_keeps.names)
-single_of (c.Val words) = record { by = λ who. val_action words; operands = val_operands words; val = Some words; takes = λ who changes n fits. absurd (cc) }
+single_of (c.Val words) = record { by = λ who. val_action words; operands = val_operands words; val = Some words; takes = λ who. val_takes words }
 single_of c.Batch = no_single
 single_of (c.Soak number) = no_single
 

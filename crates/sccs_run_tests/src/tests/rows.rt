@@ -1,5 +1,5 @@
 use sccs_disk::MemoryDisk;
-use sccs_fixtures::{Answer, CASE, Case, File, Given, answer_to, disk_with, ends};
+use sccs_fixtures::{Answer, CASE, Case, File, Given, answer_to, disk_with, first_wrong};
 use std::alloc::Global;
 use std::test::Fail;
 
@@ -21,22 +21,26 @@ fn two_files(alloc: Global, a: &[u8], b: &[u8]) -> Result<MemoryDisk, Fail> {
     disk_with(alloc, &[], &files)
 }
 
+// the case that a row is
+fn case_of<'a>(row: &Row<'a>) -> Case<'a> {
+    let (line, status, out, err) = *row;
+    Case {
+        line,
+        status,
+        out,
+        err,
+        ..CASE
+    }
+}
+
 /// The place of the first row that doesn't end as it should, on the files s.a and s.b.
 pub fn wrong_row(alloc: Global, a: &[u8], b: &[u8], rows: &[Row]) -> Result<Option<usize>, Fail> {
     let mut disk = two_files(alloc, a, b)?;
-    for (at, (line, status, out, err)) in rows.iter().enumerate() {
-        let case = Case {
-            line,
-            status: *status,
-            out,
-            err,
-            ..CASE
-        };
-        if !ends(alloc, &mut disk, &case)? {
-            return Ok(Some(at));
-        }
+    let mut cases = Vec::new(alloc);
+    for row in rows {
+        cases.push(case_of(row))?;
     }
-    Ok(None)
+    first_wrong(alloc, &mut disk, &cases)
 }
 
 /// What a line answers over a disk with these files, if out has nothing.
