@@ -1,0 +1,9 @@
+pub mod FactsSeen
+pub mod Forms
+pub mod Lookups
+pub mod Pieces
+pub mod Reading
+pub mod TextFaults
+pub mod TokenValues
+pub mod Tokens
+pub mod Trunk

@@ -1,0 +1,4 @@
+pub mod Joins
+pub mod PieceCells
+pub mod ScriptCells
+pub mod TrunkCells

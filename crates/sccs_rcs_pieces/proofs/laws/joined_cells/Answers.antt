@@ -1,0 +1,5 @@
+use Rattle.sccs_rcs_pieces.proofs.Joins.{joins}
+use Rattle.sccs_rcs_pieces.proofs.laws.joined_cells.Goals as goal
+
+pub returns : goal.returns
+returns c = λ text later cells lines. joins text later cells lines

@@ -1,0 +1,9 @@
+pub mod Behind
+pub mod ItemWalks
+pub mod LateLines
+pub mod OpenTexts
+pub mod RegionItems
+pub mod TextLengths
+pub mod TrunkValid
+pub mod TrunkVersions
+pub mod TurnedSets
