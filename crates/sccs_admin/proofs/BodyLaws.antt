@@ -7,7 +7,8 @@ use Rattle.sccs_history.specs.declared.headers.Item.{Item}
 use Rattle.sccs_history.specs.declared.headers.Item.TheVariants.{Text, Insert, End}
 use Rattle.sccs_table.proofs.RunLaws.{cut_joined}
 use Rattle.sccs_admin.specs.Texts.{lacking}
-use Rattle.sccs_admin.specs.Writing.{body_bytes}
+use Rattle.sccs_admin.specs.NewFiles.{new_items}
+use Rattle.sccs_new_files.specs.Writing.{body_bytes}
 
 -- the LF that bytes behind the last LF lack
 abbrev lf_for : List ℕ → List ℕ
@@ -47,7 +48,7 @@ texts_written : (lines : List (List ℕ)) (rest : List Item) → map item_line (
 texts_written [] rest = refl
 texts_written (line ∷ lines) rest = ap (λ more. line ∷ more) (texts_written lines rest)
 
-pub body_parts : (text missing : List ℕ) → missing ≡ lacking text → ended (item_line (Insert 1)) ++ (text ++ (missing ++ ended (item_line (End 1)))) ≡ body_bytes text
+pub body_parts : (text missing : List ℕ) → missing ≡ lacking text → ended (item_line (Insert 1)) ++ (text ++ (missing ++ ended (item_line (End 1)))) ≡ body_bytes (new_items (text_of text))
 body_parts text missing is =
     ap (λ body. ended (item_line (Insert 1)) ++ body)
     (sym (append_assoc text missing (ended (item_line (End 1))))

@@ -4,6 +4,5 @@ pub mod PrepareLaws
 pub mod RuleLaws
 pub mod StepLaws
 pub mod TextLaws
-pub mod WritingLaws
 pub mod NewFileLaws
 pub mod StopLaws

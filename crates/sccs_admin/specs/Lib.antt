@@ -4,4 +4,3 @@ pub mod NewFiles
 pub mod Parts
 pub mod Rules
 pub mod Texts
-pub mod Writing

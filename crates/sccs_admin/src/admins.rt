@@ -11,12 +11,13 @@ ghost use Rattle.sccs_images.specs.Touches.{TouchesOnly};
 ghost use Rattle.sccs_transactions.specs.Stops.{IsFirmPrepared};
 ghost use Rattle.sccs_admin.specs.Locks.{admin_locked};
 
+use crate::bodies::TextBody;
 use crate::finding::{NewTexts, find_texts};
 use crate::headers::new_header;
-use crate::new_files::write_new;
 use crate::rules::new_rules;
 use sccs_base::{Bytes, Name, Sink, Source};
 use sccs_disk::{Disk, DiskRefusal};
+use sccs_new_files::write_new;
 use sccs_sid::{Stamp, StepFault};
 use sccs_store::NewFile;
 use sccs_transactions::{Change, Prepared};
@@ -72,7 +73,10 @@ fn write_texts<D: Disk>(
     let Ok(header) = new_header(alloc, words, stamp, rules) else {
         return Err(StepFault::Memory);
     };
-    match write_new(alloc, &header, texts.text.bytes(), name, disk) {
+    let body = TextBody {
+        text: texts.text.bytes(),
+    };
+    match write_new(alloc, &header, &body, name, disk) {
         Ok(()) => Ok(prepared(alloc)),
         Err(DiskRefusal::Failed) => Err(StepFault::DiskFault),
         Err(DiskRefusal::Memory) => Err(StepFault::Memory),

@@ -2,10 +2,10 @@
 #![tactic(auto)]
 
 mod admins;
+mod bodies;
 mod finding;
 mod headers;
 pub mod laws;
-mod new_files;
 mod rules;
 mod texts;
 

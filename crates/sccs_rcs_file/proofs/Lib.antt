@@ -1,6 +1,7 @@
 pub mod FileLaws
 pub mod Lexing
 pub mod ReadTokens
+pub mod SpotLaws
 pub mod Strings
 pub mod TextFaultLaws
 pub mod TrunkWalk

@@ -14,8 +14,8 @@ all_more came r (Ok revisions) = ap Ok (append_assoc came (r ∷ []) revisions)
 all_more came r (Err n) = refl
 
 -- the first step
-pub walk_begins : (file : RcsFile) (head : List ℕ) → Some head ≡ head_of file → with_all [] (revisions_from (65536 - 1) 1 None (Some head) file) ≡ trunk_of file
-walk_begins file head is = all_none (revisions_from (65536 - 1) 1 None (Some head) file) ∙ ap (λ o. revisions_at o file) is
+pub walk_begins : (file : RcsFile) (head : List ℕ) → with_all [] (revisions_from (65536 - 1) 1 None (Some head) file) ≡ revisions_at (Some head) file
+walk_begins file head = all_none (revisions_from (65536 - 1) 1 None (Some head) file)
 
 pub no_head : (file : RcsFile) → None ≡ head_of file → trunk_of file ≡ Err 1
 no_head file is = sym (ap (λ o. revisions_at o file) is)

@@ -3,6 +3,7 @@ pub mod Forms
 pub mod Lookups
 pub mod Pieces
 pub mod Reading
+pub mod Spots
 pub mod TextFaults
 pub mod TokenValues
 pub mod Tokens

@@ -4,11 +4,13 @@
 mod dates;
 mod faults;
 mod forms;
+mod indexes;
 mod kinds;
 pub mod laws;
 mod lookups;
 mod places;
 mod reading;
+mod spots;
 mod states;
 mod texts;
 mod tokens;

@@ -1,7 +1,7 @@
-ghost use Rattle.std.specs.Prelude.{◌≡◌, option_and_then, option_copied, option_map, IfOk, IfSome};
+ghost use Rattle.std.specs.Prelude.{◌≡◌, Some, option_and_then, option_copied, option_map, IfOk, IfSome};
 ghost use Rattle.sccs_sid.specs.Sid.{IsSid};
 ghost use Rattle.sccs_trunks.specs.TrunkHistories.{is_below, trunk_scripts};
-ghost use Rattle.sccs_rcs_file.specs.Trunk.{ReadsRcs, ReadsTrunk, rcs_of, rcs_read, rcs_with, head_of, revision_of, trunk_of, at_most_one, facts_of, fields_of, inside_of, one_number, one_word, trunk_sid, unquoted, lines_in, or_empty_line, revision_by};
+ghost use Rattle.sccs_rcs_file.specs.Trunk.{ReadsRcs, ReadsTrunk, rcs_of, rcs_read, rcs_with, head_of, revision_of, revisions_at, trunk_of, at_most_one, facts_of, fields_of, inside_of, one_number, one_word, trunk_sid, unquoted, lines_in, or_empty_line, revision_by};
 ghost use Rattle.sccs_rcs_file.specs.Forms.{DeltaText, Entry};
 ghost use Rattle.sccs_rcs_file.specs.Lookups.{one_named};
 ghost use Rattle.sccs_rcs_file.specs.FactsSeen.{facts_seen, fields_seen, found_seen};
@@ -9,6 +9,7 @@ ghost use Rattle.sccs_rcs_file.specs.FactsSeen.{facts_seen, fields_seen, found_s
 use crate::dates::date_of;
 use crate::faults::RcsFault;
 use crate::forms::{DeltaText, Entry, Phrase, RcsFile};
+use crate::indexes::Index;
 use crate::kinds::{Token, TokenKind};
 use crate::lookups::one_named;
 use crate::reading::read_file;
@@ -174,28 +175,55 @@ fn fields_of<'a>(phrases: &[Phrase<'a>]) -> Option<Fields<'a>>
     Some(Fields { date, author, next })
 }
 
-// the one entry of a number
-fn entry_of<'p, 'a>(file: &'p RcsFile<'a>, number: &[u8]) -> Option<&'p Entry<'a>>
-    ensures { option_copied result ≡ one_named (λ (e : Entry). e.number) number.now file.now.entries }
+/// An RCS file, and where its entries and texts stand by their numbers.
+#[derive(Drop)]
+struct IndexedFile<'f, 'a> {
+    file: &'f RcsFile<'a>,
+    entries: Index<'f, Entry<'a>>,
+    texts: Index<'f, DeltaText<'a>>,
+    ghost entries_are: { entries.items.now ≡ file.now.entries },
+    ghost texts_are: { texts.items.now ≡ file.now.texts },
+}
+
+// a file with its indexes
+fn indexed<'f, 'a>(alloc: Global, file: &'f RcsFile<'a>) -> Result<IndexedFile<'f, 'a>, Memory>
+    ensures { IfOk result (λ indexed. indexed.file.now ≡ file.now) }
 {
-    one_named(file.entries.as_slice(), number)
+    let entries = Index::of(alloc, file.entries.as_slice())?;
+    let texts = Index::of(alloc, file.texts.as_slice())?;
+    Ok(IndexedFile {
+        file,
+        entries,
+        texts,
+    })
+}
+
+// the one entry of a number
+fn entry_of<'f, 'a>(indexed: &IndexedFile<'f, 'a>, number: &[u8]) -> Option<&'f Entry<'a>>
+    ensures { option_copied result ≡ one_named (λ (e : Entry). e.number) number.now indexed.now.file.now.entries }
+{
+    indexed.entries.one(number)
 }
 
 // the one text of a number
-fn text_of<'p, 'a>(file: &'p RcsFile<'a>, number: &[u8]) -> Option<&'p DeltaText<'a>>
-    ensures { option_copied result ≡ one_named (λ (t : DeltaText). t.number) number.now file.now.texts }
+fn text_of<'f, 'a>(indexed: &IndexedFile<'f, 'a>, number: &[u8]) -> Option<&'f DeltaText<'a>>
+    ensures { option_copied result ≡ one_named (λ (t : DeltaText). t.number) number.now indexed.now.file.now.texts }
 {
-    one_named(file.texts.as_slice(), number)
+    indexed.texts.one(number)
 }
 
 // what a file says of the revision of a number
-fn facts_of<'a>(above: Option<Sid>, number: &[u8], file: &RcsFile<'a>) -> Option<RevisionFacts<'a>>
-    ensures value { option_map facts_seen result ≡ facts_of above number.now file.now }
+fn facts_of<'a>(
+    above: Option<Sid>,
+    number: &[u8],
+    indexed: &IndexedFile<'_, 'a>,
+) -> Option<RevisionFacts<'a>>
+    ensures value { option_map facts_seen result ≡ facts_of above number.now indexed.now.file.now }
     ensures valid { IfSome result (λ f. IsSid f.sid) }
     ensures trunk { IfSome result (λ f. f.sid.branch ≡ 0) }
 {
-    let entry = entry_of(file, number)?;
-    let text = text_of(file, number)?;
+    let entry = entry_of(indexed, number)?;
+    let text = text_of(indexed, number)?;
     let sid = trunk_sid(above, number)?;
     let fields = fields_of(entry.phrases.as_slice())?;
     Some(RevisionFacts {
@@ -246,11 +274,11 @@ fn revision_of<'a>(
     alloc: Global,
     above: Option<Sid>,
     number: &[u8],
-    file: &RcsFile<'a>,
+    indexed: &IndexedFile<'_, 'a>,
 ) -> Result<Option<FoundRevision<'a>>, Memory>
-    ensures { IfOk result (λ found. option_map found_seen found ≡ revision_of above number.now file.now) }
+    ensures { IfOk result (λ found. option_map found_seen found ≡ revision_of above number.now indexed.now.file.now) }
 {
-    let Some(facts) = facts_of(above, number, file) else {
+    let Some(facts) = facts_of(above, number, indexed) else {
         return Ok(None);
     };
     let Some(revision) = revision_by(alloc, &facts)? else {
@@ -260,13 +288,10 @@ fn revision_of<'a>(
     Ok(Some(FoundRevision { revision, next }))
 }
 
-// the revisions of a file's trunk, the head first
-fn revisions_of(alloc: Global, file: &RcsFile) -> Result<Revisions, RcsFault>
-    ensures { ReadsTrunk result (trunk_of file.now) }
+// the revisions of a file's trunk from the one of a number on
+fn revisions_from(alloc: Global, head: &[u8], indexed: &IndexedFile) -> Result<Revisions, RcsFault>
+    ensures { ReadsTrunk result (revisions_at (Some head.now) indexed.now.file.now) }
 {
-    let Some(head) = head_of(file) else {
-        return Err(RcsFault::BadRevision(1));
-    };
     let mut revisions = Revisions::empty(alloc);
     let mut above = None;
     let mut next = Some(head);
@@ -275,7 +300,7 @@ fn revisions_of(alloc: Global, file: &RcsFile) -> Result<Revisions, RcsFault>
         if MOST_REVISIONS < count {
             return Err(RcsFault::BadRevision(count));
         }
-        let Ok(found) = revision_of(alloc, above, number, file) else {
+        let Ok(found) = revision_of(alloc, above, number, indexed) else {
             return Err(RcsFault::Memory);
         };
         let Some(found) = found else {
@@ -289,6 +314,19 @@ fn revisions_of(alloc: Global, file: &RcsFile) -> Result<Revisions, RcsFault>
         count += 1;
     }
     Ok(revisions)
+}
+
+// the revisions of a file's trunk, the head first
+fn revisions_of(alloc: Global, file: &RcsFile) -> Result<Revisions, RcsFault>
+    ensures { ReadsTrunk result (trunk_of file.now) }
+{
+    let Some(head) = head_of(file) else {
+        return Err(RcsFault::BadRevision(1));
+    };
+    let Ok(indexed) = indexed(alloc, file) else {
+        return Err(RcsFault::Memory);
+    };
+    revisions_from(alloc, head, &indexed)
 }
 
 // the trunk, where its texts can stand in an s-file

@@ -1,9 +1,13 @@
 -- The cells of two scripts in a row.
-use Rattle.std.proofs.Common.{◌≡◌, ℕ, zero, suc, ◌+◌, ◌-◌, ◌≤◌, ◌<◌, Bool, true, false, cond, List, [], ◌∷◌, ◌++◌, refl, sym, ap, ◌∙◌, arith, append_assoc}
+use Rattle.std.proofs.Common.{◌≡◌, ℕ, zero, suc, ◌+◌, ◌-◌, ◌≤◌, ◌<◌, Bool, true, false, cond, List, [], ◌∷◌, ◌++◌, length, map, min, replicate, refl, sym, subst, ap, ◌∙◌, ⊎_elim, arith, append_assoc}
+use Rattle.std.proofs.lemmas.Bool.{cases_lt, false≢true}
+use Rattle.std.proofs.lemmas.List.{length-map, length-replicate}
 use Rattle.sccs_history.specs.Body.{HistoryLine}
-use Rattle.sccs_trunks.specs.Trunks.{is_open}
-use Rattle.sccs_rcs_pieces.specs.Cells.{Cell, Base, New, begun_by, cell, cells_at, expand, joined, joined_at, laid, laid_at}
+use Rattle.sccs_trunks.specs.Trunks.{is_open, is_zero}
+use Rattle.sccs_rcs_pieces.specs.Cells.{Cell, Base, New, begun_by, cell_begun, cell_open, count_of, expand, inserter_of, joined, joined_at, laid, laid_at, line_by, new_cells}
 use Rattle.sccs_rcs_pieces.specs.declared.pieces.Piece.{Piece}
+use Rattle.sccs_rcs_pieces.specs.declared.pieces.Piece.TheVariants as pieces
+use Rattle.sccs_rcs_pieces.proofs.PieceCells.{base_sum}
 
 -- what comes behind the next open line may be said otherwise
 pub laid_alike : (i : ℕ) (f g : List HistoryLine → List HistoryLine) (lines : List HistoryLine) → ((rest : List HistoryLine) → f rest ≡ g rest) → laid_at i f lines ≡ laid_at i g lines
@@ -42,138 +46,144 @@ at_closed i j f g h (line ∷ lines) alike = by_test (is_open line) refl (at_clo
     by_test false closed rest =
         ap (λ l. line ∷ l) rest ∙ sym (ap (λ t. cond t (begun_by i line ∷ g (laid_at (suc j) h lines)) (line ∷ laid_at i g (laid_at (suc j) h lines))) closed)
 
-new_begun : (d i place : ℕ) (text : List ℕ) → begun_by i (record { text = text; inserter = 0; deleters = d ∷ [] }) ≡ record { text = text; inserter = i; deleters = d ∷ [] }
-new_begun d zero place text = refl
-new_begun d (suc i) place text = refl
+new_begun : (d i : ℕ) (text : List ℕ) → begun_by i (line_by 0 d text) ≡ line_by i d text
+new_begun d zero text = refl
+new_begun d (suc i) text = refl
 
-joins_at : (text : ℕ → ℕ → List ℕ) (i : ℕ) (later cells : List Cell) (lines : List HistoryLine)
-    → ((others : List Cell) (rest : List HistoryLine) → laid text (joined later others) rest ≡ laid text later (laid text others rest))
-    → laid text (joined_at i (joined later) cells) lines ≡ laid_at i (laid text later) (laid text cells lines)
-joins_at text i later [] lines joins = laid_alike i (laid text (joined later [])) (laid text later) lines (joins [])
-joins_at text i later (Base zero ∷ cells) lines joins = at_open i (laid text (joined later cells)) (laid text later) (laid text cells) lines (joins cells)
-joins_at text i later (Base (suc j) ∷ cells) lines joins =
-    at_closed i j (laid text (joined_at i (joined later) cells)) (laid text later) (laid text cells) lines (λ rest. joins_at text i later cells rest joins)
-joins_at text i later (New d zero place ∷ cells) lines joins =
-    ap (λ l. record { text = text d place; inserter = i; deleters = d ∷ [] } ∷ l) (joins cells lines)
-    ∙ ap (λ line. line ∷ laid text later (laid text cells lines)) (sym (new_begun d i place (text d place)))
-joins_at text i later (New d (suc j) place ∷ cells) lines joins =
-    ap (λ l. record { text = text d place; inserter = suc j; deleters = d ∷ [] } ∷ l) (joins_at text i later cells lines joins)
+joins_at : (i : ℕ) (later cells : List Cell) (lines : List HistoryLine)
+    → ((others : List Cell) (rest : List HistoryLine) → laid (joined later others) rest ≡ laid later (laid others rest))
+    → laid (joined_at i (joined later) cells) lines ≡ laid_at i (laid later) (laid cells lines)
+joins_at i later [] lines joins = laid_alike i (laid (joined later [])) (laid later) lines (joins [])
+joins_at i later (Base zero ∷ cells) lines joins = at_open i (laid (joined later cells)) (laid later) (laid cells) lines (joins cells)
+joins_at i later (Base (suc j) ∷ cells) lines joins =
+    at_closed i j (laid (joined_at i (joined later) cells)) (laid later) (laid cells) lines (λ rest. joins_at i later cells rest joins)
+joins_at i later (New d zero text ∷ cells) lines joins =
+    ap (λ l. line_by i d text ∷ l) (joins cells lines)
+    ∙ ap (λ line. line ∷ laid later (laid cells lines)) (sym (new_begun d i text))
+joins_at i later (New d (suc j) text ∷ cells) lines joins =
+    ap (λ l. line_by (suc j) d text ∷ l) (joins_at i later cells lines joins)
 
-pub joins : (text : ℕ → ℕ → List ℕ) (later cells : List Cell) (lines : List HistoryLine) → laid text (joined later cells) lines ≡ laid text later (laid text cells lines)
-joins text [] cells lines = refl
-joins text (Base i ∷ later) cells lines = joins_at text i later cells lines (λ others rest. joins text later others rest)
-joins text (New d i place ∷ later) cells lines = ap (λ l. record { text = text d place; inserter = i; deleters = d ∷ [] } ∷ l) (joins text later cells lines)
+pub joins : (later cells : List Cell) (lines : List HistoryLine) → laid (joined later cells) lines ≡ laid later (laid cells lines)
+joins [] cells lines = refl
+joins (Base i ∷ later) cells lines = joins_at i later cells lines (λ others rest. joins later others rest)
+joins (New d i text ∷ later) cells lines = ap (λ l. line_by i d text ∷ l) (joins later cells lines)
 
 -- ---- runs of cells
 
--- cells that add lines stand before those that they are made on
-pub join_new : (d i first count : ℕ) (later cells : List Cell) → joined (cells_at (suc d) i first count ++ later) cells ≡ cells_at (suc d) i first count ++ joined later cells
-join_new d i first zero later cells = refl
-join_new d i first (suc count) later cells = ap (λ l. New (suc d) i first ∷ l) (join_new d i (suc first) count later cells)
+-- cells of lines that the later script adds stand before those that they are made on
+pub join_new : (d i : ℕ) (lines : List (List ℕ)) (later cells : List Cell) → joined (new_cells d i lines ++ later) cells ≡ new_cells d i lines ++ joined later cells
+join_new d i [] later cells = refl
+join_new d i (line ∷ lines) later cells = ap (λ l. New d i line ∷ l) (join_new d i lines later cells)
 
-pub join_none : (i first count : ℕ) (later : List Cell) → joined (cells_at 0 i first count ++ later) [] ≡ cells_at 0 i first count ++ joined later []
-join_none i first zero later = refl
-join_none i first (suc count) later = ap (λ l. Base i ∷ l) (join_none i (suc first) count later)
+-- cells that pass lines, where none is left
+pub join_none : (i count : ℕ) (later : List Cell) → joined (replicate count (Base i) ++ later) [] ≡ replicate count (Base i) ++ joined later []
+join_none i zero later = refl
+join_none i (suc count) later = ap (λ l. Base i ∷ l) (join_none i count later)
 
-closed_cell : (d j first i : ℕ) (rest : List Cell → List Cell) (cells : List Cell) → joined_at i rest (cell d (suc j) first ∷ cells) ≡ cell d (suc j) first ∷ joined_at i rest cells
-closed_cell zero j first i rest cells = refl
-closed_cell (suc d) j first i rest cells = refl
+-- the cells of a piece have its inserter
+abbrev pub Have : ℕ → List Cell → Type 0
+Have i [] = Unit {0}
+Have i (c ∷ cells) = (cell_open c ≡ is_zero i) × Have i cells
 
-pub join_closed : (d j first count i : ℕ) (later cells : List Cell)
-    → joined (Base i ∷ later) (cells_at d (suc j) first count ++ cells) ≡ cells_at d (suc j) first count ++ joined (Base i ∷ later) cells
-join_closed d j first zero i later cells = refl
-join_closed d j first (suc count) i later cells =
-    closed_cell d j first i (joined later) (cells_at d (suc j) (suc first) count ++ cells) ∙ ap (λ l. cell d (suc j) first ∷ l) (join_closed d j (suc first) count i later cells)
+base_have : (i count : ℕ) → Have i (replicate count (Base i))
+base_have i zero = tt
+base_have i (suc count) = (refl, base_have i count)
 
-open_cell : (d first i : ℕ) (rest : List Cell → List Cell) (cells : List Cell) → joined_at i rest (cell d 0 first ∷ cells) ≡ cell d i first ∷ rest cells
-open_cell zero first i rest cells = refl
-open_cell (suc d) first i rest cells = refl
+new_have : (d i : ℕ) (lines : List (List ℕ)) → Have i (new_cells d i lines)
+new_have d i [] = tt
+new_have d i (line ∷ lines) = (refl, new_have d i lines)
 
-pub join_open : (d first count i place : ℕ) (later cells : List Cell)
-    → joined (cells_at 0 i place count ++ later) (cells_at d 0 first count ++ cells) ≡ cells_at d i first count ++ joined later cells
-join_open d first zero i place later cells = refl
-join_open d first (suc count) i place later cells =
-    open_cell d first i (joined (cells_at 0 i (suc place) count ++ later)) (cells_at d 0 (suc first) count ++ cells)
-    ∙ ap (λ l. cell d i first ∷ l) (join_open d (suc first) count i (suc place) later cells)
+pub piece_has : (p : Piece) → Have (inserter_of p) (expand p)
+piece_has (pieces.Base i count) = base_have i count
+piece_has (pieces.New d i lines) = new_have d i lines.now
 
-pub cells_split : (d i first a b : ℕ) → cells_at d i first (a + b) ≡ cells_at d i first a ++ cells_at d i (first + a) b
-cells_split d i first zero b = ap (λ n. cells_at d i first n) same ∙ ap (λ n. cells_at d i n b) same2
-  where
-    same : 0 + b ≡ b
-    same = omega arith
+-- cells that pass open ones give them their inserter
+pub join_open : (i : ℕ) (opened later cells : List Cell) → Have 0 opened
+    → joined (replicate (length opened) (Base i) ++ later) (opened ++ cells) ≡ map (cell_begun i) opened ++ joined later cells
+join_open i [] later cells have = refl
+join_open i (c ∷ opened) later cells have =
+    ap (λ t. cond t (cell_begun i c ∷ joined (replicate (length opened) (Base i) ++ later) (opened ++ cells)) (c ∷ joined_at i (joined (replicate (length opened) (Base i) ++ later)) (opened ++ cells))) have.0
+    ∙ ap (λ l. cell_begun i c ∷ l) (join_open i opened later cells have.1)
 
-    same2 : first ≡ first + 0
-    same2 = omega arith
-cells_split d i first (suc a) b =
-    ap (λ n. cells_at d i first n) same ∙ (ap (λ l. cell d i first ∷ l) (cells_split d i (suc first) a b) ∙ ap (λ n. cell d i first ∷ cells_at d i (suc first) a ++ cells_at d i n b) same2)
-  where
-    same : suc a + b ≡ suc (a + b)
-    same = omega arith
+-- those that are closed come first
+pub join_closed : (j i : ℕ) (closed later cells : List Cell) → Have (suc j) closed
+    → joined (Base i ∷ later) (closed ++ cells) ≡ closed ++ joined (Base i ∷ later) cells
+join_closed j i [] later cells have = refl
+join_closed j i (c ∷ closed) later cells have =
+    ap (λ t. cond t (cell_begun i c ∷ joined later (closed ++ cells)) (c ∷ joined_at i (joined later) (closed ++ cells))) have.0
+    ∙ ap (λ l. c ∷ l) (join_closed j i closed later cells have.1)
 
-    same2 : suc first + a ≡ first + suc a
-    same2 = omega arith
-
-pub cells_behind : (p : Piece) (count first : ℕ) → count ≤ p.count → first ≡ p.first + count
-    → expand p ≡ cells_at p.deleter p.inserter p.first count ++ cells_at p.deleter p.inserter first (p.count - count)
-cells_behind p count first le is =
-    ap (λ n. cells_at p.deleter p.inserter p.first n) same
-    ∙ (cells_split p.deleter p.inserter p.first count (p.count - count) ∙ ap (λ n. cells_at p.deleter p.inserter p.first count ++ cells_at p.deleter p.inserter n (p.count - count)) (sym is))
-  where
-    same : p.count ≡ count + (p.count - count)
-    same = omega arith
+length_cells : (p : Piece) → length (expand p) ≡ count_of p
+length_cells (pieces.Base i count) = length-replicate count (Base i)
+length_cells (pieces.New d i lines) = length-map lines.now (λ text. New d i text)
 
 -- ---- one piece on what is below it
 
 -- an open piece below, as far as both go
-pub joins_both : (below piece : Piece) (count : ℕ) (old first later first_new later_new new : List Cell) → piece.deleter ≡ 0 → below.inserter ≡ 0
-    → expand below ++ first ≡ cells_at below.deleter below.inserter below.first count ++ first_new
-    → expand piece ++ later ≡ cells_at piece.deleter piece.inserter piece.first count ++ later_new
-    → new ≡ old ++ cells_at below.deleter piece.inserter below.first count
-    → new ++ joined later_new first_new ≡ old ++ joined (expand piece ++ later) (expand below ++ first)
-joins_both below piece count old first later first_new later_new new base opened first_is later_is new_is =
-    ap (λ l. l ++ joined later_new first_new) new_is
-    ∙ (append_assoc old (cells_at below.deleter piece.inserter below.first count) (joined later_new first_new)
+pub joins_both : (below front : Piece) (i count both : ℕ) (rest put old first later first_new later_new new : List Cell)
+    → inserter_of below ≡ 0 → inserter_of front ≡ inserter_of below → count_of front ≡ both → both ≤ count
+    → expand below ≡ expand front ++ rest → put ≡ map (cell_begun i) (expand front) → first_new ≡ rest ++ first
+    → later_new ≡ replicate (count - both) (Base i) ++ later → new ≡ old ++ put
+    → new ++ joined later_new first_new ≡ old ++ joined (replicate count (Base i) ++ later) (expand below ++ first)
+joins_both below front i count both rest put old first later first_new later_new new opened same both_is le below_is put_is first_is later_is new_is =
+    ap (λ l. l ++ joined later_new first_new) (new_is ∙ ap (λ l. old ++ l) put_is)
+    ∙ (append_assoc old (map (cell_begun i) (expand front)) (joined later_new first_new)
     ∙ ap (λ l. old ++ l)
-    (sym (join_open below.deleter below.first count piece.inserter piece.first later_new first_new)
-    ∙ (ap (λ d. joined (cells_at d piece.inserter piece.first count ++ later_new) (cells_at below.deleter 0 below.first count ++ first_new)) (sym base)
-    ∙ (ap (λ i. joined (cells_at piece.deleter piece.inserter piece.first count ++ later_new) (cells_at below.deleter i below.first count ++ first_new)) (sym opened)
-    ∙ (ap (λ l. joined l (cells_at below.deleter below.inserter below.first count ++ first_new)) (sym later_is) ∙ ap (λ l. joined (expand piece ++ later) l) (sym first_is))))))
+    (ap (λ l. map (cell_begun i) (expand front) ++ joined l first_new) later_is
+    ∙ (ap (λ l. map (cell_begun i) (expand front) ++ joined (replicate (count - both) (Base i) ++ later) l) first_is
+    ∙ (sym (join_open i (expand front) (replicate (count - both) (Base i) ++ later) (rest ++ first) (subst (λ n. Have n (expand front)) (same ∙ opened) (piece_has front)))
+    ∙ (ap (λ l. joined l (expand front ++ (rest ++ first))) whole
+    ∙ ap (λ l. joined (replicate count (Base i) ++ later) l) (sym (append_assoc (expand front) rest first) ∙ ap (λ l. l ++ first) (sym below_is)))))))
+  where
+    counts : length (expand front) + (count - both) ≡ count
+    counts = omega (arith, length_cells front)
+
+    whole : replicate (length (expand front)) (Base i) ++ (replicate (count - both) (Base i) ++ later) ≡ replicate count (Base i) ++ later
+    whole =
+        sym (append_assoc (replicate (length (expand front)) (Base i)) (replicate (count - both) (Base i)) later)
+        ∙ ap (λ l. l ++ later) (sym (base_sum i (length (expand front)) (count - both)) ∙ ap (λ n. replicate n (Base i)) counts)
+
+-- one of both is passed whole
+pub fewer_both : (below count both rest others first later first_new later_new : ℕ) → both ≡ min below count → rest ≡ below - both → others ≡ count - both
+    → (rest ≡ 0 → first_new ≡ first) → (others ≡ 0 → later_new ≡ later) → first_new ≤ suc first → later_new ≤ suc later
+    → first_new + later_new ≤ suc (first + later)
+fewer_both below count both rest others first later first_new later_new is rest_is others_is first_none later_none first_most later_most =
+    ⊎_elim (λ lt. let same = first_none (omega (arith, is, rest_is)) in omega (arith, same)) (λ ge. let same = later_none (omega (arith, is, others_is)) in omega (arith, same)) (cases_lt below count)
 
 -- a piece of lines that the later script adds
-pub joins_new : (p : Piece) (later cells old new : List Cell) → 0 < p.deleter → new ≡ old ++ expand p → new ++ joined later cells ≡ old ++ joined (expand p ++ later) cells
-joins_new p later cells old new some is =
-    ap (λ l. l ++ joined later cells) is ∙ (append_assoc old (expand p) (joined later cells) ∙ ap (λ l. old ++ l) (by_deleter p.deleter some))
-  where
-    by_deleter : (d : ℕ) → 0 < d → cells_at d p.inserter p.first p.count ++ joined later cells ≡ joined (cells_at d p.inserter p.first p.count ++ later) cells
-    by_deleter zero lt = absurd (omega arith)
-    by_deleter (suc d) lt = sym (join_new d p.inserter p.first p.count later cells)
+abbrev pub is_added : Piece → Bool
+is_added (pieces.Base i count) = false
+is_added (pieces.New d i lines) = true
 
--- one that passes lines, where nothing is left below it
-pub joins_none : (p : Piece) (later first first_new old new : List Cell) → p.deleter ≡ 0 → first ≡ [] → first_new ≡ [] → new ≡ old ++ expand p
-    → new ++ joined later first_new ≡ old ++ joined (expand p ++ later) first
-joins_none p later first first_new old new base none none_new is =
-    ap (λ l. l ++ joined later first_new) is
-    ∙ (ap (λ f. (old ++ expand p) ++ joined later f) none_new
-    ∙ (append_assoc old (expand p) (joined later [])
-    ∙ (ap (λ l. old ++ l) (by_deleter p.deleter base) ∙ ap (λ f. old ++ joined (expand p ++ later) f) (sym none))))
-  where
-    by_deleter : (d : ℕ) → d ≡ 0 → cells_at d p.inserter p.first p.count ++ joined later [] ≡ joined (cells_at d p.inserter p.first p.count ++ later) []
-    by_deleter zero e = sym (join_none p.inserter p.first p.count later)
-    by_deleter (suc d) e = absurd (omega (arith, e))
+pub joins_new : (p : Piece) (later cells old new : List Cell) → is_added p ≡ true → new ≡ old ++ expand p → new ++ joined later cells ≡ old ++ joined (expand p ++ later) cells
+joins_new (pieces.Base i count) later cells old new added is = absurd (false≢true added)
+joins_new (pieces.New d i lines) later cells old new added is =
+    ap (λ l. l ++ joined later cells) is ∙ (append_assoc old (new_cells d i lines.now) (joined later cells) ∙ ap (λ l. old ++ l) (sym (join_new d i lines.now later cells)))
 
--- one that passes lines, where the piece below it is closed
-pub joins_closed : (p below : Piece) (later later_new first first_new old new : List Cell) → p.deleter ≡ 0 → 0 < p.count → 0 < below.inserter
-    → first ≡ expand below ++ first_new → later_new ≡ expand p ++ later → new ≡ old ++ expand below
-    → new ++ joined later_new first_new ≡ old ++ joined (expand p ++ later) first
-joins_closed p below later later_new first first_new old new base some closed first_is later_is is =
+-- cells that pass lines, where nothing is left below them
+pub joins_none : (i count : ℕ) (cells later first first_new old new : List Cell) → cells ≡ replicate count (Base i) → first ≡ [] → first_new ≡ [] → new ≡ old ++ cells
+    → new ++ joined later first_new ≡ old ++ joined (cells ++ later) first
+joins_none i count cells later first first_new old new cells_are none none_new is =
+    ap (λ l. l ++ joined later first_new) (is ∙ ap (λ c. old ++ c) cells_are)
+    ∙ (ap (λ f. (old ++ replicate count (Base i)) ++ joined later f) none_new
+    ∙ (append_assoc old (replicate count (Base i)) (joined later [])
+    ∙ (ap (λ l. old ++ l) (sym (join_none i count later))
+    ∙ (ap (λ f. old ++ joined (replicate count (Base i) ++ later) f) (sym none) ∙ ap (λ c. old ++ joined (c ++ later) first) (sym cells_are)))))
+
+-- cells that pass lines, where the piece below them is closed
+pub joins_closed : (below : Piece) (i count : ℕ) (cells later later_new first first_new old new : List Cell) → cells ≡ replicate count (Base i)
+    → 0 < count → 0 < inserter_of below → first ≡ expand below ++ first_new → later_new ≡ cells ++ later → new ≡ old ++ expand below
+    → new ++ joined later_new first_new ≡ old ++ joined (cells ++ later) first
+joins_closed below i count cells later later_new first first_new old new cells_are some closed first_is later_is is =
     ap (λ l. l ++ joined later_new first_new) is
     ∙ (append_assoc old (expand below) (joined later_new first_new)
-    ∙ ap (λ l. old ++ l) (ap (λ l. expand below ++ joined l first_new) later_is ∙ (by_numbers p.deleter p.count below.inserter base some closed ∙ ap (λ f. joined (expand p ++ later) f) (sym first_is))))
+    ∙ ap (λ l. old ++ l)
+    (ap (λ l. expand below ++ joined l first_new) (later_is ∙ ap (λ c. c ++ later) cells_are)
+    ∙ (by_numbers count (inserter_of below) some closed (piece_has below)
+    ∙ (ap (λ f. joined (replicate count (Base i) ++ later) f) (sym first_is) ∙ ap (λ c. joined (c ++ later) first) (sym cells_are)))))
   where
-    by_numbers : (d count j : ℕ) → d ≡ 0 → 0 < count → 0 < j
-        → cells_at below.deleter j below.first below.count ++ joined (cells_at d p.inserter p.first count ++ later) first_new
-        ≡ joined (cells_at d p.inserter p.first count ++ later) (cells_at below.deleter j below.first below.count ++ first_new)
-    by_numbers (suc d) count j e lt lt2 = absurd (omega (arith, e))
-    by_numbers zero zero j e lt lt2 = absurd (omega arith)
-    by_numbers zero (suc count) zero e lt lt2 = absurd (omega arith)
-    by_numbers zero (suc count) (suc j) e lt lt2 = sym (join_closed below.deleter j below.first below.count p.inserter (cells_at 0 p.inserter (suc p.first) count ++ later) first_new)
+    by_numbers : (n j : ℕ) → 0 < n → 0 < j → Have j (expand below)
+        → expand below ++ joined (replicate n (Base i) ++ later) first_new ≡ joined (replicate n (Base i) ++ later) (expand below ++ first_new)
+    by_numbers zero j lt lt2 have = absurd (omega arith)
+    by_numbers (suc n) zero lt lt2 have = absurd (omega arith)
+    by_numbers (suc n) (suc j) lt lt2 have = sym (join_closed j i (expand below) (replicate n (Base i) ++ later) first_new have)

@@ -28,36 +28,36 @@ begun_same n true line = refl
 begun_same n false line = refl
 
 -- one open line, struck or left, where nothing comes before it
-pass_line : (text : ℕ → ℕ → List ℕ) (n i : ℕ) (strike : Bool) (changes : List Change) (k : ℕ) (cells : List Cell) (lines : List HistoryLine)
+pass_line : (n i : ℕ) (strike : Bool) (changes : List Change) (k : ℕ) (cells : List Cell) (lines : List HistoryLine)
     → i ≡ cond strike (suc n) 0 → strikes changes (suc k) ≡ strike
-    → ((rest : List HistoryLine) → laid text cells rest ≡ behind_line (suc n) changes (suc k) rest)
-    → laid_at i (laid text cells) lines ≡ turned_from (suc n) changes k lines
-pass_line text n i strike changes k cells [] is struck next = refl
-pass_line text n i strike changes k cells (line ∷ lines) is struck next = by_test (is_open line) (pass_line text n i strike changes k cells lines is struck next)
+    → ((rest : List HistoryLine) → laid cells rest ≡ behind_line (suc n) changes (suc k) rest)
+    → laid_at i (laid cells) lines ≡ turned_from (suc n) changes k lines
+pass_line n i strike changes k cells [] is struck next = refl
+pass_line n i strike changes k cells (line ∷ lines) is struck next = by_test (is_open line) (pass_line n i strike changes k cells lines is struck next)
   where
-    by_test : (t : Bool) → laid_at i (laid text cells) lines ≡ turned_from (suc n) changes k lines
-        → cond t (begun_by i line ∷ laid text cells lines) (line ∷ laid_at i (laid text cells) lines)
+    by_test : (t : Bool) → laid_at i (laid cells) lines ≡ turned_from (suc n) changes k lines
+        → cond t (begun_by i line ∷ laid cells lines) (line ∷ laid_at i (laid cells) lines)
         ≡ cond t (begun (suc n) (strikes changes (suc k)) line ∷ behind_line (suc n) changes (suc k) lines) (line ∷ turned_from (suc n) changes k lines)
     by_test true rest =
-        ap (λ j. begun_by j line ∷ laid text cells lines) is
-        ∙ (ap (λ l. l ∷ laid text cells lines) (begun_same n strike line)
-        ∙ (ap (λ t. begun (suc n) t line ∷ laid text cells lines) (sym struck) ∙ ap (λ l. begun (suc n) (strikes changes (suc k)) line ∷ l) (next lines)))
+        ap (λ j. begun_by j line ∷ laid cells lines) is
+        ∙ (ap (λ l. l ∷ laid cells lines) (begun_same n strike line)
+        ∙ (ap (λ t. begun (suc n) t line ∷ laid cells lines) (sym struck) ∙ ap (λ l. begun (suc n) (strikes changes (suc k)) line ∷ l) (next lines)))
     by_test false rest = ap (λ l. line ∷ l) rest
 
 -- several open lines, all struck or all left
-pub pass_lines : (text : ℕ → ℕ → List ℕ) (n i : ℕ) (strike : Bool) (changes : List Change) (k count : ℕ) (cells : List Cell)
+pub pass_lines : (n i : ℕ) (strike : Bool) (changes : List Change) (k count : ℕ) (cells : List Cell)
     → i ≡ cond strike (suc n) 0
     → ((m : ℕ) → k < m → m ≤ k + count → strikes changes m ≡ strike)
     → ((m : ℕ) → k ≤ m → m < k + count → added changes m ≡ [])
-    → ((rest : List HistoryLine) → laid text cells rest ≡ behind_line (suc n) changes (k + count) rest)
-    → (lines : List HistoryLine) → laid text (replicate count (Base i) ++ cells) lines ≡ behind_line (suc n) changes k lines
-pass_lines text n i strike changes k zero cells is struck adds next lines = next lines ∙ ap (λ m. behind_line (suc n) changes m lines) same
+    → ((rest : List HistoryLine) → laid cells rest ≡ behind_line (suc n) changes (k + count) rest)
+    → (lines : List HistoryLine) → laid (replicate count (Base i) ++ cells) lines ≡ behind_line (suc n) changes k lines
+pass_lines n i strike changes k zero cells is struck adds next lines = next lines ∙ ap (λ m. behind_line (suc n) changes m lines) same
   where
     same : k + 0 ≡ k
     same = omega arith
-pass_lines text n i strike changes k (suc count) cells is struck adds next lines =
-    pass_line text n i strike changes k (replicate count (Base i) ++ cells) lines is (struck (suc k) (omega arith) (omega arith)) (λ rest.
-    pass_lines text n i strike changes (suc k) count cells is (λ m lt le. struck m (omega arith) (omega arith)) (λ m le lt. adds m (omega arith) (omega arith))
+pass_lines n i strike changes k (suc count) cells is struck adds next lines =
+    pass_line n i strike changes k (replicate count (Base i) ++ cells) lines is (struck (suc k) (omega arith) (omega arith)) (λ rest.
+    pass_lines n i strike changes (suc k) count cells is (λ m lt le. struck m (omega arith) (omega arith)) (λ m le lt. adds m (omega arith) (omega arith))
     (λ more. next more ∙ ap (λ m. behind_line (suc n) changes m more) same) rest)
     ∙ sym (none_added (suc n) changes k lines (adds k (omega arith) (omega arith)))
   where
@@ -84,38 +84,32 @@ turned_alike n a b k (line ∷ lines) strikes_alike added_alike =
 
 -- ---- the lines of a script in turn
 
--- `text` has the lines of a serial's script from a place on
-abbrev pub AreAt : (ℕ → ℕ → List ℕ) → ℕ → ℕ → List (List ℕ) → Type 0
-AreAt text n place [] = Unit {0}
-AreAt text n place (line ∷ rest) = (text n place ≡ line) × AreAt text n (suc place) rest
-
 -- changes are behind a line, and cells do to lines what they do behind it
-record Says (text : ℕ → ℕ → List ℕ) (n last : ℕ) (changes : List Change) (cells : List Cell) : Type 0 where
+record Says (n last : ℕ) (changes : List Change) (cells : List Cell) : Type 0 where
   behind : IsBehind last changes
-  cells_say : (lines : List HistoryLine) → laid text cells lines ≡ behind_line (suc n) changes last lines
+  cells_say : (lines : List HistoryLine) → laid cells lines ≡ behind_line (suc n) changes last lines
 
-taken_says : (text : ℕ → ℕ → List ℕ) (n last place : ℕ) (line : List ℕ) (inner : List Change) (cells : List Cell) → text (suc n) place ≡ line → Says text n last inner cells
-    → Says text n last (Put last line ∷ inner) (New (suc n) 0 place ∷ cells)
-taken_says text n last place line inner cells is says = record {
+taken_says : (n last : ℕ) (line : List ℕ) (inner : List Change) (cells : List Cell) → Says n last inner cells
+    → Says n last (Put last line ∷ inner) (New (suc n) 0 line ∷ cells)
+taken_says n last line inner cells says = record {
   behind = behind_put last line inner says.behind;
   cells_say = λ lines.
-      ap (λ t. earlier_line (suc n) t ∷ laid text cells lines) is
-      ∙ (ap (λ l. earlier_line (suc n) line ∷ l) (says.cells_say lines)
+      ap (λ l. earlier_line (suc n) line ∷ l) (says.cells_say lines)
       ∙ (ap (λ l. earlier_line (suc n) line ∷ (map (earlier_line (suc n)) (added inner last) ++ l))
       (turned_alike (suc n) inner (Put last line ∷ inner) last lines (λ m lt. refl) (λ m lt. sym (ap (λ t. front_if t line (added inner m)) (ne_eqb last m (λ e. omega arith)))))
-      ∙ sym (ap (λ t. map (earlier_line (suc n)) (front_if t line (added inner last)) ++ turned_from (suc n) (Put last line ∷ inner) last lines) (eq-eqb last last refl))));
+      ∙ sym (ap (λ t. map (earlier_line (suc n)) (front_if t line (added inner last)) ++ turned_from (suc n) (Put last line ∷ inner) last lines) (eq-eqb last last refl)));
 }
 
-delete_says : (text : ℕ → ℕ → List ℕ) (n last line count : ℕ) (inner : List Change) (cells : List Cell) → last < line → 0 < count
-    → Says text n (line + count - 1) inner cells
-    → Says text n last (Strike line count ∷ inner) (replicate (line - 1 - last) (Base 0) ++ (replicate count (Base (suc n)) ++ cells))
-delete_says text n last line count inner cells low some says = record {
+delete_says : (n last line count : ℕ) (inner : List Change) (cells : List Cell) → last < line → 0 < count
+    → Says n (line + count - 1) inner cells
+    → Says n last (Strike line count ∷ inner) (replicate (line - 1 - last) (Base 0) ++ (replicate count (Base (suc n)) ++ cells))
+delete_says n last line count inner cells low some says = record {
   behind = behind_strike last line count inner low (behind_wider last (line + count - 1) inner (omega arith) says.behind);
   cells_say =
-      pass_lines text n 0 false changes last (line - 1 - last) (replicate count (Base (suc n)) ++ cells) refl
+      pass_lines n 0 false changes last (line - 1 - last) (replicate count (Base (suc n)) ++ cells) refl
       (λ m lt le. or_from (nat_le line m && nat_lt m (line + count)) (strikes inner m) (and_left (nat_le line m) (nat_lt m (line + count)) (lt-leb line m (omega arith))) (says.behind.leaves m (omega arith)))
       (λ m le lt. says.behind.adds m (omega arith))
-      (λ rest. pass_lines text n (suc n) true changes (last + (line - 1 - last)) count cells refl
+      (λ rest. pass_lines n (suc n) true changes (last + (line - 1 - last)) count cells refl
       (λ m lt le. or_left (nat_le line m && nat_lt m (line + count)) (strikes inner m) (Rattle.std.proofs.lemmas.Bool.and_from (nat_le line m) (nat_lt m (line + count)) (le-leb line m (omega arith)) (lt-ltb m (line + count) (omega arith))))
       (λ m le lt. says.behind.adds m (omega arith))
       (λ more. says.cells_say more ∙ (behind_same more ∙ ap (λ k. behind_line (suc n) changes k more) same)) rest);
@@ -133,12 +127,12 @@ delete_says text n last line count inner cells low some says = record {
         (turned_alike (suc n) inner (Strike line count ∷ inner) (line + count - 1) more
         (λ m lt. sym (ap (λ t. t || strikes inner m) (and_right (nat_le line m) (nat_lt m (line + count)) (le-ltb m (line + count) (omega arith))))) (λ m lt. refl))
 
-add_says : (text : ℕ → ℕ → List ℕ) (n last line : ℕ) (inner : List Change) (cells : List Cell) → last ≤ line
-    → Says text n line inner cells → Says text n last inner (replicate (line - last) (Base 0) ++ cells)
-add_says text n last line inner cells low says = record {
+add_says : (n last line : ℕ) (inner : List Change) (cells : List Cell) → last ≤ line
+    → Says n line inner cells → Says n last inner (replicate (line - last) (Base 0) ++ cells)
+add_says n last line inner cells low says = record {
   behind = behind_wider last line inner low says.behind;
   cells_say =
-      pass_lines text n 0 false inner last (line - last) cells refl
+      pass_lines n 0 false inner last (line - last) cells refl
       (λ m lt le. says.behind.leaves m (omega arith))
       (λ m le lt. says.behind.adds m (omega arith))
       (λ rest. says.cells_say rest ∙ ap (λ k. behind_line (suc n) inner k rest) same);
@@ -148,44 +142,44 @@ add_says text n last line inner cells low says = record {
     same = omega arith
 
 -- what comes after a line of the script
-abbrev Rest : (ℕ → ℕ → List ℕ) → ℕ → ℕ → ℕ → List (List ℕ) → Type 0
-Rest text n lines place rest =
-    (last taken : ℕ) (changes : List Change) → changes_from lines last taken rest ≡ Ok changes → Says text n last changes (cells_from (suc n) last taken place rest)
+abbrev Rest : ℕ → ℕ → List (List ℕ) → Type 0
+Rest n lines rest =
+    (last taken : ℕ) (changes : List Change) → changes_from lines last taken rest ≡ Ok changes → Says n last changes (cells_from (suc n) last taken rest)
 
-command_says : (text : ℕ → ℕ → List ℕ) (n lines last place : ℕ) (rest : List (List ℕ)) (changes : List Change) (o : Option ScriptCommand)
+command_says : (n lines last : ℕ) (rest : List (List ℕ)) (changes : List Change) (o : Option ScriptCommand)
     → or_at rest (Rattle.std.specs.Prelude.option_and_then (λ command. only (fits lines last (length rest) command) command) o)
     (λ command. then_changes (with_command command) (changes_from lines (last_of command) (taken_by command) rest)) ≡ Ok changes
-    → Rest text n lines place rest
-    → Says text n last changes (command_cells (suc n) last o (λ behind taken. cells_from (suc n) behind taken place rest))
-command_says text n lines last place rest changes None e more = no_fault (suc (length rest)) changes e
-command_says text n lines last place rest changes (Some (Delete line count)) e more = by_fit (fits lines last (length rest) (Delete line count)) refl e
+    → Rest n lines rest
+    → Says n last changes (command_cells (suc n) last o (λ behind taken. cells_from (suc n) behind taken rest))
+command_says n lines last rest changes None e more = no_fault (suc (length rest)) changes e
+command_says n lines last rest changes (Some (Delete line count)) e more = by_fit (fits lines last (length rest) (Delete line count)) refl e
   where
     by_fit : (t : Bool) → fits lines last (length rest) (Delete line count) ≡ t
         → or_at rest (only t (Delete line count)) (λ command. then_changes (with_command command) (changes_from lines (last_of command) (taken_by command) rest)) ≡ Ok changes
-        → Says text n last changes (replicate (line - 1 - last) (Base 0) ++ (replicate count (Base (suc n)) ++ cells_from (suc n) (line + count - 1) 0 place rest))
+        → Says n last changes (replicate (line - 1 - last) (Base 0) ++ (replicate count (Base (suc n)) ++ cells_from (suc n) (line + count - 1) 0 rest))
     by_fit false f e2 = no_fault (suc (length rest)) changes e2
     by_fit true f e2 =
         let inside = within (λ l. Strike line count ∷ l) (changes_from lines (line + count - 1) 0 rest) changes e2 in
         let parts = and_parts (nat_lt 0 count) (nat_lt last line && nat_le (line + count) (suc lines)) f in
         let low = and_parts (nat_lt last line) (nat_le (line + count) (suc lines)) parts.1 in
-        subst (λ c. Says text n last c (replicate (line - 1 - last) (Base 0) ++ (replicate count (Base (suc n)) ++ cells_from (suc n) (line + count - 1) 0 place rest))) inside.whole
-        (delete_says text n last line count inside.inner (cells_from (suc n) (line + count - 1) 0 place rest) (ltb-true last line low.0) (ltb-true 0 count parts.0)
+        subst (λ c. Says n last c (replicate (line - 1 - last) (Base 0) ++ (replicate count (Base (suc n)) ++ cells_from (suc n) (line + count - 1) 0 rest))) inside.whole
+        (delete_says n last line count inside.inner (cells_from (suc n) (line + count - 1) 0 rest) (ltb-true last line low.0) (ltb-true 0 count parts.0)
         (more (line + count - 1) 0 inside.inner inside.read))
-command_says text n lines last place rest changes (Some (Add line count)) e more = by_fit (fits lines last (length rest) (Add line count)) refl e
+command_says n lines last rest changes (Some (Add line count)) e more = by_fit (fits lines last (length rest) (Add line count)) refl e
   where
     by_fit : (t : Bool) → fits lines last (length rest) (Add line count) ≡ t
         → or_at rest (only t (Add line count)) (λ command. then_changes (with_command command) (changes_from lines (last_of command) (taken_by command) rest)) ≡ Ok changes
-        → Says text n last changes (replicate (line - last) (Base 0) ++ cells_from (suc n) line count place rest)
+        → Says n last changes (replicate (line - last) (Base 0) ++ cells_from (suc n) line count rest)
     by_fit false f e2 = no_fault (suc (length rest)) changes e2
     by_fit true f e2 =
         let inside = within (λ l. l) (changes_from lines line count rest) changes e2 in
         let parts = and_parts (nat_lt 0 count) (nat_le last line && (nat_le line lines && nat_le count (length rest))) f in
         let low = and_parts (nat_le last line) (nat_le line lines && nat_le count (length rest)) parts.1 in
-        subst (λ c. Says text n last c (replicate (line - last) (Base 0) ++ cells_from (suc n) line count place rest)) inside.whole
-        (add_says text n last line inside.inner (cells_from (suc n) line count place rest) (leb-true last line low.0) (more line count inside.inner inside.read))
+        subst (λ c. Says n last c (replicate (line - last) (Base 0) ++ cells_from (suc n) line count rest)) inside.whole
+        (add_says n last line inside.inner (cells_from (suc n) line count rest) (leb-true last line low.0) (more line count inside.inner inside.read))
 
-script_says : (text : ℕ → ℕ → List ℕ) (n lines place : ℕ) (script : List (List ℕ)) → AreAt text (suc n) place script → Rest text n lines place script
-script_says text n lines place [] are last taken changes e = subst (λ c. Says text n last c []) (ap changes_or e) (record {
+script_says : (n lines : ℕ) (script : List (List ℕ)) → Rest n lines script
+script_says n lines [] last taken changes e = subst (λ c. Says n last c []) (ap changes_or e) (record {
   behind = behind_none last;
   cells_say = λ ls. sym (turned_none ls);
 })
@@ -200,25 +194,25 @@ script_says text n lines place [] are last taken changes e = subst (λ c. Says t
             by_test : (t : Bool) → turned_from (suc n) [] (suc k) ls ≡ ls → turned_from (suc n) [] k ls ≡ ls → cond t (line ∷ turned_from (suc n) [] (suc k) ls) (line ∷ turned_from (suc n) [] k ls) ≡ line ∷ ls
             by_test true next same = ap (λ l. line ∷ l) next
             by_test false next same = ap (λ l. line ∷ l) same
-script_says text n lines place (line ∷ rest) are last zero changes e = by_bare (begins 1 line) e (script_says text n lines (suc place) rest are.1)
+script_says n lines (line ∷ rest) last zero changes e = by_bare (begins 1 line) e (script_says n lines rest)
   where
     by_bare : (t : Bool) → cond t (Err (suc (length rest))) (or_at rest (fit_command lines last (length rest) line) (λ command. then_changes (with_command command) (changes_from lines (last_of command) (taken_by command) rest))) ≡ Ok changes
-        → Rest text n lines (suc place) rest
-        → Says text n last changes (command_cells (suc n) last (command_of line) (λ behind taken. cells_from (suc n) behind taken (suc place) rest))
+        → Rest n lines rest
+        → Says n last changes (command_cells (suc n) last (command_of line) (λ behind taken. cells_from (suc n) behind taken rest))
     by_bare true e2 more = no_fault (suc (length rest)) changes e2
-    by_bare false e2 more = command_says text n lines last (suc place) rest changes (command_of line) e2 more
-script_says text n lines place (line ∷ rest) are last (suc taken) changes e = by_bare (begins 1 line) e (script_says text n lines (suc place) rest are.1)
+    by_bare false e2 more = command_says n lines last rest changes (command_of line) e2 more
+script_says n lines (line ∷ rest) last (suc taken) changes e = by_bare (begins 1 line) e (script_says n lines rest)
   where
     by_bare : (t : Bool) → cond t (Err (suc (length rest))) (then_changes (λ inner. Put last line ∷ inner) (changes_from lines last taken rest)) ≡ Ok changes
-        → Rest text n lines (suc place) rest
-        → Says text n last changes (New (suc n) 0 place ∷ cells_from (suc n) last taken (suc place) rest)
+        → Rest n lines rest
+        → Says n last changes (New (suc n) 0 line ∷ cells_from (suc n) last taken rest)
     by_bare true e2 more = no_fault (suc (length rest)) changes e2
     by_bare false e2 more =
         let inside = within (λ inner. Put last line ∷ inner) (changes_from lines last taken rest) changes e2 in
-        subst (λ c. Says text n last c (New (suc n) 0 place ∷ cells_from (suc n) last taken (suc place) rest)) inside.whole
-        (taken_says text n last place line inside.inner (cells_from (suc n) last taken (suc place) rest) are.0 (more last taken inside.inner inside.read))
+        subst (λ c. Says n last c (New (suc n) 0 line ∷ cells_from (suc n) last taken rest)) inside.whole
+        (taken_says n last line inside.inner (cells_from (suc n) last taken rest) (more last taken inside.inner inside.read))
 
 -- the cells of a fit script turn lines back
-pub script_turns : (text : ℕ → ℕ → List ℕ) (n lines : ℕ) (script : List (List ℕ)) (changes : List Change) (ls : List HistoryLine) → AreAt text (suc n) 0 script
-    → changes_from lines 0 0 script ≡ Ok changes → laid text (script_cells (suc n) script) ls ≡ turned (suc n) changes ls
-script_turns text n lines script changes ls are e = (script_says text n lines 0 script are 0 0 changes e).cells_say ls
+pub script_turns : (n lines : ℕ) (script : List (List ℕ)) (changes : List Change) (ls : List HistoryLine)
+    → changes_from lines 0 0 script ≡ Ok changes → laid (script_cells (suc n) script) ls ≡ turned (suc n) changes ls
+script_turns n lines script changes ls e = (script_says n lines script 0 0 changes e).cells_say ls

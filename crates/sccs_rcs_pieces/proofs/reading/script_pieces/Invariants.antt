@@ -1,13 +1,11 @@
-use Rattle.std.proofs.Common.{◌≡◌, ◌+◌, ◌++◌, length}
+use Rattle.std.proofs.Common.{◌≡◌, ◌++◌, length}
 use Rattle.sccs_rcs_pieces.specs.Cells.{cells_of}
 use Rattle.sccs_rcs_pieces.specs.Scripts.{cells_from, script_cells}
 use Rattle.sccs_rcs_pieces.proofs.reading.script_pieces.Given as goal
 
 -- the pieces so far and the cells of the rest are those of the script
 abbrev pub invariant-lines : goal.invariant-lines
-invariant-lines l =
-    (l.read + length l.rest ≡ length l.fn.script)
-    × (cells_of l.pieces.items ++ cells_from l.fn.serial l.last 0 l.read l.rest ≡ script_cells l.fn.serial l.fn.script)
+invariant-lines l = cells_of l.pieces.items ++ cells_from l.fn.serial l.last 0 l.rest ≡ script_cells l.fn.serial l.fn.script
 
 abbrev pub decreases-lines : goal.decreases-lines
 decreases-lines l = length l.rest

@@ -1,0 +1,3 @@
+pub mod PutRuns
+pub mod ReadTrunks
+pub mod RunLaws
