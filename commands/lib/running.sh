@@ -67,6 +67,8 @@ in_folder() {
     fi
     working=1
     (
+        # what can't be written past a limit of the shell is a fault of the disk, and no end
+        trap '' XFSZ
         [ -z "${shielded:-}" ] || trap '' HUP INT QUIT TERM
         cd "$1" || exit 1
         shift

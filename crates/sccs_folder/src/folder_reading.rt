@@ -1,4 +1,4 @@
-//! A file of the folder that is read: kept open for a run of calls, and read ahead.
+//! Files of the folder that are read: the last two are kept open for a run of calls, and read ahead.
 ghost use Rattle.std.specs.Prelude.{◌≡◌, ℕ, ◌≤◌, length, IfOk, IfSome};
 
 use sccs_base::{Failed, Memory, Name, copy_front};
@@ -6,10 +6,11 @@ use std::alloc::Global;
 use std::fs;
 use std::fs::{Metadata, OpenFile};
 use std::io::{ErrorKind, Read, Seek, SeekFrom};
+use std::mem::swap;
 use std::rt::Files;
 
 // how many bytes one read of the system asks for
-const READ_AHEAD: usize = 262_144;
+const READ_AHEAD: usize = 131_072;
 
 // a file that is open for reading, with its name
 #[derive(Drop)]
@@ -23,11 +24,19 @@ struct OpenFor<F> {
     count: usize,
 }
 
-/// The file that was read last, if it is still open, and what was read ahead of it.
+// a file that is read, if one is open, and what was read ahead of it
 #[derive(Drop)]
-pub struct FolderReader<F> {
+struct Reading<F> {
     open: Option<OpenFor<F>>,
     ahead: Vec<u8>,
+}
+
+/// The two files that were read last, as far as they are still open, and what was read ahead of them: a
+/// delta looks at its s-file and its g-file in turns.
+#[derive(Drop)]
+pub struct FolderReader<F> {
+    last: Reading<F>,
+    other: Reading<F>,
 }
 
 /// What stands under a name, where that is a regular file; None where the name isn't there. What is
@@ -122,41 +131,38 @@ fn ahead_from(ahead: &[u8], first: u64, count: usize, from: u64) -> &[u8] {
     }
 }
 
-impl<F: Read + Seek + OpenFile + Drop> FolderReader<F> {
-    /// No file is open.
-    pub fn new(alloc: Global) -> Result<FolderReader<F>, Memory> {
+impl<F: Read + Seek + OpenFile + Drop> Reading<F> {
+    // no file is open
+    fn new(alloc: Global) -> Result<Reading<F>, Memory> {
         let ahead = vec![in alloc; 0; READ_AHEAD]?;
-        Ok(FolderReader { open: None, ahead })
+        Ok(Reading { open: None, ahead })
     }
 
-    /// Closes the file, and lets go of what was read ahead.
-    pub fn close(&mut self) {
-        self.open = None;
-    }
-
-    // opens the file of a name, where that isn't the one that is open; none is open where it isn't there
-    fn turn_to<R: Files<File = F>>(&mut self, rt: &R, name: &Name) -> Result<(), Failed> {
-        if let Some(open) = &self.open {
-            if open.name.is(name) {
-                return Ok(());
-            }
+    // whether the file of a name is open
+    fn reads(&self, name: &Name) -> bool {
+        match &self.open {
+            Some(open) => open.name.is(name),
+            None => false,
         }
-        self.open = None;
-        if let Some(file) = open_to_read(rt, name)? {
-            self.open = Some(OpenFor {
-                name: *name,
-                file,
-                place: 0,
-                from: 0,
-                count: 0,
-            });
-        }
-        Ok(())
     }
 
-    /// The length of a file; None where the name isn't there.
-    pub fn size<R: Files<File = F>>(&mut self, rt: &R, name: &Name) -> Result<Option<u64>, Failed> {
-        self.turn_to(rt, name)?;
+    // opens the file of a name in the place of the one that is open; whether it is there
+    fn open_file<R: Files<File = F>>(&mut self, rt: &R, name: &Name) -> Result<bool, Failed> {
+        let Some(file) = open_to_read(rt, name)? else {
+            return Ok(false);
+        };
+        self.open = Some(OpenFor {
+            name: *name,
+            file,
+            place: 0,
+            from: 0,
+            count: 0,
+        });
+        Ok(true)
+    }
+
+    // the length of the file that is open
+    fn size(&self) -> Result<Option<u64>, Failed> {
         let Some(open) = &self.open else {
             return Ok(None);
         };
@@ -166,17 +172,10 @@ impl<F: Read + Seek + OpenFile + Drop> FolderReader<F> {
         }
     }
 
-    /// Reads a file from a place on; None where the name isn't there.
-    pub fn read_at<R: Files<File = F>>(
-        &mut self,
-        rt: &R,
-        name: &Name,
-        from: u64,
-        into: &mut [u8],
-    ) -> Result<Option<usize>, Failed>
+    // reads the file that is open from a place on
+    fn read_at(&mut self, from: u64, into: &mut [u8]) -> Result<Option<usize>, Failed>
         ensures { IfOk result (λ r. IfSome r (λ n. n ≤ length into.old)) }
     {
-        self.turn_to(rt, name)?;
         let Some(open) = &mut self.open else {
             return Ok(None);
         };
@@ -193,5 +192,57 @@ impl<F: Read + Seek + OpenFile + Drop> FolderReader<F> {
         open.count = count;
         let ready = ahead_from(&self.ahead, open.from, open.count, next);
         Ok(Some(first + copy_front(ready, &mut into[first..])))
+    }
+}
+
+impl<F: Read + Seek + OpenFile + Drop> FolderReader<F> {
+    /// No file is open.
+    pub fn new(alloc: Global) -> Result<FolderReader<F>, Memory> {
+        Ok(FolderReader {
+            last: Reading::new(alloc)?,
+            other: Reading::new(alloc)?,
+        })
+    }
+
+    /// Closes the files, and lets go of what was read ahead.
+    pub fn close(&mut self) {
+        self.last.open = None;
+        self.other.open = None;
+    }
+
+    // makes the file of a name the last one, and opens it where neither is it; whether it is there
+    fn turn_to<R: Files<File = F>>(&mut self, rt: &R, name: &Name) -> Result<bool, Failed> {
+        if self.last.reads(name) {
+            return Ok(true);
+        }
+        if !self.other.reads(name) && !self.other.open_file(rt, name)? {
+            return Ok(false);
+        }
+        swap(&mut self.last, &mut self.other);
+        Ok(true)
+    }
+
+    /// The length of a file; None where the name isn't there.
+    pub fn size<R: Files<File = F>>(&mut self, rt: &R, name: &Name) -> Result<Option<u64>, Failed> {
+        if !self.turn_to(rt, name)? {
+            return Ok(None);
+        }
+        self.last.size()
+    }
+
+    /// Reads a file from a place on; None where the name isn't there.
+    pub fn read_at<R: Files<File = F>>(
+        &mut self,
+        rt: &R,
+        name: &Name,
+        from: u64,
+        into: &mut [u8],
+    ) -> Result<Option<usize>, Failed>
+        ensures { IfOk result (λ r. IfSome r (λ n. n ≤ length into.old)) }
+    {
+        if !self.turn_to(rt, name)? {
+            return Ok(None);
+        }
+        self.last.read_at(from, into)
     }
 }

@@ -1,16 +1,21 @@
 //! A file of the folder that is appended to: kept open for a run of calls, and written in long pieces.
 use crate::folder_reading::regular;
-use sccs_base::{Failed, Memory, Name, OutputBuffer, Sink, WriterSink};
+use sccs_base::{FILE_LIMIT, Failed, Memory, Name, OutputBuffer, Sink, WriterSink, copy_front};
 use std::alloc::Global;
 use std::fs::OpenOptions;
 use std::io::{Seek, SeekFrom, Write};
 use std::rt::Files;
+
+// the most bytes that a name in a folder has: limits.h
+const NAME_MAX: usize = 255;
 
 // a file that is open for appending, with its name
 #[derive(Drop)]
 struct OpenFor<F> {
     name: Name,
     sink: WriterSink<F>,
+    // how many bytes more it may have
+    room: u64,
 }
 
 /// The file that was appended to last, if it is still open, and the bytes that are held back from it.
@@ -20,11 +25,22 @@ pub struct FolderWriter<F> {
     held: OutputBuffer,
 }
 
-// opens a regular file that is there for writing
-fn open_to_write<R: Files>(rt: &R, name: &Name, how: &OpenOptions) -> Result<R::File, Failed> {
-    match regular(rt, name)? {
-        Some(_) => how.open(rt, name.text()).map_err(|_| Failed),
-        None => Err(Failed),
+/// The name of the s-file that is to be replaced by the file of a name; None where that is no x-file.
+pub fn replaced_by(name: &Name) -> Option<Name> {
+    let [b'x', b'.', ..] = name.bytes() else {
+        return None;
+    };
+    let mut bytes = [b's'; NAME_MAX];
+    let count = copy_front(name.bytes(), &mut bytes);
+    bytes[0] = b's';
+    Name::read(&bytes[..count])
+}
+
+// how many bytes more a file of so many may have: an x-file at most as many as can be read again
+fn room_for(name: &Name, len: u64) -> u64 {
+    match replaced_by(name) {
+        Some(_) => FILE_LIMIT.saturating_sub(len),
+        None => u64::MAX,
     }
 }
 
@@ -39,7 +55,9 @@ pub fn write_over<R: Files>(rt: &R, name: &Name, from: u64, bytes: &[u8]) -> Res
     }
     let mut how = OpenOptions::new();
     how.write(true);
-    let mut file = open_to_write(rt, name, &how)?;
+    let Ok(mut file) = how.open(rt, name.text()) else {
+        return Err(Failed);
+    };
     if file.seek(SeekFrom::Start(from)).is_err() {
         return Err(Failed);
     }
@@ -84,17 +102,23 @@ impl<F: Write + Drop> FolderWriter<F> {
             return Ok(());
         }
         self.settle()?;
+        let Some(metadata) = regular(rt, name)? else {
+            return Err(Failed);
+        };
         let mut how = OpenOptions::new();
         how.append(true);
-        let file = open_to_write(rt, name, &how)?;
+        let Ok(file) = how.open(rt, name.text()) else {
+            return Err(Failed);
+        };
         self.open = Some(OpenFor {
             name: *name,
             sink: WriterSink::new(file),
+            room: room_for(name, metadata.len()),
         });
         Ok(())
     }
 
-    /// Adds bytes at the end of a file that is there.
+    /// Adds bytes at the end of a file that is there; an x-file that would be longer than can be read again fails.
     pub fn append<R: Files<File = F>>(
         &mut self,
         rt: &R,
@@ -102,9 +126,13 @@ impl<F: Write + Drop> FolderWriter<F> {
         bytes: &[u8],
     ) -> Result<(), Failed> {
         self.turn_to(rt, name)?;
-        match &mut self.open {
-            Some(open) => self.held.give(&mut open.sink, bytes),
-            None => Err(Failed),
-        }
+        let Some(open) = &mut self.open else {
+            return Err(Failed);
+        };
+        let Some(room) = open.room.checked_sub(bytes.len() as u64) else {
+            return Err(Failed);
+        };
+        open.room = room;
+        self.held.give(&mut open.sink, bytes)
     }
 }

@@ -2,21 +2,27 @@
 ghost use Rattle.std.specs.Prelude.{◌≤◌, length, IfOk, IfSome};
 
 use crate::folder_reading::{FolderReader, open_to_read, regular};
-use crate::folder_writing::{FolderWriter, write_over};
+use crate::folder_writing::{FolderWriter, replaced_by, write_over};
 use sccs_base::{Failed, Memory, Name, Names};
 use sccs_disk::{Creation, DiskRefusal};
 use std::alloc::Global;
 use std::fs::{DirEntry, OpenFile, OpenOptions};
 use std::io::ErrorKind;
+use std::os::unix::fs::{OpenOptionsExt, PermissionsExt};
 use std::rt::Files;
 use std::{fs, io};
 
 // the current folder's path
 const HERE: &str = ".";
 
-/// The current folder. The file that was read last is kept open and read ahead. The file that was
+// the rights of a new file, as far as the mask of the process leaves them, and those that the owner has
+const ALL_RIGHTS: u32 = 0o666;
+
+const OWNER_RIGHTS: u32 = 0o600;
+
+/// The current folder. The two files that were read last are kept open and read ahead. The file that was
 /// appended to last is kept open, and what is appended is held back until it is long, or another
-/// call needs it written. Each call that changes something lets go of the file that is read.
+/// call needs it written. Each call that changes something lets go of the files that are read.
 #[derive(Drop)]
 pub struct Folder<R: Files> {
     rt: R,
@@ -45,6 +51,17 @@ fn refusal_of(error: &io::Error) -> DiskRefusal {
 fn sync_path<R: Files>(rt: &R, path: &str) -> Result<(), Failed> {
     let file = made(fs::open(rt, path))?;
     made(file.sync_all())
+}
+
+// the rights of a new file of a name: an x-file has none for group and others that its s-file hasn't
+fn rights_of<R: Files>(rt: &R, name: &Name) -> Result<u32, Failed> {
+    let Some(sfile) = replaced_by(name) else {
+        return Ok(ALL_RIGHTS);
+    };
+    match regular(rt, &sfile)? {
+        Some(metadata) => Ok(ALL_RIGHTS & (metadata.permissions().mode() | OWNER_RIGHTS)),
+        None => Ok(ALL_RIGHTS),
+    }
 }
 
 // the name of an entry of the folder; None where it is no name, or no regular file has it. That what stands under the
@@ -129,11 +146,13 @@ where
         }
     }
 
-    /// Makes an empty file; it isn't made through a link.
+    /// Makes an empty file; it isn't made through a link. An x-file gets no rights that its s-file hasn't.
     pub fn create(&mut self, name: &Name) -> Result<Creation, Failed> {
         self.settle()?;
         let mut how = OpenOptions::new();
-        how.write(true).create_new(true);
+        how.write(true)
+            .create_new(true)
+            .mode(rights_of(&self.rt, name)?);
         match how.open(&self.rt, name.text()) {
             Ok(_) => Ok(Creation::Created),
             Err(error) => {
