@@ -8,7 +8,7 @@ bin = $(DESTDIR)$(PREFIX)/bin
 libexec = $(DESTDIR)$(PREFIX)/libexec/sccs
 man = $(DESTDIR)$(PREFIX)/share/man
 completions = $(DESTDIR)$(PREFIX)/share/bash-completion/completions
-commands = admin get delta prs rmdel sact unget val what cdc sccsdiff
+commands = admin get delta prs rmdel sact unget val what cdc sccsdiff rcs2sccs
 
 help:
 	@sed -n 's/^# //p' Makefile
@@ -21,15 +21,17 @@ install:
 	program=$$(tools/program) && install -m 755 "$$program" $(bin)/sccs-core
 	cd commands && install -m 755 sccs $(commands) $(libexec) && install -m 644 lib/*.sh $(libexec)/lib
 	ln -sf ../libexec/sccs/sccs $(bin)/sccs
+	ln -sf ../libexec/sccs/rcs2sccs $(bin)/rcs2sccs
 	install -m 755 commands/sccs2git $(bin)/sccs2git
 	install -m 644 man/*.1 $(man)/man1
 	install -m 644 man/*.5 $(man)/man5
 	install -m 644 man/*.7 $(man)/man7
 	install -m 644 commands/completion.bash $(completions)/sccs
+	ln -sf sccs $(completions)/rcs2sccs
 
 uninstall:
 	rm -rf $(libexec)
-	rm -f $(bin)/sccs $(bin)/sccs-core $(bin)/sccs2git $(completions)/sccs
+	rm -f $(bin)/sccs $(bin)/sccs-core $(bin)/sccs2git $(bin)/rcs2sccs $(completions)/sccs $(completions)/rcs2sccs
 	cd man && for page in *; do rm -f $(man)/man$${page##*.}/$$page; done
 
 .PHONY: help check install uninstall

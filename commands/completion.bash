@@ -1,7 +1,7 @@
 # shellcheck shell=bash
-# Completion of sccs for bash: the words, their options, and the names of the files that have a history.
+# Completion of sccs for bash: the words, their options, and the names of the files that have a history; and of rcs2sccs.
 
-_sccs_words='admin batch cdc check clean create deledit delget delta diffs edit enter fix get info print prs prt recover rmdel sact
+_sccs_words='admin batch cdc check clean create deledit delget delta diffs edit enter fix get import info print prs prt recover rmdel sact
     sccsdiff soak tell unedit unget val what'
 
 # sets `folder` and `path`: the folder of s-files, and the -d that stands before names; gives the place of the word in `place`
@@ -81,6 +81,14 @@ _sccs_files() {
     compopt -o filenames 2>/dev/null
 }
 
+# the s-files that RCS files of this folder are to become
+_sccs_imports() {
+    local file
+    for file in *,v; do
+        [[ ! -f $file || s.$file != "${COMP_WORDS[COMP_CWORD]}"* ]] || COMPREPLY+=("s.${file%,v}")
+    done
+}
+
 # the words that are completed by files
 _sccs_operands() {
     case $1 in
@@ -89,6 +97,7 @@ _sccs_operands() {
         mapfile -t COMPREPLY < <(compgen -f -- "${COMP_WORDS[COMP_CWORD]}")
         compopt -o filenames 2>/dev/null
         ;;
+    import) _sccs_imports ;;
     batch | soak | check | tell | info) ;;
     *) _sccs_files s ;;
     esac
@@ -115,3 +124,16 @@ _sccs() {
 }
 
 complete -F _sccs sccs
+
+# options, folders and RCS files
+_rcs2sccs() {
+    local typed=${COMP_WORDS[COMP_CWORD]}
+    if [[ $typed == -* ]]; then
+        mapfile -t COMPREPLY < <(compgen -W '-n -v' -- "$typed")
+    else
+        mapfile -t COMPREPLY < <(compgen -d -- "$typed"; compgen -f -X '!*,v' -- "$typed")
+        compopt -o filenames 2>/dev/null
+    fi
+}
+
+complete -F _rcs2sccs rcs2sccs

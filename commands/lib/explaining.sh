@@ -39,7 +39,7 @@ explain_number() {
     01) explain_name ;;
     02) explain_lock ;;
     03) explain_missing ;;
-    04) helps "$beside$name is stored already; without -i and -n admin changes its users, flags and description" ;;
+    04) explain_stored ;;
     05) helps "files and input may have 1 GiB at most" ;;
     06) helps "the file doesn't begin as an s-file does" ;;
     07) helps "the file was changed by something else than these commands, or damaged: compare it with a copy" ;;
@@ -68,6 +68,9 @@ explain_number() {
     32) helps "only who made that version, or who made the file, may take it back" ;;
     33) helps "no further number is left in this release; begin another by get -e -r" ;;
     34) helps "another program changed the file meanwhile: try again" ;;
+    35) helps "$of,v is damaged from that byte on, or no RCS file: rlog may say more" ;;
+    36) explain_revision "$1" ;;
+    37) helps "that line of the revision's text or script, as $of,v has it, doesn't fit the text before it, or begins with the byte 1 (SOH)" ;;
     *) return 0 ;;
     esac
 }
@@ -87,8 +90,27 @@ explain_lock() {
     helps "${beside}z.$of${holder:+ is that of $holder}: wait for the command that is at work, or, if it was stopped, sccs recover $of"
 }
 
+explain_stored() {
+    if [ "${verb:-}" = import ]; then
+        helps "$beside$name is there already, and stays as it is"
+    else
+        helps "$beside$name is stored already; without -i and -n admin changes its users, flags and description"
+    fi
+}
+
+# explain_revision LINE
+explain_revision() {
+    if [ "${1#*revision 0 }" != "$1" ]; then
+        helps "the description that $of,v has can't be kept: one of its lines begins with the byte 1 (SOH)"
+    else
+        helps "counted from the newest one in $of,v: its number, date or author is unfit, or its entry or text is missing or stands twice"
+    fi
+}
+
 explain_missing() {
-    if [ -f "${beside}SCCS/$name" ]; then
+    if [ "${verb:-}" = import ]; then
+        helps "there is no $beside$of,v"
+    elif [ -f "${beside}SCCS/$name" ]; then
         helps "it is in the folder SCCS: ${beside}SCCS/$name, or sccs get $of"
     elif [ -f "$beside$of" ]; then
         helps "$beside$of isn't stored yet: sccs create $of"

@@ -50,6 +50,10 @@ front_word() {
     prt) hand_words prs '' "$@" ;;
     recover) hand_words recover '' "$@" ;;
     batch | soak) in_folder . "$verb" "$@" || join_status $? ;;
+    import)
+        shielded=1
+        explained . import "$@" || join_status $?
+        ;;
     create | enter) store "$@" ;;
     delget) then_get '' "$@" ;;
     deledit) then_get -e "$@" ;;

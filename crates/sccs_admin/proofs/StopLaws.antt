@@ -61,7 +61,7 @@ settled_at n p u new fresh paired =
       λ gone. same ∙ none,
     )
 
-settled_seen : (n : List ℕ) (p : Prepared) (x : Content) (a b : Option View) → IsSfile n → IsNewSfile p → IfSome a (λ v. v n ≡ None) → Becomes (λ v. put v (x_file n) (Some x)) a b → IfSome b (λ v. IsPaired n v → IsSound n v → KeepsEntries n (plan_of p) v × ArePaired (files_after n (plan_of p) v).s (files_after n (plan_of p) v).p)
+pub settled_seen : (n : List ℕ) (p : Prepared) (x : Content) (a b : Option View) → IsSfile n → IsNewSfile p → IfSome a (λ v. v n ≡ None) → Becomes (λ v. put v (x_file n) (Some x)) a b → IfSome b (λ v. IsPaired n v → IsSound n v → KeepsEntries n (plan_of p) v × ArePaired (files_after n (plan_of p) v).s (files_after n (plan_of p) v).p)
 settled_seen n p x None b sfile new fresh is = subst (λ (o : Option View). IfSome o (λ v. IsPaired n v → IsSound n v → KeepsEntries n (plan_of p) v × ArePaired (files_after n (plan_of p) v).s (files_after n (plan_of p) v).p)) (sym is) tt
 settled_seen n p x (Some v) b sfile new fresh is =
     subst (λ (o : Option View). IfSome o (λ v. IsPaired n v → IsSound n v → KeepsEntries n (plan_of p) v × ArePaired (files_after n (plan_of p) v).s (files_after n (plan_of p) v).p)) (sym is)

@@ -29,3 +29,11 @@ pub const RELEASES: &[u8] =
 /// 1.1, 1.2, 1.2.1.1, which leaves out 1.2, and 1.3, with a line of each.
 pub const LISTED: &[u8] =
     b"\x01h15750\n\x01s 00001/00000/00000\n\x01d D 1.3 21/03/04 05:06:04 ann 4 2\n\x01c 1.3\n\x01e\n\x01s 00001/00000/00000\n\x01d D 1.2.1.1 21/03/04 05:06:03 ann 3 2\n\x01x 2\n\x01c 1.2.1.1\n\x01e\n\x01s 00001/00000/00000\n\x01d D 1.2 21/03/04 05:06:02 ann 2 1\n\x01c 1.2\n\x01e\n\x01s 00001/00000/00000\n\x01d D 1.1 21/03/04 05:06:01 ann 1 0\n\x01c 1.1\n\x01e\n\x01u\n\x01U\n\x01t\n\x01T\n\x01I 1\n1.1\n\x01E 1\n\x01I 2\n1.2\n\x01E 2\n\x01I 3\n1.2.1.1\n\x01E 3\n\x01I 4\n1.3\n\x01E 4\n";
+
+/// An RCS file of two revisions.
+pub const RCS_FILE: &[u8] =
+    b"head\t1.2;\naccess;\nsymbols;\nlocks; strict;\ncomment\t@# @;\n\n\n1.2\ndate\t2021.03.04.05.08.00;\tauthor ann;\tstate Exp;\nbranches;\nnext\t1.1;\n\n1.1\ndate\t2021.03.04.05.06.07;\tauthor ann;\tstate Exp;\nbranches;\nnext\t;\n\n\ndesc\n@@\n\n\n1.2\nlog\n@second\n@\ntext\n@one\nmid\ntwo\n@\n\n\n1.1\nlog\n@first\n@\ntext\n@d2 1\n@\n";
+
+/// The s-file that is imported from it.
+pub const IMPORTED: &[u8] =
+    b"\x01h09631\n\x01s 00001/00000/00002\n\x01d D 1.2 21/03/04 05:08:00 ann 2 1\n\x01c second\n\x01e\n\x01s 00002/00000/00000\n\x01d D 1.1 21/03/04 05:06:07 ann 1 0\n\x01c first\n\x01e\n\x01u\n\x01U\n\x01t\n\x01T\n\x01I 1\none\n\x01E 1\n\x01I 2\nmid\n\x01E 2\n\x01I 1\ntwo\n\x01E 1\n";

@@ -28,7 +28,7 @@ use Rattle.sccs_rcs_file.specs.Forms.{DeltaText, Entry, RcsFile}
 use Rattle.sccs_rcs_file.specs.Lookups.{one_named}
 use Rattle.sccs_rcs_file.specs.Reading.{file_of}
 use Rattle.sccs_rcs_file.specs.Tokens.{dot}
-use Rattle.sccs_rcs_file.specs.Trunk.{DatePieces, EntryFields, Facts, date_of, facts_of, fields_of, head_of, is_next, lines_in, moment_in, most_revisions, on_trunk, or_empty_line, pieces_of, rcs_about, rcs_at, rcs_by, rcs_of, rcs_read, rcs_with, revision_by, revision_of, revisions_at, revisions_from, then_revisions, trunk_of, trunk_sid, unquoted, with_revision, year_of}
+use Rattle.sccs_rcs_file.specs.Trunk.{Facts, date_of, facts_of, fields_of, head_of, is_next, lines_in, most_revisions, on_trunk, or_empty_line, pieces_of, rcs_about, rcs_at, rcs_by, rcs_read, rcs_with, revision_by, revision_of, revisions_at, revisions_from, then_revisions, trunk_of, trunk_sid, unquoted, with_revision, year_of}
 use Rattle.sccs_rcs_file.specs.declared.faults.RcsFault.{RcsFault}
 
 -- ---- texts
@@ -277,23 +277,25 @@ at_head (Some number) file = both_are (revisions_from most_revisions 1 None (Som
 -- ---- the whole file
 
 IsReadTrunk : Rcs → Type 0
-IsReadTrunk rcs = IsTrunk rcs.revisions rcs.description (head_text rcs.revisions) (scripts_of rcs.revisions)
+IsReadTrunk rcs = IsTrunk rcs.revisions rcs.description (head_text rcs.revisions) (scripts_of rcs.revisions) × (trunk_scripts rcs.revisions ≡ Ok (scripts_of rcs.revisions))
 
 with_scripts : (description : List (List ℕ)) (revisions : List Revision) (x : Result (List (List Change)) (ℕ × ℕ)) → trunk_scripts revisions ≡ x → AreLines description → AreBare description
     → AreRevisions revisions → IfOk x (AreTrunkScripts revisions) → IfOk (rcs_with description revisions x) IsReadTrunk
 unfolding IsReadTrunk AreTrunkScripts FallsBelow
 with_scripts description revisions (Ok scripts) is lines bare are scripts-are =
-    subst (λ (x : Result (List (List Change)) (ℕ × ℕ)). IsTrunk revisions description (head_text revisions) (or_none x)) (sym is)
-    (record {
-      some = are.some;
-      few = omega (arith, are.walked.few);
-      scripts_are = scripts-are.0;
-      each = are.walked.each;
-      sids = are.walked.falls;
-      about = (lines, bare);
-      first_text = scripts-are.1.1;
-      others = scripts-are.1.0;
-    })
+    subst (λ (x : Result (List (List Change)) (ℕ × ℕ)). IsTrunk revisions description (head_text revisions) (or_none x) × (trunk_scripts revisions ≡ Ok (or_none x))) (sym is) (
+      record {
+        some = are.some;
+        few = omega (arith, are.walked.few);
+        scripts_are = scripts-are.0;
+        each = are.walked.each;
+        sids = are.walked.falls;
+        about = (lines, bare);
+        first_text = scripts-are.1.1;
+        others = scripts-are.1.0;
+      },
+      is,
+    )
 with_scripts description revisions (Err (n, line)) is lines bare are scripts-are = tt
 
 with_trunk : (description : List (List ℕ)) (x : Result (List Revision) ℕ) → AreLines description → AreBare description → IfOk x AreRevisions → IfOk (rcs_by description x) IsReadTrunk
@@ -314,4 +316,8 @@ ok_is (Err fault) rcs is are = cc
 
 pub is_trunk : (bytes : List ℕ) (rcs : Rcs) → rcs_read bytes ≡ Ok rcs → IsTrunk rcs.revisions rcs.description (head_text rcs.revisions) (scripts_of rcs.revisions)
 unfolding IsReadTrunk
-is_trunk bytes rcs is = ok_is (rcs_read bytes) rcs is (with_file bytes (file_of bytes))
+is_trunk bytes rcs is = (ok_is (rcs_read bytes) rcs is (with_file bytes (file_of bytes))).0
+
+pub are_scripts : (bytes : List ℕ) (rcs : Rcs) → rcs_read bytes ≡ Ok rcs → trunk_scripts rcs.revisions ≡ Ok (scripts_of rcs.revisions)
+unfolding IsReadTrunk
+are_scripts bytes rcs is = (ok_is (rcs_read bytes) rcs is (with_file bytes (file_of bytes))).1

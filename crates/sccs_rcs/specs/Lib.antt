@@ -1,1 +1,4 @@
+pub mod ImportStep
+pub mod Locks
+pub mod Parts
 pub mod RunItems

@@ -1,8 +1,12 @@
-//! What an s-file of an RCS trunk is written from: what is read of an RCS file is a trunk, and the body of its
-//! history. rcsfile(5); sccsfile(4).
+//! import: s-files of the trunks of RCS files. rcsfile(5); sccsfile(4).
 #![tactic(auto)]
 
 mod bodies;
+mod finding;
+mod headers;
+mod imports;
 pub mod laws;
 
 pub use bodies::RunsBody;
+pub use finding::find_rcs;
+pub use imports::Import;

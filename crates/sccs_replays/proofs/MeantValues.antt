@@ -108,6 +108,7 @@ command_values u.Prs l n = tt
 command_values u.Val l n = tt
 command_values u.What l n = tt
 command_values u.Recover l n = tt
+command_values u.Import l n = tt
 command_values u.Batch l n = tt
 command_values u.Soak l n = given_number n (option_and_then soak_number (first_text l.operands))
 

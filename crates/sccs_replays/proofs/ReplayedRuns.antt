@@ -32,6 +32,7 @@ use Rattle.sccs_edit.specs.UngetStep.{unget_change}
 use Rattle.sccs_get.specs.EditStep.{edit_change}
 use Rattle.sccs_get.specs.Keeps.{get_keeps}
 use Rattle.sccs_get.specs.VersionStep.{get_action}
+use Rattle.sccs_rcs.specs.ImportStep.{import_change}
 use Rattle.sccs_recovery.specs.Commands.{recover_keeps}
 use Rattle.sccs_rmdel.specs.RmdelStep.{rmdel_change}
 use Rattle.sccs_transactions.specs.Changes.{locking}
@@ -85,6 +86,7 @@ by_keeps who (c.Prs words operands) = prs_keeps words who.place
 by_keeps who (c.Val words) = val_keeps words (λ name. None)
 by_keeps who (c.What first operands) = what_keeps first
 by_keeps who (c.Recover operands) = recover_keeps
+by_keeps who (c.Import operands) = locking_keeps (import_change (has_heading operands))
 by_keeps who c.Batch = nothing_keeps
 by_keeps who (c.Soak number) = nothing_keeps
 

@@ -1,11 +1,13 @@
 -- What the step of each command makes of the versions of an s-file.
-use Rattle.std.proofs.Common.{◌≡◌, ◌==◌, ◌||◌, ℕ, Bool, true, false, List, [], ◌∷◌, drop, Option, None, Some, Ok, Err, refl, sym, ap, subst, ◌∙◌}
+use Rattle.std.proofs.Common.{◌≡◌, ◌==◌, ◌||◌, ℕ, zero, suc, ◌-◌, ◌<◌, ◌≤◌, Bool, true, false, List, [], ◌∷◌, drop, length, nat_le, Option, None, Some, Result, Ok, Err, refl, sym, ap, subst, ◌∙◌, ⊎_elim, arith}
 use Rattle.std.specs.Prelude.{if◌then◌else◌, is_none, is_some, map}
-use Rattle.std.proofs.lemmas.Bool.{eqb-true, or_right}
+use Rattle.std.proofs.lemmas.Bool.{eqb-true, or_cases, or_right}
+use Rattle.sccs_base.specs.Constants.{file_limit}
 use Rattle.sccs_base.specs.Login.{IsLogin}
 use Rattle.sccs_base.specs.Name.{p_file, z_file}
 use Rattle.sccs_disk.specs.Files.{Content, Folder, view_in}
 use Rattle.sccs_sid.specs.Moment.{IsMoment}
+use Rattle.sccs_sid.specs.declared.refusals.Refusal.{Refusal}
 use Rattle.sccs_sid.specs.declared.refusals.Refusal.TheVariants as refusals
 use Rattle.sccs_sid.specs.declared.moments.Stamp.{Stamp}
 use Rattle.sccs_sid.specs.declared.sids.Sid.{Sid}
@@ -50,6 +52,14 @@ use Rattle.sccs_get.specs.EditStep.{edit_change, edit_outcome}
 use Rattle.sccs_get.specs.VersionStep.{get_action}
 use Rattle.sccs_prs.specs.Keeps.{prs_keeps}
 use Rattle.sccs_prs.specs.PrsStep.{prs_action}
+use Rattle.sccs_trunks.specs.TrunkHistories.{down, history_of, text_behind}
+use Rattle.sccs_trunks.specs.TrunkItems.{items_of}
+use Rattle.sccs_trunks.specs.declared.revisions.Rcs.{Rcs}
+use Rattle.sccs_trunks.proofs.TrunkVersions.{live_down}
+use Rattle.sccs_rcs_file.specs.Trunk.{rcs_read}
+use Rattle.sccs_rcs_file.specs.declared.faults.RcsFault.{RcsFault}
+use Rattle.sccs_rcs.specs.ImportStep.{found_rcs, import_outcome, imports, named_bytes, or_refused, rcs_content, rcs_file}
+use Rattle.sccs_rcs.proofs.ImportedFiles.{import_again, import_version, rooted_import}
 use Rattle.sccs_val.proofs.RunLaws.{val_keeps}
 use Rattle.sccs_val.specs.ValStep.{val_action}
 use Rattle.sccs_what.specs.Checks.{what_keeps}
@@ -59,7 +69,7 @@ use Rattle.sccs_top.specs.Runs.{Caller, action_of, admin_there, has_heading, hus
 use Rattle.sccs_top.specs.MadeHistories.{IsReplayed}
 use Rattle.sccs_top.proofs.AdminValues.{admin_values}
 use Rattle.sccs_top.proofs.MadeHistoryLaws.{made_replayed}
-use Rattle.sccs_replays.specs.PastRuns.{HasVersions, call_in, first_version, versions_after_command, texts_with_delta, with_read}
+use Rattle.sccs_replays.specs.PastRuns.{HasVersions, IsOfVersions, call_in, first_version, imported_versions, versions_after_command, texts_with_delta, with_read}
 use Rattle.sccs_replays.proofs.AlteredVersions.{altered_goes}
 use Rattle.sccs_replays.proofs.LeftFiles.{Leaves, edit_leaves, entries_leave, get_leaves, locking_leaves, recover_leaves, refused_leaves, s_of, sact_leaves}
 use Rattle.sccs_replays.proofs.LiveVersions.{follows_on}
@@ -216,6 +226,60 @@ admin_goes who words i n named f texts d moment login values is are =
           ∙ (made.first ∙ ap (λ r. first_version r m) (sym made.found));
     })
 
+-- ---- import
+
+-- the serials of a trunk
+has_down : (k m : ℕ) → has (down k) m ≡ true → (0 < m) × (m ≤ k)
+has_down zero m is = absurd cc
+has_down (suc k) m is =
+    ⊎_elim (λ t. let same : suc k ≡ m = eqb-true (suc k) m t in (omega (arith, same), omega (arith, same)))
+    (λ t. let below = has_down k m t in (below.0, omega (arith, below.1)))
+    (or_cases (suc k == m) (has (down k) m) is)
+
+-- the trunk that was found is that of some bytes
+found_read : (named : List (Option Content)) (s : Option Content) (rcs : Rcs) → found_rcs named s ≡ Ok rcs → (bytes : List ℕ) × (rcs_read bytes ≡ Ok rcs)
+unfolding found_rcs
+found_read named s rcs is =
+    let bytes = passed (named_bytes named) _ rcs is in
+    let fresh = passed (check (is_none s) refusals.Exists) _ rcs bytes.2 in
+    let short = passed (check (nat_le (length bytes.0) file_limit) refusals.TooLong) _ rcs fresh.2 in
+    (bytes.0, read_ok (rcs_read bytes.0) rcs short.2)
+  where
+    read_ok : (r : Result Rcs RcsFault) (rcs : Rcs) → or_refused r ≡ Ok rcs → r ≡ Ok rcs
+    read_ok (Ok found) rcs is = let same : found ≡ rcs = cc in ap Ok same
+    read_ok (Err fault) rcs is = absurd cc
+
+-- the new s-file has the texts of the trunk
+trunk_made : (bytes : List ℕ) (rcs : Rcs) → rcs_read bytes ≡ Ok rcs → IsOfVersions (rcs_content rcs) (imported_versions (Ok rcs))
+trunk_made bytes rcs is = record {
+  file = record { header = (history_of rcs).header; items = items_of (history_of rcs).lines };
+  reads = import_again bytes rcs is;
+  rooted = rooted_import rcs;
+  versions = λ m live.
+      let within = has_down (length rcs.revisions) m (subst (λ (ns : List ℕ). has ns m ≡ true) (live_down (history_of rcs).lines rcs.revisions) live) in
+      let back : length rcs.revisions - (length rcs.revisions - m) ≡ m = omega (arith, within.1) in
+      subst (λ (k : ℕ). version k (history_of rcs).header.records (lines_of (items_of (history_of rcs).lines)) ≡ text_behind (length rcs.revisions - m) rcs) back
+      (import_version bytes rcs (length rcs.revisions - m) is (omega (arith, within.0, within.1)));
+}
+
+import_goes : (heading : Bool) (i n : List ℕ) (m : Folder) (texts : Texts) (d : StepEffect) → locking_step (import_outcome heading) n i (view_in m (rcs_file n) ∷ []) (look (view_in m) n) ≡ Ok d
+    → Goes (view_in m n) d.new texts (imported_versions (found_rcs (view_in m (rcs_file n) ∷ []) (view_in m n)))
+unfolding import_outcome
+import_goes heading i n m texts d is are =
+    let found = passed (found_rcs (view_in m (rcs_file n) ∷ []) (view_in m n)) (imports heading n (look (view_in m) n)) d
+    (unlocked_step (import_outcome heading) n i (view_in m (rcs_file n) ∷ []) (look (view_in m) n) d is).1 in
+    let read = found_read (view_in m (rcs_file n) ∷ []) (view_in m n) found.0 found.1 in
+    let new : Some (record { s = Some (rcs_content found.0); p = view_in m (p_file n); z = None; g = view_in m (drop 2 n) }) ≡ d.new = made_new heading n (look (view_in m) n) found.0 d found.2 in
+    subst (λ (files : Option Files). HasVersions (s_of (view_in m n) files) (if is_some files then imported_versions (found_rcs (view_in m (rcs_file n) ∷ []) (view_in m n)) else texts)) new
+    (subst (λ (r : Result Rcs Refusal). IsOfVersions (rcs_content found.0) (imported_versions r)) (sym found.1) (trunk_made read.0 found.0 read.1))
+  where
+    new_of : Outcome → Option Files
+    new_of (Ok e) = e.new
+    new_of (Err refusal) = None
+
+    made_new : (heading : Bool) (n : List ℕ) (f : Files) (rcs : Rcs) (d : StepEffect) → imports heading n f rcs ≡ Ok d → Some (record { s = Some (rcs_content rcs); p = f.p; z = None; g = f.g }) ≡ d.new
+    made_new heading n f rcs d is = ap new_of is
+
 -- ---- commands
 
 refused : (m : Folder) (n : List ℕ) (texts : Texts) (d : StepEffect) → (let o : Outcome = Err refusals.BadName in o) ≡ Ok d → Goes (view_in m n) d.new texts texts
@@ -264,6 +328,7 @@ by_goes who (c.Prs words operands) i n m texts d moment login values is = readin
 by_goes who (c.Val words) i n m texts d moment login values is = reading_goes (val_action words) i n m texts d (val_keeps words (λ name. None)) refl is
 by_goes who (c.What first operands) i n m texts d moment login values is = reading_goes (what_action first) i n m texts d (what_keeps first) refl is
 by_goes who (c.Recover operands) i n m texts d moment login values is = left (view_in m n) _ d texts (recover_leaves n (look (view_in m) n)) is
+by_goes who (c.Import operands) i n m texts d moment login values is = import_goes (has_heading operands) i n m texts d is
 by_goes who c.Batch i n m texts d moment login values is = refused m n texts d is
 by_goes who (c.Soak number) i n m texts d moment login values is = refused m n texts d is
 

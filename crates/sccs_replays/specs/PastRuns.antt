@@ -27,6 +27,9 @@ use Rattle.sccs_admin.specs.AdminStep.{found_texts, named_in}
 use Rattle.sccs_admin.specs.declared.finding.NewTexts.{NewTexts}
 use Rattle.sccs_delta.specs.NewVersions.{version_text}
 use Rattle.sccs_delta.specs.Replays.{CallRead, DeltaCall, Texts, call_read, with_texts}
+use Rattle.sccs_rcs.specs.ImportStep.{found_rcs, rcs_file}
+use Rattle.sccs_trunks.specs.TrunkHistories.{text_behind}
+use Rattle.sccs_trunks.specs.declared.revisions.Rcs.{Rcs}
 use Rattle.sccs_soak.specs.Commands.{soak_commands}
 use Rattle.sccs_top.specs.Runs.{Caller, action_of, caller_by, command_steps, entry_command, list_in, run_steps}
 use Rattle.sccs_top.specs.declared.commands.CommandList.{CommandList}
@@ -151,11 +154,17 @@ abbrev pub first_version : Result NewTexts Refusal → Texts
 first_version (Ok texts) = λ m. text_of texts.text
 first_version (Err refusal) = λ m. []
 
--- the versions after an accepted step on a name in a folder: delta adds some, admin on a new file makes the first one, and all
--- else leaves them; rmdel leaves those of the deltas that live on
+-- each version of an imported trunk is the text of its revision, the head being the last
+abbrev pub imported_versions : Result Rcs Refusal → Texts
+imported_versions (Ok rcs) = λ m. text_behind (length rcs.revisions - m) rcs
+imported_versions (Err refusal) = λ m. []
+
+-- the versions after an accepted step on a name in a folder: delta adds some, admin on a new file makes the first one, import
+-- makes those of a trunk, and all else leaves them; rmdel leaves those of the deltas that live on
 abbrev pub versions_after_command : Caller → Command → List ℕ → Folder → List ℕ → Texts → Texts
 versions_after_command who (c.Delta words name) i m n texts = texts_with_delta (view_in m n) (call_in who words i m n) texts
 versions_after_command who (c.Admin words operands) i m n texts = if words.fresh then first_version (found_texts words i (map (view_in m) (named_in words)) (view_in m n)) else texts
+versions_after_command who (c.Import operands) i m n texts = imported_versions (found_rcs (view_in m (rcs_file n) ∷ []) (view_in m n))
 versions_after_command who command i m n texts = texts
 
 -- those of a name after a step: one that is refused, or on another name, leaves them

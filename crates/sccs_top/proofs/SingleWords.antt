@@ -46,6 +46,7 @@ command_single u.Prs l n of = refl
 command_single u.Val l n of = refl
 command_single u.What l n of = refl
 command_single u.Recover l n of = refl
+command_single u.Import l n of = refl
 command_single u.Batch l n of = absurd of
 command_single u.Soak l n of = absurd of
 
@@ -80,7 +81,7 @@ both_false false false is = (refl, refl)
 own_single : (word : List ℕ) → not (bytes_eq word (codes "batch") || bytes_eq word (codes "soak")) ≡ true → IfSome (own_utility word) IsOfSingles
 own_single word is =
     let both = both_false (bytes_eq word (codes "batch")) (bytes_eq word (codes "soak")) is in
-    either (bytes_eq word (codes "recover")) (Some u.Recover) _ tt (passed_by (bytes_eq word (codes "batch")) (Some u.Batch) _ both.0 (passed_by (bytes_eq word (codes "soak")) (Some u.Soak) None both.1 tt))
+    either (bytes_eq word (codes "recover")) (Some u.Recover) _ tt (either (bytes_eq word (codes "import")) (Some u.Import) _ tt (passed_by (bytes_eq word (codes "batch")) (Some u.Batch) _ both.0 (passed_by (bytes_eq word (codes "soak")) (Some u.Soak) None both.1 tt)))
 
 word_single : (word : List ℕ) → not (bytes_eq word (codes "batch") || bytes_eq word (codes "soak")) ≡ true → IfSome (utility_of word) IsOfSingles
 unfolding utility_of

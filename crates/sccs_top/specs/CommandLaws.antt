@@ -27,6 +27,7 @@ begun_by who (c.Rmdel sid operands) = ([], inl refl)
 begun_by who (c.Prs words operands) = ([], inl refl)
 begun_by who (c.What first operands) = ([], inl refl)
 begun_by who (c.Recover operands) = ([], inl refl)
+begun_by who (c.Import operands) = ([], inl refl)
 begun_by who c.Batch = ([], inl refl)
 begun_by who (c.Soak number) = ([], inl refl)
 

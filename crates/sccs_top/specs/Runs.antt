@@ -36,6 +36,7 @@ use Rattle.sccs_edit.specs.UngetStep.{unget_change}
 use Rattle.sccs_get.specs.EditStep.{edit_change}
 use Rattle.sccs_get.specs.Keeps.{get_keeps}
 use Rattle.sccs_get.specs.VersionStep.{get_action}
+use Rattle.sccs_rcs.specs.ImportStep.{import_change}
 use Rattle.sccs_recovery.specs.Commands.{recover_keeps}
 use Rattle.sccs_recovery.specs.RecoverStep.{recover_action}
 use Rattle.sccs_rmdel.specs.RmdelStep.{rmdel_change}
@@ -137,6 +138,7 @@ single_of (c.Rmdel sid operands) = single (λ who. locking (rmdel_change sid who
 single_of (c.Prs words operands) = single (λ who. prs_action words who.place) (words_in operands) (λ who. (prs_keeps words who.place).names)
 single_of (c.What first operands) = single (λ who. what_action first) (words_in operands) (λ who. (what_keeps first).names)
 single_of (c.Recover operands) = single (λ who. recover_action) (words_in operands) (λ who. recover_keeps.names)
+single_of (c.Import operands) = single (λ who. locking (import_change (has_heading operands))) (words_in operands) (λ who. (locking_keeps (import_change (has_heading operands))).names)
 single_of (c.Val words) = record { by = λ who. val_action words; operands = val_operands words; val = Some words; takes = λ who. val_takes words }
 single_of c.Batch = no_single
 single_of (c.Soak number) = no_single

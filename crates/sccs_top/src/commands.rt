@@ -12,6 +12,7 @@ ghost use Rattle.sccs_steps.specs.declared.faults.Fault.TheVariants as ends;
 ghost use Rattle.sccs_transactions.specs.Changes.{locking};
 ghost use Rattle.sccs_delta.specs.DeltaStep.{delta_change};
 ghost use Rattle.sccs_edit.specs.UngetStep.{unget_change};
+ghost use Rattle.sccs_rcs.specs.ImportStep.{import_change};
 ghost use Rattle.sccs_top.specs.Runs.{LeavesInput, LeavesSingle, MakesSteps, RecoversRun, RunsCommand, RunsMeant, SpeaksWords, StopsSteps, UnlockedSteps, action_of, admin_in, admin_there, caller, caller_by, get_in, has_heading, hushed, is_silent, list_in, only_reads, operands_of, steps_answer, val_words_of, words_in, words_take_input};
 
 use crate::answers::Answer;
@@ -26,6 +27,7 @@ use sccs_disk::Disk;
 use sccs_edit::{Sact, Unget};
 use sccs_get::{Get, Reserve};
 use sccs_prs::Prs;
+use sccs_rcs::Import;
 use sccs_recovery::Recover;
 use sccs_rmdel::Rmdel;
 use sccs_sid::Stamp;
@@ -229,6 +231,21 @@ fn run_unget<I: Source, O: Sink, E: Sink, D: Disk>(
     run_ordinary(alloc, Locking { change }, operands, quiet, streams)
 }
 
+// import
+fn run_import<I: Source, O: Sink, E: Sink, D: Disk>(
+    alloc: Global,
+    operands: &Operands,
+    quiet: bool,
+    streams: &mut Streams<I, O, E, D>,
+) -> Result<u8, Fault>
+    ensures loans { SameLoans streams.old streams.new }
+    ensures run { RunsOperands (hushed None quiet (locking (import_change (has_heading operands.now)))) (words_in operands.now) result (setting I.Source O.Sink E.Sink D.Disk streams.old) (setting I.Source O.Sink E.Sink D.Disk streams.new) }
+{
+    let heading = has_heading(operands);
+    let change = Import { heading };
+    run_ordinary(alloc, Locking { change }, operands, quiet, streams)
+}
+
 // delta, whose operand is one name
 fn run_delta<I: Source, O: Sink, E: Sink, D: Disk>(
     alloc: Global,
@@ -295,6 +312,7 @@ fn run_single<I: Source, O: Sink, E: Sink, D: Disk>(
             run_list(alloc, &What { first: *first }, operands, quiet, streams)
         }
         Command::Recover(operands) => run_ordinary(alloc, Recover, operands, quiet, streams),
+        Command::Import(operands) => run_import(alloc, operands, quiet, streams),
         Command::Val(words) => run_val(alloc, words, streams),
         Command::Batch | Command::Soak(_) => unreachable!(),
     }
@@ -363,7 +381,7 @@ fn run_meant<I: Source, O: Sink, E: Sink, D: Disk>(
 /// Does a command. The words are those behind the program's name; `stamp` is its moment, of the years
 /// 1969 to 2068, and its login, `place` the folder's path. Texts go to `out`, messages to `err`.
 ///
-/// Built are admin, get, delta, sact, unget, rmdel, prs, val, what, recover, batch and soak.
+/// Built are admin, get, delta, sact, unget, rmdel, prs, val, what, recover, import, batch and soak.
 ///
 /// A stop at any moment of a run that began on a calm disk, with safe operands, leaves what recovers on all
 /// names as after the same number of steps, no fewer than are acknowledged; and s-files and p-files are firm

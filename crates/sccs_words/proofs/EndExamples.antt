@@ -33,11 +33,13 @@ malformed_value :
     × Says (codes "admin" ∷ codes "-i" ∷ codes "-r10000" ∷ codes "s.a" ∷ []) 6 3
     × Says (codes "admin" ∷ codes "-i" ∷ codes "." ∷ []) 6 3
     × Says (codes "admin" ∷ codes "-i" ∷ codes "-" ∷ []) 6 3
+    × Says (codes "import" ∷ codes "-" ∷ []) 6 2
+    × Says (codes "import" ∷ codes "s.a" ∷ codes "." ∷ []) 6 3
     × Says (codes "soak" ∷ codes "0" ∷ []) 6 2
     × Says (codes "soak" ∷ codes "2001" ∷ []) 6 2
     × Says (codes "soak" ∷ codes "--" ∷ codes "x" ∷ []) 6 3
 unfolding meaning utility_of line_meaning find_option scanned letters turn usage_fault use_fault first_from operand_fault end_fault value_of values_of split_from is_login number number_at digits_after byte_at sid_of numbers_after spec_of list_of ranges_of piece_at range_at last_at sid_at branch_at component_at cutoff_of skip
-malformed_value = (refl, refl, refl, refl, refl, refl, refl, refl, refl, refl, refl, refl, refl, refl, refl, refl, refl, refl, refl)
+malformed_value = (refl, refl, refl, refl, refl, refl, refl, refl, refl, refl, refl, refl, refl, refl, refl, refl, refl, refl, refl, refl, refl)
 
 -- an empty value; it can only be the next word
 malformed_empty :
@@ -60,9 +62,10 @@ no_operand :
     × Says (codes "prs" ∷ codes "--" ∷ []) 7 3
     × Says (codes "what" ∷ codes "-s" ∷ []) 7 3
     × Says (codes "recover" ∷ []) 7 2
+    × Says (codes "import" ∷ []) 7 2
     × Says (codes "soak" ∷ []) 7 2
 unfolding meaning utility_of line_meaning find_option scanned letters turn usage_fault use_fault first_from operand_fault end_fault value_of values_of split_from is_login number number_at digits_after byte_at sid_of numbers_after spec_of list_of ranges_of piece_at range_at last_at sid_at branch_at component_at cutoff_of skip
-no_operand = (refl, refl, refl, refl, refl, refl, refl, refl, refl, refl)
+no_operand = (refl, refl, refl, refl, refl, refl, refl, refl, refl, refl, refl)
 
 -- an option that is needed
 option_needed :

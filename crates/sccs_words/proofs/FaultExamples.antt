@@ -34,10 +34,11 @@ unknown_option :
     × Says (codes "get" ∷ codes "-k" ∷ codes "-s" ∷ codes "-q" ∷ []) 2 4
     × Says (codes "sact" ∷ codes "-s" ∷ codes "s.a" ∷ []) 2 2
     × Says (codes "recover" ∷ codes "-z" ∷ codes "s.a" ∷ []) 2 2
+    × Says (codes "import" ∷ codes "-s" ∷ codes "s.a" ∷ []) 2 2
     × Says (codes "batch" ∷ codes "-a" ∷ []) 2 2
     × Says (codes "soak" ∷ codes "-n" ∷ codes "5" ∷ []) 2 2
 unfolding meaning utility_of line_meaning find_option scanned letters turn usage_fault use_fault first_from operand_fault end_fault value_of values_of split_from is_login number number_at digits_after byte_at sid_of numbers_after spec_of list_of ranges_of piece_at range_at last_at sid_at branch_at component_at cutoff_of skip
-unknown_option = (refl, refl, refl, refl, refl, refl, refl, refl, refl, refl)
+unknown_option = (refl, refl, refl, refl, refl, refl, refl, refl, refl, refl, refl)
 
 -- a missing argument stands always in the last word
 missing_argument :
@@ -84,6 +85,7 @@ exclude_each_other :
     × Says (codes "get" ∷ codes "s.a" ∷ codes "-" ∷ []) 5 3
     × Says (codes "admin" ∷ codes "-i" ∷ codes "s.a" ∷ codes "-" ∷ []) 5 4
     × Says (codes "get" ∷ codes "-k" ∷ codes "s.a" ∷ codes "s.b" ∷ codes "-" ∷ codes "s.c" ∷ []) 5 5
+    × Says (codes "import" ∷ codes "s.a" ∷ codes "-" ∷ []) 5 3
     × Says (codes "batch" ∷ codes "-" ∷ codes "x" ∷ []) 5 3
 unfolding meaning utility_of line_meaning find_option scanned letters turn usage_fault use_fault first_from operand_fault end_fault value_of values_of split_from is_login number number_at digits_after byte_at sid_of numbers_after spec_of list_of ranges_of piece_at range_at last_at sid_at branch_at component_at cutoff_of skip
-exclude_each_other = (refl, refl, refl, refl, refl, refl, refl, refl, refl, refl, refl, refl, refl, refl, refl, refl, refl, refl, refl)
+exclude_each_other = (refl, refl, refl, refl, refl, refl, refl, refl, refl, refl, refl, refl, refl, refl, refl, refl, refl, refl, refl, refl)

@@ -116,6 +116,7 @@ no_dash u.Prs = refl
 no_dash u.Val = refl
 no_dash u.What = refl
 no_dash u.Recover = refl
+no_dash u.Import = refl
 no_dash u.Batch = refl
 no_dash u.Soak = refl
 

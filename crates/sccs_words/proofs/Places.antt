@@ -175,6 +175,7 @@ refusal_in last u.Prs l is = first_fault_in last u.Prs l is
 refusal_in last u.Val l is = tt
 refusal_in last u.What l is = first_fault_in last u.What l is
 refusal_in last u.Recover l is = first_fault_in last u.Recover l is
+refusal_in last u.Import l is = first_fault_in last u.Import l is
 refusal_in last u.Batch l is = first_fault_in last u.Batch l is
 refusal_in last u.Soak l is = first_fault_in last u.Soak l is
 
@@ -203,6 +204,7 @@ command_in last u.Prs l low = tt
 command_in last u.Val l low = tt
 command_in last u.What l low = tt
 command_in last u.Recover l low = tt
+command_in last u.Import l low = tt
 command_in last u.Batch l low = tt
 command_in last u.Soak l low = number_in last (option_and_then soak_number (first_text l.operands)) low
 

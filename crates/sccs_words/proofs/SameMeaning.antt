@@ -20,7 +20,7 @@ use Rattle.sccs_words.specs.declared.tables.Exclusion.TheVariants as exclusions
 use Rattle.sccs_words.specs.declared.tables.Need.{Need}
 use Rattle.sccs_words.specs.declared.tables.Need.TheVariants as needs
 use Rattle.sccs_words.specs.declared.tables.OperandRule.{OperandRule}
-use Rattle.sccs_words.specs.declared.tables.OperandRule.TheVariants.{Nothing, Sfile, Number, Many, OneWith}
+use Rattle.sccs_words.specs.declared.tables.OperandRule.TheVariants.{Nothing, Sfile, Number, Many, Named, OneWith}
 use Rattle.sccs_words.specs.declared.tables.Utility.{Utility}
 use Rattle.sccs_words.specs.declared.tables.Utility.TheVariants as u
 use Rattle.sccs_words.specs.declared.scanning.OptionArgument.{OptionArgument}
@@ -150,6 +150,7 @@ fits_same Nothing uses word = refl
 fits_same Sfile uses word = refl
 fits_same Number uses word = refl
 fits_same Many uses word = refl
+fits_same Named uses word = refl
 fits_same (OneWith letter) uses word = ap (λ (one : Bool). not one || is_named word) (has_same letter uses)
 
 operand_same : (rule : OperandRule) (uses : List Use) (first : ℕ) (before : List (List ℕ)) (word : List ℕ)
@@ -180,6 +181,7 @@ one_same Nothing uses = refl
 one_same Sfile uses = refl
 one_same Number uses = refl
 one_same Many uses = refl
+one_same Named uses = refl
 one_same (OneWith letter) uses = has_same letter uses
 
 many_same : (rule : OperandRule) (uses : List Use) (words : List (List ℕ)) → too_many rule uses words ≡ too_many rule (map unplaced uses) words
@@ -217,6 +219,7 @@ refusal_same u.Prs l n = first_fault_same u.Prs l n
 refusal_same u.Val l n = refl
 refusal_same u.What l n = first_fault_same u.What l n
 refusal_same u.Recover l n = first_fault_same u.Recover l n
+refusal_same u.Import l n = first_fault_same u.Import l n
 refusal_same u.Batch l n = first_fault_same u.Batch l n
 refusal_same u.Soak l n = first_fault_same u.Soak l n
 
@@ -283,6 +286,7 @@ command_same u.Prs l n = ap (λ (words : PrsWords). Ok (c.Prs words (operand_wor
 command_same u.Val l n = ap (λ (words : ValWords). Ok (c.Val words)) (val_same l)
 command_same u.What l n = ap (λ (silent : Bool). Ok (c.What silent (operand_words l.operands))) (has_same opt.s l.uses)
 command_same u.Recover l n = refl
+command_same u.Import l n = refl
 command_same u.Batch l n = refl
 command_same u.Soak l n = number_same n (option_and_then soak_number (first_text l.operands))
 

@@ -18,7 +18,7 @@ use Rattle.sccs_words.specs.declared.tables.Exclusion.TheVariants as exclusions
 use Rattle.sccs_words.specs.declared.tables.Need.{Need}
 use Rattle.sccs_words.specs.declared.tables.Need.TheVariants as needs
 use Rattle.sccs_words.specs.declared.tables.OperandRule.{OperandRule}
-use Rattle.sccs_words.specs.declared.tables.OperandRule.TheVariants.{Nothing, Sfile, Number, OneWith}
+use Rattle.sccs_words.specs.declared.tables.OperandRule.TheVariants.{Nothing, Sfile, Number, Named, OneWith}
 use Rattle.sccs_words.specs.declared.tables.Utility.{Utility}
 use Rattle.sccs_words.specs.declared.scanning.OptionArgument.{OptionArgument}
 use Rattle.sccs_words.specs.declared.scanning.OptionArgument.TheVariants.{Unknown, Bare, Missing, Value}
@@ -105,6 +105,7 @@ is_named word = not (is_dash word) && not (is_single_dot word)
 abbrev pub operand_fits : OperandRule → List Use → List ℕ → Bool
 operand_fits Sfile uses word = is_sfile_name word
 operand_fits Number uses word = is_some (soak_number word)
+operand_fits Named uses word = is_named word
 operand_fits (OneWith letter) uses word = not (has_use letter uses) || is_named word
 operand_fits _ uses word = true
 

@@ -30,6 +30,7 @@ bad kind word = Err (record { kind = kind; word = word })
 abbrev pub own_utility : List ℕ → Option Utility
 own_utility word =
     if bytes_eq word (codes "recover") then Some u.Recover
+    else if bytes_eq word (codes "import") then Some u.Import
     else if bytes_eq word (codes "batch") then Some u.Batch
     else if bytes_eq word (codes "soak") then Some u.Soak
     else None
@@ -75,6 +76,7 @@ line_command u.Prs l n = Ok (c.Prs (prs_words l.uses) (operand_words l.operands)
 line_command u.Val l n = Ok (c.Val (val_words l))
 line_command u.What l n = Ok (c.What (has_use opt.s l.uses) (operand_words l.operands))
 line_command u.Recover l n = Ok (c.Recover (operand_words l.operands))
+line_command u.Import l n = Ok (c.Import (operand_words l.operands))
 line_command u.Batch l n = Ok c.Batch
 line_command u.Soak l n = with_number n (option_and_then soak_number (first_text l.operands))
 

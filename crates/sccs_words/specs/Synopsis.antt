@@ -9,9 +9,9 @@ use Rattle.sccs_words.specs.declared.tables.Exclusion.TheVariants.{Both, Bare, A
 use Rattle.sccs_words.specs.declared.tables.Need.{Need}
 use Rattle.sccs_words.specs.declared.tables.Need.TheVariants.{Always, With}
 use Rattle.sccs_words.specs.declared.tables.OperandRule.{OperandRule}
-use Rattle.sccs_words.specs.declared.tables.OperandRule.TheVariants.{Nothing, Sfile, Number, Many, OneWith}
+use Rattle.sccs_words.specs.declared.tables.OperandRule.TheVariants.{Nothing, Sfile, Number, Many, Named, OneWith}
 use Rattle.sccs_words.specs.declared.tables.Utility.{Utility}
-use Rattle.sccs_words.specs.declared.tables.Utility.TheVariants.{Admin, Get, Delta, Unget, Sact, Rmdel, Prs, Val, What, Recover, Batch, Soak}
+use Rattle.sccs_words.specs.declared.tables.Utility.TheVariants.{Admin, Get, Delta, Unget, Sact, Rmdel, Prs, Val, What, Recover, Import, Batch, Soak}
 
 -- the options of a utility
 abbrev pub options_of : Utility → List OptionSpec
@@ -78,6 +78,7 @@ options_of What =
     Plain opt.s ∷
     []
 options_of Recover = []
+options_of Import = []
 options_of Batch = []
 options_of Soak = []
 
@@ -122,6 +123,7 @@ needs_of _ = []
 abbrev pub operand_rule_of : Utility → OperandRule
 operand_rule_of Admin = OneWith opt.i
 operand_rule_of Delta = Sfile
+operand_rule_of Import = Named
 operand_rule_of Batch = Nothing
 operand_rule_of Soak = Number
 operand_rule_of _ = Many

@@ -16,6 +16,7 @@ pub enum Command {
     Val(ValWords),
     What(bool, Operands),
     Recover(Operands),
+    Import(Operands),
     Batch,
     Soak(u64),
 }

@@ -197,6 +197,7 @@ fn operand_fits(rule: OperandRule, uses: &[Use], word: &[u8]) -> bool
     match rule {
         OperandRule::Sfile => Name::read_sfile(word).is_some(),
         OperandRule::Number => soak_number(word).is_some(),
+        OperandRule::Named => is_named(word),
         OperandRule::OneWith(letter) => !has(uses, letter) || is_named(word),
         OperandRule::Nothing => true,
         OperandRule::Many => true,
@@ -272,6 +273,7 @@ fn wants(rule: OperandRule) -> bool
         OperandRule::Sfile => true,
         OperandRule::Number => true,
         OperandRule::Many => true,
+        OperandRule::Named => true,
         OperandRule::OneWith(_) => true,
     }
 }
@@ -300,6 +302,7 @@ fn takes_one(rule: OperandRule, uses: &[Use]) -> bool
         OperandRule::OneWith(letter) => has(uses, letter),
         OperandRule::Nothing => false,
         OperandRule::Many => false,
+        OperandRule::Named => false,
     }
 }
 

@@ -27,6 +27,8 @@ fn own_utility(word: &[u8]) -> Option<Utility>
 {
     if word == b"recover".as_slice() {
         Some(Utility::Recover)
+    } else if word == b"import".as_slice() {
+        Some(Utility::Import)
     } else if word == b"batch".as_slice() {
         Some(Utility::Batch)
     } else if word == b"soak".as_slice() {
@@ -179,6 +181,7 @@ fn command_of(
         Utility::Val => Ok(Command::Val(val_words(alloc, line)?)),
         Utility::What => Ok(Command::What(has(uses, b's'), operands_of(alloc, operands)?)),
         Utility::Recover => Ok(Command::Recover(operands_of(alloc, operands)?)),
+        Utility::Import => Ok(Command::Import(operands_of(alloc, operands)?)),
         Utility::Batch => Ok(Command::Batch),
         Utility::Soak => soak_of(line),
     }

@@ -42,14 +42,15 @@ pub enum Need {
     With(u8, u8, u8),
 }
 
-/// Operands: none; one s-file; one number; one or more; one or more, and with this option one that
-/// is neither `.` nor `-`.
+/// Operands: none; one s-file; one number; one or more; one or more that are neither `.` nor `-`; one
+/// or more, and with this option one that is neither.
 #[derive(Clone, Copy)]
 pub enum OperandRule {
     Nothing,
     Sfile,
     Number,
     Many,
+    Named,
     OneWith(u8),
 }
 
@@ -66,6 +67,7 @@ pub enum Utility {
     Val,
     What,
     Recover,
+    Import,
     Batch,
     Soak,
 }
@@ -210,6 +212,7 @@ impl Utility {
         match self {
             Utility::Admin => OperandRule::OneWith(b'i'),
             Utility::Delta => OperandRule::Sfile,
+            Utility::Import => OperandRule::Named,
             Utility::Batch => OperandRule::Nothing,
             Utility::Soak => OperandRule::Number,
             _ => OperandRule::Many,

@@ -1,5 +1,5 @@
 use sccs_disk::{Fill, MemoryDisk};
-use sccs_fixtures::samples::{REMOVED, SECOND, TWO_LINES};
+use sccs_fixtures::samples::{IMPORTED, RCS_FILE, REMOVED, SECOND, TWO_LINES};
 use sccs_fixtures::{
     Answer, CASE, Case, File, Given, PLAIN, Seen, answer_to, disk_with, ends, has, has_file,
 };
@@ -50,7 +50,7 @@ const DESCRIBED: &[u8] =
 const WITH_ALL: &[u8] =
     b"\x01h09126\n\x01s 00002/00000/00000\n\x01d D 1.1 21/03/04 05:06:07 ann 1 0\n\x01m 7\n\x01c date and time created 21/03/04 05:06:07 by ann\n\x01e\n\x01u\nbob\n\x01U\n\x01f b\n\x01f v\n\x01t\n\x01T\n\x01I 1\none\ntwo %I%\n\x01E 1\n";
 
-const STOPS: [Stop<'static>; 10] = [
+const STOPS: [Stop<'static>; 11] = [
     Stop {
         line: b"admin -i s.a",
         time: b"05:06:07",
@@ -201,6 +201,21 @@ const STOPS: [Stop<'static>; 10] = [
         g_file: None,
         locked: true,
     },
+    Stop {
+        line: b"import s.a",
+        time: b"05:09:00",
+        input: b"",
+        old: Pair {
+            s_file: None,
+            p_file: None,
+        },
+        new: Pair {
+            s_file: Some(IMPORTED),
+            p_file: None,
+        },
+        g_file: None,
+        locked: false,
+    },
 ];
 
 // the files of the name a, of which only these are there
@@ -250,12 +265,22 @@ const DESCRIPTION: File<'static> = File {
     bytes: Some(b"text\n"),
 };
 
+// what import reads
+const TRUNK: File<'static> = File {
+    name: b"a,v",
+    bytes: Some(RCS_FILE),
+};
+
 // the disk before a command, of which so many calls fail
 fn disk_before(alloc: Global, stop: &Stop, failing: &[u64]) -> Result<MemoryDisk, Fail> {
     let [s_file, p_file, no_x_file, _, _, no_lock] = all(&stop.old);
     let x_file = if stop.locked { HALF } else { no_x_file };
     let lock = if stop.locked { LOCK } else { no_lock };
-    disk_with(alloc, failing, &[s_file, p_file, x_file, lock, DESCRIPTION])
+    disk_with(
+        alloc,
+        failing,
+        &[s_file, p_file, x_file, lock, DESCRIPTION, TRUNK],
+    )
 }
 
 // whether these files are there, and no working file or lock
@@ -400,7 +425,13 @@ fn stopped_changes_recover(rt: HostRuntime) -> Result<(), Fail> {
 
 #[test]
 fn stopped_rules_recover(rt: HostRuntime) -> Result<(), Fail> {
-    assert!(rt; all_stops_recover(rt.alloc(), &STOPS[7..])?);
+    assert!(rt; all_stops_recover(rt.alloc(), &STOPS[7..10])?);
+    Ok(())
+}
+
+#[test]
+fn stopped_imports_recover(rt: HostRuntime) -> Result<(), Fail> {
+    assert!(rt; all_stops_recover(rt.alloc(), &STOPS[10..])?);
     Ok(())
 }
 
@@ -430,7 +461,13 @@ fn failed_changes_recover(rt: HostRuntime) -> Result<(), Fail> {
 
 #[test]
 fn failed_rules_recover(rt: HostRuntime) -> Result<(), Fail> {
-    assert!(rt; all_faults_recover(rt.alloc(), &STOPS[7..])?);
+    assert!(rt; all_faults_recover(rt.alloc(), &STOPS[7..10])?);
+    Ok(())
+}
+
+#[test]
+fn failed_imports_recover(rt: HostRuntime) -> Result<(), Fail> {
+    assert!(rt; all_faults_recover(rt.alloc(), &STOPS[10..])?);
     Ok(())
 }
 

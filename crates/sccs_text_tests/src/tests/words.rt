@@ -16,8 +16,9 @@ fn utility_number(command: &Command) -> u64 {
         Command::Val(_) => 8,
         Command::What(_, _) => 9,
         Command::Recover(_) => 10,
-        Command::Batch => 11,
-        Command::Soak(_) => 12,
+        Command::Import(_) => 11,
+        Command::Batch => 12,
+        Command::Soak(_) => 13,
     }
 }
 
@@ -41,7 +42,7 @@ fn kind_and_number(read: Result<Command, WordsFault>) -> (u8, u64) {
 
 #[test]
 fn commands_and_faults(rt: HostRuntime) -> Result<(), Fail> {
-    let examples: [(&[u8], u8, u64); 16] = [
+    let examples: [(&[u8], u8, u64); 18] = [
         (b"admin -n -fb -ymade s.a", 0, 1),
         (b"get -e -r1.2 -i1.3 s.a", 0, 2),
         (b"delta -s -yfirst s.a", 0, 3),
@@ -52,12 +53,14 @@ fn commands_and_faults(rt: HostRuntime) -> Result<(), Fail> {
         (b"val -mx -", 0, 8),
         (b"what -s f", 0, 9),
         (b"recover s.a", 0, 10),
-        (b"batch", 0, 11),
-        (b"soak 2000", 0, 12),
+        (b"import s.a s.b", 0, 11),
+        (b"batch", 0, 12),
+        (b"soak 2000", 0, 13),
         (b"get -k -q s.a", 2, 3),
         (b"get -e -c75 s.a", 5, 3),
         (b"delta s.a b", 6, 3),
         (b"rmdel s.a", 8, 3),
+        (b"import s.a .", 6, 3),
     ];
     for (line, kind, number) in examples {
         let words = words_of(rt.alloc(), line)?;

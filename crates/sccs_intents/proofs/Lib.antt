@@ -1,0 +1,4 @@
+pub mod Cuts
+pub mod IntentTexts
+pub mod Others
+pub mod Turns
