@@ -1,4 +1,4 @@
-ghost use Rattle.std.specs.Prelude.{◌≡◌, ◌≢◌, ◌≤◌, ℕ, List, Option, Some, length, Err, None, false, IfOk, IfSome, IsErrOf, OnOk};
+ghost use Rattle.std.specs.Prelude.{◌≡◌, ◌≢◌, ◌≤◌, ℕ, List, Some, length, Err, None, false, IfOk, IfSome, IsErrOf, OnOk};
 ghost use Rattle.std.specs.Str.{bytes_eq};
 ghost use Rattle.sccs_base.specs.Constants.{file_limit};
 ghost use Rattle.sccs_base.specs.Name.{IsSfile, z_file};
@@ -12,6 +12,7 @@ ghost use Rattle.sccs_admin.specs.AdminStep.{admin_checks};
 ghost use Rattle.sccs_admin.specs.Parts.{AreShort, FindsNamed, FindsTexts, Hears, IsFresh, IsShort, ReadsNamed, TakesText, whole_text};
 ghost use Rattle.sccs_admin.specs.Texts.{takes_input};
 ghost use Rattle.sccs_words.specs.declared.commands.Given.TheVariants as given;
+ghost use Rattle.sccs_disk.specs.Causes.{DiskCauses};
 
 use sccs_base::{Bytes, FILE_LIMIT, Name, Source, TakeFault, take_all};
 use sccs_disk::Disk;
@@ -88,8 +89,7 @@ pub fn read_named<D: Disk>(
     ensures reads { ReadsNamed result file.now name.now (seen (D.told disk.old)) }
     ensures bound { IfOk result (λ text. length text ≤ file_limit) }
     ensures same { D.told disk.new ≡ D.told disk.old }
-    ensures later { D.faults disk.old ≤ D.faults disk.new }
-    ensures cause { IsErrOf result WholeFault.Failed → Rose (D.faults disk.old) (D.faults disk.new) }
+    ensures causes { DiskCauses (IsErrOf result WholeFault.Failed) (D.faults disk.old) (D.faults disk.new) }
 {
     if is_lock(file, name) {
         return Err(WholeFault::Missing);

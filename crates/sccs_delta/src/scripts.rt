@@ -1,8 +1,7 @@
-ghost use Rattle.std.specs.Prelude.{◌≡◌, ◌≢◌, ◌≤◌, ◌^◌, ℕ, List, true, Ok, Err, IfOk, IfSome, OnErr, OnOk, drop, is_some};
+ghost use Rattle.std.specs.Prelude.{◌≡◌, ◌≢◌, ◌≤◌, ◌^◌, ℕ, List, true, Ok, Err, IfOk, IfSome, OnOk, drop, is_some, IsErr};
 ghost use Rattle.std.specs.List.{AllByRecursion};
 ghost use Rattle.sccs_base.specs.Constants.{file_limit};
 ghost use Rattle.sccs_base.specs.Name.{IsSfile};
-ghost use Rattle.sccs_base.specs.Stream.{Rose};
 ghost use Rattle.sccs_disk.specs.Files.{View};
 ghost use Rattle.sccs_disk.specs.Told.{seen};
 ghost use Rattle.sccs_edits.specs.Plans.{IsInOrder, plan};
@@ -18,6 +17,7 @@ ghost use Rattle.sccs_table.specs.ReaderState.{bytes_in};
 ghost use Rattle.sccs_versions.specs.Coming.{IsBody};
 ghost use Rattle.sccs_delta.specs.DeltaStep.{delta_checks, flag_has_text, mrs_checked, or_script_fault};
 ghost use Rattle.sccs_delta.specs.Preparing.{FitsBy, ReadsBase, judged_script, script_fits, script_refusal};
+ghost use Rattle.sccs_disk.specs.Causes.{DiskCauses};
 
 use sccs_base::{FILE_LIMIT, Failed, Memory, Name, Words};
 use sccs_copies::{Found, examine};
@@ -75,8 +75,7 @@ fn longest_plan(alloc: Global, script: &Script) -> Result<Plan, Memory>
 fn is_there<D: Disk>(disk: &mut D, file: &Name) -> Result<bool, Failed>
     ensures told { IfSome (seen (D.told disk.old)) (λ (v : View). IfOk result (λ there. there ≡ is_some (v file.now))) }
     ensures same { D.told disk.new ≡ D.told disk.old }
-    ensures later { D.faults disk.old ≤ D.faults disk.new }
-    ensures cause { OnErr result (Rose (D.faults disk.old) (D.faults disk.new)) }
+    ensures causes { DiskCauses (IsErr result) (D.faults disk.old) (D.faults disk.new) }
 {
     Ok(disk.size(file)?.is_some())
 }

@@ -1,4 +1,5 @@
 pub mod Calls
+pub mod Causes
 pub mod DirectoryFolders
 pub mod DirectoryStates
 pub mod Effects

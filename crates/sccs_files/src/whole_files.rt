@@ -4,6 +4,7 @@ ghost use Rattle.sccs_base.specs.Stream.{Rose};
 ghost use Rattle.sccs_disk.specs.Files.{View};
 ghost use Rattle.sccs_disk.specs.Told.{seen};
 ghost use Rattle.sccs_files.specs.WholeFiles.{AnswersWhole, ReadsToEnd, file_bytes};
+ghost use Rattle.sccs_disk.specs.Causes.{DiskCauses};
 
 use sccs_base::{Bytes, FILE_LIMIT, Name};
 use sccs_disk::Disk;
@@ -61,8 +62,7 @@ pub fn read_whole<D: Disk>(alloc: Global, disk: &mut D, name: &Name) -> Result<B
     ensures told { IfSome (seen (D.told disk.old)) (λ (v : View). AnswersWhole (v name.now) result) }
     ensures bound { IfOk result (λ bytes. length bytes ≤ file_limit) }
     ensures same { D.told disk.new ≡ D.told disk.old }
-    ensures later { D.faults disk.old ≤ D.faults disk.new }
-    ensures cause { IsErrOf result WholeFault.Failed → Rose (D.faults disk.old) (D.faults disk.new) }
+    ensures causes { DiskCauses (IsErrOf result WholeFault.Failed) (D.faults disk.old) (D.faults disk.new) }
 {
     match disk.size(name) {
         Ok(Some(size)) => {

@@ -7,6 +7,7 @@ pub mod FoundLaws
 pub mod GetMoments
 pub mod GivingLaws
 pub mod LinearLaws
+pub mod PlacedSids
 pub mod ReadyLaws
 pub mod ReservedLaws
 pub mod SpeakLaws

@@ -1,15 +1,16 @@
-ghost use Rattle.std.specs.Prelude.{◌≡◌, ◌≢◌, All, Err, IfOk, OnOk, false, true};
+ghost use Rattle.std.specs.Prelude.{◌≡◌, ◌≢◌, All, Err, IfOk, IfSome, OnOk, Some, false, true};
 ghost use Rattle.std.specs.List.{AllByRecursion};
 ghost use Rattle.sccs_sid.specs.Moment.{IsMoment};
 ghost use Rattle.sccs_sid.specs.Sid.{IsComponent, IsSid};
 ghost use Rattle.sccs_sid.specs.SidLists.{IsRange};
 ghost use Rattle.sccs_sid.specs.declared.refusals.StepFault.TheVariants as faults;
-ghost use Rattle.sccs_history.specs.Applied.{live_serials};
+ghost use Rattle.sccs_history.specs.Applied.{live_serials, serials_of};
 ghost use Rattle.sccs_history.specs.History.{HasSpelling, IsSpelled, IsTable, lives};
-ghost use Rattle.sccs_history.specs.Numbers.{has};
+ghost use Rattle.sccs_history.specs.Numbers.{Falls, has};
 ghost use Rattle.sccs_pending.specs.PFiles.{Answers, PassesCheck};
 ghost use Rattle.sccs_pfile.specs.Entries.{IsEdit};
 ghost use Rattle.sccs_sets.specs.Made.{to_be_made};
+ghost use Rattle.sccs_sets.specs.Sets.{sid_at};
 ghost use Rattle.sccs_steps.specs.Actions.{RefusesWithin};
 ghost use Rattle.sccs_get.specs.NewEntry.{AreEditValues, edit_checks, free_sid, is_got, new_edit, new_entry, release_asked, release_checks, release_made, edit_releases, reserved, sid_checks, singles};
 ghost use Rattle.sccs_get.specs.AskedVersion.{spec_asked};
@@ -102,8 +103,36 @@ fn reserved(alloc: Global, edits: &[Edit]) -> Result<ListOf<Sid>, Memory>
     Ok(sids)
 }
 
+// the SID of a serial, where it stands at the place that it has in a table from which no delta is gone
+fn placed_sid(records: &[Record], serial: u16) -> Option<Sid>
+    requires { Falls 65536 (serials_of records.now) }
+    ensures { IfSome result (λ sid. sid_at records.now serial ≡ Some sid) }
+{
+    let newest = records.first()?.serial;
+    let place = newest.checked_sub(serial)?;
+    let record = records.get(usize::from(place))?;
+    if record.serial == serial {
+        Some(record.sid)
+    } else {
+        None
+    }
+}
+
+// the SID of a serial
+fn sid_of(records: &[Record], serial: u16) -> Sid
+    requires falls { Falls 65536 (serials_of records.now) }
+    requires there { has (serials_of records.now) serial ≡ true }
+    ensures { sid_at records.now serial ≡ Some result }
+{
+    match placed_sid(records, serial) {
+        Some(sid) => sid,
+        None => sid_at(records, serial),
+    }
+}
+
 /// The SIDs of live serials, each as a range of its own.
 pub fn singles(alloc: Global, records: &[Record], serials: &[u16]) -> Result<SidList, Memory>
+    requires falls { Falls 65536 (serials_of records.now) }
     requires live { AllByRecursion (λ n. has (live_serials records.now) n ≡ true) serials.now }
     requires spelled { AllByRecursion HasSpelling records.now }
     ensures value { IfOk result (λ list. list ≡ singles records.now serials.now) }
@@ -111,7 +140,7 @@ pub fn singles(alloc: Global, records: &[Record], serials: &[u16]) -> Result<Sid
 {
     let mut list = SidList::empty(alloc);
     for serial in serials {
-        let sid = sid_at(records, *serial);
+        let sid = sid_of(records, *serial);
         list.insert(
             list.len(),
             Range {
@@ -166,6 +195,7 @@ fn entry(
     got: Sid,
     made: Sid,
 ) -> Result<Edit, Memory>
+    requires falls { Falls 65536 (serials_of header.now.records) }
     requires include { AllByRecursion (λ n. has (live_serials header.now.records) n ≡ true) asked.now.include }
     requires exclude { AllByRecursion (λ n. has (live_serials header.now.records) n ≡ true) asked.now.exclude }
     requires spelled { IsSpelled header.now }

@@ -1,4 +1,4 @@
-ghost use Rattle.std.specs.Prelude.{◌≡◌, ◌≤◌, ◌⊎◌, ◌||◌, ℕ, true, false, List, drop, Option, Err, IfOk, IfSome, OnErr, OnOk};
+ghost use Rattle.std.specs.Prelude.{◌≡◌, ◌≤◌, ◌⊎◌, ◌||◌, ℕ, true, false, List, drop, Option, Err, IfOk, IfSome, OnErr, OnOk, IsErr};
 ghost use Rattle.std.specs.Str.{bytes_eq};
 ghost use Rattle.sccs_base.specs.Name.{IsSfile, y_file};
 ghost use Rattle.sccs_base.specs.Stream.{Rose};
@@ -20,6 +20,7 @@ ghost use Rattle.sccs_get.specs.Giving.{FinishesGet, GivesUpGet, PlacesG, Readie
 ghost use Rattle.sccs_get.specs.VersionStep.{get_action, get_outcome, says_well, version_checks, writes_g};
 ghost use Rattle.sccs_get.specs.Keeps.{get_keeps};
 ghost use Rattle.sccs_get.specs.Whole.{GivesAsked};
+ghost use Rattle.sccs_disk.specs.Causes.{DiskCauses};
 
 use crate::checks::{check_g, check_keywords, writes_g};
 use crate::found::find_version;
@@ -105,8 +106,7 @@ fn place<D: Disk>(words: &GetWords, name: &Name, disk: &mut D) -> Result<(), Ste
     ensures others { KeepsOthers (λ k. bytes_eq (y_file name.now) k || bytes_eq (drop 2 name.now) k) (D.told disk.old) (D.told disk.new) }
     ensures same { writes_g words.now ≡ false → D.told disk.new ≡ D.told disk.old }
     ensures fault { OnErr result (result ≡ Err faults.DiskFault) }
-    ensures later { D.faults disk.old ≤ D.faults disk.new }
-    ensures cause { OnErr result (Rose (D.faults disk.old) (D.faults disk.new)) }
+    ensures causes { DiskCauses (IsErr result) (D.faults disk.old) (D.faults disk.new) }
 {
     if !writes_g(words) {
         return Ok(());

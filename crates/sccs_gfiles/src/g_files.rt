@@ -1,7 +1,6 @@
-ghost use Rattle.std.specs.Prelude.{◌≡◌, ◌≤◌, ◌||◌, drop, IfOk, OnErr, OnOk};
+ghost use Rattle.std.specs.Prelude.{◌≡◌, ◌||◌, drop, IfOk, OnErr, OnOk, IsErr};
 ghost use Rattle.std.specs.Str.{bytes_eq};
 ghost use Rattle.sccs_base.specs.Name.{IsSfile, y_file};
-ghost use Rattle.sccs_base.specs.Stream.{Rose};
 ghost use Rattle.sccs_disk.specs.Calls.{IsThere};
 ghost use Rattle.sccs_disk.specs.Effects.{renamed};
 ghost use Rattle.sccs_disk.specs.Told.{seen};
@@ -9,6 +8,7 @@ ghost use Rattle.sccs_gfiles.specs.Finished.{MayWrite};
 ghost use Rattle.sccs_gfiles.specs.Placing.{HalfPlaces, PlaceEnds, PlaceStops, Places};
 ghost use Rattle.sccs_moments.specs.Unlocked.{KeepsOthers};
 ghost use Rattle.sccs_store.specs.Commits.{Becomes, MayBecome};
+ghost use Rattle.sccs_disk.specs.Causes.{DiskCauses};
 
 use sccs_base::{Failed, Name};
 use sccs_disk::Disk;
@@ -18,8 +18,7 @@ pub fn is_writable_g<D: Disk>(disk: &mut D, name: &Name) -> Result<bool, Failed>
     requires { IsSfile name.now }
     ensures ok { IfOk result (MayWrite (seen (D.told disk.old)) (drop 2 name.now)) }
     ensures same { D.told disk.new ≡ D.told disk.old }
-    ensures later { D.faults disk.old ≤ D.faults disk.new }
-    ensures cause { OnErr result (Rose (D.faults disk.old) (D.faults disk.new)) }
+    ensures causes { DiskCauses (IsErr result) (D.faults disk.old) (D.faults disk.new) }
 {
     match disk.writable(&name.module()) {
         Ok(Some(writable)) => Ok(writable),
@@ -35,8 +34,7 @@ fn place<D: Disk>(disk: &mut D, from: &Name, to: &Name) -> Result<(), Failed>
     ensures halfway { OnErr result (MayBecome (renamed from.now to.now) (seen (D.told disk.old)) (seen (D.told disk.new))) }
     ensures done { OnOk result (Places from.now to.now (D.told disk.old) (D.told disk.new)) }
     ensures half { OnErr result (HalfPlaces from.now to.now (D.told disk.old) (D.told disk.new)) }
-    ensures later { D.faults disk.old ≤ D.faults disk.new }
-    ensures cause { OnErr result (Rose (D.faults disk.old) (D.faults disk.new)) }
+    ensures causes { DiskCauses (IsErr result) (D.faults disk.old) (D.faults disk.new) }
 {
     match disk.rename(from, to) {
         Ok(()) => disk.sync_names(),
@@ -55,8 +53,7 @@ pub fn place_g<D: Disk>(disk: &mut D, name: &Name) -> Result<(), Failed>
     ensures stopped { OnErr result (PlaceStops name.now (D.told disk.old) (D.told disk.new)) }
     ensures calm { OnOk result (PlaceEnds name.now (D.told disk.old) (D.told disk.new)) }
     ensures others { KeepsOthers (λ k. bytes_eq (y_file name.now) k || bytes_eq (drop 2 name.now) k) (D.told disk.old) (D.told disk.new) }
-    ensures later { D.faults disk.old ≤ D.faults disk.new }
-    ensures cause { OnErr result (Rose (D.faults disk.old) (D.faults disk.new)) }
+    ensures causes { DiskCauses (IsErr result) (D.faults disk.old) (D.faults disk.new) }
 {
     place(disk, &name.sibling(b'y'), &name.module())
 }

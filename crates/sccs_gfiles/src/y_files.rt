@@ -1,6 +1,5 @@
-ghost use Rattle.std.specs.Prelude.{◌≤◌, OnErr, OnOk};
+ghost use Rattle.std.specs.Prelude.{OnOk, IsErr};
 ghost use Rattle.sccs_base.specs.Name.{IsSfile, y_file};
-ghost use Rattle.sccs_base.specs.Stream.{Rose};
 ghost use Rattle.sccs_disk.specs.Calls.{IsThere};
 ghost use Rattle.sccs_disk.specs.Effects.{altered};
 ghost use Rattle.sccs_disk.specs.Images.{IsFirm};
@@ -9,6 +8,7 @@ ghost use Rattle.sccs_gfiles.specs.Finished.{finished};
 ghost use Rattle.sccs_images.specs.Touches.{Leaves};
 ghost use Rattle.sccs_store.specs.Commits.{Becomes};
 ghost use Rattle.sccs_writers.specs.OneFile.{OnlyWrites};
+ghost use Rattle.sccs_disk.specs.Causes.{DiskCauses};
 
 use crate::modes::Mode;
 use sccs_base::{Failed, Name};
@@ -21,8 +21,7 @@ fn finish<D: Disk>(disk: &mut D, name: &Name, mode: Mode) -> Result<(), Failed>
     ensures view { OnOk result (Becomes (altered name.now (finished mode)) (seen (D.told disk.old)) (seen (D.told disk.new))) }
     ensures only { OnlyWrites name.now (D.told disk.old) (D.told disk.new) }
     ensures firm { OnOk result (Leaves (IsFirm name.now) (D.told disk.old) (D.told disk.new)) }
-    ensures later { D.faults disk.old ≤ D.faults disk.new }
-    ensures cause { OnErr result (Rose (D.faults disk.old) (D.faults disk.new)) }
+    ensures causes { DiskCauses (IsErr result) (D.faults disk.old) (D.faults disk.new) }
 {
     match mode {
         Mode::Writable => disk.sync(name),
@@ -38,8 +37,7 @@ pub fn finish_y<D: Disk>(disk: &mut D, name: &Name, mode: Mode) -> Result<(), Fa
     ensures view { OnOk result (Becomes (altered (y_file name.now) (finished mode)) (seen (D.told disk.old)) (seen (D.told disk.new))) }
     ensures only { OnlyWrites (y_file name.now) (D.told disk.old) (D.told disk.new) }
     ensures firm { OnOk result (Leaves (IsFirm (y_file name.now)) (D.told disk.old) (D.told disk.new)) }
-    ensures later { D.faults disk.old ≤ D.faults disk.new }
-    ensures cause { OnErr result (Rose (D.faults disk.old) (D.faults disk.new)) }
+    ensures causes { DiskCauses (IsErr result) (D.faults disk.old) (D.faults disk.new) }
 {
     finish(disk, &name.sibling(b'y'), mode)
 }

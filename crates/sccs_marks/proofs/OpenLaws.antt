@@ -1,11 +1,13 @@
 -- Which serials are open, by their marks.
-use Rattle.std.proofs.Common.{◌≡◌, ℕ, zero, suc, ◌==◌, ◌<◌, Bool, true, false, cond, not, ◌||◌, max, List, [], ◌∷◌, get_or, refl, sym, ap, ◌∙◌, arith}
+use Rattle.std.proofs.Common.{◌≡◌, ℕ, zero, suc, ◌==◌, ◌<◌, Bool, true, false, cond, not, ◌||◌, max, List, [], ◌∷◌, get_or, refl, sym, ap, ◌∙◌, arith, eq-eqb}
 use Rattle.std.specs.List.{list_any}
 use Rattle.std.proofs.lemmas.Bool.{eqb-true}
+use Rattle.sccs_history.specs.Applied.{live_serials}
 use Rattle.sccs_history.specs.Body.{is_closed as closed, is_insert as inserting, mark, above, open_serials, inserters, is_over, may_stand}
 use Rattle.sccs_history.specs.Body as body
 use Rattle.sccs_history.specs.Numbers.{falling, front_if, has, is_empty}
 use Rattle.sccs_history.proofs.Falling.{has-falling}
+use Rattle.sccs_history.specs.declared.headers.Record.{Record}
 use Rattle.sccs_history.specs.declared.headers.Item.{Item}
 use Rattle.sccs_history.specs.declared.headers.Item.TheVariants.{Text, Insert, Delete, End}
 use Rattle.sccs_marks.specs.Kinds.{kind, is_insert_mark, is_open}
@@ -17,6 +19,10 @@ use Rattle.sccs_marks.specs.declared.marks.Mark.TheVariants.{Closed}
 -- a text line opens and ends nothing
 pub knows_text : (live : List ℕ) (before : List Item) (text : List ℕ) (s : BodyState) → Knows live before s → Knows live (Text text ∷ before) s
 knows_text live before text s knows = record { marks = knows.marks; lives_are = knows.lives_are }
+
+-- the serial of a record that isn't removed lives
+pub head_lives : (r : Record) (rs : List Record) → r.removed ≡ false → has (live_serials (r ∷ rs)) r.serial ≡ true
+head_lives r rs kept = ap (λ t. has (front_if (not t) r.serial (live_serials rs)) r.serial) kept ∙ ap (λ t. t || has (live_serials rs) r.serial) (eq-eqb r.serial r.serial refl)
 
 -- ---- whether some serial is open
 

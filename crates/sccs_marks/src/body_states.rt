@@ -1,4 +1,4 @@
-ghost use Rattle.std.specs.Prelude.{◌≡◌, ℕ, List, [], ◌∷◌, true, false, slice_index_or, length, IfOk, OnOk, OnErr};
+ghost use Rattle.std.specs.Prelude.{◌≡◌, ◌<◌, ◌≤◌, ℕ, List, [], ◌∷◌, true, false, slice_index_or, length, IfOk, OnOk, OnErr};
 ghost use Rattle.sccs_history.specs.Applied.{live_serials};
 ghost use Rattle.sccs_history.specs.Body.{may_stand as may_stand_spec, is_over as is_over_spec};
 ghost use Rattle.sccs_history.specs.Numbers.{has};
@@ -17,11 +17,24 @@ pub struct BodyState {
     lives: Vec<bool>,
 }
 
+// one more than the greatest serial of a table
+fn places(records: &[Record]) -> usize
+    ensures few { result ≤ 65536 }
+    ensures within { (n : ℕ) → has (live_serials records.now) n ≡ true → n < result }
+{
+    let mut count = 0;
+    for record in records {
+        count = count.max(usize::from(record.serial) + 1);
+    }
+    count
+}
+
 // marks the live serials of a table
 fn mark_live(records: &[Record], lives: &mut [bool])
     requires clear { (n : ℕ) → slice_index_or lives.old n false ≡ false }
-    requires sized { length lives.old ≡ 65536 }
-    ensures { (n : ℕ) → slice_index_or lives.new n false ≡ has (live_serials records.now) n }
+    requires within { (n : ℕ) → has (live_serials records.now) n ≡ true → n < length lives.old }
+    ensures sized { length lives.new ≡ length lives.old }
+    ensures live { (n : ℕ) → slice_index_or lives.new n false ≡ has (live_serials records.now) n }
 {
     for record in records {
         if !record.removed {
@@ -55,10 +68,11 @@ impl BodyState {
     pub fn new(alloc: Global, records: &[Record]) -> Result<BodyState, Memory>
         ensures { IfOk result (λ state. Knows (live_serials records.now) [] state) }
     {
-        let mut lives = none_lives(alloc, 65536)?;
+        let count = places(records);
+        let mut lives = none_lives(alloc, count)?;
         mark_live(records, lives.as_mut_slice());
         Ok(BodyState {
-            marks: Marks::new(alloc)?,
+            marks: Marks::new(alloc, count)?,
             lives,
         })
     }
@@ -106,7 +120,7 @@ impl BodyState {
         } else {
             Mark::Deletes
         };
-        self.marks.put(serial, mark);
+        self.marks.put(serial, mark)?;
         Ok(())
     }
 
@@ -115,7 +129,7 @@ impl BodyState {
         ensures { (live : List ℕ) (before : List Item) → Knows live before self.old
             → Knows live (items.End serial ∷ before) self.new }
     {
-        self.marks.put(serial, Mark::Closed);
+        self.marks.close(serial);
     }
 
     /// Whether a body may end here.

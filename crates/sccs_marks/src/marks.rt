@@ -1,4 +1,4 @@
-ghost use Rattle.std.specs.Prelude.{◌≡◌, ◌==◌, ℕ, replicate, slice_index_or, IfOk, if◌then◌else◌};
+ghost use Rattle.std.specs.Prelude.{◌≡◌, ◌<◌, ◌≤◌, ◌==◌, ℕ, length, replicate, slice_index_or, IfOk, OnErr, OnOk, if◌then◌else◌};
 ghost use Rattle.std.specs.List.{list_any};
 ghost use Rattle.sccs_marks.specs.Kinds.{is_insert_mark, is_open};
 ghost use Rattle.sccs_marks.specs.declared.marks.Mark.TheVariants as stands;
@@ -32,7 +32,8 @@ impl Mark {
     }
 }
 
-/// How each serial stands, and how many are open. Contracts see the marks in a list.
+/// How each serial stands that has a place, and how many are open; those without one are closed. Contracts see the
+/// marks in a list.
 #[derive(Drop)]
 pub struct Marks {
     inserts: usize,
@@ -61,11 +62,12 @@ fn all_closed(alloc: Global, count: usize) -> Result<Vec<Mark>, Memory>
 }
 
 impl Marks {
-    /// Every serial is closed.
-    pub fn new(alloc: Global) -> Result<Marks, Memory>
+    /// Every serial is closed, and those below a number have a place.
+    pub fn new(alloc: Global, count: usize) -> Result<Marks, Memory>
+        requires { count ≤ 65536 }
         ensures { IfOk result (λ marks. (n : ℕ) → slice_index_or marks n stands.Closed ≡ stands.Closed) }
     {
-        let marks = all_closed(alloc, 65536)?;
+        let marks = all_closed(alloc, count)?;
         Ok(Marks {
             inserts: 0,
             marks,
@@ -77,17 +79,45 @@ impl Marks {
     pub fn at(&self, serial: u16) -> Mark
         ensures { result ≡ slice_index_or self.now serial stands.Closed }
     {
-        self.marks[serial as usize]
+        self.marks
+            .get(serial as usize)
+            .copied()
+            .unwrap_or(Mark::Closed)
     }
 
-    /// Marks a serial.
-    pub fn put(&mut self, serial: u16, mark: Mark)
+    // marks a serial that has a place
+    fn mark(&mut self, serial: u16, mark: Mark)
+        requires { serial < length self.old }
         ensures { (n : ℕ) → slice_index_or self.new n stands.Closed
             ≡ (if serial == n then mark else slice_index_or self.old n stands.Closed) }
     {
         let old = mem::replace(&mut self.marks[serial as usize], mark);
         self.inserts = self.inserts + usize::from(mark.inserts()) - usize::from(old.inserts());
         self.opens = self.opens + usize::from(mark.is_open()) - usize::from(old.is_open());
+    }
+
+    /// Marks a serial. One without a place, which no table of these has, is want of memory, and nothing changes.
+    pub fn put(&mut self, serial: u16, mark: Mark) -> Result<(), Memory>
+        ensures ok { OnOk result ((n : ℕ) → slice_index_or self.new n stands.Closed
+            ≡ (if serial == n then mark else slice_index_or self.old n stands.Closed)) }
+        ensures err { OnErr result (self.new ≡ self.old) }
+    {
+        if usize::from(serial) < self.marks.len() {
+            self.mark(serial, mark);
+            Ok(())
+        } else {
+            Err(Memory)
+        }
+    }
+
+    /// Closes a serial; one without a place is closed.
+    pub fn close(&mut self, serial: u16)
+        ensures { (n : ℕ) → slice_index_or self.new n stands.Closed
+            ≡ (if serial == n then stands.Closed else slice_index_or self.old n stands.Closed) }
+    {
+        if usize::from(serial) < self.marks.len() {
+            self.mark(serial, Mark::Closed);
+        }
     }
 
     /// Whether some serial is open by Insert.

@@ -1,7 +1,6 @@
-ghost use Rattle.std.specs.Prelude.{◌≡◌, [], ◌≤◌, ◌++◌, Some, IfOk, IsErrOf, OnErr, OnOk};
+ghost use Rattle.std.specs.Prelude.{◌≡◌, [], ◌++◌, Some, IfOk, IsErrOf, OnErr, OnOk};
 ghost use Rattle.std.specs.Str.{bytes_eq};
 ghost use Rattle.sccs_base.specs.Name.{IsSfile, x_file};
-ghost use Rattle.sccs_base.specs.Stream.{Rose};
 ghost use Rattle.sccs_disk.specs.Calls.{IsThere};
 ghost use Rattle.sccs_disk.specs.Files.{put};
 ghost use Rattle.sccs_disk.specs.Images.{IsFirm};
@@ -17,6 +16,7 @@ ghost use Rattle.sccs_writers.specs.OneFile.{OnlyWrites};
 ghost use Rattle.sccs_writers.specs.Puts.{Appends, PutsText};
 ghost use Rattle.sccs_store.specs.SealedFiles.{sealed};
 ghost use Rattle.sccs_new_files.specs.Writing.{AppendsSum, body_bytes};
+ghost use Rattle.sccs_disk.specs.Causes.{DiskCauses};
 
 use crate::bodies::NewBody;
 use sccs_base::Name;
@@ -77,8 +77,7 @@ fn append_all<B: NewBody, D: Disk>(
         ++ body_bytes (B.items body.now)) (D.told disk.old) (D.told disk.new)) }
     ensures sum { IfOk result (λ sums. IsSumOf sums (header_bytes header.now ++ body_bytes (B.items body.now))) }
     ensures only { OnlyWrites name.now (D.told disk.old) (D.told disk.new) }
-    ensures later { D.faults disk.old ≤ D.faults disk.new }
-    ensures cause { IsErrOf result DiskRefusal.Failed → Rose (D.faults disk.old) (D.faults disk.new) }
+    ensures causes { DiskCauses (IsErrOf result DiskRefusal.Failed) (D.faults disk.old) (D.faults disk.new) }
 {
     let mut sum = Sum::new();
     write_header(header, disk, name, &mut sum)?;
@@ -100,8 +99,7 @@ fn append_x<B: NewBody, D: Disk>(
         ++ body_bytes (B.items body.now)) (D.told disk.old) (D.told disk.new)) }
     ensures sum { IfOk result (λ sums. IsSumOf sums (header_bytes header.now ++ body_bytes (B.items body.now))) }
     ensures only { OnlyWrites (x_file name.now) (D.told disk.old) (D.told disk.new) }
-    ensures later { D.faults disk.old ≤ D.faults disk.new }
-    ensures cause { IsErrOf result DiskRefusal.Failed → Rose (D.faults disk.old) (D.faults disk.new) }
+    ensures causes { DiskCauses (IsErrOf result DiskRefusal.Failed) (D.faults disk.old) (D.faults disk.new) }
 {
     append_all(alloc, header, body, &name.sibling(b'x'), disk)
 }
@@ -122,8 +120,7 @@ pub fn write_new<B: NewBody, D: Disk>(
         (seen (D.told disk.old)) (seen (D.told disk.new))) }
     ensures touches { TouchesOnly (bytes_eq (x_file name.now)) (D.told disk.old) (D.told disk.new) }
     ensures firm { OnOk result (Leaves (IsFirm (x_file name.now)) (D.told disk.old) (D.told disk.new)) }
-    ensures later { D.faults disk.old ≤ D.faults disk.new }
-    ensures cause { IsErrOf result DiskRefusal.Failed → Rose (D.faults disk.old) (D.faults disk.new) }
+    ensures causes { DiskCauses (IsErrOf result DiskRefusal.Failed) (D.faults disk.old) (D.faults disk.new) }
 {
     start(disk, name, b'x')?;
     let sum = append_x(alloc, header, body, name, disk)?;

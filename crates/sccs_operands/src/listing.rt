@@ -1,11 +1,11 @@
-ghost use Rattle.std.specs.Prelude.{◌≡◌, ◌≤◌, ℕ, Bool, List, ◌&&◌, ◌||◌, take, IfOk, IfSome, OnOk, IsErrOf};
+ghost use Rattle.std.specs.Prelude.{◌≡◌, ℕ, List, ◌&&◌, ◌||◌, IfOk, IfSome, OnOk, IsErrOf};
 ghost use Rattle.std.specs.List.{list_any};
 ghost use Rattle.std.specs.Str.{bytes_eq};
 ghost use Rattle.sccs_base.specs.Name.{is_sfile_name};
-ghost use Rattle.sccs_base.specs.Stream.{Rose};
 ghost use Rattle.sccs_disk.specs.Files.{Folder, View};
 ghost use Rattle.sccs_disk.specs.Told.{seen};
 ghost use Rattle.sccs_operands.specs.FolderNames.{AreSfiles, HasSfilesOf, AreInOrder, names_in, sfiles_in};
+ghost use Rattle.sccs_disk.specs.Causes.{DiskCauses};
 
 use sccs_base::{Bytes, ListOf, Memory, Name, Words};
 use sccs_disk::{Disk, DiskRefusal};
@@ -54,8 +54,7 @@ pub fn list_sfiles<D: Disk>(alloc: Global, disk: &mut D) -> Result<Words, DiskRe
     ensures told { IfSome (seen (D.told disk.old)) (λ (v : View). (m : Folder) → HasSfilesOf v m → IfOk result (λ names. names ≡ sfiles_in m)) }
     ensures names { IfOk result AreSfiles }
     ensures same { D.told disk.new ≡ D.told disk.old }
-    ensures later { D.faults disk.old ≤ D.faults disk.new }
-    ensures cause { IsErrOf result DiskRefusal.Failed → Rose (D.faults disk.old) (D.faults disk.new) }
+    ensures causes { DiskCauses (IsErrOf result DiskRefusal.Failed) (D.faults disk.old) (D.faults disk.new) }
 {
     let names = match disk.list(alloc) {
         Ok(names) => names,

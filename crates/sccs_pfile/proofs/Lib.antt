@@ -3,6 +3,7 @@ pub mod Cuts
 pub mod EntriesValid
 pub mod EntryTexts
 pub mod ListsValid
+pub mod LiveLaws
 pub mod MadeSidLaws
 pub mod Recovering
 pub mod Reserving

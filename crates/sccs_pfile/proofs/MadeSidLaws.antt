@@ -31,7 +31,7 @@ and_assoc : (a b c : Bool) → ((a && b) && c) ≡ (a && (b && c))
 and_assoc true b c = refl
 and_assoc false b c = refl
 
-sid_same : (a b : Sid) → is_eq (four_cmp (sid_key a) (sid_key b)) ≡ same_sid a b
+pub sid_same : (a b : Sid) → is_eq (four_cmp (sid_key a) (sid_key b)) ≡ same_sid a b
 sid_same a b =
     let r : Bool = a.release == b.release in
     let l : Bool = a.level == b.level in

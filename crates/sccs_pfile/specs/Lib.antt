@@ -1,6 +1,8 @@
 pub mod Agreement
 pub mod Choices
 pub mod Entries
+pub mod LiveSets
+pub mod Lookups
 pub mod MadeSids
 pub mod Reading
 pub mod Recovered

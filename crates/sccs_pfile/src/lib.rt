@@ -5,6 +5,7 @@ mod agreement;
 mod choosing;
 mod entries;
 mod laws;
+mod live_sets;
 mod makers;
 mod reading;
 mod writing;

@@ -18,8 +18,8 @@ pub struct Makers {
     several: BTreeSet<(u16, u16, u16, u16), Global>,
 }
 
-// the four numbers of a SID
-fn sid_key(sid: Sid) -> (u16, u16, u16, u16)
+/// The four numbers of a SID.
+pub fn sid_key(sid: Sid) -> (u16, u16, u16, u16)
     ensures { result ≡ sid_key sid }
 {
     (sid.release, sid.level, sid.branch, sid.sequence)

@@ -1,12 +1,12 @@
-ghost use Rattle.std.specs.Prelude.{◌≡◌, ◌≢◌, ◌≤◌, All, Some, Ok, Err, IfOk, IfSome, IsErrOf, Option, IsSome};
+ghost use Rattle.std.specs.Prelude.{◌≡◌, ◌≢◌, All, Some, Ok, Err, IfOk, IfSome, IsErrOf, Option, IsSome};
 ghost use Rattle.sccs_base.specs.Name.{IsSfile, p_file};
-ghost use Rattle.sccs_base.specs.Stream.{Rose};
 ghost use Rattle.sccs_disk.specs.Files.{Content, View};
 ghost use Rattle.sccs_disk.specs.Told.{seen};
 ghost use Rattle.sccs_pfile.specs.Entries.{IsEdit};
 ghost use Rattle.sccs_pfile.specs.Reading.{edits_of};
 ghost use Rattle.sccs_recovery.specs.Checks.{IsWithin, ReadsOrRefuses, ReadsTable, bytes_read, table_in, table_read};
 ghost use Rattle.sccs_recovery.specs.Entries.{Finds, HasEntries, Recovers};
+ghost use Rattle.sccs_disk.specs.Causes.{DiskCauses};
 
 use crate::entries_left::{PfileLeft, entries_left};
 use sccs_base::{Bytes, Name};
@@ -22,8 +22,7 @@ use std::alloc::Global;
 fn read_bytes<D: Disk>(alloc: Global, disk: &mut D, name: &Name) -> Result<Option<Bytes>, StepFault>
     ensures told { IfSome (seen (D.told disk.old)) (λ (v : View). ReadsOrRefuses (bytes_read (v name.now)) result) }
     ensures same { D.told disk.new ≡ D.told disk.old }
-    ensures later { D.faults disk.old ≤ D.faults disk.new }
-    ensures cause { IsErrOf result StepFault.DiskFault → Rose (D.faults disk.old) (D.faults disk.new) }
+    ensures causes { DiskCauses (IsErrOf result StepFault.DiskFault) (D.faults disk.old) (D.faults disk.new) }
     ensures within { IsWithin result }
 {
     match read_whole(alloc, disk, name) {
@@ -40,8 +39,7 @@ fn read_p<D: Disk>(alloc: Global, disk: &mut D, name: &Name) -> Result<Option<By
     requires { IsSfile name.now }
     ensures told { IfSome (seen (D.told disk.old)) (λ (v : View). ReadsOrRefuses (bytes_read (v (p_file name.now))) result) }
     ensures same { D.told disk.new ≡ D.told disk.old }
-    ensures later { D.faults disk.old ≤ D.faults disk.new }
-    ensures cause { IsErrOf result StepFault.DiskFault → Rose (D.faults disk.old) (D.faults disk.new) }
+    ensures causes { DiskCauses (IsErrOf result StepFault.DiskFault) (D.faults disk.old) (D.faults disk.new) }
     ensures within { IsWithin result }
 {
     read_bytes(alloc, disk, &name.sibling(b'p'))
@@ -51,8 +49,7 @@ fn read_p<D: Disk>(alloc: Global, disk: &mut D, name: &Name) -> Result<Option<By
 fn read_there<D: Disk>(alloc: Global, disk: &mut D, name: &Name) -> Result<Option<Front>, StepFault>
     ensures told { IfSome (seen (D.told disk.old)) (λ (v : View). IsSome (v name.now) → ReadsTable (table_read (v name.now)) result) }
     ensures same { D.told disk.new ≡ D.told disk.old }
-    ensures later { D.faults disk.old ≤ D.faults disk.new }
-    ensures cause { IsErrOf result StepFault.DiskFault → Rose (D.faults disk.old) (D.faults disk.new) }
+    ensures causes { DiskCauses (IsErrOf result StepFault.DiskFault) (D.faults disk.old) (D.faults disk.new) }
     ensures within { IsWithin result }
 {
     match inspect(alloc, disk, name) {
@@ -65,8 +62,7 @@ fn read_there<D: Disk>(alloc: Global, disk: &mut D, name: &Name) -> Result<Optio
 fn read_s<D: Disk>(alloc: Global, disk: &mut D, name: &Name) -> Result<Option<Front>, StepFault>
     ensures told { IfSome (seen (D.told disk.old)) (λ (v : View). ReadsTable (table_read (v name.now)) result) }
     ensures same { D.told disk.new ≡ D.told disk.old }
-    ensures later { D.faults disk.old ≤ D.faults disk.new }
-    ensures cause { IsErrOf result StepFault.DiskFault → Rose (D.faults disk.old) (D.faults disk.new) }
+    ensures causes { DiskCauses (IsErrOf result StepFault.DiskFault) (D.faults disk.old) (D.faults disk.new) }
     ensures within { IsWithin result }
 {
     match disk.size(name) {
@@ -122,8 +118,7 @@ fn left_with<D: Disk>(
         → Finds (v name.now) (v (p_file name.now)) result) }
     ensures entries { IfOk result HasEntries }
     ensures same { D.told disk.new ≡ D.told disk.old }
-    ensures later { D.faults disk.old ≤ D.faults disk.new }
-    ensures cause { IsErrOf result StepFault.DiskFault → Rose (D.faults disk.old) (D.faults disk.new) }
+    ensures causes { DiskCauses (IsErrOf result StepFault.DiskFault) (D.faults disk.old) (D.faults disk.new) }
     ensures within { IsWithin result }
 {
     match read_s(alloc, disk, name) {
@@ -139,8 +134,7 @@ pub fn read_left<D: Disk>(alloc: Global, disk: &mut D, name: &Name) -> Result<Pf
     ensures told { IfSome (seen (D.told disk.old)) (λ (v : View). Finds (v name.now) (v (p_file name.now)) result) }
     ensures entries { IfOk result HasEntries }
     ensures same { D.told disk.new ≡ D.told disk.old }
-    ensures later { D.faults disk.old ≤ D.faults disk.new }
-    ensures cause { IsErrOf result StepFault.DiskFault → Rose (D.faults disk.old) (D.faults disk.new) }
+    ensures causes { DiskCauses (IsErrOf result StepFault.DiskFault) (D.faults disk.old) (D.faults disk.new) }
     ensures within { IsWithin result }
 {
     match read_p(alloc, disk, name) {

@@ -1,4 +1,4 @@
-ghost use Rattle.std.specs.Prelude.{◌≡◌, ◌≢◌, ◌↔◌, ◌≤◌, ℕ, false, Err, None, IfOk, IfSome, IsErrOf, OnErr, OnOk, option_map};
+ghost use Rattle.std.specs.Prelude.{◌≡◌, ◌≢◌, ◌↔◌, ◌≤◌, false, Err, None, IfOk, IfSome, IsErrOf, OnErr, OnOk, option_map, IsErr};
 ghost use Rattle.sccs_base.specs.Name.{IsSfile, p_file, q_file, y_file, z_file};
 ghost use Rattle.sccs_base.specs.Stream.{Rose};
 ghost use Rattle.sccs_disk.specs.Calls.{IsThere};
@@ -18,6 +18,7 @@ ghost use Rattle.sccs_store.specs.declared.new_files.NewFile.TheVariants.{Keep};
 ghost use Rattle.sccs_recovery.specs.Checks.{IsWithin, PassesChecks, checked, readable};
 ghost use Rattle.sccs_recovery.specs.Ends.{RecoversName};
 ghost use Rattle.sccs_recovery.specs.Entries.{HasEntries, PreparesLeft, Recovers, new_of};
+ghost use Rattle.sccs_disk.specs.Causes.{DiskCauses};
 
 use crate::entries_left::PfileLeft;
 use crate::readings::read_left;
@@ -49,8 +50,7 @@ fn prepare_left<D: Disk>(
     ensures moves { Moves (is_working name.now) (λ v. v) (seen (D.told disk.old)) (seen (D.told disk.new)) }
     ensures touches { TouchesOnly (is_working name.now) (D.told disk.old) (D.told disk.new) }
     ensures firm { IfOk result (λ new. OnReplace new (Leaves (IsFirm (q_file name.now)) (D.told disk.old) (D.told disk.new))) }
-    ensures later { D.faults disk.old ≤ D.faults disk.new }
-    ensures cause { IsErrOf result DiskRefusal.Failed → Rose (D.faults disk.old) (D.faults disk.new) }
+    ensures causes { DiskCauses (IsErrOf result DiskRefusal.Failed) (D.faults disk.old) (D.faults disk.new) }
 {
     match left {
         PfileLeft::Same => Ok(NewFile::Keep),
@@ -74,8 +74,7 @@ fn prepare<D: Disk>(left: &PfileLeft, disk: &mut D, name: &Name) -> Result<NewFi
     ensures moves { Moves (is_working name.now) (λ v. v) (seen (D.told disk.old)) (seen (D.told disk.new)) }
     ensures touches { TouchesOnly (is_working name.now) (D.told disk.old) (D.told disk.new) }
     ensures firm { IfOk result (λ new. OnReplace new (Leaves (IsFirm (q_file name.now)) (D.told disk.old) (D.told disk.new))) }
-    ensures later { D.faults disk.old ≤ D.faults disk.new }
-    ensures cause { IsErrOf result DiskRefusal.Failed → Rose (D.faults disk.old) (D.faults disk.new) }
+    ensures causes { DiskCauses (IsErrOf result DiskRefusal.Failed) (D.faults disk.old) (D.faults disk.new) }
 {
     match clear_working(disk, name) {
         Ok(()) => prepare_left(left, disk, name),
@@ -117,8 +116,7 @@ fn finish<D: Disk>(left: &PfileLeft, disk: &mut D, name: &Name) -> Result<(), St
     ensures story { RecoversOn (D.told disk.old) (D.told disk.new) }
     ensures calm { OnOk result (LeavesCalm (D.told disk.old) (D.told disk.new)) }
     ensures firm { LeavesFirm (D.told disk.old) (D.told disk.new) }
-    ensures later { D.faults disk.old ≤ D.faults disk.new }
-    ensures cause { IsErrOf result StepFault.DiskFault → Rose (D.faults disk.old) (D.faults disk.new) }
+    ensures causes { DiskCauses (IsErrOf result StepFault.DiskFault) (D.faults disk.old) (D.faults disk.new) }
     ensures within { IsWithin result }
 {
     match prepare(left, disk, name) {
@@ -153,8 +151,7 @@ fn tidy<D: Disk>(disk: &mut D, name: &Name) -> Result<(), Failed>
     ensures story { RecoversOn (D.told disk.old) (D.told disk.new) }
     ensures calm { OnOk result (LeavesCalm (D.told disk.old) (D.told disk.new)) }
     ensures firm { LeavesFirm (D.told disk.old) (D.told disk.new) }
-    ensures later { D.faults disk.old ≤ D.faults disk.new }
-    ensures cause { OnErr result (Rose (D.faults disk.old) (D.faults disk.new)) }
+    ensures causes { DiskCauses (IsErr result) (D.faults disk.old) (D.faults disk.new) }
 {
     match clear_sibling(disk, name, b'y') {
         Ok(()) => disk.sync_names(),

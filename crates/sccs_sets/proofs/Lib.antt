@@ -1,3 +1,4 @@
+pub mod Falling
 pub mod Greatest
 pub mod Living
 pub mod Lookups

@@ -42,7 +42,7 @@ seen_without seen n (m ∷ ms) is = by_test (m == n) refl (seen_without seen n m
         rest ∙ ap (λ (b : Bool). cond (not b) (m ∷ unseen seen ms) (unseen seen ms)) (sym (ap (has seen) (eqb-true m n same) ∙ is))
     by_test false same rest = same_kept m (not (has seen m)) (not (has seen m)) _ _ refl rest
 
-has_push : (seen : List ℕ) (n m : ℕ) → has (seen ++ n ∷ []) m ≡ (has seen m || n == m)
+pub has_push : (seen : List ℕ) (n m : ℕ) → has (seen ++ n ∷ []) m ≡ (has seen m || n == m)
 has_push [] n m = or_false (n == m)
   where
     or_false : (b : Bool) → (b || false) ≡ b

@@ -1,9 +1,9 @@
 -- The pass over a table: what the marks and the set hold in between.
 use Rattle.std.proofs.Common.{◌≡◌, ℕ, ◌+◌, ◌==◌, ◌<◌, ◌≤◌, Bool, true, false, cond, not, ◌&&◌, ◌||◌, List, [], ◌∷◌, ◌++◌, Option, None, Some, unwrap_or, length, slice_index_or, set, get_or, drop, refl, sym, subst, ap, ◌∙◌, ⊎_elim, arith, eq-eqb, get_or-set_same, get_or-set_other}
 use Rattle.std.proofs.lemmas.Bool.{ne_eqb, cases_eq, cases_lt, false≢true, false_from_ne_true}
-use Rattle.std.proofs.lemmas.List.{get_or_past, drop_more}
+use Rattle.std.proofs.lemmas.List.{get_or_past, drop_more, length-set}
 use Rattle.std.proofs.Math.Bool.{or-false, or-true}
-use Rattle.sccs_history.specs.Numbers.{front_if, falling, has, Falls}
+use Rattle.sccs_history.specs.Numbers.{front_if, has, Falls}
 use Rattle.sccs_history.specs.Applied.{Asked, path, is_barred, listed, named, says, applied_below, applied, serials_of}
 use Rattle.sccs_history.specs.declared.headers.Record.{Record}
 use Rattle.sccs_history.proofs.AppliedSets.{applied_falls, has_head, has_other}
@@ -44,18 +44,20 @@ pub record IsAt (asked : Asked) (all rest : List Record) (wanted : ℕ) (marks :
   pub above : List Record
   pub bound : ℕ
   pub falls : Falls bound (serials_of rest)
-  pub high : bound ≤ 65536
-  pub noted : (n : ℕ) → slice_index_or marks n None ≡ listed asked.include asked.exclude n (named above n)
+  pub sized : length marks ≡ length places
+  pub high : bound ≤ length places
+  pub noted : (n : ℕ) → n < length places → slice_index_or marks n None ≡ listed asked.include asked.exclude n (named above n)
   pub way : (m : ℕ) → m < bound → has (path asked.target all) m ≡ has (path wanted rest) m
   pub so_far : (m : ℕ) → has (applied asked all) m ≡ (slice_index_or places m false || has (applied_below asked (path asked.target all) above rest) m)
 
-pub at_start : (asked : Asked) (all : List Record) (marks : List (Option Bool)) (places : List Bool) → Falls 65536 (serials_of all) → ((n : ℕ) → slice_index_or marks n None ≡ listed asked.include asked.exclude n None) → ((n : ℕ) → slice_index_or places n false ≡ false)
+pub at_start : (asked : Asked) (all : List Record) (marks : List (Option Bool)) (places : List Bool) → length marks ≡ length places → Falls (length places) (serials_of all) → ((n : ℕ) → n < length places → slice_index_or marks n None ≡ listed asked.include asked.exclude n None) → ((n : ℕ) → slice_index_or places n false ≡ false)
     → IsAt asked all all asked.target marks places
-at_start asked all marks places falls noted unset =
+at_start asked all marks places sized falls noted unset =
     record {
       above = [];
-      bound = 65536;
+      bound = length places;
       falls = falls;
+      sized = sized;
       high = omega arith;
       noted = noted;
       way = λ m lt. refl;
@@ -68,7 +70,7 @@ pub says_at : (asked : Asked) (all rs : List Record) (r : Record) (wanted : ℕ)
 says_at asked all rs r wanted marks places at =
     let next : ℕ = cond (r.serial == wanted) r.predecessor wanted in
     let here : has (path asked.target all) r.serial ≡ (r.serial == wanted) = at.way r.serial at.falls.0 ∙ has_head (r.serial == wanted) r.serial (path next rs) (path_falls next rs r.serial at.falls.1) in
-    ap (λ o. not (is_barred asked.cutoff r) && unwrap_or o (r.serial == wanted)) (at.noted r.serial)
+    ap (λ o. not (is_barred asked.cutoff r) && unwrap_or o (r.serial == wanted)) (at.noted r.serial (omega (arith, at.falls.0, at.high)))
     ∙ ap (λ b. not (is_barred asked.cutoff r) && unwrap_or (listed asked.include asked.exclude r.serial (named at.above r.serial)) b) (sym here)
 
 way_more : (asked : Asked) (all rs : List Record) (r : Record) (wanted : ℕ) (marks : List (Option Bool)) (places : List Bool) (at : IsAt asked all (r ∷ rs) wanted marks places)
@@ -87,6 +89,7 @@ passed_over asked all rs r wanted marks places at isnt =
       above = at.above;
       bound = r.serial;
       falls = at.falls.1;
+      sized = at.sized;
       high = omega (arith, at.falls.0, at.high);
       noted = at.noted;
       way = way_more asked all rs r wanted marks places at;
@@ -95,7 +98,7 @@ passed_over asked all rs r wanted marks places at isnt =
     }
 
 -- a place that is set
-place_set : (places : List Bool) (n m : ℕ) (h : Bool) → n < length places → (slice_index_or places m false || ((n == m) || h)) ≡ (slice_index_or (set places n true) m false || h)
+pub place_set : (places : List Bool) (n m : ℕ) (h : Bool) → n < length places → (slice_index_or places m false || ((n == m) || h)) ≡ (slice_index_or (set places n true) m false || h)
 place_set places n m h low =
     ⊎_elim (λ same. ap (λ t. slice_index_or places m false || (t || h)) (eq-eqb n m same) ∙ (or-true (slice_index_or places m false) ∙ sym (ap (λ b. b || h) (ap (λ k. get_or (set places n true) k false) (sym same) ∙ get_or-set_same places n true false low))))
     (λ other. ap (λ t. slice_index_or places m false || (t || h)) (ne_eqb n m other) ∙ sym (ap (λ b. b || h) (get_or-set_other places n m true false (λ e. other (sym e)))))
@@ -103,20 +106,22 @@ place_set places n m h low =
 
 -- a record that is applied sets its place, and its lists are noted
 pub taken : (asked : Asked) (all rs : List Record) (r : Record) (wanted : ℕ) (marks marks2 : List (Option Bool)) (places places2 : List Bool) (at : IsAt asked all (r ∷ rs) wanted marks places)
-    → (not (is_barred asked.cutoff r) && unwrap_or (slice_index_or marks r.serial None) (r.serial == wanted)) ≡ true → length places ≡ 65536
-    → ((n : ℕ) → slice_index_or marks2 n None ≡ or_else (slice_index_or marks n None) (listed r.include r.exclude n None)) → places2 ≡ set places r.serial true
+    → (not (is_barred asked.cutoff r) && unwrap_or (slice_index_or marks r.serial None) (r.serial == wanted)) ≡ true → length marks2 ≡ length marks
+    → ((n : ℕ) → n < length marks → slice_index_or marks2 n None ≡ or_else (slice_index_or marks n None) (listed r.include r.exclude n None)) → places2 ≡ set places r.serial true
     → IsAt asked all rs (cond (r.serial == wanted) r.predecessor wanted) marks2 places2
-taken asked all rs r wanted marks marks2 places places2 at is long noted put =
+taken asked all rs r wanted marks marks2 places places2 at is kept noted put =
     let way : List ℕ = path asked.target all in
     let said : says asked way at.above r ≡ true = sym (says_at asked all rs r wanted marks places at) ∙ is in
     let low : r.serial < length places = omega (arith, at.falls.0, at.high) in
+    let same : length places2 ≡ length places = ap length put ∙ length-set places r.serial true in
     record {
       above = at.above ++ r ∷ [];
       bound = r.serial;
       falls = at.falls.1;
-      high = omega (arith, at.falls.0, at.high);
-      noted = λ n. noted n
-          ∙ (ap (λ o. or_else o (listed r.include r.exclude n None)) (at.noted n)
+      sized = kept ∙ (at.sized ∙ sym same);
+      high = omega (arith, at.falls.0, at.high, same);
+      noted = λ n lt. noted n (omega (arith, lt, same, at.sized))
+          ∙ (ap (λ o. or_else o (listed r.include r.exclude n None)) (at.noted n (omega (arith, lt, same)))
           ∙ (sym (else_cond (has asked.include n) (has asked.exclude n) (named at.above n) (listed r.include r.exclude n None)) ∙ ap (λ o. listed asked.include asked.exclude n o) (sym (named_more at.above r n))));
       way = way_more asked all rs r wanted marks places at;
       so_far = λ m. at.so_far m
@@ -125,11 +130,10 @@ taken asked all rs r wanted marks marks2 places places2 at is long noted put =
     }
 
 -- where nothing is left the places are the applied set
-pub at_end : (asked : Asked) (all : List Record) (wanted : ℕ) (marks : List (Option Bool)) (places : List Bool) → Falls 65536 (serials_of all) → length places ≡ 65536 → IsAt asked all [] wanted marks places → marked_places places ≡ applied asked all
-at_end asked all wanted marks places falls long at =
-    ap (λ b. falling b (λ n. slice_index_or places n false)) long
-    ∙ (falling-alike 65536 (λ n. slice_index_or places n false) (has (applied asked all)) (λ m lt. sym (at.so_far m ∙ or-false (slice_index_or places m false)))
-    ∙ falling-has 65536 (applied asked all) (applied_falls asked (path asked.target all) [] all 65536 falls))
+pub at_end : (asked : Asked) (all : List Record) (wanted : ℕ) (marks : List (Option Bool)) (places : List Bool) → Falls (length places) (serials_of all) → IsAt asked all [] wanted marks places → marked_places places ≡ applied asked all
+at_end asked all wanted marks places falls at =
+    falling-alike (length places) (λ n. slice_index_or places n false) (has (applied asked all)) (λ m lt. sym (at.so_far m ∙ or-false (slice_index_or places m false)))
+    ∙ falling-has (length places) (applied asked all) (applied_falls asked (path asked.target all) [] all (length places) falls)
 
 -- behind the end of a list nothing more is noted
 pub else_none : (o : Option Bool) (value : Bool) (n : ℕ) → or_else o (said_by [] value n) ≡ o
@@ -149,16 +153,17 @@ has-marked places n = marked_cases places n (slice_index_or places n false) refl
 -- What one turn did with the marks and the places: the record was taken, or nothing changed.
 abbrev pub TurnsTo : Record → Bool → List (Option Bool) → List (Option Bool) → List Bool → List Bool → Type 0
 TurnsTo r true marks marks2 places places2 =
-    ((n : ℕ) → slice_index_or marks2 n None ≡ or_else (slice_index_or marks n None) (listed r.include r.exclude n None)) × (places2 ≡ set places r.serial true)
+    ((n : ℕ) → n < length marks → slice_index_or marks2 n None ≡ or_else (slice_index_or marks n None) (listed r.include r.exclude n None))
+    × ((length marks2 ≡ length marks) × (places2 ≡ set places r.serial true))
 TurnsTo r false marks marks2 places places2 = (marks2 ≡ marks) × (places2 ≡ places)
 
 pub turned : (asked : Asked) (all rs : List Record) (r : Record) (wanted wanted2 : ℕ) (marks marks2 : List (Option Bool)) (places places2 : List Bool) (t : Bool) → IsAt asked all (r ∷ rs) wanted marks places
-    → t ≡ (not (is_barred asked.cutoff r) && unwrap_or (slice_index_or marks r.serial None) (r.serial == wanted)) → length places ≡ 65536
+    → t ≡ (not (is_barred asked.cutoff r) && unwrap_or (slice_index_or marks r.serial None) (r.serial == wanted))
     → wanted2 ≡ cond (r.serial == wanted) r.predecessor wanted → TurnsTo r t marks marks2 places places2
     → IsAt asked all rs wanted2 marks2 places2
-turned asked all rs r wanted wanted2 marks marks2 places places2 true at is long next turn =
-    subst (λ w. IsAt asked all rs w marks2 places2) (sym next) (taken asked all rs r wanted marks marks2 places places2 at (sym is) long turn.0 turn.1)
-turned asked all rs r wanted wanted2 marks marks2 places places2 false at is long next turn =
+turned asked all rs r wanted wanted2 marks marks2 places places2 true at is next turn =
+    subst (λ w. IsAt asked all rs w marks2 places2) (sym next) (taken asked all rs r wanted marks marks2 places places2 at (sym is) turn.1.0 turn.0 turn.1.1)
+turned asked all rs r wanted wanted2 marks marks2 places places2 false at is next turn =
     subst (λ w. IsAt asked all rs w marks2 places2) (sym next)
     (subst (λ m. IsAt asked all rs (cond (r.serial == wanted) r.predecessor wanted) m places2) (sym turn.0)
     (subst (λ p. IsAt asked all rs (cond (r.serial == wanted) r.predecessor wanted) marks p) (sym turn.1) (passed_over asked all rs r wanted marks places at (sym is))))

@@ -1,5 +1,5 @@
 -- The serials that a list of SIDs names.
-use Rattle.std.specs.Prelude.{◌≡◌, ℕ, ◌==◌, nat_lt, nat_le, Bool, true, not, ◌&&◌, ◌||◌, List, [], ◌∷◌, ◌++◌, Option, None, Some, Result, Ok, Err, map, fold, if◌then◌else◌}
+use Rattle.std.specs.Prelude.{◌≡◌, ℕ, ◌==◌, nat_lt, nat_le, Bool, true, false, not, ◌&&◌, ◌||◌, List, [], ◌∷◌, ◌++◌, Option, None, Some, Result, Ok, Err, map, fold, slice_index_or, if◌then◌else◌}
 use Rattle.sccs_sid.specs.declared.sids.Sid.{Sid}
 use Rattle.sccs_sid.specs.declared.sid_lists.Range.{Range}
 use Rattle.sccs_history.specs.Numbers.{has}
@@ -55,6 +55,15 @@ add_range records seen range = fold (λ ns q. add_new ns q.serial) seen (range_n
 abbrev pub unless : Option Sid → Result (List ℕ) Sid → Result (List ℕ) Sid
 unless None rest = rest
 unless (Some sid) rest = Err sid
+
+-- a SID comes before the first of others
+abbrev pub comes_first : List Named → Sid → Bool
+comes_first [] sid = true
+comes_first (a ∷ rest) sid = not (not_after a.sid sid)
+
+-- the marks say which numbers a list has
+abbrev pub AreMarks : List ℕ → List Bool → Type 0
+AreMarks seen marks = (n : ℕ) → slice_index_or marks n false ≡ has seen n
 
 -- the serials of ranges behind others, each once at its first place, or the first SID at fault
 abbrev pub named_serials : List Record → List ℕ → List Range → Result (List ℕ) Sid

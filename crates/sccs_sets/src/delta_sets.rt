@@ -49,10 +49,9 @@ fn pass(
     marks: &mut [Option<bool>],
     set: &mut [bool],
 )
-    requires falls { Falls SERIALS (serials_of records.now) }
-    requires marks { length marks.old ≡ SERIALS }
+    requires falls { Falls (length set.old) (serials_of records.now) }
+    requires marks { length marks.old ≡ length set.old }
     requires unmarked { (n : ℕ) → slice_index_or marks.old n None ≡ None }
-    requires set { length set.old ≡ SERIALS }
     requires unset { (n : ℕ) → slice_index_or set.old n false ≡ false }
     ensures { marked_places set.new ≡ applied (record {
       target = target;
@@ -69,6 +68,17 @@ fn pass(
             apply_delta(record, marks, set);
         }
         wanted = next_wanted(record, wanted);
+    }
+}
+
+// one more than the newest serial of a table
+fn places(records: &[Record]) -> usize
+    requires { Falls SERIALS (serials_of records.now) }
+    ensures { Falls result (serials_of records.now) }
+{
+    match records.first() {
+        Some(record) => usize::from(record.serial) + 1,
+        None => 0,
     }
 }
 
@@ -89,10 +99,11 @@ fn set_of(
       cutoff = option_map (λ m. m.seconds) cutoff;
     }) records.now) }
 {
-    let Ok(mut marks) = vec![in alloc; None; 65536] else {
+    let count = places(records);
+    let Ok(mut marks) = vec![in alloc; None; count] else {
         return Err(Memory);
     };
-    let Ok(mut set) = vec![in alloc; false; 65536] else {
+    let Ok(mut set) = vec![in alloc; false; count] else {
         return Err(Memory);
     };
     pass(

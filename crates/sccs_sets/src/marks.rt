@@ -1,4 +1,4 @@
-ghost use Rattle.std.specs.Prelude.{◌≡◌, ℕ, ◌==◌, ◌&&◌, not, [], ◌∷◌, None, false, true, length, slice_index_or, slice_set, option_map, unwrap_or, if◌then◌else◌};
+ghost use Rattle.std.specs.Prelude.{◌≡◌, ℕ, ◌==◌, ◌&&◌, ◌<◌, not, [], ◌∷◌, None, false, true, length, slice_index_or, slice_set, option_map, unwrap_or, if◌then◌else◌};
 ghost use Rattle.sccs_history.specs.Applied.{is_barred, listed};
 ghost use Rattle.sccs_sets.specs.Marks.{or_else, said_by};
 
@@ -10,20 +10,20 @@ pub const SERIALS: usize = 65536;
 
 // marks a number that has no mark yet
 fn mark(marks: &mut [Option<bool>], number: u16, value: bool)
-    requires { length marks.old ≡ SERIALS }
-    ensures { (n : ℕ) → slice_index_or marks.new n None
+    ensures sized { length marks.new ≡ length marks.old }
+    ensures said { (n : ℕ) → n < length marks.old → slice_index_or marks.new n None
         ≡ or_else (slice_index_or marks.old n None) (said_by (number ∷ []) value n) }
 {
     let at = usize::from(number);
-    if marks[at].is_none() {
+    if at < marks.len() && marks[at].is_none() {
         marks[at] = Some(value);
     }
 }
 
-/// Marks the numbers of a list that have no mark yet.
+/// Marks the numbers of a list that have a place and no mark yet.
 pub fn mark_list(marks: &mut [Option<bool>], numbers: &[u16], value: bool)
-    requires { length marks.old ≡ SERIALS }
-    ensures { (n : ℕ) → slice_index_or marks.new n None
+    ensures sized { length marks.new ≡ length marks.old }
+    ensures said { (n : ℕ) → n < length marks.old → slice_index_or marks.new n None
         ≡ or_else (slice_index_or marks.old n None) (said_by numbers.now value n) }
 {
     for number in numbers {
@@ -38,7 +38,7 @@ pub fn is_applied(
     wanted: u16,
     cutoff: Option<Moment>,
 ) -> bool
-    requires { length marks.now ≡ SERIALS }
+    requires { delta.now.serial < length marks.now }
     ensures { result ≡ (not (is_barred (option_map (λ m. m.seconds) cutoff) delta.now)
         && unwrap_or (slice_index_or marks.now delta.now.serial None) (delta.now.serial == wanted)) }
 {
@@ -51,9 +51,9 @@ pub fn is_applied(
 
 /// Applies a record: sets its place, and marks what its lists name.
 pub fn apply_delta(delta: &Record, marks: &mut [Option<bool>], set: &mut [bool])
-    requires marks { length marks.old ≡ SERIALS }
-    requires set { length set.old ≡ SERIALS }
-    ensures marks { (n : ℕ) → slice_index_or marks.new n None
+    requires { delta.now.serial < length set.old }
+    ensures sized { length marks.new ≡ length marks.old }
+    ensures marks { (n : ℕ) → n < length marks.old → slice_index_or marks.new n None
         ≡ or_else (slice_index_or marks.old n None) (listed delta.now.include delta.now.exclude n None) }
     ensures set { set.new ≡ slice_set set.old delta.now.serial true }
 {

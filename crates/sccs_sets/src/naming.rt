@@ -1,13 +1,13 @@
-ghost use Rattle.std.specs.Prelude.{◌≡◌, ◌&&◌, not, true, [], position, IfOk, OnOk, if◌then◌else◌};
+ghost use Rattle.std.specs.Prelude.{◌≡◌, ◌&&◌, not, true, [], length, position, reverse, IfOk, IfSome, OnOk, if◌then◌else◌};
 ghost use Rattle.std.specs.List.{AllByRecursion};
 ghost use Rattle.sccs_history.specs.Applied.{live_serials};
 ghost use Rattle.sccs_history.specs.History.{lives};
 ghost use Rattle.sccs_history.specs.Numbers.{has};
-ghost use Rattle.sccs_sets.specs.Naming.{AnswersSerials, add_new, add_range, in_range, sid_named, named_serials, not_after, one_line, put_named, range_fault, range_named};
+ghost use Rattle.sccs_sets.specs.Naming.{AnswersSerials, AreMarks, add_new, add_range, comes_first, in_range, sid_named, named_serials, not_after, one_line, put_named, range_fault, range_named};
 ghost use Rattle.sccs_sets.specs.Retrieved.{live_where};
 
 use crate::faults::SetFault;
-use crate::tables::has;
+use crate::marks::SERIALS;
 use sccs_base::Memory;
 use sccs_history::{Header, Record, Serials};
 use sccs_sid::{Range, Sid, SidList};
@@ -109,8 +109,8 @@ fn put_record(found: &mut Vec<Named>, delta: &Record, range: &Range) -> Result<(
     }
 }
 
-// the live deltas of a range, in rising order of their SIDs
-fn range_named(alloc: Global, records: &[Record], range: &Range) -> Result<Vec<Named>, Memory>
+// the live deltas of a range, in rising order of their SIDs, in whichever order the table has them
+fn range_sorted(alloc: Global, records: &[Record], range: &Range) -> Result<Vec<Named>, Memory>
     ensures { IfOk result (λ found. found.items ≡ range_named records.now range.now) }
 {
     let mut found = Vec::new(alloc);
@@ -120,13 +120,92 @@ fn range_named(alloc: Global, records: &[Record], range: &Range) -> Result<Vec<N
     Ok(found)
 }
 
-// adds a number, where it isn't there yet
-fn add_new(seen: &mut Serials, number: u16) -> Result<(), Memory>
-    ensures { OnOk result (seen.new ≡ add_new seen.old number) }
+// whether a SID comes before the last of others
+fn comes_first(found: &[Named], sid: Sid) -> bool
+    ensures { result ≡ comes_first (reverse found.now) sid }
 {
-    if has(seen.items(), number) {
+    match found.split_last() {
+        Some((last, _)) => !not_after(last.sid, sid),
+        None => true,
+    }
+}
+
+// puts a delta behind others, where it comes before them; whether it does
+fn push_falling(found: &mut Vec<Named>, named: Named) -> Result<bool, Memory>
+    ensures { IfOk result (λ falls. falls ≡ true → reverse found.new.items ≡ put_named (reverse found.old.items) named) }
+{
+    if !comes_first(found, named.sid) {
+        return Ok(false);
+    }
+    found.push(named)?;
+    Ok(true)
+}
+
+// puts a record behind others, where it is live and in the range, and comes before them; whether it isn't out of order
+fn put_falling(found: &mut Vec<Named>, delta: &Record, range: &Range) -> Result<bool, Memory>
+    ensures { IfOk result (λ falls. falls ≡ true → reverse found.new.items ≡ (if not delta.now.removed && in_range range.now delta.now.sid
+        then put_named (reverse found.old.items) (sid_named delta.now) else reverse found.old.items)) }
+{
+    if !delta.removed && in_range(range, delta.sid) {
+        let named = Named {
+            sid: delta.sid,
+            serial: delta.serial,
+        };
+        push_falling(found, named)
+    } else {
+        Ok(true)
+    }
+}
+
+// the live deltas of a range, in falling order of their SIDs, where the table has them so, as it mostly does
+fn range_falling(
+    alloc: Global,
+    records: &[Record],
+    range: &Range,
+) -> Result<Option<Vec<Named>>, Memory>
+    ensures { IfOk result (λ found. IfSome found (λ found. reverse found.items ≡ range_named records.now range.now)) }
+{
+    let mut found = Vec::new(alloc);
+    for record in records {
+        if !put_falling(&mut found, record, range)? {
+            return Ok(None);
+        }
+    }
+    Ok(Some(found))
+}
+
+// deltas in the other order
+fn reversed(found: Vec<Named>) -> Vec<Named>
+    ensures { result.items ≡ reverse found.items }
+{
+    let mut found = found;
+    found.reverse();
+    found
+}
+
+// the live deltas of a range, in rising order of their SIDs
+fn range_named(alloc: Global, records: &[Record], range: &Range) -> Result<Vec<Named>, Memory>
+    ensures { IfOk result (λ found. found.items ≡ range_named records.now range.now) }
+{
+    match range_falling(alloc, records, range)? {
+        Some(found) => Ok(reversed(found)),
+        None => range_sorted(alloc, records, range),
+    }
+}
+
+// adds a number, where it isn't there yet, as the marks say
+fn add_new(seen: &mut Serials, marks: &mut [bool], number: u16) -> Result<(), Memory>
+    requires size { length marks.old ≡ SERIALS }
+    requires marks { AreMarks seen.old marks.old }
+    ensures value { OnOk result (seen.new ≡ add_new seen.old number) }
+    ensures marks { OnOk result (AreMarks seen.new marks.new) }
+    ensures size { length marks.new ≡ SERIALS }
+{
+    let at = usize::from(number);
+    if marks[at] {
         return Ok(());
     }
+    marks[at] = true;
     seen.push(number)
 }
 
@@ -135,15 +214,45 @@ fn add_range(
     alloc: Global,
     records: &[Record],
     seen: &mut Serials,
+    marks: &mut [bool],
     range: &Range,
 ) -> Result<(), Memory>
-    ensures { OnOk result (seen.new ≡ add_range records.now seen.old range.now) }
+    requires size { length marks.old ≡ SERIALS }
+    requires marks { AreMarks seen.old marks.old }
+    ensures value { OnOk result (seen.new ≡ add_range records.now seen.old range.now) }
+    ensures marks { OnOk result (AreMarks seen.new marks.new) }
+    ensures size { length marks.new ≡ SERIALS }
 {
     let found = range_named(alloc, records, range)?;
     for named in &found {
-        add_new(seen, named.serial)?;
+        add_new(seen, marks, named.serial)?;
     }
     Ok(())
+}
+
+// the serials of a list's SIDs, where no number is marked yet
+fn serials_by(
+    alloc: Global,
+    records: &[Record],
+    list: &SidList,
+    marks: &mut [bool],
+) -> Result<Serials, SetFault>
+    requires size { length marks.old ≡ SERIALS }
+    requires marks { AreMarks [] marks.old }
+    ensures value { AnswersSerials (named_serials records.now [] list.now) result }
+    ensures live { IfOk result (AllByRecursion (λ n. has (live_serials records.now) n ≡ true)) }
+{
+    let mut seen = Serials::empty(alloc);
+    for place in 0..list.len() {
+        let range = list.at(place);
+        if let Some(sid) = range_fault(records, range) {
+            return Err(SetFault::BadList(sid));
+        }
+        let Ok(()) = add_range(alloc, records, &mut seen, marks, range) else {
+            return Err(SetFault::Memory);
+        };
+    }
+    Ok(seen)
 }
 
 /// The serials of a list's SIDs in the order of the list, each once, at its first place. A range
@@ -155,16 +264,8 @@ pub fn serials(alloc: Global, header: &Header, list: &SidList) -> Result<Serials
     ensures live { IfOk result
         (AllByRecursion (λ n. has (live_serials header.now.records) n ≡ true)) }
 {
-    let records = header.records.items();
-    let mut seen = Serials::empty(alloc);
-    for place in 0..list.len() {
-        let range = list.at(place);
-        if let Some(sid) = range_fault(records, range) {
-            return Err(SetFault::BadList(sid));
-        }
-        let Ok(()) = add_range(alloc, records, &mut seen, range) else {
-            return Err(SetFault::Memory);
-        };
-    }
-    Ok(seen)
+    let Ok(mut marks) = vec![in alloc; false; SERIALS] else {
+        return Err(SetFault::Memory);
+    };
+    serials_by(alloc, header.records.items(), list, &mut marks)
 }

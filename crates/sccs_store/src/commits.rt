@@ -1,12 +1,12 @@
-ghost use Rattle.std.specs.Prelude.{◌≡◌, ◌≤◌, drop, OnErr, OnOk};
+ghost use Rattle.std.specs.Prelude.{◌≡◌, drop, OnErr, OnOk, IsErr};
 ghost use Rattle.sccs_base.specs.Name.{IsSfile, p_file, q_file, x_file, y_file, z_file};
-ghost use Rattle.sccs_base.specs.Stream.{Rose};
 ghost use Rattle.sccs_disk.specs.Calls.{IsThere};
 ghost use Rattle.sccs_disk.specs.Told.{seen};
 ghost use Rattle.sccs_moments.specs.Recovery.{without_name};
 ghost use Rattle.sccs_moments.specs.Unlocked.{KeepsOthers, is_own};
 ghost use Rattle.sccs_store.specs.Commits.{Becomes, IsPart, MayBecome, Needs, committed, plan, replaced, swapped};
 ghost use Rattle.sccs_store.specs.Stops.{CommitEnds, CommitStops, HalfSwaps, HalfUnlocks, Swaps, Unlocks};
+ghost use Rattle.sccs_disk.specs.Causes.{DiskCauses};
 
 use crate::new_files::NewFile;
 use sccs_base::{Failed, Name};
@@ -19,8 +19,7 @@ fn swap<D: Disk>(disk: &mut D, new: NewFile, from: &Name, to: &Name) -> Result<(
     ensures err { OnErr result (MayBecome (swapped new from.now to.now) (seen (D.told disk.old)) (seen (D.told disk.new))) }
     ensures done { OnOk result (Swaps new from.now to.now (D.told disk.old) (D.told disk.new)) }
     ensures half { OnErr result (HalfSwaps new from.now to.now (D.told disk.old) (D.told disk.new)) }
-    ensures later { D.faults disk.old ≤ D.faults disk.new }
-    ensures cause { OnErr result (Rose (D.faults disk.old) (D.faults disk.new)) }
+    ensures causes { DiskCauses (IsErr result) (D.faults disk.old) (D.faults disk.new) }
 {
     match new {
         NewFile::Keep => Ok(()),
@@ -48,8 +47,7 @@ fn swap_s<D: Disk>(disk: &mut D, new_s: bool, name: &Name) -> Result<(), Failed>
     ensures err { OnErr result (MayBecome (swapped (replaced new_s) (x_file name.now) name.now) (seen (D.told disk.old)) (seen (D.told disk.new))) }
     ensures done { OnOk result (Swaps (replaced new_s) (x_file name.now) name.now (D.told disk.old) (D.told disk.new)) }
     ensures half { OnErr result (HalfSwaps (replaced new_s) (x_file name.now) name.now (D.told disk.old) (D.told disk.new)) }
-    ensures later { D.faults disk.old ≤ D.faults disk.new }
-    ensures cause { OnErr result (Rose (D.faults disk.old) (D.faults disk.new)) }
+    ensures causes { DiskCauses (IsErr result) (D.faults disk.old) (D.faults disk.new) }
 {
     swap(disk, replaced(new_s), &name.sibling(b'x'), name)
 }
@@ -62,8 +60,7 @@ fn swap_p<D: Disk>(disk: &mut D, new: NewFile, name: &Name) -> Result<(), Failed
     ensures err { OnErr result (MayBecome (swapped new (q_file name.now) (p_file name.now)) (seen (D.told disk.old)) (seen (D.told disk.new))) }
     ensures done { OnOk result (Swaps new (q_file name.now) (p_file name.now) (D.told disk.old) (D.told disk.new)) }
     ensures half { OnErr result (HalfSwaps new (q_file name.now) (p_file name.now) (D.told disk.old) (D.told disk.new)) }
-    ensures later { D.faults disk.old ≤ D.faults disk.new }
-    ensures cause { OnErr result (Rose (D.faults disk.old) (D.faults disk.new)) }
+    ensures causes { DiskCauses (IsErr result) (D.faults disk.old) (D.faults disk.new) }
 {
     swap(disk, new, &name.sibling(b'q'), &name.sibling(b'p'))
 }
@@ -76,8 +73,7 @@ fn swap_g<D: Disk>(disk: &mut D, new: NewFile, name: &Name) -> Result<(), Failed
     ensures err { OnErr result (MayBecome (swapped new (y_file name.now) (drop 2 name.now)) (seen (D.told disk.old)) (seen (D.told disk.new))) }
     ensures done { OnOk result (Swaps new (y_file name.now) (drop 2 name.now) (D.told disk.old) (D.told disk.new)) }
     ensures half { OnErr result (HalfSwaps new (y_file name.now) (drop 2 name.now) (D.told disk.old) (D.told disk.new)) }
-    ensures later { D.faults disk.old ≤ D.faults disk.new }
-    ensures cause { OnErr result (Rose (D.faults disk.old) (D.faults disk.new)) }
+    ensures causes { DiskCauses (IsErr result) (D.faults disk.old) (D.faults disk.new) }
 {
     swap(disk, new, &name.sibling(b'y'), &name.module())
 }
@@ -90,8 +86,7 @@ fn unlock<D: Disk>(disk: &mut D, name: &Name) -> Result<(), Failed>
     ensures err { OnErr result (MayBecome (without_name (z_file name.now)) (seen (D.told disk.old)) (seen (D.told disk.new))) }
     ensures done { OnOk result (Unlocks (z_file name.now) (D.told disk.old) (D.told disk.new)) }
     ensures half { OnErr result (HalfUnlocks (z_file name.now) (D.told disk.old) (D.told disk.new)) }
-    ensures later { D.faults disk.old ≤ D.faults disk.new }
-    ensures cause { OnErr result (Rose (D.faults disk.old) (D.faults disk.new)) }
+    ensures causes { DiskCauses (IsErr result) (D.faults disk.old) (D.faults disk.new) }
 {
     match disk.remove(&name.sibling(b'z')) {
         Ok(()) => disk.sync_names(),
@@ -120,8 +115,7 @@ pub fn commit<D: Disk>(
     ensures stopped { OnErr result (CommitStops name.now (plan new_s new_p new_g) (D.told disk.old) (D.told disk.new)) }
     ensures calm { OnOk result (CommitEnds name.now (plan new_s new_p new_g) (D.told disk.old) (D.told disk.new)) }
     ensures others { KeepsOthers (is_own name.now) (D.told disk.old) (D.told disk.new) }
-    ensures later { D.faults disk.old ≤ D.faults disk.new }
-    ensures cause { OnErr result (Rose (D.faults disk.old) (D.faults disk.new)) }
+    ensures causes { DiskCauses (IsErr result) (D.faults disk.old) (D.faults disk.new) }
 {
     swap_s(disk, new_s, name)?;
     swap_p(disk, new_p, name)?;

@@ -1,13 +1,13 @@
-ghost use Rattle.std.specs.Prelude.{◌≡◌, ◌≤◌, None, IfSome, IsSome, IsErrOf, OnErr, OnOk, option_map};
+ghost use Rattle.std.specs.Prelude.{◌≡◌, None, IfSome, IsSome, IsErrOf, OnErr, OnOk};
 ghost use Rattle.std.specs.Str.{bytes_eq};
 ghost use Rattle.sccs_base.specs.Name.{IsSfile, z_file};
-ghost use Rattle.sccs_base.specs.Stream.{Rose};
 ghost use Rattle.sccs_disk.specs.Files.{View};
 ghost use Rattle.sccs_disk.specs.Told.{seen};
 ghost use Rattle.sccs_files.specs.StepFiles.{Moves};
 ghost use Rattle.sccs_images.specs.Touches.{TouchesOnly};
 ghost use Rattle.sccs_store.specs.Commits.{Becomes, locked};
 ghost use Rattle.sccs_store.specs.Stops.{KeepsHeld};
+ghost use Rattle.sccs_disk.specs.Causes.{DiskCauses};
 
 use sccs_base::Name;
 use sccs_disk::{Creation, Disk, DiskRefusal};
@@ -33,8 +33,7 @@ pub fn lock<D: Disk>(disk: &mut D, name: &Name) -> Result<(), LockFault>
     ensures view_err { OnErr result (Moves (bytes_eq (z_file name.now)) (λ v. v) (seen (D.told disk.old)) (seen (D.told disk.new))) }
     ensures touches { TouchesOnly (bytes_eq (z_file name.now)) (D.told disk.old) (D.told disk.new) }
     ensures held { IsErrOf result LockFault.Failed → KeepsHeld name.now (D.told disk.old) (D.told disk.new) }
-    ensures later { D.faults disk.old ≤ D.faults disk.new }
-    ensures cause { IsErrOf result LockFault.Failed → Rose (D.faults disk.old) (D.faults disk.new) }
+    ensures causes { DiskCauses (IsErrOf result LockFault.Failed) (D.faults disk.old) (D.faults disk.new) }
 {
     match disk.create(&name.sibling(b'z')) {
         Ok(Creation::Created) => Ok(()),

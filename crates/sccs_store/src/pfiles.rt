@@ -1,7 +1,6 @@
-ghost use Rattle.std.specs.Prelude.{◌≡◌, ◌≤◌, All, Some, IsErrOf, OnErr, OnOk};
+ghost use Rattle.std.specs.Prelude.{All, Some, IsErrOf, OnErr, OnOk};
 ghost use Rattle.std.specs.Str.{bytes_eq};
 ghost use Rattle.sccs_base.specs.Name.{IsSfile, q_file};
-ghost use Rattle.sccs_base.specs.Stream.{Rose};
 ghost use Rattle.sccs_disk.specs.Calls.{IsThere};
 ghost use Rattle.sccs_disk.specs.Effects.{altered, appended};
 ghost use Rattle.sccs_disk.specs.Files.{put};
@@ -14,6 +13,7 @@ ghost use Rattle.sccs_pfile.specs.Recovered.{written_pfile};
 ghost use Rattle.sccs_pfile.specs.Written.{edits_text};
 ghost use Rattle.sccs_store.specs.Commits.{Becomes};
 ghost use Rattle.sccs_writers.specs.OneFile.{OnlyWrites};
+ghost use Rattle.sccs_disk.specs.Causes.{DiskCauses};
 
 use crate::working_files::start;
 use sccs_base::Name;
@@ -27,8 +27,7 @@ fn append_edits<D: Disk>(edits: &Edits, disk: &mut D, name: &Name) -> Result<(),
     ensures view { OnOk result (Becomes (altered name.now (appended (edits_text edits.now))) (seen (D.told disk.old)) (seen (D.told disk.new))) }
     ensures only { OnlyWrites name.now (D.told disk.old) (D.told disk.new) }
     ensures firm { OnOk result (Leaves (IsFirm name.now) (D.told disk.old) (D.told disk.new)) }
-    ensures later { D.faults disk.old ≤ D.faults disk.new }
-    ensures cause { IsErrOf result DiskRefusal.Failed → Rose (D.faults disk.old) (D.faults disk.new) }
+    ensures causes { DiskCauses (IsErrOf result DiskRefusal.Failed) (D.faults disk.old) (D.faults disk.new) }
 {
     write_edits(edits, disk, name)?;
     match disk.sync(name) {
@@ -45,8 +44,7 @@ fn append_q<D: Disk>(edits: &Edits, disk: &mut D, name: &Name) -> Result<(), Dis
     ensures view { OnOk result (Becomes (altered (q_file name.now) (appended (edits_text edits.now))) (seen (D.told disk.old)) (seen (D.told disk.new))) }
     ensures only { OnlyWrites (q_file name.now) (D.told disk.old) (D.told disk.new) }
     ensures firm { OnOk result (Leaves (IsFirm (q_file name.now)) (D.told disk.old) (D.told disk.new)) }
-    ensures later { D.faults disk.old ≤ D.faults disk.new }
-    ensures cause { IsErrOf result DiskRefusal.Failed → Rose (D.faults disk.old) (D.faults disk.new) }
+    ensures causes { DiskCauses (IsErrOf result DiskRefusal.Failed) (D.faults disk.old) (D.faults disk.new) }
 {
     append_edits(edits, disk, &name.sibling(b'q'))
 }
@@ -60,8 +58,7 @@ pub fn prepare_p<D: Disk>(edits: &Edits, disk: &mut D, name: &Name) -> Result<()
     ensures view_err { OnErr result (Moves (bytes_eq (q_file name.now)) (λ v. v) (seen (D.told disk.old)) (seen (D.told disk.new))) }
     ensures touches { TouchesOnly (bytes_eq (q_file name.now)) (D.told disk.old) (D.told disk.new) }
     ensures firm { OnOk result (Leaves (IsFirm (q_file name.now)) (D.told disk.old) (D.told disk.new)) }
-    ensures later { D.faults disk.old ≤ D.faults disk.new }
-    ensures cause { IsErrOf result DiskRefusal.Failed → Rose (D.faults disk.old) (D.faults disk.new) }
+    ensures causes { DiskCauses (IsErrOf result DiskRefusal.Failed) (D.faults disk.old) (D.faults disk.new) }
 {
     start(disk, name, b'q')?;
     append_q(edits, disk, name)

@@ -1,10 +1,9 @@
-ghost use Rattle.std.specs.Prelude.{◌≡◌, ◌≤◌, Some, IfSome, IsErrOf, OnErr, OnOk, option_map};
+ghost use Rattle.std.specs.Prelude.{◌≤◌, Some, IsErrOf, OnErr, OnOk, IsErr};
 ghost use Rattle.std.specs.Str.{bytes_eq};
 ghost use Rattle.sccs_base.specs.Name.{IsSfile, sibling, x_file};
-ghost use Rattle.sccs_base.specs.Stream.{Rose};
 ghost use Rattle.sccs_disk.specs.Calls.{HasRange, IsThere};
 ghost use Rattle.sccs_disk.specs.Effects.{altered, empty_file, protected};
-ghost use Rattle.sccs_disk.specs.Files.{View, put};
+ghost use Rattle.sccs_disk.specs.Files.{put};
 ghost use Rattle.sccs_disk.specs.Images.{IsFirm, IsOwn};
 ghost use Rattle.sccs_disk.specs.Told.{seen};
 ghost use Rattle.sccs_files.specs.StepFiles.{Moves, is_left, is_working};
@@ -12,6 +11,7 @@ ghost use Rattle.sccs_images.specs.Touches.{Leaves, TouchesOnly};
 ghost use Rattle.sccs_store.specs.Commits.{Becomes, abandoned, with_sum_line};
 ghost use Rattle.sccs_moments.specs.Recovery.{cleared, without_name};
 ghost use Rattle.sccs_writers.specs.OneFile.{OnlyWrites};
+ghost use Rattle.sccs_disk.specs.Causes.{DiskCauses};
 
 use sccs_base::{Failed, Name};
 use sccs_disk::{Creation, Disk, DiskRefusal};
@@ -23,8 +23,7 @@ fn clear<D: Disk>(disk: &mut D, name: &Name) -> Result<(), Failed>
     ensures view { OnOk result (Becomes (without_name name.now) (seen (D.told disk.old)) (seen (D.told disk.new))) }
     ensures view_err { OnErr result (Moves (bytes_eq name.now) (λ v. v) (seen (D.told disk.old)) (seen (D.told disk.new))) }
     ensures touches { TouchesOnly (bytes_eq name.now) (D.told disk.old) (D.told disk.new) }
-    ensures later { D.faults disk.old ≤ D.faults disk.new }
-    ensures cause { OnErr result (Rose (D.faults disk.old) (D.faults disk.new)) }
+    ensures causes { DiskCauses (IsErr result) (D.faults disk.old) (D.faults disk.new) }
 {
     match disk.size(name) {
         Ok(Some(_)) => disk.remove(name),
@@ -39,8 +38,7 @@ fn make<D: Disk>(disk: &mut D, name: &Name) -> Result<(), DiskRefusal>
     ensures view_err { OnErr result (Moves (bytes_eq name.now) (λ v. v) (seen (D.told disk.old)) (seen (D.told disk.new))) }
     ensures touches { TouchesOnly (bytes_eq name.now) (D.told disk.old) (D.told disk.new) }
     ensures own { OnOk result (Leaves (IsOwn name.now) (D.told disk.old) (D.told disk.new)) }
-    ensures later { D.faults disk.old ≤ D.faults disk.new }
-    ensures cause { IsErrOf result DiskRefusal.Failed → Rose (D.faults disk.old) (D.faults disk.new) }
+    ensures causes { DiskCauses (IsErrOf result DiskRefusal.Failed) (D.faults disk.old) (D.faults disk.new) }
 {
     match disk.create(name) {
         Ok(Creation::Created) => Ok(()),
@@ -55,8 +53,7 @@ fn renew<D: Disk>(disk: &mut D, name: &Name) -> Result<(), DiskRefusal>
     ensures view_err { OnErr result (Moves (bytes_eq name.now) (λ v. v) (seen (D.told disk.old)) (seen (D.told disk.new))) }
     ensures touches { TouchesOnly (bytes_eq name.now) (D.told disk.old) (D.told disk.new) }
     ensures own { OnOk result (Leaves (IsOwn name.now) (D.told disk.old) (D.told disk.new)) }
-    ensures later { D.faults disk.old ≤ D.faults disk.new }
-    ensures cause { IsErrOf result DiskRefusal.Failed → Rose (D.faults disk.old) (D.faults disk.new) }
+    ensures causes { DiskCauses (IsErrOf result DiskRefusal.Failed) (D.faults disk.old) (D.faults disk.new) }
 {
     match clear(disk, name) {
         Ok(()) => make(disk, name),
@@ -74,8 +71,7 @@ pub fn start<D: Disk>(disk: &mut D, name: &Name, letter: u8) -> Result<(), DiskR
     ensures view_err { OnErr result (Moves (bytes_eq (sibling letter name.now)) (λ v. v) (seen (D.told disk.old)) (seen (D.told disk.new))) }
     ensures touches { TouchesOnly (bytes_eq (sibling letter name.now)) (D.told disk.old) (D.told disk.new) }
     ensures own { OnOk result (Leaves (IsOwn (sibling letter name.now)) (D.told disk.old) (D.told disk.new)) }
-    ensures later { D.faults disk.old ≤ D.faults disk.new }
-    ensures cause { IsErrOf result DiskRefusal.Failed → Rose (D.faults disk.old) (D.faults disk.new) }
+    ensures causes { DiskCauses (IsErrOf result DiskRefusal.Failed) (D.faults disk.old) (D.faults disk.new) }
 {
     renew(disk, &name.sibling(letter))
 }
@@ -86,8 +82,7 @@ pub fn seal<D: Disk>(disk: &mut D, name: &Name) -> Result<(), Failed>
     ensures view { OnOk result (Becomes (altered name.now protected) (seen (D.told disk.old)) (seen (D.told disk.new))) }
     ensures only { OnlyWrites name.now (D.told disk.old) (D.told disk.new) }
     ensures firm { OnOk result (Leaves (IsFirm name.now) (D.told disk.old) (D.told disk.new)) }
-    ensures later { D.faults disk.old ≤ D.faults disk.new }
-    ensures cause { OnErr result (Rose (D.faults disk.old) (D.faults disk.new)) }
+    ensures causes { DiskCauses (IsErr result) (D.faults disk.old) (D.faults disk.new) }
 {
     match disk.protect(name) {
         Ok(()) => disk.sync(name),
@@ -101,8 +96,7 @@ fn write_sum<D: Disk>(disk: &mut D, name: &Name, sum: u16) -> Result<(), DiskRef
     ensures view { OnOk result (Becomes (altered name.now (with_sum_line sum)) (seen (D.told disk.old)) (seen (D.told disk.new))) }
     ensures only { OnlyWrites name.now (D.told disk.old) (D.told disk.new) }
     ensures firm { OnOk result (Leaves (IsFirm name.now) (D.told disk.old) (D.told disk.new)) }
-    ensures later { D.faults disk.old ≤ D.faults disk.new }
-    ensures cause { IsErrOf result DiskRefusal.Failed → Rose (D.faults disk.old) (D.faults disk.new) }
+    ensures causes { DiskCauses (IsErrOf result DiskRefusal.Failed) (D.faults disk.old) (D.faults disk.new) }
 {
     match disk.write_at(name, 2, &five_digits(u32::from(sum))) {
         Ok(()) => match seal(disk, name) {
@@ -120,8 +114,7 @@ pub fn finish_x<D: Disk>(disk: &mut D, name: &Name, sum: &Sum) -> Result<(), Dis
     ensures view { OnOk result (Becomes (altered (x_file name.now) (with_sum_line sum.now.0)) (seen (D.told disk.old)) (seen (D.told disk.new))) }
     ensures only { OnlyWrites (x_file name.now) (D.told disk.old) (D.told disk.new) }
     ensures firm { OnOk result (Leaves (IsFirm (x_file name.now)) (D.told disk.old) (D.told disk.new)) }
-    ensures later { D.faults disk.old ≤ D.faults disk.new }
-    ensures cause { IsErrOf result DiskRefusal.Failed → Rose (D.faults disk.old) (D.faults disk.new) }
+    ensures causes { DiskCauses (IsErrOf result DiskRefusal.Failed) (D.faults disk.old) (D.faults disk.new) }
 {
     write_sum(disk, &name.sibling(b'x'), sum.plain())
 }
@@ -134,8 +127,7 @@ pub fn clear_sibling<D: Disk>(disk: &mut D, name: &Name, letter: u8) -> Result<(
     ensures view { OnOk result (Becomes (without_name (sibling letter name.now)) (seen (D.told disk.old)) (seen (D.told disk.new))) }
     ensures view_err { OnErr result (Moves (bytes_eq (sibling letter name.now)) (λ v. v) (seen (D.told disk.old)) (seen (D.told disk.new))) }
     ensures touches { TouchesOnly (bytes_eq (sibling letter name.now)) (D.told disk.old) (D.told disk.new) }
-    ensures later { D.faults disk.old ≤ D.faults disk.new }
-    ensures cause { OnErr result (Rose (D.faults disk.old) (D.faults disk.new)) }
+    ensures causes { DiskCauses (IsErr result) (D.faults disk.old) (D.faults disk.new) }
 {
     clear(disk, &name.sibling(letter))
 }
@@ -146,8 +138,7 @@ pub fn clear_working<D: Disk>(disk: &mut D, name: &Name) -> Result<(), Failed>
     ensures view { OnOk result (Becomes (cleared name.now) (seen (D.told disk.old)) (seen (D.told disk.new))) }
     ensures view_err { OnErr result (Moves (is_working name.now) (λ v. v) (seen (D.told disk.old)) (seen (D.told disk.new))) }
     ensures touches { TouchesOnly (is_working name.now) (D.told disk.old) (D.told disk.new) }
-    ensures later { D.faults disk.old ≤ D.faults disk.new }
-    ensures cause { OnErr result (Rose (D.faults disk.old) (D.faults disk.new)) }
+    ensures causes { DiskCauses (IsErr result) (D.faults disk.old) (D.faults disk.new) }
 {
     clear_sibling(disk, name, b'x')?;
     clear_sibling(disk, name, b'q')?;
@@ -160,8 +151,7 @@ pub fn abandon<D: Disk>(disk: &mut D, name: &Name) -> Result<(), Failed>
     ensures view { OnOk result (Becomes (abandoned name.now) (seen (D.told disk.old)) (seen (D.told disk.new))) }
     ensures view_err { OnErr result (Moves (is_left name.now) (λ v. v) (seen (D.told disk.old)) (seen (D.told disk.new))) }
     ensures touches { TouchesOnly (is_left name.now) (D.told disk.old) (D.told disk.new) }
-    ensures later { D.faults disk.old ≤ D.faults disk.new }
-    ensures cause { OnErr result (Rose (D.faults disk.old) (D.faults disk.new)) }
+    ensures causes { DiskCauses (IsErr result) (D.faults disk.old) (D.faults disk.new) }
 {
     clear_working(disk, name)?;
     clear_sibling(disk, name, b'z')

@@ -1,6 +1,5 @@
-ghost use Rattle.std.specs.Prelude.{◌≡◌, ℕ, List, ◌++◌, ◌<◌, ◌≤◌, ◌+◌, ◌-◌, [], ◌∷◌, true, false, if◌then◌else◌, Option, None, Some, length, max, min, replicate, take, drop, IfOk, IfSome, OnOk, OnErr};
-ghost use Rattle.sccs_base.specs.Cut.{HasNoLf, cut};
-ghost use Rattle.sccs_base.specs.Stream.{Rose};
+ghost use Rattle.std.specs.Prelude.{◌≡◌, ℕ, List, ◌++◌, ◌<◌, ◌≤◌, ◌+◌, ◌-◌, [], ◌∷◌, true, false, Option, None, Some, length, max, min, replicate, take, drop, IfOk, IfSome, OnOk, OnErr, IsErr};
+ghost use Rattle.sccs_base.specs.Cut.{HasNoLf};
 ghost use Rattle.sccs_disk.specs.Told.{seen};
 ghost use Rattle.sccs_sid.specs.SidLists.{begins};
 ghost use Rattle.sccs_table.specs.Marks.{IsNextSoh, MarksOf};
@@ -8,6 +7,7 @@ ghost use Rattle.sccs_table.specs.Runs.{HasNoMark, HasNoRun, IsMark, IsRun, lf_c
 ghost use Rattle.sccs_table.specs.SumOf.{IsSumOf};
 ghost use Rattle.sccs_table.specs.FrontFile.{IsOuter, ReadsBytes, ReadsOn};
 ghost use Rattle.sccs_table.specs.ReaderState.{StandsIn, Stays, Takes, TakesLine, bytes_in};
+ghost use Rattle.sccs_disk.specs.Causes.{DiskCauses};
 
 use crate::counts::lines_in;
 use crate::piece_marks::{LineEnds, PieceMarks, whole_lines};
@@ -74,8 +74,7 @@ fn read_piece<D: Disk>(
 ) -> Result<usize, Failed>
     requires { room ≤ length piece.old }
     ensures same { D.told disk.new ≡ D.told disk.old }
-    ensures later { D.faults disk.old ≤ D.faults disk.new }
-    ensures cause { OnErr result (Rose (D.faults disk.old) (D.faults disk.new)) }
+    ensures causes { DiskCauses (IsErr result) (D.faults disk.old) (D.faults disk.new) }
     ensures bound { IfOk result (λ count. count ≤ room) }
     ensures within { IfOk result (λ count. count ≤ length piece.new) }
     ensures told { IfOk result (λ count. IfSome (bytes_in (seen (D.told disk.old)) name.now)
@@ -194,8 +193,7 @@ fn read_behind<D: Disk>(
 ) -> Result<usize, Failed>
     requires { front + room ≤ length piece.old }
     ensures same { D.told disk.new ≡ D.told disk.old }
-    ensures later { D.faults disk.old ≤ D.faults disk.new }
-    ensures cause { OnErr result (Rose (D.faults disk.old) (D.faults disk.new)) }
+    ensures causes { DiskCauses (IsErr result) (D.faults disk.old) (D.faults disk.new) }
     ensures bound { IfOk result (λ count. count ≤ room) }
     ensures len { length piece.new ≡ length piece.old }
     ensures front { take front piece.new ≡ take front piece.old }
@@ -217,8 +215,7 @@ fn front_part(bytes: &[u8], count: usize) -> &[u8]
 fn lines_between<D: Disk>(disk: &mut D, name: &Name, from: u64, to: u64) -> Result<u64, Failed>
     requires { to ≤ 1073741825 }
     ensures same { D.told disk.new ≡ D.told disk.old }
-    ensures later { D.faults disk.old ≤ D.faults disk.new }
-    ensures cause { OnErr result (Rose (D.faults disk.old) (D.faults disk.new)) }
+    ensures causes { DiskCauses (IsErr result) (D.faults disk.old) (D.faults disk.new) }
     ensures bound { IfOk result (λ count. count ≤ to - from) }
     ensures told { IfOk result (λ count. IfSome (bytes_in (seen (D.told disk.old)) name.now)
         (λ file. count ≡ lf_count (take (to - from) (drop from file)))) }
@@ -533,8 +530,7 @@ impl LineReader {
     pub fn lines_between<D: Disk>(&self, disk: &mut D, from: u64, to: u64) -> Result<u64, Failed>
         requires { to ≤ 1073741825 }
         ensures same { D.told disk.new ≡ D.told disk.old }
-        ensures later { D.faults disk.old ≤ D.faults disk.new }
-        ensures cause { OnErr result (Rose (D.faults disk.old) (D.faults disk.new)) }
+        ensures causes { DiskCauses (IsErr result) (D.faults disk.old) (D.faults disk.new) }
         ensures bound { IfOk result (λ count. count ≤ to - from) }
         ensures told { IfOk result (λ count. IfSome (bytes_in (seen (D.told disk.old)) self.now.name)
             (λ file. count ≡ lf_count (take (to - from) (drop from file)))) }
@@ -561,8 +557,7 @@ impl LineReader {
     /// The sums of all bytes from the reader's place on.
     pub fn sum_left<D: Disk>(&mut self, disk: &mut D) -> Result<Sum, Failed>
         ensures same { D.told disk.new ≡ D.told disk.old }
-        ensures later { D.faults disk.old ≤ D.faults disk.new }
-        ensures cause { OnErr result (Rose (D.faults disk.old) (D.faults disk.new)) }
+        ensures causes { DiskCauses (IsErr result) (D.faults disk.old) (D.faults disk.new) }
         ensures told { IfOk result (λ sum. IfSome (bytes_in (seen (D.told disk.old)) self.old.name)
             (λ file. StandsIn self.old file → IsSumOf sum (drop self.old.place file))) }
     {

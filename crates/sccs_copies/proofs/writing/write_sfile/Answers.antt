@@ -59,8 +59,8 @@ returns-in_err-sum-clause-frame g c =
       there = tt;
       touches = written_touches (x_file c.args.name.now) (bytes_eq (x_file c.args.name.now)) _ (g.D.Disk.told c.start.new.disk) _ (g.met.D.Disk.sane c.start.new.disk) (λ k h. h) c.start.ensures.touches c.in_default.ensures.own c.in_err-sum.ensures.appends.only;
       firm = tt;
-      later = omega (arith, c.in_default.ensures.later, c.in_err-sum.ensures.appends.later);
-      cause = λ failed. rose_from _ _ _ c.in_default.ensures.later (c.in_err-sum.ensures.appends.cause (err_again c.in_err-sum.field-0.0 faults.Failed _ _ refl refl failed));
+      later = omega (arith, c.in_default.ensures.causes.later, c.in_err-sum.ensures.appends.later);
+      cause = λ failed. rose_from _ _ _ c.in_default.ensures.causes.later (c.in_err-sum.ensures.appends.cause (err_again c.in_err-sum.field-0.0 faults.Failed _ _ refl refl failed));
     })
 
 pub returns-in-Ok-clause-frame : goal.returns-in-Ok-clause-frame
@@ -70,7 +70,7 @@ returns-in-Ok-clause-frame g c = record {
   touches = written_touches (x_file c.args.name.now) (bytes_eq (x_file c.args.name.now)) _ (g.D.Disk.told c.start.new.disk) _ (g.met.D.Disk.sane c.start.new.disk) (λ k h. h) c.start.ensures.touches c.in_default.ensures.own
       (only_both (x_file c.args.name.now) _ (g.D.Disk.told c.append_x.new.disk) _ c.in_ok-sum.ensures.appends.only c.finish_x.ensures.only);
   firm = leaves_from (IsFirm (x_file c.args.name.now)) (bytes_eq (x_file c.args.name.now)) _ (g.D.Disk.told c.start.new.disk) _ c.start.ensures.touches (firm_after (x_file c.args.name.now) _ (g.D.Disk.told c.append_x.new.disk) _ c.in_ok-sum.ensures.appends.only c.in-Ok.ensures.firm);
-  later = omega (arith, c.in_default.ensures.later, c.in_ok-sum.ensures.appends.later, c.finish_x.ensures.later);
+  later = omega (arith, c.in_default.ensures.causes.later, c.in_ok-sum.ensures.appends.later, c.finish_x.ensures.causes.later);
   cause = λ failed. absurd cc;
 }
 
@@ -81,6 +81,6 @@ returns-in-Err-finish_x-clause-frame g c = record {
   touches = written_touches (x_file c.args.name.now) (bytes_eq (x_file c.args.name.now)) _ (g.D.Disk.told c.start.new.disk) _ (g.met.D.Disk.sane c.start.new.disk) (λ k h. h) c.start.ensures.touches c.in_default.ensures.own
       (only_both (x_file c.args.name.now) _ (g.D.Disk.told c.append_x.new.disk) _ c.in_ok-sum.ensures.appends.only c.finish_x.ensures.only);
   firm = tt;
-  later = omega (arith, c.in_default.ensures.later, c.in_ok-sum.ensures.appends.later, c.finish_x.ensures.later);
-  cause = λ failed. rose_from _ _ _ (omega (arith, c.in_default.ensures.later, c.in_ok-sum.ensures.appends.later)) (c.finish_x.ensures.cause (failed_as c.finish_x.result c.in-Err-finish_x.refusal c.in-Err-finish_x.is (sym c.file_fault-in-Err-finish_x.ensures ∙ fault_of c.file_fault-in-Err-finish_x.result faults.Failed failed)));
+  later = omega (arith, c.in_default.ensures.causes.later, c.in_ok-sum.ensures.appends.later, c.finish_x.ensures.causes.later);
+  cause = λ failed. rose_from _ _ _ (omega (arith, c.in_default.ensures.causes.later, c.in_ok-sum.ensures.appends.later)) (c.finish_x.ensures.causes.cause (failed_as c.finish_x.result c.in-Err-finish_x.refusal c.in-Err-finish_x.is (sym c.file_fault-in-Err-finish_x.ensures ∙ fault_of c.file_fault-in-Err-finish_x.result faults.Failed failed)));
 }

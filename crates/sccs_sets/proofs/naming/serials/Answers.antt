@@ -1,37 +1,17 @@
-use Rattle.std.proofs.Common.{◌≡◌, ◌+◌, ◌<◌, ◌≤◌, [], List, None, Some, length, drop, sym, ap, ◌∙◌, arith}
-use Rattle.std.proofs.lemmas.List.{at_drop_all}
-use Rattle.sccs_sid.specs.declared.sid_lists.Range.{Range}
-use Rattle.sccs_history.specs.declared.headers.Record.{Record}
-use Rattle.sccs_sets.specs.Naming.{add_range, named_serials, range_fault}
-use Rattle.sccs_sets.proofs.Living.{serials_live}
-use Rattle.sccs_sets.proofs.Putting.{drop-at, none_of, range_stops, range_goes}
+use Rattle.std.proofs.Common.{◌≡◌, [], IfOk, true, false, get_or, subst, ap, ◌∙◌, rules}
+use Rattle.std.specs.List.{AllByRecursion}
+use Rattle.sccs_history.specs.Applied.{live_serials}
+use Rattle.sccs_history.specs.Numbers.{has}
+use Rattle.sccs_sets.specs.Naming.{AnswersSerials, named_serials}
+use Rattle.sccs_sets.proofs.Lookups.{places_of}
 use Rattle.sccs_sets.proofs.naming.serials.Goals as goal
 
-pub returns-in-Some-clause-value : goal.returns-in-Some-clause-value
-returns-in-Some-clause-value c =
-    let records : List Record = c.args.header.now.records in
-    let range : Range = c.at-range.result.now in
-    let list : List Range = c.args.list.now in
-    let low : c.loop-place.place < length list = omega (arith, c.loop-place-test.true, c.len-place-end.ensures) in
-    let fault : range_fault records range ≡ Some c.in-Some.sid = ap (λ rs. range_fault rs range) (sym c.items-records.ensures) ∙ (sym c.range_fault.ensures ∙ c.in-Some.is) in
-    sym c.loop-place.invariant
-    ∙ (ap (λ l. named_serials records c.loop-place.seen l) (drop-at list c.loop-place.place range low c.at-range.ensures) ∙ range_stops records c.loop-place.seen range (drop (c.loop-place.place + 1) list) c.in-Some.sid fault)
+pub serials_by-requires-clause-marks : goal.serials_by-requires-clause-marks
+serials_by-requires-clause-marks c = λ n.
+    ap (λ l. get_or l n false) (c.deref_mut.ensures.value ∙ c.in-Ok.ensures.items_if_clones_equal (λ y h. search rules)) ∙ places_of false 65536 n
 
-pub loop-place-preserved : goal.loop-place-preserved
-loop-place-preserved c =
-    let records : List Record = c.args.header.now.records in
-    let range : Range = c.at-range.result.now in
-    let list : List Range = c.args.list.now in
-    let low : c.loop-place.place < length list = omega (arith, c.loop-place-test.true, c.len-place-end.ensures) in
-    let fault : range_fault records range ≡ None = ap (λ rs. range_fault rs range) (sym c.items-records.ensures) ∙ (sym c.range_fault.ensures ∙ none_of c.range_fault.result c.in_default.not-Some) in
-    let more : c.add_range.new.seen ≡ add_range records c.loop-place.seen range = c.in-Ok.ensures ∙ ap (λ rs. add_range rs c.loop-place.seen range) c.items-records.ensures in
-    range_goes records c.loop-place.seen c.add_range.new.seen range (drop (c.loop-place.place + 1) list) fault more
-    ∙ (ap (λ l. named_serials records c.loop-place.seen l) (sym (drop-at list c.loop-place.place range low c.at-range.ensures)) ∙ c.loop-place.invariant)
+pub returns-clause-value : goal.returns-clause-value
+returns-clause-value c = subst (λ rs. AnswersSerials (named_serials rs [] c.args.list.now) c.serials_by.result) c.items.ensures c.serials_by.ensures.value
 
 pub returns-clause-live : goal.returns-clause-live
-returns-clause-live c =
-    let records : List Record = c.args.header.now.records in
-    let list : List Range = c.args.list.now in
-    let past : length list ≤ c.loop-place.place = omega (arith, c.loop-place-test.false, c.len-place-end.ensures) in
-    serials_live records [] list c.loop-place.seen tt
-    (sym c.loop-place.invariant ∙ ap (λ l. named_serials records c.loop-place.seen l) (at_drop_all (λ l. l) list c.loop-place.place past))
+returns-clause-live c = subst (λ rs. IfOk c.serials_by.result (AllByRecursion (λ n. has (live_serials rs) n ≡ true))) c.items.ensures c.serials_by.ensures.live

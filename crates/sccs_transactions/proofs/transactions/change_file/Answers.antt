@@ -29,7 +29,7 @@ returns-in-Ok-prepare-clause-step g c =
     finished_steps (g.C.Change.change c.args.change.now) c.in-Ok-prepare.prepared c.finish.result c.prepare.result c.args.name.now _ _ _ _ _ _ _ _ _ _ c.requires c.in-Ok-prepare.is c.in-Ok.ensures.view c.in-Ok.ensures.free (c.prepare.ensures.prepares _) c.finish.ensures.finishes
 
 pub returns-in-Ok-prepare-clause-causes : goal.returns-in-Ok-prepare-clause-causes
-returns-in-Ok-prepare-clause-causes g c = finished_causes c.prepare.result c.finish.result _ _ _ _ _ _ _ _ _ _ _ c.lock.ensures.later c.prepare.ensures.causes c.finish.ensures.causes
+returns-in-Ok-prepare-clause-causes g c = finished_causes c.prepare.result c.finish.result _ _ _ _ _ _ _ _ _ _ _ c.lock.ensures.causes.later c.prepare.ensures.causes c.finish.ensures.causes
 
 pub returns-in-Err-clause-step : goal.returns-in-Err-clause-step
 returns-in-Err-clause-step g c =
@@ -45,7 +45,7 @@ returns-in-Err-clause-ignores g c = λ takes.
 
 pub returns-in-Err-clause-causes : goal.returns-in-Err-clause-causes
 returns-in-Err-clause-causes g c =
-    given_up_causes c.in-Err.fault c.prepare.result c.give_up.result c.args.name.now (world (seen (g.D.Disk.told c.prepare.new.disk)) (g.O.Sink.given c.prepare.new.out) (g.E.Sink.given c.args.err.now)) (world (seen (g.D.Disk.told c.give_up.new.disk)) (g.O.Sink.given c.prepare.new.out) (g.E.Sink.given c.args.err.now)) _ _ _ _ _ _ _ _ _ c.in-Err.is (c.give_up.ensures.gives_up (g.O.Sink.given c.prepare.new.out) (g.E.Sink.given c.args.err.now)) c.lock.ensures.later c.prepare.ensures.causes c.give_up.ensures.later c.give_up.ensures.cause
+    given_up_causes c.in-Err.fault c.prepare.result c.give_up.result c.args.name.now (world (seen (g.D.Disk.told c.prepare.new.disk)) (g.O.Sink.given c.prepare.new.out) (g.E.Sink.given c.args.err.now)) (world (seen (g.D.Disk.told c.give_up.new.disk)) (g.O.Sink.given c.prepare.new.out) (g.E.Sink.given c.args.err.now)) _ _ _ _ _ _ _ _ _ c.in-Err.is (c.give_up.ensures.gives_up (g.O.Sink.given c.prepare.new.out) (g.E.Sink.given c.args.err.now)) c.lock.ensures.causes.later c.prepare.ensures.causes c.give_up.ensures.later c.give_up.ensures.cause
 
 pub prepare-requires-clause-locked : goal.prepare-requires-clause-locked
 prepare-requires-clause-locked g c = made_there (z_file c.args.name.now) empty_file (g.D.Disk.told c.args.disk.now) (g.D.Disk.told c.lock.new.disk) c.in-Ok.ensures.view

@@ -9,4 +9,4 @@ all_closed (suc count) zero = refl
 all_closed (suc count) (suc n) = all_closed count n
 
 pub returns : goal.returns
-returns c = λ n. rw c.in_ok-marks.ensures (all_closed 65536 n)
+returns c = λ n. rw c.in_ok-marks.ensures (all_closed c.args.count n)

@@ -4,7 +4,7 @@ use Rattle.sccs_sets.specs.Naming.{in_range, sid_named, put_named}
 use Rattle.sccs_sets.specs.Retrieved.{live_where}
 use Rattle.sccs_sets.proofs.Passing.{drop-record}
 use Rattle.sccs_sets.proofs.Putting.{put_record}
-use Rattle.sccs_sets.proofs.naming.range_named.Goals as goal
+use Rattle.sccs_sets.proofs.naming.range_sorted.Goals as goal
 
 pub loop-record-preserved : goal.loop-record-preserved
 loop-record-preserved c =

@@ -1,7 +1,7 @@
 use Rattle.std.proofs.Common.{◌≡◌, drop, fold, map}
 use Rattle.sccs_sets.specs.Naming.{in_range, sid_named, put_named, range_named}
 use Rattle.sccs_sets.specs.Retrieved.{live_where}
-use Rattle.sccs_sets.proofs.naming.range_named.Given as goal
+use Rattle.sccs_sets.proofs.naming.range_sorted.Given as goal
 
 -- what was found, and the rest of the records, are all that is found
 abbrev pub invariant-loop-record : goal.invariant-loop-record
