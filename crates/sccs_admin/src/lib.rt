@@ -11,4 +11,4 @@ mod texts;
 
 pub use admins::{Admin, prepared};
 pub use finding::read_named;
-pub use rules::{described, flags_of};
+pub use rules::{described, flags_of, has_text};

@@ -105,8 +105,8 @@ fn has_flag(flags: &[Flag], letter: u8) -> bool
     flags.iter().any(|flag| flag.letter == letter)
 }
 
-// whether the flag of a letter is there and has a text
-fn has_text(flags: &[Flag], letter: u8) -> bool
+/// Whether the flag of a letter is there and has a text.
+pub fn has_text(flags: &[Flag], letter: u8) -> bool
     ensures { result ≡ has_text flags.now letter }
 {
     match flags.iter().find(|flag| flag.letter == letter) {

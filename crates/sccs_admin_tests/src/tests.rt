@@ -1,4 +1,5 @@
 mod altered_files;
+mod changes;
 mod checked_files;
 mod disks;
 mod imports;

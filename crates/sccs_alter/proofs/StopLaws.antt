@@ -60,9 +60,10 @@ same_recovery : (a b : Content) (p : Option Content) → table_of a.bytes ≡ ta
 same_recovery a b None same = refl
 same_recovery a b (Some p) same = ap (λ (t : Option (List Record)). recovered_by t (edits_of p.bytes) p) same
 
-settled_at : (n : List ℕ) (p : Prepared) (u : View) (old new : Content) → IsNewSfile p → u (x_file n) ≡ Some new → u n ≡ Some old → table_of new.bytes ≡ table_of old.bytes → IsSound n u
+-- the s-file is another one, whose p-file recovery leaves as it is
+pub entries_kept : (n : List ℕ) (p : Prepared) (u : View) (new : Content) → IsNewSfile p → u (x_file n) ≡ Some new → recovered_pfile (Some new) (u (p_file n)) ≡ u (p_file n)
     → KeepsEntries n (plan_of p) u × ArePaired (files_after n (plan_of p) u).s (files_after n (plan_of p) u).p
-settled_at n p u old new is_new x s same sound = (
+entries_kept n p u new is_new x stays = (
   record {
     leaves = plain_where (plan_of p).s (recovered_pfile (files_after n (plan_of p) u).s (u (p_file n)) ≡ (files_after n (plan_of p) u).p)
         (ap (λ (o : Option Content). recovered_pfile o (u (p_file n))) s_is ∙ (stays ∙ sym p_is));
@@ -80,8 +81,10 @@ settled_at n p u old new is_new x s same sound = (
     p_is : (files_after n (plan_of p) u).p ≡ u (p_file n)
     p_is = ap (λ (f : NewFile). chosen f (u (q_file n)) (u (p_file n))) is_new.p_state
 
-    stays : recovered_pfile (Some new) (u (p_file n)) ≡ u (p_file n)
-    stays = same_recovery new old (u (p_file n)) same ∙ (ap (λ (o : Option Content). recovered_pfile o (u (p_file n))) (sym s) ∙ sound)
+settled_at : (n : List ℕ) (p : Prepared) (u : View) (old new : Content) → IsNewSfile p → u (x_file n) ≡ Some new → u n ≡ Some old → table_of new.bytes ≡ table_of old.bytes → IsSound n u
+    → KeepsEntries n (plan_of p) u × ArePaired (files_after n (plan_of p) u).s (files_after n (plan_of p) u).p
+settled_at n p u old new is_new x s same sound =
+    entries_kept n p u new is_new x (same_recovery new old (u (p_file n)) same ∙ (ap (λ (o : Option Content). recovered_pfile o (u (p_file n))) (sym s) ∙ sound))
 
 same_table : (old new : Content) (h h2 : Header) (items : List Item) → unsummed_file old.bytes ≡ Ok (record { header = h; items = items }) → IsSFile new.bytes h2 items → h2.records ≡ h.records → table_of new.bytes ≡ table_of old.bytes
 same_table old new h h2 items old_is new_is same =

@@ -1,9 +1,11 @@
 -- What the parts that write answer.
-use Rattle.std.proofs.Common.{◌≡◌, ◌≢◌, ℕ, List, Option, Result, Ok, Err, refl, sym, ap, subst, ◌∙◌, arith}
+use Rattle.std.proofs.Common.{◌≡◌, ◌≢◌, ℕ, true, List, Option, Result, Ok, Err, refl, sym, ap, subst, ◌∙◌, arith}
+use Rattle.std.specs.List.{AllByRecursion}
 use Rattle.std.specs.Str.{bytes_eq}
 use Rattle.sccs_base.specs.Name.{x_file}
 use Rattle.sccs_disk.specs.Files.{View}
 use Rattle.sccs_disk.specs.Told.{Told}
+use Rattle.sccs_sid.specs.Refusal.{number_of}
 use Rattle.sccs_sid.specs.declared.refusals.Refusal.{Refusal}
 use Rattle.sccs_sid.specs.declared.refusals.StepFault.{StepFault}
 use Rattle.sccs_sid.specs.declared.refusals.StepFault.TheVariants.{DiskFault}
@@ -17,6 +19,9 @@ use Rattle.sccs_writers.proofs.OneFile.{only_none}
 use Rattle.sccs_transactions.specs.declared.prepared.Prepared.{Prepared}
 use Rattle.sccs_pending.specs.PFiles.{Answers}
 use Rattle.sccs_copies.specs.Copies.{MakesFile, MakesOneFile}
+use Rattle.sccs_steps.specs.Actions.{RefusesWithin, has_number}
+use Rattle.sccs_admin.proofs.RuleLaws.{wider_checks}
+use Rattle.sccs_alter.specs.CheckStep.{check_checks}
 use Rattle.sccs_alter.specs.Parts.{Alters}
 
 -- ---- the x-file
@@ -81,3 +86,9 @@ header_altered r made h items n old new answers alters = subst (λ m. Alters r m
 -- how a header that isn't made ends
 abbrev pub no_header : StepFault → Result Header StepFault
 no_header fault = Err fault
+
+-- ---- refusals
+
+-- a refusal of a file is one of a step that makes these checks among others
+pub file_refused : {X : Type 0} (r : Result X StepFault) (checks : List ℕ) → AllByRecursion (λ check. has_number checks check ≡ true) check_checks → RefusesWithin check_checks r → RefusesWithin checks r
+file_refused r checks all within = λ refusal is. wider_checks check_checks checks (number_of refusal) all (within refusal is)

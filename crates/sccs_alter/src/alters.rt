@@ -20,6 +20,7 @@ ghost use Rattle.sccs_table.specs.ReaderState.{bytes_in};
 ghost use Rattle.sccs_transactions.specs.Stops.{IsFirmPrepared};
 ghost use Rattle.sccs_admin.specs.Parts.{IsNewSfile};
 ghost use Rattle.sccs_alter.specs.AlterStep.{alter_change, alter_checks, altered_header};
+ghost use Rattle.sccs_alter.specs.CheckStep.{check_checks};
 ghost use Rattle.sccs_alter.specs.Locks.{alter_locked};
 ghost use Rattle.sccs_alter.specs.Parts.{Alters};
 
@@ -42,8 +43,8 @@ pub struct Alter<'a> {
     pub words: &'a AdminWords,
 }
 
-// writes the x-file of a header over a body
-fn write_header<D: Disk>(
+/// Writes the x-file of a header over the body of an s-file, as it is read again.
+pub fn write_header<D: Disk>(
     alloc: Global,
     header: &Header,
     copying: Copying<Identity>,
@@ -58,7 +59,7 @@ fn write_header<D: Disk>(
     ensures new { IfOk result IsNewSfile }
     ensures firm { IfOk result (λ p. IsFirmPrepared name.now p (D.told disk.old) (D.told disk.new)) }
     ensures frame { MakesOneFile (x_file name.now) faults.DiskFault (D.told disk.old) (D.told disk.new) (D.faults disk.old) (D.faults disk.new) result }
-    ensures checks { RefusesWithin alter_checks result }
+    ensures checks { RefusesWithin check_checks result }
     ensures read { result ≢ Err faults.ReadFault }
     ensures write { result ≢ Err faults.WriteFault }
 {

@@ -7,5 +7,5 @@ mod headers;
 pub mod laws;
 mod reading;
 
-pub use alters::Alter;
+pub use alters::{Alter, write_header};
 pub use checks::Check;

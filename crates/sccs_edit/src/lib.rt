@@ -5,5 +5,6 @@ mod sact;
 mod sact_reports;
 mod unget;
 
-pub use sact::Sact;
+pub use sact::{Sact, find_edits};
+pub use sact_reports::report_of;
 pub use unget::Unget;

@@ -29,8 +29,8 @@ pub struct Sact {
     pub heading: bool,
 }
 
-// the entries, where the s-file is there
-fn find_edits<D: Disk>(alloc: Global, disk: &mut D, name: &Name) -> Result<Edits, StepFault>
+/// The entries of a name's p-file, where its s-file is there.
+pub fn find_edits<D: Disk>(alloc: Global, disk: &mut D, name: &Name) -> Result<Edits, StepFault>
     requires { IsSfile name.now }
     ensures told { IfSome (seen (D.told disk.old)) (λ (v : View). Answers (found_edits (look v name.now)) result) }
     ensures valid { IfOk result (All IsEdit) }

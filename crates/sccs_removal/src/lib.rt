@@ -7,4 +7,4 @@ mod leaves;
 mod removals;
 
 pub use leaves::{is_edited, is_leaf, is_owner, live_delta};
-pub use removals::remove_delta;
+pub use removals::{Lists, copy_lists, remove_delta};

@@ -16,16 +16,16 @@ fn copy_serials(alloc: Global, serials: &[u16]) -> Result<Serials, Memory>
     Ok(Serials::from_vec(items))
 }
 
-// the lists of a record
+/// The lists of a record.
 #[derive(Drop)]
-struct Lists {
-    include: Serials,
-    exclude: Serials,
-    ignore: Serials,
+pub struct Lists {
+    pub include: Serials,
+    pub exclude: Serials,
+    pub ignore: Serials,
 }
 
-// a copy of them
-fn copy_lists(alloc: Global, old: &Record) -> Result<Lists, Memory>
+/// A copy of the lists of a record.
+pub fn copy_lists(alloc: Global, old: &Record) -> Result<Lists, Memory>
     ensures include { IfOk result (λ lists. lists.include ≡ old.now.include) }
     ensures exclude { IfOk result (λ lists. lists.exclude ≡ old.now.exclude) }
     ensures ignore { IfOk result (λ lists. lists.ignore ≡ old.now.ignore) }

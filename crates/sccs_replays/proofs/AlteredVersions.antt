@@ -26,7 +26,7 @@ use Rattle.sccs_replays.specs.PastRuns.{HasVersions, IsOfVersions}
 use Rattle.sccs_replays.proofs.LeftFiles.{s_of}
 
 -- the same file is read
-same_file : (bytes : List ℕ) (a b : Parsed) → file_of bytes ≡ Ok a → file_of bytes ≡ Ok b → a ≡ b
+pub same_file : (bytes : List ℕ) (a b : Parsed) → file_of bytes ≡ Ok a → file_of bytes ≡ Ok b → a ≡ b
 same_file bytes a b one two = let same : Ok a ≡ Ok b = sym one ∙ two in cc
 
 -- a file that is whole is read so, whatever is done with its sum

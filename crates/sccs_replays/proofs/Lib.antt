@@ -1,4 +1,5 @@
 pub mod AlteredVersions
+pub mod ChangedVersions
 pub mod LeftFiles
 pub mod LiveVersions
 pub mod MadeSteps

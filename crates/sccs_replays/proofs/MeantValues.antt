@@ -14,7 +14,7 @@ use Rattle.sccs_steps.proofs.Turns.{each_all}
 use Rattle.sccs_words.specs.BetweenGaps.{AreWordsOf}
 use Rattle.sccs_words.specs.Judge.{has_use}
 use Rattle.sccs_words.specs.Letters as opt
-use Rattle.sccs_words.specs.Meaning.{line_command, first_text, line_meaning, meaning, meaning_by, words_fault, unless_fault, utility_of, with_name, with_number, with_sid}
+use Rattle.sccs_words.specs.Meaning.{line_command, first_text, line_meaning, meaning, meaning_by, words_fault, unless_fault, utility_of, with_changes, with_name, with_number, with_sid}
 use Rattle.sccs_words.specs.MrWords.{is_gap, mr_words}
 use Rattle.sccs_words.specs.Records.{option_lines, mrs_of, value_of}
 use Rattle.sccs_words.specs.Scan.{CommandLine, scanned}
@@ -31,6 +31,7 @@ use Rattle.sccs_words.proofs.MrWordLaws.{words_found}
 abbrev pub HasMeantValues : Command → Type 0
 HasMeantValues (c.Delta words name) = AreLines words.mrs × AreLines words.comment
 HasMeantValues (c.Admin words operands) = IfSome words.release IsComponent × IfSome words.comment AreLines × AreLines words.mrs
+HasMeantValues (c.Cdc words operands) = AreLines words.mrs × IfSome words.comment AreLines
 HasMeantValues command = Unit {0}
 
 abbrev pub AreMeantValues : Result Command Usage → Type 0
@@ -93,6 +94,10 @@ given_sid : (operands : List (List ℕ)) (n : ℕ) (sid : Option Sid) → AreMea
 given_sid operands n None = tt
 given_sid operands n (Some sid) = tt
 
+given_changes : (uses : List Use) (operands : List (List ℕ)) (n : ℕ) (sid : Option Sid) → AreMeantValues (with_changes uses operands n sid)
+given_changes uses operands n None = tt
+given_changes uses operands n (Some sid) = (mrs_are_lines (value_of opt.m uses), asked_comment (has_use opt.y uses) (value_of opt.y uses))
+
 given_number : (n : ℕ) (number : Option ℕ) → AreMeantValues (with_number n number)
 given_number n None = tt
 given_number n (Some number) = tt
@@ -103,7 +108,10 @@ command_values u.Get l n = tt
 command_values u.Delta l n = named_delta l.uses n (option_and_then name_value (first_text l.operands))
 command_values u.Unget l n = tt
 command_values u.Sact l n = tt
+command_values u.Tell l n = tt
+command_values u.Check l n = tt
 command_values u.Rmdel l n = given_sid l.operands n (option_and_then sid_value (value_of opt.r l.uses))
+command_values u.Cdc l n = given_changes l.uses l.operands n (option_and_then sid_value (value_of opt.r l.uses))
 command_values u.Prs l n = tt
 command_values u.Val l n = tt
 command_values u.What l n = tt

@@ -26,9 +26,11 @@ use Rattle.sccs_steps.specs.Unlocked.{ArePlain, IsPlainFor}
 use Rattle.sccs_admin.specs.AdminStep.{admin_change}
 use Rattle.sccs_alter.specs.AlterStep.{alter_change}
 use Rattle.sccs_alter.specs.CheckStep.{check_action, check_keeps}
+use Rattle.sccs_cdc.specs.CdcStep.{cdc_change}
 use Rattle.sccs_delta.specs.DeltaStep.{delta_change}
 use Rattle.sccs_edit.specs.Checks.{sact_keeps}
 use Rattle.sccs_edit.specs.UngetStep.{unget_change}
+use Rattle.sccs_front.specs.Keeps.{pending_keeps}
 use Rattle.sccs_get.specs.EditStep.{edit_change}
 use Rattle.sccs_get.specs.Keeps.{get_keeps}
 use Rattle.sccs_get.specs.VersionStep.{get_action}
@@ -81,7 +83,10 @@ by_keeps who (c.Get words operands) =
 by_keeps who (c.Delta words name) = locking_keeps (delta_change words who.stamp)
 by_keeps who (c.Unget words operands) = locking_keeps (unget_change words who.stamp (has_heading operands))
 by_keeps who (c.Sact operands) = sact_keeps (has_heading operands)
+by_keeps who (c.Tell operands) = pending_keeps false
+by_keeps who (c.Check operands) = pending_keeps true
 by_keeps who (c.Rmdel sid operands) = locking_keeps (rmdel_change sid who.stamp)
+by_keeps who (c.Cdc words operands) = locking_keeps (cdc_change words who.stamp)
 by_keeps who (c.Prs words operands) = prs_keeps words who.place
 by_keeps who (c.Val words) = val_keeps words (λ name. None)
 by_keeps who (c.What first operands) = what_keeps first

@@ -1,6 +1,6 @@
 -- What the step of each command makes of the versions of an s-file.
 use Rattle.std.proofs.Common.{◌≡◌, ◌==◌, ◌||◌, ℕ, zero, suc, ◌-◌, ◌<◌, ◌≤◌, Bool, true, false, List, [], ◌∷◌, drop, length, nat_le, Option, None, Some, Result, Ok, Err, refl, sym, ap, subst, ◌∙◌, ⊎_elim, arith}
-use Rattle.std.specs.Prelude.{if◌then◌else◌, is_none, is_some, map}
+use Rattle.std.specs.Prelude.{IfSome, if◌then◌else◌, is_none, is_some, map}
 use Rattle.std.proofs.lemmas.Bool.{eqb-true, or_cases, or_right}
 use Rattle.sccs_base.specs.Constants.{file_limit}
 use Rattle.sccs_base.specs.Login.{IsLogin}
@@ -13,7 +13,7 @@ use Rattle.sccs_sid.specs.declared.moments.Stamp.{Stamp}
 use Rattle.sccs_sid.specs.declared.sids.Sid.{Sid}
 use Rattle.sccs_history.specs.Applied.{live_serials, newest, version}
 use Rattle.sccs_history.specs.Body.{lines_of}
-use Rattle.sccs_history.specs.History.{is_rooted, same_sid}
+use Rattle.sccs_history.specs.History.{AreLines, is_rooted, same_sid}
 use Rattle.sccs_history.specs.Numbers.{has}
 use Rattle.sccs_history.specs.declared.headers.Header.{Header}
 use Rattle.sccs_records.specs.NewDeltas.{last_of, with_deltas}
@@ -29,6 +29,7 @@ use Rattle.sccs_rmdel.specs.RmdelStep.{rmdel_outcome}
 use Rattle.sccs_rmdel.proofs.RemovedVersions.{removal_made}
 use Rattle.sccs_grammar.specs.File.{Parsed, file_of}
 use Rattle.sccs_words.specs.declared.commands.AdminWords.{AdminWords}
+use Rattle.sccs_words.specs.declared.commands.CdcWords.{CdcWords}
 use Rattle.sccs_words.specs.declared.commands.Command.{Command}
 use Rattle.sccs_words.specs.declared.commands.Command.TheVariants as c
 use Rattle.sccs_words.specs.declared.commands.DeltaWords.{DeltaWords}
@@ -42,12 +43,15 @@ use Rattle.sccs_admin.specs.AdminStep.{admin_change, admin_outcome, found_texts,
 use Rattle.sccs_admin.specs.Texts.{named_by}
 use Rattle.sccs_alter.specs.AlterStep.{alter_change, alter_outcome}
 use Rattle.sccs_alter.specs.CheckStep.{check_action, check_keeps}
+use Rattle.sccs_cdc.specs.CdcStep.{cdc_outcome}
 use Rattle.sccs_delta.specs.DeltaStep.{delta_outcome, sizes_checked}
 use Rattle.sccs_delta.specs.NewVersions.{MakesVersions, delta_on, version_text}
 use Rattle.sccs_delta.specs.Replays.{CallRead, DeltaCall, Texts, call_read, files_at}
 use Rattle.sccs_delta.proofs.AddedVersions.{versions_made}
 use Rattle.sccs_pending.proofs.Chains.{passed}
 use Rattle.sccs_edit.specs.UngetStep.{unget_decides}
+use Rattle.sccs_front.specs.Keeps.{pending_keeps}
+use Rattle.sccs_front.specs.PendingStep.{pending_action}
 use Rattle.sccs_get.specs.EditStep.{edit_change, edit_outcome}
 use Rattle.sccs_get.specs.VersionStep.{get_action}
 use Rattle.sccs_prs.specs.Keeps.{prs_keeps}
@@ -71,6 +75,7 @@ use Rattle.sccs_top.proofs.AdminValues.{admin_values}
 use Rattle.sccs_top.proofs.MadeHistoryLaws.{made_replayed}
 use Rattle.sccs_replays.specs.PastRuns.{HasVersions, IsOfVersions, call_in, first_version, imported_versions, versions_after_command, texts_with_delta, with_read}
 use Rattle.sccs_replays.proofs.AlteredVersions.{altered_goes}
+use Rattle.sccs_replays.proofs.ChangedVersions.{changed_goes}
 use Rattle.sccs_replays.proofs.LeftFiles.{Leaves, edit_leaves, entries_leave, get_leaves, locking_leaves, recover_leaves, refused_leaves, s_of, sact_leaves}
 use Rattle.sccs_replays.proofs.LiveVersions.{follows_on}
 use Rattle.sccs_delta.proofs.Replaying.{read_is}
@@ -204,6 +209,14 @@ rmdel_goes who sid i n m texts d is = by (view_in m n) refl
     by (Some s) there =
         subst (λ (o : Option Content). Goes o d.new texts texts) (sym there) (rmdel_made sid who.stamp (look (view_in m) n) s d texts (removal_made sid who.stamp n i [] (look (view_in m) n) s d there parts.1))
 
+-- ---- cdc
+
+cdc_goes : (who : Caller) (words : CdcWords) (i n : List ℕ) (m : Folder) (texts : Texts) (d : StepEffect) → IsLogin who.stamp.login → AreLines words.mrs × IfSome words.comment AreLines
+    → locking_step (cdc_outcome words who.stamp) n i [] (look (view_in m) n) ≡ Ok d → Goes (view_in m n) d.new texts texts
+cdc_goes who words i n m texts d login values is =
+    changed_goes words who.stamp n i [] (look (view_in m) n) texts d (record { mrs = values.0; comment = values.1; login = login })
+    (unlocked_step (cdc_outcome words who.stamp) n i [] (look (view_in m) n) d is).1
+
 -- ---- admin
 
 only_first : (m : ℕ) → has (1 ∷ []) m ≡ true → m ≡ 1
@@ -323,7 +336,10 @@ by_goes who (c.Delta words name) i n m texts d moment login values is = delta_go
 by_goes who (c.Unget words operands) i n m texts d moment login values is =
     left (view_in m n) _ d texts (locking_leaves _ n i [] (look (view_in m) n) (entries_leave (unget_decides words who.stamp (has_heading operands)) n i [] (look (view_in m) n))) is
 by_goes who (c.Sact operands) i n m texts d moment login values is = left (view_in m n) _ d texts (sact_leaves (has_heading operands) n (look (view_in m) n)) is
+by_goes who (c.Tell operands) i n m texts d moment login values is = reading_goes (pending_action false) i n m texts d (pending_keeps false) refl is
+by_goes who (c.Check operands) i n m texts d moment login values is = reading_goes (pending_action true) i n m texts d (pending_keeps true) refl is
 by_goes who (c.Rmdel sid operands) i n m texts d moment login values is = rmdel_goes who sid i n m texts d is
+by_goes who (c.Cdc words operands) i n m texts d moment login values is = cdc_goes who words i n m texts d login values is
 by_goes who (c.Prs words operands) i n m texts d moment login values is = reading_goes (prs_action words who.place) i n m texts d (prs_keeps words who.place) refl is
 by_goes who (c.Val words) i n m texts d moment login values is = reading_goes (val_action words) i n m texts d (val_keeps words (λ name. None)) refl is
 by_goes who (c.What first operands) i n m texts d moment login values is = reading_goes (what_action first) i n m texts d (what_keeps first) refl is

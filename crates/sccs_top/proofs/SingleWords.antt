@@ -4,7 +4,7 @@ use Rattle.std.specs.Str.{bytes_eq}
 use Rattle.std.proofs.Common.{refl}
 use Rattle.sccs_sid.specs.declared.sids.Sid.{Sid}
 use Rattle.sccs_words.specs.Letters as opt
-use Rattle.sccs_words.specs.Meaning.{first_text, line_command, line_meaning, meaning, meaning_by, own_utility, unless_fault, utility_of, with_name, with_sid, words_fault}
+use Rattle.sccs_words.specs.Meaning.{first_text, line_command, line_meaning, meaning, meaning_by, own_utility, unless_fault, utility_of, with_changes, with_name, with_sid, words_fault}
 use Rattle.sccs_words.specs.Records.{value_of}
 use Rattle.sccs_words.specs.Scan.{CommandLine, scanned}
 use Rattle.sccs_words.specs.Synopsis.{options_of}
@@ -35,13 +35,20 @@ sid_single : (operands : List (List ℕ)) (n : ℕ) (sid : Option Sid) → IsSin
 sid_single operands n None = tt
 sid_single operands n (Some sid) = refl
 
+changes_single : (uses : List Use) (operands : List (List ℕ)) (n : ℕ) (sid : Option Sid) → IsSingleMeant (with_changes uses operands n sid)
+changes_single uses operands n None = tt
+changes_single uses operands n (Some sid) = refl
+
 command_single : (utility : Utility) (l : CommandLine) (n : ℕ) → IsOfSingles utility → IsSingleMeant (line_command utility l n)
 command_single u.Admin l n of = refl
 command_single u.Get l n of = refl
 command_single u.Delta l n of = named_single l.uses n (option_and_then name_value (first_text l.operands))
 command_single u.Unget l n of = refl
 command_single u.Sact l n of = refl
+command_single u.Tell l n of = refl
+command_single u.Check l n of = refl
 command_single u.Rmdel l n of = sid_single l.operands n (option_and_then sid_value (value_of opt.r l.uses))
+command_single u.Cdc l n of = changes_single l.uses l.operands n (option_and_then sid_value (value_of opt.r l.uses))
 command_single u.Prs l n of = refl
 command_single u.Val l n of = refl
 command_single u.What l n of = refl
@@ -81,7 +88,10 @@ both_false false false is = (refl, refl)
 own_single : (word : List ℕ) → not (bytes_eq word (codes "batch") || bytes_eq word (codes "soak")) ≡ true → IfSome (own_utility word) IsOfSingles
 own_single word is =
     let both = both_false (bytes_eq word (codes "batch")) (bytes_eq word (codes "soak")) is in
-    either (bytes_eq word (codes "recover")) (Some u.Recover) _ tt (either (bytes_eq word (codes "import")) (Some u.Import) _ tt (passed_by (bytes_eq word (codes "batch")) (Some u.Batch) _ both.0 (passed_by (bytes_eq word (codes "soak")) (Some u.Soak) None both.1 tt)))
+    either (bytes_eq word (codes "recover")) (Some u.Recover) _ tt
+    (either (bytes_eq word (codes "tell")) (Some u.Tell) _ tt
+    (either (bytes_eq word (codes "check")) (Some u.Check) _ tt
+    (either (bytes_eq word (codes "import")) (Some u.Import) _ tt (passed_by (bytes_eq word (codes "batch")) (Some u.Batch) _ both.0 (passed_by (bytes_eq word (codes "soak")) (Some u.Soak) _ both.1 (either (bytes_eq word (codes "cdc")) (Some u.Cdc) None tt tt))))))
 
 word_single : (word : List ℕ) → not (bytes_eq word (codes "batch") || bytes_eq word (codes "soak")) ≡ true → IfSome (utility_of word) IsOfSingles
 unfolding utility_of

@@ -29,10 +29,13 @@ use Rattle.sccs_transactions.specs.Utilities.{locking_keeps}
 use Rattle.sccs_admin.specs.AdminStep.{admin_change}
 use Rattle.sccs_alter.specs.AlterStep.{alter_change}
 use Rattle.sccs_alter.specs.CheckStep.{check_action, check_keeps}
+use Rattle.sccs_cdc.specs.CdcStep.{cdc_change}
 use Rattle.sccs_delta.specs.DeltaStep.{delta_change}
 use Rattle.sccs_edit.specs.Checks.{sact_keeps}
 use Rattle.sccs_edit.specs.SactStep.{sact_action}
 use Rattle.sccs_edit.specs.UngetStep.{unget_change}
+use Rattle.sccs_front.specs.Keeps.{pending_keeps}
+use Rattle.sccs_front.specs.PendingStep.{pending_action}
 use Rattle.sccs_get.specs.EditStep.{edit_change}
 use Rattle.sccs_get.specs.Keeps.{get_keeps}
 use Rattle.sccs_get.specs.VersionStep.{get_action}
@@ -134,7 +137,10 @@ single_of (c.Delta words name) = single (λ who. locking (delta_change words who
 single_of (c.Unget words operands) =
     single (λ who. locking (unget_change words who.stamp (has_heading operands))) (words_in operands) (λ who. (locking_keeps (unget_change words who.stamp (has_heading operands))).names)
 single_of (c.Sact operands) = single (λ who. sact_action (has_heading operands)) (words_in operands) (λ who. (sact_keeps (has_heading operands)).names)
+single_of (c.Tell operands) = single (λ who. pending_action false) (words_in operands) (λ who. (pending_keeps false).names)
+single_of (c.Check operands) = single (λ who. pending_action true) (words_in operands) (λ who. (pending_keeps true).names)
 single_of (c.Rmdel sid operands) = single (λ who. locking (rmdel_change sid who.stamp)) (words_in operands) (λ who. (locking_keeps (rmdel_change sid who.stamp)).names)
+single_of (c.Cdc words operands) = single (λ who. locking (cdc_change words who.stamp)) (words_in operands) (λ who. (locking_keeps (cdc_change words who.stamp)).names)
 single_of (c.Prs words operands) = single (λ who. prs_action words who.place) (words_in operands) (λ who. (prs_keeps words who.place).names)
 single_of (c.What first operands) = single (λ who. what_action first) (words_in operands) (λ who. (what_keeps first).names)
 single_of (c.Recover operands) = single (λ who. recover_action) (words_in operands) (λ who. recover_keeps.names)

@@ -12,6 +12,8 @@ ghost use Rattle.sccs_steps.specs.declared.faults.Fault.TheVariants as ends;
 ghost use Rattle.sccs_transactions.specs.Changes.{locking};
 ghost use Rattle.sccs_delta.specs.DeltaStep.{delta_change};
 ghost use Rattle.sccs_edit.specs.UngetStep.{unget_change};
+ghost use Rattle.sccs_cdc.specs.CdcStep.{cdc_change};
+ghost use Rattle.sccs_front.specs.PendingStep.{pending_action};
 ghost use Rattle.sccs_rcs.specs.ImportStep.{import_change};
 ghost use Rattle.sccs_top.specs.Runs.{LeavesInput, LeavesSingle, MakesSteps, RecoversRun, RunsCommand, RunsMeant, SpeaksWords, StopsSteps, UnlockedSteps, action_of, admin_in, admin_there, caller, caller_by, get_in, has_heading, hushed, is_silent, list_in, only_reads, operands_of, steps_answer, val_words_of, words_in, words_take_input};
 
@@ -22,9 +24,11 @@ use sccs_admin::Admin;
 use sccs_alter::{Alter, Check};
 use sccs_base::{Line, Name, Sink, Source, Words};
 use sccs_batch::run_batch;
+use sccs_cdc::Cdc;
 use sccs_delta::Delta;
 use sccs_disk::Disk;
 use sccs_edit::{Sact, Unget};
+use sccs_front::Entries;
 use sccs_get::{Get, Reserve};
 use sccs_prs::Prs;
 use sccs_rcs::Import;
@@ -39,7 +43,8 @@ use sccs_transactions::Locking;
 use sccs_val::run_val;
 use sccs_what::What;
 use sccs_words::{
-    AdminWords, Command, DeltaWords, GetWords, Operands, UngetWords, WordsFault, read_words,
+    AdminWords, CdcWords, Command, DeltaWords, GetWords, Operands, UngetWords, WordsFault,
+    read_words,
 };
 use std::alloc::Global;
 
@@ -231,6 +236,20 @@ fn run_unget<I: Source, O: Sink, E: Sink, D: Disk>(
     run_ordinary(alloc, Locking { change }, operands, quiet, streams)
 }
 
+// tell and check
+fn run_pending<I: Source, O: Sink, E: Sink, D: Disk>(
+    alloc: Global,
+    whole: bool,
+    operands: &Operands,
+    quiet: bool,
+    streams: &mut Streams<I, O, E, D>,
+) -> Result<u8, Fault>
+    ensures loans { SameLoans streams.old streams.new }
+    ensures run { RunsOperands (hushed None quiet (pending_action whole)) (words_in operands.now) result (setting I.Source O.Sink E.Sink D.Disk streams.old) (setting I.Source O.Sink E.Sink D.Disk streams.new) }
+{
+    run_list(alloc, &Entries { whole }, operands, quiet, streams)
+}
+
 // import
 fn run_import<I: Source, O: Sink, E: Sink, D: Disk>(
     alloc: Global,
@@ -243,6 +262,23 @@ fn run_import<I: Source, O: Sink, E: Sink, D: Disk>(
 {
     let heading = has_heading(operands);
     let change = Import { heading };
+    run_ordinary(alloc, Locking { change }, operands, quiet, streams)
+}
+
+// cdc
+fn run_cdc<I: Source, O: Sink, E: Sink, D: Disk>(
+    alloc: Global,
+    words: &CdcWords,
+    operands: &Operands,
+    stamp: &Stamp,
+    quiet: bool,
+    streams: &mut Streams<I, O, E, D>,
+) -> Result<u8, Fault>
+    requires moment { IsMoment stamp.now.moment }
+    ensures loans { SameLoans streams.old streams.new }
+    ensures run { RunsOperands (hushed None quiet (locking (cdc_change words.now stamp.now))) (words_in operands.now) result (setting I.Source O.Sink E.Sink D.Disk streams.old) (setting I.Source O.Sink E.Sink D.Disk streams.new) }
+{
+    let change = Cdc { words, stamp };
     run_ordinary(alloc, Locking { change }, operands, quiet, streams)
 }
 
@@ -301,10 +337,13 @@ fn run_single<I: Source, O: Sink, E: Sink, D: Disk>(
             let heading = has_heading(operands);
             run_ordinary(alloc, Sact { heading }, operands, quiet, streams)
         }
+        Command::Tell(operands) => run_pending(alloc, false, operands, quiet, streams),
+        Command::Check(operands) => run_pending(alloc, true, operands, quiet, streams),
         Command::Rmdel(sid, operands) => {
             let change = Rmdel { sid, stamp };
             run_ordinary(alloc, Locking { change }, operands, quiet, streams)
         }
+        Command::Cdc(words, operands) => run_cdc(alloc, words, operands, stamp, quiet, streams),
         Command::Prs(words, operands) => {
             run_ordinary(alloc, Prs { words, place }, operands, quiet, streams)
         }
@@ -381,7 +420,7 @@ fn run_meant<I: Source, O: Sink, E: Sink, D: Disk>(
 /// Does a command. The words are those behind the program's name; `stamp` is its moment, of the years
 /// 1969 to 2068, and its login, `place` the folder's path. Texts go to `out`, messages to `err`.
 ///
-/// Built are admin, get, delta, sact, unget, rmdel, prs, val, what, recover, import, batch and soak.
+/// Built are admin, get, delta, sact, tell, check, unget, rmdel, cdc, prs, val, what, recover, import, batch and soak.
 ///
 /// A stop at any moment of a run that began on a calm disk, with safe operands, leaves what recovers on all
 /// names as after the same number of steps, no fewer than are acknowledged; and s-files and p-files are firm

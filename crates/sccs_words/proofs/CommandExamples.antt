@@ -44,8 +44,20 @@ commands :
     × Says (codes "batch" ∷ []) 0 0
     × Says (codes "soak" ∷ codes "1" ∷ []) 0 0
     × Says (codes "soak" ∷ codes "2000" ∷ []) 0 0
+    × Says (codes "cdc" ∷ codes "-r1.2" ∷ codes "-y" ∷ codes "s.a" ∷ []) 0 0
+    × Says (codes "cdc" ∷ codes "-r1.2" ∷ codes "-m" ∷ codes "!m1" ∷ codes "s.a" ∷ codes "s.b" ∷ []) 0 0
 unfolding meaning utility_of line_meaning find_option scanned letters turn usage_fault use_fault first_from operand_fault end_fault value_of values_of split_from is_login number number_at digits_after byte_at sid_of numbers_after spec_of list_of ranges_of piece_at range_at last_at sid_at branch_at component_at cutoff_of skip
-commands = (refl, refl, refl, refl, refl, refl, refl, refl, refl, refl, refl, refl, refl, refl, refl, refl, refl, refl, refl, refl, refl, refl, refl, refl, refl, refl, refl)
+commands = (refl, refl, refl, refl, refl, refl, refl, refl, refl, refl, refl, refl, refl, refl, refl, refl, refl, refl, refl, refl, refl, refl, refl, refl, refl, refl, refl, refl, refl)
+
+-- tell and check, as sact
+pending_edits :
+    Says (codes "tell" ∷ codes "s.a" ∷ codes "s.b" ∷ []) 0 0
+    × Says (codes "check" ∷ codes "-" ∷ []) 0 0
+    × Says (codes "check" ∷ codes "-s" ∷ codes "s.a" ∷ []) 2 2
+    × Says (codes "tell" ∷ codes "s.a" ∷ codes "-" ∷ []) 5 3
+    × Says (codes "tell" ∷ []) 7 2
+unfolding meaning utility_of line_meaning find_option scanned letters turn usage_fault use_fault first_from operand_fault end_fault value_of values_of split_from is_login number number_at digits_after byte_at sid_of numbers_after spec_of list_of ranges_of piece_at range_at last_at sid_at branch_at component_at cutoff_of skip
+pending_edits = (refl, refl, refl, refl, refl)
 
 -- the bits of val: 64 for a fault of an option, 128 for no operand
 bits :

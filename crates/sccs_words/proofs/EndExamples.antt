@@ -64,8 +64,9 @@ no_operand :
     × Says (codes "recover" ∷ []) 7 2
     × Says (codes "import" ∷ []) 7 2
     × Says (codes "soak" ∷ []) 7 2
+    × Says (codes "cdc" ∷ codes "-r1.2" ∷ codes "-y" ∷ []) 7 4
 unfolding meaning utility_of line_meaning find_option scanned letters turn usage_fault use_fault first_from operand_fault end_fault value_of values_of split_from is_login number number_at digits_after byte_at sid_of numbers_after spec_of list_of ranges_of piece_at range_at last_at sid_at branch_at component_at cutoff_of skip
-no_operand = (refl, refl, refl, refl, refl, refl, refl, refl, refl, refl, refl)
+no_operand = (refl, refl, refl, refl, refl, refl, refl, refl, refl, refl, refl, refl)
 
 -- an option that is needed
 option_needed :
@@ -75,8 +76,12 @@ option_needed :
     × Says (codes "admin" ∷ codes "-r2" ∷ codes "-n" ∷ codes "s.a" ∷ []) 8 5
     × Says (codes "admin" ∷ codes "-mm1" ∷ codes "s.a" ∷ []) 8 4
     × Says (codes "admin" ∷ codes "-y" ∷ codes "s.a" ∷ []) 8 4
+    × Says (codes "cdc" ∷ codes "s.a" ∷ []) 8 3
+    × Says (codes "cdc" ∷ codes "-r1.2" ∷ codes "s.a" ∷ []) 8 4
+    × Says (codes "cdc" ∷ codes "-mm1" ∷ codes "s.a" ∷ []) 8 4
+    × Says (codes "cdc" ∷ codes "-y" ∷ codes "s.a" ∷ []) 8 4
 unfolding meaning utility_of line_meaning find_option scanned letters turn usage_fault use_fault first_from operand_fault end_fault value_of values_of split_from is_login number number_at digits_after byte_at sid_of numbers_after spec_of list_of ranges_of piece_at range_at last_at sid_at branch_at component_at cutoff_of skip
-option_needed = (refl, refl, refl, refl, refl, refl)
+option_needed = (refl, refl, refl, refl, refl, refl, refl, refl, refl, refl)
 
 -- too many operands
 too_many :

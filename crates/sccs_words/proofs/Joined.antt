@@ -111,6 +111,8 @@ no_dash u.Get = refl
 no_dash u.Delta = refl
 no_dash u.Unget = refl
 no_dash u.Sact = refl
+no_dash u.Tell = refl
+no_dash u.Check = refl
 no_dash u.Rmdel = refl
 no_dash u.Prs = refl
 no_dash u.Val = refl
@@ -119,6 +121,7 @@ no_dash u.Recover = refl
 no_dash u.Import = refl
 no_dash u.Batch = refl
 no_dash u.Soak = refl
+no_dash u.Cdc = refl
 
 no_dash_row : (option : Option OptionSpec) (a : ℕ) → option ≡ None → option ≡ Some (Plain a) → ⊥
 no_dash_row option a none plain = cc

@@ -10,7 +10,7 @@ use Rattle.sccs_words.specs.Values.{value_fits, sid_value, name_value, soak_numb
 use Rattle.sccs_words.specs.Scan.{Uses, Kind, Letters, Ends, Operand, CommandLine, used, turn, turn_by, after_turn, letters, word_kind, by_kind, scanned}
 use Rattle.sccs_words.specs.Judge.{first_usage, usage, option_form, value_fault, is_given_twice, is_excluded, known_fault, fault_by, use_fault, first_from, uses_fault, dash_with_other, operand_fits, operand_fault, operands_fault, none_though_wanted, met, too_many, end_fault, usage_fault}
 use Rattle.sccs_words.specs.Records.{value_of}
-use Rattle.sccs_words.specs.Meaning.{first_text, with_name, with_sid, with_number, line_command, words_fault, unless_fault, line_meaning, meaning_by, utility_of, meaning}
+use Rattle.sccs_words.specs.Meaning.{first_text, with_name, with_sid, with_changes, with_number, line_command, words_fault, unless_fault, line_meaning, meaning_by, utility_of, meaning}
 use Rattle.sccs_words.specs.declared.tables.OptionSpec.{OptionSpec}
 use Rattle.sccs_words.specs.declared.tables.OptionSpec.TheVariants.{Plain, Joined, Valued, Repeated}
 use Rattle.sccs_words.specs.declared.tables.OperandRule.{OperandRule}
@@ -170,7 +170,10 @@ refusal_in last u.Get l is = first_fault_in last u.Get l is
 refusal_in last u.Delta l is = first_fault_in last u.Delta l is
 refusal_in last u.Unget l is = first_fault_in last u.Unget l is
 refusal_in last u.Sact l is = first_fault_in last u.Sact l is
+refusal_in last u.Tell l is = first_fault_in last u.Tell l is
+refusal_in last u.Check l is = first_fault_in last u.Check l is
 refusal_in last u.Rmdel l is = first_fault_in last u.Rmdel l is
+refusal_in last u.Cdc l is = first_fault_in last u.Cdc l is
 refusal_in last u.Prs l is = first_fault_in last u.Prs l is
 refusal_in last u.Val l is = tt
 refusal_in last u.What l is = first_fault_in last u.What l is
@@ -189,6 +192,10 @@ sid_in : (last : ℕ) (operands : List (List ℕ)) (sid : Option Sid) → 1 ≤ 
 sid_in last operands None low = (low, omega arith)
 sid_in last operands (Some sid) low = tt
 
+changes_in : (last : ℕ) (uses : List Use) (operands : List (List ℕ)) (sid : Option Sid) → 1 ≤ last → MeantIn last (with_changes uses operands last sid)
+changes_in last uses operands None low = (low, omega arith)
+changes_in last uses operands (Some sid) low = tt
+
 number_in : (last : ℕ) (number : Option ℕ) → 1 ≤ last → MeantIn last (with_number last number)
 number_in last None low = (low, omega arith)
 number_in last (Some number) low = tt
@@ -199,7 +206,10 @@ command_in last u.Get l low = tt
 command_in last u.Delta l low = name_in last l.uses (option_and_then name_value (first_text l.operands)) low
 command_in last u.Unget l low = tt
 command_in last u.Sact l low = tt
+command_in last u.Tell l low = tt
+command_in last u.Check l low = tt
 command_in last u.Rmdel l low = sid_in last l.operands (option_and_then sid_value (value_of opt.r l.uses)) low
+command_in last u.Cdc l low = changes_in last l.uses l.operands (option_and_then sid_value (value_of opt.r l.uses)) low
 command_in last u.Prs l low = tt
 command_in last u.Val l low = tt
 command_in last u.What l low = tt

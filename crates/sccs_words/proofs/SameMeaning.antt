@@ -9,9 +9,9 @@ use Rattle.sccs_words.specs.Synopsis.{options_of, exclusions_of, needs_of, opera
 use Rattle.sccs_words.specs.Values.{value_fits, sid_value, name_value, soak_number}
 use Rattle.sccs_words.specs.Scan.{CommandLine, scanned_line}
 use Rattle.sccs_words.specs.Judge.{has_use, first_usage, usage, is_bare, excludes_by, is_excluded, option_form, value_fault, repeats, is_given_twice, known_fault, fault_by, use_fault, first_from, uses_fault, is_named, dash_with_other, wants, operand_fits, operand_fault, operands_fault, none_though_wanted, met, takes_one, too_many, end_fault, usage_fault}
-use Rattle.sccs_words.specs.Records.{usage_bit, value_in, value_of, with_value, values_of, get_words, delta_line_words, unget_words, prs_words, admin_words, val_words, operand_words, is_option_fault}
+use Rattle.sccs_words.specs.Records.{usage_bit, value_in, value_of, with_value, values_of, get_words, delta_line_words, unget_words, cdc_words, prs_words, admin_words, val_words, operand_words, is_option_fault}
 use Rattle.sccs_words.specs.Unplaced.{argument_only, unplaced, SameUses, kinds}
-use Rattle.sccs_words.specs.Meaning.{first_text, with_name, with_sid, with_number, line_command, words_fault, unless_fault, line_meaning}
+use Rattle.sccs_words.specs.Meaning.{first_text, with_name, with_sid, with_changes, with_number, line_command, words_fault, unless_fault, line_meaning}
 use Rattle.sccs_sid.specs.declared.sids.Sid.{Sid}
 use Rattle.sccs_words.specs.declared.commands.ValWords.{ValWords}
 use Rattle.sccs_words.specs.declared.tables.OptionSpec.{OptionSpec}
@@ -33,6 +33,7 @@ use Rattle.sccs_words.specs.declared.commands.AdminWords.{AdminWords}
 use Rattle.sccs_words.specs.declared.commands.GetWords.{GetWords}
 use Rattle.sccs_words.specs.declared.commands.DeltaWords.{DeltaWords}
 use Rattle.sccs_words.specs.declared.commands.UngetWords.{UngetWords}
+use Rattle.sccs_words.specs.declared.commands.CdcWords.{CdcWords}
 use Rattle.sccs_words.specs.declared.commands.PrsWords.{PrsWords}
 
 -- ---- what is looked up
@@ -165,6 +166,9 @@ operands_same rule uses first words = here_same (operand_fault rule uses first) 
 
 met_same : (uses : List Use) (need : Need) → met uses need ≡ met (map unplaced uses) need
 met_same uses (needs.Always x) = has_same x uses
+met_same uses (needs.Either x y) =
+    let a : has_use x uses ≡ has_use x (map unplaced uses) = has_same x uses in
+    let b : has_use y uses ≡ has_use y (map unplaced uses) = has_same y uses in cc
 met_same uses (needs.With letter x y) =
     let a : has_use letter uses ≡ has_use letter (map unplaced uses) = has_same letter uses in
     let b : has_use x uses ≡ has_use x (map unplaced uses) = has_same x uses in
@@ -214,7 +218,10 @@ refusal_same u.Get l n = first_fault_same u.Get l n
 refusal_same u.Delta l n = first_fault_same u.Delta l n
 refusal_same u.Unget l n = first_fault_same u.Unget l n
 refusal_same u.Sact l n = first_fault_same u.Sact l n
+refusal_same u.Tell l n = first_fault_same u.Tell l n
+refusal_same u.Check l n = first_fault_same u.Check l n
 refusal_same u.Rmdel l n = first_fault_same u.Rmdel l n
+refusal_same u.Cdc l n = first_fault_same u.Cdc l n
 refusal_same u.Prs l n = first_fault_same u.Prs l n
 refusal_same u.Val l n = refl
 refusal_same u.What l n = first_fault_same u.What l n
@@ -235,6 +242,9 @@ delta_same uses = rw (value_same opt.m uses) (rw (has_same opt.n uses) (rw (valu
 
 unget_same : (uses : List Use) → unget_words uses ≡ unget_words (map unplaced uses)
 unget_same uses = rw (has_same opt.n uses) (rw (value_same opt.r uses) (rw (has_same opt.s uses) refl))
+
+cdc_same : (sid : Sid) (uses : List Use) → cdc_words sid uses ≡ cdc_words sid (map unplaced uses)
+cdc_same sid uses = rw (value_same opt.m uses) (rw (has_same opt.y uses) (rw (value_same opt.y uses) refl))
 
 prs_same : (uses : List Use) → prs_words uses ≡ prs_words (map unplaced uses)
 prs_same uses =
@@ -271,6 +281,14 @@ sid_same operands n (Some sid) (Some other) is = cc
 sid_same operands n None (Some other) is = cc
 sid_same operands n (Some sid) None is = cc
 
+changes_same : (uses : List Use) (operands : List (List ℕ)) (n : ℕ) (a b : Option Sid) → a ≡ b → kinds (with_changes uses operands n a) ≡ kinds (with_changes (map unplaced uses) operands 0 b)
+changes_same uses operands n None None is = refl
+changes_same uses operands n (Some sid) (Some other) is =
+    let same : sid ≡ other = cc in
+    ap (λ (words : CdcWords). Ok (c.Cdc words (operand_words operands))) (cdc_same sid uses ∙ ap (λ s. cdc_words s (map unplaced uses)) same)
+changes_same uses operands n None (Some other) is = cc
+changes_same uses operands n (Some sid) None is = cc
+
 number_same : (n : ℕ) (number : Option ℕ) → kinds (with_number n number) ≡ kinds (with_number 0 number)
 number_same n None = refl
 number_same n (Some number) = refl
@@ -281,7 +299,10 @@ command_same u.Get l n = ap (λ (words : GetWords). Ok (c.Get words (operand_wor
 command_same u.Delta l n = name_same l.uses n (option_and_then name_value (first_text l.operands))
 command_same u.Unget l n = ap (λ (words : UngetWords). Ok (c.Unget words (operand_words l.operands))) (unget_same l.uses)
 command_same u.Sact l n = refl
+command_same u.Tell l n = refl
+command_same u.Check l n = refl
 command_same u.Rmdel l n = sid_same l.operands n _ _ (ap (option_and_then sid_value) (value_same opt.r l.uses))
+command_same u.Cdc l n = changes_same l.uses l.operands n _ _ (ap (option_and_then sid_value) (value_same opt.r l.uses))
 command_same u.Prs l n = ap (λ (words : PrsWords). Ok (c.Prs words (operand_words l.operands))) (prs_same l.uses)
 command_same u.Val l n = ap (λ (words : ValWords). Ok (c.Val words)) (val_same l)
 command_same u.What l n = ap (λ (silent : Bool). Ok (c.What silent (operand_words l.operands))) (has_same opt.s l.uses)

@@ -134,6 +134,7 @@ wants _ = true
 
 abbrev pub met : List Use → Need → Bool
 met uses (needs.Always x) = has_use x uses
+met uses (needs.Either x y) = has_use x uses || has_use y uses
 met uses (needs.With letter x y) = not (has_use letter uses) || (has_use x uses || has_use y uses)
 
 abbrev pub takes_one : OperandRule → List Use → Bool

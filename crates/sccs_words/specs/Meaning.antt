@@ -8,7 +8,7 @@ use Rattle.sccs_words.specs.UsageKinds as kinds
 use Rattle.sccs_words.specs.Values.{sid_value, name_value, soak_number}
 use Rattle.sccs_words.specs.Scan.{CommandLine, scanned}
 use Rattle.sccs_words.specs.Judge.{has_use, usage_fault}
-use Rattle.sccs_words.specs.Records.{value_of, admin_words, get_words, delta_line_words, unget_words, prs_words, val_words, operand_words}
+use Rattle.sccs_words.specs.Records.{value_of, admin_words, get_words, delta_line_words, unget_words, cdc_words, prs_words, val_words, operand_words}
 use Rattle.sccs_words.specs.declared.scanning.Use.{Use}
 use Rattle.sccs_words.specs.declared.tables.Utility.{Utility}
 use Rattle.sccs_words.specs.declared.tables.Utility.TheVariants as u
@@ -27,12 +27,16 @@ GivesCommand (Err faults.Memory) meant = Unit {0}
 abbrev pub bad : ℕ → ℕ → Result Command Usage
 bad kind word = Err (record { kind = kind; word = word })
 
+-- the utilities that POSIX lacks: our own, and cdc
 abbrev pub own_utility : List ℕ → Option Utility
 own_utility word =
     if bytes_eq word (codes "recover") then Some u.Recover
+    else if bytes_eq word (codes "tell") then Some u.Tell
+    else if bytes_eq word (codes "check") then Some u.Check
     else if bytes_eq word (codes "import") then Some u.Import
     else if bytes_eq word (codes "batch") then Some u.Batch
     else if bytes_eq word (codes "soak") then Some u.Soak
+    else if bytes_eq word (codes "cdc") then Some u.Cdc
     else None
 
 unfoldable pub utility_of : List ℕ → Option Utility
@@ -60,6 +64,10 @@ abbrev pub with_sid : List (List ℕ) → ℕ → Option Sid → Result Command 
 with_sid operands n None = bad kinds.option_needed n
 with_sid operands n (Some sid) = Ok (c.Rmdel sid (operand_words operands))
 
+abbrev pub with_changes : List Use → List (List ℕ) → ℕ → Option Sid → Result Command Usage
+with_changes uses operands n None = bad kinds.option_needed n
+with_changes uses operands n (Some sid) = Ok (c.Cdc (cdc_words sid uses) (operand_words operands))
+
 abbrev pub with_number : ℕ → Option ℕ → Result Command Usage
 with_number n None = bad kinds.no_operand n
 with_number n (Some number) = Ok (c.Soak number)
@@ -71,7 +79,10 @@ line_command u.Get l n = Ok (c.Get (get_words l.uses) (operand_words l.operands)
 line_command u.Delta l n = with_name l.uses n (option_and_then name_value (first_text l.operands))
 line_command u.Unget l n = Ok (c.Unget (unget_words l.uses) (operand_words l.operands))
 line_command u.Sact l n = Ok (c.Sact (operand_words l.operands))
+line_command u.Tell l n = Ok (c.Tell (operand_words l.operands))
+line_command u.Check l n = Ok (c.Check (operand_words l.operands))
 line_command u.Rmdel l n = with_sid l.operands n (option_and_then sid_value (value_of opt.r l.uses))
+line_command u.Cdc l n = with_changes l.uses l.operands n (option_and_then sid_value (value_of opt.r l.uses))
 line_command u.Prs l n = Ok (c.Prs (prs_words l.uses) (operand_words l.operands))
 line_command u.Val l n = Ok (c.Val (val_words l))
 line_command u.What l n = Ok (c.What (has_use opt.s l.uses) (operand_words l.operands))

@@ -2,6 +2,7 @@
 use Rattle.std.specs.Prelude.{ℕ, ◌+◌, ◌==◌, Bool, true, false, ◌||◌, List, [], ◌∷◌, Option, None, Some, is_some, option_and_then, if◌then◌else◌}
 use Rattle.sccs_base.specs.Cut.{text_of}
 use Rattle.sccs_sid.specs.Reading.{is_empty}
+use Rattle.sccs_sid.specs.declared.sids.Sid.{Sid}
 use Rattle.sccs_words.specs.Letters as opt
 use Rattle.sccs_words.specs.MrWords.{mr_words}
 use Rattle.sccs_words.specs.Values.{sid_value, spec_value, moment_value, list_value, release_value, name_value}
@@ -19,6 +20,7 @@ use Rattle.sccs_words.specs.declared.commands.AdminWords.{AdminWords}
 use Rattle.sccs_words.specs.declared.commands.GetWords.{GetWords}
 use Rattle.sccs_words.specs.declared.commands.DeltaWords.{DeltaWords}
 use Rattle.sccs_words.specs.declared.commands.UngetWords.{UngetWords}
+use Rattle.sccs_words.specs.declared.commands.CdcWords.{CdcWords}
 use Rattle.sccs_words.specs.declared.commands.PrsWords.{PrsWords}
 use Rattle.sccs_words.specs.declared.commands.ValWords.{ValWords}
 
@@ -87,6 +89,9 @@ delta_line_words uses = record {
 
 abbrev pub unget_words : List Use → UngetWords
 unget_words uses = record { keep = has_use opt.n uses; sid = option_and_then sid_value (value_of opt.r uses); silent = has_use opt.s uses }
+
+abbrev pub cdc_words : Sid → List Use → CdcWords
+cdc_words sid uses = record { sid = sid; mrs = mrs_of (value_of opt.m uses); comment = comment_of uses }
 
 abbrev pub prs_words : List Use → PrsWords
 prs_words uses = record {

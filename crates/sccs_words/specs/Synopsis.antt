@@ -1,4 +1,4 @@
--- The synopsis of each utility: POSIX, Shell and Utilities.
+-- The synopsis of each utility: POSIX, Shell and Utilities; of cdc, which POSIX lacks, as SCCS has it.
 use Rattle.std.specs.Prelude.{ℕ, ◌==◌, List, [], ◌∷◌, Option, None, Some, if◌then◌else◌}
 use Rattle.sccs_words.specs.Letters as opt
 use Rattle.sccs_words.specs.declared.tables.OptionSpec.{OptionSpec}
@@ -7,11 +7,11 @@ use Rattle.sccs_words.specs.declared.tables.Form.TheVariants as forms
 use Rattle.sccs_words.specs.declared.tables.Exclusion.{Exclusion}
 use Rattle.sccs_words.specs.declared.tables.Exclusion.TheVariants.{Both, Bare, Alone}
 use Rattle.sccs_words.specs.declared.tables.Need.{Need}
-use Rattle.sccs_words.specs.declared.tables.Need.TheVariants.{Always, With}
+use Rattle.sccs_words.specs.declared.tables.Need.TheVariants.{Always, Either, With}
 use Rattle.sccs_words.specs.declared.tables.OperandRule.{OperandRule}
 use Rattle.sccs_words.specs.declared.tables.OperandRule.TheVariants.{Nothing, Sfile, Number, Many, Named, OneWith}
 use Rattle.sccs_words.specs.declared.tables.Utility.{Utility}
-use Rattle.sccs_words.specs.declared.tables.Utility.TheVariants.{Admin, Get, Delta, Unget, Sact, Rmdel, Prs, Val, What, Recover, Import, Batch, Soak}
+use Rattle.sccs_words.specs.declared.tables.Utility.TheVariants.{Admin, Get, Delta, Unget, Sact, Tell, Check, Rmdel, Cdc, Prs, Val, What, Recover, Import, Batch, Soak}
 
 -- the options of a utility
 abbrev pub options_of : Utility → List OptionSpec
@@ -57,8 +57,15 @@ options_of Unget =
     Plain opt.s ∷
     []
 options_of Sact = []
+options_of Tell = []
+options_of Check = []
 options_of Rmdel =
     Valued opt.r forms.Sid ∷
+    []
+options_of Cdc =
+    Valued opt.m forms.Mrs ∷
+    Valued opt.r forms.Sid ∷
+    Joined opt.y forms.Any ∷
     []
 options_of Prs =
     Plain opt.a ∷
@@ -113,6 +120,10 @@ needs_of Admin =
     []
 needs_of Rmdel =
     Always opt.r ∷
+    []
+needs_of Cdc =
+    Always opt.r ∷
+    Either opt.m opt.y ∷
     []
 needs_of Prs =
     With opt.c opt.e opt.l ∷

@@ -27,6 +27,7 @@ HasValidValues (c.Get words operands) = AreGetValues words
 HasValidValues (c.Delta words name) = IfSome words.sid IsSid
 HasValidValues (c.Unget words operands) = IfSome words.sid IsSid
 HasValidValues (c.Rmdel sid operands) = IsSid sid
+HasValidValues (c.Cdc words operands) = IsSid words.sid
 HasValidValues (c.Prs words operands) = ArePrsValues words
 HasValidValues (c.Soak number) = number ≤ 2000
 HasValidValues _ = Unit {0}

@@ -3,7 +3,7 @@ ghost use Rattle.std.specs.Prelude.{◌≡◌};
 use sccs_base::{Bytes, Memory, Name, Text, Words};
 use sccs_sid::{Moment, Sid, SidList, Spec};
 
-/// A command, and the words that it was given: POSIX, Shell and Utilities.
+/// A command, and the words that it was given: POSIX, Shell and Utilities; cdc, as SCCS has it.
 #[derive(Drop)]
 pub enum Command {
     Admin(AdminWords, Operands),
@@ -11,7 +11,10 @@ pub enum Command {
     Delta(DeltaWords, Name),
     Unget(UngetWords, Operands),
     Sact(Operands),
+    Tell(Operands),
+    Check(Operands),
     Rmdel(Sid, Operands),
+    Cdc(CdcWords, Operands),
     Prs(PrsWords, Operands),
     Val(ValWords),
     What(bool, Operands),
@@ -87,6 +90,14 @@ pub struct UngetWords {
     pub keep: bool,
     pub sid: Option<Sid>,
     pub silent: bool,
+}
+
+/// The words of cdc: the delta, the MRs to be added or, behind `!`, taken away, and the comment.
+#[derive(Drop)]
+pub struct CdcWords {
+    pub sid: Sid,
+    pub mrs: Words,
+    pub comment: Option<Text>,
 }
 
 /// The words of prs.

@@ -283,6 +283,7 @@ fn met(uses: &[Use], need: Need) -> bool
 {
     match need {
         Need::Always(letter) => has(uses, letter),
+        Need::Either(a, b) => has(uses, a) || has(uses, b),
         Need::With(letter, a, b) => !has(uses, letter) || has(uses, a) || has(uses, b),
     }
 }

@@ -1,7 +1,7 @@
 ghost use Rattle.std.specs.Prelude.{◌≡◌, ◌+◌, ◌^◌, ◌<◌, ◌≤◌, length, option_and_then, IfOk, IfSome, Ok};
 ghost use Rattle.sccs_words.specs.Letters as opt;
 ghost use Rattle.sccs_words.specs.declared.commands.Command.TheVariants as commands;
-ghost use Rattle.sccs_words.specs.Meaning.{GivesCommand, meaning, first_text, with_name, with_sid, with_number, own_utility, utility_of as utility_spec, line_command as command_spec, words_fault as refusal_spec, line_meaning as line_spec};
+ghost use Rattle.sccs_words.specs.Meaning.{GivesCommand, meaning, first_text, with_name, with_sid, with_changes, with_number, own_utility, utility_of as utility_spec, line_command as command_spec, words_fault as refusal_spec, line_meaning as line_spec};
 ghost use Rattle.sccs_words.specs.Records.{value_of as value_spec, admin_words as admin_spec, get_words as get_spec, prs_words as prs_spec, operand_words as operands_spec};
 ghost use Rattle.sccs_words.specs.Scan.{end_of};
 ghost use Rattle.sccs_words.specs.Scanned.{command_line};
@@ -12,8 +12,8 @@ use crate::command_lines::CommandLine;
 use crate::commands::{Command, NO_OPERAND, OPTION_NEEDED, UNKNOWN_UTILITY, Usage, WordsFault};
 use crate::judging::{first_fault, has};
 use crate::records::{
-    admin_words, delta_words, get_words, name_in, operands_of, prs_words, sid_at, unget_words,
-    val_words,
+    admin_words, cdc_words, delta_words, get_words, name_in, operands_of, prs_words, sid_at,
+    unget_words, val_words,
 };
 use crate::scanning::{Use, scan_words};
 use crate::tables::Utility;
@@ -21,24 +21,30 @@ use crate::values::soak_number;
 use sccs_base::{Bytes, Memory, Name, Words};
 use std::alloc::Global;
 
-// the utilities that are our own
+// the utilities that the standard lacks: our own, and cdc
 fn own_utility(word: &[u8]) -> Option<Utility>
     ensures { result ≡ own_utility word.now }
 {
     if word == b"recover".as_slice() {
         Some(Utility::Recover)
+    } else if word == b"tell".as_slice() {
+        Some(Utility::Tell)
+    } else if word == b"check".as_slice() {
+        Some(Utility::Check)
     } else if word == b"import".as_slice() {
         Some(Utility::Import)
     } else if word == b"batch".as_slice() {
         Some(Utility::Batch)
     } else if word == b"soak".as_slice() {
         Some(Utility::Soak)
+    } else if word == b"cdc".as_slice() {
+        Some(Utility::Cdc)
     } else {
         None
     }
 }
 
-// the utilities of the standard, and our own
+// the utilities of the standard, and those that it lacks
 #[tactic(auto, unfolding(crate::specs::Meaning::utility_of))]
 fn utility_of(word: &[u8]) -> Option<Utility>
     ensures { result ≡ utility_spec word.now }
@@ -146,6 +152,23 @@ fn rmdel_of(alloc: Global, line: &CommandLine<'_>) -> Result<Command, WordsFault
     }
 }
 
+fn cdc_of(alloc: Global, line: &CommandLine<'_>) -> Result<Command, WordsFault>
+    ensures value { GivesCommand result (with_changes line.now.uses.now line.now.operands.now (end_of (command_line line.now)) (option_and_then sid_spec (value_spec opt.r line.now.uses.now))) }
+    ensures valid { IfOk result HasValidValues }
+{
+    match sid_at(line.uses, b'r') {
+        None => Err(WordsFault::Usage(Usage {
+            kind: OPTION_NEEDED,
+            word: line.end(),
+        })),
+        Some(sid) => {
+            let operands = operands_of(alloc, line.operands)?;
+            let words = cdc_words(alloc, sid, line.uses)?;
+            Ok(Command::Cdc(words, operands))
+        }
+    }
+}
+
 fn soak_of(line: &CommandLine<'_>) -> Result<Command, WordsFault>
     ensures value { GivesCommand result (with_number (end_of (command_line line.now)) (option_and_then soak_spec (first_text line.now.operands.now))) }
     ensures valid { IfOk result HasValidValues }
@@ -176,7 +199,10 @@ fn command_of(
         Utility::Delta => delta_of(alloc, line),
         Utility::Unget => Ok(Command::Unget(unget_words(uses), operands_of(alloc, operands)?)),
         Utility::Sact => Ok(Command::Sact(operands_of(alloc, operands)?)),
+        Utility::Tell => Ok(Command::Tell(operands_of(alloc, operands)?)),
+        Utility::Check => Ok(Command::Check(operands_of(alloc, operands)?)),
         Utility::Rmdel => rmdel_of(alloc, line),
+        Utility::Cdc => cdc_of(alloc, line),
         Utility::Prs => prs_of(alloc, line),
         Utility::Val => Ok(Command::Val(val_words(alloc, line)?)),
         Utility::What => Ok(Command::What(has(uses, b's'), operands_of(alloc, operands)?)),

@@ -5,13 +5,13 @@ ghost use Rattle.sccs_sid.specs.Spec.{IsSpec};
 ghost use Rattle.sccs_sid.specs.SidLists.{IsRange};
 ghost use Rattle.sccs_sid.specs.Moment.{IsMoment};
 ghost use Rattle.sccs_words.specs.ValidValues.{AreGetValues, ArePrsValues};
-ghost use Rattle.sccs_words.specs.Records.{value_in as value_in_spec, value_of as value_spec, values_of as values_spec, mrs_of, option_lines, given_of as given_spec, comment_of as comment_spec, get_words as get_spec, delta_line_words as delta_spec, unget_words as unget_spec, prs_words as prs_spec, admin_words as admin_spec, val_words as val_spec, operand_words as operands_spec, is_from_input as is_from_input_spec, is_option_fault, usage_bit as bit_spec};
+ghost use Rattle.sccs_words.specs.Records.{value_in as value_in_spec, value_of as value_spec, values_of as values_spec, mrs_of, option_lines, given_of as given_spec, comment_of as comment_spec, get_words as get_spec, delta_line_words as delta_spec, unget_words as unget_spec, cdc_words as cdc_spec, prs_words as prs_spec, admin_words as admin_spec, val_words as val_spec, operand_words as operands_spec, is_from_input as is_from_input_spec, is_option_fault, usage_bit as bit_spec};
 ghost use Rattle.sccs_words.specs.Values.{sid_value as sid_spec, spec_value as spec_spec, moment_value as moment_spec, list_value as list_spec, release_value as release_spec, name_value};
 ghost use Rattle.sccs_words.specs.Scanned.{command_line};
 
 use crate::command_lines::CommandLine;
 use crate::commands::{
-    AdminWords, DeltaWords, GetWords, Given, Operands, PrsWords, UngetWords, ValWords,
+    AdminWords, CdcWords, DeltaWords, GetWords, Given, Operands, PrsWords, UngetWords, ValWords,
 };
 use crate::judging::{has, is_dash, operands_fault, uses_fault};
 use crate::scanning::{OptionArgument, Use};
@@ -220,6 +220,14 @@ pub fn unget_words(uses: &[Use]) -> UngetWords
         sid: sid_at(uses, b'r'),
         silent: has(uses, b's'),
     }
+}
+
+pub fn cdc_words(alloc: Global, sid: Sid, uses: &[Use]) -> Result<CdcWords, Memory>
+    ensures { IfOk result (λ r. r ≡ cdc_spec sid uses.now) }
+{
+    let mrs = mrs_at(alloc, uses, b'm')?;
+    let comment = comment_of(alloc, uses)?;
+    Ok(CdcWords { sid, mrs, comment })
 }
 
 pub fn prs_words(alloc: Global, uses: &[Use]) -> Result<PrsWords, Memory>

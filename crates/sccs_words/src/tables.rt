@@ -35,10 +35,11 @@ pub enum Exclusion {
     Alone(u8),
 }
 
-/// Options that are needed: this one always; or one of the last two where the first stands.
+/// Options that are needed: this one always; one of these two always; or one of the last two where the first stands.
 #[derive(Clone, Copy)]
 pub enum Need {
     Always(u8),
+    Either(u8, u8),
     With(u8, u8, u8),
 }
 
@@ -62,7 +63,10 @@ pub enum Utility {
     Delta,
     Unget,
     Sact,
+    Tell,
+    Check,
     Rmdel,
+    Cdc,
     Prs,
     Val,
     What,
@@ -119,6 +123,12 @@ const UNGET: [OptionSpec; 3] = [
 
 const RMDEL: [OptionSpec; 1] = [OptionSpec::Valued(b'r', Form::Sid)];
 
+const CDC: [OptionSpec; 3] = [
+    OptionSpec::Valued(b'm', Form::Mrs),
+    OptionSpec::Valued(b'r', Form::Sid),
+    OptionSpec::Joined(b'y', Form::Any),
+];
+
 const PRS: [OptionSpec; 6] = [
     OptionSpec::Plain(b'a'),
     OptionSpec::Valued(b'c', Form::Cutoff),
@@ -161,6 +171,8 @@ const ADMIN_NEEDS: [Need; 3] = [
 
 const RMDEL_NEEDS: [Need; 1] = [Need::Always(b'r')];
 
+const CDC_NEEDS: [Need; 2] = [Need::Always(b'r'), Need::Either(b'm', b'y')];
+
 const PRS_NEEDS: [Need; 1] = [Need::With(b'c', b'e', b'l')];
 
 impl Utility {
@@ -174,6 +186,7 @@ impl Utility {
             Utility::Delta => &DELTA,
             Utility::Unget => &UNGET,
             Utility::Rmdel => &RMDEL,
+            Utility::Cdc => &CDC,
             Utility::Prs => &PRS,
             Utility::Val => &VAL,
             Utility::What => &WHAT,
@@ -200,6 +213,7 @@ impl Utility {
         match self {
             Utility::Admin => &ADMIN_NEEDS,
             Utility::Rmdel => &RMDEL_NEEDS,
+            Utility::Cdc => &CDC_NEEDS,
             Utility::Prs => &PRS_NEEDS,
             _ => &[],
         }

@@ -50,7 +50,11 @@ const DESCRIBED: &[u8] =
 const WITH_ALL: &[u8] =
     b"\x01h09126\n\x01s 00002/00000/00000\n\x01d D 1.1 21/03/04 05:06:07 ann 1 0\n\x01m 7\n\x01c date and time created 21/03/04 05:06:07 by ann\n\x01e\n\x01u\nbob\n\x01U\n\x01f b\n\x01f v\n\x01t\n\x01T\n\x01I 1\none\ntwo %I%\n\x01E 1\n";
 
-const STOPS: [Stop<'static>; 11] = [
+// the two deltas with another comment of the second
+const THIRD: &[u8] =
+    b"\x01h15231\n\x01s 00001/00000/00002\n\x01d D 1.2 21/03/04 05:08:00 ann 2 1\n\x01c third\n\x01c *** CHANGED *** 21/03/04 05:11:00 ann\n\x01c second\n\x01e\n\x01s 00002/00000/00000\n\x01d D 1.1 21/03/04 05:06:07 ann 1 0\n\x01c date and time created 21/03/04 05:06:07 by ann\n\x01e\n\x01u\n\x01U\n\x01t\n\x01T\n\x01I 1\none\n\x01I 2\nmid\n\x01E 2\ntwo %I%\n\x01E 1\n";
+
+const STOPS: [Stop<'static>; 12] = [
     Stop {
         line: b"admin -i s.a",
         time: b"05:06:07",
@@ -212,6 +216,21 @@ const STOPS: [Stop<'static>; 11] = [
         new: Pair {
             s_file: Some(IMPORTED),
             p_file: None,
+        },
+        g_file: None,
+        locked: false,
+    },
+    Stop {
+        line: b"cdc -r1.2 -ythird s.a",
+        time: b"05:11:00",
+        input: b"",
+        old: Pair {
+            s_file: Some(SECOND),
+            p_file: Some(ENTRY),
+        },
+        new: Pair {
+            s_file: Some(THIRD),
+            p_file: Some(ENTRY),
         },
         g_file: None,
         locked: false,
@@ -430,7 +449,7 @@ fn stopped_rules_recover(rt: HostRuntime) -> Result<(), Fail> {
 }
 
 #[test]
-fn stopped_imports_recover(rt: HostRuntime) -> Result<(), Fail> {
+fn stopped_imports_and_comments_recover(rt: HostRuntime) -> Result<(), Fail> {
     assert!(rt; all_stops_recover(rt.alloc(), &STOPS[10..])?);
     Ok(())
 }
@@ -466,7 +485,7 @@ fn failed_rules_recover(rt: HostRuntime) -> Result<(), Fail> {
 }
 
 #[test]
-fn failed_imports_recover(rt: HostRuntime) -> Result<(), Fail> {
+fn failed_imports_and_comments_recover(rt: HostRuntime) -> Result<(), Fail> {
     assert!(rt; all_faults_recover(rt.alloc(), &STOPS[10..])?);
     Ok(())
 }

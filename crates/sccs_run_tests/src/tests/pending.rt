@@ -277,6 +277,43 @@ fn operands_have_headings(rt: HostRuntime) -> Result<(), Fail> {
     Ok(())
 }
 
+// a line that shows the entry of s.a or none, and leaves it
+fn shown<'a>(line: &'a [u8], status: u8, out: &'a [u8], err: &'a [u8]) -> Row<'a> {
+    Row {
+        case: Case {
+            line,
+            status,
+            out,
+            err,
+            ..LATER
+        },
+        p_file: Some(ENTRY),
+    }
+}
+
+// tell and check, of names with an entry and with none
+fn told_and_checked() -> [Row<'static>; 6] {
+    [
+        shown(b"tell s.a", 0, b"a\n", b""),
+        shown(b"check s.a", 1, ENTRY, b""),
+        shown(b"tell s.c", 0, b"", b""),
+        shown(b"check s.c", 0, b"", b""),
+        shown(b"tell s.c s.a s.d", 1, b"a\n", NO_FILE),
+        shown(b"check s.c a", 1, b"", NO_NAME),
+    ]
+}
+
+const NO_FILE: &[u8] = b"ERROR [s.d]: no such file (03)\n";
+
+const NO_NAME: &[u8] = b"ERROR [a]: not a name of an s-file (01)\n";
+
+#[test]
+fn entries_are_told_and_checked(rt: HostRuntime) -> Result<(), Fail> {
+    let mut disk = disk_with(rt.alloc(), &[], &TWO)?;
+    assert!(rt; all_end(rt.alloc(), &mut disk, SECOND, &told_and_checked())?);
+    Ok(())
+}
+
 // whether a row ends as it should where the s-file has these flags
 fn ends_flagged(alloc: Global, s_file: &[u8], flags: &[u8], row: Row) -> Result<bool, Fail> {
     let file = flagged(alloc, s_file, flags)?;

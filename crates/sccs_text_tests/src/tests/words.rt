@@ -19,6 +19,9 @@ fn utility_number(command: &Command) -> u64 {
         Command::Import(_) => 11,
         Command::Batch => 12,
         Command::Soak(_) => 13,
+        Command::Tell(_) => 14,
+        Command::Check(_) => 15,
+        Command::Cdc(_, _) => 16,
     }
 }
 
@@ -42,7 +45,7 @@ fn kind_and_number(read: Result<Command, WordsFault>) -> (u8, u64) {
 
 #[test]
 fn commands_and_faults(rt: HostRuntime) -> Result<(), Fail> {
-    let examples: [(&[u8], u8, u64); 18] = [
+    let examples: [(&[u8], u8, u64); 22] = [
         (b"admin -n -fb -ymade s.a", 0, 1),
         (b"get -e -r1.2 -i1.3 s.a", 0, 2),
         (b"delta -s -yfirst s.a", 0, 3),
@@ -56,6 +59,10 @@ fn commands_and_faults(rt: HostRuntime) -> Result<(), Fail> {
         (b"import s.a s.b", 0, 11),
         (b"batch", 0, 12),
         (b"soak 2000", 0, 13),
+        (b"tell s.a s.b", 0, 14),
+        (b"check s.a", 0, 15),
+        (b"cdc -r1.2 -y s.a", 0, 16),
+        (b"cdc -r1.2 s.a", 8, 4),
         (b"get -k -q s.a", 2, 3),
         (b"get -e -c75 s.a", 5, 3),
         (b"delta s.a b", 6, 3),

@@ -1,11 +1,11 @@
-use Rattle.std.proofs.Common.{ℕ, List, Ok, ap, subst}
+use Rattle.std.proofs.Common.{ℕ, List, Ok, ap, refl, subst}
 use Rattle.sccs_base.specs.Name.{x_file}
 use Rattle.sccs_disk.specs.Told.{seen}
 use Rattle.sccs_copies.proofs.BodyLaws.{header_comes}
 use Rattle.sccs_pending.specs.PFiles.{Answers}
-use Rattle.sccs_alter.specs.AlterStep.{altered_header}
+use Rattle.sccs_alter.specs.AlterStep.{alter_checks, altered_header}
 use Rattle.sccs_alter.proofs.HeaderLaws.{altered_spelled}
-use Rattle.sccs_alter.proofs.WriteLaws.{frame_none, header_altered, no_header}
+use Rattle.sccs_alter.proofs.WriteLaws.{frame_none, file_refused, header_altered, no_header}
 use Rattle.sccs_alter.proofs.alters.write_read.Goals as goal
 
 pub returns-in_default-clause-frame : goal.returns-in_default-clause-frame
@@ -23,3 +23,6 @@ returns-in-Ok-altered_header-clause-told g c = λ file items is front are.
 
 pub returns-clause-frame : goal.returns-clause-frame
 returns-clause-frame g c = frame_none (x_file c.args.name.now) _ _ _ (λ is. c.in-Err.ensures.broke (ap no_header is))
+
+pub returns-in-Ok-altered_header-clause-checks : goal.returns-in-Ok-altered_header-clause-checks
+returns-in-Ok-altered_header-clause-checks g c = file_refused c.write_header.result alter_checks (refl, (refl, (refl, (refl, (refl, (refl, (refl, tt))))))) c.write_header.ensures.checks
