@@ -1,4 +1,4 @@
-ghost use Rattle.std.specs.Prelude.{◌≡◌, ◌<◌, ◌≤◌, List, [], ◌∷◌, ◌++◌, Some, length, insert, remove, set, slice_get, IfOk, OnOk, OnErr};
+ghost use Rattle.std.specs.Prelude.{◌≡◌, ◌<◌, ◌≤◌, List, [], ◌∷◌, ◌++◌, Some, length, insert, remove, reverse, set, slice_get, IfOk, OnOk, OnErr};
 
 use crate::file_names::Name;
 use crate::streams::Memory;
@@ -97,6 +97,13 @@ impl<T> ListOf<T> {
     {
         self.items.push(item)?;
         Ok(())
+    }
+
+    /// Puts the items in the other order.
+    pub fn reverse(&mut self)
+        ensures { self.new ≡ reverse self.old }
+    {
+        self.items.reverse();
     }
 
     /// A list of these items.

@@ -14,23 +14,14 @@ const ROOM: usize = 65_536;
 #[derive(Drop)]
 pub struct OutputBuffer {
     bytes: Vec<u8>,
-    len: usize,
 }
 
 impl Model for OutputBuffer {
-    ghost use Rattle.std.specs.Prelude.{List, ℕ, ◌≤◌, length, take};
+    ghost use Rattle.std.specs.Prelude.{List, ℕ};
 
     ghost Value = { List ℕ };
 
-    ghost view = { λ s. take s.len s.bytes.items };
-
-    ghost invariant = { λ s. s.len ≤ length s.bytes.items };
-}
-
-// that many zeros
-fn zeros(alloc: Global, count: usize) -> Result<Vec<u8>, Memory> {
-    let zeros = vec![in alloc; 0; count]?;
-    Ok(zeros)
+    ghost view = { λ s. s.bytes.items };
 }
 
 impl OutputBuffer {
@@ -38,8 +29,8 @@ impl OutputBuffer {
     pub fn new(alloc: Global) -> Result<OutputBuffer, Memory>
         ensures { IfOk result (λ buffer. buffer ≡ []) }
     {
-        let bytes = zeros(alloc, ROOM)?;
-        Ok(OutputBuffer { bytes, len: 0 })
+        let bytes = Vec::with_capacity(alloc, ROOM)?;
+        Ok(OutputBuffer { bytes })
     }
 
     // holds bytes back where there is room for them
@@ -48,13 +39,10 @@ impl OutputBuffer {
         ensures held { IsTrue result → self.new ≡ self.old ++ bytes.now }
         ensures full { ¬ IsTrue result → self.new ≡ self.old }
     {
-        if bytes.len() > self.bytes.len() - self.len {
+        if bytes.len() > ROOM.saturating_sub(self.bytes.len()) {
             return false;
         }
-        let end = self.len + bytes.len();
-        self.bytes[self.len..end].copy_from_slice(bytes);
-        self.len = end;
-        true
+        self.bytes.extend_from_slice(bytes).is_ok()
     }
 
     /// Gives what is held, and holds nothing then. Where it fails the sink got a prefix of it, and
@@ -64,12 +52,12 @@ impl OutputBuffer {
             (S.given out.old) (S.given out.new) (S.faults out.old) (S.faults out.new) result }
         ensures empty { self.new ≡ [] }
     {
-        let len = self.len;
-        self.len = 0;
-        if len == 0 {
+        if self.bytes.is_empty() {
             return Ok(());
         }
-        out.give(&self.bytes[..len])
+        let given = out.give(self.bytes.as_slice());
+        self.bytes.clear();
+        given
     }
 
     /// Takes bytes after those that are held: where there is room they are held too, else what is

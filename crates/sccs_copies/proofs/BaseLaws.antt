@@ -1,5 +1,5 @@
 -- Lines of a base that go by.
-use Rattle.std.proofs.Common.{◌≡◌, ℕ, suc, ◌+◌, ◌≤◌, Bool, true, false, List, [], ◌∷◌, ◌++◌, length, drop, Option, None, Some, Result, Ok, Err, refl, sym, ap, subst, ◌∙◌, arith, append_assoc, append-nil, length-drop}
+use Rattle.std.proofs.Common.{◌≡◌, ℕ, suc, ◌+◌, ◌-◌, ◌≤◌, Bool, true, false, List, [], ◌∷◌, ◌++◌, length, drop, Option, None, Some, Result, Ok, Err, refl, sym, ap, subst, ◌∙◌, arith, append_assoc, append-nil, length-drop}
 use Rattle.std.specs.Prelude.{if◌then◌else◌, ◌&&◌, ◌||◌}
 use Rattle.std.specs.List.{list_any}
 use Rattle.sccs_base.specs.Cut.{cut, text_of, closed}
@@ -160,16 +160,16 @@ items_few live n before (line ∷ lines) tail list is =
     let long : length list ≡ suc (length one.1.0) = ap length one.1.2 in
     omega (arith, few, long)
 
--- no file of at most so many bytes has more lines
-pub body_few : (told : Option (List ℕ)) (front : _) (set file : List ℕ) (list : List Item) → IsBody told front set file list → length (shown set (lines_of list)) ≤ 1073741824
-body_few told front set file list is =
+-- no body has more lines than bytes
+pub body_short : (told : Option (List ℕ)) (front : _) (set file : List ℕ) (list : List Item) → IsBody told front set file list → length (shown set (lines_of list)) ≤ front.size - front.body_from
+body_short told front set file list is =
     let few : length list ≤ length (cut (drop front.body_from file)).lines = items_few _ front.body_line [] (cut (drop front.body_from file)).lines (cut (drop front.body_from file)).tail list is.items_are in
     let bound : length (cut (drop front.body_from file)).lines ≤ length (drop front.body_from file) = lines_bound (drop front.body_from file) in
-    let shorter : length (drop front.body_from file) ≤ length file = drop_shorter front.body_from file in
-    omega (arith, shown_few set [] list, few, bound, shorter, is.front_is.size, is.front_is.placed.limit)
-  where
-    drop_shorter : (n : ℕ) (xs : List ℕ) → length (drop n xs) ≤ length xs
-    drop_shorter n xs = omega (arith, length-drop n xs)
+    omega (arith, shown_few set [] list, few, bound, length-drop front.body_from file, is.front_is.size)
+
+-- no file of at most so many bytes has more lines
+pub body_few : (told : Option (List ℕ)) (front : _) (set file : List ℕ) (list : List Item) → IsBody told front set file list → length (shown set (lines_of list)) ≤ 1073741824
+body_few told front set file list is = omega (arith, body_short told front set file list is, is.front_is.placed.limit)
 
 -- those that are to come are no more than were left
 pub examines_few : (file : List ℕ) (r : VersionPlace) (g : Option (List ℕ)) (lines : List HistoryLine) (at at1 : Passed) (s s1 : ResultCheck) (limit : ℕ) → (p : ExaminesSome file r g lines at at1 s s1) → at.line + length lines ≤ limit → at1.line + length p.rest ≤ limit

@@ -2,7 +2,7 @@
 use Rattle.std.proofs.Common.{◌≡◌, ℕ, ◌+◌, ◌-◌, ◌≤◌, Bool, true, false, not, ◌||◌, List, [], ◌∷◌, length, Option, None, Some, Result, Ok, Err, refl, sym, ap, subst, ◌∙◌, arith}
 use Rattle.std.specs.List.{AllByRecursion, list_any}
 use Rattle.std.proofs.lemmas.Bool.{leb-true}
-use Rattle.std.specs.Prelude.{IfSome, drop, is_some, option_map}
+use Rattle.std.specs.Prelude.{IfSome, drop, is_some, min, option_map}
 use Rattle.sccs_base.specs.Cut.{text_of}
 use Rattle.sccs_grammar.specs.FileRefusals.{file_fault}
 use Rattle.sccs_grammar.specs.declared.faults.FileFault.{FileFault}
@@ -15,7 +15,7 @@ use Rattle.sccs_history.specs.declared.headers.Item.{Item}
 use Rattle.sccs_table.specs.ReaderState.{bytes_in}
 use Rattle.sccs_table.specs.declared.fronts.Front.{Front}
 use Rattle.sccs_versions.specs.Coming.{IsBody, shown}
-use Rattle.sccs_copies.proofs.BaseLaws.{body_few, shown_texts, texts_long}
+use Rattle.sccs_copies.proofs.BaseLaws.{body_few, body_short, shown_texts, texts_long}
 use Rattle.sccs_sid.specs.Reading.{◌>>=◌}
 use Rattle.sccs_sid.specs.declared.refusals.Refusal.{Refusal}
 use Rattle.sccs_sid.specs.declared.refusals.Refusal.TheVariants as refusals
@@ -149,21 +149,22 @@ pub fits_unjudged : (o : Option View) (n : List ℕ) (flags : List Flag) (orders
 fits_unjudged None n flags orders base found fault passes reads = tt
 fits_unjudged (Some v) n flags orders base found fault passes reads = λ short. unfit_judged flags orders base (v (drop 2 n)) found fault short reads passes
 
--- the base of a told body isn't longer than files may be
-base_few : (told : Option (List ℕ)) (front : Front) (set file : List ℕ) (items : List Item) → IsBody told front set file items → length (select set (lines_of items)) ≤ 1073741824
-base_few told front set file items is = omega (arith, body_few told front set file items is, sym (texts_long (shown set (lines_of items))), ap length (sym (shown_texts set (lines_of items))))
+-- the base of a told body isn't longer than the body, nor than files may be
+base_few : (told : Option (List ℕ)) (front : Front) (set file : List ℕ) (items : List Item) → IsBody told front set file items → length (select set (lines_of items)) ≤ min (front.size - front.body_from) 1073741824
+base_few told front set file items is =
+    omega (arith, body_short told front set file items is, body_few told front set file items is, sym (texts_long (shown set (lines_of items))), ap length (sym (shown_texts set (lines_of items))))
 
 body_in : (o o2 : Option View) (n : List ℕ) (front : Front) (set file : List ℕ) (items : List Item) → o2 ≡ o → IsBody (bytes_in o n) front set file items → IsBody (bytes_in o2 n) front set file items
 body_in o o2 n front set file items same is = subst (λ (w : Option View). IsBody (bytes_in w n) front set file items) (sym same) is
 
-pub base_read : (o o2 : Option View) (n k : List ℕ) (orders : List Order) (front : Front) (set file : List ℕ) (items : List Item) (compares : Bool) (p : Plan) (found : Found) → o2 ≡ o → k ≡ drop 2 n → IsBody (bytes_in o n) front set file items → AllByRecursion (FitsIn 18446744073709551616) orders
-    → IfSome o (λ (v : View). compares ≡ is_some (v k)) → (checked_script orders 1073741824 ≡ Ok tt → p ≡ plan orders 1073741824) → (compares ≡ false → found.differs ≡ None)
+pub base_read : (o o2 : Option View) (n k : List ℕ) (orders : List Order) (front : Front) (set file : List ℕ) (items : List Item) (compares : Bool) (limit : ℕ) (p : Plan) (found : Found) → o2 ≡ o → k ≡ drop 2 n → IsBody (bytes_in o n) front set file items → AllByRecursion (FitsIn 18446744073709551616) orders
+    → IfSome o (λ (v : View). compares ≡ is_some (v k)) → limit ≡ min (front.size - front.body_from) 1073741824 → (checked_script orders limit ≡ Ok tt → p ≡ plan orders limit) → (compares ≡ false → found.differs ≡ None)
     → ((f : List ℕ) (list : List Item) → IsBody (bytes_in o2 n) front set f list → Examines (bytes_in o2 (drop 2 n)) p (select set (lines_of list)) compares (Ok found))
     → IfSome o (λ (v : View). ReadsBase orders (select set (lines_of items)) (v (drop 2 n)) (Ok found))
-base_read None o2 n k orders front set file items compares p found same named is ordered there plans alone told = tt
-base_read (Some v) o2 n k orders front set file items compares p found same named is ordered there plans alone told =
+base_read None o2 n k orders front set file items compares limit p found same named is ordered there limit_is plans alone told = tt
+base_read (Some v) o2 n k orders front set file items compares limit p found same named is ordered there limit_is plans alone told =
     base_found orders (select set (lines_of items)) (v (drop 2 n)) compares p found
-    (λ fits. longest_plan_is orders (length (select set (lines_of items))) 1073741824 p ordered (base_few (bytes_in (Some v) n) front set file items is) fits plans)
+    (λ fits. longest_plan_is orders (length (select set (lines_of items))) limit p ordered (omega (arith, limit_is, base_few (bytes_in (Some v) n) front set file items is)) fits plans)
     (there ∙ ap (λ m. is_some (v m)) named) alone
     (subst (λ (w : Option View). FindsResult (bytes_in w (drop 2 n)) p (select set (lines_of items)) compares found) same (told file items (body_in (Some v) o2 n front set file items same is)))
 

@@ -1,5 +1,7 @@
 -- The releases that are passed over, one after the other.
-use Rattle.std.proofs.Common.{◌≡◌, ℕ, suc, ◌+◌, ◌-◌, ◌<◌, Bool, true, false, not, List, [], ◌++◌, refl, sym, ap, ◌∙◌, arith, append_assoc}
+use Rattle.std.proofs.Common.{◌≡◌, ℕ, suc, ◌+◌, ◌-◌, ◌<◌, Bool, true, false, not, ◌||◌, List, [], ◌++◌, length, drop, get_or, refl, sym, ap, ◌∙◌, arith, append_assoc}
+use Rattle.std.specs.List.{list_any}
+use Rattle.std.proofs.lemmas.List.{at_drop_more}
 use Rattle.sccs_sid.specs.declared.sids.Sid.{Sid}
 use Rattle.sccs_history.specs.Numbers.{front_if}
 use Rattle.sccs_history.specs.declared.headers.Record.{Record}
@@ -24,3 +26,20 @@ release_put records reserved release to sids low =
 
     left : to - release ≡ suc (to - (release + 1))
     left = omega (arith, low)
+
+-- ---- marks
+
+pub or_none : (t : Bool) → (t || false) ≡ t
+or_none true = refl
+or_none false = refl
+
+pub or_assoc : (a b c : Bool) → ((a || b) || c) ≡ (a || (b || c))
+or_assoc true b c = refl
+or_assoc false b c = refl
+
+-- one item more is marked
+pub marked_on : {A : Type 0} (test : A → Bool) (all : List A) (i : ℕ) (d x : A) (old new first : Bool) → i < length all → x ≡ get_or all i d → new ≡ (old || test x) → (old || list_any test (drop i all)) ≡ first → (new || list_any test (drop (i + 1) all)) ≡ first
+marked_on test all i d x old new first low at new_is before =
+    ap (λ t. t || list_any test (drop (i + 1) all)) new_is
+    ∙ (or_assoc old (test x) (list_any test (drop (i + 1) all))
+    ∙ (ap (λ y. old || (test y || list_any test (drop (i + 1) all))) at ∙ (sym (at_drop_more (λ l. old || list_any test l) all i d low) ∙ before)))

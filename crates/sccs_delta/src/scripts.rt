@@ -1,4 +1,4 @@
-ghost use Rattle.std.specs.Prelude.{◌≡◌, ◌≢◌, ◌≤◌, ◌^◌, ℕ, List, true, Ok, Err, IfOk, IfSome, OnOk, drop, is_some, IsErr};
+ghost use Rattle.std.specs.Prelude.{◌≡◌, ◌≢◌, ◌≤◌, ◌-◌, ◌^◌, ℕ, List, true, Ok, Err, IfOk, IfSome, OnOk, drop, is_some, min, IsErr};
 ghost use Rattle.std.specs.List.{AllByRecursion};
 ghost use Rattle.sccs_base.specs.Constants.{file_limit};
 ghost use Rattle.sccs_base.specs.Name.{IsSfile};
@@ -57,13 +57,22 @@ pub fn orders_of(alloc: Global, bytes: &[u8]) -> Result<Script, StepFault>
     }
 }
 
-// the plan of a script that fits the longest base; one that doesn't fit it fits none
-fn longest_plan(alloc: Global, script: &Script) -> Result<Plan, Memory>
-    ensures value { checked_script script.now file_limit ≡ Ok tt → IfOk result (λ p. p ≡ plan script.now file_limit) }
+// how many lines a base has at most: no body has more lines than bytes
+fn most_lines(front: &Front) -> u64
+    ensures value { result ≡ min (front.now.size - front.now.body_from) file_limit }
+    ensures few { result ≤ file_limit }
+{
+    front.size.saturating_sub(front.body_from).min(FILE_LIMIT)
+}
+
+// the plan of a script that fits the longest base, of so many lines; one that doesn't fit it fits none
+fn longest_plan(alloc: Global, script: &Script, lines: u64) -> Result<Plan, Memory>
+    requires { lines ≤ file_limit }
+    ensures value { checked_script script.now lines ≡ Ok tt → IfOk result (λ p. p ≡ plan script.now lines) }
     ensures order { IfOk result IsInOrder }
 {
-    if let Ok(()) = check(script, FILE_LIMIT) {
-        return plan(alloc, script, FILE_LIMIT);
+    if let Ok(()) = check(script, lines) {
+        return plan(alloc, script, lines);
     }
     Ok(Plan {
         deleted: Numbers::empty(alloc),
@@ -124,7 +133,7 @@ fn read_base<D: Disk>(
         Ok(compares) => compares,
         Err(_) => return Err(StepFault::DiskFault),
     };
-    let Ok(plan) = longest_plan(alloc, script) else {
+    let Ok(plan) = longest_plan(alloc, script, most_lines(front)) else {
         return Err(StepFault::Memory);
     };
     match examine(alloc, name, front, set, plan, compares, disk) {

@@ -2,6 +2,7 @@
 //! deltas; with the laws on tables that get one.
 #![tactic(auto)]
 
+mod growing_headers;
 pub mod laws;
 mod new_deltas;
 mod null_deltas;

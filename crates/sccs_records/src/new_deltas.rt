@@ -48,8 +48,8 @@ pub fn newest(records: &Records) -> u16
     }
 }
 
-// the record of a delta of that serial, made on another
-fn record_of(alloc: Global, serial: u16, on: u16, delta: NewDelta) -> Record
+/// The record of a delta of that serial, made on another.
+pub fn record_of(alloc: Global, serial: u16, on: u16, delta: NewDelta) -> Record
     ensures { result ≡ record_of serial on delta }
 {
     Record {

@@ -7,7 +7,8 @@ ghost use Rattle.sccs_history.specs.Applied.{newest};
 ghost use Rattle.sccs_history.specs.History.{AreLines, IsSpelled};
 ghost use Rattle.sccs_records.specs.NewDeltas.{HasSpellings, last_of, null_delta, with_deltas};
 
-use crate::new_deltas::{Counts, NewDelta, add_delta, newest};
+use crate::growing_headers::GrowingHeader;
+use crate::new_deltas::{Counts, NewDelta};
 use sccs_base::{Line, Memory, Text};
 use sccs_history::{Header, Serials};
 use sccs_sid::{Sid, Stamp};
@@ -71,14 +72,17 @@ pub fn add_null_deltas(
     ensures newest { IfOk result (λ b. newest b.header.records ≡ newest based.header.records + length sids.now) }
     ensures spelled { IsSpelled based.header → IsMoment stamp.now.moment → AllByRecursion IsSid sids.now → IfOk result (λ b. IsSpelled b.header) }
 {
-    let mut based = based;
+    let BasedHeader { header, on } = based;
+    let mut header = GrowingHeader::new(header);
+    let mut on = on;
     for sid in sids {
-        let on = newest(&based.header.records) + 1;
+        let next = header.newest() + 1;
         let delta = null_delta(alloc, stamp, *sid)?;
-        based = BasedHeader {
-            header: add_delta(alloc, based.header, based.on, delta)?,
-            on,
-        };
+        header.put(alloc, on, delta)?;
+        on = next;
     }
-    Ok(based)
+    Ok(BasedHeader {
+        header: header.into_header(),
+        on,
+    })
 }

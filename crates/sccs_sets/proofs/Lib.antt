@@ -1,5 +1,6 @@
 pub mod Falling
 pub mod Greatest
+pub mod LiveIndexes
 pub mod Living
 pub mod Lookups
 pub mod MadeCases

@@ -1,4 +1,5 @@
 pub mod Flags
+pub mod LiveIndexes
 pub mod Made
 pub mod Marks
 pub mod Naming

@@ -5,6 +5,7 @@ mod delta_sets;
 mod faults;
 mod flags;
 pub mod laws;
+mod live_indexes;
 mod making;
 mod marks;
 mod naming;

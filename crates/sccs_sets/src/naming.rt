@@ -1,17 +1,23 @@
-ghost use Rattle.std.specs.Prelude.{◌≡◌, ◌&&◌, not, true, [], length, position, reverse, IfOk, IfSome, OnOk, if◌then◌else◌};
+ghost use Rattle.std.specs.Prelude.{◌≡◌, ◌&&◌, not, true, List, [], length, position, reverse, IfOk, IfSome, OnOk, if◌then◌else◌};
 ghost use Rattle.std.specs.List.{AllByRecursion};
 ghost use Rattle.sccs_history.specs.Applied.{live_serials};
 ghost use Rattle.sccs_history.specs.History.{lives};
 ghost use Rattle.sccs_history.specs.Numbers.{has};
+ghost use Rattle.sccs_history.specs.declared.headers.Record.{Record};
+ghost use Rattle.sccs_sets.specs.LiveIndexes.{HasDeltas, single};
 ghost use Rattle.sccs_sets.specs.Naming.{AnswersSerials, AreMarks, add_new, add_range, comes_first, in_range, sid_named, named_serials, not_after, one_line, put_named, range_fault, range_named};
 ghost use Rattle.sccs_sets.specs.Retrieved.{live_where};
 
 use crate::faults::SetFault;
+use crate::live_indexes::{LiveIndex, delta_at, has_live, index_of};
 use crate::marks::SERIALS;
 use sccs_base::Memory;
 use sccs_history::{Header, Record, Serials};
 use sccs_sid::{Range, Sid, SidList};
 use std::alloc::Global;
+
+// a list of so many ranges goes over the table for each of them
+const SHORT_LIST: u64 = 16;
 
 /// A delta by its SID.
 #[derive(Clone, Copy, Debug, PartialEq, Eq)]
@@ -60,19 +66,38 @@ pub fn lives(records: &[Record], sid: Sid) -> bool
         .any(|record| !record.removed && record.sid == sid)
 }
 
+// whether some live record has the SID, by an index where there is one
+fn lives_by(index: &Option<LiveIndex>, records: &[Record], sid: Sid) -> bool
+    requires { IfSome index.now (λ index. HasDeltas index records.now) }
+    ensures { result ≡ lives records.now sid }
+{
+    match index {
+        Some(index) => has_live(index, sid),
+        None => lives(records, sid),
+    }
+}
+
+// the SID at fault in a range, by an index where there is one
+fn range_fault_by(index: &Option<LiveIndex>, records: &[Record], range: &Range) -> Option<Sid>
+    requires { IfSome index.now (λ index. HasDeltas index records.now) }
+    ensures { result ≡ range_fault records.now range.now }
+{
+    let (first, last) = (range.first, range.last);
+    if !lives_by(index, records, first) {
+        Some(first)
+    } else if lives_by(index, records, last) && (one_line(first, last) && not_after(first, last)) {
+        None
+    } else {
+        Some(last)
+    }
+}
+
 /// The SID at fault in a range: the first end that isn't live, or the last where they aren't on one
 /// line in order.
 pub fn range_fault(records: &[Record], range: &Range) -> Option<Sid>
     ensures { result ≡ range_fault records.now range.now }
 {
-    let (first, last) = (range.first, range.last);
-    if !lives(records, first) {
-        Some(first)
-    } else if lives(records, last) && (one_line(first, last) && not_after(first, last)) {
-        None
-    } else {
-        Some(last)
-    }
+    range_fault_by(&None, records, range)
 }
 
 // the place of the first of those that come after a SID
@@ -193,6 +218,34 @@ fn range_named(alloc: Global, records: &[Record], range: &Range) -> Result<Vec<N
     }
 }
 
+// the one live delta at the place of a SID, or none
+fn named_at(alloc: Global, index: &LiveIndex, sid: Sid) -> Result<Vec<Named>, Memory>
+    ensures { (records : List Record) → HasDeltas index.now records
+        → IfOk result (λ found. found.items ≡ range_named records (single sid)) }
+{
+    let mut found = Vec::new(alloc);
+    if let Some(named) = delta_at(index, sid) {
+        found.push(named)?;
+    }
+    Ok(found)
+}
+
+// the live deltas of a range, in rising order of their SIDs, by an index where there is one and the range is of one SID
+fn range_named_by(
+    alloc: Global,
+    index: &Option<LiveIndex>,
+    records: &[Record],
+    range: &Range,
+) -> Result<Vec<Named>, Memory>
+    requires { IfSome index.now (λ index. HasDeltas index records.now) }
+    ensures { IfOk result (λ found. found.items ≡ range_named records.now range.now) }
+{
+    match index {
+        Some(index) if range.first == range.last => named_at(alloc, index, range.first),
+        _ => range_named(alloc, records, range),
+    }
+}
+
 // adds a number, where it isn't there yet, as the marks say
 fn add_new(seen: &mut Serials, marks: &mut [bool], number: u16) -> Result<(), Memory>
     requires size { length marks.old ≡ SERIALS }
@@ -212,18 +265,20 @@ fn add_new(seen: &mut Serials, marks: &mut [bool], number: u16) -> Result<(), Me
 // adds the serials of a range
 fn add_range(
     alloc: Global,
+    index: &Option<LiveIndex>,
     records: &[Record],
     seen: &mut Serials,
     marks: &mut [bool],
     range: &Range,
 ) -> Result<(), Memory>
+    requires index { IfSome index.now (λ index. HasDeltas index records.now) }
     requires size { length marks.old ≡ SERIALS }
     requires marks { AreMarks seen.old marks.old }
     ensures value { OnOk result (seen.new ≡ add_range records.now seen.old range.now) }
     ensures marks { OnOk result (AreMarks seen.new marks.new) }
     ensures size { length marks.new ≡ SERIALS }
 {
-    let found = range_named(alloc, records, range)?;
+    let found = range_named_by(alloc, index, records, range)?;
     for named in &found {
         add_new(seen, marks, named.serial)?;
     }
@@ -235,8 +290,10 @@ fn serials_by(
     alloc: Global,
     records: &[Record],
     list: &SidList,
+    index: &Option<LiveIndex>,
     marks: &mut [bool],
 ) -> Result<Serials, SetFault>
+    requires index { IfSome index.now (λ index. HasDeltas index records.now) }
     requires size { length marks.old ≡ SERIALS }
     requires marks { AreMarks [] marks.old }
     ensures value { AnswersSerials (named_serials records.now [] list.now) result }
@@ -245,14 +302,25 @@ fn serials_by(
     let mut seen = Serials::empty(alloc);
     for place in 0..list.len() {
         let range = list.at(place);
-        if let Some(sid) = range_fault(records, range) {
+        if let Some(sid) = range_fault_by(index, records, range) {
             return Err(SetFault::BadList(sid));
         }
-        let Ok(()) = add_range(alloc, records, &mut seen, marks, range) else {
+        let Ok(()) = add_range(alloc, index, records, &mut seen, marks, range) else {
             return Err(SetFault::Memory);
         };
     }
     Ok(seen)
+}
+
+// an index of the live records, where a list is so long that it pays
+fn index_for(alloc: Global, records: &[Record], list: &SidList) -> Result<Option<LiveIndex>, Memory>
+    ensures { IfOk result (λ index. IfSome index (λ index. HasDeltas index records.now)) }
+{
+    if list.len() > SHORT_LIST {
+        index_of(alloc, records)
+    } else {
+        Ok(None)
+    }
 }
 
 /// The serials of a list's SIDs in the order of the list, each once, at its first place. A range
@@ -264,8 +332,12 @@ pub fn serials(alloc: Global, header: &Header, list: &SidList) -> Result<Serials
     ensures live { IfOk result
         (AllByRecursion (λ n. has (live_serials header.now.records) n ≡ true)) }
 {
+    let records = header.records.items();
+    let Ok(index) = index_for(alloc, records, list) else {
+        return Err(SetFault::Memory);
+    };
     let Ok(mut marks) = vec![in alloc; false; SERIALS] else {
         return Err(SetFault::Memory);
     };
-    serials_by(alloc, header.records.items(), list, &mut marks)
+    serials_by(alloc, records, list, &index, &mut marks)
 }

@@ -1,5 +1,5 @@
 -- Bits for the bytes of a piece, 64 at a time.
-use Rattle.std.proofs.Common.{◌≡◌, ◌≢◌, ℕ, zero, suc, ◌+◌, ◌-◌, ◌*◌, ◌/◌, ◌%◌, ◌^◌, ◌<◌, ◌≤◌, Bool, true, false, not, ◌==◌, List, [], ◌∷◌, length, map, take, drop, get_or, eq-eqb, refl, sym, ap, ◌∙◌, subst, arith, sum, ⊎_elim}
+use Rattle.std.proofs.Common.{◌≡◌, ◌≢◌, ℕ, zero, suc, ◌+◌, ◌-◌, ◌*◌, ◌/◌, ◌%◌, ◌^◌, ◌<◌, ◌≤◌, Bool, true, false, not, ◌==◌, List, [], ◌∷◌, length, map, replicate, take, drop, get_or, eq-eqb, refl, sym, ap, ◌∙◌, subst, arith, sum, ⊎_elim}
 use Rattle.std.proofs.Math.Nat.{div-add-mod, div-eq_of_lt, mod-one, mod-eq_of_lt, mod-lt, mul_assoc, mul-add-mod_self_left, two-pow-succ, zero-mod}
 use Rattle.std.proofs.Math.Seq.{take-add}
 use Rattle.std.specs.Prelude.{count_ones}
@@ -9,16 +9,17 @@ use Rattle.std.proofs.lemmas.Bool.{cases_lt, eqb-true}
 use Rattle.std.proofs.lemmas.Nat.{pow_pos}
 use Rattle.std.proofs.Math.Pow.{pow_mono}
 use Rattle.std.proofs.lemmas.Nat.Bits.{bit_at-zero}
-use Rattle.std.proofs.lemmas.List.{drop-drop, get_or-map, length-map, length-take, take_all, take-map, take-take}
+use Rattle.std.proofs.lemmas.List.{drop-drop, drop-replicate, get_or-map, length-map, length-replicate, length-take, take_all, take-map, take-take}
 use Rattle.std.proofs.lemmas.List.Elements.{All-drop}
 use Rattle.std.proofs.lemmas.List.Sums.{count_by-le-length, sum_by-append, sum_by-take-drop}
 use Rattle.std.proofs.lemmas.Simd.{bit_mask_l, get_or-chunk, length-chunk, mask_l-lt, none_from_empty_mask, ones-mask_l}
 use lib.Count.{ones}
 use Rattle.sccs_table.specs.Runs.{lf_count}
+use Rattle.sccs_table.specs.declared.piece_marks.Known.TheVariants.{Nothing}
 use Rattle.sccs_table.specs.declared.piece_marks.PieceMarks.{PieceMarks}
 use Rattle.sccs_base.specs.Cut.{HasNoLf}
 use Rattle.sccs_table.proofs.CountLaws.{no_lines}
-use Rattle.sccs_table.specs.Marks.{AreMarked, AreSohs, Describes, HasNoSoh, MarksOf, bit, bits_of, byte_block}
+use Rattle.sccs_table.specs.Marks.{AreMarked, AreSohs, Describes, HasNoSoh, KnowsLfs, MarksOf, bit, bits_of, byte_block}
 
 -- ---- SOH
 
@@ -219,6 +220,21 @@ no_bit false b rest is isnt none = omega (arith, none)
 pub no_bits : (bytes : List ℕ) → ((k : ℕ) → k < length bytes → get_or bytes k 0 ≢ 1) → bits_of 1 bytes ≡ 0
 no_bits [] none = refl
 no_bits (b ∷ bytes) none = no_bit (b == 1) b (bits_of 1 bytes) refl (none 0 (omega arith)) (no_bits bytes (λ k low. none (suc k) (omega (arith, low))))
+
+few_zeros : (k m : ℕ) → bits_of 1 (take k (replicate m 0)) ≡ 0
+few_zeros zero m = refl
+few_zeros (suc k) zero = refl
+few_zeros (suc k) (suc m) = no_bit false 0 (bits_of 1 (take k (replicate m 0))) refl (λ is. absurd cc) (few_zeros k m)
+
+-- no SOH stands in a piece of zeros
+pub zeros_marked : (marks : PieceMarks) (piece : List ℕ) (m : ℕ) → m ≡ 4096 → marks.marked ≡ 0 → marks.known ≡ Nothing → piece ≡ replicate m 0 → MarksOf marks piece
+zeros_marked marks piece m long none nothing is = record {
+  long = ap length is ∙ (length-replicate m 0 ∙ long);
+  marked_are = λ n low. ap (λ k. bit_at k n) none ∙ (bit_at-zero n ∙ ap (λ b. bit (not (b == 0))) (sym (ap (λ l. bits_of 1 (byte_block n l)) is
+      ∙ (ap (λ l. bits_of 1 (take 64 l)) (drop-replicate (64 * n) m 0) ∙ few_zeros 64 (m - 64 * n)))));
+  sohs_are = λ some. absurd (some none);
+  ends_known = subst (λ k. KnowsLfs k marks piece) (sym nothing) tt;
+}
 
 -- ---- the sum
 

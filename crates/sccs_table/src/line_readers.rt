@@ -88,6 +88,15 @@ fn read_piece<D: Disk>(
     Ok(count)
 }
 
+// asks for no bytes at a place: a disk that fails says so
+fn read_nothing<D: Disk>(disk: &mut D, name: &Name, from: u64) -> Result<(), Failed>
+    ensures same { D.told disk.new ≡ D.told disk.old }
+    ensures causes { DiskCauses (IsErr result) (D.faults disk.old) (D.faults disk.new) }
+{
+    let _ = disk.read_at(name, from, &mut [])?;
+    Ok(())
+}
+
 fn begins_with_soh(bytes: &[u8]) -> bool
     ensures { result ≡ begins 1 bytes.now }
 {
@@ -243,8 +252,7 @@ impl LineReader {
         ensures { result ≡ record { name = name.now; held = []; place = place; limit = limit; sum = 0 } }
     {
         let piece = [0; 4096];
-        let mut marks = PieceMarks::new(ends);
-        let _ = marks.read(&piece);
+        let marks = PieceMarks::new(ends);
         LineReader {
             name: *name,
             piece,
@@ -309,6 +317,10 @@ impl LineReader {
         self.end = 0;
         self.whole = 0;
         let room = to.saturating_sub(self.place).min(4096) as usize;
+        if room == 0 {
+            read_nothing(disk, &self.name, self.place)?;
+            return Ok(false);
+        }
         let read = read_piece(disk, &self.name, self.place, room, &mut self.piece);
         let total = self.marks.read(&self.piece);
         let count = read?;
@@ -438,12 +450,16 @@ impl LineReader {
             return Ok(false);
         }
         let held = self.end - self.start;
+        let from = self.place + held as u64;
+        let room = self.limit.saturating_sub(from).min((4096 - held) as u64) as usize;
+        if room == 0 {
+            read_nothing(disk, &self.name, from)?;
+            return Ok(false);
+        }
         move_front(&mut self.piece, self.start, self.end);
         self.start = 0;
         self.end = held;
         self.whole = 0;
-        let from = self.place + held as u64;
-        let room = self.limit.saturating_sub(from).min((4096 - held) as u64) as usize;
         let read = read_behind(disk, &self.name, from, held, room, &mut self.piece);
         let total = self.marks.read(&self.piece);
         let count = read?;

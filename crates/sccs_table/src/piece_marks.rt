@@ -1,5 +1,5 @@
 //! Where LF and SOH stand in a piece.
-ghost use Rattle.std.specs.Prelude.{◌≡◌, ◌≢◌, false, true, ℕ, ◌%◌, sum, ◌+◌, ◌*◌, ◌<◌, ◌≤◌, length, take, drop, get_or, if◌then◌else◌, ◌==◌};
+ghost use Rattle.std.specs.Prelude.{◌≡◌, ◌≢◌, false, true, ℕ, List, ◌%◌, sum, ◌+◌, ◌*◌, ◌<◌, ◌≤◌, length, replicate, take, drop, get_or, if◌then◌else◌, ◌==◌};
 ghost use Rattle.std.specs.Int.{bit_at};
 ghost use Rattle.sccs_base.specs.Cut.{HasNoLf};
 ghost use Rattle.sccs_table.specs.Runs.{lf_count};
@@ -31,7 +31,8 @@ enum Known {
 }
 
 /// Where LF and SOH stand in a piece of 4,096 bytes, so that neither is searched for byte by byte.
-/// Where no SOH stands in it nor in the one before, its LFs are only counted, if they are asked for.
+/// Where no SOH stands in it nor in the one before, its LFs are only counted, if they are asked for; not so
+/// where it ends in NUL, as the last piece of a file mostly does.
 #[derive(Drop)]
 pub struct PieceMarks {
     wanted: LineEnds,
@@ -166,7 +167,9 @@ pub fn whole_lines(bytes: &[u8]) -> usize
 
 impl PieceMarks {
     /// No LF and no SOH stand in a piece of zeros.
-    pub fn new(wanted: LineEnds) -> PieceMarks {
+    pub fn new(wanted: LineEnds) -> PieceMarks
+        ensures { (piece : List ℕ) → piece ≡ replicate 4096 0 → MarksOf result piece }
+    {
         PieceMarks {
             wanted,
             known: Known::Nothing,
@@ -198,7 +201,7 @@ impl PieceMarks {
         ensures sum { result ≡ sum piece.now % 65536 }
     {
         self.known = Known::Nothing;
-        if self.marked == 0 {
+        if self.marked == 0 && piece[4095] != 0 {
             if let Some(total) = plain_sum(piece) {
                 return total;
             }
@@ -214,7 +217,7 @@ impl PieceMarks {
         ensures marks { MarksOf self.new piece.now }
         ensures sum { result ≡ sum piece.now % 65536 }
     {
-        if self.marked == 0 {
+        if self.marked == 0 && piece[4095] != 0 {
             if let Some(count) = plain_count(piece) {
                 self.known = Known::Number;
                 self.count = count.lines;

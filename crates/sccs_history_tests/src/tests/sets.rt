@@ -174,3 +174,30 @@ fn ranges_name_serials(rt: HostRuntime) -> Result<(), Fail> {
     assert_eq!(rt; retrieve(&header, Some(&Spec::Release(7)), false), Ok(4));
     Ok(())
 }
+
+// puts one SID at the front of a list, ten times
+fn put_often(list: &mut SidList, sid: Sid) -> Result<(), Fail> {
+    for _ in 0..10u64 {
+        let range = Range {
+            first: sid,
+            last: sid,
+        };
+        list.insert(0, range)?;
+    }
+    Ok(())
+}
+
+fn many_are_named(alloc: Global, header: &Header, list: &mut SidList) -> Result<bool, Fail> {
+    put_often(list, trunk(3))?;
+    put_often(list, trunk(1))?;
+    let named = names(alloc, header, list, Ok(&[1, 4]));
+    put_often(list, trunk(9))?;
+    Ok(named & names(alloc, header, list, Err(trunk(9))))
+}
+
+#[test]
+fn long_lists_name_serials(rt: HostRuntime) -> Result<(), Fail> {
+    let header = listing(rt.alloc())?;
+    assert!(rt; many_are_named(rt.alloc(), &header, &mut SidList::empty(rt.alloc()))?);
+    Ok(())
+}

@@ -21,7 +21,7 @@ returns-in-Some-clause-value c =
     let range : Range = c.at-range.result.now in
     let list : List Range = c.args.list.now in
     let low : c.loop-place.place < length list = omega (arith, c.loop-place-test.true, c.len-place-end.ensures) in
-    let fault : range_fault records range ≡ Some c.in-Some.sid = sym c.range_fault.ensures ∙ c.in-Some.is in
+    let fault : range_fault records range ≡ Some c.in-Some.sid = sym c.range_fault_by.ensures ∙ c.in-Some.is in
     sym c.loop-place.invariant.0
     ∙ (ap (λ l. named_serials records c.loop-place.seen l) (drop-at list c.loop-place.place range low c.at-range.ensures) ∙ range_stops records c.loop-place.seen range (drop (c.loop-place.place + 1) list) c.in-Some.sid fault)
 
@@ -31,7 +31,7 @@ loop-place-preserved c =
     let range : Range = c.at-range.result.now in
     let list : List Range = c.args.list.now in
     let low : c.loop-place.place < length list = omega (arith, c.loop-place-test.true, c.len-place-end.ensures) in
-    let fault : range_fault records range ≡ None = sym c.range_fault.ensures ∙ none_of c.range_fault.result c.in_default.not-Some in
+    let fault : range_fault records range ≡ None = sym c.range_fault_by.ensures ∙ none_of c.range_fault_by.result c.in_default.not-Some in
     let more : c.add_range.new.seen ≡ add_range records c.loop-place.seen range = c.in-Ok.ensures.value in (
       range_goes records c.loop-place.seen c.add_range.new.seen range (drop (c.loop-place.place + 1) list) fault more
           ∙ (ap (λ l. named_serials records c.loop-place.seen l) (sym (drop-at list c.loop-place.place range low c.at-range.ensures)) ∙ c.loop-place.invariant.0),
