@@ -15,6 +15,7 @@ use Rattle.sccs_sid.specs.Moment.{IsMoment}
 use Rattle.sccs_sid.specs.Refusal.{refusal_line}
 use Rattle.sccs_sid.specs.declared.refusals.Refusal.TheVariants.{TooLong}
 use Rattle.sccs_words.specs.Meaning.{meaning}
+use Rattle.sccs_steps.proofs.Turns.{front_all, rest_all}
 use Rattle.sccs_words.specs.declared.commands.Command.{Command}
 use Rattle.sccs_words.specs.declared.commands.Command.TheVariants as c
 use Rattle.sccs_words.specs.declared.commands.Usage.{Usage}
@@ -49,16 +50,18 @@ use Rattle.sccs_batch.specs.BatchLines.{bad_entry_line, status_line}
 use Rattle.sccs_batch.specs.BatchText.{batch_of}
 use Rattle.sccs_batch.specs.Batches.{batch_course, batch_end, entries_course, entry_course}
 use Rattle.sccs_batch.specs.declared.entries.Entry.{Entry}
+use Rattle.sccs_front.specs.Front.{front_of}
+use Rattle.sccs_top.specs.Asked.{as_typed, asked_by, one_asked, two_asked, typed_place}
 use Rattle.sccs_top.specs.Messages.{usage_line}
 use Rattle.sccs_soak.specs.Commands.{soak_commands, soak_file}
 use Rattle.sccs_soak.specs.Dropping.{dropping_keeps}
 use Rattle.sccs_soak.specs.Keeps.{summary_keeps}
 use Rattle.sccs_soak.specs.Soak.{soaked}
 use Rattle.sccs_soak.specs.Summaries.{summary_action, summary_course}
-use Rattle.sccs_top.specs.Runs.{Caller, action_of, admin_there, caller_by, command_course, command_steps, course_by, entry_command, has_heading, hushed, operands_of, run_steps, single_of, steps_by, val_words_of}
+use Rattle.sccs_top.specs.Runs.{Caller, action_of, admin_there, caller_by, command_course, command_steps, course_by, entry_command, has_heading, hushed, meant_course, next_course, operands_of, run_steps, single_of, steps_by, val_words_of}
 use Rattle.sccs_top.specs.declared.commands.CommandList.{CommandList}
 use Rattle.sccs_top.specs.declared.commands.CommandList.TheVariants as list
-use Rattle.sccs_replays.specs.PastRuns.{AreInTurn, HasVersions, IsPastCommand, IsPastRun, IsPlainBy, PastRun, commands_by, entry_run, entry_runs, folder_after_run, list_meant, replay, soak_runs, s_file_after, single_steps, steps_of_entry, versions_after_command, versions_after_commands, versions_after_run, versions_after_step, versions_after_steps}
+use Rattle.sccs_replays.specs.PastRuns.{AreInTurn, HasVersions, IsPastCommand, IsPastRun, IsPlainBy, PastRun, commands_by, commands_listed, commands_meant, commands_of, entry_run, entry_runs, first_run, folder_after_run, list_meant, next_run, replay, soak_runs, s_file_after, single_steps, steps_meant, steps_of_entry, versions_after_command, versions_after_commands, versions_after_run, versions_after_step, versions_after_steps}
 use Rattle.sccs_replays.proofs.LeftFiles.{other_file, own_file}
 use Rattle.sccs_replays.proofs.MadeSteps.{AreStepsOf, IsStepOf, are_some, are_steps}
 use Rattle.sccs_replays.proofs.MeantValues.{AreMeantValues, HasMeantValues, meant_values}
@@ -343,7 +346,7 @@ soak_after place m i made number (e ∷ es) =
 
 -- a run that is a list of commands, or one that is none
 list_goes : (n : List ℕ) (r : PastRun) (meant : Result Command Usage) (texts : Texts) (some : Option CommandList) → meaning r.words ≡ meant → list_meant meant ≡ some → IsSfile n → AllByRecursion IsPastCommand (commands_by some r)
-    → HasVersions (view_in r.folder n) texts → HasVersions (view_in (folder_after r.folder (take r.made (run_steps r.who meant r.folder r.input))) n) (versions_after_commands n texts (commands_by some r))
+    → HasVersions (view_in r.folder n) texts → HasVersions (view_in (folder_after r.folder (take r.made (steps_along (meant_course r.who meant) r.folder r.input))) n) (versions_after_commands n texts (commands_by some r))
 list_goes n r (Err usage) texts None words is sfile are has = single_goes n r (Err usage) texts words sfile are has
 list_goes n r (Err usage) texts (Some some) words is sfile are has = absurd cc
 list_goes n r (Ok command) texts None words is sfile are has =
@@ -367,12 +370,71 @@ list_goes n r (Ok command) texts (Some list.Batch) words is sfile are has =
         (entries_go n r.who.place r.folder (r.made - 1) (batch_of (text_of r.input)).entries texts sfile
         (subst (λ (t : Bool). AllByRecursion IsPastCommand (if t then [] else entry_runs r.who.place r.folder (r.made - 1) (batch_of (text_of r.input)).entries)) long are) has))
 
-run_goes : (n : List ℕ) (r : PastRun) (texts : Texts) → IsSfile n → IsPastRun r → HasVersions (view_in r.folder n) texts → HasVersions (view_in (folder_after_run r) n) (versions_after_commands n texts (commands_by (list_meant (meaning r.words)) r))
-run_goes n r texts sfile are has = list_goes n r (meaning r.words) texts (list_meant (meaning r.words)) refl refl sfile are has
+meant_goes : (n : List ℕ) (r : PastRun) (texts : Texts) → IsSfile n → AllByRecursion IsPastCommand (commands_meant r) → HasVersions (view_in r.folder n) texts
+    → HasVersions (view_in (folder_after r.folder (take r.made (steps_meant r))) n) (versions_after_commands n texts (commands_meant r))
+meant_goes n r texts sfile are has = list_goes n r (meaning r.words) texts (list_meant (meaning r.words)) refl refl sfile are has
+
+-- ---- words of the front end
+
+-- one command, be it as it was typed
+one_after : (who : Caller) (meant : Result Command Usage) (m : Folder) (i : List ℕ) (made : ℕ) → folder_after m (take made (run_steps who (one_asked meant) m i)) ≡ folder_after m (take made (steps_along (meant_course who meant) m i))
+one_after who (Ok command) m i made = refl
+one_after who (Err usage) m i made = refl
+
+typed_after : (who : Caller) (words first : List (List ℕ)) (meant : Result Command Usage) (m : Folder) (i : List ℕ) (made : ℕ)
+    → folder_after m (take made (run_steps who (one_asked (as_typed words first meant)) m i)) ≡ folder_after m (take made (steps_along (meant_course who meant) m i))
+typed_after who words first (Ok command) m i made = refl
+typed_after who words first (Err usage) m i made = said_leaves m [] (usage_line (typed_place words first usage)) made ∙ sym (said_leaves m [] (usage_line usage) made)
+
+-- two commands
+both_after : (who : Caller) (words first : List (List ℕ)) (meant next : Result Command Usage) (m : Folder) (i : List ℕ) (made : ℕ)
+    → folder_after m (take made (run_steps who (two_asked (as_typed words first meant) next) m i))
+    ≡ (if (meant_course who meant m i).status == 0
+    then folder_after (folder_after m (take made (steps_along (meant_course who meant) m i))) (take (made - length (steps_along (meant_course who meant) m i)) (steps_along (meant_course who next) (folder_after m (take made (steps_along (meant_course who meant) m i))) []))
+    else folder_after m (take made (steps_along (meant_course who meant) m i)))
+both_after who words first (Err usage) next m i made = said_leaves m [] (usage_line (typed_place words first usage)) made ∙ sym (said_leaves m [] (usage_line usage) made)
+both_after who words first (Ok command) next m i made =
+    let course = meant_course who (Ok command) m i in
+    let xs = steps_in course.portions in
+    let rest = if_fine (next_course who next) course.status in
+    let left = folder_after m (take made xs) in
+    ap (λ (ts : List NamedStep). folder_after m (take made ts)) (steps_more course.portions (rest (folder_after m xs) i).portions)
+    ∙ (after_both m made xs (λ u. steps_along rest u i)
+    ∙ fine_after (next_course who next) left (folder_after left (take (made - length xs) (steps_along (meant_course who next) left []))) i (made - length xs) course.status refl)
+
+versions_both : (n : List ℕ) (texts : Texts) (rs more : List PastRun) → versions_after_commands n (versions_after_commands n texts rs) more ≡ versions_after_commands n texts (rs ++ more)
+versions_both n texts [] more = refl
+versions_both n texts (r ∷ rs) more = versions_both n (versions_after_run n r (meaning r.words) texts) rs more
+
+two_go : (n : List ℕ) (r : PastRun) (next : List (List ℕ)) (texts : Texts) (fine : Bool) → IsSfile n → AllByRecursion IsPastCommand (commands_meant r) → AllByRecursion IsPastCommand (if fine then commands_meant (next_run r next) else []) → HasVersions (view_in r.folder n) texts
+    → HasVersions
+    (view_in (if fine then folder_after (folder_after r.folder (take r.made (steps_meant r))) (take (r.made - length (steps_meant r)) (steps_meant (next_run r next))) else folder_after r.folder (take r.made (steps_meant r))) n)
+    (versions_after_commands n (versions_after_commands n texts (commands_meant r)) (if fine then commands_meant (next_run r next) else []))
+two_go n r next texts true sfile are more has = meant_goes n (next_run r next) (versions_after_commands n texts (commands_meant r)) sfile more (meant_goes n r texts sfile are has)
+two_go n r next texts false sfile are more has = meant_goes n r texts sfile are has
+
+listed_go : (n : List ℕ) (r : PastRun) (texts : Texts) (commands : List (List (List ℕ))) → IsSfile n → AllByRecursion IsPastCommand (commands_listed r commands) → HasVersions (view_in r.folder n) texts
+    → HasVersions (view_in (folder_after r.folder (take r.made (run_steps r.who (asked_by r.words commands) r.folder r.input))) n) (versions_after_commands n texts (commands_listed r commands))
+listed_go n r texts [] sfile are has =
+    subst (λ (u : Folder). HasVersions (view_in u n) (versions_after_commands n texts (commands_meant r))) (sym (one_after r.who (meaning r.words) r.folder r.input r.made)) (meant_goes n r texts sfile are has)
+listed_go n r texts (first ∷ []) sfile are has =
+    subst (λ (u : Folder). HasVersions (view_in u n) (versions_after_commands n texts (commands_meant (first_run r first)))) (sym (typed_after r.who r.words first (meaning first) r.folder r.input r.made))
+    (meant_goes n (first_run r first) texts sfile are has)
+listed_go n r texts (first ∷ next ∷ rest) sfile are has =
+    let one = first_run r first in
+    let fine = (meant_course r.who (meaning first) r.folder r.input).status == 0 in
+    let more = if fine then commands_meant (next_run one next) else [] in
+    subst (λ (u : Folder). HasVersions (view_in u n) (versions_after_commands n texts (commands_meant one ++ more))) (sym (both_after r.who r.words first (meaning first) (meaning next) r.folder r.input r.made))
+    (subst (λ (t : Texts). HasVersions (view_in (if fine then folder_after (folder_after one.folder (take one.made (steps_meant one))) (take (one.made - length (steps_meant one)) (steps_meant (next_run one next))) else folder_after one.folder (take one.made (steps_meant one))) n) t)
+    (versions_both n texts (commands_meant one) more)
+    (two_go n one next texts fine sfile (front_all IsPastCommand (commands_meant one) more are) (rest_all IsPastCommand (commands_meant one) more are) has))
+
+run_goes : (n : List ℕ) (r : PastRun) (texts : Texts) → IsSfile n → IsPastRun r → HasVersions (view_in r.folder n) texts → HasVersions (view_in (folder_after_run r) n) (versions_after_commands n texts (commands_of r))
+run_goes n r texts sfile are has = listed_go n r texts (front_of r.words) sfile are has
 
 pub runs_replayed : (n : List ℕ) (s : Option Content) (texts : Texts) (runs : List PastRun) → IsSfile n → AllByRecursion IsPastRun runs → AreInTurn n s runs → HasVersions s texts
     → HasVersions (s_file_after n s runs) (replay n texts runs)
 runs_replayed n s texts [] sfile are turn has = has
 runs_replayed n s texts (r ∷ runs) sfile are turn has =
-    runs_replayed n (view_in (folder_after_run r) n) (versions_after_commands n texts (commands_by (list_meant (meaning r.words)) r)) runs sfile are.1 turn.1
+    runs_replayed n (view_in (folder_after_run r) n) (versions_after_commands n texts (commands_of r)) runs sfile are.1 turn.1
     (run_goes n r texts sfile are.0 (subst (λ (o : Option Content). HasVersions o texts) (sym turn.0) has))

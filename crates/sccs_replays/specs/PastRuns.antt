@@ -1,5 +1,5 @@
 -- Runs that follow one another, and what their scripts make of the versions of an s-file: POSIX, Shell and Utilities, admin and delta.
-use Rattle.std.specs.Prelude.{◌≡◌, ℕ, suc, ◌-◌, ◌==◌, nat_lt, length, Bool, true, false, ◌&&◌, List, [], ◌∷◌, map, take, drop, Option, None, Some, IfSome, is_some, Result, Ok, Err, if◌then◌else◌}
+use Rattle.std.specs.Prelude.{◌≡◌, ℕ, suc, ◌-◌, ◌==◌, nat_lt, length, Bool, true, false, ◌&&◌, List, [], ◌∷◌, ◌++◌, map, take, drop, Option, None, Some, IfSome, is_some, Result, Ok, Err, if◌then◌else◌}
 use Rattle.std.specs.List.{AllByRecursion}
 use Rattle.std.specs.Str.{bytes_eq}
 use Rattle.sccs_base.specs.Constants.{file_limit}
@@ -16,6 +16,7 @@ use Rattle.sccs_grammar.specs.File.{IsSFile, Parsed}
 use Rattle.sccs_files.specs.StepFiles.{moved_in}
 use Rattle.sccs_steps.specs.StepLists.{NamedStep, folder_after}
 use Rattle.sccs_steps.specs.Unlocked.{ArePlain}
+use Rattle.sccs_courses.specs.Courses.{steps_along}
 use Rattle.sccs_batch.specs.BatchText.{batch_of}
 use Rattle.sccs_batch.specs.declared.entries.Entry.{Entry}
 use Rattle.sccs_words.specs.Meaning.{meaning}
@@ -31,7 +32,9 @@ use Rattle.sccs_rcs.specs.ImportStep.{found_rcs, rcs_file}
 use Rattle.sccs_trunks.specs.TrunkHistories.{text_behind}
 use Rattle.sccs_trunks.specs.declared.revisions.Rcs.{Rcs}
 use Rattle.sccs_soak.specs.Commands.{soak_commands}
-use Rattle.sccs_top.specs.Runs.{Caller, action_of, caller_by, command_steps, entry_command, list_in, run_steps}
+use Rattle.sccs_front.specs.Front.{front_of}
+use Rattle.sccs_top.specs.Asked.{asked_of}
+use Rattle.sccs_top.specs.Runs.{Caller, action_of, caller_by, command_steps, entry_command, list_in, meant_course, run_steps}
 use Rattle.sccs_top.specs.declared.commands.CommandList.{CommandList}
 use Rattle.sccs_top.specs.declared.commands.CommandList.TheVariants as list
 
@@ -46,7 +49,7 @@ pub record PastRun : Type 0 where
   pub made : ℕ
 
 abbrev pub steps_made : PastRun → List NamedStep
-steps_made r = take r.made (run_steps r.who (meaning r.words) r.folder r.input)
+steps_made r = take r.made (run_steps r.who (asked_of r.words) r.folder r.input)
 
 -- the folder that it leaves
 abbrev pub folder_after_run : PastRun → Folder
@@ -81,7 +84,7 @@ soak_runs place m made (e ∷ es) =
     r ∷ (if (entry_command true place e m []).status == 0
     then soak_runs place (folder_after m (single_steps r (meaning e.words))) (made - suc (length (steps_of_entry r))) es else [])
 
--- the commands of a run: those of a list, or the one command
+-- the commands of a list, or the one command
 abbrev pub commands_by : Option CommandList → PastRun → List PastRun
 commands_by (Some list.Batch) r = if nat_lt file_limit (length r.input) then [] else entry_runs r.who.place r.folder (r.made - 1) (batch_of (text_of r.input)).entries
 commands_by (Some (list.Soak number)) r = soak_runs r.who.place r.folder r.made (soak_commands number)
@@ -91,8 +94,29 @@ abbrev pub list_meant : Result Command Usage → Option CommandList
 list_meant (Ok command) = list_in command
 list_meant (Err usage) = None
 
+-- those of words that mean a command
+abbrev pub commands_meant : PastRun → List PastRun
+commands_meant r = commands_by (list_meant (meaning r.words)) r
+
+-- the first command that the front end makes of a run, and what follows it, which has no input: each as a run of its own
+abbrev pub first_run : PastRun → List (List ℕ) → PastRun
+first_run r first = record { folder = r.folder; who = r.who; words = first; input = r.input; made = r.made }
+
+abbrev pub steps_meant : PastRun → List NamedStep
+steps_meant r = steps_along (meant_course r.who (meaning r.words)) r.folder r.input
+
+abbrev pub next_run : PastRun → List (List ℕ) → PastRun
+next_run r next = record { folder = folder_after r.folder (take r.made (steps_meant r)); who = r.who; words = next; input = []; made = r.made - length (steps_meant r) }
+
+-- of two commands the second counts where the status of the first is 0; other words are a command themselves
+abbrev pub commands_listed : PastRun → List (List (List ℕ)) → List PastRun
+commands_listed r [] = commands_meant r
+commands_listed r (first ∷ []) = commands_meant (first_run r first)
+commands_listed r (first ∷ next ∷ rest) =
+    commands_meant (first_run r first) ++ (if (meant_course r.who (meaning first) r.folder r.input).status == 0 then commands_meant (next_run (first_run r first) next) else [])
+
 abbrev pub commands_of : PastRun → List PastRun
-commands_of r = commands_by (list_meant (meaning r.words)) r
+commands_of r = commands_listed r (front_of r.words)
 
 -- where a command changes files no g-file has the name of an s-file, p-file or z-file
 abbrev pub IsPlainBy : Caller → Result Command Usage → List NamedStep → Type 0

@@ -1,3 +1,4 @@
+mod front;
 mod gets;
 mod hostile;
 mod judged;

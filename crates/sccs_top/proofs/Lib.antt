@@ -2,6 +2,8 @@ pub mod AdminValues
 pub mod FollowingLaws
 pub mod ListedRuns
 pub mod MadeHistoryLaws
+pub mod NextGets
 pub mod RunLaws
 pub mod SingleWords
 pub mod SoakFits
+pub mod TwoCommands

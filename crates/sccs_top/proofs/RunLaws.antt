@@ -43,8 +43,10 @@ use Rattle.sccs_soak.specs.Runs.{RunsSoak}
 use Rattle.sccs_soak.specs.Soak.{BegunSoak, WholeSoak, soak_course}
 use Rattle.sccs_top.specs.CommandLaws.{command_might}
 use Rattle.sccs_top.specs.Messages.{usage_line}
-use Rattle.sccs_top.specs.Runs.{AsksBy, AsksInput, AsksMeant, BegunBy, BegunCommand, BegunMeant, BegunOf, BegunRun, Caller, EndsRun, FitsEntry, IsGiven, LeavesInput, LeavesSingle, MadeBy, MakesSteps, RecoversRun, RunsCommand, RunsMeant, RunsWords, SpeaksWords, StopsSteps, UnlockedSteps, WholeCommand, WholeMeant, WholeOf, WholeRun, action_of, action_takes, caller_by, command_course, course_by, entry_command, is_list, is_silent, list_in, list_takes_input, steps_answer, only_reads, operands_of, run_course, run_portions, run_steps, steps_by, words_take_input, val_words_of, working}
+use Rattle.sccs_top.specs.Runs.{AsksBy, AsksInput, AsksWords, BegunAsked, BegunBy, BegunCommand, BegunMeant, BegunOf, BegunRun, BegunWords, Caller, EndsRun, FitsEntry, IsGiven, LeavesAsked, LeavesAskedInput, LeavesInput, LeavesSingle, MadeBy, MakesSteps, RecoversRun, RunsAsked, RunsCommand, RunsMeant, RunsWords, SpeaksWords, StopsSteps, UnlockedSteps, WholeCommand, WholeOf, WholeRun, WholeWords, action_of, action_takes, asked_is_silent, asked_reads, caller_by, command_course, course_by, entry_command, is_list, is_silent, list_in, list_takes_input, only_reads, operands_of, run_course, run_portions, run_steps, steps_answer, steps_by, val_words_of, words_take_input, working}
 use Rattle.sccs_top.proofs.SoakFits.{soak_fits}
+use Rattle.sccs_top.specs.declared.asking.Asked.{Asked}
+use Rattle.sccs_top.specs.declared.asking.Asked.TheVariants as ask
 use Rattle.sccs_top.specs.declared.commands.CommandList.{CommandList}
 use Rattle.sccs_top.specs.declared.commands.CommandList.TheVariants as list
 use Rattle.sccs_top.specs.declared.answers.Answer.{Answer}
@@ -72,6 +74,9 @@ usage_runs who usage given r s t same is causes = said_course [] (usage_line usa
 
 pub words_said : (who : Caller) (meant : Result Command Usage) (usage : Usage) (r : Result ℕ Fault) (s t : Setting) → meant ≡ Err usage → t.stage.told ≡ s.stage.told → IsSaid [] (usage_line usage) 2 r s.stage t.stage → RunCauses r s.faults t.faults → RunsWords who meant r s t
 words_said who meant usage r s t is same says causes = subst (λ (m : Result Command Usage). RunsWords who m r s t) (sym is) (inl (usage_runs who usage (λ i. Unit {0}) r s t same says causes))
+
+pub meant_said : (who : Caller) (meant : Result Command Usage) (usage : Usage) (r : Result ℕ Fault) (s t : Setting) → meant ≡ Err usage → t.stage.told ≡ s.stage.told → IsSaid [] (usage_line usage) 2 r s.stage t.stage → RunCauses r s.faults t.faults → RunsMeant who meant r s t
+meant_said who meant usage r s t is same says causes = subst (λ (m : Result Command Usage). RunsMeant who m r s t) (sym is) (usage_runs who usage (λ i. Unit {0}) r s t same says causes)
 
 pub said_causes : (code i o e e2 d : ℕ) → e ≤ e2 → RunCauses (Ok code) (counts i o e d) (counts i o e2 d)
 said_causes code i o e e2 d later = record {
@@ -143,7 +148,7 @@ pub batch_input : (who : Caller) (command : Command) (r : Result ℕ Fault) (s t
 batch_input who command r s t is none =
     absurd (let no : true ≡ false = sym (ap (λ (o : Option CommandList). list_takes_input o (hears (action_of who command) (operands_of command))) is) ∙ none in cc)
 
-no_rose : Rose 0 0 → ⊥
+pub no_rose : Rose 0 0 → ⊥
 no_rose (inl above) = absurd (omega (arith, above))
 no_rose (inr full) = absurd (let no : 0 ≡ 18446744073709551615 = full in omega (arith, no))
 
@@ -156,9 +161,9 @@ single_input who command r s t is runs none = runs.ignores (sym (ap (λ (o : Opt
 
 -- ---- how a run ends
 
-given_to : (who : Caller) (meant : Result Command Usage) (left : Option (List ℕ)) (m : Folder) (i : List ℕ) → IsGiven who meant left m i → IsGivenTo (run_course who meant) (AsksMeant who meant left) m i
+given_to : (who : Caller) (words : Result Asked Usage) (left : Option (List ℕ)) (m : Folder) (i : List ℕ) → IsGiven who words left m i → IsGivenTo (run_course who words) (AsksWords who words left) m i
 given_to who (Err usage) left m i given = (tt, (((λ fits. absurd (cc)), tt), tt))
-given_to who (Ok command) left m i given = given
+given_to who (Ok asked) left m i given = given
 
 answer_ends : (code : ℕ) (w : List ℕ → Bool) (answer : Answer) (m : Folder) (ts : List NamedStep) (a b : World) → RunsTo code w (steps_answer answer) m ts a b → EndsRun code w answer m ts a b
 answer_ends code w (Finished status) m ts a b runs = runs
@@ -167,30 +172,30 @@ answer_ends code w ReadFault m ts a b runs = runs
 answer_ends code w WriteFault m ts a b runs = runs
 answer_ends code w DiskFault m ts a b runs = runs
 
-pub meant_ends : (who : Caller) (meant : Result Command Usage) (answer : Answer) (made : Result ℕ Fault) (s t : Setting) → steps_answer answer ≡ made → RunsMeant who meant made s t → MakesSteps who meant answer s.left s.stage t.stage
-meant_ends who meant answer made s t answered runs = λ m i given shows.
-    answer_ends (run_course who meant m i).status (working who meant m i) answer m (run_steps who meant m i) (shown s.stage) (shown t.stage)
-    (subst (λ (r : Result ℕ Fault). RunsTo (run_course who meant m i).status (working who meant m i) r m (run_steps who meant m i) (shown s.stage) (shown t.stage)) (sym answered)
-    (own_makes (run_course who meant) (AsksMeant who meant s.left) made s.stage t.stage runs.steps m i (given_to who meant s.left m i given) shows))
+pub words_end : (who : Caller) (words : Result Asked Usage) (answer : Answer) (made : Result ℕ Fault) (s t : Setting) → steps_answer answer ≡ made → RunsAsked who words made s t → MakesSteps who words answer s.left s.stage t.stage
+words_end who words answer made s t answered runs = λ m i given shows.
+    answer_ends (run_course who words m i).status (working who words m i) answer m (run_steps who words m i) (shown s.stage) (shown t.stage)
+    (subst (λ (r : Result ℕ Fault). RunsTo (run_course who words m i).status (working who words m i) r m (run_steps who words m i) (shown s.stage) (shown t.stage)) (sym answered)
+    (own_makes (run_course who words) (AsksWords who words s.left) made s.stage t.stage runs.steps m i (given_to who words s.left m i given) shows))
 
-pub meant_stops : (who : Caller) (meant : Result Command Usage) (answer : Answer) (made : Result ℕ Fault) (s t : Setting) → steps_answer answer ≡ made → RunsMeant who meant made s t → StopsSteps who meant answer s.left s.stage t.stage
-meant_stops who meant answer made s t answered runs = λ folder i m past given shows told calm safe.
-    subst (λ (r : Result ℕ Fault). CourseMoments (working who meant folder i) r folder (run_steps who meant folder i) s.stage t.stage m past) (sym answered)
-    (own_stops (run_course who meant) (AsksMeant who meant s.left) made s.stage t.stage runs.stops folder i m past (given_to who meant s.left folder i given) shows told calm safe)
+pub words_stop : (who : Caller) (words : Result Asked Usage) (answer : Answer) (made : Result ℕ Fault) (s t : Setting) → steps_answer answer ≡ made → RunsAsked who words made s t → StopsSteps who words answer s.left s.stage t.stage
+words_stop who words answer made s t answered runs = λ folder i m past given shows told calm safe.
+    subst (λ (r : Result ℕ Fault). CourseMoments (working who words folder i) r folder (run_steps who words folder i) s.stage t.stage m past) (sym answered)
+    (own_stops (run_course who words) (AsksWords who words s.left) made s.stage t.stage runs.stops folder i m past (given_to who words s.left folder i given) shows told calm safe)
 
-pub meant_unlocked : (who : Caller) (meant : Result Command Usage) (made : Result ℕ Fault) (s t : Setting) → RunsMeant who meant made s t → UnlockedSteps who meant s.left s.stage.told t.stage.told
-meant_unlocked who meant made s t runs = λ folder i given shows exempt plain freed.
-    own_unlocked (run_course who meant) (AsksMeant who meant s.left) s.stage.told t.stage.told runs.unlocked folder i (given_to who meant s.left folder i given) shows exempt plain freed
+pub words_unlocked : (who : Caller) (words : Result Asked Usage) (made : Result ℕ Fault) (s t : Setting) → RunsAsked who words made s t → UnlockedSteps who words s.left s.stage.told t.stage.told
+words_unlocked who words made s t runs = λ folder i given shows exempt plain freed.
+    own_unlocked (run_course who words) (AsksWords who words s.left) s.stage.told t.stage.told runs.unlocked folder i (given_to who words s.left folder i given) shows exempt plain freed
 
-pub meant_speaks : (who : Caller) (meant : Result Command Usage) (answer : Answer) (made : Result ℕ Fault) (s t : Setting) → steps_answer answer ≡ made → RunsMeant who meant made s t → SpeaksWords who meant answer s.stage.err t.stage.err
-meant_speaks who meant answer made s t answered runs = subst (λ (r : Result ℕ Fault). SpeaksTo (WholeMeant who meant) (BegunMeant who meant) r s.stage.err t.stage.err) (sym answered) runs.speaks
+pub words_speak : (who : Caller) (words : Result Asked Usage) (answer : Answer) (made : Result ℕ Fault) (s t : Setting) → steps_answer answer ≡ made → RunsAsked who words made s t → SpeaksWords who words answer s.stage.err t.stage.err
+words_speak who words answer made s t answered runs = subst (λ (r : Result ℕ Fault). SpeaksTo (WholeWords who words) (BegunWords who words) r s.stage.err t.stage.err) (sym answered) runs.speaks
 
--- the words as they are meant
-pub meant_runs : (who : Caller) (meant : Result Command Usage) (command : Command) (r : Result ℕ Fault) (s t : Setting) → meant ≡ Ok command → RunsMeant who (Ok command) r s t → RunsMeant who meant r s t
-meant_runs who meant command r s t is runs = subst (λ (m : Result Command Usage). RunsMeant who m r s t) (sym is) runs
+-- words as they are read
+pub asked_runs : (who : Caller) (words : Result Asked Usage) (asked : Asked) (r : Result ℕ Fault) (s t : Setting) → words ≡ Ok asked → RunsAsked who (Ok asked) r s t → RunsAsked who words r s t
+asked_runs who words asked r s t is runs = subst (λ (m : Result Asked Usage). RunsAsked who m r s t) (sym is) runs
 
-pub meant_said : (who : Caller) (meant : Result Command Usage) (usage : Usage) (r : Result ℕ Fault) (s t : Setting) → meant ≡ Err usage → t.stage.told ≡ s.stage.told → IsSaid [] (usage_line usage) 2 r s.stage t.stage → RunCauses r s.faults t.faults → RunsMeant who meant r s t
-meant_said who meant usage r s t is same says causes = subst (λ (m : Result Command Usage). RunsMeant who m r s t) (sym is) (usage_runs who usage (λ i. Unit {0}) r s t same says causes)
+pub asked_said : (who : Caller) (words : Result Asked Usage) (usage : Usage) (r : Result ℕ Fault) (s t : Setting) → words ≡ Err usage → t.stage.told ≡ s.stage.told → IsSaid [] (usage_line usage) 2 r s.stage t.stage → RunCauses r s.faults t.faults → RunsAsked who words r s t
+asked_said who words usage r s t is same says causes = subst (λ (m : Result Asked Usage). RunsAsked who m r s t) (sym is) (usage_runs who usage (λ i. Unit {0}) r s t same says causes)
 
 -- ---- what a single command leaves
 
@@ -202,17 +207,23 @@ only_single : (list other : Bool) → cond list false other ≡ true → (list �
 only_single true other is = absurd (cc)
 only_single false other is = (refl, is)
 
-pub single_reads : (who : Caller) (meant : Result Command Usage) (command : Command) (r : Result ℕ Fault) (s t : Setting) → meant ≡ Ok command → LeavesSingle who command r s t → only_reads who meant ≡ true → t.stage.told ≡ s.stage.told
-single_reads who meant command r s t is leaves only =
-    let one = only_single (is_list command) (action_of who command).reads (subst (λ (m : Result Command Usage). only_reads who m ≡ true) is only) in (leaves one.0).reads one.1
+reads_alone : (who : Caller) (asked : Asked) (r : Result ℕ Fault) (s t : Setting) → LeavesAsked who asked r s t → asked_reads who asked ≡ true → t.stage.told ≡ s.stage.told
+reads_alone who (ask.One command) r s t leaves only = let one = only_single (is_list command) (action_of who command).reads only in (leaves one.0).reads one.1
+reads_alone who (ask.Two first next) r s t leaves only = absurd (cc)
 
-pub single_silent : (who : Caller) (meant : Result Command Usage) (command : Command) (r : Result ℕ Fault) (s t : Setting) → meant ≡ Ok command → LeavesSingle who command r s t → is_silent who meant ≡ true → t.stage.out ≡ s.stage.out
-single_silent who meant command r s t is leaves only =
-    let one = only_single (is_list command) (action_of who command).silent (subst (λ (m : Result Command Usage). is_silent who m ≡ true) is only) in (leaves one.0).silent one.1
+pub words_read : (who : Caller) (words : Result Asked Usage) (asked : Asked) (r : Result ℕ Fault) (s t : Setting) → words ≡ Ok asked → LeavesAsked who asked r s t → only_reads who words ≡ true → t.stage.told ≡ s.stage.told
+words_read who words asked r s t is leaves only = reads_alone who asked r s t leaves (subst (λ (m : Result Asked Usage). only_reads who m ≡ true) is only)
 
-pub input_left : (who : Caller) (meant : Result Command Usage) (command : Command) (r : Result ℕ Fault) (s t : Setting) → meant ≡ Ok command → LeavesInput who command r s t → words_take_input who meant ≡ false
+silent_alone : (who : Caller) (asked : Asked) (r : Result ℕ Fault) (s t : Setting) → LeavesAsked who asked r s t → asked_is_silent who asked ≡ true → t.stage.out ≡ s.stage.out
+silent_alone who (ask.One command) r s t leaves only = let one = only_single (is_list command) (action_of who command).silent only in (leaves one.0).silent one.1
+silent_alone who (ask.Two first next) r s t leaves only = absurd (cc)
+
+pub words_are_silent : (who : Caller) (words : Result Asked Usage) (asked : Asked) (r : Result ℕ Fault) (s t : Setting) → words ≡ Ok asked → LeavesAsked who asked r s t → is_silent who words ≡ true → t.stage.out ≡ s.stage.out
+words_are_silent who words asked r s t is leaves only = silent_alone who asked r s t leaves (subst (λ (m : Result Asked Usage). is_silent who m ≡ true) is only)
+
+pub input_left : (who : Caller) (words : Result Asked Usage) (asked : Asked) (r : Result ℕ Fault) (s t : Setting) → words ≡ Ok asked → LeavesAskedInput who asked r s t → words_take_input who words ≡ false
     → Ignores ends.ReadFault s.left t.left s.faults.input t.faults.input r
-input_left who meant command r s t is leaves none = leaves (subst (λ (m : Result Command Usage). words_take_input who m ≡ false) is none)
+input_left who words asked r s t is leaves none = leaves (subst (λ (m : Result Asked Usage). words_take_input who m ≡ false) is none)
 
 -- no list
 not_listed : (o : Option CommandList) → is_some o ≡ false → o ≡ None
@@ -231,11 +242,9 @@ abbrev CalmBy : Option CommandList → Caller → Command → Option (List ℕ) 
 CalmBy list who command left a b = (folder : Folder) (i : List ℕ) → IsGivenTo (course_by list who command) (AsksBy list who command left) folder i → Shows (working_along (course_by list who command) folder i) (seen a) (view_in folder)
     → has_made (steps_along (course_by list who command) folder i) ≡ true → LeavesCalm a b
 
-pub single_recovers : (who : Caller) (meant : Result Command Usage) (command : Command) (answer : Answer) (made : Result ℕ Fault) (s t : Setting) → meant ≡ Ok command → steps_answer answer ≡ made → LeavesSingle who command made s t
-    → RecoversRun who meant answer s.left s.stage.told t.stage.told
-single_recovers who meant command answer made s t is answered leaves =
-    subst (λ (m : Result Command Usage). RecoversRun who m answer s.left s.stage.told t.stage.told) (sym is)
-    (λ never.
+recovers_alone : (who : Caller) (asked : Asked) (answer : Answer) (made : Result ℕ Fault) (s t : Setting) → steps_answer answer ≡ made → LeavesAsked who asked made s t → RecoversRun who (Ok asked) answer s.left s.stage.told t.stage.told
+recovers_alone who (ask.Two first next) answer made s t answered leaves = λ never. absurd (cc)
+recovers_alone who (ask.One command) answer made s t answered leaves = λ never.
     let one = no_list (is_list command) (action_of who command).locks never in
     let rec = (leaves one.0).recovers one.1 in
     record {
@@ -246,14 +255,19 @@ single_recovers who meant command answer made s t is answered leaves =
           (λ folder i given shows is_made.
           rec.calm (subst (λ (r : Result ℕ Fault). IsOk r) answered ok) (working_along (command_course who (Ok command)) folder i) folder i (spares_in (portions_of (command_course who (Ok command)) folder i)) given.1.0 shows given.0 is_made);
       keeps = λ other. rec.keeps (ended_faults answer made answered other);
-    })
+    }
 
-pub never_recovers : (who : Caller) (meant : Result Command Usage) (left : Option (List ℕ)) (a : Told) → RecoversRun who meant Memory left a a
-never_recovers who meant left a = λ never. record { story = story_same a a refl; firm = firm_same a a refl; calm = λ ok. absurd (cc); keeps = λ other. calm_same a a refl }
+pub words_recover : (who : Caller) (words : Result Asked Usage) (asked : Asked) (answer : Answer) (made : Result ℕ Fault) (s t : Setting) → words ≡ Ok asked → steps_answer answer ≡ made → LeavesAsked who asked made s t
+    → RecoversRun who words answer s.left s.stage.told t.stage.told
+words_recover who words asked answer made s t is answered leaves =
+    subst (λ (m : Result Asked Usage). RecoversRun who m answer s.left s.stage.told t.stage.told) (sym is) (recovers_alone who asked answer made s t answered leaves)
+
+pub never_recovers : (who : Caller) (words : Result Asked Usage) (left : Option (List ℕ)) (a : Told) → RecoversRun who words Memory left a a
+never_recovers who words left a = λ never. record { story = story_same a a refl; firm = firm_same a a refl; calm = λ ok. absurd (cc); keeps = λ other. calm_same a a refl }
 
 -- a usage fault isn't recovery
-pub usage_recovers : (who : Caller) (meant : Result Command Usage) (usage : Usage) (answer : Answer) (left : Option (List ℕ)) (a b : Told) → meant ≡ Err usage → RecoversRun who meant answer left a b
-usage_recovers who meant usage answer left a b is = subst (λ (r : Result Command Usage). RecoversRun who r answer left a b) (sym is) (λ never. absurd (cc))
+pub usage_recovers : (who : Caller) (words : Result Asked Usage) (usage : Usage) (answer : Answer) (left : Option (List ℕ)) (a b : Told) → words ≡ Err usage → RecoversRun who words answer left a b
+usage_recovers who words usage answer left a b is = subst (λ (r : Result Asked Usage). RecoversRun who r answer left a b) (sym is) (λ never. absurd (cc))
 
 -- ---- nothing was done
 
@@ -266,27 +280,35 @@ might_meant : (who : Caller) (meant : Result Command Usage) → (ts : List Named
 might_meant who (Err usage) = command_might who (Err usage)
 might_meant who (Ok command) = might_run (list_in command) who command
 
-pub never_speaks : (who : Caller) (meant : Result Command Usage) (err : Option (List ℕ)) → SpeaksWords who meant Memory err err
-never_speaks who meant err = ((might_meant who meant).0, (might_meant who meant).1, some_none err (err_of (might_meant who meant).0))
+might_asked : (who : Caller) (asked : Asked) → (ts : List NamedStep) × BegunAsked who asked ts
+might_asked who (ask.One command) = might_meant who (Ok command)
+might_asked who (ask.Two first next) = ((might_meant who (Ok first)).0, inl (might_meant who (Ok first)).1)
 
-pub same_unlocked : (who : Caller) (meant : Result Command Usage) (left : Option (List ℕ)) (a : Told) → UnlockedSteps who meant left a a
-same_unlocked who meant left a = λ folder i given shows exempt plain freed. but_same exempt a a refl
+might_words : (who : Caller) (words : Result Asked Usage) → (ts : List NamedStep) × BegunWords who words ts
+might_words who (Err usage) = might_meant who (Err usage)
+might_words who (Ok asked) = might_asked who asked
 
-pub never_begun : (who : Caller) (meant : Result Command Usage) (left : Option (List ℕ)) (a : Scene) → MakesSteps who meant Memory left a a
-never_begun who meant left a = λ m i given shows. (
+pub never_speaks : (who : Caller) (words : Result Asked Usage) (err : Option (List ℕ)) → SpeaksWords who words Memory err err
+never_speaks who words err = ((might_words who words).0, (might_words who words).1, some_none err (err_of (might_words who words).0))
+
+pub same_unlocked : (who : Caller) (words : Result Asked Usage) (left : Option (List ℕ)) (a : Told) → UnlockedSteps who words left a a
+same_unlocked who words left a = λ folder i given shows exempt plain freed. but_same exempt a a refl
+
+pub never_begun : (who : Caller) (words : Result Asked Usage) (left : Option (List ℕ)) (a : Scene) → MakesSteps who words Memory left a a
+never_begun who words left a = λ m i given shows. (
   record {
     made = [];
-    rest = run_steps who meant m i;
+    rest = run_steps who words m i;
     is = refl;
     view = shows;
-    cleared = cleared_same (working who meant m i) (seen a.told) (seen a.told) refl;
-    out = some_none a.out (next_text (run_steps who meant m i));
+    cleared = cleared_same (working who words m i) (seen a.told) (seen a.told) refl;
+    out = some_none a.out (next_text (run_steps who words m i));
     err = some_none a.err [];
   },
   inl refl,
 )
 
-pub never_stops : (who : Caller) (meant : Result Command Usage) (left : Option (List ℕ)) (a : Scene) → StopsSteps who meant Memory left a a
-never_stops who meant left a = λ folder i m past given shows told calm safe.
-    course_moments (working who meant folder i) (steps_answer Memory) folder (run_steps who meant folder i) a a m past (spares_in (run_portions who meant folder i)) shows told
-    (moments_never (working who meant folder i) ends.Memory folder (run_steps who meant folder i) a m past (spares_in (run_portions who meant folder i)) told calm (alike_told (working who meant folder i) folder a.told m past told shows) shows) (images_now m calm)
+pub never_stops : (who : Caller) (words : Result Asked Usage) (left : Option (List ℕ)) (a : Scene) → StopsSteps who words Memory left a a
+never_stops who words left a = λ folder i m past given shows told calm safe.
+    course_moments (working who words folder i) (steps_answer Memory) folder (run_steps who words folder i) a a m past (spares_in (run_portions who words folder i)) shows told
+    (moments_never (working who words folder i) ends.Memory folder (run_steps who words folder i) a m past (spares_in (run_portions who words folder i)) told calm (alike_told (working who words folder i) folder a.told m past told shows) shows) (images_now m calm)

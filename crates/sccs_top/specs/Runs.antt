@@ -48,10 +48,11 @@ use Rattle.sccs_prs.specs.PrsStep.{prs_action}
 use Rattle.sccs_val.specs.ValStep.{val_action, val_operands, val_steps}
 use Rattle.sccs_what.specs.Checks.{what_keeps}
 use Rattle.sccs_what.specs.WhatStep.{what_action}
-use Rattle.sccs_courses.specs.Courses.{AllExempt, AllPlain, AllSafe, Courses, Portion, TakesSfiles, no_action, portion_of, portions_of, saying, steps_along}
-use Rattle.sccs_courses.specs.Following.{CourseMoments, RunsCourse, RunsTo, SpeaksTo, WholeBy}
+use Rattle.sccs_courses.specs.Courses.{AllExempt, AllPlain, AllSafe, Courses, Portion, TakesSfiles, follow, if_fine, no_action, portion_of, portions_of, saying, steps_along}
+use Rattle.sccs_courses.specs.Following.{BegunThen, CourseMoments, RunsCourse, RunsTo, SpeaksTo, WholeBy, WholeThen}
 use Rattle.sccs_courses.specs.OwnFiles.{IsGivenTo, working_along}
 use Rattle.sccs_courses.specs.Sayings.{BegunSaid, WholeSaid}
+use Rattle.sccs_courses.specs.WhileFine.{BegunIfFine, WholeIfFine}
 use Rattle.sccs_batch.specs.Batches.{BegunBatch, WholeBatch, batch_course}
 use Rattle.sccs_batch.specs.BatchText.{batch_of}
 use Rattle.sccs_batch.specs.declared.entries.Entry.{Entry}
@@ -61,6 +62,8 @@ use Rattle.sccs_steps.specs.Causes.{Ignores}
 use Rattle.sccs_top.specs.Messages.{usage_line}
 use Rattle.sccs_soak.specs.Dropping.{dropping}
 use Rattle.sccs_soak.specs.Soak.{BegunSoak, WholeSoak, soak_course}
+use Rattle.sccs_top.specs.declared.asking.Asked.{Asked}
+use Rattle.sccs_top.specs.declared.asking.Asked.TheVariants as ask
 use Rattle.sccs_top.specs.declared.commands.CommandList.{CommandList}
 use Rattle.sccs_top.specs.declared.commands.CommandList.TheVariants as list
 use Rattle.sccs_top.specs.declared.answers.Answer.{Answer}
@@ -213,25 +216,38 @@ course_by (Some list.Batch) who command = batch_course (entry_command false who.
 course_by (Some (list.Soak number)) who command = soak_course (entry_command true who.place) number
 course_by None who command = command_course who (Ok command)
 
--- what a run does
-abbrev pub run_course : Caller → Result Command Usage → Courses
-run_course who (Err usage) = command_course who (Err usage)
-run_course who (Ok command) = course_by (list_in command) who command
+-- what words that mean a command do
+abbrev pub meant_course : Caller → Result Command Usage → Courses
+meant_course who (Err usage) = command_course who (Err usage)
+meant_course who (Ok command) = course_by (list_in command) who command
+
+-- what follows a first command, which has no input
+abbrev pub next_course : Caller → Result Command Usage → Courses
+next_course who next = λ folder i. meant_course who next folder []
+
+-- what a run does: of two commands the second where the first one's status is 0
+abbrev pub asked_course : Caller → Asked → Courses
+asked_course who (ask.One command) = meant_course who (Ok command)
+asked_course who (ask.Two first next) = follow (meant_course who (Ok first)) (if_fine (next_course who next))
+
+abbrev pub run_course : Caller → Result Asked Usage → Courses
+run_course who (Err usage) = meant_course who (Err usage)
+run_course who (Ok asked) = asked_course who asked
 
 -- the steps of a run in a folder, with an input; and those of a single command
-abbrev pub run_steps : Caller → Result Command Usage → Folder → List ℕ → List NamedStep
-run_steps who meant m i = steps_along (run_course who meant) m i
+abbrev pub run_steps : Caller → Result Asked Usage → Folder → List ℕ → List NamedStep
+run_steps who words m i = steps_along (run_course who words) m i
 
 abbrev pub command_steps : Caller → Result Command Usage → Folder → List ℕ → List NamedStep
 command_steps who meant m i = steps_along (command_course who meant) m i
 
 -- their actions
-abbrev pub run_portions : Caller → Result Command Usage → Folder → List ℕ → List Portion
-run_portions who meant m i = portions_of (run_course who meant) m i
+abbrev pub run_portions : Caller → Result Asked Usage → Folder → List ℕ → List Portion
+run_portions who words m i = portions_of (run_course who words) m i
 
 -- the working files of a run; a command that only reads has none
-abbrev pub working : Caller → Result Command Usage → Folder → List ℕ → List ℕ → Bool
-working who meant m i = working_along (run_course who meant) m i
+abbrev pub working : Caller → Result Asked Usage → Folder → List ℕ → List ℕ → Bool
+working who words m i = working_along (run_course who words) m i
 
 -- ---- what is asked
 
@@ -254,10 +270,18 @@ abbrev pub AsksMeant : Caller → Result Command Usage → Option (List ℕ) →
 AsksMeant who (Err usage) left i = Unit {0}
 AsksMeant who (Ok command) left i = AsksBy (list_in command) who command left i
 
+abbrev pub AsksFor : Caller → Asked → Option (List ℕ) → List ℕ → Type 0
+AsksFor who (ask.One command) left i = AsksMeant who (Ok command) left i
+AsksFor who (ask.Two first next) left i = AsksMeant who (Ok first) left i × AsksMeant who next (Some []) []
+
+abbrev pub AsksWords : Caller → Result Asked Usage → Option (List ℕ) → List ℕ → Type 0
+AsksWords who (Err usage) left i = Unit {0}
+AsksWords who (Ok asked) left i = AsksFor who asked left i
+
 -- the same, and the files of the names of steps are apart from working files
-abbrev pub IsGiven : Caller → Result Command Usage → Option (List ℕ) → Folder → List ℕ → Type 0
+abbrev pub IsGiven : Caller → Result Asked Usage → Option (List ℕ) → Folder → List ℕ → Type 0
 IsGiven who (Err usage) left m i = Unit {0}
-IsGiven who (Ok command) left m i = IsGivenTo (course_by (list_in command) who command) (AsksBy (list_in command) who command left) m i
+IsGiven who (Ok asked) left m i = IsGivenTo (asked_course who asked) (AsksFor who asked left) m i
 
 -- ---- over any disk
 
@@ -304,6 +328,23 @@ abbrev pub BegunMeant : Caller → Result Command Usage → List NamedStep → T
 BegunMeant who (Err usage) = BegunCommand who (Err usage)
 BegunMeant who (Ok command) = BegunRun (list_in command) who command
 
+-- those of two commands, the second where the first one's status is 0
+abbrev pub WholeAsked : Caller → Asked → ℕ → List NamedStep → Type 0
+WholeAsked who (ask.One command) = WholeMeant who (Ok command)
+WholeAsked who (ask.Two first next) = WholeThen (WholeMeant who (Ok first)) (WholeIfFine (WholeMeant who next))
+
+abbrev pub BegunAsked : Caller → Asked → List NamedStep → Type 0
+BegunAsked who (ask.One command) = BegunMeant who (Ok command)
+BegunAsked who (ask.Two first next) = BegunThen (WholeMeant who (Ok first)) (BegunMeant who (Ok first)) (BegunIfFine (BegunMeant who next))
+
+abbrev pub WholeWords : Caller → Result Asked Usage → ℕ → List NamedStep → Type 0
+WholeWords who (Err usage) = WholeMeant who (Err usage)
+WholeWords who (Ok asked) = WholeAsked who asked
+
+abbrev pub BegunWords : Caller → Result Asked Usage → List NamedStep → Type 0
+BegunWords who (Err usage) = BegunMeant who (Err usage)
+BegunWords who (Ok asked) = BegunAsked who asked
+
 -- ---- calls
 
 -- a call that does a single command, or did nothing for want of memory
@@ -313,7 +354,11 @@ RunsWords who meant r s t =
 
 -- a call that does what words mean
 abbrev pub RunsMeant : Caller → Result Command Usage → Result ℕ Fault → Setting → Setting → Type 0
-RunsMeant who meant r s t = RunsCourse (run_course who meant) (AsksMeant who meant s.left) (WholeMeant who meant) (BegunMeant who meant) r s t
+RunsMeant who meant r s t = RunsCourse (meant_course who meant) (AsksMeant who meant s.left) (WholeMeant who meant) (BegunMeant who meant) r s t
+
+-- a call that does what words ask for
+abbrev pub RunsAsked : Caller → Result Asked Usage → Result ℕ Fault → Setting → Setting → Type 0
+RunsAsked who words r s t = RunsCourse (run_course who words) (AsksWords who words s.left) (WholeWords who words) (BegunWords who words) r s t
 
 -- what a single command leaves as it was: the same as a call of its steps
 pub record LeavesAlone (x : Action) (made : Steps) (given : List ℕ → Type 0) (hearing : Bool) (r : Result ℕ Fault) (s t : Setting) : Type 0 where
@@ -326,10 +371,10 @@ abbrev pub LeavesSingle : Caller → Command → Result ℕ Fault → Setting �
 LeavesSingle who command r s t = is_list command ≡ false
     → LeavesAlone (action_of who command) (steps_by (val_words_of command) (action_of who command) (operands_of command)) (IsInput (action_of who command) (operands_of command) s.left) (hears (action_of who command) (operands_of command)) r s t
 
--- what a single command is done by; a usage fault is said, and nothing is done
-abbrev pub action_meant : Caller → Result Command Usage → Action
-action_meant who (Err usage) = no_action
-action_meant who (Ok command) = action_of who command
+-- of two commands nothing more is said
+abbrev pub LeavesAsked : Caller → Asked → Result ℕ Fault → Setting → Setting → Type 0
+LeavesAsked who (ask.One command) r s t = LeavesSingle who command r s t
+LeavesAsked who (ask.Two first next) r s t = Unit {0}
 
 -- ---- a run
 
@@ -346,10 +391,10 @@ EndsRun code w WriteFault m ts a b = Stopped w m ts a b
 EndsRun code w DiskFault m ts a b = ListInterrupted w m ts a b
 
 -- where the disk tells a folder the steps of these words are made, or the run ends early
-abbrev pub MakesSteps : Caller → Result Command Usage → Answer → Option (List ℕ) → Scene → Scene → Type 0
-MakesSteps who meant answer left a b = (m : Folder) (i : List ℕ)
-    → IsGiven who meant left m i → Shows (working who meant m i) (seen a.told) (view_in m)
-    → EndsRun (run_course who meant m i).status (working who meant m i) answer m (run_steps who meant m i) (shown a) (shown b)
+abbrev pub MakesSteps : Caller → Result Asked Usage → Answer → Option (List ℕ) → Scene → Scene → Type 0
+MakesSteps who words answer left a b = (m : Folder) (i : List ℕ)
+    → IsGiven who words left m i → Shows (working who words m i) (seen a.told) (view_in m)
+    → EndsRun (run_course who words m i).status (working who words m i) answer m (run_steps who words m i) (shown a) (shown b)
 
 -- the answer as that of steps
 abbrev pub steps_answer : Answer → Result ℕ Fault
@@ -360,17 +405,26 @@ steps_answer WriteFault = Err ends.WriteFault
 steps_answer DiskFault = Err ends.DiskFault
 
 -- over any disk: some steps that may come explain the status and what is written on err
-abbrev pub SpeaksWords : Caller → Result Command Usage → Answer → Option (List ℕ) → Option (List ℕ) → Type 0
-SpeaksWords who meant answer err err2 = SpeaksTo (WholeMeant who meant) (BegunMeant who meant) (steps_answer answer) err err2
+abbrev pub SpeaksWords : Caller → Result Asked Usage → Answer → Option (List ℕ) → Option (List ℕ) → Type 0
+SpeaksWords who words answer err err2 = SpeaksTo (WholeWords who words) (BegunWords who words) (steps_answer answer) err err2
 
--- whether the words change no file, write nothing on out, and take no input
-abbrev pub only_reads : Caller → Result Command Usage → Bool
+-- whether the words change no file, write nothing on out, and take no input; of two commands nothing is said but of the input, which
+-- the first one alone may take
+abbrev pub asked_reads : Caller → Asked → Bool
+asked_reads who (ask.One command) = if is_list command then false else (action_of who command).reads
+asked_reads who (ask.Two first next) = false
+
+abbrev pub only_reads : Caller → Result Asked Usage → Bool
 only_reads who (Err usage) = true
-only_reads who (Ok command) = if is_list command then false else (action_of who command).reads
+only_reads who (Ok asked) = asked_reads who asked
 
-abbrev pub is_silent : Caller → Result Command Usage → Bool
+abbrev pub asked_is_silent : Caller → Asked → Bool
+asked_is_silent who (ask.One command) = if is_list command then false else (action_of who command).silent
+asked_is_silent who (ask.Two first next) = false
+
+abbrev pub is_silent : Caller → Result Asked Usage → Bool
 is_silent who (Err usage) = true
-is_silent who (Ok command) = if is_list command then false else (action_of who command).silent
+is_silent who (Ok asked) = asked_is_silent who asked
 
 -- a batch takes it, a soak doesn't
 abbrev pub list_takes_input : Option CommandList → Bool → Bool
@@ -378,45 +432,60 @@ list_takes_input (Some list.Batch) single = true
 list_takes_input (Some (list.Soak number)) single = false
 list_takes_input None single = single
 
-abbrev pub words_take_input : Caller → Result Command Usage → Bool
+abbrev pub command_takes_input : Caller → Command → Bool
+command_takes_input who command = list_takes_input (list_in command) (hears (action_of who command) (operands_of command))
+
+abbrev pub asked_takes_input : Caller → Asked → Bool
+asked_takes_input who (ask.One command) = command_takes_input who command
+asked_takes_input who (ask.Two first next) = command_takes_input who first
+
+abbrev pub words_take_input : Caller → Result Asked Usage → Bool
 words_take_input who (Err usage) = false
-words_take_input who (Ok command) = list_takes_input (list_in command) (hears (action_of who command) (operands_of command))
+words_take_input who (Ok asked) = asked_takes_input who asked
 
 -- a command that doesn't take the input leaves it
 abbrev pub LeavesInput : Caller → Command → Result ℕ Fault → Setting → Setting → Type 0
-LeavesInput who command r s t = words_take_input who (Ok command) ≡ false → Ignores ends.ReadFault s.left t.left s.faults.input t.faults.input r
+LeavesInput who command r s t = command_takes_input who command ≡ false → Ignores ends.ReadFault s.left t.left s.faults.input t.faults.input r
+
+-- so do words
+abbrev pub LeavesAskedInput : Caller → Asked → Result ℕ Fault → Setting → Setting → Type 0
+LeavesAskedInput who asked r s t = asked_takes_input who asked ≡ false → Ignores ends.ReadFault s.left t.left s.faults.input t.faults.input r
 
 -- What a stop leaves of a run that begins on a calm disk, where the names of its steps are safe: all names as after one number of
 -- steps, no fewer than those that are acknowledged.
-abbrev pub StopsSteps : Caller → Result Command Usage → Answer → Option (List ℕ) → Scene → Scene → Type 0
-StopsSteps who meant answer left a b = (folder : Folder) (i : List ℕ) (m : Model) (past : List Model)
-    → IsGiven who meant left folder i → Shows (working who meant folder i) (seen a.told) (view_in folder)
-    → a.told ≡ Tells m past → IsCalm m → AllSafe (view_in folder) (run_portions who meant folder i)
-    → CourseMoments (working who meant folder i) (steps_answer answer) folder (run_steps who meant folder i) a b m past
+abbrev pub StopsSteps : Caller → Result Asked Usage → Answer → Option (List ℕ) → Scene → Scene → Type 0
+StopsSteps who words answer left a b = (folder : Folder) (i : List ℕ) (m : Model) (past : List Model)
+    → IsGiven who words left folder i → Shows (working who words folder i) (seen a.told) (view_in folder)
+    → a.told ≡ Tells m past → IsCalm m → AllSafe (view_in folder) (run_portions who words folder i)
+    → CourseMoments (working who words folder i) (steps_answer answer) folder (run_steps who words folder i) a b m past
 
 -- Before each change of an s-file or p-file its z-file wasn't there at a moment of the run, but of names that are recovered.
-abbrev pub UnlockedSteps : Caller → Result Command Usage → Option (List ℕ) → Told → Told → Type 0
-UnlockedSteps who meant left old new = (folder : Folder) (i : List ℕ)
-    → IsGiven who meant left folder i → Shows (working who meant folder i) (seen old) (view_in folder)
-    → (exempt : List ℕ → Bool) → AllPlain (run_portions who meant folder i) → AllExempt exempt (run_portions who meant folder i) → BeginsUnlockedBut exempt old new
+abbrev pub UnlockedSteps : Caller → Result Asked Usage → Option (List ℕ) → Told → Told → Type 0
+UnlockedSteps who words left old new = (folder : Folder) (i : List ℕ)
+    → IsGiven who words left folder i → Shows (working who words folder i) (seen old) (view_in folder)
+    → (exempt : List ℕ → Bool) → AllPlain (run_portions who words folder i) → AllExempt exempt (run_portions who words folder i) → BeginsUnlockedBut exempt old new
 
--- whether no step of the words locks its name
-abbrev pub locks_names : Caller → Result Command Usage → Bool
+-- whether steps of the words lock their names
+abbrev pub asked_locks : Caller → Asked → Bool
+asked_locks who (ask.One command) = if is_list command then true else (action_of who command).locks
+asked_locks who (ask.Two first next) = true
+
+abbrev pub locks_names : Caller → Result Asked Usage → Bool
 locks_names who (Err usage) = true
-locks_names who (Ok command) = if is_list command then true else (action_of who command).locks
+locks_names who (Ok asked) = asked_locks who asked
 
 -- What a run leaves of a disk whose s-files and p-files are firm, be it calm or not, as a disk fault leaves it.
-pub record RecoversDisk (who : Caller) (meant : Result Command Usage) (answer : Answer) (left : Option (List ℕ)) (old new : Told) : Type 0 where
+pub record RecoversDisk (who : Caller) (words : Result Asked Usage) (answer : Answer) (left : Option (List ℕ)) (old new : Told) : Type 0 where
   -- a stop leaves what recovers as a folder that one could leave at the start
   pub story : RecoversOn old new
   -- s-files and p-files are firm still, so that recovery may run again
   pub firm : LeavesFirm old new
   -- where it is finished the disk is calm, if some step was made and not refused
-  pub calm : IsOk (steps_answer answer) → (folder : Folder) (i : List ℕ) → IsGiven who meant left folder i → Shows (working who meant folder i) (seen old) (view_in folder)
-      → has_made (run_steps who meant folder i) ≡ true → LeavesCalm old new
+  pub calm : IsOk (steps_answer answer) → (folder : Folder) (i : List ℕ) → IsGiven who words left folder i → Shows (working who words folder i) (seen old) (view_in folder)
+      → has_made (run_steps who words folder i) ≡ true → LeavesCalm old new
   -- but at a disk fault a calm disk stays calm
   pub keeps : answer ≢ DiskFault → KeepsCalm old new
 
 -- so it is where the steps don't lock their names
-abbrev pub RecoversRun : Caller → Result Command Usage → Answer → Option (List ℕ) → Told → Told → Type 0
-RecoversRun who meant answer left old new = locks_names who meant ≡ false → RecoversDisk who meant answer left old new
+abbrev pub RecoversRun : Caller → Result Asked Usage → Answer → Option (List ℕ) → Told → Told → Type 0
+RecoversRun who words answer left old new = locks_names who words ≡ false → RecoversDisk who words answer left old new

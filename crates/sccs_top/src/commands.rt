@@ -1,7 +1,6 @@
-ghost use Rattle.std.specs.Prelude.{◌≡◌, ◌∷◌, [], true, false, Ok, None, IfSome};
+ghost use Rattle.std.specs.Prelude.{◌≡◌, ◌∷◌, [], true, false, Ok, None, IfOk, IfSome};
 ghost use Rattle.sccs_sid.specs.Moment.{IsMoment};
 ghost use Rattle.sccs_sid.specs.Sid.{IsComponent};
-ghost use Rattle.sccs_words.specs.Meaning.{meaning};
 ghost use Rattle.sccs_words.specs.ValidValues.{AreGetValues, HasValidValues};
 ghost use Rattle.sccs_steps.specs.Calls.{scene};
 ghost use Rattle.sccs_steps.specs.Causes.{Ignores, RunCauses, counts};
@@ -9,16 +8,21 @@ ghost use Rattle.sccs_steps.specs.Ordinaries.{ordinary};
 ghost use Rattle.sccs_steps.specs.Running.{RunsOperands};
 ghost use Rattle.sccs_steps.specs.Settings.{SameLoans, setting, setting_of};
 ghost use Rattle.sccs_steps.specs.declared.faults.Fault.TheVariants as ends;
+ghost use Rattle.sccs_courses.specs.QuietSettings.{quiet};
 ghost use Rattle.sccs_transactions.specs.Changes.{locking};
 ghost use Rattle.sccs_delta.specs.DeltaStep.{delta_change};
 ghost use Rattle.sccs_edit.specs.UngetStep.{unget_change};
 ghost use Rattle.sccs_cdc.specs.CdcStep.{cdc_change};
 ghost use Rattle.sccs_front.specs.PendingStep.{pending_action};
 ghost use Rattle.sccs_rcs.specs.ImportStep.{import_change};
-ghost use Rattle.sccs_top.specs.Runs.{LeavesInput, LeavesSingle, MakesSteps, RecoversRun, RunsCommand, RunsMeant, SpeaksWords, StopsSteps, UnlockedSteps, action_of, admin_in, admin_there, caller, caller_by, get_in, has_heading, hushed, is_silent, list_in, only_reads, operands_of, steps_answer, val_words_of, words_in, words_take_input};
+ghost use Rattle.sccs_top.specs.Asked.{HasValidCommands, asked_of};
+ghost use Rattle.sccs_top.specs.declared.asking.Asked.TheVariants as ask;
+ghost use Rattle.sccs_top.specs.Runs.{LeavesAsked, LeavesAskedInput, LeavesInput, LeavesSingle, MakesSteps, RecoversRun, RunsAsked, RunsCommand, RunsMeant, SpeaksWords, StopsSteps, UnlockedSteps, action_of, admin_in, admin_there, caller, caller_by, get_in, has_heading, hushed, is_silent, list_in, only_reads, operands_of, steps_answer, val_words_of, words_in, words_take_input};
 
 use crate::answers::Answer;
+use crate::asking::{Asked, read_asked};
 use crate::messages::write_usage;
+use crate::no_input::NoInput;
 use crate::singles::Singles;
 use sccs_admin::Admin;
 use sccs_alter::{Alter, Check};
@@ -43,8 +47,7 @@ use sccs_transactions::Locking;
 use sccs_val::run_val;
 use sccs_what::What;
 use sccs_words::{
-    AdminWords, CdcWords, Command, DeltaWords, GetWords, Operands, UngetWords, WordsFault,
-    read_words,
+    AdminWords, CdcWords, Command, DeltaWords, GetWords, Operands, UngetWords, Usage, WordsFault,
 };
 use std::alloc::Global;
 
@@ -417,10 +420,98 @@ fn run_meant<I: Source, O: Sink, E: Sink, D: Disk>(
     }
 }
 
+// does what follows a first command, without an input; a usage fault is said
+fn run_next<O: Sink, E: Sink, D: Disk>(
+    alloc: Global,
+    next: &Result<Command, Usage>,
+    stamp: &Stamp,
+    place: &Line,
+    out: &mut O,
+    err: &mut E,
+    disk: &mut D,
+) -> Result<u8, Fault>
+    requires values { IfOk next.now HasValidValues }
+    requires moment { IsMoment stamp.now.moment }
+    ensures { RunsMeant (caller stamp.now place.now) next.now result
+        (quiet O.Sink E.Sink D.Disk out.old err.old disk.old) (quiet O.Sink E.Sink D.Disk out.new err.new disk.new) }
+{
+    match next {
+        Ok(command) => {
+            let mut input = NoInput;
+            run_meant(alloc, command, stamp, place, &mut input, out, err, disk)
+        }
+        Err(usage) => match write_usage(usage, err) {
+            Ok(()) => Ok(2),
+            Err(_) => Err(Fault::WriteFault),
+        },
+    }
+}
+
+// does two commands, the second where the first one's status is 0
+fn run_two<I: Source, O: Sink, E: Sink, D: Disk>(
+    alloc: Global,
+    first: &Command,
+    next: &Result<Command, Usage>,
+    stamp: &Stamp,
+    place: &Line,
+    input: &mut I,
+    out: &mut O,
+    err: &mut E,
+    disk: &mut D,
+) -> Result<u8, Fault>
+    requires first { HasValidValues first.now }
+    requires next { IfOk next.now HasValidValues }
+    requires moment { IsMoment stamp.now.moment }
+    ensures run { RunsAsked (caller stamp.now place.now) (Ok (ask.Two first.now next.now)) result
+        (setting_of I.Source O.Sink E.Sink D.Disk input.old out.old err.old disk.old) (setting_of I.Source O.Sink E.Sink D.Disk input.new out.new err.new disk.new) }
+    ensures input { LeavesInput (caller stamp.now place.now) first.now result
+        (setting_of I.Source O.Sink E.Sink D.Disk input.old out.old err.old disk.old) (setting_of I.Source O.Sink E.Sink D.Disk input.new out.new err.new disk.new) }
+{
+    let status = match run_meant(alloc, first, stamp, place, input, out, err, disk) {
+        Ok(status) => status,
+        Err(fault) => return Err(fault),
+    };
+    if status != 0 {
+        return Ok(status);
+    }
+    run_next(alloc, next, stamp, place, out, err, disk)
+}
+
+// does what words ask for: a command, or two
+fn run_asked<I: Source, O: Sink, E: Sink, D: Disk>(
+    alloc: Global,
+    asked: &Asked,
+    stamp: &Stamp,
+    place: &Line,
+    input: &mut I,
+    out: &mut O,
+    err: &mut E,
+    disk: &mut D,
+) -> Result<u8, Fault>
+    requires values { HasValidCommands asked.now }
+    requires moment { IsMoment stamp.now.moment }
+    ensures run { RunsAsked (caller stamp.now place.now) (Ok asked.now) result
+        (setting_of I.Source O.Sink E.Sink D.Disk input.old out.old err.old disk.old) (setting_of I.Source O.Sink E.Sink D.Disk input.new out.new err.new disk.new) }
+    ensures single { LeavesAsked (caller stamp.now place.now) asked.now result
+        (setting_of I.Source O.Sink E.Sink D.Disk input.old out.old err.old disk.old) (setting_of I.Source O.Sink E.Sink D.Disk input.new out.new err.new disk.new) }
+    ensures input { LeavesAskedInput (caller stamp.now place.now) asked.now result
+        (setting_of I.Source O.Sink E.Sink D.Disk input.old out.old err.old disk.old) (setting_of I.Source O.Sink E.Sink D.Disk input.new out.new err.new disk.new) }
+{
+    match asked {
+        Asked::One(command) => run_meant(alloc, command, stamp, place, input, out, err, disk),
+        Asked::Two(first, next) => {
+            run_two(alloc, first, next, stamp, place, input, out, err, disk)
+        }
+    }
+}
+
 /// Does a command. The words are those behind the program's name; `stamp` is its moment, of the years
 /// 1969 to 2068, and its login, `place` the folder's path. Texts go to `out`, messages to `err`.
 ///
-/// Built are admin, get, delta, sact, tell, check, unget, rmdel, cdc, prs, val, what, recover, import, batch and soak.
+/// Built are admin, get, delta, sact, tell, check, unget, rmdel, cdc, prs, val, what, recover, import, batch and soak,
+/// and the words of the front end, `edit`, `unedit`, `delget` and `deledit`. Of two commands, as those of `delget`, the
+/// second is done where the status of the first is 0, without an input, and what is said here of a run holds of both
+/// together; the status is that of the last one done.
 ///
 /// A stop at any moment of a run that began on a calm disk, with safe operands, leaves what recovers on all
 /// names as after the same number of steps, no fewer than are acknowledged; and s-files and p-files are firm
@@ -441,22 +532,22 @@ pub fn run<I: Source, O: Sink, E: Sink, D: Disk>(
     disk: &mut D,
 ) -> Answer
     requires moment { IsMoment stamp.now.moment }
-    ensures steps { MakesSteps (caller stamp.now place.now) (meaning words.now) result (I.left input.old)
+    ensures steps { MakesSteps (caller stamp.now place.now) (asked_of words.now) result (I.left input.old)
         (scene (D.told disk.old) (O.given out.old) (E.given err.old)) (scene (D.told disk.new) (O.given out.new) (E.given err.new)) }
-    ensures stops { StopsSteps (caller stamp.now place.now) (meaning words.now) result (I.left input.old)
+    ensures stops { StopsSteps (caller stamp.now place.now) (asked_of words.now) result (I.left input.old)
         (scene (D.told disk.old) (O.given out.old) (E.given err.old)) (scene (D.told disk.new) (O.given out.new) (E.given err.new)) }
-    ensures unlocked { UnlockedSteps (caller stamp.now place.now) (meaning words.now) (I.left input.old) (D.told disk.old) (D.told disk.new) }
-    ensures recovers { RecoversRun (caller stamp.now place.now) (meaning words.now) result (I.left input.old) (D.told disk.old) (D.told disk.new) }
-    ensures speaks { SpeaksWords (caller stamp.now place.now) (meaning words.now) result (E.given err.old) (E.given err.new) }
-    ensures reads { only_reads (caller stamp.now place.now) (meaning words.now) ≡ true → D.told disk.new ≡ D.told disk.old }
-    ensures silent { is_silent (caller stamp.now place.now) (meaning words.now) ≡ true → O.given out.new ≡ O.given out.old }
-    ensures ignores { words_take_input (caller stamp.now place.now) (meaning words.now) ≡ false
+    ensures unlocked { UnlockedSteps (caller stamp.now place.now) (asked_of words.now) (I.left input.old) (D.told disk.old) (D.told disk.new) }
+    ensures recovers { RecoversRun (caller stamp.now place.now) (asked_of words.now) result (I.left input.old) (D.told disk.old) (D.told disk.new) }
+    ensures speaks { SpeaksWords (caller stamp.now place.now) (asked_of words.now) result (E.given err.old) (E.given err.new) }
+    ensures reads { only_reads (caller stamp.now place.now) (asked_of words.now) ≡ true → D.told disk.new ≡ D.told disk.old }
+    ensures silent { is_silent (caller stamp.now place.now) (asked_of words.now) ≡ true → O.given out.new ≡ O.given out.old }
+    ensures ignores { words_take_input (caller stamp.now place.now) (asked_of words.now) ≡ false
         → Ignores ends.ReadFault (I.left input.old) (I.left input.new) (I.faults input.old) (I.faults input.new) (steps_answer result) }
     ensures causes { RunCauses (steps_answer result) (counts (I.faults input.old) (O.faults out.old) (E.faults err.old) (D.faults disk.old))
         (counts (I.faults input.new) (O.faults out.new) (E.faults err.new) (D.faults disk.new)) }
 {
-    match read_words(alloc, words) {
-        Ok(command) => ended(run_meant(alloc, &command, stamp, place, input, out, err, disk)),
+    match read_asked(alloc, words) {
+        Ok(asked) => ended(run_asked(alloc, &asked, stamp, place, input, out, err, disk)),
         Err(WordsFault::Usage(usage)) => match write_usage(&usage, err) {
             Ok(()) => Answer::Finished { status: 2 },
             Err(_) => Answer::WriteFault,

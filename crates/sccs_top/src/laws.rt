@@ -1,4 +1,4 @@
-ghost use Rattle.std.specs.Prelude.{◌≡◌, ◌≢◌, ℕ, Bool, List, Option, Result, Ok, Err, IfSome};
+ghost use Rattle.std.specs.Prelude.{◌≡◌, ◌≢◌, ℕ, Bool, List, Option, Result, Ok, Err, IfOk, IfSome};
 ghost use Rattle.std.specs.List.{AllByRecursion};
 ghost use Rattle.sccs_base.specs.Login.{IsLogin};
 ghost use Rattle.sccs_disk.specs.Files.{Content, Folder, Model, View, view_of};
@@ -18,8 +18,11 @@ ghost use Rattle.sccs_courses.specs.Following.{CourseMoments};
 ghost use Rattle.sccs_words.specs.declared.commands.AdminWords.{AdminWords};
 ghost use Rattle.sccs_admin.specs.AdminStep.{AreAdminValues, admin_outcome};
 ghost use Rattle.sccs_delta.specs.Replays.{DeltaCall, IsDeltaCall};
+ghost use Rattle.sccs_top.specs.Asked.{asked_of};
 ghost use Rattle.sccs_top.specs.Following.{FollowsStop, MayFollow};
 ghost use Rattle.sccs_top.specs.MadeHistories.{IsReplayed};
+ghost use Rattle.sccs_top.specs.NextAsks.{NextAsks};
+ghost use Rattle.sccs_top.specs.Runs.{Caller};
 
 /// Runs may follow one another. Where one ended, but at a disk fault, the disk is calm and the names that were
 /// safe are safe, as the next one asks. Whatever a stop leaves of it, once all names are recovered s-files and
@@ -40,4 +43,10 @@ pub fn made_histories_replay()
         → AreAdminValues words stamp → IsLogin stamp.login → IfSome words.comment AreLines → AreLines words.mrs
         → admin_outcome words stamp n input named f ≡ Ok effect → AllByRecursion IsDeltaCall calls
         → IsReplayed words n input named f effect calls }
+{}
+
+/// Of two commands that words of the front end stand for nothing is asked of the second: it has one operand at most, and
+/// no input.
+pub fn second_commands_ask_nothing()
+    ensures { (who : Caller) (words : List (List ℕ)) → IfOk (asked_of words) (NextAsks who) }
 {}

@@ -2,10 +2,13 @@
 #![tactic(auto)]
 
 mod answers;
+mod asking;
 mod commands;
 pub mod laws;
 mod messages;
+mod no_input;
 mod singles;
 
 pub use answers::Answer;
+pub use asking::Asked;
 pub use commands::{CommandList, run};
