@@ -84,7 +84,7 @@ entries_kept n p u new is_new x stays = (
 settled_at : (n : List ℕ) (p : Prepared) (u : View) (old new : Content) → IsNewSfile p → u (x_file n) ≡ Some new → u n ≡ Some old → table_of new.bytes ≡ table_of old.bytes → IsSound n u
     → KeepsEntries n (plan_of p) u × ArePaired (files_after n (plan_of p) u).s (files_after n (plan_of p) u).p
 settled_at n p u old new is_new x s same sound =
-    entries_kept n p u new is_new x (same_recovery new old (u (p_file n)) same ∙ (ap (λ (o : Option Content). recovered_pfile o (u (p_file n))) (sym s) ∙ sound))
+    entries_kept n p u new is_new x (same_recovery new old (u (p_file n)) same ∙ (ap (λ (o : Option Content). recovered_pfile o (u (p_file n))) (sym s) ∙ sound.entries))
 
 same_table : (old new : Content) (h h2 : Header) (items : List Item) → unsummed_file old.bytes ≡ Ok (record { header = h; items = items }) → IsSFile new.bytes h2 items → h2.records ≡ h.records → table_of new.bytes ≡ table_of old.bytes
 same_table old new h h2 items old_is new_is same =

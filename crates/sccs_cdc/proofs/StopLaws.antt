@@ -91,4 +91,4 @@ changed_settles words stamp n header new items p v old b sfile is_new lines s ru
     let read : IsSFile (sealed new items).bytes new items = changed_reads words stamp old.bytes header new items lines rules spelled whole is in
     let same : recovered_pfile (Some (sealed new items)) (u (p_file n)) ≡ recovered_pfile (Some old) (u (p_file n)) =
     same_recovery (sealed new items) old (u (p_file n)) new.records header.records (table_is (sealed new items) (record { header = new; items = items }) read) (table_is old (record { header = header; items = items }) whole) (new_same words stamp header new is) in
-    entries_kept n p u (sealed new items) is_new (put_same v (x_file n) (Some (sealed new items))) (same ∙ (ap (λ (o : Option Content). recovered_pfile o (u (p_file n))) (sym there) ∙ sound)))
+    entries_kept n p u (sealed new items) is_new (put_same v (x_file n) (Some (sealed new items))) (same ∙ (ap (λ (o : Option Content). recovered_pfile o (u (p_file n))) (sym there) ∙ sound.entries)))

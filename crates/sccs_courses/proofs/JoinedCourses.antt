@@ -1,25 +1,24 @@
 -- A call that follows a course, and one that follows what its status decides.
-use Rattle.std.proofs.Common.{◌≡◌, ◌⊎◌, ℕ, ◌≤◌, Bool, List, ◌++◌, Option, Result, Ok, Err, inl, inr, refl, sym, subst, arith}
+use Rattle.std.proofs.Common.{◌⊎◌, ℕ, ◌≤◌, Bool, List, ◌++◌, Option, Result, Ok, Err, inl, inr, refl, sym, subst, arith}
 use Rattle.sccs_base.specs.Stream.{GivesOk, GivesSome, Rose}
 use Rattle.sccs_base.proofs.Gifts.{gives_both, gives_then}
-use Rattle.sccs_disk.specs.Files.{Folder, Model, View, view_in}
-use Rattle.sccs_disk.specs.Told.{Tells, seen}
+use Rattle.sccs_disk.specs.Files.{Folder, Model, view_in}
+use Rattle.sccs_disk.specs.Told.{seen}
 use Rattle.sccs_files.specs.StepFiles.{Shows}
 use Rattle.sccs_images.specs.Touches.{earlier, newest}
 use Rattle.sccs_moments.specs.Unlocked.{BeginsUnlockedBut}
 use Rattle.sccs_moments.proofs.UnlockedBut.{but_then}
 use Rattle.sccs_steps.specs.Calls.{World, shown}
 use Rattle.sccs_steps.specs.Causes.{Counts, RunCauses}
-use Rattle.sccs_steps.specs.ListStops.{KeepsSafe, Spares}
+use Rattle.sccs_steps.specs.ListStops.{Spares}
 use Rattle.sccs_steps.specs.Settings.{Setting}
 use Rattle.sccs_steps.specs.StepLists.{NamedStep, Ran, err_of, folder_after}
 use Rattle.sccs_steps.specs.declared.faults.Fault.{Fault}
-use Rattle.sccs_steps.proofs.Fronts.{view_all}
 use Rattle.sccs_steps.proofs.JoinedSteps.{err_more, ran_then, stops_more, stops_then}
 use Rattle.sccs_steps.proofs.Turns.{front_all, rest_all}
 use Rattle.sccs_courses.specs.Courses.{AllClear, AllExempt, AllPlain, AllSafe, AllTake, Courses, Portion, follow, portions_of, steps_along, steps_in}
 use Rattle.sccs_courses.specs.Following.{BegunThen, CourseMoments, MakesCourse, RunsCourse, RunsTo, SpeaksTo, StopsCourse, UnlockedCourse, WholeThen}
-use Rattle.sccs_courses.proofs.CourseMomentLaws.{more_moments, then_moments}
+use Rattle.sccs_courses.proofs.CourseMomentLaws.{keeps_now, may_now, more_moments, then_moments}
 use Rattle.sccs_courses.proofs.Portions.{both_all, safe_later, steps_more}
 
 -- ---- the parts of what is said
@@ -70,9 +69,9 @@ course_then first rest given given1 given2 whole begun whole2 begun2 one r s t u
   takes = λ folder i. both_all _ (portions_of first folder i) (rest_in folder i) (done.takes folder i) (takes (first folder i).status (left_in folder i) i);
   steps = λ w folder i spares clear shows heard.
       steps_at w folder i spares clear heard (done.steps w folder i spares (front_all _ (portions_of first folder i) (rest_in folder i) clear) shows (to1 i heard));
-  stops = λ w folder i m past spares clear shows heard told calm safe.
-      stops_at w folder i m past spares clear shows heard told safe (done.steps w folder i spares (front_all _ (portions_of first folder i) (rest_in folder i) clear) shows (to1 i heard))
-      (done.stops w folder i m past spares (front_all _ (portions_of first folder i) (rest_in folder i) clear) shows (to1 i heard) told calm (front_all _ (portions_of first folder i) (rest_in folder i) safe));
+  stops = λ w folder i m past spares clear shows heard told may safe.
+      stops_at w folder i m past spares clear heard safe (done.steps w folder i spares (front_all _ (portions_of first folder i) (rest_in folder i) clear) shows (to1 i heard))
+      (done.stops w folder i m past spares (front_all _ (portions_of first folder i) (rest_in folder i) clear) shows (to1 i heard) told may (front_all _ (portions_of first folder i) (rest_in folder i) safe));
   unlocked = λ w folder i spares clear shows heard exempt plain freed.
       unlocked_at w folder i spares clear shows heard exempt plain freed (done.steps w folder i spares (front_all _ (portions_of first folder i) (rest_in folder i) clear) shows (to1 i heard));
   speaks = speaks_then whole begun whole2 begun2 one r s.stage.err t.stage.err u.stage.err done.speaks next.speaks;
@@ -95,17 +94,15 @@ course_then first rest given given1 given2 whole begun whole2 begun2 one r s t u
         (runs_then (follow first rest folder i).status w r folder (steps_along first folder i) (steps_in (rest_in folder i)) (shown s.stage) (shown t.stage) (shown u.stage) ran.1
         ((subst (λ code. MakesCourse (rest code) given2 r t.stage u.stage) ran.0 next.steps) w (left_in folder i) i spares (rest_all _ (portions_of first folder i) (rest_in folder i) clear) ran.1.view (to2 i heard)))
 
-    stops_at : (w : List ℕ → Bool) (folder : Folder) (i : List ℕ) (m : Model) (past : List Model) → Spares w → AllClear w (portions_of (follow first rest) folder i) → Shows w (seen s.stage.told) (view_in folder) → given i → s.stage.told ≡ Tells m past
+    stops_at : (w : List ℕ → Bool) (folder : Folder) (i : List ℕ) (m : Model) (past : List Model) → Spares w → AllClear w (portions_of (follow first rest) folder i) → given i
         → AllSafe (view_in folder) (portions_of (follow first rest) folder i) → Began w folder i → CourseMoments w (Ok one) folder (steps_along first folder i) s.stage t.stage m past
         → CourseMoments w r folder (steps_along (follow first rest) folder i) s.stage u.stage m past
-    stops_at w folder i m past spares clear shows heard told safe ran moments =
-        let keeps : KeepsSafe (view_in folder) (view_in (left_in folder i)) =
-        subst (λ (v : View). KeepsSafe (view_in folder) v) (view_all folder (steps_along first folder i) moments.list.number (moments.list.all refl)) (moments.safe (λ other. cc)) in
+    stops_at w folder i m past spares clear heard safe ran moments =
         subst (λ (ts : List NamedStep). CourseMoments w r folder ts s.stage u.stage m past) (sym (steps_more (portions_of first folder i) (rest_in folder i)))
-        (then_moments w one r folder (steps_along first folder i) (steps_in (rest_in folder i)) s.stage t.stage u.stage m past spares shows told ran.1 moments
+        (then_moments w one r folder (steps_along first folder i) (steps_in (rest_in folder i)) s.stage t.stage u.stage m past ran.1 moments
         ((subst (λ code. StopsCourse (rest code) given2 r t.stage u.stage) ran.0 next.stops) w (left_in folder i) i (newest moments.list.went.added m) (earlier moments.list.went.added m past) spares
-        (rest_all _ (portions_of first folder i) (rest_in folder i) clear) ran.1.view (to2 i heard) moments.list.went.is (moments.list.calm (λ other. cc))
-        (safe_later (rest_in folder i) (view_in folder) (view_in (left_in folder i)) keeps (takes (first folder i).status (left_in folder i) i) (rest_all _ (portions_of first folder i) (rest_in folder i) safe))))
+        (rest_all _ (portions_of first folder i) (rest_in folder i) clear) ran.1.view (to2 i heard) moments.list.went.is (may_now w one folder (steps_along first folder i) s.stage t.stage m past moments)
+        (safe_later (rest_in folder i) (view_in folder) (view_in (left_in folder i)) (keeps_now w one folder (steps_along first folder i) s.stage t.stage m past moments) (takes (first folder i).status (left_in folder i) i) (rest_all _ (portions_of first folder i) (rest_in folder i) safe))))
 
     unlocked_at : (w : List ℕ → Bool) (folder : Folder) (i : List ℕ) → Spares w → AllClear w (portions_of (follow first rest) folder i) → Shows w (seen s.stage.told) (view_in folder) → given i
         → (exempt : List ℕ → Bool) → AllPlain (portions_of (follow first rest) folder i) → AllExempt exempt (portions_of (follow first rest) folder i) → Began w folder i → BeginsUnlockedBut exempt s.stage.told u.stage.told
@@ -127,10 +124,10 @@ course_cut first rest given given1 whole begun whole2 begun2 fault s t to1 takes
   steps = λ w folder i spares clear shows heard.
       subst (λ (ts : List NamedStep). RunsTo (follow first rest folder i).status w (Err fault) folder ts (shown s.stage) (shown t.stage)) (sym (steps_more (portions_of first folder i) (rest_in folder i)))
       (stops_more w fault folder (steps_along first folder i) (steps_in (rest_in folder i)) (shown s.stage) (shown t.stage) (cut.steps w folder i spares (front_all _ (portions_of first folder i) (rest_in folder i) clear) shows (to1 i heard)));
-  stops = λ w folder i m past spares clear shows heard told calm safe.
+  stops = λ w folder i m past spares clear shows heard told may safe.
       subst (λ (ts : List NamedStep). CourseMoments w (Err fault) folder ts s.stage t.stage m past) (sym (steps_more (portions_of first folder i) (rest_in folder i)))
-      (more_moments w fault folder (steps_along first folder i) (steps_in (rest_in folder i)) s.stage t.stage m past spares shows told
-      (cut.stops w folder i m past spares (front_all _ (portions_of first folder i) (rest_in folder i) clear) shows (to1 i heard) told calm (front_all _ (portions_of first folder i) (rest_in folder i) safe)));
+      (more_moments w fault folder (steps_along first folder i) (steps_in (rest_in folder i)) s.stage t.stage m past
+      (cut.stops w folder i m past spares (front_all _ (portions_of first folder i) (rest_in folder i) clear) shows (to1 i heard) told may (front_all _ (portions_of first folder i) (rest_in folder i) safe)));
   unlocked = λ w folder i spares clear shows heard exempt plain freed.
       cut.unlocked w folder i spares (front_all _ (portions_of first folder i) (rest_in folder i) clear) shows (to1 i heard) exempt (front_all _ (portions_of first folder i) (rest_in folder i) plain) (front_all _ (portions_of first folder i) (rest_in folder i) freed);
   speaks = (cut.speaks.0, inl cut.speaks.1, cut.speaks.2);

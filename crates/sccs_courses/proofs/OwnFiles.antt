@@ -3,6 +3,7 @@ use Rattle.std.proofs.Common.{◌≡◌, ℕ, Bool, true, false, cond, ◌&&◌,
 use Rattle.sccs_base.specs.Name.{p_file, z_file}
 use Rattle.sccs_disk.specs.Told.{Told}
 use Rattle.sccs_files.specs.StepFiles.{is_working, nowhere}
+use Rattle.sccs_intents.specs.Intents.{intent_file}
 use Rattle.sccs_moments.proofs.FileNames.{working_s}
 use Rattle.sccs_steps.specs.Actions.{Action}
 use Rattle.sccs_steps.specs.Calls.{Scene}
@@ -21,17 +22,18 @@ both : (a b : Bool) → a ≡ false → b ≡ false → (a || b) ≡ false
 both a b e f = ap (λ x. x || b) e ∙ f
 
 spares_steps : (x : Action) (ts : List NamedStep) → Spares (working_of x ts)
-spares_steps x [] = record { s = λ n sfile. refl; p = λ n sfile. refl; z = λ n sfile. refl }
+spares_steps x [] = record { s = λ n sfile. refl; p = λ n sfile. refl; z = λ n sfile. refl; intent = refl }
 spares_steps x (t ∷ ts) =
     let rest : Spares (working_of x ts) = spares_steps x ts in
     record {
       s = λ n sfile. neither (x.fits t.name) (is_working t.name n) (working_of x ts n) (working_s t.name n sfile) (rest.s n sfile);
       p = λ n sfile. neither (x.fits t.name) (is_working t.name (p_file n)) (working_of x ts (p_file n)) refl (rest.p n sfile);
       z = λ n sfile. neither (x.fits t.name) (is_working t.name (z_file n)) (working_of x ts (z_file n)) refl (rest.z n sfile);
+      intent = neither (x.fits t.name) (is_working t.name intent_file) (working_of x ts intent_file) refl rest.intent;
     }
 
 spares_nowhere : Spares nowhere
-spares_nowhere = record { s = λ n sfile. refl; p = λ n sfile. refl; z = λ n sfile. refl }
+spares_nowhere = record { s = λ n sfile. refl; p = λ n sfile. refl; z = λ n sfile. refl; intent = refl }
 
 spares_by : (reads : Bool) (x : Action) (ts : List NamedStep) → Spares (cond reads nowhere (working_of x ts))
 spares_by true x ts = spares_nowhere
@@ -47,6 +49,7 @@ spares_in (p ∷ q ∷ ps) =
       s = λ n sfile. both (working_by p n) (working_in (q ∷ ps) n) (one.s n sfile) (rest.s n sfile);
       p = λ n sfile. both (working_by p (p_file n)) (working_in (q ∷ ps) (p_file n)) (one.p n sfile) (rest.p n sfile);
       z = λ n sfile. both (working_by p (z_file n)) (working_in (q ∷ ps) (z_file n)) (one.z n sfile) (rest.z n sfile);
+      intent = both (working_by p intent_file) (working_in (q ∷ ps) intent_file) one.intent rest.intent;
     }
 
 -- ---- what is said for any working files, for its own
@@ -55,7 +58,7 @@ pub own_makes : (course : Courses) (given : List ℕ → Type 0) (r : Result ℕ
 own_makes course given r a b makes = λ folder i told shows. makes (working_along course folder i) folder i (spares_in (portions_of course folder i)) told.1 shows told.0
 
 pub own_stops : (course : Courses) (given : List ℕ → Type 0) (r : Result ℕ Fault) (a b : Scene) → StopsCourse course given r a b → StopsOwn course given r a b
-own_stops course given r a b stops = λ folder i m past told shows is calm safe. stops (working_along course folder i) folder i m past (spares_in (portions_of course folder i)) told.1 shows told.0 is calm safe
+own_stops course given r a b stops = λ folder i m past told shows is may safe. stops (working_along course folder i) folder i m past (spares_in (portions_of course folder i)) told.1 shows told.0 is may safe
 
 pub own_unlocked : (course : Courses) (given : List ℕ → Type 0) (old new : Told) → UnlockedCourse course given old new → UnlockedOwn course given old new
 own_unlocked course given old new unlocked = λ folder i told shows exempt plain freed. unlocked (working_along course folder i) folder i (spares_in (portions_of course folder i)) told.1 shows told.0 exempt plain freed

@@ -43,9 +43,9 @@ course_chosen choose course given given1 whole begun r s t takes is to runs = re
   steps = λ w folder i spares clear shows heard.
       subst (λ (c : Courses). RunsTo (c folder i).status w r folder (steps_along c folder i) (shown s.stage) (shown t.stage)) (sym (is i heard))
       (runs.steps w folder i spares (subst (λ (c : Courses). AllClear w (portions_of c folder i)) (is i heard) clear) shows (to i heard));
-  stops = λ w folder i m past spares clear shows heard told calm safe.
+  stops = λ w folder i m past spares clear shows heard told may safe.
       subst (λ (c : Courses). CourseMoments w r folder (steps_along c folder i) s.stage t.stage m past) (sym (is i heard))
-      (runs.stops w folder i m past spares (subst (λ (c : Courses). AllClear w (portions_of c folder i)) (is i heard) clear) shows (to i heard) told calm
+      (runs.stops w folder i m past spares (subst (λ (c : Courses). AllClear w (portions_of c folder i)) (is i heard) clear) shows (to i heard) told may
       (subst (λ (c : Courses). AllSafe (view_in folder) (portions_of c folder i)) (is i heard) safe));
   unlocked = λ w folder i spares clear shows heard exempt plain freed.
       runs.unlocked w folder i spares (subst (λ (c : Courses). AllClear w (portions_of c folder i)) (is i heard) clear) shows (to i heard) exempt
@@ -80,7 +80,7 @@ pub course_with : (course : Courses) (input : List ℕ) (given : List ℕ → Ty
 course_with course input given whole begun r s t runs = record {
   takes = λ folder i. runs.takes folder input;
   steps = λ w folder i spares clear shows heard. runs.steps w folder input spares clear shows heard;
-  stops = λ w folder i m past spares clear shows heard told calm safe. runs.stops w folder input m past spares clear shows heard told calm safe;
+  stops = λ w folder i m past spares clear shows heard told may safe. runs.stops w folder input m past spares clear shows heard told may safe;
   unlocked = λ w folder i spares clear shows heard exempt plain freed. runs.unlocked w folder input spares clear shows heard exempt plain freed;
   speaks = runs.speaks;
   causes = runs.causes;

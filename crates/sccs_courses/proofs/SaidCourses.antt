@@ -4,15 +4,16 @@ use Rattle.std.proofs.lemmas.List.{append-nil}
 use Rattle.sccs_base.specs.Stream.{GivesOk, GivesSome}
 use Rattle.sccs_base.proofs.Gifts.{gives_none, some_none, some_of_whole}
 use Rattle.sccs_disk.specs.Files.{Folder, Model, View, view_in, view_of}
+use Rattle.sccs_disk.specs.Images.{Allows}
 use Rattle.sccs_disk.specs.Told.{Told, Tells, seen}
 use Rattle.sccs_files.specs.StepFiles.{Shows}
-use Rattle.sccs_moments.specs.Calm.{IsCalm}
+use Rattle.sccs_images.specs.Touches.{Each}
 use Rattle.sccs_moments.specs.Moments.{EndsAfter}
 use Rattle.sccs_moments.proofs.UnlockedBut.{but_same}
 use Rattle.sccs_moments.proofs.Untouched.{before_after, same_before}
 use Rattle.sccs_steps.specs.Calls.{Scene, World, shown}
 use Rattle.sccs_steps.specs.Causes.{RunCauses}
-use Rattle.sccs_steps.specs.ListStops.{Spares}
+use Rattle.sccs_steps.specs.ListStops.{KeepsNamesFrom, MayBegin}
 use Rattle.sccs_steps.specs.Settings.{Setting}
 use Rattle.sccs_steps.specs.StepLists.{NamedStep, ShowsNext, Stopped, Stops, next_text}
 use Rattle.sccs_steps.specs.declared.faults.Fault.{Fault}
@@ -20,10 +21,10 @@ use Rattle.sccs_steps.specs.declared.faults.Fault.TheVariants as ends
 use Rattle.sccs_steps.proofs.Cleared.{cleared_same}
 use Rattle.sccs_steps.proofs.FirstMoved.{shows_none}
 use Rattle.sccs_steps.proofs.JoinedSteps.{ran_none}
-use Rattle.sccs_steps.proofs.MomentLists.{alike_recovers, moments_never, moments_none}
-use Rattle.sccs_steps.proofs.NameStops.{alike_told}
+use Rattle.sccs_steps.proofs.MomentLists.{moments_never, moments_none}
 use Rattle.sccs_steps.proofs.OneMoment.{one_after}
-use Rattle.sccs_steps.proofs.SafeImages.{images_after, images_now}
+use Rattle.sccs_steps.proofs.SafeImages.{images_now, told_once}
+use Rattle.sccs_steps.proofs.Safety.{keeps_same}
 use Rattle.sccs_courses.specs.Courses.{AllTake, Courses, nothing, portions_of, said, saying, steps_along}
 use Rattle.sccs_courses.specs.Following.{CourseMoments, MakesCourse, RunsCourse, RunsTo, SpeaksTo, StopsCourse, UnlockedCourse}
 use Rattle.sccs_courses.specs.Sayings.{BegunSaid, IsSaid, WholeNothing, WholeSaid}
@@ -60,23 +61,26 @@ said_to out err code w (Err ends.Memory) folder a b same shows is = absurd is
 said_to out err code w (Err ends.ReadFault) folder a b same shows is = absurd is
 said_to out err code w (Err ends.DiskFault) folder a b same shows is = absurd is
 
-said_moments : (out err : List ℕ) (w : List ℕ → Bool) (r : Result ℕ Fault) (folder : Folder) (a b : Scene) (m : Model) (past : List Model) → Spares w → b.told ≡ a.told → Shows w (seen a.told) (view_in folder) → a.told ≡ Tells m past → IsCalm m
-    → GivesSome a.out b.out out → GivesSome a.err b.err err → CourseMoments w r folder (said out err ∷ []) a b m past
-said_moments out err w r folder a b m past spares same shows told calm one two =
-    let recovers = alike_recovers w (view_of m) (view_in folder) spares (alike_told w folder a.told m past told shows) in
-    let after : EndsAfter (view_of m) (view_of m) m past b.told = before_after (view_of m) m past b.told (same_before m past b.told calm (same ∙ told)) in
-    course_moments w r folder (said out err ∷ []) a b m past spares shows told
-    (one_after w r folder (said out err) (view_of m) (view_of m) a b m past (record { old = recovers; new = recovers }) after one two (still_shown w a.told b.told folder same shows))
-    (images_after (view_of m) (view_of m) m past b.told after (λ k sfile safe. safe))
+-- where nothing new is told each name is safe that was
+said_images : (v : View) (m : Model) (past : List Model) (t : Told) → t ≡ Tells m past → (ends : EndsAfter v v m past t) → Each (Allows (KeepsNamesFrom m)) ends.0.added m
+said_images v m past t is ends = subst (λ (xs : List Model). Each (Allows (KeepsNamesFrom m)) xs m) (told_once [] ends.0.added m past t is ends.0.is) (images_now m)
 
-said_stops : (out err : List ℕ) (code : ℕ) (w : List ℕ → Bool) (r : Result ℕ Fault) (folder : Folder) (a b : Scene) (m : Model) (past : List Model) → Spares w → b.told ≡ a.told → Shows w (seen a.told) (view_in folder) → a.told ≡ Tells m past → IsCalm m
+said_moments : (out err : List ℕ) (w : List ℕ → Bool) (r : Result ℕ Fault) (folder : Folder) (a b : Scene) (m : Model) (past : List Model) → b.told ≡ a.told → Shows w (seen a.told) (view_in folder) → a.told ≡ Tells m past → MayBegin folder m
+    → GivesSome a.out b.out out → GivesSome a.err b.err err → CourseMoments w r folder (said out err ∷ []) a b m past
+said_moments out err w r folder a b m past same shows told may one two =
+    let after : EndsAfter (view_of m) (view_of m) m past b.told = before_after (view_of m) m past b.told (same_before m past b.told may.calm (same ∙ told)) in
+    course_moments w r folder (said out err ∷ []) a b m past
+    (one_after w r folder (said out err) (view_of m) (view_of m) a b m past (record { old = may.recovers; new = may.recovers }) after one two (still_shown w a.told b.told folder same shows))
+    (λ other. keeps_same (view_in folder)) (said_images (view_of m) m past b.told (same ∙ told) after)
+
+said_stops : (out err : List ℕ) (code : ℕ) (w : List ℕ → Bool) (r : Result ℕ Fault) (folder : Folder) (a b : Scene) (m : Model) (past : List Model) → b.told ≡ a.told → Shows w (seen a.told) (view_in folder) → a.told ≡ Tells m past → MayBegin folder m
     → IsSaid out err code r a b → CourseMoments w r folder (said out err ∷ []) a b m past
-said_stops out err code w (Ok status) folder a b m past spares same shows told calm is =
-    said_moments out err w (Ok status) folder a b m past spares same shows told calm (some_of_whole a.out b.out out is.1) (some_of_whole a.err b.err err is.2)
-said_stops out err code w (Err ends.WriteFault) folder a b m past spares same shows told calm is = said_moments out err w (Err ends.WriteFault) folder a b m past spares same shows told calm is.0 is.1
-said_stops out err code w (Err ends.Memory) folder a b m past spares same shows told calm is = absurd is
-said_stops out err code w (Err ends.ReadFault) folder a b m past spares same shows told calm is = absurd is
-said_stops out err code w (Err ends.DiskFault) folder a b m past spares same shows told calm is = absurd is
+said_stops out err code w (Ok status) folder a b m past same shows told may is =
+    said_moments out err w (Ok status) folder a b m past same shows told may (some_of_whole a.out b.out out is.1) (some_of_whole a.err b.err err is.2)
+said_stops out err code w (Err ends.WriteFault) folder a b m past same shows told may is = said_moments out err w (Err ends.WriteFault) folder a b m past same shows told may is.0 is.1
+said_stops out err code w (Err ends.Memory) folder a b m past same shows told may is = absurd is
+said_stops out err code w (Err ends.ReadFault) folder a b m past same shows told may is = absurd is
+said_stops out err code w (Err ends.DiskFault) folder a b m past same shows told may is = absurd is
 
 said_speaks : (out err : List ℕ) (code : ℕ) (r : Result ℕ Fault) (a b : Scene) → IsSaid out err code r a b → SpeaksTo (WholeSaid out err code) (BegunSaid out err) r a.err b.err
 said_speaks out err code (Ok status) a b is = (said out err ∷ [], (is.0, refl), subst (λ text. GivesOk a.err b.err text) (sym (append-nil err)) is.2)
@@ -90,7 +94,7 @@ pub said_course : (out err : List ℕ) (code : ℕ) (given : List ℕ → Type 0
 said_course out err code given r s t same is causes = record {
   takes = λ folder i. (λ changes n fits. absurd (cc), tt);
   steps = λ w folder i spares clear shows heard. said_to out err code w r folder s.stage t.stage same shows is;
-  stops = λ w folder i m past spares clear shows heard told calm safe. said_stops out err code w r folder s.stage t.stage m past spares same shows told calm is;
+  stops = λ w folder i m past spares clear shows heard told may safe. said_stops out err code w r folder s.stage t.stage m past same shows told may is;
   unlocked = λ w folder i spares clear shows heard exempt plain freed. but_same exempt s.stage.told t.stage.told same;
   speaks = said_speaks out err code r s.stage t.stage is;
   causes = causes;
@@ -102,8 +106,8 @@ pub nothing_course : (code : ℕ) (given : List ℕ → Type 0) (begun : List Na
 nothing_course code given begun s = record {
   takes = λ folder i. tt;
   steps = λ w folder i spares clear shows heard. (refl, ran_none w folder (shown s.stage) shows);
-  stops = λ w folder i m past spares clear shows heard told calm safe.
-      course_moments w (Ok code) folder [] s.stage s.stage m past spares shows told (moments_none w code folder s.stage m past spares told calm (alike_told w folder s.stage.told m past told shows) shows) (images_now m calm);
+  stops = λ w folder i m past spares clear shows heard told may safe.
+      course_moments w (Ok code) folder [] s.stage s.stage m past (moments_none w code folder s.stage m past told may shows) (λ other. keeps_same (view_in folder)) (images_now m);
   unlocked = λ w folder i spares clear shows heard exempt plain freed. but_same exempt s.stage.told s.stage.told refl;
   speaks = ([], (refl, refl), gives_none s.stage.err);
   causes = record {
@@ -163,9 +167,9 @@ never_course course given whole begun ts fault s t takes some might same causes 
   steps = subst (λ (b : Scene). MakesCourse course given (Err fault) s.stage b) (sym same)
       (λ w folder i spares clear shows heard. stops_never w fault folder (steps_along course folder i) (shown s.stage) (some folder i) shows);
   stops = subst (λ (b : Scene). StopsCourse course given (Err fault) s.stage b) (sym same)
-      (λ w folder i m past spares clear shows heard told calm safe.
-      course_moments w (Err fault) folder (steps_along course folder i) s.stage s.stage m past spares shows told
-      (moments_never w fault folder (steps_along course folder i) s.stage m past spares told calm (alike_told w folder s.stage.told m past told shows) shows) (images_now m calm));
+      (λ w folder i m past spares clear shows heard told may safe.
+      course_moments w (Err fault) folder (steps_along course folder i) s.stage s.stage m past
+      (moments_never w fault folder (steps_along course folder i) s.stage m past told may shows) (λ other. keeps_same (view_in folder)) (images_now m));
   unlocked = subst (λ (b : Scene). UnlockedCourse course given s.stage.told b.told) (sym same)
       (λ w folder i spares clear shows heard exempt plain freed. but_same exempt s.stage.told s.stage.told refl);
   speaks = subst (λ (b : Scene). SpeaksTo whole begun (Err fault) s.stage.err b.err) (sym same) (ts, might, some_none s.stage.err _);

@@ -1,16 +1,15 @@
 -- What a call says that follows a course.
 use Rattle.std.specs.Prelude.{◌≡◌, ◌≢◌, ◌⊎◌, ℕ, suc, ◌<◌, ◌≤◌, Bool, List, [], ◌∷◌, ◌++◌, length, Option, Result, Ok, Err}
 use Rattle.sccs_base.specs.Stream.{GivesOk, GivesSome}
-use Rattle.sccs_disk.specs.Files.{Folder, Model, view_in, view_of}
+use Rattle.sccs_disk.specs.Files.{Folder, Model, view_in}
 use Rattle.sccs_disk.specs.Images.{Allows}
 use Rattle.sccs_disk.specs.Told.{Told, Tells, seen}
 use Rattle.sccs_files.specs.StepFiles.{Shows}
 use Rattle.sccs_images.specs.Touches.{Each}
-use Rattle.sccs_moments.specs.Calm.{IsCalm}
 use Rattle.sccs_moments.specs.Unlocked.{BeginsUnlockedBut}
 use Rattle.sccs_steps.specs.Calls.{Scene, World, shown}
 use Rattle.sccs_steps.specs.Causes.{RunCauses}
-use Rattle.sccs_steps.specs.ListStops.{IsAcknowledged, KeepsSafe, ListMoments, Spares, view_at}
+use Rattle.sccs_steps.specs.ListStops.{IsAcknowledged, KeepsNames, KeepsNamesFrom, ListMoments, MayBegin, Spares, view_at}
 use Rattle.sccs_steps.specs.Settings.{Setting}
 use Rattle.sccs_steps.specs.StepLists.{NamedStep, Ran, Stops, err_of, status_of}
 use Rattle.sccs_steps.specs.declared.faults.Fault.{Fault}
@@ -34,16 +33,17 @@ pub record CourseMoments (w : List ℕ → Bool) (r : Result ℕ Fault) (folder 
   pub list : ListMoments w r folder ts a b m past
   -- the last number is at least that of each step that is acknowledged
   pub acknowledged : (k : ℕ) → k < length ts → IsAcknowledged r ts k (shown a) (shown b) → suc k ≤ list.number
-  -- but at a disk fault the names that were safe are safe again
-  pub safe : r ≢ Err ends.DiskFault → KeepsSafe (view_in folder) (view_at folder ts list.number)
-  -- and whatever a stop leaves, in it each s-file's name is safe that was
-  pub images : Each (Allows (KeepsSafe (view_of m))) list.went.added m
+  -- but at a disk fault the names that were safe are safe again, and no intent names an s-file where none did
+  pub keeps : r ≢ Err ends.DiskFault → KeepsNames (view_in folder) (view_at folder ts list.number)
+  -- and whatever a stop leaves, in it each s-file's name is safe that was safe in whatever one could leave at the start, and no
+  -- intent names one where none did
+  pub images : Each (Allows (KeepsNamesFrom m)) list.went.added m
 
 -- what a stop leaves of a course that begins on a calm disk, where the names of its steps are safe
 abbrev pub StopsCourse : Courses → (List ℕ → Type 0) → Result ℕ Fault → Scene → Scene → Type 0
 StopsCourse course given r a b = (w : List ℕ → Bool) (folder : Folder) (i : List ℕ) (m : Model) (past : List Model)
     → Spares w → AllClear w (portions_of course folder i) → Shows w (seen a.told) (view_in folder) → given i
-    → a.told ≡ Tells m past → IsCalm m → AllSafe (view_in folder) (portions_of course folder i)
+    → a.told ≡ Tells m past → MayBegin folder m → AllSafe (view_in folder) (portions_of course folder i)
     → CourseMoments w r folder (steps_along course folder i) a b m past
 
 -- before each change of an s-file or p-file its z-file wasn't there at a moment of the call, but of the names of steps that don't lock them

@@ -3,10 +3,10 @@ use Rattle.std.specs.Prelude.{◌≡◌, ℕ, Bool, true, false, ◌&&◌, ◌||
 use Rattle.sccs_disk.specs.Files.{Folder, Model, view_in}
 use Rattle.sccs_disk.specs.Told.{Told, Tells, seen}
 use Rattle.sccs_files.specs.StepFiles.{Shows, is_working, nowhere}
-use Rattle.sccs_moments.specs.Calm.{IsCalm}
 use Rattle.sccs_moments.specs.Unlocked.{BeginsUnlockedBut}
 use Rattle.sccs_steps.specs.Actions.{Action}
 use Rattle.sccs_steps.specs.Calls.{Scene, shown}
+use Rattle.sccs_steps.specs.ListStops.{MayBegin}
 use Rattle.sccs_steps.specs.StepLists.{NamedStep}
 use Rattle.sccs_steps.specs.declared.faults.Fault.{Fault}
 use Rattle.sccs_courses.specs.Courses.{AllClear, AllExempt, AllPlain, AllSafe, Courses, Portion, portions_of, steps_along}
@@ -40,7 +40,7 @@ MakesOwn course given r a b = (folder : Folder) (i : List ℕ) → IsGivenTo cou
 
 abbrev pub StopsOwn : Courses → (List ℕ → Type 0) → Result ℕ Fault → Scene → Scene → Type 0
 StopsOwn course given r a b = (folder : Folder) (i : List ℕ) (m : Model) (past : List Model) → IsGivenTo course given folder i → Shows (working_along course folder i) (seen a.told) (view_in folder)
-    → a.told ≡ Tells m past → IsCalm m → AllSafe (view_in folder) (portions_of course folder i)
+    → a.told ≡ Tells m past → MayBegin folder m → AllSafe (view_in folder) (portions_of course folder i)
     → CourseMoments (working_along course folder i) r folder (steps_along course folder i) a b m past
 
 abbrev pub UnlockedOwn : Courses → (List ℕ → Type 0) → Told → Told → Type 0

@@ -14,6 +14,9 @@ use Rattle.sccs_history.specs.History.{lives}
 use Rattle.sccs_files.specs.StepFiles.{Moves}
 use Rattle.sccs_moments.proofs.FileNames.{from_s}
 use Rattle.sccs_moments.proofs.Joined.{newest_is}
+use Rattle.sccs_moments.proofs.Recovering.{pair_same}
+use Rattle.sccs_moments.proofs.Untouched.{sound_kept}
+use Rattle.sccs_intents.specs.Intents.{intent_file}
 use Rattle.sccs_pfile.specs.Agreement.{Agrees}
 use Rattle.sccs_pfile.specs.Entries.{IsEdit}
 use Rattle.sccs_moments.specs.Recovery.{IsSound}
@@ -114,7 +117,9 @@ settles_on n new_p g report message b c sfile moves settles = by (seen b) (seen 
         let p : u (p_file n) ≡ v (p_file n) = moves (p_file n) refl in
         let q : u (q_file n) ≡ v (q_file n) = moves (q_file n) refl in
         let new : chosen new_p (u (q_file n)) (u (p_file n)) ≡ chosen new_p (v (q_file n)) (v (p_file n)) = ap (λ (o : Option Content). chosen new_p o (u (p_file n))) q ∙ ap (λ (o : Option Content). chosen new_p (v (q_file n)) o) p in
-        let old : KeepsEntries n (plan_of (edit_prepared new_p Keep [] [])) v × ArePaired (v n) (chosen new_p (v (q_file n)) (v (p_file n))) = settles (λ none. sym p ∙ paired (s ∙ none)) (sym (ap (λ (o : Option Content). recovered_pfile o (v (p_file n))) s) ∙ (sym (ap (recovered_pfile (u n)) p) ∙ (sound ∙ p))) in (
+        let intent : v intent_file ≡ u intent_file = sym (moves intent_file refl) in
+        let before : IsSound n v = sound_kept n u v sound intent (pair_same _ _ _ _ (sym s) (sym p)) in
+        let old : KeepsEntries n (plan_of (edit_prepared new_p Keep [] [])) v × ArePaired (v n) (chosen new_p (v (q_file n)) (v (p_file n))) = settles (λ none. sym p ∙ paired (s ∙ none)) before in (
           record { leaves = tt; sound = ap (λ (o : Option Content). recovered_pfile o (chosen new_p (u (q_file n)) (u (p_file n)))) s ∙ (ap (recovered_pfile (v n)) new ∙ (old.0.sound ∙ sym new)) },
           λ none. new ∙ old.1 (sym s ∙ none),
         )

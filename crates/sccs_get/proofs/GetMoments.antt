@@ -2,7 +2,7 @@
 use Rattle.std.proofs.Common.{◌≡◌, ℕ, Bool, true, false, not, List, drop, Option, None, Some, is_some, Result, Ok, Err, inl, inr, refl, sym, ap, subst, ◌∙◌}
 use Rattle.std.specs.Prelude.{if◌then◌else◌}
 use Rattle.std.specs.Str.{bytes_eq}
-use Rattle.sccs_base.specs.Name.{IsSfile, p_file, y_file, z_file}
+use Rattle.sccs_base.specs.Name.{IsSfile, p_file, q_file, x_file, y_file, z_file}
 use Rattle.sccs_sid.specs.declared.moments.Stamp.{Stamp}
 use Rattle.sccs_sid.specs.declared.refusals.Refusal.{Refusal}
 use Rattle.sccs_sid.specs.declared.refusals.StepFault.{StepFault}
@@ -12,23 +12,24 @@ use Rattle.sccs_disk.specs.Images.{Allows, IsFirm}
 use Rattle.sccs_disk.specs.Told.{Told, Tells, seen}
 use Rattle.sccs_disk.proofs.Puts.{put_other, put_same}
 use Rattle.sccs_images.specs.Touches.{Leaves, TouchesOnly}
-use Rattle.sccs_images.proofs.Touched.{only_then, only_wider}
-use Rattle.sccs_pfile.specs.Recovered.{recovered_pfile}
-use Rattle.sccs_files.specs.StepFiles.{Files, Moves, is_working, look, moved}
+use Rattle.sccs_images.proofs.Touched.{only_then}
+use Rattle.sccs_intents.specs.Intents.{intent_file}
+use Rattle.sccs_files.specs.StepFiles.{Files, Moves, look, moved}
 use Rattle.sccs_gfiles.specs.Placing.{HasMade}
-use Rattle.sccs_gfiles.proofs.MadeWhole.{ends_after, ends_pairs, ends_within}
+use Rattle.sccs_gfiles.proofs.MadeWhole.{ends_after, ends_before, ends_pairs, ends_within}
 use Rattle.sccs_moments.specs.Calm.{IsCalm}
 use Rattle.sccs_moments.specs.Moments.{EndsAfter, EndsBefore, IsAt}
 use Rattle.sccs_moments.specs.Recovery.{RecoversAs, is_kept}
-use Rattle.sccs_moments.proofs.FileNames.{kept_p, kept_s, kept_z, no_y, to_g}
+use Rattle.sccs_moments.proofs.FileNames.{kept_intent, kept_p, kept_q, kept_s, kept_x, kept_z}
 use Rattle.sccs_moments.proofs.Joined.{numbered_as}
-use Rattle.sccs_moments.proofs.Recovering.{recovers_then, same_recovers}
-use Rattle.sccs_moments.proofs.Untouched.{before_after, before_within, ends_working}
+use Rattle.sccs_moments.proofs.Recovering.{LooksAlike, fate_same, looks_recover, recovers_back, recovers_then}
+use Rattle.sccs_moments.proofs.Untouched.{before_after, before_within}
 use Rattle.sccs_steps.specs.Actions.{Action}
 use Rattle.sccs_steps.specs.Calls.{Meets, scene, world}
 use Rattle.sccs_steps.specs.StepEffects.{Outcome, effect_of}
 use Rattle.sccs_steps.specs.StepStops.{Ends, IsSafe, IsSafeFor, MeetsAt, StepMoments, meeting_place}
 use Rattle.sccs_steps.proofs.SafeImages.{recovers_before}
+use Rattle.sccs_steps.proofs.Safety.{same_safe}
 use Rattle.sccs_store.specs.Commits.{Becomes}
 use Rattle.sccs_transactions.specs.declared.prepared.Prepared.{Prepared}
 use Rattle.sccs_words.specs.declared.commands.GetWords.{GetWords}
@@ -37,31 +38,28 @@ use Rattle.sccs_get.specs.VersionStep.{get_action, get_outcome, stays_writable, 
 use Rattle.sccs_get.proofs.ReadyLaws.{ReadiesAt}
 use Rattle.sccs_get.proofs.StepEnds.{content, finished, g_put, gave_up, gives_up, left_y, placed_g, written}
 
--- ---- a g-file anew changes no s-file, p-file or z-file
+-- ---- a g-file anew is no file at which recovery looks
 
 other_at : (n : List ℕ) (c : Content) (v : View) (k : List ℕ) → bytes_eq (drop 2 n) k ≡ false → g_put n c v k ≡ v k
 other_at n c v k h = put_other v (drop 2 n) k (Some c) h
 
+g_looks : (n : List ℕ) (c : Content) (v : View) → is_kept (drop 2 n) ≡ false → (k : List ℕ) → IsSfile k → LooksAlike k v (g_put n c v)
+g_looks n c v plain k sfile = record {
+  fate = fate_same k v (g_put n c v) (other_at n c v intent_file (kept_intent (drop 2 n) plain));
+  s = other_at n c v k (kept_s (drop 2 n) k plain sfile);
+  p = other_at n c v (p_file k) (kept_p (drop 2 n) k plain sfile);
+  z = ap is_some (other_at n c v (z_file k) (kept_z (drop 2 n) k plain sfile));
+  x = λ named. other_at n c v (x_file k) (kept_x (drop 2 n) k plain sfile);
+  q = λ named. other_at n c v (q_file k) (kept_q (drop 2 n) k plain sfile);
+}
+
 g_recovers : (n : List ℕ) (c : Content) (v : View) → is_kept (drop 2 n) ≡ false → RecoversAs (g_put n c v) v
 g_recovers n c v plain =
-    same_recovers (g_put n c v) v (λ k sfile. sym (other_at n c v k (kept_s (drop 2 n) k plain sfile))) (λ k sfile. sym (other_at n c v (p_file k) (kept_p (drop 2 n) k plain sfile)))
-    (λ k sfile. ap is_some (sym (other_at n c v (z_file k) (kept_z (drop 2 n) k plain sfile))))
+    recovers_back v (g_put n c v)
+    (looks_recover v (g_put n c v) (record { intent = other_at n c v intent_file (kept_intent (drop 2 n) plain); looks = λ k sfile. g_looks n c v plain k sfile }))
 
 g_safe : (n : List ℕ) (c : Content) (v : View) → IsSfile n → IsSafe n v → IsSafe n (g_put n c v)
-g_safe n c v sfile safe = record {
-  plain = safe.plain;
-  sound = λ none. subst (λ (s : Option Content). recovered_pfile s (g_put n c v (p_file n)) ≡ g_put n c v (p_file n)) (sym s_is) (subst (λ (p : Option Content). recovered_pfile (v n) p ≡ p) (sym p_is) (safe.sound (sym z_is ∙ none)));
-  paired = λ none. p_is ∙ safe.paired (sym s_is ∙ none);
-}
-  where
-    s_is : g_put n c v n ≡ v n
-    s_is = other_at n c v n (kept_s (drop 2 n) n safe.plain sfile)
-
-    p_is : g_put n c v (p_file n) ≡ v (p_file n)
-    p_is = other_at n c v (p_file n) (to_g 112 n sfile)
-
-    z_is : g_put n c v (z_file n) ≡ v (z_file n)
-    z_is = other_at n c v (z_file n) (to_g 122 n sfile)
+g_safe n c v sfile safe = same_safe n v (g_put n c v) sfile (g_looks n c v safe.plain n sfile) safe
 
 -- behind it, where each image has the old s-files and p-files
 g_after : (n : List ℕ) (c : Content) (v : View) (m : Model) (past : List Model) (t : Told) → is_kept (drop 2 n) ≡ false → EndsBefore v m past t → EndsAfter v (g_put n c v) m past t
@@ -151,8 +149,8 @@ module _ (words : GetWords) (stamp : Stamp) (place : List ℕ) (heading : Bool) 
 
   pub finished_moments : (r : Result (Unit {0}) StepFault) (p : Prepared) (left : Option (List ℕ)) (ta tb td : Told) (out out2 out3 err err2 : Option (List ℕ)) → writes_g words ≡ true → ReadiesAt words stamp place heading n (seen ta) (seen tb) (Ok p) out out2 err
       → FinishesGet words n p r (world (seen tb) out2 err) (world (seen td) out3 err2) → PlacesG words n r tb td → TouchesOnly (bytes_eq (y_file n)) ta tb → Leaves (IsFirm (y_file n)) ta tb → StepMoments action r n left (scene ta out err) (scene td out3 err2)
-  finished_moments r p left ta tb td out out2 out3 err err2 writes readies finishes places touches firm = λ m past i is heard calm safe.
-      at_model r ta td out out3 err err2 m past is (by m past is calm (safe (is_changing (writes_g words) writes)) (subst (λ (t : Told). ReadiesAt words stamp place heading n (seen t) (seen tb) (Ok p) out out2 err) is readies))
+  finished_moments r p left ta tb td out out2 out3 err err2 writes readies finishes places touches firm = λ m past i is heard calm may.
+      at_model r ta td out out3 err err2 m past is (by m past is calm (may.0 (is_changing (writes_g words) writes)) (subst (λ (t : Told). ReadiesAt words stamp place heading n (seen t) (seen tb) (Ok p) out out2 err) is readies))
     where
       by : (m : Model) (past : List Model) → ta ≡ Tells m past → IsCalm m → IsSafe n (view_of m) → IsReadied words n p (outcome_at (view_of m)) (world (Some (view_of m)) out err) (world (seen tb) out2 err) → EndsSo r (view_of m) m past td out err out3 err2 (outcome_at (view_of m))
       by m past is calm safe ready =
@@ -192,8 +190,8 @@ module _ (words : GetWords) (stamp : Stamp) (place : List ℕ) (heading : Bool) 
 
   pub given_up_moments : (fault : StepFault) (r : Result (Unit {0}) StepFault) (left : Option (List ℕ)) (ta tb td : Told) (out out2 err : Option (List ℕ)) → writes_g words ≡ true → ReadiesAt words stamp place heading n (seen ta) (seen tb) (Err fault) out out2 err
       → Moves (bytes_eq (y_file n)) (λ u. u) (seen ta) (seen tb) → GivesUpGet words n fault r (seen tb) (seen td) → TouchesOnly (bytes_eq (y_file n)) ta tb → TouchesOnly (bytes_eq (y_file n)) tb td → StepMoments action r n left (scene ta out err) (scene td out2 err)
-  given_up_moments fault r left ta tb td out out2 err writes readies moves gives touches leaving = λ m past i is heard calm safe.
+  given_up_moments fault r left ta tb td out out2 err writes readies moves gives touches leaving = λ m past i is heard calm may.
       at_model r ta td out out2 err err m past is
       (gives_so fault r (outcome_at (view_of m)) (view_of m) m past (seen tb) td out out2 err (subst (λ (t : Told). ReadiesAt words stamp place heading n (seen t) (seen tb) (Err fault) out out2 err) is readies) (subst (λ (t : Told). Moves (bytes_eq (y_file n)) (λ u. u) (seen t) (seen tb)) is moves)
-      (λ never. absurd (let e : writes_g words ≡ true = writes in let f : writes_g words ≡ false = never in cc)) gives safe
-      (ends_working n m past td calm (only_wider (bytes_eq (y_file n)) (is_working n) ta td (no_y n) (only_then (bytes_eq (y_file n)) ta tb td touches leaving) m past is)))
+      (λ never. absurd (let e : writes_g words ≡ true = writes in let f : writes_g words ≡ false = never in cc)) gives may.0
+      (ends_pairs n None 0 m past td (ends_before n None ta td m past sfile is calm (only_then (bytes_eq (y_file n)) ta tb td touches leaving))))

@@ -2,22 +2,23 @@
 use Rattle.std.proofs.Common.{◌≡◌, ◌||◌, ℕ, Bool, true, false, not, List, drop, Option, None, Some, Result, Ok, Err, inl, refl, ap}
 use Rattle.std.specs.Prelude.{IfSome}
 use Rattle.std.specs.Str.{bytes_eq}
-use Rattle.sccs_base.specs.Name.{IsSfile, p_file, y_file}
+use Rattle.sccs_base.specs.Name.{IsSfile, p_file, y_file, z_file}
 use Rattle.sccs_sid.specs.declared.moments.Stamp.{Stamp}
 use Rattle.sccs_sid.specs.declared.refusals.StepFault.{StepFault}
 use Rattle.sccs_disk.specs.Files.{View}
 use Rattle.sccs_disk.specs.Told.{Told, seen}
-use Rattle.sccs_files.specs.StepFiles.{Moves, look}
+use Rattle.sccs_files.specs.StepFiles.{Moves, is_left, look}
 use Rattle.sccs_images.specs.Touches.{TouchesOnly}
 use Rattle.sccs_moments.specs.Recovery.{is_kept}
-use Rattle.sccs_moments.specs.Unlocked.{BeginsUnlocked, KeepsOthers}
-use Rattle.sccs_moments.proofs.FileNames.{both_false, from_sfile, kept_p, kept_s}
-use Rattle.sccs_moments.proofs.Unlocked.{is_either, others_then, others_touched, others_wider, unlocked_by, unlocked_same}
+use Rattle.sccs_moments.specs.Unlocked.{BeginsUnlocked, KeepsHeldIn, KeepsOthers, is_own}
+use Rattle.sccs_moments.proofs.FileNames.{both_false, from_sfile, kept_p, kept_s, left_false, no_working, no_y, right_false, to_g}
+use Rattle.sccs_moments.proofs.Unlocked.{is_either, others_then, others_touched, others_wider, own_left, unlocked_by, unlocked_same}
 use Rattle.sccs_steps.specs.Actions.{Action, IsHeard, Stepped}
 use Rattle.sccs_steps.specs.Calls.{Meets, scene, world}
 use Rattle.sccs_steps.specs.StepStops.{StepMoments}
-use Rattle.sccs_steps.specs.Unlocked.{StepUnlocked}
+use Rattle.sccs_steps.specs.Unlocked.{StepOthers, StepUnlocked}
 use Rattle.sccs_steps.proofs.ReadingMoments.{reading_moments}
+use Rattle.sccs_steps.proofs.UnlockedSteps.{others_hold}
 use Rattle.sccs_transactions.specs.declared.prepared.Prepared.{Prepared}
 use Rattle.sccs_words.specs.declared.commands.GetWords.{GetWords}
 use Rattle.sccs_get.specs.Giving.{FinishesGet, GivesUpGet}
@@ -41,6 +42,15 @@ y_within n k h = first (bytes_eq (y_file n) k) (bytes_eq (drop 2 n) k) h
     first : (x y : Bool) → (x || y) ≡ false → x ≡ false
     first true y h = cc
     first false y h = refl
+
+-- nor is its own z-file, and both are its own
+apart_z : (n : List ℕ) → IsSfile n → is_either (y_file n) (drop 2 n) (z_file n) ≡ false
+apart_z n sfile = both_false (bytes_eq (y_file n) (z_file n)) (bytes_eq (drop 2 n) (z_file n)) refl (to_g 122 n sfile)
+
+own_either : (n k : List ℕ) → is_own n k ≡ false → is_either (y_file n) (drop 2 n) k ≡ false
+own_either n k h =
+    both_false (bytes_eq (y_file n) k) (bytes_eq (drop 2 n) k) (no_y n k (no_working n k (own_left n k h)))
+    (left_false (bytes_eq (drop 2 n) k) (is_left n k) (right_false (bytes_eq (p_file n) k) (bytes_eq (drop 2 n) k || is_left n k) (right_false (bytes_eq n k) (bytes_eq (p_file n) k || (bytes_eq (drop 2 n) k || is_left n k)) h)))
 
 y_others : (n : List ℕ) (a b : Told) → TouchesOnly (bytes_eq (y_file n)) a b → KeepsOthers (is_either (y_file n) (drop 2 n)) a b
 y_others n a b touches = others_wider (bytes_eq (y_file n)) (is_either (y_file n) (drop 2 n)) a b (y_within n) (others_touched (bytes_eq (y_file n)) a b touches)
@@ -91,3 +101,17 @@ module _ (words : GetWords) (stamp : Stamp) (place : List ℕ) (heading : Bool) 
 
   pub given_up_unlocked : (ta tb td : Told) → TouchesOnly (bytes_eq (y_file n)) ta tb → TouchesOnly (bytes_eq (y_file n)) tb td → (writes_g words ≡ false → td ≡ ta) → StepUnlocked action n ta td
   given_up_unlocked ta tb td touches leaving same = finished_unlocked ta tb td touches (y_others n tb td leaving) same
+
+  -- ---- the files of other names
+
+  pub finished_others : (ta tb td : Told) → IsSfile n → TouchesOnly (bytes_eq (y_file n)) ta tb → KeepsOthers (is_either (y_file n) (drop 2 n)) tb td → StepOthers action n ta td
+  finished_others ta tb td sfile touches others = (λ changes. others_wider (is_either (y_file n) (drop 2 n)) (is_own n) ta td (own_either n) kept, λ changes locks. held)
+    where
+      kept : KeepsOthers (is_either (y_file n) (drop 2 n)) ta td
+      kept = others_then (is_either (y_file n) (drop 2 n)) ta tb td (y_others n ta tb touches) others
+
+      held : KeepsHeldIn n ta td
+      held = others_hold (is_either (y_file n) (drop 2 n)) n ta td (apart_z n sfile) kept
+
+  pub given_up_others : (ta tb td : Told) → IsSfile n → TouchesOnly (bytes_eq (y_file n)) ta tb → TouchesOnly (bytes_eq (y_file n)) tb td → StepOthers action n ta td
+  given_up_others ta tb td sfile touches leaving = finished_others ta tb td sfile touches (y_others n tb td leaving)

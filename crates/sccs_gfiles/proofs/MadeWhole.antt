@@ -1,13 +1,14 @@
 -- A g-file that is made whole: its y-file is made and takes its place.
 use Rattle.std.proofs.Common.{◌≡◌, ℕ, false, List, drop, Option, inl, inr, refl, sym, subst, ◌∙◌}
 use Rattle.std.specs.Str.{bytes_eq}
-use Rattle.sccs_base.specs.Name.{IsSfile, p_file, y_file, z_file}
+use Rattle.sccs_base.specs.Name.{IsSfile, p_file, q_file, x_file, y_file, z_file}
 use Rattle.sccs_disk.specs.Files.{Content, Model, View, view_of}
 use Rattle.sccs_disk.specs.Images.{Allows, Image, IsFirm, IsOwn}
 use Rattle.sccs_disk.specs.Told.{Told, Tells}
 use Rattle.sccs_images.specs.Touches.{Leaves, TellsSane, Touches, TouchesOnly, Touching, earlier, newest}
 use Rattle.sccs_images.proofs.Images.{view_image}
 use Rattle.sccs_images.proofs.Touched.{each_newest, newest_more}
+use Rattle.sccs_intents.specs.Intents.{intent_file}
 use Rattle.sccs_moments.specs.Calm.{IsCalm, KeepsPairs}
 use Rattle.sccs_moments.specs.Moments.{EndsBefore, Went}
 use Rattle.sccs_moments.specs.Recovery.{is_kept}
@@ -36,7 +37,14 @@ touched_image : (n : List ℕ) (new : Option Content) (m m2 : Model) → IsSfile
 touched_image n new m m2 sfile calm touches w image =
     let x : (u : View) × Image m u × ((k : List ℕ) → bytes_eq (y_file n) k ≡ false → u k ≡ w k) = touches.images w image in
     record {
-      keeps = keeps_same (view_of m) x.0 w (calm x.0 x.1) (λ k other. sym (x.2 k (no_y n k (working_s n k other)))) (λ k other. sym (x.2 (p_file k) refl)) (λ k other. sym (x.2 (z_file k) refl));
+      keeps = keeps_same (view_of m) x.0 w (calm x.0 x.1) (record {
+        intent = sym (x.2 intent_file refl);
+        s = λ k other. sym (x.2 k (no_y n k (working_s n k other)));
+        p = λ k other. sym (x.2 (p_file k) refl);
+        z = λ k other. sym (x.2 (z_file k) refl);
+        x = λ k other. sym (x.2 (x_file k) refl);
+        q = λ k other. sym (x.2 (q_file k) refl);
+      });
       g_state = inr (refl, (x.0, x.1, sym (x.2 (drop 2 n) (from_g 121 n sfile))));
     }
 
@@ -71,6 +79,7 @@ g_joined n new m m1 j w first (inr (zero, (u, image, same))) = old_or_new zero s
 
 pairs_joined : (u v w : View) → KeepsPairs u v → KeepsPairs v w → KeepsPairs u w
 pairs_joined u v w first next = record {
+  intent = next.intent ∙ first.intent;
   pairs = λ k sfile. next.pairs k sfile ∙ first.pairs k sfile;
   recovers = recovers_then u v w first.recovers next.recovers;
 }

@@ -1,7 +1,7 @@
 -- A y-file put in the place of a g-file: what a stop leaves.
 use Rattle.std.proofs.Common.{◌≡◌, ℕ, false, List, [], ◌∷◌, drop, Option, None, is_some, inl, inr, refl, sym, ap, subst, ◌∙◌, ⊎_elim, arith}
 use Rattle.std.specs.Str.{bytes_eq}
-use Rattle.sccs_base.specs.Name.{IsSfile, p_file, y_file, z_file}
+use Rattle.sccs_base.specs.Name.{IsSfile, p_file, q_file, x_file, y_file, z_file}
 use Rattle.sccs_disk.specs.Calls.{Done, Half}
 use Rattle.sccs_disk.specs.Effects.{pended, renamed, renaming, settled, syncing_names}
 use Rattle.sccs_disk.specs.Files.{Content, Model, Rename, View, put, view_of}
@@ -10,23 +10,33 @@ use Rattle.sccs_disk.specs.Told.{Told, Tells}
 use Rattle.sccs_disk.proofs.Puts.{put_other, put_same}
 use Rattle.sccs_images.proofs.Images.{full_image, image_pended, image_settled, view_image}
 use Rattle.sccs_images.proofs.Owned.{firm_stays}
+use Rattle.sccs_intents.specs.Intents.{intent_file}
 use Rattle.sccs_moments.specs.Calm.{IsCalm, KeepsPairs}
 use Rattle.sccs_moments.specs.Moments.{Guards}
 use Rattle.sccs_moments.specs.Recovery.{is_kept}
 use Rattle.sccs_moments.proofs.CalmDisks.{calm_kept}
-use Rattle.sccs_moments.proofs.FileNames.{kept_p, kept_s, kept_z, no_y, working_s}
+use Rattle.sccs_moments.proofs.FileNames.{kept_intent, kept_p, kept_q, kept_s, kept_x, kept_z, no_y, working_s}
 use Rattle.sccs_moments.proofs.Full.{full_renamed}
 use Rattle.sccs_moments.proofs.Recovering.{pair_same, recovers_then, same_recovers}
 use Rattle.sccs_gfiles.specs.Placing.{CanPlace, EndsPlacing, HalfPlaces, IsPlacing, PlaceEnds, PlaceStops, Places}
 
 -- ---- views
 
--- the same s-files, p-files and z-files
-pub keeps_same : (v u w : View) → KeepsPairs v u → ((k : List ℕ) → IsSfile k → w k ≡ u k) → ((k : List ℕ) → IsSfile k → w (p_file k) ≡ u (p_file k))
-    → ((k : List ℕ) → IsSfile k → w (z_file k) ≡ u (z_file k)) → KeepsPairs v w
-keeps_same v u w keeps s p z = record {
-  pairs = λ k sfile. pair_same _ _ _ _ (s k sfile) (p k sfile) ∙ keeps.pairs k sfile;
-  recovers = recovers_then v u w keeps.recovers (same_recovers u w s p (λ k sfile. ap is_some (z k sfile)));
+-- the same intent, and the same files at which recovery looks
+pub record SameFiles (u w : View) : Type 0 where
+  pub intent : w intent_file ≡ u intent_file
+  pub s : (k : List ℕ) → IsSfile k → w k ≡ u k
+  pub p : (k : List ℕ) → IsSfile k → w (p_file k) ≡ u (p_file k)
+  pub z : (k : List ℕ) → IsSfile k → w (z_file k) ≡ u (z_file k)
+  pub x : (k : List ℕ) → IsSfile k → w (x_file k) ≡ u (x_file k)
+  pub q : (k : List ℕ) → IsSfile k → w (q_file k) ≡ u (q_file k)
+
+pub keeps_same : (v u w : View) → KeepsPairs v u → SameFiles u w → KeepsPairs v w
+keeps_same v u w keeps same = record {
+  intent = same.intent ∙ keeps.intent;
+  pairs = λ k sfile. pair_same _ _ _ _ (same.s k sfile) (same.p k sfile) ∙ keeps.pairs k sfile;
+  recovers = recovers_then v u w keeps.recovers
+      (same_recovers u w same.intent same.s same.p (λ k sfile. ap is_some (same.z k sfile)) (λ k sfile named. same.x k sfile) (λ k sfile named. same.q k sfile));
 }
 
 renamed_other : (a b : List ℕ) (u : View) (k : List ℕ) → bytes_eq a k ≡ false → bytes_eq b k ≡ false → renamed a b u k ≡ u k
@@ -34,10 +44,14 @@ renamed_other a b u k from to = put_other (put u a None) b k (u a) to ∙ put_ot
 
 renamed_keeps : (n : List ℕ) (v u : View) → is_kept (drop 2 n) ≡ false → KeepsPairs v u → KeepsPairs v (renamed (y_file n) (drop 2 n) u)
 renamed_keeps n v u plain keeps =
-    keeps_same v u (renamed (y_file n) (drop 2 n) u) keeps
-    (λ k sfile. renamed_other (y_file n) (drop 2 n) u k (no_y n k (working_s n k sfile)) (kept_s (drop 2 n) k plain sfile))
-    (λ k sfile. renamed_other (y_file n) (drop 2 n) u (p_file k) refl (kept_p (drop 2 n) k plain sfile))
-    (λ k sfile. renamed_other (y_file n) (drop 2 n) u (z_file k) refl (kept_z (drop 2 n) k plain sfile))
+    keeps_same v u (renamed (y_file n) (drop 2 n) u) keeps (record {
+      intent = renamed_other (y_file n) (drop 2 n) u intent_file refl (kept_intent (drop 2 n) plain);
+      s = λ k sfile. renamed_other (y_file n) (drop 2 n) u k (no_y n k (working_s n k sfile)) (kept_s (drop 2 n) k plain sfile);
+      p = λ k sfile. renamed_other (y_file n) (drop 2 n) u (p_file k) refl (kept_p (drop 2 n) k plain sfile);
+      z = λ k sfile. renamed_other (y_file n) (drop 2 n) u (z_file k) refl (kept_z (drop 2 n) k plain sfile);
+      x = λ k sfile. renamed_other (y_file n) (drop 2 n) u (x_file k) refl (kept_x (drop 2 n) k plain sfile);
+      q = λ k sfile. renamed_other (y_file n) (drop 2 n) u (q_file k) refl (kept_q (drop 2 n) k plain sfile);
+    })
 
 -- ---- images
 

@@ -33,7 +33,7 @@ pub record HasMade (n : List ℕ) (old new : Told) : Type 0 where
 pub record CanPlace (n : List ℕ) (m : Model) : Type 0 where
   pub calm : IsCalm m
   pub y_state : IsFirm (y_file n) m
-  -- the g-file's name is that of no s-file, p-file or z-file
+  -- the g-file's name is none at which recovery of a name looks
   pub plain : is_kept (drop 2 n) ≡ false
 
 -- ---- what a stop leaves

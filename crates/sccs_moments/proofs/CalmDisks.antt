@@ -4,7 +4,7 @@ use Rattle.std.proofs.lemmas.List.Elements.{All-append}
 use Rattle.std.proofs.lemmas.Option.{get_or_from_slice_get, slice_get_within}
 use Rattle.std.specs.List.{All}
 use Rattle.std.specs.Prelude.{IfSome, IsSome, slice_get}
-use Rattle.sccs_base.specs.Name.{IsSfile, p_file, z_file}
+use Rattle.sccs_base.specs.Name.{IsSfile, p_file, q_file, x_file, z_file}
 use Rattle.sccs_disk.specs.Effects.{settled}
 use Rattle.sccs_disk.specs.Effects as effects
 use Rattle.sccs_disk.specs.Files.{Content, File, Model, Names, Op, View, names_after, file_at, names, put, view_of}
@@ -16,9 +16,12 @@ use Rattle.sccs_images.specs.Touches.{Touches}
 use Rattle.sccs_images.proofs.Images.{full_image, image_settled, view_full, view_image}
 use Rattle.sccs_images.proofs.Owned.{firm_stays}
 use Rattle.sccs_images.proofs.Touched.{firm_touched}
-use Rattle.sccs_moments.specs.Calm.{HasFirm, IsCalm, KeepsPairs}
-use Rattle.sccs_moments.specs.Recovery.{pair_of}
-use Rattle.sccs_moments.proofs.Recovering.{p_of, pair_same, recovers_back, recovers_then, s_of, same_recovers}
+use Rattle.sccs_intents.specs.Intents.{intent_file}
+use Rattle.sccs_intents.specs.declared.intents.Fate.{Fate}
+use Rattle.sccs_intents.specs.declared.intents.Fate.TheVariants.{Replaced, Removed}
+use Rattle.sccs_moments.specs.Calm.{HasFirm, IsCalm, IsUnnamed, KeepsPairs}
+use Rattle.sccs_moments.specs.Recovery.{fate_at, newer, pair_of}
+use Rattle.sccs_moments.proofs.Recovering.{SameLooks, fate_same, looks_recover, p_of, pair_same, recovered_as, recovered_at, recovers_back, recovers_then, recovers_to, s_of}
 
 -- ---- a file that isn't firm could be another
 
@@ -64,21 +67,14 @@ firm_at m k (Some f) is only = firm_by m k f is only f.firm refl
 pub firm_from : (m : Model) (k : List ℕ) → ((w : View) → Full m w → w k ≡ view_of m k) → IsFirm k m
 firm_from m k only = firm_at m k (file_under m k) refl only
 
-pub pairs_firm : (m : Model) → ((w : View) → Full m w → (n : List ℕ) → IsSfile n → pair_of w n ≡ pair_of (view_of m) n) → HasFirm m
-pairs_firm m only = record {
-  s_files = λ n sfile. firm_from m n (λ w full. ap s_of (only w full n sfile));
-  p_files = λ n sfile. firm_from m (p_file n) (λ w full. ap p_of (only w full n sfile));
+pub looks_firm : (m : Model) → ((w : View) → Full m w → SameLooks (view_of m) w) → HasFirm m
+looks_firm m only = record {
+  s_files = λ n sfile. firm_from m n (λ w full. ((only w full).looks n sfile).s);
+  p_files = λ n sfile. firm_from m (p_file n) (λ w full. ((only w full).looks n sfile).p);
+  intent = firm_from m intent_file (λ w full. (only w full).intent);
+  x_files = λ n sfile named. firm_from m (x_file n) (λ w full. ((only w full).looks n sfile).x named);
+  q_files = λ n sfile named. firm_from m (q_file n) (λ w full. ((only w full).looks n sfile).q named);
 }
-
--- on a calm disk s-files and p-files are firm
-pub calm_firm : (m : Model) → IsCalm m → HasFirm m
-calm_firm m calm = pairs_firm m (λ w full. (calm w (full_image m w full)).pairs)
-
--- ---- firm files are those of the view
-
-pub firm_pairs : (m : Model) (w : View) → HasFirm m → Full m w → (n : List ℕ) → IsSfile n → pair_of w n ≡ pair_of (view_of m) n
-firm_pairs m w firm full n sfile =
-    pair_same _ _ _ _ (firm_stays n m w (firm.s_files n sfile) full) (firm_stays (p_file n) m w (firm.p_files n sfile) full)
 
 some_by : (b : Bool) (w : Option Content) (c : Content) → cond b (w ≡ Some c) (IsSome w) → is_some w ≡ true
 some_by true w c e = ap is_some e
@@ -92,13 +88,83 @@ fits_there (Some f) w e = some_by f.firm w f.content e
 pub full_there : (m : Model) (w : View) → Full m w → (k : List ℕ) → is_some (w k) ≡ is_some (view_of m k)
 full_there m w full k = fits_there (file_under m k) (w k) (full k)
 
-pub full_keeps : (m : Model) (w : View) → HasFirm m → Full m w → KeepsPairs (view_of m) w
-full_keeps m w firm full = record {
-  pairs = firm_pairs m w firm full;
-  recovers =
-      same_recovers (view_of m) w (λ n sfile. ap s_of (firm_pairs m w firm full n sfile)) (λ n sfile. ap p_of (firm_pairs m w firm full n sfile))
-      (λ n sfile. full_there m w full (z_file n));
+-- ---- on a calm disk all is firm at which recovery looks: another content would recover otherwise
+
+newer_is : (x x2 s s2 : Option Content) → newer x2 s2 ≡ newer x s → is_some x2 ≡ is_some x → x2 ≡ x
+newer_is None None s s2 e f = refl
+newer_is None (Some b) s s2 e f = absurd (cc)
+newer_is (Some a) None s s2 e f = absurd (cc)
+newer_is (Some a) (Some b) s s2 e f = e
+
+x_is : (f : Option Fate) (s s2 p p2 x x2 q q2 : Option Content) (z z2 : Bool) → IsSome f
+    → recovered_as f s2 p2 x2 q2 z2 ≡ recovered_as f s p x q z → is_some x2 ≡ is_some x → x2 ≡ x
+x_is None s s2 p p2 x x2 q q2 z z2 named e there = absurd (cc)
+x_is (Some Replaced) s s2 p p2 x x2 q q2 z z2 named e there = newer_is x x2 s s2 (ap s_of e) there
+x_is (Some Removed) s s2 p p2 x x2 q q2 z z2 named e there = newer_is x x2 s s2 (ap s_of e) there
+
+q_is : (f : Option Fate) (s s2 p p2 x x2 q q2 : Option Content) (z z2 : Bool) → f ≡ Some Replaced
+    → recovered_as f s2 p2 x2 q2 z2 ≡ recovered_as f s p x q z → is_some q2 ≡ is_some q → q2 ≡ q
+q_is None s s2 p p2 x x2 q q2 z z2 named e there = absurd (cc)
+q_is (Some Replaced) s s2 p p2 x x2 q q2 z z2 named e there = newer_is q q2 p p2 (ap p_of e) there
+q_is (Some Removed) s s2 p p2 x x2 q q2 z z2 named e there = absurd (cc)
+
+-- what is left of a name by the fate that the other view says
+by_fate : (n : List ℕ) (v w : View) → KeepsPairs v w → IsSfile n
+    → recovered_as (fate_at v n) (w n) (w (p_file n)) (w (x_file n)) (w (q_file n)) (is_some (w (z_file n))) ≡ recovered_at v n
+by_fate n v w keeps sfile =
+    ap (λ (f : Option Fate). recovered_as f (w n) (w (p_file n)) (w (x_file n)) (w (q_file n)) (is_some (w (z_file n)))) (sym (fate_same n v w keeps.intent))
+    ∙ recovers_to v w keeps.recovers n sfile
+
+kept_looks : (m : Model) (w : View) → KeepsPairs (view_of m) w → Full m w → SameLooks (view_of m) w
+kept_looks m w keeps full = record {
+  intent = keeps.intent;
+  looks = λ n sfile. record {
+    fate = fate_same n (view_of m) w keeps.intent;
+    s = ap s_of (keeps.pairs n sfile);
+    p = ap p_of (keeps.pairs n sfile);
+    z = full_there m w full (z_file n);
+    x = λ named. x_is (fate_at (view_of m) n) (view_of m n) (w n) (view_of m (p_file n)) (w (p_file n)) (view_of m (x_file n)) (w (x_file n)) (view_of m (q_file n)) (w (q_file n))
+        (is_some (view_of m (z_file n))) (is_some (w (z_file n))) named (by_fate n (view_of m) w keeps sfile) (full_there m w full (x_file n));
+    q = λ named. q_is (fate_at (view_of m) n) (view_of m n) (w n) (view_of m (p_file n)) (w (p_file n)) (view_of m (x_file n)) (w (x_file n)) (view_of m (q_file n)) (w (q_file n))
+        (is_some (view_of m (z_file n))) (is_some (w (z_file n))) named (by_fate n (view_of m) w keeps sfile) (full_there m w full (q_file n));
+  };
 }
+
+pub calm_firm : (m : Model) → IsCalm m → HasFirm m
+calm_firm m calm = looks_firm m (λ w full. kept_looks m w (calm w (full_image m w full)) full)
+
+-- on a calm disk a stop leaves no intent that names a name which none names in the view
+pub calm_unnamed : (n : List ℕ) (m : Model) → IsCalm m → fate_at (view_of m) n ≡ None → IsUnnamed n m
+calm_unnamed n m calm none = λ w image. fate_same n (view_of m) w (calm w image).intent ∙ none
+
+-- ---- firm files are those of the view
+
+pub firm_looks : (m : Model) (w : View) → HasFirm m → Full m w → SameLooks (view_of m) w
+firm_looks m w firm full = record {
+  intent = firm_stays intent_file m w firm.intent full;
+  looks = λ n sfile. record {
+    fate = fate_same n (view_of m) w (firm_stays intent_file m w firm.intent full);
+    s = firm_stays n m w (firm.s_files n sfile) full;
+    p = firm_stays (p_file n) m w (firm.p_files n sfile) full;
+    z = full_there m w full (z_file n);
+    x = λ named. firm_stays (x_file n) m w (firm.x_files n sfile named) full;
+    q = λ named. firm_stays (q_file n) m w (firm.q_files n sfile named) full;
+  };
+}
+
+pub firm_pairs : (m : Model) (w : View) → HasFirm m → Full m w → (n : List ℕ) → IsSfile n → pair_of w n ≡ pair_of (view_of m) n
+firm_pairs m w firm full n sfile =
+    pair_same _ _ _ _ (firm_stays n m w (firm.s_files n sfile) full) (firm_stays (p_file n) m w (firm.p_files n sfile) full)
+
+pub looks_keep : (v w : View) → SameLooks v w → KeepsPairs v w
+looks_keep v w same = record {
+  intent = same.intent;
+  pairs = λ n sfile. pair_same _ _ _ _ (same.looks n sfile).s (same.looks n sfile).p;
+  recovers = looks_recover v w same;
+}
+
+pub full_keeps : (m : Model) (w : View) → HasFirm m → Full m w → KeepsPairs (view_of m) w
+full_keeps m w firm full = looks_keep (view_of m) w (firm_looks m w firm full)
 
 -- where the names are synced the disk is calm
 pub calm_settled : (m : Model) → HasFirm m → IsCalm (settled m)
@@ -110,6 +176,7 @@ calm_kept v m keeps = λ w image.
     let now : KeepsPairs v (view_of m) = keeps (view_of m) (view_image m) in
     let later : KeepsPairs v w = keeps w image in
     record {
+      intent = later.intent ∙ sym now.intent;
       pairs = λ n sfile. later.pairs n sfile ∙ sym (now.pairs n sfile);
       recovers = recovers_then (view_of m) v w (recovers_back v (view_of m) now.recovers) later.recovers;
     }
@@ -140,6 +207,9 @@ settled_calm m still = λ w image. full_keeps m w all_firm (image_full m w still
     all_firm = record {
       s_files = λ n sfile. each_firm m.files (names m n) still.files;
       p_files = λ n sfile. each_firm m.files (names m (p_file n)) still.files;
+      intent = each_firm m.files (names m intent_file) still.files;
+      x_files = λ n sfile named. each_firm m.files (names m (x_file n)) still.files;
+      q_files = λ n sfile named. each_firm m.files (names m (q_file n)) still.files;
     }
 
 none_firm : All IsFirmFile []
@@ -156,8 +226,16 @@ pub placed_settled : (n : List ℕ) (c : Content) (m : Model) → IsSettled m �
 placed_settled n c m still = record { files = All-append IsFirmFile m.files (effects.firm c ∷ []) still.files (one_firm c); pending = still.pending }
 
 -- firm files stay so where others are touched
-pub firms_touched : (mine : List ℕ → Bool) (m m2 : Model) → ((n : List ℕ) → IsSfile n → mine n ≡ false) → ((n : List ℕ) → IsSfile n → mine (p_file n) ≡ false) → Touches mine m m2 → HasFirm m → HasFirm m2
-firms_touched mine m m2 s p touches firm = record {
+pub firms_touched : (mine : List ℕ → Bool) (m m2 : Model) → ((n : List ℕ) → IsSfile n → mine n ≡ false) → ((n : List ℕ) → IsSfile n → mine (p_file n) ≡ false) → mine intent_file ≡ false
+    → ((n : List ℕ) → IsSfile n → IsSome (fate_at (view_of m) n) → mine (x_file n) ≡ false) → ((n : List ℕ) → IsSfile n → fate_at (view_of m) n ≡ Some Replaced → mine (q_file n) ≡ false)
+    → Touches mine m m2 → HasFirm m → HasFirm m2
+firms_touched mine m m2 s p intent x q touches firm = record {
   s_files = λ n sfile. firm_touched mine m m2 n touches (s n sfile) (firm.s_files n sfile);
   p_files = λ n sfile. firm_touched mine m m2 (p_file n) touches (p n sfile) (firm.p_files n sfile);
+  intent = firm_touched mine m m2 intent_file touches intent firm.intent;
+  x_files = λ n sfile named. firm_touched mine m m2 (x_file n) touches (x n sfile (subst (λ (f : Option Fate). IsSome f) (fate n) named)) (firm.x_files n sfile (subst (λ (f : Option Fate). IsSome f) (fate n) named));
+  q_files = λ n sfile named. firm_touched mine m m2 (q_file n) touches (q n sfile (sym (fate n) ∙ named)) (firm.q_files n sfile (sym (fate n) ∙ named));
 }
+  where
+    fate : (n : List ℕ) → fate_at (view_of m2) n ≡ fate_at (view_of m) n
+    fate n = fate_same n (view_of m) (view_of m2) (ap (option_map (λ (f : File). f.content)) (touches.files intent_file intent))

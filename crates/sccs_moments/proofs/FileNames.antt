@@ -5,6 +5,7 @@ use Rattle.sccs_base.specs.Name.{IsSfile, sibling, p_file, q_file, x_file, y_fil
 use Rattle.sccs_base.proofs.SameBytes.{other_bytes, same_bytes}
 use Rattle.sccs_base.proofs.Siblings.{sfile_long}
 use Rattle.sccs_files.specs.StepFiles.{is_left, is_working}
+use Rattle.sccs_intents.specs.Intents.{intent_file}
 use Rattle.sccs_moments.specs.Recovery.{begins_by_letter, is_kept}
 
 -- the name of an s-file begins with s
@@ -86,6 +87,42 @@ left_s n k sfile = subst (λ l. is_left n l ≡ false) (sym (sfile_is k sfile)) 
 pub left_z : (n k : List ℕ) → IsSfile n → IsSfile k → bytes_eq n k ≡ false → is_left n (z_file k) ≡ false
 left_z n k sfile other apart = siblings_differ 122 n k sfile other apart
 
+pub working_x : (n k : List ℕ) → IsSfile n → IsSfile k → bytes_eq n k ≡ false → is_working n (x_file k) ≡ false
+working_x n k sfile other apart = both_false _ false (siblings_differ 120 n k sfile other apart) refl
+
+pub working_q : (n k : List ℕ) → IsSfile n → IsSfile k → bytes_eq n k ≡ false → is_working n (q_file k) ≡ false
+working_q n k sfile other apart = both_false _ false (siblings_differ 113 n k sfile other apart) refl
+
+pub left_x : (n k : List ℕ) → IsSfile n → IsSfile k → bytes_eq n k ≡ false → is_left n (x_file k) ≡ false
+left_x n k sfile other apart = both_false _ false (working_x n k sfile other apart) refl
+
+pub left_q : (n k : List ℕ) → IsSfile n → IsSfile k → bytes_eq n k ≡ false → is_left n (q_file k) ≡ false
+left_q n k sfile other apart = both_false _ false (working_q n k sfile other apart) refl
+
+-- ---- the intent
+
+-- the second byte, or none
+abbrev second : List ℕ → ℕ
+second [] = 0
+second (a ∷ []) = 0
+second (a ∷ b ∷ rest) = b
+
+second_of_two : (n : List ℕ) → second (take 2 n) ≡ second n
+second_of_two [] = refl
+second_of_two (a ∷ []) = refl
+second_of_two (a ∷ b ∷ rest) = refl
+
+-- the intent is no s-file
+pub sfile_and_intent : (n : List ℕ) → IsSfile n → bytes_eq n intent_file ≡ false
+sfile_and_intent n sfile = other_bytes n intent_file (λ e.
+    let dot : second n ≡ 46 = sym (second_of_two n) ∙ ap second sfile.front in
+    let c : second n ≡ 99 = ap second e in omega (arith, dot, c))
+
+pub intent_and_sfile : (n : List ℕ) → IsSfile n → bytes_eq intent_file n ≡ false
+intent_and_sfile n sfile = other_bytes intent_file n (λ e.
+    let dot : second n ≡ 46 = sym (second_of_two n) ∙ ap second sfile.front in
+    let c : 99 ≡ second n = ap second e in omega (arith, dot, c))
+
 -- a name that isn't kept is none of them
 begins_not : (letter : ℕ) (k l : List ℕ) → begins_by_letter letter k ≡ false → take 2 l ≡ letter ∷ 46 ∷ [] → bytes_eq k l ≡ false
 begins_not letter k l not_so front =
@@ -98,11 +135,45 @@ sibling_front letter [] sfile = absurd (let e = sfile.front in cc)
 sibling_front letter (b ∷ []) sfile = absurd (let e = sfile.front in cc)
 sibling_front letter (b ∷ d ∷ rest) sfile = ap (λ x. letter ∷ x ∷ []) (let e = sfile.front in cc)
 
+-- what is asked of a name behind each of the tests
+abbrev kept_after_x : List ℕ → Bool
+kept_after_x g = begins_by_letter 113 g || bytes_eq g intent_file
+
+abbrev kept_after_z : List ℕ → Bool
+kept_after_z g = begins_by_letter 120 g || kept_after_x g
+
+abbrev kept_after_p : List ℕ → Bool
+kept_after_p g = begins_by_letter 122 g || kept_after_z g
+
+abbrev kept_after_s : List ℕ → Bool
+kept_after_s g = begins_by_letter 112 g || kept_after_p g
+
+no_s_name : (g : List ℕ) → is_kept g ≡ false → kept_after_s g ≡ false
+no_s_name g h = right_false (begins_by_letter 115 g) (kept_after_s g) h
+
+no_p_name : (g : List ℕ) → is_kept g ≡ false → kept_after_p g ≡ false
+no_p_name g h = right_false (begins_by_letter 112 g) (kept_after_p g) (no_s_name g h)
+
+no_z_name : (g : List ℕ) → is_kept g ≡ false → kept_after_z g ≡ false
+no_z_name g h = right_false (begins_by_letter 122 g) (kept_after_z g) (no_p_name g h)
+
+no_x_name : (g : List ℕ) → is_kept g ≡ false → kept_after_x g ≡ false
+no_x_name g h = right_false (begins_by_letter 120 g) (kept_after_x g) (no_z_name g h)
+
 pub kept_s : (g k : List ℕ) → is_kept g ≡ false → IsSfile k → bytes_eq g k ≡ false
-kept_s g k h sfile = begins_not 115 g k (left_false _ _ h) sfile.front
+kept_s g k h sfile = begins_not 115 g k (left_false (begins_by_letter 115 g) (kept_after_s g) h) sfile.front
 
 pub kept_p : (g k : List ℕ) → is_kept g ≡ false → IsSfile k → bytes_eq g (p_file k) ≡ false
-kept_p g k h sfile = begins_not 112 g (p_file k) (left_false _ _ (right_false _ _ h)) (sibling_front 112 k sfile)
+kept_p g k h sfile = begins_not 112 g (p_file k) (left_false (begins_by_letter 112 g) (kept_after_p g) (no_s_name g h)) (sibling_front 112 k sfile)
 
 pub kept_z : (g k : List ℕ) → is_kept g ≡ false → IsSfile k → bytes_eq g (z_file k) ≡ false
-kept_z g k h sfile = begins_not 122 g (z_file k) (right_false _ _ (right_false _ _ h)) (sibling_front 122 k sfile)
+kept_z g k h sfile = begins_not 122 g (z_file k) (left_false (begins_by_letter 122 g) (kept_after_z g) (no_p_name g h)) (sibling_front 122 k sfile)
+
+pub kept_x : (g k : List ℕ) → is_kept g ≡ false → IsSfile k → bytes_eq g (x_file k) ≡ false
+kept_x g k h sfile = begins_not 120 g (x_file k) (left_false (begins_by_letter 120 g) (kept_after_x g) (no_z_name g h)) (sibling_front 120 k sfile)
+
+pub kept_q : (g k : List ℕ) → is_kept g ≡ false → IsSfile k → bytes_eq g (q_file k) ≡ false
+kept_q g k h sfile = begins_not 113 g (q_file k) (left_false (begins_by_letter 113 g) (bytes_eq g intent_file) (no_x_name g h)) (sibling_front 113 k sfile)
+
+pub kept_intent : (g : List ℕ) → is_kept g ≡ false → bytes_eq g intent_file ≡ false
+kept_intent g h = right_false (begins_by_letter 113 g) (bytes_eq g intent_file) (no_x_name g h)

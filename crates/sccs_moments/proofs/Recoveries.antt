@@ -1,17 +1,18 @@
 -- Calls that may begin on any disk whose s-files and p-files are firm, one behind another.
 use Rattle.std.proofs.Common.{◌≡◌, ℕ, List, [], ◌∷◌, refl, sym, subst, ◌∙◌, arith}
+use Rattle.sccs_base.specs.Name.{IsSfile}
 use Rattle.sccs_disk.specs.Files.{Model, View, view_of}
 use Rattle.sccs_disk.specs.Images.{Allows, Image}
 use Rattle.sccs_disk.specs.Told.{Told, Tells}
 use Rattle.sccs_files.specs.StepFiles.{is_working}
 use Rattle.sccs_images.specs.Touches.{TouchesOnly, Touching, earlier, newest}
-use Rattle.sccs_images.proofs.Touched.{each_newest}
-use Rattle.sccs_moments.specs.Calm.{HasFirm, IsCalm}
-use Rattle.sccs_moments.specs.Moments.{IsFrom, KeepsCalm, LeavesCalm, LeavesFirm, RecoversOn, Went}
+use Rattle.sccs_images.proofs.Images.{view_image}
+use Rattle.sccs_moments.specs.Calm.{HasFirm, IsCalm, KeepsPairs}
+use Rattle.sccs_moments.specs.Moments.{CanRecover, EndsBefore, IsCalmUnnamed, IsFrom, KeepsCalm, LeavesCalm, LeavesFirm, RecoversOn, Went}
 use Rattle.sccs_moments.specs.Recovery.{RecoversAs}
 use Rattle.sccs_moments.proofs.CalmDisks.{calm_firm}
 use Rattle.sccs_moments.proofs.Joined.{newest_is, numbered_as, numbered_now, went_then}
-use Rattle.sccs_moments.proofs.Recovering.{recovers_then}
+use Rattle.sccs_moments.proofs.Recovering.{fate_same, recovers_then}
 use Rattle.sccs_moments.proofs.Untouched.{ends_working}
 
 -- ---- nothing is told anew
@@ -25,20 +26,32 @@ story_same a b same = λ m past is firm. record {
 }
 
 pub firm_same : (a b : Told) → b ≡ a → LeavesFirm a b
-firm_same a b same = λ m past is firm m2 past2 is2. subst HasFirm (newest_is m m2 past past2 [] b (same ∙ is) is2) firm
+firm_same a b same = λ m past is firm m2 past2 is2. subst CanRecover (newest_is m m2 past past2 [] b (same ∙ is) is2) firm
 
 pub calm_same : (a b : Told) → b ≡ a → KeepsCalm a b
-calm_same a b same = λ m past is calm m2 past2 is2. subst IsCalm (newest_is m m2 past past2 [] b (same ∙ is) is2) calm
+calm_same a b same = λ m past is calm m2 past2 is2. subst IsCalmUnnamed (newest_is m m2 past past2 [] b (same ∙ is) is2) calm
 
 -- ---- what leaves a calm disk keeps one
 
-pub calm_keeps : (a b : Told) → LeavesCalm a b → KeepsCalm a b
-calm_keeps a b leaves = λ m past is calm. leaves m past is (calm_firm m calm)
+-- what recovery needs, on a calm disk
+pub calm_recovers : (m : Model) → IsCalmUnnamed m → CanRecover m
+calm_recovers m at = record { firm = calm_firm m at.calm; unnamed = λ w image n sfile. fate_same n (view_of m) w (at.calm w image).intent ∙ at.unnamed n sfile }
 
-pub working_calm : (n : List ℕ) (a b : Told) → TouchesOnly (is_working n) a b → KeepsCalm a b
-working_calm n a b touches = λ m past is calm m2 past2 is2.
+pub calm_keeps : (a b : Told) → LeavesCalm a b → KeepsCalm a b
+calm_keeps a b leaves = λ m past is at. leaves m past is (calm_recovers m at)
+
+pub working_calm : (n : List ℕ) (a b : Told) → IsSfile n → TouchesOnly (is_working n) a b → KeepsCalm a b
+working_calm n a b sfile touches = λ m past is at m2 past2 is2.
     let run : Touching (is_working n) m past b = touches m past is in
-    subst IsCalm (newest_is m m2 past past2 (ends_working n m past b calm run).0.added b (ends_working n m past b calm run).0.is is2) (ends_working n m past b calm run).1
+    let ends : EndsBefore (view_of m) m past b = ends_working n m past b sfile (record { calm = at.calm; unnamed = at.unnamed n sfile }) run in
+    subst IsCalmUnnamed (newest_is m m2 past past2 ends.0.added b ends.0.is is2)
+    (record {
+      calm = ends.1;
+      unnamed = λ k other.
+          fate_same k (view_of m) (view_of (newest ends.0.added m))
+          (numbered_now (λ i m2. Allows (KeepsPairs (view_of m)) m2) 0 ends.0.added m 0 ends.0.numbers (view_of (newest ends.0.added m)) (view_image (newest ends.0.added m))).intent
+          ∙ at.unnamed k other;
+    })
 
 -- ---- one call behind another
 
@@ -69,7 +82,7 @@ firm_then a b c story first next = λ m past is has.
 
 pub keeps_then : (a b c : Told) → RecoversOn a b → KeepsCalm a b → KeepsCalm b c → KeepsCalm a c
 keeps_then a b c story first next = λ m past is calm.
-    let went : Went (λ j w. IsFrom m w) m past 0 b = story m past is (calm_firm m calm) in
+    let went : Went (λ j w. IsFrom m w) m past 0 b = story m past is (calm_recovers m calm) in
     next (newest went.added m) (earlier went.added m past) went.is (first m past is calm (newest went.added m) (earlier went.added m past) went.is)
 
 -- the later one leaves a calm disk, or the first one does and the later one keeps it

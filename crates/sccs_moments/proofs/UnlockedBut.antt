@@ -10,7 +10,7 @@ use Rattle.sccs_images.proofs.Touched.{each_newest, newest_more}
 use Rattle.sccs_moments.specs.Recovery.{is_kept, pair_of}
 use Rattle.sccs_moments.specs.Unlocked.{BeganUnlocked, BeganUnlockedBut, BeginsUnlocked, BeginsUnlockedBut, ComeUnlocked, ComeUnlockedBut, KeepsOthers, KeptOthers, SameOthers, is_own}
 use Rattle.sccs_moments.proofs.Recovering.{pair_same}
-use Rattle.sccs_moments.proofs.Unlocked.{joined_is, own_p, own_s, unlocked_more}
+use Rattle.sccs_moments.proofs.Unlocked.{each_now, joined_is, own_p, own_s, unlocked_more}
 
 -- ---- whatever is exempt
 
@@ -88,5 +88,5 @@ but_own exempt n a b sfile plain has keeps m past is = by (keeps m past is)
       added = kept.added;
       is = kept.is;
       changes = kept_but exempt (is_own n) m kept.added
-          (λ k other asked. let apart = is_another exempt n k has asked in (own_s n k other plain apart, own_p n k sfile other plain apart)) kept.each;
+          (λ k other asked. let apart = is_another exempt n k has asked in (own_s n k other plain apart, own_p n k sfile other plain apart)) (each_now (is_own n) m kept.added kept.each);
     }

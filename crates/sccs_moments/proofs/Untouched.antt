@@ -1,49 +1,61 @@
 -- Calls that touch the files of a sound name that a step leaves behind lose nothing.
-use Rattle.std.proofs.Common.{◌≡◌, ℕ, Bool, false, List, [], ◌∷◌, option_map, is_some, inl, inr, refl, sym, ap, subst, ◌∙◌, ⊎_elim, arith}
+use Rattle.std.specs.Prelude.{IsSome}
+use Rattle.std.proofs.Common.{◌≡◌, ℕ, Bool, false, List, [], ◌∷◌, Option, None, Some, option_map, is_some, inl, inr, refl, sym, ap, subst, ◌∙◌, ⊎_elim, arith}
 use Rattle.std.specs.Str.{bytes_eq}
-use Rattle.sccs_base.specs.Name.{IsSfile, p_file, z_file}
-use Rattle.sccs_disk.specs.Files.{File, Model, View, view_of}
+use Rattle.sccs_base.specs.Name.{IsSfile, p_file, q_file, x_file, z_file}
+use Rattle.sccs_disk.specs.Files.{Content, File, Model, View, view_of}
 use Rattle.sccs_disk.specs.Images.{Allows, Image}
 use Rattle.sccs_disk.specs.Told.{Told, Tells}
 use Rattle.sccs_disk.proofs.Puts.{name_cases}
 use Rattle.sccs_files.specs.StepFiles.{is_left, is_working}
 use Rattle.sccs_images.specs.Touches.{Each, Touches, Touching, newest}
 use Rattle.sccs_images.proofs.Touched.{each_newest}
-use Rattle.sccs_moments.specs.Calm.{IsCalm, KeepsPairs}
-use Rattle.sccs_moments.specs.Moments.{EndsAfter, EndsBefore, EndsWithin, Guarded, IsAt, IsFrom, Stays, Went}
-use Rattle.sccs_moments.specs.Recovery.{IsSound, pair_of}
+use Rattle.sccs_pfile.specs.Recovered.{recovered_pfile}
+use Rattle.sccs_intents.specs.Intents.{intent_file}
+use Rattle.sccs_intents.specs.declared.intents.Fate.{Fate}
+use Rattle.sccs_intents.specs.declared.intents.Fate.TheVariants.{Replaced}
+use Rattle.sccs_moments.specs.Calm.{IsCalm, IsUnnamed, KeepsPairs}
+use Rattle.sccs_moments.specs.Moments.{EndsAfter, EndsBefore, EndsWithin, Guarded, IsAt, IsCalmAt, IsFrom, Stays, Went}
+use Rattle.sccs_moments.specs.Recovery.{IsSound, RecoversAs, fate_at, pair_of}
 use Rattle.sccs_moments.proofs.CalmDisks.{calm_firm, calm_kept}
-use Rattle.sccs_moments.proofs.FileNames.{left_s, left_z, working_s}
+use Rattle.sccs_moments.proofs.FileNames.{left_s, working_q, working_s, working_x}
 use Rattle.sccs_moments.proofs.Joined.{numbered_as, numbered_now, numbered_zero, raised}
-use Rattle.sccs_moments.proofs.Recovering.{p_of, pair_same, recovered_at, recovered_same, recovers_from, recovers_then, recovers_to, s_of, same_recovers, sound_recovered}
+use Rattle.sccs_moments.proofs.Recovering.{fate_same, left_alike, p_of, pair_same, recovered_alike, recovered_at, recovers_from, recovers_then, recovers_to, s_of, same_recovers, sound_at}
 
 -- ---- views
 
--- the same pair, and the name sound
-sound_alike : (n : List ℕ) (v w : View) → IsSound n v → pair_of w n ≡ pair_of v n → recovered_at w n ≡ recovered_at v n
-sound_alike n v w sound same =
-    recovered_same (w n) (v n) (w (p_file n)) (v (p_file n)) (is_some (w (z_file n))) (is_some (w (z_file n))) (ap s_of same) (ap p_of same) refl
-    ∙ (sound_recovered (v n) (v (p_file n)) (is_some (w (z_file n))) sound ∙ sym (sound_recovered (v n) (v (p_file n)) (is_some (v (z_file n))) sound))
+-- the same intent and the same pair: the name is sound there too
+pub sound_kept : (n : List ℕ) (v w : View) → IsSound n v → w intent_file ≡ v intent_file → pair_of w n ≡ pair_of v n → IsSound n w
+sound_kept n v w sound intent same = record {
+  entries =
+      ap (λ (o : Option Content). recovered_pfile o (w (p_file n))) (ap s_of same)
+      ∙ (ap (λ (o : Option Content). recovered_pfile (v n) o) (ap p_of same) ∙ (sound.entries ∙ sym (ap p_of same)));
+  unnamed = fate_same n v w intent ∙ sound.unnamed;
+}
+
+sound_alike : (n : List ℕ) (v w : View) → IsSound n v → w intent_file ≡ v intent_file → pair_of w n ≡ pair_of v n → recovered_at w n ≡ recovered_at v n
+sound_alike n v w sound intent same = sound_at n w (sound_kept n v w sound intent same) ∙ (same ∙ sym (sound_at n v sound))
 
 -- a view that has the pairs of v, but for what a step leaves behind
 keeps_pairs : (n : List ℕ) (v u w : View) → IsSfile n → IsSound n v → KeepsPairs v u → ((k : List ℕ) → is_left n k ≡ false → u k ≡ w k) → KeepsPairs v w
 keeps_pairs n v u w sfile sound keeps same = record {
+  intent = intent;
   pairs = pairs;
-  recovers = recovers_from v w (λ k other. ⊎_elim (λ e. subst (λ l. recovered_at w l ≡ recovered_at v l) e (sound_alike n v w sound (pairs n sfile))) (λ apart. elsewhere k other apart) (name_cases n k));
+  recovers = recovers_from v w (λ k other. ⊎_elim (λ e. subst (λ l. recovered_at w l ≡ recovered_at v l) e (sound_alike n v w sound intent (pairs n sfile))) (λ apart. elsewhere k other apart) (name_cases n k));
 }
   where
+    intent : w intent_file ≡ v intent_file
+    intent = sym (same intent_file refl) ∙ keeps.intent
+
     pairs : (k : List ℕ) → IsSfile k → pair_of w k ≡ pair_of v k
     pairs k other = pair_same _ _ _ _ (sym (same k (left_s n k other)) ∙ ap s_of (keeps.pairs k other)) (sym (same (p_file k) refl) ∙ ap p_of (keeps.pairs k other))
 
     elsewhere : (k : List ℕ) → IsSfile k → bytes_eq n k ≡ false → recovered_at w k ≡ recovered_at v k
-    elsewhere k other apart =
-        recovered_same (w k) (u k) (w (p_file k)) (u (p_file k)) (is_some (w (z_file k))) (is_some (u (z_file k)))
-        (sym (same k (left_s n k other))) (sym (same (p_file k) refl)) (ap is_some (sym (same (z_file k) (left_z n k sfile other apart))))
-        ∙ recovers_to v u keeps.recovers k other
+    elsewhere k other apart = recovered_alike k u w (left_alike n k u w sfile other apart (λ l h. sym (same l h))) ∙ recovers_to v u keeps.recovers k other
 
 -- ---- moments
 
-view_touched : (mine : List ℕ → Bool) (m m2 : Model) (k : List ℕ) → Touches mine m m2 → mine k ≡ false → view_of m2 k ≡ view_of m k
+pub view_touched : (mine : List ℕ → Bool) (m m2 : Model) (k : List ℕ) → Touches mine m m2 → mine k ≡ false → view_of m2 k ≡ view_of m k
 view_touched mine m m2 k touches h = ap (option_map (λ (f : File). f.content)) (touches.files k h)
 
 pair_touched : (mine : List ℕ → Bool) (m m2 : Model) (k : List ℕ) → Touches mine m m2 → mine k ≡ false → mine (p_file k) ≡ false → pair_of (view_of m2) k ≡ pair_of (view_of m) k
@@ -111,28 +123,46 @@ before_within v w m past b ends = (went_at v w m past b ends.0, calm_firm (newes
 
 -- ---- working files alone
 
+-- where an intent says nothing of a name it doesn't name it
+pub none_named : (f : Option Fate) → f ≡ None → IsSome f → ⊥
+none_named None e named = cc
+none_named (Some fate) e named = cc
+
+pub none_replaced : (f : Option Fate) → f ≡ None → f ≡ Some Replaced → ⊥
+none_replaced None e named = cc
+none_replaced (Some fate) e named = cc
+
+-- two views that differ in working files of a name that no intent names recover alike
+pub working_recovers : (n : List ℕ) (u w : View) → IsSfile n → fate_at u n ≡ None → ((k : List ℕ) → is_working n k ≡ false → u k ≡ w k) → RecoversAs u w
+working_recovers n u w sfile none same =
+    same_recovers u w (sym (same intent_file refl)) (λ k other. sym (same k (working_s n k other))) (λ k other. sym (same (p_file k) refl)) (λ k other. ap is_some (sym (same (z_file k) refl)))
+    (λ k other named. ⊎_elim (λ e. absurd (none_named (fate_at u k) (subst (λ l. fate_at u l ≡ None) e none) named)) (λ apart. sym (same (x_file k) (working_x n k sfile other apart))) (name_cases n k))
+    (λ k other named. ⊎_elim (λ e. absurd (none_replaced (fate_at u k) (subst (λ l. fate_at u l ≡ None) e none) named)) (λ apart. sym (same (q_file k) (working_q n k sfile other apart))) (name_cases n k))
+
 -- a folder that differs in working files from one that a stop leaves
-pub from_touched : (n : List ℕ) (m m2 : Model) → Touches (is_working n) m m2 → Allows (IsFrom m) m2
-from_touched n m m2 touches = λ w image.
+pub from_touched : (n : List ℕ) (m m2 : Model) → IsSfile n → IsUnnamed n m → Touches (is_working n) m m2 → Allows (IsFrom m) m2
+from_touched n m m2 sfile unnamed touches = λ w image.
     let before : (u : View) × Image m u × ((k : List ℕ) → is_working n k ≡ false → u k ≡ w k) = touches.images w image in
-    (before.0, before.1, same_recovers before.0 w (λ k sfile. sym (before.2 k (working_s n k sfile))) (λ k sfile. sym (before.2 (p_file k) refl)) (λ k sfile. ap is_some (sym (before.2 (z_file k) refl))))
+    (before.0, before.1, working_recovers n before.0 w sfile (unnamed before.0 before.1) before.2)
 
 -- such a call leaves every pair in each image, whether the name is sound or not
-working_keeps : (n : List ℕ) (m m2 : Model) → IsCalm m → Touches (is_working n) m m2 → Allows (KeepsPairs (view_of m)) m2
-working_keeps n m m2 calm touches = λ w image.
+working_keeps : (n : List ℕ) (m m2 : Model) → IsSfile n → IsCalmAt n m → Touches (is_working n) m m2 → Allows (KeepsPairs (view_of m)) m2
+working_keeps n m m2 sfile at touches = λ w image.
     let before : (u : View) × Image m u × ((k : List ℕ) → is_working n k ≡ false → u k ≡ w k) = touches.images w image in
+    let old : KeepsPairs (view_of m) before.0 = at.calm before.0 before.1 in
     record {
-      pairs = λ k sfile. pair_same _ _ _ _ (sym (before.2 k (working_s n k sfile)) ∙ ap s_of ((calm before.0 before.1).pairs k sfile)) (sym (before.2 (p_file k) refl) ∙ ap p_of ((calm before.0 before.1).pairs k sfile));
-      recovers = recovers_then (view_of m) before.0 w (calm before.0 before.1).recovers (same_recovers before.0 w (λ k sfile. sym (before.2 k (working_s n k sfile))) (λ k sfile. sym (before.2 (p_file k) refl)) (λ k sfile. ap is_some (sym (before.2 (z_file k) refl))));
+      intent = sym (before.2 intent_file refl) ∙ old.intent;
+      pairs = λ k other. pair_same _ _ _ _ (sym (before.2 k (working_s n k other)) ∙ ap s_of (old.pairs k other)) (sym (before.2 (p_file k) refl) ∙ ap p_of (old.pairs k other));
+      recovers = recovers_then (view_of m) before.0 w old.recovers (working_recovers n before.0 w sfile (fate_same n (view_of m) before.0 old.intent ∙ at.unnamed) before.2);
     }
 
-pub ends_working : (n : List ℕ) (m : Model) (past : List Model) (new : Told) → IsCalm m → Touching (is_working n) m past new → EndsBefore (view_of m) m past new
-ends_working n m past new calm run = (
+pub ends_working : (n : List ℕ) (m : Model) (past : List Model) (new : Told) → IsSfile n → IsCalmAt n m → Touching (is_working n) m past new → EndsBefore (view_of m) m past new
+ends_working n m past new sfile at run = (
   record {
     added = run.added;
     is = run.is;
-    numbers = numbered_zero (Touches (is_working n) m) (λ i m2. Allows (KeepsPairs (view_of m)) m2) run.added m (λ m2 touches. working_keeps n m m2 calm touches) run.each;
-    guarded = guards_touched (is_working n) m run.added (λ k sfile. working_s n k sfile) (λ k sfile. refl) run.each;
+    numbers = numbered_zero (Touches (is_working n) m) (λ i m2. Allows (KeepsPairs (view_of m)) m2) run.added m (λ m2 touches. working_keeps n m m2 sfile at touches) run.each;
+    guarded = guards_touched (is_working n) m run.added (λ k other. working_s n k other) (λ k other. refl) run.each;
   },
-  calm_kept (view_of m) (newest run.added m) (working_keeps n m (newest run.added m) calm (each_newest (Touches (is_working n) m) run.added m run.each)),
+  calm_kept (view_of m) (newest run.added m) (working_keeps n m (newest run.added m) sfile at (each_newest (Touches (is_working n) m) run.added m run.each)),
 )

@@ -1,13 +1,14 @@
 -- The moments of a call: each has a number, which never falls, and what a stop may leave of it.
-use Rattle.std.specs.Prelude.{◌≡◌, ◌⊎◌, ◌≤◌, ℕ, false, List, [], ◌∷◌, IsSome}
+use Rattle.std.specs.Prelude.{◌≡◌, ◌⊎◌, ◌≤◌, ℕ, false, List, [], ◌∷◌, None, IsSome}
 use Rattle.std.specs.Str.{bytes_eq}
-use Rattle.sccs_base.specs.Name.{IsSfile, z_file}
+use Rattle.sccs_base.specs.Name.{IsSfile, sibling, z_file}
 use Rattle.sccs_disk.specs.Files.{View, Model, view_of}
 use Rattle.sccs_disk.specs.Images.{Allows, Image}
 use Rattle.sccs_disk.specs.Told.{Told, Tells}
 use Rattle.sccs_images.specs.Touches.{earlier, newest}
+use Rattle.sccs_intents.specs.Intents.{intent_file}
 use Rattle.sccs_moments.specs.Calm.{HasFirm, IsCalm, KeepsPairs}
-use Rattle.sccs_moments.specs.Recovery.{RecoversAs, pair_of, recover}
+use Rattle.sccs_moments.specs.Recovery.{RecoversAs, fate_at, pair_of, recover}
 
 -- Each moment has a number, which never falls from one to the next: from low at the start to j now.
 abbrev pub Numbered : (ℕ → Model → Type 0) → ℕ → List Model → Model → ℕ → Type 0
@@ -34,9 +35,14 @@ pub record Went (P : ℕ → View → Type 0) (m : Model) (past : List Model) (j
 abbrev pub IsAt : View → View → ℕ → View → Type 0
 IsAt v w j u = RecoversAs w u ⊎ ((j ≡ 0) × RecoversAs v u)
 
--- a folder that recovers as w, or one that a stop could leave at the start, while j is 0
+-- u has the intent of w, and recovers as w does
+pub record RecoversWith (w u : View) : Type 0 where
+  pub recovers : RecoversAs w u
+  pub intent : u intent_file ≡ w intent_file
+
+-- a folder that recovers as w, with its intent, or one that a stop could leave at the start, while j is 0
 abbrev pub IsNew : Model → View → ℕ → View → Type 0
-IsNew m w j u = RecoversAs w u ⊎ ((j ≡ 0) × Image m u)
+IsNew m w j u = RecoversWith w u ⊎ ((j ≡ 0) × Image m u)
 
 -- the story went on, and each image of each moment has the s-files and p-files of a view, and recovers as it does
 abbrev pub Stays : View → Model → List Model → Told → Type 0
@@ -62,27 +68,55 @@ EndsAfter v w m past new = (went : Went (IsAt v w) m past 1 new) × IsCalm (newe
 abbrev pub IsFrom : Model → View → Type 0
 IsFrom m w = (u : View) × Image m u × RecoversAs u w
 
--- where s-files and p-files are firm, a stop leaves a folder that recovers as one that a stop could leave at the start
-abbrev pub RecoversOn : Told → Told → Type 0
-RecoversOn old new = (m : Model) (past : List Model) → old ≡ Tells m past → HasFirm m → Went (λ j w. IsFrom m w) m past 0 new
+-- an intent names no s-file
+abbrev pub NamesNone : View → Type 0
+NamesNone v = (n : List ℕ) → IsSfile n → fate_at v n ≡ None
 
--- where s-files and p-files were firm, the disk is calm
+-- Recovery of names may begin: what it needs is firm, and a stop leaves no intent that names an s-file.
+pub record CanRecover (m : Model) : Type 0 where
+  pub firm : HasFirm m
+  pub unnamed : Allows NamesNone m
+
+-- where recovery may begin, a stop leaves a folder that recovers as one that a stop could leave at the start
+abbrev pub RecoversOn : Told → Told → Type 0
+RecoversOn old new =
+    (m : Model) (past : List Model) → old ≡ Tells m past → CanRecover m → Went (λ j w. IsFrom m w) m past 0 new
+
+-- The disk is calm, and no intent names the name.
+pub record IsCalmAt (n : List ℕ) (m : Model) : Type 0 where
+  pub calm : IsCalm m
+  pub unnamed : fate_at (view_of m) n ≡ None
+
+-- The disk is calm, and an intent names no s-file.
+pub record IsCalmUnnamed (m : Model) : Type 0 where
+  pub calm : IsCalm m
+  pub unnamed : NamesNone (view_of m)
+
+-- where recovery could begin, the disk is calm
 abbrev pub LeavesCalm : Told → Told → Type 0
-LeavesCalm old new = (m : Model) (past : List Model) → old ≡ Tells m past → HasFirm m → (m2 : Model) (past2 : List Model) → new ≡ Tells m2 past2 → IsCalm m2
+LeavesCalm old new =
+    (m : Model) (past : List Model) → old ≡ Tells m past → CanRecover m
+    → (m2 : Model) (past2 : List Model) → new ≡ Tells m2 past2 → IsCalmUnnamed m2
 
 -- a calm disk stays calm
 abbrev pub KeepsCalm : Told → Told → Type 0
-KeepsCalm old new = (m : Model) (past : List Model) → old ≡ Tells m past → IsCalm m → (m2 : Model) (past2 : List Model) → new ≡ Tells m2 past2 → IsCalm m2
+KeepsCalm old new =
+    (m : Model) (past : List Model) → old ≡ Tells m past → IsCalmUnnamed m
+    → (m2 : Model) (past2 : List Model) → new ≡ Tells m2 past2 → IsCalmUnnamed m2
 
--- where s-files and p-files were firm they are firm still, so that recovery may run again
+-- where recovery could begin, it may begin again
 abbrev pub LeavesFirm : Told → Told → Type 0
-LeavesFirm old new = (m : Model) (past : List Model) → old ≡ Tells m past → HasFirm m → (m2 : Model) (past2 : List Model) → new ≡ Tells m2 past2 → HasFirm m2
+LeavesFirm old new =
+    (m : Model) (past : List Model) → old ≡ Tells m past → CanRecover m
+    → (m2 : Model) (past2 : List Model) → new ≡ Tells m2 past2 → CanRecover m2
 
 -- ---- name by name
 
--- the two views have the same s-file, p-file and z-file of every other name
-abbrev pub SameElsewhere : List ℕ → View → View → Type 0
-SameElsewhere n v w = (k : List ℕ) → IsSfile k → bytes_eq n k ≡ false → (pair_of w k ≡ pair_of v k) × (w (z_file k) ≡ v (z_file k))
+-- the two views have the same intent, and the same files of every other name at which recovery looks
+pub record SameElsewhere (n : List ℕ) (v w : View) : Type 0 where
+  pub intent : w intent_file ≡ v intent_file
+  pub s_files : (k : List ℕ) → IsSfile k → bytes_eq n k ≡ false → w k ≡ v k
+  pub siblings : (letter : ℕ) (k : List ℕ) → IsSfile k → bytes_eq n k ≡ false → w (sibling letter k) ≡ v (sibling letter k)
 
 -- The step's name recovers as in w, or as in v while j is 0, and every other name as in v.
 pub record IsAtName (n : List ℕ) (v w : View) (j : ℕ) (u : View) : Type 0 where

@@ -1,8 +1,9 @@
 -- Which s-files and p-files a call changes: those that weren't locked when it began, or at a later moment before the change.
-use Rattle.std.specs.Prelude.{◌≡◌, ◌⊎◌, ◌||◌, ℕ, Bool, false, List, [], ◌∷◌, drop, None}
+use Rattle.std.specs.Prelude.{◌≡◌, ◌⊎◌, ◌||◌, ℕ, Bool, false, List, [], ◌∷◌, drop, None, IsSome}
 use Rattle.std.specs.Str.{bytes_eq}
 use Rattle.sccs_base.specs.Name.{IsSfile, p_file, z_file}
 use Rattle.sccs_disk.specs.Files.{Model, View, view_of}
+use Rattle.sccs_disk.specs.Images.{Allows, Image}
 use Rattle.sccs_disk.specs.Told.{Told, Tells}
 use Rattle.sccs_files.specs.StepFiles.{is_left}
 use Rattle.sccs_images.specs.Touches.{Each, earlier, newest}
@@ -16,15 +17,35 @@ is_own n k = bytes_eq n k || (bytes_eq (p_file n) k || (bytes_eq (drop 2 n) k ||
 abbrev pub SameOthers : (List ℕ → Bool) → View → View → Type 0
 SameOthers mine v w = (k : List ℕ) → mine k ≡ false → w k ≡ v k
 
+-- From m to m2 the files of other names are as they were, now and in what a stop leaves.
+pub record LeavesOthers (mine : List ℕ → Bool) (m m2 : Model) : Type 0 where
+  pub now : SameOthers mine (view_of m) (view_of m2)
+  -- what a stop leaves has them as something has them that one could leave before
+  pub images : (w : View) → Image m2 w → (u : View) × Image m u × SameOthers mine u w
+
 -- The story went on from a model, and at each moment the files of other names are as they were.
 pub record KeptOthers (mine : List ℕ → Bool) (m : Model) (past : List Model) (new : Told) : Type 0 where
   pub added : List Model
   pub is : new ≡ Tells (newest added m) (earlier added m past)
-  pub each : Each (λ m2. SameOthers mine (view_of m) (view_of m2)) added m
+  pub each : Each (LeavesOthers mine m) added m
 
 -- a call that changes the files of some names alone
 abbrev pub KeepsOthers : (List ℕ → Bool) → Told → Told → Type 0
 KeepsOthers mine old new = (m : Model) (past : List Model) → old ≡ Tells m past → KeptOthers mine m past new
+
+-- the z-file of a name is there in whatever a stop leaves
+abbrev pub IsHeldIn : List ℕ → Model → Type 0
+IsHeldIn n m = Allows (λ w. IsSome (w (z_file n))) m
+
+-- The story went on from a model, and at each moment the name is held.
+pub record KeptHeld (n : List ℕ) (m : Model) (past : List Model) (new : Told) : Type 0 where
+  pub added : List Model
+  pub is : new ≡ Tells (newest added m) (earlier added m past)
+  pub each : Each (IsHeldIn n) added m
+
+-- a held name stays so
+abbrev pub KeepsHeldIn : List ℕ → Told → Told → Type 0
+KeepsHeldIn n old new = (m : Model) (past : List Model) → old ≡ Tells m past → IsHeldIn n m → KeptHeld n m past new
 
 -- at one of these moments the name's z-file wasn't there
 abbrev pub WasUnlocked : List ℕ → List Model → Model → Type 0

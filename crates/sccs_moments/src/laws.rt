@@ -15,7 +15,7 @@ ghost use Rattle.sccs_moments.specs.Recovery.{IsSound, RecoversAs, pair_of, reco
 /// Recovering a name twice is recovering it once, and recovery leaves the s-file and the p-file of a
 /// sound name as they are.
 pub fn recovery_is_made_once()
-    ensures once { (n : List ℕ) (v : View) → recover n (recover n v) ≡ recover n v }
+    ensures once { (n : List ℕ) (v : View) → IsSfile n → recover n (recover n v) ≡ recover n v }
     ensures sound { (n : List ℕ) (v : View) → IsSfile n → IsSound n v → pair_of (recover n v) n ≡ pair_of v n }
 {}
 

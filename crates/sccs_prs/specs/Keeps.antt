@@ -35,4 +35,5 @@ pub prs_keeps : (words : PrsWords) (place : List ℕ) → KeepsFiles (prs_action
 prs_keeps words place = record {
   quiet = λ reads n i named f d is. by_file words place n (or_refusal (answer file_of (option_map (λ (c : Content). c.bytes) f.s))) d (sym (outcome_is words place n f) ∙ is);
   names = λ changes n fits. absurd cc;
+  locked = λ changes locks n i named f d is there g new. absurd cc;
 }

@@ -15,9 +15,9 @@ use Rattle.sccs_sid.specs.declared.refusals.StepFault.{StepFault}
 use Rattle.sccs_sid.specs.declared.refusals.StepFault.TheVariants.{Refused, Memory, ReadFault, WriteFault, DiskFault}
 use Rattle.sccs_pfile.specs.Recovered.{recovered_pfile}
 use Rattle.sccs_files.specs.StepFiles.{AreCleared, Files, Moves, MovesPartly, is_left, is_working, look, moved, placed}
-use Rattle.sccs_moments.specs.Recovery.{cleaned, cleared, recover, without_name}
+use Rattle.sccs_moments.specs.Recovery.{cleaned, cleared, recover_alone, without_name}
 use Rattle.sccs_moments.proofs.FileNames.{from_g, from_sfile, no_q, no_working, no_y, no_z, working_s}
-use Rattle.sccs_moments.proofs.Recovering.{cleared_other, recover_by}
+use Rattle.sccs_moments.proofs.Recovering.{alone_by, cleared_other}
 use Rattle.sccs_steps.specs.StepEffects.{Outcome, StepEffect}
 use Rattle.sccs_steps.specs.Calls.{Meets, ReportCut, scene, world}
 use Rattle.sccs_steps.specs.FirstFiles.{MovesInOrder}
@@ -49,17 +49,17 @@ unsome : (u v : View) → Some u ≡ Some v → u ≡ v
 unsome u v e = cc
 
 -- a commit that failed
-pub part_partly : (n : List ℕ) (c : Plan) (o om od : Option View) → IsSfile n → Moves (is_working n) (λ v. v) o om → option_map (committed n c) om ≡ option_map (recover n) o → IsPart n c om od → MovesPartly (is_left n) (recover n) o od
+pub part_partly : (n : List ℕ) (c : Plan) (o om od : Option View) → IsSfile n → Moves (is_working n) (λ v. v) o om → option_map (committed n c) om ≡ option_map (recover_alone n) o → IsPart n c om od → MovesPartly (is_left n) (recover_alone n) o od
 part_partly n c None om od sfile moves is part = part.1 ∙ ap (option_map (part_of n c part.0)) moves
 part_partly n c (Some v) None od sfile moves is part = absurd moves
 part_partly n c (Some v) (Some u) od sfile moves is part =
-    subst (λ (o : Option View). MovesPartly (is_left n) (recover n) (Some v) o) (sym part.1) (λ k h.
+    subst (λ (o : Option View). MovesPartly (is_left n) (recover_alone n) (Some v) o) (sym part.1) (λ k h.
     ended k h (part_at n c u v k part.0 sfile (no_working n k h) (no_z n k h) (moves k (no_working n k h))))
   where
-    ended : (k : List ℕ) → is_left n k ≡ false → (part_of n c part.0 u k ≡ v k) ⊎ (part_of n c part.0 u k ≡ placed v n (files_after n c u) k) → (part_of n c part.0 u k ≡ v k) ⊎ (part_of n c part.0 u k ≡ recover n v k)
+    ended : (k : List ℕ) → is_left n k ≡ false → (part_of n c part.0 u k ≡ v k) ⊎ (part_of n c part.0 u k ≡ placed v n (files_after n c u) k) → (part_of n c part.0 u k ≡ v k) ⊎ (part_of n c part.0 u k ≡ recover_alone n v k)
     ended k h (inl e) = inl e
     ended k h (inr e) =
-        inr (e ∙ (sym (committed_at n c u v k sfile (no_working n k h) (λ other. moves k (no_working n k h))) ∙ ap (λ (w : View). w k) (unsome (committed n c u) (recover n v) is)))
+        inr (e ∙ (sym (committed_at n c u v k sfile (no_working n k h) (λ other. moves k (no_working n k h))) ∙ ap (λ (w : View). w k) (unsome (committed n c u) (recover_alone n v) is)))
 
 gone_by : (x q y : Bool) (o : Option Content) → (x || (q || y)) ≡ true → cond y None (cond q None (cond x None o)) ≡ None
 gone_by true q true o is = refl
@@ -104,8 +104,8 @@ with_q n v = put (cleared n v) (q_file n) (recovered_pfile (v n) (v (p_file n)))
 abbrev as_plan : Plan
 as_plan = plan false Replace Keep
 
-as_commit : (n : List ℕ) (v : View) → is_some (v (z_file n)) ≡ true → recover n v ≡ committed n as_plan (with_q n v)
-as_commit n v there = ap (recover_by n v) there ∙ sym (ap (without_name (z_file n)) (q_placed n (cleared n v) (recovered_pfile (v n) (v (p_file n))) (cleared_q n v)))
+as_commit : (n : List ℕ) (v : View) → is_some (v (z_file n)) ≡ true → recover_alone n v ≡ committed n as_plan (with_q n v)
+as_commit n v there = ap (alone_by n v) there ∙ sym (ap (without_name (z_file n)) (q_placed n (cleared n v) (recovered_pfile (v n) (v (p_file n))) (cleared_q n v)))
 
 abbrev files : Option Content → Option Content → Option Content → Files
 files s p g = record { s = s; p = p; z = None; g = g }
@@ -118,25 +118,25 @@ files_are n v sfile =
     let g_is : with_q n v (drop 2 n) ≡ v (drop 2 n) = put_other (cleared n v) (q_file n) (drop 2 n) p (from_g 113 n sfile) ∙ cleared_other n v (drop 2 n) (working_g n sfile) in
     ap (λ (o : Option Content). files o (with_q n v (q_file n)) (with_q n v (drop 2 n))) s_is ∙ (ap (λ (o : Option Content). files (v n) o (with_q n v (drop 2 n))) p_is ∙ ap (λ (o : Option Content). files (v n) p o) g_is)
 
-unlocked_at : (n : List ℕ) (v : View) (k : List ℕ) → IsSfile n → is_some (v (z_file n)) ≡ true → is_working n k ≡ false → recover n v k ≡ placed v n (recovered_files (look v n)) k
+unlocked_at : (n : List ℕ) (v : View) (k : List ℕ) → IsSfile n → is_some (v (z_file n)) ≡ true → is_working n k ≡ false → recover_alone n v k ≡ placed v n (recovered_files (look v n)) k
 unlocked_at n v k sfile there h =
     ap (λ (u : View). u k) (as_commit n v there)
     ∙ (committed_at n as_plan (with_q n v) v k sfile h (λ other. put_other (cleared n v) (q_file n) k (recovered_pfile (v n) (v (p_file n))) (no_q n k h) ∙ cleared_other n v k h)
     ∙ ap (λ (f : Files). placed v n f k) (files_are n v sfile))
 
 -- what recovery makes of the files is what the step says
-moved_by : (n : List ℕ) (v : View) (k : List ℕ) (z : Bool) → is_some (v (z_file n)) ≡ z → IsSfile n → is_working n k ≡ false → recover n v k ≡ moved v n (cond z (Some (recovered_files (look v n))) None) k
+moved_by : (n : List ℕ) (v : View) (k : List ℕ) (z : Bool) → is_some (v (z_file n)) ≡ z → IsSfile n → is_working n k ≡ false → recover_alone n v k ≡ moved v n (cond z (Some (recovered_files (look v n))) None) k
 moved_by n v k true is sfile h = unlocked_at n v k sfile is h
-moved_by n v k false is sfile h = ap (λ (u : View). u k) (ap (recover_by n v) is) ∙ put_other v (y_file n) k None (no_y n k h)
+moved_by n v k false is sfile h = ap (λ (u : View). u k) (ap (alone_by n v) is) ∙ put_other v (y_file n) k None (no_y n k h)
 
-pub recovers_at : (n : List ℕ) (v : View) (k : List ℕ) → IsSfile n → is_working n k ≡ false → recover n v k ≡ moved v n (recovers n (look v n)).new k
+pub recovers_at : (n : List ℕ) (v : View) (k : List ℕ) → IsSfile n → is_working n k ≡ false → recover_alone n v k ≡ moved v n (recovers n (look v n)).new k
 recovers_at n v k sfile h = moved_by n v k (is_some (v (z_file n))) refl sfile h
 
 -- the working files are gone, or but for the y-file as they were
 working_p : (n k : List ℕ) → is_working n k ≡ true → bytes_eq (p_file n) k ≡ false
 working_p n k h = ⊎_elim (λ e. absurd (let never : is_working n (p_file n) ≡ true = subst (λ l. is_working n l ≡ true) (sym e) h in cc)) (λ other. other) (name_cases (p_file n) k)
 
-recovered_clears : (n : List ℕ) (v : View) (k : List ℕ) → is_working n k ≡ true → (recover n v k ≡ None) ⊎ (recover n v k ≡ v k)
+recovered_clears : (n : List ℕ) (v : View) (k : List ℕ) → is_working n k ≡ true → (recover_alone n v k ≡ None) ⊎ (recover_alone n v k ≡ v k)
 recovered_clears n v k h = by (is_some (v (z_file n)))
   where
     without_z : (z : Bool) → cond z None (put (cleared n v) (p_file n) (recovered_pfile (v n) (v (p_file n))) k) ≡ None
@@ -164,7 +164,7 @@ abbrev pub is_recovered : List ℕ → View → Outcome
 is_recovered n v = Ok (recovers n (look v n))
 
 -- it is recovered, and what is said of it is cut
-pub cut_ends : (n : List ℕ) (v : View) (o2 : Option View) (out out2 err : Option (List ℕ)) → IsSfile n → o2 ≡ Some (recover n v) → Says (Err WriteFault) (recovers n (look v n)).out out out2
+pub cut_ends : (n : List ℕ) (v : View) (o2 : Option View) (out out2 err : Option (List ℕ)) → IsSfile n → o2 ≡ Some (recover_alone n v) → Says (Err WriteFault) (recovers n (look v n)).out out out2
     → (d : StepEffect) × (is_recovered n v ≡ Ok d) × ReportCut n d (world (Some v) out err) (world o2 out2 err)
 cut_ends n v o2 out out2 err sfile is says = (
   recovers n (look v n),
@@ -178,7 +178,7 @@ cut_ends n v o2 out out2 err sfile is says = (
   },
 )
 
-pub made_ends : (n : List ℕ) (v : View) (r : Result (Unit {0}) StepFault) (o2 : Option View) (out out2 err : Option (List ℕ)) → IsSfile n → o2 ≡ Some (recover n v) → Says r (recovers n (look v n)).out out out2
+pub made_ends : (n : List ℕ) (v : View) (r : Result (Unit {0}) StepFault) (o2 : Option View) (out out2 err : Option (List ℕ)) → IsSfile n → o2 ≡ Some (recover_alone n v) → Says r (recovers n (look v n)).out out out2
     → Meets (λ (done : Unit {0}). 0) r n (Ok (recovers n (look v n))) (world (Some v) out err) (world o2 out2 err)
 made_ends n v (Ok done) o2 out out2 err sfile is says = (
   recovers n (look v n),
@@ -197,12 +197,12 @@ made_ends n v (Err ReadFault) o2 out out2 err sfile is says = absurd says
 made_ends n v (Err DiskFault) o2 out out2 err sfile is says = absurd says
 made_ends n v (Err (Refused refusal)) o2 out out2 err sfile is says = absurd says
 
-pub made_steps : (n : List ℕ) (found : Recovered) (r : Result (Unit {0}) StepFault) (a b : Told) (left out out2 err : Option (List ℕ)) → IsSfile n → Becomes (recover n) (seen a) (seen b)
+pub made_steps : (n : List ℕ) (found : Recovered) (r : Result (Unit {0}) StepFault) (a b : Told) (left out out2 err : Option (List ℕ)) → IsSfile n → Becomes (recover_alone n) (seen a) (seen b)
     → IfSome (seen a) (λ (v : View). (found ≡ ways.Clean) ↔ (v (z_file n) ≡ None)) → IfSome (seen a) (λ (v : View). PassesChecks (checked n v) (Ok found)) → Says r (found_text n (is_locked found)) out out2
     → Stepped recover_action r n left (scene a out err) (scene b out2 err)
 made_steps n found r a b left out out2 err sfile view clean checks says = by (seen a) view clean checks
   where
-    by : (o : Option View) → Becomes (recover n) o (seen b) → IfSome o (λ (v : View). (found ≡ ways.Clean) ↔ (v (z_file n) ≡ None)) → IfSome o (λ (v : View). PassesChecks (checked n v) (Ok found))
+    by : (o : Option View) → Becomes (recover_alone n) o (seen b) → IfSome o (λ (v : View). (found ≡ ways.Clean) ↔ (v (z_file n) ≡ None)) → IfSome o (λ (v : View). PassesChecks (checked n v) (Ok found))
         → IfSome o (λ (v : View). (i : List ℕ) → IsHeard false left i → Meets (λ (done : Unit {0}). 0) r n (recover_step n (look v n)) (world o out err) (world (seen b) out2 err))
     by None view clean checks = tt
     by (Some v) view clean checks = λ i heard.
@@ -225,7 +225,7 @@ partly_by n v None r is parts = absurd parts
 partly_by n v (Some w) r is parts = λ k h. subst (λ (x : Result Bool Refusal). (w k ≡ v k) ⊎ (w k ≡ recovers_if x n v k)) is (parts k h)
 
 -- recovery changes no file but working files, the p-file and the z-file
-recover_other : (n : List ℕ) (v : View) (k : List ℕ) → is_left n k ≡ false → bytes_eq (p_file n) k ≡ false → recover n v k ≡ v k
+recover_other : (n : List ℕ) (v : View) (k : List ℕ) → is_left n k ≡ false → bytes_eq (p_file n) k ≡ false → recover_alone n v k ≡ v k
 recover_other n v k h other = by (is_some (v (z_file n)))
   where
     by : (z : Bool) → cond z (without_name (z_file n) (cleaned n v)) (without_name (y_file n) v) k ≡ v k
@@ -233,7 +233,7 @@ recover_other n v k h other = by (is_some (v (z_file n)))
     by false = put_other v (y_file n) k None (no_y n k (no_working n k h))
 
 -- with the old p-file all files are as they were, with the new one as the step makes them
-recovered_or_not : (n : List ℕ) (v w f : View) → ((k : List ℕ) → is_left n k ≡ false → recover n v k ≡ f k) → ((k : List ℕ) → is_left n k ≡ false → (w k ≡ v k) ⊎ (w k ≡ recover n v k))
+recovered_or_not : (n : List ℕ) (v w f : View) → ((k : List ℕ) → is_left n k ≡ false → recover_alone n v k ≡ f k) → ((k : List ℕ) → is_left n k ≡ false → (w k ≡ v k) ⊎ (w k ≡ recover_alone n v k))
     → ((k : List ℕ) → is_left n k ≡ false → w k ≡ v k) ⊎ ((k : List ℕ) → is_left n k ≡ false → w k ≡ f k)
 recovered_or_not n v w f same parts = ⊎_elim old_one new_one (parts (p_file n) refl)
   where
@@ -243,11 +243,11 @@ recovered_or_not n v w f same parts = ⊎_elim old_one new_one (parts (p_file n)
     old_one : w (p_file n) ≡ v (p_file n) → ((k : List ℕ) → is_left n k ≡ false → w k ≡ v k) ⊎ ((k : List ℕ) → is_left n k ≡ false → w k ≡ f k)
     old_one e = inl (λ k h. ⊎_elim (λ is. subst (λ m. w m ≡ v m) is e) (at_other k h) (name_cases (p_file n) k))
 
-    new_one : w (p_file n) ≡ recover n v (p_file n) → ((k : List ℕ) → is_left n k ≡ false → w k ≡ v k) ⊎ ((k : List ℕ) → is_left n k ≡ false → w k ≡ f k)
+    new_one : w (p_file n) ≡ recover_alone n v (p_file n) → ((k : List ℕ) → is_left n k ≡ false → w k ≡ v k) ⊎ ((k : List ℕ) → is_left n k ≡ false → w k ≡ f k)
     new_one e = inr (λ k h.
-        ⊎_elim (λ is. subst (λ m. w m ≡ recover n v m) is e) (λ other. at_other k h other ∙ sym (recover_other n v k h other)) (name_cases (p_file n) k) ∙ same k h)
+        ⊎_elim (λ is. subst (λ m. w m ≡ recover_alone n v m) is e) (λ other. at_other k h other ∙ sym (recover_other n v k h other)) (name_cases (p_file n) k) ∙ same k h)
 
-in_order : (n : List ℕ) (v : View) (o2 : Option View) (new : Option Files) → ((k : List ℕ) → is_left n k ≡ false → recover n v k ≡ moved v n new k) → MovesPartly (is_left n) (recover n) (Some v) o2 → MovesInOrder n new (Some v) o2
+in_order : (n : List ℕ) (v : View) (o2 : Option View) (new : Option Files) → ((k : List ℕ) → is_left n k ≡ false → recover_alone n v k ≡ moved v n new k) → MovesPartly (is_left n) (recover_alone n) (Some v) o2 → MovesInOrder n new (Some v) o2
 in_order n v None new same parts = absurd parts
 in_order n v (Some w) new same parts = ⊎_elim (λ old. (0, old)) (λ made. (3, made)) (recovered_or_not n v w (moved v n new) same parts)
 
@@ -306,7 +306,7 @@ say_speaks n text (Err (Refused refusal)) out out2 err says = absurd says
 
 -- ---- the parts of the call
 
-passed_partly : (n : List ℕ) (f : View → Result Bool Refusal) (o o2 : Option View) → IfSome o (λ (v : View). f v ≡ Ok true) → MovesPartly (is_left n) (recover n) o o2 → MovesPartly (is_left n) (λ (v : View). recovers_if (f v) n v) o o2
+passed_partly : (n : List ℕ) (f : View → Result Bool Refusal) (o o2 : Option View) → IfSome o (λ (v : View). f v ≡ Ok true) → MovesPartly (is_left n) (recover_alone n) o o2 → MovesPartly (is_left n) (λ (v : View). recovers_if (f v) n v) o o2
 passed_partly n f None o2 passed parts = parts
 passed_partly n f (Some v) None passed parts = absurd parts
 passed_partly n f (Some v) (Some w) passed parts = λ k h. subst (λ (x : Result Bool Refusal). (w k ≡ v k) ⊎ (w k ≡ recovers_if x n v k)) (sym passed) (parts k h)
@@ -315,10 +315,10 @@ found_passed : (n : List ℕ) (left : PfileLeft) (o : Option View) → IfSome o 
 found_passed n left None there finds = tt
 found_passed n left (Some v) there finds = ap (λ (z : Bool). cond z (readable (v n) (v (p_file n))) (Ok true)) there ∙ finds.0
 
-pub finished_partly : (n : List ℕ) (left : PfileLeft) (a a1 b : Told) → a1 ≡ a → IsThere (z_file n) a → IfSome (seen a) (λ (v : View). Finds (v n) (v (p_file n)) (Ok left)) → MovesPartly (is_left n) (recover n) (seen a1) (seen b)
+pub finished_partly : (n : List ℕ) (left : PfileLeft) (a a1 b : Told) → a1 ≡ a → IsThere (z_file n) a → IfSome (seen a) (λ (v : View). Finds (v n) (v (p_file n)) (Ok left)) → MovesPartly (is_left n) (recover_alone n) (seen a1) (seen b)
     → MovesPartly (is_left n) (λ (v : View). recovers_if (checked n v) n v) (seen a) (seen b)
 finished_partly n left a a1 b same there finds parts =
-    passed_partly n (checked n) (seen a) (seen b) (found_passed n left (seen a) there finds) (subst (λ (t : Told). MovesPartly (is_left n) (recover n) (seen t) (seen b)) same parts)
+    passed_partly n (checked n) (seen a) (seen b) (found_passed n left (seen a) there finds) (subst (λ (t : Told). MovesPartly (is_left n) (recover_alone n) (seen t) (seen b)) same parts)
 
 -- nothing changed
 pub same_partly : (n : List ℕ) (f : View → View) (a b : Told) → b ≡ a → MovesPartly (is_left n) f (seen a) (seen b)

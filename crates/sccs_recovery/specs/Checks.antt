@@ -14,7 +14,7 @@ use Rattle.sccs_grammar.specs.File.{answer, file_of}
 use Rattle.sccs_grammar.specs.FileRefusals.{or_refusal}
 use Rattle.sccs_table.specs.declared.fronts.Front.{Front}
 use Rattle.sccs_pfile.specs.Reading.{edits_of}
-use Rattle.sccs_moments.specs.Recovery.{recover}
+use Rattle.sccs_moments.specs.Recovery.{recover_alone}
 use Rattle.sccs_steps.specs.Actions.{RefusesWithin}
 use Rattle.sccs_pfile.specs.declared.entries.Edit.{Edit}
 
@@ -85,5 +85,5 @@ pub record IsWithin {T : Type 0} (result : Result T StepFault) : Type 0 where
 
 -- the view after recovery, where the checks pass
 abbrev pub recovers_if : Result Bool Refusal → List ℕ → View → View
-recovers_if (Ok passed) n v = recover n v
+recovers_if (Ok passed) n v = recover_alone n v
 recovers_if (Err refusal) n v = v

@@ -22,4 +22,4 @@ Says (Err fault) text out out2 = ⊥
 
 -- it doesn't only read
 pub recover_keeps : KeepsFiles recover_action
-recover_keeps = record { quiet = λ reads n i named f d is. absurd cc; names = λ changes n fits. ((sfile_name_decides n).0 fits).1 }
+recover_keeps = record { quiet = λ reads n i named f d is. absurd cc; names = λ changes n fits. ((sfile_name_decides n).0 fits).1; locked = λ changes locks n i named f d is there g new. absurd cc }

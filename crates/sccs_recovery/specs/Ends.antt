@@ -6,7 +6,7 @@ use Rattle.sccs_disk.specs.Told.{Told, seen}
 use Rattle.sccs_files.specs.StepFiles.{AreCleared, Moves, MovesPartly, is_left, is_working}
 use Rattle.sccs_images.specs.Touches.{TouchesOnly}
 use Rattle.sccs_moments.specs.Moments.{LeavesCalm, LeavesFirm, RecoversOn}
-use Rattle.sccs_moments.specs.Recovery.{recover}
+use Rattle.sccs_moments.specs.Recovery.{recover_alone}
 use Rattle.sccs_moments.specs.Unlocked.{KeepsOthers, is_own}
 use Rattle.sccs_sid.specs.declared.refusals.Refusal.{Refusal}
 use Rattle.sccs_sid.specs.declared.refusals.StepFault.{StepFault}
@@ -18,7 +18,7 @@ use Rattle.sccs_recovery.specs.Checks.{IsWithin, checked, recovers_if}
 -- and where the disk fails each file is as it was or as recovery would make it. The call may be stopped at any moment and made
 -- again, and s-files and p-files stay firm. The files of other names stay as they are at each moment.
 pub record RecoversName {T : Type 0} (n : List ℕ) (old new : Told) (faults faults_after : ℕ) (result : Result T StepFault) : Type 0 where
-  pub view : OnOk result (Becomes (recover n) (seen old) (seen new))
+  pub view : OnOk result (Becomes (recover_alone n) (seen old) (seen new))
   pub refused : (refusal : Refusal) → result ≡ Err (Refused refusal) → new ≡ old
   pub memory : IsErrOf result Memory → Moves (is_working n) (λ v. v) (seen old) (seen new)
   pub cleared : IsErrOf result Memory → AreCleared n (seen old) (seen new)

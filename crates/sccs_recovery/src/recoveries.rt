@@ -8,7 +8,7 @@ ghost use Rattle.sccs_disk.specs.Told.{seen};
 ghost use Rattle.sccs_files.specs.StepFiles.{AreCleared, Moves, MovesPartly, is_left, is_working};
 ghost use Rattle.sccs_images.specs.Touches.{Leaves, TouchesOnly};
 ghost use Rattle.sccs_moments.specs.Moments.{LeavesCalm, LeavesFirm, RecoversOn};
-ghost use Rattle.sccs_moments.specs.Recovery.{cleared, recover, without_name};
+ghost use Rattle.sccs_moments.specs.Recovery.{cleared, recover_alone, without_name};
 ghost use Rattle.sccs_moments.specs.Unlocked.{KeepsOthers, is_own};
 ghost use Rattle.sccs_sid.specs.declared.refusals.Refusal.{Refusal};
 ghost use Rattle.sccs_sid.specs.declared.refusals.StepFault.TheVariants as step;
@@ -68,7 +68,7 @@ fn prepare<D: Disk>(left: &PfileLeft, disk: &mut D, name: &Name) -> Result<NewFi
     requires z { IsThere (z_file name.now) (D.told disk.old) }
     requires entries { HasEntries left.now }
     requires left { IfSome (seen (D.told disk.old)) (λ (v : View). Recovers (v name.now) (v (p_file name.now)) left.now) }
-    ensures view { IfOk result (λ new. option_map (committed name.now (plan false new Keep)) (seen (D.told disk.new)) ≡ option_map (recover name.now) (seen (D.told disk.old))) }
+    ensures view { IfOk result (λ new. option_map (committed name.now (plan false new Keep)) (seen (D.told disk.new)) ≡ option_map (recover_alone name.now) (seen (D.told disk.old))) }
     ensures z { OnOk result (IsThere (z_file name.now) (D.told disk.new)) }
     ensures needs { IfOk result (λ new. Needs new (q_file name.now) (p_file name.now) (D.told disk.new)) }
     ensures moves { Moves (is_working name.now) (λ v. v) (seen (D.told disk.old)) (seen (D.told disk.new)) }
@@ -106,13 +106,13 @@ fn finish<D: Disk>(left: &PfileLeft, disk: &mut D, name: &Name) -> Result<(), St
     requires z { IsThere (z_file name.now) (D.told disk.old) }
     requires entries { HasEntries left.now }
     requires left { IfSome (seen (D.told disk.old)) (λ (v : View). Recovers (v name.now) (v (p_file name.now)) left.now) }
-    ensures view { OnOk result (Becomes (recover name.now) (seen (D.told disk.old)) (seen (D.told disk.new))) }
+    ensures view { OnOk result (Becomes (recover_alone name.now) (seen (D.told disk.old)) (seen (D.told disk.new))) }
     ensures accepts { (refusal : Refusal) → result ≡ Err (step.Refused refusal) → ⊥ }
     ensures memory { IsErrOf result StepFault.Memory → Moves (is_working name.now) (λ v. v) (seen (D.told disk.old)) (seen (D.told disk.new)) }
     ensures cleared { IsErrOf result StepFault.Memory → AreCleared name.now (seen (D.told disk.old)) (seen (D.told disk.new)) }
     ensures touches { IsErrOf result StepFault.Memory → TouchesOnly (is_working name.now) (D.told disk.old) (D.told disk.new) }
     ensures others { KeepsOthers (is_own name.now) (D.told disk.old) (D.told disk.new) }
-    ensures partly { IsErrOf result StepFault.DiskFault → MovesPartly (is_left name.now) (recover name.now) (seen (D.told disk.old)) (seen (D.told disk.new)) }
+    ensures partly { IsErrOf result StepFault.DiskFault → MovesPartly (is_left name.now) (recover_alone name.now) (seen (D.told disk.old)) (seen (D.told disk.new)) }
     ensures story { RecoversOn (D.told disk.old) (D.told disk.new) }
     ensures calm { OnOk result (LeavesCalm (D.told disk.old) (D.told disk.new)) }
     ensures firm { LeavesFirm (D.told disk.old) (D.told disk.new) }

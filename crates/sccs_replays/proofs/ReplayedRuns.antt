@@ -74,7 +74,7 @@ either_keeps true x y first second = first
 either_keeps false x y first second = second
 
 nothing_keeps : KeepsFiles no_action
-nothing_keeps = record { quiet = λ reads n i named f d is. absurd cc; names = λ changes n fits. absurd cc }
+nothing_keeps = record { quiet = λ reads n i named f d is. absurd cc; names = λ changes n fits. absurd cc; locked = λ changes locks n i named f d is there g new. absurd cc }
 
 by_keeps : (who : Caller) (command : Command) → KeepsFiles ((single_of command).by who)
 by_keeps who (c.Admin words operands) =

@@ -80,8 +80,8 @@ module _ {X : Type 0} (code : X → ℕ) (n : List ℕ) where
       by (Some v) stepped = λ i heard. dropped_meets r (x.step n i (map v (x.named n)) (look v n)) (world (Some v) a.out a.err) (shown b) out err (stepped i heard)
 
   pub dropped_moments : (x : Action) (r : Result X StepFault) (left : Option (List ℕ)) (a b : Scene) (out err : Option (List ℕ)) → StepMomentsAs code x r n left a b → StepMomentsAs code (dropping x) r n left (scene a.told out err) (scene b.told out err)
-  dropped_moments x r left a b out err moments = λ m past i told heard calm safe.
-      dropped_at x r (x.step n i (map (view_of m) (x.named n)) (look (view_of m) n)) (view_of m) m past a b out err (moments m past i told heard calm safe)
+  dropped_moments x r left a b out err moments = λ m past i told heard calm may.
+      dropped_at x r (x.step n i (map (view_of m) (x.named n)) (look (view_of m) n)) (view_of m) m past a b out err (moments m past i told heard calm may)
 
   -- over any disk
   could_so : (could : Outcome → Bool) (o : Outcome) → could o ≡ true → could_drop could (dropped o) ≡ true

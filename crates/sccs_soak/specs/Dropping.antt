@@ -1,10 +1,10 @@
 -- A utility whose output is dropped (own): only its refusals are said.
-use Rattle.std.specs.Prelude.{◌≡◌, ℕ, Bool, true, List, [], Option, None, Result, Ok, Err}
-use Rattle.std.proofs.Common.{refl, subst}
+use Rattle.std.specs.Prelude.{◌≡◌, ℕ, Bool, true, List, [], Option, None, Some, Result, Ok, Err}
+use Rattle.std.proofs.Common.{refl, ap, subst, ◌∙◌}
 use Rattle.sccs_disk.specs.Files.{Content}
 use Rattle.sccs_sid.specs.Reading.{is_empty}
 use Rattle.sccs_files.specs.StepFiles.{Files}
-use Rattle.sccs_steps.specs.Actions.{Action, KeepsFiles}
+use Rattle.sccs_steps.specs.Actions.{Action, KeepsFiles, LeavesLocked}
 use Rattle.sccs_steps.specs.StepEffects.{Outcome, StepEffect}
 
 -- an accepted step that writes nothing
@@ -44,8 +44,13 @@ dropped_new : (o : Outcome) (d : StepEffect) → ((e : StepEffect) → o ≡ Ok 
 dropped_new (Ok e) d none is = subst (λ (f : StepEffect). f.new ≡ None) (ok_same (dropped_effect e) d is) (none e refl)
 dropped_new (Err refusal) d none is = absurd cc
 
+dropped_locked : (o : Outcome) (d : StepEffect) (f g : Files) → ((e : StepEffect) → o ≡ Ok e → e.new ≡ Some g → LeavesLocked f g) → dropped o ≡ Ok d → d.new ≡ Some g → LeavesLocked f g
+dropped_locked (Ok e) d f g leaves is new = leaves e refl (ap (λ (x : StepEffect). x.new) (ok_same (dropped_effect e) d is) ∙ new)
+dropped_locked (Err refusal) d f g leaves is new = absurd cc
+
 pub dropping_keeps : (x : Action) → KeepsFiles x → KeepsFiles (dropping x)
 dropping_keeps x keeps = record {
   quiet = λ reads n i named f d is. dropped_new (x.step n i named f) d (λ e made. keeps.quiet reads n i named f e made) is;
   names = keeps.names;
+  locked = λ changes locks n i named f d is there g new. dropped_locked (x.step n i named f) d f g (λ e made brings. keeps.locked changes locks n i named f e made there g brings) is new;
 }

@@ -11,7 +11,6 @@ use Rattle.sccs_base.specs.declared.streams.TakeFault.TheVariants as take
 use Rattle.sccs_disk.specs.Files.{Folder, Model, View, view_in, view_of}
 use Rattle.sccs_disk.specs.Told.{Told, Tells, seen}
 use Rattle.sccs_files.specs.StepFiles.{Alike, Shows}
-use Rattle.sccs_moments.specs.Calm.{IsCalm}
 use Rattle.sccs_moments.proofs.CalmDisks.{calm_firm}
 use Rattle.sccs_moments.proofs.Recovering.{recovers_then}
 use Rattle.sccs_operands.specs.FolderNames.{HasSfilesOf, sfiles_in}
@@ -20,7 +19,7 @@ use Rattle.sccs_sid.specs.declared.refusals.Refusal.{Refusal}
 use Rattle.sccs_sid.specs.declared.refusals.Refusal.TheVariants.{TooLong}
 use Rattle.sccs_steps.specs.Actions.{Action, AreClear, IsHeard, hears, input_steps, kind_hears, kind_of, kind_steps, names_found, names_given, steps_of}
 use Rattle.sccs_steps.specs.Calls.{Scene, World, scene, shown}
-use Rattle.sccs_steps.specs.ListStops.{AreSafe, ListMoments, RunMoments, Spares, StaySafe}
+use Rattle.sccs_steps.specs.ListStops.{AreSafe, KeepsNames, ListMoments, MayBegin, RunMoments, Spares, StaySafe}
 use Rattle.sccs_steps.specs.Messages.{SaysRefusal}
 use Rattle.sccs_steps.specs.Running.{MakesBy, StopsBy}
 use Rattle.sccs_steps.specs.Speaking.{KindBegins, KindMakes, MayStandFor, SpeakNames, SpeaksKind, SpeaksOne}
@@ -35,11 +34,11 @@ use Rattle.sccs_steps.proofs.Cleared.{cleared_same}
 use Rattle.sccs_steps.proofs.FirstMoved.{shows_none}
 use Rattle.sccs_steps.proofs.JoinedSteps.{ran_then, stops_then}
 use Rattle.sccs_steps.proofs.Fronts.{view_past}
-use Rattle.sccs_steps.proofs.MomentLists.{alike_recovers, moments_never, moments_then, run_moments}
+use Rattle.sccs_steps.proofs.MomentLists.{moments_never, moments_then, run_moments}
 use Rattle.sccs_steps.proofs.NameLaws.{refusal_runs, speak_refusal, speak_whole}
-use Rattle.sccs_steps.proofs.NameStops.{alike_told, refusal_stops}
+use Rattle.sccs_steps.proofs.NameStops.{refusal_stops}
 use Rattle.sccs_steps.proofs.SafeImages.{images_now, images_then}
-use Rattle.sccs_steps.proofs.Safety.{stay_same}
+use Rattle.sccs_steps.proofs.Safety.{keeps_same, stay_same}
 use Rattle.sccs_steps.proofs.StatusLaws.{idle_first}
 
 -- ---- steps that weren't begun
@@ -69,7 +68,7 @@ pub never_stops : (x : Action) (steps : Folder → List ℕ → List NamedStep) 
 never_stops x steps given fault old new out err same = λ w folder i m past spares clear shows heard is calm safe.
     subst (λ (t : Told). RunMoments x w (Err fault) folder (steps folder i) (scene old out err) (scene t out err) m past) (sym same)
     (run_moments x w (Err fault) folder (steps folder i) (scene old out err) (scene old out err) m past
-    (moments_never w fault folder (steps folder i) (scene old out err) m past spares is calm (alike_told w folder old m past is shows) shows) (λ other. stay_same x (view_in folder)) (images_now m calm))
+    (moments_never w fault folder (steps folder i) (scene old out err) m past is calm shows) (λ other. stay_same x (view_in folder)) (λ other. keeps_same (view_in folder)) (images_now m))
 
 -- ---- names that were found, and their steps
 
@@ -80,31 +79,33 @@ pub found_runs : (rule : StatusRule) (w : List ℕ → Bool) (r : Result ℕ Fau
 found_runs rule w (Ok status) m ts a b shows runs = (runs.0 ∙ sym (idle_first rule (status_of rule ts)), ran_then w m (names_found rule ∷ []) ts a a b (found_ran rule w m a shows) runs.1)
 found_runs rule w (Err fault) m ts a b shows runs = stops_then w fault m (names_found rule ∷ []) ts a a b (found_ran rule w m a shows) runs
 
-abbrev moments_found : (rule : StatusRule) (w : List ℕ → Bool) (folder : Folder) (a : Scene) (m : Model) (past : List Model) → Spares w → a.told ≡ Tells m past → IsCalm m → Alike w (view_of m) (view_in folder) → Shows w (seen a.told) (view_in folder) → ListMoments w (Ok (idle_status rule)) folder (names_found rule ∷ []) a a m past
-moments_found rule w folder a m past spares is calm alike shows = record {
+abbrev moments_found : (rule : StatusRule) (w : List ℕ → Bool) (folder : Folder) (a : Scene) (m : Model) (past : List Model) → a.told ≡ Tells m past → MayBegin folder m → Shows w (seen a.told) (view_in folder) → ListMoments w (Ok (idle_status rule)) folder (names_found rule ∷ []) a a m past
+moments_found rule w folder a m past is may shows = record {
   number = 1;
   most = omega arith;
   went = record {
     added = [];
     is = is;
-    numbers = (omega arith, λ u image. (1, inl refl, omega arith, recovers_then (view_in folder) (view_of m) u (alike_recovers w (view_of m) (view_in folder) spares alike) (calm u image).recovers));
+    numbers = (omega arith, λ u image. (1, inl refl, omega arith, recovers_then (view_in folder) (view_of m) u may.recovers (may.calm u image).recovers));
     guarded = tt;
   };
   out = some_none a.out [];
   err = some_none a.err [];
   all = λ ok. refl;
-  calm = λ fault. calm;
+  calm = λ fault. may.calm;
   committed = λ fault. shows;
-  firm = calm_firm m calm;
+  recovers = λ fault. may.recovers;
+  firm = calm_firm m may.calm;
 }
 
-pub found_moments : (x : Action) (w : List ℕ → Bool) (r : Result ℕ Fault) (folder : Folder) (ts : List NamedStep) (a b : Scene) (m : Model) (past : List Model) → Spares w → a.told ≡ Tells m past → IsCalm m → Shows w (seen a.told) (view_in folder) → RunMoments x w r folder ts a b m past
+pub found_moments : (x : Action) (w : List ℕ → Bool) (r : Result ℕ Fault) (folder : Folder) (ts : List NamedStep) (a b : Scene) (m : Model) (past : List Model) → a.told ≡ Tells m past → MayBegin folder m → Shows w (seen a.told) (view_in folder) → RunMoments x w r folder ts a b m past
     → RunMoments x w r folder (names_found x.rule ∷ ts) a b m past
-found_moments x w r folder ts a b m past spares is calm shows next =
+found_moments x w r folder ts a b m past is may shows next =
     run_moments x w r folder (names_found x.rule ∷ ts) a b m past
-    (moments_then w (idle_status x.rule) r folder (names_found x.rule ∷ []) ts a a b m past (found_ran x.rule w folder (shown a) shows) (moments_found x.rule w folder a m past spares is calm (alike_told w folder a.told m past is shows) shows) next.list)
+    (moments_then w (idle_status x.rule) r folder (names_found x.rule ∷ []) ts a a b m past (found_ran x.rule w folder (shown a) shows) (moments_found x.rule w folder a m past is may shows) next.list)
     (λ other. subst (λ (v : View). StaySafe x (view_in folder) v) (sym (view_past folder (names_found x.rule ∷ []) ts next.list.number)) (next.safe other))
-    (images_then next.list.went.added [] m (images_now m calm) next.images)
+    (λ other. subst (λ (v : View). KeepsNames (view_in folder) v) (sym (view_past folder (names_found x.rule ∷ []) ts next.list.number)) (next.keeps other))
+    (images_then next.list.went.added [] m (images_now m) next.images)
 
 -- what is said of the names is said of the operand
 pub names_speak : (x : Action) (kind : OperandKind) (operand : List ℕ) (names : List (List ℕ)) (r : Result ℕ Fault) (err err2 : Option (List ℕ)) → MayStandFor x kind operand names → SpeakNames x names r err err2 → SpeaksKind x kind operand r err err2
@@ -126,10 +127,10 @@ found_by x names found r left a b w m i never is makes spares clear shows =
     (subst (λ ns. Runs x.rule w r m (steps_of x i m ns) (shown a) (shown b)) is (makes w m i spares (subst (λ ns. AreClear x w (steps_of x i m ns)) (sym is) clear.1) shows (inl never)))
 
 stops_by : (x : Action) (names found : List (List ℕ)) (r : Result ℕ Fault) (left : Option (List ℕ)) (a b : Scene) (w : List ℕ → Bool) (folder : Folder) (i : List ℕ) (m : Model) (past : List Model) → x.takes ≡ false → names ≡ found → StopsBy x (λ m i. steps_of x i m names) (IsHeard x.takes left) r a b
-    → Spares w → AreClear x w (names_found x.rule ∷ steps_of x i folder found) → Shows w (seen a.told) (view_in folder) → a.told ≡ Tells m past → IsCalm m → AreSafe x (names_found x.rule ∷ steps_of x i folder found) (view_in folder)
+    → Spares w → AreClear x w (names_found x.rule ∷ steps_of x i folder found) → Shows w (seen a.told) (view_in folder) → a.told ≡ Tells m past → MayBegin folder m → AreSafe x (names_found x.rule ∷ steps_of x i folder found) (view_in folder)
     → RunMoments x w r folder (names_found x.rule ∷ steps_of x i folder found) a b m past
 stops_by x names found r left a b w folder i m past never is stops spares clear shows told calm safe =
-    found_moments x w r folder (steps_of x i folder found) a b m past spares told calm shows
+    found_moments x w r folder (steps_of x i folder found) a b m past told calm shows
     (subst (λ ns. RunMoments x w r folder (steps_of x i folder ns) a b m past) is
     (stops w folder i m past spares (subst (λ ns. AreClear x w (steps_of x i folder ns)) (sym is) clear.1) shows (inl never) told calm (subst (λ ns. AreSafe x (steps_of x i folder ns) (view_in folder)) (sym is) safe.1)))
 
@@ -231,7 +232,7 @@ pub long_stops : (x : Action) (r : Result ℕ Fault) (left : Option (List ℕ)) 
     → StopsBy x (λ m i. kind_steps x i m [] FromInput) (IsHeard true left) r a (scene a.told a.out err)
 long_stops x r left a err told says = λ w folder i m past spares clear shows heard is calm safe.
     subst (λ (found : Result (List (List ℕ)) Refusal). RunMoments x w r folder (input_steps x i folder found) a (scene a.told a.out err) m past) (sym (long_names x left i heard told))
-    (refusal_stops x w r folder (codes "-") TooLong a err m past spares is calm shows says)
+    (refusal_stops x w r folder (codes "-") TooLong a err m past is calm shows says)
 
 pub long_speaks : (x : Action) (r : Result ℕ Fault) (err err2 : Option (List ℕ)) → SaysRefusal (codes "-") TooLong r err err2 → SpeaksKind x FromInput [] r err err2
 long_speaks x r err err2 says =

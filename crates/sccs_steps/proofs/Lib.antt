@@ -1,3 +1,4 @@
+pub mod Carried
 pub mod Clear
 pub mod Cleared
 pub mod Exits

@@ -1,13 +1,12 @@
 -- The moments of lists of steps, one behind another.
-use Rattle.std.proofs.Common.{◌≡◌, ◌≢◌, ◌⊎◌, ℕ, suc, ◌+◌, ◌<◌, ◌≤◌, Bool, List, [], ◌∷◌, ◌++◌, length, is_some, Result, Ok, Err, inl, inr, refl, sym, ap, subst, ◌∙◌, ⊎_elim, arith, length-append}
+use Rattle.std.proofs.Common.{◌≡◌, ◌≢◌, ◌⊎◌, ℕ, suc, ◌+◌, ◌<◌, ◌≤◌, Bool, List, [], ◌∷◌, ◌++◌, length, Result, Ok, Err, inl, inr, refl, sym, ap, subst, ◌∙◌, ⊎_elim, arith, length-append}
 use Rattle.std.proofs.lemmas.Bool.{cases_lt}
-use Rattle.sccs_base.specs.Name.{p_file, z_file}
 use Rattle.sccs_base.specs.Stream.{GivesSome}
 use Rattle.sccs_base.proofs.Gifts.{gives_then, some_none}
 use Rattle.sccs_disk.specs.Files.{Folder, Model, View, view_in, view_of}
 use Rattle.sccs_disk.specs.Images.{Allows}
 use Rattle.sccs_disk.specs.Told.{Told, Tells, seen}
-use Rattle.sccs_files.specs.StepFiles.{Alike, Shows}
+use Rattle.sccs_files.specs.StepFiles.{Shows}
 use Rattle.sccs_images.specs.Touches.{Each, earlier, newest}
 use Rattle.sccs_images.proofs.Touched.{earlier_more, newest_more}
 use Rattle.sccs_moments.specs.Calm.{HasFirm, IsCalm}
@@ -15,57 +14,54 @@ use Rattle.sccs_moments.specs.Moments.{Numbered, Went}
 use Rattle.sccs_moments.specs.Recovery.{RecoversAs}
 use Rattle.sccs_moments.proofs.CalmDisks.{calm_firm}
 use Rattle.sccs_moments.proofs.Joined.{guarded_joined, numbered_as, numbered_joined}
-use Rattle.sccs_moments.proofs.Recovering.{recovers_then, same_recovers}
+use Rattle.sccs_moments.proofs.Recovering.{recovers_then}
 use Rattle.sccs_steps.specs.Actions.{Action}
 use Rattle.sccs_steps.specs.Calls.{Scene, shown}
 use Rattle.sccs_steps.specs.StepLists.{NamedStep, Ran, err_of, folder_after, next_text, out_of}
-use Rattle.sccs_steps.specs.ListStops.{IsAcknowledged, IsAtNumber, KeepsSafe, ListMoments, RunMoments, Spares, StaySafe, err_before, out_before, view_at}
+use Rattle.sccs_steps.specs.ListStops.{IsAcknowledged, IsAtNumber, KeepsNames, KeepsNamesFrom, ListMoments, MayBegin, RunMoments, StaySafe, err_before, out_before, view_at}
 use Rattle.sccs_steps.specs.declared.faults.Fault.{Fault}
 use Rattle.sccs_steps.specs.declared.faults.Fault.TheVariants.{DiskFault}
 use Rattle.sccs_steps.proofs.Fronts.{err_front, err_past, err_rises, more_within, out_front, out_past, out_rises, view_front, view_past}
 
--- views that are alike but for working files recover alike
-pub alike_recovers : (w : List ℕ → Bool) (u v : View) → Spares w → Alike w u v → RecoversAs v u
-alike_recovers w u v spares alike =
-    same_recovers v u (λ n sfile. alike n (spares.s n sfile)) (λ n sfile. alike (p_file n) (spares.p n sfile)) (λ n sfile. ap is_some (alike (z_file n) (spares.z n sfile)))
-
 -- ---- nothing was done
 
-abbrev pub moments_none : (w : List ℕ → Bool) (status : ℕ) (folder : Folder) (a : Scene) (m : Model) (past : List Model) → Spares w → a.told ≡ Tells m past → IsCalm m → Alike w (view_of m) (view_in folder) → Shows w (seen a.told) (view_in folder) → ListMoments w (Ok status) folder [] a a m past
-moments_none w status folder a m past spares is calm alike shows = record {
+abbrev pub moments_none : (w : List ℕ → Bool) (status : ℕ) (folder : Folder) (a : Scene) (m : Model) (past : List Model) → a.told ≡ Tells m past → MayBegin folder m → Shows w (seen a.told) (view_in folder) → ListMoments w (Ok status) folder [] a a m past
+moments_none w status folder a m past is may shows = record {
   number = 0;
   most = omega arith;
   went = record {
     added = [];
     is = is;
-    numbers = (omega arith, λ u image. (0, inl refl, omega arith, recovers_then (view_in folder) (view_of m) u (alike_recovers w (view_of m) (view_in folder) spares alike) (calm u image).recovers));
+    numbers = (omega arith, λ u image. (0, inl refl, omega arith, recovers_then (view_in folder) (view_of m) u may.recovers (may.calm u image).recovers));
     guarded = tt;
   };
   out = some_none a.out [];
   err = some_none a.err [];
   all = λ ok. refl;
-  calm = λ fault. calm;
+  calm = λ fault. may.calm;
   committed = λ fault. shows;
-  firm = calm_firm m calm;
+  recovers = λ fault. may.recovers;
+  firm = calm_firm m may.calm;
 }
 
 -- a list that wasn't begun
-abbrev pub moments_never : (w : List ℕ → Bool) (fault : Fault) (folder : Folder) (ts : List NamedStep) (a : Scene) (m : Model) (past : List Model) → Spares w → a.told ≡ Tells m past → IsCalm m → Alike w (view_of m) (view_in folder) → Shows w (seen a.told) (view_in folder) → ListMoments w (Err fault) folder ts a a m past
-moments_never w fault folder ts a m past spares is calm alike shows = record {
+abbrev pub moments_never : (w : List ℕ → Bool) (fault : Fault) (folder : Folder) (ts : List NamedStep) (a : Scene) (m : Model) (past : List Model) → a.told ≡ Tells m past → MayBegin folder m → Shows w (seen a.told) (view_in folder) → ListMoments w (Err fault) folder ts a a m past
+moments_never w fault folder ts a m past is may shows = record {
   number = 0;
   most = omega arith;
   went = record {
     added = [];
     is = is;
-    numbers = (omega arith, λ u image. (0, inl refl, omega arith, recovers_then (view_in folder) (view_of m) u (alike_recovers w (view_of m) (view_in folder) spares alike) (calm u image).recovers));
+    numbers = (omega arith, λ u image. (0, inl refl, omega arith, recovers_then (view_in folder) (view_of m) u may.recovers (may.calm u image).recovers));
     guarded = tt;
   };
   out = some_none a.out (next_text ts);
   err = some_none a.err [];
   all = λ ok. absurd (cc);
-  calm = λ other. calm;
+  calm = λ other. may.calm;
   committed = λ other. shows;
-  firm = calm_firm m calm;
+  recovers = λ other. may.recovers;
+  firm = calm_firm m may.calm;
 }
 
 -- ---- all of some steps, and then others
@@ -113,6 +109,9 @@ moments_then w s r folder ts us a b c m past ran first next = record {
   all = λ ok. (let e = next.all ok in omega (arith, e, length-append ts us));
   calm = λ fault. subst IsCalm (sym (newest_more next.went.added first.went.added m)) (next.calm fault);
   committed = λ fault. subst (λ (v : View). Shows w (seen c.told) v) (sym (view_past folder ts us next.number)) (next.committed fault);
+  recovers = λ fault.
+      subst (λ (v : View). RecoversAs v (view_of (newest (next.went.added ++ first.went.added) m))) (sym (view_past folder ts us next.number))
+      (subst (λ (x : Model). RecoversAs (view_at (folder_after folder ts) us next.number) (view_of x)) (sym (newest_more next.went.added first.went.added m)) (next.recovers fault));
   firm = subst HasFirm (sym (newest_more next.went.added first.went.added m)) next.firm;
 }
 
@@ -137,6 +136,7 @@ moments_more w fault folder ts us a b m past l = record {
   all = λ ok. absurd (cc);
   calm = l.calm;
   committed = λ other. subst (λ (v : View). Shows w (seen b.told) v) (sym (view_front folder ts us l.number l.most)) (l.committed other);
+  recovers = λ other. subst (λ (v : View). RecoversAs v (view_of (newest l.went.added m))) (sym (view_front folder ts us l.number l.most)) (l.recovers other);
   firm = l.firm;
 }
 
@@ -151,5 +151,5 @@ acknowledged w r folder ts a b m past l k below known = ⊎_elim (λ low. absurd
     uncounted low (inr (inr ok)) = omega (arith, low, below, l.all ok)
 
 pub run_moments : (x : Action) (w : List ℕ → Bool) (r : Result ℕ Fault) (folder : Folder) (ts : List NamedStep) (a b : Scene) (m : Model) (past : List Model) → (list : ListMoments w r folder ts a b m past)
-    → (r ≢ Err DiskFault → StaySafe x (view_in folder) (view_at folder ts list.number)) → Each (Allows (KeepsSafe (view_of m))) list.went.added m → RunMoments x w r folder ts a b m past
-run_moments x w r folder ts a b m past list safe images = record { list = list; acknowledged = acknowledged w r folder ts a b m past list; safe = safe; images = images }
+    → (r ≢ Err DiskFault → StaySafe x (view_in folder) (view_at folder ts list.number)) → (r ≢ Err DiskFault → KeepsNames (view_in folder) (view_at folder ts list.number)) → Each (Allows (KeepsNamesFrom m)) list.went.added m → RunMoments x w r folder ts a b m past
+run_moments x w r folder ts a b m past list safe keeps images = record { list = list; acknowledged = acknowledged w r folder ts a b m past list; safe = safe; keeps = keeps; images = images }

@@ -1,61 +1,60 @@
 -- Names that are safe in what a stop leaves.
-use Rattle.std.proofs.Common.{◌≡◌, ◌⊎◌, ℕ, Bool, true, false, cond, List, [], ◌∷◌, ◌++◌, Option, None, Some, is_some, inl, inr, refl, sym, ap, ◌∙◌}
-use Rattle.sccs_base.specs.Name.{p_file, z_file}
+use Rattle.std.proofs.Common.{◌≡◌, ◌⊎◌, ℕ, Bool, true, false, cond, List, [], ◌∷◌, ◌++◌, drop, Option, None, Some, is_some, inl, inr, refl, sym, ap, subst, ◌∙◌, ⊎_elim}
+use Rattle.std.proofs.lemmas.List.{append_cancel_right}
+use Rattle.std.specs.Prelude.{IsSome}
+use Rattle.sccs_base.specs.Name.{IsSfile, p_file, z_file}
 use Rattle.sccs_disk.specs.Files.{Content, Model, View, view_of}
-use Rattle.sccs_disk.specs.Images.{Allows}
-use Rattle.sccs_disk.specs.Told.{Told}
-use Rattle.sccs_images.specs.Touches.{Each, newest}
+use Rattle.sccs_disk.specs.Images.{Allows, Image}
+use Rattle.sccs_disk.specs.Told.{Nothing, Shows, Told, Tells}
+use Rattle.sccs_disk.proofs.Puts.{name_cases}
+use Rattle.sccs_files.specs.StepFiles.{Files, moved}
+use Rattle.sccs_images.specs.Touches.{Each, earlier, newest}
 use Rattle.sccs_images.proofs.Images.{view_image}
 use Rattle.sccs_images.proofs.Touched.{each_newest}
+use Rattle.sccs_intents.specs.declared.intents.Fate.{Fate}
 use Rattle.sccs_pfile.specs.Recovered.{recovered_pfile}
 use Rattle.sccs_pfile.proofs.Recovering.{twice_once}
 use Rattle.sccs_moments.specs.Calm.{IsCalm, KeepsPairs}
 use Rattle.sccs_moments.specs.Moments.{EndsAfter, EndsBefore, EndsWithin, IsAt, Numbered}
-use Rattle.sccs_moments.specs.Recovery.{RecoversAs}
-use Rattle.sccs_moments.proofs.Recovering.{p_of, recovered_at, recovers_to, s_of}
-use Rattle.sccs_steps.specs.ListStops.{KeepsSafe}
-use Rattle.sccs_steps.specs.StepStops.{IsSafe}
+use Rattle.sccs_moments.specs.Recovery.{IsSound, RecoversAs, fate_at, is_kept}
+use Rattle.sccs_moments.specs.Unlocked.{IsHeldIn, KeptHeld, KeptOthers, LeavesOthers, is_own}
+use Rattle.sccs_moments.proofs.Recovering.{fate_same, p_of, recovered, recovered_under, recovers_to, s_of}
+use Rattle.sccs_steps.specs.Actions.{Action, KeepsFiles}
+use Rattle.sccs_steps.specs.ListStops.{KeepsNamesFrom}
+use Rattle.sccs_steps.specs.StepStops.{IsSafe, IsSafeFor, MayStep}
+use Rattle.sccs_steps.specs.Unlocked.{StepOthers}
+use Rattle.sccs_steps.proofs.Carried.{moved_others, named_held, others_fate, others_look}
+use Rattle.sccs_steps.proofs.Safety.{none_of, pair_paired, same_safe}
 
 -- ---- what recovers alike has the same safe names
 
-none_of : (o : Option Content) → is_some o ≡ false → o ≡ None
-none_of None is = refl
-none_of (Some c) is = cc
-
-still_left : (s p : Option Content) → s ≡ None → recovered_pfile s p ≡ p
-still_left s None gone = refl
-still_left s (Some p) gone = ap (λ (o : Option Content). recovered_pfile o (Some p)) gone
-
--- the p-file that recovery leaves stays, and is none where there is none
+-- the p-file that recovery leaves stays
 left_sound : (n : List ℕ) (v : View) (z : Bool) → is_some (v (z_file n)) ≡ z → IsSafe n v
     → recovered_pfile (v n) (cond z (recovered_pfile (v n) (v (p_file n))) (v (p_file n))) ≡ cond z (recovered_pfile (v n) (v (p_file n))) (v (p_file n))
 left_sound n v true is safe = twice_once (v n) (v (p_file n))
-left_sound n v false is safe = safe.sound (none_of (v (z_file n)) is)
+left_sound n v false is safe = (safe.sound (none_of (v (z_file n)) is)).entries
 
-left_none : (n : List ℕ) (v : View) (z : Bool) → v (p_file n) ≡ None → cond z (recovered_pfile (v n) (v (p_file n))) (v (p_file n)) ≡ None
-left_none n v true none = ap (recovered_pfile (v n)) none ∙ refl
-left_none n v false none = none
-
-none_before : (s p : Option Content) (z : Bool) → s ≡ None → cond z (recovered_pfile s p) p ≡ None → p ≡ None
-none_before s p true gone none = sym (still_left s p gone) ∙ none
-none_before s p false gone none = none
-
-pub recovers_safe : (v u : View) → RecoversAs v u → KeepsSafe v u
-recovers_safe v u recovers = λ n sfile safe.
-    let both : recovered_at u n ≡ recovered_at v n = recovers_to v u recovers n sfile in
+sound_by : (n : List ℕ) (v u : View) (f : Option Fate) → IsSfile n → RecoversAs v u → fate_at v n ≡ f → fate_at u n ≡ f → (IsSome f → IsSome (u (z_file n))) → IsSafe n v → u (z_file n) ≡ None → IsSound n u
+sound_by n v u (Some fate) sfile recovers old new held safe none = absurd (let there = held refl in let e : false ≡ true = sym (ap is_some none) ∙ there in cc)
+sound_by n v u None sfile recovers old new held safe none =
+    let both : recovered (u n) (u (p_file n)) (is_some (u (z_file n))) ≡ recovered (v n) (v (p_file n)) (is_some (v (z_file n))) =
+    sym (recovered_under n u None new) ∙ (recovers_to v u recovers n sfile ∙ recovered_under n v None old) in
     let s : u n ≡ v n = ap s_of both in
     let p : cond (is_some (u (z_file n))) (recovered_pfile (u n) (u (p_file n))) (u (p_file n)) ≡ cond (is_some (v (z_file n))) (recovered_pfile (v n) (v (p_file n))) (v (p_file n)) = ap p_of both in
+    let now : u (p_file n) ≡ cond (is_some (v (z_file n))) (recovered_pfile (v n) (v (p_file n))) (v (p_file n)) =
+    sym (ap (λ (o : Option Content). cond (is_some o) (recovered_pfile (u n) (u (p_file n))) (u (p_file n))) none) ∙ p in
     record {
-      plain = safe.plain;
-      sound = λ none.
-          let now : u (p_file n) ≡ cond (is_some (v (z_file n))) (recovered_pfile (v n) (v (p_file n))) (v (p_file n)) =
-          sym (ap (λ (o : Option Content). cond (is_some o) (recovered_pfile (u n) (u (p_file n))) (u (p_file n))) none) ∙ p in
-          ap (λ (o : Option Content). recovered_pfile o (u (p_file n))) s ∙ (ap (recovered_pfile (v n)) now ∙ (left_sound n v (is_some (v (z_file n))) refl safe ∙ sym now));
-      paired = λ gone. none_before (u n) (u (p_file n)) (is_some (u (z_file n))) gone (p ∙ left_none n v (is_some (v (z_file n))) (safe.paired (sym s ∙ gone)));
+      entries = ap (λ (o : Option Content). recovered_pfile o (u (p_file n))) s ∙ (ap (recovered_pfile (v n)) now ∙ (left_sound n v (is_some (v (z_file n))) refl safe ∙ sym now));
+      unnamed = new;
     }
 
-pub keeps_then : (u v w : View) → KeepsSafe u v → KeepsSafe v w → KeepsSafe u w
-keeps_then u v w first next = λ n sfile safe. next n sfile (first n sfile safe)
+-- where the intent says the same of the name, and its z-file is there if it is named
+pub recovers_safe : (n : List ℕ) (v u : View) → IsSfile n → RecoversAs v u → fate_at u n ≡ fate_at v n → (IsSome (fate_at v n) → IsSome (u (z_file n))) → IsSafe n v → IsSafe n u
+recovers_safe n v u sfile recovers fate held safe = record {
+  plain = safe.plain;
+  sound = λ none. sound_by n v u (fate_at v n) sfile recovers refl fate held safe none;
+  paired = pair_paired n v u (recovers n sfile) safe.paired;
+}
 
 -- ---- moments
 
@@ -71,33 +70,136 @@ each_joined : (P : Model → Type 0) (later added : List Model) (m : Model) → 
 each_joined P [] added m first next = first
 each_joined P (a ∷ later) added m first next = (next.0, each_joined P later added m first next.1)
 
--- a calm disk to which nothing was done
-pub images_now : (m : Model) → IsCalm m → Allows (KeepsSafe (view_of m)) m
-images_now m calm = λ w image. recovers_safe (view_of m) w (calm w image).recovers
+-- a disk to which nothing was done
+pub images_now : (m : Model) → Allows (KeepsNamesFrom m) m
+images_now m = λ u image. record { safe = λ n sfile all. all u image; none = λ all. all u image }
+
+-- on a calm disk a name that is safe in the view is safe in whatever a stop leaves, where it is held if an intent names it
+pub calm_safe : (n : List ℕ) (m : Model) → IsSfile n → IsCalm m → (IsSome (fate_at (view_of m) n) → IsHeldIn n m) → IsSafe n (view_of m) → Allows (IsSafe n) m
+calm_safe n m sfile calm held safe = λ u image. recovers_safe n (view_of m) u sfile (calm u image).recovers (fate_same n (view_of m) u (calm u image).intent) (λ named. held named u image) safe
 
 -- one list behind another
-pub images_then : (later added : List Model) (m : Model) → Each (Allows (KeepsSafe (view_of m))) added m → Each (Allows (KeepsSafe (view_of (newest added m)))) later (newest added m) → Each (Allows (KeepsSafe (view_of m))) (later ++ added) m
+pub images_then : (later added : List Model) (m : Model) → Each (Allows (KeepsNamesFrom m)) added m → Each (Allows (KeepsNamesFrom (newest added m))) later (newest added m) → Each (Allows (KeepsNamesFrom m)) (later ++ added) m
 images_then later added m first next =
-    each_joined (Allows (KeepsSafe (view_of m))) later added m first
-    (each_as (KeepsSafe (view_of (newest added m))) (KeepsSafe (view_of m)) later (newest added m)
-    (λ w keeps. keeps_then (view_of m) (view_of (newest added m)) w (each_newest (Allows (KeepsSafe (view_of m))) added m first (view_of (newest added m)) (view_image (newest added m))) keeps) next)
+    each_joined (Allows (KeepsNamesFrom m)) later added m first
+    (each_as (KeepsNamesFrom (newest added m)) (KeepsNamesFrom m) later (newest added m)
+    (λ w keeps. record {
+      safe = λ n sfile all. keeps.safe n sfile (λ u image. (each_newest (Allows (KeepsNamesFrom m)) added m first u image).safe n sfile all);
+      none = λ all. keeps.none (λ u image. (each_newest (Allows (KeepsNamesFrom m)) added m first u image).none all);
+    }) next)
+
+each_both : (P Q R : Model → Type 0) (added : List Model) (m : Model) → ((m2 : Model) → P m2 → Q m2 → R m2) → Each P added m → Each Q added m → Each R added m
+each_both P Q R [] m both one two = both m one two
+each_both P Q R (a ∷ added) m both one two = (both a one.0 two.0, each_both P Q R added m both one.1 two.1)
+
+-- what holds of each moment under a premise
+each_under : (A : Type 0) (P : Model → Type 0) (added : List Model) (m : Model) → (A → Each P added m) → Each (λ m2. A → P m2) added m
+each_under A P [] m holds = λ a. holds a
+each_under A P (b ∷ added) m holds = (λ a. (holds a).0, each_under A P added m (λ a. (holds a).1))
+
+-- ---- the moments of a call are those that are told
+
+abbrev models : Told → List Model
+models Nothing = []
+models (Shows v) = []
+models (Tells m past) = m ∷ past
+
+all_told : (added : List Model) (m : Model) (past : List Model) → newest added m ∷ earlier added m past ≡ added ++ m ∷ past
+all_told [] m past = refl
+all_told (a ∷ added) m past = refl
+
+pub told_once : (xs ys : List Model) (m : Model) (past : List Model) (t : Told) → t ≡ Tells (newest xs m) (earlier xs m past) → t ≡ Tells (newest ys m) (earlier ys m past) → xs ≡ ys
+told_once xs ys m past t one two =
+    append_cancel_right xs ys (m ∷ past) (sym (all_told xs m past) ∙ (ap models (sym one ∙ two) ∙ all_told ys m past))
+
+-- ---- the moments of a step
+
+-- a folder that recovers as before the step, or as after it, where the name is safe
+abbrev pub AtStep : Action → List ℕ → View → View → View → Type 0
+AtStep x n v w u = RecoversAs v u ⊎ (RecoversAs w u × IsSafeFor x n w)
+
+-- What is known of what a stop leaves of a step that changes files: it has the files of other names, and a name that is held.
+record StepImage (x : Action) (n : List ℕ) (m : Model) (w u : View) : Type 0 where
+  at : AtStep x n (view_of m) w u
+  before : View
+  image : Image m before
+  same : (k : List ℕ) → is_own n k ≡ false → u k ≡ before k
+  held : (x.locks ≡ true) × IsHeldIn n m → IsSome (u (z_file n))
+
+step_image : (x : Action) (n : List ℕ) (m : Model) (w u : View) → IsSfile n → x.reads ≡ false → IsCalm m → MayStep x n (view_of m) → fate_at w n ≡ fate_at (view_of m) n → StepImage x n m w u → KeepsNamesFrom m u
+step_image x n m w u sfile changes calm may same_w known = record {
+  safe = λ k other all.
+      ⊎_elim (λ e. subst (λ l. Allows (IsSafe l) m → IsSafe l u) e own all)
+      (λ apart. same_safe k known.before u other (others_look n k known.before u sfile other plain apart known.same) (all known.before known.image)) (name_cases n k);
+  none = λ all k other. others_fate n k known.before u sfile plain known.same ∙ all known.before known.image k other;
+}
+  where
+    plain : is_kept (drop 2 n) ≡ false
+    plain = (may.0 changes).plain
+
+    fate : fate_at u n ≡ fate_at (view_of m) n
+    fate = others_fate n n known.before u sfile plain known.same ∙ fate_same n (view_of m) known.before (calm known.before known.image).intent
+
+    held : Allows (IsSafe n) m → IsSome (fate_at (view_of m) n) → IsSome (u (z_file n))
+    held all named = by x.locks refl
+      where
+        by : (b : Bool) → x.locks ≡ b → IsSome (u (z_file n))
+        by true locks = known.held (locks, λ t image. named_held n t (all t image) (subst (λ (f : Option Fate). IsSome f) (sym (fate_same n (view_of m) t (calm t image).intent)) named))
+        by false never = absurd (let none = may.1 never n sfile in let e : false ≡ true = sym (ap is_some none) ∙ named in cc)
+
+    own : Allows (IsSafe n) m → IsSafe n u
+    own all =
+        ⊎_elim (λ old. recovers_safe n (view_of m) u sfile old fate (held all) (all (view_of m) (view_image m)))
+        (λ new. recovers_safe n w u sfile new.0 (fate ∙ sym same_w) (λ named. held all (subst (λ (f : Option Fate). IsSome f) same_w named)) (new.1 changes)) known.at
+
+-- what was said of each moment
+moment_known : (x : Action) (n : List ℕ) (m m2 : Model) (w : View) → Allows (AtStep x n (view_of m) w) m2 → LeavesOthers (is_own n) m m2 → ((x.locks ≡ true) × IsHeldIn n m → IsHeldIn n m2) → Allows (StepImage x n m w) m2
+moment_known x n m m2 w at others held = λ u image. (let old = others.images u image in record { at = at u image; before = old.0; image = old.1; same = old.2; held = λ premise. held premise u image })
+
+pub step_images : (x : Action) (n : List ℕ) (a b : Told) (m : Model) (past : List Model) (new : Option Files) (added : List Model) → KeepsFiles x → x.fits n ≡ true → IsCalm m → MayStep x n (view_of m) → a ≡ Tells m past → (x.reads ≡ true → b ≡ a) → StepOthers x n a b
+    → b ≡ Tells (newest added m) (earlier added m past) → Each (Allows (AtStep x n (view_of m) (moved (view_of m) n new))) added m → Each (Allows (KeepsNamesFrom m)) added m
+step_images x n a b m past new added keeps fits calm may told same leaves is at = by x.reads refl
+  where
+    by : (r : Bool) → x.reads ≡ r → Each (Allows (KeepsNamesFrom m)) added m
+    by true reads = subst (λ (xs : List Model). Each (Allows (KeepsNamesFrom m)) xs m) (told_once [] added m past b (same reads ∙ told) is) (images_now m)
+    by false changes = changed (leaves.0 changes m past told)
+      where
+        sfile : IsSfile n
+        sfile = keeps.names changes n fits
+
+        fate : fate_at (moved (view_of m) n new) n ≡ fate_at (view_of m) n
+        fate = others_fate n n (view_of m) (moved (view_of m) n new) sfile (may.0 changes).plain (moved_others n (view_of m) new)
+
+        kept_held : (x.locks ≡ true) × IsHeldIn n m → Each (IsHeldIn n) added m
+        kept_held premise = held_on (leaves.1 changes premise.0 m past told premise.1)
+          where
+            held_on : KeptHeld n m past b → Each (IsHeldIn n) added m
+            held_on kept = subst (λ (xs : List Model). Each (IsHeldIn n) xs m) (told_once kept.added added m past b kept.is is) kept.each
+
+        changed : KeptOthers (is_own n) m past b → Each (Allows (KeepsNamesFrom m)) added m
+        changed kept =
+            let others : Each (LeavesOthers (is_own n) m) added m = subst (λ (xs : List Model). Each (LeavesOthers (is_own n) m) xs m) (told_once kept.added added m past b kept.is is) kept.each in
+            let w : View = moved (view_of m) n new in
+            each_both (λ m2. Allows (AtStep x n (view_of m) w) m2 × LeavesOthers (is_own n) m m2) (λ m2. (x.locks ≡ true) × IsHeldIn n m → IsHeldIn n m2) (Allows (KeepsNamesFrom m)) added m
+            (λ m2 known held u image. step_image x n m w u sfile changes calm may fate (moment_known x n m m2 w known.0 known.1 held u image))
+            (each_both (Allows (AtStep x n (view_of m) w)) (LeavesOthers (is_own n) m) (λ m2. Allows (AtStep x n (view_of m) w) m2 × LeavesOthers (is_own n) m m2) added m (λ m2 one two. (one, two)) at others)
+            (each_under ((x.locks ≡ true) × IsHeldIn n m) (IsHeldIn n) added m kept_held)
 
 -- ---- where a step ends
 
 pub recovers_before : (v : View) (m : Model) (past : List Model) (t : Told) → (ends : EndsBefore v m past t) → Each (Allows (RecoversAs v)) ends.0.added m
 recovers_before v m past t ends = numbered_each (λ i w. KeepsPairs v w) (RecoversAs v) 0 ends.0.added m 0 (λ i w keeps. keeps.recovers) ends.0.numbers
 
-pub images_before : (v : View) (m : Model) (past : List Model) (t : Told) → (ends : EndsBefore v m past t) → Each (Allows (KeepsSafe v)) ends.0.added m
-images_before v m past t ends = each_as (RecoversAs v) (KeepsSafe v) ends.0.added m (λ u recovers. recovers_safe v u recovers) (recovers_before v m past t ends)
+pub at_before : (x : Action) (n : List ℕ) (v w : View) (m : Model) (past : List Model) (t : Told) → (ends : EndsBefore v m past t) → Each (Allows (AtStep x n v w)) ends.0.added m
+at_before x n v w m past t ends = each_as (RecoversAs v) (AtStep x n v w) ends.0.added m (λ u recovers. inl recovers) (recovers_before v m past t ends)
 
--- the name is safe in the view after it too
-safe_at : (v w u : View) (i : ℕ) → KeepsSafe v w → IsAt v w i u → KeepsSafe v u
-safe_at v w u i keeps (inl new) = keeps_then v w u keeps (recovers_safe w u new)
-safe_at v w u i keeps (inr old) = recovers_safe v u old.1
+at_now : (x : Action) (n : List ℕ) (v w u : View) (i : ℕ) → IsSafeFor x n w → IsAt v w i u → AtStep x n v w u
+at_now x n v w u i safe (inl new) = inr (new, safe)
+at_now x n v w u i safe (inr old) = inl old.1
 
-pub images_after : (v w : View) (m : Model) (past : List Model) (t : Told) → (ends : EndsAfter v w m past t) → KeepsSafe v w → Each (Allows (KeepsSafe v)) ends.0.added m
-images_after v w m past t ends keeps = numbered_each (IsAt v w) (KeepsSafe v) 0 ends.0.added m 1 (λ i u at. safe_at v w u i keeps at) ends.0.numbers
+pub at_after : (x : Action) (n : List ℕ) (v w : View) (m : Model) (past : List Model) (t : Told) → (ends : EndsAfter v w m past t) → IsSafeFor x n w → Each (Allows (AtStep x n v w)) ends.0.added m
+at_after x n v w m past t ends safe = numbered_each (IsAt v w) (AtStep x n v w) 0 ends.0.added m 1 (λ i u at. at_now x n v w u i safe at) ends.0.numbers
 
-pub images_within : (v w : View) (m : Model) (past : List Model) (t : Told) → (ends : EndsWithin v w m past t) → KeepsSafe v w ⊎ Each (Allows (RecoversAs v)) ends.0.added m → Each (Allows (KeepsSafe v)) ends.0.added m
-images_within v w m past t ends (inl keeps) = numbered_each (IsAt v w) (KeepsSafe v) 0 ends.0.added m 0 (λ i u at. safe_at v w u i keeps at) ends.0.numbers
-images_within v w m past t ends (inr old) = each_as (RecoversAs v) (KeepsSafe v) ends.0.added m (λ u recovers. recovers_safe v u recovers) old
+pub at_within : (x : Action) (n : List ℕ) (v w : View) (m : Model) (past : List Model) (t : Told) → (ends : EndsWithin v w m past t) → IsSafeFor x n w ⊎ Each (Allows (RecoversAs v)) ends.0.added m → Each (Allows (AtStep x n v w)) ends.0.added m
+at_within x n v w m past t ends (inl safe) = numbered_each (IsAt v w) (AtStep x n v w) 0 ends.0.added m 0 (λ i u at. at_now x n v w u i safe at) ends.0.numbers
+at_within x n v w m past t ends (inr old) = each_as (RecoversAs v) (AtStep x n v w) ends.0.added m (λ u recovers. inl recovers) old

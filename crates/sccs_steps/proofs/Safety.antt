@@ -1,86 +1,137 @@
 -- Safe names stay safe from step to step.
-use Rattle.std.proofs.Common.{◌≡◌, ℕ, Bool, true, false, List, drop, Option, None, Some, refl, sym, subst, ◌∙◌, ⊎_elim}
+use Rattle.std.proofs.Common.{◌≡◌, ℕ, Bool, true, false, List, drop, Option, None, Some, is_some, refl, sym, ap, subst, ◌∙◌, ⊎_elim}
 use Rattle.std.specs.Str.{bytes_eq}
 use Rattle.sccs_base.specs.Name.{IsSfile, p_file, z_file}
-use Rattle.sccs_disk.specs.Files.{Content, Folder, View, put, view_in}
-use Rattle.sccs_disk.proofs.Puts.{name_cases, put_other, put_same}
+use Rattle.sccs_disk.specs.Files.{Content, Folder, View, view_in}
+use Rattle.sccs_disk.proofs.Puts.{name_cases}
 use Rattle.sccs_files.specs.StepFiles.{Alike, Files, moved, moved_in, placed}
 use Rattle.sccs_files.proofs.Folders.{moved_view}
+use Rattle.sccs_intents.specs.Intents.{intent_file}
 use Rattle.sccs_pfile.specs.Recovered.{recovered_pfile}
-use Rattle.sccs_moments.specs.Recovery.{is_kept}
-use Rattle.sccs_moments.proofs.FileNames.{from_sfile, kept_p, kept_s, kept_z, siblings_differ, to_s, to_sfile}
+use Rattle.sccs_moments.specs.Recovery.{IsSound, Pair, RecoversAs, fate_at, is_kept, pair_of, recover}
+use Rattle.sccs_moments.proofs.Recovering.{LooksAlike, fate_same, recovered_alike, recovered_is, sound_pair}
 use Rattle.sccs_steps.specs.Actions.{Action, KeepsFiles}
-use Rattle.sccs_steps.specs.StepStops.{ArePaired, IsSafe, IsSafeFor}
-use Rattle.sccs_steps.specs.ListStops.{KeepsSafe, Spares, StaySafe}
+use Rattle.sccs_steps.specs.StepStops.{ArePaired, IsPaired, IsSafe, IsSafeFor, MayStep}
+use Rattle.sccs_steps.specs.ListStops.{KeepsNames, KeepsSafe, Spares, StaySafe}
+use Rattle.sccs_steps.proofs.Carried.{moved_others, moved_p, moved_s, others_fate, others_look}
 
 -- ---- views
 
--- the same s-file, p-file and z-file
-pub same_safe : (n : List ℕ) (u v : View) → u n ≡ v n → u (p_file n) ≡ v (p_file n) → u (z_file n) ≡ v (z_file n) → IsSafe n u → IsSafe n v
-same_safe n u v s p z safe = record {
-  plain = safe.plain;
-  sound = λ none. subst (λ (o : Option Content). recovered_pfile o (v (p_file n)) ≡ v (p_file n)) s (subst (λ (o : Option Content). recovered_pfile (u n) o ≡ o) p (safe.sound (z ∙ none)));
-  paired = λ none. sym p ∙ safe.paired (s ∙ none);
+pub none_of : (o : Option Content) → is_some o ≡ false → o ≡ None
+none_of None is = refl
+none_of (Some c) is = cc
+
+-- what recovers to the same pair
+pub pair_paired : (n : List ℕ) (u v : View) → pair_of (recover n v) n ≡ pair_of (recover n u) n → IsPaired n (recover n u) → IsPaired n (recover n v)
+pair_paired n u v same paired = subst (λ (x : Pair). ArePaired x.s x.p) (sym same) paired
+
+-- where recovery leaves the pair
+pub sound_paired : (n : List ℕ) (v : View) → IsSfile n → IsSound n v → IsPaired n v → IsPaired n (recover n v)
+sound_paired n v sfile sound paired = subst (λ (x : Pair). ArePaired x.s x.p) (sym (sound_pair n v sfile sound)) paired
+
+-- a safe name that isn't locked has no p-file without an s-file
+pub paired_now : (n : List ℕ) (v : View) → IsSfile n → v (z_file n) ≡ None → IsSafe n v → IsPaired n v
+paired_now n v sfile free safe = subst (λ (x : Pair). ArePaired x.s x.p) (sound_pair n v sfile (safe.sound free)) safe.paired
+
+sound_same : (n : List ℕ) (u v : View) → u n ≡ v n → u (p_file n) ≡ v (p_file n) → fate_at v n ≡ fate_at u n → IsSound n u → IsSound n v
+sound_same n u v s p fate sound = record {
+  entries = subst (λ (o : Option Content). recovered_pfile o (v (p_file n)) ≡ v (p_file n)) s (subst (λ (o : Option Content). recovered_pfile (u n) o ≡ o) p sound.entries);
+  unnamed = fate ∙ sound.unnamed;
 }
 
-pub alike_safe : (work : List ℕ → Bool) (n : List ℕ) (u v : View) → Spares work → IsSfile n → Alike work u v → IsSafe n u → IsSafe n v
-alike_safe work n u v spares sfile alike safe = same_safe n u v (alike n (spares.s n sfile)) (alike (p_file n) (spares.p n sfile)) (alike (z_file n) (spares.z n sfile)) safe
+-- the same files at which recovery looks
+pub same_safe : (n : List ℕ) (u v : View) → IsSfile n → LooksAlike n u v → IsSafe n u → IsSafe n v
+same_safe n u v sfile looks safe = record {
+  plain = safe.plain;
+  sound = λ none. sound_same n u v (sym looks.s) (sym looks.p) looks.fate (safe.sound (none_of (u (z_file n)) (sym looks.z ∙ ap is_some none)));
+  paired = pair_paired n u v (recovered_is n v sfile ∙ (recovered_alike n u v looks ∙ sym (recovered_is n u sfile))) safe.paired;
+}
 
--- new files of a name
-pub placed_safe : (n : List ℕ) (v : View) (f : Files) → IsSfile n → is_kept (drop 2 n) ≡ false → recovered_pfile f.s f.p ≡ f.p → ArePaired f.s f.p → IsSafe n (placed v n f)
-placed_safe n v f sfile plain sound paired =
-    let u : View = put (put v (z_file n) f.z) (drop 2 n) f.g in
-    let s : placed v n f n ≡ f.s = put_same (put u (p_file n) f.p) n f.s in
-    let p : placed v n f (p_file n) ≡ f.p = put_other (put u (p_file n) f.p) n (p_file n) f.s (to_s 112 n sfile refl) ∙ put_same u (p_file n) f.p in
-    record {
-      plain = plain;
-      sound = λ none. subst (λ (o : Option Content). recovered_pfile o (placed v n f (p_file n)) ≡ placed v n f (p_file n)) (sym s) (subst (λ (o : Option Content). recovered_pfile f.s o ≡ o) (sym p) sound);
-      paired = λ none. p ∙ paired (sym s ∙ none);
+-- views that are alike but for working files, and recover alike
+pub alike_safe : (work : List ℕ → Bool) (n : List ℕ) (u v : View) → Spares work → IsSfile n → Alike work u v → RecoversAs u v → IsSafe n u → IsSafe n v
+alike_safe work n u v spares sfile alike recovers safe = record {
+  plain = safe.plain;
+  sound = λ none. sound_same n u v (alike n (spares.s n sfile)) (alike (p_file n) (spares.p n sfile)) (fate_same n u v (sym (alike intent_file spares.intent)))
+      (safe.sound (alike (z_file n) (spares.z n sfile) ∙ none));
+  paired = pair_paired n u v (recovers n sfile) safe.paired;
+}
+
+-- new files of a name that no intent names
+pub placed_safe : (n : List ℕ) (v : View) (f : Files) → IsSfile n → is_kept (drop 2 n) ≡ false → fate_at v n ≡ None → recovered_pfile f.s f.p ≡ f.p → ArePaired f.s f.p → IsSafe n (placed v n f)
+placed_safe n v f sfile plain free entries paired = record {
+  plain = plain;
+  sound = λ none. sound;
+  paired = sound_paired n (placed v n f) sfile sound (λ none. moved_p n f v sfile ∙ paired (sym (moved_s n f v) ∙ none));
+}
+  where
+    sound : IsSound n (placed v n f)
+    sound = record {
+      entries = subst (λ (o : Option Content). recovered_pfile o (placed v n f (p_file n)) ≡ placed v n f (p_file n)) (sym (moved_s n f v)) (subst (λ (o : Option Content). recovered_pfile f.s o ≡ o) (sym (moved_p n f v sfile)) entries);
+      unnamed = others_fate n n v (placed v n f) sfile plain (moved_others n v (Some f)) ∙ free;
     }
 
 -- new files of another name
-other_placed : (n k : List ℕ) (v : View) (f : Files) → IsSfile n → IsSfile k → is_kept (drop 2 n) ≡ false → bytes_eq n k ≡ false → IsSafe k v → IsSafe k (placed v n f)
-other_placed n k v f sfile other plain apart safe =
-    let z : View = put v (z_file n) f.z in
-    let g : View = put z (drop 2 n) f.g in
-    let p : View = put g (p_file n) f.p in
-    same_safe k v (placed v n f)
-    (sym (put_other p n k f.s apart ∙ (put_other g (p_file n) k f.p (from_sfile 112 n k other refl) ∙ (put_other z (drop 2 n) k f.g (kept_s (drop 2 n) k plain other) ∙ put_other v (z_file n) k f.z (from_sfile 122 n k other refl)))))
-    (sym (put_other p n (p_file k) f.s (to_sfile 112 n k sfile refl) ∙ (put_other g (p_file n) (p_file k) f.p (siblings_differ 112 n k sfile other apart) ∙ (put_other z (drop 2 n) (p_file k) f.g (kept_p (drop 2 n) k plain other) ∙ put_other v (z_file n) (p_file k) f.z refl))))
-    (sym (put_other p n (z_file k) f.s (to_sfile 122 n k sfile refl) ∙ (put_other g (p_file n) (z_file k) f.p refl ∙ (put_other z (drop 2 n) (z_file k) f.g (kept_z (drop 2 n) k plain other) ∙ put_other v (z_file n) (z_file k) f.z (siblings_differ 122 n k sfile other apart)))))
-    safe
-
 other_moved : (n k : List ℕ) (v : View) (new : Option Files) → IsSfile n → IsSfile k → is_kept (drop 2 n) ≡ false → bytes_eq n k ≡ false → IsSafe k v → IsSafe k (moved v n new)
-other_moved n k v None sfile other plain apart safe = safe
-other_moved n k v (Some f) sfile other plain apart safe = other_placed n k v f sfile other plain apart safe
+other_moved n k v new sfile other plain apart safe = same_safe k v (moved v n new) other (others_look n k v (moved v n new) sfile other plain apart (moved_others n v new)) safe
 
 -- ---- names
 
--- after the step of a name all that were safe are safe, where it is
-pub stay_moved : (x : Action) (n : List ℕ) (v : View) (new : Option Files) → KeepsFiles x → x.fits n ≡ true → IsSafeFor x n v → IsSafeFor x n (moved v n new) → StaySafe x v (moved v n new)
-stay_moved x n v new keeps fits before own = λ k taken safe changes.
-    ⊎_elim (λ e. subst (λ l. IsSafe l (moved v n new)) e (own changes))
-    (λ apart. other_moved n k v new (keeps.names changes n fits) (keeps.names changes k taken) (before changes).plain apart (safe changes)) (name_cases n k)
+-- a step leaves the intent
+pub moved_fate : (x : Action) (n k : List ℕ) (v : View) (new : Option Files) → KeepsFiles x → x.fits n ≡ true → (x.reads ≡ true → new ≡ None) → IsSafeFor x n v → fate_at (moved v n new) k ≡ fate_at v k
+moved_fate x n k v new keeps fits quiet before = by x.reads refl
+  where
+    by : (b : Bool) → x.reads ≡ b → fate_at (moved v n new) k ≡ fate_at v k
+    by true reads = ap (λ (f : Option Files). fate_at (moved v n f) k) (quiet reads)
+    by false changes = others_fate n k v (moved v n new) (keeps.names changes n fits) (before changes).plain (moved_others n v new)
 
--- the same of every s-file's name, also where nothing changes
-pub keeps_moved : (x : Action) (n : List ℕ) (v : View) (new : Option Files) → KeepsFiles x → x.fits n ≡ true → (x.reads ≡ true → new ≡ None) → IsSafeFor x n v → IsSafeFor x n (moved v n new) → KeepsSafe v (moved v n new)
-keeps_moved x n v new keeps fits none before own = by x.reads refl
+-- after the step of a name all that were safe are safe, where it is
+pub stay_moved : (x : Action) (n : List ℕ) (v : View) (new : Option Files) → KeepsFiles x → x.fits n ≡ true → (x.reads ≡ true → new ≡ None) → IsSafeFor x n v → IsSafeFor x n (moved v n new) → StaySafe x v (moved v n new)
+stay_moved x n v new keeps fits quiet before own = λ k taken may. (
+  λ changes.
+      ⊎_elim (λ e. subst (λ l. IsSafe l (moved v n new)) e (own changes))
+      (λ apart. other_moved n k v new (keeps.names changes n fits) (keeps.names changes k taken) (before changes).plain apart (may.0 changes)) (name_cases n k),
+  λ never l other. moved_fate x n l v new keeps fits quiet before ∙ may.1 never l other,
+)
+
+safe_moved : (x : Action) (n : List ℕ) (v : View) (new : Option Files) → KeepsFiles x → x.fits n ≡ true → (x.reads ≡ true → new ≡ None) → IsSafeFor x n v → IsSafeFor x n (moved v n new) → KeepsSafe v (moved v n new)
+safe_moved x n v new keeps fits none before own = by x.reads refl
   where
     by : (b : Bool) → x.reads ≡ b → KeepsSafe v (moved v n new)
     by true reads = subst (λ (f : Option Files). KeepsSafe v (moved v n f)) (sym (none reads)) (λ k sfile safe. safe)
     by false changes = λ k sfile safe.
         ⊎_elim (λ e. subst (λ l. IsSafe l (moved v n new)) e (own changes)) (λ apart. other_moved n k v new (keeps.names changes n fits) sfile (before changes).plain apart safe) (name_cases n k)
 
-pub stay_folder : (x : Action) (m : Folder) (n : List ℕ) (new : Option Files) → KeepsFiles x → x.fits n ≡ true → IsSafeFor x n (view_in m) → IsSafeFor x n (view_in (moved_in m n new)) → StaySafe x (view_in m) (view_in (moved_in m n new))
-stay_folder x m n new keeps fits before own =
-    subst (λ (v : View). StaySafe x (view_in m) v) (sym (moved_view m n new)) (stay_moved x n (view_in m) new keeps fits before (subst (λ (v : View). IsSafeFor x n v) (moved_view m n new) own))
+-- the same of every s-file's name, also where nothing changes
+pub keeps_moved : (x : Action) (n : List ℕ) (v : View) (new : Option Files) → KeepsFiles x → x.fits n ≡ true → (x.reads ≡ true → new ≡ None) → IsSafeFor x n v → IsSafeFor x n (moved v n new) → KeepsNames v (moved v n new)
+keeps_moved x n v new keeps fits quiet before own = record {
+  safe = safe_moved x n v new keeps fits quiet before own;
+  none = λ none k other. moved_fate x n k v new keeps fits quiet before ∙ none k other;
+}
+
+pub stay_folder : (x : Action) (m : Folder) (n : List ℕ) (new : Option Files) → KeepsFiles x → x.fits n ≡ true → (x.reads ≡ true → new ≡ None) → IsSafeFor x n (view_in m) → IsSafeFor x n (view_in (moved_in m n new)) → StaySafe x (view_in m) (view_in (moved_in m n new))
+stay_folder x m n new keeps fits quiet before own =
+    subst (λ (v : View). StaySafe x (view_in m) v) (sym (moved_view m n new)) (stay_moved x n (view_in m) new keeps fits quiet before (subst (λ (v : View). IsSafeFor x n v) (moved_view m n new) own))
+
+pub keeps_folder : (x : Action) (m : Folder) (n : List ℕ) (new : Option Files) → KeepsFiles x → x.fits n ≡ true → (x.reads ≡ true → new ≡ None) → IsSafeFor x n (view_in m) → IsSafeFor x n (view_in (moved_in m n new)) → KeepsNames (view_in m) (view_in (moved_in m n new))
+keeps_folder x m n new keeps fits quiet before own =
+    subst (λ (v : View). KeepsNames (view_in m) v) (sym (moved_view m n new)) (keeps_moved x n (view_in m) new keeps fits quiet before (subst (λ (v : View). IsSafeFor x n v) (moved_view m n new) own))
 
 pub stay_same : (x : Action) (v : View) → StaySafe x v v
-stay_same x v = λ n fits safe. safe
+stay_same x v = λ n fits may. may
+
+pub keeps_same : (v : View) → KeepsNames v v
+keeps_same v = record { safe = λ n sfile safe. safe; none = λ none. none }
 
 pub stay_on : (x : Action) (u v w : View) → StaySafe x u v → StaySafe x v w → StaySafe x u w
-stay_on x u v w first second = λ n fits safe. second n fits (first n fits safe)
+stay_on x u v w first second = λ n fits may. second n fits (first n fits may)
+
+pub keeps_then : (u v w : View) → KeepsNames u v → KeepsNames v w → KeepsNames u w
+keeps_then u v w first next = record { safe = λ n sfile safe. next.safe n sfile (first.safe n sfile safe); none = λ none. next.none (first.none none) }
 
 -- the folder's view and the one that is told
-pub told_safe : (x : Action) (work : List ℕ → Bool) (n : List ℕ) (u v : View) → KeepsFiles x → x.fits n ≡ true → Spares work → Alike work u v → IsSafeFor x n u → IsSafeFor x n v
-told_safe x work n u v keeps fits spares alike safe = λ changes. alike_safe work n u v spares (keeps.names changes n fits) alike (safe changes)
+pub told_safe : (x : Action) (work : List ℕ → Bool) (n : List ℕ) (u v : View) → KeepsFiles x → x.fits n ≡ true → Spares work → Alike work u v → RecoversAs u v → IsSafeFor x n u → IsSafeFor x n v
+told_safe x work n u v keeps fits spares alike recovers safe = λ changes. alike_safe work n u v spares (keeps.names changes n fits) alike recovers (safe changes)
+
+pub told_may : (x : Action) (work : List ℕ → Bool) (n : List ℕ) (u v : View) → KeepsFiles x → x.fits n ≡ true → Spares work → Alike work u v → RecoversAs u v → MayStep x n u → MayStep x n v
+told_may x work n u v keeps fits spares alike recovers may =
+    (told_safe x work n u v keeps fits spares alike recovers may.0, λ never k other. fate_same k u v (sym (alike intent_file spares.intent)) ∙ may.1 never k other)

@@ -1,5 +1,5 @@
 -- What a stop leaves of the steps of things that are done in turn.
-use Rattle.std.proofs.Common.{◌≡◌, ℕ, ◌+◌, ◌<◌, ◌≤◌, Bool, List, ◌++◌, drop, get_or, length, Result, Ok, Err, refl, sym, ap, subst, ◌∙◌, append_assoc, arith, length-append}
+use Rattle.std.proofs.Common.{◌≡◌, ◌≢◌, ℕ, ◌+◌, ◌<◌, ◌≤◌, Bool, List, ◌++◌, drop, get_or, length, Result, Ok, Err, refl, sym, ap, subst, ◌∙◌, append_assoc, arith, length-append}
 use Rattle.std.proofs.Math.ListN.{drop_of_length-le}
 use Rattle.std.proofs.lemmas.List.{append-nil}
 use Rattle.sccs_disk.specs.Files.{Folder, Model, View, view_in, view_of}
@@ -7,19 +7,19 @@ use Rattle.sccs_disk.specs.Images.{Allows}
 use Rattle.sccs_disk.specs.Told.{Tells, seen}
 use Rattle.sccs_files.specs.StepFiles.{Shows}
 use Rattle.sccs_images.specs.Touches.{Each, earlier, newest}
-use Rattle.sccs_moments.specs.Calm.{IsCalm}
+use Rattle.sccs_moments.specs.Recovery.{RecoversAs}
 use Rattle.sccs_steps.specs.Actions.{Action, AreClear}
 use Rattle.sccs_steps.specs.Calls.{Scene, shown}
-use Rattle.sccs_steps.specs.ListStops.{AreSafe, KeepsSafe, ListMoments, RunMoments, Spares, StaySafe, view_at}
+use Rattle.sccs_steps.specs.ListStops.{AreSafe, KeepsNames, KeepsNamesFrom, ListMoments, MayBegin, RunMoments, Spares, StaySafe, view_at}
 use Rattle.sccs_steps.specs.StepLists.{NamedStep, Runs, SoFar, folder_after, in_turn}
 use Rattle.sccs_steps.specs.declared.faults.Fault.{Fault}
+use Rattle.sccs_steps.specs.declared.faults.Fault.TheVariants.{DiskFault}
 use Rattle.sccs_steps.specs.Statuses.{idle_status, joined_status}
 use Rattle.sccs_steps.proofs.JoinedSteps.{after_more, begins, goes_on}
 use Rattle.sccs_steps.proofs.Fronts.{view_all, view_front, view_past}
 use Rattle.sccs_steps.proofs.MomentLists.{moments_more, moments_none, moments_then, run_moments}
-use Rattle.sccs_steps.proofs.NameStops.{alike_told}
 use Rattle.sccs_steps.proofs.SafeImages.{images_now, images_then}
-use Rattle.sccs_steps.proofs.Safety.{stay_on, stay_same}
+use Rattle.sccs_steps.proofs.Safety.{keeps_same, keeps_then, stay_on, stay_same}
 use Rattle.sccs_steps.proofs.Turns.{each_all, next_all, next_turn}
 
 -- The steps of the first things are made: their moments, and the names that are safe still.
@@ -27,12 +27,13 @@ pub record StopsSoFar (x : Action) (w : List ℕ → Bool) (folder : Folder) (al
   pub so : SoFar x.rule w folder all left status (shown a) (shown b)
   pub list : ListMoments w (Ok status) folder so.made a b m past
   pub safe : StaySafe x (view_in folder) (view_in (folder_after folder so.made))
-  pub images : Each (Allows (KeepsSafe (view_of m))) list.went.added m
+  pub keeps : KeepsNames (view_in folder) (view_in (folder_after folder so.made))
+  pub images : Each (Allows (KeepsNamesFrom m)) list.went.added m
 
-pub stops_begin : (x : Action) (w : List ℕ → Bool) (folder : Folder) (left : Folder → List NamedStep) (status : ℕ) (a : Scene) (m : Model) (past : List Model) → status ≡ idle_status x.rule → Spares w → Shows w (seen a.told) (view_in folder) → a.told ≡ Tells m past → IsCalm m
+pub stops_begin : (x : Action) (w : List ℕ → Bool) (folder : Folder) (left : Folder → List NamedStep) (status : ℕ) (a : Scene) (m : Model) (past : List Model) → status ≡ idle_status x.rule → Spares w → Shows w (seen a.told) (view_in folder) → a.told ≡ Tells m past → MayBegin folder m
     → StopsSoFar x w folder (left folder) left status a a m past
 stops_begin x w folder left status a m past idle spares shows is calm =
-    record { so = begins x.rule w folder left status (shown a) idle shows; list = moments_none w status folder a m past spares is calm (alike_told w folder a.told m past is shows) shows; safe = stay_same x (view_in folder); images = images_now m calm }
+    record { so = begins x.rule w folder left status (shown a) idle shows; list = moments_none w status folder a m past is calm shows; safe = stay_same x (view_in folder); keeps = keeps_same (view_in folder); images = images_now m }
 
 -- another status
 abbrev pub ok_moments : (w : List ℕ → Bool) (s s2 : ℕ) (folder : Folder) (ts : List NamedStep) (a b : Scene) (m : Model) (past : List Model) → ListMoments w (Ok s) folder ts a b m past → ListMoments w (Ok s2) folder ts a b m past
@@ -45,12 +46,20 @@ ok_moments w s s2 folder ts a b m past l = record {
   all = λ ok. l.all refl;
   calm = λ other. l.calm (λ is. cc);
   committed = λ other. l.committed (λ is. cc);
+  recovers = λ other. l.recovers (λ is. cc);
   firm = l.firm;
 }
 
 -- the next one, on the disk as it is now
 abbrev pub NextMoments : Action → (List ℕ → Bool) → (Folder → List ℕ → List NamedStep) → List ℕ → Result ℕ Fault → Scene → Scene → Type 0
-NextMoments x w steps thing r b c = (u : Folder) (m : Model) (past : List Model) → AreClear x w (steps u thing) → Shows w (seen b.told) (view_in u) → b.told ≡ Tells m past → IsCalm m → AreSafe x (steps u thing) (view_in u) → RunMoments x w r u (steps u thing) b c m past
+NextMoments x w steps thing r b c = (u : Folder) (m : Model) (past : List Model) → AreClear x w (steps u thing) → Shows w (seen b.told) (view_in u) → b.told ≡ Tells m past → MayBegin u m → AreSafe x (steps u thing) (view_in u) → RunMoments x w r u (steps u thing) b c m past
+
+-- behind all of some steps the next may begin
+may_now : (folder : Folder) (ts : List NamedStep) (w : List ℕ → Bool) (r : Result ℕ Fault) (a b : Scene) (m : Model) (past : List Model) → (list : ListMoments w r folder ts a b m past) → r ≢ Err DiskFault → list.number ≡ length ts → MayBegin (folder_after folder ts) (newest list.went.added m)
+may_now folder ts w r a b m past list other all = record {
+  calm = list.calm other;
+  recovers = subst (λ (v : View). RecoversAs v (view_of (newest list.went.added m))) (view_all folder ts list.number all) (list.recovers other);
+}
 
 next_moments : (x : Action) (w : List ℕ → Bool) (folder : Folder) (steps : Folder → List ℕ → List NamedStep) (things : List (List ℕ)) (k status : ℕ) (r : Result ℕ Fault) (item thing : List ℕ) (a b c : Scene) (m : Model) (past : List Model) → thing ≡ get_or things k item → k < length things
     → AreClear x w (in_turn steps folder things) → AreSafe x (in_turn steps folder things) (view_in folder) → (far : StopsSoFar x w folder (in_turn steps folder things) (λ u. in_turn steps u (drop k things)) status a b m past) → NextMoments x w steps thing r b c
@@ -58,7 +67,7 @@ next_moments : (x : Action) (w : List ℕ → Bool) (folder : Folder) (steps : F
 next_moments x w folder steps things k status r item thing a b c m past is below clear safe far next =
     let u : Folder = folder_after folder far.so.made in
     subst (λ t. RunMoments x w r u (steps u t) b c (newest far.list.went.added m) (earlier far.list.went.added m past)) is
-    (next u (newest far.list.went.added m) (earlier far.list.went.added m past) (next_all x.rule _ w folder steps things k status item thing (shown a) (shown b) is below far.so clear) far.so.ran.view far.list.went.is (far.list.calm (λ is. cc))
+    (next u (newest far.list.went.added m) (earlier far.list.went.added m past) (next_all x.rule _ w folder steps things k status item thing (shown a) (shown b) is below far.so clear) far.so.ran.view far.list.went.is (may_now folder far.so.made w (Ok status) a b m past far.list (λ is. cc) (far.list.all refl))
     (each_all _ _ (steps u thing) (λ t before fits. far.safe t.name fits (before fits)) (next_all x.rule _ w folder steps things k status item thing (shown a) (shown b) is below far.so safe)))
 
 pub stops_on : (x : Action) (w : List ℕ → Bool) (folder : Folder) (steps : Folder → List ℕ → List NamedStep) (things : List (List ℕ)) (k status one : ℕ) (item thing : List ℕ) (a b c : Scene) (m : Model) (past : List Model) → thing ≡ get_or things k item → k < length things
@@ -83,6 +92,10 @@ stops_on x w folder steps things k status one item thing a b c m past is below c
           subst (λ (u : Folder). StaySafe x (view_in folder) (view_in u)) (sym (after_more folder far.so.made (steps (folder_after folder far.so.made) (get_or things k item))))
           (stay_on x (view_in folder) (view_in (folder_after folder far.so.made)) (view_in (folder_after (folder_after folder far.so.made) (steps (folder_after folder far.so.made) (get_or things k item)))) far.safe
           (subst (λ (v : View). StaySafe x (view_in (folder_after folder far.so.made)) v) (view_all (folder_after folder far.so.made) (steps (folder_after folder far.so.made) (get_or things k item)) next.list.number (next.list.all refl)) (next.safe (λ other. cc))));
+      keeps =
+          subst (λ (u : Folder). KeepsNames (view_in folder) (view_in u)) (sym (after_more folder far.so.made (steps (folder_after folder far.so.made) (get_or things k item))))
+          (keeps_then (view_in folder) (view_in (folder_after folder far.so.made)) (view_in (folder_after (folder_after folder far.so.made) (steps (folder_after folder far.so.made) (get_or things k item)))) far.keeps
+          (subst (λ (v : View). KeepsNames (view_in (folder_after folder far.so.made)) v) (view_all (folder_after folder far.so.made) (steps (folder_after folder far.so.made) (get_or things k item)) next.list.number (next.list.all refl)) (next.keeps (λ other. cc))));
       images = images_then next.list.went.added far.list.went.added m far.images next.images;
     }
 
@@ -109,13 +122,17 @@ stops_early x w folder steps things k status fault item thing a b c m past is be
         (λ other. subst (λ (v : View). StaySafe x (view_in folder) v)
         (sym (view_front folder (far.so.made ++ more) rest (length far.so.made + next.list.number) (let low = next.list.most in omega (arith, low, length-append far.so.made more)) ∙ view_past folder far.so.made more next.list.number))
         (stay_on x (view_in folder) (view_in u) (view_at u more next.list.number) far.safe (next.safe other)))
+        (λ other. subst (λ (v : View). KeepsNames (view_in folder) v)
+        (sym (view_front folder (far.so.made ++ more) rest (length far.so.made + next.list.number) (let low = next.list.most in omega (arith, low, length-append far.so.made more)) ∙ view_past folder far.so.made more next.list.number))
+        (keeps_then (view_in folder) (view_in u) (view_at u more next.list.number) far.keeps (next.keeps other)))
         (images_then next.list.went.added far.list.went.added m far.images next.images))
 
 pub stops_end : (x : Action) (w : List ℕ → Bool) (folder : Folder) (steps : Folder → List ℕ → List NamedStep) (things : List (List ℕ)) (k status : ℕ) (a b : Scene) (m : Model) (past : List Model) → length things ≤ k → StopsSoFar x w folder (in_turn steps folder things) (λ u. in_turn steps u (drop k things)) status a b m past
     → RunMoments x w (Ok status) folder (in_turn steps folder things) a b m past
 stops_end x w folder steps things k status a b m past all far =
     subst (λ (ts : List NamedStep). RunMoments x w (Ok status) folder ts a b m past) is
-    (run_moments x w (Ok status) folder far.so.made a b m past far.list (λ other. subst (λ (v : View). StaySafe x (view_in folder) v) (sym (view_all folder far.so.made far.list.number (far.list.all refl))) far.safe) far.images)
+    (run_moments x w (Ok status) folder far.so.made a b m past far.list (λ other. subst (λ (v : View). StaySafe x (view_in folder) v) (sym (view_all folder far.so.made far.list.number (far.list.all refl))) far.safe)
+    (λ other. subst (λ (v : View). KeepsNames (view_in folder) v) (sym (view_all folder far.so.made far.list.number (far.list.all refl))) far.keeps) far.images)
   where
     is : far.so.made ≡ in_turn steps folder things
     is = sym (append-nil far.so.made) ∙ (ap (λ (ts : List NamedStep). far.so.made ++ ts) (sym (ap (λ (rest : List (List ℕ)). in_turn steps (folder_after folder far.so.made) rest) (drop_of_length-le things all))) ∙ sym far.so.is)

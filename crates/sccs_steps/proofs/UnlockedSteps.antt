@@ -1,11 +1,14 @@
 -- Steps that change names which weren't locked.
 use Rattle.std.proofs.Common.{◌≡◌, ℕ, ◌<◌, Bool, true, false, List, [], ◌∷◌, drop, length, get_or, Option, IfSome, Result, Ok, inl, refl, sym, subst}
 use Rattle.std.specs.List.{filter}
+use Rattle.std.specs.Prelude.{IsSome}
+use Rattle.sccs_images.specs.Touches.{Each}
 use Rattle.sccs_base.specs.Constants.{file_limit}
-use Rattle.sccs_disk.specs.Files.{Folder, view_in}
+use Rattle.sccs_base.specs.Name.{z_file}
+use Rattle.sccs_disk.specs.Files.{Content, Folder, Model, view_in}
 use Rattle.sccs_disk.specs.Told.{Told, seen}
 use Rattle.sccs_files.specs.StepFiles.{Shows}
-use Rattle.sccs_moments.specs.Unlocked.{BeginsUnlockedBut}
+use Rattle.sccs_moments.specs.Unlocked.{BeginsUnlockedBut, IsHeldIn, KeepsHeldIn, KeepsOthers, KeptHeld, KeptOthers, LeavesOthers}
 use Rattle.sccs_moments.proofs.Unlocked.{unlocked_same}
 use Rattle.sccs_moments.proofs.UnlockedBut.{but_of, but_own, but_same, but_then}
 use Rattle.sccs_operands.specs.FolderNames.{HasSfilesOf, sfiles_in}
@@ -21,6 +24,20 @@ use Rattle.sccs_steps.specs.declared.operands.OperandKind.TheVariants.{FromInput
 use Rattle.sccs_steps.proofs.KindLaws.{here_names, input_names}
 use Rattle.sccs_steps.proofs.Turns.{next_all}
 
+each_as : (P Q : Model → Type 0) (added : List Model) (m : Model) → ((m2 : Model) → P m2 → Q m2) → Each P added m → Each Q added m
+each_as P Q [] m as_q each = as_q m each
+each_as P Q (a ∷ added) m as_q each = (as_q a each.0, each_as P Q added m as_q each.1)
+
+-- a call that leaves the z-file of a name leaves the name held
+pub others_hold : (mine : List ℕ → Bool) (n : List ℕ) (a b : Told) → mine (z_file n) ≡ false → KeepsOthers mine a b → KeepsHeldIn n a b
+others_hold mine n a b other keeps = λ m past is held. by m past held (keeps m past is)
+  where
+    hold : (m m2 : Model) → IsHeldIn n m → LeavesOthers mine m m2 → IsHeldIn n m2
+    hold m m2 held leaves = λ w image. (let old = leaves.images w image in subst (λ (o : Option Content). IsSome o) (sym (old.2 (z_file n) other)) (held old.0 old.1))
+
+    by : (m : Model) (past : List Model) → IsHeldIn n m → KeptOthers mine m past b → KeptHeld n m past b
+    by m past held kept = record { added = kept.added; is = kept.is; each = each_as (LeavesOthers mine m) (IsHeldIn n) kept.added m (λ m2 leaves. hold m m2 held leaves) kept.each }
+
 -- what changes no file
 pub unlocked_reading : (x : Action) (n : List ℕ) (a b : Told) → b ≡ a → StepUnlocked x n a b
 unlocked_reading x n a b same locks plain = unlocked_same a b same
@@ -33,7 +50,7 @@ one_by : (x : Action) (n : List ℕ) (exempt : List ℕ → Bool) (a b : Told) (
     → StepUnlocked x n a b → StepOthers x n a b → IsPlainFor x n → (x.locks ≡ false → exempt n ≡ true) → BeginsUnlockedBut exempt a b
 one_by x n exempt a b true reads l r keeps fits same step others plain is = but_of exempt a b (step l plain)
 one_by x n exempt a b false true l r keeps fits same step others plain is = but_same exempt a b (same r)
-one_by x n exempt a b false false l r keeps fits same step others plain is = but_own exempt n a b (keeps.names r n fits) (plain r) (is l) (others l)
+one_by x n exempt a b false false l r keeps fits same step others plain is = but_own exempt n a b (keeps.names r n fits) (plain r) (is l) (others.0 r)
 
 pub one_unlocked : (x : Action) (n name : List ℕ) (given : List ℕ → Type 0) (a b : Told) → KeepsFiles x → x.fits n ≡ true → name ≡ n → (x.reads ≡ true → b ≡ a) → StepUnlocked x name a b → StepOthers x name a b
     → UnlockedBy x (λ folder i. step_at x folder i n ∷ []) given a b

@@ -1,5 +1,5 @@
 -- What a utility does with its operands, in their order.
-use Rattle.std.specs.Prelude.{◌≡◌, ℕ, ◌≤◌, nat_lt, ◌==◌, length, Bool, true, false, ◌||◌, ◌⊎◌, List, [], ◌∷◌, drop, map, Option, None, Some, Result, Ok, Err, IfSome, codes, if◌then◌else◌}
+use Rattle.std.specs.Prelude.{◌≡◌, ℕ, ◌≤◌, nat_lt, ◌==◌, length, Bool, true, false, ◌||◌, ◌⊎◌, List, [], ◌∷◌, drop, map, Option, None, Some, Result, Ok, Err, IfSome, IsSome, codes, if◌then◌else◌}
 use Rattle.std.specs.List.{AllByRecursion, filter, list_any}
 use Rattle.std.specs.Str.{bytes_eq}
 use Rattle.sccs_base.specs.Constants.{file_limit}
@@ -120,10 +120,19 @@ SteppedAs code x r n left a b = IfSome (seen a.told) (λ v. (i : List ℕ) → I
 abbrev pub Stepped : Action → Result (Unit {0}) StepFault → List ℕ → Option (List ℕ) → Scene → Scene → Type 0
 Stepped x r n left a b = SteppedAs (λ (done : Unit {0}). 0) x r n left a b
 
--- An action that only reads changes no file, and one that changes files takes the names of s-files alone.
+-- What is new of a name whose z-file is there leaves the s-file, the p-file and the z-file as they are.
+pub record LeavesLocked (f g : Files) : Type 0 where
+  pub s : g.s ≡ f.s
+  pub p : g.p ≡ f.p
+  pub z : g.z ≡ f.z
+
+-- An action that only reads changes no file, and one that changes files takes the names of s-files alone; one that locks its name
+-- leaves the files of a locked one.
 pub record KeepsFiles (x : Action) : Type 0 where
   pub quiet : x.reads ≡ true → (n i : List ℕ) (named : List (Option Content)) (f : Files) (d : StepEffect) → x.step n i named f ≡ Ok d → d.new ≡ None
   pub names : x.reads ≡ false → (n : List ℕ) → x.fits n ≡ true → IsSfile n
+  pub locked : x.reads ≡ false → x.locks ≡ true → (n i : List ℕ) (named : List (Option Content)) (f : Files) (d : StepEffect)
+      → x.step n i named f ≡ Ok d → IsSome f.z → (g : Files) → d.new ≡ Some g → LeavesLocked f g
 
 -- The files that a step sees are no working files.
 pub record IsSeen (w : List ℕ → Bool) (n : List ℕ) : Type 0 where

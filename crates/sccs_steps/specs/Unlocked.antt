@@ -3,7 +3,7 @@ use Rattle.std.specs.Prelude.{◌≡◌, ℕ, Bool, true, false, List, drop}
 use Rattle.std.specs.List.{AllByRecursion}
 use Rattle.sccs_disk.specs.Told.{Told}
 use Rattle.sccs_moments.specs.Recovery.{is_kept}
-use Rattle.sccs_moments.specs.Unlocked.{BeginsUnlocked, KeepsOthers, is_own}
+use Rattle.sccs_moments.specs.Unlocked.{BeginsUnlocked, KeepsHeldIn, KeepsOthers, is_own}
 use Rattle.sccs_steps.specs.Actions.{Action}
 use Rattle.sccs_steps.specs.StepLists.{NamedStep}
 
@@ -19,9 +19,9 @@ ArePlain x ts = AllByRecursion (λ (t : NamedStep). x.fits t.name ≡ true → I
 abbrev pub StepUnlocked : Action → List ℕ → Told → Told → Type 0
 StepUnlocked x n old new = x.locks ≡ true → IsPlainFor x n → BeginsUnlocked old new
 
--- a step that doesn't lock its name leaves the files of all other names
+-- a step that changes files leaves the files of all other names; and where it locks its name, a name that is held stays so
 abbrev pub StepOthers : Action → List ℕ → Told → Told → Type 0
-StepOthers x n old new = x.locks ≡ false → KeepsOthers (is_own n) old new
+StepOthers x n old new = (x.reads ≡ false → KeepsOthers (is_own n) old new) × (x.reads ≡ false → x.locks ≡ true → KeepsHeldIn n old new)
 
 -- the names of steps that don't lock them are exempt
 abbrev pub AreExempt : Action → (List ℕ → Bool) → List NamedStep → Type 0

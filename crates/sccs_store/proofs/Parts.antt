@@ -6,15 +6,17 @@ use Rattle.sccs_base.specs.Name.{IsSfile, sibling, p_file, q_file, x_file, y_fil
 use Rattle.sccs_base.proofs.SameBytes.{same_bytes}
 use Rattle.sccs_disk.specs.Files.{Content, Model, View, view_of}
 use Rattle.sccs_disk.specs.Images.{Full, Image}
-use Rattle.sccs_disk.proofs.Puts.{name_cases, put_other}
+use Rattle.sccs_disk.proofs.Puts.{name_cases, put_other, put_same}
 use Rattle.sccs_images.proofs.Images.{full_image}
 use Rattle.sccs_images.proofs.Owned.{firm_stays}
 use Rattle.sccs_pfile.specs.Recovered.{recovered_pfile}
-use Rattle.sccs_moments.specs.Moments.{Guards, IsNew}
-use Rattle.sccs_moments.specs.Recovery.{Pair, RecoversAs, is_kept, pair_of}
+use Rattle.sccs_intents.specs.Intents.{intent_file}
+use Rattle.sccs_moments.specs.Moments.{Guards, IsNew, RecoversWith}
+use Rattle.sccs_moments.specs.Recovery.{Pair, RecoversAs, fate_at, is_kept, pair_of}
 use Rattle.sccs_moments.proofs.CalmDisks.{firm_pairs, full_there}
-use Rattle.sccs_moments.proofs.FileNames.{from_s, from_sfile, kept_p, kept_s, kept_z, siblings_differ, to_s, to_sfile}
-use Rattle.sccs_moments.proofs.Recovering.{p_of, pair, pair_same, recovered_at, recovered_same, recovers_from, s_of, sound_recovered}
+use Rattle.sccs_moments.proofs.FileNames.{from_s, from_sfile, kept_intent, kept_p, kept_q, kept_s, kept_x, kept_z, sfile_and_intent, siblings_differ, to_s, to_sfile}
+use Rattle.sccs_moments.proofs.Recovering.{LooksAlike, SameLooks, fate_same, looks_between, p_of, pair, pair_same, recovered_alike, recovered_at, recovered_same, recovered_under, recovers_from, s_of, sound_recovered}
+use Rattle.sccs_moments.proofs.Untouched.{none_named, none_replaced}
 use Rattle.sccs_store.specs.Commits.{Plan, chosen, committed, files_after, g_swapped, p_swapped, part_of, s_swapped, swapped}
 use Rattle.sccs_store.specs.Stops.{CanCommit, OnChange, OnReplace}
 use Rattle.sccs_store.specs.declared.new_files.NewFile.{NewFile}
@@ -51,6 +53,15 @@ else_p n c k plain sfile = on_change c.g (λ h. kept_p (drop 2 n) k h sfile) pla
 
 else_z : (n : List ℕ) (c : Plan) (k : List ℕ) → OnChange c.g (is_kept (drop 2 n) ≡ false) → IsSfile k → IsElse n c (z_file k)
 else_z n c k plain sfile = on_change c.g (λ h. kept_z (drop 2 n) k h sfile) plain
+
+else_x : (n : List ℕ) (c : Plan) (k : List ℕ) → OnChange c.g (is_kept (drop 2 n) ≡ false) → IsSfile k → IsElse n c (x_file k)
+else_x n c k plain sfile = on_change c.g (λ h. kept_x (drop 2 n) k h sfile) plain
+
+else_q : (n : List ℕ) (c : Plan) (k : List ℕ) → OnChange c.g (is_kept (drop 2 n) ≡ false) → IsSfile k → IsElse n c (q_file k)
+else_q n c k plain sfile = on_change c.g (λ h. kept_q (drop 2 n) k h sfile) plain
+
+else_intent : (n : List ℕ) (c : Plan) → OnChange c.g (is_kept (drop 2 n) ≡ false) → IsElse n c intent_file
+else_intent n c plain = on_change c.g (λ h. kept_intent (drop 2 n) h) plain
 
 -- ---- names that a commit doesn't change
 
@@ -111,6 +122,39 @@ apart_z n c k plain sfile other apart = record {
   y = refl;
   g = else_z n c k plain other;
   z = siblings_differ 122 n k sfile other apart;
+}
+
+apart_x : (n : List ℕ) (c : Plan) (k : List ℕ) → OnChange c.g (is_kept (drop 2 n) ≡ false) → IsSfile n → IsSfile k → bytes_eq n k ≡ false → IsApart n c (x_file k)
+apart_x n c k plain sfile other apart = record {
+  x = siblings_differ 120 n k sfile other apart;
+  s = to_sfile 120 n k sfile refl;
+  q = refl;
+  p = refl;
+  y = refl;
+  g = else_x n c k plain other;
+  z = refl;
+}
+
+apart_q : (n : List ℕ) (c : Plan) (k : List ℕ) → OnChange c.g (is_kept (drop 2 n) ≡ false) → IsSfile n → IsSfile k → bytes_eq n k ≡ false → IsApart n c (q_file k)
+apart_q n c k plain sfile other apart = record {
+  x = refl;
+  s = to_sfile 113 n k sfile refl;
+  q = siblings_differ 113 n k sfile other apart;
+  p = refl;
+  y = refl;
+  g = else_q n c k plain other;
+  z = refl;
+}
+
+apart_intent : (n : List ℕ) (c : Plan) → OnChange c.g (is_kept (drop 2 n) ≡ false) → IsSfile n → IsApart n c intent_file
+apart_intent n c plain sfile = record {
+  x = refl;
+  s = sfile_and_intent n sfile;
+  q = refl;
+  p = refl;
+  y = refl;
+  g = else_intent n c plain;
+  z = refl;
 }
 
 -- ---- the files of the commit's name
@@ -214,11 +258,54 @@ other_pair n k c m u sfile other apart can full i =
     pair_same _ _ _ _ (part_apart n c u k (apart_s n c k can.plain sfile other apart) i) (part_apart n c u (p_file k) (apart_p n c k can.plain sfile other apart) i)
     ∙ firm_pairs m u can.firm full k other
 
--- the pairs don't depend on the image
-pub same_pairs : (n k : List ℕ) (c : Plan) (m : Model) (u u2 : View) → IsSfile n → IsSfile k → CanCommit n c m → Full m u → Full m u2 → (i : ℕ) → pair_of (part_of n c i u) k ≡ pair_of (part_of n c i u2) k
-same_pairs n k c m u u2 sfile other can full full2 i =
-    ⊎_elim (λ e. subst (λ l. pair_of (part_of n c i u) l ≡ pair_of (part_of n c i u2) l) e (own_pair n c m u sfile can full i ∙ sym (own_pair n c m u2 sfile can full2 i)))
-    (λ apart. other_pair n k c m u sfile other apart can full i ∙ sym (other_pair n k c m u2 sfile other apart can full2 i)) (name_cases n k)
+-- the intent is as in the view
+intent_same : (n : List ℕ) (c : Plan) (m : Model) (u : View) → IsSfile n → CanCommit n c m → Full m u → (i : ℕ) → part_of n c i u intent_file ≡ view_of m intent_file
+intent_same n c m u sfile can full i = part_apart n c u intent_file (apart_intent n c can.plain sfile) i ∙ firm_stays intent_file m u can.firm.intent full
+
+-- it doesn't name the commit's name
+still_unnamed : (n : List ℕ) (c : Plan) (m : Model) (u : View) → IsSfile n → CanCommit n c m → Full m u → (i : ℕ) → fate_at (part_of n c i u) n ≡ None
+still_unnamed n c m u sfile can full i = fate_same n (view_of m) (part_of n c i u) (intent_same n c m u sfile can full i) ∙ can.unnamed
+
+-- recovery sees other names as in the view
+other_looks : (n k : List ℕ) (c : Plan) (m : Model) (u : View) → IsSfile n → IsSfile k → bytes_eq n k ≡ false → CanCommit n c m → Full m u → (i : ℕ) → LooksAlike k (view_of m) (part_of n c i u)
+other_looks n k c m u sfile other apart can full i = record {
+  fate = fate_same k (view_of m) (part_of n c i u) (intent_same n c m u sfile can full i);
+  s = ap s_of (other_pair n k c m u sfile other apart can full i);
+  p = ap p_of (other_pair n k c m u sfile other apart can full i);
+  z = ap is_some (part_apart n c u (z_file k) (apart_z n c k can.plain sfile other apart) i) ∙ full_there m u full (z_file k);
+  x = λ named. part_apart n c u (x_file k) (apart_x n c k can.plain sfile other apart) i ∙ firm_stays (x_file k) m u (can.firm.x_files k other named) full;
+  q = λ named. part_apart n c u (q_file k) (apart_q n c k can.plain sfile other apart) i ∙ firm_stays (q_file k) m u (can.firm.q_files k other named) full;
+}
+
+-- whether the z-file is there doesn't depend on the image
+z_now : (n : List ℕ) (c : Plan) (m : Model) (u : View) → IsSfile n → CanCommit n c m → Full m u → (i : ℕ) → i ≤ 3 → is_some (part_of n c i u (z_file n)) ≡ is_some (view_of m (z_file n))
+z_now n c m u sfile can full i low = ap is_some (z_part n c u can.plain sfile i low) ∙ full_there m u full (z_file n)
+
+z_same : (n : List ℕ) (c : Plan) (m : Model) (u u2 : View) → IsSfile n → CanCommit n c m → Full m u → Full m u2 → (i : ℕ) → is_some (part_of n c i u (z_file n)) ≡ is_some (part_of n c i u2 (z_file n))
+z_same n c m u u2 sfile can full full2 zero = z_now n c m u sfile can full 0 (omega arith) ∙ sym (z_now n c m u2 sfile can full2 0 (omega arith))
+z_same n c m u u2 sfile can full full2 (suc zero) = z_now n c m u sfile can full 1 (omega arith) ∙ sym (z_now n c m u2 sfile can full2 1 (omega arith))
+z_same n c m u u2 sfile can full full2 (suc (suc zero)) = z_now n c m u sfile can full 2 (omega arith) ∙ sym (z_now n c m u2 sfile can full2 2 (omega arith))
+z_same n c m u u2 sfile can full full2 (suc (suc (suc zero))) = z_now n c m u sfile can full 3 (omega arith) ∙ sym (z_now n c m u2 sfile can full2 3 (omega arith))
+z_same n c m u u2 sfile can full full2 (suc (suc (suc (suc i)))) =
+    ap is_some (put_same (g_swapped n c (p_swapped n c (s_swapped n c u))) (z_file n) None ∙ sym (put_same (g_swapped n c (p_swapped n c (s_swapped n c u2))) (z_file n) None))
+
+own_looks : (n : List ℕ) (c : Plan) (m : Model) (u u2 : View) → IsSfile n → CanCommit n c m → Full m u → Full m u2 → (i : ℕ) → LooksAlike n (part_of n c i u2) (part_of n c i u)
+own_looks n c m u u2 sfile can full full2 i = record {
+  fate = still_unnamed n c m u sfile can full i ∙ sym (still_unnamed n c m u2 sfile can full2 i);
+  s = ap s_of (own_pair n c m u sfile can full i ∙ sym (own_pair n c m u2 sfile can full2 i));
+  p = ap p_of (own_pair n c m u sfile can full i ∙ sym (own_pair n c m u2 sfile can full2 i));
+  z = z_same n c m u u2 sfile can full full2 i;
+  x = λ named. absurd (none_named (fate_at (part_of n c i u2) n) (still_unnamed n c m u2 sfile can full2 i) named);
+  q = λ named. absurd (none_replaced (fate_at (part_of n c i u2) n) (still_unnamed n c m u2 sfile can full2 i) named);
+}
+
+-- what recovery sees doesn't depend on the image
+pub same_looks : (n : List ℕ) (c : Plan) (m : Model) (u u2 : View) → IsSfile n → CanCommit n c m → Full m u → Full m u2 → (i : ℕ) → SameLooks (part_of n c i u2) (part_of n c i u)
+same_looks n c m u u2 sfile can full full2 i = record {
+  intent = intent_same n c m u sfile can full i ∙ sym (intent_same n c m u2 sfile can full2 i);
+  looks = λ k other. ⊎_elim (λ e. subst (λ l. LooksAlike l (part_of n c i u2) (part_of n c i u)) e (own_looks n c m u u2 sfile can full full2 i))
+      (λ apart. looks_between k (view_of m) (part_of n c i u2) (part_of n c i u) (other_looks n k c m u2 sfile other apart can full2 i) (other_looks n k c m u sfile other apart can full i)) (name_cases n k);
+}
 
 -- ---- guards
 
@@ -246,34 +333,38 @@ guards_last n c m sfile can u u2 full full2 = λ k other.
 abbrev new_pair : List ℕ → Plan → Model → Pair
 new_pair n c m = pair (files_after n c (view_of m)).s (files_after n c (view_of m)).p
 
-new_recovered : (n : List ℕ) (c : Plan) (m : Model) → CanCommit n c m → (w : View) → pair_of w n ≡ new_pair n c m → recovered_at w n ≡ new_pair n c m
-new_recovered n c m can w same =
-    recovered_same (w n) (files_after n c (view_of m)).s (w (p_file n)) (files_after n c (view_of m)).p (is_some (w (z_file n))) (is_some (w (z_file n))) (ap s_of same) (ap p_of same) refl
-    ∙ sound_recovered (files_after n c (view_of m)).s (files_after n c (view_of m)).p (is_some (w (z_file n))) can.entries.sound
+new_recovered : (n : List ℕ) (c : Plan) (m : Model) → CanCommit n c m → (w : View) → fate_at w n ≡ None → pair_of w n ≡ new_pair n c m → recovered_at w n ≡ new_pair n c m
+new_recovered n c m can w none same =
+    recovered_under n w None none
+    ∙ (recovered_same (w n) (files_after n c (view_of m)).s (w (p_file n)) (files_after n c (view_of m)).p (is_some (w (z_file n))) (is_some (w (z_file n))) (ap s_of same) (ap p_of same) refl
+    ∙ sound_recovered (files_after n c (view_of m)).s (files_after n c (view_of m)).p (is_some (w (z_file n))) can.entries.sound)
 
 other_recovered : (n k : List ℕ) (c : Plan) (m : Model) (u : View) → IsSfile n → IsSfile k → bytes_eq n k ≡ false → CanCommit n c m → Full m u → (i : ℕ) → recovered_at (part_of n c i u) k ≡ recovered_at (view_of m) k
-other_recovered n k c m u sfile other apart can full i =
-    recovered_same _ (view_of m k) _ (view_of m (p_file k)) _ (is_some (view_of m (z_file k))) (ap s_of (other_pair n k c m u sfile other apart can full i)) (ap p_of (other_pair n k c m u sfile other apart can full i))
-    (ap is_some (part_apart n c u (z_file k) (apart_z n c k can.plain sfile other apart) i) ∙ full_there m u full (z_file k))
+other_recovered n k c m u sfile other apart can full i = recovered_alike k (view_of m) (part_of n c i u) (other_looks n k c m u sfile other apart can full i)
 
 -- a view whose name recovers to the new pair after so many changes recovers as the new view
-recovers_new : (n : List ℕ) (c : Plan) (m : Model) (u v : View) → IsSfile n → CanCommit n c m → Full m u → Full m v → (i : ℕ) → recovered_at (part_of n c i u) n ≡ new_pair n c m → RecoversAs (committed n c v) (part_of n c i u)
-recovers_new n c m u v sfile can full full2 i own =
-    recovers_from (committed n c v) (part_of n c i u)
-    (λ k other. ⊎_elim (λ e. subst (λ l. recovered_at (part_of n c i u) l ≡ recovered_at (committed n c v) l) e (own ∙ sym (new_recovered n c m can (committed n c v) (own_pair n c m v sfile can full2 4))))
-    (λ apart. other_recovered n k c m u sfile other apart can full i ∙ sym (other_recovered n k c m v sfile other apart can full2 4)) (name_cases n k))
+recovers_new : (n : List ℕ) (c : Plan) (m : Model) (u v : View) → IsSfile n → CanCommit n c m → Full m u → Full m v → (i : ℕ) → recovered_at (part_of n c i u) n ≡ new_pair n c m → RecoversWith (committed n c v) (part_of n c i u)
+recovers_new n c m u v sfile can full full2 i own = record {
+  recovers = recovers_from (committed n c v) (part_of n c i u)
+      (λ k other. ⊎_elim (λ e. subst (λ l. recovered_at (part_of n c i u) l ≡ recovered_at (committed n c v) l) e (own ∙ sym (new_recovered n c m can (committed n c v) (still_unnamed n c m v sfile can full2 4) (own_pair n c m v sfile can full2 4))))
+      (λ apart. other_recovered n k c m u sfile other apart can full i ∙ sym (other_recovered n k c m v sfile other apart can full2 4)) (name_cases n k));
+  intent =
+      part_apart n c u intent_file (apart_intent n c can.plain sfile) i
+      ∙ (firm_stays intent_file m u can.firm.intent full ∙ (sym (firm_stays intent_file m v can.firm.intent full2) ∙ sym (part_apart n c v intent_file (apart_intent n c can.plain sfile) 4)));
+}
 
 -- after the second change and later
-pub later_new : (n : List ℕ) (c : Plan) (m : Model) (u v : View) → IsSfile n → CanCommit n c m → Full m u → Full m v → (i : ℕ) → RecoversAs (committed n c v) (part_of n c (suc (suc i)) u)
+pub later_new : (n : List ℕ) (c : Plan) (m : Model) (u v : View) → IsSfile n → CanCommit n c m → Full m u → Full m v → (i : ℕ) → RecoversWith (committed n c v) (part_of n c (suc (suc i)) u)
 later_new n c m u v sfile can full full2 i =
-    recovers_new n c m u v sfile can full full2 (suc (suc i)) (new_recovered n c m can (part_of n c (suc (suc i)) u) (own_pair n c m u sfile can full (suc (suc i))))
+    recovers_new n c m u v sfile can full full2 (suc (suc i)) (new_recovered n c m can (part_of n c (suc (suc i)) u) (still_unnamed n c m u sfile can full (suc (suc i))) (own_pair n c m u sfile can full (suc (suc i))))
 
 -- after the first: recovery takes the entries away that the new p-file doesn't have
 first_recovered : (n : List ℕ) (c : Plan) (m : Model) (u : View) → IsSfile n → CanCommit n c m → Full m u → IsSome (view_of m (z_file n))
     → recovered_pfile (files_after n c (view_of m)).s (view_of m (p_file n)) ≡ (files_after n c (view_of m)).p → recovered_at (part_of n c 1 u) n ≡ new_pair n c m
 first_recovered n c m u sfile can full there leaves =
-    recovered_same _ (files_after n c (view_of m)).s _ (view_of m (p_file n)) _ true (ap s_of (own_pair n c m u sfile can full 1)) (ap p_of (own_pair n c m u sfile can full 1)) (z_there n c m u sfile can full there 1 (omega arith))
-    ∙ ap (λ (o : Option Content). pair (files_after n c (view_of m)).s o) leaves
+    recovered_under n (part_of n c 1 u) None (still_unnamed n c m u sfile can full 1)
+    ∙ (recovered_same _ (files_after n c (view_of m)).s _ (view_of m (p_file n)) _ true (ap s_of (own_pair n c m u sfile can full 1)) (ap p_of (own_pair n c m u sfile can full 1)) (z_there n c m u sfile can full there 1 (omega arith))
+    ∙ ap (λ (o : Option Content). pair (files_after n c (view_of m)).s o) leaves)
 
 first_by : (n : List ℕ) (c : Plan) (m : Model) (u v : View) → IsSfile n → CanCommit n c m → Full m u → Full m v → IsSome (view_of m (z_file n)) → (new : NewFile) → c.s ≡ new → IsNew m (committed n c v) 0 (part_of n c 1 u)
 first_by n c m u v sfile can full full2 there Keep is = inr (refl, subst (λ (x : NewFile). Image m (swapped x (x_file n) n u)) (sym is) (full_image m u full))

@@ -11,16 +11,17 @@ use Rattle.sccs_disk.specs.Told.{Told, Tells, seen}
 use Rattle.sccs_images.specs.Touches.{earlier, newest}
 use Rattle.sccs_images.proofs.Images.{image_pended, image_settled, view_full}
 use Rattle.sccs_moments.specs.Calm.{HasFirm, IsCalm}
-use Rattle.sccs_moments.specs.Moments.{Guards, IsNew, Went}
-use Rattle.sccs_moments.specs.Recovery.{RecoversAs, pair_of, without_name}
-use Rattle.sccs_moments.proofs.CalmDisks.{calm_settled, pairs_firm}
+use Rattle.sccs_moments.specs.Moments.{Guards, IsNew, RecoversWith, Went}
+use Rattle.sccs_moments.specs.Recovery.{without_name}
+use Rattle.sccs_moments.proofs.CalmDisks.{calm_settled, looks_firm}
 use Rattle.sccs_moments.proofs.Full.{full_removed, full_renamed}
 use Rattle.sccs_moments.proofs.Joined.{numbered_now, story_of}
+use Rattle.sccs_moments.proofs.Recovering.{SameLooks}
 use Rattle.sccs_store.specs.Commits.{Plan, committed, part_of, swapped}
 use Rattle.sccs_store.specs.Stops.{CanCommit, CommitEnds, CommitStops, HalfSwaps, HalfUnlocks, Swaps, Unlocks}
 use Rattle.sccs_store.specs.declared.new_files.NewFile.{NewFile}
 use Rattle.sccs_store.specs.declared.new_files.NewFile.TheVariants.{Keep, Replace, Remove}
-use Rattle.sccs_store.proofs.Parts.{first_new, guards_change, guards_last, later_new, same_pairs}
+use Rattle.sccs_store.proofs.Parts.{first_new, guards_change, guards_last, later_new, same_looks}
 
 -- The first i changes are made.
 pub record Stage (n : List ℕ) (c : Plan) (m : Model) (past : List Model) (i : ℕ) (t : Told) : Type 0 where
@@ -155,10 +156,10 @@ further_last n c m sfile can = record {
 
 stage_firm : (n : List ℕ) (c : Plan) (m : Model) (past : List Model) (i : ℕ) (t : Told) → IsSfile n → CanCommit n c m → (stage : Stage n c m past i t) → HasFirm (newest stage.went.added m)
 stage_firm n c m past i t sfile can stage =
-    pairs_firm (newest stage.went.added m) (λ w full k other.
+    looks_firm (newest stage.went.added m) (λ w full.
     let x : (u : View) × Full m u × (w ≡ part_of n c i u) = stage.full w full in
     let y : (u : View) × Full m u × (view_of (newest stage.went.added m) ≡ part_of n c i u) = stage.full (view_of (newest stage.went.added m)) (view_full (newest stage.went.added m)) in
-    ap (λ (v : View). pair_of v k) x.2 ∙ (same_pairs n k c m x.0 y.0 sfile other can x.1 y.1 i ∙ sym (ap (λ (v : View). pair_of v k) y.2)))
+    subst (λ (v : View). SameLooks v w) (sym y.2) (subst (λ (v : View). SameLooks (part_of n c i y.0) v) (sym x.2) (same_looks n c m x.0 y.0 sfile can x.1 y.1 i)))
 
 -- what is said where it stops
 abbrev pub Stopped : List ℕ → Plan → Model → List Model → Told → Type 0
@@ -168,10 +169,13 @@ stopped : (n : List ℕ) (c : Plan) (m : Model) (past : List Model) (t : Told) �
 stopped n c m past t sfile can (i, stage) = (stage.went, stage_firm n c m past i t sfile can stage)
 
 -- a whole commit, its names not synced
-unsynced : (n : List ℕ) (c : Plan) (m : Model) (past : List Model) (t : Told) → IsSfile n → CanCommit n c m → (stage : Stage n c m past 4 t) → (w : View) → Full (newest stage.went.added m) w → RecoversAs (committed n c (view_of m)) w
+unsynced : (n : List ℕ) (c : Plan) (m : Model) (past : List Model) (t : Told) → IsSfile n → CanCommit n c m → (stage : Stage n c m past 4 t) → (w : View) → Full (newest stage.went.added m) w → RecoversWith (committed n c (view_of m)) w
 unsynced n c m past t sfile can stage w full =
     let x : (u : View) × Full m u × (w ≡ part_of n c 4 u) = stage.full w full in
-    subst (λ (v : View). RecoversAs (committed n c (view_of m)) v) (sym x.2) (later_new n c m x.0 (view_of m) sfile can x.1 (view_full m) 2)
+    subst (λ (v : View). RecoversWith (committed n c (view_of m)) v) (sym x.2) (later_new n c m x.0 (view_of m) sfile can x.1 (view_full m) 2)
+
+firm_settled : (m : Model) → HasFirm m → HasFirm (settled m)
+firm_settled m firm = record { s_files = firm.s_files; p_files = firm.p_files; intent = firm.intent; x_files = firm.x_files; q_files = firm.q_files }
 
 synced_half : (n : List ℕ) (c : Plan) (m : Model) (past : List Model) (t t2 : Told) → IsSfile n → CanCommit n c m → Stage n c m past 4 t → Half syncing_names t t2 → Stopped n c m past t2
 synced_half n c m past t t2 sfile can stage half =
@@ -186,7 +190,7 @@ synced_half n c m past t t2 sfile can stage half =
         numbers = (λ w image. inl (unsynced n c m past t sfile can stage w (image_settled (newest stage.went.added m) w image)), (0, omega arith, stage.went.numbers));
         guarded = (λ k other. inl refl, stage.went.guarded);
       },
-      record { s_files = (stage_firm n c m past 4 t sfile can stage).s_files; p_files = (stage_firm n c m past 4 t sfile can stage).p_files },
+      firm_settled (newest stage.went.added m) (stage_firm n c m past 4 t sfile can stage),
     )
 
 -- what is said at its end

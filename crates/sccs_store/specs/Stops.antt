@@ -1,5 +1,5 @@
 -- What a commit needs, so that a stop in it loses nothing, and what a stop in it leaves.
-use Rattle.std.specs.Prelude.{◌≡◌, ◌⊎◌, ℕ, false, true, List, drop, is_some}
+use Rattle.std.specs.Prelude.{◌≡◌, ◌⊎◌, ℕ, false, true, List, drop, None, is_some}
 use Rattle.sccs_base.specs.Name.{p_file, q_file, x_file, z_file}
 use Rattle.sccs_disk.specs.Calls.{Done, Half}
 use Rattle.sccs_disk.specs.Effects.{removing, renaming, syncing_names}
@@ -11,7 +11,7 @@ use Rattle.sccs_images.specs.Touches.{Leaves, TouchesOnly, newest}
 use Rattle.sccs_pfile.specs.Recovered.{recovered_pfile}
 use Rattle.sccs_moments.specs.Calm.{HasFirm, IsCalm}
 use Rattle.sccs_moments.specs.Moments.{EndsBefore, IsNew, Went}
-use Rattle.sccs_moments.specs.Recovery.{is_kept}
+use Rattle.sccs_moments.specs.Recovery.{fate_at, is_kept}
 use Rattle.sccs_store.specs.Commits.{Plan, committed, files_after}
 use Rattle.sccs_store.specs.declared.new_files.NewFile.{NewFile}
 use Rattle.sccs_store.specs.declared.new_files.NewFile.TheVariants.{Keep, Replace, Remove}
@@ -56,7 +56,7 @@ pub record KeepsEntries (n : List ℕ) (c : Plan) (v : View) : Type 0 where
   -- and it leaves the new p-file as it is
   pub sound : recovered_pfile (files_after n c v).s (files_after n c v).p ≡ (files_after n c v).p
 
--- the g-file's name, where it changes, is that of no s-file, p-file or z-file
+-- the g-file's name, where it changes, is none at which recovery of a name looks
 abbrev pub IsPlainPlan : List ℕ → Plan → Type 0
 IsPlainPlan n c = OnChange c.g (is_kept (drop 2 n) ≡ false)
 
@@ -68,6 +68,8 @@ pub record CanCommit (n : List ℕ) (c : Plan) (m : Model) : Type 0 where
   pub q_state : OnReplace c.p (IsFirm (q_file n) m)
   pub plain : IsPlainPlan n c
   pub entries : KeepsEntries n c (view_of m)
+  -- no intent names the name
+  pub unnamed : fate_at (view_of m) n ≡ None
 
 -- What the calls from the start of a step up to its commit have done.
 pub record HasPrepared (n : List ℕ) (c : Plan) (old new : Told) : Type 0 where

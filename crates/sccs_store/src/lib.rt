@@ -13,4 +13,4 @@ pub use commits::commit;
 pub use locks::{LockFault, lock};
 pub use new_files::{NewFile, NewG, NewP};
 pub use pfiles::prepare_p;
-pub use working_files::{abandon, clear_sibling, clear_working, finish_x, seal, start};
+pub use working_files::{abandon, clear_sibling, clear_working, finish_x, renew, seal, start};

@@ -5,6 +5,7 @@ ghost use Rattle.sccs_disk.specs.Files.{View};
 ghost use Rattle.sccs_disk.specs.Told.{seen};
 ghost use Rattle.sccs_files.specs.StepFiles.{Moves};
 ghost use Rattle.sccs_images.specs.Touches.{TouchesOnly};
+ghost use Rattle.sccs_moments.specs.Unlocked.{KeepsHeldIn};
 ghost use Rattle.sccs_store.specs.Commits.{Becomes, locked};
 ghost use Rattle.sccs_store.specs.Stops.{KeepsHeld};
 ghost use Rattle.sccs_disk.specs.Causes.{DiskCauses};
@@ -33,6 +34,7 @@ pub fn lock<D: Disk>(disk: &mut D, name: &Name) -> Result<(), LockFault>
     ensures view_err { OnErr result (Moves (bytes_eq (z_file name.now)) (λ v. v) (seen (D.told disk.old)) (seen (D.told disk.new))) }
     ensures touches { TouchesOnly (bytes_eq (z_file name.now)) (D.told disk.old) (D.told disk.new) }
     ensures held { IsErrOf result LockFault.Failed → KeepsHeld name.now (D.told disk.old) (D.told disk.new) }
+    ensures stays { IsErrOf result LockFault.Failed → KeepsHeldIn name.now (D.told disk.old) (D.told disk.new) }
     ensures causes { DiskCauses (IsErrOf result LockFault.Failed) (D.faults disk.old) (D.faults disk.new) }
 {
     match disk.create(&name.sibling(b'z')) {

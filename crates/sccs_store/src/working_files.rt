@@ -47,8 +47,8 @@ fn make<D: Disk>(disk: &mut D, name: &Name) -> Result<(), DiskRefusal>
     }
 }
 
-// removes a file where it is there, and makes it empty
-fn renew<D: Disk>(disk: &mut D, name: &Name) -> Result<(), DiskRefusal>
+/// Makes an empty file. One that is there is removed first.
+pub fn renew<D: Disk>(disk: &mut D, name: &Name) -> Result<(), DiskRefusal>
     ensures view { OnOk result (Becomes (λ v. put v name.now (Some empty_file)) (seen (D.told disk.old)) (seen (D.told disk.new))) }
     ensures view_err { OnErr result (Moves (bytes_eq name.now) (λ v. v) (seen (D.told disk.old)) (seen (D.told disk.new))) }
     ensures touches { TouchesOnly (bytes_eq name.now) (D.told disk.old) (D.told disk.new) }

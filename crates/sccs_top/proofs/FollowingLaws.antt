@@ -1,36 +1,70 @@
 -- Where a run ended the next one may begin, and so where it was stopped and all names were recovered.
-use Rattle.std.proofs.Common.{◌≢◌, ℕ, ◌≤◌, Bool, List, [], ◌∷◌, length, Option, is_some, Result, Err, ap, ◌∙◌}
-use Rattle.sccs_base.specs.Name.{p_file}
-use Rattle.sccs_disk.specs.Files.{Content, Folder, Model, View, view_of}
+use Rattle.std.proofs.Common.{◌≡◌, ◌≢◌, ℕ, ◌≤◌, Bool, true, false, List, [], ◌∷◌, length, take, Option, None, Some, is_some, Result, Err, sym, ap, ◌∙◌}
+use Rattle.sccs_base.specs.Name.{IsSfile, p_file, z_file}
+use Rattle.sccs_disk.specs.Files.{Content, Folder, Model, View, view_in, view_of}
 use Rattle.sccs_disk.specs.Images.{Allows}
+use Rattle.sccs_files.specs.StepFiles.{Shows}
 use Rattle.sccs_images.specs.Touches.{Each, earlier, newest}
 use Rattle.sccs_images.proofs.Images.{view_image}
 use Rattle.sccs_images.proofs.Touched.{each_newest}
-use Rattle.sccs_moments.specs.Recovery.{RecoversAs}
-use Rattle.sccs_moments.proofs.Recovering.{recovered, recovered_is}
+use Rattle.sccs_intents.specs.Intents.{intent_file}
+use Rattle.sccs_moments.specs.Moments.{CanRecover, IsCalmUnnamed, NamesNone}
+use Rattle.sccs_moments.specs.Recovery.{RecoversAs, fate_at}
+use Rattle.sccs_moments.proofs.Recovering.{LooksAlike, fate_same, recovered, recovered_alike, recovered_is, recovered_under, recovers_from}
 use Rattle.sccs_steps.specs.Calls.{Scene}
-use Rattle.sccs_steps.specs.ListStops.{IsAtNumber, KeepsSafe, view_at}
+use Rattle.sccs_steps.specs.ListStops.{IsAtNumber, KeepsNamesFrom, KeepsSafe, MayBegin, Spares, view_at}
 use Rattle.sccs_courses.specs.Following.{CourseMoments}
-use Rattle.sccs_steps.specs.StepLists.{NamedStep}
+use Rattle.sccs_steps.specs.StepLists.{NamedStep, folder_after}
+use Rattle.sccs_steps.specs.StepStops.{IsSafe}
 use Rattle.sccs_steps.specs.declared.faults.Fault.{Fault}
 use Rattle.sccs_steps.specs.declared.faults.Fault.TheVariants as ends
-use Rattle.sccs_steps.proofs.SafeImages.{keeps_then, numbered_each, recovers_safe}
+use Rattle.sccs_steps.proofs.SafeImages.{calm_safe, numbered_each, recovers_safe}
 use Rattle.sccs_top.specs.Following.{AllRecovered, FollowsStop, MayFollow}
 
-pub may_follow : (w : List ℕ → Bool) (r : Result ℕ Fault) (folder : Folder) (ts : List NamedStep) (a b : Scene) (m : Model) (past : List Model) → CourseMoments w r folder ts a b m past → r ≢ Err ends.DiskFault → MayFollow (view_of m) b.told
+pub may_follow : (w : List ℕ → Bool) (r : Result ℕ Fault) (folder : Folder) (ts : List NamedStep) (a b : Scene) (m : Model) (past : List Model) → (run : CourseMoments w r folder ts a b m past) → r ≢ Err ends.DiskFault
+    → MayFollow m folder (folder_after folder (take run.list.number ts)) b.told
 may_follow w r folder ts a b m past run other = record {
   model = newest run.list.went.added m;
   past = earlier run.list.went.added m past;
   is = run.list.went.is;
-  calm = run.list.calm other;
-  safe = each_newest (Allows (KeepsSafe (view_of m))) run.list.went.added m run.images (view_of (newest run.list.went.added m)) (view_image (newest run.list.went.added m));
+  may = record { calm = run.list.calm other; recovers = run.list.recovers other };
+  names = run.keeps other;
+  kept = each_newest (Allows (KeepsNamesFrom m)) run.list.went.added m run.images (view_of (newest run.list.went.added m)) (view_image (newest run.list.went.added m));
 }
+
+-- ---- a calm disk where no intent names an s-file
+
+-- a run may begin on it: the folder that is shown recovers as the view that is told
+pub begins : (w : List ℕ → Bool) (folder : Folder) (m : Model) → Spares w → Shows w (Some (view_of m)) (view_in folder) → IsCalmUnnamed m → MayBegin folder m
+begins w folder m spares alike calm = record { calm = calm.calm; recovers = recovers_from (view_in folder) (view_of m) (λ n sfile. recovered_alike n (view_in folder) (view_of m) (looks n sfile)) }
+  where
+    fate : (n : List ℕ) → fate_at (view_of m) n ≡ fate_at (view_in folder) n
+    fate n = fate_same n (view_in folder) (view_of m) (alike intent_file spares.intent)
+
+    none : (n : List ℕ) → IsSfile n → fate_at (view_in folder) n ≡ None
+    none n sfile = sym (fate n) ∙ calm.unnamed n sfile
+
+    looks : (n : List ℕ) → IsSfile n → LooksAlike n (view_in folder) (view_of m)
+    looks n sfile = record {
+      fate = fate n;
+      s = alike n (spares.s n sfile);
+      p = alike (p_file n) (spares.p n sfile);
+      z = ap is_some (alike (z_file n) (spares.z n sfile));
+      x = λ named. absurd (let e : false ≡ true = sym (ap is_some (none n sfile)) ∙ named in cc);
+      q = λ named. absurd (let e = none n sfile in cc);
+    }
+
+-- each name that is safe in the view is safe in whatever a stop could leave
+pub calm_from : (m : Model) (v : View) → IsCalmUnnamed m → KeepsNamesFrom m v → KeepsSafe (view_of m) v
+calm_from m v calm keeps = λ n sfile safe.
+    keeps.safe n sfile (calm_safe n m sfile calm.calm (λ named. absurd (let none = calm.unnamed n sfile in let e : false ≡ true = sym (ap is_some none) ∙ named in cc)) safe)
 
 -- ---- a stop, and the recovery of all names
 
 all_recovers : (w u : View) → AllRecovered w u → RecoversAs w u
 all_recovers w u all = λ n sfile.
-    recovered_is n u sfile ∙ (ap (λ (o : Option Content). recovered (u n) (u (p_file n)) (is_some o)) (all.free n sfile) ∙ all.pairs n sfile)
+    recovered_is n u sfile
+    ∙ (recovered_under n u None (all.none n sfile) ∙ (ap (λ (o : Option Content). recovered (u n) (u (p_file n)) (is_some o)) (all.free n sfile) ∙ all.pairs n sfile))
 
 each_both : (P Q R : View → Type 0) (added : List Model) (m : Model) → ((w : View) → P w → Q w → R w) → Each (Allows P) added m → Each (Allows Q) added m → Each (Allows R) added m
 each_both P Q R [] m both one two = λ w image. both w (one w image) (two w image)
@@ -39,14 +73,26 @@ each_both P Q R (a ∷ added) m both one two = (λ w image. both w (one.0 w imag
 abbrev AtSome : Folder → List NamedStep → View → Type 0
 AtSome folder ts w = (k : ℕ) × (k ≤ length ts) × RecoversAs (view_at folder ts k) w
 
-follows : (v : View) (folder : Folder) (ts : List NamedStep) (w : View) → AtSome folder ts w → KeepsSafe v w → FollowsStop v folder ts w
-follows v folder ts w at keeps = record {
+-- a name that no intent named
+unnamed_safe : (w u : View) (n : List ℕ) → AllRecovered w u → IsSfile n → fate_at w n ≡ None → IsSafe n w → IsSafe n u
+unnamed_safe w u n all sfile unnamed safe =
+    recovers_safe n w u sfile (all_recovers w u all) (all.none n sfile ∙ sym unnamed) (λ named. absurd (let e : false ≡ true = sym (ap is_some unnamed) ∙ named in cc)) safe
+
+follows : (m : Model) (folder : Folder) (ts : List NamedStep) (w : View) → AtSome folder ts w → KeepsNamesFrom m w → FollowsStop m folder ts w
+follows m folder ts w at keeps = record {
   prefix = λ u all. record { count = at.0; most = at.1; pairs = λ n sfile. all.pairs n sfile ∙ at.2 n sfile };
-  safe = λ u all. keeps_then v w u keeps (recovers_safe w u (all_recovers w u all));
+  none = keeps.none;
+  safe = λ u all n sfile unnamed safe. unnamed_safe w u n all sfile unnamed (keeps.safe n sfile safe);
 }
 
+-- at any end recovery may run next
+pub may_recover : (w : List ℕ → Bool) (r : Result ℕ Fault) (folder : Folder) (ts : List NamedStep) (a b : Scene) (m : Model) (past : List Model) → (run : CourseMoments w r folder ts a b m past)
+    → Allows NamesNone m → CanRecover (newest run.list.went.added m)
+may_recover w r folder ts a b m past run none =
+    record { firm = run.list.firm; unnamed = λ u image. (each_newest (Allows (KeepsNamesFrom m)) run.list.went.added m run.images u image).none none }
+
 pub stops_followed : (w : List ℕ → Bool) (r : Result ℕ Fault) (folder : Folder) (ts : List NamedStep) (a b : Scene) (m : Model) (past : List Model) → (run : CourseMoments w r folder ts a b m past)
-    → Each (Allows (FollowsStop (view_of m) folder ts)) run.list.went.added m
+    → Each (Allows (FollowsStop m folder ts)) run.list.went.added m
 stops_followed w r folder ts a b m past run =
-    each_both (AtSome folder ts) (KeepsSafe (view_of m)) (FollowsStop (view_of m) folder ts) run.list.went.added m (λ u at keeps. follows (view_of m) folder ts u at keeps)
+    each_both (AtSome folder ts) (KeepsNamesFrom m) (FollowsStop m folder ts) run.list.went.added m (λ u at keeps. follows m folder ts u at keeps)
     (numbered_each (IsAtNumber (view_at folder ts) (length ts)) (AtSome folder ts) 0 run.list.went.added m run.list.number (λ i u at. (at.0, at.2, at.3)) run.list.went.numbers) run.images

@@ -37,7 +37,7 @@ heard words left i given = subst (λ (takes : Bool). IsHeard takes left i) (val_
 val_command : (who : Caller) (words : ValWords) (r : Result ℕ Fault) (s s2 : Setting) → RunsVal words r s s2 → RunsCommand (Some words) (val_action words) (val_operands words) r s s2
 val_command who words r s s2 runs = record {
   steps = λ w folder i spares clear shows given. runs.steps w folder i spares clear shows (heard words s.left i given);
-  stops = λ w folder i m past spares clear shows given is calm safe. runs.stops w folder i m past spares clear shows (heard words s.left i given) is calm safe;
+  stops = λ w folder i m past spares clear shows given is may safe. runs.stops w folder i m past spares clear shows (heard words s.left i given) is may safe;
   unlocked = λ w folder i spares clear shows given exempt plain are. runs.unlocked w folder i spares clear shows (heard words s.left i given) exempt plain are;
   recovers = λ never. absurd cc;
   speaks = runs.speaks;

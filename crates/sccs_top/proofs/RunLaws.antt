@@ -22,8 +22,8 @@ use Rattle.sccs_steps.specs.Settings.{Setting}
 use Rattle.sccs_steps.specs.StepLists.{NamedStep, err_of, next_text}
 use Rattle.sccs_steps.proofs.Cleared.{cleared_same}
 use Rattle.sccs_steps.proofs.MomentLists.{moments_never}
-use Rattle.sccs_steps.proofs.NameStops.{alike_told}
 use Rattle.sccs_steps.proofs.SafeImages.{images_now}
+use Rattle.sccs_steps.proofs.Safety.{keeps_same}
 use Rattle.sccs_steps.specs.declared.faults.Fault.{Fault}
 use Rattle.sccs_steps.specs.declared.faults.Fault.TheVariants as ends
 use Rattle.sccs_courses.specs.Courses.{TakesSfiles, portion_of, portions_of, said, steps_along}
@@ -179,9 +179,9 @@ words_end who words answer made s t answered runs = λ m i given shows.
     (own_makes (run_course who words) (AsksWords who words s.left) made s.stage t.stage runs.steps m i (given_to who words s.left m i given) shows))
 
 pub words_stop : (who : Caller) (words : Result Asked Usage) (answer : Answer) (made : Result ℕ Fault) (s t : Setting) → steps_answer answer ≡ made → RunsAsked who words made s t → StopsSteps who words answer s.left s.stage t.stage
-words_stop who words answer made s t answered runs = λ folder i m past given shows told calm safe.
+words_stop who words answer made s t answered runs = λ folder i m past given shows told may safe.
     subst (λ (r : Result ℕ Fault). CourseMoments (working who words folder i) r folder (run_steps who words folder i) s.stage t.stage m past) (sym answered)
-    (own_stops (run_course who words) (AsksWords who words s.left) made s.stage t.stage runs.stops folder i m past (given_to who words s.left folder i given) shows told calm safe)
+    (own_stops (run_course who words) (AsksWords who words s.left) made s.stage t.stage runs.stops folder i m past (given_to who words s.left folder i given) shows told may safe)
 
 pub words_unlocked : (who : Caller) (words : Result Asked Usage) (made : Result ℕ Fault) (s t : Setting) → RunsAsked who words made s t → UnlockedSteps who words s.left s.stage.told t.stage.told
 words_unlocked who words made s t runs = λ folder i given shows exempt plain freed.
@@ -309,6 +309,6 @@ never_begun who words left a = λ m i given shows. (
 )
 
 pub never_stops : (who : Caller) (words : Result Asked Usage) (left : Option (List ℕ)) (a : Scene) → StopsSteps who words Memory left a a
-never_stops who words left a = λ folder i m past given shows told calm safe.
-    course_moments (working who words folder i) (steps_answer Memory) folder (run_steps who words folder i) a a m past (spares_in (run_portions who words folder i)) shows told
-    (moments_never (working who words folder i) ends.Memory folder (run_steps who words folder i) a m past (spares_in (run_portions who words folder i)) told calm (alike_told (working who words folder i) folder a.told m past told shows) shows) (images_now m calm)
+never_stops who words left a = λ folder i m past given shows told may safe.
+    course_moments (working who words folder i) (steps_answer Memory) folder (run_steps who words folder i) a a m past
+    (moments_never (working who words folder i) ends.Memory folder (run_steps who words folder i) a m past told may shows) (λ other. keeps_same (view_in folder)) (images_now m)

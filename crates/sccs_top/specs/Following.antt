@@ -1,25 +1,30 @@
 -- Runs one after another: where one ended, and where a stop and the recovery of all names leave it, the next one may begin.
 use Rattle.std.specs.Prelude.{◌≡◌, ℕ, ◌≤◌, List, length, None}
 use Rattle.sccs_base.specs.Name.{IsSfile, z_file}
-use Rattle.sccs_disk.specs.Files.{Folder, Model, View, view_of}
+use Rattle.sccs_disk.specs.Files.{Folder, Model, View, view_in, view_of}
+use Rattle.sccs_disk.specs.Images.{Allows}
 use Rattle.sccs_disk.specs.Told.{Told, Tells}
-use Rattle.sccs_moments.specs.Calm.{IsCalm}
-use Rattle.sccs_moments.specs.Recovery.{pair_of, recover}
-use Rattle.sccs_steps.specs.ListStops.{KeepsSafe, view_at}
+use Rattle.sccs_moments.specs.Moments.{NamesNone}
+use Rattle.sccs_moments.specs.Recovery.{fate_at, pair_of, recover}
+use Rattle.sccs_steps.specs.ListStops.{KeepsNames, KeepsNamesFrom, MayBegin, view_at}
 use Rattle.sccs_steps.specs.StepLists.{NamedStep}
+use Rattle.sccs_steps.specs.StepStops.{IsSafe}
 
--- The disk is calm, and each s-file's name is safe that is safe in a view.
-pub record MayFollow (v : View) (told : Told) : Type 0 where
+-- A run may begin on the disk, from a folder: each s-file's name is safe in it that is safe in the folder before, and no intent
+-- names one where none did. And so it is of the view that is told and whatever a stop could leave of a model.
+pub record MayFollow (m : Model) (before after : Folder) (told : Told) : Type 0 where
   pub model : Model
   pub past : List Model
   pub is : told ≡ Tells model past
-  pub calm : IsCalm model
-  pub safe : KeepsSafe v (view_of model)
+  pub may : MayBegin after model
+  pub names : KeepsNames (view_in before) (view_in after)
+  pub kept : KeepsNamesFrom m (view_of model)
 
--- All names are recovered: each has the s-file and the p-file that recovery makes of w, and none is locked.
+-- All names are recovered: each has the s-file and the p-file that recovery makes of w, none is locked, and no intent names one.
 pub record AllRecovered (w u : View) : Type 0 where
   pub pairs : (n : List ℕ) → IsSfile n → pair_of u n ≡ pair_of (recover n w) n
   pub free : (n : List ℕ) → IsSfile n → u (z_file n) ≡ None
+  pub none : NamesNone u
 
 -- The s-files and p-files are those to which a folder recovers after one number of steps.
 pub record IsPrefix (folder : Folder) (ts : List NamedStep) (u : View) : Type 0 where
@@ -27,7 +32,10 @@ pub record IsPrefix (folder : Folder) (ts : List NamedStep) (u : View) : Type 0 
   pub most : count ≤ length ts
   pub pairs : (n : List ℕ) → IsSfile n → pair_of u n ≡ pair_of (recover n (view_at folder ts count)) n
 
--- A stop was followed by the recovery of all names: they are as after a prefix of the steps, and those that were safe are safe.
-pub record FollowsStop (v : View) (folder : Folder) (ts : List NamedStep) (w : View) : Type 0 where
+-- A stop was followed by the recovery of all names: they are as after a prefix of the steps. Where no intent named one in whatever
+-- a stop could leave of a model, none did when the recovery began; and those that none named then and that were safe in all that
+-- are safe.
+pub record FollowsStop (m : Model) (folder : Folder) (ts : List NamedStep) (w : View) : Type 0 where
   pub prefix : (u : View) → AllRecovered w u → IsPrefix folder ts u
-  pub safe : (u : View) → AllRecovered w u → KeepsSafe v u
+  pub none : Allows NamesNone m → NamesNone w
+  pub safe : (u : View) → AllRecovered w u → (n : List ℕ) → IsSfile n → fate_at w n ≡ None → Allows (IsSafe n) m → IsSafe n u

@@ -3,7 +3,6 @@ use Rattle.std.specs.Prelude.{◌≡◌, ◌≢◌, ℕ, ◌<◌, nat_lt, ◌⊎
 use Rattle.std.specs.List.{AllByRecursion, list_any}
 use Rattle.sccs_disk.specs.Files.{Folder, Model, view_in}
 use Rattle.sccs_disk.specs.Told.{Told, Tells, seen}
-use Rattle.sccs_moments.specs.Calm.{IsCalm}
 use Rattle.sccs_moments.specs.Moments.{KeepsCalm, LeavesCalm, LeavesFirm, RecoversOn}
 use Rattle.sccs_moments.specs.Unlocked.{BeginsUnlockedBut}
 use Rattle.sccs_sid.specs.declared.moments.Stamp.{Stamp}
@@ -17,6 +16,7 @@ use Rattle.sccs_words.specs.declared.commands.Command.TheVariants as c
 use Rattle.sccs_files.specs.StepFiles.{Shows}
 use Rattle.sccs_steps.specs.Actions.{Action, IsHeard, hears, is_several, steps_at}
 use Rattle.sccs_steps.specs.Calls.{Scene, World, shown}
+use Rattle.sccs_steps.specs.ListStops.{MayBegin}
 use Rattle.sccs_steps.specs.Recovering.{RecoversBy, has_made}
 use Rattle.sccs_steps.specs.Running.{IsInput, RunsSteps, Steps}
 use Rattle.sccs_steps.specs.Settings.{Setting}
@@ -456,7 +456,7 @@ LeavesAskedInput who asked r s t = asked_takes_input who asked ≡ false → Ign
 abbrev pub StopsSteps : Caller → Result Asked Usage → Answer → Option (List ℕ) → Scene → Scene → Type 0
 StopsSteps who words answer left a b = (folder : Folder) (i : List ℕ) (m : Model) (past : List Model)
     → IsGiven who words left folder i → Shows (working who words folder i) (seen a.told) (view_in folder)
-    → a.told ≡ Tells m past → IsCalm m → AllSafe (view_in folder) (run_portions who words folder i)
+    → a.told ≡ Tells m past → MayBegin folder m → AllSafe (view_in folder) (run_portions who words folder i)
     → CourseMoments (working who words folder i) (steps_answer answer) folder (run_steps who words folder i) a b m past
 
 -- Before each change of an s-file or p-file its z-file wasn't there at a moment of the run, but of names that are recovered.

@@ -1,5 +1,6 @@
 -- What a stop leaves of a change, at each of its ends.
-use Rattle.std.proofs.Common.{◌≡◌, ℕ, Bool, true, false, List, [], map, drop, Option, None, Some, option_map, IfSome, Result, Ok, Err, is_some, inl, inr, refl, sym, ap, subst, ◌∙◌}
+use Rattle.std.proofs.Common.{◌≡◌, ℕ, Bool, true, false, List, [], map, drop, Option, None, Some, option_map, IfSome, Result, Ok, Err, is_some, inl, inr, refl, sym, ap, subst, ◌∙◌, ⊎_elim}
+use Rattle.std.specs.Prelude.{IsSome}
 use Rattle.std.specs.Str.{bytes_eq}
 use Rattle.sccs_base.specs.Name.{IsSfile, p_file, q_file, x_file, z_file}
 use Rattle.sccs_sid.specs.declared.refusals.Refusal.{Refusal}
@@ -10,23 +11,26 @@ use Rattle.sccs_disk.specs.Effects.{empty_file}
 use Rattle.sccs_disk.specs.Files.{Content, Model, View, view_of}
 use Rattle.sccs_disk.specs.Images.{IsFirm}
 use Rattle.sccs_disk.specs.Told.{Told, Tells, seen}
-use Rattle.sccs_disk.proofs.Puts.{put_other}
+use Rattle.sccs_disk.proofs.Puts.{name_cases, put_other}
 use Rattle.sccs_files.specs.StepFiles.{Files, Moves, is_left, is_working, look, moved, placed}
 use Rattle.sccs_images.specs.Touches.{Leaves, TouchesOnly, Touching, earlier, newest}
 use Rattle.sccs_images.proofs.Touched.{only_then, only_wider}
+use Rattle.sccs_intents.specs.Intents.{intent_file}
+use Rattle.sccs_intents.specs.declared.intents.Fate.{Fate}
 use Rattle.sccs_moments.specs.Calm.{IsCalm}
 use Rattle.sccs_moments.specs.Moments.{EndsAfter, EndsBefore}
 use Rattle.sccs_pfile.specs.Recovered.{recovered_pfile}
-use Rattle.sccs_moments.specs.Recovery.{IsSound, RecoversAs, is_kept}
-use Rattle.sccs_moments.proofs.FileNames.{from_s, no_working, no_z, working_s}
-use Rattle.sccs_moments.proofs.Recovering.{same_recovers}
+use Rattle.sccs_moments.specs.Recovery.{IsSound, RecoversAs, fate_at, is_kept}
+use Rattle.sccs_moments.proofs.FileNames.{from_s, no_working, no_z, working_q, working_s, working_x}
+use Rattle.sccs_moments.proofs.Recovering.{fate_same, same_recovers}
 use Rattle.sccs_moments.proofs.Untouched.{before_after, before_within, same_before}
 use Rattle.sccs_steps.specs.StepEffects.{Outcome, effect_of}
 use Rattle.sccs_steps.specs.Calls.{Meets, World, scene, world}
 use Rattle.sccs_steps.specs.Actions.{Action, IsHeard}
 use Rattle.sccs_steps.specs.StepStops.{ArePaired, Ends, IsPaired, IsSafe, IsSafeFor, MeetsAt, meeting_place}
 use Rattle.sccs_steps.proofs.SafeImages.{recovers_before}
-use Rattle.sccs_steps.proofs.Safety.{placed_safe}
+use Rattle.sccs_steps.proofs.Carried.{moved_others, others_fate}
+use Rattle.sccs_steps.proofs.Safety.{paired_now, placed_safe}
 use Rattle.sccs_store.specs.Commits.{Becomes, Plan, abandoned, committed, files_after, locked}
 use Rattle.sccs_store.specs.Stops.{CommitEnds, HasPrepared, IsPlainPlan, KeepsEntries, KeepsHeld, OnChange, OnReplace}
 use Rattle.sccs_store.specs.declared.new_files.NewFile.{NewFile}
@@ -136,11 +140,23 @@ at_given_up x fault r q n left ta tb tb2 td out out2 err m past i sfile failed l
 view_at : (n : List ℕ) (c : Plan) (v u : View) (k : List ℕ) → IsSfile n → ((k : List ℕ) → is_working n k ≡ false → u k ≡ locked n v k) → is_working n k ≡ false → committed n c u k ≡ placed v n (files_after n c u) k
 view_at n c v u k sfile moves h = committed_at n c u v k sfile h (λ other. moves k h ∙ put_other v (z_file n) k (Some empty_file) other)
 
-recovers_moved : (n : List ℕ) (c : Plan) (v u : View) (new : Option Files) → IsSfile n → ((k : List ℕ) → is_working n k ≡ false → u k ≡ locked n v k) → new ≡ Some (files_after n c u) → RecoversAs (moved v n new) (committed n c u)
-recovers_moved n c v u new sfile moves is =
+named_not : (f : Option Fate) → f ≡ None → IsSome f → ⊥
+named_not None is named = cc
+named_not (Some fate) is named = cc
+
+-- a name that an intent names is another one than a name that none names
+named_apart : (n k : List ℕ) (w : View) → fate_at w n ≡ None → IsSome (fate_at w k) → bytes_eq n k ≡ false
+named_apart n k w free named = ⊎_elim (λ e. absurd (named_not (fate_at w k) (subst (λ l. fate_at w l ≡ None) e free) named)) (λ apart. apart) (name_cases n k)
+
+recovers_moved : (n : List ℕ) (c : Plan) (v u : View) (new : Option Files) → IsSfile n → is_kept (drop 2 n) ≡ false → fate_at v n ≡ None → ((k : List ℕ) → is_working n k ≡ false → u k ≡ locked n v k) → new ≡ Some (files_after n c u) → RecoversAs (moved v n new) (committed n c u)
+recovers_moved n c v u new sfile plain free moves is =
+    let w : View = placed v n (files_after n c u) in
+    let unnamed : fate_at w n ≡ None = others_fate n n v w sfile plain (moved_others n v (Some (files_after n c u))) ∙ free in
     subst (λ (o : Option Files). RecoversAs (moved v n o) (committed n c u)) (sym is)
-    (same_recovers (placed v n (files_after n c u)) (committed n c u) (λ k other. view_at n c v u k sfile moves (working_s n k other)) (λ k other. view_at n c v u (p_file k) sfile moves refl)
-    (λ k other. ap is_some (view_at n c v u (z_file k) sfile moves refl)))
+    (same_recovers w (committed n c u) (view_at n c v u intent_file sfile moves refl) (λ k other. view_at n c v u k sfile moves (working_s n k other)) (λ k other. view_at n c v u (p_file k) sfile moves refl)
+    (λ k other. ap is_some (view_at n c v u (z_file k) sfile moves refl))
+    (λ k other named. view_at n c v u (x_file k) sfile moves (working_x n k sfile other (named_apart n k w unnamed named)))
+    (λ k other named. view_at n c v u (q_file k) sfile moves (working_q n k sfile other (named_apart n k w unnamed (ap is_some named)))))
 
 moves_now : (n : List ℕ) (v : View) (tb2 : Told) (m1 : Model) (past1 : List Model) → Moves (is_working n) (λ u. u) (Some (locked n v)) (seen tb2) → tb2 ≡ Tells m1 past1 → (k : List ℕ) → is_working n k ≡ false → view_of m1 k ≡ locked n v k
 moves_now n v tb2 m1 past1 moves is = subst (λ (t : Told). Moves (is_working n) (λ u. u) (Some (locked n v)) (seen t)) is moves
@@ -157,7 +173,10 @@ still_sound : (n : List ℕ) (v u : View) → IsSfile n → IsSound n v → ((k 
 still_sound n v u sfile sound moves =
     let s : u n ≡ v n = moves n (working_s n n sfile) ∙ put_other v (z_file n) n (Some empty_file) (from_s 122 n sfile refl) in
     let p : u (p_file n) ≡ v (p_file n) = moves (p_file n) refl ∙ put_other v (z_file n) (p_file n) (Some empty_file) refl in
-    ap (λ (o : Option Content). recovered_pfile o (u (p_file n))) s ∙ (ap (recovered_pfile (v n)) p ∙ (sound ∙ sym p))
+    record {
+      entries = ap (λ (o : Option Content). recovered_pfile o (u (p_file n))) s ∙ (ap (recovered_pfile (v n)) p ∙ (sound.entries ∙ sym p));
+      unnamed = fate_same n v u (moves intent_file refl ∙ put_other v (z_file n) intent_file (Some empty_file) refl) ∙ sound.unnamed;
+    }
 
 firm_from : (new : NewFile) (k : List ℕ) (mine : List ℕ → Bool) (a b d : Told) → TouchesOnly mine a b → OnReplace new (Leaves (IsFirm k) b d) → OnReplace new (Leaves (IsFirm k) a d)
 firm_from Keep k mine a b d touches firm = tt
@@ -191,7 +210,7 @@ finished_so : (y : Action) (r : Result (Unit {0}) StepFault) (n : List ℕ) (p :
 finished_so y r n p o m past ta tb tb2 td out out2 out3 err err3 sfile is calm safe free prepared finishes commits locks working firm entries = by r finishes commits
   where
     has : HasPrepared n (plan_of p) ta tb2
-    has = has_prepared n p (view_of m) ta tb tb2 sfile safe.paired (safe.sound free) prepared.view locks working firm entries
+    has = has_prepared n p (view_of m) ta tb tb2 sfile (paired_now n (view_of m) sfile free safe) (safe.sound free) prepared.view locks working firm entries
 
     plain : IsPlainPlan n (plan_of p)
     plain = plain_where (plan_of p).g (is_kept (drop 2 n) ≡ false) safe.plain
@@ -201,15 +220,15 @@ finished_so y r n p o m past ta tb tb2 td out out2 out3 err err3 sfile is calm s
 
     same : (m1 : Model) (past1 : List Model) → tb2 ≡ Tells m1 past1 → RecoversAs (moved (view_of m) n (effect_of n o).new) (committed n (plan_of p) (view_of m1))
     same m1 past1 is1 =
-        recovers_moved n (plan_of p) (view_of m) (view_of m1) (effect_of n o).new sfile (moves_now n (view_of m) tb2 m1 past1 prepared.view is1)
+        recovers_moved n (plan_of p) (view_of m) (view_of m1) (effect_of n o).new sfile safe.plain (safe.sound free).unnamed (moves_now n (view_of m) tb2 m1 past1 prepared.view is1)
         (new ∙ subst (λ (t : Told). IfSome (seen t) (λ u. prepared.effect.new ≡ Some (files_after n (plan_of p) u))) is1 prepared.files)
 
     -- the files that the commit placed are safe
     again : (m1 : Model) (past1 : List Model) → tb2 ≡ Tells m1 past1 → IsSafe n (moved (view_of m) n (effect_of n o).new)
     again m1 past1 is1 =
-        let settled = settled_now n p (view_of m) tb2 m1 past1 sfile safe.paired (safe.sound free) prepared.view entries is1 in
+        let settled = settled_now n p (view_of m) tb2 m1 past1 sfile (paired_now n (view_of m) sfile free safe) (safe.sound free) prepared.view entries is1 in
         subst (λ (f : Option Files). IsSafe n (moved (view_of m) n f)) (sym (new ∙ subst (λ (t : Told). IfSome (seen t) (λ u. prepared.effect.new ≡ Some (files_after n (plan_of p) u))) is1 prepared.files))
-        (placed_safe n (view_of m) (files_after n (plan_of p) (view_of m1)) sfile safe.plain settled.0.sound settled.1)
+        (placed_safe n (view_of m) (files_after n (plan_of p) (view_of m1)) sfile safe.plain (safe.sound free).unnamed settled.0.sound settled.1)
 
     safe_again : IsSafeFor y n (moved (view_of m) n (effect_of n o).new)
     safe_again =

@@ -8,7 +8,7 @@ ghost use Rattle.sccs_steps.specs.Calls.{scene, world};
 ghost use Rattle.sccs_steps.specs.Causes.{Ignores, StepCauses, counts};
 ghost use Rattle.sccs_moments.specs.Unlocked.{KeepsOthers, is_own};
 ghost use Rattle.sccs_steps.specs.StepStops.{StepMoments};
-ghost use Rattle.sccs_steps.specs.Unlocked.{StepUnlocked};
+ghost use Rattle.sccs_steps.specs.Unlocked.{StepOthers, StepUnlocked};
 ghost use Rattle.sccs_transactions.specs.Changes.{IsReady, locking};
 ghost use Rattle.sccs_files.specs.StepFiles.{is_left};
 ghost use Rattle.sccs_images.specs.Touches.{TouchesOnly};
@@ -84,6 +84,7 @@ pub fn change_file<C: Change, I: Source, O: Sink, E: Sink, D: Disk>(
     ensures moments { StepMoments (locking (C.change change.now)) result name.now (I.left input.old)
         (scene (D.told disk.old) (O.given out.old) (E.given err.old)) (scene (D.told disk.new) (O.given out.new) (E.given err.new)) }
     ensures unlocked { StepUnlocked (locking (C.change change.now)) name.now (D.told disk.old) (D.told disk.new) }
+    ensures others { StepOthers (locking (C.change change.now)) name.now (D.told disk.old) (D.told disk.new) }
     ensures speaks { SpeaksBy (C.change change.now).could result name.now (E.given err.old) (E.given err.new) }
     ensures silent { (C.change change.now).silent ≡ true → O.given out.new ≡ O.given out.old }
     ensures ignores { (C.change change.now).takes ≡ false

@@ -153,6 +153,7 @@ pub val_keeps : (words : ValWords) (v : View) → KeepsFiles (val_over words v)
 val_keeps words v = record {
   quiet = λ reads n i named f d is. kept_judged (is_long words i) (val_text words v i) (val_status words v i) d is;
   names = λ changes n fits. absurd cc;
+  locked = λ changes locks n i named f d is there g new. absurd cc;
 }
 
 judged_leaves : (n : List ℕ) (long : Bool) (text : List ℕ) (status : ℕ) → (effect_of n (val_judged long text status)).new ≡ None
@@ -174,13 +175,13 @@ val_makes words made r left a b out out2 err err2 same told says = λ w folder i
 
 pub val_stops : (words : ValWords) (made : Result ℕ StepFault) (r : Result ℕ Fault) (left : Option (List ℕ)) (a b : Told) (out out2 err err2 : Option (List ℕ)) → b ≡ a → ValTold words (seen a) left made out out2 → Concludes made (codes "-") r err err2
     → StopsBy (val_action words) (val_steps words) (IsHeard (takes_lines words) left) r (scene a out err) (scene b out2 err2)
-val_stops words made r left a b out out2 err err2 same told says = λ w folder i m past spares clear shows heard is calm safe.
+val_stops words made r left a b out out2 err err2 same told says = λ w folder i m past spares clear shows heard is may safe.
     let y = val_over words (view_in folder) in
     let ran : RunMoments y w r folder (val_steps words folder i) (scene a out err) (scene b out2 err2) m past =
     stepped_stops y (codes "-") (codes "-") made r left (scene a out err) (scene b out2 err) err2 (val_keeps words (view_in folder)) refl refl (λ reads. same)
     (reading_moments_as (λ (code : ℕ). code) y made (codes "-") left (scene a out err) (scene b out2 err) (val_keeps words (view_in folder)) refl same (val_stepped words w folder (codes "-") made left a b out out2 err same spares shows told))
-    says w folder i m past spares clear shows heard is calm safe in
-    record { list = ran.list; acknowledged = ran.acknowledged; safe = ran.safe; images = ran.images }
+    (λ changes. absurd (cc), λ changes locks. absurd (cc)) says w folder i m past spares clear shows heard is may safe in
+    record { list = ran.list; acknowledged = ran.acknowledged; safe = ran.safe; keeps = ran.keeps; images = ran.images }
 
 -- over any disk
 pub val_refuses : (r : Result ℕ StepFault) (left : Option (List ℕ)) → ((refusal : Refusal) → r ≡ Err (Refused refusal) → (refusal ≡ refusals.TooLong) × IfSome left (λ i. file_limit < length i)) → RefusesWithin (number_of refusals.TooLong ∷ []) r

@@ -2,7 +2,7 @@ use Rattle.std.proofs.Common.{false}
 use Rattle.sccs_disk.specs.Told.{seen}
 use Rattle.sccs_files.specs.StepFiles.{is_working}
 use Rattle.sccs_images.proofs.Touched.{only_then}
-use Rattle.sccs_moments.specs.Recovery.{recover}
+use Rattle.sccs_moments.specs.Recovery.{recover_alone}
 use Rattle.sccs_sid.specs.declared.refusals.StepFault.TheVariants as faults
 use Rattle.sccs_store.specs.Commits.{plan}
 use Rattle.sccs_store.specs.declared.new_files.NewFile.TheVariants.{Keep}
@@ -27,18 +27,18 @@ returns-in-Err-clause-story g c =
     stopped_story c.args.name.now c.in-Ok.new_p _ (g.D.Disk.told c.prepare.new.disk) _ c.requires.sfile c.requires.z c.in-Ok.ensures.view c.prepare.ensures.touches c.in-Ok.ensures.firm c.in-Err.ensures.stopped
 
 pub returns-in-Err-Failed-clause-story : goal.returns-in-Err-Failed-clause-story
-returns-in-Err-Failed-clause-story g c = touched_story c.args.name.now _ _ c.prepare.ensures.touches
+returns-in-Err-Failed-clause-story g c = touched_story c.args.name.now _ _ c.requires.sfile c.prepare.ensures.touches
 
 pub returns-in-Err-Memory-clause-story : goal.returns-in-Err-Memory-clause-story
 returns-in-Err-Memory-clause-story g c =
-    touched_story c.args.name.now _ _ (only_then (is_working c.args.name.now) _ (g.D.Disk.told c.prepare.new.disk) _ c.prepare.ensures.touches c.give_up.ensures.touches)
+    touched_story c.args.name.now _ _ c.requires.sfile (only_then (is_working c.args.name.now) _ (g.D.Disk.told c.prepare.new.disk) _ c.prepare.ensures.touches c.give_up.ensures.touches)
 
 pub returns-in-Err-clause-partly : goal.returns-in-Err-clause-partly
 returns-in-Err-clause-partly g c =
     λ fault. part_partly c.args.name.now (plan false c.in-Ok.new_p Keep) (seen (g.D.Disk.told c.args.disk.now)) (seen (g.D.Disk.told c.prepare.new.disk)) _ c.requires.sfile c.prepare.ensures.moves c.in-Ok.ensures.view c.in-Err.ensures.halfway
 
 pub returns-in-Err-Failed-clause-partly : goal.returns-in-Err-Failed-clause-partly
-returns-in-Err-Failed-clause-partly g c = λ fault. partly c.args.name.now (recover c.args.name.now) _ _ c.prepare.ensures.moves
+returns-in-Err-Failed-clause-partly g c = λ fault. partly c.args.name.now (recover_alone c.args.name.now) _ _ c.prepare.ensures.moves
 
 pub returns-in-Err-Memory-clause-memory : goal.returns-in-Err-Memory-clause-memory
 returns-in-Err-Memory-clause-memory g c = λ fault. moves_then (is_working c.args.name.now) _ (seen (g.D.Disk.told c.prepare.new.disk)) _ c.prepare.ensures.moves c.give_up.ensures.moves
@@ -49,7 +49,7 @@ returns-in-Err-Memory-clause-cleared g c =
 
 pub returns-in-Err-Memory-clause-partly : goal.returns-in-Err-Memory-clause-partly
 returns-in-Err-Memory-clause-partly g c =
-    λ fault. partly c.args.name.now (recover c.args.name.now) _ _ (moves_then (is_working c.args.name.now) _ (seen (g.D.Disk.told c.prepare.new.disk)) _ c.prepare.ensures.moves c.give_up.ensures.moves)
+    λ fault. partly c.args.name.now (recover_alone c.args.name.now) _ _ (moves_then (is_working c.args.name.now) _ (seen (g.D.Disk.told c.prepare.new.disk)) _ c.prepare.ensures.moves c.give_up.ensures.moves)
 
 pub returns-in-Ok-commit-clause-firm : goal.returns-in-Ok-commit-clause-firm
 returns-in-Ok-commit-clause-firm g c = calm_leaves _ _ (returns-in-Ok-commit-clause-calm g c)

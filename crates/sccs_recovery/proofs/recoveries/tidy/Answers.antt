@@ -12,7 +12,7 @@ use Rattle.sccs_recovery.proofs.recoveries.tidy.Goals as goal
 
 pub returns-in-Ok-clause-story : goal.returns-in-Ok-clause-story
 returns-in-Ok-clause-story g c =
-    synced_story c.args.name.now _ (g.D.Disk.told c.clear_sibling.new.disk) _ c.sync_names.result (only_wider (bytes_eq (y_file c.args.name.now)) (is_working c.args.name.now) _ _ (no_y c.args.name.now) c.clear_sibling.ensures.touches) c.sync_names.ensures.done c.sync_names.ensures.half
+    synced_story c.args.name.now _ (g.D.Disk.told c.clear_sibling.new.disk) _ c.sync_names.result c.requires (only_wider (bytes_eq (y_file c.args.name.now)) (is_working c.args.name.now) _ _ (no_y c.args.name.now) c.clear_sibling.ensures.touches) c.sync_names.ensures.done c.sync_names.ensures.half
 
 pub returns-in-Ok-clause-calm : goal.returns-in-Ok-clause-calm
 returns-in-Ok-clause-calm g c =
@@ -20,7 +20,7 @@ returns-in-Ok-clause-calm g c =
 
 pub returns-in-Err-clause-story : goal.returns-in-Err-clause-story
 returns-in-Err-clause-story g c =
-    touched_story c.args.name.now _ _ (only_wider (bytes_eq (y_file c.args.name.now)) (is_working c.args.name.now) _ _ (no_y c.args.name.now) c.clear_sibling.ensures.touches)
+    touched_story c.args.name.now _ _ c.requires (only_wider (bytes_eq (y_file c.args.name.now)) (is_working c.args.name.now) _ _ (no_y c.args.name.now) c.clear_sibling.ensures.touches)
 
 pub returns-in-Ok-clause-view_err : goal.returns-in-Ok-clause-view_err
 returns-in-Ok-clause-view_err g c =

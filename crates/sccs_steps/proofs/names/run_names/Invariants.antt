@@ -2,11 +2,10 @@ use Rattle.std.proofs.Common.{◌≡◌, ◌≤◌, ℕ, Bool, true, false, List
 use Rattle.sccs_disk.specs.Files.{Folder, Model, view_in}
 use Rattle.sccs_disk.specs.Told.{Tells, seen}
 use Rattle.sccs_files.specs.StepFiles.{Shows}
-use Rattle.sccs_moments.specs.Calm.{IsCalm}
 use Rattle.sccs_moments.specs.Unlocked.{BeginsUnlockedBut}
 use Rattle.sccs_steps.specs.Actions.{AreClear, step_at, steps_of}
 use Rattle.sccs_steps.specs.Calls.{shown}
-use Rattle.sccs_steps.specs.ListStops.{AreSafe, Spares}
+use Rattle.sccs_steps.specs.ListStops.{AreSafe, MayBegin, Spares}
 use Rattle.sccs_steps.specs.Settings.{SameLoans, setting}
 use Rattle.sccs_steps.specs.Speaking.{NameMakes}
 use Rattle.sccs_steps.specs.StepLists.{SoFar, in_turn}
@@ -24,7 +23,7 @@ invariant-loop-name g l = record {
       → SoFar (g.U.UtilityWithStatus.action l.utility).rule w m (steps_of (g.U.UtilityWithStatus.action l.utility) i m l.names) (λ u. steps_of (g.U.UtilityWithStatus.action l.utility) i u (drop l.name-index l.names)) l.status
       (shown (setting g.I.Source g.O.Sink g.E.Sink g.D.Disk l.fn.streams).stage) (shown (setting g.I.Source g.O.Sink g.E.Sink g.D.Disk l.streams).stage);
   stops : (w : List ℕ → Bool) (folder : Folder) (i : List ℕ) (m : Model) (past : List Model) → Spares w → AreClear (g.U.UtilityWithStatus.action l.utility) w (steps_of (g.U.UtilityWithStatus.action l.utility) i folder l.names) → Shows w (seen (g.D.Disk.told l.fn.streams.disk.now)) (view_in folder)
-      → g.D.Disk.told l.fn.streams.disk.now ≡ Tells m past → IsCalm m → AreSafe (g.U.UtilityWithStatus.action l.utility) (steps_of (g.U.UtilityWithStatus.action l.utility) i folder l.names) (view_in folder)
+      → g.D.Disk.told l.fn.streams.disk.now ≡ Tells m past → MayBegin folder m → AreSafe (g.U.UtilityWithStatus.action l.utility) (steps_of (g.U.UtilityWithStatus.action l.utility) i folder l.names) (view_in folder)
       → StopsSoFar (g.U.UtilityWithStatus.action l.utility) w folder (steps_of (g.U.UtilityWithStatus.action l.utility) i folder l.names) (λ u. steps_of (g.U.UtilityWithStatus.action l.utility) i u (drop l.name-index l.names)) l.status
       (setting g.I.Source g.O.Sink g.E.Sink g.D.Disk l.fn.streams).stage (setting g.I.Source g.O.Sink g.E.Sink g.D.Disk l.streams).stage m past;
   unlocked : (w : List ℕ → Bool) (m : Folder) (i : List ℕ) → Spares w → AreClear (g.U.UtilityWithStatus.action l.utility) w (steps_of (g.U.UtilityWithStatus.action l.utility) i m l.names) → Shows w (seen (g.D.Disk.told l.fn.streams.disk.now)) (view_in m)

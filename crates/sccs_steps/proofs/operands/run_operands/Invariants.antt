@@ -2,11 +2,10 @@ use Rattle.std.proofs.Common.{◌≡◌, ◌≤◌, ◌<◌, ℕ, Bool, true, fa
 use Rattle.sccs_disk.specs.Files.{Folder, Model, view_in}
 use Rattle.sccs_disk.specs.Told.{Tells, seen}
 use Rattle.sccs_files.specs.StepFiles.{Shows}
-use Rattle.sccs_moments.specs.Calm.{IsCalm}
 use Rattle.sccs_moments.specs.Unlocked.{BeginsUnlockedBut}
 use Rattle.sccs_steps.specs.Actions.{AreClear, IsLone, hears, operand_steps, steps_at}
 use Rattle.sccs_steps.specs.Calls.{shown}
-use Rattle.sccs_steps.specs.ListStops.{AreSafe, Spares}
+use Rattle.sccs_steps.specs.ListStops.{AreSafe, MayBegin, Spares}
 use Rattle.sccs_steps.specs.Running.{IsInput}
 use Rattle.sccs_steps.specs.Settings.{SameLoans, setting}
 use Rattle.sccs_steps.specs.Speaking.{OperandMakes}
@@ -26,7 +25,7 @@ invariant-loop-operand g l = record {
       → SoFar (g.U.UtilityWithStatus.action l.utility).rule w m (steps_at (g.U.UtilityWithStatus.action l.utility) m i l.operands) (λ u. steps_at (g.U.UtilityWithStatus.action l.utility) u i (drop l.operand-index l.operands)) l.status
       (shown (setting g.I.Source g.O.Sink g.E.Sink g.D.Disk l.fn.streams).stage) (shown (setting g.I.Source g.O.Sink g.E.Sink g.D.Disk l.streams).stage);
   stops : (w : List ℕ → Bool) (folder : Folder) (i : List ℕ) (m : Model) (past : List Model) → Spares w → AreClear (g.U.UtilityWithStatus.action l.utility) w (steps_at (g.U.UtilityWithStatus.action l.utility) folder i l.operands) → Shows w (seen (g.D.Disk.told l.fn.streams.disk.now)) (view_in folder)
-      → IsInput (g.U.UtilityWithStatus.action l.utility) l.operands (g.I.Source.left l.fn.streams.input.now) i → g.D.Disk.told l.fn.streams.disk.now ≡ Tells m past → IsCalm m → AreSafe (g.U.UtilityWithStatus.action l.utility) (steps_at (g.U.UtilityWithStatus.action l.utility) folder i l.operands) (view_in folder)
+      → IsInput (g.U.UtilityWithStatus.action l.utility) l.operands (g.I.Source.left l.fn.streams.input.now) i → g.D.Disk.told l.fn.streams.disk.now ≡ Tells m past → MayBegin folder m → AreSafe (g.U.UtilityWithStatus.action l.utility) (steps_at (g.U.UtilityWithStatus.action l.utility) folder i l.operands) (view_in folder)
       → StopsSoFar (g.U.UtilityWithStatus.action l.utility) w folder (steps_at (g.U.UtilityWithStatus.action l.utility) folder i l.operands) (λ u. steps_at (g.U.UtilityWithStatus.action l.utility) u i (drop l.operand-index l.operands)) l.status
       (setting g.I.Source g.O.Sink g.E.Sink g.D.Disk l.fn.streams).stage (setting g.I.Source g.O.Sink g.E.Sink g.D.Disk l.streams).stage m past;
   unlocked : (w : List ℕ → Bool) (m : Folder) (i : List ℕ) → Spares w → AreClear (g.U.UtilityWithStatus.action l.utility) w (steps_at (g.U.UtilityWithStatus.action l.utility) m i l.operands) → Shows w (seen (g.D.Disk.told l.fn.streams.disk.now)) (view_in m)

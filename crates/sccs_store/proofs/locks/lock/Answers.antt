@@ -4,7 +4,7 @@ use Rattle.std.specs.Str.{bytes_eq}
 use Rattle.sccs_images.specs.Touches.{TouchesOnly}
 use Rattle.sccs_disk.specs.Calls.{Half}
 use Rattle.sccs_disk.specs.Effects.{creating}
-use Rattle.sccs_store.proofs.HeldLocks.{held_ends}
+use Rattle.sccs_store.proofs.HeldLocks.{held_ends, held_stays}
 use Rattle.sccs_store.proofs.locks.lock.Goals as goal
 
 pub returns-in-Ok-Created-clause-touches : goal.returns-in-Ok-Created-clause-touches
@@ -26,4 +26,9 @@ returns-in-Err-Memory-clause-touches g c =
 pub returns-in-Err-Failed-clause-held : goal.returns-in-Err-Failed-clause-held
 returns-in-Err-Failed-clause-held g c = λ fault.
     held_ends c.args.name.now (g.D.Disk.told c.args.disk.now) (g.D.Disk.told c.create.new.self) c.requires (g.met.D.Disk.sane c.args.disk.now)
+    (subst (λ k. Half (creating k) (g.D.Disk.told c.args.disk.now) (g.D.Disk.told c.create.new.self)) c.sibling.ensures (c.create.ensures.half (c.in-Err-Failed.is ∙ ap Err c.in-Err-Failed.field-0-is)))
+
+pub returns-in-Err-Failed-clause-stays : goal.returns-in-Err-Failed-clause-stays
+returns-in-Err-Failed-clause-stays g c = λ fault.
+    held_stays c.args.name.now (g.D.Disk.told c.args.disk.now) (g.D.Disk.told c.create.new.self) (g.met.D.Disk.sane c.args.disk.now)
     (subst (λ k. Half (creating k) (g.D.Disk.told c.args.disk.now) (g.D.Disk.told c.create.new.self)) c.sibling.ensures (c.create.ensures.half (c.in-Err-Failed.is ∙ ap Err c.in-Err-Failed.field-0-is)))

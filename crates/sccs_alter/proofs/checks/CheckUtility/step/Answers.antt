@@ -2,6 +2,7 @@ use Rattle.sccs_steps.specs.Calls.{scene}
 use Rattle.sccs_steps.proofs.ReadingMoments.{reading_moments}
 use Rattle.sccs_steps.proofs.UnlockedSteps.{unlocked_reading}
 use Rattle.std.proofs.Common.{refl}
+use Rattle.sccs_transactions.proofs.UnlockedChanges.{others_refused}
 use Rattle.sccs_alter.specs.CheckStep.{check_action, check_keeps}
 use Rattle.sccs_alter.proofs.CheckLaws.{checked_speaks, checked_steps}
 use Rattle.sccs_alter.proofs.checks.CheckUtility.step.Goals as goal
@@ -19,3 +20,6 @@ returns-clause-moments g c =
 
 pub returns-clause-unlocked : goal.returns-clause-unlocked
 returns-clause-unlocked g c = unlocked_reading check_action c.args.name.now _ _ c.check_file.ensures.frame.same
+
+pub returns-clause-others : goal.returns-clause-others
+returns-clause-others g c = others_refused check_action c.args.name.now _ _ c.check_file.ensures.frame.same

@@ -3,6 +3,7 @@ use Rattle.std.proofs.Common.{Err, refl}
 use Rattle.sccs_steps.specs.Calls.{scene}
 use Rattle.sccs_steps.proofs.ReadingMoments.{reading_moments}
 use Rattle.sccs_steps.proofs.UnlockedSteps.{unlocked_reading}
+use Rattle.sccs_transactions.proofs.UnlockedChanges.{others_refused}
 use Rattle.sccs_transactions.specs.Utilities.{is_sfile}
 use Rattle.sccs_edit.specs.Checks.{sact_keeps}
 use Rattle.sccs_edit.specs.SactStep.{sact_action, sact_checks}
@@ -48,3 +49,10 @@ returns-clause-unlocked g c = unlocked_reading (sact_action c.args.self.now.head
 pub returns-in_err-edits-clause-unlocked : goal.returns-in_err-edits-clause-unlocked
 returns-in_err-edits-clause-unlocked g c =
     unlocked_reading (sact_action c.args.self.now.heading) c.args.name.now _ _ c.find_edits.ensures.frame.same
+
+pub returns-clause-others : goal.returns-clause-others
+returns-clause-others g c = others_refused (sact_action c.args.self.now.heading) c.args.name.now _ _ c.find_edits.ensures.frame.same
+
+pub returns-in_err-edits-clause-others : goal.returns-in_err-edits-clause-others
+returns-in_err-edits-clause-others g c =
+    others_refused (sact_action c.args.self.now.heading) c.args.name.now _ _ c.find_edits.ensures.frame.same

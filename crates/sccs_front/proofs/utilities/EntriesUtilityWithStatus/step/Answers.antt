@@ -3,6 +3,7 @@ use Rattle.std.proofs.Common.{ℕ, Ok, Err, refl, sym, subst}
 use Rattle.sccs_steps.specs.Actions.{SteppedAs}
 use Rattle.sccs_steps.specs.Calls.{scene}
 use Rattle.sccs_steps.proofs.ReadingMoments.{quiet_speaks, reading_moments_as}
+use Rattle.sccs_transactions.proofs.UnlockedChanges.{others_refused}
 use Rattle.sccs_transactions.specs.Utilities.{is_sfile}
 use Rattle.sccs_edit.specs.SactStep.{sact_checks}
 use Rattle.sccs_front.specs.Keeps.{pending_keeps}
@@ -48,3 +49,9 @@ pub returns-in_err-found-clause-speaks : goal.returns-in_err-found-clause-speaks
 returns-in_err-found-clause-speaks g c =
     let p = err_from_is_err_and c.from_residual.result c.from_residual.ensures.1 in
     rw (p.1, p.2) (quiet_speaks sact_checks (Err c.in_err-found.field-0.0) c.args.name.now (g.E.Sink.given c.args._err.now) (within_answer sact_checks c.in_err-found.field-0.0 c.in_err-found.ensures.checks))
+
+pub returns-clause-others : goal.returns-clause-others
+returns-clause-others g c = others_refused (pending_action c.args.self.now.whole) c.args.name.now _ _ c.in_ok-found.ensures.same
+
+pub returns-in_err-found-clause-others : goal.returns-in_err-found-clause-others
+returns-in_err-found-clause-others g c = others_refused (pending_action c.args.self.now.whole) c.args.name.now _ _ c.in_err-found.ensures.same

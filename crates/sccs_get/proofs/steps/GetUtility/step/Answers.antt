@@ -5,7 +5,7 @@ use Rattle.sccs_transactions.specs.Utilities.{is_sfile}
 use Rattle.sccs_get.specs.VersionStep.{get_action, writes_g}
 use Rattle.sccs_get.proofs.GetMoments.{finished_moments, given_up_moments}
 use Rattle.sccs_get.proofs.SpeakLaws.{finished_speaks, given_up_causes, given_up_speaks, ready_finished}
-use Rattle.sccs_get.proofs.StepLaws.{finished_steps, finished_unlocked, given_up_steps, given_up_unlocked, read_moments}
+use Rattle.sccs_get.proofs.StepLaws.{finished_others, finished_steps, finished_unlocked, given_up_others, given_up_steps, given_up_unlocked, read_moments}
 use Rattle.sccs_get.proofs.steps.GetUtility.step.Goals as goal
 
 pub ready-requires : goal.ready-requires
@@ -31,6 +31,9 @@ returns-in-Ok-clause-moments g c = by (writes_g c.args.self.now.words.now) refl
 pub returns-in-Ok-clause-unlocked : goal.returns-in-Ok-clause-unlocked
 returns-in-Ok-clause-unlocked g c = finished_unlocked c.args.self.now.words.now c.args.self.now.stamp.now c.args.self.now.place.now c.args.self.now.heading c.args.name.now (g.D.Disk.told c.args.disk.now) (g.D.Disk.told c.ready.new.disk) (g.D.Disk.told c.finish.new.disk) c.ready.ensures.touches c.finish.ensures.others (λ none. c.finish.ensures.same none ∙ c.ready.ensures.same none)
 
+pub returns-in-Ok-clause-others : goal.returns-in-Ok-clause-others
+returns-in-Ok-clause-others g c = finished_others c.args.self.now.words.now c.args.self.now.stamp.now c.args.self.now.place.now c.args.self.now.heading c.args.name.now (g.D.Disk.told c.args.disk.now) (g.D.Disk.told c.ready.new.disk) (g.D.Disk.told c.finish.new.disk) (is_sfile c.args.name.now c.requires) c.ready.ensures.touches c.finish.ensures.others
+
 pub returns-in-Ok-clause-speaks : goal.returns-in-Ok-clause-speaks
 returns-in-Ok-clause-speaks g c = finished_speaks c.args.self.now.words.now c.args.name.now c.in-Ok.prepared c.finish.result _ _ _ _ _ _ c.in-Ok.ensures.says c.finish.ensures.finishes
 
@@ -50,6 +53,9 @@ returns-in-Err-clause-moments g c = by (writes_g c.args.self.now.words.now) refl
 
 pub returns-in-Err-clause-unlocked : goal.returns-in-Err-clause-unlocked
 returns-in-Err-clause-unlocked g c = given_up_unlocked c.args.self.now.words.now c.args.self.now.stamp.now c.args.self.now.place.now c.args.self.now.heading c.args.name.now (g.D.Disk.told c.args.disk.now) (g.D.Disk.told c.ready.new.disk) (g.D.Disk.told c.give_up.new.disk) c.ready.ensures.touches c.give_up.ensures.touches (λ none. c.give_up.ensures.same none ∙ c.ready.ensures.same none)
+
+pub returns-in-Err-clause-others : goal.returns-in-Err-clause-others
+returns-in-Err-clause-others g c = given_up_others c.args.self.now.words.now c.args.self.now.stamp.now c.args.self.now.place.now c.args.self.now.heading c.args.name.now (g.D.Disk.told c.args.disk.now) (g.D.Disk.told c.ready.new.disk) (g.D.Disk.told c.give_up.new.disk) (is_sfile c.args.name.now c.requires) c.ready.ensures.touches c.give_up.ensures.touches
 
 pub returns-in-Err-clause-speaks : goal.returns-in-Err-clause-speaks
 returns-in-Err-clause-speaks g c = given_up_speaks c.args.self.now.words.now c.args.name.now c.in-Err.fault c.ready.result c.give_up.result _ _ _ c.in-Err.is c.ready.ensures.checks c.give_up.ensures.gives_up

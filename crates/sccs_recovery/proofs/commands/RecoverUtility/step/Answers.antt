@@ -44,12 +44,12 @@ returns-in-Ok-clause-recovers g c = λ never. made_recovers c.say.result (g.D.Di
 
 pub returns-in-Err-clause-recovers : goal.returns-in-Err-clause-recovers
 returns-in-Err-clause-recovers g c = λ never.
-    fault_recovers c.in-Err.fault c.args.name.now (g.D.Disk.told c.args.disk.now) (g.D.Disk.told c.recover.new.disk)
+    fault_recovers c.in-Err.fault c.args.name.now (g.D.Disk.told c.args.disk.now) (g.D.Disk.told c.recover.new.disk) (is_sfile c.args.name.now c.requires)
     (faults_of c.args.name.now c.in-Err.fault (g.D.Disk.told c.args.disk.now) (g.D.Disk.told c.recover.new.disk) _ _ c.in-Err.ensures.checks c.in-Err.ensures.ends)
     c.recover.ensures.ends.story c.recover.ensures.ends.firm c.in-Err.ensures.ends.touches
 
 pub returns-in-Ok-clause-others : goal.returns-in-Ok-clause-others
-returns-in-Ok-clause-others g c = λ never. c.recover.ensures.ends.others
+returns-in-Ok-clause-others g c = (λ changes. c.recover.ensures.ends.others, λ changes locks. absurd (cc))
 
 pub returns-in-Err-clause-others : goal.returns-in-Err-clause-others
-returns-in-Err-clause-others g c = λ never. c.recover.ensures.ends.others
+returns-in-Err-clause-others g c = (λ changes. c.recover.ensures.ends.others, λ changes locks. absurd (cc))

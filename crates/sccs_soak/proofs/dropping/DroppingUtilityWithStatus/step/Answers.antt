@@ -8,3 +8,6 @@ returns-clause-moments g c =
 
 pub returns-clause-speaks : goal.returns-clause-speaks
 returns-clause-speaks g c = dropped_speaks (λ (status : ℕ). status) c.args.name.now (g.U.UtilityWithStatus.action c.args.self.now.utility.now).could c.step.result _ _ (g.E.Sink.given c.args._err.now) c.step.ensures.speaks
+
+pub returns-clause-others : goal.returns-clause-others
+returns-clause-others g c = c.step.ensures.others

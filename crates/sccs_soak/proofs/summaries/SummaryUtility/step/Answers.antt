@@ -18,3 +18,6 @@ returns-clause-moments g c =
 
 pub returns-clause-speaks : goal.returns-clause-speaks
 returns-clause-speaks g c = shown_speaks c.args.name.now c.summarize.result (g.E.Sink.given c.args._err.now) c.summarize.ensures.checks
+
+pub returns-clause-others : goal.returns-clause-others
+returns-clause-others g c = (λ changes. absurd cc, λ changes locks. absurd cc)

@@ -1,0 +1,13 @@
+pub mod Announcing
+pub mod Called
+pub mod Calling
+pub mod Closing
+pub mod Committing
+pub mod Found
+pub mod Groups
+pub mod Harmless
+pub mod Looping
+pub mod OwnNames
+pub mod Placing
+pub mod Runs
+pub mod Texts

@@ -1,0 +1,36 @@
+use Rattle.std.proofs.Common.{ap, ◌∙◌}
+use Rattle.sccs_disk.specs.Files.{Content}
+use Rattle.sccs_disk.specs.Told.{seen}
+use Rattle.sccs_store.proofs.Working.{ok_map}
+use Rattle.sccs_group.specs.Recovering.{IsBad}
+use Rattle.std.specs.Prelude.{Option}
+use Rattle.sccs_group.proofs.Found.{group_view, intent_told, ok_told, plan_done, plan_story, plan_then, plan_view}
+use Rattle.sccs_group.proofs.recovering.finish_group.Goals as goal
+
+pub returns-in-Ok-clause-view : goal.returns-in-Ok-clause-view
+returns-in-Ok-clause-view g c =
+    ok_map c.finish_intent.result (group_view _ (seen (g.D.Disk.told c.clear.new.disk)) _ (plan_view c.args.plan.now _ (g.D.Disk.told c.clear.new.disk) c.requires.plan c.in-Ok.ensures.view)) c.finish_intent.ensures.view
+
+pub returns-in-Ok-clause-found : goal.returns-in-Ok-clause-found
+returns-in-Ok-clause-found g c =
+    ok_told c.finish_intent.result _ (seen (g.D.Disk.told c.clear.new.disk)) (plan_view c.args.plan.now _ (g.D.Disk.told c.clear.new.disk) c.requires.plan c.in-Ok.ensures.view) c.finish_intent.ensures.found
+
+pub returns-in-Ok-clause-bad : goal.returns-in-Ok-clause-bad
+returns-in-Ok-clause-bad g c = λ line is.
+    let bad = c.finish_intent.ensures.bad line is in
+    let plan = plan_view c.args.plan.now _ (g.D.Disk.told c.clear.new.disk) c.requires.plan c.in-Ok.ensures.view in (
+      ap seen bad.0 ∙ plan,
+      intent_told (λ (x : Option Content). IsBad x line) _ (seen (g.D.Disk.told c.clear.new.disk)) plan bad.1,
+    )
+
+pub returns-in-Ok-clause-memory : goal.returns-in-Ok-clause-memory
+returns-in-Ok-clause-memory g c = λ is. ap seen (c.finish_intent.ensures.memory is) ∙ plan_view c.args.plan.now _ (g.D.Disk.told c.clear.new.disk) c.requires.plan c.in-Ok.ensures.view
+
+pub returns-in-Ok-clause-story : goal.returns-in-Ok-clause-story
+returns-in-Ok-clause-story g c = plan_then c.args.plan.now _ (g.D.Disk.told c.clear.new.disk) _ c.requires.plan c.in-Ok.ensures.view c.clear.ensures.call c.finish_intent.ensures.story
+
+pub returns-in-Ok-clause-done : goal.returns-in-Ok-clause-done
+returns-in-Ok-clause-done g c = ok_map c.finish_intent.result (plan_done c.args.plan.now _ (g.D.Disk.told c.clear.new.disk) _ c.requires.plan c.in-Ok.ensures.view c.clear.ensures.call) c.finish_intent.ensures.done
+
+pub returns-in-Err-clause-story : goal.returns-in-Err-clause-story
+returns-in-Err-clause-story g c = plan_story c.args.plan.now _ _ c.requires.plan c.clear.ensures.call

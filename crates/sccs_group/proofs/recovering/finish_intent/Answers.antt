@@ -1,0 +1,36 @@
+use Rattle.std.proofs.Common.{Err, Ok, refl, subst}
+use Rattle.sccs_disk.specs.Told.{Told, seen}
+use Rattle.sccs_group.specs.Finishing.{Always, CompletesBy, FinishesBy}
+use Rattle.sccs_group.proofs.Found.{answer_told, bad_told, told_found}
+use Rattle.sccs_group.proofs.Runs.{by_same}
+use Rattle.sccs_group.proofs.recovering.finish_intent.Goals as goal
+
+pub finish_found-requires-clause-members : goal.finish_found-requires-clause-members
+finish_found-requires-clause-members g c = c.in-Ok.ensures.members
+
+pub finish_found-requires-clause-told : goal.finish_found-requires-clause-told
+finish_found-requires-clause-told g c = told_found c.args.intent.now (g.D.Disk.told c.args.disk.now) (g.D.Disk.told c.read_members.new.disk) (Ok c.in-Ok.found) c.requires c.read_members.ensures.same c.in-Ok.ensures.told
+
+pub returns-in-Ok-finish_found-clause-found : goal.returns-in-Ok-finish_found-clause-found
+returns-in-Ok-finish_found-clause-found g c =
+    answer_told (seen (g.D.Disk.told c.args.disk.now)) c.in-Ok.found c.in-Ok-finish_found.answer c.in-Ok-finish_found.ensures.found
+    (told_found c.args.intent.now (g.D.Disk.told c.args.disk.now) (g.D.Disk.told c.args.disk.now) (Ok c.in-Ok.found) c.requires refl c.in-Ok.ensures.told)
+
+pub returns-in-Ok-finish_found-clause-story : goal.returns-in-Ok-finish_found-clause-story
+returns-in-Ok-finish_found-clause-story g c = subst (λ (t : Told). FinishesBy Always t (g.D.Disk.told c.finish_found.new.disk)) c.read_members.ensures.same c.finish_found.ensures.story
+
+pub returns-in-Ok-finish_found-clause-done : goal.returns-in-Ok-finish_found-clause-done
+returns-in-Ok-finish_found-clause-done g c = subst (λ (t : Told). CompletesBy Always t (g.D.Disk.told c.finish_found.new.disk)) c.read_members.ensures.same c.in-Ok-finish_found.ensures.done
+
+pub returns-in-Ok-clause-story : goal.returns-in-Ok-clause-story
+returns-in-Ok-clause-story g c = subst (λ (t : Told). FinishesBy Always t (g.D.Disk.told c.finish_found.new.disk)) c.read_members.ensures.same c.finish_found.ensures.story
+
+pub returns-clause-bad : goal.returns-clause-bad
+returns-clause-bad g c = λ line is.
+    (c.read_members.ensures.same, bad_told c.args.intent.now (g.D.Disk.told c.args.disk.now) (Err c.in-Err.fault) c.in-Err.fault line c.requires refl is c.in-Err.ensures.told)
+
+pub returns-clause-story : goal.returns-clause-story
+returns-clause-story g c = by_same Always _ _ c.read_members.ensures.same
+
+pub returns-clause-memory : goal.returns-clause-memory
+returns-clause-memory g c = λ is. c.read_members.ensures.same

@@ -1,0 +1,8 @@
+use Rattle.sccs_group.proofs.Found.{read_is, read_others}
+use Rattle.sccs_group.proofs.recovering.read_bytes.Goals as goal
+
+pub returns-in-Ok-members_of-clause-members : goal.returns-in-Ok-members_of-clause-members
+returns-in-Ok-members_of-clause-members c = read_others c.args.bytes.now c.in-Ok.entries c.in-Ok-members_of.members c.in-Ok.ensures c.in-Ok-members_of.ensures
+
+pub returns-in-Ok-members_of-clause-read : goal.returns-in-Ok-members_of-clause-read
+returns-in-Ok-members_of-clause-read c = read_is c.args.bytes.now c.in-Ok.entries c.in-Ok-members_of.members c.in-Ok.ensures c.in-Ok-members_of.ensures

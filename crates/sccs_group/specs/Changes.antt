@@ -1,0 +1,29 @@
+-- The views after the steps of the members of a group, one after the other.
+use Rattle.std.specs.Prelude.{◌≡◌, false, List, [], ◌∷◌, drop, map, Some}
+use Rattle.sccs_base.specs.Name.{IsSfile}
+use Rattle.sccs_disk.specs.Files.{View}
+use Rattle.sccs_files.specs.StepFiles.{Files, moved}
+use Rattle.sccs_pfile.specs.Recovered.{recovered_pfile}
+use Rattle.sccs_moments.specs.Recovery.{is_kept}
+use Rattle.sccs_group.specs.Grouping.{new_pair_of}
+use Rattle.sccs_group.specs.declared.members.Member.{Member}
+
+-- What the step of a member makes of its files.
+pub record Change : Type 0 where
+  pub member : Member
+  pub files : Files
+
+abbrev pub members_in : List Change → List Member
+members_in changes = map (λ (d : Change). d.member) changes
+
+-- the view after the steps
+abbrev pub after_changes : List Change → View → View
+after_changes [] v = v
+after_changes (d ∷ changes) v = after_changes changes (moved v d.member.entry.name (Some d.files))
+
+-- The new s-file and p-file are those that are prepared in a view, and recovery leaves them; the g-file is none at which it looks.
+pub record IsPrepared (v : View) (d : Change) : Type 0 where
+  pub sfile : IsSfile d.member.entry.name
+  pub plain : is_kept (drop 2 d.member.entry.name) ≡ false
+  pub pair : new_pair_of d.member v ≡ record { s = d.files.s; p = d.files.p }
+  pub settled : recovered_pfile d.files.s d.files.p ≡ d.files.p

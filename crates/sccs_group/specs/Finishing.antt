@@ -1,0 +1,92 @@
+-- What finishing a group says that was stopped anywhere behind its intent.
+use Rattle.std.specs.Prelude.{◌≡◌, ◌⊎◌, ℕ, List, ◌∷◌, None, Some, IsSome}
+use Rattle.std.specs.List.{AllByRecursion}
+use Rattle.sccs_base.specs.Name.{IsSfile, p_file, q_file, x_file, z_file}
+use Rattle.sccs_disk.specs.Effects.{pended}
+use Rattle.sccs_disk.specs.Files.{Model, Op, View, view_of}
+use Rattle.sccs_disk.specs.Images.{Allows, Full, Image}
+use Rattle.sccs_disk.specs.Told.{Told, Tells}
+use Rattle.sccs_images.specs.Touches.{Each, earlier, newest}
+use Rattle.sccs_pfile.specs.Recovered.{recovered_pfile}
+use Rattle.sccs_moments.specs.Calm.{HasFirm, IsCalm}
+use Rattle.sccs_moments.specs.Moments.{Guarded, IsFrom}
+use Rattle.sccs_intents.specs.declared.intents.Fate.{Fate}
+use Rattle.sccs_intents.specs.declared.intents.Fate.TheVariants.{Replaced, Removed}
+use Rattle.sccs_moments.specs.Recovery.{IsSound, Pair, RecoversAs, fate_at, pair_of, recover}
+use Rattle.sccs_group.specs.Members.{AreNamed}
+use Rattle.sccs_group.specs.declared.members.Member.{Member}
+
+-- the z-file of each name of an intent is there
+abbrev pub IsHeld : View → Type 0
+IsHeld v = (n : List ℕ) → IsSfile n → IsSome (fate_at v n) → IsSome (v (z_file n))
+
+-- recovery leaves the pair as it is
+abbrev pub IsSettledPair : Pair → Type 0
+IsSettledPair x = recovered_pfile x.s x.p ≡ x.p
+
+-- recovery leaves the new pair of each name of the intent as it is
+abbrev pub IsSettled : View → Type 0
+IsSettled v = (n : List ℕ) → IsSfile n → IsSome (fate_at v n) → IsSettledPair (pair_of (recover n v) n)
+
+-- What finishing needs of the files of a disk that tells its model.
+pub record CanFinish (m : Model) : Type 0 where
+  pub firm : HasFirm m
+  pub held : IsHeld (view_of m)
+  pub settled : IsSettled (view_of m)
+
+-- Each image of m2 recovers as an image of m; and as one with all operations made, where all of m2's are made.
+pub record Follows (m m2 : Model) : Type 0 where
+  pub images : Allows (IsFrom m) m2
+  pub fulls : (w : View) → Full m2 w → (u : View) × Full m u × RecoversAs u w
+
+-- The story went on from a model, each moment follows it, and it may be finished still.
+pub record Finishes (m : Model) (past : List Model) (new : Told) : Type 0 where
+  pub added : List Model
+  pub is : new ≡ Tells (newest added m) (earlier added m past)
+  pub each : Each (Follows m) added m
+  pub guarded : Guarded added m
+  pub can : CanFinish (newest added m)
+
+-- so it is where finishing may begin and P holds of the view
+abbrev pub FinishesBy : (View → Type 0) → Told → Told → Type 0
+FinishesBy P old new = (m : Model) (past : List Model) → old ≡ Tells m past → CanFinish m → P (view_of m) → Finishes m past new
+
+-- It was finished whole: the disk is calm, and each image recovers as one of the start with all operations made.
+pub record Completes (m : Model) (past : List Model) (new : Told) : Type 0 where
+  pub run : Finishes m past new
+  pub calm : IsCalm (newest run.added m)
+  pub all : (w : View) → Image (newest run.added m) w → (u : View) × Full m u × RecoversAs u w
+
+abbrev pub CompletesBy : (View → Type 0) → Told → Told → Type 0
+CompletesBy P old new = (m : Model) (past : List Model) → old ≡ Tells m past → CanFinish m → P (view_of m) → Completes m past new
+
+-- of any view
+abbrev pub Always : View → Type 0
+Always v = Unit {0}
+
+-- ---- a group that is closed
+
+-- the new files of a name are gone, or the p-file is
+abbrev pub TakenBy : Fate → List ℕ → View → Type 0
+TakenBy Replaced n v = (v (x_file n) ≡ None) × (v (q_file n) ≡ None)
+TakenBy Removed n v = (v (x_file n) ≡ None) × (v (p_file n) ≡ None)
+
+-- so it is of each name of the intent: the new files are in their places
+abbrev pub IsTaken : View → Type 0
+IsTaken v = (n : List ℕ) → IsSfile n → (fate : Fate) → fate_at v n ≡ Some fate → TakenBy fate n v
+
+-- the intent is gone, and recovery leaves the pair of each member as it is
+abbrev pub AreUnlocked : List Member → View → Type 0
+AreUnlocked members v = AllByRecursion (λ (mem : Member). IsSound mem.entry.name v) members
+
+-- The new files are in their places; members are named.
+pub record CanClose (members : List Member) (v : View) : Type 0 where
+  pub taken : IsTaken v
+  pub named : AreNamed members v
+
+-- ---- one call
+
+-- a name operation is made where a file is there, or nothing changes
+abbrev pub MayCall : Op → List ℕ → Told → Told → Type 0
+MayCall op k old new =
+    (m : Model) (past : List Model) → old ≡ Tells m past → (new ≡ old) ⊎ (IsSome (view_of m k) × (new ≡ Tells (pended op m) (m ∷ past)))

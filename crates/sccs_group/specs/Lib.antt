@@ -1,0 +1,5 @@
+pub mod Changes
+pub mod Finishing
+pub mod Grouping
+pub mod Members
+pub mod Recovering

@@ -1,0 +1,63 @@
+//! Laws: what the definitions of this crate say together. Each is proved of all values.
+ghost use Rattle.std.specs.Prelude.{◌≡◌, ◌<◌, ◌≤◌, ℕ, List, None, Some, false, length};
+ghost use Rattle.std.specs.List.{AllByRecursion};
+ghost use Rattle.sccs_base.specs.Name.{IsSfile};
+ghost use Rattle.sccs_disk.specs.Files.{Model, View, view_of};
+ghost use Rattle.sccs_disk.specs.Told.{Tells, Told};
+ghost use Rattle.sccs_images.specs.Touches.{Leaves, newest};
+ghost use Rattle.sccs_intents.specs.Intents.{has_name, intent_file};
+ghost use Rattle.sccs_moments.specs.Calm.{IsCalm};
+ghost use Rattle.sccs_moments.specs.Moments.{EndsAfter, EndsBefore, EndsWithin, IsFrom, RecoversOn, Went};
+ghost use Rattle.sccs_moments.specs.Recovery.{RecoversAs, fate_at, pair_of, recover};
+ghost use Rattle.sccs_group.specs.Changes.{Change, IsPrepared, after_changes, members_in};
+ghost use Rattle.sccs_group.specs.Finishing.{Completes};
+ghost use Rattle.sccs_group.specs.Grouping.{CanGroup, GroupEnds, GroupStops, announced, new_pair_of};
+ghost use Rattle.sccs_group.specs.Members.{AreMembers, IsWritten, entries_of};
+ghost use Rattle.sccs_group.specs.declared.members.Member.{Member};
+
+/// Up to a thousand members, at least one, of which no two have the same name, may be written as an intent.
+pub fn thousand_members_are_written()
+    ensures { (members : List Member) → 0 < length members → length members ≤ 1000 → AreMembers members → IsWritten members }
+{}
+
+/// A group that begins on a calm disk is made whole or not at all, wherever it is stopped. Calls before it
+/// that leave the old s-files and p-files join; a stop in the commit leaves what recovers as before the
+/// group or as after it, and after it, as after it.
+pub fn groups_are_made_whole()
+    ensures before { (b d : Told) (m : Model) (past : List Model) → EndsBefore (view_of m) m past b
+        → ((m1 : Model) (past1 : List Model) → b ≡ Tells m1 past1 → IsCalm m1 → EndsBefore (view_of m1) m1 past1 d)
+        → EndsBefore (view_of m) m past d }
+    ensures within { (members : List Member) (a b d : Told) (m : Model) (past : List Model) (w : View) → a ≡ Tells m past
+        → EndsBefore (view_of m) m past b → Leaves (CanGroup members) a b
+        → ((m1 : Model) (past1 : List Model) → b ≡ Tells m1 past1 → RecoversAs w (announced members (view_of m1)))
+        → GroupStops members b d → EndsWithin (view_of m) w m past d }
+    ensures after { (members : List Member) (a b d : Told) (m : Model) (past : List Model) (w : View) → a ≡ Tells m past
+        → EndsBefore (view_of m) m past b → Leaves (CanGroup members) a b
+        → ((m1 : Model) (past1 : List Model) → b ≡ Tells m1 past1 → RecoversAs w (announced members (view_of m1)))
+        → GroupEnds members b d → EndsAfter (view_of m) w m past d }
+{}
+
+/// With the intent in its place recovery of a member's name makes the new s-file and p-file, and that of
+/// another name what it makes without the intent.
+pub fn intents_name_the_new_files()
+    ensures members { (members : List Member) (v : View) (member : Member) → IsSfile member.entry.name
+        → fate_at (announced members v) member.entry.name ≡ Some member.entry.fate
+        → pair_of (recover member.entry.name (announced members v)) member.entry.name ≡ new_pair_of member v }
+    ensures others { (members : List Member) (v : View) (n : List ℕ) → IsWritten members → IsSfile n → v intent_file ≡ None
+        → has_name (entries_of members) n ≡ false
+        → pair_of (recover n (announced members v)) n ≡ pair_of (recover n v) n }
+{}
+
+/// Recovery behind a group that was finished is one call with it.
+pub fn recovery_behind_a_group()
+    ensures { (b d : Told) (m : Model) (past : List Model) → (done : Completes m past b)
+        → view_of (newest done.run.added m) intent_file ≡ None → RecoversOn b d
+        → Went (λ (j : ℕ) (w : View). IsFrom m w) m past 0 d }
+{}
+
+/// The folder with the intent recovers as the folder after the steps of the members, one after the other.
+pub fn groups_recover_as_their_views()
+    ensures { (changes : List Change) (v v1 : View) → IsWritten (members_in changes) → v intent_file ≡ None
+        → v1 intent_file ≡ None → RecoversAs v v1 → AllByRecursion (IsPrepared v1) changes
+        → RecoversAs (after_changes changes v) (announced (members_in changes) v1) }
+{}

@@ -1,0 +1,155 @@
+ghost use Rattle.std.specs.Prelude.{◌≡◌, ℕ, Ok, Err, is_some, IfOk, IfSome, IsErr, IsErrOf, OnOk};
+ghost use Rattle.sccs_disk.specs.Causes.{DiskCauses};
+ghost use Rattle.sccs_disk.specs.Files.{View};
+ghost use Rattle.sccs_disk.specs.Told.{seen};
+ghost use Rattle.sccs_intents.specs.Intents.{intent_file, plan_file};
+ghost use Rattle.sccs_moments.specs.Recovery.{without_name};
+ghost use Rattle.sccs_store.specs.Commits.{Becomes};
+ghost use Rattle.sccs_group.specs.Finishing.{Always, CompletesBy, FinishesBy};
+ghost use Rattle.sccs_group.specs.Members.{AreMembers};
+ghost use Rattle.sccs_group.specs.Recovering.{IsBad, ReadsBytes, ReadsMembers, bare, group_finished, intent_finished};
+
+use crate::calls::clear;
+use crate::finishing::complete;
+use crate::members::{Member, Members};
+use sccs_base::{Failed, Memory, Name};
+use sccs_disk::Disk;
+use sccs_files::{WholeFault, read_whole};
+use sccs_intents::{Entries, IntentFault, read_intent};
+use std::alloc::Global;
+
+/// Why a group wasn't finished: this line of the intent, from 1, isn't of its form; the disk failed; or
+/// want of memory.
+#[derive(Clone, Copy, Debug, PartialEq, Eq)]
+pub enum GroupFault {
+    BadIntent(u64),
+    Failed,
+    Memory,
+}
+
+// the members that entries name
+fn members_of(alloc: Global, entries: &Entries) -> Result<Members, Memory>
+    ensures { IfOk result (λ members. members ≡ bare entries.now) }
+{
+    let mut members = Members::empty(alloc);
+    for entry in entries.items() {
+        members.push(Member {
+            entry: *entry,
+            removes_g: false,
+        })?;
+    }
+    Ok(members)
+}
+
+// the members that an intent of these bytes names
+fn read_bytes(alloc: Global, bytes: &[u8]) -> Result<Members, GroupFault>
+    ensures members { IfOk result (λ members. AreMembers members) }
+    ensures read { ReadsBytes bytes.now result }
+{
+    match read_intent(alloc, bytes) {
+        Ok(entries) => match members_of(alloc, &entries) {
+            Ok(members) => Ok(members),
+            Err(_) => Err(GroupFault::Memory),
+        },
+        Err(IntentFault::BadIntent(line)) => Err(GroupFault::BadIntent(line)),
+        Err(IntentFault::Memory) => Err(GroupFault::Memory),
+    }
+}
+
+// the members that the intent names; None where it isn't there
+fn read_members<D: Disk>(
+    alloc: Global,
+    disk: &mut D,
+    intent: &Name,
+) -> Result<Option<Members>, GroupFault>
+    ensures told { IfSome (seen (D.told disk.old)) (λ (v : View). ReadsMembers (v intent.now) result) }
+    ensures members { IfOk result (λ found. IfSome found (λ members. AreMembers members)) }
+    ensures same { D.told disk.new ≡ D.told disk.old }
+    ensures causes { DiskCauses (IsErrOf result GroupFault.Failed) (D.faults disk.old) (D.faults disk.new) }
+{
+    match read_whole(alloc, disk, intent) {
+        Ok(bytes) => match read_bytes(alloc, bytes.bytes()) {
+            Ok(members) => Ok(Some(members)),
+            Err(fault) => Err(fault),
+        },
+        Err(WholeFault::Missing) => Ok(None),
+        Err(WholeFault::TooLong) => Err(GroupFault::BadIntent(1)),
+        Err(WholeFault::Failed) => Err(GroupFault::Failed),
+        Err(WholeFault::Memory) => Err(GroupFault::Memory),
+    }
+}
+
+// what is left of a group is done, where members were found; then the names are synced
+fn finish_found<D: Disk>(
+    disk: &mut D,
+    intent: &Name,
+    found: &Option<Members>,
+) -> Result<bool, Failed>
+    requires intent { intent.now ≡ intent_file }
+    requires members { IfSome found.now (λ members. AreMembers members) }
+    requires told { IfSome (seen (D.told disk.old)) (λ (v : View). ReadsMembers (v intent_file) (Ok found.now)) }
+    ensures view { OnOk result (Becomes intent_finished (seen (D.told disk.old)) (seen (D.told disk.new))) }
+    ensures found { IfOk result (λ answer. answer ≡ is_some found.now) }
+    ensures story { FinishesBy Always (D.told disk.old) (D.told disk.new) }
+    ensures done { OnOk result (CompletesBy Always (D.told disk.old) (D.told disk.new)) }
+    ensures causes { DiskCauses (IsErr result) (D.faults disk.old) (D.faults disk.new) }
+{
+    match found {
+        None => match disk.sync_names() {
+            Ok(()) => Ok(false),
+            Err(fault) => Err(fault),
+        },
+        Some(members) => match complete(disk, intent, members.items()) {
+            Ok(()) => Ok(true),
+            Err(fault) => Err(fault),
+        },
+    }
+}
+
+// what is left of the group of an intent is done, where it is there; then the names are synced
+fn finish_intent<D: Disk>(alloc: Global, disk: &mut D, intent: &Name) -> Result<bool, GroupFault>
+    requires { intent.now ≡ intent_file }
+    ensures view { OnOk result (Becomes intent_finished (seen (D.told disk.old)) (seen (D.told disk.new))) }
+    ensures found { IfOk result (λ found. IfSome (seen (D.told disk.old)) (λ (v : View). found ≡ is_some (v intent_file))) }
+    ensures bad { (line : ℕ) → result ≡ Err (GroupFault.BadIntent line)
+        → (D.told disk.new ≡ D.told disk.old) × IfSome (seen (D.told disk.old)) (λ (v : View). IsBad (v intent_file) line) }
+    ensures memory { IsErrOf result GroupFault.Memory → D.told disk.new ≡ D.told disk.old }
+    ensures story { FinishesBy Always (D.told disk.old) (D.told disk.new) }
+    ensures done { OnOk result (CompletesBy Always (D.told disk.old) (D.told disk.new)) }
+    ensures causes { DiskCauses (IsErrOf result GroupFault.Failed) (D.faults disk.old) (D.faults disk.new) }
+{
+    match read_members(alloc, disk, intent) {
+        Ok(found) => match finish_found(disk, intent, &found) {
+            Ok(answer) => Ok(answer),
+            Err(_) => Err(GroupFault::Failed),
+        },
+        Err(fault) => Err(fault),
+    }
+}
+
+/// Finishes a group that was stopped: a plan that is there is removed; where the intent is there, what is
+/// left of the group is done, then the intent and each z-file are removed; it ends with a sync of the
+/// names, and answers whether the intent was there. At BadIntent the intent stays. Each moment leaves what
+/// recovers as a folder that a stop could leave at the start, so it may be stopped anywhere and run again.
+pub fn finish_group<D: Disk>(
+    alloc: Global,
+    disk: &mut D,
+    plan: &Name,
+    intent: &Name,
+) -> Result<bool, GroupFault>
+    requires plan { plan.now ≡ plan_file }
+    requires intent { intent.now ≡ intent_file }
+    ensures view { OnOk result (Becomes group_finished (seen (D.told disk.old)) (seen (D.told disk.new))) }
+    ensures found { IfOk result (λ found. IfSome (seen (D.told disk.old)) (λ (v : View). found ≡ is_some (v intent_file))) }
+    ensures bad { (line : ℕ) → result ≡ Err (GroupFault.BadIntent line)
+        → Becomes (without_name plan_file) (seen (D.told disk.old)) (seen (D.told disk.new)) × IfSome (seen (D.told disk.old)) (λ (v : View). IsBad (v intent_file) line) }
+    ensures memory { IsErrOf result GroupFault.Memory → Becomes (without_name plan_file) (seen (D.told disk.old)) (seen (D.told disk.new)) }
+    ensures story { FinishesBy Always (D.told disk.old) (D.told disk.new) }
+    ensures done { OnOk result (CompletesBy Always (D.told disk.old) (D.told disk.new)) }
+    ensures causes { DiskCauses (IsErrOf result GroupFault.Failed) (D.faults disk.old) (D.faults disk.new) }
+{
+    match clear(disk, plan) {
+        Ok(()) => finish_intent(alloc, disk, intent),
+        Err(_) => Err(GroupFault::Failed),
+    }
+}
