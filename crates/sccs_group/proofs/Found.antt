@@ -34,7 +34,7 @@ pub bare_entries : (es : List Entry) → entries_of (bare es) ≡ es
 bare_entries [] = refl
 bare_entries (e ∷ es) = ap (λ (l : List Entry). e ∷ l) (bare_entries es)
 
-bare_plain : (es : List Entry) → AllByRecursion IsPlainG (bare es)
+pub bare_plain : (es : List Entry) → AllByRecursion IsPlainG (bare es)
 bare_plain [] = tt
 bare_plain (e ∷ es) = (λ removes. cc, bare_plain es)
 

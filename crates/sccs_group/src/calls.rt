@@ -1,4 +1,4 @@
-ghost use Rattle.std.specs.Prelude.{◌≡◌, ◌≤◌, Some, drop, IsErr, OnOk};
+ghost use Rattle.std.specs.Prelude.{◌≡◌, ◌≤◌, Some, drop, IsErr, OnErr, OnOk};
 ghost use Rattle.std.specs.Str.{bytes_eq};
 ghost use Rattle.sccs_base.specs.Name.{IsSfile, p_file, q_file, sibling, x_file};
 ghost use Rattle.sccs_disk.specs.Causes.{DiskCauses};
@@ -6,8 +6,10 @@ ghost use Rattle.sccs_disk.specs.Files.{Remove, Rename, View};
 ghost use Rattle.sccs_disk.specs.Told.{seen};
 ghost use Rattle.sccs_images.specs.Touches.{TouchesOnly};
 ghost use Rattle.sccs_moments.specs.Recovery.{fate_at, without_name};
-ghost use Rattle.sccs_store.specs.Commits.{Becomes};
+ghost use Rattle.sccs_moments.specs.Unlocked.{KeepsOthers};
+ghost use Rattle.sccs_store.specs.Commits.{Becomes, MayBecome};
 ghost use Rattle.sccs_group.specs.Finishing.{FinishesBy, MayCall};
+ghost use Rattle.sccs_group.specs.Halfway.{PlacesPart, is_own_but_g, is_own_of_member};
 ghost use Rattle.sccs_group.specs.Members.{IsNamed, g_gone, p_taken, placed, taken};
 
 use crate::members::Member;
@@ -18,6 +20,7 @@ use sccs_intents::Fate;
 /// Removes a file where it is there.
 pub fn clear<D: Disk>(disk: &mut D, name: &Name) -> Result<(), Failed>
     ensures view { OnOk result (Becomes (without_name name.now) (seen (D.told disk.old)) (seen (D.told disk.new))) }
+    ensures view_err { OnErr result (MayBecome (without_name name.now) (seen (D.told disk.old)) (seen (D.told disk.new))) }
     ensures call { MayCall (Remove name.now) name.now (D.told disk.old) (D.told disk.new) }
     ensures touches { TouchesOnly (bytes_eq name.now) (D.told disk.old) (D.told disk.new) }
     ensures causes { DiskCauses (IsErr result) (D.faults disk.old) (D.faults disk.new) }
@@ -32,6 +35,7 @@ pub fn clear<D: Disk>(disk: &mut D, name: &Name) -> Result<(), Failed>
 /// Puts a file that is there in the place of another.
 pub fn take_place<D: Disk>(disk: &mut D, from: &Name, to: &Name) -> Result<(), Failed>
     ensures view { OnOk result (Becomes (taken from.now to.now) (seen (D.told disk.old)) (seen (D.told disk.new))) }
+    ensures view_err { OnErr result (MayBecome (taken from.now to.now) (seen (D.told disk.old)) (seen (D.told disk.new))) }
     ensures call { MayCall (Rename from.now to.now) from.now (D.told disk.old) (D.told disk.new) }
     ensures causes { DiskCauses (IsErr result) (D.faults disk.old) (D.faults disk.new) }
 {
@@ -46,6 +50,7 @@ pub fn take_place<D: Disk>(disk: &mut D, from: &Name, to: &Name) -> Result<(), F
 fn place_s<D: Disk>(disk: &mut D, name: &Name) -> Result<(), Failed>
     requires { IsSfile name.now }
     ensures view { OnOk result (Becomes (taken (x_file name.now) name.now) (seen (D.told disk.old)) (seen (D.told disk.new))) }
+    ensures view_err { OnErr result (MayBecome (taken (x_file name.now) name.now) (seen (D.told disk.old)) (seen (D.told disk.new))) }
     ensures call { MayCall (Rename (x_file name.now) name.now) (x_file name.now) (D.told disk.old) (D.told disk.new) }
     ensures causes { DiskCauses (IsErr result) (D.faults disk.old) (D.faults disk.new) }
 {
@@ -56,6 +61,7 @@ fn place_s<D: Disk>(disk: &mut D, name: &Name) -> Result<(), Failed>
 fn place_q<D: Disk>(disk: &mut D, name: &Name) -> Result<(), Failed>
     requires { IsSfile name.now }
     ensures view { OnOk result (Becomes (taken (q_file name.now) (p_file name.now)) (seen (D.told disk.old)) (seen (D.told disk.new))) }
+    ensures view_err { OnErr result (MayBecome (taken (q_file name.now) (p_file name.now)) (seen (D.told disk.old)) (seen (D.told disk.new))) }
     ensures call { MayCall (Rename (q_file name.now) (p_file name.now)) (q_file name.now) (D.told disk.old) (D.told disk.new) }
     ensures causes { DiskCauses (IsErr result) (D.faults disk.old) (D.faults disk.new) }
 {
@@ -68,6 +74,7 @@ pub fn clear_sibling<D: Disk>(disk: &mut D, name: &Name, letter: u8) -> Result<(
     requires low { 97 ≤ letter }
     requires high { letter ≤ 122 }
     ensures view { OnOk result (Becomes (without_name (sibling letter name.now)) (seen (D.told disk.old)) (seen (D.told disk.new))) }
+    ensures view_err { OnErr result (MayBecome (without_name (sibling letter name.now)) (seen (D.told disk.old)) (seen (D.told disk.new))) }
     ensures call { MayCall (Remove (sibling letter name.now)) (sibling letter name.now) (D.told disk.old) (D.told disk.new) }
     ensures causes { DiskCauses (IsErr result) (D.faults disk.old) (D.faults disk.new) }
 {
@@ -78,6 +85,7 @@ pub fn clear_sibling<D: Disk>(disk: &mut D, name: &Name, letter: u8) -> Result<(
 fn clear_g<D: Disk>(disk: &mut D, name: &Name) -> Result<(), Failed>
     requires { IsSfile name.now }
     ensures view { OnOk result (Becomes (without_name (drop 2 name.now)) (seen (D.told disk.old)) (seen (D.told disk.new))) }
+    ensures view_err { OnErr result (MayBecome (without_name (drop 2 name.now)) (seen (D.told disk.old)) (seen (D.told disk.new))) }
     ensures call { MayCall (Remove (drop 2 name.now)) (drop 2 name.now) (D.told disk.old) (D.told disk.new) }
     ensures causes { DiskCauses (IsErr result) (D.faults disk.old) (D.faults disk.new) }
 {
@@ -88,7 +96,9 @@ fn clear_g<D: Disk>(disk: &mut D, name: &Name) -> Result<(), Failed>
 fn place_p<D: Disk>(disk: &mut D, name: &Name, fate: Fate) -> Result<(), Failed>
     requires { IsSfile name.now }
     ensures view { OnOk result (Becomes (p_taken fate name.now) (seen (D.told disk.old)) (seen (D.told disk.new))) }
+    ensures view_err { OnErr result (MayBecome (p_taken fate name.now) (seen (D.told disk.old)) (seen (D.told disk.new))) }
     ensures story { FinishesBy (λ (v : View). fate_at v name.now ≡ Some fate) (D.told disk.old) (D.told disk.new) }
+    ensures others { KeepsOthers (is_own_but_g name.now) (D.told disk.old) (D.told disk.new) }
     ensures causes { DiskCauses (IsErr result) (D.faults disk.old) (D.faults disk.new) }
 {
     match fate {
@@ -101,7 +111,9 @@ fn place_p<D: Disk>(disk: &mut D, name: &Name, fate: Fate) -> Result<(), Failed>
 fn place_g<D: Disk>(disk: &mut D, member: &Member) -> Result<(), Failed>
     requires { IsSfile member.now.entry.name }
     ensures view { OnOk result (Becomes (g_gone member.now.removes_g member.now.entry.name) (seen (D.told disk.old)) (seen (D.told disk.new))) }
+    ensures view_err { OnErr result (MayBecome (g_gone member.now.removes_g member.now.entry.name) (seen (D.told disk.old)) (seen (D.told disk.new))) }
     ensures story { FinishesBy (λ (v : View). IsNamed v member.now) (D.told disk.old) (D.told disk.new) }
+    ensures others { KeepsOthers (is_own_of_member member.now) (D.told disk.old) (D.told disk.new) }
     ensures causes { DiskCauses (IsErr result) (D.faults disk.old) (D.faults disk.new) }
 {
     if member.removes_g {
@@ -116,7 +128,9 @@ fn place_g<D: Disk>(disk: &mut D, member: &Member) -> Result<(), Failed>
 pub fn place<D: Disk>(disk: &mut D, member: &Member) -> Result<(), Failed>
     requires { IsSfile member.now.entry.name }
     ensures view { OnOk result (Becomes (placed member.now) (seen (D.told disk.old)) (seen (D.told disk.new))) }
+    ensures halfway { OnErr result (PlacesPart member.now (seen (D.told disk.old)) (seen (D.told disk.new))) }
     ensures story { FinishesBy (λ (v : View). IsNamed v member.now) (D.told disk.old) (D.told disk.new) }
+    ensures others { KeepsOthers (is_own_of_member member.now) (D.told disk.old) (D.told disk.new) }
     ensures causes { DiskCauses (IsErr result) (D.faults disk.old) (D.faults disk.new) }
 {
     place_s(disk, &member.entry.name)?;

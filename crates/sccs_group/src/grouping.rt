@@ -9,8 +9,10 @@ ghost use Rattle.sccs_images.specs.Touches.{TouchesOnly};
 ghost use Rattle.sccs_intents.specs.Intents.{intent_file, plan_file};
 ghost use Rattle.sccs_intents.specs.Written.{intent_text};
 ghost use Rattle.sccs_moments.specs.Recovery.{without_name};
+ghost use Rattle.sccs_moments.specs.Unlocked.{KeepsOthers};
 ghost use Rattle.sccs_store.specs.Commits.{Becomes};
 ghost use Rattle.sccs_group.specs.Grouping.{AnnounceEnds, AnnounceStops, GroupEnds, GroupStops, announced};
+ghost use Rattle.sccs_group.specs.Halfway.{IsHalfway, is_own_of_group};
 ghost use Rattle.sccs_group.specs.Members.{AreMembers, IsWritten, completed, entries_of};
 
 use crate::finishing::complete;
@@ -34,8 +36,10 @@ fn announce<D: Disk>(
     requires members { AreMembers members.now }
     requires written { IsWritten members.now }
     ensures view { OnOk result (Becomes (λ (v : View). completed members.now (renamed plan_file intent_file v)) (seen (D.told disk.old)) (seen (D.told disk.new))) }
+    ensures halfway { OnErr result (IsHalfway members.now (seen (D.told disk.old)) (seen (D.told disk.new))) }
     ensures stops { OnErr result (AnnounceStops members.now (D.told disk.old) (D.told disk.new)) }
     ensures ends { OnOk result (AnnounceEnds members.now (D.told disk.old) (D.told disk.new)) }
+    ensures others { KeepsOthers (is_own_of_group members.now) (D.told disk.old) (D.told disk.new) }
     ensures causes { DiskCauses (IsErr result) (D.faults disk.old) (D.faults disk.new) }
 {
     match disk.rename(plan, intent) {
@@ -63,10 +67,12 @@ pub fn commit_group<D: Disk>(
     requires members { AreMembers members.now }
     requires written { IsWritten members.now }
     ensures view { OnOk result (Becomes (λ (v : View). completed members.now (announced members.now v)) (seen (D.told disk.old)) (seen (D.told disk.new))) }
+    ensures halfway { OnErr result (IsHalfway members.now (seen (D.told disk.old)) (seen (D.told disk.new))) }
     ensures memory { IsErrOf result DiskRefusal.Memory → TouchesOnly (bytes_eq plan_file) (D.told disk.old) (D.told disk.new) }
     ensures gone { IsErrOf result DiskRefusal.Memory → Becomes (without_name plan_file) (seen (D.told disk.old)) (seen (D.told disk.new)) }
     ensures stops { OnErr result (GroupStops members.now (D.told disk.old) (D.told disk.new)) }
     ensures ends { OnOk result (GroupEnds members.now (D.told disk.old) (D.told disk.new)) }
+    ensures others { KeepsOthers (is_own_of_group members.now) (D.told disk.old) (D.told disk.new) }
     ensures causes { DiskCauses (IsErrOf result DiskRefusal.Failed) (D.faults disk.old) (D.faults disk.new) }
 {
     match write_anew(disk, plan, text) {
@@ -104,10 +110,12 @@ pub fn commit_members<D: Disk>(
     requires some { 0 < length members.now }
     requires few { length members.now ≤ 1000 }
     ensures view { OnOk result (Becomes (λ (v : View). completed members.now (announced members.now v)) (seen (D.told disk.old)) (seen (D.told disk.new))) }
+    ensures halfway { OnErr result (IsHalfway members.now (seen (D.told disk.old)) (seen (D.told disk.new))) }
     ensures memory { IsErrOf result DiskRefusal.Memory → TouchesOnly (bytes_eq plan_file) (D.told disk.old) (D.told disk.new) }
     ensures gone { IsErrOf result DiskRefusal.Memory → Becomes (without_name plan_file) (seen (D.told disk.old)) (seen (D.told disk.new)) }
     ensures stops { OnErr result (GroupStops members.now (D.told disk.old) (D.told disk.new)) }
     ensures ends { OnOk result (GroupEnds members.now (D.told disk.old) (D.told disk.new)) }
+    ensures others { KeepsOthers (is_own_of_group members.now) (D.told disk.old) (D.told disk.new) }
     ensures causes { DiskCauses (IsErrOf result DiskRefusal.Failed) (D.faults disk.old) (D.faults disk.new) }
 {
     match text_of_intent(alloc, members) {

@@ -1,18 +1,22 @@
 //! Laws: what the definitions of this crate say together. Each is proved of all values.
-ghost use Rattle.std.specs.Prelude.{◌≡◌, ◌<◌, ◌≤◌, ℕ, List, None, Some, false, length};
+ghost use Rattle.std.specs.Prelude.{◌≡◌, ◌<◌, ◌≤◌, ℕ, Bool, List, None, Some, false, length, IfSome};
 ghost use Rattle.std.specs.List.{AllByRecursion};
-ghost use Rattle.sccs_base.specs.Name.{IsSfile};
-ghost use Rattle.sccs_disk.specs.Files.{Model, View, view_of};
-ghost use Rattle.sccs_disk.specs.Told.{Tells, Told};
+ghost use Rattle.std.specs.Str.{bytes_eq};
+ghost use Rattle.sccs_base.specs.Name.{IsSfile, p_file, z_file};
+ghost use Rattle.sccs_disk.specs.Files.{Model, View, put, view_of};
+ghost use Rattle.sccs_disk.specs.Told.{Tells, Told, seen};
+ghost use Rattle.sccs_files.specs.StepFiles.{Alike, moved};
 ghost use Rattle.sccs_images.specs.Touches.{Leaves, newest};
 ghost use Rattle.sccs_intents.specs.Intents.{has_name, intent_file};
 ghost use Rattle.sccs_moments.specs.Calm.{IsCalm};
 ghost use Rattle.sccs_moments.specs.Moments.{EndsAfter, EndsBefore, EndsWithin, IsFrom, RecoversOn, Went};
 ghost use Rattle.sccs_moments.specs.Recovery.{RecoversAs, fate_at, pair_of, recover};
-ghost use Rattle.sccs_group.specs.Changes.{Change, IsPrepared, after_changes, members_in};
+ghost use Rattle.sccs_moments.specs.Unlocked.{BeginsUnlocked, BeginsUnlockedBut, KeepsOthers};
+ghost use Rattle.sccs_group.specs.Changes.{Change, IsPrepared, IsReady, after_changes, members_in};
 ghost use Rattle.sccs_group.specs.Finishing.{Completes};
 ghost use Rattle.sccs_group.specs.Grouping.{CanGroup, GroupEnds, GroupStops, announced, new_pair_of};
-ghost use Rattle.sccs_group.specs.Members.{AreMembers, IsWritten, entries_of};
+ghost use Rattle.sccs_group.specs.Halfway.{NoneLocked, first_placed, intended, is_left_of_group, is_own_of_group, part_placed};
+ghost use Rattle.sccs_group.specs.Members.{AreMembers, IsPlainG, IsWritten, completed, entries_of, placed};
 ghost use Rattle.sccs_group.specs.declared.members.Member.{Member};
 
 /// Up to a thousand members, at least one, of which no two have the same name, may be written as an intent.
@@ -60,4 +64,47 @@ pub fn groups_recover_as_their_views()
     ensures { (changes : List Change) (v v1 : View) → IsWritten (members_in changes) → v intent_file ≡ None
         → v1 intent_file ≡ None → RecoversAs v v1 → AllByRecursion (IsPrepared v1) changes
         → RecoversAs (after_changes changes v) (announced (members_in changes) v1) }
+{}
+
+/// The files of a group are none of the s-files, p-files and z-files of other names; and what an intent
+/// names are members, whose g-files stay.
+pub fn groups_leave_other_names()
+    ensures intended { (v : View) → AreMembers (intended v) × AllByRecursion IsPlainG (intended v) }
+    ensures others { (members : List Member) (n : List ℕ) → AreMembers members → AllByRecursion IsPlainG members → IsSfile n
+        → has_name (entries_of members) n ≡ false
+        → (is_own_of_group members n ≡ false) × (is_own_of_group members (p_file n) ≡ false) × (is_own_of_group members (z_file n) ≡ false) }
+{}
+
+/// A call that changes the files of a group alone begins unlocked where none of its z-files was there, and
+/// else but for names that are exempt, where its members' are.
+pub fn groups_begin_unlocked()
+    ensures but { (exempt : List ℕ → Bool) (members : List Member) (a b : Told) → AreMembers members
+        → AllByRecursion IsPlainG members
+        → ((n : List ℕ) → exempt n ≡ false → has_name (entries_of members) n ≡ false)
+        → KeepsOthers (is_own_of_group members) a b → BeginsUnlockedBut exempt a b }
+    ensures all { (members : List Member) (a b : Told) → AreMembers members → AllByRecursion IsPlainG members
+        → IfSome (seen a) (NoneLocked members) → KeepsOthers (is_own_of_group members) a b → BeginsUnlocked a b }
+{}
+
+/// As far as the calls of a member have come its files are the new ones, in the order of a step, where they
+/// are prepared: the s-file, then the p-file, and behind the last call all of them. Other members stay
+/// prepared.
+pub fn members_get_their_files()
+    ensures s { (w : List ℕ → Bool) (d : Change) (v u : View) → IsReady w v d → Alike w v u
+        → Alike w (part_placed 1 d.member v) (put u d.member.entry.name d.files.s) }
+    ensures p { (w : List ℕ → Bool) (d : Change) (v u : View) → IsReady w v d → Alike w v u
+        → Alike w (part_placed 2 d.member v) (put (put u d.member.entry.name d.files.s) (p_file d.member.entry.name) d.files.p) }
+    ensures y { (w : List ℕ → Bool) (d : Change) (v u : View) → IsReady w v d → Alike w v u
+        → Alike w (part_placed 3 d.member v) (put (put u d.member.entry.name d.files.s) (p_file d.member.entry.name) d.files.p) }
+    ensures all { (w : List ℕ → Bool) (d : Change) (v u : View) → IsReady w v d → Alike w v u
+        → Alike w (placed d.member v) (moved u d.member.entry.name (Some d.files)) }
+    ensures others { (w : List ℕ → Bool) (d other : Change) (v : View) → IsReady w v d → IsReady w v other
+        → bytes_eq d.member.entry.name other.member.entry.name ≡ false → IsReady w (placed d.member v) other }
+{}
+
+/// A group that is committed whole has all calls of all members behind it, but for the plan, the intent and
+/// z-files.
+pub fn whole_groups_are_placed()
+    ensures { (members : List Member) (v : View)
+        → Alike (is_left_of_group members) (completed members (announced members v)) (first_placed (length members) 0 members v) }
 {}

@@ -1,11 +1,13 @@
-ghost use Rattle.std.specs.Prelude.{◌≡◌, ℕ, Ok, Err, is_some, IfOk, IfSome, IsErr, IsErrOf, OnOk};
+ghost use Rattle.std.specs.Prelude.{◌≡◌, ℕ, Ok, Err, is_some, IfOk, IfSome, IsErr, IsErrOf, OnErr, OnOk};
 ghost use Rattle.sccs_disk.specs.Causes.{DiskCauses};
 ghost use Rattle.sccs_disk.specs.Files.{View};
 ghost use Rattle.sccs_disk.specs.Told.{seen};
 ghost use Rattle.sccs_intents.specs.Intents.{intent_file, plan_file};
 ghost use Rattle.sccs_moments.specs.Recovery.{without_name};
+ghost use Rattle.sccs_moments.specs.Unlocked.{KeepsOthers};
 ghost use Rattle.sccs_store.specs.Commits.{Becomes};
 ghost use Rattle.sccs_group.specs.Finishing.{Always, CompletesBy, FinishesBy};
+ghost use Rattle.sccs_group.specs.Halfway.{IsHalfway, intended, is_own_of_group};
 ghost use Rattle.sccs_group.specs.Members.{AreMembers};
 ghost use Rattle.sccs_group.specs.Recovering.{IsBad, ReadsBytes, ReadsMembers, bare, group_finished, intent_finished};
 
@@ -89,9 +91,11 @@ fn finish_found<D: Disk>(
     requires members { IfSome found.now (λ members. AreMembers members) }
     requires told { IfSome (seen (D.told disk.old)) (λ (v : View). ReadsMembers (v intent_file) (Ok found.now)) }
     ensures view { OnOk result (Becomes intent_finished (seen (D.told disk.old)) (seen (D.told disk.new))) }
+    ensures halfway { OnErr result (IfSome (seen (D.told disk.old)) (λ (v : View). IsHalfway (intended v) (seen (D.told disk.old)) (seen (D.told disk.new)))) }
     ensures found { IfOk result (λ answer. answer ≡ is_some found.now) }
     ensures story { FinishesBy Always (D.told disk.old) (D.told disk.new) }
     ensures done { OnOk result (CompletesBy Always (D.told disk.old) (D.told disk.new)) }
+    ensures others { IfSome (seen (D.told disk.old)) (λ (v : View). KeepsOthers (is_own_of_group (intended v)) (D.told disk.old) (D.told disk.new)) }
     ensures causes { DiskCauses (IsErr result) (D.faults disk.old) (D.faults disk.new) }
 {
     match found {
@@ -110,12 +114,14 @@ fn finish_found<D: Disk>(
 fn finish_intent<D: Disk>(alloc: Global, disk: &mut D, intent: &Name) -> Result<bool, GroupFault>
     requires { intent.now ≡ intent_file }
     ensures view { OnOk result (Becomes intent_finished (seen (D.told disk.old)) (seen (D.told disk.new))) }
+    ensures halfway { OnErr result (IfSome (seen (D.told disk.old)) (λ (v : View). IsHalfway (intended v) (seen (D.told disk.old)) (seen (D.told disk.new)))) }
     ensures found { IfOk result (λ found. IfSome (seen (D.told disk.old)) (λ (v : View). found ≡ is_some (v intent_file))) }
     ensures bad { (line : ℕ) → result ≡ Err (GroupFault.BadIntent line)
         → (D.told disk.new ≡ D.told disk.old) × IfSome (seen (D.told disk.old)) (λ (v : View). IsBad (v intent_file) line) }
     ensures memory { IsErrOf result GroupFault.Memory → D.told disk.new ≡ D.told disk.old }
     ensures story { FinishesBy Always (D.told disk.old) (D.told disk.new) }
     ensures done { OnOk result (CompletesBy Always (D.told disk.old) (D.told disk.new)) }
+    ensures others { IfSome (seen (D.told disk.old)) (λ (v : View). KeepsOthers (is_own_of_group (intended v)) (D.told disk.old) (D.told disk.new)) }
     ensures causes { DiskCauses (IsErrOf result GroupFault.Failed) (D.faults disk.old) (D.faults disk.new) }
 {
     match read_members(alloc, disk, intent) {
@@ -140,12 +146,14 @@ pub fn finish_group<D: Disk>(
     requires plan { plan.now ≡ plan_file }
     requires intent { intent.now ≡ intent_file }
     ensures view { OnOk result (Becomes group_finished (seen (D.told disk.old)) (seen (D.told disk.new))) }
+    ensures halfway { OnErr result (IfSome (seen (D.told disk.old)) (λ (v : View). IsHalfway (intended v) (seen (D.told disk.old)) (seen (D.told disk.new)))) }
     ensures found { IfOk result (λ found. IfSome (seen (D.told disk.old)) (λ (v : View). found ≡ is_some (v intent_file))) }
     ensures bad { (line : ℕ) → result ≡ Err (GroupFault.BadIntent line)
         → Becomes (without_name plan_file) (seen (D.told disk.old)) (seen (D.told disk.new)) × IfSome (seen (D.told disk.old)) (λ (v : View). IsBad (v intent_file) line) }
     ensures memory { IsErrOf result GroupFault.Memory → Becomes (without_name plan_file) (seen (D.told disk.old)) (seen (D.told disk.new)) }
     ensures story { FinishesBy Always (D.told disk.old) (D.told disk.new) }
     ensures done { OnOk result (CompletesBy Always (D.told disk.old) (D.told disk.new)) }
+    ensures others { IfSome (seen (D.told disk.old)) (λ (v : View). KeepsOthers (is_own_of_group (intended v)) (D.told disk.old) (D.told disk.new)) }
     ensures causes { DiskCauses (IsErrOf result GroupFault.Failed) (D.faults disk.old) (D.faults disk.new) }
 {
     match clear(disk, plan) {

@@ -1,4 +1,8 @@
-use Rattle.sccs_store.proofs.Working.{err_of, ok_map}
+use Rattle.sccs_store.proofs.Working.{err_map, err_of, ok_map}
+use Rattle.sccs_moments.proofs.Unlocked.{others_then}
+use Rattle.sccs_group.specs.Halfway.{is_own_of_group}
+use Rattle.sccs_group.proofs.Alike.{announced_halfway, half_halfway}
+use Rattle.sccs_group.proofs.GroupFiles.{announce_others}
 use Rattle.sccs_group.proofs.Announcing.{complete_ends, complete_stops, renamed_done, renamed_half, rename_half, announced_view}
 use Rattle.sccs_group.proofs.grouping.announce.Goals as goal
 
@@ -16,3 +20,18 @@ returns-in-Ok-clause-ends g c =
 
 pub returns-in-Err-clause-stops : goal.returns-in-Err-clause-stops
 returns-in-Err-clause-stops g c = rename_half c.args.members.now _ _ c.requires.written (renamed_half c.args.plan.now c.args.intent.now _ _ c.requires.plan c.requires.intent c.in-Err.ensures.half)
+
+pub returns-in-Ok-clause-halfway : goal.returns-in-Ok-clause-halfway
+returns-in-Ok-clause-halfway g c =
+    err_map c.complete.result (announced_halfway c.args.members.now c.args.plan.now c.args.intent.now _ (g.D.Disk.told c.rename.new.self) _ c.requires.plan c.requires.intent c.in-Ok.ensures.done) c.complete.ensures.halfway
+
+pub returns-in-Err-clause-halfway : goal.returns-in-Err-clause-halfway
+returns-in-Err-clause-halfway g c = half_halfway c.args.members.now c.args.plan.now c.args.intent.now _ _ c.requires.plan c.requires.intent c.in-Err.ensures.half
+
+pub returns-in-Ok-clause-others : goal.returns-in-Ok-clause-others
+returns-in-Ok-clause-others g c =
+    others_then (is_own_of_group c.args.members.now) _ (g.D.Disk.told c.rename.new.self) _
+    (announce_others c.args.members.now c.args.plan.now c.args.intent.now _ _ _ _ c.rename.result c.requires.plan c.requires.intent c.rename.ensures) c.complete.ensures.others
+
+pub returns-in-Err-clause-others : goal.returns-in-Err-clause-others
+returns-in-Err-clause-others g c = announce_others c.args.members.now c.args.plan.now c.args.intent.now _ _ _ _ c.rename.result c.requires.plan c.requires.intent c.rename.ensures

@@ -1,3 +1,5 @@
+use Rattle.sccs_group.proofs.Alike.{plan_halfway}
+use Rattle.sccs_group.proofs.GroupFiles.{plan_others}
 use Rattle.std.proofs.Common.{◌∙◌}
 use Rattle.sccs_group.proofs.Committing.{gone_plan, plan_touches, write_stops}
 use Rattle.sccs_group.proofs.Groups.{members_written}
@@ -18,3 +20,9 @@ returns-in-Err-clause-gone g c = λ is. gone_plan c.args.plan.now _ _ c.requires
 
 pub returns-in-Err-clause-stops : goal.returns-in-Err-clause-stops
 returns-in-Err-clause-stops g c = write_stops c.args.members.now _ _ c.requires.members (plan_touches c.args.plan.now _ _ c.requires.plan c.drop_text.ensures.touches)
+
+pub returns-in-Err-clause-halfway : goal.returns-in-Err-clause-halfway
+returns-in-Err-clause-halfway g c = plan_halfway c.args.members.now c.args.plan.now _ _ c.requires.plan c.drop_text.ensures.moves
+
+pub returns-in-Err-clause-others : goal.returns-in-Err-clause-others
+returns-in-Err-clause-others g c = plan_others c.args.members.now c.args.plan.now _ _ c.requires.plan c.drop_text.ensures.touches

@@ -1,7 +1,8 @@
 use Rattle.std.proofs.Common.{ap, ◌∙◌}
 use Rattle.sccs_disk.specs.Files.{Content}
 use Rattle.sccs_disk.specs.Told.{seen}
-use Rattle.sccs_store.proofs.Working.{ok_map}
+use Rattle.sccs_store.proofs.Working.{err_map, ok_map}
+use Rattle.sccs_group.proofs.Intended.{finish_halfway, finish_others, plan_gone_halfway, plan_gone_others}
 use Rattle.sccs_group.specs.Recovering.{IsBad}
 use Rattle.std.specs.Prelude.{Option}
 use Rattle.sccs_group.proofs.Found.{group_view, intent_told, ok_told, plan_done, plan_story, plan_then, plan_view}
@@ -34,3 +35,17 @@ returns-in-Ok-clause-done g c = ok_map c.finish_intent.result (plan_done c.args.
 
 pub returns-in-Err-clause-story : goal.returns-in-Err-clause-story
 returns-in-Err-clause-story g c = plan_story c.args.plan.now _ _ c.requires.plan c.clear.ensures.call
+
+pub returns-in-Ok-clause-halfway : goal.returns-in-Ok-clause-halfway
+returns-in-Ok-clause-halfway g c =
+    err_map c.finish_intent.result (finish_halfway _ (g.D.Disk.told c.clear.new.disk) _ (plan_view c.args.plan.now _ (g.D.Disk.told c.clear.new.disk) c.requires.plan c.in-Ok.ensures.view)) c.finish_intent.ensures.halfway
+
+pub returns-in-Err-clause-halfway : goal.returns-in-Err-clause-halfway
+returns-in-Err-clause-halfway g c = plan_gone_halfway c.args.plan.now _ _ c.requires.plan c.in-Err.ensures.view_err
+
+pub returns-in-Ok-clause-others : goal.returns-in-Ok-clause-others
+returns-in-Ok-clause-others g c =
+    finish_others c.args.plan.now _ (g.D.Disk.told c.clear.new.disk) _ c.requires.plan (plan_view c.args.plan.now _ (g.D.Disk.told c.clear.new.disk) c.requires.plan c.in-Ok.ensures.view) c.clear.ensures.call c.finish_intent.ensures.others
+
+pub returns-in-Err-clause-others : goal.returns-in-Err-clause-others
+returns-in-Err-clause-others g c = plan_gone_others c.args.plan.now _ _ c.requires.plan c.clear.ensures.call

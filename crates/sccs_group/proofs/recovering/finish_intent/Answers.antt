@@ -1,4 +1,8 @@
-use Rattle.std.proofs.Common.{Err, Ok, refl, subst}
+use Rattle.std.proofs.Common.{Err, IfSome, Ok, ap, refl, subst}
+use Rattle.sccs_disk.specs.Files.{View}
+use Rattle.sccs_moments.specs.Unlocked.{KeepsOthers}
+use Rattle.sccs_group.specs.Halfway.{IsHalfway, intended, is_own_of_group}
+use Rattle.sccs_group.proofs.Intended.{halfway_still, others_still}
 use Rattle.sccs_disk.specs.Told.{Told, seen}
 use Rattle.sccs_group.specs.Finishing.{Always, CompletesBy, FinishesBy}
 use Rattle.sccs_group.proofs.Found.{answer_told, bad_told, told_found}
@@ -34,3 +38,21 @@ returns-clause-story g c = by_same Always _ _ c.read_members.ensures.same
 
 pub returns-clause-memory : goal.returns-clause-memory
 returns-clause-memory g c = λ is. c.read_members.ensures.same
+
+pub returns-in-Ok-clause-halfway : goal.returns-in-Ok-clause-halfway
+returns-in-Ok-clause-halfway g c =
+    subst (λ (t : Told). IfSome (seen t) (λ (v : View). IsHalfway (intended v) (seen t) (seen (g.D.Disk.told c.finish_found.new.disk)))) c.read_members.ensures.same c.in-Err-finish_found.ensures.halfway
+
+pub returns-clause-halfway : goal.returns-clause-halfway
+returns-clause-halfway g c = halfway_still _ _ (ap seen c.read_members.ensures.same)
+
+pub returns-in-Ok-finish_found-clause-others : goal.returns-in-Ok-finish_found-clause-others
+returns-in-Ok-finish_found-clause-others g c =
+    subst (λ (t : Told). IfSome (seen t) (λ (v : View). KeepsOthers (is_own_of_group (intended v)) t (g.D.Disk.told c.finish_found.new.disk))) c.read_members.ensures.same c.finish_found.ensures.others
+
+pub returns-in-Ok-clause-others : goal.returns-in-Ok-clause-others
+returns-in-Ok-clause-others g c =
+    subst (λ (t : Told). IfSome (seen t) (λ (v : View). KeepsOthers (is_own_of_group (intended v)) t (g.D.Disk.told c.finish_found.new.disk))) c.read_members.ensures.same c.finish_found.ensures.others
+
+pub returns-clause-others : goal.returns-clause-others
+returns-clause-others g c = others_still _ _ c.read_members.ensures.same
