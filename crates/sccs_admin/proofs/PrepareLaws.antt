@@ -8,7 +8,7 @@ use Rattle.sccs_disk.specs.Calls.{IsThere}
 use Rattle.sccs_disk.specs.Files.{Content, View, put}
 use Rattle.sccs_disk.specs.Told.{Told, seen}
 use Rattle.sccs_disk.proofs.Puts.{put_other, put_same}
-use Rattle.sccs_files.specs.StepFiles.{Files, Moves, is_working, look}
+use Rattle.sccs_files.specs.StepFiles.{Files, Moves, is_working, l_file, look}
 use Rattle.sccs_sid.specs.declared.moments.Stamp.{Stamp}
 use Rattle.sccs_sid.specs.declared.refusals.Refusal.{Refusal}
 use Rattle.sccs_sid.specs.declared.refusals.StepFault.{StepFault}
@@ -77,17 +77,19 @@ find_fails words stamp fault n left (Some v) o2 out err sfile same finds = λ i 
 
 -- ---- the x-file is written
 
-abbrev pub files_of : Option Content → Option Content → Option Content → Option Files
-files_of s p g = Some (record { s = s; p = p; z = None; g = g })
+abbrev pub files_of : Option Content → Option Content → Option Content → Option Content → Option Files
+files_of s p g l = Some (record { s = s; p = p; z = None; g = g; l = l })
 
 pub new_files : (n : List ℕ) (c : Content) (v : View) (p : Prepared) → IsSfile n → IsNewSfile p
-    → files_of (Some c) (unlocked n v (p_file n)) (unlocked n v (drop 2 n)) ≡ Some (files_after n (plan_of p) (put v (x_file n) (Some c)))
+    → files_of (Some c) (unlocked n v (p_file n)) (unlocked n v (drop 2 n)) (unlocked n v (l_file n)) ≡ Some (files_after n (plan_of p) (put v (x_file n) (Some c)))
 new_files n c v p sfile new =
-    ap (λ (o : Option Content). files_of (Some c) o (unlocked n v (drop 2 n))) (put_other v (z_file n) (p_file n) None refl ∙ sym (put_other v (x_file n) (p_file n) (Some c) refl))
-    ∙ (ap (λ (o : Option Content). files_of (Some c) (u (p_file n)) o) (put_other v (z_file n) (drop 2 n) None (from_g 122 n sfile) ∙ sym (put_other v (x_file n) (drop 2 n) (Some c) (from_g 120 n sfile)))
-    ∙ (ap (λ (o : Option Content). files_of o (u (p_file n)) (u (drop 2 n))) (sym (put_same v (x_file n) (Some c)) ∙ ap (λ b. chosen (replaced b) (u (x_file n)) (u n)) (sym new.s))
-    ∙ (ap (λ (f : NewFile). files_of (chosen (replaced p.new_s) (u (x_file n)) (u n)) (chosen f (u (q_file n)) (u (p_file n))) (u (drop 2 n))) (sym new.p_state)
-    ∙ ap (λ (f : NewFile). files_of (chosen (replaced p.new_s) (u (x_file n)) (u n)) (chosen p.new_p (u (q_file n)) (u (p_file n))) (chosen f (u (y_file n)) (u (drop 2 n)))) (sym new.g))))
+    ap (λ (o : Option Content). files_of (Some c) o (unlocked n v (drop 2 n)) (unlocked n v (l_file n))) (put_other v (z_file n) (p_file n) None refl ∙ sym (put_other v (x_file n) (p_file n) (Some c) refl))
+    ∙ (ap (λ (o : Option Content). files_of (Some c) (u (p_file n)) o (unlocked n v (l_file n))) (put_other v (z_file n) (drop 2 n) None (from_g 122 n sfile) ∙ sym (put_other v (x_file n) (drop 2 n) (Some c) (from_g 120 n sfile)))
+    ∙ (ap (λ (o : Option Content). files_of o (u (p_file n)) (u (drop 2 n)) (unlocked n v (l_file n))) (sym (put_same v (x_file n) (Some c)) ∙ ap (λ b. chosen (replaced b) (u (x_file n)) (u n)) (sym new.s))
+    ∙ (ap (λ (f : NewFile). files_of (chosen (replaced p.new_s) (u (x_file n)) (u n)) (chosen f (u (q_file n)) (u (p_file n))) (u (drop 2 n)) (unlocked n v (l_file n))) (sym new.p_state)
+    ∙ (ap (λ (f : NewFile). files_of (chosen (replaced p.new_s) (u (x_file n)) (u n)) (chosen p.new_p (u (q_file n)) (u (p_file n))) (chosen f (u (y_file n)) (u (drop 2 n))) (unlocked n v (l_file n))) (sym new.g)
+    ∙ ap (λ (o : Option Content). files_of (chosen (replaced p.new_s) (u (x_file n)) (u n)) (chosen p.new_p (u (q_file n)) (u (p_file n))) (chosen p.new_g (u (y_file n)) (u (drop 2 n))) o)
+    (put_other v (z_file n) (l_file n) None refl ∙ sym (put_other v (x_file n) (l_file n) (Some c) refl))))))
   where
     u : View
     u = put v (x_file n) (Some c)
@@ -104,14 +106,14 @@ text_prepared words stamp (Ok p) texts n i v o2 out err sfile found writes =
     let f : Files = look (unlocked n v) n in
     let c : Content = new_content words stamp writes.1.0 (text_of texts.text) in
     record {
-      effect = record { new = files_of (Some c) f.p f.g; text = []; out = []; err = []; status = 0 };
+      effect = record { new = files_of (Some c) f.p f.g f.l; text = []; out = []; err = []; status = 0 };
       is = found_outcome words stamp n i _ f texts (as_seen words i n v (Ok texts) sfile found) ∙ made_outcome words stamp f texts writes.1.0 writes.1.1;
       status = refl;
       report = sym writes.0.report;
       message = sym writes.0.message;
       view = moves_wider (bytes_eq (x_file n)) (is_working n) (Some v) o2 (no_x n) (made_moves (x_file n) c (Some v) o2 writes.1.2);
       working = x_alone n p (Some v) o2 writes.0.s (made_moves (x_file n) c (Some v) o2 writes.1.2);
-      files = subst (λ (o : Option View). IfSome o (λ u. files_of (Some c) f.p f.g ≡ Some (files_after n (plan_of p) u))) (sym writes.1.2) (new_files n c v p sfile writes.0);
+      files = subst (λ (o : Option View). IfSome o (λ u. files_of (Some c) f.p f.g f.l ≡ Some (files_after n (plan_of p) u))) (sym writes.1.2) (new_files n c v p sfile writes.0);
       out = gives_none out;
     }
 text_prepared words stamp (Err (Refused refusal)) texts n i v o2 out err sfile found writes = (

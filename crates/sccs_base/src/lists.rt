@@ -1,3 +1,5 @@
+ghost use Rattle.std.specs.Fn.{CalledAt};
+ghost use Rattle.std.specs.List.Retain.{IsFiltered};
 ghost use Rattle.std.specs.Prelude.{◌≡◌, ◌<◌, ◌≤◌, List, [], ◌∷◌, ◌++◌, Some, length, insert, remove, reverse, set, slice_get, IfOk, OnOk, OnErr};
 
 use crate::file_names::Name;
@@ -97,6 +99,16 @@ impl<T> ListOf<T> {
     {
         self.items.push(item)?;
         Ok(())
+    }
+
+    /// Keeps the items for which the test holds, in their order.
+    pub fn retain<F: FnMut(&T) -> bool>(&mut self, test: F)
+    where
+        T: Drop,
+        requires { F.IsAlwaysCallable test }
+        ensures { IsFiltered (CalledAt F.FnMut) test self.old self.new }
+    {
+        self.items.retain(test);
     }
 
     /// Puts the items in the other order.

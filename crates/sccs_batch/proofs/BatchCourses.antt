@@ -63,7 +63,7 @@ heard_is : (left : Option (List ℕ)) (i : List ℕ) → IsHeard true left i →
 heard_is left i (inl never) = absurd (cc)
 heard_is left i (inr is) = is
 
-told_of : (P : List ℕ → Type 0) (left : Option (List ℕ)) (i : List ℕ) → IsHeard true left i → IfSome left P → P i
+pub told_of : (P : List ℕ → Type 0) (left : Option (List ℕ)) (i : List ℕ) → IsHeard true left i → IfSome left P → P i
 told_of P left i heard told = subst (λ (o : Option (List ℕ)). IfSome o P) (heard_is left i heard) told
 
 read_is : (command : Entry → Courses) (lines : List (List ℕ)) (i : List ℕ) → GivesLines file_limit i (Ok lines) → batch_on command i ≡ read_course command lines
@@ -102,7 +102,7 @@ batch_ran command fits whole begun lines r left left2 a b i0 i1 o o2 e e2 d d2 t
     (course_heard (entries_course command (batch_of lines)) (λ i. AllByRecursion fits (batch_of lines).entries) (WholeEntries whole (batch_of lines)) (BegunEntries whole begun (batch_of lines)) r
     (record { left = Some []; stage = a; faults = counts 0 o e d }) (record { left = Some []; stage = b; faults = counts 0 o2 e2 d2 }) left2 left2 i1 refl refl runs)))
 
-refusal_said : (r : Result ℕ Fault) (a : Scene) (err2 : Option (List ℕ)) → SaysRefusal (codes "-") TooLong r a.err err2 → IsSaid [] (refusal_line (codes "-") TooLong) 1 r a (scene a.told a.out err2)
+pub refusal_said : (r : Result ℕ Fault) (a : Scene) (err2 : Option (List ℕ)) → SaysRefusal (codes "-") TooLong r a.err err2 → IsSaid [] (refusal_line (codes "-") TooLong) 1 r a (scene a.told a.out err2)
 refusal_said (Ok status) a err2 says = (says.0, gives_none a.out, says.1)
 refusal_said (Err ends.WriteFault) a err2 says = (some_none a.out [], says)
 refusal_said (Err ends.Memory) a err2 says = absurd says

@@ -1,27 +1,14 @@
 -- The text of a batch (own): each entry is a line `@ DATE TIME LOGIN W I`, then W lines of one word each, then I lines of input.
-use Rattle.std.specs.Prelude.{ℕ, zero, suc, ◌+◌, ◌&&◌, ◌||◌, not, nat_lt, Bool, false, List, [], ◌∷◌, ◌++◌, length, take, drop, flat_map, codes, Option, None, Some, option_map}
+use Rattle.std.specs.Prelude.{ℕ, zero, suc, ◌+◌, ◌&&◌, ◌||◌, not, Bool, false, List, [], ◌∷◌, codes, Option, None, Some}
 use Rattle.std.specs.Result.{result_ok}
 use Rattle.std.specs.Str.{bytes_eq}
-use Rattle.sccs_base.specs.Constants.{lf}
 use Rattle.sccs_base.specs.Login.{is_login}
 use Rattle.sccs_sid.specs.Moment.{moment_of}
-use Rattle.sccs_sid.specs.Reading.{behind, number, only, until}
+use Rattle.sccs_sid.specs.Reading.{only}
+use Rattle.sccs_entries.specs.Entries.{◌>>=◌, counts_of, field_of, has_own, input_in, words_in}
 use Rattle.sccs_batch.specs.declared.entries.Entry.{Entry}
 use Rattle.sccs_batch.specs.declared.entries.EntryHead.{EntryHead}
 use Rattle.sccs_batch.specs.declared.entries.FoundEntry.{FoundEntry}
-
-infixl 10 ◌>>=◌
-abbrev pub ◌>>=◌ : {A B : Type 0} → Option A → (A → Option B) → Option B
-None >>= f = None
-(Some x) >>= f = f x
-
--- the bytes up to the next blank, and those behind it
-abbrev pub field_of : List ℕ → Option (List ℕ × List ℕ)
-field_of bytes = option_map (λ rest. (until 32 bytes, rest)) (behind 32 bytes)
-
--- an entry has 1 to 1,000 words, and at most 10,000,000 lines of input
-abbrev pub are_counts : ℕ → ℕ → Bool
-are_counts words lines = nat_lt 0 words && (nat_lt words 1001 && nat_lt lines 10000001)
 
 -- `@ DATE TIME LOGIN W I`, with single blanks
 unfoldable pub head_of : List ℕ → Option EntryHead
@@ -34,26 +21,21 @@ head_of line = do
   words ← field_of login.1
   moment ← result_ok (moment_of date.0 time.0)
   who ← only (is_login login.0) login.0
-  count ← number 8 words.0
-  lines ← number 8 words.1
-  only (are_counts count lines) (record { stamp = record { moment = moment; login = who }; words = count; lines = lines })
+  counts ← counts_of words.0 words.1
+  Some (record { stamp = record { moment = moment; login = who }; counts = counts })
 
 -- an entry is a single command: no list of commands
 abbrev pub is_single : List (List ℕ) → Bool
 is_single [] = false
 is_single (word ∷ words) = not (bytes_eq word (codes "batch") || bytes_eq word (codes "soak"))
 
--- each line with its LF
-abbrev pub with_lfs : List (List ℕ) → List ℕ
-with_lfs lines = flat_map (λ (line : List ℕ). line ++ lf ∷ []) lines
-
 abbrev pub entry_with : EntryHead → List (List ℕ) → Entry
-entry_with head rest = record { stamp = head.stamp; words = take head.words rest; input = with_lfs (take head.lines (drop head.words rest)) }
+entry_with head rest = record { stamp = head.stamp; words = words_in head.counts rest; input = input_in head.counts rest }
 
 -- the entry that begins so, with its words and its input in the lines that follow
 abbrev pub entry_by : EntryHead → List (List ℕ) → Option FoundEntry
 entry_by head rest =
-    only (not (nat_lt (length rest) (head.words + head.lines)) && is_single (take head.words rest)) (record { entry = entry_with head rest; lines = head.words + head.lines })
+    only (has_own head.counts rest && is_single (words_in head.counts rest)) (record { entry = entry_with head rest; lines = head.counts.words + head.counts.lines })
 
 -- the entry of a line and those behind it
 abbrev pub batch_entry : List ℕ → List (List ℕ) → Option FoundEntry

@@ -1,4 +1,5 @@
 use sccs_base::{Bytes, Words};
+use sccs_entries::Counts;
 use sccs_sid::Stamp;
 
 /// An entry of a batch: a command with a moment, a login, words and an input of its own.
@@ -13,8 +14,7 @@ pub struct Entry {
 #[derive(Clone, Copy)]
 pub struct EntryHead {
     pub stamp: Stamp,
-    pub words: u32,
-    pub lines: u32,
+    pub counts: Counts,
 }
 
 /// An entry, and how many lines stand behind its first one that are its own.

@@ -10,4 +10,4 @@ mod running;
 pub use commands::Commands;
 pub use entries::{Entry, EntryHead, FoundEntry};
 pub use reading::read_entry;
-pub use running::run_batch;
+pub use running::{refuse_input, run_batch};

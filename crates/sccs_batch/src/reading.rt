@@ -1,38 +1,21 @@
-ghost use Rattle.std.specs.Prelude.{◌≡◌, ◌≤◌, length, option_map, true, IfOk, IfSome};
+ghost use Rattle.std.specs.Prelude.{◌≡◌, ◌≤◌, length, true, IfOk, IfSome};
 ghost use Rattle.sccs_sid.specs.Moment.{IsMoment};
-ghost use Rattle.sccs_batch.specs.BatchText.{are_counts, batch_entry, entry_with, field_of, head_of, is_single, with_lfs};
+ghost use Rattle.sccs_entries.specs.Entries.{with_lfs};
+ghost use Rattle.sccs_batch.specs.BatchText.{batch_entry, head_of, is_single};
 
 use crate::entries::{Entry, EntryHead, FoundEntry};
-use sccs_base::{Bytes, LF, Line, ListOf, Login, Memory, Words};
-use sccs_sid::reading::{cut_at, number};
+use sccs_base::{Line, Login, Memory};
+use sccs_entries::{OwnLines, copy_words, join_lines, next_field, own_lines, read_counts};
 use sccs_sid::{Moment, Stamp};
 use std::alloc::Global;
-
-// the bytes up to the next blank, and those behind it
-fn next_field(bytes: &[u8]) -> Option<(&[u8], &[u8])>
-    ensures { option_map (λ field. (field.0.now, field.1.now)) result ≡ field_of bytes.now }
-{
-    let (field, behind) = cut_at(b' ', bytes);
-    match behind {
-        Some(rest) => Some((field, rest)),
-        None => None,
-    }
-}
-
-// whether an entry may have so many words and lines of input
-fn are_counts(words: u32, lines: u32) -> bool
-    ensures { result ≡ are_counts words lines }
-{
-    0 < words && words < 1_001 && lines < 10_000_001
-}
 
 // the first line of an entry
 #[tactic(auto, unfolding(crate::specs::BatchText::head_of))]
 fn read_head(line: &[u8]) -> Option<EntryHead>
     ensures value { result ≡ head_of line.now }
     ensures valid { IfSome result (λ head. IsMoment head.stamp.moment) }
-    ensures words { IfSome result (λ head. head.words ≤ 1000) }
-    ensures lines { IfSome result (λ head. head.lines ≤ 10000000) }
+    ensures words { IfSome result (λ head. head.counts.words ≤ 1000) }
+    ensures lines { IfSome result (λ head. head.counts.lines ≤ 10000000) }
 {
     let (mark, rest) = next_field(line)?;
     if mark != b"@".as_slice() {
@@ -46,15 +29,10 @@ fn read_head(line: &[u8]) -> Option<EntryHead>
         return None;
     };
     let login = Login::read(login)?;
-    let words = number(8, words)?;
-    let lines = number(8, lines)?;
-    if !are_counts(words, lines) {
-        return None;
-    }
+    let counts = read_counts(words, lines)?;
     Some(EntryHead {
         stamp: Stamp { moment, login },
-        words,
-        lines,
+        counts,
     })
 }
 
@@ -70,40 +48,12 @@ fn is_single(words: &[Line]) -> bool
     }
 }
 
-// lines as words
-fn copy_words(alloc: Global, lines: &[Line]) -> Result<Words, Memory>
-    ensures { IfOk result (λ words. words ≡ lines.now) }
-{
-    let mut words = Words::new(alloc);
-    for line in lines {
-        words.push(Bytes::new(alloc, line.bytes())?)?;
-    }
-    Ok(words)
-}
-
-// the bytes of lines, each with its LF
-fn join_lines(alloc: Global, lines: &[Line]) -> Result<Bytes, Memory>
-    ensures { IfOk result (λ bytes. bytes ≡ with_lfs lines.now) }
-{
-    let mut bytes = Vec::new(alloc);
-    for line in lines {
-        bytes.extend_from_slice(line.bytes())?;
-        bytes.push(LF)?;
-    }
-    Ok(ListOf::from_vec(bytes))
-}
-
 // the entry of the lines that follow its first one
-fn entry_with(
-    alloc: Global,
-    head: &EntryHead,
-    words: &[Line],
-    lines: &[Line],
-) -> Result<Entry, Memory>
-    ensures { IfOk result (λ entry. (entry.stamp ≡ head.now.stamp) × (entry.words ≡ words.now) × (entry.input ≡ with_lfs lines.now)) }
+fn entry_with(alloc: Global, head: &EntryHead, own: &OwnLines<'_>) -> Result<Entry, Memory>
+    ensures { IfOk result (λ entry. (entry.stamp ≡ head.now.stamp) × (entry.words ≡ own.now.words.now) × (entry.input ≡ with_lfs own.now.input.now)) }
 {
-    let words = copy_words(alloc, words)?;
-    let input = join_lines(alloc, lines)?;
+    let words = copy_words(alloc, own.words)?;
+    let input = join_lines(alloc, own.input)?;
     Ok(Entry {
         stamp: head.stamp,
         words,
@@ -121,17 +71,15 @@ pub fn read_entry(alloc: Global, line: &[u8], rest: &[Line]) -> Result<Option<Fo
     let Some(head) = read_head(line) else {
         return Ok(None);
     };
-    let words = head.words as usize;
-    let own = words + head.lines as usize;
-    if rest.len() < own {
+    let Some(own) = own_lines(head.counts, rest) else {
+        return Ok(None);
+    };
+    if !is_single(own.words) {
         return Ok(None);
     }
-    if !is_single(&rest[..words]) {
-        return Ok(None);
-    }
-    let entry = entry_with(alloc, &head, &rest[..words], &rest[words..own])?;
+    let entry = entry_with(alloc, &head, &own)?;
     Ok(Some(FoundEntry {
         entry,
-        lines: head.words + head.lines,
+        lines: head.counts.words + head.counts.lines,
     }))
 }

@@ -101,8 +101,8 @@ fn run_entries<C: Commands, O: Sink, E: Sink, D: Disk>(
     Ok(0)
 }
 
-// refuses an input that is past the limit
-fn refuse_input<E: Sink>(err: &mut E) -> Result<u8, Fault>
+/// Refuses an input that is past the limit.
+pub fn refuse_input<E: Sink>(err: &mut E) -> Result<u8, Fault>
     ensures { RefusesInput result (E.given err.old) (E.given err.new) (E.faults err.old) (E.faults err.new) }
 {
     match write_refusal(b"-", &Refusal::TooLong, err) {

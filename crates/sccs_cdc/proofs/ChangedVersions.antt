@@ -47,7 +47,7 @@ texts words stamp before new is made =
     }
 
 made : (words : CdcWords) (stamp : Stamp) (f : Files) (old : Content) (effect new_effect : StepEffect) (before : Parsed) (new : Header) → HasLines words stamp → file_of old.bytes ≡ Ok before → changed_header words stamp before.header ≡ Ok new
-    → new_effect.new ≡ Some (record { s = Some (sealed new before.items); p = f.p; z = None; g = f.g }) → new_effect ≡ effect → ChangesDelta words stamp f old effect
+    → new_effect.new ≡ Some (record { s = Some (sealed new before.items); p = f.p; z = None; g = f.g; l = f.l }) → new_effect ≡ effect → ChangesDelta words stamp f old effect
 made words stamp f old effect new_effect before new lines was is files same =
     let rules = file_keeps old.bytes before was in
     let delta = made_of words stamp before.header new is in

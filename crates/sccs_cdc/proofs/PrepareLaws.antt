@@ -144,14 +144,14 @@ prepared_at words stamp (Ok p) n i v front o2 out err sfile reads is_new moves a
     let f : Files = files_at n v in
     let c : Content = sealed alters.0 reads.0.items in
     record {
-      effect = record { new = files_of (Some c) f.p f.g; text = []; out = []; err = []; status = 0 };
+      effect = record { new = files_of (Some c) f.p f.g f.l; text = []; out = []; err = []; status = 0 };
       is = made_outcome words stamp n i v front (Ok alters.0) sfile reads alters.1;
       status = refl;
       report = sym is_new.report;
       message = sym is_new.message;
       view = moves_wider (bytes_eq (x_file n)) (is_working n) (Some v) o2 (no_x n) moves;
       working = x_alone n p (Some v) o2 is_new.s moves;
-      files = subst (λ (o : Option View). IfSome o (λ u. files_of (Some c) f.p f.g ≡ Some (files_after n (plan_of p) u))) (sym alters.2) (new_files n c v p sfile is_new);
+      files = subst (λ (o : Option View). IfSome o (λ u. files_of (Some c) f.p f.g f.l ≡ Some (files_after n (plan_of p) u))) (sym alters.2) (new_files n c v p sfile is_new);
       out = gives_none out;
     }
 prepared_at words stamp (Err (Refused refusal)) n i v front o2 out err sfile reads is_new moves alters =

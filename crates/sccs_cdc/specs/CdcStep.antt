@@ -67,5 +67,6 @@ cdc_change words stamp = record {
   named = λ n. [];
   takes = false;
   silent = true;
+  early = false;
   could = quiet_checks cdc_checks;
 }

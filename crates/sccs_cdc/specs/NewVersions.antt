@@ -35,5 +35,5 @@ pub record ChangesDelta (words : CdcWords) (stamp : Stamp) (f : Files) (old : Co
   pub meant : changeable words stamp before.header ≡ Ok delta
   pub texts : ChangesTexts words stamp before after delta
   -- the new s-file reads as this file; p-file and g-file stay
-  pub files : effect.new ≡ Some (record { s = Some (sealed after.header after.items); p = f.p; z = None; g = f.g })
+  pub files : effect.new ≡ Some (record { s = Some (sealed after.header after.items); p = f.p; z = None; g = f.g; l = f.l })
   pub reads : IsSFile (sealed after.header after.items).bytes after.header after.items

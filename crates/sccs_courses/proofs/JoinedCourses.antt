@@ -3,7 +3,7 @@ use Rattle.std.proofs.Common.{◌⊎◌, ℕ, ◌≤◌, Bool, List, ◌++◌, O
 use Rattle.sccs_base.specs.Stream.{GivesOk, GivesSome, Rose}
 use Rattle.sccs_base.proofs.Gifts.{gives_both, gives_then}
 use Rattle.sccs_disk.specs.Files.{Folder, Model, view_in}
-use Rattle.sccs_disk.specs.Told.{seen}
+use Rattle.sccs_disk.specs.Told.{Told, seen}
 use Rattle.sccs_files.specs.StepFiles.{Shows}
 use Rattle.sccs_images.specs.Touches.{earlier, newest}
 use Rattle.sccs_moments.specs.Unlocked.{BeginsUnlockedBut}
@@ -17,7 +17,7 @@ use Rattle.sccs_steps.specs.declared.faults.Fault.{Fault}
 use Rattle.sccs_steps.proofs.JoinedSteps.{err_more, ran_then, stops_more, stops_then}
 use Rattle.sccs_steps.proofs.Turns.{front_all, rest_all}
 use Rattle.sccs_courses.specs.Courses.{AllClear, AllExempt, AllPlain, AllSafe, AllTake, Courses, Portion, follow, portions_of, steps_along, steps_in}
-use Rattle.sccs_courses.specs.Following.{BegunThen, CourseMoments, MakesCourse, RunsCourse, RunsTo, SpeaksTo, StopsCourse, UnlockedCourse, WholeThen}
+use Rattle.sccs_courses.specs.Following.{AreKnown, BegunThen, CourseMoments, MakesCourse, RunsCourse, RunsTo, SpeaksTo, StopsCourse, UnlockedCourse, WholeThen}
 use Rattle.sccs_courses.proofs.CourseMomentLaws.{keeps_now, may_now, more_moments, then_moments}
 use Rattle.sccs_courses.proofs.Portions.{both_all, safe_later, steps_more}
 
@@ -59,6 +59,11 @@ causes_then one r a b c first next = record {
   broke = λ is. later_rose a.disk b.disk c.disk first.disk_later (next.broke is);
 }
 
+-- what is known of several portions is known of the first ones
+known_first : (told : Told) (folder : Folder) (ps qs : List Portion) → AreKnown told folder (ps ++ qs) → AreKnown told folder ps
+known_first told folder ps qs (inl none) = inl (front_all _ ps qs none)
+known_first told folder ps qs (inr safe) = inr (record { model = safe.model; past = safe.past; is = safe.is; may = safe.may; safe = front_all _ ps qs safe.safe })
+
 -- ---- to its end, and then the other
 
 pub course_then : (first : Courses) (rest : ℕ → Courses) (given given1 given2 : List ℕ → Type 0)
@@ -67,13 +72,17 @@ pub course_then : (first : Courses) (rest : ℕ → Courses) (given given1 given
     → RunsCourse first given1 whole begun (Ok one) s t → RunsCourse (rest one) given2 (whole2 one) (begun2 one) r t u → RunsCourse (follow first rest) given (WholeThen whole whole2) (BegunThen whole begun begun2) r s u
 course_then first rest given given1 given2 whole begun whole2 begun2 one r s t u to1 to2 takes done next = record {
   takes = λ folder i. both_all _ (portions_of first folder i) (rest_in folder i) (done.takes folder i) (takes (first folder i).status (left_in folder i) i);
-  steps = λ w folder i spares clear shows heard.
-      steps_at w folder i spares clear heard (done.steps w folder i spares (front_all _ (portions_of first folder i) (rest_in folder i) clear) shows (to1 i heard));
+  steps = λ w folder i spares clear shows known heard.
+      steps_at w folder i spares clear shows known heard
+      (done.steps w folder i spares (front_all _ (portions_of first folder i) (rest_in folder i) clear) shows (known_first s.stage.told folder (portions_of first folder i) (rest_in folder i) known) (to1 i heard));
   stops = λ w folder i m past spares clear shows heard told may safe.
-      stops_at w folder i m past spares clear heard safe (done.steps w folder i spares (front_all _ (portions_of first folder i) (rest_in folder i) clear) shows (to1 i heard))
+      stops_at w folder i m past spares clear heard safe
+      (done.steps w folder i spares (front_all _ (portions_of first folder i) (rest_in folder i) clear) shows
+      (inr (record { model = m; past = past; is = told; may = may; safe = front_all _ (portions_of first folder i) (rest_in folder i) safe })) (to1 i heard))
       (done.stops w folder i m past spares (front_all _ (portions_of first folder i) (rest_in folder i) clear) shows (to1 i heard) told may (front_all _ (portions_of first folder i) (rest_in folder i) safe));
-  unlocked = λ w folder i spares clear shows heard exempt plain freed.
-      unlocked_at w folder i spares clear shows heard exempt plain freed (done.steps w folder i spares (front_all _ (portions_of first folder i) (rest_in folder i) clear) shows (to1 i heard));
+  unlocked = λ w folder i spares clear shows known heard exempt plain freed.
+      unlocked_at w folder i spares clear shows known heard exempt plain freed
+      (done.steps w folder i spares (front_all _ (portions_of first folder i) (rest_in folder i) clear) shows (known_first s.stage.told folder (portions_of first folder i) (rest_in folder i) known) (to1 i heard));
   speaks = speaks_then whole begun whole2 begun2 one r s.stage.err t.stage.err u.stage.err done.speaks next.speaks;
   causes = causes_then one r s.faults t.faults u.faults done.causes next.causes;
 }
@@ -87,12 +96,28 @@ course_then first rest given given1 given2 whole begun whole2 begun2 one r s t u
     Began : (w : List ℕ → Bool) (folder : Folder) (i : List ℕ) → Type 0
     Began w folder i = RunsTo (first folder i).status w (Ok one) folder (steps_along first folder i) (shown s.stage) (shown t.stage)
 
-    steps_at : (w : List ℕ → Bool) (folder : Folder) (i : List ℕ) → Spares w → AllClear w (portions_of (follow first rest) folder i) → given i → Began w folder i
+    -- what is known behind the first
+    known_rest : (w : List ℕ → Bool) (folder : Folder) (i : List ℕ) → Spares w → AllClear w (portions_of (follow first rest) folder i) → Shows w (seen s.stage.told) (view_in folder) → given i
+        → AreKnown s.stage.told folder (portions_of (follow first rest) folder i) → AreKnown t.stage.told (left_in folder i) (rest_in folder i)
+    known_rest w folder i spares clear shows heard (inl none) = inl (rest_all _ (portions_of first folder i) (rest_in folder i) none)
+    known_rest w folder i spares clear shows heard (inr safe) =
+        let moments : CourseMoments w (Ok one) folder (steps_along first folder i) s.stage t.stage safe.model safe.past =
+        done.stops w folder i safe.model safe.past spares (front_all _ (portions_of first folder i) (rest_in folder i) clear) shows (to1 i heard) safe.is safe.may (front_all _ (portions_of first folder i) (rest_in folder i) safe.safe) in
+        inr (record {
+          model = newest moments.list.went.added safe.model;
+          past = earlier moments.list.went.added safe.model safe.past;
+          is = moments.list.went.is;
+          may = may_now w one folder (steps_along first folder i) s.stage t.stage safe.model safe.past moments;
+          safe = safe_later (rest_in folder i) (view_in folder) (view_in (left_in folder i)) (keeps_now w one folder (steps_along first folder i) s.stage t.stage safe.model safe.past moments) (takes (first folder i).status (left_in folder i) i)
+              (rest_all _ (portions_of first folder i) (rest_in folder i) safe.safe);
+        })
+
+    steps_at : (w : List ℕ → Bool) (folder : Folder) (i : List ℕ) → Spares w → AllClear w (portions_of (follow first rest) folder i) → Shows w (seen s.stage.told) (view_in folder) → AreKnown s.stage.told folder (portions_of (follow first rest) folder i) → given i → Began w folder i
         → RunsTo (follow first rest folder i).status w r folder (steps_along (follow first rest) folder i) (shown s.stage) (shown u.stage)
-    steps_at w folder i spares clear heard ran =
+    steps_at w folder i spares clear shows known heard ran =
         subst (λ (ts : List NamedStep). RunsTo (follow first rest folder i).status w r folder ts (shown s.stage) (shown u.stage)) (sym (steps_more (portions_of first folder i) (rest_in folder i)))
         (runs_then (follow first rest folder i).status w r folder (steps_along first folder i) (steps_in (rest_in folder i)) (shown s.stage) (shown t.stage) (shown u.stage) ran.1
-        ((subst (λ code. MakesCourse (rest code) given2 r t.stage u.stage) ran.0 next.steps) w (left_in folder i) i spares (rest_all _ (portions_of first folder i) (rest_in folder i) clear) ran.1.view (to2 i heard)))
+        ((subst (λ code. MakesCourse (rest code) given2 r t.stage u.stage) ran.0 next.steps) w (left_in folder i) i spares (rest_all _ (portions_of first folder i) (rest_in folder i) clear) ran.1.view (known_rest w folder i spares clear shows heard known) (to2 i heard)))
 
     stops_at : (w : List ℕ → Bool) (folder : Folder) (i : List ℕ) (m : Model) (past : List Model) → Spares w → AllClear w (portions_of (follow first rest) folder i) → given i
         → AllSafe (view_in folder) (portions_of (follow first rest) folder i) → Began w folder i → CourseMoments w (Ok one) folder (steps_along first folder i) s.stage t.stage m past
@@ -104,13 +129,13 @@ course_then first rest given given1 given2 whole begun whole2 begun2 one r s t u
         (rest_all _ (portions_of first folder i) (rest_in folder i) clear) ran.1.view (to2 i heard) moments.list.went.is (may_now w one folder (steps_along first folder i) s.stage t.stage m past moments)
         (safe_later (rest_in folder i) (view_in folder) (view_in (left_in folder i)) (keeps_now w one folder (steps_along first folder i) s.stage t.stage m past moments) (takes (first folder i).status (left_in folder i) i) (rest_all _ (portions_of first folder i) (rest_in folder i) safe))))
 
-    unlocked_at : (w : List ℕ → Bool) (folder : Folder) (i : List ℕ) → Spares w → AllClear w (portions_of (follow first rest) folder i) → Shows w (seen s.stage.told) (view_in folder) → given i
+    unlocked_at : (w : List ℕ → Bool) (folder : Folder) (i : List ℕ) → Spares w → AllClear w (portions_of (follow first rest) folder i) → Shows w (seen s.stage.told) (view_in folder) → AreKnown s.stage.told folder (portions_of (follow first rest) folder i) → given i
         → (exempt : List ℕ → Bool) → AllPlain (portions_of (follow first rest) folder i) → AllExempt exempt (portions_of (follow first rest) folder i) → Began w folder i → BeginsUnlockedBut exempt s.stage.told u.stage.told
-    unlocked_at w folder i spares clear shows heard exempt plain freed ran =
+    unlocked_at w folder i spares clear shows known heard exempt plain freed ran =
         let ps : List Portion = portions_of first folder i in
         let qs : List Portion = rest_in folder i in
-        but_then exempt s.stage.told t.stage.told u.stage.told (done.unlocked w folder i spares (front_all _ ps qs clear) shows (to1 i heard) exempt (front_all _ ps qs plain) (front_all _ ps qs freed))
-        ((subst (λ code. UnlockedCourse (rest code) given2 t.stage.told u.stage.told) ran.0 next.unlocked) w (left_in folder i) i spares (rest_all _ ps qs clear) ran.1.view (to2 i heard) exempt (rest_all _ ps qs plain) (rest_all _ ps qs freed))
+        but_then exempt s.stage.told t.stage.told u.stage.told (done.unlocked w folder i spares (front_all _ ps qs clear) shows (known_first s.stage.told folder ps qs known) (to1 i heard) exempt (front_all _ ps qs plain) (front_all _ ps qs freed))
+        ((subst (λ code. UnlockedCourse (rest code) given2 t.stage.told u.stage.told) ran.0 next.unlocked) w (left_in folder i) i spares (rest_all _ ps qs clear) ran.1.view (known_rest w folder i spares clear shows heard known) (to2 i heard) exempt (rest_all _ ps qs plain) (rest_all _ ps qs freed))
 
 -- ---- ended early
 
@@ -121,15 +146,15 @@ pub course_cut : (first : Courses) (rest : ℕ → Courses) (given given1 : List
     → RunsCourse first given1 whole begun (Err fault) s t → RunsCourse (follow first rest) given (WholeThen whole whole2) (BegunThen whole begun begun2) (Err fault) s t
 course_cut first rest given given1 whole begun whole2 begun2 fault s t to1 takes cut = record {
   takes = λ folder i. both_all _ (portions_of first folder i) (rest_in folder i) (cut.takes folder i) (takes (first folder i).status (folder_after folder (steps_along first folder i)) i);
-  steps = λ w folder i spares clear shows heard.
+  steps = λ w folder i spares clear shows known heard.
       subst (λ (ts : List NamedStep). RunsTo (follow first rest folder i).status w (Err fault) folder ts (shown s.stage) (shown t.stage)) (sym (steps_more (portions_of first folder i) (rest_in folder i)))
-      (stops_more w fault folder (steps_along first folder i) (steps_in (rest_in folder i)) (shown s.stage) (shown t.stage) (cut.steps w folder i spares (front_all _ (portions_of first folder i) (rest_in folder i) clear) shows (to1 i heard)));
+      (stops_more w fault folder (steps_along first folder i) (steps_in (rest_in folder i)) (shown s.stage) (shown t.stage) (cut.steps w folder i spares (front_all _ (portions_of first folder i) (rest_in folder i) clear) shows (known_first s.stage.told folder (portions_of first folder i) (rest_in folder i) known) (to1 i heard)));
   stops = λ w folder i m past spares clear shows heard told may safe.
       subst (λ (ts : List NamedStep). CourseMoments w (Err fault) folder ts s.stage t.stage m past) (sym (steps_more (portions_of first folder i) (rest_in folder i)))
       (more_moments w fault folder (steps_along first folder i) (steps_in (rest_in folder i)) s.stage t.stage m past
       (cut.stops w folder i m past spares (front_all _ (portions_of first folder i) (rest_in folder i) clear) shows (to1 i heard) told may (front_all _ (portions_of first folder i) (rest_in folder i) safe)));
-  unlocked = λ w folder i spares clear shows heard exempt plain freed.
-      cut.unlocked w folder i spares (front_all _ (portions_of first folder i) (rest_in folder i) clear) shows (to1 i heard) exempt (front_all _ (portions_of first folder i) (rest_in folder i) plain) (front_all _ (portions_of first folder i) (rest_in folder i) freed);
+  unlocked = λ w folder i spares clear shows known heard exempt plain freed.
+      cut.unlocked w folder i spares (front_all _ (portions_of first folder i) (rest_in folder i) clear) shows (known_first s.stage.told folder (portions_of first folder i) (rest_in folder i) known) (to1 i heard) exempt (front_all _ (portions_of first folder i) (rest_in folder i) plain) (front_all _ (portions_of first folder i) (rest_in folder i) freed);
   speaks = (cut.speaks.0, inl cut.speaks.1, cut.speaks.2);
   causes = cut.causes;
 }

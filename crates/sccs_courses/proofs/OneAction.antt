@@ -25,10 +25,10 @@ pub steps_course : (x : Action) (made : Steps) (given : List ℕ → Type 0) (wh
     → RunsSteps x made given (SpeakBy x.rule whole begun) hearing r s t → RunsCourse (portion_of x made) given (WholeBy x.rule whole) begun r s t
 steps_course x made given whole begun hearing r s t takes runs = record {
   takes = λ folder i. (takes, tt);
-  steps = λ w folder i spares clear shows heard. runs_to x.rule w r folder (made folder i) (shown s.stage) (shown t.stage) (runs.steps w folder i spares clear.0 shows heard);
+  steps = λ w folder i spares clear shows known heard. runs_to x.rule w r folder (made folder i) (shown s.stage) (shown t.stage) (runs.steps w folder i spares clear.0.names shows heard);
   stops = λ w folder i m past spares clear shows heard told may safe.
-      let run = runs.stops w folder i m past spares clear.0 shows heard told may safe.0 in course_moments w r folder (made folder i) s.stage t.stage m past run.list run.keeps run.images;
-  unlocked = λ w folder i spares clear shows heard exempt plain freed. runs.unlocked w folder i spares clear.0 shows heard exempt plain.0 freed.0;
+      let run = runs.stops w folder i m past spares clear.0.names shows heard told may safe.0 in course_moments w r folder (made folder i) s.stage t.stage m past run.list run.keeps run.images;
+  unlocked = λ w folder i spares clear shows known heard exempt plain freed. runs.unlocked w folder i spares clear.0.names shows heard exempt plain.0 freed.0;
   speaks = speaks_to x.rule whole begun r s.stage.err t.stage.err runs.speaks;
   causes = runs.causes;
 }

@@ -3,7 +3,7 @@ use Rattle.std.proofs.Common.{◌≡◌, List, [], ◌∷◌, ◌++◌, append_a
 use Rattle.std.specs.List.{AllByRecursion}
 use Rattle.std.proofs.lemmas.List.{append-nil}
 use Rattle.sccs_disk.specs.Files.{View}
-use Rattle.sccs_steps.specs.ListStops.{KeepsNames}
+use Rattle.sccs_steps.specs.ListStops.{KeepsSafe}
 use Rattle.sccs_steps.specs.StepLists.{NamedStep}
 use Rattle.sccs_steps.proofs.Turns.{each_all}
 use Rattle.sccs_courses.specs.Courses.{AllSafe, AllTake, Portion, steps_in}
@@ -19,7 +19,7 @@ steps_more (p ∷ []) (q ∷ qs) = refl
 steps_more (p ∷ r ∷ ps) qs = ap (λ (ts : List NamedStep). p.steps ++ ts) (steps_more (r ∷ ps) qs) ∙ sym (append_assoc p.steps (steps_in (r ∷ ps)) (steps_in qs))
 
 -- names that were safe are safe later
-pub safe_later : (ps : List Portion) (u v : View) → KeepsNames u v → AllTake ps → AllSafe u ps → AllSafe v ps
+pub safe_later : (ps : List Portion) (u v : View) → KeepsSafe u v → AllTake ps → AllSafe u ps → AllSafe v ps
 safe_later [] u v keeps takes safe = tt
 safe_later (p ∷ ps) u v keeps takes safe =
-    (each_all _ _ p.steps (λ (t : NamedStep) before fits. (λ changes. keeps.safe t.name (takes.0 changes t.name fits) ((before fits).0 changes), λ never. keeps.none ((before fits).1 never))) safe.0, safe_later ps u v keeps takes.1 safe.1)
+    (each_all _ _ p.parts (λ (t : NamedStep) before fits changes. keeps t.name (takes.0 changes t.name fits) (before fits changes)) safe.0, safe_later ps u v keeps takes.1 safe.1)

@@ -7,10 +7,10 @@ use Rattle.sccs_steps.specs.Settings.{Setting}
 use Rattle.sccs_steps.specs.StepLists.{NamedStep}
 use Rattle.sccs_steps.specs.declared.faults.Fault.{Fault}
 use Rattle.sccs_courses.specs.Courses.{AllClear, AllExempt, AllPlain, AllSafe, AllTake, Courses, portions_of, steps_along}
-use Rattle.sccs_courses.specs.Following.{CourseMoments, RunsCourse, RunsTo, SpeaksTo}
+use Rattle.sccs_courses.specs.Following.{AreKnown, CourseMoments, RunsCourse, RunsTo, SpeaksTo}
 use Rattle.sccs_courses.specs.QuietSettings.{with_input}
 
-never_rose : (b c : ℕ) → Rose 0 0 → Rose b c
+pub never_rose : (b c : ℕ) → Rose 0 0 → Rose b c
 never_rose b c (inl above) = absurd (omega (arith, above))
 never_rose b c (inr full) = absurd (let no : 0 ≡ 18446744073709551615 = full in omega (arith, no))
 
@@ -40,15 +40,16 @@ pub course_chosen : (choose : List ℕ → Courses) (course : Courses) (given gi
     → RunsCourse course given1 whole begun r s t → RunsCourse (λ folder i. choose i folder i) given whole begun r s t
 course_chosen choose course given given1 whole begun r s t takes is to runs = record {
   takes = takes;
-  steps = λ w folder i spares clear shows heard.
+  steps = λ w folder i spares clear shows known heard.
       subst (λ (c : Courses). RunsTo (c folder i).status w r folder (steps_along c folder i) (shown s.stage) (shown t.stage)) (sym (is i heard))
-      (runs.steps w folder i spares (subst (λ (c : Courses). AllClear w (portions_of c folder i)) (is i heard) clear) shows (to i heard));
+      (runs.steps w folder i spares (subst (λ (c : Courses). AllClear w (portions_of c folder i)) (is i heard) clear) shows (subst (λ (c : Courses). AreKnown s.stage.told folder (portions_of c folder i)) (is i heard) known) (to i heard));
   stops = λ w folder i m past spares clear shows heard told may safe.
       subst (λ (c : Courses). CourseMoments w r folder (steps_along c folder i) s.stage t.stage m past) (sym (is i heard))
       (runs.stops w folder i m past spares (subst (λ (c : Courses). AllClear w (portions_of c folder i)) (is i heard) clear) shows (to i heard) told may
       (subst (λ (c : Courses). AllSafe (view_in folder) (portions_of c folder i)) (is i heard) safe));
-  unlocked = λ w folder i spares clear shows heard exempt plain freed.
-      runs.unlocked w folder i spares (subst (λ (c : Courses). AllClear w (portions_of c folder i)) (is i heard) clear) shows (to i heard) exempt
+  unlocked = λ w folder i spares clear shows known heard exempt plain freed.
+      runs.unlocked w folder i spares (subst (λ (c : Courses). AllClear w (portions_of c folder i)) (is i heard) clear) shows
+      (subst (λ (c : Courses). AreKnown s.stage.told folder (portions_of c folder i)) (is i heard) known) (to i heard) exempt
       (subst (λ (c : Courses). AllPlain (portions_of c folder i)) (is i heard) plain) (subst (λ (c : Courses). AllExempt exempt (portions_of c folder i)) (is i heard) freed);
   speaks = runs.speaks;
   causes = runs.causes;
@@ -79,9 +80,9 @@ pub course_with : (course : Courses) (input : List ℕ) (given : List ℕ → Ty
     → RunsCourse course given whole begun r s t → RunsCourse (λ folder i. course folder input) (λ i. given input) whole begun r s t
 course_with course input given whole begun r s t runs = record {
   takes = λ folder i. runs.takes folder input;
-  steps = λ w folder i spares clear shows heard. runs.steps w folder input spares clear shows heard;
+  steps = λ w folder i spares clear shows known heard. runs.steps w folder input spares clear shows known heard;
   stops = λ w folder i m past spares clear shows heard told may safe. runs.stops w folder input m past spares clear shows heard told may safe;
-  unlocked = λ w folder i spares clear shows heard exempt plain freed. runs.unlocked w folder input spares clear shows heard exempt plain freed;
+  unlocked = λ w folder i spares clear shows known heard exempt plain freed. runs.unlocked w folder input spares clear shows known heard exempt plain freed;
   speaks = runs.speaks;
   causes = runs.causes;
 }

@@ -13,13 +13,13 @@ use Rattle.sccs_moments.proofs.UnlockedBut.{but_same}
 use Rattle.sccs_moments.proofs.Untouched.{before_after, same_before}
 use Rattle.sccs_steps.specs.Calls.{Scene, World, shown}
 use Rattle.sccs_steps.specs.Causes.{RunCauses}
-use Rattle.sccs_steps.specs.ListStops.{KeepsNamesFrom, MayBegin}
+use Rattle.sccs_steps.specs.ListStops.{KeepsSafeFrom, MayBegin}
 use Rattle.sccs_steps.specs.Settings.{Setting}
 use Rattle.sccs_steps.specs.StepLists.{NamedStep, ShowsNext, Stopped, Stops, next_text}
 use Rattle.sccs_steps.specs.declared.faults.Fault.{Fault}
 use Rattle.sccs_steps.specs.declared.faults.Fault.TheVariants as ends
 use Rattle.sccs_steps.proofs.Cleared.{cleared_same}
-use Rattle.sccs_steps.proofs.FirstMoved.{shows_none}
+use Rattle.sccs_steps.proofs.FirstMoved.{early_none, shows_none}
 use Rattle.sccs_steps.proofs.JoinedSteps.{ran_none}
 use Rattle.sccs_steps.proofs.MomentLists.{moments_never, moments_none}
 use Rattle.sccs_steps.proofs.OneMoment.{one_after}
@@ -62,8 +62,8 @@ said_to out err code w (Err ends.ReadFault) folder a b same shows is = absurd is
 said_to out err code w (Err ends.DiskFault) folder a b same shows is = absurd is
 
 -- where nothing new is told each name is safe that was
-said_images : (v : View) (m : Model) (past : List Model) (t : Told) → t ≡ Tells m past → (ends : EndsAfter v v m past t) → Each (Allows (KeepsNamesFrom m)) ends.0.added m
-said_images v m past t is ends = subst (λ (xs : List Model). Each (Allows (KeepsNamesFrom m)) xs m) (told_once [] ends.0.added m past t is ends.0.is) (images_now m)
+said_images : (v : View) (m : Model) (past : List Model) (t : Told) → t ≡ Tells m past → (ends : EndsAfter v v m past t) → Each (Allows (KeepsSafeFrom m)) ends.0.added m
+said_images v m past t is ends = subst (λ (xs : List Model). Each (Allows (KeepsSafeFrom m)) xs m) (told_once [] ends.0.added m past t is ends.0.is) (images_now m)
 
 said_moments : (out err : List ℕ) (w : List ℕ → Bool) (r : Result ℕ Fault) (folder : Folder) (a b : Scene) (m : Model) (past : List Model) → b.told ≡ a.told → Shows w (seen a.told) (view_in folder) → a.told ≡ Tells m past → MayBegin folder m
     → GivesSome a.out b.out out → GivesSome a.err b.err err → CourseMoments w r folder (said out err ∷ []) a b m past
@@ -93,9 +93,9 @@ pub said_course : (out err : List ℕ) (code : ℕ) (given : List ℕ → Type 0
     → RunsCourse (saying out err code) given (WholeSaid out err code) (BegunSaid out err) r s t
 said_course out err code given r s t same is causes = record {
   takes = λ folder i. (λ changes n fits. absurd (cc), tt);
-  steps = λ w folder i spares clear shows heard. said_to out err code w r folder s.stage t.stage same shows is;
+  steps = λ w folder i spares clear shows known heard. said_to out err code w r folder s.stage t.stage same shows is;
   stops = λ w folder i m past spares clear shows heard told may safe. said_stops out err code w r folder s.stage t.stage m past same shows told may is;
-  unlocked = λ w folder i spares clear shows heard exempt plain freed. but_same exempt s.stage.told t.stage.told same;
+  unlocked = λ w folder i spares clear shows known heard exempt plain freed. but_same exempt s.stage.told t.stage.told same;
   speaks = said_speaks out err code r s.stage t.stage is;
   causes = causes;
 }
@@ -105,10 +105,10 @@ said_course out err code given r s t same is causes = record {
 pub nothing_course : (code : ℕ) (given : List ℕ → Type 0) (begun : List NamedStep → Type 0) (s : Setting) → RunsCourse (nothing code) given (WholeNothing code) begun (Ok code) s s
 nothing_course code given begun s = record {
   takes = λ folder i. tt;
-  steps = λ w folder i spares clear shows heard. (refl, ran_none w folder (shown s.stage) shows);
+  steps = λ w folder i spares clear shows known heard. (refl, ran_none w folder (shown s.stage) shows);
   stops = λ w folder i m past spares clear shows heard told may safe.
       course_moments w (Ok code) folder [] s.stage s.stage m past (moments_none w code folder s.stage m past told may shows) (λ other. keeps_same (view_in folder)) (images_now m);
-  unlocked = λ w folder i spares clear shows heard exempt plain freed. but_same exempt s.stage.told s.stage.told refl;
+  unlocked = λ w folder i spares clear shows known heard exempt plain freed. but_same exempt s.stage.told s.stage.told refl;
   speaks = ([], (refl, refl), gives_none s.stage.err);
   causes = record {
     input_later = omega arith;
@@ -132,7 +132,7 @@ never_stopped w folder ts a shows = record {
   made = [];
   rest = ts;
   is = refl;
-  view = shows;
+  view = early_none w a.view (view_in folder) ts shows;
   cleared = cleared_same w a.view a.view refl;
   out = some_none a.out (next_text ts);
   err = some_none a.err [];
@@ -144,7 +144,7 @@ waits_never w folder ts a some shows = (
     made = [];
     rest = ts;
     is = refl;
-    view = shows;
+    view = early_none w a.view (view_in folder) ts shows;
     cleared = cleared_same w a.view a.view refl;
     out = some_none a.out (next_text ts);
     err = some_none a.err [];
@@ -165,13 +165,13 @@ pub never_course : (course : Courses) (given : List ℕ → Type 0) (whole : ℕ
 never_course course given whole begun ts fault s t takes some might same causes = record {
   takes = takes;
   steps = subst (λ (b : Scene). MakesCourse course given (Err fault) s.stage b) (sym same)
-      (λ w folder i spares clear shows heard. stops_never w fault folder (steps_along course folder i) (shown s.stage) (some folder i) shows);
+      (λ w folder i spares clear shows known heard. stops_never w fault folder (steps_along course folder i) (shown s.stage) (some folder i) shows);
   stops = subst (λ (b : Scene). StopsCourse course given (Err fault) s.stage b) (sym same)
       (λ w folder i m past spares clear shows heard told may safe.
       course_moments w (Err fault) folder (steps_along course folder i) s.stage s.stage m past
       (moments_never w fault folder (steps_along course folder i) s.stage m past told may shows) (λ other. keeps_same (view_in folder)) (images_now m));
   unlocked = subst (λ (b : Scene). UnlockedCourse course given s.stage.told b.told) (sym same)
-      (λ w folder i spares clear shows heard exempt plain freed. but_same exempt s.stage.told s.stage.told refl);
+      (λ w folder i spares clear shows known heard exempt plain freed. but_same exempt s.stage.told s.stage.told refl);
   speaks = subst (λ (b : Scene). SpeaksTo whole begun (Err fault) s.stage.err b.err) (sym same) (ts, might, some_none s.stage.err _);
   causes = causes;
 }

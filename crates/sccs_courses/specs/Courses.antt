@@ -3,6 +3,7 @@ use Rattle.std.specs.Prelude.{◌≡◌, ℕ, zero, suc, Bool, true, false, List
 use Rattle.std.specs.List.{AllByRecursion}
 use Rattle.sccs_base.specs.Name.{IsSfile}
 use Rattle.sccs_disk.specs.Files.{Folder, View}
+use Rattle.sccs_intents.specs.Intents.{plan_file}
 use Rattle.sccs_sid.specs.declared.refusals.Refusal.TheVariants.{BadName}
 use Rattle.sccs_steps.specs.Actions.{Action, AreClear, steps_at}
 use Rattle.sccs_steps.specs.ListStops.{AreSafe}
@@ -11,13 +12,18 @@ use Rattle.sccs_steps.specs.StepLists.{NamedStep, folder_after, status_of}
 use Rattle.sccs_steps.specs.Unlocked.{AreExempt, ArePlain}
 use Rattle.sccs_steps.specs.declared.statuses.StatusRule.TheVariants.{Greatest}
 
--- The steps of one action.
+-- The steps of one action. What is asked of names is asked of those of its parts: the steps themselves, but for a step of several
+-- names, whose parts are those of each name. It may finish what another call began, and take working files of the parts' names.
 pub record Portion : Type 0 where
   pub by : Action
   pub steps : List NamedStep
+  pub parts : List NamedStep
+  pub finishes : Bool
+  -- whether the plan of a group is one of its working files
+  pub plans : Bool
 
 abbrev pub portion : Action → List NamedStep → Portion
-portion x ts = record { by = x; steps = ts }
+portion x ts = record { by = x; steps = ts; parts = ts; finishes = false; plans = false }
 
 -- The steps of several actions, each in the folder that those before left, and the status that a call answers that makes them all.
 pub record Course : Type 0 where
@@ -68,7 +74,7 @@ command_of x operands = portion_of x (λ folder i. steps_at x folder i operands)
 
 -- a text on out and one on err, as a step that does nothing else
 abbrev pub said : List ℕ → List ℕ → NamedStep
-said out err = record { name = []; effect = record { new = None; text = []; out = out; err = err; status = 0 } }
+said out err = record { name = []; effect = record { new = None; text = []; out = out; err = err; status = 0 }; more = [] }
 
 -- no operand is taken
 abbrev pub no_action : Action
@@ -105,14 +111,23 @@ while_fine each last (x ∷ xs) = follow (each x) (if_fine (while_fine each last
 
 -- ---- premises, of each portion by its own action
 
+-- The names of its parts are apart from working files, and the plan is a working file where it is one of its own.
+pub record IsClearFor (w : List ℕ → Bool) (p : Portion) : Type 0 where
+  pub names : AreClear p.by w p.parts
+  pub plan : p.plans ≡ true → w plan_file ≡ true
+
 abbrev pub AllClear : (List ℕ → Bool) → List Portion → Type 0
-AllClear w ps = AllByRecursion (λ (p : Portion). AreClear p.by w p.steps) ps
+AllClear w ps = AllByRecursion (IsClearFor w) ps
+
+-- none takes working files
+abbrev pub NoneFinishes : List Portion → Type 0
+NoneFinishes ps = AllByRecursion (λ (p : Portion). p.finishes ≡ false) ps
 
 abbrev pub AllSafe : View → List Portion → Type 0
-AllSafe v ps = AllByRecursion (λ (p : Portion). AreSafe p.by p.steps v) ps
+AllSafe v ps = AllByRecursion (λ (p : Portion). AreSafe p.by p.parts v) ps
 
 abbrev pub AllPlain : List Portion → Type 0
-AllPlain ps = AllByRecursion (λ (p : Portion). ArePlain p.by p.steps) ps
+AllPlain ps = AllByRecursion (λ (p : Portion). ArePlain p.by p.parts) ps
 
 -- what changes files takes the names of s-files alone
 abbrev pub TakesSfiles : Action → Type 0
@@ -123,4 +138,4 @@ AllTake ps = AllByRecursion (λ (p : Portion). TakesSfiles p.by) ps
 
 -- the names of steps that don't lock them are exempt
 abbrev pub AllExempt : (List ℕ → Bool) → List Portion → Type 0
-AllExempt exempt ps = AllByRecursion (λ (p : Portion). AreExempt p.by exempt p.steps) ps
+AllExempt exempt ps = AllByRecursion (λ (p : Portion). AreExempt p.by exempt p.parts) ps

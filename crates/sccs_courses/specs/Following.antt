@@ -9,23 +9,35 @@ use Rattle.sccs_images.specs.Touches.{Each}
 use Rattle.sccs_moments.specs.Unlocked.{BeginsUnlockedBut}
 use Rattle.sccs_steps.specs.Calls.{Scene, World, shown}
 use Rattle.sccs_steps.specs.Causes.{RunCauses}
-use Rattle.sccs_steps.specs.ListStops.{IsAcknowledged, KeepsNames, KeepsNamesFrom, ListMoments, MayBegin, Spares, view_at}
+use Rattle.sccs_steps.specs.ListStops.{IsAcknowledged, KeepsSafe, KeepsSafeFrom, ListMoments, MayBegin, Spares, view_at}
 use Rattle.sccs_steps.specs.Settings.{Setting}
 use Rattle.sccs_steps.specs.StepLists.{NamedStep, Ran, Stops, err_of, status_of}
 use Rattle.sccs_steps.specs.declared.faults.Fault.{Fault}
 use Rattle.sccs_steps.specs.declared.faults.Fault.TheVariants as ends
 use Rattle.sccs_steps.specs.declared.statuses.StatusRule.{StatusRule}
-use Rattle.sccs_courses.specs.Courses.{AllClear, AllExempt, AllPlain, AllSafe, AllTake, Courses, portions_of, steps_along}
+use Rattle.sccs_courses.specs.Courses.{AllClear, AllExempt, AllPlain, AllSafe, AllTake, Courses, NoneFinishes, Portion, portions_of, steps_along}
 
 -- what a call answers, and leaves, that makes these steps and then has this status
 abbrev pub RunsTo : ℕ → (List ℕ → Bool) → Result ℕ Fault → Folder → List NamedStep → World → World → Type 0
 RunsTo code w (Ok status) m ts a b = (status ≡ code) × Ran w m ts a b
 RunsTo code w (Err fault) m ts a b = Stops w fault m ts a b
 
+-- The disk is calm and recovers as the folder does, and the names of the steps are safe.
+pub record BeginsSafe (told : Told) (folder : Folder) (ps : List Portion) : Type 0 where
+  pub model : Model
+  pub past : List Model
+  pub is : told ≡ Tells model past
+  pub may : MayBegin folder model
+  pub safe : AllSafe (view_in folder) ps
+
+-- working files may differ from the folder's: none is taken, or they recover as the folder does
+abbrev pub AreKnown : Told → Folder → List Portion → Type 0
+AreKnown told folder ps = NoneFinishes ps ⊎ BeginsSafe told folder ps
+
 -- where the disk tells a folder and the input is given the course is followed, or the call ends early
 abbrev pub MakesCourse : Courses → (List ℕ → Type 0) → Result ℕ Fault → Scene → Scene → Type 0
 MakesCourse course given r a b = (w : List ℕ → Bool) (folder : Folder) (i : List ℕ)
-    → Spares w → AllClear w (portions_of course folder i) → Shows w (seen a.told) (view_in folder) → given i
+    → Spares w → AllClear w (portions_of course folder i) → Shows w (seen a.told) (view_in folder) → AreKnown a.told folder (portions_of course folder i) → given i
     → RunsTo (course folder i).status w r folder (steps_along course folder i) (shown a) (shown b)
 
 -- The moments of all steps: one number for each moment, over all of them.
@@ -33,11 +45,10 @@ pub record CourseMoments (w : List ℕ → Bool) (r : Result ℕ Fault) (folder 
   pub list : ListMoments w r folder ts a b m past
   -- the last number is at least that of each step that is acknowledged
   pub acknowledged : (k : ℕ) → k < length ts → IsAcknowledged r ts k (shown a) (shown b) → suc k ≤ list.number
-  -- but at a disk fault the names that were safe are safe again, and no intent names an s-file where none did
-  pub keeps : r ≢ Err ends.DiskFault → KeepsNames (view_in folder) (view_at folder ts list.number)
-  -- and whatever a stop leaves, in it each s-file's name is safe that was safe in whatever one could leave at the start, and no
-  -- intent names one where none did
-  pub images : Each (Allows (KeepsNamesFrom m)) list.went.added m
+  -- but at a disk fault the names that were safe are safe again
+  pub keeps : r ≢ Err ends.DiskFault → KeepsSafe (view_in folder) (view_at folder ts list.number)
+  -- and whatever a stop leaves, in it each s-file's name is safe that was safe in whatever one could leave at the start
+  pub images : Each (Allows (KeepsSafeFrom m)) list.went.added m
 
 -- what a stop leaves of a course that begins on a calm disk, where the names of its steps are safe
 abbrev pub StopsCourse : Courses → (List ℕ → Type 0) → Result ℕ Fault → Scene → Scene → Type 0
@@ -49,7 +60,7 @@ StopsCourse course given r a b = (w : List ℕ → Bool) (folder : Folder) (i : 
 -- before each change of an s-file or p-file its z-file wasn't there at a moment of the call, but of the names of steps that don't lock them
 abbrev pub UnlockedCourse : Courses → (List ℕ → Type 0) → Told → Told → Type 0
 UnlockedCourse course given old new = (w : List ℕ → Bool) (folder : Folder) (i : List ℕ)
-    → Spares w → AllClear w (portions_of course folder i) → Shows w (seen old) (view_in folder) → given i
+    → Spares w → AllClear w (portions_of course folder i) → Shows w (seen old) (view_in folder) → AreKnown old folder (portions_of course folder i) → given i
     → (exempt : List ℕ → Bool) → AllPlain (portions_of course folder i) → AllExempt exempt (portions_of course folder i) → BeginsUnlockedBut exempt old new
 
 -- over any disk: some steps explain the status and what is written on err, whole ones at Ok, and else some that were begun

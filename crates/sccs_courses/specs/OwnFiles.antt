@@ -1,8 +1,10 @@
 -- What a call says that follows a course, where the working files are those of the names of its steps.
 use Rattle.std.specs.Prelude.{◌≡◌, ℕ, Bool, true, false, ◌&&◌, ◌||◌, List, [], ◌∷◌, if◌then◌else◌, Result}
+use Rattle.std.specs.Str.{bytes_eq}
 use Rattle.sccs_disk.specs.Files.{Folder, Model, view_in}
 use Rattle.sccs_disk.specs.Told.{Told, Tells, seen}
 use Rattle.sccs_files.specs.StepFiles.{Shows, is_working, nowhere}
+use Rattle.sccs_intents.specs.Intents.{plan_file}
 use Rattle.sccs_moments.specs.Unlocked.{BeginsUnlockedBut}
 use Rattle.sccs_steps.specs.Actions.{Action}
 use Rattle.sccs_steps.specs.Calls.{Scene, shown}
@@ -10,16 +12,16 @@ use Rattle.sccs_steps.specs.ListStops.{MayBegin}
 use Rattle.sccs_steps.specs.StepLists.{NamedStep}
 use Rattle.sccs_steps.specs.declared.faults.Fault.{Fault}
 use Rattle.sccs_courses.specs.Courses.{AllClear, AllExempt, AllPlain, AllSafe, Courses, Portion, portions_of, steps_along}
-use Rattle.sccs_courses.specs.Following.{CourseMoments, RunsTo}
+use Rattle.sccs_courses.specs.Following.{AreKnown, CourseMoments, RunsTo}
 
 -- the working files of the names of steps
 abbrev pub working_of : Action → List NamedStep → List ℕ → Bool
 working_of x [] k = false
 working_of x (t ∷ ts) k = (x.fits t.name && is_working t.name k) || working_of x ts k
 
--- those of the steps of an action; one that only reads has none
+-- those of the steps of an action, and the plan where it is one; an action that only reads has none
 abbrev pub working_by : Portion → List ℕ → Bool
-working_by p = if p.by.reads then nowhere else working_of p.by p.steps
+working_by p = if p.by.reads then nowhere else (λ k. (p.plans && bytes_eq plan_file k) || working_of p.by p.parts k)
 
 -- those of several actions
 abbrev pub working_in : List Portion → List ℕ → Bool
@@ -36,6 +38,7 @@ IsGivenTo course given folder i = given i × AllClear (working_along course fold
 
 abbrev pub MakesOwn : Courses → (List ℕ → Type 0) → Result ℕ Fault → Scene → Scene → Type 0
 MakesOwn course given r a b = (folder : Folder) (i : List ℕ) → IsGivenTo course given folder i → Shows (working_along course folder i) (seen a.told) (view_in folder)
+    → AreKnown a.told folder (portions_of course folder i)
     → RunsTo (course folder i).status (working_along course folder i) r folder (steps_along course folder i) (shown a) (shown b)
 
 abbrev pub StopsOwn : Courses → (List ℕ → Type 0) → Result ℕ Fault → Scene → Scene → Type 0
@@ -45,4 +48,5 @@ StopsOwn course given r a b = (folder : Folder) (i : List ℕ) (m : Model) (past
 
 abbrev pub UnlockedOwn : Courses → (List ℕ → Type 0) → Told → Told → Type 0
 UnlockedOwn course given old new = (folder : Folder) (i : List ℕ) → IsGivenTo course given folder i → Shows (working_along course folder i) (seen old) (view_in folder)
+    → AreKnown old folder (portions_of course folder i)
     → (exempt : List ℕ → Bool) → AllPlain (portions_of course folder i) → AllExempt exempt (portions_of course folder i) → BeginsUnlockedBut exempt old new

@@ -177,7 +177,7 @@ module _ (words : DeltaWords) (stamp : Stamp) (moment : IsMoment stamp.moment) (
       }
     where
       files_with : Parsed → NewDelta → ChosenEntry → List Sid → List Item → Option Files
-      files_with file d e sids items = Some (record { s = Some (sealed (with_nulls file.header e.base.got (null_deltas stamp sids) d) items); p = pfile_of (remove parts.found.edits (e.number - 1)); z = None; g = kept_g words.keep f.g })
+      files_with file d e sids items = Some (record { s = Some (sealed (with_nulls file.header e.base.got (null_deltas stamp sids) d) items); p = pfile_of (remove parts.found.edits (e.number - 1)); z = None; g = kept_g words.keep f.g; l = f.l })
 
       edit_at : (P : Edit → Type 0) (edits : List Edit) (place : ℕ) (edit : Edit) → AllByRecursion P edits → slice_get edits place ≡ Some edit → P edit
       edit_at P [] place edit are at = absurd cc

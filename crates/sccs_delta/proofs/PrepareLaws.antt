@@ -16,7 +16,7 @@ use Rattle.sccs_sid.specs.declared.refusals.Refusal.{Refusal}
 use Rattle.sccs_sid.specs.declared.refusals.Refusal.TheVariants as refusals
 use Rattle.sccs_sid.specs.declared.refusals.StepFault.{StepFault}
 use Rattle.sccs_sid.specs.declared.refusals.StepFault.TheVariants.{Refused, Memory, ReadFault, WriteFault, DiskFault}
-use Rattle.sccs_files.specs.StepFiles.{Files, Moves, is_working, look}
+use Rattle.sccs_files.specs.StepFiles.{Files, Moves, is_working, l_file, look}
 use Rattle.sccs_history.specs.Numbers.{has}
 use Rattle.sccs_history.specs.declared.headers.Header.{Header}
 use Rattle.sccs_history.specs.declared.headers.Item.{Item}
@@ -78,7 +78,7 @@ abbrev files_at : List ℕ → View → Files
 files_at n v = look (unlocked n v) n
 
 abbrev sizes_by : List ℕ → Option Content → Option Content → Option Content → Result Bool Refusal
-sizes_by i s p g = sizes_checked i (record { s = s; p = p; z = None; g = g })
+sizes_by i s p g = sizes_checked i (record { s = s; p = p; z = None; g = g; l = None })
 
 sizes_alone : (i : List ℕ) (f : Files) → sizes_checked i f ≡ sizes_by i f.s f.p f.g
 unfolding sizes_checked
@@ -234,15 +234,16 @@ orders_as words stamp n f found e orders =
     ∙ (assoc fits (λ x. mrs >>= λ y. nulls) (with_nulls words stamp n f found e orders)
     ∙ ap (λ (r : Result (List Sid) Refusal). r >>= with_nulls words stamp n f found e orders) (sym (checks_are words found.parsed.header found.parsed.items found.edits e orders f.g)))
 
-abbrev files_of : Option Content → Option Content → Option Content → Option Files
-files_of s p g = Some (record { s = s; p = p; z = None; g = g })
+abbrev files_of : Option Content → Option Content → Option Content → Option Content → Option Files
+files_of s p g l = Some (record { s = s; p = p; z = None; g = g; l = l })
 
-files_written : (n : List ℕ) (s p_state g : Option Content) (p : Prepared) (u : View) → p.new_s ≡ true → u (x_file n) ≡ s → ((kept : Option Content) → chosen p.new_p (u (q_file n)) kept ≡ p_state) → chosen p.new_g (u (y_file n)) (u (drop 2 n)) ≡ g
-    → files_of s p_state g ≡ Some (files_after n (plan_of p) u)
-files_written n s p_state g p u new_s x entries g_is =
-    ap (λ (o : Option Content). files_of o p_state g) (sym x ∙ ap (λ b. chosen (replaced b) (u (x_file n)) (u n)) (sym new_s))
-    ∙ (ap (λ (o : Option Content). files_of (chosen (replaced p.new_s) (u (x_file n)) (u n)) o g) (sym (entries (u (p_file n))))
-    ∙ ap (λ (o : Option Content). files_of (chosen (replaced p.new_s) (u (x_file n)) (u n)) (chosen p.new_p (u (q_file n)) (u (p_file n))) o) (sym g_is))
+files_written : (n : List ℕ) (s p_state g l : Option Content) (p : Prepared) (u : View) → p.new_s ≡ true → u (x_file n) ≡ s → ((kept : Option Content) → chosen p.new_p (u (q_file n)) kept ≡ p_state) → chosen p.new_g (u (y_file n)) (u (drop 2 n)) ≡ g → u (l_file n) ≡ l
+    → files_of s p_state g l ≡ Some (files_after n (plan_of p) u)
+files_written n s p_state g l p u new_s x entries g_is l_is =
+    ap (λ (o : Option Content). files_of o p_state g l) (sym x ∙ ap (λ b. chosen (replaced b) (u (x_file n)) (u n)) (sym new_s))
+    ∙ (ap (λ (o : Option Content). files_of (chosen (replaced p.new_s) (u (x_file n)) (u n)) o g l) (sym (entries (u (p_file n))))
+    ∙ (ap (λ (o : Option Content). files_of (chosen (replaced p.new_s) (u (x_file n)) (u n)) (chosen p.new_p (u (q_file n)) (u (p_file n))) o l) (sym g_is)
+    ∙ ap (λ (o : Option Content). files_of (chosen (replaced p.new_s) (u (x_file n)) (u n)) (chosen p.new_p (u (q_file n)) (u (p_file n))) (chosen p.new_g (u (y_file n)) (u (drop 2 n))) o) (sym l_is)))
 
 g_kept : (n : List ℕ) (keep : Bool) (p : Prepared) (v u : View) → IsSfile n → ((k : List ℕ) → is_working n k ≡ false → u k ≡ v k) → ((y : Option Content) → chosen p.new_g y (v (drop 2 n)) ≡ kept_g keep (v (drop 2 n)))
     → chosen p.new_g (u (y_file n)) (u (drop 2 n)) ≡ kept_g keep (unlocked n v (drop 2 n))
@@ -259,9 +260,9 @@ MakesAt checks words stamp n header items edits e orders a b r = MakesDelta chec
 
 files_seen : (n : List ℕ) (s p_state : Option Content) (keep : Bool) (p : Prepared) (v : View) (w : Option View) → IsSfile n → p.new_s ≡ true → Moves (is_working n) (λ x. x) (Some v) w → IfSome w (λ (u : View). u (x_file n) ≡ s)
     → IfSome w (λ (u : View). (kept : Option Content) → chosen p.new_p (u (q_file n)) kept ≡ p_state) → ((y : Option Content) → chosen p.new_g y (v (drop 2 n)) ≡ kept_g keep (v (drop 2 n)))
-    → IfSome w (λ (u : View). files_of s p_state (kept_g keep (unlocked n v (drop 2 n))) ≡ Some (files_after n (plan_of p) u))
+    → IfSome w (λ (u : View). files_of s p_state (kept_g keep (unlocked n v (drop 2 n))) (unlocked n v (l_file n)) ≡ Some (files_after n (plan_of p) u))
 files_seen n s p_state keep p v None sfile new_s moved x entries g = absurd moved
-files_seen n s p_state keep p v (Some u) sfile new_s moved x entries g = files_written n s p_state (kept_g keep (unlocked n v (drop 2 n))) p u new_s x entries (g_kept n keep p v u sfile moved g)
+files_seen n s p_state keep p v (Some u) sfile new_s moved x entries g = files_written n s p_state (kept_g keep (unlocked n v (drop 2 n))) (unlocked n v (l_file n)) p u new_s x entries (g_kept n keep p v u sfile moved g) (moved (l_file n) refl ∙ sym (put_other v (z_file n) (l_file n) None refl))
 
 unwritten : (n text : List ℕ) (v : View) (w : Option View) (out err : Option (List ℕ)) → Moves (is_working n) (λ x. x) (Some v) w → IsUnmade n text (world (Some v) out err) (world w out err)
 unwritten n text v w out err moved = record { view = moved; out = some_none out text }

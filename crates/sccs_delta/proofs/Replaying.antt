@@ -94,8 +94,8 @@ record Replayed (n : List ℕ) (s : Content) (first : Parsed) (texts : Texts) (c
 same_file : (bytes : List ℕ) (a b : Parsed) → file_of bytes ≡ Ok a → file_of bytes ≡ Ok b → a ≡ b
 same_file bytes a b one two = let same : Ok a ≡ Ok b = sym one ∙ two in cc
 
-s_is : (s x : Content) (effect : StepEffect) (p z g : Option Content) → effect.new ≡ Some (record { s = Some x; p = p; z = z; g = g }) → s_behind s (Ok effect) ≡ x
-s_is s x effect p z g is = ap (λ (o : Option Files). unwrap_or (option_and_then (λ (f : Files). f.s) o) s) is
+s_is : (s x : Content) (effect : StepEffect) (p z g l : Option Content) → effect.new ≡ Some (record { s = Some x; p = p; z = z; g = g; l = l }) → s_behind s (Ok effect) ≡ x
+s_is s x effect p z g l is = ap (λ (o : Option Files). unwrap_or (option_and_then (λ (f : Files). f.s) o) s) is
 
 run : (n : List ℕ) (calls : List DeltaCall) (s : Content) (file : Parsed) (texts : Texts) → file_of s.bytes ≡ Ok file → Follows file texts → AllByRecursion IsDeltaCall calls → Replayed n s file texts calls
 run n [] s file texts is follows are = record { last = file; reads = is; follows = follows; grows = omega arith; stay = λ m low. refl }
@@ -126,7 +126,7 @@ run n (c ∷ calls) s file texts is follows are =
         let same = before_is effect accepted in
         let x = sealed made.after.header made.after.items in
         let read : CallRead = record { file = made.before; edits = made.edits; entry = made.entry; orders = made.orders } in
-        behind x made.after (with_texts texts read) (ap (s_behind s) accepted ∙ s_is s x effect _ _ _ made.files)
+        behind x made.after (with_texts texts read) (ap (s_behind s) accepted ∙ s_is s x effect _ _ _ _ made.files)
         (ap (λ o. texts_after texts o (call_read s c)) accepted ∙ ap (λ r. texts_after texts (Ok effect) r) (read_is s c effect made))
         (let newer : newest made.before.header.records < newest made.after.header.records = made.versions.newer in subst (λ (f : Parsed). newest f.header.records ≤ newest made.after.header.records) (sym same) (omega (arith, newer)))
         (subst (λ (f : Parsed). (m : ℕ) → m ≤ newest f.header.records → version_text made.after m ≡ version_text f m) (sym same) made.versions.others)

@@ -222,6 +222,7 @@ makes_delta words stamp n f found e orders nulls =
         p = pfile_of (remove found.edits (e.number - 1));
         z = None;
         g = kept_g words.keep f.g;
+        l = f.l;
       });
       text = [];
       out = delta_report words.silent d.sid d.counts;
@@ -252,4 +253,4 @@ could_make (Ok effect) = is_empty effect.err || bytes_eq (codes "WARNING [") (ta
 could_make (Err refusal) = has_number delta_checks (number_of refusal)
 
 abbrev pub delta_change : DeltaWords → Stamp → Changing
-delta_change words stamp = record { outcome = delta_outcome words stamp; named = λ n. []; takes = true; silent = false; could = could_make }
+delta_change words stamp = record { outcome = delta_outcome words stamp; named = λ n. []; takes = true; silent = false; early = false; could = could_make }

@@ -78,7 +78,7 @@ pub record MakesVersions (words : DeltaWords) (stamp : Stamp) (input : List ℕ)
   pub header : after.header ≡ with_nulls before.header entry.base.got (null_deltas stamp (skipped_by before.header edits entry.edit)) (delta_on words stamp before entry orders)
   pub serial : newest after.header.records ≡ suc (newest before.header.records + length (skipped_by before.header edits entry.edit))
   -- the new s-file reads as this file, and the entry leaves the p-file
-  pub files : effect.new ≡ Some (record { s = Some (sealed after.header after.items); p = pfile_of (remove edits (entry.number - 1)); z = None; g = kept_g words.keep f.g })
+  pub files : effect.new ≡ Some (record { s = Some (sealed after.header after.items); p = pfile_of (remove edits (entry.number - 1)); z = None; g = kept_g words.keep f.g; l = f.l })
   pub reads : IsSFile (sealed after.header after.items).bytes after.header after.items
   pub left : Agrees after.header.records (remove edits (entry.number - 1))
   pub versions : AddsVersions before after entry.edit entry.base orders

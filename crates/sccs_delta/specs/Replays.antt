@@ -26,13 +26,14 @@ use Rattle.sccs_delta.specs.NullDeltas.{skipped_by}
 
 -- ---- calls
 
--- a call of delta, with the p-file and the g-file that it finds; commands that leave the s-file may have come between
+-- a call of delta, with the p-file, the g-file and the l-file that it finds; commands that leave the s-file may have come between
 pub record DeltaCall : Type 0 where
   pub words : DeltaWords
   pub stamp : Stamp
   pub input : List ℕ
   pub p : Option Content
   pub g : Option Content
+  pub l : Option Content
 
 -- Its stamp, its MRs and its comment are such.
 pub record IsDeltaCall (c : DeltaCall) : Type 0 where
@@ -42,7 +43,7 @@ pub record IsDeltaCall (c : DeltaCall) : Type 0 where
   pub comment : AreLines c.words.comment
 
 abbrev pub files_at : Content → DeltaCall → Files
-files_at s c = record { s = Some s; p = c.p; z = None; g = c.g }
+files_at s c = record { s = Some s; p = c.p; z = None; g = c.g; l = c.l }
 
 abbrev pub call_outcome : List ℕ → Content → DeltaCall → Outcome
 call_outcome n s c = delta_outcome c.words c.stamp n c.input [] (files_at s c)

@@ -21,7 +21,7 @@ use Rattle.sccs_store.specs.Commits.{Becomes, chosen}
 use Rattle.sccs_store.specs.SealedFiles.{sealed}
 use Rattle.sccs_transactions.specs.Changes.{AreTakenOrGone, plan_of}
 use Rattle.sccs_transactions.specs.declared.prepared.Prepared.{Prepared}
-use Rattle.sccs_pending.specs.NewEntries.{kept_g}
+use Rattle.sccs_pending.specs.NewEntries.{IsRenewed, OnlyGoes, kept_g}
 use Rattle.sccs_words.specs.declared.commands.DeltaWords.{DeltaWords}
 use Rattle.sccs_edits.specs.Places.{places}
 use Rattle.sccs_sid.specs.Reading.{◌>>=◌}
@@ -30,6 +30,12 @@ use Rattle.sccs_delta.specs.DeltaStep.{ChosenEntry, base_lines, counts_of, entry
 use Rattle.sccs_pending.specs.Reports.{warning}
 use Rattle.sccs_delta.specs.declared.entries.Base.{Base}
 use Rattle.sccs_delta.specs.declared.new_sfiles.NewSfile.{NewSfile}
+
+-- What a delta's commit makes of its files: a new s-file, a new p-file or none, and no new g-file.
+pub record IsDeltaPlan (p : Prepared) : Type 0 where
+  pub s : p.new_s ≡ true
+  pub renewed : IsRenewed p.new_p
+  pub goes : OnlyGoes p.new_g
 
 -- The s-file that the delta of an entry makes, with null deltas of these SIDs before it.
 pub record IsSfileOf (words : DeltaWords) (stamp : Stamp) (header : Header) (edit : Edit) (base : Base) (orders : List Order) (lines : ℕ) (nulls : List Sid) (s : NewSfile) : Type 0 where

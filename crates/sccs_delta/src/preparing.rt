@@ -13,7 +13,7 @@ ghost use Rattle.sccs_history.specs.History.{IsSpelled};
 ghost use Rattle.sccs_history.specs.declared.headers.Item.{Item};
 ghost use Rattle.sccs_images.specs.Touches.{Leaves, TouchesOnly};
 ghost use Rattle.sccs_body.specs.Reader.{name_read};
-ghost use Rattle.sccs_pending.specs.NewEntries.{PreparesEntries};
+ghost use Rattle.sccs_pending.specs.NewEntries.{IsRenewed, PreparesEntries};
 ghost use Rattle.sccs_pending.specs.PFiles.{ChangesDisk, is_short};
 ghost use Rattle.sccs_pfile.specs.Entries.{IsEdit};
 ghost use Rattle.sccs_pfile.specs.declared.entries.Edit.{Edit};
@@ -33,7 +33,7 @@ ghost use Rattle.sccs_copies.specs.Copies.{CopyComes};
 ghost use Rattle.sccs_delta.specs.DeltaStep.{base_lines, could_make, delta_checks, delta_outcome, delta_report, nulls_of};
 ghost use Rattle.sccs_pending.specs.Reports.{warning};
 ghost use Rattle.sccs_copies.specs.Examining.{has_keyword};
-ghost use Rattle.sccs_delta.specs.Writing.{MakesDelta, WritesDelta, WritesX, script_checked};
+ghost use Rattle.sccs_delta.specs.Writing.{IsDeltaPlan, MakesDelta, WritesDelta, WritesX, script_checked};
 
 use crate::entries::{Chosen, read_asked};
 use crate::new_sfiles::{NewSfile, new_sfile};
@@ -115,6 +115,7 @@ fn drop_entry<D: Disk>(
     requires some { 0 < number }
     requires there { number ≤ length edits }
     ensures entries { IfOk result (λ new. PreparesEntries name.now (remove edits (number - 1)) new (D.told disk.old) (D.told disk.new)) }
+    ensures renewed { IfOk result (λ new. IsRenewed new) }
     ensures moves { Moves (bytes_eq (q_file name.now)) (λ v. v) (seen (D.told disk.old)) (seen (D.told disk.new)) }
     ensures touches { TouchesOnly (bytes_eq (q_file name.now)) (D.told disk.old) (D.told disk.new) }
     ensures firm { IfOk result (λ new. OnReplace new (Leaves (IsFirm (q_file name.now)) (D.told disk.old) (D.told disk.new))) }
@@ -154,6 +155,7 @@ fn write_files<D: Disk>(
     ensures needs { IsThere (z_file name.now) (D.told disk.old) → IsThere (p_file name.now) (D.told disk.old)
         → IfOk result (λ p. IsReady name.now p (D.told disk.new)) }
     ensures touches { TouchesOnly (is_working name.now) (D.told disk.old) (D.told disk.new) }
+    ensures kind { IfOk result (λ p. IsDeltaPlan p) }
     ensures firm { IfOk result (λ p. IsFirmPrepared name.now p (D.told disk.old) (D.told disk.new)) }
     ensures says { IfOk result (λ p. p.message ≡ said.message) }
     ensures checks { RefusesWithin delta_checks result }
@@ -200,6 +202,7 @@ fn make<D: Disk>(
     ensures needs { IsThere (z_file name.now) (D.told disk.old) → IsThere (p_file name.now) (D.told disk.old)
         → IfOk result (λ p. IsReady name.now p (D.told disk.new)) }
     ensures touches { TouchesOnly (is_working name.now) (D.told disk.old) (D.told disk.new) }
+    ensures kind { IfOk result (λ p. IsDeltaPlan p) }
     ensures firm { IfOk result (λ p. IsFirmPrepared name.now p (D.told disk.old) (D.told disk.new)) }
     ensures speaks { CouldPrepare could_make result }
     ensures causes { ChangesDisk D.faults disk.old disk.new result }
@@ -250,6 +253,7 @@ fn prepare_script<D: Disk>(
     ensures needs { IsThere (z_file name.now) (D.told disk.old) → IsThere (p_file name.now) (D.told disk.old)
         → IfOk result (λ p. IsReady name.now p (D.told disk.new)) }
     ensures touches { TouchesOnly (is_working name.now) (D.told disk.old) (D.told disk.new) }
+    ensures kind { IfOk result (λ p. IsDeltaPlan p) }
     ensures firm { IfOk result (λ p. IsFirmPrepared name.now p (D.told disk.old) (D.told disk.new)) }
     ensures speaks { CouldPrepare could_make result }
     ensures causes { ChangesDisk D.faults disk.old disk.new result }
@@ -287,6 +291,7 @@ pub fn prepare_delta<D: Disk>(
         (world (Some v) out err) (world (seen (D.told disk.new)) out err)) }
     ensures needs { IfOk result (λ p. IsReady name.now p (D.told disk.new)) }
     ensures touches { TouchesOnly (is_working name.now) (D.told disk.old) (D.told disk.new) }
+    ensures kind { IfOk result (λ p. IsDeltaPlan p) }
     ensures firm { IfOk result (λ p. IsFirmPrepared name.now p (D.told disk.old) (D.told disk.new)) }
     ensures entries { IfOk result (λ p. SettlesEntries name.now p (D.told disk.new)) }
     ensures speaks { CouldPrepare could_make result }

@@ -21,7 +21,7 @@ unfolding sact_step
 step_is heading n f = refl
 
 pub sact_keeps : (heading : Bool) → KeepsFiles (sact_action heading)
-sact_keeps heading = record { quiet = λ reads n i named f d is. kept_by heading n (found_edits f) d (sym (step_is heading n f) ∙ is); names = λ changes n fits. absurd cc; locked = λ changes locks n i named f d is there g new. absurd cc }
+sact_keeps heading = record { quiet = λ reads n i named f d is. kept_by heading n (found_edits f) d (sym (step_is heading n f) ∙ is); names = λ changes n fits. absurd cc; locked = λ changes locks n i named f d is there g new. absurd cc; pending = λ changes never n i v f d there is. absurd cc }
 
 pub unget_locked : (words : UngetWords) (stamp : Stamp) (heading : Bool) → (unget_change words stamp heading).could (Err Locked) ≡ true
 unget_locked words stamp heading = refl

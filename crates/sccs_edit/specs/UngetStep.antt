@@ -42,4 +42,4 @@ unget_decides words stamp heading n found = do
   Ok (without_entry words heading n found.edits number)
 
 abbrev pub unget_change : UngetWords → Stamp → Bool → Changing
-unget_change words stamp heading = record { outcome = entries_outcome (unget_decides words stamp heading); named = λ n. []; takes = false; silent = false; could = quiet_checks unget_checks }
+unget_change words stamp heading = record { outcome = entries_outcome (unget_decides words stamp heading); named = λ n. []; takes = false; silent = false; early = false; could = quiet_checks unget_checks }

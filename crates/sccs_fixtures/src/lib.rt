@@ -10,6 +10,6 @@ mod sums;
 
 pub use cases::{CASE, Case, ends, first_wrong};
 pub use disks::{File, disk_with, has, has_file, name};
-pub use runs::{Given, PLAIN, Seen, answer_to};
+pub use runs::{Given, PLAIN, Seen, answer_over, answer_to};
 pub use sccs_top::Answer;
 pub use sums::{flagged, sum_of, summed};

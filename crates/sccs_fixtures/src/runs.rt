@@ -1,7 +1,7 @@
 ghost use Rattle.std.specs.Prelude.{IfOk};
 ghost use Rattle.sccs_sid.specs.Moment.{IsMoment};
 
-use sccs_base::{Bytes, Line, Login, MemorySink, MemorySource, Words};
+use sccs_base::{Bytes, Line, Login, MemorySink, MemorySource, Source, Words};
 use sccs_disk::Disk;
 use sccs_sid::{Moment, Stamp};
 use sccs_top::{Answer, run};
@@ -60,6 +60,25 @@ fn stamp_of(given: &Given) -> Result<Stamp, Fail>
     })
 }
 
+/// What a line of words answers over an input and a disk.
+pub fn answer_over<I: Source, D: Disk>(
+    alloc: Global,
+    line: &[u8],
+    given: &Given,
+    input: &mut I,
+    disk: &mut D,
+) -> Result<Seen, Fail> {
+    let words = words_of(alloc, line)?;
+    let stamp = stamp_of(given)?;
+    let place = Line::new(alloc, b"/")?;
+    let mut out = MemorySink::new(alloc, 100_000, given.failing_out)?;
+    let mut err = MemorySink::new(alloc, 10_000, given.failing_err)?;
+    let answer = run(
+        alloc, &words, &stamp, &place, input, &mut out, &mut err, disk,
+    );
+    Ok(Seen { answer, out, err })
+}
+
 /// What a line of words answers over a disk.
 pub fn answer_to<D: Disk>(
     alloc: Global,
@@ -67,16 +86,8 @@ pub fn answer_to<D: Disk>(
     given: &Given,
     disk: &mut D,
 ) -> Result<Seen, Fail> {
-    let words = words_of(alloc, line)?;
-    let stamp = stamp_of(given)?;
-    let place = Line::new(alloc, b"/")?;
     let mut input = MemorySource::new(alloc, given.input, given.failing_input)?;
-    let mut out = MemorySink::new(alloc, 100_000, given.failing_out)?;
-    let mut err = MemorySink::new(alloc, 10_000, given.failing_err)?;
-    let answer = run(
-        alloc, &words, &stamp, &place, &mut input, &mut out, &mut err, disk,
-    );
-    Ok(Seen { answer, out, err })
+    answer_over(alloc, line, given, &mut input, disk)
 }
 
 impl Seen {

@@ -39,8 +39,8 @@ printed whole n edits v told2 (Ok found) out out2 err same prints = (
   },
 )
 printed whole n edits v told2 (Err Memory) out out2 err same prints =
-    kept v told2 n (pending_text whole n edits) out out2 err same (subst (λ (o : Option (List ℕ)). GivesSome out o (pending_text whole n edits)) (sym prints) (some_none out (pending_text whole n edits)))
-printed whole n edits v told2 (Err WriteFault) out out2 err same prints = inl (kept v told2 n (pending_text whole n edits) out out2 err same prints)
+    kept v told2 n _ (pending_text whole n edits) out out2 err same (subst (λ (o : Option (List ℕ)). GivesSome out o (pending_text whole n edits)) (sym prints) (some_none out (pending_text whole n edits)))
+printed whole n edits v told2 (Err WriteFault) out out2 err same prints = inl (kept v told2 n _ (pending_text whole n edits) out out2 err same prints)
 printed whole n edits v told2 (Err DiskFault) out out2 err same prints = absurd prints
 printed whole n edits v told2 (Err (Refused refusal)) out out2 err same prints = absurd prints
 printed whole n edits v told2 (Err ReadFault) out out2 err same prints = absurd prints
@@ -55,8 +55,8 @@ prints_entries whole n edits r (Some v) told2 out out2 same answers prints = λ 
 -- they weren't found
 unread : (whole : Bool) (n : List ℕ) (fault : StepFault) (v : View) (told2 : Option View) (out err : Option (List ℕ)) → told2 ≡ Some v → Answers {A = List Edit} (found_edits (look v n)) (Err fault)
     → Meets (pending_status whole) (Err fault) n (pending_step whole n (look v n)) (world (Some v) out err) (world told2 out err)
-unread whole n (Refused refusal) v told2 out err same answers = (answered_step whole n (look v n) (Err refusal) answers, kept v told2 n [] out out err same (some_none out []))
-unread whole n Memory v told2 out err same answers = kept v told2 n _ out out err same (some_none out _)
+unread whole n (Refused refusal) v told2 out err same answers = (answered_step whole n (look v n) (Err refusal) answers, kept v told2 n None [] out out err same (some_none out []))
+unread whole n Memory v told2 out err same answers = kept v told2 n _ _ out out err same (some_none out _)
 unread whole n DiskFault v told2 out err same answers = broken v told2 n (pending_step whole n (look v n)) out out err same (some_none out _)
 unread whole n ReadFault v told2 out err same answers = absurd answers
 unread whole n WriteFault v told2 out err same answers = absurd answers

@@ -18,4 +18,4 @@ unfolding pending_step
 step_is whole n f = refl
 
 pub pending_keeps : (whole : Bool) → KeepsFiles (pending_action whole)
-pending_keeps whole = record { quiet = λ reads n i named f d is. kept_by whole n (found_edits f) d (sym (step_is whole n f) ∙ is); names = λ changes n fits. absurd cc; locked = λ changes locks n i named f d is there g new. absurd cc }
+pending_keeps whole = record { quiet = λ reads n i named f d is. kept_by whole n (found_edits f) d (sym (step_is whole n f) ∙ is); names = λ changes n fits. absurd cc; locked = λ changes locks n i named f d is there g new. absurd cc; pending = λ changes never n i v f d there is. absurd cc }

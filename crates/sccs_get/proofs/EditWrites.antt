@@ -18,7 +18,7 @@ use Rattle.sccs_table.specs.ReaderState.{bytes_in}
 use Rattle.sccs_table.specs.declared.fronts.Front.{Front}
 use Rattle.sccs_versions.specs.Coming.{IsBody}
 use Rattle.sccs_pending.specs.Pending.{bytes_at}
-use Rattle.sccs_files.specs.StepFiles.{Files, Moves, is_working, look}
+use Rattle.sccs_files.specs.StepFiles.{Files, Moves, is_working, l_file, look}
 use Rattle.sccs_moments.proofs.FileNames.{from_g, from_s, no_q, no_y}
 use Rattle.sccs_pfile.specs.Recovered.{pfile_of}
 use Rattle.sccs_pfile.specs.declared.entries.Edit.{Edit}
@@ -43,11 +43,12 @@ use Rattle.sccs_get.proofs.ReadyLaws.{report_same, warning_same}
 
 -- ---- the files that a commit makes
 
-abbrev files_of : Option Content → Option Content → Option Content → Option Files
-files_of s p g = Some (record { s = s; p = p; z = None; g = g })
+abbrev files_of : Option Content → Option Content → Option Content → Option Content → Option Files
+files_of s p g l = Some (record { s = s; p = p; z = None; g = g; l = l })
 
-files_same : {s s2 p p2 g g2 : Option Content} → s ≡ s2 → p ≡ p2 → g ≡ g2 → files_of s p g ≡ files_of s2 p2 g2
-files_same {s} {s2} {p} {p2} {g} {g2} one two three = ap (λ o. files_of o p g) one ∙ (ap (λ o. files_of s2 o g) two ∙ ap (λ o. files_of s2 p2 o) three)
+files_same : {s s2 p p2 g g2 l l2 : Option Content} → s ≡ s2 → p ≡ p2 → g ≡ g2 → l ≡ l2 → files_of s p g l ≡ files_of s2 p2 g2 l2
+files_same {s} {s2} {p} {p2} {g} {g2} {l} {l2} one two three four =
+    ap (λ o. files_of o p g l) one ∙ (ap (λ o. files_of s2 o g l) two ∙ (ap (λ o. files_of s2 p2 o l) three ∙ ap (λ o. files_of s2 p2 g2 o) four))
 
 -- by whether the text is to be the g-file
 abbrev g_chosen : Bool → NewFile
@@ -57,14 +58,16 @@ abbrev y_made : Bool → List ℕ → Content → View → View
 y_made b n c v = if b then put v (y_file n) (Some c) else v
 
 files_made : (b : Bool) (n : List ℕ) (c : Content) (edits : List Edit) (new_p : NewFile) (v u : View) → IsSfile n → ((k : List ℕ) → bytes_eq (q_file n) k ≡ false → u k ≡ v k) → ((old : Option Content) → chosen new_p (u (q_file n)) old ≡ pfile_of edits)
-    → files_of (unlocked n v n) (pfile_of edits) (if b then Some c else unlocked n v (drop 2 n)) ≡ Some (files_after n (plan false new_p (g_chosen b)) (y_made b n c u))
+    → files_of (unlocked n v n) (pfile_of edits) (if b then Some c else unlocked n v (drop 2 n)) (unlocked n v (l_file n)) ≡ Some (files_after n (plan false new_p (g_chosen b)) (y_made b n c u))
 files_made true n c edits new_p v u sfile same entries =
     files_same (put_other v (z_file n) n None (from_s 122 n sfile refl) ∙ (sym (same n (from_s 113 n sfile refl)) ∙ sym (put_other u (y_file n) n (Some c) (from_s 121 n sfile refl))))
     (sym (entries (put u (y_file n) (Some c) (p_file n))) ∙ ap (λ (o : Option Content). chosen new_p o (put u (y_file n) (Some c) (p_file n))) (sym (put_other u (y_file n) (q_file n) (Some c) refl)))
     (sym (put_same u (y_file n) (Some c)))
+    (put_other v (z_file n) (l_file n) None refl ∙ (sym (same (l_file n) refl) ∙ sym (put_other u (y_file n) (l_file n) (Some c) refl)))
 files_made false n c edits new_p v u sfile same entries =
     files_same (put_other v (z_file n) n None (from_s 122 n sfile refl) ∙ sym (same n (from_s 113 n sfile refl))) (sym (entries (u (p_file n))))
     (put_other v (z_file n) (drop 2 n) None (from_g 122 n sfile) ∙ sym (same (drop 2 n) (from_g 113 n sfile)))
+    (put_other v (z_file n) (l_file n) None refl ∙ sym (same (l_file n) refl))
 
 -- the y-file is taken where it was made
 y_taken : (b : Bool) (n : List ℕ) (c : Content) (v x u : View) → x (y_file n) ≡ v (y_file n) → u (y_file n) ≡ y_made b n c x (y_file n) → IsTakenOrGone (g_chosen b) (v (y_file n)) (u (y_file n))
@@ -133,7 +136,7 @@ module _ (words : GetWords) (stamp : Stamp) (place : List ℕ) (heading : Bool) 
     files_at new_p g v None o3 sfile is g_is moves entries given = absurd moves
     files_at new_p g v (Some u) o3 sfile is g_is moves entries given =
         subst (λ (o : Option View). IfSome o (λ w. effect.new ≡ Some (files_after n (plan false new_p g) w))) (sym given)
-        (ap (λ (x : Files). files_of x.s (pfile_of (edits ++ edit ∷ [])) (if writes_g words then Some (record { bytes = text; writable = stays_writable words }) else x.g)) is
+        (ap (λ (x : Files). files_of x.s (pfile_of (edits ++ edit ∷ [])) (if writes_g words then Some (record { bytes = text; writable = stays_writable words }) else x.g) x.l) is
         ∙ (files_made (writes_g words) n (record { bytes = text; writable = stays_writable words }) (edits ++ edit ∷ []) new_p v u sfile moves entries
         ∙ ap (λ (x : NewFile). Some (files_after n (plan false new_p x) (with_y words n text u))) (sym g_is)))
 

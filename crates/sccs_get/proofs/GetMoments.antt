@@ -20,7 +20,7 @@ use Rattle.sccs_gfiles.proofs.MadeWhole.{ends_after, ends_before, ends_pairs, en
 use Rattle.sccs_moments.specs.Calm.{IsCalm}
 use Rattle.sccs_moments.specs.Moments.{EndsAfter, EndsBefore, IsAt}
 use Rattle.sccs_moments.specs.Recovery.{RecoversAs, is_kept}
-use Rattle.sccs_moments.proofs.FileNames.{kept_intent, kept_p, kept_q, kept_s, kept_x, kept_z}
+use Rattle.sccs_moments.proofs.FileNames.{from_g, kept_intent, kept_p, kept_q, kept_s, kept_x, kept_z}
 use Rattle.sccs_moments.proofs.Joined.{numbered_as}
 use Rattle.sccs_moments.proofs.Recovering.{LooksAlike, fate_same, looks_recover, recovers_back, recovers_then}
 use Rattle.sccs_moments.proofs.Untouched.{before_after, before_within}
@@ -112,11 +112,11 @@ module _ (words : GetWords) (stamp : Stamp) (place : List ℕ) (heading : Bool) 
   placing : (r : Result (Unit {0}) StepFault) (p : Prepared) (text : List ℕ) (v : View) (ta tb td : Told) (out2 out3 err err2 : Option (List ℕ)) (m : Model) (past : List Model) → writes_g words ≡ true → FinishesGet words n p r (world (seen tb) out2 err) (world (seen td) out3 err2) → PlacesG words n r tb td
       → ta ≡ Tells m past → IsCalm m → is_kept (drop 2 n) ≡ false → HasMade n ta tb → Leaves (λ m1. view_of m1 (y_file n) ≡ Some (content text (stays_writable words))) ta tb → EndsBefore (view_of m) m past td
   placing (Ok done) p text v ta tb td out2 out3 err err2 m past writes finishes places is calm plain made leaves =
-      ends_pairs n (Some (content text (stays_writable words))) 1 m past td (ends_after n (Some (content text (stays_writable words))) ta tb td m past sfile is calm plain made leaves (places writes))
+      ends_pairs (drop 2 n) (Some (content text (stays_writable words))) 1 m past td (ends_after n (drop 2 n) (Some (content text (stays_writable words))) ta tb td m past (from_g 121 n sfile) sfile is calm plain made leaves (places writes))
   placing (Err WriteFault) p text v ta tb td out2 out3 err err2 m past writes finishes places is calm plain made leaves =
-      ends_pairs n (Some (content text (stays_writable words))) 1 m past td (ends_after n (Some (content text (stays_writable words))) ta tb td m past sfile is calm plain made leaves (places writes))
+      ends_pairs (drop 2 n) (Some (content text (stays_writable words))) 1 m past td (ends_after n (drop 2 n) (Some (content text (stays_writable words))) ta tb td m past (from_g 121 n sfile) sfile is calm plain made leaves (places writes))
   placing (Err DiskFault) p text v ta tb td out2 out3 err err2 m past writes finishes places is calm plain made leaves =
-      ends_pairs n (Some (content text (stays_writable words))) 0 m past td (ends_within n (Some (content text (stays_writable words))) ta tb td m past sfile is calm plain made leaves (places writes))
+      ends_pairs (drop 2 n) (Some (content text (stays_writable words))) 0 m past td (ends_within n (drop 2 n) (Some (content text (stays_writable words))) ta tb td m past (from_g 121 n sfile) sfile is calm plain made leaves (places writes))
   placing (Err (Refused refusal)) p text v ta tb td out2 out3 err err2 m past writes finishes places is calm plain made leaves = absurd finishes
   placing (Err Memory) p text v ta tb td out2 out3 err err2 m past writes finishes places is calm plain made leaves = absurd finishes
   placing (Err ReadFault) p text v ta tb td out2 out3 err err2 m past writes finishes places is calm plain made leaves = absurd finishes
@@ -150,7 +150,7 @@ module _ (words : GetWords) (stamp : Stamp) (place : List ℕ) (heading : Bool) 
   pub finished_moments : (r : Result (Unit {0}) StepFault) (p : Prepared) (left : Option (List ℕ)) (ta tb td : Told) (out out2 out3 err err2 : Option (List ℕ)) → writes_g words ≡ true → ReadiesAt words stamp place heading n (seen ta) (seen tb) (Ok p) out out2 err
       → FinishesGet words n p r (world (seen tb) out2 err) (world (seen td) out3 err2) → PlacesG words n r tb td → TouchesOnly (bytes_eq (y_file n)) ta tb → Leaves (IsFirm (y_file n)) ta tb → StepMoments action r n left (scene ta out err) (scene td out3 err2)
   finished_moments r p left ta tb td out out2 out3 err err2 writes readies finishes places touches firm = λ m past i is heard calm may.
-      at_model r ta td out out3 err err2 m past is (by m past is calm (may.0 (is_changing (writes_g words) writes)) (subst (λ (t : Told). ReadiesAt words stamp place heading n (seen t) (seen tb) (Ok p) out out2 err) is readies))
+      at_model r ta td out out3 err err2 m past is (by m past is calm (may (is_changing (writes_g words) writes)) (subst (λ (t : Told). ReadiesAt words stamp place heading n (seen t) (seen tb) (Ok p) out out2 err) is readies))
     where
       by : (m : Model) (past : List Model) → ta ≡ Tells m past → IsCalm m → IsSafe n (view_of m) → IsReadied words n p (outcome_at (view_of m)) (world (Some (view_of m)) out err) (world (seen tb) out2 err) → EndsSo r (view_of m) m past td out err out3 err2 (outcome_at (view_of m))
       by m past is calm safe ready =
@@ -193,5 +193,5 @@ module _ (words : GetWords) (stamp : Stamp) (place : List ℕ) (heading : Bool) 
   given_up_moments fault r left ta tb td out out2 err writes readies moves gives touches leaving = λ m past i is heard calm may.
       at_model r ta td out out2 err err m past is
       (gives_so fault r (outcome_at (view_of m)) (view_of m) m past (seen tb) td out out2 err (subst (λ (t : Told). ReadiesAt words stamp place heading n (seen t) (seen tb) (Err fault) out out2 err) is readies) (subst (λ (t : Told). Moves (bytes_eq (y_file n)) (λ u. u) (seen t) (seen tb)) is moves)
-      (λ never. absurd (let e : writes_g words ≡ true = writes in let f : writes_g words ≡ false = never in cc)) gives may.0
-      (ends_pairs n None 0 m past td (ends_before n None ta td m past sfile is calm (only_then (bytes_eq (y_file n)) ta tb td touches leaving))))
+      (λ never. absurd (let e : writes_g words ≡ true = writes in let f : writes_g words ≡ false = never in cc)) gives may
+      (ends_pairs (drop 2 n) None 0 m past td (ends_before n (drop 2 n) None ta td m past (from_g 121 n sfile) sfile is calm (only_then (bytes_eq (y_file n)) ta tb td touches leaving))))

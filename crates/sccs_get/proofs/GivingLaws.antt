@@ -1,5 +1,5 @@
 -- What giving a text, placing a g-file and giving up say.
-use Rattle.std.proofs.Common.{◌≡◌, ◌≤◌, ℕ, Bool, true, false, not, ◌||◌, List, [], Option, None, Some, Result, Ok, Err, inl, inr, refl, sym, ap, subst, ◌∙◌, arith}
+use Rattle.std.proofs.Common.{◌≡◌, ◌≤◌, ℕ, Bool, true, false, not, ◌||◌, List, [], drop, Option, None, Some, Result, Ok, Err, inl, inr, refl, sym, ap, subst, ◌∙◌, arith}
 use Rattle.std.specs.Prelude.{if◌then◌else◌}
 use Rattle.std.specs.Result.{IfOk}
 use Rattle.std.specs.Str.{bytes_eq}
@@ -144,7 +144,7 @@ placed_reported words n p (Err Memory) o o2 out out2 err err2 placed reports = a
 placed_reported words n p (Err ReadFault) o o2 out out2 err err2 placed reports = absurd reports
 placed_reported words n p (Err DiskFault) o o2 out out2 err err2 placed reports = absurd reports
 
-pub placed_so : (words : GetWords) (n : List ℕ) (p : Prepared) (r : Result (Unit {0}) StepFault) (o : Option View) (out out2 err err2 : Option (List ℕ)) (a b : Told) → Reports r p (world o out err) (world o out2 err2) → (writes_g words ≡ true → PlaceEnds n a b) → PlacesG words n r a b
+pub placed_so : (words : GetWords) (n : List ℕ) (p : Prepared) (r : Result (Unit {0}) StepFault) (o : Option View) (out out2 err err2 : Option (List ℕ)) (a b : Told) → Reports r p (world o out err) (world o out2 err2) → (writes_g words ≡ true → PlaceEnds n (drop 2 n) a b) → PlacesG words n r a b
 placed_so words n p (Ok done) o out out2 err err2 a b reports ends = ends
 placed_so words n p (Err WriteFault) o out out2 err err2 a b reports ends = ends
 placed_so words n p (Err (Refused refusal)) o out out2 err err2 a b reports ends = absurd reports

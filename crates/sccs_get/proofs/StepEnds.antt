@@ -10,7 +10,7 @@ use Rattle.sccs_sid.specs.declared.refusals.StepFault.TheVariants.{Refused, Memo
 use Rattle.sccs_disk.specs.Effects.{renamed}
 use Rattle.sccs_disk.specs.Files.{Content, View, put}
 use Rattle.sccs_disk.proofs.Puts.{name_cases, put_back, put_other, put_same}
-use Rattle.sccs_files.specs.StepFiles.{AreCleared, Files, Moves, is_left, is_working, look, moved, placed}
+use Rattle.sccs_files.specs.StepFiles.{AreCleared, Files, Moves, is_left, is_working, l_file, look, moved, placed}
 use Rattle.sccs_moments.specs.Recovery.{without_name}
 use Rattle.sccs_base.proofs.SameBytes.{other_bytes, same_bytes}
 use Rattle.sccs_moments.proofs.FileNames.{from_g, no_working, no_y, s_and_g, to_g}
@@ -38,7 +38,7 @@ g_and_s n sfile = other_bytes (drop 2 n) n (λ e. absurd (let apart : bytes_eq n
 
 pub placed_g : (n : List ℕ) (v : View) (text : List ℕ) (writable : Bool) → IsSfile n → placed v n (with_g (look v n) text writable) ≡ g_put n (record { bytes = text; writable = writable }) v
 placed_g n v text writable sfile =
-    ap (λ (t : View). put (put (put t (drop 2 n) (Some (content text writable))) (p_file n) (v (p_file n))) n (v n)) (put_back v (z_file n))
+    ap (λ (t : View). put (put (put t (drop 2 n) (Some (content text writable))) (p_file n) (v (p_file n))) n (v n)) (ap (λ (u : View). put u (z_file n) (v (z_file n))) (put_back v (l_file n)) ∙ put_back v (z_file n))
     ∙ (ap (λ (t : View). put t n (v n)) (ap (λ x. put (g_put n (content text writable) v) (p_file n) x) (sym (put_other v (drop 2 n) (p_file n) (Some (content text writable)) (to_g 112 n sfile))) ∙ put_back (g_put n (content text writable) v) (p_file n))
     ∙ (ap (λ x. put (g_put n (content text writable) v) n x) (sym (put_other v (drop 2 n) n (Some (content text writable)) (g_and_s n sfile))) ∙ put_back (g_put n (content text writable) v) n))
 
@@ -121,17 +121,17 @@ module _ (words : GetWords) (n : List ℕ) (sfile : IsSfile n) where
   pub placed_partly : (text : List ℕ) (v : View) (o4 o5 : Option View) (new : Option Files) → new ≡ files_new text v → Becomes (with_y words n text) (Some v) o4 → MayBecome (g_placed words n) o4 o5 → MovesInOrder n new (Some v) o5
   placed_partly text v o4 o5 new is given (inl same) =
       (0, subst (λ (o : Option View). Moves (is_left n) (λ u. u) (Some v) o) (sym (same ∙ given)) (λ k h. y_other (writes_g words) n (content text (stays_writable words)) v k (no_y n k (no_working n k h))))
-  placed_partly text v o4 o5 new is given (inr placed) = (3, whole o5 (made_view text v o4 o5 new is given placed))
+  placed_partly text v o4 o5 new is given (inr placed) = (4, whole o5 (made_view text v o4 o5 new is given placed))
     where
       whole : (o : Option View) → Moves (is_working n) (λ u. moved u n new) (Some v) o → Moves (is_left n) (λ u. moved u n new) (Some v) o
       whole None moves = absurd moves
       whole (Some w) moves = λ k h. moves k (no_working n k h)
 
   -- nothing is made, and no y-file is left
-  pub undone : (b : Bool) (text : List ℕ) (v : View) (o4 o5 : Option View) (out out2 err : Option (List ℕ)) → Moves (bytes_eq (y_file n)) (λ u. u) (Some v) o4 → (b ≡ false → o4 ≡ Some v) → Becomes (gone_by b n) o4 o5 → GivesSome out out2 text → Uncommitted n text (world (Some v) out err) (world o5 out2 err)
-  undone b text v None o5 out out2 err moves same gone gives = absurd moves
-  undone b text v (Some u) o5 out out2 err moves same gone gives = record {
-    view = subst (λ (o : Option View). Moves (is_working n) (λ w. w) (Some v) o) (sym gone) (λ k h. gone_other b n u k (no_y n k h) ∙ moves k (no_y n k h));
+  pub undone : (b : Bool) (new : Option Files) (text : List ℕ) (v : View) (o4 o5 : Option View) (out out2 err : Option (List ℕ)) → Moves (bytes_eq (y_file n)) (λ u. u) (Some v) o4 → (b ≡ false → o4 ≡ Some v) → Becomes (gone_by b n) o4 o5 → GivesSome out out2 text → Uncommitted n new text (world (Some v) out err) (world o5 out2 err)
+  undone b new text v None o5 out out2 err moves same gone gives = absurd moves
+  undone b new text v (Some u) o5 out out2 err moves same gone gives = record {
+    view = (false, subst (λ (o : Option View). Moves (is_working n) (λ w. w) (Some v) o) (sym gone) (λ k h. gone_other b n u k (no_y n k h) ∙ moves k (no_y n k h)));
     cleared = subst (λ (o : Option View). AreCleared n (Some v) o) (sym gone) (λ k h. cleared_at b same k);
     out = gives;
     err = refl;
@@ -196,9 +196,9 @@ module _ (words : GetWords) (n : List ℕ) (sfile : IsSfile n) where
   -- get gave up, and the y-file is gone
   abbrev pub gave_up : (fault : StepFault) (o : Outcome) (v : View) (o4 o5 : Option View) (out out2 err : Option (List ℕ)) → Readies words n o (Err fault) (world (Some v) out err) (world o4 out2 err) → Moves (bytes_eq (y_file n)) (λ u. u) (Some v) o4 → (writes_g words ≡ false → o4 ≡ Some v)
       → Becomes (y_cleared words n) o4 o5 → Fails fault n o (world (Some v) out err) (world o5 out2 err)
-  gave_up (Refused refusal) o v o4 o5 out out2 err ready moves same gone = (ready.0, undone (writes_g words) [] v o4 o5 out out2 err moves same gone (subst (λ (x : Option (List ℕ)). GivesSome out x []) (sym ready.1) (some_none out [])))
-  gave_up Memory o v o4 o5 out out2 err ready moves same gone = undone (writes_g words) (effect_of n o).text v o4 o5 out out2 err moves same gone ready
-  gave_up WriteFault o v o4 o5 out out2 err ready moves same gone = inl (undone (writes_g words) (effect_of n o).text v o4 o5 out out2 err moves same gone ready)
+  gave_up (Refused refusal) o v o4 o5 out out2 err ready moves same gone = (ready.0, undone (writes_g words) None [] v o4 o5 out out2 err moves same gone (subst (λ (x : Option (List ℕ)). GivesSome out x []) (sym ready.1) (some_none out [])))
+  gave_up Memory o v o4 o5 out out2 err ready moves same gone = undone (writes_g words) (effect_of n o).new (effect_of n o).text v o4 o5 out out2 err moves same gone ready
+  gave_up WriteFault o v o4 o5 out out2 err ready moves same gone = inl (undone (writes_g words) (effect_of n o).new (effect_of n o).text v o4 o5 out out2 err moves same gone ready)
   gave_up DiskFault o v o4 o5 out out2 err ready moves same gone = record { view = (0, left_y v o4 o5 moves (cleared_moves (writes_g words) o4 o5 gone)); out = ready; err = refl }
   gave_up ReadFault o v o4 o5 out out2 err ready moves same gone = absurd ready
 

@@ -7,7 +7,7 @@ use Rattle.sccs_sid.specs.declared.moments.Stamp.{Stamp}
 use Rattle.sccs_sid.specs.declared.refusals.StepFault.{StepFault}
 use Rattle.sccs_disk.specs.Files.{View}
 use Rattle.sccs_disk.specs.Told.{Told, seen}
-use Rattle.sccs_files.specs.StepFiles.{Moves, is_left, look}
+use Rattle.sccs_files.specs.StepFiles.{Moves, is_early, look}
 use Rattle.sccs_images.specs.Touches.{TouchesOnly}
 use Rattle.sccs_moments.specs.Recovery.{is_kept}
 use Rattle.sccs_moments.specs.Unlocked.{BeginsUnlocked, KeepsHeldIn, KeepsOthers, is_own}
@@ -50,7 +50,7 @@ apart_z n sfile = both_false (bytes_eq (y_file n) (z_file n)) (bytes_eq (drop 2 
 own_either : (n k : List ℕ) → is_own n k ≡ false → is_either (y_file n) (drop 2 n) k ≡ false
 own_either n k h =
     both_false (bytes_eq (y_file n) k) (bytes_eq (drop 2 n) k) (no_y n k (no_working n k (own_left n k h)))
-    (left_false (bytes_eq (drop 2 n) k) (is_left n k) (right_false (bytes_eq (p_file n) k) (bytes_eq (drop 2 n) k || is_left n k) (right_false (bytes_eq n k) (bytes_eq (p_file n) k || (bytes_eq (drop 2 n) k || is_left n k)) h)))
+    (left_false (bytes_eq (drop 2 n) k) (is_early n k) (right_false (bytes_eq (p_file n) k) (bytes_eq (drop 2 n) k || is_early n k) (right_false (bytes_eq n k) (bytes_eq (p_file n) k || (bytes_eq (drop 2 n) k || is_early n k)) h)))
 
 y_others : (n : List ℕ) (a b : Told) → TouchesOnly (bytes_eq (y_file n)) a b → KeepsOthers (is_either (y_file n) (drop 2 n)) a b
 y_others n a b touches = others_wider (bytes_eq (y_file n)) (is_either (y_file n) (drop 2 n)) a b (y_within n) (others_touched (bytes_eq (y_file n)) a b touches)
@@ -105,7 +105,7 @@ module _ (words : GetWords) (stamp : Stamp) (place : List ℕ) (heading : Bool) 
   -- ---- the files of other names
 
   pub finished_others : (ta tb td : Told) → IsSfile n → TouchesOnly (bytes_eq (y_file n)) ta tb → KeepsOthers (is_either (y_file n) (drop 2 n)) tb td → StepOthers action n ta td
-  finished_others ta tb td sfile touches others = (λ changes. others_wider (is_either (y_file n) (drop 2 n)) (is_own n) ta td (own_either n) kept, λ changes locks. held)
+  finished_others ta tb td sfile touches others = (λ changes. others_wider (is_either (y_file n) (drop 2 n)) (is_own n) ta td (own_either n) kept, λ changes m past is named. held m past is)
     where
       kept : KeepsOthers (is_either (y_file n) (drop 2 n)) ta td
       kept = others_then (is_either (y_file n) (drop 2 n)) ta tb td (y_others n ta tb touches) others

@@ -48,7 +48,7 @@ edit_effect words heading n records f edits edit version lines =
     let text : List ℕ = given_text words records version lines in
     let report : List ℕ = report_on words heading n version (Some edit.made) (length lines) in
     record {
-      new = Some (record { s = f.s; p = pfile_of (edits ++ edit ∷ []); z = None; g = g_after words text f.g });
+      new = Some (record { s = f.s; p = pfile_of (edits ++ edit ∷ []); z = None; g = g_after words text f.g; l = f.l });
       text = if words.print then text else [];
       out = said_on_out words report;
       err = said_on_err words report (get_warning words n (has_keywords (texts lines)));
@@ -67,4 +67,4 @@ could_edit words (Ok effect) = says_well words effect.err
 could_edit words (Err refusal) = has_number edit_checks (number_of refusal)
 
 abbrev pub edit_change : GetWords → Stamp → List ℕ → Bool → Changing
-edit_change words stamp place heading = record { outcome = edit_outcome words stamp place heading; named = λ n. []; takes = false; silent = false; could = could_edit words }
+edit_change words stamp place heading = record { outcome = edit_outcome words stamp place heading; named = λ n. []; takes = false; silent = false; early = false; could = could_edit words }

@@ -91,9 +91,9 @@ FinishesGet words n p (Err fault) w w2 = ⊥
 
 -- what a stop leaves of it, where there is a text for the g-file
 abbrev pub PlacesG : GetWords → List ℕ → Result (Unit {0}) StepFault → Told → Told → Type 0
-PlacesG words n (Ok done) old new = writes_g words ≡ true → PlaceEnds n old new
-PlacesG words n (Err WriteFault) old new = writes_g words ≡ true → PlaceEnds n old new
-PlacesG words n (Err fault) old new = writes_g words ≡ true → PlaceStops n old new
+PlacesG words n (Ok done) old new = writes_g words ≡ true → PlaceEnds n (drop 2 n) old new
+PlacesG words n (Err WriteFault) old new = writes_g words ≡ true → PlaceEnds n (drop 2 n) old new
+PlacesG words n (Err fault) old new = writes_g words ≡ true → PlaceStops n (drop 2 n) old new
 
 -- the y-file is gone, where one may have been made, and the answer is the fault; or the disk failed
 abbrev pub GivesUpGet : GetWords → List ℕ → StepFault → Result (Unit {0}) StepFault → Option View → Option View → Type 0

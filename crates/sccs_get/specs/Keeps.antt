@@ -82,4 +82,5 @@ get_keeps words stamp place heading = record {
   quiet = λ reads n input named files d is. quiet words stamp place heading n files d reads is;
   names = λ changes n fits. ((sfile_name_decides n).0 fits).1;
   locked = λ changes locks n input named files d is there g new. locked words stamp place heading n files d is g new;
+  pending = λ changes never n i v f d there is. absurd cc;
 }

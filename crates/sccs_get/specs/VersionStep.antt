@@ -90,7 +90,7 @@ needs_keywords words flags = replaces_keywords words && has_flag flags flag_i
 
 -- the files with the version as their g-file
 abbrev pub with_g : Files → List ℕ → Bool → Files
-with_g f text writable = record { s = f.s; p = f.p; z = f.z; g = Some (record { bytes = text; writable = writable }) }
+with_g f text writable = record { s = f.s; p = f.p; z = f.z; g = Some (record { bytes = text; writable = writable }); l = f.l }
 
 -- what is reported of a version, and of the SID that is to be made on it, where there is one
 abbrev pub report_on : GetWords → Bool → List ℕ → Found → Option Sid → ℕ → List ℕ

@@ -101,8 +101,8 @@ fn place<D: Disk>(words: &GetWords, name: &Name, disk: &mut D) -> Result<(), Ste
     requires there { writes_g words.now ≡ true → IsThere (y_file name.now) (D.told disk.old) }
     ensures view { OnOk result (Becomes (g_placed words.now name.now) (seen (D.told disk.old)) (seen (D.told disk.new))) }
     ensures halfway { OnErr result (MayBecome (g_placed words.now name.now) (seen (D.told disk.old)) (seen (D.told disk.new))) }
-    ensures stopped { OnErr result (PlaceStops name.now (D.told disk.old) (D.told disk.new)) }
-    ensures calm { OnOk result (writes_g words.now ≡ true → PlaceEnds name.now (D.told disk.old) (D.told disk.new)) }
+    ensures stopped { OnErr result (PlaceStops name.now (drop 2 name.now) (D.told disk.old) (D.told disk.new)) }
+    ensures calm { OnOk result (writes_g words.now ≡ true → PlaceEnds name.now (drop 2 name.now) (D.told disk.old) (D.told disk.new)) }
     ensures others { KeepsOthers (λ k. bytes_eq (y_file name.now) k || bytes_eq (drop 2 name.now) k) (D.told disk.old) (D.told disk.new) }
     ensures same { writes_g words.now ≡ false → D.told disk.new ≡ D.told disk.old }
     ensures fault { OnErr result (result ≡ Err faults.DiskFault) }

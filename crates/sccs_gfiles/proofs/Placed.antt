@@ -1,4 +1,4 @@
--- A y-file put in the place of a g-file: what a stop leaves.
+-- A y-file put in the place of another file: what a stop leaves.
 use Rattle.std.proofs.Common.{◌≡◌, ℕ, false, List, [], ◌∷◌, drop, Option, None, is_some, inl, inr, refl, sym, ap, subst, ◌∙◌, ⊎_elim, arith}
 use Rattle.std.specs.Str.{bytes_eq}
 use Rattle.sccs_base.specs.Name.{IsSfile, p_file, q_file, x_file, y_file, z_file}
@@ -42,95 +42,95 @@ keeps_same v u w keeps same = record {
 renamed_other : (a b : List ℕ) (u : View) (k : List ℕ) → bytes_eq a k ≡ false → bytes_eq b k ≡ false → renamed a b u k ≡ u k
 renamed_other a b u k from to = put_other (put u a None) b k (u a) to ∙ put_other u a k None from
 
-renamed_keeps : (n : List ℕ) (v u : View) → is_kept (drop 2 n) ≡ false → KeepsPairs v u → KeepsPairs v (renamed (y_file n) (drop 2 n) u)
-renamed_keeps n v u plain keeps =
-    keeps_same v u (renamed (y_file n) (drop 2 n) u) keeps (record {
-      intent = renamed_other (y_file n) (drop 2 n) u intent_file refl (kept_intent (drop 2 n) plain);
-      s = λ k sfile. renamed_other (y_file n) (drop 2 n) u k (no_y n k (working_s n k sfile)) (kept_s (drop 2 n) k plain sfile);
-      p = λ k sfile. renamed_other (y_file n) (drop 2 n) u (p_file k) refl (kept_p (drop 2 n) k plain sfile);
-      z = λ k sfile. renamed_other (y_file n) (drop 2 n) u (z_file k) refl (kept_z (drop 2 n) k plain sfile);
-      x = λ k sfile. renamed_other (y_file n) (drop 2 n) u (x_file k) refl (kept_x (drop 2 n) k plain sfile);
-      q = λ k sfile. renamed_other (y_file n) (drop 2 n) u (q_file k) refl (kept_q (drop 2 n) k plain sfile);
+renamed_keeps : (n to : List ℕ) (v u : View) → is_kept to ≡ false → KeepsPairs v u → KeepsPairs v (renamed (y_file n) to u)
+renamed_keeps n to v u plain keeps =
+    keeps_same v u (renamed (y_file n) to u) keeps (record {
+      intent = renamed_other (y_file n) to u intent_file refl (kept_intent to plain);
+      s = λ k sfile. renamed_other (y_file n) to u k (no_y n k (working_s n k sfile)) (kept_s to k plain sfile);
+      p = λ k sfile. renamed_other (y_file n) to u (p_file k) refl (kept_p to k plain sfile);
+      z = λ k sfile. renamed_other (y_file n) to u (z_file k) refl (kept_z to k plain sfile);
+      x = λ k sfile. renamed_other (y_file n) to u (x_file k) refl (kept_x to k plain sfile);
+      q = λ k sfile. renamed_other (y_file n) to u (q_file k) refl (kept_q to k plain sfile);
     })
 
 -- ---- images
 
-old_image : (n : List ℕ) (m : Model) → IsCalm m → (new : Option Content) (w : View) → Image m w → IsPlacing n m new 0 w
-old_image n m calm new w image = record { keeps = calm w image; g_state = inr (refl, (w, image, refl)) }
+old_image : (to : List ℕ) (m : Model) → IsCalm m → (new : Option Content) (w : View) → Image m w → IsPlacing to m new 0 w
+old_image to m calm new w image = record { keeps = calm w image; state = inr (refl, (w, image, refl)) }
 
--- the model with the y-file over the g-file
-abbrev placed : List ℕ → Model → Model
-placed n m = pended (Rename (y_file n) (drop 2 n)) m
+-- the model with the y-file over another file
+abbrev placed : List ℕ → List ℕ → Model → Model
+placed n to m = pended (Rename (y_file n) to) m
 
-new_image : (n : List ℕ) (m : Model) → CanPlace n m → (j : ℕ) (w : View) → Full (placed n m) w → IsPlacing n m (view_of m (y_file n)) j w
-new_image n m can j w full =
-    let x : (u : View) × Full m u × (w ≡ renamed (y_file n) (drop 2 n) u) = full_renamed (y_file n) (drop 2 n) m w full in
-    subst (λ (v : View). IsPlacing n m (view_of m (y_file n)) j v) (sym x.2) (record {
-      keeps = renamed_keeps n (view_of m) x.0 can.plain (can.calm x.0 (full_image m x.0 x.1));
-      g_state = inl (put_same (put x.0 (y_file n) None) (drop 2 n) (x.0 (y_file n)) ∙ firm_stays (y_file n) m x.0 can.y_state x.1);
+new_image : (n to : List ℕ) (m : Model) → CanPlace n to m → (j : ℕ) (w : View) → Full (placed n to m) w → IsPlacing to m (view_of m (y_file n)) j w
+new_image n to m can j w full =
+    let x : (u : View) × Full m u × (w ≡ renamed (y_file n) to u) = full_renamed (y_file n) to m w full in
+    subst (λ (v : View). IsPlacing to m (view_of m (y_file n)) j v) (sym x.2) (record {
+      keeps = renamed_keeps n to (view_of m) x.0 can.plain (can.calm x.0 (full_image m x.0 x.1));
+      state = inl (put_same (put x.0 (y_file n) None) to (x.0 (y_file n)) ∙ firm_stays (y_file n) m x.0 can.y_state x.1);
     })
 
-placed_image : (n : List ℕ) (m : Model) → CanPlace n m → Allows (IsPlacing n m (view_of m (y_file n)) 0) (placed n m)
-placed_image n m can w image =
-    ⊎_elim (λ old. old_image n m can.calm (view_of m (y_file n)) w old) (λ full. new_image n m can 0 w full) (image_pended (Rename (y_file n) (drop 2 n)) m w image)
+placed_image : (n to : List ℕ) (m : Model) → CanPlace n to m → Allows (IsPlacing to m (view_of m (y_file n)) 0) (placed n to m)
+placed_image n to m can w image =
+    ⊎_elim (λ old. old_image to m can.calm (view_of m (y_file n)) w old) (λ full. new_image n to m can 0 w full) (image_pended (Rename (y_file n) to) m w image)
 
-settled_image : (n : List ℕ) (m : Model) → CanPlace n m → (j : ℕ) → Allows (IsPlacing n m (view_of m (y_file n)) j) (settled (placed n m))
-settled_image n m can j w image = new_image n m can j w (image_settled (placed n m) w image)
+settled_image : (n to : List ℕ) (m : Model) → CanPlace n to m → (j : ℕ) → Allows (IsPlacing to m (view_of m (y_file n)) j) (settled (placed n to m))
+settled_image n to m can j w image = new_image n to m can j w (image_settled (placed n to m) w image)
 
-placed_guards : (n : List ℕ) (m : Model) → CanPlace n m → Guards (view_of m) (view_of (placed n m))
-placed_guards n m can k sfile = inl ((placed_image n m can (view_of (placed n m)) (view_image (placed n m))).keeps.pairs k sfile)
+placed_guards : (n to : List ℕ) (m : Model) → CanPlace n to m → Guards (view_of m) (view_of (placed n to m))
+placed_guards n to m can k sfile = inl ((placed_image n to m can (view_of (placed n to m)) (view_image (placed n to m))).keeps.pairs k sfile)
 
 -- ---- runs
 
-nothing_made : (n : List ℕ) (m : Model) (past : List Model) (t : Told) → CanPlace n m → t ≡ Tells m past → EndsPlacing n (view_of m (y_file n)) 0 m past t
-nothing_made n m past t can is = (
-  record { added = []; is = is; numbers = (omega arith, λ w image. old_image n m can.calm (view_of m (y_file n)) w image); guarded = tt },
+nothing_made : (n to : List ℕ) (m : Model) (past : List Model) (t : Told) → CanPlace n to m → t ≡ Tells m past → EndsPlacing to (view_of m (y_file n)) 0 m past t
+nothing_made n to m past t can is = (
+  record { added = []; is = is; numbers = (omega arith, λ w image. old_image to m can.calm (view_of m (y_file n)) w image); guarded = tt },
   can.calm,
 )
 
-rename_made : (n : List ℕ) (m : Model) (past : List Model) (t : Told) → CanPlace n m → t ≡ Tells (placed n m) (m ∷ past) → EndsPlacing n (view_of m (y_file n)) 0 m past t
-rename_made n m past t can is = (
+rename_made : (n to : List ℕ) (m : Model) (past : List Model) (t : Told) → CanPlace n to m → t ≡ Tells (placed n to m) (m ∷ past) → EndsPlacing to (view_of m (y_file n)) 0 m past t
+rename_made n to m past t can is = (
   record {
-    added = placed n m ∷ [];
+    added = placed n to m ∷ [];
     is = is;
-    numbers = (placed_image n m can, (0, omega arith, (omega arith, λ w image. old_image n m can.calm (view_of m (y_file n)) w image)));
-    guarded = (placed_guards n m can, tt);
+    numbers = (placed_image n to m can, (0, omega arith, (omega arith, λ w image. old_image to m can.calm (view_of m (y_file n)) w image)));
+    guarded = (placed_guards n to m can, tt);
   },
-  calm_kept (view_of m) (placed n m) (λ w image. (placed_image n m can w image).keeps),
+  calm_kept (view_of m) (placed n to m) (λ w image. (placed_image n to m can w image).keeps),
 )
 
-both_made : (n : List ℕ) (m : Model) (past : List Model) (t : Told) (j : ℕ) → CanPlace n m → t ≡ Tells (settled (placed n m)) (placed n m ∷ m ∷ past) → EndsPlacing n (view_of m (y_file n)) j m past t
-both_made n m past t j can is = (
+both_made : (n to : List ℕ) (m : Model) (past : List Model) (t : Told) (j : ℕ) → CanPlace n to m → t ≡ Tells (settled (placed n to m)) (placed n to m ∷ m ∷ past) → EndsPlacing to (view_of m (y_file n)) j m past t
+both_made n to m past t j can is = (
   record {
-    added = settled (placed n m) ∷ placed n m ∷ [];
+    added = settled (placed n to m) ∷ placed n to m ∷ [];
     is = is;
-    numbers = (settled_image n m can j, (0, omega arith, (placed_image n m can, (0, omega arith, (omega arith, λ w image. old_image n m can.calm (view_of m (y_file n)) w image)))));
-    guarded = (λ k other. inl refl, (placed_guards n m can, tt));
+    numbers = (settled_image n to m can j, (0, omega arith, (placed_image n to m can, (0, omega arith, (omega arith, λ w image. old_image to m can.calm (view_of m (y_file n)) w image)))));
+    guarded = (λ k other. inl refl, (placed_guards n to m can, tt));
   },
-  calm_kept (view_of m) (settled (placed n m)) (λ w image. (settled_image n m can j w image).keeps),
+  calm_kept (view_of m) (settled (placed n to m)) (λ w image. (settled_image n to m can j w image).keeps),
 )
 
 -- ---- the calls, however they end
 
-place_ends : (n : List ℕ) (a b : Told) → Places (y_file n) (drop 2 n) a b → PlaceEnds n a b
-place_ends n a b (mid, made, synced) = λ m past is can. both_made n m past b 1 can (synced.model (placed n m) (m ∷ past) (made.model m past is))
+place_ends : (n to : List ℕ) (a b : Told) → Places (y_file n) to a b → PlaceEnds n to a b
+place_ends n to a b (mid, made, synced) = λ m past is can. both_made n to m past b 1 can (synced.model (placed n to m) (m ∷ past) (made.model m past is))
 
-half_renamed : (n : List ℕ) (a b : Told) → Half (renaming (y_file n) (drop 2 n)) a b → PlaceStops n a b
-half_renamed n a b half = λ m past is can.
-    ⊎_elim (λ same. nothing_made n m past b can (same ∙ is)) (λ made. rename_made n m past b can (subst (λ (x : Model). b ≡ Tells x (m ∷ past)) made.2 made.1)) (half.model m past is)
+half_renamed : (n to : List ℕ) (a b : Told) → Half (renaming (y_file n) to) a b → PlaceStops n to a b
+half_renamed n to a b half = λ m past is can.
+    ⊎_elim (λ same. nothing_made n to m past b can (same ∙ is)) (λ made. rename_made n to m past b can (subst (λ (x : Model). b ≡ Tells x (m ∷ past)) made.2 made.1)) (half.model m past is)
 
-half_synced : (n : List ℕ) (a mid b : Told) → Done (renaming (y_file n) (drop 2 n)) a mid → Half syncing_names mid b → PlaceStops n a b
-half_synced n a mid b made half = λ m past is can.
-    ⊎_elim (λ same. rename_made n m past b can (same ∙ made.model m past is))
-    (λ synced. both_made n m past b 0 can (subst (λ (x : Model). b ≡ Tells x (placed n m ∷ m ∷ past)) synced.2 synced.1))
-    (half.model (placed n m) (m ∷ past) (made.model m past is))
+half_synced : (n to : List ℕ) (a mid b : Told) → Done (renaming (y_file n) to) a mid → Half syncing_names mid b → PlaceStops n to a b
+half_synced n to a mid b made half = λ m past is can.
+    ⊎_elim (λ same. rename_made n to m past b can (same ∙ made.model m past is))
+    (λ synced. both_made n to m past b 0 can (subst (λ (x : Model). b ≡ Tells x (placed n to m ∷ m ∷ past)) synced.2 synced.1))
+    (half.model (placed n to m) (m ∷ past) (made.model m past is))
 
-place_stops : (n : List ℕ) (a b : Told) → HalfPlaces (y_file n) (drop 2 n) a b → PlaceStops n a b
-place_stops n a b (inl half) = half_renamed n a b half
-place_stops n a b (inr (mid, made, half)) = half_synced n a mid b made half
+place_stops : (n to : List ℕ) (a b : Told) → HalfPlaces (y_file n) to a b → PlaceStops n to a b
+place_stops n to a b (inl half) = half_renamed n to a b half
+place_stops n to a b (inr (mid, made, half)) = half_synced n to a mid b made half
 
-pub placed_ends : (n from to : List ℕ) (a b : Told) → from ≡ y_file n → to ≡ drop 2 n → Places from to a b → PlaceEnds n a b
-placed_ends n from to a b y g done = place_ends n a b (subst (λ k. Places (y_file n) k a b) g (subst (λ k. Places k to a b) y done))
+pub placed_ends : (n from at to : List ℕ) (a b : Told) → from ≡ y_file n → at ≡ to → Places from at a b → PlaceEnds n to a b
+placed_ends n from at to a b y is done = place_ends n to a b (subst (λ k. Places (y_file n) k a b) is (subst (λ k. Places k at a b) y done))
 
-pub placed_stops : (n from to : List ℕ) (a b : Told) → from ≡ y_file n → to ≡ drop 2 n → HalfPlaces from to a b → PlaceStops n a b
-placed_stops n from to a b y g half = place_stops n a b (subst (λ k. HalfPlaces (y_file n) k a b) g (subst (λ k. HalfPlaces k to a b) y half))
+pub placed_stops : (n from at to : List ℕ) (a b : Told) → from ≡ y_file n → at ≡ to → HalfPlaces from at a b → PlaceStops n to a b
+placed_stops n from at to a b y is half = place_stops n to a b (subst (λ k. HalfPlaces (y_file n) k a b) is (subst (λ k. HalfPlaces k at a b) y half))

@@ -1,5 +1,6 @@
--- The y-file put in the place of the g-file: the calls, what they need so that a stop loses nothing, and what a stop leaves.
-use Rattle.std.specs.Prelude.{◌≡◌, ◌⊎◌, ℕ, false, List, drop, Option}
+-- The y-file put in the place of the g-file or of the l-file: the calls, what they need so that a stop loses nothing, and what a
+-- stop leaves.
+use Rattle.std.specs.Prelude.{◌≡◌, ◌⊎◌, ℕ, false, List, Option}
 use Rattle.std.specs.Str.{bytes_eq}
 use Rattle.sccs_base.specs.Name.{y_file}
 use Rattle.sccs_disk.specs.Calls.{Done, Half}
@@ -30,35 +31,35 @@ pub record HasMade (n : List ℕ) (old new : Told) : Type 0 where
 -- ---- what they need
 
 -- What is so of a disk, so that a stop loses nothing.
-pub record CanPlace (n : List ℕ) (m : Model) : Type 0 where
+pub record CanPlace (n to : List ℕ) (m : Model) : Type 0 where
   pub calm : IsCalm m
   pub y_state : IsFirm (y_file n) m
-  -- the g-file's name is none at which recovery of a name looks
-  pub plain : is_kept (drop 2 n) ≡ false
+  -- the name of the file is none at which recovery of a name looks
+  pub plain : is_kept to ≡ false
 
 -- ---- what a stop leaves
 
--- the g-file as a stop could leave it at the start
+-- the file as a stop could leave it at the start
 abbrev pub HasOld : List ℕ → Model → View → Type 0
-HasOld n m w = (u : View) × Image m u × (w (drop 2 n) ≡ u (drop 2 n))
+HasOld to m w = (u : View) × Image m u × (w to ≡ u to)
 
--- the new g-file or, while j is 0, the old one
-abbrev pub HasG : List ℕ → Model → Option Content → ℕ → View → Type 0
-HasG n m new j w = (w (drop 2 n) ≡ new) ⊎ ((j ≡ 0) × HasOld n m w)
+-- the new file or, while j is 0, the old one
+abbrev pub HasNew : List ℕ → Model → Option Content → ℕ → View → Type 0
+HasNew to m new j w = (w to ≡ new) ⊎ ((j ≡ 0) × HasOld to m w)
 
--- The old s-files and p-files, and a g-file that is whole.
-pub record IsPlacing (n : List ℕ) (m : Model) (new : Option Content) (j : ℕ) (w : View) : Type 0 where
+-- The old s-files and p-files, and a file that is whole.
+pub record IsPlacing (to : List ℕ) (m : Model) (new : Option Content) (j : ℕ) (w : View) : Type 0 where
   pub keeps : KeepsPairs (view_of m) w
-  pub g_state : HasG n m new j w
+  pub state : HasNew to m new j w
 
 -- so is each image of each moment, and the disk is calm
 abbrev pub EndsPlacing : List ℕ → Option Content → ℕ → Model → List Model → Told → Type 0
-EndsPlacing n new j m past t = (went : Went (IsPlacing n m new) m past j t) × IsCalm (newest went.added m)
+EndsPlacing to new j m past t = (went : Went (IsPlacing to m new) m past j t) × IsCalm (newest went.added m)
 
 -- wherever it stops
-abbrev pub PlaceStops : List ℕ → Told → Told → Type 0
-PlaceStops n old new = (m : Model) (past : List Model) → old ≡ Tells m past → CanPlace n m → EndsPlacing n (view_of m (y_file n)) 0 m past new
+abbrev pub PlaceStops : List ℕ → List ℕ → Told → Told → Type 0
+PlaceStops n to old new = (m : Model) (past : List Model) → old ≡ Tells m past → CanPlace n to m → EndsPlacing to (view_of m (y_file n)) 0 m past new
 
--- at its end, where each image has the new g-file
-abbrev pub PlaceEnds : List ℕ → Told → Told → Type 0
-PlaceEnds n old new = (m : Model) (past : List Model) → old ≡ Tells m past → CanPlace n m → EndsPlacing n (view_of m (y_file n)) 1 m past new
+-- at its end, where each image has the new file
+abbrev pub PlaceEnds : List ℕ → List ℕ → Told → Told → Type 0
+PlaceEnds n to old new = (m : Model) (past : List Model) → old ≡ Tells m past → CanPlace n to m → EndsPlacing to (view_of m (y_file n)) 1 m past new

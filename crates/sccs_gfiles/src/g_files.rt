@@ -4,6 +4,7 @@ ghost use Rattle.sccs_base.specs.Name.{IsSfile, y_file};
 ghost use Rattle.sccs_disk.specs.Calls.{IsThere};
 ghost use Rattle.sccs_disk.specs.Effects.{renamed};
 ghost use Rattle.sccs_disk.specs.Told.{seen};
+ghost use Rattle.sccs_files.specs.StepFiles.{l_file};
 ghost use Rattle.sccs_gfiles.specs.Finished.{MayWrite};
 ghost use Rattle.sccs_gfiles.specs.Placing.{HalfPlaces, PlaceEnds, PlaceStops, Places};
 ghost use Rattle.sccs_moments.specs.Unlocked.{KeepsOthers};
@@ -50,10 +51,24 @@ pub fn place_g<D: Disk>(disk: &mut D, name: &Name) -> Result<(), Failed>
     requires there { IsThere (y_file name.now) (D.told disk.old) }
     ensures view { OnOk result (Becomes (renamed (y_file name.now) (drop 2 name.now)) (seen (D.told disk.old)) (seen (D.told disk.new))) }
     ensures halfway { OnErr result (MayBecome (renamed (y_file name.now) (drop 2 name.now)) (seen (D.told disk.old)) (seen (D.told disk.new))) }
-    ensures stopped { OnErr result (PlaceStops name.now (D.told disk.old) (D.told disk.new)) }
-    ensures calm { OnOk result (PlaceEnds name.now (D.told disk.old) (D.told disk.new)) }
+    ensures stopped { OnErr result (PlaceStops name.now (drop 2 name.now) (D.told disk.old) (D.told disk.new)) }
+    ensures calm { OnOk result (PlaceEnds name.now (drop 2 name.now) (D.told disk.old) (D.told disk.new)) }
     ensures others { KeepsOthers (λ k. bytes_eq (y_file name.now) k || bytes_eq (drop 2 name.now) k) (D.told disk.old) (D.told disk.new) }
     ensures causes { DiskCauses (IsErr result) (D.faults disk.old) (D.faults disk.new) }
 {
     place(disk, &name.sibling(b'y'), &name.module())
+}
+
+/// Puts the y-file of an s-file's name in the place of its l-file and syncs the names, as `place_g` does.
+pub fn place_l<D: Disk>(disk: &mut D, name: &Name) -> Result<(), Failed>
+    requires sfile { IsSfile name.now }
+    requires there { IsThere (y_file name.now) (D.told disk.old) }
+    ensures view { OnOk result (Becomes (renamed (y_file name.now) (l_file name.now)) (seen (D.told disk.old)) (seen (D.told disk.new))) }
+    ensures halfway { OnErr result (MayBecome (renamed (y_file name.now) (l_file name.now)) (seen (D.told disk.old)) (seen (D.told disk.new))) }
+    ensures stopped { OnErr result (PlaceStops name.now (l_file name.now) (D.told disk.old) (D.told disk.new)) }
+    ensures calm { OnOk result (PlaceEnds name.now (l_file name.now) (D.told disk.old) (D.told disk.new)) }
+    ensures others { KeepsOthers (λ k. bytes_eq (y_file name.now) k || bytes_eq (l_file name.now) k) (D.told disk.old) (D.told disk.new) }
+    ensures causes { DiskCauses (IsErr result) (D.faults disk.old) (D.faults disk.new) }
+{
+    place(disk, &name.sibling(b'y'), &name.sibling(b'l'))
 }

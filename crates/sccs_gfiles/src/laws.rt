@@ -1,5 +1,5 @@
 //! Laws: what the definitions of this crate say together. Each is proved of all values.
-ghost use Rattle.std.specs.Prelude.{◌≡◌, ℕ, List, drop, false, Option};
+ghost use Rattle.std.specs.Prelude.{◌≡◌, ℕ, List, false, Option};
 ghost use Rattle.std.specs.Str.{bytes_eq};
 ghost use Rattle.sccs_base.specs.Name.{IsSfile, y_file};
 ghost use Rattle.sccs_disk.specs.Files.{Content, Model, view_of};
@@ -21,16 +21,17 @@ pub fn y_files_are_made()
 
 /// From a calm disk on, where the g-file's name is that of no s-file, p-file or z-file, making a g-file loses
 /// nothing, wherever it is stopped: each image of each moment has the old s-files and p-files, and the g-file
-/// as a stop could leave it at the start, or the new one; at its end, only the latter. The disk is calm.
+/// as a stop could leave it at the start, or the new one; at its end, only the latter. The disk is calm. The
+/// same is so of any file into which a y-file is made, as an l-file.
 pub fn g_files_are_made_whole()
-    ensures before { (n : List ℕ) (new : Option Content) (a b : Told) (m : Model) (past : List Model) → IsSfile n
-        → a ≡ Tells m past → IsCalm m → TouchesOnly (bytes_eq (y_file n)) a b → EndsPlacing n new 0 m past b }
-    ensures within { (n : List ℕ) (new : Option Content) (a b d : Told) (m : Model) (past : List Model) → IsSfile n
-        → a ≡ Tells m past → IsCalm m → is_kept (drop 2 n) ≡ false → HasMade n a b
-        → Leaves (λ m1. view_of m1 (y_file n) ≡ new) a b → PlaceStops n b d → EndsPlacing n new 0 m past d }
-    ensures after { (n : List ℕ) (new : Option Content) (a b d : Told) (m : Model) (past : List Model) → IsSfile n
-        → a ≡ Tells m past → IsCalm m → is_kept (drop 2 n) ≡ false → HasMade n a b
-        → Leaves (λ m1. view_of m1 (y_file n) ≡ new) a b → PlaceEnds n b d → EndsPlacing n new 1 m past d }
-    ensures pairs { (n : List ℕ) (new : Option Content) (j : ℕ) (m : Model) (past : List Model) (t : Told)
-        → EndsPlacing n new j m past t → EndsBefore (view_of m) m past t }
+    ensures before { (n to : List ℕ) (new : Option Content) (a b : Told) (m : Model) (past : List Model) → bytes_eq (y_file n) to ≡ false → IsSfile n
+        → a ≡ Tells m past → IsCalm m → TouchesOnly (bytes_eq (y_file n)) a b → EndsPlacing to new 0 m past b }
+    ensures within { (n to : List ℕ) (new : Option Content) (a b d : Told) (m : Model) (past : List Model) → bytes_eq (y_file n) to ≡ false → IsSfile n
+        → a ≡ Tells m past → IsCalm m → is_kept to ≡ false → HasMade n a b
+        → Leaves (λ m1. view_of m1 (y_file n) ≡ new) a b → PlaceStops n to b d → EndsPlacing to new 0 m past d }
+    ensures after { (n to : List ℕ) (new : Option Content) (a b d : Told) (m : Model) (past : List Model) → bytes_eq (y_file n) to ≡ false → IsSfile n
+        → a ≡ Tells m past → IsCalm m → is_kept to ≡ false → HasMade n a b
+        → Leaves (λ m1. view_of m1 (y_file n) ≡ new) a b → PlaceEnds n to b d → EndsPlacing to new 1 m past d }
+    ensures pairs { (to : List ℕ) (new : Option Content) (j : ℕ) (m : Model) (past : List Model) (t : Told)
+        → EndsPlacing to new j m past t → EndsBefore (view_of m) m past t }
 {}

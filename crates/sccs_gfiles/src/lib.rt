@@ -7,6 +7,6 @@ pub mod laws;
 mod modes;
 mod y_files;
 
-pub use g_files::{is_writable_g, place_g};
+pub use g_files::{is_writable_g, place_g, place_l};
 pub use modes::Mode;
 pub use y_files::finish_y;

@@ -1,5 +1,5 @@
 -- The plan becomes the intent, and the group is completed.
-use Rattle.std.proofs.Common.{◌≡◌, ℕ, true, false, List, [], ◌∷◌, take, Option, None, Some, is_some, inl, inr, refl, sym, ap, subst, ◌∙◌, ⊎_elim, arith}
+use Rattle.std.proofs.Common.{◌≡◌, ℕ, true, false, List, [], ◌∷◌, ◌++◌, take, Option, None, Some, is_some, inl, inr, refl, sym, ap, subst, ◌∙◌, ⊎_elim, arith}
 use Rattle.std.specs.Prelude.{IsSome}
 use Rattle.std.specs.List.{AllByRecursion}
 use Rattle.std.specs.Str.{bytes_eq}
@@ -23,18 +23,19 @@ use Rattle.sccs_intents.specs.declared.intents.Fate.TheVariants.{Replaced}
 use Rattle.sccs_intents.proofs.IntentTexts.{text_again}
 use Rattle.sccs_moments.specs.Calm.{HasFirm, IsCalm}
 use Rattle.sccs_moments.specs.Moments.{Guards, IsFrom, Went}
-use Rattle.sccs_moments.specs.Recovery.{RecoversAs, fate_at, fated, newer, pair_of, recover}
+use Rattle.sccs_moments.specs.Recovery.{IsSettledPair, RecoversAs, fate_at, fated, newer, pair_of, recover}
 use Rattle.sccs_moments.proofs.CalmDisks.{full_there, looks_firm}
 use Rattle.sccs_moments.proofs.Joined.{numbered_zero, raised, went_then}
 use Rattle.sccs_moments.proofs.Recovering.{SameLooks, fate_same, looks_recover, pair, pair_same, recovered_is, recovered_under, recovers_itself, recovers_then, newer_same}
 use Rattle.sccs_moments.proofs.Untouched.{none_named}
 use Rattle.sccs_store.specs.Commits.{Becomes}
 use Rattle.sccs_store.proofs.Working.{becomes_both}
-use Rattle.sccs_group.specs.Finishing.{CanFinish, Completes, CompletesBy, Finishes, FinishesBy, Follows, IsHeld, IsSettled, IsSettledPair}
-use Rattle.sccs_group.specs.Grouping.{AnnounceEnds, AnnounceStops, CanAnnounce, CanPlace, CanPlaceAll, IsGrouped, OnReplaced, file_of}
+use Rattle.sccs_group.specs.Finishing.{CanFinish, Completes, CompletesBy, Finishes, FinishesBy, Follows, IsHeld, IsSettled}
+use Rattle.sccs_group.specs.Grouping.{AnnounceEnds, AnnounceStops, CanAnnounce, CanPlace, CanPlaceAll, IsGrouped, OnReplaced, StayHeld, file_of}
 use Rattle.sccs_group.specs.Members.{HasGroup, IsPlainG, IsWritten, completed, entries_of}
 use Rattle.sccs_group.specs.declared.members.Member.{Member}
-use Rattle.sccs_group.proofs.Calling.{none_left, view_renamed}
+use Rattle.sccs_group.proofs.Calling.{held_alike, none_left, view_renamed}
+use Rattle.sccs_group.proofs.Runs.{each_by, each_then}
 use Rattle.sccs_group.proofs.Closing.{fate_head, fate_tail, no_fate, same_fate}
 use Rattle.sccs_group.proofs.Harmless.{fated_same, renamed_other, renamed_to}
 use Rattle.sccs_moments.proofs.Full.{full_renamed}
@@ -205,6 +206,23 @@ pub announced_guards : (m : Model) → Guards (view_of m) (view_of (next_of m))
 announced_guards m = λ n sfile. inl (subst (λ (v : View). pair_of v n ≡ pair_of (view_of m) n) (sym (view_renamed plan_file intent_file m))
     (pair_same _ _ _ _ (other_s (view_of m) n sfile) (other_file (view_of m) (p_file n) refl refl)))
 
+-- the z-file of each name of the intent is there
+pub announced_holds : (ms : List Member) (m : Model) → IsWritten ms → CanAnnounce ms m → Allows IsHeld m → Allows IsHeld (next_of m)
+announced_holds ms m written can all = λ w image.
+    ⊎_elim (λ old. all w old)
+    (λ full.
+    let x : (u : View) × Full m u × (w ≡ named u) = full_renamed plan_file intent_file m w full in
+    subst IsHeld (sym x.2) (held_alike (named (view_of m)) (named x.0) (announce_looks ms m x.0 written can x.1) (announced_held ms m written can)))
+    (image_pended (Rename plan_file intent_file) m w image)
+
+pub finished_holds : (m : Model) (past : List Model) (d : Told) → (run : Finishes m past d) → StayHeld run.added m
+finished_holds m past d run all = each_by (Follows m) (Allows IsHeld) run.added m (λ m2 follows w image n sfile some. follows.held n sfile (λ u there. all u there n sfile) w image some) run.each
+
+behind_holds : (ms : List Member) (m : Model) (past : List Model) (d : Told) → IsWritten ms → CanAnnounce ms m → (run : Finishes (next_of m) past d) → StayHeld (run.added ++ next_of m ∷ []) m
+behind_holds ms m past d written can run all =
+    let now : Allows IsHeld (next_of m) = announced_holds ms m written can all in
+    each_then (Allows IsHeld) run.added (next_of m ∷ []) m (now, all) (finished_holds (next_of m) past d run now)
+
 -- nothing was made
 abbrev pub stays_grouped : (m : Model) (past : List Model) (w : View) (t : Told) → t ≡ Tells m past → Went (IsGrouped m w) m past 0 t
 stays_grouped m past w t is = record { added = []; is = is; numbers = (omega arith, λ u image. inr (refl, (u, image, recovers_itself u))); guarded = tt }
@@ -238,8 +256,8 @@ finished_went m m2 past2 w d all run = record {
 -- the renaming failed
 pub rename_half : (ms : List Member) (a b : Told) → IsWritten ms → Half (renaming plan_file intent_file) a b → AnnounceStops ms a b
 rename_half ms a b written half = λ m past is can.
-    ⊎_elim (λ same. (stays_grouped m past (named (view_of m)) b (same ∙ is), can_begin m can.group.firm can.group.none))
-    (λ made. (announced_went ms m past b written can (subst (λ (x : Model). b ≡ Tells x (m ∷ past)) made.2 made.1), announced_can ms m written can)) (half.model m past is)
+    ⊎_elim (λ same. (stays_grouped m past (named (view_of m)) b (same ∙ is), can_begin m can.group.firm can.group.none, λ all. all))
+    (λ made. (announced_went ms m past b written can (subst (λ (x : Model). b ≡ Tells x (m ∷ past)) made.2 made.1), announced_can ms m written can, λ all. (announced_holds ms m written can all, all))) (half.model m past is)
 
 -- the group could not be completed
 pub complete_stops : (ms : List Member) (a b d : Told) → IsWritten ms → Done (renaming plan_file intent_file) a b → FinishesBy (HasGroup ms) b d → AnnounceStops ms a d
@@ -248,11 +266,12 @@ complete_stops ms a b d written done story = λ m past is can.
     (story (next_of m) (m ∷ past) (done.model m past is) (announced_can ms m written can) (subst (HasGroup ms) (sym (view_renamed plan_file intent_file m)) (has_group ms m written can)))
   where
     stops : (m : Model) (past : List Model) → b ≡ Tells (next_of m) (m ∷ past) → CanAnnounce ms m → Finishes (next_of m) (m ∷ past) d
-        → (went : Went (IsGrouped m (renamed plan_file intent_file (view_of m))) m past 0 d) × CanFinish (newest went.added m)
+        → (went : Went (IsGrouped m (renamed plan_file intent_file (view_of m))) m past 0 d) × CanFinish (newest went.added m) × StayHeld went.added m
     stops m past at can run = (
       went_then (IsGrouped m (named (view_of m))) m past 0 b d (announced_went ms m past b written can at)
           (finished_went m (next_of m) (m ∷ past) (named (view_of m)) d (announced_image ms m written can) run),
       subst CanFinish (sym (newest_more run.added (next_of m ∷ []) m)) run.can,
+      behind_holds ms m (m ∷ past) d written can run,
     )
 
 abbrev completed_went : (ms : List Member) (m : Model) (past2 : List Model) (d : Told) → IsWritten ms → CanAnnounce ms m → Completes (next_of m) past2 d → Went (IsGrouped m (named (view_of m))) (next_of m) past2 1 d
@@ -273,10 +292,11 @@ complete_ends ms a b d written done story = λ m past is can.
     (story (next_of m) (m ∷ past) (done.model m past is) (announced_can ms m written can) (subst (HasGroup ms) (sym (view_renamed plan_file intent_file m)) (has_group ms m written can)))
   where
     ends : (m : Model) (past : List Model) → b ≡ Tells (next_of m) (m ∷ past) → CanAnnounce ms m → Completes (next_of m) (m ∷ past) d
-        → (went : Went (IsGrouped m (renamed plan_file intent_file (view_of m))) m past 1 d) × IsCalm (newest went.added m)
+        → (went : Went (IsGrouped m (renamed plan_file intent_file (view_of m))) m past 1 d) × IsCalm (newest went.added m) × StayHeld went.added m
     ends m past at can completes = (
       went_then (IsGrouped m (named (view_of m))) m past 1 b d (announced_went ms m past b written can at) (completed_went ms m (m ∷ past) d written can completes),
       subst IsCalm (sym (newest_more completes.run.added (next_of m ∷ []) m)) completes.calm,
+      behind_holds ms m (m ∷ past) d written can completes.run,
     )
 
 -- the names of the call's arguments

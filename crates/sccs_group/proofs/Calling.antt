@@ -17,13 +17,13 @@ use Rattle.sccs_intents.specs.declared.intents.Fate.{Fate}
 use Rattle.sccs_intents.specs.declared.intents.Fate.TheVariants.{Replaced, Removed}
 use Rattle.sccs_moments.specs.Calm.{HasFirm}
 use Rattle.sccs_moments.specs.Moments.{Guards}
-use Rattle.sccs_moments.specs.Recovery.{IsSound, RecoversAs, fate_at, is_kept, pair_of, recover, without_name}
+use Rattle.sccs_moments.specs.Recovery.{IsSettledPair, IsSound, RecoversAs, fate_at, is_kept, pair_of, recover, without_name}
 use Rattle.sccs_moments.proofs.CalmDisks.{calm_settled, firm_looks, firm_pairs, full_there, looks_firm}
 use Rattle.sccs_moments.proofs.FileNames.{intent_and_sfile}
 use Rattle.sccs_moments.proofs.Full.{full_removed, full_renamed}
 use Rattle.sccs_moments.proofs.Recovering.{LooksAlike, SameLooks, fate_same, pair, pair_same, recovered_alike, recovered_as, recovered_at, recovered_is, recovered_under, recovers_from, recovers_itself, sound_recovered}
 use Rattle.sccs_moments.proofs.Untouched.{none_named, sound_kept}
-use Rattle.sccs_group.specs.Finishing.{CanFinish, CompletesBy, Finishes, FinishesBy, Follows, IsHeld, IsSettled, IsSettledPair, IsTaken, MayCall, TakenBy}
+use Rattle.sccs_group.specs.Finishing.{CanFinish, CompletesBy, Finishes, FinishesBy, Follows, IsHeld, IsHeldAt, IsSettled, IsTaken, MayCall, TakenBy}
 use Rattle.sccs_group.proofs.Harmless.{IsHarmless, harmless_held, harmless_settled, other_harmless, p_harmless, q_harmless, renamed_looks, same_less, without_looks, x_harmless, z_harmless}
 use Rattle.sccs_group.proofs.Runs.{finishes_one, finishes_same}
 
@@ -63,11 +63,18 @@ renaming_makes a b m = record { full = full_renamed a b m; view = view_renamed a
 pub removing_makes : (a : List ℕ) (m : Model) → Makes (Remove a) (without_name a) m
 removing_makes a m = record { full = full_removed a m; view = view_removed a m }
 
+-- what looks alike holds the names of its intent alike
+pub held_alike : (v u : View) → SameLooks v u → IsHeld v → IsHeld u
+held_alike v u looks held = λ n sfile some. (looks.looks n sfile).z ∙ held n sfile (subst (λ (f : Option Fate). IsSome f) (looks.looks n sfile).fate some)
+
 op_follows : (op : Op) (f : View → View) (m : Model) → Makes op f m → Goes f m → Follows m (pended op m)
 op_follows op f m makes goes = record {
   images = λ w image. ⊎_elim (λ old. (w, old, recovers_itself w))
       (λ full. let x : (u : View) × Full m u × RecoversAs u w = fulls w full in (x.0, full_image m x.0 x.1, x.2)) (image_pended op m w image);
   fulls = fulls;
+  held = λ n sfile all w image. ⊎_elim (λ old. all w old)
+      (λ full.
+      let x : (u : View) × Full m u × (w ≡ f u) = makes.full w full in subst (IsHeldAt n) (sym x.2) (held_alike (f (view_of m)) (f x.0) (goes.looks x.0 x.1) goes.held n sfile)) (image_pended op m w image);
 }
   where
     fulls : (w : View) → Full (pended op m) w → (u : View) × Full m u × RecoversAs u w
@@ -266,6 +273,7 @@ settled_follows : (m : Model) → Follows m (settled m)
 settled_follows m = record {
   images = λ w image. (w, full_image m w (image_settled m w image), recovers_itself w);
   fulls = λ w full. (w, full, recovers_itself w);
+  held = λ n sfile all w image. all w (full_image m w (image_settled m w image));
 }
 
 pub settled_can : (m : Model) → CanFinish m → CanFinish (settled m)

@@ -1,16 +1,17 @@
 -- The commit of a group: the plan is written and becomes the intent, and the group is completed.
-use Rattle.std.proofs.Common.{◌≡◌, ℕ, Bool, false, List, [], ◌∷◌, Option, None, Some, option_map, is_some, inl, inr, refl, sym, ap, subst, ◌∙◌, ⊎_elim}
+use Rattle.std.proofs.Common.{◌≡◌, ℕ, Bool, false, List, [], ◌∷◌, ◌++◌, Option, None, Some, option_map, is_some, inl, inr, refl, sym, ap, subst, ◌∙◌, ⊎_elim}
 use Rattle.std.proofs.Math.Path.{fun_ext}
+use Rattle.std.specs.Prelude.{IsSome}
 use Rattle.std.specs.Str.{bytes_eq}
 use Rattle.sccs_base.specs.Name.{IsSfile, p_file, q_file, x_file, z_file}
 use Rattle.sccs_disk.specs.Calls.{IsThere}
 use Rattle.sccs_disk.specs.Effects.{renamed}
-use Rattle.sccs_disk.specs.Files.{Model, View, put, view_of}
+use Rattle.sccs_disk.specs.Files.{Content, Model, View, put, view_of}
 use Rattle.sccs_disk.specs.Images.{Allows, Image, IsFirm}
 use Rattle.sccs_disk.specs.Told.{Told, Tells, seen}
 use Rattle.sccs_disk.proofs.Puts.{name_cases, put_other, put_same}
 use Rattle.sccs_files.specs.StepFiles.{Moves}
-use Rattle.sccs_images.specs.Touches.{Leaves, Touches, TouchesOnly, Touching, earlier, newest}
+use Rattle.sccs_images.specs.Touches.{Each, Leaves, Touches, TouchesOnly, Touching, earlier, newest}
 use Rattle.sccs_images.proofs.Touched.{each_newest, firm_touched, newest_more}
 use Rattle.sccs_intents.specs.Intents.{intent_file, plan_file}
 use Rattle.sccs_intents.specs.Written.{intent_text}
@@ -18,20 +19,20 @@ use Rattle.sccs_intents.specs.declared.intents.Fate.{Fate}
 use Rattle.sccs_intents.specs.declared.intents.Fate.TheVariants.{Replaced, Removed}
 use Rattle.sccs_moments.specs.Calm.{IsCalm}
 use Rattle.sccs_moments.specs.Moments.{IsFrom, Went}
-use Rattle.sccs_moments.specs.Recovery.{RecoversAs, without_name}
+use Rattle.sccs_moments.specs.Recovery.{IsSettledPair, RecoversAs, without_name}
 use Rattle.sccs_moments.proofs.CalmDisks.{firms_touched}
 use Rattle.sccs_moments.proofs.Joined.{numbered_as, numbered_zero, went_then}
-use Rattle.sccs_moments.proofs.Recovering.{newer_same, pair_same, same_recovers}
+use Rattle.sccs_moments.proofs.Recovering.{fate_same, newer_same, pair_same, same_recovers}
 use Rattle.sccs_moments.proofs.Untouched.{guards_touched, view_touched}
 use Rattle.sccs_store.specs.Commits.{Becomes}
 use Rattle.sccs_store.proofs.Working.{becomes_both, made_there}
-use Rattle.sccs_group.specs.Finishing.{CanFinish, IsSettledPair}
-use Rattle.sccs_group.specs.Grouping.{AnnounceEnds, AnnounceStops, CanAnnounce, CanGroup, CanPlace, CanPlaceAll, GroupEnds, GroupStops, IsGrouped, OnReplaced, announced, file_of, new_pair_of, planned}
+use Rattle.sccs_group.specs.Finishing.{CanFinish, IsHeld}
+use Rattle.sccs_group.specs.Grouping.{AnnounceEnds, AnnounceStops, CanAnnounce, CanGroup, CanPlace, CanPlaceAll, GroupEnds, GroupStops, IsGrouped, OnReplaced, StayHeld, announced, file_of, new_pair_of, planned}
 use Rattle.sccs_group.specs.Members.{AreMembers, completed, entries_of}
 use Rattle.sccs_group.specs.declared.members.Member.{Member}
 use Rattle.sccs_group.proofs.Announcing.{can_begin, plan_and_sfile}
 use Rattle.sccs_group.proofs.Harmless.{fated_same}
-use Rattle.sccs_group.proofs.Runs.{from_image, view_is}
+use Rattle.sccs_group.proofs.Runs.{each_by, each_then, from_image, view_is}
 
 -- the plan alone
 abbrev pub is_plan : List ℕ → Bool
@@ -93,13 +94,25 @@ write_went m past w b run = record {
 }
 
 -- the plan alone was touched
+-- so the z-file of each name of an intent is there where it was
+plan_holds : (m m2 : Model) → Touches is_plan m m2 → Allows IsHeld m → Allows IsHeld m2
+plan_holds m m2 touches all = λ w image n sfile some.
+    let x : (u : View) × Image m u × ((k : List ℕ) → is_plan k ≡ false → u k ≡ w k) = touches.images w image in
+    subst (λ (o : Option Content). IsSome o) (x.2 (z_file n) refl) (all x.0 x.1 n sfile (subst (λ (f : Option Fate). IsSome f) (fate_same n x.0 w (sym (x.2 intent_file refl))) some))
+
+pub write_holds : (m : Model) (past : List Model) (b : Told) → (run : Touching is_plan m past b) → StayHeld run.added m
+write_holds m past b run all = each_by (Touches is_plan m) (Allows IsHeld) run.added m (λ m2 touches. plan_holds m m2 touches all) run.each
+
 pub write_stops : (ms : List Member) (a b : Told) → AreMembers ms → TouchesOnly is_plan a b → GroupStops ms a b
 write_stops ms a b are touches = λ m past is can.
     let run : Touching is_plan m past b = touches m past is in
     let still : CanGroup ms (newest run.added m) = still_group ms m (newest run.added m) are (each_newest (Touches is_plan m) run.added m run.each) can in
-    (write_went m past (announced ms (view_of m)) b run, can_begin (newest run.added m) still.firm still.none)
+    (write_went m past (announced ms (view_of m)) b run, can_begin (newest run.added m) still.firm still.none, write_holds m past b run)
 
 -- ---- behind the plan
+
+joined_holds : (m : Model) (added later : List Model) → StayHeld added m → StayHeld later (newest added m) → StayHeld (later ++ added) m
+joined_holds m added later first next all = let before : Each (Allows IsHeld) added m = first all in each_then (Allows IsHeld) later added m before (next (each_newest (Allows IsHeld) added m before))
 
 pub as_grouped : (m m1 : Model) (w w1 : View) → Allows (IsFrom m) m1 → w1 ≡ w → (i : ℕ) (u : View) → IsGrouped m1 w1 i u → IsGrouped m w i u
 as_grouped m m1 w w1 all same i u (inl new) = inl (subst (λ (v : View). RecoversAs v u) same new)
@@ -124,33 +137,35 @@ can_announce ms a b m m1 past past1 are is is1 touches view firm can = record {
 pub commit_stops : (ms : List Member) (a b d : Told) → AreMembers ms → TouchesOnly is_plan a b → Becomes (planned ms) (seen a) (seen b) → Leaves (IsFirm plan_file) a b → AnnounceStops ms b d → GroupStops ms a d
 commit_stops ms a b d are touches becomes firm stops = λ m past is can. by m past is can (touches m past is)
   where
-    by : (m : Model) (past : List Model) → a ≡ Tells m past → CanGroup ms m → Touching is_plan m past b → (went : Went (IsGrouped m (announced ms (view_of m))) m past 0 d) × CanFinish (newest went.added m)
+    by : (m : Model) (past : List Model) → a ≡ Tells m past → CanGroup ms m → Touching is_plan m past b → (went : Went (IsGrouped m (announced ms (view_of m))) m past 0 d) × CanFinish (newest went.added m) × StayHeld went.added m
     by m past is can run =
         let m1 : Model = newest run.added m in
         let past1 : List Model = earlier run.added m past in
         let now : Touches is_plan m m1 = each_newest (Touches is_plan m) run.added m run.each in
         let view : view_of m1 ≡ planned ms (view_of m) = view_is (planned ms) a b m m1 past past1 is run.is becomes in
-        let later : (went : Went (IsGrouped m1 (renamed plan_file intent_file (view_of m1))) m1 past1 0 d) × CanFinish (newest went.added m1)
+        let later : (went : Went (IsGrouped m1 (renamed plan_file intent_file (view_of m1))) m1 past1 0 d) × CanFinish (newest went.added m1) × StayHeld went.added m1
         = stops m1 past1 run.is (can_announce ms a b m m1 past past1 are is run.is now view firm can) in (
           went_then (IsGrouped m (announced ms (view_of m))) m past 0 b d (write_went m past (announced ms (view_of m)) b run)
               (later_went m m1 past1 (announced ms (view_of m)) (renamed plan_file intent_file (view_of m1)) 0 d (plan_from m m1 now) (ap (renamed plan_file intent_file) view) later.0),
           subst CanFinish (sym (newest_more later.0.added run.added m)) later.1,
+          joined_holds m run.added later.0.added (write_holds m past b run) later.2,
         )
 
 pub commit_ends : (ms : List Member) (a b d : Told) → AreMembers ms → TouchesOnly is_plan a b → Becomes (planned ms) (seen a) (seen b) → Leaves (IsFirm plan_file) a b → AnnounceEnds ms b d → GroupEnds ms a d
 commit_ends ms a b d are touches becomes firm ends = λ m past is can. by m past is can (touches m past is)
   where
-    by : (m : Model) (past : List Model) → a ≡ Tells m past → CanGroup ms m → Touching is_plan m past b → (went : Went (IsGrouped m (announced ms (view_of m))) m past 1 d) × IsCalm (newest went.added m)
+    by : (m : Model) (past : List Model) → a ≡ Tells m past → CanGroup ms m → Touching is_plan m past b → (went : Went (IsGrouped m (announced ms (view_of m))) m past 1 d) × IsCalm (newest went.added m) × StayHeld went.added m
     by m past is can run =
         let m1 : Model = newest run.added m in
         let past1 : List Model = earlier run.added m past in
         let now : Touches is_plan m m1 = each_newest (Touches is_plan m) run.added m run.each in
         let view : view_of m1 ≡ planned ms (view_of m) = view_is (planned ms) a b m m1 past past1 is run.is becomes in
-        let later : (went : Went (IsGrouped m1 (renamed plan_file intent_file (view_of m1))) m1 past1 1 d) × IsCalm (newest went.added m1)
+        let later : (went : Went (IsGrouped m1 (renamed plan_file intent_file (view_of m1))) m1 past1 1 d) × IsCalm (newest went.added m1) × StayHeld went.added m1
         = ends m1 past1 run.is (can_announce ms a b m m1 past past1 are is run.is now view firm can) in (
           went_then (IsGrouped m (announced ms (view_of m))) m past 1 b d (write_went m past (announced ms (view_of m)) b run)
               (later_went m m1 past1 (announced ms (view_of m)) (renamed plan_file intent_file (view_of m1)) 1 d (plan_from m m1 now) (ap (renamed plan_file intent_file) view) later.0),
           subst IsCalm (sym (newest_more later.0.added run.added m)) later.1,
+          joined_holds m run.added later.0.added (write_holds m past b run) later.2,
         )
 
 -- ---- the plan is gone

@@ -1,5 +1,5 @@
 -- What is read of an intent, and a group that is finished.
-use Rattle.std.proofs.Common.{◌≡◌, ℕ, ◌<◌, Bool, true, List, [], ◌∷◌, length, Option, None, Some, option_map, is_some, Result, Ok, Err, IfOk, IfSome, cond, inl, inr, refl, sym, ap, subst, ◌∙◌}
+use Rattle.std.proofs.Common.{◌≡◌, ◌≢◌, ℕ, ◌<◌, Bool, true, List, [], ◌∷◌, length, Option, None, Some, option_map, is_some, Result, Ok, Err, IfOk, IfSome, IsErrOf, cond, inl, inr, refl, sym, ap, subst, ◌∙◌}
 use Rattle.std.proofs.lemmas.Bool.Decides.{Decides-ltb}
 use Rattle.std.specs.List.{AllByRecursion}
 use Rattle.std.specs.Prelude.{nat_lt}
@@ -15,12 +15,14 @@ use Rattle.sccs_files.specs.WholeFiles.{AnswersWhole}
 use Rattle.sccs_files.specs.declared.whole_files.WholeFault.TheVariants as whole
 use Rattle.sccs_intents.specs.Intents.{AreOthers, begun, entries_in, intent_file, intent_of, plan_file, well_formed}
 use Rattle.sccs_intents.specs.declared.intents.Entry.{Entry}
+use Rattle.std.specs.Str.{bytes_eq}
+use Rattle.sccs_images.specs.Touches.{TouchesOnly}
 use Rattle.sccs_intents.proofs.IntentTexts.{text_read}
 use Rattle.sccs_moments.specs.Recovery.{without_name}
 use Rattle.sccs_store.specs.Commits.{Becomes}
 use Rattle.sccs_group.specs.Finishing.{Always, CompletesBy, FinishesBy, MayCall}
 use Rattle.sccs_group.specs.Members.{AreMembers, HasGroup, IsPlainG, completed, entries_of}
-use Rattle.sccs_group.specs.Recovering.{IsBad, ReadsBytes, ReadsMembers, bare, finished_by, group_finished, intent_finished}
+use Rattle.sccs_group.specs.Recovering.{IsBad, IsWellFormed, ReadsBytes, ReadsMembers, bare, finished_by, group_finished, intent_finished}
 use Rattle.sccs_group.specs.declared.members.Member.{Member}
 use Rattle.sccs_group.specs.declared.recovering.GroupFault.{GroupFault}
 use Rattle.sccs_group.specs.declared.recovering.GroupFault.TheVariants.{BadIntent, Memory}
@@ -69,6 +71,18 @@ bytes_fault None bytes (BadIntent line) whole_is reads = absurd whole_is
 bytes_fault (Some c) bytes (BadIntent line) whole_is reads = subst (λ b. intent_of b ≡ Err line) whole_is.0 reads
 bytes_fault o bytes fault.Failed whole_is reads = tt
 bytes_fault o bytes Memory whole_is reads = tt
+
+-- what was read has its form
+pub read_form : (bytes : List ℕ) (es : List Entry) → intent_of bytes ≡ Ok es → (line : ℕ) → intent_of bytes ≡ Err line → ⊥
+read_form bytes es is line bad = cc
+
+pub bytes_form : (o : Option Content) (bytes : List ℕ) → AnswersWhole o (Ok bytes) → ((line : ℕ) → intent_of bytes ≡ Err line → ⊥) → IsWellFormed o
+bytes_form None bytes whole_is form line bad = bad
+bytes_form (Some c) bytes whole_is form line bad = form line (ap intent_of whole_is.0 ∙ bad)
+
+pub missing_form : (o : Option Content) → AnswersWhole o (Err whole.Missing) → IsWellFormed o
+missing_form None is line bad = bad
+missing_form (Some c) is line bad = absurd (cc)
 
 pub told_as : (o : Option View) (P Q : View → Type 0) → ((v : View) → P v → Q v) → IfSome o P → IfSome o Q
 told_as None P Q weaker told = tt
@@ -152,6 +166,13 @@ plan_view k a b is becomes = subst (λ (l : List ℕ). Becomes (without_name l) 
 pub plan_story : (k : List ℕ) (a b : Told) → k ≡ plan_file → MayCall (Remove k) k a b → FinishesBy Always a b
 plan_story k a b is call = other_story plan_file Always a b refl (plan_call k a b is call)
 
+-- but where the disk failed an answered fault leaves all but the plan
+pub plan_touches : (k : List ℕ) (a b c : Told) (r : Result Bool GroupFault) → k ≡ plan_file → TouchesOnly (bytes_eq k) a b → ((line : ℕ) → r ≡ Err (BadIntent line) → c ≡ b) → (IsErrOf r Memory → c ≡ b)
+    → (e : GroupFault) → r ≡ Err e → e ≢ fault.Failed → TouchesOnly (bytes_eq plan_file) a c
+plan_touches k a b c r is touches bad memory (BadIntent line) failed other = subst (λ (t : Told). TouchesOnly (bytes_eq plan_file) a t) (sym (bad line failed)) (subst (λ (l : List ℕ). TouchesOnly (bytes_eq l) a b) is touches)
+plan_touches k a b c r is touches bad memory Memory failed other = subst (λ (t : Told). TouchesOnly (bytes_eq plan_file) a t) (sym (memory failed)) (subst (λ (l : List ℕ). TouchesOnly (bytes_eq l) a b) is touches)
+plan_touches k a b c r is touches bad memory fault.Failed failed other = absurd (other refl)
+
 pub plan_then : (k : List ℕ) (a b c : Told) → k ≡ plan_file → Becomes (without_name k) (seen a) (seen b) → MayCall (Remove k) k a b → FinishesBy Always b c → FinishesBy Always a c
 plan_then k a b c is becomes call next = by_then Always Always (without_name plan_file) a b c (plan_view k a b is becomes) (λ v always. tt) (plan_story k a b is call) next
 
@@ -179,6 +200,10 @@ pub bad_told : (k : List ℕ) (a : Told) (r : Result Bool GroupFault) (f : Group
     → IfSome (seen a) (λ (v : View). IsBad (v intent_file) line)
 bad_told k a r f line is first next told =
     told_found k a a (Err (BadIntent line)) is refl (subst (λ (h : GroupFault). IfSome (seen a) (λ (v : View). ReadsMembers (v k) (Err h))) (fault_is r f (BadIntent line) first next) told)
+
+pub form_told : (r : Result Bool GroupFault) (o o2 : Option View) → Becomes (without_name plan_file) o o2 → IfOk r (λ found. IfSome o2 (λ (v : View). IsWellFormed (v intent_file))) → IfOk r (λ found. IfSome o (λ (v : View). IsWellFormed (v intent_file)))
+form_told (Ok found) o o2 becomes told = intent_told IsWellFormed o o2 becomes told
+form_told (Err e) o o2 becomes told = tt
 
 pub ok_told : (r : Result Bool GroupFault) (o o2 : Option View) → Becomes (without_name plan_file) o o2 → IfOk r (λ found. IfSome o2 (λ (v : View). found ≡ is_some (v intent_file))) → IfOk r (λ found. IfSome o (λ (v : View). found ≡ is_some (v intent_file)))
 ok_told (Ok found) o o2 becomes told = intent_told (λ (x : Option Content). found ≡ is_some x) o o2 becomes told

@@ -9,7 +9,7 @@ use Rattle.sccs_disk.specs.Files.{Content, Model, View, put, view_of}
 use Rattle.sccs_disk.specs.Images.{Allows}
 use Rattle.sccs_disk.specs.Told.{Told, Tells}
 use Rattle.sccs_disk.proofs.Puts.{name_cases, put_other, put_same}
-use Rattle.sccs_files.specs.StepFiles.{Files, moved}
+use Rattle.sccs_files.specs.StepFiles.{Files, l_file, moved}
 use Rattle.sccs_images.specs.Touches.{Leaves, earlier, newest}
 use Rattle.sccs_images.proofs.Images.{view_image}
 use Rattle.sccs_images.proofs.Touched.{newest_more}
@@ -179,29 +179,29 @@ recovery_behind b d m past done none recovers =
 
 -- ---- the views after the members' steps
 
-pub moved_other : (k : List ℕ) (f : Files) (v : View) (l : List ℕ) → bytes_eq k l ≡ false → bytes_eq (p_file k) l ≡ false → bytes_eq (drop 2 k) l ≡ false → bytes_eq (z_file k) l ≡ false → moved v k (Some f) l ≡ v l
-moved_other k f v l s p g z =
-    put_other (put (put (put v (z_file k) f.z) (drop 2 k) f.g) (p_file k) f.p) k l f.s s
-    ∙ (put_other (put (put v (z_file k) f.z) (drop 2 k) f.g) (p_file k) l f.p p ∙ (put_other (put v (z_file k) f.z) (drop 2 k) l f.g g ∙ put_other v (z_file k) l f.z z))
+pub moved_other : (k : List ℕ) (f : Files) (v : View) (l : List ℕ) → bytes_eq k l ≡ false → bytes_eq (p_file k) l ≡ false → bytes_eq (drop 2 k) l ≡ false → bytes_eq (z_file k) l ≡ false → bytes_eq (l_file k) l ≡ false → moved v k (Some f) l ≡ v l
+moved_other k f v l s p g z m =
+    put_other (put (put (put (put v (l_file k) f.l) (z_file k) f.z) (drop 2 k) f.g) (p_file k) f.p) k l f.s s
+    ∙ (put_other (put (put (put v (l_file k) f.l) (z_file k) f.z) (drop 2 k) f.g) (p_file k) l f.p p ∙ (put_other (put (put v (l_file k) f.l) (z_file k) f.z) (drop 2 k) l f.g g ∙ (put_other (put v (l_file k) f.l) (z_file k) l f.z z ∙ put_other v (l_file k) l f.l m)))
 
 pub moved_elsewhere : (k n : List ℕ) (f : Files) (v : View) → IsSfile k → IsSfile n → is_kept (drop 2 k) ≡ false → bytes_eq k n ≡ false → Same n v (moved v k (Some f))
 moved_elsewhere k n f v own sfile plain apart = record {
-  s = moved_other k f v n apart (from_sfile 112 k n sfile refl) (kept_s (drop 2 k) n plain sfile) (from_sfile 122 k n sfile refl);
-  p = moved_other k f v (p_file n) (to_sfile 112 k n own refl) (siblings_differ 112 k n own sfile apart) (kept_p (drop 2 k) n plain sfile) refl;
-  z = moved_other k f v (z_file n) (to_sfile 122 k n own refl) refl (kept_z (drop 2 k) n plain sfile) (siblings_differ 122 k n own sfile apart);
-  x = moved_other k f v (x_file n) (to_sfile 120 k n own refl) refl (kept_x (drop 2 k) n plain sfile) refl;
-  q = moved_other k f v (q_file n) (to_sfile 113 k n own refl) refl (kept_q (drop 2 k) n plain sfile) refl;
+  s = moved_other k f v n apart (from_sfile 112 k n sfile refl) (kept_s (drop 2 k) n plain sfile) (from_sfile 122 k n sfile refl) (from_sfile 108 k n sfile refl);
+  p = moved_other k f v (p_file n) (to_sfile 112 k n own refl) (siblings_differ 112 k n own sfile apart) (kept_p (drop 2 k) n plain sfile) refl refl;
+  z = moved_other k f v (z_file n) (to_sfile 122 k n own refl) refl (kept_z (drop 2 k) n plain sfile) (siblings_differ 122 k n own sfile apart) refl;
+  x = moved_other k f v (x_file n) (to_sfile 120 k n own refl) refl (kept_x (drop 2 k) n plain sfile) refl refl;
+  q = moved_other k f v (q_file n) (to_sfile 113 k n own refl) refl (kept_q (drop 2 k) n plain sfile) refl refl;
 }
 
 pub moved_intent : (k : List ℕ) (f : Files) (v : View) → IsSfile k → is_kept (drop 2 k) ≡ false → moved v k (Some f) intent_file ≡ v intent_file
-moved_intent k f v own plain = moved_other k f v intent_file (sfile_and_intent k own) refl (kept_intent (drop 2 k) plain) refl
+moved_intent k f v own plain = moved_other k f v intent_file (sfile_and_intent k own) refl (kept_intent (drop 2 k) plain) refl refl
 
 pub moved_s : (k : List ℕ) (f : Files) (v : View) → moved v k (Some f) k ≡ f.s
-moved_s k f v = put_same (put (put (put v (z_file k) f.z) (drop 2 k) f.g) (p_file k) f.p) k f.s
+moved_s k f v = put_same (put (put (put (put v (l_file k) f.l) (z_file k) f.z) (drop 2 k) f.g) (p_file k) f.p) k f.s
 
 pub moved_p : (k : List ℕ) (f : Files) (v : View) → IsSfile k → moved v k (Some f) (p_file k) ≡ f.p
 moved_p k f v own =
-    put_other (put (put (put v (z_file k) f.z) (drop 2 k) f.g) (p_file k) f.p) k (p_file k) f.s (to_s 112 k own refl) ∙ put_same (put (put v (z_file k) f.z) (drop 2 k) f.g) (p_file k) f.p
+    put_other (put (put (put (put v (l_file k) f.l) (z_file k) f.z) (drop 2 k) f.g) (p_file k) f.p) k (p_file k) f.s (to_s 112 k own refl) ∙ put_same (put (put (put v (l_file k) f.l) (z_file k) f.z) (drop 2 k) f.g) (p_file k) f.p
 
 after_intent : (v1 : View) (ds : List Change) (v : View) → AllByRecursion (IsPrepared v1) ds → after_changes ds v intent_file ≡ v intent_file
 after_intent v1 [] v all = refl

@@ -7,13 +7,13 @@ use Rattle.sccs_base.proofs.SameBytes.{other_bytes, same_bytes}
 use Rattle.sccs_disk.specs.Effects.{renamed}
 use Rattle.sccs_disk.specs.Files.{Content, View, put}
 use Rattle.sccs_disk.proofs.Puts.{name_cases, put_back, put_other, put_same, same_name}
-use Rattle.sccs_files.specs.StepFiles.{Alike, Files, moved}
+use Rattle.sccs_files.specs.StepFiles.{Alike, Files, l_file, moved}
 use Rattle.sccs_intents.specs.Intents.{intent_file, plan_file}
 use Rattle.sccs_intents.specs.declared.intents.Fate.{Fate}
 use Rattle.sccs_intents.specs.declared.intents.Fate.TheVariants.{Replaced, Removed}
 use Rattle.sccs_intents.proofs.Others.{differ}
-use Rattle.sccs_moments.specs.Recovery.{Pair, fated, newer, without_name}
-use Rattle.sccs_moments.proofs.FileNames.{from_g, kept_p, kept_s, left_false, no_q, no_working, no_x, no_y, no_z, right_false, s_and_g, to_s}
+use Rattle.sccs_moments.specs.Recovery.{Pair, begins_by_letter, fated, newer, without_name}
+use Rattle.sccs_moments.proofs.FileNames.{from_g, kept_p, kept_s, left_false, no_l_name, no_q, no_working, no_x, no_y, no_z, right_false, s_and_g, to_s, to_sfile}
 use Rattle.sccs_moments.proofs.Recovering.{newer_same, pair_same}
 use Rattle.sccs_group.specs.Changes.{Change, IsPrepared, IsReady}
 use Rattle.sccs_group.specs.Grouping.{announced, new_pair_of, planned}
@@ -101,10 +101,22 @@ elsewhere : (removes : Bool) (n : List ℕ) (v : View) (k : List ℕ) → bytes_
 elsewhere true n v k off = put_other v (drop 2 n) k None off
 elsewhere false n v k off = refl
 
-moved_is : (n : List ℕ) (f : Files) (u : View) (k : List ℕ) → IsSfile n → bytes_eq (drop 2 n) k ≡ false → bytes_eq (z_file n) k ≡ false → put (put u n f.s) (p_file n) f.p k ≡ moved u n (Some f) k
-moved_is n f u k sfile g z =
+moved_is : (n : List ℕ) (f : Files) (u : View) (k : List ℕ) → IsSfile n → bytes_eq (drop 2 n) k ≡ false → bytes_eq (z_file n) k ≡ false → put u (l_file n) f.l k ≡ u k
+    → put (put u n f.s) (p_file n) f.p k ≡ moved u n (Some f) k
+moved_is n f u k sfile g z same =
     swapped_puts (bytes_eq n k) (bytes_eq (p_file n) k) f.s f.p (u k) (s_or_p n k sfile)
-    ∙ ap (λ (x : Option Content). cond (bytes_eq n k) f.s (cond (bytes_eq (p_file n) k) f.p x)) (sym (put_other (put u (z_file n) f.z) (drop 2 n) k f.g g ∙ put_other u (z_file n) k f.z z))
+    ∙ ap (λ (x : Option Content). cond (bytes_eq n k) f.s (cond (bytes_eq (p_file n) k) f.p x)) (sym (put_other (put (put u (l_file n) f.l) (z_file n) f.z) (drop 2 n) k f.g g ∙ (put_other (put u (l_file n) f.l) (z_file n) k f.z z ∙ same)))
+
+-- the l-file stays
+l_same : (w : List ℕ → Bool) (d : Change) (v u : View) (k : List ℕ) → IsReady w v d → Alike w v u → w k ≡ false → put u (l_file d.member.entry.name) d.files.l k ≡ u k
+l_same w d v u k ready same h = by (name_cases (l_file d.member.entry.name) k)
+  where
+    at_l : w (l_file d.member.entry.name) ≡ false → put u (l_file d.member.entry.name) d.files.l (l_file d.member.entry.name) ≡ u (l_file d.member.entry.name)
+    at_l here = put_same u (l_file d.member.entry.name) d.files.l ∙ (ready.l here ∙ same (l_file d.member.entry.name) here)
+
+    by : (l_file d.member.entry.name ≡ k) ⊎ (bytes_eq (l_file d.member.entry.name) k ≡ false) → put u (l_file d.member.entry.name) d.files.l k ≡ u k
+    by (inl e) = subst (λ (l : List ℕ). put u (l_file d.member.entry.name) d.files.l l ≡ u l) e (at_l (subst (λ (l : List ℕ). w l ≡ false) (sym e) h))
+    by (inr off) = put_other u (l_file d.member.entry.name) k d.files.l off
 
 -- where it is
 g_there : (removes : Bool) (n : List ℕ) (v v3 : View) → v3 (drop 2 n) ≡ v (drop 2 n) → g_gone removes n v3 (drop 2 n) ≡ cond removes None (v (drop 2 n))
@@ -113,8 +125,8 @@ g_there false n v v3 same = same
 
 moved_g : (n : List ℕ) (f : Files) (u : View) → IsSfile n → moved u n (Some f) (drop 2 n) ≡ f.g
 moved_g n f u sfile =
-    put_other (put (put (put u (z_file n) f.z) (drop 2 n) f.g) (p_file n) f.p) n (drop 2 n) f.s (s_and_g n sfile)
-    ∙ (put_other (put (put u (z_file n) f.z) (drop 2 n) f.g) (p_file n) (drop 2 n) f.p (from_g 112 n sfile) ∙ put_same (put u (z_file n) f.z) (drop 2 n) f.g)
+    put_other (put (put (put (put u (l_file n) f.l) (z_file n) f.z) (drop 2 n) f.g) (p_file n) f.p) n (drop 2 n) f.s (s_and_g n sfile)
+    ∙ (put_other (put (put (put u (l_file n) f.l) (z_file n) f.z) (drop 2 n) f.g) (p_file n) (drop 2 n) f.p (from_g 112 n sfile) ∙ put_same (put (put u (l_file n) f.l) (z_file n) f.z) (drop 2 n) f.g)
 
 p_left : (fate : Fate) (n : List ℕ) (v : View) (l : List ℕ) → bytes_eq (q_file n) l ≡ false → bytes_eq (p_file n) l ≡ false → p_taken fate n v l ≡ v l
 p_left Replaced n v l q p = taken_other (q_file n) (p_file n) v l q p
@@ -139,7 +151,7 @@ all_ready w d v u ready same = λ k h. by k h (name_cases (drop 2 d.member.entry
     by k h (inl e) = subst (λ (l : List ℕ). placed d.member v l ≡ moved u d.member.entry.name (Some d.files) l) e (all_at_g w d v u ready (subst (λ (l : List ℕ). w l ≡ false) (sym e) h))
     by k h (inr off) =
         elsewhere d.member.removes_g d.member.entry.name (part_placed 3 d.member v) k off
-        ∙ (y_ready w d v u ready same k h ∙ moved_is d.member.entry.name d.files u k ready.prepared.sfile off (off_z w v d k ready h))
+        ∙ (y_ready w d v u ready same k h ∙ moved_is d.member.entry.name d.files u k ready.prepared.sfile off (off_z w v d k ready h) (l_same w d v u k ready same h))
 
 -- ---- another member
 
@@ -158,6 +170,11 @@ other_g w d other v ready later apart h =
     placed_other d.member v g (off_x w v d g ready h) (differ g n (kept_s g n later.prepared.plain ready.prepared.sfile)) (off_q w v d g ready h) (differ g (p_file n) (kept_p g n later.prepared.plain ready.prepared.sfile))
     (off_y w v d g ready h) (λ removes. g_files_differ n other.member.entry.name ready.prepared.sfile later.prepared.sfile apart)
 
+other_l : (d other : Change) (v : View) → IsSfile d.member.entry.name → IsSfile other.member.entry.name → begins_by_letter 108 (drop 2 d.member.entry.name) ≡ false
+    → placed d.member v (l_file other.member.entry.name) ≡ v (l_file other.member.entry.name)
+other_l d other v sfile later free =
+    placed_other d.member v (l_file other.member.entry.name) refl (to_sfile 108 d.member.entry.name other.member.entry.name sfile refl) refl refl refl (λ removes. no_l_name (drop 2 d.member.entry.name) other.member.entry.name free later)
+
 new_pair_same : (mem : Member) (v u : View) → Same mem.entry.name v u → new_pair_of mem u ≡ new_pair_of mem v
 new_pair_same mem v u same =
     let n = mem.entry.name in
@@ -170,6 +187,8 @@ others_ready w d other v ready later apart =
       left = later.left;
       prepared = record { sfile = later.prepared.sfile; plain = later.prepared.plain; pair = new_pair_same other.member v (placed d.member v) same ∙ later.prepared.pair; settled = later.prepared.settled };
       g = λ h. later.g h ∙ ap (λ (x : Option Content). cond other.member.removes_g None x) (sym (other_g w d other v ready later apart h));
+      l = λ h. later.l h ∙ sym (other_l d other v ready.prepared.sfile later.prepared.sfile ready.l_free);
+      l_free = later.l_free;
     }
 
 -- ---- all of a group

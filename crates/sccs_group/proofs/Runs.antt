@@ -16,7 +16,7 @@ use Rattle.sccs_group.specs.Finishing.{CanFinish, Completes, CompletesBy, Finish
 -- ---- one model follows another
 
 pub follows_itself : (m : Model) → Follows m m
-follows_itself m = record { images = λ w image. (w, image, recovers_itself w); fulls = λ w full. (w, full, recovers_itself w) }
+follows_itself m = record { images = λ w image. (w, image, recovers_itself w); fulls = λ w full. (w, full, recovers_itself w); held = λ n sfile all. all }
 
 pub from_image : (m m2 : Model) (w : View) → Allows (IsFrom m) m2 → IsFrom m2 w → IsFrom m w
 from_image m m2 w all from =
@@ -30,7 +30,18 @@ follows_then m m1 m2 first next = record {
       let b : (u : View) × Full m1 u × RecoversAs u w = next.fulls w full in
       let a : (u : View) × Full m u × RecoversAs u b.0 = first.fulls b.0 b.1 in
       (a.0, a.1, recovers_then a.0 b.0 w a.2 b.2);
+  held = λ n sfile all. next.held n sfile (first.held n sfile all);
 }
+
+-- ---- moments, one behind another
+
+pub each_then : (P : Model → Type 0) (later added : List Model) (m : Model) → Each P added m → Each P later (newest added m) → Each P (later ++ added) m
+each_then P [] added m first next = first
+each_then P (a ∷ later) added m first next = (next.0, each_then P later added m first next.1)
+
+pub each_by : (P Q : Model → Type 0) (added : List Model) (m : Model) → ((m2 : Model) → P m2 → Q m2) → Each P added m → Each Q added m
+each_by P Q [] m so each = so m each
+each_by P Q (a ∷ added) m so each = (so a each.0, each_by P Q added m so each.1)
 
 pub each_follows : (m m1 : Model) (later added : List Model) → newest added m ≡ m1 → Follows m m1 → Each (Follows m1) later m1 → Each (Follows m) added m → Each (Follows m) (later ++ added) m
 each_follows m m1 [] added is to later before = before

@@ -7,22 +7,21 @@ use Rattle.sccs_disk.specs.Files.{Model, Op, View, view_of}
 use Rattle.sccs_disk.specs.Images.{Allows, Full, Image}
 use Rattle.sccs_disk.specs.Told.{Told, Tells}
 use Rattle.sccs_images.specs.Touches.{Each, earlier, newest}
-use Rattle.sccs_pfile.specs.Recovered.{recovered_pfile}
 use Rattle.sccs_moments.specs.Calm.{HasFirm, IsCalm}
 use Rattle.sccs_moments.specs.Moments.{Guarded, IsFrom}
 use Rattle.sccs_intents.specs.declared.intents.Fate.{Fate}
 use Rattle.sccs_intents.specs.declared.intents.Fate.TheVariants.{Replaced, Removed}
-use Rattle.sccs_moments.specs.Recovery.{IsSound, Pair, RecoversAs, fate_at, pair_of, recover}
+use Rattle.sccs_moments.specs.Recovery.{IsSettledPair, IsSound, RecoversAs, fate_at, pair_of, recover}
 use Rattle.sccs_group.specs.Members.{AreNamed}
 use Rattle.sccs_group.specs.declared.members.Member.{Member}
 
--- the z-file of each name of an intent is there
-abbrev pub IsHeld : View → Type 0
-IsHeld v = (n : List ℕ) → IsSfile n → IsSome (fate_at v n) → IsSome (v (z_file n))
+-- the z-file of the name is there where an intent names it
+abbrev pub IsHeldAt : List ℕ → View → Type 0
+IsHeldAt n v = IsSome (fate_at v n) → IsSome (v (z_file n))
 
--- recovery leaves the pair as it is
-abbrev pub IsSettledPair : Pair → Type 0
-IsSettledPair x = recovered_pfile x.s x.p ≡ x.p
+-- so it is of each name
+abbrev pub IsHeld : View → Type 0
+IsHeld v = (n : List ℕ) → IsSfile n → IsHeldAt n v
 
 -- recovery leaves the new pair of each name of the intent as it is
 abbrev pub IsSettled : View → Type 0
@@ -38,6 +37,8 @@ pub record CanFinish (m : Model) : Type 0 where
 pub record Follows (m m2 : Model) : Type 0 where
   pub images : Allows (IsFrom m) m2
   pub fulls : (w : View) → Full m2 w → (u : View) × Full m u × RecoversAs u w
+  -- the z-file of a name of an intent stays there in whatever a stop leaves
+  pub held : (n : List ℕ) → IsSfile n → Allows (IsHeldAt n) m → Allows (IsHeldAt n) m2
 
 -- The story went on from a model, each moment follows it, and it may be finished still.
 pub record Finishes (m : Model) (past : List Model) (new : Told) : Type 0 where

@@ -4,17 +4,17 @@ use Rattle.std.specs.List.{AllByRecursion}
 use Rattle.sccs_base.specs.Name.{p_file, q_file, x_file, z_file}
 use Rattle.sccs_disk.specs.Effects.{renamed}
 use Rattle.sccs_disk.specs.Files.{Content, Model, View, put, view_of}
-use Rattle.sccs_disk.specs.Images.{IsFirm}
+use Rattle.sccs_disk.specs.Images.{Allows, IsFirm}
 use Rattle.sccs_disk.specs.Told.{Told, Tells}
-use Rattle.sccs_images.specs.Touches.{newest}
+use Rattle.sccs_images.specs.Touches.{Each, newest}
 use Rattle.sccs_intents.specs.Intents.{intent_file, plan_file}
 use Rattle.sccs_intents.specs.Written.{intent_text}
 use Rattle.sccs_intents.specs.declared.intents.Fate.{Fate}
 use Rattle.sccs_intents.specs.declared.intents.Fate.TheVariants.{Replaced, Removed}
 use Rattle.sccs_moments.specs.Calm.{HasFirm, IsCalm}
 use Rattle.sccs_moments.specs.Moments.{IsFrom, Went}
-use Rattle.sccs_moments.specs.Recovery.{Pair, RecoversAs, fated, newer}
-use Rattle.sccs_group.specs.Finishing.{CanFinish, IsSettledPair}
+use Rattle.sccs_moments.specs.Recovery.{IsSettledPair, Pair, RecoversAs, fated, newer}
+use Rattle.sccs_group.specs.Finishing.{CanFinish, IsHeld}
 use Rattle.sccs_group.specs.Members.{IsPlainG, entries_of}
 use Rattle.sccs_group.specs.declared.members.Member.{Member}
 
@@ -65,15 +65,19 @@ pub record CanGroup (members : List Member) (m : Model) : Type 0 where
 abbrev pub IsGrouped : Model → View → ℕ → View → Type 0
 IsGrouped m w j u = RecoversAs w u ⊎ ((j ≡ 0) × IsFrom m u)
 
+-- at each moment the z-file of each name of an intent is there in whatever a stop leaves, where it was at the start
+abbrev pub StayHeld : List Model → Model → Type 0
+StayHeld added m = Allows IsHeld m → Each (Allows IsHeld) added m
+
 -- Each image of each moment recovers as one from before the commit, or as the view with the intent; the group may be finished.
 abbrev pub GroupStops : List Member → Told → Told → Type 0
 GroupStops members old new = (m : Model) (past : List Model) → old ≡ Tells m past → CanGroup members m
-    → (went : Went (IsGrouped m (announced members (view_of m))) m past 0 new) × CanFinish (newest went.added m)
+    → (went : Went (IsGrouped m (announced members (view_of m))) m past 0 new) × CanFinish (newest went.added m) × StayHeld went.added m
 
 -- At the end each image recovers as the view with the intent, and the disk is calm.
 abbrev pub GroupEnds : List Member → Told → Told → Type 0
 GroupEnds members old new = (m : Model) (past : List Model) → old ≡ Tells m past → CanGroup members m
-    → (went : Went (IsGrouped m (announced members (view_of m))) m past 1 new) × IsCalm (newest went.added m)
+    → (went : Went (IsGrouped m (announced members (view_of m))) m past 1 new) × IsCalm (newest went.added m) × StayHeld went.added m
 
 -- ---- behind the plan
 
@@ -85,8 +89,8 @@ pub record CanAnnounce (members : List Member) (m : Model) : Type 0 where
 
 abbrev pub AnnounceStops : List Member → Told → Told → Type 0
 AnnounceStops members old new = (m : Model) (past : List Model) → old ≡ Tells m past → CanAnnounce members m
-    → (went : Went (IsGrouped m (renamed plan_file intent_file (view_of m))) m past 0 new) × CanFinish (newest went.added m)
+    → (went : Went (IsGrouped m (renamed plan_file intent_file (view_of m))) m past 0 new) × CanFinish (newest went.added m) × StayHeld went.added m
 
 abbrev pub AnnounceEnds : List Member → Told → Told → Type 0
 AnnounceEnds members old new = (m : Model) (past : List Model) → old ≡ Tells m past → CanAnnounce members m
-    → (went : Went (IsGrouped m (renamed plan_file intent_file (view_of m))) m past 1 new) × IsCalm (newest went.added m)
+    → (went : Went (IsGrouped m (renamed plan_file intent_file (view_of m))) m past 1 new) × IsCalm (newest went.added m) × StayHeld went.added m

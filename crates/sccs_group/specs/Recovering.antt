@@ -18,6 +18,10 @@ abbrev pub IsBad : Option Content → ℕ → Type 0
 IsBad None line = ⊥
 IsBad (Some c) line = intent_of c.bytes ≡ Err line
 
+-- an intent that is there has its form
+abbrev pub IsWellFormed : Option Content → Type 0
+IsWellFormed o = (line : ℕ) → IsBad o line → ⊥
+
 -- the members that an intent of these bytes names
 abbrev pub ReadsBytes : List ℕ → Result (List Member) GroupFault → Type 0
 ReadsBytes bytes (Ok members) = members ≡ bare (well_formed (intent_of bytes))

@@ -1,15 +1,20 @@
-ghost use Rattle.std.specs.Prelude.{◌≡◌, ℕ, Ok, Err, is_some, IfOk, IfSome, IsErr, IsErrOf, OnErr, OnOk};
+ghost use Rattle.std.specs.Prelude.{◌≡◌, ◌≢◌, ℕ, List, Option, Bool, Ok, Err, is_some, IfOk, IfSome, IsErr, IsErrOf, OnErr, OnOk};
 ghost use Rattle.sccs_disk.specs.Causes.{DiskCauses};
 ghost use Rattle.sccs_disk.specs.Files.{View};
 ghost use Rattle.sccs_disk.specs.Told.{seen};
-ghost use Rattle.sccs_intents.specs.Intents.{intent_file, plan_file};
+ghost use Rattle.sccs_intents.specs.Intents.{intent_file, intent_of, plan_file};
 ghost use Rattle.sccs_moments.specs.Recovery.{without_name};
 ghost use Rattle.sccs_moments.specs.Unlocked.{KeepsOthers};
 ghost use Rattle.sccs_store.specs.Commits.{Becomes};
 ghost use Rattle.sccs_group.specs.Finishing.{Always, CompletesBy, FinishesBy};
 ghost use Rattle.sccs_group.specs.Halfway.{IsHalfway, intended, is_own_of_group};
 ghost use Rattle.sccs_group.specs.Members.{AreMembers};
-ghost use Rattle.sccs_group.specs.Recovering.{IsBad, ReadsBytes, ReadsMembers, bare, group_finished, intent_finished};
+ghost use Rattle.std.specs.Str.{bytes_eq};
+ghost use Rattle.sccs_images.specs.Touches.{TouchesOnly};
+ghost use Rattle.sccs_group.specs.declared.members.Member.{Member};
+ghost use Rattle.sccs_group.specs.declared.recovering.GroupFault.{GroupFault};
+ghost use Rattle.sccs_group.specs.declared.recovering.GroupFault.TheVariants as group;
+ghost use Rattle.sccs_group.specs.Recovering.{IsBad, IsWellFormed, ReadsBytes, ReadsMembers, bare, group_finished, intent_finished};
 
 use crate::calls::clear;
 use crate::finishing::complete;
@@ -47,6 +52,7 @@ fn members_of(alloc: Global, entries: &Entries) -> Result<Members, Memory>
 fn read_bytes(alloc: Global, bytes: &[u8]) -> Result<Members, GroupFault>
     ensures members { IfOk result (λ members. AreMembers members) }
     ensures read { ReadsBytes bytes.now result }
+    ensures form { IfOk result (λ (members : List Member). (line : ℕ) → intent_of bytes.now ≡ Err line → ⊥) }
 {
     match read_intent(alloc, bytes) {
         Ok(entries) => match members_of(alloc, &entries) {
@@ -66,6 +72,7 @@ fn read_members<D: Disk>(
 ) -> Result<Option<Members>, GroupFault>
     ensures told { IfSome (seen (D.told disk.old)) (λ (v : View). ReadsMembers (v intent.now) result) }
     ensures members { IfOk result (λ found. IfSome found (λ members. AreMembers members)) }
+    ensures form { IfOk result (λ (found : Option (List Member)). IfSome (seen (D.told disk.old)) (λ (v : View). IsWellFormed (v intent.now))) }
     ensures same { D.told disk.new ≡ D.told disk.old }
     ensures causes { DiskCauses (IsErrOf result GroupFault.Failed) (D.faults disk.old) (D.faults disk.new) }
 {
@@ -116,6 +123,7 @@ fn finish_intent<D: Disk>(alloc: Global, disk: &mut D, intent: &Name) -> Result<
     ensures view { OnOk result (Becomes intent_finished (seen (D.told disk.old)) (seen (D.told disk.new))) }
     ensures halfway { OnErr result (IfSome (seen (D.told disk.old)) (λ (v : View). IsHalfway (intended v) (seen (D.told disk.old)) (seen (D.told disk.new)))) }
     ensures found { IfOk result (λ found. IfSome (seen (D.told disk.old)) (λ (v : View). found ≡ is_some (v intent_file))) }
+    ensures form { IfOk result (λ (found : Bool). IfSome (seen (D.told disk.old)) (λ (v : View). IsWellFormed (v intent_file))) }
     ensures bad { (line : ℕ) → result ≡ Err (GroupFault.BadIntent line)
         → (D.told disk.new ≡ D.told disk.old) × IfSome (seen (D.told disk.old)) (λ (v : View). IsBad (v intent_file) line) }
     ensures memory { IsErrOf result GroupFault.Memory → D.told disk.new ≡ D.told disk.old }
@@ -148,9 +156,11 @@ pub fn finish_group<D: Disk>(
     ensures view { OnOk result (Becomes group_finished (seen (D.told disk.old)) (seen (D.told disk.new))) }
     ensures halfway { OnErr result (IfSome (seen (D.told disk.old)) (λ (v : View). IsHalfway (intended v) (seen (D.told disk.old)) (seen (D.told disk.new)))) }
     ensures found { IfOk result (λ found. IfSome (seen (D.told disk.old)) (λ (v : View). found ≡ is_some (v intent_file))) }
+    ensures form { IfOk result (λ (found : Bool). IfSome (seen (D.told disk.old)) (λ (v : View). IsWellFormed (v intent_file))) }
     ensures bad { (line : ℕ) → result ≡ Err (GroupFault.BadIntent line)
         → Becomes (without_name plan_file) (seen (D.told disk.old)) (seen (D.told disk.new)) × IfSome (seen (D.told disk.old)) (λ (v : View). IsBad (v intent_file) line) }
     ensures memory { IsErrOf result GroupFault.Memory → Becomes (without_name plan_file) (seen (D.told disk.old)) (seen (D.told disk.new)) }
+    ensures touches { (fault : GroupFault) → result ≡ Err fault → fault ≢ group.Failed → TouchesOnly (bytes_eq plan_file) (D.told disk.old) (D.told disk.new) }
     ensures story { FinishesBy Always (D.told disk.old) (D.told disk.new) }
     ensures done { OnOk result (CompletesBy Always (D.told disk.old) (D.told disk.new)) }
     ensures others { IfSome (seen (D.told disk.old)) (λ (v : View). KeepsOthers (is_own_of_group (intended v)) (D.told disk.old) (D.told disk.new)) }

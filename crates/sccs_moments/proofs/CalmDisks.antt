@@ -15,7 +15,6 @@ use Rattle.sccs_disk.proofs.Puts.{name_cases, put_other, put_same}
 use Rattle.sccs_images.specs.Touches.{Touches}
 use Rattle.sccs_images.proofs.Images.{full_image, image_settled, view_full, view_image}
 use Rattle.sccs_images.proofs.Owned.{firm_stays}
-use Rattle.sccs_images.proofs.Touched.{firm_touched}
 use Rattle.sccs_intents.specs.Intents.{intent_file}
 use Rattle.sccs_intents.specs.declared.intents.Fate.{Fate}
 use Rattle.sccs_intents.specs.declared.intents.Fate.TheVariants.{Replaced, Removed}
@@ -225,17 +224,25 @@ empty_settled = record { files = none_firm; pending = refl }
 pub placed_settled : (n : List ℕ) (c : Content) (m : Model) → IsSettled m → IsSettled (with_placed n c m)
 placed_settled n c m still = record { files = All-append IsFirmFile m.files (effects.firm c ∷ []) still.files (one_firm c); pending = still.pending }
 
--- firm files stay so where others are touched
+-- firm files stay so where others change
+pub firms_left : (mine : List ℕ → Bool) (m m2 : Model) → ((n : List ℕ) → IsSfile n → mine n ≡ false) → ((n : List ℕ) → IsSfile n → mine (p_file n) ≡ false) → mine intent_file ≡ false
+    → ((n : List ℕ) → IsSfile n → IsSome (fate_at (view_of m) n) → mine (x_file n) ≡ false) → ((n : List ℕ) → IsSfile n → fate_at (view_of m) n ≡ Some Replaced → mine (q_file n) ≡ false)
+    → ((k : List ℕ) → mine k ≡ false → file_under m2 k ≡ file_under m k) → HasFirm m → HasFirm m2
+firms_left mine m m2 s p intent x q files firm = record {
+  s_files = λ n sfile. still n (s n sfile) (firm.s_files n sfile);
+  p_files = λ n sfile. still (p_file n) (p n sfile) (firm.p_files n sfile);
+  intent = still intent_file intent firm.intent;
+  x_files = λ n sfile named. still (x_file n) (x n sfile (subst (λ (f : Option Fate). IsSome f) (fate n) named)) (firm.x_files n sfile (subst (λ (f : Option Fate). IsSome f) (fate n) named));
+  q_files = λ n sfile named. still (q_file n) (q n sfile (sym (fate n) ∙ named)) (firm.q_files n sfile (sym (fate n) ∙ named));
+}
+  where
+    still : (k : List ℕ) → mine k ≡ false → IsFirm k m → IsFirm k m2
+    still k other firm = subst (λ (o : Option File). IfSome o (λ (f : File). f.firm ≡ true)) (sym (files k other)) firm
+
+    fate : (n : List ℕ) → fate_at (view_of m2) n ≡ fate_at (view_of m) n
+    fate n = fate_same n (view_of m) (view_of m2) (ap (option_map (λ (f : File). f.content)) (files intent_file intent))
+
 pub firms_touched : (mine : List ℕ → Bool) (m m2 : Model) → ((n : List ℕ) → IsSfile n → mine n ≡ false) → ((n : List ℕ) → IsSfile n → mine (p_file n) ≡ false) → mine intent_file ≡ false
     → ((n : List ℕ) → IsSfile n → IsSome (fate_at (view_of m) n) → mine (x_file n) ≡ false) → ((n : List ℕ) → IsSfile n → fate_at (view_of m) n ≡ Some Replaced → mine (q_file n) ≡ false)
     → Touches mine m m2 → HasFirm m → HasFirm m2
-firms_touched mine m m2 s p intent x q touches firm = record {
-  s_files = λ n sfile. firm_touched mine m m2 n touches (s n sfile) (firm.s_files n sfile);
-  p_files = λ n sfile. firm_touched mine m m2 (p_file n) touches (p n sfile) (firm.p_files n sfile);
-  intent = firm_touched mine m m2 intent_file touches intent firm.intent;
-  x_files = λ n sfile named. firm_touched mine m m2 (x_file n) touches (x n sfile (subst (λ (f : Option Fate). IsSome f) (fate n) named)) (firm.x_files n sfile (subst (λ (f : Option Fate). IsSome f) (fate n) named));
-  q_files = λ n sfile named. firm_touched mine m m2 (q_file n) touches (q n sfile (sym (fate n) ∙ named)) (firm.q_files n sfile (sym (fate n) ∙ named));
-}
-  where
-    fate : (n : List ℕ) → fate_at (view_of m2) n ≡ fate_at (view_of m) n
-    fate n = fate_same n (view_of m) (view_of m2) (ap (option_map (λ (f : File). f.content)) (touches.files intent_file intent))
+firms_touched mine m m2 s p intent x q touches firm = firms_left mine m m2 s p intent x q touches.files firm

@@ -1,10 +1,10 @@
 -- The names of the files of an s-file's name differ.
-use Rattle.std.proofs.Common.{◌≡◌, ℕ, false, ◌||◌, Bool, true, List, [], ◌∷◌, length, drop, take, refl, sym, ap, subst, arith, length-drop, ◌∙◌}
+use Rattle.std.proofs.Common.{◌≡◌, ◌≢◌, ℕ, false, ◌||◌, Bool, true, List, [], ◌∷◌, length, drop, take, refl, sym, ap, subst, arith, length-drop, ◌∙◌}
 use Rattle.std.specs.Str.{bytes_eq}
 use Rattle.sccs_base.specs.Name.{IsSfile, sibling, p_file, q_file, x_file, y_file, z_file}
 use Rattle.sccs_base.proofs.SameBytes.{other_bytes, same_bytes}
 use Rattle.sccs_base.proofs.Siblings.{sfile_long}
-use Rattle.sccs_files.specs.StepFiles.{is_left, is_working}
+use Rattle.sccs_files.specs.StepFiles.{is_early, is_left, is_working, l_file}
 use Rattle.sccs_intents.specs.Intents.{intent_file}
 use Rattle.sccs_moments.specs.Recovery.{begins_by_letter, is_kept}
 
@@ -83,6 +83,16 @@ working_s n k sfile = subst (λ l. is_working n l ≡ false) (sym (sfile_is k sf
 
 pub left_s : (n k : List ℕ) → IsSfile k → is_left n k ≡ false
 left_s n k sfile = subst (λ l. is_left n l ≡ false) (sym (sfile_is k sfile)) refl
+
+-- what a step changes before its commit is no s-file, and all that it leaves behind
+pub early_left : (n k : List ℕ) → is_early n k ≡ false → is_left n k ≡ false
+early_left n k h = right_false (bytes_eq (l_file n) k) (is_left n k) h
+
+pub no_l : (n k : List ℕ) → is_early n k ≡ false → bytes_eq (l_file n) k ≡ false
+no_l n k h = left_false (bytes_eq (l_file n) k) (is_left n k) h
+
+pub early_s : (n k : List ℕ) → IsSfile k → is_early n k ≡ false
+early_s n k sfile = subst (λ l. is_early n l ≡ false) (sym (sfile_is k sfile)) refl
 
 pub left_z : (n k : List ℕ) → IsSfile n → IsSfile k → bytes_eq n k ≡ false → is_left n (z_file k) ≡ false
 left_z n k sfile other apart = siblings_differ 122 n k sfile other apart
@@ -177,3 +187,19 @@ kept_q g k h sfile = begins_not 113 g (q_file k) (left_false (begins_by_letter 1
 
 pub kept_intent : (g : List ℕ) → is_kept g ≡ false → bytes_eq g intent_file ≡ false
 kept_intent g h = right_false (begins_by_letter 113 g) (bytes_eq g intent_file) (no_x_name g h)
+
+-- a name that doesn't begin as l-files do
+pub no_l_name : (g k : List ℕ) → begins_by_letter 108 g ≡ false → IsSfile k → bytes_eq g (l_file k) ≡ false
+no_l_name g k h sfile = begins_not 108 g (l_file k) h (sibling_front 108 k sfile)
+
+-- an l-file is none at which recovery looks
+not_begun : (letter : ℕ) (n : List ℕ) → letter ≢ 108 → begins_by_letter letter (l_file n) ≡ false
+not_begun letter n other = other_bytes (take 2 (l_file n)) (letter ∷ 46 ∷ []) (λ e. other (sym (first_is letter n e)))
+  where
+    first_is : (letter : ℕ) (n : List ℕ) → take 2 (l_file n) ≡ letter ∷ 46 ∷ [] → 108 ≡ letter
+    first_is letter n e = cc
+
+pub l_plain : (n : List ℕ) → is_kept (l_file n) ≡ false
+l_plain n =
+    both_false _ _ (not_begun 115 n (λ e. omega (arith, e)))
+    (both_false _ _ (not_begun 112 n (λ e. omega (arith, e))) (both_false _ _ (not_begun 122 n (λ e. omega (arith, e))) (both_false _ _ (not_begun 120 n (λ e. omega (arith, e))) (both_false _ _ (not_begun 113 n (λ e. omega (arith, e))) refl))))

@@ -5,14 +5,14 @@ use Rattle.std.specs.Str.{bytes_eq}
 use Rattle.sccs_base.specs.Name.{IsSfile, p_file, q_file, x_file, y_file, z_file}
 use Rattle.sccs_disk.specs.Files.{Content, View, put}
 use Rattle.sccs_disk.proofs.Puts.{name_cases, put_back, put_other, put_same}
-use Rattle.sccs_files.specs.StepFiles.{is_left, is_working}
+use Rattle.sccs_files.specs.StepFiles.{is_early, is_left, is_working}
 use Rattle.sccs_pfile.specs.Recovered.{recovered_pfile}
 use Rattle.sccs_moments.specs.Moments.{IsAt, IsAtName, SameElsewhere}
 use Rattle.sccs_intents.specs.Intents.{entries_in, fate_in, intent_file}
 use Rattle.sccs_intents.specs.declared.intents.Fate.{Fate}
 use Rattle.sccs_intents.specs.declared.intents.Fate.TheVariants.{Replaced, Removed}
 use Rattle.sccs_moments.specs.Recovery.{IsSound, Pair, RecoversAs, cleaned, cleared, fate_at, fated, newer, pair_of, recover, recover_alone, recover_by, recover_named, without_name}
-use Rattle.sccs_moments.proofs.FileNames.{from_sfile, left_q, left_s, left_x, left_z, no_q, no_working, no_x, no_y, no_z, sfile_and_intent, siblings_differ, to_sfile, working_s}
+use Rattle.sccs_moments.proofs.FileNames.{early_s, from_sfile, left_q, left_s, left_x, left_z, no_q, no_working, no_x, no_y, no_z, sfile_and_intent, siblings_differ, to_sfile, working_s}
 
 abbrev pub pair : Option Content → Option Content → Pair
 pair s p = record { s = s; p = p }
@@ -238,11 +238,11 @@ recovered_once n v sfile =
 
 -- ---- other names
 
--- a view that has all files as another has them, but for those that a step on a name leaves
-pub left_alike : (n k : List ℕ) (v w : View) → IsSfile n → IsSfile k → bytes_eq n k ≡ false → ((l : List ℕ) → is_left n l ≡ false → w l ≡ v l) → LooksAlike k v w
-left_alike n k v w sfile other apart same = record {
+-- a view that has all files as another has them, but for those that a step on a name changes before its commit
+pub early_alike : (n k : List ℕ) (v w : View) → IsSfile n → IsSfile k → bytes_eq n k ≡ false → ((l : List ℕ) → is_early n l ≡ false → w l ≡ v l) → LooksAlike k v w
+early_alike n k v w sfile other apart same = record {
   fate = fate_same k v w (same intent_file refl);
-  s = same k (left_s n k other);
+  s = same k (early_s n k other);
   p = same (p_file k) refl;
   z = ap is_some (same (z_file k) (left_z n k sfile other apart));
   x = λ named. same (x_file k) (left_x n k sfile other apart);

@@ -10,13 +10,13 @@ use Rattle.sccs_disk.specs.Images.{Fits, Full, Image, file_under}
 use Rattle.sccs_disk.specs.Told.{Told, Tells, seen}
 use Rattle.sccs_disk.proofs.Models.{names_pended}
 use Rattle.sccs_disk.proofs.Puts.{name_cases, put_other}
-use Rattle.sccs_files.specs.StepFiles.{is_left}
+use Rattle.sccs_files.specs.StepFiles.{is_early, is_left}
 use Rattle.sccs_images.specs.Touches.{Each, Touches, Touching, TouchesOnly, earlier, newest}
 use Rattle.sccs_images.proofs.Images.{full_image, image_pended, image_settled, view_full}
 use Rattle.sccs_images.proofs.Touched.{each_newest, earlier_more, newest_more}
 use Rattle.sccs_moments.specs.Recovery.{is_kept, pair_of}
 use Rattle.sccs_moments.specs.Unlocked.{BeganUnlocked, BeginsUnlocked, ComeUnlocked, KeepsOthers, KeptOthers, LeavesOthers, SameOthers, WasUnlocked, is_own}
-use Rattle.sccs_moments.proofs.FileNames.{both_false, kept_p, kept_s, kept_z, left_false, left_s, right_false, sfile_is, siblings_differ, to_sfile}
+use Rattle.sccs_moments.proofs.FileNames.{both_false, early_left, early_s, kept_p, kept_s, kept_z, left_false, right_false, sfile_is, siblings_differ, to_sfile}
 use Rattle.sccs_moments.proofs.Recovering.{pair_same}
 
 -- ---- runs of a story
@@ -40,10 +40,10 @@ each_as P Q (a ∷ xs) m to each = (to a each.0, each_as P Q xs m to each.1)
 
 -- nothing is left out
 pub leaves_same : (mine : List ℕ → Bool) (m : Model) → LeavesOthers mine m m
-leaves_same mine m = record { now = λ k h. refl; images = λ w image. (w, image, λ k h. refl) }
+leaves_same mine m = record { files = λ k h. refl; images = λ w image. (w, image, λ k h. refl) }
 
 leaves_then : (mine : List ℕ → Bool) (m m1 m2 : Model) → LeavesOthers mine m m1 → LeavesOthers mine m1 m2 → LeavesOthers mine m m2
-leaves_then mine m m1 m2 first next = record { now = λ k h. next.now k h ∙ first.now k h; images = λ w image. back w (next.images w image) }
+leaves_then mine m m1 m2 first next = record { files = λ k h. next.files k h ∙ first.files k h; images = λ w image. back w (next.images w image) }
   where
     at_start : (w : View) → (u : View) → SameOthers mine u w → (u0 : View) × Image m u0 × SameOthers mine u0 u → (u0 : View) × Image m u0 × SameOthers mine u0 w
     at_start w u same (u0, image, before) = (u0, image, λ k h. same k h ∙ before k h)
@@ -52,14 +52,14 @@ leaves_then mine m m1 m2 first next = record { now = λ k h. next.now k h ∙ fi
     back w (u, image, same) = at_start w u same (first.images u image)
 
 leaves_more : (mine more : List ℕ → Bool) (m m2 : Model) → ((k : List ℕ) → more k ≡ false → mine k ≡ false) → LeavesOthers mine m m2 → LeavesOthers more m m2
-leaves_more mine more m m2 within leaves = record { now = λ k h. leaves.now k (within k h); images = λ w image. by w (leaves.images w image) }
+leaves_more mine more m m2 within leaves = record { files = λ k h. leaves.files k (within k h); images = λ w image. by w (leaves.images w image) }
   where
     by : (w : View) → (u : View) × Image m u × SameOthers mine u w → (u : View) × Image m u × SameOthers more u w
     by w (u, image, same) = (u, image, λ k h. same k (within k h))
 
 leaves_touched : (mine : List ℕ → Bool) (m m2 : Model) → Touches mine m m2 → LeavesOthers mine m m2
 leaves_touched mine m m2 touched = record {
-  now = λ k h. ap (option_map (λ (f : File). f.content)) (touched.files k h);
+  files = touched.files;
   images = λ w image. by w (touched.images w image);
 }
   where
@@ -68,7 +68,7 @@ leaves_touched mine m m2 touched = record {
 
 -- each moment's others are as at the start
 pub each_now : (mine : List ℕ → Bool) (m : Model) (added : List Model) → Each (LeavesOthers mine m) added m → Each (λ m2. SameOthers mine (view_of m) (view_of m2)) added m
-each_now mine m added each = each_as (LeavesOthers mine m) (λ m2. SameOthers mine (view_of m) (view_of m2)) added m (λ m2 leaves. leaves.now) each
+each_now mine m added each = each_as (LeavesOthers mine m) (λ m2. SameOthers mine (view_of m) (view_of m2)) added m (λ m2 leaves k h. ap (option_map (λ (f : File). f.content)) (leaves.files k h)) each
 
 pub others_then : (mine : List ℕ → Bool) (a b c : Told) → KeepsOthers mine a b → KeepsOthers mine b c → KeepsOthers mine a c
 others_then mine a b c first next m past is = joined (first m past is)
@@ -118,8 +118,8 @@ others_half f g mine a b same half m past is =
 
 -- ---- calls on names
 
-view_pended : (m : Model) (t : Names) (k : List ℕ) (files : List File) (now : Names) → now ≡ t → t k ≡ names m k → option_map (λ (f : File). f.content) (file_at m.files (now k)) ≡ view_of m k
-view_pended m t k files now is same = ap (λ (x : Option ℕ). option_map (λ (f : File). f.content) (file_at m.files x)) (ap (λ (x : Names). x k) is ∙ same)
+file_pended : (m : Model) (t : Names) (k : List ℕ) (now : Names) → now ≡ t → t k ≡ names m k → file_at m.files (now k) ≡ file_under m k
+file_pended m t k now is same = ap (λ (x : Option ℕ). file_at m.files x) (ap (λ (x : Names). x k) is ∙ same)
 
 -- the names of a file before and after it is renamed
 abbrev pub is_either : List ℕ → List ℕ → List ℕ → Bool
@@ -146,18 +146,18 @@ renamed_names from to m k h =
 
 pub others_renamed : (from to : List ℕ) (m : Model) → LeavesOthers (is_either from to) m (pended (Rename from to) m)
 others_renamed from to m = record {
-  now = λ k h. view_pended m (put (put (names m) from None) to (names m from)) k m.files (names (pended (Rename from to) m)) (names_pended (Rename from to) m) (renamed_names from to m k h);
+  files = λ k h. file_pended m (put (put (names m) from None) to (names m from)) k (names (pended (Rename from to) m)) (names_pended (Rename from to) m) (renamed_names from to m k h);
   images = pended_images (is_either from to) (Rename from to) m (λ k h. ap (λ (t : Names). t k) (names_pended (Rename from to) m) ∙ renamed_names from to m k h);
 }
 
 pub others_removed : (n : List ℕ) (m : Model) → LeavesOthers (bytes_eq n) m (pended (Remove n) m)
 others_removed n m = record {
-  now = λ k h. view_pended m (put (names m) n None) k m.files (names (pended (Remove n) m)) (names_pended (Remove n) m) (put_other (names m) n k None h);
+  files = λ k h. file_pended m (put (names m) n None) k (names (pended (Remove n) m)) (names_pended (Remove n) m) (put_other (names m) n k None h);
   images = pended_images (bytes_eq n) (Remove n) m (λ k h. ap (λ (t : Names). t k) (names_pended (Remove n) m) ∙ put_other (names m) n k None h);
 }
 
 pub others_settled : (mine : List ℕ → Bool) (m : Model) → LeavesOthers mine m (settled m)
-others_settled mine m = record { now = λ k h. refl; images = λ w image. (w, full_image m w (image_settled m w image), λ k h. refl) }
+others_settled mine m = record { files = λ k h. refl; images = λ w image. (w, full_image m w (image_settled m w image), λ k h. refl) }
 
 -- ---- the z-file
 
@@ -217,31 +217,34 @@ unlocked_by mine a b cases keeps m past is = by (keeps m past is)
     by kept = record { added = kept.added; is = kept.is; changes = kept_or_unlocked mine m kept.added (cases m past is) (each_now mine m kept.added kept.each) }
 
 -- a call that changes no s-file and no p-file
-pub unlocked_left : (n : List ℕ) (a b : Told) → KeepsOthers (is_left n) a b → BeginsUnlocked a b
-unlocked_left n a b keeps = unlocked_by (is_left n) a b (λ m past is k sfile. inl (left_s n k sfile, refl)) keeps
+pub unlocked_early : (n : List ℕ) (a b : Told) → KeepsOthers (is_early n) a b → BeginsUnlocked a b
+unlocked_early n a b keeps = unlocked_by (is_early n) a b (λ m past is k sfile. inl (early_s n k sfile, refl)) keeps
 
--- what is none of a name's files is none that a step leaves behind
+-- what is none of a name's files is none that a step changes before its commit, and none that it leaves behind
+pub own_early : (n k : List ℕ) → is_own n k ≡ false → is_early n k ≡ false
+own_early n k h = right_false (bytes_eq (drop 2 n) k) (is_early n k) (right_false (bytes_eq (p_file n) k) (bytes_eq (drop 2 n) k || is_early n k) (right_false (bytes_eq n k) (bytes_eq (p_file n) k || (bytes_eq (drop 2 n) k || is_early n k)) h))
+
 pub own_left : (n k : List ℕ) → is_own n k ≡ false → is_left n k ≡ false
-own_left n k h = right_false (bytes_eq (drop 2 n) k) (is_left n k) (right_false (bytes_eq (p_file n) k) (bytes_eq (drop 2 n) k || is_left n k) (right_false (bytes_eq n k) (bytes_eq (p_file n) k || (bytes_eq (drop 2 n) k || is_left n k)) h))
+own_left n k h = early_left n k (own_early n k h)
 
 -- the s-file and the p-file of another name are none of the name's files, where its g-file is none of such a kind
 pub own_s : (n k : List ℕ) → IsSfile k → is_kept (drop 2 n) ≡ false → bytes_eq n k ≡ false → is_own n k ≡ false
 own_s n k sfile plain apart =
-    both_false (bytes_eq n k) (bytes_eq (p_file n) k || (bytes_eq (drop 2 n) k || is_left n k)) apart
-    (both_false (bytes_eq (p_file n) k) (bytes_eq (drop 2 n) k || is_left n k) (subst (λ l. bytes_eq (p_file n) l ≡ false) (sym (sfile_is k sfile)) refl)
-    (both_false (bytes_eq (drop 2 n) k) (is_left n k) (kept_s (drop 2 n) k plain sfile) (left_s n k sfile)))
+    both_false (bytes_eq n k) (bytes_eq (p_file n) k || (bytes_eq (drop 2 n) k || is_early n k)) apart
+    (both_false (bytes_eq (p_file n) k) (bytes_eq (drop 2 n) k || is_early n k) (subst (λ l. bytes_eq (p_file n) l ≡ false) (sym (sfile_is k sfile)) refl)
+    (both_false (bytes_eq (drop 2 n) k) (is_early n k) (kept_s (drop 2 n) k plain sfile) (early_s n k sfile)))
 
 pub own_p : (n k : List ℕ) → IsSfile n → IsSfile k → is_kept (drop 2 n) ≡ false → bytes_eq n k ≡ false → is_own n (p_file k) ≡ false
 own_p n k sfile other plain apart =
-    both_false (bytes_eq n (p_file k)) (bytes_eq (p_file n) (p_file k) || (bytes_eq (drop 2 n) (p_file k) || is_left n (p_file k))) (to_sfile 112 n k sfile refl)
-    (both_false (bytes_eq (p_file n) (p_file k)) (bytes_eq (drop 2 n) (p_file k) || is_left n (p_file k)) (siblings_differ 112 n k sfile other apart)
-    (both_false (bytes_eq (drop 2 n) (p_file k)) (is_left n (p_file k)) (kept_p (drop 2 n) k plain other) refl))
+    both_false (bytes_eq n (p_file k)) (bytes_eq (p_file n) (p_file k) || (bytes_eq (drop 2 n) (p_file k) || is_early n (p_file k))) (to_sfile 112 n k sfile refl)
+    (both_false (bytes_eq (p_file n) (p_file k)) (bytes_eq (drop 2 n) (p_file k) || is_early n (p_file k)) (siblings_differ 112 n k sfile other apart)
+    (both_false (bytes_eq (drop 2 n) (p_file k)) (is_early n (p_file k)) (kept_p (drop 2 n) k plain other) refl))
 
 pub own_z : (n k : List ℕ) → IsSfile n → IsSfile k → is_kept (drop 2 n) ≡ false → bytes_eq n k ≡ false → is_own n (z_file k) ≡ false
 own_z n k sfile other plain apart =
-    both_false (bytes_eq n (z_file k)) (bytes_eq (p_file n) (z_file k) || (bytes_eq (drop 2 n) (z_file k) || is_left n (z_file k))) (to_sfile 122 n k sfile refl)
-    (both_false (bytes_eq (p_file n) (z_file k)) (bytes_eq (drop 2 n) (z_file k) || is_left n (z_file k)) refl
-    (both_false (bytes_eq (drop 2 n) (z_file k)) (is_left n (z_file k)) (kept_z (drop 2 n) k plain other) (siblings_differ 122 n k sfile other apart)))
+    both_false (bytes_eq n (z_file k)) (bytes_eq (p_file n) (z_file k) || (bytes_eq (drop 2 n) (z_file k) || is_early n (z_file k))) (to_sfile 122 n k sfile refl)
+    (both_false (bytes_eq (p_file n) (z_file k)) (bytes_eq (drop 2 n) (z_file k) || is_early n (z_file k)) refl
+    (both_false (bytes_eq (drop 2 n) (z_file k)) (is_early n (z_file k)) (kept_z (drop 2 n) k plain other) (siblings_differ 122 n k sfile other apart)))
 
 -- where the view was told the z-file wasn't there
 free_at : (z : List ℕ) (a : Told) (m : Model) (past : List Model) → IfSome (seen a) (λ (v : View). v z ≡ None) → a ≡ Tells m past → view_of m z ≡ None

@@ -1,4 +1,4 @@
--- Calls that touch the files of a sound name that a step leaves behind lose nothing.
+-- Calls that change files of a sound name that a step changes before its commit lose nothing.
 use Rattle.std.specs.Prelude.{IsSome}
 use Rattle.std.proofs.Common.{◌≡◌, ℕ, Bool, false, List, [], ◌∷◌, Option, None, Some, option_map, is_some, inl, inr, refl, sym, ap, subst, ◌∙◌, ⊎_elim, arith}
 use Rattle.std.specs.Str.{bytes_eq}
@@ -7,7 +7,7 @@ use Rattle.sccs_disk.specs.Files.{Content, File, Model, View, view_of}
 use Rattle.sccs_disk.specs.Images.{Allows, Image}
 use Rattle.sccs_disk.specs.Told.{Told, Tells}
 use Rattle.sccs_disk.proofs.Puts.{name_cases}
-use Rattle.sccs_files.specs.StepFiles.{is_left, is_working}
+use Rattle.sccs_files.specs.StepFiles.{is_early, is_working}
 use Rattle.sccs_images.specs.Touches.{Each, Touches, Touching, newest}
 use Rattle.sccs_images.proofs.Touched.{each_newest}
 use Rattle.sccs_pfile.specs.Recovered.{recovered_pfile}
@@ -17,10 +17,11 @@ use Rattle.sccs_intents.specs.declared.intents.Fate.TheVariants.{Replaced}
 use Rattle.sccs_moments.specs.Calm.{IsCalm, IsUnnamed, KeepsPairs}
 use Rattle.sccs_moments.specs.Moments.{EndsAfter, EndsBefore, EndsWithin, Guarded, IsAt, IsCalmAt, IsFrom, Stays, Went}
 use Rattle.sccs_moments.specs.Recovery.{IsSound, RecoversAs, fate_at, pair_of}
+use Rattle.sccs_moments.specs.Unlocked.{KeptOthers, LeavesOthers, SameOthers}
 use Rattle.sccs_moments.proofs.CalmDisks.{calm_firm, calm_kept}
-use Rattle.sccs_moments.proofs.FileNames.{left_s, working_q, working_s, working_x}
+use Rattle.sccs_moments.proofs.FileNames.{early_s, working_q, working_s, working_x}
 use Rattle.sccs_moments.proofs.Joined.{numbered_as, numbered_now, numbered_zero, raised}
-use Rattle.sccs_moments.proofs.Recovering.{fate_same, left_alike, p_of, pair_same, recovered_alike, recovered_at, recovers_from, recovers_then, recovers_to, s_of, same_recovers, sound_at}
+use Rattle.sccs_moments.proofs.Recovering.{early_alike, fate_same, p_of, pair_same, recovered_alike, recovered_at, recovers_from, recovers_then, recovers_to, s_of, same_recovers, sound_at}
 
 -- ---- views
 
@@ -36,8 +37,8 @@ sound_kept n v w sound intent same = record {
 sound_alike : (n : List ℕ) (v w : View) → IsSound n v → w intent_file ≡ v intent_file → pair_of w n ≡ pair_of v n → recovered_at w n ≡ recovered_at v n
 sound_alike n v w sound intent same = sound_at n w (sound_kept n v w sound intent same) ∙ (same ∙ sym (sound_at n v sound))
 
--- a view that has the pairs of v, but for what a step leaves behind
-keeps_pairs : (n : List ℕ) (v u w : View) → IsSfile n → IsSound n v → KeepsPairs v u → ((k : List ℕ) → is_left n k ≡ false → u k ≡ w k) → KeepsPairs v w
+-- a view that has the files of one with the pairs of v, but for what a step changes before its commit
+keeps_pairs : (n : List ℕ) (v u w : View) → IsSfile n → IsSound n v → KeepsPairs v u → ((k : List ℕ) → is_early n k ≡ false → u k ≡ w k) → KeepsPairs v w
 keeps_pairs n v u w sfile sound keeps same = record {
   intent = intent;
   pairs = pairs;
@@ -48,10 +49,10 @@ keeps_pairs n v u w sfile sound keeps same = record {
     intent = sym (same intent_file refl) ∙ keeps.intent
 
     pairs : (k : List ℕ) → IsSfile k → pair_of w k ≡ pair_of v k
-    pairs k other = pair_same _ _ _ _ (sym (same k (left_s n k other)) ∙ ap s_of (keeps.pairs k other)) (sym (same (p_file k) refl) ∙ ap p_of (keeps.pairs k other))
+    pairs k other = pair_same _ _ _ _ (sym (same k (early_s n k other)) ∙ ap s_of (keeps.pairs k other)) (sym (same (p_file k) refl) ∙ ap p_of (keeps.pairs k other))
 
     elsewhere : (k : List ℕ) → IsSfile k → bytes_eq n k ≡ false → recovered_at w k ≡ recovered_at v k
-    elsewhere k other apart = recovered_alike k u w (left_alike n k u w sfile other apart (λ l h. sym (same l h))) ∙ recovers_to v u keeps.recovers k other
+    elsewhere k other apart = recovered_alike k u w (early_alike n k u w sfile other apart (λ l h. sym (same l h))) ∙ recovers_to v u keeps.recovers k other
 
 -- ---- moments
 
@@ -67,26 +68,35 @@ guards_touched mine m [] s p each = tt
 guards_touched mine m (a ∷ added) s p each =
     (λ k sfile. inl (pair_touched mine m a k each.0 (s k sfile) (p k sfile) ∙ sym (pair_touched mine m (newest added m) k (each_newest (Touches mine m) added m each.1) (s k sfile) (p k sfile))), guards_touched mine m added s p each.1)
 
-pub keeps_image : (n : List ℕ) (m m2 : Model) → IsSfile n → IsCalm m → IsSound n (view_of m) → Touches (is_left n) m m2 → Allows (KeepsPairs (view_of m)) m2
-keeps_image n m m2 sfile calm sound touches = λ w image.
-    let before : (u : View) × Image m u × ((k : List ℕ) → is_left n k ≡ false → u k ≡ w k) = touches.images w image in
-    keeps_pairs n (view_of m) before.0 w sfile sound (calm before.0 before.1) before.2
+pub keeps_image : (n : List ℕ) (m m2 : Model) → IsSfile n → IsCalm m → IsSound n (view_of m) → LeavesOthers (is_early n) m m2 → Allows (KeepsPairs (view_of m)) m2
+keeps_image n m m2 sfile calm sound leaves = λ w image.
+    let before : (u : View) × Image m u × SameOthers (is_early n) u w = leaves.images w image in
+    keeps_pairs n (view_of m) before.0 w sfile sound (calm before.0 before.1) (λ k h. sym (before.2 k h))
+
+-- the view after it, but for what it changes
+pub view_left : (mine : List ℕ → Bool) (m m2 : Model) (k : List ℕ) → LeavesOthers mine m m2 → mine k ≡ false → view_of m2 k ≡ view_of m k
+view_left mine m m2 k leaves h = ap (option_map (λ (f : File). f.content)) (leaves.files k h)
+
+pair_left : (mine : List ℕ → Bool) (m m2 : Model) (k : List ℕ) → LeavesOthers mine m m2 → mine k ≡ false → mine (p_file k) ≡ false → pair_of (view_of m2) k ≡ pair_of (view_of m) k
+pair_left mine m m2 k leaves s p = pair_same _ _ _ _ (view_left mine m m2 k leaves s) (view_left mine m m2 (p_file k) leaves p)
+
+pub guards_left : (mine : List ℕ → Bool) (m : Model) (added : List Model) → ((k : List ℕ) → IsSfile k → mine k ≡ false) → ((k : List ℕ) → IsSfile k → mine (p_file k) ≡ false) → Each (LeavesOthers mine m) added m → Guarded added m
+guards_left mine m [] s p each = tt
+guards_left mine m (a ∷ added) s p each =
+    (λ k sfile. inl (pair_left mine m a k each.0 (s k sfile) (p k sfile) ∙ sym (pair_left mine m (newest added m) k (each_newest (LeavesOthers mine m) added m each.1) (s k sfile) (p k sfile))), guards_left mine m added s p each.1)
 
 -- From a calm disk on, each image of each moment has the old pairs.
-abbrev pub stays_touched : (n : List ℕ) (m : Model) (past : List Model) (new : Told) → IsSfile n → IsCalm m → IsSound n (view_of m) → Touching (is_left n) m past new → Stays (view_of m) m past new
-stays_touched n m past new sfile calm sound run = record {
+abbrev pub stays_left : (n : List ℕ) (m : Model) (past : List Model) (new : Told) → IsSfile n → IsCalm m → IsSound n (view_of m) → KeptOthers (is_early n) m past new → Stays (view_of m) m past new
+stays_left n m past new sfile calm sound run = record {
   added = run.added;
   is = run.is;
-  numbers = numbered_zero (Touches (is_left n) m) (λ i m2. Allows (KeepsPairs (view_of m)) m2) run.added m (λ m2 touches. keeps_image n m m2 sfile calm sound touches) run.each;
-  guarded = guards_touched (is_left n) m run.added (λ k other. left_s n k other) (λ k other. refl) run.each;
+  numbers = numbered_zero (LeavesOthers (is_early n) m) (λ i m2. Allows (KeepsPairs (view_of m)) m2) run.added m (λ m2 leaves. keeps_image n m m2 sfile calm sound leaves) run.each;
+  guarded = guards_left (is_early n) m run.added (λ k other. early_s n k other) (λ k other. refl) run.each;
 }
 
 -- and the disk is calm
 pub calm_stayed : (v : View) (m : Model) (past : List Model) (new : Told) → (went : Stays v m past new) → IsCalm (newest went.added m)
 calm_stayed v m past new went = calm_kept v (newest went.added m) (numbered_now (λ i m2. Allows (KeepsPairs v) m2) 0 went.added m 0 went.numbers)
-
-pub calm_touched : (n : List ℕ) (m m2 : Model) → IsSfile n → IsCalm m → IsSound n (view_of m) → Touches (is_left n) m m2 → IsCalm m2
-calm_touched n m m2 sfile calm sound touches = calm_kept (view_of m) m2 (keeps_image n m m2 sfile calm sound touches)
 
 -- a run that keeps the pairs is one at the number 0 of any step from the view
 abbrev pub went_at : (v w : View) (m : Model) (past : List Model) (new : Told) → (went : Stays v m past new) → Went (IsAt v w) m past 0 new

@@ -66,6 +66,10 @@ pair_of v n = record { s = v n; p = v (p_file n) }
 abbrev pub RecoversAs : View → View → Type 0
 RecoversAs v w = (n : List ℕ) → IsSfile n → pair_of (recover n w) n ≡ pair_of (recover n v) n
 
+-- recovery leaves the pair as it is
+abbrev pub IsSettledPair : Pair → Type 0
+IsSettledPair x = recovered_pfile x.s x.p ≡ x.p
+
 -- No entry of the p-file has its delta in the s-file, so that recovery would leave the p-file as it is; and no intent names
 -- the name.
 pub record IsSound (n : List ℕ) (v : View) : Type 0 where

@@ -3,15 +3,15 @@ use Rattle.std.specs.Prelude.{◌≡◌, ◌⊎◌, ◌||◌, ℕ, Bool, false, 
 use Rattle.std.specs.Str.{bytes_eq}
 use Rattle.sccs_base.specs.Name.{IsSfile, p_file, z_file}
 use Rattle.sccs_disk.specs.Files.{Model, View, view_of}
-use Rattle.sccs_disk.specs.Images.{Allows, Image}
+use Rattle.sccs_disk.specs.Images.{Allows, Image, file_under}
 use Rattle.sccs_disk.specs.Told.{Told, Tells}
-use Rattle.sccs_files.specs.StepFiles.{is_left}
+use Rattle.sccs_files.specs.StepFiles.{is_early}
 use Rattle.sccs_images.specs.Touches.{Each, earlier, newest}
 use Rattle.sccs_moments.specs.Recovery.{pair_of}
 
--- the files of an s-file's name: itself, its p-file and g-file, and those that a step leaves behind
+-- the files of an s-file's name: itself, its p-file and g-file, its l-file, and those that a step leaves behind
 abbrev pub is_own : List ℕ → List ℕ → Bool
-is_own n k = bytes_eq n k || (bytes_eq (p_file n) k || (bytes_eq (drop 2 n) k || is_left n k))
+is_own n k = bytes_eq n k || (bytes_eq (p_file n) k || (bytes_eq (drop 2 n) k || is_early n k))
 
 -- a view that has the files of other names as another has them
 abbrev pub SameOthers : (List ℕ → Bool) → View → View → Type 0
@@ -19,7 +19,7 @@ SameOthers mine v w = (k : List ℕ) → mine k ≡ false → w k ≡ v k
 
 -- From m to m2 the files of other names are as they were, now and in what a stop leaves.
 pub record LeavesOthers (mine : List ℕ → Bool) (m m2 : Model) : Type 0 where
-  pub now : SameOthers mine (view_of m) (view_of m2)
+  pub files : (k : List ℕ) → mine k ≡ false → file_under m2 k ≡ file_under m k
   -- what a stop leaves has them as something has them that one could leave before
   pub images : (w : View) → Image m2 w → (u : View) × Image m u × SameOthers mine u w
 

@@ -6,11 +6,12 @@ ghost use Rattle.sccs_disk.specs.Files.{Content, Model, View, view_of};
 ghost use Rattle.sccs_disk.specs.MemoryFiles.{IsSettled, model_of, with_placed};
 ghost use Rattle.sccs_disk.specs.States.{empty_state};
 ghost use Rattle.sccs_disk.specs.Told.{Told};
-ghost use Rattle.sccs_files.specs.StepFiles.{is_left};
-ghost use Rattle.sccs_images.specs.Touches.{Touching, newest};
+ghost use Rattle.sccs_files.specs.StepFiles.{is_early};
+ghost use Rattle.sccs_images.specs.Touches.{newest};
 ghost use Rattle.sccs_moments.specs.Calm.{HasFirm, IsCalm};
 ghost use Rattle.sccs_moments.specs.Moments.{IsAt, IsAtName, SameElsewhere, Stays};
 ghost use Rattle.sccs_moments.specs.Recovery.{IsSound, RecoversAs, pair_of, recover};
+ghost use Rattle.sccs_moments.specs.Unlocked.{KeptOthers};
 
 /// Recovering a name twice is recovering it once, and recovery leaves the s-file and the p-file of a
 /// sound name as they are.
@@ -34,11 +35,11 @@ pub fn settled_disks_are_calm()
     ensures put { (n : List ℕ) (c : Content) (m : Model) → IsSettled m → IsSettled (with_placed n c m) }
 {}
 
-/// From a calm disk on, a call that touches at most the working files and the z-file of a sound name
-/// leaves every s-file and p-file in each image of each of its moments, and the disk calm.
-pub fn calls_on_left_files_lose_nothing()
+/// From a calm disk on, a call that changes at most the working files, the z-file and the l-file of a sound
+/// name leaves every s-file and p-file in each image of each of its moments, and the disk calm.
+pub fn calls_before_a_commit_lose_nothing()
     ensures { (n : List ℕ) (m : Model) (past : List Model) (new : Told) → IsSfile n → IsCalm m → IsSound n (view_of m)
-        → Touching (is_left n) m past new → (went : Stays (view_of m) m past new) × IsCalm (newest went.added m) }
+        → KeptOthers (is_early n) m past new → (went : Stays (view_of m) m past new) × IsCalm (newest went.added m) }
 {}
 
 /// What is said of all names at once by the view after a step, said name by name: the step's name recovers

@@ -1,6 +1,6 @@
 -- Names in order, each once, are known by which they are.
 use Rattle.std.specs.Prelude.{is_some, T}
-use Rattle.std.specs.BTreeSet.{BTreeSet, insert_key}
+use Rattle.std.specs.BTreeSet.{BTreeSet}
 use Rattle.std.specs.Global.{Vec}
 use Rattle.std.specs.FinMap.{keys, entries, entries_sorted, contains_key-keys, nat_cmp-IsAntisymmetric, slice_cmp-IsAntisymmetric}
 use Rattle.std.specs.FinMap.Entries.{same_entries}
@@ -23,7 +23,8 @@ use Rattle.sccs_base.specs.Name.{is_sfile_name}
 use Rattle.sccs_disk.specs.Files.{Folder, View, view_in}
 use Rattle.sccs_disk.specs.Reads.{IsListing, Lists}
 use Rattle.sccs_disk.proofs.Puts.{same_name}
-use Rattle.sccs_operands.specs.FolderNames.{AreSfiles, HasSfilesOf, AreInOrder, names_in, sfiles_in}
+use Rattle.sccs_operands.specs.FolderNames.{AreSfiles, HasSfilesOf, AreInOrder, sfiles_in}
+use Rattle.sccs_name_sets.specs.NameSets.{names_in}
 
 -- ---- two lists in order with the same names are one
 
@@ -146,40 +147,6 @@ are_sfiles listed names order each = record {
 }
 
 -- ---- a set of names that grows
-
-take_other : (a b c : Bool) → (a || (b || c)) ≡ (b || (a || c))
-take_other true true c = refl
-take_other true false c = refl
-take_other false true c = refl
-take_other false false c = refl
-
-take_twice : (a b : Bool) → (a || b) ≡ (a || (a || b))
-take_twice true b = refl
-take_twice false b = refl
-
-insert_by : (n : List ℕ) (k x : Vec ℕ) (xs : List (Vec ℕ)) (o : Ordering) → slice_cmp nat_cmp k.items x.items ≡ o
-    → list_any (bytes_eq n) (map (λ (v : Vec ℕ). v.items) (insert_key (λ (a b : Vec ℕ). slice_cmp nat_cmp a.items b.items) xs k)) ≡ (bytes_eq n k.items || list_any (bytes_eq n) (map (λ (v : Vec ℕ). v.items) xs))
-    → list_any (bytes_eq n) (map (λ (v : Vec ℕ). v.items) (match_ordering o (k ∷ x ∷ xs) (x ∷ xs) (x ∷ insert_key (λ (a b : Vec ℕ). slice_cmp nat_cmp a.items b.items) xs k)))
-    ≡ (bytes_eq n k.items || (bytes_eq n x.items || list_any (bytes_eq n) (map (λ (v : Vec ℕ). v.items) xs)))
-insert_by n k x xs Less is rest = refl
-insert_by n k x xs Equal is rest =
-    let same : k.items ≡ x.items = slice_cmp-IsAntisymmetric nat_cmp-IsAntisymmetric k.items x.items is in
-    take_twice (bytes_eq n x.items) (list_any (bytes_eq n) (map (λ (v : Vec ℕ). v.items) xs)) ∙ ap (λ b. bytes_eq n b || (bytes_eq n x.items || list_any (bytes_eq n) (map (λ (v : Vec ℕ). v.items) xs))) (sym same)
-insert_by n k x xs Greater is rest =
-    ap (λ b. bytes_eq n x.items || b) rest ∙ take_other (bytes_eq n x.items) (bytes_eq n k.items) (list_any (bytes_eq n) (map (λ (v : Vec ℕ). v.items) xs))
-
-inserted : (n : List ℕ) (k : Vec ℕ) (xs : List (Vec ℕ))
-    → list_any (bytes_eq n) (map (λ (v : Vec ℕ). v.items) (insert_key (λ (a b : Vec ℕ). slice_cmp nat_cmp a.items b.items) xs k)) ≡ (bytes_eq n k.items || list_any (bytes_eq n) (map (λ (v : Vec ℕ). v.items) xs))
-inserted n k [] = refl
-inserted n k (x ∷ xs) = insert_by n k x xs (slice_cmp nat_cmp k.items x.items) refl (inserted n k xs)
-
--- a name more
-pub kept_more : (n name : List ℕ) (k : Vec ℕ) (old new : BTreeSet (Vec ℕ)) (b : Bool) → k.items ≡ name → new.keys ≡ insert_key (λ (a b : Vec ℕ). slice_cmp nat_cmp a.items b.items) old.keys k → b ≡ true
-    → list_any (bytes_eq n) (names_in new) ≡ (b && bytes_eq n name || list_any (bytes_eq n) (names_in old))
-kept_more n name k old new b same keys is =
-    ap (λ (ks : List (Vec ℕ)). list_any (bytes_eq n) (map (λ (v : Vec ℕ). v.items) ks)) keys
-    ∙ (inserted n k old.keys
-    ∙ (ap (λ (bytes : List ℕ). bytes_eq n bytes || list_any (bytes_eq n) (names_in old)) same ∙ ap (λ c. c && bytes_eq n name || list_any (bytes_eq n) (names_in old)) (sym is)))
 
 -- the same of names one by one
 shared : (a b c : Bool) → (a && b || a && c) ≡ (a && (c || (b || false)))

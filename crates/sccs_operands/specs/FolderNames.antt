@@ -1,9 +1,7 @@
 -- The names of the s-files of a folder, in byte order.
-use Rattle.std.specs.Prelude.{◌≡◌, ℕ, true, List, map}
-use Rattle.std.specs.BTreeSet.{BTreeSet}
+use Rattle.std.specs.Prelude.{◌≡◌, ℕ, true, List}
 use Rattle.std.specs.Cmp.Lexicographic.{slice_cmp}
 use Rattle.std.specs.FinMap.{keys}
-use Rattle.std.specs.Global.{Vec}
 use Rattle.std.specs.List.{AllByRecursion, filter}
 use Rattle.std.specs.List.Sorted.{IsStrictlySortedBy}
 use Rattle.std.specs.Ordering.{nat_cmp}
@@ -26,7 +24,3 @@ pub record AreSfiles (names : List (List ℕ)) : Type 0 where
 -- the folder has the view's s-files
 abbrev pub HasSfilesOf : View → Folder → Type 0
 HasSfilesOf v m = (n : List ℕ) → is_sfile_name n ≡ true → view_in m n ≡ v n
-
--- the names that a set of them has
-abbrev pub names_in : BTreeSet (Vec ℕ) → List (List ℕ)
-names_in kept = map (λ (name : Vec ℕ). name.items) kept.keys

@@ -4,29 +4,30 @@ ghost use Rattle.std.specs.Str.{bytes_eq};
 ghost use Rattle.sccs_base.specs.Name.{is_sfile_name};
 ghost use Rattle.sccs_disk.specs.Files.{Folder, View};
 ghost use Rattle.sccs_disk.specs.Told.{seen};
-ghost use Rattle.sccs_operands.specs.FolderNames.{AreSfiles, HasSfilesOf, AreInOrder, names_in, sfiles_in};
+ghost use Rattle.sccs_operands.specs.FolderNames.{AreSfiles, HasSfilesOf, AreInOrder, sfiles_in};
+ghost use Rattle.sccs_name_sets.specs.NameSets.{names_in};
 ghost use Rattle.sccs_disk.specs.Causes.{DiskCauses};
 
 use sccs_base::{Bytes, ListOf, Memory, Name, Words};
 use sccs_disk::{Disk, DiskRefusal};
+use sccs_name_sets::{NameSet, insert_name};
 use std::alloc::Global;
 use std::collections::BTreeSet;
 
 // puts a name among others, unless it is that of no s-file
-fn keep(kept: &mut BTreeSet<Vec<u8>, Global>, alloc: Global, name: &Name) -> Result<(), Memory>
+fn keep(kept: &mut NameSet, alloc: Global, name: &Name) -> Result<(), Memory>
     ensures { OnOk result ((n : List ℕ) → list_any (bytes_eq n) (names_in kept.new)
         ≡ (is_sfile_name name.now && bytes_eq n name.now || list_any (bytes_eq n) (names_in kept.old))) }
 {
     if !name.is_sfile() {
         return Ok(());
     }
-    let bytes = name.bytes().to_vec(alloc)?;
-    kept.insert(bytes)?;
+    insert_name(kept, alloc, name.bytes())?;
     Ok(())
 }
 
 // the s-files' names among names
-fn sfiles_among(alloc: Global, names: &[Name]) -> Result<BTreeSet<Vec<u8>, Global>, Memory>
+fn sfiles_among(alloc: Global, names: &[Name]) -> Result<NameSet, Memory>
     ensures { IfOk result (λ kept. (n : List ℕ) → list_any (bytes_eq n) (names_in kept)
         ≡ (is_sfile_name n && list_any (bytes_eq n) names.now)) }
 {
@@ -38,7 +39,7 @@ fn sfiles_among(alloc: Global, names: &[Name]) -> Result<BTreeSet<Vec<u8>, Globa
 }
 
 // names in their order
-fn in_order(alloc: Global, kept: BTreeSet<Vec<u8>, Global>) -> Result<Words, Memory>
+fn in_order(alloc: Global, kept: NameSet) -> Result<Words, Memory>
     ensures same { IfOk result (λ names. names ≡ names_in kept) }
     ensures order { IfOk result AreInOrder }
 {

@@ -34,7 +34,7 @@ Deciding = List ℕ → Found → Result Decided Refusal
 
 -- the change that decides so, which takes no input and names no files
 abbrev pub changing : Deciding → (Outcome → Bool) → Changing
-changing decide could = record { outcome = entries_outcome decide; named = λ n. []; takes = false; silent = false; could = could }
+changing decide could = record { outcome = entries_outcome decide; named = λ n. []; takes = false; silent = false; early = false; could = could }
 
 -- ---- the step, part by part
 

@@ -8,7 +8,7 @@ use Rattle.sccs_disk.specs.Calls.{IsThere}
 use Rattle.sccs_disk.specs.Files.{Content, View, put}
 use Rattle.sccs_disk.specs.Told.{Told, seen}
 use Rattle.sccs_disk.proofs.Puts.{put_other, put_same}
-use Rattle.sccs_files.specs.StepFiles.{Files, Moves, is_working, look}
+use Rattle.sccs_files.specs.StepFiles.{Files, Moves, is_working, l_file, look}
 use Rattle.sccs_pfile.specs.Recovered.{pfile_of, written_pfile}
 use Rattle.sccs_pfile.specs.declared.entries.Edit.{Edit}
 use Rattle.sccs_steps.specs.Calls.{world}
@@ -25,15 +25,18 @@ use Rattle.sccs_pending.specs.NewEntries.{IsOfEntries, PreparesEntries, with_ent
 
 -- ---- what is prepared
 
-abbrev files_of : Option Content → Option Content → Option Content → Option Files
-files_of s p g = Some (record { s = s; p = p; z = None; g = g })
+abbrev files_of : Option Content → Option Content → Option Content → Option Content → Option Files
+files_of s p g l = Some (record { s = s; p = p; z = None; g = g; l = l })
 
 files_are : (n : List ℕ) (edits : List Edit) (g : Option Content) (p : Prepared) (v u : View) → IsSfile n → p.new_s ≡ false → ((k : List ℕ) → bytes_eq (q_file n) k ≡ false → u k ≡ v k) → ((old : Option Content) → chosen p.new_p (u (q_file n)) old ≡ pfile_of edits)
-    → ((y : Option Content) → chosen p.new_g y (v (drop 2 n)) ≡ g) → files_of (unlocked n v n) (pfile_of edits) g ≡ Some (files_after n (plan_of p) u)
+    → ((y : Option Content) → chosen p.new_g y (v (drop 2 n)) ≡ g) → files_of (unlocked n v n) (pfile_of edits) g (unlocked n v (l_file n)) ≡ Some (files_after n (plan_of p) u)
 files_are n edits g p v u sfile s same entries left =
-    ap (λ (o : Option Content). files_of o (pfile_of edits) g) (put_other v (z_file n) n None (from_s 122 n sfile refl) ∙ (sym (same n (from_s 113 n sfile refl)) ∙ ap (λ b. chosen (replaced b) (u (x_file n)) (u n)) (sym s)))
-    ∙ (ap (λ (o : Option Content). files_of (chosen (replaced p.new_s) (u (x_file n)) (u n)) o g) (sym (entries (u (p_file n))))
-    ∙ ap (λ (o : Option Content). files_of (chosen (replaced p.new_s) (u (x_file n)) (u n)) (chosen p.new_p (u (q_file n)) (u (p_file n))) o) (sym (left (u (y_file n))) ∙ ap (λ (o : Option Content). chosen p.new_g (u (y_file n)) o) (sym (same (drop 2 n) (from_g 113 n sfile)))))
+    ap (λ (o : Option Content). files_of o (pfile_of edits) g (unlocked n v (l_file n))) (put_other v (z_file n) n None (from_s 122 n sfile refl) ∙ (sym (same n (from_s 113 n sfile refl)) ∙ ap (λ b. chosen (replaced b) (u (x_file n)) (u n)) (sym s)))
+    ∙ (ap (λ (o : Option Content). files_of (chosen (replaced p.new_s) (u (x_file n)) (u n)) o g (unlocked n v (l_file n))) (sym (entries (u (p_file n))))
+    ∙ (ap (λ (o : Option Content). files_of (chosen (replaced p.new_s) (u (x_file n)) (u n)) (chosen p.new_p (u (q_file n)) (u (p_file n))) o (unlocked n v (l_file n)))
+    (sym (left (u (y_file n))) ∙ ap (λ (o : Option Content). chosen p.new_g (u (y_file n)) o) (sym (same (drop 2 n) (from_g 113 n sfile))))
+    ∙ ap (λ (o : Option Content). files_of (chosen (replaced p.new_s) (u (x_file n)) (u n)) (chosen p.new_p (u (q_file n)) (u (p_file n))) (chosen p.new_g (u (y_file n)) (u (drop 2 n))) o)
+    (put_other v (z_file n) (l_file n) None refl ∙ sym (same (l_file n) refl))))
 
 pub entries_prepared : (n : List ℕ) (edits : List Edit) (g : Option Content) (report : List ℕ) (p : Prepared) (o : Outcome) (v : View) (o2 : Option View) (out err : Option (List ℕ)) → IsSfile n → o ≡ Ok (with_entries (look (unlocked n v) n) edits g report) → IsOfEntries p report
     → Moves (bytes_eq (q_file n)) (λ w. w) (Some v) o2 → IfSome o2 (λ (u : View). (old : Option Content) → chosen p.new_p (u (q_file n)) old ≡ pfile_of edits) → ((y : Option Content) → chosen p.new_g y (v (drop 2 n)) ≡ g)

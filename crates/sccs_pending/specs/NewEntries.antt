@@ -22,12 +22,13 @@ use Rattle.sccs_steps.specs.StepEffects.{StepEffect}
 use Rattle.sccs_pending.specs.Pending.{Found, pending_of}
 use Rattle.sccs_store.specs.Commits.{Needs, chosen}
 use Rattle.sccs_store.specs.declared.new_files.NewFile.{NewFile}
+use Rattle.sccs_store.specs.declared.new_files.NewFile.TheVariants.{Keep, Replace, Remove}
 use Rattle.sccs_transactions.specs.Changes.{IsTakenOrGone}
 use Rattle.sccs_transactions.specs.declared.prepared.Prepared.{Prepared}
 
 -- the p-file has these entries, the g-file is this, and so much is reported on out
 abbrev pub with_entries : Files → List Edit → Option Content → List ℕ → StepEffect
-with_entries f edits g report = record { new = Some (record { s = f.s; p = pfile_of edits; z = None; g = g }); text = []; out = report; err = []; status = 0 }
+with_entries f edits g report = record { new = Some (record { s = f.s; p = pfile_of edits; z = None; g = g; l = f.l }); text = []; out = report; err = []; status = 0 }
 
 -- the numbers of the checks on the entry that is meant
 abbrev pub choice_checks : List ℕ
@@ -53,6 +54,18 @@ pub record PreparesEntries (n : List ℕ) (edits : List Edit) (new : NewFile) (b
   pub chosen_is : IfSome (seen told) (λ (v : View). (old : Option Content) → chosen new (v (q_file n)) old ≡ pfile_of edits)
   pub needs : (edits ≡ [] → IsThere (p_file n) before) → Needs new (q_file n) (p_file n) told
   pub taken : IfSome (seen before) (λ u. IfSome (seen told) (λ v. IsTakenOrGone new (u (q_file n)) (v (q_file n))))
+
+-- a p-file that a commit doesn't keep
+abbrev pub IsRenewed : NewFile → Type 0
+IsRenewed Keep = ⊥
+IsRenewed Replace = Unit {0}
+IsRenewed Remove = Unit {0}
+
+-- a g-file of which a commit makes no new one
+abbrev pub OnlyGoes : NewFile → Type 0
+OnlyGoes Keep = Unit {0}
+OnlyGoes Replace = ⊥
+OnlyGoes Remove = Unit {0}
 
 -- A commit leaves the g-file, or removes it.
 pub record LeavesG (n : List ℕ) (keep : Bool) (new : NewFile) (told : Told) : Type 0 where

@@ -1,7 +1,7 @@
 ghost use Rattle.std.specs.Prelude.{[], IfOk};
 ghost use Rattle.sccs_base.specs.Name.{IsSfile};
 ghost use Rattle.sccs_steps.specs.Actions.{RefusesWithin};
-ghost use Rattle.sccs_pending.specs.NewEntries.{LeavesG};
+ghost use Rattle.sccs_pending.specs.NewEntries.{LeavesG, OnlyGoes};
 ghost use Rattle.sccs_pending.specs.PFiles.{OnlyReads};
 
 use sccs_base::Name;
@@ -14,6 +14,7 @@ use sccs_store::NewG;
 pub fn remove_g<D: Disk>(keep: bool, disk: &mut D, name: &Name) -> Result<NewG, StepFault>
     requires { IsSfile name.now }
     ensures leaves { IfOk result (λ new. LeavesG name.now keep new (D.told disk.old)) }
+    ensures goes { IfOk result (λ new. OnlyGoes new) }
     ensures checks { RefusesWithin [] result }
     ensures frame { OnlyReads D.told D.faults disk.old disk.new result }
 {

@@ -7,7 +7,7 @@ ghost use Rattle.sccs_files.specs.StepFiles.{Moves};
 ghost use Rattle.sccs_images.specs.Touches.{Leaves, TouchesOnly};
 ghost use Rattle.sccs_pfile.specs.Entries.{IsEdit};
 ghost use Rattle.sccs_store.specs.Stops.{OnReplace};
-ghost use Rattle.sccs_pending.specs.NewEntries.{PreparesEntries};
+ghost use Rattle.sccs_pending.specs.NewEntries.{IsRenewed, PreparesEntries};
 ghost use Rattle.sccs_disk.specs.Causes.{DiskCauses};
 
 use sccs_base::Name;
@@ -25,6 +25,7 @@ pub fn prepare_entries<D: Disk>(
     requires sfile { IsSfile name.now }
     requires edits { All IsEdit edits.now }
     ensures entries { IfOk result (λ new. PreparesEntries name.now edits.now new (D.told disk.old) (D.told disk.new)) }
+    ensures renewed { IfOk result (λ new. IsRenewed new) }
     ensures moves { Moves (bytes_eq (q_file name.now)) (λ v. v) (seen (D.told disk.old)) (seen (D.told disk.new)) }
     ensures touches { TouchesOnly (bytes_eq (q_file name.now)) (D.told disk.old) (D.told disk.new) }
     ensures firm { IfOk result (λ new. OnReplace new (Leaves (IsFirm (q_file name.now)) (D.told disk.old) (D.told disk.new))) }

@@ -16,5 +16,6 @@ pub use entries::{Edit, Edits, PfileFault};
 pub use laws::{
     agreeing_entries_stay, entries_again, made_entries_leave, new_entries_agree, recovered_once,
 };
+pub use live_sets::{LiveSet, find_live, has_live};
 pub use reading::read_edits;
 pub use writing::write_edits;

@@ -108,9 +108,9 @@ outcome_steps outcome n r ta tb left out out2 err same shows = by (seen ta) (ap 
         err = subst (λ t. GivesOk err err t) (sym (ap (λ (d : StepEffect). d.err) shows.2)) (gives_none err);
       },
     )
-    ends v o2 o (Err (Refused refusal)) is shows = (shows.0, kept v o2 n [] out out2 err is (subst (λ (x : Option (List ℕ)). GivesSome out x []) (sym shows.1) (some_none out [])))
-    ends v o2 o (Err Memory) is shows = kept v o2 n (effect_of n o).text out out2 err is shows
-    ends v o2 o (Err WriteFault) is shows = inl (kept v o2 n (effect_of n o).text out out2 err is shows)
+    ends v o2 o (Err (Refused refusal)) is shows = (shows.0, kept v o2 n None [] out out2 err is (subst (λ (x : Option (List ℕ)). GivesSome out x []) (sym shows.1) (some_none out [])))
+    ends v o2 o (Err Memory) is shows = kept v o2 n (effect_of n o).new (effect_of n o).text out out2 err is shows
+    ends v o2 o (Err WriteFault) is shows = inl (kept v o2 n (effect_of n o).new (effect_of n o).text out out2 err is shows)
     ends v o2 o (Err DiskFault) is shows = broken v o2 n o out out2 err is shows
     ends v o2 o (Err ReadFault) is shows = absurd shows
 

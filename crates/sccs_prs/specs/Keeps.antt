@@ -36,4 +36,5 @@ prs_keeps words place = record {
   quiet = λ reads n i named f d is. by_file words place n (or_refusal (answer file_of (option_map (λ (c : Content). c.bytes) f.s))) d (sym (outcome_is words place n f) ∙ is);
   names = λ changes n fits. absurd cc;
   locked = λ changes locks n i named f d is there g new. absurd cc;
+  pending = λ changes never n i v f d there is. absurd cc;
 }

@@ -86,14 +86,14 @@ rcs_prepared heading (Ok p) rcs n i v o2 out err sfile found writes =
     let f : Files = look (unlocked n v) n in
     let c : Content = rcs_content rcs in
     record {
-      effect = record { new = files_of (Some c) f.p f.g; text = []; out = import_report heading n rcs; err = []; status = 0 };
+      effect = record { new = files_of (Some c) f.p f.g f.l; text = []; out = import_report heading n rcs; err = []; status = 0 };
       is = outcome_seen heading n i v (Ok rcs) sfile found;
       status = refl;
       report = sym writes.0.report;
       message = sym writes.0.message;
       view = moves_wider (bytes_eq (x_file n)) (is_working n) (Some v) o2 (no_x n) (made_moves (x_file n) c (Some v) o2 writes.1);
       working = x_alone n p (Some v) o2 writes.0.s (made_moves (x_file n) c (Some v) o2 writes.1);
-      files = subst (λ (o : Option View). IfSome o (λ u. files_of (Some c) f.p f.g ≡ Some (files_after n (plan_of p) u))) (sym writes.1) (new_files n c v (silent p) sfile (as_new (import_report heading n rcs) p writes.0));
+      files = subst (λ (o : Option View). IfSome o (λ u. files_of (Some c) f.p f.g f.l ≡ Some (files_after n (plan_of p) u))) (sym writes.1) (new_files n c v (silent p) sfile (as_new (import_report heading n rcs) p writes.0));
       out = gives_none out;
     }
 rcs_prepared heading (Err (Refused refusal)) rcs n i v o2 out err sfile found writes = absurd writes

@@ -1,4 +1,5 @@
 mod EntryLists
+mod IntentLaws
 mod OtherNames
 mod ReadingLaws
 mod RecoverMoments

@@ -1,41 +1,60 @@
 -- The moments of the command recover.
-use Rattle.std.proofs.Common.{◌≡◌, ◌≢◌, ◌↔◌, ℕ, Bool, true, false, cond, List, Option, None, Some, IfSome, IsErrOf, is_some, Result, Ok, Err, inl, inr, refl, sym, ap, subst, ◌∙◌, arith}
+use Rattle.std.proofs.Common.{◌≡◌, ◌≢◌, ◌↔◌, ℕ, Bool, true, false, cond, List, [], ◌∷◌, Option, None, Some, IfSome, IsErrOf, is_some, Result, Ok, Err, inl, inr, refl, sym, ap, subst, ◌∙◌, arith}
 use Rattle.std.specs.Prelude.{IsSome}
 use Rattle.sccs_base.specs.Name.{IsSfile, p_file, z_file}
 use Rattle.sccs_sid.specs.declared.refusals.StepFault.{StepFault}
 use Rattle.sccs_sid.specs.declared.refusals.StepFault.TheVariants.{Refused, Memory, ReadFault, WriteFault, DiskFault}
-use Rattle.sccs_disk.specs.Files.{Model, View, view_of}
+use Rattle.sccs_disk.specs.Files.{Content, Model, View, view_of}
+use Rattle.sccs_sid.specs.Reading.{◌>>=◌}
+use Rattle.sccs_sid.specs.declared.refusals.Refusal.{Refusal}
 use Rattle.sccs_disk.specs.Images.{Allows}
 use Rattle.sccs_disk.specs.Told.{Told, Tells, seen}
 use Rattle.sccs_pfile.proofs.Recovering.{twice_once}
 use Rattle.sccs_files.specs.StepFiles.{is_working, look, moved}
 use Rattle.sccs_images.specs.Touches.{Each, TouchesOnly, earlier, newest}
-use Rattle.sccs_intents.specs.Intents.{intent_file}
+use Rattle.sccs_intents.specs.Intents.{entries_in, fate_in, intent_file}
 use Rattle.sccs_intents.specs.declared.intents.Fate.{Fate}
 use Rattle.sccs_moments.specs.Calm.{IsCalm}
-use Rattle.sccs_moments.specs.Moments.{EndsAfter, EndsWithin, IsAt, IsCalmUnnamed, IsFrom, KeepsCalm, LeavesCalm, LeavesFirm, NamesNone, RecoversOn, Went}
+use Rattle.sccs_moments.specs.Moments.{EndsAfter, EndsBefore, EndsWithin, IsAt, IsCalmUnnamed, IsFrom, KeepsCalm, LeavesCalm, LeavesFirm, NamesNone, RecoversOn, Went}
 use Rattle.sccs_moments.specs.Recovery.{Pair, RecoversAs, fate_at, recover, recover_alone, recover_by}
 use Rattle.sccs_moments.proofs.FileNames.{working_s}
 use Rattle.sccs_moments.proofs.Joined.{numbered_as, numbered_now, raised}
 use Rattle.sccs_moments.proofs.Recoveries.{calm_keeps, calm_recovers, calm_same, working_calm}
 use Rattle.sccs_moments.proofs.Recovering.{fate_same, recover_intent, recovered, recovered_is, recovered_under, recovers_back, recovers_recovered, recovers_then, same_recovers}
-use Rattle.sccs_moments.proofs.Untouched.{before_after, ends_working, same_before}
+use Rattle.sccs_moments.proofs.Untouched.{before_after, before_within, ends_working, same_before}
 use Rattle.sccs_steps.specs.StepEffects.{Outcome, effect_of}
 use Rattle.sccs_steps.specs.Calls.{Meets, scene, world}
 use Rattle.sccs_steps.specs.Actions.{IsHeard}
 use Rattle.sccs_steps.specs.Recovering.{RecoversStep}
 use Rattle.sccs_steps.specs.StepStops.{ArePaired, Ends, IsSafe, IsSafeFor, MeetsAt, StepMoments, meeting_place}
-use Rattle.sccs_steps.proofs.SafeImages.{numbered_each}
+use Rattle.sccs_steps.specs.Unlocked.{KeepsNamed}
+use Rattle.sccs_steps.proofs.Carried.{intent_there}
+use Rattle.sccs_steps.proofs.SafeImages.{numbered_each, recovers_before}
 use Rattle.sccs_steps.proofs.Safety.{placed_safe}
 use Rattle.sccs_store.specs.Commits.{Becomes}
-use Rattle.sccs_recovery.specs.Checks.{PassesChecks, checked}
+use Rattle.sccs_recovery.specs.Checks.{PassesChecks, checked, free_checked, none_pending}
 use Rattle.sccs_recovery.specs.Commands.{Says, is_locked}
-use Rattle.sccs_recovery.specs.RecoverStep.{found_text, recover_action, recover_step, recovers, recovered_files}
+use Rattle.sccs_recovery.specs.RecoverStep.{found_text, recover_action, recover_outcome, recovers, recovered_files}
 use Rattle.sccs_recovery.specs.declared.recoveries.Recovered.{Recovered}
 use Rattle.sccs_recovery.specs.declared.recoveries.Recovered.TheVariants as ways
 use Rattle.sccs_recovery.proofs.RecoveryEnds.{Faults, cut_ends, fault_steps, is_said, made_ends, recovers_at, step_of}
 
 -- ---- views
+
+-- an intent that isn't there names no s-file
+none_named : (v : View) → v intent_file ≡ None → NamesNone v
+none_named v none = λ n sfile. ap (λ (o : Option Content). fate_in (entries_in o) n) none
+
+-- where the checks pass no intent is there
+free_of : (intent : Option Content) (checks : Result Bool Refusal) → (none_pending intent >>= λ free. checks) ≡ Ok true → intent ≡ None
+free_of None checks passed = refl
+free_of (Some c) checks passed = absurd cc
+
+-- while an intent is there nothing changes, so that a held name stays so
+pub pending_named : (n : List ℕ) (a b : Told) → IfSome (seen a) (λ (v : View). IsSome (v intent_file) → b ≡ a) → KeepsNamed n a b
+pending_named n a b pending m past is named held =
+    let same : b ≡ a = subst (λ (t : Told). IfSome (seen t) (λ (v : View). IsSome (v intent_file) → b ≡ a)) is pending (intent_there n (view_of m) named) in
+    record { added = []; is = same ∙ is; each = held }
 
 named_not : (f : Option Fate) → f ≡ None → IsSome f → ⊥
 named_not None is named = cc
@@ -117,18 +136,18 @@ made_at n (Err DiskFault) m past a b out out2 err sfile view says ends safe = ab
 made_at n (Err (Refused refusal)) m past a b out out2 err sfile view says ends safe = absurd says
 
 pub made_moments : (n : List ℕ) (found : Recovered) (r : Result (Unit {0}) StepFault) (a b : Told) (left out out2 err : Option (List ℕ)) → IsSfile n → Becomes (recover_alone n) (seen a) (seen b)
-    → IfSome (seen a) (λ (v : View). (found ≡ ways.Clean) ↔ (v (z_file n) ≡ None)) → IfSome (seen a) (λ (v : View). PassesChecks (checked n v) (Ok found)) → Says r (found_text n (is_locked found)) out out2 → RecoversOn a b → LeavesCalm a b
+    → IfSome (seen a) (λ (v : View). (found ≡ ways.Clean) ↔ (v (z_file n) ≡ None)) → IfSome (seen a) (λ (v : View). PassesChecks (free_checked n v) (Ok found)) → Says r (found_text n (is_locked found)) out out2 → RecoversOn a b → LeavesCalm a b
     → StepMoments recover_action r n left (scene a out err) (scene b out2 err)
 made_moments n found r a b left out out2 err sfile view clean checks says story leaves = λ m past i is heard calm may.
     let v : View = view_of m in
-    let at : IsCalmUnnamed m = record { calm = calm; unnamed = may.1 refl } in
+    let passed : PassesChecks (free_checked n v) (Ok found) = subst (λ (t : Told). IfSome (seen t) (λ (u : View). PassesChecks (free_checked n u) (Ok found))) is checks in
+    let at : IsCalmUnnamed m = record { calm = calm; unnamed = none_named v (free_of (v intent_file) (checked n v) passed) } in
     let view_is : seen b ≡ Some (recover_alone n v) = subst (λ (t : Told). Becomes (recover_alone n) (seen t) (seen b)) is view in
     let clean_is : (found ≡ ways.Clean) ↔ (v (z_file n) ≡ None) = subst (λ (t : Told). IfSome (seen t) (λ (u : View). (found ≡ ways.Clean) ↔ (u (z_file n) ≡ None))) is clean in
-    let passed : PassesChecks (checked n v) (Ok found) = subst (λ (t : Told). IfSome (seen t) (λ (u : View). PassesChecks (checked n u) (Ok found))) is checks in
     let said : Says r (recovers n (look v n)).out out out2 = subst (λ (z : Bool). Says r (found_text n z) out out2) (is_said found (v (z_file n)) clean_is) says in
-    subst (λ (t : Told). MeetsAt recover_action r n (recover_step n (look v n)) v m past (scene t out err) (scene b out2 err)) (sym is)
-    (subst (λ (o : Outcome). (met : Meets (λ (done : Unit {0}). 0) r n o (world (Some v) out err) (world (seen b) out2 err)) × Ends (meeting_place r n o (world (Some v) out err) (world (seen b) out2 err) met) recover_action n v (moved v n (effect_of n o).new) m past b) (sym (step_of n (look v n) (Ok true) passed))
-    (made_at n r m past a b out out2 err sfile view_is said (made_after n a b m past sfile story leaves is at) (λ changes. after_safe n v (is_some (v (z_file n))) refl sfile at.unnamed (may.0 changes))))
+    subst (λ (t : Told). MeetsAt recover_action r n (recover_outcome n (v intent_file ∷ []) (look v n)) v m past (scene t out err) (scene b out2 err)) (sym is)
+    (subst (λ (o : Outcome). (met : Meets (λ (done : Unit {0}). 0) r n o (world (Some v) out err) (world (seen b) out2 err)) × Ends (meeting_place r n o (world (Some v) out err) (world (seen b) out2 err) met) recover_action n v (moved v n (effect_of n o).new) m past b) (sym (step_of n v (Ok true) passed))
+    (made_at n r m past a b out out2 err sfile view_is said (made_after n a b m past sfile story leaves is at) (λ changes. after_safe n v (is_some (v (z_file n))) refl sfile at.unnamed (may changes))))
 
 -- the call answers a fault
 fault_at : (fault : StepFault) (n : List ℕ) (o : Outcome) (a b : Told) (out err : Option (List ℕ)) (m : Model) (past : List Model) → Faults n fault a b → RecoversOn a b → LeavesFirm a b → (fault ≡ Memory → TouchesOnly (is_working n) a b) → a ≡ Tells m past → IsSfile n → IsCalmUnnamed m → IsSafeFor recover_action n (view_of m)
@@ -142,15 +161,35 @@ fault_at WriteFault n o a b out err m past faults story leaves touches is sfile 
 fault_at DiskFault n o a b out err m past faults story leaves touches is sfile calm safe met =
     (stopped_within (moved (view_of m) n (effect_of n o).new) a b m past story leaves is calm, inr (stopped_same (moved (view_of m) n (effect_of n o).new) a b m past story leaves is calm))
 
+-- the same while an intent is there
+fault_pending : (fault : StepFault) (n : List ℕ) (o : Outcome) (a b : Told) (out err : Option (List ℕ)) (m : Model) (past : List Model) → Faults n fault a b → b ≡ a → a ≡ Tells m past → IsCalm m → IsSafeFor recover_action n (view_of m)
+    → (met : Meets (λ (done : Unit {0}). 0) (Err fault) n o (world (Some (view_of m)) out err) (world (seen b) out err)) → Ends (meeting_place (Err fault) n o (world (Some (view_of m)) out err) (world (seen b) out err) met) recover_action n (view_of m) (moved (view_of m) n (effect_of n o).new) m past b
+fault_pending (Refused refusal) n o a b out err m past faults same is calm safe met =
+    subst (λ (q : Outcome). EndsAfter (view_of m) (moved (view_of m) n (effect_of n q).new) m past b × IsSafeFor recover_action n (moved (view_of m) n (effect_of n q).new)) (sym met.0)
+    (before_after (view_of m) m past b (same_before m past b calm (same ∙ is)), safe)
+fault_pending Memory n o a b out err m past faults same is calm safe met = same_before m past b calm (same ∙ is)
+fault_pending ReadFault n o a b out err m past faults same is calm safe met = absurd (faults.read refl)
+fault_pending WriteFault n o a b out err m past faults same is calm safe met = absurd (faults.write refl)
+fault_pending DiskFault n o a b out err m past faults same is calm safe met =
+    let kept : EndsBefore (view_of m) m past b = same_before m past b calm (same ∙ is) in
+    (before_within (view_of m) (moved (view_of m) n (effect_of n o).new) m past b kept, inr (recovers_before (view_of m) m past b kept))
+
 pub fault_moments : (n : List ℕ) (fault : StepFault) (a b : Told) (left out err : Option (List ℕ)) → IsSfile n → Faults n fault a b → RecoversOn a b → LeavesFirm a b → (IsErrOf {T = Recovered} (Err fault) Memory → TouchesOnly (is_working n) a b)
     → StepMoments recover_action (Err fault) n left (scene a out err) (scene b out err)
 fault_moments n fault a b left out err sfile faults story leaves touches = λ m past i is heard calm may.
     let v : View = view_of m in
-    let o : Outcome = recover_step n (look v n) in
+    let o : Outcome = recover_outcome n (v intent_file ∷ []) (look v n) in
     let met : Meets (λ (done : Unit {0}). 0) (Err fault) n o (world (Some v) out err) (world (seen b) out err) =
-    subst (λ (t : Told). IfSome (seen t) (λ (u : View). (j : List ℕ) → IsHeard false left j → Meets (λ (done : Unit {0}). 0) (Err fault) n (recover_step n (look u n)) (world (seen t) out err) (world (seen b) out err))) is (fault_steps n fault a b left out err sfile faults) i heard in
+    subst (λ (t : Told). IfSome (seen t) (λ (u : View). (j : List ℕ) → IsHeard false left j → Meets (λ (done : Unit {0}). 0) (Err fault) n (recover_outcome n (u intent_file ∷ []) (look u n)) (world (seen t) out err) (world (seen b) out err))) is (fault_steps n fault a b left out err sfile faults) i heard in
     subst (λ (t : Told). MeetsAt recover_action (Err fault) n o v m past (scene t out err) (scene b out err)) (sym is)
-    (met, fault_at fault n o a b out err m past faults story leaves (λ e. touches (ap Err e)) is sfile (record { calm = calm; unnamed = may.1 refl }) may.0 met)
+    (met, by_intent m past is calm may o met (v intent_file) refl (subst (λ (t : Told). IfSome (seen t) (λ (u : View). IsSome (u intent_file) → b ≡ a)) is faults.pending))
+  where
+    by_intent : (m : Model) (past : List Model) → a ≡ Tells m past → IsCalm m → IsSafeFor recover_action n (view_of m) → (o : Outcome) → (met : Meets (λ (done : Unit {0}). 0) (Err fault) n o (world (Some (view_of m)) out err) (world (seen b) out err))
+        → (intent : Option Content) → view_of m intent_file ≡ intent → (IsSome (view_of m intent_file) → b ≡ a) → Ends (meeting_place (Err fault) n o (world (Some (view_of m)) out err) (world (seen b) out err) met) recover_action n (view_of m) (moved (view_of m) n (effect_of n o).new) m past b
+    by_intent m past is calm may o met None none pending =
+        fault_at fault n o a b out err m past faults story leaves (λ e. touches (ap Err e)) is sfile (record { calm = calm; unnamed = none_named (view_of m) none }) may met
+    by_intent m past is calm may o met (Some c) some pending =
+        fault_pending fault n o a b out err m past faults (pending (subst (λ (x : Option Content). IsSome x) (sym some) refl)) is calm may met
 
 -- ---- on a disk that isn't calm
 

@@ -1,5 +1,5 @@
 -- How the call of the command recover ends: the files of the name, and what is said.
-use Rattle.std.proofs.Common.{arith, ◌≡◌, ◌≢◌, ◌↔◌, ◌⊎◌, ⊎_elim, ℕ, ◌≤◌, Bool, true, false, cond, ◌||◌, List, [], drop, Option, None, Some, option_map, IfSome, IsErrOf, IsSome, is_some, Result, Ok, Err, inl, inr, refl, sym, ap, subst, ◌∙◌}
+use Rattle.std.proofs.Common.{arith, ◌≡◌, ◌≢◌, ◌↔◌, ◌⊎◌, ⊎_elim, ℕ, ◌≤◌, Bool, true, false, cond, ◌||◌, List, [], ◌∷◌, drop, Option, None, Some, option_map, IfSome, IsErrOf, IsSome, is_some, Result, Ok, Err, inl, inr, refl, sym, ap, subst, ◌∙◌}
 use Rattle.std.specs.Str.{bytes_eq}
 use Rattle.sccs_base.specs.Name.{IsSfile, is_sfile_name, sfile_name_decides, p_file, q_file, x_file, y_file, z_file}
 use Rattle.sccs_base.specs.Stream.{Rose}
@@ -14,7 +14,8 @@ use Rattle.sccs_sid.specs.declared.refusals.Refusal.{Refusal}
 use Rattle.sccs_sid.specs.declared.refusals.StepFault.{StepFault}
 use Rattle.sccs_sid.specs.declared.refusals.StepFault.TheVariants.{Refused, Memory, ReadFault, WriteFault, DiskFault}
 use Rattle.sccs_pfile.specs.Recovered.{recovered_pfile}
-use Rattle.sccs_files.specs.StepFiles.{AreCleared, Files, Moves, MovesPartly, is_left, is_working, look, moved, placed}
+use Rattle.sccs_files.specs.StepFiles.{AreCleared, Files, Moves, MovesPartly, is_left, is_working, l_file, look, moved, placed}
+use Rattle.sccs_intents.specs.Intents.{intent_file}
 use Rattle.sccs_moments.specs.Recovery.{cleaned, cleared, recover_alone, without_name}
 use Rattle.sccs_moments.proofs.FileNames.{from_g, from_sfile, no_q, no_working, no_y, no_z, working_s}
 use Rattle.sccs_moments.proofs.Recovering.{alone_by, cleared_other}
@@ -28,11 +29,11 @@ use Rattle.sccs_store.specs.Commits.{Becomes, IsPart, Plan, committed, files_aft
 use Rattle.sccs_store.specs.declared.new_files.NewFile.TheVariants.{Keep, Replace}
 use Rattle.sccs_store.proofs.Committed.{committed_at, part_at}
 use Rattle.sccs_store.proofs.Working.{becomes_moves}
-use Rattle.sccs_recovery.specs.Checks.{IsWithin, PassesChecks, checked, readable, recover_checks, recovers_if}
+use Rattle.sccs_recovery.specs.Checks.{IsWithin, PassesChecks, checked, free_checked, none_pending, readable, recover_checks, recovers_if}
 use Rattle.sccs_recovery.specs.Ends.{RecoversName}
 use Rattle.sccs_recovery.specs.Entries.{Finds}
 use Rattle.sccs_recovery.specs.Commands.{Says, is_locked}
-use Rattle.sccs_recovery.specs.RecoverStep.{files_checked, found_text, recover_action, recover_step, recovers, recovered_files}
+use Rattle.sccs_recovery.specs.RecoverStep.{files_checked, found_text, recover_action, recover_outcome, recover_step, recovers, recovered_files}
 use Rattle.sccs_recovery.specs.declared.recoveries.Recovered.{Recovered}
 use Rattle.sccs_recovery.specs.declared.recoveries.Recovered.TheVariants as ways
 use Rattle.sccs_recovery.specs.declared.entries_left.PfileLeft.{PfileLeft}
@@ -59,7 +60,7 @@ part_partly n c (Some v) (Some u) od sfile moves is part =
     ended : (k : List ℕ) → is_left n k ≡ false → (part_of n c part.0 u k ≡ v k) ⊎ (part_of n c part.0 u k ≡ placed v n (files_after n c u) k) → (part_of n c part.0 u k ≡ v k) ⊎ (part_of n c part.0 u k ≡ recover_alone n v k)
     ended k h (inl e) = inl e
     ended k h (inr e) =
-        inr (e ∙ (sym (committed_at n c u v k sfile (no_working n k h) (λ other. moves k (no_working n k h))) ∙ ap (λ (w : View). w k) (unsome (committed n c u) (recover_alone n v) is)))
+        inr (e ∙ (sym (committed_at n c u v k sfile (no_working n k h) (λ off other. moves k (no_working n k h))) ∙ ap (λ (w : View). w k) (unsome (committed n c u) (recover_alone n v) is)))
 
 gone_by : (x q y : Bool) (o : Option Content) → (x || (q || y)) ≡ true → cond y None (cond q None (cond x None o)) ≡ None
 gone_by true q true o is = refl
@@ -107,8 +108,8 @@ as_plan = plan false Replace Keep
 as_commit : (n : List ℕ) (v : View) → is_some (v (z_file n)) ≡ true → recover_alone n v ≡ committed n as_plan (with_q n v)
 as_commit n v there = ap (alone_by n v) there ∙ sym (ap (without_name (z_file n)) (q_placed n (cleared n v) (recovered_pfile (v n) (v (p_file n))) (cleared_q n v)))
 
-abbrev files : Option Content → Option Content → Option Content → Files
-files s p g = record { s = s; p = p; z = None; g = g }
+abbrev files : Option Content → Option Content → Option Content → Option Content → Files
+files s p g l = record { s = s; p = p; z = None; g = g; l = l }
 
 files_are : (n : List ℕ) (v : View) → IsSfile n → files_after n as_plan (with_q n v) ≡ recovered_files (look v n)
 files_are n v sfile =
@@ -116,12 +117,15 @@ files_are n v sfile =
     let s_is : with_q n v n ≡ v n = put_other (cleared n v) (q_file n) n p (from_sfile 113 n n sfile refl) ∙ cleared_other n v n (working_s n n sfile) in
     let p_is : with_q n v (q_file n) ≡ p = put_same (cleared n v) (q_file n) p in
     let g_is : with_q n v (drop 2 n) ≡ v (drop 2 n) = put_other (cleared n v) (q_file n) (drop 2 n) p (from_g 113 n sfile) ∙ cleared_other n v (drop 2 n) (working_g n sfile) in
-    ap (λ (o : Option Content). files o (with_q n v (q_file n)) (with_q n v (drop 2 n))) s_is ∙ (ap (λ (o : Option Content). files (v n) o (with_q n v (drop 2 n))) p_is ∙ ap (λ (o : Option Content). files (v n) p o) g_is)
+    let l_is : with_q n v (l_file n) ≡ v (l_file n) = put_other (cleared n v) (q_file n) (l_file n) p refl ∙ cleared_other n v (l_file n) refl in
+    ap (λ (o : Option Content). files o (with_q n v (q_file n)) (with_q n v (drop 2 n)) (with_q n v (l_file n))) s_is
+    ∙ (ap (λ (o : Option Content). files (v n) o (with_q n v (drop 2 n)) (with_q n v (l_file n))) p_is
+    ∙ (ap (λ (o : Option Content). files (v n) p o (with_q n v (l_file n))) g_is ∙ ap (λ (o : Option Content). files (v n) p (v (drop 2 n)) o) l_is))
 
 unlocked_at : (n : List ℕ) (v : View) (k : List ℕ) → IsSfile n → is_some (v (z_file n)) ≡ true → is_working n k ≡ false → recover_alone n v k ≡ placed v n (recovered_files (look v n)) k
 unlocked_at n v k sfile there h =
     ap (λ (u : View). u k) (as_commit n v there)
-    ∙ (committed_at n as_plan (with_q n v) v k sfile h (λ other. put_other (cleared n v) (q_file n) k (recovered_pfile (v n) (v (p_file n))) (no_q n k h) ∙ cleared_other n v k h)
+    ∙ (committed_at n as_plan (with_q n v) v k sfile h (λ off other. put_other (cleared n v) (q_file n) k (recovered_pfile (v n) (v (p_file n))) (no_q n k h) ∙ cleared_other n v k h)
     ∙ ap (λ (f : Files). placed v n f k) (files_are n v sfile))
 
 -- what recovery makes of the files is what the step says
@@ -150,9 +154,15 @@ recovered_clears n v k h = by (is_some (v (z_file n)))
 
 -- ---- how the call ends
 
-pub step_of : (n : List ℕ) (f : Files) (r : Result Bool Refusal) → files_checked f ≡ r → recover_step n f ≡ (r >>= λ done. Ok (recovers n f))
+step_by : (n : List ℕ) (f : Files) (p : Result Bool Refusal) → (p >>= λ free. recover_step n f) ≡ ((p >>= λ free. files_checked f) >>= λ done. Ok (recovers n f))
 unfolding recover_step
-step_of n f r is = ap (λ (x : Result Bool Refusal). x >>= λ done. Ok (recovers n f)) is
+step_by n f (Ok free) = refl
+step_by n f (Err refusal) = refl
+
+-- the step by its checks
+pub step_of : (n : List ℕ) (v : View) (r : Result Bool Refusal) → free_checked n v ≡ r → recover_outcome n (v intent_file ∷ []) (look v n) ≡ (r >>= λ done. Ok (recovers n (look v n)))
+unfolding recover_outcome
+step_of n v r is = step_by n (look v n) (none_pending (v intent_file)) ∙ ap (λ (x : Result Bool Refusal). x >>= λ done. Ok (recovers n (look v n))) is
 
 -- what is said is whether the z-file was there
 pub is_said : (found : Recovered) (o : Option Content) → (found ≡ ways.Clean) ↔ (o ≡ None) → is_locked found ≡ is_some o
@@ -198,29 +208,30 @@ made_ends n v (Err DiskFault) o2 out out2 err sfile is says = absurd says
 made_ends n v (Err (Refused refusal)) o2 out out2 err sfile is says = absurd says
 
 pub made_steps : (n : List ℕ) (found : Recovered) (r : Result (Unit {0}) StepFault) (a b : Told) (left out out2 err : Option (List ℕ)) → IsSfile n → Becomes (recover_alone n) (seen a) (seen b)
-    → IfSome (seen a) (λ (v : View). (found ≡ ways.Clean) ↔ (v (z_file n) ≡ None)) → IfSome (seen a) (λ (v : View). PassesChecks (checked n v) (Ok found)) → Says r (found_text n (is_locked found)) out out2
+    → IfSome (seen a) (λ (v : View). (found ≡ ways.Clean) ↔ (v (z_file n) ≡ None)) → IfSome (seen a) (λ (v : View). PassesChecks (free_checked n v) (Ok found)) → Says r (found_text n (is_locked found)) out out2
     → Stepped recover_action r n left (scene a out err) (scene b out2 err)
 made_steps n found r a b left out out2 err sfile view clean checks says = by (seen a) view clean checks
   where
-    by : (o : Option View) → Becomes (recover_alone n) o (seen b) → IfSome o (λ (v : View). (found ≡ ways.Clean) ↔ (v (z_file n) ≡ None)) → IfSome o (λ (v : View). PassesChecks (checked n v) (Ok found))
-        → IfSome o (λ (v : View). (i : List ℕ) → IsHeard false left i → Meets (λ (done : Unit {0}). 0) r n (recover_step n (look v n)) (world o out err) (world (seen b) out2 err))
+    by : (o : Option View) → Becomes (recover_alone n) o (seen b) → IfSome o (λ (v : View). (found ≡ ways.Clean) ↔ (v (z_file n) ≡ None)) → IfSome o (λ (v : View). PassesChecks (free_checked n v) (Ok found))
+        → IfSome o (λ (v : View). (i : List ℕ) → IsHeard false left i → Meets (λ (done : Unit {0}). 0) r n (recover_outcome n (v intent_file ∷ []) (look v n)) (world o out err) (world (seen b) out2 err))
     by None view clean checks = tt
     by (Some v) view clean checks = λ i heard.
-        subst (λ o. Meets (λ (done : Unit {0}). 0) r n o (world (Some v) out err) (world (seen b) out2 err)) (sym (step_of n (look v n) (Ok true) checks))
+        subst (λ o. Meets (λ (done : Unit {0}). 0) r n o (world (Some v) out err) (world (seen b) out2 err)) (sym (step_of n v (Ok true) checks))
         (made_ends n v r (seen b) out out2 err sfile view (subst (λ (z : Bool). Says r (found_text n z) out out2) (is_said found (v (z_file n)) clean) says))
 
 -- what is asked of a call that answers a fault
 pub record Faults (n : List ℕ) (fault : StepFault) (a b : Told) : Type 0 where
-  pub checks : IfSome (seen a) (λ (v : View). PassesChecks {A = Recovered} (checked n v) (Err fault))
+  pub checks : IfSome (seen a) (λ (v : View). PassesChecks {A = Recovered} (free_checked n v) (Err fault))
+  pub pending : IfSome (seen a) (λ (v : View). IsSome (v intent_file) → b ≡ a)
   pub refused : (refusal : Refusal) → fault ≡ Refused refusal → b ≡ a
   pub memory : fault ≡ Memory → Moves (is_working n) (λ v. v) (seen a) (seen b)
   pub cleared : fault ≡ Memory → AreCleared n (seen a) (seen b)
-  pub partly : fault ≡ DiskFault → MovesPartly (is_left n) (λ (v : View). recovers_if (checked n v) n v) (seen a) (seen b)
+  pub partly : fault ≡ DiskFault → MovesPartly (is_left n) (λ (v : View). recovers_if (free_checked n v) n v) (seen a) (seen b)
   pub read : fault ≢ ReadFault
   pub write : fault ≢ WriteFault
 
 -- each file is as it was, or as the step would make it
-partly_by : (n : List ℕ) (v : View) (o2 : Option View) (r : Result Bool Refusal) → checked n v ≡ r → MovesPartly (is_left n) (λ (u : View). recovers_if (checked n u) n u) (Some v) o2 → MovesPartly (is_left n) (λ (u : View). recovers_if r n u) (Some v) o2
+partly_by : (n : List ℕ) (v : View) (o2 : Option View) (r : Result Bool Refusal) → free_checked n v ≡ r → MovesPartly (is_left n) (λ (u : View). recovers_if (free_checked n u) n u) (Some v) o2 → MovesPartly (is_left n) (λ (u : View). recovers_if r n u) (Some v) o2
 partly_by n v None r is parts = absurd parts
 partly_by n v (Some w) r is parts = λ k h. subst (λ (x : Result Bool Refusal). (w k ≡ v k) ⊎ (w k ≡ recovers_if x n v k)) is (parts k h)
 
@@ -249,7 +260,7 @@ recovered_or_not n v w f same parts = ⊎_elim old_one new_one (parts (p_file n)
 
 in_order : (n : List ℕ) (v : View) (o2 : Option View) (new : Option Files) → ((k : List ℕ) → is_left n k ≡ false → recover_alone n v k ≡ moved v n new k) → MovesPartly (is_left n) (recover_alone n) (Some v) o2 → MovesInOrder n new (Some v) o2
 in_order n v None new same parts = absurd parts
-in_order n v (Some w) new same parts = ⊎_elim (λ old. (0, old)) (λ made. (3, made)) (recovered_or_not n v w (moved v n new) same parts)
+in_order n v (Some w) new same parts = ⊎_elim (λ old. (0, old)) (λ made. (4, made)) (recovered_or_not n v w (moved v n new) same parts)
 
 all_kept : (n : List ℕ) (v : View) (o2 : Option View) → MovesPartly (is_left n) (λ (u : View). u) (Some v) o2 → Moves (is_left n) (λ u. u) (Some v) o2
 all_kept n v None parts = absurd parts
@@ -260,29 +271,29 @@ interrupted : (n : List ℕ) (v : View) (o2 : Option View) (r : Result Bool Refu
 interrupted n v o2 (Ok done) out err sfile parts = record { view = in_order n v o2 (recovers n (look v n)).new (λ k h. recovers_at n v k sfile (no_working n k h)) parts; out = some_none out []; err = refl }
 interrupted n v o2 (Err refusal) out err sfile parts = record { view = (0, all_kept n v o2 parts); out = some_none out []; err = refl }
 
-fault_ends : (n : List ℕ) (v : View) (fault : StepFault) (r : Result Bool Refusal) (a b : Told) (out err : Option (List ℕ)) → IsSfile n → seen a ≡ Some v → checked n v ≡ r → Faults n fault a b
+fault_ends : (n : List ℕ) (v : View) (fault : StepFault) (r : Result Bool Refusal) (a b : Told) (out err : Option (List ℕ)) → IsSfile n → seen a ≡ Some v → free_checked n v ≡ r → Faults n fault a b
     → Meets (λ (done : Unit {0}). 0) (Err fault) n (r >>= λ done. Ok (recovers n (look v n))) (world (Some v) out err) (world (seen b) out err)
 fault_ends n v (Refused refusal) r a b out err sfile told is faults =
     ends_silent v (seen b) n (r >>= λ done. Ok (recovers n (look v n))) (Refused refusal) out err (ap seen (faults.refused refusal refl) ∙ told)
-    (ap (λ (x : Result Bool Refusal). x >>= λ done. Ok (recovers n (look v n))) (sym is ∙ subst (λ (o : Option View). IfSome o (λ (u : View). PassesChecks {A = Recovered} (checked n u) (Err (Refused refusal)))) told faults.checks))
+    (ap (λ (x : Result Bool Refusal). x >>= λ done. Ok (recovers n (look v n))) (sym is ∙ subst (λ (o : Option View). IfSome o (λ (u : View). PassesChecks {A = Recovered} (free_checked n u) (Err (Refused refusal)))) told faults.checks))
 fault_ends n v Memory r a b out err sfile told is faults = record {
-  view = subst (λ (o : Option View). Moves (is_working n) (λ u. u) o (seen b)) told (faults.memory refl);
+  view = (false, subst (λ (o : Option View). Moves (is_working n) (λ u. u) o (seen b)) told (faults.memory refl));
   cleared = subst (λ (o : Option View). AreCleared n o (seen b)) told (faults.cleared refl);
   out = some_none out _;
   err = refl;
 }
 fault_ends n v DiskFault r a b out err sfile told is faults =
-    interrupted n v (seen b) r out err sfile (partly_by n v (seen b) r is (subst (λ (o : Option View). MovesPartly (is_left n) (λ (u : View). recovers_if (checked n u) n u) o (seen b)) told (faults.partly refl)))
+    interrupted n v (seen b) r out err sfile (partly_by n v (seen b) r is (subst (λ (o : Option View). MovesPartly (is_left n) (λ (u : View). recovers_if (free_checked n u) n u) o (seen b)) told (faults.partly refl)))
 fault_ends n v ReadFault r a b out err sfile told is faults = absurd (faults.read refl)
 fault_ends n v WriteFault r a b out err sfile told is faults = absurd (faults.write refl)
 
 pub fault_steps : (n : List ℕ) (fault : StepFault) (a b : Told) (left out err : Option (List ℕ)) → IsSfile n → Faults n fault a b → Stepped recover_action (Err fault) n left (scene a out err) (scene b out err)
 fault_steps n fault a b left out err sfile faults = by (seen a) refl
   where
-    by : (o : Option View) → seen a ≡ o → IfSome o (λ (v : View). (i : List ℕ) → IsHeard false left i → Meets (λ (done : Unit {0}). 0) (Err fault) n (recover_step n (look v n)) (world o out err) (world (seen b) out err))
+    by : (o : Option View) → seen a ≡ o → IfSome o (λ (v : View). (i : List ℕ) → IsHeard false left i → Meets (λ (done : Unit {0}). 0) (Err fault) n (recover_outcome n (v intent_file ∷ []) (look v n)) (world o out err) (world (seen b) out err))
     by None told = tt
     by (Some v) told = λ i heard.
-        subst (λ o. Meets (λ (done : Unit {0}). 0) (Err fault) n o (world (Some v) out err) (world (seen b) out err)) (sym (step_of n (look v n) (checked n v) refl)) (fault_ends n v fault (checked n v) a b out err sfile told refl faults)
+        subst (λ o. Meets (λ (done : Unit {0}). 0) (Err fault) n o (world (Some v) out err) (world (seen b) out err)) (sym (step_of n v (free_checked n v) refl)) (fault_ends n v fault (free_checked n v) a b out err sfile told refl faults)
 
 -- ---- what is said, over any disk
 
@@ -355,14 +366,33 @@ fault_causes fault i o e d d2 later within cause = record {
   broke = λ is. cause (let same : fault ≡ DiskFault = cc in ap Err same);
 }
 
+-- each file is as it was while an intent is there
+free_partly : (n : List ℕ) (a b : Told) → IfSome (seen a) (λ (v : View). IsSome (v intent_file) → b ≡ a) → MovesPartly (is_left n) (λ (v : View). recovers_if (checked n v) n v) (seen a) (seen b) → MovesPartly (is_left n) (λ (v : View). recovers_if (free_checked n v) n v) (seen a) (seen b)
+free_partly n a b pending parts = by (seen a) refl pending parts
+  where
+    by_intent : (v : View) (intent : Option Content) → seen a ≡ Some v → v intent_file ≡ intent → (IsSome intent → b ≡ a) → MovesPartly (is_left n) (λ (u : View). recovers_if (checked n u) n u) (Some v) (seen b)
+        → MovesPartly (is_left n) (λ (u : View). recovers_if (free_checked n u) n u) (Some v) (seen b)
+    by_intent v None told is same moved = with_none (seen b) moved
+      where
+        with_none : (o2 : Option View) → MovesPartly (is_left n) (λ (u : View). recovers_if (checked n u) n u) (Some v) o2 → MovesPartly (is_left n) (λ (u : View). recovers_if (free_checked n u) n u) (Some v) o2
+        with_none None moved = absurd moved
+        with_none (Some w) moved = λ k h. subst (λ (r : Result Bool Refusal). (w k ≡ v k) ⊎ (w k ≡ recovers_if r n v k)) (sym (ap (λ (o : Option Content). none_pending o >>= λ free. checked n v) is)) (moved k h)
+    by_intent v (Some c) told is same moved = subst (λ (o : Option View). MovesPartly (is_left n) (λ (u : View). recovers_if (free_checked n u) n u) (Some v) o) (sym (ap seen (same refl) ∙ told)) (λ k h. inl refl)
+
+    by : (o : Option View) → seen a ≡ o → IfSome o (λ (v : View). IsSome (v intent_file) → b ≡ a) → MovesPartly (is_left n) (λ (v : View). recovers_if (checked n v) n v) o (seen b) → MovesPartly (is_left n) (λ (v : View). recovers_if (free_checked n v) n v) o (seen b)
+    by None told pending moved = moved
+    by (Some v) told pending moved = by_intent v (v intent_file) told refl pending moved
+
 -- what the call says where it answers a fault
-pub faults_of : (n : List ℕ) (fault : StepFault) (a b : Told) (f f2 : ℕ) → IfSome (seen a) (λ (v : View). PassesChecks {A = Recovered} (checked n v) (Err fault)) → RecoversName {T = Recovered} n a b f f2 (Err fault) → Faults n fault a b
-faults_of n fault a b f f2 checks ends = record {
+pub faults_of : (n : List ℕ) (fault : StepFault) (a b : Told) (f f2 : ℕ) → IfSome (seen a) (λ (v : View). PassesChecks {A = Recovered} (free_checked n v) (Err fault)) → IfSome (seen a) (λ (v : View). IsSome (v intent_file) → b ≡ a) → RecoversName {T = Recovered} n a b f f2 (Err fault)
+    → Faults n fault a b
+faults_of n fault a b f f2 checks pending ends = record {
   checks = checks;
+  pending = pending;
   refused = λ refusal is. ends.refused refusal (ap Err is);
   memory = λ is. ends.memory (ap Err is);
   cleared = λ is. ends.cleared (ap Err is);
-  partly = λ is. ends.partly (ap Err is);
+  partly = λ is. free_partly n a b pending (ends.partly (ap Err is));
   read = λ is. ends.within.read (ap Err is);
   write = λ is. ends.within.write (ap Err is);
 }

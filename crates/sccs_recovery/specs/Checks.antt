@@ -1,11 +1,11 @@
--- The checks that recovery makes where it finds a z-file (own), and their order.
+-- The checks that recovery makes (own), and their order: no intent is there; and where a z-file is, the files of the name can be read.
 use Rattle.std.specs.Prelude.{◌≡◌, ◌≢◌, ◌∷◌, ℕ, Bool, true, List, [], length, nat_lt, Option, None, Some, is_some, option_map, Result, Ok, Err, if◌then◌else◌}
 use Rattle.sccs_base.specs.Name.{p_file, z_file}
 use Rattle.sccs_disk.specs.Files.{Content, View}
 use Rattle.sccs_sid.specs.Reading.{◌>>=◌}
 use Rattle.sccs_sid.specs.Refusal.{number_of}
 use Rattle.sccs_sid.specs.declared.refusals.Refusal.{Refusal}
-use Rattle.sccs_sid.specs.declared.refusals.Refusal.TheVariants.{BadPfile, TooLong}
+use Rattle.sccs_sid.specs.declared.refusals.Refusal.TheVariants.{BadIntent, BadPfile, GroupPending, TooLong}
 use Rattle.sccs_sid.specs.declared.refusals.Refusal.TheVariants as refusals
 use Rattle.sccs_sid.specs.declared.refusals.StepFault.{StepFault}
 use Rattle.sccs_sid.specs.declared.refusals.StepFault.TheVariants.{Refused, ReadFault, WriteFault}
@@ -14,9 +14,21 @@ use Rattle.sccs_grammar.specs.File.{answer, file_of}
 use Rattle.sccs_grammar.specs.FileRefusals.{or_refusal}
 use Rattle.sccs_table.specs.declared.fronts.Front.{Front}
 use Rattle.sccs_pfile.specs.Reading.{edits_of}
+use Rattle.sccs_intents.specs.Intents.{intent_file, intent_of}
+use Rattle.sccs_intents.specs.declared.intents.Entry.{Entry}
 use Rattle.sccs_moments.specs.Recovery.{recover_alone}
 use Rattle.sccs_steps.specs.Actions.{RefusesWithin}
 use Rattle.sccs_pfile.specs.declared.entries.Edit.{Edit}
+
+-- a group whose intent is of its form is to be finished first; another intent is at fault at its first line that isn't
+abbrev pub refuses_intent : Result (List Entry) ℕ → Refusal
+refuses_intent (Ok entries) = GroupPending
+refuses_intent (Err line) = BadIntent line
+
+-- no intent is there
+abbrev pub none_pending : Option Content → Result Bool Refusal
+none_pending None = Ok true
+none_pending (Some c) = Err (refuses_intent (intent_of c.bytes))
 
 -- the bytes of a file, where it is there; a file past the limit is refused
 abbrev pub bytes_read : Option Content → Result (Option (List ℕ)) Refusal
@@ -49,6 +61,10 @@ readable s p = do
 abbrev pub checked : List ℕ → View → Result Bool Refusal
 checked n v = if is_some (v (z_file n)) then readable (v n) (v (p_file n)) else Ok true
 
+-- the same, where no intent is there
+abbrev pub free_checked : List ℕ → View → Result Bool Refusal
+free_checked n v = none_pending (v intent_file) >>= λ free. checked n v
+
 -- what a call returned is what is read, or its refusal; a fault may come in place of either
 abbrev pub ReadsOrRefuses : {A : Type 0} → Result A Refusal → Result A StepFault → Type 0
 ReadsOrRefuses read (Ok x) = read ≡ Ok x
@@ -70,12 +86,17 @@ PassesChecks checks (Ok x) = checks ≡ Ok true
 PassesChecks checks (Err (Refused refusal)) = checks ≡ Err refusal
 PassesChecks checks (Err fault) = Unit {0}
 
+-- an intent that is there refuses so, and a fault may come in place of it
+abbrev pub RefusesIntent : Result (List Entry) ℕ → StepFault → Type 0
+RefusesIntent read (Refused refusal) = refusal ≡ refuses_intent read
+RefusesIntent read fault = Unit {0}
+
 -- the numbers of the checks; only where the disk tells nothing an s-file may be missing (3) that was there
 abbrev pub recover_checks : List ℕ
 recover_checks =
     number_of refusals.Missing ∷ number_of refusals.TooLong ∷ number_of refusals.NotSccs
     ∷ number_of (refusals.BadSum 0 0) ∷ number_of (refusals.BadFormat 0) ∷ number_of refusals.Encoded
-    ∷ number_of (refusals.BadPfile 0) ∷ []
+    ∷ number_of (refusals.BadPfile 0) ∷ number_of refusals.GroupPending ∷ number_of (refusals.BadIntent 0) ∷ []
 
 -- Only these checks refuse, and no stream fails.
 pub record IsWithin {T : Type 0} (result : Result T StepFault) : Type 0 where

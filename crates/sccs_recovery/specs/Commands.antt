@@ -1,11 +1,15 @@
 -- What the command recover says.
-use Rattle.std.specs.Prelude.{ℕ, Bool, true, false, List, Option, Result, Ok, Err}
+use Rattle.std.specs.Prelude.{◌≡◌, ℕ, Bool, true, false, List, [], ◌∷◌, Option, None, Some, IsSome, Result, Ok, Err}
 use Rattle.sccs_base.specs.Name.{sfile_name_decides}
 use Rattle.sccs_base.specs.Stream.{GivesOk, GivesSome}
 use Rattle.sccs_sid.specs.declared.refusals.StepFault.{StepFault}
 use Rattle.sccs_sid.specs.declared.refusals.StepFault.TheVariants.{WriteFault}
+use Rattle.sccs_disk.specs.Files.{Content}
+use Rattle.sccs_files.specs.StepFiles.{Files}
+use Rattle.sccs_intents.specs.Intents.{intent_file}
 use Rattle.sccs_steps.specs.Actions.{KeepsFiles}
-use Rattle.sccs_recovery.specs.RecoverStep.{recover_action}
+use Rattle.sccs_steps.specs.StepEffects.{StepEffect}
+use Rattle.sccs_recovery.specs.RecoverStep.{recover_action, recover_outcome}
 use Rattle.sccs_recovery.specs.declared.recoveries.Recovered.{Recovered}
 use Rattle.sccs_recovery.specs.declared.recoveries.Recovered.TheVariants as found
 
@@ -20,6 +24,17 @@ Says (Ok done) text out out2 = GivesOk out out2 text
 Says (Err WriteFault) text out out2 = GivesSome out out2 text
 Says (Err fault) text out out2 = ⊥
 
+-- an intent that is there refuses the step
+pub refused_step : (n : List ℕ) (intent : Option Content) (f : Files) (d : StepEffect) → IsSome intent → recover_outcome n (intent ∷ []) f ≡ Ok d → d.new ≡ None
+unfolding recover_outcome
+refused_step n None f d there is = absurd cc
+refused_step n (Some c) f d there is = absurd cc
+
 -- it doesn't only read
 pub recover_keeps : KeepsFiles recover_action
-recover_keeps = record { quiet = λ reads n i named f d is. absurd cc; names = λ changes n fits. ((sfile_name_decides n).0 fits).1; locked = λ changes locks n i named f d is there g new. absurd cc }
+recover_keeps = record {
+  quiet = λ reads n i named f d is. absurd cc;
+  names = λ changes n fits. ((sfile_name_decides n).0 fits).1;
+  locked = λ changes locks n i named f d is there g new. absurd cc;
+  pending = λ changes never n i v f d there is. refused_step n (v intent_file) f d there is;
+}

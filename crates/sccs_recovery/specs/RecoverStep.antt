@@ -1,18 +1,20 @@
 -- What the command recover does with the files of a name (own).
-use Rattle.std.specs.Prelude.{ℕ, Bool, false, true, List, [], ◌++◌, codes, None, Some, is_some, Result, Ok, if◌then◌else◌}
+use Rattle.std.specs.Prelude.{ℕ, Bool, false, true, List, [], ◌∷◌, ◌++◌, codes, Option, None, Some, is_some, Result, Ok, if◌then◌else◌}
 use Rattle.sccs_base.specs.Name.{is_sfile_name}
 use Rattle.sccs_sid.specs.Reading.{◌>>=◌}
 use Rattle.sccs_sid.specs.declared.refusals.Refusal.{Refusal}
+use Rattle.sccs_disk.specs.Files.{Content}
+use Rattle.sccs_intents.specs.Intents.{intent_file}
 use Rattle.sccs_files.specs.StepFiles.{Files}
 use Rattle.sccs_pfile.specs.Recovered.{recovered_pfile}
 use Rattle.sccs_steps.specs.StepEffects.{Outcome, StepEffect}
 use Rattle.sccs_steps.specs.Actions.{Action, quiet_checks}
 use Rattle.sccs_steps.specs.declared.statuses.StatusRule.TheVariants.{Greatest}
-use Rattle.sccs_recovery.specs.Checks.{readable, recover_checks}
+use Rattle.sccs_recovery.specs.Checks.{none_pending, readable, recover_checks}
 
 -- the entries whose delta is made leave the p-file, and the z-file goes
 abbrev pub recovered_files : Files → Files
-recovered_files f = record { s = f.s; p = recovered_pfile f.s f.p; z = None; g = f.g }
+recovered_files f = record { s = f.s; p = recovered_pfile f.s f.p; z = None; g = f.g; l = f.l }
 
 -- a name, and how it was found
 abbrev pub found_text : List ℕ → Bool → List ℕ
@@ -37,5 +39,16 @@ recover_step n f = do
   done ← files_checked f
   Ok (recovers n f)
 
+-- the intent, as the one file that is named
+abbrev pub intent_in : List (Option Content) → Option Content
+intent_in [] = None
+intent_in (intent ∷ others) = intent
+
+-- nothing is recovered while an intent is there
+unfoldable pub recover_outcome : List ℕ → List (Option Content) → Files → Outcome
+recover_outcome n named f = do
+  free ← none_pending (intent_in named)
+  recover_step n f
+
 abbrev pub recover_action : Action
-recover_action = record { fits = is_sfile_name; step = λ n input named files. recover_step n files; named = λ n. []; takes = false; reads = false; locks = false; silent = false; rule = Greatest; could = quiet_checks recover_checks }
+recover_action = record { fits = is_sfile_name; step = λ n input named files. recover_outcome n named files; named = λ n. intent_file ∷ []; takes = false; reads = false; locks = false; silent = false; rule = Greatest; could = quiet_checks recover_checks }

@@ -6,7 +6,8 @@ ghost use Rattle.sccs_steps.specs.Causes.{WriteCauses};
 ghost use Rattle.sccs_recovery.specs.Commands.{Says, is_locked, recover_keeps};
 ghost use Rattle.sccs_recovery.specs.RecoverStep.{found_text, recover_action};
 
-use crate::recoveries::{Recovered, recover};
+use crate::pending::recover_free;
+use crate::recoveries::Recovered;
 use sccs_base::{Name, Sink, Source, give_parts};
 use sccs_disk::Disk;
 use sccs_sid::StepFault;
@@ -14,7 +15,8 @@ use sccs_steps::Utility;
 use std::alloc::Global;
 
 /// recover on a name: what a step that was stopped had begun is finished or undone, and the answer says which
-/// names were locked. It refuses a locked name whose files are too long or can't be read.
+/// names were locked. It refuses a locked name whose files are too long or can't be read, and each name while
+/// the intent of a group is there: that is to be finished first, or isn't of its form.
 #[derive(Clone, Copy)]
 pub struct Recover;
 
@@ -55,7 +57,7 @@ impl Utility for Recover {
         _err: &mut E,
         disk: &mut D,
     ) -> Result<(), StepFault> {
-        match recover(alloc, disk, name) {
+        match recover_free(alloc, disk, name) {
             Ok(found) => say(name, found, out),
             Err(fault) => Err(fault),
         }

@@ -3,6 +3,7 @@
 
 mod commands;
 mod entries_left;
+mod pending;
 mod readings;
 mod recoveries;
 

@@ -73,14 +73,14 @@ fn read_s<D: Disk>(alloc: Global, disk: &mut D, name: &Name) -> Result<Option<Fr
 }
 
 // what is left of entries; all of them where there is no s-file
-fn left_of(front: Option<Front>, edits: Edits) -> PfileLeft
+fn left_of(alloc: Global, front: Option<Front>, edits: Edits) -> PfileLeft
     requires { All IsEdit edits }
     ensures left { (s : Option Content) (c : Content) → table_read s ≡ Ok (table_in front) → edits_of c.bytes ≡ Ok edits
         → Recovers s (Some c) result }
     ensures entries { HasEntries result }
 {
     match front {
-        Some(front) => entries_left(front.header.records.items(), edits),
+        Some(front) => entries_left(alloc, front.header.records.items(), edits),
         None => PfileLeft::Same,
     }
 }
@@ -99,7 +99,7 @@ fn left_of_bytes(
 {
     match bytes {
         Some(all) => match read_edits(alloc, all.bytes()) {
-            Ok(edits) => Ok(left_of(front, edits)),
+            Ok(edits) => Ok(left_of(alloc, front, edits)),
             Err(PfileFault::BadPfile(line)) => Err(StepFault::Refused(Refusal::BadPfile(line))),
             Err(PfileFault::Memory) => Err(StepFault::Memory),
         },

@@ -54,7 +54,7 @@ from_content : (words : AdminWords) (text : List ℕ) (parsed : Parsed) (new : H
 from_content words text parsed new texts None read is are = absurd cc
 from_content words text parsed new texts (Some c) read is are = altered_versions words c.bytes text parsed new texts c refl (same_read words.fix c.bytes are.file parsed are.reads (answer_read words.fix c.bytes parsed read)) is are
 
-made_is : (c : Content) (f : Files) (d : StepEffect) → makes c f ≡ Ok d → d.new ≡ Some (record { s = Some c; p = f.p; z = None; g = f.g })
+made_is : (c : Content) (f : Files) (d : StepEffect) → makes c f ≡ Ok d → d.new ≡ Some (record { s = Some c; p = f.p; z = None; g = f.g; l = f.l })
 made_is c f d is = sym (ap new_of is)
   where
     new_of : Outcome → Option Files

@@ -12,7 +12,7 @@ use Rattle.sccs_sid.specs.declared.refusals.Refusal.TheVariants.{Locked}
 use Rattle.sccs_grammar.specs.File.{answer, file_of}
 use Rattle.sccs_grammar.specs.FileRefusals.{or_refusal}
 use Rattle.sccs_words.specs.declared.commands.GetWords.{GetWords}
-use Rattle.sccs_files.specs.StepFiles.{Files, moved_in}
+use Rattle.sccs_files.specs.StepFiles.{Files, l_file, moved_in}
 use Rattle.sccs_files.proofs.Folders.{moved_view}
 use Rattle.sccs_moments.specs.Recovery.{is_kept}
 use Rattle.sccs_moments.proofs.FileNames.{from_sfile, kept_s}
@@ -24,7 +24,8 @@ use Rattle.sccs_transactions.specs.Changes.{locking_step}
 use Rattle.sccs_edit.specs.SactStep.{found_edits, sact_step, shows_entries}
 use Rattle.sccs_get.specs.EditStep.{edit_outcome, edit_effect, reserved_of}
 use Rattle.sccs_get.specs.VersionStep.{found_version, g_is_free, get_outcome, get_effect, has_its_keywords, lines_got, stays_writable, given_text, with_g, writes_g}
-use Rattle.sccs_recovery.specs.RecoverStep.{files_checked, recover_step, recovers, recovered_files}
+use Rattle.sccs_recovery.specs.Checks.{none_pending}
+use Rattle.sccs_recovery.specs.RecoverStep.{files_checked, intent_in, recover_outcome, recover_step, recovers, recovered_files}
 
 -- the s-file behind a step that makes these files
 abbrev pub s_of : Option Content → Option Files → Option Content
@@ -80,9 +81,13 @@ pub sact_leaves : (heading : Bool) (n : List ℕ) (f : Files) → Leaves f.s (sa
 unfolding sact_step
 sact_leaves heading n f = passed_leaves f.s (found_edits f) _ (λ edits. done_leaves f.s (shows_entries heading n edits) refl)
 
-pub recover_leaves : (n : List ℕ) (f : Files) → Leaves f.s (recover_step n f)
+step_leaves : (n : List ℕ) (f : Files) → Leaves f.s (recover_step n f)
 unfolding recover_step
-recover_leaves n f = passed_leaves f.s (files_checked f) _ (λ done. done_leaves f.s (recovers n f) (either_leaves (is_some f.z) f.s (recovered_files f) refl))
+step_leaves n f = passed_leaves f.s (files_checked f) _ (λ done. done_leaves f.s (recovers n f) (either_leaves (is_some f.z) f.s (recovered_files f) refl))
+
+pub recover_leaves : (n : List ℕ) (named : List (Option Content)) (f : Files) → Leaves f.s (recover_outcome n named f)
+unfolding recover_outcome
+recover_leaves n named f = passed_leaves f.s (none_pending (intent_in named)) _ (λ free. step_leaves n f)
 
 pub locking_leaves : (outcome : Step) (n input : List ℕ) (named : List (Option Content)) (f : Files) → Leaves f.s (outcome n input named f) → Leaves f.s (locking_step outcome n input named f)
 unfolding locking_step
@@ -95,17 +100,19 @@ pub own_file : (m : Folder) (n : List ℕ) (new : Option Files) → view_in (mov
 own_file m n None = refl
 own_file m n (Some f) =
     ap (λ (v : View). v n) (moved_view m n (Some f))
-    ∙ put_same (put (put (put (view_in m) (z_file n) f.z) (drop 2 n) f.g) (p_file n) f.p) n f.s
+    ∙ put_same (put (put (put (put (view_in m) (l_file n) f.l) (z_file n) f.z) (drop 2 n) f.g) (p_file n) f.p) n f.s
 
 -- that of another name
 pub other_file : (m : Folder) (k n : List ℕ) (new : Option Files) → IsSfile n → is_kept (drop 2 k) ≡ false → bytes_eq k n ≡ false → view_in (moved_in m k new) n ≡ view_in m n
 other_file m k n None sfile plain apart = refl
 other_file m k n (Some f) sfile plain apart =
-    let z : View = put (view_in m) (z_file k) f.z in
+    let l : View = put (view_in m) (l_file k) f.l in
+    let z : View = put l (z_file k) f.z in
     let g : View = put z (drop 2 k) f.g in
     let p : View = put g (p_file k) f.p in
     ap (λ (v : View). v n) (moved_view m k (Some f))
     ∙ (put_other p k n f.s apart
     ∙ (put_other g (p_file k) n f.p (from_sfile 112 k n sfile refl)
     ∙ (put_other z (drop 2 k) n f.g (kept_s (drop 2 k) n plain sfile)
-    ∙ put_other (view_in m) (z_file k) n f.z (from_sfile 122 k n sfile refl))))
+    ∙ (put_other l (z_file k) n f.z (from_sfile 122 k n sfile refl)
+    ∙ put_other (view_in m) (l_file k) n f.l (from_sfile 108 k n sfile refl)))))

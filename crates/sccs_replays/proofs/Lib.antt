@@ -1,5 +1,8 @@
 pub mod AlteredVersions
 pub mod ChangedVersions
+pub mod CommandSteps
+pub mod FinishedGroups
+pub mod GroupVersions
 pub mod LeftFiles
 pub mod LiveVersions
 pub mod MadeSteps

@@ -1,5 +1,5 @@
 -- What words mean has valid values: the lines of MRs and comments, and the release of a new file.
-use Rattle.std.proofs.Common.{◌≡◌, ◌≢◌, ◌≤◌, ℕ, Bool, true, false, ◌&&◌, List, [], ◌∷◌, Option, None, Some, IfSome, Result, Ok, Err, refl, subst, arith}
+use Rattle.std.proofs.Common.{◌≡◌, ◌≢◌, ◌≤◌, ℕ, zero, suc, ◌+◌, Bool, true, false, ◌&&◌, List, [], ◌∷◌, ◌++◌, Option, None, Some, IfSome, Result, Ok, Err, refl, sym, ap, subst, ◌∙◌, arith}
 use Rattle.std.specs.Prelude.{nat_le, nat_lt, option_and_then, if◌then◌else◌}
 use Rattle.std.proofs.lemmas.Bool.{leb-true, ltb-true}
 use Rattle.std.proofs.lemmas.List.Elements.{All-from_recursion, recursion_from_All}
@@ -27,6 +27,10 @@ use Rattle.sccs_words.specs.declared.scanning.Use.{Use}
 use Rattle.sccs_words.specs.declared.tables.Utility.{Utility}
 use Rattle.sccs_words.specs.declared.tables.Utility.TheVariants as u
 use Rattle.sccs_words.proofs.MrWordLaws.{words_found}
+use Rattle.sccs_entries.specs.Entries.{◌>>=◌, has_own, input_in, words_in}
+use Rattle.sccs_group_words.specs.GroupText.{Found, entry_at, entry_by, entry_with, fits_behind, go_on, group_from, group_of, head_of, some_of}
+use Rattle.sccs_group_words.specs.declared.entries.GroupEntry.{GroupEntry}
+use Rattle.std.specs.List.{AllByRecursion}
 
 abbrev pub HasMeantValues : Command → Type 0
 HasMeantValues (c.Delta words name) = AreLines words.mrs × AreLines words.comment
@@ -117,6 +121,7 @@ command_values u.Val l n = tt
 command_values u.What l n = tt
 command_values u.Recover l n = tt
 command_values u.Import l n = tt
+command_values u.Group l n = tt
 command_values u.Batch l n = tt
 command_values u.Soak l n = given_number n (option_and_then soak_number (first_text l.operands))
 
@@ -136,3 +141,75 @@ pub meant_values : (words : List (List ℕ)) → AreMeantValues (meaning words)
 unfolding meaning
 meant_values [] = tt
 meant_values (word ∷ words) = utility_values (utility_of word) words
+
+-- ---- the entries of a group
+
+abbrev IsDeltaEntry : GroupEntry → Type 0
+IsDeltaEntry e = HasMeantValues (c.Delta e.words e.name)
+
+some_bound : {A B : Type 0} (o : Option A) (f : A → Option B) (b : B) → (o >>= f) ≡ Some b → (a : A) × (o ≡ Some a) × (f a ≡ Some b)
+some_bound None f b is = absurd cc
+some_bound (Some a) f b is = (a, refl, is)
+
+entry_is_delta : (meant : Result Command Usage) (script : List ℕ) (e : GroupEntry) → AreMeantValues meant → entry_by meant script ≡ Some e → IsDeltaEntry e
+entry_is_delta (Err usage) script e values is = absurd cc
+entry_is_delta (Ok (c.Delta words name)) script e values is = let same : record { words = words; name = name; script = script } ≡ e = cc in subst IsDeltaEntry same values
+entry_is_delta (Ok (c.Admin words operands)) script e values is = absurd cc
+entry_is_delta (Ok (c.Get words operands)) script e values is = absurd cc
+entry_is_delta (Ok (c.Unget words operands)) script e values is = absurd cc
+entry_is_delta (Ok (c.Sact operands)) script e values is = absurd cc
+entry_is_delta (Ok (c.Tell operands)) script e values is = absurd cc
+entry_is_delta (Ok (c.Check operands)) script e values is = absurd cc
+entry_is_delta (Ok (c.Rmdel sid operands)) script e values is = absurd cc
+entry_is_delta (Ok (c.Cdc words operands)) script e values is = absurd cc
+entry_is_delta (Ok (c.Prs words operands)) script e values is = absurd cc
+entry_is_delta (Ok (c.Val words)) script e values is = absurd cc
+entry_is_delta (Ok (c.What first operands)) script e values is = absurd cc
+entry_is_delta (Ok (c.Recover operands)) script e values is = absurd cc
+entry_is_delta (Ok (c.Import operands)) script e values is = absurd cc
+entry_is_delta (Ok c.Group) script e values is = absurd cc
+entry_is_delta (Ok c.Batch) script e values is = absurd cc
+entry_is_delta (Ok (c.Soak number)) script e values is = absurd cc
+
+with_is_delta : (has : Bool) (words : List (List ℕ)) (script : List ℕ) (e : GroupEntry) → (if has then entry_by (meaning words) script else None) ≡ Some e → IsDeltaEntry e
+with_is_delta true words script e is = entry_is_delta (meaning words) script e (meant_values words) is
+with_is_delta false words script e is = absurd cc
+
+only_pair : (b : Bool) (e : GroupEntry) (own : ℕ) (found : Found) → only b (e, own) ≡ Some found → e ≡ found.0
+only_pair true e own found is = let same : (e, own) ≡ found = cc in ap (λ (f : Found). f.0) same
+only_pair false e own found is = absurd cc
+
+at_is_delta : (before : List GroupEntry) (line : List ℕ) (rest : List (List ℕ)) (found : Found) → entry_at before line rest ≡ Some found → IsDeltaEntry found.0
+at_is_delta before line rest found is =
+    let counts = some_bound (head_of line) _ found is in
+    let entry = some_bound (entry_with counts.0 rest) _ found counts.2 in
+    subst IsDeltaEntry (only_pair (fits_behind before entry.0) entry.0 _ found entry.2) (with_is_delta (has_own counts.0 rest) (words_in counts.0 rest) (input_in counts.0 rest) entry.0 entry.1)
+
+both_deltas : (before more : List GroupEntry) → AllByRecursion IsDeltaEntry before → AllByRecursion IsDeltaEntry more → AllByRecursion IsDeltaEntry (before ++ more)
+both_deltas [] more all rest = rest
+both_deltas (e ∷ before) more all rest = (all.0, both_deltas before more all.1 rest)
+
+some_are_deltas : (before entries : List GroupEntry) → AllByRecursion IsDeltaEntry before → some_of before ≡ Ok entries → AllByRecursion IsDeltaEntry entries
+some_are_deltas [] entries all is = absurd cc
+some_are_deltas (e ∷ before) entries all is = subst (AllByRecursion IsDeltaEntry) (let same : (e ∷ before) ≡ entries = cc in same) all
+
+-- those from a line on that begins an entry
+line_deltas : (number : ℕ) (before : List GroupEntry) (line : List ℕ) (lines : List (List ℕ)) (entries : List GroupEntry) (found : Option Found) → entry_at before line lines ≡ found → AllByRecursion IsDeltaEntry before
+    → group_from zero number before (line ∷ lines) ≡ Ok entries
+    → ((own : ℕ) (more : List GroupEntry) → AllByRecursion IsDeltaEntry more → group_from own (number + 1) more lines ≡ Ok entries → AllByRecursion IsDeltaEntry entries) → AllByRecursion IsDeltaEntry entries
+line_deltas number before line lines entries None at all is next =
+    absurd (let no : Err number ≡ Ok entries = sym (ap (λ (o : Option Found). go_on before number o (λ more own. group_from own (number + 1) more lines)) at) ∙ is in cc)
+line_deltas number before line lines entries (Some found) at all is next =
+    next found.1 (before ++ found.0 ∷ []) (both_deltas before (found.0 ∷ []) all (at_is_delta before line lines found at, tt))
+    (sym (ap (λ (o : Option Found). go_on before number o (λ more own. group_from own (number + 1) more lines)) at) ∙ is)
+
+from_deltas : (skip number : ℕ) (before : List GroupEntry) (lines : List (List ℕ)) (entries : List GroupEntry) → AllByRecursion IsDeltaEntry before → group_from skip number before lines ≡ Ok entries → AllByRecursion IsDeltaEntry entries
+from_deltas zero number before [] entries all is = some_are_deltas before entries all is
+from_deltas (suc skip) number before [] entries all is = some_are_deltas before entries all is
+from_deltas (suc skip) number before (line ∷ lines) entries all is = from_deltas skip (number + 1) before lines entries all is
+from_deltas zero number before (line ∷ lines) entries all is =
+    line_deltas number before line lines entries (entry_at before line lines) refl all is (λ own more deltas so. from_deltas own (number + 1) more lines entries deltas so)
+
+-- they are delta commands, whose values are valid
+pub group_values : (lines : List (List ℕ)) (entries : List GroupEntry) → group_of lines ≡ Ok entries → AllByRecursion (λ (e : GroupEntry). HasMeantValues (c.Delta e.words e.name)) entries
+group_values lines entries is = from_deltas 0 1 [] lines entries tt is

@@ -1,49 +1,27 @@
 -- After runs each version is its replay.
 use Rattle.std.proofs.lemmas.Bool.{ne_eqb}
-use Rattle.std.proofs.Common.{◌≡◌, ℕ, zero, suc, ◌-◌, ◌==◌, Bool, true, false, ◌&&◌, List, [], ◌∷◌, ◌++◌, codes, length, take, map, Option, None, Some, Result, Ok, Err, inl, inr, refl, sym, ap, subst, ◌∙◌, ⊎_elim, arith}
-use Rattle.std.specs.Prelude.{if◌then◌else◌, is_some, nat_lt}
+use Rattle.std.proofs.Common.{◌≡◌, ◌⊎◌, ℕ, zero, suc, ◌-◌, ◌==◌, Bool, true, false, List, [], ◌∷◌, ◌++◌, codes, drop, length, take, map, Option, None, Some, Result, Ok, Err, inl, inr, refl, sym, ap, subst, ◌∙◌, arith}
+use Rattle.std.specs.Prelude.{if◌then◌else◌, nat_lt}
 use Rattle.std.specs.List.{AllByRecursion}
-use Rattle.std.specs.Str.{bytes_eq}
-use Rattle.std.proofs.lemmas.Slice.Eq.{bytes_eq-Decides}
 use Rattle.sccs_base.specs.Constants.{file_limit}
 use Rattle.sccs_base.specs.Cut.{text_of}
 use Rattle.sccs_base.specs.Login.{IsLogin}
 use Rattle.sccs_base.specs.Name.{IsSfile}
 use Rattle.sccs_disk.specs.Files.{Content, Folder, view_in}
-use Rattle.sccs_disk.proofs.Puts.{name_cases}
 use Rattle.sccs_sid.specs.Moment.{IsMoment}
 use Rattle.sccs_sid.specs.Refusal.{refusal_line}
 use Rattle.sccs_sid.specs.declared.refusals.Refusal.TheVariants.{TooLong}
 use Rattle.sccs_words.specs.Meaning.{meaning}
 use Rattle.sccs_steps.proofs.Turns.{front_all, rest_all}
 use Rattle.sccs_words.specs.declared.commands.Command.{Command}
-use Rattle.sccs_words.specs.declared.commands.Command.TheVariants as c
 use Rattle.sccs_words.specs.declared.commands.Usage.{Usage}
 use Rattle.sccs_words.specs.declared.commands.ValWords.{ValWords}
 use Rattle.sccs_files.specs.StepFiles.{Files, look, moved_in}
 use Rattle.sccs_steps.specs.Actions.{Action, KeepsFiles}
-use Rattle.sccs_steps.specs.StepLists.{NamedStep, folder_after}
-use Rattle.sccs_steps.specs.Unlocked.{ArePlain, IsPlainFor}
-use Rattle.sccs_admin.specs.AdminStep.{admin_change}
-use Rattle.sccs_alter.specs.AlterStep.{alter_change}
-use Rattle.sccs_alter.specs.CheckStep.{check_action, check_keeps}
-use Rattle.sccs_cdc.specs.CdcStep.{cdc_change}
-use Rattle.sccs_delta.specs.DeltaStep.{delta_change}
-use Rattle.sccs_edit.specs.Checks.{sact_keeps}
-use Rattle.sccs_edit.specs.UngetStep.{unget_change}
-use Rattle.sccs_front.specs.Keeps.{pending_keeps}
-use Rattle.sccs_get.specs.EditStep.{edit_change}
-use Rattle.sccs_get.specs.Keeps.{get_keeps}
-use Rattle.sccs_get.specs.VersionStep.{get_action}
-use Rattle.sccs_rcs.specs.ImportStep.{import_change}
-use Rattle.sccs_recovery.specs.Commands.{recover_keeps}
-use Rattle.sccs_rmdel.specs.RmdelStep.{rmdel_change}
-use Rattle.sccs_transactions.specs.Changes.{locking}
-use Rattle.sccs_transactions.specs.Utilities.{locking_keeps}
+use Rattle.sccs_steps.specs.StepLists.{NamedStep, folder_after, step_in}
+use Rattle.sccs_steps.specs.Unlocked.{ArePlain}
 use Rattle.sccs_delta.specs.Replays.{Texts}
-use Rattle.sccs_prs.specs.Keeps.{prs_keeps}
-use Rattle.sccs_val.proofs.RunLaws.{val_keeps, val_leaves}
-use Rattle.sccs_what.specs.Checks.{what_keeps}
+use Rattle.sccs_val.proofs.RunLaws.{val_leaves}
 use Rattle.sccs_courses.specs.Courses.{Courses, follow, if_fine, no_action, one_by_one, portion, said, saying, steps_along, steps_in, while_fine}
 use Rattle.sccs_courses.proofs.Portions.{steps_more}
 use Rattle.sccs_batch.specs.BatchLines.{bad_entry_line, status_line}
@@ -54,106 +32,23 @@ use Rattle.sccs_front.specs.Front.{front_of}
 use Rattle.sccs_top.specs.Asked.{as_typed, asked_by, one_asked, two_asked, typed_place}
 use Rattle.sccs_top.specs.Messages.{usage_line}
 use Rattle.sccs_soak.specs.Commands.{soak_commands, soak_file}
-use Rattle.sccs_soak.specs.Dropping.{dropping_keeps}
 use Rattle.sccs_soak.specs.Keeps.{summary_keeps}
 use Rattle.sccs_soak.specs.Soak.{soaked}
 use Rattle.sccs_soak.specs.Summaries.{summary_action, summary_course}
-use Rattle.sccs_top.specs.Runs.{Caller, action_of, admin_there, caller_by, command_course, command_steps, course_by, entry_command, has_heading, hushed, meant_course, next_course, operands_of, run_steps, single_of, steps_by, val_words_of}
+use Rattle.sccs_top.specs.Runs.{Caller, action_of, caller_by, command_course, command_steps, course_by, entry_command, meant_course, next_course, operands_of, run_steps, steps_by, val_words_of, group_use}
 use Rattle.sccs_top.specs.declared.commands.CommandList.{CommandList}
 use Rattle.sccs_top.specs.declared.commands.CommandList.TheVariants as list
-use Rattle.sccs_replays.specs.PastRuns.{AreInTurn, HasVersions, IsPastCommand, IsPastRun, IsPlainBy, PastRun, commands_by, commands_listed, commands_meant, commands_of, entry_run, entry_runs, first_run, folder_after_run, list_meant, next_run, replay, soak_runs, s_file_after, single_steps, steps_meant, steps_of_entry, versions_after_command, versions_after_commands, versions_after_run, versions_after_step, versions_after_steps}
-use Rattle.sccs_replays.proofs.LeftFiles.{other_file, own_file}
-use Rattle.sccs_replays.proofs.MadeSteps.{AreStepsOf, IsStepOf, are_some, are_steps}
+use Rattle.sccs_replays.specs.PastRuns.{AreInTurn, HasVersions, IsPastCommand, IsPastRun, IsPlainBy, PastRun, commands_by, commands_listed, commands_meant, commands_of, entry_run, entry_runs, first_run, folder_after_run, list_meant, next_run, replay, soak_runs, s_file_after, single_steps, steps_meant, steps_of_entry, versions_after_commands, versions_after_run, versions_after_steps, HasPlainNames, steps_with}
+use Rattle.sccs_replays.proofs.MadeSteps.{AreStepsOf, are_some, are_steps, IsMadeOf, alone_in}
 use Rattle.sccs_replays.proofs.MeantValues.{AreMeantValues, HasMeantValues, meant_values}
-use Rattle.sccs_replays.proofs.StepVersions.{Goes, command_goes}
+use Rattle.sccs_top.specs.declared.commands.GroupUse.{GroupUse}
+use Rattle.sccs_top.specs.declared.commands.GroupUse.TheVariants as uses
+use Rattle.sccs_replays.proofs.CommandSteps.{steps_go}
+use Rattle.sccs_replays.proofs.GroupVersions.{group_goes}
+use Rattle.sccs_replays.proofs.FinishedGroups.{finishing_goes, finishing_stays}
+use Rattle.sccs_finishing.specs.FinishStep.{finishing_step}
 
--- ---- one step
-
-either_keeps : (edit : Bool) (x y : Action) → KeepsFiles x → KeepsFiles y → KeepsFiles (if edit then x else y)
-either_keeps true x y first second = first
-either_keeps false x y first second = second
-
-nothing_keeps : KeepsFiles no_action
-nothing_keeps = record { quiet = λ reads n i named f d is. absurd cc; names = λ changes n fits. absurd cc; locked = λ changes locks n i named f d is there g new. absurd cc }
-
-by_keeps : (who : Caller) (command : Command) → KeepsFiles ((single_of command).by who)
-by_keeps who (c.Admin words operands) =
-    either_keeps words.fresh (locking (admin_change words who.stamp)) (admin_there words) (locking_keeps (admin_change words who.stamp))
-    (either_keeps words.check check_action (locking (alter_change words)) check_keeps (locking_keeps (alter_change words)))
-by_keeps who (c.Get words operands) =
-    either_keeps words.edit (locking (edit_change words who.stamp who.place (has_heading operands))) (get_action words who.stamp who.place (has_heading operands))
-    (locking_keeps (edit_change words who.stamp who.place (has_heading operands))) (get_keeps words who.stamp who.place (has_heading operands))
-by_keeps who (c.Delta words name) = locking_keeps (delta_change words who.stamp)
-by_keeps who (c.Unget words operands) = locking_keeps (unget_change words who.stamp (has_heading operands))
-by_keeps who (c.Sact operands) = sact_keeps (has_heading operands)
-by_keeps who (c.Tell operands) = pending_keeps false
-by_keeps who (c.Check operands) = pending_keeps true
-by_keeps who (c.Rmdel sid operands) = locking_keeps (rmdel_change sid who.stamp)
-by_keeps who (c.Cdc words operands) = locking_keeps (cdc_change words who.stamp)
-by_keeps who (c.Prs words operands) = prs_keeps words who.place
-by_keeps who (c.Val words) = val_keeps words (λ name. None)
-by_keeps who (c.What first operands) = what_keeps first
-by_keeps who (c.Recover operands) = recover_keeps
-by_keeps who (c.Import operands) = locking_keeps (import_change (has_heading operands))
-by_keeps who c.Batch = nothing_keeps
-by_keeps who (c.Soak number) = nothing_keeps
-
-hushed_keeps : (val : Option ValWords) (quiet : Bool) (x : Action) → KeepsFiles x → KeepsFiles (hushed val quiet x)
-hushed_keeps (Some words) quiet x keeps = keeps
-hushed_keeps None true x keeps = dropping_keeps x keeps
-hushed_keeps None false x keeps = keeps
-
-command_keeps : (who : Caller) (command : Command) → KeepsFiles (action_of who command)
-command_keeps who command = hushed_keeps (val_words_of command) who.quiet ((single_of command).by who) (by_keeps who command)
-
--- the s-file of another name stays
-other_stays : (x : Action) (i n : List ℕ) (m : Folder) (t : NamedStep) → KeepsFiles x → IsSfile n → (x.fits t.name ≡ true → IsPlainFor x t.name) → bytes_eq t.name n ≡ false → IsStepOf x i m t
-    → view_in (moved_in m t.name t.effect.new) n ≡ view_in m n
-other_stays x i n m t keeps sfile plain apart (inl none) = ap (λ (new : Option Files). view_in (moved_in m t.name new) n) none
-other_stays x i n m t keeps sfile plain apart (inr made) = by x.reads refl
-  where
-    by : (reads : Bool) → x.reads ≡ reads → view_in (moved_in m t.name t.effect.new) n ≡ view_in m n
-    by true is = ap (λ (new : Option Files). view_in (moved_in m t.name new) n) (keeps.quiet is t.name i (map (view_in m) (x.named t.name)) (look (view_in m) t.name) t.effect made.made)
-    by false is = other_file m t.name n t.effect.new sfile (plain made.fits is) apart
-
--- the versions of the step's own name
-own_goes : (who : Caller) (command : Command) (i : List ℕ) (m : Folder) (t : NamedStep) (texts : Texts) → IsMoment who.stamp.moment → IsLogin who.stamp.login → HasMeantValues command
-    → IsStepOf (action_of who command) i m t → Goes (view_in m t.name) t.effect.new texts (versions_after_command who command i m t.name texts)
-own_goes who command i m t texts moment login values (inl none) =
-    subst (λ (new : Option Files). Goes (view_in m t.name) new texts (versions_after_command who command i m t.name texts)) (sym none) (λ are. are)
-own_goes who command i m t texts moment login values (inr made) = command_goes who command i t.name m texts t.effect moment login values made.made
-
-step_goes : (who : Caller) (command : Command) (i n : List ℕ) (m : Folder) (t : NamedStep) (texts : Texts) → IsSfile n → IsMoment who.stamp.moment → IsLogin who.stamp.login → HasMeantValues command
-    → ((action_of who command).fits t.name ≡ true → IsPlainFor (action_of who command) t.name) → IsStepOf (action_of who command) i m t
-    → HasVersions (view_in m n) texts → HasVersions (view_in (moved_in m t.name t.effect.new) n) (versions_after_step who command i n m t texts)
-step_goes who command i n m t texts sfile moment login values plain is are = ⊎_elim own other (name_cases t.name n)
-  where
-    by_test : (k : List ℕ) (test : Bool) → bytes_eq t.name k ≡ test
-        → HasVersions (view_in (moved_in m t.name t.effect.new) k) (if test && is_some t.effect.new then versions_after_command who command i m k texts else texts)
-        → HasVersions (view_in (moved_in m t.name t.effect.new) k) (versions_after_step who command i k m t texts)
-    by_test k test same has =
-        subst (λ (b : Bool). HasVersions (view_in (moved_in m t.name t.effect.new) k) (if b && is_some t.effect.new then versions_after_command who command i m k texts else texts)) (sym same) has
-
-    own : t.name ≡ n → HasVersions (view_in (moved_in m t.name t.effect.new) n) (versions_after_step who command i n m t texts)
-    own same =
-        subst (λ (k : List ℕ). HasVersions (view_in m k) texts → HasVersions (view_in (moved_in m t.name t.effect.new) k) (versions_after_step who command i k m t texts)) same
-        (λ has. by_test t.name true ((bytes_eq-Decides t.name t.name).1 refl)
-        (subst (λ (o : Option Content). HasVersions o (if is_some t.effect.new then versions_after_command who command i m t.name texts else texts)) (sym (own_file m t.name t.effect.new))
-        (own_goes who command i m t texts moment login values is has))) are
-
-    other : bytes_eq t.name n ≡ false → HasVersions (view_in (moved_in m t.name t.effect.new) n) (versions_after_step who command i n m t texts)
-    other apart =
-        by_test n false apart (subst (λ (o : Option Content). HasVersions o texts) (sym (other_stays (action_of who command) i n m t (command_keeps who command) sfile plain apart is)) are)
-
--- ---- steps, and runs
-
-steps_go : (who : Caller) (command : Command) (i n : List ℕ) (m : Folder) (ts : List NamedStep) (texts : Texts) → IsSfile n → IsMoment who.stamp.moment → IsLogin who.stamp.login → HasMeantValues command
-    → ArePlain (action_of who command) ts → AreStepsOf (action_of who command) i m ts
-    → HasVersions (view_in m n) texts → HasVersions (view_in (folder_after m ts) n) (versions_after_steps who command i n m ts texts)
-steps_go who command i n m [] texts sfile moment login values plain are has = has
-steps_go who command i n m (t ∷ ts) texts sfile moment login values plain are has =
-    steps_go who command i n (moved_in m t.name t.effect.new) ts (versions_after_step who command i n m t texts) sfile moment login values plain.1 are.1
-    (step_goes who command i n m t texts sfile moment login values plain.0 are.0 has)
+-- ---- usage faults
 
 -- a usage fault changes no file
 usage_leaves : (m : Folder) (usage : Usage) (count : ℕ) → folder_after m (take count (said [] (usage_line usage) ∷ [])) ≡ m
@@ -164,16 +59,40 @@ usage_leaves m usage (suc (suc count)) = refl
 -- the steps of a command
 are_made : (val : Option ValWords) (x : Action) (m : Folder) (i : List ℕ) (operands : List (List ℕ)) → AreStepsOf x i m (steps_by val x operands m i)
 are_made None x m i operands = are_steps x m i operands
-are_made (Some words) x m i operands = (inl (val_leaves words m i), tt)
+are_made (Some words) x m i operands = (record { alone = refl; made = inl (val_leaves words m i) }, tt)
 
-command_run_goes : (n : List ℕ) (r : PastRun) (meant : Result Command Usage) (texts : Texts) → IsSfile n → IsMoment r.who.stamp.moment → IsLogin r.who.stamp.login → AreMeantValues meant → IsPlainBy r.who meant (single_steps r meant)
+-- by what the command does with a group
+with_goes : (group : Option GroupUse) (n : List ℕ) (r : PastRun) (command : Command) (texts : Texts) → group_use command ≡ group → IsSfile n → IsMoment r.who.stamp.moment → IsLogin r.who.stamp.login → HasMeantValues command → HasPlainNames n group r command
+    → HasVersions (view_in r.folder n) texts → HasVersions (view_in (folder_after r.folder (steps_with group r command)) n) (versions_after_steps group r.who command r.input n r.folder (steps_with group r command) texts)
+with_goes None n r command texts is sfile moment login values names has =
+    steps_go r.who command r.input n r.folder (steps_with None r command) texts sfile moment login values names.plain
+    (are_some (action_of r.who command) r.input r.made r.folder (steps_by (val_words_of command) (action_of r.who command) (operands_of command) r.folder r.input) (are_made (val_words_of command) (action_of r.who command) r.folder r.input (operands_of command))) has
+with_goes (Some uses.Makes) n r command texts is sfile moment login values names has = group_goes r.who r.input n r.folder r.made command texts sfile moment login names.plain has
+with_goes (Some uses.Finishes) n r command texts is sfile moment login values names has =
+    subst (λ (x : Texts). HasVersions (view_in (folder_after r.folder (steps_with (Some uses.Finishes) r command)) n) x) (sym (finishing_stays r.who command r.input n r.folder (steps_with (Some uses.Finishes) r command) texts))
+    (by r.made names.plain.1)
+  where
+    x : Action
+    x = action_of r.who command
+
+    after : Folder
+    after = step_in r.folder (finishing_step (view_in r.folder))
+
+    ts : List NamedStep
+    ts = steps_by (val_words_of command) x (operands_of command) after r.input
+
+    by : (made : ℕ) → ArePlain x (drop 1 (take made (finishing_step (view_in r.folder) ∷ ts))) → HasVersions (view_in (folder_after r.folder (take made (finishing_step (view_in r.folder) ∷ ts))) n) texts
+    by zero plain = has
+    by (suc made) plain =
+        finishing_goes r.who command r.input n r.folder made ts texts is sfile moment login names.plain.0 names.free plain
+        (are_some x r.input made after ts (are_made (val_words_of command) x after r.input (operands_of command))) has
+
+command_run_goes : (n : List ℕ) (r : PastRun) (meant : Result Command Usage) (texts : Texts) → IsSfile n → IsMoment r.who.stamp.moment → IsLogin r.who.stamp.login → AreMeantValues meant → IsPlainBy n r meant
     → HasVersions (view_in r.folder n) texts → HasVersions (view_in (folder_after r.folder (single_steps r meant)) n) (versions_after_run n r meant texts)
-command_run_goes n r (Ok command) texts sfile moment login values plain has =
-    steps_go r.who command r.input n r.folder (single_steps r (Ok command)) texts sfile moment login values plain
-    (are_some (action_of r.who command) r.input r.made r.folder (command_steps r.who (Ok command) r.folder r.input) (are_made (val_words_of command) (action_of r.who command) r.folder r.input (operands_of command))) has
+command_run_goes n r (Ok command) texts sfile moment login values plain has = with_goes (group_use command) n r command texts refl sfile moment login values plain has
 command_run_goes n r (Err usage) texts sfile moment login values plain has = subst (λ (u : Folder). HasVersions (view_in u n) texts) (sym (usage_leaves r.folder usage r.made)) has
 
-single_goes : (n : List ℕ) (r : PastRun) (meant : Result Command Usage) (texts : Texts) → meaning r.words ≡ meant → IsSfile n → AllByRecursion IsPastCommand (r ∷ [])
+single_goes : (n : List ℕ) (r : PastRun) (meant : Result Command Usage) (texts : Texts) → meaning r.words ≡ meant → IsSfile n → AllByRecursion (IsPastCommand n) (r ∷ [])
     → HasVersions (view_in r.folder n) texts → HasVersions (view_in (folder_after r.folder (take r.made (command_steps r.who meant r.folder r.input))) n) (versions_after_commands n texts (r ∷ []))
 single_goes n r meant texts words sfile are has =
     subst (λ (w : Result Command Usage). HasVersions (view_in (folder_after r.folder (take r.made (command_steps r.who w r.folder r.input))) n) (versions_after_run n r (meaning r.words) texts)) words
@@ -187,7 +106,7 @@ folder_after_entries place m made [] = m
 folder_after_entries place m made (e ∷ es) =
     let r = entry_run false place m made e in folder_after_entries place (folder_after m (single_steps r (meaning e.words))) (made - suc (length (steps_of_entry r))) es
 
-entries_go : (n place : List ℕ) (m : Folder) (made : ℕ) (es : List Entry) (texts : Texts) → IsSfile n → AllByRecursion IsPastCommand (entry_runs place m made es)
+entries_go : (n place : List ℕ) (m : Folder) (made : ℕ) (es : List Entry) (texts : Texts) → IsSfile n → AllByRecursion (IsPastCommand n) (entry_runs place m made es)
     → HasVersions (view_in m n) texts → HasVersions (view_in (folder_after_entries place m made es) n) (versions_after_commands n texts (entry_runs place m made es))
 entries_go n place m made [] texts sfile are has = has
 entries_go n place m made (e ∷ es) texts sfile are has =
@@ -201,7 +120,7 @@ after_both : (m : Folder) (made : ℕ) (xs : List NamedStep) (more : Folder → 
 after_both m zero xs more = let none : 0 - length xs ≡ 0 = omega arith in ap (λ k. folder_after m (take k (more m))) (sym none)
 after_both m (suc made) [] more = let all : suc made ≡ suc made - 0 = omega arith in ap (λ k. folder_after m (take k (more m))) all
 after_both m (suc made) (x ∷ xs) more =
-    let left = moved_in m x.name x.effect.new in
+    let left = step_in m x in
     let less : made - length xs ≡ suc made - length (x ∷ xs) = omega arith in
     after_both left made xs more ∙ ap (λ k. folder_after (folder_after left (take made xs)) (take k (more (folder_after left (take made xs))))) less
 
@@ -274,7 +193,7 @@ folder_after_soak place m made (e ∷ es) =
     let left = folder_after m (single_steps r (meaning e.words)) in
     if (entry_command true place e m []).status == 0 then folder_after_soak place left (made - suc (length (steps_of_entry r))) es else left
 
-soak_goes : (n place : List ℕ) (m : Folder) (made : ℕ) (es : List Entry) (texts : Texts) → IsSfile n → AllByRecursion IsPastCommand (soak_runs place m made es)
+soak_goes : (n place : List ℕ) (m : Folder) (made : ℕ) (es : List Entry) (texts : Texts) → IsSfile n → AllByRecursion (IsPastCommand n) (soak_runs place m made es)
     → HasVersions (view_in m n) texts → HasVersions (view_in (folder_after_soak place m made es) n) (versions_after_commands n texts (soak_runs place m made es))
 soak_goes n place m made [] texts sfile are has = has
 soak_goes n place m made (e ∷ es) texts sfile are has =
@@ -284,9 +203,9 @@ soak_goes n place m made (e ∷ es) texts sfile are has =
     fine_goes n place left (made - suc (length (steps_of_entry r))) es (versions_after_run n r (meaning e.words) texts) ((entry_command true place e m []).status == 0) sfile are.1 first
     (λ others. soak_goes n place left (made - suc (length (steps_of_entry r))) es (versions_after_run n r (meaning e.words) texts) sfile others first)
   where
-    fine_goes : (n place : List ℕ) (left : Folder) (more : ℕ) (es : List Entry) (texts : Texts) (fine : Bool) → IsSfile n → AllByRecursion IsPastCommand (if fine then soak_runs place left more es else [])
+    fine_goes : (n place : List ℕ) (left : Folder) (more : ℕ) (es : List Entry) (texts : Texts) (fine : Bool) → IsSfile n → AllByRecursion (IsPastCommand n) (if fine then soak_runs place left more es else [])
         → HasVersions (view_in left n) texts
-        → (AllByRecursion IsPastCommand (soak_runs place left more es) → HasVersions (view_in (folder_after_soak place left more es) n) (versions_after_commands n texts (soak_runs place left more es)))
+        → (AllByRecursion (IsPastCommand n) (soak_runs place left more es) → HasVersions (view_in (folder_after_soak place left more es) n) (versions_after_commands n texts (soak_runs place left more es)))
         → HasVersions (view_in (if fine then folder_after_soak place left more es else left) n) (versions_after_commands n texts (if fine then soak_runs place left more es else []))
     fine_goes n place left more es texts true sfile are first others = others are
     fine_goes n place left more es texts false sfile are first others = first
@@ -296,10 +215,9 @@ reads_leave : (x : Action) (i : List ℕ) (m : Folder) (made : ℕ) (ts : List N
 reads_leave x i m zero ts keeps reads are = refl
 reads_leave x i m (suc made) [] keeps reads are = refl
 reads_leave x i m (suc made) (t ∷ ts) keeps reads are =
-    let none : t.effect.new ≡ None = no_new are.0 in
-    reads_leave x i (moved_in m t.name t.effect.new) made ts keeps reads are.1 ∙ ap (λ (new : Option Files). moved_in m t.name new) none
+    reads_leave x i (step_in m t) made ts keeps reads are.1 ∙ (alone_in m t are.0.alone ∙ ap (λ (new : Option Files). moved_in m t.name new) (no_new are.0.made))
   where
-    no_new : IsStepOf x i m t → t.effect.new ≡ None
+    no_new : (t.effect.new ≡ None) ⊎ IsMadeOf x i m t → t.effect.new ≡ None
     no_new (inl none) = none
     no_new (inr of) = keeps.quiet reads t.name i (map (view_in m) (x.named t.name)) (look (view_in m) t.name) t.effect of.made
 
@@ -345,7 +263,7 @@ soak_after place m i made number (e ∷ es) =
 -- ---- runs
 
 -- a run that is a list of commands, or one that is none
-list_goes : (n : List ℕ) (r : PastRun) (meant : Result Command Usage) (texts : Texts) (some : Option CommandList) → meaning r.words ≡ meant → list_meant meant ≡ some → IsSfile n → AllByRecursion IsPastCommand (commands_by some r)
+list_goes : (n : List ℕ) (r : PastRun) (meant : Result Command Usage) (texts : Texts) (some : Option CommandList) → meaning r.words ≡ meant → list_meant meant ≡ some → IsSfile n → AllByRecursion (IsPastCommand n) (commands_by some r)
     → HasVersions (view_in r.folder n) texts → HasVersions (view_in (folder_after r.folder (take r.made (steps_along (meant_course r.who meant) r.folder r.input))) n) (versions_after_commands n texts (commands_by some r))
 list_goes n r (Err usage) texts None words is sfile are has = single_goes n r (Err usage) texts words sfile are has
 list_goes n r (Err usage) texts (Some some) words is sfile are has = absurd cc
@@ -368,9 +286,9 @@ list_goes n r (Ok command) texts (Some list.Batch) words is sfile are has =
         subst (λ (u : Folder). HasVersions (view_in u n) (versions_after_commands n texts (commands_by (Some list.Batch) r))) (sym (batch_after r.who.place r.folder r.input r.made false long))
         (subst (λ (t : Bool). HasVersions (view_in (folder_after_entries r.who.place r.folder (r.made - 1) (batch_of (text_of r.input)).entries) n) (versions_after_commands n texts (if t then [] else entry_runs r.who.place r.folder (r.made - 1) (batch_of (text_of r.input)).entries))) (sym long)
         (entries_go n r.who.place r.folder (r.made - 1) (batch_of (text_of r.input)).entries texts sfile
-        (subst (λ (t : Bool). AllByRecursion IsPastCommand (if t then [] else entry_runs r.who.place r.folder (r.made - 1) (batch_of (text_of r.input)).entries)) long are) has))
+        (subst (λ (t : Bool). AllByRecursion (IsPastCommand n) (if t then [] else entry_runs r.who.place r.folder (r.made - 1) (batch_of (text_of r.input)).entries)) long are) has))
 
-meant_goes : (n : List ℕ) (r : PastRun) (texts : Texts) → IsSfile n → AllByRecursion IsPastCommand (commands_meant r) → HasVersions (view_in r.folder n) texts
+meant_goes : (n : List ℕ) (r : PastRun) (texts : Texts) → IsSfile n → AllByRecursion (IsPastCommand n) (commands_meant r) → HasVersions (view_in r.folder n) texts
     → HasVersions (view_in (folder_after r.folder (take r.made (steps_meant r))) n) (versions_after_commands n texts (commands_meant r))
 meant_goes n r texts sfile are has = list_goes n r (meaning r.words) texts (list_meant (meaning r.words)) refl refl sfile are has
 
@@ -406,14 +324,14 @@ versions_both : (n : List ℕ) (texts : Texts) (rs more : List PastRun) → vers
 versions_both n texts [] more = refl
 versions_both n texts (r ∷ rs) more = versions_both n (versions_after_run n r (meaning r.words) texts) rs more
 
-two_go : (n : List ℕ) (r : PastRun) (next : List (List ℕ)) (texts : Texts) (fine : Bool) → IsSfile n → AllByRecursion IsPastCommand (commands_meant r) → AllByRecursion IsPastCommand (if fine then commands_meant (next_run r next) else []) → HasVersions (view_in r.folder n) texts
+two_go : (n : List ℕ) (r : PastRun) (next : List (List ℕ)) (texts : Texts) (fine : Bool) → IsSfile n → AllByRecursion (IsPastCommand n) (commands_meant r) → AllByRecursion (IsPastCommand n) (if fine then commands_meant (next_run r next) else []) → HasVersions (view_in r.folder n) texts
     → HasVersions
     (view_in (if fine then folder_after (folder_after r.folder (take r.made (steps_meant r))) (take (r.made - length (steps_meant r)) (steps_meant (next_run r next))) else folder_after r.folder (take r.made (steps_meant r))) n)
     (versions_after_commands n (versions_after_commands n texts (commands_meant r)) (if fine then commands_meant (next_run r next) else []))
 two_go n r next texts true sfile are more has = meant_goes n (next_run r next) (versions_after_commands n texts (commands_meant r)) sfile more (meant_goes n r texts sfile are has)
 two_go n r next texts false sfile are more has = meant_goes n r texts sfile are has
 
-listed_go : (n : List ℕ) (r : PastRun) (texts : Texts) (commands : List (List (List ℕ))) → IsSfile n → AllByRecursion IsPastCommand (commands_listed r commands) → HasVersions (view_in r.folder n) texts
+listed_go : (n : List ℕ) (r : PastRun) (texts : Texts) (commands : List (List (List ℕ))) → IsSfile n → AllByRecursion (IsPastCommand n) (commands_listed r commands) → HasVersions (view_in r.folder n) texts
     → HasVersions (view_in (folder_after r.folder (take r.made (run_steps r.who (asked_by r.words commands) r.folder r.input))) n) (versions_after_commands n texts (commands_listed r commands))
 listed_go n r texts [] sfile are has =
     subst (λ (u : Folder). HasVersions (view_in u n) (versions_after_commands n texts (commands_meant r))) (sym (one_after r.who (meaning r.words) r.folder r.input r.made)) (meant_goes n r texts sfile are has)
@@ -427,12 +345,12 @@ listed_go n r texts (first ∷ next ∷ rest) sfile are has =
     subst (λ (u : Folder). HasVersions (view_in u n) (versions_after_commands n texts (commands_meant one ++ more))) (sym (both_after r.who r.words first (meaning first) (meaning next) r.folder r.input r.made))
     (subst (λ (t : Texts). HasVersions (view_in (if fine then folder_after (folder_after one.folder (take one.made (steps_meant one))) (take (one.made - length (steps_meant one)) (steps_meant (next_run one next))) else folder_after one.folder (take one.made (steps_meant one))) n) t)
     (versions_both n texts (commands_meant one) more)
-    (two_go n one next texts fine sfile (front_all IsPastCommand (commands_meant one) more are) (rest_all IsPastCommand (commands_meant one) more are) has))
+    (two_go n one next texts fine sfile (front_all (IsPastCommand n) (commands_meant one) more are) (rest_all (IsPastCommand n) (commands_meant one) more are) has))
 
-run_goes : (n : List ℕ) (r : PastRun) (texts : Texts) → IsSfile n → IsPastRun r → HasVersions (view_in r.folder n) texts → HasVersions (view_in (folder_after_run r) n) (versions_after_commands n texts (commands_of r))
+run_goes : (n : List ℕ) (r : PastRun) (texts : Texts) → IsSfile n → IsPastRun n r → HasVersions (view_in r.folder n) texts → HasVersions (view_in (folder_after_run r) n) (versions_after_commands n texts (commands_of r))
 run_goes n r texts sfile are has = listed_go n r texts (front_of r.words) sfile are has
 
-pub runs_replayed : (n : List ℕ) (s : Option Content) (texts : Texts) (runs : List PastRun) → IsSfile n → AllByRecursion IsPastRun runs → AreInTurn n s runs → HasVersions s texts
+pub runs_replayed : (n : List ℕ) (s : Option Content) (texts : Texts) (runs : List PastRun) → IsSfile n → AllByRecursion (IsPastRun n) runs → AreInTurn n s runs → HasVersions s texts
     → HasVersions (s_file_after n s runs) (replay n texts runs)
 runs_replayed n s texts [] sfile are turn has = has
 runs_replayed n s texts (r ∷ runs) sfile are turn has =

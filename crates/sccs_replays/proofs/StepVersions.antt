@@ -6,6 +6,7 @@ use Rattle.sccs_base.specs.Constants.{file_limit}
 use Rattle.sccs_base.specs.Login.{IsLogin}
 use Rattle.sccs_base.specs.Name.{p_file, z_file}
 use Rattle.sccs_disk.specs.Files.{Content, Folder, view_in}
+use Rattle.sccs_intents.specs.Intents.{intent_file}
 use Rattle.sccs_sid.specs.Moment.{IsMoment}
 use Rattle.sccs_sid.specs.declared.refusals.Refusal.{Refusal}
 use Rattle.sccs_sid.specs.declared.refusals.Refusal.TheVariants as refusals
@@ -35,7 +36,7 @@ use Rattle.sccs_words.specs.declared.commands.Command.TheVariants as c
 use Rattle.sccs_words.specs.declared.commands.DeltaWords.{DeltaWords}
 use Rattle.sccs_words.specs.declared.commands.GetWords.{GetWords}
 use Rattle.sccs_words.specs.declared.commands.ValWords.{ValWords}
-use Rattle.sccs_files.specs.StepFiles.{Files, look}
+use Rattle.sccs_files.specs.StepFiles.{Files, l_file, look}
 use Rattle.sccs_steps.specs.Actions.{Action, KeepsFiles, Step}
 use Rattle.sccs_steps.specs.StepEffects.{Outcome, StepEffect, check}
 use Rattle.sccs_transactions.specs.Changes.{locking, locking_step}
@@ -160,7 +161,7 @@ delta_goes who words i n m texts d moment login values is = by (view_in m n) ref
     parts = unlocked_step (delta_outcome words who.stamp) n i [] (look (view_in m) n) d is
 
     files : (s z : Option Content) → Files
-    files s z = record { s = s; p = view_in m (p_file n); z = z; g = view_in m (drop 2 n) }
+    files s z = record { s = s; p = view_in m (p_file n); z = z; g = view_in m (drop 2 n); l = view_in m (l_file n) }
 
     by : (s : Option Content) → view_in m n ≡ s → Goes (view_in m n) d.new texts (texts_with_delta (view_in m n) call texts)
     by None none = absurd (needs_file words who n i (look (view_in m) n) d parts.1 none)
@@ -282,7 +283,7 @@ import_goes heading i n m texts d is are =
     let found = passed (found_rcs (view_in m (rcs_file n) ∷ []) (view_in m n)) (imports heading n (look (view_in m) n)) d
     (unlocked_step (import_outcome heading) n i (view_in m (rcs_file n) ∷ []) (look (view_in m) n) d is).1 in
     let read = found_read (view_in m (rcs_file n) ∷ []) (view_in m n) found.0 found.1 in
-    let new : Some (record { s = Some (rcs_content found.0); p = view_in m (p_file n); z = None; g = view_in m (drop 2 n) }) ≡ d.new = made_new heading n (look (view_in m) n) found.0 d found.2 in
+    let new : Some (record { s = Some (rcs_content found.0); p = view_in m (p_file n); z = None; g = view_in m (drop 2 n); l = view_in m (l_file n) }) ≡ d.new = made_new heading n (look (view_in m) n) found.0 d found.2 in
     subst (λ (files : Option Files). HasVersions (s_of (view_in m n) files) (if is_some files then imported_versions (found_rcs (view_in m (rcs_file n) ∷ []) (view_in m n)) else texts)) new
     (subst (λ (r : Result Rcs Refusal). IsOfVersions (rcs_content found.0) (imported_versions r)) (sym found.1) (trunk_made read.0 found.0 read.1))
   where
@@ -290,7 +291,7 @@ import_goes heading i n m texts d is are =
     new_of (Ok e) = e.new
     new_of (Err refusal) = None
 
-    made_new : (heading : Bool) (n : List ℕ) (f : Files) (rcs : Rcs) (d : StepEffect) → imports heading n f rcs ≡ Ok d → Some (record { s = Some (rcs_content rcs); p = f.p; z = None; g = f.g }) ≡ d.new
+    made_new : (heading : Bool) (n : List ℕ) (f : Files) (rcs : Rcs) (d : StepEffect) → imports heading n f rcs ≡ Ok d → Some (record { s = Some (rcs_content rcs); p = f.p; z = None; g = f.g; l = f.l }) ≡ d.new
     made_new heading n f rcs d is = ap new_of is
 
 -- ---- commands
@@ -343,8 +344,9 @@ by_goes who (c.Cdc words operands) i n m texts d moment login values is = cdc_go
 by_goes who (c.Prs words operands) i n m texts d moment login values is = reading_goes (prs_action words who.place) i n m texts d (prs_keeps words who.place) refl is
 by_goes who (c.Val words) i n m texts d moment login values is = reading_goes (val_action words) i n m texts d (val_keeps words (λ name. None)) refl is
 by_goes who (c.What first operands) i n m texts d moment login values is = reading_goes (what_action first) i n m texts d (what_keeps first) refl is
-by_goes who (c.Recover operands) i n m texts d moment login values is = left (view_in m n) _ d texts (recover_leaves n (look (view_in m) n)) is
+by_goes who (c.Recover operands) i n m texts d moment login values is = left (view_in m n) _ d texts (recover_leaves n (map (view_in m) (intent_file ∷ [])) (look (view_in m) n)) is
 by_goes who (c.Import operands) i n m texts d moment login values is = import_goes (has_heading operands) i n m texts d is
+by_goes who c.Group i n m texts d moment login values is = refused m n texts d is
 by_goes who c.Batch i n m texts d moment login values is = refused m n texts d is
 by_goes who (c.Soak number) i n m texts d moment login values is = refused m n texts d is
 

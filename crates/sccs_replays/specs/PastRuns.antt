@@ -1,5 +1,5 @@
 -- Runs that follow one another, and what their scripts make of the versions of an s-file: POSIX, Shell and Utilities, admin and delta.
-use Rattle.std.specs.Prelude.{◌≡◌, ℕ, suc, ◌-◌, ◌==◌, nat_lt, length, Bool, true, false, ◌&&◌, List, [], ◌∷◌, ◌++◌, map, take, drop, Option, None, Some, IfSome, is_some, Result, Ok, Err, if◌then◌else◌}
+use Rattle.std.specs.Prelude.{◌≡◌, ℕ, suc, ◌-◌, ◌==◌, nat_lt, length, Bool, true, false, not, ◌&&◌, List, [], ◌∷◌, ◌++◌, map, take, drop, Option, None, Some, IfSome, is_some, Result, Ok, Err, if◌then◌else◌}
 use Rattle.std.specs.List.{AllByRecursion}
 use Rattle.std.specs.Str.{bytes_eq}
 use Rattle.sccs_base.specs.Constants.{file_limit}
@@ -8,13 +8,17 @@ use Rattle.sccs_base.specs.Login.{IsLogin}
 use Rattle.sccs_base.specs.Name.{p_file}
 use Rattle.sccs_disk.specs.Files.{Content, Folder, view_in}
 use Rattle.sccs_sid.specs.Moment.{IsMoment}
+use Rattle.sccs_sid.specs.Reading.{is_empty}
 use Rattle.sccs_sid.specs.declared.refusals.Refusal.{Refusal}
 use Rattle.sccs_history.specs.Applied.{live_serials}
 use Rattle.sccs_history.specs.History.{is_rooted}
 use Rattle.sccs_history.specs.Numbers.{has}
 use Rattle.sccs_grammar.specs.File.{IsSFile, Parsed}
-use Rattle.sccs_files.specs.StepFiles.{moved_in}
-use Rattle.sccs_steps.specs.StepLists.{NamedStep, folder_after}
+use Rattle.sccs_files.specs.StepFiles.{l_file}
+use Rattle.sccs_intents.specs.Intents as intents
+use Rattle.sccs_intents.specs.declared.intents.Entry as intended
+use Rattle.sccs_moments.specs.Recovery.{fate_at, is_kept}
+use Rattle.sccs_steps.specs.StepLists.{NamedStep, folder_after, step_in}
 use Rattle.sccs_steps.specs.Unlocked.{ArePlain}
 use Rattle.sccs_courses.specs.Courses.{steps_along}
 use Rattle.sccs_batch.specs.BatchText.{batch_of}
@@ -34,7 +38,12 @@ use Rattle.sccs_trunks.specs.declared.revisions.Rcs.{Rcs}
 use Rattle.sccs_soak.specs.Commands.{soak_commands}
 use Rattle.sccs_front.specs.Front.{front_of}
 use Rattle.sccs_top.specs.Asked.{asked_of}
-use Rattle.sccs_top.specs.Runs.{Caller, action_of, caller_by, command_steps, entry_command, list_in, meant_course, run_steps}
+use Rattle.sccs_group_words.specs.GroupText.{group_of}
+use Rattle.sccs_group_words.specs.declared.entries.GroupEntry.{GroupEntry}
+use Rattle.sccs_group_step.specs.GroupStep.{EntrySteps, entry_steps}
+use Rattle.sccs_top.specs.Runs.{Caller, action_of, caller, caller_by, command_steps, course_with, entry_command, group_use, list_in, meant_course, run_steps}
+use Rattle.sccs_top.specs.declared.commands.GroupUse.{GroupUse}
+use Rattle.sccs_top.specs.declared.commands.GroupUse.TheVariants as uses
 use Rattle.sccs_top.specs.declared.commands.CommandList.{CommandList}
 use Rattle.sccs_top.specs.declared.commands.CommandList.TheVariants as list
 
@@ -118,20 +127,59 @@ commands_listed r (first ∷ next ∷ rest) =
 abbrev pub commands_of : PastRun → List PastRun
 commands_of r = commands_listed r (front_of r.words)
 
+-- ---- what is asked of a command
+
+-- the entries of a group's input
+abbrev pub entries_read : Result (List GroupEntry) ℕ → List GroupEntry
+entries_read (Ok entries) = entries
+entries_read (Err line) = []
+
+abbrev pub group_entries : List ℕ → List GroupEntry
+group_entries input = entries_read (group_of (text_of input))
+
+-- the deltas of a group, each a step of its own name; none where one of them is refused
+abbrev pub deltas_read : EntrySteps → List NamedStep
+deltas_read (Ok ts) = ts
+deltas_read (Err e) = []
+
+abbrev pub deltas_in : Caller → Folder → List GroupEntry → List NamedStep
+deltas_in who m entries = deltas_read (entry_steps who.stamp (view_in m) entries)
+
+-- the steps of a run that is a command, as far as they are made
+abbrev pub steps_with : Option GroupUse → PastRun → Command → List NamedStep
+steps_with group r command = take r.made (steps_along (course_with group r.who command) r.folder r.input)
+
 -- where a command changes files no g-file has the name of an s-file, p-file or z-file
-abbrev pub IsPlainBy : Caller → Result Command Usage → List NamedStep → Type 0
-IsPlainBy who (Ok command) ts = ArePlain (action_of who command) ts
-IsPlainBy who (Err usage) ts = Unit {0}
+abbrev pub IsPlainWith : Option GroupUse → PastRun → Command → Type 0
+IsPlainWith None r command = ArePlain (action_of r.who command) (steps_with None r command)
+IsPlainWith (Some uses.Makes) r command = AllByRecursion (λ (t : NamedStep). is_kept (drop 2 t.name) ≡ false) (deltas_in r.who r.folder (group_entries r.input))
+IsPlainWith (Some uses.Finishes) r command =
+    AllByRecursion (λ (e : intended.Entry). is_kept (drop 2 e.name) ≡ false) (intents.entries_in (view_in r.folder intents.intent_file))
+    × ArePlain (action_of r.who command) (drop 1 (steps_with (Some uses.Finishes) r command))
+
+-- a recover that finishes a group is the start of the files of its names
+abbrev pub IsFreeWith : List ℕ → Option GroupUse → PastRun → Type 0
+IsFreeWith n (Some uses.Finishes) r = fate_at (view_in r.folder) n ≡ None
+IsFreeWith n group r = Unit {0}
+
+-- what is asked of the names of a command
+pub record HasPlainNames (n : List ℕ) (group : Option GroupUse) (r : PastRun) (command : Command) : Type 0 where
+  pub plain : IsPlainWith group r command
+  pub free : IsFreeWith n group r
+
+abbrev pub IsPlainBy : List ℕ → PastRun → Result Command Usage → Type 0
+IsPlainBy n r (Ok command) = HasPlainNames n (group_use command) r command
+IsPlainBy n r (Err usage) = Unit {0}
 
 -- The moment and the login of a command are such, and its g-files have plain names.
-pub record IsPastCommand (r : PastRun) : Type 0 where
+pub record IsPastCommand (n : List ℕ) (r : PastRun) : Type 0 where
   pub moment : IsMoment r.who.stamp.moment
   pub login : IsLogin r.who.stamp.login
-  pub plain : IsPlainBy r.who (meaning r.words) (single_steps r (meaning r.words))
+  pub plain : IsPlainBy n r (meaning r.words)
 
 -- so it is of each command of a run
-abbrev pub IsPastRun : PastRun → Type 0
-IsPastRun r = AllByRecursion IsPastCommand (commands_of r)
+abbrev pub IsPastRun : List ℕ → PastRun → Type 0
+IsPastRun n r = AllByRecursion (IsPastCommand n) (commands_of r)
 
 -- ---- runs in turn
 
@@ -162,7 +210,7 @@ HasVersions s texts = IfSome s (λ (c : Content). IsOfVersions c texts)
 
 -- the call of delta that is made on a name in a folder
 abbrev pub call_in : Caller → DeltaWords → List ℕ → Folder → List ℕ → DeltaCall
-call_in who words i m n = record { words = words; stamp = who.stamp; input = i; p = view_in m (p_file n); g = view_in m (drop 2 n) }
+call_in who words i m n = record { words = words; stamp = who.stamp; input = i; p = view_in m (p_file n); g = view_in m (drop 2 n); l = view_in m (l_file n) }
 
 -- a delta, and null deltas before it, are added; the others stay
 abbrev pub with_read : Result CallRead Refusal → Texts → Texts
@@ -195,14 +243,31 @@ versions_after_command who command i m n texts = texts
 abbrev pub versions_after_step : Caller → Command → List ℕ → List ℕ → Folder → NamedStep → Texts → Texts
 versions_after_step who command i n m t texts = if bytes_eq t.name n && is_some t.effect.new then versions_after_command who command i m n texts else texts
 
+-- those after the deltas of a group, each in the folder that those before left
+abbrev pub versions_after_deltas : Caller → List ℕ → Folder → List GroupEntry → List NamedStep → Texts → Texts
+versions_after_deltas who n m [] ts texts = texts
+versions_after_deltas who n m (e ∷ es) [] texts = texts
+versions_after_deltas who n m (e ∷ es) (t ∷ ts) texts =
+    versions_after_deltas who n (step_in m t) es ts (versions_after_step (caller who.stamp who.place) (c.Delta e.words e.name) e.script n m t texts)
+
+-- whether a step of a group changes files: it has several names, and isn't refused
+abbrev pub makes_group : NamedStep → Bool
+makes_group t = not (is_empty t.more) && t.effect.status == 0
+
+-- those after a step of a command: a group's adds the deltas of its entries, and recovery leaves the versions
+abbrev pub versions_with : Option GroupUse → Caller → Command → List ℕ → List ℕ → Folder → NamedStep → Texts → Texts
+versions_with None who command i n m t texts = versions_after_step who command i n m t texts
+versions_with (Some uses.Makes) who command i n m t texts = if makes_group t then versions_after_deltas who n m (group_entries i) (deltas_in who m (group_entries i)) texts else texts
+versions_with (Some uses.Finishes) who command i n m t texts = texts
+
 -- the same after steps, each in the folder that those before left
-abbrev pub versions_after_steps : Caller → Command → List ℕ → List ℕ → Folder → List NamedStep → Texts → Texts
-versions_after_steps who command i n m [] texts = texts
-versions_after_steps who command i n m (t ∷ ts) texts = versions_after_steps who command i n (moved_in m t.name t.effect.new) ts (versions_after_step who command i n m t texts)
+abbrev pub versions_after_steps : Option GroupUse → Caller → Command → List ℕ → List ℕ → Folder → List NamedStep → Texts → Texts
+versions_after_steps group who command i n m [] texts = texts
+versions_after_steps group who command i n m (t ∷ ts) texts = versions_after_steps group who command i n (step_in m t) ts (versions_with group who command i n m t texts)
 
 -- the same after a command that is made to its end or in part; a usage fault leaves them
 abbrev pub versions_after_run : List ℕ → PastRun → Result Command Usage → Texts → Texts
-versions_after_run n r (Ok command) texts = versions_after_steps r.who command r.input n r.folder (single_steps r (Ok command)) texts
+versions_after_run n r (Ok command) texts = versions_after_steps (group_use command) r.who command r.input n r.folder (single_steps r (Ok command)) texts
 versions_after_run n r (Err usage) texts = texts
 
 -- the same after several commands

@@ -14,7 +14,7 @@ use Rattle.sccs_sid.specs.declared.sids.Sid.{Sid}
 use Rattle.sccs_sid.specs.declared.refusals.Refusal.{Refusal}
 use Rattle.sccs_sid.specs.declared.refusals.StepFault.{StepFault}
 use Rattle.sccs_sid.specs.declared.refusals.StepFault.TheVariants.{Refused, Memory, ReadFault, WriteFault, DiskFault}
-use Rattle.sccs_files.specs.StepFiles.{Files, Moves, is_working, look}
+use Rattle.sccs_files.specs.StepFiles.{Files, Moves, is_working, l_file, look}
 use Rattle.sccs_history.specs.Removal.{dropped}
 use Rattle.sccs_history.specs.declared.headers.Header.{Header}
 use Rattle.sccs_history.specs.declared.headers.Item.{Item}
@@ -141,16 +141,18 @@ unremovable sid stamp fault n x left (Some v) o2 out err sfile same read finds =
 
 -- ---- the x-file is written
 
-abbrev files_of : Option Content → Option Content → Option Content → Option Files
-files_of s p g = Some (record { s = s; p = p; z = None; g = g })
+abbrev files_of : Option Content → Option Content → Option Content → Option Content → Option Files
+files_of s p g l = Some (record { s = s; p = p; z = None; g = g; l = l })
 
-new_files : (n : List ℕ) (c : Content) (v : View) (p : Prepared) → IsSfile n → IsRewrite p → files_of (Some c) (unlocked n v (p_file n)) (unlocked n v (drop 2 n)) ≡ Some (files_after n (plan_of p) (put v (x_file n) (Some c)))
+new_files : (n : List ℕ) (c : Content) (v : View) (p : Prepared) → IsSfile n → IsRewrite p → files_of (Some c) (unlocked n v (p_file n)) (unlocked n v (drop 2 n)) (unlocked n v (l_file n)) ≡ Some (files_after n (plan_of p) (put v (x_file n) (Some c)))
 new_files n c v p sfile new =
-    ap (λ (o : Option Content). files_of (Some c) o (unlocked n v (drop 2 n))) (put_other v (z_file n) (p_file n) None refl ∙ sym (put_other v (x_file n) (p_file n) (Some c) refl))
-    ∙ (ap (λ (o : Option Content). files_of (Some c) (u (p_file n)) o) (put_other v (z_file n) (drop 2 n) None (from_g 122 n sfile) ∙ sym (put_other v (x_file n) (drop 2 n) (Some c) (from_g 120 n sfile)))
-    ∙ (ap (λ (o : Option Content). files_of o (u (p_file n)) (u (drop 2 n))) (sym (put_same v (x_file n) (Some c)) ∙ ap (λ b. chosen (replaced b) (u (x_file n)) (u n)) (sym new.new_s))
-    ∙ (ap (λ (f : NewFile). files_of (chosen (replaced p.new_s) (u (x_file n)) (u n)) (chosen f (u (q_file n)) (u (p_file n))) (u (drop 2 n))) (sym new.new_p)
-    ∙ ap (λ (f : NewFile). files_of (chosen (replaced p.new_s) (u (x_file n)) (u n)) (chosen p.new_p (u (q_file n)) (u (p_file n))) (chosen f (u (y_file n)) (u (drop 2 n)))) (sym new.new_g))))
+    ap (λ (o : Option Content). files_of (Some c) o (unlocked n v (drop 2 n)) (unlocked n v (l_file n))) (put_other v (z_file n) (p_file n) None refl ∙ sym (put_other v (x_file n) (p_file n) (Some c) refl))
+    ∙ (ap (λ (o : Option Content). files_of (Some c) (u (p_file n)) o (unlocked n v (l_file n))) (put_other v (z_file n) (drop 2 n) None (from_g 122 n sfile) ∙ sym (put_other v (x_file n) (drop 2 n) (Some c) (from_g 120 n sfile)))
+    ∙ (ap (λ (o : Option Content). files_of o (u (p_file n)) (u (drop 2 n)) (unlocked n v (l_file n))) (sym (put_same v (x_file n) (Some c)) ∙ ap (λ b. chosen (replaced b) (u (x_file n)) (u n)) (sym new.new_s))
+    ∙ (ap (λ (f : NewFile). files_of (chosen (replaced p.new_s) (u (x_file n)) (u n)) (chosen f (u (q_file n)) (u (p_file n))) (u (drop 2 n)) (unlocked n v (l_file n))) (sym new.new_p)
+    ∙ (ap (λ (f : NewFile). files_of (chosen (replaced p.new_s) (u (x_file n)) (u n)) (chosen p.new_p (u (q_file n)) (u (p_file n))) (chosen f (u (y_file n)) (u (drop 2 n))) (unlocked n v (l_file n))) (sym new.new_g)
+    ∙ ap (λ (o : Option Content). files_of (chosen (replaced p.new_s) (u (x_file n)) (u n)) (chosen p.new_p (u (q_file n)) (u (p_file n))) (chosen p.new_g (u (y_file n)) (u (drop 2 n))) o)
+    (put_other v (z_file n) (l_file n) None refl ∙ sym (put_other v (x_file n) (l_file n) (Some c) refl))))))
   where
     u : View
     u = put v (x_file n) (Some c)
@@ -170,8 +172,8 @@ removed_at sid stamp n i x serial (Ok p) v o2 out err sfile read finds moves new
       message = sym new.message_is;
       view = moves_wider (bytes_eq (x_file n)) (is_working n) (Some v) o2 (no_x n) moves;
       working = x_alone n p (Some v) o2 new.new_s moves;
-      files = subst (λ (o : Option View). IfSome o (λ u. files_of (Some (sealed (without_delta finds.0.serial read.0.header) (dropped finds.0.serial read.0.items))) f.p f.g ≡ Some (files_after n (plan_of p) u))) (sym writes)
-          (ap (λ (d : Content). files_of (Some d) f.p f.g) same ∙ new_files n c v p sfile new);
+      files = subst (λ (o : Option View). IfSome o (λ u. files_of (Some (sealed (without_delta finds.0.serial read.0.header) (dropped finds.0.serial read.0.items))) f.p f.g f.l ≡ Some (files_after n (plan_of p) u))) (sym writes)
+          (ap (λ (d : Content). files_of (Some d) f.p f.g f.l) same ∙ new_files n c v p sfile new);
       out = gives_none out;
     }
 removed_at sid stamp n i x serial (Err (Refused refusal)) v o2 out err sfile read finds moves new writes = absurd writes

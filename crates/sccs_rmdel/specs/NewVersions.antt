@@ -43,6 +43,6 @@ pub record RemovesDelta (sid : Sid) (stamp : Stamp) (f : Files) (old : Content) 
   pub meant : removable sid stamp before.header edits ≡ Ok delta
   pub out : TakesOut before after delta
   -- the new s-file reads as this file; p-file and g-file stay, and the entries agree with the new table
-  pub files : effect.new ≡ Some (record { s = Some (sealed after.header after.items); p = f.p; z = None; g = f.g })
+  pub files : effect.new ≡ Some (record { s = Some (sealed after.header after.items); p = f.p; z = None; g = f.g; l = f.l })
   pub reads : IsSFile (sealed after.header after.items).bytes after.header after.items
   pub left : Agrees after.header.records edits

@@ -48,6 +48,7 @@ removes f found delta = record {
     p = f.p;
     z = None;
     g = f.g;
+    l = f.l;
   });
   text = [];
   out = [];
@@ -67,5 +68,6 @@ rmdel_change sid stamp = record {
   named = λ n. [];
   takes = false;
   silent = true;
+  early = false;
   could = quiet_checks rmdel_checks;
 }

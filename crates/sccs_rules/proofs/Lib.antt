@@ -2,6 +2,7 @@ pub mod Digits
 pub mod FlagPlaces
 pub mod FlagRules
 pub mod InTurn
+pub mod KeptUsers
 pub mod Parts
 pub mod Spaced
 pub mod UserRules

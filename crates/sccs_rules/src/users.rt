@@ -1,11 +1,13 @@
 ghost use Rattle.std.specs.Prelude.{◌≡◌, [], ◌∷◌, ◌++◌, IfOk, OnOk, fold};
 ghost use Rattle.std.specs.List.{list_any};
-ghost use Rattle.std.specs.Str.{bytes_eq};
+ghost use Rattle.sccs_name_sets.specs.NameSets.{HasNames, names_in};
 ghost use Rattle.sccs_sid.specs.SidLists.{begins};
 ghost use Rattle.sccs_rules.specs.Users.{changed_users, has_lf, is_own_line, with_user, without_users};
 
 use sccs_base::{Bytes, LF, Line, Memory, SOH, Text, Words};
+use sccs_name_sets::{NameSet, has_name, insert_name, set_of};
 use std::alloc::Global;
+use std::collections::BTreeSet;
 
 /// Whether LF is among bytes.
 pub fn has_lf(bytes: &[u8]) -> bool
@@ -31,73 +33,78 @@ fn is_own_line(name: &[u8]) -> bool
     !begins_with_soh(name) && !has_lf(name)
 }
 
-// whether two names are the same
-fn is_same(name: &[u8], other: &[u8]) -> bool
-    ensures { result ≡ bytes_eq name.now other.now }
+// the names of users, as a set
+fn known_users(alloc: Global, users: &[Line]) -> Result<NameSet, Memory>
+    ensures { IfOk result (λ set. HasNames set users.now) }
 {
-    name == other
-}
-
-// whether a name is among users
-fn is_user(users: &[Line], name: &[u8]) -> bool
-    ensures { result ≡ list_any (bytes_eq name.now) users.now }
-{
-    users.iter().any(|user| is_same(name, user.bytes()))
-}
-
-// whether a user is among names
-fn is_named(names: &[Bytes], user: &[u8]) -> bool
-    ensures { result ≡ list_any (bytes_eq user.now) names.now }
-{
-    names.iter().any(|name| is_same(user, name.bytes()))
-}
-
-// adds a name last, unless it is there
-fn add_user(alloc: Global, users: Text, name: &[u8]) -> Result<Text, Memory>
-    ensures { IfOk result (λ after. after ≡ with_user users name.now) }
-{
-    if !(is_own_line(name) && !is_user(users.items(), name)) {
-        return Ok(users);
+    let mut set = BTreeSet::new(alloc);
+    for user in users {
+        insert_name(&mut set, alloc, user.bytes())?;
     }
+    Ok(set)
+}
+
+// puts a name behind users
+fn push_user(alloc: Global, users: &mut Text, name: &[u8]) -> Result<(), Memory>
+    ensures { OnOk result (users.new ≡ users.old ++ (name.now ∷ [])) }
+{
     let Ok(line) = Line::new(alloc, name) else {
         return Err(Memory);
     };
-    let mut users = users;
-    users.push(line)?;
-    Ok(users)
+    users.push(line)
+}
+
+// adds a name last, unless it is there
+fn add_user(alloc: Global, known: &mut NameSet, users: &mut Text, name: &[u8]) -> Result<(), Memory>
+    requires { HasNames known.old users.old }
+    ensures users { OnOk result (users.new ≡ with_user users.old name.now) }
+    ensures known { OnOk result (HasNames known.new users.new) }
+{
+    if !is_own_line(name) {
+        return Ok(());
+    }
+    if !insert_name(known, alloc, name)? {
+        return Ok(());
+    }
+    push_user(alloc, users, name)
 }
 
 // adds names in their order
 fn add_users(alloc: Global, users: Text, names: &[Bytes]) -> Result<Text, Memory>
     ensures { IfOk result (λ after. after ≡ fold with_user users names.now) }
 {
+    if names.is_empty() {
+        return Ok(users);
+    }
+    let mut known = known_users(alloc, users.items())?;
     let mut users = users;
     for name in names {
-        users = add_user(alloc, users, name.bytes())?;
+        add_user(alloc, &mut known, &mut users, name.bytes())?;
     }
     Ok(users)
 }
 
 // copies a user behind others, unless it is among names
-fn keep_user(alloc: Global, kept: &mut Text, names: &[Bytes], user: &Line) -> Result<(), Memory>
-    ensures { OnOk result (kept.new ≡ kept.old ++ without_users names.now (user.now ∷ [])) }
+fn keep_user(alloc: Global, kept: &mut Text, names: &NameSet, user: &Line) -> Result<(), Memory>
+    ensures { OnOk result (kept.new ≡ kept.old ++ without_users (names_in names.now) (user.now ∷ [])) }
 {
-    if is_named(names, user.bytes()) {
+    if has_name(names, user.bytes()) {
         return Ok(());
     }
-    let Ok(line) = Line::new(alloc, user.bytes()) else {
-        return Err(Memory);
-    };
-    kept.push(line)
+    push_user(alloc, kept, user.bytes())
 }
 
 // the users that are not among names
-fn without_users(alloc: Global, names: &[Bytes], users: &[Line]) -> Result<Text, Memory>
-    ensures { IfOk result (λ after. after ≡ without_users names.now users.now) }
+fn without_users(alloc: Global, names: &[Bytes], users: Text) -> Result<Text, Memory>
+    ensures { IfOk result (λ after. after ≡ without_users names.now users) }
 {
+    if names.is_empty() {
+        return Ok(users);
+    }
+    let names = set_of(alloc, names)?;
     let mut kept = Text::empty(alloc);
-    for user in users {
-        keep_user(alloc, &mut kept, names, user)?;
+    for user in users.items() {
+        keep_user(alloc, &mut kept, &names, user)?;
     }
     Ok(kept)
 }
@@ -113,5 +120,5 @@ pub fn change_users(
     ensures { IfOk result (λ after. after ≡ changed_users users added.now erased.now) }
 {
     let users = add_users(alloc, users, added.items())?;
-    without_users(alloc, erased.items(), users.items())
+    without_users(alloc, erased.items(), users)
 }

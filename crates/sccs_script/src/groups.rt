@@ -2,6 +2,7 @@ ghost use Rattle.std.specs.Prelude.{◌≡◌, ◌++◌, List, [], ◌∷◌, If
 ghost use Rattle.sccs_edits.specs.Plans.{with_added};
 ghost use Rattle.sccs_script.specs.Drafts.{DraftLine, expand, Fresh, grouped, IsPiece};
 
+use crate::copies::push_line;
 use crate::pieces::Piece;
 use sccs_base::{Line, Memory, Text};
 use sccs_edits::{Added, AddedList};
@@ -60,7 +61,7 @@ impl Groups {
         } else {
             self.end(alloc, after)?
         };
-        groups.lines.push(line)?;
+        push_line(alloc, &mut groups.lines, line)?;
         Ok(groups)
     }
 

@@ -2,4 +2,5 @@ mod commands;
 mod draws;
 mod runs;
 mod sessions;
+mod steady;
 mod texts;

@@ -6,7 +6,7 @@ use Rattle.sccs_disk.specs.Files.{Model, View, view_of}
 use Rattle.sccs_disk.specs.Told.{Told, seen}
 use Rattle.sccs_sid.specs.declared.refusals.StepFault.{StepFault}
 use Rattle.sccs_sid.specs.declared.refusals.StepFault.TheVariants.{Refused, Memory, ReadFault, WriteFault, DiskFault}
-use Rattle.sccs_files.specs.StepFiles.{Files, look, moved}
+use Rattle.sccs_files.specs.StepFiles.{Files, MovesEarly, look, moved}
 use Rattle.sccs_steps.specs.FirstFiles.{MovesInOrder}
 use Rattle.sccs_steps.specs.Actions.{Action, IsHeard, SpeaksAs, SpeaksByAs, SteppedAs}
 use Rattle.sccs_steps.specs.Calls.{Meets, Scene, Uncommitted, World, scene, shown, world}
@@ -20,8 +20,8 @@ new_is n (Ok d) = refl
 new_is n (Err refusal) = refl
 
 -- nothing is committed, and no prefix of a text is written
-uncommitted : (n text other : List ℕ) (w w2 : World) (out err : Option (List ℕ)) → Uncommitted n text w w2 → Uncommitted n other (world w.view out err) (world w2.view out err)
-uncommitted n text other w w2 out err left = record { view = left.view; cleared = left.cleared; out = some_none out other; err = refl }
+uncommitted : (n : List ℕ) (new new2 : Option Files) (text other : List ℕ) (w w2 : World) (out err : Option (List ℕ)) → new2 ≡ new → Uncommitted n new text w w2 → Uncommitted n new2 other (world w.view out err) (world w2.view out err)
+uncommitted n new new2 text other w w2 out err is left = record { view = subst (λ (f : Option Files). MovesEarly n f w.view w2.view) (sym is) left.view; cleared = left.cleared; out = some_none out other; err = refl }
 
 module _ {X : Type 0} (code : X → ℕ) (n : List ℕ) where
   pub dropped_meets : (r : Result X StepFault) (o : Outcome) (w w2 : World) (out err : Option (List ℕ)) → Meets code r n o w w2 → Meets code r n (dropped o) (world w.view out err) (world w2.view out err)
@@ -31,10 +31,10 @@ module _ {X : Type 0} (code : X → ℕ) (n : List ℕ) where
     met.2,
     record { view = met.3.view; cleared = met.3.cleared; out = gives_none out; err = gives_none err },
   )
-  dropped_meets (Err (Refused refusal)) o w w2 out err met = (ap dropped met.0, uncommitted n [] [] w w2 out err met.1)
-  dropped_meets (Err Memory) o w w2 out err met = uncommitted n (effect_of n o).text (effect_of n (dropped o)).text w w2 out err met
-  dropped_meets (Err ReadFault) o w w2 out err met = uncommitted n (effect_of n o).text (effect_of n (dropped o)).text w w2 out err met
-  dropped_meets (Err WriteFault) o w w2 out err (inl kept) = inl (uncommitted n (effect_of n o).text (effect_of n (dropped o)).text w w2 out err kept)
+  dropped_meets (Err (Refused refusal)) o w w2 out err met = (ap dropped met.0, uncommitted n None None [] [] w w2 out err refl met.1)
+  dropped_meets (Err Memory) o w w2 out err met = uncommitted n _ _ (effect_of n o).text (effect_of n (dropped o)).text w w2 out err (new_is n o) met
+  dropped_meets (Err ReadFault) o w w2 out err met = uncommitted n _ _ (effect_of n o).text (effect_of n (dropped o)).text w w2 out err (new_is n o) met
+  dropped_meets (Err WriteFault) o w w2 out err (inl kept) = inl (uncommitted n _ _ (effect_of n o).text (effect_of n (dropped o)).text w w2 out err (new_is n o) kept)
   dropped_meets (Err WriteFault) o w w2 out err (inr cut) =
       inr (dropped_effect cut.0, ap dropped cut.1, record { status = cut.2.status; view = cut.2.view; cleared = cut.2.cleared; out = some_none out []; err = some_none err [] })
   dropped_meets (Err DiskFault) o w w2 out err met = record {

@@ -1,5 +1,5 @@
 -- A utility whose output is dropped (own): only its refusals are said.
-use Rattle.std.specs.Prelude.{◌≡◌, ℕ, Bool, true, List, [], Option, None, Some, Result, Ok, Err}
+use Rattle.std.specs.Prelude.{◌≡◌, ℕ, Bool, true, List, [], map, Option, None, Some, Result, Ok, Err}
 use Rattle.std.proofs.Common.{refl, ap, subst, ◌∙◌}
 use Rattle.sccs_disk.specs.Files.{Content}
 use Rattle.sccs_sid.specs.Reading.{is_empty}
@@ -53,4 +53,5 @@ dropping_keeps x keeps = record {
   quiet = λ reads n i named f d is. dropped_new (x.step n i named f) d (λ e made. keeps.quiet reads n i named f e made) is;
   names = keeps.names;
   locked = λ changes locks n i named f d is there g new. dropped_locked (x.step n i named f) d f g (λ e made brings. keeps.locked changes locks n i named f e made there g brings) is new;
+  pending = λ changes never n i v f d there is. dropped_new (x.step n i (map v (x.named n)) f) d (λ e made. keeps.pending changes never n i v f e there made) is;
 }

@@ -29,4 +29,5 @@ summary_keeps rounds = record {
   quiet = λ reads n i named f d is. by_file rounds (bytes_or_none f.s) (or_refusal (answer file_of (bytes_or_none f.s))) d (sym (outcome_is rounds f) ∙ is);
   names = λ changes n fits. absurd cc;
   locked = λ changes locks n i named f d is there g new. absurd cc;
+  pending = λ changes never n i v f d there is. absurd cc;
 }

@@ -1,11 +1,12 @@
 -- Fronts of lists of steps: the views, and what is written before a report.
-use Rattle.std.proofs.Common.{◌≡◌, ℕ, zero, suc, ◌+◌, ◌≤◌, List, [], ◌∷◌, ◌++◌, take, drop, length, Option, None, Some, refl, sym, ap, subst, ◌∙◌, arith, append_assoc, length-append, length-take}
+use Rattle.std.proofs.Common.{◌≡◌, ℕ, Bool, zero, suc, ◌+◌, ◌≤◌, List, [], ◌∷◌, ◌++◌, take, drop, length, Option, None, Some, refl, sym, ap, subst, ◌∙◌, arith, append_assoc, length-append, length-take}
 use Rattle.std.proofs.lemmas.List.{drop-append-le, take-append-le, take_all}
 use Rattle.std.proofs.Math.Seq.{drop-append-add, take-append-add}
 use Rattle.sccs_base.specs.Stream.{GivesSome}
-use Rattle.sccs_disk.specs.Files.{Folder, view_in}
-use Rattle.sccs_steps.specs.StepLists.{NamedStep, err_of, folder_after, next_text, out_of}
+use Rattle.sccs_disk.specs.Files.{Folder, View, view_in}
+use Rattle.sccs_steps.specs.StepLists.{NamedStep, ShowsEarly, err_of, folder_after, next_text, out_of}
 use Rattle.sccs_steps.specs.ListStops.{err_before, given_more, out_before, view_at}
+use Rattle.sccs_steps.proofs.FirstMoved.{early_longer}
 use Rattle.sccs_steps.proofs.JoinedSteps.{after_more, err_more, out_more, text_longer}
 
 -- ---- the views
@@ -18,6 +19,17 @@ view_past m ts us k = ap (λ (front : List NamedStep). view_in (folder_after m f
 
 pub view_all : (m : Folder) (ts : List NamedStep) (k : ℕ) → k ≡ length ts → view_at m ts k ≡ view_in (folder_after m ts)
 view_all m ts k is = ap (λ (front : List NamedStep). view_in (folder_after m front)) (take_all k ts (omega (arith, is)))
+
+-- the l-file of the next step may be new
+pub early_front : (w : List ℕ → Bool) (told : Option View) (m : Folder) (ts us : List NamedStep) (k : ℕ) → k ≤ length ts → ShowsEarly w (drop k ts) told (view_at m ts k) → ShowsEarly w (drop k (ts ++ us)) told (view_at m (ts ++ us) k)
+early_front w told m ts us k low shows =
+    subst (λ (rest : List NamedStep). ShowsEarly w rest told (view_at m (ts ++ us) k)) (sym (drop-append-le k ts us low))
+    (early_longer w told (view_at m (ts ++ us) k) (drop k ts) us (subst (λ (v : View). ShowsEarly w (drop k ts) told v) (sym (view_front m ts us k low)) shows))
+
+pub early_past : (w : List ℕ → Bool) (told : Option View) (m : Folder) (ts us : List NamedStep) (k : ℕ) → ShowsEarly w (drop k us) told (view_at (folder_after m ts) us k) → ShowsEarly w (drop (length ts + k) (ts ++ us)) told (view_at m (ts ++ us) (length ts + k))
+early_past w told m ts us k shows =
+    subst (λ (rest : List NamedStep). ShowsEarly w rest told (view_at m (ts ++ us) (length ts + k))) (sym (drop-append-add ts us k))
+    (subst (λ (v : View). ShowsEarly w (drop k us) told v) (sym (view_past m ts us k)) shows)
 
 -- ---- what is written
 

@@ -6,14 +6,14 @@ use Rattle.sccs_base.specs.Stream.{GivesOk, GivesSome}
 use Rattle.sccs_disk.specs.Files.{Folder, view_in}
 use Rattle.sccs_steps.specs.Calls.{World}
 use Rattle.sccs_files.specs.StepFiles.{Shows}
-use Rattle.sccs_steps.specs.StepLists.{NamedStep, Ran, Stopped, ListInterrupted, Stops, Runs, ShowsNext, SoFar, Parts, folder_after, next_folder, out_of, err_of, status_of, next_text}
+use Rattle.sccs_steps.specs.StepLists.{NamedStep, Ran, Stopped, ListInterrupted, Stops, Runs, ShowsEarly, ShowsNext, SoFar, Parts, folder_after, next_folder, out_of, err_of, status_of, next_text}
 use Rattle.sccs_steps.specs.declared.faults.Fault.{Fault}
 use Rattle.sccs_steps.specs.declared.faults.Fault.TheVariants.{Memory, ReadFault, WriteFault, DiskFault}
 use Rattle.sccs_steps.specs.Statuses.{idle_status, joined_status}
 use Rattle.sccs_steps.specs.declared.statuses.StatusRule.{StatusRule}
 use Rattle.sccs_steps.proofs.Cleared.{cleared_same, cleared_then}
 use Rattle.sccs_base.proofs.Gifts.{gives_none, gives_both, gives_then, some_longer}
-use Rattle.sccs_steps.proofs.FirstMoved.{next_longer}
+use Rattle.sccs_steps.proofs.FirstMoved.{early_longer, next_longer}
 use Rattle.sccs_steps.proofs.StatusLaws.{grouped, idle_first}
 
 pub after_more : (m : Folder) (ts us : List NamedStep) → folder_after m (ts ++ us) ≡ folder_after (folder_after m ts) us
@@ -57,7 +57,7 @@ stopped_then w m ts us a b c first s = record {
   made = ts ++ s.made;
   rest = s.rest;
   is = ap (λ rest. ts ++ rest) s.is ∙ sym (append_assoc ts s.made s.rest);
-  view = subst (λ (u : Folder). Shows w c.view (view_in u)) (sym (after_more m ts s.made)) s.view;
+  view = subst (λ (u : Folder). ShowsEarly w s.rest c.view (view_in u)) (sym (after_more m ts s.made)) s.view;
   cleared = cleared_then w a.view b.view c.view first.cleared s.cleared;
   out = out_then w m ts s.made s.rest a b c first s.out;
   err = err_then w m ts s.made a b c first s.err;
@@ -89,7 +89,7 @@ stopped_more w m ts us a b s = record {
   made = s.made;
   rest = s.rest ++ us;
   is = ap (λ all. all ++ us) s.is ∙ append_assoc s.made s.rest us;
-  view = s.view;
+  view = early_longer w b.view (view_in (folder_after m s.made)) s.rest us s.view;
   cleared = s.cleared;
   out = text_longer a.out b.out (out_of s.made) s.rest us s.out;
   err = s.err;

@@ -19,7 +19,7 @@ use Rattle.sccs_sid.specs.declared.refusals.Refusal.{Refusal}
 use Rattle.sccs_sid.specs.declared.refusals.Refusal.TheVariants.{TooLong}
 use Rattle.sccs_steps.specs.Actions.{Action, AreClear, IsHeard, hears, input_steps, kind_hears, kind_of, kind_steps, names_found, names_given, steps_of}
 use Rattle.sccs_steps.specs.Calls.{Scene, World, scene, shown}
-use Rattle.sccs_steps.specs.ListStops.{AreSafe, KeepsNames, ListMoments, MayBegin, RunMoments, Spares, StaySafe}
+use Rattle.sccs_steps.specs.ListStops.{AreSafe, KeepsSafe, ListMoments, MayBegin, RunMoments, Spares, StaySafe}
 use Rattle.sccs_steps.specs.Messages.{SaysRefusal}
 use Rattle.sccs_steps.specs.Running.{MakesBy, StopsBy}
 use Rattle.sccs_steps.specs.Speaking.{KindBegins, KindMakes, MayStandFor, SpeakNames, SpeaksKind, SpeaksOne}
@@ -31,7 +31,7 @@ use Rattle.sccs_steps.specs.declared.operands.OperandKind.TheVariants.{Named, He
 use Rattle.sccs_steps.specs.Statuses.{idle_status}
 use Rattle.sccs_steps.specs.declared.statuses.StatusRule.{StatusRule}
 use Rattle.sccs_steps.proofs.Cleared.{cleared_same}
-use Rattle.sccs_steps.proofs.FirstMoved.{shows_none}
+use Rattle.sccs_steps.proofs.FirstMoved.{early_none, shows_none}
 use Rattle.sccs_steps.proofs.JoinedSteps.{ran_then, stops_then}
 use Rattle.sccs_steps.proofs.Fronts.{view_past}
 use Rattle.sccs_steps.proofs.MomentLists.{moments_never, moments_then, run_moments}
@@ -44,7 +44,7 @@ use Rattle.sccs_steps.proofs.StatusLaws.{idle_first}
 -- ---- steps that weren't begun
 
 abbrev unbegun : (w : List ℕ → Bool) (m : Folder) (ts : List NamedStep) (a : World) → Shows w a.view (view_in m) → Stopped w m ts a a
-unbegun w m ts a shows = record { made = []; rest = ts; is = refl; view = shows; cleared = cleared_same w a.view a.view refl; out = some_none a.out (next_text ts); err = some_none a.err [] }
+unbegun w m ts a shows = record { made = []; rest = ts; is = refl; view = early_none w a.view (view_in m) ts shows; cleared = cleared_same w a.view a.view refl; out = some_none a.out (next_text ts); err = some_none a.err [] }
 
 pub never_runs : (rule : StatusRule) (w : List ℕ → Bool) (fault : Fault) (m : Folder) (ts : List NamedStep) (a : World) → 0 < length ts → Shows w a.view (view_in m) → Runs rule w (Err fault) m ts a a
 never_runs rule w Memory m ts a some shows = (unbegun w m ts a shows, some)
@@ -104,7 +104,7 @@ found_moments x w r folder ts a b m past is may shows next =
     run_moments x w r folder (names_found x.rule ∷ ts) a b m past
     (moments_then w (idle_status x.rule) r folder (names_found x.rule ∷ []) ts a a b m past (found_ran x.rule w folder (shown a) shows) (moments_found x.rule w folder a m past is may shows) next.list)
     (λ other. subst (λ (v : View). StaySafe x (view_in folder) v) (sym (view_past folder (names_found x.rule ∷ []) ts next.list.number)) (next.safe other))
-    (λ other. subst (λ (v : View). KeepsNames (view_in folder) v) (sym (view_past folder (names_found x.rule ∷ []) ts next.list.number)) (next.keeps other))
+    (λ other. subst (λ (v : View). KeepsSafe (view_in folder) v) (sym (view_past folder (names_found x.rule ∷ []) ts next.list.number)) (next.keeps other))
     (images_then next.list.went.added [] m (images_now m) next.images)
 
 -- what is said of the names is said of the operand

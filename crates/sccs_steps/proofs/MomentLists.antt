@@ -18,10 +18,11 @@ use Rattle.sccs_moments.proofs.Recovering.{recovers_then}
 use Rattle.sccs_steps.specs.Actions.{Action}
 use Rattle.sccs_steps.specs.Calls.{Scene, shown}
 use Rattle.sccs_steps.specs.StepLists.{NamedStep, Ran, err_of, folder_after, next_text, out_of}
-use Rattle.sccs_steps.specs.ListStops.{IsAcknowledged, IsAtNumber, KeepsNames, KeepsNamesFrom, ListMoments, MayBegin, RunMoments, StaySafe, err_before, out_before, view_at}
+use Rattle.sccs_steps.specs.ListStops.{IsAcknowledged, IsAtNumber, KeepsSafe, KeepsSafeFrom, ListMoments, MayBegin, RunMoments, StaySafe, err_before, out_before, view_at}
 use Rattle.sccs_steps.specs.declared.faults.Fault.{Fault}
 use Rattle.sccs_steps.specs.declared.faults.Fault.TheVariants.{DiskFault}
-use Rattle.sccs_steps.proofs.Fronts.{err_front, err_past, err_rises, more_within, out_front, out_past, out_rises, view_front, view_past}
+use Rattle.sccs_steps.proofs.FirstMoved.{early_none}
+use Rattle.sccs_steps.proofs.Fronts.{early_front, early_past, err_front, err_past, err_rises, more_within, out_front, out_past, out_rises, view_front, view_past}
 
 -- ---- nothing was done
 
@@ -59,7 +60,7 @@ moments_never w fault folder ts a m past is may shows = record {
   err = some_none a.err [];
   all = λ ok. absurd (cc);
   calm = λ other. may.calm;
-  committed = λ other. shows;
+  committed = λ other. early_none w (seen a.told) (view_in folder) ts shows;
   recovers = λ other. may.recovers;
   firm = calm_firm m may.calm;
 }
@@ -108,7 +109,7 @@ moments_then w s r folder ts us a b c m past ran first next = record {
   err = subst (λ text. GivesSome a.err c.err text) (sym (err_past ts us next.number)) (gives_then a.err b.err c.err (err_of ts) (err_before us next.number) ran.err next.err);
   all = λ ok. (let e = next.all ok in omega (arith, e, length-append ts us));
   calm = λ fault. subst IsCalm (sym (newest_more next.went.added first.went.added m)) (next.calm fault);
-  committed = λ fault. subst (λ (v : View). Shows w (seen c.told) v) (sym (view_past folder ts us next.number)) (next.committed fault);
+  committed = λ fault. early_past w (seen c.told) folder ts us next.number (next.committed fault);
   recovers = λ fault.
       subst (λ (v : View). RecoversAs v (view_of (newest (next.went.added ++ first.went.added) m))) (sym (view_past folder ts us next.number))
       (subst (λ (x : Model). RecoversAs (view_at (folder_after folder ts) us next.number) (view_of x)) (sym (newest_more next.went.added first.went.added m)) (next.recovers fault));
@@ -135,7 +136,7 @@ moments_more w fault folder ts us a b m past l = record {
   err = err_front a.err b.err ts us l.number l.most l.err;
   all = λ ok. absurd (cc);
   calm = l.calm;
-  committed = λ other. subst (λ (v : View). Shows w (seen b.told) v) (sym (view_front folder ts us l.number l.most)) (l.committed other);
+  committed = λ other. early_front w (seen b.told) folder ts us l.number l.most (l.committed other);
   recovers = λ other. subst (λ (v : View). RecoversAs v (view_of (newest l.went.added m))) (sym (view_front folder ts us l.number l.most)) (l.recovers other);
   firm = l.firm;
 }
@@ -151,5 +152,5 @@ acknowledged w r folder ts a b m past l k below known = ⊎_elim (λ low. absurd
     uncounted low (inr (inr ok)) = omega (arith, low, below, l.all ok)
 
 pub run_moments : (x : Action) (w : List ℕ → Bool) (r : Result ℕ Fault) (folder : Folder) (ts : List NamedStep) (a b : Scene) (m : Model) (past : List Model) → (list : ListMoments w r folder ts a b m past)
-    → (r ≢ Err DiskFault → StaySafe x (view_in folder) (view_at folder ts list.number)) → (r ≢ Err DiskFault → KeepsNames (view_in folder) (view_at folder ts list.number)) → Each (Allows (KeepsNamesFrom m)) list.went.added m → RunMoments x w r folder ts a b m past
+    → (r ≢ Err DiskFault → StaySafe x (view_in folder) (view_at folder ts list.number)) → (r ≢ Err DiskFault → KeepsSafe (view_in folder) (view_at folder ts list.number)) → Each (Allows (KeepsSafeFrom m)) list.went.added m → RunMoments x w r folder ts a b m past
 run_moments x w r folder ts a b m past list safe keeps images = record { list = list; acknowledged = acknowledged w r folder ts a b m past list; safe = safe; keeps = keeps; images = images }

@@ -21,8 +21,8 @@ use Rattle.sccs_steps.specs.Calls.{Scene, scene}
 use Rattle.sccs_steps.specs.Messages.{Concludes, SaysRefusal}
 use Rattle.sccs_steps.specs.Actions.{Action, IsHeard, KeepsFiles, NameIsClear, outcome_at, step_at}
 use Rattle.sccs_steps.specs.StepLists.{named_step}
-use Rattle.sccs_steps.specs.StepStops.{IsSafeFor, MayStep, MeetsAtAs, StepMomentsAs}
-use Rattle.sccs_steps.specs.ListStops.{KeepsNamesFrom, MayBegin, RunMoments, Spares}
+use Rattle.sccs_steps.specs.StepStops.{IsSafeFor, MeetsAtAs, StepMomentsAs}
+use Rattle.sccs_steps.specs.ListStops.{KeepsSafeFrom, MayBegin, RunMoments, Spares}
 use Rattle.sccs_steps.specs.Unlocked.{StepOthers}
 use Rattle.sccs_steps.proofs.Carried.{step_carried}
 use Rattle.sccs_steps.specs.Running.{StopsBy}
@@ -33,7 +33,7 @@ use Rattle.sccs_steps.proofs.MomentLists.{run_moments}
 use Rattle.sccs_steps.proofs.OneMoment.{alikes_of, one_after, turned}
 use Rattle.sccs_steps.proofs.NameLaws.{fitting, kept, misfit}
 use Rattle.sccs_steps.proofs.SafeImages.{images_now, step_images, told_once}
-use Rattle.sccs_steps.proofs.Safety.{keeps_folder, keeps_same, stay_folder, stay_same, told_may, told_safe}
+use Rattle.sccs_steps.proofs.Safety.{keeps_folder, keeps_same, stay_folder, stay_same, told_safe}
 
 -- the view that is told is the folder's, but for working files
 pub alike_told : (w : List ℕ → Bool) (folder : Folder) (t : Told) (m : Model) (past : List Model) → t ≡ Tells m past → Shows w (seen t) (view_in folder) → Alike w (view_of m) (view_in folder)
@@ -42,8 +42,8 @@ alike_told w folder t m past is shows = subst (λ (told : Told). Shows w (seen t
 -- ---- a name that is refused before its step
 
 -- where nothing new is told each name is safe that was
-images_same : (v w : View) (m : Model) (past : List Model) (t : Told) → t ≡ Tells m past → (ends : EndsAfter v w m past t) → Each (Allows (KeepsNamesFrom m)) ends.0.added m
-images_same v w m past t is ends = subst (λ (xs : List Model). Each (Allows (KeepsNamesFrom m)) xs m) (told_once [] ends.0.added m past t is ends.0.is) (images_now m)
+images_same : (v w : View) (m : Model) (past : List Model) (t : Told) → t ≡ Tells m past → (ends : EndsAfter v w m past t) → Each (Allows (KeepsSafeFrom m)) ends.0.added m
+images_same v w m past t is ends = subst (λ (xs : List Model). Each (Allows (KeepsSafeFrom m)) xs m) (told_once [] ends.0.added m past t is ends.0.is) (images_now m)
 
 pub refusal_stops : (x : Action) (w : List ℕ → Bool) (r : Result ℕ Fault) (folder : Folder) (n : List ℕ) (refusal : Refusal) (a : Scene) (e : Option (List ℕ)) (m : Model) (past : List Model) → a.told ≡ Tells m past → MayBegin folder m → Shows w (seen a.told) (view_in folder) → SaysRefusal n refusal r a.err e
     → RunMoments x w r folder (named_step n (Err refusal) ∷ []) a (scene a.told a.out e) m past
@@ -84,7 +84,7 @@ called_stops : (x : Action) (n : List ℕ) (made : Result ℕ StepFault) (r : Re
 called_stops x n made r left a b e keeps fits same moments others says = λ w folder i m past spares clear shows heard is may safe.
     let alike : Alike w (view_of m) (view_in folder) = alike_told w folder a.told m past is shows in
     let o : Outcome = outcome_at x folder i n in
-    let now : MayStep x n (view_of m) = told_may x w n (view_in folder) (view_of m) keeps fits spares (λ k h. sym (alike k h)) may.recovers (safe.0 fits) in
+    let now : IsSafeFor x n (view_of m) = told_safe x w n (view_in folder) (view_of m) keeps fits spares (λ k h. sym (alike k h)) may.recovers (safe.0 fits) in
     let quiet : x.reads ≡ true → (effect_of n o).new ≡ None = λ only. kept_effect x.reads n o (kept x folder i n keeps fits) only in
     let recovers : RecoversAs (moved (view_in folder) n (effect_of n o).new) (moved (view_of m) n (effect_of n o).new) =
     step_carried x w n i (view_in folder) (view_of m) o keeps fits spares (safe.0 fits) quiet (sym (fitting x folder i n fits)) alike may.recovers in
@@ -97,8 +97,8 @@ called_stops x n made r left a b e keeps fits same moments others says = λ w fo
       same = λ only. ap seen (same only);
       kept = quiet;
       shows = shows;
-    }) (λ own. stay_folder x folder n (effect_of n o).new keeps fits quiet (safe.0 fits).0 (own_folder x w folder n o (view_of m) keeps fits spares alike recovers own))
-    (λ own. keeps_folder x folder n (effect_of n o).new keeps fits quiet (safe.0 fits).0 (own_folder x w folder n o (view_of m) keeps fits spares alike recovers own))
+    }) (λ own. stay_folder x folder n (effect_of n o).new keeps fits quiet (safe.0 fits) (own_folder x w folder n o (view_of m) keeps fits spares alike recovers own))
+    (λ own. keeps_folder x folder n (effect_of n o).new keeps fits quiet (safe.0 fits) (own_folder x w folder n o (view_of m) keeps fits spares alike recovers own))
     (λ added told at. step_images x n a.told b.told m past (effect_of n o).new added keeps fits may.calm now is same others told at) met says
 
 pub stepped_stops : (x : Action) (operand n : List ℕ) (made : Result ℕ StepFault) (r : Result ℕ Fault) (left : Option (List ℕ)) (a b : Scene) (e : Option (List ℕ)) → KeepsFiles x → x.fits operand ≡ true → n ≡ operand → (x.reads ≡ true → b.told ≡ a.told)

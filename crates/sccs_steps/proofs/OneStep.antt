@@ -7,7 +7,7 @@ use Rattle.sccs_sid.specs.declared.refusals.Refusal.{Refusal}
 use Rattle.sccs_sid.specs.declared.refusals.StepFault.{StepFault}
 use Rattle.sccs_sid.specs.declared.refusals.StepFault.TheVariants as step
 use Rattle.sccs_disk.specs.Files.{Folder, view_in}
-use Rattle.sccs_files.specs.StepFiles.{Shows}
+use Rattle.sccs_files.specs.StepFiles.{Files, Shows}
 use Rattle.sccs_steps.specs.StepEffects.{StepEffect, Outcome, effect_of}
 use Rattle.sccs_steps.specs.Calls.{World, Meets, Fails, Uncommitted, Made, ReportCut, Interrupted, world}
 use Rattle.sccs_steps.specs.Messages.{SaysRefusal, Concludes}
@@ -16,8 +16,8 @@ use Rattle.sccs_steps.specs.StepLists.{AreAllCleared, Stopped, ListInterrupted, 
 use Rattle.sccs_steps.specs.declared.faults.Fault.{Fault}
 use Rattle.sccs_steps.specs.declared.faults.Fault.TheVariants.{Memory, ReadFault, WriteFault, DiskFault}
 use Rattle.sccs_steps.specs.declared.statuses.StatusRule.{StatusRule}
-use Rattle.sccs_steps.proofs.Clear.{IsKept, clear_moved, clear_in_order, clear_same}
-use Rattle.sccs_steps.proofs.Cleared.{cleared_step}
+use Rattle.sccs_steps.proofs.Clear.{IsKept, clear_early, clear_in_order, clear_moved, clear_refused}
+use Rattle.sccs_steps.proofs.Cleared.{cleared_early, cleared_step}
 use Rattle.sccs_steps.proofs.Gifts.{some_same}
 use Rattle.sccs_steps.proofs.StatusLaws.{idle_last}
 
@@ -37,14 +37,14 @@ made_runs rule reads w m n o d status a b clear same kept shows is code made =
 
 -- nothing is committed, and the step is still to be made
 kept_waits : (reads : Bool) (w : List ℕ → Bool) (m : Folder) (n : List ℕ) (o : Outcome) (a b : World) → IsClear reads w n → (reads ≡ true → b.view ≡ a.view) → Shows w a.view (view_in m)
-    → Uncommitted n (effect_of n o).text a b → Waits w m (named_step n o ∷ []) a b
+    → Uncommitted n (effect_of n o).new (effect_of n o).text a b → Waits w m (named_step n o ∷ []) a b
 kept_waits reads w m n o a b clear same shows kept = (
   record {
     made = [];
     rest = named_step n o ∷ [];
     is = refl;
-    view = clear_same reads w m n a.view b.view clear same shows kept.view;
-    cleared = cleared_step reads w n None a.view b.view clear same kept.view kept.cleared;
+    view = clear_early reads w m n (effect_of n o).new a.view b.view clear same shows kept.view;
+    cleared = cleared_early reads w n (effect_of n o).new a.view b.view clear same kept.view kept.cleared;
     out = kept.out;
     err = some_same a.err b.err [] kept.err;
   },
@@ -119,11 +119,11 @@ refusal_ends rule w m n o refusal (Err DiskFault) a b is shows cleared out said 
 with_err : World → Option (List ℕ) → World
 with_err b e = world b.view b.out e
 
-kept_with : (n text : List ℕ) (a b : World) (e : Option (List ℕ)) → e ≡ b.err → Uncommitted n text a b → Uncommitted n text a (world b.view b.out e)
-kept_with n text a b e same kept = record { view = kept.view; cleared = kept.cleared; out = kept.out; err = same ∙ kept.err }
+kept_with : (n : List ℕ) (new : Option Files) (text : List ℕ) (a b : World) (e : Option (List ℕ)) → e ≡ b.err → Uncommitted n new text a b → Uncommitted n new text a (world b.view b.out e)
+kept_with n new text a b e same kept = record { view = kept.view; cleared = kept.cleared; out = kept.out; err = same ∙ kept.err }
 
 write_with : (n : List ℕ) (o : Outcome) (a b : World) (e : Option (List ℕ)) → e ≡ b.err → Fails step.WriteFault n o a b → Fails step.WriteFault n o a (world b.view b.out e)
-write_with n o a b e same (inl kept) = inl (kept_with n _ a b e same kept)
+write_with n o a b e same (inl kept) = inl (kept_with n _ _ a b e same kept)
 write_with n o a b e same (inr cut) =
     inr (cut.0, cut.1, record { status = cut.2.status; view = cut.2.view; cleared = cut.2.cleared; out = cut.2.out; err = subst (λ t. GivesSome a.err t cut.0.err) (sym same) cut.2.err })
 
@@ -133,13 +133,13 @@ concluded rule reads w m n o (Ok status) r a b e clear same kept shows met says 
     subst (λ (res : Result ℕ Fault). Runs rule w res m (named_step n o ∷ []) a (world b.view b.out e)) (sym says.0)
     (made_runs rule reads w m n o met.0 status a (world b.view b.out e) clear same kept shows met.1 met.2 (record { view = met.3.view; cleared = met.3.cleared; out = met.3.out; err = subst (λ t. GivesOk a.err t met.0.err) (sym says.1) met.3.err }))
 concluded rule reads w m n o (Err (step.Refused refusal)) r a b e clear same kept shows met says =
-    refusal_ends rule w m n o refusal r a (world b.view b.out e) met.0 (clear_same reads w m n a.view b.view clear same shows met.1.view) (cleared_step reads w n None a.view b.view clear same met.1.view met.1.cleared) met.1.out (subst (λ t. SaysRefusal n refusal r t e) met.1.err says)
+    refusal_ends rule w m n o refusal r a (world b.view b.out e) met.0 (clear_refused reads w m n a.view b.view clear same shows met.1.view) (cleared_early reads w n None a.view b.view clear same met.1.view met.1.cleared) met.1.out (subst (λ t. SaysRefusal n refusal r t e) met.1.err says)
 concluded rule reads w m n o (Err step.Memory) r a b e clear same kept shows met says =
     subst (λ (res : Result ℕ Fault). Runs rule w res m (named_step n o ∷ []) a (world b.view b.out e)) (sym says.0)
-    (kept_waits reads w m n o a (world b.view b.out e) clear same shows (kept_with n _ a b e says.1 met))
+    (kept_waits reads w m n o a (world b.view b.out e) clear same shows (kept_with n _ _ a b e says.1 met))
 concluded rule reads w m n o (Err step.ReadFault) r a b e clear same kept shows met says =
     subst (λ (res : Result ℕ Fault). Runs rule w res m (named_step n o ∷ []) a (world b.view b.out e)) (sym says.0)
-    (kept_waits reads w m n o a (world b.view b.out e) clear same shows (kept_with n _ a b e says.1 met))
+    (kept_waits reads w m n o a (world b.view b.out e) clear same shows (kept_with n _ _ a b e says.1 met))
 concluded rule reads w m n o (Err step.WriteFault) r a b e clear same kept shows met says =
     subst (λ (res : Result ℕ Fault). Runs rule w res m (named_step n o ∷ []) a (world b.view b.out e)) (sym says.0)
     (write_stops reads w m n o a (world b.view b.out e) clear same kept shows (write_with n o a b e says.1 met))

@@ -20,11 +20,11 @@ use Rattle.sccs_moments.specs.Recovery.{IsSound, RecoversAs, fate_at, is_kept}
 use Rattle.sccs_moments.specs.Unlocked.{IsHeldIn, KeptHeld, KeptOthers, LeavesOthers, is_own}
 use Rattle.sccs_moments.proofs.Recovering.{fate_same, p_of, recovered, recovered_under, recovers_to, s_of}
 use Rattle.sccs_steps.specs.Actions.{Action, KeepsFiles}
-use Rattle.sccs_steps.specs.ListStops.{KeepsNamesFrom}
-use Rattle.sccs_steps.specs.StepStops.{IsSafe, IsSafeFor, MayStep}
+use Rattle.sccs_steps.specs.ListStops.{KeepsSafeFrom}
+use Rattle.sccs_steps.specs.StepStops.{IsSafe, IsSafeFor}
 use Rattle.sccs_steps.specs.Unlocked.{StepOthers}
 use Rattle.sccs_steps.proofs.Carried.{moved_others, named_held, others_fate, others_look}
-use Rattle.sccs_steps.proofs.Safety.{none_of, pair_paired, same_safe}
+use Rattle.sccs_steps.proofs.Safety.{none_of, pair_paired, pair_settled, same_safe}
 
 -- ---- what recovers alike has the same safe names
 
@@ -54,6 +54,7 @@ recovers_safe n v u sfile recovers fate held safe = record {
   plain = safe.plain;
   sound = λ none. sound_by n v u (fate_at v n) sfile recovers refl fate held safe none;
   paired = pair_paired n v u (recovers n sfile) safe.paired;
+  settled = pair_settled n v u (recovers n sfile) safe.settled;
 }
 
 -- ---- moments
@@ -71,22 +72,19 @@ each_joined P [] added m first next = first
 each_joined P (a ∷ later) added m first next = (next.0, each_joined P later added m first next.1)
 
 -- a disk to which nothing was done
-pub images_now : (m : Model) → Allows (KeepsNamesFrom m) m
-images_now m = λ u image. record { safe = λ n sfile all. all u image; none = λ all. all u image }
+pub images_now : (m : Model) → Allows (KeepsSafeFrom m) m
+images_now m = λ u image n sfile all. all u image
 
 -- on a calm disk a name that is safe in the view is safe in whatever a stop leaves, where it is held if an intent names it
 pub calm_safe : (n : List ℕ) (m : Model) → IsSfile n → IsCalm m → (IsSome (fate_at (view_of m) n) → IsHeldIn n m) → IsSafe n (view_of m) → Allows (IsSafe n) m
 calm_safe n m sfile calm held safe = λ u image. recovers_safe n (view_of m) u sfile (calm u image).recovers (fate_same n (view_of m) u (calm u image).intent) (λ named. held named u image) safe
 
 -- one list behind another
-pub images_then : (later added : List Model) (m : Model) → Each (Allows (KeepsNamesFrom m)) added m → Each (Allows (KeepsNamesFrom (newest added m))) later (newest added m) → Each (Allows (KeepsNamesFrom m)) (later ++ added) m
+pub images_then : (later added : List Model) (m : Model) → Each (Allows (KeepsSafeFrom m)) added m → Each (Allows (KeepsSafeFrom (newest added m))) later (newest added m) → Each (Allows (KeepsSafeFrom m)) (later ++ added) m
 images_then later added m first next =
-    each_joined (Allows (KeepsNamesFrom m)) later added m first
-    (each_as (KeepsNamesFrom (newest added m)) (KeepsNamesFrom m) later (newest added m)
-    (λ w keeps. record {
-      safe = λ n sfile all. keeps.safe n sfile (λ u image. (each_newest (Allows (KeepsNamesFrom m)) added m first u image).safe n sfile all);
-      none = λ all. keeps.none (λ u image. (each_newest (Allows (KeepsNamesFrom m)) added m first u image).none all);
-    }) next)
+    each_joined (Allows (KeepsSafeFrom m)) later added m first
+    (each_as (KeepsSafeFrom (newest added m)) (KeepsSafeFrom m) later (newest added m)
+    (λ w keeps n sfile all. keeps n sfile (λ u image. each_newest (Allows (KeepsSafeFrom m)) added m first u image n sfile all)) next)
 
 each_both : (P Q R : Model → Type 0) (added : List Model) (m : Model) → ((m2 : Model) → P m2 → Q m2 → R m2) → Each P added m → Each Q added m → Each R added m
 each_both P Q R [] m both one two = both m one two
@@ -124,28 +122,21 @@ record StepImage (x : Action) (n : List ℕ) (m : Model) (w u : View) : Type 0 w
   before : View
   image : Image m before
   same : (k : List ℕ) → is_own n k ≡ false → u k ≡ before k
-  held : (x.locks ≡ true) × IsHeldIn n m → IsSome (u (z_file n))
+  held : IsSome (fate_at (view_of m) n) → IsHeldIn n m → IsSome (u (z_file n))
 
-step_image : (x : Action) (n : List ℕ) (m : Model) (w u : View) → IsSfile n → x.reads ≡ false → IsCalm m → MayStep x n (view_of m) → fate_at w n ≡ fate_at (view_of m) n → StepImage x n m w u → KeepsNamesFrom m u
-step_image x n m w u sfile changes calm may same_w known = record {
-  safe = λ k other all.
-      ⊎_elim (λ e. subst (λ l. Allows (IsSafe l) m → IsSafe l u) e own all)
-      (λ apart. same_safe k known.before u other (others_look n k known.before u sfile other plain apart known.same) (all known.before known.image)) (name_cases n k);
-  none = λ all k other. others_fate n k known.before u sfile plain known.same ∙ all known.before known.image k other;
-}
+step_image : (x : Action) (n : List ℕ) (m : Model) (w u : View) → IsSfile n → x.reads ≡ false → IsCalm m → IsSafeFor x n (view_of m) → fate_at w n ≡ fate_at (view_of m) n → StepImage x n m w u → KeepsSafeFrom m u
+step_image x n m w u sfile changes calm may same_w known = λ k other all.
+    ⊎_elim (λ e. subst (λ l. Allows (IsSafe l) m → IsSafe l u) e own all)
+    (λ apart. same_safe k known.before u other (others_look n k known.before u sfile other plain apart known.same) (all known.before known.image)) (name_cases n k)
   where
     plain : is_kept (drop 2 n) ≡ false
-    plain = (may.0 changes).plain
+    plain = (may changes).plain
 
     fate : fate_at u n ≡ fate_at (view_of m) n
     fate = others_fate n n known.before u sfile plain known.same ∙ fate_same n (view_of m) known.before (calm known.before known.image).intent
 
     held : Allows (IsSafe n) m → IsSome (fate_at (view_of m) n) → IsSome (u (z_file n))
-    held all named = by x.locks refl
-      where
-        by : (b : Bool) → x.locks ≡ b → IsSome (u (z_file n))
-        by true locks = known.held (locks, λ t image. named_held n t (all t image) (subst (λ (f : Option Fate). IsSome f) (sym (fate_same n (view_of m) t (calm t image).intent)) named))
-        by false never = absurd (let none = may.1 never n sfile in let e : false ≡ true = sym (ap is_some none) ∙ named in cc)
+    held all named = known.held named (λ t image. named_held n t (all t image) (subst (λ (f : Option Fate). IsSome f) (sym (fate_same n (view_of m) t (calm t image).intent)) named))
 
     own : Allows (IsSafe n) m → IsSafe n u
     own all =
@@ -153,37 +144,37 @@ step_image x n m w u sfile changes calm may same_w known = record {
         (λ new. recovers_safe n w u sfile new.0 (fate ∙ sym same_w) (λ named. held all (subst (λ (f : Option Fate). IsSome f) same_w named)) (new.1 changes)) known.at
 
 -- what was said of each moment
-moment_known : (x : Action) (n : List ℕ) (m m2 : Model) (w : View) → Allows (AtStep x n (view_of m) w) m2 → LeavesOthers (is_own n) m m2 → ((x.locks ≡ true) × IsHeldIn n m → IsHeldIn n m2) → Allows (StepImage x n m w) m2
-moment_known x n m m2 w at others held = λ u image. (let old = others.images u image in record { at = at u image; before = old.0; image = old.1; same = old.2; held = λ premise. held premise u image })
+moment_known : (x : Action) (n : List ℕ) (m m2 : Model) (w : View) → Allows (AtStep x n (view_of m) w) m2 → LeavesOthers (is_own n) m m2 → (IsSome (fate_at (view_of m) n) × IsHeldIn n m → IsHeldIn n m2) → Allows (StepImage x n m w) m2
+moment_known x n m m2 w at others held = λ u image. (let old = others.images u image in record { at = at u image; before = old.0; image = old.1; same = old.2; held = λ named there. held (named, there) u image })
 
-pub step_images : (x : Action) (n : List ℕ) (a b : Told) (m : Model) (past : List Model) (new : Option Files) (added : List Model) → KeepsFiles x → x.fits n ≡ true → IsCalm m → MayStep x n (view_of m) → a ≡ Tells m past → (x.reads ≡ true → b ≡ a) → StepOthers x n a b
-    → b ≡ Tells (newest added m) (earlier added m past) → Each (Allows (AtStep x n (view_of m) (moved (view_of m) n new))) added m → Each (Allows (KeepsNamesFrom m)) added m
+pub step_images : (x : Action) (n : List ℕ) (a b : Told) (m : Model) (past : List Model) (new : Option Files) (added : List Model) → KeepsFiles x → x.fits n ≡ true → IsCalm m → IsSafeFor x n (view_of m) → a ≡ Tells m past → (x.reads ≡ true → b ≡ a) → StepOthers x n a b
+    → b ≡ Tells (newest added m) (earlier added m past) → Each (Allows (AtStep x n (view_of m) (moved (view_of m) n new))) added m → Each (Allows (KeepsSafeFrom m)) added m
 step_images x n a b m past new added keeps fits calm may told same leaves is at = by x.reads refl
   where
-    by : (r : Bool) → x.reads ≡ r → Each (Allows (KeepsNamesFrom m)) added m
-    by true reads = subst (λ (xs : List Model). Each (Allows (KeepsNamesFrom m)) xs m) (told_once [] added m past b (same reads ∙ told) is) (images_now m)
+    by : (r : Bool) → x.reads ≡ r → Each (Allows (KeepsSafeFrom m)) added m
+    by true reads = subst (λ (xs : List Model). Each (Allows (KeepsSafeFrom m)) xs m) (told_once [] added m past b (same reads ∙ told) is) (images_now m)
     by false changes = changed (leaves.0 changes m past told)
       where
         sfile : IsSfile n
         sfile = keeps.names changes n fits
 
         fate : fate_at (moved (view_of m) n new) n ≡ fate_at (view_of m) n
-        fate = others_fate n n (view_of m) (moved (view_of m) n new) sfile (may.0 changes).plain (moved_others n (view_of m) new)
+        fate = others_fate n n (view_of m) (moved (view_of m) n new) sfile (may changes).plain (moved_others n (view_of m) new)
 
-        kept_held : (x.locks ≡ true) × IsHeldIn n m → Each (IsHeldIn n) added m
-        kept_held premise = held_on (leaves.1 changes premise.0 m past told premise.1)
+        kept_held : IsSome (fate_at (view_of m) n) × IsHeldIn n m → Each (IsHeldIn n) added m
+        kept_held premise = held_on (leaves.1 changes m past told premise.0 premise.1)
           where
             held_on : KeptHeld n m past b → Each (IsHeldIn n) added m
             held_on kept = subst (λ (xs : List Model). Each (IsHeldIn n) xs m) (told_once kept.added added m past b kept.is is) kept.each
 
-        changed : KeptOthers (is_own n) m past b → Each (Allows (KeepsNamesFrom m)) added m
+        changed : KeptOthers (is_own n) m past b → Each (Allows (KeepsSafeFrom m)) added m
         changed kept =
             let others : Each (LeavesOthers (is_own n) m) added m = subst (λ (xs : List Model). Each (LeavesOthers (is_own n) m) xs m) (told_once kept.added added m past b kept.is is) kept.each in
             let w : View = moved (view_of m) n new in
-            each_both (λ m2. Allows (AtStep x n (view_of m) w) m2 × LeavesOthers (is_own n) m m2) (λ m2. (x.locks ≡ true) × IsHeldIn n m → IsHeldIn n m2) (Allows (KeepsNamesFrom m)) added m
+            each_both (λ m2. Allows (AtStep x n (view_of m) w) m2 × LeavesOthers (is_own n) m m2) (λ m2. IsSome (fate_at (view_of m) n) × IsHeldIn n m → IsHeldIn n m2) (Allows (KeepsSafeFrom m)) added m
             (λ m2 known held u image. step_image x n m w u sfile changes calm may fate (moment_known x n m m2 w known.0 known.1 held u image))
             (each_both (Allows (AtStep x n (view_of m) w)) (LeavesOthers (is_own n) m) (λ m2. Allows (AtStep x n (view_of m) w) m2 × LeavesOthers (is_own n) m m2) added m (λ m2 one two. (one, two)) at others)
-            (each_under ((x.locks ≡ true) × IsHeldIn n m) (IsHeldIn n) added m kept_held)
+            (each_under (IsSome (fate_at (view_of m) n) × IsHeldIn n m) (IsHeldIn n) added m kept_held)
 
 -- ---- where a step ends
 

@@ -8,11 +8,11 @@ use Rattle.sccs_files.specs.StepFiles.{Alike, Files, moved, moved_in, placed}
 use Rattle.sccs_files.proofs.Folders.{moved_view}
 use Rattle.sccs_intents.specs.Intents.{intent_file}
 use Rattle.sccs_pfile.specs.Recovered.{recovered_pfile}
-use Rattle.sccs_moments.specs.Recovery.{IsSound, Pair, RecoversAs, fate_at, is_kept, pair_of, recover}
+use Rattle.sccs_moments.specs.Recovery.{IsSettledPair, IsSound, Pair, RecoversAs, fate_at, is_kept, pair_of, recover}
 use Rattle.sccs_moments.proofs.Recovering.{LooksAlike, fate_same, recovered_alike, recovered_is, sound_pair}
 use Rattle.sccs_steps.specs.Actions.{Action, KeepsFiles}
-use Rattle.sccs_steps.specs.StepStops.{ArePaired, IsPaired, IsSafe, IsSafeFor, MayStep}
-use Rattle.sccs_steps.specs.ListStops.{KeepsNames, KeepsSafe, Spares, StaySafe}
+use Rattle.sccs_steps.specs.StepStops.{ArePaired, IsPaired, IsSafe, IsSafeFor}
+use Rattle.sccs_steps.specs.ListStops.{KeepsSafe, Spares, StaySafe}
 use Rattle.sccs_steps.proofs.Carried.{moved_others, moved_p, moved_s, others_fate, others_look}
 
 -- ---- views
@@ -21,7 +21,14 @@ pub none_of : (o : Option Content) → is_some o ≡ false → o ≡ None
 none_of None is = refl
 none_of (Some c) is = cc
 
+-- where recovery leaves the pair
+pub sound_settled : (n : List ℕ) (v : View) → IsSfile n → IsSound n v → IsSettledPair (pair_of (recover n v) n)
+sound_settled n v sfile sound = subst IsSettledPair (sym (sound_pair n v sfile sound)) sound.entries
+
 -- what recovers to the same pair
+pub pair_settled : (n : List ℕ) (u v : View) → pair_of (recover n v) n ≡ pair_of (recover n u) n → IsSettledPair (pair_of (recover n u) n) → IsSettledPair (pair_of (recover n v) n)
+pair_settled n u v same settled = subst IsSettledPair (sym same) settled
+
 pub pair_paired : (n : List ℕ) (u v : View) → pair_of (recover n v) n ≡ pair_of (recover n u) n → IsPaired n (recover n u) → IsPaired n (recover n v)
 pair_paired n u v same paired = subst (λ (x : Pair). ArePaired x.s x.p) (sym same) paired
 
@@ -45,6 +52,7 @@ same_safe n u v sfile looks safe = record {
   plain = safe.plain;
   sound = λ none. sound_same n u v (sym looks.s) (sym looks.p) looks.fate (safe.sound (none_of (u (z_file n)) (sym looks.z ∙ ap is_some none)));
   paired = pair_paired n u v (recovered_is n v sfile ∙ (recovered_alike n u v looks ∙ sym (recovered_is n u sfile))) safe.paired;
+  settled = pair_settled n u v (recovered_is n v sfile ∙ (recovered_alike n u v looks ∙ sym (recovered_is n u sfile))) safe.settled;
 }
 
 -- views that are alike but for working files, and recover alike
@@ -54,6 +62,7 @@ alike_safe work n u v spares sfile alike recovers safe = record {
   sound = λ none. sound_same n u v (alike n (spares.s n sfile)) (alike (p_file n) (spares.p n sfile)) (fate_same n u v (sym (alike intent_file spares.intent)))
       (safe.sound (alike (z_file n) (spares.z n sfile) ∙ none));
   paired = pair_paired n u v (recovers n sfile) safe.paired;
+  settled = pair_settled n u v (recovers n sfile) safe.settled;
 }
 
 -- new files of a name that no intent names
@@ -62,6 +71,7 @@ placed_safe n v f sfile plain free entries paired = record {
   plain = plain;
   sound = λ none. sound;
   paired = sound_paired n (placed v n f) sfile sound (λ none. moved_p n f v sfile ∙ paired (sym (moved_s n f v) ∙ none));
+  settled = sound_settled n (placed v n f) sfile sound;
 }
   where
     sound : IsSound n (placed v n f)
@@ -76,62 +86,41 @@ other_moved n k v new sfile other plain apart safe = same_safe k v (moved v n ne
 
 -- ---- names
 
--- a step leaves the intent
-pub moved_fate : (x : Action) (n k : List ℕ) (v : View) (new : Option Files) → KeepsFiles x → x.fits n ≡ true → (x.reads ≡ true → new ≡ None) → IsSafeFor x n v → fate_at (moved v n new) k ≡ fate_at v k
-moved_fate x n k v new keeps fits quiet before = by x.reads refl
-  where
-    by : (b : Bool) → x.reads ≡ b → fate_at (moved v n new) k ≡ fate_at v k
-    by true reads = ap (λ (f : Option Files). fate_at (moved v n f) k) (quiet reads)
-    by false changes = others_fate n k v (moved v n new) (keeps.names changes n fits) (before changes).plain (moved_others n v new)
-
 -- after the step of a name all that were safe are safe, where it is
 pub stay_moved : (x : Action) (n : List ℕ) (v : View) (new : Option Files) → KeepsFiles x → x.fits n ≡ true → (x.reads ≡ true → new ≡ None) → IsSafeFor x n v → IsSafeFor x n (moved v n new) → StaySafe x v (moved v n new)
-stay_moved x n v new keeps fits quiet before own = λ k taken may. (
-  λ changes.
-      ⊎_elim (λ e. subst (λ l. IsSafe l (moved v n new)) e (own changes))
-      (λ apart. other_moved n k v new (keeps.names changes n fits) (keeps.names changes k taken) (before changes).plain apart (may.0 changes)) (name_cases n k),
-  λ never l other. moved_fate x n l v new keeps fits quiet before ∙ may.1 never l other,
-)
+stay_moved x n v new keeps fits quiet before own = λ k taken safe changes.
+    ⊎_elim (λ e. subst (λ l. IsSafe l (moved v n new)) e (own changes))
+    (λ apart. other_moved n k v new (keeps.names changes n fits) (keeps.names changes k taken) (before changes).plain apart (safe changes)) (name_cases n k)
 
-safe_moved : (x : Action) (n : List ℕ) (v : View) (new : Option Files) → KeepsFiles x → x.fits n ≡ true → (x.reads ≡ true → new ≡ None) → IsSafeFor x n v → IsSafeFor x n (moved v n new) → KeepsSafe v (moved v n new)
-safe_moved x n v new keeps fits none before own = by x.reads refl
+-- the same of every s-file's name, also where nothing changes
+pub keeps_moved : (x : Action) (n : List ℕ) (v : View) (new : Option Files) → KeepsFiles x → x.fits n ≡ true → (x.reads ≡ true → new ≡ None) → IsSafeFor x n v → IsSafeFor x n (moved v n new) → KeepsSafe v (moved v n new)
+keeps_moved x n v new keeps fits none before own = by x.reads refl
   where
     by : (b : Bool) → x.reads ≡ b → KeepsSafe v (moved v n new)
     by true reads = subst (λ (f : Option Files). KeepsSafe v (moved v n f)) (sym (none reads)) (λ k sfile safe. safe)
     by false changes = λ k sfile safe.
         ⊎_elim (λ e. subst (λ l. IsSafe l (moved v n new)) e (own changes)) (λ apart. other_moved n k v new (keeps.names changes n fits) sfile (before changes).plain apart safe) (name_cases n k)
 
--- the same of every s-file's name, also where nothing changes
-pub keeps_moved : (x : Action) (n : List ℕ) (v : View) (new : Option Files) → KeepsFiles x → x.fits n ≡ true → (x.reads ≡ true → new ≡ None) → IsSafeFor x n v → IsSafeFor x n (moved v n new) → KeepsNames v (moved v n new)
-keeps_moved x n v new keeps fits quiet before own = record {
-  safe = safe_moved x n v new keeps fits quiet before own;
-  none = λ none k other. moved_fate x n k v new keeps fits quiet before ∙ none k other;
-}
-
 pub stay_folder : (x : Action) (m : Folder) (n : List ℕ) (new : Option Files) → KeepsFiles x → x.fits n ≡ true → (x.reads ≡ true → new ≡ None) → IsSafeFor x n (view_in m) → IsSafeFor x n (view_in (moved_in m n new)) → StaySafe x (view_in m) (view_in (moved_in m n new))
 stay_folder x m n new keeps fits quiet before own =
     subst (λ (v : View). StaySafe x (view_in m) v) (sym (moved_view m n new)) (stay_moved x n (view_in m) new keeps fits quiet before (subst (λ (v : View). IsSafeFor x n v) (moved_view m n new) own))
 
-pub keeps_folder : (x : Action) (m : Folder) (n : List ℕ) (new : Option Files) → KeepsFiles x → x.fits n ≡ true → (x.reads ≡ true → new ≡ None) → IsSafeFor x n (view_in m) → IsSafeFor x n (view_in (moved_in m n new)) → KeepsNames (view_in m) (view_in (moved_in m n new))
+pub keeps_folder : (x : Action) (m : Folder) (n : List ℕ) (new : Option Files) → KeepsFiles x → x.fits n ≡ true → (x.reads ≡ true → new ≡ None) → IsSafeFor x n (view_in m) → IsSafeFor x n (view_in (moved_in m n new)) → KeepsSafe (view_in m) (view_in (moved_in m n new))
 keeps_folder x m n new keeps fits quiet before own =
-    subst (λ (v : View). KeepsNames (view_in m) v) (sym (moved_view m n new)) (keeps_moved x n (view_in m) new keeps fits quiet before (subst (λ (v : View). IsSafeFor x n v) (moved_view m n new) own))
+    subst (λ (v : View). KeepsSafe (view_in m) v) (sym (moved_view m n new)) (keeps_moved x n (view_in m) new keeps fits quiet before (subst (λ (v : View). IsSafeFor x n v) (moved_view m n new) own))
 
 pub stay_same : (x : Action) (v : View) → StaySafe x v v
 stay_same x v = λ n fits may. may
 
-pub keeps_same : (v : View) → KeepsNames v v
-keeps_same v = record { safe = λ n sfile safe. safe; none = λ none. none }
+pub keeps_same : (v : View) → KeepsSafe v v
+keeps_same v = λ n sfile safe. safe
 
 pub stay_on : (x : Action) (u v w : View) → StaySafe x u v → StaySafe x v w → StaySafe x u w
 stay_on x u v w first second = λ n fits may. second n fits (first n fits may)
 
-pub keeps_then : (u v w : View) → KeepsNames u v → KeepsNames v w → KeepsNames u w
-keeps_then u v w first next = record { safe = λ n sfile safe. next.safe n sfile (first.safe n sfile safe); none = λ none. next.none (first.none none) }
+pub keeps_then : (u v w : View) → KeepsSafe u v → KeepsSafe v w → KeepsSafe u w
+keeps_then u v w first next = λ n sfile safe. next n sfile (first n sfile safe)
 
 -- the folder's view and the one that is told
 pub told_safe : (x : Action) (work : List ℕ → Bool) (n : List ℕ) (u v : View) → KeepsFiles x → x.fits n ≡ true → Spares work → Alike work u v → RecoversAs u v → IsSafeFor x n u → IsSafeFor x n v
 told_safe x work n u v keeps fits spares alike recovers safe = λ changes. alike_safe work n u v spares (keeps.names changes n fits) alike recovers (safe changes)
-
-pub told_may : (x : Action) (work : List ℕ → Bool) (n : List ℕ) (u v : View) → KeepsFiles x → x.fits n ≡ true → Spares work → Alike work u v → RecoversAs u v → MayStep x n u → MayStep x n v
-told_may x work n u v keeps fits spares alike recovers may =
-    (told_safe x work n u v keeps fits spares alike recovers may.0, λ never k other. fate_same k u v (sym (alike intent_file spares.intent)) ∙ may.1 never k other)

@@ -10,7 +10,7 @@ use Rattle.sccs_images.specs.Touches.{Each, earlier, newest}
 use Rattle.sccs_moments.specs.Recovery.{RecoversAs}
 use Rattle.sccs_steps.specs.Actions.{Action, AreClear}
 use Rattle.sccs_steps.specs.Calls.{Scene, shown}
-use Rattle.sccs_steps.specs.ListStops.{AreSafe, KeepsNames, KeepsNamesFrom, ListMoments, MayBegin, RunMoments, Spares, StaySafe, view_at}
+use Rattle.sccs_steps.specs.ListStops.{AreSafe, KeepsSafe, KeepsSafeFrom, ListMoments, MayBegin, RunMoments, Spares, StaySafe, view_at}
 use Rattle.sccs_steps.specs.StepLists.{NamedStep, Runs, SoFar, folder_after, in_turn}
 use Rattle.sccs_steps.specs.declared.faults.Fault.{Fault}
 use Rattle.sccs_steps.specs.declared.faults.Fault.TheVariants.{DiskFault}
@@ -27,8 +27,8 @@ pub record StopsSoFar (x : Action) (w : List ℕ → Bool) (folder : Folder) (al
   pub so : SoFar x.rule w folder all left status (shown a) (shown b)
   pub list : ListMoments w (Ok status) folder so.made a b m past
   pub safe : StaySafe x (view_in folder) (view_in (folder_after folder so.made))
-  pub keeps : KeepsNames (view_in folder) (view_in (folder_after folder so.made))
-  pub images : Each (Allows (KeepsNamesFrom m)) list.went.added m
+  pub keeps : KeepsSafe (view_in folder) (view_in (folder_after folder so.made))
+  pub images : Each (Allows (KeepsSafeFrom m)) list.went.added m
 
 pub stops_begin : (x : Action) (w : List ℕ → Bool) (folder : Folder) (left : Folder → List NamedStep) (status : ℕ) (a : Scene) (m : Model) (past : List Model) → status ≡ idle_status x.rule → Spares w → Shows w (seen a.told) (view_in folder) → a.told ≡ Tells m past → MayBegin folder m
     → StopsSoFar x w folder (left folder) left status a a m past
@@ -93,9 +93,9 @@ stops_on x w folder steps things k status one item thing a b c m past is below c
           (stay_on x (view_in folder) (view_in (folder_after folder far.so.made)) (view_in (folder_after (folder_after folder far.so.made) (steps (folder_after folder far.so.made) (get_or things k item)))) far.safe
           (subst (λ (v : View). StaySafe x (view_in (folder_after folder far.so.made)) v) (view_all (folder_after folder far.so.made) (steps (folder_after folder far.so.made) (get_or things k item)) next.list.number (next.list.all refl)) (next.safe (λ other. cc))));
       keeps =
-          subst (λ (u : Folder). KeepsNames (view_in folder) (view_in u)) (sym (after_more folder far.so.made (steps (folder_after folder far.so.made) (get_or things k item))))
+          subst (λ (u : Folder). KeepsSafe (view_in folder) (view_in u)) (sym (after_more folder far.so.made (steps (folder_after folder far.so.made) (get_or things k item))))
           (keeps_then (view_in folder) (view_in (folder_after folder far.so.made)) (view_in (folder_after (folder_after folder far.so.made) (steps (folder_after folder far.so.made) (get_or things k item)))) far.keeps
-          (subst (λ (v : View). KeepsNames (view_in (folder_after folder far.so.made)) v) (view_all (folder_after folder far.so.made) (steps (folder_after folder far.so.made) (get_or things k item)) next.list.number (next.list.all refl)) (next.keeps (λ other. cc))));
+          (subst (λ (v : View). KeepsSafe (view_in (folder_after folder far.so.made)) v) (view_all (folder_after folder far.so.made) (steps (folder_after folder far.so.made) (get_or things k item)) next.list.number (next.list.all refl)) (next.keeps (λ other. cc))));
       images = images_then next.list.went.added far.list.went.added m far.images next.images;
     }
 
@@ -122,7 +122,7 @@ stops_early x w folder steps things k status fault item thing a b c m past is be
         (λ other. subst (λ (v : View). StaySafe x (view_in folder) v)
         (sym (view_front folder (far.so.made ++ more) rest (length far.so.made + next.list.number) (let low = next.list.most in omega (arith, low, length-append far.so.made more)) ∙ view_past folder far.so.made more next.list.number))
         (stay_on x (view_in folder) (view_in u) (view_at u more next.list.number) far.safe (next.safe other)))
-        (λ other. subst (λ (v : View). KeepsNames (view_in folder) v)
+        (λ other. subst (λ (v : View). KeepsSafe (view_in folder) v)
         (sym (view_front folder (far.so.made ++ more) rest (length far.so.made + next.list.number) (let low = next.list.most in omega (arith, low, length-append far.so.made more)) ∙ view_past folder far.so.made more next.list.number))
         (keeps_then (view_in folder) (view_in u) (view_at u more next.list.number) far.keeps (next.keeps other)))
         (images_then next.list.went.added far.list.went.added m far.images next.images))
@@ -132,7 +132,7 @@ pub stops_end : (x : Action) (w : List ℕ → Bool) (folder : Folder) (steps : 
 stops_end x w folder steps things k status a b m past all far =
     subst (λ (ts : List NamedStep). RunMoments x w (Ok status) folder ts a b m past) is
     (run_moments x w (Ok status) folder far.so.made a b m past far.list (λ other. subst (λ (v : View). StaySafe x (view_in folder) v) (sym (view_all folder far.so.made far.list.number (far.list.all refl))) far.safe)
-    (λ other. subst (λ (v : View). KeepsNames (view_in folder) v) (sym (view_all folder far.so.made far.list.number (far.list.all refl))) far.keeps) far.images)
+    (λ other. subst (λ (v : View). KeepsSafe (view_in folder) v) (sym (view_all folder far.so.made far.list.number (far.list.all refl))) far.keeps) far.images)
   where
     is : far.so.made ≡ in_turn steps folder things
     is = sym (append-nil far.so.made) ∙ (ap (λ (ts : List NamedStep). far.so.made ++ ts) (sym (ap (λ (rest : List (List ℕ)). in_turn steps (folder_after folder far.so.made) rest) (drop_of_length-le things all))) ∙ sym far.so.is)

@@ -12,10 +12,11 @@ use Rattle.sccs_sid.specs.declared.refusals.Refusal.{Refusal}
 use Rattle.sccs_sid.specs.declared.refusals.Refusal.TheVariants.{BadName, TooLong}
 use Rattle.sccs_sid.specs.declared.refusals.StepFault.{StepFault}
 use Rattle.sccs_sid.specs.declared.refusals.StepFault.TheVariants.{Refused}
-use Rattle.sccs_disk.specs.Files.{Content, Folder, view_in}
+use Rattle.sccs_disk.specs.Files.{Content, Folder, View, view_in}
 use Rattle.sccs_disk.specs.Told.{seen}
+use Rattle.sccs_intents.specs.Intents.{intent_file}
 use Rattle.sccs_operands.specs.FolderNames.{sfiles_in}
-use Rattle.sccs_files.specs.StepFiles.{Files, look, Apart}
+use Rattle.sccs_files.specs.StepFiles.{Apart, Files, l_file, look}
 use Rattle.sccs_steps.specs.StepEffects.{StepEffect, Outcome, effect_of}
 use Rattle.sccs_steps.specs.Calls.{Scene, Meets, shown}
 use Rattle.sccs_steps.specs.Statuses.{idle_status}
@@ -79,7 +80,7 @@ names_given x i = if nat_lt file_limit (length i) then Err TooLong else Ok (filt
 
 -- that names are found is a step too, of the folder itself, which does nothing
 abbrev pub names_found : StatusRule → NamedStep
-names_found rule = record { name = codes "./"; effect = record { new = None; text = []; out = []; err = []; status = idle_status rule } }
+names_found rule = record { name = codes "./"; effect = record { new = None; text = []; out = []; err = []; status = idle_status rule }; more = [] }
 
 abbrev pub input_steps : Action → List ℕ → Folder → Result (List (List ℕ)) Refusal → List NamedStep
 input_steps x i m (Ok names) = names_found x.rule ∷ steps_of x i m names
@@ -127,12 +128,14 @@ pub record LeavesLocked (f g : Files) : Type 0 where
   pub z : g.z ≡ f.z
 
 -- An action that only reads changes no file, and one that changes files takes the names of s-files alone; one that locks its name
--- leaves the files of a locked one.
+-- leaves the files of a locked one, and one that doesn't changes nothing while an intent is there.
 pub record KeepsFiles (x : Action) : Type 0 where
   pub quiet : x.reads ≡ true → (n i : List ℕ) (named : List (Option Content)) (f : Files) (d : StepEffect) → x.step n i named f ≡ Ok d → d.new ≡ None
   pub names : x.reads ≡ false → (n : List ℕ) → x.fits n ≡ true → IsSfile n
   pub locked : x.reads ≡ false → x.locks ≡ true → (n i : List ℕ) (named : List (Option Content)) (f : Files) (d : StepEffect)
       → x.step n i named f ≡ Ok d → IsSome f.z → (g : Files) → d.new ≡ Some g → LeavesLocked f g
+  pub pending : x.reads ≡ false → x.locks ≡ false → (n i : List ℕ) (v : View) (f : Files) (d : StepEffect)
+      → IsSome (v intent_file) → x.step n i (map v (x.named n)) f ≡ Ok d → d.new ≡ None
 
 -- The files that a step sees are no working files.
 pub record IsSeen (w : List ℕ → Bool) (n : List ℕ) : Type 0 where
@@ -140,6 +143,7 @@ pub record IsSeen (w : List ℕ → Bool) (n : List ℕ) : Type 0 where
   pub p : w (p_file n) ≡ false
   pub z : w (z_file n) ≡ false
   pub g : w (drop 2 n) ≡ false
+  pub l : w (l_file n) ≡ false
 
 -- of a command that only reads the files that it sees are no working files of others; of one that changes files the working
 -- files of the name are among them too

@@ -1,11 +1,11 @@
 -- How the call of a step ends.
-use Rattle.std.specs.Prelude.{◌≡◌, ℕ, ◌⊎◌, List, [], ◌++◌, Option, Result, Ok, Err}
+use Rattle.std.specs.Prelude.{◌≡◌, ℕ, ◌⊎◌, List, [], ◌++◌, Option, None, Result, Ok, Err}
 use Rattle.sccs_base.specs.Stream.{GivesOk, GivesSome}
 use Rattle.sccs_sid.specs.declared.refusals.StepFault.{StepFault}
 use Rattle.sccs_sid.specs.declared.refusals.StepFault.TheVariants.{Refused, Memory, ReadFault, WriteFault, DiskFault}
 use Rattle.sccs_disk.specs.Files.{View}
 use Rattle.sccs_disk.specs.Told.{Told, seen}
-use Rattle.sccs_files.specs.StepFiles.{moved, is_working, Moves, AreCleared}
+use Rattle.sccs_files.specs.StepFiles.{AreCleared, Files, Moves, MovesEarly, is_working, moved}
 use Rattle.sccs_steps.specs.FirstFiles.{MovesInOrder}
 use Rattle.sccs_steps.specs.StepEffects.{StepEffect, Outcome, effect_of}
 
@@ -30,9 +30,10 @@ scene t o e = record { told = t; out = o; err = e }
 abbrev pub shown : Scene → World
 shown a = world (seen a.told) a.out a.err
 
--- Nothing is committed, the working files that the step made are gone, and a prefix of the text is written.
-pub record Uncommitted (n text : List ℕ) (w w2 : World) : Type 0 where
-  pub view : Moves (is_working n) (λ v. v) w.view w2.view
+-- Nothing is committed, though the l-file may be new; the working files that the step made are gone, and a prefix of the text is
+-- written.
+pub record Uncommitted (n : List ℕ) (new : Option Files) (text : List ℕ) (w w2 : World) : Type 0 where
+  pub view : MovesEarly n new w.view w2.view
   pub cleared : AreCleared n w.view w2.view
   pub out : GivesSome w.out w2.out text
   pub err : w2.err ≡ w.err
@@ -52,7 +53,7 @@ pub record ReportCut (n : List ℕ) (d : StepEffect) (w w2 : World) : Type 0 whe
   pub out : GivesSome w.out w2.out (d.text ++ d.out)
   pub err : GivesSome w.err w2.err d.err
 
--- The disk failed: some first of s-file, p-file and g-file are as the step makes them and the others as they were, and a prefix
+-- The disk failed: some first of l-file, s-file, p-file and g-file are as the step makes them and the others as they were, and a prefix
 -- of the text is written.
 pub record Interrupted (n : List ℕ) (o : Outcome) (w w2 : World) : Type 0 where
   pub view : MovesInOrder n (effect_of n o).new w.view w2.view
@@ -61,10 +62,10 @@ pub record Interrupted (n : List ℕ) (o : Outcome) (w w2 : World) : Type 0 wher
 
 -- what a step leaves that was refused, or cut short
 abbrev pub Fails : StepFault → List ℕ → Outcome → World → World → Type 0
-Fails (Refused refusal) n o w w2 = (o ≡ Err refusal) × Uncommitted n [] w w2
-Fails Memory n o w w2 = Uncommitted n (effect_of n o).text w w2
-Fails ReadFault n o w w2 = Uncommitted n (effect_of n o).text w w2
-Fails WriteFault n o w w2 = Uncommitted n (effect_of n o).text w w2 ⊎ ((d : StepEffect) × (o ≡ Ok d) × ReportCut n d w w2)
+Fails (Refused refusal) n o w w2 = (o ≡ Err refusal) × Uncommitted n None [] w w2
+Fails Memory n o w w2 = Uncommitted n (effect_of n o).new (effect_of n o).text w w2
+Fails ReadFault n o w w2 = Uncommitted n (effect_of n o).new (effect_of n o).text w w2
+Fails WriteFault n o w w2 = Uncommitted n (effect_of n o).new (effect_of n o).text w w2 ⊎ ((d : StepEffect) × (o ≡ Ok d) × ReportCut n d w w2)
 Fails DiskFault n o w w2 = Interrupted n o w w2
 
 -- what the call of a step answers, and leaves; code is the status that an answer stands for

@@ -6,16 +6,15 @@ use Rattle.sccs_base.specs.Stream.{GivesSome}
 use Rattle.sccs_disk.specs.Files.{Folder, Model, View, view_in, view_of}
 use Rattle.sccs_disk.specs.Images.{Allows}
 use Rattle.sccs_disk.specs.Told.{seen}
-use Rattle.sccs_files.specs.StepFiles.{Shows}
 use Rattle.sccs_images.specs.Touches.{Each, newest}
 use Rattle.sccs_moments.specs.Calm.{HasFirm, IsCalm}
-use Rattle.sccs_moments.specs.Moments.{NamesNone, Went}
+use Rattle.sccs_moments.specs.Moments.{Went}
 use Rattle.sccs_intents.specs.Intents.{intent_file}
 use Rattle.sccs_moments.specs.Recovery.{RecoversAs}
 use Rattle.sccs_steps.specs.Actions.{Action}
 use Rattle.sccs_steps.specs.Calls.{Scene, World, shown}
-use Rattle.sccs_steps.specs.StepLists.{NamedStep, err_of, folder_after, next_text, out_of}
-use Rattle.sccs_steps.specs.StepStops.{IsSafe, MayStep}
+use Rattle.sccs_steps.specs.StepLists.{NamedStep, ShowsEarly, err_of, folder_after, next_text, out_of}
+use Rattle.sccs_steps.specs.StepStops.{IsSafe, IsSafeFor}
 use Rattle.sccs_steps.specs.declared.faults.Fault.{Fault}
 use Rattle.sccs_steps.specs.declared.faults.Fault.TheVariants.{DiskFault}
 
@@ -69,9 +68,9 @@ pub record ListMoments (w : List ℕ → Bool) (r : Result ℕ Fault) (folder : 
   pub err : GivesSome a.err b.err (err_before ts number)
   -- at Ok all steps are counted
   pub all : IsOk r → number ≡ length ts
-  -- but at a disk fault the disk is calm, and so many steps are committed
+  -- but at a disk fault the disk is calm, and so many steps are committed, while of the next one at most the l-file is new
   pub calm : r ≢ Err DiskFault → IsCalm (newest went.added m)
-  pub committed : r ≢ Err DiskFault → Shows w (seen b.told) (view_at folder ts number)
+  pub committed : r ≢ Err DiskFault → ShowsEarly w (drop number ts) (seen b.told) (view_at folder ts number)
   pub recovers : r ≢ Err DiskFault → RecoversAs (view_at folder ts number) (view_of (newest went.added m))
   -- s-files and p-files are firm, so that recovery may run next
   pub firm : HasFirm (newest went.added m)
@@ -80,26 +79,19 @@ pub record ListMoments (w : List ℕ → Bool) (r : Result ℕ Fault) (folder : 
 
 -- each name of a step that is taken is safe, where files are changed
 abbrev pub AreSafe : Action → List NamedStep → View → Type 0
-AreSafe x ts v = AllByRecursion (λ (t : NamedStep). x.fits t.name ≡ true → MayStep x t.name v) ts
+AreSafe x ts v = AllByRecursion (λ (t : NamedStep). x.fits t.name ≡ true → IsSafeFor x t.name v) ts
 
 -- each name that was safe is safe again
 abbrev pub StaySafe : Action → View → View → Type 0
-StaySafe x u v = (n : List ℕ) → x.fits n ≡ true → MayStep x n u → MayStep x n v
+StaySafe x u v = (n : List ℕ) → x.fits n ≡ true → IsSafeFor x n u → IsSafeFor x n v
 
 -- the same of every s-file's name
 abbrev pub KeepsSafe : View → View → Type 0
 KeepsSafe u v = (n : List ℕ) → IsSfile n → IsSafe n u → IsSafe n v
 
--- The same, and no intent names an s-file where none did.
-pub record KeepsNames (u v : View) : Type 0 where
-  pub safe : KeepsSafe u v
-  pub none : NamesNone u → NamesNone v
-
--- Each s-file's name is safe in the view that is safe in whatever a stop may leave of the model, and no intent names one where none
--- does so in any of that.
-pub record KeepsNamesFrom (m : Model) (v : View) : Type 0 where
-  pub safe : (n : List ℕ) → IsSfile n → Allows (IsSafe n) m → IsSafe n v
-  pub none : Allows NamesNone m → NamesNone v
+-- each s-file's name is safe in the view that is safe in whatever a stop may leave of the model
+abbrev pub KeepsSafeFrom : Model → View → Type 0
+KeepsSafeFrom m v = (n : List ℕ) → IsSfile n → Allows (IsSafe n) m → IsSafe n v
 
 -- no s-file, p-file or z-file is a working file, nor is the intent
 pub record Spares (w : List ℕ → Bool) : Type 0 where
@@ -115,7 +107,7 @@ pub record RunMoments (x : Action) (w : List ℕ → Bool) (r : Result ℕ Fault
   pub acknowledged : (k : ℕ) → k < length ts → IsAcknowledged r ts k (shown a) (shown b) → suc k ≤ list.number
   pub safe : r ≢ Err DiskFault → StaySafe x (view_in folder) (view_at folder ts list.number)
   -- the same of every s-file's name
-  pub keeps : r ≢ Err DiskFault → KeepsNames (view_in folder) (view_at folder ts list.number)
+  pub keeps : r ≢ Err DiskFault → KeepsSafe (view_in folder) (view_at folder ts list.number)
   -- whatever a stop leaves, in it each s-file's name is safe that was safe in whatever one could leave at the start, so that the
-  -- next run may begin there; and no intent names one, so that recovery may
-  pub images : Each (Allows (KeepsNamesFrom m)) list.went.added m
+  -- next run may begin there
+  pub images : Each (Allows (KeepsSafeFrom m)) list.went.added m

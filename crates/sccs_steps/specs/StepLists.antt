@@ -1,10 +1,11 @@
 -- Lists of steps: what they write and leave, and how a call that makes them ends.
-use Rattle.std.specs.Prelude.{◌≡◌, ◌⊎◌, ℕ, ◌<◌, Bool, true, ◌||◌, List, [], ◌∷◌, ◌++◌, length, flat_map, Option, None, Some, Result, Ok, Err}
+use Rattle.std.specs.Prelude.{◌≡◌, ◌⊎◌, ℕ, zero, suc, ◌<◌, Bool, true, false, ◌||◌, List, [], ◌∷◌, ◌++◌, length, flat_map, Option, None, Some, Result, Ok, Err}
 use Rattle.std.specs.Str.{bytes_eq}
 use Rattle.sccs_base.specs.Name.{z_file}
 use Rattle.sccs_base.specs.Stream.{GivesOk, GivesSome}
 use Rattle.sccs_disk.specs.Files.{Folder, View, view_in}
-use Rattle.sccs_files.specs.StepFiles.{moved_in, Shows}
+use Rattle.sccs_files.specs.StepFiles.{Files, Shows, early_moved, moved, moved_in}
+use Rattle.sccs_intents.specs.Intents.{intent_file, plan_file}
 use Rattle.sccs_steps.specs.FirstFiles.{first_moved}
 use Rattle.sccs_steps.specs.StepEffects.{StepEffect, Outcome, effect_of}
 use Rattle.sccs_steps.specs.Calls.{World}
@@ -13,18 +14,42 @@ use Rattle.sccs_steps.specs.declared.faults.Fault.{Fault}
 use Rattle.sccs_steps.specs.declared.faults.Fault.TheVariants.{Memory, ReadFault, WriteFault, DiskFault}
 use Rattle.sccs_steps.specs.declared.statuses.StatusRule.{StatusRule}
 
--- a step of a name
+-- The files of one name, where they change.
+pub record Move : Type 0 where
+  pub name : List ℕ
+  pub new : Option Files
+
+-- A step of a name; a step of several names has further ones, whose files change with it.
 pub record NamedStep : Type 0 where
   pub name : List ℕ
   pub effect : StepEffect
+  pub more : List Move
 
 abbrev pub named_step : List ℕ → Outcome → NamedStep
-named_step name o = record { name = name; effect = effect_of name o }
+named_step name o = record { name = name; effect = effect_of name o; more = [] }
+
+-- all that a step moves, in the order in which it is moved
+abbrev pub moves_of : NamedStep → List Move
+moves_of t = record { name = t.name; new = t.effect.new } ∷ t.more
+
+-- the folder after moves
+abbrev pub all_moved_in : Folder → List Move → Folder
+all_moved_in m [] = m
+all_moved_in m (x ∷ xs) = all_moved_in (moved_in m x.name x.new) xs
+
+-- the folder after a step
+abbrev pub step_in : Folder → NamedStep → Folder
+step_in m t = all_moved_in m (moves_of t)
+
+-- the view after moves
+abbrev pub all_moved : View → List Move → View
+all_moved v [] = v
+all_moved v (x ∷ xs) = all_moved (moved v x.name x.new) xs
 
 -- the folder after steps
 abbrev pub folder_after : Folder → List NamedStep → Folder
 folder_after m [] = m
-folder_after m (t ∷ ts) = folder_after (moved_in m t.name t.effect.new) ts
+folder_after m (t ∷ ts) = folder_after (step_in m t) ts
 
 -- the steps of several things in turn, each in the folder that those before left
 abbrev pub in_turn : (Folder → List ℕ → List NamedStep) → Folder → List (List ℕ) → List NamedStep
@@ -51,7 +76,7 @@ next_text (t ∷ ts) = t.effect.text
 -- the folder after the next step
 abbrev pub next_folder : Folder → List NamedStep → Folder
 next_folder m [] = m
-next_folder m (t ∷ ts) = moved_in m t.name t.effect.new
+next_folder m (t ∷ ts) = step_in m t
 
 -- each working file is gone, or as it was
 abbrev pub AreAllCleared : (List ℕ → Bool) → Option View → Option View → Type 0
@@ -67,27 +92,43 @@ pub record Ran (w : List ℕ → Bool) (m : Folder) (ts : List NamedStep) (a b :
   pub out : GivesOk a.out b.out (out_of ts)
   pub err : GivesOk a.err b.err (err_of ts)
 
--- Some steps are made, and no byte of a later report is written; the working files that they and the next step made are gone.
+-- what is told is a view, or that in which the l-file of the next step is new
+abbrev pub ShowsEarly : (List ℕ → Bool) → List NamedStep → Option View → View → Type 0
+ShowsEarly w [] told v = Shows w told v
+ShowsEarly w (t ∷ ts) told v = (first : Bool) × Shows w told (early_moved first v t.name t.effect.new)
+
+-- Some steps are made, of the next one at most the l-file is new, and no byte of a later report is written; the working files that they and the next step made are gone.
 pub record Stopped (w : List ℕ → Bool) (m : Folder) (ts : List NamedStep) (a b : World) : Type 0 where
   pub made : List NamedStep
   pub rest : List NamedStep
   pub is : ts ≡ made ++ rest
-  pub view : Shows w b.view (view_in (folder_after m made))
+  pub view : ShowsEarly w rest b.view (view_in (folder_after m made))
   pub cleared : AreAllCleared w a.view b.view
   pub out : GivesSome a.out b.out (out_of made ++ next_text rest)
   pub err : GivesSome a.err b.err (err_of made)
 
--- working files, and the z-file of the next step
+-- the z-file of a further name, and the plan and the intent of a step that has further names
+abbrev pub is_left_of : List Move → List ℕ → Bool
+is_left_of [] k = false
+is_left_of (x ∷ xs) k = is_left_of xs k || (bytes_eq (z_file x.name) k || (bytes_eq plan_file k || bytes_eq intent_file k))
+
+-- working files, and the z-files of the next step
 abbrev pub left_by : (List ℕ → Bool) → List NamedStep → List ℕ → Bool
 left_by w [] k = w k
-left_by w (t ∷ ts) k = w k || bytes_eq (z_file t.name) k
+left_by w (t ∷ ts) k = is_left_of t.more k || (w k || bytes_eq (z_file t.name) k)
 
--- what is told is a view, or that after some first files of the next step, but for its z-file
+-- the view after so many of moves, and some first files of the next one
+abbrev pub first_moves : ℕ → ℕ → View → List Move → View
+first_moves whole some v [] = v
+first_moves zero some v (x ∷ xs) = first_moved some v x.name x.new
+first_moves (suc whole) some v (x ∷ xs) = first_moves whole some (moved v x.name x.new) xs
+
+-- what is told is a view, or that after some first files of the next step, but for its z-files
 abbrev pub ShowsNext : (List ℕ → Bool) → List NamedStep → Option View → View → Type 0
 ShowsNext w [] told v = Shows w told v
-ShowsNext w (t ∷ ts) told v = (i : ℕ) × Shows (left_by w (t ∷ ts)) told (first_moved i v t.name t.effect.new)
+ShowsNext w (t ∷ ts) told v = (whole : ℕ) × (some : ℕ) × Shows (left_by w (t ∷ ts)) told (first_moves whole some v (moves_of t))
 
--- The same where the disk failed: of the next step some first of s-file, p-file and g-file are new.
+-- The same where the disk failed: of the next step some first of l-file, s-file, p-file and g-file are new.
 pub record ListInterrupted (w : List ℕ → Bool) (m : Folder) (ts : List NamedStep) (a b : World) : Type 0 where
   pub made : List NamedStep
   pub rest : List NamedStep

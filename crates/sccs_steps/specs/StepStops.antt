@@ -10,8 +10,8 @@ use Rattle.sccs_disk.specs.Told.{Told, Tells}
 use Rattle.sccs_files.specs.StepFiles.{look, moved}
 use Rattle.sccs_images.specs.Touches.{Each}
 use Rattle.sccs_moments.specs.Calm.{IsCalm}
-use Rattle.sccs_moments.specs.Moments.{EndsAfter, EndsBefore, EndsWithin, NamesNone}
-use Rattle.sccs_moments.specs.Recovery.{IsSound, RecoversAs, is_kept, recover}
+use Rattle.sccs_moments.specs.Moments.{EndsAfter, EndsBefore, EndsWithin}
+use Rattle.sccs_moments.specs.Recovery.{IsSettledPair, IsSound, RecoversAs, is_kept, pair_of, recover}
 use Rattle.sccs_steps.specs.StepEffects.{Outcome, effect_of}
 use Rattle.sccs_steps.specs.Actions.{Action, IsHeard}
 use Rattle.sccs_steps.specs.Calls.{Meets, Scene, World, shown}
@@ -25,23 +25,16 @@ IsPaired n v = ArePaired (v n) (v (p_file n))
 
 -- What the theorem on stops asks of a name: its g-file's name is none at which recovery looks; unless a step was stopped
 -- on it, no entry of its p-file has its delta in the s-file, and no intent names it; and recovery leaves no p-file without an
--- s-file.
+-- s-file, and a pair that another recovery would leave as it is.
 pub record IsSafe (n : List ℕ) (v : View) : Type 0 where
   pub plain : is_kept (drop 2 n) ≡ false
   pub sound : v (z_file n) ≡ None → IsSound n v
   pub paired : IsPaired n (recover n v)
+  pub settled : IsSettledPair (pair_of (recover n v) n)
 
 -- nothing is asked where a step only reads
 abbrev pub IsSafeFor : Action → List ℕ → View → Type 0
 IsSafeFor x n v = x.reads ≡ false → IsSafe n v
-
--- a step that doesn't lock its name may take its z-file away, so that no intent may name an s-file
-abbrev pub IsFreeFor : Action → View → Type 0
-IsFreeFor x v = x.locks ≡ false → NamesNone v
-
--- so much is asked of the name of a step, in the view before it
-abbrev pub MayStep : Action → List ℕ → View → Type 0
-MayStep x n v = IsSafeFor x n v × IsFreeFor x v
 
 -- where the call of a step ends
 pub data Place : Type 0 where
@@ -79,7 +72,7 @@ MeetsAt x r n o v m past a b = MeetsAtAs (λ (done : Unit {0}). 0) x r n o v m p
 
 -- the moments of a step that begins on a calm disk, where its name is safe
 abbrev pub StepMomentsAs : {X : Type 0} → (X → ℕ) → Action → Result X StepFault → List ℕ → Option (List ℕ) → Scene → Scene → Type 0
-StepMomentsAs code x r n left a b = (m : Model) (past : List Model) (i : List ℕ) → a.told ≡ Tells m past → IsHeard x.takes left i → IsCalm m → MayStep x n (view_of m)
+StepMomentsAs code x r n left a b = (m : Model) (past : List Model) (i : List ℕ) → a.told ≡ Tells m past → IsHeard x.takes left i → IsCalm m → IsSafeFor x n (view_of m)
     → MeetsAtAs code x r n (x.step n i (map (view_of m) (x.named n)) (look (view_of m) n)) (view_of m) m past a b
 
 abbrev pub StepMoments : Action → Result (Unit {0}) StepFault → List ℕ → Option (List ℕ) → Scene → Scene → Type 0

@@ -1,9 +1,10 @@
 -- Steps that change no s-file or p-file but one whose z-file wasn't there at an earlier moment, or that of their own name.
-use Rattle.std.specs.Prelude.{◌≡◌, ℕ, Bool, true, false, List, drop}
+use Rattle.std.specs.Prelude.{◌≡◌, ℕ, Bool, true, false, List, drop, IsSome}
 use Rattle.std.specs.List.{AllByRecursion}
-use Rattle.sccs_disk.specs.Told.{Told}
-use Rattle.sccs_moments.specs.Recovery.{is_kept}
-use Rattle.sccs_moments.specs.Unlocked.{BeginsUnlocked, KeepsHeldIn, KeepsOthers, is_own}
+use Rattle.sccs_disk.specs.Files.{Model, view_of}
+use Rattle.sccs_disk.specs.Told.{Told, Tells}
+use Rattle.sccs_moments.specs.Recovery.{fate_at, is_kept}
+use Rattle.sccs_moments.specs.Unlocked.{BeginsUnlocked, IsHeldIn, KeepsOthers, KeptHeld, is_own}
 use Rattle.sccs_steps.specs.Actions.{Action}
 use Rattle.sccs_steps.specs.StepLists.{NamedStep}
 
@@ -19,9 +20,13 @@ ArePlain x ts = AllByRecursion (λ (t : NamedStep). x.fits t.name ≡ true → I
 abbrev pub StepUnlocked : Action → List ℕ → Told → Told → Type 0
 StepUnlocked x n old new = x.locks ≡ true → IsPlainFor x n → BeginsUnlocked old new
 
--- a step that changes files leaves the files of all other names; and where it locks its name, a name that is held stays so
+-- a name that is held stays so where an intent names it
+abbrev pub KeepsNamed : List ℕ → Told → Told → Type 0
+KeepsNamed n old new = (m : Model) (past : List Model) → old ≡ Tells m past → IsSome (fate_at (view_of m) n) → IsHeldIn n m → KeptHeld n m past new
+
+-- a step that changes files leaves the files of all other names; and its own stays held where an intent names it
 abbrev pub StepOthers : Action → List ℕ → Told → Told → Type 0
-StepOthers x n old new = (x.reads ≡ false → KeepsOthers (is_own n) old new) × (x.reads ≡ false → x.locks ≡ true → KeepsHeldIn n old new)
+StepOthers x n old new = (x.reads ≡ false → KeepsOthers (is_own n) old new) × (x.reads ≡ false → KeepsNamed n old new)
 
 -- the names of steps that don't lock them are exempt
 abbrev pub AreExempt : Action → (List ℕ → Bool) → List NamedStep → Type 0

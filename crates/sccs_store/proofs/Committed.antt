@@ -1,10 +1,10 @@
 -- A commit puts the chosen files in their places, and leaves all others.
-use Rattle.std.proofs.Common.{◌≡◌, ◌⊎◌, ℕ, zero, suc, Bool, true, false, cond, List, drop, Option, None, inl, inr, refl, sym, ap, subst, ◌∙◌}
+use Rattle.std.proofs.Common.{◌≡◌, ◌⊎◌, ℕ, zero, suc, Bool, true, false, cond, List, drop, Option, None, inl, inr, refl, sym, ap, subst, ◌∙◌, ⊎_elim}
 use Rattle.std.specs.Str.{bytes_eq}
 use Rattle.sccs_base.specs.Name.{IsSfile, p_file, q_file, x_file, y_file, z_file}
-use Rattle.sccs_disk.specs.Files.{Content, View}
-use Rattle.sccs_disk.proofs.Puts.{put_back, put_other, same_name}
-use Rattle.sccs_files.specs.StepFiles.{is_working, placed}
+use Rattle.sccs_disk.specs.Files.{Content, View, put}
+use Rattle.sccs_disk.proofs.Puts.{name_cases, put_back, put_other, put_same, same_name}
+use Rattle.sccs_files.specs.StepFiles.{is_working, l_file, placed}
 use Rattle.sccs_store.specs.Commits.{Plan, chosen, committed, files_after, g_swapped, p_swapped, part_of, s_swapped, swapped}
 use Rattle.sccs_store.specs.declared.new_files.NewFile.{NewFile}
 use Rattle.sccs_store.specs.declared.new_files.NewFile.TheVariants.{Keep, Replace, Remove}
@@ -90,12 +90,20 @@ reordered false false true false S P G o o2 one same = refl
 reordered false false false true S P G o o2 one same = refl
 reordered false false false false S P G o o2 one same = same refl
 
+-- the view before all with the l-file of u
+abbrev pub with_l : List ℕ → View → View → View
+with_l n u v = put v (l_file n) (u (l_file n))
+
+-- what another view than that of the commit has, but for the l-file and the z-file
+pub l_taken : (n : List ℕ) (u v : View) (k : List ℕ) → (bytes_eq (l_file n) k ≡ false → u k ≡ v k) → u k ≡ with_l n u v k
+l_taken n u v k same = ⊎_elim (λ e. subst (λ l. u l ≡ with_l n u v l) e (sym (put_same v (l_file n) (u (l_file n))))) (λ apart. same apart ∙ sym (put_other v (l_file n) k (u (l_file n)) apart)) (name_cases (l_file n) k)
+
 -- what the files of the name are after a commit on u, where v is the view before all
-pub committed_at : (n : List ℕ) (c : Plan) (u v : View) (k : List ℕ) → IsSfile n → is_working n k ≡ false → (bytes_eq (z_file n) k ≡ false → u k ≡ v k) → committed n c u k ≡ placed v n (files_after n c u) k
+pub committed_at : (n : List ℕ) (c : Plan) (u v : View) (k : List ℕ) → IsSfile n → is_working n k ≡ false → (bytes_eq (l_file n) k ≡ false → bytes_eq (z_file n) k ≡ false → u k ≡ v k) → committed n c u k ≡ placed v n (files_after n c u) k
 committed_at n c u v k sfile h same =
     ap (λ (o : Option Content). cond (bytes_eq (z_file n) k) None o) (third_is n c u k sfile h)
     ∙ reordered (bytes_eq n k) (bytes_eq (p_file n) k) (bytes_eq (drop 2 n) k) (bytes_eq (z_file n) k) (chosen c.s (u (x_file n)) (u n)) (chosen c.p (u (q_file n)) (u (p_file n)))
-    (chosen c.g (u (y_file n)) (u (drop 2 n))) (u k) (v k) (at_most_one n k sfile) same
+    (chosen c.g (u (y_file n)) (u (drop 2 n))) (u k) (with_l n u v k) (at_most_one n k sfile) (λ z. l_taken n u v k (λ l. same l z))
 
 -- ---- after some of its changes
 
@@ -154,9 +162,10 @@ parts n c u v k (suc (suc (suc zero))) sfile h other same = three_made n c u v k
 parts n c u v k (suc (suc (suc (suc i)))) sfile h other same =
     as_it_is _ _ _ _ (put_other (g_swapped n c (p_swapped n c (s_swapped n c u))) (z_file n) k None other) (three_made n c u v k sfile h other same)
 
-placed_is : (n : List ℕ) (c : Plan) (u v : View) (k : List ℕ) → bytes_eq (z_file n) k ≡ false → placed_of n c u v k ≡ placed v n (files_after n c u) k
-placed_is n c u v k other =
-    ap (λ z. cond (bytes_eq n k) (s_of n c u) (cond (bytes_eq (p_file n) k) (p_of n c u) (cond (bytes_eq (drop 2 n) k) (g_of n c u) (cond z None (v k))))) (sym other)
+placed_is : (n : List ℕ) (c : Plan) (u v : View) (k : List ℕ) → bytes_eq (z_file n) k ≡ false → u k ≡ v k → placed_of n c u v k ≡ placed v n (files_after n c u) k
+placed_is n c u v k other same =
+    ap (λ o. cond (bytes_eq n k) (s_of n c u) (cond (bytes_eq (p_file n) k) (p_of n c u) (cond (bytes_eq (drop 2 n) k) (g_of n c u) o))) (sym same ∙ l_taken n u v k (λ l. same))
+    ∙ ap (λ z. cond (bytes_eq n k) (s_of n c u) (cond (bytes_eq (p_file n) k) (p_of n c u) (cond (bytes_eq (drop 2 n) k) (g_of n c u) (cond z None (with_l n u v k))))) (sym other)
 
 ends_as : (x a b d : Option Content) → b ≡ d → Either x a b → Either x a d
 ends_as x a b d is (inl e) = inl e
@@ -165,4 +174,4 @@ ends_as x a b d is (inr e) = inr (e ∙ is)
 -- each file but the z-file is as it was, or as the commit makes it
 pub part_at : (n : List ℕ) (c : Plan) (u v : View) (k : List ℕ) (i : ℕ) → IsSfile n → is_working n k ≡ false → bytes_eq (z_file n) k ≡ false → u k ≡ v k
     → (part_of n c i u k ≡ v k) ⊎ (part_of n c i u k ≡ placed v n (files_after n c u) k)
-part_at n c u v k i sfile h other same = ends_as _ _ _ _ (placed_is n c u v k other) (parts n c u v k i sfile h other same)
+part_at n c u v k i sfile h other same = ends_as _ _ _ _ (placed_is n c u v k other same) (parts n c u v k i sfile h other same)

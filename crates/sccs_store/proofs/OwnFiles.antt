@@ -9,7 +9,7 @@ use Rattle.sccs_disk.specs.Files as op
 use Rattle.sccs_disk.specs.Told.{Told}
 use Rattle.sccs_moments.specs.Unlocked.{KeepsOthers, is_own}
 use Rattle.sccs_moments.proofs.FileNames.{both_false, left_false, no_q, no_working, no_x, no_y, no_z, right_false}
-use Rattle.sccs_files.specs.StepFiles.{is_left}
+use Rattle.sccs_files.specs.StepFiles.{is_early}
 use Rattle.sccs_moments.proofs.Unlocked.{is_either, others_done, others_half, others_removed, others_renamed, others_same, others_settled, others_then, others_wider, own_left}
 use Rattle.sccs_store.specs.Commits.{Plan}
 use Rattle.sccs_store.specs.Stops.{HalfSwaps, HalfUnlocks, Swaps, Unlocks}
@@ -37,13 +37,13 @@ others_half_swapped n Remove from to a b misses half =
 -- ---- the files of the name
 
 no_s : (n k : List ℕ) → is_own n k ≡ false → bytes_eq n k ≡ false
-no_s n k h = left_false (bytes_eq n k) (bytes_eq (p_file n) k || (bytes_eq (drop 2 n) k || is_left n k)) h
+no_s n k h = left_false (bytes_eq n k) (bytes_eq (p_file n) k || (bytes_eq (drop 2 n) k || is_early n k)) h
 
 no_p : (n k : List ℕ) → is_own n k ≡ false → bytes_eq (p_file n) k ≡ false
-no_p n k h = left_false (bytes_eq (p_file n) k) (bytes_eq (drop 2 n) k || is_left n k) (right_false (bytes_eq n k) (bytes_eq (p_file n) k || (bytes_eq (drop 2 n) k || is_left n k)) h)
+no_p n k h = left_false (bytes_eq (p_file n) k) (bytes_eq (drop 2 n) k || is_early n k) (right_false (bytes_eq n k) (bytes_eq (p_file n) k || (bytes_eq (drop 2 n) k || is_early n k)) h)
 
 no_g : (n k : List ℕ) → is_own n k ≡ false → bytes_eq (drop 2 n) k ≡ false
-no_g n k h = left_false (bytes_eq (drop 2 n) k) (is_left n k) (right_false (bytes_eq (p_file n) k) (bytes_eq (drop 2 n) k || is_left n k) (right_false (bytes_eq n k) (bytes_eq (p_file n) k || (bytes_eq (drop 2 n) k || is_left n k)) h))
+no_g n k h = left_false (bytes_eq (drop 2 n) k) (is_early n k) (right_false (bytes_eq (p_file n) k) (bytes_eq (drop 2 n) k || is_early n k) (right_false (bytes_eq n k) (bytes_eq (p_file n) k || (bytes_eq (drop 2 n) k || is_early n k)) h))
 
 misses_s : (n : List ℕ) → Misses n (x_file n) n
 misses_s n k h = both_false (bytes_eq (x_file n) k) (bytes_eq n k) (no_x n k (no_working n k (own_left n k h))) (no_s n k h)

@@ -5,18 +5,19 @@ use Rattle.sccs_disk.specs.Files.{Model, View, view_of}
 use Rattle.sccs_disk.specs.Images.{Allows, IsFirm}
 use Rattle.sccs_disk.specs.Told.{Told, Tells}
 use Rattle.sccs_disk.proofs.Puts.{name_cases}
-use Rattle.sccs_files.specs.StepFiles.{is_left}
+use Rattle.sccs_files.specs.StepFiles.{is_early}
 use Rattle.sccs_intents.specs.Intents.{intent_file}
-use Rattle.sccs_images.specs.Touches.{Leaves, Touches, TouchesOnly, Touching, earlier, newest}
+use Rattle.sccs_images.specs.Touches.{Leaves, earlier, newest}
 use Rattle.sccs_images.proofs.Touched.{each_newest, newest_more}
 use Rattle.sccs_moments.specs.Calm.{HasFirm, IsCalm, KeepsPairs}
 use Rattle.sccs_moments.specs.Moments.{EndsAfter, EndsBefore, EndsWithin, IsAt, IsNew, Stays, Went}
 use Rattle.sccs_moments.specs.Recovery.{IsSound, RecoversAs, fate_at}
-use Rattle.sccs_moments.proofs.CalmDisks.{calm_firm, firms_touched}
-use Rattle.sccs_moments.proofs.FileNames.{left_q, left_s, left_x}
+use Rattle.sccs_moments.specs.Unlocked.{KeepsOthers, KeptOthers, LeavesOthers}
+use Rattle.sccs_moments.proofs.CalmDisks.{calm_firm, firms_left}
+use Rattle.sccs_moments.proofs.FileNames.{early_s, left_q, left_x}
 use Rattle.sccs_moments.proofs.Joined.{numbered_as, numbered_now, went_then}
 use Rattle.sccs_moments.proofs.Recovering.{fate_same, recovers_then}
-use Rattle.sccs_moments.proofs.Untouched.{calm_stayed, none_named, none_replaced, stays_touched, view_touched, went_at}
+use Rattle.sccs_moments.proofs.Untouched.{calm_stayed, none_named, none_replaced, stays_left, view_left, went_at}
 use Rattle.sccs_store.specs.Commits.{Plan, committed}
 use Rattle.sccs_store.specs.Stops.{CanCommit, CommitEnds, CommitStops, HasPrepared, IsPlainPlan, OnReplace}
 use Rattle.sccs_store.specs.declared.new_files.NewFile.{NewFile}
@@ -24,10 +25,10 @@ use Rattle.sccs_store.specs.declared.new_files.NewFile.TheVariants.{Keep, Replac
 
 -- ---- up to the commit
 
--- a step that has touched at most the files that it leaves behind ends before it
-pub ends_before : (n : List ℕ) (a b : Told) (m : Model) (past : List Model) → IsSfile n → a ≡ Tells m past → IsCalm m → IsSound n (view_of m) → TouchesOnly (is_left n) a b → EndsBefore (view_of m) m past b
-ends_before n a b m past sfile is calm sound touches =
-    (stays_touched n m past b sfile calm sound (touches m past is), calm_stayed (view_of m) m past b (stays_touched n m past b sfile calm sound (touches m past is)))
+-- a step that has changed at most what it changes before its commit ends before it
+pub ends_before : (n : List ℕ) (a b : Told) (m : Model) (past : List Model) → IsSfile n → a ≡ Tells m past → IsCalm m → IsSound n (view_of m) → KeepsOthers (is_early n) a b → EndsBefore (view_of m) m past b
+ends_before n a b m past sfile is calm sound others =
+    (stays_left n m past b sfile calm sound (others m past is), calm_stayed (view_of m) m past b (stays_left n m past b sfile calm sound (others m past is)))
 
 -- ---- the commit
 
@@ -37,19 +38,19 @@ firm_where Replace k a b m m1 past past1 is is1 firm = firm m past is m1 past1 i
 firm_where Remove k a b m m1 past past1 is is1 firm = tt
 
 -- what the commit needs
-can_commit : (n : List ℕ) (c : Plan) (a b : Told) (m : Model) (past : List Model) → IsSfile n → a ≡ Tells m past → IsCalm m → IsSound n (view_of m) → (run : Touching (is_left n) m past b) → IsPlainPlan n c → HasPrepared n c a b → CanCommit n c (newest run.added m)
+can_commit : (n : List ℕ) (c : Plan) (a b : Told) (m : Model) (past : List Model) → IsSfile n → a ≡ Tells m past → IsCalm m → IsSound n (view_of m) → (run : KeptOthers (is_early n) m past b) → IsPlainPlan n c → HasPrepared n c a b → CanCommit n c (newest run.added m)
 can_commit n c a b m past sfile is calm sound run plain prepared = record {
-  firm = firms_touched (is_left n) m (newest run.added m) (λ k other. left_s n k other) (λ k other. refl) refl
+  firm = firms_left (is_early n) m (newest run.added m) (λ k other. early_s n k other) (λ k other. refl) refl
       (λ k other named. ⊎_elim (λ e. absurd (none_named (fate_at (view_of m) k) (subst (λ l. fate_at (view_of m) l ≡ None) e sound.unnamed) named)) (λ apart. left_x n k sfile other apart) (name_cases n k))
       (λ k other named. ⊎_elim (λ e. absurd (none_replaced (fate_at (view_of m) k) (subst (λ l. fate_at (view_of m) l ≡ None) e sound.unnamed) named)) (λ apart. left_q n k sfile other apart) (name_cases n k))
-      (each_newest (Touches (is_left n) m) run.added m run.each) (calm_firm m calm);
+      (each_newest (LeavesOthers (is_early n) m) run.added m run.each).files (calm_firm m calm);
   x_state = firm_where c.s (x_file n) a b m (newest run.added m) past (earlier run.added m past) is run.is prepared.x_state;
   q_state = firm_where c.p (q_file n) a b m (newest run.added m) past (earlier run.added m past) is run.is prepared.q_state;
   plain = plain;
   entries = prepared.entries m past is (newest run.added m) (earlier run.added m past) run.is;
   unnamed =
       fate_same n (view_of m) (view_of (newest run.added m))
-      (view_touched (is_left n) m (newest run.added m) intent_file (each_newest (Touches (is_left n) m) run.added m run.each) refl)
+      (view_left (is_early n) m (newest run.added m) intent_file (each_newest (LeavesOthers (is_early n) m) run.added m run.each) refl)
       ∙ sound.unnamed;
 }
 
@@ -75,8 +76,8 @@ whole_run v w m past j b d w1 stays same went =
 pub ends_after : (n : List ℕ) (c : Plan) (a b d : Told) (m : Model) (past : List Model) (w : View) → IsSfile n → a ≡ Tells m past → IsCalm m → IsSound n (view_of m) → IsPlainPlan n c → HasPrepared n c a b
     → ((m1 : Model) (past1 : List Model) → b ≡ Tells m1 past1 → RecoversAs w (committed n c (view_of m1))) → CommitEnds n c b d → EndsAfter (view_of m) w m past d
 ends_after n c a b d m past w sfile is calm sound plain prepared same commit =
-    let stays : Stays (view_of m) m past b = stays_touched n m past b sfile calm sound (prepared.touches m past is) in
-    after stays (can_commit n c a b m past sfile is calm sound (record { added = stays.added; is = stays.is; each = (prepared.touches m past is).each }) plain prepared)
+    let stays : Stays (view_of m) m past b = stays_left n m past b sfile calm sound (prepared.others m past is) in
+    after stays (can_commit n c a b m past sfile is calm sound (record { added = stays.added; is = stays.is; each = (prepared.others m past is).each }) plain prepared)
   where
     after : (stays : Stays (view_of m) m past b) → CanCommit n c (newest stays.added m) → EndsAfter (view_of m) w m past d
     after stays can =
@@ -88,8 +89,8 @@ ends_after n c a b d m past w sfile is calm sound plain prepared same commit =
 pub ends_within : (n : List ℕ) (c : Plan) (a b d : Told) (m : Model) (past : List Model) (w : View) → IsSfile n → a ≡ Tells m past → IsCalm m → IsSound n (view_of m) → IsPlainPlan n c → HasPrepared n c a b
     → ((m1 : Model) (past1 : List Model) → b ≡ Tells m1 past1 → RecoversAs w (committed n c (view_of m1))) → CommitStops n c b d → EndsWithin (view_of m) w m past d
 ends_within n c a b d m past w sfile is calm sound plain prepared same commit =
-    let stays : Stays (view_of m) m past b = stays_touched n m past b sfile calm sound (prepared.touches m past is) in
-    within stays (can_commit n c a b m past sfile is calm sound (record { added = stays.added; is = stays.is; each = (prepared.touches m past is).each }) plain prepared)
+    let stays : Stays (view_of m) m past b = stays_left n m past b sfile calm sound (prepared.others m past is) in
+    within stays (can_commit n c a b m past sfile is calm sound (record { added = stays.added; is = stays.is; each = (prepared.others m past is).each }) plain prepared)
   where
     within : (stays : Stays (view_of m) m past b) → CanCommit n c (newest stays.added m) → EndsWithin (view_of m) w m past d
     within stays can =

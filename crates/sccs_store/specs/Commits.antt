@@ -5,7 +5,7 @@ use Rattle.sccs_disk.specs.Files.{Content, View, put}
 use Rattle.sccs_disk.specs.Effects.{empty_file, renamed}
 use Rattle.sccs_disk.specs.Calls.{IsThere}
 use Rattle.sccs_disk.specs.Told.{Told}
-use Rattle.sccs_files.specs.StepFiles.{Files}
+use Rattle.sccs_files.specs.StepFiles.{Files, l_file}
 use Rattle.sccs_tokens.specs.Written.{five}
 use Rattle.sccs_moments.specs.Recovery.{cleared, without_name}
 use Rattle.sccs_store.specs.declared.new_files.NewFile.{NewFile}
@@ -90,11 +90,12 @@ part_of n c (suc (suc (suc (suc i)))) v = committed n c v
 abbrev pub IsPart : List ℕ → Plan → Option View → Option View → Type 0
 IsPart n c old new = (i : ℕ) × (new ≡ option_map (part_of n c i) old)
 
--- the files of the name after it
+-- the files of the name after it; the l-file is new before it, where it is new
 abbrev pub files_after : List ℕ → Plan → View → Files
 files_after n c v = record {
   s = chosen c.s (v (x_file n)) (v n);
   p = chosen c.p (v (q_file n)) (v (p_file n));
   z = None;
   g = chosen c.g (v (y_file n)) (v (drop 2 n));
+  l = v (l_file n);
 }

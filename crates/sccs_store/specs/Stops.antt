@@ -6,12 +6,13 @@ use Rattle.sccs_disk.specs.Effects.{removing, renaming, syncing_names}
 use Rattle.sccs_disk.specs.Files.{Model, View, view_of}
 use Rattle.sccs_disk.specs.Images.{IsFirm}
 use Rattle.sccs_disk.specs.Told.{Told, Tells}
-use Rattle.sccs_files.specs.StepFiles.{is_left}
-use Rattle.sccs_images.specs.Touches.{Leaves, TouchesOnly, newest}
+use Rattle.sccs_files.specs.StepFiles.{is_early}
+use Rattle.sccs_images.specs.Touches.{Leaves, newest}
 use Rattle.sccs_pfile.specs.Recovered.{recovered_pfile}
 use Rattle.sccs_moments.specs.Calm.{HasFirm, IsCalm}
 use Rattle.sccs_moments.specs.Moments.{EndsBefore, IsNew, Went}
 use Rattle.sccs_moments.specs.Recovery.{fate_at, is_kept}
+use Rattle.sccs_moments.specs.Unlocked.{KeepsOthers}
 use Rattle.sccs_store.specs.Commits.{Plan, committed, files_after}
 use Rattle.sccs_store.specs.declared.new_files.NewFile.{NewFile}
 use Rattle.sccs_store.specs.declared.new_files.NewFile.TheVariants.{Keep, Replace, Remove}
@@ -73,8 +74,8 @@ pub record CanCommit (n : List ℕ) (c : Plan) (m : Model) : Type 0 where
 
 -- What the calls from the start of a step up to its commit have done.
 pub record HasPrepared (n : List ℕ) (c : Plan) (old new : Told) : Type 0 where
-  -- at most working files and the z-file are touched
-  pub touches : TouchesOnly (is_left n) old new
+  -- at most working files, the z-file and the l-file are changed
+  pub others : KeepsOthers (is_early n) old new
   -- the prepared files that take the places of others are firm
   pub x_state : OnReplace c.s (Leaves (IsFirm (x_file n)) old new)
   pub q_state : OnReplace c.p (Leaves (IsFirm (q_file n)) old new)

@@ -3,19 +3,20 @@ ghost use Rattle.std.specs.Str.{bytes_eq};
 ghost use Rattle.sccs_base.specs.Name.{IsSfile, z_file};
 ghost use Rattle.sccs_disk.specs.Files.{Model, View, view_of};
 ghost use Rattle.sccs_disk.specs.Told.{Tells, Told};
-ghost use Rattle.sccs_files.specs.StepFiles.{is_left, is_working, placed};
-ghost use Rattle.sccs_images.specs.Touches.{TouchesOnly};
+ghost use Rattle.sccs_files.specs.StepFiles.{is_early, is_working, l_file, placed};
 ghost use Rattle.sccs_moments.specs.Calm.{IsCalm};
 ghost use Rattle.sccs_moments.specs.Moments.{EndsAfter, EndsBefore, EndsWithin};
 ghost use Rattle.sccs_moments.specs.Recovery.{IsSound, RecoversAs};
+ghost use Rattle.sccs_moments.specs.Unlocked.{KeepsOthers};
 ghost use Rattle.sccs_store.specs.Commits.{Plan, committed, files_after, part_of};
 ghost use Rattle.sccs_store.specs.Stops.{CommitEnds, CommitStops, HasPrepared, IsPlainPlan};
 
-/// A commit puts the chosen files in their places and leaves all others but working files; after some of
-/// its changes each file but the z-file is as it was, or as the commit makes it.
+/// A commit puts the chosen files in their places and leaves all others but working files, where at most
+/// the z-file and the l-file differ from before all; after some of its changes each file but the z-file is
+/// as it was, or as the commit makes it.
 pub fn commits_place_their_files()
     ensures whole { (n : List ℕ) (c : Plan) (u v : View) (k : List ℕ) → IsSfile n → is_working n k ≡ false
-        → (bytes_eq (z_file n) k ≡ false → u k ≡ v k) → committed n c u k ≡ placed v n (files_after n c u) k }
+        → (bytes_eq (l_file n) k ≡ false → bytes_eq (z_file n) k ≡ false → u k ≡ v k) → committed n c u k ≡ placed v n (files_after n c u) k }
     ensures parts { (n : List ℕ) (c : Plan) (u v : View) (k : List ℕ) (i : ℕ) → IsSfile n → is_working n k ≡ false
         → bytes_eq (z_file n) k ≡ false → u k ≡ v k
         → (part_of n c i u k ≡ v k) ⊎ (part_of n c i u k ≡ placed v n (files_after n c u) k) }
@@ -27,7 +28,7 @@ pub fn commits_place_their_files()
 /// is calm.
 pub fn steps_are_made_whole()
     ensures before { (n : List ℕ) (a b : Told) (m : Model) (past : List Model) → IsSfile n → a ≡ Tells m past → IsCalm m
-        → IsSound n (view_of m) → TouchesOnly (is_left n) a b → EndsBefore (view_of m) m past b }
+        → IsSound n (view_of m) → KeepsOthers (is_early n) a b → EndsBefore (view_of m) m past b }
     ensures within { (n : List ℕ) (c : Plan) (a b d : Told) (m : Model) (past : List Model) (w : View) → IsSfile n
         → a ≡ Tells m past → IsCalm m → IsSound n (view_of m) → IsPlainPlan n c → HasPrepared n c a b
         → ((m1 : Model) (past1 : List Model) → b ≡ Tells m1 past1 → RecoversAs w (committed n c (view_of m1)))

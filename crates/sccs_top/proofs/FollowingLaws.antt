@@ -1,5 +1,6 @@
 -- Where a run ended the next one may begin, and so where it was stopped and all names were recovered.
-use Rattle.std.proofs.Common.{◌≡◌, ◌≢◌, ℕ, ◌≤◌, Bool, true, false, List, [], ◌∷◌, length, take, Option, None, Some, is_some, Result, Err, sym, ap, ◌∙◌}
+use Rattle.std.proofs.Common.{◌≡◌, ◌≢◌, ℕ, ◌≤◌, Bool, true, false, List, [], ◌∷◌, length, take, Option, None, Some, is_some, Result, Err, refl, sym, ap, subst, ◌∙◌}
+use Rattle.std.specs.Prelude.{IsSome}
 use Rattle.sccs_base.specs.Name.{IsSfile, p_file, z_file}
 use Rattle.sccs_disk.specs.Files.{Content, Folder, Model, View, view_in, view_of}
 use Rattle.sccs_disk.specs.Images.{Allows}
@@ -8,17 +9,20 @@ use Rattle.sccs_images.specs.Touches.{Each, earlier, newest}
 use Rattle.sccs_images.proofs.Images.{view_image}
 use Rattle.sccs_images.proofs.Touched.{each_newest}
 use Rattle.sccs_intents.specs.Intents.{intent_file}
-use Rattle.sccs_moments.specs.Moments.{CanRecover, IsCalmUnnamed, NamesNone}
-use Rattle.sccs_moments.specs.Recovery.{RecoversAs, fate_at}
+use Rattle.sccs_group.specs.Finishing.{CanFinish}
+use Rattle.sccs_intents.specs.declared.intents.Fate.{Fate}
+use Rattle.sccs_moments.specs.Moments.{IsCalmUnnamed}
+use Rattle.sccs_moments.specs.Recovery.{IsSettledPair, Pair, RecoversAs, fate_at, pair_of, recover}
 use Rattle.sccs_moments.proofs.Recovering.{LooksAlike, fate_same, recovered, recovered_alike, recovered_is, recovered_under, recovers_from}
 use Rattle.sccs_steps.specs.Calls.{Scene}
-use Rattle.sccs_steps.specs.ListStops.{IsAtNumber, KeepsNamesFrom, KeepsSafe, MayBegin, Spares, view_at}
+use Rattle.sccs_steps.specs.ListStops.{IsAtNumber, KeepsSafeFrom, KeepsSafe, MayBegin, Spares, view_at}
 use Rattle.sccs_courses.specs.Following.{CourseMoments}
 use Rattle.sccs_steps.specs.StepLists.{NamedStep, folder_after}
 use Rattle.sccs_steps.specs.StepStops.{IsSafe}
 use Rattle.sccs_steps.specs.declared.faults.Fault.{Fault}
 use Rattle.sccs_steps.specs.declared.faults.Fault.TheVariants as ends
-use Rattle.sccs_steps.proofs.SafeImages.{calm_safe, numbered_each, recovers_safe}
+use Rattle.sccs_steps.proofs.SafeImages.{calm_safe, numbered_each}
+use Rattle.sccs_steps.proofs.Safety.{pair_paired, pair_settled}
 use Rattle.sccs_top.specs.Following.{AllRecovered, FollowsStop, MayFollow}
 
 pub may_follow : (w : List ℕ → Bool) (r : Result ℕ Fault) (folder : Folder) (ts : List NamedStep) (a b : Scene) (m : Model) (past : List Model) → (run : CourseMoments w r folder ts a b m past) → r ≢ Err ends.DiskFault
@@ -29,7 +33,7 @@ may_follow w r folder ts a b m past run other = record {
   is = run.list.went.is;
   may = record { calm = run.list.calm other; recovers = run.list.recovers other };
   names = run.keeps other;
-  kept = each_newest (Allows (KeepsNamesFrom m)) run.list.went.added m run.images (view_of (newest run.list.went.added m)) (view_image (newest run.list.went.added m));
+  kept = each_newest (Allows (KeepsSafeFrom m)) run.list.went.added m run.images (view_of (newest run.list.went.added m)) (view_image (newest run.list.went.added m));
 }
 
 -- ---- a calm disk where no intent names an s-file
@@ -55,9 +59,9 @@ begins w folder m spares alike calm = record { calm = calm.calm; recovers = reco
     }
 
 -- each name that is safe in the view is safe in whatever a stop could leave
-pub calm_from : (m : Model) (v : View) → IsCalmUnnamed m → KeepsNamesFrom m v → KeepsSafe (view_of m) v
+pub calm_from : (m : Model) (v : View) → IsCalmUnnamed m → KeepsSafeFrom m v → KeepsSafe (view_of m) v
 calm_from m v calm keeps = λ n sfile safe.
-    keeps.safe n sfile (calm_safe n m sfile calm.calm (λ named. absurd (let none = calm.unnamed n sfile in let e : false ≡ true = sym (ap is_some none) ∙ named in cc)) safe)
+    keeps n sfile (calm_safe n m sfile calm.calm (λ named. absurd (let none = calm.unnamed n sfile in let e : false ≡ true = sym (ap is_some none) ∙ named in cc)) safe)
 
 -- ---- a stop, and the recovery of all names
 
@@ -73,26 +77,42 @@ each_both P Q R (a ∷ added) m both one two = (λ w image. both w (one.0 w imag
 abbrev AtSome : Folder → List NamedStep → View → Type 0
 AtSome folder ts w = (k : ℕ) × (k ≤ length ts) × RecoversAs (view_at folder ts k) w
 
--- a name that no intent named
-unnamed_safe : (w u : View) (n : List ℕ) → AllRecovered w u → IsSfile n → fate_at w n ≡ None → IsSafe n w → IsSafe n u
-unnamed_safe w u n all sfile unnamed safe =
-    recovers_safe n w u sfile (all_recovers w u all) (all.none n sfile ∙ sym unnamed) (λ named. absurd (let e : false ≡ true = sym (ap is_some unnamed) ∙ named in cc)) safe
+-- a name that was safe, be it named by an intent or not
+recovered_safe : (w u : View) (n : List ℕ) → AllRecovered w u → IsSfile n → IsSafe n w → IsSafe n u
+recovered_safe w u n all sfile safe = record {
+  plain = safe.plain;
+  sound = λ free. record { entries = subst (λ (x : Pair). IsSettledPair x) (sym (all.pairs n sfile)) safe.settled; unnamed = all.none n sfile };
+  paired = pair_paired n w u (all_recovers w u all n sfile) safe.paired;
+  settled = pair_settled n w u (all_recovers w u all n sfile) safe.settled;
+}
 
-follows : (m : Model) (folder : Folder) (ts : List NamedStep) (w : View) → AtSome folder ts w → KeepsNamesFrom m w → FollowsStop m folder ts w
+follows : (m : Model) (folder : Folder) (ts : List NamedStep) (w : View) → AtSome folder ts w → KeepsSafeFrom m w → FollowsStop m folder ts w
 follows m folder ts w at keeps = record {
   prefix = λ u all. record { count = at.0; most = at.1; pairs = λ n sfile. all.pairs n sfile ∙ at.2 n sfile };
-  none = keeps.none;
-  safe = λ u all n sfile unnamed safe. unnamed_safe w u n all sfile unnamed (keeps.safe n sfile safe);
+  safe = λ u all n sfile safe. recovered_safe w u n all sfile (keeps n sfile safe);
 }
+
+held_by : (o : Option Content) (fate : Option Fate) → (o ≡ None → fate ≡ None) → IsSome fate → IsSome o
+held_by (Some c) fate free named = refl
+held_by None fate free named = subst (λ (f : Option Fate). IsSome f) (free refl) named
 
 -- at any end recovery may run next
 pub may_recover : (w : List ℕ → Bool) (r : Result ℕ Fault) (folder : Folder) (ts : List NamedStep) (a b : Scene) (m : Model) (past : List Model) → (run : CourseMoments w r folder ts a b m past)
-    → Allows NamesNone m → CanRecover (newest run.list.went.added m)
-may_recover w r folder ts a b m past run none =
-    record { firm = run.list.firm; unnamed = λ u image. (each_newest (Allows (KeepsNamesFrom m)) run.list.went.added m run.images u image).none none }
+    → ((n : List ℕ) → IsSfile n → IsSome (fate_at (view_of (newest run.list.went.added m)) n) → Allows (IsSafe n) m) → CanFinish (newest run.list.went.added m)
+may_recover w r folder ts a b m past run were = record {
+  firm = run.list.firm;
+  held = λ n sfile named. held_by (view_of last (z_file n)) (fate_at (view_of last) n) (λ free. ((is_safe n sfile named).sound free).unnamed) named;
+  settled = λ n sfile named. (is_safe n sfile named).settled;
+}
+  where
+    last : Model
+    last = newest run.list.went.added m
+
+    is_safe : (n : List ℕ) → IsSfile n → IsSome (fate_at (view_of last) n) → IsSafe n (view_of last)
+    is_safe n sfile named = each_newest (Allows (KeepsSafeFrom m)) run.list.went.added m run.images (view_of last) (view_image last) n sfile (were n sfile named)
 
 pub stops_followed : (w : List ℕ → Bool) (r : Result ℕ Fault) (folder : Folder) (ts : List NamedStep) (a b : Scene) (m : Model) (past : List Model) → (run : CourseMoments w r folder ts a b m past)
     → Each (Allows (FollowsStop m folder ts)) run.list.went.added m
 stops_followed w r folder ts a b m past run =
-    each_both (AtSome folder ts) (KeepsNamesFrom m) (FollowsStop m folder ts) run.list.went.added m (λ u at keeps. follows m folder ts u at keeps)
+    each_both (AtSome folder ts) (KeepsSafeFrom m) (FollowsStop m folder ts) run.list.went.added m (λ u at keeps. follows m folder ts u at keeps)
     (numbered_each (IsAtNumber (view_at folder ts) (length ts)) (AtSome folder ts) 0 run.list.went.added m run.list.number (λ i u at. (at.0, at.2, at.3)) run.list.went.numbers) run.images

@@ -1,4 +1,5 @@
 pub mod AdminValues
+pub mod FinishedRuns
 pub mod FollowingLaws
 pub mod ListedRuns
 pub mod MadeHistoryLaws

@@ -1,5 +1,5 @@
 -- How a run ends whose steps end so.
-use Rattle.std.proofs.Common.{◌≡◌, ◌≢◌, ℕ, ◌≤◌, Bool, true, false, cond, List, [], ◌∷◌, Option, None, Some, is_some, IsOk, Result, Ok, Err, inl, inr, refl, sym, ap, subst, ◌∙◌, arith}
+use Rattle.std.proofs.Common.{◌≡◌, ◌≢◌, ℕ, ◌≤◌, Bool, true, false, not, ◌&&◌, List, [], ◌∷◌, Option, None, Some, is_some, IsOk, Result, Ok, Err, inl, inr, refl, sym, ap, subst, ◌∙◌, arith}
 use Rattle.std.specs.List.{AllByRecursion}
 use Rattle.sccs_base.specs.Stream.{Rose}
 use Rattle.sccs_base.proofs.Gifts.{some_none}
@@ -10,17 +10,19 @@ use Rattle.sccs_words.specs.declared.commands.Usage.{Usage}
 use Rattle.sccs_words.specs.declared.commands.Command.{Command}
 use Rattle.sccs_words.specs.declared.commands.ValWords.{ValWords}
 use Rattle.sccs_files.specs.StepFiles.{Shows}
-use Rattle.sccs_moments.specs.Moments.{LeavesCalm}
-use Rattle.sccs_moments.proofs.Recoveries.{calm_same, firm_same, story_same}
+use Rattle.sccs_moments.specs.Calm.{IsCalm}
+use Rattle.sccs_moments.proofs.Joined.{newest_is}
 use Rattle.sccs_moments.proofs.UnlockedBut.{but_same}
+use Rattle.sccs_group.specs.Finishing.{CanFinish}
+use Rattle.sccs_finishing.specs.AnyDisk.{RecoversAll}
 use Rattle.sccs_steps.specs.Actions.{Action, hears}
 use Rattle.sccs_steps.specs.Calls.{Scene, World, shown}
 use Rattle.sccs_steps.specs.Causes.{Counts, Ignores, RunCauses, counts}
-use Rattle.sccs_steps.specs.Recovering.{has_made}
 use Rattle.sccs_steps.specs.Running.{IsInput}
 use Rattle.sccs_steps.specs.Settings.{Setting}
 use Rattle.sccs_steps.specs.StepLists.{NamedStep, err_of, next_text}
 use Rattle.sccs_steps.proofs.Cleared.{cleared_same}
+use Rattle.sccs_steps.proofs.FirstMoved.{early_none}
 use Rattle.sccs_steps.proofs.MomentLists.{moments_never}
 use Rattle.sccs_steps.proofs.SafeImages.{images_now}
 use Rattle.sccs_steps.proofs.Safety.{keeps_same}
@@ -34,7 +36,7 @@ use Rattle.sccs_courses.proofs.CourseMomentLaws.{course_moments}
 use Rattle.sccs_courses.proofs.OneAction.{steps_course}
 use Rattle.sccs_courses.proofs.OwnFiles.{own_makes, own_stops, own_unlocked, spares_in}
 use Rattle.sccs_courses.specs.QuietSettings.{with_input}
-use Rattle.sccs_courses.proofs.QuietCourses.{course_chosen, course_heard, course_with}
+use Rattle.sccs_courses.proofs.QuietCourses.{course_chosen, course_heard, course_with as with_own_input}
 use Rattle.sccs_courses.proofs.SaidCourses.{said_course}
 use Rattle.sccs_batch.specs.Batches.{RunsOwn}
 use Rattle.sccs_batch.specs.declared.entries.Entry.{Entry}
@@ -43,11 +45,14 @@ use Rattle.sccs_soak.specs.Runs.{RunsSoak}
 use Rattle.sccs_soak.specs.Soak.{BegunSoak, WholeSoak, soak_course}
 use Rattle.sccs_top.specs.CommandLaws.{command_might}
 use Rattle.sccs_top.specs.Messages.{usage_line}
-use Rattle.sccs_top.specs.Runs.{AsksBy, AsksInput, AsksWords, BegunAsked, BegunBy, BegunCommand, BegunMeant, BegunOf, BegunRun, BegunWords, Caller, EndsRun, FitsEntry, IsGiven, LeavesAsked, LeavesAskedInput, LeavesInput, LeavesSingle, MadeBy, MakesSteps, RecoversRun, RunsAsked, RunsCommand, RunsMeant, RunsWords, SpeaksWords, StopsSteps, UnlockedSteps, WholeCommand, WholeOf, WholeRun, WholeWords, action_of, action_takes, asked_is_silent, asked_reads, caller_by, command_course, course_by, entry_command, is_list, is_silent, list_in, list_takes_input, only_reads, operands_of, run_course, run_portions, run_steps, steps_answer, steps_by, val_words_of, words_take_input, working}
+use Rattle.sccs_top.specs.Runs.{AsksBy, AsksInput, AsksWith, AsksWords, BegunAsked, BegunBy, BegunCommand, BegunMeant, BegunOf, BegunOperands, BegunRun, BegunWith, BegunWords, Caller, EndsRun, FitsEntry, IsGiven, LeavesAlone, LeavesAsked, LeavesAskedInput, LeavesInput, LeavesMeant, LeavesOperands, LeavesWith, MadeBy, MakesSteps, RecoversRun, RunsAlone, RunsAsked, RunsCommand, RunsMeant, RunsWords, SpeaksWords, StopsSteps, UnlockedSteps, WholeCommand, WholeOf, WholeOperands, WholeRun, WholeWith, WholeWords, action_of, action_takes, asked_is_silent, asked_reads, caller_by, command_course, course_by, course_with, entry_command, group_takes_input, group_use, is_of_operands, is_recovery, is_silent, list_in, list_takes_input, only_reads, operands_course, operands_of, run_course, run_steps, steps_answer, steps_by, val_words_of, words_take_input, working}
 use Rattle.sccs_top.proofs.SoakFits.{soak_fits}
 use Rattle.sccs_top.specs.declared.asking.Asked.{Asked}
 use Rattle.sccs_top.specs.declared.asking.Asked.TheVariants as ask
 use Rattle.sccs_top.specs.declared.commands.CommandList.{CommandList}
+use Rattle.sccs_top.specs.declared.commands.GroupUse.{GroupUse}
+use Rattle.sccs_top.specs.declared.commands.GroupUse.TheVariants as uses
+use Rattle.sccs_words.specs.declared.commands.Command.TheVariants as c
 use Rattle.sccs_top.specs.declared.commands.CommandList.TheVariants as list
 use Rattle.sccs_top.specs.declared.answers.Answer.{Answer}
 use Rattle.sccs_top.specs.declared.answers.Answer.TheVariants.{Finished, Memory, ReadFault, WriteFault, DiskFault}
@@ -60,12 +65,29 @@ single_course : (val : Option ValWords) (x : Action) (operands : List (List ℕ)
 single_course None x operands r s t takes runs = steps_course x (steps_by None x operands) (IsInput x operands s.left) (MadeBy None x operands) (BegunBy None x operands) (hears x operands) r s t takes runs
 single_course (Some words) x operands r s t takes runs = steps_course x (steps_by (Some words) x operands) (IsInput x operands s.left) (MadeBy (Some words) x operands) (BegunBy (Some words) x operands) (hears x operands) r s t takes runs
 
-pub command_runs : (who : Caller) (command : Command) (r : Result ℕ Fault) (s t : Setting) → RunsCommand (val_words_of command) (action_of who command) (operands_of command) r s t
-    → RunsCourse (command_course who (Ok command)) (AsksInput who (Ok command) s.left) (WholeCommand who (Ok command)) (BegunCommand who (Ok command)) r s t
-command_runs who command r s t runs = single_course (val_words_of command) (action_of who command) (operands_of command) r s t (action_takes who command) runs
+pub operands_runs : (who : Caller) (command : Command) (r : Result ℕ Fault) (s t : Setting) → RunsCommand (val_words_of command) (action_of who command) (operands_of command) r s t
+    → RunsCourse (operands_course who command) (IsInput (action_of who command) (operands_of command) s.left) (WholeOperands who command) (BegunOperands who command) r s t
+operands_runs who command r s t runs = single_course (val_words_of command) (action_of who command) (operands_of command) r s t (action_takes who command) runs
 
-pub words_run : (who : Caller) (meant : Result Command Usage) (command : Command) (r : Result ℕ Fault) (s t : Setting) → meant ≡ Ok command → RunsCommand (val_words_of command) (action_of who command) (operands_of command) r s t → RunsWords who meant r s t
-words_run who meant command r s t is runs = subst (λ (m : Result Command Usage). RunsWords who m r s t) (sym is) (inl (command_runs who command r s t runs))
+-- by what a command does with a group
+abbrev pub RunsWith : Option GroupUse → Caller → Command → Result ℕ Fault → Setting → Setting → Type 0
+RunsWith group who command r s t = RunsCourse (course_with group who command) (AsksWith group who command s.left) (WholeWith group who command) (BegunWith group who command) r s t
+
+pub runs_with : (group : Option GroupUse) (who : Caller) (command : Command) (r : Result ℕ Fault) (s t : Setting) → group_use command ≡ group → RunsWith group who command r s t → RunsAlone who command r s t
+runs_with group who command r s t is runs = subst (λ (o : Option GroupUse). RunsWith o who command r s t) (sym is) runs
+
+pub leaves_with : (group : Option GroupUse) (who : Caller) (command : Command) (r : Result ℕ Fault) (s t : Setting) → group_use command ≡ group → LeavesWith group who command r s t → LeavesAlone who command r s t
+leaves_with group who command r s t is leaves = subst (λ (o : Option GroupUse). LeavesWith o who command r s t) (sym is) leaves
+
+-- one that only makes the steps of its operands
+pub operands_run_alone : (who : Caller) (command : Command) (r : Result ℕ Fault) (s t : Setting) → group_use command ≡ None → RunsCommand (val_words_of command) (action_of who command) (operands_of command) r s t → RunsAlone who command r s t
+operands_run_alone who command r s t none runs = runs_with None who command r s t none (operands_runs who command r s t runs)
+
+pub operands_leave : (who : Caller) (command : Command) (r : Result ℕ Fault) (s t : Setting) → group_use command ≡ None → RunsCommand (val_words_of command) (action_of who command) (operands_of command) r s t → LeavesAlone who command r s t
+operands_leave who command r s t none runs = leaves_with None who command r s t none (record { reads = runs.reads; silent = runs.silent; ignores = runs.ignores })
+
+pub words_run : (who : Caller) (meant : Result Command Usage) (command : Command) (r : Result ℕ Fault) (s t : Setting) → meant ≡ Ok command → RunsAlone who command r s t → RunsWords who meant r s t
+words_run who meant command r s t is runs = subst (λ (m : Result Command Usage). RunsWords who m r s t) (sym is) (inl runs)
 
 -- a usage fault was said, or a prefix of it
 usage_runs : (who : Caller) (usage : Usage) (given : List ℕ → Type 0) (r : Result ℕ Fault) (s t : Setting) → t.stage.told ≡ s.stage.told → IsSaid [] (usage_line usage) 2 r s.stage t.stage → RunCauses r s.faults t.faults
@@ -112,7 +134,7 @@ entry_runs quiet place e r left left2 a b o o2 x x2 d d2 is (inl runs) =
     let t : Setting = record { left = left2; stage = b; faults = counts 0 o2 x2 d2 } in
     inl
     (course_heard (entry_command quiet place e) (λ i. FitsEntry quiet place e) (WholeOf quiet place e) (BegunOf quiet place e) r s t (Some []) (Some []) 0 refl refl
-    (course_with (command_course who (meaning e.words)) e.input (AsksInput who (meaning e.words) (Some e.input)) (WholeOf quiet place e) (BegunOf quiet place e) r s t
+    (with_own_input (command_course who (meaning e.words)) e.input (AsksInput who (meaning e.words) (Some e.input)) (WholeOf quiet place e) (BegunOf quiet place e) r s t
     (subst (λ (l : Option (List ℕ)). RunsCourse (command_course who (meaning e.words)) (AsksInput who (meaning e.words) l) (WholeOf quiet place e) (BegunOf quiet place e) r s t) is runs)))
 entry_runs quiet place e r left left2 a b o o2 x x2 d d2 is (inr never) =
     inr (never.0, ap (λ (u : Setting). record { left = Some []; stage = u.stage; faults = u.faults }) never.1)
@@ -133,20 +155,14 @@ soak_runs number who command r s t left left2 count none none2 runs =
     (course_chosen (λ i. soak_course (entry_command true who.place) number) (soak_course (entry_command true who.place) number) (λ i. Unit {0}) (λ i. AllByRecursion (FitsEntry true who.place) (soak_commands number))
     (WholeSoak (WholeOf true who.place) number) (BegunSoak (WholeOf true who.place) (BegunOf true who.place) number) r s t runs.takes (λ i any. refl) (λ i any. soak_fits true who.place number) runs)
 
-is_listed : (command : Command) (o : Option CommandList) → list_in command ≡ o → is_list command ≡ is_some o
-is_listed command o is = ap (λ (x : Option CommandList). is_some x) is
-
-pub listed_alone : (who : Caller) (command : Command) (some : CommandList) (r : Result ℕ Fault) (s t : Setting) → list_in command ≡ Some some → LeavesSingle who command r s t
-listed_alone who command some r s t is other = absurd (let no : true ≡ false = sym (is_listed command (Some some) is) ∙ other in cc)
-
-pub single_alone : (who : Caller) (command : Command) (r : Result ℕ Fault) (s t : Setting) → RunsCommand (val_words_of command) (action_of who command) (operands_of command) r s t → LeavesSingle who command r s t
-single_alone who command r s t runs other = record { recovers = runs.recovers; reads = runs.reads; silent = runs.silent; ignores = runs.ignores }
+pub listed_leaves : (who : Caller) (command : Command) (some : CommandList) (r : Result ℕ Fault) (s t : Setting) → list_in command ≡ Some some → LeavesMeant who command r s t
+listed_leaves who command some r s t is none = absurd (let no : Some some ≡ None = sym is ∙ none in cc)
 
 -- ---- the input
 
 pub batch_input : (who : Caller) (command : Command) (r : Result ℕ Fault) (s t : Setting) → list_in command ≡ Some list.Batch → LeavesInput who command r s t
 batch_input who command r s t is none =
-    absurd (let no : true ≡ false = sym (ap (λ (o : Option CommandList). list_takes_input o (hears (action_of who command) (operands_of command))) is) ∙ none in cc)
+    absurd (let no : true ≡ false = sym (ap (λ (o : Option CommandList). list_takes_input o (group_takes_input (group_use command) (hears (action_of who command) (operands_of command)))) is) ∙ none in cc)
 
 pub no_rose : Rose 0 0 → ⊥
 no_rose (inl above) = absurd (omega (arith, above))
@@ -156,13 +172,21 @@ pub soak_input : (who : Caller) (command : Command) (r : Result ℕ Fault) (s t 
 soak_input who command r s t c c2 left same none none2 causes is =
     record { same = left; quiet = same; cause = λ fault. no_rose (subst (λ k. Rose 0 k) none2 (subst (λ k. Rose k c2.input) none (causes.read fault))) }
 
-pub single_input : (who : Caller) (command : Command) (r : Result ℕ Fault) (s t : Setting) → list_in command ≡ None → RunsCommand (val_words_of command) (action_of who command) (operands_of command) r s t → LeavesInput who command r s t
-single_input who command r s t is runs none = runs.ignores (sym (ap (λ (o : Option CommandList). list_takes_input o (hears (action_of who command) (operands_of command))) is) ∙ none)
+ignored_with : (group : Option GroupUse) (who : Caller) (command : Command) (r : Result ℕ Fault) (s t : Setting) → LeavesWith group who command r s t → group_takes_input group (hears (action_of who command) (operands_of command)) ≡ false
+    → Ignores ends.ReadFault s.left t.left s.faults.input t.faults.input r
+ignored_with None who command r s t leaves none = leaves.ignores none
+ignored_with (Some uses.Makes) who command r s t leaves none = absurd cc
+ignored_with (Some uses.Finishes) who command r s t leaves none = leaves.ignores none
+
+pub alone_input : (who : Caller) (command : Command) (r : Result ℕ Fault) (s t : Setting) → list_in command ≡ None → LeavesAlone who command r s t → LeavesInput who command r s t
+alone_input who command r s t is leaves none =
+    ignored_with (group_use command) who command r s t leaves
+    (sym (ap (λ (o : Option CommandList). list_takes_input o (group_takes_input (group_use command) (hears (action_of who command) (operands_of command)))) is) ∙ none)
 
 -- ---- how a run ends
 
 given_to : (who : Caller) (words : Result Asked Usage) (left : Option (List ℕ)) (m : Folder) (i : List ℕ) → IsGiven who words left m i → IsGivenTo (run_course who words) (AsksWords who words left) m i
-given_to who (Err usage) left m i given = (tt, (((λ fits. absurd (cc)), tt), tt))
+given_to who (Err usage) left m i given = (tt, (record { names = ((λ fits. absurd (cc)), tt); plan = λ is. absurd (cc) }, tt))
 given_to who (Ok asked) left m i given = given
 
 answer_ends : (code : ℕ) (w : List ℕ → Bool) (answer : Answer) (m : Folder) (ts : List NamedStep) (a b : World) → RunsTo code w (steps_answer answer) m ts a b → EndsRun code w answer m ts a b
@@ -173,10 +197,10 @@ answer_ends code w WriteFault m ts a b runs = runs
 answer_ends code w DiskFault m ts a b runs = runs
 
 pub words_end : (who : Caller) (words : Result Asked Usage) (answer : Answer) (made : Result ℕ Fault) (s t : Setting) → steps_answer answer ≡ made → RunsAsked who words made s t → MakesSteps who words answer s.left s.stage t.stage
-words_end who words answer made s t answered runs = λ m i given shows.
+words_end who words answer made s t answered runs = λ m i given shows known.
     answer_ends (run_course who words m i).status (working who words m i) answer m (run_steps who words m i) (shown s.stage) (shown t.stage)
     (subst (λ (r : Result ℕ Fault). RunsTo (run_course who words m i).status (working who words m i) r m (run_steps who words m i) (shown s.stage) (shown t.stage)) (sym answered)
-    (own_makes (run_course who words) (AsksWords who words s.left) made s.stage t.stage runs.steps m i (given_to who words s.left m i given) shows))
+    (own_makes (run_course who words) (AsksWords who words s.left) made s.stage t.stage runs.steps m i (given_to who words s.left m i given) shows known))
 
 pub words_stop : (who : Caller) (words : Result Asked Usage) (answer : Answer) (made : Result ℕ Fault) (s t : Setting) → steps_answer answer ≡ made → RunsAsked who words made s t → StopsSteps who words answer s.left s.stage t.stage
 words_stop who words answer made s t answered runs = λ folder i m past given shows told may safe.
@@ -184,8 +208,8 @@ words_stop who words answer made s t answered runs = λ folder i m past given sh
     (own_stops (run_course who words) (AsksWords who words s.left) made s.stage t.stage runs.stops folder i m past (given_to who words s.left folder i given) shows told may safe)
 
 pub words_unlocked : (who : Caller) (words : Result Asked Usage) (made : Result ℕ Fault) (s t : Setting) → RunsAsked who words made s t → UnlockedSteps who words s.left s.stage.told t.stage.told
-words_unlocked who words made s t runs = λ folder i given shows exempt plain freed.
-    own_unlocked (run_course who words) (AsksWords who words s.left) s.stage.told t.stage.told runs.unlocked folder i (given_to who words s.left folder i given) shows exempt plain freed
+words_unlocked who words made s t runs = λ folder i given shows known exempt plain freed.
+    own_unlocked (run_course who words) (AsksWords who words s.left) s.stage.told t.stage.told runs.unlocked folder i (given_to who words s.left folder i given) shows known exempt plain freed
 
 pub words_speak : (who : Caller) (words : Result Asked Usage) (answer : Answer) (made : Result ℕ Fault) (s t : Setting) → steps_answer answer ≡ made → RunsAsked who words made s t → SpeaksWords who words answer s.stage.err t.stage.err
 words_speak who words answer made s t answered runs = subst (λ (r : Result ℕ Fault). SpeaksTo (WholeWords who words) (BegunWords who words) r s.stage.err t.stage.err) (sym answered) runs.speaks
@@ -199,23 +223,30 @@ asked_said who words usage r s t is same says causes = subst (λ (m : Result Ask
 
 -- ---- what a single command leaves
 
-no_list : (list other : Bool) → cond list true other ≡ false → (list ≡ false) × (other ≡ false)
-no_list true other is = absurd (cc)
-no_list false other is = (refl, is)
+not_some : {X : Type 0} → (o : Option X) → not (is_some o) ≡ true → o ≡ None
+not_some None is = refl
+not_some (Some x) is = absurd cc
 
-only_single : (list other : Bool) → cond list false other ≡ true → (list ≡ false) × (other ≡ true)
-only_single true other is = absurd (cc)
-only_single false other is = (refl, is)
+both_true : (a b : Bool) → (a && b) ≡ true → (a ≡ true) × (b ≡ true)
+both_true true b is = (refl, is)
+both_true false b is = absurd cc
+
+-- what a command that only makes the steps of its operands leaves
+operands_left : (who : Caller) (command : Command) (r : Result ℕ Fault) (s t : Setting) → LeavesMeant who command r s t → is_of_operands command ≡ true
+    → LeavesOperands (action_of who command) (hears (action_of who command) (operands_of command)) r s t
+operands_left who command r s t leaves is =
+    let both = both_true (not (is_some (list_in command))) (not (is_some (group_use command))) is in
+    subst (λ (o : Option GroupUse). LeavesWith o who command r s t) (not_some (group_use command) both.1) (leaves (not_some (list_in command) both.0))
 
 reads_alone : (who : Caller) (asked : Asked) (r : Result ℕ Fault) (s t : Setting) → LeavesAsked who asked r s t → asked_reads who asked ≡ true → t.stage.told ≡ s.stage.told
-reads_alone who (ask.One command) r s t leaves only = let one = only_single (is_list command) (action_of who command).reads only in (leaves one.0).reads one.1
+reads_alone who (ask.One command) r s t leaves only = let both = both_true (is_of_operands command) (action_of who command).reads only in (operands_left who command r s t leaves both.0).reads both.1
 reads_alone who (ask.Two first next) r s t leaves only = absurd (cc)
 
 pub words_read : (who : Caller) (words : Result Asked Usage) (asked : Asked) (r : Result ℕ Fault) (s t : Setting) → words ≡ Ok asked → LeavesAsked who asked r s t → only_reads who words ≡ true → t.stage.told ≡ s.stage.told
 words_read who words asked r s t is leaves only = reads_alone who asked r s t leaves (subst (λ (m : Result Asked Usage). only_reads who m ≡ true) is only)
 
 silent_alone : (who : Caller) (asked : Asked) (r : Result ℕ Fault) (s t : Setting) → LeavesAsked who asked r s t → asked_is_silent who asked ≡ true → t.stage.out ≡ s.stage.out
-silent_alone who (ask.One command) r s t leaves only = let one = only_single (is_list command) (action_of who command).silent only in (leaves one.0).silent one.1
+silent_alone who (ask.One command) r s t leaves only = let both = both_true (is_of_operands command) (action_of who command).silent only in (operands_left who command r s t leaves both.0).silent both.1
 silent_alone who (ask.Two first next) r s t leaves only = absurd (cc)
 
 pub words_are_silent : (who : Caller) (words : Result Asked Usage) (asked : Asked) (r : Result ℕ Fault) (s t : Setting) → words ≡ Ok asked → LeavesAsked who asked r s t → is_silent who words ≡ true → t.stage.out ≡ s.stage.out
@@ -230,44 +261,57 @@ not_listed : (o : Option CommandList) → is_some o ≡ false → o ≡ None
 not_listed None is = refl
 not_listed (Some some) is = absurd (cc)
 
-ended_faults : (answer : Answer) (made : Result ℕ Fault) → steps_answer answer ≡ made → answer ≢ DiskFault → made ≢ Err ends.DiskFault
-ended_faults (Finished status) made is other so = cc
-ended_faults Memory made is other so = cc
-ended_faults ReadFault made is other so = cc
-ended_faults WriteFault made is other so = cc
-ended_faults DiskFault made is other so = other refl
+recovery_leaves : (group : Option GroupUse) (who : Caller) (command : Command) (r : Result ℕ Fault) (s t : Setting) → is_recovery group ≡ true → LeavesWith group who command r s t → RecoversAll r s.stage.told t.stage.told
+recovery_leaves None who command r s t is leaves = absurd cc
+recovery_leaves (Some uses.Makes) who command r s t is leaves = absurd cc
+recovery_leaves (Some uses.Finishes) who command r s t is leaves = leaves.recovers
 
--- where some step is made
-abbrev CalmBy : Option CommandList → Caller → Command → Option (List ℕ) → Told → Told → Type 0
-CalmBy list who command left a b = (folder : Folder) (i : List ℕ) → IsGivenTo (course_by list who command) (AsksBy list who command left) folder i → Shows (working_along (course_by list who command) folder i) (seen a) (view_in folder)
-    → has_made (steps_along (course_by list who command) folder i) ≡ true → LeavesCalm a b
+recovery_alone : (o : Option CommandList) (command : Command) → list_in command ≡ o → is_recovery (group_use command) ≡ true → o ≡ None
+recovery_alone None command is recovers = refl
+recovery_alone (Some some) (c.Recover operands) is recovers = absurd cc
+recovery_alone (Some some) (c.Admin words operands) is recovers = absurd cc
+recovery_alone (Some some) (c.Get words operands) is recovers = absurd cc
+recovery_alone (Some some) (c.Delta words name) is recovers = absurd cc
+recovery_alone (Some some) (c.Unget words operands) is recovers = absurd cc
+recovery_alone (Some some) (c.Sact operands) is recovers = absurd cc
+recovery_alone (Some some) (c.Tell operands) is recovers = absurd cc
+recovery_alone (Some some) (c.Check operands) is recovers = absurd cc
+recovery_alone (Some some) (c.Rmdel sid operands) is recovers = absurd cc
+recovery_alone (Some some) (c.Cdc words operands) is recovers = absurd cc
+recovery_alone (Some some) (c.Prs words operands) is recovers = absurd cc
+recovery_alone (Some some) (c.Val words) is recovers = absurd cc
+recovery_alone (Some some) (c.What first operands) is recovers = absurd cc
+recovery_alone (Some some) (c.Import operands) is recovers = absurd cc
+recovery_alone (Some some) c.Group is recovers = absurd cc
+recovery_alone (Some some) c.Batch is recovers = absurd cc
+recovery_alone (Some some) (c.Soak number) is recovers = absurd cc
 
-recovers_alone : (who : Caller) (asked : Asked) (answer : Answer) (made : Result ℕ Fault) (s t : Setting) → steps_answer answer ≡ made → LeavesAsked who asked made s t → RecoversRun who (Ok asked) answer s.left s.stage.told t.stage.told
-recovers_alone who (ask.Two first next) answer made s t answered leaves = λ never. absurd (cc)
-recovers_alone who (ask.One command) answer made s t answered leaves = λ never.
-    let one = no_list (is_list command) (action_of who command).locks never in
-    let rec = (leaves one.0).recovers one.1 in
-    record {
-      story = rec.story;
-      firm = rec.firm;
-      calm = λ ok.
-          subst (λ (o : Option CommandList). CalmBy o who command s.left s.stage.told t.stage.told) (sym (not_listed (list_in command) one.0))
-          (λ folder i given shows is_made.
-          rec.calm (subst (λ (r : Result ℕ Fault). IsOk r) answered ok) (working_along (command_course who (Ok command)) folder i) folder i (spares_in (portions_of (command_course who (Ok command)) folder i)) given.1.0 shows given.0 is_made);
-      keeps = λ other. rec.keeps (ended_faults answer made answered other);
-    }
+recovers_asked : (who : Caller) (asked : Asked) (answer : Answer) (made : Result ℕ Fault) (s t : Setting) → steps_answer answer ≡ made → LeavesAsked who asked made s t → RecoversRun (Ok asked) answer s.stage.told t.stage.told
+recovers_asked who (ask.Two first next) answer made s t answered leaves = λ recovers. absurd (cc)
+recovers_asked who (ask.One command) answer made s t answered leaves = λ recovers.
+    subst (λ (r : Result ℕ Fault). RecoversAll r s.stage.told t.stage.told) (sym answered)
+    (recovery_leaves (group_use command) who command made s t recovers (leaves (recovery_alone (list_in command) command refl recovers)))
 
-pub words_recover : (who : Caller) (words : Result Asked Usage) (asked : Asked) (answer : Answer) (made : Result ℕ Fault) (s t : Setting) → words ≡ Ok asked → steps_answer answer ≡ made → LeavesAsked who asked made s t
-    → RecoversRun who words answer s.left s.stage.told t.stage.told
-words_recover who words asked answer made s t is answered leaves =
-    subst (λ (m : Result Asked Usage). RecoversRun who m answer s.left s.stage.told t.stage.told) (sym is) (recovers_alone who asked answer made s t answered leaves)
+pub words_recovered : (who : Caller) (words : Result Asked Usage) (asked : Asked) (answer : Answer) (made : Result ℕ Fault) (s t : Setting) → words ≡ Ok asked → steps_answer answer ≡ made → LeavesAsked who asked made s t
+    → RecoversRun words answer s.stage.told t.stage.told
+words_recovered who words asked answer made s t is answered leaves =
+    subst (λ (m : Result Asked Usage). RecoversRun m answer s.stage.told t.stage.told) (sym is) (recovers_asked who asked answer made s t answered leaves)
 
-pub never_recovers : (who : Caller) (words : Result Asked Usage) (left : Option (List ℕ)) (a : Told) → RecoversRun who words Memory left a a
-never_recovers who words left a = λ never. record { story = story_same a a refl; firm = firm_same a a refl; calm = λ ok. absurd (cc); keeps = λ other. calm_same a a refl }
+-- nothing is told anew
+all_same : (a : Told) → RecoversAll (Err ends.Memory) a a
+all_same a = record {
+  story = λ m past is can. record { added = []; is = is; numbers = (omega arith, λ w image. (w, image, λ k sfile. refl)); guarded = tt };
+  again = λ m past is can m2 past2 is2. subst CanFinish (newest_is m m2 past past2 [] a is is2) can.finish;
+  calm = λ ok. absurd cc;
+  keeps = λ other m past is can calm m2 past2 is2. subst IsCalm (newest_is m m2 past past2 [] a is is2) calm;
+}
+
+pub never_recovers : (words : Result Asked Usage) (a : Told) → RecoversRun words Memory a a
+never_recovers words a = λ recovers. all_same a
 
 -- a usage fault isn't recovery
-pub usage_recovers : (who : Caller) (words : Result Asked Usage) (usage : Usage) (answer : Answer) (left : Option (List ℕ)) (a b : Told) → words ≡ Err usage → RecoversRun who words answer left a b
-usage_recovers who words usage answer left a b is = subst (λ (r : Result Asked Usage). RecoversRun who r answer left a b) (sym is) (λ never. absurd (cc))
+pub usage_recovers : (words : Result Asked Usage) (usage : Usage) (answer : Answer) (a b : Told) → words ≡ Err usage → RecoversRun words answer a b
+usage_recovers words usage answer a b is = subst (λ (r : Result Asked Usage). RecoversRun r answer a b) (sym is) (λ never. absurd (cc))
 
 -- ---- nothing was done
 
@@ -292,15 +336,15 @@ pub never_speaks : (who : Caller) (words : Result Asked Usage) (err : Option (Li
 never_speaks who words err = ((might_words who words).0, (might_words who words).1, some_none err (err_of (might_words who words).0))
 
 pub same_unlocked : (who : Caller) (words : Result Asked Usage) (left : Option (List ℕ)) (a : Told) → UnlockedSteps who words left a a
-same_unlocked who words left a = λ folder i given shows exempt plain freed. but_same exempt a a refl
+same_unlocked who words left a = λ folder i given shows known exempt plain freed. but_same exempt a a refl
 
 pub never_begun : (who : Caller) (words : Result Asked Usage) (left : Option (List ℕ)) (a : Scene) → MakesSteps who words Memory left a a
-never_begun who words left a = λ m i given shows. (
+never_begun who words left a = λ m i given shows known. (
   record {
     made = [];
     rest = run_steps who words m i;
     is = refl;
-    view = shows;
+    view = early_none (working who words m i) (seen a.told) (view_in m) (run_steps who words m i) shows;
     cleared = cleared_same (working who words m i) (seen a.told) (seen a.told) refl;
     out = some_none a.out (next_text (run_steps who words m i));
     err = some_none a.err [];

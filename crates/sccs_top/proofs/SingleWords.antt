@@ -54,6 +54,7 @@ command_single u.Val l n of = refl
 command_single u.What l n of = refl
 command_single u.Recover l n of = refl
 command_single u.Import l n of = refl
+command_single u.Group l n of = refl
 command_single u.Batch l n of = absurd of
 command_single u.Soak l n of = absurd of
 
@@ -91,7 +92,7 @@ own_single word is =
     either (bytes_eq word (codes "recover")) (Some u.Recover) _ tt
     (either (bytes_eq word (codes "tell")) (Some u.Tell) _ tt
     (either (bytes_eq word (codes "check")) (Some u.Check) _ tt
-    (either (bytes_eq word (codes "import")) (Some u.Import) _ tt (passed_by (bytes_eq word (codes "batch")) (Some u.Batch) _ both.0 (passed_by (bytes_eq word (codes "soak")) (Some u.Soak) _ both.1 (either (bytes_eq word (codes "cdc")) (Some u.Cdc) None tt tt))))))
+    (either (bytes_eq word (codes "import")) (Some u.Import) _ tt (passed_by (bytes_eq word (codes "batch")) (Some u.Batch) _ both.0 (either (bytes_eq word (codes "group")) (Some u.Group) _ tt (passed_by (bytes_eq word (codes "soak")) (Some u.Soak) _ both.1 (either (bytes_eq word (codes "cdc")) (Some u.Cdc) None tt tt)))))))
 
 word_single : (word : List ℕ) → not (bytes_eq word (codes "batch") || bytes_eq word (codes "soak")) ≡ true → IfSome (utility_of word) IsOfSingles
 unfolding utility_of

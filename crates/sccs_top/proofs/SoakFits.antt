@@ -1,5 +1,5 @@
 -- The commands of a soak have one operand each, so that their input is what is given to them.
-use Rattle.std.proofs.Common.{ℕ, zero, suc, ◌+◌, ◌≤◌, Bool, true, false, List, [], ◌∷◌, length, Option, None, Some, IfOk, Result, Ok, Err, codes, inr, refl, arith}
+use Rattle.std.proofs.Common.{◌≡◌, ℕ, zero, suc, ◌+◌, ◌≤◌, Bool, true, false, List, [], ◌∷◌, length, Option, None, Some, IfOk, Result, Ok, Err, codes, inr, refl, sym, subst, arith}
 use Rattle.std.specs.List.{AllByRecursion}
 use Rattle.std.specs.Prelude.{option_and_then}
 use Rattle.sccs_words.specs.Judge.{end_fault, first_from, operand_fault, usage_fault, use_fault}
@@ -16,29 +16,30 @@ use Rattle.sccs_words.specs.declared.tables.Utility.TheVariants as u
 use Rattle.sccs_soak.specs.Commands.{delta_command, edit_command, edit_words, first_command, rounds_from, soak_commands}
 use Rattle.sccs_soak.specs.Draws.{draw_of, next_state}
 use Rattle.sccs_soak.specs.Turns.{begins_branch, lines_after, turn_of}
-use Rattle.sccs_top.specs.Runs.{AsksInput, Caller, FitsEntry, caller_by, operands_of}
+use Rattle.sccs_top.specs.Runs.{AsksInput, AsksWith, Caller, FitsEntry, caller_by, group_use, operands_of}
+use Rattle.sccs_top.specs.declared.commands.GroupUse.{GroupUse}
 
--- the words have at most one operand
+-- the words have at most one operand, and are about no group
 abbrev HasOne : Result Command Usage → Type 0
-HasOne meant = IfOk meant (λ command. length (operands_of command) ≤ 1)
+HasOne meant = IfOk meant (λ command. (length (operands_of command) ≤ 1) × (group_use command ≡ None))
 
 meant_fits : (who : Caller) (meant : Result Command Usage) (input : List ℕ) → HasOne meant → AsksInput who meant (Some input) input
 meant_fits who (Err usage) input one = tt
-meant_fits who (Ok command) input one = (inr refl, inr one)
+meant_fits who (Ok command) input one = subst (λ (group : Option GroupUse). AsksWith group who command (Some input) input) (sym one.1) (inr refl, inr one.0)
 
 first_one : HasOne (meaning first_command.words)
 unfolding meaning utility_of line_meaning find_option scanned letters turn usage_fault use_fault first_from operand_fault end_fault value_of values_of split_from
-first_one = let one : 1 ≤ 1 = omega arith in one
+first_one = let one : 1 ≤ 1 = omega arith in (one, refl)
 
 edit_one : (branch : Bool) → HasOne (meaning (edit_words branch))
 unfolding meaning utility_of line_meaning find_option scanned letters turn usage_fault use_fault first_from operand_fault end_fault value_of values_of split_from
-edit_one true = let one : 1 ≤ 1 = omega arith in one
-edit_one false = let one : 1 ≤ 1 = omega arith in one
+edit_one true = let one : 1 ≤ 1 = omega arith in (one, refl)
+edit_one false = let one : 1 ≤ 1 = omega arith in (one, refl)
 
 named_one : (uses : List Use) (n : ℕ) (fault : Option Usage) (name : Option (List ℕ)) → HasOne (unless_fault fault (with_name uses n name))
 named_one uses n (Some usage) name = tt
 named_one uses n None None = tt
-named_one uses n None (Some name) = let one : 1 ≤ 1 = omega arith in one
+named_one uses n None (Some name) = let one : 1 ≤ 1 = omega arith in (one, refl)
 
 line_one : (l : CommandLine) (n : ℕ) → HasOne (line_meaning u.Delta l n)
 unfolding line_meaning

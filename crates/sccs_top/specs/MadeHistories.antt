@@ -18,7 +18,7 @@ pub record IsReplayed (words : AdminWords) (n input : List ℕ) (named : List (O
   pub s : Content
   pub file : Parsed
   pub found : found_texts words input named f.s ≡ Ok texts
-  pub made : effect.new ≡ Some (record { s = Some s; p = f.p; z = None; g = f.g })
+  pub made : effect.new ≡ Some (record { s = Some s; p = f.p; z = None; g = f.g; l = f.l })
   pub reads : IsSFile s.bytes file.header file.items
   pub only : live_serials file.header.records ≡ 1 ∷ []
   pub first : version_text file 1 ≡ text_of texts.text

@@ -1,9 +1,8 @@
 -- What a run does: the steps that its words mean, one for each operand in their order.
-use Rattle.std.specs.Prelude.{◌≡◌, ◌≢◌, ℕ, ◌<◌, nat_lt, ◌⊎◌, Bool, true, false, ◌||◌, List, [], ◌∷◌, length, Option, None, Some, is_some, Result, Ok, Err, IsOk, codes, if◌then◌else◌}
+use Rattle.std.specs.Prelude.{◌≡◌, ◌≢◌, ℕ, ◌<◌, nat_lt, ◌⊎◌, Bool, true, false, not, ◌||◌, ◌&&◌, List, [], ◌∷◌, length, Option, None, Some, is_some, Result, Ok, Err, IsOk, codes, if◌then◌else◌}
 use Rattle.std.specs.List.{AllByRecursion, list_any}
 use Rattle.sccs_disk.specs.Files.{Folder, Model, view_in}
 use Rattle.sccs_disk.specs.Told.{Told, Tells, seen}
-use Rattle.sccs_moments.specs.Moments.{KeepsCalm, LeavesCalm, LeavesFirm, RecoversOn}
 use Rattle.sccs_moments.specs.Unlocked.{BeginsUnlockedBut}
 use Rattle.sccs_sid.specs.declared.moments.Stamp.{Stamp}
 use Rattle.sccs_words.specs.declared.commands.Usage.{Usage}
@@ -17,7 +16,6 @@ use Rattle.sccs_files.specs.StepFiles.{Shows}
 use Rattle.sccs_steps.specs.Actions.{Action, IsHeard, hears, is_several, steps_at}
 use Rattle.sccs_steps.specs.Calls.{Scene, World, shown}
 use Rattle.sccs_steps.specs.ListStops.{MayBegin}
-use Rattle.sccs_steps.specs.Recovering.{RecoversBy, has_made}
 use Rattle.sccs_steps.specs.Running.{IsInput, RunsSteps, Steps}
 use Rattle.sccs_steps.specs.Settings.{Setting}
 use Rattle.sccs_steps.specs.Speaking.{BegunInTurn, InTurn, NameMakes, OperandBegins, OperandMakes, SpeakAll, SpeaksOne}
@@ -49,7 +47,7 @@ use Rattle.sccs_val.specs.ValStep.{val_action, val_operands, val_steps}
 use Rattle.sccs_what.specs.Checks.{what_keeps}
 use Rattle.sccs_what.specs.WhatStep.{what_action}
 use Rattle.sccs_courses.specs.Courses.{AllExempt, AllPlain, AllSafe, Courses, Portion, TakesSfiles, follow, if_fine, no_action, portion_of, portions_of, saying, steps_along}
-use Rattle.sccs_courses.specs.Following.{BegunThen, CourseMoments, RunsCourse, RunsTo, SpeaksTo, WholeBy, WholeThen}
+use Rattle.sccs_courses.specs.Following.{AreKnown, BegunThen, CourseMoments, RunsCourse, RunsTo, SpeaksTo, WholeBy, WholeThen}
 use Rattle.sccs_courses.specs.OwnFiles.{IsGivenTo, working_along}
 use Rattle.sccs_courses.specs.Sayings.{BegunSaid, WholeSaid}
 use Rattle.sccs_courses.specs.WhileFine.{BegunIfFine, WholeIfFine}
@@ -60,12 +58,18 @@ use Rattle.sccs_words.specs.Meaning.{meaning}
 use Rattle.sccs_base.specs.Cut.{text_of}
 use Rattle.sccs_steps.specs.Causes.{Ignores}
 use Rattle.sccs_top.specs.Messages.{usage_line}
+use Rattle.sccs_finishing.specs.AnyDisk.{RecoversAll}
+use Rattle.sccs_finishing.specs.Ends.{BegunFinishing, WholeFinishing}
+use Rattle.sccs_finishing.specs.FinishStep.{finishing_course}
+use Rattle.sccs_group_runs.specs.GroupCourses.{BegunGroup, IsGroupInput, WholeGroup, group_course}
 use Rattle.sccs_soak.specs.Dropping.{dropping}
 use Rattle.sccs_soak.specs.Soak.{BegunSoak, WholeSoak, soak_course}
 use Rattle.sccs_top.specs.declared.asking.Asked.{Asked}
 use Rattle.sccs_top.specs.declared.asking.Asked.TheVariants as ask
 use Rattle.sccs_top.specs.declared.commands.CommandList.{CommandList}
 use Rattle.sccs_top.specs.declared.commands.CommandList.TheVariants as list
+use Rattle.sccs_top.specs.declared.commands.GroupUse.{GroupUse}
+use Rattle.sccs_top.specs.declared.commands.GroupUse.TheVariants as uses
 use Rattle.sccs_top.specs.declared.answers.Answer.{Answer}
 use Rattle.sccs_top.specs.declared.answers.Answer.TheVariants.{Finished, Memory, ReadFault, WriteFault, DiskFault}
 
@@ -149,6 +153,7 @@ single_of (c.What first operands) = single (λ who. what_action first) (words_in
 single_of (c.Recover operands) = single (λ who. recover_action) (words_in operands) (λ who. recover_keeps.names)
 single_of (c.Import operands) = single (λ who. locking (import_change (has_heading operands))) (words_in operands) (λ who. (locking_keeps (import_change (has_heading operands))).names)
 single_of (c.Val words) = record { by = λ who. val_action words; operands = val_operands words; val = Some words; takes = λ who. val_takes words }
+single_of c.Group = no_single
 single_of c.Batch = no_single
 single_of (c.Soak number) = no_single
 
@@ -191,6 +196,14 @@ SpeakSteps (Some words) x operands = SpeaksOne x (codes "-")
 abbrev pub RunsCommand : Option ValWords → Action → List (List ℕ) → Result ℕ Fault → Setting → Setting → Type 0
 RunsCommand val x operands r s = RunsSteps x (steps_by val x operands) (IsInput x operands s.left) (SpeakSteps val x operands) (hears x operands) r s
 
+-- ---- groups
+
+-- what a command does with a group
+abbrev pub group_use : Command → Option GroupUse
+group_use c.Group = Some uses.Makes
+group_use (c.Recover operands) = Some uses.Finishes
+group_use command = None
+
 -- ---- lists of commands
 
 -- the list of commands that a command is
@@ -199,13 +212,24 @@ list_in c.Batch = Some list.Batch
 list_in (c.Soak number) = Some (list.Soak number)
 list_in command = None
 
-abbrev pub is_list : Command → Bool
-is_list command = is_some (list_in command)
+-- whether a command only makes the steps of its operands
+abbrev pub is_of_operands : Command → Bool
+is_of_operands command = not (is_some (list_in command)) && not (is_some (group_use command))
 
--- what a single command does; a usage fault is said
+-- what a command does with its operands
+abbrev pub operands_course : Caller → Command → Courses
+operands_course who command = portion_of (action_of who command) (steps_by (val_words_of command) (action_of who command) (operands_of command))
+
+-- a group is made of the input, or finished before the operands
+abbrev pub course_with : Option GroupUse → Caller → Command → Courses
+course_with None who command = operands_course who command
+course_with (Some uses.Makes) who command = group_course who.stamp
+course_with (Some uses.Finishes) who command = follow finishing_course (λ code. operands_course who command)
+
+-- what a command does that is no list of commands; a usage fault is said
 abbrev pub command_course : Caller → Result Command Usage → Courses
 command_course who (Err usage) = saying [] (usage_line usage) 2
-command_course who (Ok command) = portion_of (action_of who command) (steps_by (val_words_of command) (action_of who command) (operands_of command))
+command_course who (Ok command) = course_with (group_use command) who command
 
 -- a command of a list does what its words mean, with its own stamp and input
 abbrev pub entry_command : Bool → List ℕ → Entry → Courses
@@ -251,10 +275,15 @@ working who words m i = working_along (run_course who words) m i
 
 -- ---- what is asked
 
--- what a step of a single command takes of the input is told
+-- what a step of a command takes of the input is told
+abbrev pub AsksWith : Option GroupUse → Caller → Command → Option (List ℕ) → List ℕ → Type 0
+AsksWith None who command left i = IsInput (action_of who command) (operands_of command) left i
+AsksWith (Some uses.Makes) who command left i = IsGroupInput left i
+AsksWith (Some uses.Finishes) who command left i = IsInput (action_of who command) (operands_of command) left i
+
 abbrev pub AsksInput : Caller → Result Command Usage → Option (List ℕ) → List ℕ → Type 0
 AsksInput who (Err usage) left i = Unit {0}
-AsksInput who (Ok command) left i = IsInput (action_of who command) (operands_of command) left i
+AsksInput who (Ok command) left i = AsksWith (group_use command) who command left i
 
 -- each command of a list has an input of its own
 abbrev pub FitsEntry : Bool → List ℕ → Entry → Type 0
@@ -294,13 +323,30 @@ abbrev pub BegunBy : Option ValWords → Action → List (List ℕ) → List Nam
 BegunBy None x operands = BegunInTurn (OperandMakes x) (OperandBegins x) operands
 BegunBy (Some words) x operands = NameMakes x (codes "-")
 
+abbrev pub WholeOperands : Caller → Command → ℕ → List NamedStep → Type 0
+WholeOperands who command = WholeBy (action_of who command).rule (MadeBy (val_words_of command) (action_of who command) (operands_of command))
+
+abbrev pub BegunOperands : Caller → Command → List NamedStep → Type 0
+BegunOperands who command = BegunBy (val_words_of command) (action_of who command) (operands_of command)
+
+-- the same with a group
+abbrev pub WholeWith : Option GroupUse → Caller → Command → ℕ → List NamedStep → Type 0
+WholeWith None who command = WholeOperands who command
+WholeWith (Some uses.Makes) who command = WholeGroup
+WholeWith (Some uses.Finishes) who command = WholeThen WholeFinishing (λ code. WholeOperands who command)
+
+abbrev pub BegunWith : Option GroupUse → Caller → Command → List NamedStep → Type 0
+BegunWith None who command = BegunOperands who command
+BegunWith (Some uses.Makes) who command = BegunGroup
+BegunWith (Some uses.Finishes) who command = BegunThen WholeFinishing BegunFinishing (λ code. BegunOperands who command)
+
 abbrev pub WholeCommand : Caller → Result Command Usage → ℕ → List NamedStep → Type 0
 WholeCommand who (Err usage) = WholeSaid [] (usage_line usage) 2
-WholeCommand who (Ok command) = WholeBy (action_of who command).rule (MadeBy (val_words_of command) (action_of who command) (operands_of command))
+WholeCommand who (Ok command) = WholeWith (group_use command) who command
 
 abbrev pub BegunCommand : Caller → Result Command Usage → List NamedStep → Type 0
 BegunCommand who (Err usage) = BegunSaid [] (usage_line usage)
-BegunCommand who (Ok command) = BegunBy (val_words_of command) (action_of who command) (operands_of command)
+BegunCommand who (Ok command) = BegunWith (group_use command) who command
 
 -- those of a command of a list
 abbrev pub WholeOf : Bool → List ℕ → Entry → ℕ → List NamedStep → Type 0
@@ -347,7 +393,11 @@ BegunWords who (Ok asked) = BegunAsked who asked
 
 -- ---- calls
 
--- a call that does a single command, or did nothing for want of memory
+-- a call that does a command that is no list of commands
+abbrev pub RunsAlone : Caller → Command → Result ℕ Fault → Setting → Setting → Type 0
+RunsAlone who command r s t = RunsCourse (command_course who (Ok command)) (AsksInput who (Ok command) s.left) (WholeCommand who (Ok command)) (BegunCommand who (Ok command)) r s t
+
+-- the same of words, or it did nothing for want of memory
 abbrev pub RunsWords : Caller → Result Command Usage → Result ℕ Fault → Setting → Setting → Type 0
 RunsWords who meant r s t =
     RunsCourse (command_course who meant) (AsksInput who meant s.left) (WholeCommand who meant) (BegunCommand who meant) r s t ⊎ ((r ≡ Err ends.Memory) × (t ≡ s))
@@ -360,20 +410,33 @@ RunsMeant who meant r s t = RunsCourse (meant_course who meant) (AsksMeant who m
 abbrev pub RunsAsked : Caller → Result Asked Usage → Result ℕ Fault → Setting → Setting → Type 0
 RunsAsked who words r s t = RunsCourse (run_course who words) (AsksWords who words s.left) (WholeWords who words) (BegunWords who words) r s t
 
--- what a single command leaves as it was: the same as a call of its steps
-pub record LeavesAlone (x : Action) (made : Steps) (given : List ℕ → Type 0) (hearing : Bool) (r : Result ℕ Fault) (s t : Setting) : Type 0 where
-  pub recovers : RecoversBy x made given r s.stage.told t.stage.told
+-- What a call leaves as it was that makes the steps of operands.
+pub record LeavesOperands (x : Action) (hearing : Bool) (r : Result ℕ Fault) (s t : Setting) : Type 0 where
   pub reads : x.reads ≡ true → t.stage.told ≡ s.stage.told
   pub silent : x.silent ≡ true → t.stage.out ≡ s.stage.out
   pub ignores : hearing ≡ false → Ignores ends.ReadFault s.left t.left s.faults.input t.faults.input r
 
-abbrev pub LeavesSingle : Caller → Command → Result ℕ Fault → Setting → Setting → Type 0
-LeavesSingle who command r s t = is_list command ≡ false
-    → LeavesAlone (action_of who command) (steps_by (val_words_of command) (action_of who command) (operands_of command)) (IsInput (action_of who command) (operands_of command) s.left) (hears (action_of who command) (operands_of command)) r s t
+-- what recovery leaves of a disk, and that it takes no input
+pub record LeavesRecovered (who : Caller) (command : Command) (r : Result ℕ Fault) (s t : Setting) : Type 0 where
+  pub recovers : RecoversAll r s.stage.told t.stage.told
+  pub ignores : hears (action_of who command) (operands_of command) ≡ false → Ignores ends.ReadFault s.left t.left s.faults.input t.faults.input r
+
+-- of a command that makes a group nothing is said
+abbrev pub LeavesWith : Option GroupUse → Caller → Command → Result ℕ Fault → Setting → Setting → Type 0
+LeavesWith None who command r s t = LeavesOperands (action_of who command) (hears (action_of who command) (operands_of command)) r s t
+LeavesWith (Some uses.Makes) who command r s t = Unit {0}
+LeavesWith (Some uses.Finishes) who command r s t = LeavesRecovered who command r s t
+
+abbrev pub LeavesAlone : Caller → Command → Result ℕ Fault → Setting → Setting → Type 0
+LeavesAlone who command r s t = LeavesWith (group_use command) who command r s t
+
+-- nor of a list of commands
+abbrev pub LeavesMeant : Caller → Command → Result ℕ Fault → Setting → Setting → Type 0
+LeavesMeant who command r s t = list_in command ≡ None → LeavesAlone who command r s t
 
 -- of two commands nothing more is said
 abbrev pub LeavesAsked : Caller → Asked → Result ℕ Fault → Setting → Setting → Type 0
-LeavesAsked who (ask.One command) r s t = LeavesSingle who command r s t
+LeavesAsked who (ask.One command) r s t = LeavesMeant who command r s t
 LeavesAsked who (ask.Two first next) r s t = Unit {0}
 
 -- ---- a run
@@ -393,7 +456,7 @@ EndsRun code w DiskFault m ts a b = ListInterrupted w m ts a b
 -- where the disk tells a folder the steps of these words are made, or the run ends early
 abbrev pub MakesSteps : Caller → Result Asked Usage → Answer → Option (List ℕ) → Scene → Scene → Type 0
 MakesSteps who words answer left a b = (m : Folder) (i : List ℕ)
-    → IsGiven who words left m i → Shows (working who words m i) (seen a.told) (view_in m)
+    → IsGiven who words left m i → Shows (working who words m i) (seen a.told) (view_in m) → AreKnown a.told m (run_portions who words m i)
     → EndsRun (run_course who words m i).status (working who words m i) answer m (run_steps who words m i) (shown a) (shown b)
 
 -- the answer as that of steps
@@ -411,7 +474,7 @@ SpeaksWords who words answer err err2 = SpeaksTo (WholeWords who words) (BegunWo
 -- whether the words change no file, write nothing on out, and take no input; of two commands nothing is said but of the input, which
 -- the first one alone may take
 abbrev pub asked_reads : Caller → Asked → Bool
-asked_reads who (ask.One command) = if is_list command then false else (action_of who command).reads
+asked_reads who (ask.One command) = is_of_operands command && (action_of who command).reads
 asked_reads who (ask.Two first next) = false
 
 abbrev pub only_reads : Caller → Result Asked Usage → Bool
@@ -419,12 +482,18 @@ only_reads who (Err usage) = true
 only_reads who (Ok asked) = asked_reads who asked
 
 abbrev pub asked_is_silent : Caller → Asked → Bool
-asked_is_silent who (ask.One command) = if is_list command then false else (action_of who command).silent
+asked_is_silent who (ask.One command) = is_of_operands command && (action_of who command).silent
 asked_is_silent who (ask.Two first next) = false
 
 abbrev pub is_silent : Caller → Result Asked Usage → Bool
 is_silent who (Err usage) = true
 is_silent who (Ok asked) = asked_is_silent who asked
+
+-- one that makes a group takes the input
+abbrev pub group_takes_input : Option GroupUse → Bool → Bool
+group_takes_input (Some uses.Makes) operands = true
+group_takes_input (Some uses.Finishes) operands = operands
+group_takes_input None operands = operands
 
 -- a batch takes it, a soak doesn't
 abbrev pub list_takes_input : Option CommandList → Bool → Bool
@@ -433,7 +502,7 @@ list_takes_input (Some (list.Soak number)) single = false
 list_takes_input None single = single
 
 abbrev pub command_takes_input : Caller → Command → Bool
-command_takes_input who command = list_takes_input (list_in command) (hears (action_of who command) (operands_of command))
+command_takes_input who command = list_takes_input (list_in command) (group_takes_input (group_use command) (hears (action_of who command) (operands_of command)))
 
 abbrev pub asked_takes_input : Caller → Asked → Bool
 asked_takes_input who (ask.One command) = command_takes_input who command
@@ -462,30 +531,23 @@ StopsSteps who words answer left a b = (folder : Folder) (i : List ℕ) (m : Mod
 -- Before each change of an s-file or p-file its z-file wasn't there at a moment of the run, but of names that are recovered.
 abbrev pub UnlockedSteps : Caller → Result Asked Usage → Option (List ℕ) → Told → Told → Type 0
 UnlockedSteps who words left old new = (folder : Folder) (i : List ℕ)
-    → IsGiven who words left folder i → Shows (working who words folder i) (seen old) (view_in folder)
+    → IsGiven who words left folder i → Shows (working who words folder i) (seen old) (view_in folder) → AreKnown old folder (run_portions who words folder i)
     → (exempt : List ℕ → Bool) → AllPlain (run_portions who words folder i) → AllExempt exempt (run_portions who words folder i) → BeginsUnlockedBut exempt old new
 
--- whether steps of the words lock their names
-abbrev pub asked_locks : Caller → Asked → Bool
-asked_locks who (ask.One command) = if is_list command then true else (action_of who command).locks
-asked_locks who (ask.Two first next) = true
+-- whether the words ask for recovery
+abbrev pub is_recovery : Option GroupUse → Bool
+is_recovery None = false
+is_recovery (Some uses.Makes) = false
+is_recovery (Some uses.Finishes) = true
 
-abbrev pub locks_names : Caller → Result Asked Usage → Bool
-locks_names who (Err usage) = true
-locks_names who (Ok asked) = asked_locks who asked
+abbrev pub asks_recovery : Asked → Bool
+asks_recovery (ask.One command) = is_recovery (group_use command)
+asks_recovery (ask.Two first next) = false
 
--- What a run leaves of a disk whose s-files and p-files are firm, be it calm or not, as a disk fault leaves it.
-pub record RecoversDisk (who : Caller) (words : Result Asked Usage) (answer : Answer) (left : Option (List ℕ)) (old new : Told) : Type 0 where
-  -- a stop leaves what recovers as a folder that one could leave at the start
-  pub story : RecoversOn old new
-  -- s-files and p-files are firm still, so that recovery may run again
-  pub firm : LeavesFirm old new
-  -- where it is finished the disk is calm, if some step was made and not refused
-  pub calm : IsOk (steps_answer answer) → (folder : Folder) (i : List ℕ) → IsGiven who words left folder i → Shows (working who words folder i) (seen old) (view_in folder)
-      → has_made (run_steps who words folder i) ≡ true → LeavesCalm old new
-  -- but at a disk fault a calm disk stays calm
-  pub keeps : answer ≢ DiskFault → KeepsCalm old new
+abbrev pub words_recover : Result Asked Usage → Bool
+words_recover (Err usage) = false
+words_recover (Ok asked) = asks_recovery asked
 
--- so it is where the steps don't lock their names
-abbrev pub RecoversRun : Caller → Result Asked Usage → Answer → Option (List ℕ) → Told → Told → Type 0
-RecoversRun who words answer left old new = locks_names who words ≡ false → RecoversDisk who words answer left old new
+-- what recovery leaves of a disk, be it calm or not, as a disk fault leaves it
+abbrev pub RecoversRun : Result Asked Usage → Answer → Told → Told → Type 0
+RecoversRun words answer old new = words_recover words ≡ true → RecoversAll (steps_answer answer) old new

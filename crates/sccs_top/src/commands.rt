@@ -1,4 +1,4 @@
-ghost use Rattle.std.specs.Prelude.{◌≡◌, ◌∷◌, [], true, false, Ok, None, IfOk, IfSome};
+ghost use Rattle.std.specs.Prelude.{◌≡◌, ◌≢◌, ◌∷◌, [], true, false, Ok, None, Some, IfOk, IfSome};
 ghost use Rattle.sccs_sid.specs.Moment.{IsMoment};
 ghost use Rattle.sccs_sid.specs.Sid.{IsComponent};
 ghost use Rattle.sccs_words.specs.ValidValues.{AreGetValues, HasValidValues};
@@ -16,8 +16,9 @@ ghost use Rattle.sccs_cdc.specs.CdcStep.{cdc_change};
 ghost use Rattle.sccs_front.specs.PendingStep.{pending_action};
 ghost use Rattle.sccs_rcs.specs.ImportStep.{import_change};
 ghost use Rattle.sccs_top.specs.Asked.{HasValidCommands, asked_of};
+ghost use Rattle.sccs_top.specs.declared.commands.GroupUse.TheVariants as uses;
 ghost use Rattle.sccs_top.specs.declared.asking.Asked.TheVariants as ask;
-ghost use Rattle.sccs_top.specs.Runs.{LeavesAsked, LeavesAskedInput, LeavesInput, LeavesSingle, MakesSteps, RecoversRun, RunsAsked, RunsCommand, RunsMeant, SpeaksWords, StopsSteps, UnlockedSteps, action_of, admin_in, admin_there, caller, caller_by, get_in, has_heading, hushed, is_silent, list_in, only_reads, operands_of, steps_answer, val_words_of, words_in, words_take_input};
+ghost use Rattle.sccs_top.specs.Runs.{LeavesAlone, LeavesAsked, LeavesAskedInput, LeavesInput, LeavesMeant, MakesSteps, RecoversRun, RunsAlone, RunsAsked, RunsCommand, RunsMeant, SpeaksWords, StopsSteps, UnlockedSteps, action_of, admin_in, admin_there, caller, caller_by, get_in, group_use, has_heading, hushed, is_silent, list_in, only_reads, operands_of, steps_answer, val_words_of, words_in, words_take_input};
 
 use crate::answers::Answer;
 use crate::asking::{Asked, read_asked};
@@ -32,8 +33,10 @@ use sccs_cdc::Cdc;
 use sccs_delta::Delta;
 use sccs_disk::Disk;
 use sccs_edit::{Sact, Unget};
+use sccs_finishing::finish;
 use sccs_front::Entries;
 use sccs_get::{Get, Reserve};
+use sccs_group_runs::run_group;
 use sccs_prs::Prs;
 use sccs_rcs::Import;
 use sccs_recovery::Recover;
@@ -80,6 +83,26 @@ fn list_in(command: &Command) -> Option<CommandList>
     match command {
         Command::Batch => Some(CommandList::Batch),
         Command::Soak(number) => Some(CommandList::Soak(*number)),
+        _ => None,
+    }
+}
+
+/// What a command does with a group.
+#[derive(Clone, Copy)]
+pub enum GroupUse {
+    /// It makes the group that the input is.
+    Makes,
+    /// It finishes one that is pending, and then does what it does with its operands.
+    Finishes,
+}
+
+// what a command does with a group
+fn group_use(command: &Command) -> Option<GroupUse>
+    ensures { result ≡ group_use command.now }
+{
+    match command {
+        Command::Group => Some(GroupUse::Makes),
+        Command::Recover(_) => Some(GroupUse::Finishes),
         _ => None,
     }
 }
@@ -309,7 +332,7 @@ fn run_delta<I: Source, O: Sink, E: Sink, D: Disk>(
     }
 }
 
-// makes the steps of a single command; where it is quiet its output is dropped
+// makes the steps of the operands of a command; where it is quiet its output is dropped
 fn run_single<I: Source, O: Sink, E: Sink, D: Disk>(
     alloc: Global,
     command: &Command,
@@ -319,6 +342,7 @@ fn run_single<I: Source, O: Sink, E: Sink, D: Disk>(
     streams: &mut Streams<I, O, E, D>,
 ) -> Result<u8, Fault>
     requires single { list_in command.now ≡ None }
+    requires operands { group_use command.now ≢ Some uses.Makes }
     requires values { HasValidValues command.now }
     requires moment { IsMoment stamp.now.moment }
     ensures loans { SameLoans streams.old streams.new }
@@ -356,12 +380,91 @@ fn run_single<I: Source, O: Sink, E: Sink, D: Disk>(
         Command::Recover(operands) => run_ordinary(alloc, Recover, operands, quiet, streams),
         Command::Import(operands) => run_import(alloc, operands, quiet, streams),
         Command::Val(words) => run_val(alloc, words, streams),
-        Command::Batch | Command::Soak(_) => unreachable!(),
+        Command::Group | Command::Batch | Command::Soak(_) => unreachable!(),
     }
 }
 
 // the same over streams that are lent one by one
-pub fn run_lent<I: Source, O: Sink, E: Sink, D: Disk>(
+fn run_lent<I: Source, O: Sink, E: Sink, D: Disk>(
+    alloc: Global,
+    command: &Command,
+    stamp: &Stamp,
+    place: &Line,
+    quiet: bool,
+    input: &mut I,
+    out: &mut O,
+    err: &mut E,
+    disk: &mut D,
+) -> Result<u8, Fault>
+    requires single { list_in command.now ≡ None }
+    requires operands { group_use command.now ≢ Some uses.Makes }
+    requires values { HasValidValues command.now }
+    requires moment { IsMoment stamp.now.moment }
+    ensures { RunsCommand (val_words_of command.now) (action_of (caller_by quiet stamp.now place.now) command.now) (operands_of command.now) result
+        (setting_of I.Source O.Sink E.Sink D.Disk input.old out.old err.old disk.old) (setting_of I.Source O.Sink E.Sink D.Disk input.new out.new err.new disk.new) }
+{
+    let mut streams = Streams {
+        input,
+        out,
+        err,
+        disk,
+    };
+    run_single(alloc, command, stamp, place, quiet, &mut streams)
+}
+
+// finishes a group that is pending, and then makes the steps of the operands of a command
+fn run_finishing<I: Source, O: Sink, E: Sink, D: Disk>(
+    alloc: Global,
+    command: &Command,
+    stamp: &Stamp,
+    place: &Line,
+    quiet: bool,
+    streams: &mut Streams<I, O, E, D>,
+) -> Result<u8, Fault>
+    requires finishes { group_use command.now ≡ Some uses.Finishes }
+    requires values { HasValidValues command.now }
+    requires moment { IsMoment stamp.now.moment }
+    ensures loans { SameLoans streams.old streams.new }
+    ensures run { RunsAlone (caller_by quiet stamp.now place.now) command.now result (setting I.Source O.Sink E.Sink D.Disk streams.old) (setting I.Source O.Sink E.Sink D.Disk streams.new) }
+    ensures leaves { LeavesAlone (caller_by quiet stamp.now place.now) command.now result (setting I.Source O.Sink E.Sink D.Disk streams.old) (setting I.Source O.Sink E.Sink D.Disk streams.new) }
+{
+    match finish(alloc, streams) {
+        Ok(_) => run_single(alloc, command, stamp, place, quiet, streams),
+        Err(fault) => Err(fault),
+    }
+}
+
+// the same over streams that are lent one by one
+fn run_finishing_lent<I: Source, O: Sink, E: Sink, D: Disk>(
+    alloc: Global,
+    command: &Command,
+    stamp: &Stamp,
+    place: &Line,
+    quiet: bool,
+    input: &mut I,
+    out: &mut O,
+    err: &mut E,
+    disk: &mut D,
+) -> Result<u8, Fault>
+    requires finishes { group_use command.now ≡ Some uses.Finishes }
+    requires values { HasValidValues command.now }
+    requires moment { IsMoment stamp.now.moment }
+    ensures run { RunsAlone (caller_by quiet stamp.now place.now) command.now result
+        (setting_of I.Source O.Sink E.Sink D.Disk input.old out.old err.old disk.old) (setting_of I.Source O.Sink E.Sink D.Disk input.new out.new err.new disk.new) }
+    ensures leaves { LeavesAlone (caller_by quiet stamp.now place.now) command.now result
+        (setting_of I.Source O.Sink E.Sink D.Disk input.old out.old err.old disk.old) (setting_of I.Source O.Sink E.Sink D.Disk input.new out.new err.new disk.new) }
+{
+    let mut streams = Streams {
+        input,
+        out,
+        err,
+        disk,
+    };
+    run_finishing(alloc, command, stamp, place, quiet, &mut streams)
+}
+
+// does a command that is no list of commands; where it is quiet the output of its operands is dropped
+pub fn run_alone<I: Source, O: Sink, E: Sink, D: Disk>(
     alloc: Global,
     command: &Command,
     stamp: &Stamp,
@@ -375,16 +478,18 @@ pub fn run_lent<I: Source, O: Sink, E: Sink, D: Disk>(
     requires single { list_in command.now ≡ None }
     requires values { HasValidValues command.now }
     requires moment { IsMoment stamp.now.moment }
-    ensures { RunsCommand (val_words_of command.now) (action_of (caller_by quiet stamp.now place.now) command.now) (operands_of command.now) result
+    ensures run { RunsAlone (caller_by quiet stamp.now place.now) command.now result
+        (setting_of I.Source O.Sink E.Sink D.Disk input.old out.old err.old disk.old) (setting_of I.Source O.Sink E.Sink D.Disk input.new out.new err.new disk.new) }
+    ensures leaves { LeavesAlone (caller_by quiet stamp.now place.now) command.now result
         (setting_of I.Source O.Sink E.Sink D.Disk input.old out.old err.old disk.old) (setting_of I.Source O.Sink E.Sink D.Disk input.new out.new err.new disk.new) }
 {
-    let mut streams = Streams {
-        input,
-        out,
-        err,
-        disk,
-    };
-    run_single(alloc, command, stamp, place, quiet, &mut streams)
+    match group_use(command) {
+        Some(GroupUse::Makes) => run_group(alloc, stamp, input, out, err, disk),
+        Some(GroupUse::Finishes) => {
+            run_finishing_lent(alloc, command, stamp, place, quiet, input, out, err, disk)
+        }
+        None => run_lent(alloc, command, stamp, place, quiet, input, out, err, disk),
+    }
 }
 
 // does a command: a list of commands, or a single one
@@ -402,7 +507,7 @@ fn run_meant<I: Source, O: Sink, E: Sink, D: Disk>(
     requires moment { IsMoment stamp.now.moment }
     ensures run { RunsMeant (caller stamp.now place.now) (Ok command.now) result
         (setting_of I.Source O.Sink E.Sink D.Disk input.old out.old err.old disk.old) (setting_of I.Source O.Sink E.Sink D.Disk input.new out.new err.new disk.new) }
-    ensures single { LeavesSingle (caller stamp.now place.now) command.now result
+    ensures leaves { LeavesMeant (caller stamp.now place.now) command.now result
         (setting_of I.Source O.Sink E.Sink D.Disk input.old out.old err.old disk.old) (setting_of I.Source O.Sink E.Sink D.Disk input.new out.new err.new disk.new) }
     ensures input { LeavesInput (caller stamp.now place.now) command.now result
         (setting_of I.Source O.Sink E.Sink D.Disk input.old out.old err.old disk.old) (setting_of I.Source O.Sink E.Sink D.Disk input.new out.new err.new disk.new) }
@@ -416,7 +521,7 @@ fn run_meant<I: Source, O: Sink, E: Sink, D: Disk>(
             let quiet = true;
             run_soak(alloc, &Singles { place, quiet }, number, out, err, disk)
         }
-        None => run_lent(alloc, command, stamp, place, false, input, out, err, disk),
+        None => run_alone(alloc, command, stamp, place, false, input, out, err, disk),
     }
 }
 
@@ -492,7 +597,7 @@ fn run_asked<I: Source, O: Sink, E: Sink, D: Disk>(
     requires moment { IsMoment stamp.now.moment }
     ensures run { RunsAsked (caller stamp.now place.now) (Ok asked.now) result
         (setting_of I.Source O.Sink E.Sink D.Disk input.old out.old err.old disk.old) (setting_of I.Source O.Sink E.Sink D.Disk input.new out.new err.new disk.new) }
-    ensures single { LeavesAsked (caller stamp.now place.now) asked.now result
+    ensures leaves { LeavesAsked (caller stamp.now place.now) asked.now result
         (setting_of I.Source O.Sink E.Sink D.Disk input.old out.old err.old disk.old) (setting_of I.Source O.Sink E.Sink D.Disk input.new out.new err.new disk.new) }
     ensures input { LeavesAskedInput (caller stamp.now place.now) asked.now result
         (setting_of I.Source O.Sink E.Sink D.Disk input.old out.old err.old disk.old) (setting_of I.Source O.Sink E.Sink D.Disk input.new out.new err.new disk.new) }
@@ -508,8 +613,8 @@ fn run_asked<I: Source, O: Sink, E: Sink, D: Disk>(
 /// Does a command. The words are those behind the program's name; `stamp` is its moment, of the years
 /// 1969 to 2068, and its login, `place` the folder's path. Texts go to `out`, messages to `err`.
 ///
-/// Built are admin, get, delta, sact, tell, check, unget, rmdel, cdc, prs, val, what, recover, import, batch and soak,
-/// and the words of the front end, `edit`, `unedit`, `delget` and `deledit`. Of two commands, as those of `delget`, the
+/// Built are admin, get, delta, sact, tell, check, unget, rmdel, cdc, prs, val, what, recover, import, group, batch and
+/// soak, and the words of the front end, `edit`, `unedit`, `delget` and `deledit`. Of two commands, as those of `delget`, the
 /// second is done where the status of the first is 0, without an input, and what is said here of a run holds of both
 /// together; the status is that of the last one done.
 ///
@@ -518,9 +623,11 @@ fn run_asked<I: Source, O: Sink, E: Sink, D: Disk>(
 /// at each end, so that recovery may run. No s-file or p-file changes but one whose z-file wasn't there at an
 /// earlier moment of the run, unless it recovers.
 ///
-/// recover may begin on any disk whose s-files and p-files are firm, as one is that a disk fault has left: a
-/// stop leaves what recovers as something that one could leave at its start, they stay firm, and where some
-/// name is recovered and the run is finished the disk is calm.
+/// recover first finishes a group that was stopped, whatever its operands. It may begin on any disk whose s-files and
+/// p-files, intent, and x- and q-files of names of the intent are firm, as one is that a disk fault has left, where
+/// these names are locked, recovery leaves the pairs that it makes, and an intent that is there has its form: a stop
+/// leaves what recovers as something that one could leave at its start, it may be run again, and where the run is
+/// finished the disk is calm.
 pub fn run<I: Source, O: Sink, E: Sink, D: Disk>(
     alloc: Global,
     words: &Words,
@@ -537,7 +644,7 @@ pub fn run<I: Source, O: Sink, E: Sink, D: Disk>(
     ensures stops { StopsSteps (caller stamp.now place.now) (asked_of words.now) result (I.left input.old)
         (scene (D.told disk.old) (O.given out.old) (E.given err.old)) (scene (D.told disk.new) (O.given out.new) (E.given err.new)) }
     ensures unlocked { UnlockedSteps (caller stamp.now place.now) (asked_of words.now) (I.left input.old) (D.told disk.old) (D.told disk.new) }
-    ensures recovers { RecoversRun (caller stamp.now place.now) (asked_of words.now) result (I.left input.old) (D.told disk.old) (D.told disk.new) }
+    ensures recovers { RecoversRun (asked_of words.now) result (D.told disk.old) (D.told disk.new) }
     ensures speaks { SpeaksWords (caller stamp.now place.now) (asked_of words.now) result (E.given err.old) (E.given err.new) }
     ensures reads { only_reads (caller stamp.now place.now) (asked_of words.now) ≡ true → D.told disk.new ≡ D.told disk.old }
     ensures silent { is_silent (caller stamp.now place.now) (asked_of words.now) ≡ true → O.given out.new ≡ O.given out.old }

@@ -1,15 +1,19 @@
-ghost use Rattle.std.specs.Prelude.{◌≡◌, ◌≢◌, ℕ, Bool, List, take, Option, Some, Result, Ok, Err, IfOk, IfSome};
+ghost use Rattle.std.specs.Prelude.{◌≡◌, ◌≢◌, ℕ, Bool, List, take, Option, Some, Result, Ok, Err, IfOk, IfSome, IsSome};
 ghost use Rattle.std.specs.List.{AllByRecursion};
 ghost use Rattle.sccs_base.specs.Login.{IsLogin};
 ghost use Rattle.sccs_disk.specs.Files.{Content, Folder, Model, View, view_in, view_of};
 ghost use Rattle.sccs_disk.specs.Images.{Allows};
 ghost use Rattle.sccs_images.specs.Touches.{Each, newest};
-ghost use Rattle.sccs_moments.specs.Moments.{CanRecover, IsCalmUnnamed, NamesNone};
+ghost use Rattle.sccs_base.specs.Name.{IsSfile};
+ghost use Rattle.sccs_group.specs.Finishing.{CanFinish};
+ghost use Rattle.sccs_moments.specs.Moments.{IsCalmUnnamed};
+ghost use Rattle.sccs_moments.specs.Recovery.{fate_at};
+ghost use Rattle.sccs_steps.specs.StepStops.{IsSafe};
 ghost use Rattle.sccs_sid.specs.declared.moments.Stamp.{Stamp};
 ghost use Rattle.sccs_history.specs.History.{AreLines};
 ghost use Rattle.sccs_files.specs.StepFiles.{Files, Shows};
 ghost use Rattle.sccs_steps.specs.Calls.{Scene};
-ghost use Rattle.sccs_steps.specs.ListStops.{KeepsNames, KeepsNamesFrom, KeepsSafe, MayBegin, Spares};
+ghost use Rattle.sccs_steps.specs.ListStops.{KeepsSafe, KeepsSafeFrom, MayBegin, Spares};
 ghost use Rattle.sccs_steps.specs.StepEffects.{StepEffect};
 ghost use Rattle.sccs_steps.specs.StepLists.{NamedStep, folder_after};
 ghost use Rattle.sccs_steps.specs.declared.faults.Fault.{Fault};
@@ -28,23 +32,24 @@ ghost use Rattle.sccs_top.specs.Runs.{Caller};
 /// Runs may follow one another. Where one ended, but at a disk fault, the disk is calm and the names that were
 /// safe are safe, as the next one asks. Whatever a stop leaves of it, once all names are recovered s-files and
 /// p-files are those to which the folder recovers after one number of steps, the same for all names, and the
-/// names that were safe in whatever a stop could leave before are safe, where no intent named one before. There
-/// recovery may run, wherever the run ended.
+/// names that were safe in whatever a stop could leave before are safe. There recovery may run, wherever the run
+/// ended, where each name of an intent that it left was so.
 pub fn runs_follow_one_another()
     ensures ended { (w : List ℕ → Bool) (r : Result ℕ Fault) (folder : Folder) (ts : List NamedStep) (a b : Scene) (m : Model) (past : List Model)
         → (run : CourseMoments w r folder ts a b m past) → r ≢ Err ends.DiskFault → MayFollow m folder (folder_after folder (take run.list.number ts)) b.told }
     ensures stopped { (w : List ℕ → Bool) (r : Result ℕ Fault) (folder : Folder) (ts : List NamedStep) (a b : Scene) (m : Model) (past : List Model)
         → (run : CourseMoments w r folder ts a b m past) → Each (Allows (FollowsStop m folder ts)) run.list.went.added m }
     ensures faulted { (w : List ℕ → Bool) (r : Result ℕ Fault) (folder : Folder) (ts : List NamedStep) (a b : Scene) (m : Model) (past : List Model)
-        → (run : CourseMoments w r folder ts a b m past) → Allows NamesNone m → CanRecover (newest run.list.went.added m) }
-    ensures safe { (ps : List Portion) (u v : View) → KeepsNames u v → AllTake ps → AllSafe u ps → AllSafe v ps }
+        → (run : CourseMoments w r folder ts a b m past)
+        → ((n : List ℕ) → IsSfile n → IsSome (fate_at (view_of (newest run.list.went.added m)) n) → Allows (IsSafe n) m) → CanFinish (newest run.list.went.added m) }
+    ensures safe { (ps : List Portion) (u v : View) → KeepsSafe u v → AllTake ps → AllSafe u ps → AllSafe v ps }
 {}
 
 /// On a calm disk where no intent names an s-file a run may begin, and names that are safe are so in whatever a stop
 /// could leave.
 pub fn calm_disks_begin_runs()
     ensures begins { (w : List ℕ → Bool) (folder : Folder) (m : Model) → Spares w → Shows w (Some (view_of m)) (view_in folder) → IsCalmUnnamed m → MayBegin folder m }
-    ensures calm { (m : Model) (v : View) → IsCalmUnnamed m → KeepsNamesFrom m v → KeepsSafe (view_of m) v }
+    ensures calm { (m : Model) (v : View) → IsCalmUnnamed m → KeepsSafeFrom m v → KeepsSafe (view_of m) v }
 {}
 
 /// In a history that admin makes of a text and that calls of delta go on with, accepted or refused, the version of each

@@ -11,4 +11,4 @@ mod singles;
 
 pub use answers::Answer;
 pub use asking::Asked;
-pub use commands::{CommandList, run};
+pub use commands::{CommandList, GroupUse, run};

@@ -6,7 +6,7 @@ ghost use Rattle.sccs_batch.specs.BatchText.{is_single};
 ghost use Rattle.sccs_top.specs.CommandLaws.{command_might, command_takes};
 ghost use Rattle.sccs_top.specs.Runs.{BegunOf, FitsEntry, RunsWords, WholeOf, caller_by, entry_command};
 
-use crate::commands::run_lent;
+use crate::commands::run_alone;
 use crate::messages::write_usage;
 use sccs_base::{Line, Sink, Source, SteadySource, Words};
 use sccs_batch::{Commands, Entry};
@@ -34,7 +34,7 @@ fn run_words<I: Source, O: Sink, E: Sink, D: Disk>(
         (setting_of I.Source O.Sink E.Sink D.Disk input.old out.old err.old disk.old) (setting_of I.Source O.Sink E.Sink D.Disk input.new out.new err.new disk.new) }
 {
     match read_words(alloc, words) {
-        Ok(command) => run_lent(alloc, &command, stamp, place, quiet, input, out, err, disk),
+        Ok(command) => run_alone(alloc, &command, stamp, place, quiet, input, out, err, disk),
         Err(WordsFault::Usage(usage)) => match write_usage(&usage, err) {
             Ok(()) => Ok(2),
             Err(_) => Err(Fault::WriteFault),

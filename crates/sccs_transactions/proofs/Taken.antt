@@ -89,8 +89,8 @@ one_of P x q y k at_x at_q at_y is = by (bytes_eq x k) (bytes_eq q k) (bytes_eq 
     by false false false is_x is_q is_y some = absurd cc
 
 -- the views before the lock, at the commit and at the end
-pub committed_clears : (n : List ℕ) (c : Plan) (v : View) (ob2 od : Option View) → IsSfile n → Moves (is_working n) (λ u. u) (Some (locked n v)) ob2 → IfSome ob2 (λ (u : View). AreTakenOrGone n c (locked n v) u) → Becomes (committed n c) ob2 od → AreCleared n (Some v) od
-committed_clears n c v None od sfile moves working done = absurd moves
-committed_clears n c v (Some u) od sfile moves working done =
+pub committed_clears : (n : List ℕ) (c : Plan) (f : View → View) (v : View) (ob2 od : Option View) → IsSfile n → Moves (is_working n) f (Some (locked n v)) ob2 → IfSome ob2 (λ (u : View). AreTakenOrGone n c (locked n v) u) → Becomes (committed n c) ob2 od → AreCleared n (Some v) od
+committed_clears n c f v None od sfile moves working done = absurd moves
+committed_clears n c f v (Some u) od sfile moves working done =
     subst (λ (o : Option View). AreCleared n (Some v) o) (sym done) (λ k is.
     one_of (λ l. IsGone (v l) (committed n c u l)) (x_file n) (q_file n) (y_file n) k (x_gone n c u (v (x_file n)) sfile working.x) (q_gone n c u (v (q_file n)) sfile working.q) (y_gone n c u (v (y_file n)) sfile working.y) is)

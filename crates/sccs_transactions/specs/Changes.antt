@@ -1,6 +1,7 @@
 -- A change of the files of a name: what it prepares between its lock and its commit, and the action that it is.
-use Rattle.std.specs.Prelude.{◌≡◌, ◌⊎◌, ℕ, Bool, true, false, List, [], map, drop, Option, None, Some, Result, Ok, Err, IfSome, is_none}
+use Rattle.std.specs.Prelude.{◌≡◌, ◌⊎◌, ◌||◌, ℕ, Bool, true, false, List, [], map, drop, Option, None, Some, Result, Ok, Err, IfSome, is_none}
 use Rattle.std.specs.Result.{IfOk}
+use Rattle.std.specs.Str.{bytes_eq}
 use Rattle.sccs_base.specs.Name.{is_sfile_name, p_file, q_file, x_file, y_file, z_file}
 use Rattle.sccs_base.specs.Stream.{GivesOk, GivesSome}
 use Rattle.sccs_sid.specs.Reading.{◌>>=◌}
@@ -9,7 +10,7 @@ use Rattle.sccs_sid.specs.declared.refusals.StepFault.{StepFault}
 use Rattle.sccs_sid.specs.declared.refusals.StepFault.TheVariants.{Refused}
 use Rattle.sccs_disk.specs.Files.{Content, View}
 use Rattle.sccs_disk.specs.Told.{Told}
-use Rattle.sccs_files.specs.StepFiles.{Moves, is_working, look}
+use Rattle.sccs_files.specs.StepFiles.{Files, Moves, early_moved, is_working, l_file, look}
 use Rattle.sccs_steps.specs.StepEffects.{Outcome, StepEffect, check, effect_of}
 use Rattle.sccs_steps.specs.Calls.{World}
 use Rattle.sccs_steps.specs.Actions.{Action, IsHeard, Step}
@@ -18,7 +19,9 @@ use Rattle.sccs_disk.specs.Calls.{IsThere}
 use Rattle.sccs_store.specs.Commits.{Needs, Plan, files_after, plan}
 use Rattle.sccs_store.specs.declared.new_files.NewFile.{NewFile}
 use Rattle.sccs_store.specs.declared.new_files.NewFile.TheVariants.{Keep, Replace, Remove}
+use Rattle.sccs_images.specs.Touches.{TouchesOnly}
 use Rattle.sccs_moments.specs.Recovery.{without_name}
+use Rattle.sccs_moments.specs.Unlocked.{KeepsOthers}
 use Rattle.sccs_transactions.specs.declared.prepared.Prepared.{Prepared}
 
 -- What a utility makes of the files of a name that no other program has locked.
@@ -31,6 +34,8 @@ pub record Changing : Type 0 where
   pub takes : Bool
   -- whether it writes nothing on out
   pub silent : Bool
+  -- whether the l-file may be new before its commit
+  pub early : Bool
   -- the outcomes that may come, over any disk
   pub could : Outcome → Bool
 
@@ -63,23 +68,29 @@ pub record AreTakenOrGone (n : List ℕ) (c : Plan) (u v : View) : Type 0 where
   pub q : IsTakenOrGone c.p (u (q_file n)) (v (q_file n))
   pub y : IsTakenOrGone c.g (u (y_file n)) (v (y_file n))
 
--- The new files are prepared, the text before the commit is written, at most working files have changed, and those that the
--- commit doesn't take are gone, or as they were.
-pub record IsPrepared (n : List ℕ) (p : Prepared) (o : Outcome) (w w2 : World) : Type 0 where
+-- The new files are prepared, the text before the commit is written, at most working files have changed, and the l-file where it is
+-- new before the commit; working files that the commit doesn't take are gone, or as they were.
+pub record IsPreparedBy (first : Bool) (n : List ℕ) (p : Prepared) (o : Outcome) (w w2 : World) : Type 0 where
   pub effect : StepEffect
   pub is : o ≡ Ok effect
   pub status : effect.status ≡ 0
   pub report : effect.out ≡ p.report
   pub message : effect.err ≡ p.message
-  pub view : Moves (is_working n) (λ v. v) w.view w2.view
+  pub view : Moves (is_working n) (λ v. early_moved first v n effect.new) w.view w2.view
   pub working : IfSome w.view (λ u. IfSome w2.view (λ v. AreTakenOrGone n (plan_of p) u v))
   pub files : IfSome w2.view (λ v. effect.new ≡ Some (files_after n (plan_of p) v))
   pub out : GivesOk w.out w2.out effect.text
 
--- At most working files have changed, and a prefix of the text is written.
-pub record IsUnmade (n text : List ℕ) (w w2 : World) : Type 0 where
-  pub view : Moves (is_working n) (λ v. v) w.view w2.view
+abbrev pub IsPrepared : List ℕ → Prepared → Outcome → World → World → Type 0
+IsPrepared n p o w w2 = IsPreparedBy false n p o w w2
+
+-- At most working files have changed, and the l-file where it is new already, and a prefix of the text is written.
+pub record IsUnmadeBy (first : Bool) (n : List ℕ) (new : Option Files) (text : List ℕ) (w w2 : World) : Type 0 where
+  pub view : Moves (is_working n) (λ v. early_moved first v n new) w.view w2.view
   pub out : GivesSome w.out w2.out text
+
+abbrev pub IsUnmade : List ℕ → List ℕ → World → World → Type 0
+IsUnmade n text w w2 = IsUnmadeBy false n None text w w2
 
 -- what preparing answers and leaves
 abbrev pub Prepares : Result Prepared StepFault → List ℕ → Outcome → World → World → Type 0
@@ -87,10 +98,25 @@ Prepares (Ok p) n o w w2 = IsPrepared n p o w w2
 Prepares (Err (Refused refusal)) n o w w2 = (o ≡ Err refusal) × IsUnmade n [] w w2
 Prepares (Err fault) n o w w2 = IsUnmade n (effect_of n o).text w w2
 
+-- the same of a change by which the l-file may be new before the commit
+abbrev pub PreparesEarly : Result Prepared StepFault → List ℕ → Outcome → World → World → Type 0
+PreparesEarly (Ok p) n o w w2 = (first : Bool) × IsPreparedBy first n p o w w2
+PreparesEarly (Err (Refused refusal)) n o w w2 = (o ≡ Err refusal) × IsUnmade n [] w w2
+PreparesEarly (Err fault) n o w w2 = (first : Bool) × IsUnmadeBy first n (effect_of n o).new (effect_of n o).text w w2
+
+abbrev pub PreparesBy : Bool → Result Prepared StepFault → List ℕ → Outcome → World → World → Type 0
+PreparesBy false r n o w w2 = Prepares r n o w w2
+PreparesBy true r n o w w2 = PreparesEarly r n o w w2
+
+-- what it changes: working files, and where it is new early the l-file
+abbrev pub Drafts : Bool → List ℕ → Told → Told → Type 0
+Drafts false n old new = TouchesOnly (is_working n) old new
+Drafts true n old new = KeepsOthers (λ k. bytes_eq (l_file n) k || is_working n k) old new
+
 -- the same of a change, on a disk that tells its files, the name being locked
 abbrev pub PreparesChange : Changing → Result Prepared StepFault → List ℕ → Option (List ℕ) → World → World → Type 0
 PreparesChange x r n left w w2 =
-    IfSome w.view (λ v. (i : List ℕ) → IsHeard x.takes left i → Prepares r n (x.outcome n i (map (unlocked n v) (x.named n)) (look (unlocked n v) n)) w w2)
+    IfSome w.view (λ v. (i : List ℕ) → IsHeard x.takes left i → PreparesBy x.early r n (x.outcome n i (map (unlocked n v) (x.named n)) (look (unlocked n v) n)) w w2)
 
 -- what a commit needs is there, where a view is told
 pub record IsReady (n : List ℕ) (p : Prepared) (told : Told) : Type 0 where

@@ -26,4 +26,5 @@ locking_keeps x = record {
   quiet = λ reads n i named f d is. absurd cc;
   names = λ changes n fits. is_sfile n fits;
   locked = λ changes locks n i named f d is there g new. absurd (let refused = taken_step x n i named f there in cc);
+  pending = λ changes never n i v f d there is. absurd cc;
 }

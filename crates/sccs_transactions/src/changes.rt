@@ -6,10 +6,8 @@ ghost use Rattle.sccs_sid.specs.declared.refusals.Refusal.TheVariants.{Locked};
 ghost use Rattle.sccs_sid.specs.declared.refusals.StepFault.TheVariants as step;
 ghost use Rattle.sccs_steps.specs.Calls.{world};
 ghost use Rattle.sccs_steps.specs.Causes.{Ignores, StepCauses, counts};
-ghost use Rattle.sccs_files.specs.StepFiles.{is_working};
-ghost use Rattle.sccs_images.specs.Touches.{TouchesOnly};
 ghost use Rattle.sccs_transactions.specs.Stops.{IsFirmPrepared, SettlesEntries};
-ghost use Rattle.sccs_transactions.specs.Changes.{Changing, CouldPrepare, IsQuiet, IsReady, PreparesChange};
+ghost use Rattle.sccs_transactions.specs.Changes.{Changing, CouldPrepare, Drafts, IsQuiet, IsReady, PreparesChange};
 
 use crate::prepared::Prepared;
 use sccs_base::{Name, Sink, Source};
@@ -43,7 +41,7 @@ pub trait Change {
         ensures prepares { (err : Option (List ℕ)) → PreparesChange (change self.now) result name.now (I.left input.old)
             (world (seen (D.told disk.old)) (O.given out.old) err) (world (seen (D.told disk.new)) (O.given out.new) err) }
         ensures needs { IfOk result (λ p. IsReady name.now p (D.told disk.new)) }
-        ensures touches { TouchesOnly (is_working name.now) (D.told disk.old) (D.told disk.new) }
+        ensures touches { Drafts (change self.now).early name.now (D.told disk.old) (D.told disk.new) }
         ensures firm { IfOk result (λ p. IsFirmPrepared name.now p (D.told disk.old) (D.told disk.new)) }
         ensures entries { IfOk result (λ p. SettlesEntries name.now p (D.told disk.new)) }
         ensures speaks { CouldPrepare (change self.now).could result }

@@ -116,14 +116,14 @@ judged_meets false text status n (Ok code) v told2 out out2 err same judges = (
 )
 judged_meets true text status n (Ok code) v told2 out out2 err same judges = absurd (let no : true ≡ false = judges.0 in cc)
 judged_meets true text status n (Err (Refused refusal)) v told2 out out2 err same judges =
-    (ap Err (sym judges.1), kept v told2 n [] out out2 err same (subst (λ (o : Option (List ℕ)). GivesSome out o []) (sym judges.2) (some_none out [])))
+    (ap Err (sym judges.1), kept v told2 n None [] out out2 err same (subst (λ (o : Option (List ℕ)). GivesSome out o []) (sym judges.2) (some_none out [])))
 judged_meets false text status n (Err (Refused refusal)) v told2 out out2 err same judges = absurd (let no : false ≡ true = judges.0 in cc)
-judged_meets true text status n (Err Memory) v told2 out out2 err same judges = kept v told2 n [] out out2 err same judges
-judged_meets false text status n (Err Memory) v told2 out out2 err same judges = kept v told2 n text out out2 err same judges
-judged_meets true text status n (Err ReadFault) v told2 out out2 err same judges = kept v told2 n [] out out2 err same judges
-judged_meets false text status n (Err ReadFault) v told2 out out2 err same judges = kept v told2 n text out out2 err same judges
-judged_meets true text status n (Err WriteFault) v told2 out out2 err same judges = inl (kept v told2 n [] out out2 err same judges)
-judged_meets false text status n (Err WriteFault) v told2 out out2 err same judges = inl (kept v told2 n text out out2 err same judges)
+judged_meets true text status n (Err Memory) v told2 out out2 err same judges = kept v told2 n None [] out out2 err same judges
+judged_meets false text status n (Err Memory) v told2 out out2 err same judges = kept v told2 n None text out out2 err same judges
+judged_meets true text status n (Err ReadFault) v told2 out out2 err same judges = kept v told2 n None [] out out2 err same judges
+judged_meets false text status n (Err ReadFault) v told2 out out2 err same judges = kept v told2 n None text out out2 err same judges
+judged_meets true text status n (Err WriteFault) v told2 out out2 err same judges = inl (kept v told2 n None [] out out2 err same judges)
+judged_meets false text status n (Err WriteFault) v told2 out out2 err same judges = inl (kept v told2 n None text out out2 err same judges)
 judged_meets true text status n (Err DiskFault) v told2 out out2 err same judges = broken v told2 n (val_judged true text status) out out2 err same judges
 judged_meets false text status n (Err DiskFault) v told2 out out2 err same judges = broken v told2 n (val_judged false text status) out out2 err same judges
 
@@ -154,6 +154,7 @@ val_keeps words v = record {
   quiet = λ reads n i named f d is. kept_judged (is_long words i) (val_text words v i) (val_status words v i) d is;
   names = λ changes n fits. absurd cc;
   locked = λ changes locks n i named f d is there g new. absurd cc;
+  pending = λ changes never n i v f d there is. absurd cc;
 }
 
 judged_leaves : (n : List ℕ) (long : Bool) (text : List ℕ) (status : ℕ) → (effect_of n (val_judged long text status)).new ≡ None

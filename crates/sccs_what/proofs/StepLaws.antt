@@ -33,8 +33,8 @@ printed first n bytes v told2 (Ok found) out out2 err same prints = (
     err = gives_none err;
   },
 )
-printed first n bytes v told2 (Err Memory) out out2 err same prints = kept v told2 n (what_text first n bytes) out out2 err same (subst (λ (o : Option (List ℕ)). GivesSome out o (what_text first n bytes)) (sym prints) (some_none out (what_text first n bytes)))
-printed first n bytes v told2 (Err WriteFault) out out2 err same prints = inl (kept v told2 n (what_text first n bytes) out out2 err same prints)
+printed first n bytes v told2 (Err Memory) out out2 err same prints = kept v told2 n None (what_text first n bytes) out out2 err same (subst (λ (o : Option (List ℕ)). GivesSome out o (what_text first n bytes)) (sym prints) (some_none out (what_text first n bytes)))
+printed first n bytes v told2 (Err WriteFault) out out2 err same prints = inl (kept v told2 n None (what_text first n bytes) out out2 err same prints)
 printed first n bytes v told2 (Err DiskFault) out out2 err same prints = broken v told2 n (Ok (finds_texts first n bytes)) out out2 err same prints
 printed first n bytes v told2 (Err (Refused refusal)) out out2 err same prints = absurd prints
 printed first n bytes v told2 (Err ReadFault) out out2 err same prints = absurd prints
@@ -54,7 +54,7 @@ prints_file first n size r (Some v) told2 out out2 same measures fits prints = �
 
 pub too_long : (first : Bool) (n : List ℕ) (size : ℕ) (told told2 : Option View) (out : Option (List ℕ)) → told2 ≡ told → Measures told n (Some size) → file_limit < size → MeetsWhat first n (Err (Refused refusals.TooLong)) told told2 out out
 too_long first n size None told2 out same measures long = tt
-too_long first n size (Some v) told2 out same measures long = λ err. (by (v n) measures, kept v told2 n [] out out err same (some_none out []))
+too_long first n size (Some v) told2 out same measures long = λ err. (by (v n) measures, kept v told2 n None [] out out err same (some_none out []))
   where
     by : (o : Option Content) → Some size ≡ option_map (λ (c : Content). length c.bytes) o → what_step first n o ≡ Err refusals.TooLong
     by None measures = absurd (cc)
@@ -64,7 +64,7 @@ too_long first n size (Some v) told2 out same measures long = λ err. (by (v n) 
 
 pub missing : (first : Bool) (n : List ℕ) (told told2 : Option View) (out : Option (List ℕ)) → told2 ≡ told → Measures told n None → MeetsWhat first n (Err (Refused refusals.Missing)) told told2 out out
 missing first n None told2 out same measures = tt
-missing first n (Some v) told2 out same measures = λ err. (by (v n) measures, kept v told2 n [] out out err same (some_none out []))
+missing first n (Some v) told2 out same measures = λ err. (by (v n) measures, kept v told2 n None [] out out err same (some_none out []))
   where
     by : (o : Option Content) → None ≡ option_map (λ (c : Content). length c.bytes) o → what_step first n o ≡ Err refusals.Missing
     by None measures = refl

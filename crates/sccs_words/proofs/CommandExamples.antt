@@ -42,12 +42,13 @@ commands :
     × Says (codes "recover" ∷ codes "s.a" ∷ []) 0 0
     × Says (codes "import" ∷ codes "s.a" ∷ codes "s.b" ∷ []) 0 0
     × Says (codes "batch" ∷ []) 0 0
+    × Says (codes "group" ∷ []) 0 0
     × Says (codes "soak" ∷ codes "1" ∷ []) 0 0
     × Says (codes "soak" ∷ codes "2000" ∷ []) 0 0
     × Says (codes "cdc" ∷ codes "-r1.2" ∷ codes "-y" ∷ codes "s.a" ∷ []) 0 0
     × Says (codes "cdc" ∷ codes "-r1.2" ∷ codes "-m" ∷ codes "!m1" ∷ codes "s.a" ∷ codes "s.b" ∷ []) 0 0
 unfolding meaning utility_of line_meaning find_option scanned letters turn usage_fault use_fault first_from operand_fault end_fault value_of values_of split_from is_login number number_at digits_after byte_at sid_of numbers_after spec_of list_of ranges_of piece_at range_at last_at sid_at branch_at component_at cutoff_of skip
-commands = (refl, refl, refl, refl, refl, refl, refl, refl, refl, refl, refl, refl, refl, refl, refl, refl, refl, refl, refl, refl, refl, refl, refl, refl, refl, refl, refl, refl, refl)
+commands = (refl, refl, refl, refl, refl, refl, refl, refl, refl, refl, refl, refl, refl, refl, refl, refl, refl, refl, refl, refl, refl, refl, refl, refl, refl, refl, refl, refl, refl, refl)
 
 -- tell and check, as sact
 pending_edits :

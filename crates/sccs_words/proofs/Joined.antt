@@ -120,6 +120,7 @@ no_dash u.What = refl
 no_dash u.Recover = refl
 no_dash u.Import = refl
 no_dash u.Batch = refl
+no_dash u.Group = refl
 no_dash u.Soak = refl
 no_dash u.Cdc = refl
 

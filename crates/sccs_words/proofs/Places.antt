@@ -180,6 +180,7 @@ refusal_in last u.What l is = first_fault_in last u.What l is
 refusal_in last u.Recover l is = first_fault_in last u.Recover l is
 refusal_in last u.Import l is = first_fault_in last u.Import l is
 refusal_in last u.Batch l is = first_fault_in last u.Batch l is
+refusal_in last u.Group l is = first_fault_in last u.Group l is
 refusal_in last u.Soak l is = first_fault_in last u.Soak l is
 
 -- ---- the meaning
@@ -216,6 +217,7 @@ command_in last u.What l low = tt
 command_in last u.Recover l low = tt
 command_in last u.Import l low = tt
 command_in last u.Batch l low = tt
+command_in last u.Group l low = tt
 command_in last u.Soak l low = number_in last (option_and_then soak_number (first_text l.operands)) low
 
 unless_in : (last : ℕ) (refusal : Option Usage) (meant : Result Command Usage) → FaultIn last refusal → MeantIn last meant → MeantIn last (unless_fault refusal meant)

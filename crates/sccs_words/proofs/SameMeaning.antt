@@ -228,6 +228,7 @@ refusal_same u.What l n = first_fault_same u.What l n
 refusal_same u.Recover l n = first_fault_same u.Recover l n
 refusal_same u.Import l n = first_fault_same u.Import l n
 refusal_same u.Batch l n = first_fault_same u.Batch l n
+refusal_same u.Group l n = first_fault_same u.Group l n
 refusal_same u.Soak l n = first_fault_same u.Soak l n
 
 -- ---- the words of commands
@@ -235,7 +236,7 @@ refusal_same u.Soak l n = first_fault_same u.Soak l n
 get_same : (uses : List Use) → get_words uses ≡ get_words (map unplaced uses)
 get_same uses =
     rw (has_same opt.b uses) (rw (value_same opt.c uses) (rw (has_same opt.e uses) (rw (has_same opt.g uses) (rw (value_same opt.i uses) (rw (value_same opt.x uses)
-    (rw (has_same opt.k uses) (rw (has_same opt.m uses) (rw (has_same opt.n uses) (rw (has_same opt.p uses) (rw (has_same opt.s uses) (rw (value_same opt.r uses) (rw (has_same opt.t uses) refl))))))))))))
+    (rw (has_same opt.k uses) (rw (has_same opt.m uses) (rw (has_same opt.n uses) (rw (has_same opt.p uses) (rw (has_same opt.s uses) (rw (value_same opt.r uses) (rw (has_same opt.t uses) (rw (has_same opt.l uses) (rw (has_same opt.big_l uses) refl))))))))))))))
 
 delta_same : (uses : List Use) → delta_line_words uses ≡ delta_line_words (map unplaced uses)
 delta_same uses = rw (value_same opt.m uses) (rw (has_same opt.n uses) (rw (value_same opt.r uses) (rw (has_same opt.s uses) (rw (value_same opt.y uses) refl))))
@@ -309,6 +310,7 @@ command_same u.What l n = ap (λ (silent : Bool). Ok (c.What silent (operand_wor
 command_same u.Recover l n = refl
 command_same u.Import l n = refl
 command_same u.Batch l n = refl
+command_same u.Group l n = refl
 command_same u.Soak l n = number_same n (option_and_then soak_number (first_text l.operands))
 
 unless_same : (a b : Option Usage) (x y : Result Command Usage) → kind a ≡ kind b → kinds x ≡ kinds y → kinds (unless_fault a x) ≡ kinds (unless_fault b y)

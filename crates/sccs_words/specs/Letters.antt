@@ -34,6 +34,9 @@ k = 107
 abbrev pub l : ℕ
 l = 108
 
+abbrev pub big_l : ℕ
+big_l = 76
+
 abbrev pub m : ℕ
 m = 109
 

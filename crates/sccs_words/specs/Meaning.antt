@@ -35,6 +35,7 @@ own_utility word =
     else if bytes_eq word (codes "check") then Some u.Check
     else if bytes_eq word (codes "import") then Some u.Import
     else if bytes_eq word (codes "batch") then Some u.Batch
+    else if bytes_eq word (codes "group") then Some u.Group
     else if bytes_eq word (codes "soak") then Some u.Soak
     else if bytes_eq word (codes "cdc") then Some u.Cdc
     else None
@@ -89,6 +90,7 @@ line_command u.What l n = Ok (c.What (has_use opt.s l.uses) (operand_words l.ope
 line_command u.Recover l n = Ok (c.Recover (operand_words l.operands))
 line_command u.Import l n = Ok (c.Import (operand_words l.operands))
 line_command u.Batch l n = Ok c.Batch
+line_command u.Group l n = Ok c.Group
 line_command u.Soak l n = with_number n (option_and_then soak_number (first_text l.operands))
 
 -- val's faults are bits of its command

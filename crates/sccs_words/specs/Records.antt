@@ -18,6 +18,8 @@ use Rattle.sccs_words.specs.declared.commands.Given.TheVariants.{No, Bare, From}
 use Rattle.sccs_words.specs.declared.commands.Operands.{Operands}
 use Rattle.sccs_words.specs.declared.commands.AdminWords.{AdminWords}
 use Rattle.sccs_words.specs.declared.commands.GetWords.{GetWords}
+use Rattle.sccs_words.specs.declared.commands.Summary.{Summary}
+use Rattle.sccs_words.specs.declared.commands.Summary.TheVariants as summaries
 use Rattle.sccs_words.specs.declared.commands.DeltaWords.{DeltaWords}
 use Rattle.sccs_words.specs.declared.commands.UngetWords.{UngetWords}
 use Rattle.sccs_words.specs.declared.commands.CdcWords.{CdcWords}
@@ -61,6 +63,10 @@ given_of letter uses = if has_use letter uses then given_by (option_and_then nam
 abbrev pub comment_of : List Use → Option (List (List ℕ))
 comment_of uses = if has_use opt.y uses then Some (option_lines (value_of opt.y uses)) else None
 
+-- where the summary goes; the two options exclude each other
+abbrev pub summary_of : List Use → Summary
+summary_of uses = if has_use opt.l uses then summaries.File else if has_use opt.big_l uses then summaries.Out else summaries.No
+
 abbrev pub get_words : List Use → GetWords
 get_words uses = record {
   branch = has_use opt.b uses;
@@ -76,6 +82,7 @@ get_words uses = record {
   silent = has_use opt.s uses;
   spec = option_and_then spec_value (value_of opt.r uses);
   top = has_use opt.t uses;
+  summary = summary_of uses;
 }
 
 abbrev pub delta_line_words : List Use → DeltaWords

@@ -1,4 +1,4 @@
--- The synopsis of each utility: POSIX, Shell and Utilities; of cdc, which POSIX lacks, as SCCS has it.
+-- The synopsis of each utility: POSIX, Shell and Utilities; of cdc and of get's summary, which POSIX lacks, as SCCS has it.
 use Rattle.std.specs.Prelude.{ℕ, ◌==◌, List, [], ◌∷◌, Option, None, Some, if◌then◌else◌}
 use Rattle.sccs_words.specs.Letters as opt
 use Rattle.sccs_words.specs.declared.tables.OptionSpec.{OptionSpec}
@@ -11,7 +11,7 @@ use Rattle.sccs_words.specs.declared.tables.Need.TheVariants.{Always, Either, Wi
 use Rattle.sccs_words.specs.declared.tables.OperandRule.{OperandRule}
 use Rattle.sccs_words.specs.declared.tables.OperandRule.TheVariants.{Nothing, Sfile, Number, Many, Named, OneWith}
 use Rattle.sccs_words.specs.declared.tables.Utility.{Utility}
-use Rattle.sccs_words.specs.declared.tables.Utility.TheVariants.{Admin, Get, Delta, Unget, Sact, Tell, Check, Rmdel, Cdc, Prs, Val, What, Recover, Import, Batch, Soak}
+use Rattle.sccs_words.specs.declared.tables.Utility.TheVariants.{Admin, Get, Delta, Unget, Sact, Tell, Check, Rmdel, Cdc, Prs, Val, What, Recover, Import, Batch, Group, Soak}
 
 -- the options of a utility
 abbrev pub options_of : Utility → List OptionSpec
@@ -36,6 +36,8 @@ options_of Get =
     Plain opt.g ∷
     Valued opt.i forms.List ∷
     Plain opt.k ∷
+    Plain opt.l ∷
+    Plain opt.big_l ∷
     Plain opt.m ∷
     Plain opt.n ∷
     Plain opt.p ∷
@@ -87,6 +89,7 @@ options_of What =
 options_of Recover = []
 options_of Import = []
 options_of Batch = []
+options_of Group = []
 options_of Soak = []
 
 -- which of them exclude each other
@@ -104,6 +107,8 @@ exclusions_of Admin =
     []
 exclusions_of Get =
     Both opt.e opt.c ∷
+    Both opt.l opt.big_l ∷
+    Both opt.big_l opt.p ∷
     []
 exclusions_of Prs =
     Both opt.e opt.l ∷
@@ -136,6 +141,7 @@ operand_rule_of Admin = OneWith opt.i
 operand_rule_of Delta = Sfile
 operand_rule_of Import = Named
 operand_rule_of Batch = Nothing
+operand_rule_of Group = Nothing
 operand_rule_of Soak = Number
 operand_rule_of _ = Many
 

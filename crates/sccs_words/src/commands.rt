@@ -21,6 +21,7 @@ pub enum Command {
     Recover(Operands),
     Import(Operands),
     Batch,
+    Group,
     Soak(u64),
 }
 
@@ -56,6 +57,14 @@ pub struct AdminWords {
     pub description: Given,
 }
 
+/// Where the summary of a get goes: into the l-file, or to standard output.
+#[derive(Clone, Copy)]
+pub enum Summary {
+    No,
+    File,
+    Out,
+}
+
 /// The words of get.
 #[derive(Drop)]
 pub struct GetWords {
@@ -72,6 +81,7 @@ pub struct GetWords {
     pub silent: bool,
     pub spec: Option<Spec>,
     pub top: bool,
+    pub summary: Summary,
 }
 
 /// The words of delta.

@@ -12,8 +12,8 @@ mod tables;
 mod values;
 
 pub use commands::{
-    AdminWords, CdcWords, Command, DeltaWords, GetWords, Given, Operands, PrsWords, UngetWords,
-    Usage, ValWords, WordsFault,
+    AdminWords, CdcWords, Command, DeltaWords, GetWords, Given, Operands, PrsWords, Summary,
+    UngetWords, Usage, ValWords, WordsFault,
 };
 pub use laws::{
     faults_have_a_place, joined_options_are_options_apart, mr_words_are_between_gaps,

@@ -35,6 +35,8 @@ fn own_utility(word: &[u8]) -> Option<Utility>
         Some(Utility::Import)
     } else if word == b"batch".as_slice() {
         Some(Utility::Batch)
+    } else if word == b"group".as_slice() {
+        Some(Utility::Group)
     } else if word == b"soak".as_slice() {
         Some(Utility::Soak)
     } else if word == b"cdc".as_slice() {
@@ -209,6 +211,7 @@ fn command_of(
         Utility::Recover => Ok(Command::Recover(operands_of(alloc, operands)?)),
         Utility::Import => Ok(Command::Import(operands_of(alloc, operands)?)),
         Utility::Batch => Ok(Command::Batch),
+        Utility::Group => Ok(Command::Group),
         Utility::Soak => soak_of(line),
     }
 }

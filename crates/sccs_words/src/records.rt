@@ -5,13 +5,14 @@ ghost use Rattle.sccs_sid.specs.Spec.{IsSpec};
 ghost use Rattle.sccs_sid.specs.SidLists.{IsRange};
 ghost use Rattle.sccs_sid.specs.Moment.{IsMoment};
 ghost use Rattle.sccs_words.specs.ValidValues.{AreGetValues, ArePrsValues};
-ghost use Rattle.sccs_words.specs.Records.{value_in as value_in_spec, value_of as value_spec, values_of as values_spec, mrs_of, option_lines, given_of as given_spec, comment_of as comment_spec, get_words as get_spec, delta_line_words as delta_spec, unget_words as unget_spec, cdc_words as cdc_spec, prs_words as prs_spec, admin_words as admin_spec, val_words as val_spec, operand_words as operands_spec, is_from_input as is_from_input_spec, is_option_fault, usage_bit as bit_spec};
+ghost use Rattle.sccs_words.specs.Records.{value_in as value_in_spec, value_of as value_spec, values_of as values_spec, mrs_of, option_lines, given_of as given_spec, comment_of as comment_spec, get_words as get_spec, summary_of as summary_spec, delta_line_words as delta_spec, unget_words as unget_spec, cdc_words as cdc_spec, prs_words as prs_spec, admin_words as admin_spec, val_words as val_spec, operand_words as operands_spec, is_from_input as is_from_input_spec, is_option_fault, usage_bit as bit_spec};
 ghost use Rattle.sccs_words.specs.Values.{sid_value as sid_spec, spec_value as spec_spec, moment_value as moment_spec, list_value as list_spec, release_value as release_spec, name_value};
 ghost use Rattle.sccs_words.specs.Scanned.{command_line};
 
 use crate::command_lines::CommandLine;
 use crate::commands::{
-    AdminWords, CdcWords, DeltaWords, GetWords, Given, Operands, PrsWords, UngetWords, ValWords,
+    AdminWords, CdcWords, DeltaWords, GetWords, Given, Operands, PrsWords, Summary, UngetWords,
+    ValWords,
 };
 use crate::judging::{has, is_dash, operands_fault, uses_fault};
 use crate::scanning::{OptionArgument, Use};
@@ -177,6 +178,19 @@ fn comment_of(alloc: Global, uses: &[Use]) -> Result<Option<Text>, Memory>
     Ok(Some(lines))
 }
 
+// where the summary goes; the two options exclude each other
+fn summary_at(uses: &[Use]) -> Summary
+    ensures { result ≡ summary_spec uses.now }
+{
+    if has(uses, b'l') {
+        return Summary::File;
+    }
+    if has(uses, b'L') {
+        return Summary::Out;
+    }
+    Summary::No
+}
+
 pub fn get_words(alloc: Global, uses: &[Use]) -> Result<GetWords, Memory>
     ensures value { IfOk result (λ r. r ≡ get_spec uses.now) }
     ensures valid { IfOk result AreGetValues }
@@ -195,6 +209,7 @@ pub fn get_words(alloc: Global, uses: &[Use]) -> Result<GetWords, Memory>
         silent: has(uses, b's'),
         spec: spec_at(uses, b'r'),
         top: has(uses, b't'),
+        summary: summary_at(uses),
     })
 }
 

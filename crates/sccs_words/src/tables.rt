@@ -73,6 +73,7 @@ pub enum Utility {
     Recover,
     Import,
     Batch,
+    Group,
     Soak,
 }
 
@@ -91,13 +92,15 @@ const ADMIN: [OptionSpec; 12] = [
     OptionSpec::Plain(b'z'),
 ];
 
-const GET: [OptionSpec; 13] = [
+const GET: [OptionSpec; 15] = [
     OptionSpec::Plain(b'b'),
     OptionSpec::Valued(b'c', Form::Cutoff),
     OptionSpec::Plain(b'e'),
     OptionSpec::Plain(b'g'),
     OptionSpec::Valued(b'i', Form::List),
     OptionSpec::Plain(b'k'),
+    OptionSpec::Plain(b'l'),
+    OptionSpec::Plain(b'L'),
     OptionSpec::Plain(b'm'),
     OptionSpec::Plain(b'n'),
     OptionSpec::Plain(b'p'),
@@ -159,7 +162,11 @@ const ADMIN_EXCLUSIONS: [Exclusion; 9] = [
     Exclusion::Bare(b't', b'i'),
 ];
 
-const GET_EXCLUSIONS: [Exclusion; 1] = [Exclusion::Both(b'e', b'c')];
+const GET_EXCLUSIONS: [Exclusion; 3] = [
+    Exclusion::Both(b'e', b'c'),
+    Exclusion::Both(b'l', b'L'),
+    Exclusion::Both(b'L', b'p'),
+];
 
 const PRS_EXCLUSIONS: [Exclusion; 2] = [Exclusion::Both(b'e', b'l'), Exclusion::Both(b'r', b'c')];
 
@@ -227,7 +234,7 @@ impl Utility {
             Utility::Admin => OperandRule::OneWith(b'i'),
             Utility::Delta => OperandRule::Sfile,
             Utility::Import => OperandRule::Named,
-            Utility::Batch => OperandRule::Nothing,
+            Utility::Batch | Utility::Group => OperandRule::Nothing,
             Utility::Soak => OperandRule::Number,
             _ => OperandRule::Many,
         }

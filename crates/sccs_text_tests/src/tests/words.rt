@@ -22,6 +22,7 @@ fn utility_number(command: &Command) -> u64 {
         Command::Tell(_) => 14,
         Command::Check(_) => 15,
         Command::Cdc(_, _) => 16,
+        Command::Group => 17,
     }
 }
 
@@ -45,7 +46,7 @@ fn kind_and_number(read: Result<Command, WordsFault>) -> (u8, u64) {
 
 #[test]
 fn commands_and_faults(rt: HostRuntime) -> Result<(), Fail> {
-    let examples: [(&[u8], u8, u64); 22] = [
+    let examples: [(&[u8], u8, u64); 25] = [
         (b"admin -n -fb -ymade s.a", 0, 1),
         (b"get -e -r1.2 -i1.3 s.a", 0, 2),
         (b"delta -s -yfirst s.a", 0, 3),
@@ -58,6 +59,9 @@ fn commands_and_faults(rt: HostRuntime) -> Result<(), Fail> {
         (b"recover s.a", 0, 10),
         (b"import s.a s.b", 0, 11),
         (b"batch", 0, 12),
+        (b"group", 0, 17),
+        (b"get -l -g s.a", 0, 2),
+        (b"get -L -p s.a", 5, 3),
         (b"soak 2000", 0, 13),
         (b"tell s.a s.b", 0, 14),
         (b"check s.a", 0, 15),

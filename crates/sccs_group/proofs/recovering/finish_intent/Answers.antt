@@ -4,6 +4,7 @@ use Rattle.sccs_moments.specs.Unlocked.{KeepsOthers}
 use Rattle.sccs_group.specs.Halfway.{IsHalfway, intended, is_own_of_group}
 use Rattle.sccs_group.proofs.Intended.{halfway_still, others_still}
 use Rattle.sccs_disk.specs.Told.{Told, seen}
+use Rattle.sccs_group.specs.Recovering.{IsWellFormed}
 use Rattle.sccs_group.specs.Finishing.{Always, CompletesBy, FinishesBy}
 use Rattle.sccs_group.proofs.Found.{answer_told, bad_told, told_found}
 use Rattle.sccs_group.proofs.Runs.{by_same}
@@ -56,3 +57,6 @@ returns-in-Ok-clause-others g c =
 
 pub returns-clause-others : goal.returns-clause-others
 returns-clause-others g c = others_still _ _ c.read_members.ensures.same
+
+pub returns-in-Ok-finish_found-clause-form : goal.returns-in-Ok-finish_found-clause-form
+returns-in-Ok-finish_found-clause-form g c = subst (λ k. IfSome (seen (g.D.Disk.told c.args.disk.now)) (λ (v : View). IsWellFormed (v k))) c.requires c.in-Ok.ensures.form

@@ -1,7 +1,8 @@
-use Rattle.std.proofs.Common.{◌∙◌, sym}
-use Rattle.sccs_operands.proofs.Listings.{kept_more}
+use Rattle.std.proofs.Common.{ℕ, List, ◌&&◌, ◌||◌, ap, sym, ◌∙◌}
+use Rattle.std.specs.List.{list_any}
+use Rattle.std.specs.Str.{bytes_eq}
+use Rattle.sccs_name_sets.specs.NameSets.{names_in}
 use Rattle.sccs_operands.proofs.listing.keep.Goals as goal
 
 pub returns : goal.returns
-returns c = λ n.
-    kept_more n c.args.name.now c.in_ok-bytes.bytes c.args.kept.now c.insert.new.self _ (c.in_ok-bytes.ensures.items_if_clones_equal (λ x y same. same) ∙ c.bytes.ensures.value) c.in_ok-insert.ensures.keys (sym c.is_sfile.ensures.value ∙ c.if-not-is_sfile.false)
+returns c = λ n. c.in_ok-insert_name.ensures.more n ∙ (ap (λ (l : List ℕ). bytes_eq n l || list_any (bytes_eq n) (names_in c.args.kept.now)) c.bytes.ensures.value ∙ ap (λ b. b && bytes_eq n c.args.name.now || list_any (bytes_eq n) (names_in c.args.kept.now)) (sym (sym c.is_sfile.ensures.value ∙ c.if-not-is_sfile.false)))

@@ -11,7 +11,7 @@ use Rattle.sccs_steps.specs.declared.faults.Fault.TheVariants as ends
 use Rattle.sccs_top.specs.Asked.{GivesAsked, asked_of}
 use Rattle.sccs_top.specs.Messages.{usage_line}
 use Rattle.sccs_top.specs.declared.answers.Answer.TheVariants as answers
-use Rattle.sccs_top.proofs.RunLaws.{asked_runs, asked_said, input_left, never_begun, never_recovers, never_speaks, never_stops, said_causes, same_unlocked, unsaid_causes, usage_recovers, words_are_silent, words_end, words_read, words_recover, words_speak, words_stop, words_unlocked}
+use Rattle.sccs_top.proofs.RunLaws.{asked_runs, asked_said, input_left, never_begun, never_recovers, never_speaks, never_stops, said_causes, same_unlocked, unsaid_causes, usage_recovers, words_are_silent, words_end, words_read, words_recovered, words_speak, words_stop, words_unlocked}
 use Rattle.sccs_top.specs.Runs.{caller}
 use Rattle.sccs_top.proofs.commands.run.Goals as goal
 
@@ -81,27 +81,27 @@ returns-in-Err-Memory-clause-unlocked g c =
 
 pub returns-in-Ok-clause-recovers : goal.returns-in-Ok-clause-recovers
 returns-in-Ok-clause-recovers g c =
-    words_recover (caller c.args.stamp.now c.args.place.now) (asked_of c.args.words.now) c.in-Ok.asked c.ended.result c.run_asked.result (setting_of g.I.Source g.O.Sink g.E.Sink g.D.Disk c.args.input.now c.args.out.now c.args.err.now c.args.disk.now) (setting_of g.I.Source g.O.Sink g.E.Sink g.D.Disk c.run_asked.new.input c.run_asked.new.out c.run_asked.new.err c.run_asked.new.disk) c.in-Ok.ensures.value c.ended.ensures c.run_asked.ensures.single
+    words_recovered (caller c.args.stamp.now c.args.place.now) (asked_of c.args.words.now) c.in-Ok.asked c.ended.result c.run_asked.result (setting_of g.I.Source g.O.Sink g.E.Sink g.D.Disk c.args.input.now c.args.out.now c.args.err.now c.args.disk.now) (setting_of g.I.Source g.O.Sink g.E.Sink g.D.Disk c.run_asked.new.input c.run_asked.new.out c.run_asked.new.err c.run_asked.new.disk) c.in-Ok.ensures.value c.ended.ensures c.run_asked.ensures.leaves
 
 pub returns-in-Ok-write_usage-clause-recovers : goal.returns-in-Ok-write_usage-clause-recovers
 returns-in-Ok-write_usage-clause-recovers g c =
-    usage_recovers (caller c.args.stamp.now c.args.place.now) (asked_of c.args.words.now) c.in-Err-Usage.usage (answers.Finished 2) (g.I.Source.left c.args.input.now) (g.D.Disk.told c.args.disk.now) (g.D.Disk.told c.args.disk.now) (subst (λ (fault : WordsFault). GivesAsked (Err fault) (asked_of c.args.words.now)) c.in-Err-Usage.field-0-is c.in-Err-Usage.ensures.value)
+    usage_recovers (asked_of c.args.words.now) c.in-Err-Usage.usage (answers.Finished 2) (g.D.Disk.told c.args.disk.now) (g.D.Disk.told c.args.disk.now) (subst (λ (fault : WordsFault). GivesAsked (Err fault) (asked_of c.args.words.now)) c.in-Err-Usage.field-0-is c.in-Err-Usage.ensures.value)
 
 pub returns-in-Err-clause-recovers : goal.returns-in-Err-clause-recovers
 returns-in-Err-clause-recovers g c =
-    usage_recovers (caller c.args.stamp.now c.args.place.now) (asked_of c.args.words.now) c.in-Err-Usage.usage answers.WriteFault (g.I.Source.left c.args.input.now) (g.D.Disk.told c.args.disk.now) (g.D.Disk.told c.args.disk.now) (subst (λ (fault : WordsFault). GivesAsked (Err fault) (asked_of c.args.words.now)) c.in-Err-Usage.field-0-is c.in-Err-Usage.ensures.value)
+    usage_recovers (asked_of c.args.words.now) c.in-Err-Usage.usage answers.WriteFault (g.D.Disk.told c.args.disk.now) (g.D.Disk.told c.args.disk.now) (subst (λ (fault : WordsFault). GivesAsked (Err fault) (asked_of c.args.words.now)) c.in-Err-Usage.field-0-is c.in-Err-Usage.ensures.value)
 
 pub returns-in-Err-Memory-clause-recovers : goal.returns-in-Err-Memory-clause-recovers
 returns-in-Err-Memory-clause-recovers g c =
-    never_recovers (caller c.args.stamp.now c.args.place.now) (asked_of c.args.words.now) (g.I.Source.left c.args.input.now) (g.D.Disk.told c.args.disk.now)
+    never_recovers (asked_of c.args.words.now) (g.D.Disk.told c.args.disk.now)
 
 pub returns-in-Ok-clause-reads : goal.returns-in-Ok-clause-reads
 returns-in-Ok-clause-reads g c =
-    words_read (caller c.args.stamp.now c.args.place.now) (asked_of c.args.words.now) c.in-Ok.asked c.run_asked.result (setting_of g.I.Source g.O.Sink g.E.Sink g.D.Disk c.args.input.now c.args.out.now c.args.err.now c.args.disk.now) (setting_of g.I.Source g.O.Sink g.E.Sink g.D.Disk c.run_asked.new.input c.run_asked.new.out c.run_asked.new.err c.run_asked.new.disk) c.in-Ok.ensures.value c.run_asked.ensures.single
+    words_read (caller c.args.stamp.now c.args.place.now) (asked_of c.args.words.now) c.in-Ok.asked c.run_asked.result (setting_of g.I.Source g.O.Sink g.E.Sink g.D.Disk c.args.input.now c.args.out.now c.args.err.now c.args.disk.now) (setting_of g.I.Source g.O.Sink g.E.Sink g.D.Disk c.run_asked.new.input c.run_asked.new.out c.run_asked.new.err c.run_asked.new.disk) c.in-Ok.ensures.value c.run_asked.ensures.leaves
 
 pub returns-in-Ok-clause-silent : goal.returns-in-Ok-clause-silent
 returns-in-Ok-clause-silent g c =
-    words_are_silent (caller c.args.stamp.now c.args.place.now) (asked_of c.args.words.now) c.in-Ok.asked c.run_asked.result (setting_of g.I.Source g.O.Sink g.E.Sink g.D.Disk c.args.input.now c.args.out.now c.args.err.now c.args.disk.now) (setting_of g.I.Source g.O.Sink g.E.Sink g.D.Disk c.run_asked.new.input c.run_asked.new.out c.run_asked.new.err c.run_asked.new.disk) c.in-Ok.ensures.value c.run_asked.ensures.single
+    words_are_silent (caller c.args.stamp.now c.args.place.now) (asked_of c.args.words.now) c.in-Ok.asked c.run_asked.result (setting_of g.I.Source g.O.Sink g.E.Sink g.D.Disk c.args.input.now c.args.out.now c.args.err.now c.args.disk.now) (setting_of g.I.Source g.O.Sink g.E.Sink g.D.Disk c.run_asked.new.input c.run_asked.new.out c.run_asked.new.err c.run_asked.new.disk) c.in-Ok.ensures.value c.run_asked.ensures.leaves
 
 pub returns-in-Ok-clause-ignores : goal.returns-in-Ok-clause-ignores
 returns-in-Ok-clause-ignores g c =

@@ -4,7 +4,7 @@ use Rattle.sccs_courses.specs.QuietSettings.{quiet}
 use Rattle.sccs_top.specs.Runs.{caller}
 use Rattle.sccs_top.specs.declared.commands.CommandList.{CommandList}
 use Rattle.sccs_top.specs.declared.commands.CommandList.TheVariants as list
-use Rattle.sccs_top.proofs.RunLaws.{command_runs, run_by, soak_runs}
+use Rattle.sccs_top.proofs.RunLaws.{alone_input, run_by, soak_runs}
 use Rattle.sccs_top.proofs.commands.run_meant.Goals as goal
 
 pub returns-in-Some-Batch-clause-run : goal.returns-in-Some-Batch-clause-run
@@ -20,5 +20,8 @@ returns-in-Some-Soak-clause-run g c =
 
 pub returns-in-None-clause-run : goal.returns-in-None-clause-run
 returns-in-None-clause-run g c =
-    run_by None (caller c.args.stamp.now c.args.place.now) c.args.command.now c.run_lent.result (setting_of g.I.Source g.O.Sink g.E.Sink g.D.Disk c.args.input.now c.args.out.now c.args.err.now c.args.disk.now) (setting_of g.I.Source g.O.Sink g.E.Sink g.D.Disk c.run_lent.new.input c.run_lent.new.out c.run_lent.new.err c.run_lent.new.disk) (sym c.list_in.ensures ∙ c.in-None.is)
-    (command_runs (caller c.args.stamp.now c.args.place.now) c.args.command.now c.run_lent.result (setting_of g.I.Source g.O.Sink g.E.Sink g.D.Disk c.args.input.now c.args.out.now c.args.err.now c.args.disk.now) (setting_of g.I.Source g.O.Sink g.E.Sink g.D.Disk c.run_lent.new.input c.run_lent.new.out c.run_lent.new.err c.run_lent.new.disk) c.run_lent.ensures)
+    run_by None (caller c.args.stamp.now c.args.place.now) c.args.command.now c.run_alone.result (setting_of g.I.Source g.O.Sink g.E.Sink g.D.Disk c.args.input.now c.args.out.now c.args.err.now c.args.disk.now) (setting_of g.I.Source g.O.Sink g.E.Sink g.D.Disk c.run_alone.new.input c.run_alone.new.out c.run_alone.new.err c.run_alone.new.disk) (sym c.list_in.ensures ∙ c.in-None.is) c.run_alone.ensures.run
+
+pub returns-in-None-clause-input : goal.returns-in-None-clause-input
+returns-in-None-clause-input g c =
+    alone_input (caller c.args.stamp.now c.args.place.now) c.args.command.now c.run_alone.result (setting_of g.I.Source g.O.Sink g.E.Sink g.D.Disk c.args.input.now c.args.out.now c.args.err.now c.args.disk.now) (setting_of g.I.Source g.O.Sink g.E.Sink g.D.Disk c.run_alone.new.input c.run_alone.new.out c.run_alone.new.err c.run_alone.new.disk) (sym c.list_in.ensures ∙ c.in-None.is) c.run_alone.ensures.leaves

@@ -53,11 +53,11 @@ prepare-requires-clause-locked g c = made_there (z_file c.args.name.now) empty_f
 
 pub returns-in-Err-Locked-clause-moments : goal.returns-in-Err-Locked-clause-moments
 returns-in-Err-Locked-clause-moments g c = λ m past i is heard calm safe.
-    at_locked (g.C.Change.change c.args.change.now) c.args.name.now _ _ _ _ _ m past i (c.lock.ensures.same (c.in-Err-Locked.is ∙ ap Err c.in-Err-Locked.field-0-is)) (c.lock.ensures.locked (c.in-Err-Locked.is ∙ ap Err c.in-Err-Locked.field-0-is)) is heard calm safe.0
+    at_locked (g.C.Change.change c.args.change.now) c.args.name.now _ _ _ _ _ m past i (c.lock.ensures.same (c.in-Err-Locked.is ∙ ap Err c.in-Err-Locked.field-0-is)) (c.lock.ensures.locked (c.in-Err-Locked.is ∙ ap Err c.in-Err-Locked.field-0-is)) is heard calm safe
 
 pub returns-in-Err-Failed-clause-moments : goal.returns-in-Err-Failed-clause-moments
 returns-in-Err-Failed-clause-moments g c = λ m past i is heard calm safe.
-    at_failed (g.C.Change.change c.args.change.now) c.args.name.now _ _ _ _ _ m past i c.requires c.in-Err-Failed.ensures.view_err c.lock.ensures.touches (c.lock.ensures.held (c.in-Err-Failed.is ∙ ap Err c.in-Err-Failed.field-0-is)) is heard calm (safe.0 refl).sound
+    at_failed (g.C.Change.change c.args.change.now) c.args.name.now _ _ _ _ _ m past i c.requires c.in-Err-Failed.ensures.view_err c.lock.ensures.touches (c.lock.ensures.held (c.in-Err-Failed.is ∙ ap Err c.in-Err-Failed.field-0-is)) is heard calm (safe refl).sound
 
 pub returns-in-Err-Memory-clause-moments : goal.returns-in-Err-Memory-clause-moments
 returns-in-Err-Memory-clause-moments g c = λ m past i is heard calm safe.
@@ -66,12 +66,12 @@ returns-in-Err-Memory-clause-moments g c = λ m past i is heard calm safe.
 pub returns-in-Ok-prepare-clause-moments : goal.returns-in-Ok-prepare-clause-moments
 returns-in-Ok-prepare-clause-moments g c = λ m past i is heard calm safe.
     at_finished (g.C.Change.change c.args.change.now) c.in-Ok-prepare.prepared c.finish.result c.prepare.result c.args.name.now _ _ (g.D.Disk.told c.lock.new.disk) (g.D.Disk.told c.prepare.new.disk) _ _ _ _ (g.E.Sink.given c.args.err.now) _ m past i c.requires c.in-Ok-prepare.is c.in-Ok.ensures.view c.in-Ok.ensures.free (c.prepare.ensures.prepares (g.E.Sink.given c.args.err.now)) c.finish.ensures.finishes c.finish.ensures.commits
-    c.lock.ensures.touches c.prepare.ensures.touches c.in-Ok-prepare.ensures.firm c.in-Ok-prepare.ensures.entries is heard calm (safe.0 refl)
+    c.lock.ensures.touches c.prepare.ensures.touches c.in-Ok-prepare.ensures.firm c.in-Ok-prepare.ensures.entries is heard calm (safe refl)
 
 pub returns-in-Err-clause-moments : goal.returns-in-Err-clause-moments
 returns-in-Err-clause-moments g c = λ m past i is heard calm safe.
     at_given_up (g.C.Change.change c.args.change.now) c.in-Err.fault c.give_up.result c.prepare.result c.args.name.now _ _ (g.D.Disk.told c.lock.new.disk) (g.D.Disk.told c.prepare.new.disk) _ _ _ (g.E.Sink.given c.args.err.now) m past i c.requires c.in-Err.is c.in-Ok.ensures.view c.in-Ok.ensures.free (c.prepare.ensures.prepares (g.E.Sink.given c.args.err.now)) (c.give_up.ensures.gives_up (g.O.Sink.given c.prepare.new.out) (g.E.Sink.given c.args.err.now))
-    c.lock.ensures.touches c.prepare.ensures.touches c.give_up.ensures.touches is heard calm (safe.0 refl)
+    c.lock.ensures.touches c.prepare.ensures.touches c.give_up.ensures.touches is heard calm (safe refl)
 
 pub returns-in-Err-Locked-clause-unlocked : goal.returns-in-Err-Locked-clause-unlocked
 returns-in-Err-Locked-clause-unlocked g c = λ locks plain. unlocked_same _ _ (c.lock.ensures.same (c.in-Err-Locked.is ∙ ap Err c.in-Err-Locked.field-0-is))
@@ -83,10 +83,10 @@ pub returns-in-Err-Memory-clause-unlocked : goal.returns-in-Err-Memory-clause-un
 returns-in-Err-Memory-clause-unlocked g c = λ locks plain. unlocked_failed c.args.name.now _ _ c.lock.ensures.touches
 
 pub returns-in-Ok-prepare-clause-unlocked : goal.returns-in-Ok-prepare-clause-unlocked
-returns-in-Ok-prepare-clause-unlocked g c = λ locks plain. unlocked_finished c.args.name.now _ _ _ _ c.requires (plain refl) c.in-Ok.ensures.free c.lock.ensures.touches c.prepare.ensures.touches c.finish.ensures.others
+returns-in-Ok-prepare-clause-unlocked g c = λ locks plain. unlocked_finished (g.C.Change.change c.args.change.now).early c.args.name.now _ _ _ _ c.requires (plain refl) c.in-Ok.ensures.free c.lock.ensures.touches c.prepare.ensures.touches c.finish.ensures.others
 
 pub returns-in-Err-clause-unlocked : goal.returns-in-Err-clause-unlocked
-returns-in-Err-clause-unlocked g c = λ locks plain. unlocked_given_up c.args.name.now _ _ _ _ c.lock.ensures.touches c.prepare.ensures.touches c.give_up.ensures.touches
+returns-in-Err-clause-unlocked g c = λ locks plain. unlocked_given_up (g.C.Change.change c.args.change.now).early c.args.name.now _ _ _ _ c.lock.ensures.touches c.prepare.ensures.touches c.give_up.ensures.touches
 
 pub returns-in-Err-Locked-clause-others : goal.returns-in-Err-Locked-clause-others
 returns-in-Err-Locked-clause-others g c = others_refused (locking (g.C.Change.change c.args.change.now)) c.args.name.now _ _ (c.lock.ensures.same (c.in-Err-Locked.is ∙ ap Err c.in-Err-Locked.field-0-is))
@@ -99,7 +99,7 @@ pub returns-in-Err-Memory-clause-others : goal.returns-in-Err-Memory-clause-othe
 returns-in-Err-Memory-clause-others g c = others_refused (locking (g.C.Change.change c.args.change.now)) c.args.name.now _ _ (c.lock.ensures.memory (c.in-Err-Memory.is ∙ ap Err c.in-Err-Memory.field-0-is))
 
 pub returns-in-Ok-prepare-clause-others : goal.returns-in-Ok-prepare-clause-others
-returns-in-Ok-prepare-clause-others g c = others_finished (locking (g.C.Change.change c.args.change.now)) c.args.name.now _ _ _ _ c.in-Ok.ensures.free c.lock.ensures.touches c.prepare.ensures.touches c.finish.ensures.others
+returns-in-Ok-prepare-clause-others g c = others_finished (g.C.Change.change c.args.change.now).early (locking (g.C.Change.change c.args.change.now)) c.args.name.now _ _ _ _ c.in-Ok.ensures.free c.lock.ensures.touches c.prepare.ensures.touches c.finish.ensures.others
 
 pub returns-in-Err-clause-others : goal.returns-in-Err-clause-others
-returns-in-Err-clause-others g c = others_given_up (locking (g.C.Change.change c.args.change.now)) c.args.name.now _ _ _ _ c.in-Ok.ensures.free c.lock.ensures.touches c.prepare.ensures.touches c.give_up.ensures.touches
+returns-in-Err-clause-others g c = others_given_up (g.C.Change.change c.args.change.now).early (locking (g.C.Change.change c.args.change.now)) c.args.name.now _ _ _ _ c.in-Ok.ensures.free c.lock.ensures.touches c.prepare.ensures.touches c.give_up.ensures.touches

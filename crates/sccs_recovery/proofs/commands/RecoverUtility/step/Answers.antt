@@ -1,55 +1,55 @@
 use Rattle.sccs_recovery.specs.Commands.{is_locked}
 use Rattle.sccs_recovery.specs.RecoverStep.{found_text}
-use Rattle.sccs_recovery.proofs.RecoverMoments.{fault_moments, fault_recovers, made_moments, made_recovers}
+use Rattle.sccs_recovery.proofs.RecoverMoments.{fault_moments, fault_recovers, made_moments, made_recovers, pending_named}
 use Rattle.sccs_recovery.proofs.RecoveryEnds.{fault_causes, fault_speaks, fault_steps, faults_of, is_sfile, made_steps, say_causes, say_speaks}
 use Rattle.sccs_recovery.proofs.commands.RecoverUtility.step.Goals as goal
 
-pub recover-requires : goal.recover-requires
-recover-requires g c = is_sfile c.args.name.now c.requires
+pub recover_free-requires : goal.recover_free-requires
+recover_free-requires g c = is_sfile c.args.name.now c.requires
 
 pub returns-in-Ok-clause-step : goal.returns-in-Ok-clause-step
 returns-in-Ok-clause-step g c =
-    made_steps c.args.name.now c.in-Ok.found c.say.result (g.D.Disk.told c.args.disk.now) (g.D.Disk.told c.recover.new.disk) _ _ _ _ (is_sfile c.args.name.now c.requires) c.in-Ok.ensures.ends.view c.in-Ok.ensures.clean c.in-Ok.ensures.checks c.say.ensures.says
+    made_steps c.args.name.now c.in-Ok.found c.say.result (g.D.Disk.told c.args.disk.now) (g.D.Disk.told c.recover_free.new.disk) _ _ _ _ (is_sfile c.args.name.now c.requires) c.in-Ok.ensures.ends.view c.in-Ok.ensures.clean c.in-Ok.ensures.checks c.say.ensures.says
 
 pub returns-in-Ok-clause-speaks : goal.returns-in-Ok-clause-speaks
 returns-in-Ok-clause-speaks g c = say_speaks c.args.name.now (found_text c.args.name.now (is_locked c.in-Ok.found)) c.say.result _ _ _ c.say.ensures.says
 
 pub returns-in-Ok-clause-causes : goal.returns-in-Ok-clause-causes
-returns-in-Ok-clause-causes g c = say_causes c.say.result _ _ _ _ _ _ c.recover.ensures.ends.later c.say.ensures.causes
+returns-in-Ok-clause-causes g c = say_causes c.say.result _ _ _ _ _ _ c.recover_free.ensures.ends.later c.say.ensures.causes
 
 pub returns-in-Err-clause-step : goal.returns-in-Err-clause-step
 returns-in-Err-clause-step g c =
-    fault_steps c.args.name.now c.in-Err.fault (g.D.Disk.told c.args.disk.now) (g.D.Disk.told c.recover.new.disk) _ _ _ (is_sfile c.args.name.now c.requires)
-    (faults_of c.args.name.now c.in-Err.fault (g.D.Disk.told c.args.disk.now) (g.D.Disk.told c.recover.new.disk) _ _ c.in-Err.ensures.checks c.in-Err.ensures.ends)
+    fault_steps c.args.name.now c.in-Err.fault (g.D.Disk.told c.args.disk.now) (g.D.Disk.told c.recover_free.new.disk) _ _ _ (is_sfile c.args.name.now c.requires)
+    (faults_of c.args.name.now c.in-Err.fault (g.D.Disk.told c.args.disk.now) (g.D.Disk.told c.recover_free.new.disk) _ _ c.in-Err.ensures.checks c.in-Err.ensures.pending c.in-Err.ensures.ends)
 
 pub returns-in-Err-clause-speaks : goal.returns-in-Err-clause-speaks
 returns-in-Err-clause-speaks g c = fault_speaks c.in-Err.fault c.args.name.now _ c.in-Err.ensures.ends.within.checks
 
 pub returns-in-Err-clause-causes : goal.returns-in-Err-clause-causes
-returns-in-Err-clause-causes g c = fault_causes c.in-Err.fault _ _ _ _ _ c.recover.ensures.ends.later c.in-Err.ensures.ends.within c.in-Err.ensures.ends.cause
+returns-in-Err-clause-causes g c = fault_causes c.in-Err.fault _ _ _ _ _ c.recover_free.ensures.ends.later c.in-Err.ensures.ends.within c.in-Err.ensures.ends.cause
 
 pub returns-in-Ok-clause-moments : goal.returns-in-Ok-clause-moments
 returns-in-Ok-clause-moments g c =
-    made_moments c.args.name.now c.in-Ok.found c.say.result (g.D.Disk.told c.args.disk.now) (g.D.Disk.told c.recover.new.disk) (g.I.Source.left c.args._input.now) (g.O.Sink.given c.args.out.now) _ (g.E.Sink.given c.args._err.now) (is_sfile c.args.name.now c.requires) c.in-Ok.ensures.ends.view c.in-Ok.ensures.clean c.in-Ok.ensures.checks c.say.ensures.says
-    c.recover.ensures.ends.story c.in-Ok.ensures.ends.calm
+    made_moments c.args.name.now c.in-Ok.found c.say.result (g.D.Disk.told c.args.disk.now) (g.D.Disk.told c.recover_free.new.disk) (g.I.Source.left c.args._input.now) (g.O.Sink.given c.args.out.now) _ (g.E.Sink.given c.args._err.now) (is_sfile c.args.name.now c.requires) c.in-Ok.ensures.ends.view c.in-Ok.ensures.clean c.in-Ok.ensures.checks c.say.ensures.says
+    c.recover_free.ensures.ends.story c.in-Ok.ensures.ends.calm
 
 pub returns-in-Err-clause-moments : goal.returns-in-Err-clause-moments
 returns-in-Err-clause-moments g c =
-    fault_moments c.args.name.now c.in-Err.fault (g.D.Disk.told c.args.disk.now) (g.D.Disk.told c.recover.new.disk) (g.I.Source.left c.args._input.now) (g.O.Sink.given c.args.out.now) (g.E.Sink.given c.args._err.now) (is_sfile c.args.name.now c.requires)
-    (faults_of c.args.name.now c.in-Err.fault (g.D.Disk.told c.args.disk.now) (g.D.Disk.told c.recover.new.disk) _ _ c.in-Err.ensures.checks c.in-Err.ensures.ends)
-    c.recover.ensures.ends.story c.recover.ensures.ends.firm c.in-Err.ensures.ends.touches
+    fault_moments c.args.name.now c.in-Err.fault (g.D.Disk.told c.args.disk.now) (g.D.Disk.told c.recover_free.new.disk) (g.I.Source.left c.args._input.now) (g.O.Sink.given c.args.out.now) (g.E.Sink.given c.args._err.now) (is_sfile c.args.name.now c.requires)
+    (faults_of c.args.name.now c.in-Err.fault (g.D.Disk.told c.args.disk.now) (g.D.Disk.told c.recover_free.new.disk) _ _ c.in-Err.ensures.checks c.in-Err.ensures.pending c.in-Err.ensures.ends)
+    c.recover_free.ensures.ends.story c.recover_free.ensures.ends.firm c.in-Err.ensures.ends.touches
 
 pub returns-in-Ok-clause-recovers : goal.returns-in-Ok-clause-recovers
-returns-in-Ok-clause-recovers g c = λ never. made_recovers c.say.result (g.D.Disk.told c.args.disk.now) (g.D.Disk.told c.recover.new.disk) c.recover.ensures.ends.story c.recover.ensures.ends.firm c.in-Ok.ensures.ends.calm
+returns-in-Ok-clause-recovers g c = λ never. made_recovers c.say.result (g.D.Disk.told c.args.disk.now) (g.D.Disk.told c.recover_free.new.disk) c.recover_free.ensures.ends.story c.recover_free.ensures.ends.firm c.in-Ok.ensures.ends.calm
 
 pub returns-in-Err-clause-recovers : goal.returns-in-Err-clause-recovers
 returns-in-Err-clause-recovers g c = λ never.
-    fault_recovers c.in-Err.fault c.args.name.now (g.D.Disk.told c.args.disk.now) (g.D.Disk.told c.recover.new.disk) (is_sfile c.args.name.now c.requires)
-    (faults_of c.args.name.now c.in-Err.fault (g.D.Disk.told c.args.disk.now) (g.D.Disk.told c.recover.new.disk) _ _ c.in-Err.ensures.checks c.in-Err.ensures.ends)
-    c.recover.ensures.ends.story c.recover.ensures.ends.firm c.in-Err.ensures.ends.touches
+    fault_recovers c.in-Err.fault c.args.name.now (g.D.Disk.told c.args.disk.now) (g.D.Disk.told c.recover_free.new.disk) (is_sfile c.args.name.now c.requires)
+    (faults_of c.args.name.now c.in-Err.fault (g.D.Disk.told c.args.disk.now) (g.D.Disk.told c.recover_free.new.disk) _ _ c.in-Err.ensures.checks c.in-Err.ensures.pending c.in-Err.ensures.ends)
+    c.recover_free.ensures.ends.story c.recover_free.ensures.ends.firm c.in-Err.ensures.ends.touches
 
 pub returns-in-Ok-clause-others : goal.returns-in-Ok-clause-others
-returns-in-Ok-clause-others g c = (λ changes. c.recover.ensures.ends.others, λ changes locks. absurd (cc))
+returns-in-Ok-clause-others g c = (λ changes. c.recover_free.ensures.ends.others, λ changes. pending_named c.args.name.now (g.D.Disk.told c.args.disk.now) (g.D.Disk.told c.recover_free.new.disk) c.recover_free.ensures.pending)
 
 pub returns-in-Err-clause-others : goal.returns-in-Err-clause-others
-returns-in-Err-clause-others g c = (λ changes. c.recover.ensures.ends.others, λ changes locks. absurd (cc))
+returns-in-Err-clause-others g c = (λ changes. c.recover_free.ensures.ends.others, λ changes. pending_named c.args.name.now (g.D.Disk.told c.args.disk.now) (g.D.Disk.told c.recover_free.new.disk) c.recover_free.ensures.pending)

@@ -1,5 +1,5 @@
 use Rattle.std.proofs.Common.{ℕ}
-use Rattle.sccs_soak.proofs.DropLaws.{dropped_moments, dropped_speaks}
+use Rattle.sccs_soak.proofs.DropLaws.{dropped_moments, dropped_speaks, dropped_steps}
 use Rattle.sccs_soak.proofs.dropping.DroppingUtilityWithStatus.step.Goals as goal
 
 pub returns-clause-moments : goal.returns-clause-moments
@@ -11,3 +11,7 @@ returns-clause-speaks g c = dropped_speaks (λ (status : ℕ). status) c.args.na
 
 pub returns-clause-others : goal.returns-clause-others
 returns-clause-others g c = c.step.ensures.others
+
+pub returns-clause-step : goal.returns-clause-step
+returns-clause-step g c =
+    dropped_steps (λ (status : ℕ). status) c.args.name.now (g.U.UtilityWithStatus.action c.args.self.now.utility.now) c.step.result (g.I.Source.left c.args.input.now) _ _ (g.O.Sink.given c.args._out.now) (g.E.Sink.given c.args._err.now) c.step.ensures.step

@@ -1,0 +1,18 @@
+use Rattle.std.proofs.Common.{◌≡◌, Err, Result, subst, sym, ℕ}
+use Rattle.sccs_disk.specs.Causes.{DiskCauses}
+use Rattle.sccs_steps.specs.declared.faults.Fault.{Fault}
+use Rattle.sccs_steps.specs.declared.faults.Fault.TheVariants as ends
+use Rattle.sccs_finishing.specs.Ends.{FinishEnds}
+use Rattle.sccs_finishing.proofs.FinishEnding.{finish_causes, finish_ends}
+use Rattle.sccs_finishing.proofs.finishing.finish_disk.Goals as goal
+
+pub returns-clause-ends : goal.returns-clause-ends
+returns-clause-ends g c =
+    subst (λ (r : Result ℕ Fault). FinishEnds r (g.D.Disk.told c.args.disk.now) (g.D.Disk.told c.finish_group.new.disk)) (sym c.status_of.ensures)
+    (finish_ends c.finish_group.result (g.D.Disk.told c.args.disk.now) (g.D.Disk.told c.finish_group.new.disk) c.finish_group.ensures.done c.finish_group.ensures.view c.finish_group.ensures.form c.finish_group.ensures.bad c.finish_group.ensures.memory
+    c.finish_group.ensures.touches c.finish_group.ensures.story c.finish_group.ensures.halfway)
+
+pub returns-clause-causes : goal.returns-clause-causes
+returns-clause-causes g c =
+    subst (λ (r : Result ℕ Fault). DiskCauses (r ≡ Err ends.DiskFault) (g.D.Disk.faults c.args.disk.now) (g.D.Disk.faults c.finish_group.new.disk)) (sym c.status_of.ensures)
+    (finish_causes c.finish_group.result _ _ c.finish_group.ensures.causes)

@@ -1,0 +1,3 @@
+pub mod AnyDisk
+pub mod Ends
+pub mod FinishStep

@@ -1,0 +1,4 @@
+mod groups;
+mod names;
+mod rows;
+mod stops;

@@ -1,0 +1,5 @@
+pub mod GroupCourses
+mod GroupFiles
+mod GroupRuns
+mod GroupSteps
+mod GroupStops

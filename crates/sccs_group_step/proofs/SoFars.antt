@@ -1,0 +1,243 @@
+-- The entries of a group that are prepared so far.
+use Rattle.std.proofs.Common.{◌≡◌, ◌+◌, ℕ, zero, suc, true, false, List, [], ◌∷◌, ◌++◌, drop, take, map, Option, None, Some, IsSome, Ok, Err, refl, sym, ap, subst, ◌∙◌}
+use Rattle.std.proofs.lemmas.List.{map-append}
+use Rattle.std.proofs.lemmas.List.Folds.{list_any-append}
+use Rattle.std.specs.List.{AllByRecursion}
+use Rattle.std.specs.Str.{bytes_eq}
+use Rattle.sccs_base.specs.Name.{IsSfile, is_sfile_name, p_file, q_file, x_file, y_file}
+use Rattle.sccs_base.proofs.SameBytes.{bytes_eq_sym}
+use Rattle.sccs_sid.specs.declared.moments.Stamp.{Stamp}
+use Rattle.sccs_disk.specs.Files.{Content, View}
+use Rattle.sccs_disk.specs.Told.{Shows}
+use Rattle.sccs_files.specs.StepFiles.{Alike, Files, is_left, l_file}
+use Rattle.sccs_intents.specs.Intents.{intent_file}
+use Rattle.sccs_pfile.specs.Recovered.{recovered_pfile}
+use Rattle.sccs_steps.specs.StepLists.{NamedStep, named_step}
+use Rattle.sccs_store.specs.Commits.{Needs, Plan, chosen, files_after}
+use Rattle.sccs_store.specs.declared.new_files.NewFile.{NewFile}
+use Rattle.sccs_store.specs.declared.new_files.NewFile.TheVariants.{Keep, Replace, Remove}
+use Rattle.sccs_store.specs.Stops.{KeepsEntries, OnChange}
+use Rattle.sccs_moments.proofs.FileNames.{both_false, left_false, right_false}
+use Rattle.sccs_moments.proofs.Recovering.{pair_same}
+use Rattle.sccs_moments.proofs.Untouched.{sound_kept}
+use Rattle.sccs_transactions.specs.Changes.{AreTakenOrGone, IsReady, IsTakenOrGone, plan_of}
+use Rattle.sccs_transactions.specs.declared.prepared.Prepared.{Prepared}
+use Rattle.sccs_group_words.specs.declared.entries.GroupEntry.{GroupEntry}
+use Rattle.sccs_group_step.specs.GroupStep.{EntrySteps, entry_outcome, entry_steps, names_of}
+use Rattle.sccs_group_step.specs.Preparing.{AreDifferent, ArePlain, Between, IsHeldEntry, IsPlainName, IsPreparedEntry, PreparesAll, effect_by, is_among, is_any_left, made_names, step_of}
+use Rattle.sccs_group_step.specs.declared.entries.PreparedEntry.{PreparedEntry}
+use Rattle.sccs_group_step.proofs.Apart.{SameFiles, outside_any, outside_one, same_files, same_look}
+use Rattle.sccs_group_step.proofs.StepsAhead.{accepted_next, put_all, same_outcome}
+
+-- ---- names at a place
+
+among_at : (es : List GroupEntry) (i : ℕ) (e : GroupEntry) (rest : List GroupEntry) (n : List ℕ) → is_among (names_of es) n ≡ false → drop i es ≡ e ∷ rest → bytes_eq e.name n ≡ false
+among_at [] zero e rest n apart is = absurd (cc)
+among_at [] (suc i) e rest n apart is = absurd (cc)
+among_at (a ∷ es) zero e rest n apart is = subst (λ (l : List GroupEntry). is_among (names_of l) n ≡ false → bytes_eq e.name n ≡ false) (sym is) (λ h. left_false _ _ h) apart
+among_at (a ∷ es) (suc i) e rest n apart is = among_at es i e rest n (right_false _ _ apart) is
+
+-- the name at a place is none of those before and behind it
+pub different_at : (es : List GroupEntry) (i : ℕ) (e : GroupEntry) (rest : List GroupEntry) → AreDifferent (names_of es) → drop i es ≡ e ∷ rest → (is_among (names_of (take i es)) e.name ≡ false) × (is_among (names_of rest) e.name ≡ false)
+different_at [] zero e rest all is = absurd (cc)
+different_at [] (suc i) e rest all is = absurd (cc)
+different_at (a ∷ es) zero e rest all is = (refl, (subst (λ (l : List GroupEntry). AreDifferent (names_of l)) is all).0)
+different_at (a ∷ es) (suc i) e rest all is =
+    let later = different_at es i e rest all.1 is in
+    (both_false _ _ (bytes_eq_sym a.name e.name ∙ among_at es i e rest a.name all.0 is) later.0, later.1)
+
+pub plain_at : (es : List GroupEntry) (i : ℕ) (e : GroupEntry) (rest : List GroupEntry) → ArePlain (names_of es) → drop i es ≡ e ∷ rest → IsPlainName e.name × ArePlain (names_of rest) × ArePlain (names_of (take i es))
+plain_at [] zero e rest all is = absurd (cc)
+plain_at [] (suc i) e rest all is = absurd (cc)
+plain_at (a ∷ es) zero e rest all is =
+    let now = subst (λ (l : List GroupEntry). ArePlain (names_of l)) is all in
+    (now.0, now.1, tt)
+plain_at (a ∷ es) (suc i) e rest all is =
+    let later = plain_at es i e rest all.1 is in
+    (later.0, later.1, (all.0, later.2))
+
+-- ---- what is prepared stays so
+
+needs_kept : (new : NewFile) (from to : List ℕ) (v w : View) → w from ≡ v from → w to ≡ v to → Needs new from to (Shows v) → Needs new from to (Shows w)
+needs_kept Keep from to v w a b needs = tt
+needs_kept Replace from to v w a b needs = subst (λ (o : Option Content). IsSome o) (sym a) needs
+needs_kept Remove from to v w a b needs = subst (λ (o : Option Content). IsSome o) (sym b) needs
+
+ready_kept : (n : List ℕ) (p : Prepared) (v w : View) → SameFiles n v w → IsReady n p (Shows v) → IsReady n p (Shows w)
+ready_kept n p v w same ready = record {
+  z = subst (λ (o : Option Content). IsSome o) (sym same.z) ready.z;
+  s = needs_kept (plan_of p).s (x_file n) n v w same.x same.s ready.s;
+  p_state = needs_kept (plan_of p).p (q_file n) (p_file n) v w same.q same.p ready.p_state;
+  g = needs_kept (plan_of p).g (y_file n) (drop 2 n) v w same.y same.g ready.g;
+}
+
+taken_kept : (n : List ℕ) (c : Plan) (u v w : View) → SameFiles n v w → AreTakenOrGone n c u v → AreTakenOrGone n c u w
+taken_kept n c u v w same taken = record {
+  x = subst (λ (o : Option Content). IsTakenOrGone c.s (u (x_file n)) o) (sym same.x) taken.x;
+  q = subst (λ (o : Option Content). IsTakenOrGone c.p (u (q_file n)) o) (sym same.q) taken.q;
+  y = subst (λ (o : Option Content). IsTakenOrGone c.g (u (y_file n)) o) (sym same.y) taken.y;
+}
+
+taken_from : (n : List ℕ) (c : Plan) (u v w : View) → SameFiles n u v → AreTakenOrGone n c v w → AreTakenOrGone n c u w
+taken_from n c u v w same taken = record {
+  x = subst (λ (o : Option Content). IsTakenOrGone c.s o (w (x_file n))) same.x taken.x;
+  q = subst (λ (o : Option Content). IsTakenOrGone c.p o (w (q_file n))) same.q taken.q;
+  y = subst (λ (o : Option Content). IsTakenOrGone c.g o (w (y_file n))) same.y taken.y;
+}
+
+abbrev files_of : Option Content → Option Content → Option Content → Option Content → Files
+files_of s p g l = record { s = s; p = p; z = None; g = g; l = l }
+
+pub files_same : (n : List ℕ) (c : Plan) (v w : View) → SameFiles n v w → files_after n c w ≡ files_after n c v
+files_same n c v w same =
+    ap (λ (o : Option Content). files_of (chosen c.s o (w n)) (chosen c.p (w (q_file n)) (w (p_file n))) (chosen c.g (w (y_file n)) (w (drop 2 n))) (w (l_file n))) same.x
+    ∙ (ap (λ (o : Option Content). files_of (chosen c.s (v (x_file n)) o) (chosen c.p (w (q_file n)) (w (p_file n))) (chosen c.g (w (y_file n)) (w (drop 2 n))) (w (l_file n))) same.s
+    ∙ (ap (λ (o : Option Content). files_of (chosen c.s (v (x_file n)) (v n)) (chosen c.p o (w (p_file n))) (chosen c.g (w (y_file n)) (w (drop 2 n))) (w (l_file n))) same.q
+    ∙ (ap (λ (o : Option Content). files_of (chosen c.s (v (x_file n)) (v n)) (chosen c.p (v (q_file n)) o) (chosen c.g (w (y_file n)) (w (drop 2 n))) (w (l_file n))) same.p
+    ∙ (ap (λ (o : Option Content). files_of (chosen c.s (v (x_file n)) (v n)) (chosen c.p (v (q_file n)) (v (p_file n))) (chosen c.g o (w (drop 2 n))) (w (l_file n))) same.y
+    ∙ (ap (λ (o : Option Content). files_of (chosen c.s (v (x_file n)) (v n)) (chosen c.p (v (q_file n)) (v (p_file n))) (chosen c.g (v (y_file n)) o) (w (l_file n))) same.g
+    ∙ ap (λ (o : Option Content). files_of (chosen c.s (v (x_file n)) (v n)) (chosen c.p (v (q_file n)) (v (p_file n))) (chosen c.g (v (y_file n)) (v (drop 2 n))) o) same.l)))))
+
+keeps_kept : (n : List ℕ) (c : Plan) (v w : View) → SameFiles n v w → KeepsEntries n c v → KeepsEntries n c w
+keeps_kept n c v w same keeps =
+    let files : files_after n c w ≡ files_after n c v = files_same n c v w same in
+    record {
+      leaves = subst (λ (f : Files). OnChange c.s (recovered_pfile f.s (w (p_file n)) ≡ f.p)) (sym files) (subst (λ (o : Option Content). OnChange c.s (recovered_pfile (files_after n c v).s o ≡ (files_after n c v).p)) (sym same.p) keeps.leaves);
+      sound = subst (λ (f : Files). recovered_pfile f.s f.p ≡ f.p) (sym files) keeps.sound;
+    }
+
+held_kept : (u v w : View) (n : List ℕ) (p : Prepared) → SameFiles n v w → IsHeldEntry u v n p → IsHeldEntry u w n p
+held_kept u v w n p same held = record {
+  name = held.name;
+  sfile = held.sfile;
+  kind = held.kind;
+  free = held.free;
+  ready = ready_kept n p v w same held.ready;
+  cleared = taken_kept n (plan_of p) u v w same held.cleared;
+  settles = λ sound. keeps_kept n (plan_of p) v w same (held.settles sound);
+}
+
+held_from : (u v w : View) (n : List ℕ) (p : Prepared) → v intent_file ≡ u intent_file → SameFiles n u v → IsHeldEntry v w n p → IsHeldEntry u w n p
+held_from u v w n p intent same held = record {
+  name = held.name;
+  sfile = held.sfile;
+  kind = held.kind;
+  free = sym same.z ∙ held.free;
+  ready = held.ready;
+  cleared = taken_from n (plan_of p) u v w same held.cleared;
+  settles = λ sound. held.settles (sound_kept n u v sound intent (pair_same _ _ _ _ same.s same.p));
+}
+
+-- the intent is no left file
+intent_left : (names : List (List ℕ)) → is_any_left names intent_file ≡ false
+intent_left [] = refl
+intent_left (n ∷ names) = intent_left names
+
+step_same : (x : PreparedEntry) (v w : View) → SameFiles x.name v w → step_of w x ≡ step_of v x
+step_same x v w same =
+    ap (λ (f : Files). named_step x.name (Ok (record { new = Some f; text = []; out = x.prepared.report; err = x.prepared.message; status = 0 }))) (files_same x.name (plan_of x.prepared) v w same)
+
+-- ---- all that are prepared
+
+abbrev pub AreHeld : View → View → List PreparedEntry → Type 0
+AreHeld u v made = AllByRecursion (λ (x : PreparedEntry). IsHeldEntry u v x.name x.prepared) made
+
+abbrev pub AreSame : View → View → List PreparedEntry → Type 0
+AreSame v w made = AllByRecursion (λ (x : PreparedEntry). SameFiles x.name v w) made
+
+pub held_sfiles : (u v : View) (made : List PreparedEntry) → AreHeld u v made → AllByRecursion IsSfile (made_names made)
+held_sfiles u v [] held = tt
+held_sfiles u v (x ∷ made) held = (held.0.sfile, held_sfiles u v made held.1)
+
+-- another name's left files are none of theirs
+all_same : (made : List PreparedEntry) (n : List ℕ) (u v w : View) → IsSfile n → is_among (made_names made) n ≡ false → ArePlain (made_names made) → AreHeld u v made → Alike (is_left n) w v → AreSame v w made
+all_same [] n u v w sfile apart plain held alike = tt
+all_same (x ∷ made) n u v w sfile apart plain held alike =
+    (same_files (is_left n) x.name v w (outside_one n x.name sfile held.0.sfile (bytes_eq_sym n x.name ∙ left_false _ _ apart) plain.0) alike, all_same made n u v w sfile (right_false _ _ apart) plain.1 held.1 alike)
+
+pub all_held : (made : List PreparedEntry) (u v w : View) → AreSame v w made → AreHeld u v made → AreHeld u w made
+all_held [] u v w same held = tt
+all_held (x ∷ made) u v w same held = (held_kept u v w x.name x.prepared same.0 held.0, all_held made u v w same.1 held.1)
+
+all_steps : (made : List PreparedEntry) (v w : View) → AreSame v w made → map (step_of w) made ≡ map (step_of v) made
+all_steps [] v w same = refl
+all_steps (x ∷ made) v w same = ap (λ (t : NamedStep). t ∷ map (step_of w) made) (step_same x v w same.0) ∙ ap (λ (ts : List NamedStep). step_of v x ∷ ts) (all_steps made v w same.1)
+
+held_more : (made : List PreparedEntry) (x : PreparedEntry) (u v : View) → AreHeld u v made → IsHeldEntry u v x.name x.prepared → AreHeld u v (made ++ x ∷ [])
+held_more [] x u v held one = (one, tt)
+held_more (y ∷ made) x u v held one = (held.0, held_more made x u v held.1 one)
+
+-- ---- so far
+
+-- The entries before a place are prepared: their steps and those of the rest are all steps.
+pub record SoFar (stamp : Stamp) (entries : List GroupEntry) (i : ℕ) (made : List PreparedEntry) (u v : View) : Type 0 where
+  pub steps : entry_steps stamp u entries ≡ put_all (map (step_of v) made) (entry_steps stamp u (drop i entries))
+  pub names_are : made_names made ≡ names_of (take i entries)
+  pub held : AreHeld u v made
+  pub view : Alike (is_any_left (made_names made)) v u
+
+put_none : (steps : EntrySteps) → steps ≡ put_all [] steps
+put_none (Ok ts) = refl
+put_none (Err e) = refl
+
+pub none_yet : (stamp : Stamp) (entries : List GroupEntry) (o : Option View) → Between (SoFar stamp entries 0 []) o o
+none_yet stamp entries None = tt
+none_yet stamp entries (Some u) = record { steps = put_none (entry_steps stamp u entries); names_are = refl; held = tt; view = λ k h. refl }
+
+-- what the next entry's step sees
+pub same_next : (stamp : Stamp) (made : List PreparedEntry) (e : GroupEntry) (u v : View) → IsSfile e.name → is_among (made_names made) e.name ≡ false → IsPlainName e.name → AreHeld u v made → Alike (is_any_left (made_names made)) v u
+    → SameFiles e.name u v
+same_next stamp made e u v sfile apart plain held alike = same_files (is_any_left (made_names made)) e.name u v (outside_any (made_names made) e.name (held_sfiles u v made held) sfile apart plain) alike
+
+pub next_outcome : (stamp : Stamp) (made : List PreparedEntry) (e : GroupEntry) (u v : View) → (is_sfile_name e.name ≡ true → IsSfile e.name) → is_among (made_names made) e.name ≡ false → IsPlainName e.name → AreHeld u v made
+    → Alike (is_any_left (made_names made)) v u → entry_outcome stamp v e ≡ entry_outcome stamp u e
+next_outcome stamp made e u v sfile apart plain held alike =
+    same_outcome stamp e u v (λ fits. let same = same_next stamp made e u v (sfile fits) apart plain held alike in same_look e.name u v same.s same.p same.z same.g same.l)
+
+left_more : (names : List (List ℕ)) (n k : List ℕ) → is_any_left (names ++ n ∷ []) k ≡ false → (is_any_left names k ≡ false) × (is_left n k ≡ false)
+left_more names n k h =
+    let both = sym (list_any-append (λ (m : List ℕ). is_left m k) names (n ∷ [])) ∙ h in
+    (left_false (is_any_left names k) _ both, left_false (is_left n k) _ (right_false (is_any_left names k) _ both))
+
+-- the next entry is prepared
+pub prepared_next : (stamp : Stamp) (entries : List GroupEntry) (i : ℕ) (made : List PreparedEntry) (e : GroupEntry) (p : Prepared) (u v w : View) → (is_sfile_name e.name ≡ true → IsSfile e.name) → AreDifferent (names_of entries) → ArePlain (names_of entries)
+    → drop i entries ≡ e ∷ drop (i + 1) entries → take (i + 1) entries ≡ take i entries ++ e ∷ [] → SoFar stamp entries i made u v → IsPreparedEntry v w e.name p (entry_outcome stamp v e)
+    → SoFar stamp entries (i + 1) (made ++ record { name = e.name; prepared = p } ∷ []) u w
+prepared_next stamp entries i made e p u v w fits different plain at more far one =
+    let apart = different_at entries i e (drop (i + 1) entries) different at in
+    let plains = plain_at entries i e (drop (i + 1) entries) plain at in
+    let x : PreparedEntry = record { name = e.name; prepared = p } in
+    let before : is_among (made_names made) e.name ≡ false = subst (λ (names : List (List ℕ)). is_among names e.name ≡ false) (sym far.names_are) apart.0 in
+    let plain_made : ArePlain (made_names made) = subst ArePlain (sym far.names_are) plains.2 in
+    let same : AreSame v w made = all_same made e.name u v w one.held.sfile before plain_made far.held one.view in
+    let own : SameFiles e.name u v = same_next stamp made e u v one.held.sfile before plains.0 far.held far.view in
+    let outcome : entry_outcome stamp u e ≡ Ok (effect_by w e.name p) = sym (next_outcome stamp made e u v fits before plains.0 far.held far.view) ∙ one.is in
+    record {
+      steps = far.steps ∙ (ap (λ (es : List GroupEntry). put_all (map (step_of v) made) (entry_steps stamp u es)) at
+          ∙ (accepted_next stamp (map (step_of v) made) e (drop (i + 1) entries) u (effect_by w e.name p) one.held.sfile plains.0 apart.1 plains.1 outcome
+          ∙ ap (λ (ts : List NamedStep). put_all ts (entry_steps stamp u (drop (i + 1) entries))) (ap (λ (ts : List NamedStep). ts ++ step_of w x ∷ []) (sym (all_steps made v w same)) ∙ sym (map-append (step_of w) made (x ∷ [])))));
+      names_are = map-append (λ (y : PreparedEntry). y.name) made (x ∷ []) ∙ (ap (λ (names : List (List ℕ)). names ++ e.name ∷ []) far.names_are
+          ∙ (sym (map-append (λ (y : GroupEntry). y.name) (take i entries) (e ∷ [])) ∙ ap names_of (sym more)));
+      held = held_more made x u w (all_held made u v w same far.held) (held_from u v w e.name p (far.view intent_file (intent_left (made_names made))) own one.held);
+      view = λ k h.
+          let both = left_more (made_names made) e.name k (subst (λ (names : List (List ℕ)). is_any_left names k ≡ false) (map-append (λ (y : PreparedEntry). y.name) made (x ∷ [])) h) in
+          one.view k both.1 ∙ far.view k both.0;
+    }
+
+-- all are prepared
+all_of : (stamp : Stamp) (entries : List GroupEntry) (i : ℕ) (made : List PreparedEntry) (u v : View) → drop i entries ≡ [] → take i entries ≡ entries → SoFar stamp entries i made u v → PreparesAll (Ok made) (names_of entries) (entry_steps stamp u entries) u v
+all_of stamp entries i made u v none all far =
+    let names = far.names_are ∙ ap names_of all in (
+      far.steps ∙ (ap (λ (es : List GroupEntry). put_all (map (step_of v) made) (entry_steps stamp u es)) none ∙ ap Ok (append_none (map (step_of v) made))),
+      record { names_are = names; held = far.held; view = subst (λ (ns : List (List ℕ)). Alike (is_any_left ns) v u) names far.view },
+    )
+  where
+    append_none : (ts : List NamedStep) → ts ++ [] ≡ ts
+    append_none [] = refl
+    append_none (t ∷ ts) = ap (λ (l : List NamedStep). t ∷ l) (append_none ts)
+
+pub all_prepared : (stamp : Stamp) (entries : List GroupEntry) (i : ℕ) (made : List PreparedEntry) (o o2 : Option View) → drop i entries ≡ [] → take i entries ≡ entries → Between (SoFar stamp entries i made) o o2
+    → Between (λ u v. PreparesAll (Ok made) (names_of entries) (entry_steps stamp u entries) u v) o o2
+all_prepared stamp entries i made None o2 none all far = tt
+all_prepared stamp entries i made (Some u) None none all far = far
+all_prepared stamp entries i made (Some u) (Some v) none all far = all_of stamp entries i made u v none all far

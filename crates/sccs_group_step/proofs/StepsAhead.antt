@@ -1,0 +1,83 @@
+-- The steps of entries in views that agree in their files.
+use Rattle.std.proofs.Common.{◌≡◌, ℕ, Bool, true, false, cond, List, [], ◌∷◌, ◌++◌, append_assoc, drop, Option, Ok, Err, refl, sym, ap, ◌∙◌}
+use Rattle.std.specs.List.{AllByRecursion}
+use Rattle.sccs_base.specs.Name.{IsSfile, is_sfile_name, p_file, sfile_name_decides, z_file}
+use Rattle.sccs_base.proofs.SameBytes.{bytes_eq_sym}
+use Rattle.sccs_sid.specs.declared.moments.Stamp.{Stamp}
+use Rattle.sccs_sid.specs.declared.refusals.Refusal.{Refusal}
+use Rattle.sccs_sid.specs.declared.refusals.Refusal.TheVariants.{BadName}
+use Rattle.sccs_disk.specs.Files.{View}
+use Rattle.sccs_files.specs.StepFiles.{Files, l_file, look, moved}
+use Rattle.sccs_steps.specs.StepEffects.{Outcome, StepEffect}
+use Rattle.sccs_steps.specs.StepLists.{NamedStep, named_step}
+use Rattle.sccs_moments.proofs.FileNames.{left_false, right_false}
+use Rattle.sccs_transactions.specs.Changes.{locking_step}
+use Rattle.sccs_delta.specs.DeltaStep.{delta_change}
+use Rattle.sccs_group_words.specs.declared.entries.GroupEntry.{GroupEntry}
+use Rattle.sccs_group_step.specs.GroupStep.{EntrySteps, entry_outcome, entry_steps, go_on, names_of, put_first}
+use Rattle.sccs_group_step.specs.Preparing.{ArePlain, IsPlainName, is_among}
+use Rattle.sccs_group_step.proofs.Apart.{look_elsewhere, placed_alike, same_look}
+
+-- the entry's step sees the same in both views
+abbrev pub LooksSame : View → View → GroupEntry → Type 0
+LooksSame u v e = is_sfile_name e.name ≡ true → look v e.name ≡ look u e.name
+
+pub same_outcome : (stamp : Stamp) (e : GroupEntry) (u v : View) → LooksSame u v e → entry_outcome stamp v e ≡ entry_outcome stamp u e
+unfolding entry_outcome
+same_outcome stamp e u v same = by (is_sfile_name e.name) same
+  where
+    by : (b : Bool) → (b ≡ true → look v e.name ≡ look u e.name)
+        → cond b (locking_step (delta_change e.words stamp).outcome e.name e.script [] (look v e.name)) (Err BadName) ≡ cond b (locking_step (delta_change e.words stamp).outcome e.name e.script [] (look u e.name)) (Err BadName)
+    by true same = ap (λ (f : Files). locking_step (delta_change e.words stamp).outcome e.name e.script [] f) (same refl)
+    by false same = refl
+
+look_alike : (n k : List ℕ) (u v : View) (new : Option Files) → look v k ≡ look u k → look (moved v n new) k ≡ look (moved u n new) k
+look_alike n k u v new same =
+    same_look k (moved u n new) (moved v n new) (placed_alike n k u v new (ap (λ (f : Files). f.s) same)) (placed_alike n (p_file k) u v new (ap (λ (f : Files). f.p) same))
+    (placed_alike n (z_file k) u v new (ap (λ (f : Files). f.z) same)) (placed_alike n (drop 2 k) u v new (ap (λ (f : Files). f.g) same)) (placed_alike n (l_file k) u v new (ap (λ (f : Files). f.l) same))
+
+looks_moved : (es : List GroupEntry) (n : List ℕ) (u v : View) (new : Option Files) → AllByRecursion (LooksSame u v) es → AllByRecursion (LooksSame (moved u n new) (moved v n new)) es
+looks_moved [] n u v new all = tt
+looks_moved (e ∷ es) n u v new all = (λ fits. look_alike n e.name u v new (all.0 fits), looks_moved es n u v new all.1)
+
+go_on_same : (n : List ℕ) (o : Outcome) (f g : StepEffect → EntrySteps) → ((effect : StepEffect) → f effect ≡ g effect) → go_on n o f ≡ go_on n o g
+go_on_same n (Ok effect) f g same = ap (λ (rest : EntrySteps). put_first (named_step n (Ok effect)) rest) (same effect)
+go_on_same n (Err refusal) f g same = refl
+
+pub steps_same : (stamp : Stamp) (es : List GroupEntry) (u v : View) → AllByRecursion (LooksSame u v) es → entry_steps stamp v es ≡ entry_steps stamp u es
+steps_same stamp [] u v all = refl
+steps_same stamp (e ∷ es) u v all =
+    ap (λ (o : Outcome). go_on e.name o (λ effect. entry_steps stamp (moved v e.name effect.new) es)) (same_outcome stamp e u v all.0)
+    ∙ go_on_same e.name (entry_outcome stamp u e) (λ effect. entry_steps stamp (moved v e.name effect.new) es) (λ effect. entry_steps stamp (moved u e.name effect.new) es)
+    (λ effect. steps_same stamp es (moved u e.name effect.new) (moved v e.name effect.new) (looks_moved es e.name u v effect.new all.1))
+
+looks_elsewhere : (es : List GroupEntry) (n : List ℕ) (u : View) (new : Option Files) → IsSfile n → IsPlainName n → is_among (names_of es) n ≡ false → ArePlain (names_of es) → AllByRecursion (LooksSame u (moved u n new)) es
+looks_elsewhere [] n u new sfile plain apart all = tt
+looks_elsewhere (e ∷ es) n u new sfile plain apart all =
+    (λ fits. look_elsewhere n e.name u new sfile ((sfile_name_decides e.name).0 fits).1 (bytes_eq_sym n e.name ∙ left_false _ _ apart) plain all.0, looks_elsewhere es n u new sfile plain (right_false _ _ apart) all.1)
+
+-- the step of another name changes none of them
+pub steps_elsewhere : (stamp : Stamp) (es : List GroupEntry) (n : List ℕ) (u : View) (new : Option Files) → IsSfile n → IsPlainName n → is_among (names_of es) n ≡ false → ArePlain (names_of es) → entry_steps stamp (moved u n new) es ≡ entry_steps stamp u es
+steps_elsewhere stamp es n u new sfile plain apart all = steps_same stamp es u (moved u n new) (looks_elsewhere es n u new sfile plain apart all)
+
+-- ---- steps before those of the rest
+
+abbrev pub put_all : List NamedStep → EntrySteps → EntrySteps
+put_all ts (Ok rest) = Ok (ts ++ rest)
+put_all ts (Err e) = Err e
+
+put_more : (ts : List NamedStep) (t : NamedStep) (rest : EntrySteps) → put_all ts (put_first t rest) ≡ put_all (ts ++ t ∷ []) rest
+put_more ts t (Ok rest) = ap Ok (sym (append_assoc ts (t ∷ []) rest))
+put_more ts t (Err e) = refl
+
+-- the next entry is accepted, or refused
+pub accepted_next : (stamp : Stamp) (ts : List NamedStep) (e : GroupEntry) (es : List GroupEntry) (u : View) (d : StepEffect) → IsSfile e.name → IsPlainName e.name → is_among (names_of es) e.name ≡ false → ArePlain (names_of es)
+    → entry_outcome stamp u e ≡ Ok d → put_all ts (entry_steps stamp u (e ∷ es)) ≡ put_all (ts ++ named_step e.name (Ok d) ∷ []) (entry_steps stamp u es)
+accepted_next stamp ts e es u d sfile plain apart all is =
+    ap (λ (o : Outcome). put_all ts (go_on e.name o (λ effect. entry_steps stamp (moved u e.name effect.new) es))) is
+    ∙ (ap (λ (rest : EntrySteps). put_all ts (put_first (named_step e.name (Ok d)) rest)) (steps_elsewhere stamp es e.name u d.new sfile plain apart all)
+    ∙ put_more ts (named_step e.name (Ok d)) (entry_steps stamp u es))
+
+pub refused_next : (stamp : Stamp) (ts : List NamedStep) (e : GroupEntry) (es : List GroupEntry) (u : View) (refusal : Refusal) → entry_outcome stamp u e ≡ Err refusal
+    → put_all ts (entry_steps stamp u (e ∷ es)) ≡ Err (record { name = e.name; refusal = refusal })
+refused_next stamp ts e es u refusal is = ap (λ (o : Outcome). put_all ts (go_on e.name o (λ effect. entry_steps stamp (moved u e.name effect.new) es))) is

@@ -1,0 +1,3 @@
+pub mod GroupStep
+pub mod Making
+pub mod Preparing

@@ -1,6 +1,0 @@
-use Rattle.sccs_disk.specs.Files.{view_of}
-use Rattle.sccs_moments.proofs.Untouched.{calm_stayed, stays_touched}
-use Rattle.sccs_moments.proofs.laws.calls_on_left_files_lose_nothing.Goals as goal
-
-pub returns : goal.returns
-returns c = λ n m past new sfile calm sound run. (stays_touched n m past new sfile calm sound run, calm_stayed (view_of m) m past new (stays_touched n m past new sfile calm sound run))

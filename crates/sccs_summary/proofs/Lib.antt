@@ -1,0 +1,4 @@
+pub mod Texts
+pub mod Giving
+pub mod LFiles
+pub mod Marked
