@@ -1,7 +1,7 @@
 # shellcheck shell=bash
 # Completion of sccs for bash: the words, their options, and the names of the files that have a history; and of rcs2sccs.
 
-_sccs_words='admin batch cdc check clean create deledit delget delta diffs edit enter fix get import info print prs prt recover rmdel sact
+_sccs_words='admin batch cdc check clean commit create deledit delget delta diffs edit enter fix get group import info print prs prt recover rmdel sact
     sccsdiff soak tell unedit unget val what'
 
 # sets `folder` and `path`: the folder of s-files, and the -d that stands before names; gives the place of the word in `place`
@@ -26,6 +26,7 @@ _sccs_options() {
     admin | create | enter) echo '-a -d -e -f -h -i -m -n -r -t -y -z' ;;
     get | edit) echo '-b -c -e -G -g -i -k -m -n -p -r -s -t -x' ;;
     delta | delget | deledit) echo '-E -m -n -r -s -y' ;;
+    commit) echo '-m -y' ;;
     unget | unedit) echo '-n -r -s' ;;
     rmdel | fix) echo '-r' ;;
     prs | prt | print) echo '-a -c -d -e -l -r' ;;
@@ -45,6 +46,7 @@ _sccs_valued() {
     admin | create | enter) echo adefmr ;;
     get | edit) echo cGirx ;;
     delta | delget | deledit) echo mr ;;
+    commit) echo m ;;
     unget | unedit | rmdel | fix | sccsdiff) echo r ;;
     prs | prt | print) echo cd ;;
     val) echo mry ;;
@@ -92,13 +94,13 @@ _sccs_imports() {
 # the words that are completed by files
 _sccs_operands() {
     case $1 in
-    delta | delget | deledit | unget | unedit | sact | diffs) _sccs_files p ;;
+    commit | delta | delget | deledit | unget | unedit | sact | diffs) _sccs_files p ;;
     create | enter | what)
         mapfile -t COMPREPLY < <(compgen -f -- "${COMP_WORDS[COMP_CWORD]}")
         compopt -o filenames 2>/dev/null
         ;;
     import) _sccs_imports ;;
-    batch | soak | check | tell | info) ;;
+    batch | group | soak | check | tell | info) ;;
     *) _sccs_files s ;;
     esac
 }

@@ -71,6 +71,8 @@ explain_number() {
     35) helps "$of,v is damaged from that byte on, or no RCS file: rlog may say more" ;;
     36) explain_revision "$1" ;;
     37) helps "that line of the revision's text or script, as $of,v has it, doesn't fit the text before it, or begins with the byte 1 (SOH)" ;;
+    38) helps "a command on several files was stopped: finish or undo it by: sccs recover on one of them" ;;
+    39) helps "the file sccs.intent says what a stopped group was doing, and can't be read: take the folder from a backup" ;;
     *) return 0 ;;
     esac
 }

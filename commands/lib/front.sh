@@ -49,7 +49,7 @@ front_word() {
     edit) hand_words get -e "$@" ;;
     prt) hand_words prs '' "$@" ;;
     recover) hand_words recover '' "$@" ;;
-    batch | soak) in_folder . "$verb" "$@" || join_status $? ;;
+    batch | group | soak) hand_list "$@" ;;
     import)
         shielded=1
         explained . import "$@" || join_status $?
@@ -61,6 +61,11 @@ front_word() {
     fix) fix_delta "$@" ;;
     info | check | tell) show_edits "$@" ;;
     clean) clean_folder "$@" ;;
+    commit)
+        # shellcheck source=commands/lib/committing.sh
+        . "$here/lib/committing.sh"
+        commit_files "$@"
+        ;;
     diffs) show_differences "$@" ;;
     print) print_files "$@" ;;
     *)
@@ -68,6 +73,12 @@ front_word() {
         status=2
         ;;
     esac
+}
+
+# the lists of commands, in this folder
+hand_list() {
+    [ "$verb" != group ] || shielded=1
+    in_folder . "$verb" "$@" || join_status $?
 }
 
 # takes_of UTILITY: the letters of its options, as read_words takes them

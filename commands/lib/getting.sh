@@ -3,6 +3,10 @@
 
 get_command() {
     read_words c:i:r:x:G: G "$@"
+    if is_given l || is_given L; then
+        echo 'get: the summary of -l and -L is not made yet' >&2
+        exit 2
+    fi
     shielded=
     is_given p && ! is_given e || shielded=1
     be_quiet
