@@ -7,7 +7,7 @@ use Rattle.sccs_words.specs.declared.commands.Usage.{Usage}
 next_item : {A : Type 0} (xs : List A) (i : ℕ) (x : A) → i < length xs → x ≡ get_or xs i x → drop i xs ≡ x ∷ drop (i + 1) xs
 next_item {A} xs i x below is = drop_more xs i x below ∙ ap (λ (y : A). y ∷ drop (i + 1) xs) (sym is)
 
-longer : {A : Type 0} (xs : List A) (i : ℕ) (x : A) → i < length xs → x ≡ get_or xs i x → take (i + 1) xs ≡ take i xs ++ x ∷ []
+pub longer : {A : Type 0} (xs : List A) (i : ℕ) (x : A) → i < length xs → x ≡ get_or xs i x → take (i + 1) xs ≡ take i xs ++ x ∷ []
 longer {A} xs i x below is = take_more xs i x below ∙ ap (λ (y : A). take i xs ++ y ∷ []) (sym is)
 
 -- what is left, with its first item before it

@@ -4,6 +4,7 @@ pub mod FaultExamples
 pub mod FirstFaults
 pub mod Joined
 pub mod JoinedAnywhere
+pub mod LetterLaws
 pub mod MrWordLaws
 pub mod NameExamples
 pub mod Outcomes

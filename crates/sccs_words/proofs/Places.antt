@@ -1,5 +1,5 @@
 -- A fault stands in a word of the command line, or right after the last.
-use Rattle.std.proofs.Common.{◌≡◌, ℕ, ◌+◌, ◌-◌, ◌≤◌, Bool, true, false, not, List, [], ◌∷◌, ◌++◌, length, Option, None, Some, Result, Ok, Err, subst, arith, cond}
+use Rattle.std.proofs.Common.{◌≡◌, ℕ, ◌+◌, ◌-◌, ◌≤◌, Bool, true, false, not, List, [], ◌∷◌, ◌++◌, length, map, Option, None, Some, Result, Ok, Err, subst, arith, cond}
 use Rattle.std.specs.Prelude.{option_and_then}
 use Rattle.std.specs.List.{AllByRecursion, list_any, list_all}
 use Rattle.std.proofs.lemmas.List.{length_push}
@@ -8,7 +8,7 @@ use Rattle.sccs_words.specs.Letters as opt
 use Rattle.sccs_words.specs.Synopsis.{options_of, exclusions_of, needs_of, operand_rule_of, find_option}
 use Rattle.sccs_words.specs.Values.{value_fits, sid_value, name_value, soak_number}
 use Rattle.sccs_words.specs.Scan.{Uses, Kind, Letters, Ends, Operand, CommandLine, used, turn, turn_by, after_turn, letters, word_kind, by_kind, scanned}
-use Rattle.sccs_words.specs.Judge.{first_usage, usage, option_form, value_fault, is_given_twice, is_excluded, known_fault, fault_by, use_fault, first_from, uses_fault, dash_with_other, operand_fits, operand_fault, operands_fault, none_though_wanted, met, too_many, end_fault, usage_fault}
+use Rattle.sccs_words.specs.Judge.{first_usage, usage, option_form, value_fault, is_given_twice, used_letter, is_excluded, known_fault, fault_by, use_fault, first_from, uses_fault, dash_with_other, operand_fits, operand_fault, operands_fault, none_though_wanted, met, too_many, end_fault, usage_fault}
 use Rattle.sccs_words.specs.Records.{value_of}
 use Rattle.sccs_words.specs.Meaning.{first_text, with_name, with_sid, with_changes, with_number, line_command, words_fault, unless_fault, line_meaning, meaning_by, utility_of, meaning}
 use Rattle.sccs_words.specs.declared.tables.OptionSpec.{OptionSpec}
@@ -19,6 +19,7 @@ use Rattle.sccs_words.specs.declared.tables.Utility.TheVariants as u
 use Rattle.sccs_words.specs.declared.scanning.OptionArgument.{OptionArgument}
 use Rattle.sccs_words.specs.declared.scanning.OptionArgument.TheVariants.{Unknown, Bare, Missing, Value}
 use Rattle.sccs_words.specs.declared.scanning.Use.{Use}
+use Rattle.sccs_words.specs.declared.judging.UsedLetter.{UsedLetter}
 use Rattle.sccs_words.specs.declared.commands.Usage.{Usage}
 use Rattle.sccs_words.specs.declared.commands.Command.{Command}
 
@@ -105,12 +106,12 @@ value_in last option Bare is = tt
 value_in last option Missing is = tt
 value_in last option (Value bytes n) is = if_in last (value_fits (option_form option) bytes) None (usage 6 n) tt is
 
-known_in : (last : ℕ) (utility : Utility) (before : List Use) (one : Use) (option : Option OptionSpec) → UseIn last one → FaultIn last (known_fault utility before one option)
+known_in : (last : ℕ) (utility : Utility) (before : List UsedLetter) (one : Use) (option : Option OptionSpec) → UseIn last one → FaultIn last (known_fault utility before one option)
 known_in last utility before one option is =
     if_in last (is_given_twice option before one.letter) (usage 4 one.word) _ is.0
-    (if_in last (list_any (λ other. is_excluded (exclusions_of utility) one other) before) (usage 5 one.word) _ is.0 (value_in last option one.argument is.1))
+    (if_in last (list_any (λ other. is_excluded (exclusions_of utility) (used_letter one) other) before) (usage 5 one.word) _ is.0 (value_in last option one.argument is.1))
 
-fault_in : (last : ℕ) (utility : Utility) (before : List Use) (one : Use) (argument : OptionArgument) → UseIn last one → FaultIn last (fault_by utility before one argument)
+fault_in : (last : ℕ) (utility : Utility) (before : List UsedLetter) (one : Use) (argument : OptionArgument) → UseIn last one → FaultIn last (fault_by utility before one argument)
 fault_in last utility before one Unknown is = is.0
 fault_in last utility before one Missing is = is.0
 fault_in last utility before one Bare is = known_in last utility before one (find_option (options_of utility) one.letter) is
@@ -118,7 +119,7 @@ fault_in last utility before one (Value bytes n) is = known_in last utility befo
 
 use_in : (last : ℕ) (utility : Utility) (before : List Use) (one : Use) → UseIn last one → FaultIn last (use_fault utility before one)
 unfolding use_fault
-use_in last utility before one is = fault_in last utility before one one.argument is
+use_in last utility before one is = fault_in last utility (map used_letter before) one one.argument is
 
 first_in : {A : Type 0} (last : ℕ) (fault : List A → A → Option Usage) (P : List A → List A → Type 0)
     → ((before : List A) (x : A) (xs : List A) → P before (x ∷ xs) → FaultIn last (fault before x))

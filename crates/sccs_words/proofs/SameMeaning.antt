@@ -8,15 +8,13 @@ use Rattle.sccs_words.specs.Letters as opt
 use Rattle.sccs_words.specs.Synopsis.{options_of, exclusions_of, needs_of, operand_rule_of, find_option}
 use Rattle.sccs_words.specs.Values.{value_fits, sid_value, name_value, soak_number}
 use Rattle.sccs_words.specs.Scan.{CommandLine, scanned_line}
-use Rattle.sccs_words.specs.Judge.{has_use, first_usage, usage, is_bare, excludes_by, is_excluded, option_form, value_fault, repeats, is_given_twice, known_fault, fault_by, use_fault, first_from, uses_fault, is_named, dash_with_other, wants, operand_fits, operand_fault, operands_fault, none_though_wanted, met, takes_one, too_many, end_fault, usage_fault}
+use Rattle.sccs_words.specs.Judge.{has_use, first_usage, usage, is_bare, used_letter, is_excluded, option_form, value_fault, is_given_twice, known_fault, fault_by, use_fault, first_from, uses_fault, is_named, dash_with_other, wants, operand_fits, operand_fault, operands_fault, none_though_wanted, met, takes_one, too_many, end_fault, usage_fault}
 use Rattle.sccs_words.specs.Records.{usage_bit, value_in, value_of, with_value, values_of, get_words, delta_line_words, unget_words, cdc_words, prs_words, admin_words, val_words, operand_words, is_option_fault}
 use Rattle.sccs_words.specs.Unplaced.{argument_only, unplaced, SameUses, kinds}
 use Rattle.sccs_words.specs.Meaning.{first_text, with_name, with_sid, with_changes, with_number, line_command, words_fault, unless_fault, line_meaning}
 use Rattle.sccs_sid.specs.declared.sids.Sid.{Sid}
 use Rattle.sccs_words.specs.declared.commands.ValWords.{ValWords}
 use Rattle.sccs_words.specs.declared.tables.OptionSpec.{OptionSpec}
-use Rattle.sccs_words.specs.declared.tables.Exclusion.{Exclusion}
-use Rattle.sccs_words.specs.declared.tables.Exclusion.TheVariants as exclusions
 use Rattle.sccs_words.specs.declared.tables.Need.{Need}
 use Rattle.sccs_words.specs.declared.tables.Need.TheVariants as needs
 use Rattle.sccs_words.specs.declared.tables.OperandRule.{OperandRule}
@@ -26,6 +24,8 @@ use Rattle.sccs_words.specs.declared.tables.Utility.TheVariants as u
 use Rattle.sccs_words.specs.declared.scanning.OptionArgument.{OptionArgument}
 use Rattle.sccs_words.specs.declared.scanning.OptionArgument.TheVariants.{Unknown, Bare, Missing, Value}
 use Rattle.sccs_words.specs.declared.scanning.Use.{Use}
+use Rattle.sccs_words.specs.declared.judging.UsedLetter.{UsedLetter}
+use Rattle.sccs_words.proofs.LetterLaws.{lettered}
 use Rattle.sccs_words.specs.declared.commands.Usage.{Usage}
 use Rattle.sccs_words.specs.declared.commands.Command.{Command}
 use Rattle.sccs_words.specs.declared.commands.Command.TheVariants as c
@@ -99,23 +99,12 @@ bare_same Bare = refl
 bare_same Missing = refl
 bare_same (Value bytes n) = refl
 
-rule_same : (rule : Exclusion) (a b : Use) → excludes_by rule a b ≡ excludes_by rule (unplaced a) (unplaced b)
-rule_same (exclusions.Both x y) a b = refl
-rule_same (exclusions.Bare x y) a b = ap (λ (bare : Bool). (a.letter == x && bare) && b.letter == y) (bare_same a.argument)
-rule_same (exclusions.Alone x) a b = refl
+letter_same : (one : Use) → used_letter one ≡ used_letter (unplaced one)
+letter_same one = ap (lettered one.letter) (bare_same one.argument)
 
-excluded_same : (rules : List Exclusion) (a b : Use) → is_excluded rules a b ≡ is_excluded rules (unplaced a) (unplaced b)
-excluded_same [] a b = refl
-excluded_same (rule ∷ rules) a b =
-    ap (λ (one : Bool). (one || excludes_by rule b a) || is_excluded rules a b) (rule_same rule a b)
-    ∙ (ap (λ (one : Bool). (excludes_by rule (unplaced a) (unplaced b) || one) || is_excluded rules a b) (rule_same rule b a)
-    ∙ ap (λ (more : Bool). (excludes_by rule (unplaced a) (unplaced b) || excludes_by rule (unplaced b) (unplaced a)) || more) (excluded_same rules a b))
-
-excludes_same : (rules : List Exclusion) (one : Use) (before : List Use) → list_any (λ other. is_excluded rules one other) before ≡ list_any (λ other. is_excluded rules (unplaced one) other) (map unplaced before)
-excludes_same rules one [] = refl
-excludes_same rules one (other ∷ before) =
-    ap (λ (here : Bool). here || list_any (λ other. is_excluded rules one other) before) (excluded_same rules one other)
-    ∙ ap (λ (more : Bool). is_excluded rules (unplaced one) (unplaced other) || more) (excludes_same rules one before)
+letters_same : (before : List Use) → map used_letter before ≡ map used_letter (map unplaced before)
+letters_same [] = refl
+letters_same (one ∷ before) = ap (λ (letter : UsedLetter). letter ∷ map used_letter before) (letter_same one) ∙ ap (λ (more : List UsedLetter). used_letter (unplaced one) ∷ more) (letters_same before)
 
 value_fault_same : (option : Option OptionSpec) (argument : OptionArgument) → kind (value_fault option argument) ≡ kind (value_fault option (argument_only argument))
 value_fault_same option Unknown = refl
@@ -123,12 +112,13 @@ value_fault_same option Bare = refl
 value_fault_same option Missing = refl
 value_fault_same option (Value bytes n) = if_same (value_fits (option_form option) bytes) (value_fits (option_form option) bytes) None (usage 6 n) None (usage 6 0) refl refl refl
 
-known_same : (utility : Utility) (before : List Use) (one : Use) (option : Option OptionSpec) → kind (known_fault utility before one option) ≡ kind (known_fault utility (map unplaced before) (unplaced one) option)
+known_same : (utility : Utility) (before : List UsedLetter) (one : Use) (option : Option OptionSpec) → kind (known_fault utility before one option) ≡ kind (known_fault utility before (unplaced one) option)
 known_same utility before one option =
-    if_same (is_given_twice option before one.letter) (is_given_twice option (map unplaced before) one.letter) (usage 4 one.word) _ (usage 4 0) _ (ap (λ (twice : Bool). not (repeats option) && twice) (has_same one.letter before)) refl
-    (if_same _ _ (usage 5 one.word) (value_fault option one.argument) (usage 5 0) (value_fault option (argument_only one.argument)) (excludes_same (exclusions_of utility) one before) refl (value_fault_same option one.argument))
+    if_same (is_given_twice option before one.letter) (is_given_twice option before one.letter) (usage 4 one.word) _ (usage 4 0) _ refl refl
+    (if_same _ _ (usage 5 one.word) (value_fault option one.argument) (usage 5 0) (value_fault option (argument_only one.argument))
+    (ap (λ (letter : UsedLetter). list_any (λ other. is_excluded (exclusions_of utility) letter other) before) (letter_same one)) refl (value_fault_same option one.argument))
 
-fault_same : (utility : Utility) (before : List Use) (one : Use) (argument : OptionArgument) → kind (fault_by utility before one argument) ≡ kind (fault_by utility (map unplaced before) (unplaced one) (argument_only argument))
+fault_same : (utility : Utility) (before : List UsedLetter) (one : Use) (argument : OptionArgument) → kind (fault_by utility before one argument) ≡ kind (fault_by utility before (unplaced one) (argument_only argument))
 fault_same utility before one Unknown = refl
 fault_same utility before one Missing = refl
 fault_same utility before one Bare = known_same utility before one (find_option (options_of utility) one.letter)
@@ -136,7 +126,9 @@ fault_same utility before one (Value bytes n) = known_same utility before one (f
 
 uses_same : (utility : Utility) (uses : List Use) → kind (uses_fault utility uses) ≡ kind (uses_fault utility (map unplaced uses))
 unfolding use_fault
-uses_same utility uses = first_same unplaced (use_fault utility) (use_fault utility) (λ before one. fault_same utility before one one.argument) [] uses
+uses_same utility uses =
+    first_same unplaced (use_fault utility) (use_fault utility)
+    (λ before one. fault_same utility (map used_letter before) one one.argument ∙ ap (λ (letters : List UsedLetter). kind (fault_by utility letters (unplaced one) (argument_only one.argument))) (letters_same before)) [] uses
 
 -- the same for operands, which have no numbers
 here_same : {A : Type 0} (fault other : List A → A → Option Usage) → ((before : List A) (x : A) → kind (fault before x) ≡ kind (other before x))

@@ -1,5 +1,6 @@
 -- The first fault of a command line, from left to right.
-use Rattle.std.specs.Prelude.{ℕ, ◌+◌, ◌==◌, Bool, true, false, not, ◌&&◌, ◌||◌, List, [], ◌∷◌, ◌++◌, length, Option, None, Some, is_some, if◌then◌else◌}
+use Rattle.std.specs.Prelude.{◌≡◌, ℕ, ◌+◌, ◌==◌, Bool, true, false, not, ◌&&◌, ◌||◌, List, [], ◌∷◌, ◌++◌, length, map, Option, None, Some, is_some, if◌then◌else◌}
+use Rattle.std.specs.Bool.{beq}
 use Rattle.std.specs.List.{list_any, list_all}
 use Rattle.std.specs.Str.{bytes_eq}
 use Rattle.sccs_base.specs.Name.{is_sfile_name}
@@ -23,6 +24,7 @@ use Rattle.sccs_words.specs.declared.tables.Utility.{Utility}
 use Rattle.sccs_words.specs.declared.scanning.OptionArgument.{OptionArgument}
 use Rattle.sccs_words.specs.declared.scanning.OptionArgument.TheVariants.{Unknown, Bare, Missing, Value}
 use Rattle.sccs_words.specs.declared.scanning.Use.{Use}
+use Rattle.sccs_words.specs.declared.judging.UsedLetter.{UsedLetter}
 
 abbrev pub usage : ℕ → ℕ → Option Usage
 usage kind word = Some (record { kind = kind; word = word })
@@ -40,13 +42,23 @@ abbrev pub is_bare : OptionArgument → Bool
 is_bare Bare = true
 is_bare _ = false
 
+-- what later options are judged by of a use
+abbrev pub used_letter : Use → UsedLetter
+used_letter one = record { letter = one.letter; is_bare = is_bare one.argument }
+
+abbrev pub is_same : UsedLetter → UsedLetter → Bool
+is_same a b = a.letter == b.letter && beq a.is_bare b.is_bare
+
+abbrev pub has_letter : ℕ → List UsedLetter → Bool
+has_letter letter before = list_any (λ one. one.letter == letter) before
+
 -- the rule speaks of these two, in this order
-abbrev pub excludes_by : Exclusion → Use → Use → Bool
+abbrev pub excludes_by : Exclusion → UsedLetter → UsedLetter → Bool
 excludes_by (exclusions.Both x y) a b = a.letter == x && b.letter == y
-excludes_by (exclusions.Bare x y) a b = (a.letter == x && is_bare a.argument) && b.letter == y
+excludes_by (exclusions.Bare x y) a b = (a.letter == x && a.is_bare) && b.letter == y
 excludes_by (exclusions.Alone x) a b = a.letter == x && not (b.letter == x)
 
-abbrev pub is_excluded : List Exclusion → Use → Use → Bool
+abbrev pub is_excluded : List Exclusion → UsedLetter → UsedLetter → Bool
 is_excluded rules a b = list_any (λ rule. excludes_by rule a b || excludes_by rule b a) rules
 
 abbrev pub repeats : Option OptionSpec → Bool
@@ -63,23 +75,23 @@ abbrev pub value_fault : Option OptionSpec → OptionArgument → Option Usage
 value_fault option (Value bytes n) = if value_fits (option_form option) bytes then None else usage kinds.malformed n
 value_fault option _ = None
 
-abbrev pub is_given_twice : Option OptionSpec → List Use → ℕ → Bool
-is_given_twice option before letter = not (repeats option) && has_use letter before
+abbrev pub is_given_twice : Option OptionSpec → List UsedLetter → ℕ → Bool
+is_given_twice option before letter = not (repeats option) && has_letter letter before
 
 -- a use of a letter of the utility, after those before it
-abbrev pub known_fault : Utility → List Use → Use → Option OptionSpec → Option Usage
+abbrev pub known_fault : Utility → List UsedLetter → Use → Option OptionSpec → Option Usage
 known_fault utility before one option =
     if is_given_twice option before one.letter then usage kinds.given_twice one.word
-    else if list_any (λ other. is_excluded (exclusions_of utility) one other) before then usage kinds.exclude one.word
+    else if list_any (λ other. is_excluded (exclusions_of utility) (used_letter one) other) before then usage kinds.exclude one.word
     else value_fault option one.argument
 
-abbrev pub fault_by : Utility → List Use → Use → OptionArgument → Option Usage
+abbrev pub fault_by : Utility → List UsedLetter → Use → OptionArgument → Option Usage
 fault_by utility before one Unknown = usage kinds.unknown_option one.word
 fault_by utility before one Missing = usage kinds.missing_argument one.word
 fault_by utility before one _ = known_fault utility before one (find_option (options_of utility) one.letter)
 
 unfoldable pub use_fault : Utility → List Use → Use → Option Usage
-use_fault utility before one = fault_by utility before one one.argument
+use_fault utility before one = fault_by utility (map used_letter before) one one.argument
 
 -- the first fault of these, each judged after those before it
 unfoldable pub first_from : {A : Type 0} → (List A → A → Option Usage) → List A → List A → Option Usage
@@ -88,6 +100,10 @@ first_from fault before (x ∷ xs) = first_usage (fault before x) (first_from fa
 
 abbrev pub uses_fault : Utility → List Use → Option Usage
 uses_fault utility uses = first_from (use_fault utility) [] uses
+
+-- the same letters: what holds of one in either list does so in the other
+abbrev pub SameLetters : List UsedLetter → List UsedLetter → Type 0
+SameLetters a b = (test : UsedLetter → Bool) → list_any test a ≡ list_any test b
 
 -- ---- operands
 

@@ -1,4 +1,4 @@
--- The synopsis of each utility: POSIX, Shell and Utilities; of cdc and of get's summary, which POSIX lacks, as SCCS has it.
+-- The synopsis of each utility: POSIX, Shell and Utilities; of cdc, which POSIX lacks, as SCCS has it.
 use Rattle.std.specs.Prelude.{ℕ, ◌==◌, List, [], ◌∷◌, Option, None, Some, if◌then◌else◌}
 use Rattle.sccs_words.specs.Letters as opt
 use Rattle.sccs_words.specs.declared.tables.OptionSpec.{OptionSpec}

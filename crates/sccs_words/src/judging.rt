@@ -1,5 +1,5 @@
-ghost use Rattle.std.specs.Prelude.{◌≡◌, ℕ, ◌+◌, ◌^◌, ◌<◌, length, IfOk};
-ghost use Rattle.sccs_words.specs.Judge.{has_use as has_spec, excludes_by as excludes_by_spec, is_excluded as is_excluded_spec, is_bare as is_bare_spec, repeats as repeats_spec, option_form as form_spec, is_given_twice as is_given_twice_spec, known_fault as known_spec, use_fault as use_spec, uses_fault as uses_spec, is_dash as is_dash_spec, is_named as is_named_spec, operand_fits as operand_fits_spec, is_late_dash as is_late_dash_spec, dash_with_other as dash_with_other_spec, operand_fault as operand_spec, operands_fault as operands_spec, wants as wants_spec, met as met_spec, takes_one as takes_one_spec, too_many as too_many_spec, none_though_wanted as none_though_wanted_spec, end_fault as end_spec, usage_fault as first_spec};
+ghost use Rattle.std.specs.Prelude.{◌≡◌, ℕ, ◌+◌, ◌^◌, ◌<◌, [], ◌∷◌, ◌++◌, length, IfOk, OnOk};
+ghost use Rattle.sccs_words.specs.Judge.{has_use as has_spec, has_letter as has_letter_spec, used_letter as letter_spec, is_same as is_same_spec, excludes_by as excludes_by_spec, is_excluded as is_excluded_spec, is_bare as is_bare_spec, repeats as repeats_spec, option_form as form_spec, is_given_twice as is_given_twice_spec, known_fault as known_spec, fault_by as use_spec, uses_fault as uses_spec, SameLetters, is_dash as is_dash_spec, is_named as is_named_spec, operand_fits as operand_fits_spec, is_late_dash as is_late_dash_spec, dash_with_other as dash_with_other_spec, operand_fault as operand_spec, operands_fault as operands_spec, wants as wants_spec, met as met_spec, takes_one as takes_one_spec, too_many as too_many_spec, none_though_wanted as none_though_wanted_spec, end_fault as end_spec, usage_fault as first_spec};
 ghost use Rattle.std.specs.List.{list_any, list_all};
 ghost use Rattle.sccs_words.specs.Scan.{end_of};
 ghost use Rattle.sccs_words.specs.Scanned.{command_line};
@@ -23,6 +23,13 @@ pub fn has(uses: &[Use], letter: u8) -> bool
     uses.iter().any(|one| one.letter == letter)
 }
 
+/// What later options are judged by of an option that was used: its letter, and whether it has no value.
+#[derive(Clone, Copy)]
+pub struct UsedLetter {
+    pub letter: u8,
+    pub is_bare: bool,
+}
+
 fn is_bare(argument: &OptionArgument) -> bool
     ensures { result ≡ is_bare_spec argument.now }
 {
@@ -34,19 +41,34 @@ fn is_bare(argument: &OptionArgument) -> bool
     }
 }
 
+fn used_letter(one: &Use) -> UsedLetter
+    ensures { result ≡ letter_spec one.now }
+{
+    UsedLetter {
+        letter: one.letter,
+        is_bare: is_bare(&one.argument),
+    }
+}
+
+fn has_letter(before: &[UsedLetter], letter: u8) -> bool
+    ensures { result ≡ has_letter_spec letter before.now }
+{
+    before.iter().any(|one| one.letter == letter)
+}
+
 // whether a rule speaks of these two, in this order
-fn parts(rule: Exclusion, a: &Use, b: &Use) -> bool
-    ensures { result ≡ excludes_by_spec rule a.now b.now }
+fn parts(rule: Exclusion, a: UsedLetter, b: UsedLetter) -> bool
+    ensures { result ≡ excludes_by_spec rule a b }
 {
     match rule {
         Exclusion::Both(x, y) => a.letter == x && b.letter == y,
-        Exclusion::Bare(x, y) => a.letter == x && is_bare(&a.argument) && b.letter == y,
+        Exclusion::Bare(x, y) => a.letter == x && a.is_bare && b.letter == y,
         Exclusion::Alone(x) => a.letter == x && b.letter != x,
     }
 }
 
-fn is_excluded(rules: &[Exclusion], a: &Use, b: &Use) -> bool
-    ensures { result ≡ is_excluded_spec rules.now a.now b.now }
+fn is_excluded(rules: &[Exclusion], a: UsedLetter, b: UsedLetter) -> bool
+    ensures { result ≡ is_excluded_spec rules.now a b }
 {
     rules
         .iter()
@@ -77,24 +99,24 @@ fn form_of(option: Option<OptionSpec>) -> Form
     }
 }
 
-fn is_given_twice(option: Option<OptionSpec>, before: &[Use], letter: u8) -> bool
+fn is_given_twice(option: Option<OptionSpec>, before: &[UsedLetter], letter: u8) -> bool
     ensures { result ≡ is_given_twice_spec option before.now letter }
 {
-    !repeats(option) && has(before, letter)
+    !repeats(option) && has_letter(before, letter)
 }
 
-fn excludes(utility: Utility, before: &[Use], one: &Use) -> bool
-    ensures { result ≡ list_any (λ other. is_excluded_spec (exclusions_of utility) one.now other) before.now }
+fn excludes(utility: Utility, before: &[UsedLetter], one: UsedLetter) -> bool
+    ensures { result ≡ list_any (λ other. is_excluded_spec (exclusions_of utility) one other) before.now }
 {
     let rules = utility.exclusions();
-    before.iter().any(|other| is_excluded(rules, one, other))
+    before.iter().any(|other| is_excluded(rules, one, *other))
 }
 
 // a use of a letter of the utility
 fn known_fault(
     alloc: Global,
     utility: Utility,
-    before: &[Use],
+    before: &[UsedLetter],
     one: &Use,
     option: Option<OptionSpec>,
 ) -> Result<Option<Usage>, Memory>
@@ -106,7 +128,7 @@ fn known_fault(
             word: one.word,
         }));
     }
-    if excludes(utility, before, one) {
+    if excludes(utility, before, used_letter(one)) {
         return Ok(Some(Usage {
             kind: EXCLUDE,
             word: one.word,
@@ -130,14 +152,13 @@ fn known_fault(
 }
 
 // the fault of a use, judged after those before it
-#[tactic(auto, unfolding(crate::specs::Judge::use_fault))]
 fn use_fault(
     alloc: Global,
     utility: Utility,
-    before: &[Use],
+    before: &[UsedLetter],
     one: &Use,
 ) -> Result<Option<Usage>, Memory>
-    ensures { IfOk result (λ r. r ≡ use_spec utility before.now one.now) }
+    ensures { IfOk result (λ r. r ≡ use_spec utility before.now one.now one.now.argument) }
 {
     match &one.argument {
         OptionArgument::Unknown => Ok(Some(Usage {
@@ -165,16 +186,40 @@ fn use_fault(
     }
 }
 
+fn is_same(a: UsedLetter, b: UsedLetter) -> bool
+    ensures { result ≡ is_same_spec a b }
+{
+    a.letter == b.letter && a.is_bare == b.is_bare
+}
+
+fn is_there(letters: &[UsedLetter], one: UsedLetter) -> bool
+    ensures { result ≡ list_any (λ other. is_same_spec other one) letters.now }
+{
+    letters.iter().any(|other| is_same(*other, one))
+}
+
+// adds a letter, where it isn't there
+fn add_letter(letters: &mut Vec<UsedLetter>, one: UsedLetter) -> Result<(), Memory>
+    ensures { OnOk result (SameLetters letters.new.items (letters.old.items ++ one ∷ [])) }
+{
+    if !is_there(letters, one) {
+        letters.push(one)?;
+    }
+    Ok(())
+}
+
 /// The first fault of the uses.
 pub fn uses_fault(alloc: Global, utility: Utility, uses: &[Use]) -> Result<Option<Usage>, Memory>
     ensures { IfOk result (λ r. r ≡ uses_spec utility uses.now) }
 {
-    'uses: for (i, one) in uses.iter().enumerate() {
-        let found = use_fault(alloc, utility, &uses[..i], one)?;
+    let mut letters = Vec::new(alloc);
+    'uses: for one in uses {
+        let found = use_fault(alloc, utility, &letters, one)?;
         match found {
             Some(fault) => return Ok(Some(fault)),
             None => {}
         }
+        add_letter(&mut letters, used_letter(one))?;
     }
     Ok(None)
 }
@@ -204,12 +249,6 @@ fn operand_fits(rule: OperandRule, uses: &[Use], word: &[u8]) -> bool
     }
 }
 
-fn has_dash(words: &[Bytes]) -> bool
-    ensures { result ≡ list_any is_dash_spec words.now }
-{
-    words.iter().any(|word| is_dash(word.bytes()))
-}
-
 // whether a word is `-` and others stand before it
 fn is_late_dash(before: &[Bytes], word: &[u8]) -> bool
     ensures { result ≡ is_late_dash_spec before.now word.now }
@@ -217,10 +256,11 @@ fn is_late_dash(before: &[Bytes], word: &[u8]) -> bool
     is_dash(word) && !before.is_empty()
 }
 
-fn dash_with_other(before: &[Bytes], word: &[u8]) -> bool
+fn dash_with_other(had_dash: bool, before: &[Bytes], word: &[u8]) -> bool
+    requires dash { had_dash ≡ list_any is_dash_spec before.now }
     ensures { result ≡ dash_with_other_spec before.now word.now }
 {
-    has_dash(before) || is_late_dash(before, word)
+    had_dash || is_late_dash(before, word)
 }
 
 // the fault of an operand, judged after those before it
@@ -228,14 +268,16 @@ fn dash_with_other(before: &[Bytes], word: &[u8]) -> bool
 fn operand_fault(
     rule: OperandRule,
     line: &CommandLine<'_>,
+    had_dash: bool,
     before: &[Bytes],
     word: &[u8],
 ) -> Option<Usage>
-    requires { line.now.first + length before.now < 2 ^ 64 }
+    requires dash { had_dash ≡ list_any is_dash_spec before.now }
+    requires few { line.now.first + length before.now < 2 ^ 64 }
     ensures { result ≡ operand_spec rule line.now.uses.now line.now.first before.now word.now }
 {
     let here = line.first + before.len() as u64;
-    if dash_with_other(before, word) {
+    if dash_with_other(had_dash, before, word) {
         return Some(Usage {
             kind: EXCLUDE,
             word: here,
@@ -255,12 +297,14 @@ pub fn operands_fault(rule: OperandRule, line: &CommandLine<'_>) -> Option<Usage
     ensures { result ≡ operands_spec rule line.now.uses.now line.now.first line.now.operands.now }
 {
     let words = line.operands;
+    let mut had_dash = false;
     'operands: for (i, word) in words.iter().enumerate() {
-        let found = operand_fault(rule, line, &words[..i], word.bytes());
+        let found = operand_fault(rule, line, had_dash, &words[..i], word.bytes());
         match found {
             Some(fault) => return Some(fault),
             None => {}
         }
+        had_dash = had_dash | is_dash(word.bytes());
     }
     None
 }
