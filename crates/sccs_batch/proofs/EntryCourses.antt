@@ -31,7 +31,7 @@ entry_takes command takes folder i =
     both_all _ (portions_of command folder i) _ (takes folder i) (said_takes (status_line (command folder i).status) [] (command folder i).status (folder_after folder (steps_along command folder i)) i)
 
 end_takes : (bad : Option ℕ) (folder : Folder) (i : List ℕ) → AllTake (portions_of (batch_end bad) folder i)
-end_takes None folder i = tt
+end_takes None folder i = (λ changes n fits. absurd (cc), tt)
 end_takes (Some number) folder i = said_takes [] (bad_entry_line number) 1 folder i
 
 pub entries_take : (command : Entry → Courses) → ((e : Entry) (folder : Folder) (i : List ℕ) → AllTake (portions_of (command e) folder i)) → (entries : List Entry) (bad : Option ℕ) (folder : Folder) (i : List ℕ)

@@ -3,7 +3,7 @@ use Rattle.std.proofs.Common.{◌≡◌, ◌≢◌, ℕ, zero, suc, List, [], �
 use Rattle.std.specs.List.{AllByRecursion}
 use Rattle.sccs_disk.specs.Files.{Folder}
 use Rattle.sccs_steps.specs.Settings.{Setting}
-use Rattle.sccs_steps.specs.StepLists.{NamedStep, folder_after}
+use Rattle.sccs_steps.specs.StepLists.{folder_after}
 use Rattle.sccs_steps.specs.declared.faults.Fault.{Fault}
 use Rattle.sccs_courses.specs.Courses.{AllTake, Courses, if_fine, portions_of, steps_along, while_fine}
 use Rattle.sccs_courses.specs.Following.{RunsCourse}
@@ -14,7 +14,7 @@ use Rattle.sccs_courses.proofs.SaidCourses.{nothing_course}
 
 fine_if : (rest : Courses) → ((folder : Folder) (i : List ℕ) → AllTake (portions_of rest folder i)) → (code : ℕ) (folder : Folder) (i : List ℕ) → AllTake (portions_of (if_fine rest code) folder i)
 fine_if rest takes zero folder i = takes folder i
-fine_if rest takes (suc code) folder i = tt
+fine_if rest takes (suc code) folder i = (λ changes n fits. absurd (cc), tt)
 
 -- what changes files takes the names of s-files alone, in each course
 module _ {X : Type 0} (f : Following X) (takes_each : (x : X) (folder : Folder) (i : List ℕ) → AllTake (portions_of (f.each x) folder i)) (takes_last : (folder : Folder) (i : List ℕ) → AllTake (portions_of f.last folder i)) where

@@ -1,5 +1,5 @@
 -- A call that follows a course, and one that follows what its status decides.
-use Rattle.std.proofs.Common.{◌⊎◌, ℕ, ◌≤◌, Bool, List, ◌++◌, Option, Result, Ok, Err, inl, inr, refl, sym, subst, arith}
+use Rattle.std.proofs.Common.{◌≢◌, ◌⊎◌, ℕ, ◌≤◌, Bool, List, [], ◌∷◌, ◌++◌, Option, Result, Ok, Err, inl, inr, refl, sym, subst, arith}
 use Rattle.sccs_base.specs.Stream.{GivesOk, GivesSome, Rose}
 use Rattle.sccs_base.proofs.Gifts.{gives_both, gives_then}
 use Rattle.sccs_disk.specs.Files.{Folder, Model, view_in}
@@ -16,8 +16,8 @@ use Rattle.sccs_steps.specs.StepLists.{NamedStep, Ran, err_of, folder_after}
 use Rattle.sccs_steps.specs.declared.faults.Fault.{Fault}
 use Rattle.sccs_steps.proofs.JoinedSteps.{err_more, ran_then, stops_more, stops_then}
 use Rattle.sccs_steps.proofs.Turns.{front_all, rest_all}
-use Rattle.sccs_courses.specs.Courses.{AllClear, AllExempt, AllPlain, AllSafe, AllTake, Courses, Portion, follow, portions_of, steps_along, steps_in}
-use Rattle.sccs_courses.specs.Following.{AreKnown, BegunThen, CourseMoments, MakesCourse, RunsCourse, RunsTo, SpeaksTo, StopsCourse, UnlockedCourse, WholeThen}
+use Rattle.sccs_courses.specs.Courses.{AllClear, AllExempt, AllPlain, AllSafe, AllTake, Courses, NoneFinishes, Portion, follow, portions_of, steps_along, steps_in}
+use Rattle.sccs_courses.specs.Following.{AreKnown, BegunThen, CourseMoments, FinishesFirst, MakesCourse, RunsCourse, RunsTo, SpeaksTo, StopsCourse, UnlockedCourse, WholeThen}
 use Rattle.sccs_courses.proofs.CourseMomentLaws.{keeps_now, may_now, more_moments, then_moments}
 use Rattle.sccs_courses.proofs.Portions.{both_all, safe_later, steps_more}
 
@@ -62,7 +62,18 @@ causes_then one r a b c first next = record {
 -- what is known of several portions is known of the first ones
 known_first : (told : Told) (folder : Folder) (ps qs : List Portion) → AreKnown told folder (ps ++ qs) → AreKnown told folder ps
 known_first told folder ps qs (inl none) = inl (front_all _ ps qs none)
-known_first told folder ps qs (inr safe) = inr (record { model = safe.model; past = safe.past; is = safe.is; may = safe.may; safe = front_all _ ps qs safe.safe })
+known_first told folder ps qs (inr (inl safe)) = inr (inl (record { model = safe.model; past = safe.past; is = safe.is; may = safe.may; safe = front_all _ ps qs safe.safe }))
+known_first told folder [] qs (inr (inr first)) = inl tt
+known_first told folder (p ∷ ps) qs (inr (inr first)) = inr (inr (first.0, front_all _ ps qs first.1))
+
+-- where the first of them takes working files none of those behind does
+none_behind : (told : Told) (folder : Folder) (ps qs : List Portion) → ps ≢ [] → FinishesFirst told folder (ps ++ qs) → NoneFinishes qs
+none_behind told folder [] qs some first = absurd (some refl)
+none_behind told folder (p ∷ ps) qs some first = rest_all _ ps qs first.1
+
+some_more : (ps qs : List Portion) → ps ≢ [] → ps ++ qs ≢ []
+some_more [] qs some = absurd (some refl)
+some_more (p ∷ ps) qs some = λ e. absurd cc
 
 -- ---- to its end, and then the other
 
@@ -71,6 +82,7 @@ pub course_then : (first : Courses) (rest : ℕ → Courses) (given given1 given
     → ((i : List ℕ) → given i → given1 i) → ((i : List ℕ) → given i → given2 i) → ((code : ℕ) (folder : Folder) (i : List ℕ) → AllTake (portions_of (rest code) folder i))
     → RunsCourse first given1 whole begun (Ok one) s t → RunsCourse (rest one) given2 (whole2 one) (begun2 one) r t u → RunsCourse (follow first rest) given (WholeThen whole whole2) (BegunThen whole begun begun2) r s u
 course_then first rest given given1 given2 whole begun whole2 begun2 one r s t u to1 to2 takes done next = record {
+  some = λ folder i heard. some_more (portions_of first folder i) (rest_in folder i) (done.some folder i (to1 i heard));
   takes = λ folder i. both_all _ (portions_of first folder i) (rest_in folder i) (done.takes folder i) (takes (first folder i).status (left_in folder i) i);
   steps = λ w folder i spares clear shows known heard.
       steps_at w folder i spares clear shows known heard
@@ -78,7 +90,7 @@ course_then first rest given given1 given2 whole begun whole2 begun2 one r s t u
   stops = λ w folder i m past spares clear shows heard told may safe.
       stops_at w folder i m past spares clear heard safe
       (done.steps w folder i spares (front_all _ (portions_of first folder i) (rest_in folder i) clear) shows
-      (inr (record { model = m; past = past; is = told; may = may; safe = front_all _ (portions_of first folder i) (rest_in folder i) safe })) (to1 i heard))
+      (inr (inl (record { model = m; past = past; is = told; may = may; safe = front_all _ (portions_of first folder i) (rest_in folder i) safe }))) (to1 i heard))
       (done.stops w folder i m past spares (front_all _ (portions_of first folder i) (rest_in folder i) clear) shows (to1 i heard) told may (front_all _ (portions_of first folder i) (rest_in folder i) safe));
   unlocked = λ w folder i spares clear shows known heard exempt plain freed.
       unlocked_at w folder i spares clear shows known heard exempt plain freed
@@ -100,17 +112,18 @@ course_then first rest given given1 given2 whole begun whole2 begun2 one r s t u
     known_rest : (w : List ℕ → Bool) (folder : Folder) (i : List ℕ) → Spares w → AllClear w (portions_of (follow first rest) folder i) → Shows w (seen s.stage.told) (view_in folder) → given i
         → AreKnown s.stage.told folder (portions_of (follow first rest) folder i) → AreKnown t.stage.told (left_in folder i) (rest_in folder i)
     known_rest w folder i spares clear shows heard (inl none) = inl (rest_all _ (portions_of first folder i) (rest_in folder i) none)
-    known_rest w folder i spares clear shows heard (inr safe) =
+    known_rest w folder i spares clear shows heard (inr (inr begun)) = inl (none_behind s.stage.told folder (portions_of first folder i) (rest_in folder i) (done.some folder i (to1 i heard)) begun)
+    known_rest w folder i spares clear shows heard (inr (inl safe)) =
         let moments : CourseMoments w (Ok one) folder (steps_along first folder i) s.stage t.stage safe.model safe.past =
         done.stops w folder i safe.model safe.past spares (front_all _ (portions_of first folder i) (rest_in folder i) clear) shows (to1 i heard) safe.is safe.may (front_all _ (portions_of first folder i) (rest_in folder i) safe.safe) in
-        inr (record {
+        inr (inl (record {
           model = newest moments.list.went.added safe.model;
           past = earlier moments.list.went.added safe.model safe.past;
           is = moments.list.went.is;
           may = may_now w one folder (steps_along first folder i) s.stage t.stage safe.model safe.past moments;
           safe = safe_later (rest_in folder i) (view_in folder) (view_in (left_in folder i)) (keeps_now w one folder (steps_along first folder i) s.stage t.stage safe.model safe.past moments) (takes (first folder i).status (left_in folder i) i)
               (rest_all _ (portions_of first folder i) (rest_in folder i) safe.safe);
-        })
+        }))
 
     steps_at : (w : List ℕ → Bool) (folder : Folder) (i : List ℕ) → Spares w → AllClear w (portions_of (follow first rest) folder i) → Shows w (seen s.stage.told) (view_in folder) → AreKnown s.stage.told folder (portions_of (follow first rest) folder i) → given i → Began w folder i
         → RunsTo (follow first rest folder i).status w r folder (steps_along (follow first rest) folder i) (shown s.stage) (shown u.stage)
@@ -145,6 +158,7 @@ pub course_cut : (first : Courses) (rest : ℕ → Courses) (given given1 : List
     → ((i : List ℕ) → given i → given1 i) → ((code : ℕ) (folder : Folder) (i : List ℕ) → AllTake (portions_of (rest code) folder i))
     → RunsCourse first given1 whole begun (Err fault) s t → RunsCourse (follow first rest) given (WholeThen whole whole2) (BegunThen whole begun begun2) (Err fault) s t
 course_cut first rest given given1 whole begun whole2 begun2 fault s t to1 takes cut = record {
+  some = λ folder i heard. some_more (portions_of first folder i) (rest_in folder i) (cut.some folder i (to1 i heard));
   takes = λ folder i. both_all _ (portions_of first folder i) (rest_in folder i) (cut.takes folder i) (takes (first folder i).status (folder_after folder (steps_along first folder i)) i);
   steps = λ w folder i spares clear shows known heard.
       subst (λ (ts : List NamedStep). RunsTo (follow first rest folder i).status w (Err fault) folder ts (shown s.stage) (shown t.stage)) (sym (steps_more (portions_of first folder i) (rest_in folder i)))

@@ -24,6 +24,7 @@ speaks_to rule whole begun (Err fault) a b says = says
 pub steps_course : (x : Action) (made : Steps) (given : List ℕ → Type 0) (whole begun : List NamedStep → Type 0) (hearing : Bool) (r : Result ℕ Fault) (s t : Setting) → TakesSfiles x
     → RunsSteps x made given (SpeakBy x.rule whole begun) hearing r s t → RunsCourse (portion_of x made) given (WholeBy x.rule whole) begun r s t
 steps_course x made given whole begun hearing r s t takes runs = record {
+  some = λ folder i heard. λ e. absurd cc;
   takes = λ folder i. (takes, tt);
   steps = λ w folder i spares clear shows known heard. runs_to x.rule w r folder (made folder i) (shown s.stage) (shown t.stage) (runs.steps w folder i spares clear.0.names shows heard);
   stops = λ w folder i m past spares clear shows heard told may safe.

@@ -1,5 +1,5 @@
 -- Courses of calls that have an input of their own.
-use Rattle.std.proofs.Common.{◌≡◌, ℕ, List, Option, Result, Ok, Err, inl, inr, arith, sym, subst}
+use Rattle.std.proofs.Common.{◌≡◌, ◌≢◌, ℕ, List, [], Option, Result, Ok, Err, inl, inr, arith, sym, subst}
 use Rattle.sccs_base.specs.Stream.{Rose}
 use Rattle.sccs_disk.specs.Files.{Folder, view_in}
 use Rattle.sccs_steps.specs.Calls.{shown}
@@ -18,6 +18,7 @@ never_rose b c (inr full) = absurd (let no : 0 ≡ 18446744073709551615 = full i
 pub course_heard : (course : Courses) (given : List ℕ → Type 0) (whole : ℕ → List NamedStep → Type 0) (begun : List NamedStep → Type 0) (r : Result ℕ Fault) (s t : Setting) (left left2 : Option (List ℕ)) (count : ℕ) → s.faults.input ≡ 0 → t.faults.input ≡ 0
     → RunsCourse course given whole begun r s t → RunsCourse course given whole begun r (with_input left count s) (with_input left2 count t)
 course_heard course given whole begun r s t left left2 count none none2 runs = record {
+  some = runs.some;
   takes = runs.takes;
   steps = runs.steps;
   stops = runs.stops;
@@ -39,6 +40,7 @@ pub course_chosen : (choose : List ℕ → Courses) (course : Courses) (given gi
     → ((folder : Folder) (i : List ℕ) → AllTake (portions_of (choose i) folder i)) → ((i : List ℕ) → given i → choose i ≡ course) → ((i : List ℕ) → given i → given1 i)
     → RunsCourse course given1 whole begun r s t → RunsCourse (λ folder i. choose i folder i) given whole begun r s t
 course_chosen choose course given given1 whole begun r s t takes is to runs = record {
+  some = λ folder i heard. subst (λ (c : Courses). portions_of c folder i ≢ []) (sym (is i heard)) (runs.some folder i (to i heard));
   takes = takes;
   steps = λ w folder i spares clear shows known heard.
       subst (λ (c : Courses). RunsTo (c folder i).status w r folder (steps_along c folder i) (shown s.stage) (shown t.stage)) (sym (is i heard))
@@ -65,6 +67,7 @@ speaks_as whole whole2 begun begun2 (Err fault) a b done cut says = (says.0, cut
 pub course_as : (course : Courses) (given : List ℕ → Type 0) (whole whole2 : ℕ → List NamedStep → Type 0) (begun begun2 : List NamedStep → Type 0) (r : Result ℕ Fault) (s t : Setting)
     → ((status : ℕ) (ts : List NamedStep) → whole status ts → whole2 status ts) → ((ts : List NamedStep) → begun ts → begun2 ts) → RunsCourse course given whole begun r s t → RunsCourse course given whole2 begun2 r s t
 course_as course given whole whole2 begun begun2 r s t done cut runs = record {
+  some = runs.some;
   takes = runs.takes;
   steps = runs.steps;
   stops = runs.stops;
@@ -79,6 +82,7 @@ course_as course given whole whole2 begun begun2 r s t done cut runs = record {
 pub course_with : (course : Courses) (input : List ℕ) (given : List ℕ → Type 0) (whole : ℕ → List NamedStep → Type 0) (begun : List NamedStep → Type 0) (r : Result ℕ Fault) (s t : Setting)
     → RunsCourse course given whole begun r s t → RunsCourse (λ folder i. course folder input) (λ i. given input) whole begun r s t
 course_with course input given whole begun r s t runs = record {
+  some = λ folder i heard. runs.some folder input heard;
   takes = λ folder i. runs.takes folder input;
   steps = λ w folder i spares clear shows known heard. runs.steps w folder input spares clear shows known heard;
   stops = λ w folder i m past spares clear shows heard told may safe. runs.stops w folder input m past spares clear shows heard told may safe;

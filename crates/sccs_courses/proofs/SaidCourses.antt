@@ -1,5 +1,5 @@
 -- Texts that are said, nothing, and calls that never began.
-use Rattle.std.proofs.Common.{◌≡◌, ℕ, ◌<◌, Bool, List, [], ◌∷◌, ◌++◌, length, Option, Result, Ok, Err, refl, sym, subst, ◌∙◌, arith}
+use Rattle.std.proofs.Common.{◌≡◌, ◌≢◌, ℕ, ◌<◌, Bool, List, [], ◌∷◌, ◌++◌, length, Option, Result, Ok, Err, refl, sym, subst, ◌∙◌, arith}
 use Rattle.std.proofs.lemmas.List.{append-nil}
 use Rattle.sccs_base.specs.Stream.{GivesOk, GivesSome}
 use Rattle.sccs_base.proofs.Gifts.{gives_none, some_none, some_of_whole}
@@ -25,7 +25,7 @@ use Rattle.sccs_steps.proofs.MomentLists.{moments_never, moments_none}
 use Rattle.sccs_steps.proofs.OneMoment.{one_after}
 use Rattle.sccs_steps.proofs.SafeImages.{images_now, told_once}
 use Rattle.sccs_steps.proofs.Safety.{keeps_same}
-use Rattle.sccs_courses.specs.Courses.{AllTake, Courses, nothing, portions_of, said, saying, steps_along}
+use Rattle.sccs_courses.specs.Courses.{AllTake, Courses, Portion, nothing, portions_of, said, saying, steps_along, steps_in}
 use Rattle.sccs_courses.specs.Following.{CourseMoments, MakesCourse, RunsCourse, RunsTo, SpeaksTo, StopsCourse, UnlockedCourse}
 use Rattle.sccs_courses.specs.Sayings.{BegunSaid, IsSaid, WholeNothing, WholeSaid}
 use Rattle.sccs_courses.proofs.CourseMomentLaws.{course_moments}
@@ -92,6 +92,7 @@ said_speaks out err code (Err ends.DiskFault) a b is = absurd is
 pub said_course : (out err : List ℕ) (code : ℕ) (given : List ℕ → Type 0) (r : Result ℕ Fault) (s t : Setting) → t.stage.told ≡ s.stage.told → IsSaid out err code r s.stage t.stage → RunCauses r s.faults t.faults
     → RunsCourse (saying out err code) given (WholeSaid out err code) (BegunSaid out err) r s t
 said_course out err code given r s t same is causes = record {
+  some = λ folder i heard. λ e. absurd cc;
   takes = λ folder i. (λ changes n fits. absurd (cc), tt);
   steps = λ w folder i spares clear shows known heard. said_to out err code w r folder s.stage t.stage same shows is;
   stops = λ w folder i m past spares clear shows heard told may safe. said_stops out err code w r folder s.stage t.stage m past same shows told may is;
@@ -104,7 +105,8 @@ said_course out err code given r s t same is causes = record {
 
 pub nothing_course : (code : ℕ) (given : List ℕ → Type 0) (begun : List NamedStep → Type 0) (s : Setting) → RunsCourse (nothing code) given (WholeNothing code) begun (Ok code) s s
 nothing_course code given begun s = record {
-  takes = λ folder i. tt;
+  some = λ folder i heard. λ e. absurd cc;
+  takes = λ folder i. (λ changes n fits. absurd (cc), tt);
   steps = λ w folder i spares clear shows known heard. (refl, ran_none w folder (shown s.stage) shows);
   stops = λ w folder i m past spares clear shows heard told may safe.
       course_moments w (Ok code) folder [] s.stage s.stage m past (moments_none w code folder s.stage m past told may shows) (λ other. keeps_same (view_in folder)) (images_now m);
@@ -159,10 +161,16 @@ stops_never w ends.WriteFault folder ts a some shows = never_stopped w folder ts
 stops_never w ends.DiskFault folder ts a some shows =
     record { made = []; rest = ts; is = refl; view = shows_next w a.view (view_in folder) ts shows; out = some_none a.out (next_text ts); err = some_none a.err [] }
 
+-- where steps are there a portion is
+with_steps : (ps : List Portion) → 0 < length (steps_in ps) → ps ≢ []
+with_steps [] some = absurd (omega (arith, some))
+with_steps (p ∷ ps) some = λ e. absurd cc
+
 pub never_course : (course : Courses) (given : List ℕ → Type 0) (whole : ℕ → List NamedStep → Type 0) (begun : List NamedStep → Type 0) (ts : List NamedStep) (fault : Fault) (s t : Setting)
     → ((folder : Folder) (i : List ℕ) → AllTake (portions_of course folder i)) → ((folder : Folder) (i : List ℕ) → 0 < length (steps_along course folder i)) → begun ts
     → t.stage ≡ s.stage → RunCauses (Err fault) s.faults t.faults → RunsCourse course given whole begun (Err fault) s t
 never_course course given whole begun ts fault s t takes some might same causes = record {
+  some = λ folder i heard. with_steps (portions_of course folder i) (some folder i);
   takes = takes;
   steps = subst (λ (b : Scene). MakesCourse course given (Err fault) s.stage b) (sym same)
       (λ w folder i spares clear shows known heard. stops_never w fault folder (steps_along course folder i) (shown s.stage) (some folder i) shows);

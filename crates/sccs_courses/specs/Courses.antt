@@ -52,10 +52,6 @@ steps_along course folder i = steps_in (course folder i).portions
 
 -- ---- courses
 
--- nothing, with this status
-abbrev pub nothing : ℕ → Courses
-nothing status = λ folder i. course_of [] status
-
 -- in a folder a course is followed by one that its status decides, which goes on in the folder that it left
 abbrev pub and_then : Course → (ℕ → Courses) → Folder → List ℕ → Course
 and_then c rest folder i =
@@ -89,6 +85,10 @@ no_action = record {
   rule = Greatest;
   could = λ o. false;
 }
+
+-- nothing, with this status
+abbrev pub nothing : ℕ → Courses
+nothing status = λ folder i. course_of (portion no_action [] ∷ []) status
 
 -- a text is written
 abbrev pub saying : List ℕ → List ℕ → ℕ → Courses

@@ -1,11 +1,12 @@
 -- What a call says that follows a course.
-use Rattle.std.specs.Prelude.{◌≡◌, ◌≢◌, ◌⊎◌, ℕ, suc, ◌<◌, ◌≤◌, Bool, List, [], ◌∷◌, ◌++◌, length, Option, Result, Ok, Err}
+use Rattle.std.specs.Prelude.{◌≡◌, ◌≢◌, ◌⊎◌, ℕ, suc, ◌<◌, ◌≤◌, Bool, List, [], ◌∷◌, ◌++◌, length, Option, IfSome, Result, Ok, Err}
 use Rattle.sccs_base.specs.Stream.{GivesOk, GivesSome}
-use Rattle.sccs_disk.specs.Files.{Folder, Model, view_in}
+use Rattle.sccs_disk.specs.Files.{Folder, Model, View, view_in}
 use Rattle.sccs_disk.specs.Images.{Allows}
 use Rattle.sccs_disk.specs.Told.{Told, Tells, seen}
 use Rattle.sccs_files.specs.StepFiles.{Shows}
 use Rattle.sccs_images.specs.Touches.{Each}
+use Rattle.sccs_moments.specs.Recovery.{RecoversAs}
 use Rattle.sccs_moments.specs.Unlocked.{BeginsUnlockedBut}
 use Rattle.sccs_steps.specs.Calls.{Scene, World, shown}
 use Rattle.sccs_steps.specs.Causes.{RunCauses}
@@ -30,9 +31,18 @@ pub record BeginsSafe (told : Told) (folder : Folder) (ps : List Portion) : Type
   pub may : MayBegin folder model
   pub safe : AllSafe (view_in folder) ps
 
+-- what is told recovers as the folder does
+abbrev pub RecoversTold : Told → Folder → Type 0
+RecoversTold told folder = IfSome (seen told) (λ (u : View). RecoversAs (view_in folder) u)
+
+-- the first portion alone takes working files, and what is told recovers as the folder does
+abbrev pub FinishesFirst : Told → Folder → List Portion → Type 0
+FinishesFirst told folder [] = ⊥
+FinishesFirst told folder (p ∷ ps) = RecoversTold told folder × NoneFinishes ps
+
 -- working files may differ from the folder's: none is taken, or they recover as the folder does
 abbrev pub AreKnown : Told → Folder → List Portion → Type 0
-AreKnown told folder ps = NoneFinishes ps ⊎ BeginsSafe told folder ps
+AreKnown told folder ps = NoneFinishes ps ⊎ (BeginsSafe told folder ps ⊎ FinishesFirst told folder ps)
 
 -- where the disk tells a folder and the input is given the course is followed, or the call ends early
 abbrev pub MakesCourse : Courses → (List ℕ → Type 0) → Result ℕ Fault → Scene → Scene → Type 0
@@ -70,6 +80,7 @@ SpeaksTo whole begun (Err fault) err err2 = (ts : List NamedStep) × begun ts ×
 
 -- What a call says that follows a course.
 pub record RunsCourse (course : Courses) (given : List ℕ → Type 0) (whole : ℕ → List NamedStep → Type 0) (begun : List NamedStep → Type 0) (r : Result ℕ Fault) (s t : Setting) : Type 0 where
+  pub some : (folder : Folder) (i : List ℕ) → given i → portions_of course folder i ≢ []
   -- what changes files takes the names of s-files alone
   pub takes : (folder : Folder) (i : List ℕ) → AllTake (portions_of course folder i)
   pub steps : MakesCourse course given r s.stage t.stage

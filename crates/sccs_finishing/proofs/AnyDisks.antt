@@ -1,40 +1,40 @@
 -- Finishing a group and then recovering names, on any disk on which the group may be finished.
-use Rattle.std.proofs.Common.{◌≡◌, ◌≢◌, ◌⊎◌, ℕ, Bool, true, false, ◌&&◌, ◌||◌, List, [], ◌∷◌, ◌++◌, Option, None, Some, IfSome, IsSome, IsOk, Result, Ok, Err, inl, inr, refl, sym, ap, subst, ◌∙◌}
+use Rattle.std.proofs.Common.{◌≡◌, ◌≢◌, ◌⊎◌, ℕ, false, List, Option, None, Some, IfSome, IsSome, IsOk, Result, Ok, Err, inl, inr, refl, sym, ap, subst, ◌∙◌}
 use Rattle.std.specs.Str.{bytes_eq}
-use Rattle.sccs_base.specs.Name.{IsSfile, p_file, q_file, x_file, z_file}
-use Rattle.sccs_disk.specs.Files.{Content, Folder, Model, View, view_in, view_of}
+use Rattle.sccs_base.specs.Name.{z_file}
+use Rattle.sccs_disk.specs.Files.{Content, Folder, Model, View, view_of}
 use Rattle.sccs_disk.specs.Images.{Allows, Image}
 use Rattle.sccs_disk.specs.Told.{Told, Tells, seen}
-use Rattle.sccs_images.specs.Touches.{Each, Touches, Touching, earlier, newest}
+use Rattle.sccs_images.specs.Touches.{Touches, Touching, earlier, newest}
 use Rattle.sccs_images.proofs.Images.{view_image}
 use Rattle.sccs_images.proofs.Touched.{each_newest}
 use Rattle.sccs_intents.specs.Intents.{entries_in, fate_in, intent_file, plan_file}
 use Rattle.sccs_intents.specs.declared.intents.Fate.{Fate}
 use Rattle.sccs_moments.specs.Calm.{HasFirm, IsCalm}
-use Rattle.sccs_moments.specs.Moments.{CanRecover, IsCalmUnnamed, IsFrom, KeepsCalm, LeavesCalm, LeavesFirm, NamesNone, RecoversOn, Went}
-use Rattle.sccs_moments.specs.Recovery.{RecoversAs, fate_at}
-use Rattle.sccs_moments.proofs.CalmDisks.{calm_firm, firms_touched}
+use Rattle.sccs_moments.specs.Moments.{CanRecover, IsCalmUnnamed, IsFrom, NamesNone, Went}
+use Rattle.sccs_moments.specs.Recovery.{fate_at}
+use Rattle.sccs_moments.proofs.CalmDisks.{firms_touched}
 use Rattle.sccs_moments.proofs.Joined.{newest_is, numbered_as, numbered_now, numbered_zero, went_then}
 use Rattle.sccs_moments.proofs.Recoveries.{calm_recovers}
-use Rattle.sccs_moments.proofs.Recovering.{fate_same, recovers_then}
+use Rattle.sccs_moments.proofs.Recovering.{fate_same}
 use Rattle.sccs_moments.proofs.Untouched.{guards_touched, none_named, view_touched}
 use Rattle.sccs_steps.proofs.Safety.{pair_settled}
 use Rattle.sccs_finishing.proofs.FinishStops.{plan_recovers}
-use Rattle.sccs_steps.specs.Recovering.{RecoversSteps, has_made}
+use Rattle.sccs_steps.specs.Recovering.{RecoversSteps}
 use Rattle.sccs_steps.specs.declared.faults.Fault.{Fault}
 use Rattle.sccs_steps.specs.declared.faults.Fault.TheVariants as ends
-use Rattle.sccs_group.specs.Finishing.{CanFinish, Completes, Finishes, Follows, IsHeld, IsSettled}
+use Rattle.sccs_group.specs.Finishing.{CanFinish, Completes, Finishes, Follows}
 use Rattle.sccs_group.proofs.Announcing.{plan_and_sfile}
 use Rattle.sccs_group.proofs.Runs.{from_image, view_is}
 use Rattle.sccs_store.specs.Commits.{Becomes}
 use Rattle.sccs_moments.specs.Recovery.{without_name}
 use Rattle.sccs_disk.proofs.Puts.{put_other}
-use Rattle.sccs_group.specs.Recovering.{IsBad, IsWellFormed, bare, finished_by, group_finished}
+use Rattle.sccs_group.specs.Recovering.{IsBad, IsWellFormed, finished_by, group_finished}
 use Rattle.sccs_finishing.proofs.Moved.{completed_intent}
 use Rattle.sccs_steps.specs.Actions.{Action}
 use Rattle.sccs_steps.specs.StepLists.{NamedStep}
 use Rattle.sccs_finishing.proofs.FinishStops.{plan_before}
-use Rattle.sccs_finishing.specs.AnyDisk.{LeavesFinishable, MakesCalm, MayRecover, RecoversAll, RecoversFrom, StaysCalm}
+use Rattle.sccs_finishing.specs.AnyDisk.{LeavesFinishable, MakesCalm, RecoversAll, RecoversFrom, StaysCalm}
 use Rattle.sccs_finishing.specs.Ends.{FinishEnds, IsFinished, IsLeft, LosesPlan}
 
 -- a disk on which names may be recovered is one on which a group may be finished

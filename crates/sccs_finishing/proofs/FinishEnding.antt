@@ -1,5 +1,5 @@
 -- How finishing a group ends, by what the call below answered.
-use Rattle.std.proofs.Common.{◌≡◌, ◌≢◌, ℕ, Bool, List, Option, None, Some, IfOk, IfSome, IsErrOf, OnErr, OnOk, Result, Ok, Err, inl, inr, refl, sym, subst}
+use Rattle.std.proofs.Common.{◌≡◌, ◌≢◌, ℕ, Bool, Option, None, Some, IfOk, IfSome, IsErrOf, OnErr, OnOk, Result, Ok, Err, inl, inr, refl}
 use Rattle.std.specs.Str.{bytes_eq}
 use Rattle.sccs_disk.specs.Causes.{DiskCauses}
 use Rattle.sccs_disk.specs.Files.{View}
@@ -7,7 +7,6 @@ use Rattle.sccs_disk.specs.Told.{Told, seen}
 use Rattle.sccs_images.specs.Touches.{TouchesOnly}
 use Rattle.sccs_intents.specs.Intents.{intent_file, plan_file}
 use Rattle.sccs_moments.specs.Recovery.{without_name}
-use Rattle.sccs_steps.specs.declared.faults.Fault.{Fault}
 use Rattle.sccs_steps.specs.declared.faults.Fault.TheVariants as ends
 use Rattle.sccs_store.specs.Commits.{Becomes}
 use Rattle.sccs_group.specs.Finishing.{Always, CompletesBy, FinishesBy}

@@ -1,17 +1,15 @@
 -- A call that finishes a group follows its course.
-use Rattle.std.proofs.Common.{◌≡◌, ◌≢◌, ◌⊎◌, ℕ, zero, suc, Bool, true, false, List, [], ◌∷◌, map, Option, None, Some, option_map, IfSome, Result, Ok, Err, inl, inr, refl, sym, ap, subst, ◌∙◌, ⊎_elim, arith}
-use Rattle.std.specs.List.{AllByRecursion}
+use Rattle.std.proofs.Common.{◌≡◌, ◌⊎◌, ℕ, suc, Bool, true, false, List, [], ◌∷◌, map, Option, None, Some, option_map, IfSome, Result, Ok, Err, inl, inr, refl, sym, ap, subst, ◌∙◌, ⊎_elim, arith}
 use Rattle.std.specs.Str.{bytes_eq}
-use Rattle.sccs_base.specs.Name.{IsSfile, is_sfile_name, sfile_name_decides}
-use Rattle.sccs_base.specs.Stream.{GivesOk, GivesSome, Rose}
+use Rattle.sccs_base.specs.Name.{sfile_name_decides}
 use Rattle.sccs_base.proofs.Gifts.{gives_none, some_none}
 use Rattle.sccs_disk.specs.Causes.{DiskCauses}
 use Rattle.sccs_disk.proofs.Puts.{name_cases}
 use Rattle.sccs_disk.specs.Files.{Content, Folder, Model, View, view_in, view_of}
 use Rattle.sccs_disk.specs.Images.{Allows}
 use Rattle.sccs_disk.specs.Told.{Told, Tells, seen}
-use Rattle.sccs_files.specs.StepFiles.{Alike, Moves, Shows}
-use Rattle.sccs_images.specs.Touches.{Each, TouchesOnly, Touching, earlier, newest}
+use Rattle.sccs_files.specs.StepFiles.{Alike, Shows}
+use Rattle.sccs_images.specs.Touches.{Each, Touching}
 use Rattle.sccs_intents.specs.Intents.{AreOthers, entries_in, has_name, intent_file, plan_file}
 use Rattle.sccs_intents.specs.declared.intents.Entry.{Entry}
 use Rattle.sccs_moments.specs.Moments.{EndsAfter}
@@ -19,23 +17,21 @@ use Rattle.sccs_moments.specs.Recovery.{RecoversAs, without_name}
 use Rattle.sccs_moments.specs.Unlocked.{BeginsUnlockedBut, KeepsOthers}
 use Rattle.sccs_moments.proofs.Recovering.{recovers_back, recovers_then}
 use Rattle.sccs_moments.proofs.Untouched.{before_after}
-use Rattle.sccs_steps.specs.Actions.{AreClear}
-use Rattle.sccs_steps.specs.Calls.{Scene, World, scene, shown, world}
+use Rattle.sccs_steps.specs.Calls.{scene, world}
 use Rattle.sccs_steps.specs.Causes.{RunCauses, counts}
 use Rattle.sccs_steps.specs.ListStops.{AreSafe, KeepsSafe, KeepsSafeFrom, MayBegin, Spares}
-use Rattle.sccs_steps.specs.StepLists.{AreAllCleared, NamedStep, Ran, ShowsNext, Stopped, moves_of, step_in}
-use Rattle.sccs_steps.specs.StepStops.{IsSafe}
+use Rattle.sccs_steps.specs.StepLists.{AreAllCleared, NamedStep, ShowsNext, step_in}
 use Rattle.sccs_steps.specs.declared.faults.Fault.{Fault}
 use Rattle.sccs_steps.specs.declared.faults.Fault.TheVariants as ends
 use Rattle.sccs_steps.proofs.OneMoment.{Alikes, one_after, one_before, one_within}
 use Rattle.sccs_steps.proofs.SafeImages.{told_once}
 use Rattle.sccs_steps.proofs.Safety.{keeps_same}
-use Rattle.sccs_courses.specs.Courses.{AllClear, AllExempt, AllPlain, AllSafe, IsClearFor, portions_of}
-use Rattle.sccs_courses.specs.Following.{AreKnown, BeginsSafe, CourseMoments, RunsCourse, RunsTo, SpeaksTo}
+use Rattle.sccs_courses.specs.Courses.{AllClear, AllExempt, AllSafe}
+use Rattle.sccs_courses.specs.Following.{AreKnown, CourseMoments, RunsCourse, RunsTo, SpeaksTo}
 use Rattle.sccs_courses.proofs.CourseMomentLaws.{course_moments}
 use Rattle.sccs_store.specs.Commits.{Becomes}
 use Rattle.sccs_group.specs.Finishing.{CanFinish, Completes, Finishes}
-use Rattle.sccs_group.specs.Halfway.{IsHalfway, intended, is_left_of_group, is_own_of_group, first_placed}
+use Rattle.sccs_group.specs.Halfway.{IsHalfway, intended, is_own_of_group}
 use Rattle.sccs_group.specs.Members.{completed}
 use Rattle.sccs_group.proofs.Found.{bare_entries}
 use Rattle.sccs_group.proofs.Intended.{intended_members}
@@ -48,7 +44,7 @@ use Rattle.sccs_finishing.specs.Ends.{BegunFinishing, FinishEnds, FinishOthers, 
 use Rattle.sccs_finishing.specs.FinishStep.{finishing_action, finishing_course, finishing_portion, finishing_step, is_formed, name_part}
 use Rattle.sccs_finishing.proofs.FinishShown.{IsBegun, completed_cleared, finished_in, formed_alike, formed_by, half_alike, not_bad, own_fates, plan_alike, plan_cleared, same_intent, same_pairs, still_by}
 use Rattle.sccs_finishing.proofs.FinishStops.{after_of, are_safe, can_finish, follow_images, plan_before, plan_images, within_of}
-use Rattle.sccs_finishing.proofs.FinishViews.{IntentCase, Formed, Unformed, finished, finished_formed, finished_recovers, finished_safe, finished_unformed, intent_case, step_by, step_is}
+use Rattle.sccs_finishing.proofs.FinishViews.{IntentCase, Formed, Unformed, finished, finished_formed, finished_recovers, finished_safe, finished_unformed, intent_case, step_is}
 use Rattle.sccs_finishing.proofs.Moved.{SamePairs}
 use Rattle.sccs_finishing.proofs.NameFiles.{count_of}
 
@@ -169,7 +165,8 @@ cut_shown w v u a b begun told cut recovers = by (intent_case (v intent_file))
 -- where an intent has its form what is told recovers as the folder
 known_recovers : (w : List ℕ → Bool) (folder : Folder) (a : Told) (u : View) → seen a ≡ Some u → AreKnown a folder (finishing_portion (view_in folder) ∷ []) → is_formed (view_in folder intent_file) ≡ true → RecoversAs (view_in folder) u
 known_recovers w folder a u told (inl none) formed = absurd (let no : true ≡ false = sym formed ∙ none.0 in cc)
-known_recovers w folder a u told (inr safe) formed =
+known_recovers w folder a u told (inr (inr begun)) formed = told_is (seen a) u (λ (x : View). RecoversAs (view_in folder) x) told begun.0
+known_recovers w folder a u told (inr (inl safe)) formed =
     let same : view_of safe.model ≡ u = some_is (view_of safe.model) u (sym (ap seen safe.is) ∙ told) in subst (λ (x : View). RecoversAs (view_in folder) x) same safe.may.recovers
   where
     some_is : (x y : View) → Some x ≡ Some y → x ≡ y
@@ -271,7 +268,7 @@ module _ (w : List ℕ → Bool) (folder : Folder) (a b : Told) (out err : Optio
   pub ended_moments : (r : Result ℕ Fault) → FinishEnds r a b → CourseMoments w r folder (step ∷ []) (scene a out err) (scene b out err) m past
   ended_moments (Ok status) ended =
       either_moments status ended.1
-      (runs_to w (Ok status) folder a b out err spares clear shows (inr (record { model = m; past = past; is = is; may = may; safe = safe })) ended).1.view
+      (runs_to w (Ok status) folder a b out err spares clear shows (inr (inl (record { model = m; past = past; is = is; may = may; safe = safe }))) ended).1.view
   ended_moments (Err ends.Memory) lost =
       let run : Touching (bytes_eq plan_file) m past b = plan_run lost in
       course_moments w (Err ends.Memory) folder (step ∷ []) (scene a out err) (scene b out err) m past
@@ -324,6 +321,7 @@ causes_so r a b i o e d d2 ended causes = record {
 pub finish_runs : (r : Result ℕ Fault) (left : Option (List ℕ)) (a b : Told) (out err : Option (List ℕ)) (i o e d d2 : ℕ) → FinishEnds r a b → FinishOthers a b → DiskCauses (r ≡ Err ends.DiskFault) d d2
     → RunsCourse finishing_course (λ (input : List ℕ). Unit {0}) WholeFinishing BegunFinishing r (record { left = left; stage = scene a out err; faults = counts i o e d }) (record { left = left; stage = scene b out err; faults = counts i o e d2 })
 finish_runs r left a b out err i o e d d2 ended others causes = record {
+  some = λ folder input given. λ e. absurd cc;
   takes = λ folder input. (λ changes n fits. ((sfile_name_decides n).0 fits).1, tt);
   steps = λ w folder input spares clear shows known given. runs_to w r folder a b out err spares clear shows known ended;
   stops = λ w folder input m past spares clear shows given told may safe. ended_moments w folder a b out err m past spares clear shows told may safe r ended;

@@ -1,9 +1,9 @@
 -- What is told after a group was finished is what the step says, but for working files.
-use Rattle.std.proofs.Common.{◌≡◌, ◌⊎◌, ℕ, zero, suc, Bool, true, false, ◌||◌, cond, List, [], ◌∷◌, map, Option, None, Some, IfSome, Result, Ok, Err, is_some, inl, inr, refl, sym, ap, subst, ◌∙◌, ⊎_elim}
+use Rattle.std.proofs.Common.{◌≡◌, ◌⊎◌, ℕ, suc, Bool, true, false, ◌||◌, cond, List, [], ◌∷◌, map, Option, None, Some, Result, Ok, Err, is_some, inl, inr, refl, sym, ap, subst, ◌∙◌, ⊎_elim}
 use Rattle.std.specs.List.{AllByRecursion}
 use Rattle.std.specs.Result.{is_ok}
 use Rattle.std.specs.Str.{bytes_eq}
-use Rattle.sccs_base.specs.Name.{IsSfile, is_sfile_name, p_file, q_file, sfile_name_decides, x_file, y_file, z_file}
+use Rattle.sccs_base.specs.Name.{IsSfile, p_file, q_file, sfile_name_decides, x_file, y_file, z_file}
 use Rattle.sccs_disk.specs.Effects.{renamed}
 use Rattle.sccs_disk.specs.Files.{Content, Folder, View, view_in}
 use Rattle.sccs_disk.proofs.Puts.{name_cases, put_other}
@@ -13,12 +13,12 @@ use Rattle.sccs_intents.specs.Intents.{AreOthers, entries_in, fate_in, has_name,
 use Rattle.sccs_intents.specs.declared.intents.Entry.{Entry}
 use Rattle.sccs_intents.specs.declared.intents.Fate.{Fate}
 use Rattle.sccs_intents.specs.declared.intents.Fate.TheVariants.{Replaced, Removed}
-use Rattle.sccs_moments.specs.Recovery.{Pair, RecoversAs, fate_at, fated, newer, without_name}
+use Rattle.sccs_moments.specs.Recovery.{RecoversAs, fate_at, fated, newer, without_name}
 use Rattle.sccs_moments.proofs.FileNames.{both_false, intent_and_sfile, left_false, right_false}
-use Rattle.sccs_moments.proofs.Recovering.{fate_same, p_of, pair, recovered_at, recovered_under, recovers_to, s_of}
-use Rattle.sccs_steps.specs.Actions.{AreClear, IsClear, IsSeen}
+use Rattle.sccs_moments.proofs.Recovering.{fate_same, p_of, pair, recovered_under, recovers_to, s_of}
+use Rattle.sccs_steps.specs.Actions.{AreClear, IsSeen}
 use Rattle.sccs_steps.specs.ListStops.{Spares}
-use Rattle.sccs_steps.specs.StepLists.{Move, NamedStep, all_moved, all_moved_in, first_moves, is_left_of, left_by, moves_of, step_in}
+use Rattle.sccs_steps.specs.StepLists.{Move, all_moved, all_moved_in, first_moves, is_left_of, left_by, moves_of, step_in}
 use Rattle.sccs_group.specs.Halfway.{first_placed, is_left_of_group, is_lock_of}
 use Rattle.sccs_group.specs.Members.{completed, each_by, placed, taken, p_taken, unlocked}
 use Rattle.sccs_group.specs.Recovering.{IsBad, IsWellFormed, bare, finished_by}
@@ -26,7 +26,7 @@ use Rattle.sccs_group.proofs.Announcing.{plan_and_sfile}
 use Rattle.sccs_group.proofs.Closing.{fate_head, fate_tail}
 use Rattle.sccs_base.proofs.SameBytes.{bytes_eq_sym, same_bytes}
 use Rattle.sccs_finishing.specs.FinishStep.{finished_files, finishing_action, finishing_step, is_formed, name_moves, name_part}
-use Rattle.sccs_finishing.proofs.FinishViews.{finished, finished_formed, finished_unformed, gone_files, step_by, without_at, without_intent, without_none}
+use Rattle.sccs_finishing.proofs.FinishViews.{finished, gone_files, step_by, without_at, without_intent, without_none}
 use Rattle.sccs_finishing.proofs.Moved.{NotLeft, SamePairs, completed_at, first_at}
 use Rattle.sccs_finishing.proofs.NameFiles.{SamePair, bare_one, count_of, pair_kept}
 

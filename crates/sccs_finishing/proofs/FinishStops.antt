@@ -1,13 +1,13 @@
 -- What a stop leaves of finishing a group.
-use Rattle.std.proofs.Common.{◌≡◌, ◌≢◌, ◌⊎◌, ℕ, Bool, true, false, cond, List, [], ◌∷◌, map, Option, None, Some, IfSome, IsSome, Result, Ok, Err, is_some, inl, inr, refl, sym, ap, subst, ◌∙◌, ⊎_elim, arith}
+use Rattle.std.proofs.Common.{◌≡◌, ℕ, Bool, false, List, [], ◌∷◌, map, Option, IsSome, is_some, inl, refl, sym, ap, subst, ◌∙◌, ⊎_elim, arith}
 use Rattle.std.specs.List.{AllByRecursion}
 use Rattle.std.specs.Str.{bytes_eq}
-use Rattle.sccs_base.specs.Name.{IsSfile, p_file, q_file, x_file, z_file, is_sfile_name, sfile_name_decides}
+use Rattle.sccs_base.specs.Name.{IsSfile, p_file, q_file, x_file, z_file, sfile_name_decides}
 use Rattle.sccs_disk.specs.Files.{Content, Model, View, view_of}
 use Rattle.sccs_disk.specs.Images.{Allows, Image}
-use Rattle.sccs_disk.specs.Told.{Told, Tells, seen}
+use Rattle.sccs_disk.specs.Told.{Told}
 use Rattle.sccs_disk.proofs.Puts.{name_cases}
-use Rattle.sccs_images.specs.Touches.{Each, Touches, TouchesOnly, Touching, earlier, newest}
+use Rattle.sccs_images.specs.Touches.{Each, Touches, Touching, newest}
 use Rattle.sccs_images.proofs.Images.{view_image}
 use Rattle.sccs_images.proofs.Touched.{each_newest}
 use Rattle.sccs_intents.specs.Intents.{AreOthers, entries_in, fate_in, intent_file, plan_file}
@@ -18,17 +18,16 @@ use Rattle.sccs_moments.specs.Moments.{EndsAfter, EndsBefore, EndsWithin, IsAt, 
 use Rattle.sccs_moments.specs.Recovery.{RecoversAs, fate_at}
 use Rattle.sccs_moments.proofs.CalmDisks.{calm_firm}
 use Rattle.sccs_moments.proofs.Joined.{numbered_zero, raised}
-use Rattle.sccs_moments.proofs.Recovering.{LooksAlike, fate_same, p_of, pair_same, recovered_alike, recovers_from, recovers_then, recovers_to, s_of}
-use Rattle.sccs_moments.proofs.Untouched.{before_after, calm_stayed, guards_touched}
+use Rattle.sccs_moments.proofs.Recovering.{fate_same, p_of, pair_same, recovered_alike, recovers_from, recovers_then, s_of}
+use Rattle.sccs_moments.proofs.Untouched.{calm_stayed, guards_touched}
 use Rattle.sccs_steps.specs.ListStops.{AreSafe, KeepsSafeFrom, Spares}
 use Rattle.sccs_steps.specs.StepStops.{IsSafe}
 use Rattle.sccs_steps.proofs.Carried.{named_held}
 use Rattle.sccs_steps.proofs.Safety.{alike_safe}
 use Rattle.sccs_files.specs.StepFiles.{Alike}
-use Rattle.sccs_group.specs.Finishing.{CanFinish, Completes, Finishes, Follows, IsHeld, IsHeldAt, IsSettled}
+use Rattle.sccs_group.specs.Finishing.{CanFinish, Completes, Finishes, Follows, IsHeldAt}
 use Rattle.sccs_group.proofs.Announcing.{plan_and_sfile}
 use Rattle.sccs_group.proofs.Closing.{fate_tail}
-use Rattle.sccs_finishing.specs.Ends.{LosesPlan}
 use Rattle.sccs_finishing.specs.FinishStep.{finishing_action, name_part}
 use Rattle.sccs_finishing.proofs.FinishViews.{safe_by}
 

@@ -1,11 +1,11 @@
 -- What the finishing step makes of a view.
-use Rattle.std.proofs.Common.{◌≡◌, ◌⊎◌, ℕ, Bool, true, false, cond, List, [], ◌∷◌, drop, Option, None, Some, Result, Ok, Err, is_some, inl, inr, refl, sym, ap, subst, ◌∙◌, ⊎_elim}
+use Rattle.std.proofs.Common.{◌≡◌, ℕ, Bool, true, false, cond, List, [], ◌∷◌, drop, Option, None, Some, Result, Ok, Err, is_some, refl, sym, ap, subst, ◌∙◌}
 use Rattle.std.specs.Prelude.{IsSome}
 use Rattle.std.specs.Result.{is_ok}
 use Rattle.std.specs.Str.{bytes_eq}
 use Rattle.sccs_base.specs.Name.{IsSfile, p_file, q_file, x_file, z_file}
 use Rattle.sccs_disk.specs.Files.{Content, View}
-use Rattle.sccs_disk.proofs.Puts.{put_same, same_name}
+use Rattle.sccs_disk.proofs.Puts.{same_name}
 use Rattle.sccs_files.specs.StepFiles.{Files, l_file, look, moved}
 use Rattle.sccs_intents.specs.Intents.{AreOthers, entries_in, fate_in, intent_file, intent_of, plan_file, well_formed}
 use Rattle.sccs_intents.specs.declared.intents.Entry.{Entry}
@@ -13,7 +13,7 @@ use Rattle.sccs_intents.specs.declared.intents.Fate.{Fate}
 use Rattle.sccs_intents.proofs.IntentTexts.{text_read}
 use Rattle.sccs_moments.specs.Recovery.{IsSettledPair, IsSound, RecoversAs, fate_at, fated, newer, pair_of, recover}
 use Rattle.sccs_moments.proofs.FileNames.{intent_and_sfile}
-use Rattle.sccs_moments.proofs.Recovering.{pair, pair_same, recovered, recovered_at, recovered_is, recovered_same, recovered_under, recovers_from, recovers_itself}
+use Rattle.sccs_moments.proofs.Recovering.{pair, recovered, recovered_at, recovered_is, recovered_same, recovered_under, recovers_from, recovers_itself}
 use Rattle.sccs_steps.specs.ListStops.{KeepsSafe}
 use Rattle.sccs_steps.specs.StepLists.{NamedStep, all_moved, moves_of}
 use Rattle.sccs_steps.specs.StepStops.{IsSafe}

@@ -1,13 +1,12 @@
 -- The files of one name: what finishing makes of them, and what the step says.
-use Rattle.std.proofs.Common.{◌≡◌, ℕ, zero, suc, Bool, true, false, cond, List, [], ◌∷◌, drop, Option, None, Some, is_some, refl, sym, ap, subst, ◌∙◌, ⊎_elim}
-use Rattle.std.specs.List.{AllByRecursion}
+use Rattle.std.proofs.Common.{◌≡◌, ℕ, zero, suc, Bool, true, false, cond, List, drop, Option, None, Some, is_some, refl, sym, ap, subst, ◌∙◌}
 use Rattle.std.specs.Str.{bytes_eq}
 use Rattle.sccs_base.specs.Name.{IsSfile, p_file, q_file, x_file, y_file, z_file}
-use Rattle.sccs_base.proofs.SameBytes.{bytes_eq_sym, same_bytes}
+use Rattle.sccs_base.proofs.SameBytes.{same_bytes}
 use Rattle.sccs_disk.specs.Effects.{renamed}
 use Rattle.sccs_disk.specs.Files.{Content, View, put}
-use Rattle.sccs_disk.proofs.Puts.{name_cases, put_other, put_same, same_name}
-use Rattle.sccs_files.specs.StepFiles.{Files, is_left, l_file, look, moved}
+use Rattle.sccs_disk.proofs.Puts.{put_other, same_name}
+use Rattle.sccs_files.specs.StepFiles.{is_left, l_file, moved}
 use Rattle.sccs_intents.specs.declared.intents.Entry.{Entry}
 use Rattle.sccs_intents.specs.declared.intents.Fate.{Fate}
 use Rattle.sccs_intents.specs.declared.intents.Fate.TheVariants.{Replaced, Removed}

@@ -1,6 +1,6 @@
 -- The step that finishes a group which was stopped, as the first one of recover: for each name of the intent that is there the
 -- files of recovery (own), and no intent and no plan.
-use Rattle.std.specs.Prelude.{ℕ, zero, suc, Bool, true, false, List, [], ◌∷◌, map, Option, None, Some, Result, Ok, Err, if◌then◌else◌}
+use Rattle.std.specs.Prelude.{Bool, true, false, List, [], ◌∷◌, map, Option, None, Some, Err, if◌then◌else◌}
 use Rattle.std.specs.Result.{is_ok}
 use Rattle.sccs_base.specs.Name.{is_sfile_name, p_file, q_file, x_file}
 use Rattle.sccs_disk.specs.Files.{Content, View, view_in}

@@ -199,6 +199,7 @@ at_folder w stamp entries folder (Some u) at shows = at u shows
 pub entries_ran : (stamp : Stamp) (entries : List GroupEntry) (made : Result (Unit {0}) NamedFault) (r : Result ℕ Fault) (s t : Setting) (b : Scene) (e : Option (List ℕ)) → t.stage ≡ scene b.told b.out e → MadeGroup stamp entries made s.stage b → Concluded made r b.err e → RunCauses r s.faults t.faults
     → RunsEntries stamp entries r s t
 entries_ran stamp entries made r s t b e same known says causes = record {
+  some = λ folder i plain. λ e. absurd cc;
   takes = λ folder i. ((λ changes n fits. ((sfile_name_decides n).0 fits).1), tt);
   steps = λ w folder i spares clear shows taken plain.
       subst (λ (c : Scene). RunsTo (step_at stamp entries folder).effect.status w r folder (step_at stamp entries folder ∷ []) (shown s.stage) (shown c)) (sym same)
@@ -361,6 +362,7 @@ heard_later : (stamp : Stamp) (read : Result (List GroupEntry) ℕ) (r : Result 
     → RunsLines stamp read r (record { left = Some []; stage = a; faults = counts 0 o e d }) (record { left = Some []; stage = b; faults = counts 0 o2 e2 d2 })
     → RunsLines stamp read r (record { left = left; stage = a; faults = counts i0 o e d }) (record { left = left2; stage = b; faults = counts i1 o2 e2 d2 })
 heard_later stamp read r left left2 a b i0 i1 o o2 e e2 d d2 later runs = record {
+  some = runs.some;
   takes = runs.takes;
   steps = runs.steps;
   stops = runs.stops;

@@ -1,6 +1,7 @@
 pub mod AdminValues
 pub mod FinishedRuns
 pub mod FollowingLaws
+pub mod KnownRecovery
 pub mod ListedRuns
 pub mod MadeHistoryLaws
 pub mod NextGets

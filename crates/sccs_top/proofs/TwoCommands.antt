@@ -48,7 +48,7 @@ meant_takes who (Ok command) folder i = list_takes (list_in command) who command
 
 fine_take : (who : Caller) (next : Result Command Usage) (code : ℕ) (folder : Folder) (i : List ℕ) → AllTake (portions_of (if_fine (next_course who next) code) folder i)
 fine_take who next zero folder i = meant_takes who next folder []
-fine_take who next (suc code) folder i = tt
+fine_take who next (suc code) folder i = (λ changes n fits. absurd (cc), tt)
 
 -- ---- what follows a first command
 

@@ -1,5 +1,5 @@
 -- What a run does: the steps that its words mean, one for each operand in their order.
-use Rattle.std.specs.Prelude.{◌≡◌, ◌≢◌, ℕ, ◌<◌, nat_lt, ◌⊎◌, Bool, true, false, not, ◌||◌, ◌&&◌, List, [], ◌∷◌, length, Option, None, Some, is_some, Result, Ok, Err, IsOk, codes, if◌then◌else◌}
+use Rattle.std.specs.Prelude.{◌≡◌, ℕ, ◌<◌, nat_lt, ◌⊎◌, Bool, true, false, not, ◌||◌, ◌&&◌, List, [], ◌∷◌, length, Option, None, Some, is_some, Result, Ok, Err, codes, if◌then◌else◌}
 use Rattle.std.specs.List.{AllByRecursion, list_any}
 use Rattle.sccs_disk.specs.Files.{Folder, Model, view_in}
 use Rattle.sccs_disk.specs.Told.{Told, Tells, seen}
@@ -16,7 +16,7 @@ use Rattle.sccs_files.specs.StepFiles.{Shows}
 use Rattle.sccs_steps.specs.Actions.{Action, IsHeard, hears, is_several, steps_at}
 use Rattle.sccs_steps.specs.Calls.{Scene, World, shown}
 use Rattle.sccs_steps.specs.ListStops.{MayBegin}
-use Rattle.sccs_steps.specs.Running.{IsInput, RunsSteps, Steps}
+use Rattle.sccs_steps.specs.Running.{IsInput, RunsSteps}
 use Rattle.sccs_steps.specs.Settings.{Setting}
 use Rattle.sccs_steps.specs.Speaking.{BegunInTurn, InTurn, NameMakes, OperandBegins, OperandMakes, SpeakAll, SpeaksOne}
 use Rattle.sccs_steps.specs.StepLists.{ListInterrupted, NamedStep, Stopped, Waits}

@@ -1,8 +1,9 @@
-ghost use Rattle.std.specs.Prelude.{◌≡◌, ◌≢◌, ℕ, Bool, List, take, Option, Some, Result, Ok, Err, IfOk, IfSome, IsSome};
+ghost use Rattle.std.specs.Prelude.{◌≡◌, ◌≢◌, ℕ, Bool, true, List, take, Option, Some, Result, Ok, Err, IfOk, IfSome, IsSome};
 ghost use Rattle.std.specs.List.{AllByRecursion};
 ghost use Rattle.sccs_base.specs.Login.{IsLogin};
 ghost use Rattle.sccs_disk.specs.Files.{Content, Folder, Model, View, view_in, view_of};
 ghost use Rattle.sccs_disk.specs.Images.{Allows};
+ghost use Rattle.sccs_disk.specs.Told.{Told, seen};
 ghost use Rattle.sccs_images.specs.Touches.{Each, newest};
 ghost use Rattle.sccs_base.specs.Name.{IsSfile};
 ghost use Rattle.sccs_group.specs.Finishing.{CanFinish};
@@ -19,15 +20,17 @@ ghost use Rattle.sccs_steps.specs.StepLists.{NamedStep, folder_after};
 ghost use Rattle.sccs_steps.specs.declared.faults.Fault.{Fault};
 ghost use Rattle.sccs_steps.specs.declared.faults.Fault.TheVariants as ends;
 ghost use Rattle.sccs_courses.specs.Courses.{AllSafe, AllTake, Portion};
-ghost use Rattle.sccs_courses.specs.Following.{CourseMoments};
+ghost use Rattle.sccs_courses.specs.Following.{AreKnown, CourseMoments, RecoversTold};
 ghost use Rattle.sccs_words.specs.declared.commands.AdminWords.{AdminWords};
+ghost use Rattle.sccs_words.specs.declared.commands.Usage.{Usage};
 ghost use Rattle.sccs_admin.specs.AdminStep.{AreAdminValues, admin_outcome};
 ghost use Rattle.sccs_delta.specs.Replays.{DeltaCall, IsDeltaCall};
 ghost use Rattle.sccs_top.specs.Asked.{asked_of};
+ghost use Rattle.sccs_top.specs.declared.asking.Asked.{Asked};
 ghost use Rattle.sccs_top.specs.Following.{FollowsStop, MayFollow};
 ghost use Rattle.sccs_top.specs.MadeHistories.{IsReplayed};
 ghost use Rattle.sccs_top.specs.NextAsks.{NextAsks};
-ghost use Rattle.sccs_top.specs.Runs.{Caller};
+ghost use Rattle.sccs_top.specs.Runs.{Caller, run_portions, words_recover};
 
 /// Runs may follow one another. Where one ended, but at a disk fault, the disk is calm and the names that were
 /// safe are safe, as the next one asks. Whatever a stop leaves of it, once all names are recovered s-files and
@@ -65,4 +68,13 @@ pub fn made_histories_replay()
 /// no input.
 pub fn second_commands_ask_nothing()
     ensures { (who : Caller) (words : List (List ℕ)) → IfOk (asked_of words) (NextAsks who) }
+{}
+
+/// What recover prints and leaves is known on any disk, be it calm or as a disk fault left it: where the disk tells what
+/// recovers as the folder does, as where it tells the folder itself, its steps are those that `run` says, with an intent
+/// of a group too.
+pub fn recovery_is_known()
+    ensures known { (who : Caller) (words : Result Asked Usage) (told : Told) (folder : Folder) (i : List ℕ)
+        → words_recover words ≡ true → RecoversTold told folder → AreKnown told folder (run_portions who words folder i) }
+    ensures exactly { (told : Told) (folder : Folder) → seen told ≡ Some (view_in folder) → RecoversTold told folder }
 {}
