@@ -43,10 +43,10 @@ use Rattle.sccs_get.proofs.ReadyLaws.{report_same, warning_same}
 
 -- ---- the files that a commit makes
 
-abbrev files_of : Option Content → Option Content → Option Content → Option Content → Option Files
+abbrev pub files_of : Option Content → Option Content → Option Content → Option Content → Option Files
 files_of s p g l = Some (record { s = s; p = p; z = None; g = g; l = l })
 
-files_same : {s s2 p p2 g g2 l l2 : Option Content} → s ≡ s2 → p ≡ p2 → g ≡ g2 → l ≡ l2 → files_of s p g l ≡ files_of s2 p2 g2 l2
+pub files_same : {s s2 p p2 g g2 l l2 : Option Content} → s ≡ s2 → p ≡ p2 → g ≡ g2 → l ≡ l2 → files_of s p g l ≡ files_of s2 p2 g2 l2
 files_same {s} {s2} {p} {p2} {g} {g2} {l} {l2} one two three four =
     ap (λ o. files_of o p g l) one ∙ (ap (λ o. files_of s2 o g l) two ∙ (ap (λ o. files_of s2 p2 o l) three ∙ ap (λ o. files_of s2 p2 g2 o) four))
 
@@ -158,8 +158,8 @@ module _ (words : GetWords) (stamp : Stamp) (place : List ℕ) (heading : Bool) 
         → Prepares (Ok (record { new_s = false; new_p = new_p; new_g = g; report = report; message = message })) n (Ok effect) (world (Some v) out err) (world o3 out2 err)
     all_prepared shown new_p g report message v o o2 o3 out out2 err sfile is f_is g_is replaced q entries taken y gives report_is message_is =
         let moves : Moves (bytes_eq (q_file n)) (λ u. u) (Some v) o2 = subst (λ (w : Option View). Moves (bytes_eq (q_file n)) (λ u. u) w o2) is q in
-        let reported = report_same words stamp place heading n version.include version.exclude version.sid (Some edit.made) shown.lines (length lines) (λ some. ap (λ (s : Shown). s.lines) (gives.1 some)) in
-        let warned = warning_same words stamp place heading n version lines shown replaced gives.1 in
+        let reported = report_same words heading n version.include version.exclude version.sid (Some edit.made) shown.lines (length lines) (λ some. ap (λ (s : Shown). s.lines) (gives.1 some)) in
+        let warned = warning_same words heading n version lines shown replaced gives.1 in
         record {
           effect = effect;
           is = refl;

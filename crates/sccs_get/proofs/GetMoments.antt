@@ -1,83 +1,144 @@
--- The moments of a get that writes a g-file.
-use Rattle.std.proofs.Common.{◌≡◌, ℕ, Bool, true, false, not, List, drop, Option, None, Some, is_some, Result, Ok, Err, inl, inr, refl, sym, ap, subst, ◌∙◌}
+-- The moments of a get that changes files.
+use Rattle.std.proofs.Common.{◌≡◌, ℕ, Bool, true, false, List, [], drop, Option, Some, is_some, Result, Ok, Err, inl, inr, refl, sym, ap, subst, ◌∙◌}
 use Rattle.std.specs.Prelude.{if◌then◌else◌}
 use Rattle.std.specs.Str.{bytes_eq}
 use Rattle.sccs_base.specs.Name.{IsSfile, p_file, q_file, x_file, y_file, z_file}
+use Rattle.sccs_base.specs.Stream.{GivesOk}
 use Rattle.sccs_sid.specs.declared.moments.Stamp.{Stamp}
-use Rattle.sccs_sid.specs.declared.refusals.Refusal.{Refusal}
 use Rattle.sccs_sid.specs.declared.refusals.StepFault.{StepFault}
 use Rattle.sccs_sid.specs.declared.refusals.StepFault.TheVariants.{Refused, Memory, ReadFault, WriteFault, DiskFault}
 use Rattle.sccs_disk.specs.Files.{Content, Model, View, put, view_of}
 use Rattle.sccs_disk.specs.Images.{Allows, IsFirm}
 use Rattle.sccs_disk.specs.Told.{Told, Tells, seen}
 use Rattle.sccs_disk.proofs.Puts.{put_other, put_same}
-use Rattle.sccs_images.specs.Touches.{Leaves, TouchesOnly}
-use Rattle.sccs_images.proofs.Touched.{only_then}
+use Rattle.sccs_history.specs.Body.{HistoryLine}
+use Rattle.sccs_history.specs.declared.headers.Record.{Record}
+use Rattle.sccs_images.specs.Touches.{Leaves, TouchesOnly, earlier, newest}
+use Rattle.sccs_images.proofs.Images.{view_image}
+use Rattle.sccs_images.proofs.Touched.{newest_more}
 use Rattle.sccs_intents.specs.Intents.{intent_file}
-use Rattle.sccs_files.specs.StepFiles.{Files, Moves, look, moved}
+use Rattle.sccs_files.specs.StepFiles.{Moves, l_file, look, moved}
 use Rattle.sccs_gfiles.specs.Placing.{HasMade}
-use Rattle.sccs_gfiles.proofs.MadeWhole.{ends_after, ends_before, ends_pairs, ends_within}
-use Rattle.sccs_moments.specs.Calm.{IsCalm}
-use Rattle.sccs_moments.specs.Moments.{EndsAfter, EndsBefore, IsAt}
+use Rattle.sccs_gfiles.proofs.MadeWhole.{ends_after, ends_pairs, ends_within}
+use Rattle.sccs_moments.specs.Calm.{IsCalm, KeepsPairs}
+use Rattle.sccs_moments.specs.Moments.{EndsAfter, EndsBefore, IsAt, Stays}
 use Rattle.sccs_moments.specs.Recovery.{RecoversAs, is_kept}
-use Rattle.sccs_moments.proofs.FileNames.{from_g, kept_intent, kept_p, kept_q, kept_s, kept_x, kept_z}
-use Rattle.sccs_moments.proofs.Joined.{numbered_as}
+use Rattle.sccs_moments.proofs.FileNames.{from_g, kept_intent, kept_p, kept_q, kept_s, kept_x, kept_z, l_plain}
+use Rattle.sccs_moments.proofs.Joined.{numbered_as, numbered_now, went_then}
 use Rattle.sccs_moments.proofs.Recovering.{LooksAlike, fate_same, looks_recover, recovers_back, recovers_then}
-use Rattle.sccs_moments.proofs.Untouched.{before_after, before_within}
+use Rattle.sccs_moments.proofs.Untouched.{before_after, before_within, same_before}
 use Rattle.sccs_steps.specs.Actions.{Action}
 use Rattle.sccs_steps.specs.Calls.{Meets, scene, world}
-use Rattle.sccs_steps.specs.StepEffects.{Outcome, effect_of}
-use Rattle.sccs_steps.specs.StepStops.{Ends, IsSafe, IsSafeFor, MeetsAt, StepMoments, meeting_place}
+use Rattle.sccs_steps.specs.StepEffects.{Outcome, StepEffect, effect_of}
+use Rattle.sccs_steps.specs.StepStops.{Ends, IsSafe, IsSafeFor, MeetsAt, meeting_place}
 use Rattle.sccs_steps.proofs.SafeImages.{recovers_before}
 use Rattle.sccs_steps.proofs.Safety.{same_safe}
 use Rattle.sccs_store.specs.Commits.{Becomes}
 use Rattle.sccs_transactions.specs.declared.prepared.Prepared.{Prepared}
 use Rattle.sccs_words.specs.declared.commands.GetWords.{GetWords}
-use Rattle.sccs_get.specs.Giving.{FinishesGet, GivesUpGet, IsReadied, PlacesG, Readies, with_y}
-use Rattle.sccs_get.specs.VersionStep.{get_action, get_outcome, stays_writable, with_g, writes_g}
-use Rattle.sccs_get.proofs.ReadyLaws.{ReadiesAt}
-use Rattle.sccs_get.proofs.StepEnds.{content, finished, g_put, gave_up, gives_up, left_y, placed_g, written}
+use Rattle.sccs_summary.specs.SummaryFiles.{summary_file}
+use Rattle.sccs_summary.proofs.LFiles.{loses_touching}
+use Rattle.sccs_get.specs.Giving.{FinishesGet, GivesUpGet, IsReadied, PlacesG, Readies, with_y, y_cleared}
+use Rattle.sccs_get.specs.SummaryGiving.{GivesSummary, summed_view}
+use Rattle.sccs_get.specs.SummaryStep.{printed_summary, writes_l}
+use Rattle.sccs_get.specs.VersionStep.{get_action, get_outcome, given_text, stays_writable, writes_g}
+use Rattle.sccs_get.specs.declared.found.Found.{Found}
+use Rattle.sccs_get.proofs.StepEnds.{content, finished, g_put, gave_up, gives_up, placed_g}
+use Rattle.sccs_get.proofs.SummaryLaws.{down_summed, l_new, l_put, part, placed_both, placed_l, up_summed, whole, whole_met}
 
--- ---- a g-file anew is no file at which recovery looks
+-- ---- a file anew that is none at which recovery looks
 
-other_at : (n : List ℕ) (c : Content) (v : View) (k : List ℕ) → bytes_eq (drop 2 n) k ≡ false → g_put n c v k ≡ v k
-other_at n c v k h = put_other v (drop 2 n) k (Some c) h
-
-g_looks : (n : List ℕ) (c : Content) (v : View) → is_kept (drop 2 n) ≡ false → (k : List ℕ) → IsSfile k → LooksAlike k v (g_put n c v)
-g_looks n c v plain k sfile = record {
-  fate = fate_same k v (g_put n c v) (other_at n c v intent_file (kept_intent (drop 2 n) plain));
-  s = other_at n c v k (kept_s (drop 2 n) k plain sfile);
-  p = other_at n c v (p_file k) (kept_p (drop 2 n) k plain sfile);
-  z = ap is_some (other_at n c v (z_file k) (kept_z (drop 2 n) k plain sfile));
-  x = λ named. other_at n c v (x_file k) (kept_x (drop 2 n) k plain sfile);
-  q = λ named. other_at n c v (q_file k) (kept_q (drop 2 n) k plain sfile);
+put_looks : (to : List ℕ) (c : Content) (v : View) → is_kept to ≡ false → (k : List ℕ) → IsSfile k → LooksAlike k v (put v to (Some c))
+put_looks to c v plain k sfile = record {
+  fate = fate_same k v (put v to (Some c)) (put_other v to intent_file (Some c) (kept_intent to plain));
+  s = put_other v to k (Some c) (kept_s to k plain sfile);
+  p = put_other v to (p_file k) (Some c) (kept_p to k plain sfile);
+  z = ap is_some (put_other v to (z_file k) (Some c) (kept_z to k plain sfile));
+  x = λ named. put_other v to (x_file k) (Some c) (kept_x to k plain sfile);
+  q = λ named. put_other v to (q_file k) (Some c) (kept_q to k plain sfile);
 }
 
-g_recovers : (n : List ℕ) (c : Content) (v : View) → is_kept (drop 2 n) ≡ false → RecoversAs (g_put n c v) v
-g_recovers n c v plain =
-    recovers_back v (g_put n c v)
-    (looks_recover v (g_put n c v) (record { intent = other_at n c v intent_file (kept_intent (drop 2 n) plain); looks = λ k sfile. g_looks n c v plain k sfile }))
+put_recovers : (to : List ℕ) (c : Content) (v : View) → is_kept to ≡ false → RecoversAs (put v to (Some c)) v
+put_recovers to c v plain =
+    recovers_back v (put v to (Some c))
+    (looks_recover v (put v to (Some c)) (record { intent = put_other v to intent_file (Some c) (kept_intent to plain); looks = λ k sfile. put_looks to c v plain k sfile }))
 
-g_safe : (n : List ℕ) (c : Content) (v : View) → IsSfile n → IsSafe n v → IsSafe n (g_put n c v)
-g_safe n c v sfile safe = same_safe n v (g_put n c v) sfile (g_looks n c v safe.plain n sfile) safe
+put_safe : (n to : List ℕ) (c : Content) (v : View) → IsSfile n → is_kept to ≡ false → IsSafe n v → IsSafe n (put v to (Some c))
+put_safe n to c v sfile plain safe = same_safe n v (put v to (Some c)) sfile (put_looks to c v plain n sfile) safe
 
--- behind it, where each image has the old s-files and p-files
-g_after : (n : List ℕ) (c : Content) (v : View) (m : Model) (past : List Model) (t : Told) → is_kept (drop 2 n) ≡ false → EndsBefore v m past t → EndsAfter v (g_put n c v) m past t
-g_after n c v m past t plain ends = by (before_after v m past t ends)
+-- an l-file and a g-file, where they are anew
+abbrev files_put : (l g : Bool) → List ℕ → List ℕ → List ℕ → Bool → View → View
+files_put l g n summary text writable v = let u : View = if l then l_put n summary v else v in if g then g_put n (content text writable) u else u
+
+moved_is : (l g : Bool) (n summary text : List ℕ) (writable : Bool) (v : View) → IsSfile n → moved v n (l_new l g n summary text writable v) ≡ files_put l g n summary text writable v
+moved_is true true n summary text writable v sfile = placed_both n summary text writable v sfile
+moved_is true false n summary text writable v sfile = placed_l n summary v sfile
+moved_is false true n summary text writable v sfile = placed_g n v text writable sfile
+moved_is false false n summary text writable v sfile = refl
+
+l_recovers : (l : Bool) (n summary : List ℕ) (v : View) → RecoversAs (if l then l_put n summary v else v) v
+l_recovers true n summary v = put_recovers (l_file n) (summary_file summary) v (l_plain n)
+l_recovers false n summary v = λ k sfile. refl
+
+files_recover : (l g : Bool) (n summary text : List ℕ) (writable : Bool) (v : View) → is_kept (drop 2 n) ≡ false → RecoversAs (files_put l g n summary text writable v) v
+files_recover l true n summary text writable v plain =
+    recovers_then (g_put n (content text writable) (if l then l_put n summary v else v)) (if l then l_put n summary v else v) v (put_recovers (drop 2 n) (content text writable) (if l then l_put n summary v else v) plain) (l_recovers l n summary v)
+files_recover l false n summary text writable v plain = l_recovers l n summary v
+
+l_safe : (l : Bool) (n summary : List ℕ) (v : View) → IsSfile n → IsSafe n v → IsSafe n (if l then l_put n summary v else v)
+l_safe true n summary v sfile safe = put_safe n (l_file n) (summary_file summary) v sfile (l_plain n) safe
+l_safe false n summary v sfile safe = safe
+
+files_safe : (l g : Bool) (n summary text : List ℕ) (writable : Bool) (v : View) → IsSfile n → IsSafe n v → IsSafe n (files_put l g n summary text writable v)
+files_safe l true n summary text writable v sfile safe = put_safe n (drop 2 n) (content text writable) (if l then l_put n summary v else v) sfile safe.plain (l_safe l n summary v sfile safe)
+files_safe l false n summary text writable v sfile safe = l_safe l n summary v sfile safe
+
+-- behind them, where each image has the old s-files and p-files
+after_as : (v w : View) (m : Model) (past : List Model) (t : Told) → RecoversAs w v → EndsBefore v m past t → EndsAfter v w m past t
+after_as v w m past t recovers ends = by (before_after v m past t ends)
   where
-    at : (j : ℕ) (u : View) → IsAt v v j u → IsAt v (g_put n c v) j u
-    at j u (inl now) = inl (recovers_then (g_put n c v) v u (g_recovers n c v plain) now)
+    at : (j : ℕ) (u : View) → IsAt v v j u → IsAt v w j u
+    at j u (inl now) = inl (recovers_then w v u recovers now)
     at j u (inr before) = inr before
 
-    by : EndsAfter v v m past t → EndsAfter v (g_put n c v) m past t
+    by : EndsAfter v v m past t → EndsAfter v w m past t
     by after = (
       record {
         added = after.0.added;
         is = after.0.is;
-        numbers = numbered_as (λ j m2. Allows (IsAt v v j) m2) (λ j m2. Allows (IsAt v (g_put n c v) j) m2) 0 after.0.added m 1 (λ j low m2 allows u image. at j u (allows u image)) after.0.numbers;
+        numbers = numbered_as (λ j m2. Allows (IsAt v v j) m2) (λ j m2. Allows (IsAt v w j) m2) 0 after.0.added m 1 (λ j low m2 allows u image. at j u (allows u image)) after.0.numbers;
         guarded = after.0.guarded;
       },
       after.1,
+    )
+
+-- ---- two calls that lose nothing
+
+keeps_then : (u v w : View) → KeepsPairs u v → KeepsPairs v w → KeepsPairs u w
+keeps_then u v w first next = record {
+  intent = next.intent ∙ first.intent;
+  pairs = λ k sfile. next.pairs k sfile ∙ first.pairs k sfile;
+  recovers = recovers_then u v w first.recovers next.recovers;
+}
+
+abbrev stays_as : (v : View) (m1 : Model) (past1 : List Model) (d : Told) → KeepsPairs v (view_of m1) → Stays (view_of m1) m1 past1 d → Stays v m1 past1 d
+stays_as v m1 past1 d keeps went = record {
+  added = went.added;
+  is = went.is;
+  numbers = numbered_as (λ i m2. Allows (KeepsPairs (view_of m1)) m2) (λ i m2. Allows (KeepsPairs v) m2) 0 went.added m1 0 (λ i low m2 all w image. keeps_then v (view_of m1) w keeps (all w image)) went.numbers;
+  guarded = went.guarded;
+}
+
+pub before_then : (b d : Told) (m : Model) (past : List Model) → EndsBefore (view_of m) m past b → ((m1 : Model) (past1 : List Model) → b ≡ Tells m1 past1 → IsCalm m1 → EndsBefore (view_of m1) m1 past1 d) → EndsBefore (view_of m) m past d
+before_then b d m past ends next = joined (next (newest ends.0.added m) (earlier ends.0.added m past) ends.0.is ends.1)
+  where
+    kept : KeepsPairs (view_of m) (view_of (newest ends.0.added m))
+    kept = numbered_now (λ i m2. Allows (KeepsPairs (view_of m)) m2) 0 ends.0.added m 0 ends.0.numbers (view_of (newest ends.0.added m)) (view_image (newest ends.0.added m))
+
+    joined : EndsBefore (view_of (newest ends.0.added m)) (newest ends.0.added m) (earlier ends.0.added m past) d → EndsBefore (view_of m) m past d
+    joined later = (
+      went_then (λ i w. KeepsPairs (view_of m) w) m past 0 b d ends.0 (stays_as (view_of m) (newest ends.0.added m) (earlier ends.0.added m past) d kept later.0),
+      subst IsCalm (sym (newest_more later.0.added ends.0.added m)) later.1,
     )
 
 -- ---- what was made up to the g-file's place
@@ -96,14 +157,10 @@ module _ (words : GetWords) (stamp : Stamp) (place : List ℕ) (heading : Bool) 
   abbrev outcome_at : View → Outcome
   outcome_at v = get_outcome words stamp place heading n (look v n)
 
-  abbrev EndsSo : Result (Unit {0}) StepFault → View → Model → List Model → Told → Option (List ℕ) → Option (List ℕ) → Option (List ℕ) → Option (List ℕ) → Outcome → Type 0
+  abbrev pub EndsSo : Result (Unit {0}) StepFault → View → Model → List Model → Told → Option (List ℕ) → Option (List ℕ) → Option (List ℕ) → Option (List ℕ) → Outcome → Type 0
   EndsSo r v m past td out err out3 err3 o = (met : Meets (λ (done : Unit {0}). 0) r n o (world (Some v) out err) (world (seen td) out3 err3)) × Ends (meeting_place r n o (world (Some v) out err) (world (seen td) out3 err3) met) action n v (moved v n (effect_of n o).new) m past td
 
   -- ---- the g-file is placed, or not
-
-  new_is : (text : List ℕ) (v : View) (new : Option Files) → writes_g words ≡ true → new ≡ (if writes_g words then Some (with_g (look v n) text (stays_writable words)) else None) → moved v n new ≡ g_put n (content text (stays_writable words)) v
-  new_is text v new writes is =
-      ap (λ (f : Option Files). moved v n f) (is ∙ ap (λ (b : Bool). if b then Some (with_g (look v n) text (stays_writable words)) else None) writes) ∙ placed_g n v text (stays_writable words) sfile
 
   y_is : (text : List ℕ) (v : View) (o : Option View) → writes_g words ≡ true → Becomes (with_y words n text) (Some v) o → o ≡ Some (put v (y_file n) (Some (content text (stays_writable words))))
   y_is text v o writes is = is ∙ ap (λ (b : Bool). Some (if b then put v (y_file n) (Some (content text (stays_writable words))) else v)) writes
@@ -121,77 +178,95 @@ module _ (words : GetWords) (stamp : Stamp) (place : List ℕ) (heading : Bool) 
   placing (Err Memory) p text v ta tb td out2 out3 err err2 m past writes finishes places is calm plain made leaves = absurd finishes
   placing (Err ReadFault) p text v ta tb td out2 out3 err err2 m past writes finishes places is calm plain made leaves = absurd finishes
 
-  finished_so : (r : Result (Unit {0}) StepFault) (p : Prepared) (o : Outcome) (v : View) (tb td : Told) (out out2 out3 err err2 : Option (List ℕ)) (m : Model) (past : List Model) → writes_g words ≡ true → IsReadied words n p o (world (Some v) out err) (world (seen tb) out2 err)
-      → FinishesGet words n p r (world (seen tb) out2 err) (world (seen td) out3 err2) → IsSafe n v → EndsBefore v m past td → EndsSo r v m past td out err out3 err2 o
-  finished_so r p o v tb td out out2 out3 err err2 m past writes ready finishes safe kept = by r finishes
+  -- behind the summary: the y-file, and the g-file where there is one
+  pub finished_before : (r : Result (Unit {0}) StepFault) (p : Prepared) (o : Outcome) (v : View) (tb tc td : Told) (out2 out3 out4 err err2 : Option (List ℕ)) (m : Model) (past : List Model) → tb ≡ Tells m past → IsCalm m → is_kept (drop 2 n) ≡ false → IsReadied words n p o (world (Some v) out2 err) (world (seen tc) out3 err)
+      → FinishesGet words n p r (world (seen tc) out3 err) (world (seen td) out4 err2) → PlacesG words n r tc td → TouchesOnly (bytes_eq (y_file n)) tb tc → (writes_g words ≡ true → Leaves (IsFirm (y_file n)) tb tc) → (writes_g words ≡ false → td ≡ tb) → EndsBefore (view_of m) m past td
+  finished_before r p o v tb tc td out2 out3 out4 err err2 m past is calm plain ready finishes places touches firm same = by (writes_g words) refl
     where
-      after : EndsAfter v (moved v n (effect_of n o).new) m past td × IsSafeFor action n (moved v n (effect_of n o).new)
-      after =
-          subst (λ (x : Outcome). EndsAfter v (moved v n (effect_of n x).new) m past td × IsSafeFor action n (moved v n (effect_of n x).new)) (sym ready.is)
-          (subst (λ (w : View). EndsAfter v w m past td × IsSafeFor action n w) (sym (new_is ready.text v ready.effect.new writes ready.new))
-          (g_after n (content ready.text (stays_writable words)) v m past td safe.plain kept, λ changes. g_safe n (content ready.text (stays_writable words)) v sfile safe))
+      by : (b : Bool) → writes_g words ≡ b → EndsBefore (view_of m) m past td
+      by true writes =
+          placing r p ready.text v tb tc td out3 out4 err err2 m past writes finishes places is calm plain (record { touches = touches; firm = firm writes })
+          (y_leaves n (content ready.text (stays_writable words)) v tb tc (y_is ready.text v (seen tc) writes ready.given.view))
+      by false none = same_before m past td calm (same none ∙ is)
 
-      by : (r : Result (Unit {0}) StepFault) → FinishesGet words n p r (world (seen tb) out2 err) (world (seen td) out3 err2) → EndsSo r v m past td out err out3 err2 o
-      by (Ok done) finishes = (finished words n sfile (Ok done) p o v (seen tb) (seen td) out out2 out3 err err2 ready finishes, after)
-      by (Err WriteFault) finishes = (finished words n sfile (Err WriteFault) p o v (seen tb) (seen td) out out2 out3 err err2 ready finishes, after)
-      by (Err DiskFault) finishes = (finished words n sfile (Err DiskFault) p o v (seen tb) (seen td) out out2 out3 err err2 ready finishes, (before_within v (moved v n (effect_of n o).new) m past td kept, inr (recovers_before v m past td kept)))
-      by (Err (Refused refusal)) finishes = absurd finishes
-      by (Err Memory) finishes = absurd finishes
-      by (Err ReadFault) finishes = absurd finishes
+  -- where the y-file alone is touched
+  pub touched_before : (tb td : Told) (m : Model) (past : List Model) → tb ≡ Tells m past → IsCalm m → TouchesOnly (bytes_eq (y_file n)) tb td → EndsBefore (view_of m) m past td
+  touched_before tb td m past is calm touches = loses_touching n [] sfile tb td touches m past is calm
 
   -- at a model that is told
-  at_model : (r : Result (Unit {0}) StepFault) (ta td : Told) (out out3 err err3 : Option (List ℕ)) (m : Model) (past : List Model) → ta ≡ Tells m past → EndsSo r (view_of m) m past td out err out3 err3 (outcome_at (view_of m)) → MeetsAt action r n (outcome_at (view_of m)) (view_of m) m past (scene ta out err) (scene td out3 err3)
+  pub at_model : (r : Result (Unit {0}) StepFault) (ta td : Told) (out out3 err err3 : Option (List ℕ)) (m : Model) (past : List Model) → ta ≡ Tells m past → EndsSo r (view_of m) m past td out err out3 err3 (outcome_at (view_of m)) → MeetsAt action r n (outcome_at (view_of m)) (view_of m) m past (scene ta out err) (scene td out3 err3)
   at_model r ta td out out3 err err3 m past is ends = subst (λ (t : Told). MeetsAt action r n (outcome_at (view_of m)) (view_of m) m past (scene t out err) (scene td out3 err3)) (sym is) ends
 
-  is_changing : (b : Bool) → b ≡ true → not b ≡ false
-  is_changing true is = refl
-  is_changing false is = absurd cc
+  -- ---- how it ends
 
-  pub finished_moments : (r : Result (Unit {0}) StepFault) (p : Prepared) (left : Option (List ℕ)) (ta tb td : Told) (out out2 out3 err err2 : Option (List ℕ)) → writes_g words ≡ true → ReadiesAt words stamp place heading n (seen ta) (seen tb) (Ok p) out out2 err
-      → FinishesGet words n p r (world (seen tb) out2 err) (world (seen td) out3 err2) → PlacesG words n r tb td → TouchesOnly (bytes_eq (y_file n)) ta tb → Leaves (IsFirm (y_file n)) ta tb → StepMoments action r n left (scene ta out err) (scene td out3 err2)
-  finished_moments r p left ta tb td out out2 out3 err err2 writes readies finishes places touches firm = λ m past i is heard calm may.
-      at_model r ta td out out3 err err2 m past is (by m past is calm (may (is_changing (writes_g words) writes)) (subst (λ (t : Told). ReadiesAt words stamp place heading n (seen t) (seen tb) (Ok p) out out2 err) is readies))
-    where
-      by : (m : Model) (past : List Model) → ta ≡ Tells m past → IsCalm m → IsSafe n (view_of m) → IsReadied words n p (outcome_at (view_of m)) (world (Some (view_of m)) out err) (world (seen tb) out2 err) → EndsSo r (view_of m) m past td out err out3 err2 (outcome_at (view_of m))
-      by m past is calm safe ready =
-          finished_so r p (outcome_at (view_of m)) (view_of m) tb td out out2 out3 err err2 m past writes ready finishes safe
-          (placing r p ready.text (view_of m) ta tb td out2 out3 err err2 m past writes finishes places is calm safe.plain (record { touches = touches; firm = firm })
-          (y_leaves n (content ready.text (stays_writable words)) (view_of m) ta tb (y_is ready.text (view_of m) (seen tb) writes ready.given.view)))
+  module _ (summary : List ℕ) (records : List Record) (found : Found) (lines : List HistoryLine) where
+    abbrev all_of : View → StepEffect
+    all_of v = whole words heading n summary records found lines sfile v
 
-  -- ---- get gave up
+    abbrev rest_of : View → StepEffect
+    rest_of v = part words heading n summary records found lines sfile (summed_view words n summary v)
 
-  refused_after : (o : Outcome) (refusal : Refusal) (v : View) (m : Model) (past : List Model) (t : Told) → o ≡ Err refusal → IsSafeFor action n v → EndsBefore v m past t → EndsAfter v (moved v n (effect_of n o).new) m past t × IsSafeFor action n (moved v n (effect_of n o).new)
-  refused_after o refusal v m past t is safe ends = subst (λ (q : Outcome). EndsAfter v (moved v n (effect_of n q).new) m past t × IsSafeFor action n (moved v n (effect_of n q).new)) (sym is) (before_after v m past t ends, safe)
+    abbrev behind : View → View
+    behind v = summed_view words n summary v
 
-  given_so : (fault : StepFault) (o : Outcome) (v : View) (m : Model) (past : List Model) (o4 : Option View) (td : Told) (out out2 err : Option (List ℕ)) → Readies words n o (Err fault) (world (Some v) out err) (world o4 out2 err) → Moves (bytes_eq (y_file n)) (λ u. u) (Some v) o4 → (writes_g words ≡ false → o4 ≡ Some v)
-      → GivesUpGet words n fault (Err fault) o4 (seen td) → IsSafeFor action n v → EndsBefore v m past td → EndsSo (Err fault) v m past td out err out2 err o
-  given_so (Refused refusal) o v m past o4 td out out2 err ready moves same gives safe kept =
-      (gives_up words n sfile (Refused refusal) (Err (Refused refusal)) o v o4 (seen td) out out2 err ready moves same gives, refused_after o refusal v m past td ready.0 safe kept)
-  given_so Memory o v m past o4 td out out2 err ready moves same gives safe kept = (gives_up words n sfile Memory (Err Memory) o v o4 (seen td) out out2 err ready moves same gives, kept)
-  given_so WriteFault o v m past o4 td out out2 err ready moves same (inl gone) safe kept = (gave_up words n sfile WriteFault o v o4 (seen td) out out2 err ready moves same gone.1, kept)
-  given_so WriteFault o v m past o4 td out out2 err ready moves same (inr broken) safe kept = absurd (let e = broken.0 in cc)
-  given_so DiskFault o v m past o4 td out out2 err ready moves same gives safe kept =
-      (gives_up words n sfile DiskFault (Err DiskFault) o v o4 (seen td) out out2 err ready moves same gives, (before_within v (moved v n (effect_of n o).new) m past td kept, inr (recovers_before v m past td kept)))
-  given_so ReadFault o v m past o4 td out out2 err ready moves same gives safe kept = absurd ready
+    -- all is made
+    made_after : (v : View) (td : Told) (m : Model) (past : List Model) → IsSafe n v → EndsBefore v m past td → EndsAfter v (moved v n (all_of v).new) m past td × IsSafeFor action n (moved v n (all_of v).new)
+    made_after v td m past safe kept =
+        subst (λ (w : View). EndsAfter v w m past td × IsSafeFor action n w) (sym (moved_is (writes_l words) (writes_g words) n summary (given_text words records found lines) (stays_writable words) v sfile)) (
+          after_as v (files_put (writes_l words) (writes_g words) n summary (given_text words records found lines) (stays_writable words) v) m past td (files_recover (writes_l words) (writes_g words) n summary (given_text words records found lines) (stays_writable words) v safe.plain) kept,
+          λ changes. files_safe (writes_l words) (writes_g words) n summary (given_text words records found lines) (stays_writable words) v sfile safe,
+        )
 
-  broken_so : (fault : StepFault) (o : Outcome) (v : View) (m : Model) (past : List Model) (o4 : Option View) (td : Told) (out out2 err : Option (List ℕ)) → Readies words n o (Err fault) (world (Some v) out err) (world o4 out2 err) → Moves (bytes_eq (y_file n)) (λ u. u) (Some v) o4
-      → Moves (bytes_eq (y_file n)) (λ u. u) o4 (seen td) → EndsBefore v m past td → EndsSo (Err DiskFault) v m past td out err out2 err o
-  broken_so fault o v m past o4 td out out2 err ready moves more kept = (
-    record { view = (0, left_y words n sfile v o4 (seen td) moves more); out = written words n sfile fault o (world (Some v) out err) (world o4 out2 err) ready; err = refl },
-    (before_within v (moved v n (effect_of n o).new) m past td kept, inr (recovers_before v m past td kept)),
-  )
+    pub finished_so : (r : Result (Unit {0}) StepFault) (p : Prepared) (v : View) (tc td : Told) (out out2 out3 out4 err err2 : Option (List ℕ)) (m : Model) (past : List Model) → GivesOk out out2 (printed_summary words summary) → IsReadied words n p (Ok (rest_of v)) (world (Some (behind v)) out2 err) (world (seen tc) out3 err)
+        → FinishesGet words n p r (world (seen tc) out3 err) (world (seen td) out4 err2) → IsSafe n v → EndsBefore v m past td → EndsSo r v m past td out err out4 err2 (Ok (all_of v))
+    finished_so (Ok done) p v tc td out out2 out3 out4 err err2 m past first ready finishes safe kept =
+        (whole_met words heading n summary records found lines sfile (Ok done) v (seen td) out out2 out4 err err2 first (finished words n sfile (Ok done) p (Ok (rest_of v)) (behind v) (seen tc) (seen td) out2 out3 out4 err err2 ready finishes), made_after v td m past safe kept)
+    finished_so (Err WriteFault) p v tc td out out2 out3 out4 err err2 m past first ready finishes safe kept =
+        (whole_met words heading n summary records found lines sfile (Err WriteFault) v (seen td) out out2 out4 err err2 first (finished words n sfile (Err WriteFault) p (Ok (rest_of v)) (behind v) (seen tc) (seen td) out2 out3 out4 err err2 ready finishes), made_after v td m past safe kept)
+    finished_so (Err DiskFault) p v tc td out out2 out3 out4 err err2 m past first ready finishes safe kept = (
+      whole_met words heading n summary records found lines sfile (Err DiskFault) v (seen td) out out2 out4 err err2 first (finished words n sfile (Err DiskFault) p (Ok (rest_of v)) (behind v) (seen tc) (seen td) out2 out3 out4 err err2 ready finishes),
+      (before_within v (moved v n (all_of v).new) m past td kept, inr (recovers_before v m past td kept)),
+    )
+    finished_so (Err (Refused refusal)) p v tc td out out2 out3 out4 err err2 m past first ready finishes safe kept = absurd finishes
+    finished_so (Err Memory) p v tc td out out2 out3 out4 err err2 m past first ready finishes safe kept = absurd finishes
+    finished_so (Err ReadFault) p v tc td out out2 out3 out4 err err2 m past first ready finishes safe kept = absurd finishes
 
-  gives_so : (fault : StepFault) (r : Result (Unit {0}) StepFault) (o : Outcome) (v : View) (m : Model) (past : List Model) (o4 : Option View) (td : Told) (out out2 err : Option (List ℕ)) → Readies words n o (Err fault) (world (Some v) out err) (world o4 out2 err) → Moves (bytes_eq (y_file n)) (λ u. u) (Some v) o4 → (writes_g words ≡ false → o4 ≡ Some v)
-      → GivesUpGet words n fault r o4 (seen td) → IsSafeFor action n v → EndsBefore v m past td → EndsSo r v m past td out err out2 err o
-  gives_so fault r o v m past o4 td out out2 err ready moves same (inl gone) safe kept =
-      subst (λ (s : Result (Unit {0}) StepFault). EndsSo s v m past td out err out2 err o) (sym gone.0) (given_so fault o v m past o4 td out out2 err ready moves same (inl (refl, gone.1)) safe kept)
-  gives_so fault r o v m past o4 td out out2 err ready moves same (inr broken) safe kept =
-      subst (λ (s : Result (Unit {0}) StepFault). EndsSo s v m past td out err out2 err o) (sym broken.0) (broken_so fault o v m past o4 td out out2 err ready moves broken.1 kept)
+    -- it was given up behind the summary
+    given_so : (fault : StepFault) (v : View) (tc td : Told) (out out2 out3 err : Option (List ℕ)) (m : Model) (past : List Model) → GivesOk out out2 (printed_summary words summary) → Readies words n (Ok (rest_of v)) (Err fault) (world (Some (behind v)) out2 err) (world (seen tc) out3 err) → Moves (bytes_eq (y_file n)) (λ u. u) (Some (behind v)) (seen tc)
+        → (writes_g words ≡ false → seen tc ≡ Some (behind v)) → Becomes (y_cleared (writes_g words) n) (seen tc) (seen td) → EndsBefore v m past td → EndsSo (Err fault) v m past td out err out3 err (Ok (all_of v))
+    given_so Memory v tc td out out2 out3 err m past first ready moves same gone kept =
+        (whole_met words heading n summary records found lines sfile (Err Memory) v (seen td) out out2 out3 err err first (gave_up words n sfile Memory (Ok (rest_of v)) (behind v) (seen tc) (seen td) out2 out3 err ready moves same gone), kept)
+    given_so WriteFault v tc td out out2 out3 err m past first ready moves same gone kept =
+        (whole_met words heading n summary records found lines sfile (Err WriteFault) v (seen td) out out2 out3 err err first (gave_up words n sfile WriteFault (Ok (rest_of v)) (behind v) (seen tc) (seen td) out2 out3 err ready moves same gone), kept)
+    given_so DiskFault v tc td out out2 out3 err m past first ready moves same gone kept = (
+      whole_met words heading n summary records found lines sfile (Err DiskFault) v (seen td) out out2 out3 err err first (gave_up words n sfile DiskFault (Ok (rest_of v)) (behind v) (seen tc) (seen td) out2 out3 err ready moves same gone),
+      (before_within v (moved v n (all_of v).new) m past td kept, inr (recovers_before v m past td kept)),
+    )
+    given_so ReadFault v tc td out out2 out3 err m past first ready moves same gone kept = absurd ready
+    given_so (Refused refusal) v tc td out out2 out3 err m past first ready moves same gone kept = absurd (let e = ready.0 in cc)
 
-  pub given_up_moments : (fault : StepFault) (r : Result (Unit {0}) StepFault) (left : Option (List ℕ)) (ta tb td : Told) (out out2 err : Option (List ℕ)) → writes_g words ≡ true → ReadiesAt words stamp place heading n (seen ta) (seen tb) (Err fault) out out2 err
-      → Moves (bytes_eq (y_file n)) (λ u. u) (seen ta) (seen tb) → GivesUpGet words n fault r (seen tb) (seen td) → TouchesOnly (bytes_eq (y_file n)) ta tb → TouchesOnly (bytes_eq (y_file n)) tb td → StepMoments action r n left (scene ta out err) (scene td out2 err)
-  given_up_moments fault r left ta tb td out out2 err writes readies moves gives touches leaving = λ m past i is heard calm may.
-      at_model r ta td out out2 err err m past is
-      (gives_so fault r (outcome_at (view_of m)) (view_of m) m past (seen tb) td out out2 err (subst (λ (t : Told). ReadiesAt words stamp place heading n (seen t) (seen tb) (Err fault) out out2 err) is readies) (subst (λ (t : Told). Moves (bytes_eq (y_file n)) (λ u. u) (seen t) (seen tb)) is moves)
-      (λ never. absurd (let e : writes_g words ≡ true = writes in let f : writes_g words ≡ false = never in cc)) gives may
-      (ends_pairs (drop 2 n) None 0 m past td (ends_before n (drop 2 n) None ta td m past (from_g 121 n sfile) sfile is calm (only_then (bytes_eq (y_file n)) ta tb td touches leaving))))
+    pub gives_so : (fault : StepFault) (r : Result (Unit {0}) StepFault) (v : View) (tc td : Told) (out out2 out3 err : Option (List ℕ)) (m : Model) (past : List Model) → GivesOk out out2 (printed_summary words summary) → Readies words n (Ok (rest_of v)) (Err fault) (world (Some (behind v)) out2 err) (world (seen tc) out3 err) → Moves (bytes_eq (y_file n)) (λ u. u) (Some (behind v)) (seen tc)
+        → (writes_g words ≡ false → seen tc ≡ Some (behind v)) → GivesUpGet (writes_g words) n fault r (seen tc) (seen td) → EndsBefore v m past td → EndsSo r v m past td out err out3 err (Ok (all_of v))
+    gives_so fault r v tc td out out2 out3 err m past first ready moves same (inl gone) kept =
+        subst (λ (s : Result (Unit {0}) StepFault). EndsSo s v m past td out err out3 err (Ok (all_of v))) (sym gone.0) (given_so fault v tc td out out2 out3 err m past first ready moves same gone.1 kept)
+    gives_so fault r v tc td out out2 out3 err m past first ready moves same (inr broken) kept =
+        subst (λ (s : Result (Unit {0}) StepFault). EndsSo s v m past td out err out3 err (Ok (all_of v))) (sym broken.0) (
+          whole_met words heading n summary records found lines sfile (Err DiskFault) v (seen td) out out2 out3 err err first (gives_up words n sfile fault (Err DiskFault) (Ok (rest_of v)) (behind v) (seen tc) (seen td) out2 out3 err ready moves same (inr (refl, broken.1))),
+          (before_within v (moved v n (all_of v).new) m past td kept, inr (recovers_before v m past td kept)),
+        )
+
+    -- the summary was given up
+    up_so : (fault : StepFault) (v : View) (o2 : Option View) (td : Told) (out out2 err : Option (List ℕ)) (m : Model) (past : List Model) → GivesSummary words n summary (Err fault) (world (Some v) out err) (world o2 out2 err) → Becomes (y_cleared (writes_l words) n) o2 (seen td) → EndsBefore v m past td → EndsSo (Err fault) v m past td out err out2 err (Ok (all_of v))
+    up_so Memory v o2 td out out2 err m past gives gone kept = (up_summed words heading n summary records found lines sfile Memory v o2 (seen td) out out2 err gives gone, kept)
+    up_so WriteFault v o2 td out out2 err m past gives gone kept = (up_summed words heading n summary records found lines sfile WriteFault v o2 (seen td) out out2 err gives gone, kept)
+    up_so DiskFault v o2 td out out2 err m past gives gone kept =
+        (up_summed words heading n summary records found lines sfile DiskFault v o2 (seen td) out out2 err gives gone, (before_within v (moved v n (all_of v).new) m past td kept, inr (recovers_before v m past td kept)))
+    up_so ReadFault v o2 td out out2 err m past gives gone kept = absurd gives.0
+    up_so (Refused refusal) v o2 td out out2 err m past gives gone kept = absurd gives.0
+
+    pub cut_so : (fault : StepFault) (r : Result (Unit {0}) StepFault) (v : View) (o2 : Option View) (td : Told) (out out2 err : Option (List ℕ)) (m : Model) (past : List Model) → GivesSummary words n summary (Err fault) (world (Some v) out err) (world o2 out2 err) → GivesUpGet (writes_l words) n fault r o2 (seen td) → EndsBefore v m past td → EndsSo r v m past td out err out2 err (Ok (all_of v))
+    cut_so fault r v o2 td out out2 err m past gives (inl gone) kept =
+        subst (λ (s : Result (Unit {0}) StepFault). EndsSo s v m past td out err out2 err (Ok (all_of v))) (sym gone.0) (up_so fault v o2 td out out2 err m past gives gone.1 kept)
+    cut_so fault r v o2 td out out2 err m past gives (inr broken) kept =
+        subst (λ (s : Result (Unit {0}) StepFault). EndsSo s v m past td out err out2 err (Ok (all_of v))) (sym broken.0)
+        (down_summed words heading n summary records found lines sfile fault v o2 (seen td) out out2 err gives broken.1, (before_within v (moved v n (all_of v).new) m past td kept, inr (recovers_before v m past td kept)))

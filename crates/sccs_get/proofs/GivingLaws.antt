@@ -154,15 +154,15 @@ placed_so words n p (Err DiskFault) o out out2 err err2 a b reports ends = absur
 
 -- ---- giving up
 
-pub kept_up : (words : GetWords) (n : List ℕ) (fault : StepFault) (o : Option View) → writes_g words ≡ false → GivesUpGet words n fault (Err fault) o o
-kept_up words n fault o none = inl (refl, by o)
+pub kept_up : (has_y : Bool) (n : List ℕ) (fault : StepFault) (o : Option View) → has_y ≡ false → GivesUpGet has_y n fault (Err fault) o o
+kept_up has_y n fault o none = inl (refl, by o)
   where
-    by : (o : Option View) → Becomes (y_cleared words n) o o
+    by : (o : Option View) → Becomes (y_cleared has_y n) o o
     by None = refl
     by (Some v) = ap (λ (b : Bool). Some (if b then without_name (y_file n) v else v)) (sym none)
 
 pub fault_so : (fault : StepFault) → unit_fault fault ≡ Err DiskFault → fault ≡ DiskFault
 fault_so fault is = cc
 
-pub broken_up : (words : GetWords) (n : List ℕ) (o : Option View) → GivesUpGet words n DiskFault (Err DiskFault) o o
-broken_up words n o = inr (refl, moves_same (bytes_eq (y_file n)) o)
+pub broken_up : (has_y : Bool) (n : List ℕ) (o : Option View) → GivesUpGet has_y n DiskFault (Err DiskFault) o o
+broken_up has_y n o = inr (refl, moves_same (bytes_eq (y_file n)) o)

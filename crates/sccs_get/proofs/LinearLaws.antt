@@ -1,10 +1,12 @@
 -- The lines that a get of a linear file finds.
-use Rattle.std.proofs.Common.{◌≡◌, ℕ, Bool, true, false, List, [], ◌∷◌, Option, None, Some, Ok, refl, ap, subst, ◌∙◌, eq-eqb}
-use Rattle.std.specs.Prelude.{◌==◌, not, ◌&&◌, ◌||◌, option_map, find, if◌then◌else◌}
+use Rattle.std.proofs.Common.{◌≡◌, ℕ, Bool, true, false, List, [], ◌∷◌, ◌++◌, Option, None, Some, Result, Ok, refl, ap, subst, ◌∙◌, eq-eqb}
+use Rattle.std.specs.Prelude.{◌==◌, not, ◌&&◌, ◌||◌, option_map, unwrap_or, find, if◌then◌else◌}
+use Rattle.sccs_sid.specs.Reading.{◌>>=◌}
 use Rattle.sccs_sid.specs.declared.moments.Stamp.{Stamp}
 use Rattle.sccs_sid.specs.declared.sids.Sid.{Sid}
 use Rattle.sccs_sid.specs.declared.sids.Spec.{Spec}
 use Rattle.sccs_sid.specs.declared.sid_lists.Range.{Range}
+use Rattle.sccs_sid.specs.declared.refusals.Refusal.{Refusal}
 use Rattle.sccs_sid.specs.declared.refusals.Refusal.TheVariants as refusals
 use Rattle.sccs_history.specs.FlagText.{flag_i}
 use Rattle.sccs_history.specs.Numbers.{front_if, is_empty}
@@ -31,16 +33,17 @@ use Rattle.sccs_facts.specs.VersionFacts.{facts_of, module_name}
 use Rattle.sccs_printing.specs.Printing.{version_text}
 use Rattle.sccs_files.specs.StepFiles.{Files}
 use Rattle.sccs_pending.specs.Pending.{bytes_at}
-use Rattle.sccs_steps.specs.StepEffects.{check}
+use Rattle.sccs_steps.specs.StepEffects.{StepEffect, check}
 use Rattle.sccs_versions.specs.Coming.{shown}
 use Rattle.sccs_words.specs.declared.commands.GetWords.{GetWords}
 use Rattle.sccs_get.specs.NewEntry.{singles}
 use Rattle.sccs_get.specs.AskedVersion.{asked, listed_serials, spec_asked}
 use Rattle.sccs_get.specs.Linear.{AsksNewest, GivesLinesPlain, GivesTexts, IsLinearFile, StepGives}
-use Rattle.sccs_get.specs.VersionStep.{version_facts, form_got, found_version, g_is_free, get_effect, has_its_keywords, is_in_the_way, lines_got, module_in, stays_writable, given_text, with_g}
+use Rattle.sccs_get.specs.SummaryStep.{printed_summary, summary_got, summed, with_l, writes_l}
+use Rattle.sccs_get.specs.VersionStep.{LocatedVersion, version_facts, form_got, found_version, g_is_free, get_effect, get_outcome, located_of, has_its_keywords, is_in_the_way, lines_got, module_in, stays_writable, given_text, with_g}
 use Rattle.sccs_get.specs.declared.found.Found.{Found}
 use Rattle.sccs_get.proofs.FoundLaws.{found_so, found_with}
-use Rattle.sccs_get.proofs.ReadyLaws.{is_got}
+use Rattle.sccs_get.proofs.LocatedLaws.{is_located}
 use Rattle.sccs_get.proofs.TargetLaws.{asked_at, asked_by, set_by}
 
 spec_none : (words : GetWords) (header : Header) → words.spec ≡ None → default_of header.flags ≡ None → spec_asked words header ≡ None
@@ -87,6 +90,11 @@ found_module words header n none = ap (λ (b : Bool). if b then Some (module_nam
 found_facts : (words : GetWords) (stamp : Stamp) (place n : List ℕ) (header : Header) (set : List ℕ) (target : ℕ) (sid : Sid) → words.keep ≡ true → version_facts words stamp place n header set target sid ≡ None
 found_facts words stamp place n header set target sid keep = ap (λ (b : Bool). if not (b || (words.edit || words.no_text)) then Some (facts_of header set target sid n place stamp) else None) keep
 
+-- the files behind a text as the g-file, with a summary or without one
+new_files : (l : Bool) (summary : List ℕ) (f : Files) (new : Option Files) (text : List ℕ) → new ≡ Some (with_g f text true) → (if l then Some (with_l summary (unwrap_or new f)) else new) ≡ Some (with_g (if l then with_l summary f else f) text true)
+new_files true summary f new text is = ap (λ (o : Option Files). Some (with_l summary (unwrap_or o f))) is
+new_files false summary f new text is = is
+
 module _ (words : GetWords) (stamp : Stamp) (place n : List ℕ) (heading : Bool) (f : Files) (parsed : Parsed) where
   -- a version whose lines are given as they are
   plain_text : (found : Found) (lines : List (List ℕ)) → GivesLinesPlain words → found.«module» ≡ None → found.facts ≡ None → texts (lines_got found parsed.items) ≡ lines
@@ -107,17 +115,25 @@ module _ (words : GetWords) (stamp : Stamp) (place n : List ℕ) (heading : Bool
   may_be_written : words.keep ≡ true → stays_writable words ≡ true
   may_be_written keep = ap (λ (b : Bool). b || words.edit) keep
 
+  abbrev effect_with : LocatedVersion → StepEffect
+  effect_with x = summed words (summary_got words x.parsed.header.records x.found) f (get_effect words heading n x.parsed.header.records f x.found (lines_got x.found x.parsed.items))
+
+  outcome_is : (x : LocatedVersion) → located_of words stamp place n f ≡ Ok x → get_outcome words stamp place heading n f ≡ Ok (effect_with x)
+  unfolding get_outcome
+  outcome_is x is = ap (λ (r : Result LocatedVersion Refusal). r >>= λ y. Ok (effect_with y)) is
+
   step_gives : (found : Found) (lines : List (List ℕ)) → answer file_of (bytes_at f.s) ≡ Ok parsed → found_version words stamp place n parsed.header ≡ Ok found → found.«module» ≡ None → found.facts ≡ None
-      → texts (lines_got found parsed.items) ≡ lines → GivesLinesPlain words → is_in_the_way words f.g ≡ false → StepGives words stamp place heading n f (bytes_of lines)
+      → texts (lines_got found parsed.items) ≡ lines → GivesLinesPlain words → is_in_the_way words f.g ≡ false → StepGives words stamp place heading n f (summary_got words parsed.header.records found) (bytes_of lines)
   step_gives found lines is found_is no_module no_facts texts_are plain free =
       let text : given_text words parsed.header.records found (lines_got found parsed.items) ≡ bytes_of lines = plain_text found lines plain no_module no_facts texts_are in
       record {
-        effect = get_effect words heading n parsed.header.records f found (lines_got found parsed.items);
-        is = is_got words stamp place heading n f parsed found is found_is (keywords_stay (lines_got found parsed.items) plain.keep) (g_free free);
-        printed = ap (λ t. if words.print then t else []) text;
+        effect = effect_with (record { parsed = parsed; found = found });
+        is = outcome_is (record { parsed = parsed; found = found }) (is_located words stamp place n f parsed found is found_is (keywords_stay (lines_got found parsed.items) plain.keep) (g_free free));
+        printed = ap (λ t. printed_summary words (summary_got words parsed.header.records found) ++ (if words.print then t else [])) text;
         made = λ writes.
-            ap (λ (b : Bool). if b then Some (with_g f (given_text words parsed.header.records found (lines_got found parsed.items)) (stays_writable words)) else None) writes
-            ∙ (ap (λ t. Some (with_g f t (stays_writable words))) text ∙ ap (λ (b : Bool). Some (with_g f (bytes_of lines) b)) (may_be_written plain.keep));
+            new_files (writes_l words) (summary_got words parsed.header.records found) f (get_effect words heading n parsed.header.records f found (lines_got found parsed.items)).new (bytes_of lines)
+            (ap (λ (b : Bool). if b then Some (with_g f (given_text words parsed.header.records found (lines_got found parsed.items)) (stays_writable words)) else None) writes
+            ∙ (ap (λ t. Some (with_g f t (stays_writable words))) text ∙ ap (λ (b : Bool). Some (with_g f (bytes_of lines) b)) (may_be_written plain.keep)));
       }
 
   pub version_found : answer file_of (bytes_at f.s) ≡ Ok parsed → AsksNewest words → IsLinearFile parsed → GivesTexts words stamp place heading n f parsed (version (newest parsed.header.records) parsed.header.records (lines_of parsed.items))
@@ -126,7 +142,7 @@ module _ (words : GetWords) (stamp : Stamp) (place n : List ℕ) (heading : Bool
       let records : List Record = header.records in
       let set : List ℕ = newest_set records in
       let sid : (sid : Sid) × (sid_at records (newest records) ≡ Some sid) = head_sid records linear.some in
-      let found : Found = found_with set (singles records []) (singles records []) sid.0 (module_in words header n) (version_facts words stamp place n header set (newest records) sid.0) in
+      let found : Found = found_with (asked_at (newest records) [] [] set) (singles records []) (singles records []) sid.0 (module_in words header n) (version_facts words stamp place n header set (newest records) sid.0) in
       let found_is : found_version words stamp place n header ≡ Ok found =
       found_so words stamp place n header (asked_at (newest records) [] [] set) sid.0 (singles records []) (singles records []) (module_in words header n) (version_facts words stamp place n header set (newest records) sid.0)
       (newest_asked words header asks linear.default (newest_got records words.top linear.some linear.trunk)) sid.1 refl refl refl refl in

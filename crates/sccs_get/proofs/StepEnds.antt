@@ -56,7 +56,7 @@ placed_y n c v k h = ⊎_elim here there (name_cases (drop 2 n) k)
         ∙ (put_other (put v (y_file n) (Some c)) (y_file n) k None (no_y n k h) ∙ (put_other v (y_file n) k (Some c) (no_y n k h) ∙ sym (put_other v (drop 2 n) k (Some c) apart)))
 
 -- by whether a g-file is written
-abbrev new_by : Bool → List ℕ → List ℕ → Bool → View → Option Files
+abbrev pub new_by : Bool → List ℕ → List ℕ → Bool → View → Option Files
 new_by b n text writable v = if b then Some (with_g (look v n) text writable) else None
 
 abbrev y_by : Bool → List ℕ → Content → View → View
@@ -195,7 +195,7 @@ module _ (words : GetWords) (n : List ℕ) (sfile : IsSfile n) where
 
   -- get gave up, and the y-file is gone
   abbrev pub gave_up : (fault : StepFault) (o : Outcome) (v : View) (o4 o5 : Option View) (out out2 err : Option (List ℕ)) → Readies words n o (Err fault) (world (Some v) out err) (world o4 out2 err) → Moves (bytes_eq (y_file n)) (λ u. u) (Some v) o4 → (writes_g words ≡ false → o4 ≡ Some v)
-      → Becomes (y_cleared words n) o4 o5 → Fails fault n o (world (Some v) out err) (world o5 out2 err)
+      → Becomes (y_cleared (writes_g words) n) o4 o5 → Fails fault n o (world (Some v) out err) (world o5 out2 err)
   gave_up (Refused refusal) o v o4 o5 out out2 err ready moves same gone = (ready.0, undone (writes_g words) None [] v o4 o5 out out2 err moves same gone (subst (λ (x : Option (List ℕ)). GivesSome out x []) (sym ready.1) (some_none out [])))
   gave_up Memory o v o4 o5 out out2 err ready moves same gone = undone (writes_g words) (effect_of n o).new (effect_of n o).text v o4 o5 out out2 err moves same gone ready
   gave_up WriteFault o v o4 o5 out out2 err ready moves same gone = inl (undone (writes_g words) (effect_of n o).new (effect_of n o).text v o4 o5 out out2 err moves same gone ready)
@@ -211,7 +211,7 @@ module _ (words : GetWords) (n : List ℕ) (sfile : IsSfile n) where
   written ReadFault o w w2 ready = absurd ready
 
   abbrev pub gives_up : (fault : StepFault) (r : Result (Unit {0}) StepFault) (o : Outcome) (v : View) (o4 o5 : Option View) (out out2 err : Option (List ℕ)) → Readies words n o (Err fault) (world (Some v) out err) (world o4 out2 err) → Moves (bytes_eq (y_file n)) (λ u. u) (Some v) o4 → (writes_g words ≡ false → o4 ≡ Some v)
-      → GivesUpGet words n fault r o4 o5 → Met r o v o5 out out2 err err
+      → GivesUpGet (writes_g words) n fault r o4 o5 → Met r o v o5 out out2 err err
   gives_up fault r o v o4 o5 out out2 err ready moves same (inl gone) =
       subst (λ (s : Result (Unit {0}) StepFault). Met s o v o5 out out2 err err) (sym gone.0) (gave_up fault o v o4 o5 out out2 err ready moves same gone.1)
   gives_up fault r o v o4 o5 out out2 err ready moves same (inr broken) =

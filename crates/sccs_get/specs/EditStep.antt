@@ -19,6 +19,7 @@ use Rattle.sccs_steps.specs.StepEffects.{Outcome, StepEffect}
 use Rattle.sccs_transactions.specs.Changes.{Changing}
 use Rattle.sccs_get.specs.NewEntry.{edit_checks, new_entry}
 use Rattle.sccs_get.specs.Reports.{get_warning, said_on_err, said_on_out}
+use Rattle.sccs_get.specs.SummaryStep.{summary_got, summed, writes_l}
 use Rattle.sccs_get.specs.VersionStep.{found_version, is_in_the_way, lines_got, report_on, says_well, stays_writable, given_text, writes_g}
 use Rattle.sccs_get.specs.declared.found.Found.{Found as Version}
 
@@ -58,8 +59,8 @@ edit_effect words heading n records f edits edit version lines =
 unfoldable pub edit_outcome : GetWords → Stamp → List ℕ → Bool → Step
 edit_outcome words stamp place heading n input named f = do
   x ← reserved_of words stamp place n f
-  Ok (edit_effect words heading n x.parsed.header.records f x.edits x.edit x.version
-      (lines_got x.version x.parsed.items))
+  Ok (summed words (summary_got words x.parsed.header.records x.version) f
+      (edit_effect words heading n x.parsed.header.records f x.edits x.edit x.version (lines_got x.version x.parsed.items)))
 
 -- the outcomes that may come over any disk
 abbrev pub could_edit : GetWords → Outcome → Bool
@@ -67,4 +68,4 @@ could_edit words (Ok effect) = says_well words effect.err
 could_edit words (Err refusal) = has_number edit_checks (number_of refusal)
 
 abbrev pub edit_change : GetWords → Stamp → List ℕ → Bool → Changing
-edit_change words stamp place heading = record { outcome = edit_outcome words stamp place heading; named = λ n. []; takes = false; silent = false; early = false; could = could_edit words }
+edit_change words stamp place heading = record { outcome = edit_outcome words stamp place heading; named = λ n. []; takes = false; silent = false; early = writes_l words; could = could_edit words }

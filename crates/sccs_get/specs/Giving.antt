@@ -1,5 +1,5 @@
 -- What giving the text of a version answers, and what is ready behind it: the report, and the new g-file as the y-file.
-use Rattle.std.specs.Prelude.{◌≡◌, ◌⊎◌, ℕ, true, false, List, [], drop, Option, None, Some, IfSome, Result, Ok, Err, if◌then◌else◌}
+use Rattle.std.specs.Prelude.{◌≡◌, ◌⊎◌, ℕ, Bool, true, false, List, [], drop, Option, None, Some, IfSome, Result, Ok, Err, if◌then◌else◌}
 use Rattle.std.specs.Str.{bytes_eq}
 use Rattle.sccs_base.specs.Name.{y_file}
 use Rattle.sccs_base.specs.Stream.{GivesOk, GivesSome}
@@ -79,8 +79,8 @@ abbrev pub g_placed : GetWords → List ℕ → View → View
 g_placed words n v = if writes_g words then renamed (y_file n) (drop 2 n) v else v
 
 -- no y-file, where one may have been made
-abbrev pub y_cleared : GetWords → List ℕ → View → View
-y_cleared words n v = if writes_g words then without_name (y_file n) v else v
+abbrev pub y_cleared : Bool → List ℕ → View → View
+y_cleared has_y n v = if has_y then without_name (y_file n) v else v
 
 -- the g-file is placed, and all is said or a prefix of it; or placing it failed, and nothing is said
 abbrev pub FinishesGet : GetWords → List ℕ → Prepared → Result (Unit {0}) StepFault → World → World → Type 0
@@ -96,6 +96,6 @@ PlacesG words n (Err WriteFault) old new = writes_g words ≡ true → PlaceEnds
 PlacesG words n (Err fault) old new = writes_g words ≡ true → PlaceStops n (drop 2 n) old new
 
 -- the y-file is gone, where one may have been made, and the answer is the fault; or the disk failed
-abbrev pub GivesUpGet : GetWords → List ℕ → StepFault → Result (Unit {0}) StepFault → Option View → Option View → Type 0
-GivesUpGet words n fault r a b =
-    ((r ≡ Err fault) × Becomes (y_cleared words n) a b) ⊎ ((r ≡ Err DiskFault) × Moves (bytes_eq (y_file n)) (λ v. v) a b)
+abbrev pub GivesUpGet : Bool → List ℕ → StepFault → Result (Unit {0}) StepFault → Option View → Option View → Type 0
+GivesUpGet has_y n fault r a b =
+    ((r ≡ Err fault) × Becomes (y_cleared has_y n) a b) ⊎ ((r ≡ Err DiskFault) × Moves (bytes_eq (y_file n)) (λ v. v) a b)

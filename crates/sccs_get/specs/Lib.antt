@@ -5,7 +5,10 @@ pub mod Edits
 pub mod Giving
 pub mod Keeps
 pub mod Linear
+pub mod Located
 pub mod NewEntry
 pub mod Reports
+pub mod SummaryGiving
+pub mod SummaryStep
 pub mod VersionStep
 pub mod Whole

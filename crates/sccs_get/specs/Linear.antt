@@ -1,5 +1,5 @@
 -- Files without branches, removals, lists and a flag d, and gets that ask for no version.
-use Rattle.std.specs.Prelude.{◌≡◌, ℕ, Bool, true, false, List, None, Some, Ok}
+use Rattle.std.specs.Prelude.{◌≡◌, ℕ, Bool, true, false, List, ◌++◌, None, Some, Ok, if◌then◌else◌}
 use Rattle.sccs_history.specs.Numbers.{is_empty}
 use Rattle.sccs_history.specs.Linear.{IsLinear}
 use Rattle.sccs_grammar.specs.File.{Parsed}
@@ -11,6 +11,7 @@ use Rattle.sccs_sets.specs.Trunks.{IsTrunk}
 use Rattle.sccs_sid.specs.declared.moments.Stamp.{Stamp}
 use Rattle.sccs_texts.specs.Forms.{texts}
 use Rattle.sccs_words.specs.declared.commands.GetWords.{GetWords}
+use Rattle.sccs_get.specs.SummaryStep.{printed_summary, summary_got, with_l, writes_l}
 use Rattle.sccs_get.specs.VersionStep.{found_version, get_outcome, is_in_the_way, lines_got, with_g, writes_g}
 use Rattle.sccs_get.specs.declared.found.Found.{Found}
 use Rattle.sccs_sets.specs.Flags.{default_of}
@@ -37,16 +38,16 @@ pub record GivesLinesPlain (words : GetWords) : Type 0 where
   pub «module» : words.«module» ≡ false
   pub sids : words.sids ≡ false
 
--- The step gives a text: to out with -p, else as the g-file, which may be written.
-pub record StepGives (words : GetWords) (stamp : Stamp) (place : List ℕ) (heading : Bool) (n : List ℕ) (f : Files) (text : List ℕ) : Type 0 where
+-- The step gives a summary, to out with -L and as the l-file with -l, and then a text: to out with -p, else as the g-file, which may be written.
+pub record StepGives (words : GetWords) (stamp : Stamp) (place : List ℕ) (heading : Bool) (n : List ℕ) (f : Files) (summary text : List ℕ) : Type 0 where
   pub effect : StepEffect
   pub is : get_outcome words stamp place heading n f ≡ Ok effect
-  pub printed : effect.text ≡ printed_text words text
-  pub made : writes_g words ≡ true → effect.new ≡ Some (with_g f text true)
+  pub printed : effect.text ≡ printed_summary words summary ++ printed_text words text
+  pub made : writes_g words ≡ true → effect.new ≡ Some (with_g (if writes_l words then with_l summary f else f) text true)
 
--- A version is found, and its lines have these texts; a get that gives lines as they are gives these, each with LF.
+-- A version is found, and its lines have these texts; a get that gives lines as they are gives these, each with LF, behind its summary.
 pub record GivesTexts (words : GetWords) (stamp : Stamp) (place : List ℕ) (heading : Bool) (n : List ℕ) (f : Files) (parsed : Parsed) (lines : List (List ℕ)) : Type 0 where
   pub found : Found
   pub is : found_version words stamp place n parsed.header ≡ Ok found
   pub texts_are : texts (lines_got found parsed.items) ≡ lines
-  pub step : GivesLinesPlain words → is_in_the_way words f.g ≡ false → StepGives words stamp place heading n f (bytes_of lines)
+  pub step : GivesLinesPlain words → is_in_the_way words f.g ≡ false → StepGives words stamp place heading n f (summary_got words parsed.header.records found) (bytes_of lines)

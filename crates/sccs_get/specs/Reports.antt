@@ -6,6 +6,7 @@ use Rattle.sccs_sid.specs.declared.sid_lists.Range.{Range}
 use Rattle.sccs_tokens.specs.Written.{ended}
 use Rattle.sccs_pending.specs.Reports.{heading_text, warning}
 use Rattle.sccs_words.specs.declared.commands.GetWords.{GetWords}
+use Rattle.sccs_get.specs.SummaryStep.{is_out}
 
 -- keywords are replaced without -k, -e and -g
 abbrev pub replaces_keywords : GetWords → Bool
@@ -43,10 +44,14 @@ get_report words heading n include exclude got made lines =
 abbrev pub get_warning : GetWords → List ℕ → Bool → List ℕ
 get_warning words n keyword = warning n (not (replaces_keywords words) || keyword)
 
--- on out: the report, but with -p
-abbrev pub said_on_out : GetWords → List ℕ → List ℕ
-said_on_out words report = if words.print then [] else report
+-- a text or a summary goes to out
+abbrev pub prints : GetWords → Bool
+prints words = words.print || is_out words.summary
 
--- on err: the report with -p, and the warning
+-- on out: the report, but with -p and -L
+abbrev pub said_on_out : GetWords → List ℕ → List ℕ
+said_on_out words report = if prints words then [] else report
+
+-- on err: the report with -p and -L, and the warning
 abbrev pub said_on_err : GetWords → List ℕ → List ℕ → List ℕ
-said_on_err words report message = if words.print then report ++ message else message
+said_on_err words report message = if prints words then report ++ message else message

@@ -16,7 +16,7 @@ use Rattle.sccs_history.specs.declared.headers.Header.{Header}
 use Rattle.sccs_history.specs.declared.headers.Item.{Item}
 use Rattle.sccs_history.specs.declared.headers.Record.{Record}
 use Rattle.sccs_flags.specs.FlagValues.{has_flag}
-use Rattle.sccs_grammar.specs.File.{answer, file_of}
+use Rattle.sccs_grammar.specs.File.{Parsed, answer, file_of}
 use Rattle.sccs_grammar.specs.FileRefusals.{or_refusal}
 use Rattle.sccs_sets.specs.Sets.{sid_at}
 use Rattle.sccs_versions.specs.Coming.{shown}
@@ -33,7 +33,8 @@ use Rattle.sccs_steps.specs.StepEffects.{Outcome, StepEffect, check, there}
 use Rattle.sccs_steps.specs.declared.statuses.StatusRule.TheVariants.{Greatest}
 use Rattle.sccs_get.specs.NewEntry.{singles}
 use Rattle.sccs_get.specs.AskedVersion.{asked}
-use Rattle.sccs_get.specs.Reports.{get_report, get_warning, replaces_keywords, said_on_err, said_on_out}
+use Rattle.sccs_get.specs.Reports.{get_report, get_warning, prints, replaces_keywords, said_on_err, said_on_out}
+use Rattle.sccs_get.specs.SummaryStep.{summary_got, summed, writes_l}
 use Rattle.sccs_get.specs.declared.found.Found.{Found}
 
 -- ---- what the words say
@@ -65,6 +66,8 @@ found_version words stamp place n header = do
     set = a.set;
     include = singles header.records a.include;
     exclude = singles header.records a.exclude;
+    taken_in = a.include;
+    left_out = a.exclude;
     sid = sid;
     «module» = module_in words header n;
     facts = version_facts words stamp place n header a.set a.target sid;
@@ -120,14 +123,25 @@ is_in_the_way words g = writes_g words && is_writable g
 abbrev pub g_is_free : GetWords → Option Content → Result Bool Refusal
 g_is_free words g = check (not (is_in_the_way words g)) refusals.GExists
 
--- what get makes of the files of a name; the checks come in this order
-unfoldable pub get_outcome : GetWords → Stamp → List ℕ → Bool → List ℕ → Files → Outcome
-get_outcome words stamp place heading n f = do
+-- What is found: the header and items, and the version.
+pub record LocatedVersion : Type 0 where
+  pub parsed : Parsed
+  pub found : Found
+
+-- it is found in the files of a name; or the first check that fails, in this order
+unfoldable pub located_of : GetWords → Stamp → List ℕ → List ℕ → Files → Result LocatedVersion Refusal
+located_of words stamp place n f = do
   parsed ← or_refusal (answer file_of (bytes_at f.s))
   found ← found_version words stamp place n parsed.header
   keywords ← has_its_keywords words parsed.header.flags (lines_got found parsed.items)
   free ← g_is_free words f.g
-  Ok (get_effect words heading n parsed.header.records f found (lines_got found parsed.items))
+  Ok (record { parsed = parsed; found = found })
+
+-- what get makes of the files of a name: the summary, and then the text
+unfoldable pub get_outcome : GetWords → Stamp → List ℕ → Bool → List ℕ → Files → Outcome
+get_outcome words stamp place heading n f = do
+  x ← located_of words stamp place n f
+  Ok (summed words (summary_got words x.parsed.header.records x.found) f (get_effect words heading n x.parsed.header.records f x.found (lines_got x.found x.parsed.items)))
 
 -- the numbers of get's checks
 abbrev pub version_checks : List ℕ
@@ -139,7 +153,7 @@ version_checks =
 
 -- over any disk: on err nothing is said but the warning, unless the report goes there
 abbrev pub says_well : GetWords → List ℕ → Bool
-says_well words message = (words.print && not words.silent) || (is_empty message || bytes_eq (codes "WARNING [") (take 9 message))
+says_well words message = (prints words && not words.silent) || (is_empty message || bytes_eq (codes "WARNING [") (take 9 message))
 
 abbrev pub could_get : GetWords → Outcome → Bool
 could_get words (Ok effect) = says_well words effect.err
@@ -152,7 +166,7 @@ get_action words stamp place heading = record {
   step = λ n input named files. get_outcome words stamp place heading n files;
   named = λ n. [];
   takes = false;
-  reads = not (writes_g words);
+  reads = not (writes_g words || writes_l words);
   locks = true;
   silent = false;
   rule = Greatest;

@@ -1,4 +1,5 @@
 ghost use Rattle.std.specs.Prelude.{◌≡◌, ◌∷◌, ◌++◌, [], ℕ, List, Option, Some, All, Ok, Err, IfOk, IfSome, is_some, true, false};
+ghost use Rattle.std.specs.List.{AllByRecursion};
 ghost use Rattle.std.specs.Str.{bytes_eq};
 ghost use Rattle.sccs_base.specs.Name.{IsSfile, p_file, q_file, z_file};
 ghost use Rattle.sccs_disk.specs.Calls.{IsThere};
@@ -7,7 +8,7 @@ ghost use Rattle.sccs_disk.specs.Images.{IsFirm};
 ghost use Rattle.sccs_disk.specs.Told.{seen};
 ghost use Rattle.sccs_files.specs.StepFiles.{Moves, is_working, look};
 ghost use Rattle.sccs_history.specs.Applied.{serials_of};
-ghost use Rattle.sccs_history.specs.History.{IsHeader, lives};
+ghost use Rattle.sccs_history.specs.History.{HasSpelling, IsHeader, lives};
 ghost use Rattle.sccs_history.specs.Numbers.{Falls, has};
 ghost use Rattle.sccs_history.specs.declared.headers.Item.{Item};
 ghost use Rattle.sccs_images.specs.Touches.{Leaves, TouchesOnly};
@@ -40,6 +41,7 @@ use crate::found::{Found, find_version};
 use crate::giving::give_version;
 use crate::new_entries::new_entry;
 use crate::reports::said;
+use crate::summaries::give_summary;
 use sccs_base::{Line, Name, Sink, Source};
 use sccs_disk::{Disk, DiskRefusal};
 use sccs_pending::{Pending, prepare_entries, read_pending};
@@ -84,6 +86,7 @@ fn find_edit<D: Disk>(
     ensures pending { IfOk result (λ r. IfSome (seen (D.told disk.old)) (λ (v : View). AnswersPending (v name.now) (v (p_file name.now)) (Ok r.pending))) }
     ensures placed { IfOk result (λ r. IsPlaced r.pending.front) }
     ensures table { IfOk result (λ r. Falls 65536 (serials_of r.pending.front.header.records)) }
+    ensures spelled { IfOk result (λ r. AllByRecursion HasSpelling r.pending.front.header.records) }
     ensures edits { IfOk result (λ r. All IsEdit r.pending.edits) }
     ensures agrees { IfOk result (λ r. Agrees r.pending.front.header.records r.pending.edits) }
     ensures edit { IfOk result (λ r. IsEdit r.edit) }
@@ -229,6 +232,8 @@ impl Change for Reserve<'_> {
         disk: &mut D,
     ) -> Result<Prepared, StepFault> {
         let reserved = find_edit(alloc, self, name, disk)?;
+        let front = &reserved.pending.front;
+        give_summary(alloc, self.words, name, front, &reserved.version, out, disk)?;
         give_edit(alloc, self, name, reserved, out, disk)
     }
 

@@ -19,7 +19,7 @@ use crate::reports::replaces;
 use crate::targets::asked_of;
 use sccs_base::{Line, Memory, Name};
 use sccs_facts::{facts_of, module_name};
-use sccs_history::Header;
+use sccs_history::{Header, Serials};
 use sccs_keys::Facts;
 use sccs_sets::{Applied, sid_at};
 use sccs_sid::{Sid, SidList, Stamp, StepFault};
@@ -27,11 +27,15 @@ use sccs_texts::LineForm;
 use sccs_words::GetWords;
 use std::alloc::Global;
 
-/// A version as it is found in an s-file: the set of its deltas, the SIDs of the lists that were given, its
+/// A version as it is found in an s-file: the set of its deltas, the lists that were given and their SIDs, its
 /// SID, and what its lines are given with.
 #[derive(Drop)]
 pub struct Found {
     pub set: Applied,
+    /// The serials that a list took in.
+    pub taken_in: Serials,
+    /// The serials that a list left out.
+    pub left_out: Serials,
     pub include: SidList,
     pub exclude: SidList,
     pub sid: Sid,
@@ -147,6 +151,8 @@ pub fn find_version(
     };
     Ok(Found {
         set: asked.set,
+        taken_in: asked.include,
+        left_out: asked.exclude,
         include,
         exclude,
         sid,

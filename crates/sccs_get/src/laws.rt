@@ -11,7 +11,8 @@ ghost use Rattle.sccs_get.specs.Linear.{AsksNewest, GivesTexts, IsLinearFile};
 
 /// A get of a linear file that asks for no version finds one, whatever else its words say: its lines are the
 /// version of the newest record, which is the lines that no delta deleted; in a body without `^AD` lines these
-/// are all its lines. With -k and nothing before lines it gives just these, to standard output or as the g-file.
+/// are all its lines. With -k and nothing before lines it gives just these, to standard output or as the g-file,
+/// behind the summary that -L or -l asks for.
 pub fn linear_files()
     ensures version { (words : GetWords) (stamp : Stamp) (place n : List ℕ) (heading : Bool) (f : Files) (parsed : Parsed)
         → answer file_of (bytes_at f.s) ≡ Ok parsed → AsksNewest words → IsLinearFile parsed

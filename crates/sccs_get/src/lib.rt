@@ -10,6 +10,7 @@ mod laws;
 mod new_entries;
 mod reports;
 mod steps;
+mod summaries;
 mod targets;
 
 pub use edits::Reserve;

@@ -3,7 +3,7 @@ ghost use Rattle.std.specs.Option.{option_copied};
 ghost use Rattle.sccs_tokens.specs.Written.{ended};
 ghost use Rattle.sccs_sid.specs.Sid.{sid_text};
 ghost use Rattle.sccs_get.specs.VersionStep.{report_on};
-ghost use Rattle.sccs_get.specs.Reports.{get_report, get_warning, line_count_text, listed_text, new_sid_text, replaces_keywords, said_on_err, said_on_out, sid_lines};
+ghost use Rattle.sccs_get.specs.Reports.{get_report, get_warning, line_count_text, listed_text, new_sid_text, prints, replaces_keywords, said_on_err, said_on_out, sid_lines};
 
 use crate::found::Found;
 use itoa::Buffer;
@@ -11,7 +11,7 @@ use sccs_base::{Bytes, Memory, Name};
 use sccs_pending::{add_warning, heading};
 use sccs_printing::Shown;
 use sccs_sid::{DETAIL_ROOM, Range, Sid, SidList};
-use sccs_words::GetWords;
+use sccs_words::{GetWords, Summary};
 use std::alloc::Global;
 
 // adds a SID on a line of its own
@@ -125,7 +125,14 @@ pub fn replaces(words: &GetWords) -> bool
     !(words.keep || words.edit || words.no_text)
 }
 
-// what goes to standard error: the report with -p, and the warning that there is no keyword
+// whether a text or a summary goes to standard output
+fn prints(words: &GetWords) -> bool
+    ensures { result ≡ prints words.now }
+{
+    words.print || matches!(words.summary, Summary::Out)
+}
+
+// what goes to standard error: the report with -p and -L, and the warning that there is no keyword
 fn message(
     alloc: Global,
     words: &GetWords,
@@ -136,18 +143,18 @@ fn message(
     ensures { IfOk result (λ message. message ≡ said_on_err words.now report.now (get_warning words.now name.now keyword)) }
 {
     let mut message = Vec::new(alloc);
-    if words.print {
+    if prints(words) {
         message.extend_from_slice(report.bytes())?;
     }
     add_warning(name, !replaces(words) || keyword, &mut message)?;
     Ok(Bytes::from_vec(message))
 }
 
-// what goes to standard output: the report, but with -p
+// what goes to standard output: the report, but with -p and -L
 fn on_out(alloc: Global, words: &GetWords, report: Bytes) -> Bytes
     ensures { result ≡ said_on_out words.now report }
 {
-    if words.print {
+    if prints(words) {
         Bytes::empty(alloc)
     } else {
         report
@@ -162,7 +169,7 @@ pub struct Report {
 }
 
 /// What a get says of a version, and of the SID that is to be made on it: the report, on standard error with
-/// -p, and there the warning that no keyword was replaced.
+/// -p and -L, and there the warning that no keyword was replaced.
 pub fn said(
     alloc: Global,
     words: &GetWords,

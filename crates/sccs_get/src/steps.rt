@@ -1,4 +1,5 @@
-ghost use Rattle.std.specs.Prelude.{◌≡◌, ◌≤◌, ◌⊎◌, ◌||◌, ℕ, true, false, List, drop, Option, Err, IfOk, IfSome, OnErr, OnOk, IsErr};
+ghost use Rattle.std.specs.Prelude.{◌≡◌, ◌≤◌, ◌⊎◌, ◌||◌, ℕ, true, false, List, drop, Option, Some, Ok, Err, IfOk, IfSome, OnErr, OnOk, IsErr, is_some};
+ghost use Rattle.std.specs.List.{AllByRecursion};
 ghost use Rattle.std.specs.Str.{bytes_eq};
 ghost use Rattle.sccs_base.specs.Name.{IsSfile, y_file};
 ghost use Rattle.sccs_base.specs.Stream.{Rose};
@@ -17,15 +18,27 @@ ghost use Rattle.sccs_gfiles.specs.Placing.{PlaceEnds, PlaceStops};
 ghost use Rattle.sccs_moments.specs.Unlocked.{KeepsOthers};
 ghost use Rattle.sccs_store.specs.Commits.{Becomes, MayBecome};
 ghost use Rattle.sccs_get.specs.Giving.{FinishesGet, GivesUpGet, PlacesG, Readies, g_placed};
-ghost use Rattle.sccs_get.specs.VersionStep.{get_action, get_outcome, says_well, version_checks, writes_g};
+ghost use Rattle.sccs_body.specs.BodyFile.{ShowsFile};
+ghost use Rattle.sccs_grammar.specs.File.{Parsed, answer, file_of};
+ghost use Rattle.sccs_history.specs.Applied.{serials_of};
+ghost use Rattle.sccs_history.specs.History.{HasSpelling, IsHeader};
+ghost use Rattle.sccs_history.specs.Numbers.{Falls, has};
+ghost use Rattle.sccs_keys.specs.Expansion.{HasMoments};
+ghost use Rattle.sccs_table.specs.FrontFile.{IsPlaced};
+ghost use Rattle.sccs_pending.specs.PFiles.{OnlyReads};
+ghost use Rattle.sccs_pending.specs.Pending.{bytes_at};
+ghost use Rattle.sccs_get.specs.Located.{AnswersLocated};
+ghost use Rattle.sccs_get.specs.VersionStep.{found_version, get_action, get_effect, lines_got, says_well, version_checks, writes_g};
 ghost use Rattle.sccs_get.specs.Keeps.{get_keeps};
+ghost use Rattle.sccs_get.specs.Reports.{replaces_keywords};
 ghost use Rattle.sccs_get.specs.Whole.{GivesAsked};
 ghost use Rattle.sccs_disk.specs.Causes.{DiskCauses};
 
 use crate::checks::{check_g, check_keywords, writes_g};
-use crate::found::find_version;
+use crate::found::{Found, find_version};
 use crate::giving::give_version;
 use crate::reports::said;
+use crate::summaries::{give_summary, writes_l};
 use sccs_base::{Line, Name, Sink, Source};
 use sccs_body::inspect;
 use sccs_disk::Disk;
@@ -33,6 +46,7 @@ use sccs_gfiles::place_g;
 use sccs_sid::{Stamp, StepFault};
 use sccs_steps::Utility;
 use sccs_store::{NewG, NewP, clear_sibling};
+use sccs_table::Front;
 use sccs_transactions::{Prepared, report};
 use sccs_words::GetWords;
 use std::alloc::Global;
@@ -51,17 +65,63 @@ pub struct Get<'a> {
     ghost valid: { IsMoment stamp.now.moment },
 }
 
-// makes all but the g-file: the checks, the text, and what is said behind it
+/// What is found for a get: the file's front, and the version.
+#[derive(Drop)]
+pub struct Located {
+    pub front: Front,
+    pub found: Found,
+}
+
+// makes all checks, and finds the version
+fn locate<D: Disk>(
+    alloc: Global,
+    get: &Get<'_>,
+    name: &Name,
+    disk: &mut D,
+) -> Result<Located, StepFault>
+    requires { IsSfile name.now }
+    ensures told { IfSome (seen (D.told disk.old)) (λ (v : View). AnswersLocated get.now.words.now get.now.stamp.now get.now.place.now name.now (look v name.now) result) }
+    ensures rules { IfOk result (λ l. IsHeader l.front.header) }
+    ensures spelled { IfOk result (λ l. AllByRecursion HasSpelling l.front.header.records) }
+    ensures table { IfOk result (λ l. Falls 65536 (serials_of l.front.header.records)) }
+    ensures placed { IfOk result (λ l. IsPlaced l.front) }
+    ensures no_zero { IfOk result (λ l. has l.found.set 0 ≡ false) }
+    ensures facts { IfOk result (λ l. IfSome l.found.facts HasMoments) }
+    ensures replaced { IfOk result (λ l. is_some l.found.facts ≡ replaces_keywords get.now.words.now) }
+    ensures found { IfOk result (λ l. found_version get.now.words.now get.now.stamp.now get.now.place.now name.now l.front.header ≡ Ok l.found) }
+    ensures checks { RefusesWithin version_checks result }
+    ensures frame { OnlyReads D.told D.faults disk.old disk.new result }
+{
+    let front = match inspect(alloc, disk, name) {
+        Ok(front) => front,
+        Err(fault) => return Err(StepFault::from(fault)),
+    };
+    let header = &front.header;
+    let found = find_version(alloc, get.words, get.stamp, get.place, name, header)?;
+    check_keywords(alloc, get.words, name, &front, &found, disk)?;
+    check_g(get.words, name, disk)?;
+    Ok(Located { front, found })
+}
+
+// makes all but the g-file behind the checks: the text, and what is said behind it
 fn ready<O: Sink, D: Disk>(
     alloc: Global,
     get: &Get<'_>,
     name: &Name,
+    located: &Located,
     out: &mut O,
     disk: &mut D,
 ) -> Result<Prepared, StepFault>
-    requires { IsSfile name.now }
-    ensures readies { (err : Option (List ℕ)) → IfSome (seen (D.told disk.old)) (λ (v : View).
-        Readies get.now.words.now name.now (get_outcome get.now.words.now get.now.stamp.now get.now.place.now get.now.heading name.now (look v name.now)) result
+    requires sfile { IsSfile name.now }
+    requires rules { IsHeader located.now.front.header }
+    requires table { Falls 65536 (serials_of located.now.front.header.records) }
+    requires placed { IsPlaced located.now.front }
+    requires no_zero { has located.now.found.set 0 ≡ false }
+    requires facts { IfSome located.now.found.facts HasMoments }
+    requires replaced { is_some located.now.found.facts ≡ replaces_keywords get.now.words.now }
+    requires found { found_version get.now.words.now get.now.stamp.now get.now.place.now name.now located.now.front.header ≡ Ok located.now.found }
+    ensures readies { (parsed : Parsed) (err : Option (List ℕ)) → IfSome (seen (D.told disk.old)) (λ (v : View). ShowsFile (bytes_at (v name.now)) parsed located.now.front → (answer file_of (bytes_at (v name.now)) ≡ Ok parsed)
+        → Readies get.now.words.now name.now (Ok (get_effect get.now.words.now get.now.heading name.now parsed.header.records (look v name.now) located.now.found (lines_got located.now.found parsed.items))) result
         (world (Some v) (O.given out.old) err) (world (seen (D.told disk.new)) (O.given out.new) err)) }
     ensures moves { Moves (bytes_eq (y_file name.now)) (λ v. v) (seen (D.told disk.old)) (seen (D.told disk.new)) }
     ensures there { OnOk result (writes_g get.now.words.now ≡ true → IsThere (y_file name.now) (D.told disk.new)) }
@@ -74,16 +134,9 @@ fn ready<O: Sink, D: Disk>(
     ensures checks { RefusesWithin version_checks result }
     ensures causes { PrintCauses result (O.faults out.old) (O.faults out.new) (D.faults disk.old) (D.faults disk.new) }
 {
-    let front = match inspect(alloc, disk, name) {
-        Ok(front) => front,
-        Err(fault) => return Err(StepFault::from(fault)),
-    };
-    let header = &front.header;
-    let found = find_version(alloc, get.words, get.stamp, get.place, name, header)?;
-    check_keywords(alloc, get.words, name, &front, &found, disk)?;
-    check_g(get.words, name, disk)?;
-    let shown = give_version(alloc, get.words, name, &front, &found, out, disk)?;
-    match said(alloc, get.words, get.heading, name, &found, None, shown) {
+    let Located { front, found } = located;
+    let shown = give_version(alloc, get.words, name, front, found, out, disk)?;
+    match said(alloc, get.words, get.heading, name, found, None, shown) {
         Ok(said) => Ok(Prepared {
             new_s: false,
             new_p: NewP::Keep,
@@ -142,22 +195,22 @@ fn finish<O: Sink, E: Sink, D: Disk>(
 
 // takes away the y-file, where one was made, and answers why get gave up; after a disk fault recovery does that
 fn give_up<D: Disk>(
-    words: &GetWords,
+    has_y: bool,
     fault: StepFault,
     name: &Name,
     disk: &mut D,
 ) -> Result<(), StepFault>
     requires { IsSfile name.now }
-    ensures gives_up { GivesUpGet words.now name.now fault result (seen (D.told disk.old)) (seen (D.told disk.new)) }
+    ensures gives_up { GivesUpGet has_y name.now fault result (seen (D.told disk.old)) (seen (D.told disk.new)) }
     ensures touches { TouchesOnly (bytes_eq (y_file name.now)) (D.told disk.old) (D.told disk.new) }
-    ensures same { writes_g words.now ≡ false → D.told disk.new ≡ D.told disk.old }
+    ensures same { has_y ≡ false → D.told disk.new ≡ D.told disk.old }
     ensures later { D.faults disk.old ≤ D.faults disk.new }
     ensures cause { result ≡ Err faults.DiskFault → (fault ≡ faults.DiskFault) × (D.faults disk.new ≡ D.faults disk.old) ⊎ Rose (D.faults disk.old) (D.faults disk.new) }
 {
     if let StepFault::DiskFault = fault {
         return Err(fault);
     }
-    if !writes_g(words) {
+    if !has_y {
         return Err(fault);
     }
     match clear_sibling(disk, name, b'y') {
@@ -180,9 +233,15 @@ impl Utility for Get<'_> {
         err: &mut E,
         disk: &mut D,
     ) -> Result<(), StepFault> {
-        match ready(alloc, self, name, out, disk) {
-            Ok(prepared) => finish(self.words, &prepared, name, out, err, disk),
-            Err(fault) => give_up(self.words, fault, name, disk),
+        let words = self.words;
+        let located = locate(alloc, self, name, disk)?;
+        let (front, found) = (&located.front, &located.found);
+        if let Err(fault) = give_summary(alloc, words, name, front, found, out, disk) {
+            return give_up(writes_l(words), fault, name, disk);
+        }
+        match ready(alloc, self, name, &located, out, disk) {
+            Ok(prepared) => finish(words, &prepared, name, out, err, disk),
+            Err(fault) => give_up(writes_g(words), fault, name, disk),
         }
     }
 

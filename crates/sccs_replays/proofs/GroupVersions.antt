@@ -1,5 +1,5 @@
 -- What a group makes of the versions of an s-file: what the deltas of its entries make of them.
-use Rattle.std.proofs.Common.{◌≡◌, ℕ, zero, suc, ◌-◌, Bool, true, false, ◌&&◌, List, [], ◌∷◌, ◌++◌, codes, drop, length, take, map, Some, Result, Ok, Err, inr, refl, sym, ap, subst, ◌∙◌}
+use Rattle.std.proofs.Common.{◌≡◌, ℕ, zero, suc, Bool, true, false, ◌&&◌, List, [], ◌∷◌, ◌++◌, codes, drop, length, take, map, Some, Result, Ok, Err, inr, refl, sym, ap, subst, ◌∙◌}
 use Rattle.std.specs.Prelude.{if◌then◌else◌, is_some, nat_lt, flat_map, not}
 use Rattle.std.specs.List.{AllByRecursion}
 use Rattle.sccs_base.specs.Constants.{file_limit}

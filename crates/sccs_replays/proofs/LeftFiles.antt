@@ -1,6 +1,6 @@
 -- Steps that leave an s-file as it is, and where the files of a step stand in a folder.
 use Rattle.std.proofs.Common.{◌≡◌, ℕ, Bool, true, false, List, drop, Option, None, Some, Result, Ok, Err, refl, ap, subst, ◌∙◌}
-use Rattle.std.specs.Prelude.{if◌then◌else◌, is_none, is_some}
+use Rattle.std.specs.Prelude.{if◌then◌else◌, is_none, is_some, unwrap_or}
 use Rattle.std.specs.Str.{bytes_eq}
 use Rattle.sccs_base.specs.Name.{IsSfile, p_file, z_file}
 use Rattle.sccs_disk.specs.Files.{Content, Folder, View, put, view_in}
@@ -9,21 +9,20 @@ use Rattle.sccs_sid.specs.Reading.{◌>>=◌}
 use Rattle.sccs_sid.specs.declared.moments.Stamp.{Stamp}
 use Rattle.sccs_sid.specs.declared.refusals.Refusal.{Refusal}
 use Rattle.sccs_sid.specs.declared.refusals.Refusal.TheVariants.{Locked}
-use Rattle.sccs_grammar.specs.File.{answer, file_of}
-use Rattle.sccs_grammar.specs.FileRefusals.{or_refusal}
 use Rattle.sccs_words.specs.declared.commands.GetWords.{GetWords}
 use Rattle.sccs_files.specs.StepFiles.{Files, l_file, moved_in}
 use Rattle.sccs_files.proofs.Folders.{moved_view}
 use Rattle.sccs_moments.specs.Recovery.{is_kept}
 use Rattle.sccs_moments.proofs.FileNames.{from_sfile, kept_s}
 use Rattle.sccs_pending.specs.NewEntries.{Decided, entries_outcome, kept_g, with_entries}
-use Rattle.sccs_pending.specs.Pending.{Found, bytes_at, pending_of}
+use Rattle.sccs_pending.specs.Pending.{Found, pending_of}
 use Rattle.sccs_steps.specs.Actions.{Step}
 use Rattle.sccs_steps.specs.StepEffects.{Outcome, StepEffect, check}
 use Rattle.sccs_transactions.specs.Changes.{locking_step}
 use Rattle.sccs_edit.specs.SactStep.{found_edits, sact_step, shows_entries}
 use Rattle.sccs_get.specs.EditStep.{edit_outcome, edit_effect, reserved_of}
-use Rattle.sccs_get.specs.VersionStep.{found_version, g_is_free, get_outcome, get_effect, has_its_keywords, lines_got, stays_writable, given_text, with_g, writes_g}
+use Rattle.sccs_get.specs.SummaryStep.{summary_got, summed, with_l, writes_l}
+use Rattle.sccs_get.specs.VersionStep.{get_outcome, get_effect, lines_got, located_of, stays_writable, given_text, with_g, writes_g}
 use Rattle.sccs_recovery.specs.Checks.{none_pending}
 use Rattle.sccs_recovery.specs.RecoverStep.{files_checked, intent_in, recover_outcome, recover_step, recovers, recovered_files}
 
@@ -49,6 +48,15 @@ either_leaves : (b : Bool) (s : Option Content) (f : Files) → f.s ≡ s → s_
 either_leaves true s f kept = kept
 either_leaves false s f kept = refl
 
+-- a summary in front
+l_leaves : (l : Bool) (summary : List ℕ) (f : Files) (new : Option Files) → s_of f.s new ≡ f.s → s_of f.s (if l then Some (with_l summary (unwrap_or new f)) else new) ≡ f.s
+l_leaves true summary f None kept = refl
+l_leaves true summary f (Some g) kept = kept
+l_leaves false summary f new kept = kept
+
+summed_leaves : (words : GetWords) (summary : List ℕ) (f : Files) (d : StepEffect) → s_of f.s d.new ≡ f.s → Leaves f.s (Ok (summed words summary f d))
+summed_leaves words summary f d kept = done_leaves f.s (summed words summary f d) (l_leaves (writes_l words) summary f d.new kept)
+
 -- ---- utilities
 
 pub refused_leaves : (s : Option Content) (refusal : Refusal) → Leaves s (Err refusal)
@@ -58,18 +66,15 @@ refused_leaves s refusal d is = absurd cc
 pub get_leaves : (words : GetWords) (stamp : Stamp) (place : List ℕ) (heading : Bool) (n : List ℕ) (f : Files) → Leaves f.s (get_outcome words stamp place heading n f)
 unfolding get_outcome
 get_leaves words stamp place heading n f =
-    passed_leaves f.s (or_refusal (answer file_of (bytes_at f.s))) _ (λ parsed.
-    passed_leaves f.s (found_version words stamp place n parsed.header) _ (λ found.
-    passed_leaves f.s (has_its_keywords words parsed.header.flags (lines_got found parsed.items)) _ (λ keywords.
-    passed_leaves f.s (g_is_free words f.g) _ (λ free.
-    done_leaves f.s (get_effect words heading n parsed.header.records f found (lines_got found parsed.items))
-    (either_leaves (writes_g words) f.s (with_g f (given_text words parsed.header.records found (lines_got found parsed.items)) (stays_writable words)) refl)))))
+    passed_leaves f.s (located_of words stamp place n f) _ (λ x.
+    summed_leaves words (summary_got words x.parsed.header.records x.found) f (get_effect words heading n x.parsed.header.records f x.found (lines_got x.found x.parsed.items))
+    (either_leaves (writes_g words) f.s (with_g f (given_text words x.parsed.header.records x.found (lines_got x.found x.parsed.items)) (stays_writable words)) refl))
 
 pub edit_leaves : (words : GetWords) (stamp : Stamp) (place : List ℕ) (heading : Bool) (n input : List ℕ) (named : List (Option Content)) (f : Files) → Leaves f.s (edit_outcome words stamp place heading n input named f)
 unfolding edit_outcome
 edit_leaves words stamp place heading n input named f =
     passed_leaves f.s (reserved_of words stamp place n f) _ (λ x.
-    done_leaves f.s (edit_effect words heading n x.parsed.header.records f x.edits x.edit x.version (lines_got x.version x.parsed.items)) refl)
+    summed_leaves words (summary_got words x.parsed.header.records x.version) f (edit_effect words heading n x.parsed.header.records f x.edits x.edit x.version (lines_got x.version x.parsed.items)) refl)
 
 pub entries_leave : (decide : List ℕ → Found → Result Decided Refusal) (n input : List ℕ) (named : List (Option Content)) (f : Files) → Leaves f.s (entries_outcome decide n input named f)
 unfolding entries_outcome

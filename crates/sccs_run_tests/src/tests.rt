@@ -10,5 +10,6 @@ mod releases;
 mod rows;
 mod several_files;
 mod soaks;
+mod summaries;
 mod usages;
 mod versions;

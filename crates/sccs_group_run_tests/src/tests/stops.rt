@@ -29,6 +29,9 @@ const IMAGES: [(u64, Fill); 7] = [
 // each so many calls of the group a recovery is itself stopped
 const STEP: u64 = 8;
 
+// more calls of the disk than a recovery makes
+const RECOVERY_CALLS: u64 = 60;
+
 // recovery of one of the names, another one in turn
 fn line_of(turn: u64) -> &'static [u8] {
     match turn % 3 {
@@ -75,10 +78,11 @@ fn a_stopped_group_is_whole_or_not_there(rt: HostRuntime) -> Result<(), Fail> {
     Ok(())
 }
 
-// whether recovery that was itself stopped behind each of its first calls recovers so
+// whether recovery that was itself stopped behind each of its calls recovers so
 fn again(alloc: Global, image: &mut MemoryDisk, turn: u64) -> Result<bool, Fail> {
+    image.stop_after(RECOVERY_CALLS);
     let answer = answer_to(alloc, line_of(turn), &PLAIN, image)?.answer;
-    for calls in 0..30 {
+    for calls in 0..=RECOVERY_CALLS {
         for (names, fill) in [IMAGES[0], IMAGES[3], IMAGES[5]] {
             let mut left = image.crash(alloc, calls, names, fill)?;
             if !recovers(alloc, &mut left, calls)? {

@@ -1,4 +1,4 @@
-use Rattle.std.proofs.Common.{rules, refl, inl, sym, ◌∙◌}
+use Rattle.std.proofs.Common.{rules, refl, inl}
 use Rattle.std.specs.Str.{bytes_eq}
 use Rattle.sccs_base.specs.Name.{y_file}
 use Rattle.sccs_disk.specs.Told.{seen}
@@ -9,9 +9,9 @@ use Rattle.sccs_get.proofs.steps.give_up.Goals as goal
 pub returns-in-DiskFault-clause-touches : goal.returns-in-DiskFault-clause-touches
 returns-in-DiskFault-clause-touches g c = same_touches (bytes_eq (y_file c.args.name.now)) _ _ refl
 
-pub returns-then-not-writes_g : goal.returns-then-not-writes_g
-returns-then-not-writes_g g c = record {
-  gives_up = kept_up c.args.words.now c.args.name.now c.args.fault (seen (g.D.Disk.told c.args.disk.now)) (sym c.writes_g.ensures ∙ c.if-not-writes_g.true);
+pub returns-then-not-has_y : goal.returns-then-not-has_y
+returns-then-not-has_y g c = record {
+  gives_up = kept_up c.args.has_y c.args.name.now c.args.fault (seen (g.D.Disk.told c.args.disk.now)) c.if-not-has_y.true;
   touches = same_touches (bytes_eq (y_file c.args.name.now)) _ _ refl;
   same = λ none. refl;
   later = search rules;
