@@ -1,11 +1,10 @@
 # shellcheck shell=sh disable=SC2034,SC2119,SC2120,SC2154
-# get: the g-file of a file with a path is made in the caller's folder.
+# get: the g-file of a file with a path, and its l-file, are made in the caller's folder.
 
 get_command() {
     read_words c:i:r:x:G: G "$@"
-    if is_given l || is_given L; then
-        echo 'get: the summary of -l and -L is not made yet' >&2
-        exit 2
+    if has_summary_beside; then
+        read_words c:i:r:x:G: GlL "$@"
     fi
     shielded=
     is_given p && ! is_given e || shielded=1
@@ -14,6 +13,16 @@ get_command() {
         named_get
     fi
     hand_on get get_one
+}
+
+# whether the summary is made by a call of its own: of a file with a path, or with -G, unless the program refuses these options
+has_summary_beside() {
+    case $given in
+    *L*) ! is_given l && ! is_given p || return ;;
+    *l*) ;;
+    *) return 1 ;;
+    esac
+    is_given G || ! eval "are_plain $operands"
 }
 
 # be_quiet: a get that makes a g-file reports nothing where make runs it, whose own rules give no -s
@@ -37,6 +46,41 @@ named_get() {
 }
 
 get_one() {
+    if is_given L; then
+        take_summary && text_one "$1" >&2 && cat "$work/summary"
+    elif is_given l; then
+        take_summary && text_one "$1" && place_summary
+    else
+        text_one "$1"
+    fi
+}
+
+# the summary of the version that these options ask for, which no other option changes
+take_summary() {
+    need_work
+    passed=$options options=
+    for letter in c i r x; do
+        ! is_given "$letter" || eval "add_option \"-$letter\$value_$letter\""
+    done
+    ! is_given t || add_option -t
+    eval "explained \"\$folder\" get $options -L -g -s \"\$name\"" >"$work/summary"
+    set -- $?
+    options=$passed
+    return "$1"
+}
+
+# it becomes the l-file
+place_summary() {
+    unplaced=./.sccs.$$
+    rm -f "$unplaced"
+    (set -C && cat "$work/summary" >"$unplaced") && mv -f "$unplaced" "./l.$module"
+    set -- $?
+    rm -f "$unplaced"
+    unplaced=
+    return "$1"
+}
+
+text_one() {
     if is_given p || is_given g; then
         reported_beside "$1" in_its_folder
     elif is_given G; then
