@@ -34,6 +34,14 @@ fn is_line(bytes: &[u8]) -> bool
 }
 
 impl Line {
+    /// A line of these very bytes, without a copy.
+    pub fn from_vec(bytes: Vec<u8>) -> Line
+        requires { HasNoLf bytes.items }
+        ensures { result ≡ bytes.items }
+    {
+        Line { bytes }
+    }
+
     /// A line of these bytes; Unfit exactly where LF is among them.
     pub fn new(alloc: Global, bytes: &[u8]) -> Result<Line, MakeFault>
         ensures ok { IfOk result (λ line. line ≡ bytes.now) }

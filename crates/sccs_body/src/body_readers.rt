@@ -30,7 +30,6 @@ use std::marker::Model;
 pub struct BodyReader {
     alloc: Global,
     lines: LineReader,
-    line: Vec<u8>,
     state: BodyState,
     // the number and the place of the body's first line
     first: u64,
@@ -84,11 +83,11 @@ fn goes_on(state: &mut BodyState, item: &Item) -> Result<bool, Memory>
 
 // the item that a line is, where one may stand; the state then goes on behind it
 #[inline(never)]
-fn next_item(alloc: Global, state: &mut BodyState, line: &[u8]) -> Result<Option<Item>, Memory>
-    requires { HasNoLf line.now }
-    ensures { (live : List ℕ) (before : List Item) → Knows live before state.old → ReadsItemLine live before state.new line.now result }
+fn next_item(state: &mut BodyState, line: Vec<u8>) -> Result<Option<Item>, Memory>
+    requires { HasNoLf line.items }
+    ensures { (live : List ℕ) (before : List Item) → Knows live before state.old → ReadsItemLine live before state.new line.items result }
 {
-    let Some(item) = read_item(alloc, line)? else {
+    let Some(item) = read_item(line) else {
         return Ok(None);
     };
     if goes_on(state, &item)? {
@@ -131,7 +130,6 @@ impl BodyReader {
         BodyReader {
             alloc,
             lines,
-            line: Vec::new(alloc),
             state,
             first,
             from,
@@ -145,7 +143,6 @@ impl BodyReader {
         let BodyReader {
             alloc: _,
             lines,
-            line: _,
             state: _,
             first: _,
             from: _,
@@ -266,14 +263,14 @@ impl BodyReader {
             → GivesBodyItem (bytes_in (seen (D.told disk.old)) self.old.lines.name) live before self.old self.new result }
     {
         let place = self.lines.place();
-        self.line.clear();
-        if !self.lines.next_line(disk, &mut self.line)? {
-            if ends_with(&self.state, self.line.as_slice()) {
+        let mut line = Vec::new(self.alloc);
+        if !self.lines.next_line(disk, &mut line)? {
+            if ends_with(&self.state, line.as_slice()) {
                 return Ok(None);
             }
             return Err(self.fault_at(disk, place));
         }
-        match next_item(self.alloc, &mut self.state, self.line.as_slice()) {
+        match next_item(&mut self.state, line) {
             Ok(Some(item)) => Ok(Some(item)),
             Ok(None) => Err(self.fault_at(disk, place)),
             Err(_) => Err(FileFault::Memory),

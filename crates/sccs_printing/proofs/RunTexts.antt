@@ -1,6 +1,7 @@
 -- Whole lines that one delta inserted: their keywords, and their text.
 use Rattle.std.proofs.Common.{◌≡◌, ℕ, zero, suc, ◌≤◌, Bool, true, false, ◌==◌, ◌&&◌, ◌||◌, cond, List, [], ◌∷◌, ◌++◌, Option, None, Some, is_some, length, refl, sym, ap, ◌∙◌, append_assoc, arith}
 use Rattle.std.specs.List.{AllByRecursion, list_any}
+use Rattle.std.proofs.lemmas.List.{append-nil}
 use Rattle.std.proofs.lemmas.List.Folds.{list_any-append}
 use Rattle.sccs_base.specs.Cut.{cut}
 use Rattle.sccs_history.specs.Body.{HistoryLine}
@@ -105,3 +106,15 @@ pub unchanged : (form : LineForm) (records : List Record) (number n : ℕ) (run 
 unchanged form records number n run some prefix whole prefix_is some_is neither =
     run_stands form records number n run whole (sym prefix_is ∙ rest_none some prefix neither)
     (ap (if_replaced form.facts) (sym (run_keywords run whole)) ∙ (sym some_is ∙ first_none some prefix neither))
+
+-- a line that isn't changed, and its LF
+pub line_unchanged : (form : LineForm) (records : List Record) (number n : ℕ) (line : List ℕ) (some prefix : Bool) → prefix ≡ has_prefix form → some ≡ if_replaced form.facts (list_any is_keyword (parts line)) → (some || prefix) ≡ false
+    → formed_lines form records number n (line ∷ []) ≡ ended line
+line_unchanged form records number n line some prefix prefix_is some_is neither =
+    unprefixed form.module_name form.has_sids form.facts records number n (line ∷ []) (sym prefix_is ∙ rest_none some prefix neither)
+    (ap (if_replaced form.facts) (or_none (list_any is_keyword (parts line))) ∙ (sym some_is ∙ first_none some prefix neither))
+    ∙ append-nil (ended line)
+  where
+    or_none : (x : Bool) → (x || false) ≡ x
+    or_none true = refl
+    or_none false = refl

@@ -55,6 +55,15 @@ cuts_then (Some n) WriteFault gone rest held mid held2 a b c first cuts = absurd
 cuts_then file ReadFault gone rest held mid held2 a b c first cuts = absurd cuts
 cuts_then file (Refused refusal) gone rest held mid held2 a b c first cuts = absurd cuts
 
+-- a text behind one that was given to the same target
+pub given_then : {T : Type 0} (file file2 : Option (List ℕ)) (q : Result T StepFault) (gone rest held mid held2 : List ℕ) (a : Option (List ℕ)) (b c : Option (List ℕ) → Option (List ℕ)) → file2 ≡ file → Buffers held gone mid a (b file) → GivesTo file2 rest q mid held2 (b file2) (c file2)
+    → GivesTo file (gone ++ rest) q held held2 a (c file)
+given_then file file2 q gone rest held mid held2 a b c same first gives = by q (subst (λ to. GivesTo to rest q mid held2 (b to) (c to)) same gives)
+  where
+    by : {T : Type 0} (r : Result T StepFault) → GivesTo file rest r mid held2 (b file) (c file) → GivesTo file (gone ++ rest) r held held2 a (c file)
+    by (Ok x) next = buffers_both held gone mid rest held2 a (b file) (c file) first next
+    by (Err fault) next = cuts_then file fault gone rest held mid held2 a (b file) (c file) first next
+
 -- ---- what was held back is given at the end
 
 some_shorter : (text : List ℕ) (n : ℕ) (a b : Option (List ℕ)) → n ≤ length text → GivesSome a b (take n text) → GivesSome a b text

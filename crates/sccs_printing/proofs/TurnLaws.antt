@@ -1,7 +1,8 @@
 -- What a turn of giving leaves, and turns put together.
-use Rattle.std.proofs.Common.{◌≡◌, ℕ, false, List, Option, None, Some, option_map, refl, sym, ap, subst, ◌∙◌}
-use Rattle.std.specs.Prelude.{IfSome}
+use Rattle.std.proofs.Common.{◌≡◌, ℕ, ◌≤◌, false, List, Option, None, Some, option_map, Result, Ok, Err, inl, inr, refl, sym, ap, subst, ◌∙◌, arith}
+use Rattle.std.specs.Prelude.{IfSome, OnOk}
 use Rattle.std.specs.Str.{bytes_eq}
+use Rattle.sccs_base.specs.Stream.{Rose}
 use Rattle.sccs_disk.specs.Files.{Content, View}
 use Rattle.sccs_disk.specs.Told.{Told, seen}
 use Rattle.sccs_files.specs.StepFiles.{Moves}
@@ -15,7 +16,8 @@ use Rattle.sccs_versions.specs.Coming.{IsBody}
 use Rattle.sccs_versions.specs.Place.{VersionPlace}
 use Rattle.sccs_writers.proofs.OneFile.{only_both, only_none}
 use Rattle.sccs_printing.specs.Giving.{CutsLines, Gave, KeepsForm, Moved, ReadSome, ReadWhole, giving_form}
-use Rattle.sccs_printing.specs.Targets.{CanTake, IsApart, KeepsTargetMark, Reaches, file_of, target_bytes}
+use Rattle.sccs_steps.specs.Causes.{PrintCauses}
+use Rattle.sccs_printing.specs.Targets.{CanTake, IsApart, KeepsTargetMark, Reaches, UsesTarget, file_of, target_bytes}
 use Rattle.sccs_printing.specs.declared.givings.Giving.{Giving}
 use Rattle.sccs_printing.proofs.GivingLaws.{moved_both, moved_cut, moved_end, read_both, read_end}
 
@@ -54,6 +56,43 @@ still_read (Some n) name file o o2 t t2 apart reach is = other_bytes n name file
 -- the body of an s-file stays the same where another file is written
 pub body_stays : (n k file set : List ℕ) (front : Front) (items : List Item) (o o2 : Option View) → bytes_eq n k ≡ false → Moves (bytes_eq n) (λ v. v) o o2 → IsBody (bytes_in o k) front set file items → IsBody (bytes_in o2 k) front set file items
 body_stays n k file set front items o o2 other moves is = record { told_is = other_bytes n k file o o2 other moves is.told_is; front_is = is.front_is; items_are = is.items_are; no_zero = is.no_zero }
+
+-- ---- a text behind another
+
+rose_before : (f g h : ℕ) → f ≤ g → Rose g h → Rose f h
+rose_before f g h later (inl more) = inl (omega (arith, later, more))
+rose_before f g h later (inr last) = inr last
+
+module _ {T U : Type 0} (x : T) (q : Result U StepFault) where
+  mark_then : (file : Option (List ℕ)) (t t2 t3 : Told) → KeepsTargetMark file t t2 → OnOk q (KeepsTargetMark file t2 t3) → OnOk q (KeepsTargetMark file t t3)
+  mark_then file t t2 t3 one two = on_ok q two
+    where
+      on_ok : (r : Result U StepFault) → OnOk r (KeepsTargetMark file t2 t3) → OnOk r (KeepsTargetMark file t t3)
+      on_ok (Ok y) kept = mark_both file t t2 t3 one kept
+      on_ok (Err fault) kept = kept
+
+  causes_then : (o o2 o3 d d2 d3 : ℕ) → PrintCauses {X = T} (Ok x) o o2 d d2 → PrintCauses q o2 o3 d2 d3 → PrintCauses q o o3 d d3
+  causes_then o o2 o3 d d2 d3 one two = record {
+    out_later = omega (arith, one.out_later, two.out_later);
+    disk_later = omega (arith, one.disk_later, two.disk_later);
+    write = λ is. rose_before o o2 o3 one.out_later (two.write is);
+    read = two.read;
+    broke = λ is. rose_before d d2 d3 one.disk_later (two.broke is);
+  }
+
+  -- two calls that give text to one target
+  pub uses_both : {O D : Type 0} (file file2 : Option (List ℕ)) (given : O → Option (List ℕ)) (out_faults : O → ℕ) (told : D → Told) (faults : D → ℕ) (o o2 o3 : O) (d d2 d3 : D) → file2 ≡ file
+      → UsesTarget {T = T} file given out_faults told faults o o2 d d2 (Ok x) → UsesTarget file2 given out_faults told faults o2 o3 d2 d3 q → UsesTarget file given out_faults told faults o o3 d d3 q
+  uses_both {O} {D} file file2 given out_faults told faults o o2 o3 d d2 d3 same one two = by (subst (λ to. UsesTarget to given out_faults told faults o2 o3 d2 d3 q) same two)
+    where
+      by : UsesTarget file given out_faults told faults o2 o3 d2 d3 q → UsesTarget file given out_faults told faults o o3 d d3 q
+      by next = record {
+        reaches = reaches_both file (given o) (given o2) (given o3) (told d) (told d2) (told d3) one.reaches next.reaches;
+        mark = mark_then file (told d) (told d2) (told d3) one.mark next.mark;
+        spares = next.spares;
+        causes = causes_then (out_faults o) (out_faults o2) (out_faults o3) (faults d) (faults d2) (faults d3) one.causes next.causes;
+        checks = next.checks;
+      }
 
 -- ---- a turn behind others
 

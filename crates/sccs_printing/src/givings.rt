@@ -8,6 +8,7 @@ ghost use Rattle.sccs_history.specs.declared.headers.Item.{Item};
 ghost use Rattle.sccs_table.specs.ReaderState.{bytes_in};
 ghost use Rattle.sccs_table.specs.Runs.{lf_count};
 ghost use Rattle.sccs_texts.specs.Forms.{line_form, formed_lines};
+ghost use Rattle.sccs_tokens.specs.Written.{ended};
 ghost use Rattle.sccs_versions.specs.Coming.{Coming};
 ghost use Rattle.sccs_versions.specs.Place.{name_of, steps_to_end};
 ghost use Rattle.sccs_versions.specs.WasRead.{HasRead};
@@ -16,7 +17,7 @@ ghost use Rattle.sccs_printing.specs.Giving.{CanGive, GivesAll, GivesMore, Gives
 ghost use Rattle.sccs_printing.specs.Targets.{CanTake, GivesTo, IsApart, UsesTarget, file_of, target_bytes, held_back};
 
 use crate::shown::Shown;
-use crate::targets::{Target, put};
+use crate::targets::{Target, put, put_line};
 use sccs_base::{Line, Sink};
 use sccs_disk::Disk;
 use sccs_history::Record;
@@ -179,6 +180,30 @@ impl<'a> Giving<'a> {
         put(&mut self.target, self.formed.bytes(), out, disk)
     }
 
+    // gives a line, as it is or formed
+    fn give_one<O: Sink, D: Disk>(
+        &mut self,
+        changes: bool,
+        inserter: u16,
+        number: u64,
+        line: &Line,
+        out: &mut O,
+        disk: &mut D,
+    ) -> Result<(), StepFault>
+        requires can { CanGive self.old (D.told disk.old) }
+        requires same { changes ≡ false → formed_lines (giving_form self.old) self.old.sids number inserter (line.now ∷ []) ≡ ended line.now }
+        ensures frame { UsesTarget (file_of self.old.target) O.given O.faults D.told D.faults out.old out.new disk.old disk.new result }
+        ensures gives { GivesTo (file_of self.old.target) (formed_lines (giving_form self.old) self.old.sids number inserter (line.now ∷ [])) result (held_back self.old.target) (held_back self.new.target)
+            (target_bytes (file_of self.old.target) (O.given out.old) (D.told disk.old)) (target_bytes (file_of self.old.target) (O.given out.new) (D.told disk.new)) }
+        ensures keeps { KeepsGiving self.old self.new }
+    {
+        if changes {
+            self.form_line(inserter, number, line, out, disk)
+        } else {
+            put_line(&mut self.target, line.bytes(), out, disk)
+        }
+    }
+
     // gives a line that a delta inserted, and counts it
     fn give_line<O: Sink, D: Disk>(
         &mut self,
@@ -198,8 +223,9 @@ impl<'a> Giving<'a> {
         let Some(number) = self.shown.lines.checked_add(1) else {
             return Err(StepFault::Memory);
         };
-        self.form_line(inserter, number, line, out, disk)?;
         let replaces = self.form.replaces(line.bytes());
+        let changes = replaces | self.form.has_prefix();
+        self.give_one(changes, inserter, number, line, out, disk)?;
         self.shown = Shown {
             lines: number,
             keywords: self.shown.keywords | replaces,

@@ -1,5 +1,6 @@
 ghost use Rattle.std.specs.Prelude.{◌≡◌, [], OnOk};
 ghost use Rattle.sccs_disk.specs.Calls.{IsThere};
+ghost use Rattle.sccs_tokens.specs.Written.{ended};
 ghost use Rattle.sccs_printing.specs.Targets.{CanTake, GivesTo, UsesTarget, file_of, target_bytes, held_back, writing_fault};
 
 use sccs_base::{OutputBuffer, Sink};
@@ -48,6 +49,23 @@ pub fn put<O: Sink, D: Disk>(
             Err(refusal) => Err(step_fault(refusal)),
         },
     }
+}
+
+/// Gives a line and its LF to a target, without a copy of it.
+pub fn put_line<O: Sink, D: Disk>(
+    target: &mut Target,
+    line: &[u8],
+    out: &mut O,
+    disk: &mut D,
+) -> Result<(), StepFault>
+    requires { CanTake (file_of target.old) (D.told disk.old) }
+    ensures frame { UsesTarget (file_of target.old) O.given O.faults D.told D.faults out.old out.new disk.old disk.new result }
+    ensures gives { GivesTo (file_of target.old) (ended line.now) result (held_back target.old) (held_back target.new)
+        (target_bytes (file_of target.old) (O.given out.old) (D.told disk.old)) (target_bytes (file_of target.old) (O.given out.new) (D.told disk.new)) }
+    ensures file { file_of target.new ≡ file_of target.old }
+{
+    put(target, line, out, disk)?;
+    put(target, b"\n", out, disk)
 }
 
 /// Gives what is held back.

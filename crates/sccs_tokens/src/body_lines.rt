@@ -7,11 +7,10 @@ ghost use Rattle.sccs_tokens.specs.Tokens.{serial_field as place_spec};
 ghost use Rattle.sccs_sid.specs.Reading.{digits_after, number_at as number_spec};
 ghost use Rattle.sccs_sid.specs.SidLists.{begins};
 
-use crate::fields::{digit, line_of, serial_field};
-use sccs_base::Memory;
+use crate::fields::{digit, serial_field};
+use sccs_base::Line;
 use sccs_history::Item;
 use sccs_sid::reading::number_at;
-use std::alloc::Global;
 
 // the item that one letter begins
 #[tactic(auto, unfolding(crate::specs::Tokens::control))]
@@ -62,17 +61,16 @@ fn control_item(bytes: &[u8]) -> Option<Item>
     }
 }
 
-/// The item that a line of a body is by itself; None where it is none.
+/// The item that a line of a body is by itself; None where it is none. A text has the line's own bytes.
 #[tactic(auto, unfolding(crate::specs::Tokens::token))]
-pub fn read_item(alloc: Global, line: &[u8]) -> Result<Option<Item>, Memory>
-    requires { HasNoLf line.now }
-    ensures { IfOk result (λ o. o ≡ item_read line.now) }
+pub fn read_item(line: Vec<u8>) -> Option<Item>
+    requires { HasNoLf line.items }
+    ensures { result ≡ item_read line.items }
 {
-    if let [1, rest @ ..] = line {
-        return Ok(control_item(rest));
+    if let [1, rest @ ..] = line.as_slice() {
+        return control_item(rest);
     }
-    let text = line_of(alloc, line)?;
-    Ok(Some(Item::Text(text)))
+    Some(Item::Text(Line::from_vec(line)))
 }
 
 fn begins_with(wanted: u8, bytes: &[u8]) -> bool
