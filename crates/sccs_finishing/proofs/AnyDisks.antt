@@ -35,7 +35,8 @@ use Rattle.sccs_steps.specs.Actions.{Action}
 use Rattle.sccs_steps.specs.StepLists.{NamedStep}
 use Rattle.sccs_finishing.proofs.FinishStops.{plan_before}
 use Rattle.sccs_finishing.specs.AnyDisk.{LeavesFinishable, MakesCalm, RecoversAll, RecoversFrom, StaysCalm}
-use Rattle.sccs_finishing.specs.Ends.{FinishEnds, IsFinished, IsLeft, LosesPlan}
+use Rattle.sccs_group.specs.Ended.{IsFinished, LosesPlan}
+use Rattle.sccs_finishing.specs.Ends.{FinishEnds, IsLeft}
 
 -- a disk on which names may be recovered is one on which a group may be finished
 pub finish_unnamed : (m : Model) → HasFirm m → NamesNone (view_of m) → CanFinish m

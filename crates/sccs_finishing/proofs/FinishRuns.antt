@@ -40,7 +40,8 @@ use Rattle.sccs_moments.proofs.FileNames.{both_false}
 use Rattle.sccs_steps.specs.Unlocked.{AreExempt}
 use Rattle.sccs_group.specs.declared.members.Member.{Member}
 use Rattle.sccs_group.specs.Recovering.{IsBad, IsWellFormed, bare, finished_by, group_finished}
-use Rattle.sccs_finishing.specs.Ends.{BegunFinishing, FinishEnds, FinishOthers, IsCutOff, IsFinished, IsLeft, LosesPlan, WholeFinishing}
+use Rattle.sccs_group.specs.Ended.{IsCutOff, IsFinished, LosesPlan}
+use Rattle.sccs_finishing.specs.Ends.{BegunFinishing, FinishEnds, FinishOthers, IsLeft, WholeFinishing}
 use Rattle.sccs_finishing.specs.FinishStep.{finishing_action, finishing_course, finishing_portion, finishing_step, is_formed, name_part}
 use Rattle.sccs_finishing.proofs.FinishShown.{IsBegun, completed_cleared, finished_in, formed_alike, formed_by, half_alike, not_bad, own_fates, plan_alike, plan_cleared, same_intent, same_pairs, still_by}
 use Rattle.sccs_finishing.proofs.FinishStops.{after_of, are_safe, can_finish, follow_images, plan_before, plan_images, within_of}

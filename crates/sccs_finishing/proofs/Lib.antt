@@ -4,5 +4,6 @@ pub mod FinishRuns
 pub mod FinishShown
 pub mod FinishStops
 pub mod FinishViews
+pub mod FreedNames
 pub mod Moved
 pub mod NameFiles

@@ -1,6 +1,6 @@
 -- The step that finishes a group which was stopped, as the first one of recover: for each name of the intent that is there the
 -- files of recovery (own), and no intent and no plan.
-use Rattle.std.specs.Prelude.{Bool, true, false, List, [], ◌∷◌, map, Option, None, Some, Err, if◌then◌else◌}
+use Rattle.std.specs.Prelude.{ℕ, Bool, true, false, List, [], ◌∷◌, map, Option, None, Some, Err, if◌then◌else◌}
 use Rattle.std.specs.Result.{is_ok}
 use Rattle.sccs_base.specs.Name.{is_sfile_name, p_file, q_file, x_file}
 use Rattle.sccs_disk.specs.Files.{Content, View, view_in}
@@ -19,6 +19,14 @@ use Rattle.sccs_courses.specs.Courses.{Courses, Portion, course_of}
 abbrev pub is_formed : Option Content → Bool
 is_formed None = false
 is_formed (Some c) = is_ok (intent_of c.bytes)
+
+-- the names of entries, in their order
+abbrev pub names_of : List Entry → List (List ℕ)
+names_of entries = map (λ (e : Entry). e.name) entries
+
+-- the names that finishing frees: those of an intent that is there and has its form
+abbrev pub freed_in : View → List (List ℕ)
+freed_in v = names_of (entries_in (v intent_file))
 
 -- the files of a name that an intent names, after its recovery
 abbrev pub finished_files : Entry → View → Files

@@ -2,6 +2,8 @@
 #![tactic(auto)]
 
 mod finishing;
+mod freed_names;
 pub mod laws;
+mod plans;
 
 pub use finishing::finish;

@@ -5,6 +5,7 @@ pub mod Calling
 pub mod Closing
 pub mod Committing
 pub mod Found
+pub mod GroupEnds
 pub mod GroupFiles
 pub mod Groups
 pub mod Harmless

@@ -1,24 +1,25 @@
 -- The new files of members, so far as they are in their places, are those of their steps.
 use Rattle.std.proofs.Common.{◌≡◌, ◌⊎◌, ◌++◌, ℕ, Bool, true, false, cond, List, [], ◌∷◌, take, drop, length, Option, None, Some, is_some, inl, inr, refl, sym, ap, subst, ◌∙◌}
 use Rattle.std.proofs.lemmas.List.{take-append-drop}
+use Rattle.std.specs.List.{AllByRecursion}
 use Rattle.std.specs.Str.{bytes_eq}
 use Rattle.sccs_base.specs.Name.{IsSfile, p_file, q_file, x_file, y_file, z_file}
-use Rattle.sccs_base.proofs.SameBytes.{other_bytes, same_bytes}
+use Rattle.sccs_base.proofs.SameBytes.{bytes_eq_sym, other_bytes, same_bytes}
 use Rattle.sccs_disk.specs.Effects.{renamed}
 use Rattle.sccs_disk.specs.Files.{Content, View, put}
 use Rattle.sccs_disk.proofs.Puts.{name_cases, put_back, put_other, put_same, same_name}
 use Rattle.sccs_files.specs.StepFiles.{Alike, Files, l_file, moved}
-use Rattle.sccs_intents.specs.Intents.{intent_file, plan_file}
+use Rattle.sccs_intents.specs.Intents.{has_name, intent_file, plan_file}
 use Rattle.sccs_intents.specs.declared.intents.Fate.{Fate}
 use Rattle.sccs_intents.specs.declared.intents.Fate.TheVariants.{Replaced, Removed}
 use Rattle.sccs_intents.proofs.Others.{differ}
-use Rattle.sccs_moments.specs.Recovery.{Pair, begins_by_letter, fated, newer, without_name}
-use Rattle.sccs_moments.proofs.FileNames.{from_g, kept_p, kept_s, left_false, no_l_name, no_q, no_working, no_x, no_y, no_z, right_false, s_and_g, to_s, to_sfile}
+use Rattle.sccs_moments.specs.Recovery.{Pair, fated, newer, without_name}
+use Rattle.sccs_moments.proofs.FileNames.{from_g, kept_p, kept_s, left_false, no_q, no_working, no_x, no_y, no_z, right_false, s_and_g, to_s}
 use Rattle.sccs_moments.proofs.Recovering.{newer_same, pair_same}
-use Rattle.sccs_group.specs.Changes.{Change, IsPrepared, IsReady}
+use Rattle.sccs_group.specs.Changes.{Change, IsPrepared, IsReady, LFileStays, LFilesStay, after_changes, members_in}
 use Rattle.sccs_group.specs.Grouping.{announced, new_pair_of, planned}
 use Rattle.sccs_group.specs.Halfway.{first_placed, is_left_of_group, is_lock_of, part_placed}
-use Rattle.sccs_group.specs.Members.{closed, completed, each_by, g_gone, p_taken, placed, taken, unlocked}
+use Rattle.sccs_group.specs.Members.{AreMembers, closed, completed, each_by, entries_of, g_gone, p_taken, placed, taken, unlocked}
 use Rattle.sccs_group.specs.declared.members.Member.{Member}
 use Rattle.sccs_group.proofs.Alike.{first_alike, left_spares}
 use Rattle.sccs_group.proofs.Closing.{placed_elsewhere, placed_other}
@@ -108,11 +109,11 @@ moved_is n f u k sfile g z same =
     ∙ ap (λ (x : Option Content). cond (bytes_eq n k) f.s (cond (bytes_eq (p_file n) k) f.p x)) (sym (put_other (put (put u (l_file n) f.l) (z_file n) f.z) (drop 2 n) k f.g g ∙ (put_other (put u (l_file n) f.l) (z_file n) k f.z z ∙ same)))
 
 -- the l-file stays
-l_same : (w : List ℕ → Bool) (d : Change) (v u : View) (k : List ℕ) → IsReady w v d → Alike w v u → w k ≡ false → put u (l_file d.member.entry.name) d.files.l k ≡ u k
-l_same w d v u k ready same h = by (name_cases (l_file d.member.entry.name) k)
+l_same : (w : List ℕ → Bool) (d : Change) (u : View) (k : List ℕ) → LFileStays w d u → w k ≡ false → put u (l_file d.member.entry.name) d.files.l k ≡ u k
+l_same w d u k stays h = by (name_cases (l_file d.member.entry.name) k)
   where
     at_l : w (l_file d.member.entry.name) ≡ false → put u (l_file d.member.entry.name) d.files.l (l_file d.member.entry.name) ≡ u (l_file d.member.entry.name)
-    at_l here = put_same u (l_file d.member.entry.name) d.files.l ∙ (ready.l here ∙ same (l_file d.member.entry.name) here)
+    at_l here = put_same u (l_file d.member.entry.name) d.files.l ∙ stays here
 
     by : (l_file d.member.entry.name ≡ k) ⊎ (bytes_eq (l_file d.member.entry.name) k ≡ false) → put u (l_file d.member.entry.name) d.files.l k ≡ u k
     by (inl e) = subst (λ (l : List ℕ). put u (l_file d.member.entry.name) d.files.l l ≡ u l) e (at_l (subst (λ (l : List ℕ). w l ≡ false) (sym e) h))
@@ -144,14 +145,14 @@ all_at_g w d v u ready h =
     let n = d.member.entry.name in
     g_there d.member.removes_g n v (part_placed 3 d.member v) (three_left d.member v ready.prepared.sfile) ∙ (sym (ready.g h) ∙ sym (moved_g n d.files u ready.prepared.sfile))
 
-pub all_ready : (w : List ℕ → Bool) (d : Change) (v u : View) → IsReady w v d → Alike w v u → Alike w (placed d.member v) (moved u d.member.entry.name (Some d.files))
-all_ready w d v u ready same = λ k h. by k h (name_cases (drop 2 d.member.entry.name) k)
+pub all_ready : (w : List ℕ → Bool) (d : Change) (v u : View) → IsReady w v d → LFileStays w d u → Alike w v u → Alike w (placed d.member v) (moved u d.member.entry.name (Some d.files))
+all_ready w d v u ready stays same = λ k h. by k h (name_cases (drop 2 d.member.entry.name) k)
   where
     by : (k : List ℕ) → w k ≡ false → (drop 2 d.member.entry.name ≡ k) ⊎ (bytes_eq (drop 2 d.member.entry.name) k ≡ false) → placed d.member v k ≡ moved u d.member.entry.name (Some d.files) k
     by k h (inl e) = subst (λ (l : List ℕ). placed d.member v l ≡ moved u d.member.entry.name (Some d.files) l) e (all_at_g w d v u ready (subst (λ (l : List ℕ). w l ≡ false) (sym e) h))
     by k h (inr off) =
         elsewhere d.member.removes_g d.member.entry.name (part_placed 3 d.member v) k off
-        ∙ (y_ready w d v u ready same k h ∙ moved_is d.member.entry.name d.files u k ready.prepared.sfile off (off_z w v d k ready h) (l_same w d v u k ready same h))
+        ∙ (y_ready w d v u ready same k h ∙ moved_is d.member.entry.name d.files u k ready.prepared.sfile off (off_z w v d k ready h) (l_same w d u k stays h))
 
 -- ---- another member
 
@@ -170,11 +171,6 @@ other_g w d other v ready later apart h =
     placed_other d.member v g (off_x w v d g ready h) (differ g n (kept_s g n later.prepared.plain ready.prepared.sfile)) (off_q w v d g ready h) (differ g (p_file n) (kept_p g n later.prepared.plain ready.prepared.sfile))
     (off_y w v d g ready h) (λ removes. g_files_differ n other.member.entry.name ready.prepared.sfile later.prepared.sfile apart)
 
-other_l : (d other : Change) (v : View) → IsSfile d.member.entry.name → IsSfile other.member.entry.name → begins_by_letter 108 (drop 2 d.member.entry.name) ≡ false
-    → placed d.member v (l_file other.member.entry.name) ≡ v (l_file other.member.entry.name)
-other_l d other v sfile later free =
-    placed_other d.member v (l_file other.member.entry.name) refl (to_sfile 108 d.member.entry.name other.member.entry.name sfile refl) refl refl refl (λ removes. no_l_name (drop 2 d.member.entry.name) other.member.entry.name free later)
-
 new_pair_same : (mem : Member) (v u : View) → Same mem.entry.name v u → new_pair_of mem u ≡ new_pair_of mem v
 new_pair_same mem v u same =
     let n = mem.entry.name in
@@ -187,11 +183,22 @@ others_ready w d other v ready later apart =
       left = later.left;
       prepared = record { sfile = later.prepared.sfile; plain = later.prepared.plain; pair = new_pair_same other.member v (placed d.member v) same ∙ later.prepared.pair; settled = later.prepared.settled };
       g = λ h. later.g h ∙ ap (λ (x : Option Content). cond other.member.removes_g None x) (sym (other_g w d other v ready later apart h));
-      l = λ h. later.l h ∙ sym (other_l d other v ready.prepared.sfile later.prepared.sfile ready.l_free);
-      l_free = later.l_free;
     }
 
 -- ---- all of a group
+
+rest_ready : (w : List ℕ → Bool) (d : Change) (changes : List Change) (v : View) → IsReady w v d → has_name (entries_of (members_in changes)) d.member.entry.name ≡ false → AllByRecursion (IsReady w v) changes
+    → AllByRecursion (IsReady w (placed d.member v)) changes
+rest_ready w d [] v ready alone rest = tt
+rest_ready w d (other ∷ changes) v ready alone rest =
+    (others_ready w d other v ready rest.0 (bytes_eq_sym d.member.entry.name other.member.entry.name ∙ left_false _ _ alone), rest_ready w d changes v ready (right_false _ _ alone) rest.1)
+
+-- one member after the other
+pub each_ready : (w : List ℕ → Bool) (changes : List Change) (v u : View) → AreMembers (members_in changes) → AllByRecursion (IsReady w v) changes → LFilesStay w changes u → Alike w v u
+    → Alike w (each_by placed (members_in changes) v) (after_changes changes u)
+each_ready w [] v u are ready stay same = same
+each_ready w (d ∷ changes) v u are ready stay same =
+    each_ready w changes (placed d.member v) (moved u d.member.entry.name (Some d.files)) are.1 (rest_ready w d changes v ready.0 are.0.alone ready.1) stay.1 (all_ready w d v u ready.0 stay.0 same)
 
 unlocked_alike : (w : List ℕ → Bool) (ms : List Member) (u : View) → ((k : List ℕ) → w k ≡ false → is_lock_of ms k ≡ false) → Alike w (each_by unlocked ms u) u
 unlocked_alike w [] u off = λ k h. refl

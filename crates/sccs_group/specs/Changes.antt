@@ -4,7 +4,7 @@ use Rattle.sccs_base.specs.Name.{IsSfile}
 use Rattle.sccs_disk.specs.Files.{Content, View}
 use Rattle.sccs_files.specs.StepFiles.{Files, is_left, l_file, moved}
 use Rattle.sccs_pfile.specs.Recovered.{recovered_pfile}
-use Rattle.sccs_moments.specs.Recovery.{begins_by_letter, is_kept}
+use Rattle.sccs_moments.specs.Recovery.{is_kept}
 use Rattle.sccs_group.specs.Grouping.{new_pair_of}
 use Rattle.sccs_group.specs.declared.members.Member.{Member}
 
@@ -37,6 +37,12 @@ pub record IsReady (w : List ℕ → Bool) (v : View) (d : Change) : Type 0 wher
   pub left : (k : List ℕ) → w k ≡ false → is_left d.member.entry.name k ≡ false
   pub prepared : IsPrepared v d
   pub g : w (drop 2 d.member.entry.name) ≡ false → d.files.g ≡ new_g_of d.member v
-  -- the l-file stays, and the g-file is that of no name
-  pub l : w (l_file d.member.entry.name) ≡ false → d.files.l ≡ v (l_file d.member.entry.name)
-  pub l_free : begins_by_letter 108 (drop 2 d.member.entry.name) ≡ false
+
+-- a step leaves the l-file as it is in the view before it, but for files that are left out
+abbrev pub LFileStays : (List ℕ → Bool) → Change → View → Type 0
+LFileStays w d u = w (l_file d.member.entry.name) ≡ false → d.files.l ≡ u (l_file d.member.entry.name)
+
+-- each step does, in the view that those before it leave: an l-file may be the g-file of another member
+abbrev pub LFilesStay : (List ℕ → Bool) → List Change → View → Type 0
+LFilesStay w [] u = Unit {0}
+LFilesStay w (d ∷ changes) u = LFileStays w d u × LFilesStay w changes (moved u d.member.entry.name (Some d.files))

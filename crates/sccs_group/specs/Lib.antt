@@ -1,4 +1,5 @@
 pub mod Changes
+pub mod Ended
 pub mod Finishing
 pub mod Grouping
 pub mod Halfway

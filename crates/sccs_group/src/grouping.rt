@@ -11,12 +11,14 @@ ghost use Rattle.sccs_intents.specs.Written.{intent_text};
 ghost use Rattle.sccs_moments.specs.Recovery.{without_name};
 ghost use Rattle.sccs_moments.specs.Unlocked.{KeepsOthers};
 ghost use Rattle.sccs_store.specs.Commits.{Becomes};
+ghost use Rattle.sccs_group.specs.Ended.{CommitsGroup};
 ghost use Rattle.sccs_group.specs.Grouping.{AnnounceEnds, AnnounceStops, GroupEnds, GroupStops, announced};
 ghost use Rattle.sccs_group.specs.Halfway.{IsHalfway, is_own_of_group};
 ghost use Rattle.sccs_group.specs.Members.{AreMembers, IsWritten, completed, entries_of};
 
 use crate::finishing::complete;
-use crate::members::Member;
+use crate::members::{Member, Members};
+use crate::names::{intent_name, plan_name};
 use crate::plans::{drop_text, write_anew};
 use sccs_base::{Bytes, Failed, Memory, Name};
 use sccs_disk::{Disk, DiskRefusal};
@@ -48,13 +50,8 @@ fn announce<D: Disk>(
     }
 }
 
-/// Commits a group whose members are prepared: the intent is written as the plan, synced, and renamed;
-/// then the new files of each member, in order, take their places; then the intent goes, and each z-file;
-/// then the names are synced. Memory comes only before the renaming; then the plan is gone, and the
-/// members are prepared as before. Failed comes only where the disk failed; recovery runs first then. A
-/// stop leaves what one could leave before the commit, or what recovers to the new files of all members;
-/// after it, only the latter.
-pub fn commit_group<D: Disk>(
+// commits members with the text of their intent
+fn commit_text<D: Disk>(
     disk: &mut D,
     plan: &Name,
     intent: &Name,
@@ -95,31 +92,28 @@ fn text_of_intent(alloc: Global, members: &[Member]) -> Result<Bytes, Memory>
     intent_text(alloc, &entries)
 }
 
-/// Commits a group of 1 to 1,000 members whose names differ: the text of the intent is made of them, and
-/// the group is committed. At want of memory the plan is gone.
-pub fn commit_members<D: Disk>(
+/// Commits a group of 1 to 1,000 members that are prepared and whose names differ: the intent is written as the plan, synced, and renamed;
+/// then the new files of each member, in order, take their places; then the intent goes, and each z-file;
+/// then the names are synced. Memory comes only before the renaming; then the plan is gone, and the
+/// members are prepared as before. Failed comes only where the disk failed; recovery runs first then. A
+/// stop leaves what one could leave before the commit, or what recovers to the new files of all members;
+/// after it, only the latter.
+pub fn commit_group<D: Disk>(
     alloc: Global,
+    members: &Members,
     disk: &mut D,
-    plan: &Name,
-    intent: &Name,
-    members: &[Member],
 ) -> Result<(), DiskRefusal>
-    requires plan { plan.now ≡ plan_file }
-    requires intent { intent.now ≡ intent_file }
     requires members { AreMembers members.now }
     requires some { 0 < length members.now }
     requires few { length members.now ≤ 1000 }
-    ensures view { OnOk result (Becomes (λ (v : View). completed members.now (announced members.now v)) (seen (D.told disk.old)) (seen (D.told disk.new))) }
-    ensures halfway { OnErr result (IsHalfway members.now (seen (D.told disk.old)) (seen (D.told disk.new))) }
-    ensures memory { IsErrOf result DiskRefusal.Memory → TouchesOnly (bytes_eq plan_file) (D.told disk.old) (D.told disk.new) }
-    ensures gone { IsErrOf result DiskRefusal.Memory → Becomes (without_name plan_file) (seen (D.told disk.old)) (seen (D.told disk.new)) }
-    ensures stops { OnErr result (GroupStops members.now (D.told disk.old) (D.told disk.new)) }
-    ensures ends { OnOk result (GroupEnds members.now (D.told disk.old) (D.told disk.new)) }
+    ensures ends { CommitsGroup result members.now (D.told disk.old) (D.told disk.new) }
     ensures others { KeepsOthers (is_own_of_group members.now) (D.told disk.old) (D.told disk.new) }
     ensures causes { DiskCauses (IsErrOf result DiskRefusal.Failed) (D.faults disk.old) (D.faults disk.new) }
 {
-    match text_of_intent(alloc, members) {
-        Ok(text) => commit_group(disk, plan, intent, text.bytes(), members),
-        Err(_) => Err(drop_text(disk, plan)),
+    let plan = plan_name();
+    let list = members.items();
+    match text_of_intent(alloc, list) {
+        Ok(text) => commit_text(disk, &plan, &intent_name(), text.bytes(), list),
+        Err(_) => Err(drop_text(disk, &plan)),
     }
 }

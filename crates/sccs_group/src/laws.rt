@@ -12,11 +12,11 @@ ghost use Rattle.sccs_moments.specs.Calm.{IsCalm};
 ghost use Rattle.sccs_moments.specs.Moments.{EndsAfter, EndsBefore, EndsWithin, IsFrom, RecoversOn, Went};
 ghost use Rattle.sccs_moments.specs.Recovery.{RecoversAs, fate_at, pair_of, recover};
 ghost use Rattle.sccs_moments.specs.Unlocked.{BeginsUnlocked, BeginsUnlockedBut, KeepsOthers};
-ghost use Rattle.sccs_group.specs.Changes.{Change, IsPrepared, IsReady, after_changes, members_in};
+ghost use Rattle.sccs_group.specs.Changes.{Change, IsPrepared, IsReady, LFileStays, LFilesStay, after_changes, members_in};
 ghost use Rattle.sccs_group.specs.Finishing.{Completes};
 ghost use Rattle.sccs_group.specs.Grouping.{CanGroup, GroupEnds, GroupStops, announced, new_pair_of};
 ghost use Rattle.sccs_group.specs.Halfway.{NoneLocked, first_placed, intended, is_left_of_group, is_own_of_group, part_placed};
-ghost use Rattle.sccs_group.specs.Members.{AreMembers, IsPlainG, IsWritten, completed, entries_of, placed};
+ghost use Rattle.sccs_group.specs.Members.{AreMembers, IsPlainG, IsWritten, completed, each_by, entries_of, placed};
 ghost use Rattle.sccs_group.specs.declared.members.Member.{Member};
 
 /// Up to a thousand members, at least one, of which no two have the same name, may be written as an intent.
@@ -87,8 +87,9 @@ pub fn groups_begin_unlocked()
 {}
 
 /// As far as the calls of a member have come its files are the new ones, in the order of a step, where they
-/// are prepared: the s-file, then the p-file, and behind the last call all of them. Other members stay
-/// prepared.
+/// are prepared: the s-file, then the p-file, and behind the last call all of them, where its step leaves the
+/// l-file as it is. Other members stay prepared, and behind the calls of all the files are those that their
+/// steps make, one after the other.
 pub fn members_get_their_files()
     ensures s { (w : List ℕ → Bool) (d : Change) (v u : View) → IsReady w v d → Alike w v u
         → Alike w (part_placed 1 d.member v) (put u d.member.entry.name d.files.s) }
@@ -96,10 +97,13 @@ pub fn members_get_their_files()
         → Alike w (part_placed 2 d.member v) (put (put u d.member.entry.name d.files.s) (p_file d.member.entry.name) d.files.p) }
     ensures y { (w : List ℕ → Bool) (d : Change) (v u : View) → IsReady w v d → Alike w v u
         → Alike w (part_placed 3 d.member v) (put (put u d.member.entry.name d.files.s) (p_file d.member.entry.name) d.files.p) }
-    ensures all { (w : List ℕ → Bool) (d : Change) (v u : View) → IsReady w v d → Alike w v u
+    ensures all { (w : List ℕ → Bool) (d : Change) (v u : View) → IsReady w v d → LFileStays w d u → Alike w v u
         → Alike w (placed d.member v) (moved u d.member.entry.name (Some d.files)) }
     ensures others { (w : List ℕ → Bool) (d other : Change) (v : View) → IsReady w v d → IsReady w v other
         → bytes_eq d.member.entry.name other.member.entry.name ≡ false → IsReady w (placed d.member v) other }
+    ensures each { (w : List ℕ → Bool) (changes : List Change) (v u : View) → AreMembers (members_in changes)
+        → AllByRecursion (IsReady w v) changes → LFilesStay w changes u → Alike w v u
+        → Alike w (each_by placed (members_in changes) v) (after_changes changes u) }
 {}
 
 /// A group that is committed whole has all calls of all members behind it, but for the plan, the intent and

@@ -12,7 +12,7 @@ mod plans;
 mod recovering;
 
 pub use finishing::complete;
-pub use grouping::{commit_group, commit_members};
+pub use grouping::commit_group;
 pub use members::{Member, Members};
 pub use names::{intent_name, plan_name};
-pub use recovering::{GroupFault, finish_group};
+pub use recovering::finish_group;

@@ -6,6 +6,8 @@ ghost use Rattle.sccs_intents.specs.Intents.{intent_file, intent_of, plan_file};
 ghost use Rattle.sccs_moments.specs.Recovery.{without_name};
 ghost use Rattle.sccs_moments.specs.Unlocked.{KeepsOthers};
 ghost use Rattle.sccs_store.specs.Commits.{Becomes};
+ghost use Rattle.sccs_sid.specs.declared.refusals.StepFault.TheVariants as step;
+ghost use Rattle.sccs_group.specs.Ended.{FinishesGroup, step_result as step_result_spec};
 ghost use Rattle.sccs_group.specs.Finishing.{Always, CompletesBy, FinishesBy};
 ghost use Rattle.sccs_group.specs.Halfway.{IsHalfway, intended, is_own_of_group};
 ghost use Rattle.sccs_group.specs.Members.{AreMembers};
@@ -19,10 +21,12 @@ ghost use Rattle.sccs_group.specs.Recovering.{IsBad, IsWellFormed, ReadsBytes, R
 use crate::calls::clear;
 use crate::finishing::complete;
 use crate::members::{Member, Members};
+use crate::names::{intent_name, plan_name};
 use sccs_base::{Failed, Memory, Name};
 use sccs_disk::Disk;
 use sccs_files::{WholeFault, read_whole};
 use sccs_intents::{Entries, IntentFault, read_intent};
+use sccs_sid::{Refusal, StepFault};
 use std::alloc::Global;
 
 /// Why a group wasn't finished: this line of the intent, from 1, isn't of its form; the disk failed; or
@@ -141,11 +145,8 @@ fn finish_intent<D: Disk>(alloc: Global, disk: &mut D, intent: &Name) -> Result<
     }
 }
 
-/// Finishes a group that was stopped: a plan that is there is removed; where the intent is there, what is
-/// left of the group is done, then the intent and each z-file are removed; it ends with a sync of the
-/// names, and answers whether the intent was there. At BadIntent the intent stays. Each moment leaves what
-/// recovers as a folder that a stop could leave at the start, so it may be stopped anywhere and run again.
-pub fn finish_group<D: Disk>(
+// a plan goes, and what is left of a group is done
+fn finish_named<D: Disk>(
     alloc: Global,
     disk: &mut D,
     plan: &Name,
@@ -170,4 +171,28 @@ pub fn finish_group<D: Disk>(
         Ok(()) => finish_intent(alloc, disk, intent),
         Err(_) => Err(GroupFault::Failed),
     }
+}
+
+// the same as the answer of a step
+fn step_result(finished: Result<bool, GroupFault>) -> Result<bool, StepFault>
+    ensures { result ≡ step_result_spec finished }
+{
+    match finished {
+        Ok(there) => Ok(there),
+        Err(GroupFault::BadIntent(line)) => Err(StepFault::Refused(Refusal::BadIntent(line))),
+        Err(GroupFault::Failed) => Err(StepFault::DiskFault),
+        Err(GroupFault::Memory) => Err(StepFault::Memory),
+    }
+}
+
+/// Finishes a group that was stopped: a plan that is there is removed; where the intent is there, what is
+/// left of the group is done, then the intent and each z-file are removed; it ends with a sync of the
+/// names, and answers whether the intent was there. At BadIntent the intent stays. Each moment leaves what
+/// recovers as a folder that a stop could leave at the start, so it may be stopped anywhere and run again.
+pub fn finish_group<D: Disk>(alloc: Global, disk: &mut D) -> Result<bool, StepFault>
+    ensures ends { FinishesGroup result (D.told disk.old) (D.told disk.new) }
+    ensures others { IfSome (seen (D.told disk.old)) (λ (v : View). KeepsOthers (is_own_of_group (intended v)) (D.told disk.old) (D.told disk.new)) }
+    ensures causes { DiskCauses (result ≡ Err step.DiskFault) (D.faults disk.old) (D.faults disk.new) }
+{
+    step_result(finish_named(alloc, disk, &plan_name(), &intent_name()))
 }

@@ -1,5 +1,5 @@
 -- What is left where entries are given up.
-use Rattle.std.proofs.Common.{◌≡◌, ◌≢◌, ◌⊎◌, ◌+◌, ℕ, Bool, true, false, ◌&&◌, ◌||◌, cond, List, [], ◌∷◌, ◌++◌, drop, take, map, Option, None, Some, IfSome, Ok, Err, inl, inr, refl, sym, ap, subst, ◌∙◌}
+use Rattle.std.proofs.Common.{◌≡◌, ◌≢◌, ◌⊎◌, ◌+◌, ℕ, Bool, true, false, ◌&&◌, ◌||◌, cond, List, [], ◌∷◌, ◌++◌, drop, take, Option, None, Some, IfSome, Ok, Err, inl, inr, refl, sym, ap, subst, ◌∙◌}
 use Rattle.std.proofs.lemmas.List.{take-append-drop, map-append}
 use Rattle.std.proofs.lemmas.List.Folds.{list_any-append}
 use Rattle.std.specs.List.{AllByRecursion, list_any}
@@ -12,7 +12,7 @@ use Rattle.sccs_sid.specs.declared.refusals.StepFault.TheVariants.{Refused, Memo
 use Rattle.sccs_base.proofs.SameBytes.{same_bytes}
 use Rattle.sccs_disk.specs.Files.{Content, View}
 use Rattle.sccs_disk.proofs.Puts.{name_cases}
-use Rattle.sccs_files.specs.StepFiles.{Alike, Moves, is_left, is_working}
+use Rattle.sccs_files.specs.StepFiles.{Alike, Moves, is_left, is_working, l_file}
 use Rattle.sccs_steps.specs.StepEffects.{Outcome}
 use Rattle.sccs_store.specs.Commits.{Becomes, abandoned}
 use Rattle.sccs_moments.proofs.FileNames.{both_false, left_false, right_false}
@@ -20,11 +20,12 @@ use Rattle.sccs_store.proofs.Working.{becomes_both, moves_same, moves_then, move
 use Rattle.sccs_transactions.specs.declared.prepared.Prepared.{Prepared}
 use Rattle.sccs_group_words.specs.declared.entries.GroupEntry.{GroupEntry}
 use Rattle.sccs_group_step.specs.GroupStep.{EntrySteps, entry_outcome, entry_steps, names_of}
-use Rattle.sccs_group_step.specs.Preparing.{AddsEntry, AreDifferent, ArePlain, Between, GivesAllBack, GivesBack, GivesUpAt, IsGivenBack, IsPreparedEntry, PreparesEntry, IsNamed, all_abandoned, is_among, is_any_left, is_any_working, is_sfile_left, is_sfile_working, made_names, sfiles_of, step_of}
+use Rattle.sccs_group_step.specs.LFiles.{with_l}
+use Rattle.sccs_group_step.specs.Preparing.{AddsEntry, AreDifferent, ArePlain, Between, GivesAllBack, GivesBack, GivesUpAt, IsGivenBack, IsPreparedEntry, PreparesEntry, IsNamed, all_abandoned, is_among, is_any_left, is_any_working, is_sfile_left, is_sfile_working, made_names, sfiles_of, steps_in, IsPlainName}
 use Rattle.sccs_group_step.specs.declared.entries.PreparedEntry.{PreparedEntry}
 use Rattle.sccs_group_step.proofs.EntryEnds.{sfile_alike, sfile_back}
 use Rattle.sccs_group_step.proofs.GroupNames.{named_sfiles}
-use Rattle.sccs_group_step.proofs.SoFars.{AreHeld, SoFar, different_at, next_outcome, plain_at, prepared_next}
+use Rattle.sccs_group_step.proofs.SoFars.{AreHeld, SoFar, different_at, left_in, next_outcome, plain_at, prepared_next}
 use Rattle.sccs_group_step.proofs.StepsAhead.{put_all, refused_next}
 
 -- ---- one name
@@ -213,12 +214,17 @@ given_up_in stamp entries i made e fault r u v w ox fits different plain at far 
     apart : is_among (made_names made) e.name ≡ false
     apart = subst (λ (names : List (List ℕ)). is_among names e.name ≡ false) (sym far.names_are) (different_at entries i e (drop (i + 1) entries) different at).0
 
-    outcome : entry_outcome stamp v e ≡ entry_outcome stamp u e
-    outcome = next_outcome stamp made e u v fits apart (plain_at entries i e (drop (i + 1) entries) plain at).0 far.held far.view
+    plains : IsPlainName e.name × ArePlain (names_of (drop (i + 1) entries)) × ArePlain (names_of (take i entries))
+    plains = plain_at entries i e (drop (i + 1) entries) plain at
+
+    outcome : (refusal : Refusal) → entry_outcome stamp v e ≡ Err refusal → entry_outcome stamp (left_in v u made) e ≡ Err refusal
+    outcome refusal is =
+        next_outcome stamp made e u v fits apart plains.0 (subst ArePlain (sym far.names_are) plains.2) far.held far.view ∙ ap (with_l (left_in v u made (l_file e.name))) is
 
     refused : (refusal : Refusal) → entry_outcome stamp v e ≡ Err refusal → entry_steps stamp u entries ≡ Err (record { name = e.name; refusal = refusal })
     refused refusal is =
-        far.steps ∙ (ap (λ (es : List GroupEntry). put_all (map (step_of v) made) (entry_steps stamp u es)) at ∙ refused_next stamp (map (step_of v) made) e (drop (i + 1) entries) u refusal (sym outcome ∙ is))
+        far.steps ∙ (ap (λ (es : List GroupEntry). put_all (steps_in v u made) (entry_steps stamp (left_in v u made) es)) at
+        ∙ refused_next stamp (steps_in v u made) e (drop (i + 1) entries) (left_in v u made) refusal (outcome refusal is))
 
     named : AllByRecursion IsNamed (made_names made)
     named = made_named made u v far.held

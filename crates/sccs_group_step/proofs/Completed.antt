@@ -9,7 +9,7 @@ use Rattle.sccs_disk.specs.Effects.{renamed}
 use Rattle.sccs_disk.specs.Files.{Content, View, put}
 use Rattle.sccs_disk.specs.Told.{Shows}
 use Rattle.sccs_disk.proofs.Puts.{name_cases, put_other, put_same}
-use Rattle.sccs_files.specs.StepFiles.{Alike, Files, is_left, is_working, l_file, moved, placed}
+use Rattle.sccs_files.specs.StepFiles.{Alike, Files, is_left, is_working, moved, placed}
 use Rattle.sccs_intents.specs.Intents.{intent_file, plan_file}
 use Rattle.sccs_moments.specs.Recovery.{without_name}
 use Rattle.sccs_moments.proofs.FileNames.{both_false, left_false, no_working, no_y, no_z, right_false, sfile_and_intent, to_s, to_sfile}
@@ -27,11 +27,11 @@ use Rattle.sccs_group.specs.Grouping.{announced, file_of, planned}
 use Rattle.sccs_intents.specs.Written.{intent_text}
 use Rattle.sccs_group.specs.Members as group
 use Rattle.sccs_group.specs.declared.members.Member.{Member}
-use Rattle.sccs_group_step.specs.Preparing.{AreDifferent, ArePlain, IsHeldEntry, IsPlainName, is_among, is_any_left, is_any_working, made_names, step_of}
+use Rattle.sccs_group_step.specs.Preparing.{AreDifferent, ArePlain, IsHeldEntry, IsPlainName, is_among, files_in, is_any_left, is_any_working, made_names, steps_in}
 use Rattle.sccs_group_step.specs.declared.entries.PreparedEntry.{PreparedEntry}
 use Rattle.sccs_group_step.proofs.Apart.{IsOutside, SameFiles, begins_not, files_elsewhere, outside_intent, outside_one, placed_alike, placed_other, same_files, unkept_intent, unkept_z}
 use Rattle.sccs_group_step.proofs.Backs.{z_free, z_or_not}
-use Rattle.sccs_group_step.proofs.SoFars.{AreHeld, AreSame, all_held, files_same, held_sfiles}
+use Rattle.sccs_group_step.proofs.SoFars.{AreHeld, AreSame, all_held, files_in_same, held_sfiles}
 use Rattle.sccs_group_step.specs.Making.{fate_of, is_group_working, member_of, removes}
 
 -- ---- the files of one member
@@ -82,8 +82,7 @@ placed_at x w k sfile kind ready h =
 member_elsewhere : (x : PreparedEntry) (u w : View) (n : List ℕ) → IsHeldEntry u w x.name x.prepared → IsSfile n → bytes_eq x.name n ≡ false → IsPlainName x.name → IsPlainName n → SameFiles n w (group.placed (member_of x) w)
 member_elsewhere x u w n held other apart plain plain2 =
     let out : IsOutside (is_left x.name) n = outside_one x.name n held.sfile other apart plain2 in
-    let new : Option Files = Some (files_after x.name (plan_of x.prepared) w) in
-    let same : SameFiles n w (moved w x.name new) = files_elsewhere x.name n w new held.sfile other apart plain plain2 in
+    let same : SameFiles n w (moved w x.name (Some (files_after x.name (plan_of x.prepared) w))) = files_elsewhere x.name n w (files_after x.name (plan_of x.prepared) w) refl held.sfile other apart plain plain2 in
     record {
       s = placed_at x w n held.sfile held.kind held.ready out.s ∙ same.s;
       p = placed_at x w (p_file n) held.sfile held.kind held.ready out.p ∙ same.p;
@@ -92,7 +91,6 @@ member_elsewhere x u w n held other apart plain plain2 =
       x = placed_at x w (x_file n) held.sfile held.kind held.ready out.x ∙ same.x;
       q = placed_at x w (q_file n) held.sfile held.kind held.ready out.q ∙ same.q;
       y = placed_at x w (y_file n) held.sfile held.kind held.ready out.y ∙ same.y;
-      l = placed_at x w (l_file n) held.sfile held.kind held.ready out.l ∙ same.l;
     }
 
 same_then : (n : List ℕ) (a b c : View) → SameFiles n a b → SameFiles n b c → SameFiles n a c
@@ -104,7 +102,6 @@ same_then n a b c first next = record {
   x = next.x ∙ first.x;
   q = next.q ∙ first.q;
   y = next.y ∙ first.y;
-  l = next.l ∙ first.l;
 }
 
 pub all_then : (made : List PreparedEntry) (a b c : View) → AreSame a b made → AreSame b c made → AreSame a c made
@@ -118,23 +115,23 @@ all_elsewhere (y ∷ made) x u w one plain apart plains held =
     (member_elsewhere x u w y.name one held.0.sfile (bytes_eq_sym x.name y.name ∙ left_false _ _ apart) plain plains.0, all_elsewhere made x u w one plain (right_false _ _ apart) plains.1 held.1)
 
 -- all that their steps move
-abbrev pub moves_in : View → List PreparedEntry → List Move
-moves_in v made = flat_map moves_of (map (step_of v) made)
+abbrev pub moves_in : View → View → List PreparedEntry → List Move
+moves_in v t made = flat_map moves_of (steps_in v t made)
 
 -- the new files of all are in their places
 each_placed : (mine : List ℕ → Bool) (made : List PreparedEntry) (u v w w2 : View) → AreDifferent (made_names made) → ArePlain (made_names made) → AreHeld u w made → AreSame v w made
     → ((k : List ℕ) → mine k ≡ false → is_any_left (made_names made) k ≡ false) → ((k : List ℕ) → mine k ≡ false → w k ≡ w2 k)
-    → (k : List ℕ) → mine k ≡ false → each_by group.placed (map member_of made) w k ≡ all_moved w2 (moves_in v made) k
+    → (k : List ℕ) → mine k ≡ false → each_by group.placed (map member_of made) w k ≡ all_moved w2 (moves_in v w2 made) k
 each_placed mine [] u v w w2 different plain held same parts agree k h = agree k h
 each_placed mine (x ∷ made) u v w w2 different plain held same parts agree k h =
     let after : AreSame w (group.placed (member_of x) w) made = all_elsewhere made x u w held.0 plain.0 different.0 plain.1 held.1 in
-    each_placed mine made u v (group.placed (member_of x) w) (moved w2 x.name (Some (files_after x.name (plan_of x.prepared) v))) different.1 plain.1 (all_held made u w (group.placed (member_of x) w) after held.1)
+    each_placed mine made u v (group.placed (member_of x) w) (moved w2 x.name (Some (files_in v w2 x))) different.1 plain.1 (all_held made u w (group.placed (member_of x) w) after held.1)
     (all_then made v w (group.placed (member_of x) w) same.1 after) (λ l free. right_false (is_left x.name l) _ (parts l free)) (λ l free. one l free) k h
   where
-    one : (l : List ℕ) → mine l ≡ false → group.placed (member_of x) w l ≡ moved w2 x.name (Some (files_after x.name (plan_of x.prepared) v)) l
+    one : (l : List ℕ) → mine l ≡ false → group.placed (member_of x) w l ≡ moved w2 x.name (Some (files_in v w2 x)) l
     one l free =
         placed_at x w l held.0.sfile held.0.kind held.0.ready (left_false (is_left x.name l) _ (parts l free))
-        ∙ (ap (λ (f : Files). placed w x.name f l) (files_same x.name (plan_of x.prepared) v w same.0) ∙ placed_alike x.name l w2 w (Some (files_after x.name (plan_of x.prepared) v)) (agree l free))
+        ∙ (ap (λ (f : Files). placed w x.name f l) (files_in_same x v w w same.0) ∙ placed_alike x.name l w2 w (files_after x.name (plan_of x.prepared) v) (agree l free))
 
 -- ---- the z-files, and the intent
 
@@ -178,16 +175,16 @@ z_placed n m w f free sfile other plain none =
     by true = free
     by false = none
 
-z_moved : (made : List PreparedEntry) (v w : View) (m : List ℕ) → AllByRecursion IsSfile (made_names made) → ArePlain (made_names made) → IsSfile m → w (z_file m) ≡ None → all_moved w (moves_in v made) (z_file m) ≡ None
+z_moved : (made : List PreparedEntry) (v w : View) (m : List ℕ) → AllByRecursion IsSfile (made_names made) → ArePlain (made_names made) → IsSfile m → w (z_file m) ≡ None → all_moved w (moves_in v w made) (z_file m) ≡ None
 z_moved [] v w m sfiles plain other none = none
 z_moved (x ∷ made) v w m sfiles plain other none =
-    z_moved made v (placed w x.name (files_after x.name (plan_of x.prepared) v)) m sfiles.1 plain.1 other (z_placed x.name m w (files_after x.name (plan_of x.prepared) v) refl sfiles.0 other plain.0 none)
+    z_moved made v (placed w x.name (files_in v w x)) m sfiles.1 plain.1 other (z_placed x.name m w (files_in v w x) refl sfiles.0 other plain.0 none)
 
-intent_moved : (made : List PreparedEntry) (v w : View) → AllByRecursion IsSfile (made_names made) → ArePlain (made_names made) → all_moved w (moves_in v made) intent_file ≡ w intent_file
+intent_moved : (made : List PreparedEntry) (v w : View) → AllByRecursion IsSfile (made_names made) → ArePlain (made_names made) → all_moved w (moves_in v w made) intent_file ≡ w intent_file
 intent_moved [] v w sfiles plain = refl
 intent_moved (x ∷ made) v w sfiles plain =
-    intent_moved made v (placed w x.name (files_after x.name (plan_of x.prepared) v)) sfiles.1 plain.1
-    ∙ placed_other x.name intent_file w (Some (files_after x.name (plan_of x.prepared) v)) (sfile_and_intent x.name sfiles.0) refl refl (unkept_intent (drop 2 x.name) plain.0.kept) refl
+    intent_moved made v (placed w x.name (files_in v w x)) sfiles.1 plain.1
+    ∙ placed_other x.name intent_file w (Some (files_in v w x)) (sfile_and_intent x.name sfiles.0) refl refl (unkept_intent (drop 2 x.name) plain.0.kept) refl
 
 -- ---- the whole
 
@@ -204,13 +201,13 @@ all_announced (x ∷ made) ms v sfiles plain =
 
 -- working files and the plan apart, it is what the steps of the entries make
 pub completed_at : (made : List PreparedEntry) (u v : View) → AreDifferent (made_names made) → ArePlain (made_names made) → AreHeld u v made → Alike (is_any_left (made_names made)) v u → u intent_file ≡ None
-    → (k : List ℕ) → is_group_working (made_names made) k ≡ false → completed (map member_of made) (announced (map member_of made) v) k ≡ all_moved u (moves_in v made) k
+    → (k : List ℕ) → is_group_working (made_names made) k ≡ false → completed (map member_of made) (announced (map member_of made) v) k ≡ all_moved u (moves_in v u made) k
 completed_at made u v different plain held alike none k h = by_intent (name_cases intent_file k)
   where
-    by_left : (b : Bool) → is_any_left (made_names made) k ≡ b → bytes_eq intent_file k ≡ false → completed (map member_of made) (announced (map member_of made) v) k ≡ all_moved u (moves_in v made) k
+    by_left : (b : Bool) → is_any_left (made_names made) k ≡ b → bytes_eq intent_file k ≡ false → completed (map member_of made) (announced (map member_of made) v) k ≡ all_moved u (moves_in v u made) k
     by_left true left other =
         let one = z_of made u v k held left (left_false (is_any_working (made_names made) k) _ h) (without_name intent_file (each_by group.placed (map member_of made) (announced (map member_of made) v))) in
-        one.1 ∙ sym (subst (λ (l : List ℕ). all_moved u (moves_in v made) l ≡ None) one.0.2
+        one.1 ∙ sym (subst (λ (l : List ℕ). all_moved u (moves_in v u made) l ≡ None) one.0.2
         (z_moved made v u one.0.0 (held_sfiles u v made held) plain one.0.1 (ap u one.0.2 ∙ z_free made u v k held left (left_false (is_any_working (made_names made) k) _ h))))
     by_left false out other =
         unlocked_kept made (without_name intent_file (each_by group.placed (map member_of made) (announced (map member_of made) v))) k out
@@ -221,9 +218,9 @@ completed_at made u v different plain held alike none k h = by_intent (name_case
         (λ l away. announced_other (map member_of made) v l (right_false (is_any_left (made_names made) l) _ away) ∙ alike l (left_false (is_any_left (made_names made) l) _ away))
         k (both_false (is_any_left (made_names made) k) _ out (both_false (bytes_eq plan_file k) _ (right_false (is_any_working (made_names made) k) _ h) other)))
 
-    by_intent : (intent_file ≡ k) ⊎ (bytes_eq intent_file k ≡ false) → completed (map member_of made) (announced (map member_of made) v) k ≡ all_moved u (moves_in v made) k
+    by_intent : (intent_file ≡ k) ⊎ (bytes_eq intent_file k ≡ false) → completed (map member_of made) (announced (map member_of made) v) k ≡ all_moved u (moves_in v u made) k
     by_intent (inl is) =
-        subst (λ (l : List ℕ). completed (map member_of made) (announced (map member_of made) v) l ≡ all_moved u (moves_in v made) l) is
+        subst (λ (l : List ℕ). completed (map member_of made) (announced (map member_of made) v) l ≡ all_moved u (moves_in v u made) l) is
         (unlocked_none made (without_name intent_file (each_by group.placed (map member_of made) (announced (map member_of made) v))) intent_file (put_same (each_by group.placed (map member_of made) (announced (map member_of made) v)) intent_file None)
         ∙ sym (intent_moved made v u (held_sfiles u v made held) plain ∙ none))
     by_intent (inr other) = by_left (is_any_left (made_names made) k) refl other

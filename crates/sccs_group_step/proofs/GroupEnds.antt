@@ -9,7 +9,7 @@ use Rattle.sccs_sid.specs.declared.refusals.Refusal.TheVariants.{GroupPending}
 use Rattle.sccs_sid.specs.declared.refusals.StepFault.{StepFault}
 use Rattle.sccs_sid.specs.declared.refusals.StepFault.TheVariants.{Refused, Memory, ReadFault, WriteFault, DiskFault}
 use Rattle.sccs_disk.specs.Files.{Content, View}
-use Rattle.sccs_files.specs.StepFiles.{Alike}
+use Rattle.sccs_files.specs.StepFiles.{Alike, moved}
 use Rattle.sccs_intents.specs.Intents.{intent_file, plan_file}
 use Rattle.sccs_moments.specs.Recovery.{without_name}
 use Rattle.sccs_moments.proofs.FileNames.{left_false, right_false}
@@ -26,7 +26,7 @@ use Rattle.sccs_group.specs.declared.members.Member.{Member}
 use Rattle.sccs_group_words.specs.declared.entries.GroupEntry.{GroupEntry}
 use Rattle.sccs_group_step.specs.GroupStep.{entry_steps, group_step, headed, joined, joint_step, names_of, refused_step, reports_of}
 use Rattle.sccs_group_step.specs.Making.{ChecksNone, CommitsJoint, Finishes, IsCut, IsHalfMade, IsMade, IsSaid, MadeMeets, MeetsGroup, PlacesSome, StopMeets, all_made, is_group_working, member_of, messages_in, reports_in, several}
-use Rattle.sccs_group_step.specs.Preparing.{AreAllPrepared, AreDifferent, ArePlain, Between, GivesAllBack, GivesUpAt, IsGivenBack, PreparesAll, all_abandoned, is_any_left, is_any_working, made_names, sfiles_of, step_of}
+use Rattle.sccs_group_step.specs.Preparing.{AreAllPrepared, AreDifferent, ArePlain, Between, GivesAllBack, GivesUpAt, IsGivenBack, PreparesAll, all_abandoned, is_any_left, is_any_working, files_in, made_names, sfiles_of, steps_in}
 use Rattle.sccs_group_step.specs.declared.entries.PreparedEntry.{PreparedEntry}
 use Rattle.sccs_group_step.proofs.Backs.{all_gone, all_kept, z_free}
 use Rattle.sccs_group_step.proofs.Cleared.{made_clears}
@@ -146,28 +146,28 @@ stopped_group stamp entries own n DiskFault o o2 out err read write none ends = 
 
 -- ---- all are prepared
 
-length_of : (v : View) (made : List PreparedEntry) → length (map (step_of v) made) ≡ length made
-length_of v [] = refl
-length_of v (x ∷ made) = ap suc (length_of v made)
+length_of : (v t : View) (made : List PreparedEntry) → length (steps_in v t made) ≡ length made
+length_of v t [] = refl
+length_of v t (x ∷ made) = ap suc (length_of v (moved t x.name (Some (files_in v t x))) made)
 
-reports_are : (heading : Bool) (v : View) (made : List PreparedEntry) → reports_of heading (map (step_of v) made) ≡ reports_in heading made
-reports_are heading v [] = refl
-reports_are heading v (x ∷ made) = ap (λ (text : List ℕ). headed heading x.name x.prepared.report ++ text) (reports_are heading v made)
+reports_are : (heading : Bool) (v t : View) (made : List PreparedEntry) → reports_of heading (steps_in v t made) ≡ reports_in heading made
+reports_are heading v t [] = refl
+reports_are heading v t (x ∷ made) = ap (λ (text : List ℕ). headed heading x.name x.prepared.report ++ text) (reports_are heading v (moved t x.name (Some (files_in v t x))) made)
 
-messages_are : (v : View) (made : List PreparedEntry) → err_of (map (step_of v) made) ≡ messages_in made
-messages_are v [] = refl
-messages_are v (x ∷ made) = ap (λ (text : List ℕ). x.prepared.message ++ text) (messages_are v made)
+messages_are : (v t : View) (made : List PreparedEntry) → err_of (steps_in v t made) ≡ messages_in made
+messages_are v t [] = refl
+messages_are v t (x ∷ made) = ap (λ (text : List ℕ). x.prepared.message ++ text) (messages_are v (moved t x.name (Some (files_in v t x))) made)
 
-out_is : (v : View) (made : List PreparedEntry) → (joint_step (map (step_of v) made)).effect.out ≡ reports_in (several made) made
-out_is v made = ap (λ count. reports_of (nat_lt 1 count) (map (step_of v) made)) (length_of v made) ∙ reports_are (several made) v made
+out_is : (v t : View) (made : List PreparedEntry) → (joint_step (steps_in v t made)).effect.out ≡ reports_in (several made) made
+out_is v t made = ap (λ count. reports_of (nat_lt 1 count) (steps_in v t made)) (length_of v t made) ∙ reports_are (several made) v t made
 
 -- the steps of all are the group's
-pub joint_is : (stamp : Stamp) (entries : List GroupEntry) (made : List PreparedEntry) (u v : View) → u intent_file ≡ None → entry_steps stamp u entries ≡ Ok (map (step_of v) made) → joint_step (map (step_of v) made) ≡ of_group stamp entries u
+pub joint_is : (stamp : Stamp) (entries : List GroupEntry) (made : List PreparedEntry) (u v : View) → u intent_file ≡ None → entry_steps stamp u entries ≡ Ok (steps_in v u made) → joint_step (steps_in v u made) ≡ of_group stamp entries u
 joint_is stamp entries made u v none is = sym (free_group stamp entries u none ∙ ap (joined (names_of entries)) is)
 
-is_made : (made : List PreparedEntry) (names : List (List ℕ)) (u v : View) → AreDifferent names → ArePlain names → AreAllPrepared u v names made → u intent_file ≡ None → IsMade names (joint_step (map (step_of v) made)) u (all_made made v)
+is_made : (made : List PreparedEntry) (names : List (List ℕ)) (u v : View) → AreDifferent names → ArePlain names → AreAllPrepared u v names made → u intent_file ≡ None → IsMade names (joint_step (steps_in v u made)) u (all_made made v)
 is_made made names u v different plain all none =
-    subst (λ (ns : List (List ℕ)). IsMade ns (joint_step (map (step_of v) made)) u (all_made made v)) all.names_are
+    subst (λ (ns : List (List ℕ)). IsMade ns (joint_step (steps_in v u made)) u (all_made made v)) all.names_are
     (record {
       view = λ k h. completed_at made u v (subst AreDifferent (sym all.names_are) different) (subst ArePlain (sym all.names_are) plain) all.held alike none k h;
       cleared = λ k h. made_clears made u v (subst AreDifferent (sym all.names_are) different) (subst ArePlain (sym all.names_are) plain) all.held alike k h;
@@ -185,7 +185,7 @@ finished_by stamp entries made (Some u) None o3 out out2 err err2 done different
 finished_by stamp entries made (Some u) (Some v) o3 out out2 err err2 done different plain none all fin =
     subst (λ (o : Option View). MadeMeets (names_of entries) (of_group stamp entries) (world (Some u) out err) (world o out2 err2)) (sym fin.0)
     (subst (λ (t : NamedStep). (t.effect.status ≡ 0) × IsMade (names_of entries) t u (all_made made v) × IsSaid t.effect (world (Some u) out err) (world (Some (all_made made v)) out2 err2)) (joint_is stamp entries made u v none all.0)
-    (refl, is_made made (names_of entries) u v different plain all.1 none, record { out = subst (λ (text : List ℕ). GivesOk out out2 text) (sym (out_is v made)) fin.1; err = subst (λ (text : List ℕ). GivesOk err err2 text) (sym (messages_are v made)) fin.2 }))
+    (refl, is_made made (names_of entries) u v different plain all.1 none, record { out = subst (λ (text : List ℕ). GivesOk out out2 text) (sym (out_is v u made)) fin.1; err = subst (λ (text : List ℕ). GivesOk err err2 text) (sym (messages_are v u made)) fin.2 }))
 
 cut_group : (stamp : Stamp) (entries : List GroupEntry) (made : List PreparedEntry) (n : List ℕ) (o o2 o3 : Option View) (out out2 err err2 : Option (List ℕ)) → AreDifferent (names_of entries) → ArePlain (names_of entries) → IfSome o (λ (v : View). v intent_file ≡ None)
     → Between (λ u v. PreparesAll (Ok made) (names_of entries) (entry_steps stamp u entries) u v) o o2 → Finishes (Err WriteFault) made (world o2 out err) (world o3 out2 err2)
@@ -195,7 +195,7 @@ cut_group stamp entries made n (Some u) None o3 out out2 err err2 different plai
 cut_group stamp entries made n (Some u) (Some v) o3 out out2 err err2 different plain none all fin =
     subst (λ (o : Option View). StopMeets WriteFault n (names_of entries) (names_of entries) (of_group stamp entries) (world (Some u) out err) (world o out2 err2)) (sym fin.0)
     (subst (λ (t : NamedStep). IsMade (names_of entries) t u (all_made made v) × IsCut t.effect (world (Some u) out err) (world (Some (all_made made v)) out2 err2)) (joint_is stamp entries made u v none all.0)
-    (is_made made (names_of entries) u v different plain all.1 none, record { out = subst (λ (text : List ℕ). GivesSome out out2 text) (sym (out_is v made)) fin.1; err = subst (λ (text : List ℕ). GivesSome err err2 text) (sym (messages_are v made)) fin.2 }))
+    (is_made made (names_of entries) u v different plain all.1 none, record { out = subst (λ (text : List ℕ). GivesSome out out2 text) (sym (out_is v u made)) fin.1; err = subst (λ (text : List ℕ). GivesSome err err2 text) (sym (messages_are v u made)) fin.2 }))
 
 -- the names are all those of s-files
 pub finished_group : (stamp : Stamp) (entries : List GroupEntry) (made : List PreparedEntry) (o o2 o3 : Option View) (out out2 err err2 : Option (List ℕ)) (done : Unit {0}) → AreDifferent (names_of entries) → ArePlain (names_of entries) → sfiles_of (names_of entries) ≡ names_of entries

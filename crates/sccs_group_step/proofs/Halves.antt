@@ -1,10 +1,10 @@
 -- Some first of the new files of a group are those of its steps, in the order of a commit.
-use Rattle.std.proofs.Common.{◌≡◌, ℕ, zero, suc, Bool, false, cond, List, [], ◌∷◌, map, Option, None, Some, refl, sym, ap, subst, ◌∙◌, ⊎_elim}
+use Rattle.std.proofs.Common.{◌≡◌, ℕ, zero, suc, Bool, false, cond, List, [], ◌∷◌, map, Option, None, Some, refl, sym, ap, subst, ◌∙◌}
 use Rattle.std.specs.Str.{bytes_eq}
 use Rattle.sccs_base.specs.Name.{IsSfile, p_file, x_file, y_file}
 use Rattle.sccs_disk.specs.Files.{Content, View, put}
 use Rattle.sccs_disk.specs.Told.{Shows}
-use Rattle.sccs_disk.proofs.Puts.{name_cases, put_other, put_same}
+use Rattle.sccs_disk.proofs.Puts.{put_other}
 use Rattle.sccs_files.specs.StepFiles.{Alike, Files, Moves, is_left, l_file, moved}
 use Rattle.sccs_intents.specs.Intents.{plan_file}
 use Rattle.sccs_moments.specs.Recovery.{without_name}
@@ -21,12 +21,13 @@ use Rattle.sccs_group.specs.Members.{p_taken, taken}
 use Rattle.sccs_group.specs.Members as group
 use Rattle.sccs_group.specs.declared.members.Member.{Member}
 use Rattle.sccs_group_step.specs.GroupStep.{joint_step}
+use Rattle.sccs_group_step.specs.LFiles.{files_with_l}
 use Rattle.sccs_group_step.specs.Making.{IsHalfMade, PlacesSome, fate_of, is_group_left, member_of}
-use Rattle.sccs_group_step.specs.Preparing.{AreAllPrepared, AreDifferent, ArePlain, is_any_left, made_names, step_of}
+use Rattle.sccs_group_step.specs.Preparing.{AreAllPrepared, AreDifferent, ArePlain, files_in, is_any_left, made_names, steps_in}
 use Rattle.sccs_group_step.specs.declared.entries.PreparedEntry.{PreparedEntry}
-use Rattle.sccs_group_step.proofs.Apart.{placed_alike}
+use Rattle.sccs_group_step.proofs.Apart.{l_alike, l_stays, placed_alike}
 use Rattle.sccs_group_step.proofs.Completed.{all_elsewhere, all_then, moves_in, p_is_taken, placed_at, q_there, s_taken}
-use Rattle.sccs_group_step.proofs.SoFars.{AreHeld, AreSame, all_held, files_same}
+use Rattle.sccs_group_step.proofs.SoFars.{AreHeld, AreSame, all_held, files_in_same}
 
 -- ---- one member
 
@@ -37,10 +38,6 @@ count_of (suc zero) = 2
 count_of (suc (suc zero)) = 3
 count_of (suc (suc (suc zero))) = 3
 count_of (suc (suc (suc (suc some)))) = 4
-
--- the l-file stays
-l_stays : (n : List ℕ) (v : View) (k : List ℕ) → put v (l_file n) (v (l_file n)) k ≡ v k
-l_stays n v k = ⊎_elim (λ e. subst (λ (l : List ℕ). put v (l_file n) (v (l_file n)) l ≡ v l) e (put_same v (l_file n) (v (l_file n)))) (λ other. put_other v (l_file n) k (v (l_file n)) other) (name_cases (l_file n) k)
 
 one_at : (x : PreparedEntry) (w : View) (k : List ℕ) → IsDeltaPlan x.prepared → IsReady x.name x.prepared (Shows w) → is_left x.name k ≡ false → part_placed 1 (member_of x) w k ≡ put w x.name (files_after x.name (plan_of x.prepared) w).s k
 one_at x w k kind ready h = ap (λ (v : View). v k) (s_taken x.name w x.prepared.new_s kind.s ready.s) ∙ first_is x.name (plan_of x.prepared) w k (no_working x.name k h)
@@ -70,44 +67,44 @@ part_at (suc (suc zero)) x w k sfile kind ready h = two_at x w k sfile kind read
 part_at (suc (suc (suc zero))) x w k sfile kind ready h = put_other (part_placed 2 (member_of x) w) (y_file x.name) k None (no_y x.name k (no_working x.name k h)) ∙ (two_at x w k sfile kind ready h ∙ behind_l x w k)
 part_at (suc (suc (suc (suc some)))) x w k sfile kind ready h = placed_at x w k sfile kind ready h
 
-first_like : (i : ℕ) (n k : List ℕ) (f : Files) (u v : View) → v k ≡ u k → first_moved i v n (Some f) k ≡ first_moved i u n (Some f) k
+first_like : (i : ℕ) (n k : List ℕ) (f : Files) (u v : View) → v k ≡ u k → first_moved i v n (Some (files_with_l (v (l_file n)) f)) k ≡ first_moved i u n (Some (files_with_l (u (l_file n)) f)) k
 first_like zero n k f u v same = same
-first_like (suc zero) n k f u v same = ap (λ (o : Option Content). cond (bytes_eq (l_file n) k) f.l o) same
-first_like (suc (suc zero)) n k f u v same = ap (λ (o : Option Content). cond (bytes_eq n k) f.s (cond (bytes_eq (l_file n) k) f.l o)) same
-first_like (suc (suc (suc zero))) n k f u v same = ap (λ (o : Option Content). cond (bytes_eq (p_file n) k) f.p (cond (bytes_eq n k) f.s (cond (bytes_eq (l_file n) k) f.l o))) same
-first_like (suc (suc (suc (suc i)))) n k f u v same = placed_alike n k u v (Some f) same
+first_like (suc zero) n k f u v same = l_alike n k u v same
+first_like (suc (suc zero)) n k f u v same = ap (λ (o : Option Content). cond (bytes_eq n k) f.s o) (l_alike n k u v same)
+first_like (suc (suc (suc zero))) n k f u v same = ap (λ (o : Option Content). cond (bytes_eq (p_file n) k) f.p (cond (bytes_eq n k) f.s o)) (l_alike n k u v same)
+first_like (suc (suc (suc (suc i)))) n k f u v same = placed_alike n k u v f same
 
 -- ---- all members
 
 -- so it is but for some files
 abbrev AgreesIn : (List ℕ → Bool) → ℕ → ℕ → ℕ → List PreparedEntry → View → View → View → Type 0
-AgreesIn mine whole some i made v w w2 = (k : List ℕ) → mine k ≡ false → first_placed whole some (map member_of made) w k ≡ first_moves whole i w2 (moves_in v made) k
+AgreesIn mine whole some i made v w w2 = (k : List ℕ) → mine k ≡ false → first_placed whole some (map member_of made) w k ≡ first_moves whole i w2 (moves_in v w2 made) k
 
 each_first : (mine : List ℕ → Bool) (whole some : ℕ) (made : List PreparedEntry) (u v w w2 : View) → AreDifferent (made_names made) → ArePlain (made_names made) → AreHeld u w made → AreSame v w made
     → ((k : List ℕ) → mine k ≡ false → is_any_left (made_names made) k ≡ false) → ((k : List ℕ) → mine k ≡ false → w k ≡ w2 k) → AgreesIn mine whole some (count_of some) made v w w2
 each_first mine whole some [] u v w w2 different plain held same parts agree = agree
 each_first mine zero some (x ∷ made) u v w w2 different plain held same parts agree = λ k h.
     part_at some x w k held.0.sfile held.0.kind held.0.ready (left_false (is_left x.name k) _ (parts k h))
-    ∙ (ap (λ (f : Files). first_moved (count_of some) w x.name (Some f) k) (files_same x.name (plan_of x.prepared) v w same.0)
+    ∙ (ap (λ (f : Files). first_moved (count_of some) w x.name (Some f) k) (files_in_same x v w w same.0)
     ∙ first_like (count_of some) x.name k (files_after x.name (plan_of x.prepared) v) w2 w (agree k h))
 each_first mine (suc whole) some (x ∷ made) u v w w2 different plain held same parts agree =
     let after : AreSame w (group.placed (member_of x) w) made = all_elsewhere made x u w held.0 plain.0 different.0 plain.1 held.1 in
-    each_first mine whole some made u v (group.placed (member_of x) w) (moved w2 x.name (Some (files_after x.name (plan_of x.prepared) v))) different.1 plain.1 (all_held made u w (group.placed (member_of x) w) after held.1)
+    each_first mine whole some made u v (group.placed (member_of x) w) (moved w2 x.name (Some (files_in v w2 x))) different.1 plain.1 (all_held made u w (group.placed (member_of x) w) after held.1)
     (all_then made v w (group.placed (member_of x) w) same.1 after) (λ l free. right_false (is_left x.name l) _ (parts l free)) (λ l free. one l free)
   where
-    one : (l : List ℕ) → mine l ≡ false → group.placed (member_of x) w l ≡ moved w2 x.name (Some (files_after x.name (plan_of x.prepared) v)) l
+    one : (l : List ℕ) → mine l ≡ false → group.placed (member_of x) w l ≡ moved w2 x.name (Some (files_in v w2 x)) l
     one l free =
         placed_at x w l held.0.sfile held.0.kind held.0.ready (left_false (is_left x.name l) _ (parts l free))
-        ∙ (ap (λ (f : Files). moved w x.name (Some f) l) (files_same x.name (plan_of x.prepared) v w same.0) ∙ placed_alike x.name l w2 w (Some (files_after x.name (plan_of x.prepared) v)) (agree l free))
+        ∙ (ap (λ (f : Files). moved w x.name (Some f) l) (files_in_same x v w w same.0) ∙ placed_alike x.name l w2 w (files_after x.name (plan_of x.prepared) v) (agree l free))
 
 all_self : (made : List PreparedEntry) (v : View) → AreSame v v made
 all_self [] v = tt
-all_self (x ∷ made) v = (record { s = refl; p = refl; z = refl; g = refl; x = refl; q = refl; y = refl; l = refl }, all_self made v)
+all_self (x ∷ made) v = (record { s = refl; p = refl; z = refl; g = refl; x = refl; q = refl; y = refl }, all_self made v)
 
 half_of : (made : List PreparedEntry) (names : List (List ℕ)) (u v w : View) (whole some : ℕ) → AreDifferent names → ArePlain names → AreAllPrepared u v names made → Alike (is_group_left (made_names made)) w (first_placed whole some (map member_of made) v)
-    → IsHalfMade names (joint_step (map (step_of v) made)) u w
+    → IsHalfMade names (joint_step (steps_in v u made)) u w
 half_of made names u v w whole some different plain all halfway =
-    subst (λ (ns : List (List ℕ)). IsHalfMade ns (joint_step (map (step_of v) made)) u w) all.names_are
+    subst (λ (ns : List (List ℕ)). IsHalfMade ns (joint_step (steps_in v u made)) u w) all.names_are
     (record {
       whole = suc whole;
       some = count_of some;
@@ -121,7 +118,7 @@ half_of made names u v w whole some different plain all halfway =
 
 -- some first of the new files are in their places
 pub half_made : (made : List PreparedEntry) (names : List (List ℕ)) (u v : View) (o : Option View) → AreDifferent names → ArePlain names → AreAllPrepared u v names made → PlacesSome (made_names made) (map member_of made) (Some v) o
-    → (w : View) × (o ≡ Some w) × IsHalfMade names (joint_step (map (step_of v) made)) u w
+    → (w : View) × (o ≡ Some w) × IsHalfMade names (joint_step (steps_in v u made)) u w
 half_made made names u v None different plain all (whole, some, moves) = absurd moves
 half_made made names u v (Some w) different plain all (whole, some, moves) = (w, refl, half_of made names u v w whole some different plain all moves)
 

@@ -11,6 +11,7 @@ pub mod GroupedEntries
 mod Halves
 mod Losing
 mod OtherFiles
+mod OtherLists
 mod SoFars
 mod Speaking
 pub mod StepsAhead

@@ -1,5 +1,5 @@
 -- The entries of a group that are prepared so far.
-use Rattle.std.proofs.Common.{◌≡◌, ◌+◌, ℕ, zero, suc, true, false, List, [], ◌∷◌, ◌++◌, drop, take, map, Option, None, Some, IsSome, Ok, Err, refl, sym, ap, subst, ◌∙◌}
+use Rattle.std.proofs.Common.{◌≡◌, ◌+◌, ℕ, zero, suc, true, false, List, [], ◌∷◌, ◌++◌, drop, take, Option, None, Some, IsSome, Ok, Err, refl, sym, ap, subst, ◌∙◌}
 use Rattle.std.proofs.lemmas.List.{map-append}
 use Rattle.std.proofs.lemmas.List.Folds.{list_any-append}
 use Rattle.std.specs.List.{AllByRecursion}
@@ -9,7 +9,7 @@ use Rattle.sccs_base.proofs.SameBytes.{bytes_eq_sym}
 use Rattle.sccs_sid.specs.declared.moments.Stamp.{Stamp}
 use Rattle.sccs_disk.specs.Files.{Content, View}
 use Rattle.sccs_disk.specs.Told.{Shows}
-use Rattle.sccs_files.specs.StepFiles.{Alike, Files, is_left, l_file}
+use Rattle.sccs_files.specs.StepFiles.{Alike, Files, is_left, l_file, moved}
 use Rattle.sccs_intents.specs.Intents.{intent_file}
 use Rattle.sccs_pfile.specs.Recovered.{recovered_pfile}
 use Rattle.sccs_steps.specs.StepLists.{NamedStep, named_step}
@@ -24,10 +24,12 @@ use Rattle.sccs_transactions.specs.Changes.{AreTakenOrGone, IsReady, IsTakenOrGo
 use Rattle.sccs_transactions.specs.declared.prepared.Prepared.{Prepared}
 use Rattle.sccs_group_words.specs.declared.entries.GroupEntry.{GroupEntry}
 use Rattle.sccs_group_step.specs.GroupStep.{EntrySteps, entry_outcome, entry_steps, names_of}
-use Rattle.sccs_group_step.specs.Preparing.{AreDifferent, ArePlain, Between, IsHeldEntry, IsPlainName, IsPreparedEntry, PreparesAll, effect_by, is_among, is_any_left, made_names, step_of}
+use Rattle.sccs_group_step.specs.LFiles.{AgreeButL, files_with_l, with_l}
+use Rattle.sccs_group_step.specs.Preparing.{AreDifferent, ArePlain, Between, IsHeldEntry, IsPlainName, IsPreparedEntry, PreparesAll, effect_in, files_in, is_among, is_any_left, made_names, steps_in}
 use Rattle.sccs_group_step.specs.declared.entries.PreparedEntry.{PreparedEntry}
-use Rattle.sccs_group_step.proofs.Apart.{SameFiles, outside_any, outside_one, same_files, same_look}
-use Rattle.sccs_group_step.proofs.StepsAhead.{accepted_next, put_all, same_outcome}
+use Rattle.sccs_group_step.proofs.Apart.{SameFiles, files_elsewhere, outside_any, outside_one, same_files}
+use Rattle.sccs_group_step.proofs.OtherLists.{entry_keeps_l}
+use Rattle.sccs_group_step.proofs.StepsAhead.{accepted_next, put_all}
 
 -- ---- names at a place
 
@@ -88,19 +90,18 @@ taken_from n c u v w same taken = record {
 abbrev files_of : Option Content → Option Content → Option Content → Option Content → Files
 files_of s p g l = record { s = s; p = p; z = None; g = g; l = l }
 
-pub files_same : (n : List ℕ) (c : Plan) (v w : View) → SameFiles n v w → files_after n c w ≡ files_after n c v
-files_same n c v w same =
-    ap (λ (o : Option Content). files_of (chosen c.s o (w n)) (chosen c.p (w (q_file n)) (w (p_file n))) (chosen c.g (w (y_file n)) (w (drop 2 n))) (w (l_file n))) same.x
-    ∙ (ap (λ (o : Option Content). files_of (chosen c.s (v (x_file n)) o) (chosen c.p (w (q_file n)) (w (p_file n))) (chosen c.g (w (y_file n)) (w (drop 2 n))) (w (l_file n))) same.s
-    ∙ (ap (λ (o : Option Content). files_of (chosen c.s (v (x_file n)) (v n)) (chosen c.p o (w (p_file n))) (chosen c.g (w (y_file n)) (w (drop 2 n))) (w (l_file n))) same.q
-    ∙ (ap (λ (o : Option Content). files_of (chosen c.s (v (x_file n)) (v n)) (chosen c.p (v (q_file n)) o) (chosen c.g (w (y_file n)) (w (drop 2 n))) (w (l_file n))) same.p
-    ∙ (ap (λ (o : Option Content). files_of (chosen c.s (v (x_file n)) (v n)) (chosen c.p (v (q_file n)) (v (p_file n))) (chosen c.g o (w (drop 2 n))) (w (l_file n))) same.y
-    ∙ (ap (λ (o : Option Content). files_of (chosen c.s (v (x_file n)) (v n)) (chosen c.p (v (q_file n)) (v (p_file n))) (chosen c.g (v (y_file n)) o) (w (l_file n))) same.g
-    ∙ ap (λ (o : Option Content). files_of (chosen c.s (v (x_file n)) (v n)) (chosen c.p (v (q_file n)) (v (p_file n))) (chosen c.g (v (y_file n)) (v (drop 2 n))) o) same.l)))))
+pub files_same : (n : List ℕ) (c : Plan) (v w : View) (l : Option Content) → SameFiles n v w → files_with_l l (files_after n c w) ≡ files_with_l l (files_after n c v)
+files_same n c v w l same =
+    ap (λ (o : Option Content). files_of (chosen c.s o (w n)) (chosen c.p (w (q_file n)) (w (p_file n))) (chosen c.g (w (y_file n)) (w (drop 2 n))) l) same.x
+    ∙ (ap (λ (o : Option Content). files_of (chosen c.s (v (x_file n)) o) (chosen c.p (w (q_file n)) (w (p_file n))) (chosen c.g (w (y_file n)) (w (drop 2 n))) l) same.s
+    ∙ (ap (λ (o : Option Content). files_of (chosen c.s (v (x_file n)) (v n)) (chosen c.p o (w (p_file n))) (chosen c.g (w (y_file n)) (w (drop 2 n))) l) same.q
+    ∙ (ap (λ (o : Option Content). files_of (chosen c.s (v (x_file n)) (v n)) (chosen c.p (v (q_file n)) o) (chosen c.g (w (y_file n)) (w (drop 2 n))) l) same.p
+    ∙ (ap (λ (o : Option Content). files_of (chosen c.s (v (x_file n)) (v n)) (chosen c.p (v (q_file n)) (v (p_file n))) (chosen c.g o (w (drop 2 n))) l) same.y
+    ∙ ap (λ (o : Option Content). files_of (chosen c.s (v (x_file n)) (v n)) (chosen c.p (v (q_file n)) (v (p_file n))) (chosen c.g (v (y_file n)) o) l) same.g))))
 
 keeps_kept : (n : List ℕ) (c : Plan) (v w : View) → SameFiles n v w → KeepsEntries n c v → KeepsEntries n c w
 keeps_kept n c v w same keeps =
-    let files : files_after n c w ≡ files_after n c v = files_same n c v w same in
+    let files : files_with_l None (files_after n c w) ≡ files_with_l None (files_after n c v) = files_same n c v w None same in
     record {
       leaves = subst (λ (f : Files). OnChange c.s (recovered_pfile f.s (w (p_file n)) ≡ f.p)) (sym files) (subst (λ (o : Option Content). OnChange c.s (recovered_pfile (files_after n c v).s o ≡ (files_after n c v).p)) (sym same.p) keeps.leaves);
       sound = subst (λ (f : Files). recovered_pfile f.s f.p ≡ f.p) (sym files) keeps.sound;
@@ -133,9 +134,8 @@ intent_left : (names : List (List ℕ)) → is_any_left names intent_file ≡ fa
 intent_left [] = refl
 intent_left (n ∷ names) = intent_left names
 
-step_same : (x : PreparedEntry) (v w : View) → SameFiles x.name v w → step_of w x ≡ step_of v x
-step_same x v w same =
-    ap (λ (f : Files). named_step x.name (Ok (record { new = Some f; text = []; out = x.prepared.report; err = x.prepared.message; status = 0 }))) (files_same x.name (plan_of x.prepared) v w same)
+pub files_in_same : (x : PreparedEntry) (v w t : View) → SameFiles x.name v w → files_in w t x ≡ files_in v t x
+files_in_same x v w t same = files_same x.name (plan_of x.prepared) v w (t (l_file x.name)) same
 
 -- ---- all that are prepared
 
@@ -159,9 +159,39 @@ pub all_held : (made : List PreparedEntry) (u v w : View) → AreSame v w made �
 all_held [] u v w same held = tt
 all_held (x ∷ made) u v w same held = (held_kept u v w x.name x.prepared same.0 held.0, all_held made u v w same.1 held.1)
 
-all_steps : (made : List PreparedEntry) (v w : View) → AreSame v w made → map (step_of w) made ≡ map (step_of v) made
-all_steps [] v w same = refl
-all_steps (x ∷ made) v w same = ap (λ (t : NamedStep). t ∷ map (step_of w) made) (step_same x v w same.0) ∙ ap (λ (ts : List NamedStep). step_of v x ∷ ts) (all_steps made v w same.1)
+-- the view that their steps leave
+abbrev pub left_in : View → View → List PreparedEntry → View
+left_in v t [] = t
+left_in v t (x ∷ made) = left_in v (moved t x.name (Some (files_in v t x))) made
+
+abbrev step_with : PreparedEntry → Files → NamedStep
+step_with x f = named_step x.name (Ok (record { new = Some f; text = []; out = x.prepared.report; err = x.prepared.message; status = 0 }))
+
+steps_same : (made : List PreparedEntry) (v w t : View) → AreSame v w made → steps_in w t made ≡ steps_in v t made
+steps_same [] v w t same = refl
+steps_same (x ∷ made) v w t same =
+    ap (λ (f : Files). step_with x f ∷ steps_in w (moved t x.name (Some f)) made) (files_in_same x v w t same.0)
+    ∙ ap (λ (ts : List NamedStep). step_with x (files_in v t x) ∷ ts) (steps_same made v w (moved t x.name (Some (files_in v t x))) same.1)
+
+left_same : (made : List PreparedEntry) (v w t : View) → AreSame v w made → left_in w t made ≡ left_in v t made
+left_same [] v w t same = refl
+left_same (x ∷ made) v w t same = ap (λ (f : Files). left_in w (moved t x.name (Some f)) made) (files_in_same x v w t same.0) ∙ left_same made v w (moved t x.name (Some (files_in v t x))) same.1
+
+steps_more : (made : List PreparedEntry) (x : PreparedEntry) (v t : View) → steps_in v t (made ++ x ∷ []) ≡ steps_in v t made ++ step_with x (files_in v (left_in v t made) x) ∷ []
+steps_more [] x v t = refl
+steps_more (y ∷ made) x v t = ap (λ (ts : List NamedStep). step_with y (files_in v t y) ∷ ts) (steps_more made x v (moved t y.name (Some (files_in v t y))))
+
+left_behind : (made : List PreparedEntry) (x : PreparedEntry) (v t : View) → left_in v t (made ++ x ∷ []) ≡ moved (left_in v t made) x.name (Some (files_in v (left_in v t made) x))
+left_behind [] x v t = refl
+left_behind (y ∷ made) x v t = left_behind made x v (moved t y.name (Some (files_in v t y)))
+
+-- they leave the files of another name, but for its l-file
+left_agrees : (made : List PreparedEntry) (n : List ℕ) (v t : View) → IsSfile n → is_among (made_names made) n ≡ false → IsPlainName n → ArePlain (made_names made) → AllByRecursion IsSfile (made_names made) → AgreeButL n t (left_in v t made)
+left_agrees [] n v t sfile apart plain plains sfiles = record { s = refl; p = refl; z = refl; g = refl }
+left_agrees (x ∷ made) n v t sfile apart plain plains sfiles =
+    let same : SameFiles n t (moved t x.name (Some (files_in v t x))) = files_elsewhere x.name n t (files_in v t x) refl sfiles.0 sfile (left_false _ _ apart) plains.0 plain in
+    let rest : AgreeButL n (moved t x.name (Some (files_in v t x))) (left_in v t (x ∷ made)) = left_agrees made n v (moved t x.name (Some (files_in v t x))) sfile (right_false _ _ apart) plain plains.1 sfiles.1 in
+    record { s = rest.s ∙ same.s; p = rest.p ∙ same.p; z = rest.z ∙ same.z; g = rest.g ∙ same.g }
 
 held_more : (made : List PreparedEntry) (x : PreparedEntry) (u v : View) → AreHeld u v made → IsHeldEntry u v x.name x.prepared → AreHeld u v (made ++ x ∷ [])
 held_more [] x u v held one = (one, tt)
@@ -171,7 +201,7 @@ held_more (y ∷ made) x u v held one = (held.0, held_more made x u v held.1 one
 
 -- The entries before a place are prepared: their steps and those of the rest are all steps.
 pub record SoFar (stamp : Stamp) (entries : List GroupEntry) (i : ℕ) (made : List PreparedEntry) (u v : View) : Type 0 where
-  pub steps : entry_steps stamp u entries ≡ put_all (map (step_of v) made) (entry_steps stamp u (drop i entries))
+  pub steps : entry_steps stamp u entries ≡ put_all (steps_in v u made) (entry_steps stamp (left_in v u made) (drop i entries))
   pub names_are : made_names made ≡ names_of (take i entries)
   pub held : AreHeld u v made
   pub view : Alike (is_any_left (made_names made)) v u
@@ -189,15 +219,30 @@ pub same_next : (stamp : Stamp) (made : List PreparedEntry) (e : GroupEntry) (u 
     → SameFiles e.name u v
 same_next stamp made e u v sfile apart plain held alike = same_files (is_any_left (made_names made)) e.name u v (outside_any (made_names made) e.name (held_sfiles u v made held) sfile apart plain) alike
 
-pub next_outcome : (stamp : Stamp) (made : List PreparedEntry) (e : GroupEntry) (u v : View) → (is_sfile_name e.name ≡ true → IsSfile e.name) → is_among (made_names made) e.name ≡ false → IsPlainName e.name → AreHeld u v made
-    → Alike (is_any_left (made_names made)) v u → entry_outcome stamp v e ≡ entry_outcome stamp u e
-next_outcome stamp made e u v sfile apart plain held alike =
-    same_outcome stamp e u v (λ fits. let same = same_next stamp made e u v (sfile fits) apart plain held alike in same_look e.name u v same.s same.p same.z same.g same.l)
+-- the next entry's step, in the view that the steps before it leave: it is that of the view in which they are prepared, but for the
+-- l-file that it passes on
+pub next_outcome : (stamp : Stamp) (made : List PreparedEntry) (e : GroupEntry) (u v : View) → (is_sfile_name e.name ≡ true → IsSfile e.name) → is_among (made_names made) e.name ≡ false → IsPlainName e.name → ArePlain (made_names made) → AreHeld u v made
+    → Alike (is_any_left (made_names made)) v u → entry_outcome stamp (left_in v u made) e ≡ with_l (left_in v u made (l_file e.name)) (entry_outcome stamp v e)
+next_outcome stamp made e u v sfile apart plain plains held alike =
+    entry_keeps_l stamp e v (left_in v u made)
+    (λ fits. let same = same_next stamp made e u v (sfile fits) apart plain held alike in
+    let left = left_agrees made e.name v u (sfile fits) apart plain plains (held_sfiles u v made held) in
+    record { s = left.s ∙ sym same.s; p = left.p ∙ sym same.p; z = left.z ∙ sym same.z; g = left.g ∙ sym same.g })
 
 left_more : (names : List (List ℕ)) (n k : List ℕ) → is_any_left (names ++ n ∷ []) k ≡ false → (is_any_left names k ≡ false) × (is_left n k ≡ false)
 left_more names n k h =
     let both = sym (list_any-append (λ (m : List ℕ). is_left m k) names (n ∷ [])) ∙ h in
     (left_false (is_any_left names k) _ both, left_false (is_left n k) _ (right_false (is_any_left names k) _ both))
+
+-- the steps with the next one, and those of the rest behind them
+next_steps : (stamp : Stamp) (made : List PreparedEntry) (x : PreparedEntry) (rest : List GroupEntry) (u v w : View) → AreSame v w made
+    → put_all (steps_in w u (made ++ x ∷ [])) (entry_steps stamp (left_in w u (made ++ x ∷ [])) rest)
+    ≡ put_all (steps_in v u made ++ step_with x (files_in w (left_in v u made) x) ∷ []) (entry_steps stamp (moved (left_in v u made) x.name (Some (files_in w (left_in v u made) x))) rest)
+next_steps stamp made x rest u v w same =
+    ap (λ (ts : List NamedStep). put_all ts (entry_steps stamp (left_in w u (made ++ x ∷ [])) rest)) (steps_more made x w u)
+    ∙ (ap (λ (t : View). put_all (steps_in w u made ++ step_with x (files_in w (left_in w u made) x) ∷ []) (entry_steps stamp t rest)) (left_behind made x w u)
+    ∙ (ap (λ (ts : List NamedStep). put_all (ts ++ step_with x (files_in w (left_in w u made) x) ∷ []) (entry_steps stamp (moved (left_in w u made) x.name (Some (files_in w (left_in w u made) x))) rest)) (steps_same made v w u same)
+    ∙ ap (λ (t : View). put_all (steps_in v u made ++ step_with x (files_in w t x) ∷ []) (entry_steps stamp (moved t x.name (Some (files_in w t x))) rest)) (left_same made v w u same)))
 
 -- the next entry is prepared
 pub prepared_next : (stamp : Stamp) (entries : List GroupEntry) (i : ℕ) (made : List PreparedEntry) (e : GroupEntry) (p : Prepared) (u v w : View) → (is_sfile_name e.name ≡ true → IsSfile e.name) → AreDifferent (names_of entries) → ArePlain (names_of entries)
@@ -211,11 +256,11 @@ prepared_next stamp entries i made e p u v w fits different plain at more far on
     let plain_made : ArePlain (made_names made) = subst ArePlain (sym far.names_are) plains.2 in
     let same : AreSame v w made = all_same made e.name u v w one.held.sfile before plain_made far.held one.view in
     let own : SameFiles e.name u v = same_next stamp made e u v one.held.sfile before plains.0 far.held far.view in
-    let outcome : entry_outcome stamp u e ≡ Ok (effect_by w e.name p) = sym (next_outcome stamp made e u v fits before plains.0 far.held far.view) ∙ one.is in
+    let t : View = left_in v u made in
+    let outcome : entry_outcome stamp t e ≡ Ok (effect_in w t x) = next_outcome stamp made e u v fits before plains.0 plain_made far.held far.view ∙ ap (with_l (t (l_file e.name))) one.is in
     record {
-      steps = far.steps ∙ (ap (λ (es : List GroupEntry). put_all (map (step_of v) made) (entry_steps stamp u es)) at
-          ∙ (accepted_next stamp (map (step_of v) made) e (drop (i + 1) entries) u (effect_by w e.name p) one.held.sfile plains.0 apart.1 plains.1 outcome
-          ∙ ap (λ (ts : List NamedStep). put_all ts (entry_steps stamp u (drop (i + 1) entries))) (ap (λ (ts : List NamedStep). ts ++ step_of w x ∷ []) (sym (all_steps made v w same)) ∙ sym (map-append (step_of w) made (x ∷ [])))));
+      steps = far.steps ∙ (ap (λ (es : List GroupEntry). put_all (steps_in v u made) (entry_steps stamp t es)) at
+          ∙ (accepted_next stamp (steps_in v u made) e (drop (i + 1) entries) t (effect_in w t x) outcome ∙ sym (next_steps stamp made x (drop (i + 1) entries) u v w same)));
       names_are = map-append (λ (y : PreparedEntry). y.name) made (x ∷ []) ∙ (ap (λ (names : List (List ℕ)). names ++ e.name ∷ []) far.names_are
           ∙ (sym (map-append (λ (y : GroupEntry). y.name) (take i entries) (e ∷ [])) ∙ ap names_of (sym more)));
       held = held_more made x u w (all_held made u v w same far.held) (held_from u v w e.name p (far.view intent_file (intent_left (made_names made))) own one.held);
@@ -228,7 +273,7 @@ prepared_next stamp entries i made e p u v w fits different plain at more far on
 all_of : (stamp : Stamp) (entries : List GroupEntry) (i : ℕ) (made : List PreparedEntry) (u v : View) → drop i entries ≡ [] → take i entries ≡ entries → SoFar stamp entries i made u v → PreparesAll (Ok made) (names_of entries) (entry_steps stamp u entries) u v
 all_of stamp entries i made u v none all far =
     let names = far.names_are ∙ ap names_of all in (
-      far.steps ∙ (ap (λ (es : List GroupEntry). put_all (map (step_of v) made) (entry_steps stamp u es)) none ∙ ap Ok (append_none (map (step_of v) made))),
+      far.steps ∙ (ap (λ (es : List GroupEntry). put_all (steps_in v u made) (entry_steps stamp (left_in v u made) es)) none ∙ ap Ok (append_none (steps_in v u made))),
       record { names_are = names; held = far.held; view = subst (λ (ns : List (List ℕ)). Alike (is_any_left ns) v u) names far.view },
     )
   where

@@ -1,10 +1,8 @@
 -- What may come of a group, over any disk.
-use Rattle.std.proofs.Common.{◌≡◌, ◌⊎◌, ℕ, Bool, true, false, ◌||◌, List, [], ◌∷◌, ◌++◌, Option, Result, Ok, Err, inl, inr, refl, sym, ap, subst, ◌∙◌}
-use Rattle.std.specs.List.{AllByRecursion}
+use Rattle.std.proofs.Common.{◌≡◌, ℕ, Bool, true, false, ◌||◌, List, [], ◌∷◌, ◌++◌, Option, Result, Ok, Err, inl, inr, refl, sym, ap, subst, ◌∙◌}
 use Rattle.sccs_base.specs.Stream.{GivesOk, GivesSome}
 use Rattle.sccs_base.proofs.Gifts.{some_none}
 use Rattle.sccs_sid.specs.Refusal.{number_of}
-use Rattle.sccs_sid.specs.declared.refusals.Refusal.{Refusal}
 use Rattle.sccs_sid.specs.declared.refusals.Refusal.TheVariants.{BadName, GroupPending}
 use Rattle.sccs_sid.specs.declared.refusals.StepFault.{StepFault}
 use Rattle.sccs_sid.specs.declared.refusals.StepFault.TheVariants.{Refused, Memory, ReadFault, WriteFault, DiskFault}
@@ -13,12 +11,10 @@ use Rattle.sccs_steps.specs.Actions.{RefusesWithin, has_number}
 use Rattle.sccs_steps.specs.Calls.{world}
 use Rattle.sccs_steps.specs.StepLists.{NamedStep, err_of}
 use Rattle.sccs_transactions.specs.Changes.{CouldPrepare}
-use Rattle.sccs_transactions.specs.declared.prepared.Prepared.{Prepared}
 use Rattle.sccs_delta.specs.DeltaStep.{could_make, delta_checks}
-use Rattle.sccs_group_step.specs.GroupStep.{CouldBeMade, could_entry, group_checks}
+use Rattle.sccs_group_step.specs.GroupStep.{CouldBeMade, could_entry}
 use Rattle.sccs_group_step.specs.Making.{Finishes, SpeaksGroup, StopSpeaks, messages_in}
 use Rattle.sccs_group_step.specs.Preparing.{CouldAdd, CouldCome, GivesAllBack, GivesBack}
-use Rattle.sccs_group_step.specs.declared.entries.NamedFault.{NamedFault}
 use Rattle.sccs_group_step.specs.declared.entries.PreparedEntry.{PreparedEntry}
 
 -- ---- an entry

@@ -50,7 +50,7 @@ use Rattle.sccs_group.proofs.Groups.{before_then, group_after, group_within, mem
 use Rattle.sccs_group_words.specs.declared.entries.GroupEntry.{GroupEntry}
 use Rattle.sccs_group_step.specs.GroupStep.{entry_steps, group_step, names_of}
 use Rattle.sccs_group_step.specs.Making.{CommitMoments, GroupMoments, HoldsFrom, HoldsNames, IsHeldAt, StopsAt, fate_of, member_of}
-use Rattle.sccs_group_step.specs.Preparing.{AreFirm, AreGrouped, AreMade, ArePlain, Between, GivesAllBack, IsHeldEntry, IsNamed, IsPlainName, LosesNothing, LosesOfSound, PreparesAll, made_names}
+use Rattle.sccs_group_step.specs.Preparing.{AreFirm, AreGrouped, AreMade, ArePlain, Between, GivesAllBack, IsHeldEntry, IsNamed, IsPlainName, LosesNothing, LosesOfSound, PreparesAll, files_in, made_names}
 use Rattle.sccs_group_step.specs.declared.entries.NamedFault.{NamedFault}
 use Rattle.sccs_group_step.specs.declared.entries.PreparedEntry.{PreparedEntry}
 use Rattle.sccs_group_step.proofs.Completed.{moves_in}
@@ -164,22 +164,23 @@ all_place [] u a b m m1 past past1 is is1 held plain sound firm = tt
 all_place (x ∷ made) u a b m m1 past past1 is is1 held plain sound firm =
     (can_place x u a b m m1 past past1 is is1 held.0 plain.0 sound.0 firm.0, all_place made u a b m m1 past past1 is is1 held.1 plain.1 sound.1 firm.1)
 
--- what its step makes of its files
-abbrev pub change_of : View → PreparedEntry → Change
-change_of v x = record { member = member_of x; files = files_after x.name (plan_of x.prepared) v }
+-- what the steps make of their files
+abbrev pub changes_in : View → View → List PreparedEntry → List Change
+changes_in v t [] = []
+changes_in v t (x ∷ made) = record { member = member_of x; files = files_in v t x } ∷ changes_in v (moved t x.name (Some (files_in v t x))) made
 
-all_changes : (made : List PreparedEntry) (u v : View) → AreHeld u v made → ArePlain (made_names made) → AreSound u made → AllByRecursion (IsPrepared v) (map (change_of v) made)
-all_changes [] u v held plain sound = tt
-all_changes (x ∷ made) u v held plain sound =
-    (record { sfile = held.0.sfile; plain = plain.0.kept; pair = pair_is x v held.0.kind held.0.ready; settled = (held.0.settles sound.0).sound }, all_changes made u v held.1 plain.1 sound.1)
+all_changes : (made : List PreparedEntry) (u v t : View) → AreHeld u v made → ArePlain (made_names made) → AreSound u made → AllByRecursion (IsPrepared v) (changes_in v t made)
+all_changes [] u v t held plain sound = tt
+all_changes (x ∷ made) u v t held plain sound =
+    (record { sfile = held.0.sfile; plain = plain.0.kept; pair = pair_is x v held.0.kind held.0.ready; settled = (held.0.settles sound.0).sound }, all_changes made u v (moved t x.name (Some (files_in v t x))) held.1 plain.1 sound.1)
 
-members_are : (made : List PreparedEntry) (v : View) → members_in (map (change_of v) made) ≡ map member_of made
-members_are [] v = refl
-members_are (x ∷ made) v = ap (λ (ms : List Member). member_of x ∷ ms) (members_are made v)
+members_are : (made : List PreparedEntry) (v t : View) → members_in (changes_in v t made) ≡ map member_of made
+members_are [] v t = refl
+members_are (x ∷ made) v t = ap (λ (ms : List Member). member_of x ∷ ms) (members_are made v (moved t x.name (Some (files_in v t x))))
 
-after_is : (made : List PreparedEntry) (v w : View) → after_changes (map (change_of v) made) w ≡ all_moved w (moves_in v made)
+after_is : (made : List PreparedEntry) (v w : View) → after_changes (changes_in v w made) w ≡ all_moved w (moves_in v w made)
 after_is [] v w = refl
-after_is (x ∷ made) v w = after_is made v (moved w x.name (Some (files_after x.name (plan_of x.prepared) v)))
+after_is (x ∷ made) v w = after_is made v (moved w x.name (Some (files_in v w x)))
 
 -- ---- names stay safe
 
@@ -192,24 +193,24 @@ s_there true n v is needs none = not_none (v (x_file n)) needs none
 s_there false n v is needs none = cc
 
 -- new files of one name
-keeps_one : (x : PreparedEntry) (u v w : View) → IsHeldEntry u v x.name x.prepared → IsPlainName x.name → IsSound x.name u → w intent_file ≡ None → KeepsSafe w (moved w x.name (Some (files_after x.name (plan_of x.prepared) v)))
+keeps_one : (x : PreparedEntry) (u v w : View) → IsHeldEntry u v x.name x.prepared → IsPlainName x.name → IsSound x.name u → w intent_file ≡ None → KeepsSafe w (moved w x.name (Some (files_in v w x)))
 keeps_one x u v w held plain sound none = λ k sfile safe.
     ⊎_elim (λ e. subst (λ l. IsSafe l after) e own) (λ apart. same_safe k w after sfile (others_look x.name k w after held.sfile sfile plain.kept apart (moved_others x.name w new)) safe) (name_cases x.name k)
   where
     new : Option Files
-    new = Some (files_after x.name (plan_of x.prepared) v)
+    new = Some (files_in v w x)
 
     after : View
     after = moved w x.name new
 
     own : IsSafe x.name after
-    own = placed_safe x.name w (files_after x.name (plan_of x.prepared) v) held.sfile plain.kept (none_left w x.name none) (held.settles sound).sound (λ gone. absurd (s_there x.prepared.new_s x.name v held.kind.s held.ready.s gone))
+    own = placed_safe x.name w (files_in v w x) held.sfile plain.kept (none_left w x.name none) (held.settles sound).sound (λ gone. absurd (s_there x.prepared.new_s x.name v held.kind.s held.ready.s gone))
 
-keeps_all : (made : List PreparedEntry) (u v w : View) → AreHeld u v made → ArePlain (made_names made) → AreSound u made → w intent_file ≡ None → KeepsSafe w (all_moved w (moves_in v made))
+keeps_all : (made : List PreparedEntry) (u v w : View) → AreHeld u v made → ArePlain (made_names made) → AreSound u made → w intent_file ≡ None → KeepsSafe w (all_moved w (moves_in v w made))
 keeps_all [] u v w held plain sound none = keeps_same w
 keeps_all (x ∷ made) u v w held plain sound none =
-    let f : Files = files_after x.name (plan_of x.prepared) v in
-    keeps_then w (moved w x.name (Some f)) (all_moved (moved w x.name (Some f)) (moves_in v made)) (keeps_one x u v w held.0 plain.0 sound.0 none)
+    let f : Files = files_in v w x in
+    keeps_then w (moved w x.name (Some f)) (all_moved (moved w x.name (Some f)) (moves_in v (moved w x.name (Some f)) made)) (keeps_one x u v w held.0 plain.0 sound.0 none)
     (keeps_all made u v (moved w x.name (Some f)) held.1 plain.1 sound.1 (moved_intent x.name f w held.0.sfile plain.0.kept ∙ none))
 
 -- ---- names of an intent stay held
@@ -295,12 +296,12 @@ module _ (stamp : Stamp) (entries : List GroupEntry) (made : List PreparedEntry)
   recovers m1 past1 is1 =
       let v1 : View = view_of m1 in
       let all = prepared_at m1 past1 is1 in
-      let same : members_in (map (change_of v1) made) ≡ map member_of made = members_are made v1 in
-      let moved_so : after_changes (map (change_of v1) made) (view_of m) ≡ all_moved (view_of m) (moves_of (group_step stamp (view_of m) entries)) =
+      let same : members_in (changes_in v1 (view_of m) made) ≡ map member_of made = members_are made v1 (view_of m) in
+      let moved_so : after_changes (changes_in v1 (view_of m) made) (view_of m) ≡ all_moved (view_of m) (moves_of (group_step stamp (view_of m) entries)) =
       after_is made v1 (view_of m) ∙ ap (λ (t : NamedStep). all_moved (view_of m) (moves_of t)) (joint_is stamp entries made (view_of m) v1 none_at all.0) in
       subst (λ (w : View). RecoversAs w (announced (map member_of made) v1)) moved_so
-      (subst (λ (ms : List Member). RecoversAs (after_changes (map (change_of v1) made) (view_of m)) (announced ms v1)) same
-      (views_recover (map (change_of v1) made) (view_of m) v1 (subst IsWritten (sym same) written) none_at ((keeps m1 past1 is1).intent ∙ none_at) (keeps m1 past1 is1).recovers (all_changes made (view_of m) v1 all.1.held plains sounds)))
+      (subst (λ (ms : List Member). RecoversAs (after_changes (changes_in v1 (view_of m) made) (view_of m)) (announced ms v1)) same
+      (views_recover (changes_in v1 (view_of m) made) (view_of m) v1 (subst IsWritten (sym same) written) none_at ((keeps m1 past1 is1).intent ∙ none_at) (keeps m1 past1 is1).recovers (all_changes made (view_of m) v1 (view_of m) all.1.held plains sounds)))
 
   names_kept : KeepsSafe (view_of m) (all_moved (view_of m) (moves_of (group_step stamp (view_of m) entries)))
   names_kept =

@@ -1,3 +1,4 @@
 pub mod GroupStep
+pub mod LFiles
 pub mod Making
 pub mod Preparing

@@ -8,7 +8,7 @@ use Rattle.sccs_sid.specs.declared.refusals.StepFault.{StepFault}
 use Rattle.sccs_sid.specs.declared.refusals.StepFault.TheVariants.{Refused, Memory, ReadFault, WriteFault, DiskFault}
 use Rattle.sccs_disk.specs.Files.{Model, View, view_of}
 use Rattle.sccs_disk.specs.Told.{Shows, Tells, Told}
-use Rattle.sccs_files.specs.StepFiles.{Alike, Moves, is_left, is_working}
+use Rattle.sccs_files.specs.StepFiles.{Alike, Files, Moves, is_left, is_working, l_file, moved}
 use Rattle.sccs_intents.specs.Intents.{plan_file}
 use Rattle.sccs_moments.specs.Recovery.{IsSound, begins_by_letter, is_kept}
 use Rattle.sccs_moments.specs.Calm.{IsCalm}
@@ -23,6 +23,7 @@ use Rattle.sccs_transactions.specs.declared.prepared.Prepared.{Prepared}
 use Rattle.sccs_delta.specs.Writing.{IsDeltaPlan}
 use Rattle.sccs_group_words.specs.declared.entries.GroupEntry.{GroupEntry}
 use Rattle.sccs_group_step.specs.GroupStep.{EntrySteps, could_entry, names_of}
+use Rattle.sccs_group_step.specs.LFiles.{effect_with_l, files_with_l}
 use Rattle.sccs_group_step.specs.declared.entries.NamedFault.{NamedFault}
 use Rattle.sccs_group_step.specs.declared.entries.PreparedEntry.{PreparedEntry}
 
@@ -49,7 +50,6 @@ pub record AreGrouped (entries : List GroupEntry) : Type 0 where
 pub record IsPlainName (n : List ℕ) : Type 0 where
   pub kept : is_kept (drop 2 n) ≡ false
   pub y_free : begins_by_letter 121 (drop 2 n) ≡ false
-  pub l_free : begins_by_letter 108 (drop 2 n) ≡ false
   pub plan_free : bytes_eq plan_file (drop 2 n) ≡ false
 
 abbrev pub ArePlain : List (List ℕ) → Type 0
@@ -171,9 +171,17 @@ abbrev pub GivesAllBack : StepFault → StepFault → List (List ℕ) → Option
 GivesAllBack r fault names old new =
     ((r ≡ fault) × (fault ≢ DiskFault) × Becomes (all_abandoned names) old new) ⊎ ((r ≡ DiskFault) × Moves (is_any_left names) (λ v. v) old new)
 
--- the step of an entry that is prepared
-abbrev pub step_of : View → PreparedEntry → NamedStep
-step_of v x = named_step x.name (Ok (effect_by v x.name x.prepared))
+-- what the step of an entry makes that is prepared in a view: the l-file stays as it is in the view in which the step is made
+abbrev pub effect_in : View → View → PreparedEntry → StepEffect
+effect_in v t x = effect_with_l (t (l_file x.name)) (effect_by v x.name x.prepared)
+
+abbrev pub files_in : View → View → PreparedEntry → Files
+files_in v t x = files_with_l (t (l_file x.name)) (files_after x.name (plan_of x.prepared) v)
+
+-- the steps of entries that are prepared in a view, each in the view that those before it left
+abbrev pub steps_in : View → View → List PreparedEntry → List NamedStep
+steps_in v t [] = []
+steps_in v t (x ∷ made) = named_step x.name (Ok (effect_in v t x)) ∷ steps_in v (moved t x.name (Some (files_in v t x))) made
 
 -- what is prepared of entries is firm
 abbrev pub AreFirm : List PreparedEntry → Told → Told → Type 0
@@ -201,7 +209,7 @@ GivesUpAt WriteFault n names steps u v = ⊥
 
 -- what preparing entries of these names answers and leaves
 abbrev pub PreparesAll : Result (List PreparedEntry) NamedFault → List (List ℕ) → EntrySteps → View → View → Type 0
-PreparesAll (Ok made) names steps u v = (steps ≡ Ok (map (step_of v) made)) × AreAllPrepared u v names made
+PreparesAll (Ok made) names steps u v = (steps ≡ Ok (steps_in v u made)) × AreAllPrepared u v names made
 PreparesAll (Err stop) names steps u v = GivesUpAt stop.fault stop.name (sfiles_of names) steps u v
 
 -- Preparing fails only where the disk did, and hears and gives nothing.

@@ -21,7 +21,7 @@ use crate::joining::{Joint, joint_of};
 use crate::preparing::{abandon_all, prepare_all};
 use sccs_base::{Name, Sink};
 use sccs_disk::{Disk, DiskRefusal};
-use sccs_group::{commit_members, intent_name, plan_name};
+use sccs_group::{commit_group, intent_name};
 use sccs_group_words::GroupEntry;
 use sccs_sid::{Refusal, Stamp, StepFault};
 use sccs_transactions::report;
@@ -72,13 +72,7 @@ fn commit_joint<D: Disk>(
     ensures told { CommitsJoint result (made_names made.now) joint.now.members (seen (D.told disk.old)) (seen (D.told disk.new)) }
     ensures causes { ChangesDisk D.faults disk.old disk.new result }
 {
-    match commit_members(
-        alloc,
-        disk,
-        &plan_name(),
-        &intent_name(),
-        joint.members.items(),
-    ) {
+    match commit_group(alloc, &joint.members, disk) {
         Ok(()) => Ok(()),
         Err(DiskRefusal::Failed) => Err(StepFault::DiskFault),
         Err(DiskRefusal::Memory) => Err(abandon_all(StepFault::Memory, made, disk)),

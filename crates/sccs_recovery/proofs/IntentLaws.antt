@@ -1,7 +1,6 @@
 -- What an intent that is there refuses.
-use Rattle.std.proofs.Common.{◌≡◌, ◌≢◌, ◌≤◌, ◌↔◌, ℕ, Bool, true, List, Option, None, Some, IfOk, IfSome, IsErrOf, Result, Ok, Err, refl, sym, ap, subst, ◌∙◌, arith}
+use Rattle.std.proofs.Common.{◌≡◌, ◌≤◌, ◌↔◌, ℕ, Bool, List, Option, None, Some, IfOk, IfSome, IsErrOf, Result, Ok, Err, refl, sym, ap, subst, ◌∙◌}
 use Rattle.std.specs.Prelude.{IsSome}
-use Rattle.sccs_base.specs.Stream.{Rose}
 use Rattle.sccs_disk.specs.Causes.{DiskCauses}
 use Rattle.sccs_disk.specs.Files.{Content, View}
 use Rattle.sccs_disk.specs.Told.{Told, seen}

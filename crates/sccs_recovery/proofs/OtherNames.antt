@@ -1,6 +1,6 @@
 -- Recovery of a name leaves the files of all other names.
 use Rattle.std.proofs.Common.{◌≡◌, ℕ, List, Result, Ok, Err, subst}
-use Rattle.std.specs.Prelude.{OnErr, OnOk, false}
+use Rattle.std.specs.Prelude.{OnErr, OnOk}
 use Rattle.std.specs.Str.{bytes_eq}
 use Rattle.sccs_base.specs.Name.{y_file}
 use Rattle.sccs_disk.specs.Calls.{Done, Half}
@@ -10,7 +10,7 @@ use Rattle.sccs_files.specs.StepFiles.{is_working}
 use Rattle.sccs_images.specs.Touches.{TouchesOnly}
 use Rattle.sccs_moments.specs.Unlocked.{KeepsOthers, is_own}
 use Rattle.sccs_moments.proofs.FileNames.{no_working, no_y}
-use Rattle.sccs_moments.proofs.Unlocked.{others_done, others_half, others_same, others_settled, others_then, others_touched, others_wider, own_left}
+use Rattle.sccs_moments.proofs.Unlocked.{others_done, others_half, others_settled, others_then, others_touched, others_wider, own_left}
 
 pub touched_others : (n : List ℕ) (a b : Told) → TouchesOnly (is_working n) a b → KeepsOthers (is_own n) a b
 touched_others n a b touches = others_wider (is_working n) (is_own n) a b (λ k h. no_working n k (own_left n k h)) (others_touched (is_working n) a b touches)

@@ -1,5 +1,5 @@
 -- The moments of the command recover.
-use Rattle.std.proofs.Common.{◌≡◌, ◌≢◌, ◌↔◌, ℕ, Bool, true, false, cond, List, [], ◌∷◌, Option, None, Some, IfSome, IsErrOf, is_some, Result, Ok, Err, inl, inr, refl, sym, ap, subst, ◌∙◌, arith}
+use Rattle.std.proofs.Common.{◌||◌, ◌≡◌, ◌≢◌, ◌↔◌, ℕ, Bool, true, false, cond, List, [], ◌∷◌, Option, None, Some, IfSome, IsErrOf, is_some, Result, Ok, Err, inl, inr, refl, sym, ap, subst, ◌∙◌, arith}
 use Rattle.std.specs.Prelude.{IsSome}
 use Rattle.sccs_base.specs.Name.{IsSfile, p_file, z_file}
 use Rattle.sccs_sid.specs.declared.refusals.StepFault.{StepFault}
@@ -61,14 +61,14 @@ named_not None is named = cc
 named_not (Some fate) is named = cc
 
 -- where no intent names an s-file the view after the step recovers as the one before it
-after_recovers : (n : List ℕ) (v : View) → IsSfile n → NamesNone v → RecoversAs (moved v n (recovers n (look v n)).new) v
-after_recovers n v sfile none =
-    let w : View = moved v n (recovers n (look v n)).new in
+after_recovers : (freed : List ℕ → Bool) (n : List ℕ) (v : View) → IsSfile n → NamesNone v → RecoversAs (moved v n (recovers freed n (look v n)).new) v
+after_recovers freed n v sfile none =
+    let w : View = moved v n (recovers freed n (look v n)).new in
     let alone : recover n v ≡ recover_alone n v = ap (recover_by n v) (none n sfile) in
-    let intent : w intent_file ≡ v intent_file = sym (recovers_at n v intent_file sfile refl) ∙ (sym (ap (λ (u : View). u intent_file) alone) ∙ recover_intent n v sfile) in
+    let intent : w intent_file ≡ v intent_file = sym (recovers_at freed n v intent_file sfile refl) ∙ (sym (ap (λ (u : View). u intent_file) alone) ∙ recover_intent n v sfile) in
     recovers_then w (recover_alone n v) v
-    (same_recovers w (recover_alone n v) (recovers_at n v intent_file sfile refl) (λ k other. recovers_at n v k sfile (working_s n k other)) (λ k other. recovers_at n v (p_file k) sfile refl)
-    (λ k other. ap is_some (recovers_at n v (z_file k) sfile refl))
+    (same_recovers w (recover_alone n v) (recovers_at freed n v intent_file sfile refl) (λ k other. recovers_at freed n v k sfile (working_s n k other)) (λ k other. recovers_at freed n v (p_file k) sfile refl)
+    (λ k other. ap is_some (recovers_at freed n v (z_file k) sfile refl))
     (λ k other named. absurd (named_not (fate_at w k) (fate_same k v w intent ∙ none k other) named))
     (λ k other named. absurd (named_not (fate_at w k) (fate_same k v w intent ∙ none k other) (ap is_some named))))
     (recovers_back v (recover_alone n v) (subst (λ (u : View). RecoversAs v u) alone (recovers_recovered n v sfile)))
@@ -86,18 +86,18 @@ after_safe n v false is sfile none safe = safe
 as_before : (m : Model) (u : View) → IsCalm m → IsFrom m u → RecoversAs (view_of m) u
 as_before m u calm from = recovers_then (view_of m) from.0 u (calm from.0 from.1).recovers from.2
 
-made_after : (n : List ℕ) (a b : Told) (m : Model) (past : List Model) → IsSfile n → RecoversOn a b → LeavesCalm a b → a ≡ Tells m past → IsCalmUnnamed m → EndsAfter (view_of m) (moved (view_of m) n (recovers n (look (view_of m) n)).new) m past b
-made_after n a b m past sfile story leaves is calm =
+made_after : (freed : List ℕ → Bool) (n : List ℕ) (a b : Told) (m : Model) (past : List Model) → IsSfile n → RecoversOn a b → LeavesCalm a b → a ≡ Tells m past → IsCalmUnnamed m → EndsAfter (view_of m) (moved (view_of m) n (recovers freed n (look (view_of m) n)).new) m past b
+made_after freed n a b m past sfile story leaves is calm =
     let v : View = view_of m in
-    let w : View = moved (view_of m) n (recovers n (look (view_of m) n)).new in
+    let w : View = moved (view_of m) n (recovers freed n (look (view_of m) n)).new in
     let went : Went (λ j u. IsFrom m u) m past 0 b = story m past is (calm_recovers m calm) in (
       record {
         added = went.added;
         is = went.is;
         numbers =
             raised (λ i m2. Allows (IsAt v w i) m2) 0 went.added m 0 1 (omega arith)
-            (λ u image. inl (recovers_then w v u (after_recovers n v sfile calm.unnamed) (as_before m u calm.calm (numbered_now (λ i m2. Allows (IsFrom m) m2) 0 went.added m 0 went.numbers u image))))
-            (numbered_as (λ i m2. Allows (IsFrom m) m2) (λ i m2. Allows (IsAt v w i) m2) 0 went.added m 0 (λ i low m2 from u image. inl (recovers_then w v u (after_recovers n v sfile calm.unnamed) (as_before m u calm.calm (from u image)))) went.numbers);
+            (λ u image. inl (recovers_then w v u (after_recovers freed n v sfile calm.unnamed) (as_before m u calm.calm (numbered_now (λ i m2. Allows (IsFrom m) m2) 0 went.added m 0 went.numbers u image))))
+            (numbered_as (λ i m2. Allows (IsFrom m) m2) (λ i m2. Allows (IsAt v w i) m2) 0 went.added m 0 (λ i low m2 from u image. inl (recovers_then w v u (after_recovers freed n v sfile calm.unnamed) (as_before m u calm.calm (from u image)))) went.numbers);
         guarded = went.guarded;
       },
       (leaves m past is (calm_recovers m calm) (newest went.added m) (earlier went.added m past) went.is).calm,
@@ -124,72 +124,72 @@ stopped_same w a b m past story leaves is calm =
 -- ---- the call
 
 -- the name was recovered, and it is said how it was found
-made_at : (n : List ℕ) (r : Result (Unit {0}) StepFault) (m : Model) (past : List Model) (a b : Told) (out out2 err : Option (List ℕ)) → IsSfile n → seen b ≡ Some (recover_alone n (view_of m)) → Says r (recovers n (look (view_of m) n)).out out out2
-    → EndsAfter (view_of m) (moved (view_of m) n (recovers n (look (view_of m) n)).new) m past b → IsSafeFor recover_action n (moved (view_of m) n (recovers n (look (view_of m) n)).new)
-    → (met : Meets (λ (done : Unit {0}). 0) r n (Ok (recovers n (look (view_of m) n))) (world (Some (view_of m)) out err) (world (seen b) out2 err))
-    × Ends (meeting_place r n (Ok (recovers n (look (view_of m) n))) (world (Some (view_of m)) out err) (world (seen b) out2 err) met) recover_action n (view_of m) (moved (view_of m) n (recovers n (look (view_of m) n)).new) m past b
-made_at n (Ok done) m past a b out out2 err sfile view says ends safe = (made_ends n (view_of m) (Ok done) (seen b) out out2 err sfile view says, (ends, safe))
-made_at n (Err WriteFault) m past a b out out2 err sfile view says ends safe = (inr (cut_ends n (view_of m) (seen b) out out2 err sfile view says), (ends, safe))
-made_at n (Err Memory) m past a b out out2 err sfile view says ends safe = absurd says
-made_at n (Err ReadFault) m past a b out out2 err sfile view says ends safe = absurd says
-made_at n (Err DiskFault) m past a b out out2 err sfile view says ends safe = absurd says
-made_at n (Err (Refused refusal)) m past a b out out2 err sfile view says ends safe = absurd says
+made_at : (freed : List ℕ → Bool) (n : List ℕ) (r : Result (Unit {0}) StepFault) (m : Model) (past : List Model) (a b : Told) (out out2 err : Option (List ℕ)) → IsSfile n → seen b ≡ Some (recover_alone n (view_of m)) → Says r (recovers freed n (look (view_of m) n)).out out out2
+    → EndsAfter (view_of m) (moved (view_of m) n (recovers freed n (look (view_of m) n)).new) m past b → IsSafeFor (recover_action freed) n (moved (view_of m) n (recovers freed n (look (view_of m) n)).new)
+    → (met : Meets (λ (done : Unit {0}). 0) r n (Ok (recovers freed n (look (view_of m) n))) (world (Some (view_of m)) out err) (world (seen b) out2 err))
+    × Ends (meeting_place r n (Ok (recovers freed n (look (view_of m) n))) (world (Some (view_of m)) out err) (world (seen b) out2 err) met) (recover_action freed) n (view_of m) (moved (view_of m) n (recovers freed n (look (view_of m) n)).new) m past b
+made_at freed n (Ok done) m past a b out out2 err sfile view says ends safe = (made_ends freed n (view_of m) (Ok done) (seen b) out out2 err sfile view says, (ends, safe))
+made_at freed n (Err WriteFault) m past a b out out2 err sfile view says ends safe = (inr (cut_ends freed n (view_of m) (seen b) out out2 err sfile view says), (ends, safe))
+made_at freed n (Err Memory) m past a b out out2 err sfile view says ends safe = absurd says
+made_at freed n (Err ReadFault) m past a b out out2 err sfile view says ends safe = absurd says
+made_at freed n (Err DiskFault) m past a b out out2 err sfile view says ends safe = absurd says
+made_at freed n (Err (Refused refusal)) m past a b out out2 err sfile view says ends safe = absurd says
 
-pub made_moments : (n : List ℕ) (found : Recovered) (r : Result (Unit {0}) StepFault) (a b : Told) (left out out2 err : Option (List ℕ)) → IsSfile n → Becomes (recover_alone n) (seen a) (seen b)
-    → IfSome (seen a) (λ (v : View). (found ≡ ways.Clean) ↔ (v (z_file n) ≡ None)) → IfSome (seen a) (λ (v : View). PassesChecks (free_checked n v) (Ok found)) → Says r (found_text n (is_locked found)) out out2 → RecoversOn a b → LeavesCalm a b
-    → StepMoments recover_action r n left (scene a out err) (scene b out2 err)
-made_moments n found r a b left out out2 err sfile view clean checks says story leaves = λ m past i is heard calm may.
+pub made_moments : (freed : List ℕ → Bool) (n : List ℕ) (found : Recovered) (r : Result (Unit {0}) StepFault) (a b : Told) (left out out2 err : Option (List ℕ)) → IsSfile n → Becomes (recover_alone n) (seen a) (seen b)
+    → IfSome (seen a) (λ (v : View). (found ≡ ways.Clean) ↔ (v (z_file n) ≡ None)) → IfSome (seen a) (λ (v : View). PassesChecks (free_checked n v) (Ok found)) → Says r (found_text n (is_locked found || freed n)) out out2 → RecoversOn a b → LeavesCalm a b
+    → StepMoments (recover_action freed) r n left (scene a out err) (scene b out2 err)
+made_moments freed n found r a b left out out2 err sfile view clean checks says story leaves = λ m past i is heard calm may.
     let v : View = view_of m in
     let passed : PassesChecks (free_checked n v) (Ok found) = subst (λ (t : Told). IfSome (seen t) (λ (u : View). PassesChecks (free_checked n u) (Ok found))) is checks in
     let at : IsCalmUnnamed m = record { calm = calm; unnamed = none_named v (free_of (v intent_file) (checked n v) passed) } in
     let view_is : seen b ≡ Some (recover_alone n v) = subst (λ (t : Told). Becomes (recover_alone n) (seen t) (seen b)) is view in
     let clean_is : (found ≡ ways.Clean) ↔ (v (z_file n) ≡ None) = subst (λ (t : Told). IfSome (seen t) (λ (u : View). (found ≡ ways.Clean) ↔ (u (z_file n) ≡ None))) is clean in
-    let said : Says r (recovers n (look v n)).out out out2 = subst (λ (z : Bool). Says r (found_text n z) out out2) (is_said found (v (z_file n)) clean_is) says in
-    subst (λ (t : Told). MeetsAt recover_action r n (recover_outcome n (v intent_file ∷ []) (look v n)) v m past (scene t out err) (scene b out2 err)) (sym is)
-    (subst (λ (o : Outcome). (met : Meets (λ (done : Unit {0}). 0) r n o (world (Some v) out err) (world (seen b) out2 err)) × Ends (meeting_place r n o (world (Some v) out err) (world (seen b) out2 err) met) recover_action n v (moved v n (effect_of n o).new) m past b) (sym (step_of n v (Ok true) passed))
-    (made_at n r m past a b out out2 err sfile view_is said (made_after n a b m past sfile story leaves is at) (λ changes. after_safe n v (is_some (v (z_file n))) refl sfile at.unnamed (may changes))))
+    let said : Says r (recovers freed n (look v n)).out out out2 = subst (λ (z : Bool). Says r (found_text n (z || freed n)) out out2) (is_said found (v (z_file n)) clean_is) says in
+    subst (λ (t : Told). MeetsAt (recover_action freed) r n (recover_outcome freed n (v intent_file ∷ []) (look v n)) v m past (scene t out err) (scene b out2 err)) (sym is)
+    (subst (λ (o : Outcome). (met : Meets (λ (done : Unit {0}). 0) r n o (world (Some v) out err) (world (seen b) out2 err)) × Ends (meeting_place r n o (world (Some v) out err) (world (seen b) out2 err) met) (recover_action freed) n v (moved v n (effect_of n o).new) m past b) (sym (step_of freed n v (Ok true) passed))
+    (made_at freed n r m past a b out out2 err sfile view_is said (made_after freed n a b m past sfile story leaves is at) (λ changes. after_safe n v (is_some (v (z_file n))) refl sfile at.unnamed (may changes))))
 
 -- the call answers a fault
-fault_at : (fault : StepFault) (n : List ℕ) (o : Outcome) (a b : Told) (out err : Option (List ℕ)) (m : Model) (past : List Model) → Faults n fault a b → RecoversOn a b → LeavesFirm a b → (fault ≡ Memory → TouchesOnly (is_working n) a b) → a ≡ Tells m past → IsSfile n → IsCalmUnnamed m → IsSafeFor recover_action n (view_of m)
-    → (met : Meets (λ (done : Unit {0}). 0) (Err fault) n o (world (Some (view_of m)) out err) (world (seen b) out err)) → Ends (meeting_place (Err fault) n o (world (Some (view_of m)) out err) (world (seen b) out err) met) recover_action n (view_of m) (moved (view_of m) n (effect_of n o).new) m past b
-fault_at (Refused refusal) n o a b out err m past faults story leaves touches is sfile calm safe met =
-    subst (λ (q : Outcome). EndsAfter (view_of m) (moved (view_of m) n (effect_of n q).new) m past b × IsSafeFor recover_action n (moved (view_of m) n (effect_of n q).new)) (sym met.0)
+fault_at : (freed : List ℕ → Bool) (fault : StepFault) (n : List ℕ) (o : Outcome) (a b : Told) (out err : Option (List ℕ)) (m : Model) (past : List Model) → Faults n fault a b → RecoversOn a b → LeavesFirm a b → (fault ≡ Memory → TouchesOnly (is_working n) a b) → a ≡ Tells m past → IsSfile n → IsCalmUnnamed m → IsSafeFor (recover_action freed) n (view_of m)
+    → (met : Meets (λ (done : Unit {0}). 0) (Err fault) n o (world (Some (view_of m)) out err) (world (seen b) out err)) → Ends (meeting_place (Err fault) n o (world (Some (view_of m)) out err) (world (seen b) out err) met) (recover_action freed) n (view_of m) (moved (view_of m) n (effect_of n o).new) m past b
+fault_at freed (Refused refusal) n o a b out err m past faults story leaves touches is sfile calm safe met =
+    subst (λ (q : Outcome). EndsAfter (view_of m) (moved (view_of m) n (effect_of n q).new) m past b × IsSafeFor (recover_action freed) n (moved (view_of m) n (effect_of n q).new)) (sym met.0)
     (before_after (view_of m) m past b (same_before m past b calm.calm (faults.refused refusal refl ∙ is)), safe)
-fault_at Memory n o a b out err m past faults story leaves touches is sfile calm safe met = ends_working n m past b sfile (record { calm = calm.calm; unnamed = calm.unnamed n sfile }) (touches refl m past is)
-fault_at ReadFault n o a b out err m past faults story leaves touches is sfile calm safe met = absurd (faults.read refl)
-fault_at WriteFault n o a b out err m past faults story leaves touches is sfile calm safe met = absurd (faults.write refl)
-fault_at DiskFault n o a b out err m past faults story leaves touches is sfile calm safe met =
+fault_at freed Memory n o a b out err m past faults story leaves touches is sfile calm safe met = ends_working n m past b sfile (record { calm = calm.calm; unnamed = calm.unnamed n sfile }) (touches refl m past is)
+fault_at freed ReadFault n o a b out err m past faults story leaves touches is sfile calm safe met = absurd (faults.read refl)
+fault_at freed WriteFault n o a b out err m past faults story leaves touches is sfile calm safe met = absurd (faults.write refl)
+fault_at freed DiskFault n o a b out err m past faults story leaves touches is sfile calm safe met =
     (stopped_within (moved (view_of m) n (effect_of n o).new) a b m past story leaves is calm, inr (stopped_same (moved (view_of m) n (effect_of n o).new) a b m past story leaves is calm))
 
 -- the same while an intent is there
-fault_pending : (fault : StepFault) (n : List ℕ) (o : Outcome) (a b : Told) (out err : Option (List ℕ)) (m : Model) (past : List Model) → Faults n fault a b → b ≡ a → a ≡ Tells m past → IsCalm m → IsSafeFor recover_action n (view_of m)
-    → (met : Meets (λ (done : Unit {0}). 0) (Err fault) n o (world (Some (view_of m)) out err) (world (seen b) out err)) → Ends (meeting_place (Err fault) n o (world (Some (view_of m)) out err) (world (seen b) out err) met) recover_action n (view_of m) (moved (view_of m) n (effect_of n o).new) m past b
-fault_pending (Refused refusal) n o a b out err m past faults same is calm safe met =
-    subst (λ (q : Outcome). EndsAfter (view_of m) (moved (view_of m) n (effect_of n q).new) m past b × IsSafeFor recover_action n (moved (view_of m) n (effect_of n q).new)) (sym met.0)
+fault_pending : (freed : List ℕ → Bool) (fault : StepFault) (n : List ℕ) (o : Outcome) (a b : Told) (out err : Option (List ℕ)) (m : Model) (past : List Model) → Faults n fault a b → b ≡ a → a ≡ Tells m past → IsCalm m → IsSafeFor (recover_action freed) n (view_of m)
+    → (met : Meets (λ (done : Unit {0}). 0) (Err fault) n o (world (Some (view_of m)) out err) (world (seen b) out err)) → Ends (meeting_place (Err fault) n o (world (Some (view_of m)) out err) (world (seen b) out err) met) (recover_action freed) n (view_of m) (moved (view_of m) n (effect_of n o).new) m past b
+fault_pending freed (Refused refusal) n o a b out err m past faults same is calm safe met =
+    subst (λ (q : Outcome). EndsAfter (view_of m) (moved (view_of m) n (effect_of n q).new) m past b × IsSafeFor (recover_action freed) n (moved (view_of m) n (effect_of n q).new)) (sym met.0)
     (before_after (view_of m) m past b (same_before m past b calm (same ∙ is)), safe)
-fault_pending Memory n o a b out err m past faults same is calm safe met = same_before m past b calm (same ∙ is)
-fault_pending ReadFault n o a b out err m past faults same is calm safe met = absurd (faults.read refl)
-fault_pending WriteFault n o a b out err m past faults same is calm safe met = absurd (faults.write refl)
-fault_pending DiskFault n o a b out err m past faults same is calm safe met =
+fault_pending freed Memory n o a b out err m past faults same is calm safe met = same_before m past b calm (same ∙ is)
+fault_pending freed ReadFault n o a b out err m past faults same is calm safe met = absurd (faults.read refl)
+fault_pending freed WriteFault n o a b out err m past faults same is calm safe met = absurd (faults.write refl)
+fault_pending freed DiskFault n o a b out err m past faults same is calm safe met =
     let kept : EndsBefore (view_of m) m past b = same_before m past b calm (same ∙ is) in
     (before_within (view_of m) (moved (view_of m) n (effect_of n o).new) m past b kept, inr (recovers_before (view_of m) m past b kept))
 
-pub fault_moments : (n : List ℕ) (fault : StepFault) (a b : Told) (left out err : Option (List ℕ)) → IsSfile n → Faults n fault a b → RecoversOn a b → LeavesFirm a b → (IsErrOf {T = Recovered} (Err fault) Memory → TouchesOnly (is_working n) a b)
-    → StepMoments recover_action (Err fault) n left (scene a out err) (scene b out err)
-fault_moments n fault a b left out err sfile faults story leaves touches = λ m past i is heard calm may.
+pub fault_moments : (freed : List ℕ → Bool) (n : List ℕ) (fault : StepFault) (a b : Told) (left out err : Option (List ℕ)) → IsSfile n → Faults n fault a b → RecoversOn a b → LeavesFirm a b → (IsErrOf {T = Recovered} (Err fault) Memory → TouchesOnly (is_working n) a b)
+    → StepMoments (recover_action freed) (Err fault) n left (scene a out err) (scene b out err)
+fault_moments freed n fault a b left out err sfile faults story leaves touches = λ m past i is heard calm may.
     let v : View = view_of m in
-    let o : Outcome = recover_outcome n (v intent_file ∷ []) (look v n) in
+    let o : Outcome = recover_outcome freed n (v intent_file ∷ []) (look v n) in
     let met : Meets (λ (done : Unit {0}). 0) (Err fault) n o (world (Some v) out err) (world (seen b) out err) =
-    subst (λ (t : Told). IfSome (seen t) (λ (u : View). (j : List ℕ) → IsHeard false left j → Meets (λ (done : Unit {0}). 0) (Err fault) n (recover_outcome n (u intent_file ∷ []) (look u n)) (world (seen t) out err) (world (seen b) out err))) is (fault_steps n fault a b left out err sfile faults) i heard in
-    subst (λ (t : Told). MeetsAt recover_action (Err fault) n o v m past (scene t out err) (scene b out err)) (sym is)
+    subst (λ (t : Told). IfSome (seen t) (λ (u : View). (j : List ℕ) → IsHeard false left j → Meets (λ (done : Unit {0}). 0) (Err fault) n (recover_outcome freed n (u intent_file ∷ []) (look u n)) (world (seen t) out err) (world (seen b) out err))) is (fault_steps freed n fault a b left out err sfile faults) i heard in
+    subst (λ (t : Told). MeetsAt (recover_action freed) (Err fault) n o v m past (scene t out err) (scene b out err)) (sym is)
     (met, by_intent m past is calm may o met (v intent_file) refl (subst (λ (t : Told). IfSome (seen t) (λ (u : View). IsSome (u intent_file) → b ≡ a)) is faults.pending))
   where
-    by_intent : (m : Model) (past : List Model) → a ≡ Tells m past → IsCalm m → IsSafeFor recover_action n (view_of m) → (o : Outcome) → (met : Meets (λ (done : Unit {0}). 0) (Err fault) n o (world (Some (view_of m)) out err) (world (seen b) out err))
-        → (intent : Option Content) → view_of m intent_file ≡ intent → (IsSome (view_of m intent_file) → b ≡ a) → Ends (meeting_place (Err fault) n o (world (Some (view_of m)) out err) (world (seen b) out err) met) recover_action n (view_of m) (moved (view_of m) n (effect_of n o).new) m past b
+    by_intent : (m : Model) (past : List Model) → a ≡ Tells m past → IsCalm m → IsSafeFor (recover_action freed) n (view_of m) → (o : Outcome) → (met : Meets (λ (done : Unit {0}). 0) (Err fault) n o (world (Some (view_of m)) out err) (world (seen b) out err))
+        → (intent : Option Content) → view_of m intent_file ≡ intent → (IsSome (view_of m intent_file) → b ≡ a) → Ends (meeting_place (Err fault) n o (world (Some (view_of m)) out err) (world (seen b) out err) met) (recover_action freed) n (view_of m) (moved (view_of m) n (effect_of n o).new) m past b
     by_intent m past is calm may o met None none pending =
-        fault_at fault n o a b out err m past faults story leaves (λ e. touches (ap Err e)) is sfile (record { calm = calm; unnamed = none_named (view_of m) none }) may met
+        fault_at freed fault n o a b out err m past faults story leaves (λ e. touches (ap Err e)) is sfile (record { calm = calm; unnamed = none_named (view_of m) none }) may met
     by_intent m past is calm may o met (Some c) some pending =
-        fault_pending fault n o a b out err m past faults (pending (subst (λ (x : Option Content). IsSome x) (sym some) refl)) is calm may met
+        fault_pending freed fault n o a b out err m past faults (pending (subst (λ (x : Option Content). IsSome x) (sym some) refl)) is calm may met
 
 -- ---- on a disk that isn't calm
 

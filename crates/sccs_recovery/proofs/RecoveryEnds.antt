@@ -133,8 +133,8 @@ moved_by : (n : List ℕ) (v : View) (k : List ℕ) (z : Bool) → is_some (v (z
 moved_by n v k true is sfile h = unlocked_at n v k sfile is h
 moved_by n v k false is sfile h = ap (λ (u : View). u k) (ap (alone_by n v) is) ∙ put_other v (y_file n) k None (no_y n k h)
 
-pub recovers_at : (n : List ℕ) (v : View) (k : List ℕ) → IsSfile n → is_working n k ≡ false → recover_alone n v k ≡ moved v n (recovers n (look v n)).new k
-recovers_at n v k sfile h = moved_by n v k (is_some (v (z_file n))) refl sfile h
+pub recovers_at : (freed : List ℕ → Bool) (n : List ℕ) (v : View) (k : List ℕ) → IsSfile n → is_working n k ≡ false → recover_alone n v k ≡ moved v n (recovers freed n (look v n)).new k
+recovers_at freed n v k sfile h = moved_by n v k (is_some (v (z_file n))) refl sfile h
 
 -- the working files are gone, or but for the y-file as they were
 working_p : (n k : List ℕ) → is_working n k ≡ true → bytes_eq (p_file n) k ≡ false
@@ -154,15 +154,15 @@ recovered_clears n v k h = by (is_some (v (z_file n)))
 
 -- ---- how the call ends
 
-step_by : (n : List ℕ) (f : Files) (p : Result Bool Refusal) → (p >>= λ free. recover_step n f) ≡ ((p >>= λ free. files_checked f) >>= λ done. Ok (recovers n f))
+step_by : (freed : List ℕ → Bool) (n : List ℕ) (f : Files) (p : Result Bool Refusal) → (p >>= λ free. recover_step freed n f) ≡ ((p >>= λ free. files_checked f) >>= λ done. Ok (recovers freed n f))
 unfolding recover_step
-step_by n f (Ok free) = refl
-step_by n f (Err refusal) = refl
+step_by freed n f (Ok free) = refl
+step_by freed n f (Err refusal) = refl
 
 -- the step by its checks
-pub step_of : (n : List ℕ) (v : View) (r : Result Bool Refusal) → free_checked n v ≡ r → recover_outcome n (v intent_file ∷ []) (look v n) ≡ (r >>= λ done. Ok (recovers n (look v n)))
+pub step_of : (freed : List ℕ → Bool) (n : List ℕ) (v : View) (r : Result Bool Refusal) → free_checked n v ≡ r → recover_outcome freed n (v intent_file ∷ []) (look v n) ≡ (r >>= λ done. Ok (recovers freed n (look v n)))
 unfolding recover_outcome
-step_of n v r is = step_by n (look v n) (none_pending (v intent_file)) ∙ ap (λ (x : Result Bool Refusal). x >>= λ done. Ok (recovers n (look v n))) is
+step_of freed n v r is = step_by freed n (look v n) (none_pending (v intent_file)) ∙ ap (λ (x : Result Bool Refusal). x >>= λ done. Ok (recovers freed n (look v n))) is
 
 -- what is said is whether the z-file was there
 pub is_said : (found : Recovered) (o : Option Content) → (found ≡ ways.Clean) ↔ (o ≡ None) → is_locked found ≡ is_some o
@@ -170,54 +170,54 @@ is_said ways.Clean o same = sym (ap is_some (same.0 refl))
 is_said ways.Recovered None same = absurd (let e = same.1 refl in cc)
 is_said ways.Recovered (Some c) same = refl
 
-abbrev pub is_recovered : List ℕ → View → Outcome
-is_recovered n v = Ok (recovers n (look v n))
+abbrev pub is_recovered : (freed : List ℕ → Bool) → List ℕ → View → Outcome
+is_recovered freed n v = Ok (recovers freed n (look v n))
 
 -- it is recovered, and what is said of it is cut
-pub cut_ends : (n : List ℕ) (v : View) (o2 : Option View) (out out2 err : Option (List ℕ)) → IsSfile n → o2 ≡ Some (recover_alone n v) → Says (Err WriteFault) (recovers n (look v n)).out out out2
-    → (d : StepEffect) × (is_recovered n v ≡ Ok d) × ReportCut n d (world (Some v) out err) (world o2 out2 err)
-cut_ends n v o2 out out2 err sfile is says = (
-  recovers n (look v n),
+pub cut_ends : (freed : List ℕ → Bool) (n : List ℕ) (v : View) (o2 : Option View) (out out2 err : Option (List ℕ)) → IsSfile n → o2 ≡ Some (recover_alone n v) → Says (Err WriteFault) (recovers freed n (look v n)).out out out2
+    → (d : StepEffect) × (is_recovered freed n v ≡ Ok d) × ReportCut n d (world (Some v) out err) (world o2 out2 err)
+cut_ends freed n v o2 out out2 err sfile is says = (
+  recovers freed n (look v n),
   refl,
   record {
     status = refl;
-    view = subst (λ (t : Option View). Moves (is_working n) (λ u. moved u n (recovers n (look v n)).new) (Some v) t) (sym is) (λ k h. recovers_at n v k sfile h);
+    view = subst (λ (t : Option View). Moves (is_working n) (λ u. moved u n (recovers freed n (look v n)).new) (Some v) t) (sym is) (λ k h. recovers_at freed n v k sfile h);
     cleared = subst (λ (t : Option View). AreCleared n (Some v) t) (sym is) (recovered_clears n v);
     out = says;
     err = some_none err [];
   },
 )
 
-pub made_ends : (n : List ℕ) (v : View) (r : Result (Unit {0}) StepFault) (o2 : Option View) (out out2 err : Option (List ℕ)) → IsSfile n → o2 ≡ Some (recover_alone n v) → Says r (recovers n (look v n)).out out out2
-    → Meets (λ (done : Unit {0}). 0) r n (Ok (recovers n (look v n))) (world (Some v) out err) (world o2 out2 err)
-made_ends n v (Ok done) o2 out out2 err sfile is says = (
-  recovers n (look v n),
+pub made_ends : (freed : List ℕ → Bool) (n : List ℕ) (v : View) (r : Result (Unit {0}) StepFault) (o2 : Option View) (out out2 err : Option (List ℕ)) → IsSfile n → o2 ≡ Some (recover_alone n v) → Says r (recovers freed n (look v n)).out out out2
+    → Meets (λ (done : Unit {0}). 0) r n (Ok (recovers freed n (look v n))) (world (Some v) out err) (world o2 out2 err)
+made_ends freed n v (Ok done) o2 out out2 err sfile is says = (
+  recovers freed n (look v n),
   refl,
   refl,
   record {
-    view = subst (λ (t : Option View). Moves (is_working n) (λ u. moved u n (recovers n (look v n)).new) (Some v) t) (sym is) (λ k h. recovers_at n v k sfile h);
+    view = subst (λ (t : Option View). Moves (is_working n) (λ u. moved u n (recovers freed n (look v n)).new) (Some v) t) (sym is) (λ k h. recovers_at freed n v k sfile h);
     cleared = subst (λ (t : Option View). AreCleared n (Some v) t) (sym is) (recovered_clears n v);
     out = says;
     err = gives_none err;
   },
 )
-made_ends n v (Err WriteFault) o2 out out2 err sfile is says = inr (cut_ends n v o2 out out2 err sfile is says)
-made_ends n v (Err Memory) o2 out out2 err sfile is says = absurd says
-made_ends n v (Err ReadFault) o2 out out2 err sfile is says = absurd says
-made_ends n v (Err DiskFault) o2 out out2 err sfile is says = absurd says
-made_ends n v (Err (Refused refusal)) o2 out out2 err sfile is says = absurd says
+made_ends freed n v (Err WriteFault) o2 out out2 err sfile is says = inr (cut_ends freed n v o2 out out2 err sfile is says)
+made_ends freed n v (Err Memory) o2 out out2 err sfile is says = absurd says
+made_ends freed n v (Err ReadFault) o2 out out2 err sfile is says = absurd says
+made_ends freed n v (Err DiskFault) o2 out out2 err sfile is says = absurd says
+made_ends freed n v (Err (Refused refusal)) o2 out out2 err sfile is says = absurd says
 
-pub made_steps : (n : List ℕ) (found : Recovered) (r : Result (Unit {0}) StepFault) (a b : Told) (left out out2 err : Option (List ℕ)) → IsSfile n → Becomes (recover_alone n) (seen a) (seen b)
-    → IfSome (seen a) (λ (v : View). (found ≡ ways.Clean) ↔ (v (z_file n) ≡ None)) → IfSome (seen a) (λ (v : View). PassesChecks (free_checked n v) (Ok found)) → Says r (found_text n (is_locked found)) out out2
-    → Stepped recover_action r n left (scene a out err) (scene b out2 err)
-made_steps n found r a b left out out2 err sfile view clean checks says = by (seen a) view clean checks
+pub made_steps : (freed : List ℕ → Bool) (n : List ℕ) (found : Recovered) (r : Result (Unit {0}) StepFault) (a b : Told) (left out out2 err : Option (List ℕ)) → IsSfile n → Becomes (recover_alone n) (seen a) (seen b)
+    → IfSome (seen a) (λ (v : View). (found ≡ ways.Clean) ↔ (v (z_file n) ≡ None)) → IfSome (seen a) (λ (v : View). PassesChecks (free_checked n v) (Ok found)) → Says r (found_text n (is_locked found || freed n)) out out2
+    → Stepped (recover_action freed) r n left (scene a out err) (scene b out2 err)
+made_steps freed n found r a b left out out2 err sfile view clean checks says = by (seen a) view clean checks
   where
     by : (o : Option View) → Becomes (recover_alone n) o (seen b) → IfSome o (λ (v : View). (found ≡ ways.Clean) ↔ (v (z_file n) ≡ None)) → IfSome o (λ (v : View). PassesChecks (free_checked n v) (Ok found))
-        → IfSome o (λ (v : View). (i : List ℕ) → IsHeard false left i → Meets (λ (done : Unit {0}). 0) r n (recover_outcome n (v intent_file ∷ []) (look v n)) (world o out err) (world (seen b) out2 err))
+        → IfSome o (λ (v : View). (i : List ℕ) → IsHeard false left i → Meets (λ (done : Unit {0}). 0) r n (recover_outcome freed n (v intent_file ∷ []) (look v n)) (world o out err) (world (seen b) out2 err))
     by None view clean checks = tt
     by (Some v) view clean checks = λ i heard.
-        subst (λ o. Meets (λ (done : Unit {0}). 0) r n o (world (Some v) out err) (world (seen b) out2 err)) (sym (step_of n v (Ok true) checks))
-        (made_ends n v r (seen b) out out2 err sfile view (subst (λ (z : Bool). Says r (found_text n z) out out2) (is_said found (v (z_file n)) clean) says))
+        subst (λ o. Meets (λ (done : Unit {0}). 0) r n o (world (Some v) out err) (world (seen b) out2 err)) (sym (step_of freed n v (Ok true) checks))
+        (made_ends freed n v r (seen b) out out2 err sfile view (subst (λ (z : Bool). Says r (found_text n (z || freed n)) out out2) (is_said found (v (z_file n)) clean) says))
 
 -- what is asked of a call that answers a fault
 pub record Faults (n : List ℕ) (fault : StepFault) (a b : Told) : Type 0 where
@@ -266,34 +266,34 @@ all_kept : (n : List ℕ) (v : View) (o2 : Option View) → MovesPartly (is_left
 all_kept n v None parts = absurd parts
 all_kept n v (Some w) parts = λ k h. ⊎_elim (λ e. e) (λ e. e) (parts k h)
 
-interrupted : (n : List ℕ) (v : View) (o2 : Option View) (r : Result Bool Refusal) (out err : Option (List ℕ)) → IsSfile n → MovesPartly (is_left n) (λ (u : View). recovers_if r n u) (Some v) o2
-    → Meets (λ (done : Unit {0}). 0) (Err DiskFault) n (r >>= λ done. Ok (recovers n (look v n))) (world (Some v) out err) (world o2 out err)
-interrupted n v o2 (Ok done) out err sfile parts = record { view = in_order n v o2 (recovers n (look v n)).new (λ k h. recovers_at n v k sfile (no_working n k h)) parts; out = some_none out []; err = refl }
-interrupted n v o2 (Err refusal) out err sfile parts = record { view = (0, all_kept n v o2 parts); out = some_none out []; err = refl }
+interrupted : (freed : List ℕ → Bool) (n : List ℕ) (v : View) (o2 : Option View) (r : Result Bool Refusal) (out err : Option (List ℕ)) → IsSfile n → MovesPartly (is_left n) (λ (u : View). recovers_if r n u) (Some v) o2
+    → Meets (λ (done : Unit {0}). 0) (Err DiskFault) n (r >>= λ done. Ok (recovers freed n (look v n))) (world (Some v) out err) (world o2 out err)
+interrupted freed n v o2 (Ok done) out err sfile parts = record { view = in_order n v o2 (recovers freed n (look v n)).new (λ k h. recovers_at freed n v k sfile (no_working n k h)) parts; out = some_none out []; err = refl }
+interrupted freed n v o2 (Err refusal) out err sfile parts = record { view = (0, all_kept n v o2 parts); out = some_none out []; err = refl }
 
-fault_ends : (n : List ℕ) (v : View) (fault : StepFault) (r : Result Bool Refusal) (a b : Told) (out err : Option (List ℕ)) → IsSfile n → seen a ≡ Some v → free_checked n v ≡ r → Faults n fault a b
-    → Meets (λ (done : Unit {0}). 0) (Err fault) n (r >>= λ done. Ok (recovers n (look v n))) (world (Some v) out err) (world (seen b) out err)
-fault_ends n v (Refused refusal) r a b out err sfile told is faults =
-    ends_silent v (seen b) n (r >>= λ done. Ok (recovers n (look v n))) (Refused refusal) out err (ap seen (faults.refused refusal refl) ∙ told)
-    (ap (λ (x : Result Bool Refusal). x >>= λ done. Ok (recovers n (look v n))) (sym is ∙ subst (λ (o : Option View). IfSome o (λ (u : View). PassesChecks {A = Recovered} (free_checked n u) (Err (Refused refusal)))) told faults.checks))
-fault_ends n v Memory r a b out err sfile told is faults = record {
+fault_ends : (freed : List ℕ → Bool) (n : List ℕ) (v : View) (fault : StepFault) (r : Result Bool Refusal) (a b : Told) (out err : Option (List ℕ)) → IsSfile n → seen a ≡ Some v → free_checked n v ≡ r → Faults n fault a b
+    → Meets (λ (done : Unit {0}). 0) (Err fault) n (r >>= λ done. Ok (recovers freed n (look v n))) (world (Some v) out err) (world (seen b) out err)
+fault_ends freed n v (Refused refusal) r a b out err sfile told is faults =
+    ends_silent v (seen b) n (r >>= λ done. Ok (recovers freed n (look v n))) (Refused refusal) out err (ap seen (faults.refused refusal refl) ∙ told)
+    (ap (λ (x : Result Bool Refusal). x >>= λ done. Ok (recovers freed n (look v n))) (sym is ∙ subst (λ (o : Option View). IfSome o (λ (u : View). PassesChecks {A = Recovered} (free_checked n u) (Err (Refused refusal)))) told faults.checks))
+fault_ends freed n v Memory r a b out err sfile told is faults = record {
   view = (false, subst (λ (o : Option View). Moves (is_working n) (λ u. u) o (seen b)) told (faults.memory refl));
   cleared = subst (λ (o : Option View). AreCleared n o (seen b)) told (faults.cleared refl);
   out = some_none out _;
   err = refl;
 }
-fault_ends n v DiskFault r a b out err sfile told is faults =
-    interrupted n v (seen b) r out err sfile (partly_by n v (seen b) r is (subst (λ (o : Option View). MovesPartly (is_left n) (λ (u : View). recovers_if (free_checked n u) n u) o (seen b)) told (faults.partly refl)))
-fault_ends n v ReadFault r a b out err sfile told is faults = absurd (faults.read refl)
-fault_ends n v WriteFault r a b out err sfile told is faults = absurd (faults.write refl)
+fault_ends freed n v DiskFault r a b out err sfile told is faults =
+    interrupted freed n v (seen b) r out err sfile (partly_by n v (seen b) r is (subst (λ (o : Option View). MovesPartly (is_left n) (λ (u : View). recovers_if (free_checked n u) n u) o (seen b)) told (faults.partly refl)))
+fault_ends freed n v ReadFault r a b out err sfile told is faults = absurd (faults.read refl)
+fault_ends freed n v WriteFault r a b out err sfile told is faults = absurd (faults.write refl)
 
-pub fault_steps : (n : List ℕ) (fault : StepFault) (a b : Told) (left out err : Option (List ℕ)) → IsSfile n → Faults n fault a b → Stepped recover_action (Err fault) n left (scene a out err) (scene b out err)
-fault_steps n fault a b left out err sfile faults = by (seen a) refl
+pub fault_steps : (freed : List ℕ → Bool) (n : List ℕ) (fault : StepFault) (a b : Told) (left out err : Option (List ℕ)) → IsSfile n → Faults n fault a b → Stepped (recover_action freed) (Err fault) n left (scene a out err) (scene b out err)
+fault_steps freed n fault a b left out err sfile faults = by (seen a) refl
   where
-    by : (o : Option View) → seen a ≡ o → IfSome o (λ (v : View). (i : List ℕ) → IsHeard false left i → Meets (λ (done : Unit {0}). 0) (Err fault) n (recover_outcome n (v intent_file ∷ []) (look v n)) (world o out err) (world (seen b) out err))
+    by : (o : Option View) → seen a ≡ o → IfSome o (λ (v : View). (i : List ℕ) → IsHeard false left i → Meets (λ (done : Unit {0}). 0) (Err fault) n (recover_outcome freed n (v intent_file ∷ []) (look v n)) (world o out err) (world (seen b) out err))
     by None told = tt
     by (Some v) told = λ i heard.
-        subst (λ o. Meets (λ (done : Unit {0}). 0) (Err fault) n o (world (Some v) out err) (world (seen b) out err)) (sym (step_of n v (free_checked n v) refl)) (fault_ends n v fault (free_checked n v) a b out err sfile told refl faults)
+        subst (λ o. Meets (λ (done : Unit {0}). 0) (Err fault) n o (world (Some v) out err) (world (seen b) out err)) (sym (step_of freed n v (free_checked n v) refl)) (fault_ends freed n v fault (free_checked n v) a b out err sfile told refl faults)
 
 -- ---- what is said, over any disk
 

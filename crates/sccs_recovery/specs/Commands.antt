@@ -25,16 +25,16 @@ Says (Err WriteFault) text out out2 = GivesSome out out2 text
 Says (Err fault) text out out2 = ⊥
 
 -- an intent that is there refuses the step
-pub refused_step : (n : List ℕ) (intent : Option Content) (f : Files) (d : StepEffect) → IsSome intent → recover_outcome n (intent ∷ []) f ≡ Ok d → d.new ≡ None
+pub refused_step : (freed : List ℕ → Bool) (n : List ℕ) (intent : Option Content) (f : Files) (d : StepEffect) → IsSome intent → recover_outcome freed n (intent ∷ []) f ≡ Ok d → d.new ≡ None
 unfolding recover_outcome
-refused_step n None f d there is = absurd cc
-refused_step n (Some c) f d there is = absurd cc
+refused_step freed n None f d there is = absurd cc
+refused_step freed n (Some c) f d there is = absurd cc
 
 -- it doesn't only read
-pub recover_keeps : KeepsFiles recover_action
-recover_keeps = record {
+pub recover_keeps : (freed : List ℕ → Bool) → KeepsFiles (recover_action freed)
+recover_keeps freed = record {
   quiet = λ reads n i named f d is. absurd cc;
   names = λ changes n fits. ((sfile_name_decides n).0 fits).1;
   locked = λ changes locks n i named f d is there g new. absurd cc;
-  pending = λ changes never n i v f d there is. refused_step n (v intent_file) f d there is;
+  pending = λ changes never n i v f d there is. refused_step freed n (v intent_file) f d there is;
 }

@@ -86,13 +86,13 @@ pub sact_leaves : (heading : Bool) (n : List ℕ) (f : Files) → Leaves f.s (sa
 unfolding sact_step
 sact_leaves heading n f = passed_leaves f.s (found_edits f) _ (λ edits. done_leaves f.s (shows_entries heading n edits) refl)
 
-step_leaves : (n : List ℕ) (f : Files) → Leaves f.s (recover_step n f)
+step_leaves : (freed : List ℕ → Bool) (n : List ℕ) (f : Files) → Leaves f.s (recover_step freed n f)
 unfolding recover_step
-step_leaves n f = passed_leaves f.s (files_checked f) _ (λ done. done_leaves f.s (recovers n f) (either_leaves (is_some f.z) f.s (recovered_files f) refl))
+step_leaves freed n f = passed_leaves f.s (files_checked f) _ (λ done. done_leaves f.s (recovers freed n f) (either_leaves (is_some f.z) f.s (recovered_files f) refl))
 
-pub recover_leaves : (n : List ℕ) (named : List (Option Content)) (f : Files) → Leaves f.s (recover_outcome n named f)
+pub recover_leaves : (freed : List ℕ → Bool) (n : List ℕ) (named : List (Option Content)) (f : Files) → Leaves f.s (recover_outcome freed n named f)
 unfolding recover_outcome
-recover_leaves n named f = passed_leaves f.s (none_pending (intent_in named)) _ (λ free. step_leaves n f)
+recover_leaves freed n named f = passed_leaves f.s (none_pending (intent_in named)) _ (λ free. step_leaves freed n f)
 
 pub locking_leaves : (outcome : Step) (n input : List ℕ) (named : List (Option Content)) (f : Files) → Leaves f.s (outcome n input named f) → Leaves f.s (locking_step outcome n input named f)
 unfolding locking_step

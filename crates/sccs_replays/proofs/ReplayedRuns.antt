@@ -35,7 +35,7 @@ use Rattle.sccs_soak.specs.Commands.{soak_commands, soak_file}
 use Rattle.sccs_soak.specs.Keeps.{summary_keeps}
 use Rattle.sccs_soak.specs.Soak.{soaked}
 use Rattle.sccs_soak.specs.Summaries.{summary_action, summary_course}
-use Rattle.sccs_top.specs.Runs.{Caller, action_of, caller_by, command_course, command_steps, course_by, entry_command, meant_course, next_course, operands_of, run_steps, steps_by, val_words_of, group_use}
+use Rattle.sccs_top.specs.Runs.{Caller, action_of, caller_by, command_course, command_steps, course_by, entry_command, freed_at, freeing, group_use, meant_course, next_course, operands_of, run_steps, steps_by, val_words_of}
 use Rattle.sccs_top.specs.declared.commands.CommandList.{CommandList}
 use Rattle.sccs_top.specs.declared.commands.CommandList.TheVariants as list
 use Rattle.sccs_replays.specs.PastRuns.{AreInTurn, HasVersions, IsPastCommand, IsPastRun, IsPlainBy, PastRun, commands_by, commands_listed, commands_meant, commands_of, entry_run, entry_runs, first_run, folder_after_run, list_meant, next_run, replay, soak_runs, s_file_after, single_steps, steps_meant, steps_of_entry, versions_after_commands, versions_after_run, versions_after_steps, HasPlainNames, steps_with}
@@ -72,8 +72,11 @@ with_goes (Some uses.Finishes) n r command texts is sfile moment login values na
     subst (λ (x : Texts). HasVersions (view_in (folder_after r.folder (steps_with (Some uses.Finishes) r command)) n) x) (sym (finishing_stays r.who command r.input n r.folder (steps_with (Some uses.Finishes) r command) texts))
     (by r.made names.plain.1)
   where
+    behind : Caller
+    behind = freeing r.who (freed_at r.folder)
+
     x : Action
-    x = action_of r.who command
+    x = action_of behind command
 
     after : Folder
     after = step_in r.folder (finishing_step (view_in r.folder))
@@ -84,7 +87,7 @@ with_goes (Some uses.Finishes) n r command texts is sfile moment login values na
     by : (made : ℕ) → ArePlain x (drop 1 (take made (finishing_step (view_in r.folder) ∷ ts))) → HasVersions (view_in (folder_after r.folder (take made (finishing_step (view_in r.folder) ∷ ts))) n) texts
     by zero plain = has
     by (suc made) plain =
-        finishing_goes r.who command r.input n r.folder made ts texts is sfile moment login names.plain.0 names.free plain
+        finishing_goes behind command r.input n r.folder made ts texts is sfile moment login names.plain.0 names.free plain
         (are_some x r.input made after ts (are_made (val_words_of command) x after r.input (operands_of command))) has
 
 command_run_goes : (n : List ℕ) (r : PastRun) (meant : Result Command Usage) (texts : Texts) → IsSfile n → IsMoment r.who.stamp.moment → IsLogin r.who.stamp.login → AreMeantValues meant → IsPlainBy n r meant

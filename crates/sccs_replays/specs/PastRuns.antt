@@ -41,7 +41,7 @@ use Rattle.sccs_top.specs.Asked.{asked_of}
 use Rattle.sccs_group_words.specs.GroupText.{group_of}
 use Rattle.sccs_group_words.specs.declared.entries.GroupEntry.{GroupEntry}
 use Rattle.sccs_group_step.specs.GroupStep.{EntrySteps, entry_steps}
-use Rattle.sccs_top.specs.Runs.{Caller, action_of, caller, caller_by, command_steps, course_with, entry_command, group_use, list_in, meant_course, run_steps}
+use Rattle.sccs_top.specs.Runs.{Caller, action_of, caller, caller_by, command_steps, course_with, entry_command, freed_at, freeing, group_use, list_in, meant_course, run_steps}
 use Rattle.sccs_top.specs.declared.commands.GroupUse.{GroupUse}
 use Rattle.sccs_top.specs.declared.commands.GroupUse.TheVariants as uses
 use Rattle.sccs_top.specs.declared.commands.CommandList.{CommandList}
@@ -155,7 +155,7 @@ IsPlainWith None r command = ArePlain (action_of r.who command) (steps_with None
 IsPlainWith (Some uses.Makes) r command = AllByRecursion (λ (t : NamedStep). is_kept (drop 2 t.name) ≡ false) (deltas_in r.who r.folder (group_entries r.input))
 IsPlainWith (Some uses.Finishes) r command =
     AllByRecursion (λ (e : intended.Entry). is_kept (drop 2 e.name) ≡ false) (intents.entries_in (view_in r.folder intents.intent_file))
-    × ArePlain (action_of r.who command) (drop 1 (steps_with (Some uses.Finishes) r command))
+    × ArePlain (action_of (freeing r.who (freed_at r.folder)) command) (drop 1 (steps_with (Some uses.Finishes) r command))
 
 -- a recover that finishes a group is the start of the files of its names
 abbrev pub IsFreeWith : List ℕ → Option GroupUse → PastRun → Type 0

@@ -13,14 +13,14 @@ use Rattle.sccs_group_step.specs.GroupStep.{joint_step}
 use Rattle.sccs_group_runs.proofs.GroupCourses.{begun_none, group_takes}
 use Rattle.sccs_finishing.specs.FinishStep.{finishing_step}
 use Rattle.sccs_top.specs.Messages.{usage_line}
-use Rattle.sccs_top.specs.Runs.{BegunCommand, BegunOperands, BegunWith, Caller, action_takes, command_course, course_with, group_use}
+use Rattle.sccs_top.specs.Runs.{BegunCommand, BegunOperands, BegunWith, Caller, action_takes, command_course, course_with, freed_at, freeing, group_use}
 use Rattle.sccs_top.specs.declared.commands.GroupUse.{GroupUse}
 use Rattle.sccs_top.specs.declared.commands.GroupUse.TheVariants as uses
 
 takes_with : (group : Option GroupUse) (who : Caller) (command : Command) (folder : Folder) (i : List ℕ) → AllTake (portions_of (course_with group who command) folder i)
 takes_with None who command folder i = (action_takes who command, tt)
 takes_with (Some uses.Makes) who command folder i = group_takes who.stamp folder i
-takes_with (Some uses.Finishes) who command folder i = ((λ changes n fits. ((sfile_name_decides n).0 fits).1), (action_takes who command, tt))
+takes_with (Some uses.Finishes) who command folder i = ((λ changes n fits. ((sfile_name_decides n).0 fits).1), (action_takes (freeing who (freed_at folder)) command, tt))
 
 pub command_takes : (who : Caller) (meant : Result Command Usage) (folder : Folder) (i : List ℕ) → AllTake (portions_of (command_course who meant) folder i)
 command_takes who (Err usage) folder i = (λ changes n fits. absurd (cc), tt)
@@ -49,7 +49,7 @@ begun_by who (c.Soak number) = ([], inl refl)
 begun_with : (group : Option GroupUse) (who : Caller) (command : Command) → (ts : List NamedStep) × BegunWith group who command ts
 begun_with None who command = begun_by who command
 begun_with (Some uses.Makes) who command = (joint_step [] ∷ [], inl begun_none)
-begun_with (Some uses.Finishes) who command = (finishing_step (λ k. None) ∷ [], inl ((λ k. None), refl))
+begun_with (Some uses.Finishes) who command = (finishing_step (λ k. None) ∷ [], (who.freed, inl ((λ k. None), refl)))
 
 pub command_might : (who : Caller) (meant : Result Command Usage) → (ts : List NamedStep) × BegunCommand who meant ts
 command_might who (Err usage) = (said [] (usage_line usage) ∷ [], refl)

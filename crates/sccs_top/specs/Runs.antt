@@ -39,7 +39,7 @@ use Rattle.sccs_get.specs.Keeps.{get_keeps}
 use Rattle.sccs_get.specs.VersionStep.{get_action}
 use Rattle.sccs_rcs.specs.ImportStep.{import_change}
 use Rattle.sccs_recovery.specs.Commands.{recover_keeps}
-use Rattle.sccs_recovery.specs.RecoverStep.{recover_action}
+use Rattle.sccs_recovery.specs.RecoverStep.{freed_by, recover_action}
 use Rattle.sccs_rmdel.specs.RmdelStep.{rmdel_change}
 use Rattle.sccs_prs.specs.Keeps.{prs_keeps}
 use Rattle.sccs_prs.specs.PrsStep.{prs_action}
@@ -60,7 +60,7 @@ use Rattle.sccs_steps.specs.Causes.{Ignores}
 use Rattle.sccs_top.specs.Messages.{usage_line}
 use Rattle.sccs_finishing.specs.AnyDisk.{RecoversAll}
 use Rattle.sccs_finishing.specs.Ends.{BegunFinishing, WholeFinishing}
-use Rattle.sccs_finishing.specs.FinishStep.{finishing_course}
+use Rattle.sccs_finishing.specs.FinishStep.{finishing_course, freed_in}
 use Rattle.sccs_group_runs.specs.GroupCourses.{BegunGroup, IsGroupInput, WholeGroup, group_course}
 use Rattle.sccs_soak.specs.Dropping.{dropping}
 use Rattle.sccs_soak.specs.Soak.{BegunSoak, WholeSoak, soak_course}
@@ -86,12 +86,18 @@ pub record Caller : Type 0 where
   pub stamp : Stamp
   pub place : List ℕ
   pub quiet : Bool
+  -- the names that the end of a group freed just before
+  pub freed : List ℕ → Bool
 
 abbrev pub caller_by : Bool → Stamp → List ℕ → Caller
-caller_by quiet stamp place = record { stamp = stamp; place = place; quiet = quiet }
+caller_by quiet stamp place = record { stamp = stamp; place = place; quiet = quiet; freed = freed_by [] }
 
 abbrev pub caller : Stamp → List ℕ → Caller
 caller stamp place = caller_by false stamp place
+
+-- behind the end of a group that freed these names
+abbrev pub freeing : Caller → (List ℕ → Bool) → Caller
+freeing who freed = record { stamp = who.stamp; place = who.place; quiet = who.quiet; freed = freed }
 
 -- get: with -e an edit is reserved
 abbrev pub get_in : GetWords → Caller → Bool → Action
@@ -150,7 +156,7 @@ single_of (c.Rmdel sid operands) = single (λ who. locking (rmdel_change sid who
 single_of (c.Cdc words operands) = single (λ who. locking (cdc_change words who.stamp)) (words_in operands) (λ who. (locking_keeps (cdc_change words who.stamp)).names)
 single_of (c.Prs words operands) = single (λ who. prs_action words who.place) (words_in operands) (λ who. (prs_keeps words who.place).names)
 single_of (c.What first operands) = single (λ who. what_action first) (words_in operands) (λ who. (what_keeps first).names)
-single_of (c.Recover operands) = single (λ who. recover_action) (words_in operands) (λ who. recover_keeps.names)
+single_of (c.Recover operands) = single (λ who. recover_action who.freed) (words_in operands) (λ who. (recover_keeps who.freed).names)
 single_of (c.Import operands) = single (λ who. locking (import_change (has_heading operands))) (words_in operands) (λ who. (locking_keeps (import_change (has_heading operands))).names)
 single_of (c.Val words) = record { by = λ who. val_action words; operands = val_operands words; val = Some words; takes = λ who. val_takes words }
 single_of c.Group = no_single
@@ -220,11 +226,15 @@ is_of_operands command = not (is_some (list_in command)) && not (is_some (group_
 abbrev pub operands_course : Caller → Command → Courses
 operands_course who command = portion_of (action_of who command) (steps_by (val_words_of command) (action_of who command) (operands_of command))
 
--- a group is made of the input, or finished before the operands
+-- those that the end of a group frees in a folder
+abbrev pub freed_at : Folder → List ℕ → Bool
+freed_at folder = freed_by (freed_in (view_in folder))
+
+-- a group is made of the input, or finished before the operands, which then tell of the names that it freed
 abbrev pub course_with : Option GroupUse → Caller → Command → Courses
 course_with None who command = operands_course who command
 course_with (Some uses.Makes) who command = group_course who.stamp
-course_with (Some uses.Finishes) who command = follow finishing_course (λ code. operands_course who command)
+course_with (Some uses.Finishes) who command = λ folder i. follow finishing_course (λ code. operands_course (freeing who (freed_at folder)) command) folder i
 
 -- what a command does that is no list of commands; a usage fault is said
 abbrev pub command_course : Caller → Result Command Usage → Courses
@@ -329,16 +339,23 @@ WholeOperands who command = WholeBy (action_of who command).rule (MadeBy (val_wo
 abbrev pub BegunOperands : Caller → Command → List NamedStep → Type 0
 BegunOperands who command = BegunBy (val_words_of command) (action_of who command) (operands_of command)
 
+-- the same behind the end of a group, which freed some names
+abbrev pub WholeFreed : Caller → Command → ℕ → List NamedStep → Type 0
+WholeFreed who command status ts = (freed : List ℕ → Bool) × WholeThen WholeFinishing (λ code. WholeOperands (freeing who freed) command) status ts
+
+abbrev pub BegunFreed : Caller → Command → List NamedStep → Type 0
+BegunFreed who command ts = (freed : List ℕ → Bool) × BegunThen WholeFinishing BegunFinishing (λ code. BegunOperands (freeing who freed) command) ts
+
 -- the same with a group
 abbrev pub WholeWith : Option GroupUse → Caller → Command → ℕ → List NamedStep → Type 0
 WholeWith None who command = WholeOperands who command
 WholeWith (Some uses.Makes) who command = WholeGroup
-WholeWith (Some uses.Finishes) who command = WholeThen WholeFinishing (λ code. WholeOperands who command)
+WholeWith (Some uses.Finishes) who command = WholeFreed who command
 
 abbrev pub BegunWith : Option GroupUse → Caller → Command → List NamedStep → Type 0
 BegunWith None who command = BegunOperands who command
 BegunWith (Some uses.Makes) who command = BegunGroup
-BegunWith (Some uses.Finishes) who command = BegunThen WholeFinishing BegunFinishing (λ code. BegunOperands who command)
+BegunWith (Some uses.Finishes) who command = BegunFreed who command
 
 abbrev pub WholeCommand : Caller → Result Command Usage → ℕ → List NamedStep → Type 0
 WholeCommand who (Err usage) = WholeSaid [] (usage_line usage) 2

@@ -1,4 +1,4 @@
-ghost use Rattle.std.specs.Prelude.{◌≡◌, ◌≢◌, ◌∷◌, [], true, false, Ok, None, Some, IfOk, IfSome};
+ghost use Rattle.std.specs.Prelude.{◌≡◌, ◌∷◌, [], true, false, Ok, None, Some, IfOk, IfSome};
 ghost use Rattle.sccs_sid.specs.Moment.{IsMoment};
 ghost use Rattle.sccs_sid.specs.Sid.{IsComponent};
 ghost use Rattle.sccs_words.specs.ValidValues.{AreGetValues, HasValidValues};
@@ -14,6 +14,8 @@ ghost use Rattle.sccs_delta.specs.DeltaStep.{delta_change};
 ghost use Rattle.sccs_edit.specs.UngetStep.{unget_change};
 ghost use Rattle.sccs_cdc.specs.CdcStep.{cdc_change};
 ghost use Rattle.sccs_front.specs.PendingStep.{pending_action};
+ghost use Rattle.sccs_name_sets.specs.NameSets.{names_in};
+ghost use Rattle.sccs_recovery.specs.RecoverStep.{freed_by, recover_action};
 ghost use Rattle.sccs_rcs.specs.ImportStep.{import_change};
 ghost use Rattle.sccs_top.specs.Asked.{HasValidCommands, asked_of};
 ghost use Rattle.sccs_top.specs.declared.commands.GroupUse.TheVariants as uses;
@@ -37,6 +39,7 @@ use sccs_finishing::finish;
 use sccs_front::Entries;
 use sccs_get::{Get, Reserve};
 use sccs_group_runs::run_group;
+use sccs_name_sets::NameSet;
 use sccs_prs::Prs;
 use sccs_rcs::Import;
 use sccs_recovery::Recover;
@@ -53,6 +56,7 @@ use sccs_words::{
     AdminWords, CdcWords, Command, DeltaWords, GetWords, Operands, UngetWords, Usage, WordsFault,
 };
 use std::alloc::Global;
+use std::collections::BTreeSet;
 
 // how a command ends whose steps end so
 fn ended(made: Result<u8, Fault>) -> Answer
@@ -332,6 +336,26 @@ fn run_delta<I: Source, O: Sink, E: Sink, D: Disk>(
     }
 }
 
+// recovers the names of the operands of recover, behind the end of a group that freed some names
+fn run_freed<I: Source, O: Sink, E: Sink, D: Disk>(
+    alloc: Global,
+    command: &Command,
+    freed: &NameSet,
+    quiet: bool,
+    streams: &mut Streams<I, O, E, D>,
+) -> Result<u8, Fault>
+    requires { group_use command.now ≡ Some uses.Finishes }
+    ensures loans { SameLoans streams.old streams.new }
+    ensures run { RunsOperands (hushed None quiet (recover_action (freed_by (names_in freed.now)))) (operands_of command.now) result (setting I.Source O.Sink E.Sink D.Disk streams.old) (setting I.Source O.Sink E.Sink D.Disk streams.new) }
+{
+    match command {
+        Command::Recover(operands) => {
+            run_ordinary(alloc, Recover { freed }, operands, quiet, streams)
+        }
+        _ => unreachable!(),
+    }
+}
+
 // makes the steps of the operands of a command; where it is quiet its output is dropped
 fn run_single<I: Source, O: Sink, E: Sink, D: Disk>(
     alloc: Global,
@@ -342,7 +366,7 @@ fn run_single<I: Source, O: Sink, E: Sink, D: Disk>(
     streams: &mut Streams<I, O, E, D>,
 ) -> Result<u8, Fault>
     requires single { list_in command.now ≡ None }
-    requires operands { group_use command.now ≢ Some uses.Makes }
+    requires operands { group_use command.now ≡ None }
     requires values { HasValidValues command.now }
     requires moment { IsMoment stamp.now.moment }
     ensures loans { SameLoans streams.old streams.new }
@@ -377,10 +401,9 @@ fn run_single<I: Source, O: Sink, E: Sink, D: Disk>(
         Command::What(first, operands) => {
             run_list(alloc, &What { first: *first }, operands, quiet, streams)
         }
-        Command::Recover(operands) => run_ordinary(alloc, Recover, operands, quiet, streams),
         Command::Import(operands) => run_import(alloc, operands, quiet, streams),
         Command::Val(words) => run_val(alloc, words, streams),
-        Command::Group | Command::Batch | Command::Soak(_) => unreachable!(),
+        Command::Recover(_) | Command::Group | Command::Batch | Command::Soak(_) => unreachable!(),
     }
 }
 
@@ -397,7 +420,7 @@ fn run_lent<I: Source, O: Sink, E: Sink, D: Disk>(
     disk: &mut D,
 ) -> Result<u8, Fault>
     requires single { list_in command.now ≡ None }
-    requires operands { group_use command.now ≢ Some uses.Makes }
+    requires operands { group_use command.now ≡ None }
     requires values { HasValidValues command.now }
     requires moment { IsMoment stamp.now.moment }
     ensures { RunsCommand (val_words_of command.now) (action_of (caller_by quiet stamp.now place.now) command.now) (operands_of command.now) result
@@ -428,8 +451,9 @@ fn run_finishing<I: Source, O: Sink, E: Sink, D: Disk>(
     ensures run { RunsAlone (caller_by quiet stamp.now place.now) command.now result (setting I.Source O.Sink E.Sink D.Disk streams.old) (setting I.Source O.Sink E.Sink D.Disk streams.new) }
     ensures leaves { LeavesAlone (caller_by quiet stamp.now place.now) command.now result (setting I.Source O.Sink E.Sink D.Disk streams.old) (setting I.Source O.Sink E.Sink D.Disk streams.new) }
 {
-    match finish(alloc, streams) {
-        Ok(_) => run_single(alloc, command, stamp, place, quiet, streams),
+    let mut freed = BTreeSet::new(alloc);
+    match finish(alloc, streams, &mut freed) {
+        Ok(_) => run_freed(alloc, command, &freed, quiet, streams),
         Err(fault) => Err(fault),
     }
 }
@@ -623,11 +647,12 @@ fn run_asked<I: Source, O: Sink, E: Sink, D: Disk>(
 /// at each end, so that recovery may run. No s-file or p-file changes but one whose z-file wasn't there at an
 /// earlier moment of the run, unless it recovers.
 ///
-/// recover first finishes a group that was stopped, whatever its operands. It may begin on any disk whose s-files and
-/// p-files, intent, and x- and q-files of names of the intent are firm, as one is that a disk fault has left, where
-/// these names are locked, recovery leaves the pairs that it makes, and an intent that is there has its form: a stop
-/// leaves what recovers as something that one could leave at its start, it may be run again, and where the run is
-/// finished the disk is calm.
+/// recover first finishes a group that was stopped, whatever its operands, and says of the names that this freed
+/// that they were recovered. It may begin on any disk whose s-files and p-files, intent, and x- and q-files of
+/// names of the intent are firm, as one is that a disk fault has left, where these names are locked, recovery
+/// leaves the pairs that it makes, and an intent that is there has its form: a stop leaves what recovers as
+/// something that one could leave at its start, it may be run again, and where the run is finished the disk is
+/// calm.
 pub fn run<I: Source, O: Sink, E: Sink, D: Disk>(
     alloc: Global,
     words: &Words,

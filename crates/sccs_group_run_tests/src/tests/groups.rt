@@ -1,4 +1,4 @@
-use crate::tests::names::{GROUP, are_free, are_new, are_old, edited};
+use crate::tests::names::{GROUP, are_free, are_new, are_old, are_uncrossed, crossed, edited};
 use sccs_disk::MemoryDisk;
 use sccs_fixtures::{CASE, Case, ends, has_file};
 use std::alloc::Global;
@@ -11,6 +11,20 @@ fn groups_are_made(rt: HostRuntime) -> Result<(), Fail> {
     assert!(rt; ends(alloc, &mut disk, &GROUP)?);
     assert!(rt; are_new(&disk)? && are_free(&disk)?);
     assert!(rt; has_file(&disk, b"b", None)?);
+    Ok(())
+}
+
+#[test]
+fn a_g_file_may_be_the_l_file_of_another_name(rt: HostRuntime) -> Result<(), Fail> {
+    let alloc = rt.alloc();
+    let mut disk = crossed(alloc)?;
+    let both = Case {
+        input: b"@ 3 3\ndelta\n-ysecond\ns.l.a\n1a\nmid\n.\n@ 3 3\ndelta\n-ysecond\ns.a\n1a\nmid\n.\n",
+        out: b"\ns.l.a:\n1.2\n1 inserted\n0 deleted\n2 unchanged\n\ns.a:\n1.2\n1 inserted\n0 deleted\n2 unchanged\n",
+        ..GROUP
+    };
+    assert!(rt; ends(alloc, &mut disk, &both)?);
+    assert!(rt; are_uncrossed(&disk)?);
     Ok(())
 }
 

@@ -171,6 +171,64 @@ pub const GROUP: Case<'static> = Case {
     ..CASE
 };
 
+// two names that are edited, of which the g-file of s.l.a is the l-file of s.a
+const CROSSED: [File<'static>; 5] = [
+    File {
+        name: b"s.l.a",
+        bytes: Some(TWO_LINES),
+    },
+    File {
+        name: b"p.l.a",
+        bytes: Some(ENTRY),
+    },
+    File {
+        name: b"l.a",
+        bytes: Some(TEXT),
+    },
+    File {
+        name: b"s.a",
+        bytes: Some(TWO_LINES),
+    },
+    File {
+        name: b"p.a",
+        bytes: Some(ENTRY),
+    },
+];
+
+// the same after their group
+const UNCROSSED: [File<'static>; 5] = [
+    File {
+        name: b"s.l.a",
+        bytes: Some(SECOND),
+    },
+    File {
+        name: b"p.l.a",
+        bytes: None,
+    },
+    File {
+        name: b"l.a",
+        bytes: None,
+    },
+    File {
+        name: b"s.a",
+        bytes: Some(SECOND),
+    },
+    File {
+        name: b"p.a",
+        bytes: None,
+    },
+];
+
+/// A disk on which the g-file of a name that is edited is the l-file of another.
+pub fn crossed(alloc: Global) -> Result<MemoryDisk, Fail> {
+    disk_with(alloc, &[], &CROSSED)
+}
+
+/// Whether those two names are as after their group.
+pub fn are_uncrossed(disk: &MemoryDisk) -> Result<bool, Fail> {
+    has(disk, &UNCROSSED)
+}
+
 /// A disk on which the three names are edited, of which these calls fail.
 pub fn edited(alloc: Global, failing: &[u64]) -> Result<MemoryDisk, Fail> {
     disk_with(alloc, failing, &EDITED)

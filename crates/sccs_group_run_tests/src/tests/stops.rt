@@ -1,6 +1,6 @@
 use crate::tests::names::{CALLS, GROUP, are_free, are_new, are_old, edited};
 use sccs_disk::{Fill, MemoryDisk};
-use sccs_fixtures::{Answer, Given, PLAIN, answer_to};
+use sccs_fixtures::{Answer, Given, PLAIN, answer_to, name};
 use std::alloc::Global;
 use std::test::Fail;
 
@@ -121,5 +121,33 @@ fn a_failing_group_is_whole_or_not_there(rt: HostRuntime) -> Result<(), Fail> {
     for call in 1..CALLS {
         assert!(rt; fails_whole(rt.alloc(), call)?, "call {call}");
     }
+    Ok(())
+}
+
+// what is said of the names of a group that was finished, and of another one
+const ALL: &[u8] = b"recover s.a s.d s.c s.b";
+
+const TOLD: &[u8] = b"s.a: recovered\ns.d: clean\ns.c: recovered\ns.b: recovered\n";
+
+// whether an intent is there, and whether recovery tells of its names
+fn tells(alloc: Global, image: &mut MemoryDisk) -> Result<(bool, bool), Fail> {
+    let there = image.bytes(&name(b"sccs.intent")?).is_some();
+    let seen = answer_to(alloc, ALL, &PLAIN, image)?;
+    Ok((there, seen.is(0, TOLD, b"")))
+}
+
+#[test]
+fn names_of_a_finished_group_are_recovered(rt: HostRuntime) -> Result<(), Fail> {
+    let alloc = rt.alloc();
+    let mut disk = edited(alloc, &[])?;
+    assert!(rt; answer_to(alloc, GROUP.line, &given(), &mut disk)?.answer == GOOD);
+    let mut found = false;
+    for calls in 0..CALLS {
+        let mut image = disk.crash(alloc, calls, 50, Fill::Written)?;
+        let (there, told) = tells(alloc, &mut image)?;
+        assert!(rt; !there || told, "after {calls} calls");
+        found = found || there;
+    }
+    assert!(rt; found);
     Ok(())
 }

@@ -6,6 +6,7 @@ use sccs_base::Name;
 use sccs_disk::{DiskRefusal, Fill, MemoryDisk};
 use sccs_group::*;
 use sccs_intents::{Entry, Fate};
+use sccs_sid::{Refusal, StepFault};
 use std::alloc::Global;
 use std::test::Fail;
 
@@ -98,12 +99,12 @@ fn is_old(disk: &MemoryDisk) -> Result<bool, Fail> {
 // whether the group is committed
 fn commits(alloc: Global, disk: &mut MemoryDisk) -> Result<bool, Fail> {
     let members = two_members(alloc)?;
-    Ok(commit_members(alloc, disk, &plan_name(), &intent_name(), members.items()).is_ok())
+    Ok(commit_group(alloc, &members, disk).is_ok())
 }
 
 // how a group ends that is finished: 1 where an intent was there, 2 where none was, 0 else
 fn finished(alloc: Global, disk: &mut MemoryDisk) -> u8 {
-    match finish_group(alloc, disk, &plan_name(), &intent_name()) {
+    match finish_group(alloc, disk) {
         Ok(true) => 1,
         Ok(false) => 2,
         Err(_) => 0,
@@ -194,8 +195,8 @@ fn bad_intent_stays(rt: HostRuntime) -> Result<(), Fail> {
     let alloc = rt.alloc();
     let mut disk = prepared(alloc)?;
     disk.put(&intent_name(), b"oops\n", true)?;
-    let fault = finish_group(alloc, &mut disk, &plan_name(), &intent_name());
-    assert!(rt; fault == Err(GroupFault::BadIntent(1)));
+    let fault = finish_group(alloc, &mut disk);
+    assert!(rt; fault == Err(StepFault::Refused(Refusal::BadIntent(1))));
     assert!(rt; disk.has(&intent_name()) && holds(&disk, b"s.a", b"old a")?);
     Ok(())
 }
@@ -207,13 +208,7 @@ fn failing_disk_fails_the_commit(rt: HostRuntime) -> Result<(), Fail> {
     disk.put(&name(b"s.a")?, b"old a", false)?;
     disk.put(&name(b"z.a")?, b"", true)?;
     let members = two_members(alloc)?;
-    let answer = commit_members(
-        alloc,
-        &mut disk,
-        &plan_name(),
-        &intent_name(),
-        members.items(),
-    );
+    let answer = commit_group(alloc, &members, &mut disk);
     assert!(rt; answer == Err(DiskRefusal::Failed));
     Ok(())
 }

@@ -9,8 +9,7 @@ use Rattle.sccs_finishing.proofs.finishing.finish_disk.Goals as goal
 pub returns-clause-ends : goal.returns-clause-ends
 returns-clause-ends g c =
     subst (λ (r : Result ℕ Fault). FinishEnds r (g.D.Disk.told c.args.disk.now) (g.D.Disk.told c.finish_group.new.disk)) (sym c.status_of.ensures)
-    (finish_ends c.finish_group.result (g.D.Disk.told c.args.disk.now) (g.D.Disk.told c.finish_group.new.disk) c.finish_group.ensures.done c.finish_group.ensures.view c.finish_group.ensures.form c.finish_group.ensures.bad c.finish_group.ensures.memory
-    c.finish_group.ensures.touches c.finish_group.ensures.story c.finish_group.ensures.halfway)
+    (finish_ends c.finish_group.result (g.D.Disk.told c.args.disk.now) (g.D.Disk.told c.finish_group.new.disk) c.finish_group.ensures.ends)
 
 pub returns-clause-causes : goal.returns-clause-causes
 returns-clause-causes g c =

@@ -17,6 +17,9 @@ returns-in-Some-Makes-clause-leaves g c =
 pub run_finishing_lent-requires-clause-finishes : goal.run_finishing_lent-requires-clause-finishes
 run_finishing_lent-requires-clause-finishes g c = sym c.group_use.ensures ∙ (c.in-Some-Finishes.is ∙ ap (λ (x : GroupUse). Some x) c.in-Some-Finishes.field-0-is)
 
+pub run_lent-requires-clause-operands : goal.run_lent-requires-clause-operands
+run_lent-requires-clause-operands g c = sym c.group_use.ensures ∙ c.in-None.is
+
 pub returns-in-None-clause-run : goal.returns-in-None-clause-run
 returns-in-None-clause-run g c =
     operands_run_alone (caller_by c.args.quiet c.args.stamp.now c.args.place.now) c.args.command.now c.run_lent.result (setting_of g.I.Source g.O.Sink g.E.Sink g.D.Disk c.args.input.now c.args.out.now c.args.err.now c.args.disk.now) (setting_of g.I.Source g.O.Sink g.E.Sink g.D.Disk c.run_lent.new.input c.run_lent.new.out c.run_lent.new.err c.run_lent.new.disk) (sym c.group_use.ensures ∙ c.in-None.is) c.run_lent.ensures

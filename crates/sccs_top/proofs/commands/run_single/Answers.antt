@@ -13,10 +13,6 @@ pub returns-in-Delta-clause-run : goal.returns-in-Delta-clause-run
 returns-in-Delta-clause-run g c =
     subst (λ (it : Command). RunsCommand (val_words_of it) (action_of (caller_by c.args.quiet c.args.stamp.now c.args.place.now) it) (operands_of it) c.run_delta.result (setting g.I.Source g.O.Sink g.E.Sink g.D.Disk c.args.streams.now) (setting g.I.Source g.O.Sink g.E.Sink g.D.Disk c.run_delta.new.streams)) (sym c.in-Delta.is) c.run_delta.ensures.run
 
-pub returns-in-Recover-clause-run : goal.returns-in-Recover-clause-run
-returns-in-Recover-clause-run g c =
-    subst (λ (it : Command). RunsCommand (val_words_of it) (action_of (caller_by c.args.quiet c.args.stamp.now c.args.place.now) it) (operands_of it) c.run_ordinary-in-Recover.result (setting g.I.Source g.O.Sink g.E.Sink g.D.Disk c.args.streams.now) (setting g.I.Source g.O.Sink g.E.Sink g.D.Disk c.run_ordinary-in-Recover.new.streams)) (sym c.in-Recover.is) c.run_ordinary-in-Recover.ensures.run
-
 pub returns-in-Import-clause-run : goal.returns-in-Import-clause-run
 returns-in-Import-clause-run g c =
     subst (λ (it : Command). RunsCommand (val_words_of it) (action_of (caller_by c.args.quiet c.args.stamp.now c.args.place.now) it) (operands_of it) c.run_import.result (setting g.I.Source g.O.Sink g.E.Sink g.D.Disk c.args.streams.now) (setting g.I.Source g.O.Sink g.E.Sink g.D.Disk c.run_import.new.streams)) (sym c.in-Import.is) c.run_import.ensures.run
