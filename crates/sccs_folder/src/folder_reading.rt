@@ -17,8 +17,9 @@ const READ_AHEAD: usize = 131_072;
 struct OpenFor<F> {
     name: Name,
     file: F,
-    // where the file's next reading begins
+    // where the file's next reading begins, and whether the file ended there
     place: u64,
+    ended: bool,
     // the place of the first byte that was read ahead, and how many were
     from: u64,
     count: usize,
@@ -155,6 +156,7 @@ impl<F: Read + Seek + OpenFile + Drop> Reading<F> {
             name: *name,
             file,
             place: 0,
+            ended: false,
             from: 0,
             count: 0,
         });
@@ -185,9 +187,13 @@ impl<F: Read + Seek + OpenFile + Drop> Reading<F> {
             return Ok(Some(first));
         }
         let next = from.saturating_add(first as u64);
+        if open.ended && open.place == next {
+            return Ok(Some(first));
+        }
         let Some(count) = read_from(&mut open.file, &mut open.place, next, &mut self.ahead) else {
             return Err(Failed);
         };
+        open.ended = count < self.ahead.len();
         open.from = next;
         open.count = count;
         let ready = ahead_from(&self.ahead, open.from, open.count, next);

@@ -22,7 +22,8 @@ const OWNER_RIGHTS: u32 = 0o600;
 
 /// The current folder. The two files that were read last are kept open and read ahead. The file that was
 /// appended to last is kept open, and what is appended is held back until it is long, or another
-/// call needs it written. Each call that changes something lets go of the files that are read.
+/// call needs it written. Each call that changes something lets go of the files that are read, so that
+/// what is read behind a lock is of the file that is there then.
 #[derive(Drop)]
 pub struct Folder<R: Files> {
     rt: R,
