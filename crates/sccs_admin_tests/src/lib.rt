@@ -1,4 +1,4 @@
-//! Tests of what changes stored files: admin, import, rmdel and cdc, and each change stopped behind each of its calls.
+//! Tests of new files and imports, and of each change of a stored file but delta stopped behind each of its calls.
 #![tactic(auto)]
 
 #[cfg(test)]

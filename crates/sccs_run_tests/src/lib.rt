@@ -1,4 +1,4 @@
-//! Tests of the whole program, but for delta, and for admin and rmdel.
+//! Tests of gets, of what only reads, and of soak, by the whole program.
 #![tactic(auto)]
 
 #[cfg(test)]

@@ -1,10 +1,8 @@
-mod front;
 mod gets;
 mod hostile;
 mod judged;
 mod long_lines;
 mod operands;
-mod pending;
 mod readings;
 mod releases;
 mod rows;

@@ -1,0 +1,4 @@
+mod altered_files;
+mod changes;
+mod checked_files;
+mod removals;
