@@ -1,6 +1,6 @@
 -- A new s-file is read as it was made, and its version is its text.
 use Rattle.std.proofs.Common.{◌≡◌, ◌≢◌, ℕ, suc, ◌+◌, ◌/◌, ◌%◌, ◌==◌, Bool, true, false, cond, List, [], ◌∷◌, ◌++◌, map, Option, None, Some, IfSome, Ok, refl, sym, subst, ap, ◌∙◌, arith}
-use Rattle.std.specs.Prelude.{not, ◌&&◌, ◌||◌, codes, unwrap_or}
+use Rattle.std.specs.Prelude.{not, ◌&&◌, codes, unwrap_or}
 use Rattle.std.specs.List.{All, AllByRecursion}
 use Rattle.std.proofs.lemmas.List.Elements.{All-append, All-cons, All-nil}
 use Rattle.std.proofs.Math.Nat.{min-le_right}
@@ -35,6 +35,7 @@ use Rattle.sccs_admin.specs.Rules.{new_rules}
 use Rattle.sccs_admin.specs.declared.finding.NewTexts.{NewTexts}
 use Rattle.sccs_admin.specs.declared.rules.NewRules.{NewRules}
 use Rattle.sccs_admin.proofs.RuleLaws.{HasRules, described_bare, none_bad, rules_are, rules_hold}
+use Rattle.std.proofs.lemmas.Bool.{or_parts}
 
 -- ---- the header
 
@@ -88,16 +89,12 @@ moment_line moment =
     let c = civil_of moment in
     parted 32 (date_text moment) (time_text moment) (λ is. omega (arith, is)) (three_two 47 (c.year % 100) c.month c.day (λ is. omega (arith, is))) (three_two 58 c.hour c.minute c.second (λ is. omega (arith, is)))
 
-neither : (a b : Bool) → (a || b) ≡ false → (a ≡ false) × (b ≡ false)
-neither true b is = absurd (cc)
-neither false b is = (refl, is)
-
 other_byte : (b : ℕ) → (b == 10) ≡ false → b ≢ 10
 other_byte b isnt e = let is : (b == 10) ≡ true = ap (λ n. n == 10) e in cc
 
 without : (xs : List ℕ) → has xs 10 ≡ false → All NoLf xs
 without [] is = All-nil NoLf
-without (x ∷ xs) is = let both = neither (x == 10) (has xs 10) is in All-cons NoLf x xs (other_byte x both.0) (without xs both.1)
+without (x ∷ xs) is = let both = or_parts (x == 10) (has xs 10) is in All-cons NoLf x xs (other_byte x both.0) (without xs both.1)
 
 login_line : (login : List ℕ) → IsLogin login → All NoLf login
 login_line login is = λ k d low e. omega (arith, is.visible k d low, e)

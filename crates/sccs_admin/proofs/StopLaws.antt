@@ -38,9 +38,6 @@ new_firm n p a b new firm = record {
   q_state = subst (λ f. OnReplace f (Leaves (IsFirm (q_file n)) a b)) (sym new.p_state) tt;
 }
 
-pub firm_still : (r : Result Prepared StepFault) (n : List ℕ) (a a2 b : Told) → a2 ≡ a → IfOk r (λ p. IsFirmPrepared n p a2 b) → IfOk r (λ p. IsFirmPrepared n p a b)
-firm_still r n a a2 b same firm = subst (λ t. IfOk r (λ p. IsFirmPrepared n p t b)) same firm
-
 -- recovery makes no p-file where there is none
 none_made : (s : Option Content) → recovered_pfile s None ≡ None
 none_made None = refl

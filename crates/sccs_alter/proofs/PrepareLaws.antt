@@ -10,7 +10,7 @@ use Rattle.sccs_sid.specs.Reading.{◌>>=◌}
 use Rattle.sccs_sid.specs.declared.refusals.Refusal.{Refusal}
 use Rattle.sccs_sid.specs.declared.refusals.StepFault.{StepFault}
 use Rattle.sccs_sid.specs.declared.refusals.StepFault.TheVariants.{Refused, Memory, ReadFault, WriteFault, DiskFault}
-use Rattle.sccs_grammar.specs.File.{Parsed, answer, file_of}
+use Rattle.sccs_grammar.specs.File.{Parsed, answer}
 use Rattle.sccs_grammar.specs.FileRefusals.{or_refusal}
 use Rattle.sccs_grammar.specs.declared.faults.FileFault.{FileFault}
 use Rattle.sccs_history.specs.History.{IsHeader, IsSpelled}
@@ -134,7 +134,7 @@ abbrev pub Writes : AdminWords → List ℕ → Read → Result Prepared StepFau
 Writes words n x r a new =
     (file : List ℕ) (items : List Item) → bytes_in (seen a) n ≡ Some file → IsFrontFor file x.front → items_of file x.front ≡ Ok items → Alters r (altered_header words x.front.header x.text) items n (seen a) new
 
-bytes_seen : (n : List ℕ) (v : View) (o : Option View) (c : Content) → o ≡ Some v → v n ≡ Some c → bytes_in o n ≡ Some c.bytes
+pub bytes_seen : (n : List ℕ) (v : View) (o : Option View) (c : Content) → o ≡ Some v → v n ≡ Some c → bytes_in o n ≡ Some c.bytes
 bytes_seen n v o c is at = ap (λ (w : Option View). bytes_in w n) is ∙ ap bytes_at at
 
 -- what was made of the header that was read
@@ -191,7 +191,7 @@ read_speaks (Err DiskFault) is_new within = tt
 
 -- ---- entries
 
-settles_none : (n : List ℕ) (p : Prepared) (a b : Told) → seen a ≡ None → Moves (bytes_eq (x_file n)) (λ u. u) (seen a) (seen b) → SettlesEntries n p b
+pub settles_none : (n : List ℕ) (p : Prepared) (a b : Told) → seen a ≡ None → Moves (bytes_eq (x_file n)) (λ u. u) (seen a) (seen b) → SettlesEntries n p b
 settles_none n p a b here moves = by (seen a) (seen b) here moves
   where
     by : (o o2 : Option View) → o ≡ None → Moves (bytes_eq (x_file n)) (λ u. u) o o2 → IfSome o2 (λ v. IsPaired n v → IsSound n v → KeepsEntries n (plan_of p) v × ArePaired (files_after n (plan_of p) v).s (files_after n (plan_of p) v).p)

@@ -1,11 +1,15 @@
 -- What cutting gives, by where the first LF is.
 use Rattle.std.proofs.Common.{◌≡◌, ◌≢◌, ℕ, ◌<◌, ◌==◌, List, [], ◌∷◌, length, take, get_or, refl, sym, ◌∙◌, arith, length-take}
 use Rattle.std.proofs.lemmas.List.{get_or-take, get_or_default}
-use Rattle.sccs_base.specs.Cut.{HasNoLf, cut, before, closed, text_of}
+use Rattle.sccs_base.specs.Cut.{Cut, HasNoLf, cut, before, closed, text_of}
 
 -- no byte before a place is LF
 abbrev pub NoLfBefore : List ℕ → ℕ → Type 0
 NoLfBefore bytes n = (k : ℕ) → k < n → get_or bytes k 0 ≢ 10
+
+-- a line before what is cut
+abbrev pub with_line : List ℕ → Cut → Cut
+with_line line rest = record { lines = line ∷ rest.lines; tail = rest.tail }
 
 pub cut-cons : (b : ℕ) (bytes : List ℕ) → cut (b ∷ bytes) ≡ before (b == 10) b (cut bytes)
 unfolding cut

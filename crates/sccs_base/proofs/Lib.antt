@@ -1,8 +1,10 @@
+pub mod Bools
 pub mod ConstantExamples
 pub mod Cuts
 pub mod Gifts
 pub mod Lines
 pub mod NameTests
+pub mod Rises
 pub mod Runs
 pub mod SameBytes
 pub mod Siblings

@@ -1,17 +1,15 @@
 -- What the parts of a reading make of the answer for a whole file whose stored sum is passed over.
-use Rattle.std.proofs.Common.{◌≡◌, ◌⊎◌, inl, inr, ℕ, ◌≤◌, Bool, true, false, List, [], length, drop, Option, None, Some, Result, Ok, Err, refl, sym, ap, ◌∙◌, subst, arith}
-use Rattle.std.specs.Prelude.{IfOk, IfSome, if◌then◌else◌}
+use Rattle.std.proofs.Common.{◌≡◌, inl, inr, ℕ, ◌≤◌, true, false, List, [], length, drop, Option, None, Some, Result, Ok, Err, refl, sym, ap, ◌∙◌, subst, arith}
+use Rattle.std.specs.Prelude.{IfOk, IfSome}
 use Rattle.std.proofs.lemmas.Bool.{le-ltb}
-use Rattle.sccs_base.specs.Cut.{Cut, cut}
-use Rattle.sccs_sid.specs.Reading.{◌>>=◌}
+use Rattle.sccs_base.specs.Cut.{cut}
 use Rattle.sccs_disk.specs.Files.{View}
 use Rattle.sccs_history.specs.Applied.{live_serials}
 use Rattle.sccs_history.specs.History.{is_encoded}
-use Rattle.sccs_history.specs.declared.headers.Header.{Header}
 use Rattle.sccs_history.specs.declared.headers.Item.{Item}
 use Rattle.sccs_tokens.specs.Items.{items_from}
 use Rattle.sccs_grammar.specs.Front.{ParsedFront, front_from, start}
-use Rattle.sccs_grammar.specs.File.{Opened, Parsed, answer, as_format, file_of, checked_front, not_encoded, opened, sum_holds}
+use Rattle.sccs_grammar.specs.File.{Opened, answer, as_format, opened}
 use Rattle.sccs_tokens.specs.Sums.{plain_sum}
 use Rattle.sccs_grammar.specs.declared.faults.FileFault.{FileFault}
 use Rattle.sccs_grammar.specs.declared.faults.FileFault.TheVariants.{Missing, TooLong, NotSccs, BadSum, BadFormat, Encoded, Changed, Failed, Memory}
@@ -25,8 +23,7 @@ use Rattle.sccs_grammar.specs.AnySum.{unsummed_file, unsummed_front}
 use Rattle.sccs_body.specs.AnySum.{AnswersUnsummed}
 use Rattle.sccs_body.specs.Behind.{IsRead, ReadsBehind}
 use Rattle.sccs_body.specs.BodyFile.{ChecksFile, items_of}
-use Rattle.sccs_body.specs.ToCome.{IsFrontFor}
-use Rattle.sccs_body.proofs.FileLaws.{same_items}
+use Rattle.sccs_body.proofs.FileLaws.{same_items, file_by}
 use Rattle.sccs_body.proofs.WholeLaws.{with_sum}
 
 -- ---- the bytes of a file
@@ -42,9 +39,6 @@ front_at file o is = rw is refl
 file_at_fault : (file : List ℕ) (e : FileFault) → unsummed_front file ≡ Err e → unsummed_file file ≡ Err e
 unfolding unsummed_file
 file_at_fault file e is = rw is refl
-
-abbrev file_by : ParsedFront → Result (List Item) ℕ → Result Parsed FileFault
-file_by p found = as_format found >>= λ (items : List Item). not_encoded p.header (record { header = p.header; items = items })
 
 file_from : (file : List ℕ) (p : ParsedFront) → unsummed_front file ≡ Ok p → unsummed_file file ≡ file_by p (items_from (live_serials p.header.records) p.line [] p.rest (cut file).tail)
 unfolding unsummed_file

@@ -19,6 +19,7 @@ use Rattle.sccs_table.specs.ReaderState.{bytes_in, file_in}
 use Rattle.sccs_table.specs.FrontFile.{Refuses, IsFrontOf, AnswersFront}
 use Rattle.sccs_body.proofs.ReadBodies.{body_read}
 use Rattle.sccs_body.specs.BodyFile.{items_of, ChecksFile, ChecksItems, AnswersFile}
+use Rattle.sccs_table.proofs.FileLaws.{encoded_so}
 
 -- ---- the bytes of a file
 
@@ -26,7 +27,7 @@ file_fails : (file : List ℕ) (e : FileFault) → checked_front file ≡ Err e 
 unfolding file_of
 file_fails file e is = rw is refl
 
-abbrev file_by : ParsedFront → Result (List Item) ℕ → Result Parsed FileFault
+abbrev pub file_by : ParsedFront → Result (List Item) ℕ → Result Parsed FileFault
 file_by p found = as_format found >>= λ (items : List Item). not_encoded p.header (record { header = p.header; items = items })
 
 file_from : (file : List ℕ) (p : ParsedFront) → checked_front file ≡ Ok p → file_of file ≡ file_by p (items_from (live_serials p.header.records) p.line [] p.rest (cut file).tail)
@@ -101,9 +102,6 @@ body_refused None name front e answers checks = tt
 body_refused (Some view) name front e answers checks = refused_in (file_in view name) front e answers checks
 
 -- ---- whether the body is encoded
-
-encoded_so : (front : Front) (p : ParsedFront) (encoded : Bool) → front.header ≡ p.header → is_encoded front.header.flags ≡ encoded → is_encoded p.header.flags ≡ encoded
-encoded_so front p encoded same is = ap (λ (h : Header). is_encoded h.flags) (sym same) ∙ is
 
 pub encoded_in : (o : Option (List ℕ)) (front : Front) → is_encoded front.header.flags ≡ true → AnswersFront o checked_front (Ok front) → ChecksItems o front (Ok tt) → AnswersFile o (Err Encoded)
 encoded_in None front is answers checks = absurd answers.2

@@ -122,13 +122,6 @@ seen_gives view live before here old new result is gives = subst (λ o. GivesBod
 pub seen_behind : (live : List ℕ) (before : List Item) (here old : BodyPlace) → here ≡ old → HasBehind live before old → Knows live before here.state
 seen_behind live before here old is behind = subst (λ o. HasBehind live before o) (sym is) behind
 
-pub takes_line_at : (o : Option (List ℕ)) (old new : ReaderState) (line : List ℕ) (a b : Bool) → a ≡ b → TakesLine o old new line a → TakesLine o old new line b
-takes_line_at o old new line a b is takes = subst (λ e. TakesLine o old new line e) is takes
-
-pub over_from : (over empty : Bool) → (over && empty) ≡ true → over ≡ true
-over_from true empty is = refl
-over_from false empty is = is
-
 pub some_taken : (live : List ℕ) (before : List Item) (new : BodyState) (line : List ℕ) (o : Option Item) (item : Item) → o ≡ Some item → ReadsItemLine live before new line (Ok o) → ReadsItemLine live before new line (Ok (Some item))
 some_taken live before new line o item is takes = subst (λ p. ReadsItemLine live before new line (Ok p)) is takes
 

@@ -1,11 +1,9 @@
 -- What inspecting a whole s-file answers that passes over its stored sum: POSIX, Shell and Utilities, admin, -z.
-use Rattle.std.specs.Prelude.{◌≡◌, ℕ, List, [], Option, None, Some, Result, Ok, Err}
+use Rattle.std.specs.Prelude.{◌≡◌, ℕ, List, Option, None, Some, Result, Ok}
 use Rattle.sccs_grammar.specs.AnySum.{unsummed_file}
 use Rattle.sccs_grammar.specs.File.{Parsed, answer}
 use Rattle.sccs_grammar.specs.declared.faults.FileFault.{FileFault}
 use Rattle.sccs_table.specs.FrontFile.{ShowsOrRefuses}
-use Rattle.sccs_table.specs.ReaderState.{behind_sum}
-use Rattle.sccs_table.specs.SumOf.{IsPlainSumOf}
 use Rattle.sccs_table.specs.declared.fronts.Front.{Front}
 use Rattle.sccs_body.specs.BodyFile.{items_of}
 use Rattle.sccs_body.specs.ToCome.{IsFrontFor}

@@ -5,7 +5,7 @@ use Rattle.sccs_base.specs.Name.{IsSfile, x_file}
 use Rattle.sccs_base.proofs.Gifts.{gives_none}
 use Rattle.sccs_disk.specs.Files.{Content, View}
 use Rattle.sccs_disk.specs.Told.{Told, seen}
-use Rattle.sccs_files.specs.StepFiles.{Files, Moves, is_working, look}
+use Rattle.sccs_files.specs.StepFiles.{Files, Moves, is_working}
 use Rattle.sccs_sid.specs.Reading.{◌>>=◌}
 use Rattle.sccs_sid.specs.declared.moments.Stamp.{Stamp}
 use Rattle.sccs_sid.specs.declared.refusals.Refusal.{Refusal}
@@ -22,18 +22,15 @@ use Rattle.sccs_table.specs.declared.fronts.Front.{Front}
 use Rattle.sccs_body.specs.AnySum.{ShowsUnsummed}
 use Rattle.sccs_body.specs.BodyFile.{items_of}
 use Rattle.sccs_body.specs.ToCome.{IsFrontFor}
-use Rattle.sccs_moments.specs.Recovery.{IsSound}
 use Rattle.sccs_moments.proofs.FileNames.{no_x}
 use Rattle.sccs_pending.specs.Pending.{bytes_at}
 use Rattle.sccs_steps.specs.Actions.{RefusesWithin, quiet_checks}
 use Rattle.sccs_steps.specs.Calls.{world}
 use Rattle.sccs_steps.specs.StepEffects.{Outcome}
-use Rattle.sccs_steps.specs.StepStops.{ArePaired, IsPaired}
 use Rattle.sccs_store.specs.Commits.{files_after}
 use Rattle.sccs_store.specs.SealedFiles.{sealed}
-use Rattle.sccs_store.specs.Stops.{KeepsEntries}
 use Rattle.sccs_store.proofs.Working.{moves_wider}
-use Rattle.sccs_transactions.specs.Changes.{CouldPrepare, Prepares, PreparesChange, plan_of, unlocked}
+use Rattle.sccs_transactions.specs.Changes.{CouldPrepare, Prepares, PreparesChange, plan_of}
 use Rattle.sccs_transactions.specs.Stops.{SettlesEntries}
 use Rattle.sccs_transactions.specs.declared.prepared.Prepared.{Prepared}
 use Rattle.sccs_transactions.proofs.Taken.{x_alone}
@@ -47,6 +44,8 @@ use Rattle.sccs_alter.proofs.StopLaws.{answer_read}
 use Rattle.sccs_cdc.specs.CdcStep.{cdc_change, cdc_checks, cdc_outcome, changed_header}
 use Rattle.sccs_cdc.specs.Parts.{HasLines, ReadsSfile}
 use Rattle.sccs_cdc.proofs.StopLaws.{changed_settles}
+use Rattle.sccs_pending.proofs.Preparing.{files_at}
+use Rattle.sccs_alter.proofs.PrepareLaws.{settles_none, bytes_seen}
 
 -- ---- the step, part by part
 
@@ -60,10 +59,6 @@ pub outcome_is : (words : CdcWords) (stamp : Stamp) (n i : List ℕ) (named : Li
     → cdc_outcome words stamp n i named f ≡ (checked_file f.s >>= λ parsed. changed_header words stamp parsed.header >>= λ header. makes (sealed header parsed.items) f)
 unfolding cdc_outcome
 outcome_is words stamp n i named f = refl
-
--- the files as they were before the lock
-abbrev files_at : List ℕ → View → Files
-files_at n v = look (unlocked n v) n
 
 outcome_seen : (words : CdcWords) (stamp : Stamp) (n i : List ℕ) (named : List (Option Content)) (v : View) (r : Result Parsed Refusal) → IsSfile n → checked_file (v n) ≡ r → cdc_outcome words stamp n i named (files_at n v) ≡ from_file words stamp (files_at n v) r
 outcome_seen words stamp n i named v r sfile is =
@@ -120,9 +115,6 @@ abbrev pub Writes : CdcWords → Stamp → List ℕ → Front → Result Prepare
 Writes words stamp n front r a new =
     (file : List ℕ) (items : List Item) → bytes_in (seen a) n ≡ Some file → IsFrontFor file front → items_of file front ≡ Ok items → Alters r (changed_header words stamp front.header) items n (seen a) new
 
-bytes_seen : (n : List ℕ) (v : View) (o : Option View) (c : Content) → o ≡ Some v → v n ≡ Some c → bytes_in o n ≡ Some c.bytes
-bytes_seen n v o c is at = ap (λ (w : Option View). bytes_in w n) is ∙ ap bytes_at at
-
 -- what was made of the header that was read
 made_at : (words : CdcWords) (stamp : Stamp) (n : List ℕ) (v : View) (front : Front) (r : Result Prepared StepFault) (a : Told) (new : Option View) → seen a ≡ Some v → (reads : ReadsSfile n v (Ok front)) → Writes words stamp n front r a new
     → Alters r (changed_header words stamp reads.0.header) reads.0.items n (Some v) new
@@ -178,14 +170,6 @@ read_speaks (Err WriteFault) is_new within = tt
 read_speaks (Err DiskFault) is_new within = tt
 
 -- ---- entries
-
-settles_none : (n : List ℕ) (p : Prepared) (a b : Told) → seen a ≡ None → Moves (bytes_eq (x_file n)) (λ u. u) (seen a) (seen b) → SettlesEntries n p b
-settles_none n p a b here moves = by (seen a) (seen b) here moves
-  where
-    by : (o o2 : Option View) → o ≡ None → Moves (bytes_eq (x_file n)) (λ u. u) o o2 → IfSome o2 (λ v. IsPaired n v → IsSound n v → KeepsEntries n (plan_of p) v × ArePaired (files_after n (plan_of p) v).s (files_after n (plan_of p) v).p)
-    by None None is moved = tt
-    by None (Some u) is moved = absurd cc
-    by (Some v) o2 is moved = absurd cc
 
 pub read_settles : (words : CdcWords) (stamp : Stamp) (r : Result Prepared StepFault) (n : List ℕ) (front : Front) (o : Option View) (a b : Told) → IsSfile n → seen a ≡ o → IsHeader front.header → IsSpelled front.header → IfSome o (λ (v : View). ReadsSfile n v (Ok front)) → IfOk r IsNewSfile → IfOk r (λ p. HasLines words stamp)
     → Moves (bytes_eq (x_file n)) (λ u. u) (seen a) (seen b) → Writes words stamp n front r a (seen b) → IfOk r (λ p. SettlesEntries n p b)

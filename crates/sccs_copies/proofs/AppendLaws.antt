@@ -1,6 +1,5 @@
 -- A body that is appended behind a header.
-use Rattle.std.proofs.Common.{◌≡◌, ℕ, ◌≤◌, List, [], ◌++◌, Result, Ok, Err, OnOk, inl, inr, sym, ap, subst, ◌∙◌, arith, append-nil, append_assoc}
-use Rattle.sccs_base.specs.Stream.{Rose}
+use Rattle.std.proofs.Common.{◌≡◌, ℕ, List, [], ◌++◌, Result, Ok, Err, OnOk, sym, ap, subst, ◌∙◌, arith, append-nil, append_assoc}
 use Rattle.sccs_disk.specs.Told.{Told, seen}
 use Rattle.sccs_disk.specs.declared.disks.DiskRefusal.{DiskRefusal}
 use Rattle.sccs_tokens.specs.Written.{ended, sum_line}
@@ -14,6 +13,7 @@ use Rattle.sccs_writers.specs.Spelled.{spelled}
 use Rattle.sccs_writers.proofs.OneFile.{only_both}
 use Rattle.sccs_writers.proofs.PutLaws.{views_two}
 use Rattle.sccs_copies.specs.Copies.{AppendsSome, AppendsItems, AppendsText, AppendsWhole}
+use Rattle.sccs_base.proofs.Rises.{rose_later}
 
 -- all that was put is appended, where nothing is held back before and after it
 pub whole_appended : (text n : List ℕ) (sums : ℕ × ℕ) (w w2 : Writer) (a b : Told) → w ≡ record { name = n; held = []; sums = sums } → w2.held ≡ [] → Puts text w w2 a b → AppendsText n text sums w2.sums a b
@@ -32,10 +32,6 @@ sums_answered items n sums after w w2 a b is named none puts = subst (λ s. Appe
 ok_of : {T E : Type 0} (P : Type 0) (r : Result T E) (x : T) → r ≡ Ok x → OnOk r P → P
 ok_of P r x is on = subst (λ (s : Result _ _). OnOk s P) is on
 
-rose_from : (f g h : ℕ) → f ≤ g → Rose g h → Rose f h
-rose_from f g h low (inl more) = inl (omega (arith, low, more))
-rose_from f g h low (inr last) = inr last
-
 -- behind a header some bytes are appended
 pub behind_header : {T U : Type 0} (h : Header) (n : List ℕ) (s s2 : ℕ × ℕ) (a b c : Told) (f g k : ℕ) (q : Result U DiskRefusal) (done : U) (r : Result T FileFault) → q ≡ Ok done → WritesHeader h n s s2 a b f g q → AppendsSome n [] b c g k r → AppendsSome n (ended (sum_line 0)) a c f k r
 behind_header h n s s2 a b c f g k q done r is first second = record {
@@ -43,7 +39,7 @@ behind_header h n s s2 a b c f g k q done r is first second = record {
   ok = both r second.ok;
   only = only_both n a b c first.only second.only;
   later = omega (arith, first.later, second.later);
-  cause = λ failed. rose_from f g k first.later (second.cause failed);
+  cause = λ failed. rose_later f g k first.later (second.cause failed);
 }
   where
     both : {T : Type 0} (r : Result T FileFault) → OnOk r (Appends n ([] ++ second.more) b c) → OnOk r (Appends n (ended (sum_line 0) ++ (header_bytes h ++ second.more)) a c)

@@ -11,6 +11,7 @@ use Rattle.sccs_edits.specs.declared.scripts.Plan.{Plan}
 use Rattle.sccs_copies.specs.Copies.{IsOuterResult}
 use Rattle.sccs_copies.specs.Examining.{ComparesOn, GComes, GivesGLine, LinesLeft, SeesLines, SeesAll, difference, first_difference, has_keyword, line_result}
 use Rattle.sccs_copies.specs.declared.result_checks.ResultCheck.{ResultCheck}
+use Rattle.sccs_base.proofs.Bools.{or_assoc}
 
 -- ---- one line beside one of the g-file
 
@@ -84,10 +85,6 @@ none_left file other s s1 rest false none given is = ap (λ (r : List (List ℕ)
 
 -- ---- lines one after the other
 
-or_assoc : (a b c : Bool) → ((a || b) || c) ≡ (a || (b || c))
-or_assoc true b c = refl
-or_assoc false b c = refl
-
 or_none : (a : Bool) → a ≡ (a || false)
 or_none true = refl
 or_none false = refl
@@ -105,7 +102,7 @@ sees_both told xs ys s s1 s2 first second = record {
   keyword =
       second.keyword
       ∙ (ap (λ t. t || list_any has_keyword ys) first.keyword
-      ∙ (or_assoc s.keyword (list_any has_keyword xs) (list_any has_keyword ys) ∙ ap (λ t. s.keyword || t) (sym (list_any-append has_keyword xs ys))));
+      ∙ (sym (or_assoc s.keyword (list_any has_keyword xs) (list_any has_keyword ys)) ∙ ap (λ t. s.keyword || t) (sym (list_any-append has_keyword xs ys))));
   compares = second.compares ∙ first.compares;
   name = second.name ∙ first.name;
   compared = λ file rest is compares comes.

@@ -1,5 +1,5 @@
 -- The items of a body that is read again.
-use Rattle.std.proofs.Common.{◌≡◌, ℕ, false, List, [], Option, None, Some, option_map, Result, Ok, Err, ap, ◌∙◌}
+use Rattle.std.proofs.Common.{◌≡◌, ℕ, false, List, Option, None, Some, option_map, Result, Ok, Err, ap, ◌∙◌}
 use Rattle.std.specs.Str.{bytes_eq}
 use Rattle.sccs_disk.specs.Files.{Content, View}
 use Rattle.sccs_files.specs.StepFiles.{Moves}
@@ -12,6 +12,7 @@ use Rattle.sccs_body.specs.ToCome.{GivesNext, ToCome}
 use Rattle.sccs_copies.specs.Copies.{CopyComes, IsFaultAroundCopy}
 use Rattle.sccs_copies.specs.Filters.{Filter}
 use Rattle.sccs_copies.specs.declared.copies.Copying.{Copying}
+use Rattle.sccs_versions.proofs.ItemLaws.{never}
 
 -- the bytes of another file stay
 pub bytes_stay : (n k file : List ℕ) (o o2 : Option View) → bytes_eq n k ≡ false → Moves (bytes_eq n) (λ v. v) o o2 → bytes_in o k ≡ Some file → bytes_in o2 k ≡ Some file
@@ -22,15 +23,6 @@ bytes_stay n k file (Some u) (Some v) other moves is = ap (λ (o : Option Conten
 -- what a reader of items says of a told file
 abbrev pub Given : List ℕ → ItemPlace → ItemPlace → Result (Option Item) FileFault → Type 0
 Given file old new result = (live : List ℕ) (before : List Item) (found : Result (List Item) ℕ) → ToCome file live before found old → GivesNext file live before found new result
-
-abbrev ok_items : List Item → Result (List Item) ℕ
-ok_items rest = Ok rest
-
-pub none_more : (rest : List Item) → ok_items rest ≡ ok_items [] → rest ≡ []
-none_more rest is = cc
-
-never : (rest : List Item) (k : ℕ) → ok_items rest ≡ Err k → ⊥
-never rest k is = cc
 
 fault_given : (file live : List ℕ) (before rest : List Item) (place2 : ItemPlace) (fault : FileFault) → GivesNext file live before (Ok rest) place2 (Err fault) → IsFaultAroundCopy fault
 fault_given file live before rest place2 faults.Failed given = tt

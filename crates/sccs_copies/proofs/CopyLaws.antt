@@ -1,5 +1,5 @@
 -- A copy goes from item to item.
-use Rattle.std.proofs.Common.{◌≡◌, ℕ, ◌≤◌, Bool, true, false, List, [], ◌∷◌, ◌++◌, Option, None, Some, Result, Ok, Err, OnOk, inl, inr, refl, sym, ap, subst, ◌∙◌, arith, append_assoc}
+use Rattle.std.proofs.Common.{◌≡◌, ℕ, ◌≤◌, Bool, true, false, List, [], ◌∷◌, ◌++◌, Option, None, Some, Result, Ok, Err, OnOk, refl, sym, ap, subst, ◌∙◌, arith, append_assoc}
 use Rattle.std.specs.Result.{IsErrAnd}
 use Rattle.std.proofs.lemmas.Result.{err_from_is_err_and}
 use Rattle.sccs_base.specs.Stream.{Rose}
@@ -22,14 +22,12 @@ use Rattle.sccs_writers.proofs.PutLaws.{puts_both, puts_none}
 use Rattle.sccs_copies.specs.Copies.{CopiesAll, CopiesNext, CopiesSome, CopiesWhole, CopyComes, IsFaultAroundCopy, PutsItems, PutsSome, as_file_fault}
 use Rattle.sccs_copies.specs.Filters.{Filter, Finishes, TakesItem}
 use Rattle.sccs_copies.specs.declared.copies.Copying.{Copying}
-use Rattle.sccs_copies.proofs.ComingItems.{Given, none_more}
+use Rattle.sccs_copies.proofs.ComingItems.{Given}
 use Rattle.sccs_copies.proofs.FilterLaws.{ended_output, filtered_one, ok_of, rest_of}
+use Rattle.sccs_base.proofs.Rises.{rose_later}
+use Rattle.sccs_versions.proofs.ItemLaws.{none_more}
 
 -- ---- over any disk
-
-pub rose_from : (f g h : ℕ) → f ≤ g → Rose g h → Rose f h
-rose_from f g h low (inl more) = inl (omega (arith, low, more))
-rose_from f g h low (inr last) = inr last
 
 -- nothing is put yet
 pub some_none : (w : Writer) (t : Told) (f : ℕ) → PutsSome {T = Unit {0}} w w t t f f (Ok tt)
@@ -73,7 +71,7 @@ some_cut x w w2 a m b f g h q refusal r is so same low puts = record {
   name = puts.name;
   only = subst (λ t. OnlyWrites w.name t b) same puts.only;
   later = omega (arith, low, puts.later);
-  cause = λ failed. rose_from f g h low (puts.cause (failed_as q refusal is (err_same r (as_file_fault refusal) faults.Failed so failed)));
+  cause = λ failed. rose_later f g h low (puts.cause (failed_as q refusal is (err_same r (as_file_fault refusal) faults.Failed so failed)));
 }
   where
     err_same : {T : Type 0} (r : Result T FileFault) (e e2 : FileFault) → r ≡ Err e → r ≡ Err e2 → e ≡ e2
@@ -107,7 +105,7 @@ some_both w w2 w3 a b c f g h q done r is first second = record {
   name = second.name ∙ first.name;
   only = only_both w.name a b c first.only (subst (λ n. OnlyWrites n b c) first.name second.only);
   later = omega (arith, first.later, second.later);
-  cause = λ failed. rose_from f g h first.later (second.cause failed);
+  cause = λ failed. rose_later f g h first.later (second.cause failed);
 }
   where
     both : {T : Type 0} (r : Result T FileFault) → OnOk r (Puts second.text w2 w3 b c) → OnOk r (Puts (first.text ++ second.text) w w3 a c)

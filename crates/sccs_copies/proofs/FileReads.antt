@@ -1,9 +1,9 @@
 -- A file that is read: its items are legal, its header keeps the rules and has a spelling.
-use Rattle.std.proofs.Common.{◌≡◌, ℕ, suc, ◌<◌, ◌==◌, Bool, true, false, not, ◌&&◌, List, [], ◌∷◌, ◌++◌, Option, None, Some, IfOk, IfSome, Result, Ok, Err, refl, ap, subst, ◌∙◌, ⊎_elim, arith}
+use Rattle.std.proofs.Common.{◌≡◌, ℕ, suc, ◌==◌, Bool, true, false, not, ◌&&◌, List, [], ◌∷◌, ◌++◌, Option, None, Some, IfOk, IfSome, Result, Ok, Err, refl, ap, subst, ◌∙◌}
 use Rattle.std.specs.Prelude.{if◌then◌else◌}
 use Rattle.std.specs.List.{AllByRecursion}
 use Rattle.std.specs.Option.{option_and_then}
-use Rattle.std.proofs.lemmas.Bool.{and_parts, eqb-true, false≢true, or_cases}
+use Rattle.std.proofs.lemmas.Bool.{and_parts}
 use Rattle.std.proofs.lemmas.List.Elements.{recursion_from_All}
 use Rattle.sccs_base.specs.Cut.{HasNoLf, closed, cut, text_of}
 use Rattle.sccs_base.proofs.Lines.{text_fit}
@@ -21,13 +21,13 @@ use Rattle.sccs_tokens.specs.declared.line_tokens.LineToken.{LineToken}
 use Rattle.sccs_tokens.proofs.TokenRules.{IsValidToken, control_keeps, each_of_kinds, token_well}
 use Rattle.sccs_history.specs.Applied.{live_serials, serials_of}
 use Rattle.sccs_history.specs.Body.{GoesOn, is_closed, is_over, mark, may_stand}
-use Rattle.sccs_history.specs.History.{IsHeader, IsRecord, IsSpelled, IsTable, is_encoded, KeepsRules}
+use Rattle.sccs_history.specs.History.{IsHeader, IsSpelled, IsTable, is_encoded, KeepsRules}
 use Rattle.sccs_history.specs.Numbers.{has}
 use Rattle.sccs_history.specs.declared.headers.Header.{Header}
 use Rattle.sccs_history.specs.declared.headers.Item.{Item}
 use Rattle.sccs_history.specs.declared.headers.Item.TheVariants.{Text, Insert, Delete, End}
 use Rattle.sccs_history.specs.declared.headers.Record.{Record}
-use Rattle.sccs_records.proofs.TableLaws.{below_bound, live_is_there}
+use Rattle.sccs_records.proofs.TableLaws.{below_bound, live_is_there, some_serial}
 use Rattle.sccs_grammar.specs.declared.faults.FileFault.{FileFault}
 use Rattle.sccs_grammar.proofs.AnySumLaws.{unsummed_ok}
 use Rattle.sccs_grammar.proofs.ParserRules.{lines_keep_rules}
@@ -204,13 +204,6 @@ module _ (live : List ℕ) (serials : (m : ℕ) → has live m ≡ true → IsSe
       ended false = tt
   body_legal n before (line ∷ lines) tail none =
       gone_on n (item_at live before line) (λ item. items_from live (suc n) (item ∷ before) lines tail) (λ item is. at_legal before line item none.0 is) (λ item. body_legal (suc n) (item ∷ before) lines tail none.1)
-
-some_serial : (all records : List Record) (n : ℕ) → AllByRecursion (IsRecord all) records → has (serials_of records) n ≡ true → 0 < n
-some_serial all [] n each h = absurd (false≢true h)
-some_serial all (r ∷ records) n each h =
-    ⊎_elim (λ same. let is : r.serial ≡ n = eqb-true r.serial n same in omega (arith, is, each.0.serial))
-    (λ rest. some_serial all records n each.1 rest)
-    (or_cases (r.serial == n) (has (serials_of records) n) h)
 
 live_serial : (records : List Record) → IsTable records → (m : ℕ) → has (live_serials records) m ≡ true → IsSerial m
 live_serial records table m live =

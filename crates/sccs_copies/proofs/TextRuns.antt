@@ -1,6 +1,6 @@
 -- Text lines that are copied together.
-use Rattle.std.proofs.Common.{◌≡◌, ℕ, ◌<◌, Bool, true, false, List, [], ◌∷◌, ◌++◌, length, map, Option, Some, Result, Ok, Err, IfSome, IfOk, OnOk, refl, sym, ap, subst, ◌∙◌, arith, length-take-le}
-use Rattle.std.specs.Prelude.{if◌then◌else◌, nat_lt}
+use Rattle.std.proofs.Common.{◌≡◌, ℕ, ◌<◌, Bool, true, false, List, [], ◌∷◌, ◌++◌, length, map, Result, Ok, Err, refl, sym, ap, subst, ◌∙◌, arith, length-take-le}
+use Rattle.std.specs.Prelude.{if◌then◌else◌}
 use Rattle.sccs_base.specs.Cut.{cut}
 use Rattle.sccs_disk.specs.Told.{Told}
 use Rattle.sccs_disk.specs.declared.disks.DiskRefusal.{DiskRefusal}
@@ -17,7 +17,7 @@ use Rattle.sccs_splicer.proofs.Spelling.{spelled_texts}
 use Rattle.sccs_versions.proofs.RunLaws.{onto_read}
 use Rattle.sccs_writers.specs.Puts.{Puts, PutsText, Writer}
 use Rattle.sccs_writers.specs.Spelled.{spelled}
-use Rattle.sccs_copies.specs.Copies.{CopiesBody, CopiesItem, CopiesItems, CopiesNext, CopiesOn, CopiesSome, CopyComes, PutsFiltered}
+use Rattle.sccs_copies.specs.Copies.{CopiesItem, CopiesNext, CopiesOn, CopiesSome, CopyComes, PutsFiltered}
 use Rattle.sccs_copies.specs.Filters.{Filter, PassesTexts, identity}
 use Rattle.sccs_copies.specs.declared.copies.Copying.{Copying}
 use Rattle.sccs_copies.proofs.BodyLaws.{body_both, on_both}

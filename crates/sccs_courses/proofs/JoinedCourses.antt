@@ -20,6 +20,7 @@ use Rattle.sccs_courses.specs.Courses.{AllClear, AllExempt, AllPlain, AllSafe, A
 use Rattle.sccs_courses.specs.Following.{AreKnown, BegunThen, CourseMoments, FinishesFirst, MakesCourse, RunsCourse, RunsTo, SpeaksTo, StopsCourse, UnlockedCourse, WholeThen}
 use Rattle.sccs_courses.proofs.CourseMomentLaws.{keeps_now, may_now, more_moments, then_moments}
 use Rattle.sccs_courses.proofs.Portions.{both_all, safe_later, steps_more}
+use Rattle.sccs_base.proofs.Rises.{rose_later}
 
 -- ---- the parts of what is said
 
@@ -40,13 +41,9 @@ speaks_then whole begun whole2 begun2 one (Err fault) a b c first next = (
   subst (λ text. GivesSome a c text) (sym (err_more first.0 next.0)) (gives_then a b c (err_of first.0) (err_of next.0) first.2 next.2),
 )
 
-later_rose : (a b c : ℕ) → a ≤ b → Rose b c → Rose a c
-later_rose a b c later (inl higher) = inl (omega (arith, later, higher))
-later_rose a b c later (inr full) = inr full
-
 either_rose : (a b c d e f : ℕ) → a ≤ b → d ≤ e → Rose b c ⊎ Rose e f → Rose a c ⊎ Rose d f
-either_rose a b c d e f one two (inl rose) = inl (later_rose a b c one rose)
-either_rose a b c d e f one two (inr rose) = inr (later_rose d e f two rose)
+either_rose a b c d e f one two (inl rose) = inl (rose_later a b c one rose)
+either_rose a b c d e f one two (inr rose) = inr (rose_later d e f two rose)
 
 pub causes_then : (one : ℕ) (r : Result ℕ Fault) (a b c : Counts) → RunCauses (Ok one) a b → RunCauses r b c → RunCauses r a c
 causes_then one r a b c first next = record {
@@ -54,9 +51,9 @@ causes_then one r a b c first next = record {
   out_later = (let x = first.out_later in let y = next.out_later in omega (arith, x, y));
   err_later = (let x = first.err_later in let y = next.err_later in omega (arith, x, y));
   disk_later = (let x = first.disk_later in let y = next.disk_later in omega (arith, x, y));
-  read = λ is. later_rose a.input b.input c.input first.input_later (next.read is);
+  read = λ is. rose_later a.input b.input c.input first.input_later (next.read is);
   write = λ is. either_rose a.out b.out c.out a.err b.err c.err first.out_later first.err_later (next.write is);
-  broke = λ is. later_rose a.disk b.disk c.disk first.disk_later (next.broke is);
+  broke = λ is. rose_later a.disk b.disk c.disk first.disk_later (next.broke is);
 }
 
 -- what is known of several portions is known of the first ones

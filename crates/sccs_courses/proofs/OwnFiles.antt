@@ -1,12 +1,11 @@
 -- The working files of a course's own steps are no s-files, p-files or z-files.
-use Rattle.std.proofs.Common.{◌≡◌, ℕ, Bool, true, false, cond, ◌&&◌, ◌||◌, List, [], ◌∷◌, Result, refl, ap, ◌∙◌, arith}
+use Rattle.std.proofs.Common.{◌≡◌, ℕ, Bool, true, false, cond, ◌&&◌, ◌||◌, List, [], ◌∷◌, Result, refl, ap, ◌∙◌}
 use Rattle.std.specs.Str.{bytes_eq}
-use Rattle.sccs_base.specs.Name.{IsSfile, p_file, z_file}
-use Rattle.sccs_base.proofs.SameBytes.{other_bytes}
+use Rattle.sccs_base.specs.Name.{p_file, z_file}
 use Rattle.sccs_disk.specs.Told.{Told}
 use Rattle.sccs_files.specs.StepFiles.{is_working, nowhere}
 use Rattle.sccs_intents.specs.Intents.{intent_file, plan_file}
-use Rattle.sccs_moments.proofs.FileNames.{working_s}
+use Rattle.sccs_moments.proofs.FileNames.{working_s, plan_and_sfile}
 use Rattle.sccs_steps.specs.Actions.{Action}
 use Rattle.sccs_steps.specs.Calls.{Scene}
 use Rattle.sccs_steps.specs.ListStops.{Spares}
@@ -15,13 +14,11 @@ use Rattle.sccs_steps.specs.declared.faults.Fault.{Fault}
 use Rattle.sccs_courses.specs.Courses.{Courses, Portion, portions_of}
 use Rattle.sccs_courses.specs.Following.{MakesCourse, StopsCourse, UnlockedCourse}
 use Rattle.sccs_courses.specs.OwnFiles.{MakesOwn, StopsOwn, UnlockedOwn, working_along, working_by, working_in, working_of}
+use Rattle.std.proofs.lemmas.Bool.{or_from}
 
 neither : (a b c : Bool) → b ≡ false → c ≡ false → (a && b || c) ≡ false
 neither true b c e f = ap (λ x. x || c) e ∙ f
 neither false b c e f = f
-
-both : (a b : Bool) → a ≡ false → b ≡ false → (a || b) ≡ false
-both a b e f = ap (λ x. x || b) e ∙ f
 
 spares_steps : (x : Action) (ts : List NamedStep) → Spares (working_of x ts)
 spares_steps x [] = record { s = λ n sfile. refl; p = λ n sfile. refl; z = λ n sfile. refl; intent = refl }
@@ -36,18 +33,6 @@ spares_steps x (t ∷ ts) =
 
 spares_nowhere : Spares nowhere
 spares_nowhere = record { s = λ n sfile. refl; p = λ n sfile. refl; z = λ n sfile. refl; intent = refl }
-
--- the second byte, or none
-abbrev second : List ℕ → ℕ
-second [] = 0
-second (a ∷ []) = 0
-second (a ∷ b ∷ rest) = b
-
--- the plan is no s-file
-plan_and_sfile : (n : List ℕ) → IsSfile n → bytes_eq plan_file n ≡ false
-plan_and_sfile [] sfile = refl
-plan_and_sfile (b ∷ []) sfile = absurd (let e = sfile.front in cc)
-plan_and_sfile (b ∷ d ∷ rest) sfile = other_bytes plan_file (b ∷ d ∷ rest) (λ e. let dot : d ≡ 46 = let f = sfile.front in cc in let c : 99 ≡ d = ap second e in omega (arith, dot, c))
 
 spares_plan : (plans : Bool) (x : Action) (ts : List NamedStep) → Spares (λ k. (plans && bytes_eq plan_file k) || working_of x ts k)
 spares_plan plans x ts =
@@ -70,10 +55,10 @@ spares_in (p ∷ q ∷ ps) =
     let one : Spares (working_by p) = spares_by p.by.reads p.plans p.by p.parts in
     let rest : Spares (working_in (q ∷ ps)) = spares_in (q ∷ ps) in
     record {
-      s = λ n sfile. both (working_by p n) (working_in (q ∷ ps) n) (one.s n sfile) (rest.s n sfile);
-      p = λ n sfile. both (working_by p (p_file n)) (working_in (q ∷ ps) (p_file n)) (one.p n sfile) (rest.p n sfile);
-      z = λ n sfile. both (working_by p (z_file n)) (working_in (q ∷ ps) (z_file n)) (one.z n sfile) (rest.z n sfile);
-      intent = both (working_by p intent_file) (working_in (q ∷ ps) intent_file) one.intent rest.intent;
+      s = λ n sfile. or_from (working_by p n) (working_in (q ∷ ps) n) (one.s n sfile) (rest.s n sfile);
+      p = λ n sfile. or_from (working_by p (p_file n)) (working_in (q ∷ ps) (p_file n)) (one.p n sfile) (rest.p n sfile);
+      z = λ n sfile. or_from (working_by p (z_file n)) (working_in (q ∷ ps) (z_file n)) (one.z n sfile) (rest.z n sfile);
+      intent = or_from (working_by p intent_file) (working_in (q ∷ ps) intent_file) one.intent rest.intent;
     }
 
 -- ---- what is said for any working files, for its own

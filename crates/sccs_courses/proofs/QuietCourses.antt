@@ -1,5 +1,5 @@
 -- Courses of calls that have an input of their own.
-use Rattle.std.proofs.Common.{◌≡◌, ◌≢◌, ℕ, List, [], Option, Result, Ok, Err, inl, inr, arith, sym, subst}
+use Rattle.std.proofs.Common.{◌≡◌, ◌≢◌, ℕ, List, [], Option, Result, Ok, Err, arith, sym, subst}
 use Rattle.sccs_base.specs.Stream.{Rose}
 use Rattle.sccs_disk.specs.Files.{Folder, view_in}
 use Rattle.sccs_steps.specs.Calls.{shown}
@@ -9,10 +9,7 @@ use Rattle.sccs_steps.specs.declared.faults.Fault.{Fault}
 use Rattle.sccs_courses.specs.Courses.{AllClear, AllExempt, AllPlain, AllSafe, AllTake, Courses, portions_of, steps_along}
 use Rattle.sccs_courses.specs.Following.{AreKnown, CourseMoments, RunsCourse, RunsTo, SpeaksTo}
 use Rattle.sccs_courses.specs.QuietSettings.{with_input}
-
-pub never_rose : (b c : ℕ) → Rose 0 0 → Rose b c
-never_rose b c (inl above) = absurd (omega (arith, above))
-never_rose b c (inr full) = absurd (let no : 0 ≡ 18446744073709551615 = full in omega (arith, no))
+use Rattle.sccs_base.proofs.Rises.{never_rose}
 
 -- no call of an input failed: so none of one that wasn't called
 pub course_heard : (course : Courses) (given : List ℕ → Type 0) (whole : ℕ → List NamedStep → Type 0) (begun : List NamedStep → Type 0) (r : Result ℕ Fault) (s t : Setting) (left left2 : Option (List ℕ)) (count : ℕ) → s.faults.input ≡ 0 → t.faults.input ≡ 0
@@ -29,7 +26,7 @@ course_heard course given whole begun r s t left left2 count none none2 runs = r
     out_later = runs.causes.out_later;
     err_later = runs.causes.err_later;
     disk_later = runs.causes.disk_later;
-    read = λ is. never_rose count count (subst (λ k. Rose 0 k) none2 (subst (λ k. Rose k t.faults.input) none (runs.causes.read is)));
+    read = λ is. absurd (never_rose (subst (λ k. Rose 0 k) none2 (subst (λ k. Rose k t.faults.input) none (runs.causes.read is))));
     write = runs.causes.write;
     broke = runs.causes.broke;
   };

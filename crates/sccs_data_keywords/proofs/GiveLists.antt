@@ -1,10 +1,11 @@
 -- Lists that are given item by item.
-use Rattle.std.proofs.Common.{◌≡◌, ℕ, ◌+◌, ◌<◌, ◌≤◌, List, [], ◌∷◌, ◌++◌, append_assoc, append-nil, length, take, flat_map, get_or, Option, Result, Ok, Err, OnOk, OnErr, inl, inr, sym, ap, subst, ◌∙◌, add-one, arith}
+use Rattle.std.proofs.Common.{◌≡◌, ℕ, ◌+◌, ◌<◌, ◌≤◌, List, [], ◌∷◌, ◌++◌, append_assoc, append-nil, length, take, flat_map, get_or, Option, Result, Ok, Err, OnOk, OnErr, sym, ap, subst, ◌∙◌, add-one, arith}
 use Rattle.std.specs.Result.{OnOk, OnErr}
 use Rattle.sccs_base.specs.Causes.{GivesText}
 use Rattle.sccs_base.specs.Stream.{GivesOk, GivesSome, Rose}
 use Rattle.sccs_base.proofs.Gifts.{gives_both, gives_none, part_more}
 use Rattle.sccs_base.proofs.Runs.{some_of_pieces}
+use Rattle.sccs_base.proofs.Rises.{rose_later}
 
 -- A text was given, and no count fell.
 pub record HasGiven (text : List ℕ) (a b : Option (List ℕ)) (n m : ℕ) : Type 0 where
@@ -38,12 +39,8 @@ item_fails {X} {T} {E} f xs items same i x d below is a b c n m k r fault other 
       ok = tt;
       err = some_of_pieces f a b c xs i d there so_far.given (subst (λ (y : X). GivesSome b c (f y)) (sym item) some);
       later = omega (arith, so_far.later, text.later);
-      cause = rises n m k so_far.later rose;
+      cause = rose_later n m k so_far.later rose;
     }
-  where
-    rises : (n m k : ℕ) → n ≤ m → Rose m k → Rose n k
-    rises n m k low (inl more) = inl (omega (arith, low, more))
-    rises n m k low (inr last) = inr last
 
 -- texts with a slash between two
 pub slashed_rest : (a b : List ℕ) → (a ++ 47 ∷ []) ++ b ≡ a ++ (47 ∷ b)

@@ -3,7 +3,7 @@ use Rattle.std.proofs.Common.{◌≡◌, ℕ, zero, suc, ◌==◌, nat_le, nat_l
 use Rattle.std.specs.Prelude.{filter, is_none, remove, slice_get}
 use Rattle.std.specs.List.{AllByRecursion}
 use Rattle.std.proofs.lemmas.Bool.Decides.{nat_tests}
-use Rattle.std.proofs.lemmas.Bool.{and_from, and_parts, eqb-true, false_from_ne_true, false≢true, or_cases, or_left, or_right, true≢false}
+use Rattle.std.proofs.lemmas.Bool.{and_from, and_parts, eqb-true, false_from_ne_true, false≢true, or_cases, or_left, or_right, true≢false, not-true}
 use Rattle.sccs_sid.specs.declared.moments.Stamp.{Stamp}
 use Rattle.sccs_sid.specs.declared.sid_lists.Range.{Range}
 use Rattle.sccs_sid.specs.declared.sids.Sid.{Sid}
@@ -15,7 +15,7 @@ use Rattle.sccs_history.specs.declared.headers.Record.{Record}
 use Rattle.sccs_pending.proofs.StopLaws.{still_all}
 use Rattle.sccs_pfile.specs.Agreement.{Agrees, agrees, are_ranges, has_lists, is_listed, makers, share_sid}
 use Rattle.sccs_pfile.specs.declared.entries.Edit.{Edit}
-use Rattle.sccs_pfile.proofs.Recovering.{same_self}
+use Rattle.sccs_pfile.proofs.Recovering.{same_self, one_out, one_maker}
 use Rattle.sccs_records.specs.NewDeltas.{last_of, with_delta, with_deltas, with_record}
 use Rattle.sccs_records.specs.declared.new_deltas.NewDelta.{NewDelta}
 use Rattle.sccs_sets.specs.Naming.{in_range, not_after, one_line, range_fault}
@@ -23,7 +23,7 @@ use Rattle.sccs_sets.proofs.NewSids.{same_is}
 use Rattle.sccs_delta.specs.NullDeltas.{null_deltas, skipped_by, with_nulls}
 use Rattle.sccs_delta.proofs.DeltaStops.{delta_makes}
 use Rattle.sccs_delta.proofs.EntryLaws.{entry_agrees}
-use Rattle.sccs_delta.proofs.MadeEntries.{HasMade, one_maker, one_out}
+use Rattle.sccs_delta.proofs.MadeEntries.{HasMade}
 
 -- ---- SIDs of one line, in order
 
@@ -192,15 +192,11 @@ ranges_more records on d (range ∷ ranges) are =
     still : (a b c : Bool) → a ≡ true → b ≡ true → c ≡ true → is_none (cond (not a) (Some range.first) (cond (b && c) None (Some range.last))) ≡ true
     still a b c one two three = rw (one, two, three) refl
 
-true_not : (b : Bool) → not b ≡ true → b ≡ false
-true_not true is = absurd (false≢true is)
-true_not false is = refl
-
 lists_more : (records : List Record) (on : ℕ) (d : NewDelta) (x : Edit) → has_lists records x ≡ true → has_lists (with_record records on d) x ≡ true
 lists_more records on d x has =
     let first = and_parts (are_ranges records x.include) (are_ranges records x.exclude && not (share_sid records x.include x.exclude)) has in
     let second = and_parts (are_ranges records x.exclude) (not (share_sid records x.include x.exclude)) first.1 in
-    let none : share_sid records x.include x.exclude ≡ false = true_not (share_sid records x.include x.exclude) second.1 in
+    let none : share_sid records x.include x.exclude ≡ false = not-true (share_sid records x.include x.exclude) second.1 in
     let apart : (is_listed x.include d.sid && is_listed x.exclude d.sid) ≡ false =
     false_from_ne_true (is_listed x.include d.sid && is_listed x.exclude d.sid)
     (λ both. let parts = and_parts (is_listed x.include d.sid) (is_listed x.exclude d.sid) both in
@@ -251,7 +247,7 @@ module _ (stamp : Stamp) (header : Header) (got : ℕ) (edits : List Edit) (k : 
       let first = and_parts (lives header.records x.got) (not (lives header.records x.made) && (makers edits x.made == 1 && has_lists header.records x)) agreed in
       let second = and_parts (not (lives header.records x.made)) (makers edits x.made == 1 && has_lists header.records x) first.1 in
       let third = and_parts (makers edits x.made == 1) (has_lists header.records x) second.1 in
-      let apart : same_sid e.made x.made ≡ false = true_not (same_sid e.made x.made) other in
+      let apart : same_sid e.made x.made ≡ false = not-true (same_sid e.made x.made) other in
       and_from (lives new_records x.got) (not (lives new_records x.made) && (makers (remove edits k) x.made == 1 && has_lists new_records x))
       (lives_more (with_deltas header got nulls).records (last_of got (newest header.records) nulls) d x.got (lives_in_turn header got nulls x.got first.0))
       (and_from (not (lives new_records x.made)) (makers (remove edits k) x.made == 1 && has_lists new_records x)

@@ -1,16 +1,14 @@
 -- What a stop leaves of a delta: what its step asks of recovery.
-use Rattle.std.proofs.Common.{◌≡◌, ℕ, ◌-◌, Bool, true, false, ◌||◌, List, [], ◌∷◌, Option, None, Some, IfSome, Ok, refl, sym, ap, subst, ◌∙◌}
+use Rattle.std.proofs.Common.{◌≡◌, ℕ, ◌-◌, Bool, true, false, ◌||◌, List, [], ◌∷◌, Option, None, Some, Ok, refl, sym, ap, subst, ◌∙◌}
 use Rattle.std.specs.Prelude.{All, remove, slice_get}
 use Rattle.std.specs.List.{AllByRecursion, list_any}
 use Rattle.std.proofs.lemmas.List.Elements.{recursion_from_All}
 use Rattle.sccs_base.specs.Name.{p_file, q_file, x_file}
 use Rattle.sccs_disk.specs.Files.{Content, View}
-use Rattle.sccs_disk.specs.Told.{Told, seen}
 use Rattle.sccs_sid.specs.declared.moments.Stamp.{Stamp}
 use Rattle.sccs_sid.specs.declared.sids.Sid.{Sid}
 use Rattle.sccs_edits.specs.Places.{places}
 use Rattle.sccs_edits.specs.declared.scripts.Order.{Order}
-use Rattle.sccs_files.specs.StepFiles.{Alike, Moves}
 use Rattle.sccs_grammar.specs.File.{IsSFile}
 use Rattle.sccs_history.specs.History.{IsHeader, IsSpelled, lives, same_sid}
 use Rattle.sccs_history.specs.declared.headers.Header.{Header}
@@ -19,7 +17,6 @@ use Rattle.sccs_history.specs.declared.headers.Record.{Record}
 use Rattle.sccs_pfile.specs.Agreement.{Agrees}
 use Rattle.sccs_pfile.specs.Entries.{IsEdit}
 use Rattle.sccs_pfile.specs.Reading.{edits_of}
-use Rattle.sccs_moments.specs.Recovery.{IsSound}
 use Rattle.sccs_pfile.specs.Recovered.{pfile_of, recovered_pfile, table_of}
 use Rattle.sccs_pfile.specs.declared.entries.Edit.{Edit}
 use Rattle.sccs_pending.specs.PFiles.{bytes_or_none}
@@ -32,15 +29,14 @@ use Rattle.sccs_store.specs.Commits.{chosen, files_after, replaced}
 use Rattle.sccs_store.specs.SealedFiles.{sealed}
 use Rattle.sccs_store.specs.Stops.{KeepsEntries, OnChange}
 use Rattle.sccs_transactions.specs.Changes.{plan_of}
-use Rattle.sccs_steps.specs.StepStops.{ArePaired, IsPaired}
-use Rattle.sccs_transactions.specs.Stops.{SettlesEntries}
 use Rattle.sccs_transactions.specs.declared.prepared.Prepared.{Prepared}
 use Rattle.sccs_delta.specs.NullDeltas.{null_deltas, serial_behind, skipped_by, with_nulls}
 use Rattle.sccs_delta.proofs.DeltaReads.{delta_reads}
 use Rattle.sccs_delta.proofs.MadeEntries.{HasMade, entry_goes, rest_stays}
 use Rattle.sccs_delta.proofs.NullTables.{lives_nulls, nulls_apart}
-use Rattle.sccs_pending.proofs.StopLaws.{pending_file, table_is}
+use Rattle.sccs_pending.proofs.StopLaws.{table_is}
 use Rattle.sccs_pending.proofs.PendingReads.{no_entry, pending_entries}
+use Rattle.sccs_pending.proofs.Preparing.{was_read}
 
 -- ---- null deltas make no entry's SID
 
@@ -98,10 +94,6 @@ delta_settles n x stamp number got edit d header items p v u read valid agree at
         (recursion_from_All IsEdit x.edits valid) agree at (delta_makes stamp x.front.header got x.edits edit d made)
         p c u new_s x_is (same ∙ o_is) (read_entries (Some c) o_is) chosen_is
 
-was_read : (s p : Option Content) (x : Pending) (read : AnswersPending s p (Ok x)) → IsSFile (bytes_or_none s) x.front.header read.0.items
-was_read None p x read = absurd read.1
-was_read (Some s) p x read = pending_file s p (record { parsed = read.0; edits = x.edits }) read.2 ∙ ap (λ (h : Header). Ok (record { header = h; items = read.0.items })) (sym read.1.0)
-
 -- The same of an s-file that was read: where the header with the new delta keeps the rules and has a spelling, and the x-file has the
 -- items of the script among those that were read.
 pub delta_settles_read : (n : List ℕ) (x : Pending) (stamp : Stamp) (number got : ℕ) (edit : Edit) (d : NewDelta) (set : List ℕ) (orders : List Order) (p : Prepared) (v u : View) (read : AnswersPending (v n) (v (p_file n)) (Ok x))
@@ -117,14 +109,3 @@ delta_settles_read n x stamp number got edit d set orders p v u read old valid a
   where
     nulls : List NewDelta
     nulls = null_deltas stamp (skipped_by x.front.header x.edits edit)
-
--- What is so in each view after a call, where that call left all files but working files as they were, is so of what is told.
-pub settles_told : (n : List ℕ) (p : Prepared) (working : List ℕ → Bool) (a b : Told) → Moves working (λ v. v) (seen a) (seen b)
-    → ((v u : View) → seen a ≡ Some v → seen b ≡ Some u → Alike working u v → KeepsEntries n (plan_of p) u × ArePaired (files_after n (plan_of p) u).s (files_after n (plan_of p) u).p) → SettlesEntries n p b
-settles_told n p working a b moves keeps = by (seen a) (seen b) refl refl moves
-  where
-    by : (before after : Option View) → seen a ≡ before → seen b ≡ after → Moves working (λ v. v) before after
-        → IfSome after (λ (u : View). IsPaired n u → IsSound n u → KeepsEntries n (plan_of p) u × ArePaired (files_after n (plan_of p) u).s (files_after n (plan_of p) u).p)
-    by None after is_before is_after moved = subst (λ (o : Option View). IfSome o (λ (u : View). IsPaired n u → IsSound n u → KeepsEntries n (plan_of p) u × ArePaired (files_after n (plan_of p) u).s (files_after n (plan_of p) u).p)) (sym moved) tt
-    by (Some v) None is_before is_after moved = absurd moved
-    by (Some v) (Some u) is_before is_after moved = λ paired sound. keeps v u is_before is_after moved

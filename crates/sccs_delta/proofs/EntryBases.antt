@@ -19,13 +19,13 @@ use Rattle.sccs_delta.specs.DeltaStep.{entry_base, or_disagrees}
 use Rattle.sccs_delta.specs.Preparing.{list_fault}
 use Rattle.sccs_delta.specs.declared.entries.Base.{Base}
 
-abbrev base_at : List Record → ℕ → List ℕ → List ℕ → Base
-base_at records got include exclude =
+abbrev pub base_with : List Record → ℕ → List ℕ → List ℕ → Base
+base_with records got include exclude =
     record { got = got; include = include; exclude = exclude; set = applied (record { target = got; include = include; exclude = exclude; cutoff = None }) records }
 
 -- the base, for parts that are given one by one
 abbrev apart_by : ℕ → List Record → ℕ → List ℕ → List ℕ → Bool → Result Base Refusal
-apart_by number records got include exclude apart = check apart (refusals.Disagree number) >>= λ x. Ok (base_at records got include exclude)
+apart_by number records got include exclude apart = check apart (refusals.Disagree number) >>= λ x. Ok (base_with records got include exclude)
 
 abbrev base_by : ℕ → List Record → Option ℕ → Result (List ℕ) Sid → Result (List ℕ) Sid → Result Base Refusal
 base_by number records found first second =

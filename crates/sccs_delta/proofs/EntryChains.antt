@@ -22,6 +22,7 @@ use Rattle.sccs_delta.specs.DeltaStep.{ChosenEntry, entry_base, chosen_entry, de
 use Rattle.sccs_delta.specs.Preparing.{FindsEntry}
 use Rattle.sccs_delta.specs.declared.entries.Base.{Base}
 use Rattle.sccs_pending.proofs.Chains.{ends, goes, passed}
+use Rattle.sccs_pending.proofs.Preparing.{passes_answers}
 
 -- ---- what follows each check
 
@@ -74,14 +75,6 @@ pub no_base : (words : DeltaWords) (stamp : Stamp) (header : Header) (edits : Li
     → Answers {A = Base} (entry_base header.records number edit) (Err fault) → FindsEntry words stamp header edits (Err fault)
 no_base words stamp header edits number edit fault allowed is at answers =
     by_rest words stamp header edits _ fault (numbered words stamp header edits number edit allowed is at) (ends (entry_base header.records number edit) (with_base header number edit) fault answers)
-
--- a check that fails, as an answer
-passes_answers : (found : Result Bool Refusal) (fault : StepFault) → PassesCheck found (Err fault) → Answers {A = Bool} found (Err fault)
-passes_answers found (Refused refusal) passes = passes
-passes_answers found Memory passes = tt
-passes_answers found ReadFault passes = passes
-passes_answers found WriteFault passes = passes
-passes_answers found DiskFault passes = tt
 
 pub not_released : (words : DeltaWords) (stamp : Stamp) (header : Header) (edits : List Edit) (number : ℕ) (edit : Edit) (base : Base) (fault : StepFault) → is_allowed header.users stamp.login ≡ true → or_no_edit (choice (fits stamp.login words.sid true) edits) ≡ Ok number → slice_get edits (number - 1) ≡ Some edit
     → entry_base header.records number edit ≡ Ok base → PassesCheck (delta_releases header.flags edit) (Err fault) → FindsEntry words stamp header edits (Err fault)

@@ -3,10 +3,10 @@ use Rattle.std.proofs.Common.{◌≡◌, ℕ, zero, suc, ◌<◌, ◌⊎◌, ◌
 use Rattle.std.specs.Prelude.{is_none, slice_get}
 use Rattle.std.specs.List.{AllByRecursion, flat_map, list_any}
 use Rattle.std.specs.Option.{option_and_then}
-use Rattle.std.proofs.lemmas.Bool.{and_from, and_parts, eqb-true, false_from_ne_true, false≢true, or_cases, or_left, or_right}
+use Rattle.std.proofs.lemmas.Bool.{and_from, and_parts, eqb-true, false_from_ne_true, false≢true, or_cases, or_left, or_right, not-true}
 use Rattle.sccs_sid.specs.declared.sids.Sid.{Sid}
 use Rattle.sccs_sid.specs.declared.sid_lists.Range.{Range}
-use Rattle.sccs_history.specs.Applied.{applied, live_serials, serials_of}
+use Rattle.sccs_history.specs.Applied.{live_serials, serials_of}
 use Rattle.sccs_history.specs.History.{lives, same_sid}
 use Rattle.sccs_history.specs.Numbers.{Falls, has, share}
 use Rattle.sccs_history.specs.declared.headers.Record.{Record}
@@ -22,7 +22,8 @@ use Rattle.sccs_sets.proofs.OnceNamed.{places_all, serials_once}
 use Rattle.sccs_sets.proofs.Ranges.{ranges_named}
 use Rattle.sccs_delta.specs.DeltaStep.{entry_base}
 use Rattle.sccs_delta.specs.declared.entries.Base.{Base}
-use Rattle.sccs_delta.proofs.EntryBases.{base_made}
+use Rattle.sccs_delta.proofs.EntryBases.{base_made, base_with}
+use Rattle.sccs_base.proofs.Bools.{or_assoc}
 
 -- ---- the SID got
 
@@ -58,11 +59,7 @@ ok_by (Some sid) ms ns is = absurd (cc)
 
 has_both : (ms ns : List ℕ) (n : ℕ) → has (ms ++ ns) n ≡ (has ms n || has ns n)
 has_both [] ns n = refl
-has_both (m ∷ ms) ns n = ap (λ b. m == n || b) (has_both ms ns n) ∙ grouped (m == n) (has ms n) (has ns n)
-  where
-    grouped : (a b c : Bool) → (a || (b || c)) ≡ ((a || b) || c)
-    grouped true b c = refl
-    grouped false b c = refl
+has_both (m ∷ ms) ns n = ap (λ b. m == n || b) (has_both ms ns n) ∙ or_assoc (m == n) (has ms n) (has ns n)
 
 -- the live deltas of one test or of another
 module _ (f g : Sid → Bool) where
@@ -74,11 +71,7 @@ module _ (f g : Sid → Bool) where
       once : (x y z : Bool) → (x || (y || z)) ≡ ((x || y) || (x || z))
       once true y z = refl
       once false y z = refl
-  either_step r n fs gs both true true false is = ap (λ t. r.serial == n || t) is ∙ first (r.serial == n) (has (serials_of fs) n) (has (serials_of gs) n)
-    where
-      first : (x y z : Bool) → (x || (y || z)) ≡ ((x || y) || z)
-      first true y z = refl
-      first false y z = refl
+  either_step r n fs gs both true true false is = ap (λ t. r.serial == n || t) is ∙ or_assoc (r.serial == n) (has (serials_of fs) n) (has (serials_of gs) n)
   either_step r n fs gs both true false true is = ap (λ t. r.serial == n || t) is ∙ second (r.serial == n) (has (serials_of fs) n) (has (serials_of gs) n)
     where
       second : (x y z : Bool) → (x || (y || z)) ≡ (y || (x || z))
@@ -161,10 +154,6 @@ none_found (m ∷ ms) ns apart = by (has ns m) apart (none_found ms ns)
     by true apart2 rest = absurd (false≢true (sym apart2))
     by false apart2 rest = rest apart2
 
-true_not : (b : Bool) → not b ≡ true → b ≡ false
-true_not true is = absurd (false≢true is)
-true_not false is = refl
-
 -- ---- an entry that agrees
 
 -- What an entry says by serials: each is live, and its lists share none.
@@ -179,10 +168,6 @@ pub record HasBase (records : List Record) (edit : Edit) (base : Base) : Type 0 
   pub apart : share base.include base.exclude ≡ false
   pub unshared : both_listed records base.include base.exclude ≡ None
 
-abbrev base_with : List Record → ℕ → List ℕ → List ℕ → Base
-base_with records got include exclude =
-    record { got = got; include = include; exclude = exclude; set = applied (record { target = got; include = include; exclude = exclude; cutoff = None }) records }
-
 pub agreeing_base : (records : List Record) (edits : List Edit) (edit : Edit) → Falls 65536 (serials_of records) → agrees records edits edit ≡ true → (base : Base) × HasBase records edit base
 agreeing_base records edits edit falls agree =
     let first = and_parts (lives records edit.got) (not (lives records edit.made) && (makers edits edit.made == 1 && has_lists records edit)) agree in
@@ -195,7 +180,7 @@ agreeing_base records edits edit falls agree =
     let unshared : share include exclude ≡ false =
     none_shared include exclude
     (λ n one two. false≢true
-    (sym (true_not (share_sid records edit.include edit.exclude) apart.1)
+    (sym (not-true (share_sid records edit.include edit.exclude) apart.1)
     ∙ both_there (is_listed edit.include) (is_listed edit.exclude) records 65536 n falls (named_live records edit.include include n include_is one) (named_live records edit.exclude exclude n exclude_is two))) in (
       base_with records got include exclude,
       record {

@@ -1,8 +1,8 @@
 -- A table may get the null deltas of an entry, and then its delta.
-use Rattle.std.proofs.Common.{◌≡◌, ℕ, zero, suc, ◌+◌, ◌<◌, ◌==◌, Bool, true, false, not, ◌&&◌, ◌||◌, List, [], ◌∷◌, codes, length, Some, Result, Ok, refl, sym, subst, ◌∙◌, arith}
+use Rattle.std.proofs.Common.{◌≡◌, ℕ, zero, suc, ◌+◌, ◌<◌, ◌==◌, Bool, true, false, not, ◌&&◌, List, [], ◌∷◌, codes, length, Some, Result, Ok, refl, sym, subst, ◌∙◌, arith}
 use Rattle.std.specs.Prelude.{slice_get}
 use Rattle.std.specs.List.{AllByRecursion, list_any}
-use Rattle.std.proofs.lemmas.Bool.{and_parts, or_right}
+use Rattle.std.proofs.lemmas.Bool.{and_parts, or_right, or_from, not-true}
 use Rattle.sccs_base.specs.Cut.{HasNoLf, cut}
 use Rattle.sccs_base.specs.Login.{IsLogin}
 use Rattle.sccs_base.proofs.Lines.{next_fit}
@@ -40,15 +40,7 @@ apart_at test (x ∷ edits) (suc place) edit are at = apart_at test edits place 
 
 not_live : (records : List Record) (edits : List Edit) (edit : Edit) → agrees records edits edit ≡ true → lives records edit.made ≡ false
 not_live records edits edit is =
-    undone (lives records edit.made) (and_parts (not (lives records edit.made)) (makers edits edit.made == 1 && has_lists records edit) (and_parts (lives records edit.got) (not (lives records edit.made) && (makers edits edit.made == 1 && has_lists records edit)) is).1).0
-  where
-    undone : (b : Bool) → not b ≡ true → b ≡ false
-    undone true isnt = cc
-    undone false isnt = refl
-
-both_none : (a b : Bool) → a ≡ false → b ≡ false → (a || b) ≡ false
-both_none true b one two = one
-both_none false b one two = two
+    not-true (lives records edit.made) (and_parts (not (lives records edit.made)) (makers edits edit.made == 1 && has_lists records edit) (and_parts (lives records edit.got) (not (lives records edit.made) && (makers edits edit.made == 1 && has_lists records edit)) is).1).0
 
 pub same_base : (r : Result Base Refusal) (one two : Base) → r ≡ Ok one → r ≡ Ok two → one ≡ two
 same_base r one two is_one is_two = let same : Ok one ≡ Ok two = sym is_one ∙ is_two in cc
@@ -63,7 +55,7 @@ delta_fits header edits place number edit base words stamp counts agree at has_b
   exclude = all_live header base.got (null_deltas stamp (skipped_by header edits edit)) base.exclude has_base.excluded;
   apart = has_base.apart;
   sid = lives_nulls stamp header base.got (skipped_by header edits edit) edit.made
-      ∙ both_none (list_any (λ s. same_sid s edit.made) (skipped_by header edits edit)) (lives header.records edit.made)
+      ∙ or_from (list_any (λ s. same_sid s edit.made) (skipped_by header edits edit)) (lives header.records edit.made)
       (apart_at (λ t. list_any (λ s. same_sid s t) (skipped_by header edits edit)) edits place edit (nulls_apart header edit.got edit.made edits) at)
       (not_live header.records edits edit (entry_agrees header.records edits edits place edit agree at));
 }

@@ -2,7 +2,7 @@
 use Rattle.std.proofs.Common.{◌≡◌, ℕ, zero, suc, ◌+◌, ◌-◌, ◌<◌, ◌≤◌, ◌==◌, Bool, true, false, not, ◌&&◌, ◌||◌, List, [], ◌∷◌, length, refl, sym, ap, ◌∙◌, arith, eq-eqb}
 use Rattle.std.specs.Prelude.{if◌then◌else◌}
 use Rattle.std.specs.List.{AllByRecursion, list_any}
-use Rattle.std.proofs.lemmas.Bool.{false≢true, ne_eqb, or_left, or_right}
+use Rattle.std.proofs.lemmas.Bool.{false≢true, ne_eqb, or_left, or_right, or_from, or_parts}
 use Rattle.sccs_sid.specs.declared.moments.Stamp.{Stamp}
 use Rattle.sccs_sid.specs.declared.sids.Sid.{Sid}
 use Rattle.sccs_flags.specs.FlagValues.{has_flag}
@@ -86,10 +86,6 @@ lives_nulls stamp header on (sid ∷ sids) t =
 
 -- ---- releases that are passed over
 
-pub neither : (a b : Bool) → (a || b) ≡ false → (a ≡ false) × (b ≡ false)
-neither true b is = absurd (false≢true (sym is))
-neither false b is = (refl, is)
-
 off : (a b c d : Bool) → (c && a) ≡ false → (a && (b && (c && d))) ≡ false
 off false b c d is = refl
 off true false c d is = refl
@@ -103,13 +99,9 @@ not_first release sid is = off (sid.release == release) (sid.level == 1) (sid.br
 none_live : (release : ℕ) (records : List Record) → list_any (λ r. not r.removed && is_on_trunk release r.sid) records ≡ false → lives records (first_in_release release) ≡ false
 none_live release [] none = refl
 none_live release (r ∷ records) none =
-    let both = neither (not r.removed && is_on_trunk release r.sid) (list_any (λ a. not a.removed && is_on_trunk release a.sid) records) none in
-    both_false (not r.removed && same_sid r.sid (first_in_release release)) (lives records (first_in_release release)) (kept (not r.removed) both.0) (none_live release records both.1)
+    let both = or_parts (not r.removed && is_on_trunk release r.sid) (list_any (λ a. not a.removed && is_on_trunk release a.sid) records) none in
+    or_from (not r.removed && same_sid r.sid (first_in_release release)) (lives records (first_in_release release)) (kept (not r.removed) both.0) (none_live release records both.1)
   where
-    both_false : (a b : Bool) → a ≡ false → b ≡ false → (a || b) ≡ false
-    both_false true b one two = one
-    both_false false b one two = two
-
     kept : (live : Bool) → (live && is_on_trunk release r.sid) ≡ false → (live && same_sid r.sid (first_in_release release)) ≡ false
     kept true is = not_first release r.sid is
     kept false is = refl
@@ -136,7 +128,7 @@ unused_free records reserved release (suc count) =
         → AreFree records (front_if (not t) (first_in_release release) (unused_from records reserved (suc release) count))
     put true is later rest = rest
     put false is later rest =
-        (none_live release records (neither (list_any (λ r. not r.removed && is_on_trunk release r.sid) records) (list_any (is_on_trunk release) reserved) is).0, later, rest)
+        (none_live release records (or_parts (list_any (λ r. not r.removed && is_on_trunk release r.sid) records) (list_any (is_on_trunk release) reserved) is).0, later, rest)
 
 pub skipped_free : (header : Header) (got made : Sid) (reserved : List Sid) → AreFree header.records (skipped header got made reserved)
 skipped_free header got made reserved =
@@ -160,7 +152,7 @@ unused_apart records reserved release (suc count) t away = put (is_used records 
     put true is rest = rest
     put false is rest =
         ap (λ b. b || list_any (λ s. same_sid s t) (unused_from records reserved (suc release) count))
-        (flip_sids (first_in_release release) t ∙ not_first release t (away release (neither (list_any (λ r. not r.removed && is_on_trunk release r.sid) records) (list_any (is_on_trunk release) reserved) is).1))
+        (flip_sids (first_in_release release) t ∙ not_first release t (away release (or_parts (list_any (λ r. not r.removed && is_on_trunk release r.sid) records) (list_any (is_on_trunk release) reserved) is).1))
         ∙ rest
 
 skipped_apart : (header : Header) (got made : Sid) (reserved : List Sid) (t : Sid) → ((n : ℕ) → list_any (is_on_trunk n) reserved ≡ false → is_on_trunk n t ≡ false)
@@ -177,8 +169,8 @@ skipped_apart header got made reserved t away =
 reserved_none : (all edits : List Edit) → ((test : Sid → Bool) → list_any test (made_sids all) ≡ false → list_any test (made_sids edits) ≡ false) → AllByRecursion (λ x. (test : Sid → Bool) → list_any test (made_sids all) ≡ false → test x.made ≡ false) edits
 reserved_none all [] within = tt
 reserved_none all (x ∷ edits) within = (
-  (λ test none. (neither (test x.made) (list_any test (made_sids edits)) (within test none)).0),
-  reserved_none all edits (λ test none. (neither (test x.made) (list_any test (made_sids edits)) (within test none)).1),
+  (λ test none. (or_parts (test x.made) (list_any test (made_sids edits)) (within test none)).0),
+  reserved_none all edits (λ test none. (or_parts (test x.made) (list_any test (made_sids edits)) (within test none)).1),
 )
 
 each_apart : (header : Header) (got made : Sid) (all edits : List Edit) → AllByRecursion (λ x. (test : Sid → Bool) → list_any test (made_sids all) ≡ false → test x.made ≡ false) edits

@@ -1,5 +1,5 @@
 -- Versions of a history with null deltas and a new delta behind them.
-use Rattle.std.proofs.Common.{◌≡◌, ℕ, suc, ◌+◌, ◌<◌, ◌≤◌, ◌⊎◌, ◌==◌, true, false, not, ◌&&◌, ◌||◌, List, [], ◌∷◌, length, None, refl, sym, ap, subst, ◌∙◌, inl, inr, ⊎_elim, arith, eq-eqb}
+use Rattle.std.proofs.Common.{◌≡◌, ℕ, suc, ◌+◌, ◌<◌, ◌≤◌, ◌⊎◌, ◌==◌, true, false, not, ◌&&◌, ◌||◌, List, [], ◌∷◌, length, refl, sym, ap, subst, ◌∙◌, inl, inr, ⊎_elim, arith, eq-eqb}
 use Rattle.std.specs.List.{AllByRecursion}
 use Rattle.std.proofs.lemmas.Bool.{cases_lt, eqb-true, ne_eqb, or_cases, or_left}
 use Rattle.sccs_sid.specs.declared.moments.Stamp.{Stamp}
@@ -10,7 +10,7 @@ use Rattle.sccs_edits.specs.Scripts.{apply}
 use Rattle.sccs_edits.specs.declared.scripts.Order.{Order}
 use Rattle.sccs_edits.proofs.PlacedItems.{other_placed, select_placed}
 use Rattle.sccs_edits.proofs.Rules.{rules_spliced}
-use Rattle.sccs_history.specs.Applied.{Asked, applied, live_serials, newest, path, serials_of, version, version_of}
+use Rattle.sccs_history.specs.Applied.{applied, live_serials, newest, path, serials_of, version, version_of}
 use Rattle.sccs_history.specs.Body.{GoesOn, HistoryLine, IsLine, above, lines_of}
 use Rattle.sccs_history.specs.History.{IsTable}
 use Rattle.sccs_history.specs.Numbers.{Falls, front_if, has, share}
@@ -23,7 +23,7 @@ use Rattle.sccs_history.proofs.Falling.{has-falls}
 use Rattle.sccs_history.proofs.LiveLines.{begins_whole, lines_of_live}
 use Rattle.sccs_records.specs.NewDeltas.{last_of, null_delta, with_delta, with_deltas, with_record}
 use Rattle.sccs_records.specs.declared.new_deltas.NewDelta.{NewDelta}
-use Rattle.sccs_records.proofs.SetLaws.{older_set, own_set, set_beneath}
+use Rattle.sccs_records.proofs.SetLaws.{older_set, own_set, set_beneath, asks}
 use Rattle.sccs_records.proofs.TableLaws.{at_most_newest, falls_newest, live_is_there}
 use Rattle.sccs_delta.specs.NullDeltas.{null_deltas, with_nulls}
 use Rattle.sccs_delta.specs.Versions.{base_set}
@@ -31,9 +31,6 @@ use Rattle.sccs_delta.proofs.NullLaws.{newest_nulls, nulls_long}
 use Rattle.sccs_delta.proofs.VersionLaws.{body_below}
 
 -- ---- the tables
-
-abbrev asks : ℕ → List ℕ → List ℕ → Asked
-asks target include exclude = record { target = target; include = include; exclude = exclude; cutoff = None }
 
 falls_more : (records : List Record) (on : ℕ) (d : NewDelta) → Falls 65536 (serials_of records) → newest records < 65535 → Falls 65536 (serials_of (with_record records on d))
 falls_more records on d falls few = (omega (arith, few), falls_newest records 65536 falls)

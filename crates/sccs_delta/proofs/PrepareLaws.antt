@@ -29,7 +29,7 @@ use Rattle.sccs_edits.specs.declared.scripts.Order.{Order}
 use Rattle.sccs_script.specs.Commands.{orders_of}
 use Rattle.sccs_pfile.specs.declared.entries.Edit.{Edit}
 use Rattle.sccs_steps.specs.Calls.{world}
-use Rattle.sccs_steps.specs.StepEffects.{Outcome, StepEffect, check}
+use Rattle.sccs_steps.specs.StepEffects.{Outcome, check}
 use Rattle.sccs_store.specs.Commits.{chosen, files_after, replaced}
 use Rattle.sccs_moments.proofs.FileNames.{from_g, from_s}
 use Rattle.sccs_transactions.specs.Changes.{AreTakenOrGone, IsUnmade, Prepares, plan_of, unlocked}
@@ -38,7 +38,6 @@ use Rattle.sccs_pending.specs.NewEntries.{kept_g}
 use Rattle.sccs_pending.specs.PFiles.{Answers, PassesCheck, is_short}
 use Rattle.sccs_pending.specs.Pending.{AnswersPending, Found, bytes_at, pending_of}
 use Rattle.sccs_pending.specs.declared.pending.Pending.{Pending}
-use Rattle.sccs_pending.proofs.PendingLaws.{shown_header}
 use Rattle.sccs_pending.proofs.StopLaws.{pending_answer}
 use Rattle.sccs_words.specs.declared.commands.DeltaWords.{DeltaWords}
 use Rattle.sccs_delta.specs.DeltaStep.{ChosenEntry, base_lines, delta_outcome, chosen_entry, fitted, makes_delta, mrs_checked, nulls_of, or_script_fault, sizes_checked}
@@ -47,6 +46,7 @@ use Rattle.sccs_delta.specs.Preparing.{FindsAsked, FindsEntry}
 use Rattle.sccs_delta.specs.Writing.{MakesDelta, script_checked}
 use Rattle.sccs_delta.specs.declared.entries.Chosen.{Chosen}
 use Rattle.sccs_pending.proofs.Chains.{answers_as, assoc, both_end, ends, goes}
+use Rattle.sccs_pending.proofs.Preparing.{files_at, pending_seen, pending_answers, IsRead, found_of, header_of, ended_as, passes_answers}
 
 -- ---- what follows each check
 
@@ -74,9 +74,6 @@ outcome_is words stamp n i named f = refl
 
 -- ---- the files as they were before the lock
 
-abbrev files_at : List ℕ → View → Files
-files_at n v = look (unlocked n v) n
-
 abbrev sizes_by : List ℕ → Option Content → Option Content → Option Content → Result Bool Refusal
 sizes_by i s p g = sizes_checked i (record { s = s; p = p; z = None; g = g; l = None })
 
@@ -91,11 +88,6 @@ sizes_seen n i v sfile =
     ∙ (ap (λ (o : Option Content). sizes_by i (v n) o (unlocked n v (drop 2 n))) (put_other v (z_file n) (p_file n) None refl)
     ∙ (ap (λ (o : Option Content). sizes_by i (v n) (v (p_file n)) o) (put_other v (z_file n) (drop 2 n) None (from_g 122 n sfile))
     ∙ sym (sizes_alone i (look v n)))))
-
-pending_seen : (n : List ℕ) (v : View) → IsSfile n → pending_of (files_at n v).s (files_at n v).p ≡ pending_of (v n) (v (p_file n))
-pending_seen n v sfile =
-    ap (λ (o : Option Content). pending_of o (unlocked n v (p_file n))) (put_other v (z_file n) n None (from_s 122 n sfile refl))
-    ∙ ap (λ (o : Option Content). pending_of (v n) o) (put_other v (z_file n) (p_file n) None refl)
 
 outcome_seen : (words : DeltaWords) (stamp : Stamp) (n i : List ℕ) (v : View) → IsSfile n → delta_outcome words stamp n i [] (files_at n v) ≡ by_files words stamp n i (files_at n v) (sizes_checked i (look v n)) (pending_of (v n) (v (p_file n)))
 outcome_seen words stamp n i v sfile =
@@ -112,35 +104,6 @@ read_as words stamp n i v found sfile sizes is =
 
 -- ---- an end before the files are written
 
-unmade : (n text : List ℕ) (v : View) (out err : Option (List ℕ)) → IsUnmade n text (world (Some v) out err) (world (Some v) out err)
-unmade n text v out err = record { view = λ k h. refl; out = some_none out text }
-
-ended : (n : List ℕ) (o : Outcome) (fault : StepFault) (v : View) (out err : Option (List ℕ)) → Answers {A = StepEffect} o (Err fault) → Prepares (Err fault) n o (world (Some v) out err) (world (Some v) out err)
-ended n o (Refused refusal) v out err answers = (answers, unmade n [] v out err)
-ended n o Memory v out err answers = unmade n _ v out err
-ended n o ReadFault v out err answers = absurd answers
-ended n o WriteFault v out err answers = absurd answers
-ended n o DiskFault v out err answers = unmade n _ v out err
-
-ended_as : (n : List ℕ) (o rest : Outcome) (fault : StepFault) (v : View) (w : Option View) (out err : Option (List ℕ)) → w ≡ Some v → o ≡ rest → Answers {A = StepEffect} rest (Err fault) → Prepares (Err fault) n o (world (Some v) out err) (world w out err)
-ended_as n o rest fault v w out err same is answers =
-    subst (λ (x : Option View). Prepares (Err fault) n o (world (Some v) out err) (world x out err)) (sym same)
-    (ended n o fault v out err (subst (λ (r : Outcome). Answers {A = StepEffect} r (Err fault)) (sym is) answers))
-
-passes_answers : (found : Result Bool Refusal) (fault : StepFault) → PassesCheck found (Err fault) → Answers {A = Bool} found (Err fault)
-passes_answers found (Refused refusal) passes = passes
-passes_answers found Memory passes = tt
-passes_answers found ReadFault passes = passes
-passes_answers found WriteFault passes = passes
-passes_answers found DiskFault passes = tt
-
-pending_answers : (s p : Option Content) (fault : StepFault) → AnswersPending s p (Err fault) → Answers {A = Found} (pending_of s p) (Err fault)
-pending_answers s p (Refused refusal) answers = answers
-pending_answers s p Memory answers = tt
-pending_answers s p ReadFault answers = answers
-pending_answers s p WriteFault answers = answers
-pending_answers s p DiskFault answers = tt
-
 finds_answers : (words : DeltaWords) (stamp : Stamp) (header : Header) (edits : List Edit) (fault : StepFault) → FindsEntry words stamp header edits (Err fault) → Answers {A = ChosenEntry} (chosen_entry words stamp header edits) (Err fault)
 finds_answers words stamp header edits (Refused refusal) finds = finds
 finds_answers words stamp header edits Memory finds = tt
@@ -151,9 +114,6 @@ finds_answers words stamp header edits DiskFault finds = tt
 -- what a call that reads finds of a told disk
 abbrev pub Whole : List ℕ → List ℕ → View → Type 0
 Whole n i v = sizes_checked i (look v n) ≡ Ok true
-
-abbrev pub IsRead : List ℕ → View → Pending → Type 0
-IsRead n v x = AnswersPending (v n) (v (p_file n)) (Ok x)
 
 abbrev PreparesAt : Result Prepared StepFault → DeltaWords → Stamp → List ℕ → List ℕ → View → Option View → Option (List ℕ) → Option (List ℕ) → Type 0
 PreparesAt r words stamp n i v w out err = Prepares r n (delta_outcome words stamp n i [] (look (unlocked n v) n)) (world (Some v) out err) (world w out err)
@@ -170,13 +130,6 @@ pending_end words stamp n i fault (Some v) o2 out err sfile same sizes answers =
     ended_as n _ _ fault v o2 out err same
     (outcome_seen words stamp n i v sfile ∙ ap (λ (r : Result Bool Refusal). by_files words stamp n i (files_at n v) r (pending_of (v n) (v (p_file n)))) sizes)
     (ends (pending_of (v n) (v (p_file n))) (with_found words stamp n i (files_at n v)) fault (pending_answers (v n) (v (p_file n)) fault answers))
-
--- what was found, with the header of the front
-abbrev found_of : (n : List ℕ) (v : View) (x : Pending) → IsRead n v x → Found
-found_of n v x read = record { parsed = read.0; edits = x.edits }
-
-header_of : (n : List ℕ) (v : View) (x : Pending) (read : IsRead n v x) → x.front.header ≡ read.0.header
-header_of n v x read = shown_header (bytes_at (v n)) read.0 x.front read.1
 
 entry_as : (words : DeltaWords) (stamp : Stamp) (n i : List ℕ) (v : View) (x : Pending) (r : Result ChosenEntry Refusal) (read : IsRead n v x) → IsSfile n → Whole n i v → chosen_entry words stamp x.front.header x.edits ≡ r
     → delta_outcome words stamp n i [] (files_at n v) ≡ (r >>= with_entry words stamp n i (files_at n v) (found_of n v x read))

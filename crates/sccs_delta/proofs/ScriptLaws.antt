@@ -30,6 +30,7 @@ use Rattle.sccs_delta.specs.Preparing.{FitsScript, FitsBy, script_fits}
 use Rattle.sccs_delta.specs.Writing.{MakesDelta, script_checked}
 use Rattle.sccs_copies.specs.declared.examining.Found.{Found}
 use Rattle.sccs_pending.proofs.Chains.{answers_as, assoc, ends, goes}
+use Rattle.sccs_pending.proofs.Preparing.{passes_answers}
 
 -- ---- over any disk
 
@@ -66,13 +67,6 @@ answers_fits checks orders base Memory answers = tt
 answers_fits checks orders base ReadFault answers = answers
 answers_fits checks orders base WriteFault answers = answers
 answers_fits checks orders base DiskFault answers = tt
-
-passes_answers : (found : Result Bool Refusal) (fault : StepFault) → PassesCheck found (Err fault) → Answers {A = Bool} found (Err fault)
-passes_answers found (Refused refusal) passes = passes
-passes_answers found Memory passes = tt
-passes_answers found ReadFault passes = passes
-passes_answers found WriteFault passes = passes
-passes_answers found DiskFault passes = tt
 
 -- ---- the checks of a script
 

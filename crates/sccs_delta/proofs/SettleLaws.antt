@@ -50,11 +50,12 @@ use Rattle.sccs_delta.specs.Preparing.{FindsEntry}
 use Rattle.sccs_delta.specs.Writing.{script_checked}
 use Rattle.sccs_delta.specs.declared.entries.Chosen.{Chosen}
 use Rattle.sccs_pending.proofs.Chains.{passed}
-use Rattle.sccs_delta.proofs.DeltaStops.{delta_settles_read, settles_told}
+use Rattle.sccs_delta.proofs.DeltaStops.{delta_settles_read}
 use Rattle.sccs_delta.proofs.EntryChains.{has_base}
 use Rattle.sccs_delta.proofs.NullFits.{rules_kept}
 use Rattle.sccs_delta.proofs.NullLaws.{newest_nulls}
-use Rattle.sccs_delta.proofs.PrepareLaws.{IsRead, MakesAt, Whole, Writes, body_there, entry_at, g_short}
+use Rattle.sccs_delta.proofs.PrepareLaws.{MakesAt, Whole, Writes, body_there, entry_at, g_short}
+use Rattle.sccs_pending.proofs.Preparing.{IsRead, settles_told}
 
 -- ---- what was passed
 

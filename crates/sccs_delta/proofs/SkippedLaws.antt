@@ -6,6 +6,7 @@ use Rattle.sccs_sid.specs.declared.sids.Sid.{Sid}
 use Rattle.sccs_history.specs.Numbers.{front_if}
 use Rattle.sccs_history.specs.declared.headers.Record.{Record}
 use Rattle.sccs_delta.specs.DeltaStep.{first_in_release, is_used, unused_from}
+use Rattle.sccs_base.proofs.Bools.{or_assoc}
 
 front_both : (t : Bool) (x : Sid) (xs ys : List Sid) → front_if t x xs ++ ys ≡ front_if t x (xs ++ ys)
 front_both true x xs ys = refl
@@ -29,17 +30,9 @@ release_put records reserved release to sids low =
 
 -- ---- marks
 
-pub or_none : (t : Bool) → (t || false) ≡ t
-or_none true = refl
-or_none false = refl
-
-pub or_assoc : (a b c : Bool) → ((a || b) || c) ≡ (a || (b || c))
-or_assoc true b c = refl
-or_assoc false b c = refl
-
 -- one item more is marked
 pub marked_on : {A : Type 0} (test : A → Bool) (all : List A) (i : ℕ) (d x : A) (old new first : Bool) → i < length all → x ≡ get_or all i d → new ≡ (old || test x) → (old || list_any test (drop i all)) ≡ first → (new || list_any test (drop (i + 1) all)) ≡ first
 marked_on test all i d x old new first low at new_is before =
     ap (λ t. t || list_any test (drop (i + 1) all)) new_is
-    ∙ (or_assoc old (test x) (list_any test (drop (i + 1) all))
+    ∙ (sym (or_assoc old (test x) (list_any test (drop (i + 1) all)))
     ∙ (ap (λ y. old || (test y || list_any test (drop (i + 1) all))) at ∙ (sym (at_drop_more (λ l. old || list_any test l) all i d low) ∙ before)))

@@ -8,12 +8,10 @@ use Rattle.std.specs.Str.{bytes_eq}
 use Rattle.sccs_disk.proofs.Puts.{put_same}
 use Rattle.sccs_disk.specs.Files.{put}
 use Rattle.sccs_files.specs.StepFiles.{Moves}
-use Rattle.sccs_images.specs.Touches.{Leaves, Touches, TouchesOnly, Touching, earlier, newest as newest_model}
-use Rattle.sccs_images.proofs.Touched.{each_newest, firm_touched}
+use Rattle.sccs_images.specs.Touches.{Leaves, TouchesOnly}
 use Rattle.sccs_disk.specs.Calls.{IsThere}
 use Rattle.sccs_disk.specs.Images.{IsFirm}
 use Rattle.sccs_moments.proofs.FileNames.{from_g}
-use Rattle.sccs_moments.proofs.Joined.{newest_is}
 use Rattle.sccs_base.specs.Name.{IsSfile, p_file, q_file, x_file, y_file, z_file}
 use Rattle.sccs_store.proofs.Working.{leaves_from}
 use Rattle.sccs_store.specs.Commits.{Becomes, Needs, chosen, replaced}
@@ -24,7 +22,6 @@ use Rattle.sccs_transactions.specs.Changes.{AreTakenOrGone, IsReady, IsTakenOrGo
 use Rattle.sccs_transactions.proofs.Taken.{untouched}
 use Rattle.sccs_transactions.specs.Stops.{IsFirmPrepared}
 use Rattle.sccs_pending.specs.NewEntries.{LeavesG, PreparesEntries, kept_g}
-use Rattle.sccs_base.specs.Name.{sibling}
 use Rattle.sccs_disk.specs.Files.{Content, View}
 use Rattle.sccs_disk.specs.Told.{Told, seen}
 use Rattle.sccs_sid.specs.declared.moments.Stamp.{Stamp}
@@ -66,6 +63,7 @@ use Rattle.sccs_table.specs.declared.fronts.Front.{Front}
 use Rattle.sccs_versions.specs.Coming.{IsBody}
 use Rattle.sccs_weave.specs.Regions.{Holds}
 use Rattle.sccs_delta.specs.Writing.{IsSfileOf, MakesDelta, MakesSfile, WritesDelta, WritesFiles, WritesX}
+use Rattle.sccs_pending.proofs.Preparing.{firm_kept}
 
 pub x_written : (h : Header) (items : List Item) (n : List ℕ) (old new : Option View) (done : Unit {0}) → MakesFile h items n old new (Ok done) → WritesX h items n old new (Ok done)
 x_written h items n old new done makes = makes
@@ -210,14 +208,6 @@ files_written n h items edits keep report message p a b b2 c spelling same apart
         at o = elim o as (λ _. Option Content) [ None ↦ None | Some f ↦ f (x_file n) ]
 
 -- ---- what is firm
-
--- a firm file stays firm through calls that don't touch it
-firm_kept : (k : List ℕ) (mine before : List ℕ → Bool) (a b c : Told) → TouchesOnly before a b → TouchesOnly mine b c → mine k ≡ false → Leaves (IsFirm k) a b → Leaves (IsFirm k) a c
-firm_kept k mine before a b c first next other firm = λ m past is m3 past3 is3.
-    let begun : Touching before m past b = first m past is in
-    let on : Touching mine (newest_model begun.added m) (earlier begun.added m past) c = next (newest_model begun.added m) (earlier begun.added m past) begun.is in
-    subst (IsFirm k) (newest_is (newest_model begun.added m) m3 (earlier begun.added m past) past3 on.added c on.is is3)
-    (firm_touched mine (newest_model begun.added m) (newest_model on.added (newest_model begun.added m)) k (each_newest (Touches mine (newest_model begun.added m)) on.added (newest_model begun.added m) on.each) other (firm m past is (newest_model begun.added m) (earlier begun.added m past) begun.is))
 
 pub files_firm : (n : List ℕ) (p : Prepared) (a b b2 c : Told) → b2 ≡ b → p.new_s ≡ true → bytes_eq (q_file n) (x_file n) ≡ false → TouchesOnly (bytes_eq (x_file n)) a b → Leaves (IsFirm (x_file n)) a b → TouchesOnly (bytes_eq (q_file n)) b2 c
     → OnReplace p.new_p (Leaves (IsFirm (q_file n)) b2 c) → IsFirmPrepared n p a c

@@ -24,7 +24,7 @@ use Rattle.sccs_disk.specs.declared.changes.StoredFile.{StoredFile}
 use Rattle.std.specs.List.{remove}
 use Rattle.std.proofs.lemmas.List.{length-map}
 
-abbrev content : File → Content
+abbrev pub content : File → Content
 content f = f.content
 
 abbrev shown_at : List File → Option ℕ → Option Content

@@ -1,7 +1,7 @@
 -- What the parts of sact make of its step.
-use Rattle.std.proofs.Common.{◌≡◌, ℕ, ◌≤◌, Bool, true, false, List, [], ◌∷◌, ◌++◌, length, arith, Option, None, Some, Result, Ok, Err, inl, inr, refl, sym, ap, subst, ◌∙◌, append_assoc}
+use Rattle.std.proofs.Common.{◌≡◌, ℕ, ◌≤◌, Bool, true, false, List, [], ◌∷◌, ◌++◌, length, Option, None, Some, Result, Ok, Err, inr, refl, sym, ap, subst, ◌∙◌, append_assoc}
 use Rattle.std.specs.Prelude.{IfSome, is_some, option_map}
-use Rattle.sccs_base.specs.Stream.{GivesOk, GivesSome, Rose}
+use Rattle.sccs_base.specs.Stream.{GivesOk, GivesSome}
 use Rattle.sccs_base.proofs.Gifts.{some_none}
 use Rattle.sccs_disk.specs.Files.{Content, View}
 use Rattle.sccs_disk.specs.Reads.{Measures}
@@ -24,6 +24,7 @@ use Rattle.sccs_steps.proofs.ReadingSteps.{Explains, ends_silent, same_cleared}
 use Rattle.sccs_pending.specs.PFiles.{Answers, entries_of}
 use Rattle.sccs_edit.specs.Checks.{step_is}
 use Rattle.sccs_edit.specs.SactStep.{ShowsEdits, could_show, found_edits, none_text, sact_action, sact_checks, sact_step, shows_entries}
+use Rattle.sccs_base.proofs.Rises.{never_rose}
 
 -- ---- the s-file is there, or it isn't
 
@@ -149,10 +150,6 @@ shows_of (Err Memory) p d out out2 err err2 report message reports = absurd repo
 shows_of (Err ReadFault) p d out out2 err err2 report message reports = absurd reports
 shows_of (Err DiskFault) p d out out2 err err2 report message reports = absurd reports
 shows_of (Err (Refused refusal)) p d out out2 err err2 report message reports = absurd reports
-
-never_rose : Rose 0 0 → ⊥
-never_rose (inl more) = omega (arith, more)
-never_rose (inr last) = cc
 
 pub shown_causes : (r : Result (Unit {0}) StepFault) (i o o2 e e2 d d2 : ℕ) → d ≤ d2 → ((input disk : ℕ) → StepCauses r (counts input o e disk) (counts input o2 e2 disk)) → StepCauses r (counts i o e d) (counts i o2 e2 d2)
 shown_causes r i o o2 e e2 d d2 later causes = record {

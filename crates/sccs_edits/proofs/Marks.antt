@@ -1,19 +1,15 @@
 -- What a line is behind items of a body with those of a new serial among them.
 use Rattle.std.proofs.Common.{◌≡◌, ◌≢◌, ℕ, suc, ◌+◌, ◌<◌, ◌≤◌, ◌==◌, nat_lt, Bool, true, false, cond, not, ◌&&◌, ◌||◌, List, [], ◌∷◌, refl, sym, ap, ◌∙◌, inl, inr, arith, eq-eqb, lt-ltb, le-ltb}
 use Rattle.std.proofs.Math.Bool.{and-false}
-use Rattle.std.proofs.lemmas.Bool.{ne_eqb, false≢true, cases_lt, cases_eq}
-use Rattle.sccs_history.specs.Numbers.{falling, first, has, Falls}
+use Rattle.std.proofs.lemmas.Bool.{ne_eqb, cases_lt, cases_eq}
+use Rattle.sccs_history.specs.Numbers.{falling, first, Falls}
 use Rattle.sccs_history.specs.Body.{HistoryLine, Mark, Closed, ByInsert, ByDelete, is_closed, is_insert, is_delete, mark, above, inserters, inserter, open_serials, deleters, line_at}
 use Rattle.sccs_history.specs.declared.headers.Item.{Item}
 use Rattle.sccs_history.specs.declared.headers.Item.TheVariants.{Text, Insert, Delete, End}
-use Rattle.sccs_history.proofs.Falling.{falling_has, has-falling, falling-has, falling-alike, Falls-falling, Falls-wider}
+use Rattle.sccs_history.proofs.Falling.{Falls-falling, Falls-wider}
 use Rattle.sccs_history.proofs.OpenMarks.{mark_below}
 use Rattle.sccs_edits.specs.Weave.{marked, new_line}
-
-both_true : (a b : Bool) → (a ≡ true → b ≡ true) → (b ≡ true → a ≡ true) → a ≡ b
-both_true true b there back = sym (there refl)
-both_true false true there back = back refl
-both_true false false there back = refl
+use Rattle.sccs_history.proofs.OpenSerials.{has_test, falling_same, passing}
 
 -- a serial from the bound on is closed
 mark_past : (n : ℕ) (before : List Item) → above before ≤ n → mark n before ≡ Closed
@@ -24,31 +20,11 @@ mark_past n before le = closed_by (mark n before) (λ opened. let low = mark_bel
     closed_by ByInsert e = e refl
     closed_by ByDelete e = e refl
 
--- the serials whose mark passes a test that no closed one passes
-has_test : (before : List Item) (test : ℕ → Mark → Bool) → ((n : ℕ) → test n Closed ≡ false) → (n : ℕ) → has (falling (above before) (λ m. test m (mark m before))) n ≡ test n (mark n before)
-has_test before test none n =
-    both_true (has (falling (above before) (λ m. test m (mark m before))) n) (test n (mark n before))
-    (λ there. (falling_has (above before) (λ m. test m (mark m before)) n there).1)
-    (λ passes. has-falling (above before) (λ m. test m (mark m before)) n (mark_below n before (opened (mark n before) passes)) passes)
-  where
-    opened : (k : Mark) → test n k ≡ true → is_closed k ≡ false
-    opened Closed passes = absurd (false≢true (sym (none n) ∙ passes))
-    opened ByInsert passes = refl
-    opened ByDelete passes = refl
-
--- two lists that fall and have the same numbers are the same
-falling_same : (b : ℕ) (xs ys : List ℕ) → Falls b xs → Falls b ys → ((n : ℕ) → has xs n ≡ has ys n) → xs ≡ ys
-falling_same b xs ys one two alike = sym (falling-has b xs one) ∙ (falling-alike b (has xs) (has ys) (λ m lt. alike m) ∙ falling-has b ys two)
-
 -- Before has no items of a serial or above. After says the same of all other serials, and of it this.
 pub record Alike (n : ℕ) (here : Mark) (before after : List Item) : Type 0 where
   pub few : above before ≤ n
   pub others : (m : ℕ) → m ≢ n → mark m after ≡ mark m before
   pub own : mark n after ≡ here
-
--- the serials that pass a test by their mark
-abbrev passing : (ℕ → Mark → Bool) → List Item → List ℕ
-passing test before = falling (above before) (λ m. test m (mark m before))
 
 module _ (n : ℕ) (here : Mark) (before after : List Item) (alike : Alike n here before after) where
   passing_falls : (test : ℕ → Mark → Bool) → Falls (suc n + above after) (passing test after)

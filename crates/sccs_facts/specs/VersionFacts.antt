@@ -1,5 +1,5 @@
 -- What keywords stand for in a version of a file (POSIX get, Identification Keywords).
-use Rattle.std.specs.Prelude.{ℕ, ◌==◌, List, [], drop, Option, None, Some, option_map, unwrap_or, find}
+use Rattle.std.specs.Prelude.{ℕ, List, [], drop, Option, option_map, unwrap_or, find}
 use Rattle.sccs_sid.specs.declared.moments.Moment.{Moment}
 use Rattle.sccs_sid.specs.declared.moments.Stamp.{Stamp}
 use Rattle.sccs_sid.specs.declared.sids.Sid.{Sid}

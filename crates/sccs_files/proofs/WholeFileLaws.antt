@@ -1,5 +1,5 @@
 -- A file that is read in pieces.
-use Rattle.std.proofs.Common.{◌≡◌, ◌≢◌, ℕ, Ok, Err, ◌+◌, ◌-◌, ◌<◌, ◌≤◌, min, Bool, List, [], ◌∷◌, ◌++◌, length, take, drop, Option, None, Some, option_map, option_and_then, unwrap_or, IfSome, refl, sym, ap, subst, ◌∙◌, arith, append-nil, length-append, length-drop, length-take}
+use Rattle.std.proofs.Common.{◌≡◌, ◌≢◌, ℕ, Ok, Err, ◌+◌, ◌-◌, ◌<◌, ◌≤◌, List, [], ◌∷◌, ◌++◌, length, take, drop, Option, None, Some, option_map, unwrap_or, IfSome, refl, sym, ap, subst, ◌∙◌, arith, append-nil, length-append, length-drop, length-take}
 use Rattle.std.proofs.Math.Seq.{take-append_seam, take-add}
 use Rattle.std.proofs.lemmas.List.{take-append-drop, take_min}
 use Rattle.sccs_base.specs.Constants.{file_limit}

@@ -24,7 +24,6 @@ use Rattle.sccs_steps.specs.Recovering.{RecoversSteps}
 use Rattle.sccs_steps.specs.declared.faults.Fault.{Fault}
 use Rattle.sccs_steps.specs.declared.faults.Fault.TheVariants as ends
 use Rattle.sccs_group.specs.Finishing.{CanFinish, Completes, Finishes, Follows}
-use Rattle.sccs_group.proofs.Announcing.{plan_and_sfile}
 use Rattle.sccs_group.proofs.Runs.{from_image, view_is}
 use Rattle.sccs_store.specs.Commits.{Becomes}
 use Rattle.sccs_moments.specs.Recovery.{without_name}
@@ -37,6 +36,7 @@ use Rattle.sccs_finishing.proofs.FinishStops.{plan_before}
 use Rattle.sccs_finishing.specs.AnyDisk.{LeavesFinishable, MakesCalm, RecoversAll, RecoversFrom, StaysCalm}
 use Rattle.sccs_group.specs.Ended.{IsFinished, LosesPlan}
 use Rattle.sccs_finishing.specs.Ends.{FinishEnds, IsLeft}
+use Rattle.sccs_moments.proofs.FileNames.{plan_and_sfile}
 
 -- a disk on which names may be recovered is one on which a group may be finished
 pub finish_unnamed : (m : Model) → HasFirm m → NamesNone (view_of m) → CanFinish m

@@ -36,7 +36,6 @@ use Rattle.sccs_group.specs.Members.{completed}
 use Rattle.sccs_group.proofs.Found.{bare_entries}
 use Rattle.sccs_group.proofs.Intended.{intended_members}
 use Rattle.sccs_group.proofs.OtherNames.{begin_but}
-use Rattle.sccs_moments.proofs.FileNames.{both_false}
 use Rattle.sccs_steps.specs.Unlocked.{AreExempt}
 use Rattle.sccs_group.specs.declared.members.Member.{Member}
 use Rattle.sccs_group.specs.Recovering.{IsBad, IsWellFormed, bare, finished_by, group_finished}
@@ -48,6 +47,7 @@ use Rattle.sccs_finishing.proofs.FinishStops.{after_of, are_safe, can_finish, fo
 use Rattle.sccs_finishing.proofs.FinishViews.{IntentCase, Formed, Unformed, finished, finished_formed, finished_recovers, finished_safe, finished_unformed, intent_case, step_is}
 use Rattle.sccs_finishing.proofs.Moved.{SamePairs}
 use Rattle.sccs_finishing.proofs.NameFiles.{count_of}
+use Rattle.std.proofs.lemmas.Bool.{or_from}
 
 -- ---- a view that is told
 
@@ -288,7 +288,7 @@ module _ (w : List ℕ → Bool) (folder : Folder) (a b : Told) (out err : Optio
 not_named : (exempt : List ℕ → Bool) (es : List Entry) (n : List ℕ) → AreOthers es → AreExempt finishing_action exempt (map name_part es) → exempt n ≡ false → has_name es n ≡ false
 not_named exempt [] n others freed asked = refl
 not_named exempt (e ∷ es) n others freed asked =
-    both_false (bytes_eq e.name n) (has_name es n)
+    or_from (bytes_eq e.name n) (has_name es n)
     (⊎_elim (λ (same : e.name ≡ n). absurd (let has : exempt n ≡ true = subst (λ (l : List ℕ). exempt l ≡ true) same (freed.0 ((sfile_name_decides e.name).1 (others.0.name, others.0.sfile)) refl) in let no : true ≡ false = sym has ∙ asked in cc)) (λ apart. apart) (name_cases e.name n))
     (not_named exempt es n others.1 freed.1 asked)
 

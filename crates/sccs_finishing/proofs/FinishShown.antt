@@ -7,34 +7,31 @@ use Rattle.sccs_base.specs.Name.{IsSfile, p_file, q_file, sfile_name_decides, x_
 use Rattle.sccs_disk.specs.Effects.{renamed}
 use Rattle.sccs_disk.specs.Files.{Content, Folder, View, view_in}
 use Rattle.sccs_disk.proofs.Puts.{name_cases, put_other}
-use Rattle.sccs_files.specs.StepFiles.{Alike, Apart, is_working, moved, moved_in}
-use Rattle.sccs_files.proofs.Folders.{moved_view}
+use Rattle.sccs_files.specs.StepFiles.{Alike, Apart, is_working, moved}
 use Rattle.sccs_intents.specs.Intents.{AreOthers, entries_in, fate_in, has_name, intent_file, intent_of, plan_file}
 use Rattle.sccs_intents.specs.declared.intents.Entry.{Entry}
 use Rattle.sccs_intents.specs.declared.intents.Fate.{Fate}
 use Rattle.sccs_intents.specs.declared.intents.Fate.TheVariants.{Replaced, Removed}
 use Rattle.sccs_moments.specs.Recovery.{RecoversAs, fate_at, fated, newer, without_name}
-use Rattle.sccs_moments.proofs.FileNames.{both_false, intent_and_sfile, left_false, right_false}
+use Rattle.sccs_moments.proofs.FileNames.{intent_and_sfile, plan_and_sfile}
 use Rattle.sccs_moments.proofs.Recovering.{fate_same, p_of, pair, recovered_under, recovers_to, s_of}
 use Rattle.sccs_steps.specs.Actions.{AreClear, IsSeen}
 use Rattle.sccs_steps.specs.ListStops.{Spares}
-use Rattle.sccs_steps.specs.StepLists.{Move, all_moved, all_moved_in, first_moves, is_left_of, left_by, moves_of, step_in}
+use Rattle.sccs_steps.specs.StepLists.{all_moved, first_moves, is_left_of, left_by, moves_of, step_in}
 use Rattle.sccs_group.specs.Halfway.{first_placed, is_left_of_group, is_lock_of}
 use Rattle.sccs_group.specs.Members.{completed, each_by, placed, taken, p_taken, unlocked}
 use Rattle.sccs_group.specs.Recovering.{IsBad, IsWellFormed, bare, finished_by}
-use Rattle.sccs_group.proofs.Announcing.{plan_and_sfile}
 use Rattle.sccs_group.proofs.Closing.{fate_head, fate_tail}
 use Rattle.sccs_base.proofs.SameBytes.{bytes_eq_sym, same_bytes}
 use Rattle.sccs_finishing.specs.FinishStep.{finished_files, finishing_action, finishing_step, is_formed, name_moves, name_part}
 use Rattle.sccs_finishing.proofs.FinishViews.{finished, gone_files, step_by, without_at, without_intent, without_none}
 use Rattle.sccs_finishing.proofs.Moved.{NotLeft, SamePairs, completed_at, first_at}
 use Rattle.sccs_finishing.proofs.NameFiles.{SamePair, bare_one, count_of, pair_kept}
+use Rattle.std.proofs.lemmas.Bool.{or_from}
+use Rattle.sccs_base.proofs.Bools.{right_false, left_false}
+use Rattle.sccs_steps.proofs.Carried.{all_view}
 
 -- ---- the folder
-
-pub all_view : (m : Folder) (xs : List Move) → view_in (all_moved_in m xs) ≡ all_moved (view_in m) xs
-all_view m [] = refl
-all_view m (x ∷ xs) = all_view (moved_in m x.name x.new) xs ∙ ap (λ (v : View). all_moved v xs) (moved_view m x.name x.new)
 
 pub finished_in : (folder : Folder) → view_in (step_in folder (finishing_step (view_in folder))) ≡ finished (view_in folder)
 finished_in folder = all_view folder (moves_of (finishing_step (view_in folder)))
@@ -169,11 +166,11 @@ unlocked_of (e ∷ es) v k h =
 
 not_left : (es : List Entry) (k : List ℕ) → AllByRecursion (λ (e : Entry). is_working e.name k ≡ false) es → AllByRecursion (λ (e : Entry). bytes_eq (z_file e.name) k ≡ false) es → NotLeft es k
 not_left [] k working locks = tt
-not_left (e ∷ es) k working locks = (both_false (is_working e.name k) (bytes_eq (z_file e.name) k) working.0 locks.0, not_left es k working.1 locks.1)
+not_left (e ∷ es) k working locks = (or_from (is_working e.name k) (bytes_eq (z_file e.name) k) working.0 locks.0, not_left es k working.1 locks.1)
 
 no_lock : (es : List Entry) (k : List ℕ) → AllByRecursion (λ (e : Entry). bytes_eq (z_file e.name) k ≡ false) es → is_lock_of (bare es) k ≡ false
 no_lock [] k locks = refl
-no_lock (e ∷ es) k locks = both_false (bytes_eq (z_file e.name) k) (is_lock_of (bare es) k) locks.0 (no_lock es k locks.1)
+no_lock (e ∷ es) k locks = or_from (bytes_eq (z_file e.name) k) (is_lock_of (bare es) k) locks.0 (no_lock es k locks.1)
 
 -- some first of the new files are those of the step
 pub half_alike : (w : List ℕ → Bool) (formed : Bool) (es : List Entry) (u v x : View) (whole some : ℕ) → IsBegun w u v → entries_in (v intent_file) ≡ es → AreOthers es → SamePairs es u v → Alike (is_left_of_group (bare es)) x (first_placed whole some (bare es) u)
@@ -186,7 +183,7 @@ half_alike w formed es u v x whole some begun is others same halfway = λ k h.
     let no_intent = right_false (bytes_eq plan_file k) (bytes_eq intent_file k) files in
     let free = left_false (w k) (bytes_eq (z_file intent_file) k) (right_false (is_left_of (step_by v formed es).more k) (w k || bytes_eq (z_file intent_file) k) h) in
     let locks = unlocked_of es (begun_view v formed) k (left_false (is_left_of (name_moves (begun_view v formed) es) k) (bytes_eq (z_file plan_file) k || (bytes_eq plan_file k || bytes_eq intent_file k)) more) in
-    halfway k (both_false (bytes_eq plan_file k) (bytes_eq intent_file k || is_lock_of (bare es) k) no_plan (both_false (bytes_eq intent_file k) (is_lock_of (bare es) k) no_intent (no_lock es k locks)))
+    halfway k (or_from (bytes_eq plan_file k) (bytes_eq intent_file k || is_lock_of (bare es) k) no_plan (or_from (bytes_eq intent_file k) (is_lock_of (bare es) k) no_intent (no_lock es k locks)))
     ∙ first_at whole some es u (begun_view v formed) k others (pairs_begun formed es u v others same) (not_left es k (not_working w es k free (apart_now w es u v begun is others)) locks) (begun.alike k free ∙ sym (begun_at formed v k no_intent))
 
 -- ---- working files

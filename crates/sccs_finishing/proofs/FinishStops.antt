@@ -15,26 +15,22 @@ use Rattle.sccs_intents.specs.declared.intents.Entry.{Entry}
 use Rattle.sccs_intents.specs.declared.intents.Fate.{Fate}
 use Rattle.sccs_moments.specs.Calm.{IsCalm, KeepsPairs}
 use Rattle.sccs_moments.specs.Moments.{EndsAfter, EndsBefore, EndsWithin, IsAt, IsFrom, Stays}
-use Rattle.sccs_moments.specs.Recovery.{RecoversAs, fate_at}
+use Rattle.sccs_moments.specs.Recovery.{RecoversAs, fate_at, IsHeldAt}
 use Rattle.sccs_moments.proofs.CalmDisks.{calm_firm}
-use Rattle.sccs_moments.proofs.Joined.{numbered_zero, raised}
+use Rattle.sccs_moments.proofs.Joined.{numbered_zero, raised, each_by}
 use Rattle.sccs_moments.proofs.Recovering.{fate_same, p_of, pair_same, recovered_alike, recovers_from, recovers_then, s_of}
 use Rattle.sccs_moments.proofs.Untouched.{calm_stayed, guards_touched}
 use Rattle.sccs_steps.specs.ListStops.{AreSafe, KeepsSafeFrom, Spares}
 use Rattle.sccs_steps.specs.StepStops.{IsSafe}
 use Rattle.sccs_steps.proofs.Carried.{named_held}
-use Rattle.sccs_steps.proofs.Safety.{alike_safe}
+use Rattle.sccs_steps.proofs.Safety.{alike_safe, safe_by}
 use Rattle.sccs_files.specs.StepFiles.{Alike}
-use Rattle.sccs_group.specs.Finishing.{CanFinish, Completes, Finishes, Follows, IsHeldAt}
-use Rattle.sccs_group.proofs.Announcing.{plan_and_sfile}
+use Rattle.sccs_group.specs.Finishing.{CanFinish, Completes, Finishes, Follows}
 use Rattle.sccs_group.proofs.Closing.{fate_tail}
 use Rattle.sccs_finishing.specs.FinishStep.{finishing_action, name_part}
-use Rattle.sccs_finishing.proofs.FinishViews.{safe_by}
+use Rattle.sccs_moments.proofs.FileNames.{plan_and_sfile}
 
 -- ---- the plan alone
-
-is_plan : List ℕ → Bool
-is_plan k = bytes_eq plan_file k
 
 -- a view that differs in the plan alone recovers alike
 pub plan_recovers : (u x : View) → ((k : List ℕ) → bytes_eq plan_file k ≡ false → u k ≡ x k) → RecoversAs u x
@@ -83,13 +79,9 @@ plan_held n m m2 touches all = λ x image named.
 image_safe : (m : Model) (x : View) → RecoversAs (view_of m) x → ((n : List ℕ) → IsSfile n → Allows (IsHeldAt n) m → IsHeldAt n x) → KeepsSafeFrom m x
 image_safe m x recovers held = λ n sfile all. safe_by n (view_of m) x sfile recovers (held n sfile (λ u image. named_held n u (all u image))) (all (view_of m) (view_image m))
 
-each_of : (P Q : Model → Type 0) (added : List Model) (m : Model) → ((m2 : Model) → P m2 → Q m2) → Each P added m → Each Q added m
-each_of P Q [] m so each = so m each
-each_of P Q (a ∷ added) m so each = (so a each.0, each_of P Q added m so each.1)
-
 pub plan_images : (m : Model) (added : List Model) → IsCalm m → Each (Touches (bytes_eq plan_file) m) added m → Each (Allows (KeepsSafeFrom m)) added m
 plan_images m added calm each =
-    each_of (Touches (bytes_eq plan_file) m) (Allows (KeepsSafeFrom m)) added m (λ m2 touches x image. image_safe m x (plan_image m m2 calm touches x image).recovers (λ n sfile all. plan_held n m m2 touches all x image)) each
+    each_by (Touches (bytes_eq plan_file) m) (Allows (KeepsSafeFrom m)) added m (λ m2 touches x image. image_safe m x (plan_image m m2 calm touches x image).recovers (λ n sfile all. plan_held n m m2 touches all x image)) each
 
 -- what follows a calm disk recovers as its view
 pub follow_recovers : (m m2 : Model) → IsCalm m → Follows m m2 → Allows (RecoversAs (view_of m)) m2
@@ -99,7 +91,7 @@ follow_recovers m m2 calm follows = λ x image.
 
 pub follow_images : (m : Model) (added : List Model) → IsCalm m → Each (Follows m) added m → Each (Allows (KeepsSafeFrom m)) added m
 follow_images m added calm each =
-    each_of (Follows m) (Allows (KeepsSafeFrom m)) added m (λ m2 follows x image. image_safe m x (follow_recovers m m2 calm follows x image) (λ n sfile all. follows.held n sfile all x image)) each
+    each_by (Follows m) (Allows (KeepsSafeFrom m)) added m (λ m2 follows x image. image_safe m x (follow_recovers m m2 calm follows x image) (λ n sfile all. follows.held n sfile all x image)) each
 
 -- ---- where it ends
 

@@ -5,22 +5,20 @@ use Rattle.std.specs.Result.{is_ok}
 use Rattle.std.specs.Str.{bytes_eq}
 use Rattle.sccs_base.specs.Name.{IsSfile, p_file, q_file, x_file, z_file}
 use Rattle.sccs_disk.specs.Files.{Content, View}
-use Rattle.sccs_disk.proofs.Puts.{same_name}
 use Rattle.sccs_files.specs.StepFiles.{Files, l_file, look, moved}
 use Rattle.sccs_intents.specs.Intents.{AreOthers, entries_in, fate_in, intent_file, intent_of, plan_file, well_formed}
 use Rattle.sccs_intents.specs.declared.intents.Entry.{Entry}
 use Rattle.sccs_intents.specs.declared.intents.Fate.{Fate}
 use Rattle.sccs_intents.proofs.IntentTexts.{text_read}
-use Rattle.sccs_moments.specs.Recovery.{IsSettledPair, IsSound, RecoversAs, fate_at, fated, newer, pair_of, recover}
+use Rattle.sccs_moments.specs.Recovery.{RecoversAs, fate_at, fated, newer}
 use Rattle.sccs_moments.proofs.FileNames.{intent_and_sfile}
-use Rattle.sccs_moments.proofs.Recovering.{pair, recovered, recovered_at, recovered_is, recovered_same, recovered_under, recovers_from, recovers_itself}
+use Rattle.sccs_moments.proofs.Recovering.{recovered_at, recovered_same, recovered_under, recovers_from, recovers_itself}
 use Rattle.sccs_steps.specs.ListStops.{KeepsSafe}
 use Rattle.sccs_steps.specs.StepLists.{NamedStep, all_moved, moves_of}
-use Rattle.sccs_steps.specs.StepStops.{IsSafe}
-use Rattle.sccs_steps.proofs.Safety.{keeps_same, pair_paired, pair_settled}
-use Rattle.sccs_group.specs.Finishing.{IsHeldAt}
+use Rattle.sccs_steps.proofs.Safety.{keeps_same, safe_by}
 use Rattle.sccs_finishing.specs.FinishStep.{finishing_step, is_formed, name_moves, quiet}
 use Rattle.sccs_finishing.proofs.Moved.{FilesAfter, after_from, after_moves, intent_gone}
+use Rattle.sccs_finishing.proofs.NameFiles.{kept_file}
 
 -- ---- the view without the intent
 
@@ -29,13 +27,6 @@ gone_files v = record (look v intent_file) { s = None }
 
 abbrev pub without_intent : View → View
 without_intent v = moved v intent_file (Some (gone_files v))
-
-kept_file : (v : View) (g k : List ℕ) → cond (bytes_eq g k) (v g) (v k) ≡ v k
-kept_file v g k = by (bytes_eq g k) refl
-  where
-    by : (b : Bool) → bytes_eq g k ≡ b → cond b (v g) (v k) ≡ v k
-    by true is = ap v (same_name g k is)
-    by false is = refl
 
 pub without_at : (v : View) (k : List ℕ) → bytes_eq intent_file k ≡ false → without_intent v k ≡ v k
 without_at v k other =
@@ -118,24 +109,6 @@ finished_recovers v = by (intent_case (v intent_file))
     by (Unformed is none) = subst (λ (w : View). RecoversAs v w) (sym (finished_unformed v is none)) (recovers_itself v)
 
 -- ---- names stay safe
-
--- what recovers as a view in which a name is safe, where the name is held if an intent names it
-pub safe_by : (n : List ℕ) (v u : View) → IsSfile n → RecoversAs v u → IsHeldAt n u → IsSafe n v → IsSafe n u
-safe_by n v u sfile recovers held safe = record {
-  plain = safe.plain;
-  sound = λ none. by none (fate_at u n) refl;
-  paired = pair_paired n v u (recovers n sfile) safe.paired;
-  settled = settled;
-}
-  where
-    settled : IsSettledPair (pair_of (recover n u) n)
-    settled = pair_settled n v u (recovers n sfile) safe.settled
-
-    by : u (z_file n) ≡ None → (f : Option Fate) → fate_at u n ≡ f → IsSound n u
-    by none (Some fate) is = absurd (let there = held (ap is_some is) in let e : false ≡ true = sym (ap is_some none) ∙ there in cc)
-    by none None is =
-        let same : pair_of (recover n u) n ≡ pair (u n) (u (p_file n)) = recovered_is n u sfile ∙ (recovered_under n u None is ∙ ap (λ (o : Option Content). recovered (u n) (u (p_file n)) (is_some o)) none) in
-        record { entries = subst IsSettledPair same settled; unnamed = is }
 
 none_held : (f : Option Fate) (P : Type 0) → f ≡ None → IsSome f → P
 none_held None P none some = absurd cc

@@ -1,5 +1,5 @@
 -- The names that finishing a group frees, and what is left where they couldn't be read.
-use Rattle.std.proofs.Common.{◌≡◌, ℕ, ◌+◌, ◌<◌, ◌≤◌, ◌||◌, List, get_or, length, take, [], Option, None, Some, IfOk, IfSome, OnOk, Result, Ok, Err, inl, inr, sym, ap, subst, ◌∙◌, arith}
+use Rattle.std.proofs.Common.{◌≡◌, ℕ, ◌+◌, ◌<◌, ◌≤◌, ◌||◌, List, get_or, length, take, [], Option, None, Some, IfOk, IfSome, OnOk, Result, Ok, Err, sym, ap, subst, ◌∙◌, arith}
 use Rattle.std.proofs.lemmas.List.{get_or-map, length-map, take-map}
 use Rattle.std.specs.BTreeSet.{BTreeSet}
 use Rattle.std.specs.Global.{Vec}
@@ -7,7 +7,6 @@ use Rattle.std.specs.List.{list_any}
 use Rattle.std.specs.Str.{bytes_eq}
 use Rattle.sccs_base.specs.declared.streams.Memory.{Memory}
 use Rattle.sccs_disk.specs.Causes.{DiskCauses}
-use Rattle.sccs_base.specs.Stream.{Rose}
 use Rattle.sccs_disk.specs.Files.{Content, Remove, View}
 use Rattle.sccs_disk.specs.Told.{Told, seen}
 use Rattle.sccs_files.specs.WholeFiles.{AnswersWhole}
@@ -26,6 +25,7 @@ use Rattle.sccs_name_sets.proofs.Inserting.{names_more}
 use Rattle.sccs_store.specs.Commits.{Becomes, MayBecome}
 use Rattle.sccs_finishing.specs.Ends.{FinishOthers}
 use Rattle.sccs_finishing.specs.FinishStep.{freed_in, names_of}
+use Rattle.sccs_base.proofs.Rises.{rose_later}
 
 -- ---- the names
 
@@ -95,9 +95,5 @@ pub given_ok : {X Y : Type 0} {P : Type 0} (r : Result X Y) → P → OnOk r P
 given_ok (Ok x) holds = holds
 given_ok (Err e) holds = tt
 
-later_rose : (a b c : ℕ) → a ≤ b → Rose b c → Rose a c
-later_rose a b c later (inl higher) = inl (omega (arith, later, higher))
-later_rose a b c later (inr full) = inr full
-
 pub causes_after : (failed : Type 0) (d d1 d2 : ℕ) → d ≤ d1 → DiskCauses failed d1 d2 → DiskCauses failed d d2
-causes_after failed d d1 d2 later causes = record { later = (let y = causes.later in omega (arith, later, y)); cause = λ is. later_rose d d1 d2 later (causes.cause is) }
+causes_after failed d d1 d2 later causes = record { later = (let y = causes.later in omega (arith, later, y)); cause = λ is. rose_later d d1 d2 later (causes.cause is) }

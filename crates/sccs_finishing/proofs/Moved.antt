@@ -1,5 +1,5 @@
 -- All names of an intent: what finishing makes of their files, and what the step says.
-use Rattle.std.proofs.Common.{◌≡◌, ◌⊎◌, ℕ, zero, suc, Bool, true, false, cond, ◌||◌, List, [], ◌∷◌, Option, None, Some, inl, inr, refl, sym, ap, subst, ◌∙◌, ⊎_elim}
+use Rattle.std.proofs.Common.{◌≡◌, ◌⊎◌, ℕ, zero, suc, Bool, true, false, cond, List, [], ◌∷◌, Option, None, Some, inl, inr, refl, sym, ap, subst, ◌∙◌, ⊎_elim}
 use Rattle.std.specs.List.{AllByRecursion}
 use Rattle.std.specs.Str.{bytes_eq}
 use Rattle.sccs_base.specs.Name.{IsSfile, p_file, q_file, x_file, z_file}
@@ -11,7 +11,7 @@ use Rattle.sccs_intents.specs.Intents.{AreOthers, fate_in, has_name, intent_file
 use Rattle.sccs_intents.specs.declared.intents.Entry.{Entry}
 use Rattle.sccs_intents.specs.declared.intents.Fate.{Fate}
 use Rattle.sccs_moments.specs.Recovery.{fated, newer, without_name}
-use Rattle.sccs_moments.proofs.FileNames.{both_false, left_false, no_z, right_false, sfile_and_intent, to_sfile}
+use Rattle.sccs_moments.proofs.FileNames.{no_z, sfile_and_intent, to_sfile}
 use Rattle.sccs_steps.specs.StepLists.{all_moved, first_moves}
 use Rattle.sccs_group.specs.Halfway.{first_placed}
 use Rattle.sccs_group.specs.Members.{completed, each_by, placed, unlocked}
@@ -19,6 +19,8 @@ use Rattle.sccs_group.specs.Recovering.{bare}
 use Rattle.sccs_group.proofs.Closing.{fate_head, fate_tail}
 use Rattle.sccs_finishing.specs.FinishStep.{finished_files, name_moves}
 use Rattle.sccs_finishing.proofs.NameFiles.{SamePair, bare_one, count_of, else_p, else_q, else_s, else_x, else_z, files_else, none_else, own_p, own_s, own_z, pair_kept, part_at, placed_else, turn_at}
+use Rattle.std.proofs.lemmas.Bool.{or_from}
+use Rattle.sccs_base.proofs.Bools.{right_false, left_false}
 
 -- all pairs come out alike
 abbrev pub SamePairs : List Entry → View → View → Type 0
@@ -62,14 +64,11 @@ abbrev HasLock : List Entry → List ℕ → Type 0
 HasLock [] k = ⊥
 HasLock (e ∷ es) k = (z_file e.name ≡ k) ⊎ HasLock es k
 
-left_by : (working z : Bool) → working ≡ false → z ≡ false → (working || z) ≡ false
-left_by working z a b = both_false working z a b
-
 lock_or_not : (es : List Entry) (k : List ℕ) → AllByRecursion (λ (e : Entry). is_working e.name k ≡ false) es → HasLock es k ⊎ NotLeft es k
 lock_or_not [] k away = inr tt
 lock_or_not (e ∷ es) k away =
     ⊎_elim (λ is. inl (inl is))
-    (λ other. ⊎_elim (λ lock. inl (inr lock)) (λ rest. inr (both_false (is_working e.name k) (bytes_eq (z_file e.name) k) away.0 other, rest)) (lock_or_not es k away.1)) (name_cases (z_file e.name) k)
+    (λ other. ⊎_elim (λ lock. inl (inr lock)) (λ rest. inr (or_from (is_working e.name k) (bytes_eq (z_file e.name) k) away.0 other, rest)) (lock_or_not es k away.1)) (name_cases (z_file e.name) k)
 
 gone_still : (b : Bool) (o : Option Content) → o ≡ None → cond b None o ≡ None
 gone_still true o none = refl

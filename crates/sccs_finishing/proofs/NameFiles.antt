@@ -84,14 +84,6 @@ pub placed_at : (e : Entry) (u : View) (k : List ℕ) → IsSfile e.name → is_
     → placed (bare_one e) u k ≡ cond (bytes_eq (p_file e.name) k) (fated e.fate (u (q_file e.name)) (u (p_file e.name))) (cond (bytes_eq e.name k) (newer (u (x_file e.name)) (u e.name)) (u k))
 placed_at e u k sfile h = put_other (p_taken e.fate e.name (taken (x_file e.name) e.name u)) (y_file e.name) k None (no_y e.name k (no_working e.name k h)) ∙ two_at e u k sfile h
 
--- the g-file stays as it is
-kept_g : (v : View) (g k : List ℕ) → cond (bytes_eq g k) (v g) (v k) ≡ v k
-kept_g v g k = by (bytes_eq g k) refl
-  where
-    by : (b : Bool) → bytes_eq g k ≡ b → cond b (v g) (v k) ≡ v k
-    by true is = ap v (same_name g k is)
-    by false is = refl
-
 -- the two files come in any order
 swapped_conds : (s p : Bool) (a b here : Option Content) → (s ≡ true → p ≡ false) → cond s a (cond p b here) ≡ cond p b (cond s a here)
 swapped_conds true true a b here apart = absurd (let e = apart refl in cc)
@@ -101,12 +93,19 @@ swapped_conds false p a b here apart = refl
 s_not_p : (n k : List ℕ) → IsSfile n → bytes_eq n k ≡ true → bytes_eq (p_file n) k ≡ false
 s_not_p n k sfile is = subst (λ (l : List ℕ). bytes_eq (p_file n) l ≡ false) (same_name n k is) (from_sfile 112 n n sfile refl)
 
+pub kept_file : (v : View) (g k : List ℕ) → cond (bytes_eq g k) (v g) (v k) ≡ v k
+kept_file v g k = by (bytes_eq g k) refl
+  where
+    by : (b : Bool) → bytes_eq g k ≡ b → cond b (v g) (v k) ≡ v k
+    by true is = ap v (same_name g k is)
+    by false is = refl
+
 pub files_at : (e : Entry) (v : View) (k : List ℕ) → IsSfile e.name → is_left e.name k ≡ false
     → moved v e.name (Some (finished_files e v)) k ≡ cond (bytes_eq (p_file e.name) k) (fated e.fate (v (q_file e.name)) (v (p_file e.name))) (cond (bytes_eq e.name k) (newer (v (x_file e.name)) (v e.name)) (v k))
 files_at e v k sfile h =
     ap (λ (o : Option Content). cond (bytes_eq e.name k) (newer (v (x_file e.name)) (v e.name)) (cond (bytes_eq (p_file e.name) k) (fated e.fate (v (q_file e.name)) (v (p_file e.name))) (cond (bytes_eq (drop 2 e.name) k) (v (drop 2 e.name)) o)))
-    (put_other (put v (l_file e.name) (v (l_file e.name))) (z_file e.name) k None (no_z e.name k h) ∙ kept_g v (l_file e.name) k)
-    ∙ (ap (λ (o : Option Content). cond (bytes_eq e.name k) (newer (v (x_file e.name)) (v e.name)) (cond (bytes_eq (p_file e.name) k) (fated e.fate (v (q_file e.name)) (v (p_file e.name))) o)) (kept_g v (drop 2 e.name) k)
+    (put_other (put v (l_file e.name) (v (l_file e.name))) (z_file e.name) k None (no_z e.name k h) ∙ kept_file v (l_file e.name) k)
+    ∙ (ap (λ (o : Option Content). cond (bytes_eq e.name k) (newer (v (x_file e.name)) (v e.name)) (cond (bytes_eq (p_file e.name) k) (fated e.fate (v (q_file e.name)) (v (p_file e.name))) o)) (kept_file v (drop 2 e.name) k)
     ∙ swapped_conds (bytes_eq e.name k) (bytes_eq (p_file e.name) k) (newer (v (x_file e.name)) (v e.name)) (fated e.fate (v (q_file e.name)) (v (p_file e.name))) (v k) (λ is. s_not_p e.name k sfile is))
 
 -- what is placed is what is moved
@@ -132,7 +131,7 @@ first_two e u v k sfile h same agree =
     two_at e u k sfile h
     ∙ (ap (λ (o : Option Content). cond (bytes_eq (p_file e.name) k) o (cond (bytes_eq e.name k) (newer (u (x_file e.name)) (u e.name)) (u k))) same.p
     ∙ (ap (λ (o : Option Content). cond (bytes_eq (p_file e.name) k) (fated e.fate (v (q_file e.name)) (v (p_file e.name))) (cond (bytes_eq e.name k) o (u k))) same.s
-    ∙ ap (λ (o : Option Content). cond (bytes_eq (p_file e.name) k) (fated e.fate (v (q_file e.name)) (v (p_file e.name))) (cond (bytes_eq e.name k) (newer (v (x_file e.name)) (v e.name)) o)) (agree ∙ sym (kept_g v (l_file e.name) k))))
+    ∙ ap (λ (o : Option Content). cond (bytes_eq (p_file e.name) k) (fated e.fate (v (q_file e.name)) (v (p_file e.name))) (cond (bytes_eq e.name k) (newer (v (x_file e.name)) (v e.name)) o)) (agree ∙ sym (kept_file v (l_file e.name) k))))
 
 with_y : (e : Entry) (u v : View) (k : List ℕ) → IsSfile e.name → is_left e.name k ≡ false → SamePair e u v → u k ≡ v k
     → without_name (y_file e.name) (p_taken e.fate e.name (taken (x_file e.name) e.name u)) k ≡ first_moved 3 v e.name (Some (finished_files e v)) k
@@ -142,7 +141,7 @@ pub part_at : (some : ℕ) (e : Entry) (u v : View) (k : List ℕ) → IsSfile e
 part_at zero e u v k sfile h same agree = agree
 part_at (suc zero) e u v k sfile h same agree =
     taken_at (x_file e.name) e.name u k (no_x e.name k (no_working e.name k h))
-    ∙ (ap (λ (o : Option Content). cond (bytes_eq e.name k) o (u k)) same.s ∙ ap (λ (o : Option Content). cond (bytes_eq e.name k) (newer (v (x_file e.name)) (v e.name)) o) (agree ∙ sym (kept_g v (l_file e.name) k)))
+    ∙ (ap (λ (o : Option Content). cond (bytes_eq e.name k) o (u k)) same.s ∙ ap (λ (o : Option Content). cond (bytes_eq e.name k) (newer (v (x_file e.name)) (v e.name)) o) (agree ∙ sym (kept_file v (l_file e.name) k)))
 part_at (suc (suc zero)) e u v k sfile h same agree = first_two e u v k sfile h same agree
 part_at (suc (suc (suc zero))) e u v k sfile h same agree = with_y e u v k sfile h same agree
 part_at (suc (suc (suc (suc some)))) e u v k sfile h same agree = with_y e u v k sfile h same agree
@@ -219,7 +218,7 @@ pub none_else : (e : Entry) (v : View) (k : List ℕ) → bytes_eq e.name k ≡ 
 none_else e v k s p none =
     ap (λ (b : Bool). cond b (newer (v (x_file e.name)) (v e.name)) (cond (bytes_eq (p_file e.name) k) (fated e.fate (v (q_file e.name)) (v (p_file e.name))) (cond (bytes_eq (drop 2 e.name) k) (v (drop 2 e.name)) (cond (bytes_eq (z_file e.name) k) None (put v (l_file e.name) (v (l_file e.name)) k))))) s
     ∙ (ap (λ (b : Bool). cond b (fated e.fate (v (q_file e.name)) (v (p_file e.name))) (cond (bytes_eq (drop 2 e.name) k) (v (drop 2 e.name)) (cond (bytes_eq (z_file e.name) k) None (put v (l_file e.name) (v (l_file e.name)) k)))) p
-    ∙ none_by (bytes_eq (z_file e.name) k) (bytes_eq (drop 2 e.name) k) (v (drop 2 e.name)) (put v (l_file e.name) (v (l_file e.name)) k) (λ is. ap v (same_name (drop 2 e.name) k is) ∙ none) (kept_g v (l_file e.name) k ∙ none))
+    ∙ none_by (bytes_eq (z_file e.name) k) (bytes_eq (drop 2 e.name) k) (v (drop 2 e.name)) (put v (l_file e.name) (v (l_file e.name)) k) (λ is. ap v (same_name (drop 2 e.name) k is) ∙ none) (kept_file v (l_file e.name) k ∙ none))
 
 pub own_z : (e : Entry) (v : View) → IsSfile e.name → moved v e.name (Some (finished_files e v)) (z_file e.name) ≡ None
 own_z e v sfile =

@@ -1,6 +1,6 @@
 -- What tell and check print, and how their call ends.
-use Rattle.std.proofs.Common.{◌≡◌, ℕ, ◌≤◌, Bool, false, List, [], Option, None, Some, Result, Ok, Err, IfSome, inl, inr, refl, sym, ap, subst, ◌∙◌, append-nil, arith}
-use Rattle.sccs_base.specs.Stream.{GivesOk, GivesSome, Rose}
+use Rattle.std.proofs.Common.{◌≡◌, ℕ, ◌≤◌, Bool, false, List, [], Option, None, Some, Result, Ok, Err, IfSome, inl, refl, sym, ap, subst, ◌∙◌, append-nil}
+use Rattle.sccs_base.specs.Stream.{GivesOk, GivesSome}
 use Rattle.sccs_base.proofs.Gifts.{gives_none, some_none}
 use Rattle.sccs_disk.specs.Files.{View}
 use Rattle.sccs_disk.specs.Told.{Told, seen}
@@ -19,6 +19,7 @@ use Rattle.sccs_steps.proofs.ReadingSteps.{broken, kept, same_cleared}
 use Rattle.sccs_edit.specs.SactStep.{found_edits}
 use Rattle.sccs_front.specs.Keeps.{step_is}
 use Rattle.sccs_front.specs.PendingStep.{MeetsPending, PrintsPending, pending_action, pending_status, pending_step, pending_text, shows_pending}
+use Rattle.sccs_base.proofs.Rises.{never_rose}
 
 -- ---- how the call ends
 
@@ -104,10 +105,6 @@ pub code_within : (checks : List ℕ) (code : ℕ) → RefusesWithin {X = ℕ} c
 code_within checks code refusal is = absurd cc
 
 -- ---- faults
-
-never_rose : Rose 0 0 → ⊥
-never_rose (inl more) = omega (arith, more)
-never_rose (inr last) = cc
 
 pub printed_causes : (r : Result Bool StepFault) (o o2 d d2 : ℕ) → d ≤ d2 → ((disk : ℕ) → PrintCauses r o o2 disk disk) → PrintCauses r o o2 d d2
 printed_causes r o o2 d d2 later causes =

@@ -35,6 +35,7 @@ use Rattle.sccs_get.specs.NewEntry.{free_sid, is_got, new_edit, new_entry, relea
 use Rattle.sccs_get.specs.AskedVersion.{asked, spec_asked}
 use Rattle.sccs_get.specs.declared.targets.Asked.{Asked}
 use Rattle.sccs_get.proofs.EntrySids.{made_sid, sid_there}
+use Rattle.sccs_base.proofs.Bools.{left_false}
 
 -- ---- a new entry
 
@@ -104,13 +105,9 @@ pub free_valid : (words : GetWords) (header : Header) (edits : List Edit) (way :
 free_valid words header edits way target got made sid spelled release at making free =
     made_sid header (reserved edits) target (spec_asked words header) words.branch got sid at (sid_there header.records target got spelled.records at) release (sym making ∙ free_is header edits way got made sid free)
 
-left_no : (a b : Bool) → (a || b) ≡ false → a ≡ false
-left_no true b is = cc
-left_no false b is = refl
-
 unlive_at : (header : Header) (sids : List Sid) (spec : Option Spec) (branch : Bool) (o : Option Sid) (sid : Sid) → option_and_then (λ on. made_on header.records sids on spec (branch && has_flag header.flags flag_b)) o ≡ Some sid → lives header.records sid ≡ false
 unlive_at header sids spec branch None sid is = absurd cc
-unlive_at header sids spec branch (Some on) sid is = left_no (lives header.records sid) (list_any (λ s. same_sid s sid) sids) (made_is_free header.records sids on sid spec (branch && has_flag header.flags flag_b) is)
+unlive_at header sids spec branch (Some on) sid is = left_false (lives header.records sid) (list_any (λ s. same_sid s sid) sids) (made_is_free header.records sids on sid spec (branch && has_flag header.flags flag_b) is)
 
 -- the SID to be made isn't live
 pub free_unlive : (words : GetWords) (header : Header) (edits : List Edit) (way : Bool) (target : ℕ) (got : Sid) (made : Option Sid) (sid : Sid) (e : Edit) (stamp : Stamp) (a : Asked) → made ≡ to_be_made header (reserved edits) target (spec_asked words header) words.branch → free_sid header edits way got made ≡ Ok sid
@@ -124,9 +121,6 @@ pub live_at : (records : List Record) (serials : List ℕ) (i d : ℕ) → AllBy
 live_at records [] i d all low = absurd (omega (arith, low))
 live_at records (n ∷ serials) zero d all low = live_there records n all.0
 live_at records (n ∷ serials) (suc i) d all low = live_at records serials i d all.1 (omega (arith, low))
-
-abbrev pub single_range : Sid → Range
-single_range sid = record { first = sid; last = sid }
 
 pub single_added : (records : List Record) (serials : List ℕ) (list list2 : List Range) (i d : ℕ) (sid : Sid) → i < length serials → list ≡ singles records (take i serials) → sid_at records (get_or serials i d) ≡ Some sid → list2 ≡ insert list (length list) (record { first = sid; last = sid }) → list2 ≡ singles records (take (i + 1) serials)
 single_added records serials list list2 i d sid low is at put =

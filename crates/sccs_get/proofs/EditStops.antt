@@ -1,6 +1,6 @@
 -- What a commit needs of an edit that is prepared, and what a stop leaves of it.
 use Rattle.std.proofs.Common.{◌≡◌, ℕ, Bool, true, false, List, [], ◌∷◌, ◌++◌, All, drop, Option, None, Some, Ok, refl, sym, ap, subst, ◌∙◌}
-use Rattle.std.specs.Prelude.{IfSome, IsSome, if◌then◌else◌}
+use Rattle.std.specs.Prelude.{IfSome, if◌then◌else◌}
 use Rattle.std.specs.Str.{bytes_eq}
 use Rattle.std.proofs.lemmas.List.Elements.{recursion_from_All}
 use Rattle.sccs_base.specs.Name.{IsSfile, p_file, q_file, y_file, z_file}
@@ -8,12 +8,10 @@ use Rattle.sccs_disk.specs.Calls.{IsThere}
 use Rattle.sccs_disk.specs.Files.{Content, View}
 use Rattle.sccs_disk.specs.Images.{IsFirm}
 use Rattle.sccs_disk.specs.Told.{Told, seen}
-use Rattle.sccs_images.specs.Touches.{Leaves, Touches, TouchesOnly, Touching, earlier, newest as newest_model}
-use Rattle.sccs_images.proofs.Touched.{each_newest, firm_touched}
+use Rattle.sccs_images.specs.Touches.{Leaves, TouchesOnly}
 use Rattle.sccs_history.specs.History.{lives}
 use Rattle.sccs_files.specs.StepFiles.{Moves}
 use Rattle.sccs_moments.proofs.FileNames.{from_s}
-use Rattle.sccs_moments.proofs.Joined.{newest_is}
 use Rattle.sccs_moments.proofs.Recovering.{pair_same}
 use Rattle.sccs_moments.proofs.Untouched.{sound_kept}
 use Rattle.sccs_intents.specs.Intents.{intent_file}
@@ -38,19 +36,12 @@ use Rattle.sccs_words.specs.declared.commands.GetWords.{GetWords}
 use Rattle.sccs_get.specs.EditGiving.{new_g}
 use Rattle.sccs_get.specs.VersionStep.{writes_g}
 use Rattle.sccs_get.proofs.EditLaws.{all_and, each_and}
+use Rattle.sccs_pending.proofs.Preparing.{firm_kept, there_moved}
 
 abbrev pub edit_prepared : NewFile → NewFile → List ℕ → List ℕ → Prepared
 edit_prepared new_p g report message = record { new_s = false; new_p = new_p; new_g = g; report = report; message = message }
 
 -- ---- what is firm
-
--- a firm file stays firm through calls that don't touch it
-firm_kept : (k : List ℕ) (mine before : List ℕ → Bool) (a b c : Told) → TouchesOnly before a b → TouchesOnly mine b c → mine k ≡ false → Leaves (IsFirm k) a b → Leaves (IsFirm k) a c
-firm_kept k mine before a b c first next other firm = λ m past is m3 past3 is3.
-    let begun : Touching before m past b = first m past is in
-    let on : Touching mine (newest_model begun.added m) (earlier begun.added m past) c = next (newest_model begun.added m) (earlier begun.added m past) begun.is in
-    subst (IsFirm k) (newest_is (newest_model begun.added m) m3 (earlier begun.added m past) past3 on.added c on.is is3)
-    (firm_touched mine (newest_model begun.added m) (newest_model on.added (newest_model begun.added m)) k (each_newest (Touches mine (newest_model begun.added m)) on.added (newest_model begun.added m) on.each) other (firm m past is (newest_model begun.added m) (earlier begun.added m past) begun.is))
 
 pub edit_firm : (n : List ℕ) (new_p g : NewFile) (report message : List ℕ) (a b c : Told) → TouchesOnly (bytes_eq (q_file n)) a b → TouchesOnly (bytes_eq (y_file n)) b c → OnReplace new_p (Leaves (IsFirm (q_file n)) a b) → IsFirmPrepared n (edit_prepared new_p g report message) a c
 edit_firm n new_p g report message a b c q y firm = record { x_state = tt; q_state = by new_p firm }
@@ -61,11 +52,6 @@ edit_firm n new_p g report message a b c q y firm = record { x_state = tt; q_sta
     by Remove firm = tt
 
 -- ---- what a commit needs
-
-there_moved : (m k : List ℕ) (o o2 : Option View) → bytes_eq m k ≡ false → Moves (bytes_eq m) (λ v. v) o o2 → IfSome o (λ (v : View). IsSome (v k)) → IfSome o2 (λ (v : View). IsSome (v k))
-there_moved m k None o2 other moves there = subst (λ (o : Option View). IfSome o (λ (v : View). IsSome (v k))) (sym moves) tt
-there_moved m k (Some v) None other moves there = absurd moves
-there_moved m k (Some v) (Some u) other moves there = subst IsSome (sym (moves k other)) there
 
 pub edit_ready : (words : GetWords) (n : List ℕ) (edits : List Edit) (edit : Edit) (new_p g : NewFile) (report message : List ℕ) (a b c : Told) → g ≡ new_g words → IsThere (z_file n) a → Moves (bytes_eq (q_file n)) (λ v. v) (seen a) (seen b) → Moves (bytes_eq (y_file n)) (λ v. v) (seen b) (seen c)
     → PreparesEntries n (edits ++ edit ∷ []) new_p a b → (writes_g words ≡ true → IsThere (y_file n) c) → IsReady n (edit_prepared new_p g report message) c

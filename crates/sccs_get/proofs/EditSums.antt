@@ -16,7 +16,7 @@ use Rattle.sccs_sid.specs.declared.refusals.StepFault.TheVariants.{Refused, Memo
 use Rattle.sccs_files.specs.StepFiles.{Files, Moves, is_working, l_file}
 use Rattle.sccs_images.specs.Touches.{Leaves, TouchesOnly, earlier, newest}
 use Rattle.sccs_moments.specs.Unlocked.{KeepsOthers, KeptOthers}
-use Rattle.sccs_moments.proofs.FileNames.{both_false, from_s, left_false, no_y, right_false}
+use Rattle.sccs_moments.proofs.FileNames.{from_s, no_y}
 use Rattle.sccs_moments.proofs.Unlocked.{others_same, others_then, others_touched, others_wider}
 use Rattle.sccs_pending.specs.Pending.{AnswersPending}
 use Rattle.sccs_pending.specs.declared.pending.Pending.{Pending}
@@ -36,6 +36,8 @@ use Rattle.sccs_get.specs.Giving.{IsLate}
 use Rattle.sccs_get.specs.SummaryGiving.{MakesSome}
 use Rattle.sccs_get.specs.SummaryStep.{with_l}
 use Rattle.sccs_get.proofs.SummaryLaws.{l_alike, l_by, l_gone, l_other, l_put, moves_as}
+use Rattle.std.proofs.lemmas.Bool.{or_from}
+use Rattle.sccs_base.proofs.Bools.{right_false, left_false}
 
 -- an effect with a summary in front, by whether it becomes the l-file
 abbrev pub sum_by : Bool → List ℕ → List ℕ → Files → StepEffect → StepEffect
@@ -171,7 +173,7 @@ drafts_same false n a b same = same_touches (is_working n) a b same
 drafts_same true n a b same = others_same (λ k. bytes_eq (l_file n) k || is_working n k) a b same
 
 sum_within : (n k : List ℕ) → (bytes_eq (l_file n) k || is_working n k) ≡ false → is_summary n k ≡ false
-sum_within n k h = both_false (bytes_eq (y_file n) k) (bytes_eq (l_file n) k) (no_y n k (right_false (bytes_eq (l_file n) k) (is_working n k) h)) (left_false (bytes_eq (l_file n) k) (is_working n k) h)
+sum_within n k h = or_from (bytes_eq (y_file n) k) (bytes_eq (l_file n) k) (no_y n k (right_false (bytes_eq (l_file n) k) (is_working n k) h)) (left_false (bytes_eq (l_file n) k) (is_working n k) h)
 
 pub drafts_summary : (l : Bool) (n : List ℕ) (a b c : Told) → b ≡ a → (l ≡ false → c ≡ b) → KeepsOthers (is_summary n) b c → Drafts l n a c
 drafts_summary false n a b c same none keeps = same_touches (is_working n) a c (none refl ∙ same)

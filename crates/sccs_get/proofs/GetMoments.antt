@@ -21,10 +21,10 @@ use Rattle.sccs_files.specs.StepFiles.{Moves, l_file, look, moved}
 use Rattle.sccs_gfiles.specs.Placing.{HasMade}
 use Rattle.sccs_gfiles.proofs.MadeWhole.{ends_after, ends_pairs, ends_within}
 use Rattle.sccs_moments.specs.Calm.{IsCalm, KeepsPairs}
-use Rattle.sccs_moments.specs.Moments.{EndsAfter, EndsBefore, IsAt, Stays}
+use Rattle.sccs_moments.specs.Moments.{EndsAfter, EndsBefore, IsAt}
 use Rattle.sccs_moments.specs.Recovery.{RecoversAs, is_kept}
 use Rattle.sccs_moments.proofs.FileNames.{from_g, kept_intent, kept_p, kept_q, kept_s, kept_x, kept_z, l_plain}
-use Rattle.sccs_moments.proofs.Joined.{numbered_as, numbered_now, went_then}
+use Rattle.sccs_moments.proofs.Joined.{numbered_as, numbered_now, went_then, stays_as}
 use Rattle.sccs_moments.proofs.Recovering.{LooksAlike, fate_same, looks_recover, recovers_back, recovers_then}
 use Rattle.sccs_moments.proofs.Untouched.{before_after, before_within, same_before}
 use Rattle.sccs_steps.specs.Actions.{Action}
@@ -113,21 +113,6 @@ after_as v w m past t recovers ends = by (before_after v m past t ends)
     )
 
 -- ---- two calls that lose nothing
-
-keeps_then : (u v w : View) → KeepsPairs u v → KeepsPairs v w → KeepsPairs u w
-keeps_then u v w first next = record {
-  intent = next.intent ∙ first.intent;
-  pairs = λ k sfile. next.pairs k sfile ∙ first.pairs k sfile;
-  recovers = recovers_then u v w first.recovers next.recovers;
-}
-
-abbrev stays_as : (v : View) (m1 : Model) (past1 : List Model) (d : Told) → KeepsPairs v (view_of m1) → Stays (view_of m1) m1 past1 d → Stays v m1 past1 d
-stays_as v m1 past1 d keeps went = record {
-  added = went.added;
-  is = went.is;
-  numbers = numbered_as (λ i m2. Allows (KeepsPairs (view_of m1)) m2) (λ i m2. Allows (KeepsPairs v) m2) 0 went.added m1 0 (λ i low m2 all w image. keeps_then v (view_of m1) w keeps (all w image)) went.numbers;
-  guarded = went.guarded;
-}
 
 pub before_then : (b d : Told) (m : Model) (past : List Model) → EndsBefore (view_of m) m past b → ((m1 : Model) (past1 : List Model) → b ≡ Tells m1 past1 → IsCalm m1 → EndsBefore (view_of m1) m1 past1 d) → EndsBefore (view_of m) m past d
 before_then b d m past ends next = joined (next (newest ends.0.added m) (earlier ends.0.added m past) ends.0.is ends.1)

@@ -1,10 +1,10 @@
 -- What giving a text, placing a g-file and giving up say.
-use Rattle.std.proofs.Common.{◌≡◌, ◌≤◌, ℕ, Bool, true, false, not, ◌||◌, List, [], drop, Option, None, Some, Result, Ok, Err, inl, inr, refl, sym, ap, subst, ◌∙◌, arith}
+use Rattle.std.proofs.Common.{◌≡◌, ◌≤◌, ℕ, Bool, true, false, not, ◌||◌, List, [], drop, Option, None, Some, Result, Ok, Err, inl, inr, refl, sym, ap, subst, ◌∙◌}
 use Rattle.std.specs.Prelude.{if◌then◌else◌}
 use Rattle.std.specs.Result.{IfOk}
 use Rattle.std.specs.Str.{bytes_eq}
 use Rattle.sccs_base.specs.Name.{y_file}
-use Rattle.sccs_base.specs.Stream.{GivesOk, GivesSome, Rose}
+use Rattle.sccs_base.specs.Stream.{GivesOk, GivesSome}
 use Rattle.sccs_base.proofs.Gifts.{gives_none, some_none}
 use Rattle.sccs_sid.specs.declared.refusals.Refusal.{Refusal}
 use Rattle.sccs_sid.specs.declared.refusals.StepFault.{StepFault}
@@ -32,6 +32,7 @@ use Rattle.sccs_words.specs.declared.commands.GetWords.{GetWords}
 use Rattle.sccs_get.specs.Giving.{FinishesGet, GivesUpGet, GivesVersion, PlacesG, g_placed, printed_text, with_y, y_cleared}
 use Rattle.sccs_get.specs.VersionStep.{form_got, stays_writable, given_text, writes_g}
 use Rattle.sccs_get.specs.declared.found.Found.{Found}
+use Rattle.sccs_base.proofs.Rises.{never_rose}
 
 -- ---- a text
 
@@ -124,15 +125,11 @@ failed_frame told faults disk disk2 fault same causes = record {
   later = causes.disk_later;
   cause = λ is. causes.broke (ap bool_fault (fault_is DiskFault is));
   read = λ is. causes.read (ap bool_fault (fault_is ReadFault is));
-  write = λ is. by_write (causes.write (ap bool_fault (fault_is WriteFault is)));
+  write = λ is. never_rose (causes.write (ap bool_fault (fault_is WriteFault is)));
 }
   where
     fault_is : (other : StepFault) → unit_fault fault ≡ Err other → fault ≡ other
     fault_is other is = cc
-
-    by_write : Rose 0 0 → ⊥
-    by_write (inl more) = omega (arith, more)
-    by_write (inr last) = omega (arith, last)
 
 -- ---- the g-file placed, and what is said
 

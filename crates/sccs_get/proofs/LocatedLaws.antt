@@ -28,7 +28,8 @@ use Rattle.sccs_get.specs.Located.{AnswersLocated}
 use Rattle.sccs_get.specs.VersionStep.{LocatedVersion, found_version, g_is_free, has_its_keywords, lines_got, located_of}
 use Rattle.sccs_get.specs.declared.found.Found.{Found}
 use Rattle.sccs_get.specs.declared.steps.Located.{Located}
-use Rattle.sccs_get.proofs.ReadyLaws.{body_there, shown_header}
+use Rattle.sccs_get.proofs.ReadyLaws.{body_there}
+use Rattle.sccs_pending.proofs.PendingLaws.{shown_header}
 
 module _ (words : GetWords) (stamp : Stamp) (place : List ℕ) (n : List ℕ) where
   -- ---- what is found, check by check

@@ -36,13 +36,9 @@ use Rattle.sccs_pending.specs.Reports.{heading_text, warning}
 use Rattle.sccs_get.specs.Reports.{get_report, get_warning, line_count_text, listed_text, new_sid_text, replaces_keywords, said_on_err, said_on_out}
 use Rattle.sccs_get.specs.VersionStep.{form_got, get_effect, lines_got, given_text}
 use Rattle.sccs_get.specs.declared.found.Found.{Found}
+use Rattle.sccs_pending.proofs.PendingLaws.{shown_header}
 
 -- ---- the file behind the checks
-
--- the header of the front is that which the file has
-pub shown_header : (o : Option (List ℕ)) (parsed : Parsed) (front : Front) → ShowsFile o parsed front → front.header ≡ parsed.header
-shown_header None parsed front shows = absurd shows
-shown_header (Some file) parsed front shows = shows.0
 
 -- a told file whose front was read has these items
 pub body_there : (o told : Option (List ℕ)) (parsed : Parsed) (front : Front) (set : List ℕ) → IsPlaced front → told ≡ o → has set 0 ≡ false → answer file_of o ≡ Ok parsed → ShowsFile o parsed front → (file : List ℕ) × IsBody told front set file parsed.items

@@ -25,6 +25,8 @@ use Rattle.sccs_words.specs.declared.commands.GetWords.{GetWords}
 use Rattle.sccs_get.specs.Giving.{FinishesGet, GivesUpGet}
 use Rattle.sccs_get.specs.Reports.{get_report, get_warning, prints, said_on_err}
 use Rattle.sccs_get.specs.VersionStep.{could_get, says_well, version_checks}
+use Rattle.sccs_base.proofs.Rises.{rose_later}
+use Rattle.sccs_base.proofs.Bools.{or_true}
 
 -- ---- what is said is well said
 
@@ -50,10 +52,6 @@ well_said words heading n include exclude got made lines keyword =
 
 abbrev said_so : List ℕ → StepEffect
 said_so message = record { new = None; text = []; out = []; err = message; status = 0 }
-
-or_true : (b : Bool) → (b || true) ≡ true
-or_true true = refl
-or_true false = refl
 
 quiet_so : (words : GetWords) → could_get words (Ok (said_so [])) ≡ true
 quiet_so words = or_true (prints words && not words.silent)
@@ -104,10 +102,6 @@ as_step r i o o2 err d d2 causes = record {
 pub ready_finished : (q : Result Prepared StepFault) (r : Result (Unit {0}) StepFault) (i o o2 o3 e e3 d d2 d3 : ℕ) → PrintCauses q o o2 d d2 → ((input : ℕ) → StepCauses r (counts input o2 e d2) (counts input o3 e3 d3)) → StepCauses r (counts i o e d) (counts i o3 e3 d3)
 ready_finished q r i o o2 o3 e e3 d d2 d3 first second = finished_causes q r i i o o2 o3 e e3 d d d2 d3 (omega arith) (λ err. as_step q i o o2 err d d2 first) second
 
-rose_before : (f g h : ℕ) → f ≤ g → Rose g h → Rose f h
-rose_before f g h low (inl more) = inl (omega (arith, low, more))
-rose_before f g h low (inr last) = inr last
-
 which : (has_y : Bool) (n : List ℕ) (fault : StepFault) (r : Result (Unit {0}) StepFault) (a b : Option View) → GivesUpGet has_y n fault r a b → (r ≡ Err fault) ⊎ (r ≡ Err DiskFault)
 which has_y n fault r a b (inl gone) = inl gone.0
 which has_y n fault r a b (inr broken) = inr broken.0
@@ -133,7 +127,7 @@ given_up_causes has_y n fault q r a b i o o2 e d d2 d3 was gives first later cau
   where
     by : (fault ≡ DiskFault) × (d3 ≡ d2) ⊎ Rose d2 d3 → Rose d d3
     by (inl same) = subst (λ count. Rose d count) (sym same.1) (first.broke (was ∙ ap Err same.0))
-    by (inr rose) = rose_before d d2 d3 first.disk_later rose
+    by (inr rose) = rose_later d d2 d3 first.disk_later rose
 
 -- behind a call that only read
 pub read_print : {X : Type 0} (q : Result X StepFault) (o o2 d d1 d2 : ℕ) → d ≤ d1 → PrintCauses q o o2 d1 d2 → PrintCauses q o o2 d d2
@@ -142,7 +136,7 @@ read_print q o o2 d d1 d2 later causes = record {
   disk_later = omega (arith, later, causes.disk_later);
   write = causes.write;
   read = causes.read;
-  broke = λ is. rose_before d d1 d2 later (causes.broke is);
+  broke = λ is. rose_later d d1 d2 later (causes.broke is);
 }
 
 -- behind one that printed
@@ -150,9 +144,9 @@ pub print_print : {X : Type 0} (q : Result X StepFault) (o o1 o2 d d1 d2 : ℕ) 
 print_print q o o1 o2 d d1 d2 out later causes = record {
   out_later = omega (arith, out, causes.out_later);
   disk_later = omega (arith, later, causes.disk_later);
-  write = λ is. rose_before o o1 o2 out (causes.write is);
+  write = λ is. rose_later o o1 o2 out (causes.write is);
   read = causes.read;
-  broke = λ is. rose_before d d1 d2 later (causes.broke is);
+  broke = λ is. rose_later d d1 d2 later (causes.broke is);
 }
 
 pub read_later : (d d1 d2 : ℕ) → d ≤ d1 → d1 ≤ d2 → d ≤ d2

@@ -21,7 +21,7 @@ use Rattle.sccs_moments.specs.Calm.{IsCalm}
 use Rattle.sccs_moments.specs.Moments.{EndsAfter, EndsBefore}
 use Rattle.sccs_moments.specs.Recovery.{is_kept}
 use Rattle.sccs_moments.specs.Unlocked.{BeginsUnlocked, KeepsHeldIn, KeepsOthers, is_own}
-use Rattle.sccs_moments.proofs.FileNames.{both_false, from_s, from_sfile, kept_p, kept_s, left_false, no_l, no_working, no_y, right_false, to_g}
+use Rattle.sccs_moments.proofs.FileNames.{from_s, from_sfile, kept_p, kept_s, no_l, no_working, no_y, to_g}
 use Rattle.sccs_moments.proofs.Unlocked.{is_either, others_then, others_touched, others_wider, own_early, own_left, unlocked_by, unlocked_same}
 use Rattle.sccs_moments.proofs.Untouched.{before_after, before_within, same_before}
 use Rattle.sccs_pending.specs.Pending.{bytes_at}
@@ -45,9 +45,12 @@ use Rattle.sccs_get.specs.SummaryStep.{printed_summary, summary_got, summed, wri
 use Rattle.sccs_get.specs.VersionStep.{LocatedVersion, get_action, get_effect, get_outcome, lines_got, located_of, writes_g}
 use Rattle.sccs_get.specs.declared.steps.Located.{Located}
 use Rattle.sccs_get.proofs.GetMoments.{EndsSo, at_model, before_then, cut_so, finished_before, finished_so, gives_so, touched_before}
-use Rattle.sccs_get.proofs.ReadyLaws.{ReadiesAt, shown_header}
+use Rattle.sccs_get.proofs.ReadyLaws.{ReadiesAt}
 use Rattle.sccs_get.proofs.StepEnds.{finished, gives_up}
 use Rattle.sccs_get.proofs.SummaryLaws.{down_summed, l_by, l_other, part, up_summed, whole, whole_met}
+use Rattle.sccs_base.proofs.Bools.{right_false, left_false}
+use Rattle.std.proofs.lemmas.Bool.{not_from_false, not_from_true, or_from}
+use Rattle.sccs_pending.proofs.PendingLaws.{shown_header}
 
 -- ---- the files that change
 
@@ -57,18 +60,18 @@ is_got n k = is_summary n k || bytes_eq (drop 2 n) k
 
 -- none of them is an s-file or a p-file
 apart_s : (n k : List ℕ) → IsSfile k → is_kept (drop 2 n) ≡ false → is_got n k ≡ false
-apart_s n k sfile plain = both_false (is_summary n k) (bytes_eq (drop 2 n) k) (both_false (bytes_eq (y_file n) k) (bytes_eq (l_file n) k) (from_sfile 121 n k sfile refl) (from_sfile 108 n k sfile refl)) (kept_s (drop 2 n) k plain sfile)
+apart_s n k sfile plain = or_from (is_summary n k) (bytes_eq (drop 2 n) k) (or_from (bytes_eq (y_file n) k) (bytes_eq (l_file n) k) (from_sfile 121 n k sfile refl) (from_sfile 108 n k sfile refl)) (kept_s (drop 2 n) k plain sfile)
 
 apart_p : (n k : List ℕ) → IsSfile k → is_kept (drop 2 n) ≡ false → is_got n (p_file k) ≡ false
-apart_p n k sfile plain = both_false (is_summary n (p_file k)) (bytes_eq (drop 2 n) (p_file k)) refl (kept_p (drop 2 n) k plain sfile)
+apart_p n k sfile plain = or_from (is_summary n (p_file k)) (bytes_eq (drop 2 n) (p_file k)) refl (kept_p (drop 2 n) k plain sfile)
 
 -- nor is its own z-file, and all are its own
 apart_z : (n : List ℕ) → IsSfile n → is_got n (z_file n) ≡ false
-apart_z n sfile = both_false (is_summary n (z_file n)) (bytes_eq (drop 2 n) (z_file n)) refl (to_g 122 n sfile)
+apart_z n sfile = or_from (is_summary n (z_file n)) (bytes_eq (drop 2 n) (z_file n)) refl (to_g 122 n sfile)
 
 own_got : (n k : List ℕ) → is_own n k ≡ false → is_got n k ≡ false
 own_got n k h =
-    both_false (is_summary n k) (bytes_eq (drop 2 n) k) (both_false (bytes_eq (y_file n) k) (bytes_eq (l_file n) k) (no_y n k (no_working n k (own_left n k h))) (no_l n k (own_early n k h)))
+    or_from (is_summary n k) (bytes_eq (drop 2 n) k) (or_from (bytes_eq (y_file n) k) (bytes_eq (l_file n) k) (no_y n k (no_working n k (own_left n k h))) (no_l n k (own_early n k h)))
     (left_false (bytes_eq (drop 2 n) k) (is_early n k) (right_false (bytes_eq (p_file n) k) (bytes_eq (drop 2 n) k || is_early n k) (right_false (bytes_eq n k) (bytes_eq (p_file n) k || (bytes_eq (drop 2 n) k || is_early n k)) h)))
 
 y_within : (n k : List ℕ) → is_got n k ≡ false → bytes_eq (y_file n) k ≡ false
@@ -82,7 +85,7 @@ l_others n a b keeps = others_wider (is_summary n) (is_got n) a b (λ k h. left_
 
 g_others : (n : List ℕ) (a b : Told) → KeepsOthers (is_either (y_file n) (drop 2 n)) a b → KeepsOthers (is_got n) a b
 g_others n a b keeps =
-    others_wider (is_either (y_file n) (drop 2 n)) (is_got n) a b (λ k h. both_false (bytes_eq (y_file n) k) (bytes_eq (drop 2 n) k) (y_within n k h) (right_false (is_summary n k) (bytes_eq (drop 2 n) k) h)) keeps
+    others_wider (is_either (y_file n) (drop 2 n)) (is_got n) a b (λ k h. or_from (bytes_eq (y_file n) k) (bytes_eq (drop 2 n) k) (y_within n k h) (right_false (is_summary n k) (bytes_eq (drop 2 n) k) h)) keeps
 
 -- a step that makes the summary, the text and the g-file
 pub finished_got : (n : List ℕ) (ta tb tc td : Told) → KeepsOthers (is_summary n) ta tb → TouchesOnly (bytes_eq (y_file n)) tb tc → KeepsOthers (is_either (y_file n) (drop 2 n)) tc td → KeepsOthers (is_got n) ta td
@@ -114,26 +117,6 @@ same_s : (l : Bool) (n summary : List ℕ) (v : View) → IsSfile n → l_by l n
 same_s false n summary v sfile = refl
 same_s true n summary v sfile = l_other n summary v n (from_s 121 n sfile refl) (from_s 108 n sfile refl)
 
-is_changing : (b : Bool) → b ≡ true → not b ≡ false
-is_changing true is = refl
-is_changing false is = absurd cc
-
-is_reading : (b : Bool) → b ≡ false → not b ≡ true
-is_reading true is = absurd cc
-is_reading false is = refl
-
-pub is_none : (b : Bool) → not b ≡ true → b ≡ false
-is_none true is = absurd cc
-is_none false is = refl
-
-pub none_g : (g l : Bool) → (g || l) ≡ false → g ≡ false
-none_g true l is = cc
-none_g false l is = refl
-
-pub none_l : (g l : Bool) → (g || l) ≡ false → l ≡ false
-none_l true l is = absurd cc
-none_l false l is = is
-
 module _ (words : GetWords) (stamp : Stamp) (place : List ℕ) (heading : Bool) (n : List ℕ) where
   abbrev action : Action
   action = get_action words stamp place heading
@@ -158,7 +141,7 @@ module _ (words : GetWords) (stamp : Stamp) (place : List ℕ) (heading : Bool) 
   got_unlocked ta td others same = λ locks plain. by writes refl plain
     where
       by : (b : Bool) → writes ≡ b → (not writes ≡ false → is_kept (drop 2 n) ≡ false) → BeginsUnlocked ta td
-      by true is plain = unlocked_by (is_got n) ta td (λ m past told k sfile. inl (apart_s n k sfile (plain (is_changing writes is)), apart_p n k sfile (plain (is_changing writes is)))) others
+      by true is plain = unlocked_by (is_got n) ta td (λ m past told k sfile. inl (apart_s n k sfile (plain (not_from_true writes is)), apart_p n k sfile (plain (not_from_true writes is)))) others
       by false is plain = unlocked_same ta td (same is)
 
   -- ---- the files of other names
@@ -204,7 +187,7 @@ module _ (words : GetWords) (stamp : Stamp) (place : List ℕ) (heading : Bool) 
   -- ---- where no file is written
 
   pub read_moments : (r : Result (Unit {0}) StepFault) (left : Option (List ℕ)) (ta td : Told) (out out2 err err2 : Option (List ℕ)) → writes ≡ false → td ≡ ta → Stepped action r n left (scene ta out err) (scene td out2 err2) → StepMoments action r n left (scene ta out err) (scene td out2 err2)
-  read_moments r left ta td out out2 err err2 none same step = reading_moments action r n left (scene ta out err) (scene td out2 err2) (get_keeps words stamp place heading) (is_reading writes none) same step
+  read_moments r left ta td out out2 err err2 none same step = reading_moments action r n left (scene ta out err) (scene td out2 err2) (get_keeps words stamp place heading) (not_from_false writes none) same step
 
   -- ---- all is found
 
@@ -309,7 +292,7 @@ module _ (words : GetWords) (stamp : Stamp) (place : List ℕ) (heading : Bool) 
         → FinishesGet words n p r (world (seen tc) out3 err) (world (seen td) out4 err2) → LosesNothing ta tb → PlacesG words n r tc td → TouchesOnly (bytes_eq (y_file n)) tb tc → (writes_g words ≡ true → Leaves (IsFirm (y_file n)) tb tc) → (writes_g words ≡ false → td ≡ tb) → StepMoments action r n left (scene ta out err) (scene td out4 err2)
     finished_moments r p left ta tb tc td out out2 out3 out4 err err2 changes found sums readies finishes loses places touches firm same = λ m past i is heard calm may.
         at_model words stamp place heading n sfile r ta td out out4 err err2 m past is
-        (by m past is calm (may (is_changing writes changes)) (summed_at (view_of m) (seen tb) out out2 err (subst (λ (t : Told). FoundAt (seen t)) is found) (subst (λ (t : Told). Sums (Ok tt) (seen t) (seen tb) out out2 err) is sums)))
+        (by m past is calm (may (not_from_true writes changes)) (summed_at (view_of m) (seen tb) out out2 err (subst (λ (t : Told). FoundAt (seen t)) is found) (subst (λ (t : Told). Sums (Ok tt) (seen t) (seen tb) out out2 err) is sums)))
       where
         by : (m : Model) (past : List Model) → ta ≡ Tells m past → IsCalm m → IsSafe n (view_of m) → SummedAt (view_of m) (seen tb) out out2 → EndsSo words stamp place heading n sfile r (view_of m) m past td out err out4 err2 (outcome_at (view_of m))
         by m past is calm safe at =

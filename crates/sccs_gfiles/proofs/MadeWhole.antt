@@ -14,8 +14,7 @@ use Rattle.sccs_moments.specs.Moments.{EndsBefore, Went}
 use Rattle.sccs_moments.specs.Recovery.{is_kept}
 use Rattle.sccs_moments.proofs.CalmDisks.{calm_kept}
 use Rattle.sccs_moments.proofs.FileNames.{no_y, working_s}
-use Rattle.sccs_moments.proofs.Joined.{numbered_as, numbered_now, numbered_plain, numbered_zero, went_then}
-use Rattle.sccs_moments.proofs.Recovering.{recovers_then}
+use Rattle.sccs_moments.proofs.Joined.{numbered_as, numbered_now, numbered_plain, numbered_zero, went_then, keeps_then}
 use Rattle.sccs_moments.proofs.Untouched.{guards_touched}
 use Rattle.sccs_store.proofs.Working.{firm_after, leaves_from, written_touches}
 use Rattle.sccs_writers.specs.OneFile.{OnlyWrites}
@@ -77,16 +76,9 @@ new_joined to new m m1 j w first (inr (zero, (u, image, same))) = old_or_new zer
     old_or_new is same (inl made) = inl (same ∙ made)
     old_or_new is same (inr (e, (u2, image2, same2))) = inr (is, (u2, image2, same ∙ same2))
 
-pairs_joined : (u v w : View) → KeepsPairs u v → KeepsPairs v w → KeepsPairs u w
-pairs_joined u v w first next = record {
-  intent = next.intent ∙ first.intent;
-  pairs = λ k sfile. next.pairs k sfile ∙ first.pairs k sfile;
-  recovers = recovers_then u v w first.recovers next.recovers;
-}
-
 image_joined : (to : List ℕ) (new : Option Content) (m m1 : Model) (j : ℕ) (w : View) → Allows (IsPlacing to m new 0) m1 → IsPlacing to m1 new j w → IsPlacing to m new j w
 image_joined to new m m1 j w first next = record {
-  keeps = pairs_joined (view_of m) (view_of m1) w (first (view_of m1) (view_image m1)).keeps next.keeps;
+  keeps = keeps_then (view_of m) (view_of m1) w (first (view_of m1) (view_image m1)).keeps next.keeps;
   state = new_joined to new m m1 j w first next.state;
 }
 

@@ -17,6 +17,7 @@ use Rattle.sccs_tokens.specs.declared.line_tokens.LineToken.TheVariants.{Counts,
 use Rattle.sccs_tokens.proofs.TokenLaws.{token_counts}
 use Rattle.sccs_tokens.proofs.DeltaLaws.{token_delta}
 use Rattle.sccs_grammar.proofs.SectionLaws.{says, include_again, exclude_again, ignore_again, texts_behind}
+use Rattle.sccs_base.proofs.Bools.{or_assoc, or_none, or_true}
 
 -- ---- lists that share nothing
 
@@ -111,20 +112,8 @@ each_differs r (s ∷ rs) own =
 abbrev pub AreOwn : List Record → List Record → Type 0
 AreOwn above rs = AllByRecursion (λ s. (s.removed || not (lives above s.sid)) ≡ true) rs
 
-last_one : (b : Bool) → (b || false) ≡ b
-last_one true = refl
-last_one false = refl
-
-or_true : (b : Bool) → (b || true) ≡ true
-or_true true = refl
-or_true false = refl
-
-or_assoc : (a b c : Bool) → (a || (b || c)) ≡ ((a || b) || c)
-or_assoc true b c = refl
-or_assoc false b c = refl
-
 any_push : (p : Record → Bool) (above : List Record) (r : Record) → list_any p (above ++ r ∷ []) ≡ (list_any p above || p r)
-any_push p [] r = last_one (p r)
+any_push p [] r = or_none (p r)
 any_push p (a ∷ above) r = ap (λ b. p a || b) (any_push p above r) ∙ or_assoc (p a) (list_any p above) (p r)
 
 either_way : (gone other any : Bool) (same flipped : Bool) → (gone || not any) ≡ true → (other || not (not gone && same)) ≡ true → same ≡ flipped → (gone || not (any || (not other && flipped))) ≡ true

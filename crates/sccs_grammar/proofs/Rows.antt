@@ -26,6 +26,7 @@ use Rattle.sccs_tokens.specs.declared.line_tokens.LineToken.{LineToken}
 use Rattle.sccs_tokens.specs.declared.line_tokens.LineToken.TheVariants.{Counts, Delta, Listed, Mr, Comment, FlagIs, Insert, Plain}
 use Rattle.sccs_tokens.specs.declared.line_tokens.ListKind.TheVariants.{Included, Excluded, Ignored}
 use Rattle.sccs_grammar.proofs.Samples.{with_sum, at_line, empty_delta, two_lines, second_delta, branched}
+use Rattle.sccs_sid.proofs.FourNumbers.{of_four}
 
 -- the items of a file, or its fault
 abbrev items_in : Result Parsed FileFault → Result (List Item) FileFault
@@ -87,13 +88,10 @@ abbrev row_of : ℕ → Sid → ℤ → List ℕ → ℕ → List (List ℕ) →
 row_of n sid second login before comments i d u =
     record { serial = n; removed = false; sid = sid; moment = record { seconds = second }; login = login; predecessor = before; include = []; exclude = []; ignore = []; mrs = []; comments = comments; inserted = i; deleted = d; unchanged = u }
 
-abbrev sid_of_four : ℕ → ℕ → ℕ → ℕ → Sid
-sid_of_four r l b s = record { release = r; level = l; branch = b; sequence = s }
-
 -- What a header is read as.
 record Headers : Type 0 where
-  two_lines : header_in (front_of (bytes_of (sum_line 8096 ∷ two_lines))) ≡ Ok (record { records = row_of 1 (sid_of_four 1 1 0 0) (pos 1614834367) (codes "ann") 0 (codes "date and time created 21/03/04 05:06:07 by ann" ∷ []) 2 0 0 ∷ []; users = []; flags = []; description = [] })
-  branched : header_in (front_of (bytes_of (sum_line 13003 ∷ branched))) ≡ Ok (record { records = row_of 3 (sid_of_four 1 1 1 1) (pos 946684799) (codes "bob") 1 ([] ∷ []) 1 0 2 ∷ row_of 2 (sid_of_four 1 2 0 0) (pos 162864000) (codes "ann") 1 (codes "two" ∷ []) 1 1 1 ∷ row_of 1 (sid_of_four 1 1 0 0) (pos 162863999) (codes "ann") 0 (codes "one" ∷ []) 2 0 0 ∷ []; users = codes "ann" ∷ codes "bob" ∷ []; flags = record { letter = 101; text = codes "0" } ∷ []; description = [] })
+  two_lines : header_in (front_of (bytes_of (sum_line 8096 ∷ two_lines))) ≡ Ok (record { records = row_of 1 (of_four 1 1 0 0) (pos 1614834367) (codes "ann") 0 (codes "date and time created 21/03/04 05:06:07 by ann" ∷ []) 2 0 0 ∷ []; users = []; flags = []; description = [] })
+  branched : header_in (front_of (bytes_of (sum_line 13003 ∷ branched))) ≡ Ok (record { records = row_of 3 (of_four 1 1 1 1) (pos 946684799) (codes "bob") 1 ([] ∷ []) 1 0 2 ∷ row_of 2 (of_four 1 2 0 0) (pos 162864000) (codes "ann") 1 (codes "two" ∷ []) 1 1 1 ∷ row_of 1 (of_four 1 1 0 0) (pos 162863999) (codes "ann") 0 (codes "one" ∷ []) 2 0 0 ∷ []; users = codes "ann" ∷ codes "bob" ∷ []; flags = record { letter = 101; text = codes "0" } ∷ []; description = [] })
 
 headers : Headers
 unfolding days_from_civil day_count days_of_years days_of_months cut is_login digits_after number_at byte_at numbers_after sid_of ends_blank skip skip_blanks drop_blanks words pieces spec_of number three until behind date_of time_of moment_of serial predecessor delta_of count_token serials listed serial_field control token dangling_predecessor line_after front_from item_at items_from stored opened checked_front front_of file_of
@@ -107,8 +105,8 @@ record Lines : Type 0 where
   short_counts : soh (codes "s   1/22/333") ≡ Some (Counts 1 22 333)
   blank_behind_counts : soh (codes "s 1/2/3 ") ≡ None
   tab_before_counts : soh (115 ∷ 9 ∷ codes "1/2/3") ≡ None
-  loose_delta : soh (codes "d  D 01.1   69/1/1 0:0:0  ann 00001  00000  ") ≡ Some (Delta (row_of 1 (sid_of_four 1 1 0 0) (negsuc 31535999) (codes "ann") 0 [] 0 0 0))
-  last_second : soh (codes "d D 1.1 68/12/31 23:59:59 ann 1 0") ≡ Some (Delta (row_of 1 (sid_of_four 1 1 0 0) (pos 3124223999) (codes "ann") 0 [] 0 0 0))
+  loose_delta : soh (codes "d  D 01.1   69/1/1 0:0:0  ann 00001  00000  ") ≡ Some (Delta (row_of 1 (of_four 1 1 0 0) (negsuc 31535999) (codes "ann") 0 [] 0 0 0))
+  last_second : soh (codes "d D 1.1 68/12/31 23:59:59 ann 1 0") ≡ Some (Delta (row_of 1 (of_four 1 1 0 0) (pos 3124223999) (codes "ann") 0 [] 0 0 0))
   serial_past : soh (codes "d D 1.1 68/12/31 23:59:59 ann 65536 0") ≡ None
   serial_zero : soh (codes "d D 1.1 68/12/31 23:59:59 ann 0 0") ≡ None
   six_digits : soh (codes "d D 1.1 68/12/31 23:59:59 ann 000001 0") ≡ None

@@ -38,7 +38,7 @@ same n m r s lines number is = ap (λ k. front_from k r lines) number ∙ ap (λ
 one_more : (n : ℕ) (length_of : ℕ) → suc n + length_of ≡ n + suc length_of
 one_more n k = omega arith
 
-push_more : {A : Type 0} (before : List A) (x : A) (xs : List A) → (before ++ x ∷ []) ++ xs ≡ before ++ x ∷ xs
+pub push_more : {A : Type 0} (before : List A) (x : A) (xs : List A) → (before ++ x ∷ []) ++ xs ≡ before ++ x ∷ xs
 push_more before x xs = append_assoc before (x ∷ []) xs
 
 -- ---- users and description

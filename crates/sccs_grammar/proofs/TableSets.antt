@@ -1,8 +1,6 @@
 -- What a table keeps of its SIDs.
-use Rattle.std.proofs.Common.{◌≡◌, ℕ, ◌+◌, ◌*◌, ◌<◌, ◌≤◌, ◌==◌, Bool, true, false, not, cond, ◌&&◌, ◌||◌, List, [], ◌∷◌, ◌++◌, refl, sym, ap, ◌∙◌, arith, rules}
-use Rattle.std.specs.Ordering.{is_eq, nat_cmp, ordering_then}
-use Rattle.std.specs.declared.cmp.Ordering.{Ordering}
-use Rattle.std.specs.declared.cmp.Ordering.TheVariants.{Less, Equal, Greater}
+use Rattle.std.proofs.Common.{◌≡◌, ℕ, ◌+◌, ◌*◌, ◌<◌, ◌≤◌, ◌==◌, Bool, true, false, not, cond, ◌&&◌, ◌||◌, List, [], ◌∷◌, ◌++◌, refl, sym, ap, ◌∙◌, arith}
+use Rattle.std.specs.Ordering.{is_eq}
 use Rattle.std.specs.BTreeSet.{BTreeSet, Updates, contains}
 use Rattle.std.proofs.lemmas.Bool.{and_parts, eqb-true}
 use Rattle.std.proofs.lemmas.List.Folds.{list_any-append}
@@ -10,17 +8,12 @@ use Rattle.sccs_sid.specs.declared.sids.Sid.{Sid}
 use Rattle.sccs_history.specs.History.{lives, same_sid}
 use Rattle.sccs_history.specs.declared.headers.Record.{Record}
 use Rattle.sccs_grammar.specs.SidKeys.{sid_key, sid_number}
-use Rattle.sccs_grammar.specs.HeldTable.{HasSids, AreFrom, four_cmp}
+use Rattle.sccs_grammar.specs.HeldTable.{HasSids, AreFrom}
+use Rattle.sccs_sid.proofs.FourNumbers.{four_same}
+use Rattle.sccs_sid.specs.FourNumbers.{four_cmp}
+use Rattle.sccs_base.proofs.Bools.{and_assoc, or_none}
 
 -- ---- one record more
-
-or_none : (a : Bool) → (a || false) ≡ a
-or_none true = refl
-or_none false = refl
-
-or_assoc : (a b c : Bool) → (a || (b || c)) ≡ ((a || b) || c)
-or_assoc true b c = refl
-or_assoc false b c = refl
 
 or_swap : (a b : Bool) → (a || b) ≡ (b || a)
 or_swap true true = refl
@@ -39,32 +32,13 @@ lives_more rs r sid =
 
 -- ---- equal keys
 
-nat_same : (a b : ℕ) → is_eq (nat_cmp a b) ≡ (a == b)
-nat_same a b = search rules
-
-then_same : (o p : Ordering) → is_eq (ordering_then o p) ≡ (is_eq o && is_eq p)
-then_same Less p = refl
-then_same Equal p = refl
-then_same Greater p = refl
-
-and_assoc : (a b c : Bool) → ((a && b) && c) ≡ (a && (b && c))
-and_assoc true b c = refl
-and_assoc false b c = refl
-
-sid_same : (a b : Sid) → is_eq (four_cmp (sid_key a) (sid_key b)) ≡ same_sid a b
+pub sid_same : (a b : Sid) → is_eq (four_cmp (sid_key a) (sid_key b)) ≡ same_sid a b
 sid_same a b =
     let r : Bool = a.release == b.release in
     let l : Bool = a.level == b.level in
     let n : Bool = a.branch == b.branch in
     let s : Bool = a.sequence == b.sequence in
-    then_same (ordering_then (ordering_then (nat_cmp a.release b.release) (nat_cmp a.level b.level)) (nat_cmp a.branch b.branch)) (nat_cmp a.sequence b.sequence)
-    ∙ (ap (λ x. x && is_eq (nat_cmp a.sequence b.sequence)) (then_same (ordering_then (nat_cmp a.release b.release) (nat_cmp a.level b.level)) (nat_cmp a.branch b.branch)
-    ∙ ap (λ x. x && is_eq (nat_cmp a.branch b.branch)) (then_same (nat_cmp a.release b.release) (nat_cmp a.level b.level)))
-    ∙ (ap (λ x. ((x && is_eq (nat_cmp a.level b.level)) && is_eq (nat_cmp a.branch b.branch)) && is_eq (nat_cmp a.sequence b.sequence)) (nat_same a.release b.release)
-    ∙ (ap (λ x. ((r && x) && is_eq (nat_cmp a.branch b.branch)) && is_eq (nat_cmp a.sequence b.sequence)) (nat_same a.level b.level)
-    ∙ (ap (λ x. ((r && l) && x) && is_eq (nat_cmp a.sequence b.sequence)) (nat_same a.branch b.branch)
-    ∙ (ap (λ x. ((r && l) && n) && x) (nat_same a.sequence b.sequence)
-    ∙ (and_assoc (r && l) n s ∙ and_assoc r l (n && s)))))))
+    four_same (sid_key a) (sid_key b) ∙ (and_assoc (r && l) n s ∙ and_assoc r l (n && s))
 
 -- ---- one key more
 

@@ -1,5 +1,5 @@
 -- What reading a whole s-file answers that passes over its stored sum: POSIX, Shell and Utilities, admin, -z.
-use Rattle.std.specs.Prelude.{ℕ, List, [], Result, Ok, Err}
+use Rattle.std.specs.Prelude.{ℕ, List, [], Result}
 use Rattle.sccs_base.specs.Cut.{cut}
 use Rattle.sccs_sid.specs.Reading.{◌>>=◌}
 use Rattle.sccs_history.specs.Applied.{live_serials}

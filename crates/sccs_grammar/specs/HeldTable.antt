@@ -1,8 +1,6 @@
 -- How a table is held.
 use Rattle.std.specs.Prelude.{◌≡◌, ℕ, ◌≤◌, List}
 use Rattle.std.specs.List.{AllByRecursion}
-use Rattle.std.specs.Ordering.{nat_cmp, ordering_then}
-use Rattle.std.specs.declared.cmp.Ordering.{Ordering}
 use Rattle.std.specs.BTreeSet.{BTreeSet, contains}
 use Rattle.sccs_sid.specs.declared.sids.Sid.{Sid}
 use Rattle.sccs_history.specs.History.{lives}
@@ -12,13 +10,10 @@ use Rattle.sccs_grammar.specs.SidKeys.{sid_key, sid_number}
 use Rattle.sccs_grammar.specs.declared.live_sids.LiveSids.{LiveSids}
 use Rattle.sccs_grammar.specs.declared.live_sids.LiveSids.TheVariants.{Falling, Listed}
 use Rattle.sccs_grammar.specs.declared.tables.Table.TheInside.{Inside}
+use Rattle.sccs_sid.specs.FourNumbers.{four_cmp}
 
 abbrev pub entries : Inside → Entries
 entries t = record { records = t.records; lines = t.lines }
-
--- the order of four numbers
-abbrev pub four_cmp : ℕ × ℕ × ℕ × ℕ → ℕ × ℕ × ℕ × ℕ → Ordering
-four_cmp x y = ordering_then (ordering_then (ordering_then (nat_cmp x.0 y.0) (nat_cmp x.1 y.1)) (nat_cmp x.2 y.2)) (nat_cmp x.3 y.3)
 
 -- the set has the SIDs of the live records
 abbrev pub HasSids : BTreeSet (ℕ × ℕ × ℕ × ℕ) → List Record → Type 0

@@ -1,5 +1,5 @@
 -- Each place of a body can be followed to a whole one.
-use Rattle.std.proofs.Common.{◌≡◌, ℕ, zero, suc, ◌+◌, ◌<◌, max, ◌==◌, Bool, true, false, not, cond, ◌&&◌, ◌||◌, List, [], ◌∷◌, ◌++◌, length, map, Option, None, Some, Result, Ok, Err, refl, sym, ap, subst, ◌∙◌, arith, rules, eqb-true}
+use Rattle.std.proofs.Common.{◌≡◌, ℕ, zero, suc, ◌+◌, ◌<◌, max, ◌==◌, Bool, true, false, not, cond, ◌&&◌, ◌||◌, List, [], ◌∷◌, ◌++◌, length, map, Option, None, Some, Result, Ok, Err, refl, sym, ap, subst, ◌∙◌, arith, eqb-true}
 use Rattle.std.specs.List.{AllByRecursion}
 use Rattle.std.specs.Prelude.{if◌then◌else◌}
 use Rattle.sccs_sid.specs.Reading.{◌>>=◌}
@@ -13,6 +13,8 @@ use Rattle.sccs_tokens.specs.Items.{go_on, item_at, items_from}
 use Rattle.sccs_tokens.specs.Written.{IsItem, IsSerial, item_line}
 use Rattle.sccs_tokens.proofs.BodyLaws.{items_again, line_may}
 use Rattle.sccs_grammar_laws.specs.ViablePrefixes.{AreSerials, BodyCompletion, Reached, ends}
+use Rattle.std.proofs.lemmas.Bool.{not-true, and_from, or_right}
+use Rattle.sccs_base.proofs.Bools.{same_test, equal_self}
 
 -- ---- what is open
 
@@ -32,15 +34,10 @@ open_below (Insert m ∷ before) n opened = open_here (m == n) ByInsert (mark n 
 open_below (Delete m ∷ before) n opened = open_here (m == n) ByDelete (mark n before) m n (above before) refl (open_below before n) opened
 open_below (End m ∷ before) n opened = open_here (m == n) Closed (mark n before) m n (above before) refl (open_below before n) opened
 
-both_false : (a b : Bool) → (a ≡ true → b ≡ true) → (b ≡ true → a ≡ true) → a ≡ b
-both_false true b forth back = sym (forth refl)
-both_false false true forth back = back refl
-both_false false false forth back = refl
-
 -- a serial is open exactly where it is among the open serials
 open_has : (before : List Item) (n : ℕ) → is_open before n ≡ has (open_serials before) n
 open_has before n =
-    both_false (is_open before n) (has (open_serials before) n)
+    same_test (is_open before n) (has (open_serials before) n)
     (λ opened. has-falling (above before) (is_open before) n (open_below before n opened) opened)
     (λ there. (falling_has (above before) (is_open before) n there).1)
 
@@ -54,28 +51,16 @@ self_has : (same : Bool) (rest : Bool) → same ≡ true → (same || rest) ≡ 
 self_has true rest is = refl
 self_has false rest is = cc
 
-same_number : (n : ℕ) → (n == n) ≡ true
-same_number n = search rules
-
-later_has : (same there : Bool) → there ≡ true → (same || there) ≡ true
-later_has true there is = refl
-later_has false there is = is
-
 ended_has : (n m : ℕ) (ns : List ℕ) (there : Mark) (same : Bool) → (n == m) ≡ same → Falls n ns → not (is_closed there) ≡ (same || has ns m) → not (is_closed (cond same Closed there)) ≡ has ns m
 ended_has n m ns there true is falls opened = let one : n ≡ m = eqb-true n m is in sym (has-falls ns n m falls (omega (arith, one)))
 ended_has n m ns there false is falls opened = opened
 
-both_hold : (a b : Bool) → a ≡ true → b ≡ true → (a && b) ≡ true
-both_hold true true p q = refl
-both_hold true false p q = cc
-both_hold false b p q = cc
-
 ends_go : (live : List ℕ) (before : List Item) (b : ℕ) (ns : List ℕ) → Falls b ns → ((n : ℕ) → has ns n ≡ true → has live n ≡ true) → ((n : ℕ) → is_open before n ≡ has ns n) → GoesOn live before (map End ns)
 ends_go live before b [] falls lives opens = ap is_empty (none_pass (above before) (is_open before) opens)
 ends_go live before b (n ∷ ns) falls lives opens =
-    let here : has (n ∷ ns) n ≡ true = self_has (n == n) (has ns n) (same_number n) in (
-      both_hold (has live n) (is_open before n) (lives n here) (opens n ∙ here),
-      ends_go live (End n ∷ before) n ns falls.1 (λ m there. lives m (later_has (n == m) (has ns m) there))
+    let here : has (n ∷ ns) n ≡ true = self_has (n == n) (has ns n) (equal_self n) in (
+      and_from (has live n) (is_open before n) (lives n here) (opens n ∙ here),
+      ends_go live (End n ∷ before) n ns falls.1 (λ m there. lives m (or_right (n == m) (has ns m) there))
           (λ m. ended_has n m ns (mark m before) (n == m) refl falls.1 (opens m)),
     )
 
@@ -86,14 +71,10 @@ reached_live : (live : List ℕ) (before : List Item) → Reached live before �
 reached_live live [] reached = none_open live
 reached_live live (item ∷ before) reached = opens_live live before item (reached_live live before reached.1) reached.0
 
-opened_not : (b : Bool) → not b ≡ true → b ≡ false
-opened_not true is = cc
-opened_not false is = refl
-
 pub ends_whole : (live : List ℕ) (before : List Item) → Reached live before → GoesOn live before (ends before)
 ends_whole live before reached =
     ends_go live before (above before) (open_serials before) (Falls-falling (above before) (is_open before))
-    (λ n there. reached_live live before reached n (opened_not (is_closed (mark n before)) (open_has before n ∙ there))) (open_has before)
+    (λ n there. reached_live live before reached n (not-true (is_closed (mark n before)) (open_has before n ∙ there))) (open_has before)
 
 -- ---- the lines that do so
 
@@ -107,12 +88,12 @@ serial_of (m ∷ live) n are is = chosen IsSerial (m == n) (has live n) m n refl
 
 ends_items : (ns : List ℕ) → ((n : ℕ) → has ns n ≡ true → IsSerial n) → AllByRecursion IsItem (map End ns)
 ends_items [] are = tt
-ends_items (n ∷ ns) are = (are n (self_has (n == n) (has ns n) (same_number n)), ends_items ns (λ m there. are m (later_has (n == m) (has ns m) there)))
+ends_items (n ∷ ns) are = (are n (self_has (n == n) (has ns n) (equal_self n)), ends_items ns (λ m there. are m (or_right (n == m) (has ns m) there)))
 
 ends_read : (live : List ℕ) (n : ℕ) (before : List Item) → AreSerials live → Reached live before → items_from live n before (map item_line (ends before)) [] ≡ Ok (ends before)
 ends_read live n before are reached =
     items_again live n before (ends before)
-    (ends_items (open_serials before) (λ m there. serial_of live m are (reached_live live before reached m (opened_not (is_closed (mark m before)) (open_has before m ∙ there)))))
+    (ends_items (open_serials before) (λ m there. serial_of live m are (reached_live live before reached m (not-true (is_closed (mark m before)) (open_has before m ∙ there)))))
     (ends_whole live before reached)
 
 -- ---- the lines before a fault

@@ -21,10 +21,11 @@ use Rattle.sccs_tokens.specs.declared.line_tokens.LineToken.TheVariants.{EndEntr
 use Rattle.sccs_tokens.specs.declared.line_tokens.ListKind.{ListKind}
 use Rattle.sccs_tokens.specs.declared.line_tokens.ListKind.TheVariants.{Included, Excluded, Ignored}
 use Rattle.sccs_grammar.proofs.EntryLaws.{AreOwn, all_own, each_differs, follows_by, least-push, none_lost, own_push, share-nil, share_flip, smaller_below}
-use Rattle.sccs_grammar.proofs.SectionLaws.{AreNew, all_new, still_new}
+use Rattle.sccs_grammar.proofs.SectionLaws.{AreNew, all_new, still_new, push_more}
 use Rattle.sccs_grammar_laws.specs.HeaderLines.{AreHeaderLines, BeginWithHeader, EntryText, MrText, CommentText, EntryLines, IsEntry, serials_listed, same_list, mrs_in, comments_in, list_says, text_says, entry_says, users_say, description_says, header_says}
-use Rattle.sccs_grammar_laws.proofs.MoreRead.{more, no_texts, push_more, regroup, text_row}
+use Rattle.sccs_grammar_laws.proofs.MoreRead.{more, no_texts, regroup, text_row}
 use Rattle.sccs_grammar_laws.proofs.TokenLists.{completes, run}
+use Rattle.sccs_base.proofs.Bools.{or_none}
 
 at_other : (n : ℕ) (r s : HeaderParser) (ss : List LineToken) → r ≡ s → run n r ss ≡ run n s ss
 at_other n r s ss same = ap (λ (x : HeaderParser). run n x ss) same
@@ -161,10 +162,6 @@ none_done (w ∷ ws) = (refl, none_done ws)
 list_kept : (test : Bool) (ns : List ℕ) → (test ≡ false → ns ≡ []) → cond test ns [] ≡ ns
 list_kept true ns empty = refl
 list_kept false ns empty = sym (empty refl)
-
-or_none : (b : Bool) → (b || false) ≡ b
-or_none true = refl
-or_none false = refl
 
 abbrev rowed : Record → List ℕ → List ℕ → List ℕ → List (List ℕ) → List (List ℕ) → Record
 rowed r include exclude ignore mrs comments = record r { include = include; exclude = exclude; ignore = ignore; mrs = mrs; comments = comments }

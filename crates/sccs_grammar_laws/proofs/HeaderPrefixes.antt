@@ -4,7 +4,7 @@ use Rattle.sccs_history.specs.Numbers.{is_empty}
 use Rattle.sccs_tokens.specs.Tokens.{token}
 use Rattle.sccs_tokens.specs.Written.{end_line, mark}
 use Rattle.sccs_grammar.specs.Entries.{with_entry}
-use Rattle.sccs_grammar.specs.Front.{after, front_from, header_of, accepted, is_whole, line_after, parser_at, ends_table, if_fits}
+use Rattle.sccs_grammar.specs.Front.{after, front_from, header_of, is_whole, line_after, parser_at, ends_table, if_fits}
 use Rattle.sccs_grammar.specs.declared.header_parsers.HeaderParser.{HeaderParser}
 use Rattle.sccs_grammar.specs.declared.header_parsers.PartialHeader.{PartialHeader}
 use Rattle.sccs_grammar.specs.declared.header_parsers.HeaderState.{HeaderState}
@@ -15,12 +15,9 @@ use Rattle.sccs_tokens.specs.declared.line_tokens.LineToken.TheVariants.{EndEntr
 use Rattle.sccs_grammar.proofs.SectionLaws.{token_end_entry}
 use Rattle.sccs_grammar.proofs.HeaderLaws.{token_users, token_end_users, token_description, token_end_description}
 use Rattle.sccs_grammar_laws.specs.ViablePrefixes.{IsViable, HeaderCompletion, KeepsAll}
+use Rattle.sccs_grammar_laws.proofs.TokenLists.{tokenizing}
 
 -- ---- one line
-
-tokenizing : (n : ℕ) (r : HeaderParser) (line : List ℕ) (s : LineToken) → token line ≡ Some s → line_after n r line ≡ after n r.parts r.state s
-unfolding line_after
-tokenizing n r line s is = ap (accepted n r) is
 
 read_on : (n : ℕ) (r next : HeaderParser) (line : List ℕ) (lines : List (List ℕ)) → line_after n r line ≡ Ok next → is_whole next.state ≡ false → front_from n r (line ∷ lines) ≡ front_from (suc n) next lines
 unfolding front_from

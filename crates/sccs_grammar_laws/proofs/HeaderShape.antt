@@ -11,7 +11,7 @@ use Rattle.sccs_history.specs.declared.headers.Record.{Record}
 use Rattle.sccs_history.specs.declared.headers.Flag.{Flag}
 use Rattle.sccs_history.specs.declared.headers.Header.{Header}
 use Rattle.sccs_grammar.specs.Entries.{with_entry}
-use Rattle.sccs_grammar.specs.Front.{ParsedFront, after, all_below, at_delta, at_entry, ends_table, entry, flag_fits, front_from, header_of, if_fits, in_description, in_flags, in_lists, in_texts, in_users, is_whole, dangling_predecessor, may_follow, none_seen, parser_at, start, with_comment, with_exclude, with_ignore, with_include, with_list, with_mr}
+use Rattle.sccs_grammar.specs.Front.{ParsedFront, after, all_below, at_delta, at_entry, ends_table, entry, flag_fits, front_from, header_of, if_fits, in_description, in_flags, in_lists, in_texts, in_users, is_whole, dangling_predecessor, may_follow, none_seen, parser_at, start, with_comment, with_list, with_mr, put_list, seen_with}
 use Rattle.sccs_tokens.specs.Tokens.{token}
 use Rattle.sccs_tokens.specs.Written.{delta_part}
 use Rattle.sccs_grammar.specs.declared.header_parsers.Entry.{Entry}
@@ -25,8 +25,9 @@ use Rattle.sccs_tokens.specs.declared.line_tokens.LineToken.TheVariants.{Counts,
 use Rattle.sccs_tokens.specs.declared.line_tokens.ListKind.{ListKind}
 use Rattle.sccs_tokens.specs.declared.line_tokens.ListKind.TheVariants.{Included, Excluded, Ignored}
 use Rattle.sccs_grammar_laws.specs.HeaderLines.{BeginWithHeader, EntryText, MrText, CommentText, EntryLines, IsEntry, serials_listed, same_list, mrs_in, comments_in, list_says, text_says, entry_says, users_say, description_says, header_says}
-use Rattle.sccs_grammar_laws.proofs.MoreRead.{more, no_texts, push_more, regroup, text_row}
+use Rattle.sccs_grammar_laws.proofs.MoreRead.{more, no_texts, regroup, text_row}
 use Rattle.sccs_grammar_laws.proofs.TokenLists.{Found, found as found_sayings, run, same_first}
+use Rattle.sccs_grammar.proofs.SectionLaws.{push_more}
 
 -- ---- shapes of what follows, by place
 
@@ -249,18 +250,8 @@ no_lists parts e seen ss h shape = record {
   table = shape.table;
 }
 
-abbrev set_list : Entry → ListKind → List ℕ → Entry
-set_list e Included ns = with_include e ns
-set_list e Excluded ns = with_exclude e ns
-set_list e Ignored ns = with_ignore e ns
-
-abbrev seen_with : ListsSeen → ListKind → ListsSeen
-seen_with seen Included = record seen { included = true }
-seen_with seen Excluded = record seen { excluded = true }
-seen_with seen Ignored = record seen { ignored = true }
-
 list_read : (which : ListKind) (ns : List ℕ) (n : ℕ) (parts : PartialHeader) (e : Entry) (seen : ListsSeen) (q : HeaderParser) → with_list n parts e seen which ns ≡ Ok q
-    → (stood_has seen which ≡ false) × (q ≡ parser_at (InLists (set_list e which ns) (seen_with seen which)) parts)
+    → (stood_has seen which ≡ false) × (q ≡ parser_at (InLists (put_list e which ns) (seen_with seen which)) parts)
 list_read Included ns n parts e seen q is =
     let fits = fits_ok (not seen.included && all_below e.row.serial ns && not (share ns e.row.exclude)) n _ q is in
     let tests = and_parts (not seen.included && all_below e.row.serial ns) (not (share ns e.row.exclude)) fits.0 in
@@ -273,12 +264,12 @@ list_read Ignored ns n parts e seen q is =
     let fits = fits_ok (not seen.ignored && all_below e.row.serial ns) n _ q is in
     (not-true seen.ignored (and_parts (not seen.ignored) (all_below e.row.serial ns) fits.0).0, fits.1)
 
-set_same : (e : Entry) (which : ListKind) (ns : List ℕ) → serials_listed (set_list e which ns).row which ≡ ns
+set_same : (e : Entry) (which : ListKind) (ns : List ℕ) → serials_listed (put_list e which ns).row which ≡ ns
 set_same e Included ns = refl
 set_same e Excluded ns = refl
 set_same e Ignored ns = refl
 
-set_other : (e : Entry) (w which : ListKind) (ns : List ℕ) → same_list w which ≡ false → serials_listed (set_list e which ns).row w ≡ serials_listed e.row w
+set_other : (e : Entry) (w which : ListKind) (ns : List ℕ) → same_list w which ≡ false → serials_listed (put_list e which ns).row w ≡ serials_listed e.row w
 set_other e Included Included ns other = absurd cc
 set_other e Included Excluded ns other = refl
 set_other e Included Ignored ns other = refl
@@ -289,12 +280,12 @@ set_other e Ignored Included ns other = refl
 set_other e Ignored Excluded ns other = refl
 set_other e Ignored Ignored ns other = absurd cc
 
-set_line : (e : Entry) (which : ListKind) (ns : List ℕ) → (set_list e which ns).line ≡ e.line
+set_line : (e : Entry) (which : ListKind) (ns : List ℕ) → (put_list e which ns).line ≡ e.line
 set_line e Included ns = refl
 set_line e Excluded ns = refl
 set_line e Ignored ns = refl
 
-set_rest : (e : Entry) (which : ListKind) (ns : List ℕ) (texts : List EntryText) → without_lists (text_row (set_list e which ns).row texts) ≡ without_lists (text_row e.row texts)
+set_rest : (e : Entry) (which : ListKind) (ns : List ℕ) (texts : List EntryText) → without_lists (text_row (put_list e which ns).row texts) ≡ without_lists (text_row e.row texts)
 set_rest e Included ns texts = refl
 set_rest e Excluded ns texts = refl
 set_rest e Ignored ns texts = refl
@@ -343,7 +334,7 @@ list_line : (n : ℕ) (parts : PartialHeader) (e : Entry) (seen : ListsSeen) (wh
 unfolding IsDistinct
 list_line n parts e seen which ns q ss h is shape =
     let read = list_read which ns n parts e seen q is in
-    let later : ListsShape parts (set_list e which ns) (seen_with seen which) ss h = at_read q (parser_at (InLists (set_list e which ns) (seen_with seen which)) parts) ss h read.1 shape in
+    let later : ListsShape parts (put_list e which ns) (seen_with seen which) ss h = at_read q (parser_at (InLists (put_list e which ns) (seen_with seen which)) parts) ss h read.1 shape in
     let none : list_any (same_list which) later.lists ≡ false = later.free which (stands_now seen which) in
     let numbers : serials_listed later.row which ≡ ns = later.others which none ∙ set_same e which ns in
     record {

@@ -18,8 +18,5 @@ pub no_texts : (r : Record) → r ≡ text_row r []
 no_texts r =
     ap (λ (ms : List (List ℕ)). record r { mrs = ms }) (sym (append-nil r.mrs)) ∙ ap (λ (cs : List (List ℕ)). record r { mrs = r.mrs ++ []; comments = cs }) (sym (append-nil r.comments))
 
-pub push_more : {A : Type 0} (before : List A) (x : A) (xs : List A) → (before ++ x ∷ []) ++ xs ≡ before ++ x ∷ xs
-push_more before x xs = append_assoc before (x ∷ []) xs
-
 pub regroup : (a b c : List LineToken) (x : LineToken) → (a ++ (b ++ (x ∷ []))) ++ c ≡ a ++ (b ++ (x ∷ c))
 regroup a b c x = append_assoc a (b ++ (x ∷ [])) c ∙ ap (λ (os : List LineToken). a ++ os) (append_assoc b (x ∷ []) c)

@@ -36,7 +36,7 @@ last_line : (n : ℕ) (r q : HeaderParser) (line : List ℕ) (rest : List (List 
 unfolding front_from
 last_line n r q line rest is whole = rw (is, whole) refl
 
-tokenizing : (n : ℕ) (r : HeaderParser) (line : List ℕ) (s : LineToken) → token line ≡ Some s → line_after n r line ≡ after n r.parts r.state s
+pub tokenizing : (n : ℕ) (r : HeaderParser) (line : List ℕ) (s : LineToken) → token line ≡ Some s → line_after n r line ≡ after n r.parts r.state s
 unfolding line_after
 tokenizing n r line s is = ap (accepted n r) is
 

@@ -12,7 +12,6 @@ use Rattle.sccs_intents.specs.Intents.{intent_file, plan_file}
 use Rattle.sccs_intents.specs.declared.intents.Fate.{Fate}
 use Rattle.sccs_intents.specs.declared.intents.Fate.TheVariants.{Replaced, Removed}
 use Rattle.sccs_moments.specs.Recovery.{without_name}
-use Rattle.sccs_moments.proofs.FileNames.{both_false}
 use Rattle.sccs_store.specs.Commits.{Becomes}
 use Rattle.sccs_store.proofs.Working.{becomes_moves, made_moves, moves_wider}
 use Rattle.sccs_group.specs.Grouping.{file_of}
@@ -21,6 +20,7 @@ use Rattle.sccs_group.specs.Members.{g_gone, p_taken, placed, taken}
 use Rattle.sccs_group.specs.declared.members.Member.{Member}
 use Rattle.sccs_group.proofs.GroupFiles.{left_intent, left_plan}
 use Rattle.sccs_group.proofs.Parts.{still_moves}
+use Rattle.std.proofs.lemmas.Bool.{or_from}
 
 -- ---- one change of both views
 
@@ -77,16 +77,16 @@ first_alike w (suc whole) some (mem ∷ ms) u v spares same = first_alike w whol
 -- the files that a group leaves out are so
 no_x_lock : (ms : List Member) (n : List ℕ) → is_lock_of ms (x_file n) ≡ false
 no_x_lock [] n = refl
-no_x_lock (mem ∷ ms) n = both_false (bytes_eq (z_file mem.entry.name) (x_file n)) (is_lock_of ms (x_file n)) refl (no_x_lock ms n)
+no_x_lock (mem ∷ ms) n = or_from (bytes_eq (z_file mem.entry.name) (x_file n)) (is_lock_of ms (x_file n)) refl (no_x_lock ms n)
 
 no_q_lock : (ms : List Member) (n : List ℕ) → is_lock_of ms (q_file n) ≡ false
 no_q_lock [] n = refl
-no_q_lock (mem ∷ ms) n = both_false (bytes_eq (z_file mem.entry.name) (q_file n)) (is_lock_of ms (q_file n)) refl (no_q_lock ms n)
+no_q_lock (mem ∷ ms) n = or_from (bytes_eq (z_file mem.entry.name) (q_file n)) (is_lock_of ms (q_file n)) refl (no_q_lock ms n)
 
 pub left_spares : (ms : List Member) → Spares (is_left_of_group ms)
 left_spares ms n = (
-  both_false (bytes_eq plan_file (x_file n)) (bytes_eq intent_file (x_file n) || is_lock_of ms (x_file n)) refl (both_false (bytes_eq intent_file (x_file n)) (is_lock_of ms (x_file n)) refl (no_x_lock ms n)),
-  both_false (bytes_eq plan_file (q_file n)) (bytes_eq intent_file (q_file n) || is_lock_of ms (q_file n)) refl (both_false (bytes_eq intent_file (q_file n)) (is_lock_of ms (q_file n)) refl (no_q_lock ms n)),
+  or_from (bytes_eq plan_file (x_file n)) (bytes_eq intent_file (x_file n) || is_lock_of ms (x_file n)) refl (or_from (bytes_eq intent_file (x_file n)) (is_lock_of ms (x_file n)) refl (no_x_lock ms n)),
+  or_from (bytes_eq plan_file (q_file n)) (bytes_eq intent_file (q_file n) || is_lock_of ms (q_file n)) refl (or_from (bytes_eq intent_file (q_file n)) (is_lock_of ms (q_file n)) refl (no_q_lock ms n)),
 )
 
 -- ---- where the disk failed

@@ -1,10 +1,10 @@
 -- The plan becomes the intent, and the group is completed.
-use Rattle.std.proofs.Common.{◌≡◌, ℕ, true, false, List, [], ◌∷◌, ◌++◌, take, Option, None, Some, is_some, inl, inr, refl, sym, ap, subst, ◌∙◌, ⊎_elim, arith}
+use Rattle.std.proofs.Common.{◌≡◌, ℕ, true, false, List, [], ◌∷◌, ◌++◌, Option, None, Some, is_some, inl, inr, refl, sym, ap, subst, ◌∙◌, ⊎_elim, arith}
 use Rattle.std.specs.Prelude.{IsSome}
 use Rattle.std.specs.List.{AllByRecursion}
 use Rattle.std.specs.Str.{bytes_eq}
 use Rattle.sccs_base.specs.Name.{IsSfile, p_file, q_file, x_file, z_file}
-use Rattle.sccs_base.proofs.SameBytes.{other_bytes, same_bytes}
+use Rattle.sccs_base.proofs.SameBytes.{same_bytes}
 use Rattle.sccs_disk.specs.Calls.{Done, Half}
 use Rattle.sccs_disk.specs.Effects.{pended, renamed, renaming}
 use Rattle.sccs_disk.specs.Files.{Content, Model, Rename, View, view_of}
@@ -25,7 +25,7 @@ use Rattle.sccs_moments.specs.Calm.{HasFirm, IsCalm}
 use Rattle.sccs_moments.specs.Moments.{Guards, IsFrom, Went}
 use Rattle.sccs_moments.specs.Recovery.{IsSettledPair, RecoversAs, fate_at, fated, newer, pair_of, recover}
 use Rattle.sccs_moments.proofs.CalmDisks.{full_there, looks_firm}
-use Rattle.sccs_moments.proofs.Joined.{numbered_zero, raised, went_then}
+use Rattle.sccs_moments.proofs.Joined.{numbered_zero, raised, went_then, each_then, each_by}
 use Rattle.sccs_moments.proofs.Recovering.{SameLooks, fate_same, looks_recover, pair, pair_same, recovered_is, recovered_under, recovers_itself, recovers_then, newer_same}
 use Rattle.sccs_moments.proofs.Untouched.{none_named}
 use Rattle.sccs_store.specs.Commits.{Becomes}
@@ -35,33 +35,12 @@ use Rattle.sccs_group.specs.Grouping.{AnnounceEnds, AnnounceStops, CanAnnounce, 
 use Rattle.sccs_group.specs.Members.{HasGroup, IsPlainG, IsWritten, completed, entries_of}
 use Rattle.sccs_group.specs.declared.members.Member.{Member}
 use Rattle.sccs_group.proofs.Calling.{held_alike, none_left, view_renamed}
-use Rattle.sccs_group.proofs.Runs.{each_by, each_then}
 use Rattle.sccs_group.proofs.Closing.{fate_head, fate_tail, no_fate, same_fate}
 use Rattle.sccs_group.proofs.Harmless.{fated_same, renamed_other, renamed_to}
 use Rattle.sccs_moments.proofs.Full.{full_renamed}
+use Rattle.sccs_moments.proofs.FileNames.{plan_and_sfile, intent_and_sfile}
 
 -- ---- names
-
-abbrev second : List ℕ → ℕ
-second [] = 0
-second (a ∷ []) = 0
-second (a ∷ b ∷ rest) = b
-
-second_of_two : (n : List ℕ) → second (take 2 n) ≡ second n
-second_of_two [] = refl
-second_of_two (a ∷ []) = refl
-second_of_two (a ∷ b ∷ rest) = refl
-
--- the plan is no s-file
-pub plan_and_sfile : (n : List ℕ) → IsSfile n → bytes_eq plan_file n ≡ false
-plan_and_sfile n sfile = other_bytes plan_file n (λ e.
-    let dot : second n ≡ 46 = sym (second_of_two n) ∙ ap second sfile.front in
-    let c : 99 ≡ second n = ap second e in omega (arith, dot, c))
-
-intent_and_s : (n : List ℕ) → IsSfile n → bytes_eq intent_file n ≡ false
-intent_and_s n sfile = other_bytes intent_file n (λ e.
-    let dot : second n ≡ 46 = sym (second_of_two n) ∙ ap second sfile.front in
-    let c : 99 ≡ second n = ap second e in omega (arith, dot, c))
 
 -- ---- the view with the intent
 
@@ -69,7 +48,7 @@ abbrev named : View → View
 named v = renamed plan_file intent_file v
 
 pub other_s : (v : View) (n : List ℕ) → IsSfile n → renamed plan_file intent_file v n ≡ v n
-other_s v n sfile = renamed_other plan_file intent_file v n (plan_and_sfile n sfile) (intent_and_s n sfile)
+other_s v n sfile = renamed_other plan_file intent_file v n (plan_and_sfile n sfile) (intent_and_sfile n sfile)
 
 pub other_file : (v : View) (l : List ℕ) → bytes_eq plan_file l ≡ false → bytes_eq intent_file l ≡ false → renamed plan_file intent_file v l ≡ v l
 other_file v l a b = renamed_other plan_file intent_file v l a b

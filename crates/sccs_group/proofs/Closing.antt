@@ -16,7 +16,7 @@ use Rattle.sccs_intents.specs.declared.intents.Fate.{Fate}
 use Rattle.sccs_intents.specs.declared.intents.Fate.TheVariants.{Replaced, Removed}
 use Rattle.sccs_intents.proofs.Others.{differ}
 use Rattle.sccs_moments.specs.Recovery.{IsSettledPair, IsSound, fate_at, pair_of, without_name}
-use Rattle.sccs_moments.proofs.FileNames.{from_sfile, intent_and_sfile, kept_p, kept_q, kept_s, kept_x, kept_z, left_false, right_false, siblings_differ, to_sfile}
+use Rattle.sccs_moments.proofs.FileNames.{from_sfile, intent_and_sfile, kept_p, kept_q, kept_s, kept_x, kept_z, siblings_differ, to_sfile}
 use Rattle.sccs_moments.proofs.Recovering.{pair_same}
 use Rattle.sccs_store.specs.Commits.{Becomes}
 use Rattle.sccs_group.specs.Finishing.{Always, AreUnlocked, CanClose, CompletesBy, FinishesBy, IsSettled, IsTaken, MayCall, TakenBy}
@@ -26,6 +26,7 @@ use Rattle.sccs_group.proofs.Calling.{intent_story, sync_completes, sync_story, 
 use Rattle.sccs_group.proofs.Harmless.{Same, renamed_from}
 use Rattle.sccs_group.proofs.Placing.{placed_intent, taken_other}
 use Rattle.sccs_group.proofs.Runs.{by_can, by_then, by_weaker, completes_by, completes_can}
+use Rattle.sccs_base.proofs.Bools.{right_false, left_false}
 
 -- ---- what the intent says of its members
 
@@ -56,7 +57,7 @@ group_named ms v are has = named_by v (entries_of ms) ms has.entries (all_fates 
 
 -- ---- what placing a member leaves
 
-p_other : (fate : Fate) (n : List ℕ) (v : View) (l : List ℕ) → bytes_eq (q_file n) l ≡ false → bytes_eq (p_file n) l ≡ false → p_taken fate n v l ≡ v l
+pub p_other : (fate : Fate) (n : List ℕ) (v : View) (l : List ℕ) → bytes_eq (q_file n) l ≡ false → bytes_eq (p_file n) l ≡ false → p_taken fate n v l ≡ v l
 p_other Replaced n v l q p = taken_other (q_file n) (p_file n) v l q p
 p_other Removed n v l q p = put_other v (p_file n) l None p
 
@@ -168,7 +169,7 @@ all_unlocked (mem ∷ ms) v are settled taken named =
 
 -- ---- the calls of closing
 
-intent_call : (k : List ℕ) (a b : Told) → k ≡ intent_file → MayCall (Remove k) k a b → MayCall (Remove intent_file) intent_file a b
+pub intent_call : (k : List ℕ) (a b : Told) → k ≡ intent_file → MayCall (Remove k) k a b → MayCall (Remove intent_file) intent_file a b
 intent_call k a b is call = subst (λ (l : List ℕ). MayCall (Remove l) l a b) is call
 
 intent_becomes : (k : List ℕ) (a b : Told) → k ≡ intent_file → Becomes (without_name k) (seen a) (seen b) → Becomes (without_name intent_file) (seen a) (seen b)

@@ -21,7 +21,7 @@ use Rattle.sccs_moments.specs.Calm.{IsCalm}
 use Rattle.sccs_moments.specs.Moments.{IsFrom, Went}
 use Rattle.sccs_moments.specs.Recovery.{IsSettledPair, RecoversAs, without_name}
 use Rattle.sccs_moments.proofs.CalmDisks.{firms_touched}
-use Rattle.sccs_moments.proofs.Joined.{numbered_as, numbered_zero, went_then}
+use Rattle.sccs_moments.proofs.Joined.{numbered_as, numbered_zero, went_then, each_then, each_by}
 use Rattle.sccs_moments.proofs.Recovering.{fate_same, newer_same, pair_same, same_recovers}
 use Rattle.sccs_moments.proofs.Untouched.{guards_touched, view_touched}
 use Rattle.sccs_store.specs.Commits.{Becomes}
@@ -30,9 +30,10 @@ use Rattle.sccs_group.specs.Finishing.{CanFinish, IsHeld}
 use Rattle.sccs_group.specs.Grouping.{AnnounceEnds, AnnounceStops, CanAnnounce, CanGroup, CanPlace, CanPlaceAll, GroupEnds, GroupStops, IsGrouped, OnReplaced, StayHeld, announced, file_of, new_pair_of, planned}
 use Rattle.sccs_group.specs.Members.{AreMembers, completed, entries_of}
 use Rattle.sccs_group.specs.declared.members.Member.{Member}
-use Rattle.sccs_group.proofs.Announcing.{can_begin, plan_and_sfile}
+use Rattle.sccs_group.proofs.Announcing.{can_begin}
 use Rattle.sccs_group.proofs.Harmless.{fated_same}
-use Rattle.sccs_group.proofs.Runs.{each_by, each_then, from_image, view_is}
+use Rattle.sccs_group.proofs.Runs.{from_image, view_is}
+use Rattle.sccs_moments.proofs.FileNames.{plan_and_sfile}
 
 -- the plan alone
 abbrev pub is_plan : List ℕ → Bool

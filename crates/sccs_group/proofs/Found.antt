@@ -157,7 +157,7 @@ pub sync_either : (a b : Told) (f f2 : ℕ) (r : Result (Unit {0}) Failed) → C
 sync_either a b f f2 (Ok x) call = sync_story Always a b (inr call.done)
 sync_either a b f f2 (Err e) call = sync_story Always a b (inl call.half)
 
-plan_call : (k : List ℕ) (a b : Told) → k ≡ plan_file → MayCall (Remove k) k a b → MayCall (Remove plan_file) plan_file a b
+pub plan_call : (k : List ℕ) (a b : Told) → k ≡ plan_file → MayCall (Remove k) k a b → MayCall (Remove plan_file) plan_file a b
 plan_call k a b is call = subst (λ (l : List ℕ). MayCall (Remove l) l a b) is call
 
 pub plan_view : (k : List ℕ) (a b : Told) → k ≡ plan_file → Becomes (without_name k) (seen a) (seen b) → Becomes (without_name plan_file) (seen a) (seen b)

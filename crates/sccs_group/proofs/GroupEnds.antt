@@ -1,5 +1,5 @@
 -- How the commit of a group ends, and how finishing one does.
-use Rattle.std.proofs.Common.{◌≡◌, ◌≢◌, ℕ, Bool, List, Option, is_some, IfOk, IfSome, IsErrOf, OnErr, OnOk, Result, Ok, Err, refl, subst}
+use Rattle.std.proofs.Common.{◌≡◌, ◌≢◌, ℕ, Bool, List, is_some, IfOk, IfSome, IsErrOf, OnErr, OnOk, Result, Ok, Err, refl, subst}
 use Rattle.std.specs.Str.{bytes_eq}
 use Rattle.sccs_disk.specs.Causes.{DiskCauses}
 use Rattle.sccs_disk.specs.Files.{View}

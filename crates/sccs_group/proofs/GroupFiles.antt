@@ -11,11 +11,14 @@ use Rattle.sccs_files.specs.StepFiles.{is_left, is_working}
 use Rattle.sccs_images.specs.Touches.{TouchesOnly}
 use Rattle.sccs_intents.specs.Intents.{intent_file, plan_file}
 use Rattle.sccs_moments.specs.Unlocked.{KeepsOthers, LeavesOthers}
-use Rattle.sccs_moments.proofs.FileNames.{both_false, left_false, no_q, no_working, no_x, no_y, no_z, right_false}
+use Rattle.sccs_moments.proofs.FileNames.{no_q, no_working, no_x, no_y, no_z}
 use Rattle.sccs_moments.proofs.Unlocked.{is_either, leaves_same, others_done, others_half, others_removed, others_renamed, others_same, others_settled, others_then, others_touched, others_wider}
 use Rattle.sccs_group.specs.Finishing.{MayCall}
 use Rattle.sccs_group.specs.Halfway.{is_left_of_group, is_lock_of, is_own_but_g, is_own_of, is_own_of_group, is_own_of_member}
 use Rattle.sccs_group.specs.declared.members.Member.{Member}
+use Rattle.std.proofs.lemmas.Bool.{or_from}
+use Rattle.sccs_base.proofs.Bools.{right_false, left_false}
+use Rattle.sccs_group.proofs.Closing.{intent_call}
 
 -- ---- one call
 
@@ -44,10 +47,10 @@ not_working : (n k : List ℕ) → is_own_but_g n k ≡ false → is_working n k
 not_working n k h = no_working n k (not_left_behind n k h)
 
 s_others : (n : List ℕ) (a b : Told) → MayCall (Rename (x_file n) n) (x_file n) a b → KeepsOthers (is_own_but_g n) a b
-s_others n a b call = rename_others (x_file n) n (is_own_but_g n) a b (λ k h. both_false (bytes_eq (x_file n) k) (bytes_eq n k) (no_x n k (not_working n k h)) (not_s n k h)) call
+s_others n a b call = rename_others (x_file n) n (is_own_but_g n) a b (λ k h. or_from (bytes_eq (x_file n) k) (bytes_eq n k) (no_x n k (not_working n k h)) (not_s n k h)) call
 
 pub q_others : (n : List ℕ) (a b : Told) → MayCall (Rename (q_file n) (p_file n)) (q_file n) a b → KeepsOthers (is_own_but_g n) a b
-q_others n a b call = rename_others (q_file n) (p_file n) (is_own_but_g n) a b (λ k h. both_false (bytes_eq (q_file n) k) (bytes_eq (p_file n) k) (no_q n k (not_working n k h)) (not_p n k h)) call
+q_others n a b call = rename_others (q_file n) (p_file n) (is_own_but_g n) a b (λ k h. or_from (bytes_eq (q_file n) k) (bytes_eq (p_file n) k) (no_q n k (not_working n k h)) (not_p n k h)) call
 
 pub p_others : (n : List ℕ) (a b : Told) → MayCall (Remove (p_file n)) (p_file n) a b → KeepsOthers (is_own_but_g n) a b
 p_others n a b call = remove_others (p_file n) (is_own_but_g n) a b (not_p n) call
@@ -141,17 +144,14 @@ left_lock ms k h = right_false (bytes_eq intent_file k) (is_lock_of ms k) (right
 not_locks : (ms : List Member) (k : List ℕ) → is_own_of ms k ≡ false → is_lock_of ms k ≡ false
 not_locks [] k h = refl
 not_locks (mem ∷ ms) k h =
-    both_false (bytes_eq (z_file mem.entry.name) k) (is_lock_of ms k) (no_z mem.entry.name k (not_left_behind mem.entry.name k (but_g mem k (left_false (is_own_of_member mem k) (is_own_of ms k) h))))
+    or_from (bytes_eq (z_file mem.entry.name) k) (is_lock_of ms k) (no_z mem.entry.name k (not_left_behind mem.entry.name k (but_g mem k (left_false (is_own_of_member mem k) (is_own_of ms k) h))))
     (not_locks ms k (right_false (is_own_of_member mem k) (is_own_of ms k) h))
 
 not_left : (ms : List Member) (k : List ℕ) → is_own_of_group ms k ≡ false → is_left_of_group ms k ≡ false
 not_left ms k h =
-    both_false (bytes_eq plan_file k) (bytes_eq intent_file k || is_lock_of ms k) (no_plan ms k h) (both_false (bytes_eq intent_file k) (is_lock_of ms k) (no_intent ms k h) (not_locks ms k (no_own ms k h)))
+    or_from (bytes_eq plan_file k) (bytes_eq intent_file k || is_lock_of ms k) (no_plan ms k h) (or_from (bytes_eq intent_file k) (is_lock_of ms k) (no_intent ms k h) (not_locks ms k (no_own ms k h)))
 
 -- ---- the intent is removed, and each z-file
-
-intent_call : (k : List ℕ) (a b : Told) → k ≡ intent_file → MayCall (Remove k) k a b → MayCall (Remove intent_file) intent_file a b
-intent_call k a b is call = subst (λ (l : List ℕ). MayCall (Remove l) l a b) is call
 
 pub intent_gone_others : (ms : List Member) (k : List ℕ) (a b : Told) → k ≡ intent_file → MayCall (Remove k) k a b → KeepsOthers (is_left_of_group ms) a b
 intent_gone_others ms k a b is call = remove_others intent_file (is_left_of_group ms) a b (left_intent ms) (intent_call k a b is call)
@@ -187,7 +187,7 @@ commit_others ms k a b c is touches next = others_then (is_own_of_group ms) a b 
 
 -- the plan becomes the intent, or not
 announced_own : (ms : List Member) (k : List ℕ) → is_own_of_group ms k ≡ false → is_either plan_file intent_file k ≡ false
-announced_own ms k h = both_false (bytes_eq plan_file k) (bytes_eq intent_file k) (no_plan ms k h) (no_intent ms k h)
+announced_own ms k h = or_from (bytes_eq plan_file k) (bytes_eq intent_file k) (no_plan ms k h) (no_intent ms k h)
 
 announced_as : {T : Type 0} (ms : List Member) (a b : Told) (f f2 : ℕ) (r : Result T Failed) → Changes (renaming plan_file intent_file) a b f f2 r → KeepsOthers (is_own_of_group ms) a b
 announced_as ms a b f f2 (Ok x) call =

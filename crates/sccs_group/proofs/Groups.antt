@@ -22,8 +22,8 @@ use Rattle.sccs_moments.specs.Calm.{IsCalm, KeepsPairs}
 use Rattle.sccs_moments.specs.Moments.{EndsAfter, EndsBefore, EndsWithin, IsAt, IsFrom, RecoversOn, Stays, Went}
 use Rattle.sccs_moments.specs.Recovery.{RecoversAs, fate_at, is_kept, pair_of, recover}
 use Rattle.sccs_moments.proofs.CalmDisks.{calm_firm, calm_unnamed}
-use Rattle.sccs_moments.proofs.FileNames.{from_sfile, kept_intent, kept_p, kept_q, kept_s, kept_x, kept_z, left_false, right_false, sfile_and_intent, siblings_differ, to_s, to_sfile}
-use Rattle.sccs_moments.proofs.Joined.{numbered_as, numbered_now, numbered_zero, went_then}
+use Rattle.sccs_moments.proofs.FileNames.{from_sfile, kept_intent, kept_p, kept_q, kept_s, kept_x, kept_z, sfile_and_intent, siblings_differ, to_s, to_sfile, plan_and_sfile}
+use Rattle.sccs_moments.proofs.Joined.{numbered_as, numbered_now, numbered_zero, went_then, stays_as}
 use Rattle.sccs_moments.proofs.Recovering.{pair, recovered_alike, recovered_is, recovered_same, recovered_under, recovers_then, sound_recovered}
 use Rattle.sccs_moments.proofs.Untouched.{went_at}
 use Rattle.sccs_group.specs.Changes.{Change, IsPrepared, after_changes, members_in}
@@ -31,12 +31,13 @@ use Rattle.sccs_group.specs.Finishing.{CanFinish, Completes, Follows}
 use Rattle.sccs_group.specs.Grouping.{CanGroup, GroupEnds, GroupStops, IsGrouped, announced, new_pair_of, planned}
 use Rattle.sccs_group.specs.Members.{AreMembers, IsWritten, entries_of}
 use Rattle.sccs_group.specs.declared.members.Member.{Member}
-use Rattle.sccs_group.proofs.Announcing.{announced_pair, other_file, other_s, plan_and_sfile, written_entries}
+use Rattle.sccs_group.proofs.Announcing.{announced_pair, other_file, other_s, written_entries}
 use Rattle.sccs_group.proofs.Calling.{none_left}
 use Rattle.sccs_group.proofs.Closing.{fate_head, fate_tail, no_fate, same_fate}
 use Rattle.sccs_group.proofs.Committing.{pair_kept}
 use Rattle.sccs_group.proofs.Harmless.{Same}
 use Rattle.sccs_group.proofs.Runs.{from_image}
+use Rattle.sccs_base.proofs.Bools.{right_false, left_false}
 
 -- ---- what may be written
 
@@ -49,24 +50,9 @@ members_written ms some few are = record {
 
 -- ---- before the commit
 
-keeps_then : (u v w : View) → KeepsPairs u v → KeepsPairs v w → KeepsPairs u w
-keeps_then u v w first next = record {
-  intent = next.intent ∙ first.intent;
-  pairs = λ k sfile. next.pairs k sfile ∙ first.pairs k sfile;
-  recovers = recovers_then u v w first.recovers next.recovers;
-}
-
 -- each image of the moment now keeps the pairs
 kept_now : (v : View) (m : Model) (past : List Model) (b : Told) → (stays : Stays v m past b) → Allows (KeepsPairs v) (newest stays.added m)
 kept_now v m past b stays = numbered_now (λ i m2. Allows (KeepsPairs v) m2) 0 stays.added m 0 stays.numbers
-
-abbrev stays_as : (v : View) (m1 : Model) (past1 : List Model) (d : Told) → KeepsPairs v (view_of m1) → Stays (view_of m1) m1 past1 d → Stays v m1 past1 d
-stays_as v m1 past1 d keeps went = record {
-  added = went.added;
-  is = went.is;
-  numbers = numbered_as (λ i m2. Allows (KeepsPairs (view_of m1)) m2) (λ i m2. Allows (KeepsPairs v) m2) 0 went.added m1 0 (λ i low m2 all w image. keeps_then v (view_of m1) w keeps (all w image)) went.numbers;
-  guarded = went.guarded;
-}
 
 pub before_then : (b d : Told) (m : Model) (past : List Model) → EndsBefore (view_of m) m past b → ((m1 : Model) (past1 : List Model) → b ≡ Tells m1 past1 → IsCalm m1 → EndsBefore (view_of m1) m1 past1 d) → EndsBefore (view_of m) m past d
 before_then b d m past ends next = joined (next (newest ends.0.added m) (earlier ends.0.added m past) ends.0.is ends.1)

@@ -19,7 +19,7 @@ use Rattle.sccs_group.specs.Members.{AreMembers, IsPlainG}
 use Rattle.sccs_group.specs.Recovering.{ReadsMembers, bare}
 use Rattle.sccs_group.specs.declared.members.Member.{Member}
 use Rattle.sccs_group.proofs.Alike.{halfway_then, none_halfway}
-use Rattle.sccs_group.proofs.Found.{bare_entries, bare_plain, intent_told, told_as}
+use Rattle.sccs_group.proofs.Found.{bare_entries, bare_plain, intent_told, told_as, plan_call}
 use Rattle.sccs_group.proofs.GroupFiles.{left_plan, no_plan, remove_others, sync_others}
 use Rattle.sccs_group.proofs.Parts.{may_moves, still_moves, synced_seen}
 
@@ -67,12 +67,9 @@ halfway_synced a b f f2 r call = halfway_still a b (synced_seen a b f f2 r call)
 
 -- ---- the plan is gone
 
-plan_gone : (k : List ℕ) (a b : Told) → k ≡ plan_file → MayCall (Remove k) k a b → MayCall (Remove plan_file) plan_file a b
-plan_gone k a b is call = subst (λ (l : List ℕ). MayCall (Remove l) l a b) is call
-
 pub plan_gone_others : (k : List ℕ) (a b : Told) → k ≡ plan_file → MayCall (Remove k) k a b → IfSome (seen a) (λ (v : View). KeepsOthers (is_own_of_group (intended v)) a b)
 plan_gone_others k a b is call =
-    told_all (seen a) (λ (v : View). KeepsOthers (is_own_of_group (intended v)) a b) (λ v. remove_others plan_file (is_own_of_group (intended v)) a b (no_plan (intended v)) (plan_gone k a b is call))
+    told_all (seen a) (λ (v : View). KeepsOthers (is_own_of_group (intended v)) a b) (λ v. remove_others plan_file (is_own_of_group (intended v)) a b (no_plan (intended v)) (plan_call k a b is call))
 
 pub plan_gone_halfway : (k : List ℕ) (a b : Told) → k ≡ plan_file → MayBecome (without_name k) (seen a) (seen b) → IfSome (seen a) (λ (v : View). IsHalfway (intended v) (seen a) (seen b))
 plan_gone_halfway k a b is may =
@@ -83,7 +80,7 @@ pub finish_others : (k : List ℕ) (a b c : Told) → k ≡ plan_file → Become
     → IfSome (seen a) (λ (v : View). KeepsOthers (is_own_of_group (intended v)) a c)
 finish_others k a b c is becomes call next =
     told_as (seen a) (λ (v : View). KeepsOthers (is_own_of_group (intended v)) b c) (λ (v : View). KeepsOthers (is_own_of_group (intended v)) a c)
-    (λ v later. others_then (is_own_of_group (intended v)) a b c (remove_others plan_file (is_own_of_group (intended v)) a b (no_plan (intended v)) (plan_gone k a b is call)) later)
+    (λ v later. others_then (is_own_of_group (intended v)) a b c (remove_others plan_file (is_own_of_group (intended v)) a b (no_plan (intended v)) (plan_call k a b is call)) later)
     (intent_told (λ (x : Option Content). KeepsOthers (is_own_of_group (bare (entries_in x))) b c) (seen a) (seen b) becomes next)
 
 pub finish_halfway : (a b c : Told) → Becomes (without_name plan_file) (seen a) (seen b) → IfSome (seen b) (λ (v : View). IsHalfway (intended v) (seen b) (seen c)) → IfSome (seen a) (λ (v : View). IsHalfway (intended v) (seen a) (seen c))

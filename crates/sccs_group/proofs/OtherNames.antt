@@ -1,5 +1,5 @@
 -- The files of a group are none of those of other names.
-use Rattle.std.proofs.Common.{◌≡◌, ◌⊎◌, ◌||◌, ◌&&◌, ℕ, Bool, true, false, List, [], ◌∷◌, drop, None, IfSome, inl, inr, refl, sym, subst, ◌∙◌, ⊎_elim}
+use Rattle.std.proofs.Common.{◌≡◌, ◌⊎◌, ◌||◌, ◌&&◌, ℕ, Bool, true, false, List, [], ◌∷◌, drop, None, IfSome, inl, inr, refl, subst, ⊎_elim}
 use Rattle.std.specs.List.{AllByRecursion}
 use Rattle.std.specs.Str.{bytes_eq}
 use Rattle.sccs_base.specs.Name.{IsSfile, p_file, z_file}
@@ -7,18 +7,16 @@ use Rattle.sccs_disk.specs.Files.{Model, View, view_of}
 use Rattle.sccs_disk.specs.Told.{Told, Tells, seen}
 use Rattle.sccs_disk.proofs.Puts.{name_cases}
 use Rattle.sccs_files.specs.StepFiles.{is_left}
-use Rattle.sccs_images.specs.Touches.{Each, newest}
-use Rattle.sccs_images.proofs.Touched.{each_newest}
 use Rattle.sccs_intents.specs.Intents.{has_name, intent_file, plan_file}
-use Rattle.sccs_moments.specs.Recovery.{pair_of}
-use Rattle.sccs_moments.specs.Unlocked.{BeganUnlockedBut, BeginsUnlocked, BeginsUnlockedBut, ComeUnlockedBut, KeepsOthers, KeptOthers, SameOthers}
-use Rattle.sccs_moments.proofs.Recovering.{pair_same}
+use Rattle.sccs_moments.specs.Unlocked.{BeganUnlockedBut, BeginsUnlocked, BeginsUnlockedBut, KeepsOthers, KeptOthers}
 use Rattle.sccs_moments.proofs.Unlocked.{each_now, unlocked_by}
-use Rattle.sccs_moments.proofs.FileNames.{both_false, from_sfile, intent_and_sfile, kept_p, kept_s, kept_z, left_false, left_s, left_z, right_false, siblings_differ, to_sfile}
+use Rattle.sccs_moments.proofs.FileNames.{from_sfile, intent_and_sfile, kept_p, kept_s, kept_z, left_s, left_z, siblings_differ, to_sfile, plan_and_sfile}
 use Rattle.sccs_group.specs.Halfway.{NoneLocked, is_own_but_g, is_own_of, is_own_of_group, is_own_of_member}
 use Rattle.sccs_group.specs.Members.{AreMembers, IsPlainG, entries_of}
 use Rattle.sccs_group.specs.declared.members.Member.{Member}
-use Rattle.sccs_group.proofs.Announcing.{plan_and_sfile}
+use Rattle.std.proofs.lemmas.Bool.{or_from}
+use Rattle.sccs_base.proofs.Bools.{right_false, left_false}
+use Rattle.sccs_moments.proofs.UnlockedBut.{kept_but}
 
 -- ---- one member
 
@@ -32,8 +30,8 @@ no_g_of mem k off = by mem.removes_g off
 member_misses : (mem : Member) (k : List ℕ) → (mem.removes_g ≡ true → bytes_eq (drop 2 mem.entry.name) k ≡ false) → bytes_eq mem.entry.name k ≡ false → bytes_eq (p_file mem.entry.name) k ≡ false → is_left mem.entry.name k ≡ false
     → is_own_of_member mem k ≡ false
 member_misses mem k g s p left =
-    both_false (mem.removes_g && bytes_eq (drop 2 mem.entry.name) k) (is_own_but_g mem.entry.name k) (no_g_of mem k g)
-    (both_false (bytes_eq mem.entry.name k) (bytes_eq (p_file mem.entry.name) k || is_left mem.entry.name k) s (both_false (bytes_eq (p_file mem.entry.name) k) (is_left mem.entry.name k) p left))
+    or_from (mem.removes_g && bytes_eq (drop 2 mem.entry.name) k) (is_own_but_g mem.entry.name k) (no_g_of mem k g)
+    (or_from (bytes_eq mem.entry.name k) (bytes_eq (p_file mem.entry.name) k || is_left mem.entry.name k) s (or_from (bytes_eq (p_file mem.entry.name) k) (is_left mem.entry.name k) p left))
 
 member_s : (mem : Member) (n : List ℕ) → IsSfile mem.entry.name → IsPlainG mem → IsSfile n → bytes_eq mem.entry.name n ≡ false → is_own_of_member mem n ≡ false
 member_s mem n own plain sfile apart =
@@ -53,11 +51,11 @@ all_miss : (ms : List Member) (n k : List ℕ) → AreMembers ms → AllByRecurs
     → ((mem : Member) → IsSfile mem.entry.name → IsPlainG mem → bytes_eq mem.entry.name n ≡ false → is_own_of_member mem k ≡ false) → is_own_of ms k ≡ false
 all_miss [] n k are plain none each = refl
 all_miss (mem ∷ ms) n k are plain none each =
-    both_false (is_own_of_member mem k) (is_own_of ms k) (each mem are.0.sfile plain.0 (left_false (bytes_eq mem.entry.name n) (has_name (entries_of ms) n) none))
+    or_from (is_own_of_member mem k) (is_own_of ms k) (each mem are.0.sfile plain.0 (left_false (bytes_eq mem.entry.name n) (has_name (entries_of ms) n) none))
     (all_miss ms n k are.1 plain.1 (right_false (bytes_eq mem.entry.name n) (has_name (entries_of ms) n) none) each)
 
 group_misses : (ms : List Member) (k : List ℕ) → bytes_eq plan_file k ≡ false → bytes_eq intent_file k ≡ false → is_own_of ms k ≡ false → is_own_of_group ms k ≡ false
-group_misses ms k plan intent own = both_false (bytes_eq plan_file k) (bytes_eq intent_file k || is_own_of ms k) plan (both_false (bytes_eq intent_file k) (is_own_of ms k) intent own)
+group_misses ms k plan intent own = or_from (bytes_eq plan_file k) (bytes_eq intent_file k || is_own_of ms k) plan (or_from (bytes_eq intent_file k) (is_own_of ms k) intent own)
 
 pub others_left : (ms : List Member) (n : List ℕ) → AreMembers ms → AllByRecursion IsPlainG ms → IsSfile n → has_name (entries_of ms) n ≡ false
     → (is_own_of_group ms n ≡ false) × (is_own_of_group ms (p_file n) ≡ false) × (is_own_of_group ms (z_file n) ≡ false)
@@ -73,7 +71,7 @@ free_or_other : (ms : List Member) (v : View) (k : List ℕ) → NoneLocked ms v
 free_or_other [] v k none = inl refl
 free_or_other (mem ∷ ms) v k none =
     ⊎_elim (λ e. inr (subst (λ (l : List ℕ). v (z_file l) ≡ None) e none.0))
-    (λ apart. ⊎_elim (λ rest. inl (both_false (bytes_eq mem.entry.name k) (has_name (entries_of ms) k) apart rest)) (λ free. inr free) (free_or_other ms v k none.1)) (name_cases mem.entry.name k)
+    (λ apart. ⊎_elim (λ rest. inl (or_from (bytes_eq mem.entry.name k) (has_name (entries_of ms) k) apart rest)) (λ free. inr free) (free_or_other ms v k none.1)) (name_cases mem.entry.name k)
 
 none_at : (ms : List Member) (a : Told) (m : Model) (past : List Model) → IfSome (seen a) (NoneLocked ms) → a ≡ Tells m past → NoneLocked ms (view_of m)
 none_at ms a m past none is = subst (λ (t : Told). IfSome (seen t) (NoneLocked ms)) is none
@@ -85,17 +83,6 @@ begin_unlocked ms a b are plain none keeps =
 
 -- ---- names that are exempt
 
-come_but : (exempt mine : List ℕ → Bool) (m : Model) (added : List Model) → ((k : List ℕ) → IsSfile k → exempt k ≡ false → (mine k ≡ false) × (mine (p_file k) ≡ false)) → Each (λ m2. SameOthers mine (view_of m) (view_of m2)) added m
-    → ComeUnlockedBut exempt added m
-come_but exempt mine m [] cases each = tt
-come_but exempt mine m (a ∷ added) cases each = (λ n sfile asked. inl (same n (cases n sfile asked)), come_but exempt mine m added cases each.1)
-  where
-    before : SameOthers mine (view_of m) (view_of (newest added m))
-    before = each_newest (λ m2. SameOthers mine (view_of m) (view_of m2)) added m each.1
-
-    same : (n : List ℕ) → (mine n ≡ false) × (mine (p_file n) ≡ false) → pair_of (view_of a) n ≡ pair_of (view_of (newest added m)) n
-    same n other = pair_same _ _ _ _ (each.0 n other.0 ∙ sym (before n other.0)) (each.0 (p_file n) other.1 ∙ sym (before (p_file n) other.1))
-
 pub begin_but : (exempt : List ℕ → Bool) (ms : List Member) (a b : Told) → AreMembers ms → AllByRecursion IsPlainG ms → ((n : List ℕ) → exempt n ≡ false → has_name (entries_of ms) n ≡ false) → KeepsOthers (is_own_of_group ms) a b
     → BeginsUnlockedBut exempt a b
 begin_but exempt ms a b are plain within keeps m past is = by (keeps m past is)
@@ -104,5 +91,5 @@ begin_but exempt ms a b are plain within keeps m past is = by (keeps m past is)
     by kept = record {
       added = kept.added;
       is = kept.is;
-      changes = come_but exempt (is_own_of_group ms) m kept.added (λ k sfile asked. let left = others_left ms k are plain sfile (within k asked) in (left.0, left.1)) (each_now (is_own_of_group ms) m kept.added kept.each);
+      changes = kept_but exempt (is_own_of_group ms) m kept.added (λ k sfile asked. let left = others_left ms k are plain sfile (within k asked) in (left.0, left.1)) (each_now (is_own_of_group ms) m kept.added kept.each);
     }

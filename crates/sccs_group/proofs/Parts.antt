@@ -16,6 +16,7 @@ use Rattle.sccs_group.specs.Halfway.{IsHalfway, PlacesFirst, PlacesPart, first_p
 use Rattle.sccs_group.specs.Members.{each_by, g_gone, p_taken, placed, taken}
 use Rattle.sccs_group.specs.declared.members.Member.{Member}
 use Rattle.sccs_group.proofs.GroupFiles.{left_intent, left_lock, member_lock}
+use Rattle.sccs_group.proofs.Found.{synced_view}
 
 -- ---- one member
 
@@ -95,12 +96,8 @@ intent_moves ms k a b is may = may_moves (is_left_of_group ms) intent_file a b (
 pub locks_moves : (ms : List Member) (k : List ℕ) (a b c : Option View) → k ≡ intent_file → Becomes (without_name k) a b → Moves (is_lock_of ms) (λ v. v) b c → Moves (is_left_of_group ms) (λ v. v) a c
 locks_moves ms k a b c is gone moves = moves_then (is_left_of_group ms) a b c (intent_moves ms k a b is (inr gone)) (moves_wider (is_lock_of ms) (is_left_of_group ms) b c (left_lock ms) moves)
 
-still_seen : (o : Option View) → option_map (λ (v : View). v) o ≡ o
-still_seen None = refl
-still_seen (Some v) = refl
-
 pub synced_seen : {T : Type 0} (a b : Told) (f f2 : ℕ) (r : Result T Failed) → Changes syncing_names a b f f2 r → seen b ≡ seen a
-synced_seen a b f f2 (Ok x) call = call.done.view ∙ still_seen (seen a)
+synced_seen a b f f2 (Ok x) call = call.done.view ∙ synced_view (seen a)
 synced_seen a b f f2 (Err e) call = ⊎_elim (λ same. same) (λ made. made.3 ∙ (ap (λ (v : View). Some v) made.4 ∙ sym made.2)) call.half.view
 
 pub close_moves : {T : Type 0} (ms : List Member) (k : List ℕ) (a b c d : Told) (f f2 : ℕ) (r : Result T Failed) → k ≡ intent_file → Becomes (without_name k) (seen a) (seen b) → Moves (is_lock_of ms) (λ v. v) (seen b) (seen c)

@@ -14,7 +14,7 @@ use Rattle.sccs_intents.specs.declared.intents.Fate.{Fate}
 use Rattle.sccs_intents.specs.declared.intents.Fate.TheVariants.{Replaced, Removed}
 use Rattle.sccs_intents.proofs.Others.{differ}
 use Rattle.sccs_moments.specs.Recovery.{Pair, fated, newer, without_name}
-use Rattle.sccs_moments.proofs.FileNames.{from_g, kept_p, kept_s, left_false, no_q, no_working, no_x, no_y, no_z, right_false, s_and_g, to_s}
+use Rattle.sccs_moments.proofs.FileNames.{from_g, kept_p, kept_s, no_q, no_working, no_x, no_y, no_z, s_and_g, to_s}
 use Rattle.sccs_moments.proofs.Recovering.{newer_same, pair_same}
 use Rattle.sccs_group.specs.Changes.{Change, IsPrepared, IsReady, LFileStays, LFilesStay, after_changes, members_in}
 use Rattle.sccs_group.specs.Grouping.{announced, new_pair_of, planned}
@@ -22,11 +22,12 @@ use Rattle.sccs_group.specs.Halfway.{first_placed, is_left_of_group, is_lock_of,
 use Rattle.sccs_group.specs.Members.{AreMembers, closed, completed, each_by, entries_of, g_gone, p_taken, placed, taken, unlocked}
 use Rattle.sccs_group.specs.declared.members.Member.{Member}
 use Rattle.sccs_group.proofs.Alike.{first_alike, left_spares}
-use Rattle.sccs_group.proofs.Closing.{placed_elsewhere, placed_other}
+use Rattle.sccs_group.proofs.Closing.{placed_elsewhere, placed_other, p_other}
 use Rattle.sccs_group.proofs.GroupFiles.{left_intent, left_lock, left_plan}
 use Rattle.sccs_group.proofs.Harmless.{Same, fated_same}
 use Rattle.sccs_group.proofs.Parts.{all_placed}
 use Rattle.sccs_group.proofs.Placing.{taken_other}
+use Rattle.sccs_base.proofs.Bools.{right_false, left_false}
 
 -- ---- a file that takes another's place
 
@@ -129,16 +130,12 @@ moved_g n f u sfile =
     put_other (put (put (put (put u (l_file n) f.l) (z_file n) f.z) (drop 2 n) f.g) (p_file n) f.p) n (drop 2 n) f.s (s_and_g n sfile)
     ∙ (put_other (put (put (put u (l_file n) f.l) (z_file n) f.z) (drop 2 n) f.g) (p_file n) (drop 2 n) f.p (from_g 112 n sfile) ∙ put_same (put (put u (l_file n) f.l) (z_file n) f.z) (drop 2 n) f.g)
 
-p_left : (fate : Fate) (n : List ℕ) (v : View) (l : List ℕ) → bytes_eq (q_file n) l ≡ false → bytes_eq (p_file n) l ≡ false → p_taken fate n v l ≡ v l
-p_left Replaced n v l q p = taken_other (q_file n) (p_file n) v l q p
-p_left Removed n v l q p = put_other v (p_file n) l None p
-
 -- the calls before it leave it
 three_left : (mem : Member) (v : View) → IsSfile mem.entry.name → part_placed 3 mem v (drop 2 mem.entry.name) ≡ v (drop 2 mem.entry.name)
 three_left mem v sfile =
     let n = mem.entry.name in
     put_other (part_placed 2 mem v) (y_file n) (drop 2 n) None (from_g 121 n sfile)
-    ∙ (p_left mem.entry.fate n (part_placed 1 mem v) (drop 2 n) (from_g 113 n sfile) (from_g 112 n sfile) ∙ taken_other (x_file n) n v (drop 2 n) (from_g 120 n sfile) (s_and_g n sfile))
+    ∙ (p_other mem.entry.fate n (part_placed 1 mem v) (drop 2 n) (from_g 113 n sfile) (from_g 112 n sfile) ∙ taken_other (x_file n) n v (drop 2 n) (from_g 120 n sfile) (s_and_g n sfile))
 
 all_at_g : (w : List ℕ → Bool) (d : Change) (v u : View) → IsReady w v d → w (drop 2 d.member.entry.name) ≡ false → placed d.member v (drop 2 d.member.entry.name) ≡ moved u d.member.entry.name (Some d.files) (drop 2 d.member.entry.name)
 all_at_g w d v u ready h =

@@ -35,14 +35,6 @@ follows_then m m1 m2 first next = record {
 
 -- ---- moments, one behind another
 
-pub each_then : (P : Model → Type 0) (later added : List Model) (m : Model) → Each P added m → Each P later (newest added m) → Each P (later ++ added) m
-each_then P [] added m first next = first
-each_then P (a ∷ later) added m first next = (next.0, each_then P later added m first next.1)
-
-pub each_by : (P Q : Model → Type 0) (added : List Model) (m : Model) → ((m2 : Model) → P m2 → Q m2) → Each P added m → Each Q added m
-each_by P Q [] m so each = so m each
-each_by P Q (a ∷ added) m so each = (so a each.0, each_by P Q added m so each.1)
-
 pub each_follows : (m m1 : Model) (later added : List Model) → newest added m ≡ m1 → Follows m m1 → Each (Follows m1) later m1 → Each (Follows m) added m → Each (Follows m) (later ++ added) m
 each_follows m m1 [] added is to later before = before
 each_follows m m1 (a ∷ later) added is to later_each before = (follows_then m m1 a to later_each.0, each_follows m m1 later added is to later_each.1 before)

@@ -1,7 +1,7 @@
 -- What finishing a group says that was stopped anywhere behind its intent.
 use Rattle.std.specs.Prelude.{◌≡◌, ◌⊎◌, ℕ, List, ◌∷◌, None, Some, IsSome}
 use Rattle.std.specs.List.{AllByRecursion}
-use Rattle.sccs_base.specs.Name.{IsSfile, p_file, q_file, x_file, z_file}
+use Rattle.sccs_base.specs.Name.{IsSfile, p_file, q_file, x_file}
 use Rattle.sccs_disk.specs.Effects.{pended}
 use Rattle.sccs_disk.specs.Files.{Model, Op, View, view_of}
 use Rattle.sccs_disk.specs.Images.{Allows, Full, Image}
@@ -11,13 +11,9 @@ use Rattle.sccs_moments.specs.Calm.{HasFirm, IsCalm}
 use Rattle.sccs_moments.specs.Moments.{Guarded, IsFrom}
 use Rattle.sccs_intents.specs.declared.intents.Fate.{Fate}
 use Rattle.sccs_intents.specs.declared.intents.Fate.TheVariants.{Replaced, Removed}
-use Rattle.sccs_moments.specs.Recovery.{IsSettledPair, IsSound, RecoversAs, fate_at, pair_of, recover}
+use Rattle.sccs_moments.specs.Recovery.{IsSettledPair, IsSound, RecoversAs, fate_at, pair_of, recover, IsHeldAt}
 use Rattle.sccs_group.specs.Members.{AreNamed}
 use Rattle.sccs_group.specs.declared.members.Member.{Member}
-
--- the z-file of the name is there where an intent names it
-abbrev pub IsHeldAt : List ℕ → View → Type 0
-IsHeldAt n v = IsSome (fate_at v n) → IsSome (v (z_file n))
 
 -- so it is of each name
 abbrev pub IsHeld : View → Type 0

@@ -92,12 +92,12 @@ fn text_of_intent(alloc: Global, members: &[Member]) -> Result<Bytes, Memory>
     intent_text(alloc, &entries)
 }
 
-/// Commits a group of 1 to 1,000 members that are prepared and whose names differ: the intent is written as the plan, synced, and renamed;
-/// then the new files of each member, in order, take their places; then the intent goes, and each z-file;
-/// then the names are synced. Memory comes only before the renaming; then the plan is gone, and the
-/// members are prepared as before. Failed comes only where the disk failed; recovery runs first then. A
-/// stop leaves what one could leave before the commit, or what recovers to the new files of all members;
-/// after it, only the latter.
+/// Commits a group of 1 to 1,000 members that are prepared and whose names differ. The intent is written
+/// as the plan, synced, and renamed; then the new files of each member, in order, take their places;
+/// then the intent goes, and each z-file; then the names are synced. Memory comes only before the
+/// renaming; then the plan is gone, and the members are prepared as before. Failed comes only where the
+/// disk failed; recovery runs first then. A stop leaves what one could leave before the commit, or what
+/// recovers to the new files of all members; after it, only the latter.
 pub fn commit_group<D: Disk>(
     alloc: Global,
     members: &Members,

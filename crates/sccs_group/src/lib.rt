@@ -11,6 +11,7 @@ mod names;
 mod plans;
 mod recovering;
 
+pub use calls::clear;
 pub use finishing::complete;
 pub use grouping::commit_group;
 pub use members::{Member, Members};

@@ -1,11 +1,11 @@
 -- Calls that make a group follow its course.
-use Rattle.std.proofs.Common.{◌≡◌, ◌≢◌, ◌⊎◌, ℕ, ◌<◌, ◌≤◌, Bool, true, false, cond, nat_lt, List, [], ◌∷◌, ◌++◌, codes, length, Option, None, Some, IfSome, Result, Ok, Err, inl, inr, refl, sym, ap, subst, ◌∙◌, arith}
+use Rattle.std.proofs.Common.{◌≡◌, ◌≢◌, ◌⊎◌, ℕ, ◌<◌, ◌≤◌, Bool, true, false, cond, nat_lt, List, [], ◌∷◌, codes, length, Option, None, Some, IfSome, Result, Ok, Err, inl, inr, refl, sym, ap, subst, ◌∙◌, arith}
 use Rattle.std.proofs.lemmas.Bool.{le-ltb, lt-ltb}
 use Rattle.std.proofs.lemmas.List.{append-nil}
 use Rattle.std.specs.List.{AllByRecursion}
 use Rattle.sccs_base.specs.Constants.{file_limit}
 use Rattle.sccs_base.specs.Cut.{text_of}
-use Rattle.sccs_base.specs.Name.{is_sfile_name, sfile_name_decides, z_file}
+use Rattle.sccs_base.specs.Name.{is_sfile_name, sfile_name_decides}
 use Rattle.sccs_base.specs.Stream.{GivesOk, GivesSome, Rose}
 use Rattle.sccs_base.proofs.Gifts.{gives_none, some_none, some_of_whole}
 use Rattle.sccs_operands.specs.InputNames.{GivesLines}
@@ -19,12 +19,10 @@ use Rattle.sccs_disk.specs.Files.{Folder, Model, View, view_in, view_of}
 use Rattle.sccs_disk.specs.Told.{Told, Tells, seen}
 use Rattle.sccs_files.specs.StepFiles.{Alike, Shows}
 use Rattle.sccs_intents.specs.Intents.{plan_file}
-use Rattle.sccs_images.specs.Touches.{earlier, newest}
-use Rattle.sccs_moments.specs.Calm.{IsCalm}
+use Rattle.sccs_images.specs.Touches.{newest}
 use Rattle.sccs_moments.specs.Moments.{EndsAfter}
 use Rattle.sccs_moments.specs.Unlocked.{BeginsUnlocked, BeginsUnlockedBut}
 use Rattle.sccs_moments.proofs.UnlockedBut.{but_of}
-use Rattle.sccs_steps.specs.Actions.{IsHeard}
 use Rattle.sccs_steps.specs.Calls.{Scene, scene, shown, world}
 use Rattle.sccs_steps.specs.Causes.{RunCauses, counts}
 use Rattle.sccs_steps.specs.ListStops.{AreSafe, KeepsSafe, MayBegin, Spares}
@@ -36,27 +34,28 @@ use Rattle.sccs_steps.specs.declared.faults.Fault.{Fault}
 use Rattle.sccs_steps.specs.declared.faults.Fault.TheVariants as ends
 use Rattle.sccs_steps.proofs.Safety.{alike_safe}
 use Rattle.sccs_steps.proofs.Turns.{each_all}
-use Rattle.sccs_courses.specs.Courses.{AllSafe, AllTake, Courses, portions_of, said, saying, steps_along}
-use Rattle.sccs_courses.specs.Following.{CourseMoments, RunsCourse, RunsTo, SpeaksTo}
+use Rattle.sccs_courses.specs.Courses.{AllTake, Courses, portions_of, saying, steps_along}
+use Rattle.sccs_courses.specs.Following.{CourseMoments, RunsTo, SpeaksTo}
 use Rattle.sccs_courses.specs.Sayings.{BegunSaid, IsSaid, WholeSaid}
-use Rattle.sccs_courses.proofs.QuietCourses.{course_as, course_chosen, never_rose}
+use Rattle.sccs_courses.proofs.QuietCourses.{course_as, course_chosen}
 use Rattle.sccs_courses.proofs.SaidCourses.{never_course, said_course}
-use Rattle.sccs_batch.specs.Batches.{RefusesInput}
 use Rattle.sccs_batch.proofs.BatchCourses.{refusal_said, told_of}
 use Rattle.sccs_group_words.specs.GroupText.{ReadsGroup, group_of}
 use Rattle.sccs_group_words.specs.declared.entries.GroupEntry.{GroupEntry}
 use Rattle.sccs_group_words.specs.declared.entries.GroupFault.{GroupFault}
 use Rattle.sccs_group_words.specs.declared.entries.GroupFault.TheVariants as bad
-use Rattle.sccs_group_step.specs.GroupStep.{CouldBeGroup, CouldBeMade, group_step, joint_step, names_of, refused_step}
+use Rattle.sccs_group_step.specs.GroupStep.{group_step, joint_step, names_of, refused_step}
 use Rattle.sccs_group_step.specs.Making as making
 use Rattle.sccs_group_step.specs.Making.{EndsAt, GroupCauses, GroupMoments, HoldsNames, IsCut, IsMade, MeetsGroup, SpeaksGroup, StopMeets, StopSpeaks, StopsAt}
-use Rattle.sccs_group_step.specs.Preparing.{ArePlain, IsFreeSound, IsNamed, sfiles_of}
+use Rattle.sccs_group_step.specs.Preparing.{ArePlain, IsFreeSound, sfiles_of}
 use Rattle.sccs_group_step.specs.declared.entries.NamedFault.{NamedFault}
 use Rattle.sccs_group_runs.specs.GroupCourses.{BegunEntries, BegunGroup, HasPlainNames, IsGroupInput, RunsEntries, RunsGroup, RunsLines, SaysBad, WholeEntries, WholeGroup, bad_line, entries_course, group_action, group_course, group_on, group_parts, read_course}
 use Rattle.sccs_group_runs.proofs.GroupFiles.{AreApart, GroupAt, apart_names, names_all, same_at, step_at}
-use Rattle.sccs_group_runs.proofs.GroupRuns.{Concluded, IsAtFolder, entries_to, of_group}
+use Rattle.sccs_group_runs.proofs.GroupRuns.{Concluded, IsAtFolder, entries_to}
 use Rattle.sccs_group_runs.proofs.GroupStops.{after_moments, broken_moments, refused_moments, waiting_moments}
 use Rattle.sccs_group_runs.proofs.GroupSteps.{parts_are}
+use Rattle.sccs_base.proofs.Rises.{rose_later, never_rose}
+use Rattle.sccs_group_step.proofs.GroupEnds.{of_group}
 
 -- ---- what is known of the call
 
@@ -219,10 +218,6 @@ entries_ran stamp entries made r s t b e same known says causes = record {
 
 -- ---- why it ended
 
-rose_later : (a b c : ℕ) → a ≤ b → Rose b c → Rose a c
-rose_later a b c later (inl higher) = inl (omega (arith, later, higher))
-rose_later a b c later (inr full) = inr full
-
 pub done_causes : (done : Unit {0}) (r : Result ℕ Fault) (o o2 e e2 d d2 : ℕ) → r ≡ Ok 0 → GroupCauses (Ok done) o o2 e e2 d d2 → RunCauses r (counts 0 o e d) (counts 0 o2 e2 d2)
 done_causes done r o o2 e e2 d d2 is causes = record {
   input_later = omega arith;
@@ -373,7 +368,7 @@ heard_later stamp read r left left2 a b i0 i1 o o2 e e2 d d2 later runs = record
     out_later = runs.causes.out_later;
     err_later = runs.causes.err_later;
     disk_later = runs.causes.disk_later;
-    read = λ is. never_rose i0 i1 (runs.causes.read is);
+    read = λ is. absurd (never_rose (runs.causes.read is));
     write = runs.causes.write;
     broke = runs.causes.broke;
   };

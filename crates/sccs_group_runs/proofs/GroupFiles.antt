@@ -1,24 +1,21 @@
 -- The files of a group, and working files.
-use Rattle.std.proofs.Common.{◌≡◌, ◌⊎◌, ℕ, zero, suc, ◌<◌, Bool, true, false, ◌||◌, cond, List, [], ◌∷◌, codes, drop, length, map, is_some, Option, None, Some, Result, Ok, Err, inl, inr, refl, sym, ap, subst, ◌∙◌, ⊎_elim, arith}
+use Rattle.std.proofs.Common.{◌≡◌, ◌⊎◌, ℕ, zero, suc, ◌<◌, Bool, true, false, ◌||◌, cond, List, [], ◌∷◌, codes, length, map, is_some, Option, None, Some, inl, inr, refl, sym, ap, subst, ◌∙◌, ⊎_elim, arith}
 use Rattle.std.proofs.lemmas.List.{length-map}
-use Rattle.std.specs.List.{AllByRecursion, list_any}
+use Rattle.std.specs.List.{AllByRecursion}
 use Rattle.std.specs.Str.{bytes_eq}
-use Rattle.sccs_base.specs.Name.{IsName, IsSfile, is_sfile_name, sfile_name_decides, z_file}
+use Rattle.sccs_base.specs.Name.{is_sfile_name, sfile_name_decides, z_file}
 use Rattle.sccs_sid.specs.declared.moments.Stamp.{Stamp}
 use Rattle.sccs_sid.specs.declared.refusals.Refusal.TheVariants.{GroupPending}
 use Rattle.sccs_disk.specs.Files.{Content, Folder, View, view_in}
 use Rattle.sccs_disk.proofs.Puts.{name_cases}
-use Rattle.sccs_files.specs.StepFiles.{Alike, Apart, Files, Shows, is_left, is_working, look, moved, moved_in}
-use Rattle.sccs_files.proofs.Folders.{moved_view}
+use Rattle.sccs_files.specs.StepFiles.{Alike, Apart, Files, is_left, is_working, look, moved}
 use Rattle.sccs_files.proofs.Views.{look_alike, moved_alike}
 use Rattle.sccs_intents.specs.Intents.{intent_file, plan_file}
-use Rattle.sccs_moments.specs.Recovery.{RecoversAs, is_kept}
-use Rattle.sccs_moments.proofs.FileNames.{both_false, left_false, right_false}
+use Rattle.sccs_moments.specs.Recovery.{RecoversAs}
 use Rattle.sccs_steps.specs.Actions.{AreClear, IsClear, NameIsClear}
-use Rattle.sccs_steps.specs.FirstFiles.{first_moved}
 use Rattle.sccs_steps.specs.ListStops.{Spares}
-use Rattle.sccs_steps.specs.StepLists.{AreAllCleared, Move, NamedStep, ShowsNext, all_moved, all_moved_in, first_moves, is_left_of, left_by, moves_of, step_in}
-use Rattle.sccs_steps.proofs.Carried.{carried}
+use Rattle.sccs_steps.specs.StepLists.{AreAllCleared, Move, NamedStep, ShowsNext, all_moved, first_moves, is_left_of, left_by, moves_of, step_in}
+use Rattle.sccs_steps.proofs.Carried.{carried, all_view}
 use Rattle.sccs_steps.proofs.Cleared.{moved_other}
 use Rattle.sccs_steps.proofs.FirstMoved.{first_alike}
 use Rattle.sccs_steps.proofs.Turns.{each_all}
@@ -31,6 +28,8 @@ use Rattle.sccs_group_step.specs.Preparing.{ArePlain, IsGivenBack, IsPlainName, 
 use Rattle.sccs_group_step.proofs.StepsAhead.{steps_same}
 use Rattle.sccs_group_runs.specs.GroupCourses.{group_action, group_parts}
 use Rattle.sccs_group_runs.proofs.GroupSteps.{FitMove, FitMoves, free_or_still, more_are, more_fit, move_names, moves_are, no_new, parts_are}
+use Rattle.std.proofs.lemmas.Bool.{or_from}
+use Rattle.sccs_base.proofs.Bools.{right_false, left_false}
 
 -- ---- names
 
@@ -74,10 +73,10 @@ plan_out w k plan h = ⊎_elim (λ e. absurd (let same : w plan_file ≡ w k = a
 
 working_out : (w : List ℕ → Bool) (own : List (List ℕ)) (k : List ℕ) → AllByRecursion (Apart w) own → w k ≡ false → is_any_working own k ≡ false
 working_out w [] k all h = refl
-working_out w (n ∷ own) k all h = both_false (is_working n k) (is_any_working own k) (all.0.own k h) (working_out w own k all.1 h)
+working_out w (n ∷ own) k all h = or_from (is_working n k) (is_any_working own k) (all.0.own k h) (working_out w own k all.1 h)
 
 pub group_out : (w : List ℕ → Bool) (names : List (List ℕ)) (k : List ℕ) → AreApart w names → w plan_file ≡ true → w k ≡ false → is_group_working (sfiles_of names) k ≡ false
-group_out w names k all plan h = both_false (is_any_working (sfiles_of names) k) (bytes_eq plan_file k) (working_out w (sfiles_of names) k (own_apart w names all) h) (plan_out w k plan h)
+group_out w names k all plan h = or_from (is_any_working (sfiles_of names) k) (bytes_eq plan_file k) (working_out w (sfiles_of names) k (own_apart w names all) h) (plan_out w k plan h)
 
 z_out : (xs : List Move) (k : List ℕ) → is_left_of xs k ≡ false → AllByRecursion (λ (n : List ℕ). bytes_eq (z_file n) k ≡ false) (move_names xs)
 z_out [] k h = tt
@@ -89,7 +88,7 @@ marks_out (x ∷ xs) k some h = right_false (bytes_eq (z_file x.name) k) _ (righ
 
 any_left_out : (w : List ℕ → Bool) (own : List (List ℕ)) (k : List ℕ) → AllByRecursion (Apart w) own → AllByRecursion (λ (n : List ℕ). bytes_eq (z_file n) k ≡ false) own → w k ≡ false → is_any_left own k ≡ false
 any_left_out w [] k all z h = refl
-any_left_out w (n ∷ own) k all z h = both_false (is_left n k) (is_any_left own k) (both_false (is_working n k) (bytes_eq (z_file n) k) (all.0.own k h) z.0) (any_left_out w own k all.1 z.1 h)
+any_left_out w (n ∷ own) k all z h = or_from (is_left n k) (is_any_left own k) (or_from (is_working n k) (bytes_eq (z_file n) k) (all.0.own k h) z.0) (any_left_out w own k all.1 z.1 h)
 
 -- what a list spares where the disk failed in the step of these names a group may have left behind
 left_out : (w : List ℕ → Bool) (t : NamedStep) (names : List (List ℕ)) (k : List ℕ) → AreApart w names → 0 < length t.more → move_names t.more ≡ names → left_by w (t ∷ []) k ≡ false → is_group_left (sfiles_of names) k ≡ false
@@ -97,7 +96,7 @@ left_out w t names k all some are h =
     let more : is_left_of t.more k ≡ false = left_false (is_left_of t.more k) _ h in
     let here : w k ≡ false = left_false (w k) _ (right_false (is_left_of t.more k) _ h) in
     let z : AllByRecursion (λ (n : List ℕ). bytes_eq (z_file n) k ≡ false) names = subst (λ (ns : List (List ℕ)). AllByRecursion (λ (n : List ℕ). bytes_eq (z_file n) k ≡ false) ns) are (z_out t.more k more) in
-    both_false (is_any_left (sfiles_of names) k) (bytes_eq plan_file k || bytes_eq intent_file k) (any_left_out w (sfiles_of names) k (own_apart w names all) (sfiles_all (λ n. bytes_eq (z_file n) k ≡ false) names z) here) (marks_out t.more k some more)
+    or_from (is_any_left (sfiles_of names) k) (bytes_eq plan_file k || bytes_eq intent_file k) (any_left_out w (sfiles_of names) k (own_apart w names all) (sfiles_all (λ n. bytes_eq (z_file n) k ≡ false) names z) here) (marks_out t.more k some more)
 
 -- ---- the step in views that are alike
 
@@ -111,10 +110,6 @@ group_same w stamp entries u v spares all alike =
     ∙ ap (λ (r : EntrySteps). cond (is_some (u intent_file)) (refused_step (names_of entries) (codes "-") GroupPending) (joined (names_of entries) r)) (steps_same stamp entries u v (looks_alike w entries u v all alike))
 
 -- ---- views after moves
-
-pub all_view : (m : Folder) (xs : List Move) → view_in (all_moved_in m xs) ≡ all_moved (view_in m) xs
-all_view m [] = refl
-all_view m (x ∷ xs) = all_view (moved_in m x.name x.new) xs ∙ ap (λ (v : View). all_moved v xs) (moved_view m x.name x.new)
 
 pub all_alike : (w : List ℕ → Bool) (u v : View) (xs : List Move) → Alike w u v → Alike w (all_moved u xs) (all_moved v xs)
 all_alike w u v [] alike = alike

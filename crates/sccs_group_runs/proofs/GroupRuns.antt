@@ -1,5 +1,5 @@
 -- What a call answers and leaves that makes a group.
-use Rattle.std.proofs.Common.{◌≡◌, ◌⊎◌, ℕ, ◌<◌, Bool, true, false, List, [], ◌∷◌, ◌++◌, length, Option, None, Some, Result, Ok, Err, inl, inr, refl, sym, ap, subst, ◌∙◌, arith}
+use Rattle.std.proofs.Common.{◌≡◌, ℕ, Bool, false, List, [], ◌∷◌, ◌++◌, Option, None, Some, Result, Ok, Err, refl, sym, ap, subst, ◌∙◌, arith}
 use Rattle.std.proofs.lemmas.List.{append-nil}
 use Rattle.sccs_base.specs.Stream.{GivesOk, GivesSome}
 use Rattle.sccs_base.proofs.Gifts.{gives_none, some_none}
@@ -10,8 +10,7 @@ use Rattle.sccs_sid.specs.declared.refusals.StepFault.{StepFault}
 use Rattle.sccs_sid.specs.declared.refusals.StepFault.TheVariants as step
 use Rattle.sccs_disk.specs.Files.{Folder, View, view_in}
 use Rattle.sccs_files.specs.StepFiles.{Alike, Shows}
-use Rattle.sccs_moments.proofs.FileNames.{left_false}
-use Rattle.sccs_steps.specs.Calls.{World, world}
+use Rattle.sccs_steps.specs.Calls.{world}
 use Rattle.sccs_steps.specs.Messages.{Answers, Concludes, SaysRefusal}
 use Rattle.sccs_steps.specs.StepLists.{ListInterrupted, NamedStep, Ran, Stopped, Stops, all_moved, err_of, moves_of, out_of, step_in}
 use Rattle.sccs_steps.specs.declared.faults.Fault.{Fault}
@@ -19,19 +18,19 @@ use Rattle.sccs_steps.specs.declared.faults.Fault.TheVariants as ends
 use Rattle.sccs_courses.specs.Following.{RunsTo}
 use Rattle.sccs_group_words.specs.declared.entries.GroupEntry.{GroupEntry}
 use Rattle.sccs_group_step.specs.GroupStep.{group_step, names_of, refused_step}
-use Rattle.sccs_group_step.specs.Making.{IsCut, IsHalfMade, IsMade, IsSaid, MadeMeets, MeetsGroup, StopMeets, is_group_working}
+use Rattle.sccs_group_step.specs.Making.{IsCut, IsHalfMade, IsMade, IsSaid, MeetsGroup, StopMeets, is_group_working}
 use Rattle.sccs_group_step.specs.Preparing.{IsGivenBack, is_any_working, sfiles_of}
 use Rattle.sccs_group_step.specs.declared.entries.NamedFault.{NamedFault}
-use Rattle.sccs_group_runs.proofs.GroupFiles.{GroupAt, all_view, back_cleared, back_shown, group_out, half_shown, made_cleared, made_shown, same_at, step_at}
+use Rattle.sccs_group_runs.proofs.GroupFiles.{GroupAt, back_cleared, back_shown, group_out, half_shown, made_cleared, made_shown, same_at, step_at}
 use Rattle.sccs_group_runs.proofs.GroupSteps.{no_text, unmoved_all}
+use Rattle.sccs_base.proofs.Bools.{left_false}
+use Rattle.sccs_steps.proofs.Carried.{all_view}
+use Rattle.sccs_group_step.proofs.GroupEnds.{of_group}
 
 -- how the call ends behind the group
 abbrev pub Concluded : Result (Unit {0}) NamedFault → Result ℕ Fault → Option (List ℕ) → Option (List ℕ) → Type 0
 Concluded (Ok done) r err err2 = Answers (Ok 0) r err err2
 Concluded (Err stop) r err err2 = Concludes (Err stop.fault) stop.name r err err2
-
-abbrev pub of_group : Stamp → List GroupEntry → View → NamedStep
-of_group stamp entries v = group_step stamp v entries
 
 -- a disk that tells a folder, before the group
 abbrev pub IsAtFolder : (List ℕ → Bool) → Stamp → List GroupEntry → Folder → Option View → Type 0

@@ -1,10 +1,10 @@
 -- The step of a group: the names that it has, and what it moves.
-use Rattle.std.proofs.Common.{◌≡◌, ◌⊎◌, ℕ, Bool, true, false, cond, List, [], ◌∷◌, codes, flat_map, is_some, map, Option, None, Some, Result, Ok, Err, inl, inr, refl, sym, ap, subst, ◌∙◌}
+use Rattle.std.proofs.Common.{◌≡◌, ◌⊎◌, ℕ, Bool, true, false, cond, List, [], ◌∷◌, codes, flat_map, is_some, map, Option, None, Some, Ok, Err, inl, inr, refl, sym, ap, subst, ◌∙◌}
 use Rattle.std.specs.List.{AllByRecursion}
-use Rattle.sccs_base.specs.Name.{IsSfile, is_sfile_name, sfile_name_decides}
+use Rattle.sccs_base.specs.Name.{is_sfile_name}
 use Rattle.sccs_sid.specs.declared.moments.Stamp.{Stamp}
 use Rattle.sccs_sid.specs.declared.refusals.Refusal.{Refusal}
-use Rattle.sccs_sid.specs.declared.refusals.Refusal.TheVariants.{BadName, GroupPending}
+use Rattle.sccs_sid.specs.declared.refusals.Refusal.TheVariants.{GroupPending}
 use Rattle.sccs_disk.specs.Files.{Content, View}
 use Rattle.sccs_files.specs.StepFiles.{Files, moved}
 use Rattle.sccs_intents.specs.Intents.{intent_file}

@@ -1,72 +1,43 @@
 -- Where a call ends that makes a group, and what a stop leaves of it.
-use Rattle.std.proofs.Common.{◌≡◌, ◌≢◌, ◌⊎◌, ℕ, Bool, true, false, List, [], ◌∷◌, ◌++◌, is_some, Option, None, Some, Result, Ok, Err, inl, inr, refl, sym, ap, subst, ◌∙◌}
-use Rattle.std.proofs.lemmas.List.{append-nil}
-use Rattle.std.specs.List.{AllByRecursion}
-use Rattle.std.specs.Prelude.{IsSome}
-use Rattle.sccs_base.specs.Name.{IsSfile, is_sfile_name, p_file, sfile_name_decides, z_file}
-use Rattle.sccs_base.specs.Stream.{GivesOk, GivesSome}
-use Rattle.sccs_base.proofs.Gifts.{some_none, some_of_whole}
+use Rattle.std.proofs.Common.{◌≡◌, ◌⊎◌, ℕ, Bool, false, List, [], ◌∷◌, ◌++◌, Option, Some, Result, Err, inl, inr, refl, sym, ap, subst}
+use Rattle.sccs_base.specs.Name.{IsSfile}
+use Rattle.sccs_base.specs.Stream.{GivesSome}
+use Rattle.sccs_base.proofs.Gifts.{some_none}
 use Rattle.sccs_sid.specs.Refusal.{refusal_line}
 use Rattle.sccs_sid.specs.declared.moments.Stamp.{Stamp}
 use Rattle.sccs_sid.specs.declared.refusals.Refusal.{Refusal}
-use Rattle.sccs_sid.specs.declared.refusals.StepFault.{StepFault}
 use Rattle.sccs_sid.specs.declared.refusals.StepFault.TheVariants as step
-use Rattle.sccs_disk.specs.Files.{Content, Folder, Model, View, view_in, view_of}
+use Rattle.sccs_disk.specs.Files.{Folder, Model, View, view_in, view_of}
 use Rattle.sccs_disk.specs.Images.{Allows}
 use Rattle.sccs_disk.specs.Told.{Told, Tells, seen}
 use Rattle.sccs_files.specs.StepFiles.{Alike, Shows}
 use Rattle.sccs_images.specs.Touches.{Each, earlier, newest}
 use Rattle.sccs_images.proofs.Images.{view_image}
-use Rattle.sccs_intents.specs.declared.intents.Fate.{Fate}
 use Rattle.sccs_moments.specs.Calm.{KeepsPairs}
 use Rattle.sccs_moments.specs.Moments.{EndsAfter, EndsBefore, EndsWithin, IsAt}
-use Rattle.sccs_moments.specs.Recovery.{IsSettledPair, IsSound, RecoversAs, fate_at, pair_of, recover}
-use Rattle.sccs_moments.proofs.Recovering.{pair, recovered, recovered_is, recovered_under}
+use Rattle.sccs_moments.specs.Recovery.{RecoversAs, IsHeldAt}
 use Rattle.sccs_moments.proofs.Untouched.{before_after, before_within}
-use Rattle.sccs_steps.specs.Actions.{Action}
-use Rattle.sccs_steps.specs.Calls.{Scene, scene, shown, world}
-use Rattle.sccs_steps.specs.ListStops.{AreSafe, KeepsSafe, KeepsSafeFrom, MayBegin}
-use Rattle.sccs_steps.specs.Messages.{Concludes, SaysRefusal}
+use Rattle.sccs_steps.specs.Calls.{Scene, scene}
+use Rattle.sccs_steps.specs.ListStops.{KeepsSafe, KeepsSafeFrom, MayBegin}
 use Rattle.sccs_steps.specs.StepLists.{NamedStep, all_moved, moves_of, step_in}
-use Rattle.sccs_steps.specs.StepStops.{IsSafe, IsSafeFor}
+use Rattle.sccs_steps.specs.StepStops.{IsSafe}
 use Rattle.sccs_steps.specs.declared.faults.Fault.{Fault}
 use Rattle.sccs_steps.specs.declared.faults.Fault.TheVariants as ends
-use Rattle.sccs_steps.proofs.Carried.{named_held}
+use Rattle.sccs_steps.proofs.Carried.{named_held, all_view}
 use Rattle.sccs_steps.proofs.OneMoment.{Alikes, one_after, one_before, one_within}
 use Rattle.sccs_steps.proofs.SafeImages.{numbered_each, told_once}
-use Rattle.sccs_steps.proofs.Safety.{alike_safe, keeps_same, pair_paired, pair_settled}
-use Rattle.sccs_steps.proofs.Turns.{each_all}
+use Rattle.sccs_steps.proofs.Safety.{alike_safe, keeps_same, safe_by}
 use Rattle.sccs_courses.specs.Following.{CourseMoments}
 use Rattle.sccs_courses.proofs.CourseMomentLaws.{course_moments}
 use Rattle.sccs_group_words.specs.declared.entries.GroupEntry.{GroupEntry}
 use Rattle.sccs_group_step.specs.GroupStep.{group_step, names_of, refused_step}
-use Rattle.sccs_group_step.specs.Making.{EndsAt, GroupMoments, HoldsFrom, HoldsNames, IsCut, IsHeldAt, IsMade, IsSaid, MeetsGroup, StopMeets, StopsAt, is_group_working}
-use Rattle.sccs_group_step.specs.Preparing.{ArePlain, IsFreeSound, IsGivenBack, IsNamed, is_any_working, sfiles_of}
-use Rattle.sccs_group_step.specs.declared.entries.NamedFault.{NamedFault}
-use Rattle.sccs_group_runs.specs.GroupCourses.{group_action, group_parts}
-use Rattle.sccs_group_runs.proofs.GroupFiles.{GroupAt, all_alike, all_view, back_shown, group_carried, group_out, made_shown, names_all, same_at, step_at}
-use Rattle.sccs_group_runs.proofs.GroupRuns.{Concluded, any_out, of_group, refused_here, refused_shown, still_view}
-use Rattle.sccs_group_runs.proofs.GroupSteps.{no_text, parts_are}
+use Rattle.sccs_group_step.specs.Making.{HoldsFrom, HoldsNames, IsMade, StopsAt, is_group_working}
+use Rattle.sccs_group_step.specs.Preparing.{ArePlain, IsGivenBack, is_any_working, sfiles_of}
+use Rattle.sccs_group_runs.proofs.GroupFiles.{GroupAt, all_alike, back_shown, group_carried, group_out, made_shown, step_at}
+use Rattle.sccs_group_runs.proofs.GroupRuns.{refused_here, refused_shown, still_view}
+use Rattle.sccs_group_runs.proofs.GroupSteps.{no_text}
 
 -- ---- safe names
-
--- what recovers as a view in which a name is safe, where the name is held if an intent names it
-safe_by : (n : List ℕ) (v u : View) → IsSfile n → RecoversAs v u → IsHeldAt n u → IsSafe n v → IsSafe n u
-safe_by n v u sfile recovers held safe = record {
-  plain = safe.plain;
-  sound = λ none. by none (fate_at u n) refl;
-  paired = pair_paired n v u (recovers n sfile) safe.paired;
-  settled = settled;
-}
-  where
-    settled : IsSettledPair (pair_of (recover n u) n)
-    settled = pair_settled n v u (recovers n sfile) safe.settled
-
-    by : u (z_file n) ≡ None → (f : Option Fate) → fate_at u n ≡ f → IsSound n u
-    by none (Some fate) is = absurd (let there = held (ap is_some is) in let e : false ≡ true = sym (ap is_some none) ∙ there in cc)
-    by none None is =
-        let same : pair_of (recover n u) n ≡ pair (u n) (u (p_file n)) = recovered_is n u sfile ∙ (recovered_under n u None is ∙ ap (λ (o : Option Content). recovered (u n) (u (p_file n)) (is_some o)) none) in
-        record { entries = subst IsSettledPair same settled; unnamed = is }
 
 -- what a stop leaves recovers as before the step, or as after it, where names stay safe
 abbrev AtGroup : View → View → View → Type 0

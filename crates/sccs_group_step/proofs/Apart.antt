@@ -1,5 +1,5 @@
 -- The files of different names.
-use Rattle.std.proofs.Common.{◌≡◌, ℕ, Bool, true, false, ◌||◌, cond, List, [], ◌∷◌, ◌++◌, drop, Option, None, Some, refl, sym, ap, subst, arith, ◌∙◌, ⊎_elim}
+use Rattle.std.proofs.Common.{◌≡◌, ℕ, Bool, true, false, ◌||◌, cond, List, [], ◌∷◌, ◌++◌, drop, Option, None, Some, refl, sym, ap, subst, ◌∙◌, ⊎_elim}
 use Rattle.std.specs.List.{AllByRecursion}
 use Rattle.std.specs.Str.{bytes_eq}
 use Rattle.sccs_base.specs.Name.{IsSfile, p_file, q_file, sibling, x_file, y_file, z_file}
@@ -9,15 +9,11 @@ use Rattle.sccs_disk.proofs.Puts.{name_cases, put_other, put_same}
 use Rattle.sccs_files.specs.StepFiles.{Alike, Files, is_left, l_file, moved}
 use Rattle.sccs_intents.specs.Intents.{intent_file, plan_file}
 use Rattle.sccs_moments.specs.Recovery.{begins_by_letter, is_kept}
-use Rattle.sccs_moments.proofs.FileNames.{both_false, intent_and_sfile, left_false, left_q, left_s, left_x, left_z, right_false, siblings_differ, sfile_is, to_sfile, from_sfile}
+use Rattle.sccs_moments.proofs.FileNames.{intent_and_sfile, left_q, left_s, left_x, left_z, siblings_differ, sfile_is, to_sfile, from_sfile, plan_and_sfile}
 use Rattle.sccs_group_step.specs.LFiles.{files_with_l}
 use Rattle.sccs_group_step.specs.Preparing.{IsPlainName, is_among, is_any_left}
-
--- the second byte, or none
-abbrev second : List ℕ → ℕ
-second [] = 0
-second (a ∷ []) = 0
-second (a ∷ b ∷ rest) = b
+use Rattle.std.proofs.lemmas.Bool.{or_from}
+use Rattle.sccs_base.proofs.Bools.{right_false, left_false}
 
 -- ---- one name and another
 
@@ -25,7 +21,7 @@ pub left_p : (n k : List ℕ) → is_left n (p_file k) ≡ false
 left_p n k = refl
 
 pub left_y : (n k : List ℕ) → IsSfile n → IsSfile k → bytes_eq n k ≡ false → is_left n (y_file k) ≡ false
-left_y n k sfile other apart = both_false _ false (siblings_differ 121 n k sfile other apart) refl
+left_y n k sfile other apart = or_from _ false (siblings_differ 121 n k sfile other apart) refl
 
 -- a name that begins with no such letter
 pub begins_not : (letter : ℕ) (k l : List ℕ) → begins_by_letter letter k ≡ false → IsSfile l → bytes_eq (sibling letter l) k ≡ false
@@ -69,9 +65,9 @@ unkept_s k h = left_false (begins_by_letter 115 k) _ h
 -- the g-file of a plain name is no left file
 pub left_g : (n k : List ℕ) → IsSfile n → IsPlainName k → is_left n (drop 2 k) ≡ false
 left_g n k sfile plain =
-    both_false _ _
-    (both_false _ _ (begins_not 120 (drop 2 k) n (unkept_x (drop 2 k) plain.kept) sfile)
-    (both_false _ _ (begins_not 113 (drop 2 k) n (unkept_q (drop 2 k) plain.kept) sfile) (begins_not 121 (drop 2 k) n plain.y_free sfile)))
+    or_from _ _
+    (or_from _ _ (begins_not 120 (drop 2 k) n (unkept_x (drop 2 k) plain.kept) sfile)
+    (or_from _ _ (begins_not 113 (drop 2 k) n (unkept_q (drop 2 k) plain.kept) sfile) (begins_not 121 (drop 2 k) n plain.y_free sfile)))
     (begins_not 122 (drop 2 k) n (unkept_z (drop 2 k) plain.kept) sfile)
 
 -- The files of a name are none of these.
@@ -97,13 +93,13 @@ outside_one n k sfile other apart plain = record {
 
 outside_both : (f g : List ℕ → Bool) (k : List ℕ) → IsOutside f k → IsOutside g k → IsOutside (λ l. f l || g l) k
 outside_both f g k a b = record {
-  s = both_false _ _ a.s b.s;
-  p = both_false _ _ a.p b.p;
-  z = both_false _ _ a.z b.z;
-  g = both_false _ _ a.g b.g;
-  x = both_false _ _ a.x b.x;
-  q = both_false _ _ a.q b.q;
-  y = both_false _ _ a.y b.y;
+  s = or_from _ _ a.s b.s;
+  p = or_from _ _ a.p b.p;
+  z = or_from _ _ a.z b.z;
+  g = or_from _ _ a.g b.g;
+  x = or_from _ _ a.x b.x;
+  q = or_from _ _ a.q b.q;
+  y = or_from _ _ a.y b.y;
 }
 
 pub outside_any : (names : List (List ℕ)) (k : List ℕ) → AllByRecursion IsSfile names → IsSfile k → is_among names k ≡ false → IsPlainName k → IsOutside (is_any_left names) k
@@ -193,18 +189,12 @@ pub unkept_intent : (k : List ℕ) → is_kept k ≡ false → bytes_eq k intent
 unkept_intent k h =
     right_false (begins_by_letter 113 k) _ (right_false (begins_by_letter 120 k) _ (right_false (begins_by_letter 122 k) _ (right_false (begins_by_letter 112 k) _ (right_false (begins_by_letter 115 k) _ h))))
 
--- the plan and the intent are no files of a name
-pub plan_and_sfile : (n : List ℕ) → IsSfile n → bytes_eq plan_file n ≡ false
-plan_and_sfile [] sfile = refl
-plan_and_sfile (b ∷ []) sfile = absurd (let e = sfile.front in cc)
-plan_and_sfile (b ∷ d ∷ rest) sfile = other_bytes plan_file (b ∷ d ∷ rest) (λ e. let dot : d ≡ 46 = let f = sfile.front in cc in let c : 99 ≡ d = ap second e in omega (arith, dot, c))
-
 pub outside_intent : (n : List ℕ) → IsSfile n → IsPlainName n → IsOutside (λ k. bytes_eq plan_file k || bytes_eq intent_file k) n
 outside_intent n sfile plain = record {
-  s = both_false _ _ (plan_and_sfile n sfile) (intent_and_sfile n sfile);
+  s = or_from _ _ (plan_and_sfile n sfile) (intent_and_sfile n sfile);
   p = refl;
   z = refl;
-  g = both_false _ _ plain.plan_free (bytes_eq_sym intent_file (drop 2 n) ∙ unkept_intent (drop 2 n) plain.kept);
+  g = or_from _ _ plain.plan_free (bytes_eq_sym intent_file (drop 2 n) ∙ unkept_intent (drop 2 n) plain.kept);
   x = refl;
   q = refl;
   y = refl;

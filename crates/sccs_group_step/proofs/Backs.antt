@@ -15,7 +15,6 @@ use Rattle.sccs_disk.proofs.Puts.{name_cases}
 use Rattle.sccs_files.specs.StepFiles.{Alike, Moves, is_left, is_working, l_file}
 use Rattle.sccs_steps.specs.StepEffects.{Outcome}
 use Rattle.sccs_store.specs.Commits.{Becomes, abandoned}
-use Rattle.sccs_moments.proofs.FileNames.{both_false, left_false, right_false}
 use Rattle.sccs_store.proofs.Working.{becomes_both, moves_same, moves_then, moves_wider}
 use Rattle.sccs_transactions.specs.declared.prepared.Prepared.{Prepared}
 use Rattle.sccs_group_words.specs.declared.entries.GroupEntry.{GroupEntry}
@@ -27,6 +26,8 @@ use Rattle.sccs_group_step.proofs.EntryEnds.{sfile_alike, sfile_back}
 use Rattle.sccs_group_step.proofs.GroupNames.{named_sfiles}
 use Rattle.sccs_group_step.proofs.SoFars.{AreHeld, SoFar, different_at, left_in, next_outcome, plain_at, prepared_next}
 use Rattle.sccs_group_step.proofs.StepsAhead.{put_all, refused_next}
+use Rattle.std.proofs.lemmas.Bool.{or_from}
+use Rattle.sccs_base.proofs.Bools.{right_false, left_false}
 
 -- ---- one name
 
@@ -56,7 +57,7 @@ z_or_not n k h = by (name_cases (z_file n) k)
   where
     by : (z_file n ≡ k) ⊎ (bytes_eq (z_file n) k ≡ false) → (z_file n ≡ k) ⊎ (is_left n k ≡ false)
     by (inl is) = inl is
-    by (inr other) = inr (both_false (is_working n k) _ h other)
+    by (inr other) = inr (or_from (is_working n k) _ h other)
 
 working_left : (n k : List ℕ) → is_working n k ≡ true → is_left n k ≡ true
 working_left n k h = ap (λ (b : Bool). b || bytes_eq (z_file n) k) h

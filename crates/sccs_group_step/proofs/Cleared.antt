@@ -1,5 +1,5 @@
 -- A group that is committed leaves no working files of its own.
-use Rattle.std.proofs.Common.{◌≡◌, ◌⊎◌, ◌||◌, ℕ, Bool, true, false, cond, List, [], ◌∷◌, drop, map, Option, None, Some, IsSome, inl, inr, refl, sym, ap, subst, ◌∙◌}
+use Rattle.std.proofs.Common.{◌≡◌, ◌⊎◌, ◌||◌, ℕ, Bool, true, false, cond, List, [], ◌∷◌, drop, map, Option, None, IsSome, inl, inr, refl, sym, ap, subst, ◌∙◌}
 use Rattle.std.specs.Prelude.{is_some}
 use Rattle.std.specs.List.{AllByRecursion}
 use Rattle.std.specs.Str.{bytes_eq}
@@ -13,7 +13,7 @@ use Rattle.sccs_intents.specs.Intents.{intent_file, plan_file}
 use Rattle.sccs_intents.specs.declared.intents.Fate.{Fate}
 use Rattle.sccs_intents.specs.declared.intents.Fate.TheVariants.{Replaced, Removed}
 use Rattle.sccs_moments.specs.Recovery.{without_name}
-use Rattle.sccs_moments.proofs.FileNames.{both_false, to_s, working_s}
+use Rattle.sccs_moments.proofs.FileNames.{to_s, working_s, plan_and_sfile}
 use Rattle.sccs_store.specs.Commits.{Needs, replaced}
 use Rattle.sccs_store.specs.declared.new_files.NewFile.{NewFile}
 use Rattle.sccs_store.specs.declared.new_files.NewFile.TheVariants.{Keep, Replace, Remove}
@@ -25,17 +25,13 @@ use Rattle.sccs_group.specs.Grouping.{announced, planned}
 use Rattle.sccs_group_step.specs.Making.{all_made, fate_of, is_group_working, member_of, removes}
 use Rattle.sccs_group_step.specs.Preparing.{AreDifferent, ArePlain, IsHeldEntry, is_any_left, is_any_working, made_names}
 use Rattle.sccs_group_step.specs.declared.entries.PreparedEntry.{PreparedEntry}
-use Rattle.sccs_group_step.proofs.Apart.{plan_and_sfile}
-use Rattle.sccs_group_step.proofs.Completed.{all_announced, all_elsewhere}
+use Rattle.sccs_group_step.proofs.Completed.{all_announced, all_elsewhere, some_is}
 use Rattle.sccs_group_step.proofs.SoFars.{AreHeld, all_held, held_sfiles}
+use Rattle.std.proofs.lemmas.Bool.{or_from}
 
 -- a file is gone, or as it was
 abbrev Or : Option Content → Option Content → Type 0
 Or o now = (now ≡ None) ⊎ (now ≡ o)
-
-some_is : (o : Option Content) → IsSome o → is_some o ≡ true
-some_is None there = absurd (cc)
-some_is (Some c) there = refl
 
 without_either : (n : List ℕ) (w : View) (k : List ℕ) (o : Option Content) → Or o (w k) → Or o (without_name n w k)
 without_either n w k o either = by (bytes_eq n k)
@@ -152,10 +148,10 @@ no_pairs (x ∷ made) all k sfiles working = ((s_not (name_cases x.name k), p_no
   where
     none_at : (ms : List PreparedEntry) (l : List ℕ) → ((y : List ℕ) → is_working y l ≡ false) → is_any_working (made_names ms) l ≡ false
     none_at [] l out = refl
-    none_at (y ∷ ms) l out = both_false _ _ (out y.name) (none_at ms l out)
+    none_at (y ∷ ms) l out = or_from _ _ (out y.name) (none_at ms l out)
 
     never : (l : List ℕ) → ((y : List ℕ) → is_working y l ≡ false) → bytes_eq plan_file l ≡ false → is_group_working (made_names all) l ≡ true → ⊥
-    never l out plan is = let free = both_false (is_any_working (made_names all) l) _ (none_at all l out) plan in cc
+    never l out plan is = let free = or_from (is_any_working (made_names all) l) _ (none_at all l out) plan in cc
 
     s_not : (x.name ≡ k) ⊎ (bytes_eq x.name k ≡ false) → bytes_eq x.name k ≡ false
     s_not (inl is) = absurd (never x.name (λ y. working_s y x.name sfiles.0) (plan_and_sfile x.name sfiles.0) (subst (λ (l : List ℕ). is_group_working (made_names all) l ≡ true) (sym is) working))

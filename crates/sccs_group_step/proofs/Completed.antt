@@ -12,7 +12,7 @@ use Rattle.sccs_disk.proofs.Puts.{name_cases, put_other, put_same}
 use Rattle.sccs_files.specs.StepFiles.{Alike, Files, is_left, is_working, moved, placed}
 use Rattle.sccs_intents.specs.Intents.{intent_file, plan_file}
 use Rattle.sccs_moments.specs.Recovery.{without_name}
-use Rattle.sccs_moments.proofs.FileNames.{both_false, left_false, no_working, no_y, no_z, right_false, sfile_and_intent, to_s, to_sfile}
+use Rattle.sccs_moments.proofs.FileNames.{no_working, no_y, no_z, sfile_and_intent, to_s, to_sfile}
 use Rattle.sccs_steps.specs.StepLists.{Move, all_moved, moves_of}
 use Rattle.sccs_store.specs.Commits.{Needs, Plan, files_after, g_swapped, p_swapped, replaced, s_swapped, swapped}
 use Rattle.sccs_store.specs.declared.new_files.NewFile.{NewFile}
@@ -33,10 +33,12 @@ use Rattle.sccs_group_step.proofs.Apart.{IsOutside, SameFiles, begins_not, files
 use Rattle.sccs_group_step.proofs.Backs.{z_free, z_or_not}
 use Rattle.sccs_group_step.proofs.SoFars.{AreHeld, AreSame, all_held, files_in_same, held_sfiles}
 use Rattle.sccs_group_step.specs.Making.{fate_of, is_group_working, member_of, removes}
+use Rattle.std.proofs.lemmas.Bool.{or_from}
+use Rattle.sccs_base.proofs.Bools.{right_false, left_false}
 
 -- ---- the files of one member
 
-some_is : (o : Option Content) → IsSome o → is_some o ≡ true
+pub some_is : (o : Option Content) → IsSome o → is_some o ≡ true
 some_is None there = absurd (cc)
 some_is (Some c) there = refl
 
@@ -216,7 +218,7 @@ completed_at made u v different plain held alike none k h = by_intent (name_case
         (all_held made u v (announced (map member_of made) v) (all_announced made (map member_of made) v (held_sfiles u v made held) plain) held) (all_announced made (map member_of made) v (held_sfiles u v made held) plain)
         (λ l away. left_false (is_any_left (made_names made) l) _ away)
         (λ l away. announced_other (map member_of made) v l (right_false (is_any_left (made_names made) l) _ away) ∙ alike l (left_false (is_any_left (made_names made) l) _ away))
-        k (both_false (is_any_left (made_names made) k) _ out (both_false (bytes_eq plan_file k) _ (right_false (is_any_working (made_names made) k) _ h) other)))
+        k (or_from (is_any_left (made_names made) k) _ out (or_from (bytes_eq plan_file k) _ (right_false (is_any_working (made_names made) k) _ h) other)))
 
     by_intent : (intent_file ≡ k) ⊎ (bytes_eq intent_file k ≡ false) → completed (map member_of made) (announced (map member_of made) v) k ≡ all_moved u (moves_in v u made) k
     by_intent (inl is) =

@@ -10,11 +10,10 @@ use Rattle.sccs_disk.specs.Told.{Told}
 use Rattle.sccs_files.specs.StepFiles.{is_left}
 use Rattle.sccs_images.specs.Touches.{Leaves, Touches, Touching, TouchesOnly, earlier, newest}
 use Rattle.sccs_images.proofs.Touched.{each_newest, firm_touched, only_then, only_wider}
-use Rattle.sccs_moments.proofs.FileNames.{left_false, left_q, left_x, right_false}
+use Rattle.sccs_moments.proofs.FileNames.{left_q, left_x}
 use Rattle.sccs_store.specs.Stops.{OnReplace}
 use Rattle.sccs_store.specs.declared.new_files.NewFile.{NewFile}
 use Rattle.sccs_store.specs.declared.new_files.NewFile.TheVariants.{Keep, Replace, Remove}
-use Rattle.sccs_store.proofs.Working.{leaves_from}
 use Rattle.sccs_transactions.specs.Changes.{plan_of}
 use Rattle.sccs_transactions.specs.Stops.{IsFirmPrepared}
 use Rattle.sccs_transactions.specs.declared.prepared.Prepared.{Prepared}
@@ -25,13 +24,10 @@ use Rattle.sccs_group_step.specs.declared.entries.PreparedEntry.{PreparedEntry}
 use Rattle.sccs_group_step.proofs.Backs.{left_of}
 use Rattle.sccs_group_step.proofs.Losing.{one_model}
 use Rattle.sccs_group_step.proofs.SoFars.{different_at}
+use Rattle.sccs_base.proofs.Bools.{right_false, left_false}
+use Rattle.sccs_transactions.proofs.StopEnds.{firm_from as later_from}
 
 -- ---- one name
-
-later_from : (new : NewFile) (k : List ℕ) (mine : List ℕ → Bool) (a b d : Told) → TouchesOnly mine a b → OnReplace new (Leaves (IsFirm k) b d) → OnReplace new (Leaves (IsFirm k) a d)
-later_from Keep k mine a b d touches firm = tt
-later_from Replace k mine a b d touches firm = leaves_from (IsFirm k) mine a b d touches firm
-later_from Remove k mine a b d touches firm = tt
 
 -- behind calls before it
 pub firm_from : (n : List ℕ) (p : Prepared) (mine : List ℕ → Bool) (a b d : Told) → TouchesOnly mine a b → IsFirmPrepared n p b d → IsFirmPrepared n p a d

@@ -10,7 +10,8 @@ use Rattle.sccs_pending.specs.PFiles.{ChangesDisk, OnlyReads}
 use Rattle.sccs_group_step.specs.Making.{GroupCauses}
 use Rattle.sccs_group_step.specs.Preparing.{AllCauses, GivesAllBack}
 use Rattle.sccs_group_step.specs.declared.entries.NamedFault.{NamedFault}
-use Rattle.sccs_group_step.proofs.Turns.{other_fault, rose_before, which}
+use Rattle.sccs_group_step.proofs.Turns.{other_fault, which}
+use Rattle.sccs_base.proofs.Rises.{rose_later, never_rose}
 
 -- memory was wanting, and entries are given up
 pub back_causes : {T : Type 0} (q : Result T StepFault) (r : StepFault) (names : List (List ℕ)) (o o2 : Option View) (out err d d2 : ℕ) → q ≡ Err r → d ≤ d2 → (r ≡ DiskFault → ((Memory ≡ DiskFault) × (d2 ≡ d)) ⊎ Rose d d2) → GivesAllBack r Memory names o o2
@@ -77,13 +78,8 @@ stopped_causes {D} {T} faults a b d q stop r out err low was is causes = record 
   disk_later = let more = causes.later in omega (arith, low, more);
   read = λ found here so. causes.read stop was (stop_is r stop found ReadFault is here so);
   write = λ found here so. absurd (causes.write stop was (stop_is r stop found WriteFault is here so));
-  broke = λ found here so. rose_before (faults a) (faults b) (faults d) low (causes.cause stop was (stop_is r stop found DiskFault is here so));
+  broke = λ found here so. rose_later (faults a) (faults b) (faults d) low (causes.cause stop was (stop_is r stop found DiskFault is here so));
 }
-
--- no count rises from 0 to 0
-never : Rose 0 0 → ⊥
-never (inl more) = omega (arith, more)
-never (inr last) = omega (arith, last)
 
 -- it was committed and reported, or not
 pub finished_causes : (q : Result (Unit {0}) StepFault) (r : Result (Unit {0}) NamedFault) (o o2 e e2 d d1 d2 : ℕ) → ((stop : NamedFault) → r ≡ Err stop → q ≡ Err stop.fault) → d ≤ d1 → StepCauses q (counts 0 o e d1) (counts 0 o2 e2 d2)
@@ -92,7 +88,7 @@ finished_causes q r o o2 e e2 d d1 d2 same low causes = record {
   out_later = causes.out_later;
   err_later = causes.err_later;
   disk_later = let more = causes.disk_later in omega (arith, low, more);
-  read = λ stop here so. never (causes.read (same stop here ∙ ap Err so));
+  read = λ stop here so. never_rose (causes.read (same stop here ∙ ap Err so));
   write = λ stop here so. causes.write (same stop here ∙ ap Err so);
-  broke = λ stop here so. rose_before d d1 d2 low (causes.broke (same stop here ∙ ap Err so));
+  broke = λ stop here so. rose_later d d1 d2 low (causes.broke (same stop here ∙ ap Err so));
 }

@@ -12,7 +12,6 @@ use Rattle.sccs_disk.specs.Files.{Content, View}
 use Rattle.sccs_files.specs.StepFiles.{Alike, moved}
 use Rattle.sccs_intents.specs.Intents.{intent_file, plan_file}
 use Rattle.sccs_moments.specs.Recovery.{without_name}
-use Rattle.sccs_moments.proofs.FileNames.{left_false, right_false}
 use Rattle.sccs_disk.proofs.Puts.{name_cases, put_other, put_same}
 use Rattle.sccs_steps.specs.Calls.{world}
 use Rattle.sccs_steps.specs.StepLists.{NamedStep, err_of}
@@ -30,9 +29,10 @@ use Rattle.sccs_group_step.specs.Preparing.{AreAllPrepared, AreDifferent, ArePla
 use Rattle.sccs_group_step.specs.declared.entries.PreparedEntry.{PreparedEntry}
 use Rattle.sccs_group_step.proofs.Backs.{all_gone, all_kept, z_free}
 use Rattle.sccs_group_step.proofs.Cleared.{made_clears}
-use Rattle.sccs_group_step.proofs.Completed.{completed_at}
+use Rattle.sccs_group_step.proofs.Completed.{completed_at, some_is}
 use Rattle.sccs_group_step.proofs.EntryEnds.{same_back}
 use Rattle.sccs_group_step.proofs.Halves.{broke_behind, broke_early, half_made, none_made}
+use Rattle.sccs_base.proofs.Bools.{right_false, left_false}
 
 -- ---- the commit
 
@@ -65,10 +65,6 @@ reported (Err ReadFault) said made ms a b out out2 err err2 are report message b
 reported (Err DiskFault) said made ms a b out out2 err err2 are report message becomes reports = absurd reports
 
 -- ---- the step
-
-some_is : (o : Option Content) → IsSome o → is_some o ≡ true
-some_is None there = absurd (cc)
-some_is (Some c) there = refl
 
 -- the step of a group
 abbrev pub of_group : Stamp → List GroupEntry → View → NamedStep

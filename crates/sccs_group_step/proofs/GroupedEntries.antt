@@ -1,11 +1,10 @@
 -- The entries that are read of a group's lines are of different names, one at least and a thousand at most.
 use Rattle.std.proofs.Common.{◌≡◌, ◌<◌, ◌≤◌, ◌+◌, ◌&&◌, ◌||◌, ℕ, zero, suc, Bool, true, false, not, nat_lt, List, [], ◌∷◌, ◌++◌, length, Option, None, Some, IfSome, Result, Ok, refl, ap, subst, ◌∙◌, arith}
 use Rattle.std.specs.Result.{IfOk}
-use Rattle.std.proofs.lemmas.Bool.{ltb-true}
+use Rattle.std.proofs.lemmas.Bool.{ltb-true, or_from}
 use Rattle.std.proofs.lemmas.List.{length-append}
 use Rattle.std.specs.Str.{bytes_eq}
 use Rattle.sccs_base.proofs.SameBytes.{bytes_eq_sym}
-use Rattle.sccs_moments.proofs.FileNames.{left_false, right_false}
 use Rattle.sccs_sid.specs.Reading.{only}
 use Rattle.sccs_entries.specs.Entries.{◌>>=◌}
 use Rattle.sccs_entries.specs.declared.entries.Counts.{Counts}
@@ -13,6 +12,7 @@ use Rattle.sccs_group_words.specs.GroupText.{Found, entry_at, entry_with, fits_b
 use Rattle.sccs_group_words.specs.declared.entries.GroupEntry.{GroupEntry}
 use Rattle.sccs_group_step.specs.GroupStep.{names_of}
 use Rattle.sccs_group_step.specs.Preparing.{AreDifferent, AreGrouped, is_among}
+use Rattle.sccs_base.proofs.Bools.{right_false, left_false}
 
 -- ---- one entry more
 
@@ -21,10 +21,7 @@ three_false b c x y = cc
 
 among_more : (es : List GroupEntry) (e : GroupEntry) (n : List ℕ) → is_among (names_of es) n ≡ false → bytes_eq e.name n ≡ false → is_among (names_of (es ++ e ∷ [])) n ≡ false
 among_more [] e n apart other = let last : (bytes_eq e.name n || false) ≡ false = ap (λ (b : Bool). b || false) other in last
-among_more (a ∷ es) e n apart other = both (bytes_eq a.name n) (is_among (names_of (es ++ e ∷ [])) n) (left_false (bytes_eq a.name n) _ apart) (among_more es e n (right_false (bytes_eq a.name n) _ apart) other)
-  where
-    both : (b c : Bool) → b ≡ false → c ≡ false → (b || c) ≡ false
-    both b c x y = cc
+among_more (a ∷ es) e n apart other = or_from (bytes_eq a.name n) (is_among (names_of (es ++ e ∷ [])) n) (left_false (bytes_eq a.name n) _ apart) (among_more es e n (right_false (bytes_eq a.name n) _ apart) other)
 
 different_more : (es : List GroupEntry) (e : GroupEntry) → AreDifferent (names_of es) → has_name es e.name ≡ false → AreDifferent (names_of (es ++ e ∷ []))
 different_more [] e different other = (refl, tt)

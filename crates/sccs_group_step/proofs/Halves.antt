@@ -8,7 +8,7 @@ use Rattle.sccs_disk.proofs.Puts.{put_other}
 use Rattle.sccs_files.specs.StepFiles.{Alike, Files, Moves, is_left, l_file, moved}
 use Rattle.sccs_intents.specs.Intents.{plan_file}
 use Rattle.sccs_moments.specs.Recovery.{without_name}
-use Rattle.sccs_moments.proofs.FileNames.{both_false, left_false, no_working, no_y, no_z, right_false}
+use Rattle.sccs_moments.proofs.FileNames.{no_working, no_y, no_z}
 use Rattle.sccs_steps.specs.FirstFiles.{first_moved}
 use Rattle.sccs_steps.specs.StepLists.{NamedStep, first_moves}
 use Rattle.sccs_store.specs.Commits.{Becomes, Plan, files_after, p_swapped, s_swapped}
@@ -28,6 +28,8 @@ use Rattle.sccs_group_step.specs.declared.entries.PreparedEntry.{PreparedEntry}
 use Rattle.sccs_group_step.proofs.Apart.{l_alike, l_stays, placed_alike}
 use Rattle.sccs_group_step.proofs.Completed.{all_elsewhere, all_then, moves_in, p_is_taken, placed_at, q_there, s_taken}
 use Rattle.sccs_group_step.proofs.SoFars.{AreHeld, AreSame, all_held, files_in_same}
+use Rattle.std.proofs.lemmas.Bool.{or_from}
+use Rattle.sccs_base.proofs.Bools.{right_false, left_false}
 
 -- ---- one member
 
@@ -150,12 +152,12 @@ broke_behind names ms a b d gone moves = (
 
 no_lock : (made : List PreparedEntry) (k : List ℕ) → is_any_left (made_names made) k ≡ false → is_lock_of (map member_of made) k ≡ false
 no_lock [] k h = refl
-no_lock (x ∷ made) k h = both_false _ _ (no_z x.name k (left_false (is_left x.name k) _ h)) (no_lock made k (right_false (is_left x.name k) _ h))
+no_lock (x ∷ made) k h = or_from _ _ (no_z x.name k (left_false (is_left x.name k) _ h)) (no_lock made k (right_false (is_left x.name k) _ h))
 
 within_left : (made : List PreparedEntry) (k : List ℕ) → is_group_left (made_names made) k ≡ false → is_left_of_group (map member_of made) k ≡ false
 within_left made k h =
     let files = right_false (is_any_left (made_names made) k) _ h in
-    both_false _ _ (left_false (bytes_eq plan_file k) _ files) (both_false _ _ (right_false (bytes_eq plan_file k) _ files) (no_lock made k (left_false (is_any_left (made_names made) k) _ h)))
+    or_from _ _ (left_false (bytes_eq plan_file k) _ files) (or_from _ _ (right_false (bytes_eq plan_file k) _ files) (no_lock made k (left_false (is_any_left (made_names made) k) _ h)))
 
 wider_moves : (mine more : List ℕ → Bool) (f : View → View) (a b : Option View) → ((k : List ℕ) → more k ≡ false → mine k ≡ false) → Moves mine f a b → Moves more f a b
 wider_moves mine more f None b within moves = moves

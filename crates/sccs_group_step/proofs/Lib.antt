@@ -5,13 +5,13 @@ mod Completed
 pub mod EntryEnds
 mod Firms
 mod GroupCause
-mod GroupEnds
+pub mod GroupEnds
 mod GroupNames
 pub mod GroupedEntries
 mod Halves
+mod LFilesPass
 mod Losing
 mod OtherFiles
-mod OtherLists
 mod SoFars
 mod Speaking
 pub mod StepsAhead

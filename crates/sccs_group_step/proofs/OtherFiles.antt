@@ -1,5 +1,5 @@
 -- A group leaves the files of other names, and changes those of names that weren't locked.
-use Rattle.std.proofs.Common.{◌≡◌, ◌&&◌, ℕ, Bool, true, false, List, [], ◌∷◌, drop, map, Option, None, Some, IfSome, Ok, inl, refl, sym, subst}
+use Rattle.std.proofs.Common.{◌≡◌, ◌&&◌, ℕ, false, List, [], ◌∷◌, drop, map, Option, None, Some, IfSome, Ok, inl, refl, sym, subst}
 use Rattle.std.specs.List.{AllByRecursion, list_any}
 use Rattle.std.specs.Str.{bytes_eq}
 use Rattle.sccs_base.specs.Name.{IsSfile, p_file}
@@ -9,7 +9,7 @@ use Rattle.sccs_disk.specs.Told.{Told, seen}
 use Rattle.sccs_images.specs.Touches.{TouchesOnly}
 use Rattle.sccs_intents.specs.Intents.{intent_file, plan_file}
 use Rattle.sccs_moments.specs.Unlocked.{BeginsUnlocked, KeepsOthers, is_own}
-use Rattle.sccs_moments.proofs.FileNames.{both_false, early_left, left_false, left_s, right_false}
+use Rattle.sccs_moments.proofs.FileNames.{early_left, left_s}
 use Rattle.sccs_moments.proofs.Unlocked.{others_then, others_touched, others_wider, own_left, unlocked_by}
 use Rattle.sccs_group.specs.Halfway.{NoneLocked, is_own_of, is_own_of_group, is_own_of_member}
 use Rattle.sccs_group.specs.Members.{IsPlainG}
@@ -23,12 +23,14 @@ use Rattle.sccs_group_step.specs.declared.entries.PreparedEntry.{PreparedEntry}
 use Rattle.sccs_group_step.proofs.GroupNames.{are_members}
 use Rattle.sccs_group_step.proofs.SoFars.{AreHeld}
 use Rattle.sccs_group_step.proofs.Wholes.{ArePreparedAll}
+use Rattle.std.proofs.lemmas.Bool.{and_right, or_from}
+use Rattle.sccs_base.proofs.Bools.{right_false, left_false}
 
 -- ---- names
 
 any_left : (names : List (List ℕ)) (k : List ℕ) → list_any (λ (n : List ℕ). is_own n k) names ≡ false → is_any_left names k ≡ false
 any_left [] k h = refl
-any_left (n ∷ names) k h = both_false _ _ (own_left n k (left_false (is_own n k) _ h)) (any_left names k (right_false (is_own n k) _ h))
+any_left (n ∷ names) k h = or_from _ _ (own_left n k (left_false (is_own n k) _ h)) (any_left names k (right_false (is_own n k) _ h))
 
 names_left : (names : List (List ℕ)) (k : List ℕ) → is_own_of_names names k ≡ false → is_any_left names k ≡ false
 names_left names k h = any_left names k (right_false (bytes_eq intent_file k) _ (right_false (bytes_eq plan_file k) _ h))
@@ -37,14 +39,10 @@ members_left : (made : List PreparedEntry) (k : List ℕ) → is_own_of (map mem
 members_left [] k h = refl
 members_left (x ∷ made) k h =
     let own = right_false (removes x.prepared.new_g && bytes_eq (drop 2 x.name) k) _ (left_false (is_own_of_member (member_of x) k) _ h) in
-    both_false _ _ (right_false (bytes_eq (p_file x.name) k) _ (right_false (bytes_eq x.name k) _ own)) (members_left made k (right_false (is_own_of_member (member_of x) k) _ h))
+    or_from _ _ (right_false (bytes_eq (p_file x.name) k) _ (right_false (bytes_eq x.name k) _ own)) (members_left made k (right_false (is_own_of_member (member_of x) k) _ h))
 
 group_left : (made : List PreparedEntry) (k : List ℕ) → is_own_of_group (map member_of made) k ≡ false → is_any_left (made_names made) k ≡ false
 group_left made k h = members_left made k (right_false (bytes_eq intent_file k) _ (right_false (bytes_eq plan_file k) _ h))
-
-and_false : (a b : Bool) → b ≡ false → (a && b) ≡ false
-and_false true b h = h
-and_false false b h = refl
 
 names_own : (made : List PreparedEntry) (k : List ℕ) → list_any (λ (n : List ℕ). is_own n k) (made_names made) ≡ false → is_own_of (map member_of made) k ≡ false
 names_own [] k h = refl
@@ -52,15 +50,15 @@ names_own (x ∷ made) k h =
     let own : is_own x.name k ≡ false = left_false (is_own x.name k) _ h in
     let behind_s = right_false (bytes_eq x.name k) _ own in
     let behind_p = right_false (bytes_eq (p_file x.name) k) _ behind_s in
-    both_false _ _
-    (both_false _ _ (and_false (removes x.prepared.new_g) _ (left_false (bytes_eq (drop 2 x.name) k) _ behind_p))
-    (both_false _ _ (left_false (bytes_eq x.name k) _ own) (both_false _ _ (left_false (bytes_eq (p_file x.name) k) _ behind_s) (early_left x.name k (right_false (bytes_eq (drop 2 x.name) k) _ behind_p)))))
+    or_from _ _
+    (or_from _ _ (and_right (removes x.prepared.new_g) _ (left_false (bytes_eq (drop 2 x.name) k) _ behind_p))
+    (or_from _ _ (left_false (bytes_eq x.name k) _ own) (or_from _ _ (left_false (bytes_eq (p_file x.name) k) _ behind_s) (early_left x.name k (right_false (bytes_eq (drop 2 x.name) k) _ behind_p)))))
     (names_own made k (right_false (is_own x.name k) _ h))
 
 names_group : (made : List PreparedEntry) (k : List ℕ) → is_own_of_names (made_names made) k ≡ false → is_own_of_group (map member_of made) k ≡ false
 names_group made k h =
     let files = right_false (bytes_eq plan_file k) _ h in
-    both_false _ _ (left_false (bytes_eq plan_file k) _ h) (both_false _ _ (left_false (bytes_eq intent_file k) _ files) (names_own made k (right_false (bytes_eq intent_file k) _ files)))
+    or_from _ _ (left_false (bytes_eq plan_file k) _ h) (or_from _ _ (left_false (bytes_eq intent_file k) _ files) (names_own made k (right_false (bytes_eq intent_file k) _ files)))
 
 -- ---- the commit
 
@@ -94,7 +92,7 @@ free_others made items names a b d same are touches kept =
 
 any_left_s : (names : List (List ℕ)) (k : List ℕ) → IsSfile k → is_any_left names k ≡ false
 any_left_s [] k sfile = refl
-any_left_s (n ∷ names) k sfile = both_false _ _ (left_s n k sfile) (any_left_s names k sfile)
+any_left_s (n ∷ names) k sfile = or_from _ _ (left_s n k sfile) (any_left_s names k sfile)
 
 any_left_p : (names : List (List ℕ)) (k : List ℕ) → is_any_left names (p_file k) ≡ false
 any_left_p [] k = refl

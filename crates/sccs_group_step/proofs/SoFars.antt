@@ -17,7 +17,6 @@ use Rattle.sccs_store.specs.Commits.{Needs, Plan, chosen, files_after}
 use Rattle.sccs_store.specs.declared.new_files.NewFile.{NewFile}
 use Rattle.sccs_store.specs.declared.new_files.NewFile.TheVariants.{Keep, Replace, Remove}
 use Rattle.sccs_store.specs.Stops.{KeepsEntries, OnChange}
-use Rattle.sccs_moments.proofs.FileNames.{both_false, left_false, right_false}
 use Rattle.sccs_moments.proofs.Recovering.{pair_same}
 use Rattle.sccs_moments.proofs.Untouched.{sound_kept}
 use Rattle.sccs_transactions.specs.Changes.{AreTakenOrGone, IsReady, IsTakenOrGone, plan_of}
@@ -28,8 +27,10 @@ use Rattle.sccs_group_step.specs.LFiles.{AgreeButL, files_with_l, with_l}
 use Rattle.sccs_group_step.specs.Preparing.{AreDifferent, ArePlain, Between, IsHeldEntry, IsPlainName, IsPreparedEntry, PreparesAll, effect_in, files_in, is_among, is_any_left, made_names, steps_in}
 use Rattle.sccs_group_step.specs.declared.entries.PreparedEntry.{PreparedEntry}
 use Rattle.sccs_group_step.proofs.Apart.{SameFiles, files_elsewhere, outside_any, outside_one, same_files}
-use Rattle.sccs_group_step.proofs.OtherLists.{entry_keeps_l}
+use Rattle.sccs_group_step.proofs.LFilesPass.{entry_keeps_l}
 use Rattle.sccs_group_step.proofs.StepsAhead.{accepted_next, put_all}
+use Rattle.std.proofs.lemmas.Bool.{or_from}
+use Rattle.sccs_base.proofs.Bools.{right_false, left_false}
 
 -- ---- names at a place
 
@@ -46,7 +47,7 @@ different_at [] (suc i) e rest all is = absurd (cc)
 different_at (a ∷ es) zero e rest all is = (refl, (subst (λ (l : List GroupEntry). AreDifferent (names_of l)) is all).0)
 different_at (a ∷ es) (suc i) e rest all is =
     let later = different_at es i e rest all.1 is in
-    (both_false _ _ (bytes_eq_sym a.name e.name ∙ among_at es i e rest a.name all.0 is) later.0, later.1)
+    (or_from _ _ (bytes_eq_sym a.name e.name ∙ among_at es i e rest a.name all.0 is) later.0, later.1)
 
 pub plain_at : (es : List GroupEntry) (i : ℕ) (e : GroupEntry) (rest : List GroupEntry) → ArePlain (names_of es) → drop i es ≡ e ∷ rest → IsPlainName e.name × ArePlain (names_of rest) × ArePlain (names_of (take i es))
 plain_at [] zero e rest all is = absurd (cc)

@@ -16,16 +16,13 @@ use Rattle.sccs_group_step.specs.GroupStep.{CouldBeMade, could_entry}
 use Rattle.sccs_group_step.specs.Making.{Finishes, SpeaksGroup, StopSpeaks, messages_in}
 use Rattle.sccs_group_step.specs.Preparing.{CouldAdd, CouldCome, GivesAllBack, GivesBack}
 use Rattle.sccs_group_step.specs.declared.entries.PreparedEntry.{PreparedEntry}
+use Rattle.std.proofs.lemmas.Bool.{or_right}
 
 -- ---- an entry
 
-or_more : (a b : Bool) → b ≡ true → (a || b) ≡ true
-or_more true b is = refl
-or_more false b is = is
-
 -- what may come of a delta
 pub could_ended : (fault : StepFault) → CouldPrepare could_make (Err fault) → CouldPrepare could_entry (Err fault)
-could_ended (Refused refusal) could = or_more _ (has_number delta_checks (number_of refusal)) could
+could_ended (Refused refusal) could = or_right _ (has_number delta_checks (number_of refusal)) could
 could_ended Memory could = tt
 could_ended ReadFault could = tt
 could_ended WriteFault could = tt
@@ -64,7 +61,7 @@ come_steps (x ∷ made) come =
 
 -- an entry ended it
 pub entry_speaks : (fault : StepFault) (err : Option (List ℕ)) → CouldPrepare could_entry (Err fault) → StopSpeaks fault err err
-entry_speaks (Refused refusal) err could = (or_more _ (has_number (number_of BadName ∷ delta_checks) (number_of refusal)) could, refl)
+entry_speaks (Refused refusal) err could = (or_right _ (has_number (number_of BadName ∷ delta_checks) (number_of refusal)) could, refl)
 entry_speaks Memory err could = refl
 entry_speaks ReadFault err could = refl
 entry_speaks WriteFault err could = ([], tt, some_none err [])

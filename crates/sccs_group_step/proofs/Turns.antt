@@ -1,8 +1,7 @@
 -- The turns of loops over entries.
-use Rattle.std.proofs.Common.{◌≡◌, ◌≢◌, ◌⊎◌, ◌<◌, ◌≤◌, ◌+◌, ℕ, zero, suc, true, List, [], ◌∷◌, ◌++◌, drop, take, length, get_or, Option, Result, Err, inl, inr, sym, ap, subst, ◌∙◌, arith}
+use Rattle.std.proofs.Common.{◌≡◌, ◌≢◌, ◌⊎◌, ◌<◌, ◌≤◌, ◌+◌, ℕ, zero, suc, List, [], ◌∷◌, ◌++◌, drop, take, length, get_or, Option, Result, Err, inl, inr, sym, ap, subst, ◌∙◌, arith}
 use Rattle.std.proofs.lemmas.List.{drop_all, drop_more, map-append, take_all, take_more}
 use Rattle.std.specs.List.{AllByRecursion}
-use Rattle.sccs_base.specs.Name.{IsSfile, is_sfile_name, sfile_name_decides}
 use Rattle.sccs_base.specs.Stream.{Rose}
 use Rattle.sccs_sid.specs.declared.refusals.StepFault.{StepFault}
 use Rattle.sccs_sid.specs.declared.refusals.StepFault.TheVariants.{ReadFault, WriteFault, DiskFault}
@@ -15,15 +14,13 @@ use Rattle.sccs_pending.specs.PFiles.{ChangesDisk}
 use Rattle.sccs_group_step.specs.declared.entries.NamedFault.{NamedFault}
 use Rattle.sccs_group_step.specs.declared.entries.PreparedEntry.{PreparedEntry}
 use Rattle.sccs_group_step.proofs.Backs.{back_then, none_back}
+use Rattle.sccs_base.proofs.Rises.{rose_later}
 
 pub item_at : {X : Type 0} (xs : List X) (i : ℕ) (x : X) → i < length xs → x ≡ get_or xs i x → drop i xs ≡ x ∷ drop (i + 1) xs
 item_at {X} xs i x low is = drop_more xs i x low ∙ ap (λ (y : X). y ∷ drop (i + 1) xs) (sym is)
 
 pub front_at : {X : Type 0} (xs : List X) (i : ℕ) (x : X) → i < length xs → x ≡ get_or xs i x → take (i + 1) xs ≡ take i xs ++ x ∷ []
 front_at {X} xs i x low is = take_more xs i x low ∙ ap (λ (y : X). take i xs ++ y ∷ []) (sym is)
-
-pub fits_sfile : (n : List ℕ) → is_sfile_name n ≡ true → IsSfile n
-fits_sfile n fits = ((sfile_name_decides n).0 fits).1
 
 -- the name at a place
 pub named_at : (made : List PreparedEntry) (i : ℕ) (x : PreparedEntry) (rest : List PreparedEntry) → AllByRecursion IsNamed (made_names made) → drop i made ≡ x ∷ rest → IsNamed x.name
@@ -61,10 +58,6 @@ back_done made i r o high = subst (λ (l : List PreparedEntry). GivesAllBack r r
 
 -- ---- causes
 
-pub rose_before : (f g h : ℕ) → f ≤ g → Rose g h → Rose f h
-rose_before f g h low (inl more) = inl (omega (arith, low, more))
-rose_before f g h low (inr last) = inr last
-
 -- one call's cause, and that of the call behind it
 pub cause_then : (F G : Type 0) (a b d : ℕ) → a ≤ b → (G → (F × (b ≡ a)) ⊎ Rose a b) → (G × (d ≡ b)) ⊎ Rose b d → (F × (d ≡ a)) ⊎ Rose a d
 cause_then F G a b d low first (inl same) = by (first same.0)
@@ -72,7 +65,7 @@ cause_then F G a b d low first (inl same) = by (first same.0)
     by : (F × (b ≡ a)) ⊎ Rose a b → (F × (d ≡ a)) ⊎ Rose a d
     by (inl kept) = inl (kept.0, same.1 ∙ kept.1)
     by (inr rose) = inr (subst (λ count. Rose a count) (sym same.1) rose)
-cause_then F G a b d low first (inr rose) = inr (rose_before a b d low rose)
+cause_then F G a b d low first (inr rose) = inr (rose_later a b d low rose)
 
 pub which : (r fault : StepFault) (names : List (List ℕ)) (o o2 : Option View) → GivesAllBack r fault names o o2 → (r ≡ fault) ⊎ (r ≡ DiskFault)
 which r fault names o o2 (inl gone) = inl gone.0
@@ -103,5 +96,5 @@ given_up_causes {D} {T} faults a b d e done fault r n names o o2 result low is o
     fault_of stop here so = ap (λ (x : NamedFault). x.fault) (the_stop stop here) ∙ so
 
     by : ((fault ≡ DiskFault) × (faults e ≡ faults d)) ⊎ Rose (faults d) (faults e) → Rose (faults a) (faults e)
-    by (inl same) = subst (λ count. Rose (faults a) count) (sym same.1) (rose_before (faults a) (faults b) (faults d) low (one.cause (is ∙ ap Err same.0)))
-    by (inr rose) = let first = one.later in rose_before (faults a) (faults d) (faults e) (omega (arith, low, first)) rose
+    by (inl same) = subst (λ count. Rose (faults a) count) (sym same.1) (rose_later (faults a) (faults b) (faults d) low (one.cause (is ∙ ap Err same.0)))
+    by (inr rose) = let first = one.later in rose_later (faults a) (faults d) (faults e) (omega (arith, low, first)) rose

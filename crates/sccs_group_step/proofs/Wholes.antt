@@ -14,10 +14,10 @@ use Rattle.sccs_images.proofs.Touched.{earlier_more, newest_more}
 use Rattle.sccs_intents.specs.Intents.{intent_file}
 use Rattle.sccs_moments.specs.Calm.{IsCalm, KeepsPairs}
 use Rattle.sccs_moments.specs.Moments.{EndsAfter, EndsBefore, EndsWithin, Stays}
-use Rattle.sccs_moments.specs.Recovery.{IsSettledPair, IsSound, Pair, RecoversAs, fated, newer}
+use Rattle.sccs_moments.specs.Recovery.{IsSettledPair, IsSound, RecoversAs, fated, newer, IsHeldAt}
 use Rattle.sccs_moments.proofs.CalmDisks.{calm_firm}
-use Rattle.sccs_moments.proofs.Joined.{numbered_now, numbered_zero}
-use Rattle.sccs_moments.proofs.Recovering.{p_of, pair_same, recovers_then, s_of}
+use Rattle.sccs_moments.proofs.Joined.{numbered_now, numbered_zero, each_then, each_by}
+use Rattle.sccs_moments.proofs.Recovering.{p_of, pair_same, recovers_then, s_of, pair}
 use Rattle.sccs_moments.proofs.Untouched.{calm_stayed, guards_touched}
 use Rattle.sccs_steps.specs.ListStops.{KeepsSafe}
 use Rattle.sccs_steps.specs.StepStops.{IsSafe}
@@ -43,13 +43,11 @@ use Rattle.sccs_group.specs.Finishing.{IsHeld}
 use Rattle.sccs_group.specs.Grouping.{CanGroup, CanPlace, CanPlaceAll, GroupEnds, GroupStops, OnReplaced, StayHeld, announced, new_pair_of}
 use Rattle.sccs_group.specs.Members.{IsWritten}
 use Rattle.sccs_group.specs.declared.members.Member.{Member}
-use Rattle.sccs_group.proofs.Announcing.{plan_and_sfile}
 use Rattle.sccs_group.proofs.Committing.{is_plan, plan_recovers}
-use Rattle.sccs_group.proofs.Runs.{each_by, each_then}
 use Rattle.sccs_group.proofs.Groups.{before_then, group_after, group_within, members_written, moved_intent, views_recover}
 use Rattle.sccs_group_words.specs.declared.entries.GroupEntry.{GroupEntry}
 use Rattle.sccs_group_step.specs.GroupStep.{entry_steps, group_step, names_of}
-use Rattle.sccs_group_step.specs.Making.{CommitMoments, GroupMoments, HoldsFrom, HoldsNames, IsHeldAt, StopsAt, fate_of, member_of}
+use Rattle.sccs_group_step.specs.Making.{CommitMoments, GroupMoments, HoldsFrom, HoldsNames, StopsAt, fate_of, member_of}
 use Rattle.sccs_group_step.specs.Preparing.{AreFirm, AreGrouped, AreMade, ArePlain, Between, GivesAllBack, IsHeldEntry, IsNamed, IsPlainName, LosesNothing, LosesOfSound, PreparesAll, files_in, made_names}
 use Rattle.sccs_group_step.specs.declared.entries.NamedFault.{NamedFault}
 use Rattle.sccs_group_step.specs.declared.entries.PreparedEntry.{PreparedEntry}
@@ -58,6 +56,7 @@ use Rattle.sccs_group_step.proofs.GroupEnds.{joint_is, of_group}
 use Rattle.sccs_group_step.proofs.GroupNames.{can_commit, may_commit}
 use Rattle.sccs_group_step.proofs.Losing.{IsFreeAt, all_sound_at, held_sound, keeps_at, one_model}
 use Rattle.sccs_group_step.proofs.SoFars.{AreHeld, held_sfiles}
+use Rattle.sccs_moments.proofs.FileNames.{plan_and_sfile}
 
 -- ---- the plan alone is touched
 
@@ -126,9 +125,6 @@ p_chosen : (new : NewFile) (n : List ℕ) (v : View) → IsRenewed new → Needs
 p_chosen Keep n v renewed needs = absurd renewed
 p_chosen Replace n v renewed needs = newer_there (v (q_file n)) (v (p_file n)) needs
 p_chosen Remove n v renewed needs = refl
-
-abbrev pair : Option Content → Option Content → Pair
-pair s p = record { s = s; p = p }
 
 pair_is : (x : PreparedEntry) (v : View) → IsDeltaPlan x.prepared → IsReady x.name x.prepared (Shows v)
     → new_pair_of (member_of x) v ≡ pair (files_after x.name (plan_of x.prepared) v).s (files_after x.name (plan_of x.prepared) v).p

@@ -11,7 +11,7 @@ use Rattle.sccs_disk.specs.Files.{Content, Model, View, view_of}
 use Rattle.sccs_disk.specs.Images.{Allows}
 use Rattle.sccs_disk.specs.Told.{Told, Tells}
 use Rattle.sccs_images.specs.Touches.{Each, earlier, newest}
-use Rattle.sccs_base.specs.Name.{IsSfile, z_file}
+use Rattle.sccs_base.specs.Name.{IsSfile}
 use Rattle.sccs_files.specs.StepFiles.{Alike, Moves}
 use Rattle.sccs_intents.specs.Intents.{intent_file, plan_file}
 use Rattle.sccs_intents.specs.declared.intents.Fate.{Fate}
@@ -25,7 +25,7 @@ use Rattle.sccs_store.specs.declared.new_files.NewFile.{NewFile}
 use Rattle.sccs_store.specs.declared.new_files.NewFile.TheVariants.{Keep, Replace, Remove}
 use Rattle.sccs_moments.specs.Calm.{IsCalm}
 use Rattle.sccs_moments.specs.Moments.{EndsAfter, EndsBefore, EndsWithin}
-use Rattle.sccs_moments.specs.Recovery.{fate_at, without_name}
+use Rattle.sccs_moments.specs.Recovery.{without_name, IsHeldAt}
 use Rattle.sccs_moments.specs.Unlocked.{is_own}
 use Rattle.sccs_store.specs.Commits.{Becomes}
 use Rattle.sccs_group.specs.Grouping.{GroupEnds, GroupStops, announced}
@@ -192,10 +192,6 @@ StopsAt (Refused refusal) v w m past new = EndsBefore v m past new
 abbrev pub EndsAt : Result (Unit {0}) NamedFault → View → View → Model → List Model → Told → Type 0
 EndsAt (Ok done) v w m past new = EndsAfter v w m past new × KeepsSafe v w
 EndsAt (Err stop) v w m past new = StopsAt stop.fault v w m past new
-
--- an intent that names a name is there only with its z-file
-abbrev pub IsHeldAt : List ℕ → View → Type 0
-IsHeldAt n v = IsSome (fate_at v n) → IsSome (v (z_file n))
 
 -- so it is of each name of which it is so in whatever a stop may leave of the model
 abbrev pub HoldsFrom : Model → View → Type 0

@@ -46,7 +46,7 @@ pub record AreGrouped (entries : List GroupEntry) : Type 0 where
   pub some : 0 < length entries
   pub few : length entries ≤ 1000
 
--- The name of a g-file is none that other files of s-files have, nor that of the plan or the intent.
+-- The name of a g-file is none that another file of an s-file may have, but for an l-file, nor that of the plan or the intent.
 pub record IsPlainName (n : List ℕ) : Type 0 where
   pub kept : is_kept (drop 2 n) ≡ false
   pub y_free : begins_by_letter 121 (drop 2 n) ≡ false

@@ -6,7 +6,6 @@ use Rattle.sccs_sid.specs.Reading.{only}
 use Rattle.sccs_words.specs.Meaning.{meaning}
 use Rattle.sccs_words.specs.declared.commands.Command.{Command}
 use Rattle.sccs_words.specs.declared.commands.Command.TheVariants.{Delta}
-use Rattle.sccs_words.specs.declared.commands.DeltaWords.{DeltaWords}
 use Rattle.sccs_words.specs.declared.commands.Usage.{Usage}
 use Rattle.sccs_entries.specs.Entries.{◌>>=◌, counts_of, field_of, has_own, input_in, words_in}
 use Rattle.sccs_entries.specs.declared.entries.Counts.{Counts}

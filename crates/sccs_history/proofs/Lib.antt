@@ -5,4 +5,5 @@ pub mod LinearTables
 pub mod LiveLines
 pub mod Membership
 pub mod OpenMarks
+pub mod OpenSerials
 pub mod Paths

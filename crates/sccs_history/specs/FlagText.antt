@@ -1,5 +1,5 @@
 -- What the text of a flag may be: sccsfile(4), "Flags".
-use Rattle.std.specs.Prelude.{ℕ, ◌==◌, nat_lt, nat_le, Bool, true, false, not, ◌&&◌, ◌||◌, List, [], ◌∷◌, is_some, is_ok, unwrap_or, if◌then◌else◌}
+use Rattle.std.specs.Prelude.{ℕ, ◌==◌, nat_lt, Bool, true, false, not, ◌&&◌, ◌||◌, List, [], ◌∷◌, is_some, is_ok, unwrap_or, if◌then◌else◌}
 use Rattle.std.specs.List.{list_all}
 use Rattle.sccs_sid.specs.Reading.{is_empty, number}
 use Rattle.sccs_sid.specs.Spec.{spec_of}

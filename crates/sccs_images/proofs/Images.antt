@@ -8,9 +8,7 @@ use Rattle.sccs_disk.specs.Images.{Image, Full, Fits, IsOwn, file_under}
 use Rattle.sccs_disk.proofs.Models.{names_all, names_at_pended, names_at_created, names_created, names_pended, change_length, get_front, get_kept}
 use Rattle.sccs_disk.proofs.Puts.{same_name, put_other}
 use Rattle.sccs_images.specs.Touches.{IsBut}
-
-abbrev content : File → Content
-content f = f.content
+use Rattle.sccs_disk.proofs.Views.{content}
 
 fits_as : (b : Bool) (c : Content) → Fits (Some (record { content = c; firm = b })) (Some c)
 fits_as true c = refl

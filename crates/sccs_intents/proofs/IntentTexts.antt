@@ -1,8 +1,8 @@
 -- What is written as an intent is read again, and what is read is written so.
-use Rattle.std.proofs.Common.{◌≡◌, ℕ, ◌+◌, ◌*◌, ◌==◌, ◌<◌, ◌≤◌, nat_lt, ◌⊎◌, inl, inr, Bool, true, false, not, ◌&&◌, if◌then◌else◌, List, [], ◌∷◌, ◌++◌, length, length-append, map, flat_map, Option, None, Some, Result, Ok, Err, refl, sym, ap, subst, ◌∙◌, append_assoc, append-nil, arith}
+use Rattle.std.proofs.Common.{◌≡◌, ℕ, ◌+◌, ◌*◌, ◌==◌, ◌<◌, ◌≤◌, nat_lt, ◌⊎◌, inl, inr, Bool, true, false, not, if◌then◌else◌, List, [], ◌∷◌, ◌++◌, length, length-append, map, flat_map, Option, None, Some, Result, Ok, Err, refl, sym, ap, subst, ◌∙◌, append_assoc, append-nil, arith}
 use Rattle.std.specs.List.{AllByRecursion, list_all}
 use Rattle.std.specs.Str.{bytes_eq}
-use Rattle.std.proofs.lemmas.Bool.{and_from, and_parts, cases_Bool, eqb-true, le-ltb, ltb-false, ne_eqb}
+use Rattle.std.proofs.lemmas.Bool.{and_from, and_parts, cases_Bool, eqb-true, le-ltb, ltb-false, ne_eqb, and_right}
 use Rattle.std.proofs.lemmas.List.Elements.{recursion_from_All}
 use Rattle.std.proofs.lemmas.Slice.Eq.{bytes_eq-Decides}
 use Rattle.sccs_base.specs.Constants.{file_limit}
@@ -14,8 +14,9 @@ use Rattle.sccs_intents.specs.Written.{IsIntent, ended, entry_line, entry_text, 
 use Rattle.sccs_intents.specs.declared.intents.Entry.{Entry}
 use Rattle.sccs_intents.specs.declared.intents.Fate.{Fate}
 use Rattle.sccs_intents.specs.declared.intents.Fate.TheVariants.{Replaced, Removed}
-use Rattle.sccs_intents.proofs.Cuts.{cut_ended, cut_joined, is_other, with_line}
+use Rattle.sccs_intents.proofs.Cuts.{cut_ended, cut_joined, is_other}
 use Rattle.sccs_intents.proofs.Others.{alone_behind, other_behind, others_more}
+use Rattle.sccs_base.proofs.Cuts.{with_line}
 
 -- ---- the lines of a text
 
@@ -48,10 +49,6 @@ not_last : (fate : Fate) (name : List ℕ) → bytes_eq (letter_of fate ∷ 32 �
 not_last Replaced name = refl
 not_last Removed name = refl
 
-and_no : (t u : Bool) → u ≡ false → (t && u) ≡ false
-and_no true u no_one = no_one
-and_no false u no_one = refl
-
 entry_again : (fate : Fate) (name : List ℕ) → is_sfile_name name ≡ true → entry_of (letter_of fate ∷ 32 ∷ name) ≡ Some (record { name = name; fate = fate })
 unfolding entry_of
 entry_again Replaced name is = ap (λ test. if test then Some (record { name = name; fate = Replaced }) else None) is
@@ -80,7 +77,7 @@ entries_again number before (e ∷ entries) are some =
     let other : IsOther entries e = other_behind before entries e are in
     let same : before ++ e ∷ entries ≡ (before ++ e ∷ []) ++ entries = sym (append_assoc before (e ∷ []) entries) in
     one_line number before (before ++ e ∷ []) (entry_line e) (map entry_line entries ++ last_line ∷ []) []
-    (and_no (not (is_empty before)) (bytes_eq (entry_line e) last_line) (not_last e.fate e.name))
+    (and_right (not (is_empty before)) (bytes_eq (entry_line e) last_line) (not_last e.fate e.name))
     (added_again before e other.name other.sfile (alone_behind before entries e are))
     ∙ (entries_again (number + 1) (before ++ e ∷ []) entries (subst AreOthers same are) (subst (λ (l : List Entry). 0 < length l) same some)
     ∙ ap Ok (sym same))

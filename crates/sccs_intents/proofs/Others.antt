@@ -1,7 +1,7 @@
 -- Entries whose names differ, and one more.
-use Rattle.std.proofs.Common.{◌≡◌, ℕ, Bool, true, false, ◌||◌, List, [], ◌∷◌, ◌++◌, refl, sym, ap, ◌∙◌, inl, inr}
+use Rattle.std.proofs.Common.{◌≡◌, ℕ, Bool, true, false, List, [], ◌∷◌, ◌++◌, refl, sym, inl, inr}
 use Rattle.std.specs.Str.{bytes_eq}
-use Rattle.std.proofs.lemmas.Bool.{cases_Bool}
+use Rattle.std.proofs.lemmas.Bool.{cases_Bool, or_from, or_parts}
 use Rattle.std.proofs.lemmas.Slice.Eq.{bytes_eq-Decides}
 use Rattle.sccs_intents.specs.Intents.{AreOthers, IsOther, has_name}
 use Rattle.sccs_intents.specs.declared.intents.Entry.{Entry}
@@ -16,13 +16,6 @@ differ a c other =
       | inl is ↦ absurd (true_false (bytes_eq a c) ((bytes_eq-Decides a c).1 (sym ((bytes_eq-Decides c a).0 is))) other)
       | inr no_one ↦ no_one
     ]
-
-or_parts : (x y : Bool) → (x || y) ≡ false → (x ≡ false) × (y ≡ false)
-or_parts true y other = cc
-or_parts false y other = (refl, other)
-
-or_from : (x y : Bool) → x ≡ false → y ≡ false → (x || y) ≡ false
-or_from x y first second = ap (λ t. t || y) first ∙ second
 
 -- the name of one more is another
 more_alone : (others : List Entry) (name : List ℕ) (e : Entry) → has_name others name ≡ false → bytes_eq e.name name ≡ false → has_name (others ++ e ∷ []) name ≡ false

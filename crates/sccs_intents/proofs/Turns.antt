@@ -1,7 +1,6 @@
 -- The entries of an intent by its next line.
-use Rattle.std.proofs.Common.{◌≡◌, ℕ, ◌+◌, ◌==◌, nat_lt, Bool, true, false, if◌then◌else◌, List, [], ◌∷◌, suc, length, Option, None, Some, Result, Ok, Err, refl, sym, ap, subst, ◌∙◌, arith}
+use Rattle.std.proofs.Common.{◌≡◌, ℕ, ◌+◌, ◌==◌, nat_lt, Bool, true, false, if◌then◌else◌, List, [], ◌∷◌, length, Option, None, Some, Result, Ok, Err, refl, sym, ap, subst, ◌∙◌}
 use Rattle.std.specs.Str.{bytes_eq}
-use Rattle.std.proofs.lemmas.Bool.{eqb-true}
 use Rattle.sccs_base.specs.Constants.{file_limit}
 use Rattle.sccs_base.specs.Cut.{Cut, before, cut, longer}
 use Rattle.sccs_base.proofs.Cuts.{cut-cons}
@@ -10,7 +9,8 @@ use Rattle.sccs_intents.specs.Intents.{AddsEntry, Reads, begun, closed, closes, 
 use Rattle.sccs_intents.specs.declared.intents.Entry.{Entry}
 use Rattle.sccs_intents.specs.declared.intents.IntentFault.{IntentFault}
 use Rattle.sccs_intents.specs.declared.intents.IntentFault.TheVariants.{BadIntent, Memory}
-use Rattle.sccs_intents.proofs.Cuts.{cut_first, cut_none}
+use Rattle.sccs_sid.proofs.FirstLines.{cut_first, cut_none}
+use Rattle.sccs_base.proofs.SameBytes.{no_bytes}
 
 -- ---- the last line
 
@@ -47,10 +47,6 @@ by_line number entries bytes line more all piece found is =
 
 pub no_line : (number : ℕ) (entries : List Entry) (bytes : List ℕ) (all : Result (List Entry) ℕ) → None ≡ behind 10 bytes → entries_at number entries bytes ≡ all → all ≡ Err number
 no_line number entries bytes all none is = sym is ∙ ap (λ (c : Cut). entries_from number entries c.lines c.tail) (cut_none bytes (sym none))
-
-pub no_bytes : (bytes : List ℕ) → (length bytes == 0) ≡ true → bytes ≡ []
-no_bytes [] is = refl
-no_bytes (b ∷ bytes) is = let none : suc (length bytes) ≡ 0 = eqb-true (suc (length bytes)) 0 is in absurd (omega (arith, none))
 
 pub at_end : (number : ℕ) (entries : List Entry) (bytes : List ℕ) (all : Result (List Entry) ℕ) → (length bytes == 0) ≡ true → entries_at number entries bytes ≡ all → all ≡ Err number
 unfolding cut

@@ -1,14 +1,11 @@
 -- Texts that are given one after the other.
-use Rattle.std.proofs.Common.{◌≡◌, ℕ, ◌≤◌, List, [], ◌∷◌, ◌++◌, ap, ◌∙◌, append_assoc, Option, Result, Ok, Err, OnOk, OnErr, inl, inr, sym, subst, arith}
+use Rattle.std.proofs.Common.{◌≡◌, ℕ, ◌≤◌, List, [], ◌∷◌, ◌++◌, ap, ◌∙◌, append_assoc, Option, Result, Ok, Err, OnOk, OnErr, sym, subst, arith}
 use Rattle.std.specs.Result.{OnOk, OnErr}
 use Rattle.sccs_base.specs.Causes.{GivesText}
 use Rattle.sccs_base.specs.Stream.{GivesOk, GivesSome, Rose}
 use Rattle.sccs_keys.specs.Expansion.{what_mark}
 use Rattle.sccs_base.proofs.Gifts.{gives_both, gives_then, some_longer}
-
-rose_later : (f g h : ℕ) → f ≤ g → Rose g h → Rose f h
-rose_later f g h low (inl more) = inl (omega (arith, low, more))
-rose_later f g h low (inr last) = inr last
+use Rattle.sccs_base.proofs.Rises.{rose_later}
 
 ok_of : {T E : Type 0} (P : Type 0) (q : Result T E) (done : T) → q ≡ Ok done → OnOk q P → P
 ok_of P q done is on = subst (λ (s : Result _ _). OnOk s P) is on

@@ -3,7 +3,7 @@ use Rattle.std.proofs.Common.{◌≡◌, ℕ, zero, suc, ◌==◌, ◌<◌, Bool
 use Rattle.std.specs.List.{list_any}
 use Rattle.std.proofs.lemmas.Bool.{eqb-true}
 use Rattle.sccs_history.specs.Applied.{live_serials}
-use Rattle.sccs_history.specs.Body.{is_closed as closed, is_insert as inserting, mark, above, open_serials, inserters, is_over, may_stand}
+use Rattle.sccs_history.specs.Body.{is_closed as closed, is_insert as inserting, mark, above, is_over, may_stand}
 use Rattle.sccs_history.specs.Body as body
 use Rattle.sccs_history.specs.Numbers.{falling, front_if, has, is_empty}
 use Rattle.sccs_history.proofs.Falling.{has-falling}
@@ -15,6 +15,7 @@ use Rattle.sccs_marks.specs.States.{Knows}
 use Rattle.sccs_marks.specs.declared.body_states.BodyState.{BodyState}
 use Rattle.sccs_marks.specs.declared.marks.Mark.{Mark}
 use Rattle.sccs_marks.specs.declared.marks.Mark.TheVariants.{Closed}
+use Rattle.sccs_base.proofs.Bools.{right_false, left_false}
 
 -- a text line opens and ends nothing
 pub knows_text : (live : List ℕ) (before : List Item) (text : List ℕ) (s : BodyState) → Knows live before s → Knows live (Text text ∷ before) s
@@ -55,18 +56,10 @@ passing : (p : Mark → Bool) (ms : List Mark) → list_any p ms ≡ true → (n
 passing p [] some = cc
 passing p (m ∷ ms) some = passing_by (p m) p m ms refl (passing p ms) some
 
-first_false : (a b : Bool) → (a || b) ≡ false → a ≡ false
-first_false true b h = cc
-first_false false b h = refl
-
-rest_false : (a b : Bool) → (a || b) ≡ false → b ≡ false
-rest_false true b h = cc
-rest_false false b h = h
-
 none_passes : (p : Mark → Bool) (ms : List Mark) → p Closed ≡ false → list_any p ms ≡ false → (n : ℕ) → p (get_or ms n Closed) ≡ false
 none_passes p [] shut none n = shut
-none_passes p (m ∷ ms) shut none zero = first_false (p m) (list_any p ms) none
-none_passes p (m ∷ ms) shut none (suc n) = none_passes p ms shut (rest_false (p m) (list_any p ms) none) n
+none_passes p (m ∷ ms) shut none zero = left_false (p m) (list_any p ms) none
+none_passes p (m ∷ ms) shut none (suc n) = none_passes p ms shut (right_false (p m) (list_any p ms) none) n
 
 -- Some mark passes a test where some serial below the bound does. Closed marks don't pass.
 any_marked : (t : Bool) (test : body.Mark → Bool) (before : List Item) (ms : List Mark) → test body.Closed ≡ false → ((m : body.Mark) → test m ≡ true → closed m ≡ false) → ((n : ℕ) → kind (get_or ms n Closed) ≡ mark n before) → list_any (λ m. test (kind m)) ms ≡ t → t ≡ not (is_empty (falling (above before) (λ n. test (mark n before))))

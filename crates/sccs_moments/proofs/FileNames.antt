@@ -5,8 +5,10 @@ use Rattle.sccs_base.specs.Name.{IsSfile, sibling, p_file, q_file, x_file, y_fil
 use Rattle.sccs_base.proofs.SameBytes.{other_bytes, same_bytes}
 use Rattle.sccs_base.proofs.Siblings.{sfile_long}
 use Rattle.sccs_files.specs.StepFiles.{is_early, is_left, is_working, l_file}
-use Rattle.sccs_intents.specs.Intents.{intent_file}
+use Rattle.sccs_intents.specs.Intents.{intent_file, plan_file}
 use Rattle.sccs_moments.specs.Recovery.{begins_by_letter, is_kept}
+use Rattle.std.proofs.lemmas.Bool.{or_from}
+use Rattle.sccs_base.proofs.Bools.{right_false, left_false}
 
 -- the name of an s-file begins with s
 pub sfile_is : (n : List ℕ) → IsSfile n → n ≡ sibling 115 n
@@ -50,17 +52,6 @@ s_and_g n sfile = other_bytes n (drop 2 n) (λ e. let e2 = ap length e in omega 
 
 -- ---- working files
 
-pub left_false : (x y : Bool) → (x || y) ≡ false → x ≡ false
-left_false true y h = cc
-left_false false y h = refl
-
-pub right_false : (x y : Bool) → (x || y) ≡ false → y ≡ false
-right_false true y h = cc
-right_false false y h = h
-
-pub both_false : (x y : Bool) → x ≡ false → y ≡ false → (x || y) ≡ false
-both_false x y a b = cc
-
 pub no_x : (n k : List ℕ) → is_working n k ≡ false → bytes_eq (x_file n) k ≡ false
 no_x n k h = left_false _ _ h
 
@@ -98,16 +89,16 @@ pub left_z : (n k : List ℕ) → IsSfile n → IsSfile k → bytes_eq n k ≡ f
 left_z n k sfile other apart = siblings_differ 122 n k sfile other apart
 
 pub working_x : (n k : List ℕ) → IsSfile n → IsSfile k → bytes_eq n k ≡ false → is_working n (x_file k) ≡ false
-working_x n k sfile other apart = both_false _ false (siblings_differ 120 n k sfile other apart) refl
+working_x n k sfile other apart = or_from _ false (siblings_differ 120 n k sfile other apart) refl
 
 pub working_q : (n k : List ℕ) → IsSfile n → IsSfile k → bytes_eq n k ≡ false → is_working n (q_file k) ≡ false
-working_q n k sfile other apart = both_false _ false (siblings_differ 113 n k sfile other apart) refl
+working_q n k sfile other apart = or_from _ false (siblings_differ 113 n k sfile other apart) refl
 
 pub left_x : (n k : List ℕ) → IsSfile n → IsSfile k → bytes_eq n k ≡ false → is_left n (x_file k) ≡ false
-left_x n k sfile other apart = both_false _ false (working_x n k sfile other apart) refl
+left_x n k sfile other apart = or_from _ false (working_x n k sfile other apart) refl
 
 pub left_q : (n k : List ℕ) → IsSfile n → IsSfile k → bytes_eq n k ≡ false → is_left n (q_file k) ≡ false
-left_q n k sfile other apart = both_false _ false (working_q n k sfile other apart) refl
+left_q n k sfile other apart = or_from _ false (working_q n k sfile other apart) refl
 
 -- ---- the intent
 
@@ -130,6 +121,12 @@ sfile_and_intent n sfile = other_bytes n intent_file (λ e.
 
 pub intent_and_sfile : (n : List ℕ) → IsSfile n → bytes_eq intent_file n ≡ false
 intent_and_sfile n sfile = other_bytes intent_file n (λ e.
+    let dot : second n ≡ 46 = sym (second_of_two n) ∙ ap second sfile.front in
+    let c : 99 ≡ second n = ap second e in omega (arith, dot, c))
+
+-- nor is the plan
+pub plan_and_sfile : (n : List ℕ) → IsSfile n → bytes_eq plan_file n ≡ false
+plan_and_sfile n sfile = other_bytes plan_file n (λ e.
     let dot : second n ≡ 46 = sym (second_of_two n) ∙ ap second sfile.front in
     let c : 99 ≡ second n = ap second e in omega (arith, dot, c))
 
@@ -188,10 +185,6 @@ kept_q g k h sfile = begins_not 113 g (q_file k) (left_false (begins_by_letter 1
 pub kept_intent : (g : List ℕ) → is_kept g ≡ false → bytes_eq g intent_file ≡ false
 kept_intent g h = right_false (begins_by_letter 113 g) (bytes_eq g intent_file) (no_x_name g h)
 
--- a name that doesn't begin as l-files do
-pub no_l_name : (g k : List ℕ) → begins_by_letter 108 g ≡ false → IsSfile k → bytes_eq g (l_file k) ≡ false
-no_l_name g k h sfile = begins_not 108 g (l_file k) h (sibling_front 108 k sfile)
-
 -- an l-file is none at which recovery looks
 not_begun : (letter : ℕ) (n : List ℕ) → letter ≢ 108 → begins_by_letter letter (l_file n) ≡ false
 not_begun letter n other = other_bytes (take 2 (l_file n)) (letter ∷ 46 ∷ []) (λ e. other (sym (first_is letter n e)))
@@ -201,5 +194,5 @@ not_begun letter n other = other_bytes (take 2 (l_file n)) (letter ∷ 46 ∷ []
 
 pub l_plain : (n : List ℕ) → is_kept (l_file n) ≡ false
 l_plain n =
-    both_false _ _ (not_begun 115 n (λ e. omega (arith, e)))
-    (both_false _ _ (not_begun 112 n (λ e. omega (arith, e))) (both_false _ _ (not_begun 122 n (λ e. omega (arith, e))) (both_false _ _ (not_begun 120 n (λ e. omega (arith, e))) (both_false _ _ (not_begun 113 n (λ e. omega (arith, e))) refl))))
+    or_from _ _ (not_begun 115 n (λ e. omega (arith, e)))
+    (or_from _ _ (not_begun 112 n (λ e. omega (arith, e))) (or_from _ _ (not_begun 122 n (λ e. omega (arith, e))) (or_from _ _ (not_begun 120 n (λ e. omega (arith, e))) (or_from _ _ (not_begun 113 n (λ e. omega (arith, e))) refl))))

@@ -5,7 +5,9 @@ use Rattle.sccs_disk.specs.Images.{Allows}
 use Rattle.sccs_disk.specs.Told.{Told, Tells}
 use Rattle.sccs_images.specs.Touches.{Each, earlier, newest}
 use Rattle.sccs_images.proofs.Touched.{earlier_more, newest_more}
-use Rattle.sccs_moments.specs.Moments.{Guarded, Guards, Numbered, Went}
+use Rattle.sccs_moments.specs.Moments.{Guarded, Guards, Numbered, Went, Stays}
+use Rattle.sccs_moments.specs.Calm.{KeepsPairs}
+use Rattle.sccs_moments.proofs.Recovering.{recovers_then}
 
 -- what holds of the number and the moment now
 pub numbered_now : (P : ℕ → Model → Type 0) (low : ℕ) (added : List Model) (m : Model) (j : ℕ) → Numbered P low added m j → P j (newest added m)
@@ -70,3 +72,30 @@ newest_is m m2 past past2 added new is now = model (sym is ∙ now)
   where
     model : {a b : Model} {p q : List Model} → Tells a p ≡ Tells b q → a ≡ b
     model e = cc
+
+-- ---- what is said of each moment
+
+pub each_then : (P : Model → Type 0) (later added : List Model) (m : Model) → Each P added m → Each P later (newest added m) → Each P (later ++ added) m
+each_then P [] added m first next = first
+each_then P (a ∷ later) added m first next = (next.0, each_then P later added m first next.1)
+
+pub each_by : (P Q : Model → Type 0) (added : List Model) (m : Model) → ((m2 : Model) → P m2 → Q m2) → Each P added m → Each Q added m
+each_by P Q [] m so each = so m each
+each_by P Q (a ∷ added) m so each = (so a each.0, each_by P Q added m so each.1)
+
+-- ---- pairs that are kept
+
+pub keeps_then : (u v w : View) → KeepsPairs u v → KeepsPairs v w → KeepsPairs u w
+keeps_then u v w first next = record {
+  intent = next.intent ∙ first.intent;
+  pairs = λ k sfile. next.pairs k sfile ∙ first.pairs k sfile;
+  recovers = recovers_then u v w first.recovers next.recovers;
+}
+
+abbrev pub stays_as : (v : View) (m1 : Model) (past1 : List Model) (d : Told) → KeepsPairs v (view_of m1) → Stays (view_of m1) m1 past1 d → Stays v m1 past1 d
+stays_as v m1 past1 d keeps went = record {
+  added = went.added;
+  is = went.is;
+  numbers = numbered_as (λ i m2. Allows (KeepsPairs (view_of m1)) m2) (λ i m2. Allows (KeepsPairs v) m2) 0 went.added m1 0 (λ i low m2 all w image. keeps_then v (view_of m1) w keeps (all w image)) went.numbers;
+  guarded = went.guarded;
+}

@@ -1,15 +1,14 @@
 -- Calls that may begin on any disk whose s-files and p-files are firm, one behind another.
-use Rattle.std.proofs.Common.{◌≡◌, ℕ, List, [], ◌∷◌, refl, sym, subst, ◌∙◌, arith}
+use Rattle.std.proofs.Common.{◌≡◌, ℕ, List, [], refl, subst, ◌∙◌, arith}
 use Rattle.sccs_base.specs.Name.{IsSfile}
 use Rattle.sccs_disk.specs.Files.{Model, View, view_of}
-use Rattle.sccs_disk.specs.Images.{Allows, Image}
-use Rattle.sccs_disk.specs.Told.{Told, Tells}
+use Rattle.sccs_disk.specs.Images.{Allows}
+use Rattle.sccs_disk.specs.Told.{Told}
 use Rattle.sccs_files.specs.StepFiles.{is_working}
 use Rattle.sccs_images.specs.Touches.{TouchesOnly, Touching, earlier, newest}
 use Rattle.sccs_images.proofs.Images.{view_image}
-use Rattle.sccs_moments.specs.Calm.{HasFirm, IsCalm, KeepsPairs}
+use Rattle.sccs_moments.specs.Calm.{KeepsPairs}
 use Rattle.sccs_moments.specs.Moments.{CanRecover, EndsBefore, IsCalmUnnamed, IsFrom, KeepsCalm, LeavesCalm, LeavesFirm, RecoversOn, Went}
-use Rattle.sccs_moments.specs.Recovery.{RecoversAs}
 use Rattle.sccs_moments.proofs.CalmDisks.{calm_firm}
 use Rattle.sccs_moments.proofs.Joined.{newest_is, numbered_as, numbered_now, went_then}
 use Rattle.sccs_moments.proofs.Recovering.{fate_same, recovers_then}

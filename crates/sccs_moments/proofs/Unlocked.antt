@@ -16,8 +16,10 @@ use Rattle.sccs_images.proofs.Images.{full_image, image_pended, image_settled, v
 use Rattle.sccs_images.proofs.Touched.{each_newest, earlier_more, newest_more}
 use Rattle.sccs_moments.specs.Recovery.{is_kept, pair_of}
 use Rattle.sccs_moments.specs.Unlocked.{BeganUnlocked, BeginsUnlocked, ComeUnlocked, KeepsOthers, KeptOthers, LeavesOthers, SameOthers, WasUnlocked, is_own}
-use Rattle.sccs_moments.proofs.FileNames.{both_false, early_left, early_s, kept_p, kept_s, kept_z, left_false, right_false, sfile_is, siblings_differ, to_sfile}
+use Rattle.sccs_moments.proofs.FileNames.{early_left, early_s, kept_p, kept_s, kept_z, sfile_is, siblings_differ, to_sfile}
 use Rattle.sccs_moments.proofs.Recovering.{pair_same}
+use Rattle.std.proofs.lemmas.Bool.{or_from}
+use Rattle.sccs_base.proofs.Bools.{right_false, left_false}
 
 -- ---- runs of a story
 
@@ -230,21 +232,21 @@ own_left n k h = early_left n k (own_early n k h)
 -- the s-file and the p-file of another name are none of the name's files, where its g-file is none of such a kind
 pub own_s : (n k : List ℕ) → IsSfile k → is_kept (drop 2 n) ≡ false → bytes_eq n k ≡ false → is_own n k ≡ false
 own_s n k sfile plain apart =
-    both_false (bytes_eq n k) (bytes_eq (p_file n) k || (bytes_eq (drop 2 n) k || is_early n k)) apart
-    (both_false (bytes_eq (p_file n) k) (bytes_eq (drop 2 n) k || is_early n k) (subst (λ l. bytes_eq (p_file n) l ≡ false) (sym (sfile_is k sfile)) refl)
-    (both_false (bytes_eq (drop 2 n) k) (is_early n k) (kept_s (drop 2 n) k plain sfile) (early_s n k sfile)))
+    or_from (bytes_eq n k) (bytes_eq (p_file n) k || (bytes_eq (drop 2 n) k || is_early n k)) apart
+    (or_from (bytes_eq (p_file n) k) (bytes_eq (drop 2 n) k || is_early n k) (subst (λ l. bytes_eq (p_file n) l ≡ false) (sym (sfile_is k sfile)) refl)
+    (or_from (bytes_eq (drop 2 n) k) (is_early n k) (kept_s (drop 2 n) k plain sfile) (early_s n k sfile)))
 
 pub own_p : (n k : List ℕ) → IsSfile n → IsSfile k → is_kept (drop 2 n) ≡ false → bytes_eq n k ≡ false → is_own n (p_file k) ≡ false
 own_p n k sfile other plain apart =
-    both_false (bytes_eq n (p_file k)) (bytes_eq (p_file n) (p_file k) || (bytes_eq (drop 2 n) (p_file k) || is_early n (p_file k))) (to_sfile 112 n k sfile refl)
-    (both_false (bytes_eq (p_file n) (p_file k)) (bytes_eq (drop 2 n) (p_file k) || is_early n (p_file k)) (siblings_differ 112 n k sfile other apart)
-    (both_false (bytes_eq (drop 2 n) (p_file k)) (is_early n (p_file k)) (kept_p (drop 2 n) k plain other) refl))
+    or_from (bytes_eq n (p_file k)) (bytes_eq (p_file n) (p_file k) || (bytes_eq (drop 2 n) (p_file k) || is_early n (p_file k))) (to_sfile 112 n k sfile refl)
+    (or_from (bytes_eq (p_file n) (p_file k)) (bytes_eq (drop 2 n) (p_file k) || is_early n (p_file k)) (siblings_differ 112 n k sfile other apart)
+    (or_from (bytes_eq (drop 2 n) (p_file k)) (is_early n (p_file k)) (kept_p (drop 2 n) k plain other) refl))
 
 pub own_z : (n k : List ℕ) → IsSfile n → IsSfile k → is_kept (drop 2 n) ≡ false → bytes_eq n k ≡ false → is_own n (z_file k) ≡ false
 own_z n k sfile other plain apart =
-    both_false (bytes_eq n (z_file k)) (bytes_eq (p_file n) (z_file k) || (bytes_eq (drop 2 n) (z_file k) || is_early n (z_file k))) (to_sfile 122 n k sfile refl)
-    (both_false (bytes_eq (p_file n) (z_file k)) (bytes_eq (drop 2 n) (z_file k) || is_early n (z_file k)) refl
-    (both_false (bytes_eq (drop 2 n) (z_file k)) (is_early n (z_file k)) (kept_z (drop 2 n) k plain other) (siblings_differ 122 n k sfile other apart)))
+    or_from (bytes_eq n (z_file k)) (bytes_eq (p_file n) (z_file k) || (bytes_eq (drop 2 n) (z_file k) || is_early n (z_file k))) (to_sfile 122 n k sfile refl)
+    (or_from (bytes_eq (p_file n) (z_file k)) (bytes_eq (drop 2 n) (z_file k) || is_early n (z_file k)) refl
+    (or_from (bytes_eq (drop 2 n) (z_file k)) (is_early n (z_file k)) (kept_z (drop 2 n) k plain other) (siblings_differ 122 n k sfile other apart)))
 
 -- where the view was told the z-file wasn't there
 free_at : (z : List ℕ) (a : Told) (m : Model) (past : List Model) → IfSome (seen a) (λ (v : View). v z ≡ None) → a ≡ Tells m past → view_of m z ≡ None

@@ -1,9 +1,9 @@
 -- S-files and p-files that change after a moment without their z-file, but for names that are exempt.
-use Rattle.std.proofs.Common.{◌≡◌, ◌⊎◌, ℕ, Bool, true, false, List, [], ◌∷◌, ◌++◌, drop, inl, inr, sym, ap, subst, ◌∙◌, ⊎_elim}
+use Rattle.std.proofs.Common.{◌≡◌, ◌⊎◌, ℕ, Bool, true, false, List, [], ◌∷◌, ◌++◌, drop, inl, inr, sym, ap, ◌∙◌, ⊎_elim}
 use Rattle.std.specs.Str.{bytes_eq}
 use Rattle.sccs_base.specs.Name.{IsSfile, p_file}
 use Rattle.sccs_disk.specs.Files.{Model, view_of}
-use Rattle.sccs_disk.specs.Told.{Told, Tells}
+use Rattle.sccs_disk.specs.Told.{Told}
 use Rattle.sccs_disk.proofs.Puts.{name_cases}
 use Rattle.sccs_images.specs.Touches.{Each, earlier, newest}
 use Rattle.sccs_images.proofs.Touched.{each_newest, newest_more}
@@ -62,7 +62,7 @@ but_then exempt a b c first next m past is = joined (first m past is)
 
 -- ---- a call that changes the files of a name alone, which is exempt
 
-kept_but : (exempt mine : List ℕ → Bool) (m : Model) (added : List Model) → ((k : List ℕ) → IsSfile k → exempt k ≡ false → (mine k ≡ false) × (mine (p_file k) ≡ false)) → Each (λ m2. SameOthers mine (view_of m) (view_of m2)) added m
+pub kept_but : (exempt mine : List ℕ → Bool) (m : Model) (added : List Model) → ((k : List ℕ) → IsSfile k → exempt k ≡ false → (mine k ≡ false) × (mine (p_file k) ≡ false)) → Each (λ m2. SameOthers mine (view_of m) (view_of m2)) added m
     → ComeUnlockedBut exempt added m
 kept_but exempt mine m [] cases each = tt
 kept_but exempt mine m (a ∷ added) cases each = (λ n sfile asked. inl (same n (cases n sfile asked)), kept_but exempt mine m added cases each.1)

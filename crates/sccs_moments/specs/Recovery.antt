@@ -1,5 +1,5 @@
 -- What recovery makes of the files of a name, and views that recover alike.
-use Rattle.std.specs.Prelude.{◌≡◌, ◌||◌, ℕ, Bool, List, [], ◌∷◌, take, Option, None, Some, is_some, if◌then◌else◌}
+use Rattle.std.specs.Prelude.{◌≡◌, ◌||◌, ℕ, Bool, List, [], ◌∷◌, take, Option, None, Some, is_some, IsSome, if◌then◌else◌}
 use Rattle.std.specs.Str.{bytes_eq}
 use Rattle.sccs_base.specs.Name.{IsSfile, p_file, q_file, x_file, y_file, z_file}
 use Rattle.sccs_disk.specs.Files.{Content, View, put}
@@ -75,6 +75,10 @@ IsSettledPair x = recovered_pfile x.s x.p ≡ x.p
 pub record IsSound (n : List ℕ) (v : View) : Type 0 where
   pub entries : recovered_pfile (v n) (v (p_file n)) ≡ v (p_file n)
   pub unnamed : fate_at v n ≡ None
+
+-- the z-file of the name is there where an intent names it
+abbrev pub IsHeldAt : List ℕ → View → Type 0
+IsHeldAt n v = IsSome (fate_at v n) → IsSome (v (z_file n))
 
 -- a name begins with this letter and a dot
 abbrev pub begins_by_letter : ℕ → List ℕ → Bool

@@ -1,8 +1,7 @@
 -- A new file that is written: header, body and sum.
-use Rattle.std.proofs.Common.{◌≡◌, ℕ, ◌≤◌, List, [], ◌++◌, IfOk, OnOk, Result, Ok, Err, sym, ap, subst, ◌∙◌, arith, append-nil, inl, inr}
+use Rattle.std.proofs.Common.{◌≡◌, ℕ, List, [], ◌++◌, IfOk, OnOk, Result, Ok, Err, sym, ap, subst, ◌∙◌, arith, append-nil}
 use Rattle.std.specs.Result.{IsErrAnd}
 use Rattle.std.proofs.lemmas.Result.{err_from_is_err_and}
-use Rattle.sccs_base.specs.Stream.{Rose}
 use Rattle.sccs_disk.specs.Told.{Told, seen}
 use Rattle.sccs_disk.specs.declared.disks.DiskRefusal.{DiskRefusal}
 use Rattle.sccs_disk.specs.declared.disks.DiskRefusal.TheVariants as fault
@@ -13,12 +12,8 @@ use Rattle.sccs_writers.specs.HeaderBytes.{WritesHeader, header_bytes}
 use Rattle.sccs_writers.specs.OneFile.{OnlyWrites}
 use Rattle.sccs_writers.specs.Puts.{Appends, Puts, PutsText, Writer}
 use Rattle.sccs_writers.proofs.OneFile.{only_none}
-use Rattle.sccs_writers.proofs.PutLaws.{views_two}
+use Rattle.sccs_writers.proofs.PutLaws.{views_two, ok_puts}
 use Rattle.sccs_new_files.specs.Writing.{AppendsSum}
-
-rose_on : (f g h : ℕ) → f ≤ g → Rose g h → Rose f h
-rose_on f g h low (inl more) = inl (omega (arith, low, more))
-rose_on f g h low (inr last) = inr last
 
 -- ---- the body
 
@@ -45,14 +40,11 @@ body_cut text w w2 n a b f g q r refusal named is left puts =
       cause = λ failed. puts.cause (again refusal q r is so failed);
     }
 
-puts_of : {U : Type 0} (x : List ℕ) (w w2 : Writer) (a b : Told) (r : Result U DiskRefusal) (done : U) → r ≡ Ok done → OnOk r (Puts x w w2 a b) → Puts x w w2 a b
-puts_of x w w2 a b r done is puts = subst (λ (s : Result _ DiskRefusal). OnOk s (Puts x w w2 a b)) is puts
-
 -- the body is put, and what was held back appended
 pub body_whole : {U : Type 0} (text : List ℕ) (w w2 : Writer) (n : List ℕ) (sums : ℕ × ℕ) (a b : Told) (f g : ℕ) (q : Result U DiskRefusal) (done : U) → w ≡ record { name = n; held = []; sums = sums } → q ≡ Ok done → w2.held ≡ []
     → PutsText text w w2 a b f g q → AppendsSum text n sums a b f g (Ok w2.sums)
 body_whole text w w2 n sums a b f g q done named is none puts =
-    let all : Puts text w w2 a b = puts_of text w w2 a b q done is puts.ok in
+    let all : Puts text w w2 a b = ok_puts text w w2 a b q done is puts.ok in
     let name : w.name ≡ n = ap (λ (v : Writer). v.name) named in
     let split : all.added ≡ text =
     sym (append-nil all.added) ∙ (ap (λ (x : List ℕ). all.added ++ x) (sym none) ∙ (sym all.split ∙ ap (λ (v : Writer). v.held ++ text) named)) in

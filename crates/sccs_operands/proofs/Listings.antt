@@ -8,7 +8,7 @@ use Rattle.std.specs.FinMap.Entries as entry
 use Rattle.std.specs.Cmp.Lexicographic.{slice_cmp, nat_list_cmp_total, nat_list_eq_equiv}
 use Rattle.std.specs.List.{AllByRecursion, list_any}
 use Rattle.std.specs.List.Sorted.{IsStrictlySortedBy}
-use Rattle.std.specs.Ordering.{is_lt, match_ordering, nat_cmp}
+use Rattle.std.specs.Ordering.{is_lt, nat_cmp}
 use Rattle.std.specs.Str.{bytes_eq}
 use Rattle.std.specs.declared.cmp.Ordering.{Ordering}
 use Rattle.std.specs.declared.cmp.Ordering.TheVariants.{Less, Equal, Greater}
@@ -25,6 +25,7 @@ use Rattle.sccs_disk.specs.Reads.{IsListing, Lists}
 use Rattle.sccs_disk.proofs.Puts.{same_name}
 use Rattle.sccs_operands.specs.FolderNames.{AreSfiles, HasSfilesOf, AreInOrder, sfiles_in}
 use Rattle.sccs_name_sets.specs.NameSets.{names_in}
+use Rattle.sccs_base.proofs.Bools.{left_true}
 
 -- ---- two lists in order with the same names are one
 
@@ -121,10 +122,6 @@ listed_names v m listed names listing has order each =
 
 -- ---- each name of a list
 
-both : (a b : Bool) → (a && b) ≡ true → a ≡ true
-both true b h = refl
-both false b h = h
-
 or_true : (a : Bool) → (a || true) ≡ true
 or_true true = refl
 or_true false = refl
@@ -143,7 +140,7 @@ each_named p (n ∷ names) h = (h n (first n names), each_named p names (λ k is
 pub are_sfiles : (listed names : List (List ℕ)) → AreInOrder names → ((n : List ℕ) → list_any (bytes_eq n) names ≡ (is_sfile_name n && list_any (bytes_eq n) listed)) → AreSfiles names
 are_sfiles listed names order each = record {
   order = order;
-  fit = each_named is_sfile_name names (λ n is. both (is_sfile_name n) (list_any (bytes_eq n) listed) (sym (each n) ∙ is));
+  fit = each_named is_sfile_name names (λ n is. left_true (is_sfile_name n) (list_any (bytes_eq n) listed) (sym (each n) ∙ is));
 }
 
 -- ---- a set of names that grows

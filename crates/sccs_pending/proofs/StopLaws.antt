@@ -3,7 +3,7 @@ use Rattle.std.proofs.Common.{◌≡◌, ℕ, zero, suc, ◌==◌, ◌&&◌, Boo
 use Rattle.std.specs.Prelude.{nat_lt, remove}
 use Rattle.std.specs.List.{AllByRecursion}
 use Rattle.std.specs.Str.{bytes_eq}
-use Rattle.std.proofs.lemmas.Bool.{and_parts}
+use Rattle.std.proofs.lemmas.Bool.{and_parts, not-true}
 use Rattle.sccs_base.specs.Name.{IsSfile, p_file, q_file, x_file}
 use Rattle.sccs_disk.specs.Files.{Content, View}
 use Rattle.sccs_disk.specs.Images.{IsFirm}
@@ -96,15 +96,11 @@ entries_stay : (s : Content) (records : List Record) (edits : List Edit) → tab
 entries_stay s records edits table valid undone =
     subst (λ (l : List Edit). recovered_pfile (Some s) (pfile_of l) ≡ pfile_of l) (kept_entries records edits undone) (left_stays s records edits table valid)
 
-undone_of : (b : Bool) → not b ≡ true → b ≡ false
-undone_of true is = cc
-undone_of false is = refl
-
 -- the deltas of entries that agree aren't made
 pub agreeing_undone : (records : List Record) (all edits : List Edit) → AllByRecursion (λ e. agrees records all e ≡ true) edits → AllByRecursion (λ e. is_done records e ≡ false) edits
 agreeing_undone records all [] are = tt
 agreeing_undone records all (e ∷ edits) are =
-    (undone_of (lives records e.made) (and_parts (not (lives records e.made)) (makers all e.made == 1 && has_lists records e) (and_parts (lives records e.got) (not (lives records e.made) && (makers all e.made == 1 && has_lists records e)) are.0).1).0, agreeing_undone records all edits are.1)
+    (not-true (lives records e.made) (and_parts (not (lives records e.made)) (makers all e.made == 1 && has_lists records e) (and_parts (lives records e.got) (not (lives records e.made) && (makers all e.made == 1 && has_lists records e)) are.0).1).0, agreeing_undone records all edits are.1)
 
 pub still_all : (P : Edit → Type 0) (edits : List Edit) (n : ℕ) → AllByRecursion P edits → AllByRecursion P (remove edits n)
 still_all P [] zero are = tt

@@ -2,7 +2,7 @@
 use Rattle.std.proofs.Common.{◌≡◌, ℕ, ◌≤◌, nat_lt, Bool, true, false, cond, not, List, [], ◌∷◌, length, Option, None, Some, refl, sym, ap, ◌∙◌, arith}
 use Rattle.std.specs.Prelude.{position}
 use Rattle.std.specs.List.{AllByRecursion, position_or_len}
-use Rattle.std.proofs.lemmas.Bool.{ltb-false, true≢false}
+use Rattle.std.proofs.lemmas.Bool.{ltb-false, true≢false, not-true}
 use Rattle.std.proofs.lemmas.List.Elements.{recursion_from_All, All-from_recursion}
 use Rattle.std.proofs.lemmas.List.Quantifiers.{position-Some}
 use Rattle.std.proofs.lemmas.List.Sums.{fails_before_first}
@@ -21,10 +21,6 @@ passes : (b : Bool) → not b ≡ false → b ≡ true
 passes true is = refl
 passes false is = cc
 
-fails : (b : Bool) → not b ≡ true → b ≡ false
-fails true is = cc
-fails false is = refl
-
 pub all_agree : (records : List Record) (edits : List Edit) → None ≡ position (λ e. not (agrees records edits e)) edits → Agrees records edits
 all_agree records edits none =
     recursion_from_All (λ e. agrees records edits e ≡ true) edits λ k d low.
@@ -34,7 +30,7 @@ disagrees_by : (test : Edit → Bool) (edits : List Edit) (place : ℕ) → Some
 disagrees_by test [] place found are = cc
 disagrees_by test (e ∷ rest) place found are =
     let here = position-Some (λ x. not (test x)) (e ∷ rest) place e (sym found) in
-    true≢false (sym (All-from_recursion (λ x. test x ≡ true) (e ∷ rest) are place e here.0) ∙ fails _ here.1)
+    true≢false (sym (All-from_recursion (λ x. test x ≡ true) (e ∷ rest) are place e here.0) ∙ not-true _ here.1)
 
 pub one_disagrees : (records : List Record) (edits : List Edit) (place : ℕ) → Some place ≡ position (λ e. not (agrees records edits e)) edits → Agrees records edits → ⊥
 one_disagrees records edits place found are = disagrees_by (agrees records edits) edits place found are

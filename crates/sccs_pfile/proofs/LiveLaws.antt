@@ -1,6 +1,5 @@
 -- The set of the SIDs of live records.
 use Rattle.std.proofs.Common.{◌≡◌, ℕ, suc, Bool, true, false, cond, not, ◌&&◌, ◌||◌, List, [], ◌∷◌, ◌++◌, ◌==◌, length, refl, sym, ap, ◌∙◌, arith}
-use Rattle.std.specs.List.{list_any}
 use Rattle.std.specs.BTreeSet.{BTreeSet, Updates, contains}
 use Rattle.std.proofs.lemmas.Bool.{eqb-true}
 use Rattle.std.proofs.lemmas.List.Folds.{list_any-append}
@@ -8,12 +7,12 @@ use Rattle.sccs_sid.specs.declared.sids.Sid.{Sid}
 use Rattle.sccs_sid.specs.declared.sid_lists.Range.{Range}
 use Rattle.sccs_history.specs.History.{lives, same_sid}
 use Rattle.sccs_history.specs.declared.headers.Record.{Record}
-use Rattle.sccs_grammar.specs.HeldTable.{four_cmp}
 use Rattle.sccs_grammar.specs.SidKeys.{sid_key}
 use Rattle.sccs_pfile.specs.Agreement.{is_listed, share_sid}
 use Rattle.sccs_pfile.specs.LiveSets.{HasLive}
 use Rattle.sccs_pfile.specs.declared.live_sets.LiveSet.{LiveSet}
-use Rattle.sccs_pfile.proofs.MadeSidLaws.{sid_same}
+use Rattle.sccs_sid.specs.FourNumbers.{four_cmp}
+use Rattle.sccs_grammar.proofs.TableSets.{sid_same}
 
 live_more : (before : List Record) (r : Record) (sid : Sid) → lives (before ++ r ∷ []) sid ≡ (lives before sid || ((not r.removed && same_sid r.sid sid) || false))
 live_more before r sid = list_any-append (λ (o : Record). not o.removed && same_sid o.sid sid) before (r ∷ [])

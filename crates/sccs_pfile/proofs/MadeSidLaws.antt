@@ -1,14 +1,10 @@
 -- The sets of the SIDs that entries make.
-use Rattle.std.proofs.Common.{◌≡◌, ℕ, ◌+◌, ◌<◌, ◌≤◌, nat_lt, ◌==◌, Bool, true, false, cond, ◌&&◌, List, [], ◌∷◌, ◌++◌, refl, sym, ap, ◌∙◌, arith, rules}
+use Rattle.std.proofs.Common.{◌≡◌, ℕ, ◌+◌, ◌<◌, ◌≤◌, nat_lt, Bool, true, false, cond, List, [], ◌∷◌, ◌++◌, refl, sym, ap, ◌∙◌, arith}
 use Rattle.std.proofs.lemmas.Bool.{le-ltb, lt-ltb, ltb-false, ltb-true}
-use Rattle.std.specs.Ordering.{is_eq, nat_cmp, ordering_then}
-use Rattle.std.specs.declared.cmp.Ordering.{Ordering}
-use Rattle.std.specs.declared.cmp.Ordering.TheVariants.{Less, Equal, Greater}
 use Rattle.std.specs.BTreeSet.{BTreeSet, Updates, contains}
 use Rattle.sccs_sid.specs.declared.sids.Sid.{Sid}
 use Rattle.sccs_history.specs.History.{same_sid}
 use Rattle.sccs_grammar.proofs.EntryLaws.{flip_sids}
-use Rattle.sccs_grammar.specs.HeldTable.{four_cmp}
 use Rattle.sccs_grammar.specs.SidKeys.{sid_key}
 use Rattle.sccs_sets.proofs.NewSids.{same_is}
 use Rattle.sccs_pfile.specs.Agreement.{makers}
@@ -16,35 +12,8 @@ use Rattle.sccs_pfile.specs.MadeSids.{HasMakers}
 use Rattle.sccs_pfile.specs.declared.entries.Edit.{Edit}
 use Rattle.sccs_pfile.specs.declared.makers.Makers.{Makers}
 use Rattle.sccs_pfile.proofs.Reserving.{count_more}
-
--- ---- equal keys
-
-nat_same : (a b : ℕ) → is_eq (nat_cmp a b) ≡ (a == b)
-nat_same a b = search rules
-
-then_same : (o p : Ordering) → is_eq (ordering_then o p) ≡ (is_eq o && is_eq p)
-then_same Less p = refl
-then_same Equal p = refl
-then_same Greater p = refl
-
-and_assoc : (a b c : Bool) → ((a && b) && c) ≡ (a && (b && c))
-and_assoc true b c = refl
-and_assoc false b c = refl
-
-pub sid_same : (a b : Sid) → is_eq (four_cmp (sid_key a) (sid_key b)) ≡ same_sid a b
-sid_same a b =
-    let r : Bool = a.release == b.release in
-    let l : Bool = a.level == b.level in
-    let n : Bool = a.branch == b.branch in
-    let s : Bool = a.sequence == b.sequence in
-    then_same (ordering_then (ordering_then (nat_cmp a.release b.release) (nat_cmp a.level b.level)) (nat_cmp a.branch b.branch)) (nat_cmp a.sequence b.sequence)
-    ∙ (ap (λ x. x && is_eq (nat_cmp a.sequence b.sequence)) (then_same (ordering_then (nat_cmp a.release b.release) (nat_cmp a.level b.level)) (nat_cmp a.branch b.branch)
-    ∙ ap (λ x. x && is_eq (nat_cmp a.branch b.branch)) (then_same (nat_cmp a.release b.release) (nat_cmp a.level b.level)))
-    ∙ (ap (λ x. ((x && is_eq (nat_cmp a.level b.level)) && is_eq (nat_cmp a.branch b.branch)) && is_eq (nat_cmp a.sequence b.sequence)) (nat_same a.release b.release)
-    ∙ (ap (λ x. ((r && x) && is_eq (nat_cmp a.branch b.branch)) && is_eq (nat_cmp a.sequence b.sequence)) (nat_same a.level b.level)
-    ∙ (ap (λ x. ((r && l) && x) && is_eq (nat_cmp a.sequence b.sequence)) (nat_same a.branch b.branch)
-    ∙ (ap (λ x. ((r && l) && n) && x) (nat_same a.sequence b.sequence)
-    ∙ (and_assoc (r && l) n s ∙ and_assoc r l (n && s)))))))
+use Rattle.sccs_sid.specs.FourNumbers.{four_cmp}
+use Rattle.sccs_grammar.proofs.TableSets.{sid_same}
 
 -- ---- one entry more
 

@@ -2,7 +2,7 @@
 use Rattle.std.proofs.Common.{◌≡◌, ℕ, zero, suc, ◌==◌, Bool, true, false, cond, not, ◌&&◌, ◌||◌, List, [], ◌∷◌, length, Option, None, Some, Result, Ok, Err, refl, sym, ap, subst, ◌∙◌, arith, rules}
 use Rattle.std.specs.Prelude.{filter, remove, slice_get}
 use Rattle.std.specs.List.{AllByRecursion, list_any}
-use Rattle.std.proofs.lemmas.Bool.{and_parts, eqb-true}
+use Rattle.std.proofs.lemmas.Bool.{and_parts, eqb-true, or_right, not-true}
 use Rattle.sccs_disk.specs.Files.{Content}
 use Rattle.sccs_sid.specs.declared.sids.Sid.{Sid}
 use Rattle.sccs_history.specs.History.{lives, same_sid}
@@ -14,6 +14,7 @@ use Rattle.sccs_pfile.specs.Recovered.{is_done, pfile_of, recovered_by, recovere
 use Rattle.sccs_pfile.specs.declared.entries.Edit.{Edit}
 use Rattle.sccs_pfile.proofs.EntriesValid.{edits_are}
 use Rattle.sccs_pfile.proofs.EntryTexts.{edits_again}
+use Rattle.sccs_base.proofs.Bools.{or_none}
 
 -- ---- lists that a test goes over
 
@@ -66,11 +67,7 @@ twice_by s p (Some records) (Ok edits) is reads =
 
 agree_undone : (records : List Record) (all edits : List Edit) → AllByRecursion (λ e. agrees records all e ≡ true) edits → AllByRecursion (λ e. is_done records e ≡ false) edits
 agree_undone records all [] are = tt
-agree_undone records all (e ∷ edits) are = (undone (lives records e.made) (and_parts (not (lives records e.made)) (makers all e.made == 1 && has_lists records e) (and_parts (lives records e.got) (not (lives records e.made) && (makers all e.made == 1 && has_lists records e)) are.0).1).0, agree_undone records all edits are.1)
-  where
-    undone : (b : Bool) → not b ≡ true → b ≡ false
-    undone true is = cc
-    undone false is = refl
+agree_undone records all (e ∷ edits) are = (not-true (lives records e.made) (and_parts (not (lives records e.made)) (makers all e.made == 1 && has_lists records e) (and_parts (lives records e.got) (not (lives records e.made) && (makers all e.made == 1 && has_lists records e)) are.0).1).0, agree_undone records all edits are.1)
 
 pub nothing_drops : (s p : Content) (records : List Record) (edits : List Edit) → table_of s.bytes ≡ Some records → edits_of p.bytes ≡ Ok edits → Agrees records edits
     → recovered_pfile (Some s) (Some p) ≡ Some p
@@ -85,7 +82,7 @@ twice_once (Some s) (Some p) = twice_by s p (table_of s.bytes) (edits_of p.bytes
 
 -- ---- the entry that a delta takes
 
-found_some : (test : Edit → Bool) (edits : List Edit) (k : ℕ) (e : Edit) → slice_get edits k ≡ Some e → test e ≡ true → length (filter test edits) ≡ 0 → ⊥
+pub found_some : (test : Edit → Bool) (edits : List Edit) (k : ℕ) (e : Edit) → slice_get edits k ≡ Some e → test e ≡ true → length (filter test edits) ≡ 0 → ⊥
 found_some test [] k e at passes none = cc
 found_some test (x ∷ edits) zero e at passes none =
     let same : x ≡ e = cc in
@@ -97,7 +94,7 @@ found_some test (x ∷ edits) (suc k) e at passes none = by (test x) none (found
     by true some rest = absurd (omega (arith, some))
     by false some rest = rest some
 
-none_passes : (test : Edit → Bool) (edits : List Edit) → length (filter test edits) ≡ 0 → filter (λ e. not (test e)) edits ≡ edits
+pub none_passes : (test : Edit → Bool) (edits : List Edit) → length (filter test edits) ≡ 0 → filter (λ e. not (test e)) edits ≡ edits
 none_passes test [] none = refl
 none_passes test (x ∷ edits) none = by (test x) none (none_passes test edits)
   where
@@ -107,7 +104,7 @@ none_passes test (x ∷ edits) none = by (test x) none (none_passes test edits)
     by false some rest = ap (λ l. x ∷ l) (rest some)
 
 -- the one that passes is taken out
-one_out : (test : Edit → Bool) (edits : List Edit) (k : ℕ) (e : Edit) → slice_get edits k ≡ Some e → test e ≡ true → length (filter test edits) ≡ 1 → filter (λ x. not (test x)) edits ≡ remove edits k
+pub one_out : (test : Edit → Bool) (edits : List Edit) (k : ℕ) (e : Edit) → slice_get edits k ≡ Some e → test e ≡ true → length (filter test edits) ≡ 1 → filter (λ x. not (test x)) edits ≡ remove edits k
 one_out test [] k e at passes one = cc
 one_out test (x ∷ edits) zero e at passes one =
     let same : x ≡ e = cc in
@@ -121,23 +118,19 @@ one_out test (x ∷ edits) (suc k) e at passes one = by (test x) one (one_out te
     by true some rest = absurd (found_some test edits k e at passes (omega (arith, some)))
     by false some rest = ap (λ l. x ∷ l) (rest some)
 
-filter_same : (f g : Edit → Bool) (edits : List Edit) → AllByRecursion (λ e. f e ≡ g e) edits → filter f edits ≡ filter g edits
+pub filter_same : (f g : Edit → Bool) (edits : List Edit) → AllByRecursion (λ e. f e ≡ g e) edits → filter f edits ≡ filter g edits
 filter_same f g [] are = refl
 filter_same f g (e ∷ edits) are = ap (λ t. cond t (e ∷ filter f edits) (filter f edits)) are.0 ∙ ap (λ rest. cond (g e) (e ∷ rest) rest) (filter_same f g edits are.1)
 
-all_at : (P : Edit → Type 0) (edits : List Edit) (k : ℕ) (e : Edit) → AllByRecursion P edits → slice_get edits k ≡ Some e → P e
+pub all_at : (P : Edit → Type 0) (edits : List Edit) (k : ℕ) (e : Edit) → AllByRecursion P edits → slice_get edits k ≡ Some e → P e
 all_at P [] k e are at = cc
 all_at P (x ∷ edits) zero e are at = let same : x ≡ e = cc in subst P same are.0
 all_at P (x ∷ edits) (suc k) e are at = all_at P edits k e are.1 at
 
-any_at : (test : Edit → Bool) (edits : List Edit) (k : ℕ) (e : Edit) → slice_get edits k ≡ Some e → test e ≡ true → list_any test edits ≡ true
+pub any_at : (test : Edit → Bool) (edits : List Edit) (k : ℕ) (e : Edit) → slice_get edits k ≡ Some e → test e ≡ true → list_any test edits ≡ true
 any_at test [] k e at passes = cc
 any_at test (x ∷ edits) zero e at passes = let same : x ≡ e = cc in rw (ap test same ∙ passes) refl
-any_at test (x ∷ edits) (suc k) e at passes = or_true (test x) (list_any test edits) (any_at test edits k e at passes)
-  where
-    or_true : (a b : Bool) → b ≡ true → (a || b) ≡ true
-    or_true true b is = refl
-    or_true false b is = is
+any_at test (x ∷ edits) (suc k) e at passes = or_right (test x) (list_any test edits) (any_at test edits k e at passes)
 
 pub same_self : (sid : Sid) → same_sid sid sid ≡ true
 same_self sid = search rules
@@ -145,13 +138,9 @@ same_self sid = search rules
 lives_as : (old new : List Record) (e : Edit) (edits : List Edit) → ((sid : Sid) → lives new sid ≡ (same_sid e.made sid || lives old sid)) → AllByRecursion (λ x. is_done old x ≡ false) edits
     → AllByRecursion (λ x. not (is_done new x) ≡ not (same_sid e.made x.made)) edits
 lives_as old new e [] more are = tt
-lives_as old new e (x ∷ edits) more are = (ap not (more x.made ∙ (ap (λ b. same_sid e.made x.made || b) are.0 ∙ or_false (same_sid e.made x.made))), lives_as old new e edits more are.1)
-  where
-    or_false : (b : Bool) → (b || false) ≡ b
-    or_false true = refl
-    or_false false = refl
+lives_as old new e (x ∷ edits) more are = (ap not (more x.made ∙ (ap (λ b. same_sid e.made x.made || b) are.0 ∙ or_none (same_sid e.made x.made))), lives_as old new e edits more are.1)
 
-one_maker : (records : List Record) (all : List Edit) (e : Edit) → agrees records all e ≡ true → makers all e.made ≡ 1
+pub one_maker : (records : List Record) (all : List Edit) (e : Edit) → agrees records all e ≡ true → makers all e.made ≡ 1
 one_maker records all e is =
     eqb-true (makers all e.made) 1 (and_parts (makers all e.made == 1) (has_lists records e) (and_parts (not (lives records e.made)) (makers all e.made == 1 && has_lists records e) (and_parts (lives records e.got) (not (lives records e.made) && (makers all e.made == 1 && has_lists records e)) is).1).1).0
 

@@ -1,8 +1,8 @@
 -- An entry with a SID that nobody has keeps the agreement.
-use Rattle.std.proofs.Common.{◌≡◌, ℕ, ◌+◌, ◌==◌, Bool, true, false, cond, not, ◌&&◌, ◌||◌, List, [], ◌∷◌, ◌++◌, length, map, Option, None, Some, refl, ap, ◌∙◌, arith}
+use Rattle.std.proofs.Common.{◌≡◌, ℕ, ◌+◌, ◌==◌, Bool, true, false, cond, not, ◌&&◌, List, [], ◌∷◌, ◌++◌, length, map, Option, None, Some, refl, ap, ◌∙◌, arith}
 use Rattle.std.specs.Prelude.{filter, option_and_then}
 use Rattle.std.specs.List.{AllByRecursion, list_any}
-use Rattle.std.proofs.lemmas.Bool.{true≢false}
+use Rattle.std.proofs.lemmas.Bool.{or_parts}
 use Rattle.sccs_sid.specs.declared.sids.Sid.{Sid}
 use Rattle.sccs_sid.specs.declared.sids.Spec.{Spec}
 use Rattle.sccs_history.specs.FlagText.{flag_b}
@@ -18,15 +18,11 @@ use Rattle.sccs_pfile.specs.Agreement.{Agrees, agrees, has_lists, makers}
 use Rattle.sccs_pfile.specs.declared.entries.Edit.{Edit}
 use Rattle.sccs_pfile.proofs.Recovering.{same_self}
 
-or_none : (a b : Bool) → (a || b) ≡ false → (a ≡ false) × (b ≡ false)
-or_none true b is = absurd (true≢false is)
-or_none false b is = (refl, is)
-
 -- no entry has the SID
 each_other : (sid : Sid) (edits : List Edit) → list_any (λ s. same_sid s sid) (map (λ x. x.made) edits) ≡ false → AllByRecursion (λ x. same_sid x.made sid ≡ false) edits
 each_other sid [] none = tt
 each_other sid (x ∷ edits) none =
-    let parts = or_none (same_sid x.made sid) (list_any (λ s. same_sid s sid) (map (λ y. y.made) edits)) none in (parts.0, each_other sid edits parts.1)
+    let parts = or_parts (same_sid x.made sid) (list_any (λ s. same_sid s sid) (map (λ y. y.made) edits)) none in (parts.0, each_other sid edits parts.1)
 
 -- one more of those that pass a test, or none
 pub count_more : (test : Edit → Bool) (edits : List Edit) (e : Edit) → length (filter test (edits ++ e ∷ [])) ≡ length (filter test edits) + cond (test e) 1 0
@@ -65,7 +61,7 @@ all_push P (x ∷ edits) e are here = (are.0, all_push P edits e are.1 here)
 pub agreement_kept : (records : List Record) (edits : List Edit) (e : Edit) → Agrees records edits → lives records e.got ≡ true → has_lists records e ≡ true
     → is_taken records (map (λ x. x.made) edits) (λ s. same_sid s e.made) ≡ false → Agrees records (edits ++ e ∷ [])
 agreement_kept records edits e agree got lists free =
-    let parts = or_none (lives records e.made) (list_any (λ s. same_sid s e.made) (map (λ x. x.made) edits)) free in
+    let parts = or_parts (lives records e.made) (list_any (λ s. same_sid s e.made) (map (λ x. x.made) edits)) free in
     let others = each_other e.made edits parts.1 in
     let one : makers (edits ++ e ∷ []) e.made ≡ 1 = count_more (λ o. same_sid e.made o.made) edits e ∙ rw (none_count e.made edits others, same_self e.made) refl in
     all_push (λ x. agrees records (edits ++ e ∷ []) x ≡ true) edits e (old_agree records edits e edits others agree) (rw (got, parts.0, one, lists) refl)

@@ -1,7 +1,6 @@
 -- Entries that were read, and those that are still to be.
-use Rattle.std.proofs.Common.{◌≡◌, ℕ, suc, ◌==◌, true, List, [], ◌∷◌, ◌++◌, length, Some, Result, Ok, Err, refl, sym, ap, subst, ◌∙◌, arith, append_assoc, append-nil}
+use Rattle.std.proofs.Common.{◌≡◌, ℕ, List, [], ◌∷◌, ◌++◌, Some, Result, Ok, Err, refl, sym, ap, subst, ◌∙◌, arith, append_assoc, append-nil}
 use Rattle.std.specs.List.{All}
-use Rattle.std.proofs.lemmas.Bool.{eqb-true}
 use Rattle.std.proofs.lemmas.List.Elements.{All-push}
 use Rattle.sccs_base.specs.Cut.{cut}
 use Rattle.sccs_pfile.specs.Entries.{IsEdit}
@@ -26,10 +25,6 @@ one_before before e number (Err line) = refl
 pub fault_behind : (before : List Edit) (fault : PfileFault) (read all : Result (List Edit) ℕ) → behind_edits before read ≡ all → ReadsEdits (Err fault) read → ReadsEdits (Err fault) all
 fault_behind before (BadPfile line) read all is reads = sym is ∙ ap (behind_edits before) reads
 fault_behind before Memory read all is reads = tt
-
-pub no_bytes : (bytes : List ℕ) → (length bytes == 0) ≡ true → bytes ≡ []
-no_bytes [] is = refl
-no_bytes (b ∷ bytes) is = let none : suc (length bytes) ≡ 0 = eqb-true (suc (length bytes)) 0 is in absurd (omega (arith, none))
 
 -- nothing is left
 pub all_read : (before : List Edit) (number : ℕ) (rest : List ℕ) (all : Result (List Edit) ℕ) → rest ≡ [] → behind_edits before (entries_at number rest) ≡ all → all ≡ Ok before

@@ -2,11 +2,11 @@
 use Rattle.std.specs.Prelude.{◌≡◌, nat_lt, List}
 use Rattle.std.specs.BTreeSet.{contains}
 use Rattle.sccs_sid.specs.declared.sids.Sid.{Sid}
-use Rattle.sccs_grammar.specs.HeldTable.{four_cmp}
 use Rattle.sccs_grammar.specs.SidKeys.{sid_key}
 use Rattle.sccs_pfile.specs.Agreement.{makers}
 use Rattle.sccs_pfile.specs.declared.entries.Edit.{Edit}
 use Rattle.sccs_pfile.specs.declared.makers.Makers.{Makers}
+use Rattle.sccs_sid.specs.FourNumbers.{four_cmp}
 
 -- The sets have the SIDs that some entry makes, and those that more than one does.
 pub record HasMakers (found : Makers) (edits : List Edit) : Type 0 where

@@ -32,12 +32,9 @@ use Rattle.sccs_printing.specs.declared.givings.Giving.{Giving}
 use Rattle.sccs_printing.specs.declared.shown.Shown.{Shown}
 use Rattle.sccs_printing.proofs.RunTexts.{one_delta, run_keywords}
 use Rattle.sccs_printing.proofs.TargetLaws.{cuts_longer, cuts_then, uncut}
+use Rattle.sccs_base.proofs.Bools.{or_assoc}
 
 -- ---- what is counted
-
-or_assoc : (x y z : Bool) → (x || (y || z)) ≡ ((x || y) || z)
-or_assoc true y z = refl
-or_assoc false y z = refl
 
 or_none : (x : Bool) → x ≡ (x || false)
 or_none true = refl

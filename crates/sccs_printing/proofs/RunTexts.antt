@@ -13,6 +13,7 @@ use Rattle.sccs_keys.specs.declared.keywords.Keyword.{Keyword}
 use Rattle.sccs_keys.proofs.KeywordLaws.{found_length, plain_stays}
 use Rattle.sccs_table.proofs.RunLaws.{run_bytes}
 use Rattle.sccs_texts.specs.Forms.{LineForm, formed, formed_lines, formed_text, has_keywords, has_prefix, if_replaced, replaced_line, replaces_in, texts}
+use Rattle.sccs_base.proofs.Bools.{or_none, right_false, left_false}
 
 -- ---- no keyword goes over LF
 
@@ -72,21 +73,13 @@ one_delta form records number n (line ∷ lines) all =
 
 -- ---- lines that are given as they are
 
-first_none : (a b : Bool) → (a || b) ≡ false → a ≡ false
-first_none true b e = e
-first_none false b e = refl
-
-rest_none : (a b : Bool) → (a || b) ≡ false → b ≡ false
-rest_none true b e = cc
-rest_none false b e = e
-
 stays : (facts : Option Facts) (number : ℕ) (line : List ℕ) (more : List (List ℕ)) → if_replaced facts (has_keywords (line ∷ more)) ≡ false → replaced_line facts number line ≡ line
 stays None number line more none = refl
-stays (Some facts) number line more none = plain_stays facts number line (first_none (list_any is_keyword (parts line)) (has_keywords more) none)
+stays (Some facts) number line more none = plain_stays facts number line (left_false (list_any is_keyword (parts line)) (has_keywords more) none)
 
 others : (facts : Option Facts) (line : List ℕ) (more : List (List ℕ)) → if_replaced facts (has_keywords (line ∷ more)) ≡ false → if_replaced facts (has_keywords more) ≡ false
 others None line more none = refl
-others (Some facts) line more none = rest_none (list_any is_keyword (parts line)) (has_keywords more) none
+others (Some facts) line more none = right_false (list_any is_keyword (parts line)) (has_keywords more) none
 
 unprefixed : (name : Option (List ℕ)) (sids : Bool) (facts : Option Facts) (records : List Record) (number n : ℕ) (lines : List (List ℕ)) → (is_some name || sids) ≡ false → if_replaced facts (has_keywords lines) ≡ false
     → formed_lines (record { module_name = name; has_sids = sids; facts = facts }) records number n lines ≡ bytes_of lines
@@ -104,17 +97,13 @@ run_stands form records number n run whole bare none = unprefixed form.module_na
 pub unchanged : (form : LineForm) (records : List Record) (number n : ℕ) (run : List ℕ) (some prefix : Bool) → (cut run).tail ≡ [] → prefix ≡ has_prefix form → some ≡ if_replaced form.facts (list_any is_keyword (parts run)) → (some || prefix) ≡ false
     → formed_lines form records number n (cut run).lines ≡ run
 unchanged form records number n run some prefix whole prefix_is some_is neither =
-    run_stands form records number n run whole (sym prefix_is ∙ rest_none some prefix neither)
-    (ap (if_replaced form.facts) (sym (run_keywords run whole)) ∙ (sym some_is ∙ first_none some prefix neither))
+    run_stands form records number n run whole (sym prefix_is ∙ right_false some prefix neither)
+    (ap (if_replaced form.facts) (sym (run_keywords run whole)) ∙ (sym some_is ∙ left_false some prefix neither))
 
 -- a line that isn't changed, and its LF
 pub line_unchanged : (form : LineForm) (records : List Record) (number n : ℕ) (line : List ℕ) (some prefix : Bool) → prefix ≡ has_prefix form → some ≡ if_replaced form.facts (list_any is_keyword (parts line)) → (some || prefix) ≡ false
     → formed_lines form records number n (line ∷ []) ≡ ended line
 line_unchanged form records number n line some prefix prefix_is some_is neither =
-    unprefixed form.module_name form.has_sids form.facts records number n (line ∷ []) (sym prefix_is ∙ rest_none some prefix neither)
-    (ap (if_replaced form.facts) (or_none (list_any is_keyword (parts line))) ∙ (sym some_is ∙ first_none some prefix neither))
+    unprefixed form.module_name form.has_sids form.facts records number n (line ∷ []) (sym prefix_is ∙ right_false some prefix neither)
+    (ap (if_replaced form.facts) (or_none (list_any is_keyword (parts line))) ∙ (sym some_is ∙ left_false some prefix neither))
     ∙ append-nil (ended line)
-  where
-    or_none : (x : Bool) → (x || false) ≡ x
-    or_none true = refl
-    or_none false = refl

@@ -1,8 +1,7 @@
 -- What a turn of giving leaves, and turns put together.
-use Rattle.std.proofs.Common.{◌≡◌, ℕ, ◌≤◌, false, List, Option, None, Some, option_map, Result, Ok, Err, inl, inr, refl, sym, ap, subst, ◌∙◌, arith}
+use Rattle.std.proofs.Common.{◌≡◌, ℕ, false, List, Option, None, Some, option_map, Result, Ok, Err, refl, sym, ap, subst, ◌∙◌, arith}
 use Rattle.std.specs.Prelude.{IfSome, OnOk}
 use Rattle.std.specs.Str.{bytes_eq}
-use Rattle.sccs_base.specs.Stream.{Rose}
 use Rattle.sccs_disk.specs.Files.{Content, View}
 use Rattle.sccs_disk.specs.Told.{Told, seen}
 use Rattle.sccs_files.specs.StepFiles.{Moves}
@@ -20,6 +19,7 @@ use Rattle.sccs_steps.specs.Causes.{PrintCauses}
 use Rattle.sccs_printing.specs.Targets.{CanTake, IsApart, KeepsTargetMark, Reaches, UsesTarget, file_of, target_bytes}
 use Rattle.sccs_printing.specs.declared.givings.Giving.{Giving}
 use Rattle.sccs_printing.proofs.GivingLaws.{moved_both, moved_cut, moved_end, read_both, read_end}
+use Rattle.sccs_base.proofs.Rises.{rose_later}
 
 -- ---- what is reached
 
@@ -59,10 +59,6 @@ body_stays n k file set front items o o2 other moves is = record { told_is = oth
 
 -- ---- a text behind another
 
-rose_before : (f g h : ℕ) → f ≤ g → Rose g h → Rose f h
-rose_before f g h later (inl more) = inl (omega (arith, later, more))
-rose_before f g h later (inr last) = inr last
-
 module _ {T U : Type 0} (x : T) (q : Result U StepFault) where
   mark_then : (file : Option (List ℕ)) (t t2 t3 : Told) → KeepsTargetMark file t t2 → OnOk q (KeepsTargetMark file t2 t3) → OnOk q (KeepsTargetMark file t t3)
   mark_then file t t2 t3 one two = on_ok q two
@@ -75,9 +71,9 @@ module _ {T U : Type 0} (x : T) (q : Result U StepFault) where
   causes_then o o2 o3 d d2 d3 one two = record {
     out_later = omega (arith, one.out_later, two.out_later);
     disk_later = omega (arith, one.disk_later, two.disk_later);
-    write = λ is. rose_before o o2 o3 one.out_later (two.write is);
+    write = λ is. rose_later o o2 o3 one.out_later (two.write is);
     read = two.read;
-    broke = λ is. rose_before d d2 d3 one.disk_later (two.broke is);
+    broke = λ is. rose_later d d2 d3 one.disk_later (two.broke is);
   }
 
   -- two calls that give text to one target

@@ -1,8 +1,7 @@
 -- A whole version that was given.
-use Rattle.std.proofs.Common.{◌≡◌, ℕ, ◌+◌, ◌≤◌, false, List, [], ◌++◌, length, Option, Some, Result, Ok, Err, refl, sym, ap, subst, ◌∙◌, inl, inr, arith}
+use Rattle.std.proofs.Common.{◌≡◌, ℕ, ◌+◌, ◌≤◌, false, List, [], ◌++◌, length, Option, Some, Result, Ok, Err, refl, sym, ap, subst, ◌∙◌, arith}
 use Rattle.std.specs.Prelude.{IfOk, IsOk, OnOk}
 use Rattle.std.proofs.lemmas.List.{length-map}
-use Rattle.sccs_base.specs.Stream.{Rose}
 use Rattle.sccs_disk.specs.Told.{Told}
 use Rattle.sccs_history.specs.Applied.{live_serials}
 use Rattle.sccs_history.specs.Body.{HistoryLine}
@@ -23,6 +22,7 @@ use Rattle.sccs_printing.specs.declared.givings.Giving.{Giving}
 use Rattle.sccs_printing.specs.declared.shown.Shown.{Shown}
 use Rattle.sccs_printing.specs.declared.targets.Target.{Target}
 use Rattle.sccs_printing.proofs.GivingLaws.{same_shown}
+use Rattle.sccs_base.proofs.Rises.{rose_later}
 
 all_given : (lines : List HistoryLine) (given : Result (Unit {0}) StepFault) (g g2 : Giving) (a b : Option (List ℕ)) → GivesAll lines given g g2 a b → GivesTo (file_of g.target) (text_next g lines) given (held_back g.target) (held_back g2.target) a b
 all_given lines (Ok done) g g2 a b gives = gives.text
@@ -98,10 +98,6 @@ outer_cut n text (Refused refusal) a b cut = cut
 same_fault : {X Y : Type 0} (fault other : StepFault) → ◌≡◌ {A = Result X StepFault} (Err fault) (Err other) → ◌≡◌ {A = Result Y StepFault} (Err fault) (Err other)
 same_fault fault other is = cc
 
-rose_from : (d d2 d3 : ℕ) → d ≤ d2 → Rose d2 d3 → Rose d d3
-rose_from d d2 d3 low (inl more) = inl (omega (arith, low, more))
-rose_from d d2 d3 low (inr last) = inr last
-
 -- a fault of a call behind others that only read
 pub fault_causes : {X Y : Type 0} (fault : StepFault) (out d d2 d3 : ℕ) → d ≤ d2 → PrintCauses {X = X} (Err fault) out out d2 d3 → PrintCauses {X = Y} (Err fault) out out d d3
 fault_causes fault out d d2 d3 low causes = record {
@@ -109,7 +105,7 @@ fault_causes fault out d d2 d3 low causes = record {
   disk_later = omega (arith, low, causes.disk_later);
   write = λ e. causes.write (same_fault fault WriteFault e);
   read = λ e. causes.read (same_fault fault ReadFault e);
-  broke = λ e. rose_from d d2 d3 low (causes.broke (same_fault fault DiskFault e));
+  broke = λ e. rose_later d d2 d3 low (causes.broke (same_fault fault DiskFault e));
 }
 
 pub quiet_causes : {X : Type 0} (x : X) (out d d2 : ℕ) → d ≤ d2 → PrintCauses (Ok x) out out d d2

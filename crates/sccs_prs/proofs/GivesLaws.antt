@@ -1,11 +1,12 @@
 -- Texts that are printed one after the other, some of it being held back.
-use Rattle.std.proofs.Common.{◌≡◌, ℕ, ◌+◌, ◌<◌, ◌≤◌, List, [], ◌++◌, length, take, flat_map, get_or, Option, Result, Ok, Err, inl, inr, sym, ap, subst, ◌∙◌, arith, append_assoc, append-nil}
-use Rattle.sccs_base.specs.Stream.{Buffers, GivesOk, GivesSome, Rose}
+use Rattle.std.proofs.Common.{◌≡◌, ℕ, ◌+◌, ◌<◌, ◌≤◌, List, [], ◌++◌, length, take, flat_map, get_or, Option, Result, Ok, Err, sym, ap, subst, ◌∙◌, arith, append_assoc, append-nil}
+use Rattle.sccs_base.specs.Stream.{Buffers, GivesOk, GivesSome}
 use Rattle.sccs_base.proofs.Gifts.{buffers_both, buffers_cut, buffers_flushed, buffers_part, buffers_part_cut, buffers_then, gives_both, gives_then, some_longer, some_none}
 use Rattle.sccs_sid.specs.declared.refusals.StepFault.{StepFault}
 use Rattle.sccs_sid.specs.declared.refusals.StepFault.TheVariants.{Refused, Memory, ReadFault, WriteFault, DiskFault}
 use Rattle.sccs_steps.specs.Causes.{PrintCauses}
 use Rattle.sccs_prs.specs.Gives.{GivesHeld, PrintsAll}
+use Rattle.sccs_base.proofs.Rises.{rose_later}
 
 -- ---- one text behind another
 
@@ -84,16 +85,12 @@ prints_some text held mid a b c none first rest = subst (λ h. GivesSome a c (h 
 
 -- ---- why
 
-rose_on : (n m k : ℕ) → n ≤ m → Rose m k → Rose n k
-rose_on n m k low (inl more) = inl (omega (arith, low, more))
-rose_on n m k low (inr last) = inr last
-
 -- behind calls that raised no count
 pub causes_on : {T : Type 0} (r : Result T StepFault) (o o2 o3 d d2 d3 : ℕ) → o ≤ o2 → d ≤ d2 → PrintCauses r o2 o3 d2 d3 → PrintCauses r o o3 d d3
 causes_on r o o2 o3 d d2 d3 out_later disk_later causes = record {
   out_later = omega (arith, out_later, causes.out_later);
   disk_later = omega (arith, disk_later, causes.disk_later);
-  write = λ is. rose_on o o2 o3 out_later (causes.write is);
+  write = λ is. rose_later o o2 o3 out_later (causes.write is);
   read = causes.read;
-  broke = λ is. rose_on d d2 d3 disk_later (causes.broke is);
+  broke = λ is. rose_later d d2 d3 disk_later (causes.broke is);
 }

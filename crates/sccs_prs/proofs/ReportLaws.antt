@@ -8,9 +8,8 @@ use Rattle.sccs_disk.specs.Told.{Told, seen}
 use Rattle.sccs_sid.specs.Reading.{◌>>=◌}
 use Rattle.sccs_sid.specs.declared.refusals.StepFault.{StepFault}
 use Rattle.sccs_sid.specs.declared.refusals.StepFault.TheVariants.{Refused, Memory, ReadFault, WriteFault, DiskFault}
-use Rattle.sccs_history.specs.declared.headers.Header.{Header}
 use Rattle.sccs_grammar.specs.File.{Parsed, answer, file_of}
-use Rattle.sccs_grammar.specs.FileRefusals.{file_fault, or_none, or_refusal, refusal_of}
+use Rattle.sccs_grammar.specs.FileRefusals.{file_fault, or_refusal}
 use Rattle.sccs_grammar.specs.declared.faults.FileFault.{FileFault}
 use Rattle.sccs_grammar.specs.declared.faults.FileFault.TheVariants as faults
 use Rattle.sccs_table.specs.FrontFile.{IsPlaced, Refuses}

@@ -1,6 +1,5 @@
 -- The tokens of bytes, one after the other.
 use Rattle.std.proofs.Common.{◌≡◌, ℕ, zero, suc, ◌≤◌, ◌<◌, ◌==◌, nat_lt, Bool, true, false, cond, not, ◌||◌, List, [], ◌∷◌, length, Option, None, Some, refl, sym, subst, ap, ◌∙◌, arith}
-use Rattle.std.proofs.lemmas.Bool.{false≢true}
 use Rattle.sccs_rcs_file.specs.TokenValues.{Token, Semicolon, Colon}
 use Rattle.sccs_rcs_file.specs.Tokens.{at_sign, behind_word, colon, from_token, is_gap, is_of_word, lexemes, lexemes_by, lexemes_from, lexemes_within, quoted, semicolon, string_in, token_at, with_raw, word_in, word_token}
 

@@ -1,7 +1,6 @@
 -- The cells of a fit script do to lines what its changes do.
 use Rattle.std.proofs.Common.{◌≡◌, ℕ, zero, suc, ◌+◌, ◌-◌, ◌≤◌, ◌<◌, nat_le, nat_lt, Bool, true, false, cond, ◌&&◌, ◌||◌, List, [], ◌∷◌, ◌++◌, length, map, replicate, Option, None, Some, Ok, Err, refl, sym, subst, ap, ◌∙◌, arith, eq-eqb}
-use Rattle.std.specs.List.{AllByRecursion}
-use Rattle.std.proofs.lemmas.Bool.{and_left, and_parts, and_right, cases_lt, eqb-true, false≢true, le-leb, le-ltb, leb-true, lt-leb, lt-ltb, ltb-true, ne_eqb, or_from, or_left}
+use Rattle.std.proofs.lemmas.Bool.{and_left, and_parts, and_right, le-leb, le-ltb, leb-true, lt-leb, lt-ltb, ltb-true, ne_eqb, or_from, or_left}
 use Rattle.sccs_sid.specs.Reading.{only}
 use Rattle.sccs_sid.specs.SidLists.{begins}
 use Rattle.sccs_history.specs.Numbers.{front_if}

@@ -1,5 +1,5 @@
 -- How many lines of runs each serial inserted and deleted.
-use Rattle.std.proofs.Common.{◌≡◌, ℕ, zero, suc, ◌+◌, ◌-◌, ◌≤◌, ◌<◌, ◌==◌, Bool, true, false, cond, ◌||◌, List, [], ◌∷◌, ◌++◌, length, map, slice_set, refl, sym, ap, ◌∙◌, arith, eq-eqb}
+use Rattle.std.proofs.Common.{◌≡◌, ℕ, zero, suc, ◌+◌, ◌-◌, ◌≤◌, ◌<◌, ◌==◌, Bool, true, false, cond, List, [], ◌∷◌, ◌++◌, length, map, slice_set, refl, sym, ap, ◌∙◌, arith, eq-eqb}
 use Rattle.std.specs.List.{count_by}
 use Rattle.std.proofs.lemmas.Bool.{ne_eqb}
 use Rattle.std.proofs.lemmas.List.Sums.{sum_by-append, sum_by-cons}
@@ -9,6 +9,7 @@ use Rattle.sccs_edits.specs.Weave.{deleted, inserted}
 use Rattle.sccs_rcs_pieces.specs.Cells.{deleters_by, line_by}
 use Rattle.sccs_rcs_pieces.specs.Counts.{both, no_lines, tally_of, with_more}
 use Rattle.sccs_rcs_pieces.specs.declared.counts.Tally.{Tally}
+use Rattle.sccs_base.proofs.Bools.{or_none}
 
 abbrev tally : ℕ → ℕ → Tally
 tally a b = record { inserted = a; deleted = b }
@@ -86,11 +87,7 @@ count_same p f t (text ∷ texts) is = count_more p (f text) (map f texts) ∙ (
 
 deleted_by : (d s : ℕ) → 1 ≤ s → has (deleters_by d) s ≡ (d == s)
 deleted_by zero s some = sym (ne_eqb 0 s (λ e. omega (arith, e)))
-deleted_by (suc d) s some = or_false (suc d == s)
-  where
-    or_false : (t : Bool) → (t || false) ≡ t
-    or_false true = refl
-    or_false false = refl
+deleted_by (suc d) s some = or_none (suc d == s)
 
 pub run_tally : (i d : ℕ) (texts : List (List ℕ)) (s : ℕ) → 1 ≤ s
     → both (at_serial i (tally (length texts) 0) s) (at_serial d (tally 0 (length texts)) s) ≡ tally_of (map (λ text. line_by i d text) texts) s

@@ -1,5 +1,5 @@
 -- The delta sets of a table with one delta more.
-use Rattle.std.proofs.Common.{◌≡◌, ℕ, suc, ◌<◌, ◌≤◌, ◌==◌, Bool, true, false, cond, not, ◌&&◌, ◌||◌, List, [], ◌∷◌, ◌++◌, Option, None, Some, unwrap_or, refl, sym, ap, ◌∙◌, arith, eq-eqb}
+use Rattle.std.proofs.Common.{◌≡◌, ℕ, suc, ◌<◌, ◌≤◌, ◌==◌, Bool, true, false, cond, not, ◌&&◌, ◌||◌, List, [], ◌∷◌, ◌++◌, Option, None, Some, unwrap_or, refl, ap, ◌∙◌, arith, eq-eqb}
 use Rattle.std.proofs.lemmas.Bool.{ne_eqb}
 use Rattle.sccs_history.specs.Numbers.{Falls, front_if, has}
 use Rattle.sccs_history.specs.Applied.{Asked, applied, applied_below, listed, named, newest, path, says, serials_of, version_of}
@@ -10,7 +10,7 @@ use Rattle.sccs_records.specs.NewDeltas.{record_of, with_record}
 use Rattle.sccs_records.specs.declared.new_deltas.NewDelta.{NewDelta}
 use Rattle.sccs_records.proofs.TableLaws.{falls_newest}
 
-abbrev asks : ℕ → List ℕ → List ℕ → Asked
+abbrev pub asks : ℕ → List ℕ → List ℕ → Asked
 asks target include exclude = record { target = target; include = include; exclude = exclude; cutoff = None }
 
 -- ---- an older version

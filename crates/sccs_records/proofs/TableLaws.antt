@@ -1,15 +1,15 @@
 -- A table with one delta more keeps the rules.
-use Rattle.std.proofs.Common.{◌≡◌, ℕ, suc, ◌<◌, ◌≤◌, ◌⊎◌, ◌==◌, Bool, true, false, not, ◌&&◌, ◌||◌, List, [], ◌∷◌, refl, sym, ap, ◌∙◌, inl, inr, ⊎_elim, arith}
+use Rattle.std.proofs.Common.{◌≡◌, ℕ, suc, ◌<◌, ◌≤◌, ◌⊎◌, ◌==◌, Bool, true, false, not, ◌&&◌, ◌||◌, List, [], ◌∷◌, refl, sym, ap, ◌∙◌, ⊎_elim, arith}
 use Rattle.std.specs.List.{AllByRecursion}
 use Rattle.std.proofs.lemmas.Bool.{eqb-true, false≢true, or_cases, or_right}
 use Rattle.std.proofs.Math.Nat.{min-le_right}
-use Rattle.sccs_history.specs.Numbers.{Falls, front_if, has}
+use Rattle.sccs_history.specs.Numbers.{Falls, has}
 use Rattle.sccs_history.specs.Applied.{live_serials, newest, serials_of}
-use Rattle.sccs_history.specs.History.{IsHeader, IsRecord, IsSpelled, IsTable, KeepsRules, NamesSmaller, has_own_sids}
+use Rattle.sccs_history.specs.History.{IsHeader, IsRecord, IsSpelled, IsTable, NamesSmaller, has_own_sids}
 use Rattle.sccs_history.specs.declared.headers.Header.{Header}
 use Rattle.sccs_history.specs.declared.headers.Record.{Record}
 use Rattle.sccs_history.proofs.Falling.{front_has}
-use Rattle.sccs_records.specs.NewDeltas.{count_of, FitsTable, HasSpellings, record_of, with_delta, with_record}
+use Rattle.sccs_records.specs.NewDeltas.{FitsTable, HasSpellings, record_of, with_delta, with_record}
 use Rattle.sccs_records.specs.declared.new_deltas.NewDelta.{NewDelta}
 
 -- ---- serials
@@ -39,7 +39,7 @@ live_is_there (r ∷ records) n h =
     is_itself : (m : ℕ) (rest : Bool) → ((m == m) || rest) ≡ true
     is_itself m rest = grind arith
 
-some_serial : (all records : List Record) (n : ℕ) → AllByRecursion (IsRecord all) records → has (serials_of records) n ≡ true → 0 < n
+pub some_serial : (all records : List Record) (n : ℕ) → AllByRecursion (IsRecord all) records → has (serials_of records) n ≡ true → 0 < n
 some_serial all [] n each h = absurd (false≢true h)
 some_serial all (r ∷ records) n each h =
     ⊎_elim (λ same. let is : r.serial ≡ n = eqb-true r.serial n same in omega (arith, is, each.0.serial))

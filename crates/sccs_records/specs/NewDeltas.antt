@@ -1,5 +1,5 @@
 -- The record of a new delta, and tables that get one: sccsfile(4), "Delta table"; POSIX, delta.
-use Rattle.std.specs.Prelude.{◌≡◌, ℕ, suc, ◌<◌, min, true, false, List, [], ◌∷◌, ◌++◌, map, codes}
+use Rattle.std.specs.Prelude.{◌≡◌, ℕ, suc, ◌<◌, min, true, false, List, [], ◌∷◌, codes}
 use Rattle.std.specs.List.{AllByRecursion}
 use Rattle.sccs_base.specs.Login.{IsLogin}
 use Rattle.sccs_sid.specs.Moment.{IsMoment}
@@ -11,7 +11,6 @@ use Rattle.sccs_history.specs.Applied.{live_serials, newest, serials_of}
 use Rattle.sccs_history.specs.History.{AreLines, lives}
 use Rattle.sccs_history.specs.declared.headers.Header.{Header}
 use Rattle.sccs_history.specs.declared.headers.Record.{Record}
-use Rattle.sccs_records.specs.declared.new_deltas.Counts.{Counts}
 use Rattle.sccs_records.specs.declared.new_deltas.NewDelta.{NewDelta}
 
 -- a count as the table has it: it stops at 99,999

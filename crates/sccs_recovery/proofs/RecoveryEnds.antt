@@ -38,6 +38,7 @@ use Rattle.sccs_recovery.specs.declared.recoveries.Recovered.{Recovered}
 use Rattle.sccs_recovery.specs.declared.recoveries.Recovered.TheVariants as ways
 use Rattle.sccs_recovery.specs.declared.entries_left.PfileLeft.{PfileLeft}
 use Rattle.sccs_recovery.proofs.RecoveryLaws.{cleared_q, q_placed}
+use Rattle.sccs_base.proofs.Rises.{rose_later}
 
 -- ---- what a call that failed leaves
 
@@ -451,14 +452,10 @@ failed {S} {T} n a b d f g h fault same rises ends =
       calm = tt;
       firm = ends.firm;
       later = omega (arith, rises, ends.later);
-      cause = λ is. risen f g h rises (ends.cause (retyped fault DiskFault is));
+      cause = λ is. rose_later f g h rises (ends.cause (retyped fault DiskFault is));
       within = record {
         checks = λ refusal is. ends.within.checks refusal (retyped fault (Refused refusal) is);
         read = λ is. ends.within.read (retyped fault ReadFault is);
         write = λ is. ends.within.write (retyped fault WriteFault is);
       };
     })
-  where
-    risen : (f g h : ℕ) → f ≤ g → Rose g h → Rose f h
-    risen f g h rises (inl more) = inl (omega (arith, rises, more))
-    risen f g h rises (inr last) = inr last

@@ -6,8 +6,8 @@ use Rattle.sccs_history.specs.Body.{GoesOn, HistoryLine, Mark, Closed, ByInsert,
 use Rattle.sccs_history.specs.Removal.{dropped, dropped_behind, dropped_lines}
 use Rattle.sccs_history.specs.declared.headers.Item.{Item}
 use Rattle.sccs_history.specs.declared.headers.Item.TheVariants.{Text, Insert, Delete, End}
-use Rattle.sccs_history.proofs.Falling.{falling_has, has-falling, falling-has, falling-alike, Falls-falling, Falls-wider}
-use Rattle.sccs_history.proofs.OpenMarks.{mark_below}
+use Rattle.sccs_history.proofs.Falling.{Falls-falling, Falls-wider}
+use Rattle.sccs_history.proofs.OpenSerials.{has_test, falling_same, passing}
 
 -- ---- lists without a number
 
@@ -51,27 +51,6 @@ none-without n (k ∷ ns) none = absurd (false≢true none)
 
 -- ---- which serials are open
 
-both_true : (a b : Bool) → (a ≡ true → b ≡ true) → (b ≡ true → a ≡ true) → a ≡ b
-both_true true b there back = sym (there refl)
-both_true false true there back = back refl
-both_true false false there back = refl
-
--- the serials whose mark passes a test that no closed one passes
-has_test : (before : List Item) (test : ℕ → Mark → Bool) → ((n : ℕ) → test n Closed ≡ false) → (n : ℕ) → has (falling (above before) (λ m. test m (mark m before))) n ≡ test n (mark n before)
-has_test before test none n =
-    both_true (has (falling (above before) (λ m. test m (mark m before))) n) (test n (mark n before))
-    (λ there. (falling_has (above before) (λ m. test m (mark m before)) n there).1)
-    (λ passes. has-falling (above before) (λ m. test m (mark m before)) n (mark_below n before (opened (mark n before) passes)) passes)
-  where
-    opened : (k : Mark) → test n k ≡ true → is_closed k ≡ false
-    opened Closed passes = absurd (false≢true (sym (none n) ∙ passes))
-    opened ByInsert passes = refl
-    opened ByDelete passes = refl
-
--- two lists that fall and have the same numbers are the same
-pub falling_same : (b : ℕ) (xs ys : List ℕ) → Falls b xs → Falls b ys → ((n : ℕ) → has xs n ≡ has ys n) → xs ≡ ys
-falling_same b xs ys one two alike = sym (falling-has b xs one) ∙ (falling-alike b (has xs) (has ys) (λ m lt. alike m) ∙ falling-has b ys two)
-
 -- After says the same of all other serials as before, and that the serial isn't open.
 pub record Clear (n : ℕ) (before after : List Item) : Type 0 where
   pub others : (m : ℕ) → m ≢ n → mark m after ≡ mark m before
@@ -79,10 +58,6 @@ pub record Clear (n : ℕ) (before after : List Item) : Type 0 where
 
 pub nothing_open : (n : ℕ) → Clear n [] []
 nothing_open n = record { others = λ m other. refl; own = refl }
-
--- the serials that pass a test by their mark
-abbrev passing : (ℕ → Mark → Bool) → List Item → List ℕ
-passing test before = falling (above before) (λ m. test m (mark m before))
 
 module _ (n : ℕ) (before after : List Item) (clear : Clear n before after) where
   passing_clear : (test : ℕ → Mark → Bool) → ((m : ℕ) → test m Closed ≡ false) → passing test after ≡ without n (passing test before)

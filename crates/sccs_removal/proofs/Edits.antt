@@ -3,7 +3,7 @@ use Rattle.std.proofs.Common.{◌≡◌, ◌≢◌, ℕ, ◌<◌, ◌≤◌, ◌
 use Rattle.std.specs.Prelude.{if◌then◌else◌}
 use Rattle.std.specs.List.{AllByRecursion, find}
 use Rattle.std.proofs.Math.Bool.{and-false}
-use Rattle.std.proofs.lemmas.Bool.{and_parts, eq-eqb, false≢true, le-leb, ne_eqb}
+use Rattle.std.proofs.lemmas.Bool.{and_parts, eq-eqb, false≢true, le-leb, ne_eqb, and_from, or_parts}
 use Rattle.sccs_sid.specs.declared.sid_lists.Range.{Range}
 use Rattle.sccs_sid.specs.declared.sids.Sid.{Sid}
 use Rattle.sccs_history.specs.Applied.{serials_of}
@@ -18,7 +18,8 @@ use Rattle.sccs_pfile.proofs.Recovering.{same_self}
 use Rattle.sccs_removal.specs.Leaves.{is_edited, live_delta}
 use Rattle.sccs_removal.specs.Removed.{removed_record, removed_records}
 use Rattle.sccs_removal.proofs.DroppedItems.{by_test}
-use Rattle.sccs_removal.proofs.RemovedTables.{contrary, either, neither, not_lives, still_live}
+use Rattle.sccs_removal.proofs.RemovedTables.{contrary, either, not_lives, still_live}
+use Rattle.sccs_base.proofs.Bools.{or_none}
 
 -- ---- the record of the delta
 
@@ -63,10 +64,6 @@ lives_one n sid s a away own =
     let none : same_sid a.sid s ≡ false = no_other sid s a.sid parts.1 away in
     ap (λ t. not (a.removed || true) && t) none ∙ (and-false (not (a.removed || true)) ∙ (sym (and-false (not a.removed)) ∙ ap (λ t. not a.removed && t) (sym none))))
     (λ other. ap (λ t. not t && same_sid a.sid s) (or_none a.removed))
-  where
-    or_none : (x : Bool) → (x || false) ≡ x
-    or_none true = refl
-    or_none false = refl
 
 lives_other : (n : ℕ) (sid s : Sid) (records : List Record) → s ≢ sid → AllByRecursion (λ a. (a.serial == n) ≡ true → live_of sid a ≡ true) records → lives (removed_records n records) s ≡ lives records s
 lives_other n sid s [] away own = refl
@@ -93,9 +90,6 @@ not_after_self a =
     last_true true y z two three = refl
     last_true false y z two three = ap (λ t. t && z) two ∙ three
 
-both : (x y : Bool) → x ≡ true → y ≡ true → (x && y) ≡ true
-both x y one two = ap (λ t. t && y) one ∙ two
-
 -- What a range without a fault says: its ends are live and on one line, in order.
 record IsRange (records : List Record) (range : Range) : Type 0 where
   first : lives records range.first ≡ true
@@ -120,18 +114,18 @@ range_is records range is = by_both (lives records range.first) (lives records r
 is_range : (records : List Record) (range : Range) → IsRange records range → is_none (range_fault records range) ≡ true
 is_range records range is =
     ap (λ t. is_none (fault_by range t (lives records range.last && (one_line range.first range.last && not_after range.first range.last)))) is.first
-    ∙ ap (λ u. is_none (fault_by range true u)) (both (lives records range.last) (one_line range.first range.last && not_after range.first range.last) is.last (both (one_line range.first range.last) (not_after range.first range.last) is.line is.order))
+    ∙ ap (λ u. is_none (fault_by range true u)) (and_from (lives records range.last) (one_line range.first range.last && not_after range.first range.last) is.last (and_from (one_line range.first range.last) (not_after range.first range.last) is.line is.order))
 
 -- the ends of a range that doesn't go over a SID are others
 first_other : (records : List Record) (range : Range) (sid : Sid) → IsRange records range → in_range range sid ≡ false → range.first ≢ sid
 first_other records range sid is out same =
     false≢true (sym out ∙ (ap (in_range range) (sym same)
-    ∙ both (one_line range.first range.first) (not_after range.first range.first && not_after range.first range.last) (one_line_self range.first) (both (not_after range.first range.first) (not_after range.first range.last) (not_after_self range.first) is.order)))
+    ∙ and_from (one_line range.first range.first) (not_after range.first range.first && not_after range.first range.last) (one_line_self range.first) (and_from (not_after range.first range.first) (not_after range.first range.last) (not_after_self range.first) is.order)))
 
 last_other : (records : List Record) (range : Range) (sid : Sid) → IsRange records range → in_range range sid ≡ false → range.last ≢ sid
 last_other records range sid is out same =
     false≢true (sym out ∙ (ap (in_range range) (sym same)
-    ∙ both (one_line range.first range.last) (not_after range.first range.last && not_after range.last range.last) is.line (both (not_after range.first range.last) (not_after range.last range.last) is.order (not_after_self range.last))))
+    ∙ and_from (one_line range.first range.last) (not_after range.first range.last && not_after range.last range.last) is.line (and_from (not_after range.first range.last) (not_after range.last range.last) is.order (not_after_self range.last))))
 
 module _ (n : ℕ) (sid : Sid) (records : List Record) (own : AllByRecursion (λ a. (a.serial == n) ≡ true → live_of sid a ≡ true) records) where
   range_kept : (range : Range) → in_range range sid ≡ false → is_none (range_fault records range) ≡ true → is_none (range_fault (removed_records n records) range) ≡ true
@@ -147,11 +141,11 @@ module _ (n : ℕ) (sid : Sid) (records : List Record) (own : AllByRecursion (λ
   ranges_kept : (ranges : List Range) → is_listed ranges sid ≡ false → are_ranges records ranges ≡ true → are_ranges (removed_records n records) ranges ≡ true
   ranges_kept [] out fine = fine
   ranges_kept (range ∷ ranges) out fine =
-      let outs = neither (in_range range sid) (is_listed ranges sid) out in
+      let outs = or_parts (in_range range sid) (is_listed ranges sid) out in
       let fines = and_parts (is_none (range_fault records range)) (are_ranges records ranges) fine in
-      both (is_none (range_fault (removed_records n records) range)) (are_ranges (removed_records n records) ranges) (range_kept range outs.0 fines.0) (ranges_kept ranges outs.1 fines.1)
+      and_from (is_none (range_fault (removed_records n records) range)) (are_ranges (removed_records n records) ranges) (range_kept range outs.0 fines.0) (ranges_kept ranges outs.1 fines.1)
 
--- ---- SIDs in both lists
+-- ---- SIDs in and_from lists
 
 shared_before : (n : ℕ) (include exclude : List Range) (records : List Record) → share_sid (removed_records n records) include exclude ≡ true → share_sid records include exclude ≡ true
 shared_before n include exclude [] is = is
@@ -170,26 +164,26 @@ module _ (n : ℕ) (sid : Sid) (records : List Record) (own : AllByRecursion (λ
   lists_kept e one two fine =
       let parts = and_parts (are_ranges records e.include) (are_ranges records e.exclude && not (share_sid records e.include e.exclude)) fine in
       let rest = and_parts (are_ranges records e.exclude) (not (share_sid records e.include e.exclude)) parts.1 in
-      both (are_ranges (removed_records n records) e.include) (are_ranges (removed_records n records) e.exclude && not (share_sid (removed_records n records) e.include e.exclude)) (ranges_kept n sid records own e.include one parts.0)
-      (both (are_ranges (removed_records n records) e.exclude) (not (share_sid (removed_records n records) e.include e.exclude)) (ranges_kept n sid records own e.exclude two rest.0) (not_shared n e.include e.exclude records rest.1))
+      and_from (are_ranges (removed_records n records) e.include) (are_ranges (removed_records n records) e.exclude && not (share_sid (removed_records n records) e.include e.exclude)) (ranges_kept n sid records own e.include one parts.0)
+      (and_from (are_ranges (removed_records n records) e.exclude) (not (share_sid (removed_records n records) e.include e.exclude)) (ranges_kept n sid records own e.exclude two rest.0) (not_shared n e.include e.exclude records rest.1))
 
   edit_kept : (edits : List Edit) (e : Edit) → (same_sid e.got sid || (is_listed e.include sid || is_listed e.exclude sid)) ≡ false → agrees records edits e ≡ true → agrees (removed_records n records) edits e ≡ true
   edit_kept edits e out fine =
-      let outs = neither (same_sid e.got sid) (is_listed e.include sid || is_listed e.exclude sid) out in
-      let listed = neither (is_listed e.include sid) (is_listed e.exclude sid) outs.1 in
+      let outs = or_parts (same_sid e.got sid) (is_listed e.include sid || is_listed e.exclude sid) out in
+      let listed = or_parts (is_listed e.include sid) (is_listed e.exclude sid) outs.1 in
       let away : e.got ≢ sid = λ same. false≢true (sym outs.0 ∙ (ap (same_sid e.got) (sym same) ∙ same_self e.got)) in
       let parts = and_parts (lives records e.got) (not (lives records e.made) && (makers edits e.made == 1 && has_lists records e)) fine in
       let rest = and_parts (not (lives records e.made)) (makers edits e.made == 1 && has_lists records e) parts.1 in
       let last = and_parts (makers edits e.made == 1) (has_lists records e) rest.1 in
-      both (lives (removed_records n records) e.got) (not (lives (removed_records n records) e.made) && (makers edits e.made == 1 && has_lists (removed_records n records) e))
+      and_from (lives (removed_records n records) e.got) (not (lives (removed_records n records) e.made) && (makers edits e.made == 1 && has_lists (removed_records n records) e))
       (lives_other n sid e.got records away own ∙ parts.0)
-      (both (not (lives (removed_records n records) e.made)) (makers edits e.made == 1 && has_lists (removed_records n records) e) (not_lives n records e.made rest.0)
-      (both (makers edits e.made == 1) (has_lists (removed_records n records) e) last.0 (lists_kept e listed.0 listed.1 last.1)))
+      (and_from (not (lives (removed_records n records) e.made)) (makers edits e.made == 1 && has_lists (removed_records n records) e) (not_lives n records e.made rest.0)
+      (and_from (makers edits e.made == 1) (has_lists (removed_records n records) e) last.0 (lists_kept e listed.0 listed.1 last.1)))
 
   edits_kept : (all edits : List Edit) → is_edited edits sid ≡ false → AllByRecursion (λ e. agrees records all e ≡ true) edits → AllByRecursion (λ e. agrees (removed_records n records) all e ≡ true) edits
   edits_kept all [] out each = tt
   edits_kept all (e ∷ edits) out each =
-      let outs = neither (same_sid e.got sid || (is_listed e.include sid || is_listed e.exclude sid)) (is_edited edits sid) out in
+      let outs = or_parts (same_sid e.got sid || (is_listed e.include sid || is_listed e.exclude sid)) (is_edited edits sid) out in
       (edit_kept all e outs.0 each.0, edits_kept all edits outs.1 each.1)
 
 pub agreement_kept : (records : List Record) (sid : Sid) (r : Record) (edits : List Edit) → IsTable records → live_delta records sid ≡ Some r → Agrees records edits → is_edited edits sid ≡ false → Agrees (removed_records r.serial records) edits

@@ -3,7 +3,7 @@ use Rattle.std.proofs.Common.{◌≡◌, ◌≢◌, ℕ, ◌<◌, ◌≤◌, ◌
 use Rattle.std.specs.Prelude.{if◌then◌else◌}
 use Rattle.std.specs.List.{AllByRecursion, list_all}
 use Rattle.std.proofs.Math.Bool.{and-false}
-use Rattle.std.proofs.lemmas.Bool.{eqb-true, false≢true, ne_eqb, and_parts, not-true, or_left}
+use Rattle.std.proofs.lemmas.Bool.{eqb-true, false≢true, ne_eqb, and_parts, not-true, or_left, or_right}
 use Rattle.sccs_history.specs.Applied.{Asked, applied, applied_below, is_barred, listed, live_serials, named, path, says, serials_of, version_of}
 use Rattle.sccs_history.specs.Body.{HistoryLine}
 use Rattle.sccs_history.specs.History.{IsRecord, IsTable, is_rooted}
@@ -44,11 +44,7 @@ barred_removed (Some last) r is = or_left r.removed (int_lt last r.moment.second
 
 says_own : (a : Asked) (way : List ℕ) (n : ℕ) (above : List Record) (r : Record) → (r.serial == n) ≡ true → says a way (removed_records n above) (removed_record n r) ≡ false
 says_own a way n above r own =
-    ap (λ t. not t && unwrap_or (listed a.include a.exclude r.serial (named (removed_records n above) r.serial)) (has way r.serial)) (barred_removed a.cutoff (removed_record n r) (with_own r.removed (r.serial == n) own))
-  where
-    with_own : (x y : Bool) → y ≡ true → (x || y) ≡ true
-    with_own true y is = refl
-    with_own false y is = is
+    ap (λ t. not t && unwrap_or (listed a.include a.exclude r.serial (named (removed_records n above) r.serial)) (has way r.serial)) (barred_removed a.cutoff (removed_record n r) (or_right r.removed (r.serial == n) own))
 
 -- none of the records takes the serial in
 abbrev NotTaken : ℕ → List Record → Type 0
@@ -202,11 +198,7 @@ versions_kept n records lines table rooted free = record {
     same_text : (a : Asked) → applied a (removed_records n records) ≡ applied a records → select (applied a (removed_records n records)) (dropped_lines n lines) ≡ select (applied a records) lines
     same_text a same = selects_same (applied a (removed_records n records)) n lines (out_of_set a n records) ∙ ap (λ set. select set lines) same
 
-    either_live : (a b : Bool) → b ≡ true → (a || b) ≡ true
-    either_live true b is = refl
-    either_live false b is = is
-
     sets : (m : ℕ) → has (live_serials (removed_records n records)) m ≡ true → applied (version_of m) (removed_records n records) ≡ applied (version_of m) records
     sets m live =
         let was = left_live n m records live in
-        set_same (version_of m) n records free (path_avoids n m (live_serials records) records each (either_live (0 == m) (has (live_serials records) m) was.1) was.0) refl
+        set_same (version_of m) n records free (path_avoids n m (live_serials records) records each (or_right (0 == m) (has (live_serials records) m) was.1) was.0) refl

@@ -11,13 +11,10 @@ use Rattle.sccs_history.specs.declared.headers.Header.{Header}
 use Rattle.sccs_history.specs.declared.headers.Record.{Record}
 use Rattle.sccs_removal.specs.Removed.{as_removed, removed_record, removed_records, without_delta}
 use Rattle.sccs_removal.proofs.DroppedItems.{by_test}
+use Rattle.sccs_base.proofs.Bools.{or_none}
 
 marked : (n : ℕ) (r : Record) (t : Bool) → (r.serial == n) ≡ t → removed_record n r ≡ record r { removed = r.removed || t }
 marked n r t is = ap (λ u. record r { removed = r.removed || u }) is
-
-or_none : (x : Bool) → (x || false) ≡ x
-or_none true = refl
-or_none false = refl
 
 or_all : (x : Bool) → (x || true) ≡ true
 or_all true = refl

@@ -2,7 +2,7 @@
 use Rattle.std.proofs.Common.{◌≡◌, ℕ, ◌<◌, ◌==◌, Bool, true, false, not, ◌&&◌, ◌||◌, List, [], ◌∷◌, refl, sym, ap, ◌∙◌, subst}
 use Rattle.std.specs.Prelude.{if◌then◌else◌}
 use Rattle.std.specs.List.{AllByRecursion, list_all, list_any}
-use Rattle.std.proofs.lemmas.Bool.{eqb-false, false≢true, and_parts, or_right}
+use Rattle.std.proofs.lemmas.Bool.{eqb-false, false≢true, and_parts, or_right, or_parts}
 use Rattle.sccs_base.specs.Cut.{HasNoLf}
 use Rattle.sccs_sid.specs.SidLists.{begins}
 use Rattle.sccs_sid.specs.declared.sids.Sid.{Sid}
@@ -171,23 +171,19 @@ history_valid n h is = record {
 
 -- ---- where no live delta rests on the serial
 
-pub neither : (a b : Bool) → (a || b) ≡ false → (a ≡ false) × (b ≡ false)
-neither true b none = absurd (false≢true (sym none))
-neither false b none = (refl, none)
-
 -- one test of the table fails for each record
 pub each_not : (test : Record → Bool) (records : List Record) → list_any test records ≡ false → AllByRecursion (λ r. test r ≡ false) records
 each_not test [] none = tt
-each_not test (r ∷ rs) none = let parts = neither (test r) (list_any test rs) none in (parts.0, each_not test rs parts.1)
+each_not test (r ∷ rs) none = let parts = or_parts (test r) (list_any test rs) none in (parts.0, each_not test rs parts.1)
 
 -- the predecessor of a live one is another
 pub other_base : (n : ℕ) (r : Record) → r.removed ≡ false → rests_on n r ≡ false → (r.predecessor == n) ≡ false
-other_base n r live none = (neither (r.predecessor == n) (has r.include n || has r.exclude n) (ap (λ t. not t && (r.predecessor == n || (has r.include n || has r.exclude n))) (sym live) ∙ none)).0
+other_base n r live none = (or_parts (r.predecessor == n) (has r.include n || has r.exclude n) (ap (λ t. not t && (r.predecessor == n || (has r.include n || has r.exclude n))) (sym live) ∙ none)).0
 
 -- and it doesn't take it in
 pub not_taken_in : (n : ℕ) (r : Record) → r.removed ≡ false → rests_on n r ≡ false → has r.include n ≡ false
 not_taken_in n r live none =
-    (neither (has r.include n) (has r.exclude n) (neither (r.predecessor == n) (has r.include n || has r.exclude n) (ap (λ t. not t && (r.predecessor == n || (has r.include n || has r.exclude n))) (sym live) ∙ none)).1).0
+    (or_parts (has r.include n) (has r.exclude n) (or_parts (r.predecessor == n) (has r.include n || has r.exclude n) (ap (λ t. not t && (r.predecessor == n || (has r.include n || has r.exclude n))) (sym live) ∙ none)).1).0
 
 root_one : (n p : ℕ) (ls : List ℕ) (removed own : Bool) → (removed ≡ false → (p == n) ≡ false) → (removed || has (0 ∷ ls) p) ≡ true → ((removed || own) || has (0 ∷ without n ls) p) ≡ true
 root_one n p ls true own other is = refl

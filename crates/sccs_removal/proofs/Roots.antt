@@ -1,7 +1,7 @@
 -- A rooted table stays rooted with new deltas that are made on live ones.
 use Rattle.std.proofs.Common.{◌≡◌, ℕ, suc, ◌==◌, ◌<◌, Bool, true, false, not, ◌&&◌, ◌||◌, List, [], ◌∷◌, refl, sym, subst, ap, ◌∙◌, arith, eq-eqb}
 use Rattle.std.specs.List.{AllByRecursion, list_all}
-use Rattle.std.proofs.lemmas.Bool.{and_parts, eqb-true, or_left, or_right}
+use Rattle.std.proofs.lemmas.Bool.{and_parts, eqb-true, or_left, or_right, and_from}
 use Rattle.sccs_history.specs.Applied.{live_serials, newest}
 use Rattle.sccs_history.specs.History.{IsRecord, IsTable, is_rooted}
 use Rattle.sccs_history.specs.Numbers.{has}
@@ -26,11 +26,7 @@ roots_wider : (s : ℕ) (ls : List ℕ) (records : List Record) → list_all (ro
 roots_wider s ls [] is = is
 roots_wider s ls (r ∷ rs) is =
     let parts = and_parts (rooted_in ls r) (list_all (rooted_in ls) rs) is in
-    both (rooted_in (s ∷ ls) r) (list_all (rooted_in (s ∷ ls)) rs) (one_wider s r.predecessor ls r.removed parts.0) (roots_wider s ls rs parts.1)
-  where
-    both : (x y : Bool) → x ≡ true → y ≡ true → (x && y) ≡ true
-    both true y one two = two
-    both false y one two = one
+    and_from (rooted_in (s ∷ ls) r) (list_all (rooted_in (s ∷ ls)) rs) (one_wider s r.predecessor ls r.removed parts.0) (roots_wider s ls rs parts.1)
 
 -- one more delta, on a live one or on 0
 rooted_more : (records : List Record) (on : ℕ) (d : NewDelta) → is_rooted records ≡ true → has (0 ∷ live_serials records) on ≡ true → is_rooted (with_record records on d) ≡ true

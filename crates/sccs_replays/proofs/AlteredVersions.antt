@@ -25,14 +25,14 @@ use Rattle.sccs_alter.proofs.StopLaws.{altered_reads, answer_read}
 use Rattle.sccs_replays.specs.PastRuns.{HasVersions, IsOfVersions}
 use Rattle.sccs_replays.proofs.LeftFiles.{s_of}
 
--- the same file is read
-pub same_file : (bytes : List ℕ) (a b : Parsed) → file_of bytes ≡ Ok a → file_of bytes ≡ Ok b → a ≡ b
-same_file bytes a b one two = let same : Ok a ≡ Ok b = sym one ∙ two in cc
-
 -- a file that is whole is read so, whatever is done with its sum
 same_read : (fix : Bool) (bytes : List ℕ) (a b : Parsed) → file_of bytes ≡ Ok a → file_read fix bytes ≡ Ok b → file_of bytes ≡ Ok b
 same_read true bytes a b one two = let same : Ok a ≡ Ok b = sym (unsummed_ok bytes a one) ∙ two in one ∙ same
 same_read false bytes a b one two = two
+
+-- the same file is read
+pub same_file : (bytes : List ℕ) (a b : Parsed) → file_of bytes ≡ Ok a → file_of bytes ≡ Ok b → a ≡ b
+same_file bytes a b one two = let same : Ok a ≡ Ok b = sym one ∙ two in cc
 
 -- the altered file has the versions of the old one
 altered_versions : (words : AdminWords) (bytes text : List ℕ) (parsed : Parsed) (new : Header) (texts : Texts) (old : Content) → old.bytes ≡ bytes → file_of bytes ≡ Ok parsed → altered_header words parsed.header text ≡ Ok new → IsOfVersions old texts → IsOfVersions (sealed new parsed.items) texts

@@ -18,8 +18,8 @@ use Rattle.sccs_cdc.proofs.TableLaws.{same_rooted}
 use Rattle.sccs_delta.specs.NewVersions.{version_text}
 use Rattle.sccs_delta.specs.Replays.{Texts}
 use Rattle.sccs_replays.specs.PastRuns.{HasVersions}
-use Rattle.sccs_replays.proofs.AlteredVersions.{same_file}
 use Rattle.sccs_replays.proofs.LeftFiles.{s_of}
+use Rattle.sccs_replays.proofs.AlteredVersions.{same_file}
 
 -- the changed file has the versions of the old one
 changed_versions : (words : CdcWords) (stamp : Stamp) (f : Files) (s : Content) (d : StepEffect) (texts : Texts) → ChangesDelta words stamp f s d → HasVersions (Some s) texts → HasVersions (s_of (Some s) d.new) (if is_some d.new then texts else texts)

@@ -26,6 +26,7 @@ use Rattle.sccs_replays.specs.PastRuns.{HasVersions, versions_after_steps}
 use Rattle.sccs_replays.proofs.CommandSteps.{steps_go}
 use Rattle.sccs_replays.proofs.LeftFiles.{other_file}
 use Rattle.sccs_replays.proofs.MadeSteps.{AreStepsOf}
+use Rattle.sccs_top.proofs.FinishedRuns.{finisher, Recovers}
 
 -- ---- the step that finishes a group
 
@@ -71,30 +72,11 @@ pub finishing_stays : (who : Caller) (command : Command) (i n : List ℕ) (m : F
 finishing_stays who command i n m [] texts = refl
 finishing_stays who command i n m (t ∷ ts) texts = finishing_stays who command i n (step_in m t) ts texts
 
-recover_of : (command : Command) → group_use command ≡ Some uses.Finishes → (operands : Operands) × (command ≡ c.Recover operands)
-recover_of (c.Recover operands) is = (operands, refl)
-recover_of (c.Admin words operands) is = absurd cc
-recover_of (c.Get words operands) is = absurd cc
-recover_of (c.Delta words name) is = absurd cc
-recover_of (c.Unget words operands) is = absurd cc
-recover_of (c.Sact operands) is = absurd cc
-recover_of (c.Tell operands) is = absurd cc
-recover_of (c.Check operands) is = absurd cc
-recover_of (c.Rmdel sid operands) is = absurd cc
-recover_of (c.Cdc words operands) is = absurd cc
-recover_of (c.Prs words operands) is = absurd cc
-recover_of (c.Val words) is = absurd cc
-recover_of (c.What first operands) is = absurd cc
-recover_of (c.Import operands) is = absurd cc
-recover_of c.Group is = absurd (let same : Some uses.Makes ≡ Some uses.Finishes = is in cc)
-recover_of c.Batch is = absurd cc
-recover_of (c.Soak number) is = absurd cc
-
 -- the operands behind it
 operands_go : (who : Caller) (command : Command) (i n : List ℕ) (m : Folder) (ts : List NamedStep) (texts : Texts) → group_use command ≡ Some uses.Finishes → IsSfile n → IsMoment who.stamp.moment → IsLogin who.stamp.login
     → ArePlain (action_of who command) ts → AreStepsOf (action_of who command) i m ts → HasVersions (view_in m n) texts → HasVersions (view_in (folder_after m ts) n) texts
 operands_go who command i n m ts texts is sfile moment login plain are has =
-    let recovers = recover_of command is in
+    let recovers : Recovers command = finisher command is in
     subst (λ (x : Texts). HasVersions (view_in (folder_after m ts) n) x) (operands_leave who recovers.0 i n m ts texts)
     (steps_go who (c.Recover recovers.0) i n m ts texts sfile moment login tt
     (subst (λ (x : Command). ArePlain (action_of who x) ts) recovers.1 plain) (subst (λ (x : Command). AreStepsOf (action_of who x) i m ts) recovers.1 are) has)

@@ -1,7 +1,7 @@
 -- What words mean has valid values: the lines of MRs and comments, and the release of a new file.
 use Rattle.std.proofs.Common.{◌≡◌, ◌≢◌, ◌≤◌, ℕ, zero, suc, ◌+◌, Bool, true, false, ◌&&◌, List, [], ◌∷◌, ◌++◌, Option, None, Some, IfSome, Result, Ok, Err, refl, sym, ap, subst, ◌∙◌, arith}
 use Rattle.std.specs.Prelude.{nat_le, nat_lt, option_and_then, if◌then◌else◌}
-use Rattle.std.proofs.lemmas.Bool.{leb-true, ltb-true}
+use Rattle.std.proofs.lemmas.Bool.{leb-true, ltb-true, and_parts}
 use Rattle.std.proofs.lemmas.List.Elements.{All-from_recursion, recursion_from_All}
 use Rattle.sccs_base.specs.Constants.{lf}
 use Rattle.sccs_base.specs.Cut.{HasNoLf, text_of}
@@ -66,17 +66,13 @@ asked_comment false value = tt
 
 -- ---- releases
 
-both_true : (a b : Bool) → (a && b) ≡ true → (a ≡ true) × (b ≡ true)
-both_true true b is = (refl, is)
-both_true false b is = absurd cc
-
 only_fitting : (fits : Bool) (n : ℕ) → (fits ≡ true → IsComponent n) → IfSome (only fits n) IsComponent
 only_fitting true n valid = valid refl
 only_fitting false n valid = tt
 
 fitting_release : (n : ℕ) → (nat_lt 0 n && nat_le n 9999) ≡ true → IsComponent n
 fitting_release n is =
-    let both = both_true (nat_lt 0 n) (nat_le n 9999) is in
+    let both = and_parts (nat_lt 0 n) (nat_le n 9999) is in
     let most : n ≤ 9999 = leb-true n 9999 both.1 in
     (ltb-true 0 n both.0, omega (arith, most))
 

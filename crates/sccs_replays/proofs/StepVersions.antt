@@ -28,7 +28,7 @@ use Rattle.sccs_removal.proofs.Roots.{first_rooted, last_live, rooted_in_turn}
 use Rattle.sccs_rmdel.specs.NewVersions.{RemovesDelta}
 use Rattle.sccs_rmdel.specs.RmdelStep.{rmdel_outcome}
 use Rattle.sccs_rmdel.proofs.RemovedVersions.{removal_made}
-use Rattle.sccs_grammar.specs.File.{Parsed, file_of}
+use Rattle.sccs_grammar.specs.File.{Parsed}
 use Rattle.sccs_words.specs.declared.commands.AdminWords.{AdminWords}
 use Rattle.sccs_words.specs.declared.commands.CdcWords.{CdcWords}
 use Rattle.sccs_words.specs.declared.commands.Command.{Command}
@@ -75,7 +75,7 @@ use Rattle.sccs_top.specs.MadeHistories.{IsReplayed}
 use Rattle.sccs_top.proofs.AdminValues.{admin_values}
 use Rattle.sccs_top.proofs.MadeHistoryLaws.{made_replayed}
 use Rattle.sccs_replays.specs.PastRuns.{HasVersions, IsOfVersions, call_in, first_version, imported_versions, versions_after_command, texts_with_delta, with_read}
-use Rattle.sccs_replays.proofs.AlteredVersions.{altered_goes}
+use Rattle.sccs_replays.proofs.AlteredVersions.{altered_goes, same_file}
 use Rattle.sccs_replays.proofs.ChangedVersions.{changed_goes}
 use Rattle.sccs_replays.proofs.LeftFiles.{Leaves, edit_leaves, entries_leave, get_leaves, locking_leaves, recover_leaves, refused_leaves, s_of, sact_leaves}
 use Rattle.sccs_replays.proofs.LiveVersions.{follows_on}
@@ -121,10 +121,6 @@ sized_is i f sized is none = let there = passed (check (is_some f.s) refusals.Mi
 needs_file : (words : DeltaWords) (who : Caller) (n i : List ℕ) (f : Files) (d : StepEffect) → delta_outcome words who.stamp n i [] f ≡ Ok d → f.s ≡ None → ⊥
 unfolding delta_outcome
 needs_file words who n i f d is none = let sized = passed (sizes_checked i f) _ d is in sized_is i f sized.0 sized.1 none
-
--- the same file is read
-same_file : (bytes : List ℕ) (a b : Parsed) → file_of bytes ≡ Ok a → file_of bytes ≡ Ok b → a ≡ b
-same_file bytes a b one two = let same : Ok a ≡ Ok b = sym one ∙ two in cc
 
 -- a new delta and the null deltas before it are made on live ones
 rooted_behind : (call : DeltaCall) (s : Content) (d : StepEffect) (made : MakesVersions call.words call.stamp call.input (files_at s call) s d) → is_rooted made.before.header.records ≡ true → is_rooted made.after.header.records ≡ true

@@ -1,12 +1,10 @@
 -- What holds of a delta that may be removed.
-use Rattle.std.proofs.Common.{◌≡◌, ℕ, ◌==◌, Bool, true, false, cond, not, ◌&&◌, List, [], ◌∷◌, Option, None, Some, Result, Ok, Err, refl, sym, ap, subst, ◌∙◌}
+use Rattle.std.proofs.Common.{◌≡◌, ◌==◌, Bool, true, false, cond, not, ◌&&◌, List, [], ◌∷◌, Option, None, Some, Result, Ok, refl, sym, ap, subst, ◌∙◌}
 use Rattle.std.proofs.lemmas.Bool.{and_parts, not-true}
-use Rattle.sccs_sid.specs.Refusal.{number_of}
 use Rattle.sccs_sid.specs.declared.moments.Stamp.{Stamp}
 use Rattle.sccs_sid.specs.declared.sids.Sid.{Sid}
 use Rattle.sccs_sid.specs.declared.refusals.Refusal.{Refusal}
 use Rattle.sccs_sid.specs.declared.refusals.Refusal.TheVariants as refusals
-use Rattle.sccs_sid.specs.declared.refusals.StepFault.TheVariants.{Refused}
 use Rattle.sccs_flags.specs.Logins.{is_allowed}
 use Rattle.sccs_history.specs.Applied.{live_serials}
 use Rattle.sccs_history.specs.History.{same_sid}
@@ -15,7 +13,6 @@ use Rattle.sccs_history.specs.declared.headers.Header.{Header}
 use Rattle.sccs_history.specs.declared.headers.Record.{Record}
 use Rattle.sccs_history.proofs.Falling.{has_front, has_front_self}
 use Rattle.sccs_pfile.specs.declared.entries.Edit.{Edit}
-use Rattle.sccs_steps.specs.Actions.{RefusesWithin, has_number}
 use Rattle.sccs_steps.specs.StepEffects.{check, there}
 use Rattle.sccs_pending.proofs.Chains.{passed}
 use Rattle.sccs_removal.specs.Leaves.{first_made, has_later, is_base, is_edited, is_leaf, is_owner, live_delta}
@@ -68,6 +65,3 @@ found_live (r ∷ rs) sid delta is =
     (λ here found. let same : r ≡ delta = cc in
     ap (λ (x : Record). has (live_serials (r ∷ rs)) x.serial) (sym same) ∙ has_front_self (not r.removed) r.serial (live_serials rs) (and_parts (not r.removed) (same_sid r.sid sid) here).0)
     (λ away found. has_front (not r.removed) r.serial (live_serials rs) delta.serial (found_live rs sid delta found)) is
-
-pub refused_within : (checks : List ℕ) (refusal : Refusal) → has_number checks (number_of refusal) ≡ true → RefusesWithin {X = ℕ} checks (Err (Refused refusal))
-refused_within checks refusal held other is = let same : refusal ≡ other = cc in subst (λ r. has_number checks (number_of r) ≡ true) same held

@@ -1,6 +1,6 @@
 -- A removal that is prepared, check by check.
-use Rattle.std.proofs.Common.{◌≡◌, ℕ, false, List, [], drop, Option, None, Some, Result, Ok, Err, refl, sym, ap, subst, ◌∙◌}
-use Rattle.std.specs.Prelude.{IfOk, IfSome, IsSome}
+use Rattle.std.proofs.Common.{◌≡◌, ℕ, List, [], drop, Option, None, Some, Result, Ok, Err, refl, sym, ap, subst, ◌∙◌}
+use Rattle.std.specs.Prelude.{IfOk, IfSome}
 use Rattle.std.specs.Str.{bytes_eq}
 use Rattle.sccs_base.specs.Name.{IsSfile, p_file, q_file, x_file, y_file, z_file}
 use Rattle.sccs_base.proofs.Gifts.{gives_none, some_none}
@@ -14,7 +14,7 @@ use Rattle.sccs_sid.specs.declared.sids.Sid.{Sid}
 use Rattle.sccs_sid.specs.declared.refusals.Refusal.{Refusal}
 use Rattle.sccs_sid.specs.declared.refusals.StepFault.{StepFault}
 use Rattle.sccs_sid.specs.declared.refusals.StepFault.TheVariants.{Refused, Memory, ReadFault, WriteFault, DiskFault}
-use Rattle.sccs_files.specs.StepFiles.{Files, Moves, is_working, l_file, look}
+use Rattle.sccs_files.specs.StepFiles.{Files, Moves, is_working, l_file}
 use Rattle.sccs_history.specs.Removal.{dropped}
 use Rattle.sccs_history.specs.declared.headers.Header.{Header}
 use Rattle.sccs_history.specs.declared.headers.Item.{Item}
@@ -26,24 +26,24 @@ use Rattle.sccs_body.specs.ToCome.{IsFrontFor}
 use Rattle.sccs_pfile.specs.declared.entries.Edit.{Edit}
 use Rattle.sccs_steps.specs.Actions.{RefusesWithin, quiet_checks}
 use Rattle.sccs_steps.specs.Calls.{world}
-use Rattle.sccs_steps.specs.StepEffects.{Outcome, StepEffect}
+use Rattle.sccs_steps.specs.StepEffects.{Outcome}
 use Rattle.sccs_store.specs.Commits.{Needs, chosen, files_after, replaced}
 use Rattle.sccs_store.specs.SealedFiles.{sealed}
 use Rattle.sccs_store.specs.declared.new_files.NewFile.{NewFile}
 use Rattle.sccs_store.proofs.Working.{moves_wider}
-use Rattle.sccs_moments.proofs.FileNames.{from_g, from_s, no_x}
+use Rattle.sccs_moments.proofs.FileNames.{from_g, no_x}
 use Rattle.sccs_transactions.specs.Changes.{CouldPrepare, IsQuiet, IsReady, IsUnmade, Prepares, PreparesChange, plan_of, unlocked}
 use Rattle.sccs_transactions.specs.declared.prepared.Prepared.{Prepared}
 use Rattle.sccs_transactions.proofs.Taken.{x_alone}
 use Rattle.sccs_pending.specs.PFiles.{Answers}
-use Rattle.sccs_pending.specs.Pending.{AnswersPending, Found, bytes_at, pending_of}
+use Rattle.sccs_pending.specs.Pending.{AnswersPending, Found, pending_of}
 use Rattle.sccs_pending.specs.declared.pending.Pending.{Pending}
-use Rattle.sccs_pending.proofs.PendingLaws.{shown_header}
 use Rattle.sccs_pending.proofs.Chains.{ends}
 use Rattle.sccs_rmdel.proofs.PendingReads.{body_there}
 use Rattle.sccs_removal.specs.Removed.{without_delta}
 use Rattle.sccs_rmdel.specs.RmdelStep.{removable, removes, rmdel_change, rmdel_checks, rmdel_outcome}
 use Rattle.sccs_rmdel.specs.Writing.{FindsRemovable, IsRewrite, WritesRemoval}
+use Rattle.sccs_pending.proofs.Preparing.{files_at, pending_seen, pending_answers, IsRead, found_of, header_of, ended_as, there_moved}
 
 -- ---- what follows each check
 
@@ -62,14 +62,6 @@ outcome_is sid stamp n i named f = refl
 
 -- ---- the files as they were before the lock
 
-abbrev files_at : List ℕ → View → Files
-files_at n v = look (unlocked n v) n
-
-pending_seen : (n : List ℕ) (v : View) → IsSfile n → pending_of (files_at n v).s (files_at n v).p ≡ pending_of (v n) (v (p_file n))
-pending_seen n v sfile =
-    ap (λ (o : Option Content). pending_of o (unlocked n v (p_file n))) (put_other v (z_file n) n None (from_s 122 n sfile refl))
-    ∙ ap (λ (o : Option Content). pending_of (v n) o) (put_other v (z_file n) (p_file n) None refl)
-
 outcome_seen : (sid : Sid) (stamp : Stamp) (n i : List ℕ) (named : List (Option Content)) (v : View) (r : Result Found Refusal) → IsSfile n → pending_of (v n) (v (p_file n)) ≡ r → rmdel_outcome sid stamp n i named (files_at n v) ≡ by_files sid stamp (files_at n v) r
 outcome_seen sid stamp n i named v r sfile is = outcome_is sid stamp n i named (files_at n v) ∙ ap (by_files sid stamp (files_at n v)) (pending_seen n v sfile ∙ is)
 
@@ -81,25 +73,6 @@ OnlyX n o o2 = Moves (bytes_eq (x_file n)) (λ u. u) o o2
 unmade : (n text : List ℕ) (v : View) (o2 : Option View) (out err : Option (List ℕ)) → OnlyX n (Some v) o2 → IsUnmade n text (world (Some v) out err) (world o2 out err)
 unmade n text v o2 out err moves = record { view = moves_wider (bytes_eq (x_file n)) (is_working n) (Some v) o2 (no_x n) moves; out = some_none out text }
 
-ended : (n : List ℕ) (o : Outcome) (fault : StepFault) (v : View) (out err : Option (List ℕ)) → Answers {A = StepEffect} o (Err fault) → Prepares (Err fault) n o (world (Some v) out err) (world (Some v) out err)
-ended n o (Refused refusal) v out err answers = (answers, unmade n [] v (Some v) out err (λ k h. refl))
-ended n o Memory v out err answers = unmade n _ v (Some v) out err (λ k h. refl)
-ended n o ReadFault v out err answers = absurd answers
-ended n o WriteFault v out err answers = absurd answers
-ended n o DiskFault v out err answers = unmade n _ v (Some v) out err (λ k h. refl)
-
-ended_as : (n : List ℕ) (o rest : Outcome) (fault : StepFault) (v : View) (w : Option View) (out err : Option (List ℕ)) → w ≡ Some v → o ≡ rest → Answers {A = StepEffect} rest (Err fault) → Prepares (Err fault) n o (world (Some v) out err) (world w out err)
-ended_as n o rest fault v w out err same is answers =
-    subst (λ (x : Option View). Prepares (Err fault) n o (world (Some v) out err) (world x out err)) (sym same)
-    (ended n o fault v out err (subst (λ (r : Outcome). Answers {A = StepEffect} r (Err fault)) (sym is) answers))
-
-pending_answers : (s p : Option Content) (fault : StepFault) → AnswersPending s p (Err fault) → Answers {A = Found} (pending_of s p) (Err fault)
-pending_answers s p (Refused refusal) answers = answers
-pending_answers s p Memory answers = tt
-pending_answers s p ReadFault answers = answers
-pending_answers s p WriteFault answers = answers
-pending_answers s p DiskFault answers = tt
-
 -- the files aren't read
 pub unread : (sid : Sid) (stamp : Stamp) (fault : StepFault) (n : List ℕ) (left : Option (List ℕ)) (o o2 : Option View) (out err : Option (List ℕ)) → IsSfile n → o2 ≡ o → IfSome o (λ (v : View). AnswersPending (v n) (v (p_file n)) (Err fault))
     → PreparesChange (rmdel_change sid stamp) (Err fault) n left (world o out err) (world o2 out err)
@@ -108,15 +81,6 @@ unread sid stamp fault n left (Some v) o2 out err sfile same answers = λ i hear
     ended_as n _ _ fault v o2 out err same (outcome_seen sid stamp n i [] v _ sfile refl) (ends (pending_of (v n) (v (p_file n))) (with_found sid stamp (files_at n v)) fault (pending_answers (v n) (v (p_file n)) fault answers))
 
 -- ---- what was read
-
-abbrev pub IsRead : List ℕ → View → Pending → Type 0
-IsRead n v x = AnswersPending (v n) (v (p_file n)) (Ok x)
-
-abbrev found_of : (n : List ℕ) (v : View) (x : Pending) → IsRead n v x → Found
-found_of n v x read = record { parsed = read.0; edits = x.edits }
-
-header_of : (n : List ℕ) (v : View) (x : Pending) (read : IsRead n v x) → x.front.header ≡ read.0.header
-header_of n v x read = shown_header (bytes_at (v n)) read.0 x.front read.1
 
 removable_at : (sid : Sid) (stamp : Stamp) (n i : List ℕ) (v : View) (x : Pending) (r : Result Record Refusal) (read : IsRead n v x) → IsSfile n → removable sid stamp x.front.header x.edits ≡ r
     → rmdel_outcome sid stamp n i [] (files_at n v) ≡ (r >>= with_delta (files_at n v) (found_of n v x read))
@@ -202,11 +166,6 @@ removed sid stamp n x serial r left (Some v) a b out err sfile same read placed 
     removed_at sid stamp n i x serial r v (seen b) out err sfile read finds (subst (λ (w : Option View). OnlyX n w (seen b)) same moves) new (written n x serial r a b v same read placed writes)
 
 -- ---- what a commit needs, and what may come
-
-there_moved : (m k : List ℕ) (o o2 : Option View) → bytes_eq m k ≡ false → Moves (bytes_eq m) (λ v. v) o o2 → IfSome o (λ (v : View). IsSome (v k)) → IfSome o2 (λ (v : View). IsSome (v k))
-there_moved m k None o2 other moves there = subst (λ (o : Option View). IfSome o (λ (v : View). IsSome (v k))) (sym moves) tt
-there_moved m k (Some v) None other moves there = absurd moves
-there_moved m k (Some v) (Some u) other moves there = subst IsSome (sym (moves k other)) there
 
 pub removal_ready : (n : List ℕ) (r : Result Prepared StepFault) (a2 a b : Told) → a ≡ a2 → IsThere (z_file n) a2 → OnlyX n (seen a) (seen b) → IfOk r (λ p. IsThere (x_file n) b) → IfOk r IsRewrite → IfOk r (λ p. IsReady n p b)
 removal_ready n (Ok p) a2 a b same z moves x new = record {

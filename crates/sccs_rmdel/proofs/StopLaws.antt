@@ -33,14 +33,14 @@ use Rattle.sccs_transactions.specs.declared.prepared.Prepared.{Prepared}
 use Rattle.sccs_pending.specs.PFiles.{bytes_or_none}
 use Rattle.sccs_pending.specs.declared.pending.Pending.{Pending}
 use Rattle.sccs_pending.proofs.StopLaws.{table_is}
-use Rattle.sccs_rmdel.proofs.PendingReads.{settles_told, was_read}
 use Rattle.sccs_pending.proofs.PendingReads.{pending_entries}
 use Rattle.sccs_removal.specs.Removed.{removed_records, without_delta}
 use Rattle.sccs_removal.proofs.Edits.{agreement_kept}
 use Rattle.sccs_rmdel.specs.Writing.{FindsRemovable, IsRewrite}
 use Rattle.sccs_rmdel.proofs.CheckLaws.{removable_is}
-use Rattle.sccs_rmdel.proofs.PrepareLaws.{IsRead, Writes, written}
+use Rattle.sccs_rmdel.proofs.PrepareLaws.{Writes, written}
 use Rattle.sccs_rmdel.proofs.RemovalReads.{removal_reads}
+use Rattle.sccs_pending.proofs.Preparing.{IsRead, was_read, settles_told}
 
 -- a p-file whose entries agree with the new table stays
 entries_stay : (c : Content) (o : Option Content) (records : List Record) (edits : List Edit) → table_of c.bytes ≡ Some records → edits_of (bytes_or_none o) ≡ Ok edits → Agrees records edits → recovered_pfile (Some c) o ≡ o

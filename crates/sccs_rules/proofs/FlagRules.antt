@@ -2,7 +2,7 @@
 use Rattle.std.proofs.Common.{◌≡◌, ◌≢◌, ℕ, ◌<◌, nat_lt, ◌==◌, Bool, true, false, cond, not, ◌&&◌, ◌||◌, List, [], ◌∷◌, Option, None, Some, Result, Ok, Err, find, refl, sym, ap, subst, ◌∙◌, arith}
 use Rattle.std.specs.Prelude.{is_some, option_map, unwrap_or}
 use Rattle.std.specs.List.{AllByRecursion, list_any}
-use Rattle.std.proofs.lemmas.Bool.{eqb-true}
+use Rattle.std.proofs.lemmas.Bool.{eqb-true, and_left, or_right, or_from, or_parts}
 use Rattle.std.proofs.lemmas.List.Elements.{All-from_recursion}
 use Rattle.sccs_base.specs.Cut.{HasNoLf}
 use Rattle.sccs_sid.specs.Reading.{◌>>=◌, is_empty, number}
@@ -21,7 +21,8 @@ use Rattle.sccs_rules.specs.Users.{changed_users, has_lf}
 use Rattle.sccs_rules.specs.declared.forms.FlagRow.{FlagRow}
 use Rattle.sccs_rules.specs.declared.forms.Form.{Form}
 use Rattle.sccs_rules.proofs.Spaced.{AreVisible, all_filtered, dropped_ends, each, joined_fits, joined_releases, joined_visible, releases_low, releases_some, skipped_begins, skipped_ends, visible_begins, visible_ends}
-use Rattle.sccs_rules.proofs.UserRules.{line_of, own_bare, own_line, users_changed}
+use Rattle.sccs_rules.proofs.UserRules.{line_of, own_bare, own_line, users_changed, rest_false}
+use Rattle.sccs_base.proofs.Bools.{left_true}
 
 -- ---- what holds of each flag
 
@@ -65,30 +66,23 @@ is_found letter (g ∷ flags) f is = letter_by (g.letter == letter) letter g f (
 abbrev there : ℕ → List Flag → Bool
 there letter flags = list_any (λ g. g.letter == letter) flags
 
-both_false : (a b : Bool) → (a || b) ≡ false → (a ≡ false) × (b ≡ false)
-both_false true b is = absurd cc
-both_false false b is = (refl, is)
-
-or_false : (a b : Bool) → a ≡ false → b ≡ false → (a || b) ≡ false
-or_false a b first rest = ap (λ t. t || b) first ∙ rest
-
 put_absent : (t : Bool) (letter : ℕ) (f g : Flag) (flags more : List Flag) → (f.letter == letter) ≡ false → there letter (g ∷ flags) ≡ false → there letter more ≡ false → there letter (cond t (f ∷ flags) (g ∷ more)) ≡ false
-put_absent true letter f g flags more new old rest = or_false (f.letter == letter) (there letter flags) new (both_false (g.letter == letter) (there letter flags) old).1
-put_absent false letter f g flags more new old rest = or_false (g.letter == letter) (there letter more) (both_false (g.letter == letter) (there letter flags) old).0 rest
+put_absent true letter f g flags more new old rest = or_from (f.letter == letter) (there letter flags) new (or_parts (g.letter == letter) (there letter flags) old).1
+put_absent false letter f g flags more new old rest = or_from (g.letter == letter) (there letter more) (or_parts (g.letter == letter) (there letter flags) old).0 rest
 
 absent_put : (letter : ℕ) (f : Flag) (flags : List Flag) → (f.letter == letter) ≡ false → there letter flags ≡ false → there letter (with_flag f flags) ≡ false
-absent_put letter f [] new old = or_false (f.letter == letter) false new refl
+absent_put letter f [] new old = or_from (f.letter == letter) false new refl
 absent_put letter f (g ∷ flags) new old =
-    put_absent (g.letter == f.letter) letter f g flags (with_flag f flags) new old (absent_put letter f flags new (both_false (g.letter == letter) (there letter flags) old).1)
+    put_absent (g.letter == f.letter) letter f g flags (with_flag f flags) new old (absent_put letter f flags new (or_parts (g.letter == letter) (there letter flags) old).1)
 
 out_absent : (t : Bool) (letter : ℕ) (g : Flag) (flags more : List Flag) → there letter (g ∷ flags) ≡ false → there letter more ≡ false → there letter (cond t flags (g ∷ more)) ≡ false
-out_absent true letter g flags more old rest = (both_false (g.letter == letter) (there letter flags) old).1
-out_absent false letter g flags more old rest = or_false (g.letter == letter) (there letter more) (both_false (g.letter == letter) (there letter flags) old).0 rest
+out_absent true letter g flags more old rest = (or_parts (g.letter == letter) (there letter flags) old).1
+out_absent false letter g flags more old rest = or_from (g.letter == letter) (there letter more) (or_parts (g.letter == letter) (there letter flags) old).0 rest
 
 absent_out : (letter other : ℕ) (flags : List Flag) → there letter flags ≡ false → there letter (without_flag other flags) ≡ false
 absent_out letter other [] old = refl
 absent_out letter other (g ∷ flags) old =
-    out_absent (g.letter == other) letter g flags (without_flag other flags) old (absent_out letter other flags (both_false (g.letter == letter) (there letter flags) old).1)
+    out_absent (g.letter == other) letter g flags (without_flag other flags) old (absent_out letter other flags (or_parts (g.letter == letter) (there letter flags) old).1)
 
 own_parts : (t u : Bool) → (not t && u) ≡ true → (t ≡ false) × (u ≡ true)
 own_parts true u is = absurd cc
@@ -232,12 +226,8 @@ left_fits : (others text : List ℕ) → are_releases text ≡ true → is_empty
 left_fits others text are some =
     joined_fits (left_of (releases_of others) (releases_of text)) (all_filtered (λ r. (r < 10000) × (0 < r)) (λ r. not (is_among (releases_of others) r)) (releases_of text) (releases_some text are)) some
 
-right_true : (a b : Bool) → b ≡ true → (a || b) ≡ true
-right_true true b is = refl
-right_true false b is = is
-
 l_flag : (text : List ℕ) → AreVisible text → are_releases text ≡ true → IsFlag (flag_with flag_l text)
-l_flag text visible are = record { letter = refl; front = visible_begins text visible; back = visible_ends text visible; text = right_true (is_all text) (are_releases text) are }
+l_flag text visible are = record { letter = refl; front = visible_begins text visible; back = visible_ends text visible; text = or_right (is_all text) (are_releases text) are }
 
 flag_unlocked : IsUnlocked (λ text. IsFlag (flag_with flag_l text))
 flag_unlocked others text free old some =
@@ -285,15 +275,6 @@ row_sound : (letter : ℕ) (rs : List FlagRow) (found : FlagRow) → AllByRecurs
 row_sound letter [] found all is = absurd cc
 row_sound letter (r ∷ rs) found all is = row_by (r.0 == letter) letter r (find (λ (x : FlagRow). x.0 == letter) rs) found refl all.0 (row_sound letter rs found all.1) is
 
-first_true : (a b : Bool) → (a && b) ≡ true → a ≡ true
-first_true true b is = refl
-first_true false b is = absurd cc
-
-rest_false : (a b : Bool) → (a && not b) ≡ true → b ≡ false
-rest_false true true is = absurd cc
-rest_false true false is = refl
-rest_false false b is = absurd cc
-
 -- What may be set.
 record IsSettable (letter : ℕ) (text : List ℕ) : Type 0 where
   letter_is : is_letter letter ≡ true
@@ -304,7 +285,7 @@ record IsSettable (letter : ℕ) (text : List ℕ) : Type 0 where
 settable_by : (letter : ℕ) (text : List ℕ) (o : Option FlagRow) → ((r : FlagRow) → o ≡ Some r → IsSound letter r.1) → fits_row (option_map (λ (r : FlagRow). r.1) o) text ≡ true → IsSettable letter text
 settable_by letter text None sound is = absurd cc
 settable_by letter text (Some r) sound is =
-    let fits = sound r refl text (first_true (fits_form r.1 text) (not (has_lf text)) is) in
+    let fits = sound r refl text (left_true (fits_form r.1 text) (not (has_lf text)) is) in
     record { letter_is = fits.0; fits = fits.1; plain = fits.2; line = rest_false (fits_form r.1 text) (has_lf text) is }
 
 settable : (letter : ℕ) (text : List ℕ) → may_set letter text ≡ true → IsSettable letter text
@@ -322,11 +303,11 @@ is_plain f = f.letter == flag_e && is_one f.text
 
 plain_each : (flags : List Flag) → is_encoded flags ≡ false → AllByRecursion (λ f. is_plain f ≡ false) flags
 plain_each [] is = tt
-plain_each (f ∷ flags) is = let parts = both_false (is_plain f) (is_encoded flags) is in (parts.0, plain_each flags parts.1)
+plain_each (f ∷ flags) is = let parts = or_parts (is_plain f) (is_encoded flags) is in (parts.0, plain_each flags parts.1)
 
 each_plain : (flags : List Flag) → AllByRecursion (λ f. is_plain f ≡ false) flags → is_encoded flags ≡ false
 each_plain [] all = refl
-each_plain (f ∷ flags) all = or_false (is_plain f) (is_encoded flags) all.0 (each_plain flags all.1)
+each_plain (f ∷ flags) all = or_from (is_plain f) (is_encoded flags) all.0 (each_plain flags all.1)
 
 -- Flags that keep the rules.
 record AreFlags (flags : List Flag) : Type 0 where
@@ -340,16 +321,12 @@ IsPut f = IsFlag f × (is_plain f ≡ false)
 relettered : (f : Flag) → f.letter ≡ flag_l → IsFlag f → IsFlag (flag_with flag_l f.text)
 relettered f same is = subst (λ letter. IsFlag (flag_with letter f.text)) same (record { letter = is.letter; front = is.front; back = is.back; text = is.text })
 
-plain_by : (a b : Bool) → a ≡ false → (a && b) ≡ false
-plain_by true b is = absurd cc
-plain_by false b is = refl
-
 rules_kept : Kept AreFlags IsPut
 rules_kept = record {
   put = λ f flags new are. record { each_is = each_put IsFlag f flags new.0 are.each_is; own = own_put f flags are.own; plain = each_put (λ g. is_plain g ≡ false) f flags new.1 are.plain };
   out = λ letter flags are. record { each_is = each_out IsFlag letter flags are.each_is; own = own_out letter flags are.own; plain = each_out (λ g. is_plain g ≡ false) letter flags are.plain };
   found = λ flags f are is. (relettered f (is_found flag_l flags f is) (each_found IsFlag flag_l flags f are.each_is is), refl);
-  set = λ word fits. (word_flag word fits, plain_by (word_letter word == flag_e) (is_one (word_text word)) (settable (word_letter word) (word_text word) fits).plain);
+  set = λ word fits. (word_flag word fits, and_left (word_letter word == flag_e) (is_one (word_text word)) (settable (word_letter word) (word_text word) fits).plain);
   unlock = λ others text free old some. (flag_unlocked others text free old.0 some, refl);
 }
 

@@ -9,6 +9,7 @@ use Rattle.sccs_history.specs.FlagText.{are_releases, are_spaced, is_release, pi
 use Rattle.sccs_rules.specs.Forms.{are_joined}
 use Rattle.sccs_rules.specs.Unlocked.{behind_comma, with_commas, release_in, releases_in, releases_of}
 use Rattle.sccs_rules.proofs.Digits.{AreDigits, IsDigit, decimal_digits, decimal_release, release_digits, release_low}
+use Rattle.sccs_base.proofs.Bools.{right_true, left_true}
 
 -- ---- lists
 
@@ -143,21 +144,13 @@ pieces_low (p ∷ ps) = all_both (λ r. r < 10000) (releases_in p) (flat_map rel
 pub releases_low : (text : List ℕ) → AreLow (releases_of text)
 releases_low text = pieces_low (pieces text)
 
-first_true : (a b : Bool) → (a && b) ≡ true → a ≡ true
-first_true true b is = refl
-first_true false b is = absurd cc
-
-rest_true : (a b : Bool) → (a && b) ≡ true → b ≡ true
-rest_true true b is = is
-rest_true false b is = absurd cc
-
 some_release : (n : ℕ) → nat_lt 0 n ≡ true → 0 < n
 some_release n is = ltb-true 0 n is
 
 words_some : (ws : List (List ℕ)) → list_all is_release ws ≡ true → AreReleases (map release_in ws)
 words_some [] is = tt
 words_some (w ∷ ws) is =
-    ((release_low w, some_release (release_in w) (first_true (is_release w) (list_all is_release ws) is)), words_some ws (rest_true (is_release w) (list_all is_release ws) is))
+    ((release_low w, some_release (release_in w) (left_true (is_release w) (list_all is_release ws) is)), words_some ws (right_true (is_release w) (list_all is_release ws) is))
 
 spaced_words : (a b c d : Bool) → (((a && b) && c) && d) ≡ true → d ≡ true
 spaced_words true true true d is = is
@@ -169,8 +162,8 @@ pieces_some : (ps : List (List ℕ)) → list_all are_spaced ps ≡ true → Are
 pieces_some [] is = tt
 pieces_some (p ∷ ps) is =
     all_both (λ r. (r < 10000) × (0 < r)) (releases_in p) (flat_map releases_in ps)
-    (words_some (words p) (spaced_words (not (is_empty p)) (not (begins_blank p)) (not (ends_blank p)) (list_all is_release (words p)) (first_true (are_spaced p) (list_all are_spaced ps) is)))
-    (pieces_some ps (rest_true (are_spaced p) (list_all are_spaced ps) is))
+    (words_some (words p) (spaced_words (not (is_empty p)) (not (begins_blank p)) (not (ends_blank p)) (list_all is_release (words p)) (left_true (are_spaced p) (list_all are_spaced ps) is)))
+    (pieces_some ps (right_true (are_spaced p) (list_all are_spaced ps) is))
 
 pub releases_some : (text : List ℕ) → are_releases text ≡ true → AreReleases (releases_of text)
 releases_some text is = pieces_some (pieces text) is

@@ -9,6 +9,8 @@ use Rattle.sccs_sets.specs.Naming.{AreMarks, add_new, comes_first, not_after, pu
 use Rattle.sccs_sets.specs.declared.naming.Named.{Named}
 use Rattle.sccs_sets.proofs.OnceNamed.{has_push}
 use Rattle.sccs_sets.proofs.Passing.{place_set}
+use Rattle.sccs_base.proofs.Bools.{or_none}
+use Rattle.std.proofs.lemmas.Bool.{not-true}
 
 -- ---- ranges
 
@@ -19,13 +21,9 @@ pub none_first : (found : List Named) (sid : Sid) → length found ≡ 0 → tru
 none_first [] sid none = refl
 none_first (a ∷ rest) sid none = absurd (omega (arith, none))
 
-not_so : (b : Bool) → not b ≡ true → b ≡ false
-not_so true is = sym is
-not_so false is = refl
-
 put_first : (found : List Named) (q : Named) → comes_first found q.sid ≡ true → put_named found q ≡ q ∷ found
 put_first [] q is = refl
-put_first (a ∷ rest) q is = ap (λ (t : Bool). if t then a ∷ put_named rest q else q ∷ a ∷ rest) (not_so (not_after a.sid q.sid) is)
+put_first (a ∷ rest) q is = ap (λ (t : Bool). if t then a ∷ put_named rest q else q ∷ a ∷ rest) (not-true (not_after a.sid q.sid) is)
 
 pub pushed_falls : (old new : List Named) (q : Named) → new ≡ old ++ q ∷ [] → comes_first (reverse old) q.sid ≡ true → reverse new ≡ put_named (reverse old) q
 pushed_falls old new q is first = ap (λ (l : List Named). reverse l) is ∙ (reverse-append old (q ∷ []) ∙ sym (put_first (reverse old) q first))
@@ -37,15 +35,11 @@ swap_parts true b = refl
 swap_parts false true = refl
 swap_parts false false = refl
 
-none_else : (b : Bool) → (b || false) ≡ b
-none_else true = refl
-none_else false = refl
-
 -- one more is marked
 marked : (seen new : List ℕ) (marks marks2 : List Bool) (n : ℕ) → AreMarks seen marks → n < length marks → marks2 ≡ slice_set marks n true → new ≡ seen ++ n ∷ [] → AreMarks new marks2
 marked seen new marks marks2 n are low set is m =
     ap (λ (l : List Bool). slice_index_or l m false) set
-    ∙ (sym (none_else (slice_index_or (slice_set marks n true) m false))
+    ∙ (sym (or_none (slice_index_or (slice_set marks n true) m false))
     ∙ (sym (place_set marks n m false low)
     ∙ (swap_parts (slice_index_or marks m false) (n == m)
     ∙ (ap (λ (b : Bool). b || n == m) (are m)

@@ -1,8 +1,6 @@
 -- An index of live deltas, record by record, and what is looked up in it.
 use Rattle.std.proofs.Common.{◌≡◌, ℕ, ◌==◌, nat_lt, nat_le, Bool, true, false, cond, not, ◌&&◌, ◌||◌, List, [], ◌+◌, ◌<◌, length, take, get_or, ◌∷◌, ◌++◌, Option, None, Some, map, fold, refl, sym, ap, ◌∙◌, arith, rules, append-nil}
-use Rattle.std.specs.Ordering.{is_eq, nat_cmp, ordering_then}
-use Rattle.std.specs.declared.cmp.Ordering.{Ordering}
-use Rattle.std.specs.declared.cmp.Ordering.TheVariants.{Less, Equal, Greater}
+use Rattle.std.specs.Ordering.{is_eq}
 use Rattle.std.specs.BTreeMap.{BTreeMap, Updates, get}
 use Rattle.std.specs.List.{list_any}
 use Rattle.std.specs.Option.{option_to_list}
@@ -14,39 +12,20 @@ use Rattle.sccs_sid.specs.declared.sids.Sid.{Sid}
 use Rattle.sccs_sid.specs.declared.sid_lists.Range.{Range}
 use Rattle.sccs_history.specs.History.{lives, same_sid}
 use Rattle.sccs_history.specs.declared.headers.Record.{Record}
-use Rattle.sccs_sets.specs.LiveIndexes.{place_cmp, place_of, single}
+use Rattle.sccs_sets.specs.LiveIndexes.{place_of, single}
 use Rattle.sccs_sets.specs.Naming.{in_range, put_named, range_named, sid_named}
 use Rattle.sccs_sets.specs.Retrieved.{live_where}
 use Rattle.sccs_sets.specs.declared.naming.Named.{Named}
+use Rattle.sccs_sid.specs.FourNumbers.{four_cmp}
+use Rattle.sccs_sid.proofs.FourNumbers.{same_four, four_same}
+use Rattle.sccs_base.proofs.Bools.{or_none}
 
 -- ---- equal places
-
-nat_same : (a b : ℕ) → is_eq (nat_cmp a b) ≡ (a == b)
-nat_same a b = search rules
-
-then_same : (o p : Ordering) → is_eq (ordering_then o p) ≡ (is_eq o && is_eq p)
-then_same Less p = refl
-then_same Equal p = refl
-then_same Greater p = refl
-
--- the four numbers are equal
-abbrev same_place : ℕ × ℕ × ℕ × ℕ → ℕ × ℕ × ℕ × ℕ → Bool
-same_place x y = ((x.0 == y.0 && x.1 == y.1) && x.2 == y.2) && x.3 == y.3
-
-places_same : (x y : ℕ × ℕ × ℕ × ℕ) → is_eq (place_cmp x y) ≡ same_place x y
-places_same x y =
-    then_same (ordering_then (ordering_then (nat_cmp x.0 y.0) (nat_cmp x.1 y.1)) (nat_cmp x.2 y.2)) (nat_cmp x.3 y.3)
-    ∙ (ap (λ t. t && is_eq (nat_cmp x.3 y.3)) (then_same (ordering_then (nat_cmp x.0 y.0) (nat_cmp x.1 y.1)) (nat_cmp x.2 y.2)
-    ∙ ap (λ t. t && is_eq (nat_cmp x.2 y.2)) (then_same (nat_cmp x.0 y.0) (nat_cmp x.1 y.1)))
-    ∙ (ap (λ t. ((t && is_eq (nat_cmp x.1 y.1)) && is_eq (nat_cmp x.2 y.2)) && is_eq (nat_cmp x.3 y.3)) (nat_same x.0 y.0)
-    ∙ (ap (λ t. ((x.0 == y.0 && t) && is_eq (nat_cmp x.2 y.2)) && is_eq (nat_cmp x.3 y.3)) (nat_same x.1 y.1)
-    ∙ (ap (λ t. ((x.0 == y.0 && x.1 == y.1) && t) && is_eq (nat_cmp x.3 y.3)) (nat_same x.2 y.2)
-    ∙ ap (λ t. ((x.0 == y.0 && x.1 == y.1) && x.2 == y.2) && t) (nat_same x.3 y.3)))))
 
 abbrev four_numbers : ℕ → ℕ → ℕ → ℕ → ℕ × ℕ × ℕ × ℕ
 four_numbers a b c d = (a, b, c, d)
 
-place_equal : (x y : ℕ × ℕ × ℕ × ℕ) → same_place x y ≡ true → x ≡ y
+place_equal : (x y : ℕ × ℕ × ℕ × ℕ) → same_four x y ≡ true → x ≡ y
 place_equal x y is =
     let last = and_parts ((x.0 == y.0 && x.1 == y.1) && x.2 == y.2) (x.3 == y.3) is in
     let third = and_parts (x.0 == y.0 && x.1 == y.1) (x.2 == y.2) last.0 in
@@ -74,8 +53,8 @@ in_single r s true false one two = grind (arith, nat_tests)
 in_single r s false true one two = grind (arith, nat_tests)
 in_single r s false false one two = branch_same s.release r.release s.level r.level s.branch r.branch s.sequence r.sequence
 
-at_place : (r s : Sid) → is_eq (place_cmp (place_of r) (place_of s)) ≡ in_range (single s) r
-at_place r s = places_same (place_of r) (place_of s) ∙ sym (in_single r s (s.branch == 0) (r.branch == 0) refl refl)
+at_place : (r s : Sid) → is_eq (four_cmp (place_of r) (place_of s)) ≡ in_range (single s) r
+at_place r s = four_same (place_of r) (place_of s) ∙ sym (in_single r s (s.branch == 0) (r.branch == 0) refl refl)
 
 -- ---- one record more
 
@@ -99,17 +78,17 @@ abbrev Deltas : Type 0
 Deltas = BTreeMap (ℕ × ℕ × ℕ × ℕ) Named
 
 abbrev AreDeltas : Deltas → List Record → Type 0
-AreDeltas deltas records = (s : Sid) → option_to_list (get place_cmp deltas (place_of s)) ≡ map sid_named (live_where (in_range (single s)) records)
+AreDeltas deltas records = (s : Sid) → option_to_list (get four_cmp deltas (place_of s)) ≡ map sid_named (live_where (in_range (single s)) records)
 
 -- a live record whose place is free
-pub index_more : (old new : Deltas) (before : List Record) (r : Record) → r.removed ≡ false → get place_cmp old (place_of r.sid) ≡ None
-    → Updates place_cmp old new (place_of r.sid) (Some (sid_named r)) → AreDeltas old before → AreDeltas new (before ++ r ∷ [])
+pub index_more : (old new : Deltas) (before : List Record) (r : Record) → r.removed ≡ false → get four_cmp old (place_of r.sid) ≡ None
+    → Updates four_cmp old new (place_of r.sid) (Some (sid_named r)) → AreDeltas old before → AreDeltas new (before ++ r ∷ [])
 index_more old new before r live free updates has = λ s.
-    let here : is_eq (place_cmp (place_of r.sid) (place_of s)) ≡ in_range (single s) r.sid = at_place r.sid s in
+    let here : is_eq (four_cmp (place_of r.sid) (place_of s)) ≡ in_range (single s) r.sid = at_place r.sid s in
     ap option_to_list (updates.0 (place_of s))
-    ∙ (ap (λ t. option_to_list (cond t (Some (sid_named r)) (get place_cmp old (place_of s)))) here
-    ∙ (none_or_one (sid_named r) (in_range (single s) r.sid) (get place_cmp old (place_of s)) (map sid_named (live_where (in_range (single s)) before))
-    (λ is. ap (get place_cmp old) (sym (place_equal (place_of r.sid) (place_of s) (sym (places_same (place_of r.sid) (place_of s)) ∙ (here ∙ is)))) ∙ free) (has s)
+    ∙ (ap (λ t. option_to_list (cond t (Some (sid_named r)) (get four_cmp old (place_of s)))) here
+    ∙ (none_or_one (sid_named r) (in_range (single s) r.sid) (get four_cmp old (place_of s)) (map sid_named (live_where (in_range (single s)) before))
+    (λ is. ap (get four_cmp old) (sym (place_equal (place_of r.sid) (place_of s) (sym (four_same (place_of r.sid) (place_of s)) ∙ (here ∙ is)))) ∙ free) (has s)
     ∙ (ap (λ gone. map sid_named (live_where (in_range (single s)) before) ++ cond (not gone && in_range (single s) r.sid) (sid_named r ∷ []) []) (sym live)
     ∙ sym (more_named before r s))))
 
@@ -127,8 +106,8 @@ put_one None = refl
 put_one (Some q) = refl
 
 -- the one at a SID's place is all that its range names
-pub index_names : (deltas : Deltas) (records : List Record) (s : Sid) → AreDeltas deltas records → option_to_list (get place_cmp deltas (place_of s)) ≡ range_named records (single s)
-index_names deltas records s has = sym (put_one (get place_cmp deltas (place_of s))) ∙ ap (fold put_named []) (has s)
+pub index_names : (deltas : Deltas) (records : List Record) (s : Sid) → AreDeltas deltas records → option_to_list (get four_cmp deltas (place_of s)) ≡ range_named records (single s)
+index_names deltas records s has = sym (put_one (get four_cmp deltas (place_of s))) ∙ ap (fold put_named []) (has s)
 
 -- one of those that are named has the SID itself
 abbrev has_sid : List Named → Sid → Bool
@@ -146,12 +125,12 @@ sid_equal r s is =
     ∙ (ap (λ n. sid_of s.release n r.branch r.sequence) (eqb-true r.level s.level two.0)
     ∙ (ap (λ n. sid_of s.release s.level n r.sequence) (eqb-true r.branch s.branch last.0) ∙ ap (sid_of s.release s.level s.branch) (eqb-true r.sequence s.sequence last.1)))
 
-place_itself : (x : ℕ × ℕ × ℕ × ℕ) → same_place x x ≡ true
+place_itself : (x : ℕ × ℕ × ℕ × ℕ) → same_four x x ≡ true
 place_itself x = search rules
 
 sid_in_single : (r s : Sid) → same_sid r s ≡ true → in_range (single s) r ≡ true
 sid_in_single r s is =
-    ap (in_range (single s)) (sid_equal r s is) ∙ (sym (at_place s s) ∙ (places_same (place_of s) (place_of s) ∙ place_itself (place_of s)))
+    ap (in_range (single s)) (sid_equal r s is) ∙ (sym (at_place s s) ∙ (four_same (place_of s) (place_of s) ∙ place_itself (place_of s)))
 
 others : (t : Bool) → (t ≡ true → false ≡ true) → t ≡ false
 others true is = sym (is refl)
@@ -166,10 +145,6 @@ lives_named (r ∷ rs) s = step r.removed (in_range (single s) r.sid) (sid_in_si
     step true here is rest = rest
     step false true is rest = ap (λ t. same_sid r.sid s || t) rest
     step false false is rest = rest ∙ ap (λ t. t || lives rs s) (sym (others (same_sid r.sid s) is))
-
-or_none : (t : Bool) → (t || false) ≡ t
-or_none true = refl
-or_none false = refl
 
 found_lives : (deltas : Deltas) (records : List Record) (s : Sid) (found : Option Named) → AreDeltas deltas records → option_to_list found ≡ range_named records (single s) → has_sid (option_to_list found) s ≡ lives records s
 found_lives deltas records s found has names =

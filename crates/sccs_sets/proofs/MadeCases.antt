@@ -2,7 +2,7 @@
 use Rattle.std.proofs.Common.{◌≡◌, ◌≢◌, ℕ, ◌<◌, ◌≤◌, ◌==◌, nat_lt, nat_le, max, Bool, true, false, cond, not, ◌&&◌, ◌||◌, List, [], ◌∷◌, map, Option, None, Some, refl, sym, subst, ◌∙◌, arith, rules}
 use Rattle.std.specs.Prelude.{filter, fold, unwrap_or}
 use Rattle.std.specs.List.{AllByRecursion, list_any, reduce}
-use Rattle.std.proofs.lemmas.Bool.{and_parts, eqb-true, true≢false, lt-ltb}
+use Rattle.std.proofs.lemmas.Bool.{and_parts, eqb-true, true≢false, lt-ltb, or_parts, not-true, and_from}
 use Rattle.sccs_sid.specs.declared.sids.Sid.{Sid}
 use Rattle.sccs_sid.specs.declared.sids.Spec.{Spec}
 use Rattle.sccs_sid.specs.declared.sids.Spec.TheVariants.{Release, Branch}
@@ -19,23 +19,11 @@ top_of_all value test records top is =
     subst (λ o. AllByRecursion (λ r. (not r.removed && test r.sid) ≡ true → value r.sid ≤ unwrap_or o 0) records) is
     (passing_below (λ (r : Record). value r.sid) (λ r. not r.removed && test r.sid) (unwrap_or (reduce max (map (λ r. value r.sid) (live_where test records))) 0) records (greatest_above (map (λ r. value r.sid) (live_where test records))))
 
-both_true : (a b : Bool) → a ≡ true → b ≡ true → (a && b) ≡ true
-both_true true b first second = second
-both_true false b first second = first
-
-not_false : (b : Bool) → not b ≡ true → b ≡ false
-not_false true is = cc
-not_false false is = refl
-
 lt_no : (a b : ℕ) → nat_lt a b ≡ false → b ≤ a
 lt_no a b is = search (rules, arith)
 
 le_no : (a b : ℕ) → nat_le a b ≡ false → b < a
 le_no a b is = search (rules, arith)
-
-or_no : (a b : Bool) → (a || b) ≡ false → (a ≡ false) × (b ≡ false)
-or_no true b is = absurd (true≢false is)
-or_no false b is = (refl, is)
 
 and_no : (a b : Bool) → a ≡ true → (a && b) ≡ false → b ≡ false
 and_no true b first is = is
@@ -51,13 +39,13 @@ later_no : (release level : ℕ) (r : Record) → ((not r.removed && (r.sid.bran
 later_no release level r low level_low after =
     let live = and_parts (not r.removed) (comes_after (trunk_sid release level) r.sid) after in
     let line = and_parts (r.sid.branch == 0) (not (not_after r.sid (trunk_sid release level))) live.1 in
-    let top : r.sid.release ≤ release = low (both_true (not r.removed) (r.sid.branch == 0 && true) live.0 (both_true (r.sid.branch == 0) true line.0 refl)) in
-    let past : (nat_lt r.sid.release release || (r.sid.release == release && nat_le r.sid.level level)) ≡ false = (rw line.0 at (not_false (not_after r.sid (trunk_sid release level)) line.1)) in
-    let parts = or_no (nat_lt r.sid.release release) (r.sid.release == release && nat_le r.sid.level level) past in
+    let top : r.sid.release ≤ release = low (and_from (not r.removed) (r.sid.branch == 0 && true) live.0 (and_from (r.sid.branch == 0) true line.0 refl)) in
+    let past : (nat_lt r.sid.release release || (r.sid.release == release && nat_le r.sid.level level)) ≡ false = (rw line.0 at (not-true (not_after r.sid (trunk_sid release level)) line.1)) in
+    let parts = or_parts (nat_lt r.sid.release release) (r.sid.release == release && nat_le r.sid.level level) past in
     let least : release ≤ r.sid.release = lt_no r.sid.release release parts.0 in
     let same : r.sid.release ≡ release = omega (arith, top, least) in
     let higher : level < r.sid.level = le_no r.sid.level level (and_no (r.sid.release == release) (nat_le r.sid.level level) (equal_is r.sid.release release same) parts.1) in
-    let under : r.sid.level ≤ level = level_low (both_true (not r.removed) (r.sid.branch == 0 && r.sid.release == release) live.0 (both_true (r.sid.branch == 0) (r.sid.release == release) line.0 (equal_is r.sid.release release same))) in
+    let under : r.sid.level ≤ level = level_low (and_from (not r.removed) (r.sid.branch == 0 && r.sid.release == release) live.0 (and_from (r.sid.branch == 0) (r.sid.release == release) line.0 (equal_is r.sid.release release same))) in
     omega (arith, higher, under)
 
 two_all : {P Q R : Record → Type 0} (rs : List Record) → ((r : Record) → P r → Q r → R r) → AllByRecursion P rs → AllByRecursion Q rs → AllByRecursion R rs
@@ -102,9 +90,9 @@ sequence_no release level number sequence r branch low after =
     let second = and_parts (level == r.sid.level) (number == r.sid.branch) first.1 in
     let same : number ≡ r.sid.branch = eqb-true number r.sid.branch second.1 in
     let here : (r.sid.branch == 0) ≡ false = not_zero r.sid.branch (λ is. branch (same ∙ is)) in
-    let past : nat_le r.sid.sequence sequence ≡ false = (rw here at (not_false (not_after r.sid (branch_sid release level number sequence)) line.1)) in
+    let past : nat_le r.sid.sequence sequence ≡ false = (rw here at (not-true (not_after r.sid (branch_sid release level number sequence)) line.1)) in
     let higher : sequence < r.sid.sequence = le_no r.sid.sequence sequence past in
-    let under : r.sid.sequence ≤ sequence = low (both_true (not r.removed) _ live.0 (both_true (r.sid.release == release) _ (equal_is r.sid.release release (sym (eqb-true release r.sid.release first.0))) (both_true (r.sid.level == level) (r.sid.branch == number) (equal_is r.sid.level level (sym (eqb-true level r.sid.level second.0))) (equal_is r.sid.branch number (sym same))))) in
+    let under : r.sid.sequence ≤ sequence = low (and_from (not r.removed) _ live.0 (and_from (r.sid.release == release) _ (equal_is r.sid.release release (sym (eqb-true release r.sid.release first.0))) (and_from (r.sid.level == level) (r.sid.branch == number) (equal_is r.sid.level level (sym (eqb-true level r.sid.level second.0))) (equal_is r.sid.branch number (sym same))))) in
     omega (arith, higher, under)
   where
     not_zero : (n : ℕ) → n ≢ 0 → (n == 0) ≡ false
@@ -150,7 +138,7 @@ passing_avoid value test top (r ∷ rs) others = by (test r) refl (passing_avoid
 
 none_each : (f : Record → Bool) (rs : List Record) → list_any f rs ≡ false → AllByRecursion (λ r. f r ≡ false) rs
 none_each f [] none = tt
-none_each f (r ∷ rs) none = let parts = or_no (f r) (list_any f rs) none in (parts.0, none_each f rs parts.1)
+none_each f (r ∷ rs) none = let parts = or_parts (f r) (list_any f rs) none in (parts.0, none_each f rs parts.1)
 
 after_earlier : (release level newest : ℕ) (r : Record) → release < newest → (not r.removed && comes_after (trunk_sid release level) r.sid) ≡ false
     → (not r.removed && (r.sid.branch == 0 && true)) ≡ true → r.sid.release ≢ newest
@@ -160,7 +148,7 @@ after_earlier release level newest r low none live is =
     let less : nat_lt r.sid.release release ≡ false = not_lt r.sid.release release (omega (arith, low, is)) in
     let other : (r.sid.release == release) ≡ false = not_eq r.sid.release release (omega (arith, low, is)) in
     let after : comes_after (trunk_sid release level) r.sid ≡ true = rw (trunk, less, other) refl in
-    true≢false (sym (both_true (not r.removed) (comes_after (trunk_sid release level) r.sid) parts.0 after) ∙ none)
+    true≢false (sym (and_from (not r.removed) (comes_after (trunk_sid release level) r.sid) parts.0 after) ∙ none)
   where
     not_lt : (a b : ℕ) → b < a → nat_lt a b ≡ false
     not_lt a b more = search (rules, arith)

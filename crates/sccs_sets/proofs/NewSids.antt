@@ -2,7 +2,7 @@
 use Rattle.std.proofs.Common.{◌≡◌, ℕ, ◌+◌, ◌<◌, ◌≤◌, ◌==◌, nat_lt, nat_le, max, Bool, true, false, cond, not, ◌&&◌, ◌||◌, List, [], ◌∷◌, map, Option, None, Some, refl, sym, ap, subst, ◌∙◌, arith, rules}
 use Rattle.std.specs.Prelude.{filter, fold, option_map, unwrap_or}
 use Rattle.std.specs.List.{AllByRecursion, list_any, reduce}
-use Rattle.std.proofs.lemmas.Bool.{and_parts, eqb-true, ltb-true, true≢false}
+use Rattle.std.proofs.lemmas.Bool.{and_parts, eqb-true, ltb-true, true≢false, and_from, or_from, or_parts}
 use Rattle.sccs_sid.specs.declared.sids.Sid.{Sid}
 use Rattle.sccs_sid.specs.declared.sids.Spec.{Spec}
 use Rattle.sccs_sid.specs.declared.sids.Spec.TheVariants.{Release, Branch, Full}
@@ -10,6 +10,8 @@ use Rattle.sccs_history.specs.History.{same_sid}
 use Rattle.sccs_history.specs.declared.headers.Record.{Record}
 use Rattle.sccs_sets.specs.Retrieved.{live_where, trunk_sid, branch_sid}
 use Rattle.sccs_sets.specs.Made.{is_taken, comes_after, is_beside, live_branch, reserved_branch, taken_branch, next, next_level, next_on_trunk, next_on_line, on_new_branch, made_on}
+use Rattle.sccs_base.proofs.Bools.{equal_self}
+use Rattle.sccs_sid.proofs.FourNumbers.{of_four}
 
 -- ---- tests
 
@@ -31,19 +33,11 @@ none_any f (x ∷ xs) are = by (f x) refl (none_any f xs are.1)
     by true here rest = absurd (are.0 here)
     by false here rest = rw here rest
 
-or_none : (a b : Bool) → (a || b) ≡ false → (a ≡ false) × (b ≡ false)
-or_none true b is = absurd cc
-or_none false b is = (refl, is)
-
-none_or : (a b : Bool) → a ≡ false → b ≡ false → (a || b) ≡ false
-none_or true b first second = cc
-none_or false b first second = second
-
 -- some SID that passes is one that is there
 taken_less : (records : List Record) (reserved : List Sid) (f g : Sid → Bool) → ((s : Sid) → g s ≡ true → f s ≡ true) → is_taken records reserved f ≡ false → is_taken records reserved g ≡ false
 taken_less records reserved f g more none =
-    let parts = or_none (list_any (λ r. not r.removed && f r.sid) records) (list_any f reserved) none in
-    none_or (list_any (λ r. not r.removed && g r.sid) records) (list_any g reserved)
+    let parts = or_parts (list_any (λ r. not r.removed && f r.sid) records) (list_any f reserved) none in
+    or_from (list_any (λ r. not r.removed && g r.sid) records) (list_any g reserved)
     (any_less (λ (r : Record). not r.removed && f r.sid) (λ (r : Record). not r.removed && g r.sid) records (λ r. live r.removed (f r.sid) (g r.sid) (more r.sid)) parts.0)
     (any_less f g reserved more parts.1)
   where
@@ -52,9 +46,6 @@ taken_less records reserved f g more none =
     live false a b more is = more is
 
 -- ---- SIDs that are the same
-
-abbrev of_four : ℕ → ℕ → ℕ → ℕ → Sid
-of_four r l b s = record { release = r; level = l; branch = b; sequence = s }
 
 pub same_is : (a b : Sid) → same_sid a b ≡ true → a ≡ b
 same_is a b is =
@@ -72,9 +63,6 @@ after_free records reserved got sid none after =
     taken_less records reserved (comes_after got) (λ s. same_sid s sid) (λ s same. ap (comes_after got) (same_is s sid same) ∙ after) none
 
 -- ---- the next one on a line comes after it
-
-equal_self : (n : ℕ) → (n == n) ≡ true
-equal_self n = search rules
 
 not_less : (n : ℕ) → nat_lt n n ≡ false
 not_less n = search rules
@@ -177,18 +165,14 @@ branch_free : (records : List Record) (reserved : List Sid) (got : Sid) (number 
 branch_free records reserved got number is =
     let live = passing_below (λ (r : Record). r.sid.branch) (λ r. not r.removed && is_beside got r.sid) (unwrap_or (live_branch records got) 0) records (greatest_above (map (λ r. r.sid.branch) (live_where (is_beside got) records))) in
     let others = passing_below (λ (s : Sid). s.branch) (is_beside got) (unwrap_or (reserved_branch reserved got) 0) reserved (greatest_above (map (λ s. s.branch) (filter (is_beside got) reserved))) in
-    none_or (list_any (λ r. not r.removed && same_sid r.sid (branch_sid got.release got.level number 1)) records) (list_any (λ s. same_sid s (branch_sid got.release got.level number 1)) reserved)
+    or_from (list_any (λ r. not r.removed && same_sid r.sid (branch_sid got.release got.level number 1)) records) (list_any (λ s. same_sid s (branch_sid got.release got.level number 1)) reserved)
     (none_any (λ r. not r.removed && same_sid r.sid (branch_sid got.release got.level number 1)) records (each_fails (λ r. (not r.removed && is_beside got r.sid) ≡ true → r.sid.branch ≤ unwrap_or (live_branch records got) 0) (λ r. not r.removed && same_sid r.sid (branch_sid got.release got.level number 1)) records (λ r low both. live_no r low (and_parts (not r.removed) (same_sid r.sid (branch_sid got.release got.level number 1)) both)) live))
     (none_any (λ s. same_sid s (branch_sid got.release got.level number 1)) reserved (each_fails (λ s. is_beside got s ≡ true → s.branch ≤ unwrap_or (reserved_branch reserved got) 0) (λ s. same_sid s (branch_sid got.release got.level number 1)) reserved reserved_no others))
   where
-    both_true : (a b : Bool) → a ≡ true → b ≡ true → (a && b) ≡ true
-    both_true true b first second = second
-    both_true false b first second = first
-
     live_no : (r : Record) → ((not r.removed && is_beside got r.sid) ≡ true → r.sid.branch ≤ unwrap_or (live_branch records got) 0)
         → (not r.removed ≡ true) × (same_sid r.sid (branch_sid got.release got.level number 1) ≡ true) → ⊥
     live_no r low both =
-        let top = low (both_true (not r.removed) (is_beside got r.sid) both.0 (beside_made got r.sid number both.1)) in
+        let top = low (and_from (not r.removed) (is_beside got r.sid) both.0 (beside_made got r.sid number both.1)) in
         let same = branch_made got r.sid number both.1 in
         omega (arith, top, same, is)
 
@@ -208,4 +192,4 @@ made_is_free records reserved got sid spec branch is = by (branch || is_taken re
     by true test is =
         let (n, found, same) = mapped_is (λ number. branch_sid got.release got.level number 1) (next (taken_branch records reserved got)) sid is in
         subst (λ s. is_taken records reserved (λ x. same_sid x s) ≡ false) same (branch_free records reserved got n (next_is (taken_branch records reserved got) n found))
-    by false test is = after_free records reserved got sid (or_none branch (is_taken records reserved (comes_after got)) test).1 (line_made got sid spec is)
+    by false test is = after_free records reserved got sid (or_parts branch (is_taken records reserved (comes_after got)) test).1 (line_made got sid spec is)

@@ -12,6 +12,7 @@ use Rattle.sccs_history.specs.Numbers.{front_if, has, without}
 use Rattle.sccs_history.specs.declared.headers.Record.{Record}
 use Rattle.sccs_sets.specs.Naming.{add_new, add_range, range_named, range_fault, named_serials, unless}
 use Rattle.sccs_sets.specs.OnceNamed.{range_serials, first_fault, first_places}
+use Rattle.sccs_base.proofs.Bools.{or_none, or_assoc, or_true}
 
 eqb_turned : (a b : ℕ) (t : Bool) → (a == b) ≡ t → (b == a) ≡ t
 eqb_turned a b true is = eq-eqb b a (sym (eqb-true a b is))
@@ -43,24 +44,8 @@ seen_without seen n (m ∷ ms) is = by_test (m == n) refl (seen_without seen n m
     by_test false same rest = same_kept m (not (has seen m)) (not (has seen m)) _ _ refl rest
 
 pub has_push : (seen : List ℕ) (n m : ℕ) → has (seen ++ n ∷ []) m ≡ (has seen m || n == m)
-has_push [] n m = or_false (n == m)
-  where
-    or_false : (b : Bool) → (b || false) ≡ b
-    or_false true = refl
-    or_false false = refl
+has_push [] n m = or_none (n == m)
 has_push (k ∷ seen) n m = ap (λ (b : Bool). k == m || b) (has_push seen n m) ∙ or_assoc (k == m) (has seen m) (n == m)
-  where
-    or_assoc : (a b c : Bool) → (a || (b || c)) ≡ ((a || b) || c)
-    or_assoc true b c = refl
-    or_assoc false b c = refl
-
-or_true : (b : Bool) → (b || true) ≡ true
-or_true true = refl
-or_true false = refl
-
-or_none : (b : Bool) → (b || false) ≡ b
-or_none true = refl
-or_none false = refl
 
 -- one number seen more
 seen_more : (seen : List ℕ) (n : ℕ) (ns : List ℕ) → unseen (seen ++ n ∷ []) ns ≡ unseen seen (without n ns)

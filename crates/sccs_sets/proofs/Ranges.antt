@@ -11,6 +11,7 @@ use Rattle.sccs_history.specs.declared.headers.Record.{Record}
 use Rattle.sccs_sets.specs.Naming.{one_line, not_after, in_range, sid_named, put_named, range_named, IsRising, IsSidBefore}
 use Rattle.sccs_sets.specs.Retrieved.{live_where, newest_where}
 use Rattle.sccs_sets.specs.declared.naming.Named.{Named}
+use Rattle.sccs_base.proofs.Bools.{or_none, or_assoc}
 
 -- the serials of deltas
 abbrev numbers : List Named → List ℕ
@@ -35,18 +36,10 @@ has-sorted found [] n = refl
 has-sorted found (r ∷ rs) n =
     has-sorted (put_named found (sid_named r)) rs n
     ∙ (ap (λ b. has (serials_of rs) n || b) (has-put found (sid_named r) n)
-    ∙ (swap_or (has (serials_of rs) n) (r.serial == n) (has (numbers found) n) ∙ assoc (r.serial == n) (has (serials_of rs) n) (has (numbers found) n)))
-  where
-    assoc : (a b c : Bool) → (a || (b || c)) ≡ ((a || b) || c)
-    assoc true b c = refl
-    assoc false b c = refl
-
-none_else : (b : Bool) → (b || false) ≡ b
-none_else true = refl
-none_else false = refl
+    ∙ (swap_or (has (serials_of rs) n) (r.serial == n) (has (numbers found) n) ∙ or_assoc (r.serial == n) (has (serials_of rs) n) (has (numbers found) n)))
 
 pub ranges_named : (records : List Record) (range : Range) (n : ℕ) → has (numbers (range_named records range)) n ≡ has (serials_of (live_where (in_range range) records)) n
-ranges_named records range n = has-sorted [] (live_where (in_range range) records) n ∙ none_else (has (serials_of (live_where (in_range range) records)) n)
+ranges_named records range n = has-sorted [] (live_where (in_range range) records) n ∙ or_none (has (serials_of (live_where (in_range range) records)) n)
 
 -- two trunk SIDs, or two of one branch, are in order one way or the other
 trunk_total : (a b : Sid) → (nat_lt a.release b.release || (a.release == b.release && nat_le a.level b.level)) ≡ false → (nat_lt b.release a.release || (b.release == a.release && nat_le b.level a.level)) ≡ true

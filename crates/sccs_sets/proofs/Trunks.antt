@@ -8,9 +8,8 @@ use Rattle.sccs_history.specs.History.{same_sid}
 use Rattle.sccs_history.specs.declared.headers.Record.{Record}
 use Rattle.sccs_sets.specs.Retrieved.{retrieved, newest_where, serial_of, trunk_release, trunk_level, trunk_sid}
 use Rattle.sccs_sets.specs.Trunks.{Before, IsTrunk}
-
-same_number : (n : ℕ) → (n == n) ≡ true
-same_number n = search rules
+use Rattle.sccs_base.proofs.Bools.{right_true, equal_self}
+use Rattle.std.proofs.lemmas.Bool.{not_from_false, and_from}
 
 -- ---- the greatest of numbers that are not past the first
 
@@ -42,21 +41,8 @@ first_found : {A : Type 0} (b : Bool) (x : A) (rest : Option A) → b ≡ true �
 first_found true x rest is = refl
 first_found false x rest is = absurd cc
 
-both : (a b : Bool) → a ≡ true → b ≡ true → (a && b) ≡ true
-both true true p q = refl
-both true false p q = cc
-both false b p q = cc
-
-negated : (b : Bool) → b ≡ false → not b ≡ true
-negated true is = cc
-negated false is = refl
-
 equal : (n m : ℕ) → n ≡ m → (n == m) ≡ true
-equal n m is = subst (λ k. (n == k) ≡ true) is (same_number n)
-
-second : (a b : Bool) → (a && b) ≡ true → b ≡ true
-second true b is = is
-second false b is = cc
+equal n m is = subst (λ k. (n == k) ≡ true) is (equal_self n)
 
 same_numbers : (n m : ℕ) → (n == m) ≡ true → n ≡ m
 same_numbers n m is = search rules
@@ -79,7 +65,7 @@ level_low : (top : Sid) (rs : List Record) → AllByRecursion (λ s. Before s.si
     → AllByRecursion (λ r. (not r.removed && (r.sid.branch == 0 && r.sid.release == top.release)) ≡ true → r.sid.level ≤ top.level) rs
 level_low top [] before = tt
 level_low top (r ∷ rs) before = (
-  (λ is. level_below r.sid top before.0 (same_numbers r.sid.release top.release (second (r.sid.branch == 0) (r.sid.release == top.release) (second (not r.removed) (r.sid.branch == 0 && r.sid.release == top.release) is)))),
+  (λ is. level_below r.sid top before.0 (same_numbers r.sid.release top.release (right_true (r.sid.branch == 0) (r.sid.release == top.release) (right_true (not r.removed) (r.sid.branch == 0 && r.sid.release == top.release) is)))),
   level_low top rs before.1,
 )
 
@@ -94,26 +80,26 @@ sequence_none sid is = ap (λ (s : Sid). s.sequence) is
 pub release_of_trunk : (r : Record) (rs : List Record) → IsTrunk (r ∷ rs) → trunk_release (r ∷ rs) None ≡ Some r.sid.release
 release_of_trunk r rs trunk =
     let test : Record → Bool = λ q. not q.removed && (q.sid.branch == 0 && true) in
-    let passes : test r ≡ true = both (not r.removed) (r.sid.branch == 0 && true) (negated r.removed trunk.0) (both (r.sid.branch == 0) true (equal r.sid.branch 0 (branch_none r.sid trunk.1)) refl) in
+    let passes : test r ≡ true = and_from (not r.removed) (r.sid.branch == 0 && true) (not_from_false r.removed trunk.0) (and_from (r.sid.branch == 0) true (equal r.sid.branch 0 (branch_none r.sid trunk.1)) refl) in
     ap (λ (qs : List Record). reduce max (map (λ q. q.sid.release) qs)) (first_passes (test r) r (filter test rs) passes)
     ∙ ap Some (greatest (λ s. s.release) test r.sid.release rs (release_low test r.sid rs trunk.2))
 
 level_of_trunk : (r : Record) (rs : List Record) → IsTrunk (r ∷ rs) → trunk_level (r ∷ rs) r.sid.release ≡ Some r.sid.level
 level_of_trunk r rs trunk =
     let test : Record → Bool = λ q. not q.removed && (q.sid.branch == 0 && q.sid.release == r.sid.release) in
-    let passes : test r ≡ true = both (not r.removed) (r.sid.branch == 0 && r.sid.release == r.sid.release) (negated r.removed trunk.0) (both (r.sid.branch == 0) (r.sid.release == r.sid.release) (equal r.sid.branch 0 (branch_none r.sid trunk.1)) (same_number r.sid.release)) in
+    let passes : test r ≡ true = and_from (not r.removed) (r.sid.branch == 0 && r.sid.release == r.sid.release) (not_from_false r.removed trunk.0) (and_from (r.sid.branch == 0) (r.sid.release == r.sid.release) (equal r.sid.branch 0 (branch_none r.sid trunk.1)) (equal_self r.sid.release)) in
     ap (λ (qs : List Record). reduce max (map (λ q. q.sid.level) qs)) (first_passes (test r) r (filter test rs) passes)
     ∙ ap Some (greatest (λ s. s.level) test r.sid.level rs (level_low r.sid rs trunk.2))
 
 first_of : (test : Sid → Bool) (r : Record) (rs : List Record) → r.removed ≡ false → test r.sid ≡ true → newest_where test (r ∷ rs) ≡ Some r.serial
 first_of test r rs live is =
-    ap (λ (o : Option Record). option_map (λ q. q.serial) o) (first_found (not r.removed && test r.sid) r (find (λ q. not q.removed && test q.sid) rs) (both (not r.removed) (test r.sid) (negated r.removed live) is))
+    ap (λ (o : Option Record). option_map (λ q. q.serial) o) (first_found (not r.removed && test r.sid) r (find (λ q. not q.removed && test q.sid) rs) (and_from (not r.removed) (test r.sid) (not_from_false r.removed live) is))
 
 is_itself : (sid : Sid) → sid ≡ trunk_sid sid.release sid.level → same_sid sid (trunk_sid sid.release sid.level) ≡ true
 is_itself sid is =
-    both (sid.release == sid.release) (sid.level == sid.level && (sid.branch == 0 && sid.sequence == 0)) (same_number sid.release)
-    (both (sid.level == sid.level) (sid.branch == 0 && sid.sequence == 0) (same_number sid.level)
-    (both (sid.branch == 0) (sid.sequence == 0) (equal sid.branch 0 (branch_none sid is)) (equal sid.sequence 0 (sequence_none sid is))))
+    and_from (sid.release == sid.release) (sid.level == sid.level && (sid.branch == 0 && sid.sequence == 0)) (equal_self sid.release)
+    (and_from (sid.level == sid.level) (sid.branch == 0 && sid.sequence == 0) (equal_self sid.level)
+    (and_from (sid.branch == 0) (sid.sequence == 0) (equal sid.branch 0 (branch_none sid is)) (equal sid.sequence 0 (sequence_none sid is))))
 
 pub newest_of_trunk : (r : Record) (rs : List Record) (top : Bool) → IsTrunk (r ∷ rs) → retrieved (r ∷ rs) None top ≡ Some (newest (r ∷ rs))
 newest_of_trunk r rs false trunk =
@@ -122,4 +108,4 @@ newest_of_trunk r rs false trunk =
     ∙ first_of (λ s. same_sid s (trunk_sid r.sid.release r.sid.level)) r rs trunk.0 (is_itself r.sid trunk.1))
 newest_of_trunk r rs true trunk =
     ap (λ (o : Option ℕ). option_and_then (λ release. newest_where (λ s. s.release == release) (r ∷ rs)) o) (release_of_trunk r rs trunk)
-    ∙ first_of (λ s. s.release == r.sid.release) r rs trunk.0 (same_number r.sid.release)
+    ∙ first_of (λ s. s.release == r.sid.release) r rs trunk.0 (equal_self r.sid.release)

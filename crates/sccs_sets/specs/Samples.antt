@@ -13,10 +13,6 @@ sixteen_table =
     record (sample_delta 8 4 (trunk_sid 4 1) (pos 8)) { removed = true } ∷ sample_delta 7 2 (branch_sid 1 2 2 1) (pos 7) ∷ sample_delta 6 5 (branch_sid 1 2 1 2) (pos 6)
     ∷ sample_delta 5 2 (branch_sid 1 2 1 1) (pos 5) ∷ sample_delta 4 3 (trunk_sid 3 2) (pos 4) ∷ sample_delta 3 2 (trunk_sid 3 1) (pos 3) ∷ sample_delta 2 1 (trunk_sid 1 2) (pos 2) ∷ sample_delta 1 0 (trunk_sid 1 1) (pos 1) ∷ []
 
--- a single SID, and a range
-abbrev pub single : Sid → Range
-single sid = record { first = sid; last = sid }
-
 abbrev pub from_to : Sid → Sid → Range
 from_to first last = record { first = first; last = last }
 

@@ -5,7 +5,8 @@ ghost use Rattle.sccs_sid.specs.declared.sids.Spec.TheVariants.{Release, Branch,
 ghost use Rattle.sccs_sets.specs.Made.{made_on};
 ghost use Rattle.sccs_sets.specs.Naming.{named_serials};
 ghost use Rattle.sccs_sets.specs.Retrieved.{branch_sid, retrieved, trunk_sid};
-ghost use Rattle.sccs_sets.specs.Samples.{from_to, numbers_of, single, sixteen_table};
+ghost use Rattle.sccs_sets.specs.LiveIndexes.{single};
+ghost use Rattle.sccs_sets.specs.Samples.{from_to, numbers_of, sixteen_table};
 ghost use Rattle.sccs_sets.specs.Sets.{both_listed};
 ghost use Rattle.sccs_sets.specs.SidTable.{fitting_rows, rows};
 

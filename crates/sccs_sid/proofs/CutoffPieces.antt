@@ -1,6 +1,6 @@
 -- A cutoff is read by its pieces.
 use Rattle.std.proofs.Common.{◌≡◌, ℕ, ◌+◌, ◌-◌, ◌*◌, ◌||◌, Bool, true, false, cond, nat_lt, List, [], ◌∷◌, Some, Result, Ok, Err, refl, sym, ap, subst, ◌∙◌, inl, inr}
-use Rattle.std.proofs.lemmas.Bool.{cases_Bool}
+use Rattle.std.proofs.lemmas.Bool.{cases_Bool, or_parts}
 use Rattle.sccs_sid.specs.Reading.{◌>>=◌, digits_after, number_at, skip, is_no_digit}
 use Rattle.sccs_sid.specs.Moment.{within}
 use Rattle.sccs_sid.specs.Cutoff.{piece_at, year_by, unit_by, ended_by, cutoff_of, digit_pieces, year_piece, unit_piece, no_piece, of_pieces}
@@ -12,10 +12,6 @@ abbrev Steps : List ℕ → Result (ℕ × List ℕ) ℕ → Type 0
 Steps numbers (Ok piece) = numbers ≡ piece.0 ∷ digit_pieces piece.1
 Steps numbers (Err left) = numbers ≡ []
 
-both_false : (x y : Bool) → (x || y) ≡ false → (x ≡ false) × (y ≡ false)
-both_false true y none = cc
-both_false false y none = (refl, none)
-
 passed_over : (b : ℕ) (rest : List ℕ) → is_no_digit b ≡ true → piece_at (b ∷ rest) ≡ piece_at rest
 unfolding skip
 passed_over b rest other = rw other refl
@@ -23,7 +19,7 @@ passed_over b rest other = rw other refl
 first_digit : (b : ℕ) (rest : List ℕ) → is_no_digit b ≡ false → piece_at (b ∷ rest) ≡ Ok (digits_after 1 (b - 48) rest)
 unfolding skip number_at
 first_digit b rest digit =
-    let tests = both_false (nat_lt b 48) (nat_lt 57 b) digit in
+    let tests = or_parts (nat_lt b 48) (nat_lt 57 b) digit in
     ap (λ test. number_at 2 (cond test (skip is_no_digit rest) (b ∷ rest))) digit ∙ rw (tests.0, tests.1) refl
 
 chosen : {A : Type 0} (x y : Bool) (other digit : A) → (x || y) ≡ true → cond x other (cond y other digit) ≡ other
@@ -38,7 +34,7 @@ one_alone n c bytes other = chosen (nat_lt c 48) (nat_lt 57 c) _ _ other
 second_digit : (n c : ℕ) (bytes : List ℕ) → is_no_digit c ≡ false → digits_after 1 n (c ∷ bytes) ≡ (n * 10 + (c - 48), bytes)
 unfolding digits_after
 second_digit n c bytes digit =
-    let tests = both_false (nat_lt c 48) (nat_lt 57 c) digit in rw (tests.0, tests.1) refl
+    let tests = or_parts (nat_lt c 48) (nat_lt 57 c) digit in rw (tests.0, tests.1) refl
 
 other_piece : (c : ℕ) (bytes : List ℕ) → is_no_digit c ≡ true → digit_pieces (c ∷ bytes) ≡ digit_pieces bytes
 unfolding digit_pieces

@@ -2,6 +2,8 @@ pub mod Components
 pub mod CutoffPieces
 pub mod Decimals
 pub mod Digits
+pub mod FirstLines
+pub mod FourNumbers
 pub mod Hundred
 pub mod ListFaults
 pub mod ListPlaces

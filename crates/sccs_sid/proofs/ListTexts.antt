@@ -1,5 +1,5 @@
 -- A written list of SIDs is read back.
-use Rattle.std.proofs.Common.{◌≡◌, ℕ, zero, suc, ◌+◌, ◌≤◌, ◌==◌, ◌&&◌, Bool, true, false, List, [], ◌∷◌, ◌++◌, length, None, Some, Ok, refl, sym, ap, ◌∙◌, arith, append_assoc, length-append, inl, inr, lit<, All}
+use Rattle.std.proofs.Common.{◌≡◌, ℕ, zero, suc, ◌+◌, ◌≤◌, ◌==◌, ◌&&◌, true, false, List, [], ◌∷◌, ◌++◌, length, None, Some, Ok, refl, sym, ap, ◌∙◌, arith, append_assoc, length-append, inl, inr, lit<, All}
 use Rattle.std.specs.Prelude.{decimal}
 use Rattle.std.proofs.lemmas.Bool.{cases_Bool, ne_eqb, eqb-true}
 use Rattle.std.proofs.lemmas.List.{append-nil}
@@ -11,6 +11,8 @@ use Rattle.sccs_sid.specs.declared.sids.Sid.{Sid}
 use Rattle.sccs_sid.specs.declared.sid_lists.Range.{Range}
 use Rattle.sccs_sid.proofs.Decimals.{NoDigit}
 use Rattle.sccs_sid.proofs.SidTexts.{component_round_trip}
+use Rattle.sccs_base.proofs.Bools.{right_true, left_true}
+use Rattle.sccs_sid.proofs.FourNumbers.{of_four}
 
 -- no component and no dot goes on
 abbrev EndsSid : List ℕ → Type 0
@@ -83,25 +85,14 @@ sid_read : (sid : Sid) (rest : List ℕ) → IsSid sid → EndsSid rest → sid_
 unfolding sid_text
 sid_read sid rest is ends = parts_read sid.release sid.level sid.branch sid.sequence rest is.release is.level is.branch ends
 
-and_left : (x y : Bool) → (x && y) ≡ true → x ≡ true
-and_left true y both = refl
-and_left false y both = cc
-
-and_right : (x y : Bool) → (x && y) ≡ true → y ≡ true
-and_right true y both = both
-and_right false y both = cc
-
-abbrev of_four : ℕ → ℕ → ℕ → ℕ → Sid
-of_four r l b s = record { release = r; level = l; branch = b; sequence = s }
-
 same_true : (a b : Sid) → is_same_sid a b ≡ true → a ≡ b
 same_true a b same =
-    let three = and_left ((a.release == b.release) && (a.level == b.level) && (a.branch == b.branch)) (a.sequence == b.sequence) same in
-    let two = and_left ((a.release == b.release) && (a.level == b.level)) (a.branch == b.branch) three in
-    let release : a.release ≡ b.release = eqb-true _ _ (and_left (a.release == b.release) (a.level == b.level) two) in
-    let level : a.level ≡ b.level = eqb-true _ _ (and_right (a.release == b.release) (a.level == b.level) two) in
-    let branch : a.branch ≡ b.branch = eqb-true _ _ (and_right ((a.release == b.release) && (a.level == b.level)) (a.branch == b.branch) three) in
-    let sequence : a.sequence ≡ b.sequence = eqb-true _ _ (and_right ((a.release == b.release) && (a.level == b.level) && (a.branch == b.branch)) (a.sequence == b.sequence) same) in
+    let three = left_true ((a.release == b.release) && (a.level == b.level) && (a.branch == b.branch)) (a.sequence == b.sequence) same in
+    let two = left_true ((a.release == b.release) && (a.level == b.level)) (a.branch == b.branch) three in
+    let release : a.release ≡ b.release = eqb-true _ _ (left_true (a.release == b.release) (a.level == b.level) two) in
+    let level : a.level ≡ b.level = eqb-true _ _ (right_true (a.release == b.release) (a.level == b.level) two) in
+    let branch : a.branch ≡ b.branch = eqb-true _ _ (right_true ((a.release == b.release) && (a.level == b.level)) (a.branch == b.branch) three) in
+    let sequence : a.sequence ≡ b.sequence = eqb-true _ _ (right_true ((a.release == b.release) && (a.level == b.level) && (a.branch == b.branch)) (a.sequence == b.sequence) same) in
     ap (λ r. of_four r a.level a.branch a.sequence) release
     ∙ (ap (λ l. of_four b.release l a.branch a.sequence) level
     ∙ (ap (λ n. of_four b.release b.level n a.sequence) branch ∙ ap (of_four b.release b.level b.branch) sequence))

@@ -1,5 +1,6 @@
 pub mod Cutoff
 pub mod Detail
+pub mod FourNumbers
 pub mod Moment
 pub mod Numbers
 pub mod Reading

@@ -11,9 +11,10 @@ use Rattle.sccs_steps.specs.FirstFiles.{MovesInOrder}
 use Rattle.sccs_steps.specs.Actions.{Action, IsHeard, SpeaksAs, SpeaksByAs, SteppedAs}
 use Rattle.sccs_steps.specs.Calls.{Meets, Scene, Uncommitted, World, scene, shown, world}
 use Rattle.sccs_steps.specs.Causes.{StepCauses, counts}
-use Rattle.sccs_steps.specs.StepEffects.{Outcome, StepEffect, effect_of}
+use Rattle.sccs_steps.specs.StepEffects.{Outcome, effect_of}
 use Rattle.sccs_steps.specs.StepStops.{After, Before, Ends, MeetsAtAs, Place, StepMomentsAs, Within, place_as}
 use Rattle.sccs_soak.specs.Dropping.{could_drop, dropped, dropped_effect, dropping}
+use Rattle.sccs_base.proofs.Rises.{never_rose}
 
 pub new_is : (n : List ℕ) (o : Outcome) → (effect_of n (dropped o)).new ≡ (effect_of n o).new
 new_is n (Ok d) = refl
@@ -99,11 +100,6 @@ module _ {X : Type 0} (code : X → ℕ) (n : List ℕ) where
   pub dropped_speaks : (could : Outcome → Bool) (r : Result X StepFault) (a b err : Option (List ℕ)) → SpeaksByAs code could r n a b → SpeaksByAs code (could_drop could) r n err err
   dropped_speaks could r a b err says = (dropped says.0, could_so could says.0 says.1, speaks_so r says.0 a b err says.2)
 
--- sinks of its own never failed
-never_rose : (b c : ℕ) → Rose 0 0 → Rose b c
-never_rose b c (inl above) = absurd (omega (arith, above))
-never_rose b c (inr full) = absurd (let no : 0 ≡ 18446744073709551615 = full in omega (arith, no))
-
 pub dropped_causes : {X : Type 0} (r : Result X StepFault) (i i2 o e d d2 : ℕ) → StepCauses r (counts i 0 0 d) (counts i2 0 0 d2) → StepCauses r (counts i o e d) (counts i2 o e d2)
 dropped_causes r i i2 o e d d2 causes = record {
   input_later = causes.input_later;
@@ -116,5 +112,5 @@ dropped_causes r i i2 o e d d2 causes = record {
 }
   where
     said : Rose 0 0 ⊎ Rose 0 0 → Rose o o ⊎ Rose e e
-    said (inl rose) = inl (never_rose o o rose)
-    said (inr rose) = inr (never_rose e e rose)
+    said (inl rose) = absurd (never_rose rose)
+    said (inr rose) = absurd (never_rose rose)

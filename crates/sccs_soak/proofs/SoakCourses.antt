@@ -1,15 +1,13 @@
 -- The courses of a soak.
-use Rattle.std.proofs.Common.{◌≡◌, ◌≢◌, ◌⊎◌, ℕ, zero, suc, ◌+◌, ◌<◌, ◌≤◌, List, [], ◌∷◌, ◌++◌, length, Option, Some, Result, Ok, Err, inl, inr, refl, sym, ap, subst, arith, ◌∙◌}
+use Rattle.std.proofs.Common.{◌≡◌, ◌≢◌, ℕ, zero, suc, ◌+◌, ◌<◌, ◌≤◌, List, [], ◌∷◌, ◌++◌, length, Result, Ok, Err, inl, inr, refl, sym, ap, subst, arith, ◌∙◌}
 use Rattle.sccs_base.proofs.Gifts.{gives_none}
 use Rattle.sccs_disk.specs.Files.{Folder}
-use Rattle.sccs_steps.specs.Calls.{Scene}
 use Rattle.sccs_steps.specs.Causes.{Counts, RunCauses}
 use Rattle.sccs_steps.specs.Settings.{Setting}
 use Rattle.sccs_steps.specs.StepLists.{NamedStep}
 use Rattle.sccs_steps.specs.declared.faults.Fault.{Fault}
 use Rattle.sccs_steps.specs.declared.faults.Fault.TheVariants as ends
-use Rattle.sccs_courses.specs.Courses.{AllTake, Courses, Portion, portions_of, said, saying, steps_along, steps_in}
-use Rattle.sccs_courses.specs.Following.{RunsCourse}
+use Rattle.sccs_courses.specs.Courses.{AllTake, Courses, portions_of, said, saying, steps_along, steps_in}
 use Rattle.sccs_courses.specs.Sayings.{BegunSaid, WholeSaid}
 use Rattle.sccs_courses.specs.WhileFine.{RunsWhileFine}
 use Rattle.sccs_courses.proofs.FineLoops.{fine_cut, fine_ends, fine_on}

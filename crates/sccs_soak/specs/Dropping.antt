@@ -1,7 +1,6 @@
 -- A utility whose output is dropped (own): only its refusals are said.
-use Rattle.std.specs.Prelude.{◌≡◌, ℕ, Bool, true, List, [], map, Option, None, Some, Result, Ok, Err}
+use Rattle.std.specs.Prelude.{◌≡◌, Bool, true, [], map, None, Some, Ok, Err}
 use Rattle.std.proofs.Common.{refl, ap, subst, ◌∙◌}
-use Rattle.sccs_disk.specs.Files.{Content}
 use Rattle.sccs_sid.specs.Reading.{is_empty}
 use Rattle.sccs_files.specs.StepFiles.{Files}
 use Rattle.sccs_steps.specs.Actions.{Action, KeepsFiles, LeavesLocked}

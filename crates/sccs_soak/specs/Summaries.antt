@@ -1,5 +1,5 @@
 -- What a soak prints when its commands are done (own): how many rounds it made, and what is then in its file.
-use Rattle.std.specs.Prelude.{ℕ, ◌==◌, Bool, true, false, not, ◌&&◌, List, [], ◌∷◌, ◌++◌, length, filter, codes, decimal, Option, None, Some, option_map, Ok}
+use Rattle.std.specs.Prelude.{ℕ, ◌==◌, true, false, not, ◌&&◌, List, [], ◌∷◌, ◌++◌, length, filter, codes, decimal, Option, None, Some, option_map, Ok}
 use Rattle.sccs_base.specs.Name.{is_sfile_name}
 use Rattle.sccs_sid.specs.Reading.{◌>>=◌}
 use Rattle.sccs_disk.specs.Files.{Content}
@@ -7,7 +7,7 @@ use Rattle.sccs_history.specs.Applied.{version}
 use Rattle.sccs_history.specs.Body.{lines_of}
 use Rattle.sccs_history.specs.declared.headers.Item.{Item}
 use Rattle.sccs_history.specs.declared.headers.Record.{Record}
-use Rattle.sccs_grammar.specs.File.{Parsed, answer, file_of}
+use Rattle.sccs_grammar.specs.File.{answer, file_of}
 use Rattle.sccs_grammar.specs.FileRefusals.{or_refusal}
 use Rattle.sccs_table.specs.ReaderState.{behind_sum}
 use Rattle.sccs_tokens.specs.Sums.{plain_sum}

@@ -11,7 +11,7 @@ use Rattle.sccs_edits.specs.Places.{block}
 use Rattle.sccs_writers.specs.Puts.{PutsText, Writer}
 use Rattle.sccs_writers.specs.Spelled.{spelled}
 use Rattle.sccs_writers.proofs.OneFile.{only_none}
-use Rattle.sccs_writers.proofs.PutLaws.{puts_nothing, text_both, text_cut}
+use Rattle.sccs_writers.proofs.PutLaws.{puts_nothing, text_both, text_cut, on_err}
 use Rattle.sccs_splicer.specs.Splices.{due_lines, SplicesOn, marked_items, may_join, settled_splice, settled_items, Splices, SplicerState}
 use Rattle.sccs_edits.specs.Plans.{added_after}
 use Rattle.sccs_splicer.proofs.Spelling.{spelled_block, spelled_both, spelled_one}
@@ -30,7 +30,7 @@ pub block_none : (n : ℕ) (lines : List (List ℕ)) → length lines ≡ 0 → 
 block_none n [] none = refl
 block_none n (line ∷ lines) none = absurd (omega (arith, none))
 
-front_both : (t : Bool) (x : Item) (xs ys : List Item) → front_if t x xs ++ ys ≡ front_if t x (xs ++ ys)
+pub front_both : (t : Bool) (x : Item) (xs ys : List Item) → front_if t x xs ++ ys ≡ front_if t x (xs ++ ys)
 front_both true x xs ys = refl
 front_both false x xs ys = refl
 
@@ -88,9 +88,6 @@ on_any P (Ok done) p = p
 on_any P (Err refusal) p = tt
 
 -- ---- items that are pushed
-
-on_err : {T : Type 0} (P : Type 0) (refusal : DiskRefusal) (r : Result T DiskRefusal) → r ≡ Err refusal → OnOk r P
-on_err P refusal r is = subst (λ (s : Result _ DiskRefusal). OnOk s P) (sym is) tt
 
 pub splices_cut : {T : Type 0} (pushed : List (Item × Bool)) (s s2 : SplicerState) (w w2 : Writer) (a b : Told) (f g : ℕ) (r : Result T DiskRefusal) (refusal : DiskRefusal)
     → r ≡ Err refusal → PutsText (spelled []) w w2 a b f g r → Splices pushed s s2 w w2 a b f g r

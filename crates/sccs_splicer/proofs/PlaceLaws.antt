@@ -8,22 +8,19 @@ use Rattle.sccs_edits.specs.Plans.{added_after, IsInOrder, places_of, RisesFrom}
 use Rattle.sccs_edits.specs.declared.scripts.Added.{Added}
 use Rattle.sccs_edits.specs.declared.scripts.Plan.{Plan}
 use Rattle.sccs_splicer.specs.PlanPlaces.{is_next, next_place, Stands, StandsInPlan}
+use Rattle.sccs_base.proofs.Bools.{or_none}
 
 rises_not : (b low : ℕ) (ns : List ℕ) → b < low → RisesFrom low ns → has ns b ≡ false
 rises_not b low [] lt rises = refl
 rises_not b low (n ∷ ns) lt rises =
     ap (λ t. t || has ns b) (ne_eqb n b (λ e. omega (arith, rises.0))) ∙ rises_not b (suc n) ns (omega (arith, rises.0)) rises.1
 
-or_false : (t : Bool) → (t || false) ≡ t
-or_false true = refl
-or_false false = refl
-
 -- a number is among them exactly where it comes next
 pub has_next : (b i : ℕ) (ns : List ℕ) → Stands b i ns → has ns b ≡ is_next (slice_get ns i) b
 has_next b zero [] stands = refl
 has_next b (suc i) [] stands = refl
 has_next b zero (n ∷ ns) stands =
-    ap (λ t. (n == b) || t) (rises_not b (suc n) ns (omega (arith, stands.behind.0)) stands.behind.1) ∙ or_false (n == b)
+    ap (λ t. (n == b) || t) (rises_not b (suc n) ns (omega (arith, stands.behind.0)) stands.behind.1) ∙ or_none (n == b)
 has_next b (suc i) (n ∷ ns) stands =
     ap (λ t. t || has ns b) (ne_eqb n b (λ e. omega (arith, stands.before.0)))
     ∙ has_next b i ns (record { before = stands.before.1; behind = stands.behind })

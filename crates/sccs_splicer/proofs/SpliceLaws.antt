@@ -8,10 +8,7 @@ use Rattle.sccs_edits.specs.Places.{spliced, spread, visible_next}
 use Rattle.sccs_edits.specs.Plans.{added_after}
 use Rattle.sccs_edits.specs.declared.scripts.Plan.{Plan}
 use Rattle.sccs_splicer.specs.Splices.{base_count, new_splice, due_lines, SplicesOn, holding, IsControl, splice_goes_on, marked_items, may_join, items_owed, passed, settled_splice, settled_items, SplicerState}
-
-front_both : (t : Bool) (x : Item) (xs ys : List Item) → front_if t x xs ++ ys ≡ front_if t x (xs ++ ys)
-front_both true x xs ys = refl
-front_both false x xs ys = refl
+use Rattle.sccs_splicer.proofs.Calls.{front_both}
 
 -- what was owed before the next text item, and what follows
 settled_both : (s : SplicerState) (goes : Bool) (rest : List Item) → settled_items s goes ++ rest ≡ front_if (s.opened && not goes) (End s.serial) (due_lines s ++ (s.held ++ rest))

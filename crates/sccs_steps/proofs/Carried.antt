@@ -1,22 +1,26 @@
 -- Steps carry what a folder recovers as: views that are alike but for working files recover alike after a step too.
-use Rattle.std.proofs.Common.{◌≡◌, ◌||◌, ℕ, Bool, true, false, List, drop, map, Option, None, Some, Ok, Err, is_some, refl, sym, ap, subst, ◌∙◌, ⊎_elim}
+use Rattle.std.proofs.Common.{◌≡◌, ◌||◌, ℕ, Bool, true, false, List, drop, map, Option, None, Some, Ok, Err, is_some, refl, sym, ap, subst, ◌∙◌, ⊎_elim, [], ◌∷◌}
 use Rattle.std.specs.Prelude.{IsSome}
 use Rattle.std.specs.Str.{bytes_eq}
 use Rattle.sccs_base.specs.Name.{IsSfile, p_file, q_file, x_file, z_file}
-use Rattle.sccs_disk.specs.Files.{Content, View, put}
+use Rattle.sccs_disk.specs.Files.{Content, View, put, Folder, view_in}
 use Rattle.sccs_disk.proofs.Puts.{name_cases, put_other, put_same}
-use Rattle.sccs_files.specs.StepFiles.{Alike, Files, is_early, is_left, l_file, look, moved, placed}
+use Rattle.sccs_files.specs.StepFiles.{Alike, Files, is_early, l_file, look, moved, placed, moved_in}
 use Rattle.sccs_intents.specs.Intents.{entries_in, fate_in, intent_file}
 use Rattle.sccs_intents.specs.declared.intents.Fate.{Fate}
 use Rattle.sccs_moments.specs.Recovery.{RecoversAs, fate_at, is_kept}
 use Rattle.sccs_moments.specs.Unlocked.{SameOthers, is_own}
-use Rattle.sccs_moments.proofs.FileNames.{both_false, kept_intent, kept_q, kept_x, left_false, left_q, left_x, no_l, no_z, right_false, sfile_and_intent, to_g, to_s, to_sfile}
+use Rattle.sccs_moments.proofs.FileNames.{kept_intent, kept_q, kept_x, left_q, left_x, no_l, no_z, sfile_and_intent, to_g, to_s, to_sfile}
 use Rattle.sccs_moments.proofs.Recovering.{LooksAlike, fate_same, recovered_alike, recovered_at, recovered_same, recovered_under, recovers_from, recovers_to}
 use Rattle.sccs_moments.proofs.Unlocked.{own_early, own_left, own_p, own_s, own_z}
 use Rattle.sccs_steps.specs.Actions.{Action, KeepsFiles, LeavesLocked}
 use Rattle.sccs_steps.specs.StepEffects.{Outcome, effect_of}
 use Rattle.sccs_steps.specs.StepStops.{IsSafe, IsSafeFor}
 use Rattle.sccs_steps.specs.ListStops.{Spares}
+use Rattle.std.proofs.lemmas.Bool.{or_from}
+use Rattle.sccs_base.proofs.Bools.{right_false, left_false}
+use Rattle.sccs_steps.specs.StepLists.{Move, all_moved, all_moved_in}
+use Rattle.sccs_files.proofs.Folders.{moved_view}
 
 -- ---- the files of other names
 
@@ -47,21 +51,21 @@ moved_others n v (Some f) k h = placed_other n k v f h
 
 own_x : (n k : List ℕ) → IsSfile n → IsSfile k → is_kept (drop 2 n) ≡ false → bytes_eq n k ≡ false → is_own n (x_file k) ≡ false
 own_x n k sfile other plain apart =
-    both_false (bytes_eq n (x_file k)) (bytes_eq (p_file n) (x_file k) || (bytes_eq (drop 2 n) (x_file k) || is_early n (x_file k))) (to_sfile 120 n k sfile refl)
-    (both_false (bytes_eq (p_file n) (x_file k)) (bytes_eq (drop 2 n) (x_file k) || is_early n (x_file k)) refl
-    (both_false (bytes_eq (drop 2 n) (x_file k)) (is_early n (x_file k)) (kept_x (drop 2 n) k plain other) (left_x n k sfile other apart)))
+    or_from (bytes_eq n (x_file k)) (bytes_eq (p_file n) (x_file k) || (bytes_eq (drop 2 n) (x_file k) || is_early n (x_file k))) (to_sfile 120 n k sfile refl)
+    (or_from (bytes_eq (p_file n) (x_file k)) (bytes_eq (drop 2 n) (x_file k) || is_early n (x_file k)) refl
+    (or_from (bytes_eq (drop 2 n) (x_file k)) (is_early n (x_file k)) (kept_x (drop 2 n) k plain other) (left_x n k sfile other apart)))
 
 own_q : (n k : List ℕ) → IsSfile n → IsSfile k → is_kept (drop 2 n) ≡ false → bytes_eq n k ≡ false → is_own n (q_file k) ≡ false
 own_q n k sfile other plain apart =
-    both_false (bytes_eq n (q_file k)) (bytes_eq (p_file n) (q_file k) || (bytes_eq (drop 2 n) (q_file k) || is_early n (q_file k))) (to_sfile 113 n k sfile refl)
-    (both_false (bytes_eq (p_file n) (q_file k)) (bytes_eq (drop 2 n) (q_file k) || is_early n (q_file k)) refl
-    (both_false (bytes_eq (drop 2 n) (q_file k)) (is_early n (q_file k)) (kept_q (drop 2 n) k plain other) (left_q n k sfile other apart)))
+    or_from (bytes_eq n (q_file k)) (bytes_eq (p_file n) (q_file k) || (bytes_eq (drop 2 n) (q_file k) || is_early n (q_file k))) (to_sfile 113 n k sfile refl)
+    (or_from (bytes_eq (p_file n) (q_file k)) (bytes_eq (drop 2 n) (q_file k) || is_early n (q_file k)) refl
+    (or_from (bytes_eq (drop 2 n) (q_file k)) (is_early n (q_file k)) (kept_q (drop 2 n) k plain other) (left_q n k sfile other apart)))
 
 own_intent : (n : List ℕ) → IsSfile n → is_kept (drop 2 n) ≡ false → is_own n intent_file ≡ false
 own_intent n sfile plain =
-    both_false (bytes_eq n intent_file) (bytes_eq (p_file n) intent_file || (bytes_eq (drop 2 n) intent_file || is_early n intent_file)) (sfile_and_intent n sfile)
-    (both_false (bytes_eq (p_file n) intent_file) (bytes_eq (drop 2 n) intent_file || is_early n intent_file) refl
-    (both_false (bytes_eq (drop 2 n) intent_file) (is_early n intent_file) (kept_intent (drop 2 n) plain) refl))
+    or_from (bytes_eq n intent_file) (bytes_eq (p_file n) intent_file || (bytes_eq (drop 2 n) intent_file || is_early n intent_file)) (sfile_and_intent n sfile)
+    (or_from (bytes_eq (p_file n) intent_file) (bytes_eq (drop 2 n) intent_file || is_early n intent_file) refl
+    (or_from (bytes_eq (drop 2 n) intent_file) (is_early n intent_file) (kept_intent (drop 2 n) plain) refl))
 
 -- the intent is among the files of other names
 pub others_fate : (n k : List ℕ) (u v : View) → IsSfile n → is_kept (drop 2 n) ≡ false → SameOthers (is_own n) u v → fate_at v k ≡ fate_at u k
@@ -172,3 +176,9 @@ step_carried x w n i u v o keeps fits spares may quiet is alike recovers = by x.
     by false changes =
         carried w n u v (effect_of n o).new spares (keeps.names changes n fits) (may changes).plain alike recovers
         (λ named f new. leaves_by x n i u o x.locks keeps (keeps.names changes n fits) changes refl may is named f new)
+
+-- ---- views after moves
+
+pub all_view : (m : Folder) (xs : List Move) → view_in (all_moved_in m xs) ≡ all_moved (view_in m) xs
+all_view m [] = refl
+all_view m (x ∷ xs) = all_view (moved_in m x.name x.new) xs ∙ ap (λ (v : View). all_moved v xs) (moved_view m x.name x.new)

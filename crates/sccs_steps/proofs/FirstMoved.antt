@@ -1,5 +1,5 @@
 -- Views after some first files of a step.
-use Rattle.std.proofs.Common.{◌≡◌, ℕ, zero, suc, Bool, true, false, ◌||◌, cond, List, [], ◌∷◌, ◌++◌, Option, None, Some, refl, ap, ◌∙◌}
+use Rattle.std.proofs.Common.{◌≡◌, ℕ, zero, suc, Bool, true, false, ◌||◌, cond, List, [], ◌∷◌, ◌++◌, Option, None, Some, ap, ◌∙◌}
 use Rattle.std.specs.Str.{bytes_eq}
 use Rattle.sccs_base.specs.Name.{p_file, z_file}
 use Rattle.sccs_disk.specs.Files.{Content, View}
@@ -7,6 +7,8 @@ use Rattle.sccs_files.specs.StepFiles.{Alike, Apart, Files, Moves, Shows, is_lef
 use Rattle.sccs_files.proofs.Views.{early_alike, moved_alike}
 use Rattle.sccs_steps.specs.FirstFiles.{first_moved}
 use Rattle.sccs_steps.specs.StepLists.{NamedStep, ShowsEarly, ShowsNext, is_left_of, left_by}
+use Rattle.std.proofs.lemmas.Bool.{or_from}
+use Rattle.sccs_base.proofs.Bools.{right_false, left_false}
 
 pub first_alike : (i : ℕ) (w : List ℕ → Bool) (u v : View) (n : List ℕ) (new : Option Files) → Alike w u v → Alike w (first_moved i u n new) (first_moved i v n new)
 first_alike zero w u v n new alike = alike
@@ -17,17 +19,6 @@ first_alike (suc (suc (suc zero))) w u v n None alike = alike
 first_alike (suc (suc (suc zero))) w u v n (Some f) alike = λ k h. ap (λ (o : Option Content). cond (bytes_eq (p_file n) k) f.p (cond (bytes_eq n k) f.s o)) (early_alike w u v n true (Some f) alike k h)
 first_alike (suc (suc (suc (suc i)))) w u v n new alike = moved_alike w u v n new alike
 
-left_false : (x y : Bool) → (x || y) ≡ false → x ≡ false
-left_false true y h = cc
-left_false false y h = refl
-
-right_false : (x y : Bool) → (x || y) ≡ false → y ≡ false
-right_false true y h = cc
-right_false false y h = h
-
-both_false : (x y : Bool) → x ≡ false → y ≡ false → (x || y) ≡ false
-both_false x y p q = ap (λ z. z || y) p ∙ q
-
 -- a disk that shows a view shows, where it failed in a step, the view after some first files of the step
 pub shows_in_order : (w : List ℕ → Bool) (i : ℕ) (n : List ℕ) (new : Option Files) (v : View) (a b : Option View) → Apart w n → Shows w a v → Moves (is_left n) (λ u. first_moved i u n new) a b
     → Shows (λ k. w k || bytes_eq (z_file n) k) b (first_moved i v n new)
@@ -36,7 +27,7 @@ shows_in_order w i n new v (Some u) None apart shows moves = absurd moves
 shows_in_order w i n new v (Some u) (Some t) apart shows moves = λ k h.
     let out_w : w k ≡ false = left_false (w k) (bytes_eq (z_file n) k) h in
     let out_z : bytes_eq (z_file n) k ≡ false = right_false (w k) (bytes_eq (z_file n) k) h in
-    moves k (both_false (is_working n k) (bytes_eq (z_file n) k) (apart.own k out_w) out_z) ∙ first_alike i w u v n new shows k out_w
+    moves k (or_from (is_working n k) (bytes_eq (z_file n) k) (apart.own k out_w) out_z) ∙ first_alike i w u v n new shows k out_w
 
 -- but for the z-file of a step too
 pub shows_wider : (w : List ℕ → Bool) (told : Option View) (u : View) (t : NamedStep) → Shows w told u → Shows (left_by w (t ∷ [])) told u

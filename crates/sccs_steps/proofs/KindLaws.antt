@@ -1,5 +1,5 @@
 -- What the steps of an operand make of a run, by what it is.
-use Rattle.std.proofs.Common.{◌≡◌, ℕ, zero, suc, ◌+◌, ◌<◌, ◌≤◌, nat_lt, Bool, true, false, ◌||◌, cond, List, [], ◌∷◌, get_or, length, Option, None, Some, IfSome, Result, Ok, Err, codes, ◌⊎◌, inl, inr, refl, sym, ap, subst, ◌∙◌, arith}
+use Rattle.std.proofs.Common.{◌≡◌, ℕ, zero, suc, ◌+◌, ◌<◌, ◌≤◌, nat_lt, Bool, true, false, cond, List, [], ◌∷◌, get_or, length, Option, None, Some, IfSome, Result, Ok, Err, codes, ◌⊎◌, inl, inr, refl, sym, ap, subst, ◌∙◌, arith}
 use Rattle.std.proofs.lemmas.Bool.Decides.{nat_tests}
 use Rattle.std.proofs.lemmas.List.{append-nil}
 use Rattle.std.specs.List.{AllByRecursion, filter, list_any}
@@ -40,6 +40,7 @@ use Rattle.sccs_steps.proofs.NameStops.{refusal_stops}
 use Rattle.sccs_steps.proofs.SafeImages.{images_now, images_then}
 use Rattle.sccs_steps.proofs.Safety.{keeps_same, stay_same}
 use Rattle.sccs_steps.proofs.StatusLaws.{idle_first}
+use Rattle.sccs_base.proofs.Bools.{right_false, left_false}
 
 -- ---- steps that weren't begun
 
@@ -267,16 +268,8 @@ never_given false operand is = refl
 
 none_at : (p : List ℕ → Bool) (operands : List (List ℕ)) (k : ℕ) (item : List ℕ) → k < length operands → list_any p operands ≡ false → p (get_or operands k item) ≡ false
 none_at p [] k item below none = absurd (omega (arith, below))
-none_at p (n ∷ operands) zero item below none = first (p n) (list_any p operands) none
-  where
-    first : (a b : Bool) → (a || b) ≡ false → a ≡ false
-    first true b h = cc
-    first false b h = refl
-none_at p (n ∷ operands) (suc k) item below none = none_at p operands k item (omega (arith, below)) (second (p n) (list_any p operands) none)
-  where
-    second : (a b : Bool) → (a || b) ≡ false → b ≡ false
-    second true b h = cc
-    second false b h = h
+none_at p (n ∷ operands) zero item below none = left_false (p n) (list_any p operands) none
+none_at p (n ∷ operands) (suc k) item below none = none_at p operands k item (omega (arith, below)) (right_false (p n) (list_any p operands) none)
 
 -- of operands none of which takes the input one doesn't
 pub deaf_at : (x : Action) (operands : List (List ℕ)) (k : ℕ) (item operand : List ℕ) → operand ≡ get_or operands k item → k < length operands → hears x operands ≡ false → kind_hears x.takes (kind_of x.takes operand) ≡ false

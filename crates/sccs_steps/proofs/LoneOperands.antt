@@ -1,5 +1,5 @@
 -- An operand by itself is a list of one.
-use Rattle.std.proofs.Common.{◌≡◌, ℕ, Bool, true, false, ◌||◌, List, [], ◌∷◌, Option, Result, Ok, Err, inr, refl, sym, subst, ◌∙◌}
+use Rattle.std.proofs.Common.{◌≡◌, ℕ, true, List, [], ◌∷◌, Option, Result, Ok, Err, inr, refl, sym, subst, ◌∙◌}
 use Rattle.std.proofs.lemmas.List.{append-nil}
 use Rattle.sccs_disk.specs.Files.{Folder, view_in}
 use Rattle.sccs_steps.specs.Actions.{Action, AreClear, IsHeard, hears, kind_hears, kind_of, operand_steps, steps_at}
@@ -12,16 +12,13 @@ use Rattle.sccs_steps.specs.Speaking.{OperandBegins, OperandMakes, SpeakAll, Spe
 use Rattle.sccs_steps.specs.StepLists.{NamedStep, Runs}
 use Rattle.sccs_steps.specs.Unlocked.{AreExempt, ArePlain}
 use Rattle.sccs_steps.specs.declared.faults.Fault.{Fault}
+use Rattle.sccs_base.proofs.Bools.{or_none}
 
 alone : (x : Action) (m : Folder) (i operand : List ℕ) → steps_at x m i (operand ∷ []) ≡ operand_steps x i m operand
 alone x m i operand = append-nil (operand_steps x i m operand)
 
-or_false : (b : Bool) → (b || false) ≡ b
-or_false true = refl
-or_false false = refl
-
 hears_one : (x : Action) (operand : List ℕ) → hears x (operand ∷ []) ≡ kind_hears x.takes (kind_of x.takes operand)
-hears_one x operand = or_false (kind_hears x.takes (kind_of x.takes operand))
+hears_one x operand = or_none (kind_hears x.takes (kind_of x.takes operand))
 
 speaks_one : (x : Action) (operand : List ℕ) (r : Result ℕ Fault) (err err2 : Option (List ℕ)) → SpeakBy x.rule (OperandMakes x operand) (OperandBegins x operand) r err err2 → SpeakAll x (operand ∷ []) r err err2
 speaks_one x operand (Ok status) err err2 says = (says.0, (says.0, [], sym (append-nil says.0), says.1, refl), says.2)

@@ -3,7 +3,7 @@ use Rattle.std.proofs.Common.{◌≡◌, ◌≢◌, ◌⊎◌, ℕ, ◌+◌, ◌
 use Rattle.std.specs.Prelude.{◌==◌, ◌&&◌}
 use Rattle.std.specs.List.{filter}
 use Rattle.std.proofs.Math.ListN.{drop_of_length-le}
-use Rattle.std.proofs.lemmas.Bool.{eqb-true}
+use Rattle.std.proofs.lemmas.Bool.{eqb-true, or_left, or_right, or_cases}
 use Rattle.std.proofs.lemmas.List.{append-nil}
 use Rattle.sccs_base.specs.Constants.{file_limit}
 use Rattle.sccs_base.specs.Name.{is_sfile_name, sfile_name_decides}
@@ -69,24 +69,12 @@ after_other t ts other is = subst (λ (b : Bool). ((b && t.effect.status == 0) |
 after_found : (rule : StatusRule) (ts : List NamedStep) → has_made (names_found rule ∷ ts) ≡ true → has_made ts ≡ true
 after_found rule ts is = after_other (names_found rule) ts (no_sfile (names_found rule).name (is_sfile_name (names_found rule).name) refl refl) is
 
-either : (a b : Bool) → (a || b) ≡ true → (a ≡ true) ⊎ (b ≡ true)
-either true b h = inl refl
-either false b h = inr h
-
-or_more : (a b : Bool) → b ≡ true → (a || b) ≡ true
-or_more true b h = refl
-or_more false b h = h
-
-or_first : (a b : Bool) → a ≡ true → (a || b) ≡ true
-or_first true b h = refl
-or_first false b h = cc
-
 made_split : (ts us : List NamedStep) → has_made (ts ++ us) ≡ true → (has_made ts ≡ true) ⊎ (has_made us ≡ true)
 made_split [] us is = inr is
 made_split (t ∷ ts) us is =
-    ⊎_elim (λ here. inl (or_first (is_sfile_name t.name && t.effect.status == 0) (has_made ts) here))
-    (λ later. ⊎_elim (λ old. inl (or_more (is_sfile_name t.name && t.effect.status == 0) (has_made ts) old)) (λ new. inr new) (made_split ts us later))
-    (either (is_sfile_name t.name && t.effect.status == 0) (has_made (ts ++ us)) is)
+    ⊎_elim (λ here. inl (or_left (is_sfile_name t.name && t.effect.status == 0) (has_made ts) here))
+    (λ later. ⊎_elim (λ old. inl (or_right (is_sfile_name t.name && t.effect.status == 0) (has_made ts) old)) (λ new. inr new) (made_split ts us later))
+    (or_cases (is_sfile_name t.name && t.effect.status == 0) (has_made (ts ++ us)) is)
 
 -- ---- nothing is told anew
 

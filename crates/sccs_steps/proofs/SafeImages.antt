@@ -25,6 +25,7 @@ use Rattle.sccs_steps.specs.StepStops.{IsSafe, IsSafeFor}
 use Rattle.sccs_steps.specs.Unlocked.{StepOthers}
 use Rattle.sccs_steps.proofs.Carried.{moved_others, named_held, others_fate, others_look}
 use Rattle.sccs_steps.proofs.Safety.{none_of, pair_paired, pair_settled, same_safe}
+use Rattle.sccs_moments.proofs.Joined.{each_then, story_of}
 
 -- ---- what recovers alike has the same safe names
 
@@ -67,10 +68,6 @@ pub each_as : (P Q : View → Type 0) (added : List Model) (m : Model) → ((w :
 each_as P Q [] m as_q each = λ w image. as_q w (each w image)
 each_as P Q (a ∷ added) m as_q each = (λ w image. as_q w (each.0 w image), each_as P Q added m as_q each.1)
 
-each_joined : (P : Model → Type 0) (later added : List Model) (m : Model) → Each P added m → Each P later (newest added m) → Each P (later ++ added) m
-each_joined P [] added m first next = first
-each_joined P (a ∷ later) added m first next = (next.0, each_joined P later added m first next.1)
-
 -- a disk to which nothing was done
 pub images_now : (m : Model) → Allows (KeepsSafeFrom m) m
 images_now m = λ u image n sfile all. all u image
@@ -82,7 +79,7 @@ calm_safe n m sfile calm held safe = λ u image. recovers_safe n (view_of m) u s
 -- one list behind another
 pub images_then : (later added : List Model) (m : Model) → Each (Allows (KeepsSafeFrom m)) added m → Each (Allows (KeepsSafeFrom (newest added m))) later (newest added m) → Each (Allows (KeepsSafeFrom m)) (later ++ added) m
 images_then later added m first next =
-    each_joined (Allows (KeepsSafeFrom m)) later added m first
+    each_then (Allows (KeepsSafeFrom m)) later added m first
     (each_as (KeepsSafeFrom (newest added m)) (KeepsSafeFrom m) later (newest added m)
     (λ w keeps n sfile all. keeps n sfile (λ u image. each_newest (Allows (KeepsSafeFrom m)) added m first u image n sfile all)) next)
 
@@ -102,13 +99,9 @@ models Nothing = []
 models (Shows v) = []
 models (Tells m past) = m ∷ past
 
-all_told : (added : List Model) (m : Model) (past : List Model) → newest added m ∷ earlier added m past ≡ added ++ m ∷ past
-all_told [] m past = refl
-all_told (a ∷ added) m past = refl
-
 pub told_once : (xs ys : List Model) (m : Model) (past : List Model) (t : Told) → t ≡ Tells (newest xs m) (earlier xs m past) → t ≡ Tells (newest ys m) (earlier ys m past) → xs ≡ ys
 told_once xs ys m past t one two =
-    append_cancel_right xs ys (m ∷ past) (sym (all_told xs m past) ∙ (ap models (sym one ∙ two) ∙ all_told ys m past))
+    append_cancel_right xs ys (m ∷ past) (sym (story_of xs m past) ∙ (ap models (sym one ∙ two) ∙ story_of ys m past))
 
 -- ---- the moments of a step
 

@@ -8,12 +8,13 @@ use Rattle.sccs_files.specs.StepFiles.{Alike, Files, moved, moved_in, placed}
 use Rattle.sccs_files.proofs.Folders.{moved_view}
 use Rattle.sccs_intents.specs.Intents.{intent_file}
 use Rattle.sccs_pfile.specs.Recovered.{recovered_pfile}
-use Rattle.sccs_moments.specs.Recovery.{IsSettledPair, IsSound, Pair, RecoversAs, fate_at, is_kept, pair_of, recover}
-use Rattle.sccs_moments.proofs.Recovering.{LooksAlike, fate_same, recovered_alike, recovered_is, sound_pair}
+use Rattle.sccs_moments.specs.Recovery.{IsSettledPair, IsSound, Pair, RecoversAs, fate_at, is_kept, pair_of, recover, IsHeldAt}
+use Rattle.sccs_moments.proofs.Recovering.{LooksAlike, fate_same, recovered_alike, recovered_is, sound_pair, pair, recovered, recovered_under}
 use Rattle.sccs_steps.specs.Actions.{Action, KeepsFiles}
 use Rattle.sccs_steps.specs.StepStops.{ArePaired, IsPaired, IsSafe, IsSafeFor}
 use Rattle.sccs_steps.specs.ListStops.{KeepsSafe, Spares, StaySafe}
 use Rattle.sccs_steps.proofs.Carried.{moved_others, moved_p, moved_s, others_fate, others_look}
+use Rattle.sccs_intents.specs.declared.intents.Fate.{Fate}
 
 -- ---- views
 
@@ -64,6 +65,24 @@ alike_safe work n u v spares sfile alike recovers safe = record {
   paired = pair_paired n u v (recovers n sfile) safe.paired;
   settled = pair_settled n u v (recovers n sfile) safe.settled;
 }
+
+-- what recovers as a view in which a name is safe, where the name is held if an intent names it
+pub safe_by : (n : List ℕ) (v u : View) → IsSfile n → RecoversAs v u → IsHeldAt n u → IsSafe n v → IsSafe n u
+safe_by n v u sfile recovers held safe = record {
+  plain = safe.plain;
+  sound = λ none. by none (fate_at u n) refl;
+  paired = pair_paired n v u (recovers n sfile) safe.paired;
+  settled = settled;
+}
+  where
+    settled : IsSettledPair (pair_of (recover n u) n)
+    settled = pair_settled n v u (recovers n sfile) safe.settled
+
+    by : u (z_file n) ≡ None → (f : Option Fate) → fate_at u n ≡ f → IsSound n u
+    by none (Some fate) is = absurd (let there = held (ap is_some is) in let e : false ≡ true = sym (ap is_some none) ∙ there in cc)
+    by none None is =
+        let same : pair_of (recover n u) n ≡ pair (u n) (u (p_file n)) = recovered_is n u sfile ∙ (recovered_under n u None is ∙ ap (λ (o : Option Content). recovered (u n) (u (p_file n)) (is_some o)) none) in
+        record { entries = subst IsSettledPair same settled; unnamed = is }
 
 -- new files of a name that no intent names
 pub placed_safe : (n : List ℕ) (v : View) (f : Files) → IsSfile n → is_kept (drop 2 n) ≡ false → fate_at v n ≡ None → recovered_pfile f.s f.p ≡ f.p → ArePaired f.s f.p → IsSafe n (placed v n f)

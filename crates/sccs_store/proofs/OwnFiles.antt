@@ -1,5 +1,5 @@
 -- The calls of a commit change the files of its name alone.
-use Rattle.std.proofs.Common.{◌≡◌, ◌⊎◌, ◌||◌, ℕ, Bool, true, false, List, drop, inl, inr, refl}
+use Rattle.std.proofs.Common.{◌≡◌, ◌||◌, ℕ, false, List, drop, inl, inr}
 use Rattle.std.specs.Prelude.{None, OnErr, OnOk, Result, Ok, Err}
 use Rattle.std.specs.Str.{bytes_eq}
 use Rattle.sccs_base.specs.Name.{p_file, q_file, x_file, y_file, z_file}
@@ -8,13 +8,15 @@ use Rattle.sccs_disk.specs.Files.{Rename, put}
 use Rattle.sccs_disk.specs.Files as op
 use Rattle.sccs_disk.specs.Told.{Told}
 use Rattle.sccs_moments.specs.Unlocked.{KeepsOthers, is_own}
-use Rattle.sccs_moments.proofs.FileNames.{both_false, left_false, no_q, no_working, no_x, no_y, no_z, right_false}
+use Rattle.sccs_moments.proofs.FileNames.{no_q, no_working, no_x, no_y, no_z}
 use Rattle.sccs_files.specs.StepFiles.{is_early}
 use Rattle.sccs_moments.proofs.Unlocked.{is_either, others_done, others_half, others_removed, others_renamed, others_same, others_settled, others_then, others_wider, own_left}
 use Rattle.sccs_store.specs.Commits.{Plan}
 use Rattle.sccs_store.specs.Stops.{HalfSwaps, HalfUnlocks, Swaps, Unlocks}
 use Rattle.sccs_store.specs.declared.new_files.NewFile.{NewFile}
 use Rattle.sccs_store.specs.declared.new_files.NewFile.TheVariants.{Keep, Replace, Remove}
+use Rattle.std.proofs.lemmas.Bool.{or_from}
+use Rattle.sccs_base.proofs.Bools.{right_false, left_false}
 
 -- a name that is none of two
 abbrev pub Misses : List ℕ → List ℕ → List ℕ → Type 0
@@ -46,16 +48,16 @@ no_g : (n k : List ℕ) → is_own n k ≡ false → bytes_eq (drop 2 n) k ≡ f
 no_g n k h = left_false (bytes_eq (drop 2 n) k) (is_early n k) (right_false (bytes_eq (p_file n) k) (bytes_eq (drop 2 n) k || is_early n k) (right_false (bytes_eq n k) (bytes_eq (p_file n) k || (bytes_eq (drop 2 n) k || is_early n k)) h))
 
 misses_s : (n : List ℕ) → Misses n (x_file n) n
-misses_s n k h = both_false (bytes_eq (x_file n) k) (bytes_eq n k) (no_x n k (no_working n k (own_left n k h))) (no_s n k h)
+misses_s n k h = or_from (bytes_eq (x_file n) k) (bytes_eq n k) (no_x n k (no_working n k (own_left n k h))) (no_s n k h)
 
 misses_p : (n : List ℕ) → Misses n (q_file n) (p_file n)
-misses_p n k h = both_false (bytes_eq (q_file n) k) (bytes_eq (p_file n) k) (no_q n k (no_working n k (own_left n k h))) (no_p n k h)
+misses_p n k h = or_from (bytes_eq (q_file n) k) (bytes_eq (p_file n) k) (no_q n k (no_working n k (own_left n k h))) (no_p n k h)
 
 misses_g : (n : List ℕ) → Misses n (y_file n) (drop 2 n)
-misses_g n k h = both_false (bytes_eq (y_file n) k) (bytes_eq (drop 2 n) k) (no_y n k (no_working n k (own_left n k h))) (no_g n k h)
+misses_g n k h = or_from (bytes_eq (y_file n) k) (bytes_eq (drop 2 n) k) (no_y n k (no_working n k (own_left n k h))) (no_g n k h)
 
 misses_z : (n : List ℕ) → Misses n (z_file n) (z_file n)
-misses_z n k h = both_false (bytes_eq (z_file n) k) (bytes_eq (z_file n) k) (no_z n k (own_left n k h)) (no_z n k (own_left n k h))
+misses_z n k h = or_from (bytes_eq (z_file n) k) (bytes_eq (z_file n) k) (no_z n k (own_left n k h)) (no_z n k (own_left n k h))
 
 -- ---- the exits of a commit
 

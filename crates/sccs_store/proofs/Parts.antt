@@ -12,7 +12,7 @@ use Rattle.sccs_images.proofs.Owned.{firm_stays}
 use Rattle.sccs_pfile.specs.Recovered.{recovered_pfile}
 use Rattle.sccs_intents.specs.Intents.{intent_file}
 use Rattle.sccs_moments.specs.Moments.{Guards, IsNew, RecoversWith}
-use Rattle.sccs_moments.specs.Recovery.{Pair, RecoversAs, fate_at, is_kept, pair_of}
+use Rattle.sccs_moments.specs.Recovery.{Pair, fate_at, is_kept, pair_of}
 use Rattle.sccs_moments.proofs.CalmDisks.{firm_pairs, full_there}
 use Rattle.sccs_moments.proofs.FileNames.{from_s, from_sfile, kept_intent, kept_p, kept_q, kept_s, kept_x, kept_z, sfile_and_intent, siblings_differ, to_s, to_sfile}
 use Rattle.sccs_moments.proofs.Recovering.{LooksAlike, SameLooks, fate_same, looks_between, p_of, pair, pair_same, recovered_alike, recovered_at, recovered_same, recovered_under, recovers_from, s_of, sound_recovered}

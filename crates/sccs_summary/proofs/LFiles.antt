@@ -1,9 +1,9 @@
 -- An l-file that is made whole, through the y-file.
-use Rattle.std.proofs.Common.{◌≡◌, ◌||◌, ℕ, Bool, false, List, drop, Option, None, Some, option_map, Result, inl, inr, refl, sym, ap, subst, ◌∙◌}
+use Rattle.std.proofs.Common.{◌≡◌, ℕ, List, Option, None, Some, option_map, Result, inl, inr, refl, sym, ap, subst, ◌∙◌}
 use Rattle.std.specs.Str.{bytes_eq}
 use Rattle.sccs_base.specs.Name.{IsSfile, y_file}
 use Rattle.sccs_disk.specs.Effects.{renamed}
-use Rattle.sccs_disk.specs.Files.{Content, View, put, view_of}
+use Rattle.sccs_disk.specs.Files.{View, put, view_of}
 use Rattle.sccs_disk.specs.Told.{Told, seen}
 use Rattle.sccs_disk.specs.declared.disks.DiskRefusal.{DiskRefusal}
 use Rattle.sccs_disk.proofs.Puts.{put_same}
@@ -13,11 +13,12 @@ use Rattle.sccs_gfiles.proofs.MadeWhole.{ends_after, ends_before, ends_pairs, en
 use Rattle.sccs_history.specs.declared.headers.Record.{Record}
 use Rattle.sccs_images.specs.Touches.{Leaves, TouchesOnly}
 use Rattle.sccs_moments.specs.Unlocked.{KeepsOthers}
-use Rattle.sccs_moments.proofs.FileNames.{l_plain, left_false}
+use Rattle.sccs_moments.proofs.FileNames.{l_plain}
 use Rattle.sccs_moments.proofs.Unlocked.{others_then, others_touched, others_wider}
 use Rattle.sccs_store.specs.Commits.{Becomes, MayBecome}
 use Rattle.sccs_writers.specs.Puts.{PutsText, Writer}
 use Rattle.sccs_summary.specs.SummaryFiles.{LosesNothing, MakesPartly, is_summary, l_made, summary_file}
+use Rattle.sccs_base.proofs.Bools.{left_false}
 
 -- ---- puts
 

@@ -1,5 +1,5 @@
 -- The summary of a get (POSIX, Shell and Utilities, get, -l, -L and the l-file): each live delta, newest first, whether it is applied, and why where the words say so.
-use Rattle.std.specs.Prelude.{ℕ, ℤ, int_lt, Bool, true, false, List, [], ◌∷◌, ◌++◌, flat_map, codes, Option, None, Some, option_map, if◌then◌else◌}
+use Rattle.std.specs.Prelude.{ℕ, ℤ, int_lt, Bool, false, List, [], ◌∷◌, ◌++◌, flat_map, codes, Option, None, Some, option_map, if◌then◌else◌}
 use Rattle.sccs_sid.specs.Moment.{moment_text}
 use Rattle.sccs_sid.specs.Sid.{sid_text}
 use Rattle.sccs_history.specs.Numbers.{has}

@@ -1,5 +1,5 @@
 -- The l-file of a name, made through the y-file.
-use Rattle.std.specs.Prelude.{◌≡◌, ◌≢◌, ◌⊎◌, ◌||◌, ◌≤◌, ℕ, Bool, true, false, List, Option, Some, Result, Err}
+use Rattle.std.specs.Prelude.{◌≡◌, ◌≢◌, ◌⊎◌, ◌||◌, ◌≤◌, ℕ, Bool, true, List, Option, Some, Result, Err}
 use Rattle.std.specs.Str.{bytes_eq}
 use Rattle.sccs_base.specs.Name.{y_file}
 use Rattle.sccs_base.specs.Stream.{Rose}

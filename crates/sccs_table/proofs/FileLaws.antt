@@ -247,7 +247,7 @@ shown_header : (o : Option (List ℕ)) (front : Front) (p : ParsedFront) → Sho
 shown_header None front p shows = absurd shows
 shown_header (Some file) front p shows = shows.header
 
-encoded_so : (front : Front) (p : ParsedFront) (encoded : Bool) → front.header ≡ p.header → is_encoded front.header.flags ≡ encoded → is_encoded p.header.flags ≡ encoded
+pub encoded_so : (front : Front) (p : ParsedFront) (encoded : Bool) → front.header ≡ p.header → is_encoded front.header.flags ≡ encoded → is_encoded p.header.flags ≡ encoded
 encoded_so front p encoded same is = ap (λ (h : Header). is_encoded h.flags) (sym same) ∙ is
 
 pub front_plain : (view : Option View) (name : List ℕ) (front : Front) → is_encoded front.header.flags ≡ false → IfSome view (λ v. AnswersFront (file_in v name) checked_front (Ok front)) → IfSome view (λ v. AnswersFront (file_in v name) front_of (Ok front))

@@ -1,7 +1,7 @@
 -- Control lines as they are written, at the front of bytes.
 use Rattle.std.proofs.Common.{◌&&◌, Bool, Option, not, decimal, ◌≡◌, ◌≢◌, ◌⊎◌, inl, inr, ℕ, zero, suc, ◌+◌, ◌*◌, ◌-◌, ◌<◌, ◌==◌, nat_lt, true, false, List, [], ◌∷◌, ◌++◌, length, take, Some, Result, Ok, Err, refl, sym, ap, ◌∙◌, subst, arith, length-append}
 use Rattle.std.proofs.Math.Seq.{take-append_seam, take-append-add}
-use Rattle.std.proofs.lemmas.Bool.{cases_Bool, and_parts, eqb-true, lt-ltb, ltb-true, ne_eqb}
+use Rattle.std.proofs.lemmas.Bool.{cases_Bool, and_parts, eqb-true, lt-ltb, ltb-true, ne_eqb, not-true}
 use Rattle.std.proofs.lemmas.List.Elements.{All-cons, All-from_recursion}
 use Rattle.sccs_base.specs.Cut.{HasNoLf}
 use Rattle.sccs_sid.specs.Reading.{whole, digits_after, number_at, number}
@@ -91,10 +91,6 @@ serial_front b n ds rest bytes is other some low number_is =
       serial = ap plain_serial front ∙ plain_of b n ds other some low number_is;
     }
 
-not_true : (b : Bool) → not b ≡ true → b ≡ false
-not_true true is = absurd cc
-not_true false is = refl
-
 pub written : (bytes behind : List ℕ) (n count : ℕ) → number_at 5 bytes ≡ Ok (n, behind) → begins 10 behind ≡ true → begins 48 bytes ≡ false → 0 < n → n < 65536 → count + length behind ≡ length bytes → IsWrittenSerial bytes n count
 unfolding number_at
 written [] behind n count is lf other some low long = no_number 0 n behind is
@@ -111,7 +107,7 @@ written_so bytes behind n count is test long =
     let some = and_parts (nat_lt 0 n) _ test in
     let low = and_parts (nat_lt n 65536) _ some.1 in
     let ends = and_parts (begins 10 behind) (not (begins 48 bytes)) low.1 in
-    written bytes behind n count is ends.0 (not_true (begins 48 bytes) ends.1) (ltb-true 0 n some.0) (ltb-true n 65536 low.0) long
+    written bytes behind n count is ends.0 (not-true (begins 48 bytes) ends.1) (ltb-true 0 n some.0) (ltb-true n 65536 low.0) long
 
 -- ---- a serial that was written
 

@@ -4,12 +4,8 @@ use Rattle.std.specs.List.{AllByRecursion}
 use Rattle.std.proofs.lemmas.Bool.{ne_eqb}
 use Rattle.std.proofs.lemmas.List.Elements.{recursion_from_All}
 use Rattle.sccs_base.specs.Cut.{Cut, HasNoLf, cut, before, longer}
-use Rattle.sccs_base.proofs.Cuts.{cut-cons}
+use Rattle.sccs_base.proofs.Cuts.{cut-cons, with_line}
 use Rattle.sccs_tokens.specs.Written.{bytes_of}
-
--- a line before what is cut
-abbrev with_line : List ℕ → Cut → Cut
-with_line line rest = record { lines = line ∷ rest.lines; tail = rest.tail }
 
 cut_by : (line rest : List ℕ) → AllByRecursion (λ b. b ≢ 10) line → cut (line ++ 10 ∷ rest) ≡ with_line line (cut rest)
 cut_by [] rest none = cut-cons 10 rest

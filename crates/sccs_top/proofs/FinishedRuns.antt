@@ -39,10 +39,10 @@ abbrev Finishes : Result ℕ Fault → Setting → Setting → Type 0
 Finishes r s t = RunsCourse finishing_course (λ (i : List ℕ). Unit {0}) WholeFinishing BegunFinishing r s t
 
 -- recover is the command that finishes a group
-abbrev Recovers : Command → Type 0
+abbrev pub Recovers : Command → Type 0
 Recovers command = (operands : Operands) × (command ≡ c.Recover operands)
 
-finisher : (command : Command) → group_use command ≡ Some uses.Finishes → Recovers command
+pub finisher : (command : Command) → group_use command ≡ Some uses.Finishes → Recovers command
 finisher (c.Recover operands) is = (operands, refl)
 finisher command is = absurd cc
 

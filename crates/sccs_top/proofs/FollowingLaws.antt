@@ -12,7 +12,7 @@ use Rattle.sccs_intents.specs.Intents.{intent_file}
 use Rattle.sccs_group.specs.Finishing.{CanFinish}
 use Rattle.sccs_intents.specs.declared.intents.Fate.{Fate}
 use Rattle.sccs_moments.specs.Moments.{IsCalmUnnamed}
-use Rattle.sccs_moments.specs.Recovery.{IsSettledPair, Pair, RecoversAs, fate_at, pair_of, recover}
+use Rattle.sccs_moments.specs.Recovery.{IsSettledPair, Pair, RecoversAs, fate_at}
 use Rattle.sccs_moments.proofs.Recovering.{LooksAlike, fate_same, recovered, recovered_alike, recovered_is, recovered_under, recovers_from}
 use Rattle.sccs_steps.specs.Calls.{Scene}
 use Rattle.sccs_steps.specs.ListStops.{IsAtNumber, KeepsSafeFrom, KeepsSafe, MayBegin, Spares, view_at}

@@ -1,5 +1,5 @@
 -- How a run ends whose steps end so.
-use Rattle.std.proofs.Common.{◌≡◌, ◌≢◌, ℕ, ◌≤◌, Bool, true, false, not, ◌&&◌, List, [], ◌∷◌, Option, None, Some, is_some, IsOk, Result, Ok, Err, inl, inr, refl, sym, ap, subst, ◌∙◌, arith}
+use Rattle.std.proofs.Common.{◌≡◌, ℕ, ◌≤◌, Bool, true, false, not, List, [], ◌∷◌, Option, None, Some, is_some, Result, Ok, Err, inl, inr, refl, sym, ap, subst, ◌∙◌, arith}
 use Rattle.std.specs.List.{AllByRecursion}
 use Rattle.sccs_base.specs.Stream.{Rose}
 use Rattle.sccs_base.proofs.Gifts.{some_none}
@@ -9,7 +9,6 @@ use Rattle.sccs_words.specs.Meaning.{meaning}
 use Rattle.sccs_words.specs.declared.commands.Usage.{Usage}
 use Rattle.sccs_words.specs.declared.commands.Command.{Command}
 use Rattle.sccs_words.specs.declared.commands.ValWords.{ValWords}
-use Rattle.sccs_files.specs.StepFiles.{Shows}
 use Rattle.sccs_moments.specs.Calm.{IsCalm}
 use Rattle.sccs_moments.proofs.Joined.{newest_is}
 use Rattle.sccs_moments.proofs.UnlockedBut.{but_same}
@@ -28,13 +27,13 @@ use Rattle.sccs_steps.proofs.SafeImages.{images_now}
 use Rattle.sccs_steps.proofs.Safety.{keeps_same}
 use Rattle.sccs_steps.specs.declared.faults.Fault.{Fault}
 use Rattle.sccs_steps.specs.declared.faults.Fault.TheVariants as ends
-use Rattle.sccs_courses.specs.Courses.{TakesSfiles, portion_of, portions_of, said, steps_along}
+use Rattle.sccs_courses.specs.Courses.{TakesSfiles, portion_of, said}
 use Rattle.sccs_courses.specs.Following.{CourseMoments, RunsCourse, RunsTo, SpeaksTo, WholeBy}
-use Rattle.sccs_courses.specs.OwnFiles.{IsGivenTo, working_along}
+use Rattle.sccs_courses.specs.OwnFiles.{IsGivenTo}
 use Rattle.sccs_courses.specs.Sayings.{IsSaid}
 use Rattle.sccs_courses.proofs.CourseMomentLaws.{course_moments}
 use Rattle.sccs_courses.proofs.OneAction.{steps_course}
-use Rattle.sccs_courses.proofs.OwnFiles.{own_makes, own_stops, own_unlocked, spares_in}
+use Rattle.sccs_courses.proofs.OwnFiles.{own_makes, own_stops, own_unlocked}
 use Rattle.sccs_courses.specs.QuietSettings.{with_input}
 use Rattle.sccs_courses.proofs.QuietCourses.{course_chosen, course_heard, course_with as with_own_input}
 use Rattle.sccs_courses.proofs.SaidCourses.{said_course}
@@ -56,6 +55,8 @@ use Rattle.sccs_words.specs.declared.commands.Command.TheVariants as c
 use Rattle.sccs_top.specs.declared.commands.CommandList.TheVariants as list
 use Rattle.sccs_top.specs.declared.answers.Answer.{Answer}
 use Rattle.sccs_top.specs.declared.answers.Answer.TheVariants.{Finished, Memory, ReadFault, WriteFault, DiskFault}
+use Rattle.sccs_base.proofs.Rises.{never_rose}
+use Rattle.std.proofs.lemmas.Bool.{and_parts}
 
 -- ---- single commands
 
@@ -164,13 +165,9 @@ pub batch_input : (who : Caller) (command : Command) (r : Result ℕ Fault) (s t
 batch_input who command r s t is none =
     absurd (let no : true ≡ false = sym (ap (λ (o : Option CommandList). list_takes_input o (group_takes_input (group_use command) (hears (action_of who command) (operands_of command)))) is) ∙ none in cc)
 
-pub no_rose : Rose 0 0 → ⊥
-no_rose (inl above) = absurd (omega (arith, above))
-no_rose (inr full) = absurd (let no : 0 ≡ 18446744073709551615 = full in omega (arith, no))
-
 pub soak_input : (who : Caller) (command : Command) (r : Result ℕ Fault) (s t : Setting) (c c2 : Counts) → t.left ≡ s.left → t.faults.input ≡ s.faults.input → c.input ≡ 0 → c2.input ≡ 0 → RunCauses r c c2 → LeavesInput who command r s t
 soak_input who command r s t c c2 left same none none2 causes is =
-    record { same = left; quiet = same; cause = λ fault. no_rose (subst (λ k. Rose 0 k) none2 (subst (λ k. Rose k c2.input) none (causes.read fault))) }
+    record { same = left; quiet = same; cause = λ fault. never_rose (subst (λ k. Rose 0 k) none2 (subst (λ k. Rose k c2.input) none (causes.read fault))) }
 
 ignored_with : (group : Option GroupUse) (who : Caller) (command : Command) (r : Result ℕ Fault) (s t : Setting) → LeavesWith group who command r s t → group_takes_input group (hears (action_of who command) (operands_of command)) ≡ false
     → Ignores ends.ReadFault s.left t.left s.faults.input t.faults.input r
@@ -227,26 +224,22 @@ not_some : {X : Type 0} → (o : Option X) → not (is_some o) ≡ true → o �
 not_some None is = refl
 not_some (Some x) is = absurd cc
 
-both_true : (a b : Bool) → (a && b) ≡ true → (a ≡ true) × (b ≡ true)
-both_true true b is = (refl, is)
-both_true false b is = absurd cc
-
 -- what a command that only makes the steps of its operands leaves
 operands_left : (who : Caller) (command : Command) (r : Result ℕ Fault) (s t : Setting) → LeavesMeant who command r s t → is_of_operands command ≡ true
     → LeavesOperands (action_of who command) (hears (action_of who command) (operands_of command)) r s t
 operands_left who command r s t leaves is =
-    let both = both_true (not (is_some (list_in command))) (not (is_some (group_use command))) is in
+    let both = and_parts (not (is_some (list_in command))) (not (is_some (group_use command))) is in
     subst (λ (o : Option GroupUse). LeavesWith o who command r s t) (not_some (group_use command) both.1) (leaves (not_some (list_in command) both.0))
 
 reads_alone : (who : Caller) (asked : Asked) (r : Result ℕ Fault) (s t : Setting) → LeavesAsked who asked r s t → asked_reads who asked ≡ true → t.stage.told ≡ s.stage.told
-reads_alone who (ask.One command) r s t leaves only = let both = both_true (is_of_operands command) (action_of who command).reads only in (operands_left who command r s t leaves both.0).reads both.1
+reads_alone who (ask.One command) r s t leaves only = let both = and_parts (is_of_operands command) (action_of who command).reads only in (operands_left who command r s t leaves both.0).reads both.1
 reads_alone who (ask.Two first next) r s t leaves only = absurd (cc)
 
 pub words_read : (who : Caller) (words : Result Asked Usage) (asked : Asked) (r : Result ℕ Fault) (s t : Setting) → words ≡ Ok asked → LeavesAsked who asked r s t → only_reads who words ≡ true → t.stage.told ≡ s.stage.told
 words_read who words asked r s t is leaves only = reads_alone who asked r s t leaves (subst (λ (m : Result Asked Usage). only_reads who m ≡ true) is only)
 
 silent_alone : (who : Caller) (asked : Asked) (r : Result ℕ Fault) (s t : Setting) → LeavesAsked who asked r s t → asked_is_silent who asked ≡ true → t.stage.out ≡ s.stage.out
-silent_alone who (ask.One command) r s t leaves only = let both = both_true (is_of_operands command) (action_of who command).silent only in (operands_left who command r s t leaves both.0).silent both.1
+silent_alone who (ask.One command) r s t leaves only = let both = and_parts (is_of_operands command) (action_of who command).silent only in (operands_left who command r s t leaves both.0).silent both.1
 silent_alone who (ask.Two first next) r s t leaves only = absurd (cc)
 
 pub words_are_silent : (who : Caller) (words : Result Asked Usage) (asked : Asked) (r : Result ℕ Fault) (s t : Setting) → words ≡ Ok asked → LeavesAsked who asked r s t → is_silent who words ≡ true → t.stage.out ≡ s.stage.out

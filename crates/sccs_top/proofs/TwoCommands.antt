@@ -25,7 +25,7 @@ use Rattle.sccs_top.specs.Runs.{AsksFor, AsksMeant, BegunMeant, BegunOf, Caller,
 use Rattle.sccs_top.specs.declared.asking.Asked.TheVariants as ask
 use Rattle.sccs_top.specs.declared.commands.CommandList.{CommandList}
 use Rattle.sccs_top.specs.declared.commands.CommandList.TheVariants as list
-use Rattle.sccs_top.proofs.RunLaws.{no_rose}
+use Rattle.sccs_base.proofs.Rises.{never_rose}
 
 -- ---- what changes files takes the names of s-files alone
 
@@ -91,4 +91,4 @@ pub both_leave : (who : Caller) (first : Command) (next : Result Command Usage) 
     → LeavesInput who first r s t
 both_leave who first next one r s t a b leaves none none2 runs free =
     let before = leaves free in
-    record { same = before.same; quiet = before.quiet; cause = λ fault. no_rose (subst (λ k. Rose 0 k) none2 (subst (λ k. Rose k b.faults.input) none (runs.causes.read fault))) }
+    record { same = before.same; quiet = before.quiet; cause = λ fault. never_rose (subst (λ k. Rose 0 k) none2 (subst (λ k. Rose k b.faults.input) none (runs.causes.read fault))) }

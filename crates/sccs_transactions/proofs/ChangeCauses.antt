@@ -13,15 +13,7 @@ use Rattle.sccs_steps.specs.Calls.{World}
 use Rattle.sccs_transactions.specs.Changes.{CouldPrepare}
 use Rattle.sccs_transactions.specs.Ends.{GivesUp}
 use Rattle.sccs_transactions.specs.declared.prepared.Prepared.{Prepared}
-
--- no count rises from 0 to 0
-never : Rose 0 0 → ⊥
-never (inl more) = omega (arith, more)
-never (inr last) = omega (arith, last)
-
-rose_before : (f g h : ℕ) → f ≤ g → Rose g h → Rose f h
-rose_before f g h low (inl more) = inl (omega (arith, low, more))
-rose_before f g h low (inr last) = inr last
+use Rattle.sccs_base.proofs.Rises.{rose_later, never_rose}
 
 -- a report after a commit
 pub finish_causes : {X : Type 0} (r : Result X StepFault) (o o2 e e2 d d2 : ℕ) → d ≤ d2 → ((input disk : ℕ) → StepCauses r (counts input o e disk) (counts input o2 e2 disk)) → (input : ℕ) → StepCauses r (counts input o e d) (counts input o2 e2 d2)
@@ -30,13 +22,13 @@ finish_causes r o o2 e e2 d d2 later causes = λ input. record {
   out_later = (causes 0 0).out_later;
   err_later = (causes 0 0).err_later;
   disk_later = later;
-  read = λ is. absurd (never ((causes 0 0).read is));
+  read = λ is. absurd (never_rose ((causes 0 0).read is));
   write = (causes 0 0).write;
-  broke = λ is. absurd (never ((causes 0 0).broke is));
+  broke = λ is. absurd (never_rose ((causes 0 0).broke is));
 }
 
 either_before : (o o2 o3 e e3 : ℕ) → o ≤ o2 → Rose o2 o3 ⊎ Rose e e3 → Rose o o3 ⊎ Rose e e3
-either_before o o2 o3 e e3 low (inl rose) = inl (rose_before o o2 o3 low rose)
+either_before o o2 o3 e e3 low (inl rose) = inl (rose_later o o2 o3 low rose)
 either_before o o2 o3 e e3 low (inr rose) = inr rose
 
 -- preparing, and a commit with its report
@@ -47,9 +39,9 @@ finished_causes q r i i2 o o2 o3 e e3 d d1 d2 d3 low first second = record {
   out_later = omega (arith, (first e).out_later, (second 0).out_later);
   err_later = (second 0).err_later;
   disk_later = omega (arith, low, (first e).disk_later, (second 0).disk_later);
-  read = λ is. absurd (never ((second 0).read is));
+  read = λ is. absurd (never_rose ((second 0).read is));
   write = λ is. either_before o o2 o3 e e3 (first e).out_later ((second 0).write is);
-  broke = λ is. rose_before d d2 d3 (omega (arith, low, (first e).disk_later)) ((second 0).broke is);
+  broke = λ is. rose_later d d2 d3 (omega (arith, low, (first e).disk_later)) ((second 0).broke is);
 }
 
 other_fault : {X : Type 0} (fault : StepFault) (r : Result X StepFault) → r ≡ Err DiskFault → fault ≢ DiskFault → r ≢ Err fault
@@ -80,8 +72,8 @@ given_up_causes fault q r n w w2 i i2 o o2 e d d1 d2 d3 was gives_up low first l
 }
   where
     by : (fault ≡ DiskFault) × (d3 ≡ d2) ⊎ Rose d2 d3 → Rose d d3
-    by (inl same) = subst (λ count. Rose d count) (sym same.1) (rose_before d d1 d2 low ((first e).broke (was ∙ ap Err same.0)))
-    by (inr rose) = rose_before d d2 d3 (omega (arith, low, (first e).disk_later)) rose
+    by (inl same) = subst (λ count. Rose d count) (sym same.1) (rose_later d d1 d2 low ((first e).broke (was ∙ ap Err same.0)))
+    by (inr rose) = rose_later d d2 d3 (omega (arith, low, (first e).disk_later)) rose
 
 -- the input is left alone
 pub given_up_ignores : (fault : StepFault) (q : Result Prepared StepFault) (r : Result (Unit {0}) StepFault) (n : List ℕ) (w w2 : World) (left left2 : Option (List ℕ)) (i i2 : ℕ) → q ≡ Err fault → GivesUp r fault n w w2

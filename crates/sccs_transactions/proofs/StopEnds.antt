@@ -180,7 +180,7 @@ still_sound n v u sfile sound moves =
       unnamed = fate_same n v u (moves intent_file refl refl ∙ put_other v (z_file n) intent_file (Some empty_file) refl) ∙ sound.unnamed;
     }
 
-firm_from : (new : NewFile) (k : List ℕ) (mine : List ℕ → Bool) (a b d : Told) → TouchesOnly mine a b → OnReplace new (Leaves (IsFirm k) b d) → OnReplace new (Leaves (IsFirm k) a d)
+pub firm_from : (new : NewFile) (k : List ℕ) (mine : List ℕ → Bool) (a b d : Told) → TouchesOnly mine a b → OnReplace new (Leaves (IsFirm k) b d) → OnReplace new (Leaves (IsFirm k) a d)
 firm_from Keep k mine a b d touches firm = tt
 firm_from Replace k mine a b d touches firm = leaves_from (IsFirm k) mine a b d touches firm
 firm_from Remove k mine a b d touches firm = tt

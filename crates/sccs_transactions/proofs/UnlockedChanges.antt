@@ -11,17 +11,18 @@ use Rattle.sccs_images.specs.Touches.{TouchesOnly}
 use Rattle.sccs_images.proofs.Touched.{only_wider}
 use Rattle.sccs_moments.specs.Recovery.{is_kept}
 use Rattle.sccs_moments.specs.Unlocked.{BeginsUnlocked, KeepsHeldIn, KeepsOthers, is_own}
-use Rattle.sccs_moments.proofs.FileNames.{both_false, early_left, no_l, no_working, no_z}
+use Rattle.sccs_moments.proofs.FileNames.{early_left, no_l, no_working, no_z}
 use Rattle.sccs_moments.proofs.Unlocked.{others_same, others_then, others_touched, others_wider, own_early, unlocked_early, unlocked_own}
 use Rattle.sccs_steps.specs.Actions.{Action}
 use Rattle.sccs_steps.specs.Unlocked.{StepOthers}
 use Rattle.sccs_transactions.specs.Changes.{Drafts}
+use Rattle.std.proofs.lemmas.Bool.{or_from}
 
 -- what is prepared is changed before a commit
 pub drafts_early : (early : Bool) (n : List ℕ) (a b : Told) → Drafts early n a b → KeepsOthers (is_early n) a b
 drafts_early false n a b drafts = others_touched (is_early n) a b (only_wider (is_working n) (is_early n) a b (λ k h. no_working n k (early_left n k h)) drafts)
 drafts_early true n a b drafts =
-    others_wider (λ k. bytes_eq (l_file n) k || is_working n k) (is_early n) a b (λ k h. both_false (bytes_eq (l_file n) k) (is_working n k) (no_l n k h) (no_working n k (early_left n k h))) drafts
+    others_wider (λ k. bytes_eq (l_file n) k || is_working n k) (is_early n) a b (λ k h. or_from (bytes_eq (l_file n) k) (is_working n k) (no_l n k h) (no_working n k (early_left n k h))) drafts
 
 -- the lock changes the z-file alone, and giving up what a step leaves behind
 pub lock_early : (n : List ℕ) (a b : Told) → TouchesOnly (bytes_eq (z_file n)) a b → KeepsOthers (is_early n) a b

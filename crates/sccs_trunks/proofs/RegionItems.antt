@@ -3,7 +3,7 @@
 use Rattle.std.proofs.Common.{◌≡◌, ℕ, zero, suc, ◌≤◌, ◌<◌, ◌⊎◌, ◌==◌, nat_lt, Bool, true, false, cond, not, ◌&&◌, ◌||◌, List, [], ◌∷◌, length, refl, sym, ap, ◌∙◌, inl, inr, ⊎_elim, arith, eq-eqb}
 use Rattle.std.specs.List.{AllByRecursion}
 use Rattle.std.proofs.lemmas.Bool.{eqb-true, lt-ltb}
-use Rattle.sccs_history.specs.Numbers.{falling, first, front_if, has, is_empty}
+use Rattle.sccs_history.specs.Numbers.{first, has}
 use Rattle.sccs_history.specs.Body.{Mark, Closed, ByInsert, ByDelete, above, deleters, inserter, inserters, is_closed, is_delete, is_insert, mark}
 use Rattle.sccs_history.specs.declared.headers.Item.{Item}
 use Rattle.sccs_history.specs.declared.headers.Item.TheVariants.{Insert, Delete, End}

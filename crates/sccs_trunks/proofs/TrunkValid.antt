@@ -2,7 +2,7 @@
 use Rattle.std.proofs.Common.{◌≡◌, ℕ, zero, suc, ◌≤◌, ◌<◌, ◌⊎◌, ◌==◌, nat_lt, Bool, true, false, not, ◌&&◌, ◌||◌, List, [], ◌∷◌, length, map, refl, sym, subst, ap, ◌∙◌, inl, inr, ⊎_elim, arith, eq-eqb}
 use Rattle.std.specs.List.{AllByRecursion, list_all}
 use Rattle.std.proofs.lemmas.Bool.{and_from, and_left, and_parts, eqb-true, false≢true, lt-ltb, ltb-true, ne_eqb, or_cases, or_left, or_right}
-use Rattle.sccs_history.specs.Numbers.{front_if, has, Falls, IsFalling}
+use Rattle.sccs_history.specs.Numbers.{has, Falls, IsFalling}
 use Rattle.sccs_history.specs.Applied.{live_serials, serials_of}
 use Rattle.sccs_history.specs.Body.{HistoryLine, IsLine}
 use Rattle.sccs_history.specs.History.{HasSpelling, IsRecord, IsRooted, IsTable, IsValid, has_own_sids, lives, same_sid}

@@ -1,7 +1,6 @@
 -- What the set of each serial shows of a trunk's lines, and that it is the set of the serial's version.
 use Rattle.std.proofs.Common.{◌≡◌, ℕ, zero, suc, ◌+◌, ◌-◌, ◌≤◌, ◌<◌, ◌⊎◌, ◌==◌, Bool, true, false, cond, List, [], ◌∷◌, ◌++◌, length, map, None, unwrap_or, inl, inr, refl, sym, ap, ◌∙◌, arith, eq-eqb}
 use Rattle.std.specs.List.{AllByRecursion}
-use Rattle.std.proofs.lemmas.Bool.{ne_eqb}
 use Rattle.sccs_history.specs.Numbers.{front_if, has}
 use Rattle.sccs_history.specs.Applied.{applied, applied_below, listed, live_serials, named, path, says, serials_of, version, version_of}
 use Rattle.sccs_history.specs.Body.{HistoryLine}

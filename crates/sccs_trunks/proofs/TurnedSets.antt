@@ -3,7 +3,7 @@
 use Rattle.std.proofs.Common.{◌≡◌, ℕ, zero, suc, ◌≤◌, ◌<◌, ◌⊎◌, ◌==◌, Bool, true, false, cond, not, ◌&&◌, ◌||◌, List, [], ◌∷◌, ◌++◌, length, map, refl, sym, ap, ◌∙◌, ⊎_elim, arith, eq-eqb}
 use Rattle.std.specs.List.{AllByRecursion}
 use Rattle.std.proofs.Math.Bool.{and-false}
-use Rattle.std.proofs.lemmas.Bool.{eqb-true, ne_eqb, cases_lt, or_right}
+use Rattle.std.proofs.lemmas.Bool.{ne_eqb, cases_lt, or_right}
 use Rattle.sccs_history.specs.Numbers.{front_if, has, share}
 use Rattle.sccs_history.specs.Body.{HistoryLine}
 use Rattle.sccs_history.specs.Select.{select, shows}

@@ -1,5 +1,5 @@
 -- What is judged of several operands, and why judging ends early.
-use Rattle.std.proofs.Common.{◌≡◌, inl, inr, ℕ, ◌+◌, ◌<◌, ◌≤◌, List, ◌++◌, length, take, flat_map, get_or, Option, None, Some, Result, Ok, Err, OnOk, IfSome, refl, sym, ap, subst, ◌∙◌, arith, add-one, append_assoc, append-nil}
+use Rattle.std.proofs.Common.{◌≡◌, inl, ℕ, ◌+◌, ◌<◌, ◌≤◌, List, ◌++◌, length, take, flat_map, get_or, Option, None, Some, Result, Ok, Err, OnOk, IfSome, refl, sym, ap, subst, ◌∙◌, arith, add-one, append_assoc, append-nil}
 use Rattle.std.specs.List.{fold}
 use Rattle.std.specs.Int.Bits.{bit_or}
 use Rattle.std.proofs.lemmas.List.{take_all}
@@ -9,6 +9,7 @@ use Rattle.sccs_base.proofs.Gifts.{part_more}
 use Rattle.sccs_sid.specs.declared.refusals.StepFault.{StepFault}
 use Rattle.sccs_sid.specs.declared.refusals.StepFault.TheVariants.{Memory, ReadFault, WriteFault, DiskFault}
 use Rattle.sccs_steps.specs.Causes.{PrintCauses, StepCauses, counts}
+use Rattle.sccs_base.proofs.Rises.{rose_later}
 
 -- ---- causes
 
@@ -27,10 +28,6 @@ same_causes fault o o2 d d1 d2 later causes = record {
   read = λ is. causes.read (let e : fault ≡ ReadFault = cc in ap Err e);
   broke = λ is. rose_later d d1 d2 later (causes.broke (let e : fault ≡ DiskFault = cc in ap Err e));
 }
-  where
-    rose_later : (a b c : ℕ) → a ≤ b → Rose b c → Rose a c
-    rose_later a b c later (inl more) = inl (omega (arith, later, more))
-    rose_later a b c later (inr last) = inr last
 
 -- ---- lines that are added one after the other
 
@@ -96,10 +93,6 @@ causes_then r o o2 d d1 d2 later causes = record {
   read = causes.read;
   broke = λ is. rose_later d d1 d2 later (causes.broke is);
 }
-  where
-    rose_later : (a b c : ℕ) → a ≤ b → Rose b c → Rose a c
-    rose_later a b c later (inl more) = inl (omega (arith, later, more))
-    rose_later a b c later (inr last) = inr last
 
 -- behind calls that failed nothing
 pub causes_both : {X : Type 0} (fault : StepFault) (o o1 o2 d d1 d2 : ℕ) → o ≤ o1 → d ≤ d1 → PrintCauses {X = X} (Err fault) o1 o2 d1 d2 → PrintCauses {X = X} (Err fault) o o2 d d2
@@ -110,10 +103,6 @@ causes_both fault o o1 o2 d d1 d2 out_later disk_later causes = record {
   read = causes.read;
   broke = λ is. rose_later d d1 d2 disk_later (causes.broke is);
 }
-  where
-    rose_later : (a b c : ℕ) → a ≤ b → Rose b c → Rose a c
-    rose_later a b c later (inl more) = inl (omega (arith, later, more))
-    rose_later a b c later (inr last) = inr last
 
 -- of a step that takes the input too
 pub as_step : {X : Type 0} (r : Result X StepFault) (i i2 o o2 e d d2 : ℕ) → i ≤ i2 → PrintCauses r o o2 d d2 → StepCauses r (counts i o e d) (counts i2 o2 e d2)

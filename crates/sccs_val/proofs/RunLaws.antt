@@ -7,7 +7,7 @@ use Rattle.sccs_base.specs.Cut.{text_of}
 use Rattle.sccs_base.specs.Name.{is_sfile_name, sfile_name_decides}
 use Rattle.sccs_base.specs.Stream.{GivesOk, GivesSome, Rose}
 use Rattle.sccs_base.proofs.Gifts.{gives_none, some_none}
-use Rattle.sccs_disk.specs.Files.{Content, Folder, Model, View, view_in}
+use Rattle.sccs_disk.specs.Files.{Content, Folder, View, view_in}
 use Rattle.sccs_disk.specs.Told.{Told, seen}
 use Rattle.sccs_files.specs.StepFiles.{Shows, Moves, is_working}
 use Rattle.sccs_sid.specs.Refusal.{number_of}
@@ -16,7 +16,7 @@ use Rattle.sccs_sid.specs.declared.refusals.Refusal.TheVariants as refusals
 use Rattle.sccs_sid.specs.declared.refusals.StepFault.{StepFault}
 use Rattle.sccs_sid.specs.declared.refusals.StepFault.TheVariants.{Refused, Memory, ReadFault, WriteFault, DiskFault}
 use Rattle.sccs_steps.specs.Actions.{IsHeard, KeepsFiles, RefusesWithin, SteppedAs, has_number, step_at}
-use Rattle.sccs_steps.specs.Calls.{Meets, Scene, World, scene, shown, world}
+use Rattle.sccs_steps.specs.Calls.{Meets, scene, shown, world}
 use Rattle.sccs_steps.specs.Causes.{RunCauses, StepCauses, counts}
 use Rattle.sccs_steps.specs.ListStops.{RunMoments, Spares}
 use Rattle.sccs_steps.specs.Messages.{Concludes}
@@ -31,7 +31,7 @@ use Rattle.sccs_steps.proofs.ReadingSteps.{broken, kept, same_cleared}
 use Rattle.sccs_words.specs.declared.commands.ValWords.{ValWords}
 use Rattle.sccs_table.specs.ReaderState.{file_in}
 use Rattle.sccs_val.specs.Findings.{bits, findings}
-use Rattle.sccs_val.specs.Reports.{fault_lines, line_heading, line_status, line_text, line_words, bit_lines, lines_status, val_lines_text, operand_status, operand_text, operands_in, operands_status, operands_text, takes_lines, val_status, val_text, words_status, words_text}
+use Rattle.sccs_val.specs.Reports.{fault_lines, line_heading, line_status, line_text, line_words, bit_lines, lines_status, val_lines_text, operand_status, operand_text, operands_in, takes_lines, val_status, val_text, words_status, words_text}
 use Rattle.sccs_val.specs.ValStep.{Judges, is_long, val_judged, val_effect, val_action, val_outcome, val_over, val_steps}
 
 -- ---- only s-files are looked at

@@ -24,7 +24,7 @@ use Rattle.sccs_versions.specs.WasRead.{HasRead}
 use Rattle.sccs_versions.specs.declared.readers.Next.{Next}
 use Rattle.sccs_versions.specs.declared.readers.Next.TheVariants.{Line, Hidden, End}
 
-abbrev ok_items : List Item → Result (List Item) ℕ
+abbrev pub ok_items : List Item → Result (List Item) ℕ
 ok_items rest = Ok rest
 
 -- ---- what of one item is shown
@@ -71,7 +71,7 @@ behind_item file r r2 lines item p same comes holds =
       },
     )
 
-shown_one : (b : Bool) (line : HistoryLine) → b ≡ true → front_if b line [] ≡ line ∷ []
+pub shown_one : (b : Bool) (line : HistoryLine) → b ≡ true → front_if b line [] ≡ line ∷ []
 shown_one true line is = refl
 shown_one false line is = absurd cc
 
@@ -114,7 +114,7 @@ pub next_shown : (file : List ℕ) (r r2 : VersionPlace) (lines : List HistoryLi
 next_shown file r r2 lines found item result is same given shows_it p =
     item_shown file r r2 lines item result p same (subst (λ f. items.GivesNext file p.live p.before (Ok p.rest) r2.items (Ok f)) is (given p.live p.before (Ok p.rest) p.comes)) (shows_it p.before p.holds)
 
-none_more : (rest : List Item) → ok_items rest ≡ ok_items [] → rest ≡ []
+pub none_more : (rest : List Item) → ok_items rest ≡ ok_items [] → rest ≡ []
 none_more rest is = cc
 
 pub next_none : (file : List ℕ) (r : VersionPlace) (new : ItemPlace) (lines : List HistoryLine) (found : Option Item) → found ≡ None → Given file r.items new (Ok found) → Coming file r lines → lines ≡ []
@@ -122,7 +122,7 @@ next_none file r new lines found is given p =
     let none = subst (λ f. items.GivesNext file p.live p.before (Ok p.rest) new (Ok f)) is (given p.live p.before (Ok p.rest) p.comes) in
     p.lines_are ∙ ap (λ rest. shown r.set (lines_behind p.before rest)) (none_more p.rest none)
 
-never : (rest : List Item) (k : ℕ) → ok_items rest ≡ Err k → ⊥
+pub never : (rest : List Item) (k : ℕ) → ok_items rest ≡ Err k → ⊥
 never rest k is = cc
 
 -- over a told body that is whole only the disk or memory can end it

@@ -22,6 +22,7 @@ use Rattle.sccs_versions.specs.WasRead.{HasRead, ReadsAll, ReadsNext, ReadsOn, S
 use Rattle.sccs_versions.specs.declared.readers.Next.{Next}
 use Rattle.sccs_versions.specs.declared.readers.Next.TheVariants.{Line, Hidden, End}
 use Rattle.sccs_versions.proofs.RunLaws.{Passed, holds_behind, kept_or_none, run_behind, run_inserted, run_lines, run_texts, text_append}
+use Rattle.sccs_versions.proofs.ItemLaws.{shown_one}
 
 -- ---- what is shown of lines, one behind others
 
@@ -117,10 +118,6 @@ nothing_more live r regions before on = on.whole ∙ (ap (λ lines. shown_before
 
 -- ---- one item
 
-one_shown : (b : Bool) (line : HistoryLine) → b ≡ true → front_if b line [] ≡ line ∷ []
-one_shown true line is = refl
-one_shown false line is = absurd cc
-
 item_shows : (set : List ℕ) (before : List Item) (item : Item) → shown_before set (item ∷ before) ≡ shown_before set before ++ shown set (lines_behind before (item ∷ []))
 item_shows set before (Text text) = shown_append set (lines_before before) (line_at before text ∷ [])
 item_shows set before (Insert n) = sym (append-nil (shown_before set before))
@@ -147,7 +144,7 @@ shown_item live r r2 regions before on item (Ok (Line text)) same goes it = reco
   first = line_at on.items text ∷ [];
   whole = subst (λ set. shown_before set (item ∷ on.items) ≡ shown_before set before ++ line_at on.items text ∷ []) (sym same)
       (one_more live r regions before on item (line_at on.items text ∷ [])
-      (ap (λ (i : Item). shown r.set (lines_behind on.items (i ∷ []))) it.1 ∙ one_shown (shows r.set (line_at on.items text)) (line_at on.items text) it.2));
+      (ap (λ (i : Item). shown r.set (lines_behind on.items (i ∷ []))) it.1 ∙ shown_one (shows r.set (line_at on.items text)) (line_at on.items text) it.2));
   texts_are = refl;
   inserted = λ n is. (sym (is (Text text ∷ on.items) (subst (λ (i : Item). Holds r.set (i ∷ on.items) r2.regions) it.1 it.0).opens), tt);
 }

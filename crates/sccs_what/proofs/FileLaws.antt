@@ -1,10 +1,10 @@
 -- A file that is searched in pieces.
-use Rattle.std.proofs.Common.{◌≡◌, ℕ, zero, suc, ◌+◌, ◌-◌, ◌<◌, ◌≤◌, Bool, true, false, List, [], ◌∷◌, ◌++◌, length, take, drop, Option, None, Some, Result, Ok, Err, inl, inr, refl, sym, ap, subst, ◌∙◌, arith, append_assoc, append-nil, length-append, length-drop, length-take}
+use Rattle.std.proofs.Common.{◌≡◌, ℕ, zero, suc, ◌+◌, ◌-◌, ◌<◌, ◌≤◌, Bool, true, false, List, [], ◌∷◌, ◌++◌, length, take, drop, Option, None, Some, Result, Ok, Err, refl, sym, ap, subst, ◌∙◌, arith, append_assoc, append-nil, length-append, length-drop, length-take}
 use Rattle.std.proofs.lemmas.List.{drop-drop, take-append-drop}
 use Rattle.std.proofs.lemmas.Bool.{ltb-true}
 use Rattle.std.proofs.Math.Seq.{take_all}
 use Rattle.sccs_base.specs.Constants.{lf}
-use Rattle.sccs_base.specs.Stream.{Buffers, GivesOk, GivesSome, Rose}
+use Rattle.sccs_base.specs.Stream.{Buffers, GivesOk, GivesSome}
 use Rattle.sccs_base.proofs.Gifts.{buffers_both, buffers_cut, buffers_flushed, buffers_then, some_longer, some_of_whole}
 use Rattle.sccs_sid.specs.Reading.{is_empty}
 use Rattle.sccs_sid.specs.declared.refusals.StepFault.{StepFault}
@@ -17,6 +17,7 @@ use Rattle.sccs_what.specs.declared.searches.Search.{Search}
 use Rattle.sccs_what.specs.declared.searches.Search.TheVariants.{Unfound, Giving, Found}
 use Rattle.sccs_what.proofs.TextLaws.{drop_within}
 use Rattle.sccs_what.proofs.SearchLaws.{both, found_at_end, owed_at_end}
+use Rattle.sccs_base.proofs.Rises.{rose_later}
 
 -- ---- a piece
 
@@ -205,10 +206,6 @@ pub heading_cut : (first : Bool) (n bytes : List ℕ) (a b : Option (List ℕ)) 
 heading_cut first n bytes a b some = subst (λ (l : List ℕ). GivesSome a b l) (headed first n bytes) (some_longer a b (heading n) (marked_lines first bytes) some)
 
 -- ---- causes
-
-rose_later : (a b c : ℕ) → a ≤ b → Rose b c → Rose a c
-rose_later a b c later (inl more) = inl (omega (arith, later, more))
-rose_later a b c later (inr last) = inr last
 
 -- of two calls, the first of which answered no fault
 pub causes_both : {X : Type 0} (r : Result X StepFault) (o o1 o2 d d1 d2 : ℕ) → o ≤ o1 → d ≤ d1 → PrintCauses r o1 o2 d1 d2 → PrintCauses r o o2 d d2

@@ -2,7 +2,7 @@
 use Rattle.std.proofs.Common.{◌≡◌, ℕ, ◌+◌, ◌<◌, ◌==◌, Bool, true, false, not, ◌&&◌, ◌||◌, List, [], ◌∷◌, ◌++◌, length, map, take, get_or, Option, refl, sym, ap, ◌∙◌, cond}
 use Rattle.std.specs.Bool.{beq}
 use Rattle.std.specs.List.{list_any}
-use Rattle.std.proofs.lemmas.Bool.{eqb-true}
+use Rattle.std.proofs.lemmas.Bool.{eqb-true, or_right}
 use Rattle.std.proofs.lemmas.List.{map_push}
 use Rattle.std.proofs.lemmas.List.Folds.{list_any-append, list_any_more}
 use Rattle.sccs_words.specs.Synopsis.{exclusions_of, options_of, find_option}
@@ -15,6 +15,7 @@ use Rattle.sccs_words.specs.declared.scanning.Use.{Use}
 use Rattle.sccs_words.specs.declared.tables.OptionSpec.{OptionSpec}
 use Rattle.sccs_words.specs.declared.tables.Utility.{Utility}
 use Rattle.sccs_words.proofs.FirstFaults.{longer}
+use Rattle.sccs_base.proofs.Bools.{left_true}
 
 known_alike : (utility : Utility) (a b : List UsedLetter) (one : Use) (option : Option OptionSpec) → SameLetters a b → known_fault utility a one option ≡ known_fault utility b one option
 known_alike utility a b one option same =
@@ -34,10 +35,6 @@ fault_alike utility a b one (Value bytes n) same = known_alike utility a b one (
 
 -- ---- a letter that is there already
 
-front : (a b : Bool) → (a && b) ≡ true → a ≡ true
-front true b is = refl
-front false b is = is
-
 abbrev pub lettered : ℕ → Bool → UsedLetter
 lettered letter bare = record { letter = letter; is_bare = bare }
 
@@ -46,14 +43,10 @@ none true is = absurd (let wrong : false ≡ true = is in cc)
 none false is = absurd (let wrong : false ≡ true = is in cc)
 
 same_is : (l m : ℕ) (x y : Bool) → (l == m && beq x y) ≡ true → lettered l x ≡ lettered m y
-same_is l m true true is = ap (λ (letter : ℕ). lettered letter true) (eqb-true l m (front (l == m) true is))
-same_is l m false false is = ap (λ (letter : ℕ). lettered letter false) (eqb-true l m (front (l == m) true is))
+same_is l m true true is = ap (λ (letter : ℕ). lettered letter true) (eqb-true l m (left_true (l == m) true is))
+same_is l m false false is = ap (λ (letter : ℕ). lettered letter false) (eqb-true l m (left_true (l == m) true is))
 same_is l m true false is = absurd (none (l == m) is)
 same_is l m false true is = absurd (none (l == m) is)
-
-either : (a b : Bool) → b ≡ true → (a || b) ≡ true
-either true b holds = refl
-either false b holds = holds
 
 there_any : (test : UsedLetter → Bool) (letters : List UsedLetter) (one : UsedLetter) → list_any (λ other. is_same other one) letters ≡ true → test one ≡ true → list_any test letters ≡ true
 there_any test [] one there holds = there
@@ -61,7 +54,7 @@ there_any test (x ∷ xs) one there holds = by (is_same x one) refl there (λ fo
   where
     by : (same : Bool) → is_same x one ≡ same → (same || list_any (λ other. is_same other one) xs) ≡ true → (list_any (λ other. is_same other one) xs ≡ true → list_any test xs ≡ true) → (test x || list_any test xs) ≡ true
     by true is found later = ap (λ (here : Bool). here || list_any test xs) (ap test (same_is x.letter one.letter x.is_bare one.is_bare is) ∙ holds)
-    by false is found later = either (test x) (list_any test xs) (later found)
+    by false is found later = or_right (test x) (list_any test xs) (later found)
 
 pub stays : (letters : List UsedLetter) (one : UsedLetter) → list_any (λ other. is_same other one) letters ≡ true → SameLetters letters (letters ++ one ∷ [])
 stays letters one there = λ test. by (list_any test letters) (test one) (there_any test letters one there) ∙ sym (list_any-append test letters (one ∷ []))

@@ -1,11 +1,11 @@
 -- What writing a header says, from its two calls.
-use Rattle.std.proofs.Common.{◌≡◌, ℕ, ◌≤◌, List, [], ◌++◌, option_map, Result, Ok, Err, OnOk, IsErrOf, inl, inr, refl, sym, ap, subst, ◌∙◌, append-nil, arith}
+use Rattle.std.proofs.Common.{◌≡◌, ℕ, ◌≤◌, List, [], ◌++◌, option_map, Result, Ok, Err, OnOk, IsErrOf, refl, sym, ap, subst, ◌∙◌, append-nil, arith}
 use Rattle.std.specs.Result.{IsErrAnd}
 use Rattle.std.proofs.lemmas.Result.{err_from_is_err_and}
 use Rattle.sccs_base.specs.Stream.{Rose}
 use Rattle.sccs_disk.specs.Told.{Told, seen}
 use Rattle.sccs_disk.specs.Effects.{appending, altered, appended}
-use Rattle.sccs_disk.specs.Calls.{IsThere, Writes}
+use Rattle.sccs_disk.specs.Calls.{Writes}
 use Rattle.sccs_disk.specs.declared.disks.DiskRefusal.{DiskRefusal}
 use Rattle.sccs_disk.specs.declared.disks.DiskRefusal.TheVariants as fault
 use Rattle.sccs_history.specs.declared.headers.Header.{Header}
@@ -15,11 +15,8 @@ use Rattle.sccs_writers.specs.OneFile.{OnlyWrites}
 use Rattle.sccs_writers.specs.Puts.{Appends, Puts, PutsText, Writer}
 use Rattle.sccs_writers.specs.HeaderBytes.{WritesHeader, header_bytes}
 use Rattle.sccs_writers.proofs.OneFile.{only_both}
-use Rattle.sccs_writers.proofs.PutLaws.{views_two, writes_only}
-
-rose_on : (f g h : ℕ) → f ≤ g → Rose g h → Rose f h
-rose_on f g h low (inl more) = inl (omega (arith, low, more))
-rose_on f g h low (inr last) = inr last
+use Rattle.sccs_writers.proofs.PutLaws.{views_two, writes_only, ok_puts}
+use Rattle.sccs_base.proofs.Rises.{rose_later}
 
 failed_of : {T : Type 0} (r : Result T DiskRefusal) → r ≡ Err fault.Failed → IsErrOf r fault.Failed
 failed_of r failed = subst (λ (s : Result _ DiskRefusal). IsErrOf s fault.Failed) (sym failed) refl
@@ -54,7 +51,7 @@ pub header_cut : {S T U : Type 0} (h : Header) (n : List ℕ) (s s2 : ℕ × ℕ
     → Writes (appending n (ended (sum_line 0))) a b f g p → PutsText (header_bytes h) (record { name = n; held = []; sums = s }) w2 b c g k q → WritesHeader h n s s2 a c f k r
 header_cut h n s s2 w2 a b c f g k p q r refusal is left writes puts =
     cut_by h n s s2 a c f k q r refusal is left (only_both n a b c (writes_only n (ended (sum_line 0)) a b f g p writes) puts.only) (omega (arith, writes.later, puts.later))
-    (λ failed. rose_on f g k writes.later (puts.cause failed))
+    (λ failed. rose_later f g k writes.later (puts.cause failed))
 
 all_added : (hb added held : List ℕ) → [] ++ hb ≡ added ++ held → held ≡ [] → added ≡ hb
 all_added hb added held split none = sym (append-nil added) ∙ (ap (λ (x : List ℕ). added ++ x) (sym none) ∙ sym split)
@@ -63,14 +60,11 @@ done_view : {S : Type 0} (n : List ℕ) (a b : Told) (f g : ℕ) (p : Result S D
 done_view n a b f g (Ok x) done is writes = writes.done.view
 done_view n a b f g (Err x) done is writes = absurd cc
 
-puts_of : {U : Type 0} (x : List ℕ) (w w2 : Writer) (a b : Told) (r : Result U DiskRefusal) (done : U) → r ≡ Ok done → OnOk r (Puts x w w2 a b) → Puts x w w2 a b
-puts_of x w w2 a b r done is puts = subst (λ (s : Result _ DiskRefusal). OnOk s (Puts x w w2 a b)) is puts
-
 -- both are appended
 pub header_whole : {S U : Type 0} (h : Header) (n : List ℕ) (s : ℕ × ℕ) (w2 : Writer) (a b c : Told) (f g k : ℕ) (p : Result S DiskRefusal) (q : Result U DiskRefusal) (done : S) (put : U) → p ≡ Ok done → q ≡ Ok put
     → Writes (appending n (ended (sum_line 0))) a b f g p → PutsText (header_bytes h) (record { name = n; held = []; sums = s }) w2 b c g k q → w2.held ≡ [] → WritesHeader {T = Unit {0}} h n s w2.sums a c f k (Ok tt)
 header_whole h n s w2 a b c f g k p q done put is so writes puts none =
-    let all : Puts (header_bytes h) (record { name = n; held = []; sums = s }) w2 b c = puts_of (header_bytes h) _ w2 b c q put so puts.ok in
+    let all : Puts (header_bytes h) (record { name = n; held = []; sums = s }) w2 b c = ok_puts (header_bytes h) _ w2 b c q put so puts.ok in
     let added : all.added ≡ header_bytes h = all_added (header_bytes h) all.added w2.held all.split none in
     record {
       ok = views_two n (ended (sum_line 0)) (header_bytes h) (seen a) (seen b) (seen c) (done_view n a b f g p done is writes) (subst (λ bytes. seen c ≡ option_map (altered n (appended bytes)) (seen b)) added all.file);

@@ -6,10 +6,9 @@ use Rattle.std.proofs.lemmas.List.Folds.{flat_map-map}
 use Rattle.sccs_sid.specs.Sid.{sid_text}
 use Rattle.sccs_sid.specs.Moment.{date_text, moment_text, time_text}
 use Rattle.sccs_history.specs.declared.headers.Record.{Record}
-use Rattle.sccs_history.specs.declared.headers.Flag.{Flag}
 use Rattle.sccs_history.specs.declared.headers.Header.{Header}
-use Rattle.sccs_tokens.specs.Written.{bytes_of, comment_line, counts_line, delta_line, delta_words, end_line, ended, entry_lines, five, flag_line, header_lines, kind_of, list_lines, mark, mr_line, spaced, sum_line, table_lines}
-use Rattle.sccs_writers.specs.HeaderBytes.{description_bytes, entry_bytes, flags_bytes, header_bytes, lists_bytes, table_bytes, texts_bytes, users_bytes}
+use Rattle.sccs_tokens.specs.Written.{bytes_of, comment_line, counts_line, delta_line, end_line, ended, entry_lines, five, flag_line, header_lines, kind_of, list_lines, mark, mr_line, spaced, table_lines}
+use Rattle.sccs_writers.specs.HeaderBytes.{description_bytes, entry_bytes, flags_bytes, header_bytes, table_bytes, users_bytes}
 
 -- ---- lines
 

@@ -1,7 +1,6 @@
 -- Texts that are put one after the other.
-use Rattle.std.proofs.Common.{◌≡◌, ℕ, ◌+◌, ◌≤◌, List, [], ◌++◌, ◌<◌, length, take, flat_map, get_or, Option, None, Some, option_map, Result, Ok, Err, OnOk, IsErrOf, inl, inr, refl, sym, ap, subst, ◌∙◌, append_assoc, add-one, arith}
+use Rattle.std.proofs.Common.{◌≡◌, ℕ, ◌+◌, List, [], ◌++◌, ◌<◌, length, take, flat_map, get_or, Option, None, Some, option_map, Result, Ok, Err, OnOk, IsErrOf, refl, sym, ap, subst, ◌∙◌, append_assoc, add-one, arith}
 use Rattle.std.proofs.lemmas.List.{append-nil}
-use Rattle.sccs_base.specs.Stream.{Rose}
 use Rattle.sccs_base.proofs.Gifts.{part_more}
 use Rattle.sccs_disk.specs.Files.{Content, View, put}
 use Rattle.sccs_disk.specs.Told.{Told, seen}
@@ -16,6 +15,7 @@ use Rattle.sccs_writers.specs.OneFile.{OnlyWrites}
 use Rattle.sccs_writers.proofs.OneFile.{only_none, only_both, only_done, only_half, only_same}
 use Rattle.sccs_table.specs.SumOf.{IsSumOf}
 use Rattle.sccs_writers.specs.Puts.{Writer, Puts, PutsText}
+use Rattle.sccs_base.proofs.Rises.{rose_later}
 
 -- ---- views
 
@@ -79,15 +79,11 @@ puts_both x y w w2 w3 a b c first second = record {
 
 -- ---- calls
 
-rose_later : (f g h : ℕ) → f ≤ g → Rose g h → Rose f h
-rose_later f g h low (inl more) = inl (omega (arith, low, more))
-rose_later f g h low (inr last) = inr last
-
 on_both : {T : Type 0} (x y : List ℕ) (w w2 w3 : Writer) (a b c : Told) (r : Result T DiskRefusal) → Puts x w w2 a b → OnOk r (Puts y w2 w3 b c) → OnOk r (Puts (x ++ y) w w3 a c)
 on_both x y w w2 w3 a b c (Ok done) first second = puts_both x y w w2 w3 a b c first second
 on_both x y w w2 w3 a b c (Err refusal) first second = tt
 
-ok_puts : {U : Type 0} (x : List ℕ) (w w2 : Writer) (a b : Told) (r : Result U DiskRefusal) (done : U) → r ≡ Ok done → OnOk r (Puts x w w2 a b) → Puts x w w2 a b
+pub ok_puts : {U : Type 0} (x : List ℕ) (w w2 : Writer) (a b : Told) (r : Result U DiskRefusal) (done : U) → r ≡ Ok done → OnOk r (Puts x w w2 a b) → Puts x w w2 a b
 ok_puts x w w2 a b r done is puts = subst (λ (s : Result _ DiskRefusal). OnOk s (Puts x w w2 a b)) is puts
 
 -- a text is put, and a further call puts more
@@ -104,7 +100,7 @@ text_both x y w w2 w3 a b c f g h q r done is first second = record {
 err_is : {A B : Type 0} (x y : DiskRefusal) (q : Result A DiskRefusal) → q ≡ Err x → (r : Result B DiskRefusal) → r ≡ Err x → r ≡ Err y → q ≡ Err y
 err_is x y q is r was so = cc
 
-on_err : {T : Type 0} (P : Type 0) (refusal : DiskRefusal) (r : Result T DiskRefusal) → r ≡ Err refusal → OnOk r P
+pub on_err : {T : Type 0} (P : Type 0) (refusal : DiskRefusal) (r : Result T DiskRefusal) → r ≡ Err refusal → OnOk r P
 on_err P refusal r is = subst (λ (s : Result _ DiskRefusal). OnOk s P) (sym is) tt
 
 -- a call that fails leaves a longer text unput

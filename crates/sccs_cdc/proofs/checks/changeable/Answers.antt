@@ -1,8 +1,8 @@
 use Rattle.std.proofs.Common.{refl}
 use Rattle.sccs_sid.specs.declared.refusals.Refusal.TheVariants.{NoSid, Unsupported}
 use Rattle.sccs_cdc.specs.CdcStep.{cdc_checks}
-use Rattle.sccs_cdc.proofs.CheckLaws.{refused_within}
 use Rattle.sccs_cdc.proofs.checks.changeable.Goals as goal
+use Rattle.sccs_pending.proofs.Preparing.{refused_within}
 
 pub returns-in_default-clause-checks : goal.returns-in_default-clause-checks
 returns-in_default-clause-checks c = refused_within cdc_checks NoSid refl

@@ -17,9 +17,10 @@ use Rattle.sccs_disk.specs.Images.{IsFirm}
 use Rattle.sccs_store.proofs.Working.{firm_after, leaves_from, made_moves, made_there, moves_then, written_touches}
 use Rattle.sccs_writers.proofs.OneFile.{only_both}
 use Rattle.sccs_grammar.specs.declared.faults.FileFault.TheVariants as faults
-use Rattle.sccs_copies.proofs.CopyLaws.{err_again, failed_as, fault_of, rose_from}
+use Rattle.sccs_copies.proofs.CopyLaws.{err_again, failed_as, fault_of}
 use Rattle.sccs_copies.proofs.ComingItems.{bytes_stay}
 use Rattle.sccs_copies.proofs.writing.write_sfile.Goals as goal
+use Rattle.sccs_base.proofs.Rises.{rose_later}
 
 pub append_x-requires-clause-there : goal.append_x-requires-clause-there
 append_x-requires-clause-there g c = made_there (x_file c.args.name.now) empty_file (g.D.Disk.told c.args.disk.now) (g.D.Disk.told c.start.new.disk) c.in_default.ensures.view
@@ -60,7 +61,7 @@ returns-in_err-sum-clause-frame g c =
       touches = written_touches (x_file c.args.name.now) (bytes_eq (x_file c.args.name.now)) _ (g.D.Disk.told c.start.new.disk) _ (g.met.D.Disk.sane c.start.new.disk) (λ k h. h) c.start.ensures.touches c.in_default.ensures.own c.in_err-sum.ensures.appends.only;
       firm = tt;
       later = omega (arith, c.in_default.ensures.causes.later, c.in_err-sum.ensures.appends.later);
-      cause = λ failed. rose_from _ _ _ c.in_default.ensures.causes.later (c.in_err-sum.ensures.appends.cause (err_again c.in_err-sum.field-0.0 faults.Failed _ _ refl refl failed));
+      cause = λ failed. rose_later _ _ _ c.in_default.ensures.causes.later (c.in_err-sum.ensures.appends.cause (err_again c.in_err-sum.field-0.0 faults.Failed _ _ refl refl failed));
     })
 
 pub returns-in-Ok-clause-frame : goal.returns-in-Ok-clause-frame
@@ -82,5 +83,5 @@ returns-in-Err-finish_x-clause-frame g c = record {
       (only_both (x_file c.args.name.now) _ (g.D.Disk.told c.append_x.new.disk) _ c.in_ok-sum.ensures.appends.only c.finish_x.ensures.only);
   firm = tt;
   later = omega (arith, c.in_default.ensures.causes.later, c.in_ok-sum.ensures.appends.later, c.finish_x.ensures.causes.later);
-  cause = λ failed. rose_from _ _ _ (omega (arith, c.in_default.ensures.causes.later, c.in_ok-sum.ensures.appends.later)) (c.finish_x.ensures.causes.cause (failed_as c.finish_x.result c.in-Err-finish_x.refusal c.in-Err-finish_x.is (sym c.file_fault-in-Err-finish_x.ensures ∙ fault_of c.file_fault-in-Err-finish_x.result faults.Failed failed)));
+  cause = λ failed. rose_later _ _ _ (omega (arith, c.in_default.ensures.causes.later, c.in_ok-sum.ensures.appends.later)) (c.finish_x.ensures.causes.cause (failed_as c.finish_x.result c.in-Err-finish_x.refusal c.in-Err-finish_x.is (sym c.file_fault-in-Err-finish_x.ensures ∙ fault_of c.file_fault-in-Err-finish_x.result faults.Failed failed)));
 }

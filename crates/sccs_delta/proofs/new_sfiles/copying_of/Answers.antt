@@ -1,4 +1,4 @@
-use Rattle.std.proofs.Common.{[], IfOk, List, Result, ap, sym, ◌∙◌, refl}
+use Rattle.std.proofs.Common.{refl}
 use Rattle.sccs_splicer.specs.Splices.{new_splice}
 use Rattle.sccs_delta.proofs.WriteLaws.{copy_begun}
 use Rattle.sccs_delta.proofs.new_sfiles.copying_of.Goals as goal

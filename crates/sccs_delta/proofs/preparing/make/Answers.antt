@@ -1,5 +1,5 @@
 use Rattle.std.proofs.lemmas.Result.{err_from_is_err_and}
-use Rattle.std.proofs.Common.{[], refl, ◌∙◌}
+use Rattle.std.proofs.Common.{[], refl}
 use Rattle.sccs_edits.specs.Places.{told_behind}
 use Rattle.sccs_splicer.specs.Splices.{items_owed}
 use Rattle.sccs_files.specs.StepFiles.{is_working}

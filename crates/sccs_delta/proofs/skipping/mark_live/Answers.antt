@@ -2,8 +2,9 @@ use Rattle.std.proofs.Common.{◌&&◌, ◌||◌, not, false, slice_index_or, re
 use Rattle.std.specs.List.{list_any}
 use Rattle.std.proofs.lemmas.List.{at_drop_all}
 use Rattle.sccs_delta.specs.DeltaStep.{is_on_trunk}
-use Rattle.sccs_delta.proofs.SkippedLaws.{marked_on, or_none}
+use Rattle.sccs_delta.proofs.SkippedLaws.{marked_on}
 use Rattle.sccs_delta.proofs.skipping.mark_live.Goals as goal
+use Rattle.sccs_base.proofs.Bools.{or_none}
 
 pub loop-record-init : goal.loop-record-init
 loop-record-init c = (refl, λ n lt. refl)

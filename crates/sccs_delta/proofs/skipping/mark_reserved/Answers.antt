@@ -3,8 +3,9 @@ use Rattle.std.specs.List.{list_any}
 use Rattle.std.proofs.lemmas.List.{at_drop_all}
 use Rattle.sccs_sid.specs.declared.sids.Sid.{Sid}
 use Rattle.sccs_delta.specs.DeltaStep.{is_on_trunk}
-use Rattle.sccs_delta.proofs.SkippedLaws.{marked_on, or_none}
+use Rattle.sccs_delta.proofs.SkippedLaws.{marked_on}
 use Rattle.sccs_delta.proofs.skipping.mark_reserved.Goals as goal
+use Rattle.sccs_base.proofs.Bools.{or_none}
 
 pub loop-sid-init : goal.loop-sid-init
 loop-sid-init c = (refl, λ n lt. refl)

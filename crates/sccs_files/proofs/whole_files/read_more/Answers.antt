@@ -1,4 +1,4 @@
-use Rattle.std.proofs.Common.{◌≡◌, ℕ, ◌∙◌, sym, ap, subst, arith, length, take, drop}
+use Rattle.std.proofs.Common.{◌∙◌, sym, ap, arith, length, take}
 use Rattle.sccs_disk.specs.Told.{seen}
 use Rattle.sccs_files.proofs.WholeFileLaws.{all_read, one_more_piece, read_piece, too_much}
 use Rattle.sccs_files.proofs.whole_files.read_more.Goals as goal

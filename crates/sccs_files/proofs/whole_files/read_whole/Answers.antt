@@ -1,4 +1,4 @@
-use Rattle.std.proofs.Common.{◌≡◌, Ok, Err, Some, arith, sym, subst, ap, ◌∙◌}
+use Rattle.std.proofs.Common.{Ok, Err, arith, subst, ap, ◌∙◌}
 use Rattle.sccs_disk.specs.Reads.{Measures}
 use Rattle.sccs_disk.specs.Told.{seen}
 use Rattle.sccs_files.specs.WholeFiles.{ReadsToEnd, file_bytes}

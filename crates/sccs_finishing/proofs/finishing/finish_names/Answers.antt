@@ -1,6 +1,5 @@
-use Rattle.std.proofs.Common.{◌≡◌, Err, Result, subst, ℕ}
+use Rattle.std.proofs.Common.{◌≡◌, Err, subst}
 use Rattle.sccs_disk.specs.Told.{Told}
-use Rattle.sccs_steps.specs.declared.faults.Fault.{Fault}
 use Rattle.sccs_steps.specs.declared.faults.Fault.TheVariants as ends
 use Rattle.sccs_finishing.specs.Ends.{FinishEnds, FinishOthers}
 use Rattle.sccs_finishing.proofs.FreedNames.{causes_after, cut_same, given_ok, others_same}

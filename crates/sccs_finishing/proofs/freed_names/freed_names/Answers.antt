@@ -1,4 +1,4 @@
-use Rattle.std.proofs.Common.{◌≡◌, Err, IfSome, List, Ok, subst, ℕ}
+use Rattle.std.proofs.Common.{Err, IfSome, List, Ok, subst, ℕ}
 use Rattle.sccs_disk.specs.Files.{View}
 use Rattle.sccs_disk.specs.Told.{seen}
 use Rattle.sccs_files.specs.WholeFiles.{AnswersWhole}

@@ -1,8 +1,8 @@
 use Rattle.std.proofs.Common.{true, subst}
 use Rattle.std.specs.BTreeSet.{Updates}
-use Rattle.sccs_grammar.specs.HeldTable.{four_cmp}
 use Rattle.sccs_grammar.proofs.TableSets.{sids_more}
 use Rattle.sccs_grammar.proofs.live_sids.with_listed.Goals as goal
+use Rattle.sccs_sid.specs.FourNumbers.{four_cmp}
 
 pub returns-in-Ok : goal.returns-in-Ok
 returns-in-Ok c = λ table has_all.

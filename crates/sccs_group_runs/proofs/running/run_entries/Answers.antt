@@ -1,5 +1,4 @@
-use Rattle.std.proofs.Common.{ℕ, ◌<◌, List, Ok, Err, inl, inr, refl, sym, ap, subst, ◌∙◌}
-use Rattle.sccs_sid.specs.declared.refusals.StepFault.{StepFault}
+use Rattle.std.proofs.Common.{ℕ, List, Ok, Err, refl, subst}
 use Rattle.sccs_sid.specs.declared.refusals.StepFault.TheVariants as step
 use Rattle.sccs_steps.specs.Calls.{scene}
 use Rattle.sccs_steps.specs.Messages.{Concludes}

@@ -1,4 +1,4 @@
-use Rattle.std.proofs.Common.{ℕ, List, [], Option, Some, Result, Ok, Err, refl, sym, ap, subst, ◌∙◌}
+use Rattle.std.proofs.Common.{[], Some, Ok, sym, ap, subst, ◌∙◌}
 use Rattle.sccs_courses.specs.QuietSettings.{quiet}
 use Rattle.sccs_steps.specs.Calls.{scene}
 use Rattle.sccs_group_words.specs.GroupText.{group_of}

@@ -1,7 +1,5 @@
 use Rattle.std.proofs.Common.{ℕ, List, ◌++◌, codes, subst, ◌∙◌}
 use Rattle.sccs_base.specs.Causes.{GivesText}
-use Rattle.sccs_group_runs.proofs.GroupRuns.{entries_to}
-use Rattle.sccs_group_runs.proofs.GroupStops.{broken_moments}
 use Rattle.sccs_group_runs.proofs.running.write_bad.Goals as goal
 
 pub returns : goal.returns

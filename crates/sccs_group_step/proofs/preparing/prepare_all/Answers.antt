@@ -11,9 +11,10 @@ use Rattle.sccs_group_step.proofs.Losing.{loses_back, loses_next, same_loses}
 use Rattle.sccs_group_step.specs.declared.entries.PreparedEntry.{PreparedEntry}
 use Rattle.sccs_group_step.proofs.Backs.{added_at, given_up_at}
 use Rattle.sccs_group_step.proofs.SoFars.{SoFar, all_prepared, none_yet}
-use Rattle.sccs_group_step.proofs.Turns.{fits_sfile, front_at, given_up_causes, item_at, named_added, names_added, names_whole}
+use Rattle.sccs_group_step.proofs.Turns.{front_at, given_up_causes, item_at, named_added, names_added, names_whole}
 use Rattle.sccs_group_step.proofs.Speaking.{could_back_all, could_next}
 use Rattle.sccs_group_step.proofs.preparing.prepare_all.Goals as goal
+use Rattle.sccs_transactions.specs.Utilities.{is_sfile}
 
 pub loop-entry-init : goal.loop-entry-init
 loop-entry-init g c = record {
@@ -34,7 +35,7 @@ loop-entry-preserved g c =
     let before = c.loop-entry.invariant.later in
     let now = c.add_entry.ensures.causes.later in
     record {
-      told = λ plain. added_at c.args.stamp.now c.args.entries.now c.loop-entry.entry-index c.loop-entry.made c.add_entry.new.made c.entry-item.result _ _ _ _ (fits_sfile c.entry-item.result.name) c.requires.different plain at more (c.loop-entry.invariant.told plain) c.in-Ok.ensures.told;
+      told = λ plain. added_at c.args.stamp.now c.args.entries.now c.loop-entry.entry-index c.loop-entry.made c.add_entry.new.made c.entry-item.result _ _ _ _ (is_sfile c.entry-item.result.name) c.requires.different plain at more (c.loop-entry.invariant.told plain) c.in-Ok.ensures.told;
       names = names_added c.args.entries.now c.loop-entry.entry-index c.entry-item.result c.loop-entry.made c.add_entry.new.made _ _ c.in-Ok.ensures.added more c.loop-entry.invariant.names;
       named = named_added c.entry-item.result.name c.loop-entry.made c.add_entry.new.made _ _ c.in-Ok.ensures.added c.loop-entry.invariant.named;
       firm = firm_added c.args.entries.now c.loop-entry.entry-index c.entry-item.result c.loop-entry.made c.add_entry.new.made (is_any_left (names_of c.args.entries.now)) _ _ _ c.requires.different at c.loop-entry.invariant.names c.loop-entry.invariant.named c.loop-entry.invariant.touches c.add_entry.ensures.touches c.in-Ok.ensures.added c.loop-entry.invariant.firm;
@@ -66,7 +67,7 @@ abandon_all-fault-requires g c =
 pub returns-in-Err-clause-told : goal.returns-in-Err-clause-told
 returns-in-Err-clause-told g c = λ plain.
     let at = item_at c.args.entries.now c.loop-entry.entry-index c.entry-item.result c.loop-entry-test.true c.entry-item.is in
-    given_up_at c.args.stamp.now c.args.entries.now c.loop-entry.entry-index c.loop-entry.made c.add_entry.new.made c.entry-item.result c.in-Err.fault c.abandon_all-fault.result _ _ _ _ (fits_sfile c.entry-item.result.name) c.requires.different plain at (c.loop-entry.invariant.told plain) c.in-Err.ensures.told
+    given_up_at c.args.stamp.now c.args.entries.now c.loop-entry.entry-index c.loop-entry.made c.add_entry.new.made c.entry-item.result c.in-Err.fault c.abandon_all-fault.result _ _ _ _ (is_sfile c.entry-item.result.name) c.requires.different plain at (c.loop-entry.invariant.told plain) c.in-Err.ensures.told
     (subst (λ (l : List PreparedEntry). GivesAllBack c.abandon_all-fault.result c.in-Err.fault (made_names l) (seen (g.D.Disk.told c.add_entry.new.disk)) (seen (g.D.Disk.told c.abandon_all-fault.new.disk))) (c.items.ensures ∙ c.in-Err.ensures.same) c.abandon_all-fault.ensures.gives_back)
 
 pub returns-in-Err-clause-causes : goal.returns-in-Err-clause-causes

@@ -1,4 +1,4 @@
-use Rattle.std.proofs.Common.{◌≡◌, ◌≤◌, ℕ, ◌+◌, ◌-◌, List, ap, sym, subst, ◌∙◌, drop, take, length, Option, None, Some, IfSome, Result, Ok, Err, arith, refl}
+use Rattle.std.proofs.Common.{◌≤◌, ℕ, ◌+◌, ◌-◌, List, ap, sym, subst, ◌∙◌, drop, take, length, Option, IfSome, Result, Ok, Err, arith}
 use Rattle.std.proofs.Math.ListN.{drop_of_length-le}
 use Rattle.std.proofs.lemmas.List.{take_rest}
 use Rattle.sccs_group_words.specs.GroupText.{AddsEntry, ReadsGroup, entry_at, group_from, group_of, some_of}

@@ -1,11 +1,11 @@
 use Rattle.std.proofs.Common.{true, sym, subst, ap, ◌∙◌}
 use Rattle.std.specs.BTreeSet.{contains, Updates}
-use Rattle.sccs_grammar.specs.HeldTable.{four_cmp}
 use Rattle.sccs_grammar.specs.SidKeys.{sid_key}
 use Rattle.sccs_pfile.specs.declared.makers.Makers.{Makers}
 use Rattle.sccs_pfile.proofs.MadeSidLaws.{first_maker, one_more_maker}
 use Rattle.sccs_pfile.proofs.makers.with_entry.Goals as goal
 use Rattle.sccs_pfile.proofs.makers.with_entry.Goals.{then-contains+in_ok-insert, else-contains+in_ok-insert-2}
+use Rattle.sccs_sid.specs.FourNumbers.{four_cmp}
 
 pub returns : goal.returns
 returns c = λ before has.

@@ -1,7 +1,8 @@
 use Rattle.std.proofs.Common.{◌+◌, ap, sym, ◌∙◌, arith}
 use Rattle.sccs_pfile.specs.Reading.{entries_at}
-use Rattle.sccs_pfile.proofs.Turns.{all_read, behind_edits, no_bytes, one_before, starts, valid_none, valid_push}
+use Rattle.sccs_pfile.proofs.Turns.{all_read, behind_edits, one_before, starts, valid_none, valid_push}
 use Rattle.sccs_pfile.proofs.reading.read_edits.Goals as goal
+use Rattle.sccs_base.proofs.SameBytes.{no_bytes}
 
 pub lines-init : goal.lines-init
 lines-init c = record {

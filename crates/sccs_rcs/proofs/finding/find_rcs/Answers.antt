@@ -1,4 +1,4 @@
-use Rattle.std.proofs.Common.{Err, Ok, ◌∙◌, subst, sym}
+use Rattle.std.proofs.Common.{Err, Ok, subst, sym}
 use Rattle.sccs_disk.specs.Told.{seen}
 use Rattle.sccs_admin.proofs.StepLaws.{exit_is}
 use Rattle.sccs_rcs.specs.Parts.{FindsRcs, IsFresh}

@@ -1,4 +1,4 @@
-use Rattle.std.proofs.Common.{length, ◌<◌, ◌≤◌}
+use Rattle.std.proofs.Common.{length, ◌≤◌}
 use Rattle.std.specs.List.{AllByRecursion}
 use Rattle.sccs_history.specs.History.{HasSpelling}
 use Rattle.sccs_trunks.specs.TrunkHistories.{IsRevision}

@@ -1,4 +1,4 @@
-use Rattle.std.proofs.Common.{Ok, Err, IfSome, subst}
+use Rattle.std.proofs.Common.{IfSome, subst}
 use Rattle.sccs_disk.specs.Files.{View}
 use Rattle.sccs_disk.specs.Told.{Told, seen}
 use Rattle.sccs_intents.specs.Intents.{intent_file}

@@ -1,7 +1,6 @@
-use Rattle.std.proofs.Common.{◌≡◌, ℕ, Ok, Err, ap, subst, sym, ◌∙◌}
-use Rattle.sccs_sid.specs.declared.refusals.Refusal.TheVariants.{BadPfile}
+use Rattle.std.proofs.Common.{Ok, ap, sym, ◌∙◌}
 use Rattle.sccs_pfile.specs.Reading.{edits_of}
-use Rattle.sccs_recovery.specs.Checks.{readable, table_in}
+use Rattle.sccs_recovery.specs.Checks.{table_in}
 use Rattle.sccs_recovery.proofs.ReadingLaws.{finds_edits, finds_line, finds_none}
 use Rattle.sccs_recovery.proofs.readings.left_of_bytes.Goals as goal
 

@@ -1,4 +1,4 @@
-use Rattle.std.proofs.Common.{List, Option, Some, ap, sym, ◌∙◌}
+use Rattle.std.proofs.Common.{List, ap, sym, ◌∙◌}
 use Rattle.sccs_history.specs.declared.headers.Record.{Record}
 use Rattle.sccs_soak.specs.Summaries.{newest_trunk}
 use Rattle.sccs_soak.proofs.SummaryLaws.{trunk_lives}

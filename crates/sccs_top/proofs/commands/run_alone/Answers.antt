@@ -1,4 +1,4 @@
-use Rattle.std.proofs.Common.{None, Some, ap, sym, ◌∙◌}
+use Rattle.std.proofs.Common.{Some, ap, sym, ◌∙◌}
 use Rattle.sccs_steps.specs.Settings.{setting_of}
 use Rattle.sccs_top.specs.Runs.{caller_by}
 use Rattle.sccs_top.specs.declared.commands.GroupUse.{GroupUse}

@@ -1,4 +1,4 @@
-use Rattle.std.proofs.Common.{◌∷◌, ◌++◌, ap}
+use Rattle.std.proofs.Common.{ap}
 use Rattle.sccs_tokens.specs.Written.{ended, mr_line}
 use Rattle.sccs_writers.proofs.PutLaws.{list_cut, list_put, puts_nothing, same_text, still_there}
 use Rattle.sccs_writers.proofs.header_writers.put_mrs.Goals as goal

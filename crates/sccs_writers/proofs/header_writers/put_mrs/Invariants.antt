@@ -1,4 +1,4 @@
-use Rattle.std.proofs.Common.{take, flat_map, Ok, ◌∷◌, ◌++◌}
+use Rattle.std.proofs.Common.{take, flat_map, Ok}
 use Rattle.sccs_tokens.specs.Written.{ended, mr_line}
 use Rattle.sccs_writers.specs.Puts.{PutsText}
 use Rattle.sccs_writers.proofs.header_writers.put_mrs.Given as goal

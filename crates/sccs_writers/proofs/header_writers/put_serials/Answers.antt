@@ -1,4 +1,4 @@
-use Rattle.std.proofs.Common.{[], ◌∷◌, ◌++◌, ◌∙◌, ap, get_or, refl, append-nil}
+use Rattle.std.proofs.Common.{◌∷◌, ◌∙◌, ap, get_or, refl, append-nil}
 use Rattle.std.specs.Prelude.{decimal}
 use Rattle.sccs_writers.proofs.PutLaws.{list_cut, list_put, puts_nothing, same_text, still_there}
 use Rattle.sccs_writers.proofs.header_writers.put_serials.Goals as goal

@@ -1,4 +1,4 @@
-use Rattle.std.proofs.Common.{take, flat_map, Ok, ◌∷◌, ◌++◌}
+use Rattle.std.proofs.Common.{take, flat_map, Ok, ◌∷◌}
 use Rattle.std.specs.Prelude.{decimal}
 use Rattle.sccs_writers.specs.Puts.{PutsText}
 use Rattle.sccs_writers.proofs.header_writers.put_serials.Given as goal

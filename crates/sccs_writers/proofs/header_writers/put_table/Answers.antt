@@ -1,4 +1,3 @@
-use Rattle.std.proofs.Common.{◌∷◌, ◌++◌}
 use Rattle.sccs_writers.specs.HeaderBytes.{entry_bytes}
 use Rattle.sccs_writers.proofs.PutLaws.{list_cut, list_put, puts_nothing, still_there}
 use Rattle.sccs_writers.proofs.header_writers.put_table.Goals as goal

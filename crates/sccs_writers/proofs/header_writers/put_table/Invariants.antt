@@ -1,4 +1,4 @@
-use Rattle.std.proofs.Common.{take, flat_map, Ok, ◌∷◌, ◌++◌}
+use Rattle.std.proofs.Common.{take, flat_map, Ok}
 use Rattle.sccs_writers.specs.HeaderBytes.{entry_bytes}
 use Rattle.sccs_writers.specs.Puts.{PutsText}
 use Rattle.sccs_writers.proofs.header_writers.put_table.Given as goal

@@ -7,8 +7,9 @@ use Rattle.sccs_files.specs.StepFiles.{is_working}
 use Rattle.sccs_images.proofs.Touched.{only_wider}
 use Rattle.sccs_moments.proofs.FileNames.{no_x}
 use Rattle.sccs_store.proofs.Working.{same_touches, touches_from}
-use Rattle.sccs_admin.proofs.StopLaws.{firm_still, text_settles}
+use Rattle.sccs_admin.proofs.StopLaws.{text_settles}
 use Rattle.sccs_admin.proofs.admins.AdminChange.prepare.Goals as goal
+use Rattle.sccs_pending.proofs.StopLaws.{firm_still}
 
 pub returns-in-Ok-clause-prepares : goal.returns-in-Ok-clause-prepares
 returns-in-Ok-clause-prepares g c = λ err.

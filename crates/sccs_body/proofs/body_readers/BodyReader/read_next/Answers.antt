@@ -3,18 +3,19 @@ use Rattle.std.specs.Prelude.{IfSome}
 use Rattle.sccs_disk.specs.Told.{seen}
 use Rattle.sccs_history.specs.Body.{is_over}
 use Rattle.sccs_history.specs.Numbers.{is_empty}
-use Rattle.sccs_tokens.specs.Items.{item_at}
 use Rattle.sccs_table.specs.ReaderState.{bytes_in}
 use Rattle.sccs_table.proofs.ReaderLaws.{same_file}
 use Rattle.sccs_body.specs.ItemsRead.{IsFormatAt}
 use Rattle.sccs_body.specs.Reader.{BodyPlace, number_of_line}
-use Rattle.sccs_body.proofs.ItemLaws.{seen_gives, seen_behind, takes_line_at, end_fault, end_gives, item_gives, fault_gives, over_from, some_taken, none_taken}
+use Rattle.sccs_body.proofs.ItemLaws.{seen_gives, seen_behind, end_fault, end_gives, item_gives, fault_gives, some_taken, none_taken}
 use Rattle.sccs_body.proofs.body_readers.BodyReader.read_next.Goals as goal
+use Rattle.sccs_base.proofs.Bools.{left_true}
+use Rattle.sccs_table.proofs.FrontLaws.{takes_line_at}
 
 pub returns-then-ends_with-clause-goes : goal.returns-then-ends_with-clause-goes
 returns-then-ends_with-clause-goes g c = λ live before behind.
     let knows = seen_behind live before (record { lines = c.self.inside.lines; state = c.self.inside.state; first = c.self.inside.first; from = c.self.inside.from }) c.args.self.now c.self.view_is behind in
-    over_from (is_over before) (is_empty c.as_slice.result.now) (sym (c.ends_with.ensures live before knows) ∙ c.if-ends_with.true)
+    left_true (is_over before) (is_empty c.as_slice.result.now) (sym (c.ends_with.ensures live before knows) ∙ c.if-ends_with.true)
 
 pub returns-then-ends_with-clause-told : goal.returns-then-ends_with-clause-told
 returns-then-ends_with-clause-told g c = λ live before behind.

@@ -1,7 +1,5 @@
 use Rattle.std.proofs.lemmas.Result.{err_from_is_err_and}
-use Rattle.std.proofs.Common.{◌≡◌, ℕ, Ok, Err, refl, sym, subst}
-use Rattle.sccs_disk.specs.Told.{Told}
-use Rattle.sccs_sid.specs.declared.refusals.Refusal.{Refusal}
+use Rattle.std.proofs.Common.{ℕ, Ok, Err, refl, sym, subst}
 use Rattle.sccs_steps.specs.Actions.{SteppedAs}
 use Rattle.sccs_steps.specs.Calls.{scene}
 use Rattle.sccs_steps.proofs.ReadingMoments.{quiet_speaks, reading_moments_as}
