@@ -8,6 +8,10 @@
 LC_ALL=C
 export LC_ALL
 
+# the login, where the environment has none, as in a container
+[ -n "${LOGNAME:-}" ] || LOGNAME=$(id -un 2>/dev/null) || LOGNAME=
+export LOGNAME
+
 # the program: SCCS_CORE, that of the installation, or the one of the clone in which this file stands
 case $here in /*) ;; *) here=$PWD/$here ;; esac
 core=${SCCS_CORE:-$here/../../bin/sccs-core}
