@@ -22,6 +22,9 @@ const PLACE_ROOM: usize = 4096;
 // a folder that may always be opened
 const ROOT: &str = "/";
 
+// the word of the environment that names the folder of stored files
+const STORED: &str = "SCCS_FOLDER";
+
 // how the program ends
 #[derive(Clone, Copy, Debug, PartialEq, Eq)]
 enum End {
@@ -96,16 +99,52 @@ fn login_of(rt: &impl Env) -> Login {
     }
 }
 
-// the current folder's path
-fn place_of(rt: &impl Env, alloc: Global) -> Result<Line, End> {
-    let mut buffer = [0; PLACE_ROOM];
-    let Ok(n) = rt.current_dir(&mut buffer) else {
-        return Err(End::NoPlace);
-    };
-    match Line::new(alloc, &buffer[..n]) {
+// a path that is known as a place
+fn place(alloc: Global, path: &[u8]) -> Result<Line, End> {
+    match Line::new(alloc, path) {
         Ok(line) => Ok(line),
         Err(MakeFault::Unfit) => Err(End::NoPlace),
         Err(MakeFault::Memory) => Err(End::Memory),
+    }
+}
+
+// the path of the folder of stored files, as the environment names it; no bytes where that is the current one
+fn stored_of(rt: &impl Env, alloc: Global) -> Result<Bytes, End> {
+    let mut buffer = [0; PLACE_ROOM];
+    let n = match rt.var(STORED, &mut buffer) {
+        Ok(n) => n,
+        Err(FillError::NotPresent) => 0,
+        Err(FillError::TooLong) => return Err(End::NoPlace),
+    };
+    Bytes::new(alloc, &buffer[..n]).or(Err(End::Memory))
+}
+
+// the whole path of a folder that can be entered
+fn entered(rt: &HostRuntime, alloc: Global, path: &[u8]) -> Result<Line, End> {
+    let Ok(path) = std::str::from_utf8(path) else {
+        return Err(End::NoPlace);
+    };
+    let Ok(inside) = format!(in alloc; "{path}/.") else {
+        return Err(End::Memory);
+    };
+    let (Ok(_), Ok(whole)) = (
+        fs::metadata(rt, inside.as_str()),
+        fs::canonicalize(&(rt, alloc), path),
+    ) else {
+        return Err(End::NoPlace);
+    };
+    place(alloc, whole.as_str().as_bytes())
+}
+
+// the path of the folder of stored files, as it is told
+fn place_of(rt: &HostRuntime, alloc: Global, stored: &Bytes) -> Result<Line, End> {
+    if !stored.bytes().is_empty() {
+        return entered(rt, alloc, stored.bytes());
+    }
+    let mut buffer = [0; PLACE_ROOM];
+    match rt.current_dir(&mut buffer) {
+        Ok(n) => place(alloc, &buffer[..n]),
+        Err(_) => Err(End::NoPlace),
     }
 }
 
@@ -121,12 +160,13 @@ fn serve(rt: HostRuntime) -> Result<Answer, End> {
     let words = words_of(&rt, alloc)?;
     let moment = moment_of(&rt)?;
     let login = login_of(&rt);
-    let place = place_of(&rt, alloc)?;
+    let stored = stored_of(&rt, alloc)?;
+    let place = place_of(&rt, alloc, &stored)?;
     let stamp = Stamp { moment, login };
     let mut input = StdSource::new(rt.stdin());
     let mut out = StdSink::new(rt.stdout());
     let mut err = StdErrSink::new(rt.stderr());
-    let Ok(mut disk) = FolderDisk::new(alloc, rt) else {
+    let Ok(mut disk) = FolderDisk::with_stored(alloc, rt, stored.bytes()) else {
         return Err(End::Memory);
     };
     Ok(run(

@@ -2,13 +2,15 @@ ghost use Rattle.std.specs.Prelude.{◌≡◌, ◌≤◌, IfOk, OnErr, IsErrOf};
 ghost use Rattle.sccs_base.specs.Stream.{Rose};
 ghost use Rattle.sccs_disk.specs.Told.{Nothing};
 
+use crate::folder_turns::Turn;
 use crate::folders::Folder;
 use sccs_base::{Failed, Memory, Name, Names, one_more};
 use sccs_disk::{Creation, Disk, DiskRefusal};
 use std::alloc::Global;
 use std::rt::Files;
 
-/// The current folder as a disk. It tells nothing of its files, and counts its failures.
+/// The current folder as a disk; the stored files may stand in one of their own. It tells nothing of its files, and counts
+/// its failures.
 #[derive(Drop)]
 pub struct FolderDisk<R: Files> {
     folder: Folder<R>,
@@ -17,26 +19,35 @@ pub struct FolderDisk<R: Files> {
 
 impl<R: Files> FolderDisk<R>
 where
-    R::File: Drop,
+    R::File: Turn + Drop,
 {
-    /// It has not failed yet.
+    /// All files stand in the current folder. It has not failed yet.
     pub fn new(alloc: Global, rt: R) -> Result<FolderDisk<R>, Memory>
     where
         R: Drop,
         ensures { IfOk result (λ d. d.faults ≡ 0) }
     {
+        FolderDisk::with_stored(alloc, rt, &[])
+    }
+
+    /// The stored files stand in the folder of a path, all others in the current one. It has not failed yet.
+    pub fn with_stored(alloc: Global, rt: R, path: &[u8]) -> Result<FolderDisk<R>, Memory>
+    where
+        R: Drop,
+        ensures { IfOk result (λ d. d.faults ≡ 0) }
+    {
         Ok(FolderDisk {
-            folder: Folder::new(alloc, rt)?,
+            folder: Folder::new(alloc, rt, path)?,
             faults: 0,
         })
     }
 
-    // counts a failure, and closes the files that are open
+    // counts a failure; what was begun and not yet committed goes
     fn fail(&mut self)
         ensures later { self.old.faults ≤ self.new.faults }
         ensures rose { Rose self.old.faults self.new.faults }
     {
-        self.folder.close();
+        self.folder.give_up();
         self.faults = one_more(self.faults);
     }
 
@@ -50,11 +61,22 @@ where
         }
         made
     }
+
+    // the same of a call that takes memory
+    fn counted_refusal<T>(&mut self, made: Result<T, DiskRefusal>) -> Result<T, DiskRefusal>
+        ensures later { self.old.faults ≤ self.new.faults }
+        ensures cause { result ≡ Err DiskRefusal.Failed → Rose self.old.faults self.new.faults }
+    {
+        if let Err(DiskRefusal::Failed) = made {
+            self.fail();
+        }
+        made
+    }
 }
 
 impl<R: Files + Clone + Drop> Disk for FolderDisk<R>
 where
-    R::File: Drop,
+    R::File: Turn + Drop,
 {
     ghost use Rattle.sccs_disk.specs.FolderTold.{never_tells, never_shows};
 
@@ -93,7 +115,7 @@ where
 
     fn create(&mut self, name: &Name) -> Result<Creation, DiskRefusal> {
         let made = self.folder.create(name);
-        Ok(self.counted(made)?)
+        self.counted_refusal(made)
     }
 
     fn append(&mut self, name: &Name, bytes: &[u8]) -> Result<(), DiskRefusal> {
@@ -133,9 +155,6 @@ where
 
     fn list(&mut self, alloc: Global) -> Result<Names, DiskRefusal> {
         let listed = self.folder.list(alloc);
-        if let Err(DiskRefusal::Failed) = listed {
-            self.fail();
-        }
-        listed
+        self.counted_refusal(listed)
     }
 }

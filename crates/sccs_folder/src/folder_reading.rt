@@ -7,6 +7,7 @@ use std::fs;
 use std::fs::{Metadata, OpenFile};
 use std::io::{ErrorKind, Read, Seek, SeekFrom};
 use std::mem::swap;
+use std::os::unix::fs::MetadataExt;
 use std::rt::Files;
 
 // how many bytes one read of the system asks for
@@ -17,9 +18,10 @@ const READ_AHEAD: usize = 131_072;
 struct OpenFor<F> {
     name: Name,
     file: F,
-    // where the file's next reading begins, and whether the file ended there
+    // what it was when it was opened; it is read to the length that it had then
+    metadata: Metadata,
+    // where the file's next reading begins
     place: u64,
-    ended: bool,
     // the place of the first byte that was read ahead, and how many were
     from: u64,
     count: usize,
@@ -40,12 +42,36 @@ pub struct FolderReader<F> {
     other: Reading<F>,
 }
 
-/// What stands under a name, where that is a regular file; None where the name isn't there. What is
-/// no regular file has failed, and is never opened, since opening could wait for another program.
-pub fn regular<R: Files>(rt: &R, name: &Name) -> Result<Option<Metadata>, Failed> {
-    match fs::metadata(rt, name.text()) {
+/// Whether two pieces of metadata are of one file.
+pub fn is_at(there: &Metadata, held: &Metadata) -> bool {
+    there.dev() == held.dev() && there.ino() == held.ino()
+}
+
+/// What stands at a path, where that is a regular file; None where nothing does. What is no regular file has failed, and
+/// is never opened, since opening could wait for another program.
+pub fn regular<R: Files>(rt: &R, path: &str) -> Result<Option<Metadata>, Failed> {
+    match fs::metadata(rt, path) {
         Ok(metadata) => {
             if metadata.is_file() {
+                Ok(Some(metadata))
+            } else {
+                Err(Failed)
+            }
+        }
+        Err(error) => missing_or_failed(error.kind()),
+    }
+}
+
+/// What stands at a path, as `regular` has it, but that a link that leads nowhere has failed.
+pub fn standing<R: Files>(rt: &R, path: &str) -> Result<Option<Metadata>, Failed> {
+    match fs::symlink_metadata(rt, path) {
+        Ok(metadata) => {
+            if metadata.is_symlink() {
+                match regular(rt, path)? {
+                    Some(metadata) => Ok(Some(metadata)),
+                    None => Err(Failed),
+                }
+            } else if metadata.is_file() {
                 Ok(Some(metadata))
             } else {
                 Err(Failed)
@@ -64,12 +90,12 @@ fn missing_or_failed<T>(kind: ErrorKind) -> Result<Option<T>, Failed> {
     }
 }
 
-/// Opens a regular file for reading; None where the name isn't there.
-pub fn open_to_read<R: Files>(rt: &R, name: &Name) -> Result<Option<R::File>, Failed> {
-    if regular(rt, name)?.is_none() {
+/// Opens a regular file for reading; None where the path leads to none.
+pub fn open_to_read<R: Files>(rt: &R, path: &str) -> Result<Option<R::File>, Failed> {
+    if standing(rt, path)?.is_none() {
         return Ok(None);
     }
-    match fs::open(rt, name.text()) {
+    match fs::open(rt, path) {
         Ok(file) => Ok(Some(file)),
         Err(error) => missing_or_failed(error.kind()),
     }
@@ -147,30 +173,38 @@ impl<F: Read + Seek + OpenFile + Drop> Reading<F> {
         }
     }
 
-    // opens the file of a name in the place of the one that is open; whether it is there
-    fn open_file<R: Files<File = F>>(&mut self, rt: &R, name: &Name) -> Result<bool, Failed> {
-        let Some(file) = open_to_read(rt, name)? else {
+    // opens the file of a name, at its path, in the place of the one that is open; whether it is there
+    fn open_file<R: Files<File = F>>(
+        &mut self,
+        rt: &R,
+        path: &str,
+        name: &Name,
+    ) -> Result<bool, Failed> {
+        if regular(rt, path)?.is_none() {
             return Ok(false);
+        }
+        let file = match fs::open(rt, path) {
+            Ok(file) => file,
+            Err(error) => return Ok(missing_or_failed::<()>(error.kind())?.is_some()),
+        };
+        let Ok(metadata) = file.metadata() else {
+            return Err(Failed);
         };
         self.open = Some(OpenFor {
             name: *name,
             file,
+            metadata,
             place: 0,
-            ended: false,
             from: 0,
             count: 0,
         });
         Ok(true)
     }
 
-    // the length of the file that is open
-    fn size(&self) -> Result<Option<u64>, Failed> {
-        let Some(open) = &self.open else {
-            return Ok(None);
-        };
-        match open.file.metadata() {
-            Ok(metadata) => Ok(Some(metadata.len())),
-            Err(_) => Err(Failed),
+    // closes the file of a name
+    fn close_name(&mut self, name: &Name) {
+        if self.reads(name) {
+            self.open = None;
         }
     }
 
@@ -187,13 +221,15 @@ impl<F: Read + Seek + OpenFile + Drop> Reading<F> {
             return Ok(Some(first));
         }
         let next = from.saturating_add(first as u64);
-        if open.ended && open.place == next {
+        let left = open.metadata.len().saturating_sub(next);
+        if left == 0 {
             return Ok(Some(first));
         }
-        let Some(count) = read_from(&mut open.file, &mut open.place, next, &mut self.ahead) else {
+        let wanted = left.min(self.ahead.len() as u64) as usize;
+        let piece = &mut self.ahead[..wanted];
+        let Some(count) = read_from(&mut open.file, &mut open.place, next, piece) else {
             return Err(Failed);
         };
-        open.ended = count < self.ahead.len();
         open.from = next;
         open.count = count;
         let ready = ahead_from(&self.ahead, open.from, open.count, next);
@@ -216,37 +252,56 @@ impl<F: Read + Seek + OpenFile + Drop> FolderReader<F> {
         self.other.open = None;
     }
 
-    // makes the file of a name the last one, and opens it where neither is it; whether it is there
-    fn turn_to<R: Files<File = F>>(&mut self, rt: &R, name: &Name) -> Result<bool, Failed> {
-        if self.last.reads(name) {
-            return Ok(true);
-        }
-        if !self.other.reads(name) && !self.other.open_file(rt, name)? {
-            return Ok(false);
-        }
-        swap(&mut self.last, &mut self.other);
-        Ok(true)
+    /// Closes the file of a name.
+    pub fn close_name(&mut self, name: &Name) {
+        self.last.close_name(name);
+        self.other.close_name(name);
     }
 
-    /// The length of a file; None where the name isn't there.
-    pub fn size<R: Files<File = F>>(&mut self, rt: &R, name: &Name) -> Result<Option<u64>, Failed> {
-        if !self.turn_to(rt, name)? {
-            return Ok(None);
+    /// The mode of the file of a name, where it is open.
+    pub fn mode(&self, name: &Name) -> Option<u32> {
+        for reading in [&self.last, &self.other] {
+            if let Some(open) = &reading.open {
+                if open.name.is(name) {
+                    return Some(open.metadata.mode());
+                }
+            }
         }
-        self.last.size()
+        None
     }
 
-    /// Reads a file from a place on; None where the name isn't there.
+    /// Makes the file of a name, at its path, the last one, and opens it where neither is it. What it was when it was
+    /// opened; None where it isn't there.
+    pub fn open<R: Files<File = F>>(
+        &mut self,
+        rt: &R,
+        path: &str,
+        name: &Name,
+    ) -> Result<Option<&Metadata>, Failed> {
+        if !self.last.reads(name) {
+            if !self.other.reads(name) && !self.other.open_file(rt, path, name)? {
+                return Ok(None);
+            }
+            swap(&mut self.last, &mut self.other);
+        }
+        match &self.last.open {
+            Some(open) => Ok(Some(&open.metadata)),
+            None => Ok(None),
+        }
+    }
+
+    /// Reads a file, at its path, from a place on; None where it isn't there.
     pub fn read_at<R: Files<File = F>>(
         &mut self,
         rt: &R,
+        path: &str,
         name: &Name,
         from: u64,
         into: &mut [u8],
     ) -> Result<Option<usize>, Failed>
         ensures { IfOk result (λ r. IfSome r (λ n. n ≤ length into.old)) }
     {
-        if !self.turn_to(rt, name)? {
+        if self.open(rt, path, name)?.is_none() {
             return Ok(None);
         }
         self.last.read_at(from, into)
