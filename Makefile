@@ -1,37 +1,32 @@
 # make install PREFIX=/usr/local    the program, the commands, their pages, and completion for bash (DESTDIR is put before)
 # make uninstall                    takes them away
+# make test                         every check that needs no proof, over the program of dist/ or SCCS_PROGRAM
 # make check                        the gate: every proof, every refused edit and every test, from nothing
+# make dist                         the release: sccs-VERSION.tar.gz, the same bytes each time
+# make deb                          a Debian package of the program of dist/, the same bytes each time
 
 PREFIX = /usr/local
 DESTDIR =
-bin = $(DESTDIR)$(PREFIX)/bin
-libexec = $(DESTDIR)$(PREFIX)/libexec/sccs
-man = $(DESTDIR)$(PREFIX)/share/man
-completions = $(DESTDIR)$(PREFIX)/share/bash-completion/completions
-commands = admin get delta prs rmdel sact unget val what cdc sccsdiff rcs2sccs
+# the program to be installed, where it isn't that of dist/ or the one that is built
+SCCS_PROGRAM ?=
+export PREFIX DESTDIR SCCS_PROGRAM
 
 help:
-	@sed -n 's/^# //p' Makefile
+	@sed -n 's/^# //p' Makefile | head -n 6
 
 check:
 	.ci/run
 
+test:
+	@tools/test
+
+dist deb:
+	@tools/release $@
+
 install:
-	install -d $(bin) $(libexec)/lib $(man)/man1 $(man)/man5 $(man)/man7 $(completions)
-	program=$$(tools/program) && install -m 755 "$$program" $(bin)/sccs-core
-	cd commands && install -m 755 sccs $(commands) $(libexec) && install -m 644 lib/*.sh $(libexec)/lib
-	ln -sf ../libexec/sccs/sccs $(bin)/sccs
-	ln -sf ../libexec/sccs/rcs2sccs $(bin)/rcs2sccs
-	install -m 755 commands/sccs2git $(bin)/sccs2git
-	install -m 644 man/*.1 $(man)/man1
-	install -m 644 man/*.5 $(man)/man5
-	install -m 644 man/*.7 $(man)/man7
-	install -m 644 commands/completion.bash $(completions)/sccs
-	ln -sf sccs $(completions)/rcs2sccs
+	@tools/install
 
 uninstall:
-	rm -rf $(libexec)
-	rm -f $(bin)/sccs $(bin)/sccs-core $(bin)/sccs2git $(bin)/rcs2sccs $(completions)/sccs $(completions)/rcs2sccs
-	cd man && for page in *; do rm -f $(man)/man$${page##*.}/$$page; done
+	@tools/install -u
 
-.PHONY: help check install uninstall
+.PHONY: help check test dist deb install uninstall
