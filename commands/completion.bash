@@ -1,8 +1,9 @@
 # shellcheck shell=bash
-# Completion of sccs for bash: the words, their options, and the names of the files that have a history; and of rcs2sccs.
+# Completion of sccs for bash: the words, their options, and the names of the files that have a history; of the
+# commands by themselves; and of rcs2sccs and sccs2git.
 
-_sccs_words='admin batch cdc check clean commit create deledit delget delta diffs edit enter fix get group import info print prs prt recover rmdel sact
-    sccsdiff soak tell unedit unget val what'
+_sccs_words='admin batch branch cdc check clean commit create deledit delget delta diffs edit enter fix get group help import info log print prs prt
+    recover rmdel sact sccsdiff soak tell tree unedit unget val what'
 
 # sets `folder` and `path`: the folder of s-files, and the -d that stands before names; gives the place of the word in `place`
 _sccs_read_front() {
@@ -24,8 +25,8 @@ _sccs_read_front() {
 _sccs_options() {
     case $1 in
     admin | create | enter) echo '-a -d -e -f -h -i -m -n -r -t -y -z' ;;
-    get | edit) echo '-b -c -e -G -g -i -k -m -n -p -r -s -t -x' ;;
-    delta | delget | deledit) echo '-E -m -n -r -s -y' ;;
+    get | edit | branch) echo '-b -c -e -G -g -i -k -m -n -p -r -s -t -x' ;;
+    delta | delget | deledit) echo '-E -m -n -p -r -s -y' ;;
     commit) echo '-m -y' ;;
     unget | unedit) echo '-n -r -s' ;;
     rmdel | fix) echo '-r' ;;
@@ -100,6 +101,7 @@ _sccs_operands() {
         compopt -o filenames 2>/dev/null
         ;;
     import) _sccs_imports ;;
+    help) mapfile -t COMPREPLY < <(compgen -W "$_sccs_words" -- "${COMP_WORDS[COMP_CWORD]}") ;;
     batch | group | soak | check | tell | info) ;;
     *) _sccs_files s ;;
     esac
@@ -127,6 +129,22 @@ _sccs() {
 
 complete -F _sccs sccs
 
+# the commands by themselves take s-files and folders
+_sccs_command() {
+    local place=0 typed=${COMP_WORDS[COMP_CWORD]} word=${1##*/}
+    COMPREPLY=()
+    if _sccs_wants_value "$word"; then
+        return
+    elif [[ $typed == -* ]]; then
+        mapfile -t COMPREPLY < <(compgen -W "$(_sccs_options "$word") --help --version" -- "$typed")
+    else
+        mapfile -t COMPREPLY < <(compgen -d -- "$typed"; compgen -f -X '!*s.*' -- "$typed")
+        compopt -o filenames 2>/dev/null
+    fi
+}
+
+complete -F _sccs_command admin cdc delta get prs rmdel sact sccsdiff unget val
+
 # options, folders and RCS files
 _rcs2sccs() {
     local typed=${COMP_WORDS[COMP_CWORD]}
@@ -139,3 +157,16 @@ _rcs2sccs() {
 }
 
 complete -F _rcs2sccs rcs2sccs
+
+# options, folders and s-files
+_sccs2git() {
+    local typed=${COMP_WORDS[COMP_CWORD]}
+    if [[ $typed == -* ]]; then
+        mapfile -t COMPREPLY < <(compgen -W "$(sccs2git --help 2>/dev/null | grep -oE -e '--[a-z-]+' | sort -u)" -- "$typed")
+    else
+        mapfile -t COMPREPLY < <(compgen -d -- "$typed"; compgen -f -X '!*s.*' -- "$typed")
+        compopt -o filenames 2>/dev/null
+    fi
+}
+
+complete -F _sccs2git sccs2git

@@ -1,9 +1,11 @@
 # shellcheck shell=sh disable=SC2034,SC2119,SC2120,SC2154
-# delta: what was edited is the g-file, in the caller's folder; diff makes the ed script that the program takes.
-shielded=1 utility=delta
+# delta: diff makes the ed script that the program takes, of the version that was got and of what was edited. The program compares what the
+# script makes with what was edited, and stores nothing where they differ, so whatever comes of this is that text or a refusal.
 
 delta_command() {
-    read_words m:r:y?E E "$@"
+    read_words m:r:y?Ep Ep "$@"
+    hear_signals
+    shielded=1 headed=1 utility=delta asked_mrs='' new=''
     if is_given E; then
         take_script
         finish
@@ -12,9 +14,9 @@ delta_command() {
     *" '-' "*) is_given y || { echo "delta: where - takes the names from standard input, -y has the comment" >&2 && exit 2; } ;;
     esac
     expand_operands
-    if [ -z "$operands" ]; then
-        hand_on delta in_its_folder
-    fi
+    [ -n "$operands" ] || hand_on delta
+    is_given y || each check_edit
+    [ "$status" = 0 ] || finish
     ask
     each add_delta
     finish
@@ -25,22 +27,30 @@ take_script() {
     need_work
     cat >"$work/script" || exit 132
     expand_operands
-    if [ -z "$operands" ]; then
-        hand_on delta in_its_folder
-    fi
-    each script_one
+    [ -n "$operands" ] || hand_on delta
+    each give_script
 }
 
-script_one() {
-    in_its_folder <"$work/script"
+# give_script OPERAND: the program with the script, and with what was edited
+give_script() {
+    heading "$name"
+    explain_delta "$1" <"$work/script"
 }
 
 # ask: the MRs, where a file wants them and none are given, and the comment, where none is given
 ask() {
-    asked_mrs=
     if ! is_given m && any_wants_mrs; then
         answer 'MRs? '
-        asked_mrs=$(printf '%s' "$answered" | tr '\n' ' ')
+        while :; do
+            case $answered in
+            *"
+"*) answered="${answered%%"
+"*} ${answered#*"
+"}" ;;
+            *) break ;;
+            esac
+        done
+        asked_mrs=$answered
     fi
     is_given y || { answer 'comments? ' && add_option "-y$answered"; }
 }
@@ -53,12 +63,9 @@ any_wants_mrs() {
     return 1
 }
 
-# the flag v stands in the header, before the description
+# wants_mrs FILE: the flag v stands in its header, before the description
 wants_mrs() {
-    [ -f "$1" ] && [ -r "$1" ] && awk -v soh="$(printf '\001')" '
-        index($0, soh "t") == 1 { exit }
-        index($0, soh "f v") == 1 { found = 1; exit }
-        END { exit !found }' "$1"
+    [ -f "$1" ] && [ -r "$1" ] && [ -n "$(sed -n '/^[[:cntrl:]]f v/p; /^[[:cntrl:]]t$/q' "$1")" ]
 }
 
 # answer PROMPT: sets `answered` to a line of standard input, which goes on where it ends with a backslash; only at a terminal the prompt stands
@@ -73,85 +80,97 @@ answer() {
     done
 }
 
-# add_delta OPERAND
-add_delta() {
-    need_work
-    if ! find_edit; then
-        let_refuse
-        return
-    fi
-    if ! [ -f "$module" ]; then
-        echo "delta: $1: the file $module, which was edited, isn't here" >&2
-        return 1
-    fi
-    get_base && take_edited && make_script || return
-    give_delta "$1"
-}
-
 # the login, as the program reads it
 find_login() {
     login=${LOGNAME:-nobody}
-    if [ ${#login} -gt 64 ] || [ "$(printf '%s' "$login" | tr -d '\001-\040')" != "$login" ]; then
-        login=nobody
-    fi
+    [ ${#login} -le 64 ] || login=nobody
+    case $login in *[!!-~]*) login=nobody ;; esac
 }
 
-# find_edit: sets `got`, `new` and `lists` to those of the one edit of the login, and of -r where that is given
+# plain_sid SID: sets `plain` to it without leading zeros
+plain_sid() {
+    plain='' left=$1.
+    while [ -n "$left" ]; do
+        part=${left%%.*} left=${left#*.}
+        while :; do
+            case $part in
+            0?*) part=${part#0} ;;
+            *) break ;;
+            esac
+        done
+        plain=$plain${plain:+.}$part
+    done
+}
+
+# is_sid WORD
+is_sid() {
+    case $1 in
+    '' | *[!0-9.]* | .* | *. | *..*) return 1 ;;
+    esac
+}
+
+# find_edit: sets `got`, `new` and `lists` to those of the one edit of the login, and of -r where that is given. A word that isn't of its form
+# is none of an edit, which the program then says.
 find_edit() {
     find_login
-    edit=$(login=$login sid=${value_r:-} awk '
-        function plain(sid, parts, count, text, i) {
-            count = split(sid, parts, ".")
-            for (i = 1; i <= count; i++) text = text "." (parts[i] + 0)
-            return text
-        }
-        function fits(sid) { return plain(sid) == plain(ENVIRON["sid"]) }
-        $3 "" == ENVIRON["login"] "" && (ENVIRON["sid"] == "" || fits($1) || fits($2)) { found++; edit = $0 }
-        END { if (found == 1) print edit }' "$folder/p.$module" 2>/dev/null)
-    set -f
-    # shellcheck disable=SC2086
-    set -- $edit
-    set +f
-    [ $# -ge 5 ] || return
-    got=$1 new=$2
-    shift 5
-    lists=$*
+    edits=0 got='' new='' lists='' wanted=''
+    if is_given r; then
+        is_sid "$value_r" || return
+        plain_sid "$value_r"
+        wanted=$plain
+    fi
+    [ -r "$folder/p.$module" ] && [ -f "$folder/p.$module" ] || return
+    while read -r one two who day time more; do
+        if [ "$who" != "$login" ] || ! is_sid "$one" || ! is_sid "$two"; then
+            continue
+        fi
+        case $more in *[!0-9.,ix\ -]*) continue ;; esac
+        if [ -n "$wanted" ]; then
+            plain_sid "$one"
+            if [ "$plain" != "$wanted" ]; then
+                plain_sid "$two"
+                [ "$plain" = "$wanted" ] || continue
+            fi
+        fi
+        edits=$((edits + 1)) got=$one new=$two lists=$more
+    done <"$folder/p.$module"
+    [ "$edits" = 1 ]
+}
+
+# check_edit OPERAND: what would be refused is, before anything is asked
+check_edit() {
+    if ! find_edit || [ -e "$folder/z.$module" ]; then
+        let_refuse
+        return
+    fi
+    is_here "$1" && refuse_dots
+}
+
+is_here() {
+    [ ! -f "$module" ] || return 0
+    echo "delta: $1: the file $module, which was edited, isn't here" >&2
+    return 1
 }
 
 # the program says what is wrong: this script is none, so that it ends with a refusal
 let_refuse() {
-    echo '?' >"$work/script"
-    script_one
+    eval "explained \"\$folder\" delta $options -- \"\$name\"" <<'END'
+?
+END
 }
 
-# the version that was got, unexpanded
-get_base() {
+# the version that was got, unexpanded, for which the shell becomes the program
+give_base() {
+    shielded=
+    # (the lists are split)
     # shellcheck disable=SC2086
-    in_folder "$folder" get -k -p -s "-r$got" $lists "$name" >"$work/base" 2>"$work/told"
-    set -- $?
-    tell_refusals "$folder" "$1" <"$work/told"
-    return "$1"
+    run_program "$folder" get -k -p -s "-r$got" $lists -- "$name"
 }
 
-# take_edited: sets `edited` to what is added, a text whose last line has its end
-take_edited() {
-    edited=./$module
-    if [ -s "$edited" ] && [ "$(tail -c 1 "$edited" | wc -l)" -eq 0 ]; then
-        { cat "$edited" && echo; } >"$work/edited" || return
-        edited=$work/edited
-        echo "delta: $module: its last line has no line end, and gets one" >&2
-    fi
-}
-
-make_script() {
-    refuse_dots || return
-    diff -a -e "$work/base" "$edited" >"$work/script" || [ $? = 1 ]
-}
-
-# in a script a line that is a single dot ends the lines that are inserted
+# refuse_dots: in a script a line that is a single dot ends the lines that are inserted, so it can't be one of them
 refuse_dots() {
-    grep -a -q -x '\.' "$edited" || return 0
-    dot=$(diff -a "$work/base" "$edited" | awk '
+    grep -a -q -x '\.' "./$module" || return 0
+    dot=$( (give_base) 2>/dev/null | diff -a - "./$module" | awk '
         /^[0-9]/ { split($0, numbers, "[acd]"); number = numbers[2] + 0; next }
         $0 == "> ." { print number; exit }
         /^>/ { number++ }')
@@ -160,36 +179,65 @@ refuse_dots() {
     return 1
 }
 
-# give_delta OPERAND: what is edited goes with the edit, unless -n is given
-give_delta() {
-    holding=1
-    beside=
-    [ "$folder" = . ] || beside=1
-    reported "$1" run_delta "$1"
-    given_status=$?
-    if [ "$given_status" = 0 ] && [ -n "$beside" ]; then
-        take_away "$1"
+# add_delta OPERAND: diff and the program stand in one line. What diff does wrong, and what is cut off by a signal, makes another text than what
+# was edited, which the program refuses.
+add_delta() {
+    if ! find_edit; then
+        let_refuse
+        return
+    fi
+    is_here "$1" || return
+    if is_ambiguous "$folder" "$name"; then
+        # shellcheck source=commands/lib/placing.sh
+        . "$here/lib/placing.sh"
+        add_beside "$1"
+        return
+    fi
+    ! is_given p || keep_texts || return
+    heading "$name"
+    working=1
+    if is_explaining; then
+        need_work
+        give_base | diff -a -e - "./$module" | give_delta "$1" 2>"$work/told"
+        given_status=$?
+        tell_refusals "$folder" "$given_status" <"$work/told"
+    else
+        give_base | diff -a -e - "./$module" | give_delta "$1"
         given_status=$?
     fi
-    holding=
+    working=
+    [ "$given_status" = 0 ] || [ -n "$interrupted" ] || refuse_dots
+    [ "$given_status" != 0 ] || ! is_given p || diff -a "$work/before" "$work/after"
     return "$given_status"
 }
 
-run_delta() {
-    set -- "$1"
-    is_given r || set -- "$@" "-r$new"
-    [ -z "$beside" ] || is_given n || set -- "$@" -n
-    [ -z "$asked_mrs" ] || ! wants_mrs "$1" || set -- "$@" "-m$asked_mrs"
-    shift
-    eval "explained \"\$folder\" delta $options \"\$@\" \"\$name\"" <"$work/script"
+# keep_texts: what -p compares, kept until the delta is made
+keep_texts() {
+    need_work
+    (give_base) >"$work/before" && cat "./$module" >"$work/after"
 }
 
-# take_away OPERAND: of a file with a path the program didn't see what was edited, so what is got back is compared with it
-take_away() {
-    in_folder "$folder" get -k -p -s "-r$new" "$name" >"$work/back" || return
-    if ! cmp -s "$work/back" "$edited"; then
-        echo "delta: $1: version $new isn't what $module has, which is left here" >&2
-        return 1
+# explain_delta OPERAND [OPTION]: as give_delta, in a process of its own, with a line behind each refusal where it is asked for
+explain_delta() {
+    working=1
+    if is_explaining; then
+        need_work
+        (give_delta "$@") 2>"$work/told"
+        set -- $?
+        tell_refusals "$folder" "$1" <"$work/told"
+    else
+        (give_delta "$@")
+        set -- $?
     fi
-    is_given n || rm -f "./$module"
+    working=
+    return "$1"
+}
+
+# give_delta OPERAND [OPTION]: the shell becomes the program, with the script as its input
+give_delta() {
+    set -- "$1" ${2:+"$2"}
+    is_given r || [ -z "$new" ] || set -- "$@" "-r$new"
+    [ -z "$asked_mrs" ] || ! wants_mrs "$1" || set -- "$@" "-m$asked_mrs"
+    shift
+    eval "become \"\$folder\" delta $options \"\$@\" -- \"\$name\""
 }

@@ -1,72 +1,84 @@
 # shellcheck shell=sh disable=SC2034,SC2119,SC2120,SC2154
-# unget and admin.
-shielded=1
-
-unget_command() {
-    read_words r: "" "$@"
-    hand_on unget unget_one
-}
-
-# the g-file of a file with a path is the caller's
-unget_one() {
-    reported "$1" drop_edit || return
-    is_given n || rm -f "./$module"
-}
-
-drop_edit() {
-    set -- -n
-    ! is_given n || set --
-    eval "explained \"\$folder\" unget $options \"\$@\" \"\$name\""
-}
+# admin: the text of a new file and a description are read before anything is locked, wherever they stand.
 
 admin_command() {
-    utility='admin'
-    read_words 'a:d:e:f:m:r:i?t?y?' "" "$@"
-    if is_given i; then
-        expand_operands
-        if [ "$count" = 1 ]; then
-            each new_file
-            finish
-        fi
-    fi
-    hand_on admin in_its_folder
-}
-
-# what is read is there before anything is locked
-new_file() {
-    if [ -z "${value_i:-}" ]; then
-        need_work
-        cat >"$work/text" || return 132
-        in_its_folder <"$work/text"
-    elif is_named_here; then
-        in_its_folder
-    elif ! [ -f "$value_i" ] || ! [ -r "$value_i" ]; then
-        echo "admin: $value_i: no file that can be read" >&2
-        return 1
-    else
-        drop_name
-        in_its_folder <"$value_i"
-    fi
-}
-
-# the program takes the name of a file of the s-file's folder alone
-is_named_here() {
-    case $folder/$value_i in
-    ./*/*) return 1 ;;
-    ./*) return 0 ;;
-    *) return 1 ;;
+    read_words 'a:d:e:f:m:r:i?t?y?' '' "$@"
+    shielded=1 utility=admin text='' described=''
+    case $given in
+    *i* | *t*) take_texts ;;
     esac
+    if [ -n "$text$described" ]; then
+        eval "split_operand $operands"
+        give_texts
+        join_status $?
+        finish
+    fi
+    hand_on admin hand_own
 }
 
-# -i in place of -iNAME, among the options
-drop_name() {
-    dropping=$value_i
-    eval "set -- $options"
-    options=
+# the program takes a name of the caller's folder, and standard input where that is a file; all else is read here
+take_texts() {
+    [ "$count" = 1 ] || return 0
+    eval "split_operand $operands"
+    if is_given t && [ -n "$value_t" ] && ! is_plain_file "$value_t"; then
+        can_be_read "$value_t" && read_into described <"$value_t"
+        change_value t "$value_t" described
+    fi
+    if ! is_given i; then
+        return
+    elif [ -z "$value_i" ]; then
+        [ -f /dev/stdin ] && [ -z "$described" ] || read_into text || exit 132
+    elif [ -n "$described" ] || ! is_plain_file "$value_i"; then
+        can_be_read "$value_i" && read_into text <"$value_i"
+        change_value i "$value_i" ''
+    fi
+}
+
+# is_plain_file NAME: a file of the caller's folder, whose name isn't that of a stored file, and which the program finds there
+is_plain_file() {
+    case $1 in
+    */* | [spxqz].* | sccs.plan | sccs.intent) return 1 ;;
+    esac
+    ! is_ambiguous "$folder" "$name" || return 1
+    [ ! -e "$1" ] || [ -f "$1" ]
+}
+
+can_be_read() {
+    if [ -d "$1" ] || ! [ -r "$1" ]; then
+        echo "admin: $1: no file that can be read" >&2
+        exit 1
+    fi
+}
+
+# read_into NAME: standard input is kept in a file for the variable of that name
+read_into() {
+    need_work
+    cat >"$work/$1" || return
+    eval "$1=\$work/$1"
+}
+
+# change_value LETTER VALUE NEW: the option with another value
+change_value() {
+    eval "set -- \"\$1\" \"\$2\" \"\$3\" $options"
+    letter=$1 value=$2 changed=$3 options=
+    shift 3
     for word; do
         case $word in
-        -*i"$dropping") add_option "${word%"$dropping"}" ;;
+        -*"$letter$value") add_option "${word%"$value"}$changed" ;;
         *) add_option "$word" ;;
         esac
     done
+}
+
+# the program with what was read: the text as its input, the description as a file of the folder in which it is
+give_texts() {
+    text=${text:-/dev/null}
+    if is_ambiguous "$folder" "$name"; then
+        [ -z "$described" ] || { echo "admin: $name: its description is to be given by a call of its own, in its folder" >&2 && return 1; }
+        entering=1
+    elif [ -n "$described" ]; then
+        case $folder in /*) ;; *) folder=$PWD/$folder ;; esac
+        cd -- "$work" || return
+    fi
+    eval "explained \"\$folder\" admin $options -- \"\$name\"" <"$text"
 }

@@ -3,7 +3,7 @@
 
 # what `diff` of this command takes beside sccsdiff's own options: all that begin with a dash
 sccsdiff_command() {
-    first='' second='' passed='' operands=''
+    first='' second='' passed='' operands='' count=0
     while [ $# -gt 0 ]; do
         case $1 in
         -r) take_version "${2:-}" && shift ;;
@@ -21,12 +21,19 @@ sccsdiff_command() {
         echo 'usage: sccsdiff -rSID1 -rSID2 [options of diff] s.file ...' >&2
         exit 2
     fi
+    [ -z "$verb" ] || store_operands
     expand_operands
     each compare_versions
     finish
 }
 
 take_version() {
+    case $1 in
+    '' | *[!0-9.]*)
+        echo "sccsdiff: $1: no SID" >&2
+        exit 2
+        ;;
+    esac
     if [ -z "$first" ]; then
         first=$1
     else
@@ -43,8 +50,8 @@ pass_option() {
 compare_versions() {
     need_work
     get_version "$first" && get_version "$second" || return 2
-    [ -z "$several" ] || printf '\n------- %s -------\n' "$module"
-    compare "$work/$first/$module" "$work/$second/$module"
+    printf '\n------- %s -------\n' "$module"
+    compare "$work/$first/$module" "$work/$second/$module" || [ $? = 1 ]
 }
 
 # get_version SID [LIST..]: the version, unexpanded, as a file in a folder named after it
@@ -52,7 +59,7 @@ get_version() {
     mkdir -p "$work/$1" || return
     version=$1
     shift
-    in_folder "$folder" get -k -p -s "-r$version" "$@" "$name" >"$work/$version/$module" 2>"$work/told"
+    in_folder "$folder" get -k -p -s "-r$version" "$@" -- "$name" >"$work/$version/$module" 2>"$work/told"
     set -- $?
     tell_refusals "$folder" "$1" <"$work/told"
     return "$1"

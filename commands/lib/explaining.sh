@@ -4,7 +4,10 @@
 # explain_lines FOLDER STATUS: passes lines on; the folder is that of the files which they speak of
 explain_lines() {
     while IFS= read -r line || [ -n "$line" ]; do
-        printf '%s\n' "$line"
+        case $line in
+        "USAGE: "*) printf '%s: %s\n' "${verb:-$utility}" "${line#USAGE: }" ;;
+        *) printf '%s\n' "$line" ;;
+        esac
         case $line in
         "ERROR ["*"]: "*" ("[0-9][0-9]")") explain_refusal "$1" "$line" ;;
         "sccs: disk fault"*) explain_disk_fault "$1" ;;
@@ -105,7 +108,7 @@ explain_revision() {
     if [ "${1#*revision 0 }" != "$1" ]; then
         helps "the description that $of,v has can't be kept: one of its lines begins with the byte 1 (SOH)"
     else
-        helps "counted from the newest one in $of,v: its number, date or author is unfit, or its entry or text is missing or stands twice"
+        helps "counted from the newest one in $of,v: its number (as 2.0 is, since no SID has a 0), date or author is unfit, or its entry or text is missing or stands twice"
     fi
 }
 
@@ -145,7 +148,11 @@ explain_disk_fault() {
         helps "files can't be made in $1"
         return
     fi
-    for file in "$beside"[spxqyz].* ${module:+"$beside$module"}; do
+    set +f
+    set -- "$1" "$beside"[spxqyz].* ${module:+"$beside$module"}
+    set -f
+    shift
+    for file; do
         if [ -h "$file" ] && ! [ -e "$file" ]; then
             helps "$file leads to no file"
         elif [ -e "$file" ] && ! [ -f "$file" ]; then

@@ -1,6 +1,6 @@
 # shellcheck shell=sh disable=SC2034,SC2119,SC2120,SC2154
 # rcs2sccs: each RCS file of a tree becomes an s-file at the same place of another one. Nothing of the first tree is changed.
-shielded=1
+shielded=1 entering=1
 
 rcs2sccs_command() {
     read_words '' nv "$@"

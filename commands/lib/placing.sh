@@ -1,0 +1,117 @@
+# shellcheck shell=sh disable=SC2034,SC2119,SC2120,SC2154
+# g-files that the program doesn't make itself: of get -G, and of names that beside another folder could be those of stored files. The text
+# is printed into a new file, which then takes the place of the g-file.
+
+# get_beside OPERAND: the g-file of a file in another folder, or of -G
+get_beside() {
+    in_own get_placed "$1"
+}
+
+get_placed() {
+    target=./$module
+    ! is_given G || target=$value_G
+    case $target in -*) target=./$target ;; esac
+    summary=
+    ! is_given L && ! is_given l || summary=1
+    if [ -n "$summary" ]; then
+        # (the program refuses both, and -L with -p)
+        asked=$given
+        eval "read_words c:i:r:x: lL $options"
+        given=$asked
+        take_summary || return
+    fi
+    if is_given p || is_given g; then
+        eval "explained \"\$folder\" get $options \"\$name\""
+    else
+        make_g_file "$1"
+    fi || return
+    if [ -z "$summary" ]; then
+        return
+    elif is_given L; then
+        cat "$work/summary"
+    else
+        make_file "./l.$module" <"$work/summary"
+    fi
+}
+
+# the summary of the version that these options ask for, which no other option changes; of the others its letters go
+take_summary() {
+    need_work
+    passed=$options options=
+    for letter in c i r x; do
+        ! is_given "$letter" || eval "add_option \"-$letter\$value_$letter\""
+    done
+    ! is_given t || add_option -t
+    eval "explained \"\$folder\" get $options -L -g -s \"\$name\"" >"$work/summary"
+    set -- $?
+    options=$passed
+    return "$1"
+}
+
+# make_file PATH: a new file of standard input, which is made under another name first, and not through a link
+make_file() {
+    case $1 in */*) unplaced=${1%/*}/.sccs.$$ ;; *) unplaced=./.sccs.$$ ;; esac
+    rm -f "$unplaced"
+    (set -C && cat >"$unplaced") && mv -f "$unplaced" "$1"
+    set -- $?
+    rm -f "$unplaced"
+    unplaced=
+    return "$1"
+}
+
+# may_be_written FILE: its mode says so for somebody
+may_be_written() {
+    [ -e "$1" ] && [ -n "$(find "$1" -prune \( -perm -0200 -o -perm -0020 -o -perm -0002 \) 2>&1)" ]
+}
+
+# make_g_file OPERAND: the text as get -p gives it, at `target`; what the program then says on standard error but for refusals is its report
+make_g_file() {
+    if may_be_written "$target"; then
+        echo "ERROR [$name]: writable file exists (25)" | tell_refusals "$folder" 1
+        return 1
+    fi
+    need_work
+    heading "$1"
+    eval "in_folder \"\$folder\" get $options -p \"\$name\"" >"$work/text" 2>"$work/told"
+    made=$?
+    grep -a -v -E '^(ERROR \[|WARNING \[|USAGE: |sccs: )' "$work/told"
+    grep -a -E '^(ERROR \[|WARNING \[|USAGE: |sccs: )' "$work/told" | tell_refusals "$folder" "$made"
+    [ "$made" = 0 ] || return "$made"
+    is_given e || is_given k || chmod a-w "$work/text"
+    make_file "$target" <"$work/text" && { is_given e || is_given k || chmod a-w "$target"; }
+}
+
+# unget_beside OPERAND: the edit goes, and with it what was edited
+unget_beside() {
+    passed=$options
+    is_given n || add_option -n
+    utility='unget'
+    hand_own
+    set -- $?
+    options=$passed
+    [ "$1" != 0 ] || is_given n || rm -f "./$module"
+    return "$1"
+}
+
+# add_beside OPERAND: the program doesn't see what was edited, so what it has stored is read back and compared before that goes
+add_beside() {
+    need_work
+    (give_base) >"$work/base" || return
+    cat "./$module" >"$work/edited" || return
+    [ -z "$(tail -c 1 "$work/edited")" ] || echo >>"$work/edited"
+    diff -a -e "$work/base" "$work/edited" >"$work/script"
+    case $? in
+    0) ;;
+    1) [ -s "$work/script" ] || { echo "delta: $1: diff says nothing of how $module has changed" >&2 && return 1; } ;;
+    *) return 1 ;;
+    esac
+    heading "$name"
+    in_own explain_delta "$1" -n <"$work/script" || return
+    got=$new lists=''
+    (give_base) >"$work/back" || return
+    if ! cmp -s "$work/back" "$work/edited"; then
+        echo "delta: $1: version $new isn't what $module has, which is left here" >&2
+        return 1
+    fi
+    is_given n || rm -f "./$module"
+}

@@ -1,0 +1,108 @@
+# shellcheck shell=sh disable=SC2154
+# Nothing where nothing is added: the shell becomes the program where that takes the words as they stand and nothing is to be explained.
+
+# quick UTILITY SIGNALS VALUED OWN WORD..: returns where the words need more. SIGNALS are those that the program doesn't hear, VALUED the letters
+# of options with a value, which stands in their word here, and OWN those that the program lacks. The files are those of the current folder, or all
+# of one other.
+quick() {
+    [ -n "${LOGNAME:-}" ] && [ ! -t 2 ] && [ "${SCCS_EXPLAIN:-0}" = 0 ] || return 0
+    utility=$1 signals=$2 valued=$3 own=$4 letters='' behind='' within=''
+    shift 4
+    for word; do
+        case $behind$word in
+        - | --* | -V | :-*) return 0 ;;
+        -["$valued"]?*) ;;
+        -*["$valued$own"]*) return 0 ;;
+        -*)
+            left=${word#-}
+            while [ -n "$left" ]; do
+                case $letters in *"${left%"${left#?}"}"*) return 0 ;; esac
+                letters=$letters${left%"${left#?}"} left=${left#?}
+            done
+            ;;
+        *)
+            case $word in
+            /s.* | */s.[spxqz].* | */s.sccs.*) return 0 ;;
+            */s.*)
+                [ -n "$behind" ] || within=${word%/*}
+                [ "$within" = "${word%/*}" ] || return 0
+                ;;
+            */*) return 0 ;;
+            *) [ -z "$within" ] || return 0 ;;
+            esac
+            behind=:
+            [ "$word" = . ] || [ ! -d "$word" ] || return 0
+            [ "$utility" != val ] || [ -r "$word" ] || return 0
+            ;;
+        esac
+    done
+    # what get only prints may be interrupted
+    case $utility$letters in
+    get*e*) ;;
+    get*p*) signals=XFSZ ;;
+    esac
+    program=${SCCS_CORE:-}
+    if [ -z "$program" ]; then
+        [ ! -x "$here/../tools/program" ] || return 0
+        program=$here/../../bin/sccs-core
+    fi
+    if [ -n "$within" ]; then
+        [ "$utility" != what ] && [ -d "$within" ] && [ -x "$within" ] || return 0
+        for word; do
+            shift
+            case $word in -*) ;; *) word=${word##*/} ;; esac
+            set -- "$@" "$word"
+        done
+        if [ "$within" != . ]; then
+            SCCS_FOLDER=$within
+            export SCCS_FOLDER
+        fi
+    fi
+    # shellcheck disable=SC2086
+    trap '' $signals
+    if [ -p /dev/stdout ]; then
+        quietly "$program" "$utility" "$@"
+        exit
+    fi
+    exec "$program" "$utility" "$@"
+}
+
+# quietly WORD..: a command whose output goes into a pipe; where nobody reads that any more, it ends as others do at SIGPIPE, without a word
+quietly() {
+    told=''
+    if [ -p /dev/stderr ]; then
+        ("$@")
+    else
+        { told=$("$@" 2>&1 >&3 3>&-); } 3>&1
+    fi
+    set -- $?
+    if [ "$1" = 133 ]; then
+        told=${told%'sccs: write fault'}
+        set -- 141
+    fi
+    [ -z "$told" ] || printf '%s\n' "$told" >&2
+    return "$1"
+}
+
+# quick_front WORD..: the front end's get and edit of files that have no path and whose stored files stand in SCCS
+quick_front() {
+    case ${1:-} in
+    get) option='' ;;
+    edit) option=-e ;;
+    *) return 0 ;;
+    esac
+    [ $# != 1 ] && [ -z "${PROJECTDIR:-}" ] && [ -d SCCS ] || return 0
+    shift
+    for word; do
+        shift
+        case $word in
+        -* | */* | [spxqz].* | sccs.plan | sccs.intent) return 0 ;;
+        esac
+        [ ! -d "$word" ] || return 0
+        set -- "$@" "s.$word"
+    done
+    SCCS_FOLDER=SCCS
+    export SCCS_FOLDER
+    quick get 'HUP INT QUIT TERM XFSZ' cirx G ${option:+"$option"} "$@"
+    unset SCCS_FOLDER
+}
