@@ -25,7 +25,7 @@ _sccs_read_front() {
 _sccs_options() {
     case $1 in
     admin | create | enter) echo '-a -d -e -f -h -i -m -n -r -t -y -z' ;;
-    get | edit | branch) echo '-b -c -e -G -g -i -k -m -n -p -r -s -t -x' ;;
+    get | edit | branch) echo '-a -b -c -e -G -g -i -k -m -n -p -r -s -t -x' ;;
     delta | delget | deledit) echo '-E -m -n -p -r -s -y' ;;
     commit) echo '-m -y' ;;
     unget | unedit) echo '-n -r -s' ;;
@@ -34,7 +34,7 @@ _sccs_options() {
     val) echo '-m -r -s -y' ;;
     what) echo '-s' ;;
     cdc) echo '-m -r -y' ;;
-    sccsdiff) echo '-r -u -c -b -w' ;;
+    sccsdiff) echo '-r -p -u -c -b -w' ;;
     diffs) echo '-C -c -i -r -u -x' ;;
     info | check | tell) echo '-b -u' ;;
     clean) echo '-b' ;;
@@ -45,7 +45,7 @@ _sccs_options() {
 _sccs_valued() {
     case $1 in
     admin | create | enter) echo adefmr ;;
-    get | edit) echo cGirx ;;
+    get | edit) echo acGirx ;;
     delta | delget | deledit) echo mr ;;
     commit) echo m ;;
     unget | unedit | rmdel | fix | sccsdiff) echo r ;;

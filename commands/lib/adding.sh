@@ -198,17 +198,30 @@ add_delta() {
     working=1
     if is_explaining; then
         need_work
-        give_base | diff -a -e - "./$module" | give_delta "$1" 2>"$work/told"
+        make_delta "$1" 2>"$work/told"
         given_status=$?
         tell_refusals "$folder" "$given_status" <"$work/told"
     else
-        give_base | diff -a -e - "./$module" | give_delta "$1"
+        make_delta "$1"
         given_status=$?
     fi
     working=
     [ "$given_status" = 0 ] || [ -n "$interrupted" ] || refuse_dots
-    [ "$given_status" != 0 ] || ! is_given p || diff -a "$work/before" "$work/after"
     return "$given_status"
+}
+
+# make_delta OPERAND: with -p its report has the difference behind the SID
+make_delta() {
+    if ! is_given p; then
+        give_base | diff -a -e - "./$module" | give_delta "$1"
+        return
+    fi
+    give_base | diff -a -e - "./$module" | give_delta "$1" >"$work/report"
+    set -- $?
+    sed -n 1p "$work/report"
+    [ "$1" != 0 ] || diff -a "$work/before" "$work/after"
+    sed 1d "$work/report"
+    return "$1"
 }
 
 # keep_texts: what -p compares, kept until the delta is made

@@ -1,19 +1,28 @@
 # shellcheck shell=sh disable=SC2034,SC2119,SC2120,SC2154
-# admin: the text of a new file and a description are read before anything is locked, wherever they stand.
+# admin: the text of a new file and a description are read before anything is locked, wherever they stand. An s-file of a text that may be
+# executed may be so too.
 
 admin_command() {
     read_words 'a:d:e:f:m:r:i?t?y?' '' "$@"
-    shielded=1 utility=admin text='' described=''
+    shielded=1 utility=admin text='' described='' executable=''
+    # (the first level of a release is what the release alone says)
+    case $value_r in [0-9]*.1) change_value r "$value_r" "${value_r%.1}" ;; esac
+    source=${value_i:-/dev/stdin}
+    ! is_given i || [ ! -f "$source" ] || [ ! -x "$source" ] || executable=1
     case $given in
     *i* | *t*) take_texts ;;
     esac
     if [ -n "$text$described" ]; then
         eval "split_operand $operands"
         give_texts
-        join_status $?
-        finish
+    elif [ -n "$executable" ]; then
+        (hand_on admin hand_own)
+    else
+        hand_on admin hand_own
     fi
-    hand_on admin hand_own
+    join_status $?
+    [ "$status" != 0 ] || [ -z "$executable" ] || { eval "split_operand $operands" && chmod +x "$folder/$name"; }
+    finish
 }
 
 # the program takes a name of the caller's folder, and standard input where that is a file; all else is read here
@@ -60,13 +69,15 @@ read_into() {
 # change_value LETTER VALUE NEW: the option with another value
 change_value() {
     eval "set -- \"\$1\" \"\$2\" \"\$3\" $options"
-    letter=$1 value=$2 changed=$3 options=
+    letter=$1 value=$2 changed=$3 options='' before=''
     shift 3
     for word; do
-        case $word in
+        case $before$word in
         -*"$letter$value") add_option "${word%"$value"}$changed" ;;
         *) add_option "$word" ;;
         esac
+        # (its value may be a word of its own)
+        case $word in -*"$letter") before=$word ;; *) before= ;; esac
     done
 }
 

@@ -3,11 +3,12 @@
 
 # what `diff` of this command takes beside sccsdiff's own options: all that begin with a dash
 sccsdiff_command() {
-    first='' second='' passed='' operands='' count=0
+    first='' second='' passed='' operands='' count=0 paged=''
     while [ $# -gt 0 ]; do
         case $1 in
         -r) take_version "${2:-}" && shift ;;
         -r*) take_version "${1#-r}" ;;
+        -p) paged=1 ;;
         --) shift && break ;;
         -?*) pass_option "$1" ;;
         *) add_operand "$1" ;;
@@ -18,7 +19,7 @@ sccsdiff_command() {
         add_operand "$word"
     done
     if [ -z "$second" ] || [ -z "$operands" ]; then
-        echo 'usage: sccsdiff -rSID1 -rSID2 [options of diff] s.file ...' >&2
+        echo 'usage: sccsdiff -rSID1 -rSID2 [-p] [options of diff] s.file ...' >&2
         exit 2
     fi
     [ -z "$verb" ] || store_operands
@@ -46,12 +47,17 @@ pass_option() {
     passed="$passed $quoted"
 }
 
-# compare_versions OPERAND
+# compare_versions OPERAND: with -p by pages
 compare_versions() {
     need_work
-    get_version "$first" && get_version "$second" || return 2
-    printf '\n------- %s -------\n' "$module"
-    compare "$work/$first/$module" "$work/$second/$module" || [ $? = 1 ]
+    get_version "$first" && get_version "$second" || return
+    if [ -z "$paged" ]; then
+        printf '\n------- %s -------\n' "$module"
+        compare "$work/$first/$module" "$work/$second/$module" || [ $? = 1 ]
+    else
+        compare "$work/$first/$module" "$work/$second/$module" >"$work/difference" || [ $? = 1 ] || return 2
+        pr -h "$name: $first vs. $second" <"$work/difference"
+    fi
 }
 
 # get_version SID [LIST..]: the version, unexpanded, as a file in a folder named after it

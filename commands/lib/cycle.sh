@@ -29,7 +29,7 @@ each_file() {
     done
 }
 
-# create and enter: the file is stored, and stays as ,FILE; create gets its version
+# create and enter: the file is stored, and stays as ,FILE; create gets its version, and enter says the name
 store() {
     takes_of admin
     read_words "$takes" '' "$@"
@@ -53,7 +53,11 @@ store_file() {
     */*) mv -f "$1" "${1%/*}/,$file" ;;
     *) mv -f "./$1" ",$file" ;;
     esac
-    [ "$verb" = enter ] || (get_command -- "$stored")
+    if [ "$verb" = enter ]; then
+        printf '\n%s:\n' "$file"
+    else
+        (get_command -- "$stored")
+    fi
 }
 
 undo_edits() {
@@ -107,7 +111,7 @@ fix_file() {
     fi
     need_work
     rehearse || return
-    in_folder "$folder" get -k -s "-r$value_r" -- "$name" && [ -f "./$module" ] || return
+    in_folder "$folder" get -k "-r$value_r" -- "$name" && [ -f "./$module" ] || return
     explained "$folder" rmdel "-r$value_r" -- "$name"
     set -- $?
     # (only a refusal has changed nothing)
@@ -160,9 +164,9 @@ add_edited() {
 # the edits that are pending: -b without those of branches, -u of one user alone
 show_edits() {
     read_words 'u?' '' "$@"
-    user='' branches=1 shown=
+    user='' trunk='' shown=
     ! is_given u || user=${value_u:-${LOGNAME:-nobody}}
-    ! is_given b || branches=
+    ! is_given b || trunk=' (on trunk)'
     [ -z "$operands" ] || store_operands
     edited_files
     eval "set -- $operands"
@@ -170,7 +174,7 @@ show_edits() {
         split_operand "$operand"
         show_edit
     done
-    [ -n "$shown" ] || [ "$verb" != info ] || echo 'Nothing being edited'
+    [ -n "$shown" ] || [ "$verb" != info ] || echo "Nothing being edited$trunk"
     [ -z "$shown" ] || [ "$verb" != check ] || status=1
 }
 
@@ -179,7 +183,7 @@ show_edit() {
     [ -r "$folder/p.$module" ] || { echo "sccs: $folder/p.$module: can't be read" >&2 && join_status 1 && return; }
     while read -r got new login more; do
         [ -z "$user" ] || [ "$login" = "$user" ] || continue
-        case $branches$new in *.*.*) [ -n "$branches" ] || continue ;; esac
+        case $new in *.*.*) [ -z "$trunk" ] || continue ;; esac
         shown=1
         if [ "$verb" = tell ]; then
             printf '%s\n' "$module"
@@ -194,7 +198,7 @@ clean_folder() {
     map_words clean "$@"
     [ -n "$operands" ] || { find_folder && add_operand "$found_folder"; }
     expand_operands
-    user='' branches=1 shown='' verb=info going='' doubtful=''
+    user='' trunk='' shown='' verb=info going='' doubtful=''
     eval "set -- $operands"
     for operand; do
         split_operand "$operand"

@@ -47,7 +47,7 @@ explain_number() {
     06) helps "the file doesn't begin as an s-file does" ;;
     07) helps "the file was changed by something else than these commands, or damaged: compare it with a copy" ;;
     08) helps "the file is damaged or was edited by hand, from that line on; get a copy back" ;;
-    09) helps "the body is encoded (flag e), which other programs do to files that aren't text" ;;
+    09) helps "the text is encoded (flag e), as other programs do with files that aren't text: it can be got, and not changed" ;;
     10) helps "${beside}p.$of, which holds the pending edits, isn't of its form at that line" ;;
     11) helps "that line of ${beside}p.$of names versions that $name doesn't have: it belongs to another file, or to an older copy" ;;
     12) helps "the file's users don't let ${LOGNAME:-nobody} in" ;;

@@ -20,7 +20,9 @@ get_placed() {
         given=$asked
         take_summary || return
     fi
-    if is_given p || is_given g; then
+    if is_given p && [ -n "$decoding" ]; then
+        make_text && cat "$work/text"
+    elif is_given p || is_given g; then
         eval "explained \"\$folder\" get $options \"\$name\""
     else
         make_g_file "$1"
@@ -64,19 +66,31 @@ may_be_written() {
     [ -e "$1" ] && [ -n "$(find "$1" -prune \( -perm -0200 -o -perm -0020 -o -perm -0002 \) 2>&1)" ]
 }
 
-# make_g_file OPERAND: the text as get -p gives it, at `target`; what the program then says on standard error but for refusals is its report
+# make_text: the text as get -p gives it, among the working files; what the program then says on standard error but for refusals is its report
+make_text() {
+    need_work
+    printed=-p
+    ! is_given p || printed=
+    eval "in_folder \"\$folder\" get $options $printed \"\$name\"" >"$work/text" 2>"$work/told"
+    made=$?
+    if is_given p; then
+        tell_refusals "$folder" "$made" <"$work/told"
+    else
+        grep -a -v -E '^(ERROR \[|WARNING \[|USAGE: |sccs: )' "$work/told"
+        grep -a -E '^(ERROR \[|WARNING \[|USAGE: |sccs: )' "$work/told" | tell_refusals "$folder" "$made"
+    fi
+    [ "$made" = 0 ] || return "$made"
+    [ -z "$decoding" ] || { mv "$work/text" "$work/encoded" && decode <"$work/encoded" >"$work/text"; }
+}
+
+# make_g_file OPERAND: the text at `target`
 make_g_file() {
     if may_be_written "$target"; then
         echo "ERROR [$name]: writable file exists (25)" | tell_refusals "$folder" 1
         return 1
     fi
-    need_work
-    heading "$1"
-    eval "in_folder \"\$folder\" get $options -p \"\$name\"" >"$work/text" 2>"$work/told"
-    made=$?
-    grep -a -v -E '^(ERROR \[|WARNING \[|USAGE: |sccs: )' "$work/told"
-    grep -a -E '^(ERROR \[|WARNING \[|USAGE: |sccs: )' "$work/told" | tell_refusals "$folder" "$made"
-    [ "$made" = 0 ] || return "$made"
+    heading "$name"
+    make_text || return
     is_given e || is_given k || chmod a-w "$work/text"
     make_file "$target" <"$work/text" && { is_given e || is_given k || chmod a-w "$target"; }
 }

@@ -58,6 +58,18 @@ quick() {
             export SCCS_FOLDER
         fi
     fi
+    # (an edit of an encoded file is refused, and keeps all keywords)
+    case $utility$letters in
+    get*e*) ;;
+    get* | prs* | val*)
+        # shellcheck source=commands/lib/flags.sh
+        . "$here/lib/flags.sh"
+        if may_have_flags "$@"; then
+            [ -z "$within" ] || unset SCCS_FOLDER
+            return 0
+        fi
+        ;;
+    esac
     # shellcheck disable=SC2086
     trap '' $signals
     if [ -p /dev/stdout ]; then
@@ -103,6 +115,6 @@ quick_front() {
     done
     SCCS_FOLDER=SCCS
     export SCCS_FOLDER
-    quick get 'HUP INT QUIT TERM XFSZ' cirx G ${option:+"$option"} "$@"
+    quick get 'HUP INT QUIT TERM XFSZ' cirx aG ${option:+"$option"} "$@"
     unset SCCS_FOLDER
 }

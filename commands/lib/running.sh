@@ -5,11 +5,13 @@
 # nothing of the environment but what sccs(1) names has a say: what is read here is set here first
 IFS=' 	
 '
+newline='
+'
 set -f
 unset CDPATH GREP_OPTIONS GREP_COLORS POSIXLY_CORRECT BASH_ENV ENV
 LC_ALL=C
 export LC_ALL
-status=0 interrupted='' work='' working='' hearing='' joins='' found='' shielded='' headed='' several='' entering='' verb=''
+status=0 interrupted='' encoded='' decoding='' work='' working='' hearing='' joins='' found='' shielded='' headed='' several='' entering='' verb=''
 options='' operands='' given='' flags='' count=0 utility='' folder=. name='' module='' unplaced=''
 value_a='' value_c='' value_d='' value_e='' value_f='' value_i='' value_m='' value_r='' value_t='' value_u='' value_x='' value_y='' value_G=''
 
@@ -340,14 +342,24 @@ each() {
     done
 }
 
-# hand_on UTILITY [FUNCTION]: the operands in their order, those of one folder that follow one another in one call of the program; where the
-# g-file of one has a name that the program can't tell apart, the function is called with each
+# is_special FOLDER NAME: the program doesn't do the file by itself
+is_special() {
+    [ -n "$encoded" ] && is_encoded "$@" && return
+    case $utility in
+    prs | val) return 1 ;;
+    *) is_ambiguous "$@" ;;
+    esac
+}
+
+# hand_on UTILITY [FUNCTION [READS]]: the operands in their order, those of one folder that follow one another in one call of the program; those
+# that it doesn't do by itself by the function, one after the other. Where the utility reads texts, encoded ones are such.
 hand_on() {
     utility=$1 special=${2:-}
     case "$utility $operands " in
     "val  '-' ") ;;
     *" '-' "*) read_names ;;
     esac
+    [ -z "${3:-}" ] || find_flags
     eval "set -- $operands"
     [ $# -lt 2 ] || several=1
     calling='' names=''
@@ -358,7 +370,7 @@ hand_on() {
             names=
         fi
         calling=$folder
-        if [ -n "$special" ] && is_ambiguous "$folder" "$name"; then
+        if [ -n "$special" ] && is_special "$folder" "$name"; then
             hand_one "$operand"
         else
             quote "$name"

@@ -7,17 +7,65 @@ load() {
     . "$here/lib/$1.sh"
 }
 
-# -G names the g-file of a single file, which the program doesn't
+# -G names the g-file of a single file, and -a a version by its serial, which the program doesn't
 get_command() {
-    read_words c:i:r:x:G: G "$@"
+    read_words a:c:i:r:x:G: aG "$@"
     ! is_given p && ! is_given g && headed=1
     is_given p && ! is_given e || shielded=1
-    ! is_given G || name_g_file
-    hand_on get place_g_file
+    load flags
+    if is_given a; then
+        get_by_serial "$@"
+    elif is_given G; then
+        name_g_file
+    fi
+    hand_on get place_g_file flags
+}
+
+# get_by_serial WORD..: -a, beside which -r and -t don't count
+get_by_serial() {
+    case $value_a in '' | *[!0-9]*) echo "get: -a$value_a: no serial" >&2 && exit 2 ;; esac
+    read_words a:c:i:r:x:G: artG "$@"
+    utility='get'
+    expand_operands
+    find_flags
+    each get_serial
+    finish
+}
+
+get_serial() {
+    need_work
+    asked=$options reading=$folder
+    [ -z "$encoded" ] || ! is_encoded "$folder" "$name" || plain_copy || return
+    in_folder "$folder" prs -e '-d:DS: :I:' -- "$name" >"$work/serials" 2>"$work/told"
+    set -- "$1" $?
+    folder=$reading
+    if [ "$2" != 0 ]; then
+        tell_refusals "$folder" "$2" <"$work/told"
+        return "$2"
+    fi
+    sid=$(awk -v serial="$value_a" '$1 == serial { print $2 }' "$work/serials")
+    [ -n "$sid" ] || { echo "get: $1: no delta has the serial $value_a" >&2 && return 1; }
+    options="$options -r$sid"
+    if is_given G; then place_g_file "$1"; else hand_file "$1" place_g_file; fi
+    set -- $?
+    options=$asked
+    return "$1"
+}
+
+# hand_file OPERAND FUNCTION: the utility on one file, by the function where the program doesn't do that by itself
+hand_file() {
+    if is_special "$folder" "$name"; then
+        "$2" "$1"
+    else
+        heading "$name"
+        eval "explained \"\$folder\" \"\$utility\" $options -- \"\$name\""
+    fi
 }
 
 name_g_file() {
+    utility='get'
     expand_operands
+    find_flags
     if [ "$count" != 1 ]; then
         echo 'get: -G names the g-file of one s-file' >&2
         exit 2
@@ -27,8 +75,12 @@ name_g_file() {
 }
 
 place_g_file() {
-    load placing
-    get_beside "$1"
+    if [ -n "$encoded" ] && is_encoded "$folder" "$name"; then
+        get_encoded "$1"
+    else
+        load placing
+        get_beside "$1"
+    fi
 }
 
 # -r may be that of the SID got, where it names one edit of the login
@@ -50,12 +102,7 @@ drop_edit() {
         ! is_given n || add_option -n
         ! is_given s || add_option -s
     fi
-    if is_ambiguous "$folder" "$name"; then
-        drop_g_file "$1"
-    else
-        heading "$name"
-        eval "explained \"\$folder\" unget $options -- \"\$name\""
-    fi
+    hand_file "$1" drop_g_file
     set -- $?
     options=$dropping
     return "$1"
@@ -98,23 +145,26 @@ sact_command() {
 prs_command() {
     read_words c:d:r? d "$@"
     utility='prs'
+    load flags
     if is_given d; then
         form=$value_d
         case $form in ?*'\n') form=${form%'\n'} ;; esac
         case $form in
         *:FD:* | *:UN:* | *:Y:* | *:MP:* | *:LK:* | *:FB:* | *:CB:* | *:Ds:*)
             expand_operands
+            find_flags
             each print_form
             finish
             ;;
         esac
         add_option "-d$form"
     fi
-    hand_on prs
+    hand_on prs use_plain flags
 }
 
 # print_form OPERAND: each keyword of the file that has nothing goes out of the form first
 print_form() {
+    [ -z "$encoded" ] || ! is_encoded "$folder" "$name" || plain_copy || return
     left=$form filled=''
     while :; do
         case $left in *:*:*) ;; *) break ;; esac
@@ -141,11 +191,12 @@ print_form() {
 val_command() {
     read_words m:r:y: '' "$@"
     joins=bits utility='val'
+    load flags
     case " $operands " in
-    *" '-' "*) ;;
-    *) drop_unreadable ;;
+    *" '-' "*) hand_on val ;;
     esac
-    hand_on val
+    drop_unreadable
+    hand_on val use_plain flags
 }
 
 drop_unreadable() {

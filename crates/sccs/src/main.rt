@@ -25,6 +25,11 @@ const ROOT: &str = "/";
 // the word of the environment that names the folder of stored files
 const STORED: &str = "SCCS_FOLDER";
 
+// what the program says of itself: the version that the file VERSION has, and how it is called
+const VERSION: &str = "sccs-core (sccs) 0.9.0";
+
+const USE: &str = "usage: sccs-core command [option ...] file ...";
+
 // how the program ends
 #[derive(Clone, Copy, Debug, PartialEq, Eq)]
 enum End {
@@ -51,6 +56,19 @@ impl End {
             End::NoWords => (136, Some("sccs: no words")),
             End::NoPlace => (137, Some("sccs: no place")),
         }
+    }
+}
+
+// what the program says of itself, where its first word asks for that
+fn telling(rt: &impl Env) -> Option<&'static str> {
+    let mut buffer = [0; 16];
+    let Ok(n) = rt.arg(1, &mut buffer) else {
+        return None;
+    };
+    match std::str::from_utf8(&buffer[..n]) {
+        Ok("--version" | "-V") => Some(VERSION),
+        Ok("--help") => Some(USE),
+        _ => None,
     }
 }
 
@@ -175,6 +193,12 @@ fn serve(rt: HostRuntime) -> Result<Answer, End> {
 }
 
 fn main(rt: HostRuntime) -> ExitCode {
+    if let Some(line) = telling(&rt) {
+        return match rt.println(line) {
+            Ok(()) => ExitCode::SUCCESS,
+            Err(_) => ExitCode::from(133),
+        };
+    }
     let end = match serve(rt) {
         Ok(Answer::Finished { status }) => End::Status(status),
         Ok(Answer::Memory) => End::Memory,
