@@ -108,7 +108,7 @@ explain_revision() {
     if [ "${1#*revision 0 }" != "$1" ]; then
         helps "the description that $of,v has can't be kept: one of its lines begins with the byte 1 (SOH)"
     else
-        helps "counted from the newest one in $of,v: its number (as 2.0 is, since no SID has a 0), date or author is unfit, or its entry or text is missing or stands twice"
+        helps "counted from the newest one in $of,v: its number (as 2.0 is, since no SID has a 0: rcs2sccs --levels makes 2.1 of it), date or author is unfit, or its entry or text is missing or stands twice"
     fi
 }
 
