@@ -149,7 +149,7 @@ complete -F _sccs_command admin cdc delta get prs rmdel sact sccsdiff unget val
 _rcs2sccs() {
     local typed=${COMP_WORDS[COMP_CWORD]}
     if [[ $typed == -* ]]; then
-        mapfile -t COMPREPLY < <(compgen -W '-n -v' -- "$typed")
+        mapfile -t COMPREPLY < <(compgen -W '-n -v --levels' -- "$typed")
     else
         mapfile -t COMPREPLY < <(compgen -d -- "$typed"; compgen -f -X '!*,v' -- "$typed")
         compopt -o filenames 2>/dev/null
