@@ -164,6 +164,7 @@ add_edited() {
 # the edits that are pending: -b without those of branches, -u of one user alone
 show_edits() {
     read_words 'u?' '' "$@"
+    takes_only bu "sccs $verb [-b] [-u [login]] [file ...]"
     user='' trunk='' shown=
     ! is_given u || user=${value_u:-${LOGNAME:-nobody}}
     ! is_given b || trunk=' (on trunk)'
@@ -176,6 +177,11 @@ show_edits() {
     done
     [ -n "$shown" ] || [ "$verb" != info ] || echo "Nothing being edited$trunk"
     [ -z "$shown" ] || [ "$verb" != check ] || status=1
+}
+
+# takes_only LETTERS USE: other options are faults
+takes_only() {
+    case $given in *[!"$1"]*) echo "usage: $2" >&2 && exit 2 ;; esac
 }
 
 # the entries of one file, as far as they are asked for
@@ -196,6 +202,7 @@ show_edit() {
 # clean: removes the files that can be got again. What is edited stays, and so does a file that may be written and isn't its newest version.
 clean_folder() {
     map_words clean "$@"
+    takes_only b 'sccs clean [-b] [folder ...]'
     [ -n "$operands" ] || { find_folder && add_operand "$found_folder"; }
     expand_operands
     user='' trunk='' shown='' verb=info going='' doubtful=''
