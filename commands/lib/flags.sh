@@ -16,7 +16,7 @@ may_have_flags() {
         *) set -- "$@" "$at$word" ;;
         esac
     done
-    LC_ALL=C grep -q -s -a -e "$FLAG_E" -e "$FLAG_Y" -- "$@"
+    LC_ALL=C grep -q -s -a -e "$FLAG_E" -e "$FLAG_Y" -- "$@" 2>/dev/null
     # (127 and 126 are of the shell: there is none, or the words are too long for it)
     case $? in 0 | 126 | 127) return 0 ;; esac
     return 1
@@ -32,7 +32,11 @@ with_flags() {
             quote "$folder/$name"
             single="$single $quoted"
         else
-            find "$folder/." ! -name . -prune -name 's.?*' -type f -exec grep -l -s -a -e "$FLAG_E" -e "$FLAG_Y" -- {} + | sed 's,/\./\([^/]*\)$,/\1,'
+            found=$(cd -- "$folder" && find . ! -name . -prune -name 's.?*' -type f -exec grep -l -s -a -e "$FLAG_E" -e "$FLAG_Y" -- {} +)
+            while [ -n "$found" ]; do
+                printf '%s/%s\n' "$folder" "$(printf '%s\n' "$found" | sed -n '1s,^\./,,p')"
+                found=$(printf '%s\n' "$found" | sed 1d)
+            done
         fi
     done
     [ -z "$single" ] || eval "printf '%s\n' $single" | sed 's/[^A-Za-z0-9]/\\&/g' | xargs grep -l -s -a -e "$FLAG_E" -e "$FLAG_Y" -- /dev/null

@@ -28,7 +28,7 @@ class RcsFile:
         self.head = self.branch = self.mode = b''
         self.logins = self.locks = 0
         self.symbols = []
-        self.next_of, self.state_of, self.others = {}, {}, {}
+        self.next_of, self.state_of, self.date_of, self.others = {}, {}, {}, {}
         self.open = False
         self.part = 'head'
         self.phrase = self.number = self.what = self.symbol = b''
@@ -71,6 +71,8 @@ class RcsFile:
             self.phrase = b''
         elif self.part == 'entries' and self.phrase == b'next':
             self.next_of[self.number] = word
+        elif self.part == 'entries' and self.phrase == b'date':
+            self.date_of[self.number] = word
         elif self.part == 'entries' and self.phrase == b'state':
             self.state_of[self.number] = word
         elif self.part == 'head' and self.phrase in (b'head', b'branch'):
@@ -113,6 +115,13 @@ class RcsFile:
 
     trunk = ()
     trunk_set = frozenset()
+
+    def moment(self, number):
+        """Day and second of a revision, as prs has them; nothing where there are none."""
+        parts = self.date_of.get(number, b'').split(b'.')
+        if len(parts) != 6:
+            return None
+        return b'/'.join([parts[0][-2:], *parts[1:3]]), b':'.join(parts[3:])
 
     def dead(self):
         """The revisions of the trunk that say that the file was removed."""
