@@ -66,21 +66,6 @@ read_into() {
     eval "$1=\$work/$1"
 }
 
-# change_value LETTER VALUE NEW: the option with another value
-change_value() {
-    eval "set -- \"\$1\" \"\$2\" \"\$3\" $options"
-    letter=$1 value=$2 changed=$3 options='' before=''
-    shift 3
-    for word; do
-        case $before$word in
-        -*"$letter$value") add_option "${word%"$value"}$changed" ;;
-        *) add_option "$word" ;;
-        esac
-        # (its value may be a word of its own)
-        case $word in -*"$letter") before=$word ;; *) before= ;; esac
-    done
-}
-
 # the program with what was read: the text as its input, the description as a file of the folder in which it is
 give_texts() {
     text=${text:-/dev/null}

@@ -62,8 +62,13 @@ store_file() {
 
 undo_edits() {
     undone=$operands
-    (eval "unget_command $options -- $undone") || { join_status $? && return; }
+    (eval "unget_command $options -- $undone") >/dev/null || { join_status $? && return; }
+    is_given s || is_given n || each tell_removed
     eval "get_command -- $undone"
+}
+
+tell_removed() {
+    printf '%12s: removed\n' "$module"
 }
 
 # print: what prs says of each file, and the lines of its newest version with their deltas

@@ -160,7 +160,8 @@ hand_words() {
     eval "${1}_command $options -- $operands"
 }
 
-# delta, and with delget and deledit a get of each file behind it; the letters of get are its
+# delta, and with delget and deledit a get of each file behind it; the letters of get are its. What deledit has stored stays as it is, where nothing
+# else is asked for.
 hand_delta() {
     if [ "$verb" = delta ]; then
         map_words delta "$@"
@@ -168,12 +169,16 @@ hand_delta() {
     fi
     read_words 'm:r:y?c:i:x:' mnpry "$@"
     got_by=$options
-    [ "$verb" = delget ] || got_by="$got_by -e"
+    case $verb:$got_by in
+    delget:*) keeping='' ;;
+    deledit: | "deledit: '-s'") keeping=-n got_by="$got_by -e -g" ;;
+    *) keeping='' got_by="$got_by -e" ;;
+    esac
     read_words 'm:r:y?c:i:x:' bcegiklstx "$@"
     case $given in *s*) add_option -s && got_by="$got_by -s" ;; esac
     store_operands
     [ -n "$operands" ] || eval "delta_command $options"
-    (eval "delta_command $options -- $operands") || { join_status $? && return; }
+    (eval "delta_command $options $keeping -- $operands") || { join_status $? && return; }
     eval "get_command $got_by -- $operands"
 }
 

@@ -10,7 +10,8 @@ quick() {
     shift 4
     for word; do
         case $behind$word in
-        - | --* | -V | :-*) return 0 ;;
+        # (a cutoff may have four digits of its year)
+        - | --* | -V | :-* | -lp | -c??????????????) return 0 ;;
         -["$valued"]?*) ;;
         -*["$valued$own"]*) return 0 ;;
         -*)
@@ -38,6 +39,7 @@ quick() {
     done
     # what get only prints may be interrupted
     case $utility$letters in
+    get*L*p* | get*p*L*) return 0 ;;
     get*e*) ;;
     get*p*) signals=XFSZ ;;
     esac

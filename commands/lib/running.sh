@@ -11,7 +11,7 @@ set -f
 unset CDPATH GREP_OPTIONS GREP_COLORS POSIXLY_CORRECT BASH_ENV ENV
 LC_ALL=C
 export LC_ALL
-status=0 interrupted='' encoded='' decoding='' work='' working='' hearing='' joins='' found='' shielded='' headed='' several='' entering='' verb=''
+status=0 interrupted='' encoded='' decoding='' ancient='' work='' working='' hearing='' joins='' found='' shielded='' headed='' several='' entering='' verb=''
 options='' operands='' given='' flags='' count=0 utility='' folder=. name='' module='' unplaced=''
 value_a='' value_c='' value_d='' value_e='' value_f='' value_i='' value_m='' value_r='' value_t='' value_u='' value_x='' value_y='' value_G=''
 
@@ -110,6 +110,35 @@ keep_value() {
     case $1 in
     [A-Za-z]) eval "value_$1=\$2" ;;
     esac
+}
+
+# change_value LETTER VALUE NEW: the option with another value
+change_value() {
+    eval "set -- \"\$1\" \"\$2\" \"\$3\" $options"
+    letter=$1 value=$2 changed=$3 options='' before=''
+    shift 3
+    for word; do
+        case $before$word in
+        -*"$letter$value") add_option "${word%"$value"}$changed" ;;
+        *) add_option "$word" ;;
+        esac
+        # (its value may be a word of its own)
+        case $word in -*"$letter") before=$word ;; *) before= ;; esac
+    done
+}
+
+# plain_cutoff: a cutoff whose year has four digits, as one of two; before 1969 and behind 2068 there is no delta
+plain_cutoff() {
+    case $value_c in
+    *[!0-9]*) return ;;
+    ??????????????) ;;
+    *) return ;;
+    esac
+    cutoff=${value_c#??}
+    [ "${value_c%??????????}" -ge 1969 ] || cutoff=690101000000 ancient=1
+    [ "${value_c%??????????}" -le 2068 ] || cutoff=681231235959
+    change_value c "$value_c" "$cutoff"
+    value_c=$cutoff
 }
 
 # is_given LETTER

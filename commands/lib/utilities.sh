@@ -7,9 +7,19 @@ load() {
     . "$here/lib/$1.sh"
 }
 
-# -G names the g-file of a single file, and -a a version by its serial, which the program doesn't
+# -G names the g-file of a single file, and -a a version by its serial, which the program doesn't; System V's -lp is -L, which may stand beside -p
 get_command() {
+    ended=''
+    for word; do
+        shift
+        case $ended$word in
+        -lp) word=-L ;;
+        --) ended=-- ;;
+        esac
+        set -- "$@" "$word"
+    done
     read_words a:c:i:r:x:G: aG "$@"
+    plain_cutoff
     ! is_given p && ! is_given g && headed=1
     is_given p && ! is_given e || shielded=1
     load flags
@@ -17,8 +27,30 @@ get_command() {
         get_by_serial "$@"
     elif is_given G; then
         name_g_file
+    elif is_given L && is_given p && ! is_given l; then
+        summarize_texts
     fi
     hand_on get place_g_file flags
+}
+
+# summarize_texts: each text behind its summary
+summarize_texts() {
+    utility='get'
+    expand_operands
+    find_flags
+    summarized=$operands
+    eval "read_words c:i:r:x: L $options"
+    eval "read_words c:i:r:x: '' $options"
+    operands=$summarized
+    load placing
+    each summarize_text
+    finish
+}
+
+summarize_text() {
+    take_summary || return
+    cat "$work/summary"
+    hand_file "$1" place_g_file
 }
 
 # get_by_serial WORD..: -a, beside which -r and -t don't count
@@ -144,8 +176,12 @@ sact_command() {
 # a data keyword that has nothing is `none`, and a line end at the end of the form gives no second one
 prs_command() {
     read_words c:d:r? d "$@"
+    plain_cutoff
     utility='prs'
     load flags
+    # (no delta is older than that; what is refused is told)
+    [ -z "$ancient" ] || ! is_given e || (hand_on prs use_plain flags) >/dev/null || join_status $?
+    [ -z "$ancient" ] || ! is_given e || finish
     if is_given d; then
         form=$value_d
         case $form in ?*'\n') form=${form%'\n'} ;; esac
