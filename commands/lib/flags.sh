@@ -5,7 +5,8 @@
 FLAG_E='^[^[:print:][:space:]]f e 1$'
 FLAG_Y='^[^[:print:][:space:]]f y '
 
-# may_have_flags WORD..: a file of the current folder, or of that of the environment, among the words may have one of them
+# may_have_flags WORD..: a file of the current folder, or of that of the environment, among the words may have one of them. What is no file isn't
+# opened, since that could wait for another program.
 may_have_flags() {
     at=${SCCS_FOLDER:+$SCCS_FOLDER/}
     for word; do
@@ -13,9 +14,13 @@ may_have_flags() {
         case $word in
         -*) ;;
         .) set +f && set -- "$@" "$at"s.?* && set -f ;;
-        *) set -- "$@" "$at$word" ;;
+        *) [ ! -f "$at$word" ] || set -- "$@" "$at$word" ;;
         esac
     done
+    for word; do
+        [ -f "$word" ] || return 0
+    done
+    [ $# != 0 ] || return 1
     LC_ALL=C grep -q -s -a -e "$FLAG_E" -e "$FLAG_Y" -- "$@" 2>/dev/null
     # (127 and 126 are of the shell: there is none, or the words are too long for it)
     case $? in 0 | 126 | 127) return 0 ;; esac
@@ -30,7 +35,7 @@ with_flags() {
         split_operand "$operand"
         if [ "$name" != . ]; then
             quote "$folder/$name"
-            single="$single $quoted"
+            [ ! -f "$folder/$name" ] || single="$single $quoted"
         else
             found=$(cd -- "$folder" && find . ! -name . -prune -name 's.?*' -type f -exec grep -l -s -a -e "$FLAG_E" -e "$FLAG_Y" -- {} +)
             while [ -n "$found" ]; do
