@@ -73,7 +73,7 @@ is_encoded() {
 # plain_copy: sets `folder` to that of a copy of the s-file without its flag e, where nothing else is against the file
 plain_copy() {
     need_work
-    mkdir -p "$work/plain" || return
+    mkdir -p "$work/plain" && rm -f "$work/plain/$name" || return
     in_folder "$folder" get -g -s -- "$name" 2>"$work/told"
     set -- $?
     if ! grep -q '(09)$' "$work/told"; then

@@ -69,6 +69,8 @@ may_be_written() {
 # make_text: the text as get -p gives it, among the working files; what the program then says on standard error but for refusals is its report
 make_text() {
     need_work
+    # (that of a file before may not be written any more)
+    rm -f "$work/text" "$work/encoded"
     printed=-p
     ! is_given p || printed=
     eval "in_folder \"\$folder\" get $options $printed \"\$name\"" >"$work/text" 2>"$work/told"
