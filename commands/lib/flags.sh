@@ -1,9 +1,15 @@
 # shellcheck shell=sh disable=SC2034,SC2119,SC2120,SC2154
 # Flags that the program doesn't do: e, of an encoded text, which is read here by a copy without the flag, and y, of the keywords that are replaced.
 
-# the flags as they stand in a file: behind a byte that is no text
-FLAG_E='^[^[:print:][:space:]]f e 1$'
-FLAG_Y='^[^[:print:][:space:]]f y '
+# the flags as they stand in a file, and the line behind them all; they begin with a byte that is no text
+FLAG_E='^[[:cntrl:]]f e 1$'
+FLAG_Y='^[[:cntrl:]]f y '
+FLAGS_END='^[[:cntrl:]]t$'
+
+# first_flags WORD..: of each file the first line that is one of these; so no text is read
+first_flags() {
+    LC_ALL=C grep -a -s -m 1 -e "$FLAG_E" -e "$FLAG_Y" -e "$FLAGS_END" "$@"
+}
 
 # may_have_flags WORD..: a file of the current folder, or of that of the environment, among the words may have one of them. What is no file isn't
 # opened, since that could wait for another program.
@@ -20,11 +26,28 @@ may_have_flags() {
     for word; do
         [ -f "$word" ] || return 0
     done
-    [ $# != 0 ] || return 1
-    LC_ALL=C grep -q -s -a -e "$FLAG_E" -e "$FLAG_Y" -- "$@" 2>/dev/null
+    case $# in
+    0) return 1 ;;
+    1) short_header "$1" || return $(($? - 1)) ;;
+    esac
+    flagged=$(first_flags -h -- "$@" 2>/dev/null)
     # (127 and 126 are of the shell: there is none, or the words are too long for it)
-    case $? in 0 | 126 | 127) return 0 ;; esac
+    case $?:$flagged in
+    126:* | 127:* | *'f e 1'* | *'f y '*) return 0 ;;
+    esac
     return 1
+}
+
+# short_header FILE: reads a header of few lines without a process; 1 where it has a flag, 2 where it has none, 0 where it is longer
+short_header() {
+    count=0
+    while [ "$count" -lt 40 ] && IFS= read -r line; do
+        case $line in
+        ?t) return 2 ;;
+        ?'f e 1' | ?'f y '*) return 1 ;;
+        esac
+        count=$((count + 1))
+    done <"$1"
 }
 
 # with_flags: those of the operands' s-files that may have one of them, as folder/name
@@ -37,14 +60,22 @@ with_flags() {
             quote "$folder/$name"
             [ ! -f "$folder/$name" ] || single="$single $quoted"
         else
-            found=$(cd -- "$folder" && find . ! -name . -prune -name 's.?*' -type f -exec grep -l -s -a -e "$FLAG_E" -e "$FLAG_Y" -- {} +)
-            while [ -n "$found" ]; do
-                printf '%s/%s\n' "$folder" "$(printf '%s\n' "$found" | sed -n '1s,^\./,,p')"
-                found=$(printf '%s\n' "$found" | sed 1d)
-            done
+            (cd -- "$folder" && find . ! -name . -prune -name 's.?*' -type f -exec grep -H -a -s -m 1 -e "$FLAG_E" -e "$FLAG_Y" -e "$FLAGS_END" -- {} +) |
+                named_flags | while IFS= read -r file; do printf '%s/%s\n' "$folder" "${file#./}"; done
         fi
     done
-    [ -z "$single" ] || eval "printf '%s\n' $single" | sed 's/[^A-Za-z0-9]/\\&/g' | xargs grep -l -s -a -e "$FLAG_E" -e "$FLAG_Y" -- /dev/null
+    [ -z "$single" ] || eval "printf '%s\n' $single" | sed 's/[^A-Za-z0-9]/\\&/g' |
+        xargs grep -H -a -s -m 1 -e "$FLAG_E" -e "$FLAG_Y" -e "$FLAGS_END" -- /dev/null | named_flags
+}
+
+# named_flags: of lines of grep the files with a flag
+named_flags() {
+    sed -n 's/:[[:cntrl:]]f [ey] .*$//p'
+}
+
+# has_flag FORM FILE: its header has a line of that form
+has_flag() {
+    [ -n "$(sed -n "/$1/p; /$FLAGS_END/q" <"$2")" ]
 }
 
 # find_flags: sets `encoded` to the files with an encoded text, and says whose flag y isn't done, where keywords are replaced
@@ -52,10 +83,10 @@ find_flags() {
     flagged=$(with_flags)
     [ -n "$flagged" ] || return 0
     while IFS= read -r file; do
-        ! grep -q -a -e "$FLAG_E" -- "$file" || encoded=$encoded$newline$file
+        ! has_flag "$FLAG_E" "$file" || encoded=$encoded$newline$file
         case $utility:$given in
         get:*[kge]*) ;;
-        get:*) grep -q -a -e "$FLAG_Y" -- "$file" && echo "get: ${file##*/}: its flag y names keywords, and all are replaced (-k leaves them)" >&2 ;;
+        get:*) has_flag "$FLAG_Y" "$file" && echo "get: ${file##*/}: its flag y names keywords, and all are replaced (-k leaves them)" >&2 ;;
         esac
     done <<X
 $flagged
@@ -78,18 +109,19 @@ plain_copy() {
     set -- $?
     if ! grep -q '(09)$' "$work/told"; then
         tell_refusals "$folder" "$1" <"$work/told"
-        return "$1"
+        [ "$1" != 0 ] || echo "$utility: $name: has changed meanwhile" >&2
+        return 1
     fi
-    sed "1,/^[^ -~]t/{/$FLAG_E/d;}" "$folder/$name" >"$work/plain/$name" && in_folder "$work/plain" admin -z -- "$name" || return
+    sed "1,/$FLAGS_END/{/$FLAG_E/d;}" <"$folder/$name" >"$work/plain/$name" && in_folder "$work/plain" admin -z -- "$name" || return
     folder=$work/plain
 }
 
-# use_plain OPERAND: the utility on the copy
+# use_plain OPERAND: the utility on a file, or on the copy of one with an encoded text
 use_plain() {
     case $utility:$options in
     # (the copy has another place)
     prs:*:PN:*) ;;
-    *) plain_copy || return ;;
+    *) ! is_encoded "$folder" "$name" || plain_copy || return ;;
     esac
     eval "explained \"\$folder\" \"\$utility\" $options -- \"\$name\""
 }
@@ -128,6 +160,6 @@ decode() {
         }' >"$work/octal" || { echo "get: $name: a line isn't encoded" >&2 && return 1; }
     while read -r line; do
         # shellcheck disable=SC2059
-        printf "$line"
+        printf "$line" || return
     done <"$work/octal"
 }

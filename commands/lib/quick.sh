@@ -1,6 +1,47 @@
 # shellcheck shell=sh disable=SC2154
 # Nothing where nothing is added: the shell becomes the program where that takes the words as they stand and nothing is to be explained.
 
+# quick_words WORD..: sets `letters` to those of the options and `within` to the folder of the files; 1 where the words need more
+quick_words() {
+    for word; do
+        case $behind$word in
+        # (a cutoff may have four digits of its year)
+        - | --* | -V | :-* | -lp | -c??????????????) return 1 ;;
+        -["$valued"]?*) ;;
+        -*["$valued$own"]*) return 1 ;;
+        -*)
+            left=${word#-}
+            while [ -n "$left" ]; do
+                case $letters in *"${left%"${left#?}"}"*) return 1 ;; esac
+                letters=$letters${left%"${left#?}"} left=${left#?}
+            done
+            ;;
+        *)
+            case $word in
+            /s.* | */s.[spxqz].* | */s.sccs.*) return 1 ;;
+            */s.*)
+                [ -n "$behind" ] || within=${word%/*}
+                [ "$within" = "${word%/*}" ] || return 1
+                ;;
+            */*) return 1 ;;
+            *) [ -z "$within" ] || return 1 ;;
+            esac
+            behind=:
+            [ "$word" = . ] || [ ! -d "$word" ] || return 1
+            [ "$utility" != val ] || [ -r "$word" ] || return 1
+            ;;
+        esac
+    done
+}
+
+# quick_program: sets `program`, where it is sure which
+quick_program() {
+    program=${SCCS_CORE:-}
+    [ -z "$program" ] || return 0
+    [ ! -x "$here/../tools/program" ] || return 1
+    program=$here/../../bin/sccs-core
+}
+
 # quick UTILITY SIGNALS VALUED OWN WORD..: returns where the words need more. SIGNALS are those that the program doesn't hear, VALUED the letters
 # of options with a value, which stands in their word here, and OWN those that the program lacks. The files are those of the current folder, or all
 # of one other.
@@ -8,46 +49,14 @@ quick() {
     [ -n "${LOGNAME:-}" ] && [ ! -t 2 ] && [ "${SCCS_EXPLAIN:-0}" = 0 ] || return 0
     utility=$1 signals=$2 valued=$3 own=$4 letters='' behind='' within=''
     shift 4
-    for word; do
-        case $behind$word in
-        # (a cutoff may have four digits of its year)
-        - | --* | -V | :-* | -lp | -c??????????????) return 0 ;;
-        -["$valued"]?*) ;;
-        -*["$valued$own"]*) return 0 ;;
-        -*)
-            left=${word#-}
-            while [ -n "$left" ]; do
-                case $letters in *"${left%"${left#?}"}"*) return 0 ;; esac
-                letters=$letters${left%"${left#?}"} left=${left#?}
-            done
-            ;;
-        *)
-            case $word in
-            /s.* | */s.[spxqz].* | */s.sccs.*) return 0 ;;
-            */s.*)
-                [ -n "$behind" ] || within=${word%/*}
-                [ "$within" = "${word%/*}" ] || return 0
-                ;;
-            */*) return 0 ;;
-            *) [ -z "$within" ] || return 0 ;;
-            esac
-            behind=:
-            [ "$word" = . ] || [ ! -d "$word" ] || return 0
-            [ "$utility" != val ] || [ -r "$word" ] || return 0
-            ;;
-        esac
-    done
+    quick_words "$@" || return 0
     # what get only prints may be interrupted
     case $utility$letters in
     get*L*p* | get*p*L*) return 0 ;;
     get*e*) ;;
     get*p*) signals=XFSZ ;;
     esac
-    program=${SCCS_CORE:-}
-    if [ -z "$program" ]; then
-        [ ! -x "$here/../tools/program" ] || return 0
-        program=$here/../../bin/sccs-core
-    fi
+    quick_program || return 0
     if [ -n "$within" ]; then
         [ "$utility" != what ] && [ -d "$within" ] && [ -x "$within" ] || return 0
         for word; do
@@ -55,6 +64,7 @@ quick() {
             case $word in -*) ;; *) word=${word##*/} ;; esac
             set -- "$@" "$word"
         done
+        named=${SCCS_FOLDER:-}
         if [ "$within" != . ]; then
             SCCS_FOLDER=$within
             export SCCS_FOLDER
@@ -67,7 +77,7 @@ quick() {
         # shellcheck source=commands/lib/flags.sh
         . "$here/lib/flags.sh"
         if may_have_flags "$@"; then
-            [ -z "$within" ] || unset SCCS_FOLDER
+            [ -z "$within" ] || SCCS_FOLDER=$named
             return 0
         fi
         ;;
