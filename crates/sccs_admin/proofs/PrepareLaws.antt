@@ -8,7 +8,7 @@ use Rattle.sccs_disk.specs.Calls.{IsThere}
 use Rattle.sccs_disk.specs.Files.{Content, View, put}
 use Rattle.sccs_disk.specs.Told.{Told, seen}
 use Rattle.sccs_disk.proofs.Puts.{put_other, put_same}
-use Rattle.sccs_files.specs.StepFiles.{Files, Moves, is_working, l_file, look}
+use Rattle.sccs_name_files.specs.StepFiles.{Files, Moves, is_working, l_file, look}
 use Rattle.sccs_sid.specs.declared.moments.Stamp.{Stamp}
 use Rattle.sccs_sid.specs.declared.refusals.Refusal.{Refusal}
 use Rattle.sccs_sid.specs.declared.refusals.StepFault.{StepFault}
@@ -19,11 +19,11 @@ use Rattle.sccs_steps.specs.Calls.{world}
 use Rattle.sccs_steps.specs.StepEffects.{Outcome}
 use Rattle.sccs_store.specs.Commits.{Becomes, Needs, chosen, files_after, replaced}
 use Rattle.sccs_store.specs.declared.new_files.NewFile.{NewFile}
-use Rattle.sccs_moments.proofs.FileNames.{from_g, from_s, no_x}
+use Rattle.sccs_crash_points.proofs.FileNames.{from_g, from_s, no_x}
 use Rattle.sccs_store.proofs.Working.{made_moves, made_there, moves_wider}
-use Rattle.sccs_transactions.specs.Changes.{CouldPrepare, IsQuiet, IsReady, IsUnmade, Prepares, PreparesChange, plan_of, unlocked}
-use Rattle.sccs_transactions.specs.declared.prepared.Prepared.{Prepared}
-use Rattle.sccs_transactions.proofs.Taken.{x_alone}
+use Rattle.sccs_changes.specs.Changes.{CouldPrepare, IsQuiet, IsReady, IsUnmade, Prepares, PreparesChange, plan_of, unlocked}
+use Rattle.sccs_changes.specs.declared.prepared.Prepared.{Prepared}
+use Rattle.sccs_changes.proofs.Taken.{x_alone}
 use Rattle.sccs_words.specs.declared.commands.AdminWords.{AdminWords}
 use Rattle.sccs_admin.specs.AdminStep.{admin_change, admin_checks, admin_outcome, found_texts, makes, named_in}
 use Rattle.sccs_admin.specs.NewFiles.{new_content}

@@ -15,7 +15,7 @@ use Rattle.sccs_sid.specs.declared.refusals.StepFault.TheVariants as step
 use Rattle.sccs_history.specs.History.{AreBare, AreLines}
 use Rattle.sccs_history.specs.declared.headers.Flag.{Flag}
 use Rattle.sccs_script.specs.Checks.{bad_line}
-use Rattle.sccs_pending.specs.PFiles.{Answers, PassesCheck}
+use Rattle.sccs_changes.specs.PFiles.{Answers, PassesCheck}
 use Rattle.sccs_rules.specs.Flags.{changed_flags}
 use Rattle.sccs_steps.specs.Actions.{RefusesWithin, has_number}
 use Rattle.sccs_steps.specs.StepEffects.{check}

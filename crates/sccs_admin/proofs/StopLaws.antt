@@ -6,9 +6,9 @@ use Rattle.sccs_disk.specs.Files.{Content, View, put}
 use Rattle.sccs_disk.specs.Images.{IsFirm}
 use Rattle.sccs_disk.specs.Told.{Told, seen}
 use Rattle.sccs_disk.proofs.Puts.{put_other}
-use Rattle.sccs_images.specs.Touches.{Leaves}
-use Rattle.sccs_moments.proofs.FileNames.{from_s}
-use Rattle.sccs_moments.specs.Recovery.{IsSound}
+use Rattle.sccs_name_files.specs.Touches.{Leaves}
+use Rattle.sccs_crash_points.proofs.FileNames.{from_s}
+use Rattle.sccs_crash_points.specs.Recovery.{IsSound}
 use Rattle.sccs_pfile.specs.Recovered.{recovered_pfile}
 use Rattle.sccs_sid.specs.declared.moments.Stamp.{Stamp}
 use Rattle.sccs_sid.specs.declared.refusals.StepFault.{StepFault}
@@ -16,11 +16,11 @@ use Rattle.sccs_store.specs.Commits.{Becomes, chosen, files_after}
 use Rattle.sccs_store.specs.Stops.{KeepsEntries, OnReplace}
 use Rattle.sccs_store.specs.declared.new_files.NewFile.{NewFile}
 use Rattle.sccs_store.specs.declared.new_files.NewFile.TheVariants.{Keep, Replace, Remove}
-use Rattle.sccs_transactions.specs.Changes.{plan_of}
+use Rattle.sccs_changes.specs.Changes.{plan_of}
 use Rattle.sccs_steps.specs.StepStops.{ArePaired, IsPaired}
-use Rattle.sccs_transactions.specs.Stops.{IsFirmPrepared, SettlesEntries}
-use Rattle.sccs_transactions.specs.declared.prepared.Prepared.{Prepared}
-use Rattle.sccs_transactions.proofs.StopEnds.{plain_where}
+use Rattle.sccs_changes.specs.Stops.{IsFirmPrepared, SettlesEntries}
+use Rattle.sccs_changes.specs.declared.prepared.Prepared.{Prepared}
+use Rattle.sccs_changes.proofs.StopEnds.{plain_where}
 use Rattle.sccs_words.specs.declared.commands.AdminWords.{AdminWords}
 use Rattle.sccs_admin.specs.NewFiles.{new_content}
 use Rattle.sccs_admin.specs.Parts.{IsNewSfile, WritesTexts}

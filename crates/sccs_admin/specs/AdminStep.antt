@@ -11,10 +11,10 @@ use Rattle.sccs_sid.specs.declared.refusals.Refusal.TheVariants.{Exists, TooLong
 use Rattle.sccs_sid.specs.declared.refusals.Refusal.TheVariants as refusals
 use Rattle.sccs_sid.specs.declared.refusals.Refusal.{Refusal}
 use Rattle.sccs_disk.specs.Files.{Content}
-use Rattle.sccs_files.specs.StepFiles.{Files}
+use Rattle.sccs_name_files.specs.StepFiles.{Files}
 use Rattle.sccs_steps.specs.StepEffects.{Outcome, check}
 use Rattle.sccs_steps.specs.Actions.{Step, quiet_checks}
-use Rattle.sccs_transactions.specs.Changes.{Changing}
+use Rattle.sccs_changes.specs.Changes.{Changing}
 use Rattle.sccs_words.specs.declared.commands.AdminWords.{AdminWords}
 use Rattle.sccs_admin.specs.NewFiles.{new_content}
 use Rattle.sccs_admin.specs.Rules.{new_rules}

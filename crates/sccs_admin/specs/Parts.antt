@@ -11,14 +11,14 @@ use Rattle.sccs_sid.specs.declared.refusals.Refusal.TheVariants as refusals
 use Rattle.sccs_sid.specs.declared.refusals.StepFault.{StepFault}
 use Rattle.sccs_sid.specs.declared.refusals.StepFault.TheVariants.{Refused, Memory, ReadFault, WriteFault, DiskFault}
 use Rattle.sccs_disk.specs.Files.{View, put}
-use Rattle.sccs_files.specs.StepFiles.{Moves}
-use Rattle.sccs_files.specs.WholeFiles.{AnswersWhole}
-use Rattle.sccs_files.specs.declared.whole_files.WholeFault.{WholeFault}
+use Rattle.sccs_name_files.specs.StepFiles.{Moves}
+use Rattle.sccs_name_files.specs.WholeFiles.{AnswersWhole}
+use Rattle.sccs_name_files.specs.declared.whole_files.WholeFault.{WholeFault}
 use Rattle.sccs_steps.specs.Actions.{IsHeard}
 use Rattle.sccs_store.specs.Commits.{Becomes}
 use Rattle.sccs_store.specs.declared.new_files.NewFile.TheVariants.{Keep}
-use Rattle.sccs_transactions.specs.Changes.{unlocked}
-use Rattle.sccs_transactions.specs.declared.prepared.Prepared.{Prepared}
+use Rattle.sccs_changes.specs.Changes.{unlocked}
+use Rattle.sccs_changes.specs.declared.prepared.Prepared.{Prepared}
 use Rattle.sccs_history.specs.History.{AreLines}
 use Rattle.sccs_rules.specs.Flags.{changed_flags}
 use Rattle.sccs_words.specs.declared.commands.AdminWords.{AdminWords}

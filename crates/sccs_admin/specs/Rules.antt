@@ -10,7 +10,7 @@ use Rattle.sccs_history.specs.FlagText.{flag_i, flag_v}
 use Rattle.sccs_history.specs.declared.headers.Flag.{Flag}
 use Rattle.sccs_flags.specs.FlagValues.{flag_of, has_flag}
 use Rattle.sccs_rules.specs.Flags.{changed_flags, sets_flag}
-use Rattle.sccs_keys.specs.Keywords.{is_keyword, parts}
+use Rattle.sccs_keywords.specs.Keywords.{is_keyword, parts}
 use Rattle.sccs_steps.specs.StepEffects.{check}
 use Rattle.sccs_words.specs.declared.commands.AdminWords.{AdminWords}
 use Rattle.sccs_words.specs.declared.commands.Given.{Given}

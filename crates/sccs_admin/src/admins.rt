@@ -7,8 +7,8 @@ ghost use Rattle.sccs_sid.specs.declared.refusals.StepFault.TheVariants as fault
 ghost use Rattle.sccs_admin.specs.AdminStep.{AreAdminValues, admin_change, admin_checks};
 ghost use Rattle.sccs_admin.specs.Parts.{AreShort, IsNewSfile, WritesTexts};
 ghost use Rattle.sccs_steps.specs.Actions.{RefusesWithin};
-ghost use Rattle.sccs_images.specs.Touches.{TouchesOnly};
-ghost use Rattle.sccs_transactions.specs.Stops.{IsFirmPrepared};
+ghost use Rattle.sccs_name_files.specs.Touches.{TouchesOnly};
+ghost use Rattle.sccs_changes.specs.Stops.{IsFirmPrepared};
 ghost use Rattle.sccs_admin.specs.Locks.{admin_locked};
 
 use crate::bodies::TextBody;
@@ -16,11 +16,11 @@ use crate::finding::{NewTexts, find_texts};
 use crate::headers::new_header;
 use crate::rules::new_rules;
 use sccs_base::{Bytes, Name, Sink, Source};
+use sccs_changes::{Change, Prepared};
 use sccs_disk::{Disk, DiskRefusal};
 use sccs_new_files::write_new;
 use sccs_sid::{Stamp, StepFault};
 use sccs_store::NewFile;
-use sccs_transactions::{Change, Prepared};
 use sccs_words::{AdminWords, Given};
 use std::alloc::Global;
 

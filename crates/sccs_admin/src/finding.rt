@@ -7,7 +7,7 @@ ghost use Rattle.sccs_disk.specs.Told.{seen};
 ghost use Rattle.sccs_sid.specs.declared.refusals.StepFault.TheVariants as fault;
 ghost use Rattle.sccs_steps.specs.Actions.{RefusesWithin};
 ghost use Rattle.sccs_steps.specs.Causes.{Ignores};
-ghost use Rattle.sccs_pending.specs.PFiles.{OnlyReads};
+ghost use Rattle.sccs_changes.specs.PFiles.{OnlyReads};
 ghost use Rattle.sccs_admin.specs.AdminStep.{admin_checks};
 ghost use Rattle.sccs_admin.specs.Parts.{AreShort, FindsNamed, FindsTexts, Hears, IsFresh, IsShort, ReadsNamed, TakesText, whole_text};
 ghost use Rattle.sccs_admin.specs.Texts.{takes_input};
@@ -16,7 +16,7 @@ ghost use Rattle.sccs_disk.specs.Causes.{DiskCauses};
 
 use sccs_base::{Bytes, FILE_LIMIT, Name, Source, TakeFault, take_all};
 use sccs_disk::Disk;
-use sccs_files::{WholeFault, read_whole};
+use sccs_name_files::{WholeFault, read_whole};
 use sccs_sid::{Refusal, StepFault};
 use sccs_words::{AdminWords, Given};
 use std::alloc::Global;

@@ -5,7 +5,7 @@ ghost use Rattle.sccs_flags.specs.FlagValues.{has_flag};
 ghost use Rattle.sccs_sid.specs.declared.refusals.StepFault.TheVariants as faults;
 ghost use Rattle.sccs_steps.specs.Actions.{RefusesWithin};
 ghost use Rattle.sccs_rules.specs.Flags.{changed_flags};
-ghost use Rattle.sccs_pending.specs.PFiles.{Answers, PassesCheck};
+ghost use Rattle.sccs_changes.specs.PFiles.{Answers, PassesCheck};
 ghost use Rattle.sccs_admin.specs.AdminStep.{admin_checks};
 ghost use Rattle.sccs_admin.specs.Parts.{AreRules, AreShort};
 ghost use Rattle.sccs_admin.specs.Rules.{bare_lines, described, text_has_keyword, has_text, has_wanted_keyword, is_given, mrs_fit, new_description, new_flags, new_rules, or_bad_flag, rule_checks};

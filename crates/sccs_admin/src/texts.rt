@@ -8,7 +8,7 @@ ghost use Rattle.sccs_admin.specs.Texts.{count_lines, lacking};
 
 use bstr::ByteSlice;
 use sccs_base::{LF, SOH};
-use sccs_keys::has_keyword;
+use sccs_keywords::has_keyword;
 
 // whether a line begins as a control line does
 fn is_control(line: &[u8]) -> bool

@@ -15,8 +15,8 @@ use Rattle.sccs_table.specs.FrontFile.{Refuses}
 use Rattle.sccs_table.specs.ReaderState.{file_in}
 use Rattle.sccs_table.specs.declared.fronts.Front.{Front}
 use Rattle.sccs_body.specs.BodyFile.{AnswersFile}
-use Rattle.sccs_files.specs.StepFiles.{Moves, is_working, look}
-use Rattle.sccs_pending.specs.Pending.{bytes_at}
+use Rattle.sccs_name_files.specs.StepFiles.{Moves, is_working, look}
+use Rattle.sccs_changes.specs.Pending.{bytes_at}
 use Rattle.sccs_steps.specs.Calls.{Meets, scene, world}
 use Rattle.sccs_steps.specs.Actions.{IsHeard, RefusesWithin, SpeaksBy, Stepped}
 use Rattle.sccs_steps.proofs.ReadingSteps.{Explains, ends_silent, same_cleared}

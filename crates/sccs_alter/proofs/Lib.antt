@@ -1,7 +1,16 @@
+pub mod CdcCheckLaws
+pub mod CdcHeaderLaws
+pub mod CdcPrepareLaws
+pub mod CdcReadLaws
+pub mod CdcStopLaws
+pub mod ChangedVersions
 pub mod CheckLaws
 pub mod FileReads
 pub mod HeaderLaws
+pub mod Places
 pub mod PrepareLaws
 pub mod ReadLaws
 pub mod StopLaws
+pub mod TableLaws
+pub mod TextLaws
 pub mod WriteLaws

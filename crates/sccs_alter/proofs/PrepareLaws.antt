@@ -5,7 +5,7 @@ use Rattle.sccs_base.specs.Name.{IsSfile, x_file}
 use Rattle.sccs_base.proofs.Gifts.{gives_none}
 use Rattle.sccs_disk.specs.Files.{Content, View}
 use Rattle.sccs_disk.specs.Told.{Told, seen}
-use Rattle.sccs_files.specs.StepFiles.{Files, Moves, is_working, look}
+use Rattle.sccs_name_files.specs.StepFiles.{Files, Moves, is_working, look}
 use Rattle.sccs_sid.specs.Reading.{◌>>=◌}
 use Rattle.sccs_sid.specs.declared.refusals.Refusal.{Refusal}
 use Rattle.sccs_sid.specs.declared.refusals.StepFault.{StepFault}
@@ -21,21 +21,21 @@ use Rattle.sccs_table.specs.ReaderState.{bytes_in}
 use Rattle.sccs_body.specs.AnySum.{ShowsUnsummed}
 use Rattle.sccs_body.specs.BodyFile.{items_of}
 use Rattle.sccs_body.specs.ToCome.{IsFrontFor}
-use Rattle.sccs_moments.proofs.FileNames.{no_x}
-use Rattle.sccs_pending.specs.Pending.{bytes_at}
+use Rattle.sccs_crash_points.proofs.FileNames.{no_x}
+use Rattle.sccs_changes.specs.Pending.{bytes_at}
 use Rattle.sccs_steps.specs.Actions.{RefusesWithin, quiet_checks}
 use Rattle.sccs_steps.specs.Calls.{world}
 use Rattle.sccs_steps.specs.StepEffects.{Outcome}
 use Rattle.sccs_store.specs.Commits.{files_after}
 use Rattle.sccs_store.specs.Stops.{KeepsEntries}
 use Rattle.sccs_steps.specs.StepStops.{ArePaired, IsPaired}
-use Rattle.sccs_moments.specs.Recovery.{IsSound}
+use Rattle.sccs_crash_points.specs.Recovery.{IsSound}
 use Rattle.sccs_store.specs.SealedFiles.{sealed}
 use Rattle.sccs_store.proofs.Working.{moves_wider}
-use Rattle.sccs_transactions.specs.Changes.{CouldPrepare, Prepares, PreparesChange, plan_of, unlocked}
-use Rattle.sccs_transactions.specs.Stops.{SettlesEntries}
-use Rattle.sccs_transactions.specs.declared.prepared.Prepared.{Prepared}
-use Rattle.sccs_transactions.proofs.Taken.{x_alone}
+use Rattle.sccs_changes.specs.Changes.{CouldPrepare, Prepares, PreparesChange, plan_of, unlocked}
+use Rattle.sccs_changes.specs.Stops.{SettlesEntries}
+use Rattle.sccs_changes.specs.declared.prepared.Prepared.{Prepared}
+use Rattle.sccs_changes.proofs.Taken.{x_alone}
 use Rattle.sccs_words.specs.declared.commands.AdminWords.{AdminWords}
 use Rattle.sccs_admin.specs.AdminStep.{makes}
 use Rattle.sccs_admin.specs.Parts.{IsNewSfile}

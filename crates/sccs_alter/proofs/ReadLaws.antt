@@ -3,8 +3,8 @@ use Rattle.std.proofs.Common.{◌≡◌, ℕ, ◌≤◌, Bool, true, false, List
 use Rattle.std.specs.Prelude.{IfOk, is_some, nat_le}
 use Rattle.sccs_base.specs.Constants.{file_limit}
 use Rattle.sccs_disk.specs.Files.{Content, View}
-use Rattle.sccs_files.specs.WholeFiles.{AnswersWhole}
-use Rattle.sccs_files.specs.declared.whole_files.WholeFault.TheVariants as whole
+use Rattle.sccs_name_files.specs.WholeFiles.{AnswersWhole}
+use Rattle.sccs_name_files.specs.declared.whole_files.WholeFault.TheVariants as whole
 use Rattle.sccs_sid.specs.Reading.{◌>>=◌}
 use Rattle.sccs_sid.specs.declared.refusals.Refusal.{Refusal}
 use Rattle.sccs_sid.specs.declared.refusals.Refusal.TheVariants.{Missing, TooLong}
@@ -20,10 +20,10 @@ use Rattle.sccs_table.specs.declared.fronts.Front.{Front}
 use Rattle.sccs_body.specs.AnySum.{AnswersUnsummed, ShowsUnsummed}
 use Rattle.sccs_body.specs.BodyFile.{AnswersFile, ShowsFile}
 use Rattle.sccs_body.proofs.FileLaws.{file_items}
-use Rattle.sccs_pending.specs.PFiles.{Answers, PassesCheck}
-use Rattle.sccs_pending.specs.Pending.{bytes_at}
+use Rattle.sccs_changes.specs.PFiles.{Answers, PassesCheck}
+use Rattle.sccs_changes.specs.Pending.{bytes_at}
 use Rattle.sccs_steps.specs.StepEffects.{check}
-use Rattle.sccs_transactions.specs.Changes.{unlocked}
+use Rattle.sccs_changes.specs.Changes.{unlocked}
 use Rattle.sccs_words.specs.declared.commands.AdminWords.{AdminWords}
 use Rattle.sccs_words.specs.declared.commands.Given.{Given}
 use Rattle.sccs_words.specs.declared.commands.Given.TheVariants.{No, Bare, From}

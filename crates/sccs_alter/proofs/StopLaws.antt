@@ -12,23 +12,23 @@ use Rattle.sccs_history.specs.History.{IsHeader, IsSpelled}
 use Rattle.sccs_history.specs.declared.headers.Header.{Header}
 use Rattle.sccs_history.specs.declared.headers.Item.{Item}
 use Rattle.sccs_history.specs.declared.headers.Record.{Record}
-use Rattle.sccs_moments.specs.Recovery.{IsSound}
-use Rattle.sccs_moments.proofs.FileNames.{from_s}
+use Rattle.sccs_crash_points.specs.Recovery.{IsSound}
+use Rattle.sccs_crash_points.proofs.FileNames.{from_s}
 use Rattle.sccs_pfile.specs.Recovered.{recovered_by, recovered_pfile, table_of}
 use Rattle.sccs_pfile.specs.Reading.{edits_of}
 use Rattle.sccs_grammar.specs.AnySum.{unsummed_file}
 use Rattle.sccs_grammar.specs.declared.faults.FileFault.{FileFault}
 use Rattle.sccs_grammar.proofs.AnySumLaws.{unsummed_ok}
-use Rattle.sccs_pending.proofs.StopLaws.{table_is, unsummed_table}
+use Rattle.sccs_changes.proofs.StopLaws.{table_is, unsummed_table}
 use Rattle.sccs_store.specs.Commits.{Becomes, chosen, files_after, replaced}
 use Rattle.sccs_store.specs.SealedFiles.{sealed}
 use Rattle.sccs_store.specs.Stops.{KeepsEntries}
 use Rattle.sccs_store.specs.declared.new_files.NewFile.{NewFile}
 use Rattle.sccs_steps.specs.StepStops.{ArePaired, IsPaired}
-use Rattle.sccs_transactions.specs.Changes.{plan_of}
-use Rattle.sccs_transactions.specs.Stops.{SettlesEntries}
-use Rattle.sccs_transactions.specs.declared.prepared.Prepared.{Prepared}
-use Rattle.sccs_transactions.proofs.StopEnds.{plain_where}
+use Rattle.sccs_changes.specs.Changes.{plan_of}
+use Rattle.sccs_changes.specs.Stops.{SettlesEntries}
+use Rattle.sccs_changes.specs.declared.prepared.Prepared.{Prepared}
+use Rattle.sccs_changes.proofs.StopEnds.{plain_where}
 use Rattle.sccs_words.specs.declared.commands.AdminWords.{AdminWords}
 use Rattle.sccs_admin.specs.Parts.{IsNewSfile}
 use Rattle.sccs_alter.specs.AlterStep.{altered_header, file_read}

@@ -16,8 +16,8 @@ use Rattle.sccs_history.specs.declared.headers.Header.{Header}
 use Rattle.sccs_history.specs.declared.headers.Item.{Item}
 use Rattle.sccs_store.proofs.Working.{same_touches}
 use Rattle.sccs_writers.proofs.OneFile.{only_none}
-use Rattle.sccs_transactions.specs.declared.prepared.Prepared.{Prepared}
-use Rattle.sccs_pending.specs.PFiles.{Answers}
+use Rattle.sccs_changes.specs.declared.prepared.Prepared.{Prepared}
+use Rattle.sccs_changes.specs.PFiles.{Answers}
 use Rattle.sccs_copies.specs.Copies.{MakesFile, MakesOneFile}
 use Rattle.sccs_steps.specs.Actions.{RefusesWithin, has_number}
 use Rattle.sccs_admin.proofs.RuleLaws.{wider_checks}

@@ -15,11 +15,11 @@ use Rattle.sccs_history.specs.declared.headers.Header.{Header}
 use Rattle.sccs_rules.specs.Flags.{changed_flags}
 use Rattle.sccs_rules.specs.Rules.{with_rules}
 use Rattle.sccs_rules.specs.Users.{changed_users}
-use Rattle.sccs_pending.specs.Pending.{bytes_at}
+use Rattle.sccs_changes.specs.Pending.{bytes_at}
 use Rattle.sccs_steps.specs.Actions.{Step, quiet_checks}
 use Rattle.sccs_steps.specs.StepEffects.{check}
 use Rattle.sccs_store.specs.SealedFiles.{sealed}
-use Rattle.sccs_transactions.specs.Changes.{Changing}
+use Rattle.sccs_changes.specs.Changes.{Changing}
 use Rattle.sccs_words.specs.declared.commands.AdminWords.{AdminWords}
 use Rattle.sccs_words.specs.declared.commands.Given.{Given}
 use Rattle.sccs_admin.specs.AdminStep.{makes}

@@ -1,4 +1,9 @@
 pub mod AlterStep
+pub mod CdcLocks
+pub mod CdcParts
+pub mod CdcStep
+pub mod Changes
 pub mod CheckStep
 pub mod Locks
+pub mod NewVersions
 pub mod Parts

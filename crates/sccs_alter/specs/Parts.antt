@@ -13,11 +13,11 @@ use Rattle.sccs_table.specs.FrontFile.{ShowsOrRefuses}
 use Rattle.sccs_table.specs.declared.fronts.Front.{Front}
 use Rattle.sccs_history.specs.declared.headers.Header.{Header}
 use Rattle.sccs_history.specs.declared.headers.Item.{Item}
-use Rattle.sccs_pending.specs.Pending.{bytes_at}
+use Rattle.sccs_changes.specs.Pending.{bytes_at}
 use Rattle.sccs_store.specs.Commits.{Becomes}
 use Rattle.sccs_store.specs.SealedFiles.{sealed}
-use Rattle.sccs_transactions.specs.Changes.{unlocked}
-use Rattle.sccs_transactions.specs.declared.prepared.Prepared.{Prepared}
+use Rattle.sccs_changes.specs.Changes.{unlocked}
+use Rattle.sccs_changes.specs.declared.prepared.Prepared.{Prepared}
 use Rattle.sccs_words.specs.declared.commands.AdminWords.{AdminWords}
 use Rattle.sccs_admin.specs.Texts.{named_by}
 use Rattle.sccs_alter.specs.AlterStep.{file_read, read_file}

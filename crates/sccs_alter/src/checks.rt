@@ -2,7 +2,7 @@ ghost use Rattle.std.specs.Prelude.{IfSome};
 ghost use Rattle.sccs_disk.specs.Files.{View};
 ghost use Rattle.sccs_disk.specs.Told.{seen};
 ghost use Rattle.sccs_steps.specs.Actions.{RefusesWithin};
-ghost use Rattle.sccs_pending.specs.PFiles.{OnlyReads};
+ghost use Rattle.sccs_changes.specs.PFiles.{OnlyReads};
 ghost use Rattle.sccs_alter.specs.CheckStep.{Checks, check_action, check_checks, check_keeps, checked_file};
 
 use sccs_base::{Name, Sink, Source};

@@ -2,7 +2,7 @@ ghost use Rattle.std.specs.Prelude.{◌≢◌, ◌≤◌, Err, length};
 ghost use Rattle.sccs_base.specs.Constants.{file_limit};
 ghost use Rattle.sccs_sid.specs.declared.refusals.StepFault.TheVariants as faults;
 ghost use Rattle.sccs_steps.specs.Actions.{RefusesWithin};
-ghost use Rattle.sccs_pending.specs.PFiles.{Answers};
+ghost use Rattle.sccs_changes.specs.PFiles.{Answers};
 ghost use Rattle.sccs_alter.specs.AlterStep.{alter_checks, altered_header};
 
 use sccs_admin::{described, flags_of};

@@ -2,6 +2,7 @@ pub mod Bools
 pub mod ConstantExamples
 pub mod Cuts
 pub mod Gifts
+pub mod Inserting
 pub mod Lines
 pub mod NameTests
 pub mod Rises

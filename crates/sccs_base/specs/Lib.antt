@@ -3,6 +3,7 @@ pub mod Constants
 pub mod Cut
 pub mod Login
 pub mod Name
+pub mod NameSets
 pub mod Padded
 pub mod Planned
 pub mod ShortBytes

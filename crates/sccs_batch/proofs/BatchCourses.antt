@@ -18,12 +18,12 @@ use Rattle.sccs_steps.specs.Settings.{Setting}
 use Rattle.sccs_steps.specs.StepLists.{NamedStep}
 use Rattle.sccs_steps.specs.declared.faults.Fault.{Fault}
 use Rattle.sccs_steps.specs.declared.faults.Fault.TheVariants as ends
-use Rattle.sccs_courses.specs.Courses.{AllTake, Courses, follow, portions_of, said, saying, steps_along}
-use Rattle.sccs_courses.specs.Sayings.{BegunSaid, IsSaid, WholeSaid}
-use Rattle.sccs_courses.proofs.JoinedCourses.{course_then}
-use Rattle.sccs_courses.proofs.Portions.{steps_more}
-use Rattle.sccs_courses.proofs.QuietCourses.{course_as, course_chosen, course_heard}
-use Rattle.sccs_courses.proofs.SaidCourses.{never_course, said_course}
+use Rattle.sccs_step_lists.specs.Courses.{AllTake, Courses, follow, portions_of, said, saying, steps_along}
+use Rattle.sccs_step_lists.specs.Sayings.{BegunSaid, IsSaid, WholeSaid}
+use Rattle.sccs_step_lists.proofs.JoinedCourses.{course_then}
+use Rattle.sccs_step_lists.proofs.Portions.{steps_more}
+use Rattle.sccs_step_lists.proofs.QuietCourses.{course_as, course_chosen, course_heard}
+use Rattle.sccs_step_lists.proofs.SaidCourses.{never_course, said_course}
 use Rattle.sccs_batch.specs.BatchText.{batch_of}
 use Rattle.sccs_batch.specs.Batches.{BegunBatch, BegunEntries, RefusesInput, RunsBatch, RunsEntries, WholeBatch, WholeEntries, batch_course, batch_on, entries_course}
 use Rattle.sccs_batch.specs.declared.entries.Entry.{Entry}

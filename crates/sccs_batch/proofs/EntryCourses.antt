@@ -9,11 +9,11 @@ use Rattle.sccs_steps.specs.Settings.{Setting}
 use Rattle.sccs_steps.specs.StepLists.{NamedStep, folder_after}
 use Rattle.sccs_steps.specs.declared.faults.Fault.{Fault}
 use Rattle.sccs_steps.specs.declared.faults.Fault.TheVariants as ends
-use Rattle.sccs_courses.specs.Courses.{AllTake, Courses, portions_of, said, saying, steps_along}
-use Rattle.sccs_courses.specs.Sayings.{BegunSaid, IsSaid, WholeSaid}
-use Rattle.sccs_courses.proofs.JoinedCourses.{course_cut, course_then}
-use Rattle.sccs_courses.proofs.Portions.{both_all, steps_more}
-use Rattle.sccs_courses.proofs.SaidCourses.{never_course, nothing_course, said_course}
+use Rattle.sccs_step_lists.specs.Courses.{AllTake, Courses, portions_of, said, saying, steps_along}
+use Rattle.sccs_step_lists.specs.Sayings.{BegunSaid, IsSaid, WholeSaid}
+use Rattle.sccs_step_lists.proofs.JoinedCourses.{course_cut, course_then}
+use Rattle.sccs_step_lists.proofs.Portions.{both_all, steps_more}
+use Rattle.sccs_step_lists.proofs.SaidCourses.{never_course, nothing_course, said_course}
 use Rattle.sccs_batch.specs.BatchLines.{bad_entry_line, status_line}
 use Rattle.sccs_batch.specs.BatchText.{Batch, batch_from, batch_entry, batch_with}
 use Rattle.sccs_batch.specs.Batches.{BegunEntries, BegunEntry, ReachesLines, RunsEntries, RunsEntry, RunsNext, RunsOwn, WholeEntries, WholeEntry, batch_end, entries_course, entry_course}

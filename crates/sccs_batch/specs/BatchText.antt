@@ -5,7 +5,7 @@ use Rattle.std.specs.Str.{bytes_eq}
 use Rattle.sccs_base.specs.Login.{is_login}
 use Rattle.sccs_sid.specs.Moment.{moment_of}
 use Rattle.sccs_sid.specs.Reading.{only}
-use Rattle.sccs_entries.specs.Entries.{◌>>=◌, counts_of, field_of, has_own, input_in, words_in}
+use Rattle.sccs_batch.specs.Entries.{◌>>=◌, counts_of, field_of, has_own, input_in, words_in}
 use Rattle.sccs_batch.specs.declared.entries.Entry.{Entry}
 use Rattle.sccs_batch.specs.declared.entries.EntryHead.{EntryHead}
 use Rattle.sccs_batch.specs.declared.entries.FoundEntry.{FoundEntry}

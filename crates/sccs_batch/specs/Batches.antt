@@ -12,9 +12,9 @@ use Rattle.sccs_steps.specs.Settings.{Setting}
 use Rattle.sccs_steps.specs.StepLists.{NamedStep}
 use Rattle.sccs_steps.specs.declared.faults.Fault.{Fault}
 use Rattle.sccs_steps.specs.declared.faults.Fault.TheVariants as ends
-use Rattle.sccs_courses.specs.Courses.{Courses, follow, nothing, one_by_one, saying}
-use Rattle.sccs_courses.specs.Following.{BegunList, BegunThen, RunsCourse, WholeList, WholeThen}
-use Rattle.sccs_courses.specs.Sayings.{BegunSaid, WholeNothing, WholeSaid}
+use Rattle.sccs_step_lists.specs.Courses.{Courses, follow, nothing, one_by_one, saying}
+use Rattle.sccs_step_lists.specs.Following.{BegunList, BegunThen, RunsCourse, WholeList, WholeThen}
+use Rattle.sccs_step_lists.specs.Sayings.{BegunSaid, WholeNothing, WholeSaid}
 use Rattle.sccs_batch.specs.BatchLines.{bad_entry_line, status_line}
 use Rattle.sccs_batch.specs.BatchText.{Batch, batch_of, batch_from}
 use Rattle.sccs_batch.specs.declared.entries.Entry.{Entry}

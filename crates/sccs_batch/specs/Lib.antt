@@ -1,3 +1,4 @@
 pub mod BatchLines
 pub mod BatchText
 pub mod Batches
+pub mod Entries

@@ -1,5 +1,5 @@
+use crate::texts::Counts;
 use sccs_base::{Bytes, Words};
-use sccs_entries::Counts;
 use sccs_sid::Stamp;
 
 /// An entry of a batch: a command with a moment, a login, words and an input of its own.

@@ -1,11 +1,12 @@
 ghost use Rattle.std.specs.Prelude.{◌≡◌, ◌≤◌, length, true, IfOk, IfSome};
 ghost use Rattle.sccs_sid.specs.Moment.{IsMoment};
-ghost use Rattle.sccs_entries.specs.Entries.{with_lfs};
+ghost use Rattle.sccs_batch.specs.Entries.{with_lfs};
 ghost use Rattle.sccs_batch.specs.BatchText.{batch_entry, head_of, is_single};
 
 use crate::entries::{Entry, EntryHead, FoundEntry};
+use crate::text_reading::{copy_words, join_lines, next_field, own_lines, read_counts};
+use crate::texts::OwnLines;
 use sccs_base::{Line, Login, Memory};
-use sccs_entries::{OwnLines, copy_words, join_lines, next_field, own_lines, read_counts};
 use sccs_sid::{Moment, Stamp};
 use std::alloc::Global;
 

@@ -1,7 +1,7 @@
 ghost use Rattle.std.specs.Prelude.{◌≡◌, ◌≤◌, true, length, IfOk, IfSome};
 ghost use Rattle.sccs_sid.specs.Moment.{IsMoment};
 ghost use Rattle.sccs_steps.specs.Settings.{setting_of};
-ghost use Rattle.sccs_courses.specs.QuietSettings.{quiet};
+ghost use Rattle.sccs_step_lists.specs.QuietSettings.{quiet};
 ghost use Rattle.sccs_batch.specs.BatchText.{batch_of, is_single};
 ghost use Rattle.sccs_batch.specs.Batches.{RunsBatch, RunsEntries, RunsEntry, RunsNext, RefusesInput};
 

@@ -11,8 +11,8 @@ use Rattle.sccs_history.specs.declared.headers.Item.TheVariants.{Text}
 use Rattle.sccs_tokens.specs.Items.{items_from}
 use Rattle.sccs_grammar.specs.declared.faults.FileFault.{FileFault}
 use Rattle.sccs_grammar.specs.declared.faults.FileFault.TheVariants.{Missing, TooLong, NotSccs, BadSum, BadFormat, Encoded, Changed, Failed, Memory}
-use Rattle.sccs_marks.specs.States.{Knows}
-use Rattle.sccs_marks.specs.declared.body_states.BodyState.{BodyState}
+use Rattle.sccs_body.specs.States.{Knows}
+use Rattle.sccs_body.specs.declared.body_states.BodyState.{BodyState}
 use Rattle.sccs_table.specs.Runs.{IsRun, PassesRun}
 use Rattle.sccs_table.specs.ReaderState.{ReaderState, StandsIn, Stays, behind_sum, left}
 use Rattle.sccs_table.specs.SumOf.{IsPlainSumOf}

@@ -16,9 +16,9 @@ use Rattle.sccs_body.specs.Reader.{BodyPlace, next_line_number}
 use Rattle.sccs_body.specs.ItemsRead.{GivesBodyItem, GivesItem, HasBehind, IsFormatAt, ReadsItemLine}
 use Rattle.sccs_history.specs.declared.headers.Item.{Item}
 use Rattle.sccs_history.specs.declared.headers.Item.TheVariants.{Text}
-use Rattle.sccs_marks.specs.States.{Knows}
-use Rattle.sccs_marks.proofs.OpenLaws.{knows_text}
-use Rattle.sccs_marks.specs.declared.body_states.BodyState.{BodyState}
+use Rattle.sccs_body.specs.States.{Knows}
+use Rattle.sccs_body.proofs.OpenLaws.{knows_text}
+use Rattle.sccs_body.specs.declared.body_states.BodyState.{BodyState}
 
 -- an item stands or doesn't, and where it does the state is that behind it
 abbrev pub StandsSo : List ℕ → List Item → BodyState → Bool → Item → Type 0

@@ -1,9 +1,11 @@
 pub mod AnySumLaws
 pub mod BodyLaws
 pub mod ComingLaws
+pub mod CountLaws
 pub mod FileLaws
 pub mod ItemLaws
 pub mod NumberLaws
+pub mod OpenLaws
 pub mod ReadBodies
 pub mod TextLaws
 pub mod WholeLaws

@@ -10,8 +10,8 @@ use Rattle.sccs_history.specs.declared.headers.Item.TheVariants.{Text}
 use Rattle.std.specs.Prelude.{option_and_then}
 use Rattle.sccs_tokens.specs.Items.{item_at, item_of, items_from}
 use Rattle.sccs_tokens.proofs.TokenLaws.{token_plain}
-use Rattle.sccs_marks.specs.States.{Knows}
-use Rattle.sccs_marks.specs.declared.body_states.BodyState.{BodyState}
+use Rattle.sccs_body.specs.States.{Knows}
+use Rattle.sccs_body.specs.declared.body_states.BodyState.{BodyState}
 use Rattle.sccs_table.specs.Runs.{IsRun, PassesRun}
 use Rattle.sccs_table.specs.ReaderState.{left}
 use Rattle.sccs_table.proofs.RunLaws.{lines_bound}

@@ -4,8 +4,8 @@ use Rattle.sccs_history.specs.Body.{may_stand, is_over}
 use Rattle.sccs_history.specs.declared.headers.Item.{Item}
 use Rattle.sccs_history.specs.declared.headers.Item.TheVariants.{Text}
 use Rattle.sccs_base.specs.declared.streams.Memory.{Memory}
-use Rattle.sccs_marks.specs.States.{Knows}
-use Rattle.sccs_marks.specs.declared.body_states.BodyState.{BodyState}
+use Rattle.sccs_body.specs.States.{Knows}
+use Rattle.sccs_body.specs.declared.body_states.BodyState.{BodyState}
 use Rattle.sccs_tokens.specs.Items.{item_at, items_from}
 use Rattle.sccs_grammar.specs.declared.faults.FileFault.{FileFault}
 use Rattle.sccs_grammar.specs.declared.faults.FileFault.TheVariants.{BadFormat, Failed}

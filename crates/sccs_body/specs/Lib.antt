@@ -1,8 +1,11 @@
 pub mod AnySum
 pub mod Behind
 pub mod BodyFile
+pub mod Counts
 pub mod HeldBody
 pub mod HeldItems
 pub mod ItemsRead
+pub mod Kinds
 pub mod Reader
+pub mod States
 pub mod ToCome

@@ -12,10 +12,10 @@ ghost use Rattle.sccs_body.specs.BodyFile.{AnswersFile, ChecksRest};
 ghost use Rattle.sccs_body.specs.ItemsRead.{HasBehind};
 
 use crate::body_readers::BodyReader;
+use crate::body_states::BodyState;
 use sccs_base::Name;
 use sccs_disk::Disk;
 use sccs_grammar::FileFault;
-use sccs_marks::BodyState;
 use sccs_table::{
     Front, LineEnds, LineReader, check_sum, is_encoded, open_file, read_lines, read_sum,
 };

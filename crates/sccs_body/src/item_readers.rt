@@ -13,11 +13,11 @@ ghost use Rattle.sccs_body.specs.Reader.{at_hand, behind_hand, bytes_left, name_
 ghost use Rattle.sccs_body.specs.ToCome.{AgreesAtEnd, BeginsReading, HasChanged, ComesOrStays, EndsReading, GivesNext, IsFrontFor, MayPass, ReadsNextItem, TextsCome, ToCome, onto};
 
 use crate::body_readers::BodyReader;
+use crate::body_states::BodyState;
 use sccs_base::{Memory, Name};
 use sccs_disk::Disk;
 use sccs_grammar::FileFault;
 use sccs_history::Item;
-use sccs_marks::BodyState;
 use sccs_table::{Front, LineEnds, LineReader, READ_LIMIT};
 use std::alloc::Global;
 use std::marker::Model;

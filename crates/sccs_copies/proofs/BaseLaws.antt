@@ -12,13 +12,13 @@ use Rattle.sccs_history.specs.Body.{HistoryLine, is_over, line_at, lines_behind,
 use Rattle.sccs_history.specs.Select.{select, shows}
 use Rattle.sccs_history.specs.declared.headers.Item.{Item}
 use Rattle.sccs_history.specs.declared.headers.Item.TheVariants as items
-use Rattle.sccs_edits.specs.declared.scripts.Plan.{Plan}
+use Rattle.sccs_script_laws.specs.declared.scripts.Plan.{Plan}
 use Rattle.sccs_splicer.specs.PlanPlaces.{Passed}
 use Rattle.sccs_table.proofs.RunLaws.{lines_bound}
 use Rattle.sccs_versions.specs.Coming.{Coming, ComesNext, GivesNextLine, IsBody, shown}
 use Rattle.sccs_versions.specs.Place.{VersionPlace}
 use Rattle.sccs_copies.specs.Copies.{IsFaultAroundCopy}
-use Rattle.sccs_edits.specs.Plans.{added_after}
+use Rattle.sccs_script_laws.specs.Plans.{added_after}
 use Rattle.sccs_copies.specs.Examining.{ExaminesSome, ExaminesWhole, FindsResult, GComes, IsBefore, LinesLeft, SeesLines, difference, first_difference, has_keyword, line_result, result_from, result_of, line_texts}
 use Rattle.sccs_copies.specs.declared.examining.Found.{Found}
 use Rattle.sccs_copies.specs.declared.result_checks.ResultCheck.{ResultCheck}

@@ -6,8 +6,8 @@ use Rattle.std.specs.Str.{bytes_eq}
 use Rattle.sccs_grammar.specs.declared.faults.FileFault.{FileFault}
 use Rattle.std.proofs.lemmas.Grind.{take_at_read}
 use Rattle.sccs_history.specs.Numbers.{front_if, has}
-use Rattle.sccs_edits.specs.Plans.{added_after}
-use Rattle.sccs_edits.specs.declared.scripts.Plan.{Plan}
+use Rattle.sccs_script_laws.specs.Plans.{added_after}
+use Rattle.sccs_script_laws.specs.declared.scripts.Plan.{Plan}
 use Rattle.sccs_copies.specs.Copies.{IsOuterResult}
 use Rattle.sccs_copies.specs.Examining.{ComparesOn, GComes, GivesGLine, LinesLeft, SeesLines, SeesAll, difference, first_difference, has_keyword, line_result}
 use Rattle.sccs_copies.specs.declared.result_checks.ResultCheck.{ResultCheck}

@@ -2,7 +2,7 @@
 use Rattle.std.proofs.Common.{◌≡◌, ℕ, false, List, Option, None, Some, option_map, Result, Ok, Err, ap, ◌∙◌}
 use Rattle.std.specs.Str.{bytes_eq}
 use Rattle.sccs_disk.specs.Files.{Content, View}
-use Rattle.sccs_files.specs.StepFiles.{Moves}
+use Rattle.sccs_name_files.specs.StepFiles.{Moves}
 use Rattle.sccs_table.specs.ReaderState.{bytes_in}
 use Rattle.sccs_history.specs.declared.headers.Item.{Item}
 use Rattle.sccs_grammar.specs.declared.faults.FileFault.{FileFault}

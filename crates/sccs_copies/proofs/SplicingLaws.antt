@@ -5,14 +5,14 @@ use Rattle.std.proofs.lemmas.Bool.{eq-eqb, eqb-true, ne_eqb}
 use Rattle.sccs_disk.specs.Told.{Told}
 use Rattle.sccs_disk.specs.declared.disks.DiskRefusal.{DiskRefusal}
 use Rattle.sccs_disk.specs.declared.disks.DiskRefusal.TheVariants as refusals
-use Rattle.sccs_edits.specs.Places.{told_behind}
+use Rattle.sccs_script_laws.specs.Places.{told_behind}
 use Rattle.sccs_history.specs.Body.{lines_of}
 use Rattle.sccs_history.specs.Select.{select}
 use Rattle.sccs_history.specs.declared.headers.Item.{Item}
 use Rattle.sccs_splicer.specs.Splices.{SplicesOn, Splices, SplicerState, base_count, items_owed}
 use Rattle.sccs_splicer.proofs.Pushes.{count_both, shown_lines}
-use Rattle.sccs_weave.specs.Regions.{Holds}
-use Rattle.sccs_weave.specs.declared.regions.Region.{Region}
+use Rattle.sccs_versions.specs.Regions.{Holds}
+use Rattle.sccs_versions.specs.declared.regions.Region.{Region}
 use Rattle.sccs_writers.specs.Puts.{PutsText, Writer}
 use Rattle.sccs_writers.specs.Spelled.{spelled}
 use Rattle.sccs_writers.proofs.OneFile.{only_none}

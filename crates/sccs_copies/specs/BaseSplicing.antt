@@ -1,9 +1,9 @@
 -- A body with the items of a new delta, as a filter makes it that knows the set of the delta's base.
 use Rattle.std.specs.Prelude.{ℕ, ◌+◌, ◌==◌, Bool, List, Option, None, Some, if◌then◌else◌}
 use Rattle.sccs_history.specs.declared.headers.Item.{Item}
-use Rattle.sccs_edits.specs.Places.{told_behind}
+use Rattle.sccs_script_laws.specs.Places.{told_behind}
 use Rattle.sccs_splicer.specs.Splices.{SplicerState, base_count, items_owed}
-use Rattle.sccs_weave.specs.Regions.{Holds}
+use Rattle.sccs_versions.specs.Regions.{Holds}
 use Rattle.sccs_copies.specs.Filters.{Filter}
 use Rattle.sccs_copies.specs.declared.base_splicers.BaseSplicer.{BaseSplicer}
 

@@ -6,8 +6,8 @@ use Rattle.sccs_disk.specs.Calls.{IsThere}
 use Rattle.sccs_disk.specs.Files.{View, put}
 use Rattle.sccs_disk.specs.Images.{IsFirm}
 use Rattle.sccs_disk.specs.Told.{Told, seen}
-use Rattle.sccs_files.specs.StepFiles.{Moves}
-use Rattle.sccs_images.specs.Touches.{Leaves, TouchesOnly}
+use Rattle.sccs_name_files.specs.StepFiles.{Moves}
+use Rattle.sccs_name_files.specs.Touches.{Leaves, TouchesOnly}
 use Rattle.sccs_disk.specs.declared.disks.DiskRefusal.{DiskRefusal}
 use Rattle.sccs_disk.specs.declared.disks.DiskRefusal.TheVariants as refusals
 use Rattle.sccs_grammar.specs.declared.faults.FileFault.{FileFault}

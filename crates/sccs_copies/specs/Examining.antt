@@ -6,9 +6,9 @@ use Rattle.sccs_base.specs.Cut.{text_of}
 use Rattle.sccs_grammar.specs.declared.faults.FileFault.{FileFault}
 use Rattle.sccs_history.specs.Numbers.{front_if, has}
 use Rattle.sccs_history.specs.Body.{HistoryLine}
-use Rattle.sccs_edits.specs.Plans.{added_after}
-use Rattle.sccs_edits.specs.declared.scripts.Plan.{Plan}
-use Rattle.sccs_keys.specs.Keywords.{is_keyword, parts}
+use Rattle.sccs_script_laws.specs.Plans.{added_after}
+use Rattle.sccs_script_laws.specs.declared.scripts.Plan.{Plan}
+use Rattle.sccs_keywords.specs.Keywords.{is_keyword, parts}
 use Rattle.sccs_table.specs.ReaderState.{StandsIn}
 use Rattle.sccs_splicer.specs.PlanPlaces.{Passed}
 use Rattle.sccs_versions.specs.Coming.{Coming}

@@ -1,18 +1,18 @@
 ghost use Rattle.std.specs.Prelude.{◌≡◌, ℕ, false, List, [], ◌∷◌, IfOk};
-ghost use Rattle.sccs_edits.specs.Places.{told_behind};
-ghost use Rattle.sccs_edits.specs.Plans.{IsInOrder};
+ghost use Rattle.sccs_script_laws.specs.Places.{told_behind};
+ghost use Rattle.sccs_script_laws.specs.Plans.{IsInOrder};
 ghost use Rattle.sccs_history.specs.Numbers.{has};
 ghost use Rattle.sccs_history.specs.declared.headers.Item.{Item};
 ghost use Rattle.sccs_splicer.specs.Splices.{new_splice};
-ghost use Rattle.sccs_weave.specs.Regions.{Holds};
+ghost use Rattle.sccs_versions.specs.Regions.{Holds};
 
 use crate::filters::BodyFilter;
 use sccs_disk::{Disk, DiskRefusal};
-use sccs_edits::Plan;
 use sccs_history::Item;
+use sccs_script_laws::Plan;
 use sccs_sets::Applied;
 use sccs_splicer::Splicer;
-use sccs_weave::Weaver;
+use sccs_versions::Weaver;
 use sccs_writers::ItemWriter;
 use std::alloc::Global;
 

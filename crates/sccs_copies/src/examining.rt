@@ -2,7 +2,7 @@ ghost use Rattle.std.specs.Prelude.{◌≡◌, ◌≢◌, ◌+◌, ◌<◌, ◌�
 ghost use Rattle.sccs_base.specs.Constants.{file_limit};
 ghost use Rattle.sccs_base.specs.Name.{IsSfile};
 ghost use Rattle.sccs_disk.specs.Told.{seen};
-ghost use Rattle.sccs_edits.specs.Plans.{IsInOrder};
+ghost use Rattle.sccs_script_laws.specs.Plans.{IsInOrder};
 ghost use Rattle.sccs_history.specs.Body.{HistoryLine, lines_of};
 ghost use Rattle.sccs_history.specs.Numbers.{front_if};
 ghost use Rattle.sccs_history.specs.Select.{select};
@@ -16,8 +16,8 @@ ghost use Rattle.sccs_copies.specs.Examining.{Examines, ExaminesAll, ExaminesNex
 use crate::result_checks::{ResultCheck, first_difference, see_line, see_lines};
 use sccs_base::{FILE_LIMIT, Line, Name};
 use sccs_disk::Disk;
-use sccs_edits::Plan;
 use sccs_grammar::FileFault;
+use sccs_script_laws::Plan;
 use sccs_sets::Applied;
 use sccs_splicer::PlanPlace;
 use sccs_table::Front;

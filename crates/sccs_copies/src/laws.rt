@@ -1,5 +1,5 @@
 ghost use Rattle.std.specs.Prelude.{◌≡◌, List, [], Some, length};
-ghost use Rattle.sccs_edits.specs.Places.{told_behind};
+ghost use Rattle.sccs_script_laws.specs.Places.{told_behind};
 ghost use Rattle.sccs_history.specs.Body.{lines_of};
 ghost use Rattle.sccs_history.specs.Select.{select};
 ghost use Rattle.sccs_history.specs.declared.headers.Item.{Item};

@@ -9,7 +9,7 @@ ghost use Rattle.sccs_copies.specs.Examining.{KeepsFound, KeepsLines, ComparesOn
 use sccs_base::{Line, Name};
 use sccs_disk::Disk;
 use sccs_grammar::FileFault;
-use sccs_keys::has_keyword;
+use sccs_keywords::has_keyword;
 use sccs_table::{LineEnds, LineReader, READ_LIMIT};
 use std::alloc::Global;
 

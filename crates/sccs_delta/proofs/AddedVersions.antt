@@ -8,11 +8,11 @@ use Rattle.sccs_disk.specs.Files.{Content}
 use Rattle.sccs_sid.specs.Moment.{IsMoment}
 use Rattle.sccs_sid.specs.declared.moments.Stamp.{Stamp}
 use Rattle.sccs_sid.specs.declared.sids.Sid.{Sid}
-use Rattle.sccs_edits.specs.Places.{places}
-use Rattle.sccs_edits.specs.Plans.{plan}
-use Rattle.sccs_edits.specs.declared.scripts.Order.{Order}
+use Rattle.sccs_script_laws.specs.Places.{places}
+use Rattle.sccs_script_laws.specs.Plans.{plan}
+use Rattle.sccs_script_laws.specs.declared.scripts.Order.{Order}
 use Rattle.sccs_script.proofs.ScriptLines.{have_lines}
-use Rattle.sccs_files.specs.StepFiles.{Files}
+use Rattle.sccs_name_files.specs.StepFiles.{Files}
 use Rattle.sccs_grammar.specs.File.{Parsed, file_of}
 use Rattle.sccs_history.specs.Applied.{applied, live_serials, newest}
 use Rattle.sccs_history.specs.Body.{lines_of}
@@ -27,10 +27,10 @@ use Rattle.sccs_pfile.specs.Recovered.{pfile_of}
 use Rattle.sccs_pfile.specs.declared.entries.Edit.{Edit}
 use Rattle.sccs_pfile.proofs.EntriesValid.{edits_are}
 use Rattle.sccs_pfile.proofs.Recovering.{same_self}
-use Rattle.sccs_pending.specs.NewEntries.{kept_g}
-use Rattle.sccs_pending.specs.PFiles.{bytes_or_none}
-use Rattle.sccs_pending.specs.Pending.{pending_of}
-use Rattle.sccs_pending.proofs.StopLaws.{pending_file}
+use Rattle.sccs_changes.specs.NewEntries.{kept_g}
+use Rattle.sccs_changes.specs.PFiles.{bytes_or_none}
+use Rattle.sccs_changes.specs.Pending.{pending_of}
+use Rattle.sccs_changes.proofs.StopLaws.{pending_file}
 use Rattle.sccs_records.specs.NewDeltas.{with_delta, with_deltas}
 use Rattle.sccs_records.specs.declared.new_deltas.Counts.{Counts}
 use Rattle.sccs_records.specs.declared.new_deltas.NewDelta.{NewDelta}
@@ -53,7 +53,7 @@ use Rattle.sccs_delta.proofs.NullTables.{live_in_turn}
 use Rattle.sccs_delta.proofs.NullVersions.{null_version, others_nulls, own_behind}
 use Rattle.sccs_delta.proofs.SettleLaws.{room_of}
 use Rattle.sccs_delta.proofs.StepParts.{StepParts, base_set_is, entry_numbered, step_parts}
-use Rattle.sccs_pending.proofs.PendingReads.{pending_agrees, pending_entries}
+use Rattle.sccs_changes.proofs.PendingReads.{pending_agrees, pending_entries}
 
 -- ---- which serials are live
 

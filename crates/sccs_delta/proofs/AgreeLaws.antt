@@ -12,7 +12,7 @@ use Rattle.sccs_history.specs.Applied.{newest}
 use Rattle.sccs_history.specs.History.{lives, same_sid}
 use Rattle.sccs_history.specs.declared.headers.Header.{Header}
 use Rattle.sccs_history.specs.declared.headers.Record.{Record}
-use Rattle.sccs_pending.proofs.StopLaws.{still_all}
+use Rattle.sccs_changes.proofs.StopLaws.{still_all}
 use Rattle.sccs_pfile.specs.Agreement.{Agrees, agrees, are_ranges, has_lists, is_listed, makers, share_sid}
 use Rattle.sccs_pfile.specs.declared.entries.Edit.{Edit}
 use Rattle.sccs_pfile.proofs.Recovering.{same_self, one_out, one_maker}

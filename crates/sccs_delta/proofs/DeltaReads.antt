@@ -4,10 +4,10 @@ use Rattle.std.specs.List.{AllByRecursion}
 use Rattle.std.proofs.lemmas.Bool.{and_parts}
 use Rattle.sccs_base.specs.Cut.{HasNoLf}
 use Rattle.sccs_sid.specs.SidLists.{begins}
-use Rattle.sccs_edits.specs.Places.{places}
-use Rattle.sccs_edits.specs.Plans.{plan}
-use Rattle.sccs_edits.specs.declared.scripts.Order.{Order}
-use Rattle.sccs_edits.proofs.Rules.{rules_spliced}
+use Rattle.sccs_script_laws.specs.Places.{places}
+use Rattle.sccs_script_laws.specs.Plans.{plan}
+use Rattle.sccs_script_laws.specs.declared.scripts.Order.{Order}
+use Rattle.sccs_script_laws.proofs.Rules.{rules_spliced}
 use Rattle.sccs_grammar.specs.File.{IsSFile, Parsed}
 use Rattle.sccs_tokens.specs.Written.{HasLines, IsItem, IsSerial, canonical}
 use Rattle.sccs_grammar.proofs.CanonicalLaws.{canonical_again}

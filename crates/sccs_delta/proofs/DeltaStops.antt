@@ -7,8 +7,8 @@ use Rattle.sccs_base.specs.Name.{p_file, q_file, x_file}
 use Rattle.sccs_disk.specs.Files.{Content, View}
 use Rattle.sccs_sid.specs.declared.moments.Stamp.{Stamp}
 use Rattle.sccs_sid.specs.declared.sids.Sid.{Sid}
-use Rattle.sccs_edits.specs.Places.{places}
-use Rattle.sccs_edits.specs.declared.scripts.Order.{Order}
+use Rattle.sccs_script_laws.specs.Places.{places}
+use Rattle.sccs_script_laws.specs.declared.scripts.Order.{Order}
 use Rattle.sccs_grammar.specs.File.{IsSFile}
 use Rattle.sccs_history.specs.History.{IsHeader, IsSpelled, lives, same_sid}
 use Rattle.sccs_history.specs.declared.headers.Header.{Header}
@@ -19,24 +19,24 @@ use Rattle.sccs_pfile.specs.Entries.{IsEdit}
 use Rattle.sccs_pfile.specs.Reading.{edits_of}
 use Rattle.sccs_pfile.specs.Recovered.{pfile_of, recovered_pfile, table_of}
 use Rattle.sccs_pfile.specs.declared.entries.Edit.{Edit}
-use Rattle.sccs_pending.specs.PFiles.{bytes_or_none}
-use Rattle.sccs_pending.specs.Pending.{AnswersPending}
-use Rattle.sccs_pending.specs.declared.pending.Pending.{Pending}
+use Rattle.sccs_changes.specs.PFiles.{bytes_or_none}
+use Rattle.sccs_changes.specs.Pending.{AnswersPending}
+use Rattle.sccs_changes.specs.declared.pending.Pending.{Pending}
 use Rattle.sccs_records.specs.NewDeltas.{with_deltas}
 use Rattle.sccs_records.specs.declared.new_deltas.NewDelta.{NewDelta}
 use Rattle.sccs_script.specs.Checks.{HaveLines}
 use Rattle.sccs_store.specs.Commits.{chosen, files_after, replaced}
 use Rattle.sccs_store.specs.SealedFiles.{sealed}
 use Rattle.sccs_store.specs.Stops.{KeepsEntries, OnChange}
-use Rattle.sccs_transactions.specs.Changes.{plan_of}
-use Rattle.sccs_transactions.specs.declared.prepared.Prepared.{Prepared}
+use Rattle.sccs_changes.specs.Changes.{plan_of}
+use Rattle.sccs_changes.specs.declared.prepared.Prepared.{Prepared}
 use Rattle.sccs_delta.specs.NullDeltas.{null_deltas, serial_behind, skipped_by, with_nulls}
 use Rattle.sccs_delta.proofs.DeltaReads.{delta_reads}
 use Rattle.sccs_delta.proofs.MadeEntries.{HasMade, entry_goes, rest_stays}
 use Rattle.sccs_delta.proofs.NullTables.{lives_nulls, nulls_apart}
-use Rattle.sccs_pending.proofs.StopLaws.{table_is}
-use Rattle.sccs_pending.proofs.PendingReads.{no_entry, pending_entries}
-use Rattle.sccs_pending.proofs.Preparing.{was_read}
+use Rattle.sccs_changes.proofs.StopLaws.{table_is}
+use Rattle.sccs_changes.proofs.PendingReads.{no_entry, pending_entries}
+use Rattle.sccs_changes.proofs.Preparing.{was_read}
 
 -- ---- null deltas make no entry's SID
 

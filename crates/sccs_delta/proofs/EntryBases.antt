@@ -12,7 +12,7 @@ use Rattle.sccs_sets.specs.Retrieved.{serial_of}
 use Rattle.sccs_sets.specs.Sets.{Explains, both_listed}
 use Rattle.sccs_sets.specs.declared.faults.SetFault.{SetFault}
 use Rattle.sccs_sets.specs.declared.faults.SetFault.TheVariants.{BadList, Memory}
-use Rattle.sccs_pending.specs.PFiles.{Answers}
+use Rattle.sccs_changes.specs.PFiles.{Answers}
 use Rattle.sccs_pfile.specs.declared.entries.Edit.{Edit}
 use Rattle.sccs_steps.specs.StepEffects.{check, there}
 use Rattle.sccs_delta.specs.DeltaStep.{entry_base, or_disagrees}

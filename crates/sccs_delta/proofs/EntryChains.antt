@@ -12,8 +12,8 @@ use Rattle.sccs_sid.specs.declared.refusals.StepFault.{StepFault}
 use Rattle.sccs_sid.specs.declared.refusals.StepFault.TheVariants.{Refused, Memory, ReadFault, WriteFault, DiskFault}
 use Rattle.sccs_flags.specs.Logins.{is_allowed}
 use Rattle.sccs_history.specs.declared.headers.Header.{Header}
-use Rattle.sccs_pending.specs.NewEntries.{or_no_edit}
-use Rattle.sccs_pending.specs.PFiles.{Answers, PassesCheck}
+use Rattle.sccs_changes.specs.NewEntries.{or_no_edit}
+use Rattle.sccs_changes.specs.PFiles.{Answers, PassesCheck}
 use Rattle.sccs_pfile.specs.Choices.{choice, fits}
 use Rattle.sccs_pfile.specs.declared.entries.Edit.{Edit}
 use Rattle.sccs_steps.specs.StepEffects.{check, there}
@@ -21,8 +21,8 @@ use Rattle.sccs_words.specs.declared.commands.DeltaWords.{DeltaWords}
 use Rattle.sccs_delta.specs.DeltaStep.{ChosenEntry, entry_base, chosen_entry, delta_releases}
 use Rattle.sccs_delta.specs.Preparing.{FindsEntry}
 use Rattle.sccs_delta.specs.declared.entries.Base.{Base}
-use Rattle.sccs_pending.proofs.Chains.{ends, goes, passed}
-use Rattle.sccs_pending.proofs.Preparing.{passes_answers}
+use Rattle.sccs_changes.proofs.Chains.{ends, goes, passed}
+use Rattle.sccs_changes.proofs.Preparing.{passes_answers}
 
 -- ---- what follows each check
 

@@ -23,16 +23,16 @@ use Rattle.sccs_sid.specs.declared.refusals.StepFault.{StepFault}
 use Rattle.sccs_sid.specs.declared.refusals.StepFault.TheVariants.{Refused, Memory, ReadFault, WriteFault, DiskFault}
 use Rattle.sccs_history.specs.declared.headers.Flag.{Flag}
 use Rattle.sccs_flags.specs.FlagValues.{has_flag}
-use Rattle.sccs_edits.specs.Plans.{plan}
-use Rattle.sccs_edits.specs.Scripts.{apply}
-use Rattle.sccs_edits.specs.declared.scripts.Order.{Order}
-use Rattle.sccs_edits.specs.declared.scripts.Plan.{Plan}
+use Rattle.sccs_script_laws.specs.Plans.{plan}
+use Rattle.sccs_script_laws.specs.Scripts.{apply}
+use Rattle.sccs_script_laws.specs.declared.scripts.Order.{Order}
+use Rattle.sccs_script_laws.specs.declared.scripts.Plan.{Plan}
 use Rattle.sccs_script.specs.Checks.{bare_soh, both_ok, checked_script, ranged}
 use Rattle.sccs_script.specs.Commands.{FitsIn}
 use Rattle.sccs_script.specs.declared.faults.ScriptFault.{ScriptFault}
 use Rattle.sccs_script.specs.declared.faults.ScriptFault.TheVariants as faults
 use Rattle.sccs_steps.specs.StepEffects.{check}
-use Rattle.sccs_pending.specs.PFiles.{PassesCheck, is_short}
+use Rattle.sccs_changes.specs.PFiles.{PassesCheck, is_short}
 use Rattle.sccs_delta.specs.DeltaStep.{compared, fitted, or_differs, or_script_fault}
 use Rattle.sccs_copies.specs.Examining.{Examines, FindsResult, first_difference, has_keyword, result_of}
 use Rattle.sccs_delta.specs.Preparing.{FindsBase, FitsScript, ReadsBase, judged_script}

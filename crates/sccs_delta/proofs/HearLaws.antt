@@ -12,12 +12,12 @@ use Rattle.sccs_sid.specs.declared.refusals.Refusal.{Refusal}
 use Rattle.sccs_sid.specs.declared.refusals.Refusal.TheVariants as refusals
 use Rattle.sccs_sid.specs.declared.refusals.StepFault.{StepFault}
 use Rattle.sccs_sid.specs.declared.refusals.StepFault.TheVariants.{Refused, Memory, ReadFault, WriteFault, DiskFault}
-use Rattle.sccs_files.specs.StepFiles.{Files, look}
+use Rattle.sccs_name_files.specs.StepFiles.{Files, look}
 use Rattle.sccs_steps.specs.Calls.{world}
 use Rattle.sccs_steps.specs.StepEffects.{check}
-use Rattle.sccs_transactions.specs.Changes.{Prepares, PreparesChange, unlocked}
-use Rattle.sccs_transactions.specs.declared.prepared.Prepared.{Prepared}
-use Rattle.sccs_pending.specs.PFiles.{PassesCheck, is_short}
+use Rattle.sccs_changes.specs.Changes.{Prepares, PreparesChange, unlocked}
+use Rattle.sccs_changes.specs.declared.prepared.Prepared.{Prepared}
+use Rattle.sccs_changes.specs.PFiles.{PassesCheck, is_short}
 use Rattle.sccs_words.specs.declared.commands.DeltaWords.{DeltaWords}
 use Rattle.sccs_delta.specs.DeltaStep.{delta_change, delta_outcome, sizes_checked}
 use Rattle.sccs_delta.specs.Sizes.{HearsScript, heard, s_is_there}

@@ -2,12 +2,12 @@
 use Rattle.std.proofs.Common.{◌≡◌, ℕ, zero, suc, ◌+◌, ◌-◌, ◌<◌, ◌≤◌, nat_lt, Bool, true, false, cond, List, [], ◌∷◌, ◌++◌, length, map, replicate, Result, Ok, Err, refl, sym, ap, ◌∙◌, arith, append_assoc}
 use Rattle.std.specs.List.{AllByRecursion}
 use Rattle.std.proofs.lemmas.Bool.{ltb-false, le-ltb}
-use Rattle.sccs_edits.specs.Plans.{Base, Cell, New, added_from, cells_of, deleted_from, is_there, plan, struck, with_added}
-use Rattle.sccs_edits.specs.Scripts.{put_after, run, step, take_away}
-use Rattle.sccs_edits.specs.declared.scripts.Added.{Added}
-use Rattle.sccs_edits.specs.declared.scripts.Order.{Order}
-use Rattle.sccs_edits.specs.declared.scripts.OrderKind.{OrderKind}
-use Rattle.sccs_edits.specs.declared.scripts.OrderKind.TheVariants.{Append, Change, Delete}
+use Rattle.sccs_script_laws.specs.Plans.{Base, Cell, New, added_from, cells_of, deleted_from, is_there, plan, struck, with_added}
+use Rattle.sccs_script_laws.specs.Scripts.{put_after, run, step, take_away}
+use Rattle.sccs_script_laws.specs.declared.scripts.Added.{Added}
+use Rattle.sccs_script_laws.specs.declared.scripts.Order.{Order}
+use Rattle.sccs_script_laws.specs.declared.scripts.OrderKind.{OrderKind}
+use Rattle.sccs_script_laws.specs.declared.scripts.OrderKind.TheVariants.{Append, Change, Delete}
 use Rattle.sccs_script.specs.Checks.{length_after, length_by, ranged}
 use Rattle.sccs_script.specs.Commands.{HasNumbers}
 use Rattle.sccs_script.specs.declared.faults.ScriptFault.{ScriptFault}

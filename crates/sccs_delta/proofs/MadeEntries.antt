@@ -12,7 +12,7 @@ use Rattle.sccs_pfile.specs.Reading.{edits_of}
 use Rattle.sccs_pfile.specs.Recovered.{is_done, pfile_of, recovered_pfile, table_of, without_done}
 use Rattle.sccs_pfile.specs.declared.entries.Edit.{Edit}
 use Rattle.sccs_pfile.proofs.Recovering.{left_stays, same_self, one_out, any_at, all_at, filter_same, one_maker}
-use Rattle.sccs_pending.proofs.StopLaws.{agreeing_undone}
+use Rattle.sccs_changes.proofs.StopLaws.{agreeing_undone}
 use Rattle.sccs_base.proofs.Bools.{or_none}
 
 -- ---- one entry is taken out

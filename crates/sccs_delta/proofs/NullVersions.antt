@@ -4,12 +4,12 @@ use Rattle.std.specs.List.{AllByRecursion}
 use Rattle.std.proofs.lemmas.Bool.{cases_lt, eqb-true, ne_eqb, or_cases, or_left}
 use Rattle.sccs_sid.specs.declared.moments.Stamp.{Stamp}
 use Rattle.sccs_sid.specs.declared.sids.Sid.{Sid}
-use Rattle.sccs_edits.specs.Places.{places}
-use Rattle.sccs_edits.specs.Plans.{plan}
-use Rattle.sccs_edits.specs.Scripts.{apply}
-use Rattle.sccs_edits.specs.declared.scripts.Order.{Order}
-use Rattle.sccs_edits.proofs.PlacedItems.{other_placed, select_placed}
-use Rattle.sccs_edits.proofs.Rules.{rules_spliced}
+use Rattle.sccs_script_laws.specs.Places.{places}
+use Rattle.sccs_script_laws.specs.Plans.{plan}
+use Rattle.sccs_script_laws.specs.Scripts.{apply}
+use Rattle.sccs_script_laws.specs.declared.scripts.Order.{Order}
+use Rattle.sccs_script_laws.proofs.PlacedItems.{other_placed, select_placed}
+use Rattle.sccs_script_laws.proofs.Rules.{rules_spliced}
 use Rattle.sccs_history.specs.Applied.{applied, live_serials, newest, path, serials_of, version, version_of}
 use Rattle.sccs_history.specs.Body.{GoesOn, HistoryLine, IsLine, above, lines_of}
 use Rattle.sccs_history.specs.History.{IsTable}

@@ -1,12 +1,12 @@
 -- What a plan makes of its base is what its script makes of it.
 use Rattle.std.proofs.Common.{◌≡◌, ℕ, suc, Bool, true, false, cond, not, List, [], ◌∷◌, ◌++◌, length, map, refl, sym, ap, ◌∙◌, arith}
-use Rattle.sccs_edits.specs.Plans.{added_after, added_lines, plan, planted, planted_from}
-use Rattle.sccs_edits.specs.Scripts.{apply}
-use Rattle.sccs_edits.specs.Weave.{AreBelow, marked, new_line}
-use Rattle.sccs_edits.specs.declared.scripts.Order.{Order}
-use Rattle.sccs_edits.specs.declared.scripts.Plan.{Plan}
-use Rattle.sccs_edits.proofs.Plants.{weave_planted}
-use Rattle.sccs_edits.proofs.Selects.{select_woven}
+use Rattle.sccs_script_laws.specs.Plans.{added_after, added_lines, plan, planted, planted_from}
+use Rattle.sccs_script_laws.specs.Scripts.{apply}
+use Rattle.sccs_script_laws.specs.Weave.{AreBelow, marked, new_line}
+use Rattle.sccs_script_laws.specs.declared.scripts.Order.{Order}
+use Rattle.sccs_script_laws.specs.declared.scripts.Plan.{Plan}
+use Rattle.sccs_script_laws.proofs.Plants.{weave_planted}
+use Rattle.sccs_script_laws.proofs.Selects.{select_woven}
 use Rattle.sccs_history.specs.Numbers.{front_if, has}
 use Rattle.sccs_history.specs.Body.{HistoryLine}
 use Rattle.sccs_history.specs.Select.{select, shows}

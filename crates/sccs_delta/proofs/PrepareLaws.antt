@@ -16,7 +16,7 @@ use Rattle.sccs_sid.specs.declared.refusals.Refusal.{Refusal}
 use Rattle.sccs_sid.specs.declared.refusals.Refusal.TheVariants as refusals
 use Rattle.sccs_sid.specs.declared.refusals.StepFault.{StepFault}
 use Rattle.sccs_sid.specs.declared.refusals.StepFault.TheVariants.{Refused, Memory, ReadFault, WriteFault, DiskFault}
-use Rattle.sccs_files.specs.StepFiles.{Files, Moves, is_working, l_file, look}
+use Rattle.sccs_name_files.specs.StepFiles.{Files, Moves, is_working, l_file, look}
 use Rattle.sccs_history.specs.Numbers.{has}
 use Rattle.sccs_history.specs.declared.headers.Header.{Header}
 use Rattle.sccs_history.specs.declared.headers.Item.{Item}
@@ -24,29 +24,29 @@ use Rattle.sccs_body.proofs.FileLaws.{file_items}
 use Rattle.sccs_table.specs.FrontFile.{IsPlaced}
 use Rattle.sccs_table.specs.ReaderState.{bytes_in}
 use Rattle.sccs_versions.specs.Coming.{IsBody}
-use Rattle.sccs_edits.specs.Scripts.{apply}
-use Rattle.sccs_edits.specs.declared.scripts.Order.{Order}
+use Rattle.sccs_script_laws.specs.Scripts.{apply}
+use Rattle.sccs_script_laws.specs.declared.scripts.Order.{Order}
 use Rattle.sccs_script.specs.Commands.{orders_of}
 use Rattle.sccs_pfile.specs.declared.entries.Edit.{Edit}
 use Rattle.sccs_steps.specs.Calls.{world}
 use Rattle.sccs_steps.specs.StepEffects.{Outcome, check}
 use Rattle.sccs_store.specs.Commits.{chosen, files_after, replaced}
-use Rattle.sccs_moments.proofs.FileNames.{from_g, from_s}
-use Rattle.sccs_transactions.specs.Changes.{AreTakenOrGone, IsUnmade, Prepares, plan_of, unlocked}
-use Rattle.sccs_transactions.specs.declared.prepared.Prepared.{Prepared}
-use Rattle.sccs_pending.specs.NewEntries.{kept_g}
-use Rattle.sccs_pending.specs.PFiles.{Answers, PassesCheck, is_short}
-use Rattle.sccs_pending.specs.Pending.{AnswersPending, Found, bytes_at, pending_of}
-use Rattle.sccs_pending.specs.declared.pending.Pending.{Pending}
-use Rattle.sccs_pending.proofs.StopLaws.{pending_answer}
+use Rattle.sccs_crash_points.proofs.FileNames.{from_g, from_s}
+use Rattle.sccs_changes.specs.Changes.{AreTakenOrGone, IsUnmade, Prepares, plan_of, unlocked}
+use Rattle.sccs_changes.specs.declared.prepared.Prepared.{Prepared}
+use Rattle.sccs_changes.specs.NewEntries.{kept_g}
+use Rattle.sccs_changes.specs.PFiles.{Answers, PassesCheck, is_short}
+use Rattle.sccs_changes.specs.Pending.{AnswersPending, Found, bytes_at, pending_of}
+use Rattle.sccs_changes.specs.declared.pending.Pending.{Pending}
+use Rattle.sccs_changes.proofs.StopLaws.{pending_answer}
 use Rattle.sccs_words.specs.declared.commands.DeltaWords.{DeltaWords}
 use Rattle.sccs_delta.specs.DeltaStep.{ChosenEntry, base_lines, delta_outcome, chosen_entry, fitted, makes_delta, mrs_checked, nulls_of, or_script_fault, sizes_checked}
 use Rattle.sccs_copies.specs.Examining.{has_keyword}
 use Rattle.sccs_delta.specs.Preparing.{FindsAsked, FindsEntry}
 use Rattle.sccs_delta.specs.Writing.{MakesDelta, script_checked}
 use Rattle.sccs_delta.specs.declared.entries.Chosen.{Chosen}
-use Rattle.sccs_pending.proofs.Chains.{answers_as, assoc, both_end, ends, goes}
-use Rattle.sccs_pending.proofs.Preparing.{files_at, pending_seen, pending_answers, IsRead, found_of, header_of, ended_as, passes_answers}
+use Rattle.sccs_changes.proofs.Chains.{answers_as, assoc, both_end, ends, goes}
+use Rattle.sccs_changes.proofs.Preparing.{files_at, pending_seen, pending_answers, IsRead, found_of, header_of, ended_as, passes_answers}
 
 -- ---- what follows each check
 

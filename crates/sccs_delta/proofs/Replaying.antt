@@ -11,14 +11,14 @@ use Rattle.sccs_history.specs.Applied.{newest}
 use Rattle.sccs_history.specs.History.{same_sid}
 use Rattle.sccs_grammar.specs.File.{IsSFile, Parsed, file_of}
 use Rattle.sccs_grammar.specs.FileRefusals.{or_refusal}
-use Rattle.sccs_edits.specs.Scripts.{apply}
+use Rattle.sccs_script_laws.specs.Scripts.{apply}
 use Rattle.sccs_script.specs.Commands.{orders_of}
 use Rattle.sccs_sets.proofs.Living.{newest_live}
-use Rattle.sccs_files.specs.StepFiles.{Files}
+use Rattle.sccs_name_files.specs.StepFiles.{Files}
 use Rattle.sccs_pfile.specs.Reading.{edits_of}
 use Rattle.sccs_steps.specs.StepEffects.{Outcome, StepEffect}
 use Rattle.sccs_store.specs.SealedFiles.{sealed}
-use Rattle.sccs_pending.specs.PFiles.{bytes_or_none, or_bad_pfile}
+use Rattle.sccs_changes.specs.PFiles.{bytes_or_none, or_bad_pfile}
 use Rattle.sccs_delta.specs.DeltaStep.{ChosenEntry, chosen_entry, or_script_fault}
 use Rattle.sccs_delta.specs.NewVersions.{MakesVersions, base_text, version_text}
 use Rattle.sccs_delta.specs.Replays.{CallRead, DeltaCall, IsDeltaCall, ReplaysVersions, Texts, call_read, files_at, call_outcome, replayed_calls, replayed_base, s_after, s_behind, texts_after, with_texts}

@@ -10,27 +10,27 @@ use Rattle.sccs_sid.specs.declared.sids.Sid.{Sid}
 use Rattle.sccs_sid.specs.declared.refusals.Refusal.{Refusal}
 use Rattle.sccs_sid.specs.declared.refusals.StepFault.{StepFault}
 use Rattle.sccs_sid.specs.declared.refusals.StepFault.TheVariants.{Refused, Memory, ReadFault, WriteFault, DiskFault}
-use Rattle.sccs_edits.specs.Scripts.{apply}
-use Rattle.sccs_edits.specs.declared.scripts.Order.{Order}
+use Rattle.sccs_script_laws.specs.Scripts.{apply}
+use Rattle.sccs_script_laws.specs.declared.scripts.Order.{Order}
 use Rattle.sccs_history.specs.declared.headers.Flag.{Flag}
 use Rattle.sccs_history.specs.declared.headers.Header.{Header}
 use Rattle.sccs_history.specs.declared.headers.Item.{Item}
 use Rattle.sccs_pfile.specs.declared.entries.Edit.{Edit}
 use Rattle.sccs_steps.specs.Actions.{RefusesWithin}
-use Rattle.sccs_transactions.specs.Changes.{CouldPrepare}
-use Rattle.sccs_transactions.specs.declared.prepared.Prepared.{Prepared}
+use Rattle.sccs_changes.specs.Changes.{CouldPrepare}
+use Rattle.sccs_changes.specs.declared.prepared.Prepared.{Prepared}
 use Rattle.sccs_table.specs.declared.fronts.Front.{Front}
 use Rattle.sccs_versions.specs.Coming.{IsBody}
-use Rattle.sccs_pending.specs.PFiles.{Answers, PassesCheck, is_short}
+use Rattle.sccs_changes.specs.PFiles.{Answers, PassesCheck, is_short}
 use Rattle.sccs_words.specs.declared.commands.DeltaWords.{DeltaWords}
 use Rattle.sccs_delta.specs.DeltaStep.{ChosenEntry, base_lines, could_make, delta_checks, fitted, mrs_checked, nulls_of}
-use Rattle.sccs_pending.specs.Reports.{warning}
+use Rattle.sccs_changes.specs.Reports.{warning}
 use Rattle.sccs_copies.specs.Examining.{has_keyword}
 use Rattle.sccs_delta.specs.Preparing.{FitsScript, FitsBy, script_fits}
 use Rattle.sccs_delta.specs.Writing.{MakesDelta, script_checked}
 use Rattle.sccs_copies.specs.declared.examining.Found.{Found}
-use Rattle.sccs_pending.proofs.Chains.{answers_as, assoc, ends, goes}
-use Rattle.sccs_pending.proofs.Preparing.{passes_answers}
+use Rattle.sccs_changes.proofs.Chains.{answers_as, assoc, ends, goes}
+use Rattle.sccs_changes.proofs.Preparing.{passes_answers}
 
 -- ---- over any disk
 

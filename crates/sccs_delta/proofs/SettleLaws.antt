@@ -11,15 +11,15 @@ use Rattle.sccs_sid.specs.declared.refusals.Refusal.{Refusal}
 use Rattle.sccs_sid.specs.declared.refusals.Refusal.TheVariants as refusals
 use Rattle.sccs_sid.specs.declared.refusals.StepFault.{StepFault}
 use Rattle.sccs_sid.specs.Reading.{◌>>=◌}
-use Rattle.sccs_edits.specs.Places.{places}
-use Rattle.sccs_edits.specs.Plans.{plan}
-use Rattle.sccs_edits.specs.declared.scripts.Order.{Order}
+use Rattle.sccs_script_laws.specs.Places.{places}
+use Rattle.sccs_script_laws.specs.Plans.{plan}
+use Rattle.sccs_script_laws.specs.declared.scripts.Order.{Order}
 use Rattle.sccs_script.specs.Checks.{checked_script}
 use Rattle.sccs_script.specs.Commands.{orders_of}
 use Rattle.sccs_script.specs.declared.faults.ScriptFault.{ScriptFault}
 use Rattle.sccs_script.specs.declared.faults.ScriptFault.TheVariants as faults
 use Rattle.sccs_script.proofs.ScriptLines.{have_lines}
-use Rattle.sccs_files.specs.StepFiles.{Alike, Moves, is_working, look}
+use Rattle.sccs_name_files.specs.StepFiles.{Alike, Moves, is_working, look}
 use Rattle.sccs_history.specs.Applied.{newest}
 use Rattle.sccs_history.specs.History.{IsHeader, IsSpelled}
 use Rattle.sccs_history.specs.Numbers.{has}
@@ -38,24 +38,24 @@ use Rattle.sccs_steps.specs.StepStops.{ArePaired}
 use Rattle.sccs_store.specs.Commits.{chosen, files_after, replaced}
 use Rattle.sccs_store.specs.SealedFiles.{sealed}
 use Rattle.sccs_store.specs.Stops.{KeepsEntries}
-use Rattle.sccs_transactions.specs.Changes.{plan_of}
-use Rattle.sccs_transactions.specs.Stops.{SettlesEntries}
-use Rattle.sccs_transactions.specs.declared.prepared.Prepared.{Prepared}
-use Rattle.sccs_pending.specs.PFiles.{PassesCheck, is_short}
-use Rattle.sccs_pending.specs.declared.pending.Pending.{Pending}
+use Rattle.sccs_changes.specs.Changes.{plan_of}
+use Rattle.sccs_changes.specs.Stops.{SettlesEntries}
+use Rattle.sccs_changes.specs.declared.prepared.Prepared.{Prepared}
+use Rattle.sccs_changes.specs.PFiles.{PassesCheck, is_short}
+use Rattle.sccs_changes.specs.declared.pending.Pending.{Pending}
 use Rattle.sccs_words.specs.declared.commands.DeltaWords.{DeltaWords}
 use Rattle.sccs_delta.specs.DeltaStep.{ChosenEntry, base_lines, counts_of, entry_delta, fitted, header_with, mrs_checked, nulls_of, or_script_fault, sizes_checked}
 use Rattle.sccs_delta.specs.NullDeltas.{null_deltas, skipped_by, with_nulls}
 use Rattle.sccs_delta.specs.Preparing.{FindsEntry}
 use Rattle.sccs_delta.specs.Writing.{script_checked}
 use Rattle.sccs_delta.specs.declared.entries.Chosen.{Chosen}
-use Rattle.sccs_pending.proofs.Chains.{passed}
+use Rattle.sccs_changes.proofs.Chains.{passed}
 use Rattle.sccs_delta.proofs.DeltaStops.{delta_settles_read}
 use Rattle.sccs_delta.proofs.EntryChains.{has_base}
 use Rattle.sccs_delta.proofs.NullFits.{rules_kept}
 use Rattle.sccs_delta.proofs.NullLaws.{newest_nulls}
 use Rattle.sccs_delta.proofs.PrepareLaws.{MakesAt, Whole, Writes, body_there, entry_at, g_short}
-use Rattle.sccs_pending.proofs.Preparing.{IsRead, settles_told}
+use Rattle.sccs_changes.proofs.Preparing.{IsRead, settles_told}
 
 -- ---- what was passed
 

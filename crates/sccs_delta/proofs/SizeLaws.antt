@@ -9,9 +9,9 @@ use Rattle.sccs_sid.specs.declared.refusals.Refusal.{Refusal}
 use Rattle.sccs_sid.specs.declared.refusals.Refusal.TheVariants.{Missing, TooLong}
 use Rattle.sccs_sid.specs.declared.refusals.StepFault.{StepFault}
 use Rattle.sccs_sid.specs.declared.refusals.StepFault.TheVariants.{Refused, Memory, ReadFault, WriteFault, DiskFault}
-use Rattle.sccs_files.specs.StepFiles.{Files, look}
+use Rattle.sccs_name_files.specs.StepFiles.{Files, look}
 use Rattle.sccs_steps.specs.StepEffects.{check}
-use Rattle.sccs_pending.specs.PFiles.{PassesCheck, is_short}
+use Rattle.sccs_changes.specs.PFiles.{PassesCheck, is_short}
 use Rattle.sccs_delta.specs.DeltaStep.{sizes_checked}
 use Rattle.sccs_delta.specs.Sizes.{is_short_enough, s_is_there, script_is_short}
 

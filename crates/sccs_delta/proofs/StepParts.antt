@@ -10,21 +10,21 @@ use Rattle.sccs_flags.specs.Logins.{is_allowed}
 use Rattle.sccs_history.specs.Applied.{applied}
 use Rattle.sccs_history.specs.declared.headers.Header.{Header}
 use Rattle.sccs_history.specs.declared.headers.Record.{Record}
-use Rattle.sccs_edits.specs.declared.scripts.Order.{Order}
+use Rattle.sccs_script_laws.specs.declared.scripts.Order.{Order}
 use Rattle.sccs_script.specs.Commands.{orders_of}
 use Rattle.sccs_script.specs.Checks.{checked_script}
 use Rattle.sccs_sets.specs.Naming.{named_serials}
 use Rattle.sccs_sets.specs.Retrieved.{serial_of}
-use Rattle.sccs_files.specs.StepFiles.{Files}
+use Rattle.sccs_name_files.specs.StepFiles.{Files}
 use Rattle.sccs_pfile.specs.Choices.{choice, fits}
 use Rattle.sccs_pfile.specs.declared.entries.Edit.{Edit}
 use Rattle.sccs_steps.specs.StepEffects.{Outcome, StepEffect, check, there}
-use Rattle.sccs_pending.specs.NewEntries.{or_no_edit}
-use Rattle.sccs_pending.specs.Pending.{Found, pending_of}
+use Rattle.sccs_changes.specs.NewEntries.{or_no_edit}
+use Rattle.sccs_changes.specs.Pending.{Found, pending_of}
 use Rattle.sccs_words.specs.declared.commands.DeltaWords.{DeltaWords}
 use Rattle.sccs_delta.specs.DeltaStep.{ChosenEntry, base_lines, entry_base, delta_outcome, chosen_entry, fitted, makes_delta, mrs_checked, nulls_of, or_disagrees, or_script_fault, delta_releases, sizes_checked}
 use Rattle.sccs_delta.specs.declared.entries.Base.{Base}
-use Rattle.sccs_pending.proofs.Chains.{passed}
+use Rattle.sccs_changes.proofs.Chains.{passed}
 use Rattle.sccs_delta.proofs.SettleLaws.{fitted_ok, orders_ok}
 
 -- ---- the step

@@ -1,10 +1,10 @@
 -- Versions of a history with one delta more.
 use Rattle.std.proofs.Common.{◌≡◌, ℕ, suc, ◌<◌, ◌≤◌, true, List, [], ◌∷◌, ap, ◌∙◌, arith}
 use Rattle.std.proofs.lemmas.Bool.{and_parts}
-use Rattle.sccs_edits.specs.Places.{places}
-use Rattle.sccs_edits.specs.Scripts.{apply}
-use Rattle.sccs_edits.specs.declared.scripts.Order.{Order}
-use Rattle.sccs_edits.proofs.PlacedItems.{other_placed, select_placed}
+use Rattle.sccs_script_laws.specs.Places.{places}
+use Rattle.sccs_script_laws.specs.Scripts.{apply}
+use Rattle.sccs_script_laws.specs.declared.scripts.Order.{Order}
+use Rattle.sccs_script_laws.proofs.PlacedItems.{other_placed, select_placed}
 use Rattle.sccs_history.specs.Applied.{applied, live_serials, newest, path, version, version_of}
 use Rattle.sccs_history.specs.Body.{GoesOn, above, lines_of}
 use Rattle.sccs_history.specs.History.{IsTable}

@@ -7,30 +7,30 @@ use Rattle.sccs_pfile.specs.Entries.{IsEdit}
 use Rattle.std.specs.Str.{bytes_eq}
 use Rattle.sccs_disk.proofs.Puts.{put_same}
 use Rattle.sccs_disk.specs.Files.{put}
-use Rattle.sccs_files.specs.StepFiles.{Moves}
-use Rattle.sccs_images.specs.Touches.{Leaves, TouchesOnly}
+use Rattle.sccs_name_files.specs.StepFiles.{Moves}
+use Rattle.sccs_name_files.specs.Touches.{Leaves, TouchesOnly}
 use Rattle.sccs_disk.specs.Calls.{IsThere}
 use Rattle.sccs_disk.specs.Images.{IsFirm}
-use Rattle.sccs_moments.proofs.FileNames.{from_g}
+use Rattle.sccs_crash_points.proofs.FileNames.{from_g}
 use Rattle.sccs_base.specs.Name.{IsSfile, p_file, q_file, x_file, y_file, z_file}
 use Rattle.sccs_store.proofs.Working.{leaves_from}
 use Rattle.sccs_store.specs.Commits.{Becomes, Needs, chosen, replaced}
 use Rattle.sccs_store.specs.Stops.{OnReplace}
 use Rattle.sccs_store.specs.declared.new_files.NewFile.{NewFile}
 use Rattle.sccs_store.specs.declared.new_files.NewFile.TheVariants.{Keep, Replace, Remove}
-use Rattle.sccs_transactions.specs.Changes.{AreTakenOrGone, IsReady, IsTakenOrGone, plan_of}
-use Rattle.sccs_transactions.proofs.Taken.{untouched}
-use Rattle.sccs_transactions.specs.Stops.{IsFirmPrepared}
-use Rattle.sccs_pending.specs.NewEntries.{LeavesG, PreparesEntries, kept_g}
+use Rattle.sccs_changes.specs.Changes.{AreTakenOrGone, IsReady, IsTakenOrGone, plan_of}
+use Rattle.sccs_changes.proofs.Taken.{untouched}
+use Rattle.sccs_changes.specs.Stops.{IsFirmPrepared}
+use Rattle.sccs_changes.specs.NewEntries.{LeavesG, PreparesEntries, kept_g}
 use Rattle.sccs_disk.specs.Files.{Content, View}
 use Rattle.sccs_disk.specs.Told.{Told, seen}
 use Rattle.sccs_sid.specs.declared.moments.Stamp.{Stamp}
 use Rattle.sccs_sid.specs.declared.sids.Sid.{Sid}
 use Rattle.sccs_sid.specs.declared.refusals.StepFault.{StepFault}
 use Rattle.sccs_sid.specs.declared.refusals.StepFault.TheVariants.{Refused, Memory, ReadFault, WriteFault, DiskFault}
-use Rattle.sccs_edits.specs.Places.{places, spliced, told_behind}
-use Rattle.sccs_edits.specs.Plans.{plan}
-use Rattle.sccs_edits.specs.declared.scripts.Order.{Order}
+use Rattle.sccs_script_laws.specs.Places.{places, spliced, told_behind}
+use Rattle.sccs_script_laws.specs.Plans.{plan}
+use Rattle.sccs_script_laws.specs.declared.scripts.Order.{Order}
 use Rattle.sccs_history.specs.Applied.{live_serials, newest}
 use Rattle.sccs_history.specs.History.{IsSpelled}
 use Rattle.sccs_pfile.specs.declared.entries.Edit.{Edit}
@@ -39,10 +39,10 @@ use Rattle.sccs_records.specs.declared.new_deltas.Counts.{Counts}
 use Rattle.sccs_splicer.specs.Splices.{SplicerState, new_splice, items_owed}
 use Rattle.sccs_splicer.proofs.SpliceLaws.{owed_first}
 use Rattle.sccs_store.specs.SealedFiles.{sealed}
-use Rattle.sccs_transactions.specs.declared.prepared.Prepared.{Prepared}
+use Rattle.sccs_changes.specs.declared.prepared.Prepared.{Prepared}
 use Rattle.sccs_words.specs.declared.commands.DeltaWords.{DeltaWords}
 use Rattle.sccs_delta.specs.DeltaStep.{ChosenEntry, base_lines, counts_of, entry_delta, delta_report, header_with, nulls_of}
-use Rattle.sccs_pending.specs.Reports.{warning}
+use Rattle.sccs_changes.specs.Reports.{warning}
 use Rattle.sccs_delta.specs.declared.entries.Base.{Base}
 use Rattle.sccs_copies.specs.declared.copies.Copying.{Copying}
 use Rattle.sccs_delta.specs.declared.new_sfiles.NewSfile.{NewSfile}
@@ -61,9 +61,9 @@ use Rattle.sccs_history.specs.Body.{lines_of}
 use Rattle.sccs_history.specs.Select.{select}
 use Rattle.sccs_table.specs.declared.fronts.Front.{Front}
 use Rattle.sccs_versions.specs.Coming.{IsBody}
-use Rattle.sccs_weave.specs.Regions.{Holds}
+use Rattle.sccs_versions.specs.Regions.{Holds}
 use Rattle.sccs_delta.specs.Writing.{IsSfileOf, MakesDelta, MakesSfile, WritesDelta, WritesFiles, WritesX}
-use Rattle.sccs_pending.proofs.Preparing.{firm_kept}
+use Rattle.sccs_changes.proofs.Preparing.{firm_kept}
 
 pub x_written : (h : Header) (items : List Item) (n : List ℕ) (old new : Option View) (done : Unit {0}) → MakesFile h items n old new (Ok done) → WritesX h items n old new (Ok done)
 x_written h items n old new done makes = makes

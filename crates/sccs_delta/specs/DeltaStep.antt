@@ -22,28 +22,28 @@ use Rattle.sccs_history.specs.declared.headers.Record.{Record}
 use Rattle.sccs_flags.specs.FlagValues.{flag_of, has_flag, is_locked_release, is_within_limits}
 use Rattle.sccs_flags.specs.Logins.{is_allowed}
 use Rattle.sccs_tokens.specs.Written.{ended}
-use Rattle.sccs_edits.specs.Places.{places}
-use Rattle.sccs_edits.specs.Plans.{added_count, plan}
-use Rattle.sccs_edits.specs.Scripts.{apply}
-use Rattle.sccs_edits.specs.declared.scripts.Order.{Order}
-use Rattle.sccs_edits.specs.declared.scripts.Plan.{Plan}
+use Rattle.sccs_script_laws.specs.Places.{places}
+use Rattle.sccs_script_laws.specs.Plans.{added_count, plan}
+use Rattle.sccs_script_laws.specs.Scripts.{apply}
+use Rattle.sccs_script_laws.specs.declared.scripts.Order.{Order}
+use Rattle.sccs_script_laws.specs.declared.scripts.Plan.{Plan}
 use Rattle.sccs_script.specs.Checks.{checked_script}
 use Rattle.sccs_script.specs.Commands.{orders_of}
 use Rattle.sccs_script.specs.declared.faults.ScriptFault.{ScriptFault}
 use Rattle.sccs_script.specs.declared.faults.ScriptFault.TheVariants as faults
 use Rattle.sccs_sets.specs.Naming.{named_serials}
 use Rattle.sccs_sets.specs.Retrieved.{serial_of}
-use Rattle.sccs_files.specs.StepFiles.{Files}
+use Rattle.sccs_name_files.specs.StepFiles.{Files}
 use Rattle.sccs_pfile.specs.Choices.{choice, fits}
 use Rattle.sccs_pfile.specs.Recovered.{pfile_of}
 use Rattle.sccs_pfile.specs.declared.entries.Edit.{Edit}
 use Rattle.sccs_steps.specs.StepEffects.{StepEffect, check, there}
 use Rattle.sccs_steps.specs.Actions.{Step}
 use Rattle.sccs_store.specs.SealedFiles.{sealed}
-use Rattle.sccs_pending.specs.NewEntries.{kept_g, or_no_edit}
-use Rattle.sccs_pending.specs.PFiles.{is_short}
-use Rattle.sccs_pending.specs.Reports.{warning}
-use Rattle.sccs_pending.specs.Pending.{Found, pending_of}
+use Rattle.sccs_changes.specs.NewEntries.{kept_g, or_no_edit}
+use Rattle.sccs_changes.specs.PFiles.{is_short}
+use Rattle.sccs_changes.specs.Reports.{warning}
+use Rattle.sccs_changes.specs.Pending.{Found, pending_of}
 use Rattle.sccs_words.specs.declared.commands.DeltaWords.{DeltaWords}
 use Rattle.sccs_records.specs.NewDeltas.{last_of, null_delta, with_delta, with_deltas}
 use Rattle.sccs_records.specs.Texts.{some_lines}
@@ -54,7 +54,7 @@ use Rattle.sccs_sid.specs.Refusal.{number_of}
 use Rattle.sccs_base.specs.Stream.{last_count}
 use Rattle.sccs_steps.specs.StepEffects.{Outcome}
 use Rattle.sccs_steps.specs.Actions.{has_number}
-use Rattle.sccs_transactions.specs.Changes.{Changing}
+use Rattle.sccs_changes.specs.Changes.{Changing}
 use Rattle.sccs_delta.specs.declared.entries.Base.{Base}
 use Rattle.std.specs.Str.{bytes_eq}
 use Rattle.sccs_copies.specs.Examining.{first_difference, has_keyword}

@@ -7,22 +7,22 @@ use Rattle.sccs_history.specs.Body.{lines_of}
 use Rattle.sccs_history.specs.Numbers.{has}
 use Rattle.sccs_history.specs.Select.{select}
 use Rattle.sccs_grammar.specs.File.{IsSFile, Parsed}
-use Rattle.sccs_edits.specs.Plans.{plan}
-use Rattle.sccs_edits.specs.Scripts.{apply}
-use Rattle.sccs_edits.specs.declared.scripts.Order.{Order}
+use Rattle.sccs_script_laws.specs.Plans.{plan}
+use Rattle.sccs_script_laws.specs.Scripts.{apply}
+use Rattle.sccs_script_laws.specs.declared.scripts.Order.{Order}
 use Rattle.sccs_script.specs.Commands.{orders_of}
 use Rattle.sccs_records.specs.declared.new_deltas.NewDelta.{NewDelta}
 use Rattle.sccs_sets.specs.Naming.{named_serials}
 use Rattle.sccs_sets.specs.Retrieved.{serial_of}
-use Rattle.sccs_files.specs.StepFiles.{Files}
+use Rattle.sccs_name_files.specs.StepFiles.{Files}
 use Rattle.sccs_pfile.specs.Agreement.{Agrees}
 use Rattle.sccs_pfile.specs.Reading.{IsPFile}
 use Rattle.sccs_pfile.specs.Recovered.{pfile_of}
 use Rattle.sccs_pfile.specs.declared.entries.Edit.{Edit}
 use Rattle.sccs_steps.specs.StepEffects.{StepEffect}
 use Rattle.sccs_store.specs.SealedFiles.{sealed}
-use Rattle.sccs_pending.specs.NewEntries.{kept_g}
-use Rattle.sccs_pending.specs.PFiles.{bytes_or_none}
+use Rattle.sccs_changes.specs.NewEntries.{kept_g}
+use Rattle.sccs_changes.specs.PFiles.{bytes_or_none}
 use Rattle.sccs_words.specs.declared.commands.DeltaWords.{DeltaWords}
 use Rattle.sccs_delta.specs.DeltaStep.{ChosenEntry, counts_of, entry_delta, chosen_entry}
 use Rattle.sccs_delta.specs.NullDeltas.{null_deltas, skipped_by, with_nulls}

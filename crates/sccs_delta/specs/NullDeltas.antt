@@ -2,8 +2,8 @@
 use Rattle.std.specs.Prelude.{ℕ, suc, List, map}
 use Rattle.sccs_sid.specs.declared.sids.Sid.{Sid}
 use Rattle.sccs_sid.specs.declared.moments.Stamp.{Stamp}
-use Rattle.sccs_edits.specs.Places.{places}
-use Rattle.sccs_edits.specs.declared.scripts.Order.{Order}
+use Rattle.sccs_script_laws.specs.Places.{places}
+use Rattle.sccs_script_laws.specs.declared.scripts.Order.{Order}
 use Rattle.sccs_history.specs.Applied.{newest}
 use Rattle.sccs_history.specs.Body.{HistoryLine, lines_of}
 use Rattle.sccs_history.specs.declared.headers.Header.{Header}

@@ -12,8 +12,8 @@ use Rattle.sccs_history.specs.FlagText.{flag_i}
 use Rattle.sccs_history.specs.declared.headers.Flag.{Flag}
 use Rattle.sccs_history.specs.declared.headers.Header.{Header}
 use Rattle.sccs_flags.specs.FlagValues.{has_flag}
-use Rattle.sccs_edits.specs.Scripts.{apply}
-use Rattle.sccs_edits.specs.declared.scripts.Order.{Order}
+use Rattle.sccs_script_laws.specs.Scripts.{apply}
+use Rattle.sccs_script_laws.specs.declared.scripts.Order.{Order}
 use Rattle.sccs_script.specs.Checks.{checked_script}
 use Rattle.sccs_script.specs.Commands.{orders_of}
 use Rattle.sccs_script.specs.declared.faults.ScriptFault.{ScriptFault}
@@ -23,7 +23,7 @@ use Rattle.sccs_sets.specs.declared.faults.SetFault.TheVariants as sets
 use Rattle.sccs_steps.specs.StepEffects.{check}
 use Rattle.sccs_pfile.specs.declared.entries.Edit.{Edit}
 use Rattle.sccs_words.specs.declared.commands.DeltaWords.{DeltaWords}
-use Rattle.sccs_pending.specs.PFiles.{is_short}
+use Rattle.sccs_changes.specs.PFiles.{is_short}
 use Rattle.sccs_delta.specs.DeltaStep.{compared, chosen_entry, fitted, mrs_checked, or_differs, or_script_fault}
 use Rattle.sccs_copies.specs.Examining.{has_keyword}
 use Rattle.sccs_delta.specs.declared.entries.Asked.{Asked}

@@ -11,14 +11,14 @@ use Rattle.sccs_history.specs.History.{AreLines}
 use Rattle.sccs_history.specs.Numbers.{has}
 use Rattle.sccs_grammar.specs.File.{IsSFile, Parsed, file_of}
 use Rattle.sccs_grammar.specs.FileRefusals.{or_refusal}
-use Rattle.sccs_edits.specs.Scripts.{apply}
-use Rattle.sccs_edits.specs.declared.scripts.Order.{Order}
+use Rattle.sccs_script_laws.specs.Scripts.{apply}
+use Rattle.sccs_script_laws.specs.declared.scripts.Order.{Order}
 use Rattle.sccs_script.specs.Commands.{orders_of}
-use Rattle.sccs_files.specs.StepFiles.{Files}
+use Rattle.sccs_name_files.specs.StepFiles.{Files}
 use Rattle.sccs_pfile.specs.Reading.{edits_of}
 use Rattle.sccs_pfile.specs.declared.entries.Edit.{Edit}
 use Rattle.sccs_steps.specs.StepEffects.{Outcome}
-use Rattle.sccs_pending.specs.PFiles.{bytes_or_none, or_bad_pfile}
+use Rattle.sccs_changes.specs.PFiles.{bytes_or_none, or_bad_pfile}
 use Rattle.sccs_words.specs.declared.commands.DeltaWords.{DeltaWords}
 use Rattle.sccs_delta.specs.DeltaStep.{ChosenEntry, delta_outcome, chosen_entry, or_script_fault}
 use Rattle.sccs_delta.specs.NewVersions.{base_text, version_text}

@@ -8,7 +8,7 @@ use Rattle.sccs_disk.specs.Files.{Content}
 use Rattle.sccs_sid.specs.declared.refusals.Refusal.{Refusal}
 use Rattle.sccs_sid.specs.declared.refusals.Refusal.TheVariants.{Missing, TooLong}
 use Rattle.sccs_steps.specs.StepEffects.{check}
-use Rattle.sccs_pending.specs.PFiles.{is_short}
+use Rattle.sccs_changes.specs.PFiles.{is_short}
 
 -- the s-file is there
 abbrev pub s_is_there : Option Content → Result Bool Refusal

@@ -1,6 +1,6 @@
 -- The base of a new delta, and the scripts that are read.
 use Rattle.std.specs.Prelude.{ℕ, None, List}
-use Rattle.sccs_edits.specs.declared.scripts.Order.{Order}
+use Rattle.sccs_script_laws.specs.declared.scripts.Order.{Order}
 use Rattle.sccs_history.specs.Applied.{applied}
 use Rattle.sccs_history.specs.declared.headers.Record.{Record}
 use Rattle.sccs_records.specs.declared.new_deltas.NewDelta.{NewDelta}

@@ -11,23 +11,23 @@ use Rattle.sccs_history.specs.Applied.{newest}
 use Rattle.sccs_history.specs.History.{IsSpelled}
 use Rattle.sccs_history.specs.declared.headers.Header.{Header}
 use Rattle.sccs_history.specs.declared.headers.Item.{Item}
-use Rattle.sccs_edits.specs.Plans.{plan}
-use Rattle.sccs_edits.specs.declared.scripts.Order.{Order}
+use Rattle.sccs_script_laws.specs.Plans.{plan}
+use Rattle.sccs_script_laws.specs.declared.scripts.Order.{Order}
 use Rattle.sccs_pfile.specs.Recovered.{pfile_of}
 use Rattle.sccs_pfile.specs.declared.entries.Edit.{Edit}
 use Rattle.sccs_records.specs.NewDeltas.{null_delta}
 use Rattle.sccs_splicer.specs.Splices.{new_splice}
 use Rattle.sccs_store.specs.Commits.{Becomes, chosen}
 use Rattle.sccs_store.specs.SealedFiles.{sealed}
-use Rattle.sccs_transactions.specs.Changes.{AreTakenOrGone, plan_of}
-use Rattle.sccs_transactions.specs.declared.prepared.Prepared.{Prepared}
-use Rattle.sccs_pending.specs.NewEntries.{IsRenewed, OnlyGoes, kept_g}
+use Rattle.sccs_changes.specs.Changes.{AreTakenOrGone, plan_of}
+use Rattle.sccs_changes.specs.declared.prepared.Prepared.{Prepared}
+use Rattle.sccs_changes.specs.NewEntries.{IsRenewed, OnlyGoes, kept_g}
 use Rattle.sccs_words.specs.declared.commands.DeltaWords.{DeltaWords}
-use Rattle.sccs_edits.specs.Places.{places}
+use Rattle.sccs_script_laws.specs.Places.{places}
 use Rattle.sccs_sid.specs.Reading.{◌>>=◌}
 use Rattle.sccs_sid.specs.declared.refusals.Refusal.{Refusal}
 use Rattle.sccs_delta.specs.DeltaStep.{ChosenEntry, base_lines, counts_of, entry_delta, delta_report, fitted, header_with, mrs_checked, nulls_of}
-use Rattle.sccs_pending.specs.Reports.{warning}
+use Rattle.sccs_changes.specs.Reports.{warning}
 use Rattle.sccs_delta.specs.declared.entries.Base.{Base}
 use Rattle.sccs_delta.specs.declared.new_sfiles.NewSfile.{NewSfile}
 

@@ -12,9 +12,9 @@ ghost use Rattle.sccs_delta.specs.Sizes.{HearsScript};
 use crate::preparing::prepare_delta;
 use crate::sizes::check_there;
 use sccs_base::{Bytes, FILE_LIMIT, Name, Sink, Source, TakeFault, take_all};
+use sccs_changes::{Change, Prepared};
 use sccs_disk::Disk;
 use sccs_sid::{Refusal, Stamp, StepFault};
-use sccs_transactions::{Change, Prepared};
 use sccs_words::DeltaWords;
 use std::alloc::Global;
 

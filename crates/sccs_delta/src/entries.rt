@@ -2,7 +2,7 @@ ghost use Rattle.std.specs.Prelude.{◌≡◌, ◌≢◌, ◌<◌, ◌≤◌, �
 ghost use Rattle.std.specs.List.{AllByRecursion};
 ghost use Rattle.sccs_history.specs.History.{IsTable};
 ghost use Rattle.sccs_history.specs.Numbers.{has};
-ghost use Rattle.sccs_pending.specs.PFiles.{Answers, PassesCheck};
+ghost use Rattle.sccs_changes.specs.PFiles.{Answers, PassesCheck};
 ghost use Rattle.sccs_script.specs.Commands.{FitsIn};
 ghost use Rattle.sccs_sid.specs.declared.refusals.StepFault.TheVariants as faults;
 ghost use Rattle.sccs_steps.specs.Actions.{RefusesWithin};
@@ -10,9 +10,9 @@ ghost use Rattle.sccs_delta.specs.DeltaStep.{entry_base, delta_checks, delta_rel
 ghost use Rattle.sccs_delta.specs.Preparing.{FindsAsked, FindsEntry, list_fault};
 
 use crate::scripts::orders_of;
+use sccs_changes::{Pending, chosen};
 use sccs_flags::{is_allowed, is_locked, is_within_limits};
 use sccs_history::{Header, Serials};
-use sccs_pending::{Pending, chosen};
 use sccs_pfile::Edit;
 use sccs_script::Script;
 use sccs_sets::{Applied, NoSid, SetFault, delta_set, retrieve, serials};

@@ -2,7 +2,7 @@ ghost use Rattle.std.specs.Prelude.{◌≡◌, ◌≢◌, ◌<◌, ◌≤◌, �
 ghost use Rattle.std.specs.List.{AllByRecursion};
 ghost use Rattle.sccs_history.specs.Applied.{newest};
 ghost use Rattle.sccs_history.specs.History.{AreLines, IsSpelled};
-ghost use Rattle.sccs_pending.specs.PFiles.{Answers};
+ghost use Rattle.sccs_changes.specs.PFiles.{Answers};
 ghost use Rattle.sccs_pfile.specs.Entries.{IsEdit};
 ghost use Rattle.sccs_records.specs.NewDeltas.{HasSpellings, null_delta};
 ghost use Rattle.sccs_sid.specs.Moment.{IsMoment};

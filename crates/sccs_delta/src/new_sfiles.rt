@@ -1,8 +1,8 @@
 ghost use Rattle.std.specs.Prelude.{◌≡◌, ◌≢◌, ◌<◌, ◌≤◌, ◌+◌, ◌-◌, ℕ, suc, List, [], Some, Ok, Err, All, IfOk, length, map, slice_get};
 ghost use Rattle.std.specs.List.{AllByRecursion};
 ghost use Rattle.sccs_base.specs.Constants.{file_limit};
-ghost use Rattle.sccs_edits.specs.Places.{told_behind};
-ghost use Rattle.sccs_edits.specs.Plans.{plan};
+ghost use Rattle.sccs_script_laws.specs.Places.{told_behind};
+ghost use Rattle.sccs_script_laws.specs.Plans.{plan};
 ghost use Rattle.sccs_history.specs.Applied.{newest};
 ghost use Rattle.sccs_history.specs.Body.{lines_of};
 ghost use Rattle.sccs_history.specs.History.{IsSpelled};

@@ -1,2 +1,3 @@
+pub mod PendingLaws
 pub mod SactLaws
 pub mod UngetLaws

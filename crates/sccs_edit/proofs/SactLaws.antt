@@ -11,17 +11,17 @@ use Rattle.sccs_sid.specs.declared.refusals.Refusal.{Refusal}
 use Rattle.sccs_sid.specs.declared.refusals.Refusal.TheVariants as refusals
 use Rattle.sccs_sid.specs.declared.refusals.StepFault.{StepFault}
 use Rattle.sccs_sid.specs.declared.refusals.StepFault.TheVariants.{Refused, Memory, ReadFault, WriteFault, DiskFault}
-use Rattle.sccs_files.specs.StepFiles.{Files, look, is_working, Moves}
+use Rattle.sccs_name_files.specs.StepFiles.{Files, look, is_working, Moves}
 use Rattle.sccs_tokens.specs.Written.{ended}
 use Rattle.sccs_pfile.specs.declared.entries.Edit.{Edit}
 use Rattle.sccs_steps.specs.StepEffects.{StepEffect}
 use Rattle.sccs_steps.specs.Calls.{Meets, scene, world}
 use Rattle.sccs_steps.specs.Actions.{IsHeard, RefusesWithin, SpeaksBy, Stepped}
 use Rattle.sccs_steps.specs.Causes.{StepCauses, counts}
-use Rattle.sccs_transactions.specs.Ends.{Reports}
-use Rattle.sccs_transactions.specs.declared.prepared.Prepared.{Prepared}
+use Rattle.sccs_changes.specs.Ends.{Reports}
+use Rattle.sccs_changes.specs.declared.prepared.Prepared.{Prepared}
 use Rattle.sccs_steps.proofs.ReadingSteps.{Explains, ends_silent, same_cleared}
-use Rattle.sccs_pending.specs.PFiles.{Answers, entries_of}
+use Rattle.sccs_changes.specs.PFiles.{Answers, entries_of}
 use Rattle.sccs_edit.specs.Checks.{step_is}
 use Rattle.sccs_edit.specs.SactStep.{ShowsEdits, could_show, found_edits, none_text, sact_action, sact_checks, sact_step, shows_entries}
 use Rattle.sccs_base.proofs.Rises.{never_rose}

@@ -7,11 +7,11 @@ use Rattle.sccs_sid.specs.declared.refusals.StepFault.{StepFault}
 use Rattle.sccs_sid.specs.declared.refusals.StepFault.TheVariants.{Refused, Memory, ReadFault, WriteFault, DiskFault}
 use Rattle.sccs_pfile.specs.declared.entries.Edit.{Edit}
 use Rattle.sccs_words.specs.declared.commands.UngetWords.{UngetWords}
-use Rattle.sccs_pending.specs.NewEntries.{Decided}
-use Rattle.sccs_pending.specs.PFiles.{Answers}
-use Rattle.sccs_pending.specs.Pending.{Found}
-use Rattle.sccs_pending.specs.declared.pending.Pending.{Pending}
-use Rattle.sccs_pending.proofs.EntryChanges.{ShowsFound}
+use Rattle.sccs_changes.specs.NewEntries.{Decided}
+use Rattle.sccs_changes.specs.PFiles.{Answers}
+use Rattle.sccs_changes.specs.Pending.{Found}
+use Rattle.sccs_changes.specs.declared.pending.Pending.{Pending}
+use Rattle.sccs_changes.proofs.EntryChanges.{ShowsFound}
 use Rattle.sccs_edit.specs.UngetStep.{login_entry, unget_decides, without_entry}
 
 decides_as : (words : UngetWords) (stamp : Stamp) (heading : Bool) (n : List ℕ) (x : Pending) (found : Found) (r : Result ℕ Refusal) → ShowsFound x found → login_entry words stamp x.edits ≡ r → unget_decides words stamp heading n found ≡ (r >>= λ number. Ok (without_entry words heading n x.edits number))

@@ -12,14 +12,14 @@ use Rattle.sccs_sid.specs.declared.refusals.Refusal.TheVariants as refusals
 use Rattle.sccs_sid.specs.declared.refusals.StepFault.{StepFault}
 use Rattle.sccs_sid.specs.declared.refusals.StepFault.TheVariants.{Refused, Memory, ReadFault, WriteFault, DiskFault}
 use Rattle.sccs_base.specs.Stream.{GivesOk, GivesSome}
-use Rattle.sccs_files.specs.StepFiles.{Files}
+use Rattle.sccs_name_files.specs.StepFiles.{Files}
 use Rattle.sccs_tokens.specs.Written.{ended}
 use Rattle.sccs_pfile.specs.declared.entries.Edit.{Edit}
 use Rattle.sccs_steps.specs.StepEffects.{Outcome, StepEffect, check}
 use Rattle.sccs_steps.specs.Actions.{Action, has_number}
 use Rattle.sccs_steps.specs.declared.statuses.StatusRule.TheVariants.{Greatest}
-use Rattle.sccs_pending.specs.PFiles.{entries_of}
-use Rattle.sccs_pending.specs.Reports.{heading_text}
+use Rattle.sccs_changes.specs.PFiles.{entries_of}
+use Rattle.sccs_changes.specs.Reports.{heading_text}
 
 -- the numbers of its checks
 abbrev pub sact_checks : List ℕ

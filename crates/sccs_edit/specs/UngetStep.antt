@@ -9,11 +9,11 @@ use Rattle.sccs_tokens.specs.Written.{ended}
 use Rattle.sccs_pfile.specs.Choices.{choice, fits}
 use Rattle.sccs_pfile.specs.declared.entries.Edit.{Edit}
 use Rattle.sccs_steps.specs.Actions.{quiet_checks}
-use Rattle.sccs_transactions.specs.Changes.{Changing}
+use Rattle.sccs_changes.specs.Changes.{Changing}
 use Rattle.sccs_words.specs.declared.commands.UngetWords.{UngetWords}
-use Rattle.sccs_pending.specs.NewEntries.{Decided, entries_outcome, made_text, or_no_edit}
-use Rattle.sccs_pending.specs.Pending.{Found}
-use Rattle.sccs_pending.specs.Reports.{heading_text}
+use Rattle.sccs_changes.specs.NewEntries.{Decided, entries_outcome, made_text, or_no_edit}
+use Rattle.sccs_changes.specs.Pending.{Found}
+use Rattle.sccs_changes.specs.Reports.{heading_text}
 
 -- the numbers of its checks
 abbrev pub unget_checks : List ℕ

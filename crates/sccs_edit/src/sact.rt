@@ -3,22 +3,21 @@ ghost use Rattle.sccs_base.specs.Name.{IsSfile};
 ghost use Rattle.sccs_disk.specs.Files.{View};
 ghost use Rattle.sccs_disk.specs.Told.{seen};
 ghost use Rattle.sccs_pfile.specs.Entries.{IsEdit};
-ghost use Rattle.sccs_files.specs.StepFiles.{look};
+ghost use Rattle.sccs_name_files.specs.StepFiles.{look};
 ghost use Rattle.sccs_steps.specs.Actions.{RefusesWithin};
 ghost use Rattle.sccs_steps.specs.Causes.{StepCauses, counts};
-ghost use Rattle.sccs_pending.specs.PFiles.{Answers, OnlyReads};
+ghost use Rattle.sccs_changes.specs.PFiles.{Answers, OnlyReads};
 ghost use Rattle.sccs_edit.specs.Checks.{sact_keeps};
 ghost use Rattle.sccs_edit.specs.SactStep.{ShowsEdits, found_edits, sact_action, sact_checks, shows_entries};
 
 use crate::sact_reports::{message_of, report_of};
 use sccs_base::{Name, Sink, Source};
+use sccs_changes::{Prepared, read_pfile, report};
 use sccs_disk::Disk;
-use sccs_pending::read_pfile;
 use sccs_pfile::Edits;
 use sccs_sid::{Refusal, StepFault};
 use sccs_steps::Utility;
 use sccs_store::{NewG, NewP};
-use sccs_transactions::{Prepared, report};
 use std::alloc::Global;
 
 /// sact on a name: the pending edits of its p-file, a line for each: the SIDs that were got and are to be made,

@@ -2,10 +2,10 @@ ghost use Rattle.std.specs.Prelude.{◌≡◌, ◌∷◌, ◌++◌, [], All, IfO
 ghost use Rattle.sccs_tokens.specs.Written.{ended};
 ghost use Rattle.sccs_pfile.specs.Entries.{IsEdit};
 ghost use Rattle.sccs_edit.specs.SactStep.{edit_line, edit_lines, none_text};
-ghost use Rattle.sccs_pending.specs.Reports.{heading_text};
+ghost use Rattle.sccs_changes.specs.Reports.{heading_text};
 
 use sccs_base::{Bytes, Memory, Name};
-use sccs_pending::heading;
+use sccs_changes::heading;
 use sccs_pfile::{Edit, Edits};
 use sccs_sid::DETAIL_ROOM;
 use std::alloc::Global;

@@ -5,19 +5,18 @@ ghost use Rattle.sccs_disk.specs.Told.{seen};
 ghost use Rattle.sccs_pfile.specs.Entries.{IsEdit};
 ghost use Rattle.sccs_steps.specs.Actions.{RefusesWithin};
 ghost use Rattle.std.specs.Str.{bytes_eq};
-ghost use Rattle.sccs_images.specs.Touches.{TouchesOnly};
-ghost use Rattle.sccs_transactions.specs.Stops.{IsFirmPrepared};
+ghost use Rattle.sccs_name_files.specs.Touches.{TouchesOnly};
+ghost use Rattle.sccs_changes.specs.Stops.{IsFirmPrepared};
 ghost use Rattle.sccs_edit.specs.Checks.{unget_locked};
 ghost use Rattle.sccs_edit.specs.UngetStep.{unget_change, unget_checks, unget_report, without_entry};
-ghost use Rattle.sccs_pending.specs.NewEntries.{PreparesDecided};
-ghost use Rattle.sccs_pending.specs.PFiles.{ChangesDisk};
+ghost use Rattle.sccs_changes.specs.NewEntries.{PreparesDecided};
+ghost use Rattle.sccs_changes.specs.PFiles.{ChangesDisk};
 
 use sccs_base::{Bytes, Memory, Name, Sink, Source};
+use sccs_changes::{Change, Prepared, chosen, heading, prepare_entries, read_pending, remove_g};
 use sccs_disk::{Disk, DiskRefusal};
-use sccs_pending::{chosen, heading, prepare_entries, read_pending, remove_g};
 use sccs_pfile::{Edits, release};
 use sccs_sid::{DETAIL_ROOM, Stamp, StepFault};
-use sccs_transactions::{Change, Prepared};
 use sccs_words::UngetWords;
 use std::alloc::Global;
 

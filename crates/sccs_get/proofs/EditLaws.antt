@@ -30,7 +30,7 @@ use Rattle.sccs_sid.specs.declared.refusals.StepFault.TheVariants.{Refused, Memo
 use Rattle.sccs_history.specs.declared.headers.Header.{Header}
 use Rattle.sccs_pfile.specs.declared.entries.Edit.{Edit}
 use Rattle.sccs_words.specs.declared.commands.GetWords.{GetWords}
-use Rattle.sccs_pending.specs.PFiles.{Answers}
+use Rattle.sccs_changes.specs.PFiles.{Answers}
 use Rattle.sccs_get.specs.NewEntry.{free_sid, is_got, new_edit, new_entry, release_asked, edit_releases, reserved, single_ranges, singles}
 use Rattle.sccs_get.specs.AskedVersion.{asked, spec_asked}
 use Rattle.sccs_get.specs.declared.targets.Asked.{Asked}

@@ -19,17 +19,17 @@ use Rattle.sccs_history.specs.declared.headers.Item.{Item}
 use Rattle.sccs_table.specs.FrontFile.{IsPlaced}
 use Rattle.sccs_table.specs.ReaderState.{bytes_in}
 use Rattle.sccs_versions.specs.Coming.{IsBody}
-use Rattle.sccs_files.specs.StepFiles.{l_file, look}
+use Rattle.sccs_name_files.specs.StepFiles.{l_file, look}
 use Rattle.sccs_grammar.specs.File.{Parsed}
-use Rattle.sccs_moments.proofs.FileNames.{from_g, from_s}
-use Rattle.sccs_pending.specs.Pending.{bytes_at}
-use Rattle.sccs_pending.proofs.PendingLaws.{shown_header}
+use Rattle.sccs_crash_points.proofs.FileNames.{from_g, from_s}
+use Rattle.sccs_changes.specs.Pending.{bytes_at}
+use Rattle.sccs_changes.proofs.PendingLaws.{shown_header}
 use Rattle.sccs_steps.specs.Actions.{RefusesWithin}
 use Rattle.sccs_steps.specs.Calls.{world}
 use Rattle.sccs_steps.specs.StepEffects.{Outcome, StepEffect}
 use Rattle.sccs_summary.specs.SummaryFiles.{l_made}
-use Rattle.sccs_transactions.specs.Changes.{CouldPrepare, IsUnmade, Prepares, PreparesBy, PreparesChange, unlocked}
-use Rattle.sccs_transactions.specs.declared.prepared.Prepared.{Prepared}
+use Rattle.sccs_changes.specs.Changes.{CouldPrepare, IsUnmade, Prepares, PreparesBy, PreparesChange, unlocked}
+use Rattle.sccs_changes.specs.declared.prepared.Prepared.{Prepared}
 use Rattle.sccs_words.specs.declared.commands.GetWords.{GetWords}
 use Rattle.sccs_get.specs.EditGiving.{AnswersReserved}
 use Rattle.sccs_get.specs.EditStep.{Reserved as IsReserved, could_edit, edit_change, edit_outcome, edit_effect, g_after, reserved_of}

@@ -8,35 +8,35 @@ use Rattle.sccs_disk.specs.Calls.{IsThere}
 use Rattle.sccs_disk.specs.Files.{Content, View}
 use Rattle.sccs_disk.specs.Images.{IsFirm}
 use Rattle.sccs_disk.specs.Told.{Told, seen}
-use Rattle.sccs_images.specs.Touches.{Leaves, TouchesOnly}
+use Rattle.sccs_name_files.specs.Touches.{Leaves, TouchesOnly}
 use Rattle.sccs_history.specs.History.{lives}
-use Rattle.sccs_files.specs.StepFiles.{Moves}
-use Rattle.sccs_moments.proofs.FileNames.{from_s}
-use Rattle.sccs_moments.proofs.Recovering.{pair_same}
-use Rattle.sccs_moments.proofs.Untouched.{sound_kept}
+use Rattle.sccs_name_files.specs.StepFiles.{Moves}
+use Rattle.sccs_crash_points.proofs.FileNames.{from_s}
+use Rattle.sccs_crash_points.proofs.Recovering.{pair_same}
+use Rattle.sccs_crash_points.proofs.Untouched.{sound_kept}
 use Rattle.sccs_intents.specs.Intents.{intent_file}
 use Rattle.sccs_pfile.specs.Agreement.{Agrees}
 use Rattle.sccs_pfile.specs.Entries.{IsEdit}
-use Rattle.sccs_moments.specs.Recovery.{IsSound}
+use Rattle.sccs_crash_points.specs.Recovery.{IsSound}
 use Rattle.sccs_pfile.specs.Recovered.{is_done, recovered_pfile}
 use Rattle.sccs_pfile.specs.declared.entries.Edit.{Edit}
-use Rattle.sccs_pending.specs.NewEntries.{IsDecided, PreparesEntries, kept_g}
-use Rattle.sccs_pending.specs.Pending.{AnswersPending}
-use Rattle.sccs_pending.specs.declared.pending.Pending.{Pending}
-use Rattle.sccs_pending.proofs.StopLaws.{agreeing_undone, decided_settles}
+use Rattle.sccs_changes.specs.NewEntries.{IsDecided, PreparesEntries, kept_g}
+use Rattle.sccs_changes.specs.Pending.{AnswersPending}
+use Rattle.sccs_changes.specs.declared.pending.Pending.{Pending}
+use Rattle.sccs_changes.proofs.StopLaws.{agreeing_undone, decided_settles}
 use Rattle.sccs_steps.specs.StepStops.{ArePaired, IsPaired}
 use Rattle.sccs_store.specs.Commits.{Needs, chosen, files_after}
 use Rattle.sccs_store.specs.Stops.{KeepsEntries, OnReplace}
 use Rattle.sccs_store.specs.declared.new_files.NewFile.{NewFile}
 use Rattle.sccs_store.specs.declared.new_files.NewFile.TheVariants.{Keep, Replace, Remove}
-use Rattle.sccs_transactions.specs.Changes.{IsReady, plan_of}
-use Rattle.sccs_transactions.specs.Stops.{IsFirmPrepared, SettlesEntries}
-use Rattle.sccs_transactions.specs.declared.prepared.Prepared.{Prepared}
+use Rattle.sccs_changes.specs.Changes.{IsReady, plan_of}
+use Rattle.sccs_changes.specs.Stops.{IsFirmPrepared, SettlesEntries}
+use Rattle.sccs_changes.specs.declared.prepared.Prepared.{Prepared}
 use Rattle.sccs_words.specs.declared.commands.GetWords.{GetWords}
 use Rattle.sccs_get.specs.EditGiving.{new_g}
 use Rattle.sccs_get.specs.VersionStep.{writes_g}
 use Rattle.sccs_get.proofs.EditLaws.{all_and, each_and}
-use Rattle.sccs_pending.proofs.Preparing.{firm_kept, there_moved}
+use Rattle.sccs_changes.proofs.Preparing.{firm_kept, there_moved}
 
 abbrev pub edit_prepared : NewFile → NewFile → List ℕ → List ℕ → Prepared
 edit_prepared new_p g report message = record { new_s = false; new_p = new_p; new_g = g; report = report; message = message }

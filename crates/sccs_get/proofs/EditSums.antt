@@ -13,13 +13,13 @@ use Rattle.sccs_disk.specs.Told.{Told, seen}
 use Rattle.sccs_disk.proofs.Puts.{put_same}
 use Rattle.sccs_sid.specs.declared.refusals.StepFault.{StepFault}
 use Rattle.sccs_sid.specs.declared.refusals.StepFault.TheVariants.{Refused, Memory, ReadFault, WriteFault, DiskFault}
-use Rattle.sccs_files.specs.StepFiles.{Files, Moves, is_working, l_file}
-use Rattle.sccs_images.specs.Touches.{Leaves, TouchesOnly, earlier, newest}
-use Rattle.sccs_moments.specs.Unlocked.{KeepsOthers, KeptOthers}
-use Rattle.sccs_moments.proofs.FileNames.{from_s, no_y}
-use Rattle.sccs_moments.proofs.Unlocked.{others_same, others_then, others_touched, others_wider}
-use Rattle.sccs_pending.specs.Pending.{AnswersPending}
-use Rattle.sccs_pending.specs.declared.pending.Pending.{Pending}
+use Rattle.sccs_name_files.specs.StepFiles.{Files, Moves, is_working, l_file}
+use Rattle.sccs_name_files.specs.Touches.{Leaves, TouchesOnly, earlier, newest}
+use Rattle.sccs_crash_points.specs.Unlocked.{KeepsOthers, KeptOthers}
+use Rattle.sccs_crash_points.proofs.FileNames.{from_s, no_y}
+use Rattle.sccs_crash_points.proofs.Unlocked.{others_same, others_then, others_touched, others_wider}
+use Rattle.sccs_changes.specs.Pending.{AnswersPending}
+use Rattle.sccs_changes.specs.declared.pending.Pending.{Pending}
 use Rattle.sccs_steps.specs.Calls.{world}
 use Rattle.sccs_steps.specs.Causes.{PrintCauses}
 use Rattle.sccs_steps.specs.StepEffects.{Outcome, StepEffect}
@@ -29,9 +29,9 @@ use Rattle.sccs_store.specs.declared.new_files.NewFile.{NewFile}
 use Rattle.sccs_store.specs.declared.new_files.NewFile.TheVariants.{Keep, Replace, Remove}
 use Rattle.sccs_store.proofs.Working.{same_touches, touches_from}
 use Rattle.sccs_summary.specs.SummaryFiles.{is_summary, l_made, summary_file}
-use Rattle.sccs_transactions.specs.Changes.{AreTakenOrGone, Drafts, IsTakenOrGone, IsUnmade, IsUnmadeBy, Prepares, PreparesBy, PreparesEarly, plan_of}
-use Rattle.sccs_transactions.specs.Stops.{IsFirmPrepared}
-use Rattle.sccs_transactions.specs.declared.prepared.Prepared.{Prepared}
+use Rattle.sccs_changes.specs.Changes.{AreTakenOrGone, Drafts, IsTakenOrGone, IsUnmade, IsUnmadeBy, Prepares, PreparesBy, PreparesEarly, plan_of}
+use Rattle.sccs_changes.specs.Stops.{IsFirmPrepared}
+use Rattle.sccs_changes.specs.declared.prepared.Prepared.{Prepared}
 use Rattle.sccs_get.specs.Giving.{IsLate}
 use Rattle.sccs_get.specs.SummaryGiving.{MakesSome}
 use Rattle.sccs_get.specs.SummaryStep.{with_l}

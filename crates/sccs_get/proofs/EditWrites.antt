@@ -17,9 +17,9 @@ use Rattle.sccs_history.specs.declared.headers.Record.{Record}
 use Rattle.sccs_table.specs.ReaderState.{bytes_in}
 use Rattle.sccs_table.specs.declared.fronts.Front.{Front}
 use Rattle.sccs_versions.specs.Coming.{IsBody}
-use Rattle.sccs_pending.specs.Pending.{bytes_at}
-use Rattle.sccs_files.specs.StepFiles.{Files, Moves, is_working, l_file, look}
-use Rattle.sccs_moments.proofs.FileNames.{from_g, from_s, no_q, no_y}
+use Rattle.sccs_changes.specs.Pending.{bytes_at}
+use Rattle.sccs_name_files.specs.StepFiles.{Files, Moves, is_working, l_file, look}
+use Rattle.sccs_crash_points.proofs.FileNames.{from_g, from_s, no_q, no_y}
 use Rattle.sccs_pfile.specs.Recovered.{pfile_of}
 use Rattle.sccs_pfile.specs.declared.entries.Edit.{Edit}
 use Rattle.sccs_printing.specs.declared.shown.Shown.{Shown}
@@ -30,8 +30,8 @@ use Rattle.sccs_store.specs.Commits.{Becomes, chosen, files_after, plan}
 use Rattle.sccs_store.specs.declared.new_files.NewFile.{NewFile}
 use Rattle.sccs_store.specs.declared.new_files.NewFile.TheVariants.{Keep, Replace}
 use Rattle.sccs_store.proofs.Working.{moves_then, moves_wider}
-use Rattle.sccs_transactions.specs.Changes.{AreTakenOrGone, IsTakenOrGone, IsUnmade, Prepares, unlocked}
-use Rattle.sccs_transactions.proofs.Taken.{untouched}
+use Rattle.sccs_changes.specs.Changes.{AreTakenOrGone, IsTakenOrGone, IsUnmade, Prepares, unlocked}
+use Rattle.sccs_changes.proofs.Taken.{untouched}
 use Rattle.sccs_words.specs.declared.commands.GetWords.{GetWords}
 use Rattle.sccs_get.specs.EditGiving.{new_g}
 use Rattle.sccs_get.specs.EditStep.{edit_effect}

@@ -9,10 +9,10 @@ use Rattle.sccs_sid.specs.declared.refusals.Refusal.TheVariants as refusals
 use Rattle.sccs_sid.specs.declared.refusals.StepFault.{StepFault}
 use Rattle.sccs_sid.specs.declared.refusals.StepFault.TheVariants.{Refused, Memory, ReadFault, WriteFault, DiskFault}
 use Rattle.sccs_history.specs.declared.headers.Header.{Header}
-use Rattle.sccs_keys.specs.declared.facts.Facts.{Facts}
+use Rattle.sccs_keywords.specs.declared.facts.Facts.{Facts}
 use Rattle.sccs_sets.specs.Sets.{sid_at}
 use Rattle.sccs_steps.specs.StepEffects.{there}
-use Rattle.sccs_pending.specs.PFiles.{Answers}
+use Rattle.sccs_changes.specs.PFiles.{Answers}
 use Rattle.sccs_words.specs.declared.commands.GetWords.{GetWords}
 use Rattle.sccs_get.specs.NewEntry.{singles}
 use Rattle.sccs_get.specs.AskedVersion.{asked}

@@ -13,20 +13,20 @@ use Rattle.sccs_disk.specs.Told.{Told, Tells, seen}
 use Rattle.sccs_disk.proofs.Puts.{put_other, put_same}
 use Rattle.sccs_history.specs.Body.{HistoryLine}
 use Rattle.sccs_history.specs.declared.headers.Record.{Record}
-use Rattle.sccs_images.specs.Touches.{Leaves, TouchesOnly, earlier, newest}
-use Rattle.sccs_images.proofs.Images.{view_image}
-use Rattle.sccs_images.proofs.Touched.{newest_more}
+use Rattle.sccs_name_files.specs.Touches.{Leaves, TouchesOnly, earlier, newest}
+use Rattle.sccs_name_files.proofs.Images.{view_image}
+use Rattle.sccs_name_files.proofs.Touched.{newest_more}
 use Rattle.sccs_intents.specs.Intents.{intent_file}
-use Rattle.sccs_files.specs.StepFiles.{Moves, l_file, look, moved}
-use Rattle.sccs_gfiles.specs.Placing.{HasMade}
-use Rattle.sccs_gfiles.proofs.MadeWhole.{ends_after, ends_pairs, ends_within}
-use Rattle.sccs_moments.specs.Calm.{IsCalm, KeepsPairs}
-use Rattle.sccs_moments.specs.Moments.{EndsAfter, EndsBefore, IsAt}
-use Rattle.sccs_moments.specs.Recovery.{RecoversAs, is_kept}
-use Rattle.sccs_moments.proofs.FileNames.{from_g, kept_intent, kept_p, kept_q, kept_s, kept_x, kept_z, l_plain}
-use Rattle.sccs_moments.proofs.Joined.{numbered_as, numbered_now, went_then, stays_as}
-use Rattle.sccs_moments.proofs.Recovering.{LooksAlike, fate_same, looks_recover, recovers_back, recovers_then}
-use Rattle.sccs_moments.proofs.Untouched.{before_after, before_within, same_before}
+use Rattle.sccs_name_files.specs.StepFiles.{Moves, l_file, look, moved}
+use Rattle.sccs_store.specs.Placing.{HasMade}
+use Rattle.sccs_store.proofs.MadeWhole.{ends_after, ends_pairs, ends_within}
+use Rattle.sccs_crash_points.specs.Calm.{IsCalm, KeepsPairs}
+use Rattle.sccs_crash_points.specs.Moments.{EndsAfter, EndsBefore, IsAt}
+use Rattle.sccs_crash_points.specs.Recovery.{RecoversAs, is_kept}
+use Rattle.sccs_crash_points.proofs.FileNames.{from_g, kept_intent, kept_p, kept_q, kept_s, kept_x, kept_z, l_plain}
+use Rattle.sccs_crash_points.proofs.Joined.{numbered_as, numbered_now, went_then, stays_as}
+use Rattle.sccs_crash_points.proofs.Recovering.{LooksAlike, fate_same, looks_recover, recovers_back, recovers_then}
+use Rattle.sccs_crash_points.proofs.Untouched.{before_after, before_within, same_before}
 use Rattle.sccs_steps.specs.Actions.{Action}
 use Rattle.sccs_steps.specs.Calls.{Meets, scene, world}
 use Rattle.sccs_steps.specs.StepEffects.{Outcome, StepEffect, effect_of}
@@ -34,7 +34,7 @@ use Rattle.sccs_steps.specs.StepStops.{Ends, IsSafe, IsSafeFor, MeetsAt, meeting
 use Rattle.sccs_steps.proofs.SafeImages.{recovers_before}
 use Rattle.sccs_steps.proofs.Safety.{same_safe}
 use Rattle.sccs_store.specs.Commits.{Becomes}
-use Rattle.sccs_transactions.specs.declared.prepared.Prepared.{Prepared}
+use Rattle.sccs_changes.specs.declared.prepared.Prepared.{Prepared}
 use Rattle.sccs_words.specs.declared.commands.GetWords.{GetWords}
 use Rattle.sccs_summary.specs.SummaryFiles.{summary_file}
 use Rattle.sccs_summary.proofs.LFiles.{loses_touching}

@@ -11,23 +11,23 @@ use Rattle.sccs_sid.specs.declared.refusals.StepFault.{StepFault}
 use Rattle.sccs_sid.specs.declared.refusals.StepFault.TheVariants.{Refused, Memory, ReadFault, WriteFault, DiskFault}
 use Rattle.sccs_disk.specs.Files.{View, put}
 use Rattle.sccs_disk.specs.Told.{Told}
-use Rattle.sccs_gfiles.specs.Placing.{PlaceEnds}
-use Rattle.sccs_gfiles.specs.declared.modes.Mode.{Mode}
+use Rattle.sccs_store.specs.Placing.{PlaceEnds}
+use Rattle.sccs_store.specs.declared.modes.Mode.{Mode}
 use Rattle.sccs_history.specs.Body.{HistoryLine}
 use Rattle.sccs_history.specs.declared.headers.Record.{Record}
-use Rattle.sccs_texts.specs.Forms.{LineForm}
+use Rattle.sccs_keywords.specs.Forms.{LineForm}
 use Rattle.sccs_printing.specs.Counted.{shown_of}
 use Rattle.sccs_printing.specs.Printing.{Makes, finished_text, may_write, version_text}
 use Rattle.sccs_printing.specs.Targets.{Prints}
 use Rattle.sccs_printing.specs.declared.shown.Shown.{Shown}
-use Rattle.sccs_moments.specs.Recovery.{without_name}
-use Rattle.sccs_pending.specs.PFiles.{OnlyReads}
+use Rattle.sccs_crash_points.specs.Recovery.{without_name}
+use Rattle.sccs_changes.specs.PFiles.{OnlyReads}
 use Rattle.sccs_steps.specs.Calls.{world}
 use Rattle.sccs_steps.specs.Causes.{PrintCauses}
 use Rattle.sccs_store.specs.Commits.{Becomes}
 use Rattle.sccs_store.proofs.Working.{moves_same}
-use Rattle.sccs_transactions.specs.Ends.{Reports}
-use Rattle.sccs_transactions.specs.declared.prepared.Prepared.{Prepared}
+use Rattle.sccs_changes.specs.Ends.{Reports}
+use Rattle.sccs_changes.specs.declared.prepared.Prepared.{Prepared}
 use Rattle.sccs_words.specs.declared.commands.GetWords.{GetWords}
 use Rattle.sccs_get.specs.Giving.{FinishesGet, GivesUpGet, GivesVersion, PlacesG, g_placed, printed_text, with_y, y_cleared}
 use Rattle.sccs_get.specs.VersionStep.{form_got, stays_writable, given_text, writes_g}

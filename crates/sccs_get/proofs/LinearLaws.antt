@@ -26,13 +26,13 @@ use Rattle.sccs_sets.specs.Retrieved.{retrieved}
 use Rattle.sccs_sets.specs.Sets.{sid_at}
 use Rattle.sccs_sets.specs.Trunks.{IsTrunk}
 use Rattle.sccs_sets.proofs.Trunks.{newest_of_trunk}
-use Rattle.sccs_texts.specs.Forms.{has_keywords, texts}
-use Rattle.sccs_texts.proofs.TextLaws.{as_they_are}
-use Rattle.sccs_keys.specs.declared.facts.Facts.{Facts}
-use Rattle.sccs_facts.specs.VersionFacts.{facts_of, module_name}
+use Rattle.sccs_keywords.specs.Forms.{has_keywords, texts}
+use Rattle.sccs_keywords.proofs.TextLaws.{as_they_are}
+use Rattle.sccs_keywords.specs.declared.facts.Facts.{Facts}
+use Rattle.sccs_keywords.specs.VersionFacts.{facts_of, module_name}
 use Rattle.sccs_printing.specs.Printing.{version_text}
-use Rattle.sccs_files.specs.StepFiles.{Files}
-use Rattle.sccs_pending.specs.Pending.{bytes_at}
+use Rattle.sccs_name_files.specs.StepFiles.{Files}
+use Rattle.sccs_changes.specs.Pending.{bytes_at}
 use Rattle.sccs_steps.specs.StepEffects.{StepEffect, check}
 use Rattle.sccs_versions.specs.Coming.{shown}
 use Rattle.sccs_words.specs.declared.commands.GetWords.{GetWords}

@@ -21,15 +21,15 @@ use Rattle.sccs_table.specs.declared.fronts.Front.{Front}
 use Rattle.sccs_body.specs.BodyFile.{AnswersFile}
 use Rattle.sccs_versions.specs.Coming.{IsBody}
 use Rattle.sccs_words.specs.declared.commands.GetWords.{GetWords}
-use Rattle.sccs_files.specs.StepFiles.{Files, look}
-use Rattle.sccs_pending.specs.Pending.{bytes_at}
-use Rattle.sccs_pending.specs.PFiles.{Answers, PassesCheck}
+use Rattle.sccs_name_files.specs.StepFiles.{Files, look}
+use Rattle.sccs_changes.specs.Pending.{bytes_at}
+use Rattle.sccs_changes.specs.PFiles.{Answers, PassesCheck}
 use Rattle.sccs_get.specs.Located.{AnswersLocated}
 use Rattle.sccs_get.specs.VersionStep.{LocatedVersion, found_version, g_is_free, has_its_keywords, lines_got, located_of}
 use Rattle.sccs_get.specs.declared.found.Found.{Found}
 use Rattle.sccs_get.specs.declared.steps.Located.{Located}
 use Rattle.sccs_get.proofs.ReadyLaws.{body_there}
-use Rattle.sccs_pending.proofs.PendingLaws.{shown_header}
+use Rattle.sccs_changes.proofs.PendingLaws.{shown_header}
 
 module _ (words : GetWords) (stamp : Stamp) (place : List ℕ) (n : List ℕ) where
   -- ---- what is found, check by check

@@ -23,20 +23,20 @@ use Rattle.sccs_body.proofs.FileLaws.{file_items}
 use Rattle.sccs_versions.specs.Coming.{IsBody}
 use Rattle.sccs_printing.specs.Counted.{shown_of}
 use Rattle.sccs_printing.specs.declared.shown.Shown.{Shown}
-use Rattle.sccs_texts.specs.Forms.{has_keywords, if_replaced, texts}
-use Rattle.sccs_keys.specs.declared.facts.Facts.{Facts}
+use Rattle.sccs_keywords.specs.Forms.{has_keywords, if_replaced, texts}
+use Rattle.sccs_keywords.specs.declared.facts.Facts.{Facts}
 use Rattle.sccs_words.specs.declared.commands.GetWords.{GetWords}
-use Rattle.sccs_files.specs.StepFiles.{look}
-use Rattle.sccs_pending.specs.Pending.{bytes_at}
+use Rattle.sccs_name_files.specs.StepFiles.{look}
+use Rattle.sccs_changes.specs.Pending.{bytes_at}
 use Rattle.sccs_steps.specs.Calls.{World, world}
 use Rattle.sccs_steps.specs.StepEffects.{Outcome, StepEffect, effect_of}
-use Rattle.sccs_transactions.specs.declared.prepared.Prepared.{Prepared}
+use Rattle.sccs_changes.specs.declared.prepared.Prepared.{Prepared}
 use Rattle.sccs_get.specs.Giving.{GivesVersion, IsLate, Readies, printed_text}
-use Rattle.sccs_pending.specs.Reports.{heading_text, warning}
+use Rattle.sccs_changes.specs.Reports.{heading_text, warning}
 use Rattle.sccs_get.specs.Reports.{get_report, get_warning, line_count_text, listed_text, new_sid_text, replaces_keywords, said_on_err, said_on_out}
 use Rattle.sccs_get.specs.VersionStep.{form_got, get_effect, lines_got, given_text}
 use Rattle.sccs_get.specs.declared.found.Found.{Found}
-use Rattle.sccs_pending.proofs.PendingLaws.{shown_header}
+use Rattle.sccs_changes.proofs.PendingLaws.{shown_header}
 
 -- ---- the file behind the checks
 

@@ -11,13 +11,13 @@ use Rattle.sccs_sid.specs.declared.refusals.StepFault.TheVariants.{Refused, Memo
 use Rattle.sccs_history.specs.declared.headers.Header.{Header}
 use Rattle.sccs_grammar.specs.File.{Parsed, answer, file_of}
 use Rattle.sccs_body.specs.BodyFile.{ShowsFile}
-use Rattle.sccs_files.specs.StepFiles.{Files, look}
+use Rattle.sccs_name_files.specs.StepFiles.{Files, look}
 use Rattle.sccs_pfile.specs.declared.entries.Edit.{Edit}
-use Rattle.sccs_pending.specs.PFiles.{Answers}
-use Rattle.sccs_pending.specs.Pending.{AnswersPending, Found, bytes_at, pending_of}
-use Rattle.sccs_pending.specs.declared.pending.Pending.{Pending}
-use Rattle.sccs_pending.proofs.PendingLaws.{shown_header}
-use Rattle.sccs_pending.proofs.StopLaws.{pending_answer}
+use Rattle.sccs_changes.specs.PFiles.{Answers}
+use Rattle.sccs_changes.specs.Pending.{AnswersPending, Found, bytes_at, pending_of}
+use Rattle.sccs_changes.specs.declared.pending.Pending.{Pending}
+use Rattle.sccs_changes.proofs.PendingLaws.{shown_header}
+use Rattle.sccs_changes.proofs.StopLaws.{pending_answer}
 use Rattle.sccs_words.specs.declared.commands.GetWords.{GetWords}
 use Rattle.sccs_get.specs.EditGiving.{AnswersReserved}
 use Rattle.sccs_get.specs.EditStep.{Reserved, reserved_of}

@@ -17,10 +17,10 @@ use Rattle.sccs_steps.specs.Actions.{RefusesWithin, SpeaksBy, has_number}
 use Rattle.sccs_steps.specs.Calls.{world}
 use Rattle.sccs_steps.specs.Causes.{PrintCauses, StepCauses, counts}
 use Rattle.sccs_steps.specs.StepEffects.{StepEffect}
-use Rattle.sccs_transactions.specs.declared.prepared.Prepared.{Prepared}
-use Rattle.sccs_transactions.proofs.ChangeCauses.{finished_causes}
-use Rattle.sccs_pending.specs.PFiles.{OnlyReads}
-use Rattle.sccs_pending.specs.Reports.{warning}
+use Rattle.sccs_changes.specs.declared.prepared.Prepared.{Prepared}
+use Rattle.sccs_changes.proofs.ChangeCauses.{finished_causes}
+use Rattle.sccs_changes.specs.PFiles.{OnlyReads}
+use Rattle.sccs_changes.specs.Reports.{warning}
 use Rattle.sccs_words.specs.declared.commands.GetWords.{GetWords}
 use Rattle.sccs_get.specs.Giving.{FinishesGet, GivesUpGet}
 use Rattle.sccs_get.specs.Reports.{get_report, get_warning, prints, said_on_err}

@@ -10,15 +10,15 @@ use Rattle.sccs_sid.specs.declared.refusals.StepFault.TheVariants.{Refused, Memo
 use Rattle.sccs_disk.specs.Effects.{renamed}
 use Rattle.sccs_disk.specs.Files.{Content, View, put}
 use Rattle.sccs_disk.proofs.Puts.{name_cases, put_back, put_other, put_same}
-use Rattle.sccs_files.specs.StepFiles.{AreCleared, Files, Moves, is_left, is_working, l_file, look, moved, placed}
-use Rattle.sccs_moments.specs.Recovery.{without_name}
+use Rattle.sccs_name_files.specs.StepFiles.{AreCleared, Files, Moves, is_left, is_working, l_file, look, moved, placed}
+use Rattle.sccs_crash_points.specs.Recovery.{without_name}
 use Rattle.sccs_base.proofs.SameBytes.{other_bytes, same_bytes}
-use Rattle.sccs_moments.proofs.FileNames.{from_g, no_working, no_y, s_and_g, to_g}
+use Rattle.sccs_crash_points.proofs.FileNames.{from_g, no_working, no_y, s_and_g, to_g}
 use Rattle.sccs_steps.specs.Calls.{Fails, Meets, Uncommitted, World, world}
 use Rattle.sccs_steps.specs.StepEffects.{Outcome, effect_of}
 use Rattle.sccs_steps.specs.FirstFiles.{MovesInOrder}
 use Rattle.sccs_store.specs.Commits.{Becomes, MayBecome}
-use Rattle.sccs_transactions.specs.declared.prepared.Prepared.{Prepared}
+use Rattle.sccs_changes.specs.declared.prepared.Prepared.{Prepared}
 use Rattle.sccs_words.specs.declared.commands.GetWords.{GetWords}
 use Rattle.sccs_get.specs.Giving.{FinishesGet, GivesUpGet, IsReadied, Readies, g_placed, with_y, y_cleared}
 use Rattle.sccs_get.specs.VersionStep.{stays_writable, with_g, writes_g}

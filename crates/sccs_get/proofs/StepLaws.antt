@@ -13,18 +13,18 @@ use Rattle.sccs_body.specs.BodyFile.{ShowsFile}
 use Rattle.sccs_disk.specs.Files.{Content, Model, View, view_of}
 use Rattle.sccs_disk.specs.Images.{IsFirm}
 use Rattle.sccs_disk.specs.Told.{Told, Tells, seen}
-use Rattle.sccs_files.specs.StepFiles.{Moves, is_early, l_file, look, moved}
+use Rattle.sccs_name_files.specs.StepFiles.{Moves, is_early, l_file, look, moved}
 use Rattle.sccs_grammar.specs.File.{Parsed, answer, file_of}
 use Rattle.sccs_history.specs.declared.headers.Header.{Header}
-use Rattle.sccs_images.specs.Touches.{Leaves, TouchesOnly}
-use Rattle.sccs_moments.specs.Calm.{IsCalm}
-use Rattle.sccs_moments.specs.Moments.{EndsAfter, EndsBefore}
-use Rattle.sccs_moments.specs.Recovery.{is_kept}
-use Rattle.sccs_moments.specs.Unlocked.{BeginsUnlocked, KeepsHeldIn, KeepsOthers, is_own}
-use Rattle.sccs_moments.proofs.FileNames.{from_s, from_sfile, kept_p, kept_s, no_l, no_working, no_y, to_g}
-use Rattle.sccs_moments.proofs.Unlocked.{is_either, others_then, others_touched, others_wider, own_early, own_left, unlocked_by, unlocked_same}
-use Rattle.sccs_moments.proofs.Untouched.{before_after, before_within, same_before}
-use Rattle.sccs_pending.specs.Pending.{bytes_at}
+use Rattle.sccs_name_files.specs.Touches.{Leaves, TouchesOnly}
+use Rattle.sccs_crash_points.specs.Calm.{IsCalm}
+use Rattle.sccs_crash_points.specs.Moments.{EndsAfter, EndsBefore}
+use Rattle.sccs_crash_points.specs.Recovery.{is_kept}
+use Rattle.sccs_crash_points.specs.Unlocked.{BeginsUnlocked, KeepsHeldIn, KeepsOthers, is_own}
+use Rattle.sccs_crash_points.proofs.FileNames.{from_s, from_sfile, kept_p, kept_s, no_l, no_working, no_y, to_g}
+use Rattle.sccs_crash_points.proofs.Unlocked.{is_either, others_then, others_touched, others_wider, own_early, own_left, unlocked_by, unlocked_same}
+use Rattle.sccs_crash_points.proofs.Untouched.{before_after, before_within, same_before}
+use Rattle.sccs_changes.specs.Pending.{bytes_at}
 use Rattle.sccs_steps.specs.Actions.{Action, IsHeard, Stepped}
 use Rattle.sccs_steps.specs.Calls.{Meets, scene, world}
 use Rattle.sccs_steps.specs.StepEffects.{Outcome, StepEffect, effect_of}
@@ -35,7 +35,7 @@ use Rattle.sccs_steps.proofs.ReadingSteps.{Explains, ends_silent}
 use Rattle.sccs_steps.proofs.SafeImages.{recovers_before}
 use Rattle.sccs_steps.proofs.UnlockedSteps.{others_hold}
 use Rattle.sccs_summary.specs.SummaryFiles.{LosesNothing, is_summary}
-use Rattle.sccs_transactions.specs.declared.prepared.Prepared.{Prepared}
+use Rattle.sccs_changes.specs.declared.prepared.Prepared.{Prepared}
 use Rattle.sccs_words.specs.declared.commands.GetWords.{GetWords}
 use Rattle.sccs_get.specs.Giving.{FinishesGet, GivesUpGet, IsReadied, PlacesG, Readies}
 use Rattle.sccs_get.specs.Keeps.{get_keeps}
@@ -50,7 +50,7 @@ use Rattle.sccs_get.proofs.StepEnds.{finished, gives_up}
 use Rattle.sccs_get.proofs.SummaryLaws.{down_summed, l_by, l_other, part, up_summed, whole, whole_met}
 use Rattle.sccs_base.proofs.Bools.{right_false, left_false}
 use Rattle.std.proofs.lemmas.Bool.{not_from_false, not_from_true, or_from}
-use Rattle.sccs_pending.proofs.PendingLaws.{shown_header}
+use Rattle.sccs_changes.proofs.PendingLaws.{shown_header}
 
 -- ---- the files that change
 

@@ -9,11 +9,11 @@ use Rattle.sccs_sid.specs.declared.refusals.StepFault.{StepFault}
 use Rattle.sccs_sid.specs.declared.refusals.StepFault.TheVariants.{Refused, Memory, ReadFault, WriteFault, DiskFault}
 use Rattle.sccs_disk.specs.Files.{Content, View, put}
 use Rattle.sccs_disk.proofs.Puts.{name_cases, put_back, put_other, put_same}
-use Rattle.sccs_files.specs.StepFiles.{AreCleared, Files, Moves, MovesEarly, early_moved, is_left, is_working, l_file, look, moved, placed}
+use Rattle.sccs_name_files.specs.StepFiles.{AreCleared, Files, Moves, MovesEarly, early_moved, is_left, is_working, l_file, look, moved, placed}
 use Rattle.sccs_history.specs.Body.{HistoryLine}
 use Rattle.sccs_history.specs.declared.headers.Record.{Record}
-use Rattle.sccs_moments.specs.Recovery.{without_name}
-use Rattle.sccs_moments.proofs.FileNames.{from_g, from_s, no_working, no_y, to_g}
+use Rattle.sccs_crash_points.specs.Recovery.{without_name}
+use Rattle.sccs_crash_points.proofs.FileNames.{from_g, from_s, no_working, no_y, to_g}
 use Rattle.sccs_steps.specs.Calls.{Interrupted, Made, Meets, ReportCut, Uncommitted, world}
 use Rattle.sccs_steps.specs.FirstFiles.{MovesInOrder, first_moved}
 use Rattle.sccs_steps.specs.StepEffects.{StepEffect}

@@ -17,7 +17,7 @@ use Rattle.sccs_sets.specs.declared.faults.SetFault.{SetFault}
 use Rattle.sccs_sets.specs.declared.faults.SetFault.TheVariants.{BadList, Memory}
 use Rattle.sccs_words.specs.declared.commands.GetWords.{GetWords}
 use Rattle.sccs_steps.specs.StepEffects.{there}
-use Rattle.sccs_pending.specs.PFiles.{Answers}
+use Rattle.sccs_changes.specs.PFiles.{Answers}
 use Rattle.sccs_get.specs.AskedVersion.{apart, asked, listed_serials, spec_asked}
 use Rattle.sccs_get.specs.declared.targets.Asked.{Asked}
 

@@ -5,13 +5,13 @@ use Rattle.sccs_base.specs.Name.{y_file}
 use Rattle.sccs_base.specs.Stream.{GivesOk}
 use Rattle.sccs_base.proofs.Gifts.{gives_none}
 use Rattle.sccs_disk.specs.Files.{View}
-use Rattle.sccs_gfiles.specs.declared.modes.Mode.{Mode}
+use Rattle.sccs_store.specs.declared.modes.Mode.{Mode}
 use Rattle.sccs_history.specs.Numbers.{has}
 use Rattle.sccs_history.specs.declared.headers.Record.{Record}
 use Rattle.sccs_sid.specs.declared.refusals.StepFault.{StepFault}
 use Rattle.sccs_printing.specs.Printing.{MakesWhole, PrintsWhole, may_write, version_text}
 use Rattle.sccs_printing.specs.declared.shown.Shown.{Shown}
-use Rattle.sccs_texts.specs.Forms.{LineForm}
+use Rattle.sccs_keywords.specs.Forms.{LineForm}
 use Rattle.sccs_versions.specs.WasRead.{shown_before}
 use Rattle.sccs_words.specs.declared.commands.GetWords.{GetWords}
 use Rattle.sccs_get.specs.VersionStep.{form_got, stays_writable, writes_g}

@@ -5,8 +5,8 @@ use Rattle.sccs_sid.specs.declared.refusals.StepFault.{StepFault}
 use Rattle.sccs_sid.specs.declared.refusals.StepFault.TheVariants.{Refused, Memory, ReadFault, WriteFault, DiskFault}
 use Rattle.sccs_grammar.specs.File.{Parsed, answer, file_of}
 use Rattle.sccs_body.specs.BodyFile.{ShowsFile}
-use Rattle.sccs_files.specs.StepFiles.{Files}
-use Rattle.sccs_pending.specs.Pending.{bytes_at}
+use Rattle.sccs_name_files.specs.StepFiles.{Files}
+use Rattle.sccs_changes.specs.Pending.{bytes_at}
 use Rattle.sccs_store.specs.declared.new_files.NewFile.{NewFile}
 use Rattle.sccs_store.specs.declared.new_files.NewFile.TheVariants.{Keep, Replace}
 use Rattle.sccs_words.specs.declared.commands.GetWords.{GetWords}

@@ -8,15 +8,15 @@ use Rattle.sccs_disk.specs.Files.{Content}
 use Rattle.sccs_history.specs.Body.{HistoryLine}
 use Rattle.sccs_history.specs.declared.headers.Record.{Record}
 use Rattle.sccs_grammar.specs.File.{Parsed}
-use Rattle.sccs_files.specs.StepFiles.{Files}
+use Rattle.sccs_name_files.specs.StepFiles.{Files}
 use Rattle.sccs_pfile.specs.Recovered.{pfile_of}
 use Rattle.sccs_pfile.specs.declared.entries.Edit.{Edit}
-use Rattle.sccs_texts.specs.Forms.{has_keywords, texts}
+use Rattle.sccs_keywords.specs.Forms.{has_keywords, texts}
 use Rattle.sccs_words.specs.declared.commands.GetWords.{GetWords}
-use Rattle.sccs_pending.specs.Pending.{pending_of}
+use Rattle.sccs_changes.specs.Pending.{pending_of}
 use Rattle.sccs_steps.specs.Actions.{Step, has_number}
 use Rattle.sccs_steps.specs.StepEffects.{Outcome, StepEffect}
-use Rattle.sccs_transactions.specs.Changes.{Changing}
+use Rattle.sccs_changes.specs.Changes.{Changing}
 use Rattle.sccs_get.specs.NewEntry.{edit_checks, new_entry}
 use Rattle.sccs_get.specs.Reports.{get_warning, said_on_err, said_on_out}
 use Rattle.sccs_get.specs.SummaryStep.{summary_got, summed, writes_l}

@@ -6,8 +6,8 @@ use Rattle.sccs_base.specs.Stream.{GivesOk, GivesSome}
 use Rattle.sccs_disk.specs.Files.{View, put}
 use Rattle.sccs_disk.specs.Effects.{renamed}
 use Rattle.sccs_disk.specs.Told.{Told}
-use Rattle.sccs_files.specs.StepFiles.{Moves, look}
-use Rattle.sccs_gfiles.specs.Placing.{PlaceEnds, PlaceStops}
+use Rattle.sccs_name_files.specs.StepFiles.{Moves, look}
+use Rattle.sccs_store.specs.Placing.{PlaceEnds, PlaceStops}
 use Rattle.sccs_history.specs.Body.{HistoryLine}
 use Rattle.sccs_history.specs.declared.headers.Record.{Record}
 use Rattle.sccs_sid.specs.declared.refusals.StepFault.{StepFault}
@@ -16,10 +16,10 @@ use Rattle.sccs_printing.specs.Counted.{shown_of}
 use Rattle.sccs_printing.specs.declared.shown.Shown.{Shown}
 use Rattle.sccs_steps.specs.Calls.{World}
 use Rattle.sccs_steps.specs.StepEffects.{Outcome, StepEffect, effect_of}
-use Rattle.sccs_moments.specs.Recovery.{without_name}
+use Rattle.sccs_crash_points.specs.Recovery.{without_name}
 use Rattle.sccs_store.specs.Commits.{Becomes, MayBecome}
-use Rattle.sccs_transactions.specs.Ends.{IsReportCut, IsReported}
-use Rattle.sccs_transactions.specs.declared.prepared.Prepared.{Prepared}
+use Rattle.sccs_changes.specs.Ends.{IsReportCut, IsReported}
+use Rattle.sccs_changes.specs.declared.prepared.Prepared.{Prepared}
 use Rattle.sccs_words.specs.declared.commands.GetWords.{GetWords}
 use Rattle.sccs_get.specs.VersionStep.{form_got, stays_writable, given_text, with_g, writes_g}
 use Rattle.sccs_get.specs.declared.found.Found.{Found}

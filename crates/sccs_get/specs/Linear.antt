@@ -4,12 +4,12 @@ use Rattle.sccs_history.specs.Numbers.{is_empty}
 use Rattle.sccs_history.specs.Linear.{IsLinear}
 use Rattle.sccs_grammar.specs.File.{Parsed}
 use Rattle.sccs_tokens.specs.Written.{bytes_of}
-use Rattle.sccs_files.specs.StepFiles.{Files}
+use Rattle.sccs_name_files.specs.StepFiles.{Files}
 use Rattle.sccs_steps.specs.StepEffects.{StepEffect}
 use Rattle.sccs_get.specs.Giving.{printed_text}
 use Rattle.sccs_sets.specs.Trunks.{IsTrunk}
 use Rattle.sccs_sid.specs.declared.moments.Stamp.{Stamp}
-use Rattle.sccs_texts.specs.Forms.{texts}
+use Rattle.sccs_keywords.specs.Forms.{texts}
 use Rattle.sccs_words.specs.declared.commands.GetWords.{GetWords}
 use Rattle.sccs_get.specs.SummaryStep.{printed_summary, summary_got, with_l, writes_l}
 use Rattle.sccs_get.specs.VersionStep.{found_version, get_outcome, is_in_the_way, lines_got, with_g, writes_g}

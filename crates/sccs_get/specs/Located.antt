@@ -5,8 +5,8 @@ use Rattle.sccs_sid.specs.declared.refusals.StepFault.{StepFault}
 use Rattle.sccs_sid.specs.declared.refusals.StepFault.TheVariants.{Refused, Memory, ReadFault, WriteFault, DiskFault}
 use Rattle.sccs_grammar.specs.File.{Parsed, answer, file_of}
 use Rattle.sccs_body.specs.BodyFile.{ShowsFile}
-use Rattle.sccs_files.specs.StepFiles.{Files}
-use Rattle.sccs_pending.specs.Pending.{bytes_at}
+use Rattle.sccs_name_files.specs.StepFiles.{Files}
+use Rattle.sccs_changes.specs.Pending.{bytes_at}
 use Rattle.sccs_words.specs.declared.commands.GetWords.{GetWords}
 use Rattle.sccs_get.specs.VersionStep.{located_of}
 use Rattle.sccs_get.specs.declared.steps.Located.{Located}

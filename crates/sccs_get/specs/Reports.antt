@@ -4,7 +4,7 @@ use Rattle.sccs_sid.specs.Sid.{sid_text}
 use Rattle.sccs_sid.specs.declared.sids.Sid.{Sid}
 use Rattle.sccs_sid.specs.declared.sid_lists.Range.{Range}
 use Rattle.sccs_tokens.specs.Written.{ended}
-use Rattle.sccs_pending.specs.Reports.{heading_text, warning}
+use Rattle.sccs_changes.specs.Reports.{heading_text, warning}
 use Rattle.sccs_words.specs.declared.commands.GetWords.{GetWords}
 use Rattle.sccs_get.specs.SummaryStep.{is_out}
 

@@ -4,7 +4,7 @@ use Rattle.sccs_history.specs.declared.headers.Record.{Record}
 use Rattle.sccs_words.specs.declared.commands.GetWords.{GetWords}
 use Rattle.sccs_words.specs.declared.commands.Summary.{Summary}
 use Rattle.sccs_words.specs.declared.commands.Summary.TheVariants.{No, File, Out}
-use Rattle.sccs_files.specs.StepFiles.{Files}
+use Rattle.sccs_name_files.specs.StepFiles.{Files}
 use Rattle.sccs_steps.specs.StepEffects.{StepEffect}
 use Rattle.sccs_summary.specs.Summaries.{Choice, summary_text}
 use Rattle.sccs_summary.specs.SummaryFiles.{summary_file}

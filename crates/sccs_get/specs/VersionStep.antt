@@ -20,14 +20,14 @@ use Rattle.sccs_grammar.specs.File.{Parsed, answer, file_of}
 use Rattle.sccs_grammar.specs.FileRefusals.{or_refusal}
 use Rattle.sccs_sets.specs.Sets.{sid_at}
 use Rattle.sccs_versions.specs.Coming.{shown}
-use Rattle.sccs_texts.specs.Forms.{LineForm, has_keywords, texts}
+use Rattle.sccs_keywords.specs.Forms.{LineForm, has_keywords, texts}
 use Rattle.sccs_printing.specs.Printing.{version_text}
-use Rattle.sccs_keys.specs.declared.facts.Facts.{Facts}
-use Rattle.sccs_facts.specs.VersionFacts.{facts_of, module_name}
+use Rattle.sccs_keywords.specs.declared.facts.Facts.{Facts}
+use Rattle.sccs_keywords.specs.VersionFacts.{facts_of, module_name}
 use Rattle.sccs_words.specs.declared.commands.GetWords.{GetWords}
-use Rattle.sccs_files.specs.StepFiles.{Files}
-use Rattle.sccs_gfiles.specs.Finished.{is_writable}
-use Rattle.sccs_pending.specs.Pending.{bytes_at}
+use Rattle.sccs_name_files.specs.StepFiles.{Files}
+use Rattle.sccs_store.specs.Finished.{is_writable}
+use Rattle.sccs_changes.specs.Pending.{bytes_at}
 use Rattle.sccs_steps.specs.Actions.{Action, has_number}
 use Rattle.sccs_steps.specs.StepEffects.{Outcome, StepEffect, check, there}
 use Rattle.sccs_steps.specs.declared.statuses.StatusRule.TheVariants.{Greatest}

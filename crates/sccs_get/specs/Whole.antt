@@ -15,7 +15,7 @@ use Rattle.sccs_versions.specs.WasRead.{Stood, shown_before}
 use Rattle.sccs_printing.specs.Counted.{shown_of}
 use Rattle.sccs_printing.specs.Printing.{version_text}
 use Rattle.sccs_printing.specs.declared.shown.Shown.{Shown}
-use Rattle.sccs_transactions.specs.declared.prepared.Prepared.{Prepared}
+use Rattle.sccs_changes.specs.declared.prepared.Prepared.{Prepared}
 use Rattle.sccs_words.specs.declared.commands.GetWords.{GetWords}
 use Rattle.sccs_get.specs.Giving.{printed_text}
 use Rattle.sccs_get.specs.Reports.{get_warning, said_on_err, said_on_out}

@@ -7,7 +7,7 @@ ghost use Rattle.sccs_sid.specs.declared.refusals.StepFault.TheVariants as fault
 ghost use Rattle.sccs_history.specs.Applied.{live_serials, serials_of};
 ghost use Rattle.sccs_history.specs.History.{HasSpelling, IsSpelled, IsTable, lives};
 ghost use Rattle.sccs_history.specs.Numbers.{Falls, has};
-ghost use Rattle.sccs_pending.specs.PFiles.{Answers, PassesCheck};
+ghost use Rattle.sccs_changes.specs.PFiles.{Answers, PassesCheck};
 ghost use Rattle.sccs_pfile.specs.Entries.{IsEdit};
 ghost use Rattle.sccs_sets.specs.Made.{to_be_made};
 ghost use Rattle.sccs_sets.specs.Sets.{sid_at};

@@ -8,7 +8,7 @@ ghost use Rattle.sccs_get.specs.Reports.{get_report, get_warning, line_count_tex
 use crate::found::Found;
 use itoa::Buffer;
 use sccs_base::{Bytes, Memory, Name};
-use sccs_pending::{add_warning, heading};
+use sccs_changes::{add_warning, heading};
 use sccs_printing::Shown;
 use sccs_sid::{DETAIL_ROOM, Range, Sid, SidList};
 use sccs_words::{GetWords, Summary};

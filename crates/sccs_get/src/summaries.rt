@@ -3,7 +3,7 @@ ghost use Rattle.std.specs.List.{AllByRecursion};
 ghost use Rattle.sccs_base.specs.Name.{IsSfile};
 ghost use Rattle.sccs_disk.specs.Told.{seen};
 ghost use Rattle.sccs_history.specs.History.{HasSpelling};
-ghost use Rattle.sccs_moments.specs.Unlocked.{KeepsOthers};
+ghost use Rattle.sccs_crash_points.specs.Unlocked.{KeepsOthers};
 ghost use Rattle.sccs_steps.specs.Actions.{RefusesWithin};
 ghost use Rattle.sccs_steps.specs.Calls.{world};
 ghost use Rattle.sccs_steps.specs.Causes.{PrintCauses};

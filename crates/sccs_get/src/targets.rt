@@ -9,7 +9,7 @@ ghost use Rattle.sccs_sets.specs.Retrieved.{retrieved};
 ghost use Rattle.sccs_sid.specs.declared.refusals.StepFault.TheVariants as faults;
 ghost use Rattle.sccs_steps.specs.Actions.{RefusesWithin};
 ghost use Rattle.sccs_get.specs.AskedVersion.{asked, asked_checks, listed_serials, spec_asked};
-ghost use Rattle.sccs_pending.specs.PFiles.{Answers};
+ghost use Rattle.sccs_changes.specs.PFiles.{Answers};
 
 use sccs_history::{Header, Serials};
 use sccs_sets::{Applied, NoSid, SetFault, default_of, delta_set, retrieve, serials};

@@ -7,11 +7,11 @@ use Rattle.sccs_disk.specs.Effects.{renamed, renaming}
 use Rattle.sccs_disk.specs.Files.{Content, View, put}
 use Rattle.sccs_disk.specs.Told.{Told, seen}
 use Rattle.sccs_disk.proofs.Puts.{put_other}
-use Rattle.sccs_files.specs.StepFiles.{Alike, Moves}
+use Rattle.sccs_name_files.specs.StepFiles.{Alike, Moves}
 use Rattle.sccs_intents.specs.Intents.{intent_file, plan_file}
 use Rattle.sccs_intents.specs.declared.intents.Fate.{Fate}
 use Rattle.sccs_intents.specs.declared.intents.Fate.TheVariants.{Replaced, Removed}
-use Rattle.sccs_moments.specs.Recovery.{without_name}
+use Rattle.sccs_crash_points.specs.Recovery.{without_name}
 use Rattle.sccs_store.specs.Commits.{Becomes}
 use Rattle.sccs_store.proofs.Working.{becomes_moves, made_moves, moves_wider}
 use Rattle.sccs_group.specs.Grouping.{file_of}

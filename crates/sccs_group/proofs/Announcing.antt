@@ -11,23 +11,23 @@ use Rattle.sccs_disk.specs.Files.{Content, Model, Rename, View, view_of}
 use Rattle.sccs_disk.specs.Images.{Allows, Full, IsFirm}
 use Rattle.sccs_disk.specs.Told.{Told, Tells, seen}
 use Rattle.sccs_disk.proofs.Puts.{name_cases}
-use Rattle.sccs_images.specs.Touches.{newest}
-use Rattle.sccs_images.proofs.Images.{image_pended}
-use Rattle.sccs_images.proofs.Owned.{firm_stays}
-use Rattle.sccs_images.proofs.Touched.{newest_more}
+use Rattle.sccs_name_files.specs.Touches.{newest}
+use Rattle.sccs_name_files.proofs.Images.{image_pended}
+use Rattle.sccs_name_files.proofs.Owned.{firm_stays}
+use Rattle.sccs_name_files.proofs.Touched.{newest_more}
 use Rattle.sccs_intents.specs.Intents.{entries_in, fate_in, intent_file, plan_file, well_formed}
 use Rattle.sccs_intents.specs.Written.{intent_text}
 use Rattle.sccs_intents.specs.declared.intents.Entry.{Entry}
 use Rattle.sccs_intents.specs.declared.intents.Fate.{Fate}
 use Rattle.sccs_intents.specs.declared.intents.Fate.TheVariants.{Replaced}
 use Rattle.sccs_intents.proofs.IntentTexts.{text_again}
-use Rattle.sccs_moments.specs.Calm.{HasFirm, IsCalm}
-use Rattle.sccs_moments.specs.Moments.{Guards, IsFrom, Went}
-use Rattle.sccs_moments.specs.Recovery.{IsSettledPair, RecoversAs, fate_at, fated, newer, pair_of, recover}
-use Rattle.sccs_moments.proofs.CalmDisks.{full_there, looks_firm}
-use Rattle.sccs_moments.proofs.Joined.{numbered_zero, raised, went_then, each_then, each_by}
-use Rattle.sccs_moments.proofs.Recovering.{SameLooks, fate_same, looks_recover, pair, pair_same, recovered_is, recovered_under, recovers_itself, recovers_then, newer_same}
-use Rattle.sccs_moments.proofs.Untouched.{none_named}
+use Rattle.sccs_crash_points.specs.Calm.{HasFirm, IsCalm}
+use Rattle.sccs_crash_points.specs.Moments.{Guards, IsFrom, Went}
+use Rattle.sccs_crash_points.specs.Recovery.{IsSettledPair, RecoversAs, fate_at, fated, newer, pair_of, recover}
+use Rattle.sccs_crash_points.proofs.CalmDisks.{full_there, looks_firm}
+use Rattle.sccs_crash_points.proofs.Joined.{numbered_zero, raised, went_then, each_then, each_by}
+use Rattle.sccs_crash_points.proofs.Recovering.{SameLooks, fate_same, looks_recover, pair, pair_same, recovered_is, recovered_under, recovers_itself, recovers_then, newer_same}
+use Rattle.sccs_crash_points.proofs.Untouched.{none_named}
 use Rattle.sccs_store.specs.Commits.{Becomes}
 use Rattle.sccs_store.proofs.Working.{becomes_both}
 use Rattle.sccs_group.specs.Finishing.{CanFinish, Completes, CompletesBy, Finishes, FinishesBy, Follows, IsHeld, IsSettled}
@@ -37,8 +37,8 @@ use Rattle.sccs_group.specs.declared.members.Member.{Member}
 use Rattle.sccs_group.proofs.Calling.{held_alike, none_left, view_renamed}
 use Rattle.sccs_group.proofs.Closing.{fate_head, fate_tail, no_fate, same_fate}
 use Rattle.sccs_group.proofs.Harmless.{fated_same, renamed_other, renamed_to}
-use Rattle.sccs_moments.proofs.Full.{full_renamed}
-use Rattle.sccs_moments.proofs.FileNames.{plan_and_sfile, intent_and_sfile}
+use Rattle.sccs_crash_points.proofs.Full.{full_renamed}
+use Rattle.sccs_crash_points.proofs.FileNames.{plan_and_sfile, intent_and_sfile}
 
 -- ---- names
 

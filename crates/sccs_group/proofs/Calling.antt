@@ -11,18 +11,18 @@ use Rattle.sccs_disk.specs.Images.{Full}
 use Rattle.sccs_disk.specs.Told.{Told, Tells}
 use Rattle.sccs_disk.proofs.Models.{names_pended}
 use Rattle.sccs_disk.proofs.Puts.{put_other, put_same}
-use Rattle.sccs_images.proofs.Images.{full_image, image_pended, image_settled}
+use Rattle.sccs_name_files.proofs.Images.{full_image, image_pended, image_settled}
 use Rattle.sccs_intents.specs.Intents.{intent_file}
 use Rattle.sccs_intents.specs.declared.intents.Fate.{Fate}
 use Rattle.sccs_intents.specs.declared.intents.Fate.TheVariants.{Replaced, Removed}
-use Rattle.sccs_moments.specs.Calm.{HasFirm}
-use Rattle.sccs_moments.specs.Moments.{Guards}
-use Rattle.sccs_moments.specs.Recovery.{IsSettledPair, IsSound, RecoversAs, fate_at, is_kept, pair_of, recover, without_name, IsHeldAt}
-use Rattle.sccs_moments.proofs.CalmDisks.{calm_settled, firm_looks, firm_pairs, full_there, looks_firm}
-use Rattle.sccs_moments.proofs.FileNames.{intent_and_sfile}
-use Rattle.sccs_moments.proofs.Full.{full_removed, full_renamed}
-use Rattle.sccs_moments.proofs.Recovering.{LooksAlike, SameLooks, fate_same, pair, pair_same, recovered_alike, recovered_as, recovered_at, recovered_is, recovered_under, recovers_from, recovers_itself, sound_recovered}
-use Rattle.sccs_moments.proofs.Untouched.{none_named, sound_kept}
+use Rattle.sccs_crash_points.specs.Calm.{HasFirm}
+use Rattle.sccs_crash_points.specs.Moments.{Guards}
+use Rattle.sccs_crash_points.specs.Recovery.{IsSettledPair, IsSound, RecoversAs, fate_at, is_kept, pair_of, recover, without_name, IsHeldAt}
+use Rattle.sccs_crash_points.proofs.CalmDisks.{calm_settled, firm_looks, firm_pairs, full_there, looks_firm}
+use Rattle.sccs_crash_points.proofs.FileNames.{intent_and_sfile}
+use Rattle.sccs_crash_points.proofs.Full.{full_removed, full_renamed}
+use Rattle.sccs_crash_points.proofs.Recovering.{LooksAlike, SameLooks, fate_same, pair, pair_same, recovered_alike, recovered_as, recovered_at, recovered_is, recovered_under, recovers_from, recovers_itself, sound_recovered}
+use Rattle.sccs_crash_points.proofs.Untouched.{none_named, sound_kept}
 use Rattle.sccs_group.specs.Finishing.{CanFinish, CompletesBy, Finishes, FinishesBy, Follows, IsHeld, IsSettled, IsTaken, MayCall, TakenBy}
 use Rattle.sccs_group.proofs.Harmless.{IsHarmless, harmless_held, harmless_settled, other_harmless, p_harmless, q_harmless, renamed_looks, same_less, without_looks, x_harmless, z_harmless}
 use Rattle.sccs_group.proofs.Runs.{finishes_one, finishes_same}

@@ -15,9 +15,9 @@ use Rattle.sccs_intents.specs.declared.intents.Entry.{Entry}
 use Rattle.sccs_intents.specs.declared.intents.Fate.{Fate}
 use Rattle.sccs_intents.specs.declared.intents.Fate.TheVariants.{Replaced, Removed}
 use Rattle.sccs_intents.proofs.Others.{differ}
-use Rattle.sccs_moments.specs.Recovery.{IsSettledPair, IsSound, fate_at, pair_of, without_name}
-use Rattle.sccs_moments.proofs.FileNames.{from_sfile, intent_and_sfile, kept_p, kept_q, kept_s, kept_x, kept_z, siblings_differ, to_sfile}
-use Rattle.sccs_moments.proofs.Recovering.{pair_same}
+use Rattle.sccs_crash_points.specs.Recovery.{IsSettledPair, IsSound, fate_at, pair_of, without_name}
+use Rattle.sccs_crash_points.proofs.FileNames.{from_sfile, intent_and_sfile, kept_p, kept_q, kept_s, kept_x, kept_z, siblings_differ, to_sfile}
+use Rattle.sccs_crash_points.proofs.Recovering.{pair_same}
 use Rattle.sccs_store.specs.Commits.{Becomes}
 use Rattle.sccs_group.specs.Finishing.{Always, AreUnlocked, CanClose, CompletesBy, FinishesBy, IsSettled, IsTaken, MayCall, TakenBy}
 use Rattle.sccs_group.specs.Members.{AreMembers, AreNamed, HasGroup, IsPlainG, each_by, entries_of, g_gone, p_taken, placed, taken, unlocked}

@@ -10,20 +10,20 @@ use Rattle.sccs_disk.specs.Files.{Content, Model, View, put, view_of}
 use Rattle.sccs_disk.specs.Images.{Allows, Image, IsFirm}
 use Rattle.sccs_disk.specs.Told.{Told, Tells, seen}
 use Rattle.sccs_disk.proofs.Puts.{name_cases, put_other, put_same}
-use Rattle.sccs_files.specs.StepFiles.{Moves}
-use Rattle.sccs_images.specs.Touches.{Each, Leaves, Touches, TouchesOnly, Touching, earlier, newest}
-use Rattle.sccs_images.proofs.Touched.{each_newest, firm_touched, newest_more}
+use Rattle.sccs_name_files.specs.StepFiles.{Moves}
+use Rattle.sccs_name_files.specs.Touches.{Each, Leaves, Touches, TouchesOnly, Touching, earlier, newest}
+use Rattle.sccs_name_files.proofs.Touched.{each_newest, firm_touched, newest_more}
 use Rattle.sccs_intents.specs.Intents.{intent_file, plan_file}
 use Rattle.sccs_intents.specs.Written.{intent_text}
 use Rattle.sccs_intents.specs.declared.intents.Fate.{Fate}
 use Rattle.sccs_intents.specs.declared.intents.Fate.TheVariants.{Replaced, Removed}
-use Rattle.sccs_moments.specs.Calm.{IsCalm}
-use Rattle.sccs_moments.specs.Moments.{IsFrom, Went}
-use Rattle.sccs_moments.specs.Recovery.{IsSettledPair, RecoversAs, without_name}
-use Rattle.sccs_moments.proofs.CalmDisks.{firms_touched}
-use Rattle.sccs_moments.proofs.Joined.{numbered_as, numbered_zero, went_then, each_then, each_by}
-use Rattle.sccs_moments.proofs.Recovering.{fate_same, newer_same, pair_same, same_recovers}
-use Rattle.sccs_moments.proofs.Untouched.{guards_touched, view_touched}
+use Rattle.sccs_crash_points.specs.Calm.{IsCalm}
+use Rattle.sccs_crash_points.specs.Moments.{IsFrom, Went}
+use Rattle.sccs_crash_points.specs.Recovery.{IsSettledPair, RecoversAs, without_name}
+use Rattle.sccs_crash_points.proofs.CalmDisks.{firms_touched}
+use Rattle.sccs_crash_points.proofs.Joined.{numbered_as, numbered_zero, went_then, each_then, each_by}
+use Rattle.sccs_crash_points.proofs.Recovering.{fate_same, newer_same, pair_same, same_recovers}
+use Rattle.sccs_crash_points.proofs.Untouched.{guards_touched, view_touched}
 use Rattle.sccs_store.specs.Commits.{Becomes}
 use Rattle.sccs_store.proofs.Working.{becomes_both, made_there}
 use Rattle.sccs_group.specs.Finishing.{CanFinish, IsHeld}
@@ -33,7 +33,7 @@ use Rattle.sccs_group.specs.declared.members.Member.{Member}
 use Rattle.sccs_group.proofs.Announcing.{can_begin}
 use Rattle.sccs_group.proofs.Harmless.{fated_same}
 use Rattle.sccs_group.proofs.Runs.{from_image, view_is}
-use Rattle.sccs_moments.proofs.FileNames.{plan_and_sfile}
+use Rattle.sccs_crash_points.proofs.FileNames.{plan_and_sfile}
 
 -- the plan alone
 abbrev pub is_plan : List ℕ → Bool

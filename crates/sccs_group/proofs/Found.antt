@@ -11,14 +11,14 @@ use Rattle.sccs_disk.specs.Effects.{syncing_names}
 use Rattle.sccs_disk.specs.Files.{Content, Model, Remove, View, view_of}
 use Rattle.sccs_disk.specs.Told.{Told, Tells, seen}
 use Rattle.sccs_disk.proofs.Puts.{put_other}
-use Rattle.sccs_files.specs.WholeFiles.{AnswersWhole}
-use Rattle.sccs_files.specs.declared.whole_files.WholeFault.TheVariants as whole
+use Rattle.sccs_name_files.specs.WholeFiles.{AnswersWhole}
+use Rattle.sccs_name_files.specs.declared.whole_files.WholeFault.TheVariants as whole
 use Rattle.sccs_intents.specs.Intents.{AreOthers, begun, entries_in, intent_file, intent_of, plan_file, well_formed}
 use Rattle.sccs_intents.specs.declared.intents.Entry.{Entry}
 use Rattle.std.specs.Str.{bytes_eq}
-use Rattle.sccs_images.specs.Touches.{TouchesOnly}
+use Rattle.sccs_name_files.specs.Touches.{TouchesOnly}
 use Rattle.sccs_intents.proofs.IntentTexts.{text_read}
-use Rattle.sccs_moments.specs.Recovery.{without_name}
+use Rattle.sccs_crash_points.specs.Recovery.{without_name}
 use Rattle.sccs_store.specs.Commits.{Becomes}
 use Rattle.sccs_group.specs.Finishing.{Always, CompletesBy, FinishesBy, MayCall}
 use Rattle.sccs_group.specs.Members.{AreMembers, HasGroup, IsPlainG, completed, entries_of}

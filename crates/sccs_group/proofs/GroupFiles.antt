@@ -7,12 +7,12 @@ use Rattle.sccs_disk.specs.Calls.{Changes}
 use Rattle.sccs_disk.specs.Effects.{pended, renamed, renaming, settled, syncing_names}
 use Rattle.sccs_disk.specs.Files.{Model, Op, Remove, Rename}
 use Rattle.sccs_disk.specs.Told.{Told}
-use Rattle.sccs_files.specs.StepFiles.{is_left, is_working}
-use Rattle.sccs_images.specs.Touches.{TouchesOnly}
+use Rattle.sccs_name_files.specs.StepFiles.{is_left, is_working}
+use Rattle.sccs_name_files.specs.Touches.{TouchesOnly}
 use Rattle.sccs_intents.specs.Intents.{intent_file, plan_file}
-use Rattle.sccs_moments.specs.Unlocked.{KeepsOthers, LeavesOthers}
-use Rattle.sccs_moments.proofs.FileNames.{no_q, no_working, no_x, no_y, no_z}
-use Rattle.sccs_moments.proofs.Unlocked.{is_either, leaves_same, others_done, others_half, others_removed, others_renamed, others_same, others_settled, others_then, others_touched, others_wider}
+use Rattle.sccs_crash_points.specs.Unlocked.{KeepsOthers, LeavesOthers}
+use Rattle.sccs_crash_points.proofs.FileNames.{no_q, no_working, no_x, no_y, no_z}
+use Rattle.sccs_crash_points.proofs.Unlocked.{is_either, leaves_same, others_done, others_half, others_removed, others_renamed, others_same, others_settled, others_then, others_touched, others_wider}
 use Rattle.sccs_group.specs.Finishing.{MayCall}
 use Rattle.sccs_group.specs.Halfway.{is_left_of_group, is_lock_of, is_own_but_g, is_own_of, is_own_of_group, is_own_of_member}
 use Rattle.sccs_group.specs.declared.members.Member.{Member}

@@ -9,23 +9,23 @@ use Rattle.sccs_disk.specs.Files.{Content, Model, View, put, view_of}
 use Rattle.sccs_disk.specs.Images.{Allows}
 use Rattle.sccs_disk.specs.Told.{Told, Tells}
 use Rattle.sccs_disk.proofs.Puts.{name_cases, put_other, put_same}
-use Rattle.sccs_files.specs.StepFiles.{Files, l_file, moved}
-use Rattle.sccs_images.specs.Touches.{Leaves, earlier, newest}
-use Rattle.sccs_images.proofs.Images.{view_image}
-use Rattle.sccs_images.proofs.Touched.{newest_more}
+use Rattle.sccs_name_files.specs.StepFiles.{Files, l_file, moved}
+use Rattle.sccs_name_files.specs.Touches.{Leaves, earlier, newest}
+use Rattle.sccs_name_files.proofs.Images.{view_image}
+use Rattle.sccs_name_files.proofs.Touched.{newest_more}
 use Rattle.sccs_intents.specs.Intents.{AreOthers, fate_in, has_name, intent_file, plan_file}
 use Rattle.sccs_intents.specs.declared.intents.Entry.{Entry}
 use Rattle.sccs_intents.specs.declared.intents.Fate.{Fate}
 use Rattle.sccs_intents.proofs.IntentTexts.{thousand_short}
 use Rattle.sccs_pfile.specs.Recovered.{recovered_pfile}
-use Rattle.sccs_moments.specs.Calm.{IsCalm, KeepsPairs}
-use Rattle.sccs_moments.specs.Moments.{EndsAfter, EndsBefore, EndsWithin, IsAt, IsFrom, RecoversOn, Stays, Went}
-use Rattle.sccs_moments.specs.Recovery.{RecoversAs, fate_at, is_kept, pair_of, recover}
-use Rattle.sccs_moments.proofs.CalmDisks.{calm_firm, calm_unnamed}
-use Rattle.sccs_moments.proofs.FileNames.{from_sfile, kept_intent, kept_p, kept_q, kept_s, kept_x, kept_z, sfile_and_intent, siblings_differ, to_s, to_sfile, plan_and_sfile}
-use Rattle.sccs_moments.proofs.Joined.{numbered_as, numbered_now, numbered_zero, went_then, stays_as}
-use Rattle.sccs_moments.proofs.Recovering.{pair, recovered_alike, recovered_is, recovered_same, recovered_under, recovers_then, sound_recovered}
-use Rattle.sccs_moments.proofs.Untouched.{went_at}
+use Rattle.sccs_crash_points.specs.Calm.{IsCalm, KeepsPairs}
+use Rattle.sccs_crash_points.specs.Moments.{EndsAfter, EndsBefore, EndsWithin, IsAt, IsFrom, RecoversOn, Stays, Went}
+use Rattle.sccs_crash_points.specs.Recovery.{RecoversAs, fate_at, is_kept, pair_of, recover}
+use Rattle.sccs_crash_points.proofs.CalmDisks.{calm_firm, calm_unnamed}
+use Rattle.sccs_crash_points.proofs.FileNames.{from_sfile, kept_intent, kept_p, kept_q, kept_s, kept_x, kept_z, sfile_and_intent, siblings_differ, to_s, to_sfile, plan_and_sfile}
+use Rattle.sccs_crash_points.proofs.Joined.{numbered_as, numbered_now, numbered_zero, went_then, stays_as}
+use Rattle.sccs_crash_points.proofs.Recovering.{pair, recovered_alike, recovered_is, recovered_same, recovered_under, recovers_then, sound_recovered}
+use Rattle.sccs_crash_points.proofs.Untouched.{went_at}
 use Rattle.sccs_group.specs.Changes.{Change, IsPrepared, after_changes, members_in}
 use Rattle.sccs_group.specs.Finishing.{CanFinish, Completes, Follows}
 use Rattle.sccs_group.specs.Grouping.{CanGroup, GroupEnds, GroupStops, IsGrouped, announced, new_pair_of, planned}

@@ -9,10 +9,10 @@ use Rattle.sccs_disk.proofs.Puts.{name_cases, put_other, put_same}
 use Rattle.sccs_intents.specs.Intents.{intent_file}
 use Rattle.sccs_intents.specs.declared.intents.Fate.{Fate}
 use Rattle.sccs_intents.specs.declared.intents.Fate.TheVariants.{Replaced, Removed}
-use Rattle.sccs_moments.specs.Recovery.{IsSettledPair, IsSound, RecoversAs, fate_at, fated, is_kept, newer, pair_of, without_name}
-use Rattle.sccs_moments.proofs.FileNames.{from_sfile, kept_intent, kept_p, kept_q, kept_s, kept_x, kept_z, sfile_and_intent, siblings_differ, to_sfile}
-use Rattle.sccs_moments.proofs.Recovering.{LooksAlike, SameLooks, fate_same, newer_same, pair_same, recovered_alike, recovered_at, recovered_under, recovers_from, sound_at}
-use Rattle.sccs_moments.proofs.Untouched.{none_named, sound_kept}
+use Rattle.sccs_crash_points.specs.Recovery.{IsSettledPair, IsSound, RecoversAs, fate_at, fated, is_kept, newer, pair_of, without_name}
+use Rattle.sccs_crash_points.proofs.FileNames.{from_sfile, kept_intent, kept_p, kept_q, kept_s, kept_x, kept_z, sfile_and_intent, siblings_differ, to_sfile}
+use Rattle.sccs_crash_points.proofs.Recovering.{LooksAlike, SameLooks, fate_same, newer_same, pair_same, recovered_alike, recovered_at, recovered_under, recovers_from, sound_at}
+use Rattle.sccs_crash_points.proofs.Untouched.{none_named, sound_kept}
 use Rattle.sccs_group.specs.Finishing.{IsHeld, IsSettled}
 
 -- ---- what one change leaves

@@ -9,9 +9,9 @@ use Rattle.sccs_disk.specs.Told.{Told, seen}
 use Rattle.sccs_intents.specs.Intents.{AreOthers, entries_in, intent_file, intent_of, plan_file, well_formed}
 use Rattle.sccs_intents.specs.declared.intents.Entry.{Entry}
 use Rattle.sccs_intents.proofs.IntentTexts.{text_read}
-use Rattle.sccs_moments.specs.Recovery.{without_name}
-use Rattle.sccs_moments.specs.Unlocked.{KeepsOthers}
-use Rattle.sccs_moments.proofs.Unlocked.{others_same, others_then}
+use Rattle.sccs_crash_points.specs.Recovery.{without_name}
+use Rattle.sccs_crash_points.specs.Unlocked.{KeepsOthers}
+use Rattle.sccs_crash_points.proofs.Unlocked.{others_same, others_then}
 use Rattle.sccs_store.specs.Commits.{Becomes, MayBecome}
 use Rattle.sccs_group.specs.Finishing.{MayCall}
 use Rattle.sccs_group.specs.Halfway.{IsHalfway, intended, is_left_of_group, is_own_of_group}

@@ -7,10 +7,10 @@ use Rattle.sccs_disk.specs.Files.{Remove, View}
 use Rattle.sccs_disk.specs.Told.{Told, seen}
 use Rattle.sccs_disk.proofs.Puts.{put_other}
 use Rattle.sccs_intents.specs.Intents.{intent_file}
-use Rattle.sccs_moments.specs.Recovery.{IsSound}
-use Rattle.sccs_moments.proofs.FileNames.{from_sfile}
-use Rattle.sccs_moments.proofs.Recovering.{pair_same}
-use Rattle.sccs_moments.proofs.Untouched.{sound_kept}
+use Rattle.sccs_crash_points.specs.Recovery.{IsSound}
+use Rattle.sccs_crash_points.proofs.FileNames.{from_sfile}
+use Rattle.sccs_crash_points.proofs.Recovering.{pair_same}
+use Rattle.sccs_crash_points.proofs.Untouched.{sound_kept}
 use Rattle.sccs_store.specs.Commits.{Becomes}
 use Rattle.sccs_store.proofs.Working.{becomes_both}
 use Rattle.sccs_group.specs.Finishing.{AreUnlocked, FinishesBy, MayCall}

@@ -6,17 +6,17 @@ use Rattle.sccs_base.specs.Name.{IsSfile, p_file, z_file}
 use Rattle.sccs_disk.specs.Files.{Model, View, view_of}
 use Rattle.sccs_disk.specs.Told.{Told, Tells, seen}
 use Rattle.sccs_disk.proofs.Puts.{name_cases}
-use Rattle.sccs_files.specs.StepFiles.{is_left}
+use Rattle.sccs_name_files.specs.StepFiles.{is_left}
 use Rattle.sccs_intents.specs.Intents.{has_name, intent_file, plan_file}
-use Rattle.sccs_moments.specs.Unlocked.{BeganUnlockedBut, BeginsUnlocked, BeginsUnlockedBut, KeepsOthers, KeptOthers}
-use Rattle.sccs_moments.proofs.Unlocked.{each_now, unlocked_by}
-use Rattle.sccs_moments.proofs.FileNames.{from_sfile, intent_and_sfile, kept_p, kept_s, kept_z, left_s, left_z, siblings_differ, to_sfile, plan_and_sfile}
+use Rattle.sccs_crash_points.specs.Unlocked.{BeganUnlockedBut, BeginsUnlocked, BeginsUnlockedBut, KeepsOthers, KeptOthers}
+use Rattle.sccs_crash_points.proofs.Unlocked.{each_now, unlocked_by}
+use Rattle.sccs_crash_points.proofs.FileNames.{from_sfile, intent_and_sfile, kept_p, kept_s, kept_z, left_s, left_z, siblings_differ, to_sfile, plan_and_sfile}
 use Rattle.sccs_group.specs.Halfway.{NoneLocked, is_own_but_g, is_own_of, is_own_of_group, is_own_of_member}
 use Rattle.sccs_group.specs.Members.{AreMembers, IsPlainG, entries_of}
 use Rattle.sccs_group.specs.declared.members.Member.{Member}
 use Rattle.std.proofs.lemmas.Bool.{or_from}
 use Rattle.sccs_base.proofs.Bools.{right_false, left_false}
-use Rattle.sccs_moments.proofs.UnlockedBut.{kept_but}
+use Rattle.sccs_crash_points.proofs.UnlockedBut.{kept_but}
 
 -- ---- one member
 

@@ -7,9 +7,9 @@ use Rattle.sccs_disk.specs.Calls.{Changes}
 use Rattle.sccs_disk.specs.Effects.{syncing_names}
 use Rattle.sccs_disk.specs.Files.{View}
 use Rattle.sccs_disk.specs.Told.{Told, seen}
-use Rattle.sccs_files.specs.StepFiles.{Moves}
+use Rattle.sccs_name_files.specs.StepFiles.{Moves}
 use Rattle.sccs_intents.specs.Intents.{intent_file}
-use Rattle.sccs_moments.specs.Recovery.{without_name}
+use Rattle.sccs_crash_points.specs.Recovery.{without_name}
 use Rattle.sccs_store.specs.Commits.{Becomes, MayBecome}
 use Rattle.sccs_store.proofs.Working.{becomes_as, becomes_both, moves_same, moves_then, moves_wider, without_moves}
 use Rattle.sccs_group.specs.Halfway.{IsHalfway, PlacesFirst, PlacesPart, first_placed, is_left_of_group, is_lock_of, part_placed}

@@ -9,9 +9,9 @@ use Rattle.sccs_disk.proofs.Puts.{put_other}
 use Rattle.sccs_intents.specs.Intents.{intent_file}
 use Rattle.sccs_intents.specs.declared.intents.Fate.{Fate}
 use Rattle.sccs_intents.specs.declared.intents.Fate.TheVariants.{Replaced, Removed}
-use Rattle.sccs_moments.specs.Recovery.{fate_at, is_kept, without_name}
-use Rattle.sccs_moments.proofs.FileNames.{kept_intent, sfile_and_intent}
-use Rattle.sccs_moments.proofs.Recovering.{fate_same}
+use Rattle.sccs_crash_points.specs.Recovery.{fate_at, is_kept, without_name}
+use Rattle.sccs_crash_points.proofs.FileNames.{kept_intent, sfile_and_intent}
+use Rattle.sccs_crash_points.proofs.Recovering.{fate_same}
 use Rattle.sccs_store.specs.Commits.{Becomes}
 use Rattle.sccs_group.specs.Finishing.{FinishesBy, MayCall}
 use Rattle.sccs_group.specs.Members.{IsNamed, IsPlainG, g_gone, p_taken, placed, taken}

@@ -8,14 +8,14 @@ use Rattle.sccs_base.proofs.SameBytes.{bytes_eq_sym, other_bytes, same_bytes}
 use Rattle.sccs_disk.specs.Effects.{renamed}
 use Rattle.sccs_disk.specs.Files.{Content, View, put}
 use Rattle.sccs_disk.proofs.Puts.{name_cases, put_back, put_other, put_same, same_name}
-use Rattle.sccs_files.specs.StepFiles.{Alike, Files, l_file, moved}
+use Rattle.sccs_name_files.specs.StepFiles.{Alike, Files, l_file, moved}
 use Rattle.sccs_intents.specs.Intents.{has_name, intent_file, plan_file}
 use Rattle.sccs_intents.specs.declared.intents.Fate.{Fate}
 use Rattle.sccs_intents.specs.declared.intents.Fate.TheVariants.{Replaced, Removed}
 use Rattle.sccs_intents.proofs.Others.{differ}
-use Rattle.sccs_moments.specs.Recovery.{Pair, fated, newer, without_name}
-use Rattle.sccs_moments.proofs.FileNames.{from_g, kept_p, kept_s, no_q, no_working, no_x, no_y, no_z, s_and_g, to_s}
-use Rattle.sccs_moments.proofs.Recovering.{newer_same, pair_same}
+use Rattle.sccs_crash_points.specs.Recovery.{Pair, fated, newer, without_name}
+use Rattle.sccs_crash_points.proofs.FileNames.{from_g, kept_p, kept_s, no_q, no_working, no_x, no_y, no_z, s_and_g, to_s}
+use Rattle.sccs_crash_points.proofs.Recovering.{newer_same, pair_same}
 use Rattle.sccs_group.specs.Changes.{Change, IsPrepared, IsReady, LFileStays, LFilesStay, after_changes, members_in}
 use Rattle.sccs_group.specs.Grouping.{announced, new_pair_of, planned}
 use Rattle.sccs_group.specs.Halfway.{first_placed, is_left_of_group, is_lock_of, part_placed}

@@ -3,13 +3,13 @@ use Rattle.std.proofs.Common.{◌≡◌, List, [], ◌∷◌, ◌++◌, Some, op
 use Rattle.sccs_disk.specs.Files.{Model, View, view_of}
 use Rattle.sccs_disk.specs.Images.{Allows, Full, Image}
 use Rattle.sccs_disk.specs.Told.{Told, Tells, seen}
-use Rattle.sccs_images.specs.Touches.{Each, earlier, newest}
-use Rattle.sccs_images.proofs.Touched.{earlier_more, each_newest, newest_more}
-use Rattle.sccs_moments.specs.Calm.{IsCalm}
-use Rattle.sccs_moments.specs.Moments.{Guards, IsFrom}
-use Rattle.sccs_moments.specs.Recovery.{RecoversAs}
-use Rattle.sccs_moments.proofs.Joined.{guarded_joined}
-use Rattle.sccs_moments.proofs.Recovering.{recovers_itself, recovers_then}
+use Rattle.sccs_name_files.specs.Touches.{Each, earlier, newest}
+use Rattle.sccs_name_files.proofs.Touched.{earlier_more, each_newest, newest_more}
+use Rattle.sccs_crash_points.specs.Calm.{IsCalm}
+use Rattle.sccs_crash_points.specs.Moments.{Guards, IsFrom}
+use Rattle.sccs_crash_points.specs.Recovery.{RecoversAs}
+use Rattle.sccs_crash_points.proofs.Joined.{guarded_joined}
+use Rattle.sccs_crash_points.proofs.Recovering.{recovers_itself, recovers_then}
 use Rattle.sccs_store.specs.Commits.{Becomes}
 use Rattle.sccs_group.specs.Finishing.{CanFinish, Completes, CompletesBy, Finishes, FinishesBy, Follows, IsSettled}
 

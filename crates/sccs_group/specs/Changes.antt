@@ -2,9 +2,9 @@
 use Rattle.std.specs.Prelude.{◌≡◌, ℕ, Bool, false, List, [], ◌∷◌, drop, map, Option, None, Some, if◌then◌else◌}
 use Rattle.sccs_base.specs.Name.{IsSfile}
 use Rattle.sccs_disk.specs.Files.{Content, View}
-use Rattle.sccs_files.specs.StepFiles.{Files, is_left, l_file, moved}
+use Rattle.sccs_name_files.specs.StepFiles.{Files, is_left, l_file, moved}
 use Rattle.sccs_pfile.specs.Recovered.{recovered_pfile}
-use Rattle.sccs_moments.specs.Recovery.{is_kept}
+use Rattle.sccs_crash_points.specs.Recovery.{is_kept}
 use Rattle.sccs_group.specs.Grouping.{new_pair_of}
 use Rattle.sccs_group.specs.declared.members.Member.{Member}
 

@@ -5,9 +5,9 @@ use Rattle.sccs_disk.specs.Files.{View}
 use Rattle.sccs_disk.specs.Told.{Told, seen}
 use Rattle.sccs_disk.specs.declared.disks.DiskRefusal.{DiskRefusal}
 use Rattle.sccs_disk.specs.declared.disks.DiskRefusal.TheVariants as disk
-use Rattle.sccs_images.specs.Touches.{TouchesOnly}
+use Rattle.sccs_name_files.specs.Touches.{TouchesOnly}
 use Rattle.sccs_intents.specs.Intents.{intent_file, plan_file}
-use Rattle.sccs_moments.specs.Recovery.{without_name}
+use Rattle.sccs_crash_points.specs.Recovery.{without_name}
 use Rattle.sccs_sid.specs.declared.refusals.Refusal.TheVariants.{BadIntent}
 use Rattle.sccs_sid.specs.declared.refusals.StepFault.{StepFault}
 use Rattle.sccs_sid.specs.declared.refusals.StepFault.TheVariants as step

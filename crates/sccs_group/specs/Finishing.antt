@@ -6,12 +6,12 @@ use Rattle.sccs_disk.specs.Effects.{pended}
 use Rattle.sccs_disk.specs.Files.{Model, Op, View, view_of}
 use Rattle.sccs_disk.specs.Images.{Allows, Full, Image}
 use Rattle.sccs_disk.specs.Told.{Told, Tells}
-use Rattle.sccs_images.specs.Touches.{Each, earlier, newest}
-use Rattle.sccs_moments.specs.Calm.{HasFirm, IsCalm}
-use Rattle.sccs_moments.specs.Moments.{Guarded, IsFrom}
+use Rattle.sccs_name_files.specs.Touches.{Each, earlier, newest}
+use Rattle.sccs_crash_points.specs.Calm.{HasFirm, IsCalm}
+use Rattle.sccs_crash_points.specs.Moments.{Guarded, IsFrom}
 use Rattle.sccs_intents.specs.declared.intents.Fate.{Fate}
 use Rattle.sccs_intents.specs.declared.intents.Fate.TheVariants.{Replaced, Removed}
-use Rattle.sccs_moments.specs.Recovery.{IsSettledPair, IsSound, RecoversAs, fate_at, pair_of, recover, IsHeldAt}
+use Rattle.sccs_crash_points.specs.Recovery.{IsSettledPair, IsSound, RecoversAs, fate_at, pair_of, recover, IsHeldAt}
 use Rattle.sccs_group.specs.Members.{AreNamed}
 use Rattle.sccs_group.specs.declared.members.Member.{Member}
 

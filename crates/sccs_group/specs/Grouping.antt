@@ -6,14 +6,14 @@ use Rattle.sccs_disk.specs.Effects.{renamed}
 use Rattle.sccs_disk.specs.Files.{Content, Model, View, put, view_of}
 use Rattle.sccs_disk.specs.Images.{Allows, IsFirm}
 use Rattle.sccs_disk.specs.Told.{Told, Tells}
-use Rattle.sccs_images.specs.Touches.{Each, newest}
+use Rattle.sccs_name_files.specs.Touches.{Each, newest}
 use Rattle.sccs_intents.specs.Intents.{intent_file, plan_file}
 use Rattle.sccs_intents.specs.Written.{intent_text}
 use Rattle.sccs_intents.specs.declared.intents.Fate.{Fate}
 use Rattle.sccs_intents.specs.declared.intents.Fate.TheVariants.{Replaced, Removed}
-use Rattle.sccs_moments.specs.Calm.{HasFirm, IsCalm}
-use Rattle.sccs_moments.specs.Moments.{IsFrom, Went}
-use Rattle.sccs_moments.specs.Recovery.{IsSettledPair, Pair, RecoversAs, fated, newer}
+use Rattle.sccs_crash_points.specs.Calm.{HasFirm, IsCalm}
+use Rattle.sccs_crash_points.specs.Moments.{IsFrom, Went}
+use Rattle.sccs_crash_points.specs.Recovery.{IsSettledPair, Pair, RecoversAs, fated, newer}
 use Rattle.sccs_group.specs.Finishing.{CanFinish, IsHeld}
 use Rattle.sccs_group.specs.Members.{IsPlainG, entries_of}
 use Rattle.sccs_group.specs.declared.members.Member.{Member}

@@ -4,9 +4,9 @@ use Rattle.std.specs.List.{AllByRecursion}
 use Rattle.std.specs.Str.{bytes_eq}
 use Rattle.sccs_base.specs.Name.{p_file, x_file, y_file, z_file}
 use Rattle.sccs_disk.specs.Files.{View}
-use Rattle.sccs_files.specs.StepFiles.{Moves, is_left}
+use Rattle.sccs_name_files.specs.StepFiles.{Moves, is_left}
 use Rattle.sccs_intents.specs.Intents.{entries_in, intent_file, plan_file}
-use Rattle.sccs_moments.specs.Recovery.{without_name}
+use Rattle.sccs_crash_points.specs.Recovery.{without_name}
 use Rattle.sccs_store.specs.Commits.{Becomes}
 use Rattle.sccs_group.specs.Members.{p_taken, placed, taken}
 use Rattle.sccs_group.specs.Recovering.{bare}

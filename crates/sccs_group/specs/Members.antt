@@ -9,7 +9,7 @@ use Rattle.sccs_intents.specs.Written.{IsIntent}
 use Rattle.sccs_intents.specs.declared.intents.Entry.{Entry}
 use Rattle.sccs_intents.specs.declared.intents.Fate.{Fate}
 use Rattle.sccs_intents.specs.declared.intents.Fate.TheVariants.{Replaced, Removed}
-use Rattle.sccs_moments.specs.Recovery.{fate_at, is_kept, without_name}
+use Rattle.sccs_crash_points.specs.Recovery.{fate_at, is_kept, without_name}
 use Rattle.sccs_group.specs.declared.members.Member.{Member}
 
 -- their entries in the intent

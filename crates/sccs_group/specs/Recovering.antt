@@ -3,7 +3,7 @@ use Rattle.std.specs.Prelude.{◌≡◌, ℕ, false, List, map, Option, None, So
 use Rattle.sccs_disk.specs.Files.{Content, View}
 use Rattle.sccs_intents.specs.Intents.{entries_in, intent_file, intent_of, plan_file, well_formed}
 use Rattle.sccs_intents.specs.declared.intents.Entry.{Entry}
-use Rattle.sccs_moments.specs.Recovery.{without_name}
+use Rattle.sccs_crash_points.specs.Recovery.{without_name}
 use Rattle.sccs_group.specs.Members.{completed}
 use Rattle.sccs_group.specs.declared.members.Member.{Member}
 use Rattle.sccs_group.specs.declared.recovering.GroupFault.{GroupFault}

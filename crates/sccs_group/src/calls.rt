@@ -4,9 +4,9 @@ ghost use Rattle.sccs_base.specs.Name.{IsSfile, p_file, q_file, sibling, x_file}
 ghost use Rattle.sccs_disk.specs.Causes.{DiskCauses};
 ghost use Rattle.sccs_disk.specs.Files.{Remove, Rename, View};
 ghost use Rattle.sccs_disk.specs.Told.{seen};
-ghost use Rattle.sccs_images.specs.Touches.{TouchesOnly};
-ghost use Rattle.sccs_moments.specs.Recovery.{fate_at, without_name};
-ghost use Rattle.sccs_moments.specs.Unlocked.{KeepsOthers};
+ghost use Rattle.sccs_name_files.specs.Touches.{TouchesOnly};
+ghost use Rattle.sccs_crash_points.specs.Recovery.{fate_at, without_name};
+ghost use Rattle.sccs_crash_points.specs.Unlocked.{KeepsOthers};
 ghost use Rattle.sccs_store.specs.Commits.{Becomes, MayBecome};
 ghost use Rattle.sccs_group.specs.Finishing.{FinishesBy, MayCall};
 ghost use Rattle.sccs_group.specs.Halfway.{PlacesPart, is_own_but_g, is_own_of_member};

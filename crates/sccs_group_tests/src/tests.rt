@@ -1,1 +1,5 @@
+mod files;
 mod groups;
+mod intents;
+mod runs;
+mod steps;

@@ -24,7 +24,7 @@ use Rattle.sccs_disk.specs.Files.{Folder, View, view_in}
 use Rattle.sccs_disk.specs.Reads.{IsListing, Lists}
 use Rattle.sccs_disk.proofs.Puts.{same_name}
 use Rattle.sccs_operands.specs.FolderNames.{AreSfiles, HasSfilesOf, AreInOrder, sfiles_in}
-use Rattle.sccs_name_sets.specs.NameSets.{names_in}
+use Rattle.sccs_base.specs.NameSets.{names_in}
 use Rattle.sccs_base.proofs.Bools.{left_true}
 
 -- ---- two lists in order with the same names are one

@@ -5,12 +5,11 @@ ghost use Rattle.sccs_base.specs.Name.{is_sfile_name};
 ghost use Rattle.sccs_disk.specs.Files.{Folder, View};
 ghost use Rattle.sccs_disk.specs.Told.{seen};
 ghost use Rattle.sccs_operands.specs.FolderNames.{AreSfiles, HasSfilesOf, AreInOrder, sfiles_in};
-ghost use Rattle.sccs_name_sets.specs.NameSets.{names_in};
+ghost use Rattle.sccs_base.specs.NameSets.{names_in};
 ghost use Rattle.sccs_disk.specs.Causes.{DiskCauses};
 
-use sccs_base::{Bytes, ListOf, Memory, Name, Words};
+use sccs_base::{Bytes, ListOf, Memory, Name, NameSet, Words, insert_name};
 use sccs_disk::{Disk, DiskRefusal};
-use sccs_name_sets::{NameSet, insert_name};
 use std::alloc::Global;
 use std::collections::BTreeSet;
 

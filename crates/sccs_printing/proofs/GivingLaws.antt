@@ -13,17 +13,17 @@ use Rattle.sccs_grammar.specs.declared.faults.FileFault.{FileFault}
 use Rattle.sccs_grammar.specs.declared.faults.FileFault.TheVariants as faults
 use Rattle.sccs_history.specs.Body.{HistoryLine}
 use Rattle.sccs_history.specs.declared.headers.Item.{Item}
-use Rattle.sccs_keys.specs.Keywords.{is_keyword, parts}
-use Rattle.sccs_keys.specs.declared.facts.Facts.{Facts}
+use Rattle.sccs_keywords.specs.Keywords.{is_keyword, parts}
+use Rattle.sccs_keywords.specs.declared.facts.Facts.{Facts}
 use Rattle.sccs_sid.specs.declared.refusals.StepFault.{StepFault}
 use Rattle.sccs_table.proofs.RunLaws.{lines_are}
 use Rattle.sccs_table.specs.Runs.{lf_count}
-use Rattle.sccs_texts.specs.Forms.{LineForm, formed_lines, formed_text, has_keywords, if_replaced, replaces_in, texts}
-use Rattle.sccs_texts.proofs.TextLaws.{put_together}
+use Rattle.sccs_keywords.specs.Forms.{LineForm, formed_lines, formed_text, has_keywords, if_replaced, replaces_in, texts}
+use Rattle.sccs_keywords.proofs.TextLaws.{put_together}
 use Rattle.sccs_versions.specs.Coming.{ComeFirst, ComesNext, Coming, GivesNextLine, StandFirst}
 use Rattle.sccs_versions.specs.Place.{IsInserter, VersionPlace}
 use Rattle.sccs_versions.specs.WasRead.{HasRead, ReadsAll, ReadsOn, shown_before}
-use Rattle.sccs_weave.specs.declared.regions.Region.{Region}
+use Rattle.sccs_versions.specs.declared.regions.Region.{Region}
 use Rattle.sccs_printing.specs.Counted.{with_lines}
 use Rattle.sccs_printing.specs.Giving.{CutsLines, Gave, GivesRun, KeepsForm, Moved, ReadSome, ReadWhole, giving_form, text_next}
 use Rattle.sccs_printing.specs.Printing.{IsFaultAroundPrint}

@@ -7,12 +7,12 @@ use Rattle.sccs_base.specs.Cut.{cut}
 use Rattle.sccs_history.specs.Body.{HistoryLine}
 use Rattle.sccs_history.specs.declared.headers.Record.{Record}
 use Rattle.sccs_tokens.specs.Written.{bytes_of, ended}
-use Rattle.sccs_keys.specs.Keywords.{Plain, keyword_rest, found_keyword, is_keyword, keyword_of, keyword_part, parts, parts_behind}
-use Rattle.sccs_keys.specs.declared.facts.Facts.{Facts}
-use Rattle.sccs_keys.specs.declared.keywords.Keyword.{Keyword}
-use Rattle.sccs_keys.proofs.KeywordLaws.{found_length, plain_stays}
+use Rattle.sccs_keywords.specs.Keywords.{Plain, keyword_rest, found_keyword, is_keyword, keyword_of, keyword_part, parts, parts_behind}
+use Rattle.sccs_keywords.specs.declared.facts.Facts.{Facts}
+use Rattle.sccs_keywords.specs.declared.keywords.Keyword.{Keyword}
+use Rattle.sccs_keywords.proofs.KeywordLaws.{found_length, plain_stays}
 use Rattle.sccs_table.proofs.RunLaws.{run_bytes}
-use Rattle.sccs_texts.specs.Forms.{LineForm, formed, formed_lines, formed_text, has_keywords, has_prefix, if_replaced, replaced_line, replaces_in, texts}
+use Rattle.sccs_keywords.specs.Forms.{LineForm, formed, formed_lines, formed_text, has_keywords, has_prefix, if_replaced, replaced_line, replaces_in, texts}
 use Rattle.sccs_base.proofs.Bools.{or_none, right_false, left_false}
 
 -- ---- no keyword goes over LF

@@ -5,8 +5,8 @@ use Rattle.std.proofs.lemmas.List.{map-append}
 use Rattle.std.proofs.lemmas.List.Folds.{list_any-append}
 use Rattle.sccs_base.specs.Cut.{cut}
 use Rattle.sccs_history.specs.Body.{HistoryLine}
-use Rattle.sccs_keys.specs.Keywords.{is_keyword, parts}
-use Rattle.sccs_texts.specs.Forms.{has_keywords, texts}
+use Rattle.sccs_keywords.specs.Keywords.{is_keyword, parts}
+use Rattle.sccs_keywords.specs.Forms.{has_keywords, texts}
 use Rattle.sccs_versions.specs.Coming.{ComeFirst, ComesNext, Coming}
 use Rattle.sccs_versions.specs.Place.{VersionPlace}
 use Rattle.sccs_printing.specs.Searching.{Searched}

@@ -4,10 +4,10 @@ use Rattle.std.specs.Prelude.{IfSome, OnOk}
 use Rattle.std.specs.Str.{bytes_eq}
 use Rattle.sccs_disk.specs.Files.{Content, View}
 use Rattle.sccs_disk.specs.Told.{Told, seen}
-use Rattle.sccs_files.specs.StepFiles.{Moves}
+use Rattle.sccs_name_files.specs.StepFiles.{Moves}
 use Rattle.sccs_history.specs.Body.{HistoryLine}
 use Rattle.sccs_history.specs.declared.headers.Item.{Item}
-use Rattle.sccs_keys.specs.Expansion.{HasMoments}
+use Rattle.sccs_keywords.specs.Expansion.{HasMoments}
 use Rattle.sccs_sid.specs.declared.refusals.StepFault.{StepFault}
 use Rattle.sccs_table.specs.ReaderState.{bytes_in}
 use Rattle.sccs_table.specs.declared.fronts.Front.{Front}

@@ -11,7 +11,7 @@ use Rattle.sccs_history.specs.declared.headers.Record.{Record}
 use Rattle.sccs_sid.specs.declared.refusals.StepFault.{StepFault}
 use Rattle.sccs_sid.specs.declared.refusals.StepFault.TheVariants.{Refused, Memory, WriteFault, ReadFault, DiskFault}
 use Rattle.sccs_steps.specs.Causes.{PrintCauses}
-use Rattle.sccs_texts.specs.Forms.{LineForm, formed_text, replaces_in, texts}
+use Rattle.sccs_keywords.specs.Forms.{LineForm, formed_text, replaces_in, texts}
 use Rattle.sccs_versions.specs.Place.{VersionPlace}
 use Rattle.sccs_versions.specs.WasRead.{HasRead, shown_before}
 use Rattle.sccs_printing.specs.Counted.{with_lines, no_lines, shown_of}

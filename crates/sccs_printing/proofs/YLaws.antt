@@ -7,14 +7,14 @@ use Rattle.sccs_base.specs.Stream.{GivesOk}
 use Rattle.sccs_disk.proofs.Puts.{put_same}
 use Rattle.sccs_disk.specs.Effects.{altered, empty_file}
 use Rattle.sccs_disk.specs.Files.{Content, View, put}
-use Rattle.sccs_files.specs.StepFiles.{Moves}
-use Rattle.sccs_gfiles.specs.Finished.{finished}
-use Rattle.sccs_gfiles.specs.declared.modes.Mode.{Mode}
-use Rattle.sccs_gfiles.specs.declared.modes.Mode.TheVariants.{Writable, Protected}
+use Rattle.sccs_name_files.specs.StepFiles.{Moves}
+use Rattle.sccs_store.specs.Finished.{finished}
+use Rattle.sccs_store.specs.declared.modes.Mode.{Mode}
+use Rattle.sccs_store.specs.declared.modes.Mode.TheVariants.{Writable, Protected}
 use Rattle.sccs_history.specs.declared.headers.Record.{Record}
 use Rattle.sccs_store.specs.Commits.{Becomes}
 use Rattle.sccs_table.specs.ReaderState.{bytes_in}
-use Rattle.sccs_texts.specs.Forms.{LineForm}
+use Rattle.sccs_keywords.specs.Forms.{LineForm}
 use Rattle.sccs_versions.specs.WasRead.{shown_before}
 use Rattle.sccs_printing.specs.Printing.{MakesWhole, PrintsWhole, finished_text, version_text}
 use Rattle.sccs_printing.specs.Targets.{mark_in}

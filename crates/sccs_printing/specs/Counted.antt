@@ -1,7 +1,7 @@
 -- What is found of lines that are given.
 use Rattle.std.specs.Prelude.{ℕ, ◌+◌, false, ◌||◌, List, length}
 use Rattle.sccs_history.specs.Body.{HistoryLine}
-use Rattle.sccs_texts.specs.Forms.{LineForm, replaces_in, texts}
+use Rattle.sccs_keywords.specs.Forms.{LineForm, replaces_in, texts}
 use Rattle.sccs_printing.specs.declared.shown.Shown.{Shown}
 
 -- no line was given yet

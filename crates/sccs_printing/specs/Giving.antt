@@ -4,13 +4,13 @@ use Rattle.sccs_base.specs.Stream.{Buffers}
 use Rattle.sccs_history.specs.Body.{HistoryLine, is_over}
 use Rattle.sccs_history.specs.declared.headers.Item.{Item}
 use Rattle.sccs_sid.specs.declared.refusals.StepFault.{StepFault}
-use Rattle.sccs_texts.specs.Forms.{LineForm, line_form, formed_text, texts}
+use Rattle.sccs_keywords.specs.Forms.{LineForm, line_form, formed_text, texts}
 use Rattle.sccs_versions.specs.Coming.{Coming}
 use Rattle.sccs_versions.specs.Place.{VersionPlace, name_of}
 use Rattle.sccs_versions.specs.WasRead.{HasRead, Stood, shown_before}
 use Rattle.sccs_printing.specs.Counted.{with_lines}
 use Rattle.sccs_disk.specs.Told.{Told}
-use Rattle.sccs_keys.specs.Expansion.{HasMoments}
+use Rattle.sccs_keywords.specs.Expansion.{HasMoments}
 use Rattle.sccs_printing.specs.Targets.{CanTake, GivesTo, file_of, held_back}
 use Rattle.sccs_printing.specs.declared.givings.Giving.{Giving}
 

@@ -4,18 +4,18 @@ use Rattle.sccs_sid.specs.declared.refusals.Refusal.TheVariants as refusals
 use Rattle.std.specs.Prelude.{◌≡◌, ℕ, Bool, true, false, List, [], ◌∷◌, Option, Some, IfSome, Result, Ok, Err}
 use Rattle.sccs_base.specs.Stream.{GivesOk}
 use Rattle.sccs_disk.specs.Files.{Content, View, put}
-use Rattle.sccs_gfiles.specs.declared.modes.Mode.{Mode}
-use Rattle.sccs_gfiles.specs.declared.modes.Mode.TheVariants.{Writable, Protected}
+use Rattle.sccs_store.specs.declared.modes.Mode.{Mode}
+use Rattle.sccs_store.specs.declared.modes.Mode.TheVariants.{Writable, Protected}
 use Rattle.sccs_history.specs.Applied.{live_serials, serials_of}
 use Rattle.sccs_history.specs.Numbers.{Falls}
-use Rattle.sccs_keys.specs.Expansion.{HasMoments}
+use Rattle.sccs_keywords.specs.Expansion.{HasMoments}
 use Rattle.sccs_history.specs.Body.{HistoryLine, is_over}
 use Rattle.sccs_history.specs.declared.headers.Item.{Item}
 use Rattle.sccs_history.specs.declared.headers.Record.{Record}
 use Rattle.sccs_sid.specs.declared.refusals.StepFault.{StepFault}
 use Rattle.sccs_sid.specs.declared.refusals.StepFault.TheVariants.{Refused, Memory, ReadFault, WriteFault, DiskFault}
 use Rattle.sccs_store.specs.Commits.{Becomes}
-use Rattle.sccs_texts.specs.Forms.{LineForm, formed_text}
+use Rattle.sccs_keywords.specs.Forms.{LineForm, formed_text}
 use Rattle.sccs_versions.specs.WasRead.{Stood, shown_before}
 use Rattle.sccs_printing.specs.Counted.{shown_of}
 use Rattle.sccs_printing.specs.declared.shown.Shown.{Shown}

@@ -2,7 +2,7 @@
 use Rattle.std.specs.Prelude.{◌≡◌, ℕ, Bool, List, [], ◌++◌, Option, None, Some, Result, Ok, Err}
 use Rattle.sccs_history.specs.Body.{HistoryLine}
 use Rattle.sccs_sid.specs.declared.refusals.StepFault.{StepFault}
-use Rattle.sccs_texts.specs.Forms.{has_keywords, texts}
+use Rattle.sccs_keywords.specs.Forms.{has_keywords, texts}
 use Rattle.sccs_versions.specs.Coming.{Coming}
 use Rattle.sccs_versions.specs.Place.{VersionPlace}
 use Rattle.sccs_printing.specs.Printing.{IsFaultAroundPrint}

@@ -7,7 +7,7 @@ ghost use Rattle.sccs_history.specs.Numbers.{Falls};
 ghost use Rattle.sccs_history.specs.declared.headers.Item.{Item};
 ghost use Rattle.sccs_table.specs.ReaderState.{bytes_in};
 ghost use Rattle.sccs_table.specs.Runs.{lf_count};
-ghost use Rattle.sccs_texts.specs.Forms.{line_form, formed_lines};
+ghost use Rattle.sccs_keywords.specs.Forms.{line_form, formed_lines};
 ghost use Rattle.sccs_tokens.specs.Written.{ended};
 ghost use Rattle.sccs_versions.specs.Coming.{Coming};
 ghost use Rattle.sccs_versions.specs.Place.{name_of, steps_to_end};
@@ -21,8 +21,8 @@ use crate::targets::{Target, put, put_line};
 use sccs_base::{Line, Sink};
 use sccs_disk::Disk;
 use sccs_history::Record;
+use sccs_keywords::{HeldLine, LineForm, SidFinder, give_line, give_lines};
 use sccs_sid::StepFault;
-use sccs_texts::{HeldLine, LineForm, SidFinder, give_line, give_lines};
 use sccs_versions::{Next, VersionReader};
 use std::alloc::Global;
 

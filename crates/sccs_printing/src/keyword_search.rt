@@ -12,7 +12,7 @@ ghost use Rattle.sccs_printing.specs.Searching.{Searched, SearchesKeywords, Sear
 
 use sccs_base::Name;
 use sccs_disk::Disk;
-use sccs_keys::has_keyword;
+use sccs_keywords::has_keyword;
 use sccs_sets::Applied;
 use sccs_sid::StepFault;
 use sccs_table::Front;

@@ -12,8 +12,8 @@ use Rattle.sccs_history.specs.declared.headers.Record.{Record}
 use Rattle.sccs_tokens.specs.Written.{bytes_of}
 use Rattle.sccs_sid.specs.declared.refusals.StepFault.{StepFault}
 use Rattle.sccs_sid.specs.declared.refusals.StepFault.TheVariants.{Refused, Memory, ReadFault, WriteFault, DiskFault}
-use Rattle.sccs_texts.specs.Forms.{bare_form, texts}
-use Rattle.sccs_texts.proofs.TextLaws.{as_they_are}
+use Rattle.sccs_keywords.specs.Forms.{bare_form, texts}
+use Rattle.sccs_keywords.proofs.TextLaws.{as_they_are}
 use Rattle.sccs_versions.specs.Coming.{IsBody, shown}
 use Rattle.sccs_printing.specs.Printing.{version_text}
 use Rattle.sccs_printing.specs.Targets.{Prints as PrintsTo}

@@ -17,7 +17,7 @@ use Rattle.sccs_table.specs.ReaderState.{bytes_in, file_in}
 use Rattle.sccs_table.specs.declared.fronts.Front.{Front}
 use Rattle.sccs_body.specs.BodyFile.{AnswersFile, ShowsFile}
 use Rattle.sccs_body.proofs.FileLaws.{file_items}
-use Rattle.sccs_files.specs.StepFiles.{Files, look, moved, Moves, is_working}
+use Rattle.sccs_name_files.specs.StepFiles.{Files, look, moved, Moves, is_working}
 use Rattle.sccs_steps.specs.Actions.{IsHeard}
 use Rattle.sccs_steps.specs.Calls.{Meets, scene, shown, world}
 use Rattle.sccs_steps.specs.StepEffects.{Outcome, StepEffect, effect_of}

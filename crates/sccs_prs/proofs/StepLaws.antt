@@ -20,7 +20,7 @@ use Rattle.sccs_table.specs.FrontFile.{IsPlaced}
 use Rattle.sccs_table.specs.ReaderState.{bytes_in, file_in}
 use Rattle.sccs_table.specs.declared.fronts.Front.{Front}
 use Rattle.sccs_body.specs.BodyFile.{AnswersFile}
-use Rattle.sccs_files.specs.StepFiles.{look}
+use Rattle.sccs_name_files.specs.StepFiles.{look}
 use Rattle.sccs_steps.specs.Actions.{RefusesWithin, SpeaksBy, Stepped, quiet_checks}
 use Rattle.sccs_steps.specs.Calls.{scene}
 use Rattle.sccs_steps.specs.Causes.{PrintCauses, StepCauses, counts}

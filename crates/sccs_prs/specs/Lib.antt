@@ -1,7 +1,9 @@
 pub mod Bodies
 pub mod Chosen
+pub mod DataKeywords
 pub mod Gives
 pub mod Keeps
 pub mod PrsStep
 pub mod PrsText
 pub mod Shown
+pub mod Values

@@ -10,7 +10,7 @@ use Rattle.sccs_sid.specs.declared.refusals.StepFault.TheVariants.{Refused, Memo
 use Rattle.sccs_disk.specs.Files.{Content}
 use Rattle.sccs_grammar.specs.File.{Parsed, answer, file_of}
 use Rattle.sccs_grammar.specs.FileRefusals.{or_refusal}
-use Rattle.sccs_files.specs.StepFiles.{Files}
+use Rattle.sccs_name_files.specs.StepFiles.{Files}
 use Rattle.sccs_steps.specs.Actions.{Action, quiet_checks}
 use Rattle.sccs_steps.specs.declared.statuses.StatusRule.TheVariants.{Greatest}
 use Rattle.sccs_steps.specs.StepEffects.{Outcome, StepEffect, effect_of}

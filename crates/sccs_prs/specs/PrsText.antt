@@ -6,11 +6,11 @@ use Rattle.sccs_history.specs.declared.headers.Header.{Header}
 use Rattle.sccs_history.specs.declared.headers.Item.{Item}
 use Rattle.sccs_history.specs.declared.headers.Record.{Record}
 use Rattle.sccs_tokens.specs.Written.{bytes_of, ended, item_line}
-use Rattle.sccs_data_keywords.specs.DataKeywords.{data_parts}
-use Rattle.sccs_data_keywords.specs.Values.{delta_facts, item_text}
-use Rattle.sccs_data_keywords.specs.declared.keywords.Part.{Part}
-use Rattle.sccs_data_keywords.specs.declared.keywords.Part.TheVariants.{Plain, Body, Text}
-use Rattle.sccs_data_keywords.specs.declared.keywords.Part.TheVariants as part
+use Rattle.sccs_prs.specs.DataKeywords.{data_parts}
+use Rattle.sccs_prs.specs.Values.{delta_facts, item_text}
+use Rattle.sccs_prs.specs.declared.keywords.Part.{Part}
+use Rattle.sccs_prs.specs.declared.keywords.Part.TheVariants.{Plain, Body, Text}
+use Rattle.sccs_prs.specs.declared.keywords.Part.TheVariants as part
 use Rattle.sccs_words.specs.declared.commands.PrsWords.{PrsWords}
 use Rattle.sccs_prs.specs.Chosen.{comes}
 use Rattle.sccs_prs.specs.declared.choices.Chosen.{Chosen}

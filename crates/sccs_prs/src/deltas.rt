@@ -5,29 +5,29 @@ ghost use Rattle.sccs_history.specs.Applied.{live_serials};
 ghost use Rattle.sccs_history.specs.History.{HasSpelling, IsTable};
 ghost use Rattle.sccs_history.specs.Numbers.{has};
 ghost use Rattle.sccs_history.specs.declared.headers.Item.{Item};
-ghost use Rattle.sccs_keys.specs.Expansion.{HasMoments};
+ghost use Rattle.sccs_keywords.specs.Expansion.{HasMoments};
 ghost use Rattle.sccs_printing.specs.Printing.{file_checks};
 ghost use Rattle.sccs_steps.specs.Actions.{RefusesWithin};
 ghost use Rattle.sccs_steps.specs.Causes.{PrintCauses};
 ghost use Rattle.sccs_table.specs.ReaderState.{bytes_in};
-ghost use Rattle.sccs_data_keywords.specs.Values.{delta_facts};
+ghost use Rattle.sccs_prs.specs.Values.{delta_facts};
 ghost use Rattle.sccs_tokens.specs.Written.{ended};
 ghost use Rattle.sccs_prs.specs.Gives.{GivesHeld, IsListedFile, PrintsAll};
 ghost use Rattle.sccs_prs.specs.Shown.{IsShown, shown_file};
 ghost use Rattle.sccs_prs.specs.PrsText.{delta_lines, data_text, parts_text};
 
 use crate::bodies::put_body;
+use crate::keywords::Part;
 use crate::listings::{Listing, put, put_item};
+use crate::values::identification_facts;
 use sccs_base::{Line, Name, Sink};
-use sccs_data_keywords::{Part, identification_facts};
 use sccs_disk::Disk;
 use sccs_history::{Record, Serials};
-use sccs_keys::Facts;
+use sccs_keywords::{Facts, LineForm};
 use sccs_printing::print_text;
 use sccs_sets::delta_set;
 use sccs_sid::StepFault;
 use sccs_table::Front;
-use sccs_texts::LineForm;
 use std::alloc::Global;
 
 /// An s-file that was read and is shown: its name, the path of its folder, and its front.

@@ -1,18 +1,18 @@
 ghost use Rattle.std.specs.Prelude.{◌≡◌, ℕ, [], IfOk};
 ghost use Rattle.sccs_history.specs.History.{HasSpelling};
-ghost use Rattle.sccs_keys.specs.Expansion.{HasMoments};
+ghost use Rattle.sccs_keywords.specs.Expansion.{HasMoments};
 ghost use Rattle.sccs_printing.specs.Printing.{file_checks};
 ghost use Rattle.sccs_steps.specs.Actions.{RefusesWithin};
 ghost use Rattle.sccs_steps.specs.Causes.{PrintCauses};
-ghost use Rattle.sccs_data_keywords.specs.Values.{item_text};
+ghost use Rattle.sccs_prs.specs.Values.{item_text};
 ghost use Rattle.sccs_prs.specs.Gives.{GivesHeld};
 
+use crate::keywords::DataItem;
+use crate::values::give_item;
 use sccs_base::{Memory, OutputBuffer, Sink};
-use sccs_data_keywords::{DataItem, give_item};
 use sccs_history::{Header, Record};
-use sccs_keys::Facts;
+use sccs_keywords::{Facts, HeldLine};
 use sccs_sid::StepFault;
-use sccs_texts::HeldLine;
 use std::alloc::Global;
 
 /// What is held back of a text that is printed, and a value of it while it is formed.

@@ -2,7 +2,7 @@ ghost use Rattle.std.specs.Prelude.{◌≡◌, ℕ, List, Option, IfSome};
 ghost use Rattle.sccs_base.specs.Name.{IsSfile};
 ghost use Rattle.sccs_disk.specs.Files.{View};
 ghost use Rattle.sccs_disk.specs.Told.{seen};
-ghost use Rattle.sccs_files.specs.StepFiles.{look};
+ghost use Rattle.sccs_name_files.specs.StepFiles.{look};
 ghost use Rattle.sccs_steps.specs.Actions.{RefusesWithin};
 ghost use Rattle.sccs_steps.specs.Causes.{PrintCauses};
 ghost use Rattle.sccs_prs.specs.Keeps.{prs_keeps};

@@ -4,14 +4,14 @@ use Rattle.std.specs.Prelude.{nat_le}
 use Rattle.std.proofs.lemmas.Bool.{le-leb, lt-leb}
 use Rattle.sccs_base.specs.Constants.{file_limit}
 use Rattle.sccs_disk.specs.Files.{Content, View}
-use Rattle.sccs_files.specs.WholeFiles.{AnswersWhole}
-use Rattle.sccs_files.specs.declared.whole_files.WholeFault.{WholeFault}
-use Rattle.sccs_files.specs.declared.whole_files.WholeFault.TheVariants as whole
+use Rattle.sccs_name_files.specs.WholeFiles.{AnswersWhole}
+use Rattle.sccs_name_files.specs.declared.whole_files.WholeFault.{WholeFault}
+use Rattle.sccs_name_files.specs.declared.whole_files.WholeFault.TheVariants as whole
 use Rattle.sccs_sid.specs.declared.refusals.Refusal.{Refusal}
 use Rattle.sccs_sid.specs.declared.refusals.Refusal.TheVariants as refusals
 use Rattle.sccs_sid.specs.declared.refusals.StepFault.{StepFault}
 use Rattle.sccs_sid.specs.declared.refusals.StepFault.TheVariants.{Refused, Memory, ReadFault, WriteFault, DiskFault}
-use Rattle.sccs_transactions.specs.Changes.{unlocked}
+use Rattle.sccs_changes.specs.Changes.{unlocked}
 use Rattle.sccs_admin.specs.Parts.{ReadsNamed}
 use Rattle.sccs_rcs_file.specs.Trunk.{rcs_read}
 use Rattle.sccs_trunks.specs.declared.revisions.Rcs.{Rcs}

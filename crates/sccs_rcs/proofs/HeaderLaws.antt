@@ -8,9 +8,9 @@ use Rattle.sccs_history.specs.declared.headers.Flag.{Flag}
 use Rattle.sccs_history.specs.declared.headers.Header.{Header}
 use Rattle.sccs_history.specs.declared.headers.Record.{Record}
 use Rattle.sccs_grammar.proofs.ParserRules.{all_push}
-use Rattle.sccs_rcs_pieces.specs.Counts.{IsInOrder, counts_at}
-use Rattle.sccs_rcs_pieces.specs.declared.counts.LineCounts.{LineCounts}
-use Rattle.sccs_rcs_pieces.proofs.CountLaws.{trunk_in_order}
+use Rattle.sccs_trunks.specs.Counts.{IsInOrder, counts_at}
+use Rattle.sccs_trunks.specs.declared.counts.LineCounts.{LineCounts}
+use Rattle.sccs_trunks.proofs.CountLaws.{trunk_in_order}
 use Rattle.sccs_trunks.specs.TrunkHistories.{IsRevision, head_text, history_of, record_of, records_of, scripts_of}
 use Rattle.sccs_trunks.specs.declared.revisions.Rcs.{Rcs}
 use Rattle.sccs_trunks.specs.declared.revisions.Revision.{Revision}

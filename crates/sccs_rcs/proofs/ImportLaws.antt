@@ -7,9 +7,9 @@ use Rattle.sccs_disk.specs.Calls.{IsThere}
 use Rattle.sccs_disk.specs.Files.{Content, View, put}
 use Rattle.sccs_disk.specs.Images.{IsFirm}
 use Rattle.sccs_disk.specs.Told.{Told, seen}
-use Rattle.sccs_files.specs.StepFiles.{Files, is_working, look}
-use Rattle.sccs_images.specs.Touches.{Leaves}
-use Rattle.sccs_moments.proofs.FileNames.{no_x}
+use Rattle.sccs_name_files.specs.StepFiles.{Files, is_working, look}
+use Rattle.sccs_name_files.specs.Touches.{Leaves}
+use Rattle.sccs_crash_points.proofs.FileNames.{no_x}
 use Rattle.sccs_sid.specs.declared.refusals.Refusal.{Refusal}
 use Rattle.sccs_sid.specs.declared.refusals.StepFault.{StepFault}
 use Rattle.sccs_sid.specs.declared.refusals.StepFault.TheVariants.{Refused, Memory, ReadFault, WriteFault, DiskFault}
@@ -18,10 +18,10 @@ use Rattle.sccs_steps.specs.Actions.{quiet_checks}
 use Rattle.sccs_steps.specs.Calls.{world}
 use Rattle.sccs_store.specs.Commits.{Becomes, Needs, files_after, replaced}
 use Rattle.sccs_store.proofs.Working.{made_moves, made_there, moves_wider}
-use Rattle.sccs_transactions.specs.Changes.{CouldPrepare, IsReady, Prepares, PreparesChange, plan_of, unlocked}
-use Rattle.sccs_transactions.specs.Stops.{IsFirmPrepared, SettlesEntries}
-use Rattle.sccs_transactions.specs.declared.prepared.Prepared.{Prepared}
-use Rattle.sccs_transactions.proofs.Taken.{x_alone}
+use Rattle.sccs_changes.specs.Changes.{CouldPrepare, IsReady, Prepares, PreparesChange, plan_of, unlocked}
+use Rattle.sccs_changes.specs.Stops.{IsFirmPrepared, SettlesEntries}
+use Rattle.sccs_changes.specs.declared.prepared.Prepared.{Prepared}
+use Rattle.sccs_changes.proofs.Taken.{x_alone}
 use Rattle.sccs_admin.specs.Parts.{IsNewSfile}
 use Rattle.sccs_admin.proofs.PrepareLaws.{files_of, new_files, s_unlocked, there_after, unmade}
 use Rattle.sccs_admin.proofs.StopLaws.{new_firm, settled_seen}
@@ -33,8 +33,8 @@ use Rattle.sccs_trunks.specs.TrunkItems.{items_of}
 use Rattle.sccs_trunks.specs.Trunks.{trunk_lines}
 use Rattle.sccs_trunks.specs.declared.revisions.Rcs.{Rcs}
 use Rattle.sccs_trunks.specs.declared.revisions.Revision.{Revision}
-use Rattle.sccs_rcs_pieces.specs.Runs.{run_lines}
-use Rattle.sccs_rcs_pieces.specs.declared.runs.LineRun.{LineRun}
+use Rattle.sccs_trunks.specs.Runs.{run_lines}
+use Rattle.sccs_trunks.specs.declared.runs.LineRun.{LineRun}
 use Rattle.sccs_store.specs.SealedFiles.{sealed}
 use Rattle.sccs_rcs.specs.ImportStep.{found_rcs, import_change, import_checks, import_outcome, import_report, imports, rcs_content, rcs_file}
 use Rattle.sccs_rcs.specs.Parts.{AnswersRcs, FindsRcs, IsImported, IsRead, WritesRcs}

@@ -9,9 +9,9 @@ use Rattle.sccs_trunks.specs.TrunkItems.{closes, items_behind, items_of}
 use Rattle.sccs_writers.specs.Puts.{Puts, PutsText, Writer}
 use Rattle.sccs_writers.proofs.PutLaws.{puts_cut, puts_nothing, puts_then, same_text}
 use Rattle.sccs_rcs.specs.RunItems.{region_behind, run_items}
-use Rattle.sccs_rcs_pieces.specs.Runs.{run_lines}
+use Rattle.sccs_trunks.specs.Runs.{run_lines}
 use Rattle.sccs_rcs.specs.declared.bodies.Region.{Region}
-use Rattle.sccs_rcs_pieces.specs.declared.runs.LineRun.{LineRun}
+use Rattle.sccs_trunks.specs.declared.runs.LineRun.{LineRun}
 use Rattle.sccs_rcs.proofs.RunLaws.{bytes_both, run_first}
 
 -- Some items were put: behind a line of a region those of the rest are to come.

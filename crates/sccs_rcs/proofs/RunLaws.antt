@@ -10,10 +10,10 @@ use Rattle.sccs_new_files.specs.Writing.{body_bytes}
 use Rattle.sccs_trunks.specs.TrunkItems.{between, closes, items_behind, opens}
 use Rattle.sccs_trunks.specs.Trunks.{is_zero}
 use Rattle.sccs_rcs.specs.RunItems.{behind_lines, between_regions, is_same, region_items, region_behind, region_of, run_items}
-use Rattle.sccs_rcs_pieces.specs.Cells.{deleters_by, line_by}
-use Rattle.sccs_rcs_pieces.specs.Runs.{run_lines}
+use Rattle.sccs_trunks.specs.Cells.{deleters_by, line_by}
+use Rattle.sccs_trunks.specs.Runs.{run_lines}
 use Rattle.sccs_rcs.specs.declared.bodies.Region.{Region}
-use Rattle.sccs_rcs_pieces.specs.declared.runs.LineRun.{LineRun}
+use Rattle.sccs_trunks.specs.declared.runs.LineRun.{LineRun}
 
 -- ---- bytes
 

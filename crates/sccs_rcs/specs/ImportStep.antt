@@ -7,13 +7,13 @@ use Rattle.sccs_sid.specs.Refusal.{number_of}
 use Rattle.sccs_sid.specs.declared.refusals.Refusal.{Refusal}
 use Rattle.sccs_sid.specs.declared.refusals.Refusal.TheVariants as refusals
 use Rattle.sccs_disk.specs.Files.{Content}
-use Rattle.sccs_files.specs.StepFiles.{Files}
+use Rattle.sccs_name_files.specs.StepFiles.{Files}
 use Rattle.sccs_tokens.specs.Written.{ended}
 use Rattle.sccs_steps.specs.Actions.{Step, quiet_checks}
 use Rattle.sccs_steps.specs.StepEffects.{Outcome, check}
 use Rattle.sccs_store.specs.SealedFiles.{sealed}
-use Rattle.sccs_transactions.specs.Changes.{Changing}
-use Rattle.sccs_pending.specs.Reports.{heading_text}
+use Rattle.sccs_changes.specs.Changes.{Changing}
+use Rattle.sccs_changes.specs.Reports.{heading_text}
 use Rattle.sccs_trunks.specs.TrunkHistories.{history_of}
 use Rattle.sccs_trunks.specs.TrunkItems.{items_of}
 use Rattle.sccs_trunks.specs.declared.revisions.Rcs.{Rcs}

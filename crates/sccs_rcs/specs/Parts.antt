@@ -8,14 +8,14 @@ use Rattle.sccs_sid.specs.declared.refusals.Refusal.TheVariants as refusals
 use Rattle.sccs_sid.specs.declared.refusals.StepFault.{StepFault}
 use Rattle.sccs_sid.specs.declared.refusals.StepFault.TheVariants.{Refused, Memory, ReadFault, WriteFault, DiskFault}
 use Rattle.sccs_disk.specs.Files.{View, put}
-use Rattle.sccs_files.specs.StepFiles.{Moves}
+use Rattle.sccs_name_files.specs.StepFiles.{Moves}
 use Rattle.sccs_history.specs.Body.{HistoryLine}
 use Rattle.sccs_store.specs.Commits.{Becomes}
 use Rattle.sccs_store.specs.declared.new_files.NewFile.TheVariants.{Keep}
-use Rattle.sccs_transactions.specs.Changes.{unlocked}
-use Rattle.sccs_transactions.specs.declared.prepared.Prepared.{Prepared}
-use Rattle.sccs_rcs_pieces.specs.Counts.{counts_at}
-use Rattle.sccs_rcs_pieces.specs.declared.counts.LineCounts.{LineCounts}
+use Rattle.sccs_changes.specs.Changes.{unlocked}
+use Rattle.sccs_changes.specs.declared.prepared.Prepared.{Prepared}
+use Rattle.sccs_trunks.specs.Counts.{counts_at}
+use Rattle.sccs_trunks.specs.declared.counts.LineCounts.{LineCounts}
 use Rattle.sccs_rcs_file.specs.Trunk.{rcs_read}
 use Rattle.sccs_trunks.specs.declared.revisions.Rcs.{Rcs}
 use Rattle.sccs_rcs.specs.ImportStep.{found_rcs, import_report, named_bytes, or_refused, rcs_content, rcs_file}

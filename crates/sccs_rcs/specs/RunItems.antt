@@ -4,7 +4,7 @@ use Rattle.sccs_history.specs.declared.headers.Item.{Item}
 use Rattle.sccs_history.specs.declared.headers.Item.TheVariants.{Text}
 use Rattle.sccs_trunks.specs.TrunkItems.{closes, opens}
 use Rattle.sccs_rcs.specs.declared.bodies.Region.{Region}
-use Rattle.sccs_rcs_pieces.specs.declared.runs.LineRun.{LineRun}
+use Rattle.sccs_trunks.specs.declared.runs.LineRun.{LineRun}
 
 -- whether a line goes on with the region of the last one
 abbrev pub is_same : Region → Region → Bool

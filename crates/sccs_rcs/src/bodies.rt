@@ -4,7 +4,7 @@ ghost use Rattle.sccs_history.specs.Numbers.{front_if};
 ghost use Rattle.sccs_history.specs.declared.headers.Item.TheVariants.{Delete, End};
 ghost use Rattle.sccs_new_files.specs.Writing.{body_bytes};
 ghost use Rattle.sccs_rcs.specs.RunItems.{between_regions, is_same, region_behind, region_of, run_items};
-ghost use Rattle.sccs_rcs_pieces.specs.Runs.{run_lines};
+ghost use Rattle.sccs_trunks.specs.Runs.{run_lines};
 ghost use Rattle.sccs_trunks.specs.TrunkItems.{closes, items_of, opens};
 ghost use Rattle.sccs_trunks.specs.Trunks.{is_zero};
 ghost use Rattle.sccs_writers.specs.Puts.{PutsText};
@@ -12,7 +12,7 @@ ghost use Rattle.sccs_writers.specs.Puts.{PutsText};
 use sccs_disk::{Disk, DiskRefusal};
 use sccs_history::Item;
 use sccs_new_files::NewBody;
-use sccs_rcs_pieces::LineRun;
+use sccs_trunks::LineRun;
 use sccs_writers::ItemWriter;
 
 /// The inserter and the deleter of a line, each 0 where there is none.

@@ -4,14 +4,14 @@ ghost use Rattle.sccs_base.specs.Stream.{Rose};
 ghost use Rattle.sccs_disk.specs.Told.{seen};
 ghost use Rattle.sccs_sid.specs.declared.refusals.StepFault.TheVariants as fault;
 ghost use Rattle.sccs_steps.specs.Actions.{RefusesWithin};
-ghost use Rattle.sccs_pending.specs.PFiles.{OnlyReads};
+ghost use Rattle.sccs_changes.specs.PFiles.{OnlyReads};
 ghost use Rattle.sccs_rcs.specs.ImportStep.{import_checks, rcs_file};
 ghost use Rattle.sccs_rcs.specs.Parts.{FindsBytes, FindsRcs, IsFresh, IsRead, TakesTrunk};
 
 use sccs_admin::read_named;
 use sccs_base::{Bytes, Memory, Name};
 use sccs_disk::Disk;
-use sccs_files::WholeFault;
+use sccs_name_files::WholeFault;
 use sccs_rcs_file::{RcsFault, read_rcs};
 use sccs_sid::{Refusal, StepFault};
 use sccs_trunks::Rcs;

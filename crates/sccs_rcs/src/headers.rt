@@ -2,16 +2,15 @@ ghost use Rattle.std.specs.Prelude.{◌≡◌, ◌++◌, ◌<◌, ℕ, List, [],
 ghost use Rattle.std.specs.List.{AllByRecursion};
 ghost use Rattle.sccs_history.specs.Body.{HistoryLine};
 ghost use Rattle.sccs_history.specs.History.{HasSpelling, IsSpelled};
-ghost use Rattle.sccs_rcs_pieces.specs.Counts.{counts_at};
-ghost use Rattle.sccs_rcs_pieces.specs.Runs.{run_lines};
+ghost use Rattle.sccs_trunks.specs.Counts.{counts_at};
+ghost use Rattle.sccs_trunks.specs.Runs.{run_lines};
 ghost use Rattle.sccs_rcs.specs.Parts.{AreCounts, IsRead};
 ghost use Rattle.sccs_trunks.specs.TrunkHistories.{IsRevision, count_of, history_of, record_of, records_of};
 
 use sccs_base::{Memory, Text};
 use sccs_history::{Flags, Header, Record, Records, Serials};
-use sccs_rcs_pieces::{LineCounts, LineRun, line_counts};
 use sccs_records::copy_lines;
-use sccs_trunks::{Rcs, Revision};
+use sccs_trunks::{LineCounts, LineRun, Rcs, Revision, line_counts};
 use std::alloc::Global;
 
 /// The greatest count of a delta table: sccsfile(4).

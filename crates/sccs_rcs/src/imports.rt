@@ -3,9 +3,9 @@ ghost use Rattle.std.specs.Str.{bytes_eq};
 ghost use Rattle.sccs_base.specs.Name.{IsSfile, x_file};
 ghost use Rattle.sccs_base.specs.Stream.{Rose};
 ghost use Rattle.sccs_disk.specs.Told.{seen};
-ghost use Rattle.sccs_images.specs.Touches.{TouchesOnly};
+ghost use Rattle.sccs_name_files.specs.Touches.{TouchesOnly};
 ghost use Rattle.sccs_sid.specs.declared.refusals.StepFault.TheVariants as fault;
-ghost use Rattle.sccs_transactions.specs.Stops.{IsFirmPrepared};
+ghost use Rattle.sccs_changes.specs.Stops.{IsFirmPrepared};
 ghost use Rattle.sccs_rcs.specs.ImportStep.{import_change, import_report};
 ghost use Rattle.sccs_rcs.specs.Locks.{import_locked};
 ghost use Rattle.sccs_rcs.specs.Parts.{IsImported, IsRead, WritesRcs};
@@ -15,14 +15,12 @@ use crate::finding::find_rcs;
 use crate::headers::trunk_header;
 use itoa::Buffer;
 use sccs_base::{Bytes, Memory, Name, Sink, Source};
+use sccs_changes::{Change, Prepared, heading};
 use sccs_disk::{Disk, DiskRefusal};
 use sccs_new_files::write_new;
-use sccs_pending::heading;
-use sccs_rcs_pieces::trunk_runs;
 use sccs_sid::StepFault;
 use sccs_store::NewFile;
-use sccs_transactions::{Change, Prepared};
-use sccs_trunks::Rcs;
+use sccs_trunks::{Rcs, trunk_runs};
 use std::alloc::Global;
 
 /// import on a name that is to become an s-file: a delta for each revision of the trunk of the RCS file beside it,

@@ -4,14 +4,14 @@ use Rattle.std.specs.Prelude.{IsSome}
 use Rattle.sccs_disk.specs.Causes.{DiskCauses}
 use Rattle.sccs_disk.specs.Files.{Content, View}
 use Rattle.sccs_disk.specs.Told.{Told, seen}
-use Rattle.sccs_files.specs.StepFiles.{is_working}
-use Rattle.sccs_files.specs.WholeFiles.{AnswersWhole}
-use Rattle.sccs_files.specs.declared.whole_files.WholeFault.TheVariants as whole
+use Rattle.sccs_name_files.specs.StepFiles.{is_working}
+use Rattle.sccs_name_files.specs.WholeFiles.{AnswersWhole}
+use Rattle.sccs_name_files.specs.declared.whole_files.WholeFault.TheVariants as whole
 use Rattle.sccs_group.proofs.Found.{long_bad}
 use Rattle.sccs_intents.specs.Intents.{intent_file, intent_of}
 use Rattle.sccs_intents.specs.declared.intents.Entry.{Entry}
-use Rattle.sccs_moments.specs.Unlocked.{is_own}
-use Rattle.sccs_moments.proofs.Unlocked.{others_same}
+use Rattle.sccs_crash_points.specs.Unlocked.{is_own}
+use Rattle.sccs_crash_points.proofs.Unlocked.{others_same}
 use Rattle.sccs_sid.specs.Reading.{◌>>=◌}
 use Rattle.sccs_sid.specs.declared.refusals.Refusal.{Refusal}
 use Rattle.sccs_sid.specs.declared.refusals.Refusal.TheVariants.{BadIntent}

@@ -6,11 +6,11 @@ use Rattle.sccs_base.specs.Name.{y_file}
 use Rattle.sccs_disk.specs.Calls.{Done, Half}
 use Rattle.sccs_disk.specs.Effects.{settled, syncing_names}
 use Rattle.sccs_disk.specs.Told.{Told}
-use Rattle.sccs_files.specs.StepFiles.{is_working}
-use Rattle.sccs_images.specs.Touches.{TouchesOnly}
-use Rattle.sccs_moments.specs.Unlocked.{KeepsOthers, is_own}
-use Rattle.sccs_moments.proofs.FileNames.{no_working, no_y}
-use Rattle.sccs_moments.proofs.Unlocked.{others_done, others_half, others_settled, others_then, others_touched, others_wider, own_left}
+use Rattle.sccs_name_files.specs.StepFiles.{is_working}
+use Rattle.sccs_name_files.specs.Touches.{TouchesOnly}
+use Rattle.sccs_crash_points.specs.Unlocked.{KeepsOthers, is_own}
+use Rattle.sccs_crash_points.proofs.FileNames.{no_working, no_y}
+use Rattle.sccs_crash_points.proofs.Unlocked.{others_done, others_half, others_settled, others_then, others_touched, others_wider, own_left}
 
 pub touched_others : (n : List ℕ) (a b : Told) → TouchesOnly (is_working n) a b → KeepsOthers (is_own n) a b
 touched_others n a b touches = others_wider (is_working n) (is_own n) a b (λ k h. no_working n k (own_left n k h)) (others_touched (is_working n) a b touches)

@@ -10,18 +10,18 @@ use Rattle.sccs_sid.specs.declared.refusals.Refusal.{Refusal}
 use Rattle.sccs_disk.specs.Images.{Allows}
 use Rattle.sccs_disk.specs.Told.{Told, Tells, seen}
 use Rattle.sccs_pfile.proofs.Recovering.{twice_once}
-use Rattle.sccs_files.specs.StepFiles.{is_working, look, moved}
-use Rattle.sccs_images.specs.Touches.{Each, TouchesOnly, earlier, newest}
+use Rattle.sccs_name_files.specs.StepFiles.{is_working, look, moved}
+use Rattle.sccs_name_files.specs.Touches.{Each, TouchesOnly, earlier, newest}
 use Rattle.sccs_intents.specs.Intents.{entries_in, fate_in, intent_file}
 use Rattle.sccs_intents.specs.declared.intents.Fate.{Fate}
-use Rattle.sccs_moments.specs.Calm.{IsCalm}
-use Rattle.sccs_moments.specs.Moments.{EndsAfter, EndsBefore, EndsWithin, IsAt, IsCalmUnnamed, IsFrom, KeepsCalm, LeavesCalm, LeavesFirm, NamesNone, RecoversOn, Went}
-use Rattle.sccs_moments.specs.Recovery.{Pair, RecoversAs, fate_at, recover, recover_alone, recover_by}
-use Rattle.sccs_moments.proofs.FileNames.{working_s}
-use Rattle.sccs_moments.proofs.Joined.{numbered_as, numbered_now, raised}
-use Rattle.sccs_moments.proofs.Recoveries.{calm_keeps, calm_recovers, calm_same, working_calm}
-use Rattle.sccs_moments.proofs.Recovering.{fate_same, recover_intent, recovered, recovered_is, recovered_under, recovers_back, recovers_recovered, recovers_then, same_recovers}
-use Rattle.sccs_moments.proofs.Untouched.{before_after, before_within, ends_working, same_before}
+use Rattle.sccs_crash_points.specs.Calm.{IsCalm}
+use Rattle.sccs_crash_points.specs.Moments.{EndsAfter, EndsBefore, EndsWithin, IsAt, IsCalmUnnamed, IsFrom, KeepsCalm, LeavesCalm, LeavesFirm, NamesNone, RecoversOn, Went}
+use Rattle.sccs_crash_points.specs.Recovery.{Pair, RecoversAs, fate_at, recover, recover_alone, recover_by}
+use Rattle.sccs_crash_points.proofs.FileNames.{working_s}
+use Rattle.sccs_crash_points.proofs.Joined.{numbered_as, numbered_now, raised}
+use Rattle.sccs_crash_points.proofs.Recoveries.{calm_keeps, calm_recovers, calm_same, working_calm}
+use Rattle.sccs_crash_points.proofs.Recovering.{fate_same, recover_intent, recovered, recovered_is, recovered_under, recovers_back, recovers_recovered, recovers_then, same_recovers}
+use Rattle.sccs_crash_points.proofs.Untouched.{before_after, before_within, ends_working, same_before}
 use Rattle.sccs_steps.specs.StepEffects.{Outcome, effect_of}
 use Rattle.sccs_steps.specs.Calls.{Meets, scene, world}
 use Rattle.sccs_steps.specs.Actions.{IsHeard}

@@ -14,11 +14,11 @@ use Rattle.sccs_sid.specs.declared.refusals.Refusal.{Refusal}
 use Rattle.sccs_sid.specs.declared.refusals.StepFault.{StepFault}
 use Rattle.sccs_sid.specs.declared.refusals.StepFault.TheVariants.{Refused, Memory, ReadFault, WriteFault, DiskFault}
 use Rattle.sccs_pfile.specs.Recovered.{recovered_pfile}
-use Rattle.sccs_files.specs.StepFiles.{AreCleared, Files, Moves, MovesPartly, is_left, is_working, l_file, look, moved, placed}
+use Rattle.sccs_name_files.specs.StepFiles.{AreCleared, Files, Moves, MovesPartly, is_left, is_working, l_file, look, moved, placed}
 use Rattle.sccs_intents.specs.Intents.{intent_file}
-use Rattle.sccs_moments.specs.Recovery.{cleaned, cleared, recover_alone, without_name}
-use Rattle.sccs_moments.proofs.FileNames.{from_g, from_sfile, no_q, no_working, no_y, no_z, working_s}
-use Rattle.sccs_moments.proofs.Recovering.{alone_by, cleared_other}
+use Rattle.sccs_crash_points.specs.Recovery.{cleaned, cleared, recover_alone, without_name}
+use Rattle.sccs_crash_points.proofs.FileNames.{from_g, from_sfile, no_q, no_working, no_y, no_z, working_s}
+use Rattle.sccs_crash_points.proofs.Recovering.{alone_by, cleared_other}
 use Rattle.sccs_steps.specs.StepEffects.{Outcome, StepEffect}
 use Rattle.sccs_steps.specs.Calls.{Meets, ReportCut, scene, world}
 use Rattle.sccs_steps.specs.FirstFiles.{MovesInOrder}

@@ -7,22 +7,22 @@ use Rattle.sccs_disk.specs.Files.{Content, Model, View, put, view_of}
 use Rattle.sccs_disk.specs.Images.{Allows, Image, IsFirm}
 use Rattle.sccs_disk.specs.Told.{Told, Tells, seen}
 use Rattle.sccs_disk.proofs.Puts.{put_again, put_back, put_same}
-use Rattle.sccs_files.specs.StepFiles.{is_working}
-use Rattle.sccs_images.specs.Touches.{Leaves, Touches, TouchesOnly, Touching, earlier, newest}
-use Rattle.sccs_images.proofs.Images.{full_image, image_settled, view_image}
-use Rattle.sccs_images.proofs.Touched.{each_newest}
+use Rattle.sccs_name_files.specs.StepFiles.{is_working}
+use Rattle.sccs_name_files.specs.Touches.{Leaves, Touches, TouchesOnly, Touching, earlier, newest}
+use Rattle.sccs_name_files.proofs.Images.{full_image, image_settled, view_image}
+use Rattle.sccs_name_files.proofs.Touched.{each_newest}
 use Rattle.sccs_pfile.specs.Recovered.{recovered_pfile, written_pfile}
 use Rattle.sccs_pfile.proofs.Recovering.{twice_once}
 use Rattle.sccs_intents.specs.Intents.{intent_file}
-use Rattle.sccs_moments.specs.Calm.{HasFirm, IsCalm}
-use Rattle.sccs_moments.specs.Moments.{CanRecover, IsCalmUnnamed, IsFrom, IsNew, LeavesCalm, LeavesFirm, NamesNone, RecoversOn, Went}
-use Rattle.sccs_moments.specs.Recovery.{RecoversAs, cleared, fate_at, pair_of, recover, recover_alone, recover_by, without_name}
-use Rattle.sccs_moments.proofs.CalmDisks.{calm_settled, firms_touched}
-use Rattle.sccs_moments.proofs.FileNames.{working_s}
-use Rattle.sccs_moments.proofs.Joined.{newest_is, numbered_now, numbered_plain, numbered_zero, went_then}
-use Rattle.sccs_moments.proofs.Recoveries.{calm_recovers, firm_same, story_same}
-use Rattle.sccs_moments.proofs.Recovering.{alone_by, by_lock, fate_same, p_of, pair, recover_intent, recovers_recovered, recovers_then, s_of}
-use Rattle.sccs_moments.proofs.Untouched.{from_touched, guards_touched, none_named, none_replaced}
+use Rattle.sccs_crash_points.specs.Calm.{HasFirm, IsCalm}
+use Rattle.sccs_crash_points.specs.Moments.{CanRecover, IsCalmUnnamed, IsFrom, IsNew, LeavesCalm, LeavesFirm, NamesNone, RecoversOn, Went}
+use Rattle.sccs_crash_points.specs.Recovery.{RecoversAs, cleared, fate_at, pair_of, recover, recover_alone, recover_by, without_name}
+use Rattle.sccs_crash_points.proofs.CalmDisks.{calm_settled, firms_touched}
+use Rattle.sccs_crash_points.proofs.FileNames.{working_s}
+use Rattle.sccs_crash_points.proofs.Joined.{newest_is, numbered_now, numbered_plain, numbered_zero, went_then}
+use Rattle.sccs_crash_points.proofs.Recoveries.{calm_recovers, firm_same, story_same}
+use Rattle.sccs_crash_points.proofs.Recovering.{alone_by, by_lock, fate_same, p_of, pair, recover_intent, recovers_recovered, recovers_then, s_of}
+use Rattle.sccs_crash_points.proofs.Untouched.{from_touched, guards_touched, none_named, none_replaced}
 use Rattle.sccs_store.specs.Commits.{Becomes, Needs, Plan, committed, files_after, plan, swapped}
 use Rattle.sccs_store.specs.Stops.{CanCommit, CommitEnds, CommitStops, OnReplace}
 use Rattle.sccs_store.specs.declared.new_files.NewFile.{NewFile}

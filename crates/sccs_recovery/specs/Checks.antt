@@ -16,7 +16,7 @@ use Rattle.sccs_table.specs.declared.fronts.Front.{Front}
 use Rattle.sccs_pfile.specs.Reading.{edits_of}
 use Rattle.sccs_intents.specs.Intents.{intent_file, intent_of}
 use Rattle.sccs_intents.specs.declared.intents.Entry.{Entry}
-use Rattle.sccs_moments.specs.Recovery.{recover_alone}
+use Rattle.sccs_crash_points.specs.Recovery.{recover_alone}
 use Rattle.sccs_steps.specs.Actions.{RefusesWithin}
 use Rattle.sccs_pfile.specs.declared.entries.Edit.{Edit}
 

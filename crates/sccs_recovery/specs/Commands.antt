@@ -5,7 +5,7 @@ use Rattle.sccs_base.specs.Stream.{GivesOk, GivesSome}
 use Rattle.sccs_sid.specs.declared.refusals.StepFault.{StepFault}
 use Rattle.sccs_sid.specs.declared.refusals.StepFault.TheVariants.{WriteFault}
 use Rattle.sccs_disk.specs.Files.{Content}
-use Rattle.sccs_files.specs.StepFiles.{Files}
+use Rattle.sccs_name_files.specs.StepFiles.{Files}
 use Rattle.sccs_intents.specs.Intents.{intent_file}
 use Rattle.sccs_steps.specs.Actions.{KeepsFiles}
 use Rattle.sccs_steps.specs.StepEffects.{StepEffect}

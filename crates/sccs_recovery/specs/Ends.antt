@@ -3,11 +3,11 @@ use Rattle.std.specs.Prelude.{◌≡◌, ◌≤◌, ℕ, List, IsErrOf, OnOk, Re
 use Rattle.sccs_base.specs.Stream.{Rose}
 use Rattle.sccs_disk.specs.Files.{View}
 use Rattle.sccs_disk.specs.Told.{Told, seen}
-use Rattle.sccs_files.specs.StepFiles.{AreCleared, Moves, MovesPartly, is_left, is_working}
-use Rattle.sccs_images.specs.Touches.{TouchesOnly}
-use Rattle.sccs_moments.specs.Moments.{LeavesCalm, LeavesFirm, RecoversOn}
-use Rattle.sccs_moments.specs.Recovery.{recover_alone}
-use Rattle.sccs_moments.specs.Unlocked.{KeepsOthers, is_own}
+use Rattle.sccs_name_files.specs.StepFiles.{AreCleared, Moves, MovesPartly, is_left, is_working}
+use Rattle.sccs_name_files.specs.Touches.{TouchesOnly}
+use Rattle.sccs_crash_points.specs.Moments.{LeavesCalm, LeavesFirm, RecoversOn}
+use Rattle.sccs_crash_points.specs.Recovery.{recover_alone}
+use Rattle.sccs_crash_points.specs.Unlocked.{KeepsOthers, is_own}
 use Rattle.sccs_sid.specs.declared.refusals.Refusal.{Refusal}
 use Rattle.sccs_sid.specs.declared.refusals.StepFault.{StepFault}
 use Rattle.sccs_sid.specs.declared.refusals.StepFault.TheVariants.{Refused, Memory, DiskFault}

@@ -7,7 +7,7 @@ use Rattle.sccs_sid.specs.Reading.{◌>>=◌}
 use Rattle.sccs_sid.specs.declared.refusals.Refusal.{Refusal}
 use Rattle.sccs_disk.specs.Files.{Content}
 use Rattle.sccs_intents.specs.Intents.{intent_file}
-use Rattle.sccs_files.specs.StepFiles.{Files}
+use Rattle.sccs_name_files.specs.StepFiles.{Files}
 use Rattle.sccs_pfile.specs.Recovered.{recovered_pfile}
 use Rattle.sccs_steps.specs.StepEffects.{Outcome, StepEffect}
 use Rattle.sccs_steps.specs.Actions.{Action, quiet_checks}

@@ -2,16 +2,15 @@ ghost use Rattle.std.specs.Prelude.{◌≡◌, ◌≤◌, ◌||◌, Err};
 ghost use Rattle.sccs_base.specs.Causes.{GivesText};
 ghost use Rattle.sccs_base.specs.Stream.{Rose};
 ghost use Rattle.sccs_sid.specs.declared.refusals.StepFault.TheVariants as step;
-ghost use Rattle.sccs_name_sets.specs.NameSets.{names_in};
+ghost use Rattle.sccs_base.specs.NameSets.{names_in};
 ghost use Rattle.sccs_steps.specs.Causes.{WriteCauses};
 ghost use Rattle.sccs_recovery.specs.Commands.{Says, is_locked, recover_keeps};
 ghost use Rattle.sccs_recovery.specs.RecoverStep.{found_text, freed_by, recover_action};
 
 use crate::pending::recover_free;
 use crate::recoveries::Recovered;
-use sccs_base::{Name, Sink, Source, give_parts};
+use sccs_base::{Name, NameSet, Sink, Source, give_parts, has_name};
 use sccs_disk::Disk;
-use sccs_name_sets::{NameSet, has_name};
 use sccs_sid::StepFault;
 use sccs_steps::Utility;
 use std::alloc::Global;

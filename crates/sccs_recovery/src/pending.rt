@@ -11,9 +11,9 @@ ghost use Rattle.sccs_recovery.specs.Ends.{RecoversName};
 use crate::recoveries::{Recovered, recover};
 use sccs_base::Name;
 use sccs_disk::Disk;
-use sccs_files::{WholeFault, read_whole};
 use sccs_group::intent_name;
 use sccs_intents::{IntentFault, read_intent};
+use sccs_name_files::{WholeFault, read_whole};
 use sccs_sid::{Refusal, StepFault};
 use std::alloc::Global;
 

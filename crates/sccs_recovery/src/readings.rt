@@ -12,7 +12,7 @@ use crate::entries_left::{PfileLeft, entries_left};
 use sccs_base::{Bytes, Name};
 use sccs_body::inspect;
 use sccs_disk::Disk;
-use sccs_files::{WholeFault, read_whole};
+use sccs_name_files::{WholeFault, read_whole};
 use sccs_pfile::{Edits, PfileFault, read_edits};
 use sccs_sid::{Refusal, StepFault};
 use sccs_table::Front;

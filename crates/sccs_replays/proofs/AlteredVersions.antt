@@ -7,8 +7,8 @@ use Rattle.sccs_history.specs.History.{is_rooted}
 use Rattle.sccs_history.specs.Numbers.{has}
 use Rattle.sccs_history.specs.declared.headers.Header.{Header}
 use Rattle.sccs_grammar.specs.File.{Parsed, answer, file_of}
-use Rattle.sccs_pending.specs.Pending.{bytes_at}
-use Rattle.sccs_files.specs.StepFiles.{Files}
+use Rattle.sccs_changes.specs.Pending.{bytes_at}
+use Rattle.sccs_name_files.specs.StepFiles.{Files}
 use Rattle.sccs_steps.specs.StepEffects.{Outcome, StepEffect}
 use Rattle.sccs_store.specs.SealedFiles.{sealed}
 use Rattle.sccs_words.specs.declared.commands.AdminWords.{AdminWords}

@@ -7,14 +7,14 @@ use Rattle.sccs_history.specs.Applied.{live_serials}
 use Rattle.sccs_history.specs.History.{is_rooted}
 use Rattle.sccs_history.specs.Numbers.{has}
 use Rattle.sccs_grammar.specs.File.{Parsed}
-use Rattle.sccs_files.specs.StepFiles.{Files}
+use Rattle.sccs_name_files.specs.StepFiles.{Files}
 use Rattle.sccs_steps.specs.StepEffects.{StepEffect}
 use Rattle.sccs_words.specs.declared.commands.CdcWords.{CdcWords}
-use Rattle.sccs_cdc.specs.CdcStep.{cdc_outcome}
-use Rattle.sccs_cdc.specs.NewVersions.{ChangesDelta}
-use Rattle.sccs_cdc.specs.Parts.{HasLines}
-use Rattle.sccs_cdc.proofs.ChangedVersions.{cdc_made, file_needed}
-use Rattle.sccs_cdc.proofs.TableLaws.{same_rooted}
+use Rattle.sccs_alter.specs.CdcStep.{cdc_outcome}
+use Rattle.sccs_alter.specs.NewVersions.{ChangesDelta}
+use Rattle.sccs_alter.specs.CdcParts.{HasLines}
+use Rattle.sccs_alter.proofs.ChangedVersions.{cdc_made, file_needed}
+use Rattle.sccs_alter.proofs.TableLaws.{same_rooted}
 use Rattle.sccs_delta.specs.NewVersions.{version_text}
 use Rattle.sccs_delta.specs.Replays.{Texts}
 use Rattle.sccs_replays.specs.PastRuns.{HasVersions}

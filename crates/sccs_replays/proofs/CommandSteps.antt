@@ -11,31 +11,31 @@ use Rattle.sccs_sid.specs.Moment.{IsMoment}
 use Rattle.sccs_words.specs.declared.commands.Command.{Command}
 use Rattle.sccs_words.specs.declared.commands.Command.TheVariants as c
 use Rattle.sccs_words.specs.declared.commands.ValWords.{ValWords}
-use Rattle.sccs_files.specs.StepFiles.{Files, look, moved_in}
+use Rattle.sccs_name_files.specs.StepFiles.{Files, look, moved_in}
 use Rattle.sccs_steps.specs.Actions.{Action, KeepsFiles}
 use Rattle.sccs_steps.specs.StepLists.{NamedStep, folder_after, step_in}
 use Rattle.sccs_steps.specs.Unlocked.{ArePlain, IsPlainFor}
 use Rattle.sccs_admin.specs.AdminStep.{admin_change}
 use Rattle.sccs_alter.specs.AlterStep.{alter_change}
 use Rattle.sccs_alter.specs.CheckStep.{check_action, check_keeps}
-use Rattle.sccs_cdc.specs.CdcStep.{cdc_change}
+use Rattle.sccs_alter.specs.CdcStep.{cdc_change}
 use Rattle.sccs_delta.specs.DeltaStep.{delta_change}
 use Rattle.sccs_edit.specs.Checks.{sact_keeps}
 use Rattle.sccs_edit.specs.UngetStep.{unget_change}
-use Rattle.sccs_front.specs.Keeps.{pending_keeps}
+use Rattle.sccs_edit.specs.Keeps.{pending_keeps}
 use Rattle.sccs_get.specs.EditStep.{edit_change}
 use Rattle.sccs_get.specs.Keeps.{get_keeps}
 use Rattle.sccs_get.specs.VersionStep.{get_action}
 use Rattle.sccs_rcs.specs.ImportStep.{import_change}
 use Rattle.sccs_recovery.specs.Commands.{recover_keeps}
 use Rattle.sccs_rmdel.specs.RmdelStep.{rmdel_change}
-use Rattle.sccs_transactions.specs.Changes.{locking}
-use Rattle.sccs_transactions.specs.Utilities.{locking_keeps}
+use Rattle.sccs_changes.specs.Changes.{locking}
+use Rattle.sccs_changes.specs.Utilities.{locking_keeps}
 use Rattle.sccs_delta.specs.Replays.{Texts}
 use Rattle.sccs_prs.specs.Keeps.{prs_keeps}
 use Rattle.sccs_val.proofs.RunLaws.{val_keeps}
 use Rattle.sccs_what.specs.Checks.{what_keeps}
-use Rattle.sccs_courses.specs.Courses.{no_action}
+use Rattle.sccs_step_lists.specs.Courses.{no_action}
 use Rattle.sccs_soak.specs.Dropping.{dropping_keeps}
 use Rattle.sccs_top.specs.Runs.{Caller, action_of, admin_there, has_heading, hushed, single_of, val_words_of}
 use Rattle.sccs_replays.specs.PastRuns.{HasVersions, versions_after_command, versions_after_step, versions_after_steps}

@@ -7,19 +7,19 @@ use Rattle.sccs_base.specs.Login.{IsLogin}
 use Rattle.sccs_base.specs.Name.{IsSfile}
 use Rattle.sccs_disk.specs.Files.{Folder, View, view_in}
 use Rattle.sccs_sid.specs.Moment.{IsMoment}
-use Rattle.sccs_files.specs.StepFiles.{Files, moved, moved_in}
-use Rattle.sccs_files.proofs.Folders.{moved_view}
+use Rattle.sccs_name_files.specs.StepFiles.{Files, moved, moved_in}
+use Rattle.sccs_name_files.proofs.Folders.{moved_view}
 use Rattle.sccs_intents.specs.Intents.{entries_in, fate_in, intent_file}
 use Rattle.sccs_intents.specs.declared.intents.Entry.{Entry}
-use Rattle.sccs_moments.specs.Recovery.{fate_at, is_kept}
-use Rattle.sccs_moments.proofs.FileNames.{intent_and_sfile}
+use Rattle.sccs_crash_points.specs.Recovery.{fate_at, is_kept}
+use Rattle.sccs_crash_points.proofs.FileNames.{intent_and_sfile}
 use Rattle.sccs_words.specs.declared.commands.Command.{Command}
 use Rattle.sccs_words.specs.declared.commands.Command.TheVariants as c
 use Rattle.sccs_words.specs.declared.commands.Operands.{Operands}
 use Rattle.sccs_steps.specs.StepLists.{NamedStep, all_moved_in, folder_after, step_in}
 use Rattle.sccs_steps.specs.Unlocked.{ArePlain}
 use Rattle.sccs_delta.specs.Replays.{Texts}
-use Rattle.sccs_finishing.specs.FinishStep.{finished_files, finishing_step, intent_taken, name_moves}
+use Rattle.sccs_recovery.specs.FinishStep.{finished_files, finishing_step, intent_taken, name_moves}
 use Rattle.sccs_top.specs.Runs.{Caller, action_of, group_use}
 use Rattle.sccs_top.specs.declared.commands.GroupUse.TheVariants as uses
 use Rattle.sccs_replays.specs.PastRuns.{HasVersions, versions_after_steps}

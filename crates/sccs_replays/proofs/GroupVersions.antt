@@ -12,26 +12,26 @@ use Rattle.sccs_sid.specs.Refusal.{refusal_line}
 use Rattle.sccs_sid.specs.declared.refusals.Refusal.TheVariants.{TooLong, BadName, GroupPending}
 use Rattle.sccs_words.specs.declared.commands.Command.{Command}
 use Rattle.sccs_words.specs.declared.commands.Command.TheVariants as c
-use Rattle.sccs_files.specs.StepFiles.{look, moved_in, moved}
+use Rattle.sccs_name_files.specs.StepFiles.{look, moved_in, moved}
 use Rattle.sccs_steps.specs.StepLists.{NamedStep, folder_after, Move, all_moved_in, moves_of, named_step, step_in}
 use Rattle.sccs_delta.specs.DeltaStep.{delta_change}
 use Rattle.sccs_delta.specs.Replays.{Texts}
-use Rattle.sccs_courses.specs.Courses.{Courses, said, saying, steps_along}
+use Rattle.sccs_step_lists.specs.Courses.{Courses, said, saying, steps_along}
 use Rattle.sccs_top.specs.Runs.{Caller, action_of, caller}
 use Rattle.sccs_replays.specs.PastRuns.{HasVersions, versions_after_step, versions_after_steps, deltas_in, deltas_read, group_entries, entries_read, versions_after_deltas, versions_with}
 use Rattle.sccs_replays.proofs.MadeSteps.{IsStepOf}
 use Rattle.sccs_replays.proofs.MeantValues.{HasMeantValues, group_values}
 use Rattle.sccs_sid.specs.Reading.{is_empty}
 use Rattle.sccs_sid.specs.declared.refusals.Refusal.{Refusal}
-use Rattle.sccs_files.proofs.Folders.{moved_view}
+use Rattle.sccs_name_files.proofs.Folders.{moved_view}
 use Rattle.sccs_intents.specs.Intents.{intent_file}
-use Rattle.sccs_moments.specs.Recovery.{is_kept}
+use Rattle.sccs_crash_points.specs.Recovery.{is_kept}
 use Rattle.sccs_steps.specs.StepEffects.{Outcome, StepEffect}
-use Rattle.sccs_transactions.specs.Changes.{locking_step}
-use Rattle.sccs_group_words.specs.GroupText.{group_of}
-use Rattle.sccs_group_words.specs.declared.entries.GroupEntry.{GroupEntry}
-use Rattle.sccs_group_step.specs.GroupStep.{EntrySteps, entry_outcome, entry_steps, go_on, group_step, joined, joint_step, names_of, put_first, refused_step, unmoved}
-use Rattle.sccs_group_runs.specs.GroupCourses.{bad_line, group_course, read_course}
+use Rattle.sccs_changes.specs.Changes.{locking_step}
+use Rattle.sccs_group_command.specs.GroupText.{group_of}
+use Rattle.sccs_group_command.specs.declared.entries.GroupEntry.{GroupEntry}
+use Rattle.sccs_group_command.specs.GroupStep.{EntrySteps, entry_outcome, entry_steps, go_on, group_step, joined, joint_step, names_of, put_first, refused_step, unmoved}
+use Rattle.sccs_group_command.specs.GroupCourses.{bad_line, group_course, read_course}
 use Rattle.sccs_top.specs.declared.commands.GroupUse.TheVariants as uses
 use Rattle.sccs_replays.proofs.CommandSteps.{step_goes}
 

@@ -10,15 +10,15 @@ use Rattle.sccs_sid.specs.declared.moments.Stamp.{Stamp}
 use Rattle.sccs_sid.specs.declared.refusals.Refusal.{Refusal}
 use Rattle.sccs_sid.specs.declared.refusals.Refusal.TheVariants.{Locked}
 use Rattle.sccs_words.specs.declared.commands.GetWords.{GetWords}
-use Rattle.sccs_files.specs.StepFiles.{Files, l_file, moved_in}
-use Rattle.sccs_files.proofs.Folders.{moved_view}
-use Rattle.sccs_moments.specs.Recovery.{is_kept}
-use Rattle.sccs_moments.proofs.FileNames.{from_sfile, kept_s}
-use Rattle.sccs_pending.specs.NewEntries.{Decided, entries_outcome, kept_g, with_entries}
-use Rattle.sccs_pending.specs.Pending.{Found, pending_of}
+use Rattle.sccs_name_files.specs.StepFiles.{Files, l_file, moved_in}
+use Rattle.sccs_name_files.proofs.Folders.{moved_view}
+use Rattle.sccs_crash_points.specs.Recovery.{is_kept}
+use Rattle.sccs_crash_points.proofs.FileNames.{from_sfile, kept_s}
+use Rattle.sccs_changes.specs.NewEntries.{Decided, entries_outcome, kept_g, with_entries}
+use Rattle.sccs_changes.specs.Pending.{Found, pending_of}
 use Rattle.sccs_steps.specs.Actions.{Step}
 use Rattle.sccs_steps.specs.StepEffects.{Outcome, StepEffect, check}
-use Rattle.sccs_transactions.specs.Changes.{locking_step}
+use Rattle.sccs_changes.specs.Changes.{locking_step}
 use Rattle.sccs_edit.specs.SactStep.{found_edits, sact_step, shows_entries}
 use Rattle.sccs_get.specs.EditStep.{edit_outcome, edit_effect, reserved_of}
 use Rattle.sccs_get.specs.SummaryStep.{summary_got, summed, with_l, writes_l}

@@ -5,7 +5,7 @@ use Rattle.sccs_history.specs.Applied.{live_serials, newest}
 use Rattle.sccs_history.specs.History.{same_sid}
 use Rattle.sccs_history.specs.Numbers.{has}
 use Rattle.sccs_grammar.specs.File.{Parsed}
-use Rattle.sccs_edits.specs.Scripts.{apply}
+use Rattle.sccs_script_laws.specs.Scripts.{apply}
 use Rattle.sccs_sets.proofs.Living.{newest_live}
 use Rattle.sccs_steps.specs.StepEffects.{StepEffect}
 use Rattle.sccs_delta.specs.NewVersions.{MakesVersions, base_text, version_text}

@@ -2,7 +2,7 @@
 use Rattle.std.proofs.Common.{◌≡◌, ◌⊎◌, ℕ, zero, suc, Bool, true, false, List, [], ◌∷◌, ◌++◌, map, take, None, Result, Ok, Err, inl, inr, refl, sym, ap, ◌∙◌}
 use Rattle.sccs_disk.specs.Files.{Folder, view_in}
 use Rattle.sccs_sid.specs.declared.refusals.Refusal.{Refusal}
-use Rattle.sccs_files.specs.StepFiles.{look, moved_in}
+use Rattle.sccs_name_files.specs.StepFiles.{look, moved_in}
 use Rattle.sccs_operands.specs.FolderNames.{sfiles_in}
 use Rattle.sccs_steps.specs.Actions.{Action, input_steps, kind_of, kind_steps, names_given, operand_steps, step_at, steps_at}
 use Rattle.sccs_steps.specs.StepEffects.{Outcome, effect_of}

@@ -27,9 +27,9 @@ use Rattle.sccs_words.specs.declared.scanning.Use.{Use}
 use Rattle.sccs_words.specs.declared.tables.Utility.{Utility}
 use Rattle.sccs_words.specs.declared.tables.Utility.TheVariants as u
 use Rattle.sccs_words.proofs.MrWordLaws.{words_found}
-use Rattle.sccs_entries.specs.Entries.{◌>>=◌, has_own, input_in, words_in}
-use Rattle.sccs_group_words.specs.GroupText.{Found, entry_at, entry_by, entry_with, fits_behind, go_on, group_from, group_of, head_of, some_of}
-use Rattle.sccs_group_words.specs.declared.entries.GroupEntry.{GroupEntry}
+use Rattle.sccs_batch.specs.Entries.{◌>>=◌, has_own, input_in, words_in}
+use Rattle.sccs_group_command.specs.GroupText.{Found, entry_at, entry_by, entry_with, fits_behind, go_on, group_from, group_of, head_of, some_of}
+use Rattle.sccs_group_command.specs.declared.entries.GroupEntry.{GroupEntry}
 use Rattle.std.specs.List.{AllByRecursion}
 
 abbrev pub HasMeantValues : Command → Type 0

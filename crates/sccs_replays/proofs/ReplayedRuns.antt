@@ -16,19 +16,19 @@ use Rattle.sccs_steps.proofs.Turns.{front_all, rest_all}
 use Rattle.sccs_words.specs.declared.commands.Command.{Command}
 use Rattle.sccs_words.specs.declared.commands.Usage.{Usage}
 use Rattle.sccs_words.specs.declared.commands.ValWords.{ValWords}
-use Rattle.sccs_files.specs.StepFiles.{Files, look, moved_in}
+use Rattle.sccs_name_files.specs.StepFiles.{Files, look, moved_in}
 use Rattle.sccs_steps.specs.Actions.{Action, KeepsFiles}
 use Rattle.sccs_steps.specs.StepLists.{NamedStep, folder_after, step_in}
 use Rattle.sccs_steps.specs.Unlocked.{ArePlain}
 use Rattle.sccs_delta.specs.Replays.{Texts}
 use Rattle.sccs_val.proofs.RunLaws.{val_leaves}
-use Rattle.sccs_courses.specs.Courses.{Courses, follow, if_fine, no_action, one_by_one, portion, said, saying, steps_along, steps_in, while_fine}
-use Rattle.sccs_courses.proofs.Portions.{steps_more}
+use Rattle.sccs_step_lists.specs.Courses.{Courses, follow, if_fine, no_action, one_by_one, portion, said, saying, steps_along, steps_in, while_fine}
+use Rattle.sccs_step_lists.proofs.Portions.{steps_more}
 use Rattle.sccs_batch.specs.BatchLines.{bad_entry_line, status_line}
 use Rattle.sccs_batch.specs.BatchText.{batch_of}
 use Rattle.sccs_batch.specs.Batches.{batch_course, batch_end, entries_course, entry_course}
 use Rattle.sccs_batch.specs.declared.entries.Entry.{Entry}
-use Rattle.sccs_front.specs.Front.{front_of}
+use Rattle.sccs_edit.specs.Front.{front_of}
 use Rattle.sccs_top.specs.Asked.{as_typed, asked_by, one_asked, two_asked, typed_place}
 use Rattle.sccs_top.specs.Messages.{usage_line}
 use Rattle.sccs_soak.specs.Commands.{soak_commands, soak_file}
@@ -46,7 +46,7 @@ use Rattle.sccs_top.specs.declared.commands.GroupUse.TheVariants as uses
 use Rattle.sccs_replays.proofs.CommandSteps.{steps_go}
 use Rattle.sccs_replays.proofs.GroupVersions.{group_goes}
 use Rattle.sccs_replays.proofs.FinishedGroups.{finishing_goes, finishing_stays}
-use Rattle.sccs_finishing.specs.FinishStep.{finishing_step}
+use Rattle.sccs_recovery.specs.FinishStep.{finishing_step}
 
 -- ---- usage faults
 

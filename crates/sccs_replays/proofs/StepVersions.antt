@@ -19,12 +19,12 @@ use Rattle.sccs_history.specs.Numbers.{has}
 use Rattle.sccs_history.specs.declared.headers.Header.{Header}
 use Rattle.sccs_records.specs.NewDeltas.{last_of, with_deltas}
 use Rattle.sccs_sets.proofs.Living.{newest_live}
-use Rattle.sccs_pending.specs.Pending.{Found, pending_of}
+use Rattle.sccs_changes.specs.Pending.{Found, pending_of}
 use Rattle.sccs_delta.specs.NullDeltas.{null_deltas, skipped_by}
 use Rattle.sccs_copies.proofs.FileReads.{file_keeps}
-use Rattle.sccs_removal.specs.Removed.{removed_records}
-use Rattle.sccs_removal.proofs.KeptVersions.{left_live}
-use Rattle.sccs_removal.proofs.Roots.{first_rooted, last_live, rooted_in_turn}
+use Rattle.sccs_rmdel.specs.Removed.{removed_records}
+use Rattle.sccs_rmdel.proofs.KeptVersions.{left_live}
+use Rattle.sccs_rmdel.proofs.Roots.{first_rooted, last_live, rooted_in_turn}
 use Rattle.sccs_rmdel.specs.NewVersions.{RemovesDelta}
 use Rattle.sccs_rmdel.specs.RmdelStep.{rmdel_outcome}
 use Rattle.sccs_rmdel.proofs.RemovedVersions.{removal_made}
@@ -36,23 +36,23 @@ use Rattle.sccs_words.specs.declared.commands.Command.TheVariants as c
 use Rattle.sccs_words.specs.declared.commands.DeltaWords.{DeltaWords}
 use Rattle.sccs_words.specs.declared.commands.GetWords.{GetWords}
 use Rattle.sccs_words.specs.declared.commands.ValWords.{ValWords}
-use Rattle.sccs_files.specs.StepFiles.{Files, l_file, look}
+use Rattle.sccs_name_files.specs.StepFiles.{Files, l_file, look}
 use Rattle.sccs_steps.specs.Actions.{Action, KeepsFiles, Step}
 use Rattle.sccs_steps.specs.StepEffects.{Outcome, StepEffect, check}
-use Rattle.sccs_transactions.specs.Changes.{locking, locking_step}
+use Rattle.sccs_changes.specs.Changes.{locking, locking_step}
 use Rattle.sccs_admin.specs.AdminStep.{admin_change, admin_outcome, found_texts, named_in}
 use Rattle.sccs_admin.specs.Texts.{named_by}
 use Rattle.sccs_alter.specs.AlterStep.{alter_change, alter_outcome}
 use Rattle.sccs_alter.specs.CheckStep.{check_action, check_keeps}
-use Rattle.sccs_cdc.specs.CdcStep.{cdc_outcome}
+use Rattle.sccs_alter.specs.CdcStep.{cdc_outcome}
 use Rattle.sccs_delta.specs.DeltaStep.{delta_outcome, sizes_checked}
 use Rattle.sccs_delta.specs.NewVersions.{MakesVersions, delta_on, version_text}
 use Rattle.sccs_delta.specs.Replays.{CallRead, DeltaCall, Texts, call_read, files_at}
 use Rattle.sccs_delta.proofs.AddedVersions.{versions_made}
-use Rattle.sccs_pending.proofs.Chains.{passed}
+use Rattle.sccs_changes.proofs.Chains.{passed}
 use Rattle.sccs_edit.specs.UngetStep.{unget_decides}
-use Rattle.sccs_front.specs.Keeps.{pending_keeps}
-use Rattle.sccs_front.specs.PendingStep.{pending_action}
+use Rattle.sccs_edit.specs.Keeps.{pending_keeps}
+use Rattle.sccs_edit.specs.PendingStep.{pending_action}
 use Rattle.sccs_get.specs.EditStep.{edit_change, edit_outcome}
 use Rattle.sccs_get.specs.VersionStep.{get_action}
 use Rattle.sccs_prs.specs.Keeps.{prs_keeps}

@@ -14,13 +14,13 @@ use Rattle.sccs_history.specs.Applied.{live_serials}
 use Rattle.sccs_history.specs.History.{is_rooted}
 use Rattle.sccs_history.specs.Numbers.{has}
 use Rattle.sccs_grammar.specs.File.{IsSFile, Parsed}
-use Rattle.sccs_files.specs.StepFiles.{l_file}
+use Rattle.sccs_name_files.specs.StepFiles.{l_file}
 use Rattle.sccs_intents.specs.Intents as intents
 use Rattle.sccs_intents.specs.declared.intents.Entry as intended
-use Rattle.sccs_moments.specs.Recovery.{fate_at, is_kept}
+use Rattle.sccs_crash_points.specs.Recovery.{fate_at, is_kept}
 use Rattle.sccs_steps.specs.StepLists.{NamedStep, folder_after, step_in}
 use Rattle.sccs_steps.specs.Unlocked.{ArePlain}
-use Rattle.sccs_courses.specs.Courses.{steps_along}
+use Rattle.sccs_step_lists.specs.Courses.{steps_along}
 use Rattle.sccs_batch.specs.BatchText.{batch_of}
 use Rattle.sccs_batch.specs.declared.entries.Entry.{Entry}
 use Rattle.sccs_words.specs.Meaning.{meaning}
@@ -36,11 +36,11 @@ use Rattle.sccs_rcs.specs.ImportStep.{found_rcs, rcs_file}
 use Rattle.sccs_trunks.specs.TrunkHistories.{text_behind}
 use Rattle.sccs_trunks.specs.declared.revisions.Rcs.{Rcs}
 use Rattle.sccs_soak.specs.Commands.{soak_commands}
-use Rattle.sccs_front.specs.Front.{front_of}
+use Rattle.sccs_edit.specs.Front.{front_of}
 use Rattle.sccs_top.specs.Asked.{asked_of}
-use Rattle.sccs_group_words.specs.GroupText.{group_of}
-use Rattle.sccs_group_words.specs.declared.entries.GroupEntry.{GroupEntry}
-use Rattle.sccs_group_step.specs.GroupStep.{EntrySteps, entry_steps}
+use Rattle.sccs_group_command.specs.GroupText.{group_of}
+use Rattle.sccs_group_command.specs.declared.entries.GroupEntry.{GroupEntry}
+use Rattle.sccs_group_command.specs.GroupStep.{EntrySteps, entry_steps}
 use Rattle.sccs_top.specs.Runs.{Caller, action_of, caller, caller_by, command_steps, course_with, entry_command, freed_at, freeing, group_use, list_in, meant_course, run_steps}
 use Rattle.sccs_top.specs.declared.commands.GroupUse.{GroupUse}
 use Rattle.sccs_top.specs.declared.commands.GroupUse.TheVariants as uses

@@ -14,9 +14,9 @@ use Rattle.sccs_history.specs.declared.headers.Record.{Record}
 use Rattle.sccs_history.proofs.Falling.{has_front, has_front_self}
 use Rattle.sccs_pfile.specs.declared.entries.Edit.{Edit}
 use Rattle.sccs_steps.specs.StepEffects.{check, there}
-use Rattle.sccs_pending.proofs.Chains.{passed}
-use Rattle.sccs_removal.specs.Leaves.{first_made, has_later, is_base, is_edited, is_leaf, is_owner, live_delta}
-use Rattle.sccs_removal.proofs.DroppedItems.{by_test}
+use Rattle.sccs_changes.proofs.Chains.{passed}
+use Rattle.sccs_rmdel.specs.Leaves.{first_made, has_later, is_base, is_edited, is_leaf, is_owner, live_delta}
+use Rattle.sccs_rmdel.proofs.DroppedItems.{by_test}
 use Rattle.sccs_rmdel.specs.RmdelStep.{removable}
 
 check_ok : (b : Bool) (refusal : Refusal) (t : Bool) → check b refusal ≡ Ok t → b ≡ true

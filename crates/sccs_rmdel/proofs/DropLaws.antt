@@ -9,8 +9,8 @@ use Rattle.sccs_history.specs.Removal.{dropped_behind}
 use Rattle.sccs_history.specs.declared.headers.Item.{Item}
 use Rattle.sccs_history.specs.declared.headers.Item.TheVariants.{Text, Insert, Delete, End}
 use Rattle.sccs_body.specs.ItemsRead.{texts_behind}
-use Rattle.sccs_weave.specs.Regions.{OpensRegions}
-use Rattle.sccs_weave.specs.declared.regions.Region.{Region}
+use Rattle.sccs_versions.specs.Regions.{OpensRegions}
+use Rattle.sccs_versions.specs.declared.regions.Region.{Region}
 use Rattle.sccs_writers.specs.Puts.{PutsText, Writer}
 use Rattle.sccs_writers.specs.Spelled.{spelled}
 use Rattle.sccs_copies.specs.Filters.{Finishes, PassesTexts, TakesItem}

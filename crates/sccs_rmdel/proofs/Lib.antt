@@ -1,8 +1,16 @@
 pub mod CheckLaws
 pub mod DropLaws
+pub mod DroppedItems
+pub mod DroppedSets
+pub mod Edits
+pub mod FirstMade
+pub mod KeptVersions
 pub mod PendingReads
+pub mod Places
 pub mod PrepareLaws
 pub mod RemovalReads
+pub mod RemovedTables
 pub mod RemovedVersions
+pub mod Roots
 pub mod StopLaws
 pub mod WriteLaws

@@ -1,10 +1,10 @@
 -- What was read of both files of a name.
 use Rattle.std.proofs.Common.{◌≡◌, ℕ, List, Option, None, Some, Ok}
 use Rattle.sccs_disk.specs.Files.{Content}
-use Rattle.sccs_pending.specs.Pending.{bytes_at, AnswersPending}
+use Rattle.sccs_changes.specs.Pending.{bytes_at, AnswersPending}
 use Rattle.sccs_history.specs.declared.headers.Item.{Item}
-use Rattle.sccs_pending.specs.declared.pending.Pending.{Pending}
-use Rattle.sccs_pending.proofs.StopLaws.{pending_answer}
+use Rattle.sccs_changes.specs.declared.pending.Pending.{Pending}
+use Rattle.sccs_changes.proofs.StopLaws.{pending_answer}
 use Rattle.sccs_body.proofs.FileLaws.{file_items}
 use Rattle.sccs_body.specs.BodyFile.{items_of}
 use Rattle.sccs_body.specs.ToCome.{IsFrontFor}

@@ -14,7 +14,7 @@ use Rattle.sccs_sid.specs.declared.sids.Sid.{Sid}
 use Rattle.sccs_sid.specs.declared.refusals.Refusal.{Refusal}
 use Rattle.sccs_sid.specs.declared.refusals.StepFault.{StepFault}
 use Rattle.sccs_sid.specs.declared.refusals.StepFault.TheVariants.{Refused, Memory, ReadFault, WriteFault, DiskFault}
-use Rattle.sccs_files.specs.StepFiles.{Files, Moves, is_working, l_file}
+use Rattle.sccs_name_files.specs.StepFiles.{Files, Moves, is_working, l_file}
 use Rattle.sccs_history.specs.Removal.{dropped}
 use Rattle.sccs_history.specs.declared.headers.Header.{Header}
 use Rattle.sccs_history.specs.declared.headers.Item.{Item}
@@ -31,19 +31,19 @@ use Rattle.sccs_store.specs.Commits.{Needs, chosen, files_after, replaced}
 use Rattle.sccs_store.specs.SealedFiles.{sealed}
 use Rattle.sccs_store.specs.declared.new_files.NewFile.{NewFile}
 use Rattle.sccs_store.proofs.Working.{moves_wider}
-use Rattle.sccs_moments.proofs.FileNames.{from_g, no_x}
-use Rattle.sccs_transactions.specs.Changes.{CouldPrepare, IsQuiet, IsReady, IsUnmade, Prepares, PreparesChange, plan_of, unlocked}
-use Rattle.sccs_transactions.specs.declared.prepared.Prepared.{Prepared}
-use Rattle.sccs_transactions.proofs.Taken.{x_alone}
-use Rattle.sccs_pending.specs.PFiles.{Answers}
-use Rattle.sccs_pending.specs.Pending.{AnswersPending, Found, pending_of}
-use Rattle.sccs_pending.specs.declared.pending.Pending.{Pending}
-use Rattle.sccs_pending.proofs.Chains.{ends}
+use Rattle.sccs_crash_points.proofs.FileNames.{from_g, no_x}
+use Rattle.sccs_changes.specs.Changes.{CouldPrepare, IsQuiet, IsReady, IsUnmade, Prepares, PreparesChange, plan_of, unlocked}
+use Rattle.sccs_changes.specs.declared.prepared.Prepared.{Prepared}
+use Rattle.sccs_changes.proofs.Taken.{x_alone}
+use Rattle.sccs_changes.specs.PFiles.{Answers}
+use Rattle.sccs_changes.specs.Pending.{AnswersPending, Found, pending_of}
+use Rattle.sccs_changes.specs.declared.pending.Pending.{Pending}
+use Rattle.sccs_changes.proofs.Chains.{ends}
 use Rattle.sccs_rmdel.proofs.PendingReads.{body_there}
-use Rattle.sccs_removal.specs.Removed.{without_delta}
+use Rattle.sccs_rmdel.specs.Removed.{without_delta}
 use Rattle.sccs_rmdel.specs.RmdelStep.{removable, removes, rmdel_change, rmdel_checks, rmdel_outcome}
 use Rattle.sccs_rmdel.specs.Writing.{FindsRemovable, IsRewrite, WritesRemoval}
-use Rattle.sccs_pending.proofs.Preparing.{files_at, pending_seen, pending_answers, IsRead, found_of, header_of, ended_as, there_moved}
+use Rattle.sccs_changes.proofs.Preparing.{files_at, pending_seen, pending_answers, IsRead, found_of, header_of, ended_as, there_moved}
 
 -- ---- what follows each check
 

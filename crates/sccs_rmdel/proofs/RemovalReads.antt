@@ -13,9 +13,9 @@ use Rattle.sccs_tokens.specs.Written.{canonical}
 use Rattle.sccs_grammar.specs.File.{IsSFile, Parsed}
 use Rattle.sccs_grammar.proofs.CanonicalLaws.{canonical_again}
 use Rattle.sccs_copies.proofs.FileReads.{HasItems, IsLegal, file_fits, legal_items, legal_lines}
-use Rattle.sccs_removal.specs.Removed.{without_delta}
-use Rattle.sccs_removal.proofs.DroppedItems.{by_test, rules_dropped}
-use Rattle.sccs_removal.proofs.RemovedTables.{header_removed, live_removed, spelled_removed}
+use Rattle.sccs_rmdel.specs.Removed.{without_delta}
+use Rattle.sccs_rmdel.proofs.DroppedItems.{by_test, rules_dropped}
+use Rattle.sccs_rmdel.proofs.RemovedTables.{header_removed, live_removed, spelled_removed}
 
 -- ---- what is so of all items is so of those that are left
 

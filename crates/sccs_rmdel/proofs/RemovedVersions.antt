@@ -7,19 +7,19 @@ use Rattle.sccs_sid.specs.declared.sids.Sid.{Sid}
 use Rattle.sccs_history.specs.Body.{lines_of}
 use Rattle.sccs_history.specs.Removal.{dropped}
 use Rattle.sccs_history.specs.declared.headers.Record.{Record}
-use Rattle.sccs_files.specs.StepFiles.{Files}
+use Rattle.sccs_name_files.specs.StepFiles.{Files}
 use Rattle.sccs_steps.specs.StepEffects.{Outcome, StepEffect}
-use Rattle.sccs_pending.specs.Pending.{Found, pending_of}
-use Rattle.sccs_pending.proofs.StopLaws.{pending_file}
-use Rattle.sccs_pending.proofs.Chains.{passed}
+use Rattle.sccs_changes.specs.Pending.{Found, pending_of}
+use Rattle.sccs_changes.proofs.StopLaws.{pending_file}
+use Rattle.sccs_changes.proofs.Chains.{passed}
 use Rattle.sccs_copies.proofs.FileReads.{file_keeps}
-use Rattle.sccs_pending.proofs.PendingReads.{pending_entries}
-use Rattle.sccs_pending.proofs.PendingReads.{pending_agrees}
-use Rattle.sccs_removal.specs.Removed.{without_delta}
-use Rattle.sccs_removal.proofs.DroppedItems.{lines_dropped}
-use Rattle.sccs_removal.proofs.Edits.{agreement_kept}
-use Rattle.sccs_removal.proofs.KeptVersions.{versions_kept}
-use Rattle.sccs_removal.proofs.RemovedTables.{live_removed, rooted_removed}
+use Rattle.sccs_changes.proofs.PendingReads.{pending_entries}
+use Rattle.sccs_changes.proofs.PendingReads.{pending_agrees}
+use Rattle.sccs_rmdel.specs.Removed.{without_delta}
+use Rattle.sccs_rmdel.proofs.DroppedItems.{lines_dropped}
+use Rattle.sccs_rmdel.proofs.Edits.{agreement_kept}
+use Rattle.sccs_rmdel.proofs.KeptVersions.{versions_kept}
+use Rattle.sccs_rmdel.proofs.RemovedTables.{live_removed, rooted_removed}
 use Rattle.sccs_rmdel.specs.NewVersions.{RemovesDelta}
 use Rattle.sccs_rmdel.specs.RmdelStep.{removable, removes, rmdel_outcome}
 use Rattle.sccs_rmdel.proofs.CheckLaws.{leaf_is_free, removable_is}

@@ -9,7 +9,7 @@ use Rattle.sccs_disk.proofs.Puts.{put_same}
 use Rattle.sccs_sid.specs.declared.moments.Stamp.{Stamp}
 use Rattle.sccs_sid.specs.declared.sids.Sid.{Sid}
 use Rattle.sccs_sid.specs.declared.refusals.StepFault.{StepFault}
-use Rattle.sccs_files.specs.StepFiles.{Moves}
+use Rattle.sccs_name_files.specs.StepFiles.{Moves}
 use Rattle.sccs_history.specs.History.{IsHeader, IsSpelled}
 use Rattle.sccs_history.specs.Removal.{dropped}
 use Rattle.sccs_history.specs.declared.headers.Header.{Header}
@@ -27,20 +27,20 @@ use Rattle.sccs_store.specs.Commits.{chosen, files_after, replaced}
 use Rattle.sccs_store.specs.SealedFiles.{sealed}
 use Rattle.sccs_store.specs.Stops.{KeepsEntries, OnChange}
 use Rattle.sccs_store.specs.declared.new_files.NewFile.{NewFile}
-use Rattle.sccs_transactions.specs.Changes.{plan_of}
-use Rattle.sccs_transactions.specs.Stops.{SettlesEntries}
-use Rattle.sccs_transactions.specs.declared.prepared.Prepared.{Prepared}
-use Rattle.sccs_pending.specs.PFiles.{bytes_or_none}
-use Rattle.sccs_pending.specs.declared.pending.Pending.{Pending}
-use Rattle.sccs_pending.proofs.StopLaws.{table_is}
-use Rattle.sccs_pending.proofs.PendingReads.{pending_entries}
-use Rattle.sccs_removal.specs.Removed.{removed_records, without_delta}
-use Rattle.sccs_removal.proofs.Edits.{agreement_kept}
+use Rattle.sccs_changes.specs.Changes.{plan_of}
+use Rattle.sccs_changes.specs.Stops.{SettlesEntries}
+use Rattle.sccs_changes.specs.declared.prepared.Prepared.{Prepared}
+use Rattle.sccs_changes.specs.PFiles.{bytes_or_none}
+use Rattle.sccs_changes.specs.declared.pending.Pending.{Pending}
+use Rattle.sccs_changes.proofs.StopLaws.{table_is}
+use Rattle.sccs_changes.proofs.PendingReads.{pending_entries}
+use Rattle.sccs_rmdel.specs.Removed.{removed_records, without_delta}
+use Rattle.sccs_rmdel.proofs.Edits.{agreement_kept}
 use Rattle.sccs_rmdel.specs.Writing.{FindsRemovable, IsRewrite}
 use Rattle.sccs_rmdel.proofs.CheckLaws.{removable_is}
 use Rattle.sccs_rmdel.proofs.PrepareLaws.{Writes, written}
 use Rattle.sccs_rmdel.proofs.RemovalReads.{removal_reads}
-use Rattle.sccs_pending.proofs.Preparing.{IsRead, was_read, settles_told}
+use Rattle.sccs_changes.proofs.Preparing.{IsRead, was_read, settles_told}
 
 -- a p-file whose entries agree with the new table stays
 entries_stay : (c : Content) (o : Option Content) (records : List Record) (edits : List Edit) → table_of c.bytes ≡ Some records → edits_of (bytes_or_none o) ≡ Ok edits → Agrees records edits → recovered_pfile (Some c) o ≡ o

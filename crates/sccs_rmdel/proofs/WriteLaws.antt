@@ -13,19 +13,19 @@ use Rattle.sccs_history.specs.Applied.{live_serials}
 use Rattle.sccs_history.specs.Removal.{dropped}
 use Rattle.sccs_history.specs.declared.headers.Header.{Header}
 use Rattle.sccs_history.specs.declared.headers.Item.{Item}
-use Rattle.sccs_images.specs.Touches.{Leaves}
+use Rattle.sccs_name_files.specs.Touches.{Leaves}
 use Rattle.sccs_table.specs.declared.fronts.Front.{Front}
 use Rattle.sccs_body.specs.BodyFile.{items_of}
 use Rattle.sccs_body.specs.ToCome.{ToCome}
-use Rattle.sccs_weave.specs.Regions.{OpensRegions}
+use Rattle.sccs_versions.specs.Regions.{OpensRegions}
 use Rattle.sccs_store.specs.Commits.{Becomes}
 use Rattle.sccs_store.specs.SealedFiles.{sealed}
 use Rattle.sccs_store.specs.Stops.{OnReplace}
 use Rattle.sccs_store.specs.declared.new_files.NewFile.{NewFile}
 use Rattle.sccs_store.specs.declared.new_files.NewFile.TheVariants.{Keep, Replace, Remove}
-use Rattle.sccs_transactions.specs.Changes.{plan_of}
-use Rattle.sccs_transactions.specs.Stops.{IsFirmPrepared}
-use Rattle.sccs_transactions.specs.declared.prepared.Prepared.{Prepared}
+use Rattle.sccs_changes.specs.Changes.{plan_of}
+use Rattle.sccs_changes.specs.Stops.{IsFirmPrepared}
+use Rattle.sccs_changes.specs.declared.prepared.Prepared.{Prepared}
 use Rattle.sccs_copies.specs.Copies.{CopyComes, MakesFile}
 use Rattle.sccs_copies.specs.declared.copies.Copying.{Copying}
 use Rattle.sccs_rmdel.specs.Dropping.{dropping}

@@ -4,7 +4,7 @@ use Rattle.sccs_history.specs.Body.{inserter}
 use Rattle.sccs_history.specs.Removal.{dropped_behind}
 use Rattle.sccs_history.specs.declared.headers.Item.{Item}
 use Rattle.sccs_history.specs.declared.headers.Item.TheVariants.{Text, Insert, Delete, End}
-use Rattle.sccs_weave.specs.Regions.{OpensRegions}
+use Rattle.sccs_versions.specs.Regions.{OpensRegions}
 use Rattle.sccs_copies.specs.Filters.{Filter}
 use Rattle.sccs_rmdel.specs.declared.droppers.Dropper.{Dropper}
 

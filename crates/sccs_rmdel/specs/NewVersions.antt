@@ -10,14 +10,14 @@ use Rattle.sccs_history.specs.Numbers.{without}
 use Rattle.sccs_history.specs.Removal.{dropped, dropped_lines}
 use Rattle.sccs_history.specs.declared.headers.Record.{Record}
 use Rattle.sccs_grammar.specs.File.{IsSFile, Parsed}
-use Rattle.sccs_files.specs.StepFiles.{Files}
+use Rattle.sccs_name_files.specs.StepFiles.{Files}
 use Rattle.sccs_pfile.specs.Agreement.{Agrees}
 use Rattle.sccs_pfile.specs.Reading.{IsPFile}
 use Rattle.sccs_pfile.specs.declared.entries.Edit.{Edit}
 use Rattle.sccs_steps.specs.StepEffects.{StepEffect}
 use Rattle.sccs_store.specs.SealedFiles.{sealed}
-use Rattle.sccs_pending.specs.PFiles.{bytes_or_none}
-use Rattle.sccs_removal.specs.Removed.{KeepsVersions, without_delta}
+use Rattle.sccs_changes.specs.PFiles.{bytes_or_none}
+use Rattle.sccs_rmdel.specs.Removed.{KeepsVersions, without_delta}
 use Rattle.sccs_rmdel.specs.RmdelStep.{removable}
 
 -- A delta is taken out of a file: its record says so and the others stay, its lines and control items are gone, the live

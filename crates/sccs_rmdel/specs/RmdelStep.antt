@@ -10,15 +10,15 @@ use Rattle.sccs_flags.specs.Logins.{is_allowed}
 use Rattle.sccs_history.specs.Removal.{dropped}
 use Rattle.sccs_history.specs.declared.headers.Header.{Header}
 use Rattle.sccs_history.specs.declared.headers.Record.{Record}
-use Rattle.sccs_files.specs.StepFiles.{Files}
+use Rattle.sccs_name_files.specs.StepFiles.{Files}
 use Rattle.sccs_pfile.specs.declared.entries.Edit.{Edit}
 use Rattle.sccs_steps.specs.Actions.{Step, quiet_checks}
 use Rattle.sccs_steps.specs.StepEffects.{StepEffect, check, there}
 use Rattle.sccs_store.specs.SealedFiles.{sealed}
-use Rattle.sccs_transactions.specs.Changes.{Changing}
-use Rattle.sccs_pending.specs.Pending.{Found, pending_of}
-use Rattle.sccs_removal.specs.Leaves.{is_edited, is_leaf, is_owner, live_delta}
-use Rattle.sccs_removal.specs.Removed.{without_delta}
+use Rattle.sccs_changes.specs.Changes.{Changing}
+use Rattle.sccs_changes.specs.Pending.{Found, pending_of}
+use Rattle.sccs_rmdel.specs.Leaves.{is_edited, is_leaf, is_owner, live_delta}
+use Rattle.sccs_rmdel.specs.Removed.{without_delta}
 
 -- the numbers of its checks
 abbrev pub rmdel_checks : List ℕ

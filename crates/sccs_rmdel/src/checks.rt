@@ -5,10 +5,10 @@ ghost use Rattle.sccs_steps.specs.Actions.{RefusesWithin};
 ghost use Rattle.sccs_rmdel.specs.RmdelStep.{rmdel_checks};
 ghost use Rattle.sccs_rmdel.specs.Writing.{FindsRemovable};
 
+use crate::leaves::{is_edited, is_leaf, is_owner, live_delta};
 use sccs_flags::is_allowed;
 use sccs_history::Header;
 use sccs_pfile::Edits;
-use sccs_removal::{is_edited, is_leaf, is_owner, live_delta};
 use sccs_sid::{Refusal, Sid, Stamp, StepFault};
 
 #[tactic(auto, unfolding(crate::specs::RmdelStep::removable))]

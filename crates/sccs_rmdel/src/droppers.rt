@@ -2,7 +2,7 @@ ghost use Rattle.std.specs.Prelude.{◌≡◌, ◌==◌, not, List, [], IfOk};
 ghost use Rattle.sccs_disk.specs.Calls.{IsThere};
 ghost use Rattle.sccs_history.specs.Numbers.{front_if};
 ghost use Rattle.sccs_history.specs.declared.headers.Item.{Item};
-ghost use Rattle.sccs_weave.specs.Regions.{OpensRegions};
+ghost use Rattle.sccs_versions.specs.Regions.{OpensRegions};
 ghost use Rattle.sccs_writers.specs.Puts.{PutsText};
 ghost use Rattle.sccs_writers.specs.Spelled.{spelled};
 ghost use Rattle.sccs_rmdel.specs.Dropping.{stays};
@@ -11,7 +11,7 @@ use sccs_copies::BodyFilter;
 use sccs_disk::{Disk, DiskRefusal};
 use sccs_history::Item;
 use sccs_sets::Applied;
-use sccs_weave::Weaver;
+use sccs_versions::Weaver;
 use sccs_writers::ItemWriter;
 
 /// Leaves the items of a delta out of a body: its control items, and the lines that it inserted. It holds

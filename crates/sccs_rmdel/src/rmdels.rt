@@ -1,10 +1,9 @@
 use crate::checks::removable;
 use crate::writing::write_without;
 use sccs_base::{Name, Sink, Source};
+use sccs_changes::{Change, Prepared, read_pending};
 use sccs_disk::Disk;
-use sccs_pending::read_pending;
 use sccs_sid::{Sid, Stamp, StepFault};
-use sccs_transactions::{Change, Prepared};
 use std::alloc::Global;
 
 /// rmdel on a name: the delta of a SID is taken out of the s-file, where it is the newest of its branch and no

@@ -6,7 +6,7 @@ use Rattle.std.specs.Global.{Vec}
 use Rattle.std.proofs.Math.Path.{fun_ext}
 use Rattle.std.proofs.lemmas.Bool.{eqb-true}
 use Rattle.std.proofs.lemmas.List.{at_drop_all}
-use Rattle.sccs_name_sets.specs.NameSets.{HasNames, names_in}
+use Rattle.sccs_base.specs.NameSets.{HasNames, names_in}
 use Rattle.sccs_rules.specs.Users.{without_users}
 
 none_goes : (users : List (List ℕ)) → users ≡ without_users [] users

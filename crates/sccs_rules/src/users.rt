@@ -1,11 +1,12 @@
 ghost use Rattle.std.specs.Prelude.{◌≡◌, [], ◌∷◌, ◌++◌, IfOk, OnOk, fold};
 ghost use Rattle.std.specs.List.{list_any};
-ghost use Rattle.sccs_name_sets.specs.NameSets.{HasNames, names_in};
+ghost use Rattle.sccs_base.specs.NameSets.{HasNames, names_in};
 ghost use Rattle.sccs_sid.specs.SidLists.{begins};
 ghost use Rattle.sccs_rules.specs.Users.{changed_users, has_lf, is_own_line, with_user, without_users};
 
-use sccs_base::{Bytes, LF, Line, Memory, SOH, Text, Words};
-use sccs_name_sets::{NameSet, has_name, insert_name, set_of};
+use sccs_base::{
+    Bytes, LF, Line, Memory, NameSet, SOH, Text, Words, has_name, insert_name, set_of,
+};
 use std::alloc::Global;
 use std::collections::BTreeSet;
 

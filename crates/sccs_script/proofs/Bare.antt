@@ -5,7 +5,7 @@ use Rattle.std.specs.Option.{option_map}
 use Rattle.std.proofs.lemmas.Bool.{ltb-true, ltb-false}
 use Rattle.std.proofs.lemmas.List.{drop_more}
 use Rattle.sccs_sid.specs.SidLists.{begins}
-use Rattle.sccs_edits.specs.declared.scripts.Order.{Order}
+use Rattle.sccs_script_laws.specs.declared.scripts.Order.{Order}
 use Rattle.sccs_script.specs.Checks.{bad_line, bare_soh, or_bad}
 
 abbrev pub numbered : ℕ → Option ℕ → Option ℕ

@@ -2,11 +2,11 @@
 use Rattle.std.proofs.Common.{◌≡◌, ℕ, suc, ◌+◌, ◌-◌, ◌≤◌, nat_lt, true, List, [], ◌∷◌, ◌++◌, Ok, length, map, take, drop, refl, sym, subst, ap, ◌∙◌, arith}
 use Rattle.std.specs.List.{AllByRecursion}
 use Rattle.std.proofs.lemmas.List.{drop-drop, drop-map, length-map, map-append, take-map}
-use Rattle.sccs_edits.specs.Scripts.{apply, put_after, step, take_away}
-use Rattle.sccs_edits.specs.declared.scripts.Order.{Order}
-use Rattle.sccs_edits.specs.declared.scripts.OrderKind.{OrderKind}
-use Rattle.sccs_edits.specs.declared.scripts.OrderKind.TheVariants.{Append, Change, Delete}
-use Rattle.sccs_edits.proofs.Texts.{put_text, take_text}
+use Rattle.sccs_script_laws.specs.Scripts.{apply, put_after, step, take_away}
+use Rattle.sccs_script_laws.specs.declared.scripts.Order.{Order}
+use Rattle.sccs_script_laws.specs.declared.scripts.OrderKind.{OrderKind}
+use Rattle.sccs_script_laws.specs.declared.scripts.OrderKind.TheVariants.{Append, Change, Delete}
+use Rattle.sccs_script_laws.proofs.Texts.{put_text, take_text}
 use Rattle.sccs_script.specs.Checks.{length_after, ranged}
 use Rattle.sccs_script.specs.Commands.{FitsIn}
 use Rattle.sccs_script.specs.Drafts.{anchor, draft_base, content, cut_entries, edit, edited_draft, DraftLine, first_line, Fresh, Kept, NamesLines, put_entries, span}

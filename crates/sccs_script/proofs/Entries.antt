@@ -3,14 +3,14 @@ use Rattle.std.proofs.Common.{◌≡◌, ℕ, zero, suc, ◌+◌, ◌-◌, ◌<�
 use Rattle.std.specs.List.{AllByRecursion}
 use Rattle.std.proofs.lemmas.Bool.{eqb-true, ne_eqb, ltb-false, ltb-true}
 use Rattle.std.proofs.lemmas.List.{length-append, length-drop, length-take-le}
-use Rattle.sccs_edits.specs.Plans.{added_from, Base, Cell, cells_of, deleted_from, is_there, New, plan, struck, with_added}
-use Rattle.sccs_edits.specs.Scripts.{put_after, run, step, take_away}
-use Rattle.sccs_edits.specs.declared.scripts.Added.{Added}
-use Rattle.sccs_edits.specs.declared.scripts.Order.{Order}
-use Rattle.sccs_edits.specs.declared.scripts.OrderKind.{OrderKind}
-use Rattle.sccs_edits.specs.declared.scripts.OrderKind.TheVariants.{Append, Change, Delete}
-use Rattle.sccs_edits.specs.declared.scripts.Plan.{Plan}
-use Rattle.sccs_edits.proofs.Runs.{flat, kept-run}
+use Rattle.sccs_script_laws.specs.Plans.{added_from, Base, Cell, cells_of, deleted_from, is_there, New, plan, struck, with_added}
+use Rattle.sccs_script_laws.specs.Scripts.{put_after, run, step, take_away}
+use Rattle.sccs_script_laws.specs.declared.scripts.Added.{Added}
+use Rattle.sccs_script_laws.specs.declared.scripts.Order.{Order}
+use Rattle.sccs_script_laws.specs.declared.scripts.OrderKind.{OrderKind}
+use Rattle.sccs_script_laws.specs.declared.scripts.OrderKind.TheVariants.{Append, Change, Delete}
+use Rattle.sccs_script_laws.specs.declared.scripts.Plan.{Plan}
+use Rattle.sccs_script_laws.proofs.Runs.{flat, kept-run}
 use Rattle.sccs_script.specs.Checks.{length_after, length_by, ranged}
 use Rattle.sccs_script.specs.Commands.{FitsIn}
 use Rattle.sccs_script.specs.Drafts.{anchor, anchor_from, draft_base, cut_entries, edit, edited_draft, DraftLine, Fresh, grouped, Kept, missing, NamesLines, draft_plan, put_entries, span}

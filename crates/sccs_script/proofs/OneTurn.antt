@@ -2,7 +2,7 @@
 use Rattle.std.proofs.Common.{◌≡◌, ℕ, ◌+◌, ◌<◌, ◌≤◌, List, [], ◌∷◌, ◌++◌, Option, Some, Result, length, drop, get_or, slice_get, sym, ap, ◌∙◌, arith, add-one}
 use Rattle.std.proofs.lemmas.List.{at_drop_all, drop_more}
 use Rattle.std.proofs.lemmas.Option.{slice_get-get_or}
-use Rattle.sccs_edits.specs.declared.scripts.Order.{Order}
+use Rattle.sccs_script_laws.specs.declared.scripts.Order.{Order}
 use Rattle.std.specs.List.{AllByRecursion}
 use Rattle.sccs_script.specs.Commands.{at_end, FitsIn, open_in, orders_from, turn_at, unless_bad, whole_in}
 use Rattle.sccs_script.specs.declared.faults.ScriptFault.{ScriptFault}

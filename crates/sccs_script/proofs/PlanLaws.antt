@@ -1,11 +1,11 @@
 -- Plans and texts by the pieces that stand at the end.
 use Rattle.std.proofs.Common.{◌≡◌, ℕ, zero, suc, ◌+◌, ◌-◌, ◌<◌, ◌≤◌, List, [], ◌∷◌, ◌++◌, Some, Result, Ok, Err, length, map, take, drop, slice_get, refl, sym, subst, ap, ◌∙◌, arith, append_assoc}
 use Rattle.std.specs.List.{AllByRecursion}
-use Rattle.sccs_edits.specs.Plans.{with_added}
-use Rattle.sccs_edits.specs.declared.scripts.Added.{Added}
-use Rattle.sccs_edits.specs.declared.scripts.Order.{Order}
-use Rattle.sccs_edits.specs.declared.scripts.OrderKind.{OrderKind}
-use Rattle.sccs_edits.specs.declared.scripts.OrderKind.TheVariants.{Append, Change, Delete}
+use Rattle.sccs_script_laws.specs.Plans.{with_added}
+use Rattle.sccs_script_laws.specs.declared.scripts.Added.{Added}
+use Rattle.sccs_script_laws.specs.declared.scripts.Order.{Order}
+use Rattle.sccs_script_laws.specs.declared.scripts.OrderKind.{OrderKind}
+use Rattle.sccs_script_laws.specs.declared.scripts.OrderKind.TheVariants.{Append, Change, Delete}
 use Rattle.sccs_script.specs.Checks.{bare_soh, both_ok, checked_script, ranged}
 use Rattle.sccs_script.specs.Drafts.{anchor, anchor_from, draft_base, content, cut_entries, edit, edited_draft, DraftLine, expand, first_line, Fresh, grouped, InBase, IsPiece, IsWithinBase, Kept, missing, put_entries, span, unstacked}
 use Rattle.sccs_script.specs.declared.faults.ScriptFault.{ScriptFault}

@@ -5,7 +5,7 @@ use Rattle.std.proofs.lemmas.List.Elements.{recursion_from_All}
 use Rattle.sccs_base.specs.Cut.{HasNoLf, text_of}
 use Rattle.sccs_base.proofs.Lines.{text_fit}
 use Rattle.sccs_sid.specs.SidLists.{begins}
-use Rattle.sccs_edits.specs.declared.scripts.Order.{Order}
+use Rattle.sccs_script_laws.specs.declared.scripts.Order.{Order}
 use Rattle.sccs_script.specs.Checks.{bad_line, bare_soh, both_ok, checked_script, HaveLines, or_bad, ranged}
 use Rattle.sccs_script.specs.Commands.{begun_order, script_command, is_deletion, is_end_of_text, open_in, opened_order, order_of, orders_from, orders_of, turn_at, unless_bad, whole_in, with_line}
 use Rattle.sccs_script.specs.declared.commands.Command.{Command}

@@ -3,9 +3,9 @@ use Rattle.std.specs.Prelude.{◌≡◌, ℕ, suc, ◌+◌, ◌-◌, nat_lt, fal
 use Rattle.std.specs.List.{AllByRecursion}
 use Rattle.sccs_base.specs.Cut.{HasNoLf}
 use Rattle.sccs_sid.specs.SidLists.{begins}
-use Rattle.sccs_edits.specs.declared.scripts.Order.{Order}
-use Rattle.sccs_edits.specs.declared.scripts.OrderKind.{OrderKind}
-use Rattle.sccs_edits.specs.declared.scripts.OrderKind.TheVariants.{Append, Change, Delete}
+use Rattle.sccs_script_laws.specs.declared.scripts.Order.{Order}
+use Rattle.sccs_script_laws.specs.declared.scripts.OrderKind.{OrderKind}
+use Rattle.sccs_script_laws.specs.declared.scripts.OrderKind.TheVariants.{Append, Change, Delete}
 use Rattle.sccs_script.specs.declared.faults.ScriptFault.{ScriptFault}
 use Rattle.sccs_script.specs.declared.faults.ScriptFault.TheVariants.{BadText, ScriptRange}
 

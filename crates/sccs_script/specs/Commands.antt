@@ -3,9 +3,9 @@ use Rattle.std.specs.Prelude.{◌≡◌, ◌<◌, ◌≤◌, ◌+◌, ℕ, suc, 
 use Rattle.sccs_base.specs.Cut.{text_of}
 use Rattle.sccs_sid.specs.Reading.{is_empty, number_at, only}
 use Rattle.sccs_sid.specs.SidLists.{begins}
-use Rattle.sccs_edits.specs.declared.scripts.Order.{Order}
-use Rattle.sccs_edits.specs.declared.scripts.OrderKind.{OrderKind}
-use Rattle.sccs_edits.specs.declared.scripts.OrderKind.TheVariants.{Append, Change, Delete}
+use Rattle.sccs_script_laws.specs.declared.scripts.Order.{Order}
+use Rattle.sccs_script_laws.specs.declared.scripts.OrderKind.{OrderKind}
+use Rattle.sccs_script_laws.specs.declared.scripts.OrderKind.TheVariants.{Append, Change, Delete}
 use Rattle.sccs_script.specs.declared.commands.Command.{Command}
 use Rattle.sccs_script.specs.declared.faults.ScriptFault.{ScriptFault}
 use Rattle.sccs_script.specs.declared.faults.ScriptFault.TheVariants.{BadScript, Memory}

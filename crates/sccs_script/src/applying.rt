@@ -1,5 +1,5 @@
 ghost use Rattle.std.specs.Prelude.{◌≡◌, ◌<◌, ◌≤◌, ◌++◌, Ok, length, map, IfOk, OnOk};
-ghost use Rattle.sccs_edits.specs.Scripts.{apply};
+ghost use Rattle.sccs_script_laws.specs.Scripts.{apply};
 ghost use Rattle.sccs_script.specs.Checks.{checked_script};
 ghost use Rattle.sccs_script.specs.Drafts.{content, expand, IsPiece, IsWithinBase};
 ghost use Rattle.sccs_script.specs.declared.pieces.Piece.TheVariants as pieces;

@@ -7,7 +7,7 @@ ghost use Rattle.sccs_script.specs.Commands.{FitsIn};
 use crate::faults::ScriptFault;
 use crate::reading::Script;
 use sccs_base::{Line, SOH};
-use sccs_edits::{Order, OrderKind};
+use sccs_script_laws::{Order, OrderKind};
 
 // how many lines are named by an order
 fn named(order: &Order) -> u128

@@ -6,7 +6,7 @@ use crate::copies::copy_line;
 use crate::pieces::Piece;
 use crate::trees::{Halves, Tree, anchor, append, join, split, unload};
 use sccs_base::{Line, Memory, Text};
-use sccs_edits::{Order, OrderKind};
+use sccs_script_laws::{Order, OrderKind};
 use std::alloc::Global;
 
 // a base of so many lines

@@ -1,11 +1,11 @@
 ghost use Rattle.std.specs.Prelude.{◌≡◌, ◌++◌, List, [], ◌∷◌, IfOk};
-ghost use Rattle.sccs_edits.specs.Plans.{with_added};
+ghost use Rattle.sccs_script_laws.specs.Plans.{with_added};
 ghost use Rattle.sccs_script.specs.Drafts.{DraftLine, expand, Fresh, grouped, IsPiece};
 
 use crate::copies::push_line;
 use crate::pieces::Piece;
 use sccs_base::{Line, Memory, Text};
-use sccs_edits::{Added, AddedList};
+use sccs_script_laws::{Added, AddedList};
 use std::alloc::Global;
 
 /// New lines by the base lines that they follow, and those that follow one base line so far.

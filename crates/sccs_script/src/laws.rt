@@ -1,5 +1,5 @@
 ghost use Rattle.std.specs.Prelude.{◌≡◌, ℕ, List, Ok};
-ghost use Rattle.sccs_edits.specs.declared.scripts.Order.{Order};
+ghost use Rattle.sccs_script_laws.specs.declared.scripts.Order.{Order};
 ghost use Rattle.sccs_script.specs.Checks.{checked_script, HaveLines};
 ghost use Rattle.sccs_script.specs.Commands.{orders_of};
 

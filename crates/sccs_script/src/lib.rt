@@ -20,4 +20,4 @@ pub use checks::check;
 pub use faults::ScriptFault;
 pub use plans::plan;
 pub use reading::{Script, read_script};
-pub use sccs_edits::{Added, AddedList, Numbers, Order, OrderKind, Plan};
+pub use sccs_script_laws::{Added, AddedList, Numbers, Order, OrderKind, Plan};

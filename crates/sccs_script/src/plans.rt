@@ -1,6 +1,6 @@
 ghost use Rattle.std.specs.Prelude.{◌≡◌, ◌≤◌, ◌++◌, ◌-◌, suc, ℕ, List, Ok, IfOk, OnOk};
 ghost use Rattle.std.specs.List.{AllByRecursion};
-ghost use Rattle.sccs_edits.specs.Plans.{IsInOrder, plan};
+ghost use Rattle.sccs_script_laws.specs.Plans.{IsInOrder, plan};
 ghost use Rattle.sccs_script.specs.Checks.{checked_script};
 ghost use Rattle.sccs_script.specs.Drafts.{DraftLine, expand, IsPiece, IsWithinBase, missing, draft_plan, span, unstacked};
 
@@ -9,7 +9,7 @@ use crate::groups::Groups;
 use crate::pieces::Piece;
 use crate::reading::Script;
 use sccs_base::Memory;
-use sccs_edits::{Numbers, Plan};
+use sccs_script_laws::{Numbers, Plan};
 use std::alloc::Global;
 
 // the numbers from one up to another, which isn't among them

@@ -6,7 +6,7 @@ ghost use Rattle.sccs_script.specs.declared.faults.ScriptFault.TheVariants.{Memo
 use crate::faults::ScriptFault;
 use crate::turns::{Turn, take_line};
 use sccs_base::{ListOf, Text};
-use sccs_edits::Order;
+use sccs_script_laws::Order;
 use std::alloc::Global;
 use std::marker::Model;
 
@@ -18,7 +18,7 @@ pub struct Script {
 
 impl Model for Script {
     ghost use Rattle.std.specs.Prelude.{List};
-    ghost use Rattle.sccs_edits.specs.declared.scripts.Order.{Order};
+    ghost use Rattle.sccs_script_laws.specs.declared.scripts.Order.{Order};
     ghost use Rattle.std.specs.List.{AllByRecursion};
     ghost use Rattle.std.specs.Prelude.{◌^◌};
     ghost use Rattle.sccs_script.specs.Commands.{FitsIn};

@@ -4,7 +4,7 @@ ghost use Rattle.sccs_script.specs.Commands.{begun_order, script_command, FitsIn
 use crate::commands::{Command, command_of, is_dot};
 use crate::copies::push_copy;
 use sccs_base::{Line, Memory, Text};
-use sccs_edits::{Order, OrderKind};
+use sccs_script_laws::{Order, OrderKind};
 use std::alloc::Global;
 
 /// Where reading goes on behind a line.

@@ -6,7 +6,7 @@ use Rattle.sccs_disk.specs.Files.{Model, View, view_of}
 use Rattle.sccs_disk.specs.Told.{Told, seen}
 use Rattle.sccs_sid.specs.declared.refusals.StepFault.{StepFault}
 use Rattle.sccs_sid.specs.declared.refusals.StepFault.TheVariants.{Refused, Memory, ReadFault, WriteFault, DiskFault}
-use Rattle.sccs_files.specs.StepFiles.{Files, MovesEarly, look, moved}
+use Rattle.sccs_name_files.specs.StepFiles.{Files, MovesEarly, look, moved}
 use Rattle.sccs_steps.specs.FirstFiles.{MovesInOrder}
 use Rattle.sccs_steps.specs.Actions.{Action, IsHeard, SpeaksAs, SpeaksByAs, SteppedAs}
 use Rattle.sccs_steps.specs.Calls.{Meets, Scene, Uncommitted, World, scene, shown, world}

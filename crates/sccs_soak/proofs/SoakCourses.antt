@@ -7,13 +7,13 @@ use Rattle.sccs_steps.specs.Settings.{Setting}
 use Rattle.sccs_steps.specs.StepLists.{NamedStep}
 use Rattle.sccs_steps.specs.declared.faults.Fault.{Fault}
 use Rattle.sccs_steps.specs.declared.faults.Fault.TheVariants as ends
-use Rattle.sccs_courses.specs.Courses.{AllTake, Courses, portions_of, said, saying, steps_along, steps_in}
-use Rattle.sccs_courses.specs.Sayings.{BegunSaid, WholeSaid}
-use Rattle.sccs_courses.specs.WhileFine.{RunsWhileFine}
-use Rattle.sccs_courses.proofs.FineLoops.{fine_cut, fine_ends, fine_on}
-use Rattle.sccs_courses.proofs.JoinedCourses.{course_then}
-use Rattle.sccs_courses.proofs.Portions.{steps_more}
-use Rattle.sccs_courses.proofs.SaidCourses.{never_course, said_course}
+use Rattle.sccs_step_lists.specs.Courses.{AllTake, Courses, portions_of, said, saying, steps_along, steps_in}
+use Rattle.sccs_step_lists.specs.Sayings.{BegunSaid, WholeSaid}
+use Rattle.sccs_step_lists.specs.WhileFine.{RunsWhileFine}
+use Rattle.sccs_step_lists.proofs.FineLoops.{fine_cut, fine_ends, fine_on}
+use Rattle.sccs_step_lists.proofs.JoinedCourses.{course_then}
+use Rattle.sccs_step_lists.proofs.Portions.{steps_more}
+use Rattle.sccs_step_lists.proofs.SaidCourses.{never_course, said_course}
 use Rattle.sccs_batch.specs.Batches.{RunsOwn}
 use Rattle.sccs_batch.specs.declared.entries.Entry.{Entry}
 use Rattle.sccs_soak.specs.Commands.{delta_command, edit_command, rounds_from}

@@ -20,12 +20,12 @@ use Rattle.sccs_table.specs.FrontFile.{IsPlaced}
 use Rattle.sccs_table.specs.ReaderState.{bytes_in, file_in}
 use Rattle.sccs_table.specs.declared.fronts.Front.{Front}
 use Rattle.sccs_body.specs.BodyFile.{AnswersFile}
-use Rattle.sccs_texts.specs.Forms.{LineForm}
+use Rattle.sccs_keywords.specs.Forms.{LineForm}
 use Rattle.sccs_versions.specs.Coming.{shown}
 use Rattle.sccs_printing.specs.Counted.{shown_of}
 use Rattle.sccs_printing.specs.Targets.{Prints as PrintsTo}
 use Rattle.sccs_printing.specs.declared.shown.Shown.{Shown}
-use Rattle.sccs_files.specs.StepFiles.{look}
+use Rattle.sccs_name_files.specs.StepFiles.{look}
 use Rattle.sccs_steps.specs.Actions.{Action, Stepped, hears, kind_of, steps_at}
 use Rattle.sccs_steps.specs.Calls.{scene}
 use Rattle.sccs_steps.specs.Running.{IsInput, RunsOperand}
@@ -35,11 +35,11 @@ use Rattle.sccs_steps.specs.StepEffects.{Outcome}
 use Rattle.sccs_steps.specs.declared.faults.Fault.{Fault}
 use Rattle.sccs_steps.specs.declared.faults.Fault.TheVariants as ends
 use Rattle.sccs_steps.proofs.LoneOperands.{lone_operand}
-use Rattle.sccs_courses.specs.Courses.{AllTake, portions_of, steps_along}
-use Rattle.sccs_courses.specs.Following.{RunsCourse}
-use Rattle.sccs_courses.proofs.OneAction.{steps_course}
-use Rattle.sccs_courses.proofs.QuietCourses.{course_chosen}
-use Rattle.sccs_courses.proofs.SaidCourses.{never_course}
+use Rattle.sccs_step_lists.specs.Courses.{AllTake, portions_of, steps_along}
+use Rattle.sccs_step_lists.specs.Following.{RunsCourse}
+use Rattle.sccs_step_lists.proofs.OneAction.{steps_course}
+use Rattle.sccs_step_lists.proofs.QuietCourses.{course_chosen}
+use Rattle.sccs_step_lists.proofs.SaidCourses.{never_course}
 use Rattle.sccs_prs.specs.Gives.{IsListedFile, PrintsAll}
 use Rattle.sccs_prs.specs.PrsStep.{ShowsOutcome}
 use Rattle.sccs_prs.proofs.LinesLaws.{has_first, has_more}

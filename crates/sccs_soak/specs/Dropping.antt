@@ -2,7 +2,7 @@
 use Rattle.std.specs.Prelude.{◌≡◌, Bool, true, [], map, None, Some, Ok, Err}
 use Rattle.std.proofs.Common.{refl, ap, subst, ◌∙◌}
 use Rattle.sccs_sid.specs.Reading.{is_empty}
-use Rattle.sccs_files.specs.StepFiles.{Files}
+use Rattle.sccs_name_files.specs.StepFiles.{Files}
 use Rattle.sccs_steps.specs.Actions.{Action, KeepsFiles, LeavesLocked}
 use Rattle.sccs_steps.specs.StepEffects.{Outcome, StepEffect}
 

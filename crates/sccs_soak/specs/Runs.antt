@@ -4,9 +4,9 @@ use Rattle.std.specs.List.{AllByRecursion}
 use Rattle.sccs_steps.specs.Settings.{Setting}
 use Rattle.sccs_steps.specs.StepLists.{NamedStep}
 use Rattle.sccs_steps.specs.declared.faults.Fault.{Fault}
-use Rattle.sccs_courses.specs.Courses.{Courses}
-use Rattle.sccs_courses.specs.Following.{RunsCourse}
-use Rattle.sccs_courses.specs.WhileFine.{RunsWhileFine}
+use Rattle.sccs_step_lists.specs.Courses.{Courses}
+use Rattle.sccs_step_lists.specs.Following.{RunsCourse}
+use Rattle.sccs_step_lists.specs.WhileFine.{RunsWhileFine}
 use Rattle.sccs_batch.specs.declared.entries.Entry.{Entry}
 use Rattle.sccs_soak.specs.Commands.{delta_command, edit_command, soak_commands}
 use Rattle.sccs_soak.specs.Soak.{BegunSoak, BegunSoaked, WholeSoak, WholeSoaked, soak_course, soaked, soaking}

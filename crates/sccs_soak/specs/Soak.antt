@@ -3,10 +3,10 @@ use Rattle.std.specs.Prelude.{ℕ, List, [], ◌∷◌}
 use Rattle.sccs_steps.specs.Speaking.{BegunInTurn, InTurn, OperandBegins, OperandMakes}
 use Rattle.sccs_steps.specs.StepLists.{NamedStep}
 use Rattle.sccs_steps.specs.declared.statuses.StatusRule.TheVariants.{Greatest}
-use Rattle.sccs_courses.specs.Courses.{Courses, follow, saying, while_fine}
-use Rattle.sccs_courses.specs.Following.{BegunThen, WholeBy, WholeThen}
-use Rattle.sccs_courses.specs.Sayings.{BegunSaid, WholeSaid}
-use Rattle.sccs_courses.specs.WhileFine.{BegunWhileFine, Following, WholeWhileFine}
+use Rattle.sccs_step_lists.specs.Courses.{Courses, follow, saying, while_fine}
+use Rattle.sccs_step_lists.specs.Following.{BegunThen, WholeBy, WholeThen}
+use Rattle.sccs_step_lists.specs.Sayings.{BegunSaid, WholeSaid}
+use Rattle.sccs_step_lists.specs.WhileFine.{BegunWhileFine, Following, WholeWhileFine}
 use Rattle.sccs_batch.specs.declared.entries.Entry.{Entry}
 use Rattle.sccs_soak.specs.Commands.{soak_commands, soak_file}
 use Rattle.sccs_soak.specs.Summaries.{summary_action, summary_course}

@@ -11,13 +11,13 @@ use Rattle.sccs_grammar.specs.File.{answer, file_of}
 use Rattle.sccs_grammar.specs.FileRefusals.{or_refusal}
 use Rattle.sccs_table.specs.ReaderState.{behind_sum}
 use Rattle.sccs_tokens.specs.Sums.{plain_sum}
-use Rattle.sccs_files.specs.StepFiles.{Files}
+use Rattle.sccs_name_files.specs.StepFiles.{Files}
 use Rattle.sccs_prs.specs.Chosen.{serial_where}
 use Rattle.sccs_prs.specs.PrsStep.{prints, prs_checks}
 use Rattle.sccs_steps.specs.Actions.{Action, quiet_checks}
 use Rattle.sccs_steps.specs.StepEffects.{Outcome}
 use Rattle.sccs_steps.specs.declared.statuses.StatusRule.TheVariants.{Greatest}
-use Rattle.sccs_courses.specs.Courses.{Courses, command_of}
+use Rattle.sccs_step_lists.specs.Courses.{Courses, command_of}
 use Rattle.sccs_soak.specs.Commands.{soak_file}
 
 -- how many deltas live

@@ -1,9 +1,9 @@
 ghost use Rattle.std.specs.Prelude.{◌≡◌, ◌≤◌, IfOk, true};
 ghost use Rattle.sccs_sid.specs.Moment.{IsMoment};
 ghost use Rattle.sccs_steps.specs.Settings.{SameLoans, setting, setting_of};
-ghost use Rattle.sccs_courses.specs.Following.{RunsCourse};
-ghost use Rattle.sccs_courses.specs.QuietSettings.{quiet};
-ghost use Rattle.sccs_courses.specs.WhileFine.{RunsWhileFine};
+ghost use Rattle.sccs_step_lists.specs.Following.{RunsCourse};
+ghost use Rattle.sccs_step_lists.specs.QuietSettings.{quiet};
+ghost use Rattle.sccs_step_lists.specs.WhileFine.{RunsWhileFine};
 ghost use Rattle.sccs_batch.specs.BatchText.{is_single};
 ghost use Rattle.sccs_batch.specs.declared.entries.Entry.{Entry};
 ghost use Rattle.sccs_soak.specs.Commands.{rounds_from};

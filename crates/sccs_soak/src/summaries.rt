@@ -2,7 +2,7 @@ ghost use Rattle.std.specs.Prelude.{◌≡◌, ◌++◌, ℕ, List, Some, IfSome
 ghost use Rattle.sccs_base.specs.Causes.{GivesText};
 ghost use Rattle.sccs_disk.specs.Files.{View};
 ghost use Rattle.sccs_disk.specs.Told.{seen};
-ghost use Rattle.sccs_files.specs.StepFiles.{look};
+ghost use Rattle.sccs_name_files.specs.StepFiles.{look};
 ghost use Rattle.sccs_history.specs.Applied.{live_serials};
 ghost use Rattle.sccs_history.specs.History.{IsTable};
 ghost use Rattle.sccs_history.specs.Numbers.{has};
@@ -22,12 +22,12 @@ use sccs_base::{Failed, Name, NullSink, Sink, Source, give_parts};
 use sccs_body::inspect;
 use sccs_disk::Disk;
 use sccs_history::{Record, Serials};
+use sccs_keywords::LineForm;
 use sccs_printing::print_text;
 use sccs_sets::delta_set;
 use sccs_sid::StepFault;
 use sccs_steps::Utility;
 use sccs_table::Front;
-use sccs_texts::LineForm;
 use std::alloc::Global;
 
 /// What a soak prints when its commands are done: how many rounds it made, how many deltas live in its file, how

@@ -7,13 +7,13 @@ use Rattle.sccs_history.specs.Numbers.{front_if}
 use Rattle.sccs_history.specs.declared.headers.Item.{Item}
 use Rattle.sccs_history.specs.declared.headers.Item.TheVariants.{Text, Insert, End}
 use Rattle.sccs_tokens.specs.Written.{bytes_of, ended, item_line}
-use Rattle.sccs_edits.specs.Places.{block}
+use Rattle.sccs_script_laws.specs.Places.{block}
 use Rattle.sccs_writers.specs.Puts.{PutsText, Writer}
 use Rattle.sccs_writers.specs.Spelled.{spelled}
 use Rattle.sccs_writers.proofs.OneFile.{only_none}
 use Rattle.sccs_writers.proofs.PutLaws.{puts_nothing, text_both, text_cut, on_err}
 use Rattle.sccs_splicer.specs.Splices.{due_lines, SplicesOn, marked_items, may_join, settled_splice, settled_items, Splices, SplicerState}
-use Rattle.sccs_edits.specs.Plans.{added_after}
+use Rattle.sccs_script_laws.specs.Plans.{added_after}
 use Rattle.sccs_splicer.proofs.Spelling.{spelled_block, spelled_both, spelled_one}
 
 -- nothing is put where nothing is wanted

@@ -1,8 +1,8 @@
 -- Lines are counted list by list.
 use Rattle.std.proofs.Common.{◌≡◌, ℕ, ◌+◌, ◌<◌, List, [], ◌∷◌, ◌++◌, length, min, take, get_or, ap, sym, ◌∙◌, arith}
 use Rattle.std.proofs.lemmas.Grind.{take_at_read}
-use Rattle.sccs_edits.specs.Plans.{added_count}
-use Rattle.sccs_edits.specs.declared.scripts.Added.{Added}
+use Rattle.sccs_script_laws.specs.Plans.{added_count}
+use Rattle.sccs_script_laws.specs.declared.scripts.Added.{Added}
 
 counted_both : (xs ys : List Added) → added_count (xs ++ ys) ≡ added_count xs + added_count ys
 counted_both [] ys = omega arith

@@ -4,9 +4,9 @@ use Rattle.std.specs.List.{AllByRecursion, slice_get}
 use Rattle.std.proofs.lemmas.Bool.{ne_eqb, eqb-true, eqb-false}
 use Rattle.std.proofs.lemmas.Option.{slice_get_past}
 use Rattle.sccs_history.specs.Numbers.{has}
-use Rattle.sccs_edits.specs.Plans.{added_after, IsInOrder, places_of, RisesFrom}
-use Rattle.sccs_edits.specs.declared.scripts.Added.{Added}
-use Rattle.sccs_edits.specs.declared.scripts.Plan.{Plan}
+use Rattle.sccs_script_laws.specs.Plans.{added_after, IsInOrder, places_of, RisesFrom}
+use Rattle.sccs_script_laws.specs.declared.scripts.Added.{Added}
+use Rattle.sccs_script_laws.specs.declared.scripts.Plan.{Plan}
 use Rattle.sccs_splicer.specs.PlanPlaces.{is_next, next_place, Stands, StandsInPlan}
 use Rattle.sccs_base.proofs.Bools.{or_none}
 

@@ -4,14 +4,14 @@ use Rattle.std.specs.List.{AllByRecursion}
 use Rattle.sccs_history.specs.Numbers.{front_if, has}
 use Rattle.sccs_history.specs.declared.headers.Item.{Item}
 use Rattle.sccs_history.specs.declared.headers.Item.TheVariants.{Text, Insert, Delete, End}
-use Rattle.sccs_edits.specs.Places.{block, joins, spliced, spread, told_behind}
-use Rattle.sccs_edits.specs.Plans.{added_after, added_from, Base, Cell, cells_of, is_there, New, plan, struck, with_added}
-use Rattle.sccs_edits.specs.Scripts.{put_after, run, step, take_away}
-use Rattle.sccs_edits.specs.declared.scripts.Added.{Added}
-use Rattle.sccs_edits.specs.declared.scripts.Order.{Order}
-use Rattle.sccs_edits.specs.declared.scripts.OrderKind.{OrderKind}
-use Rattle.sccs_edits.specs.declared.scripts.OrderKind.TheVariants as kinds
-use Rattle.sccs_edits.specs.declared.scripts.Plan.{Plan}
+use Rattle.sccs_script_laws.specs.Places.{block, joins, spliced, spread, told_behind}
+use Rattle.sccs_script_laws.specs.Plans.{added_after, added_from, Base, Cell, cells_of, is_there, New, plan, struck, with_added}
+use Rattle.sccs_script_laws.specs.Scripts.{put_after, run, step, take_away}
+use Rattle.sccs_script_laws.specs.declared.scripts.Added.{Added}
+use Rattle.sccs_script_laws.specs.declared.scripts.Order.{Order}
+use Rattle.sccs_script_laws.specs.declared.scripts.OrderKind.{OrderKind}
+use Rattle.sccs_script_laws.specs.declared.scripts.OrderKind.TheVariants as kinds
+use Rattle.sccs_script_laws.specs.declared.scripts.Plan.{Plan}
 
 all_both : {A : Type 0} (P : A → Type 0) (xs ys : List A) → AllByRecursion P xs → AllByRecursion P ys → AllByRecursion P (xs ++ ys)
 all_both P [] ys first more = more

@@ -7,7 +7,7 @@ use Rattle.sccs_history.specs.Body.{line_at, lines_behind}
 use Rattle.sccs_history.specs.Select.{select, shows}
 use Rattle.sccs_history.specs.declared.headers.Item.{Item}
 use Rattle.sccs_history.specs.declared.headers.Item.TheVariants.{Text, Insert, Delete, End}
-use Rattle.sccs_edits.specs.Places.{told_behind}
+use Rattle.sccs_script_laws.specs.Places.{told_behind}
 use Rattle.sccs_writers.specs.Puts.{PutsText, Writer}
 use Rattle.sccs_writers.specs.Spelled.{spelled}
 use Rattle.sccs_writers.proofs.PutLaws.{puts_nothing, text_both, text_cut}

@@ -3,7 +3,7 @@ use Rattle.std.proofs.Common.{◌≡◌, ℕ, List, [], ◌∷◌, ◌++◌, map
 use Rattle.sccs_history.specs.declared.headers.Item.{Item}
 use Rattle.sccs_history.specs.declared.headers.Item.TheVariants.{Text, Insert, End}
 use Rattle.sccs_tokens.specs.Written.{bytes_of, ended, item_line}
-use Rattle.sccs_edits.specs.Places.{block}
+use Rattle.sccs_script_laws.specs.Places.{block}
 use Rattle.sccs_writers.specs.Spelled.{spelled}
 
 pub spelled_both : (xs ys : List Item) → spelled (xs ++ ys) ≡ spelled xs ++ spelled ys

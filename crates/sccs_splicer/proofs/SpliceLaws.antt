@@ -4,9 +4,9 @@ use Rattle.std.proofs.lemmas.Bool.{false≢true}
 use Rattle.sccs_history.specs.Numbers.{front_if, has, is_empty}
 use Rattle.sccs_history.specs.declared.headers.Item.{Item}
 use Rattle.sccs_history.specs.declared.headers.Item.TheVariants.{Text, Insert, Delete, End}
-use Rattle.sccs_edits.specs.Places.{spliced, spread, visible_next}
-use Rattle.sccs_edits.specs.Plans.{added_after}
-use Rattle.sccs_edits.specs.declared.scripts.Plan.{Plan}
+use Rattle.sccs_script_laws.specs.Places.{spliced, spread, visible_next}
+use Rattle.sccs_script_laws.specs.Plans.{added_after}
+use Rattle.sccs_script_laws.specs.declared.scripts.Plan.{Plan}
 use Rattle.sccs_splicer.specs.Splices.{base_count, new_splice, due_lines, SplicesOn, holding, IsControl, splice_goes_on, marked_items, may_join, items_owed, passed, settled_splice, settled_items, SplicerState}
 use Rattle.sccs_splicer.proofs.Calls.{front_both}
 

@@ -1,8 +1,8 @@
 -- A place in a plan whose numbers rise: what stands before it names lines that were passed.
 use Rattle.std.specs.Prelude.{ℕ, suc, ◌<◌, ◌==◌, Bool, false, List, Option, None, Some, take, drop, if◌then◌else◌}
 use Rattle.std.specs.List.{AllByRecursion}
-use Rattle.sccs_edits.specs.Plans.{places_of, RisesFrom}
-use Rattle.sccs_edits.specs.declared.scripts.Plan.{Plan}
+use Rattle.sccs_script_laws.specs.Plans.{places_of, RisesFrom}
+use Rattle.sccs_script_laws.specs.declared.scripts.Plan.{Plan}
 
 -- a plan, and how many lines of the base were passed
 pub record Passed : Type 0 where

@@ -3,9 +3,9 @@ use Rattle.std.specs.Prelude.{◌≡◌, ℕ, suc, ◌+◌, Bool, true, false, n
 use Rattle.sccs_history.specs.Numbers.{front_if, has, is_empty}
 use Rattle.sccs_history.specs.declared.headers.Item.{Item}
 use Rattle.sccs_history.specs.declared.headers.Item.TheVariants.{Text, Insert, Delete, End}
-use Rattle.sccs_edits.specs.Places.{block, spread, visible_next}
-use Rattle.sccs_edits.specs.Plans.{added_after}
-use Rattle.sccs_edits.specs.declared.scripts.Plan.{Plan}
+use Rattle.sccs_script_laws.specs.Places.{block, spread, visible_next}
+use Rattle.sccs_script_laws.specs.Plans.{added_after}
+use Rattle.sccs_script_laws.specs.declared.scripts.Plan.{Plan}
 use Rattle.sccs_disk.specs.Told.{Told}
 use Rattle.sccs_disk.specs.declared.disks.DiskRefusal.{DiskRefusal}
 use Rattle.sccs_writers.specs.Puts.{PutsText, Writer}

@@ -1,6 +1,6 @@
 ghost use Rattle.std.specs.Prelude.{◌≡◌, []};
 ghost use Rattle.sccs_disk.specs.Calls.{IsThere};
-ghost use Rattle.sccs_edits.specs.Places.{block};
+ghost use Rattle.sccs_script_laws.specs.Places.{block};
 ghost use Rattle.sccs_history.specs.Numbers.{front_if};
 ghost use Rattle.sccs_writers.specs.Puts.{PutsText};
 ghost use Rattle.sccs_writers.specs.Spelled.{spelled};

@@ -1,11 +1,11 @@
 ghost use Rattle.std.specs.Prelude.{◌≡◌, ◌+◌, ◌<◌, ◌^◌, suc, IfSome};
 ghost use Rattle.std.specs.List.{slice_get};
 ghost use Rattle.sccs_history.specs.Numbers.{has};
-ghost use Rattle.sccs_edits.specs.Plans.{added_after, IsInOrder, places_of};
+ghost use Rattle.sccs_script_laws.specs.Plans.{added_after, IsInOrder, places_of};
 ghost use Rattle.sccs_splicer.specs.PlanPlaces.{is_next, next_place, Stands};
 
 use sccs_base::Line;
-use sccs_edits::{AddedList, Numbers, Plan};
+use sccs_script_laws::{AddedList, Numbers, Plan};
 use std::marker::Model;
 
 /// A plan while the lines of its base go by. What is looked up is what comes next in it, so a look-up

@@ -1,7 +1,7 @@
 ghost use Rattle.std.specs.Prelude.{◌≡◌, ◌+◌, ◌-◌, ◌<◌, ◌≤◌, ◌^◌, Bool, true, false, [], ◌∷◌, length, min, OnOk, IsErrOf};
 ghost use Rattle.sccs_base.specs.Stream.{last_count};
 ghost use Rattle.sccs_disk.specs.Calls.{IsThere};
-ghost use Rattle.sccs_edits.specs.Plans.{added_count, IsInOrder};
+ghost use Rattle.sccs_script_laws.specs.Plans.{added_count, IsInOrder};
 ghost use Rattle.sccs_history.specs.declared.headers.Item.TheVariants as items;
 ghost use Rattle.sccs_writers.specs.Puts.{PutsText};
 ghost use Rattle.sccs_writers.specs.Spelled.{spelled};
@@ -11,8 +11,8 @@ use crate::parts::{put_block, put_if};
 use crate::plan_places::PlanPlace;
 use sccs_base::Line;
 use sccs_disk::{Disk, DiskRefusal};
-use sccs_edits::{Added, Plan};
 use sccs_history::Item;
+use sccs_script_laws::{Added, Plan};
 use sccs_writers::ItemWriter;
 use std::alloc::Global;
 use std::marker::Model;

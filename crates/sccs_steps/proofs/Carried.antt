@@ -5,14 +5,14 @@ use Rattle.std.specs.Str.{bytes_eq}
 use Rattle.sccs_base.specs.Name.{IsSfile, p_file, q_file, x_file, z_file}
 use Rattle.sccs_disk.specs.Files.{Content, View, put, Folder, view_in}
 use Rattle.sccs_disk.proofs.Puts.{name_cases, put_other, put_same}
-use Rattle.sccs_files.specs.StepFiles.{Alike, Files, is_early, l_file, look, moved, placed, moved_in}
+use Rattle.sccs_name_files.specs.StepFiles.{Alike, Files, is_early, l_file, look, moved, placed, moved_in}
 use Rattle.sccs_intents.specs.Intents.{entries_in, fate_in, intent_file}
 use Rattle.sccs_intents.specs.declared.intents.Fate.{Fate}
-use Rattle.sccs_moments.specs.Recovery.{RecoversAs, fate_at, is_kept}
-use Rattle.sccs_moments.specs.Unlocked.{SameOthers, is_own}
-use Rattle.sccs_moments.proofs.FileNames.{kept_intent, kept_q, kept_x, left_q, left_x, no_l, no_z, sfile_and_intent, to_g, to_s, to_sfile}
-use Rattle.sccs_moments.proofs.Recovering.{LooksAlike, fate_same, recovered_alike, recovered_at, recovered_same, recovered_under, recovers_from, recovers_to}
-use Rattle.sccs_moments.proofs.Unlocked.{own_early, own_left, own_p, own_s, own_z}
+use Rattle.sccs_crash_points.specs.Recovery.{RecoversAs, fate_at, is_kept}
+use Rattle.sccs_crash_points.specs.Unlocked.{SameOthers, is_own}
+use Rattle.sccs_crash_points.proofs.FileNames.{kept_intent, kept_q, kept_x, left_q, left_x, no_l, no_z, sfile_and_intent, to_g, to_s, to_sfile}
+use Rattle.sccs_crash_points.proofs.Recovering.{LooksAlike, fate_same, recovered_alike, recovered_at, recovered_same, recovered_under, recovers_from, recovers_to}
+use Rattle.sccs_crash_points.proofs.Unlocked.{own_early, own_left, own_p, own_s, own_z}
 use Rattle.sccs_steps.specs.Actions.{Action, KeepsFiles, LeavesLocked}
 use Rattle.sccs_steps.specs.StepEffects.{Outcome, effect_of}
 use Rattle.sccs_steps.specs.StepStops.{IsSafe, IsSafeFor}
@@ -20,7 +20,7 @@ use Rattle.sccs_steps.specs.ListStops.{Spares}
 use Rattle.std.proofs.lemmas.Bool.{or_from}
 use Rattle.sccs_base.proofs.Bools.{right_false, left_false}
 use Rattle.sccs_steps.specs.StepLists.{Move, all_moved, all_moved_in}
-use Rattle.sccs_files.proofs.Folders.{moved_view}
+use Rattle.sccs_name_files.proofs.Folders.{moved_view}
 
 -- ---- the files of other names
 

@@ -3,9 +3,9 @@ use Rattle.std.proofs.Common.{◌≡◌, ℕ, Bool, true, false, List, [], ◌�
 use Rattle.std.specs.List.{AllByRecursion}
 use Rattle.sccs_base.specs.Name.{p_file, z_file}
 use Rattle.sccs_disk.specs.Files.{Content, Folder, View, view_in}
-use Rattle.sccs_files.specs.StepFiles.{Alike, Files, Moves, MovesEarly, Shows, early_moved, is_working, l_file, look, moved, moved_in}
-use Rattle.sccs_files.proofs.Folders.{moved_view}
-use Rattle.sccs_files.proofs.Views.{look_alike, shows_early, shows_moved}
+use Rattle.sccs_name_files.specs.StepFiles.{Alike, Files, Moves, MovesEarly, Shows, early_moved, is_working, l_file, look, moved, moved_in}
+use Rattle.sccs_name_files.proofs.Folders.{moved_view}
+use Rattle.sccs_name_files.proofs.Views.{look_alike, shows_early, shows_moved}
 use Rattle.sccs_steps.specs.StepEffects.{StepEffect, Outcome, effect_of}
 use Rattle.sccs_steps.specs.FirstFiles.{MovesInOrder}
 use Rattle.sccs_steps.specs.StepLists.{ShowsNext, named_step}

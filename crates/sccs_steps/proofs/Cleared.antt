@@ -4,7 +4,7 @@ use Rattle.std.specs.Str.{bytes_eq}
 use Rattle.sccs_base.specs.Name.{p_file, z_file}
 use Rattle.sccs_disk.specs.Files.{Content, View, put}
 use Rattle.sccs_disk.proofs.Puts.{name_cases, put_other}
-use Rattle.sccs_files.specs.StepFiles.{Apart, AreCleared, Files, Moves, MovesEarly, early_moved, is_working, l_file, moved}
+use Rattle.sccs_name_files.specs.StepFiles.{Apart, AreCleared, Files, Moves, MovesEarly, early_moved, is_working, l_file, moved}
 use Rattle.sccs_steps.specs.Actions.{IsClear}
 use Rattle.sccs_steps.specs.StepLists.{AreAllCleared}
 

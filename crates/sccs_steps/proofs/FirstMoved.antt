@@ -3,8 +3,8 @@ use Rattle.std.proofs.Common.{◌≡◌, ℕ, zero, suc, Bool, true, false, ◌|
 use Rattle.std.specs.Str.{bytes_eq}
 use Rattle.sccs_base.specs.Name.{p_file, z_file}
 use Rattle.sccs_disk.specs.Files.{Content, View}
-use Rattle.sccs_files.specs.StepFiles.{Alike, Apart, Files, Moves, Shows, is_left, is_working}
-use Rattle.sccs_files.proofs.Views.{early_alike, moved_alike}
+use Rattle.sccs_name_files.specs.StepFiles.{Alike, Apart, Files, Moves, Shows, is_left, is_working}
+use Rattle.sccs_name_files.proofs.Views.{early_alike, moved_alike}
 use Rattle.sccs_steps.specs.FirstFiles.{first_moved}
 use Rattle.sccs_steps.specs.StepLists.{NamedStep, ShowsEarly, ShowsNext, is_left_of, left_by}
 use Rattle.std.proofs.lemmas.Bool.{or_from}

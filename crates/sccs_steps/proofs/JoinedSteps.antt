@@ -5,7 +5,7 @@ use Rattle.std.proofs.lemmas.Grind.{flat_map-append}
 use Rattle.sccs_base.specs.Stream.{GivesOk, GivesSome}
 use Rattle.sccs_disk.specs.Files.{Folder, view_in}
 use Rattle.sccs_steps.specs.Calls.{World}
-use Rattle.sccs_files.specs.StepFiles.{Shows}
+use Rattle.sccs_name_files.specs.StepFiles.{Shows}
 use Rattle.sccs_steps.specs.StepLists.{NamedStep, Ran, Stopped, ListInterrupted, Stops, Runs, ShowsEarly, ShowsNext, SoFar, Parts, folder_after, next_folder, out_of, err_of, status_of, next_text}
 use Rattle.sccs_steps.specs.declared.faults.Fault.{Fault}
 use Rattle.sccs_steps.specs.declared.faults.Fault.TheVariants.{Memory, ReadFault, WriteFault, DiskFault}

@@ -10,9 +10,9 @@ use Rattle.sccs_base.proofs.Gifts.{gives_none, some_none}
 use Rattle.sccs_base.specs.declared.streams.TakeFault.TheVariants as take
 use Rattle.sccs_disk.specs.Files.{Folder, Model, View, view_in, view_of}
 use Rattle.sccs_disk.specs.Told.{Told, Tells, seen}
-use Rattle.sccs_files.specs.StepFiles.{Alike, Shows}
-use Rattle.sccs_moments.proofs.CalmDisks.{calm_firm}
-use Rattle.sccs_moments.proofs.Recovering.{recovers_then}
+use Rattle.sccs_name_files.specs.StepFiles.{Alike, Shows}
+use Rattle.sccs_crash_points.proofs.CalmDisks.{calm_firm}
+use Rattle.sccs_crash_points.proofs.Recovering.{recovers_then}
 use Rattle.sccs_operands.specs.FolderNames.{HasSfilesOf, sfiles_in}
 use Rattle.sccs_operands.specs.InputNames.{GivesLines}
 use Rattle.sccs_sid.specs.declared.refusals.Refusal.{Refusal}

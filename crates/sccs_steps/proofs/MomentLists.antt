@@ -6,15 +6,15 @@ use Rattle.sccs_base.proofs.Gifts.{gives_then, some_none}
 use Rattle.sccs_disk.specs.Files.{Folder, Model, View, view_in, view_of}
 use Rattle.sccs_disk.specs.Images.{Allows}
 use Rattle.sccs_disk.specs.Told.{Told, Tells, seen}
-use Rattle.sccs_files.specs.StepFiles.{Shows}
-use Rattle.sccs_images.specs.Touches.{Each, earlier, newest}
-use Rattle.sccs_images.proofs.Touched.{earlier_more, newest_more}
-use Rattle.sccs_moments.specs.Calm.{HasFirm, IsCalm}
-use Rattle.sccs_moments.specs.Moments.{Numbered, Went}
-use Rattle.sccs_moments.specs.Recovery.{RecoversAs}
-use Rattle.sccs_moments.proofs.CalmDisks.{calm_firm}
-use Rattle.sccs_moments.proofs.Joined.{guarded_joined, numbered_as, numbered_joined}
-use Rattle.sccs_moments.proofs.Recovering.{recovers_then}
+use Rattle.sccs_name_files.specs.StepFiles.{Shows}
+use Rattle.sccs_name_files.specs.Touches.{Each, earlier, newest}
+use Rattle.sccs_name_files.proofs.Touched.{earlier_more, newest_more}
+use Rattle.sccs_crash_points.specs.Calm.{HasFirm, IsCalm}
+use Rattle.sccs_crash_points.specs.Moments.{Numbered, Went}
+use Rattle.sccs_crash_points.specs.Recovery.{RecoversAs}
+use Rattle.sccs_crash_points.proofs.CalmDisks.{calm_firm}
+use Rattle.sccs_crash_points.proofs.Joined.{guarded_joined, numbered_as, numbered_joined}
+use Rattle.sccs_crash_points.proofs.Recovering.{recovers_then}
 use Rattle.sccs_steps.specs.Actions.{Action}
 use Rattle.sccs_steps.specs.Calls.{Scene, shown}
 use Rattle.sccs_steps.specs.StepLists.{NamedStep, Ran, err_of, folder_after, next_text, out_of}

@@ -10,7 +10,7 @@ use Rattle.sccs_sid.specs.declared.refusals.StepFault.TheVariants as step
 use Rattle.std.specs.List.{AllByRecursion}
 use Rattle.sccs_disk.specs.Files.{Content, Folder, View, view_in}
 use Rattle.sccs_disk.specs.Told.{seen}
-use Rattle.sccs_files.specs.StepFiles.{Files, look, Shows}
+use Rattle.sccs_name_files.specs.StepFiles.{Files, look, Shows}
 use Rattle.sccs_steps.specs.StepEffects.{Outcome, effect_of}
 use Rattle.sccs_steps.specs.Calls.{World, Scene, Meets, world, shown}
 use Rattle.sccs_steps.specs.Messages.{SaysRefusal, Concludes}

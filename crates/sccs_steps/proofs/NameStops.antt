@@ -7,15 +7,15 @@ use Rattle.sccs_sid.specs.declared.refusals.Refusal.TheVariants.{BadName}
 use Rattle.sccs_sid.specs.declared.refusals.StepFault.{StepFault}
 use Rattle.sccs_disk.specs.Files.{Content, Folder, Model, View, view_in, view_of}
 use Rattle.sccs_disk.specs.Told.{Told, Tells, seen}
-use Rattle.sccs_files.specs.StepFiles.{Alike, Files, Shows, look, moved, moved_in}
-use Rattle.sccs_files.proofs.Folders.{moved_view}
-use Rattle.sccs_files.proofs.Views.{moved_alike}
+use Rattle.sccs_name_files.specs.StepFiles.{Alike, Files, Shows, look, moved, moved_in}
+use Rattle.sccs_name_files.proofs.Folders.{moved_view}
+use Rattle.sccs_name_files.proofs.Views.{moved_alike}
 use Rattle.sccs_disk.specs.Images.{Allows}
-use Rattle.sccs_images.specs.Touches.{Each}
-use Rattle.sccs_moments.specs.Moments.{EndsAfter}
-use Rattle.sccs_moments.specs.Recovery.{RecoversAs}
-use Rattle.sccs_moments.proofs.Recovering.{recovers_back}
-use Rattle.sccs_moments.proofs.Untouched.{before_after, same_before}
+use Rattle.sccs_name_files.specs.Touches.{Each}
+use Rattle.sccs_crash_points.specs.Moments.{EndsAfter}
+use Rattle.sccs_crash_points.specs.Recovery.{RecoversAs}
+use Rattle.sccs_crash_points.proofs.Recovering.{recovers_back}
+use Rattle.sccs_crash_points.proofs.Untouched.{before_after, same_before}
 use Rattle.sccs_steps.specs.StepEffects.{Outcome, effect_of}
 use Rattle.sccs_steps.specs.Calls.{Scene, scene}
 use Rattle.sccs_steps.specs.Messages.{Concludes, SaysRefusal}

@@ -10,17 +10,17 @@ use Rattle.sccs_sid.specs.declared.refusals.StepFault.TheVariants as step
 use Rattle.sccs_disk.specs.Files.{Folder, Model, View, view_in, view_of}
 use Rattle.sccs_disk.specs.Images.{Allows}
 use Rattle.sccs_disk.specs.Told.{Told, Tells, seen}
-use Rattle.sccs_files.specs.StepFiles.{Shows, moved, moved_in}
-use Rattle.sccs_files.proofs.Folders.{moved_view}
-use Rattle.sccs_images.specs.Touches.{Each, earlier, newest}
-use Rattle.sccs_images.proofs.Images.{view_image}
-use Rattle.sccs_moments.specs.Calm.{KeepsPairs}
-use Rattle.sccs_moments.specs.Moments.{EndsAfter, EndsBefore, EndsWithin, IsAt, Went}
-use Rattle.sccs_moments.specs.Recovery.{RecoversAs}
-use Rattle.sccs_moments.proofs.CalmDisks.{calm_firm}
-use Rattle.sccs_moments.proofs.Joined.{numbered_as, numbered_now}
-use Rattle.sccs_moments.proofs.Recovering.{recovers_then}
-use Rattle.sccs_moments.proofs.Untouched.{went_at}
+use Rattle.sccs_name_files.specs.StepFiles.{Shows, moved, moved_in}
+use Rattle.sccs_name_files.proofs.Folders.{moved_view}
+use Rattle.sccs_name_files.specs.Touches.{Each, earlier, newest}
+use Rattle.sccs_name_files.proofs.Images.{view_image}
+use Rattle.sccs_crash_points.specs.Calm.{KeepsPairs}
+use Rattle.sccs_crash_points.specs.Moments.{EndsAfter, EndsBefore, EndsWithin, IsAt, Went}
+use Rattle.sccs_crash_points.specs.Recovery.{RecoversAs}
+use Rattle.sccs_crash_points.proofs.CalmDisks.{calm_firm}
+use Rattle.sccs_crash_points.proofs.Joined.{numbered_as, numbered_now}
+use Rattle.sccs_crash_points.proofs.Recovering.{recovers_then}
+use Rattle.sccs_crash_points.proofs.Untouched.{went_at}
 use Rattle.sccs_steps.specs.StepEffects.{Outcome, StepEffect, effect_of}
 use Rattle.sccs_steps.specs.Calls.{Scene, scene}
 use Rattle.sccs_steps.specs.Messages.{Concludes, SaysRefusal}

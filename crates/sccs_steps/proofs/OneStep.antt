@@ -7,7 +7,7 @@ use Rattle.sccs_sid.specs.declared.refusals.Refusal.{Refusal}
 use Rattle.sccs_sid.specs.declared.refusals.StepFault.{StepFault}
 use Rattle.sccs_sid.specs.declared.refusals.StepFault.TheVariants as step
 use Rattle.sccs_disk.specs.Files.{Folder, view_in}
-use Rattle.sccs_files.specs.StepFiles.{Files, Shows}
+use Rattle.sccs_name_files.specs.StepFiles.{Files, Shows}
 use Rattle.sccs_steps.specs.StepEffects.{StepEffect, Outcome, effect_of}
 use Rattle.sccs_steps.specs.Calls.{World, Meets, Fails, Uncommitted, Made, ReportCut, Interrupted, world}
 use Rattle.sccs_steps.specs.Messages.{SaysRefusal, Concludes}

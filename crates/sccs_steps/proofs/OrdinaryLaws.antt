@@ -3,10 +3,10 @@ use Rattle.std.specs.Prelude.{◌≡◌, ℕ, List, map, Option, Result, Ok, Err
 use Rattle.std.proofs.Common.{inl, inr, refl, ap}
 use Rattle.sccs_disk.specs.Files.{Model, View, view_of}
 use Rattle.sccs_disk.specs.Told.{Told}
-use Rattle.sccs_files.specs.StepFiles.{look}
+use Rattle.sccs_name_files.specs.StepFiles.{look}
 use Rattle.sccs_sid.specs.declared.refusals.StepFault.{StepFault}
 use Rattle.sccs_sid.specs.declared.refusals.StepFault.TheVariants.{Refused, Memory, ReadFault, WriteFault, DiskFault}
-use Rattle.sccs_moments.specs.Moments.{LeavesCalm}
+use Rattle.sccs_crash_points.specs.Moments.{LeavesCalm}
 use Rattle.sccs_steps.specs.Actions.{Action, SpeaksBy, SpeaksByAs, Stepped, SteppedAs}
 use Rattle.sccs_steps.specs.Calls.{Scene}
 use Rattle.sccs_steps.specs.Causes.{Counts, Ignores, StepCauses}

@@ -5,9 +5,9 @@ use Rattle.sccs_sid.specs.declared.refusals.StepFault.{StepFault}
 use Rattle.sccs_sid.specs.declared.refusals.StepFault.TheVariants.{Refused, Memory, ReadFault, WriteFault, DiskFault}
 use Rattle.sccs_disk.specs.Files.{Model, view_of}
 use Rattle.sccs_disk.specs.Told.{Told, Tells, seen}
-use Rattle.sccs_files.specs.StepFiles.{Files, look, moved}
-use Rattle.sccs_moments.specs.Calm.{IsCalm}
-use Rattle.sccs_moments.proofs.Untouched.{before_after, before_within, same_before}
+use Rattle.sccs_name_files.specs.StepFiles.{Files, look, moved}
+use Rattle.sccs_crash_points.specs.Calm.{IsCalm}
+use Rattle.sccs_crash_points.proofs.Untouched.{before_after, before_within, same_before}
 use Rattle.sccs_steps.specs.StepEffects.{Outcome, StepEffect, effect_of}
 use Rattle.sccs_steps.specs.Calls.{Meets, Scene, shown}
 use Rattle.sccs_steps.specs.Actions.{Action, IsHeard, KeepsFiles, RefusesWithin, SpeaksByAs, Stepped, SteppedAs, quiet_checks}

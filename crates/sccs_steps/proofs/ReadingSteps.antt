@@ -5,7 +5,7 @@ use Rattle.sccs_base.proofs.Gifts.{some_none}
 use Rattle.sccs_disk.specs.Files.{View}
 use Rattle.sccs_sid.specs.declared.refusals.StepFault.{StepFault}
 use Rattle.sccs_sid.specs.declared.refusals.StepFault.TheVariants.{Refused, Memory, ReadFault, WriteFault, DiskFault}
-use Rattle.sccs_files.specs.StepFiles.{AreCleared, Files, Moves, is_left, is_working}
+use Rattle.sccs_name_files.specs.StepFiles.{AreCleared, Files, Moves, is_left, is_working}
 use Rattle.sccs_steps.specs.StepEffects.{Outcome, effect_of}
 use Rattle.sccs_steps.specs.Calls.{Meets, Uncommitted, Interrupted, world}
 

@@ -7,25 +7,25 @@ use Rattle.sccs_disk.specs.Files.{Content, Model, View, view_of}
 use Rattle.sccs_disk.specs.Images.{Allows, Image}
 use Rattle.sccs_disk.specs.Told.{Nothing, Shows, Told, Tells}
 use Rattle.sccs_disk.proofs.Puts.{name_cases}
-use Rattle.sccs_files.specs.StepFiles.{Files, moved}
-use Rattle.sccs_images.specs.Touches.{Each, earlier, newest}
-use Rattle.sccs_images.proofs.Images.{view_image}
-use Rattle.sccs_images.proofs.Touched.{each_newest}
+use Rattle.sccs_name_files.specs.StepFiles.{Files, moved}
+use Rattle.sccs_name_files.specs.Touches.{Each, earlier, newest}
+use Rattle.sccs_name_files.proofs.Images.{view_image}
+use Rattle.sccs_name_files.proofs.Touched.{each_newest}
 use Rattle.sccs_intents.specs.declared.intents.Fate.{Fate}
 use Rattle.sccs_pfile.specs.Recovered.{recovered_pfile}
 use Rattle.sccs_pfile.proofs.Recovering.{twice_once}
-use Rattle.sccs_moments.specs.Calm.{IsCalm, KeepsPairs}
-use Rattle.sccs_moments.specs.Moments.{EndsAfter, EndsBefore, EndsWithin, IsAt, Numbered}
-use Rattle.sccs_moments.specs.Recovery.{IsSound, RecoversAs, fate_at, is_kept}
-use Rattle.sccs_moments.specs.Unlocked.{IsHeldIn, KeptHeld, KeptOthers, LeavesOthers, is_own}
-use Rattle.sccs_moments.proofs.Recovering.{fate_same, p_of, recovered, recovered_under, recovers_to, s_of}
+use Rattle.sccs_crash_points.specs.Calm.{IsCalm, KeepsPairs}
+use Rattle.sccs_crash_points.specs.Moments.{EndsAfter, EndsBefore, EndsWithin, IsAt, Numbered}
+use Rattle.sccs_crash_points.specs.Recovery.{IsSound, RecoversAs, fate_at, is_kept}
+use Rattle.sccs_crash_points.specs.Unlocked.{IsHeldIn, KeptHeld, KeptOthers, LeavesOthers, is_own}
+use Rattle.sccs_crash_points.proofs.Recovering.{fate_same, p_of, recovered, recovered_under, recovers_to, s_of}
 use Rattle.sccs_steps.specs.Actions.{Action, KeepsFiles}
 use Rattle.sccs_steps.specs.ListStops.{KeepsSafeFrom}
 use Rattle.sccs_steps.specs.StepStops.{IsSafe, IsSafeFor}
 use Rattle.sccs_steps.specs.Unlocked.{StepOthers}
 use Rattle.sccs_steps.proofs.Carried.{moved_others, named_held, others_fate, others_look}
 use Rattle.sccs_steps.proofs.Safety.{none_of, pair_paired, pair_settled, same_safe}
-use Rattle.sccs_moments.proofs.Joined.{each_then, story_of}
+use Rattle.sccs_crash_points.proofs.Joined.{each_then, story_of}
 
 -- ---- what recovers alike has the same safe names
 

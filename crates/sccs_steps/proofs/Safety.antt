@@ -4,12 +4,12 @@ use Rattle.std.specs.Str.{bytes_eq}
 use Rattle.sccs_base.specs.Name.{IsSfile, p_file, z_file}
 use Rattle.sccs_disk.specs.Files.{Content, Folder, View, view_in}
 use Rattle.sccs_disk.proofs.Puts.{name_cases}
-use Rattle.sccs_files.specs.StepFiles.{Alike, Files, moved, moved_in, placed}
-use Rattle.sccs_files.proofs.Folders.{moved_view}
+use Rattle.sccs_name_files.specs.StepFiles.{Alike, Files, moved, moved_in, placed}
+use Rattle.sccs_name_files.proofs.Folders.{moved_view}
 use Rattle.sccs_intents.specs.Intents.{intent_file}
 use Rattle.sccs_pfile.specs.Recovered.{recovered_pfile}
-use Rattle.sccs_moments.specs.Recovery.{IsSettledPair, IsSound, Pair, RecoversAs, fate_at, is_kept, pair_of, recover, IsHeldAt}
-use Rattle.sccs_moments.proofs.Recovering.{LooksAlike, fate_same, recovered_alike, recovered_is, sound_pair, pair, recovered, recovered_under}
+use Rattle.sccs_crash_points.specs.Recovery.{IsSettledPair, IsSound, Pair, RecoversAs, fate_at, is_kept, pair_of, recover, IsHeldAt}
+use Rattle.sccs_crash_points.proofs.Recovering.{LooksAlike, fate_same, recovered_alike, recovered_is, sound_pair, pair, recovered, recovered_under}
 use Rattle.sccs_steps.specs.Actions.{Action, KeepsFiles}
 use Rattle.sccs_steps.specs.StepStops.{ArePaired, IsPaired, IsSafe, IsSafeFor}
 use Rattle.sccs_steps.specs.ListStops.{KeepsSafe, Spares, StaySafe}

@@ -5,9 +5,9 @@ use Rattle.std.proofs.lemmas.List.{append-nil}
 use Rattle.sccs_disk.specs.Files.{Folder, Model, View, view_in, view_of}
 use Rattle.sccs_disk.specs.Images.{Allows}
 use Rattle.sccs_disk.specs.Told.{Tells, seen}
-use Rattle.sccs_files.specs.StepFiles.{Shows}
-use Rattle.sccs_images.specs.Touches.{Each, earlier, newest}
-use Rattle.sccs_moments.specs.Recovery.{RecoversAs}
+use Rattle.sccs_name_files.specs.StepFiles.{Shows}
+use Rattle.sccs_name_files.specs.Touches.{Each, earlier, newest}
+use Rattle.sccs_crash_points.specs.Recovery.{RecoversAs}
 use Rattle.sccs_steps.specs.Actions.{Action, AreClear}
 use Rattle.sccs_steps.specs.Calls.{Scene, shown}
 use Rattle.sccs_steps.specs.ListStops.{AreSafe, KeepsSafe, KeepsSafeFrom, ListMoments, MayBegin, RunMoments, Spares, StaySafe, view_at}

@@ -6,7 +6,7 @@ use Rattle.std.specs.List.{AllByRecursion}
 use Rattle.sccs_base.specs.Stream.{GivesOk, GivesSome}
 use Rattle.sccs_base.proofs.Gifts.{gives_both, gives_none, gives_then}
 use Rattle.sccs_disk.specs.Files.{Folder, view_in}
-use Rattle.sccs_files.specs.StepFiles.{Shows}
+use Rattle.sccs_name_files.specs.StepFiles.{Shows}
 use Rattle.sccs_steps.specs.Actions.{Action, AreClear}
 use Rattle.sccs_steps.specs.Calls.{World}
 use Rattle.sccs_steps.specs.Speaking.{BegunInTurn, InTurn, SpeakBy}

@@ -2,15 +2,15 @@
 use Rattle.std.proofs.Common.{◌≡◌, ℕ, ◌<◌, Bool, true, false, List, [], ◌∷◌, drop, length, get_or, Option, IfSome, Result, Ok, inl, refl, sym, subst}
 use Rattle.std.specs.List.{filter}
 use Rattle.std.specs.Prelude.{IsSome}
-use Rattle.sccs_images.specs.Touches.{Each}
+use Rattle.sccs_name_files.specs.Touches.{Each}
 use Rattle.sccs_base.specs.Constants.{file_limit}
 use Rattle.sccs_base.specs.Name.{z_file}
 use Rattle.sccs_disk.specs.Files.{Content, Folder, Model, view_in}
 use Rattle.sccs_disk.specs.Told.{Told, seen}
-use Rattle.sccs_files.specs.StepFiles.{Shows}
-use Rattle.sccs_moments.specs.Unlocked.{BeginsUnlockedBut, IsHeldIn, KeepsHeldIn, KeepsOthers, KeptHeld, KeptOthers, LeavesOthers}
-use Rattle.sccs_moments.proofs.Unlocked.{unlocked_same}
-use Rattle.sccs_moments.proofs.UnlockedBut.{but_of, but_own, but_same, but_then}
+use Rattle.sccs_name_files.specs.StepFiles.{Shows}
+use Rattle.sccs_crash_points.specs.Unlocked.{BeginsUnlockedBut, IsHeldIn, KeepsHeldIn, KeepsOthers, KeptHeld, KeptOthers, LeavesOthers}
+use Rattle.sccs_crash_points.proofs.Unlocked.{unlocked_same}
+use Rattle.sccs_crash_points.proofs.UnlockedBut.{but_of, but_own, but_same, but_then}
 use Rattle.sccs_operands.specs.FolderNames.{HasSfilesOf, sfiles_in}
 use Rattle.sccs_operands.specs.InputNames.{GivesLines}
 use Rattle.sccs_sid.specs.declared.refusals.Refusal.{Refusal}

@@ -16,7 +16,7 @@ use Rattle.sccs_disk.specs.Files.{Content, Folder, View, view_in}
 use Rattle.sccs_disk.specs.Told.{seen}
 use Rattle.sccs_intents.specs.Intents.{intent_file}
 use Rattle.sccs_operands.specs.FolderNames.{sfiles_in}
-use Rattle.sccs_files.specs.StepFiles.{Apart, Files, l_file, look}
+use Rattle.sccs_name_files.specs.StepFiles.{Apart, Files, l_file, look}
 use Rattle.sccs_steps.specs.StepEffects.{StepEffect, Outcome, effect_of}
 use Rattle.sccs_steps.specs.Calls.{Scene, Meets, shown}
 use Rattle.sccs_steps.specs.Statuses.{idle_status}

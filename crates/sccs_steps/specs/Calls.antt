@@ -5,7 +5,7 @@ use Rattle.sccs_sid.specs.declared.refusals.StepFault.{StepFault}
 use Rattle.sccs_sid.specs.declared.refusals.StepFault.TheVariants.{Refused, Memory, ReadFault, WriteFault, DiskFault}
 use Rattle.sccs_disk.specs.Files.{View}
 use Rattle.sccs_disk.specs.Told.{Told, seen}
-use Rattle.sccs_files.specs.StepFiles.{AreCleared, Files, Moves, MovesEarly, is_working, moved}
+use Rattle.sccs_name_files.specs.StepFiles.{AreCleared, Files, Moves, MovesEarly, is_working, moved}
 use Rattle.sccs_steps.specs.FirstFiles.{MovesInOrder}
 use Rattle.sccs_steps.specs.StepEffects.{StepEffect, Outcome, effect_of}
 

@@ -2,7 +2,7 @@
 use Rattle.std.specs.Prelude.{ℕ, zero, suc, true, List, Option, None, Some}
 use Rattle.sccs_base.specs.Name.{p_file}
 use Rattle.sccs_disk.specs.Files.{View, put}
-use Rattle.sccs_files.specs.StepFiles.{Files, Moves, early_moved, is_left, moved}
+use Rattle.sccs_name_files.specs.StepFiles.{Files, Moves, early_moved, is_left, moved}
 
 -- the view after none or some first of a step's files in their order: l-file, s-file, p-file, and then the g-file
 abbrev pub first_moved : ℕ → View → List ℕ → Option Files → View

@@ -6,11 +6,11 @@ use Rattle.sccs_base.specs.Stream.{GivesSome}
 use Rattle.sccs_disk.specs.Files.{Folder, Model, View, view_in, view_of}
 use Rattle.sccs_disk.specs.Images.{Allows}
 use Rattle.sccs_disk.specs.Told.{seen}
-use Rattle.sccs_images.specs.Touches.{Each, newest}
-use Rattle.sccs_moments.specs.Calm.{HasFirm, IsCalm}
-use Rattle.sccs_moments.specs.Moments.{Went}
+use Rattle.sccs_name_files.specs.Touches.{Each, newest}
+use Rattle.sccs_crash_points.specs.Calm.{HasFirm, IsCalm}
+use Rattle.sccs_crash_points.specs.Moments.{Went}
 use Rattle.sccs_intents.specs.Intents.{intent_file}
-use Rattle.sccs_moments.specs.Recovery.{RecoversAs}
+use Rattle.sccs_crash_points.specs.Recovery.{RecoversAs}
 use Rattle.sccs_steps.specs.Actions.{Action}
 use Rattle.sccs_steps.specs.Calls.{Scene, World, shown}
 use Rattle.sccs_steps.specs.StepLists.{NamedStep, ShowsEarly, err_of, folder_after, next_text, out_of}

@@ -3,8 +3,8 @@ use Rattle.std.specs.Prelude.{◌≡◌, ℕ, Bool, true, false, List, [], ◌�
 use Rattle.std.specs.List.{filter}
 use Rattle.sccs_disk.specs.Files.{Folder, Model, view_in}
 use Rattle.sccs_disk.specs.Told.{Told, Tells, seen}
-use Rattle.sccs_files.specs.StepFiles.{Shows}
-use Rattle.sccs_moments.specs.Unlocked.{BeginsUnlockedBut}
+use Rattle.sccs_name_files.specs.StepFiles.{Shows}
+use Rattle.sccs_crash_points.specs.Unlocked.{BeginsUnlockedBut}
 use Rattle.sccs_steps.specs.Actions.{Action, AreClear, IsHeard, IsLone, hears, input_steps, kind_hears, kind_of, kind_steps, step_at, steps_at, steps_of}
 use Rattle.sccs_steps.specs.Calls.{Scene, shown}
 use Rattle.sccs_steps.specs.Causes.{Ignores, RunCauses}

@@ -3,7 +3,7 @@ use Rattle.std.specs.Prelude.{◌≡◌, ℕ, Bool, true, false, List, [], Optio
 use Rattle.sccs_sid.specs.Refusal.{refusal_line}
 use Rattle.sccs_sid.specs.declared.refusals.Refusal.{Refusal}
 use Rattle.sccs_disk.specs.Files.{View}
-use Rattle.sccs_files.specs.StepFiles.{Files, look}
+use Rattle.sccs_name_files.specs.StepFiles.{Files, look}
 
 -- What a step that is accepted does.
 pub record StepEffect : Type 0 where

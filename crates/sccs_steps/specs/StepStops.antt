@@ -7,11 +7,11 @@ use Rattle.sccs_sid.specs.declared.refusals.StepFault.TheVariants.{Refused, Memo
 use Rattle.sccs_disk.specs.Files.{Content, Model, View, view_of}
 use Rattle.sccs_disk.specs.Images.{Allows}
 use Rattle.sccs_disk.specs.Told.{Told, Tells}
-use Rattle.sccs_files.specs.StepFiles.{look, moved}
-use Rattle.sccs_images.specs.Touches.{Each}
-use Rattle.sccs_moments.specs.Calm.{IsCalm}
-use Rattle.sccs_moments.specs.Moments.{EndsAfter, EndsBefore, EndsWithin}
-use Rattle.sccs_moments.specs.Recovery.{IsSettledPair, IsSound, RecoversAs, is_kept, pair_of, recover}
+use Rattle.sccs_name_files.specs.StepFiles.{look, moved}
+use Rattle.sccs_name_files.specs.Touches.{Each}
+use Rattle.sccs_crash_points.specs.Calm.{IsCalm}
+use Rattle.sccs_crash_points.specs.Moments.{EndsAfter, EndsBefore, EndsWithin}
+use Rattle.sccs_crash_points.specs.Recovery.{IsSettledPair, IsSound, RecoversAs, is_kept, pair_of, recover}
 use Rattle.sccs_steps.specs.StepEffects.{Outcome, effect_of}
 use Rattle.sccs_steps.specs.Actions.{Action, IsHeard}
 use Rattle.sccs_steps.specs.Calls.{Meets, Scene, World, shown}

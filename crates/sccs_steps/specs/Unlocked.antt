@@ -3,8 +3,8 @@ use Rattle.std.specs.Prelude.{◌≡◌, ℕ, Bool, true, false, List, drop, IsS
 use Rattle.std.specs.List.{AllByRecursion}
 use Rattle.sccs_disk.specs.Files.{Model, view_of}
 use Rattle.sccs_disk.specs.Told.{Told, Tells}
-use Rattle.sccs_moments.specs.Recovery.{fate_at, is_kept}
-use Rattle.sccs_moments.specs.Unlocked.{BeginsUnlocked, IsHeldIn, KeepsOthers, KeptHeld, is_own}
+use Rattle.sccs_crash_points.specs.Recovery.{fate_at, is_kept}
+use Rattle.sccs_crash_points.specs.Unlocked.{BeginsUnlocked, IsHeldIn, KeepsOthers, KeptHeld, is_own}
 use Rattle.sccs_steps.specs.Actions.{Action}
 use Rattle.sccs_steps.specs.StepLists.{NamedStep}
 

@@ -4,11 +4,11 @@ use Rattle.std.specs.Str.{bytes_eq}
 use Rattle.sccs_base.specs.Name.{IsSfile, p_file, q_file, x_file, y_file, z_file}
 use Rattle.sccs_disk.specs.Files.{Content, View, put}
 use Rattle.sccs_disk.proofs.Puts.{name_cases, put_back, put_other, put_same, same_name}
-use Rattle.sccs_files.specs.StepFiles.{is_working, l_file, placed}
+use Rattle.sccs_name_files.specs.StepFiles.{is_working, l_file, placed}
 use Rattle.sccs_store.specs.Commits.{Plan, chosen, committed, files_after, g_swapped, p_swapped, part_of, s_swapped, swapped}
 use Rattle.sccs_store.specs.declared.new_files.NewFile.{NewFile}
 use Rattle.sccs_store.specs.declared.new_files.NewFile.TheVariants.{Keep, Replace, Remove}
-use Rattle.sccs_moments.proofs.FileNames.{from_g, no_q, no_x, no_y, s_and_g, to_g, to_s}
+use Rattle.sccs_crash_points.proofs.FileNames.{from_g, no_q, no_x, no_y, s_and_g, to_g, to_s}
 use Rattle.sccs_store.proofs.Swaps.{swapped_other}
 
 -- what stands under a name after one change

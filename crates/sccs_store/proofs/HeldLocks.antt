@@ -8,19 +8,19 @@ use Rattle.sccs_disk.specs.Files.{Model, View, IsSane, view_of}
 use Rattle.sccs_disk.specs.Images.{Allows, Full, Image}
 use Rattle.sccs_disk.specs.Told.{Told, Tells, seen}
 use Rattle.sccs_disk.proofs.Puts.{name_cases, put_same}
-use Rattle.sccs_images.specs.Touches.{TellsSane}
-use Rattle.sccs_images.proofs.Images.{image_created, view_image}
-use Rattle.sccs_images.proofs.Touched.{touches_created}
+use Rattle.sccs_name_files.specs.Touches.{TellsSane}
+use Rattle.sccs_name_files.proofs.Images.{image_created, view_image}
+use Rattle.sccs_name_files.proofs.Touched.{touches_created}
 use Rattle.sccs_intents.specs.Intents.{intent_file}
 use Rattle.sccs_intents.specs.declared.intents.Fate.{Fate}
-use Rattle.sccs_moments.specs.Calm.{IsCalm, KeepsPairs}
-use Rattle.sccs_moments.specs.Moments.{EndsBefore}
-use Rattle.sccs_moments.specs.Recovery.{fate_at, pair_of}
-use Rattle.sccs_moments.specs.Unlocked.{IsHeldIn, KeepsHeldIn, KeptHeld}
-use Rattle.sccs_moments.proofs.CalmDisks.{calm_kept, full_there}
-use Rattle.sccs_moments.proofs.FileNames.{from_sfile, siblings_differ}
-use Rattle.sccs_moments.proofs.Recovering.{as_same, fate_same, p_of, pair_same, recovered_alike, recovered_at, recovered_same, recovered_under, recovers_from, recovers_to, s_of}
-use Rattle.sccs_moments.proofs.Untouched.{same_before}
+use Rattle.sccs_crash_points.specs.Calm.{IsCalm, KeepsPairs}
+use Rattle.sccs_crash_points.specs.Moments.{EndsBefore}
+use Rattle.sccs_crash_points.specs.Recovery.{fate_at, pair_of}
+use Rattle.sccs_crash_points.specs.Unlocked.{IsHeldIn, KeepsHeldIn, KeptHeld}
+use Rattle.sccs_crash_points.proofs.CalmDisks.{calm_kept, full_there}
+use Rattle.sccs_crash_points.proofs.FileNames.{from_sfile, siblings_differ}
+use Rattle.sccs_crash_points.proofs.Recovering.{as_same, fate_same, p_of, pair_same, recovered_alike, recovered_at, recovered_same, recovered_under, recovers_from, recovers_to, s_of}
+use Rattle.sccs_crash_points.proofs.Untouched.{same_before}
 use Rattle.sccs_store.specs.Stops.{KeepsHeld}
 
 -- a view that differs from another in the z-file of a name alone, where that is there as before

@@ -1,9 +1,13 @@
 pub mod Committed
 pub mod HeldLocks
+pub mod MadeWhole
+pub mod Marks
 pub mod OwnFiles
 pub mod Parts
+pub mod Placed
 pub mod SealedLaws
 pub mod Stages
 pub mod Swaps
 pub mod WholeSteps
 pub mod Working
+pub mod YFileOwnFiles

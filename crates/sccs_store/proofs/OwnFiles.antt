@@ -7,10 +7,10 @@ use Rattle.sccs_disk.specs.Effects.{pended, renamed, settled}
 use Rattle.sccs_disk.specs.Files.{Rename, put}
 use Rattle.sccs_disk.specs.Files as op
 use Rattle.sccs_disk.specs.Told.{Told}
-use Rattle.sccs_moments.specs.Unlocked.{KeepsOthers, is_own}
-use Rattle.sccs_moments.proofs.FileNames.{no_q, no_working, no_x, no_y, no_z}
-use Rattle.sccs_files.specs.StepFiles.{is_early}
-use Rattle.sccs_moments.proofs.Unlocked.{is_either, others_done, others_half, others_removed, others_renamed, others_same, others_settled, others_then, others_wider, own_left}
+use Rattle.sccs_crash_points.specs.Unlocked.{KeepsOthers, is_own}
+use Rattle.sccs_crash_points.proofs.FileNames.{no_q, no_working, no_x, no_y, no_z}
+use Rattle.sccs_name_files.specs.StepFiles.{is_early}
+use Rattle.sccs_crash_points.proofs.Unlocked.{is_either, others_done, others_half, others_removed, others_renamed, others_same, others_settled, others_then, others_wider, own_left}
 use Rattle.sccs_store.specs.Commits.{Plan}
 use Rattle.sccs_store.specs.Stops.{HalfSwaps, HalfUnlocks, Swaps, Unlocks}
 use Rattle.sccs_store.specs.declared.new_files.NewFile.{NewFile}

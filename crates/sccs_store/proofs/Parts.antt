@@ -7,16 +7,16 @@ use Rattle.sccs_base.proofs.SameBytes.{same_bytes}
 use Rattle.sccs_disk.specs.Files.{Content, Model, View, view_of}
 use Rattle.sccs_disk.specs.Images.{Full, Image}
 use Rattle.sccs_disk.proofs.Puts.{name_cases, put_other, put_same}
-use Rattle.sccs_images.proofs.Images.{full_image}
-use Rattle.sccs_images.proofs.Owned.{firm_stays}
+use Rattle.sccs_name_files.proofs.Images.{full_image}
+use Rattle.sccs_name_files.proofs.Owned.{firm_stays}
 use Rattle.sccs_pfile.specs.Recovered.{recovered_pfile}
 use Rattle.sccs_intents.specs.Intents.{intent_file}
-use Rattle.sccs_moments.specs.Moments.{Guards, IsNew, RecoversWith}
-use Rattle.sccs_moments.specs.Recovery.{Pair, fate_at, is_kept, pair_of}
-use Rattle.sccs_moments.proofs.CalmDisks.{firm_pairs, full_there}
-use Rattle.sccs_moments.proofs.FileNames.{from_s, from_sfile, kept_intent, kept_p, kept_q, kept_s, kept_x, kept_z, sfile_and_intent, siblings_differ, to_s, to_sfile}
-use Rattle.sccs_moments.proofs.Recovering.{LooksAlike, SameLooks, fate_same, looks_between, p_of, pair, pair_same, recovered_alike, recovered_at, recovered_same, recovered_under, recovers_from, s_of, sound_recovered}
-use Rattle.sccs_moments.proofs.Untouched.{none_named, none_replaced}
+use Rattle.sccs_crash_points.specs.Moments.{Guards, IsNew, RecoversWith}
+use Rattle.sccs_crash_points.specs.Recovery.{Pair, fate_at, is_kept, pair_of}
+use Rattle.sccs_crash_points.proofs.CalmDisks.{firm_pairs, full_there}
+use Rattle.sccs_crash_points.proofs.FileNames.{from_s, from_sfile, kept_intent, kept_p, kept_q, kept_s, kept_x, kept_z, sfile_and_intent, siblings_differ, to_s, to_sfile}
+use Rattle.sccs_crash_points.proofs.Recovering.{LooksAlike, SameLooks, fate_same, looks_between, p_of, pair, pair_same, recovered_alike, recovered_at, recovered_same, recovered_under, recovers_from, s_of, sound_recovered}
+use Rattle.sccs_crash_points.proofs.Untouched.{none_named, none_replaced}
 use Rattle.sccs_store.specs.Commits.{Plan, chosen, committed, files_after, g_swapped, p_swapped, part_of, s_swapped, swapped}
 use Rattle.sccs_store.specs.Stops.{CanCommit, OnChange, OnReplace}
 use Rattle.sccs_store.specs.declared.new_files.NewFile.{NewFile}

@@ -8,15 +8,15 @@ use Rattle.sccs_disk.specs.Files.{Model, Op, Rename, View, view_of}
 use Rattle.sccs_disk.specs.Files as op
 use Rattle.sccs_disk.specs.Images.{Allows, Full}
 use Rattle.sccs_disk.specs.Told.{Told, Tells, seen}
-use Rattle.sccs_images.specs.Touches.{earlier, newest}
-use Rattle.sccs_images.proofs.Images.{image_pended, image_settled, view_full}
-use Rattle.sccs_moments.specs.Calm.{HasFirm, IsCalm}
-use Rattle.sccs_moments.specs.Moments.{Guards, IsNew, RecoversWith, Went}
-use Rattle.sccs_moments.specs.Recovery.{without_name}
-use Rattle.sccs_moments.proofs.CalmDisks.{calm_settled, looks_firm}
-use Rattle.sccs_moments.proofs.Full.{full_removed, full_renamed}
-use Rattle.sccs_moments.proofs.Joined.{numbered_now, story_of}
-use Rattle.sccs_moments.proofs.Recovering.{SameLooks}
+use Rattle.sccs_name_files.specs.Touches.{earlier, newest}
+use Rattle.sccs_name_files.proofs.Images.{image_pended, image_settled, view_full}
+use Rattle.sccs_crash_points.specs.Calm.{HasFirm, IsCalm}
+use Rattle.sccs_crash_points.specs.Moments.{Guards, IsNew, RecoversWith, Went}
+use Rattle.sccs_crash_points.specs.Recovery.{without_name}
+use Rattle.sccs_crash_points.proofs.CalmDisks.{calm_settled, looks_firm}
+use Rattle.sccs_crash_points.proofs.Full.{full_removed, full_renamed}
+use Rattle.sccs_crash_points.proofs.Joined.{numbered_now, story_of}
+use Rattle.sccs_crash_points.proofs.Recovering.{SameLooks}
 use Rattle.sccs_store.specs.Commits.{Plan, committed, part_of, swapped}
 use Rattle.sccs_store.specs.Stops.{CanCommit, CommitEnds, CommitStops, HalfSwaps, HalfUnlocks, Swaps, Unlocks}
 use Rattle.sccs_store.specs.declared.new_files.NewFile.{NewFile}

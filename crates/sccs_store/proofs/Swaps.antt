@@ -7,7 +7,7 @@ use Rattle.sccs_disk.specs.Files.{View, put}
 use Rattle.sccs_disk.specs.Told.{Told, seen}
 use Rattle.sccs_disk.proofs.Puts.{put_other}
 use Rattle.sccs_store.specs.Commits.{Becomes, IsPart, MayBecome, Needs, Plan, committed, g_swapped, p_swapped, part_of, s_swapped, swapped}
-use Rattle.sccs_moments.specs.Recovery.{without_name}
+use Rattle.sccs_crash_points.specs.Recovery.{without_name}
 use Rattle.sccs_store.specs.declared.new_files.NewFile.{NewFile}
 use Rattle.sccs_store.specs.declared.new_files.NewFile.TheVariants.{Keep, Replace, Remove}
 use Rattle.sccs_store.proofs.Working.{becomes_both}

@@ -5,19 +5,19 @@ use Rattle.sccs_disk.specs.Files.{Model, View, view_of}
 use Rattle.sccs_disk.specs.Images.{Allows, IsFirm}
 use Rattle.sccs_disk.specs.Told.{Told, Tells}
 use Rattle.sccs_disk.proofs.Puts.{name_cases}
-use Rattle.sccs_files.specs.StepFiles.{is_early}
+use Rattle.sccs_name_files.specs.StepFiles.{is_early}
 use Rattle.sccs_intents.specs.Intents.{intent_file}
-use Rattle.sccs_images.specs.Touches.{Leaves, earlier, newest}
-use Rattle.sccs_images.proofs.Touched.{each_newest, newest_more}
-use Rattle.sccs_moments.specs.Calm.{HasFirm, IsCalm, KeepsPairs}
-use Rattle.sccs_moments.specs.Moments.{EndsAfter, EndsBefore, EndsWithin, IsAt, IsNew, Stays, Went}
-use Rattle.sccs_moments.specs.Recovery.{IsSound, RecoversAs, fate_at}
-use Rattle.sccs_moments.specs.Unlocked.{KeepsOthers, KeptOthers, LeavesOthers}
-use Rattle.sccs_moments.proofs.CalmDisks.{calm_firm, firms_left}
-use Rattle.sccs_moments.proofs.FileNames.{early_s, left_q, left_x}
-use Rattle.sccs_moments.proofs.Joined.{numbered_as, numbered_now, went_then}
-use Rattle.sccs_moments.proofs.Recovering.{fate_same, recovers_then}
-use Rattle.sccs_moments.proofs.Untouched.{calm_stayed, none_named, none_replaced, stays_left, view_left, went_at}
+use Rattle.sccs_name_files.specs.Touches.{Leaves, earlier, newest}
+use Rattle.sccs_name_files.proofs.Touched.{each_newest, newest_more}
+use Rattle.sccs_crash_points.specs.Calm.{HasFirm, IsCalm, KeepsPairs}
+use Rattle.sccs_crash_points.specs.Moments.{EndsAfter, EndsBefore, EndsWithin, IsAt, IsNew, Stays, Went}
+use Rattle.sccs_crash_points.specs.Recovery.{IsSound, RecoversAs, fate_at}
+use Rattle.sccs_crash_points.specs.Unlocked.{KeepsOthers, KeptOthers, LeavesOthers}
+use Rattle.sccs_crash_points.proofs.CalmDisks.{calm_firm, firms_left}
+use Rattle.sccs_crash_points.proofs.FileNames.{early_s, left_q, left_x}
+use Rattle.sccs_crash_points.proofs.Joined.{numbered_as, numbered_now, went_then}
+use Rattle.sccs_crash_points.proofs.Recovering.{fate_same, recovers_then}
+use Rattle.sccs_crash_points.proofs.Untouched.{calm_stayed, none_named, none_replaced, stays_left, view_left, went_at}
 use Rattle.sccs_store.specs.Commits.{Plan, committed}
 use Rattle.sccs_store.specs.Stops.{CanCommit, CommitEnds, CommitStops, HasPrepared, IsPlainPlan, OnReplace}
 use Rattle.sccs_store.specs.declared.new_files.NewFile.{NewFile}

@@ -12,13 +12,13 @@ use Rattle.sccs_disk.specs.declared.disks.DiskRefusal.{DiskRefusal}
 use Rattle.sccs_disk.specs.declared.disks.DiskRefusal.TheVariants as fault
 use Rattle.sccs_writers.specs.OneFile.{OnlyWrites}
 use Rattle.sccs_writers.proofs.OneFile.{only_done, only_half, only_same, only_sync_half, only_synced}
-use Rattle.sccs_files.specs.StepFiles.{Moves, is_working}
-use Rattle.sccs_images.specs.Touches.{Grew, Leaves, TellsSane, Touching, TouchesOnly, earlier, newest}
-use Rattle.sccs_images.proofs.Touched.{grew_touching, only_then, only_wider, same_touching}
+use Rattle.sccs_name_files.specs.StepFiles.{Moves, is_working}
+use Rattle.sccs_name_files.specs.Touches.{Grew, Leaves, TellsSane, Touching, TouchesOnly, earlier, newest}
+use Rattle.sccs_name_files.proofs.Touched.{grew_touching, only_then, only_wider, same_touching}
 use Rattle.sccs_tokens.specs.Written.{five}
-use Rattle.sccs_moments.proofs.Recovering.{cleared_other}
+use Rattle.sccs_crash_points.proofs.Recovering.{cleared_other}
 use Rattle.sccs_store.specs.Commits.{Becomes, with_sum_line}
-use Rattle.sccs_moments.specs.Recovery.{cleared, without_name}
+use Rattle.sccs_crash_points.specs.Recovery.{cleared, without_name}
 
 -- ---- results
 

@@ -5,9 +5,9 @@ use Rattle.sccs_disk.specs.Files.{Content, View, put}
 use Rattle.sccs_disk.specs.Effects.{empty_file, renamed}
 use Rattle.sccs_disk.specs.Calls.{IsThere}
 use Rattle.sccs_disk.specs.Told.{Told}
-use Rattle.sccs_files.specs.StepFiles.{Files, l_file}
+use Rattle.sccs_name_files.specs.StepFiles.{Files, l_file}
 use Rattle.sccs_tokens.specs.Written.{five}
-use Rattle.sccs_moments.specs.Recovery.{cleared, without_name}
+use Rattle.sccs_crash_points.specs.Recovery.{cleared, without_name}
 use Rattle.sccs_store.specs.declared.new_files.NewFile.{NewFile}
 use Rattle.sccs_store.specs.declared.new_files.NewFile.TheVariants.{Keep, Replace, Remove}
 

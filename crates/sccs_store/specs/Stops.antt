@@ -6,13 +6,13 @@ use Rattle.sccs_disk.specs.Effects.{removing, renaming, syncing_names}
 use Rattle.sccs_disk.specs.Files.{Model, View, view_of}
 use Rattle.sccs_disk.specs.Images.{IsFirm}
 use Rattle.sccs_disk.specs.Told.{Told, Tells}
-use Rattle.sccs_files.specs.StepFiles.{is_early}
-use Rattle.sccs_images.specs.Touches.{Leaves, newest}
+use Rattle.sccs_name_files.specs.StepFiles.{is_early}
+use Rattle.sccs_name_files.specs.Touches.{Leaves, newest}
 use Rattle.sccs_pfile.specs.Recovered.{recovered_pfile}
-use Rattle.sccs_moments.specs.Calm.{HasFirm, IsCalm}
-use Rattle.sccs_moments.specs.Moments.{EndsBefore, IsNew, Went}
-use Rattle.sccs_moments.specs.Recovery.{fate_at, is_kept}
-use Rattle.sccs_moments.specs.Unlocked.{KeepsOthers}
+use Rattle.sccs_crash_points.specs.Calm.{HasFirm, IsCalm}
+use Rattle.sccs_crash_points.specs.Moments.{EndsBefore, IsNew, Went}
+use Rattle.sccs_crash_points.specs.Recovery.{fate_at, is_kept}
+use Rattle.sccs_crash_points.specs.Unlocked.{KeepsOthers}
 use Rattle.sccs_store.specs.Commits.{Plan, committed, files_after}
 use Rattle.sccs_store.specs.declared.new_files.NewFile.{NewFile}
 use Rattle.sccs_store.specs.declared.new_files.NewFile.TheVariants.{Keep, Replace, Remove}

@@ -3,11 +3,11 @@ ghost use Rattle.std.specs.Str.{bytes_eq};
 ghost use Rattle.sccs_base.specs.Name.{IsSfile, z_file};
 ghost use Rattle.sccs_disk.specs.Files.{Model, View, view_of};
 ghost use Rattle.sccs_disk.specs.Told.{Tells, Told};
-ghost use Rattle.sccs_files.specs.StepFiles.{is_early, is_working, l_file, placed};
-ghost use Rattle.sccs_moments.specs.Calm.{IsCalm};
-ghost use Rattle.sccs_moments.specs.Moments.{EndsAfter, EndsBefore, EndsWithin};
-ghost use Rattle.sccs_moments.specs.Recovery.{IsSound, RecoversAs};
-ghost use Rattle.sccs_moments.specs.Unlocked.{KeepsOthers};
+ghost use Rattle.sccs_name_files.specs.StepFiles.{is_early, is_working, l_file, placed};
+ghost use Rattle.sccs_crash_points.specs.Calm.{IsCalm};
+ghost use Rattle.sccs_crash_points.specs.Moments.{EndsAfter, EndsBefore, EndsWithin};
+ghost use Rattle.sccs_crash_points.specs.Recovery.{IsSound, RecoversAs};
+ghost use Rattle.sccs_crash_points.specs.Unlocked.{KeepsOthers};
 ghost use Rattle.sccs_store.specs.Commits.{Plan, committed, files_after, part_of};
 ghost use Rattle.sccs_store.specs.Stops.{CommitEnds, CommitStops, HasPrepared, IsPlainPlan};
 

@@ -6,10 +6,10 @@ ghost use Rattle.sccs_disk.specs.Effects.{altered, empty_file, protected};
 ghost use Rattle.sccs_disk.specs.Files.{put};
 ghost use Rattle.sccs_disk.specs.Images.{IsFirm, IsOwn};
 ghost use Rattle.sccs_disk.specs.Told.{seen};
-ghost use Rattle.sccs_files.specs.StepFiles.{Moves, is_left, is_working};
-ghost use Rattle.sccs_images.specs.Touches.{Leaves, TouchesOnly};
+ghost use Rattle.sccs_name_files.specs.StepFiles.{Moves, is_left, is_working};
+ghost use Rattle.sccs_name_files.specs.Touches.{Leaves, TouchesOnly};
 ghost use Rattle.sccs_store.specs.Commits.{Becomes, abandoned, with_sum_line};
-ghost use Rattle.sccs_moments.specs.Recovery.{cleared, without_name};
+ghost use Rattle.sccs_crash_points.specs.Recovery.{cleared, without_name};
 ghost use Rattle.sccs_writers.specs.OneFile.{OnlyWrites};
 ghost use Rattle.sccs_disk.specs.Causes.{DiskCauses};
 

@@ -7,14 +7,14 @@ use Rattle.sccs_disk.specs.Files.{View, put, view_of}
 use Rattle.sccs_disk.specs.Told.{Told, seen}
 use Rattle.sccs_disk.specs.declared.disks.DiskRefusal.{DiskRefusal}
 use Rattle.sccs_disk.proofs.Puts.{put_same}
-use Rattle.sccs_files.specs.StepFiles.{Moves, l_file}
-use Rattle.sccs_gfiles.specs.Placing.{HasMade, PlaceEnds, PlaceStops}
-use Rattle.sccs_gfiles.proofs.MadeWhole.{ends_after, ends_before, ends_pairs, ends_within}
+use Rattle.sccs_name_files.specs.StepFiles.{Moves, l_file}
+use Rattle.sccs_store.specs.Placing.{HasMade, PlaceEnds, PlaceStops}
+use Rattle.sccs_store.proofs.MadeWhole.{ends_after, ends_before, ends_pairs, ends_within}
 use Rattle.sccs_history.specs.declared.headers.Record.{Record}
-use Rattle.sccs_images.specs.Touches.{Leaves, TouchesOnly}
-use Rattle.sccs_moments.specs.Unlocked.{KeepsOthers}
-use Rattle.sccs_moments.proofs.FileNames.{l_plain}
-use Rattle.sccs_moments.proofs.Unlocked.{others_then, others_touched, others_wider}
+use Rattle.sccs_name_files.specs.Touches.{Leaves, TouchesOnly}
+use Rattle.sccs_crash_points.specs.Unlocked.{KeepsOthers}
+use Rattle.sccs_crash_points.proofs.FileNames.{l_plain}
+use Rattle.sccs_crash_points.proofs.Unlocked.{others_then, others_touched, others_wider}
 use Rattle.sccs_store.specs.Commits.{Becomes, MayBecome}
 use Rattle.sccs_writers.specs.Puts.{PutsText, Writer}
 use Rattle.sccs_summary.specs.SummaryFiles.{LosesNothing, MakesPartly, is_summary, l_made, summary_file}

@@ -6,9 +6,9 @@ use Rattle.sccs_base.specs.Stream.{Rose}
 use Rattle.sccs_disk.specs.Effects.{renamed}
 use Rattle.sccs_disk.specs.Files.{Content, Model, View, put, view_of}
 use Rattle.sccs_disk.specs.Told.{Told, Tells}
-use Rattle.sccs_files.specs.StepFiles.{Moves, l_file}
-use Rattle.sccs_moments.specs.Calm.{IsCalm}
-use Rattle.sccs_moments.specs.Moments.{EndsBefore}
+use Rattle.sccs_name_files.specs.StepFiles.{Moves, l_file}
+use Rattle.sccs_crash_points.specs.Calm.{IsCalm}
+use Rattle.sccs_crash_points.specs.Moments.{EndsBefore}
 use Rattle.sccs_store.specs.Commits.{Becomes}
 use Rattle.sccs_sid.specs.declared.refusals.Refusal.{Refusal}
 use Rattle.sccs_sid.specs.declared.refusals.StepFault.{StepFault}

@@ -6,10 +6,10 @@ use Rattle.std.specs.Global.{Vec}
 use Rattle.sccs_base.specs.Name.{sfile_name_decides}
 use Rattle.sccs_disk.specs.Files.{Content, Folder, View, view_in}
 use Rattle.sccs_disk.specs.Told.{seen}
-use Rattle.sccs_files.specs.StepFiles.{Shows}
+use Rattle.sccs_name_files.specs.StepFiles.{Shows}
 use Rattle.sccs_intents.specs.Intents.{entries_in, intent_file}
-use Rattle.sccs_moments.specs.Unlocked.{BeginsUnlockedBut}
-use Rattle.sccs_name_sets.specs.NameSets.{HasNames, names_in}
+use Rattle.sccs_crash_points.specs.Unlocked.{BeginsUnlockedBut}
+use Rattle.sccs_base.specs.NameSets.{HasNames, names_in}
 use Rattle.sccs_steps.specs.Actions.{hears}
 use Rattle.sccs_steps.specs.Causes.{Ignores}
 use Rattle.sccs_steps.specs.Calls.{shown}
@@ -19,17 +19,17 @@ use Rattle.sccs_steps.specs.Settings.{Setting}
 use Rattle.sccs_steps.specs.StepLists.{NamedStep}
 use Rattle.sccs_steps.specs.declared.faults.Fault.{Fault}
 use Rattle.sccs_steps.specs.declared.faults.Fault.TheVariants as ends
-use Rattle.sccs_courses.specs.Courses.{AllClear, AllExempt, AllPlain, AllSafe, Courses, follow, portions_of, steps_along}
-use Rattle.sccs_courses.specs.Following.{AreKnown, BegunThen, CourseMoments, RunsCourse, RunsTo, SpeaksTo, WholeThen}
-use Rattle.sccs_courses.proofs.JoinedCourses.{course_cut, course_then}
+use Rattle.sccs_step_lists.specs.Courses.{AllClear, AllExempt, AllPlain, AllSafe, Courses, follow, portions_of, steps_along}
+use Rattle.sccs_step_lists.specs.Following.{AreKnown, BegunThen, CourseMoments, RunsCourse, RunsTo, SpeaksTo, WholeThen}
+use Rattle.sccs_step_lists.proofs.JoinedCourses.{course_cut, course_then}
 use Rattle.sccs_words.specs.declared.commands.Command.{Command}
 use Rattle.sccs_words.specs.declared.commands.Command.TheVariants as c
 use Rattle.sccs_words.specs.declared.commands.Operands.{Operands}
 use Rattle.sccs_recovery.specs.RecoverStep.{freed_by, recover_action}
-use Rattle.sccs_finishing.specs.AnyDisk.{RecoversAll}
-use Rattle.sccs_finishing.specs.Ends.{BegunFinishing, FinishEnds, WholeFinishing}
-use Rattle.sccs_finishing.specs.FinishStep.{finishing_course, freed_in, names_of}
-use Rattle.sccs_finishing.proofs.AnyDisks.{both_recover, failed_recover}
+use Rattle.sccs_recovery.specs.AnyDisk.{RecoversAll}
+use Rattle.sccs_recovery.specs.FinishingEnds.{BegunFinishing, FinishEnds, WholeFinishing}
+use Rattle.sccs_recovery.specs.FinishStep.{finishing_course, freed_in, names_of}
+use Rattle.sccs_recovery.proofs.AnyDisks.{both_recover, failed_recover}
 use Rattle.sccs_top.specs.Runs.{BegunFreed, BegunOperands, Caller, LeavesAlone, RunsAlone, RunsCommand, WholeFreed, WholeOperands, action_of, action_takes, freed_at, freeing, group_use, hushed, operands_course, operands_of, steps_by, val_words_of}
 use Rattle.sccs_top.specs.declared.commands.GroupUse.TheVariants as uses
 use Rattle.sccs_top.proofs.RunLaws.{RunsWith, leaves_with, operands_runs, runs_with}

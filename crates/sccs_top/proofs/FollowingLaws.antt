@@ -4,19 +4,19 @@ use Rattle.std.specs.Prelude.{IsSome}
 use Rattle.sccs_base.specs.Name.{IsSfile, p_file, z_file}
 use Rattle.sccs_disk.specs.Files.{Content, Folder, Model, View, view_in, view_of}
 use Rattle.sccs_disk.specs.Images.{Allows}
-use Rattle.sccs_files.specs.StepFiles.{Shows}
-use Rattle.sccs_images.specs.Touches.{Each, earlier, newest}
-use Rattle.sccs_images.proofs.Images.{view_image}
-use Rattle.sccs_images.proofs.Touched.{each_newest}
+use Rattle.sccs_name_files.specs.StepFiles.{Shows}
+use Rattle.sccs_name_files.specs.Touches.{Each, earlier, newest}
+use Rattle.sccs_name_files.proofs.Images.{view_image}
+use Rattle.sccs_name_files.proofs.Touched.{each_newest}
 use Rattle.sccs_intents.specs.Intents.{intent_file}
 use Rattle.sccs_group.specs.Finishing.{CanFinish}
 use Rattle.sccs_intents.specs.declared.intents.Fate.{Fate}
-use Rattle.sccs_moments.specs.Moments.{IsCalmUnnamed}
-use Rattle.sccs_moments.specs.Recovery.{IsSettledPair, Pair, RecoversAs, fate_at}
-use Rattle.sccs_moments.proofs.Recovering.{LooksAlike, fate_same, recovered, recovered_alike, recovered_is, recovered_under, recovers_from}
+use Rattle.sccs_crash_points.specs.Moments.{IsCalmUnnamed}
+use Rattle.sccs_crash_points.specs.Recovery.{IsSettledPair, Pair, RecoversAs, fate_at}
+use Rattle.sccs_crash_points.proofs.Recovering.{LooksAlike, fate_same, recovered, recovered_alike, recovered_is, recovered_under, recovers_from}
 use Rattle.sccs_steps.specs.Calls.{Scene}
 use Rattle.sccs_steps.specs.ListStops.{IsAtNumber, KeepsSafeFrom, KeepsSafe, MayBegin, Spares, view_at}
-use Rattle.sccs_courses.specs.Following.{CourseMoments}
+use Rattle.sccs_step_lists.specs.Following.{CourseMoments}
 use Rattle.sccs_steps.specs.StepLists.{NamedStep, folder_after}
 use Rattle.sccs_steps.specs.StepStops.{IsSafe}
 use Rattle.sccs_steps.specs.declared.faults.Fault.{Fault}

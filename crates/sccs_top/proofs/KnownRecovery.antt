@@ -2,10 +2,10 @@
 use Rattle.std.proofs.Common.{◌≡◌, ℕ, true, List, Option, IfSome, Some, Result, Ok, inr, refl, sym, subst}
 use Rattle.sccs_disk.specs.Files.{Folder, View, view_in}
 use Rattle.sccs_disk.specs.Told.{Told, seen}
-use Rattle.sccs_moments.specs.Recovery.{RecoversAs}
+use Rattle.sccs_crash_points.specs.Recovery.{RecoversAs}
 use Rattle.sccs_words.specs.declared.commands.Command.TheVariants as c
 use Rattle.sccs_words.specs.declared.commands.Usage.{Usage}
-use Rattle.sccs_courses.specs.Following.{AreKnown, RecoversTold}
+use Rattle.sccs_step_lists.specs.Following.{AreKnown, RecoversTold}
 use Rattle.sccs_top.specs.declared.asking.Asked.{Asked}
 use Rattle.sccs_top.specs.declared.asking.Asked.TheVariants as ask
 use Rattle.sccs_top.specs.Runs.{Caller, run_portions, words_recover}

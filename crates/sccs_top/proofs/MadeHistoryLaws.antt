@@ -7,7 +7,7 @@ use Rattle.sccs_disk.specs.Files.{Content}
 use Rattle.sccs_sid.specs.declared.moments.Stamp.{Stamp}
 use Rattle.sccs_history.specs.History.{AreLines}
 use Rattle.sccs_grammar.specs.File.{Parsed}
-use Rattle.sccs_files.specs.StepFiles.{Files}
+use Rattle.sccs_name_files.specs.StepFiles.{Files}
 use Rattle.sccs_steps.specs.StepEffects.{Outcome, StepEffect}
 use Rattle.sccs_words.specs.declared.commands.AdminWords.{AdminWords}
 use Rattle.sccs_admin.specs.AdminStep.{AreAdminValues, admin_outcome, found_texts, makes}
@@ -15,7 +15,7 @@ use Rattle.sccs_admin.specs.NewFiles.{new_content, new_header, new_items}
 use Rattle.sccs_admin.specs.Rules.{new_rules}
 use Rattle.sccs_admin.proofs.NewFileLaws.{new_file_again, new_version}
 use Rattle.sccs_delta.specs.Replays.{DeltaCall, IsDeltaCall}
-use Rattle.sccs_pending.proofs.Chains.{passed}
+use Rattle.sccs_changes.proofs.Chains.{passed}
 use Rattle.sccs_delta.proofs.Replaying.{calls_replayed}
 use Rattle.sccs_top.specs.MadeHistories.{IsReplayed}
 

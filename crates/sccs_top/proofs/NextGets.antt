@@ -12,7 +12,7 @@ use Rattle.sccs_words.specs.declared.commands.Usage.{Usage}
 use Rattle.sccs_words.specs.declared.scanning.Use.{Use}
 use Rattle.sccs_words.specs.declared.tables.OptionSpec.{OptionSpec}
 use Rattle.sccs_words.specs.declared.tables.Utility.TheVariants as u
-use Rattle.sccs_front.specs.Front.{front_by, front_of, meant_name, next_get, with_get}
+use Rattle.sccs_edit.specs.Front.{front_by, front_of, meant_name, next_get, with_get}
 use Rattle.sccs_top.specs.Asked.{as_typed, asked_by, asked_of, one_asked, two_asked}
 use Rattle.sccs_top.specs.NextAsks.{NextAsks}
 use Rattle.sccs_top.specs.Runs.{AsksMeant, Caller, words_in}

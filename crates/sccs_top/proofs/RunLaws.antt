@@ -9,11 +9,11 @@ use Rattle.sccs_words.specs.Meaning.{meaning}
 use Rattle.sccs_words.specs.declared.commands.Usage.{Usage}
 use Rattle.sccs_words.specs.declared.commands.Command.{Command}
 use Rattle.sccs_words.specs.declared.commands.ValWords.{ValWords}
-use Rattle.sccs_moments.specs.Calm.{IsCalm}
-use Rattle.sccs_moments.proofs.Joined.{newest_is}
-use Rattle.sccs_moments.proofs.UnlockedBut.{but_same}
+use Rattle.sccs_crash_points.specs.Calm.{IsCalm}
+use Rattle.sccs_crash_points.proofs.Joined.{newest_is}
+use Rattle.sccs_crash_points.proofs.UnlockedBut.{but_same}
 use Rattle.sccs_group.specs.Finishing.{CanFinish}
-use Rattle.sccs_finishing.specs.AnyDisk.{RecoversAll}
+use Rattle.sccs_recovery.specs.AnyDisk.{RecoversAll}
 use Rattle.sccs_steps.specs.Actions.{Action, hears}
 use Rattle.sccs_steps.specs.Calls.{Scene, World, shown}
 use Rattle.sccs_steps.specs.Causes.{Counts, Ignores, RunCauses, counts}
@@ -27,16 +27,16 @@ use Rattle.sccs_steps.proofs.SafeImages.{images_now}
 use Rattle.sccs_steps.proofs.Safety.{keeps_same}
 use Rattle.sccs_steps.specs.declared.faults.Fault.{Fault}
 use Rattle.sccs_steps.specs.declared.faults.Fault.TheVariants as ends
-use Rattle.sccs_courses.specs.Courses.{TakesSfiles, portion_of, said}
-use Rattle.sccs_courses.specs.Following.{CourseMoments, RunsCourse, RunsTo, SpeaksTo, WholeBy}
-use Rattle.sccs_courses.specs.OwnFiles.{IsGivenTo}
-use Rattle.sccs_courses.specs.Sayings.{IsSaid}
-use Rattle.sccs_courses.proofs.CourseMomentLaws.{course_moments}
-use Rattle.sccs_courses.proofs.OneAction.{steps_course}
-use Rattle.sccs_courses.proofs.OwnFiles.{own_makes, own_stops, own_unlocked}
-use Rattle.sccs_courses.specs.QuietSettings.{with_input}
-use Rattle.sccs_courses.proofs.QuietCourses.{course_chosen, course_heard, course_with as with_own_input}
-use Rattle.sccs_courses.proofs.SaidCourses.{said_course}
+use Rattle.sccs_step_lists.specs.Courses.{TakesSfiles, portion_of, said}
+use Rattle.sccs_step_lists.specs.Following.{CourseMoments, RunsCourse, RunsTo, SpeaksTo, WholeBy}
+use Rattle.sccs_step_lists.specs.OwnFiles.{IsGivenTo}
+use Rattle.sccs_step_lists.specs.Sayings.{IsSaid}
+use Rattle.sccs_step_lists.proofs.CourseMomentLaws.{course_moments}
+use Rattle.sccs_step_lists.proofs.OneAction.{steps_course}
+use Rattle.sccs_step_lists.proofs.OwnFiles.{own_makes, own_stops, own_unlocked}
+use Rattle.sccs_step_lists.specs.QuietSettings.{with_input}
+use Rattle.sccs_step_lists.proofs.QuietCourses.{course_chosen, course_heard, course_with as with_own_input}
+use Rattle.sccs_step_lists.proofs.SaidCourses.{said_course}
 use Rattle.sccs_batch.specs.Batches.{RunsOwn}
 use Rattle.sccs_batch.specs.declared.entries.Entry.{Entry}
 use Rattle.sccs_soak.specs.Commands.{soak_commands}

@@ -7,14 +7,14 @@ use Rattle.sccs_words.specs.declared.commands.Command.{Command}
 use Rattle.sccs_words.specs.declared.commands.Usage.{Usage}
 use Rattle.sccs_steps.specs.Settings.{Setting}
 use Rattle.sccs_steps.specs.declared.faults.Fault.{Fault}
-use Rattle.sccs_courses.specs.Courses.{AllTake, if_fine, portions_of}
-use Rattle.sccs_courses.specs.Following.{RunsCourse}
-use Rattle.sccs_courses.specs.QuietSettings.{with_input}
-use Rattle.sccs_courses.specs.WhileFine.{BegunIfFine, WholeIfFine}
-use Rattle.sccs_courses.proofs.FineLoops.{fine_takes}
-use Rattle.sccs_courses.proofs.JoinedCourses.{course_cut, course_then}
-use Rattle.sccs_courses.proofs.QuietCourses.{course_heard, course_with}
-use Rattle.sccs_courses.proofs.SaidCourses.{nothing_course}
+use Rattle.sccs_step_lists.specs.Courses.{AllTake, if_fine, portions_of}
+use Rattle.sccs_step_lists.specs.Following.{RunsCourse}
+use Rattle.sccs_step_lists.specs.QuietSettings.{with_input}
+use Rattle.sccs_step_lists.specs.WhileFine.{BegunIfFine, WholeIfFine}
+use Rattle.sccs_step_lists.proofs.FineLoops.{fine_takes}
+use Rattle.sccs_step_lists.proofs.JoinedCourses.{course_cut, course_then}
+use Rattle.sccs_step_lists.proofs.QuietCourses.{course_heard, course_with}
+use Rattle.sccs_step_lists.proofs.SaidCourses.{nothing_course}
 use Rattle.sccs_batch.specs.declared.entries.Entry.{Entry}
 use Rattle.sccs_batch.proofs.BatchCourses.{batch_take}
 use Rattle.sccs_soak.specs.Commands.{soak_commands}

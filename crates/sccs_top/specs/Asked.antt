@@ -6,7 +6,7 @@ use Rattle.sccs_words.specs.declared.commands.Command.{Command}
 use Rattle.sccs_words.specs.declared.commands.Usage.{Usage}
 use Rattle.sccs_words.specs.declared.commands.WordsFault.{WordsFault}
 use Rattle.sccs_words.specs.declared.commands.WordsFault.TheVariants as faults
-use Rattle.sccs_front.specs.Front.{front_of}
+use Rattle.sccs_edit.specs.Front.{front_of}
 use Rattle.sccs_top.specs.declared.asking.Asked.{Asked}
 use Rattle.sccs_top.specs.declared.asking.Asked.TheVariants as ask
 

@@ -4,14 +4,14 @@ use Rattle.std.proofs.Common.{inl, inr, refl}
 use Rattle.sccs_base.specs.Name.{sfile_name_decides}
 use Rattle.sccs_disk.specs.Files.{Folder}
 use Rattle.sccs_steps.specs.StepLists.{NamedStep, named_step}
-use Rattle.sccs_courses.specs.Courses.{AllTake, portions_of, said}
+use Rattle.sccs_step_lists.specs.Courses.{AllTake, portions_of, said}
 use Rattle.sccs_words.specs.declared.commands.Command.{Command}
 use Rattle.sccs_words.specs.declared.commands.Command.TheVariants as c
 use Rattle.sccs_words.specs.declared.commands.Usage.{Usage}
 use Rattle.sccs_val.specs.ValStep.{val_effect}
-use Rattle.sccs_group_step.specs.GroupStep.{joint_step}
-use Rattle.sccs_group_runs.proofs.GroupCourses.{begun_none, group_takes}
-use Rattle.sccs_finishing.specs.FinishStep.{finishing_step}
+use Rattle.sccs_group_command.specs.GroupStep.{joint_step}
+use Rattle.sccs_group_command.proofs.GroupCourses.{begun_none, group_takes}
+use Rattle.sccs_recovery.specs.FinishStep.{finishing_step}
 use Rattle.sccs_top.specs.Messages.{usage_line}
 use Rattle.sccs_top.specs.Runs.{BegunCommand, BegunOperands, BegunWith, Caller, action_takes, command_course, course_with, freed_at, freeing, group_use}
 use Rattle.sccs_top.specs.declared.commands.GroupUse.{GroupUse}

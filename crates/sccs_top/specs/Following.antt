@@ -4,8 +4,8 @@ use Rattle.sccs_base.specs.Name.{IsSfile, z_file}
 use Rattle.sccs_disk.specs.Files.{Folder, Model, View, view_in, view_of}
 use Rattle.sccs_disk.specs.Images.{Allows}
 use Rattle.sccs_disk.specs.Told.{Told, Tells}
-use Rattle.sccs_moments.specs.Moments.{NamesNone}
-use Rattle.sccs_moments.specs.Recovery.{pair_of, recover}
+use Rattle.sccs_crash_points.specs.Moments.{NamesNone}
+use Rattle.sccs_crash_points.specs.Recovery.{pair_of, recover}
 use Rattle.sccs_steps.specs.ListStops.{KeepsSafe, KeepsSafeFrom, MayBegin, view_at}
 use Rattle.sccs_steps.specs.StepLists.{NamedStep}
 use Rattle.sccs_steps.specs.StepStops.{IsSafe}

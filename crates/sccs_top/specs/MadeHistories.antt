@@ -4,7 +4,7 @@ use Rattle.sccs_base.specs.Cut.{text_of}
 use Rattle.sccs_disk.specs.Files.{Content}
 use Rattle.sccs_history.specs.Applied.{live_serials}
 use Rattle.sccs_grammar.specs.File.{IsSFile, Parsed}
-use Rattle.sccs_files.specs.StepFiles.{Files}
+use Rattle.sccs_name_files.specs.StepFiles.{Files}
 use Rattle.sccs_steps.specs.StepEffects.{StepEffect}
 use Rattle.sccs_words.specs.declared.commands.AdminWords.{AdminWords}
 use Rattle.sccs_admin.specs.AdminStep.{found_texts}

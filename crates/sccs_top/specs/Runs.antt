@@ -3,7 +3,7 @@ use Rattle.std.specs.Prelude.{◌≡◌, ℕ, ◌<◌, nat_lt, ◌⊎◌, Bool, 
 use Rattle.std.specs.List.{AllByRecursion, list_any}
 use Rattle.sccs_disk.specs.Files.{Folder, Model, view_in}
 use Rattle.sccs_disk.specs.Told.{Told, Tells, seen}
-use Rattle.sccs_moments.specs.Unlocked.{BeginsUnlockedBut}
+use Rattle.sccs_crash_points.specs.Unlocked.{BeginsUnlockedBut}
 use Rattle.sccs_sid.specs.declared.moments.Stamp.{Stamp}
 use Rattle.sccs_words.specs.declared.commands.Usage.{Usage}
 use Rattle.sccs_words.specs.declared.commands.AdminWords.{AdminWords}
@@ -12,7 +12,7 @@ use Rattle.sccs_words.specs.declared.commands.Operands.{Operands}
 use Rattle.sccs_words.specs.declared.commands.ValWords.{ValWords}
 use Rattle.sccs_words.specs.declared.commands.Command.{Command}
 use Rattle.sccs_words.specs.declared.commands.Command.TheVariants as c
-use Rattle.sccs_files.specs.StepFiles.{Shows}
+use Rattle.sccs_name_files.specs.StepFiles.{Shows}
 use Rattle.sccs_steps.specs.Actions.{Action, IsHeard, hears, is_several, steps_at}
 use Rattle.sccs_steps.specs.Calls.{Scene, World, shown}
 use Rattle.sccs_steps.specs.ListStops.{MayBegin}
@@ -22,18 +22,18 @@ use Rattle.sccs_steps.specs.Speaking.{BegunInTurn, InTurn, NameMakes, OperandBeg
 use Rattle.sccs_steps.specs.StepLists.{ListInterrupted, NamedStep, Stopped, Waits}
 use Rattle.sccs_steps.specs.declared.faults.Fault.{Fault}
 use Rattle.sccs_steps.specs.declared.faults.Fault.TheVariants as ends
-use Rattle.sccs_transactions.specs.Changes.{locking}
-use Rattle.sccs_transactions.specs.Utilities.{locking_keeps}
+use Rattle.sccs_changes.specs.Changes.{locking}
+use Rattle.sccs_changes.specs.Utilities.{locking_keeps}
 use Rattle.sccs_admin.specs.AdminStep.{admin_change}
 use Rattle.sccs_alter.specs.AlterStep.{alter_change}
 use Rattle.sccs_alter.specs.CheckStep.{check_action, check_keeps}
-use Rattle.sccs_cdc.specs.CdcStep.{cdc_change}
+use Rattle.sccs_alter.specs.CdcStep.{cdc_change}
 use Rattle.sccs_delta.specs.DeltaStep.{delta_change}
 use Rattle.sccs_edit.specs.Checks.{sact_keeps}
 use Rattle.sccs_edit.specs.SactStep.{sact_action}
 use Rattle.sccs_edit.specs.UngetStep.{unget_change}
-use Rattle.sccs_front.specs.Keeps.{pending_keeps}
-use Rattle.sccs_front.specs.PendingStep.{pending_action}
+use Rattle.sccs_edit.specs.Keeps.{pending_keeps}
+use Rattle.sccs_edit.specs.PendingStep.{pending_action}
 use Rattle.sccs_get.specs.EditStep.{edit_change}
 use Rattle.sccs_get.specs.Keeps.{get_keeps}
 use Rattle.sccs_get.specs.VersionStep.{get_action}
@@ -46,11 +46,11 @@ use Rattle.sccs_prs.specs.PrsStep.{prs_action}
 use Rattle.sccs_val.specs.ValStep.{val_action, val_operands, val_steps}
 use Rattle.sccs_what.specs.Checks.{what_keeps}
 use Rattle.sccs_what.specs.WhatStep.{what_action}
-use Rattle.sccs_courses.specs.Courses.{AllExempt, AllPlain, AllSafe, Courses, Portion, TakesSfiles, follow, if_fine, no_action, portion_of, portions_of, saying, steps_along}
-use Rattle.sccs_courses.specs.Following.{AreKnown, BegunThen, CourseMoments, RunsCourse, RunsTo, SpeaksTo, WholeBy, WholeThen}
-use Rattle.sccs_courses.specs.OwnFiles.{IsGivenTo, working_along}
-use Rattle.sccs_courses.specs.Sayings.{BegunSaid, WholeSaid}
-use Rattle.sccs_courses.specs.WhileFine.{BegunIfFine, WholeIfFine}
+use Rattle.sccs_step_lists.specs.Courses.{AllExempt, AllPlain, AllSafe, Courses, Portion, TakesSfiles, follow, if_fine, no_action, portion_of, portions_of, saying, steps_along}
+use Rattle.sccs_step_lists.specs.Following.{AreKnown, BegunThen, CourseMoments, RunsCourse, RunsTo, SpeaksTo, WholeBy, WholeThen}
+use Rattle.sccs_step_lists.specs.OwnFiles.{IsGivenTo, working_along}
+use Rattle.sccs_step_lists.specs.Sayings.{BegunSaid, WholeSaid}
+use Rattle.sccs_step_lists.specs.WhileFine.{BegunIfFine, WholeIfFine}
 use Rattle.sccs_batch.specs.Batches.{BegunBatch, WholeBatch, batch_course}
 use Rattle.sccs_batch.specs.BatchText.{batch_of}
 use Rattle.sccs_batch.specs.declared.entries.Entry.{Entry}
@@ -58,10 +58,10 @@ use Rattle.sccs_words.specs.Meaning.{meaning}
 use Rattle.sccs_base.specs.Cut.{text_of}
 use Rattle.sccs_steps.specs.Causes.{Ignores}
 use Rattle.sccs_top.specs.Messages.{usage_line}
-use Rattle.sccs_finishing.specs.AnyDisk.{RecoversAll}
-use Rattle.sccs_finishing.specs.Ends.{BegunFinishing, WholeFinishing}
-use Rattle.sccs_finishing.specs.FinishStep.{finishing_course, freed_in}
-use Rattle.sccs_group_runs.specs.GroupCourses.{BegunGroup, IsGroupInput, WholeGroup, group_course}
+use Rattle.sccs_recovery.specs.AnyDisk.{RecoversAll}
+use Rattle.sccs_recovery.specs.FinishingEnds.{BegunFinishing, WholeFinishing}
+use Rattle.sccs_recovery.specs.FinishStep.{finishing_course, freed_in}
+use Rattle.sccs_group_command.specs.GroupCourses.{BegunGroup, IsGroupInput, WholeGroup, group_course}
 use Rattle.sccs_soak.specs.Dropping.{dropping}
 use Rattle.sccs_soak.specs.Soak.{BegunSoak, WholeSoak, soak_course}
 use Rattle.sccs_top.specs.declared.asking.Asked.{Asked}

@@ -4,7 +4,7 @@ ghost use Rattle.sccs_words.specs.ValidValues.{HasValidValues};
 ghost use Rattle.sccs_top.specs.Asked.{GivesAsked, HasValidCommands, as_typed, asked_by, asked_of, one_asked, two_asked, typed_place};
 
 use sccs_base::{Memory, Words};
-use sccs_front::front;
+use sccs_edit::front;
 use sccs_words::{Command, Usage, WordsFault, read_words};
 use std::alloc::Global;
 

@@ -1,9 +1,17 @@
 pub mod Behind
+pub mod CountLaws
 pub mod ItemWalks
+pub mod Joins
 pub mod LateLines
 pub mod OpenTexts
+pub mod PieceCells
+pub mod Places
 pub mod RegionItems
+pub mod RunLines
+pub mod ScriptCells
+pub mod Tallies
 pub mod TextLengths
+pub mod TrunkCells
 pub mod TrunkValid
 pub mod TrunkVersions
 pub mod TurnedSets

@@ -1,5 +1,10 @@
+pub mod Cells
 pub mod Changes
+pub mod Counts
+pub mod Lefts
 pub mod Lengths
+pub mod Runs
+pub mod Scripts
 pub mod TrunkHistories
 pub mod TrunkItems
 pub mod Trunks

@@ -11,7 +11,7 @@ use Rattle.sccs_history.specs.Body.{HistoryLine}
 use Rattle.sccs_history.specs.History.{AreBare, AreLines, History}
 use Rattle.sccs_history.specs.Select.{select}
 use Rattle.sccs_history.specs.declared.headers.Record.{Record}
-use Rattle.sccs_edits.specs.Weave.{deleted, inserted}
+use Rattle.sccs_script_laws.specs.Weave.{deleted, inserted}
 use Rattle.sccs_trunks.specs.Changes.{Change, Strike, Put, changes_of, revised}
 use Rattle.sccs_trunks.specs.Trunks.{revision_text, trunk_lines}
 use Rattle.sccs_trunks.specs.declared.revisions.Rcs.{Rcs}

@@ -9,7 +9,7 @@ use Rattle.sccs_base.specs.Stream.{GivesOk, GivesSome, Rose}
 use Rattle.sccs_base.proofs.Gifts.{gives_none, some_none}
 use Rattle.sccs_disk.specs.Files.{Content, Folder, View, view_in}
 use Rattle.sccs_disk.specs.Told.{Told, seen}
-use Rattle.sccs_files.specs.StepFiles.{Shows, Moves, is_working}
+use Rattle.sccs_name_files.specs.StepFiles.{Shows, Moves, is_working}
 use Rattle.sccs_sid.specs.Refusal.{number_of}
 use Rattle.sccs_sid.specs.declared.refusals.Refusal.{Refusal}
 use Rattle.sccs_sid.specs.declared.refusals.Refusal.TheVariants as refusals

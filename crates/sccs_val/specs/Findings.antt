@@ -12,7 +12,7 @@ use Rattle.sccs_history.specs.declared.headers.Record.{Record}
 use Rattle.sccs_grammar.specs.File.{Parsed, answer, file_of}
 use Rattle.sccs_grammar.specs.declared.faults.FileFault.{FileFault}
 use Rattle.sccs_grammar.specs.declared.faults.FileFault.TheVariants as file
-use Rattle.sccs_facts.specs.VersionFacts.{kind_flags, module_name}
+use Rattle.sccs_keywords.specs.VersionFacts.{kind_flags, module_name}
 use Rattle.sccs_words.specs.declared.commands.ValWords.{ValWords}
 use Rattle.sccs_val.specs.declared.findings.Findings.{Findings}
 

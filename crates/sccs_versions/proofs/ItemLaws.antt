@@ -16,8 +16,8 @@ use Rattle.sccs_body.specs.BodyFile.{items_of}
 use Rattle.sccs_body.specs.ToCome.{ComesOrStays, ItemComes, ToCome}
 use Rattle.sccs_body.specs.ToCome as items
 use Rattle.sccs_versions.proofs.RunLaws.{onto_read}
-use Rattle.sccs_weave.specs.Regions.{Holds}
-use Rattle.sccs_weave.specs.declared.regions.Region.{Region}
+use Rattle.sccs_versions.specs.Regions.{Holds}
+use Rattle.sccs_versions.specs.declared.regions.Region.{Region}
 use Rattle.sccs_versions.specs.Coming.{Coming, GivesNextLine, IsBody, ShowsItem, shown}
 use Rattle.sccs_versions.specs.Place.{VersionPlace}
 use Rattle.sccs_versions.specs.WasRead.{HasRead}

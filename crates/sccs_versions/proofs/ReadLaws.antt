@@ -14,8 +14,8 @@ use Rattle.sccs_body.specs.Reader.{ItemPlace}
 use Rattle.sccs_body.proofs.TextLaws.{some_bytes}
 use Rattle.sccs_body.proofs.ComingLaws.{hand_long}
 use Rattle.sccs_body.specs.ItemsRead.{MovesToItem, IsBehind, texts_behind}
-use Rattle.sccs_weave.specs.Regions.{Holds}
-use Rattle.sccs_weave.specs.declared.regions.Region.{Region}
+use Rattle.sccs_versions.specs.Regions.{Holds}
+use Rattle.sccs_versions.specs.declared.regions.Region.{Region}
 use Rattle.sccs_versions.specs.Coming.{ShowsItem, shown, text_of_lines}
 use Rattle.sccs_versions.specs.Place.{AreShown, VersionPlace, bytes_held}
 use Rattle.sccs_versions.specs.WasRead.{HasRead, ReadsAll, ReadsNext, ReadsOn, Stood, lines_before, shown_before, text_before}

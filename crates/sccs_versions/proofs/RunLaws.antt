@@ -13,8 +13,8 @@ use Rattle.sccs_body.specs.Reader.{ItemPlace}
 use Rattle.sccs_body.specs.ItemsRead.{IsBehind, texts_behind}
 use Rattle.sccs_body.specs.ToCome.{TextsCome, ToCome, onto}
 use Rattle.sccs_body.proofs.ComingLaws.{nothing_at_hand, nothing_may_pass}
-use Rattle.sccs_weave.specs.Regions.{Holds}
-use Rattle.sccs_weave.specs.declared.regions.Region.{Region}
+use Rattle.sccs_versions.specs.Regions.{Holds}
+use Rattle.sccs_versions.specs.declared.regions.Region.{Region}
 use Rattle.sccs_versions.specs.Coming.{ComeFirst, Coming, StandFirst, shown, text_of_lines}
 use Rattle.sccs_versions.specs.Place.{AreShown, VersionPlace, bytes_held}
 

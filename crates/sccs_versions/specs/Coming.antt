@@ -13,8 +13,8 @@ use Rattle.sccs_grammar.specs.declared.faults.FileFault.TheVariants.{Failed, Mem
 use Rattle.sccs_table.specs.declared.fronts.Front.{Front}
 use Rattle.sccs_body.specs.BodyFile.{items_of}
 use Rattle.sccs_body.specs.ToCome.{IsFrontFor, ToCome}
-use Rattle.sccs_weave.specs.Regions.{Holds}
-use Rattle.sccs_weave.specs.declared.regions.Region.{Region}
+use Rattle.sccs_versions.specs.Regions.{Holds}
+use Rattle.sccs_versions.specs.declared.regions.Region.{Region}
 use Rattle.sccs_versions.specs.Place.{IsInserter, VersionPlace}
 use Rattle.sccs_versions.specs.declared.readers.Next.{Next}
 use Rattle.sccs_versions.specs.declared.readers.Next.TheVariants.{Line, Hidden, End}

@@ -5,8 +5,8 @@ use Rattle.sccs_history.specs.Select.{shows}
 use Rattle.sccs_history.specs.declared.headers.Item.{Item}
 use Rattle.sccs_body.specs.Reader.{ItemPlace, name_read, at_hand as items_at_hand, steps_left as items_steps}
 use Rattle.sccs_body.specs.ToCome.{MayPass}
-use Rattle.sccs_weave.specs.Regions.{Holds, OpensRegions}
-use Rattle.sccs_weave.specs.declared.regions.Region.{Region}
+use Rattle.sccs_versions.specs.Regions.{Holds, OpensRegions}
+use Rattle.sccs_versions.specs.declared.regions.Region.{Region}
 
 -- The set, where the items are read, and the regions that are open there.
 pub record VersionPlace : Type 0 where

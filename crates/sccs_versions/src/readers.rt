@@ -11,19 +11,19 @@ ghost use Rattle.sccs_table.specs.ReaderState.{bytes_in};
 ghost use Rattle.sccs_table.specs.Runs.{lf_count};
 ghost use Rattle.sccs_body.specs.Reader.{bytes_left};
 ghost use Rattle.sccs_body.specs.ToCome.{HasChanged};
-ghost use Rattle.sccs_weave.specs.Regions.{Holds};
+ghost use Rattle.sccs_versions.specs.Regions.{Holds};
 ghost use Rattle.sccs_versions.specs.Coming.{ComeFirst, Coming, GivesNextLine, IsBody, ShowsItem, StandFirst, shown};
 ghost use Rattle.sccs_versions.specs.Place.{AreShown, IsInserter, KeepsFirst, bytes_held, name_of, steps_to_end};
 ghost use Rattle.sccs_versions.specs.WasRead.{HasRead, ReadsNext, ReadsOn};
 ghost use Rattle.sccs_versions.specs.declared.readers.Next.TheVariants as next;
 
+use crate::weavers::Weaver;
 use sccs_base::{Line, Memory, Name};
 use sccs_body::{Item, ItemReader};
 use sccs_disk::Disk;
 use sccs_grammar::FileFault;
 use sccs_sets::Applied;
 use sccs_table::Front;
-use sccs_weave::Weaver;
 use std::alloc::Global;
 use std::marker::Model;
 

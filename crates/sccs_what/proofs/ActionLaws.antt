@@ -2,7 +2,7 @@
 use Rattle.std.proofs.Common.{◌≡◌, ℕ, Bool, false, List, map, Option, None, Some, Result, Ok, Err, IfSome, refl, ap, subst}
 use Rattle.sccs_disk.specs.Files.{View}
 use Rattle.sccs_disk.specs.Told.{Told, seen}
-use Rattle.sccs_files.specs.StepFiles.{look}
+use Rattle.sccs_name_files.specs.StepFiles.{look}
 use Rattle.sccs_sid.specs.declared.refusals.StepFault.{StepFault}
 use Rattle.sccs_steps.specs.StepEffects.{Outcome}
 use Rattle.sccs_steps.specs.Actions.{IsHeard, RefusesWithin, SteppedAs}

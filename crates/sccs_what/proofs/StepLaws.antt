@@ -6,8 +6,8 @@ use Rattle.sccs_base.specs.Stream.{GivesOk, GivesSome}
 use Rattle.sccs_base.proofs.Gifts.{gives_none, some_none}
 use Rattle.sccs_disk.specs.Files.{Content, View}
 use Rattle.sccs_disk.specs.Reads.{Measures}
-use Rattle.sccs_files.specs.StepFiles.{is_working, Moves}
-use Rattle.sccs_files.specs.WholeFiles.{file_bytes}
+use Rattle.sccs_name_files.specs.StepFiles.{is_working, Moves}
+use Rattle.sccs_name_files.specs.WholeFiles.{file_bytes}
 use Rattle.sccs_sid.specs.declared.refusals.Refusal.{Refusal}
 use Rattle.sccs_sid.specs.declared.refusals.Refusal.TheVariants as refusals
 use Rattle.sccs_sid.specs.declared.refusals.StepFault.{StepFault}

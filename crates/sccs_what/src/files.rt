@@ -2,7 +2,7 @@ ghost use Rattle.std.specs.Prelude.{◌≡◌, ◌≢◌, ◌<◌, ◌≤◌, �
 ghost use Rattle.sccs_base.specs.Constants.{file_limit};
 ghost use Rattle.sccs_base.specs.Stream.{Buffers, Rose};
 ghost use Rattle.sccs_disk.specs.Told.{seen};
-ghost use Rattle.sccs_files.specs.WholeFiles.{file_bytes};
+ghost use Rattle.sccs_name_files.specs.WholeFiles.{file_bytes};
 ghost use Rattle.sccs_sid.specs.declared.refusals.Refusal.{Refusal};
 ghost use Rattle.sccs_sid.specs.declared.refusals.StepFault.TheVariants as faults;
 ghost use Rattle.sccs_steps.specs.Causes.{PrintCauses};

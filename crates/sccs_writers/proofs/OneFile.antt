@@ -6,10 +6,10 @@ use Rattle.sccs_disk.specs.Files.{Content, File, View, Model, Op, Names, names, 
 use Rattle.sccs_disk.specs.Told.{Told, Tells, seen}
 use Rattle.sccs_disk.specs.Effects.{altered, changed, firm, loose, syncing, synced, writing}
 use Rattle.sccs_disk.specs.Calls.{Done, Half}
-use Rattle.sccs_files.specs.StepFiles.{Alike, Moves}
-use Rattle.sccs_images.specs.Touches.{IsBut, newest, earlier, Each, Grew}
-use Rattle.sccs_images.proofs.Images.{but_changed}
-use Rattle.sccs_images.proofs.Touched.{each_newest}
+use Rattle.sccs_name_files.specs.StepFiles.{Alike, Moves}
+use Rattle.sccs_name_files.specs.Touches.{IsBut, newest, earlier, Each, Grew}
+use Rattle.sccs_name_files.proofs.Images.{but_changed}
+use Rattle.sccs_name_files.proofs.Touched.{each_newest}
 use Rattle.sccs_writers.specs.OneFile.{OnlyWrites}
 
 -- ---- models

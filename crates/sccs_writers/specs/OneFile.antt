@@ -3,8 +3,8 @@ use Rattle.std.specs.Prelude.{◌≡◌, ℕ, List, IfSome, IsSome}
 use Rattle.std.specs.Str.{bytes_eq}
 use Rattle.sccs_disk.specs.Files.{Model}
 use Rattle.sccs_disk.specs.Told.{Told, Tells, seen}
-use Rattle.sccs_images.specs.Touches.{Grew}
-use Rattle.sccs_files.specs.StepFiles.{Moves}
+use Rattle.sccs_name_files.specs.Touches.{Grew}
+use Rattle.sccs_name_files.specs.StepFiles.{Moves}
 
 -- At most the file under a name changes, and it stays there.
 pub record OnlyWrites (n : List ℕ) (old new : Told) : Type 0 where

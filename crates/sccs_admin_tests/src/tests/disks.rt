@@ -2,7 +2,7 @@ ghost use Rattle.std.specs.Prelude.{◌≡◌, ℕ, ◌≤◌, length, IfOk, IfS
 
 use sccs_base::{Failed, Name, Names};
 use sccs_disk::{Creation, Disk, DiskRefusal};
-use sccs_fixtures::{CASE, Case, ends};
+use sccs_test_kit::{CASE, Case, ends};
 use std::alloc::Global;
 use std::test::Fail;
 

@@ -1,6 +1,6 @@
 use sccs_disk::{Fill, MemoryDisk};
-use sccs_fixtures::samples::{EMPTY, TWO_LINES};
-use sccs_fixtures::{
+use sccs_test_kit::samples::{EMPTY, TWO_LINES};
+use sccs_test_kit::{
     Answer, CASE, Case, File, Given, PLAIN, answer_to, disk_with, ends, has, has_file, name,
 };
 use std::alloc::Global;

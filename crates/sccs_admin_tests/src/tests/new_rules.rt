@@ -1,5 +1,5 @@
 use sccs_disk::MemoryDisk;
-use sccs_fixtures::{CASE, Case, File, disk_with, ends, has};
+use sccs_test_kit::{CASE, Case, File, disk_with, ends, has};
 use std::alloc::Global;
 use std::test::Fail;
 

@@ -1,6 +1,6 @@
 use sccs_disk::{Fill, MemoryDisk};
-use sccs_fixtures::samples::{IMPORTED, RCS_FILE, REMOVED, SECOND, TWO_LINES};
-use sccs_fixtures::{
+use sccs_test_kit::samples::{IMPORTED, RCS_FILE, REMOVED, SECOND, TWO_LINES};
+use sccs_test_kit::{
     Answer, CASE, Case, File, Given, PLAIN, Seen, answer_to, disk_with, ends, has, has_file,
 };
 use std::alloc::Global;

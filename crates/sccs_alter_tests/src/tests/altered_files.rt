@@ -1,6 +1,6 @@
 use sccs_disk::MemoryDisk;
-use sccs_fixtures::samples::{SECOND, TWO_LINES};
-use sccs_fixtures::{CASE, Case, File, disk_with, ends, flagged, has};
+use sccs_test_kit::samples::{SECOND, TWO_LINES};
+use sccs_test_kit::{CASE, Case, File, disk_with, ends, flagged, has};
 use std::alloc::Global;
 use std::test::Fail;
 
@@ -282,7 +282,7 @@ fn are_joined(alloc: Global) -> Result<bool, Fail> {
         bytes: Some(SECOND),
     };
     let mut disk = disk_with(alloc, &[], &[old])?;
-    let wrong = sccs_fixtures::first_wrong(alloc, &mut disk, &JOINT)?;
+    let wrong = sccs_test_kit::first_wrong(alloc, &mut disk, &JOINT)?;
     let files = [
         File {
             name: b"s.a",

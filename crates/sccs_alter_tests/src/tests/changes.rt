@@ -1,6 +1,6 @@
 use sccs_disk::MemoryDisk;
-use sccs_fixtures::samples::{BRANCHED, SECOND};
-use sccs_fixtures::{CASE, Case, File, disk_with, ends, first_wrong, has};
+use sccs_test_kit::samples::{BRANCHED, SECOND};
+use sccs_test_kit::{CASE, Case, File, disk_with, ends, first_wrong, has};
 use std::alloc::Global;
 use std::test::Fail;
 

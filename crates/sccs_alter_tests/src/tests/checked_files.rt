@@ -1,6 +1,6 @@
 use sccs_disk::{Fill, MemoryDisk};
-use sccs_fixtures::samples::TWO_LINES;
-use sccs_fixtures::{
+use sccs_test_kit::samples::TWO_LINES;
+use sccs_test_kit::{
     Answer, CASE, Case, File, PLAIN, answer_to, disk_with, first_wrong, has, has_file,
 };
 use std::alloc::Global;

@@ -1,8 +1,7 @@
 use crate::tests::samples::name;
 use sccs_base::Name;
 use sccs_disk::{Disk, Fill, MemoryDisk};
-use sccs_gfiles::*;
-use sccs_store::start;
+use sccs_store::*;
 use std::alloc::Global;
 use std::test::Fail;
 

@@ -1,6 +1,6 @@
 use crate::tests::names::{GROUP, are_free, are_new, are_old, are_uncrossed, crossed, edited};
 use sccs_disk::MemoryDisk;
-use sccs_fixtures::{CASE, Case, ends, has_file};
+use sccs_test_kit::{CASE, Case, ends, has_file};
 use std::alloc::Global;
 use std::test::Fail;
 

@@ -1,6 +1,6 @@
 use sccs_disk::MemoryDisk;
-use sccs_fixtures::samples::{SECOND, TWO_LINES};
-use sccs_fixtures::{CASE, Case, File, disk_with, has};
+use sccs_test_kit::samples::{SECOND, TWO_LINES};
+use sccs_test_kit::{CASE, Case, File, disk_with, has};
 use std::alloc::Global;
 use std::test::Fail;
 

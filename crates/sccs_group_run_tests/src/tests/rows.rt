@@ -1,5 +1,5 @@
-use sccs_fixtures::samples::EMPTY;
-use sccs_fixtures::{CASE, Case, File, disk_with, ends, first_wrong, has, has_file};
+use sccs_test_kit::samples::EMPTY;
+use sccs_test_kit::{CASE, Case, File, disk_with, ends, first_wrong, has, has_file};
 use std::alloc::Global;
 use std::test::Fail;
 

@@ -1,6 +1,6 @@
 use crate::tests::names::{CALLS, GROUP, are_free, are_new, are_old, edited};
 use sccs_disk::{Fill, MemoryDisk};
-use sccs_fixtures::{Answer, Given, PLAIN, answer_to, name};
+use sccs_test_kit::{Answer, Given, PLAIN, answer_to, name};
 use std::alloc::Global;
 use std::test::Fail;
 

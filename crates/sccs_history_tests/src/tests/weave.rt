@@ -2,12 +2,12 @@ ghost use Rattle.std.specs.Prelude.{◌≡◌, ◌∷◌, [], true, IfOk};
 ghost use Rattle.std.specs.List.{AllByRecursion};
 ghost use Rattle.sccs_history.specs.Applied.{live_serials};
 ghost use Rattle.sccs_history.specs.Numbers.{has};
-ghost use Rattle.sccs_weave.specs.Samples.{crossing_table, plain_record};
+ghost use Rattle.sccs_versions.specs.Samples.{crossing_table, plain_record};
 
 use sccs_base::{Line, ListOf, Login, Memory, Text};
 use sccs_history::{Flags, Header, Item, Moment, Record, Records, Serials, Sid};
 use sccs_sets::{Applied, delta_set};
-use sccs_weave::*;
+use sccs_versions::*;
 use std::alloc::Global;
 use std::test::Fail;
 

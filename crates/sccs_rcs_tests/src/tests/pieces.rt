@@ -1,7 +1,6 @@
 use crate::tests::files::{TWO, with};
 use sccs_rcs_file::read_rcs;
-use sccs_rcs_pieces::{LineCounts, LineRun, Piece, join_scripts, line_counts, trunk_runs};
-use sccs_trunks::Revision;
+use sccs_trunks::{LineCounts, LineRun, Piece, Revision, join_scripts, line_counts, trunk_runs};
 use std::alloc::Global;
 use std::test::Fail;
 

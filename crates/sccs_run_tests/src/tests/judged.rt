@@ -1,7 +1,7 @@
 use crate::tests::rows::{Row, wrong_row};
 use sccs_disk::MemoryDisk;
-use sccs_fixtures::samples::{BRANCHED, TWO_LINES};
-use sccs_fixtures::{Answer, CASE, Case, File, Given, PLAIN, answer_to, disk_with, ends};
+use sccs_test_kit::samples::{BRANCHED, TWO_LINES};
+use sccs_test_kit::{Answer, CASE, Case, File, Given, PLAIN, answer_to, disk_with, ends};
 use std::alloc::Global;
 use std::test::Fail;
 

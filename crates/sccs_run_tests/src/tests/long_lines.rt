@@ -1,6 +1,6 @@
 use crate::tests::rows::wrong_row;
-use sccs_fixtures::samples::{BRANCHED, SECOND};
-use sccs_fixtures::{sum_of, summed};
+use sccs_test_kit::samples::{BRANCHED, SECOND};
+use sccs_test_kit::{sum_of, summed};
 use std::alloc::Global;
 use std::test::Fail;
 

@@ -1,6 +1,6 @@
 use crate::tests::rows::{Row, silent, wrong_row};
-use sccs_fixtures::samples::{BRANCHED, SECOND, TWO_LINES};
-use sccs_fixtures::{Answer, File, Given, PLAIN};
+use sccs_test_kit::samples::{BRANCHED, SECOND, TWO_LINES};
+use sccs_test_kit::{Answer, File, Given, PLAIN};
 use std::test::Fail;
 
 const ONE_FILE: [File<'static>; 1] = [File {

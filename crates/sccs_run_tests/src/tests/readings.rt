@@ -1,6 +1,6 @@
 use sccs_disk::FickleDisk;
-use sccs_fixtures::samples::{SECOND, TWO_LINES};
-use sccs_fixtures::{Answer, File, PLAIN, Seen, answer_to, disk_with, name, sum_of, summed};
+use sccs_test_kit::samples::{SECOND, TWO_LINES};
+use sccs_test_kit::{Answer, File, PLAIN, Seen, answer_to, disk_with, name, sum_of, summed};
 use std::alloc::Global;
 use std::test::Fail;
 

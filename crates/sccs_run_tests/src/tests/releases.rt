@@ -1,5 +1,5 @@
 use crate::tests::rows::{Row, wrong_row};
-use sccs_fixtures::samples::{BRANCHED, RELEASES};
+use sccs_test_kit::samples::{BRANCHED, RELEASES};
 use std::test::Fail;
 
 const NO_SID: &[u8] = b"ERROR [s.a]: no such SID (15)\n";

@@ -1,5 +1,5 @@
 use sccs_disk::MemoryDisk;
-use sccs_fixtures::{Answer, CASE, Case, File, Given, answer_to, disk_with, first_wrong};
+use sccs_test_kit::{Answer, CASE, Case, File, Given, answer_to, disk_with, first_wrong};
 use std::alloc::Global;
 use std::test::Fail;
 

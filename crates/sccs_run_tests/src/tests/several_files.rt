@@ -1,6 +1,6 @@
 use crate::tests::rows::silent;
-use sccs_fixtures::samples::{BRANCHED, TWO_LINES};
-use sccs_fixtures::{Answer, CASE, Case, File, Given, PLAIN, disk_with, first_wrong};
+use sccs_test_kit::samples::{BRANCHED, TWO_LINES};
+use sccs_test_kit::{Answer, CASE, Case, File, Given, PLAIN, disk_with, first_wrong};
 use std::alloc::Global;
 use std::test::Fail;
 

@@ -1,5 +1,5 @@
 use sccs_disk::{Fill, MemoryDisk};
-use sccs_fixtures::{
+use sccs_test_kit::{
     Answer, CASE, Case, File, Given, PLAIN, answer_to, disk_with, ends, has, has_file,
 };
 use std::alloc::Global;

@@ -1,6 +1,6 @@
 use sccs_disk::{Fill, MemoryDisk};
-use sccs_fixtures::samples::{BRANCHED, TWO_LINES};
-use sccs_fixtures::{Answer, CASE, Case, File, PLAIN, answer_to, disk_with, first_wrong, has_file};
+use sccs_test_kit::samples::{BRANCHED, TWO_LINES};
+use sccs_test_kit::{Answer, CASE, Case, File, PLAIN, answer_to, disk_with, first_wrong, has_file};
 use std::alloc::Global;
 use std::test::Fail;
 

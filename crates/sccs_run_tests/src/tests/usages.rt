@@ -1,5 +1,5 @@
 use crate::tests::rows::{Row, wrong_row};
-use sccs_fixtures::samples::{BRANCHED, TWO_LINES};
+use sccs_test_kit::samples::{BRANCHED, TWO_LINES};
 use std::test::Fail;
 
 const FAULTS: [Row<'static>; 10] = [

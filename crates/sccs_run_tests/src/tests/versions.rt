@@ -1,5 +1,5 @@
 use crate::tests::rows::{Row, wrong_row};
-use sccs_fixtures::samples::{BRANCHED, DEFAULT, EMPTY, LISTED, SECOND, TWO_LINES};
+use sccs_test_kit::samples::{BRANCHED, DEFAULT, EMPTY, LISTED, SECOND, TWO_LINES};
 use std::test::Fail;
 
 const BRANCHES: [Row<'static>; 10] = [

@@ -1,6 +1,6 @@
 use crate::tests::draws::Draws;
 use sccs_disk::{Fill, MemoryDisk};
-use sccs_fixtures::{File, Given, PLAIN, Seen, answer_to, disk_with, name};
+use sccs_test_kit::{File, Given, PLAIN, Seen, answer_to, disk_with, name};
 use std::alloc::Global;
 use std::test::Fail;
 

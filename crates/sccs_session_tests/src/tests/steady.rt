@@ -1,7 +1,7 @@
 use sccs_base::SteadySource;
 use sccs_disk::SteadyDisk;
-use sccs_fixtures::samples::{SECOND, TWO_LINES};
-use sccs_fixtures::{CASE, Case, PLAIN, answer_over, disk_with, ends, has_file, name};
+use sccs_test_kit::samples::{SECOND, TWO_LINES};
+use sccs_test_kit::{CASE, Case, PLAIN, answer_over, disk_with, ends, has_file, name};
 use std::alloc::Global;
 use std::test::Fail;
 

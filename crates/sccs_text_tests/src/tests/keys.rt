@@ -1,8 +1,8 @@
-ghost use Rattle.sccs_keys.specs.Expansion.{HasMoments};
+ghost use Rattle.sccs_keywords.specs.Expansion.{HasMoments};
 
 use crate::tests::samples::facts;
 use sccs_base::MemorySink;
-use sccs_keys::{Facts, expand, has_keyword};
+use sccs_keywords::{Facts, expand, has_keyword};
 use std::alloc::Global;
 use std::test::Fail;
 

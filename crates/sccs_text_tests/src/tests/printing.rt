@@ -2,20 +2,20 @@ ghost use Rattle.std.specs.Prelude.{◌≡◌, IfOk, IfSome};
 ghost use Rattle.sccs_base.specs.Name.{IsSfile};
 ghost use Rattle.sccs_disk.specs.MemoryDisks.{disk_call};
 ghost use Rattle.sccs_history.specs.History.{IsHeader};
-ghost use Rattle.sccs_keys.specs.Expansion.{HasMoments};
-ghost use Rattle.sccs_texts.specs.Forms.{line_form};
+ghost use Rattle.sccs_keywords.specs.Expansion.{HasMoments};
+ghost use Rattle.sccs_keywords.specs.Forms.{line_form};
 
 use crate::tests::samples::{facts, trunk};
 use sccs_base::{Line, MemorySink, Name};
 use sccs_body::inspect;
 use sccs_disk::{Disk, MemoryDisk};
-use sccs_gfiles::Mode;
 use sccs_history::Serials;
+use sccs_keywords::LineForm;
 use sccs_printing::{Shown, has_keywords, make_y, print_text};
 use sccs_sets::{Applied, delta_set, retrieve};
 use sccs_sid::{Spec, StepFault};
+use sccs_store::Mode;
 use sccs_table::Front;
-use sccs_texts::LineForm;
 use std::alloc::Global;
 use std::test::Fail;
 

@@ -1,9 +1,9 @@
 ghost use Rattle.std.specs.Prelude.{IfOk};
-ghost use Rattle.sccs_keys.specs.Expansion.{HasMoments};
+ghost use Rattle.sccs_keywords.specs.Expansion.{HasMoments};
 ghost use Rattle.sccs_sid.specs.Moment.{IsMoment};
 
 use sccs_base::{Line, Name};
-use sccs_keys::Facts;
+use sccs_keywords::Facts;
 use sccs_sid::{Moment, Sid};
 use std::alloc::Global;
 use std::test::Fail;

@@ -1,5 +1,5 @@
 ghost use Rattle.std.specs.Prelude.{◌≡◌, IfOk};
-ghost use Rattle.sccs_edits.specs.Plans.{IsInOrder};
+ghost use Rattle.sccs_script_laws.specs.Plans.{IsInOrder};
 
 use sccs_base::{Line, Name};
 use sccs_disk::{Disk, FickleDisk, MemoryDisk};

@@ -1,14 +1,14 @@
 ghost use Rattle.std.specs.Prelude.{◌≡◌, IfOk, IfSome};
 ghost use Rattle.sccs_history.specs.Applied.{serials_of};
 ghost use Rattle.sccs_history.specs.Numbers.{Falls};
-ghost use Rattle.sccs_keys.specs.Expansion.{HasMoments};
-ghost use Rattle.sccs_texts.specs.Forms.{line_form};
+ghost use Rattle.sccs_keywords.specs.Expansion.{HasMoments};
+ghost use Rattle.sccs_keywords.specs.Forms.{line_form};
 
 use crate::tests::samples::{facts, trunk};
 use sccs_base::{Line, Login, Memory, MemorySink, Sink, Text};
 use sccs_history::{Record, Serials};
+use sccs_keywords::{HeldLine, LineForm, SidFinder, give_line};
 use sccs_sid::Moment;
-use sccs_texts::{HeldLine, LineForm, SidFinder, give_line};
 use std::alloc::Global;
 use std::test::Fail;
 

@@ -1,6 +1,6 @@
 use Rattle.std.proofs.Common.{◌∙◌, Err, List, Ok, ap, subst, sym}
 use Rattle.sccs_base.specs.Cut.{text_of}
-use Rattle.sccs_pending.specs.PFiles.{Answers}
+use Rattle.sccs_changes.specs.PFiles.{Answers}
 use Rattle.sccs_admin.specs.Rules.{has_wanted_keyword, new_description}
 use Rattle.sccs_admin.proofs.RuleLaws.{described_at, described_new, description_ends, no_keyword}
 use Rattle.sccs_admin.proofs.StepLaws.{exit_is}

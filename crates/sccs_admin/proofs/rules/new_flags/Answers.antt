@@ -1,5 +1,5 @@
 use Rattle.std.proofs.Common.{Err, List, Ok, subst, sym}
-use Rattle.sccs_pending.specs.PFiles.{Answers, PassesCheck}
+use Rattle.sccs_changes.specs.PFiles.{Answers, PassesCheck}
 use Rattle.sccs_history.specs.declared.headers.Flag.{Flag}
 use Rattle.sccs_admin.specs.Rules.{mrs_fit, new_flags}
 use Rattle.sccs_admin.proofs.RuleLaws.{flags_at, flags_end, flags_fit, mrs_end}

@@ -1,6 +1,6 @@
 use Rattle.std.proofs.Common.{◌∙◌, Err, List, ap, subst, sym}
 use Rattle.sccs_base.specs.Cut.{text_of}
-use Rattle.sccs_pending.specs.PFiles.{Answers}
+use Rattle.sccs_changes.specs.PFiles.{Answers}
 use Rattle.sccs_admin.specs.Rules.{new_rules}
 use Rattle.sccs_admin.specs.Texts.{count_lines, or_bad_text}
 use Rattle.sccs_admin.proofs.RuleLaws.{all_ruled, count_ends, last_ends, rest_ends, rules_hold}

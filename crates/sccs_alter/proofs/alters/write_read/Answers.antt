@@ -2,7 +2,7 @@ use Rattle.std.proofs.Common.{ℕ, List, Ok, ap, refl, subst}
 use Rattle.sccs_base.specs.Name.{x_file}
 use Rattle.sccs_disk.specs.Told.{seen}
 use Rattle.sccs_copies.proofs.BodyLaws.{header_comes}
-use Rattle.sccs_pending.specs.PFiles.{Answers}
+use Rattle.sccs_changes.specs.PFiles.{Answers}
 use Rattle.sccs_alter.specs.AlterStep.{alter_checks, altered_header}
 use Rattle.sccs_alter.proofs.HeaderLaws.{altered_spelled}
 use Rattle.sccs_alter.proofs.WriteLaws.{frame_none, file_refused, header_altered, no_header}

@@ -1,7 +1,7 @@
 use Rattle.std.proofs.Common.{ℕ, ◌+◌, ◌-◌, ap, drop, take, length, Option, Result, Ok, arith, subst, ◌∙◌}
 use Rattle.std.proofs.Math.ListN.{drop_of_length-le}
 use Rattle.std.proofs.lemmas.List.{take_rest}
-use Rattle.sccs_courses.specs.QuietSettings.{quiet}
+use Rattle.sccs_step_lists.specs.QuietSettings.{quiet}
 use Rattle.sccs_steps.specs.declared.faults.Fault.{Fault}
 use Rattle.sccs_batch.specs.BatchText.{batch_of}
 use Rattle.sccs_batch.specs.Batches.{NextEnds}

@@ -1,6 +1,6 @@
 use Rattle.std.proofs.Common.{ℕ, [], Ok, Err, Result, refl, sym, subst}
 use Rattle.sccs_base.proofs.Gifts.{gives_none, some_none}
-use Rattle.sccs_courses.specs.QuietSettings.{quiet}
+use Rattle.sccs_step_lists.specs.QuietSettings.{quiet}
 use Rattle.sccs_steps.proofs.Exits.{exit_is}
 use Rattle.sccs_steps.specs.declared.faults.Fault.{Fault}
 use Rattle.sccs_steps.specs.declared.faults.Fault.TheVariants as ends

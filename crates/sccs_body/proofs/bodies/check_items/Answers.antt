@@ -1,6 +1,6 @@
 use Rattle.std.proofs.Common.{ap, length, refl, rules, subst, sym, ◌∙◌}
 use Rattle.sccs_disk.specs.Told.{seen}
-use Rattle.sccs_marks.specs.States.{Knows}
+use Rattle.sccs_body.specs.States.{Knows}
 use Rattle.sccs_table.specs.ReaderState.{ReaderState, bytes_in}
 use Rattle.sccs_table.proofs.ReaderLaws.{same_file, stays_on}
 use Rattle.sccs_body.proofs.BodyLaws.{fewer_steps, not_taken, rest_fault, rest_read, somewhere_kept, somewhere_on, somewhere_taken}

@@ -1,7 +1,7 @@
 use Rattle.std.proofs.Common.{[], Ok, Err, ap, refl, subst, sym}
 use Rattle.sccs_disk.specs.Told.{seen}
 use Rattle.sccs_history.specs.Applied.{live_serials}
-use Rattle.sccs_marks.specs.States.{Knows}
+use Rattle.sccs_body.specs.States.{Knows}
 use Rattle.sccs_table.specs.ReaderState.{bytes_in}
 use Rattle.sccs_table.specs.declared.fronts.Front.{Front}
 use Rattle.sccs_table.proofs.ReaderLaws.{same_file}

@@ -1,6 +1,6 @@
 use Rattle.std.proofs.Common.{[], ◌∙◌, ap, not, subst}
 use Rattle.sccs_disk.specs.Told.{seen}
-use Rattle.sccs_edits.specs.Plans.{added_after}
+use Rattle.sccs_script_laws.specs.Plans.{added_after}
 use Rattle.sccs_history.specs.Numbers.{front_if}
 use Rattle.sccs_splicer.specs.PlanPlaces.{Passed}
 use Rattle.sccs_table.specs.ReaderState.{bytes_in}

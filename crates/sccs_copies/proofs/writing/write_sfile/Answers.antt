@@ -11,7 +11,7 @@ use Rattle.sccs_disk.specs.Files.{put}
 use Rattle.std.specs.Prelude.{Some}
 use Rattle.sccs_copies.specs.Copies.{AppendsFile}
 use Rattle.sccs_writers.specs.Spelled.{spelled}
-use Rattle.sccs_moments.proofs.FileNames.{from_s}
+use Rattle.sccs_crash_points.proofs.FileNames.{from_s}
 use Rattle.sccs_store.proofs.SealedLaws.{has_digits, sealed_made, spelled_bytes}
 use Rattle.sccs_disk.specs.Images.{IsFirm}
 use Rattle.sccs_store.proofs.Working.{firm_after, leaves_from, made_moves, made_there, moves_then, written_touches}

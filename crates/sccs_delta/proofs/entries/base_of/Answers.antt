@@ -1,5 +1,5 @@
 use Rattle.std.proofs.Common.{Err, subst, sym}
-use Rattle.sccs_pending.specs.PFiles.{Answers}
+use Rattle.sccs_changes.specs.PFiles.{Answers}
 use Rattle.sccs_delta.specs.DeltaStep.{entry_base}
 use Rattle.sccs_delta.specs.declared.entries.Base.{Base}
 use Rattle.sccs_delta.proofs.EntryBases.{base_made, exclude_ends, include_ends, no_got, shared_ends}

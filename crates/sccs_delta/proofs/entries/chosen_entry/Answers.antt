@@ -2,8 +2,8 @@ use Rattle.std.proofs.lemmas.Result.{err_from_is_err_and}
 use Rattle.std.proofs.Common.{◌≡◌, ℕ, true, [], ◌∷◌, Ok, Err, refl, subst, sym, ◌∙◌}
 use Rattle.sccs_sid.specs.Refusal.{number_of}
 use Rattle.sccs_delta.specs.DeltaStep.{delta_checks}
-use Rattle.sccs_pending.specs.NewEntries.{or_no_edit}
-use Rattle.sccs_pending.specs.PFiles.{Answers}
+use Rattle.sccs_changes.specs.NewEntries.{or_no_edit}
+use Rattle.sccs_changes.specs.PFiles.{Answers}
 use Rattle.sccs_pfile.specs.Choices.{choice, fits}
 use Rattle.sccs_delta.proofs.EntryChains.{entry_found, no_base, no_number, not_let_in, not_released, refused_again, wider_checks}
 use Rattle.sccs_delta.proofs.entries.chosen_entry.Goals as goal

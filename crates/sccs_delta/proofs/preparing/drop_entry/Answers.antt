@@ -1,7 +1,7 @@
 use Rattle.std.proofs.Common.{◌-◌, List, All, subst, sym}
 use Rattle.sccs_pfile.specs.Entries.{IsEdit}
 use Rattle.sccs_pfile.specs.declared.entries.Edit.{Edit}
-use Rattle.sccs_pending.proofs.EntryLaws.{all_left}
+use Rattle.sccs_changes.proofs.EntryLaws.{all_left}
 use Rattle.sccs_delta.proofs.preparing.drop_entry.Goals as goal
 
 pub prepare_entries-requires-clause-edits : goal.prepare_entries-requires-clause-edits

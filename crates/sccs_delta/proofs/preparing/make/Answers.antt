@@ -1,8 +1,8 @@
 use Rattle.std.proofs.lemmas.Result.{err_from_is_err_and}
 use Rattle.std.proofs.Common.{[], refl}
-use Rattle.sccs_edits.specs.Places.{told_behind}
+use Rattle.sccs_script_laws.specs.Places.{told_behind}
 use Rattle.sccs_splicer.specs.Splices.{items_owed}
-use Rattle.sccs_files.specs.StepFiles.{is_working}
+use Rattle.sccs_name_files.specs.StepFiles.{is_working}
 use Rattle.sccs_store.proofs.Working.{same_touches}
 use Rattle.sccs_delta.proofs.ScriptLaws.{made_speaks}
 use Rattle.sccs_delta.proofs.WriteLaws.{delta_made, no_sfile}

@@ -4,9 +4,9 @@ use Rattle.std.specs.Prelude.{IfSome}
 use Rattle.sccs_base.specs.Name.{p_file, z_file}
 use Rattle.sccs_disk.specs.Calls.{IsThere}
 use Rattle.sccs_disk.specs.Told.{seen}
-use Rattle.sccs_files.specs.StepFiles.{is_working}
-use Rattle.sccs_pending.specs.Pending.{AnswersPending}
-use Rattle.sccs_pending.proofs.PendingLaws.{found_there}
+use Rattle.sccs_name_files.specs.StepFiles.{is_working}
+use Rattle.sccs_changes.specs.Pending.{AnswersPending}
+use Rattle.sccs_changes.proofs.PendingLaws.{found_there}
 use Rattle.sccs_store.proofs.Working.{same_touches}
 use Rattle.sccs_delta.proofs.PrepareLaws.{asked_end, delta_written, pending_end, sizes_end}
 use Rattle.sccs_delta.proofs.SettleLaws.{delta_entries}

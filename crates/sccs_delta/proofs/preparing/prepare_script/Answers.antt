@@ -1,7 +1,7 @@
 use Rattle.std.proofs.lemmas.Result.{err_from_is_err_and}
 use Rattle.std.proofs.Common.{ap, ◌∙◌}
 use Rattle.sccs_disk.specs.Told.{seen}
-use Rattle.sccs_files.specs.StepFiles.{is_working}
+use Rattle.sccs_name_files.specs.StepFiles.{is_working}
 use Rattle.sccs_store.proofs.Working.{same_touches}
 use Rattle.sccs_table.specs.ReaderState.{bytes_in}
 use Rattle.sccs_delta.proofs.ScriptLaws.{script_made, told_body, unfit_makes}

@@ -4,10 +4,10 @@ use Rattle.std.specs.Prelude.{remove}
 use Rattle.std.specs.Str.{bytes_eq}
 use Rattle.sccs_base.specs.Name.{q_file, x_file}
 use Rattle.sccs_disk.specs.Told.{seen}
-use Rattle.sccs_files.specs.StepFiles.{Moves, is_working}
-use Rattle.sccs_images.specs.Touches.{TouchesOnly}
-use Rattle.sccs_images.proofs.Touched.{only_then, only_wider}
-use Rattle.sccs_moments.proofs.FileNames.{from_g, no_q, no_x}
+use Rattle.sccs_name_files.specs.StepFiles.{Moves, is_working}
+use Rattle.sccs_name_files.specs.Touches.{TouchesOnly}
+use Rattle.sccs_name_files.proofs.Touched.{only_then, only_wider}
+use Rattle.sccs_crash_points.proofs.FileNames.{from_g, no_q, no_x}
 use Rattle.sccs_store.proofs.Working.{moves_then, moves_wider}
 use Rattle.sccs_delta.proofs.WriteLaws.{files_firm, files_ready, files_written, unwritten}
 use Rattle.sccs_delta.proofs.preparing.write_files.Goals as goal

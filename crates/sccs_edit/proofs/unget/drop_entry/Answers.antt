@@ -1,12 +1,12 @@
 use Rattle.std.proofs.Common.{◌-◌, List, All, subst, sym}
 use Rattle.sccs_pfile.specs.Entries.{IsEdit}
 use Rattle.sccs_pfile.specs.declared.entries.Edit.{Edit}
-use Rattle.sccs_pending.proofs.EntryLaws.{all_left}
+use Rattle.sccs_changes.proofs.EntryLaws.{all_left}
 use Rattle.std.proofs.Common.{refl}
 use Rattle.std.specs.Str.{bytes_eq}
 use Rattle.sccs_base.specs.Name.{q_file}
 use Rattle.sccs_store.proofs.Working.{same_touches}
-use Rattle.sccs_pending.proofs.StopLaws.{entries_firm}
+use Rattle.sccs_changes.proofs.StopLaws.{entries_firm}
 use Rattle.sccs_edit.proofs.unget.drop_entry.Goals as goal
 
 pub prepare_entries-requires-clause-edits : goal.prepare_entries-requires-clause-edits

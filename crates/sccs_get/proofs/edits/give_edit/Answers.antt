@@ -3,10 +3,10 @@ use Rattle.std.proofs.Common.{◌≡◌, true, List, ℕ, Some, refl, subst, sym
 use Rattle.std.specs.Str.{bytes_eq}
 use Rattle.sccs_base.specs.Name.{q_file, y_file}
 use Rattle.sccs_disk.specs.Told.{seen}
-use Rattle.sccs_files.specs.StepFiles.{is_working, look}
-use Rattle.sccs_images.proofs.Touched.{only_then, only_wider}
-use Rattle.sccs_moments.proofs.FileNames.{no_q, no_y}
-use Rattle.sccs_transactions.specs.Changes.{unlocked}
+use Rattle.sccs_name_files.specs.StepFiles.{is_working, look}
+use Rattle.sccs_name_files.proofs.Touched.{only_then, only_wider}
+use Rattle.sccs_crash_points.proofs.FileNames.{no_q, no_y}
+use Rattle.sccs_changes.specs.Changes.{unlocked}
 use Rattle.sccs_get.specs.VersionStep.{lines_got, says_well}
 use Rattle.sccs_get.proofs.EditStops.{edit_firm, edit_ready, edit_settles}
 use Rattle.sccs_get.proofs.EditWrites.{all_prepared, body_kept, entry_ends, memory_ends, text_ends}

@@ -3,7 +3,7 @@ use Rattle.std.specs.Str.{bytes_eq}
 use Rattle.sccs_base.specs.Name.{y_file}
 use Rattle.sccs_disk.specs.Told.{seen}
 use Rattle.sccs_store.proofs.Working.{same_touches}
-use Rattle.sccs_texts.specs.Forms.{line_form}
+use Rattle.sccs_keywords.specs.Forms.{line_form}
 use Rattle.sccs_get.specs.VersionStep.{lines_got}
 use Rattle.sccs_get.proofs.GivingLaws.{print_gives, y_gives}
 use Rattle.sccs_get.proofs.WholeLaws.{makes_whole, prints_whole}

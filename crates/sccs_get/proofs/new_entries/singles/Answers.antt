@@ -1,7 +1,7 @@
 use Rattle.std.proofs.Common.{List, All, insert, ap, subst, sym, ◌∙◌}
 use Rattle.sccs_sid.specs.SidLists.{IsRange}
 use Rattle.sccs_sid.specs.declared.sid_lists.Range.{Range}
-use Rattle.sccs_pending.proofs.EntryLaws.{all_with}
+use Rattle.sccs_changes.proofs.EntryLaws.{all_with}
 use Rattle.sccs_get.proofs.EditLaws.{live_at, single_added}
 use Rattle.sccs_get.proofs.EntrySids.{sid_there}
 use Rattle.sccs_get.proofs.new_entries.singles.Goals as goal

@@ -1,5 +1,5 @@
 use Rattle.sccs_disk.specs.Told.{seen}
-use Rattle.sccs_transactions.proofs.ChangeCauses.{finish_causes}
+use Rattle.sccs_changes.proofs.ChangeCauses.{finish_causes}
 use Rattle.sccs_get.proofs.GivingLaws.{placed_reported, placed_so}
 use Rattle.sccs_get.proofs.steps.finish.Goals as goal
 

@@ -2,7 +2,7 @@ use Rattle.std.proofs.Common.{refl, ◌||◌}
 use Rattle.std.specs.Str.{bytes_eq}
 use Rattle.std.specs.Prelude.{drop}
 use Rattle.sccs_base.specs.Name.{y_file}
-use Rattle.sccs_moments.proofs.Unlocked.{others_same}
+use Rattle.sccs_crash_points.proofs.Unlocked.{others_same}
 use Rattle.sccs_get.proofs.steps.place.Goals as goal
 
 pub returns-then-not-writes_g-clause-others : goal.returns-then-not-writes_g-clause-others

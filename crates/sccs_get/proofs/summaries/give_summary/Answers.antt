@@ -1,6 +1,6 @@
 use Rattle.std.proofs.Common.{refl}
-use Rattle.sccs_moments.proofs.Unlocked.{others_same}
-use Rattle.sccs_moments.proofs.Untouched.{same_before}
+use Rattle.sccs_crash_points.proofs.Unlocked.{others_same}
+use Rattle.sccs_crash_points.proofs.Untouched.{same_before}
 use Rattle.sccs_summary.specs.SummaryFiles.{is_summary}
 use Rattle.sccs_get.proofs.summaries.give_summary.Goals as goal
 

@@ -1,6 +1,6 @@
 use Rattle.std.specs.Str.{bytes_eq}
 use Rattle.sccs_disk.specs.Files.{Remove}
-use Rattle.sccs_images.proofs.Called.{remove_touched}
+use Rattle.sccs_name_files.proofs.Called.{remove_touched}
 use Rattle.sccs_store.proofs.Working.{same_touches, touches_from}
 use Rattle.sccs_group.proofs.Called.{may_remove, may_same, size_some}
 use Rattle.sccs_group.proofs.calls.clear.Goals as goal

@@ -1,5 +1,5 @@
 use Rattle.sccs_group.specs.Halfway.{is_own_of_member}
-use Rattle.sccs_moments.proofs.Unlocked.{others_same}
+use Rattle.sccs_crash_points.proofs.Unlocked.{others_same}
 use Rattle.sccs_group.proofs.GroupFiles.{g_others}
 use Rattle.std.proofs.Common.{refl}
 use Rattle.sccs_disk.specs.Files.{View}

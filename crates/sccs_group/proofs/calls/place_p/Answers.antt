@@ -2,7 +2,7 @@ use Rattle.sccs_group.proofs.GroupFiles.{p_others, q_others}
 use Rattle.std.proofs.Common.{◌≡◌, Some, subst, sym}
 use Rattle.sccs_disk.specs.Files.{View}
 use Rattle.sccs_intents.specs.declared.intents.Fate.{Fate}
-use Rattle.sccs_moments.specs.Recovery.{fate_at}
+use Rattle.sccs_crash_points.specs.Recovery.{fate_at}
 use Rattle.sccs_group.specs.Finishing.{FinishesBy}
 use Rattle.sccs_group.proofs.Calling.{p_story, q_story}
 use Rattle.sccs_group.proofs.calls.place_p.Goals as goal

@@ -3,7 +3,7 @@ use Rattle.sccs_group.proofs.GroupFiles.{own_turn}
 use Rattle.sccs_group.proofs.Parts.{first_cut, first_on}
 use Rattle.std.proofs.Common.{arith, refl}
 use Rattle.sccs_group.specs.Halfway.{is_own_of}
-use Rattle.sccs_moments.proofs.Unlocked.{others_same}
+use Rattle.sccs_crash_points.proofs.Unlocked.{others_same}
 use Rattle.sccs_group.specs.Members.{placed}
 use Rattle.sccs_group.proofs.Looping.{all_done, item_at, member_sfile, placed_all, placed_cut, placed_on, view_on}
 use Rattle.sccs_group.proofs.finishing.place_all.Goals as goal

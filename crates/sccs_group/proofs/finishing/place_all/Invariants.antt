@@ -1,7 +1,7 @@
 use Rattle.std.proofs.Common.{◌≤◌, Option, drop}
 use Rattle.sccs_disk.specs.Files.{View}
 use Rattle.sccs_disk.specs.Told.{Told, seen}
-use Rattle.sccs_moments.specs.Unlocked.{KeepsOthers}
+use Rattle.sccs_crash_points.specs.Unlocked.{KeepsOthers}
 use Rattle.sccs_store.specs.Commits.{Becomes}
 use Rattle.sccs_group.specs.Finishing.{FinishesBy}
 use Rattle.sccs_group.specs.Halfway.{PlacesFirst, is_own_of}

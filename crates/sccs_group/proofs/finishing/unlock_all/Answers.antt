@@ -2,7 +2,7 @@ use Rattle.sccs_group.proofs.GroupFiles.{lock_turn}
 use Rattle.sccs_group.proofs.Parts.{lock_moves}
 use Rattle.std.proofs.Common.{arith, inr, refl}
 use Rattle.sccs_group.specs.Halfway.{is_lock_of}
-use Rattle.sccs_moments.proofs.Unlocked.{others_same}
+use Rattle.sccs_crash_points.proofs.Unlocked.{others_same}
 use Rattle.sccs_store.proofs.Working.{moves_same}
 use Rattle.sccs_group.specs.Members.{unlocked}
 use Rattle.sccs_group.proofs.Looping.{all_done, item_at, member_sfile, unlocked_all, unlocked_cut, unlocked_on, view_on}

@@ -1,5 +1,5 @@
 use Rattle.sccs_store.proofs.Working.{err_map, err_of, ok_map}
-use Rattle.sccs_moments.proofs.Unlocked.{others_then}
+use Rattle.sccs_crash_points.proofs.Unlocked.{others_then}
 use Rattle.sccs_group.specs.Halfway.{is_own_of_group}
 use Rattle.sccs_group.proofs.Alike.{announced_halfway, half_halfway}
 use Rattle.sccs_group.proofs.GroupFiles.{announce_others}

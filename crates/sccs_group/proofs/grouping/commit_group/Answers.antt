@@ -1,5 +1,5 @@
 use Rattle.std.proofs.Common.{List, subst, sym, ◌∙◌}
-use Rattle.sccs_moments.specs.Unlocked.{KeepsOthers}
+use Rattle.sccs_crash_points.specs.Unlocked.{KeepsOthers}
 use Rattle.sccs_group.specs.Ended.{CommitsGroup}
 use Rattle.sccs_group.specs.Halfway.{is_own_of_group}
 use Rattle.sccs_group.specs.Members.{AreMembers, IsWritten}

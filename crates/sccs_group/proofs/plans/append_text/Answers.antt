@@ -1,4 +1,4 @@
-use Rattle.sccs_images.proofs.Called.{sync_firm}
+use Rattle.sccs_name_files.proofs.Called.{sync_firm}
 use Rattle.sccs_writers.proofs.OneFile.{only_both}
 use Rattle.sccs_store.proofs.Working.{firm_after, sync_only}
 use Rattle.sccs_group.proofs.Texts.{append_only}

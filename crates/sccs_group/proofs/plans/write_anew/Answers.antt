@@ -1,7 +1,7 @@
 use Rattle.sccs_store.proofs.Working.{moves_then}
 use Rattle.std.specs.Str.{bytes_eq}
 use Rattle.sccs_disk.specs.Told.{seen}
-use Rattle.sccs_images.proofs.Touched.{only_then}
+use Rattle.sccs_name_files.proofs.Touched.{only_then}
 use Rattle.sccs_group.proofs.Committing.{gone_then}
 use Rattle.sccs_group.proofs.Texts.{refusal_is}
 use Rattle.sccs_group.proofs.plans.write_anew.Goals as goal

@@ -1,6 +1,6 @@
 use Rattle.std.proofs.Common.{IfSome, List, Option, Some, ap, subst, sym, ◌∙◌}
 use Rattle.sccs_disk.specs.Told.{seen}
-use Rattle.sccs_moments.specs.Unlocked.{KeepsOthers}
+use Rattle.sccs_crash_points.specs.Unlocked.{KeepsOthers}
 use Rattle.sccs_group.specs.Finishing.{Always}
 use Rattle.sccs_group.specs.Halfway.{IsHalfway, is_own_of_group}
 use Rattle.sccs_group.proofs.Intended.{halfway_synced, of_intended, others_synced}

@@ -1,6 +1,6 @@
 use Rattle.std.proofs.Common.{Err, IfSome, Ok, ap, refl, subst}
 use Rattle.sccs_disk.specs.Files.{View}
-use Rattle.sccs_moments.specs.Unlocked.{KeepsOthers}
+use Rattle.sccs_crash_points.specs.Unlocked.{KeepsOthers}
 use Rattle.sccs_group.specs.Halfway.{IsHalfway, intended, is_own_of_group}
 use Rattle.sccs_group.proofs.Intended.{halfway_still, others_still}
 use Rattle.sccs_disk.specs.Told.{Told, seen}

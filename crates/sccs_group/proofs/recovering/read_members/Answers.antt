@@ -1,9 +1,9 @@
 use Rattle.std.proofs.Common.{◌≡◌, Err, IfSome, List, Ok, Some, None, subst, ℕ}
 use Rattle.sccs_disk.specs.Files.{View}
 use Rattle.sccs_disk.specs.Told.{seen}
-use Rattle.sccs_files.specs.WholeFiles.{AnswersWhole}
-use Rattle.sccs_files.specs.declared.whole_files.WholeFault.{WholeFault}
-use Rattle.sccs_files.specs.declared.whole_files.WholeFault.TheVariants.{Missing, TooLong}
+use Rattle.sccs_name_files.specs.WholeFiles.{AnswersWhole}
+use Rattle.sccs_name_files.specs.declared.whole_files.WholeFault.{WholeFault}
+use Rattle.sccs_name_files.specs.declared.whole_files.WholeFault.TheVariants.{Missing, TooLong}
 use Rattle.sccs_intents.specs.Intents.{intent_of}
 use Rattle.sccs_group.specs.Recovering.{IsWellFormed, ReadsBytes, ReadsMembers}
 use Rattle.sccs_group.specs.declared.recovering.GroupFault.TheVariants.{BadIntent}

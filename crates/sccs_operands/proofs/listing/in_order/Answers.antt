@@ -1,5 +1,5 @@
 use Rattle.std.proofs.Common.{◌≡◌, rules}
-use Rattle.sccs_name_sets.specs.NameSets.{names_in}
+use Rattle.sccs_base.specs.NameSets.{names_in}
 use Rattle.sccs_operands.proofs.Listings.{order_of}
 use Rattle.sccs_operands.proofs.listing.in_order.Goals as goal
 

@@ -1,7 +1,7 @@
 use Rattle.std.proofs.Common.{ℕ, List, ◌&&◌, ◌||◌, ap, sym, ◌∙◌}
 use Rattle.std.specs.List.{list_any}
 use Rattle.std.specs.Str.{bytes_eq}
-use Rattle.sccs_name_sets.specs.NameSets.{names_in}
+use Rattle.sccs_base.specs.NameSets.{names_in}
 use Rattle.sccs_operands.proofs.listing.keep.Goals as goal
 
 pub returns : goal.returns

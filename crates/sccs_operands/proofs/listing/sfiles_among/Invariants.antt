@@ -2,7 +2,7 @@ use Rattle.std.proofs.Common.{◌≡◌, ◌&&◌, ℕ, List, take}
 use Rattle.std.specs.List.{list_any}
 use Rattle.std.specs.Str.{bytes_eq}
 use Rattle.sccs_base.specs.Name.{is_sfile_name}
-use Rattle.sccs_name_sets.specs.NameSets.{names_in}
+use Rattle.sccs_base.specs.NameSets.{names_in}
 use Rattle.sccs_operands.proofs.listing.sfiles_among.Given as goal
 
 -- the set has the s-files' names among those so far

@@ -1,7 +1,7 @@
 use Rattle.std.proofs.Common.{Ok, [], ◌∷◌, ◌+◌, sym, subst}
 use Rattle.sccs_base.specs.Stream.{Buffers}
 use Rattle.sccs_disk.specs.Told.{Told}
-use Rattle.sccs_texts.specs.Forms.{formed_lines}
+use Rattle.sccs_keywords.specs.Forms.{formed_lines}
 use Rattle.sccs_versions.specs.Coming.{GivesNextLine}
 use Rattle.sccs_versions.specs.declared.readers.Next.{Next}
 use Rattle.sccs_versions.specs.WasRead.{ReadsNext}

@@ -1,6 +1,6 @@
 use Rattle.std.proofs.Common.{Ok, ap, subst, ◌∙◌}
 use Rattle.std.specs.List.{list_any}
-use Rattle.sccs_keys.specs.Keywords.{is_keyword, parts}
+use Rattle.sccs_keywords.specs.Keywords.{is_keyword, parts}
 use Rattle.sccs_versions.specs.Coming.{GivesNextLine}
 use Rattle.sccs_versions.specs.declared.readers.Next.{Next}
 use Rattle.sccs_printing.specs.Printing.{IsFaultAroundPrint}

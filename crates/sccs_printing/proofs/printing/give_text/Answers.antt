@@ -2,7 +2,7 @@ use Rattle.std.proofs.Common.{◌∙◌, ap, rules, subst}
 use Rattle.sccs_disk.specs.Told.{seen}
 use Rattle.sccs_history.specs.Body.{lines_of}
 use Rattle.sccs_table.specs.ReaderState.{bytes_in}
-use Rattle.sccs_texts.specs.Forms.{line_form}
+use Rattle.sccs_keywords.specs.Forms.{line_form}
 use Rattle.sccs_versions.specs.Coming.{shown}
 use Rattle.sccs_printing.specs.Targets.{Reaches, file_of}
 use Rattle.sccs_printing.proofs.TurnLaws.{reach_on}

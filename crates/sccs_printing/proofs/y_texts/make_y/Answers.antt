@@ -6,9 +6,9 @@ use Rattle.sccs_disk.specs.Effects.{empty_file}
 use Rattle.sccs_disk.specs.Images.{IsFirm}
 use Rattle.sccs_disk.specs.Told.{seen}
 use Rattle.sccs_history.specs.Body.{lines_of}
-use Rattle.sccs_moments.proofs.FileNames.{from_s}
+use Rattle.sccs_crash_points.proofs.FileNames.{from_s}
 use Rattle.sccs_store.proofs.Working.{firm_after, leaves_from, made_moves, made_there, moves_then, written_touches}
-use Rattle.sccs_texts.specs.Forms.{line_form}
+use Rattle.sccs_keywords.specs.Forms.{line_form}
 use Rattle.sccs_versions.specs.Coming.{shown}
 use Rattle.sccs_writers.proofs.OneFile.{only_both}
 use Rattle.sccs_printing.specs.Printing.{version_text}

@@ -1,6 +1,6 @@
 use Rattle.std.proofs.Common.{List, ap, arith, subst, ◌∙◌}
-use Rattle.sccs_data_keywords.specs.DataKeywords.{data_parts}
-use Rattle.sccs_data_keywords.specs.declared.keywords.Part.{Part}
+use Rattle.sccs_prs.specs.DataKeywords.{data_parts}
+use Rattle.sccs_prs.specs.declared.keywords.Part.{Part}
 use Rattle.sccs_prs.specs.Gives.{GivesHeld}
 use Rattle.sccs_prs.specs.PrsText.{deltas_text, name_text, data_spec}
 use Rattle.sccs_prs.specs.Shown.{shown_file}

@@ -1,7 +1,7 @@
 use Rattle.std.proofs.Common.{◌<◌, ◌∙◌, ap, length, refl, subst, sym}
 use Rattle.std.specs.List.{AllByRecursion}
 use Rattle.sccs_trunks.specs.TrunkHistories.{IsRevision}
-use Rattle.sccs_rcs_pieces.specs.Runs.{run_lines}
+use Rattle.sccs_trunks.specs.Runs.{run_lines}
 use Rattle.sccs_rcs.proofs.HeaderLaws.{header_is, header_spelled, revisions_fit, table_is}
 use Rattle.sccs_rcs.proofs.headers.trunk_header.Goals as goal
 

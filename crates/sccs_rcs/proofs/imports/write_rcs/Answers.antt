@@ -1,7 +1,7 @@
 use Rattle.std.proofs.Common.{◌<◌, length, refl, subst, sym}
 use Rattle.std.specs.Str.{bytes_eq}
 use Rattle.sccs_base.specs.Name.{x_file}
-use Rattle.sccs_rcs_pieces.specs.Runs.{run_lines}
+use Rattle.sccs_trunks.specs.Runs.{run_lines}
 use Rattle.sccs_store.proofs.Working.{same_touches}
 use Rattle.sccs_rcs.proofs.HeaderLaws.{revisions_fit}
 use Rattle.sccs_rcs.proofs.ImportLaws.{imported_firm, rcs_written, runs_are}

@@ -1,8 +1,8 @@
 use Rattle.std.proofs.Common.{Ok, Err, IfSome, List, subst, ℕ}
 use Rattle.sccs_disk.specs.Files.{View}
 use Rattle.sccs_disk.specs.Told.{seen}
-use Rattle.sccs_files.specs.WholeFiles.{AnswersWhole}
-use Rattle.sccs_files.specs.declared.whole_files.WholeFault.{WholeFault}
+use Rattle.sccs_name_files.specs.WholeFiles.{AnswersWhole}
+use Rattle.sccs_name_files.specs.declared.whole_files.WholeFault.{WholeFault}
 use Rattle.sccs_intents.specs.Intents.{intent_file, intent_of}
 use Rattle.sccs_recovery.specs.Checks.{RefusesIntent}
 use Rattle.sccs_recovery.proofs.IntentLaws.{long_refuses, missing_passes, read_refuses}

@@ -1,16 +1,16 @@
 use Rattle.std.proofs.Common.{false}
 use Rattle.sccs_disk.specs.Told.{seen}
-use Rattle.sccs_files.specs.StepFiles.{is_working}
-use Rattle.sccs_images.proofs.Touched.{only_then}
-use Rattle.sccs_moments.specs.Recovery.{recover_alone}
+use Rattle.sccs_name_files.specs.StepFiles.{is_working}
+use Rattle.sccs_name_files.proofs.Touched.{only_then}
+use Rattle.sccs_crash_points.specs.Recovery.{recover_alone}
 use Rattle.sccs_sid.specs.declared.refusals.StepFault.TheVariants as faults
 use Rattle.sccs_store.specs.Commits.{plan}
 use Rattle.sccs_store.specs.declared.new_files.NewFile.TheVariants.{Keep}
 use Rattle.sccs_store.proofs.Working.{moves_then}
 use Rattle.sccs_recovery.proofs.RecoveryEnds.{cleared_gone, err_is, part_partly, partly}
 use Rattle.sccs_recovery.proofs.RecoveryLaws.{calm_leaves, ended_calm, ended_story, stopped_firm, stopped_story, touched_firm, touched_story}
-use Rattle.sccs_moments.specs.Unlocked.{is_own}
-use Rattle.sccs_moments.proofs.Unlocked.{others_then}
+use Rattle.sccs_crash_points.specs.Unlocked.{is_own}
+use Rattle.sccs_crash_points.proofs.Unlocked.{others_then}
 use Rattle.sccs_recovery.proofs.OtherNames.{touched_others}
 use Rattle.sccs_recovery.proofs.recoveries.finish.Goals as goal
 

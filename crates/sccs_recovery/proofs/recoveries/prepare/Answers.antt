@@ -1,8 +1,8 @@
 use Rattle.sccs_base.specs.Name.{q_file}
 use Rattle.sccs_disk.specs.Images.{IsFirm}
 use Rattle.sccs_disk.specs.Told.{seen}
-use Rattle.sccs_files.specs.StepFiles.{is_working}
-use Rattle.sccs_images.proofs.Touched.{only_then}
+use Rattle.sccs_name_files.specs.StepFiles.{is_working}
+use Rattle.sccs_name_files.proofs.Touched.{only_then}
 use Rattle.sccs_store.proofs.Working.{cleared_moves, moves_then, ok_map}
 use Rattle.sccs_recovery.proofs.RecoveryLaws.{both_ok, firm_from, prepared_needs, prepared_there, prepared_view}
 use Rattle.sccs_recovery.proofs.recoveries.prepare.Goals as goal

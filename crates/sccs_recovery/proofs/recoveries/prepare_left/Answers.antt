@@ -1,9 +1,9 @@
 use Rattle.std.proofs.Common.{refl}
 use Rattle.std.specs.Str.{bytes_eq}
 use Rattle.sccs_base.specs.Name.{q_file}
-use Rattle.sccs_files.specs.StepFiles.{is_working}
-use Rattle.sccs_images.proofs.Touched.{only_wider}
-use Rattle.sccs_moments.proofs.FileNames.{no_q}
+use Rattle.sccs_name_files.specs.StepFiles.{is_working}
+use Rattle.sccs_name_files.proofs.Touched.{only_wider}
+use Rattle.sccs_crash_points.proofs.FileNames.{no_q}
 use Rattle.sccs_store.proofs.Working.{same_touches}
 use Rattle.sccs_recovery.proofs.RecoveryEnds.{q_moves}
 use Rattle.sccs_recovery.proofs.recoveries.prepare_left.Goals as goal

@@ -1,8 +1,8 @@
 use Rattle.std.proofs.Common.{rules}
 use Rattle.sccs_recovery.proofs.RecoveryLaws.{calm_from, firm_since, same_firm, same_story, story_from}
 use Rattle.sccs_recovery.proofs.RecoveryEnds.{ended, failed, partly, partly_from, same_partly}
-use Rattle.sccs_moments.specs.Unlocked.{is_own}
-use Rattle.sccs_moments.proofs.Unlocked.{others_same}
+use Rattle.sccs_crash_points.specs.Unlocked.{is_own}
+use Rattle.sccs_crash_points.proofs.Unlocked.{others_same}
 use Rattle.sccs_recovery.proofs.OtherNames.{others_since}
 use Rattle.sccs_recovery.proofs.recoveries.recover.Goals as goal
 

@@ -1,8 +1,8 @@
 use Rattle.std.specs.Str.{bytes_eq}
 use Rattle.sccs_base.specs.Name.{y_file}
-use Rattle.sccs_files.specs.StepFiles.{is_working}
-use Rattle.sccs_images.proofs.Touched.{only_wider}
-use Rattle.sccs_moments.proofs.FileNames.{no_y}
+use Rattle.sccs_name_files.specs.StepFiles.{is_working}
+use Rattle.sccs_name_files.proofs.Touched.{only_wider}
+use Rattle.sccs_crash_points.proofs.FileNames.{no_y}
 use Rattle.sccs_store.proofs.Working.{ok_map}
 use Rattle.sccs_recovery.proofs.RecoveryLaws.{synced_calm, synced_firm, synced_story, touched_firm, touched_story}
 use Rattle.sccs_store.proofs.Working.{err_map}

@@ -1,10 +1,10 @@
 use Rattle.std.proofs.Common.{rules}
-use Rattle.sccs_files.specs.StepFiles.{is_working}
+use Rattle.sccs_name_files.specs.StepFiles.{is_working}
 use Rattle.sccs_store.proofs.Working.{ok_map, same_touches, touches_from}
 use Rattle.sccs_recovery.proofs.RecoveryLaws.{calm_from, firm_since, same_firm, same_story}
 use Rattle.sccs_recovery.proofs.RecoveryEnds.{finished_partly, same_cleared, same_partly}
-use Rattle.sccs_moments.specs.Unlocked.{is_own}
-use Rattle.sccs_moments.proofs.Unlocked.{others_same}
+use Rattle.sccs_crash_points.specs.Unlocked.{is_own}
+use Rattle.sccs_crash_points.proofs.Unlocked.{others_same}
 use Rattle.sccs_recovery.proofs.OtherNames.{others_since}
 use Rattle.sccs_recovery.proofs.recoveries.unlock.Goals as goal
 

@@ -6,8 +6,8 @@ use Rattle.sccs_disk.specs.Told.{seen}
 use Rattle.sccs_history.specs.History.{IsSpelled}
 use Rattle.sccs_history.specs.Removal.{dropped}
 use Rattle.sccs_store.proofs.Working.{same_touches}
-use Rattle.sccs_removal.specs.Removed.{without_delta}
-use Rattle.sccs_removal.proofs.RemovedTables.{spelled_removed}
+use Rattle.sccs_rmdel.specs.Removed.{without_delta}
+use Rattle.sccs_rmdel.proofs.RemovedTables.{spelled_removed}
 use Rattle.sccs_rmdel.proofs.WriteLaws.{retyped, written_as}
 use Rattle.sccs_rmdel.proofs.writing.write_without.Goals as goal
 

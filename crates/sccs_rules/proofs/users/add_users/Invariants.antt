@@ -1,5 +1,5 @@
 use Rattle.std.proofs.Common.{◌≡◌, drop, fold}
-use Rattle.sccs_name_sets.specs.NameSets.{HasNames}
+use Rattle.sccs_base.specs.NameSets.{HasNames}
 use Rattle.sccs_rules.specs.Users.{with_user}
 use Rattle.sccs_rules.proofs.users.add_users.Given as goal
 

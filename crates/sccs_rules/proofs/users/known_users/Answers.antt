@@ -1,4 +1,4 @@
-use Rattle.sccs_name_sets.proofs.Inserting.{names_more}
+use Rattle.sccs_base.proofs.Inserting.{names_more}
 use Rattle.sccs_rules.proofs.users.known_users.Goals as goal
 
 pub loop-user-preserved : goal.loop-user-preserved

@@ -1,5 +1,5 @@
 use Rattle.std.proofs.Common.{take}
-use Rattle.sccs_name_sets.specs.NameSets.{HasNames}
+use Rattle.sccs_base.specs.NameSets.{HasNames}
 use Rattle.sccs_rules.proofs.users.known_users.Given as goal
 
 -- the set has the users so far

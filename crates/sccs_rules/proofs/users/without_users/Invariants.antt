@@ -1,5 +1,5 @@
 use Rattle.std.proofs.Common.{◌≡◌, ◌++◌, drop}
-use Rattle.sccs_name_sets.specs.NameSets.{names_in}
+use Rattle.sccs_base.specs.NameSets.{names_in}
 use Rattle.sccs_rules.specs.Users.{without_users}
 use Rattle.sccs_rules.proofs.users.without_users.Given as goal
 

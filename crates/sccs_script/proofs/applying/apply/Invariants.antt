@@ -1,6 +1,6 @@
 use Rattle.std.proofs.Common.{◌≡◌, ◌++◌, length, map}
 use Rattle.std.specs.List.{AllByRecursion}
-use Rattle.sccs_edits.specs.Scripts.{apply}
+use Rattle.sccs_script_laws.specs.Scripts.{apply}
 use Rattle.sccs_script.specs.Drafts.{content, IsPiece, IsWithinBase, unstacked}
 use Rattle.sccs_script.proofs.applying.apply.Given as goal
 

@@ -1,7 +1,7 @@
 use Rattle.std.proofs.Common.{◌+◌, List, drop, sym, ap, ◌∙◌}
 use Rattle.std.specs.List.{position}
 use Rattle.sccs_sid.specs.SidLists.{begins}
-use Rattle.sccs_edits.specs.declared.scripts.Order.{Order}
+use Rattle.sccs_script_laws.specs.declared.scripts.Order.{Order}
 use Rattle.sccs_script.specs.Checks.{bare_soh, or_bad}
 use Rattle.sccs_script.specs.Commands.{FitsIn}
 use Rattle.sccs_script.proofs.Bare.{bare_at, fit_rest, numbered}

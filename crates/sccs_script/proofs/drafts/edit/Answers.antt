@@ -1,5 +1,5 @@
 use Rattle.std.proofs.Common.{◌≡◌, ◌-◌, IfOk, sym, subst}
-use Rattle.sccs_edits.specs.declared.scripts.Order.{Order}
+use Rattle.sccs_script_laws.specs.declared.scripts.Order.{Order}
 use Rattle.sccs_script.specs.Drafts.{edit}
 use Rattle.sccs_script.proofs.TreeLaws.{put_for}
 use Rattle.sccs_script.proofs.drafts.edit.Goals as goal

@@ -1,6 +1,6 @@
 use Rattle.std.proofs.Common.{◌≡◌, ◌++◌, List, sym, ap, ◌∙◌, arith, append-nil}
 use Rattle.std.proofs.lemmas.List.{at_drop_all}
-use Rattle.sccs_edits.specs.declared.scripts.Order.{Order}
+use Rattle.sccs_script_laws.specs.declared.scripts.Order.{Order}
 use Rattle.sccs_script.specs.Drafts.{draft_base, edited_draft, DraftLine, unstacked}
 use Rattle.sccs_script.proofs.PlanLaws.{pieces_within}
 use Rattle.sccs_script.proofs.drafts.edited.Goals as goal

@@ -1,7 +1,7 @@
 use Rattle.std.proofs.Common.{◌≡◌, Result, Ok, Err, IfOk, sym, subst, ap, ◌∙◌}
-use Rattle.sccs_edits.specs.declared.scripts.Plan.{Plan}
-use Rattle.sccs_edits.specs.Plans.{IsInOrder, plan}
-use Rattle.sccs_edits.proofs.PlanOrder.{plan_in_order}
+use Rattle.sccs_script_laws.specs.declared.scripts.Plan.{Plan}
+use Rattle.sccs_script_laws.specs.Plans.{IsInOrder, plan}
+use Rattle.sccs_script_laws.proofs.PlanOrder.{plan_in_order}
 use Rattle.sccs_script.specs.Drafts.{draft_base, edited_draft, draft_plan}
 use Rattle.sccs_script.proofs.Entries.{plan_edited}
 use Rattle.sccs_script.proofs.PlanLaws.{range_of}

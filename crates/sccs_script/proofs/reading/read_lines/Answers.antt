@@ -1,5 +1,5 @@
 use Rattle.std.proofs.Common.{◌+◌, ◌<◌, [], ◌∷◌, ◌++◌, List, ℕ, length, drop, inr, sym, subst, ap, IfSome, ◌∙◌, arith}
-use Rattle.sccs_edits.specs.declared.scripts.Order.{Order}
+use Rattle.sccs_script_laws.specs.declared.scripts.Order.{Order}
 use Rattle.std.specs.List.{AllByRecursion}
 use Rattle.sccs_script.specs.Commands.{at_end, FitsIn, orders_from, TurnFits}
 use Rattle.sccs_script.proofs.OneTurn.{behind_turn, fit_push, no_line, one_turn}

@@ -2,7 +2,7 @@ use Rattle.std.proofs.Common.{◌≡◌, Result, refl, subst}
 use Rattle.std.specs.Prelude.{IfOk}
 use Rattle.sccs_base.specs.declared.streams.Memory.{Memory}
 use Rattle.sccs_batch.specs.declared.entries.Entry.{Entry}
-use Rattle.sccs_courses.specs.QuietSettings.{quiet}
+use Rattle.sccs_step_lists.specs.QuietSettings.{quiet}
 use Rattle.sccs_soak.specs.Runs.{RunsSoaked}
 use Rattle.sccs_soak.proofs.SoakCourses.{soaked_never, soaked_ran}
 use Rattle.sccs_soak.proofs.running.run_made.Goals as goal

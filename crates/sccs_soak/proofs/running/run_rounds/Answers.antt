@@ -1,5 +1,5 @@
 use Rattle.std.proofs.Common.{ℕ, ◌+◌, ◌-◌, ◌≤◌, Result, Ok, arith, subst, sym}
-use Rattle.sccs_courses.specs.QuietSettings.{quiet}
+use Rattle.sccs_step_lists.specs.QuietSettings.{quiet}
 use Rattle.sccs_steps.specs.declared.faults.Fault.{Fault}
 use Rattle.sccs_soak.specs.Commands.{rounds_from}
 use Rattle.sccs_soak.specs.Runs.{LeadsSoak, RunsRound}

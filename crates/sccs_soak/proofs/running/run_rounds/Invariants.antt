@@ -1,5 +1,5 @@
 use Rattle.std.proofs.Common.{◌≤◌, ◌<◌, ◌+◌, ◌-◌}
-use Rattle.sccs_courses.specs.QuietSettings.{quiet}
+use Rattle.sccs_step_lists.specs.QuietSettings.{quiet}
 use Rattle.sccs_soak.specs.Commands.{rounds_from}
 use Rattle.sccs_soak.specs.Runs.{LeadsSoak}
 use Rattle.sccs_soak.proofs.running.run_rounds.Given as goal

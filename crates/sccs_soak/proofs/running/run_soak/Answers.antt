@@ -1,5 +1,5 @@
 use Rattle.std.proofs.Common.{ℕ, Result, Ok, subst}
-use Rattle.sccs_courses.specs.QuietSettings.{quiet}
+use Rattle.sccs_step_lists.specs.QuietSettings.{quiet}
 use Rattle.sccs_steps.specs.declared.faults.Fault.{Fault}
 use Rattle.sccs_soak.specs.Commands.{first_command, rounds_from}
 use Rattle.sccs_soak.specs.Runs.{RunsSoaked}

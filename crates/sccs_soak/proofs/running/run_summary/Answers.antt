@@ -1,4 +1,4 @@
-use Rattle.sccs_courses.specs.QuietSettings.{quiet}
+use Rattle.sccs_step_lists.specs.QuietSettings.{quiet}
 use Rattle.sccs_soak.proofs.SummaryLaws.{summary_never}
 use Rattle.sccs_soak.proofs.running.run_summary.Goals as goal
 

@@ -3,7 +3,7 @@ use Rattle.std.proofs.Common.{ℕ, List, None, Some, ap, ◌∙◌}
 use Rattle.sccs_disk.specs.Told.{seen}
 use Rattle.sccs_history.specs.Applied.{applied}
 use Rattle.sccs_table.specs.ReaderState.{bytes_in}
-use Rattle.sccs_texts.specs.Forms.{bare_form}
+use Rattle.sccs_keywords.specs.Forms.{bare_form}
 use Rattle.sccs_prs.proofs.LinesLaws.{with_set}
 use Rattle.sccs_soak.proofs.SummaryLaws.{fault_counts, version_counted}
 use Rattle.sccs_soak.proofs.summaries.version_lines.Goals as goal

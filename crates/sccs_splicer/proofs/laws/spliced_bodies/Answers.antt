@@ -5,9 +5,9 @@ use Rattle.sccs_tokens.specs.Written.{HasLines, IsItem}
 use Rattle.sccs_grammar.proofs.CanonicalLaws.{canonical_again}
 use Rattle.sccs_history.specs.Body.{GoesOn, lines_of}
 use Rattle.sccs_history.specs.Select.{select}
-use Rattle.sccs_edits.specs.Places.{places, told_behind}
-use Rattle.sccs_edits.specs.Plans.{plan}
-use Rattle.sccs_edits.proofs.Rules.{rules_spliced}
+use Rattle.sccs_script_laws.specs.Places.{places, told_behind}
+use Rattle.sccs_script_laws.specs.Plans.{plan}
+use Rattle.sccs_script_laws.proofs.Rules.{rules_spliced}
 use Rattle.sccs_splicer.specs.Splices.{new_splice}
 use Rattle.sccs_splicer.proofs.PlacedLines.{placed_all}
 use Rattle.sccs_splicer.proofs.Pushes.{shown_lines, splices_end}

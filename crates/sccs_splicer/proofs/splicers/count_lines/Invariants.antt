@@ -1,6 +1,6 @@
 use Rattle.std.proofs.Common.{◌≡◌, min, take}
 use Rattle.sccs_base.specs.Stream.{last_count}
-use Rattle.sccs_edits.specs.Plans.{added_count}
+use Rattle.sccs_script_laws.specs.Plans.{added_count}
 use Rattle.sccs_splicer.proofs.splicers.count_lines.Given as goal
 
 -- the lists so far were counted

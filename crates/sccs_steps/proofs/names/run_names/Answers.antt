@@ -9,7 +9,7 @@ use Rattle.sccs_steps.specs.declared.faults.Fault.{Fault}
 use Rattle.sccs_steps.proofs.Exits.{exit_is}
 use Rattle.sccs_steps.proofs.JoinedSteps.{begins}
 use Rattle.sccs_steps.proofs.Turns.{SpokeSoFar, spoke_begins, spoke_cut, spoke_ends, spoke_on, turn_on, turn_stops, turns_end}
-use Rattle.sccs_moments.proofs.UnlockedBut.{but_same}
+use Rattle.sccs_crash_points.proofs.UnlockedBut.{but_same}
 use Rattle.sccs_steps.proofs.RecoveringSteps.{RecoversSoFar, firm_begins, firm_on, recovers_begin, recovers_early, recovers_end, recovers_on}
 use Rattle.sccs_steps.proofs.UnlockedSteps.{next_unlocked}
 use Rattle.sccs_steps.proofs.TurnStops.{StopsSoFar, stops_begin, stops_early, stops_end, stops_on}

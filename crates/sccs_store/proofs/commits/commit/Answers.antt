@@ -1,7 +1,7 @@
 use Rattle.std.proofs.Common.{drop, refl}
 use Rattle.sccs_base.specs.Name.{p_file, q_file, x_file, y_file, z_file}
 use Rattle.sccs_store.specs.Commits.{plan, replaced}
-use Rattle.sccs_moments.proofs.FileNames.{from_g, s_and_g, to_g, to_s}
+use Rattle.sccs_crash_points.proofs.FileNames.{from_g, s_and_g, to_g, to_s}
 use Rattle.sccs_store.proofs.OwnFiles.{commit_others, first_others, second_others, third_others}
 use Rattle.sccs_store.proofs.Stages.{commit_ends, first_stop, last_stop, second_stop, third_stop}
 use Rattle.sccs_store.proofs.Swaps.{all_made, first_cut, last_cut, second_cut, swapped_needs, swapped_there, third_cut}

@@ -1,7 +1,7 @@
-use Rattle.sccs_images.proofs.Called.{create_touched}
+use Rattle.sccs_name_files.proofs.Called.{create_touched}
 use Rattle.std.proofs.Common.{Err, ap, subst, ◌∙◌}
 use Rattle.std.specs.Str.{bytes_eq}
-use Rattle.sccs_images.specs.Touches.{TouchesOnly}
+use Rattle.sccs_name_files.specs.Touches.{TouchesOnly}
 use Rattle.sccs_disk.specs.Calls.{Half}
 use Rattle.sccs_disk.specs.Effects.{creating}
 use Rattle.sccs_store.proofs.HeldLocks.{held_ends, held_stays}

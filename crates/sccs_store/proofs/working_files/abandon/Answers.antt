@@ -1,9 +1,9 @@
 use Rattle.std.specs.Str.{bytes_eq}
 use Rattle.sccs_base.specs.Name.{z_file}
-use Rattle.sccs_files.specs.StepFiles.{is_left, is_working}
-use Rattle.sccs_images.proofs.Touched.{only_then, only_wider}
-use Rattle.sccs_moments.specs.Recovery.{cleared, without_name}
-use Rattle.sccs_moments.proofs.FileNames.{no_working, no_z}
+use Rattle.sccs_name_files.specs.StepFiles.{is_left, is_working}
+use Rattle.sccs_name_files.proofs.Touched.{only_then, only_wider}
+use Rattle.sccs_crash_points.specs.Recovery.{cleared, without_name}
+use Rattle.sccs_crash_points.proofs.FileNames.{no_working, no_z}
 use Rattle.sccs_store.proofs.Working.{becomes_both, cleared_moves, err_map, moves_then, moves_wider, ok_map}
 use Rattle.sccs_store.proofs.working_files.abandon.Goals as goal
 

@@ -1,5 +1,5 @@
 use Rattle.std.specs.Str.{bytes_eq}
-use Rattle.sccs_images.proofs.Called.{remove_touched}
+use Rattle.sccs_name_files.proofs.Called.{remove_touched}
 use Rattle.sccs_store.proofs.Working.{same_touches, touches_from}
 use Rattle.sccs_store.proofs.working_files.clear.Goals as goal
 

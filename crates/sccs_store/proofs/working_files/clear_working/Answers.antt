@@ -1,8 +1,8 @@
 use Rattle.std.specs.Str.{bytes_eq}
 use Rattle.sccs_base.specs.Name.{q_file, x_file, y_file}
-use Rattle.sccs_files.specs.StepFiles.{is_working}
-use Rattle.sccs_images.proofs.Touched.{only_then, only_wider}
-use Rattle.sccs_moments.proofs.FileNames.{no_q, no_x, no_y}
+use Rattle.sccs_name_files.specs.StepFiles.{is_working}
+use Rattle.sccs_name_files.proofs.Touched.{only_then, only_wider}
+use Rattle.sccs_crash_points.proofs.FileNames.{no_q, no_x, no_y}
 use Rattle.sccs_store.proofs.Working.{err_map, err_of, moves_then, moves_wider, without_moves}
 use Rattle.sccs_store.proofs.working_files.clear_working.Goals as goal
 

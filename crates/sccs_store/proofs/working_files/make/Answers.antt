@@ -1,4 +1,4 @@
-use Rattle.sccs_images.proofs.Called.{create_owned, create_touched}
+use Rattle.sccs_name_files.proofs.Called.{create_owned, create_touched}
 use Rattle.sccs_store.proofs.working_files.make.Goals as goal
 
 pub returns-in-Ok-Created-clause-touches : goal.returns-in-Ok-Created-clause-touches

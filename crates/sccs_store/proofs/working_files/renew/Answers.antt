@@ -1,6 +1,6 @@
 use Rattle.std.specs.Str.{bytes_eq}
 use Rattle.sccs_disk.specs.Images.{IsOwn}
-use Rattle.sccs_images.proofs.Touched.{only_then}
+use Rattle.sccs_name_files.proofs.Touched.{only_then}
 use Rattle.sccs_store.proofs.Working.{err_map, leaves_from, made_again, moves_then, ok_map, without_moves}
 use Rattle.sccs_store.proofs.working_files.renew.Goals as goal
 

@@ -1,5 +1,5 @@
 use Rattle.sccs_disk.specs.Effects.{IsAny, protected}
-use Rattle.sccs_images.proofs.Called.{sync_firm}
+use Rattle.sccs_name_files.proofs.Called.{sync_firm}
 use Rattle.sccs_writers.proofs.OneFile.{only_both, only_done, only_half}
 use Rattle.sccs_store.proofs.Working.{firm_after, ok_map, sync_only}
 use Rattle.sccs_store.proofs.working_files.seal.Goals as goal

@@ -1,6 +1,6 @@
 use Rattle.std.proofs.Common.{OnOk, subst}
 use Rattle.sccs_disk.specs.Images.{IsOwn}
-use Rattle.sccs_images.specs.Touches.{Leaves}
+use Rattle.sccs_name_files.specs.Touches.{Leaves}
 use Rattle.sccs_store.proofs.working_files.start.Goals as goal
 
 pub returns-clause-own : goal.returns-clause-own

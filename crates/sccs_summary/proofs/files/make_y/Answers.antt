@@ -2,9 +2,9 @@ use Rattle.std.specs.Str.{bytes_eq}
 use Rattle.sccs_base.specs.Name.{y_file}
 use Rattle.sccs_disk.specs.Effects.{appended, empty_file}
 use Rattle.sccs_disk.specs.Told.{seen}
-use Rattle.sccs_gfiles.specs.Finished.{finished}
-use Rattle.sccs_gfiles.specs.declared.modes.Mode.TheVariants.{Writable}
-use Rattle.sccs_gfiles.proofs.MadeWhole.{made}
+use Rattle.sccs_store.specs.Finished.{finished}
+use Rattle.sccs_store.specs.declared.modes.Mode.TheVariants.{Writable}
+use Rattle.sccs_store.proofs.MadeWhole.{made}
 use Rattle.sccs_store.proofs.Working.{made_and_changed, made_moves, made_there, moves_then, written_touches}
 use Rattle.sccs_writers.proofs.OneFile.{only_both}
 use Rattle.sccs_summary.specs.Summaries.{choice_of, summary_text}

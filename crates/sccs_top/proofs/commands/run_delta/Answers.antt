@@ -2,7 +2,7 @@ use Rattle.std.proofs.Common.{ℕ, true, false, List, [], ◌∷◌, None, sym, 
 use Rattle.sccs_steps.specs.Running.{RunsOperand, RunsOperands}
 use Rattle.sccs_steps.specs.Settings.{setting}
 use Rattle.sccs_steps.proofs.LoneOperands.{lone_operand}
-use Rattle.sccs_transactions.specs.Changes.{locking}
+use Rattle.sccs_changes.specs.Changes.{locking}
 use Rattle.sccs_delta.specs.DeltaStep.{delta_change}
 use Rattle.sccs_top.specs.Runs.{hushed}
 use Rattle.sccs_top.proofs.commands.run_delta.Goals as goal

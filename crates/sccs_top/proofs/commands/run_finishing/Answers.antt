@@ -1,4 +1,4 @@
-use Rattle.sccs_name_sets.specs.NameSets.{names_in}
+use Rattle.sccs_base.specs.NameSets.{names_in}
 use Rattle.sccs_recovery.specs.RecoverStep.{freed_by}
 use Rattle.sccs_steps.specs.Settings.{setting}
 use Rattle.sccs_top.specs.Runs.{caller_by}

@@ -1,5 +1,5 @@
 use Rattle.std.proofs.Common.{None, sym, subst}
-use Rattle.sccs_name_sets.specs.NameSets.{names_in}
+use Rattle.sccs_base.specs.NameSets.{names_in}
 use Rattle.sccs_recovery.specs.RecoverStep.{freed_by, recover_action}
 use Rattle.sccs_steps.specs.Running.{RunsOperands}
 use Rattle.sccs_steps.specs.Settings.{setting}

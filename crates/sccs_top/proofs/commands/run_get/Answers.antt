@@ -2,7 +2,7 @@ use Rattle.std.proofs.Common.{◌≡◌, Bool, true, false, None, ap, refl, ◌�
 use Rattle.std.specs.Prelude.{if◌then◌else◌}
 use Rattle.sccs_steps.specs.Actions.{Action}
 use Rattle.sccs_steps.specs.Settings.{setting}
-use Rattle.sccs_transactions.specs.Changes.{locking}
+use Rattle.sccs_changes.specs.Changes.{locking}
 use Rattle.sccs_get.specs.EditStep.{edit_change}
 use Rattle.sccs_get.specs.VersionStep.{get_action}
 use Rattle.sccs_top.specs.Runs.{caller, get_in, has_heading, hushed, words_in}

@@ -2,7 +2,7 @@ use Rattle.std.proofs.Common.{[], Result, Ok, Err, refl, sym, subst}
 use Rattle.sccs_base.proofs.Gifts.{gives_none, some_none}
 use Rattle.sccs_words.specs.declared.commands.Command.{Command}
 use Rattle.sccs_words.specs.declared.commands.Usage.{Usage}
-use Rattle.sccs_courses.specs.QuietSettings.{quiet}
+use Rattle.sccs_step_lists.specs.QuietSettings.{quiet}
 use Rattle.sccs_steps.specs.declared.faults.Fault.TheVariants as ends
 use Rattle.sccs_top.specs.Runs.{RunsMeant, caller}
 use Rattle.sccs_top.proofs.RunLaws.{meant_said, said_causes, unsaid_causes}

@@ -1,7 +1,7 @@
 use Rattle.std.proofs.Common.{ℕ, Result, Ok, refl, subst}
 use Rattle.sccs_steps.specs.Settings.{setting_of}
 use Rattle.sccs_steps.specs.declared.faults.Fault.{Fault}
-use Rattle.sccs_courses.specs.QuietSettings.{quiet}
+use Rattle.sccs_step_lists.specs.QuietSettings.{quiet}
 use Rattle.sccs_top.specs.Runs.{LeavesInput, RunsMeant, caller}
 use Rattle.sccs_top.proofs.TwoCommands.{both_leave, both_run, first_cut, first_ends, next_runs}
 use Rattle.sccs_top.proofs.commands.run_two.Goals as goal

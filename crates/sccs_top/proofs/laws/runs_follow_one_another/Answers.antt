@@ -1,4 +1,4 @@
-use Rattle.sccs_courses.proofs.Portions.{safe_later}
+use Rattle.sccs_step_lists.proofs.Portions.{safe_later}
 use Rattle.sccs_top.proofs.FollowingLaws.{may_follow, may_recover, stops_followed}
 use Rattle.sccs_top.proofs.laws.runs_follow_one_another.Goals as goal
 

@@ -1,6 +1,6 @@
 use Rattle.std.proofs.Common.{◌∷◌, Ok, refl, sym, subst}
 use Rattle.sccs_history.specs.declared.headers.Item.{Item}
-use Rattle.sccs_weave.specs.Regions.{Holds}
+use Rattle.sccs_versions.specs.Regions.{Holds}
 use Rattle.sccs_versions.specs.Coming.{ShowsItem}
 use Rattle.sccs_versions.specs.declared.readers.Next.TheVariants.{Line, Hidden}
 use Rattle.sccs_versions.proofs.ItemLaws.{kept_text, hidden_text}

@@ -1,6 +1,6 @@
 use Rattle.std.proofs.Common.{Ok, drop, arith, subst, ap, ◌∙◌}
 use Rattle.sccs_disk.specs.Told.{seen}
-use Rattle.sccs_files.specs.WholeFiles.{file_bytes}
+use Rattle.sccs_name_files.specs.WholeFiles.{file_bytes}
 use Rattle.sccs_what.specs.SearchedFiles.{SearchesPiece}
 use Rattle.sccs_what.proofs.FileLaws.{causes_both, finished_next, finished_past, stopped, went_on}
 use Rattle.sccs_what.proofs.files.search_file.Goals as goal

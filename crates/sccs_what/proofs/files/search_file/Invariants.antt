@@ -1,6 +1,6 @@
 use Rattle.std.proofs.Common.{◌≡◌, ◌≤◌, ◌-◌, ℕ, List, Some}
 use Rattle.sccs_disk.specs.Told.{seen}
-use Rattle.sccs_files.specs.WholeFiles.{file_bytes}
+use Rattle.sccs_name_files.specs.WholeFiles.{file_bytes}
 use Rattle.sccs_what.specs.Owed.{Searches}
 use Rattle.sccs_what.specs.declared.searches.Search.TheVariants.{Unfound}
 use Rattle.sccs_what.proofs.files.search_file.Given as goal

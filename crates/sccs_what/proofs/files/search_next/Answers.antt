@@ -1,6 +1,6 @@
 use Rattle.std.proofs.Common.{◌≡◌, ◌<◌, ◌∙◌, arith, drop, length, length-take, refl, sym, take, ap}
 use Rattle.sccs_disk.specs.Told.{seen}
-use Rattle.sccs_files.proofs.WholeFileLaws.{read_piece}
+use Rattle.sccs_name_files.proofs.WholeFileLaws.{read_piece}
 use Rattle.sccs_what.proofs.FileLaws.{cut_left, ends_done, ends_short, of_left, took_some}
 use Rattle.sccs_what.proofs.files.search_next.Goals as goal
 use Rattle.sccs_what.proofs.files.search_next.Goals.{then-count-piece-via-then-count-piece, then-count-piece-via-else-count-piece+then-is_done}

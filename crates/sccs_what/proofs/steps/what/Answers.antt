@@ -1,7 +1,7 @@
 use Rattle.std.proofs.Common.{◌∙◌, arith, ap, subst}
 use Rattle.sccs_disk.specs.Reads.{Measures}
 use Rattle.sccs_disk.specs.Told.{seen}
-use Rattle.sccs_files.specs.WholeFiles.{file_bytes}
+use Rattle.sccs_name_files.specs.WholeFiles.{file_bytes}
 use Rattle.sccs_what.proofs.StepLaws.{prints_file}
 use Rattle.sccs_what.proofs.steps.what.Goals as goal
 

@@ -3,13 +3,13 @@ use Rattle.sccs_disk.specs.Told.{seen}
 use Rattle.sccs_admin.proofs.PrepareLaws.{find_fails, found_prepares, text_quiet, text_ready, text_speaks, there_still}
 use Rattle.std.specs.Str.{bytes_eq}
 use Rattle.sccs_base.specs.Name.{x_file}
-use Rattle.sccs_files.specs.StepFiles.{is_working}
-use Rattle.sccs_images.proofs.Touched.{only_wider}
-use Rattle.sccs_moments.proofs.FileNames.{no_x}
+use Rattle.sccs_name_files.specs.StepFiles.{is_working}
+use Rattle.sccs_name_files.proofs.Touched.{only_wider}
+use Rattle.sccs_crash_points.proofs.FileNames.{no_x}
 use Rattle.sccs_store.proofs.Working.{same_touches, touches_from}
 use Rattle.sccs_admin.proofs.StopLaws.{text_settles}
 use Rattle.sccs_admin.proofs.admins.AdminChange.prepare.Goals as goal
-use Rattle.sccs_pending.proofs.StopLaws.{firm_still}
+use Rattle.sccs_changes.proofs.StopLaws.{firm_still}
 
 pub returns-in-Ok-clause-prepares : goal.returns-in-Ok-clause-prepares
 returns-in-Ok-clause-prepares g c = λ err.

@@ -2,9 +2,9 @@ use Rattle.std.proofs.Common.{ap}
 use Rattle.std.specs.Str.{bytes_eq}
 use Rattle.sccs_base.specs.Name.{x_file}
 use Rattle.sccs_disk.specs.Told.{seen}
-use Rattle.sccs_files.specs.StepFiles.{is_working}
-use Rattle.sccs_images.proofs.Touched.{only_wider}
-use Rattle.sccs_moments.proofs.FileNames.{no_x}
+use Rattle.sccs_name_files.specs.StepFiles.{is_working}
+use Rattle.sccs_name_files.proofs.Touched.{only_wider}
+use Rattle.sccs_crash_points.proofs.FileNames.{no_x}
 use Rattle.sccs_store.proofs.Working.{same_touches, touches_from}
 use Rattle.sccs_alter.proofs.PrepareLaws.{read_fails, read_prepares, read_settles, read_speaks}
 use Rattle.sccs_alter.proofs.alters.AlterChange.prepare.Goals as goal

@@ -2,7 +2,7 @@ use Rattle.sccs_steps.specs.Calls.{scene}
 use Rattle.sccs_steps.proofs.ReadingMoments.{reading_moments}
 use Rattle.sccs_steps.proofs.UnlockedSteps.{unlocked_reading}
 use Rattle.std.proofs.Common.{refl}
-use Rattle.sccs_transactions.proofs.UnlockedChanges.{others_refused}
+use Rattle.sccs_changes.proofs.UnlockedChanges.{others_refused}
 use Rattle.sccs_alter.specs.CheckStep.{check_action, check_keeps}
 use Rattle.sccs_alter.proofs.CheckLaws.{checked_speaks, checked_steps}
 use Rattle.sccs_alter.proofs.checks.CheckUtility.step.Goals as goal

@@ -1,6 +1,6 @@
 use Rattle.std.proofs.Common.{◌∙◌, ap, rules, subst, sym}
 use Rattle.sccs_disk.specs.Told.{seen}
-use Rattle.sccs_marks.specs.States.{Knows}
+use Rattle.sccs_body.specs.States.{Knows}
 use Rattle.sccs_table.proofs.FrontLaws.{exit_is}
 use Rattle.sccs_table.proofs.ReaderLaws.{same_file}
 use Rattle.sccs_body.proofs.ComingLaws.{begin_fails, further_on, kept_on}

@@ -1,6 +1,6 @@
 use Rattle.std.proofs.Common.{[], ap, subst, sym, ◌∙◌}
 use Rattle.sccs_history.specs.Applied.{live_serials}
-use Rattle.sccs_marks.specs.States.{Knows}
+use Rattle.sccs_body.specs.States.{Knows}
 use Rattle.sccs_body.specs.BodyFile.{items_of}
 use Rattle.sccs_body.specs.Reader.{BodyPlace}
 use Rattle.sccs_body.specs.ToCome.{ToCome}

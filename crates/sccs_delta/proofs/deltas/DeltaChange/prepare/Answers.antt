@@ -2,7 +2,7 @@ use Rattle.std.proofs.lemmas.Result.{err_from_is_err_and}
 use Rattle.std.proofs.Common.{Ok, ap, subst, sym}
 use Rattle.std.specs.Prelude.{IfSome}
 use Rattle.sccs_disk.specs.Told.{seen}
-use Rattle.sccs_files.specs.StepFiles.{is_working}
+use Rattle.sccs_name_files.specs.StepFiles.{is_working}
 use Rattle.sccs_store.proofs.Working.{same_touches}
 use Rattle.sccs_delta.specs.Sizes.{HearsScript}
 use Rattle.sccs_delta.proofs.HearLaws.{heard_prepares, unheard_prepares}

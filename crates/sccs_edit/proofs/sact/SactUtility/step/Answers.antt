@@ -3,8 +3,8 @@ use Rattle.std.proofs.Common.{refl}
 use Rattle.sccs_steps.specs.Calls.{scene}
 use Rattle.sccs_steps.proofs.ReadingMoments.{reading_moments}
 use Rattle.sccs_steps.proofs.UnlockedSteps.{unlocked_reading}
-use Rattle.sccs_transactions.proofs.UnlockedChanges.{others_refused}
-use Rattle.sccs_transactions.specs.Utilities.{is_sfile}
+use Rattle.sccs_changes.proofs.UnlockedChanges.{others_refused}
+use Rattle.sccs_changes.specs.Utilities.{is_sfile}
 use Rattle.sccs_edit.specs.Checks.{sact_keeps}
 use Rattle.sccs_edit.specs.SactStep.{sact_action, sact_checks}
 use Rattle.sccs_edit.proofs.SactLaws.{shown_causes, shown_speaks, shown_steps, unread_speaks, unread_steps, within_err}

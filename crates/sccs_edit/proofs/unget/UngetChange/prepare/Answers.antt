@@ -3,22 +3,22 @@ use Rattle.std.proofs.Common.{◌≡◌, ℕ, false, Ok, Err, ap, subst}
 use Rattle.sccs_disk.specs.Told.{seen}
 use Rattle.sccs_pfile.specs.Choices.{choice, fits}
 use Rattle.sccs_steps.specs.Actions.{quiet_checks}
-use Rattle.sccs_pending.specs.NewEntries.{or_no_edit}
-use Rattle.sccs_pending.specs.PFiles.{Answers}
-use Rattle.sccs_pending.proofs.EntryChanges.{decided_prepares, decided_ready, decided_speaks, undecided_prepares, unread_prepares}
+use Rattle.sccs_changes.specs.NewEntries.{or_no_edit}
+use Rattle.sccs_changes.specs.PFiles.{Answers}
+use Rattle.sccs_changes.proofs.EntryChanges.{decided_prepares, decided_ready, decided_speaks, undecided_prepares, unread_prepares}
 use Rattle.sccs_edit.specs.UngetStep.{unget_checks, unget_decides, without_entry}
 use Rattle.sccs_edit.proofs.UngetLaws.{none_meant, one_meant, some_edits}
 use Rattle.std.specs.Str.{bytes_eq}
 use Rattle.std.proofs.Common.{◌-◌}
 use Rattle.std.proofs.lemmas.List.Elements.{recursion_from_All}
 use Rattle.sccs_base.specs.Name.{q_file}
-use Rattle.sccs_files.specs.StepFiles.{is_working}
-use Rattle.sccs_images.proofs.Touched.{only_wider}
-use Rattle.sccs_moments.proofs.FileNames.{no_q}
+use Rattle.sccs_name_files.specs.StepFiles.{is_working}
+use Rattle.sccs_name_files.proofs.Touched.{only_wider}
+use Rattle.sccs_crash_points.proofs.FileNames.{no_q}
 use Rattle.sccs_pfile.specs.Entries.{IsEdit}
 use Rattle.sccs_pfile.specs.Recovered.{is_done}
 use Rattle.sccs_store.proofs.Working.{same_touches, touches_from}
-use Rattle.sccs_pending.proofs.StopLaws.{agreeing_undone, decided_settles, firm_still, still_all}
+use Rattle.sccs_changes.proofs.StopLaws.{agreeing_undone, decided_settles, firm_still, still_all}
 use Rattle.sccs_edit.proofs.unget.UngetChange.prepare.Goals as goal
 
 pub returns-in_err-found-clause-prepares : goal.returns-in_err-found-clause-prepares

@@ -3,11 +3,11 @@ use Rattle.std.proofs.Common.{◌≡◌, ◌||◌, Bool, true, false, Ok, Err, r
 use Rattle.std.specs.Str.{bytes_eq}
 use Rattle.sccs_base.specs.Name.{y_file}
 use Rattle.sccs_disk.specs.Told.{seen}
-use Rattle.sccs_images.proofs.Touched.{only_then}
-use Rattle.sccs_moments.proofs.Unlocked.{others_same}
+use Rattle.sccs_name_files.proofs.Touched.{only_then}
+use Rattle.sccs_crash_points.proofs.Unlocked.{others_same}
 use Rattle.sccs_steps.specs.Calls.{scene}
 use Rattle.sccs_steps.specs.StepStops.{StepMoments}
-use Rattle.sccs_transactions.specs.Utilities.{is_sfile}
+use Rattle.sccs_changes.specs.Utilities.{is_sfile}
 use Rattle.sccs_get.specs.SummaryStep.{summary_got, writes_l}
 use Rattle.sccs_get.specs.VersionStep.{get_action, writes_g}
 use Rattle.sccs_get.proofs.SpeakLaws.{failed_speaks, finished_speaks, given_up_causes, given_up_speaks, none_within, print_print, read_causes, read_later, read_print, ready_finished}

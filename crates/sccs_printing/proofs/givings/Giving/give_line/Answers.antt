@@ -1,7 +1,7 @@
 use Rattle.std.proofs.Common.{ℕ, List, ap, ◌∙◌}
 use Rattle.std.specs.List.{list_any}
-use Rattle.sccs_keys.specs.Keywords.{is_keyword, parts}
-use Rattle.sccs_texts.specs.Forms.{if_replaced}
+use Rattle.sccs_keywords.specs.Keywords.{is_keyword, parts}
+use Rattle.sccs_keywords.specs.Forms.{if_replaced}
 use Rattle.sccs_printing.specs.Giving.{giving_form}
 use Rattle.sccs_printing.proofs.RunTexts.{line_unchanged}
 use Rattle.sccs_printing.proofs.givings.Giving.give_line.Goals as goal

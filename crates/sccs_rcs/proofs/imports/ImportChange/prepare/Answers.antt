@@ -2,14 +2,14 @@ use Rattle.std.proofs.Common.{ap}
 use Rattle.std.specs.Str.{bytes_eq}
 use Rattle.sccs_base.specs.Name.{x_file}
 use Rattle.sccs_disk.specs.Told.{seen}
-use Rattle.sccs_files.specs.StepFiles.{is_working}
-use Rattle.sccs_images.proofs.Touched.{only_wider}
-use Rattle.sccs_moments.proofs.FileNames.{no_x}
+use Rattle.sccs_name_files.specs.StepFiles.{is_working}
+use Rattle.sccs_name_files.proofs.Touched.{only_wider}
+use Rattle.sccs_crash_points.proofs.FileNames.{no_x}
 use Rattle.sccs_store.proofs.Working.{same_touches, touches_from}
 use Rattle.sccs_admin.proofs.PrepareLaws.{there_still}
 use Rattle.sccs_rcs.proofs.ImportLaws.{find_fails, found_prepares, rcs_ready, rcs_settles, rcs_speaks}
 use Rattle.sccs_rcs.proofs.imports.ImportChange.prepare.Goals as goal
-use Rattle.sccs_pending.proofs.StopLaws.{firm_still}
+use Rattle.sccs_changes.proofs.StopLaws.{firm_still}
 
 pub returns-in-Ok-clause-prepares : goal.returns-in-Ok-clause-prepares
 returns-in-Ok-clause-prepares g c = λ err.

@@ -1,5 +1,5 @@
 use Rattle.std.proofs.Common.{Bool, subst}
-use Rattle.sccs_name_sets.specs.NameSets.{names_in}
+use Rattle.sccs_base.specs.NameSets.{names_in}
 use Rattle.sccs_recovery.specs.Commands.{Says}
 use Rattle.sccs_recovery.specs.RecoverStep.{found_text, freed_by}
 use Rattle.sccs_recovery.proofs.RecoverMoments.{fault_moments, fault_recovers, made_moments, made_recovers, pending_named}

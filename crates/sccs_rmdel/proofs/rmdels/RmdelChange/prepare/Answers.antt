@@ -3,11 +3,11 @@ use Rattle.std.proofs.Common.{ap, refl}
 use Rattle.std.specs.Str.{bytes_eq}
 use Rattle.sccs_base.specs.Name.{x_file}
 use Rattle.sccs_disk.specs.Told.{seen}
-use Rattle.sccs_files.specs.StepFiles.{is_working}
-use Rattle.sccs_images.proofs.Touched.{only_wider}
-use Rattle.sccs_moments.proofs.FileNames.{no_x}
+use Rattle.sccs_name_files.specs.StepFiles.{is_working}
+use Rattle.sccs_name_files.proofs.Touched.{only_wider}
+use Rattle.sccs_crash_points.proofs.FileNames.{no_x}
 use Rattle.sccs_store.proofs.Working.{same_touches, touches_from}
-use Rattle.sccs_pending.proofs.StopLaws.{firm_still}
+use Rattle.sccs_changes.proofs.StopLaws.{firm_still}
 use Rattle.sccs_rmdel.proofs.PrepareLaws.{removal_quiet, removal_ready, removal_speaks, removed, unread, unremovable}
 use Rattle.sccs_rmdel.proofs.StopLaws.{removal_settles}
 use Rattle.sccs_rmdel.proofs.rmdels.RmdelChange.prepare.Goals as goal

@@ -1,5 +1,5 @@
 use Rattle.std.proofs.Common.{◌≡◌, ◌++◌, [], List, IfOk, sym, subst}
-use Rattle.sccs_edits.specs.Plans.{with_added}
+use Rattle.sccs_script_laws.specs.Plans.{with_added}
 use Rattle.sccs_script.specs.Drafts.{DraftLine, expand, grouped, IsPiece}
 use Rattle.sccs_script.specs.declared.pieces.Piece.TheVariants as pieces
 use Rattle.sccs_script.proofs.DraftLaws.{if_three}

@@ -1,5 +1,5 @@
 use Rattle.std.proofs.Common.{◌≡◌, ℕ, List, [], arith, subst, ◌∙◌}
-use Rattle.sccs_edits.specs.Plans.{added_after}
+use Rattle.sccs_script_laws.specs.Plans.{added_after}
 use Rattle.sccs_splicer.specs.PlanPlaces.{Passed}
 use Rattle.sccs_splicer.proofs.PlaceLaws.{added_other, added_past, added_there}
 use Rattle.sccs_splicer.proofs.plan_places.PlanPlace.new_lines.Goals as goal

@@ -1,5 +1,0 @@
-//! Tests of batches.
-#![tactic(auto)]
-
-#[cfg(test)]
-mod tests;

@@ -1,3 +1,0 @@
-mod entries;
-mod faults;
-mod stops;

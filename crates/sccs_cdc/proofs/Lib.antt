@@ -1,9 +1,0 @@
-pub mod ChangedVersions
-pub mod CheckLaws
-pub mod HeaderLaws
-pub mod Places
-pub mod PrepareLaws
-pub mod ReadLaws
-pub mod StopLaws
-pub mod TableLaws
-pub mod TextLaws

@@ -1,0 +1,6 @@
+//! Tests of delta.
+//! Tests of batches.
+#![tactic(auto)]
+
+#[cfg(test)]
+mod tests;

@@ -1,0 +1,9 @@
+mod added;
+mod copies;
+mod entries;
+mod faults;
+mod lists;
+mod refusals;
+mod releases;
+mod samples;
+mod stops;

@@ -1,0 +1,14 @@
+pub mod Chains
+pub mod ChangeCauses
+pub mod ChangeEnds
+pub mod EntryChanges
+pub mod EntryLaws
+pub mod PendingLaws
+pub mod PendingReads
+pub mod Preparing
+pub mod ReportLaws
+pub mod StopEnds
+pub mod StopLaws
+pub mod Taken
+pub mod UnlockedChanges
+pub mod Warnings

@@ -1,2 +1,0 @@
-pub mod GiveLists
-pub mod PartLaws

@@ -1,2 +1,0 @@
-pub mod DataKeywords
-pub mod Values

@@ -1,5 +1,0 @@
-//! Tests of delta.
-#![tactic(auto)]
-
-#[cfg(test)]
-mod tests;

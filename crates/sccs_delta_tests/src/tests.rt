@@ -1,6 +1,0 @@
-mod added;
-mod copies;
-mod lists;
-mod refusals;
-mod releases;
-mod samples;

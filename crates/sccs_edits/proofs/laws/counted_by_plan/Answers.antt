@@ -1,9 +1,0 @@
-use Rattle.sccs_edits.proofs.Plants.{weave_counted}
-use Rattle.sccs_edits.proofs.laws.counted_by_plan.Goals as goal
-
-pub returns : goal.returns
-returns c = record {
-  inserted = λ set n orders lines below. (weave_counted n set orders lines below).inserted_is;
-  deleted = λ set n orders lines below. (weave_counted n set orders lines below).deleted_is;
-  unchanged = λ set n orders lines below apart. (weave_counted n set orders lines below).unchanged_is apart;
-}

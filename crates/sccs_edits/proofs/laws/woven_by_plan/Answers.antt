@@ -1,5 +1,0 @@
-use Rattle.sccs_edits.proofs.Plants.{weave_planted}
-use Rattle.sccs_edits.proofs.laws.woven_by_plan.Goals as goal
-
-pub returns : goal.returns
-returns c = λ set n orders lines below. weave_planted n set orders lines below

@@ -1,2 +1,0 @@
-pub mod StepFiles
-pub mod WholeFiles

@@ -1,8 +1,0 @@
-use Rattle.sccs_finishing.proofs.FinishViews.{finished_recovers, finished_safe}
-use Rattle.sccs_finishing.proofs.laws.finishing_keeps_what_recovers.Goals as goal
-
-pub returns-clause-recovers : goal.returns-clause-recovers
-returns-clause-recovers c = finished_recovers
-
-pub returns-clause-safe : goal.returns-clause-safe
-returns-clause-safe c = finished_safe

@@ -1,3 +1,0 @@
-pub mod AnyDisk
-pub mod Ends
-pub mod FinishStep

@@ -1,7 +1,0 @@
-use Rattle.std.specs.Prelude.{◌≡◌}
-use Rattle.sccs_disk.specs.MemoryDisks.{disk_call}
-use Rattle.sccs_fixtures.proofs.disks.disk_with.Given as goal
-
--- no call is made
-abbrev pub invariant-loop-file : goal.invariant-loop-file
-invariant-loop-file l = disk_call l.disk ≡ 0

@@ -1,4 +1,0 @@
-pub mod MadeWhole
-pub mod Marks
-pub mod OwnFiles
-pub mod Placed

@@ -1,5 +1,0 @@
-pub mod GroupCourses
-mod GroupFiles
-mod GroupRuns
-mod GroupSteps
-mod GroupStops

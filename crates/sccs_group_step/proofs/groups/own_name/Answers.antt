@@ -1,5 +1,0 @@
-use Rattle.sccs_group_step.proofs.GroupNames.{dash_is}
-use Rattle.sccs_group_step.proofs.groups.own_name.Goals as goal
-
-pub named-requires : goal.named-requires
-named-requires c = dash_is

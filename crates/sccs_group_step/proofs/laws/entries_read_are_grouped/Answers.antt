@@ -1,5 +1,0 @@
-use Rattle.sccs_group_step.proofs.GroupedEntries.{read_grouped}
-use Rattle.sccs_group_step.proofs.laws.entries_read_are_grouped.Goals as goal
-
-pub returns : goal.returns
-returns c = read_grouped

@@ -1,7 +1,0 @@
-use Rattle.std.proofs.Common.{refl}
-use Rattle.sccs_files.specs.StepFiles.{is_left}
-use Rattle.sccs_store.proofs.Working.{same_touches}
-use Rattle.sccs_group_step.proofs.preparing.give_up.Goals as goal
-
-pub returns-in-DiskFault-clause-touches : goal.returns-in-DiskFault-clause-touches
-returns-in-DiskFault-clause-touches g c = same_touches (is_left c.args.name.now) _ _ refl

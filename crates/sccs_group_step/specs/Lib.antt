@@ -1,4 +1,0 @@
-pub mod GroupStep
-pub mod LFiles
-pub mod Making
-pub mod Preparing

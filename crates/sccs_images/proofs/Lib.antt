@@ -1,4 +1,0 @@
-pub mod Called
-pub mod Images
-pub mod Owned
-pub mod Touched

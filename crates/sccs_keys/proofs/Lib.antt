@@ -1,3 +1,0 @@
-pub mod GiveLaws
-pub mod KeywordLaws
-pub mod Letters

@@ -1,0 +1,6 @@
+pub mod Expansion
+pub mod Forms
+pub mod Held
+pub mod Keywords
+pub mod Places
+pub mod VersionFacts

@@ -1,0 +1,3 @@
+pub mod StepFiles
+pub mod Touches
+pub mod WholeFiles

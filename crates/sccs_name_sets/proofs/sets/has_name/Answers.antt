@@ -1,6 +1,0 @@
-use Rattle.std.proofs.Common.{◌∙◌}
-use Rattle.sccs_name_sets.proofs.Inserting.{found}
-use Rattle.sccs_name_sets.proofs.sets.has_name.Goals as goal
-
-pub returns : goal.returns
-returns c = c.contains.ensures ∙ found c.args.name.now c.args.names.now

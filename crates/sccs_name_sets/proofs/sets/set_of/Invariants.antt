@@ -1,7 +1,0 @@
-use Rattle.std.proofs.Common.{take}
-use Rattle.sccs_name_sets.specs.NameSets.{HasNames}
-use Rattle.sccs_name_sets.proofs.sets.set_of.Given as goal
-
--- the set has the names so far
-abbrev pub invariant-loop-name : goal.invariant-loop-name
-invariant-loop-name l = HasNames l.set (take l.name-index l.names)

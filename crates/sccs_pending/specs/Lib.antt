@@ -1,4 +1,0 @@
-pub mod NewEntries
-pub mod PFiles
-pub mod Pending
-pub mod Reports

@@ -1,5 +1,0 @@
-use Rattle.std.proofs.Common.{length}
-use Rattle.sccs_rcs_pieces.proofs.joining.«+join_scripts».Given as goal
-
-abbrev pub decreases-join_scripts : goal.decreases-join_scripts
-decreases-join_scripts l = length l.revisions.now

@@ -1,5 +1,0 @@
-use Rattle.sccs_removal.proofs.KeptVersions.{versions_kept}
-use Rattle.sccs_removal.proofs.laws.removal_keeps_versions.Goals as goal
-
-pub returns : goal.returns
-returns c = λ n records lines table rooted free. versions_kept n records lines table rooted free

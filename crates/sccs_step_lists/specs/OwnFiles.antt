@@ -1,0 +1,52 @@
+-- What a call says that follows a course, where the working files are those of the names of its steps.
+use Rattle.std.specs.Prelude.{◌≡◌, ℕ, Bool, false, ◌&&◌, ◌||◌, List, [], ◌∷◌, if◌then◌else◌, Result}
+use Rattle.std.specs.Str.{bytes_eq}
+use Rattle.sccs_disk.specs.Files.{Folder, Model, view_in}
+use Rattle.sccs_disk.specs.Told.{Told, Tells, seen}
+use Rattle.sccs_name_files.specs.StepFiles.{Shows, is_working, nowhere}
+use Rattle.sccs_intents.specs.Intents.{plan_file}
+use Rattle.sccs_crash_points.specs.Unlocked.{BeginsUnlockedBut}
+use Rattle.sccs_steps.specs.Actions.{Action}
+use Rattle.sccs_steps.specs.Calls.{Scene, shown}
+use Rattle.sccs_steps.specs.ListStops.{MayBegin}
+use Rattle.sccs_steps.specs.StepLists.{NamedStep}
+use Rattle.sccs_steps.specs.declared.faults.Fault.{Fault}
+use Rattle.sccs_step_lists.specs.Courses.{AllClear, AllExempt, AllPlain, AllSafe, Courses, Portion, portions_of, steps_along}
+use Rattle.sccs_step_lists.specs.Following.{AreKnown, CourseMoments, RunsTo}
+
+-- the working files of the names of steps
+abbrev pub working_of : Action → List NamedStep → List ℕ → Bool
+working_of x [] k = false
+working_of x (t ∷ ts) k = (x.fits t.name && is_working t.name k) || working_of x ts k
+
+-- those of the steps of an action, and the plan where it is one; an action that only reads has none
+abbrev pub working_by : Portion → List ℕ → Bool
+working_by p = if p.by.reads then nowhere else (λ k. (p.plans && bytes_eq plan_file k) || working_of p.by p.parts k)
+
+-- those of several actions
+abbrev pub working_in : List Portion → List ℕ → Bool
+working_in [] = nowhere
+working_in (p ∷ []) = working_by p
+working_in (p ∷ q ∷ ps) = λ k. working_by p k || working_in (q ∷ ps) k
+
+abbrev pub working_along : Courses → Folder → List ℕ → List ℕ → Bool
+working_along course folder i = working_in (portions_of course folder i)
+
+-- the input is as it is asked, and the files of the names of steps are apart from the working files of others
+abbrev pub IsGivenTo : Courses → (List ℕ → Type 0) → Folder → List ℕ → Type 0
+IsGivenTo course given folder i = given i × AllClear (working_along course folder i) (portions_of course folder i)
+
+abbrev pub MakesOwn : Courses → (List ℕ → Type 0) → Result ℕ Fault → Scene → Scene → Type 0
+MakesOwn course given r a b = (folder : Folder) (i : List ℕ) → IsGivenTo course given folder i → Shows (working_along course folder i) (seen a.told) (view_in folder)
+    → AreKnown a.told folder (portions_of course folder i)
+    → RunsTo (course folder i).status (working_along course folder i) r folder (steps_along course folder i) (shown a) (shown b)
+
+abbrev pub StopsOwn : Courses → (List ℕ → Type 0) → Result ℕ Fault → Scene → Scene → Type 0
+StopsOwn course given r a b = (folder : Folder) (i : List ℕ) (m : Model) (past : List Model) → IsGivenTo course given folder i → Shows (working_along course folder i) (seen a.told) (view_in folder)
+    → a.told ≡ Tells m past → MayBegin folder m → AllSafe (view_in folder) (portions_of course folder i)
+    → CourseMoments (working_along course folder i) r folder (steps_along course folder i) a b m past
+
+abbrev pub UnlockedOwn : Courses → (List ℕ → Type 0) → Told → Told → Type 0
+UnlockedOwn course given old new = (folder : Folder) (i : List ℕ) → IsGivenTo course given folder i → Shows (working_along course folder i) (seen old) (view_in folder)
+    → AreKnown old folder (portions_of course folder i)
+    → (exempt : List ℕ → Bool) → AllPlain (portions_of course folder i) → AllExempt exempt (portions_of course folder i) → BeginsUnlockedBut exempt old new

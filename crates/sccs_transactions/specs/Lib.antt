@@ -1,4 +1,0 @@
-pub mod Changes
-pub mod Ends
-pub mod Stops
-pub mod Utilities

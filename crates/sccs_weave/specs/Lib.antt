@@ -1,3 +1,0 @@
-pub mod Regions
-pub mod Samples
-pub mod Stacks
